@@ -1,0 +1,5 @@
+pub mod TextMaps
+pub mod Replays
+pub mod Records
+pub mod IdLemmas
+pub mod Readings

@@ -1,0 +1,6 @@
+use Rattle.std.proofs.Common.{◌≡◌, drop, ◌++◌}
+use Rattle.group_history.specs.Pulling.{unconfirmed}
+use Rattle.group_history.proofs.steps.keep_unconfirmed.Given as goal
+
+abbrev pub invariant-loop-mutation : goal.invariant-loop-mutation
+invariant-loop-mutation l = l.kept.items ++ unconfirmed l.ids (drop l.mutation-index l.pending) ≡ unconfirmed l.ids l.pending

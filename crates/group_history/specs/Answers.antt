@@ -1,0 +1,24 @@
+-- What a call answers, beside the right answer.
+use Rattle.std.specs.Prelude.{◌≡◌, Result, Ok, Err, ⊤}
+use Rattle.group_history.specs.declared.refusals.Refusal.{Refusal}
+use Rattle.group_history.specs.declared.refusals.Refusal.TheVariants.{NoMemory}
+
+-- want of memory may come in place of any answer, every other refusal only where it is right
+abbrev pub Refuses : {Y : Type 0} → Refusal → Result Y Refusal → Type 0
+Refuses NoMemory right = ⊤
+Refuses e right = right ≡ Err e
+
+-- the call answers what is right, its value seen by view
+abbrev pub AnswersSeen : {X Y : Type 0} → (X → Y) → Result X Refusal → Result Y Refusal → Type 0
+AnswersSeen view (Ok x) right = right ≡ Ok (view x)
+AnswersSeen view (Err e) right = Refuses e right
+
+-- the call answers what is right
+abbrev pub Answers : {X : Type 0} → Result X Refusal → Result X Refusal → Type 0
+Answers (Ok x) right = right ≡ Ok x
+Answers (Err e) right = Refuses e right
+
+infixl 10 ◌>>=◌
+abbrev pub ◌>>=◌ : {A B : Type 0} → Result A Refusal → (A → Result B Refusal) → Result B Refusal
+(Ok x) >>= f = f x
+(Err e) >>= f = Err e

@@ -1,0 +1,16 @@
+pub mod Map
+pub mod Meaning
+pub mod Json
+pub mod Cookies
+pub mod Orders
+pub mod Pull
+pub mod State
+pub mod Scans
+pub mod Queries
+pub mod Mutating
+pub mod Pulling
+pub mod Record
+pub mod Answers
+pub mod Ran
+pub mod Ids
+pub mod TextMap

@@ -1,0 +1,20 @@
+-- What a mutator means at a map.
+-- Source: Replicache, How It Works, "Mutations"; that a mutator may refuse with a code is this project's own rule.
+use Rattle.std.specs.Prelude.{ℕ}
+use Rattle.group_history.specs.Map.{Bytes, Entries}
+
+-- It is unknown, it refuses with a code, or it is done and leaves a map.
+pub data Meaning : Type 0 where
+  unknown : Meaning
+  refuses : ℕ → Meaning
+  done : Entries → Meaning
+
+-- the meanings of an application's mutators: by name and arguments, at a map
+abbrev pub Meanings : Type 0
+Meanings = Bytes → Bytes → Entries → Meaning
+
+-- What a meaning leaves of the map at which it was asked: a refusing or unknown mutator leaves it.
+abbrev pub left_by : Meaning → Entries → Entries
+left_by unknown m = m
+left_by (refuses code) m = m
+left_by (done n) m = n

@@ -1,0 +1,51 @@
+-- The state of a client group, its view, and the last ids of its clients.
+-- Source: Replicache, How It Works, "The Client View" and "Rebase".
+use Rattle.std.specs.Prelude.{ℕ, List, [], ◌∷◌, map, filter, fold, max, unwrap_or}
+use Rattle.std.specs.Ordering.{nat_cmp}
+use Rattle.std.specs.Cmp.Lexicographic.{slice_cmp}
+use Rattle.std.specs.FinMap as finite
+use Rattle.group_history.specs.declared.mutations.Mutation.{Mutation}
+use Rattle.group_history.specs.Map.{Bytes, Entries, same_text}
+use Rattle.group_history.specs.Meaning.{Meanings, left_by}
+use Rattle.group_history.specs.Cookies.{Cookie, null_cookie}
+
+-- each client's confirmed id
+abbrev pub Ids : Type 0
+Ids = finite.FinMap (slice_cmp nat_cmp) ℕ
+
+pub record State : Type 0 where
+  -- the map as the server last sent it
+  pub pulled : Entries
+  pub cookie : Cookie
+  pub confirmed : Ids
+  -- the mutations that are not confirmed, the oldest first
+  pub pending : List Mutation
+
+-- the state in which a group opens
+abbrev pub opening : State
+opening = record { pulled = finite.empty; cookie = null_cookie; confirmed = finite.empty; pending = [] }
+
+-- the map after one mutation is replayed on it
+abbrev pub replayed_once : Meanings → Entries → Mutation → Entries
+replayed_once means m x = left_by (means x.name x.args m) m
+
+-- the map after mutations are replayed on it, in order
+abbrev pub replayed : Meanings → Entries → List Mutation → Entries
+replayed means m [] = m
+replayed means m (x ∷ xs) = replayed means (replayed_once means m x) xs
+
+-- the view: the pulled map with the pending mutations replayed on it
+abbrev pub view_of : Meanings → State → Entries
+view_of means s = replayed means s.pulled s.pending
+
+-- a client's confirmed id, 0 where there is none
+abbrev pub confirmed_id : Ids → Bytes → ℕ
+confirmed_id ids client = unwrap_or (finite.get ids client) 0
+
+-- the ids of a client's mutations
+abbrev pub ids_of : Bytes → List Mutation → List ℕ
+ids_of client xs = map (λ x. x.id) (filter (λ x. same_text x.client client) xs)
+
+-- a client's last id: the greatest of its confirmed id and its pending ids
+abbrev pub last_id : State → Bytes → ℕ
+last_id s client = fold max (confirmed_id s.confirmed client) (ids_of client s.pending)

@@ -1,0 +1,40 @@
+//! The plain record of a client group: its words, its types, and the group of one thread that all
+//! other layers are measured by.
+//!
+//! A client group shares one pulled map, one cookie and one list of pending mutations. What is shown is
+//! the pulled map with the pending mutations replayed on it, oldest first. The definitions of all this
+//! are in `specs/`, which every layer's contracts cite; `laws` holds what is proved of the definitions
+//! themselves.
+#![tactic(auto)]
+
+mod changes;
+mod cookies;
+mod json;
+//mod laws;
+mod mutations;
+mod mutators;
+mod plain;
+mod plain_view;
+mod refusals;
+mod responses;
+mod scans;
+mod steps;
+mod text_map;
+mod texts;
+
+pub use changes::{Change, Reply};
+pub use cookies::{Cookie, Order, cookie_cmp};
+pub use json::{Json, is_whole, read_value};
+//pub use laws::{record_laws, worked_examples};
+pub use mutations::Mutation;
+pub use mutators::{Mutators, Ran, Stop, WriteView};
+pub use plain::PlainGroup;
+pub use refusals::Refusal;
+pub use responses::{Confirmed, Ended, Patch, PullOk, Response, VersionKind};
+pub use scans::{Scan, Start};
+pub use steps::apply_patch;
+pub use text_map::TextMap;
+pub use texts::Text;
+
+#[cfg(test)]
+mod tests;

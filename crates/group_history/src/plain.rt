@@ -1,0 +1,215 @@
+//! A group of one thread, by the definitions.
+//!
+//! It keeps the pulled map, the cookie, the confirmed ids and the pending mutations, and beside them the
+//! view, so that a query is one look-up. Its invariant (`IsKept`) says that the view is the replay of what
+//! is pending, and that each client's pending ids are the numbers that follow its confirmed id. So the next
+//! id fits 64 bits with no bound asked of the caller.
+ghost use Rattle.std.specs.Prelude.{◌≡◌, false, IfOk, IfErr, OnOk, OnErr};
+ghost use Rattle.std.specs.Option.{option_copied};
+ghost use Rattle.group_history.specs.declared.refusals.Refusal.TheVariants.{NoMemory};
+ghost use Rattle.group_history.specs.Answers.{Answers};
+ghost use Rattle.group_history.specs.State.{opening, last_id};
+ghost use Rattle.group_history.specs.Queries.{get_at, has_at};
+ghost use Rattle.group_history.specs.Mutating.{mutate_reply, after_mutate};
+ghost use Rattle.group_history.specs.Pulling.{after_pull, end_reply, left_by_end, goes_back};
+
+use crate::cookies::{Cookie, cookie_cmp};
+use crate::json::Json;
+use crate::mutations::Mutation;
+use crate::mutators::{Mutators, Ran};
+use crate::plain_view::PlainView;
+use crate::refusals::Refusal;
+use crate::responses::{Ended, PullOk, Response};
+use crate::steps;
+use crate::text_map::TextMap;
+use crate::texts::Text;
+use std::alloc::{AllocError, Global};
+use std::cmp::Ordering;
+use std::marker::{Model, PhantomData};
+
+/// A client group of one thread: what is pulled, what is pending, and the view of both.
+#[derive(Drop)]
+pub struct PlainGroup<M: Mutators> {
+    alloc: Global,
+    pulled: TextMap<Json>,
+    cookie: Cookie,
+    confirmed: TextMap<u64>,
+    pending: Vec<Mutation>,
+    view: TextMap<Json>,
+    mutators: PhantomData<M>,
+}
+
+impl<M: Mutators> Model for PlainGroup<M> {
+    ghost use Rattle.group_history.specs.State.{State};
+    ghost use Rattle.group_history.specs.Ids.{IsKept};
+    ghost use Rattle.std.specs.Ordering.{nat_cmp};
+    ghost use Rattle.std.specs.Cmp.Lexicographic.{slice_cmp};
+    ghost use Rattle.std.specs.Coded.{codes, coded_ℕ, coded_list};
+    ghost use Rattle.std.specs.FinMap as finite;
+
+    ghost Value = { State };
+
+    ghost coded = { Prim.hlevel (codes, finite.code {R = slice_cmp nat_cmp} (coded_list coded_ℕ) (coded_list coded_ℕ), finite.code {R = slice_cmp nat_cmp} (coded_list coded_ℕ) coded_ℕ) };
+
+    ghost view = { λ g. record { pulled = g.pulled; cookie = g.cookie; confirmed = g.confirmed; pending = g.pending.items } };
+
+    ghost invariant = { λ g. IsKept M.means g.view g.pulled g.confirmed g.pending.items };
+}
+
+impl<M: Mutators> PlainGroup<M> {
+    /// A new group: nothing is pulled, nothing is pending, and the cookie is null.
+    pub fn new(alloc: Global) -> Result<PlainGroup<M>, Refusal>
+        ensures ok { IfOk result (λ g. g ≡ opening) }
+        ensures err { IfErr result (λ e. e ≡ NoMemory) }
+    {
+        Ok(PlainGroup {
+            alloc,
+            pulled: TextMap::new(alloc),
+            cookie: Cookie::null(alloc)?,
+            confirmed: TextMap::new(alloc),
+            pending: Vec::new(alloc),
+            view: TextMap::new(alloc),
+            mutators: PhantomData,
+        })
+    }
+
+    /// The value at a key of the view.
+    pub fn get(&self, key: &Text) -> Option<&Json>
+        ensures { option_copied result ≡ get_at M.means self.now key.now }
+    {
+        self.view.get(key)
+    }
+
+    /// Whether the view has the key.
+    pub fn has(&self, key: &Text) -> bool
+        ensures { result ≡ has_at M.means self.now key.now }
+    {
+        self.view.has(key)
+    }
+
+    pub fn cookie(&self) -> &Cookie
+        ensures { result.now ≡ self.now.cookie }
+    {
+        &self.cookie
+    }
+
+    /// The mutations that are not confirmed, the oldest first.
+    pub fn pending(&self) -> &[Mutation]
+        ensures { result.now ≡ self.now.pending }
+    {
+        &self.pending
+    }
+
+    /// The client's last id: the greatest of its confirmed id and its pending ids.
+    pub fn last(&self, client: &Text) -> u64
+        ensures { result ≡ last_id self.now client.now }
+    {
+        let confirmed = steps::confirmed_id_of(&self.confirmed, client);
+        steps::greatest_id(confirmed, client, &self.pending)
+    }
+
+    /// Ends a pull that was begun at the cookie `ticket`. Refused, in this order, with what an error
+    /// response says, Overtaken, CookieWentBack, CookieNotNew, IdWentBack.
+    pub fn end_pull(
+        &mut self,
+        mutators: &M,
+        ticket: &Cookie,
+        response: &Response,
+    ) -> Result<Ended, Refusal>
+        ensures answer { Answers result (end_reply self.old ticket.now.text response.now) }
+        ensures left { self.new ≡ left_by_end result self.old response.now }
+    {
+        let pull = match response {
+            Response::Ok(pull) => pull,
+            Response::StateNotFound => return Err(Refusal::StateNotFound),
+            Response::VersionNotSupported(kind) => {
+                return Err(Refusal::VersionNotSupported(*kind));
+            }
+        };
+        if self.cookie.text() != ticket.text() {
+            return Err(Refusal::Overtaken);
+        }
+        match cookie_cmp(pull.cookie(), &self.cookie) {
+            Ordering::Less => Err(Refusal::CookieWentBack),
+            Ordering::Equal => {
+                if steps::is_saying_nothing(&self.cookie, pull) {
+                    Ok(Ended::Same)
+                } else {
+                    Err(Refusal::CookieNotNew)
+                }
+            }
+            Ordering::Greater => {
+                if steps::is_going_back(&self.confirmed, pull.changes()) {
+                    return Err(Refusal::IdWentBack);
+                }
+                self.apply(mutators, pull)?;
+                Ok(Ended::Applied)
+            }
+        }
+    }
+
+    fn apply(&mut self, mutators: &M, pull: &PullOk) -> Result<(), AllocError>
+        requires { goes_back self.old.confirmed pull.now.changes ≡ false }
+        ensures ok { OnOk result (self.new ≡ after_pull self.old pull.now) }
+        ensures err { OnErr result (self.new ≡ self.old) }
+    {
+        let alloc = self.alloc;
+        let pulled = steps::apply_patch(&self.pulled, pull.patch())?;
+        let cookie = pull.cookie().clone()?;
+        let confirmed = steps::overwrite(&self.confirmed, pull.changes())?;
+        let pending = steps::keep_unconfirmed(alloc, &confirmed, &self.pending)?;
+        let view = steps::replay(alloc, mutators, &pulled, &pending)?;
+        *self = PlainGroup {
+            alloc,
+            pulled,
+            cookie,
+            confirmed,
+            pending,
+            view,
+            mutators: PhantomData,
+        };
+        Ok(())
+    }
+
+    /// Makes a mutation, by a client whose own last id is `last`, and answers its id, `last + 1`. `time`
+    /// is in milliseconds. Refused, in this order, with Stale, NoMutator, Refused.
+    pub fn mutate(
+        &mut self,
+        mutators: &M,
+        client: &Text,
+        last: u64,
+        name: &Text,
+        args: &Json,
+        time: u64,
+    ) -> Result<u64, Refusal>
+        ensures answer { Answers result (mutate_reply M.means self.old client.now last name.now args.now) }
+        ensures made { IfOk result (λ id. self.new ≡ after_mutate self.old (record { client = client.now; id = id; name = name.now; args = args.now; timestamp = time })) }
+        ensures refused { OnErr result (self.new ≡ self.old) }
+    {
+        if self.last(client) != last {
+            return Err(Refusal::Stale);
+        }
+        let alloc = self.alloc;
+        let mut scratch = PlainView {
+            alloc,
+            map: self.view.copied()?,
+        };
+        match mutators.run(alloc, name.as_str(), args, &mut scratch) {
+            Ok(Ran::Done) => {
+                let id = last + 1;
+                self.pending.push(Mutation {
+                    client: client.clone()?,
+                    id,
+                    name: name.clone()?,
+                    args: args.clone()?,
+                    timestamp: time,
+                })?;
+                self.view = scratch.map;
+                Ok(id)
+            }
+            Ok(Ran::Unknown) => Err(Refusal::NoMutator),
+            Ok(Ran::Refused(code)) => Err(Refusal::Refused(code)),
+            Err(_stop) => Err(Refusal::NoMemory),
+        }
+    }
+}
