@@ -123,7 +123,7 @@ after_pull-IdsFollow ids changes xs ok forward small = record {
   bounded = λ client. overwritten-≤ changes small ids ok.bounded client;
 }
 
-ids_of-append : (client : Bytes) (xs ys : List Mutation) → ids_of client (xs ++ ys) ≡ ids_of client xs ++ ids_of client ys
+pub ids_of-append : (client : Bytes) (xs ys : List Mutation) → ids_of client (xs ++ ys) ≡ ids_of client xs ++ ids_of client ys
 ids_of-append client [] ys = refl
 ids_of-append client (x ∷ xs) ys =
     let S : Mutation → Bool = λ m. same_text m.client client in
@@ -151,15 +151,20 @@ after_mutate-IdsFollow ids xs x ok next = record {
 pub last_id-≤ : (ids : Ids) (xs : List Mutation) (client : Bytes) → IdsFollow ids xs → fold max (confirmed_id ids client) (ids_of client xs) ≤ 2 ^ 52 + length xs
 last_id-≤ ids xs client ok = omega (arith, greatest-Follows _ _ (ok.pending_ids client), length-ids_of client xs, ok.bounded client)
 
+-- a new group's ids follow
+pub new_follows : IdsFollow finite.empty []
+new_follows =
+    let none : (client : Bytes) → confirmed_id finite.empty client ≡ 0 = λ client. ap (λ o. unwrap_or o 0) (finite.get-empty (slice_cmp nat_cmp) client) in
+    record { pending_ids = λ client. tt; bounded = λ client. omega (arith, none client) }
+
 -- a new group keeps what it has to
 pub new_kept : (means : Meanings) (view pulled : Entries) (ids : Ids) (xs : List Mutation) → view ≡ finite.empty → pulled ≡ finite.empty → ids ≡ finite.empty → xs ≡ [] → IsKept means view pulled ids xs
 new_kept means view pulled ids xs v p i x =
-    let none : (client : Bytes) → confirmed_id finite.empty client ≡ 0 = λ client. ap (λ o. unwrap_or o 0) (finite.get-empty (slice_cmp nat_cmp) client) in
     subst (λ view. IsKept means view pulled ids xs) (sym v)
     (subst (λ pulled. IsKept means finite.empty pulled ids xs) (sym p)
     (subst (λ ids. IsKept means finite.empty finite.empty ids xs) (sym i)
     (subst (λ xs. IsKept means finite.empty finite.empty finite.empty xs) (sym x)
-    (record { replay = refl; ids = record { pending_ids = λ client. tt; bounded = λ client. omega (arith, none client) } }))))
+    (record { replay = refl; ids = new_follows }))))
 
 -- and so does one after a pull
 pub pull_kept : (means : Meanings) (view pulled : Entries) (old ids : Ids) (changes : List Confirmed) (xs ys : List Mutation) → IdsFollow old xs → goes_back old changes ≡ false → All (λ c. c.id ≤ 2 ^ 52) changes

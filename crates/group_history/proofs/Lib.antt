@@ -3,3 +3,4 @@ pub mod Replays
 pub mod Records
 pub mod IdLemmas
 pub mod Readings
+pub mod RecordLaws

@@ -10,6 +10,7 @@ pub mod Queries
 pub mod Mutating
 pub mod Pulling
 pub mod Record
+pub mod Laws
 pub mod Answers
 pub mod Ran
 pub mod Ids

@@ -1,0 +1,93 @@
+-- Worked examples, computed by the definitions alone.
+use Rattle.std.specs.Prelude.{◌≡◌, ℕ, ◌+◌, List, [], ◌∷◌, Option, Some, None, Ok, Err, codes, if◌then◌else◌}
+use Rattle.std.specs.declared.cmp.Ordering.TheVariants.{Less, Equal}
+use Rattle.std.specs.FinMap as finite
+use Rattle.group_history.specs.declared.cookies.Order.{Order}
+use Rattle.group_history.specs.declared.cookies.Order.TheVariants as order
+use Rattle.group_history.specs.declared.mutations.Mutation.{Mutation}
+use Rattle.group_history.specs.declared.responses.Patch.{Patch}
+use Rattle.group_history.specs.declared.responses.Patch.TheVariants.{Put, Del, Clear}
+use Rattle.group_history.specs.declared.responses.Confirmed.{Confirmed}
+use Rattle.group_history.specs.declared.responses.Response.{Response}
+use Rattle.group_history.specs.declared.responses.Response.TheVariants as response
+use Rattle.group_history.specs.declared.responses.Ended.TheVariants.{Applied, Same}
+use Rattle.group_history.specs.declared.refusals.Refusal.TheVariants.{Stale, NoMutator, Refused, Overtaken, CookieWentBack, CookieNotNew, IdWentBack}
+use Rattle.group_history.specs.declared.scans.Scan.{Scan}
+use Rattle.group_history.specs.declared.scans.Start.TheVariants.{Any, After}
+use Rattle.group_history.specs.Map.{Bytes, Entries, patched, same_text}
+use Rattle.group_history.specs.Meaning.{Meaning, Meanings, unknown, refuses, done}
+use Rattle.group_history.specs.Cookies.{Cookie, order_cmp}
+use Rattle.group_history.specs.Pull.{Pull}
+use Rattle.group_history.specs.State.{State, opening, last_id, replayed}
+use Rattle.group_history.specs.Scans.{rows_of}
+use Rattle.group_history.specs.Queries.{get_at}
+use Rattle.group_history.specs.Mutating.{mutate_reply, after_mutate}
+use Rattle.group_history.specs.Pulling.{end_reply, after_pull}
+
+-- Two mutators to try the definitions with: `up` raises the last digit of the text at `n`, and refuses with 2 where there is none;
+-- `note` puts its arguments at `log`.
+abbrev pub raised : Bytes → Bytes
+raised [] = []
+raised (x ∷ []) = x + 1 ∷ []
+raised (x ∷ y ∷ ys) = x ∷ raised (y ∷ ys)
+
+abbrev pub up_at : Option Bytes → Entries → Meaning
+up_at None m = refuses 2
+up_at (Some text) m = done (finite.insert m (codes "n") (raised text))
+
+abbrev pub trial : Meanings
+trial name args m =
+    if same_text name (codes "up") then up_at (finite.get m (codes "n")) m
+    else (if same_text name (codes "note") then done (finite.insert m (codes "log") args) else unknown)
+
+-- the client `a` makes its mutation of this id
+abbrev pub made : ℕ → Bytes → Bytes → Mutation
+made id name args = record { client = codes "a"; id = id; name = name; args = args; timestamp = 0 }
+
+abbrev pub up : ℕ → Mutation
+up id = made id (codes "up") (codes "[]")
+
+abbrev pub note : ℕ → Mutation
+note id = made id (codes "note") (codes "1")
+
+-- the cookie of a number of one digit
+abbrev pub cookie : ℕ → Cookie
+cookie n = record { text = 48 + n ∷ []; order = order.Number (nat_int n) }
+
+-- a response with this cookie
+abbrev pub pull : ℕ → List Confirmed → List Patch → Pull
+pull n changes patch = record { cookie = cookie n; changes = changes; patch = patch }
+
+abbrev pub put_n : Bytes → List Patch
+put_n value = Put (codes "n") value ∷ []
+
+abbrev pub confirms : ℕ → List Confirmed
+confirms id = record { client = codes "a"; id = id } ∷ []
+
+-- five is pulled, then raised by a mutation that waits
+abbrev pub five : State
+five = after_pull opening (pull 1 [] (put_n (codes "5")))
+
+abbrev pub raised_five : State
+raised_five = after_mutate five (up 1)
+
+-- under a pending `up` and a pending `note` the map is cleared
+abbrev pub cleared : State
+cleared = after_pull (after_mutate raised_five (note 2)) (pull 2 [] (Clear ∷ []))
+
+abbrev pub every : Scan
+every = record { prefix = []; start = Any; limit = None }
+
+pub record WorkedExamples : Type 0 where
+  pub patch_in_order : patched finite.empty (Put (codes "a") (codes "1") ∷ Clear ∷ Put (codes "b") (codes "2") ∷ []) ≡ finite.insert finite.empty (codes "b") (codes "2")
+  pub scan_after_put : rows_of (record { prefix = codes "k"; start = After (codes "k1"); limit = Some 1 }) (patched finite.empty (Put (codes "k2") (codes "2") ∷ Put (codes "k1") (codes "1") ∷ Put (codes "k3") (codes "3") ∷ [])) ≡ (codes "k2", codes "2") ∷ []
+  pub optimistic : get_at trial raised_five (codes "n") ≡ Some (codes "6")
+  pub rebased : get_at trial (after_pull raised_five (pull 2 [] (put_n (codes "10")))) (codes "n") ≡ Some (codes "11")
+  pub confirmed : after_pull raised_five (pull 2 (confirms 1) (put_n (codes "11"))) ≡ record { pulled = finite.insert (finite.insert finite.empty (codes "n") (codes "5")) (codes "n") (codes "11"); cookie = cookie 2; confirmed = finite.insert finite.empty (codes "a") 1; pending = [] }
+  pub cleared_under_pending : (get_at trial cleared (codes "n") ≡ None) × (get_at trial cleared (codes "log") ≡ Some (codes "1")) × (cleared.pending ≡ up 1 ∷ note 2 ∷ [])
+  pub refused_while_cleared : mutate_reply trial cleared (codes "a") 2 (codes "up") (codes "[]") ≡ Err (Refused 2)
+  pub comes_back : get_at trial (after_pull cleared (pull 3 [] (put_n (codes "5")))) (codes "n") ≡ Some (codes "6")
+  pub overtaken : end_reply five (codes "null") (response.Ok (pull 2 [] (put_n (codes "6")))) ≡ Err Overtaken
+  pub cookies_in_order : (order_cmp (order.Number (nat_int 9)) (order.Text (codes "1")) ≡ Less) × (order_cmp order.Null (order.Number (nat_int 0)) ≡ Less)
+  pub same_or_not_new : (end_reply five (codes "1") (response.Ok (pull 1 [] [])) ≡ Ok Same) × (end_reply five (codes "1") (response.Ok (pull 1 [] (put_n (codes "6")))) ≡ Err CookieNotNew) × (end_reply five (codes "1") (response.Ok (pull 0 [] [])) ≡ Err CookieWentBack)
+  pub id_went_back : end_reply (after_pull five (pull 2 (confirms 3) [])) (codes "2") (response.Ok (pull 3 (confirms 2) [])) ≡ Err IdWentBack
