@@ -4,3 +4,4 @@ pub mod Records
 pub mod IdLemmas
 pub mod Readings
 pub mod RecordLaws
+pub mod Worked

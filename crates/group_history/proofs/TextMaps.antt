@@ -9,7 +9,7 @@ use Rattle.std.specs.Cmp.Lexicographic.{slice_cmp, nat_list_cmp_total}
 use Rattle.std.specs.BTreeMap.{is_at}
 use Rattle.std.specs.Map.{lookup}
 use Rattle.std.specs.List.{AllZip}
-use Rattle.std.specs.FinMap.{find, entries, len-entries, len-empty, entries-insert, get, insert, remove, from_entries, get-from_entries, get-insert, get-remove, same_map, IsAntisymmetric, slice_cmp-IsAntisymmetric, nat_cmp-IsAntisymmetric}
+use Rattle.std.specs.FinMap.{find, entries, empty, len-entries, len-empty, entries-insert, get, insert, remove, from_entries, get-from_entries, get-insert, get-remove, same_map, IsAntisymmetric, slice_cmp-IsAntisymmetric, nat_cmp-IsAntisymmetric}
 
 text_cmp-IsAntisymmetric : IsAntisymmetric (slice_cmp nat_cmp)
 text_cmp-IsAntisymmetric = slice_cmp-IsAntisymmetric nat_cmp-IsAntisymmetric
@@ -58,8 +58,11 @@ module _ {V : Type 0} where
   none_left [] h = refl
   none_left (e ∷ es) h = absurd (omega arith)
 
+  pub entries-empty : entries (empty {X = V} {R = slice_cmp nat_cmp}) ≡ []
+  entries-empty = none_left _ (sym (len-entries _) ∙ len-empty (slice_cmp nat_cmp) V)
+
   -- a tree's entries are those of its map, in order
   pub entries-from_entries : (es : List (List ℕ × V)) → IsStrictlySortedBy (slice_cmp nat_cmp) (keys_of es) → entries (from_entries {R = slice_cmp nat_cmp} es) ≡ es
   unfolding IsStrictlySortedBy
-  entries-from_entries [] h = none_left _ (sym (len-entries _) ∙ len-empty (slice_cmp nat_cmp) V)
+  entries-from_entries [] h = entries-empty
   entries-from_entries (e ∷ es) h = entries-insert nat_list_cmp_total (from_entries es) e.0 e.1 ∙ ap (put (slice_cmp nat_cmp) e.0 e.1) (entries-from_entries es h.1) ∙ put_first e es h

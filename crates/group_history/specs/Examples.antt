@@ -1,5 +1,5 @@
 -- Worked examples, computed by the definitions alone.
-use Rattle.std.specs.Prelude.{◌≡◌, ℕ, ◌+◌, List, [], ◌∷◌, Option, Some, None, Ok, Err, codes, if◌then◌else◌}
+use Rattle.std.specs.Prelude.{◌≡◌, ℕ, ◌+◌, List, [], ◌∷◌, Option, Some, None, Ok, Err, codes, if◌then◌else◌, pos}
 use Rattle.std.specs.declared.cmp.Ordering.TheVariants.{Less, Equal}
 use Rattle.std.specs.FinMap as finite
 use Rattle.group_history.specs.declared.cookies.Order.{Order}
@@ -28,7 +28,7 @@ use Rattle.group_history.specs.Pulling.{end_reply, after_pull}
 -- `note` puts its arguments at `log`.
 abbrev pub raised : Bytes → Bytes
 raised [] = []
-raised (x ∷ []) = x + 1 ∷ []
+raised (x ∷ []) = (x + 1) ∷ []
 raised (x ∷ y ∷ ys) = x ∷ raised (y ∷ ys)
 
 abbrev pub up_at : Option Bytes → Entries → Meaning
@@ -52,7 +52,7 @@ note id = made id (codes "note") (codes "1")
 
 -- the cookie of a number of one digit
 abbrev pub cookie : ℕ → Cookie
-cookie n = record { text = 48 + n ∷ []; order = order.Number (nat_int n) }
+cookie n = record { text = (48 + n) ∷ []; order = order.Number (pos n) }
 
 -- a response with this cookie
 abbrev pub pull : ℕ → List Confirmed → List Patch → Pull
@@ -88,6 +88,6 @@ pub record WorkedExamples : Type 0 where
   pub refused_while_cleared : mutate_reply trial cleared (codes "a") 2 (codes "up") (codes "[]") ≡ Err (Refused 2)
   pub comes_back : get_at trial (after_pull cleared (pull 3 [] (put_n (codes "5")))) (codes "n") ≡ Some (codes "6")
   pub overtaken : end_reply five (codes "null") (response.Ok (pull 2 [] (put_n (codes "6")))) ≡ Err Overtaken
-  pub cookies_in_order : (order_cmp (order.Number (nat_int 9)) (order.Text (codes "1")) ≡ Less) × (order_cmp order.Null (order.Number (nat_int 0)) ≡ Less)
+  pub cookies_in_order : (order_cmp (order.Number (pos 9)) (order.Text (codes "1")) ≡ Less) × (order_cmp order.Null (order.Number (pos 0)) ≡ Less)
   pub same_or_not_new : (end_reply five (codes "1") (response.Ok (pull 1 [] [])) ≡ Ok Same) × (end_reply five (codes "1") (response.Ok (pull 1 [] (put_n (codes "6")))) ≡ Err CookieNotNew) × (end_reply five (codes "1") (response.Ok (pull 0 [] [])) ≡ Err CookieWentBack)
   pub id_went_back : end_reply (after_pull five (pull 2 (confirms 3) [])) (codes "2") (response.Ok (pull 3 (confirms 2) [])) ≡ Err IdWentBack

@@ -11,6 +11,7 @@ pub mod Mutating
 pub mod Pulling
 pub mod Record
 pub mod Laws
+pub mod Examples
 pub mod Answers
 pub mod Ran
 pub mod Ids
