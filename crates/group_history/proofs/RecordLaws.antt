@@ -1,6 +1,6 @@
 -- The laws of the record.
 use Rattle.std.proofs.Common.{◌≡◌, ℕ, ◌+◌, ◌≤◌, ◌<◌, ◌^◌, Bool, true, false, true≢false, cond, List, [], ◌∷◌, ◌++◌, length, map, filter, fold, max, nat_eq, nat_lt, refl, sym, ap, ◌∙◌, subst, arith, Result, Ok, Err, All}
-use Rattle.std.proofs.lemmas.Bool.{ltb-false, ltb-true, lt-ltb}
+use Rattle.std.proofs.lemmas.Bool.{ltb-false, ltb-true}
 use Rattle.std.proofs.lemmas.List.Elements.{recursion_from_All, All-weaker, filter_passes}
 use Rattle.std.proofs.lemmas.Slice.Eq.{bytes_eq-Decides}
 use Rattle.std.specs.List.{AllByRecursion}
@@ -12,7 +12,6 @@ use Rattle.std.proofs.Common.{length-append}
 use Rattle.std.specs.declared.cmp.Ordering.{Ordering}
 use Rattle.std.specs.declared.cmp.Ordering.TheVariants.{Less, Equal, Greater}
 use Rattle.std.specs.Cmp.{IsTotalOrder}
-use Rattle.group_history.specs.declared.cookies.Order.{Order}
 use Rattle.group_history.specs.declared.changes.Change.{Change}
 use Rattle.group_history.specs.declared.changes.Change.TheVariants.{Mutated, Pulled}
 use Rattle.group_history.specs.declared.mutations.Mutation.{Mutation}
@@ -26,10 +25,10 @@ use Rattle.group_history.specs.Meaning.{Meaning, Meanings, unknown, refuses, don
 use Rattle.group_history.specs.Cookies.{order_cmp}
 use Rattle.group_history.specs.Orders.{order_cmp_total}
 use Rattle.group_history.specs.Pull.{Pull}
-use Rattle.group_history.specs.State.{State, Ids, opening, view_of, replayed, confirmed_id, ids_of, last_id}
-use Rattle.group_history.specs.Mutating.{mutate_reply, by_meaning, after_mutate}
+use Rattle.group_history.specs.State.{State, Ids, opening, view_of, confirmed_id, ids_of, last_id}
+use Rattle.group_history.specs.Mutating.{by_meaning, after_mutate}
 use Rattle.group_history.specs.Pulling.{by_order, end_reply, says_nothing, goes_back, unconfirmed, overwritten, after_pull}
-use Rattle.group_history.specs.Record.{IsAccepted, AllAccepted, IsLegal, after, after_all, after_change}
+use Rattle.group_history.specs.Record.{IsAccepted, AllAccepted, IsLegal, after, after_all}
 use Rattle.group_history.specs.Ids.{IdsFollow}
 use Rattle.group_history.specs.Laws.{ids_made, orders_of, IsPart, nothing, kept, left_out, RecordLaws}
 use Rattle.group_history.proofs.Replays.{replayed-append}
@@ -65,11 +64,13 @@ applied_by Equal s r e =
       | true ↦ λ d. absurd (other_end _ refl d)
       | false ↦ λ d. absurd (other_end _ refl d)
     ] e
-applied_by Greater s r e =
-    (refl, elim (goes_back s.confirmed r.changes) as (λ b. cond b (Err refusal.IdWentBack) (Ok ended.Applied) ≡ Ok ended.Applied → b ≡ false) [
-      | true ↦ λ d. absurd (other_end _ refl d)
-      | false ↦ λ d. refl
-    ] e)
+applied_by Greater s r e = (
+  refl,
+  elim (goes_back s.confirmed r.changes) as (λ b. cond b (Err refusal.IdWentBack) (Ok ended.Applied) ≡ Ok ended.Applied → b ≡ false) [
+    | true ↦ λ d. absurd (other_end _ refl d)
+    | false ↦ λ d. refl
+  ] e,
+)
 
 applied : (s : State) (ticket : Bytes) (r : Pull) → end_reply s ticket (response.Ok r) ≡ Ok ended.Applied → (order_cmp r.cookie.order s.cookie.order ≡ Greater) × (goes_back s.confirmed r.changes ≡ false)
 applied s ticket r e =

@@ -1,9 +1,8 @@
 -- The worked examples hold.
-use Rattle.std.proofs.Common.{◌≡◌, ℕ, refl, sym, ap, ◌∙◌, List, [], ◌∷◌, Option, Some, None, Ok, Err, codes}
-use Rattle.std.specs.FinMap as finite
-use Rattle.std.specs.FinMap.{gets, entries-insert, FinMap, get, empty}
-use Rattle.std.specs.Cmp.Lexicographic.{slice_cmp, nat_list_cmp_total}
-use Rattle.group_history.specs.Examples.{WorkedExamples, trial, up, note, five, raised_five, cleared, pull, put_n, cookie, confirms, every}
+use Rattle.std.proofs.Common.{ℕ, refl, List}
+use Rattle.std.specs.FinMap.{gets, entries-insert}
+use Rattle.std.specs.Cmp.Lexicographic.{nat_list_cmp_total}
+use Rattle.group_history.specs.Examples.{WorkedExamples}
 use Rattle.group_history.proofs.TextMaps.{entries-empty}
 
 pub worked : WorkedExamples

@@ -1,24 +1,22 @@
 -- Worked examples, computed by the definitions alone.
 use Rattle.std.specs.Prelude.{◌≡◌, ℕ, ◌+◌, List, [], ◌∷◌, Option, Some, None, Ok, Err, codes, if◌then◌else◌, pos}
-use Rattle.std.specs.declared.cmp.Ordering.TheVariants.{Less, Equal}
+use Rattle.std.specs.declared.cmp.Ordering.TheVariants.{Less}
 use Rattle.std.specs.FinMap as finite
-use Rattle.group_history.specs.declared.cookies.Order.{Order}
 use Rattle.group_history.specs.declared.cookies.Order.TheVariants as order
 use Rattle.group_history.specs.declared.mutations.Mutation.{Mutation}
 use Rattle.group_history.specs.declared.responses.Patch.{Patch}
-use Rattle.group_history.specs.declared.responses.Patch.TheVariants.{Put, Del, Clear}
+use Rattle.group_history.specs.declared.responses.Patch.TheVariants.{Put, Clear}
 use Rattle.group_history.specs.declared.responses.Confirmed.{Confirmed}
-use Rattle.group_history.specs.declared.responses.Response.{Response}
 use Rattle.group_history.specs.declared.responses.Response.TheVariants as response
-use Rattle.group_history.specs.declared.responses.Ended.TheVariants.{Applied, Same}
-use Rattle.group_history.specs.declared.refusals.Refusal.TheVariants.{Stale, NoMutator, Refused, Overtaken, CookieWentBack, CookieNotNew, IdWentBack}
+use Rattle.group_history.specs.declared.responses.Ended.TheVariants.{Same}
+use Rattle.group_history.specs.declared.refusals.Refusal.TheVariants.{Refused, Overtaken, CookieWentBack, CookieNotNew, IdWentBack}
 use Rattle.group_history.specs.declared.scans.Scan.{Scan}
 use Rattle.group_history.specs.declared.scans.Start.TheVariants.{Any, After}
 use Rattle.group_history.specs.Map.{Bytes, Entries, patched, same_text}
 use Rattle.group_history.specs.Meaning.{Meaning, Meanings, unknown, refuses, done}
 use Rattle.group_history.specs.Cookies.{Cookie, order_cmp}
 use Rattle.group_history.specs.Pull.{Pull}
-use Rattle.group_history.specs.State.{State, opening, last_id, replayed}
+use Rattle.group_history.specs.State.{State, opening}
 use Rattle.group_history.specs.Scans.{rows_of}
 use Rattle.group_history.specs.Queries.{get_at}
 use Rattle.group_history.specs.Mutating.{mutate_reply, after_mutate}
