@@ -4,6 +4,7 @@ ghost use Rattle.std.specs.Prelude.{◌≡◌};
 use crate::cookies::Cookie;
 use crate::json::Json;
 use crate::texts::Text;
+use std::alloc::AllocError;
 use std::fmt;
 use std::marker::Model;
 
@@ -79,6 +80,21 @@ impl PullOk {
     }
 }
 
+impl Clone for PullOk {
+    ghost is_clone = { λ p copy. copy ≡ p };
+
+    fn clone(&self) -> Result<PullOk, AllocError> {
+        let cookie = self.cookie.clone()?;
+        let changes = self.changes.clone()?;
+        let patch = self.patch.clone()?;
+        Ok(PullOk {
+            cookie,
+            changes,
+            patch,
+        })
+    }
+}
+
 /// Which version the server doesn't support.
 #[derive(Clone, Copy, Debug, PartialEq, Eq)]
 pub enum VersionKind {
@@ -101,7 +117,7 @@ impl fmt::Display for VersionKind {
 }
 
 /// A response to a pull (Pull Endpoint Reference, version 1).
-#[derive(Debug, Drop)]
+#[derive(Clone, Debug, Drop)]
 pub enum Response {
     Ok(PullOk),
     /// The server doesn't know the client group.
