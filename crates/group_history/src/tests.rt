@@ -215,6 +215,9 @@ fn answers(
     after: &str,
 ) -> Result<bool, Refusal> {
     let answered = take(group, alloc, step)?;
+    if answered.as_str() == "Err(NoMemory)" {
+        return Err(Refusal::NoMemory);
+    }
     let left = shown(group, alloc)?;
     Ok(answered.as_str() == answer && left.as_str() == after)
 }
