@@ -1,7 +1,7 @@
 -- What queries answer at a state. They read the view, never the pulled map alone.
 -- The pending list, the cookie and a client's last id are read from the state as they stand.
 -- Source: Replicache, How It Works, "The Client View"; ReadTransaction, "get", "has", "scan", "isEmpty".
-use Rattle.std.specs.Prelude.{Bool, List, Option, nat_eq}
+use Rattle.std.specs.Prelude.{Bool, List, Option, length, ◌==◌}
 use Rattle.std.specs.FinMap as finite
 use Rattle.group_history.specs.declared.scans.Scan.{Scan}
 use Rattle.group_history.specs.Map.{Bytes}
@@ -23,4 +23,4 @@ rows_at means s scan = rows_of scan (view_of means s)
 
 -- whether no key is there
 abbrev pub is_empty_at : Meanings → State → Bool
-is_empty_at means s = nat_eq (finite.len (view_of means s)) 0
+is_empty_at means s = length (finite.entries (view_of means s)) == 0

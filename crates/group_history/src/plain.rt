@@ -9,8 +9,8 @@ ghost use Rattle.std.specs.Option.{option_copied};
 ghost use Rattle.group_history.specs.declared.refusals.Refusal.TheVariants.{NoMemory};
 ghost use Rattle.group_history.specs.Answers.{Answers};
 ghost use Rattle.group_history.specs.State.{opening, last_id};
-ghost use Rattle.group_history.specs.Queries.{get_at, has_at};
-ghost use Rattle.group_history.specs.Mutating.{mutate_reply, after_mutate};
+ghost use Rattle.group_history.specs.Queries.{get_at, has_at, rows_at, is_empty_at};
+ghost use Rattle.group_history.specs.Mutating.{mutate_reply, left_by_mutate};
 ghost use Rattle.group_history.specs.Pulling.{after_pull, end_reply, left_by_end, goes_back};
 
 use crate::cookies::{Cookie, cookie_cmp};
@@ -20,6 +20,7 @@ use crate::mutators::{Mutators, Ran};
 use crate::plain_view::PlainView;
 use crate::refusals::Refusal;
 use crate::responses::{Ended, PullOk, Response};
+use crate::scans::Scan;
 use crate::steps;
 use crate::text_map::TextMap;
 use crate::texts::Text;
@@ -85,6 +86,21 @@ impl<M: Mutators> PlainGroup<M> {
         ensures { result ≡ has_at M.means self.now key.now }
     {
         self.view.has(key)
+    }
+
+    /// The rows of a scan of the view.
+    pub fn scan(&self, scan: &Scan) -> Result<Vec<(Text, Json)>, Refusal>
+        ensures rows { IfOk result (λ rows. rows.items ≡ rows_at M.means self.now scan.now) }
+        ensures err { IfErr result (λ e. e ≡ NoMemory) }
+    {
+        Ok(self.view.rows(self.alloc, scan)?)
+    }
+
+    /// Whether the view has no key.
+    pub fn is_empty(&self) -> bool
+        ensures { result ≡ is_empty_at M.means self.now }
+    {
+        self.view.is_empty()
     }
 
     pub fn cookie(&self) -> &Cookie
@@ -183,8 +199,7 @@ impl<M: Mutators> PlainGroup<M> {
         time: u64,
     ) -> Result<u64, Refusal>
         ensures answer { Answers result (mutate_reply M.means self.old client.now last name.now args.now) }
-        ensures made { IfOk result (λ id. self.new ≡ after_mutate self.old (record { client = client.now; id = id; name = name.now; args = args.now; timestamp = time })) }
-        ensures refused { OnErr result (self.new ≡ self.old) }
+        ensures left { self.new ≡ left_by_mutate result self.old client.now name.now args.now time }
     {
         if self.last(client) != last {
             return Err(Refusal::Stale);
