@@ -1,0 +1,4 @@
+pub mod Writings
+pub mod Pieces
+pub mod Compact
+pub mod Sent

@@ -1,0 +1,19 @@
+//! The bodies of the two requests that a client sends: a push and a pull.
+//!
+//! A body is a compact JSON object with its fields in the order of their names. `specs/` says each
+//! body's bytes, and `bodies_read_back` that a JSON reader finds in them just what was put in.
+#![tactic(auto)]
+
+mod body;
+mod identities;
+mod laws;
+mod pull;
+mod push;
+
+pub use identities::Identity;
+pub use laws::bodies_read_back;
+pub use pull::pull_bytes;
+pub use push::push_bytes;
+
+#[cfg(test)]
+mod tests;

@@ -1,0 +1,44 @@
+//! The program over any reader and writers.
+use crate::faults::Fault;
+use crate::runner::{Gate, run};
+use std::io::{self, Read, Write};
+
+/// A gate that holds no call.
+struct Open;
+
+impl Gate for Open {
+    fn before(&self, _client: &str, _line: u64) {}
+
+    fn after(&self, _client: &str, _line: u64) {}
+}
+
+/// Reads a script to its end, runs it, and answers the status of a process: 0 where it ran, 2 where it is
+/// faulty, 3 where memory was refused or the reader or the writer failed. What is wrong is a line on `err`; a
+/// failed write there changes nothing.
+pub fn program<R: AllocGlobal, I: Read, W: Write, E: Write>(
+    rt: &R,
+    input: &mut I,
+    out: &mut W,
+    err: &mut E,
+) -> u8 {
+    let mut script = Vec::new(rt.alloc());
+    if let Err(error) = input.read_to_end(&mut script) {
+        let told = if error.kind() == io::ErrorKind::OutOfMemory {
+            "no memory\n"
+        } else {
+            "read failed\n"
+        };
+        let _ = err.write_all(told.as_bytes());
+        return 3;
+    }
+    match run(rt, &script, &Open, out) {
+        Ok(()) => 0,
+        Err(fault) => {
+            let _ = writeln!(err, "{fault}");
+            match fault {
+                Fault::Script { .. } => 2,
+                Fault::NoMemory | Fault::Write => 3,
+            }
+        }
+    }
+}

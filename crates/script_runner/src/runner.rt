@@ -1,0 +1,86 @@
+//! Runs a script: its phases one after the other, and in a phase its clients one after the other.
+ghost use Rattle.std.specs.Prelude.{◌≡◌, IfErr};
+ghost use Rattle.script_runner.specs.Runs.{IsOfScript};
+
+use crate::client::Client;
+use crate::faults::Fault;
+use crate::mutators::ScriptMutators;
+use crate::plain::Plain;
+use crate::reply::print_line;
+use crate::script::{Header, Phase, read_script};
+use group_history::Refusal;
+use std::alloc::{AllocError, Global};
+use std::io;
+
+/// Asked before and after each call of a client, with the client's name and the line's number. A gate may hold a
+/// call, so a test can order the calls of clients.
+pub trait Gate: Sync {
+    fn before(&self, client: &str, line: u64);
+
+    fn after(&self, client: &str, line: u64);
+}
+
+/// A group with the clients of a script.
+#[derive(Drop)]
+struct Session {
+    group: Plain<ScriptMutators>,
+    clients: Vec<Client>,
+}
+
+impl Session {
+    fn open(alloc: Global, header: &Header) -> Result<Session, Refusal> {
+        let identity = header.identity(alloc)?;
+        let mut clients = Vec::new(alloc);
+        for client in &header.clients {
+            clients.push(Client::new(alloc, &client.name, &client.id)?)?;
+        }
+        Ok(Session {
+            group: Plain::new(alloc, ScriptMutators, identity)?,
+            clients,
+        })
+    }
+
+    /// Runs a phase, and answers what it prints: the replies client by client.
+    fn phase<G: Gate>(
+        &mut self,
+        alloc: Global,
+        gate: &G,
+        phase: &Phase,
+    ) -> Result<Vec<u8>, AllocError> {
+        let mut printed = Vec::new(alloc);
+        for (client, lines) in self.clients.iter_mut().zip(phase.lines.iter()) {
+            for line in lines {
+                gate.before(client.name.as_str(), line.number);
+                let reply = client.call(&mut self.group, &line.command);
+                gate.after(client.name.as_str(), line.number);
+                print_line(&mut printed, line.number, client.name.as_str(), &reply)?;
+            }
+        }
+        Ok(printed)
+    }
+}
+
+/// Runs a script, and writes the replies of each phase when it has ended. A faulty script is told before
+/// anything runs or is written. After `NoMemory` the writer has the output of whole phases.
+pub fn run<R: AllocGlobal, G: Gate, W: io::Write>(
+    rt: &R,
+    script: &[u8],
+    gate: &G,
+    out: &mut W,
+) -> Result<(), Fault>
+    ensures nothing_written { IfErr result (λ e. IsOfScript e → W.contents out.new ≡ W.contents out.old) }
+{
+    let alloc = rt.alloc();
+    let script = read_script(alloc, script)?;
+    let mut session = match Session::open(alloc, &script.header) {
+        Ok(session) => session,
+        Err(_refused) => return Err(Fault::NoMemory),
+    };
+    for phase in &script.phases {
+        let printed = session.phase(alloc, gate, phase)?;
+        if out.write_all(&printed).is_err() {
+            return Err(Fault::Write);
+        }
+    }
+    Ok(())
+}
