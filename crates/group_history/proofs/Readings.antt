@@ -8,6 +8,8 @@ use Rattle.serde_json.specs.Written.{has_float, compact_text}
 use Rattle.group_history.specs.Answers.{◌>>=◌}
 use Rattle.serde_json.specs.Read.{read}
 use Rattle.group_history.specs.declared.refusals.Refusal.TheVariants.{NotJson, NotWhole}
+use Rattle.group_history.specs.declared.cookies.Order.{Order}
+use Rattle.group_history.specs.Cookies.{order_of, cookie_of, cookie_at}
 use Rattle.group_history.specs.Json.{reading, or_not_json, text_of, json_text}
 
 pub reading-ok : (bytes : List ℕ) (d : Data) → IsUtf8 bytes → read bytes ≡ Some d → reading bytes ≡ Ok d
@@ -46,3 +48,10 @@ not-true false h = refl
 pub not-false : (b : Bool) → not b ≡ false → b ≡ true
 not-false true h = refl
 not-false false h = sym h
+
+-- a compact text is the cookie that its value is
+pub cookie_at-compact : (d : Data) (text : List ℕ) (o : Order) → IsUtf8 text → read text ≡ Some d → text ≡ compact_text d → depth d ≤ 126 → has_float d ≡ false → order_of d ≡ Some o
+    → cookie_at text ≡ Some (record { text = text; order = o })
+unfolding cookie_at cookie_of
+cookie_at-compact d text o utf8 is same shallow whole order =
+    rw (reading-ok text d utf8 is, le-leb (depth d) 126 shallow, whole, order) (ap (λ t. Some (record { text = t; order = o })) (sym same))

@@ -1,12 +1,12 @@
 -- Cookies, and their order.
 -- Source: Pull Endpoint Reference, "cookie"; the order is this project's own rule.
-use Rattle.std.specs.Prelude.{codes, if◌then◌else◌, Option, Some, None, Result, Ok, Err, option_and_then, option_map}
+use Rattle.std.specs.Prelude.{nat_le, codes, if◌then◌else◌, Option, Some, None, Result, Ok, Err, option_and_then, option_map}
 use Rattle.std.specs.Ordering.{nat_cmp, int_cmp}
 use Rattle.std.specs.Cmp.Lexicographic.{slice_cmp}
 use Rattle.std.specs.declared.cmp.Ordering.{Ordering}
 use Rattle.std.specs.declared.cmp.Ordering.TheVariants.{Less, Equal, Greater}
 use Rattle.serde_json.specs.Data as tree
-use Rattle.serde_json.specs.Data.{Data, boolean, string, array, object}
+use Rattle.serde_json.specs.Data.{Data, boolean, string, array, object, depth}
 use Rattle.serde_json.specs.Find.{get_member, as_integer}
 use Rattle.serde_json.specs.Written.{has_float, compact_text}
 use Rattle.group_history.specs.declared.refusals.Refusal.{Refusal}
@@ -66,6 +66,6 @@ abbrev pub value_read : Result Data Refusal → Option Data
 value_read (Ok d) = Some d
 value_read (Err e) = None
 
--- what the value that a text is is compared by
-unfoldable pub order_at : Bytes → Option Order
-order_at s = option_and_then order_of (value_read (reading s))
+-- the cookie that a text is: what it is read as, nested at most 126 deep, one level less than a body
+unfoldable pub cookie_at : Bytes → Option Cookie
+cookie_at s = option_and_then (λ d. if nat_le (depth d) 126 then cookie_of d else None) (value_read (reading s))

@@ -2,7 +2,7 @@
 //!
 //! A cookie is null, a number, a text, or an object whose field `order` is a number or a text. It is
 //! kept as its compact text, and beside it what it is compared by, so that no comparison reads the text
-//! again. The type's invariant says that the two belong together.
+//! again. The type's invariant says that the two belong together: reading the text gives this very cookie.
 ghost use Rattle.std.specs.Prelude.{◌≡◌, ◌≤◌, Some, IfOk, nat_eq};
 ghost use Rattle.std.proofs.Common.{refl};
 ghost use Rattle.std.specs.Cmp as laws;
@@ -83,13 +83,13 @@ pub struct Cookie {
 
 impl Model for Cookie {
     ghost use Rattle.std.specs.Prelude.{◌≡◌, Some};
-    ghost use Rattle.group_history.specs.Cookies.{Cookie, order_at};
+    ghost use Rattle.group_history.specs.Cookies.{Cookie, cookie_at};
 
     ghost Value = { Cookie };
 
     ghost view = { λ c. record { text = c.text; order = c.order } };
 
-    ghost invariant = { λ c. order_at c.text ≡ Some c.order };
+    ghost invariant = { λ c. cookie_at c.text ≡ Some (record { text = c.text; order = c.order }) };
 }
 
 /// Two cookies are equal where their texts are.
@@ -148,7 +148,7 @@ impl Cookie {
     /// The cookie that a JSON value is; none where a number in it isn't whole, or where it has no order.
     #[tactic(auto, unfolding(crate::specs::Cookies::cookie_of))]
     pub fn of(alloc: Global, value: &Value) -> Result<Option<Cookie>, AllocError>
-        requires { depth (view value.now) ≤ 127 }
+        requires { depth (view value.now) ≤ 126 }
         ensures { IfOk result (λ o. o ≡ cookie_of (view value.now)) }
     {
         if !is_whole(value) {

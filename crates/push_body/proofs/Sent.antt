@@ -22,10 +22,11 @@ use Rattle.group_history.specs.declared.refusals.Refusal.TheVariants.{NotJson, N
 use Rattle.group_history.specs.Map.{Bytes}
 use Rattle.group_history.specs.Answers.{◌>>=◌}
 use Rattle.group_history.specs.Json.{reading, or_not_json, text_of, json_text}
-use Rattle.group_history.specs.Cookies.{Cookie, value_read, whole_text}
+use Rattle.group_history.specs.declared.cookies.Order.{Order}
+use Rattle.group_history.specs.Cookies.{Cookie, value_read, whole_text, order_of, cookie_of, cookie_at}
 use Rattle.push_body.specs.declared.identities.Identity.{Identity}
 use Rattle.push_body.specs.Bodies.{mutation_text, mutations_text, push_text, pull_text}
-use Rattle.push_body.specs.ReadBack.{mutation_value, mutation_values, request_value, IsIdentity, IsMutation, cookie_text, PushReadsBack, PullReadsBack}
+use Rattle.push_body.specs.ReadBack.{mutation_value, mutation_values, request_value, IsIdentity, IsMutation, PushReadsBack, PullReadsBack}
 use Rattle.push_body.proofs.Pieces.{mutation_pieces, push_pieces, pull_pieces}
 use Rattle.push_body.proofs.Compact.{IsWritten, IsWritten-read, read-IsWritten}
 
@@ -70,20 +71,39 @@ args_at text (Err r) e h = absurd cc
 args_kept : (text : Bytes) → json_text text ≡ Ok text → (d : Data) × IsKept text d 124
 args_kept text h = args_at text (reading text) refl h
 
-whole_parts_at : (b c : Bool) (t s : Bytes) → cond b (cond c None (Some t)) None ≡ Some s → (b ≡ true) × (c ≡ false) × (t ≡ s)
-whole_parts_at true true t s e = absurd cc
-whole_parts_at true false t s e = (refl, refl, cc)
-whole_parts_at false c t s e = absurd cc
+-- what a cookie is made of
+abbrev cookie_text_or : Option Cookie → Bytes → Bytes
+cookie_text_or None t = t
+cookie_text_or (Some c) t = c.text
 
-cookie_at : (text : Bytes) (r : Result Data Refusal) → reading text ≡ r → option_and_then (λ d. cond (nat_le (depth d) 126) (whole_text d) None) (value_read r) ≡ Some text → (d : Data) × IsKept text d 126
-cookie_at text (Ok d) e h =
-    let p = reading_parts text d e in
-    let q = whole_parts_at (nat_le (depth d) 126) (has_float d) (compact_text d) text h in
-    (d, record { utf8 = p.0; is = p.1; whole = q.1; same = q.2; shallow = leb-true _ _ q.0 })
-cookie_at text (Err r) e h = absurd cc
+cookie_parts_at : (w : Option Bytes) (o : Option Order) (c : Cookie) → option_and_then (λ t. option_map (λ x. record { text = t; order = x }) o) w ≡ Some c → w ≡ Some c.text
+cookie_parts_at None o c e = absurd cc
+cookie_parts_at (Some t) None c e = absurd cc
+cookie_parts_at (Some t) (Some x) c e = ap Some (ap (λ k. cookie_text_or k t) e)
 
-cookie_kept : (text : Bytes) → cookie_text text ≡ Some text → (d : Data) × IsKept text d 126
-cookie_kept text h = cookie_at text (reading text) refl h
+whole_parts_at : (f : Bool) (t s : Bytes) → cond f None (Some t) ≡ Some s → (f ≡ false) × (t ≡ s)
+whole_parts_at true t s e = absurd cc
+whole_parts_at false t s e = (refl, cc)
+
+cookie_parts : (d : Data) (c : Cookie) → cookie_of d ≡ Some c → (has_float d ≡ false) × (compact_text d ≡ c.text)
+unfolding cookie_of
+cookie_parts d c e = whole_parts_at (has_float d) (compact_text d) c.text (cookie_parts_at (whole_text d) (order_of d) c e)
+
+shallow_parts_at : (b : Bool) (o : Option Cookie) (c : Cookie) → cond b o None ≡ Some c → (b ≡ true) × (o ≡ Some c)
+shallow_parts_at true o c e = (refl, e)
+shallow_parts_at false o c e = absurd cc
+
+kept_at : (c : Cookie) (r : Result Data Refusal) → reading c.text ≡ r → option_and_then (λ d. cond (nat_le (depth d) 126) (cookie_of d) None) (value_read r) ≡ Some c → (d : Data) × IsKept c.text d 126
+kept_at c (Ok d) e h =
+    let p = reading_parts c.text d e in
+    let q = shallow_parts_at (nat_le (depth d) 126) (cookie_of d) c h in
+    let k = cookie_parts d c q.1 in
+    (d, record { utf8 = p.0; is = p.1; whole = k.0; same = k.1; shallow = leb-true _ _ q.0 })
+kept_at c (Err r) e h = absurd cc
+
+cookie_kept : (c : Cookie) → cookie_at c.text ≡ Some c → (d : Data) × IsKept c.text d 126
+unfolding cookie_at
+cookie_kept c h = kept_at c (reading c.text) refl h
 
 kept_written : (text : Bytes) (d : Data) (limit : ℕ) → limit ≤ 127 → IsKept text d limit → IsWritten d
 kept_written text d limit low k = IsWritten-read text d k.is k.whole k.same (omega (arith, k.shallow))
@@ -227,7 +247,7 @@ push-reads-back i ms h all =
 
 pub pull-reads-back : PullReadsBack
 pull-reads-back i c h text =
-    let d = (cookie_kept c.text text).0 in
-    let k = (cookie_kept c.text text).1 in
+    let d = (cookie_kept c text).0 in
+    let k = (cookie_kept c text).1 in
     let utf8 = IsUtf8-pull_text i c h k.utf8 in
     rw k.is (reading-compact (pull_text i c) (pull_with i d) utf8 (pull-compact i c d k.same) (pull-written i d (kept_written c.text d 126 (omega arith) k)) (omega (arith, k.shallow)))

@@ -1,13 +1,13 @@
 -- What a JSON reader finds in the bodies: objects with just these fields.
 -- Source: Replicache, Push Endpoint Reference and Pull Endpoint Reference, version 1.
-use Rattle.std.specs.Prelude.{◌≡◌, ◌<◌, ◌^◌, List, [], ◌∷◌, All, codes, nat_le, if◌then◌else◌, Option, Some, None, option_map, option_and_then, IsSomeAnd, Ok}
+use Rattle.std.specs.Prelude.{◌≡◌, ◌<◌, ◌^◌, List, [], ◌∷◌, All, codes, Option, Some, None, option_map, option_and_then, IsSomeAnd, Ok}
 use Rattle.std.specs.Str.{IsUtf8}
-use Rattle.serde_json.specs.Data.{Data, unsigned, number, string, array, object, Items, no_items, item, Members, no_members, member, depth}
+use Rattle.serde_json.specs.Data.{Data, unsigned, number, string, array, object, Items, no_items, item, Members, no_members, member}
 use Rattle.serde_json.specs.Read.{read}
 use Rattle.group_history.specs.declared.mutations.Mutation.{Mutation}
 use Rattle.group_history.specs.Map.{Bytes}
 use Rattle.group_history.specs.Json.{reading, json_text}
-use Rattle.group_history.specs.Cookies.{Cookie, value_read, whole_text}
+use Rattle.group_history.specs.Cookies.{Cookie, cookie_at}
 use Rattle.push_body.specs.declared.identities.Identity.{Identity}
 use Rattle.push_body.specs.Bodies.{push_text, pull_text}
 
@@ -55,14 +55,10 @@ pub record IsMutation (m : Mutation) : Type 0 where
   pub args : json_text m.args ≡ Ok m.args
   pub timestamp : m.timestamp < 2 ^ 64
 
--- the compact text of what bytes are, where it nests at most 126 deep and its numbers are whole
-abbrev pub cookie_text : Bytes → Option Bytes
-cookie_text s = option_and_then (λ d. if nat_le (depth d) 126 then whole_text d else None) (value_read (reading s))
-
 -- The bytes of a push are read as what it says.
 abbrev pub PushReadsBack : Type 0
 PushReadsBack = (i : Identity) (ms : List Mutation) → IsIdentity i → All IsMutation ms → IsSomeAnd (push_value i ms) (λ d. reading (push_text i ms) ≡ Ok d)
 
 -- The bytes of a pull are read as what it says.
 abbrev pub PullReadsBack : Type 0
-PullReadsBack = (i : Identity) (c : Cookie) → IsIdentity i → cookie_text c.text ≡ Some c.text → IsSomeAnd (pull_value i c) (λ d. reading (pull_text i c) ≡ Ok d)
+PullReadsBack = (i : Identity) (c : Cookie) → IsIdentity i → cookie_at c.text ≡ Some c → IsSomeAnd (pull_value i c) (λ d. reading (pull_text i c) ≡ Ok d)

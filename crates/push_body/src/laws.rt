@@ -7,8 +7,7 @@ ghost use Rattle.push_body.specs.ReadBack.{PushReadsBack, PullReadsBack};
 /// statement.
 ///
 /// Asked of a push: texts that are UTF-8, and arguments that are a `Json`'s text, as the types keep
-/// them. Asked of a pull: a cookie whose text is compact and nests at most 126 deep, one level less than
-/// the body.
+/// them. Asked of a pull: a cookie that its own text reads as, as the type keeps it.
 pub fn bodies_read_back()
     ensures push { PushReadsBack }
     ensures pull { PullReadsBack }
