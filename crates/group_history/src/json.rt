@@ -90,9 +90,9 @@ fn has_whole_members(members: &Map<String, Value>) -> bool
     true
 }
 
-/// Whether the value nests at most so deep.
+/// Whether the value nests at most so deep: a scalar nests 0, an array or object one more than its deepest member.
 #[cycle(nests_within)]
-fn nests_within(value: &Value, limit: u32) -> bool
+pub fn nests_within(value: &Value, limit: u32) -> bool
     ensures { result ≡ nat_le (depth (view value.now)) limit }
 {
     match value {

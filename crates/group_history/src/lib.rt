@@ -24,7 +24,7 @@ mod texts;
 
 pub use changes::{Change, Reply};
 pub use cookies::{Cookie, Order, cookie_cmp};
-pub use json::{Json, is_whole, read_value};
+pub use json::{Json, is_whole, nests_within, read_value};
 pub use laws::{record_laws, worked_examples};
 pub use mutations::Mutation;
 pub use mutators::{Mutators, Ran, Stop, WriteView};

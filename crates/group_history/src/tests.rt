@@ -101,6 +101,9 @@ fn value_and_back(rt: HostRuntime) -> Result<(), Refusal> {
 
 fn cookie_read(alloc: Global, text: &str) -> Result<Cookie, Refusal> {
     let value = read_value(alloc, text.as_bytes())?;
+    if !nests_within(&value, 126) {
+        return Err(Refusal::NotJson);
+    }
     match Cookie::of(alloc, &value)? {
         Some(cookie) => Ok(cookie),
         None => Err(Refusal::BadShape),

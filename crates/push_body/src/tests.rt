@@ -1,5 +1,5 @@
 use crate::{Identity, pull_bytes, push_bytes};
-use group_history::{Cookie, Json, Mutation, Refusal, Text, read_value};
+use group_history::{Cookie, Json, Mutation, Refusal, Text, nests_within, read_value};
 use std::alloc::{AllocError, Global};
 use std::test::Fail;
 
@@ -34,6 +34,9 @@ fn incremented(alloc: Global, client: &str) -> Result<Mutation, Refusal> {
 
 fn cookie_of(alloc: Global, text: &str) -> Result<Option<Cookie>, Refusal> {
     let value = read_value(alloc, text.as_bytes())?;
+    if !nests_within(&value, 126) {
+        return Ok(None);
+    }
     Ok(Cookie::of(alloc, &value)?)
 }
 
