@@ -15,10 +15,20 @@ fn ran(rt: &HostRuntime, script: &str) -> (u8, Vec<u8>, Vec<u8>) {
     (status, out, err)
 }
 
-/// Whether the program makes just this of a script.
-fn prints(rt: &HostRuntime, script: &str, status: u8, out: &str, err: &str) -> bool {
+/// Whether the program makes just this of a script, where memory isn't refused.
+fn prints(
+    rt: &HostRuntime,
+    script: &str,
+    status: u8,
+    out: &str,
+    err: &str,
+) -> Result<bool, AllocError> {
     let (found, printed, told) = ran(rt, script);
-    found == status && printed.as_slice() == out.as_bytes() && told.as_slice() == err.as_bytes()
+    if found == 3 {
+        return Err(AllocError);
+    }
+    let same = printed.as_slice() == out.as_bytes() && told.as_slice() == err.as_bytes();
+    Ok(found == status && same)
 }
 
 const FIRST_PULL: &str =
@@ -28,7 +38,7 @@ const FIRST_PULL_PRINTS: &str =
     "5 A pull {\"clientGroupID\":\"00000000-0000-4000-8000-000000000001\",\"cookie\":null,\"profileID\":\"p1\",\"pullVersion\":1,\"schemaVersion\":\"s1\"}\n6 A applied\n7 A value 5\n";
 
 #[test]
-fn worked_scripts(rt: HostRuntime) {
+fn worked_scripts(rt: HostRuntime) -> Result<(), AllocError> {
     for (script, status, out, err) in [
         (FIRST_PULL, 0, FIRST_PULL_PRINTS, ""),
         ("", 0, "", ""),
@@ -52,12 +62,13 @@ fn worked_scripts(rt: HostRuntime) {
             "",
         ),
     ] {
-        assert!(rt; prints(&rt, script, status, out, err), "{script}");
+        assert!(rt; prints(&rt, script, status, out, err)?, "{script}");
     }
+    Ok(())
 }
 
 #[test]
-fn faults_of_scripts(rt: HostRuntime) {
+fn faults_of_scripts(rt: HostRuntime) -> Result<(), AllocError> {
     let client = "client A 0000000000004000800000000000000a\n";
     for (lines, fault) in [
         ("grup x", "line 2: unknown line\n"),
@@ -118,15 +129,14 @@ fn faults_of_scripts(rt: HostRuntime) {
             "line 4: unknown name\n",
         ),
     ] {
-        assert!(rt; is_told(&rt, client, lines, fault), "{lines}");
+        assert!(rt; is_told(&rt, client, lines, fault)?, "{lines}");
     }
+    Ok(())
 }
 
 /// Whether the program tells just this fault of the script of the two parts.
-fn is_told(rt: &HostRuntime, head: &str, lines: &str, fault: &str) -> bool {
-    let Ok(script) = format!(in rt.alloc(); "{head}{lines}") else {
-        return false;
-    };
+fn is_told(rt: &HostRuntime, head: &str, lines: &str, fault: &str) -> Result<bool, AllocError> {
+    let script = format!(in rt.alloc(); "{head}{lines}")?;
     prints(rt, script.as_str(), 2, "", fault)
 }
 
