@@ -171,6 +171,7 @@ impl Json {
     /// The value that the text is.
     pub fn value(&self, alloc: Global) -> Result<Value, Refusal>
         ensures err { IsOkUnless result refusal.NoMemory }
+        ensures read { IfOk result (λ v. reading self.now ≡ Ok (view v)) }
         ensures ok { IfOk result (λ v. text_of (view v) ≡ Ok self.now) }
     {
         read_value(alloc, self.compact.as_str().as_bytes())

@@ -1,23 +1,227 @@
-//! The mutators of scripts.
-ghost use Rattle.group_history.specs.Meaning.{unknown};
+//! The mutators of scripts: `set`, `incr`, `del` and `append`.
+//!
+//! Each takes a JSON array as its arguments, and refuses with a code where they are wrong or where the
+//! value at the key doesn't suit. What each means is a definition in `specs/Mutators`, and the clause
+//! `ran` of its function says that it is run as that, over any view.
+ghost use Rattle.std.specs.Prelude.{◌≡◌, ◌≤◌, ◌⊎◌, false, Some, IfOk, IfErr, option_map, string_bytes};
+ghost use Rattle.std.specs.Fmt.{signed_decimal};
+ghost use Rattle.serde_json.specs.Data.{depth, string};
+ghost use Rattle.serde_json.specs.View.{view as data_of};
+ghost use Rattle.serde_json.specs.Written.{has_float, compact_text};
+ghost use Rattle.group_history.specs.Ran.{RunsAs};
+ghost use Rattle.group_history.specs.declared.mutators.Stop.TheVariants.{NoMemory};
+ghost use Rattle.script_runner.specs.Mutators as spec;
 
-use group_history::{Json, Mutators, Ran, Stop, WriteView};
-use std::alloc::Global;
+use group_history::{Json, Mutators, Ran, Refusal, Stop, WriteView};
+use serde_json::Value;
+use std::alloc::{AllocError, Global};
 
-/// The mutators of scripts: there are none yet, so every name is unknown.
-#[derive(Drop)]
+/// The mutators of scripts. Any name but theirs is unknown.
+#[derive(Clone, Copy, Debug)]
 pub struct ScriptMutators;
 
 impl Mutators for ScriptMutators {
-    ghost means = { λ name args m. unknown };
+    ghost means = { spec.script_means };
 
+    #[tactic(auto, unfolding(crate::specs::Mutators::script_means))]
     fn run<V: WriteView>(
         &self,
-        _alloc: Global,
-        _name: &str,
-        _args: &Json,
-        _view: &mut V,
+        alloc: Global,
+        name: &str,
+        args: &Json,
+        view: &mut V,
     ) -> Result<Ran, Stop> {
+        let args = value_of(alloc, args)?;
+        if name == "set" {
+            return set(alloc, &args, view);
+        }
+        if name == "incr" {
+            return incr(alloc, &args, view);
+        }
+        if name == "del" {
+            return del(&args, view);
+        }
+        if name == "append" {
+            return append(alloc, &args, view);
+        }
         Ok(Ran::Unknown)
     }
 }
+
+/// The code where the arguments are not those that the mutator takes.
+const WRONG_ARGUMENTS: u32 = 1;
+
+/// The code where the key is not there.
+const KEY_NOT_THERE: u32 = 2;
+
+/// The code where the value at the key is of another kind.
+const OTHER_KIND: u32 = 3;
+
+/// The code where a sum is below -2^63 or above 2^63 - 1.
+const OUT_OF_RANGE: u32 = 4;
+
+/// Puts the value at the key.
+#[tactic(auto, unfolding(crate::specs::Mutators::set_means))]
+fn set<V: WriteView>(alloc: Global, args: &Value, view: &mut V) -> Result<Ran, Stop>
+    requires shallow { depth (data_of args.now) ≤ 124 }
+    requires whole { has_float (data_of args.now) ≡ false }
+    ensures ran { IfOk result (λ ran. RunsAs (spec.set_means (data_of args.now) (V.contents view.old)) ran (V.contents view.new)) }
+    ensures stopped { IfErr result (λ stop. (stop ≡ NoMemory) ⊎ V.stops stop) }
+{
+    let Some((key, value)) = text_and_value(args) else {
+        return Ok(Ran::Refused(WRONG_ARGUMENTS));
+    };
+    view.put(key, &Json::of_whole(alloc, value)?)?;
+    Ok(Ran::Done)
+}
+
+/// Raises the number at the key, which has to be there.
+#[tactic(auto, unfolding(crate::specs::Mutators::incr_means))]
+fn incr<V: WriteView>(alloc: Global, args: &Value, view: &mut V) -> Result<Ran, Stop>
+    ensures ran { IfOk result (λ ran. RunsAs (spec.incr_means (data_of args.now) (V.contents view.old)) ran (V.contents view.new)) }
+    ensures stopped { IfErr result (λ stop. (stop ≡ NoMemory) ⊎ V.stops stop) }
+{
+    let Some((key, by)) = text_and_number(args) else {
+        return Ok(Ran::Refused(WRONG_ARGUMENTS));
+    };
+    let Some(there) = view.get(key)? else {
+        return Ok(Ran::Refused(KEY_NOT_THERE));
+    };
+    let Some(number) = value_of(alloc, &there)?.as_i64() else {
+        return Ok(Ran::Refused(OTHER_KIND));
+    };
+    let Some(sum) = sum_of(number, by) else {
+        return Ok(Ran::Refused(OUT_OF_RANGE));
+    };
+    view.put(key, &decimal(alloc, sum)?)?;
+    Ok(Ran::Done)
+}
+
+/// Takes the key away, which needn't be there.
+#[tactic(auto, unfolding(crate::specs::Mutators::del_means))]
+fn del<V: WriteView>(args: &Value, view: &mut V) -> Result<Ran, Stop>
+    ensures ran { IfOk result (λ ran. RunsAs (spec.del_means (data_of args.now) (V.contents view.old)) ran (V.contents view.new)) }
+    ensures stopped { IfErr result (λ stop. (stop ≡ NoMemory) ⊎ V.stops stop) }
+{
+    let Some(key) = text_alone(args) else {
+        return Ok(Ran::Refused(WRONG_ARGUMENTS));
+    };
+    view.del(key)?;
+    Ok(Ran::Done)
+}
+
+/// Lets a text follow the text at the key, the empty one where the key isn't there.
+#[tactic(auto, unfolding(crate::specs::Mutators::append_means))]
+fn append<V: WriteView>(alloc: Global, args: &Value, view: &mut V) -> Result<Ran, Stop>
+    ensures ran { IfOk result (λ ran. RunsAs (spec.append_means (data_of args.now) (V.contents view.old)) ran (V.contents view.new)) }
+    ensures stopped { IfErr result (λ stop. (stop ≡ NoMemory) ⊎ V.stops stop) }
+{
+    let Some((key, added)) = text_and_text(args) else {
+        return Ok(Ran::Refused(WRONG_ARGUMENTS));
+    };
+    let Some(mut text) = text_there(alloc, view.get(key)?)? else {
+        return Ok(Ran::Refused(OTHER_KIND));
+    };
+    text.push_str(added)?;
+    view.put(key, &quoted(alloc, text)?)?;
+    Ok(Ran::Done)
+}
+
+/// Arguments that are one text.
+#[tactic(auto, using(crate::proofs::MutatorArguments::one_item_other), unfolding(crate::specs::Mutators::text_alone))]
+fn text_alone(args: &Value) -> Option<&str>
+    ensures { option_map (λ s. s.now) result ≡ spec.text_alone (data_of args.now) }
+{
+    let items = args.as_array()?;
+    if items.len() != 1 {
+        return None;
+    }
+    items[0].as_str()
+}
+
+/// Arguments that are a text and any value.
+#[tactic(auto, using(crate::proofs::MutatorArguments::two_items_other), unfolding(crate::specs::Mutators::text_and_value))]
+fn text_and_value(args: &Value) -> Option<(&str, &Value)>
+    ensures { option_map (λ both. (both.0.now, data_of both.1.now)) result ≡ spec.text_and_value (data_of args.now) }
+{
+    let items = args.as_array()?;
+    if items.len() != 2 {
+        return None;
+    }
+    Some((items[0].as_str()?, &items[1]))
+}
+
+/// Arguments that are a text and a number.
+#[tactic(auto, unfolding(crate::specs::Mutators::text_and_number))]
+fn text_and_number(args: &Value) -> Option<(&str, i64)>
+    ensures { option_map (λ both. (both.0.now, both.1)) result ≡ spec.text_and_number (data_of args.now) }
+{
+    let (text, value) = text_and_value(args)?;
+    Some((text, value.as_i64()?))
+}
+
+/// Arguments that are two texts.
+#[tactic(auto, unfolding(crate::specs::Mutators::text_and_text))]
+fn text_and_text(args: &Value) -> Option<(&str, &str)>
+    ensures { option_map (λ both. (both.0.now, both.1.now)) result ≡ spec.text_and_text (data_of args.now) }
+{
+    let (text, value) = text_and_value(args)?;
+    Some((text, value.as_str()?))
+}
+
+/// The value that a JSON text is.
+fn value_of(alloc: Global, json: &Json) -> Result<Value, Stop>
+    ensures value { IfOk result (λ v. spec.value_of json.now ≡ Some (data_of v)) }
+    ensures shallow { IfOk result (λ v. depth (data_of v) ≤ 124) }
+    ensures whole { IfOk result (λ v. has_float (data_of v) ≡ false) }
+    ensures stopped { IfErr result (λ stop. stop ≡ NoMemory) }
+{
+    match json.value(alloc) {
+        Ok(value) => Ok(value),
+        Err(refusal) => {
+            let is_memory = refusal == Refusal::NoMemory;
+            prove!(is_memory);
+            Err(Stop::NoMemory)
+        }
+    }
+}
+
+/// A copy of the text that is there, the empty one where nothing is; `None` where it is no text.
+#[tactic(auto, unfolding(crate::specs::Mutators::text_there))]
+fn text_there(alloc: Global, there: Option<Json>) -> Result<Option<String>, Stop>
+    ensures ok { IfOk result (λ text. option_map string_bytes text ≡ spec.text_there there) }
+    ensures stopped { IfErr result (λ stop. stop ≡ NoMemory) }
+{
+    let Some(there) = there else {
+        return Ok(Some(String::new(alloc)));
+    };
+    match value_of(alloc, &there)?.as_str() {
+        Some(text) => Ok(Some(String::from_str(alloc, text)?)),
+        None => Ok(None),
+    }
+}
+
+/// The sum, where it is from -2^63 to 2^63 - 1.
+#[tactic(auto, unfolding(crate::specs::Mutators::sum_of))]
+fn sum_of(number: i64, by: i64) -> Option<i64>
+    ensures { result ≡ spec.sum_of number by }
+{
+    number.checked_add(by)
+}
+
+/// The JSON text of a number.
+fn decimal(alloc: Global, number: i64) -> Result<Json, AllocError>
+    ensures { IfOk result (λ json. json ≡ signed_decimal number) }
+{
+    Json::of_whole(alloc, &Value::from(number))
+}
+
+/// The JSON text of a text.
+fn quoted(alloc: Global, text: String) -> Result<Json, AllocError>
+    ensures { IfOk result (λ json. json ≡ compact_text (string (string_bytes text))) }
+{
+    Json::of_whole(alloc, &Value::String(text))
+}
+
+#[cfg(test)]
+mod tests;

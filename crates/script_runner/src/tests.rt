@@ -143,6 +143,9 @@ fn is_told(rt: &HostRuntime, head: &str, lines: &str, fault: &str) -> Result<boo
 const HEADER: &str =
     "group 00000000-0000-4000-8000-000000000001\nclient A 00000000-0000-4000-8000-00000000000a\nclient B 00000000-0000-4000-8000-00000000000b\n";
 
+const HEADER_OF_THREE: &str =
+    "client A 00000000-0000-4000-8000-00000000000a\nclient B 00000000-0000-4000-8000-00000000000b\nclient C 00000000-0000-4000-8000-00000000000a\n";
+
 /// A script as it is made of a row, and the lines that its output must have.
 #[derive(Drop)]
 struct Expected {
@@ -256,14 +259,21 @@ fn worked_rows(rt: HostRuntime) -> Result<(), AllocError> {
     for row in [
         rows::OPENING,
         rows::PATCH,
+        rows::TWO_CLIENTS,
+        rows::REBASED,
+        rows::CLEARED,
         rows::OVERTAKEN,
         rows::SAME,
         rows::COOKIES,
         rows::LOW_COOKIES,
+        rows::CONFIRMED_IDS,
         rows::NO_RESPONSES,
+        rows::TEXTS,
+        rows::SUMS,
     ] {
         assert!(rt; holds(&rt, HEADER, row)?, "{row}");
     }
+    assert!(rt; holds(&rt, HEADER_OF_THREE, rows::TWO_OF_ONE_ID)?);
     Ok(())
 }
 

@@ -15,6 +15,39 @@ A scan - - - => rows [["b",2]]
 A has b => yes
 A has a => no"#;
 
+/// Two clients of one group.
+pub(super) const TWO_CLIENTS: &str =
+    r#"A pull {"cookie":1,"lastMutationIDChanges":{},"patch":[{"op":"put","key":"n","value":5}]} => applied
+A mutate 1000 incr ["n",1] => id 1
+B mutate 1000 incr ["n",1] => id 1
+B learn A => learnt
+B get n => value 7
+B push => push {"clientGroupID":"00000000-0000-4000-8000-000000000001","mutations":[{"args":["n",1],"clientID":"00000000-0000-4000-8000-00000000000a","id":1,"name":"incr","timestamp":1000},{"args":["n",1],"clientID":"00000000-0000-4000-8000-00000000000b","id":1,"name":"incr","timestamp":1000}],"profileID":"p1","pushVersion":1,"schemaVersion":"s1"}"#;
+
+/// A pulled value is replaced under a pending increment.
+pub(super) const REBASED: &str =
+    r#"A pull {"cookie":1,"lastMutationIDChanges":{},"patch":[{"op":"put","key":"n","value":5}]} => applied
+A mutate 1 incr ["n",1] => id 1
+A get n => value 6
+A pull {"cookie":2,"lastMutationIDChanges":{},"patch":[{"op":"put","key":"n","value":10}]} => applied
+A get n => value 11
+A pull {"cookie":3,"lastMutationIDChanges":{"00000000-0000-4000-8000-00000000000a":1},"patch":[{"op":"put","key":"n","value":11}]} => applied
+A get n => value 11
+A pending => pending []"#;
+
+/// The map is cleared under two pending mutations.
+pub(super) const CLEARED: &str =
+    r#"A pull {"cookie":1,"lastMutationIDChanges":{},"patch":[{"op":"put","key":"n","value":5}]} => applied
+A mutate 1 incr ["n",1] => id 1
+A mutate 2 append ["log","x"] => id 2
+A pull {"cookie":2,"lastMutationIDChanges":{},"patch":[{"op":"clear"}]} => applied
+A get n => none
+A get log => value "x"
+A pending => pending [["00000000-0000-4000-8000-00000000000a",1,"incr"],["00000000-0000-4000-8000-00000000000a",2,"append"]]
+A mutate 3 incr ["n",1] => refused Refused 2
+A pull {"cookie":3,"lastMutationIDChanges":{},"patch":[{"op":"put","key":"n","value":5}]} => applied
+A get n => value 6"#;
+
 /// Of two tickets one is overtaken.
 pub(super) const OVERTAKEN: &str =
     r#"A begin t => pull {"clientGroupID":"00000000-0000-4000-8000-000000000001","cookie":null,"profileID":"p1","pullVersion":1,"schemaVersion":"s1"}
@@ -48,6 +81,15 @@ A pull {"cookie":"","lastMutationIDChanges":{},"patch":[]} => applied
 A pull {"cookie":9,"lastMutationIDChanges":{},"patch":[]} => refused CookieWentBack
 A pull {"cookie":{"order":""},"lastMutationIDChanges":{},"patch":[]} => refused CookieNotNew"#;
 
+/// A response may confirm more than the client made.
+pub(super) const CONFIRMED_IDS: &str =
+    r#"A pull {"cookie":1,"lastMutationIDChanges":{"00000000-0000-4000-8000-00000000000a":3,"x":9},"patch":[]} => applied
+A pull {"cookie":2,"lastMutationIDChanges":{"00000000-0000-4000-8000-00000000000a":2},"patch":[]} => refused IdWentBack
+A pull {"cookie":2,"lastMutationIDChanges":{"00000000-0000-4000-8000-00000000000a":3},"patch":[]} => applied
+A mutate 1 set ["k",1] => refused Stale
+A refresh => last 3
+A mutate 1 set ["k",1] => id 4"#;
+
 /// Bodies that are refused.
 pub(super) const NO_RESPONSES: &str =
     r#"A pull {"cookie":1,"lastMutationIDChanges":{},"patch":[{"op":"put","key":"n","value":1.5}]} => refused NotWhole
@@ -60,3 +102,24 @@ A pull {"error":"ClientStateNotFound"} => refused StateNotFound
 A pull {"error":"VersionNotSupported","versionType":"push"} => refused VersionNotSupported push
 A pull {"error":"VersionNotSupported"} => refused VersionNotSupported unknown
 A cookie => cookie null"#;
+
+/// Two clients of one ID.
+pub(super) const TWO_OF_ONE_ID: &str = r#"A mutate 1 set ["k",1] => id 1
+C learn A => learnt
+C mutate 1 set ["k",2] => refused Stale
+C refresh => last 1
+C mutate 1 set ["k",2] => id 2"#;
+
+/// Compact texts, and a field that is said twice.
+pub(super) const TEXTS: &str = r#"A mutate 1 set ["k",{"b":1,"a":"\u00e9\u0001"}] => id 1
+A get k => value {"a":"é\u0001","b":1}
+A pull {"cookie":1,"cookie":2,"lastMutationIDChanges":{},"patch":[],"more":true} => applied
+A cookie => cookie 2"#;
+
+/// The refusals of an increment.
+pub(super) const SUMS: &str = r#"A mutate 1 incr ["n",1] => refused Refused 2
+A mutate 1 nosuch [] => refused NoMutator
+A mutate 1 set ["n",9223372036854775807] => id 1
+A mutate 1 incr ["n",1] => refused Refused 4
+A mutate 1 incr ["n",-1] => id 2
+A get n => value 9223372036854775806"#;

@@ -1,0 +1,12 @@
+pub mod Sound
+pub mod Keeps
+pub mod Slotted
+pub mod Reaching
+pub mod Readers
+pub mod Pins
+pub mod Scans
+pub mod Looks
+pub mod Options
+pub mod Lawful
+pub mod Moving
+pub mod Bare

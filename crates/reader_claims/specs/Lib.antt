@@ -1,0 +1,10 @@
+pub mod Words
+pub mod Lists
+pub mod Views
+pub mod Machine
+pub mod Plays
+pub mod Seats
+pub mod Known
+pub mod Passes
+pub mod Looked
+pub mod Laws

@@ -1,0 +1,255 @@
+// What is made of the single steps: a reading of the epoch and the pins, and the search for a slot.
+ghost use Rattle.std.specs.Prelude.{◌≡◌, ◌≢◌, ℕ, ◌+◌, ◌-◌, ◌^◌, ◌<◌, ◌≤◌, true, false, min, MatchOption, IfNone, IfSome, ◌∷◌};
+ghost use Rattle.reader_claims.specs.Words.{slot_word, pin_word};
+ghost use Rattle.reader_claims.specs.declared.words.Pin.TheVariants.{Stored};
+ghost use Rattle.reader_claims.specs.declared.words.SlotState.TheVariants.{Free, Retired};
+ghost use Rattle.reader_claims.specs.Views.{ArePinsRead, IsOpen, IsClosed, with_epoch, with_pin};
+ghost use Rattle.reader_claims.specs.Machine.{Moves};
+ghost use Rattle.reader_claims.specs.Seats.{first_reserved, kind_end};
+ghost use Rattle.reader_claims.specs.Passes.{passed, Takes, Looks, IsGiven, IsShut, AreShut, FindsNone, Later};
+
+use crate::slot::Kind;
+use crate::steps::{Reader, Words};
+use crate::words::{FREE, Pin, SlotState};
+
+// What plain loads of slots led to.
+#[derive(Clone, Copy)]
+pub(crate) enum Look {
+    Took(u32),
+    // The first that is retired.
+    Retired(u32),
+    Nothing,
+}
+
+// The greatest number that is at most the pin too.
+fn lower(least: u64, pin: Pin) -> u64
+    ensures absent { pin_word pin ≡ 0 → result ≡ least }
+    ensures there { 0 < pin_word pin → result ≡ min least (pin_word pin - 1) }
+{
+    match pin {
+        Pin::Absent => least,
+        Pin::Stored(epoch) | Pin::Held(epoch) => least.min(epoch),
+    }
+}
+
+impl Words {
+    ghost use Rattle.reader_claims.specs.Known.{words_id, reader_id, view};
+    ghost use Rattle.reader_claims.specs.Looked.{IfTook};
+
+    // The ordinary slots are those below.
+    fn ordinary(&self) -> u32
+        ensures { (result ≡ first_reserved self.now.sizes) × (result ≤ self.now.sizes.slots) }
+    {
+        self.sizes.slots - self.sizes.slots / 4
+    }
+
+    fn end_of(&self, kind: Kind) -> u32
+        ensures { (result ≡ kind_end self.now.sizes kind) × (result ≤ self.now.sizes.slots) }
+    {
+        match kind {
+            Kind::Ordinary => self.ordinary(),
+            Kind::PullEnd => self.sizes.slots,
+        }
+    }
+
+    // The two numbers that the epoch was read as, before and after it was stored as the pin.
+    pub(crate) fn look_twice(&self, reader: &mut Reader) -> (u64, u64)
+        requires { reader_id reader.old ≡ words_id self.now }
+        ensures table { reader_id reader.new ≡ reader_id reader.old }
+        ensures moves { Moves (view reader.old) (view reader.new) }
+        ensures view { view reader.new
+            ≡ with_epoch (with_pin (with_epoch (view reader.old) result.0) (Stored result.0)) result.1 }
+        ensures bound { ((view reader.old).reached ≤ result.0) × (result.0 ≤ result.1) × (result.1 ≤ 2 ^ 60) }
+    {
+        let first = self.load_epoch(reader);
+        self.store_pin(reader, first);
+        (first, self.load_epoch(reader))
+    }
+
+    // Reads the epoch, and then each pin: the greatest number at which a slot may be given.
+    pub(crate) fn open_below(&self, reader: &mut Reader) -> u64
+        requires { reader_id reader.old ≡ words_id self.now }
+        ensures table { reader_id reader.new ≡ reader_id reader.old }
+        ensures moves { Moves (view reader.old) (view reader.new) }
+        ensures reached { (view reader.old).reached ≤ (view reader.new).reached }
+        ensures view { view reader.new ≡ passed (view reader.old) (view reader.new) }
+        ensures open_at { (r : ℕ) → r ≤ result → IsOpen (view reader.new) r }
+        ensures shut_at { (r : ℕ) → result < r → IsClosed (view reader.new) r }
+        ensures read { ArePinsRead (view reader.new) }
+    {
+        let mut least = self.load_epoch(reader);
+        for other in 0..self.sizes.readers {
+            least = lower(least, Pin::of_word(self.load_pin(reader, other + 1)));
+        }
+        least
+    }
+
+    // Tries to take one slot, also where it has to be given first. Slots are open at `bound` and
+    // below.
+    fn try_slot(&self, reader: &mut Reader, slot: u32, bound: u64) -> bool
+        requires slot { (reader_id reader.old ≡ words_id self.now) × (slot < self.now.sizes.slots) }
+        requires below { (r : ℕ) → r ≤ bound → IsOpen (view reader.old) r }
+        requires above { (r : ℕ) → bound < r → IsClosed (view reader.old) r }
+        ensures table { reader_id reader.new ≡ reader_id reader.old }
+        ensures moves { Moves (view reader.old) (view reader.new) }
+        ensures later { Later (view reader.old) (view reader.new) }
+        ensures taken { result ≡ true → Takes (view reader.old) (view reader.new) slot }
+        ensures shut { result ≡ false
+            → ((view reader.new).taken ≡ (view reader.old).taken) × IsShut slot (view reader.new) }
+    {
+        let found = self.take(reader, slot);
+        if found == FREE {
+            return true;
+        }
+        let SlotState::Retired(r) = SlotState::of_word(found) else {
+            return false;
+        };
+        if bound < r {
+            return false;
+        }
+        if self.give(reader, slot, r) != found {
+            return false;
+        }
+        self.take(reader, slot) == FREE
+    }
+
+    // Reads the pins, and gives the slot if it is retired and open.
+    pub(crate) fn try_give(&self, reader: &mut Reader, slot: u32) -> bool
+        requires { (reader_id reader.old ≡ words_id self.now) × (slot < self.now.sizes.slots) }
+        ensures table { reader_id reader.new ≡ reader_id reader.old }
+        ensures moves { Moves (view reader.old) (view reader.new) }
+        ensures looks { Looks (view reader.old) (view reader.new) }
+        ensures taken { (view reader.new).taken ≡ (view reader.old).taken }
+        ensures given { result ≡ true → IsGiven (view reader.old) (view reader.new) slot }
+    {
+        let highest = self.open_below(reader);
+        let SlotState::Retired(r) = self.look(slot) else {
+            return false;
+        };
+        if highest < r {
+            return false;
+        }
+        self.give(reader, slot, r) == SlotState::Retired(r).word()
+    }
+
+    fn scan(&self, reader: &mut Reader, from: u32, end: u32, bound: u64) -> Option<u32>
+        requires slots { (reader_id reader.old ≡ words_id self.now) × (end ≤ self.now.sizes.slots) }
+        requires below { (r : ℕ) → r ≤ bound → IsOpen (view reader.old) r }
+        requires above { (r : ℕ) → bound < r → IsClosed (view reader.old) r }
+        ensures table { reader_id reader.new ≡ reader_id reader.old }
+        ensures moves { Moves (view reader.old) (view reader.new) }
+        ensures later { Later (view reader.old) (view reader.new) }
+        ensures taken { MatchOption result
+            ((view reader.new).taken ≡ (view reader.old).taken)
+            (λ i. (from ≤ i) × (i < end) × Takes (view reader.old) (view reader.new) i) }
+        ensures shut { IfNone result (AreShut from end (view reader.new)) }
+    {
+        for slot in from..end {
+            if self.try_slot(reader, slot, bound) {
+                return Some(slot);
+            }
+        }
+        None
+    }
+
+    // One pass: the epoch and the pins, the ordinary slots from `begin` on and then those before,
+    // and the reserved ones if the kind has them.
+    fn pass(&self, reader: &mut Reader, begin: u32, kind: Kind) -> Option<u32>
+        requires { (reader_id reader.old ≡ words_id self.now) × (begin ≤ first_reserved self.now.sizes) }
+        ensures table { reader_id reader.new ≡ reader_id reader.old }
+        ensures moves { Moves (view reader.old) (view reader.new) }
+        ensures looks { Looks (view reader.old) (view reader.new) }
+        ensures taken { MatchOption result
+            ((view reader.new).taken ≡ (view reader.old).taken)
+            (λ i. (i < kind_end self.now.sizes kind) × Takes (view reader.old) (view reader.new) i) }
+        ensures none { IfNone result
+            (FindsNone (view reader.old) (view reader.new) (kind_end self.now.sizes kind)) }
+        ensures reserve { IfSome result (λ i. first_reserved self.now.sizes ≤ i
+            → FindsNone (view reader.old) (view reader.new) (first_reserved self.now.sizes)) }
+    {
+        let bound = self.open_below(reader);
+        let ordinary = self.ordinary();
+        if let Some(slot) = self.scan(reader, begin, ordinary, bound) {
+            return Some(slot);
+        }
+        if let Some(slot) = self.scan(reader, 0, begin, bound) {
+            return Some(slot);
+        }
+        self.scan(reader, ordinary, self.end_of(kind), bound)
+    }
+
+    // Takes the slot if a plain load finds it free.
+    fn quick_at(&self, reader: &mut Reader, slot: u32) -> Look
+        requires { (reader_id reader.old ≡ words_id self.now) × (slot < self.now.sizes.slots) }
+        ensures table { reader_id reader.new ≡ reader_id reader.old }
+        ensures moves { Moves (view reader.old) (view reader.new) }
+        ensures later { Later (view reader.old) (view reader.new) }
+        ensures taken { IfTook result (slot + 1) (view reader.old) (view reader.new) }
+    {
+        match self.look(slot) {
+            SlotState::Free => {}
+            SlotState::Retired(_) => return Look::Retired(slot),
+            SlotState::Taken(_) | SlotState::Live => return Look::Nothing,
+        }
+        if self.take(reader, slot) == FREE {
+            Look::Took(slot)
+        } else {
+            Look::Nothing
+        }
+    }
+
+    // Takes the first slot that a plain load finds free, and stops at the first that is retired.
+    fn quick(&self, reader: &mut Reader, from: u32, end: u32) -> Look
+        requires { (reader_id reader.old ≡ words_id self.now) × (end ≤ self.now.sizes.slots) }
+        ensures table { reader_id reader.new ≡ reader_id reader.old }
+        ensures moves { Moves (view reader.old) (view reader.new) }
+        ensures later { Later (view reader.old) (view reader.new) }
+        ensures taken { IfTook result end (view reader.old) (view reader.new) }
+    {
+        for slot in from..end {
+            let look = self.quick_at(reader, slot);
+            let Look::Nothing = look else {
+                return look;
+            };
+        }
+        Look::Nothing
+    }
+
+    // The same from `start` to the end, and then from 0.
+    fn quick_round(&self, reader: &mut Reader, start: u32, end: u32) -> Look
+        requires { (reader_id reader.old ≡ words_id self.now) × (start ≤ end) × (end ≤ self.now.sizes.slots) }
+        ensures table { reader_id reader.new ≡ reader_id reader.old }
+        ensures moves { Moves (view reader.old) (view reader.new) }
+        ensures later { Later (view reader.old) (view reader.new) }
+        ensures taken { IfTook result end (view reader.old) (view reader.new) }
+    {
+        let look = self.quick(reader, start, end);
+        let Look::Nothing = look else {
+            return look;
+        };
+        self.quick(reader, 0, start)
+    }
+
+    // Takes a slot: a free one near `start`, or what a pass finds.
+    pub(crate) fn find(&self, reader: &mut Reader, start: u32, kind: Kind) -> Option<u32>
+        requires { reader_id reader.old ≡ words_id self.now }
+        ensures table { reader_id reader.new ≡ reader_id reader.old }
+        ensures moves { Moves (view reader.old) (view reader.new) }
+        ensures looks { Looks (view reader.old) (view reader.new) }
+        ensures taken { MatchOption result
+            ((view reader.new).taken ≡ (view reader.old).taken)
+            (λ i. (i < kind_end self.now.sizes kind) × Takes (view reader.old) (view reader.new) i) }
+        ensures none { IfNone result
+            (FindsNone (view reader.old) (view reader.new) (kind_end self.now.sizes kind)) }
+        ensures reserve { IfSome result (λ i. first_reserved self.now.sizes ≤ i
+            → FindsNone (view reader.old) (view reader.new) (first_reserved self.now.sizes)) }
+    {
+        let ordinary = self.ordinary();
+        let start = if start < ordinary { start } else { 0 };
+        match self.quick_round(reader, start, ordinary) {
+            Look::Took(slot) => Some(slot),
+            Look::Retired(slot) => self.pass(reader, slot, kind),
+            Look::Nothing => self.pass(reader, start, kind),
+        }
+    }
+}

@@ -1,0 +1,64 @@
+-- What holds of the arguments of a mutator and of their parts.
+use Rattle.std.proofs.Common.{◌≡◌, ◌≢◌, ℕ, ◌≤◌, List, [], ◌∷◌, length, Bool, true, false, cond, ◌||◌, Some, None, Ok, Err, IfSome, refl, sym, subst, arith, nat_le}
+use Rattle.std.proofs.lemmas.Bool.{leb-true}
+use Rattle.serde_json.specs.Data.{Data, null, boolean, number, string, array, object, no_items, item, depth}
+use Rattle.serde_json.specs.View.{items_view}
+use Rattle.serde_json.specs.Written.{has_float, compact_text}
+use Rattle.serde_json.specs.declared.value.Value.{Value}
+use Rattle.group_history.specs.declared.refusals.Refusal.TheVariants.{NotJson, NotWhole}
+use Rattle.group_history.specs.Map.{Bytes}
+use Rattle.group_history.specs.Json.{text_of}
+use Rattle.script_runner.specs.Mutators.{one_item, two_items, text_and_value}
+
+-- it nests at most 124 deep, and no number in it is a float
+abbrev pub HasText : Data → Type 0
+HasText d = (depth d ≤ 124) × (has_float d ≡ false)
+
+-- by what the two tests on a value answer
+HasText-at : (shallow float : Bool) (d : Data) (text : List ℕ) → nat_le (depth d) 124 ≡ shallow → has_float d ≡ float → cond shallow (cond float (Err NotWhole) (Ok (compact_text d))) (Err NotJson) ≡ Ok text → HasText d
+HasText-at true false d text shallow whole is = (leb-true _ _ shallow, whole)
+HasText-at true true d text shallow float is = cc
+HasText-at false float d text deep e is = cc
+
+-- a value that has a compact text
+pub HasText-text_of : (d : Data) (text : List ℕ) → text_of d ≡ Ok text → HasText d
+unfolding text_of
+HasText-text_of d text is = HasText-at _ _ d text refl refl is
+
+-- where the arguments are of another number
+pub one_item_other : (vs : List Value) → length vs ≢ 1 → one_item (items_view vs) ≡ None
+one_item_other [] other = refl
+one_item_other (a ∷ []) other = absurd (other refl)
+one_item_other (a ∷ b ∷ vs) other = refl
+
+pub two_items_other : (vs : List Value) → length vs ≢ 2 → two_items (items_view vs) ≡ None
+two_items_other [] other = refl
+two_items_other (a ∷ []) other = refl
+two_items_other (a ∷ b ∷ []) other = absurd (other refl)
+two_items_other (a ∷ b ∷ v ∷ vs) other = refl
+
+left_of_or : (b : Bool) → (b || false) ≡ false → b ≡ false
+left_of_or true h = h
+left_of_or false h = refl
+
+-- by the forms that arguments have
+HasText-part : (args : Data) → HasText args → IfSome (text_and_value args) (λ both. HasText both.1)
+unfolding text_and_value
+HasText-part null h = tt
+HasText-part (boolean b) h = tt
+HasText-part (number n) h = tt
+HasText-part (string s) h = tt
+HasText-part (object ms) h = tt
+HasText-part (array no_items) h = tt
+HasText-part (array (item a no_items)) h = tt
+HasText-part (array (item null (item v no_items))) h = tt
+HasText-part (array (item (boolean b) (item v no_items))) h = tt
+HasText-part (array (item (number n) (item v no_items))) h = tt
+HasText-part (array (item (string s) (item v no_items))) h = (omega (arith, h.0), left_of_or _ h.1)
+HasText-part (array (item (array ds) (item v no_items))) h = tt
+HasText-part (array (item (object ms) (item v no_items))) h = tt
+HasText-part (array (item a (item v (item b ds)))) h = tt
+
+-- the value beside a key, where the arguments have a compact text
+pub HasText-value : (args : Data) (both : Bytes × Data) → HasText args → Some both ≡ text_and_value args → HasText both.1
+HasText-value args both h is = subst (λ o. IfSome o (λ both. HasText both.1)) (sym is) (HasText-part args h)
