@@ -208,6 +208,8 @@ impl fmt::Debug for Json {
 }
 
 impl fmt::Display for Json {
+    ghost output = { λ t. Some t };
+
     fn fmt<W: fmt::Write>(&self, f: &mut fmt::Formatter<W>) -> fmt::Result {
         f.write_str(self.text())
     }

@@ -106,6 +106,11 @@ pub enum VersionKind {
 }
 
 impl fmt::Display for VersionKind {
+    ghost use Rattle.std.specs.Prelude.{Some};
+    ghost use Rattle.group_history.specs.Pull.{kind_text};
+
+    ghost output = { λ kind. Some (kind_text kind) };
+
     fn fmt<W: fmt::Write>(&self, f: &mut fmt::Formatter<W>) -> fmt::Result {
         f.write_str(match self {
             VersionKind::Push => "push",

@@ -107,6 +107,8 @@ impl fmt::Debug for Text {
 }
 
 impl fmt::Display for Text {
+    ghost output = { λ t. Some t };
+
     fn fmt<W: fmt::Write>(&self, f: &mut fmt::Formatter<W>) -> fmt::Result {
         f.write_str(self.as_str())
     }

@@ -1,6 +1,7 @@
 //! Worked scripts, and each fault that a line can have.
 use super::*;
 use std::alloc::{AllocError, Global};
+use std::fmt::Write;
 use std::io;
 use std::prelude::*;
 
@@ -203,13 +204,19 @@ impl Expected {
     }
 }
 
-/// The script of a row. A new phase begins wherever the client changes.
+/// The script of a row. A new phase begins wherever the client changes, but for a line that begins with `+`.
 fn expected_of(alloc: Global, head: &str, row: &str) -> Result<Expected, AllocError> {
     let mut expected = Expected::new(alloc, head)?;
     for line in row.split('\n') {
         if let Some((step, reply)) = line.split_once(" => ") {
             if let Some((client, call)) = step.split_once(' ') {
-                expected.step(alloc, client, call, reply)?;
+                match client.strip_prefix('+') {
+                    Some(client) => {
+                        expected.client = String::from_str(alloc, client)?;
+                        expected.step(alloc, client, call, reply)?;
+                    }
+                    None => expected.step(alloc, client, call, reply)?,
+                }
             }
         }
     }
@@ -274,6 +281,67 @@ fn worked_rows(rt: HostRuntime) -> Result<(), AllocError> {
         assert!(rt; holds(&rt, HEADER, row)?, "{row}");
     }
     assert!(rt; holds(&rt, HEADER_OF_THREE, rows::TWO_OF_ONE_ID)?);
+    Ok(())
+}
+
+/// Seventeen keys are set, scanned, and removed again.
+fn seventeen_keys(alloc: Global) -> Result<String, AllocError> {
+    let mut row = String::new(alloc);
+    for key in 1..18u64 {
+        writeln!(row, "A mutate 1 set [\"k{key:02}\",{key}] => id {key}")?;
+    }
+    row.push_str(rows::SEVENTEEN_SCANNED)?;
+    for key in 1..18u64 {
+        let id = key + 17;
+        writeln!(row, "A mutate 1 del [\"k{key:02}\"] => id {id}")?;
+    }
+    row.push_str("A empty => yes")?;
+    Ok(row)
+}
+
+/// Two clients of a phase make a hundred increments each.
+fn a_hundred_each(alloc: Global) -> Result<String, AllocError> {
+    let mut row = String::from_str(alloc, rows::A_HUNDRED_BEGIN)?;
+    for client in ["A", "+B"] {
+        for id in 1..101u64 {
+            writeln!(row, "{client} mutate 1 incr [\"n\",1] => id {id}")?;
+        }
+    }
+    row.push_str("A learn B => learnt\nA get n => value 200")?;
+    Ok(row)
+}
+
+/// A body whose ignored field nests so deep, and how its pull ends.
+fn deep_body(alloc: Global, depth: usize, reply: &str) -> Result<String, AllocError> {
+    let mut row = String::from_str(
+        alloc,
+        r#"A pull {"cookie":1,"lastMutationIDChanges":{},"patch":[],"x":"#,
+    )?;
+    for _ in 0..depth {
+        row.push('[')?;
+    }
+    for _ in 0..depth {
+        row.push(']')?;
+    }
+    row.push_str("} => ")?;
+    row.push_str(reply)?;
+    Ok(row)
+}
+
+#[test]
+fn long_rows(rt: HostRuntime) -> Result<(), AllocError> {
+    let alloc = rt.alloc();
+    assert!(rt; holds(&rt, HEADER, seventeen_keys(alloc)?.as_str())?);
+    assert!(rt; holds(&rt, HEADER, a_hundred_each(alloc)?.as_str())?);
+    Ok(())
+}
+
+#[test]
+fn deep_bodies(rt: HostRuntime) -> Result<(), AllocError> {
+    for (depth, reply) in [(126, "applied"), (127, "refused NotJson")] {
+        let row = deep_body(rt.alloc(), depth, reply)?;
+        assert!(rt; holds(&rt, HEADER, row.as_str())?, "{depth}");
+    }
     Ok(())
 }
 

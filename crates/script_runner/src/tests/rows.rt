@@ -123,3 +123,15 @@ A mutate 1 set ["n",9223372036854775807] => id 1
 A mutate 1 incr ["n",1] => refused Refused 4
 A mutate 1 incr ["n",-1] => id 2
 A get n => value 9223372036854775806"#;
+
+/// Between the setting and the removing of seventeen keys.
+pub(super) const SEVENTEEN_SCANNED: &str = r#"A scan k =k03 2 => rows [["k03",3],["k04",4]]
+A scan k >k03 2 => rows [["k04",4],["k05",5]]
+A scan k - 0 => rows []
+A scan k1 >k15 - => rows [["k16",16],["k17",17]]
+"#;
+
+/// Before the hundred increments of each client; they begin a phase of their own.
+pub(super) const A_HUNDRED_BEGIN: &str =
+    r#"B pull {"cookie":1,"lastMutationIDChanges":{},"patch":[{"op":"put","key":"n","value":0}]} => applied
+"#;
