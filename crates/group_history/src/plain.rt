@@ -113,7 +113,7 @@ impl<M: Mutators> PlainGroup<M> {
     pub fn pending(&self) -> &[Mutation]
         ensures { result.now ≡ self.now.pending }
     {
-        &self.pending
+        self.pending.as_slice()
     }
 
     /// The client's last id: the greatest of its confirmed id and its pending ids.

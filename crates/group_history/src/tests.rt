@@ -316,3 +316,19 @@ fn refused_memory_leaves_the_group(rt: HostRuntime) -> Result<(), Refusal> {
     }
     Ok(())
 }
+
+#[test]
+fn replies_of_changes(rt: HostRuntime) -> Result<(), Refusal> {
+    record_laws();
+    worked_examples();
+    let alloc = rt.alloc();
+    let made = Change::Mutated(Mutation {
+        client: Text::new(alloc, "a")?,
+        id: 3,
+        name: Text::new(alloc, "note")?,
+        args: Json::read(alloc, "1".as_bytes())?,
+        timestamp: 1,
+    });
+    assert!(rt; made.reply() == Reply::Id(3));
+    Ok(())
+}

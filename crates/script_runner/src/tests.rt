@@ -124,6 +124,24 @@ fn faults_of_scripts(rt: HostRuntime) -> Result<(), AllocError> {
         ),
         ("slots 16\nslots 15", "line 3: bad number\n"),
         ("client A zz", "line 2: bad UUID\n"),
+        ("phase\nA scan a b 1", "line 3: bad words\n"),
+        ("phase\nA scan a - ", "line 3: bad words\n"),
+        ("phase\nA scan a - x", "line 3: bad number\n"),
+        (
+            "phase\nA scan a - 18446744073709551616",
+            "line 3: bad number\n",
+        ),
+        ("phase\nA empty ", "line 3: bad words\n"),
+        ("phase\nA watch w a - -", "line 3: unknown command\n"),
+        ("phase\nA mutate 1 set", "line 3: bad words\n"),
+        (
+            "phase\nA mutate 9007199254740992 set [",
+            "line 3: bad number\n",
+        ),
+        ("phase\nA mutate 1 set ", "line 3: bad JSON\n"),
+        ("phase\nA mutate 1 set [1.5]", "line 3: bad JSON\n"),
+        ("phase\nA learn phase", "line 3: bad words\n"),
+        ("phase\nA learn B", "line 3: unknown name\n"),
         ("phase\nA end t {}", "line 3: unknown name\n"),
         (
             "phase\nA begin t\nA end u {}\nA got",
@@ -221,6 +239,28 @@ fn expected_of(alloc: Global, head: &str, row: &str) -> Result<Expected, AllocEr
         }
     }
     Ok(expected)
+}
+
+/// 65 clients, each with a name of its own.
+fn many_clients(alloc: Global) -> Result<String, AllocError> {
+    let mut script = String::new(alloc);
+    for client in 0..65u64 {
+        writeln!(script, "client c{client} 0000000000004000800000000000000a")?;
+    }
+    Ok(script)
+}
+
+#[test]
+fn faults_of_whole_scripts(rt: HostRuntime) -> Result<(), AllocError> {
+    let script = many_clients(rt.alloc())?;
+    assert!(rt; prints(&rt, script.as_str(), 2, "", "line 65: too many clients\n")?);
+    assert!(rt; prints(&rt, "phase\nA get n", 2, "", "line 2: unknown client\n")?);
+    let mut out = Vec::new(rt.alloc());
+    let mut told = Vec::new(rt.alloc());
+    let mut bytes: &[u8] = b"grup x\n\nphase\n\xffA get n\n";
+    assert_eq!(rt; program(&rt, &mut bytes, &mut out, &mut told), 2);
+    assert_eq!(rt; told.as_slice(), "line 4: not UTF-8\n".as_bytes());
+    Ok(())
 }
 
 /// What a run shows.
