@@ -1,4 +1,6 @@
 //! The program over any reader and writers.
+ghost use Rattle.std.specs.Prelude.{◌≡◌, ◌⊎◌};
+
 use crate::faults::Fault;
 use crate::runner::{Gate, run};
 use std::io::{self, Read, Write};
@@ -20,7 +22,10 @@ pub fn program<R: AllocGlobal, I: Read, W: Write, E: Write>(
     input: &mut I,
     out: &mut W,
     err: &mut E,
-) -> u8 {
+) -> u8
+    ensures statuses { (result ≡ 0) ⊎ (result ≡ 2) ⊎ (result ≡ 3) }
+    ensures nothing_written { result ≡ 2 → W.contents out.new ≡ W.contents out.old }
+{
     let mut script = Vec::new(rt.alloc());
     if let Err(error) = input.read_to_end(&mut script) {
         let told = if error.kind() == io::ErrorKind::OutOfMemory {
