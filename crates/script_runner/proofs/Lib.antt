@@ -1,1 +1,4 @@
+pub mod Lists
+pub mod Numbers
+pub mod Scripts
 pub mod MutatorArguments

@@ -68,8 +68,12 @@ pub(crate) enum LineFault {
 }
 
 impl LineFault {
+    ghost use Rattle.script_runner.specs.Faults.{fault_at};
+
     /// The fault of the whole script, where this is the line's.
-    pub(crate) fn at(self, line: u64) -> Fault {
+    pub(crate) fn at(self, line: u64) -> Fault
+        ensures { result ≡ fault_at line self }
+    {
         match self {
             LineFault::Script(text) => Fault::Script { line, text },
             LineFault::NoMemory => Fault::NoMemory,

@@ -1,5 +1,6 @@
 //! Runs a script: its phases one after the other, and in a phase its clients one after the other.
 ghost use Rattle.std.specs.Prelude.{◌≡◌, IfErr};
+ghost use Rattle.script_runner.specs.Faults.{Checks, first_fault};
 ghost use Rattle.script_runner.specs.Runs.{IsOfScript};
 
 use crate::client::Client;
@@ -68,6 +69,7 @@ pub fn run<R: AllocGlobal, G: Gate, W: io::Write>(
     gate: &G,
     out: &mut W,
 ) -> Result<(), Fault>
+    ensures first { Checks (first_fault script.now) result }
     ensures nothing_written { IfErr result (λ e. IsOfScript e → W.contents out.new ≡ W.contents out.old) }
 {
     let alloc = rt.alloc();

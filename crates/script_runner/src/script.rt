@@ -1,6 +1,18 @@
 //! A script as values: its header, and the commands of its phases.
 //!
 //! `Parser` takes the lines one after the other and keeps what they say. No line is looked at twice as text.
+//! Each function that takes a piece of a line says, by the definition of that piece, what the lines have said after
+//! it, or which fault the piece has.
+ghost use Rattle.std.specs.Prelude.{◌≡◌, not, map, is_some, OnOk, true, vec_len};
+ghost use Rattle.std.specs.Option.{option_copied};
+ghost use Rattle.std.specs.Str.Lossy.{utf8_valid_len};
+ghost use Rattle.script_runner.specs.Context.{place_of, nothing_said};
+ghost use Rattle.script_runner.specs.Commands.{is_bare_command};
+ghost use Rattle.script_runner.specs.Faults.{Tests, TestsLine, Checks, first_fault, fault_in, lines_of, line_of_bad_byte};
+ghost use Rattle.script_runner.specs.Words.{is_uuid, is_start, is_limit, is_json};
+ghost use Rattle.script_runner.specs.declared.faults.ScriptFault.TheVariants as script_fault;
+ghost use Rattle.script_runner.specs.declared.faults.Fault.TheVariants as fault;
+
 use crate::faults::{Fault, LineFault, ScriptFault};
 use crate::lines::{
     first_word, is_client_name, is_ticket_name, no_words, number, one_word, rest, word_of,
@@ -108,7 +120,10 @@ impl Header {
         })
     }
 
-    fn place_of(&self, name: &str) -> Option<usize> {
+    #[tactic(auto, unfolding(crate::specs::Context::place_of))]
+    fn place_of(&self, name: &str) -> Option<usize>
+        ensures { result ≡ place_of name.now (map (λ client. client.name) self.now.clients.items) }
+    {
         self.clients
             .iter()
             .position(|client| client.name.as_str() == name)
@@ -123,12 +138,23 @@ fn text_or(alloc: Global, said: &Option<Text>, default: &str) -> Result<Text, Al
 }
 
 /// The lower-case hyphenated form of a UUID in any of its text forms (RFC 9562).
-fn uuid_text(alloc: Global, word: &str) -> Result<Text, LineFault> {
+#[tactic(auto, unfolding(crate::specs::Words::is_uuid))]
+fn uuid_text(alloc: Global, word: &str) -> Result<Text, LineFault>
+    ensures { TestsLine (is_uuid word.now) script_fault.BadUuid result }
+{
     let Ok(id) = Uuid::parse_str(word) else {
-        return Err(ScriptFault::BadUuid.into());
+        return Err(LineFault::Script(ScriptFault::BadUuid));
     };
     let mut buffer = Uuid::encode_buffer();
     Ok(Text::new(alloc, id.hyphenated().encode_lower(&mut buffer))?)
+}
+
+/// A ticket that a line makes.
+#[derive(Drop)]
+struct MadeTicket {
+    /// The place of its client.
+    client: usize,
+    ticket: Text,
 }
 
 /// Takes the lines of a script, one after the other.
@@ -137,12 +163,20 @@ struct Parser {
     alloc: Global,
     header: Header,
     phases: Vec<Phase>,
-    /// The tickets that the lines so far make, of each client.
-    tickets: Vec<Vec<Text>>,
+    /// The tickets that the lines so far make.
+    tickets: Vec<MadeTicket>,
 }
 
 impl Parser {
-    fn new(alloc: Global) -> Parser {
+    ghost use Rattle.script_runner.specs.Context.{nothing_said};
+    ghost use Rattle.script_runner.specs.Header.{group_line, profile_line, schema_line, slots_line, client_line, header_line};
+    ghost use Rattle.script_runner.specs.Commands.{phase_line, key_line, scan_line, begin_line, is_made, end_line, mutate_line, learn_line, bare_line, command, command_of, command_line};
+    ghost use Rattle.script_runner.specs.Faults.{Follows, said_with, words_line};
+    ghost use Rattle.script_runner.specs.Parsing.{context_of};
+
+    fn new(alloc: Global) -> Parser
+        ensures { context_of result ≡ nothing_said }
+    {
         Parser {
             alloc,
             header: Header {
@@ -157,11 +191,23 @@ impl Parser {
         }
     }
 
-    fn line(&mut self, number: u64, line: &str) -> Result<(), LineFault> {
+    #[tactic(auto, unfolding(crate::specs::Faults::said_with, crate::specs::Faults::is_skipped))]
+    fn line(&mut self, number: u64, line: &str) -> Result<(), LineFault>
+        ensures { Follows (said_with (context_of self.old) line.now)
+            (context_of self.new) result }
+    {
         if line.is_empty() || line.starts_with('#') {
             return Ok(());
         }
         let (word, rest) = first_word(line);
+        self.words(number, word, rest)
+    }
+
+    #[tactic(auto, unfolding(crate::specs::Faults::words_line))]
+    fn words(&mut self, number: u64, word: &str, rest: Option<&str>) -> Result<(), LineFault>
+        ensures { Follows (words_line (context_of self.old) word.now (option_copied rest.entry))
+            (context_of self.new) result }
+    {
         if word == "phase" {
             return self.phase(rest);
         }
@@ -171,111 +217,150 @@ impl Parser {
         self.command_line(number, word, rest)
     }
 
-    fn phase(&mut self, rest: Option<&str>) -> Result<(), LineFault> {
-        if rest.is_some() {
-            return Err(ScriptFault::BadWords.into());
-        }
-        let mut lines = Vec::new(self.alloc);
-        for _ in 0..self.header.clients.len() {
-            lines.push(Vec::new(self.alloc))?;
-        }
-        self.phases.push(Phase { lines })?;
+    #[tactic(auto, unfolding(crate::specs::Commands::phase_line))]
+    fn phase(&mut self, rest: Option<&str>) -> Result<(), LineFault>
+        ensures { Follows (phase_line (context_of self.old) (option_copied rest.entry))
+            (context_of self.new) result }
+    {
+        no_words(rest)?;
+        let phase = Phase::new(self.alloc, self.header.clients.len())?;
+        self.phases.push(phase)?;
         Ok(())
     }
 
-    fn header_line(&mut self, word: &str, rest: Option<&str>) -> Result<(), LineFault> {
+    #[tactic(auto, unfolding(crate::specs::Header::header_line))]
+    fn header_line(&mut self, word: &str, rest: Option<&str>) -> Result<(), LineFault>
+        ensures { Follows (header_line (context_of self.old) word.now (option_copied rest.entry))
+            (context_of self.new) result }
+    {
         if word == "client" {
             return self.client(rest);
         }
         if word == "slots" {
             return self.slots(rest);
         }
-        let alloc = self.alloc;
         if word == "group" {
-            return say(&mut self.header.group, uuid_text(alloc, one_word(rest)?)?);
+            return self.group(rest);
         }
-        let said = if word == "profile" {
-            &mut self.header.profile
-        } else if word == "schema" {
-            &mut self.header.schema
-        } else {
-            return Err(ScriptFault::UnknownLine.into());
-        };
-        say(said, Text::new(alloc, self::rest(rest)?)?)
+        if word == "profile" {
+            return self.profile(rest);
+        }
+        if word == "schema" {
+            return self.schema(rest);
+        }
+        Err(LineFault::Script(ScriptFault::UnknownLine))
     }
 
-    fn slots(&mut self, rest: Option<&str>) -> Result<(), LineFault> {
+    #[tactic(auto, unfolding(crate::specs::Header::group_line))]
+    fn group(&mut self, rest: Option<&str>) -> Result<(), LineFault>
+        ensures { Follows (group_line (context_of self.old) (option_copied rest.entry))
+            (context_of self.new) result }
+    {
+        let group = uuid_text(self.alloc, one_word(rest)?)?;
+        say(&mut self.header.group, group)
+    }
+
+    #[tactic(auto, unfolding(crate::specs::Header::profile_line))]
+    fn profile(&mut self, rest: Option<&str>) -> Result<(), LineFault>
+        ensures { Follows (profile_line (context_of self.old) (option_copied rest.entry))
+            (context_of self.new) result }
+    {
+        let profile = Text::new(self.alloc, self::rest(rest)?)?;
+        say(&mut self.header.profile, profile)
+    }
+
+    #[tactic(auto, unfolding(crate::specs::Header::schema_line))]
+    fn schema(&mut self, rest: Option<&str>) -> Result<(), LineFault>
+        ensures { Follows (schema_line (context_of self.old) (option_copied rest.entry))
+            (context_of self.new) result }
+    {
+        let schema = Text::new(self.alloc, self::rest(rest)?)?;
+        say(&mut self.header.schema, schema)
+    }
+
+    #[tactic(auto, unfolding(crate::specs::Header::slots_line))]
+    fn slots(&mut self, rest: Option<&str>) -> Result<(), LineFault>
+        ensures { Follows (slots_line (context_of self.old) (option_copied rest.entry))
+            (context_of self.new) result }
+    {
         let slots = number(one_word(rest)?, FEWEST_SLOTS, MOST_SLOTS)?;
         if self.header.slots.is_some() {
-            return Err(ScriptFault::SaidTwice.into());
+            return Err(LineFault::Script(ScriptFault::SaidTwice));
         }
         self.header.slots = Some(slots);
         Ok(())
     }
 
-    fn client(&mut self, rest: Option<&str>) -> Result<(), LineFault> {
+    #[tactic(auto, unfolding(crate::specs::Header::client_line))]
+    fn client(&mut self, rest: Option<&str>) -> Result<(), LineFault>
+        ensures { Follows (client_line (context_of self.old) (option_copied rest.entry))
+            (context_of self.new) result }
+    {
         let (name, id) = first_word(self::rest(rest)?);
         if !is_client_name(name) {
-            return Err(ScriptFault::BadWords.into());
+            return Err(LineFault::Script(ScriptFault::BadWords));
         }
         let id = uuid_text(self.alloc, one_word(id)?)?;
         if self.header.place_of(name).is_some() {
-            return Err(ScriptFault::SaidTwice.into());
+            return Err(LineFault::Script(ScriptFault::SaidTwice));
         }
         if self.header.clients.len() >= MOST_CLIENTS {
-            return Err(ScriptFault::TooManyClients.into());
+            return Err(LineFault::Script(ScriptFault::TooManyClients));
         }
         let name = Text::new(self.alloc, name)?;
-        self.tickets.push(Vec::new(self.alloc))?;
         self.header.clients.push(ClientLine { name, id })?;
         Ok(())
     }
 
-    fn command_line(
-        &mut self,
-        number: u64,
-        word: &str,
-        rest: Option<&str>,
-    ) -> Result<(), LineFault> {
+    #[tactic(auto, unfolding(crate::specs::Commands::command_line, crate::specs::Commands::command_at))]
+    fn command_line(&mut self, number: u64, word: &str, rest: Option<&str>) -> Result<(), LineFault>
+        ensures { Follows (command_line (context_of self.old) word.now (option_copied rest.entry))
+            (context_of self.new) result }
+    {
         let Some(client) = self.header.place_of(word) else {
-            return Err(ScriptFault::UnknownClient.into());
+            return Err(LineFault::Script(ScriptFault::UnknownClient));
         };
-        let Some(rest) = rest else {
-            return Err(ScriptFault::UnknownCommand.into());
-        };
-        let (name, rest) = first_word(rest);
-        let command = self.command(client, name, rest)?;
-        let line = Line { number, command };
-        match self.phases.last_mut() {
-            Some(phase) => match phase.lines.get_mut(client) {
-                Some(lines) => lines.push(line)?,
-                None => {}
-            },
-            None => {}
-        }
+        let command = self.command_of(client, rest)?;
+        keep(&mut self.phases, client, Line { number, command })?;
         Ok(())
     }
 
+    #[tactic(auto, unfolding(crate::specs::Commands::command_of))]
+    fn command_of(&mut self, client: usize, rest: Option<&str>) -> Result<Command, LineFault>
+        ensures { Follows (command_of (context_of self.old) client (option_copied rest.entry))
+            (context_of self.new) result }
+    {
+        let Some(rest) = rest else {
+            return Err(LineFault::Script(ScriptFault::UnknownCommand));
+        };
+        let (name, rest) = first_word(rest);
+        self.command(client, name, rest)
+    }
+
+    #[tactic(auto, unfolding(crate::specs::Commands::command))]
     fn command(
         &mut self,
         client: usize,
         name: &str,
         rest: Option<&str>,
-    ) -> Result<Command, LineFault> {
+    ) -> Result<Command, LineFault>
+        ensures { Follows (command (context_of self.old) client name.now (option_copied rest.entry))
+            (context_of self.new) result }
+    {
         if name == "get" {
-            return Ok(Command::Query(Query::Get(self.key(rest)?)));
+            return self.get(rest);
         }
         if name == "has" {
-            return Ok(Command::Query(Query::Has(self.key(rest)?)));
+            return self.has(rest);
         }
         if name == "scan" {
-            return Ok(Command::Query(Query::Scan(self.scan(rest)?)));
+            return self.scan(rest);
         }
         if name == "begin" {
-            return self.begin(client, self::rest(rest)?);
+            return self.begin(client, rest);
         }
         if name == "end" {
-            return self.end(client, self::rest(rest)?);
+            return self.end(client, rest);
         }
         if name == "mutate" {
             return self.mutate(rest);
@@ -283,58 +368,56 @@ impl Parser {
         if name == "learn" {
             return self.learn(rest);
         }
-        let Some(command) = bare_command(name) else {
-            return Err(ScriptFault::UnknownCommand.into());
-        };
-        no_words(rest)?;
-        Ok(command)
+        self.bare(name, rest)
     }
 
-    fn key(&self, rest: Option<&str>) -> Result<Text, LineFault> {
-        Ok(Text::new(self.alloc, self::rest(rest)?)?)
+    #[tactic(auto, unfolding(crate::specs::Commands::key_line))]
+    fn get(&self, rest: Option<&str>) -> Result<Command, LineFault>
+        ensures { Follows (key_line (context_of self.now) (option_copied rest.entry))
+            (context_of self.now) result }
+    {
+        let key = Text::new(self.alloc, self::rest(rest)?)?;
+        Ok(Command::Query(Query::Get(key)))
     }
 
-    fn scan(&self, rest: Option<&str>) -> Result<Scan, LineFault> {
+    #[tactic(auto, unfolding(crate::specs::Commands::key_line))]
+    fn has(&self, rest: Option<&str>) -> Result<Command, LineFault>
+        ensures { Follows (key_line (context_of self.now) (option_copied rest.entry))
+            (context_of self.now) result }
+    {
+        let key = Text::new(self.alloc, self::rest(rest)?)?;
+        Ok(Command::Query(Query::Has(key)))
+    }
+
+    #[tactic(auto, unfolding(crate::specs::Commands::scan_line))]
+    fn scan(&self, rest: Option<&str>) -> Result<Command, LineFault>
+        ensures { Follows (scan_line (context_of self.now) (option_copied rest.entry))
+            (context_of self.now) result }
+    {
         let (prefix, rest) = word_of(rest)?;
         let (start, rest) = word_of(rest)?;
         let limit = one_word(rest)?;
-        let start = self.start(start)?;
-        let limit = if limit == "-" {
-            None
-        } else {
-            Some(number(limit, 0, u64::MAX)?)
-        };
+        let start = start_of(self.alloc, start)?;
+        let limit = limit_of(limit)?;
         let prefix = if prefix == "-" { "" } else { prefix };
-        Ok(Scan {
-            prefix: Text::new(self.alloc, prefix)?,
+        let prefix = Text::new(self.alloc, prefix)?;
+        Ok(Command::Query(Query::Scan(Scan {
+            prefix,
             start,
             limit,
-        })
+        })))
     }
 
-    fn start(&self, word: &str) -> Result<Start, LineFault> {
-        if word == "-" {
-            return Ok(Start::Any);
-        }
-        if let Some(key) = word.strip_prefix('=') {
-            return Ok(Start::At(Text::new(self.alloc, key)?));
-        }
-        if let Some(key) = word.strip_prefix('>') {
-            return Ok(Start::After(Text::new(self.alloc, key)?));
-        }
-        Err(ScriptFault::BadWords.into())
-    }
-
-    fn mutate(&self, rest: Option<&str>) -> Result<Command, LineFault> {
+    #[tactic(auto, unfolding(crate::specs::Commands::mutate_line))]
+    fn mutate(&self, rest: Option<&str>) -> Result<Command, LineFault>
+        ensures { Follows (mutate_line (context_of self.now) (option_copied rest.entry))
+            (context_of self.now) result }
+    {
         let (time, rest) = word_of(rest)?;
         let (mutator, rest) = word_of(rest)?;
         let args = self::rest(rest)?;
         let time = number(time, 0, LATEST_TIME)?;
-        let args = match Json::read(self.alloc, args.as_bytes()) {
-            Ok(args) => args,
-            Err(Refusal::NoMemory) => return Err(LineFault::NoMemory),
-            Err(_unread) => return Err(ScriptFault::BadJson.into()),
-        };
+        let args = json(self.alloc, args)?;
         let mutator = Text::new(self.alloc, mutator)?;
         Ok(Command::Mutate(Call {
             time,
@@ -343,47 +426,141 @@ impl Parser {
         }))
     }
 
-    fn learn(&self, rest: Option<&str>) -> Result<Command, LineFault> {
+    #[tactic(auto, unfolding(crate::specs::Commands::learn_line))]
+    fn learn(&self, rest: Option<&str>) -> Result<Command, LineFault>
+        ensures { Follows (learn_line (context_of self.now) (option_copied rest.entry))
+            (context_of self.now) result }
+    {
         let name = self::rest(rest)?;
         if !is_client_name(name) {
-            return Err(ScriptFault::BadWords.into());
+            return Err(LineFault::Script(ScriptFault::BadWords));
         }
-        match self.header.place_of(name) {
-            Some(_) => Ok(Command::Learn),
-            None => Err(ScriptFault::UnknownName.into()),
+        if self.header.place_of(name).is_none() {
+            return Err(LineFault::Script(ScriptFault::UnknownName));
         }
+        Ok(Command::Learn)
     }
 
-    fn begin(&mut self, client: usize, name: &str) -> Result<Command, LineFault> {
+    #[tactic(auto, unfolding(crate::specs::Commands::begin_line))]
+    fn begin(&mut self, client: usize, rest: Option<&str>) -> Result<Command, LineFault>
+        ensures { Follows (begin_line (context_of self.old) client (option_copied rest.entry))
+            (context_of self.new) result }
+    {
+        let name = self::rest(rest)?;
         if !is_ticket_name(name) {
-            return Err(ScriptFault::BadWords.into());
+            return Err(LineFault::Script(ScriptFault::BadWords));
         }
-        let name = Text::new(self.alloc, name)?;
-        if let Some(tickets) = self.tickets.get_mut(client) {
-            tickets.push(name.clone()?)?;
-        }
+        let ticket = Text::new(self.alloc, name)?;
+        let name = ticket.clone()?;
+        self.tickets.push(MadeTicket { client, ticket })?;
         Ok(Command::Begin(name))
     }
 
-    fn end(&mut self, client: usize, rest: &str) -> Result<Command, LineFault> {
-        let (name, body) = first_word(rest);
+    #[tactic(auto, unfolding(crate::specs::Commands::end_line))]
+    fn end(&self, client: usize, rest: Option<&str>) -> Result<Command, LineFault>
+        ensures { Follows (end_line (context_of self.now) client (option_copied rest.entry))
+            (context_of self.now) result }
+    {
+        let (name, body) = first_word(self::rest(rest)?);
         if !is_ticket_name(name) {
-            return Err(ScriptFault::BadWords.into());
+            return Err(LineFault::Script(ScriptFault::BadWords));
         }
-        let body = Text::new(self.alloc, self::rest(body)?)?;
-        let known = match self.tickets.get(client) {
-            Some(tickets) => tickets.iter().any(|ticket| ticket.as_str() == name),
-            None => false,
+        let body = self::rest(body)?;
+        if !self.has_made(client, name) {
+            return Err(LineFault::Script(ScriptFault::UnknownName));
+        }
+        let name = Text::new(self.alloc, name)?;
+        Ok(Command::End(name, Text::new(self.alloc, body)?))
+    }
+
+    #[tactic(auto, unfolding(crate::specs::Commands::is_made))]
+    fn has_made(&self, client: usize, ticket: &str) -> bool
+        ensures { result ≡ is_made client ticket.now (map (λ made. (made.client, made.ticket)) self.now.tickets.items) }
+    {
+        self.tickets.iter().any(|made| made.client == client && made.ticket.as_str() == ticket)
+    }
+
+    #[tactic(auto, unfolding(crate::specs::Commands::bare_line))]
+    fn bare(&self, name: &str, rest: Option<&str>) -> Result<Command, LineFault>
+        ensures { Follows (bare_line (context_of self.now) name.now (option_copied rest.entry))
+            (context_of self.now) result }
+    {
+        let Some(command) = bare_command(name) else {
+            return Err(LineFault::Script(ScriptFault::UnknownCommand));
         };
-        if !known {
-            return Err(ScriptFault::UnknownName.into());
+        no_words(rest)?;
+        Ok(command)
+    }
+}
+
+impl Phase {
+    /// A phase of no lines yet, of so many clients.
+    fn new(alloc: Global, clients: usize) -> Result<Phase, AllocError> {
+        let mut lines = Vec::new(alloc);
+        for _ in 0..clients {
+            lines.push(Vec::new(alloc))?;
         }
-        Ok(Command::End(Text::new(self.alloc, name)?, body))
+        Ok(Phase { lines })
+    }
+}
+
+/// Adds a line of a client to the last phase.
+fn keep(phases: &mut Vec<Phase>, client: usize, line: Line) -> Result<(), AllocError>
+    ensures { OnOk result (vec_len phases.new ≡ vec_len phases.old) }
+{
+    if let Some(phase) = phases.last_mut()
+        && let Some(lines) = phase.lines.get_mut(client)
+    {
+        lines.push(line)?;
+    }
+    Ok(())
+}
+
+/// The start of a scan: `-`, `=KEY` or `>KEY`.
+#[tactic(auto, unfolding(crate::specs::Words::is_start))]
+fn start_of(alloc: Global, word: &str) -> Result<Start, LineFault>
+    ensures { TestsLine (is_start word.now) script_fault.BadWords result }
+{
+    if word == "-" {
+        return Ok(Start::Any);
+    }
+    if let Some(key) = word.strip_prefix('=') {
+        return Ok(Start::At(Text::new(alloc, key)?));
+    }
+    if let Some(key) = word.strip_prefix('>') {
+        return Ok(Start::After(Text::new(alloc, key)?));
+    }
+    Err(LineFault::Script(ScriptFault::BadWords))
+}
+
+/// The limit of a scan: `-` or a number.
+#[tactic(auto, unfolding(crate::specs::Words::is_limit))]
+fn limit_of(word: &str) -> Result<Option<u64>, ScriptFault>
+    ensures { Tests (is_limit word.now) script_fault.BadNumber result }
+{
+    if word == "-" {
+        return Ok(None);
+    }
+    Ok(Some(number(word, 0, u64::MAX)?))
+}
+
+/// The arguments of a mutator.
+#[tactic(auto, unfolding(crate::specs::Words::is_json))]
+fn json(alloc: Global, text: &str) -> Result<Json, LineFault>
+    ensures { TestsLine (is_json text.now) script_fault.BadJson result }
+{
+    match Json::read(alloc, text.as_bytes()) {
+        Ok(json) => Ok(json),
+        Err(Refusal::NoMemory) => Err(LineFault::NoMemory),
+        Err(_unread) => Err(LineFault::Script(ScriptFault::BadJson)),
     }
 }
 
 /// A command that takes no words.
-fn bare_command(name: &str) -> Option<Command> {
+#[tactic(auto, unfolding(crate::specs::Commands::is_bare_command))]
+fn bare_command(name: &str) -> Option<Command>
+    ensures { is_some result ≡ is_bare_command name.now }
+{
     if name == "empty" {
         return Some(Command::Query(Query::Empty));
     }
@@ -402,9 +579,12 @@ fn bare_command(name: &str) -> Option<Command> {
     None
 }
 
-fn say(said: &mut Option<Text>, text: Text) -> Result<(), LineFault> {
+fn say(said: &mut Option<Text>, text: Text) -> Result<(), LineFault>
+    ensures once { TestsLine (not (is_some said.old)) script_fault.SaidTwice result }
+    ensures said { OnOk result (is_some said.new ≡ true) }
+{
     if said.is_some() {
-        return Err(ScriptFault::SaidTwice.into());
+        return Err(LineFault::Script(ScriptFault::SaidTwice));
     }
     *said = Some(text);
     Ok(())
@@ -412,11 +592,25 @@ fn say(said: &mut Option<Text>, text: Text) -> Result<(), LineFault> {
 
 /// The script that the bytes are. A script that isn't UTF-8 is told for that, with the line of its first bad
 /// byte, before any other fault.
-pub(crate) fn read_script(alloc: Global, bytes: &[u8]) -> Result<Script, Fault> {
+#[tactic(auto, unfolding(crate::specs::Faults::first_fault))]
+pub(crate) fn read_script(alloc: Global, bytes: &[u8]) -> Result<Script, Fault>
+    ensures { Checks (first_fault bytes.now) result }
+{
     let text = match str::from_utf8(bytes) {
         Ok(text) => text,
         Err(error) => return Err(not_utf8(bytes, error.valid_up_to())),
     };
+    let parser = read_lines(alloc, text)?;
+    Ok(Script {
+        header: parser.header,
+        phases: parser.phases,
+    })
+}
+
+/// A parser that has taken the lines of a text.
+fn read_lines(alloc: Global, text: &str) -> Result<Parser, Fault>
+    ensures { Checks (fault_in 1 nothing_said (lines_of text.now)) result }
+{
     let mut parser = Parser::new(alloc);
     let mut number = 0u64;
     for line in text.split('\n') {
@@ -425,13 +619,14 @@ pub(crate) fn read_script(alloc: Global, bytes: &[u8]) -> Result<Script, Fault> 
             return Err(fault.at(number));
         }
     }
-    Ok(Script {
-        header: parser.header,
-        phases: parser.phases,
-    })
+    Ok(parser)
 }
 
-fn not_utf8(bytes: &[u8], valid: usize) -> Fault {
+#[tactic(auto, unfolding(crate::specs::Faults::line_of_bad_byte))]
+fn not_utf8(bytes: &[u8], valid: usize) -> Fault
+    requires { valid ≡ utf8_valid_len bytes.now }
+    ensures { result ≡ fault.Script (line_of_bad_byte bytes.now) script_fault.NotUtf8 }
+{
     let feeds = bytes
         .iter()
         .take(valid)

@@ -1,0 +1,49 @@
+-- The lines before the first phase: what each needs, each need with the fault of a line that doesn't meet it, and
+-- what it says. Where a line has several faults, the first need that isn't met tells.
+use Rattle.std.specs.Prelude.{codes, true, not, [], ◌∷◌, ◌++◌, length, nat_lt, Option, is_some, is_none, Result, Err, if◌then◌else◌}
+use Rattle.group_history.specs.Map.{Bytes, same_text}
+use Rattle.script_runner.specs.declared.faults.ScriptFault.{ScriptFault}
+use Rattle.script_runner.specs.declared.faults.ScriptFault.TheVariants as fault
+use Rattle.script_runner.specs.Context.{Context, place_of, meets}
+use Rattle.script_runner.specs.Words.{word, more, text, is_word, is_uuid, is_number, is_client_name}
+
+-- `group UUID`
+unfoldable pub group_line : Context → Option Bytes → Result Context ScriptFault
+group_line c rest =
+    meets ((is_word (text rest), fault.BadWords) ∷ (is_uuid (text rest), fault.BadUuid) ∷ (not c.group, fault.SaidTwice) ∷ [])
+    (record c { group = true })
+
+-- `profile REST`
+unfoldable pub profile_line : Context → Option Bytes → Result Context ScriptFault
+profile_line c rest = meets ((is_some rest, fault.BadWords) ∷ (not c.profile, fault.SaidTwice) ∷ []) (record c { profile = true })
+
+-- `schema REST`
+unfoldable pub schema_line : Context → Option Bytes → Result Context ScriptFault
+schema_line c rest = meets ((is_some rest, fault.BadWords) ∷ (not c.schema, fault.SaidTwice) ∷ []) (record c { schema = true })
+
+-- `slots N`
+unfoldable pub slots_line : Context → Option Bytes → Result Context ScriptFault
+slots_line c rest =
+    meets ((is_word (text rest), fault.BadWords) ∷ (is_number 16 1_048_576 (text rest), fault.BadNumber) ∷ (not c.slots, fault.SaidTwice) ∷ [])
+    (record c { slots = true })
+
+-- `client NAME UUID`
+unfoldable pub client_line : Context → Option Bytes → Result Context ScriptFault
+client_line c rest =
+    let name = word (text rest) in
+    let id = text (more (text rest)) in
+    meets ((is_some rest, fault.BadWords) ∷ (is_client_name name, fault.BadWords) ∷ (is_word id, fault.BadWords) ∷ (is_uuid id, fault.BadUuid)
+    ∷ (is_none (place_of name c.clients), fault.SaidTwice)
+    ∷ (nat_lt (length c.clients) 64, fault.TooManyClients)
+    ∷ [])
+    (record c { clients = c.clients ++ name ∷ [] })
+
+-- a line before the first phase, by its first word and what follows
+unfoldable pub header_line : Context → Bytes → Option Bytes → Result Context ScriptFault
+header_line c name rest =
+    if same_text name (codes "client") then client_line c rest
+    else if same_text name (codes "slots") then slots_line c rest
+    else if same_text name (codes "group") then group_line c rest
+    else if same_text name (codes "profile") then profile_line c rest
+    else if same_text name (codes "schema") then schema_line c rest
+    else Err fault.UnknownLine
