@@ -1,9 +1,20 @@
 -- The worked examples hold.
-use Rattle.std.proofs.Common.{ℕ, refl, List}
+use Rattle.std.proofs.Common.{◌≡◌, ℕ, codes, Some, refl, List}
+use Rattle.std.specs.Prelude.{pos}
+use Rattle.std.specs.Str.{is_utf8, chars}
 use Rattle.std.specs.FinMap.{gets, entries-insert}
 use Rattle.std.specs.Cmp.Lexicographic.{nat_list_cmp_total}
-use Rattle.group_history.specs.Examples.{WorkedExamples}
+use Rattle.serde_json.proofs.OnLiterals.{serde_json_on_literals}
+use Rattle.group_history.specs.declared.cookies.Order.TheVariants as order
+use Rattle.group_history.specs.Json.{reading}
+use Rattle.group_history.specs.Cookies.{cookie_at, cookie_of}
+use Rattle.group_history.specs.Examples.{WorkedExamples, order_at}
 use Rattle.group_history.proofs.TextMaps.{entries-empty}
+
+cookies_read :
+    (order_at (codes "7") ≡ Some (order.Number (pos 7))) × (order_at (codes "\"1\"") ≡ Some (order.Text (codes "1"))) × (order_at (codes "{\"order\":\"1\"}") ≡ Some (order.Text (codes "1")))
+unfolding cookie_at cookie_of reading is_utf8 chars serde_json_on_literals
+cookies_read = (refl, refl, refl)
 
 pub worked : WorkedExamples
 worked = record {
@@ -16,7 +27,7 @@ worked = record {
   refused_while_cleared = simp gets refl;
   comes_back = simp gets refl;
   overtaken = refl;
-  cookies_in_order = (refl, refl);
+  cookies_in_order = (cookies_read.0, cookies_read.1, cookies_read.2, refl, refl);
   same_or_not_new = (refl, refl, refl);
   id_went_back = simp gets refl;
 }

@@ -1,7 +1,8 @@
 -- Worked examples, computed by the definitions alone.
-use Rattle.std.specs.Prelude.{◌≡◌, ℕ, ◌+◌, List, [], ◌∷◌, Option, Some, None, Ok, Err, codes, if◌then◌else◌, pos}
-use Rattle.std.specs.declared.cmp.Ordering.TheVariants.{Less}
+use Rattle.std.specs.Prelude.{◌≡◌, ℕ, ◌+◌, List, [], ◌∷◌, Option, option_map, Some, None, Ok, Err, codes, if◌then◌else◌, pos}
+use Rattle.std.specs.declared.cmp.Ordering.TheVariants.{Less, Equal}
 use Rattle.std.specs.FinMap as finite
+use Rattle.group_history.specs.declared.cookies.Order.{Order}
 use Rattle.group_history.specs.declared.cookies.Order.TheVariants as order
 use Rattle.group_history.specs.declared.mutations.Mutation.{Mutation}
 use Rattle.group_history.specs.declared.responses.Patch.{Patch}
@@ -10,11 +11,10 @@ use Rattle.group_history.specs.declared.responses.Confirmed.{Confirmed}
 use Rattle.group_history.specs.declared.responses.Response.TheVariants as response
 use Rattle.group_history.specs.declared.responses.Ended.TheVariants.{Same}
 use Rattle.group_history.specs.declared.refusals.Refusal.TheVariants.{Refused, Overtaken, CookieWentBack, CookieNotNew, IdWentBack}
-use Rattle.group_history.specs.declared.scans.Scan.{Scan}
-use Rattle.group_history.specs.declared.scans.Start.TheVariants.{Any, After}
+use Rattle.group_history.specs.declared.scans.Start.TheVariants.{After}
 use Rattle.group_history.specs.Map.{Bytes, Entries, patched, same_text}
 use Rattle.group_history.specs.Meaning.{Meaning, Meanings, unknown, refuses, done}
-use Rattle.group_history.specs.Cookies.{Cookie, order_cmp}
+use Rattle.group_history.specs.Cookies.{Cookie, order_cmp, cookie_at}
 use Rattle.group_history.specs.Pull.{Pull}
 use Rattle.group_history.specs.State.{State, opening}
 use Rattle.group_history.specs.Scans.{rows_of}
@@ -73,8 +73,9 @@ raised_five = after_mutate five (up 1)
 abbrev pub cleared : State
 cleared = after_pull (after_mutate raised_five (note 2)) (pull 2 [] (Clear ∷ []))
 
-abbrev pub every : Scan
-every = record { prefix = []; start = Any; limit = None }
+-- what the cookie that a text is is compared by
+abbrev pub order_at : Bytes → Option Order
+order_at text = option_map (λ (c : Cookie). c.order) (cookie_at text)
 
 pub record WorkedExamples : Type 0 where
   pub patch_in_order : patched finite.empty (Put (codes "a") (codes "1") ∷ Clear ∷ Put (codes "b") (codes "2") ∷ []) ≡ finite.insert finite.empty (codes "b") (codes "2")
@@ -86,6 +87,9 @@ pub record WorkedExamples : Type 0 where
   pub refused_while_cleared : mutate_reply trial cleared (codes "a") 2 (codes "up") (codes "[]") ≡ Err (Refused 2)
   pub comes_back : get_at trial (after_pull cleared (pull 3 [] (put_n (codes "5")))) (codes "n") ≡ Some (codes "6")
   pub overtaken : end_reply five (codes "null") (response.Ok (pull 2 [] (put_n (codes "6")))) ≡ Err Overtaken
-  pub cookies_in_order : (order_cmp (order.Number (pos 9)) (order.Text (codes "1")) ≡ Less) × (order_cmp order.Null (order.Number (pos 0)) ≡ Less)
+  -- 7 is below "1", which is equal in order to {"order":"1"}
+  pub cookies_in_order :
+      (order_at (codes "7") ≡ Some (order.Number (pos 7))) × (order_at (codes "\"1\"") ≡ Some (order.Text (codes "1"))) × (order_at (codes "{\"order\":\"1\"}") ≡ Some (order.Text (codes "1")))
+      × (order_cmp (order.Number (pos 7)) (order.Text (codes "1")) ≡ Less) × (order_cmp (order.Text (codes "1")) (order.Text (codes "1")) ≡ Equal)
   pub same_or_not_new : (end_reply five (codes "1") (response.Ok (pull 1 [] [])) ≡ Ok Same) × (end_reply five (codes "1") (response.Ok (pull 1 [] (put_n (codes "6")))) ≡ Err CookieNotNew) × (end_reply five (codes "1") (response.Ok (pull 0 [] [])) ≡ Err CookieWentBack)
   pub id_went_back : end_reply (after_pull five (pull 2 (confirms 3) [])) (codes "2") (response.Ok (pull 3 (confirms 2) [])) ≡ Err IdWentBack
