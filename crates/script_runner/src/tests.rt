@@ -140,6 +140,14 @@ fn faults_of_scripts(rt: HostRuntime) -> Result<(), AllocError> {
         ),
         ("phase\nA mutate 1 set ", "line 3: bad JSON\n"),
         ("phase\nA mutate 1 set [1.5]", "line 3: bad JSON\n"),
+        (
+            "phase\nA mutate 1 set [18446744073709551616]",
+            "line 3: bad JSON\n",
+        ),
+        (
+            "phase\nA mutate 1 set [-9223372036854775809]",
+            "line 3: bad JSON\n",
+        ),
         ("phase\nA learn phase", "line 3: bad words\n"),
         ("phase\nA learn B", "line 3: unknown name\n"),
         ("phase\nA end t {}", "line 3: unknown name\n"),
@@ -369,6 +377,41 @@ fn deep_body(alloc: Global, depth: usize, reply: &str) -> Result<String, AllocEr
 }
 
 #[test]
+fn rows_at_the_edges(rt: HostRuntime) -> Result<(), AllocError> {
+    for row in [rows::REFUSED_ENDS, rows::KEYS, rows::ESCAPES, rows::NUMBERS] {
+        assert!(rt; holds(&rt, HEADER, row)?, "{row}");
+    }
+    assert!(rt; holds(&rt, HEADER_OF_THREE, rows::REFUSED_MUTATIONS)?);
+    Ok(())
+}
+
+/// A call whose arguments nest so deep.
+fn deep_call(alloc: Global, depth: usize) -> Result<String, AllocError> {
+    let mut call = String::from_str(alloc, r#"A mutate 1 set ["k","#)?;
+    for _ in 1..depth {
+        call.push('[')?;
+    }
+    for _ in 1..depth {
+        call.push(']')?;
+    }
+    call.push(']')?;
+    Ok(call)
+}
+
+#[test]
+fn deep_arguments(rt: HostRuntime) -> Result<(), AllocError> {
+    for (depth, reply) in [(123, " => id 1"), (124, " => id 1")] {
+        let mut row = deep_call(rt.alloc(), depth)?;
+        row.push_str(reply)?;
+        assert!(rt; holds(&rt, HEADER, row.as_str())?, "{depth}");
+    }
+    let call = deep_call(rt.alloc(), 125)?;
+    let script = format!(in rt.alloc(); "{HEADER}phase\n{call}")?;
+    assert!(rt; prints(&rt, script.as_str(), 2, "", "line 5: bad JSON\n")?);
+    Ok(())
+}
+
+#[test]
 fn long_rows(rt: HostRuntime) -> Result<(), AllocError> {
     let alloc = rt.alloc();
     assert!(rt; holds(&rt, HEADER, seventeen_keys(alloc)?.as_str())?);
@@ -378,7 +421,7 @@ fn long_rows(rt: HostRuntime) -> Result<(), AllocError> {
 
 #[test]
 fn deep_bodies(rt: HostRuntime) -> Result<(), AllocError> {
-    for (depth, reply) in [(126, "applied"), (127, "refused NotJson")] {
+    for (depth, reply) in [(125, "applied"), (126, "applied"), (127, "refused NotJson")] {
         let row = deep_body(rt.alloc(), depth, reply)?;
         assert!(rt; holds(&rt, HEADER, row.as_str())?, "{depth}");
     }

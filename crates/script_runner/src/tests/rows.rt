@@ -135,3 +135,63 @@ A scan k1 >k15 - => rows [["k16",16],["k17",17]]
 pub(super) const A_HUNDRED_BEGIN: &str =
     r#"B pull {"cookie":1,"lastMutationIDChanges":{},"patch":[{"op":"put","key":"n","value":0}]} => applied
 "#;
+
+/// Of two refusals of an end of a pull the one that goes first is told.
+pub(super) const REFUSED_ENDS: &str =
+    r#"A begin t => pull {"clientGroupID":"00000000-0000-4000-8000-000000000001","cookie":null,"profileID":"p1","pullVersion":1,"schemaVersion":"s1"}
+A begin u => pull {"clientGroupID":"00000000-0000-4000-8000-000000000001","cookie":null,"profileID":"p1","pullVersion":1,"schemaVersion":"s1"}
+A end t {"cookie":5,"lastMutationIDChanges":{"00000000-0000-4000-8000-00000000000a":3},"patch":[]} => applied
+A end u {"cookie":1.5,"lastMutationIDChanges":{},"patch":[ => refused NotJson
+A end u {"cookie":1.5,"lastMutationIDChanges":{}} => refused BadShape
+A end u {"cookie":6,"lastMutationIDChanges":{},"patch":[{"op":"put","key":"n","value":1.5}]} => refused NotWhole
+A end u {"error":"ClientStateNotFound"} => refused StateNotFound
+A end u {"error":"VersionNotSupported","versionType":"pull"} => refused VersionNotSupported pull
+A end u {"cookie":4,"lastMutationIDChanges":{"00000000-0000-4000-8000-00000000000a":2},"patch":[]} => refused Overtaken
+A pull {"cookie":4,"lastMutationIDChanges":{"00000000-0000-4000-8000-00000000000a":2},"patch":[]} => refused CookieWentBack
+A pull {"cookie":5,"lastMutationIDChanges":{"00000000-0000-4000-8000-00000000000a":2},"patch":[]} => refused CookieNotNew
+A pull {"cookie":6,"lastMutationIDChanges":{"00000000-0000-4000-8000-00000000000a":2},"patch":[]} => refused IdWentBack
+A cookie => cookie 5"#;
+
+/// Of two refusals of a mutation the one that goes first is told. For two clients of one ID.
+pub(super) const REFUSED_MUTATIONS: &str = r#"A mutate 1 set ["k",1] => id 1
+C mutate 1 nosuch [] => refused Stale
+C refresh => last 1
+C mutate 1 nosuch [] => refused NoMutator
+C mutate 1 incr ["n"] => refused Refused 1
+C mutate 1 incr ["n",1] => refused Refused 2"#;
+
+/// Keys are ordered by their UTF-8 bytes, which is not the order of their UTF-16 units; the empty key is one.
+pub(super) const KEYS: &str = r#"A mutate 1 set ["𐀀",1] => id 1
+A mutate 1 set ["Ａ",2] => id 2
+A scan - - - => rows [["Ａ",2],["𐀀",1]]
+A mutate 1 set ["",3] => id 3
+A get  => value 3
+A has  => yes
+A scan - = 2 => rows [["",3],["Ａ",2]]
+A scan - > - => rows [["Ａ",2],["𐀀",1]]
+A scan 𐀀 - - => rows [["𐀀",1]]"#;
+
+/// Escapes and control characters.
+pub(super) const ESCAPES: &str = r#"A mutate 1 set ["q\"\\\/","\b\f\n\r\t\u001f"] => id 1
+A get q"\/ => value "\b\f\n\r\t\u001f"
+A mutate 1 set ["\u0001",2] => id 2
+A scan - - - => rows [["\u0001",2],["q\"\\/","\b\f\n\r\t\u001f"]]
+A push => push {"clientGroupID":"00000000-0000-4000-8000-000000000001","mutations":[{"args":["q\"\\/","\b\f\n\r\t\u001f"],"clientID":"00000000-0000-4000-8000-00000000000a","id":1,"name":"set","timestamp":1},{"args":["\u0001",2],"clientID":"00000000-0000-4000-8000-00000000000a","id":2,"name":"set","timestamp":1}],"profileID":"p1","pushVersion":1,"schemaVersion":"s1"}"#;
+
+/// Numbers at the ends of their ranges, and past them.
+pub(super) const NUMBERS: &str = r#"A mutate 1 set ["n",-9223372036854775808] => id 1
+A get n => value -9223372036854775808
+A mutate 1 incr ["n",-1] => refused Refused 4
+A mutate 1 set ["n",9223372036854775807] => id 2
+A mutate 1 incr ["n",1] => refused Refused 4
+A mutate 1 set ["n",18446744073709551615] => id 3
+A get n => value 18446744073709551615
+A mutate 1 incr ["n",1] => refused Refused 3
+A mutate 1 incr ["n",9223372036854775808] => refused Refused 1
+A pull {"cookie":1,"lastMutationIDChanges":{},"patch":[{"op":"put","key":"n","value":18446744073709551616}]} => refused NotWhole
+A pull {"cookie":1,"lastMutationIDChanges":{},"patch":[{"op":"put","key":"n","value":-9223372036854775809}]} => refused NotWhole
+A pull {"cookie":1,"lastMutationIDChanges":{"00000000-0000-4000-8000-00000000000a":4503599627370497},"patch":[]} => refused BadShape
+A pull {"cookie":1,"lastMutationIDChanges":{"00000000-0000-4000-8000-00000000000a":4503599627370496},"patch":[{"op":"put","key":"n","value":18446744073709551615}]} => applied
+A refresh => last 4503599627370496
+A mutate 1 set ["k",1] => id 4503599627370497
+A get n => value 18446744073709551615"#;
