@@ -5,3 +5,6 @@ pub mod IdLemmas
 pub mod Readings
 pub mod RecordLaws
 pub mod Worked
+pub mod Pairs
+pub mod Folding
+pub mod Spellings

@@ -16,3 +16,9 @@ pub mod Answers
 pub mod Ran
 pub mod Ids
 pub mod TextMap
+pub mod Refs
+pub mod Rows
+pub mod Folds
+pub mod Spelling
+pub mod Naming
+pub mod Sameness

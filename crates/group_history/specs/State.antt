@@ -4,6 +4,7 @@ use Rattle.std.specs.Prelude.{ℕ, List, [], ◌∷◌, map, filter, fold, max, 
 use Rattle.std.specs.Ordering.{nat_cmp}
 use Rattle.std.specs.Cmp.Lexicographic.{slice_cmp}
 use Rattle.std.specs.FinMap as finite
+use Rattle.std.specs.Coded.{Coded, coded_list, coded_ℕ}
 use Rattle.group_history.specs.declared.mutations.Mutation.{Mutation}
 use Rattle.group_history.specs.Map.{Bytes, Entries, same_text}
 use Rattle.group_history.specs.Meaning.{Meanings, left_by}
@@ -12,6 +13,10 @@ use Rattle.group_history.specs.Cookies.{Cookie, null_cookie}
 -- each client's confirmed id
 abbrev pub Ids : Type 0
 Ids = finite.FinMap (slice_cmp nat_cmp) ℕ
+
+-- ids can be told apart, so a type's value may hold them
+pub ids_coded : Coded Ids
+ids_coded = finite.code (coded_list coded_ℕ) coded_ℕ
 
 pub record State : Type 0 where
   -- the map as the server last sent it

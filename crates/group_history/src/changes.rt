@@ -4,7 +4,7 @@ use crate::mutations::Mutation;
 use crate::responses::{Ended, PullOk};
 
 /// A change of a group: an entry of its record.
-#[derive(Clone, Debug, Drop)]
+#[derive(Clone, Debug, PartialEq, Eq, Drop)]
 pub enum Change {
     /// An accepted mutation. Its reply is its id.
     Mutated(Mutation),

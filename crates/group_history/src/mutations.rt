@@ -4,7 +4,7 @@ use crate::texts::Text;
 
 /// A mutation that a client made and the server has not confirmed. Its fields are those of the Push
 /// Endpoint Reference, version 1.
-#[derive(Clone, Debug, PartialEq, Drop)]
+#[derive(Clone, Debug, PartialEq, Eq, Drop)]
 pub struct Mutation {
     /// The client's ID.
     pub client: Text,

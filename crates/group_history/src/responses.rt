@@ -1,5 +1,7 @@
 //! What a pull's response says, and how its end is answered.
 ghost use Rattle.std.specs.Prelude.{◌≡◌};
+ghost use Rattle.std.specs.Cmp as laws;
+ghost use Rattle.group_history.specs.Sameness.{same_confirmed, same_confirmed-equiv, same_patch, same_patch-equiv, same_pull, same_pull-equiv};
 
 use crate::cookies::Cookie;
 use crate::json::Json;
@@ -9,7 +11,7 @@ use std::fmt;
 use std::marker::Model;
 
 /// One operation on the pulled map (Pull Endpoint Reference, "patch").
-#[derive(Clone, Debug, PartialEq, Drop)]
+#[derive(Clone, Debug, Drop)]
 pub enum Patch {
     /// The key has the value.
     Put(Text, Json),
@@ -19,13 +21,46 @@ pub enum Patch {
     Clear,
 }
 
+impl PartialEq for Patch {
+    ghost eq = { same_patch };
+
+    ghost laws = { laws.partial_equiv_from_equiv same_patch-equiv };
+
+    fn eq(&self, other: &Self) -> bool {
+        match (self, other) {
+            (Patch::Put(key, value), Patch::Put(k, v)) => key == k && value == v,
+            (Patch::Del(key), Patch::Del(k)) => key == k,
+            (Patch::Clear, Patch::Clear) => true,
+            _ => false,
+        }
+    }
+}
+
+impl Eq for Patch {
+    ghost laws = { same_patch-equiv };
+}
+
 /// Up to which id a client's mutations are confirmed (Pull Endpoint Reference, "lastMutationIDChanges").
-#[derive(Clone, Debug, PartialEq, Drop)]
+#[derive(Clone, Debug, Drop)]
 pub struct Confirmed {
     /// The client's ID.
     pub client: Text,
     /// From 0 to 2^52.
     pub id: u64,
+}
+
+impl PartialEq for Confirmed {
+    ghost eq = { same_confirmed };
+
+    ghost laws = { laws.partial_equiv_from_equiv same_confirmed-equiv };
+
+    fn eq(&self, other: &Self) -> bool {
+        self.client == other.client && self.id == other.id
+    }
+}
+
+impl Eq for Confirmed {
+    ghost laws = { same_confirmed-equiv };
 }
 
 /// A response without an error. Each of its ids is from 0 to 2^52.
@@ -95,6 +130,20 @@ impl Clone for PullOk {
     }
 }
 
+impl PartialEq for PullOk {
+    ghost eq = { same_pull };
+
+    ghost laws = { laws.partial_equiv_from_equiv same_pull-equiv };
+
+    fn eq(&self, other: &Self) -> bool {
+        self.cookie == other.cookie && self.changes == other.changes && self.patch == other.patch
+    }
+}
+
+impl Eq for PullOk {
+    ghost laws = { same_pull-equiv };
+}
+
 /// Which version the server doesn't support.
 #[derive(Clone, Copy, Debug, PartialEq, Eq)]
 pub enum VersionKind {
@@ -122,7 +171,7 @@ impl fmt::Display for VersionKind {
 }
 
 /// A response to a pull (Pull Endpoint Reference, version 1).
-#[derive(Clone, Debug, Drop)]
+#[derive(Clone, Debug, PartialEq, Eq, Drop)]
 pub enum Response {
     Ok(PullOk),
     /// The server doesn't know the client group.

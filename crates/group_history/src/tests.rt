@@ -1,13 +1,16 @@
 //! What no contract says: that calls succeed, and values from outside.
-ghost use Rattle.std.specs.Prelude.{codes, if◌then◌else◌};
+ghost use Rattle.std.specs.Prelude.{◌≡◌, ◌∷◌, [], length, IfOk, codes, if◌then◌else◌};
+ghost use Rattle.std.specs.Arc.{arc_value};
 ghost use Rattle.std.specs.FinMap as finite;
 ghost use Rattle.group_history.specs.Map.{same_text};
+ghost use Rattle.group_history.specs.Rows.{AreKeys};
 ghost use Rattle.group_history.specs.Meaning.{unknown, refuses, done};
 
 use super::*;
 use std::alloc::Global;
 use std::cmp::Ordering;
 use std::prelude::*;
+use std::sync::Arc;
 
 /// `note` puts its arguments at `log`, `half` writes and then refuses with 7.
 struct Notes;
@@ -330,5 +333,90 @@ fn replies_of_changes(rt: HostRuntime) -> Result<(), Refusal> {
         timestamp: 1,
     });
     assert!(rt; made.reply() == Reply::Id(3));
+    Ok(())
+}
+
+/// Whether the response equals one with cookie 1 that puts 5 and confirms 2.
+fn equals_the_first(alloc: Global, cookie: &str, value: &str, id: u8) -> Result<bool, Refusal> {
+    let first = response(alloc, "1", "5", 2)?;
+    let other = response(alloc, cookie, value, id)?;
+    Ok(first == other)
+}
+
+#[test]
+fn responses_are_compared_whole(rt: HostRuntime) -> Result<(), Refusal> {
+    for (cookie, value, id, same) in [
+        ("1", "5", 2, true),
+        ("2", "5", 2, false),
+        ("1", "6", 2, false),
+        ("1", "5", 3, false),
+        ("{\"order\":1}", "5", 2, false),
+    ] {
+        assert_eq!(rt;
+            equals_the_first(rt.alloc(), cookie, value, id)?,
+            same,
+            "{cookie} {value} {id}"
+        );
+    }
+    Ok(())
+}
+
+#[test]
+fn references_are_words(rt: HostRuntime) -> Result<(), Refusal> {
+    let last = Ref::new((1 << 44) - 1, (1 << 20) - 1);
+    assert_eq!(rt; last.bits(), u64::MAX);
+    let one = Ref::new(1, 3);
+    assert_eq!(rt; one.bits(), 1048579);
+    assert_eq!(rt; Ref::from_bits(1048579).stamp(), 1);
+    assert_eq!(rt; Ref::from_bits(1048579).slot(), 3);
+    Ok(())
+}
+
+fn one<T: Drop>(alloc: Global, item: T) -> Result<Vec<T>, Refusal>
+    ensures { IfOk result (λ v. v.items ≡ item ∷ []) }
+{
+    let mut items = Vec::new(alloc);
+    items.push(item)?;
+    Ok(items)
+}
+
+fn one_key(alloc: Global) -> Result<Arc<Keys>, Refusal>
+    ensures length { IfOk result (λ keys. length (arc_value keys) ≡ 1) }
+    ensures order { IfOk result (λ keys. AreKeys (arc_value keys)) }
+{
+    let texts = one(alloc, Text::new(alloc, "k")?)?;
+    Ok(Arc::new(alloc, Keys::new(texts))?)
+}
+
+fn one_leaf(alloc: Global) -> Result<Leaf, Refusal> {
+    let values = one(alloc, Json::read(alloc, "5".as_bytes())?)?;
+    Ok(Leaf::new(one_key(alloc)?, values))
+}
+
+fn one_child(alloc: Global) -> Result<Inner<Ref>, Refusal> {
+    let children = one(alloc, Ref::new(7, 1))?;
+    Ok(Inner::new(one_key(alloc)?, children))
+}
+
+#[test]
+fn chunks_show_their_entries(rt: HostRuntime) -> Result<(), Refusal> {
+    let leaf = one_leaf(rt.alloc())?;
+    for key in leaf.keys().as_slice() {
+        assert_eq!(rt; key.as_str(), "k");
+    }
+    for value in leaf.values() {
+        assert_eq!(rt; value.text(), "5");
+    }
+    assert_eq!(rt; leaf.keys().as_slice().len() + leaf.values().len(), 2);
+    Ok(())
+}
+
+#[test]
+fn children_stand_under_keys(rt: HostRuntime) -> Result<(), Refusal> {
+    let inner = one_child(rt.alloc())?;
+    for child in inner.children() {
+        assert_eq!(rt; child.stamp(), 7);
+    }
+    assert_eq!(rt; inner.firsts().as_slice().len() + inner.children().len(), 2);
     Ok(())
 }

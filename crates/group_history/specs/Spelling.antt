@@ -1,0 +1,124 @@
+-- What contents spell together: chunks a map's rows, commits a state and the map that queries read.
+-- Source: Replicache, How It Works, "The Client View"; that maps are kept in chunks is this project's own rule.
+use Rattle.std.specs.Prelude.{ℕ, ◌+◌, nat_le, ◌==◌, Bool, false, List, [], ◌∷◌, ◌++◌, map, length, if◌then◌else◌, Some, None, Option, option_and_then, option_map}
+use Rattle.std.specs.Ordering.{nat_cmp}
+use Rattle.std.specs.Cmp.Lexicographic.{slice_cmp}
+use Rattle.std.specs.FinMap as finite
+use Rattle.group_history.specs.declared.nodes.Chunk.{Chunk}
+use Rattle.group_history.specs.declared.nodes.Chunk.TheVariants.{Leaf, Inner}
+use Rattle.group_history.specs.declared.nodes.Commit.{Commit}
+use Rattle.group_history.specs.declared.nodes.Commit.TheVariants.{Snapshot, Local}
+use Rattle.group_history.specs.declared.nodes.Node.{Node}
+use Rattle.group_history.specs.declared.nodes.Node.TheVariants as node
+use Rattle.group_history.specs.Map.{Bytes, Entries, same_text}
+use Rattle.group_history.specs.Rows.{Rows}
+use Rattle.group_history.specs.State.{State}
+use Rattle.group_history.specs.Mutating.{after_mutate}
+use Rattle.group_history.specs.Folds.{folded, answer}
+
+-- contents by stamp; each names its children by their stamps
+abbrev pub Contents : Type 0
+Contents = List (Node ℕ)
+
+-- what a chunk spells: how deep it is, a leaf being 1 deep, and the rows below it
+pub record Segment : Type 0 where
+  pub depth : ℕ
+  pub rows : Rows
+
+-- what a commit spells: its state, and the map that queries read
+pub record Version : Type 0 where
+  pub state : State
+  pub read : Entries
+
+pub data Spelled : Type 0 where
+  segment : Segment → Spelled
+  version : Version → Spelled
+
+abbrev pub as_segment : Spelled → Option Segment
+as_segment (segment s) = Some s
+as_segment (version v) = None
+
+abbrev pub as_version : Spelled → Option Version
+as_version (segment s) = None
+as_version (version v) = Some v
+
+-- what the chunk, or the commit, of a stamp spells
+abbrev pub segment_in : List (Option Spelled) → ℕ → Option Segment
+segment_in done k = option_and_then as_segment (answer done k)
+
+abbrev pub version_in : List (Option Spelled) → ℕ → Option Version
+version_in done k = option_and_then as_version (answer done k)
+
+-- the rows of a chunk, if it is so deep
+abbrev pub rows_if : ℕ → Segment → Option Rows
+rows_if depth s = if s.depth == depth then Some s.rows else None
+
+abbrev pub rows_in : List (Option Spelled) → ℕ → ℕ → Option Rows
+rows_in done depth k = option_and_then (rows_if depth) (segment_in done k)
+
+-- the rows begin with this key
+abbrev pub begins_with : Bytes → Rows → Bool
+begins_with k [] = false
+begins_with k (r ∷ rs) = same_text r.0 k
+
+-- The rows of children one after another, each under its first key.
+abbrev pub joined_one : Bytes → Option Rows → Option Rows → Option Rows
+joined_one k None more = None
+joined_one k (Some rs) None = None
+joined_one k (Some rs) (Some more) = if begins_with k rs then Some (rs ++ more) else None
+
+abbrev pub joined_rows : List (Bytes × Option Rows) → Option Rows
+joined_rows [] = Some []
+joined_rows (e ∷ es) = joined_one e.0 e.1 (joined_rows es)
+
+-- a chunk with these rows below it, if it has at most 16 entries
+abbrev pub sized : ℕ → ℕ → Rows → Option Segment
+sized entries depth rows = if nat_le entries 16 then Some (record { depth = depth; rows = rows }) else None
+
+-- children of one depth, at least one
+abbrev pub inner_in : List (Option Spelled) → List (Bytes × ℕ) → Option Segment
+inner_in done [] = None
+inner_in done (e ∷ es) = option_and_then (λ s.
+    option_and_then (sized (length (e ∷ es)) (s.depth + 1)) (joined_rows (map (λ x. (x.0, rows_in done s.depth x.1)) (e ∷ es))))
+    (segment_in done e.1)
+
+abbrev pub chunk_in : List (Option Spelled) → Chunk ℕ → Option Segment
+chunk_in done (Leaf rows) = sized (length rows) 1 rows
+chunk_in done (Inner kids) = inner_in done kids
+
+-- the map of a root's rows, whose keys are in strict order
+abbrev pub map_of : Segment → Option Entries
+map_of s = if finite.is_sorted (slice_cmp nat_cmp) s.rows then Some (finite.from_sorted s.rows) else None
+
+abbrev pub map_in : List (Option Spelled) → ℕ → Option Entries
+map_in done root = option_and_then map_of (segment_in done root)
+
+-- a snapshot spells a state with nothing pending, a local commit its basis' state with one mutation more
+abbrev pub commit_in : List (Option Spelled) → Commit ℕ → Option Version
+commit_in done (Snapshot s) = option_and_then (λ m.
+    Some (record { state = record { pulled = m; cookie = s.cookie; confirmed = s.confirmed; pending = [] }; read = m }))
+    (map_in done s.root)
+commit_in done (Local l) = option_and_then (λ v. option_and_then (λ m.
+    Some (record { state = after_mutate v.state l.mutation; read = m }))
+    (map_in done l.root)) (version_in done l.basis)
+
+-- what a content spells, by what those before it spell
+abbrev pub spelled_by : List (Option Spelled) → Node ℕ → Option Spelled
+spelled_by done (node.Chunk c) = option_map segment (chunk_in done c)
+spelled_by done (node.Commit c) = option_map version (commit_in done c)
+
+-- what each stamp spells
+abbrev pub spelled : Contents → List (Option Spelled)
+spelled contents = folded spelled_by [] contents
+
+abbrev pub segment_at : Contents → ℕ → Option Segment
+segment_at contents k = segment_in (spelled contents) k
+
+abbrev pub rows_at : Contents → ℕ → ℕ → Option Rows
+rows_at contents depth k = rows_in (spelled contents) depth k
+
+abbrev pub map_at : Contents → ℕ → Option Entries
+map_at contents root = map_in (spelled contents) root
+
+abbrev pub version_at : Contents → ℕ → Option Version
+version_at contents k = version_in (spelled contents) k

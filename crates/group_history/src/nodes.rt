@@ -1,0 +1,195 @@
+//! The nodes that a group is made of: chunks of a map, and commits.
+//!
+//! A node names its children by an `R`: by their `Ref`s where it lies in a slot, by places while it is
+//! drafted. What nodes spell together is in `specs/Spelling.antt`.
+ghost use Rattle.std.specs.Prelude.{◌≡◌, ◌≤◌, length};
+ghost use Rattle.std.specs.Arc.{arc_value};
+
+use crate::cookies::Cookie;
+use crate::json::Json;
+use crate::mutations::Mutation;
+use crate::refs::Ref;
+use crate::text_map::TextMap;
+use crate::texts::Text;
+use std::marker::Model;
+use std::sync::Arc;
+
+/// The keys of a chunk: at most 16, in strict order of their bytes.
+#[derive(Drop)]
+pub struct Keys {
+    texts: Vec<Text>,
+}
+
+impl Model for Keys {
+    ghost use Rattle.std.specs.Prelude.{List};
+    ghost use Rattle.group_history.specs.Map.{Bytes};
+    ghost use Rattle.group_history.specs.Rows.{AreKeys};
+
+    ghost Value = { List Bytes };
+
+    ghost view = { λ k. k.texts.items };
+
+    ghost invariant = { λ k. AreKeys k.texts.items };
+}
+
+impl Keys {
+    ghost use Rattle.group_history.specs.Rows.{AreKeys};
+
+    pub fn new(texts: Vec<Text>) -> Keys
+        requires { AreKeys texts.items }
+        ensures { result ≡ texts.items }
+    {
+        Keys { texts }
+    }
+
+    pub fn as_slice(&self) -> &[Text]
+        ensures keys { result.now ≡ self.now }
+        ensures order { AreKeys result.now }
+    {
+        &self.texts
+    }
+}
+
+/// A leaf of a map: at most 16 keys, and a value for each. Its keys may be shared with other leaves.
+#[derive(Drop)]
+pub struct Leaf {
+    keys: Arc<Keys>,
+    values: Vec<Json>,
+}
+
+impl Model for Leaf {
+    ghost use Rattle.std.specs.Prelude.{◌≡◌, length};
+    ghost use Rattle.std.specs.Arc.{arc_value};
+    ghost use Rattle.group_history.specs.Rows.{Rows, AreKeys, paired};
+
+    ghost Value = { Rows };
+
+    ghost view = { λ l. paired (arc_value l.keys) l.values.items };
+
+    ghost invariant = { λ l. AreKeys (arc_value l.keys) × (length l.values.items ≡ length (arc_value l.keys)) };
+}
+
+impl Leaf {
+    ghost use Rattle.group_history.specs.Rows.{AreKeys, paired, keys_of, values_of};
+
+    /// As many values as keys.
+    pub fn new(keys: Arc<Keys>, values: Vec<Json>) -> Leaf
+        requires keys { AreKeys (arc_value keys) }
+        requires values { length values.items ≡ length (arc_value keys) }
+        ensures { result ≡ paired (arc_value keys) values.items }
+    {
+        Leaf { keys, values }
+    }
+
+    pub fn keys(&self) -> &Arc<Keys>
+        ensures keys { arc_value result.now ≡ keys_of self.now }
+        ensures order { AreKeys (arc_value result.now) }
+    {
+        &self.keys
+    }
+
+    pub fn values(&self) -> &[Json]
+        ensures { result.now ≡ values_of self.now }
+    {
+        &self.values
+    }
+}
+
+/// An inner chunk of a map: 1 to 16 children, each under its first key. The keys may be shared with
+/// other chunks.
+#[derive(Drop)]
+pub struct Inner<R> {
+    firsts: Arc<Keys>,
+    children: Vec<R>,
+}
+
+impl<R> Model for Inner<R> {
+    ghost use Rattle.std.specs.Prelude.{◌≡◌, ℕ, List, length};
+    ghost use Rattle.std.specs.Coded.{coded_ℕ, coded_list, coded×};
+    ghost use Rattle.std.specs.Arc.{arc_value};
+    ghost use Rattle.group_history.specs.Map.{Bytes};
+    ghost use Rattle.group_history.specs.Rows.{AreKeys, paired};
+
+    ghost Value = { List (Bytes × R) };
+
+    ghost coded = { coded_list (coded× (coded_list coded_ℕ) R.code) };
+
+    ghost view = { λ i. paired (arc_value i.firsts) i.children.items };
+
+    ghost invariant = { λ i. AreKeys (arc_value i.firsts) × (length i.children.items ≡ length (arc_value i.firsts)) };
+}
+
+impl<R> Inner<R> {
+    ghost use Rattle.group_history.specs.Rows.{AreKeys, paired, keys_of, values_of};
+
+    /// As many children as first keys.
+    pub fn new(firsts: Arc<Keys>, children: Vec<R>) -> Inner<R>
+        requires firsts { AreKeys (arc_value firsts) }
+        requires children { length children.items ≡ length (arc_value firsts) }
+        ensures { result ≡ paired (arc_value firsts) children.items }
+    {
+        Inner { firsts, children }
+    }
+
+    pub fn firsts(&self) -> &Arc<Keys>
+        ensures keys { arc_value result.now ≡ keys_of self.now }
+        ensures order { AreKeys (arc_value result.now) }
+    {
+        &self.firsts
+    }
+
+    pub fn children(&self) -> &[R]
+        ensures { result.now ≡ values_of self.now }
+    {
+        &self.children
+    }
+}
+
+/// A chunk of a map.
+#[derive(Drop)]
+pub enum Chunk<R> {
+    Leaf(Leaf),
+    Inner(Inner<R>),
+}
+
+/// A commit without a basis: what the server last sent.
+#[derive(Drop)]
+pub struct Snapshot<R> {
+    pub cookie: Cookie,
+    /// Each client's confirmed id.
+    pub confirmed: TextMap<u64>,
+    /// The pulled map's root.
+    pub root: R,
+}
+
+/// A commit that adds one mutation to its basis.
+#[derive(Drop)]
+pub struct Local<R> {
+    /// The commit before it.
+    pub basis: R,
+    pub mutation: Mutation,
+    /// The root of the map after the mutation.
+    pub root: R,
+}
+
+#[derive(Drop)]
+pub enum Commit<R> {
+    Snapshot(Snapshot<R>),
+    Local(Local<R>),
+}
+
+/// What lies in a slot, or is drafted to lie there.
+#[derive(Drop)]
+pub enum Node<R> {
+    Chunk(Chunk<R>),
+    Commit(Commit<R>),
+}
+
+/// How a drafted node names a child.
+#[derive(Clone, Copy, Debug, PartialEq, Eq)]
+pub enum Child {
+    /// A node that was placed before.
+    Placed(Ref),
+    /// The node at this place of the same draft, counted from 0. It stands before its parent.
+    Drafted(u64),
+}
