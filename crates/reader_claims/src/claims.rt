@@ -63,7 +63,8 @@ pub struct Raised;
 #[derive(Drop)]
 pub struct ClaimSeat {
     reader: Reader,
-    // Where it last found a slot, and the least slot that it retired since.
+    // Where it last found a slot, at first a place of its own, and the least slot that it retired
+    // since.
     last: u32,
     retired: Option<u32>,
 }
@@ -126,6 +127,7 @@ impl Claims {
         let words = Vec::from_elem(alloc, 0u64, FIRST_SLOT + slots as usize)?;
         let sizes = Sizes { readers, slots };
         let (table, mut dealer) = Table::of_words(alloc, words.as_slice(), &sizes)?;
+        let apart = (slots - slots / 4) / readers;
         let mut seats = Vec::with_capacity(alloc, readers as usize)?;
         for dealt in 0..readers {
             let seat = table.shared.split_seat::<Deal>(&mut dealer);
@@ -134,7 +136,7 @@ impl Claims {
                     seat,
                     number: dealt + 1,
                 },
-                last: 0,
+                last: dealt.saturating_mul(apart),
                 retired: None,
             })?;
         }

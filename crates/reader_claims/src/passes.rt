@@ -12,6 +12,12 @@ use crate::slot::Kind;
 use crate::steps::{Reader, Words};
 use crate::words::{FREE, Pin, SlotState};
 
+// How many slots are looked at beside where the last one was found, and at how many spread places,
+// before all are.
+const NEAR: u32 = 8;
+
+const PROBES: u32 = 16;
+
 // What plain loads of slots led to.
 #[derive(Clone, Copy)]
 pub(crate) enum Look {
@@ -215,8 +221,45 @@ impl Words {
         Look::Nothing
     }
 
+    // The same at places that are spread over the slots.
+    fn probe(&self, reader: &mut Reader, end: u32) -> Look
+        requires { (reader_id reader.old ≡ words_id self.now) × (end ≤ self.now.sizes.slots) }
+        ensures table { reader_id reader.new ≡ reader_id reader.old }
+        ensures moves { Moves (view reader.old) (view reader.new) }
+        ensures later { Later (view reader.old) (view reader.new) }
+        ensures taken { IfTook result end (view reader.old) (view reader.new) }
+    {
+        let step = end / PROBES + 1;
+        for place in 0..PROBES {
+            let slot = place * step;
+            if slot >= end {
+                return Look::Nothing;
+            }
+            let look = self.quick_at(reader, slot);
+            let Look::Nothing = look else {
+                return look;
+            };
+        }
+        Look::Nothing
+    }
+
+    // The same at a few slots from `start` on, and then at spread places.
+    fn quick_few(&self, reader: &mut Reader, start: u32, end: u32) -> Look
+        requires { (reader_id reader.old ≡ words_id self.now) × (start ≤ end) × (end ≤ self.now.sizes.slots) }
+        ensures table { reader_id reader.new ≡ reader_id reader.old }
+        ensures moves { Moves (view reader.old) (view reader.new) }
+        ensures later { Later (view reader.old) (view reader.new) }
+        ensures taken { IfTook result end (view reader.old) (view reader.new) }
+    {
+        let look = self.quick(reader, start, start.saturating_add(NEAR).min(end));
+        let Look::Nothing = look else {
+            return look;
+        };
+        self.probe(reader, end)
+    }
+
     // The same from `start` to the end, and then from 0.
-    fn quick_round(&self, reader: &mut Reader, start: u32, end: u32) -> Look
+    fn quick_whole(&self, reader: &mut Reader, start: u32, end: u32) -> Look
         requires { (reader_id reader.old ≡ words_id self.now) × (start ≤ end) × (end ≤ self.now.sizes.slots) }
         ensures table { reader_id reader.new ≡ reader_id reader.old }
         ensures moves { Moves (view reader.old) (view reader.new) }
@@ -230,7 +273,23 @@ impl Words {
         self.quick(reader, 0, start)
     }
 
-    // Takes a slot: a free one near `start`, or what a pass finds.
+    // The same at a few places first, and then at all.
+    fn quick_round(&self, reader: &mut Reader, start: u32, end: u32) -> Look
+        requires { (reader_id reader.old ≡ words_id self.now) × (start ≤ end) × (end ≤ self.now.sizes.slots) }
+        ensures table { reader_id reader.new ≡ reader_id reader.old }
+        ensures moves { Moves (view reader.old) (view reader.new) }
+        ensures later { Later (view reader.old) (view reader.new) }
+        ensures taken { IfTook result end (view reader.old) (view reader.new) }
+    {
+        let look = self.quick_few(reader, start, end);
+        let Look::Nothing = look else {
+            return look;
+        };
+        self.quick_whole(reader, start, end)
+    }
+
+    // Takes a slot: a free one near `start`, or what a pass finds. Where the last slot was a reserved
+    // one no ordinary one was free, and a reserved one is had by a pass alone.
     pub(crate) fn find(&self, reader: &mut Reader, start: u32, kind: Kind) -> Option<u32>
         requires { reader_id reader.old ≡ words_id self.now }
         ensures table { reader_id reader.new ≡ reader_id reader.old }
@@ -245,6 +304,9 @@ impl Words {
             → FindsNone (view reader.old) (view reader.new) (first_reserved self.now.sizes)) }
     {
         let ordinary = self.ordinary();
+        if start >= ordinary && matches!(kind, Kind::PullEnd) {
+            return self.pass(reader, 0, kind);
+        }
         let start = if start < ordinary { start } else { 0 };
         match self.quick_round(reader, start, ordinary) {
             Look::Took(slot) => Some(slot),

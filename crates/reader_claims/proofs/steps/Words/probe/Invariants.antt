@@ -1,0 +1,13 @@
+use Rattle.std.proofs.Common.{◌≡◌}
+use Rattle.reader_claims.specs.Machine.{Moves}
+use Rattle.reader_claims.specs.Known.{reader_id, view}
+use Rattle.reader_claims.specs.Passes.{Later}
+use Rattle.reader_claims.proofs.steps.Words.probe.Given as goal
+
+abbrev pub invariant-loop-place : goal.invariant-loop-place
+invariant-loop-place l = record {
+  table : reader_id l.reader ≡ reader_id l.initial.reader;
+  moves : Moves (view l.initial.reader) (view l.reader);
+  taken : (view l.reader).taken ≡ (view l.initial.reader).taken;
+  later : Later (view l.initial.reader) (view l.reader);
+}
