@@ -22,3 +22,4 @@ pub mod Folds
 pub mod Spelling
 pub mod Naming
 pub mod Sameness
+pub mod Stops

@@ -5,10 +5,12 @@ ghost use Rattle.group_history.specs.Map.{Entries};
 ghost use Rattle.group_history.specs.Meaning.{Meanings};
 ghost use Rattle.group_history.specs.Ran.{RunsAs};
 ghost use Rattle.group_history.specs.Scans.{rows_of};
+ghost use Rattle.group_history.specs.Stops.{told_as};
 ghost use Rattle.group_history.specs.declared.mutators.Stop.{Stop};
 ghost use Rattle.group_history.specs.declared.mutators.Stop.TheVariants.{NoMemory};
 
 use crate::json::Json;
+use crate::refusals::Refusal;
 use crate::scans::Scan;
 use crate::texts::Text;
 use std::alloc::{AllocError, Global};
@@ -26,6 +28,18 @@ impl From<AllocError> for Stop {
 
     fn from(_e: AllocError) -> Stop {
         Stop::NoMemory
+    }
+}
+
+impl From<Stop> for Refusal {
+    ghost from_gives = { λ stop refused. refused ≡ told_as stop };
+
+    fn from(stop: Stop) -> Refusal {
+        match stop {
+            Stop::NoMemory => Refusal::NoMemory,
+            Stop::Busy => Refusal::Busy,
+            Stop::Gone => Refusal::Gone,
+        }
     }
 }
 

@@ -1,0 +1,357 @@
+-- Each step on a word keeps the rule.
+use Rattle.std.proofs.Common.{◌≡◌, ◌≢◌, ℕ, zero, suc, ◌+◌, ◌^◌, ◌≤◌, ◌<◌, ◌==◌, Bool, true, false, List, [], ◌∷◌, ◌++◌, length, slice_index_or, Some, None, Option, refl, ap, sym, ◌∙◌, subst, arith, lit≤, inl, inr, length-append}
+use Rattle.std.specs.Prelude.{option_and_then}
+use Rattle.std.specs.FinMap as finite
+use Rattle.std.specs.Ordering.{nat_cmp}
+use Rattle.std.specs.Cmp.Lexicographic.{slice_cmp}
+use Rattle.std.proofs.lemmas.List.{append-nil}
+use Rattle.std.proofs.lemmas.Bool.{eqb-true, eq-eqb}
+use Rattle.std.proofs.lemmas.Bool.Decides.{eqb_tells}
+use mathlib.Core.List.{IsPrefix}
+use prog.Atomic.{either}
+use Rattle.logbook.specs.Pages.{Cell, cell, keeps, no_nib, step, Moves, Goes}
+use Rattle.group_history.specs.declared.refs.Ref.{Ref}
+use Rattle.group_history.specs.declared.changes.Change.{Change}
+use Rattle.group_history.specs.declared.nodes.Node.{Node}
+use Rattle.group_history.specs.declared.nodes.Child.{Child}
+use Rattle.group_history.specs.declared.nodes.Child.TheVariants.{Placed, Drafted}
+use Rattle.group_history.specs.Cookies.{null_cookie}
+use Rattle.group_history.specs.Folds.{answer as answer_at}
+use Rattle.group_history.specs.Map.{Bytes, Entries}
+use Rattle.group_history.specs.Meaning.{Meanings}
+use Rattle.group_history.specs.Record.{IsAccepted, IsLegal, after, after_change}
+use Rattle.group_history.specs.Refs.{stamp_of}
+use Rattle.group_history.specs.Spelling.{Contents, Segment, Version, Spelled, segment, version, as_segment, as_version, spelled, segment_at}
+use Rattle.group_history.specs.State.{State}
+use Rattle.group_history.proofs.Records.{after-push, IsLegal-push}
+use Rattle.group_history.proofs.Spellings.{segment-stays}
+use Rattle.head_word.specs.declared.entry.Answer.{Answer}
+use Rattle.head_word.specs.declared.entry.Entry.{Entry}
+use Rattle.head_word.specs.declared.entry.Entry.TheVariants as v
+use Rattle.head_word.specs.Books.{drafted_contents, drawn, next_stamp, last_move, nowhere, record_of, AreOrdered, version_of, Spells, IsBook, drafted, moved, opening, StartsOpened, IsOpened, IsBefore, AreAfter, Follows}
+use Rattle.head_word.specs.Tallies.{key_of, count, Trades}
+use Rattle.head_word.specs.Rules.{Fits, IsKept, answer, AddsDraft, AddsMove, LooksAtHead, CountsAtHead, CountsAtDrafts, Opens}
+use Rattle.head_word.proofs.Books.{drawn_more, moved_more, record_more, length-drafted, numbered_more, ordered_more, drafted_ordered, spells_more, starts_more, next_more}
+use Rattle.head_word.proofs.Counting.{count_more, count_other, count_starts}
+
+pub book_draft : (means : Meanings) (log : List Entry) (by : Option ℕ) (contents : List (Node Child)) → IsBook means log → AreAfter (next_stamp log) 0 contents → next_stamp log + length contents ≤ 2 ^ 44
+    → IsBook means (log ++ drafted by (next_stamp log) contents ∷ [])
+book_draft means log by contents b before room =
+    let first = next_stamp log in
+    let e = drafted by first contents in
+    let dc = drafted_contents first contents in
+    let n : (first == 0 + length (drawn log)) ≡ true = eq-eqb first (0 + length (drawn log)) (omega arith) in
+    let rec : record_of log ≡ record_of (log ++ e ∷ []) = sym (record_more log (e ∷ []) ∙ append-nil (record_of log)) in
+    let last : last_move log ≡ last_move (log ++ e ∷ []) = sym (moved_more nowhere log (e ∷ [])) in
+    let more : AreOrdered (0 + length (drawn log)) (dc ++ []) = subst (AreOrdered (0 + length (drawn log))) (sym (append-nil dc)) (subst (λ k. AreOrdered k dc) (let k : first + 0 ≡ 0 + length (drawn log) = omega arith in k) (drafted_ordered first first 0 contents (omega arith) before)) in
+    record {
+      numbered = numbered_more 0 log (e ∷ []) ∙ rw (b.numbered, n) refl;
+      room = omega (arith, room, next_more log (e ∷ []), length-append dc [], length-drafted first contents);
+      ordered = subst (AreOrdered 0) (sym (drawn_more log (e ∷ []))) (ordered_more 0 (drawn log) (dc ++ []) b.ordered more);
+      legal = subst (IsLegal means) rec b.legal;
+      spelled = subst (λ (t : Ref × List Change). Spells means (drawn (log ++ e ∷ [])) (stamp_of t.0) (after t.1)) (λ i. (last i, rec i)) (spells_more means log (e ∷ []) (stamp_of (last_move log)) (after (record_of log)) b.spelled);
+    }
+
+pub book_move : (means : Meanings) (log : List Entry) (by : Option ℕ) (to : Ref) (change : Change) → IsBook means log → IsAccepted means (after (record_of log)) change
+    → Spells means (drawn log) (stamp_of to) (after_change (after (record_of log)) change) → IsBook means (log ++ moved by to (Some change) ∷ [])
+book_move means log by to change b may spells =
+    let e = moved by to (Some change) in
+    let rec : record_of log ++ change ∷ [] ≡ record_of (log ++ e ∷ []) = sym (record_more log (e ∷ [])) in
+    let state : after_change (after (record_of log)) change ≡ after (record_of (log ++ e ∷ [])) = sym (after-push (record_of log) change) ∙ ap after rec in
+    let last : to ≡ last_move (log ++ e ∷ []) = sym (moved_more nowhere log (e ∷ [])) in
+    record {
+      numbered = numbered_more 0 log (e ∷ []) ∙ rw b.numbered refl;
+      room = omega (arith, b.room, next_more log (e ∷ []));
+      ordered = subst (AreOrdered 0) (sym (drawn_more log (e ∷ []) ∙ append-nil (drawn log))) b.ordered;
+      legal = subst (IsLegal means) rec (IsLegal-push means (record_of log) change b.legal may);
+      spelled = subst (λ (t : Ref × State). Spells means (drawn (log ++ e ∷ [])) (stamp_of t.0) t.1) (λ i. (last i, state i)) (spells_more means log (e ∷ []) (stamp_of to) (after_change (after (record_of log)) change) spells);
+    }
+
+-- a book that begins with an opened one is opened
+pub starts_from : (v log : List Entry) → IsPrefix v log → StartsOpened v → StartsOpened log
+starts_from v log pre h = subst StartsOpened pre.1 (starts_more v pre.0 h)
+
+pub spells_from : (means : Meanings) (v log : List Entry) (stamp : ℕ) (s : State) → IsPrefix v log → Spells means (drawn v) stamp s → Spells means (drawn log) stamp s
+spells_from means v log stamp s pre h = subst (λ (w : List Entry). Spells means (drawn w) stamp s) pre.1 (spells_more means v pre.0 stamp s h)
+
+-- the states that one stamp spells are one
+pub spells_once : (means : Meanings) (contents : Contents) (stamp : ℕ) (s t : State) → Spells means contents stamp s → Spells means contents stamp t → s ≡ t
+spells_once means contents stamp s t p q =
+    let e : Some (version_of means s) ≡ Some (version_of means t) = sym p ∙ q in
+    let f : version_of means s ≡ version_of means t = cc e in ap (λ (w : Version). w.state) f
+
+not_both : (o : Option Spelled) (s : Segment) (w : Version) → option_and_then as_segment o ≡ Some s → option_and_then as_version o ≡ Some w → ⊥
+not_both None s w p q = absurd cc
+not_both (Some (segment t)) s w p q = absurd cc
+not_both (Some (version t)) s w p q = absurd cc
+
+-- a book that is opened begins with what it opened with
+pub starts_with : (log : List Entry) → StartsOpened log → (r : Ref) × IsPrefix (opening r) log
+starts_with [] h = absurd cc
+starts_with (x ∷ []) h = absurd cc
+starts_with (x ∷ v.Draft d ∷ xs) h = absurd cc
+starts_with (x ∷ v.Move m ∷ xs) h = (m.to, (xs, sym (ap (λ w. w ++ xs) h)))
+
+-- stamp 0 is a leaf and no commit
+no_commit : (means : Meanings) (log : List Entry) (s : State) → StartsOpened log → Spells means (drawn log) 0 s → ⊥
+no_commit means log s starts h =
+    let begun = starts_with log starts in
+    let leaf : Segment = record { depth = 1; rows = [] } in
+    let all : drawn (opening begun.0) ++ drawn begun.1.0 ≡ drawn log = sym (drawn_more (opening begun.0) begun.1.0) ∙ ap drawn begun.1.1 in
+    let here : segment_at (drawn log) 0 ≡ Some leaf = subst (λ cs. segment_at cs 0 ≡ Some leaf) all (segment-stays (drawn (opening begun.0)) (drawn begun.1.0) 0 leaf refl) in
+    not_both (answer_at (spelled (drawn log)) 0) leaf (version_of means s) here h
+
+-- so the head word of an opened book isn't 0
+pub head_some : (means : Meanings) (log : List Entry) (h : ℕ) → IsOpened means log → h ≡ (last_move log).bits → (h == 0) ≡ false
+head_some means log h opened is = elim (eqb_tells h 0) [
+  | inl zero_is ↦ absurd (no_commit means log (after (record_of log)) opened.1 (subst (λ (n : ℕ). Spells means (drawn log) (stamp_of (record { bits = n })) (after (record_of log))) (sym is ∙ zero_is.1) opened.0.spelled))
+  | inr not ↦ not.0
+]
+
+abbrev pub shown : List Entry → List Entry
+shown log = log
+
+-- what was opened stays so, and its words are what they say
+pub fits_opened : (means : Meanings) (v log : List Entry) (h d : ℕ) → IsPrefix v log → StartsOpened v → Fits means h d log → IsOpened means log × (h ≡ (last_move log).bits) × (d ≡ next_stamp log)
+fits_opened means v log h d pre starts (inl is) = is
+fits_opened means v log h d pre starts (inr un) = let s : StartsOpened [] = subst StartsOpened un.0 (starts_from v log pre starts) in absurd (cc s)
+
+trades_same : (ask : Entry) (log : List Entry) → Trades ask log (log ++ []) (answer (count (key_of ask) (log ++ [])) (count (key_of ask) (log ++ [])))
+trades_same ask log = record { before = ap (count (key_of ask)) (append-nil log); after = refl; others = λ k no. ap (count k) (append-nil log) }
+
+trades_more : (ask : Entry) (log : List Entry) → Trades ask log (log ++ ask ∷ []) (answer (count (key_of ask) log) (count (key_of ask) (log ++ ask ∷ [])))
+trades_more ask log = record { before = refl; after = refl; others = λ k other. omega (arith, count_more k log (ask ∷ []), count_other k ask other) }
+
+-- a look adds nothing
+same_words : (means : Meanings) (log : List Entry) (h d : ℕ) → IsOpened means log × (h ≡ (last_move log).bits) × (d ≡ next_stamp log) → IsKept means ((h, true) ∷ (d, true) ∷ []) (log ++ [])
+same_words means log h d fits = subst (λ (w : List Entry). IsKept means ((h, true) ∷ (d, true) ∷ []) w) (sym (append-nil log)) (record { head = h; drafts = d; words = refl; fits = inl fits })
+
+same_opened : (means : Meanings) (log : List Entry) → IsOpened means log → IsOpened means (log ++ [])
+same_opened means log o = subst (IsOpened means) (sym (append-nil log)) o
+
+-- a look at the head word by no seat
+pub head_looked : (means : Meanings) (v : List Entry) (ask : Entry) → StartsOpened v → Moves (IsKept means) shown (Trades ask) 0 (v, (no_nib, Some (answer 0 0))) (λ n. n) (LooksAtHead means (step 0 0 0 ask) (v, (no_nib, Some (answer 0 0))))
+head_looked means v ask starts cs log kept pre away =
+    let fits = fits_opened means v log kept.head kept.drafts pre starts kept.fits in
+    let P : List Cell → Type 0 = λ c. (0 < length c) × ((cell c 0).1 ≡ true) × Goes (IsKept means) shown (Trades ask) 0 (v, (no_nib, Some (answer 0 0))) (λ n. n) (LooksAtHead means (step 0 0 0 ask) (v, (no_nib, Some (answer 0 0)))) c log in
+    subst P (sym kept.words) (
+      omega arith,
+      refl,
+      (
+        keeps,
+        [],
+        Some (answer 0 0),
+        tt,
+        same_words means log kept.head kept.drafts fits,
+        inl (refl, append-nil log),
+        (same_opened means log fits.0, ap (λ (w : List Entry). (last_move w).bits) (append-nil log) ∙ sym fits.1),
+      ),
+    )
+
+-- a seat's look, at either word
+pub head_counted : (means : Meanings) (v : List Entry) (ask : Entry) → StartsOpened v → Moves (IsKept means) shown (Trades ask) 0 (v, (no_nib, None)) (λ n. n) (CountsAtHead means (step 0 0 0 ask) (v, (no_nib, None)))
+head_counted means v ask starts cs log kept pre away =
+    let fits = fits_opened means v log kept.head kept.drafts pre starts kept.fits in
+    let P : List Cell → Type 0 = λ c. (0 < length c) × ((cell c 0).1 ≡ true) × Goes (IsKept means) shown (Trades ask) 0 (v, (no_nib, None)) (λ n. n) (CountsAtHead means (step 0 0 0 ask) (v, (no_nib, None))) c log in
+    let n : Answer = answer (count (key_of ask) (log ++ [])) (count (key_of ask) (log ++ [])) in
+    subst P (sym kept.words) (
+      omega arith,
+      refl,
+      (
+        keeps,
+        [],
+        Some n,
+        tt,
+        same_words means log kept.head kept.drafts fits,
+        inr (n, refl, refl, trades_same ask log),
+        (same_opened means log fits.0, ap (λ (w : List Entry). (last_move w).bits) (append-nil log) ∙ sym fits.1, refl),
+      ),
+    )
+
+pub drafts_counted : (means : Meanings) (v : List Entry) (ask : Entry) → StartsOpened v → Moves (IsKept means) shown (Trades ask) 1 (v, (no_nib, None)) (λ n. n) (CountsAtDrafts means (step 1 0 0 ask) (v, (no_nib, None)))
+drafts_counted means v ask starts cs log kept pre away =
+    let fits = fits_opened means v log kept.head kept.drafts pre starts kept.fits in
+    let P : List Cell → Type 0 = λ c. (1 < length c) × ((cell c 1).1 ≡ true) × Goes (IsKept means) shown (Trades ask) 1 (v, (no_nib, None)) (λ n. n) (CountsAtDrafts means (step 1 0 0 ask) (v, (no_nib, None))) c log in
+    let n : Answer = answer (count (key_of ask) (log ++ [])) (count (key_of ask) (log ++ [])) in
+    subst P (sym kept.words) (
+      omega arith,
+      refl,
+      (
+        keeps,
+        [],
+        Some n,
+        tt,
+        same_words means log kept.head kept.drafts fits,
+        inr (n, refl, refl, trades_same ask log),
+        (same_opened means log fits.0, ap next_stamp (append-nil log) ∙ sym fits.2, refl),
+      ),
+    )
+
+before_more : (n m place : ℕ) (c : Child) → n ≤ m → IsBefore n place c → IsBefore m place c
+before_more n m place (Placed at) le h = omega (arith, le, h)
+before_more n m place (Drafted earlier) le h = h
+
+after_more : (n m place : ℕ) (cs : List (Node Child)) → n ≤ m → AreAfter n place cs → AreAfter m place cs
+after_more n m place [] le h = tt
+after_more n m place (c ∷ cs) le h = ((λ k d lt. before_more n m place _ le (h.0 k d lt)), after_more n m (suc place) cs le h.1)
+
+-- what stood after a book stands after every longer one
+pub after_from : (v log : List Entry) (contents : List (Node Child)) → IsPrefix v log → AreAfter (next_stamp v) 0 contents → AreAfter (next_stamp log) 0 contents
+after_from v log contents pre h = after_more (next_stamp v) (next_stamp log) 0 contents (omega (arith, sym (ap next_stamp pre.1) ∙ next_more v pre.0)) h
+
+draft_goes : (means : Meanings) (v log : List Entry) (by : Option ℕ) (contents : List (Node Child)) (old h d : ℕ) → IsPrefix v log → AreAfter (next_stamp v) 0 contents → IsOpened means log × (h ≡ (last_move log).bits) × (d ≡ next_stamp log)
+    → old + length contents ≤ 2 ^ 44 → (b : Bool) → (d == old) ≡ b
+    → Goes (IsKept means) shown (Trades (drafted by old contents)) 1 (v, (no_nib, None)) (λ n. either (n == old) (old + length contents) n) (AddsDraft means (step 1 old (old + length contents) (drafted by old contents)) (v, (no_nib, None))) ((h, true) ∷ (d, true) ∷ []) log
+draft_goes means v log by contents old h d pre before fits room true is =
+    let at : next_stamp log ≡ old = sym fits.2 ∙ eqb-true d old is in
+    let e = drafted by old contents in
+    let n : Answer = answer (count (key_of e) log) (count (key_of e) (log ++ e ∷ [])) in
+    let room' : next_stamp log + length contents ≤ 2 ^ 44 = omega (arith, at, room) in
+    let book' : IsBook means (log ++ e ∷ []) = subst (λ (k : ℕ). IsBook means (log ++ drafted by k contents ∷ [])) at (book_draft means log by contents fits.0.0 (after_from v log contents pre before) room') in
+    let starts' : StartsOpened (log ++ e ∷ []) = starts_more log (e ∷ []) fits.0.1 in
+    let last : h ≡ (last_move (log ++ e ∷ [])).bits = fits.1 ∙ sym (ap (λ (r : Ref). r.bits) (moved_more nowhere log (e ∷ []))) in
+    let next : old + length contents ≡ next_stamp (log ++ e ∷ []) = omega (arith, at, next_more log (e ∷ []), length-append (drafted_contents old contents) [], length-drafted old contents) in
+    let d' : either (d == old) (old + length contents) d ≡ old + length contents = rw is refl in (
+      keeps,
+      e ∷ [],
+      Some n,
+      tt,
+      record { head = h; drafts = old + length contents; words = ap (λ (k : ℕ). (h, true) ∷ (k, true) ∷ []) d'; fits = inl ((book', starts'), last, next) },
+      inr (n, refl, refl, trades_more e log),
+      ((book', starts'), rw is (log, pre, at, refl, refl)),
+    )
+draft_goes means v log by contents old h d pre before fits room false is =
+    let e = drafted by old contents in
+    let n : Answer = answer (count (key_of e) (log ++ [])) (count (key_of e) (log ++ [])) in
+    let d' : either (d == old) (old + length contents) d ≡ d = rw is refl in (
+      keeps,
+      [],
+      Some n,
+      tt,
+      subst (λ (k : ℕ). IsKept means ((h, true) ∷ (k, true) ∷ []) (log ++ [])) (sym d') (same_words means log h d fits),
+      inr (n, refl, refl, trades_same e log),
+      (same_opened means log fits.0, rw is (ap next_stamp (append-nil log) ∙ sym fits.2, refl)),
+    )
+
+-- whatever the book is, the exchange adds the draft, or finds that other stamps were drawn
+pub draft_moves : (means : Meanings) (v : List Entry) (by : Option ℕ) (contents : List (Node Child)) (old : ℕ) → StartsOpened v → AreAfter (next_stamp v) 0 contents → old + length contents ≤ 2 ^ 44
+    → Moves (IsKept means) shown (Trades (drafted by old contents)) 1 (v, (no_nib, None)) (λ n. either (n == old) (old + length contents) n) (AddsDraft means (step 1 old (old + length contents) (drafted by old contents)) (v, (no_nib, None)))
+draft_moves means v by contents old starts before room cs log kept pre away =
+    let fits = fits_opened means v log kept.head kept.drafts pre starts kept.fits in
+    let P : List Cell → Type 0 = λ c. (1 < length c) × ((cell c 1).1 ≡ true) × Goes (IsKept means) shown (Trades (drafted by old contents)) 1 (v, (no_nib, None)) (λ n. either (n == old) (old + length contents) n) (AddsDraft means (step 1 old (old + length contents) (drafted by old contents)) (v, (no_nib, None))) c log in
+    subst P (sym kept.words) (omega arith, refl, draft_goes means v log by contents old kept.head kept.drafts pre before fits room (kept.drafts == old) refl)
+
+move_goes : (means : Meanings) (v log : List Entry) (by : Option ℕ) (base to : Ref) (change : Change) (h d : ℕ) → IsPrefix v log → Follows means (drawn v) base to change → IsOpened means log × (h ≡ (last_move log).bits) × (d ≡ next_stamp log)
+    → (b : Bool) → (h == base.bits) ≡ b
+    → Goes (IsKept means) shown (Trades (moved by to (Some change))) 0 (v, (no_nib, None)) (λ n. either (n == base.bits) to.bits n) (AddsMove means (step 0 base.bits to.bits (moved by to (Some change))) (v, (no_nib, None))) ((h, true) ∷ (d, true) ∷ []) log
+move_goes means v log by base to change h d pre follows fits true is =
+    let at : h ≡ base.bits = eqb-true h base.bits is in
+    let last : (last_move log).bits ≡ base.bits = sym fits.1 ∙ at in
+    let e = moved by to (Some change) in
+    let n : Answer = answer (count (key_of e) log) (count (key_of e) (log ++ e ∷ [])) in
+    let state : State = after (record_of log) in
+    let here : Spells means (drawn log) (stamp_of base) follows.state = spells_from means v log (stamp_of base) follows.state pre follows.before in
+    let now : Spells means (drawn log) (stamp_of base) state = subst (λ (k : ℕ). Spells means (drawn log) (stamp_of (record { bits = k })) state) last fits.0.0.spelled in
+    let same : follows.state ≡ state = spells_once means (drawn log) (stamp_of base) follows.state state here now in
+    let may : IsAccepted means state change = subst (λ (s : State). IsAccepted means s change) same follows.accepted in
+    let then : Spells means (drawn log) (stamp_of to) (after_change state change) = subst (λ (s : State). Spells means (drawn log) (stamp_of to) (after_change s change)) same (spells_from means v log (stamp_of to) (after_change follows.state change) pre follows.then) in
+    let book' : IsBook means (log ++ e ∷ []) = book_move means log by to change fits.0.0 may then in
+    let starts' : StartsOpened (log ++ e ∷ []) = starts_more log (e ∷ []) fits.0.1 in
+    let goes : (last_move (log ++ e ∷ [])).bits ≡ to.bits = ap (λ (r : Ref). r.bits) (moved_more nowhere log (e ∷ [])) in
+    let h' : either (h == base.bits) to.bits h ≡ to.bits = rw is refl in
+    let next : d ≡ next_stamp (log ++ e ∷ []) = let f : d ≡ next_stamp log = fits.2 in omega (arith, f, next_more log (e ∷ [])) in (
+      keeps,
+      e ∷ [],
+      Some n,
+      tt,
+      record { head = to.bits; drafts = d; words = ap (λ (k : ℕ). (k, true) ∷ (d, true) ∷ []) h'; fits = inl ((book', starts'), sym goes, next) },
+      inr (n, refl, refl, trades_more e log),
+      ((book', starts'), rw is (log, pre, last, refl, refl)),
+    )
+move_goes means v log by base to change h d pre follows fits false is =
+    let e = moved by to (Some change) in
+    let n : Answer = answer (count (key_of e) (log ++ [])) (count (key_of e) (log ++ [])) in
+    let h' : either (h == base.bits) to.bits h ≡ h = rw is refl in (
+      keeps,
+      [],
+      Some n,
+      tt,
+      subst (λ (k : ℕ). IsKept means ((k, true) ∷ (d, true) ∷ []) (log ++ [])) (sym h') (same_words means log h d fits),
+      inr (n, refl, refl, trades_same e log),
+      (same_opened means log fits.0, rw is (ap (λ (w : List Entry). (last_move w).bits) (append-nil log) ∙ sym fits.1, refl)),
+    )
+
+-- whatever the book is, the exchange adds the move directly after the one expected, or finds another last move
+pub move_moves : (means : Meanings) (v : List Entry) (by : Option ℕ) (base to : Ref) (change : Change) → StartsOpened v → Follows means (drawn v) base to change
+    → Moves (IsKept means) shown (Trades (moved by to (Some change))) 0 (v, (no_nib, None)) (λ n. either (n == base.bits) to.bits n) (AddsMove means (step 0 base.bits to.bits (moved by to (Some change))) (v, (no_nib, None)))
+move_moves means v by base to change starts follows cs log kept pre away =
+    let fits = fits_opened means v log kept.head kept.drafts pre starts kept.fits in
+    let P : List Cell → Type 0 = λ c. (0 < length c) × ((cell c 0).1 ≡ true) × Goes (IsKept means) shown (Trades (moved by to (Some change))) 0 (v, (no_nib, None)) (λ n. either (n == base.bits) to.bits n) (AddsMove means (step 0 base.bits to.bits (moved by to (Some change))) (v, (no_nib, None))) c log in
+    subst P (sym kept.words) (omega arith, refl, move_goes means v log by base to change kept.head kept.drafts pre follows fits (kept.head == base.bits) refl)
+
+pub opening_counts : (r : Ref) (k : ℕ) → k ≢ 0 → count k (opening r) ≡ 0
+opening_counts r k other = elim (eqb_tells 0 k) [
+  | inl is ↦ absurd (other (sym is.1))
+  | inr not ↦ rw not.0 refl
+]
+
+opening_child : (k : ℕ) (d : ℕ) → k < 1 → slice_index_or (0 ∷ []) k d < 1
+opening_child zero d lt = omega arith
+opening_child (suc k) d lt = absurd (omega (arith, lt))
+
+-- no rows make the empty map
+pub empty_map : finite.from_sorted {K = Bytes} {X = Bytes} {R = slice_cmp nat_cmp} [] ≡ finite.empty
+empty_map = finite.empty_of_len _ (finite.len-entries _ ∙ ap length (finite.entries-from_sorted (slice_cmp nat_cmp) [] tt))
+
+-- the opening commit spells the opening state
+pub opening_spells : (means : Meanings) (r : Ref) → Spells means (drawn (opening r)) 1 (after [])
+opening_spells means r = ap (λ (m : Entries). Some (record { state = record { pulled = m; cookie = null_cookie; confirmed = finite.empty; pending = [] }; read = m })) empty_map
+
+-- the opening book
+pub opening_book : (means : Meanings) (r : Ref) → stamp_of r ≡ 1 → IsOpened means (opening r)
+opening_book means r one =
+    let spelled : Spells means (drawn (opening r)) (stamp_of r) (after []) = subst (λ (k : ℕ). Spells means (drawn (opening r)) k (after [])) (sym one) (opening_spells means r) in
+    (record { numbered = refl; room = lit≤ tt; ordered = ((λ k d lt. absurd (omega (arith, lt))), ((λ k d lt. opening_child k d lt), tt)); legal = tt; spelled = spelled }, refl)
+
+opens_goes : (means : Meanings) (v log : List Entry) (ask : Entry) (r : Ref) (h d : ℕ) → key_of ask ≡ 0 → stamp_of r ≡ 1 → Fits means h d log
+    → Goes (IsKept means) shown (Trades ask) 0 (v, (no_nib, None)) (λ n. either (n == 0) r.bits n) (Opens (step 0 0 r.bits ask) (v, (no_nib, None))) ((h, true) ∷ (d, true) ∷ []) log
+opens_goes means v log ask r h d key one (inl fits) =
+    let n : Answer = answer (count (key_of ask) (log ++ [])) (count (key_of ask) (log ++ [])) in
+    let is : (h == 0) ≡ false = head_some means log h fits.0 fits.1 in
+    let h' : either (h == 0) r.bits h ≡ h = rw is refl in
+    let counts : 0 < count (key_of ask) (log ++ []) = rw (append-nil log, key) (count_starts log fits.0.1) in (
+      keeps,
+      [],
+      Some n,
+      tt,
+      subst (λ (k : ℕ). IsKept means ((k, true) ∷ (d, true) ∷ []) (log ++ [])) (sym h') (same_words means log h d fits),
+      inr (n, refl, refl, trades_same ask log),
+      (n, refl, λ none. absurd (omega (arith, none, counts))),
+    )
+opens_goes means v log ask r h d key one (inr un) =
+    let n : Answer = answer 0 2 in
+    let h' : either (h == 0) r.bits h ≡ r.bits = rw un.1 refl in
+    let d' : d ≡ next_stamp (opening r) = un.2 in
+    let opened : IsOpened means (opening r) = opening_book means r one in
+    let all : log ++ opening r ≡ opening r = ap (λ w. w ++ opening r) un.0 in
+    let kept : IsKept means ((r.bits, true) ∷ (d, true) ∷ []) (opening r) = record { head = r.bits; drafts = d; words = refl; fits = inl (opened, refl, d') } in
+    let trade : Trades ask log (log ++ opening r) n = record {
+      before = sym (ap (count (key_of ask)) un.0);
+      after = rw (all, key) refl;
+      others = λ k other. rw (all, un.0) (opening_counts r k (λ e. other (e ∙ sym key)));
+    } in (
+      keeps,
+      opening r,
+      Some n,
+      tt,
+      subst (λ (k : ℕ × List Entry). IsKept means ((k.0, true) ∷ (d, true) ∷ []) k.1) (λ i. (sym h' i, sym all i)) kept,
+      inr (n, refl, refl, trade),
+      (n, refl, λ none. all),
+    )
+
+-- the exchange opens the book, where nothing was added by no seat
+pub opens_moves : (means : Meanings) (v : List Entry) (ask : Entry) (r : Ref) → key_of ask ≡ 0 → stamp_of r ≡ 1
+    → Moves (IsKept means) shown (Trades ask) 0 (v, (no_nib, None)) (λ n. either (n == 0) r.bits n) (Opens (step 0 0 r.bits ask) (v, (no_nib, None)))
+opens_moves means v ask r key one cs log kept pre away =
+    let P : List Cell → Type 0 = λ c. (0 < length c) × ((cell c 0).1 ≡ true) × Goes (IsKept means) shown (Trades ask) 0 (v, (no_nib, None)) (λ n. either (n == 0) r.bits n) (Opens (step 0 0 r.bits ask) (v, (no_nib, None))) c log in
+    subst P (sym kept.words) (omega arith, refl, opens_goes means v log ask r kept.head kept.drafts key one kept.fits)

@@ -1,0 +1,47 @@
+use Rattle.std.proofs.Common.{◌≡◌, ◌++◌, [], ◌∷◌, sym, refl, ◌∙◌, ap, subst, Some, Option, suc, List, Bool, if◌then◌else◌, nat_eq}
+use Rattle.head_word.specs.declared.entry.Entry.{Entry}
+use Rattle.head_word.specs.declared.mark.Seat.{Seat}
+use Rattle.head_word.specs.Books.{drawn, moved, last_move, Follows}
+use Rattle.head_word.specs.Tallies.{mine}
+use Rattle.head_word.specs.Marks.{Known, Sits, own, own_of, number_of}
+use Rattle.head_word.proofs.Stepping.{move_moves}
+use Rattle.head_word.proofs.Owning.{count_told, Told, own_added}
+use Rattle.head_word.proofs.head.Head.add_move.Goals as goal
+
+pub compare_exchange-found-requires : goal.compare_exchange-found-requires
+compare_exchange-found-requires g c =
+    let means = g.M.Mutators.means in
+    let words = c.self.invariant.0 in
+    let offer = c.offered-offer.ensures in
+    let pen = c.no_pen-pen.ensures in
+    let book = ap (λ (m : Known). m.book) c.mark.view_is ∙ (c.requires.book ∙ sym c.self.view_is) in
+    let follows : Follows means (drawn c.mark.inside.seen.log) c.args.base c.args.new c.args.change.now = subst (λ (m : Known). Follows means (drawn m.log) c.args.base c.args.new c.args.change.now) (sym c.mark.view_is) c.requires.follows in
+    let sits = subst (Sits c.mark.inside.seen.names c.mark.inside.seen.log) (sym c.take.ensures.value ∙ c.in-Some.is) c.mark.invariant.1 in (
+      ap (λ w. w.tracked) words,
+      book,
+      pen.0 ∙ book,
+      offer.0 ∙ sits.0,
+      rw (ap (λ w. w.key) words, pen.1, offer.1, offer.3, c.bits-from.ensures, c.bits-to.ensures) (move_moves means c.mark.inside.seen.log (Some c.in-Some.seat.number) c.args.base c.args.new c.args.change.now c.mark.invariant.0.1 follows),
+    )
+
+pub returns-clause-own : goal.returns-clause-own
+returns-clause-own g c =
+    let log = c.mark.inside.seen.log in
+    let log' = c.compare_exchange-found.new.seen.log in
+    let number = c.in-Some.seat.number in
+    let ask = moved (Some number) c.args.new (Some c.args.change.now) in
+    let won : Bool = nat_eq c.compare_exchange-found.result c.bits-from.result in
+    let seat_is : c.mark.inside.seat ≡ Some c.in-Some.seat = sym c.take.ensures.value ∙ c.in-Some.is in
+    let sits = subst (Sits c.mark.inside.seen.names log) seat_is c.mark.invariant.1 in
+    let offer = c.offered-offer.ensures in
+    let step = c.compare_exchange-found.ensures in
+    let gain = c.into_gain.ensures in
+    let a = c.into_gain.result.answer in
+    let told = c.regained.ensures.3 ∙ count_told c.into_gain.result.about ask c.in-Some.seat.tally.count (gain.1 ∙ (step.4 ∙ offer.2)) in
+    let Q : List Entry → Type 0 = λ mid. (last_move mid).bits ≡ c.bits-from.result in
+    let R : Type 0 = (last_move log').bits ≡ c.compare_exchange-found.result in
+    let own' : mine (suc number) log' ≡ mine (suc number) log ++ (if won then ask ∷ [] else []) =
+    own_added Q R (suc number) c.in-Some.seat.tally.count log log' ask a c.compare_exchange-found.new.offer.state won refl sits.2 told gain.2 step.6
+    (subst (λ (e : Entry). Told Q R log log' c.compare_exchange-found.new.offer.state won e) offer.1 step.7.1) in
+    let placed = subst (λ (s : Option Seat). mine (suc number) log' ≡ own_of (number_of s) log ++ (if won then moved (number_of s) c.args.new (Some c.args.change.now) ∷ [] else [])) (sym seat_is) own' in
+    subst (λ (m : Known). mine (suc number) log' ≡ own m ++ (if won then moved m.seat c.args.new (Some c.args.change.now) ∷ [] else [])) c.mark.view_is placed

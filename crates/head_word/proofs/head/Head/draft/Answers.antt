@@ -1,0 +1,25 @@
+use Rattle.std.proofs.Common.{ℕ, Option, refl, sym, ap, ◌∙◌, arith}
+use Rattle.std.proofs.lemmas.List.{append-nil}
+use Rattle.head_word.specs.Books.{drafted}
+use Rattle.head_word.specs.Marks.{own}
+use Rattle.head_word.proofs.Beginnings.{prefix_length}
+use Rattle.head_word.proofs.Stepping.{after_from}
+use Rattle.head_word.proofs.Owning.{others_rise, drew_more}
+use Rattle.head_word.proofs.head.Head.draft.Goals as goal
+
+pub add_draft-requires-clause-asked : goal.add_draft-requires-clause-asked
+add_draft-requires-clause-asked g c κs within =
+    (c.args.contents.now, ap (λ (s : Option ℕ). drafted s c.next-first.result c.args.contents.now) c.seat.ensures, refl, after_from c.args.mark.now.log c.next-first.new.mark.log c.args.contents.now c.next-first.ensures.seen c.requires.children)
+
+pub returns-else-add_draft-clause-moved : goal.returns-else-add_draft-clause-moved
+returns-else-add_draft-clause-moved g c =
+    let looked = c.next-first.ensures in
+    let lost = c.if-add_draft.ensures in
+    let more = drew_more c.next-first.new.mark.log c.add_draft.new.mark.log lost.seen (λ e. lost.added (e ∙ sym looked.next)) in
+    λ _. omega (arith, more, prefix_length c.args.mark.now.log c.next-first.new.mark.log looked.seen)
+
+pub returns-else-add_draft-clause-others : goal.returns-else-add_draft-clause-others
+returns-else-add_draft-clause-others g c = λ is.
+    let looked = c.next-first.ensures in
+    let lost = c.if-add_draft.ensures in
+    others_rise c.args.mark.now c.add_draft.new.mark (returns-else-add_draft-clause-moved g c is) (lost.own ∙ (append-nil (own c.next-first.new.mark) ∙ looked.own))

@@ -1,0 +1,13 @@
+use Rattle.std.proofs.Common.{◌≡◌, ◌+◌}
+use Rattle.head_word.specs.Marks.{seated}
+use Rattle.head_word.specs.Tallies.{keys_of}
+use Rattle.head_word.proofs.opening.seat_all.Given as goal
+
+abbrev pub invariant-loop-number : goal.invariant-loop-number
+invariant-loop-number g l = record {
+  names : l.tallies.names ≡ l.seen.names;
+  next : l.tallies.next ≡ l.number + 1;
+  left : l.tallies.left + l.number ≡ l.seats;
+  keys : keys_of l.tallies.names ≡ l.seats + 1;
+  marks : l.marks.items ≡ seated l.seen.book l.seen.log l.number;
+}

@@ -1,0 +1,142 @@
+-- The book of a group: the contents that were drafted, by stamp, and the moves of the head.
+-- This project's own rules.
+use Rattle.std.specs.Prelude.{ℕ, suc, ◌≡◌, ◌+◌, ◌^◌, ◌<◌, ◌≤◌, ◌==◌, ◌&&◌, Bool, true, List, [], ◌∷◌, ◌++◌, length, map, take, All, Some, None, Option}
+use Rattle.std.specs.FinMap as finite
+use Rattle.group_history.specs.declared.refs.Ref.{Ref}
+use Rattle.group_history.specs.declared.changes.Change.{Change}
+use Rattle.group_history.specs.declared.nodes.Chunk.TheVariants.{Leaf}
+use Rattle.group_history.specs.declared.nodes.Commit.TheVariants.{Snapshot}
+use Rattle.group_history.specs.declared.nodes.Node.{Node}
+use Rattle.group_history.specs.declared.nodes.Node.TheVariants as node
+use Rattle.group_history.specs.declared.nodes.Child.{Child}
+use Rattle.group_history.specs.declared.nodes.Child.TheVariants.{Placed, Drafted}
+use Rattle.group_history.specs.Cookies.{null_cookie}
+use Rattle.group_history.specs.Meaning.{Meanings}
+use Rattle.group_history.specs.Naming.{children, drafted_content}
+use Rattle.group_history.specs.Record.{IsAccepted, IsLegal, after, after_change}
+use Rattle.group_history.specs.Refs.{stamp_of}
+use Rattle.group_history.specs.Spelling.{Contents, Version, version_at}
+use Rattle.group_history.specs.State.{State, view_of}
+use Rattle.head_word.specs.declared.entry.Entry.{Entry}
+use Rattle.head_word.specs.declared.entry.Entry.TheVariants as v
+
+-- the contents that a draft adds: its nodes, whose children are named by stamps
+abbrev pub drafted_contents : ℕ → List (Node Child) → Contents
+drafted_contents first nodes = map (drafted_content first) nodes
+
+-- all contents that were drafted, by stamp
+abbrev pub drawn : List Entry → Contents
+drawn [] = []
+drawn (v.Draft d ∷ es) = drafted_contents d.first d.contents ++ drawn es
+drawn (v.Move m ∷ es) = drawn es
+
+-- the first stamp not drawn
+abbrev pub next_stamp : List Entry → ℕ
+next_stamp log = length (drawn log)
+
+-- each draft's first stamp is the first one not drawn before it
+abbrev pub numbered : ℕ → List Entry → Bool
+numbered n [] = true
+numbered n (v.Draft d ∷ es) = (d.first == n) && numbered (n + length d.contents) es
+numbered n (v.Move m ∷ es) = numbered n es
+
+-- where the last move went, or r
+abbrev pub moved_from : Ref → List Entry → Ref
+moved_from r [] = r
+moved_from r (v.Draft d ∷ es) = moved_from r es
+moved_from r (v.Move m ∷ es) = moved_from m.to es
+
+-- the reference that the head has before the book is opened
+abbrev pub nowhere : Ref
+nowhere = record { bits = 0 }
+
+-- where the last move of a book went
+abbrev pub last_move : List Entry → Ref
+last_move log = moved_from nowhere log
+
+-- a change, where there is one, before others
+abbrev pub with_change : Option Change → List Change → List Change
+with_change None cs = cs
+with_change (Some c) cs = c ∷ cs
+
+-- the record of a book: the changes of its moves
+abbrev pub record_of : List Entry → List Change
+record_of [] = []
+record_of (v.Draft d ∷ es) = record_of es
+record_of (v.Move m ∷ es) = with_change m.change (record_of es)
+
+-- each content's children bear smaller stamps than it; the first content's stamp is n
+abbrev pub AreOrdered : ℕ → Contents → Type 0
+AreOrdered n [] = Unit {0}
+AreOrdered n (c ∷ cs) = All (λ k. k < n) (children c) × AreOrdered (suc n) cs
+
+-- the commit's version for a state: queries read the state's view
+abbrev pub version_of : Meanings → State → Version
+version_of means s = record { state = s; read = view_of means s }
+
+-- the commit of the stamp spells the state, and queries read the state's view there
+abbrev pub Spells : Meanings → Contents → ℕ → State → Type 0
+Spells means contents stamp s = version_at contents stamp ≡ Some (version_of means s)
+
+-- What is true of every book: stamps go up one by one, children before parents, its record is legal, and the commit
+-- where its last move went spells the state after that record.
+pub record IsBook (means : Meanings) (log : List Entry) : Type 0 where
+  pub numbered : numbered 0 log ≡ true
+  pub room : next_stamp log ≤ 2 ^ 44
+  pub ordered : AreOrdered 0 (drawn log)
+  pub legal : IsLegal means (record_of log)
+  pub spelled : Spells means (drawn log) (stamp_of (last_move log)) (after (record_of log))
+
+abbrev pub drafted : Option ℕ → ℕ → List (Node Child) → Entry
+drafted by first contents = v.Draft (record { by = by; first = first; contents = contents })
+
+abbrev pub moved : Option ℕ → Ref → Option Change → Entry
+moved by to change = v.Move (record { by = by; to = to; change = change })
+
+-- what a book opens with: an empty leaf, of stamp 0, and the opening snapshot over it, of stamp 1
+abbrev pub empty_leaf : Node Child
+empty_leaf = node.Chunk (Leaf [])
+
+abbrev pub opening_snapshot : Node Child
+opening_snapshot = node.Commit (Snapshot (record { cookie = null_cookie; confirmed = finite.empty; root = Drafted 0 }))
+
+-- the entries that a book opens with, by no seat
+abbrev pub opening : Ref → List Entry
+opening r = drafted None 0 (empty_leaf ∷ opening_snapshot ∷ []) ∷ moved None r None ∷ []
+
+-- where the opening move goes: the stamp 1 in the given slot
+abbrev pub opening_ref : ℕ → Ref
+opening_ref slot = record { bits = 2 ^ 20 + slot }
+
+-- where a book's second entry, the opening move, went
+abbrev pub opened_at : List Entry → Ref
+opened_at [] = nowhere
+opened_at (e ∷ []) = nowhere
+opened_at (e ∷ v.Draft d ∷ es) = nowhere
+opened_at (e ∷ v.Move m ∷ es) = m.to
+
+-- the book begins with the opening's entries
+abbrev pub StartsOpened : List Entry → Type 0
+StartsOpened log = take 2 log ≡ opening (opened_at log)
+
+-- a legal book that begins with the opening's entries
+abbrev pub IsOpened : Meanings → List Entry → Type 0
+IsOpened means log = IsBook means log × StartsOpened log
+
+-- a child of the node at this place of a draft has a stamp among the first n, or stands at an earlier place
+abbrev pub IsBefore : ℕ → ℕ → Child → Type 0
+IsBefore n place (Placed at) = stamp_of at < n
+IsBefore n place (Drafted earlier) = earlier < place
+
+-- the nodes' children have stamps among the first n, or stand at earlier places; the first node's place is given
+abbrev pub AreAfter : ℕ → ℕ → List (Node Child) → Type 0
+AreAfter n place [] = Unit {0}
+AreAfter n place (c ∷ cs) = All (IsBefore n place) (children c) × AreAfter n (suc place) cs
+
+-- By these contents the state of `new` is that of `base` after the change, which is accepted there; and queries read at
+-- each of the two the view of its state.
+pub record Follows (means : Meanings) (contents : Contents) (base new : Ref) (change : Change) : Type 0 where
+  pub state : State
+  pub before : Spells means contents (stamp_of base) state
+  pub accepted : IsAccepted means state change
+  pub then : Spells means contents (stamp_of new) (after_change state change)

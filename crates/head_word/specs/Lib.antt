@@ -1,0 +1,6 @@
+pub mod Books
+pub mod Tallies
+pub mod Rules
+pub mod Marks
+pub mod Laws
+pub mod Trials

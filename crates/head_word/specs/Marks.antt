@@ -1,0 +1,54 @@
+-- What a mark shows, and what its seat has added.
+use Rattle.std.specs.Prelude.{ℕ, zero, suc, ◌≡◌, ◌-◌, ◌<◌, List, [], ◌∷◌, ◌++◌, length, Option, Some, None, IsSome}
+use Rattle.logbook.specs.Pages.{Book}
+use Rattle.group_history.specs.declared.refusals.Refusal.{Refusal}
+use Rattle.group_history.specs.declared.refusals.Refusal.TheVariants as refusal
+use Rattle.head_word.specs.declared.lost.Lost.{Lost}
+use Rattle.head_word.specs.declared.lost.Lost.TheVariants as lost
+use Rattle.head_word.specs.declared.entry.Entry.{Entry}
+use Rattle.head_word.specs.declared.mark.Seat.{Seat}
+use Rattle.head_word.specs.Tallies.{count, mine, keys_of}
+
+-- what a caller sees of a mark: which book it is of, how the book begins, and its seat's number where it has one
+pub record Known : Type 0 where
+  pub book : Book
+  pub log : List Entry
+  pub seat : Option ℕ
+
+abbrev pub known : Book → List Entry → Option ℕ → Known
+known book log seat = record { book = book; log = log; seat = seat }
+
+abbrev pub own_of : Option ℕ → List Entry → List Entry
+own_of None log = []
+own_of (Some j) log = mine (suc j) log
+
+-- the entries that the mark's seat has added, none without a seat
+abbrev pub own : Known → List Entry
+own m = own_of m.seat m.log
+
+-- how many entries others have added
+abbrev pub others : Known → ℕ
+others m = length m.log - length (own m)
+
+-- the marks of the first n seats, at a new book
+abbrev pub seated : Book → List Entry → ℕ → List Known
+seated book log zero = []
+seated book log (suc n) = seated book log n ++ known book log (Some n) ∷ []
+
+-- the mark is of this book, and has a seat
+abbrev pub HasSeat : Book → Known → Type 0
+HasSeat book m = (m.book ≡ book) × IsSome m.seat
+
+abbrev pub number_of : Option Seat → Option ℕ
+number_of None = None
+number_of (Some s) = Some s.number
+
+-- the seat's tally says how many entries of the seat the book has
+abbrev pub Sits : List ℕ → List Entry → Option Seat → Type 0
+Sits names log None = Unit {0}
+Sits names log (Some s) = (s.tally.names ≡ names) × (s.tally.key ≡ suc s.number) × (s.tally.count ≡ count (suc s.number) log) × (suc s.number < keys_of names)
+
+-- the refusal that a lost draft is told as
+abbrev pub refusal_of : Lost → Refusal
+refusal_of lost.Moved = refusal.Moved
+refusal_of lost.Stamps = refusal.Stamps

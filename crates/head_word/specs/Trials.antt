@@ -1,0 +1,31 @@
+-- What the tests try: a group without mutators, whose first pull brings a cookie and nothing else.
+use Rattle.std.specs.Prelude.{ℕ, List, []}
+use Rattle.std.specs.FinMap as finite
+use Rattle.group_history.specs.declared.changes.Change.{Change}
+use Rattle.group_history.specs.declared.changes.Change.TheVariants.{Pulled}
+use Rattle.group_history.specs.declared.nodes.Commit.TheVariants.{Snapshot}
+use Rattle.group_history.specs.declared.nodes.Node.{Node}
+use Rattle.group_history.specs.declared.nodes.Node.TheVariants as node
+use Rattle.group_history.specs.declared.nodes.Child.{Child}
+use Rattle.group_history.specs.declared.nodes.Child.TheVariants.{Placed}
+use Rattle.group_history.specs.declared.refs.Ref.{Ref}
+use Rattle.group_history.specs.Cookies.{Cookie, null_cookie}
+use Rattle.group_history.specs.Meaning.{Meanings, unknown}
+use Rattle.group_history.specs.Record.{after_change}
+use Rattle.group_history.specs.State.{opening}
+use Rattle.head_word.specs.declared.entry.Entry.{Entry}
+use Rattle.head_word.specs.Books.{drawn, Spells}
+
+abbrev pub no_mutators : Meanings
+no_mutators name args m = unknown
+
+-- the snapshot of an empty map under a cookie, over the leaf that `root` names
+abbrev pub bare : Cookie → Ref → Node Child
+bare cookie root = node.Commit (Snapshot (record { cookie = cookie; confirmed = finite.empty; root = Placed root }))
+
+abbrev pub bare_pull : Cookie → Change
+bare_pull cookie = Pulled null_cookie (record { cookie = cookie; changes = []; patch = [] })
+
+-- the stamp is a commit of the state after the pull
+abbrev pub SpellsBare : List Entry → ℕ → Cookie → Type 0
+SpellsBare log stamp cookie = Spells no_mutators (drawn log) stamp (after_change opening (bare_pull cookie))

@@ -1,0 +1,69 @@
+//! What a step asks the book for. Nothing of it is made when the program runs.
+use crate::entry::{Answer, Entry};
+use group_history::{Change, Child, Node, Ref};
+use logbook::Plain;
+
+/// A look by a seat, or by none.
+#[derive(Drop)]
+pub struct Look {
+    pub by: Option<u64>,
+}
+
+/// A draft to be added.
+#[derive(Drop)]
+pub struct Wanted<'a> {
+    pub by: Option<u64>,
+    pub first: u64,
+    pub contents: &'a [Node<Child>],
+}
+
+/// A move to be added.
+#[derive(Drop)]
+pub struct Proposed<'a> {
+    pub by: Option<u64>,
+    pub to: Ref,
+    pub change: &'a Change,
+}
+
+/// What a seat asks for.
+pub struct Asks;
+
+impl Plain<Look, Entry, Answer> for Asks {
+    ghost use Rattle.std.specs.Prelude.{None};
+    ghost use Rattle.head_word.specs.Books.{moved, nowhere};
+
+    ghost ask = { λ w. moved w.by nowhere None };
+
+    ghost state = { λ w. None };
+}
+
+impl<'a> Plain<Wanted<'a>, Entry, Answer> for Asks {
+    ghost use Rattle.std.specs.Prelude.{None};
+    ghost use Rattle.head_word.specs.Books.{drafted};
+
+    ghost ask = { λ w. drafted w.by w.first w.contents.now };
+
+    ghost state = { λ w. None };
+}
+
+impl<'a> Plain<Proposed<'a>, Entry, Answer> for Asks {
+    ghost use Rattle.std.specs.Prelude.{None, Some};
+    ghost use Rattle.head_word.specs.Books.{moved};
+
+    ghost ask = { λ w. moved w.by w.to (Some w.change.now) };
+
+    ghost state = { λ w. None };
+}
+
+/// A look that trades nothing, as its update has run already.
+pub struct Idle;
+
+impl Plain<Look, Entry, Answer> for Idle {
+    ghost use Rattle.std.specs.Prelude.{None, Some};
+    ghost use Rattle.head_word.specs.Books.{moved, nowhere};
+    ghost use Rattle.head_word.specs.Rules.{answer};
+
+    ghost ask = { λ w. moved w.by nowhere None };
+
+    ghost state = { λ w. Some (answer 0 0) };
+}

@@ -1,0 +1,33 @@
+//! What the book lists. The book exists in the proofs alone: no list of entries is ever made.
+use group_history::{Change, Child, Node, Ref};
+use std::collections::LinkedList;
+
+/// Contents that drew the stamps from `first` on, and by which seat.
+#[derive(Drop)]
+pub struct Draft {
+    pub by: Option<u64>,
+    pub first: u64,
+    pub contents: LinkedList<Node<Child>>,
+}
+
+/// A move of the head to a commit, and by which seat. The opening move alone has no change.
+#[derive(Drop)]
+pub struct Move {
+    pub by: Option<u64>,
+    pub to: Ref,
+    pub change: Option<Change>,
+}
+
+/// An entry of the book.
+#[derive(Drop)]
+pub enum Entry {
+    Draft(Draft),
+    Move(Move),
+}
+
+/// How many entries a seat had added before a step, and after it.
+#[derive(Drop)]
+pub struct Answer {
+    pub before: u64,
+    pub after: u64,
+}

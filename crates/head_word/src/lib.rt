@@ -1,0 +1,23 @@
+//! The shared head of a group: threads draw stamps for new nodes, and move the head from commit to commit
+//! by changes of one legal record. `head` tells the protocol.
+#![tactic(auto)]
+
+mod asks;
+mod entry;
+mod head;
+mod law;
+mod laws;
+mod lost;
+mod mark;
+mod opening;
+mod steps;
+mod tally;
+#[cfg(test)]
+mod tests;
+
+pub use entry::{Draft, Entry, Move};
+pub use group_history::Ref;
+pub use head::Head;
+pub use laws::{book_laws, one_record};
+pub use lost::{Lost, Moved};
+pub use mark::Mark;

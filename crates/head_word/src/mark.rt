@@ -1,0 +1,74 @@
+//! What a caller knows of the book.
+//!
+//! A `Mark` is a beginning of the book that was seen. It has no bytes but its seat's number: what it
+//! knows stands in its model alone, where contracts read it. A seat's `Mark` bears the seat's tally as
+//! well, which says how many entries of the seat the book has; so at each step of the seat the proofs
+//! know which of the entries that came in meanwhile are its own: none but those that this very step added.
+ghost use Rattle.std.specs.Prelude.{◌≡◌, None};
+ghost use Rattle.head_word.specs.Books.{IsOpened};
+ghost use Rattle.head_word.specs.Marks.{known};
+
+use crate::entry::{Answer, Entry};
+use crate::law::Law;
+use crate::tally::Tally;
+use group_history::Mutators;
+use logbook::Seen;
+use std::marker::Model;
+
+/// A seat's number, and its tally.
+#[derive(Drop)]
+pub struct Seat {
+    pub(crate) number: u64,
+    pub(crate) tally: Tally,
+}
+
+/// A beginning of the book that was seen, and a seat, where the mark has one.
+#[derive(Drop)]
+pub struct Mark<M: Mutators> {
+    pub(crate) seen: Seen<Entry, Answer, Law<M>>,
+    pub(crate) seat: Option<Seat>,
+}
+
+impl<M: Mutators> Model for Mark<M> {
+    ghost use Rattle.head_word.specs.Books.{IsOpened};
+    ghost use Rattle.head_word.specs.Marks.{Known, known, number_of, Sits};
+    ghost use Rattle.head_word.specs.contracts.entry.Entry as entry;
+    ghost use Rattle.std.specs.Coded.{codes};
+
+    ghost Value = { Known };
+
+    ghost coded = { Prim.hlevel (codes, entry.the_row.coded) };
+
+    ghost view = { λ m. known m.seen.book m.seen.log (number_of m.seat) };
+
+    ghost invariant = { λ m. IsOpened M.means m.seen.log × Sits m.seen.names m.seen.log m.seat };
+}
+
+impl<M: Mutators> Mark<M> {
+    /// What the mark has seen, with no seat: a copy can be learnt from, and adds nothing.
+    pub fn copy(&self) -> Mark<M>
+        ensures { result ≡ known self.now.book self.now.log None }
+    {
+        Mark {
+            seen: self.seen.again(),
+            seat: None,
+        }
+    }
+
+    /// The number of its seat, where it has one.
+    pub fn seat(&self) -> Option<u64>
+        ensures { result ≡ self.now.seat }
+    {
+        match &self.seat {
+            Some(seat) => Some(seat.number),
+            None => None,
+        }
+    }
+
+    /// What every mark has seen is a legal book.
+    pub fn legal(&self)
+        ensures { IsOpened M.means self.now.log }
+    {
+        let _seen = &self.seen;
+    }
+}
