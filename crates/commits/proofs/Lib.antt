@@ -1,0 +1,12 @@
+pub mod Listed
+pub mod Spelled
+pub mod LastIds
+pub mod Chained
+pub mod Findings
+pub mod Reached
+pub mod Listing
+pub mod Leaving
+pub mod Lent
+pub mod Choosing
+pub mod Descending
+pub mod Rooted

@@ -1,0 +1,155 @@
+-- What a root reaches, told by one look at a node.
+use Rattle.std.proofs.Common.{◌≡◌, ◌<◌, ◌↔◌, ℕ, List, [], ◌∷◌, map, Option, Some, None, refl, sym, ap, ◌∙◌, subst, slice_get}
+use Rattle.std.specs.Prelude.{IsSome}
+use Rattle.std.specs.List.{Contains}
+use mathlib.Core.List.{IsPrefix}
+use Rattle.group_history.specs.declared.nodes.Chunk.{Chunk}
+use Rattle.group_history.specs.declared.nodes.Chunk.TheVariants.{Leaf, Inner}
+use Rattle.group_history.specs.declared.nodes.Commit.{Commit}
+use Rattle.group_history.specs.declared.nodes.Commit.TheVariants.{Snapshot, Local}
+use Rattle.group_history.specs.declared.nodes.Node.{Node}
+use Rattle.group_history.specs.declared.nodes.Node.TheVariants as node
+use Rattle.group_history.specs.declared.refs.Ref.{Ref}
+use Rattle.group_history.specs.Map.{Bytes, Entries}
+use Rattle.group_history.specs.Refs.{stamp_of}
+use Rattle.group_history.specs.Rows.{Rows, keys_of, values_of}
+use Rattle.group_history.specs.Naming.{children, commit_content}
+use Rattle.group_history.specs.Spelling.{Contents, Segment, Version, segment, chunk_in, segment_at, version_at, map_at}
+use Rattle.group_history.proofs.Folding.{prefix_trans}
+use Rattle.commits.specs.Chains.{LiesAt, basis_of, root_of}
+use Rattle.commits.specs.Reach.{Reaches, itself, through}
+use Rattle.commits.specs.Meeting.{keys_in, IsFirst, HasKey, LiesChunk}
+use Rattle.commits.proofs.Spelled.{made_of, spelled_segment, option_map-some, sized-some, chunk-at, inner-at, local-at, not_both, no_element, version-grown, segment-grown, map-grown}
+use Rattle.commits.proofs.Chained.{some_version, root_read}
+use Rattle.commits.proofs.Findings.{first_here, later_here}
+use Rattle.commits.proofs.Choosing.{filled, first_part}
+use Rattle.commits.proofs.Descending.{inner_parts, map_ordered}
+use Rattle.commits.proofs.Reached.{there_segment, reaches_stays, reaches_back, reaches_child}
+
+-- a leaf's rows
+leaf_rows : (ns : Contents) (k : ℕ) (rows : Rows) (s : Segment) → segment_at ns k ≡ Some s → slice_get ns k ≡ Some (node.Chunk (Leaf rows)) → s.rows ≡ rows
+leaf_rows ns k rows s h is =
+    let u = made_of ns k (node.Chunk (Leaf rows)) (segment s) is (spelled_segment ns k s h) in
+    let o = option_map-some segment (chunk_in u.0 (Leaf rows)) (segment s) u.1 in
+    let same : o.0 ≡ s = cc (o.2) in
+    ap (λ (x : Segment). x.rows) (sym same) ∙ (sized-some _ 1 rows o.0 o.1).1
+
+stamped : List (Bytes × Ref) → List (Bytes × ℕ)
+stamped kids = map (λ (e : Bytes × Ref). (e.0, stamp_of e.1)) kids
+
+pub first_has : (ns : Contents) (k : ℕ) (s : Segment) (c : Chunk Ref) (key : Bytes) → segment_at ns k ≡ Some s → LiesChunk ns k c → IsFirst (keys_in c) (Some key) → HasKey ns k key
+first_has ns k s (Leaf rows) key h lies f =
+    (s, h, subst (λ (w : Rows). Contains (keys_of w) key) (sym (leaf_rows ns k rows s h lies)) (subst (λ (w : List Bytes). Contains w key) (sym f.1) (first_here key f.0)))
+first_has ns k s (Inner []) key h lies f = absurd (cc (f.1))
+first_has ns k s (Inner (e ∷ es)) key h lies f =
+    let p = inner_parts ns k (map (λ (e : Bytes × Ref). (e.0, stamp_of e.1)) (e ∷ es)) s lies h in
+    let same : e.0 ≡ key = cc (f.1) in
+    (s, h, subst (λ (w : Bytes). Contains (keys_of s.rows) w) same (first_part p.0 p.1 key (e.0, stamp_of e.1) (map (λ (e : Bytes × Ref). (e.0, stamp_of e.1)) es) s.rows p.2))
+
+-- an inner chunk has a row, and so has each of its children
+child_filled : (ns : Contents) (k : ℕ) (kids : List (Bytes × ℕ)) (s t : Segment) (c : ℕ) → slice_get ns k ≡ Some (node.Chunk (Inner kids)) → segment_at ns k ≡ Some s → Contains (values_of kids) c → segment_at ns c ≡ Some t → t.rows ≡ [] → ⊥
+child_filled ns k kids s t c is h has at none = let p = inner_parts ns k kids s is h in filled p.0 p.1 [] kids s.rows c t.rows p.2 has (p.3 c t has at) none
+
+-- a chunk reaches chunks alone
+pub chunk_reaches : (ns : Contents) (a b : ℕ) (s : Segment) → segment_at ns a ≡ Some s → Reaches ns a b → (t : Segment) × (segment_at ns b ≡ Some t)
+chunk_reaches ns _ _ s h (itself a) = (s, h)
+chunk_reaches ns _ _ s h (through a c b n is child rest) =
+    let m = chunk-at ns a n s is h in
+    let t = next ns a c s h m.0 (is ∙ ap Some m.1) (subst (λ (w : Node ℕ). Contains (children w) c) m.1 child) in
+    chunk_reaches ns c b t.0 t.1 rest
+  where
+    next : (ns : Contents) (a c : ℕ) (s : Segment) → segment_at ns a ≡ Some s → (n : Chunk ℕ) → slice_get ns a ≡ Some (node.Chunk n) → Contains (children (node.Chunk n)) c → (t : Segment) × (segment_at ns c ≡ Some t)
+    next ns a c s h (Leaf rows) is i = absurd (no_element c i)
+    next ns a c s h (Inner kids) is i = let t = ((inner-at ns a kids s is h).2 c i).1 in (t.0, t.1)
+
+pub commit_unreached : (ns : Contents) (a b : ℕ) (s : Segment) (v : Version) → segment_at ns a ≡ Some s → version_at ns b ≡ Some v → Reaches ns a b → ⊥
+commit_unreached ns a b s v h e r = let t = chunk_reaches ns a b s h r in not_both ns b t.0 v t.1 e
+
+-- a chunk without rows is reached by itself alone
+pub reach_empty : (ns : Contents) (a b : ℕ) (s t : Segment) → segment_at ns a ≡ Some s → segment_at ns b ≡ Some t → t.rows ≡ [] → Reaches ns a b → a ≡ b
+reach_empty ns _ _ s t h e none (itself a) = refl
+reach_empty ns _ _ s t h e none (through a c b n is child rest) =
+    let m = chunk-at ns a n s is h in
+    absurd (bad ns a b c s t h e none m.0 (is ∙ ap Some m.1) (subst (λ (w : Node ℕ). Contains (children w) c) m.1 child) (λ u g. reach_empty ns c b u t g e none rest))
+  where
+    bad : (ns : Contents) (a b c : ℕ) (s t : Segment) → segment_at ns a ≡ Some s → segment_at ns b ≡ Some t → t.rows ≡ [] → (n : Chunk ℕ) → slice_get ns a ≡ Some (node.Chunk n) → Contains (children (node.Chunk n)) c
+        → ((u : Segment) → segment_at ns c ≡ Some u → c ≡ b) → ⊥
+    bad ns a b c s t h e none (Leaf rows) is i below = no_element c i
+    bad ns a b c s t h e none (Inner kids) is i below =
+        let u = ((inner-at ns a kids s is h).2 c i).1 in
+        child_filled ns a kids s t c is h i (ap (segment_at ns) (below u.0 u.1) ∙ e) none
+
+pub empty_only : (ns : Contents) (root k : ℕ) (r s : Segment) (c : Chunk Ref) → segment_at ns root ≡ Some r → segment_at ns k ≡ Some s → LiesChunk ns k c → IsFirst (keys_in c) None → (k ≡ root) ↔ Reaches ns root k
+empty_only ns root k r s (Leaf rows) g h lies f =
+    (λ e. subst (λ (w : ℕ). Reaches ns root w) (sym e) (itself root), λ w. sym (reach_empty ns root k r s g h (leaf_rows ns k rows s h lies ∙ no_keys rows f) w))
+  where
+    no_keys : (rs : Rows) → keys_of rs ≡ [] → rs ≡ []
+    no_keys [] h = refl
+    no_keys (r ∷ rs) h = absurd (cc h)
+empty_only ns root k r s (Inner kids) g h lies f = absurd (none kids f lies)
+  where
+    none : (es : List (Bytes × Ref)) → keys_of es ≡ [] → LiesChunk ns k (Inner es) → ⊥
+    none [] f lies =
+        let u = made_of ns k (node.Chunk (Inner [])) (segment s) lies (spelled_segment ns k s h) in
+        let o = option_map-some segment (chunk_in u.0 (Inner [])) (segment s) u.1 in cc (o.1)
+    none (e ∷ es) f lies = cc f
+
+-- While the chain is gone down: the head reaches the commit at hand.
+pub record IsRooted (first ns : Contents) (head at : ℕ) : Type 0 where
+  pub reached : Reaches ns head at
+  pub here : IsSome (version_at ns at)
+  pub grown : IsPrefix first ns
+
+pub rooted_step : (first ns more : Contents) (head at : ℕ) (c : Commit Ref) (r : Ref) → IsRooted first ns head at → IsPrefix ns more → LiesAt more at c → basis_of c ≡ Some r → (stamp_of r < at) × IsRooted first more head (stamp_of r)
+rooted_step first ns more head at (Snapshot c) r is pre lies b = absurd (cc b)
+rooted_step first ns more head at (Local c) r is pre lies b =
+    let v = some_version ns at is.here in
+    let f = local-at more at (record { basis = stamp_of c.basis; mutation = c.mutation; root = stamp_of c.root }) v.0 lies (version-grown ns more at v.0 pre v.1) in
+    let e : c.basis ≡ r = cc b in
+    subst (λ (w : Ref). (stamp_of w < at) × IsRooted first more head (stamp_of w)) e (
+      f.1,
+      record {
+        reached = reaches_child more head at (stamp_of c.basis) _ (reaches_stays ns more head at pre is.reached) lies (first_here (stamp_of c.basis) (stamp_of c.root ∷ []));
+        here = subst (λ (o : Option Version). IsSome o) (sym f.2) refl;
+        grown = prefix_trans first ns more is.grown pre;
+      },
+    )
+
+pub rooted_ends : (first ns more : Contents) (head at : ℕ) (c : Commit Ref) → IsRooted first ns head at → IsPrefix ns more → LiesAt more at c → IsSome (map_at more (stamp_of (root_of c))) × Reaches more head (stamp_of (root_of c))
+rooted_ends first ns more head at c is pre lies =
+    let v = some_version ns at is.here in
+    (subst (λ (o : Option Entries). IsSome o) (sym (root_read ns more at c v.0 v.1 pre lies)) refl, reaches_child more head at (stamp_of (root_of c)) _ (reaches_stays ns more head at pre is.reached) lies (root_child c))
+  where
+    root_child : (c : Commit Ref) → Contains (children (commit_content c)) (stamp_of (root_of c))
+    root_child (Snapshot s) = first_here (stamp_of s.root) []
+    root_child (Local l) = later_here (stamp_of l.basis) (stamp_of l.root ∷ []) (stamp_of l.root) (first_here (stamp_of l.root) [])
+
+pub some_segment : (ns : Contents) (k : ℕ) → IsSome (segment_at ns k) → (s : Segment) × (segment_at ns k ≡ Some s)
+some_segment ns k h = of (segment_at ns k) h
+  where
+    of : (o : Option Segment) → IsSome o → (s : Segment) × (o ≡ Some s)
+    of None h = absurd (cc h)
+    of (Some s) h = (s, refl)
+
+pub map_some_stays : (ns more : Contents) (k : ℕ) → IsPrefix ns more → IsSome (map_at ns k) → IsSome (map_at more k)
+map_some_stays ns more k pre h = of (map_at ns k) refl h
+  where
+    of : (o : Option Entries) → map_at ns k ≡ o → IsSome o → IsSome (map_at more k)
+    of None e h = absurd (cc h)
+    of (Some m) e h = subst (λ (o : Option Entries). IsSome o) (sym (map-grown ns more k m pre e)) refl
+
+-- what a root reaches it reaches in longer contents, and the other way
+pub kept_grown : (ns more : Contents) (root k : ℕ) → IsSome (map_at ns root) → IsPrefix ns more → Reaches ns root k ↔ Reaches more root k
+kept_grown ns more root k h pre = let o = map_ordered ns root h in (reaches_stays ns more root k pre, reaches_back ns more root k pre (there_segment ns root o.0 o.1))
+
+pub kept_empty : (ns more : Contents) (root k : ℕ) (c : Chunk Ref) → IsSome (map_at ns root) → IsSome (segment_at ns k) → IsPrefix ns more → LiesChunk more k c → IsFirst (keys_in c) None → (k ≡ root) ↔ Reaches more root k
+kept_empty ns more root k c h s pre lies f =
+    let o = map_ordered ns root h in let t = some_segment ns k s in
+    empty_only more root k o.0 t.0 c (segment-grown ns more root o.0 pre o.1) (segment-grown ns more k t.0 pre t.1) lies f
+
+pub kept_key : (ns more : Contents) (k : ℕ) (c : Chunk Ref) (key : Bytes) → IsSome (segment_at ns k) → IsPrefix ns more → LiesChunk more k c → IsFirst (keys_in c) (Some key) → HasKey more k key
+kept_key ns more k c key s pre lies f = let t = some_segment ns k s in first_has more k t.0 c key (segment-grown ns more k t.0 pre t.1) lies f
+
+pub reaches_on : (ns : Contents) (a b c : ℕ) → Reaches ns a b → Reaches ns b c → Reaches ns a c
+reaches_on ns _ _ c (itself a) r = r
+reaches_on ns _ _ c (through a d b n is child rest) r = through a d c n is child (reaches_on ns d b c rest r)

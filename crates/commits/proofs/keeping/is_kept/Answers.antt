@@ -1,0 +1,14 @@
+use Rattle.std.proofs.Common.{subst}
+use Rattle.group_history.specs.Refs.{stamp_of}
+use Rattle.commits.specs.declared.founds.Found.{Found}
+use Rattle.commits.specs.Reach.{Reaches, IsSpelled, stamp_in}
+use Rattle.commits.proofs.Descending.{map_ordered}
+use Rattle.commits.proofs.Rooted.{commit_unreached}
+use Rattle.commits.proofs.keeping.is_kept.Goals as goal
+
+pub returns-in-Commit-clause-kept : goal.returns-in-Commit-clause-kept
+returns-in-Commit-clause-kept g c =
+    let m = g.N.Chunks.contents c.args.nodes.now in
+    let o = map_ordered m (stamp_of c.args.root) c.requires.root in
+    let v = subst (IsSpelled m) c.in-Commit.is c.requires.found in
+    (λ t. absurd (cc t), λ r. absurd (commit_unreached m (stamp_of c.args.root) (stamp_of c.in-Commit.field-0) o.0 v.0 o.1 v.1 (subst (λ (f : Found). Reaches m (stamp_of c.args.root) (stamp_in f)) c.in-Commit.is r)))

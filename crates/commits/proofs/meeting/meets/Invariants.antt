@@ -1,0 +1,9 @@
+use Rattle.group_history.specs.Refs.{stamp_of}
+use Rattle.commits.proofs.Descending.{IsMeeting}
+use Rattle.commits.proofs.meeting.meets.Given as goal
+
+abbrev pub invariant-loop-chunks : goal.invariant-loop-chunks
+invariant-loop-chunks g l = IsMeeting (g.C.Chunks.contents l.initial.chunks) (g.C.Chunks.contents l.chunks) l.key (stamp_of l.initial.at) (stamp_of l.at) l.stamp
+
+abbrev pub decreases-loop-chunks : goal.decreases-loop-chunks
+decreases-loop-chunks g l = stamp_of l.at

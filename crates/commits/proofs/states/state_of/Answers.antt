@@ -1,0 +1,21 @@
+use Rattle.group_history.specs.Refs.{stamp_of}
+use Rattle.commits.proofs.Chained.{base_whole}
+use Rattle.commits.proofs.states.state_of.Goals as goal
+
+pub returns-clause-cookie : goal.returns-clause-cookie
+returns-clause-cookie g c v h =
+    let m = g.N.Chunks.contents in let k = c.in_ok-cookie.ensures.content in
+    (base_whole (m c.descend.new.nodes) (m c.show_base.new.nodes) (stamp_of c.in_ok-pending.field-0.snapshot) k.0 v.state c.in_ok-cookie.field-0 (c.in_ok-pending.ensures.state v h).1 c.show_base.ensures.grown k.1 k.2).0
+
+pub returns-clause-confirmed : goal.returns-clause-confirmed
+returns-clause-confirmed g c v h =
+    let m = g.N.Chunks.contents in let k = c.in_ok-cookie.ensures.content in
+    (base_whole (m c.descend.new.nodes) (m c.show_base.new.nodes) (stamp_of c.in_ok-pending.field-0.snapshot) k.0 v.state c.in_ok-cookie.field-0 (c.in_ok-pending.ensures.state v h).1 c.show_base.ensures.grown k.1 k.2).1
+
+pub returns-clause-pulled : goal.returns-clause-pulled
+returns-clause-pulled g c v h =
+    let m = g.N.Chunks.contents in let k = c.in_ok-cookie.ensures.content in
+    (base_whole (m c.descend.new.nodes) (m c.show_base.new.nodes) (stamp_of c.in_ok-pending.field-0.snapshot) k.0 v.state c.in_ok-cookie.field-0 (c.in_ok-pending.ensures.state v h).1 c.show_base.ensures.grown k.1 k.2).2
+
+pub returns-clause-pending : goal.returns-clause-pending
+returns-clause-pending g c v h = (c.in_ok-pending.ensures.state v h).0

@@ -1,0 +1,9 @@
+//! A node that was named by another one.
+use group_history::Ref;
+
+/// A node that a shown one names, by its kind.
+#[derive(Clone, Copy, Debug, PartialEq, Eq)]
+pub enum Found {
+    Chunk(Ref),
+    Commit(Ref),
+}

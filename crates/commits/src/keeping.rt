@@ -1,0 +1,92 @@
+//! Whether a node lies in the tree of a root that stays.
+ghost use Rattle.std.specs.Prelude.{◌≡◌, ◌⊎◌, ◌↔◌, Some, IfOk, IfErr, IsSome, IsTrue};
+ghost use mathlib.Core.List.{IsPrefix};
+ghost use Rattle.group_history.specs.Refs.{stamp_of};
+ghost use Rattle.group_history.specs.Spelling.{segment_at, version_at, map_at};
+ghost use Rattle.group_history.specs.declared.nodes.Chunk.{Chunk as Chunked};
+ghost use Rattle.group_history.specs.declared.refs.Ref.{Ref as Reference};
+ghost use Rattle.group_history.specs.declared.mutators.Stop.TheVariants.{NoMemory};
+ghost use Rattle.commits.specs.Meeting.{keys_in, IsFirst, LiesChunk};
+ghost use Rattle.commits.specs.Reach.{Reaches, IsSpelled, stamp_in};
+
+use crate::chains::{show_basis, show_root};
+use crate::founds::Found;
+use crate::meeting::meets;
+use crate::nodes::Nodes;
+use group_history::{Chunk, Ref, Stop, Text};
+use map_tree::{Chunks, ShowsChunk};
+use std::alloc::AllocError;
+
+fn first_of(keys: &[Text]) -> Result<Option<Text>, AllocError>
+    ensures { IfOk result (IsFirst keys.now) }
+{
+    if keys.is_empty() {
+        return Ok(None);
+    }
+    Ok(Some(keys[0].clone()?))
+}
+
+fn first_key_in(chunk: &Chunk<Ref>) -> Result<Option<Text>, AllocError>
+    ensures { IfOk result (IsFirst (keys_in chunk.now)) }
+{
+    match chunk {
+        Chunk::Leaf(leaf) => first_of(leaf.keys().as_slice()),
+        Chunk::Inner(inner) => first_of(inner.firsts().as_slice()),
+    }
+}
+
+fn show_first_key<C: Chunks>(chunks: &mut C, at: Ref) -> Result<Option<Text>, Stop>
+    requires { IsSome (segment_at (C.contents chunks.old) (stamp_of at)) }
+    ensures grown { IsPrefix (C.contents chunks.old) (C.contents chunks.new) }
+    ensures content { IfOk result (λ key. (c : Chunked Reference) × LiesChunk (C.contents chunks.new) (stamp_of at) c × IsFirst (keys_in c) key) }
+    ensures stopped { IfErr result (λ stop. (stop ≡ NoMemory) ⊎ C.stops stop) }
+{
+    let held = chunks.show(at)?;
+    let key = first_key_in(held.chunk());
+    chunks.leave(held);
+    Ok(key?)
+}
+
+fn is_chunk_kept<C: Chunks>(chunks: &mut C, root: Ref, at: Ref) -> Result<bool, Stop>
+    requires root { IsSome (map_at (C.contents chunks.old) (stamp_of root)) }
+    requires chunk { IsSome (segment_at (C.contents chunks.old) (stamp_of at)) }
+    ensures grown { IsPrefix (C.contents chunks.old) (C.contents chunks.new) }
+    ensures kept { IfOk result (λ kept. IsTrue kept ↔ Reaches (C.contents chunks.new) (stamp_of root) (stamp_of at)) }
+    ensures stopped { IfErr result (λ stop. (stop ≡ NoMemory) ⊎ C.stops stop) }
+{
+    let Some(key) = show_first_key(chunks, at)? else {
+        return Ok(at.stamp() == root.stamp());
+    };
+    let met = meets(chunks, root, &key, at.stamp())?;
+    Ok(met)
+}
+
+/// Whether the root of a map reaches a node that was found.
+pub fn is_kept<N: Nodes>(nodes: &mut N, root: Ref, at: Found) -> Result<bool, Stop>
+    requires root { IsSome (map_at (N.contents nodes.old) (stamp_of root)) }
+    requires found { IsSpelled (N.contents nodes.old) at }
+    ensures grown { IsPrefix (N.contents nodes.old) (N.contents nodes.new) }
+    ensures kept { IfOk result (λ kept. IsTrue kept ↔ Reaches (N.contents nodes.new) (stamp_of root) (stamp_in at)) }
+    ensures stopped { IfErr result (λ stop. (stop ≡ NoMemory) ⊎ N.stops stop) }
+{
+    match at {
+        Found::Chunk(at) => is_chunk_kept(nodes, root, at),
+        Found::Commit(_) => Ok(false),
+    }
+}
+
+/// The root of the map that the server last sent.
+pub fn base_root<N: Nodes>(nodes: &mut N, head: Ref) -> Result<Ref, Stop>
+    requires { IsSome (version_at (N.contents nodes.old) (stamp_of head)) }
+    ensures grown { IsPrefix (N.contents nodes.old) (N.contents nodes.new) }
+    ensures map { IfOk result (λ root. IsSome (map_at (N.contents nodes.new) (stamp_of root))) }
+    ensures reached { IfOk result (λ root. Reaches (N.contents nodes.new) (stamp_of head) (stamp_of root)) }
+    ensures stopped { IfErr result N.stops }
+{
+    let mut at = head;
+    while let Some(basis) = show_basis(nodes, at)? {
+        at = basis;
+    }
+    let root = show_root(nodes, at)?;
+    Ok(root)
+}

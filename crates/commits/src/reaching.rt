@@ -1,0 +1,94 @@
+//! What a head reaches, and what a new head leaves behind.
+//!
+//! A walk always looks at the greatest stamp ahead of it. So it lists what a head reaches by falling
+//! stamps, each once, and two such lists are compared in one pass.
+ghost use Rattle.std.specs.Prelude.{◌≡◌, ◌⊎◌, Some, slice_get, ◌↔◌, ◌++◌, [], ◌∷◌, ℕ, IfOk, IfErr, OnOk, IsSome};
+ghost use Rattle.std.specs.List.{Contains};
+ghost use mathlib.Core.List.{IsPrefix};
+ghost use Rattle.group_history.specs.Refs.{stamp_of};
+ghost use Rattle.group_history.specs.Spelling.{version_at, map_at};
+ghost use Rattle.group_history.specs.Naming.{content_of};
+ghost use Rattle.group_history.specs.declared.nodes.Node.{Node as Noded};
+ghost use Rattle.group_history.specs.declared.refs.Ref.{Ref as Reference};
+ghost use Rattle.group_history.specs.declared.mutators.Stop.TheVariants.{NoMemory};
+ghost use Rattle.commits.specs.Reach.{Adds, Reaches, IsDropped, IsNamed, IsShown, IsSpelled, Falls, found_in, stamps_of, stamp_in, ref_in};
+
+use crate::founds::Found;
+use crate::frontiers::Frontier;
+use crate::keeping::{base_root, is_kept};
+use crate::looks::look;
+use crate::merging::{add, without};
+use crate::nodes::Nodes;
+use group_history::{Ref, Stop};
+use std::alloc::Global;
+
+fn ref_in(found: Found) -> Ref
+    ensures { result ≡ ref_in found }
+{
+    match found {
+        Found::Chunk(at) => at,
+        Found::Commit(at) => at,
+    }
+}
+
+// One node of a walk: where the root keeps it, it is passed over with all below it.
+fn visit<N: Nodes>(
+    nodes: &mut N,
+    root: Ref,
+    frontier: &mut Frontier,
+    listed: &mut Vec<Ref>,
+    at: Found,
+) -> Result<(), Stop>
+    requires root { IsSome (map_at (N.contents nodes.old) (stamp_of root)) }
+    requires found { IsSpelled (N.contents nodes.old) at }
+    ensures grown { IsPrefix (N.contents nodes.old) (N.contents nodes.new) }
+    ensures visited { OnOk result ((Reaches (N.contents nodes.new) (stamp_of root) (stamp_in at) × (frontier.new ≡ frontier.old) × (listed.new.items ≡ listed.old.items)) ⊎ ((n : Noded Reference) × (Reaches (N.contents nodes.new) (stamp_of root) (stamp_in at) → ⊥) × IsShown N.Held.shown N.HeldCommit.shown n × (slice_get (N.contents nodes.new) (stamp_in at) ≡ Some (content_of n)) × Adds frontier.old (found_in n) frontier.new × (listed.new.items ≡ listed.old.items ++ ref_in at ∷ []))) }
+    ensures stopped { IfErr result (λ stop. (stop ≡ NoMemory) ⊎ N.stops stop) }
+{
+    if is_kept(nodes, root, at)? {
+        return Ok(());
+    }
+    look(nodes, frontier, at)?;
+    add(listed, ref_in(at))?;
+    Ok(())
+}
+
+/// All that a commit reaches and the root of a map doesn't, by falling stamps.
+fn reachable<N: Nodes>(alloc: Global, nodes: &mut N, head: Ref, root: Ref) -> Result<Vec<Ref>, Stop>
+    requires head { IsSome (version_at (N.contents nodes.old) (stamp_of head)) }
+    requires root { IsSome (map_at (N.contents nodes.old) (stamp_of root)) }
+    ensures grown { IsPrefix (N.contents nodes.old) (N.contents nodes.new) }
+    ensures exact { IfOk result (λ xs. (x : ℕ) → Contains (stamps_of xs.items) x ↔ IsDropped (N.contents nodes.new) (stamp_of head) (stamp_of root) x) }
+    ensures once { IfOk result (λ xs. Falls (stamps_of xs.items)) }
+    ensures named { IfOk result (λ xs. (r : Reference) → Contains xs.items r → IsNamed N.Held.shown N.HeldCommit.shown (N.contents nodes.new) head r) }
+    ensures stopped { IfErr result (λ stop. (stop ≡ NoMemory) ⊎ N.stops stop) }
+{
+    let mut listed = Vec::new(alloc);
+    let mut frontier = Frontier::new(alloc);
+    frontier.add(Found::Commit(head))?;
+    while let Some(at) = frontier.pop() {
+        visit(nodes, root, &mut frontier, &mut listed, at)?;
+    }
+    Ok(listed)
+}
+
+/// What the old head reaches and the new one doesn't: the nodes that a change of the head from `old` to
+/// `new` leaves behind, by falling stamps, each once.
+///
+/// What the new head's pulled map keeps is passed over on both sides, so that a tree that both share
+/// isn't looked through.
+pub fn dropped<N: Nodes>(alloc: Global, nodes: &mut N, old: Ref, new: Ref) -> Result<Vec<Ref>, Stop>
+    requires old { IsSome (version_at (N.contents nodes.old) (stamp_of old)) }
+    requires new { IsSome (version_at (N.contents nodes.old) (stamp_of new)) }
+    ensures grown { IsPrefix (N.contents nodes.old) (N.contents nodes.new) }
+    ensures exact { IfOk result (λ xs. (x : ℕ) → Contains (stamps_of xs.items) x ↔ IsDropped (N.contents nodes.old) (stamp_of old) (stamp_of new) x) }
+    ensures once { IfOk result (λ xs. Falls (stamps_of xs.items)) }
+    ensures named { IfOk result (λ xs. (r : Reference) → Contains xs.items r → IsNamed N.Held.shown N.HeldCommit.shown (N.contents nodes.new) old r) }
+    ensures stopped { IfErr result (λ stop. (stop ≡ NoMemory) ⊎ N.stops stop) }
+{
+    let root = base_root(nodes, new)?;
+    let kept = reachable(alloc, nodes, new, root)?;
+    let before = reachable(alloc, nodes, old, root)?;
+    let left = without(alloc, &before, &kept)?;
+    Ok(left)
+}

@@ -1,0 +1,36 @@
+//! The commits of a vector of nodes.
+ghost use Rattle.group_history.specs.declared.nodes.Commit.{Commit as Committed};
+
+use crate::nodes::{Nodes, ShowsCommit};
+use group_history::{Commit, Node, Ref, Stop};
+use map_tree::Shelf;
+
+/// A commit of a vector.
+#[derive(Clone, Copy)]
+pub struct LentCommit<'a> {
+    commit: &'a Commit<Ref>,
+}
+
+impl<'a> ShowsCommit for LentCommit<'a> {
+    ghost shown = { λ lent. lent.commit.now };
+
+    fn commit(&self) -> &Commit<Ref> {
+        self.commit
+    }
+}
+
+impl<'a> Nodes for Shelf<'a> {
+    type HeldCommit = LentCommit<'a>;
+
+    fn show_commit(&mut self, at: Ref) -> Result<LentCommit<'a>, Stop> {
+        match self.nodes.at(at.stamp()) {
+            Some(Node::Commit(commit)) => Ok(LentCommit { commit }),
+            Some(Node::Chunk(_)) => Err(Stop::Gone),
+            None => Err(Stop::Gone),
+        }
+    }
+
+    fn leave_commit(&mut self, held: LentCommit<'a>) {
+        let _ = held;
+    }
+}

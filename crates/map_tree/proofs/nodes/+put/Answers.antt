@@ -1,0 +1,277 @@
+use Rattle.std.proofs.Common.{◌≡◌, ◌+◌, ◌-◌, arith, length, sym, ap, subst, ◌∙◌, Some, get_or, length-set, slice_get, nat_cmp, T, refl, set-set}
+use Rattle.std.specs.Prelude.{IsSome}
+use Rattle.std.specs.Cmp.Lexicographic.{slice_cmp}
+use Rattle.std.specs.FinMap as finite
+use Rattle.group_history.specs.Refs.{stamp_of}
+use Rattle.group_history.specs.Rows.{paired, rises, keys_of}
+use Rattle.group_history.specs.Spelling.{rows_at}
+use Rattle.map_tree.specs.Halves.{IsHalf, AreNinth, HasDepth, ChildPut, with_half, lowered}
+use Rattle.map_tree.specs.Nodes.{AllKids, child_rows, kids_pieces}
+use Rattle.map_tree.specs.Search.{IsPlace}
+use Rattle.map_tree.specs.Shown.{Seen, shown, rows_or, IsTree}
+use Rattle.map_tree.specs.declared.nodes.Child.{Child}
+use Rattle.map_tree.specs.declared.nodes.Child.TheVariants.{Placed, Own}
+use Rattle.map_tree.proofs.NodeLemmas.{shown-rows, child_at}
+use Rattle.map_tree.proofs.OpenLemmas.{known}
+use Rattle.map_tree.proofs.ReplaceLemmas.{leaf_rows}
+use Rattle.map_tree.proofs.PathLemmas.{put_path, filled_pairs, filled_kids, length-pairs, node_at, child_requires, if_ok, indexed_child, done_at, length-lowered, ninth_lowered}
+use Rattle.map_tree.proofs.nodes.+put.Goals as goal
+
+pub Node::put-returns-in-Leaf-clause-filled : goal.Node::put-returns-in-Leaf-clause-filled
+Node::put-returns-in-Leaf-clause-filled g t c = filled_pairs c.put_row.new.keys.texts c.put_row.new.values.items c.in_ok-put_row-in-Leaf.ensures.leaf.1 c.in_ok-put_row-in-Leaf.ensures.leaf.2
+
+pub Node::put-returns-in-Leaf-clause-done : goal.Node::put-returns-in-Leaf-clause-done
+Node::put-returns-in-Leaf-clause-done g t c =
+    let p = g.C.Chunks.contents c.args.chunks.now in
+    ap (shown p) c.in_ok-put_row-in-Leaf.ensures.rows
+    ∙ shown-rows p (finite.put (slice_cmp nat_cmp) c.args.key.now c.args.value (paired c.self.inside.keys.texts c.in-Leaf.values.items))
+    ∙ ap (λ z. Some (finite.put (slice_cmp nat_cmp) c.args.key.now c.args.value (rows_or z)))
+    (sym (leaf_rows p c.self.inside.depth c.self.inside.keys.texts c.self.inside.body c.in-Leaf.values c.args.self.now.pieces (ap (λ (s : Seen). s.pieces) c.self.view_is) c.in-Leaf.is))
+
+pub Node::put-put_child-requires : goal.Node::put-put_child-requires
+Node::put-put_child-requires g t c κs within =
+    let p = g.C.Chunks.contents c.args.chunks.now in
+    let at : Child = Placed (record { bits = 0 }) in
+    let i = c.place_of-place.result in
+    let x = node_at p c.self.inside.depth c.self.inside.keys.texts c.self.inside.body c.in-Inner.kids c.args.self.now.pieces c.as_slice.result.now c.args.key.now i at
+    (ap (λ (s : Seen). s.pieces) c.self.view_is) c.in-Inner.is c.self.invariant c.as_slice.ensures
+    (subst (λ k. IsPlace k c.as_slice.result.now i) c.as_str.ensures c.place_of-place.ensures) c.requires.tree in
+    let here = ap (λ (s : Seen). s.depth) c.self.view_is in (
+      omega (arith, x.2.1.0, here, c.decreases),
+      (
+        within.0,
+        (
+          within.1,
+          (
+            omega (arith, x.3.0, x.2.1.2, ap length c.prepare.ensures.kids),
+            (
+              omega (arith, here, x.2.1.0, c.requires.copies),
+              child_requires p c.self.inside.depth c.self.inside.keys.texts c.in-Inner.kids.items c.prepare.new.kids.items c.args.self.now.pieces c.args.key.now i (get_or c.in-Inner.kids.items i at) x.0 x.1 c.prepare.ensures.kids,
+            ),
+          ),
+        ),
+      ),
+    )
+
+pub Node::put-finish-requires-clause-pairs : goal.Node::put-finish-requires-clause-pairs
+Node::put-finish-requires-clause-pairs g t c =
+    let p = g.C.Chunks.contents c.args.chunks.now in
+    let at : Child = Placed (record { bits = 0 }) in
+    let i = c.place_of-place.result in
+    let x = node_at p c.self.inside.depth c.self.inside.keys.texts c.self.inside.body c.in-Inner.kids c.args.self.now.pieces c.as_slice.result.now c.args.key.now i at
+    (ap (λ (s : Seen). s.pieces) c.self.view_is) c.in-Inner.is c.self.invariant c.as_slice.ensures
+    (subst (λ k. IsPlace k c.as_slice.result.now i) c.as_str.ensures c.place_of-place.ensures) c.requires.tree in
+    let q = g.C.Chunks.contents c.put_child.new.chunks in
+    let child = get_or c.in-Inner.kids.items i at in
+    let keys = c.self.inside.keys.texts in
+    let kids = c.in-Inner.kids.items in
+    let kk : c.prepare.new.kids.items ≡ kids = c.prepare.ensures.kids in
+    let done = subst (λ ks. ChildPut q (c.args.copies + 1) (c.self.inside.depth - 1) i ks c.put_child.new.kids.items c.in_ok-half-in-Inner.half
+    (Some (finite.put (slice_cmp nat_cmp) c.args.key.now c.args.value (rows_or (child_rows p (c.self.inside.depth - 1) child))))) kk
+    (c.in_ok-half-in-Inner.ensures.done child (ap (λ w. slice_get w i) kk ∙ x.1)) in
+    let low = c.lower_first.ensures.texts ∙ ap (lowered i c.in_ok-ready-in-Inner.ready.lower) c.prepare.ensures.texts in
+    let u = put_path p q c.self.inside.depth c.args.copies keys kids c.put_child.new.kids.items c.args.self.now.pieces c.args.key.now c.args.value i child c.in_ok-ready-in-Inner.ready.lower
+    c.in_ok-half-in-Inner.half c.put_child.ensures.grown x.2.1.2 x.0 c.in_ok-ready-in-Inner.ensures.lower done in
+    ap length done.1 ∙ length-set kids i (Own done.0) ∙ x.2.1.2 ∙ sym (ap length low ∙ length-lowered i c.in_ok-ready-in-Inner.ready.lower keys)
+
+pub Node::put-finish-requires-clause-room : goal.Node::put-finish-requires-clause-room
+Node::put-finish-requires-clause-room g t c =
+    let p = g.C.Chunks.contents c.args.chunks.now in
+    let at : Child = Placed (record { bits = 0 }) in
+    let i = c.place_of-place.result in
+    let x = node_at p c.self.inside.depth c.self.inside.keys.texts c.self.inside.body c.in-Inner.kids c.args.self.now.pieces c.as_slice.result.now c.args.key.now i at
+    (ap (λ (s : Seen). s.pieces) c.self.view_is) c.in-Inner.is c.self.invariant c.as_slice.ensures
+    (subst (λ k. IsPlace k c.as_slice.result.now i) c.as_str.ensures c.place_of-place.ensures) c.requires.tree in
+    let q = g.C.Chunks.contents c.put_child.new.chunks in
+    let child = get_or c.in-Inner.kids.items i at in
+    let keys = c.self.inside.keys.texts in
+    let kids = c.in-Inner.kids.items in
+    let kk : c.prepare.new.kids.items ≡ kids = c.prepare.ensures.kids in
+    let done = subst (λ ks. ChildPut q (c.args.copies + 1) (c.self.inside.depth - 1) i ks c.put_child.new.kids.items c.in_ok-half-in-Inner.half
+    (Some (finite.put (slice_cmp nat_cmp) c.args.key.now c.args.value (rows_or (child_rows p (c.self.inside.depth - 1) child))))) kk
+    (c.in_ok-half-in-Inner.ensures.done child (ap (λ w. slice_get w i) kk ∙ x.1)) in
+    let low = c.lower_first.ensures.texts ∙ ap (lowered i c.in_ok-ready-in-Inner.ready.lower) c.prepare.ensures.texts in
+    let u = put_path p q c.self.inside.depth c.args.copies keys kids c.put_child.new.kids.items c.args.self.now.pieces c.args.key.now c.args.value i child c.in_ok-ready-in-Inner.ready.lower
+    c.in_ok-half-in-Inner.half c.put_child.ensures.grown x.2.1.2 x.0 c.in_ok-ready-in-Inner.ensures.lower done in
+    let n = ap length done.1 ∙ length-set kids i (Own done.0) ∙ sym (ap length kk) in (
+      omega (arith, c.lower_first.ensures.room, c.in_ok-ready-in-Inner.ensures.room.0),
+      omega (arith, n, c.put_child.ensures.room, c.in_ok-ready-in-Inner.ensures.room.1, c.put_child.new.kids.ok.0, c.prepare.new.kids.ok.0),
+    )
+
+pub Node::put-finish-requires-clause-half : goal.Node::put-finish-requires-clause-half
+Node::put-finish-requires-clause-half g t c =
+    let p = g.C.Chunks.contents c.args.chunks.now in
+    let at : Child = Placed (record { bits = 0 }) in
+    let i = c.place_of-place.result in
+    let x = node_at p c.self.inside.depth c.self.inside.keys.texts c.self.inside.body c.in-Inner.kids c.args.self.now.pieces c.as_slice.result.now c.args.key.now i at
+    (ap (λ (s : Seen). s.pieces) c.self.view_is) c.in-Inner.is c.self.invariant c.as_slice.ensures
+    (subst (λ k. IsPlace k c.as_slice.result.now i) c.as_str.ensures c.place_of-place.ensures) c.requires.tree in
+    let q = g.C.Chunks.contents c.put_child.new.chunks in
+    let child = get_or c.in-Inner.kids.items i at in
+    let keys = c.self.inside.keys.texts in
+    let kids = c.in-Inner.kids.items in
+    let kk : c.prepare.new.kids.items ≡ kids = c.prepare.ensures.kids in
+    let done = subst (λ ks. ChildPut q (c.args.copies + 1) (c.self.inside.depth - 1) i ks c.put_child.new.kids.items c.in_ok-half-in-Inner.half
+    (Some (finite.put (slice_cmp nat_cmp) c.args.key.now c.args.value (rows_or (child_rows p (c.self.inside.depth - 1) child))))) kk
+    (c.in_ok-half-in-Inner.ensures.done child (ap (λ w. slice_get w i) kk ∙ x.1)) in
+    let low = c.lower_first.ensures.texts ∙ ap (lowered i c.in_ok-ready-in-Inner.ready.lower) c.prepare.ensures.texts in
+    let u = put_path p q c.self.inside.depth c.args.copies keys kids c.put_child.new.kids.items c.args.self.now.pieces c.args.key.now c.args.value i child c.in_ok-ready-in-Inner.ready.lower
+    c.in_ok-half-in-Inner.half c.put_child.ensures.grown x.2.1.2 x.0 c.in_ok-ready-in-Inner.ensures.lower done in
+    done.5
+
+pub Node::put-finish-requires-clause-firsts : goal.Node::put-finish-requires-clause-firsts
+Node::put-finish-requires-clause-firsts g t c =
+    let p = g.C.Chunks.contents c.args.chunks.now in
+    let at : Child = Placed (record { bits = 0 }) in
+    let i = c.place_of-place.result in
+    let x = node_at p c.self.inside.depth c.self.inside.keys.texts c.self.inside.body c.in-Inner.kids c.args.self.now.pieces c.as_slice.result.now c.args.key.now i at
+    (ap (λ (s : Seen). s.pieces) c.self.view_is) c.in-Inner.is c.self.invariant c.as_slice.ensures
+    (subst (λ k. IsPlace k c.as_slice.result.now i) c.as_str.ensures c.place_of-place.ensures) c.requires.tree in
+    let q = g.C.Chunks.contents c.put_child.new.chunks in
+    let child = get_or c.in-Inner.kids.items i at in
+    let keys = c.self.inside.keys.texts in
+    let kids = c.in-Inner.kids.items in
+    let kk : c.prepare.new.kids.items ≡ kids = c.prepare.ensures.kids in
+    let done = subst (λ ks. ChildPut q (c.args.copies + 1) (c.self.inside.depth - 1) i ks c.put_child.new.kids.items c.in_ok-half-in-Inner.half
+    (Some (finite.put (slice_cmp nat_cmp) c.args.key.now c.args.value (rows_or (child_rows p (c.self.inside.depth - 1) child))))) kk
+    (c.in_ok-half-in-Inner.ensures.done child (ap (λ w. slice_get w i) kk ∙ x.1)) in
+    let low = c.lower_first.ensures.texts ∙ ap (lowered i c.in_ok-ready-in-Inner.ready.lower) c.prepare.ensures.texts in
+    let u = put_path p q c.self.inside.depth c.args.copies keys kids c.put_child.new.kids.items c.args.self.now.pieces c.args.key.now c.args.value i child c.in_ok-ready-in-Inner.ready.lower
+    c.in_ok-half-in-Inner.half c.put_child.ensures.grown x.2.1.2 x.0 c.in_ok-ready-in-Inner.ensures.lower done in
+    λ key z. subst (λ ks. AreNinth c.args.copies ks (i + 1) key c.in_ok-ready-in-Inner.ready.firsts.items) (sym low)
+    (ninth_lowered c.args.copies keys i c.args.key.now c.in_ok-ready-in-Inner.ready.lower c.in_ok-ready-in-Inner.ready.firsts.items x.3 c.in_ok-ready-in-Inner.ensures.lower c.in_ok-ready-in-Inner.ensures.firsts key z)
+
+pub Node::put-finish-requires-clause-kids : goal.Node::put-finish-requires-clause-kids
+Node::put-finish-requires-clause-kids g t c =
+    let p = g.C.Chunks.contents c.args.chunks.now in
+    let at : Child = Placed (record { bits = 0 }) in
+    let i = c.place_of-place.result in
+    let x = node_at p c.self.inside.depth c.self.inside.keys.texts c.self.inside.body c.in-Inner.kids c.args.self.now.pieces c.as_slice.result.now c.args.key.now i at
+    (ap (λ (s : Seen). s.pieces) c.self.view_is) c.in-Inner.is c.self.invariant c.as_slice.ensures
+    (subst (λ k. IsPlace k c.as_slice.result.now i) c.as_str.ensures c.place_of-place.ensures) c.requires.tree in
+    let q = g.C.Chunks.contents c.put_child.new.chunks in
+    let child = get_or c.in-Inner.kids.items i at in
+    let keys = c.self.inside.keys.texts in
+    let kids = c.in-Inner.kids.items in
+    let kk : c.prepare.new.kids.items ≡ kids = c.prepare.ensures.kids in
+    let done = subst (λ ks. ChildPut q (c.args.copies + 1) (c.self.inside.depth - 1) i ks c.put_child.new.kids.items c.in_ok-half-in-Inner.half
+    (Some (finite.put (slice_cmp nat_cmp) c.args.key.now c.args.value (rows_or (child_rows p (c.self.inside.depth - 1) child))))) kk
+    (c.in_ok-half-in-Inner.ensures.done child (ap (λ w. slice_get w i) kk ∙ x.1)) in
+    let low = c.lower_first.ensures.texts ∙ ap (lowered i c.in_ok-ready-in-Inner.ready.lower) c.prepare.ensures.texts in
+    let u = put_path p q c.self.inside.depth c.args.copies keys kids c.put_child.new.kids.items c.args.self.now.pieces c.args.key.now c.args.value i child c.in_ok-ready-in-Inner.ready.lower
+    c.in_ok-half-in-Inner.half c.put_child.ensures.grown x.2.1.2 x.0 c.in_ok-ready-in-Inner.ensures.lower done in
+    subst (λ ks. AllKids (c.self.inside.depth - 1) (with_half i c.in_ok-half-in-Inner.half (paired ks c.put_child.new.kids.items))) (sym low) u.all
+
+pub Node::put-finish-requires-clause-order : goal.Node::put-finish-requires-clause-order
+Node::put-finish-requires-clause-order g t c =
+    let p = g.C.Chunks.contents c.args.chunks.now in
+    let at : Child = Placed (record { bits = 0 }) in
+    let i = c.place_of-place.result in
+    let x = node_at p c.self.inside.depth c.self.inside.keys.texts c.self.inside.body c.in-Inner.kids c.args.self.now.pieces c.as_slice.result.now c.args.key.now i at
+    (ap (λ (s : Seen). s.pieces) c.self.view_is) c.in-Inner.is c.self.invariant c.as_slice.ensures
+    (subst (λ k. IsPlace k c.as_slice.result.now i) c.as_str.ensures c.place_of-place.ensures) c.requires.tree in
+    let q = g.C.Chunks.contents c.put_child.new.chunks in
+    let child = get_or c.in-Inner.kids.items i at in
+    let keys = c.self.inside.keys.texts in
+    let kids = c.in-Inner.kids.items in
+    let kk : c.prepare.new.kids.items ≡ kids = c.prepare.ensures.kids in
+    let done = subst (λ ks. ChildPut q (c.args.copies + 1) (c.self.inside.depth - 1) i ks c.put_child.new.kids.items c.in_ok-half-in-Inner.half
+    (Some (finite.put (slice_cmp nat_cmp) c.args.key.now c.args.value (rows_or (child_rows p (c.self.inside.depth - 1) child))))) kk
+    (c.in_ok-half-in-Inner.ensures.done child (ap (λ w. slice_get w i) kk ∙ x.1)) in
+    let low = c.lower_first.ensures.texts ∙ ap (lowered i c.in_ok-ready-in-Inner.ready.lower) c.prepare.ensures.texts in
+    let u = put_path p q c.self.inside.depth c.args.copies keys kids c.put_child.new.kids.items c.args.self.now.pieces c.args.key.now c.args.value i child c.in_ok-ready-in-Inner.ready.lower
+    c.in_ok-half-in-Inner.half c.put_child.ensures.grown x.2.1.2 x.0 c.in_ok-ready-in-Inner.ensures.lower done in
+    subst (λ ks. T (rises (keys_of (with_half i c.in_ok-half-in-Inner.half (paired ks c.put_child.new.kids.items))))) (sym low) u.order
+
+pub Node::put-returns-in-Inner-clause-done : goal.Node::put-returns-in-Inner-clause-done
+Node::put-returns-in-Inner-clause-done g t c =
+    let p = g.C.Chunks.contents c.args.chunks.now in
+    let at : Child = Placed (record { bits = 0 }) in
+    let i = c.place_of-place.result in
+    let x = node_at p c.self.inside.depth c.self.inside.keys.texts c.self.inside.body c.in-Inner.kids c.args.self.now.pieces c.as_slice.result.now c.args.key.now i at
+    (ap (λ (s : Seen). s.pieces) c.self.view_is) c.in-Inner.is c.self.invariant c.as_slice.ensures
+    (subst (λ k. IsPlace k c.as_slice.result.now i) c.as_str.ensures c.place_of-place.ensures) c.requires.tree in
+    let q = g.C.Chunks.contents c.put_child.new.chunks in
+    let child = get_or c.in-Inner.kids.items i at in
+    let keys = c.self.inside.keys.texts in
+    let kids = c.in-Inner.kids.items in
+    let kk : c.prepare.new.kids.items ≡ kids = c.prepare.ensures.kids in
+    let done = subst (λ ks. ChildPut q (c.args.copies + 1) (c.self.inside.depth - 1) i ks c.put_child.new.kids.items c.in_ok-half-in-Inner.half
+    (Some (finite.put (slice_cmp nat_cmp) c.args.key.now c.args.value (rows_or (child_rows p (c.self.inside.depth - 1) child))))) kk
+    (c.in_ok-half-in-Inner.ensures.done child (ap (λ w. slice_get w i) kk ∙ x.1)) in
+    let low = c.lower_first.ensures.texts ∙ ap (lowered i c.in_ok-ready-in-Inner.ready.lower) c.prepare.ensures.texts in
+    let u = put_path p q c.self.inside.depth c.args.copies keys kids c.put_child.new.kids.items c.args.self.now.pieces c.args.key.now c.args.value i child c.in_ok-ready-in-Inner.ready.lower
+    c.in_ok-half-in-Inner.half c.put_child.ensures.grown x.2.1.2 x.0 c.in_ok-ready-in-Inner.ensures.lower done in
+    done_at q (c.self.inside.depth - 1) (with_half i c.in_ok-half-in-Inner.half (paired (lowered i c.in_ok-ready-in-Inner.ready.lower keys) c.put_child.new.kids.items)) (shown p c.args.self.now.pieces) x.0.rows c.args.key.now c.args.value _ x.0.rows_is
+    (c.finish.ensures.0 ∙ ap (λ ks. kids_pieces (c.self.inside.depth - 1) (with_half i c.in_ok-half-in-Inner.half (paired ks c.put_child.new.kids.items))) low) u.shown_is
+
+pub Node::put-returns-in-Inner-clause-filled : goal.Node::put-returns-in-Inner-clause-filled
+Node::put-returns-in-Inner-clause-filled g t c =
+    filled_kids (c.self.inside.depth - 1) (paired c.finish.new.keys.texts c.finish.new.kids.items)
+    (length-pairs c.finish.new.keys.texts c.finish.new.kids.items c.finish.ensures.2 c.finish.ensures.4) c.finish.ensures.5
+
+pub putting::paths::put_child-put-requires : goal.putting::paths::put_child-put-requires
+putting::paths::put_child-put-requires g t c κs within =
+    let p = g.C.Chunks.contents c.args.chunks.now in
+    let kids = c.args.kids.now.items in
+    let child = c.index_mut.result.now in
+    let r = c.requires.tree child (child_at kids c.args.place (length kids) child refl c.requires.within c.index_mut.ensures.value) in
+    let d : c.in-Own.node.depth ≡ c.args.below = subst (HasDepth c.args.below) c.in-Own.is r.1 in
+    (omega (arith, d, c.decreases), (within.0, (within.1, (subst (λ x. IsTree (child_rows p c.args.below x)) c.in-Own.is r.0, omega (arith, d, c.requires.copies)))))
+
+pub putting::paths::put_child-returns-in-Own-clause-done : goal.putting::paths::put_child-returns-in-Own-clause-done
+putting::paths::put_child-returns-in-Own-clause-done g t c x h =
+    let p = g.C.Chunks.contents c.args.chunks.now in
+    let kids = c.args.kids.now.items in
+    let child = c.index_mut.result.now in
+    let r = c.requires.tree child (child_at kids c.args.place (length kids) child refl c.requires.within c.index_mut.ensures.value) in
+    let q = g.C.Chunks.contents c.put.new.chunks in
+    let n : Seen = c.put.new.self in
+    let d : c.in-Own.node.depth ≡ c.args.below = subst (HasDepth c.args.below) c.in-Own.is r.1 in
+    let e : x ≡ Own c.in-Own.node = indexed_child kids c.args.place child x c.requires.within c.index_mut.ensures.value h ∙ c.in-Own.is in
+    if_ok c.put.result c.put.ensures.done c.put.ensures.half c.put.ensures.filled (λ half s i f.
+    (n, refl, c.put.ensures.depth ∙ d, f, s ∙ ap (λ y. Some (finite.put (slice_cmp nat_cmp) c.args.key.now c.args.value (rows_or (child_rows p c.args.below y)))) (sym e), subst (λ w. IsHalf c.args.copies w half) d i))
+
+pub putting::paths::put_child-copied-requires : goal.putting::paths::put_child-copied-requires
+putting::paths::put_child-copied-requires g t c =
+    let p = g.C.Chunks.contents c.args.chunks.now in
+    let kids = c.args.kids.now.items in
+    let child = c.index_mut.result.now in
+    let r = c.requires.tree child (child_at kids c.args.place (length kids) child refl c.requires.within c.index_mut.ensures.value) in
+    let k = known (rows_at p c.args.below (stamp_of c.in-Placed.at)) (subst (λ x. IsTree (child_rows p c.args.below x)) c.in-Placed.is r.0) in
+    subst IsSome (sym k.is) refl
+
+pub putting::paths::put_child-put-requires-in-Placed : goal.putting::paths::put_child-put-requires-in-Placed
+putting::paths::put_child-put-requires-in-Placed g t c κs within =
+    let p = g.C.Chunks.contents c.args.chunks.now in
+    let kids = c.args.kids.now.items in
+    let child = c.index_mut.result.now in
+    let r = c.requires.tree child (child_at kids c.args.place (length kids) child refl c.requires.within c.index_mut.ensures.value) in (
+      omega (arith, c.in_ok-node-in-Placed.ensures.depth, c.decreases),
+      (
+        within.0,
+        (
+          within.1,
+          (subst IsTree (sym c.in_ok-node-in-Placed.ensures.rows) (subst (λ x. IsTree (child_rows p c.args.below x)) c.in-Placed.is r.0), omega (arith, c.in_ok-node-in-Placed.ensures.depth, c.requires.copies)),
+        ),
+      ),
+    )
+
+pub putting::paths::put_child-returns-in-Placed-clause-done : goal.putting::paths::put_child-returns-in-Placed-clause-done
+putting::paths::put_child-returns-in-Placed-clause-done g t c x h =
+    let p = g.C.Chunks.contents c.args.chunks.now in
+    let kids = c.args.kids.now.items in
+    let child = c.index_mut.result.now in
+    let r = c.requires.tree child (child_at kids c.args.place (length kids) child refl c.requires.within c.index_mut.ensures.value) in
+    let n : Seen = c.put-in-Placed.new.self in
+    let half = c.in_ok-half-in-Placed.half in
+    let e : x ≡ Placed c.in-Placed.at = indexed_child kids c.args.place child x c.requires.within c.index_mut.ensures.value h ∙ c.in-Placed.is in
+    let d : c.in_ok-node-in-Placed.node.depth ≡ c.args.below = c.in_ok-node-in-Placed.ensures.depth in (
+      n,
+      set-set kids c.args.place (Placed c.in-Placed.at) (Own n),
+      c.put-in-Placed.ensures.depth ∙ d,
+      c.in_ok-half-in-Placed.ensures.filled,
+      c.in_ok-half-in-Placed.ensures.done
+          ∙ ap (λ z. Some (finite.put (slice_cmp nat_cmp) c.args.key.now c.args.value (rows_or z))) (c.in_ok-node-in-Placed.ensures.rows ∙ ap (child_rows p c.args.below) (sym e)),
+      subst (λ w. IsHalf c.args.copies w half) d c.in_ok-half-in-Placed.ensures.half,
+    )

@@ -1,0 +1,150 @@
+use Rattle.std.proofs.Common.{◌≡◌, refl, length, ◌-◌, ◌++◌, ◌∷◌, arith, sym, ap, subst, ◌∙◌, Some, nat_cmp, set-set}
+use Rattle.std.specs.Prelude.{IsSome}
+use Rattle.std.specs.Cmp.Lexicographic.{slice_cmp}
+use Rattle.std.specs.FinMap as finite
+use Rattle.group_history.specs.Refs.{stamp_of}
+use Rattle.group_history.specs.Rows.{paired}
+use Rattle.group_history.specs.Spelling.{rows_at}
+use Rattle.map_tree.specs.Nodes.{child_rows, kids_pieces, AllKids}
+use Rattle.map_tree.specs.Shown.{Seen, rows_or, shown}
+use Rattle.map_tree.specs.declared.nodes.Child.TheVariants.{Placed, Own}
+use Rattle.group_history.proofs.Folding.{prefix_trans}
+use Rattle.map_tree.proofs.AnswerLemmas.{on_ok, either_way}
+use Rattle.map_tree.proofs.ChangeLemmas.{replaced}
+use Rattle.map_tree.proofs.NodeLemmas.{node_down, inner_depth, down_own}
+use Rattle.map_tree.proofs.OpenLemmas.{tree_of}
+use Rattle.map_tree.proofs.ReplaceLemmas.{leaf_replaced, leaf_has, inner_with, inner_lengths, there_below, kid_replaced, kid_kept}
+use Rattle.map_tree.proofs.nodes.Node.+replace.Goals as goal
+
+pub returns-in_default-clause-done : goal.returns-in_default-clause-done
+returns-in_default-clause-done g t c =
+    absurd (leaf_has (g.C.Chunks.contents c.args.chunks.now) c.self.inside.depth c.self.inside.keys.texts c.self.inside.body c.in-Leaf.values c.args.self.now.pieces
+    c.as_slice.result.now c.args.key.now c.in_default.field-0 (ap (λ (s : Seen). s.pieces) c.self.view_is) c.in-Leaf.is c.self.invariant c.as_slice.ensures c.requires.1.1.1.1.1 c.in_default.ensures.absent)
+
+pub returns-in-Leaf-clause-done : goal.returns-in-Leaf-clause-done
+returns-in-Leaf-clause-done g t c =
+    leaf_replaced (g.C.Chunks.contents c.args.chunks.now) c.self.inside.depth c.self.inside.keys.texts c.self.inside.body c.in-Leaf.values c.args.self.now.pieces
+    c.as_slice.result.now c.args.key.now c.args.value c.in-Ok.place (ap (λ (s : Seen). s.pieces) c.self.view_is) c.in-Leaf.is c.self.invariant c.as_slice.ensures c.in-Ok.ensures.found
+
+pub replace-requires : goal.replace-requires
+replace-requires g t c κs within =
+    let p = g.C.Chunks.contents c.args.chunks.now in
+    let d = node_down p c.self.inside.depth c.self.inside.keys.texts c.self.inside.body c.in-Inner.kids c.args.self.now.pieces c.as_slice-in-Inner.result.now c.args.key.now
+    c.place_of-place.result c.index_mut-in-Inner.result.now (ap (λ (s : Seen). s.pieces) c.self.view_is) c.in-Inner.is c.self.invariant c.as_slice-in-Inner.ensures c.place_of-place.ensures
+    c.index_mut-in-Inner.ensures.value c.requires.1.1.1.1.0 in
+    let o = down_own p _ _ _ _ _ _ _ c.in-Own.node d c.in-Own.is in
+    let z = inner_depth c.self.inside.depth c.self.inside.keys.texts c.self.inside.body c.in-Inner.kids c.in-Inner.is c.self.invariant in
+    let here = ap (λ (s : Seen). s.depth) c.self.view_is in
+    let there = there_below p _ _ _ _ _ _ _ d c.requires.1.1.1.1.1 in (
+      omega (arith, o.1, z, here, c.requires.1.0),
+      (
+        within.0,
+        (
+          within.1,
+          (
+            tree_of (shown p c.in-Own.node.pieces) d.way.here o.0 d.way.strict,
+            subst (λ z. IsSome (finite.find (slice_cmp nat_cmp) c.args.key.now (rows_or z))) (sym o.0) there,
+          ),
+        ),
+      ),
+    )
+
+pub invariant_of-self-in-Own : goal.invariant_of-self-in-Own
+invariant_of-self-in-Own g t c =
+    let p = g.C.Chunks.contents c.args.chunks.now in
+    let d = node_down p c.self.inside.depth c.self.inside.keys.texts c.self.inside.body c.in-Inner.kids c.args.self.now.pieces c.as_slice-in-Inner.result.now c.args.key.now
+    c.place_of-place.result c.index_mut-in-Inner.result.now (ap (λ (s : Seen). s.pieces) c.self.view_is) c.in-Inner.is c.self.invariant c.as_slice-in-Inner.ensures c.place_of-place.ensures
+    c.index_mut-in-Inner.ensures.value c.requires.1.1.1.1.0 in
+    let o = down_own p _ _ _ _ _ _ _ c.in-Own.node d c.in-Own.is in
+    let l = inner_lengths c.self.inside.depth c.self.inside.keys.texts c.self.inside.body c.in-Inner.kids c.in-Inner.is c.self.invariant in
+    let e = replaced c.self.inside.keys.texts c.in-Inner.kids.items c.place_of-place.result (Own c.replace.new.self) c.index_mut-in-Inner.result.now d.before d.first d.behind l d.whole d.at in
+    inner_with c.self.inside.depth c.self.inside.keys.texts c.self.inside.body c.in-Inner.kids c.place_of-place.result (Own c.replace.new.self) (d.before ++ (d.first, Own c.replace.new.self) ∷ d.behind)
+    c.in-Inner.is c.self.invariant e
+    (either_way c.replace.result c.replace.ensures.done c.replace.ensures.err
+    (λ s. (kid_replaced p (g.C.Chunks.contents c.replace.new.chunks) _ _ _ _ c.args.key.now c.args.value _ _ c.replace.new.self (shown p c.in-Own.node.pieces) c.replace.ensures.grown d c.requires.1.1.1.1.1 o.0
+    (c.replace.ensures.depth ∙ o.1) s).all)
+    (λ s. subst (λ (n : Seen). AllKids (c.self.inside.depth - 1) (d.before ++ (d.first, Own n) ∷ d.behind)) (sym s) (kid_kept p _ _ _ _ _ _ _ c.in-Own.node d c.in-Own.is)))
+
+pub returns-in-Own-clause-done : goal.returns-in-Own-clause-done
+returns-in-Own-clause-done g t c =
+    let p = g.C.Chunks.contents c.args.chunks.now in
+    let d = node_down p c.self.inside.depth c.self.inside.keys.texts c.self.inside.body c.in-Inner.kids c.args.self.now.pieces c.as_slice-in-Inner.result.now c.args.key.now
+    c.place_of-place.result c.index_mut-in-Inner.result.now (ap (λ (s : Seen). s.pieces) c.self.view_is) c.in-Inner.is c.self.invariant c.as_slice-in-Inner.ensures c.place_of-place.ensures
+    c.index_mut-in-Inner.ensures.value c.requires.1.1.1.1.0 in
+    let o = down_own p _ _ _ _ _ _ _ c.in-Own.node d c.in-Own.is in
+    let l = inner_lengths c.self.inside.depth c.self.inside.keys.texts c.self.inside.body c.in-Inner.kids c.in-Inner.is c.self.invariant in
+    let e = replaced c.self.inside.keys.texts c.in-Inner.kids.items c.place_of-place.result (Own c.replace.new.self) c.index_mut-in-Inner.result.now d.before d.first d.behind l d.whole d.at in
+    on_ok c.replace.result c.replace.ensures.done (λ s.
+    ap (λ es. shown (g.C.Chunks.contents c.replace.new.chunks) (kids_pieces (c.self.inside.depth - 1) es)) e
+    ∙ (kid_replaced p (g.C.Chunks.contents c.replace.new.chunks) _ _ _ _ c.args.key.now c.args.value _ _ c.replace.new.self (shown p c.in-Own.node.pieces) c.replace.ensures.grown d c.requires.1.1.1.1.1 o.0
+    (c.replace.ensures.depth ∙ o.1) s).shown_is)
+
+pub copied-requires : goal.copied-requires
+copied-requires g t c =
+    let p = g.C.Chunks.contents c.args.chunks.now in
+    let d = node_down p c.self.inside.depth c.self.inside.keys.texts c.self.inside.body c.in-Inner.kids c.args.self.now.pieces c.as_slice-in-Inner.result.now c.args.key.now
+    c.place_of-place.result c.index_mut-in-Inner.result.now (ap (λ (s : Seen). s.pieces) c.self.view_is) c.in-Inner.is c.self.invariant c.as_slice-in-Inner.ensures c.place_of-place.ensures
+    c.index_mut-in-Inner.ensures.value c.requires.1.1.1.1.0 in
+    subst IsSome (sym (ap (child_rows p (c.self.inside.depth - 1)) (sym c.in-Placed.is) ∙ d.way.here_is)) refl
+
+pub replace-requires-in-Placed : goal.replace-requires-in-Placed
+replace-requires-in-Placed g t c κs within =
+    let p = g.C.Chunks.contents c.args.chunks.now in
+    let d = node_down p c.self.inside.depth c.self.inside.keys.texts c.self.inside.body c.in-Inner.kids c.args.self.now.pieces c.as_slice-in-Inner.result.now c.args.key.now
+    c.place_of-place.result c.index_mut-in-Inner.result.now (ap (λ (s : Seen). s.pieces) c.self.view_is) c.in-Inner.is c.self.invariant c.as_slice-in-Inner.ensures c.place_of-place.ensures
+    c.index_mut-in-Inner.ensures.value c.requires.1.1.1.1.0 in
+    let r : rows_at p (c.self.inside.depth - 1) (stamp_of c.in-Placed.at) ≡ Some d.way.here = ap (child_rows p (c.self.inside.depth - 1)) (sym c.in-Placed.is) ∙ d.way.here_is in
+    let s : shown (g.C.Chunks.contents c.copied.new.chunks) c.in_ok-node-in-Placed.node.pieces ≡ Some d.way.here = c.in_ok-node-in-Placed.ensures.rows ∙ r in
+    let z = inner_depth c.self.inside.depth c.self.inside.keys.texts c.self.inside.body c.in-Inner.kids c.in-Inner.is c.self.invariant in
+    let here = ap (λ (s : Seen). s.depth) c.self.view_is in
+    let there = there_below p _ _ _ _ _ _ _ d c.requires.1.1.1.1.1 in (
+      omega (arith, c.in_ok-node-in-Placed.ensures.depth, z, here, c.requires.1.0),
+      (
+        within.0,
+        (
+          within.1,
+          (
+            tree_of (shown (g.C.Chunks.contents c.copied.new.chunks) c.in_ok-node-in-Placed.node.pieces) d.way.here s d.way.strict,
+            subst (λ z. IsSome (finite.find (slice_cmp nat_cmp) c.args.key.now (rows_or z))) (sym s) there,
+          ),
+        ),
+      ),
+    )
+
+pub invariant_of-self-in-Placed : goal.invariant_of-self-in-Placed
+invariant_of-self-in-Placed g t c =
+    let p = g.C.Chunks.contents c.args.chunks.now in
+    let d = node_down p c.self.inside.depth c.self.inside.keys.texts c.self.inside.body c.in-Inner.kids c.args.self.now.pieces c.as_slice-in-Inner.result.now c.args.key.now
+    c.place_of-place.result c.index_mut-in-Inner.result.now (ap (λ (s : Seen). s.pieces) c.self.view_is) c.in-Inner.is c.self.invariant c.as_slice-in-Inner.ensures c.place_of-place.ensures
+    c.index_mut-in-Inner.ensures.value c.requires.1.1.1.1.0 in
+    let l = inner_lengths c.self.inside.depth c.self.inside.keys.texts c.self.inside.body c.in-Inner.kids c.in-Inner.is c.self.invariant in
+    let n : Seen = c.replace-in-Placed.new.self in
+    let q = g.C.Chunks.contents c.replace-in-Placed.new.chunks in
+    let r : rows_at p (c.self.inside.depth - 1) (stamp_of c.in-Placed.at) ≡ Some d.way.here = ap (child_rows p (c.self.inside.depth - 1)) (sym c.in-Placed.is) ∙ d.way.here_is in
+    let x : shown (g.C.Chunks.contents c.copied.new.chunks) c.in_ok-node-in-Placed.node.pieces ≡ Some d.way.here = c.in_ok-node-in-Placed.ensures.rows ∙ r in
+    let e = replaced c.self.inside.keys.texts c.in-Inner.kids.items c.place_of-place.result (Own n) c.index_mut-in-Inner.result.now d.before d.first d.behind l d.whole d.at in
+    let twice = set-set c.in-Inner.kids.items c.place_of-place.result (Placed c.in-Placed.at) (Own n) in
+    let k = kid_replaced p q _ _ _ _ c.args.key.now c.args.value _ _ n (shown (g.C.Chunks.contents c.copied.new.chunks) c.in_ok-node-in-Placed.node.pieces)
+    (prefix_trans p (g.C.Chunks.contents c.copied.new.chunks) q c.copied.ensures.grown c.replace-in-Placed.ensures.grown) d c.requires.1.1.1.1.1 x
+    (c.replace-in-Placed.ensures.depth ∙ c.in_ok-node-in-Placed.ensures.depth) c.in_ok-replace-in-Placed.ensures.done in
+    let w = inner_with c.self.inside.depth c.self.inside.keys.texts c.self.inside.body c.in-Inner.kids c.place_of-place.result (Own n) (d.before ++ (d.first, Own n) ∷ d.behind)
+    c.in-Inner.is c.self.invariant e k.all in
+    (w.0, (w.1.0, w.1.1, ap length twice ∙ w.1.2, subst (λ es. AllKids (c.self.inside.depth - 1) (paired c.self.inside.keys.texts es)) (sym twice) w.1.3))
+
+pub returns-in-Placed-clause-done : goal.returns-in-Placed-clause-done
+returns-in-Placed-clause-done g t c =
+    let p = g.C.Chunks.contents c.args.chunks.now in
+    let d = node_down p c.self.inside.depth c.self.inside.keys.texts c.self.inside.body c.in-Inner.kids c.args.self.now.pieces c.as_slice-in-Inner.result.now c.args.key.now
+    c.place_of-place.result c.index_mut-in-Inner.result.now (ap (λ (s : Seen). s.pieces) c.self.view_is) c.in-Inner.is c.self.invariant c.as_slice-in-Inner.ensures c.place_of-place.ensures
+    c.index_mut-in-Inner.ensures.value c.requires.1.1.1.1.0 in
+    let l = inner_lengths c.self.inside.depth c.self.inside.keys.texts c.self.inside.body c.in-Inner.kids c.in-Inner.is c.self.invariant in
+    let n : Seen = c.replace-in-Placed.new.self in
+    let q = g.C.Chunks.contents c.replace-in-Placed.new.chunks in
+    let r : rows_at p (c.self.inside.depth - 1) (stamp_of c.in-Placed.at) ≡ Some d.way.here = ap (child_rows p (c.self.inside.depth - 1)) (sym c.in-Placed.is) ∙ d.way.here_is in
+    let x : shown (g.C.Chunks.contents c.copied.new.chunks) c.in_ok-node-in-Placed.node.pieces ≡ Some d.way.here = c.in_ok-node-in-Placed.ensures.rows ∙ r in
+    let e = replaced c.self.inside.keys.texts c.in-Inner.kids.items c.place_of-place.result (Own n) c.index_mut-in-Inner.result.now d.before d.first d.behind l d.whole d.at in
+    let twice = set-set c.in-Inner.kids.items c.place_of-place.result (Placed c.in-Placed.at) (Own n) in
+    let k = kid_replaced p q _ _ _ _ c.args.key.now c.args.value _ _ n (shown (g.C.Chunks.contents c.copied.new.chunks) c.in_ok-node-in-Placed.node.pieces)
+    (prefix_trans p (g.C.Chunks.contents c.copied.new.chunks) q c.copied.ensures.grown c.replace-in-Placed.ensures.grown) d c.requires.1.1.1.1.1 x
+    (c.replace-in-Placed.ensures.depth ∙ c.in_ok-node-in-Placed.ensures.depth) c.in_ok-replace-in-Placed.ensures.done in
+    ap (λ es. shown q (kids_pieces (c.self.inside.depth - 1) (paired c.self.inside.keys.texts es))) twice ∙ ap (λ es. shown q (kids_pieces (c.self.inside.depth - 1) es)) e ∙ k.shown_is

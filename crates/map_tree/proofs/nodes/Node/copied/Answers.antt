@@ -1,0 +1,27 @@
+use Rattle.std.proofs.Common.{◌∙◌, ap, sym, subst}
+use Rattle.group_history.specs.declared.nodes.Chunk.{Chunk}
+use Rattle.group_history.specs.declared.refs.Ref.{Ref}
+use Rattle.group_history.specs.Refs.{stamp_of}
+use Rattle.group_history.specs.Spelling.{rows_at}
+use Rattle.map_tree.specs.Copies.{MayBeDeep, chunk_pieces}
+use Rattle.map_tree.specs.Shown.{shown}
+use Rattle.map_tree.proofs.CopyLemmas.{copyable}
+use Rattle.map_tree.proofs.OpenLemmas.{rows-kept}
+use Rattle.map_tree.proofs.Shelves.{some_of}
+use Rattle.map_tree.proofs.nodes.Node.copied.Goals as goal
+
+pub of_chunk-node-requires : goal.of_chunk-node-requires
+of_chunk-node-requires g c =
+    let s = some_of (rows_at (g.C.Chunks.contents c.args.chunks.now) c.args.depth (stamp_of c.args.at)) c.requires in
+    let r = rows-kept (g.C.Chunks.contents c.args.chunks.now) (g.C.Chunks.contents c.show.new.self) c.args.depth (stamp_of c.args.at) s.0 c.show.ensures.grown s.1 in
+    let k = copyable (g.C.Chunks.contents c.show.new.self) c.args.depth (stamp_of c.args.at) s.0 _ r c.in_ok-held.ensures.content in
+    subst (λ (ch : Chunk Ref). MayBeDeep c.args.depth ch) (sym c.chunk.ensures) k.deep
+
+pub returns-clause-rows : goal.returns-clause-rows
+returns-clause-rows g c =
+    let s = some_of (rows_at (g.C.Chunks.contents c.args.chunks.now) c.args.depth (stamp_of c.args.at)) c.requires in
+    let r = rows-kept (g.C.Chunks.contents c.args.chunks.now) (g.C.Chunks.contents c.show.new.self) c.args.depth (stamp_of c.args.at) s.0 c.show.ensures.grown s.1 in
+    let k = copyable (g.C.Chunks.contents c.show.new.self) c.args.depth (stamp_of c.args.at) s.0 _ r c.in_ok-held.ensures.content in
+    ap (λ p. shown p c.in_ok-node.field-0.pieces) c.leave.ensures
+    ∙ ap (shown (g.C.Chunks.contents c.show.new.self)) (c.in_ok-node.ensures.1 ∙ ap (chunk_pieces c.args.depth) c.chunk.ensures)
+    ∙ k.rows_are ∙ sym s.1

@@ -1,0 +1,43 @@
+use Rattle.std.proofs.Common.{◌≡◌, ◌∙◌, ◌++◌, ap, sym, subst, Some, nat_cmp, true}
+use Rattle.std.specs.Cmp.Lexicographic.{slice_cmp}
+use Rattle.std.specs.FinMap as finite
+use Rattle.group_history.specs.Spelling.{begins_with}
+use Rattle.map_tree.specs.Halves.{half_pieces, IsHalf, least}
+use Rattle.map_tree.specs.Nodes.{HeadIs}
+use Rattle.map_tree.specs.Shown.{Seen, shown, rows_or}
+use Rattle.map_tree.proofs.LeafLemmas.{put-strict}
+use Rattle.map_tree.proofs.OpenLemmas.{known}
+use Rattle.map_tree.proofs.RootLemmas.{two, begins_least}
+use Rattle.map_tree.proofs.nodes.Node.put_root.Goals as goal
+
+pub root_above-requires-clause-head : goal.root_above-requires-clause-head
+root_above-requires-clause-head g c =
+    let p = g.C.Chunks.contents c.args.chunks.now in
+    let q = g.C.Chunks.contents c.put.new.chunks in
+    let key = c.args.key.now in
+    let n = known (shown p c.args.self.now.pieces) c.requires in
+    let rows = finite.put (slice_cmp nat_cmp) key c.args.value n.rows in
+    let e : shown q (c.put.new.self.pieces ++ c.in-Some.half.node.pieces) ≡ Some rows =
+    ap (λ h. shown q (c.put.new.self.pieces ++ half_pieces h)) (sym c.in-Some.is) ∙ c.in_ok-put.ensures.done ∙ ap (λ z. Some (finite.put (slice_cmp nat_cmp) key c.args.value (rows_or z))) n.is in
+    let hf : IsHalf 1 c.args.self.now.depth (Some c.in-Some.half) = subst (IsHalf 1 c.args.self.now.depth) c.in-Some.is c.in_ok-put.ensures.half in
+    let b = begins_least p c.self.inside.depth c.self.inside.keys.texts c.self.inside.body n.rows key c.args.value c.self.invariant (ap (shown p) (ap (λ (s : Seen). s.pieces) c.self.view_is) ∙ n.is) in
+    let f : c.in_ok-first.first ≡ least key c.self.inside.keys.texts = c.in_ok-first.ensures ∙ ap (least key) c.as_slice.ensures in
+    let t = two q c.in_ok-first.first hf.1.0 c.put.new.self.pieces c.in-Some.half.node.pieces rows e (put-strict key c.args.value n.rows n.order)
+    (subst (λ w. begins_with w rows ≡ true) (sym f) b) c.in_ok-put.ensures.filled hf.1.1 in
+    subst (λ (s : Seen). HeadIs c.in_ok-first.first s.pieces) (sym c.replace-lower.ensures.value) t.head
+
+pub root_above-requires-clause-order : goal.root_above-requires-clause-order
+root_above-requires-clause-order g c =
+    let p = g.C.Chunks.contents c.args.chunks.now in
+    let q = g.C.Chunks.contents c.put.new.chunks in
+    let key = c.args.key.now in
+    let n = known (shown p c.args.self.now.pieces) c.requires in
+    let rows = finite.put (slice_cmp nat_cmp) key c.args.value n.rows in
+    let e : shown q (c.put.new.self.pieces ++ c.in-Some.half.node.pieces) ≡ Some rows =
+    ap (λ h. shown q (c.put.new.self.pieces ++ half_pieces h)) (sym c.in-Some.is) ∙ c.in_ok-put.ensures.done ∙ ap (λ z. Some (finite.put (slice_cmp nat_cmp) key c.args.value (rows_or z))) n.is in
+    let hf : IsHalf 1 c.args.self.now.depth (Some c.in-Some.half) = subst (IsHalf 1 c.args.self.now.depth) c.in-Some.is c.in_ok-put.ensures.half in
+    let b = begins_least p c.self.inside.depth c.self.inside.keys.texts c.self.inside.body n.rows key c.args.value c.self.invariant (ap (shown p) (ap (λ (s : Seen). s.pieces) c.self.view_is) ∙ n.is) in
+    let f : c.in_ok-first.first ≡ least key c.self.inside.keys.texts = c.in_ok-first.ensures ∙ ap (least key) c.as_slice.ensures in
+    let t = two q c.in_ok-first.first hf.1.0 c.put.new.self.pieces c.in-Some.half.node.pieces rows e (put-strict key c.args.value n.rows n.order)
+    (subst (λ w. begins_with w rows ≡ true) (sym f) b) c.in_ok-put.ensures.filled hf.1.1 in
+    t.order

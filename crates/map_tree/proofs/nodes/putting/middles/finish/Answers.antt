@@ -1,0 +1,72 @@
+use Rattle.std.proofs.Common.{◌≡◌, ◌∙◌, ◌<◌, ◌+◌, ◌-◌, [], ap, sym, subst, arith, length, insert, Some, None, get_or, refl}
+use Rattle.group_history.specs.Rows.{paired, keys_of}
+use Rattle.map_tree.specs.Halves.{with_half, IsHalf}
+use Rattle.map_tree.specs.Inserting.{Parted}
+use Rattle.map_tree.specs.Nodes.{Kids}
+use Rattle.map_tree.specs.declared.nodes.Child.TheVariants.{Own}
+use Rattle.map_tree.proofs.KidLemmas.{finished_alone, kid_halves, putting, chosen_are}
+use Rattle.map_tree.proofs.ListLemmas.{length-paired}
+use Rattle.map_tree.proofs.nodes.putting.middles.finish.Goals as goal
+
+pub returns-in_default : goal.returns-in_default
+returns-in_default c =
+    let keys = c.args.keys.now.texts in
+    let kids = c.args.kids.now.items in
+    let es : Kids = with_half c.args.place c.args.half (paired keys kids) in
+    let e : es ≡ paired keys kids = ap (λ h. with_half c.args.place h (paired keys kids)) c.in_default.is in
+    let n = ap length e ∙ length-paired keys kids c.requires.pairs in
+    finished_alone c.args.depth c.args.copies es keys kids (sym e, c.requires.pairs) c.requires.kids c.requires.order (omega (arith, n, c.requires.few)) (omega (arith, n, c.requires.within))
+
+pub returns-in_default-insert_entry : goal.returns-in_default-insert_entry
+returns-in_default-insert_entry c =
+    let keys = c.args.keys.now.texts in
+    let kids = c.args.kids.now.items in
+    let es : Kids = with_half c.args.place c.args.half (paired keys kids) in
+    let hf : IsHalf (c.args.copies + 1) (c.args.depth - 1) (Some c.in-Some.half) = subst (IsHalf (c.args.copies + 1) (c.args.depth - 1)) c.in-Some.is c.requires.half in
+    let p = putting keys kids c.args.place c.args.copies (c.args.depth - 1) c.in-Some.half c.in-Some-pop.first c.pop.new.self.items c.requires.pairs c.requires.within hf c.in-Some-pop.ensures.items in
+    let back : with_half c.args.place (Some c.in-Some.half) (paired keys kids) ≡ es = ap (λ h. with_half c.args.place h (paired keys kids)) (sym c.in-Some.is) in
+    let q : insert (paired keys kids) (c.args.place + 1) (c.in-Some-pop.first, Own c.in-Some.half.node) ≡ es = p.es_is ∙ back in
+    let h = subst (λ (w : Kids). Parted w c.insert_entry.new.keys.texts c.insert_entry.new.entries.items None) q c.in_default-insert_entry.ensures in
+    finished_alone c.args.depth c.args.copies es c.insert_entry.new.keys.texts c.insert_entry.new.entries.items h.0 c.requires.kids c.requires.order h.1 (subst (λ w. 0 < length w) back p.filled)
+
+pub invariant_of-result : goal.invariant_of-result
+invariant_of-result c =
+    let keys = c.args.keys.now.texts in
+    let kids = c.args.kids.now.items in
+    let es : Kids = with_half c.args.place c.args.half (paired keys kids) in
+    let hf : IsHalf (c.args.copies + 1) (c.args.depth - 1) (Some c.in-Some.half) = subst (IsHalf (c.args.copies + 1) (c.args.depth - 1)) c.in-Some.is c.requires.half in
+    let p = putting keys kids c.args.place c.args.copies (c.args.depth - 1) c.in-Some.half c.in-Some-pop.first c.pop.new.self.items c.requires.pairs c.requires.within hf c.in-Some-pop.ensures.items in
+    let back : with_half c.args.place (Some c.in-Some.half) (paired keys kids) ≡ es = ap (λ h. with_half c.args.place h (paired keys kids)) (sym c.in-Some.is) in
+    let q : insert (paired keys kids) (c.args.place + 1) (c.in-Some-pop.first, Own c.in-Some.half.node) ≡ es = p.es_is ∙ back in
+    let h = subst (λ (w : Kids). Parted w c.insert_entry.new.keys.texts c.insert_entry.new.entries.items (Some (c.in-Some-insert_entry.upper_keys.texts, c.in-Some-insert_entry.upper.items))) q c.in-Some-insert_entry.ensures in
+    let b = kid_halves (c.args.depth - 1) es c.insert_entry.new.keys.texts c.insert_entry.new.entries.items c.in-Some-insert_entry.upper_keys.texts c.in-Some-insert_entry.upper.items h c.requires.kids c.requires.order in
+    (b.right.1, (c.requires.above, b.right.2, b.right.0, b.right.3))
+
+pub returns : goal.returns
+returns c =
+    let keys = c.args.keys.now.texts in
+    let kids = c.args.kids.now.items in
+    let es : Kids = with_half c.args.place c.args.half (paired keys kids) in
+    let hf : IsHalf (c.args.copies + 1) (c.args.depth - 1) (Some c.in-Some.half) = subst (IsHalf (c.args.copies + 1) (c.args.depth - 1)) c.in-Some.is c.requires.half in
+    let p = putting keys kids c.args.place c.args.copies (c.args.depth - 1) c.in-Some.half c.in-Some-pop.first c.pop.new.self.items c.requires.pairs c.requires.within hf c.in-Some-pop.ensures.items in
+    let back : with_half c.args.place (Some c.in-Some.half) (paired keys kids) ≡ es = ap (λ h. with_half c.args.place h (paired keys kids)) (sym c.in-Some.is) in
+    let q : insert (paired keys kids) (c.args.place + 1) (c.in-Some-pop.first, Own c.in-Some.half.node) ≡ es = p.es_is ∙ back in
+    let h = subst (λ (w : Kids). Parted w c.insert_entry.new.keys.texts c.insert_entry.new.entries.items (Some (c.in-Some-insert_entry.upper_keys.texts, c.in-Some-insert_entry.upper.items))) q c.in-Some-insert_entry.ensures in
+    let b = kid_halves (c.args.depth - 1) es c.insert_entry.new.keys.texts c.insert_entry.new.entries.items c.in-Some-insert_entry.upper_keys.texts c.in-Some-insert_entry.upper.items h c.requires.kids c.requires.order in
+    let n : get_or (keys_of es) 8 [] ≡ get_or (insert keys (c.args.place + 1) c.in-Some-pop.first) 8 [] = ap (λ w. get_or (keys_of w) 8 []) (sym back) ∙ p.ninth in
+    let full : length keys ≡ 16 = omega (arith, h.2, p.whole, ap length back) in (
+      b.pieces,
+      (
+        refl,
+        (
+          get_or (keys_of es) 8 [],
+          b.head,
+          chosen_are c.args.place c.args.copies c.in-Some-pop.first (get_or (keys_of es) 8 []) (get_or (insert keys (c.args.place + 1) c.in-Some-pop.first) 8 []) c.pop.new.self.items c.args.firsts.items c.chosen.result.items
+              n p.given_are p.at_eight c.chosen.ensures.at c.chosen.ensures.other (λ z. c.requires.firsts c.in-Some-pop.first z full c.in-Some-pop.first (λ y. refl)),
+        ),
+      ),
+      b.left.0,
+      b.left.1,
+      b.left.2,
+      b.left.3,
+    )

@@ -1,0 +1,135 @@
+use Rattle.std.proofs.Common.{◌≡◌, ◌∙◌, ap, sym, subst, Some, refl}
+use Rattle.std.specs.Prelude.{IsSome, option_and_then}
+use Rattle.std.specs.FinMap as finite
+use Rattle.group_history.specs.Refs.{stamp_of}
+use Rattle.group_history.specs.Spelling.{map_at, rows_at}
+use Rattle.map_tree.specs.Shown.{shown, map_of_rows}
+use Rattle.map_tree.specs.Trees.{root_map, tree_map}
+use Rattle.map_tree.proofs.AnswerLemmas.{on_ok}
+use Rattle.map_tree.proofs.OpenLemmas.{rows_at-segment, segment-kept}
+use Rattle.map_tree.proofs.Shelves.{some_of}
+use Rattle.map_tree.proofs.TreeLemmas.{map_is}
+use Rattle.map_tree.proofs.WriteLemmas.{put_map, put_same, same_value, root_kept, placed_map, found_there, entries_tree, put_copied}
+use Rattle.map_tree.proofs.tree.Tree.put.Goals as goal
+
+pub returns-then-is_value-clause-ok : goal.returns-then-is_value-clause-ok
+returns-then-is_value-clause-ok g c m h =
+    let p0 = g.C.Chunks.contents c.args.chunks.now in
+    let p = g.C.Chunks.contents c.get.new.chunks in
+    let key = c.args.key.now in
+    let v = same_value c.in_ok-found.found c.args.value.now (sym c.is_value.ensures ∙ c.if-is_value.true) in
+    root_kept p0 p c.args.self.now.root m c.get.ensures.grown h ∙ ap (λ w. Some w) (sym (put_same m key c.args.value.now (sym (c.in_ok-found.ensures.value m h) ∙ v)))
+
+pub write-requires-clause-tree : goal.write-requires-clause-tree
+write-requires-clause-tree g c =
+    let p0 = g.C.Chunks.contents c.args.chunks.now in
+    let p = g.C.Chunks.contents c.get.new.chunks in
+    let key = c.args.key.now in
+    let s = some_of (tree_map p0 c.args.self.now) c.requires in
+    let m = s.0 in
+    let h = s.1 in
+    let h1 : option_and_then map_of_rows (shown p c.in-Own.node.pieces) ≡ Some m = ap (root_map p) (sym c.in-Own.is) ∙ root_kept p0 p c.args.self.now.root m c.get.ensures.grown h in
+    (map_is (shown p c.in-Own.node.pieces) m h1).tree
+
+pub write-requires-clause-there : goal.write-requires-clause-there
+write-requires-clause-there g c z =
+    let p0 = g.C.Chunks.contents c.args.chunks.now in
+    let p = g.C.Chunks.contents c.get.new.chunks in
+    let key = c.args.key.now in
+    let s = some_of (tree_map p0 c.args.self.now) c.requires in
+    let m = s.0 in
+    let h = s.1 in
+    let h1 : option_and_then map_of_rows (shown p c.in-Own.node.pieces) ≡ Some m = ap (root_map p) (sym c.in-Own.is) ∙ root_kept p0 p c.args.self.now.root m c.get.ensures.grown h in
+    found_there (shown p c.in-Own.node.pieces) m key c.in_ok-found.found c.is_some-there.result (map_is (shown p c.in-Own.node.pieces) m h1).is (c.in_ok-found.ensures.value m h) c.is_some-there.ensures z
+
+pub returns-in-Own-clause-ok : goal.returns-in-Own-clause-ok
+returns-in-Own-clause-ok g c m h =
+    let p0 = g.C.Chunks.contents c.args.chunks.now in
+    let p = g.C.Chunks.contents c.get.new.chunks in
+    let key = c.args.key.now in
+    let h1 : option_and_then map_of_rows (shown p c.in-Own.node.pieces) ≡ Some m = ap (root_map p) (sym c.in-Own.is) ∙ root_kept p0 p c.args.self.now.root m c.get.ensures.grown h in
+    on_ok c.write.result c.write.ensures.done (λ e. put_map (shown p c.in-Own.node.pieces) (shown (g.C.Chunks.contents c.write.new.chunks) c.write.new.self.pieces) m key c.args.value.now h1 e)
+
+pub depth_placed-requires : goal.depth_placed-requires
+depth_placed-requires g c =
+    let p0 = g.C.Chunks.contents c.args.chunks.now in
+    let p = g.C.Chunks.contents c.get.new.chunks in
+    let key = c.args.key.now in
+    let s = some_of (tree_map p0 c.args.self.now) c.requires in
+    let m = s.0 in
+    let h = s.1 in
+    let k = stamp_of c.in-Placed.at in
+    let h1 : map_at p k ≡ Some m = ap (root_map p) (sym c.in-Placed.is) ∙ root_kept p0 p c.args.self.now.root m c.get.ensures.grown h in
+    let sp = placed_map p k m h1 in
+    subst IsSome (sym sp.is) refl
+
+pub copied-requires : goal.copied-requires
+copied-requires g c =
+    let p0 = g.C.Chunks.contents c.args.chunks.now in
+    let p = g.C.Chunks.contents c.get.new.chunks in
+    let key = c.args.key.now in
+    let s = some_of (tree_map p0 c.args.self.now) c.requires in
+    let m = s.0 in
+    let h = s.1 in
+    let k = stamp_of c.in-Placed.at in
+    let h1 : map_at p k ≡ Some m = ap (root_map p) (sym c.in-Placed.is) ∙ root_kept p0 p c.args.self.now.root m c.get.ensures.grown h in
+    let sp = placed_map p k m h1 in
+    let p2 = g.C.Chunks.contents c.depth_placed.new.chunks in
+    let d : c.in_ok-depth-in-Placed.depth ≡ sp.segment.depth = c.in_ok-depth-in-Placed.ensures.depth sp.segment sp.is in
+    let r : rows_at p2 c.in_ok-depth-in-Placed.depth k ≡ Some (finite.entries m) =
+    ap (λ n. rows_at p2 n k) d ∙ rows_at-segment p2 k sp.segment (segment-kept p p2 k sp.segment c.depth_placed.ensures.grown sp.is) ∙ ap (λ w. Some w) sp.rows in
+    subst IsSome (sym r) refl
+
+pub write-requires-in-Placed-clause-tree : goal.write-requires-in-Placed-clause-tree
+write-requires-in-Placed-clause-tree g c =
+    let p0 = g.C.Chunks.contents c.args.chunks.now in
+    let p = g.C.Chunks.contents c.get.new.chunks in
+    let key = c.args.key.now in
+    let s = some_of (tree_map p0 c.args.self.now) c.requires in
+    let m = s.0 in
+    let h = s.1 in
+    let k = stamp_of c.in-Placed.at in
+    let h1 : map_at p k ≡ Some m = ap (root_map p) (sym c.in-Placed.is) ∙ root_kept p0 p c.args.self.now.root m c.get.ensures.grown h in
+    let sp = placed_map p k m h1 in
+    let p2 = g.C.Chunks.contents c.depth_placed.new.chunks in
+    let d : c.in_ok-depth-in-Placed.depth ≡ sp.segment.depth = c.in_ok-depth-in-Placed.ensures.depth sp.segment sp.is in
+    let r : rows_at p2 c.in_ok-depth-in-Placed.depth k ≡ Some (finite.entries m) =
+    ap (λ n. rows_at p2 n k) d ∙ rows_at-segment p2 k sp.segment (segment-kept p p2 k sp.segment c.depth_placed.ensures.grown sp.is) ∙ ap (λ w. Some w) sp.rows in
+    let p3 = g.C.Chunks.contents c.copied.new.chunks in
+    let x : shown p3 c.in_ok-node-in-Placed.node.pieces ≡ Some (finite.entries m) = c.in_ok-node-in-Placed.ensures.rows ∙ r in
+    entries_tree (shown p3 c.in_ok-node-in-Placed.node.pieces) m x
+
+pub write-requires-in-Placed-clause-there : goal.write-requires-in-Placed-clause-there
+write-requires-in-Placed-clause-there g c z =
+    let p0 = g.C.Chunks.contents c.args.chunks.now in
+    let p = g.C.Chunks.contents c.get.new.chunks in
+    let key = c.args.key.now in
+    let s = some_of (tree_map p0 c.args.self.now) c.requires in
+    let m = s.0 in
+    let h = s.1 in
+    let k = stamp_of c.in-Placed.at in
+    let h1 : map_at p k ≡ Some m = ap (root_map p) (sym c.in-Placed.is) ∙ root_kept p0 p c.args.self.now.root m c.get.ensures.grown h in
+    let sp = placed_map p k m h1 in
+    let p2 = g.C.Chunks.contents c.depth_placed.new.chunks in
+    let d : c.in_ok-depth-in-Placed.depth ≡ sp.segment.depth = c.in_ok-depth-in-Placed.ensures.depth sp.segment sp.is in
+    let r : rows_at p2 c.in_ok-depth-in-Placed.depth k ≡ Some (finite.entries m) =
+    ap (λ n. rows_at p2 n k) d ∙ rows_at-segment p2 k sp.segment (segment-kept p p2 k sp.segment c.depth_placed.ensures.grown sp.is) ∙ ap (λ w. Some w) sp.rows in
+    let p3 = g.C.Chunks.contents c.copied.new.chunks in
+    let x : shown p3 c.in_ok-node-in-Placed.node.pieces ≡ Some (finite.entries m) = c.in_ok-node-in-Placed.ensures.rows ∙ r in
+    found_there (shown p3 c.in_ok-node-in-Placed.node.pieces) m key c.in_ok-found.found c.is_some-there.result x (c.in_ok-found.ensures.value m h) c.is_some-there.ensures z
+
+pub returns-in-Placed-clause-ok : goal.returns-in-Placed-clause-ok
+returns-in-Placed-clause-ok g c m h =
+    let p0 = g.C.Chunks.contents c.args.chunks.now in
+    let p = g.C.Chunks.contents c.get.new.chunks in
+    let key = c.args.key.now in
+    let k = stamp_of c.in-Placed.at in
+    let h1 : map_at p k ≡ Some m = ap (root_map p) (sym c.in-Placed.is) ∙ root_kept p0 p c.args.self.now.root m c.get.ensures.grown h in
+    let sp = placed_map p k m h1 in
+    let p2 = g.C.Chunks.contents c.depth_placed.new.chunks in
+    let d : c.in_ok-depth-in-Placed.depth ≡ sp.segment.depth = c.in_ok-depth-in-Placed.ensures.depth sp.segment sp.is in
+    let r : rows_at p2 c.in_ok-depth-in-Placed.depth k ≡ Some (finite.entries m) =
+    ap (λ n. rows_at p2 n k) d ∙ rows_at-segment p2 k sp.segment (segment-kept p p2 k sp.segment c.depth_placed.ensures.grown sp.is) ∙ ap (λ w. Some w) sp.rows in
+    let p3 = g.C.Chunks.contents c.copied.new.chunks in
+    let x : shown p3 c.in_ok-node-in-Placed.node.pieces ≡ Some (finite.entries m) = c.in_ok-node-in-Placed.ensures.rows ∙ r in
+    put_copied (shown p3 c.in_ok-node-in-Placed.node.pieces) (shown (g.C.Chunks.contents c.write-in-Placed.new.chunks) c.write-in-Placed.new.self.pieces) m key c.args.value.now x c.in_ok-write-in-Placed.ensures.done

@@ -1,0 +1,21 @@
+use Rattle.std.proofs.Common.{◌≡◌, Some, OnOk, sym, ap, subst, ◌∙◌}
+use Rattle.std.specs.Prelude.{option_and_then}
+use Rattle.group_history.specs.Refs.{stamp_of}
+use Rattle.map_tree.specs.Shown.{chunk_rows, shown, map_of_rows}
+use Rattle.map_tree.specs.Trees.{root_map}
+use Rattle.map_tree.proofs.ScanLemmas.{scan_of-map}
+use Rattle.map_tree.proofs.TreeLemmas.{map_at-rows}
+use Rattle.map_tree.proofs.tree.Tree.scan_into.Goals as goal
+
+pub returns-in-Placed-clause-rows : goal.returns-in-Placed-clause-rows
+returns-in-Placed-clause-rows g c m h =
+    let p = g.C.Chunks.contents c.args.chunks.now in
+    let k = stamp_of c.in-Placed.at in
+    let e : option_and_then map_of_rows (chunk_rows p k) ≡ Some m = sym (map_at-rows p k) ∙ ap (root_map p) (sym c.in-Placed.is) ∙ h in
+    subst (λ x. OnOk c.scan_placed.result (c.scan_placed.new.out.items ≡ x)) (scan_of-map (chunk_rows p k) m c.args.scan.now c.args.out.now.items e c.requires.none) c.scan_placed.ensures.rows
+
+pub returns-in-Own-clause-rows : goal.returns-in-Own-clause-rows
+returns-in-Own-clause-rows g c m h =
+    let p = g.C.Chunks.contents c.args.chunks.now in
+    let e : option_and_then map_of_rows (shown p c.in-Own.node.pieces) ≡ Some m = ap (root_map p) (sym c.in-Own.is) ∙ h in
+    subst (λ x. OnOk c.scan.result (c.scan.new.out.items ≡ x)) (scan_of-map (shown p c.in-Own.node.pieces) m c.args.scan.now c.args.out.now.items e c.requires.none) c.scan.ensures.rows

@@ -1,0 +1,16 @@
+pub mod Copies
+pub mod Depths
+pub mod Drafts
+pub mod Falls
+pub mod Halves
+pub mod Inserting
+pub mod Keys
+pub mod KeysSeen
+pub mod Nodes
+pub mod Search
+pub mod Shown
+pub mod Steps
+pub mod Trees
+pub mod Writes
+pub mod Freezing
+pub mod Scanning

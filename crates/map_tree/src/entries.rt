@@ -1,0 +1,69 @@
+//! Keys and what stands under them, changed together.
+ghost use Rattle.std.specs.Prelude.{◌≡◌, ◌<◌, ◌≤◌, [], length, IfOk, Some, vec_items, vec_len, vec_capacity};
+ghost use Rattle.std.specs.List.{insert};
+ghost use Rattle.std.specs.Option.{option_map};
+ghost use Rattle.group_history.specs.Rows.{paired};
+ghost use Rattle.map_tree.specs.Inserting.{Parted};
+
+use crate::keys::{NodeKeys, ROOM, move_tail};
+use group_history::Text;
+use std::alloc::{AllocError, Global};
+
+/// So many entries a chunk has at most.
+pub(crate) const MOST: usize = 16;
+
+/// Room for the upper half of a chunk that may be split.
+#[derive(Drop)]
+pub(crate) struct Spare<T> {
+    pub(crate) keys: Vec<Text>,
+    pub(crate) entries: Vec<T>,
+}
+
+/// Room for the upper half, where there are so many entries.
+pub(crate) fn take_spare<T: Drop>(alloc: Global, len: usize) -> Result<Spare<T>, AllocError>
+    ensures keys { IfOk result (λ s. s.keys.items ≡ []) }
+    ensures entries { IfOk result (λ s. s.entries.items ≡ []) }
+    ensures room { IfOk result (λ s. 16 ≤ len → (17 ≤ vec_capacity s.keys) × (17 ≤ vec_capacity s.entries)) }
+{
+    if len < MOST {
+        return Ok(Spare {
+            keys: Vec::new(alloc),
+            entries: Vec::new(alloc),
+        });
+    }
+    let keys = Vec::with_capacity(alloc, ROOM)?;
+    let entries = Vec::with_capacity(alloc, ROOM)?;
+    Ok(Spare { keys, entries })
+}
+
+/// Puts an entry before the one at the place, and answers the upper half where there are 17 then.
+pub(crate) fn insert_entry<T: Drop>(
+    keys: &mut NodeKeys,
+    entries: &mut Vec<T>,
+    place: usize,
+    key: Text,
+    entry: T,
+    spare: Spare<T>,
+) -> Option<(NodeKeys, Vec<T>)>
+    requires pairs { length entries.old.items ≡ length keys.old.texts }
+    requires few { length keys.old.texts ≤ 16 }
+    requires within { place ≤ length keys.old.texts }
+    requires room { (0 < keys.old.room) × (vec_len entries.old < vec_capacity entries.old) }
+    requires spare_keys { spare.keys.items ≡ [] }
+    requires spare_entries { spare.entries.items ≡ [] }
+    requires spare_room { 16 ≤ length keys.old.texts → (17 ≤ vec_capacity spare.keys) × (17 ≤ vec_capacity spare.entries) }
+    ensures { Parted (insert (paired keys.old.texts entries.old.items) place (key, entry)) keys.new.texts entries.new.items (option_map (λ u. (u.0.texts, u.1.items)) result) }
+{
+    keys.insert(place, key);
+    let _ = entries.insert(place, entry);
+    if entries.len() <= MOST {
+        return None;
+    }
+    let Spare {
+        keys: texts,
+        entries: mut upper,
+    } = spare;
+    let upper_keys = keys.split(texts);
+    move_tail(entries, &mut upper);
+    Some((upper_keys, upper))
+}

@@ -1,0 +1,24 @@
+//! A map as a tree of chunks.
+#![tactic(auto)]
+
+mod chunks;
+mod drafts;
+mod entries;
+mod keys;
+mod looks;
+mod nodes;
+mod placed;
+mod scanning;
+mod search;
+mod shelf;
+mod staged;
+mod tree;
+
+pub use chunks::{Chunks, ShowsChunk};
+pub use drafts::Draft;
+pub use shelf::{Lent, Shelf, VecChunks};
+pub use staged::Staged;
+pub use tree::Tree;
+
+#[cfg(test)]
+mod tests;

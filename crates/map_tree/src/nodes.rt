@@ -1,0 +1,65 @@
+//! The chunks of a draft that it owns, and changes in place.
+//!
+//! An own chunk holds its children, each an own chunk or a reference to a placed one. Contracts see it
+//! as the list of its pieces: rows, and the placed chunks below it, in the order of their keys.
+mod building;
+mod copies;
+mod freezing;
+mod putting;
+mod reading;
+mod replacing;
+#[cfg(test)]
+mod scan_tests;
+mod scanning;
+mod writing;
+
+use crate::keys::NodeKeys;
+pub(crate) use freezing::frozen;
+use group_history::{Json, Ref};
+use std::marker::Model;
+
+/// A chunk that a draft owns. A leaf is 1 deep.
+#[cycle(node)]
+#[derive(Drop)]
+pub(crate) struct Node {
+    depth: u64,
+    keys: NodeKeys,
+    body: Body,
+}
+
+#[cycle(node)]
+#[derive(Drop)]
+enum Body {
+    Leaf(Vec<Json>),
+    Inner(Vec<Child>),
+}
+
+#[cycle(node)]
+#[derive(Drop)]
+enum Child {
+    Placed(Ref),
+    Own(Node),
+}
+
+impl Model for Node {
+    ghost use Rattle.map_tree.specs.Shown.{Seen};
+
+    ghost Value = { Seen };
+
+    ghost use Rattle.map_tree.specs.Nodes.{body_pieces, body_height, body_fresh, IsNode};
+
+    ghost view = { λ n. record {
+      depth = n.depth;
+      pieces = body_pieces n.depth n.keys.texts n.body;
+      height = body_height n.body;
+      fresh = body_fresh n.body;
+    } };
+
+    ghost invariant = { λ n. IsNode n.depth n.keys.texts n.body };
+
+    ghost size = { λ s. s.height };
+
+    ghost use Rattle.map_tree.specs.Falls.{deep-body};
+
+    ghost size_decreases = { λ a h. deep-body a.body };
+}

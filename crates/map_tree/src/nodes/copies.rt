@@ -1,0 +1,78 @@
+//! Copies of placed chunks.
+ghost use Rattle.std.specs.Prelude.{◌≡◌, ◌⊎◌, length, map, Some, IfOk, IfErr, IsSome};
+ghost use mathlib.Core.List.{IsPrefix};
+ghost use Rattle.group_history.specs.Refs.{stamp_of};
+ghost use Rattle.group_history.specs.Spelling.{rows_at};
+ghost use Rattle.group_history.specs.declared.mutators.Stop.TheVariants.{NoMemory};
+ghost use Rattle.map_tree.specs.Copies.{MayBeDeep, IsCopy};
+ghost use Rattle.map_tree.specs.Shown.{shown};
+ghost use Rattle.map_tree.specs.declared.nodes.Child.TheVariants.{Placed};
+
+use super::{Body, Child, Node};
+use crate::chunks::{Chunks, ShowsChunk};
+use crate::keys::NodeKeys;
+use group_history::{Chunk, Json, Ref, Stop};
+use std::alloc::{AllocError, Global};
+
+impl Node {
+    /// A copy of the placed chunk, which is so deep.
+    pub(crate) fn copied<C: Chunks>(
+        alloc: Global,
+        chunks: &mut C,
+        at: Ref,
+        depth: u64,
+    ) -> Result<Node, Stop>
+        requires { IsSome (rows_at (C.contents chunks.old) depth (stamp_of at)) }
+        ensures grown { IsPrefix (C.contents chunks.old) (C.contents chunks.new) }
+        ensures depth { IfOk result (λ n. n.depth ≡ depth) }
+        ensures rows { IfOk result (λ n. shown (C.contents chunks.new) n.pieces ≡ rows_at (C.contents chunks.old) depth (stamp_of at)) }
+        ensures fresh { IfOk result (λ n. n.fresh ≡ 1) }
+        ensures stopped { IfErr result (λ s. (s ≡ NoMemory) ⊎ C.stops s) }
+    {
+        let held = chunks.show(at)?;
+        let node = Node::of_chunk(alloc, held.chunk(), depth);
+        chunks.leave(held);
+        Ok(node?)
+    }
+
+    fn of_chunk(alloc: Global, chunk: &Chunk<Ref>, depth: u64) -> Result<Node, AllocError>
+        requires { MayBeDeep depth chunk.now }
+        ensures { IfOk result (IsCopy depth chunk.now) }
+    {
+        match chunk {
+            Chunk::Leaf(leaf) => {
+                let keys = NodeKeys::shared(leaf.keys().clone()?);
+                let body = Body::Leaf(copied_values(alloc, leaf.values())?);
+                Ok(Node { depth, keys, body })
+            }
+            Chunk::Inner(inner) => {
+                let keys = NodeKeys::shared(inner.firsts().clone()?);
+                let body = Body::Inner(placed_children(alloc, inner.children())?);
+                Ok(Node { depth, keys, body })
+            }
+        }
+    }
+}
+
+/// So many entries a chunk has at most, while it is changed.
+const ROOM: usize = 17;
+
+fn copied_values(alloc: Global, values: &[Json]) -> Result<Vec<Json>, AllocError>
+    ensures { IfOk result (λ copy. copy.items ≡ values.now) }
+{
+    let mut copy = Vec::with_capacity(alloc, ROOM)?;
+    for value in values {
+        copy.push(value.clone()?)?;
+    }
+    Ok(copy)
+}
+
+fn placed_children(alloc: Global, children: &[Ref]) -> Result<Vec<Child>, AllocError>
+    ensures { IfOk result (λ copy. copy.items ≡ map (λ at. Placed at) children.now) }
+{
+    let mut copy = Vec::with_capacity(alloc, ROOM)?;
+    for at in children {
+        copy.push(Child::Placed(*at))?;
+    }
+    Ok(copy)
+}

@@ -1,0 +1,104 @@
+//! A draft's chunks written down as nodes that can be placed, children before parents.
+ghost use Rattle.std.specs.Prelude.{◌≡◌, ◌+◌, ◌<◌, ◌≤◌, ◌^◌, ◌⊎◌, length, Some, IfOk, IfErr, OnOk, OnErr};
+ghost use mathlib.Core.List.{IsPrefix};
+ghost use Rattle.group_history.specs.Refs.{stamp_of};
+ghost use Rattle.group_history.specs.Rows.{Rows};
+ghost use Rattle.group_history.specs.Spelling.{Contents, rows_at};
+ghost use Rattle.group_history.specs.declared.refusals.Refusal.TheVariants as refusal;
+ghost use Rattle.map_tree.specs.Freezing.{with_nodes, IsFrozen, AreFrozen};
+ghost use Rattle.map_tree.specs.Nodes.{child_fresh, kids_fresh};
+ghost use Rattle.map_tree.specs.Shown.{shown};
+
+use super::{Body, Child, Node};
+use crate::drafts::Draft;
+use group_history::{Chunk, Inner, Leaf, Ref, Refusal};
+use std::alloc::Global;
+
+/// Appends the chunk and those that it owns to the draft, all or none, and answers its root's name.
+pub(crate) fn frozen(alloc: Global, node: Node, draft: &mut Draft) -> Result<Ref, Refusal>
+    ensures spelled { (contents : Contents) (rows : Rows) → length contents ≡ draft.old.first → shown (with_nodes contents draft.old.nodes) node.pieces ≡ Some rows → IfOk result (λ root. rows_at (with_nodes contents draft.new.nodes) node.depth (stamp_of root) ≡ Some rows) }
+    ensures count { OnOk result (length draft.new.nodes ≡ length draft.old.nodes + node.fresh) }
+    ensures first { draft.new.first ≡ draft.old.first }
+    ensures grown { IsPrefix draft.old.nodes draft.new.nodes }
+    ensures err { OnErr result (draft.new ≡ draft.old) }
+    ensures why { IfErr result (λ e. (e ≡ refusal.NoMemory) ⊎ ((e ≡ refusal.Stamps) × (2 ^ 44 < draft.old.first + length draft.old.nodes + node.fresh))) }
+{
+    let len = draft.len();
+    match node.freeze(alloc, draft) {
+        Ok(root) => {
+            return Ok(root);
+        }
+        Err(refused) => {
+            draft.truncate(len);
+            return Err(refused);
+        }
+    }
+}
+
+impl Node {
+    /// Appends the chunk to the draft, behind its own children, and answers its name. Placed children
+    /// keep their names. A refusal leaves what was appended so far.
+    #[cycle(freezing)]
+    fn freeze(self, alloc: Global, draft: &mut Draft) -> Result<Ref, Refusal>
+        ensures spelled { (contents : Contents) (rows : Rows) → length contents ≡ draft.old.first → shown (with_nodes contents draft.old.nodes) self.pieces ≡ Some rows → IfOk result (λ root. rows_at (with_nodes contents draft.new.nodes) self.depth (stamp_of root) ≡ Some rows) }
+        ensures count { OnOk result (length draft.new.nodes ≡ length draft.old.nodes + self.fresh) }
+        ensures bound { OnErr result (length draft.new.nodes < length draft.old.nodes + self.fresh) }
+        ensures first { draft.new.first ≡ draft.old.first }
+        ensures grown { IsPrefix draft.old.nodes draft.new.nodes }
+        ensures why { IfErr result (λ e. (e ≡ refusal.NoMemory) ⊎ ((e ≡ refusal.Stamps) × (2 ^ 44 ≤ draft.new.first + length draft.new.nodes))) }
+    {
+        let Node {
+            depth: _,
+            keys,
+            body,
+        } = self;
+        let keys = keys.into_keys(alloc)?;
+        match body {
+            Body::Leaf(values) => {
+                let leaf = Leaf::new(keys, values);
+                return draft.push(group_history::Node::Chunk(Chunk::Leaf(leaf)));
+            }
+            Body::Inner(kids) => {
+                let children = freeze_kids(alloc, kids, draft)?;
+                let inner = Inner::new(keys, children);
+                return draft.push(group_history::Node::Chunk(Chunk::Inner(inner)));
+            }
+        }
+    }
+}
+
+#[cycle(freezing)]
+fn freeze_kids(alloc: Global, kids: Vec<Child>, draft: &mut Draft) -> Result<Vec<Ref>, Refusal>
+    ensures frozen { IfOk result (λ ats. AreFrozen draft.old.first draft.old.nodes draft.new.nodes kids.items ats.items) }
+    ensures count { OnOk result (length draft.new.nodes ≡ length draft.old.nodes + kids_fresh kids.items) }
+    ensures bound { OnErr result (length draft.new.nodes ≤ length draft.old.nodes + kids_fresh kids.items) }
+    ensures first { draft.new.first ≡ draft.old.first }
+    ensures grown { IsPrefix draft.old.nodes draft.new.nodes }
+    ensures why { IfErr result (λ e. (e ≡ refusal.NoMemory) ⊎ ((e ≡ refusal.Stamps) × (2 ^ 44 ≤ draft.new.first + length draft.new.nodes))) }
+{
+    let mut children = Vec::with_capacity(alloc, kids.len())?;
+    for kid in kids {
+        let at = freeze_kid(alloc, kid, draft)?;
+        children.push(at)?;
+    }
+    Ok(children)
+}
+
+#[cycle(freezing)]
+fn freeze_kid(alloc: Global, kid: Child, draft: &mut Draft) -> Result<Ref, Refusal>
+    ensures frozen { IfOk result (IsFrozen draft.old.first draft.old.nodes draft.new.nodes kid) }
+    ensures count { OnOk result (length draft.new.nodes ≡ length draft.old.nodes + child_fresh kid) }
+    ensures bound { OnErr result (length draft.new.nodes ≤ length draft.old.nodes + child_fresh kid) }
+    ensures first { draft.new.first ≡ draft.old.first }
+    ensures grown { IsPrefix draft.old.nodes draft.new.nodes }
+    ensures why { IfErr result (λ e. (e ≡ refusal.NoMemory) ⊎ ((e ≡ refusal.Stamps) × (2 ^ 44 ≤ draft.new.first + length draft.new.nodes))) }
+{
+    match kid {
+        Child::Placed(at) => {
+            return Ok(at);
+        }
+        Child::Own(node) => {
+            return node.freeze(alloc, draft);
+        }
+    }
+}

@@ -1,0 +1,92 @@
+//! A put in a whole map: where its root is split, a new root stands above both halves.
+ghost use Rattle.std.specs.Prelude.{◌≡◌, ◌⊎◌, ◌<◌, ◌≤◌, ◌+◌, ◌^◌, ◌++◌, [], length, Some, IfOk, IfErr, OnOk, OnErr, T, vec_items, vec_len, vec_capacity};
+ghost use mathlib.Core.List.{IsPrefix};
+ghost use Rattle.std.specs.Ordering.{nat_cmp};
+ghost use Rattle.std.specs.Cmp.Lexicographic.{slice_cmp};
+ghost use Rattle.std.specs.FinMap as finite;
+ghost use Rattle.group_history.specs.declared.mutators.Stop.TheVariants.{NoMemory};
+ghost use Rattle.map_tree.specs.Shown.{shown, IsTree, rows_or};
+ghost use Rattle.map_tree.specs.Nodes.{HeadIs};
+ghost use Rattle.map_tree.specs.Halves.{IsHalf, least, AreInOrder};
+
+use super::super::{Body, Child, Node};
+use super::Half;
+use crate::chunks::Chunks;
+use crate::keys::{NodeKeys, ROOM};
+use group_history::{Json, Stop, Text};
+use std::alloc::{AllocError, Global};
+use std::mem;
+
+// The first key once this one is put.
+fn least_key(keys: &[Text], key: &Text) -> Result<Text, AllocError>
+    ensures { IfOk result (λ first. first ≡ least key.now keys.now) }
+{
+    if keys.is_empty() {
+        return Ok(key.clone()?);
+    }
+    if keys[0].as_str().cmp(key.as_str()).is_gt() {
+        return Ok(key.clone()?);
+    }
+    Ok(keys[0].clone()?)
+}
+
+// A root above both halves, made in the room that was taken for it.
+fn root_above(lower: Node, half: Half, first: Text, keys: Vec<Text>, kids: Vec<Child>) -> Node
+    requires depth { lower.depth + 1 < 2 ^ 64 }
+    requires head { HeadIs first lower.pieces }
+    requires half { IsHalf 1 lower.depth (Some half) }
+    requires order { AreInOrder first half.node.pieces }
+    requires keys { (keys.items ≡ []) × (17 ≤ vec_capacity keys) }
+    requires kids { (kids.items ≡ []) × (17 ≤ vec_capacity kids) }
+    ensures { result.pieces ≡ lower.pieces ++ half.node.pieces }
+{
+    let depth = lower.depth + 1;
+    let Half { mut firsts, node } = half;
+    let Some(second) = firsts.pop() else {
+        return lower;
+    };
+    let mut keys = keys;
+    let mut kids = kids;
+    let _ = keys.push(first);
+    let _ = keys.push(second);
+    let _ = kids.push(Child::Own(lower));
+    let _ = kids.push(Child::Own(node));
+    Node {
+        depth,
+        keys: NodeKeys::own(keys),
+        body: Body::Inner(kids),
+    }
+}
+
+impl Node {
+    /// Puts a row in the map whose root the chunk is.
+    pub(crate) fn put_root<C: Chunks>(
+        &mut self,
+        alloc: Global,
+        chunks: &mut C,
+        key: &Text,
+        value: Json,
+    ) -> Result<(), Stop>
+        requires { IsTree (shown (C.contents chunks.old) self.old.pieces) }
+        ensures grown { IsPrefix (C.contents chunks.old) (C.contents chunks.new) }
+        ensures done { OnOk result (shown (C.contents chunks.new) self.new.pieces ≡ Some (finite.put (slice_cmp nat_cmp) key.now value (rows_or (shown (C.contents chunks.old) self.old.pieces)))) }
+        ensures err { OnErr result (self.new ≡ self.old) }
+        ensures stopped { IfErr result (λ s. (s ≡ NoMemory) ⊎ C.stops s) }
+    {
+        // No memory holds a tree so deep.
+        if self.depth == u64::MAX {
+            return Err(Stop::NoMemory);
+        }
+        let first = least_key(self.keys.as_slice(), key)?;
+        let keys = Vec::with_capacity(alloc, ROOM)?;
+        let kids = Vec::with_capacity(alloc, ROOM)?;
+        match self.put(alloc, chunks, key, value, 1)? {
+            None => return Ok(()),
+            Some(half) => {
+                let lower = mem::replace(self, Node::empty(alloc));
+                *self = root_above(lower, half, first, keys, kids);
+                return Ok(());
+            }
+        }
+    }
+}

@@ -1,0 +1,35 @@
+//! Queries of a draft's chunks.
+ghost use Rattle.std.specs.Prelude.{◌≡◌, ◌⊎◌, IfOk, IfErr};
+ghost use mathlib.Core.List.{IsPrefix};
+ghost use Rattle.std.specs.Ordering.{nat_cmp};
+ghost use Rattle.std.specs.Cmp.Lexicographic.{slice_cmp};
+ghost use Rattle.std.specs.FinMap as finite;
+ghost use Rattle.group_history.specs.declared.mutators.Stop.TheVariants.{NoMemory};
+ghost use Rattle.map_tree.specs.Shown.{shown, IsTree, rows_or};
+
+use super::{Body, Child, Node};
+use crate::chunks::Chunks;
+use crate::placed::get_placed;
+use crate::search::{place_of, value_at};
+use group_history::{Json, Stop};
+
+impl Node {
+    /// The value at a key.
+    pub(crate) fn get<C: Chunks>(&self, chunks: &mut C, key: &str) -> Result<Option<Json>, Stop>
+        requires { IsTree (shown (C.contents chunks.old) self.now.pieces) }
+        ensures grown { IsPrefix (C.contents chunks.old) (C.contents chunks.new) }
+        ensures value { IfOk result (λ v. v ≡ finite.find (slice_cmp nat_cmp) key.now (rows_or (shown (C.contents chunks.old) self.now.pieces))) }
+        ensures stopped { IfErr result (λ s. (s ≡ NoMemory) ⊎ C.stops s) }
+    {
+        match &self.body {
+            Body::Leaf(values) => Ok(value_at(self.keys.as_slice(), values, key)?),
+            Body::Inner(kids) => {
+                let place = place_of(self.keys.as_slice(), key);
+                match &kids[place] {
+                    Child::Placed(at) => get_placed(chunks, *at, key),
+                    Child::Own(node) => node.get(chunks, key),
+                }
+            }
+        }
+    }
+}

@@ -1,0 +1,39 @@
+//! A put of a key that is there, or isn't.
+ghost use Rattle.std.specs.Prelude.{◌≡◌, ◌⊎◌, true, Some, IfErr, OnOk, OnErr, IsSome};
+ghost use mathlib.Core.List.{IsPrefix};
+ghost use Rattle.std.specs.Ordering.{nat_cmp};
+ghost use Rattle.std.specs.Cmp.Lexicographic.{slice_cmp};
+ghost use Rattle.std.specs.FinMap as finite;
+ghost use Rattle.group_history.specs.declared.mutators.Stop.TheVariants.{NoMemory};
+ghost use Rattle.map_tree.specs.Shown.{shown, IsTree, rows_or};
+
+use super::Node;
+use crate::chunks::Chunks;
+use group_history::{Json, Stop, Text};
+use std::alloc::Global;
+
+impl Node {
+    /// Puts a row in the map whose root the chunk is; `there` says whether its key is there.
+    pub(crate) fn write<C: Chunks>(
+        &mut self,
+        alloc: Global,
+        chunks: &mut C,
+        key: &str,
+        value: &Json,
+        there: bool,
+    ) -> Result<(), Stop>
+        requires tree { IsTree (shown (C.contents chunks.old) self.old.pieces) }
+        requires there { there ≡ true → IsSome (finite.find (slice_cmp nat_cmp) key.now (rows_or (shown (C.contents chunks.old) self.old.pieces))) }
+        ensures grown { IsPrefix (C.contents chunks.old) (C.contents chunks.new) }
+        ensures done { OnOk result (shown (C.contents chunks.new) self.new.pieces ≡ Some (finite.put (slice_cmp nat_cmp) key.now value.now (rows_or (shown (C.contents chunks.old) self.old.pieces)))) }
+        ensures err { OnErr result (self.new ≡ self.old) }
+        ensures stopped { IfErr result (λ s. (s ≡ NoMemory) ⊎ C.stops s) }
+    {
+        let value = value.clone()?;
+        if there {
+            return self.replace(alloc, chunks, key, value);
+        }
+        let key = Text::new(alloc, key)?;
+        self.put_root(alloc, chunks, &key, value)
+    }
+}

@@ -1,0 +1,65 @@
+//! A key's place among keys in order.
+ghost use Rattle.std.specs.Prelude.{◌≡◌, ◌<◌, length, IfOk, IfErr, T};
+ghost use Rattle.std.specs.Ordering.{nat_cmp};
+ghost use Rattle.std.specs.Cmp.Lexicographic.{slice_cmp};
+ghost use Rattle.std.specs.FinMap as finite;
+ghost use Rattle.group_history.specs.Rows.{rises, paired};
+ghost use Rattle.map_tree.specs.Search.{IsRank, IsPlace, IsFound, IsAbsent};
+
+use group_history::{Json, Text};
+use std::alloc::AllocError;
+
+/// How many of the keys aren't above this one.
+pub(crate) fn rank(keys: &[Text], key: &str) -> usize
+    ensures { IsRank key.now keys.now result }
+{
+    let mut low = 0;
+    let mut high = keys.len();
+    while low < high {
+        let middle = low + (high - low) / 2;
+        if keys[middle].as_str().cmp(key).is_gt() {
+            high = middle;
+        } else {
+            low = middle + 1;
+        }
+    }
+    low
+}
+
+/// The place of the child to which a key belongs.
+pub(crate) fn place_of(keys: &[Text], key: &str) -> usize
+    requires filled { 0 < length keys.now }
+    requires order { T (rises keys.now) }
+    ensures { IsPlace key.now keys.now result }
+{
+    let rank = rank(keys, key);
+    if rank == 0 { 0 } else { rank - 1 }
+}
+
+/// Where a key stands, or where it would have to be put.
+pub(crate) fn search(keys: &[Text], key: &str) -> Result<usize, usize>
+    ensures found { IfOk result (IsFound key.now keys.now) }
+    ensures absent { IfErr result (IsAbsent key.now keys.now) }
+{
+    let rank = rank(keys, key);
+    if rank > 0 && keys[rank - 1].as_str().cmp(key).is_eq() {
+        return Ok(rank - 1);
+    }
+    Err(rank)
+}
+
+/// The value at a key.
+pub(crate) fn value_at(
+    keys: &[Text],
+    values: &[Json],
+    key: &str,
+) -> Result<Option<Json>, AllocError>
+    requires order { T (rises keys.now) }
+    requires values { length values.now ≡ length keys.now }
+    ensures { IfOk result (λ v. v ≡ finite.find (slice_cmp nat_cmp) key.now (paired keys.now values.now)) }
+{
+    match search(keys, key) {
+        Ok(place) => Ok(Some(values[place].clone()?)),
+        Err(_) => Ok(None),
+    }
+}

@@ -1,0 +1,133 @@
+//! A map as a tree of chunks, of which any may be placed already.
+mod freezing;
+mod scanning;
+
+ghost use Rattle.std.specs.Prelude.{◌≡◌};
+ghost use Rattle.map_tree.specs.Writes.{is_same};
+
+use crate::chunks::Chunks;
+use crate::nodes::Node;
+use crate::placed::{depth_placed, get_placed};
+use group_history::{Json, Ref, Stop};
+use std::alloc::Global;
+
+/// A map from texts to JSON values. A change copies the chunks on its way that are placed; these are
+/// never changed.
+#[derive(Drop)]
+pub struct Tree {
+    root: Root,
+}
+
+#[derive(Drop)]
+enum Root {
+    Placed(Ref),
+    Own(Node),
+}
+
+impl Tree {
+    ghost use Rattle.std.specs.Prelude.{◌≡◌, ◌⊎◌, Some, IfOk, IfErr, OnOk, OnErr, IsSome};
+    ghost use mathlib.Core.List.{IsPrefix};
+    ghost use Rattle.std.specs.FinMap as finite;
+    ghost use Rattle.group_history.specs.Map.{Entries};
+    ghost use Rattle.group_history.specs.Refs.{stamp_of};
+    ghost use Rattle.group_history.specs.Spelling.{Contents, map_at};
+    ghost use Rattle.group_history.specs.declared.mutators.Stop.TheVariants.{NoMemory};
+    ghost use Rattle.map_tree.specs.Trees.{tree_map, tree_depth};
+
+    /// The map whose root is placed there.
+    pub fn at(root: Ref) -> Tree
+        ensures { (contents : Contents) → tree_map contents result ≡ map_at contents (stamp_of root) }
+    {
+        Tree {
+            root: Root::Placed(root),
+        }
+    }
+
+    /// An empty map.
+    pub fn empty(alloc: Global) -> Tree
+        ensures { (contents : Contents) → tree_map contents result ≡ Some finite.empty }
+    {
+        Tree {
+            root: Root::Own(Node::empty(alloc)),
+        }
+    }
+
+    /// The value at a key.
+    pub fn get<C: Chunks>(&self, chunks: &mut C, key: &str) -> Result<Option<Json>, Stop>
+        requires { IsSome (tree_map (C.contents chunks.old) self.now) }
+        ensures grown { IsPrefix (C.contents chunks.old) (C.contents chunks.new) }
+        ensures value { (m : Entries) → tree_map (C.contents chunks.old) self.now ≡ Some m → IfOk result (λ v. v ≡ finite.get m key.now) }
+        ensures stopped { IfErr result (λ s. (s ≡ NoMemory) ⊎ C.stops s) }
+    {
+        match &self.root {
+            Root::Placed(at) => get_placed(chunks, *at, key),
+            Root::Own(node) => node.get(chunks, key),
+        }
+    }
+
+    /// Whether the key is there.
+    pub fn has<C: Chunks>(&self, chunks: &mut C, key: &str) -> Result<bool, Stop>
+        requires { IsSome (tree_map (C.contents chunks.old) self.now) }
+        ensures grown { IsPrefix (C.contents chunks.old) (C.contents chunks.new) }
+        ensures value { (m : Entries) → tree_map (C.contents chunks.old) self.now ≡ Some m → IfOk result (λ v. v ≡ finite.contains_key m key.now) }
+        ensures stopped { IfErr result (λ s. (s ≡ NoMemory) ⊎ C.stops s) }
+    {
+        Ok(self.get(chunks, key)?.is_some())
+    }
+
+    /// How deep the tree is: 1 where its root is a leaf.
+    pub fn depth<C: Chunks>(&self, chunks: &mut C) -> Result<u64, Stop>
+        requires { IsSome (tree_map (C.contents chunks.old) self.now) }
+        ensures grown { IsPrefix (C.contents chunks.old) (C.contents chunks.new) }
+        ensures depth { IfOk result (λ d. tree_depth (C.contents chunks.old) self.now ≡ Some d) }
+        ensures stopped { IfErr result (λ s. (s ≡ NoMemory) ⊎ C.stops s) }
+    {
+        match &self.root {
+            Root::Placed(at) => depth_placed(chunks, *at),
+            Root::Own(node) => Ok(node.depth()),
+        }
+    }
+
+    /// Puts a value at a key. The chunks on the way to it that are placed are copied first, unless the
+    /// value is there already. Where it stops, the map is as it was.
+    pub fn put<C: Chunks>(
+        &mut self,
+        alloc: Global,
+        chunks: &mut C,
+        key: &str,
+        value: &Json,
+    ) -> Result<(), Stop>
+        requires { IsSome (tree_map (C.contents chunks.old) self.old) }
+        ensures grown { IsPrefix (C.contents chunks.old) (C.contents chunks.new) }
+        ensures ok { (m : Entries) → tree_map (C.contents chunks.old) self.old ≡ Some m → OnOk result (tree_map (C.contents chunks.new) self.new ≡ Some (finite.insert m key.now value.now)) }
+        ensures same { (m : Entries) → tree_map (C.contents chunks.old) self.old ≡ Some m → finite.get m key.now ≡ Some value.now → OnOk result (self.new ≡ self.old) }
+        ensures err { OnErr result (self.new ≡ self.old) }
+        ensures stopped { IfErr result (λ s. (s ≡ NoMemory) ⊎ C.stops s) }
+    {
+        let found = self.get(chunks, key)?;
+        let there = found.is_some();
+        if is_value(&found, value) {
+            return Ok(());
+        }
+        match &mut self.root {
+            Root::Own(node) => return node.write(alloc, chunks, key, value, there),
+            Root::Placed(at) => {
+                let depth = depth_placed(chunks, *at)?;
+                let mut node = Node::copied(alloc, chunks, *at, depth)?;
+                node.write(alloc, chunks, key, value, there)?;
+                self.root = Root::Own(node);
+                return Ok(());
+            }
+        }
+    }
+}
+
+// Whether this value was found.
+fn is_value(found: &Option<Json>, value: &Json) -> bool
+    ensures { result ≡ is_same found.now value.now }
+{
+    match found {
+        Some(there) => there == value,
+        None => false,
+    }
+}
