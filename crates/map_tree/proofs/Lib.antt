@@ -20,3 +20,6 @@ pub mod WriteLemmas
 pub mod FreezeLemmas
 pub mod ScanLemmas
 pub mod PrefixLemmas
+pub mod CountLemmas
+pub mod WideLemmas
+pub mod RootCounts

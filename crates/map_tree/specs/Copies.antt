@@ -15,6 +15,11 @@ abbrev pub chunk_pieces : ℕ → Chunk Ref → List Piece
 chunk_pieces depth (Leaf rows) = row_pieces rows
 chunk_pieces depth (Inner kids) = map (λ e. (e.0, chunk (depth - 1) e.1)) kids
 
--- one chunk, with the pieces of the copied one
+-- how many keys it has
+abbrev pub chunk_entries : Chunk Ref → ℕ
+chunk_entries (Leaf rows) = length rows
+chunk_entries (Inner kids) = length kids
+
+-- one chunk, with the pieces of the copied one, and as many keys
 abbrev pub IsCopy : ℕ → Chunk Ref → Seen → Type 0
-IsCopy depth c n = (n.depth ≡ depth) × (n.pieces ≡ chunk_pieces depth c) × (n.fresh ≡ 1)
+IsCopy depth c n = (n.depth ≡ depth) × (n.pieces ≡ chunk_pieces depth c) × (n.fresh ≡ 1) × (n.entries ≡ chunk_entries c)

@@ -14,3 +14,4 @@ pub mod Trees
 pub mod Writes
 pub mod Freezing
 pub mod Scanning
+pub mod Counts

@@ -42,10 +42,11 @@ rows_or (Some rows) = rows
 abbrev pub map_of_rows : Rows → Option Entries
 map_of_rows rows = if finite.is_sorted (slice_cmp nat_cmp) rows then Some (finite.from_sorted rows) else None
 
--- A chunk of a draft as clauses see it: how deep it is, a leaf being 1 deep; its pieces in order; how deep its own
--- chunks are nested; and how many chunks it is, itself counted.
+-- A chunk of a draft as clauses see it: how deep it is, a leaf being 1 deep; how many keys it has; its pieces in order;
+-- how deep its own chunks are nested; and how many chunks it is, itself counted.
 pub record Seen : Type 0 where
   pub depth : ℕ
+  pub entries : ℕ
   pub pieces : List Piece
   pub height : ℕ
   pub fresh : ℕ

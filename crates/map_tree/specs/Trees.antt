@@ -1,5 +1,9 @@
 -- The map that a tree is.
-use Rattle.std.specs.Prelude.{ℕ, Option, Some, option_and_then, option_map}
+use Rattle.std.specs.Prelude.{◌≡◌, ◌⊎◌, ◌<◌, ℕ, Bool, true, false, [], ◌∷◌, Option, Some, option_and_then, option_map, slice_get, None}
+use Rattle.group_history.specs.declared.nodes.Chunk.TheVariants.{Leaf, Inner}
+use Rattle.group_history.specs.declared.nodes.Node.{Node}
+use Rattle.group_history.specs.declared.nodes.Node.TheVariants.{Chunk, Commit}
+use Rattle.group_history.specs.declared.refs.Ref.{Ref}
 use Rattle.group_history.specs.Map.{Entries}
 use Rattle.group_history.specs.Refs.{stamp_of}
 use Rattle.group_history.specs.Spelling.{Contents, Segment, segment_at, map_at}
@@ -23,3 +27,39 @@ root_depth contents (Own n) = Some n.depth
 -- how deep the tree is: 1 where its root is a leaf
 abbrev pub tree_depth : Contents → Tree → Option ℕ
 tree_depth contents t = root_depth contents t.root
+
+abbrev pub root_fresh : Root → ℕ
+root_fresh (Placed at) = 0
+root_fresh (Own n) = n.fresh
+
+-- how many chunks of the tree aren't placed
+abbrev pub tree_fresh : Tree → ℕ
+tree_fresh t = root_fresh t.root
+
+-- an inner chunk with one child
+abbrev pub is_narrow : Node ℕ → Bool
+is_narrow (Chunk (Inner (e ∷ []))) = true
+is_narrow (Chunk (Inner (e ∷ f ∷ es))) = false
+is_narrow (Chunk (Inner [])) = false
+is_narrow (Chunk (Leaf rows)) = false
+is_narrow (Commit c) = false
+
+abbrev pub IsWide : Contents → Root → Type 0
+IsWide contents (Placed at) = (n : Node ℕ) → slice_get contents (stamp_of at) ≡ Some n → is_narrow n ≡ false
+IsWide contents (Own n) = (n.depth ≡ 1) ⊎ (1 < n.entries)
+
+-- the root isn't an inner chunk with one child: such a root is replaced by the child
+abbrev pub HasWideRoot : Contents → Tree → Type 0
+HasWideRoot contents t = IsWide contents t.root
+
+-- the chunk that the reference names isn't such a root
+abbrev pub IsWideAt : Contents → Ref → Type 0
+IsWideAt contents at = IsWide contents (Placed at)
+
+abbrev pub placed_root : Root → Option Ref
+placed_root (Placed at) = Some at
+placed_root (Own n) = None
+
+-- the reference of the root, where it is placed
+abbrev pub tree_root : Tree → Option Ref
+tree_root t = placed_root t.root

@@ -12,14 +12,14 @@ use std::alloc::{AllocError, Global};
 /// So many entries a chunk has at most.
 pub(crate) const MOST: usize = 16;
 
-/// Room for the upper half of a chunk that may be split.
+/// Room for a chunk that a split may make: an upper half, or a root above both.
 #[derive(Drop)]
 pub(crate) struct Spare<T> {
     pub(crate) keys: Vec<Text>,
     pub(crate) entries: Vec<T>,
 }
 
-/// Room for the upper half, where there are so many entries.
+/// Room for another chunk, where one with so many entries may be split.
 pub(crate) fn take_spare<T: Drop>(alloc: Global, len: usize) -> Result<Spare<T>, AllocError>
     ensures keys { IfOk result (λ s. s.keys.items ≡ []) }
     ensures entries { IfOk result (λ s. s.entries.items ≡ []) }

@@ -4,6 +4,7 @@
 //! as the list of its pieces: rows, and the placed chunks below it, in the order of their keys.
 mod building;
 mod copies;
+mod counting;
 mod freezing;
 mod putting;
 mod reading;
@@ -46,10 +47,12 @@ impl Model for Node {
 
     ghost Value = { Seen };
 
+    ghost use Rattle.std.specs.Prelude.{length};
     ghost use Rattle.map_tree.specs.Nodes.{body_pieces, body_height, body_fresh, IsNode};
 
     ghost view = { λ n. record {
       depth = n.depth;
+      entries = length n.keys.texts;
       pieces = body_pieces n.depth n.keys.texts n.body;
       height = body_height n.body;
       fresh = body_fresh n.body;

@@ -1,4 +1,6 @@
 //! Shapes of trees, and that calls succeed.
+mod counts;
+
 use super::*;
 use group_history::{Json, Stop};
 use std::alloc::{AllocError, Global};

@@ -1,4 +1,6 @@
 //! A map as a tree of chunks, of which any may be placed already.
+mod clearing;
+mod counting;
 mod freezing;
 mod scanning;
 
@@ -25,18 +27,21 @@ enum Root {
 }
 
 impl Tree {
-    ghost use Rattle.std.specs.Prelude.{◌≡◌, ◌⊎◌, Some, IfOk, IfErr, OnOk, OnErr, IsSome};
+    ghost use Rattle.std.specs.Prelude.{◌≡◌, ◌⊎◌, ◌+◌, ◌≤◌, ℕ, Some, IfOk, IfErr, OnOk, OnErr, IsSome};
     ghost use mathlib.Core.List.{IsPrefix};
     ghost use Rattle.std.specs.FinMap as finite;
     ghost use Rattle.group_history.specs.Map.{Entries};
     ghost use Rattle.group_history.specs.Refs.{stamp_of};
     ghost use Rattle.group_history.specs.Spelling.{Contents, map_at};
     ghost use Rattle.group_history.specs.declared.mutators.Stop.TheVariants.{NoMemory};
-    ghost use Rattle.map_tree.specs.Trees.{tree_map, tree_depth};
+    ghost use Rattle.map_tree.specs.Trees.{tree_map, tree_depth, tree_fresh, tree_root, HasWideRoot, IsWideAt};
 
     /// The map whose root is placed there.
     pub fn at(root: Ref) -> Tree
-        ensures { (contents : Contents) → tree_map contents result ≡ map_at contents (stamp_of root) }
+        ensures map { (contents : Contents) → tree_map contents result ≡ map_at contents (stamp_of root) }
+        ensures fresh { tree_fresh result ≡ 0 }
+        ensures placed { tree_root result ≡ Some root }
+        ensures wide { (contents : Contents) → IsWideAt contents root → HasWideRoot contents result }
     {
         Tree {
             root: Root::Placed(root),
@@ -45,7 +50,10 @@ impl Tree {
 
     /// An empty map.
     pub fn empty(alloc: Global) -> Tree
-        ensures { (contents : Contents) → tree_map contents result ≡ Some finite.empty }
+        ensures map { (contents : Contents) → tree_map contents result ≡ Some finite.empty }
+        ensures depth { (contents : Contents) → tree_depth contents result ≡ Some 1 }
+        ensures fresh { tree_fresh result ≡ 1 }
+        ensures wide { (contents : Contents) → HasWideRoot contents result }
     {
         Tree {
             root: Root::Own(Node::empty(alloc)),
@@ -88,8 +96,9 @@ impl Tree {
         }
     }
 
-    /// Puts a value at a key. The chunks on the way to it that are placed are copied first, unless the
-    /// value is there already. Where it stops, the map is as it was.
+    /// Puts a value at a key. New are only the chunks on the way to it and those that a split adds, and
+    /// none where the value is there already; placed chunks are copied first. Where it stops, the map is
+    /// as it was.
     pub fn put<C: Chunks>(
         &mut self,
         alloc: Global,
@@ -100,6 +109,10 @@ impl Tree {
         requires { IsSome (tree_map (C.contents chunks.old) self.old) }
         ensures grown { IsPrefix (C.contents chunks.old) (C.contents chunks.new) }
         ensures ok { (m : Entries) → tree_map (C.contents chunks.old) self.old ≡ Some m → OnOk result (tree_map (C.contents chunks.new) self.new ≡ Some (finite.insert m key.now value.now)) }
+        ensures few { (d : ℕ) → tree_depth (C.contents chunks.old) self.old ≡ Some d → OnOk result (tree_fresh self.new ≤ tree_fresh self.old + d + d + 1) }
+        ensures replaced { (m : Entries) (d : ℕ) → tree_map (C.contents chunks.old) self.old ≡ Some m → tree_depth (C.contents chunks.old) self.old ≡ Some d → IsSome (finite.get m key.now) → OnOk result (tree_fresh self.new ≤ tree_fresh self.old + d) }
+        ensures deep { (d : ℕ) → tree_depth (C.contents chunks.old) self.old ≡ Some d → OnOk result ((e : ℕ) × (tree_depth (C.contents chunks.new) self.new ≡ Some e) × (d ≤ e) × (e ≤ d + 1)) }
+        ensures wide { HasWideRoot (C.contents chunks.old) self.old → OnOk result (HasWideRoot (C.contents chunks.new) self.new) }
         ensures same { (m : Entries) → tree_map (C.contents chunks.old) self.old ≡ Some m → finite.get m key.now ≡ Some value.now → OnOk result (self.new ≡ self.old) }
         ensures err { OnErr result (self.new ≡ self.old) }
         ensures stopped { IfErr result (λ s. (s ≡ NoMemory) ⊎ C.stops s) }

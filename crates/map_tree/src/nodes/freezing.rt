@@ -8,6 +8,7 @@ ghost use Rattle.group_history.specs.declared.refusals.Refusal.TheVariants as re
 ghost use Rattle.map_tree.specs.Freezing.{with_nodes, IsFrozen, AreFrozen};
 ghost use Rattle.map_tree.specs.Nodes.{child_fresh, kids_fresh};
 ghost use Rattle.map_tree.specs.Shown.{shown};
+ghost use Rattle.map_tree.specs.Trees.{IsWideAt};
 
 use super::{Body, Child, Node};
 use crate::drafts::Draft;
@@ -17,6 +18,7 @@ use std::alloc::Global;
 /// Appends the chunk and those that it owns to the draft, all or none, and answers its root's name.
 pub(crate) fn frozen(alloc: Global, node: Node, draft: &mut Draft) -> Result<Ref, Refusal>
     ensures spelled { (contents : Contents) (rows : Rows) → length contents ≡ draft.old.first → shown (with_nodes contents draft.old.nodes) node.pieces ≡ Some rows → IfOk result (λ root. rows_at (with_nodes contents draft.new.nodes) node.depth (stamp_of root) ≡ Some rows) }
+    ensures wide { (contents : Contents) → length contents ≡ draft.old.first → 1 < node.entries → IfOk result (IsWideAt (with_nodes contents draft.new.nodes)) }
     ensures count { OnOk result (length draft.new.nodes ≡ length draft.old.nodes + node.fresh) }
     ensures first { draft.new.first ≡ draft.old.first }
     ensures grown { IsPrefix draft.old.nodes draft.new.nodes }
@@ -41,6 +43,7 @@ impl Node {
     #[cycle(freezing)]
     fn freeze(self, alloc: Global, draft: &mut Draft) -> Result<Ref, Refusal>
         ensures spelled { (contents : Contents) (rows : Rows) → length contents ≡ draft.old.first → shown (with_nodes contents draft.old.nodes) self.pieces ≡ Some rows → IfOk result (λ root. rows_at (with_nodes contents draft.new.nodes) self.depth (stamp_of root) ≡ Some rows) }
+        ensures wide { (contents : Contents) → length contents ≡ draft.old.first → 1 < self.entries → IfOk result (IsWideAt (with_nodes contents draft.new.nodes)) }
         ensures count { OnOk result (length draft.new.nodes ≡ length draft.old.nodes + self.fresh) }
         ensures bound { OnErr result (length draft.new.nodes < length draft.old.nodes + self.fresh) }
         ensures first { draft.new.first ≡ draft.old.first }

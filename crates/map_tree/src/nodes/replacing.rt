@@ -1,5 +1,5 @@
 //! Values replaced below a draft's chunk.
-ghost use Rattle.std.specs.Prelude.{◌≡◌, ◌⊎◌, Some, IfErr, OnOk, OnErr, IsSome};
+ghost use Rattle.std.specs.Prelude.{◌≡◌, ◌⊎◌, ◌+◌, ◌<◌, Some, IfErr, OnOk, OnErr, IsSome};
 ghost use mathlib.Core.List.{IsPrefix};
 ghost use Rattle.std.specs.Ordering.{nat_cmp};
 ghost use Rattle.std.specs.Cmp.Lexicographic.{slice_cmp};
@@ -26,6 +26,8 @@ impl Node {
         requires there { IsSome (finite.find (slice_cmp nat_cmp) key.now (rows_or (shown (C.contents chunks.old) self.old.pieces))) }
         ensures grown { IsPrefix (C.contents chunks.old) (C.contents chunks.new) }
         ensures depth { self.new.depth ≡ self.old.depth }
+        ensures entries { self.new.entries ≡ self.old.entries }
+        ensures fresh { OnOk result (self.new.fresh < self.old.fresh + self.old.depth) }
         ensures done { OnOk result (shown (C.contents chunks.new) self.new.pieces ≡ Some (finite.put (slice_cmp nat_cmp) key.now value (rows_or (shown (C.contents chunks.old) self.old.pieces)))) }
         ensures err { OnErr result (self.new ≡ self.old) }
         ensures stopped { IfErr result (λ s. (s ≡ NoMemory) ⊎ C.stops s) }

@@ -1,10 +1,11 @@
 //! A put of a key that is there, or isn't.
-ghost use Rattle.std.specs.Prelude.{◌≡◌, ◌⊎◌, true, Some, IfErr, OnOk, OnErr, IsSome};
+ghost use Rattle.std.specs.Prelude.{◌≡◌, ◌⊎◌, ◌<◌, ◌≤◌, ◌+◌, ◌*◌, true, Some, IfErr, OnOk, OnErr, IsSome};
 ghost use mathlib.Core.List.{IsPrefix};
 ghost use Rattle.std.specs.Ordering.{nat_cmp};
 ghost use Rattle.std.specs.Cmp.Lexicographic.{slice_cmp};
 ghost use Rattle.std.specs.FinMap as finite;
 ghost use Rattle.group_history.specs.declared.mutators.Stop.TheVariants.{NoMemory};
+ghost use Rattle.map_tree.specs.Counts.{IsWideChunk};
 ghost use Rattle.map_tree.specs.Shown.{shown, IsTree, rows_or};
 
 use super::Node;
@@ -26,6 +27,10 @@ impl Node {
         requires there { there ≡ true → IsSome (finite.find (slice_cmp nat_cmp) key.now (rows_or (shown (C.contents chunks.old) self.old.pieces))) }
         ensures grown { IsPrefix (C.contents chunks.old) (C.contents chunks.new) }
         ensures done { OnOk result (shown (C.contents chunks.new) self.new.pieces ≡ Some (finite.put (slice_cmp nat_cmp) key.now value.now (rows_or (shown (C.contents chunks.old) self.old.pieces)))) }
+        ensures few { OnOk result (self.new.fresh ≤ self.old.fresh + 2 * self.old.depth) }
+        ensures replaced { there ≡ true → OnOk result (self.new.fresh < self.old.fresh + self.old.depth) }
+        ensures deep { OnOk result ((self.old.depth ≤ self.new.depth) × (self.new.depth ≤ self.old.depth + 1)) }
+        ensures wide { IsWideChunk self.old → OnOk result (IsWideChunk self.new) }
         ensures err { OnErr result (self.new ≡ self.old) }
         ensures stopped { IfErr result (λ s. (s ≡ NoMemory) ⊎ C.stops s) }
     {

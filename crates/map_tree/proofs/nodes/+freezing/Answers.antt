@@ -1,4 +1,7 @@
-use Rattle.std.proofs.Common.{[], ◌∷◌, ◌++◌, append_assoc, ◌≡◌, ◌∙◌, ◌≤◌, ◌+◌, ◌-◌, ap, sym, subst, arith, length, IfOk}
+use Rattle.std.proofs.Common.{refl, ◌<◌, [], ◌∷◌, ◌++◌, append_assoc, ◌≡◌, ◌∙◌, ◌≤◌, ◌+◌, ◌-◌, ap, sym, subst, arith, length, IfOk}
+use Rattle.group_history.specs.declared.nodes.Chunk.TheVariants as chunked
+use Rattle.group_history.specs.declared.nodes.Node.TheVariants as node
+use Rattle.group_history.specs.Naming.{content_of}
 use Rattle.group_history.specs.Rows.{paired}
 use Rattle.std.specs.Vec.Iter.{into_iter_items}
 use Rattle.group_history.specs.Spelling.{rows_at, joined_rows}
@@ -12,6 +15,7 @@ use Rattle.map_tree.proofs.JoinLemmas.{some_is}
 use Rattle.map_tree.proofs.OpenLemmas.{shows_by}
 use Rattle.map_tree.proofs.NodeLemmas.{shown-rows, shown-kids}
 use Rattle.map_tree.proofs.ScanLemmas.{length-pairs}
+use Rattle.map_tree.proofs.WideLemmas.{pushed_at, wide_node, wide_inner}
 use Rattle.map_tree.proofs.FreezeLemmas.{if_ok, err_so, own_frozen, leaf_pushed, inner_pushed, all-spelled, frozen-length, frozen-sooner, all-later, all-one, fresh-one, fresh-within, high-within}
 use Rattle.map_tree.proofs.nodes.+freezing.Goals as goal
 
@@ -107,3 +111,27 @@ freezing::freeze_kids-loop-kid-preserved t c =
           (all-one first old new done c.loop-kid.children.items kid c.in_ok-at.at (all-later first old mid new done c.loop-kid.children.items c.freeze_kid.ensures.grown c.loop-kid.invariant.frozen)
           (frozen-sooner first old mid new kid c.in_ok-at.at c.loop-kid.invariant.grown this));
     }
+
+pub Node::freeze-returns-in-Leaf-clause-wide : goal.Node::freeze-returns-in-Leaf-clause-wide
+Node::freeze-returns-in-Leaf-clause-wide t c contents l h =
+    let x = node.Chunk (chunked.Leaf c.new-leaf.result) in
+    if_ok c.push.result c.push.ensures.stamp c.push.ensures.ok (λ at k o.
+    wide_node (with_nodes contents c.push.new.self.nodes) at (content_of x)
+    (pushed_at contents c.args.draft.now.first c.args.draft.now.nodes c.push.new.self.nodes x at l (ap (λ d. d.nodes) o) k.0) refl)
+
+pub Node::freeze-returns-in-Inner-clause-wide : goal.Node::freeze-returns-in-Inner-clause-wide
+Node::freeze-returns-in-Inner-clause-wide t c contents l h =
+    let depth = c.self.inside.depth in
+    let texts = c.self.inside.keys.texts in
+    let kids = c.in-Inner.kids.items in
+    let ats = c.in_ok-children-in-Inner.children.items in
+    let inv : IsNode depth texts (Inner c.in-Inner.kids) = subst (IsNode depth texts) c.in-Inner.is c.self.invariant in
+    let inner : c.new-inner.result ≡ paired texts ats = c.new-inner.ensures ∙ ap (λ w. paired w ats) c.in_ok-keys.ensures in
+    let long : length ats ≡ length texts = frozen-length _ _ _ kids ats c.in_ok-children-in-Inner.ensures.frozen ∙ inv.1.2 in
+    let size : length c.new-inner.result ≡ length texts = ap length inner ∙ length-pairs texts ats long in
+    let more : 1 < length c.new-inner.result = omega (arith, size, ap (λ (s : Seen). s.entries) c.self.view_is, h) in
+    let x = node.Chunk (chunked.Inner c.new-inner.result) in
+    if_ok c.push-in-Inner.result c.push-in-Inner.ensures.stamp c.push-in-Inner.ensures.ok (λ at k o.
+    wide_node (with_nodes contents c.push-in-Inner.new.self.nodes) at (content_of x)
+    (pushed_at contents c.args.draft.now.first c.freeze_kids.new.draft.nodes c.push-in-Inner.new.self.nodes x at l (ap (λ d. d.nodes) o)
+    (k.0 ∙ ap (λ n. n + length c.freeze_kids.new.draft.nodes) c.freeze_kids.ensures.first)) (wide_inner c.new-inner.result more))

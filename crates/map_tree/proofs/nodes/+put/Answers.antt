@@ -5,12 +5,14 @@ use Rattle.std.specs.FinMap as finite
 use Rattle.group_history.specs.Refs.{stamp_of}
 use Rattle.group_history.specs.Rows.{paired, rises, keys_of}
 use Rattle.group_history.specs.Spelling.{rows_at}
+use Rattle.map_tree.specs.Counts.{HasKept}
 use Rattle.map_tree.specs.Halves.{IsHalf, AreNinth, HasDepth, ChildPut, with_half, lowered}
-use Rattle.map_tree.specs.Nodes.{AllKids, child_rows, kids_pieces}
+use Rattle.map_tree.specs.Nodes.{AllKids, child_rows, kids_pieces, child_fresh, kids_fresh}
 use Rattle.map_tree.specs.Search.{IsPlace}
 use Rattle.map_tree.specs.Shown.{Seen, shown, rows_or, IsTree}
 use Rattle.map_tree.specs.declared.nodes.Child.{Child}
 use Rattle.map_tree.specs.declared.nodes.Child.TheVariants.{Placed, Own}
+use Rattle.map_tree.proofs.CountLemmas.{if_ok_so, fresh-set, leaf_counts, inner_counts}
 use Rattle.map_tree.proofs.NodeLemmas.{shown-rows, child_at}
 use Rattle.map_tree.proofs.OpenLemmas.{known}
 use Rattle.map_tree.proofs.ReplaceLemmas.{leaf_rows}
@@ -203,12 +205,12 @@ Node::put-returns-in-Inner-clause-done g t c =
     let u = put_path p q c.self.inside.depth c.args.copies keys kids c.put_child.new.kids.items c.args.self.now.pieces c.args.key.now c.args.value i child c.in_ok-ready-in-Inner.ready.lower
     c.in_ok-half-in-Inner.half c.put_child.ensures.grown x.2.1.2 x.0 c.in_ok-ready-in-Inner.ensures.lower done in
     done_at q (c.self.inside.depth - 1) (with_half i c.in_ok-half-in-Inner.half (paired (lowered i c.in_ok-ready-in-Inner.ready.lower keys) c.put_child.new.kids.items)) (shown p c.args.self.now.pieces) x.0.rows c.args.key.now c.args.value _ x.0.rows_is
-    (c.finish.ensures.0 ∙ ap (λ ks. kids_pieces (c.self.inside.depth - 1) (with_half i c.in_ok-half-in-Inner.half (paired ks c.put_child.new.kids.items))) low) u.shown_is
+    (c.finish.ensures.shape.0 ∙ ap (λ ks. kids_pieces (c.self.inside.depth - 1) (with_half i c.in_ok-half-in-Inner.half (paired ks c.put_child.new.kids.items))) low) u.shown_is
 
 pub Node::put-returns-in-Inner-clause-filled : goal.Node::put-returns-in-Inner-clause-filled
 Node::put-returns-in-Inner-clause-filled g t c =
     filled_kids (c.self.inside.depth - 1) (paired c.finish.new.keys.texts c.finish.new.kids.items)
-    (length-pairs c.finish.new.keys.texts c.finish.new.kids.items c.finish.ensures.2 c.finish.ensures.4) c.finish.ensures.5
+    (length-pairs c.finish.new.keys.texts c.finish.new.kids.items c.finish.ensures.shape.2 c.finish.ensures.shape.4) c.finish.ensures.shape.5
 
 pub putting::paths::put_child-put-requires : goal.putting::paths::put_child-put-requires
 putting::paths::put_child-put-requires g t c κs within =
@@ -275,3 +277,38 @@ putting::paths::put_child-returns-in-Placed-clause-done g t c x h =
           ∙ ap (λ z. Some (finite.put (slice_cmp nat_cmp) c.args.key.now c.args.value (rows_or z))) (c.in_ok-node-in-Placed.ensures.rows ∙ ap (child_rows p c.args.below) (sym e)),
       subst (λ w. IsHalf c.args.copies w half) d c.in_ok-half-in-Placed.ensures.half,
     )
+
+pub Node::put-returns-in-Leaf-clause-fresh : goal.Node::put-returns-in-Leaf-clause-fresh
+Node::put-returns-in-Leaf-clause-fresh g t c =
+    let n = leaf_counts c.self.inside.depth c.self.inside.keys.texts c.self.inside.body c.in-Leaf.values c.in-Leaf.is c.self.invariant in
+    omega (arith, c.in_ok-put_row-in-Leaf.ensures.fresh, n.0, n.1, ap (λ (s : Seen). s.depth) c.self.view_is, ap (λ (s : Seen). s.fresh) c.self.view_is)
+
+pub Node::put-returns-in-Inner-clause-fresh : goal.Node::put-returns-in-Inner-clause-fresh
+Node::put-returns-in-Inner-clause-fresh g t c =
+    let n = inner_counts c.self.inside.depth c.self.inside.keys.texts c.self.inside.body c.in-Inner.kids c.in-Inner.is c.self.invariant in
+    omega (arith, c.finish.ensures.fresh, c.in_ok-half-in-Inner.ensures.fresh, ap kids_fresh c.prepare.ensures.kids, n.0, n.1, ap (λ (s : Seen). s.depth) c.self.view_is, ap (λ (s : Seen). s.fresh) c.self.view_is)
+
+pub Node::put-returns-in-Inner-clause-entries : goal.Node::put-returns-in-Inner-clause-entries
+Node::put-returns-in-Inner-clause-entries g t c =
+    let keys = c.self.inside.keys.texts in
+    let i = c.place_of-place.result in
+    let low = ap length (c.lower_first.ensures.texts ∙ ap (lowered i c.in_ok-ready-in-Inner.ready.lower) c.prepare.ensures.texts) ∙ length-lowered i c.in_ok-ready-in-Inner.ready.lower keys in
+    subst (λ n. HasKept n (length c.finish.new.keys.texts) c.finish.result) (low ∙ ap (λ (s : Seen). s.entries) c.self.view_is) c.finish.ensures.entries
+
+pub putting::paths::put_child-returns-in-Own-clause-fresh : goal.putting::paths::put_child-returns-in-Own-clause-fresh
+putting::paths::put_child-returns-in-Own-clause-fresh g t c =
+    let kids = c.args.kids.now.items in
+    let child = c.index_mut.result.now in
+    let r = c.requires.tree child (child_at kids c.args.place (length kids) child refl c.requires.within c.index_mut.ensures.value) in
+    let d : c.in-Own.node.depth ≡ c.args.below = subst (HasDepth c.args.below) c.in-Own.is r.1 in
+    let f = fresh-set kids c.args.place child (Own c.put.new.self) c.requires.within c.index_mut.ensures.value in
+    if_ok_so c.put.result c.put.ensures.fresh (λ half s. omega (arith, s, f, d, ap child_fresh c.in-Own.is))
+
+pub putting::paths::put_child-returns-in-Placed-clause-fresh : goal.putting::paths::put_child-returns-in-Placed-clause-fresh
+putting::paths::put_child-returns-in-Placed-clause-fresh g t c =
+    let kids = c.args.kids.now.items in
+    let child = c.index_mut.result.now in
+    let n : Seen = c.put-in-Placed.new.self in
+    let f = fresh-set kids c.args.place child (Own n) c.requires.within c.index_mut.ensures.value in
+    let twice = ap kids_fresh (set-set kids c.args.place (Placed c.in-Placed.at) (Own n)) in
+    omega (arith, c.in_ok-half-in-Placed.ensures.fresh, f, twice, c.in_ok-node-in-Placed.ensures.depth, c.in_ok-node-in-Placed.ensures.fresh, ap child_fresh c.in-Placed.is)

@@ -1,11 +1,12 @@
 //! A new row in a leaf.
-ghost use Rattle.std.specs.Prelude.{◌≡◌, ◌<◌, ◌++◌, length, replicate, IfOk, OnErr, vec_items};
+ghost use Rattle.std.specs.Prelude.{◌≡◌, ◌<◌, ◌≤◌, ◌++◌, length, replicate, IfOk, OnErr, vec_items};
 ghost use Rattle.std.specs.Ordering.{nat_cmp};
 ghost use Rattle.std.specs.Cmp.Lexicographic.{slice_cmp};
 ghost use Rattle.std.specs.FinMap as finite;
 ghost use Rattle.group_history.specs.Rows.{AreKeys, paired};
 ghost use Rattle.map_tree.specs.Nodes.{row_pieces};
 ghost use Rattle.map_tree.specs.Halves.{half_pieces, IsHalf, AreNinth};
+ghost use Rattle.map_tree.specs.Counts.{half_fresh, HasKept};
 
 use super::super::{Body, Node};
 use super::Half;
@@ -59,6 +60,8 @@ pub(crate) fn put_row(
     ensures rows { IfOk result (λ half. row_pieces (paired keys.new.texts values.new.items) ++ half_pieces half ≡ row_pieces (finite.put (slice_cmp nat_cmp) key.now value (paired keys.old.texts values.old.items))) }
     ensures half { IfOk result (IsHalf copies 1) }
     ensures leaf { IfOk result (λ half. AreKeys keys.new.texts × (length values.new.items ≡ length keys.new.texts) × (0 < length keys.new.texts)) }
+    ensures fresh { IfOk result (λ half. half_fresh half ≤ 1) }
+    ensures entries { IfOk result (HasKept (length keys.old.texts) (length keys.new.texts)) }
     ensures err { OnErr result ((keys.new.texts ≡ keys.old.texts) × (values.new.items ≡ values.old.items)) }
 {
     let place = match search(keys.as_slice(), key.as_str()) {

@@ -2,8 +2,9 @@
 ghost use Rattle.std.specs.Prelude.{◌≡◌, ◌<◌, ◌≤◌, ◌+◌, ◌-◌, [], length, T, Some, None, vec_items, vec_len, vec_capacity};
 ghost use Rattle.group_history.specs.Map.{Bytes};
 ghost use Rattle.group_history.specs.Rows.{rises, keys_of, paired};
-ghost use Rattle.map_tree.specs.Nodes.{AllKids};
+ghost use Rattle.map_tree.specs.Nodes.{AllKids, kids_fresh};
 ghost use Rattle.map_tree.specs.Halves.{IsHalf, AreNinth, with_half, lowered, Finished};
+ghost use Rattle.map_tree.specs.Counts.{half_fresh, HasKept};
 
 use super::super::{Body, Child, Node};
 use super::Half;
@@ -46,7 +47,9 @@ pub(crate) fn finish(
     requires firsts { (key : Bytes) → (place + 1 ≡ 8 → ⊥) → AreNinth copies keys.old.texts (place + 1) key firsts.items }
     requires kids { AllKids (depth - 1) (with_half place half (paired keys.old.texts kids.old.items)) }
     requires order { T (rises (keys_of (with_half place half (paired keys.old.texts kids.old.items)))) }
-    ensures { Finished depth copies (with_half place half (paired keys.old.texts kids.old.items)) keys.new.texts kids.new.items result }
+    ensures shape { Finished depth copies (with_half place half (paired keys.old.texts kids.old.items)) keys.new.texts kids.new.items result }
+    ensures fresh { kids_fresh kids.new.items + half_fresh result ≤ kids_fresh kids.old.items + half_fresh half + 1 }
+    ensures entries { HasKept (length keys.old.texts) (length keys.new.texts) result }
 {
     let Some(half) = half else {
         return None;

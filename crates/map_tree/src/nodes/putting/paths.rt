@@ -1,13 +1,14 @@
 //! A put on its way down.
-ghost use Rattle.std.specs.Prelude.{◌≡◌, ◌⊎◌, ◌<◌, ◌≤◌, ◌+◌, ◌^◌, ◌++◌, [], length, slice_get, slice_index_or, Some, IfOk, IfErr, OnOk, OnErr, vec_items, vec_len, vec_capacity};
+ghost use Rattle.std.specs.Prelude.{◌≡◌, ◌⊎◌, ◌<◌, ◌≤◌, ◌+◌, ◌*◌, ◌^◌, ◌++◌, [], length, slice_get, slice_index_or, Some, IfOk, IfErr, OnOk, OnErr, vec_items, vec_len, vec_capacity};
 ghost use mathlib.Core.List.{IsPrefix};
 ghost use Rattle.std.specs.Ordering.{nat_cmp};
 ghost use Rattle.std.specs.Cmp.Lexicographic.{slice_cmp};
 ghost use Rattle.std.specs.FinMap as finite;
 ghost use Rattle.group_history.specs.declared.mutators.Stop.TheVariants.{NoMemory};
 ghost use Rattle.map_tree.specs.Shown.{shown, IsTree, rows_or};
-ghost use Rattle.map_tree.specs.Nodes.{child_rows};
+ghost use Rattle.map_tree.specs.Nodes.{child_rows, kids_fresh};
 ghost use Rattle.map_tree.specs.Halves.{half_pieces, IsHalf, AreNinth, ChildPut, IsLower, HasDepth};
+ghost use Rattle.map_tree.specs.Counts.{half_fresh, HasKept};
 ghost use Rattle.map_tree.specs.declared.nodes.Child.{Child as Childs};
 
 use super::super::{Body, Child, Node};
@@ -87,6 +88,7 @@ fn put_child<C: Chunks>(
     requires tree { (c : Childs) → slice_get kids.old.items place ≡ Some c → IsTree (child_rows (C.contents chunks.old) below c) × HasDepth below c }
     ensures grown { IsPrefix (C.contents chunks.old) (C.contents chunks.new) }
     ensures done { (c : Childs) → slice_get kids.old.items place ≡ Some c → IfOk result (λ half. ChildPut (C.contents chunks.new) copies below place kids.old.items kids.new.items half (Some (finite.put (slice_cmp nat_cmp) key.now value (rows_or (child_rows (C.contents chunks.old) below c))))) }
+    ensures fresh { IfOk result (λ half. kids_fresh kids.new.items + half_fresh half ≤ kids_fresh kids.old.items + 2 * below) }
     ensures room { vec_capacity kids.new ≡ vec_capacity kids.old }
     ensures err { OnErr result (kids.new.items ≡ kids.old.items) }
     ensures stopped { IfErr result (λ s. (s ≡ NoMemory) ⊎ C.stops s) }
@@ -119,6 +121,8 @@ impl Node {
         ensures depth { self.new.depth ≡ self.old.depth }
         ensures done { IfOk result (λ half. shown (C.contents chunks.new) (self.new.pieces ++ half_pieces half) ≡ Some (finite.put (slice_cmp nat_cmp) key.now value (rows_or (shown (C.contents chunks.old) self.old.pieces)))) }
         ensures half { IfOk result (IsHalf copies self.old.depth) }
+        ensures fresh { IfOk result (λ half. self.new.fresh + half_fresh half < self.old.fresh + 2 * self.old.depth) }
+        ensures entries { IfOk result (HasKept self.old.entries self.new.entries) }
         ensures filled { OnOk result (0 < length self.new.pieces) }
         ensures err { OnErr result (self.new ≡ self.old) }
         ensures stopped { IfErr result (λ s. (s ≡ NoMemory) ⊎ C.stops s) }

@@ -1,5 +1,5 @@
 //! A put in a whole map: where its root is split, a new root stands above both halves.
-ghost use Rattle.std.specs.Prelude.{◌≡◌, ◌⊎◌, ◌<◌, ◌≤◌, ◌+◌, ◌^◌, ◌++◌, [], length, Some, IfOk, IfErr, OnOk, OnErr, T, vec_items, vec_len, vec_capacity};
+ghost use Rattle.std.specs.Prelude.{◌≡◌, ◌⊎◌, ◌<◌, ◌≤◌, ◌+◌, ◌*◌, ◌^◌, ◌++◌, [], length, Some, IfOk, IfErr, OnOk, OnErr, T, vec_items, vec_len, vec_capacity};
 ghost use mathlib.Core.List.{IsPrefix};
 ghost use Rattle.std.specs.Ordering.{nat_cmp};
 ghost use Rattle.std.specs.Cmp.Lexicographic.{slice_cmp};
@@ -8,11 +8,13 @@ ghost use Rattle.group_history.specs.declared.mutators.Stop.TheVariants.{NoMemor
 ghost use Rattle.map_tree.specs.Shown.{shown, IsTree, rows_or};
 ghost use Rattle.map_tree.specs.Nodes.{HeadIs};
 ghost use Rattle.map_tree.specs.Halves.{IsHalf, least, AreInOrder};
+ghost use Rattle.map_tree.specs.Counts.{IsWideChunk};
 
 use super::super::{Body, Child, Node};
 use super::Half;
 use crate::chunks::Chunks;
-use crate::keys::{NodeKeys, ROOM};
+use crate::entries::{Spare, take_spare};
+use crate::keys::NodeKeys;
 use group_history::{Json, Stop, Text};
 use std::alloc::{AllocError, Global};
 use std::mem;
@@ -31,22 +33,27 @@ fn least_key(keys: &[Text], key: &Text) -> Result<Text, AllocError>
 }
 
 // A root above both halves, made in the room that was taken for it.
-fn root_above(lower: Node, half: Half, first: Text, keys: Vec<Text>, kids: Vec<Child>) -> Node
+fn root_above(lower: Node, half: Half, first: Text, room: Spare<Child>) -> Node
     requires depth { lower.depth + 1 < 2 ^ 64 }
     requires head { HeadIs first lower.pieces }
     requires half { IsHalf 1 lower.depth (Some half) }
     requires order { AreInOrder first half.node.pieces }
-    requires keys { (keys.items ≡ []) × (17 ≤ vec_capacity keys) }
-    requires kids { (kids.items ≡ []) × (17 ≤ vec_capacity kids) }
-    ensures { result.pieces ≡ lower.pieces ++ half.node.pieces }
+    requires keys { (room.keys.items ≡ []) × (17 ≤ vec_capacity room.keys) }
+    requires kids { (room.entries.items ≡ []) × (17 ≤ vec_capacity room.entries) }
+    ensures pieces { result.pieces ≡ lower.pieces ++ half.node.pieces }
+    ensures depth { result.depth ≡ lower.depth + 1 }
+    ensures fresh { result.fresh ≡ lower.fresh + half.node.fresh + 1 }
+    ensures entries { result.entries ≡ 2 }
 {
     let depth = lower.depth + 1;
     let Half { mut firsts, node } = half;
     let Some(second) = firsts.pop() else {
         return lower;
     };
-    let mut keys = keys;
-    let mut kids = kids;
+    let Spare {
+        mut keys,
+        entries: mut kids,
+    } = room;
     let _ = keys.push(first);
     let _ = keys.push(second);
     let _ = kids.push(Child::Own(lower));
@@ -59,7 +66,8 @@ fn root_above(lower: Node, half: Half, first: Text, keys: Vec<Text>, kids: Vec<C
 }
 
 impl Node {
-    /// Puts a row in the map whose root the chunk is.
+    /// Puts a row in the map whose root the chunk is. Only a root that is full may be split, and
+    /// takes the room of a new one.
     pub(crate) fn put_root<C: Chunks>(
         &mut self,
         alloc: Global,
@@ -70,6 +78,9 @@ impl Node {
         requires { IsTree (shown (C.contents chunks.old) self.old.pieces) }
         ensures grown { IsPrefix (C.contents chunks.old) (C.contents chunks.new) }
         ensures done { OnOk result (shown (C.contents chunks.new) self.new.pieces ≡ Some (finite.put (slice_cmp nat_cmp) key.now value (rows_or (shown (C.contents chunks.old) self.old.pieces)))) }
+        ensures few { OnOk result (self.new.fresh ≤ self.old.fresh + 2 * self.old.depth) }
+        ensures deep { OnOk result ((self.old.depth ≤ self.new.depth) × (self.new.depth ≤ self.old.depth + 1)) }
+        ensures wide { IsWideChunk self.old → OnOk result (IsWideChunk self.new) }
         ensures err { OnErr result (self.new ≡ self.old) }
         ensures stopped { IfErr result (λ s. (s ≡ NoMemory) ⊎ C.stops s) }
     {
@@ -78,13 +89,12 @@ impl Node {
             return Err(Stop::NoMemory);
         }
         let first = least_key(self.keys.as_slice(), key)?;
-        let keys = Vec::with_capacity(alloc, ROOM)?;
-        let kids = Vec::with_capacity(alloc, ROOM)?;
+        let room = take_spare(alloc, self.keys.as_slice().len())?;
         match self.put(alloc, chunks, key, value, 1)? {
             None => return Ok(()),
             Some(half) => {
                 let lower = mem::replace(self, Node::empty(alloc));
-                *self = root_above(lower, half, first, keys, kids);
+                *self = root_above(lower, half, first, room);
                 return Ok(());
             }
         }

@@ -1,16 +1,17 @@
-use Rattle.std.proofs.Common.{◌≡◌, refl, length, ◌-◌, ◌++◌, ◌∷◌, arith, sym, ap, subst, ◌∙◌, Some, nat_cmp, set-set}
+use Rattle.std.proofs.Common.{◌≡◌, ◌<◌, refl, length, ◌-◌, ◌++◌, ◌∷◌, arith, sym, ap, subst, ◌∙◌, Some, nat_cmp, set-set}
 use Rattle.std.specs.Prelude.{IsSome}
 use Rattle.std.specs.Cmp.Lexicographic.{slice_cmp}
 use Rattle.std.specs.FinMap as finite
 use Rattle.group_history.specs.Refs.{stamp_of}
 use Rattle.group_history.specs.Rows.{paired}
 use Rattle.group_history.specs.Spelling.{rows_at}
-use Rattle.map_tree.specs.Nodes.{child_rows, kids_pieces, AllKids}
+use Rattle.map_tree.specs.Nodes.{child_rows, kids_pieces, AllKids, child_fresh, kids_fresh}
 use Rattle.map_tree.specs.Shown.{Seen, rows_or, shown}
 use Rattle.map_tree.specs.declared.nodes.Child.TheVariants.{Placed, Own}
 use Rattle.group_history.proofs.Folding.{prefix_trans}
 use Rattle.map_tree.proofs.AnswerLemmas.{on_ok, either_way}
 use Rattle.map_tree.proofs.ChangeLemmas.{replaced}
+use Rattle.map_tree.proofs.CountLemmas.{fresh-set, leaf_counts, inner_counts}
 use Rattle.map_tree.proofs.NodeLemmas.{node_down, inner_depth, down_own}
 use Rattle.map_tree.proofs.OpenLemmas.{tree_of}
 use Rattle.map_tree.proofs.ReplaceLemmas.{leaf_replaced, leaf_has, inner_with, inner_lengths, there_below, kid_replaced, kid_kept}
@@ -148,3 +149,51 @@ returns-in-Placed-clause-done g t c =
     (prefix_trans p (g.C.Chunks.contents c.copied.new.chunks) q c.copied.ensures.grown c.replace-in-Placed.ensures.grown) d c.requires.1.1.1.1.1 x
     (c.replace-in-Placed.ensures.depth ∙ c.in_ok-node-in-Placed.ensures.depth) c.in_ok-replace-in-Placed.ensures.done in
     ap (λ es. shown q (kids_pieces (c.self.inside.depth - 1) (paired c.self.inside.keys.texts es))) twice ∙ ap (λ es. shown q (kids_pieces (c.self.inside.depth - 1) es)) e ∙ k.shown_is
+
+pub returns-in_default-clause-fresh : goal.returns-in_default-clause-fresh
+returns-in_default-clause-fresh g t c =
+    let n = leaf_counts c.self.inside.depth c.self.inside.keys.texts c.self.inside.body c.in-Leaf.values c.in-Leaf.is c.self.invariant in
+    omega (arith, n.0, n.1, ap (λ (s : Seen). s.depth) c.self.view_is, ap (λ (s : Seen). s.fresh) c.self.view_is)
+
+pub returns-in-Leaf-clause-fresh : goal.returns-in-Leaf-clause-fresh
+returns-in-Leaf-clause-fresh g t c =
+    let n = leaf_counts c.self.inside.depth c.self.inside.keys.texts c.self.inside.body c.in-Leaf.values c.in-Leaf.is c.self.invariant in
+    omega (arith, n.0, n.1, ap (λ (s : Seen). s.depth) c.self.view_is, ap (λ (s : Seen). s.fresh) c.self.view_is)
+
+pub returns-in-Own-clause-fresh : goal.returns-in-Own-clause-fresh
+returns-in-Own-clause-fresh g t c =
+    let p = g.C.Chunks.contents c.args.chunks.now in
+    let d = node_down p c.self.inside.depth c.self.inside.keys.texts c.self.inside.body c.in-Inner.kids c.args.self.now.pieces c.as_slice-in-Inner.result.now c.args.key.now
+    c.place_of-place.result c.index_mut-in-Inner.result.now (ap (λ (s : Seen). s.pieces) c.self.view_is) c.in-Inner.is c.self.invariant c.as_slice-in-Inner.ensures c.place_of-place.ensures
+    c.index_mut-in-Inner.ensures.value c.requires.1.1.1.1.0 in
+    let n = inner_counts c.self.inside.depth c.self.inside.keys.texts c.self.inside.body c.in-Inner.kids c.in-Inner.is c.self.invariant in
+    let l = inner_lengths c.self.inside.depth c.self.inside.keys.texts c.self.inside.body c.in-Inner.kids c.in-Inner.is c.self.invariant in
+    let i = c.place_of-place.result in
+    let within : i < length c.in-Inner.kids.items = omega (arith, c.place_of-place.ensures.0, ap length c.as_slice-in-Inner.ensures, l) in
+    let o = down_own p _ _ _ _ _ _ _ c.in-Own.node d c.in-Own.is in
+    let f = fresh-set c.in-Inner.kids.items i c.index_mut-in-Inner.result.now (Own c.replace.new.self) within c.index_mut-in-Inner.ensures.value in
+    on_ok c.replace.result c.replace.ensures.fresh (λ s.
+    omega (arith, s, f, o.1, n.0, n.1, ap (λ (s : Seen). s.depth) c.self.view_is, ap (λ (s : Seen). s.fresh) c.self.view_is, ap child_fresh c.in-Own.is))
+
+pub returns-in-Placed-clause-fresh : goal.returns-in-Placed-clause-fresh
+returns-in-Placed-clause-fresh g t c =
+    let n = inner_counts c.self.inside.depth c.self.inside.keys.texts c.self.inside.body c.in-Inner.kids c.in-Inner.is c.self.invariant in
+    let l = inner_lengths c.self.inside.depth c.self.inside.keys.texts c.self.inside.body c.in-Inner.kids c.in-Inner.is c.self.invariant in
+    let i = c.place_of-place.result in
+    let within : i < length c.in-Inner.kids.items = omega (arith, c.place_of-place.ensures.0, ap length c.as_slice-in-Inner.ensures, l) in
+    let new : Seen = c.replace-in-Placed.new.self in
+    let f = fresh-set c.in-Inner.kids.items i c.index_mut-in-Inner.result.now (Own new) within c.index_mut-in-Inner.ensures.value in
+    let twice = ap kids_fresh (set-set c.in-Inner.kids.items i (Placed c.in-Placed.at) (Own new)) in
+    omega (
+      arith,
+      c.in_ok-replace-in-Placed.ensures.fresh,
+      f,
+      twice,
+      c.in_ok-node-in-Placed.ensures.depth,
+      c.in_ok-node-in-Placed.ensures.fresh,
+      n.0,
+      n.1,
+      ap (λ (s : Seen). s.depth) c.self.view_is,
+      ap (λ (s : Seen). s.fresh) c.self.view_is,
+      ap child_fresh c.in-Placed.is,
+    )

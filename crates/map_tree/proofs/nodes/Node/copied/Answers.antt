@@ -3,11 +3,13 @@ use Rattle.group_history.specs.declared.nodes.Chunk.{Chunk}
 use Rattle.group_history.specs.declared.refs.Ref.{Ref}
 use Rattle.group_history.specs.Refs.{stamp_of}
 use Rattle.group_history.specs.Spelling.{rows_at}
-use Rattle.map_tree.specs.Copies.{MayBeDeep, chunk_pieces}
+use Rattle.map_tree.specs.Copies.{MayBeDeep, IsCopy, chunk_pieces}
 use Rattle.map_tree.specs.Shown.{shown}
+use Rattle.map_tree.specs.Trees.{IsWideAt}
 use Rattle.map_tree.proofs.CopyLemmas.{copyable}
 use Rattle.map_tree.proofs.OpenLemmas.{rows-kept}
 use Rattle.map_tree.proofs.Shelves.{some_of}
+use Rattle.map_tree.proofs.WideLemmas.{copy_wide}
 use Rattle.map_tree.proofs.nodes.Node.copied.Goals as goal
 
 pub of_chunk-node-requires : goal.of_chunk-node-requires
@@ -25,3 +27,12 @@ returns-clause-rows g c =
     ap (λ p. shown p c.in_ok-node.field-0.pieces) c.leave.ensures
     ∙ ap (shown (g.C.Chunks.contents c.show.new.self)) (c.in_ok-node.ensures.1 ∙ ap (chunk_pieces c.args.depth) c.chunk.ensures)
     ∙ k.rows_are ∙ sym s.1
+
+pub returns-clause-wide : goal.returns-clause-wide
+returns-clause-wide g c w =
+    let p = g.C.Chunks.contents c.show.new.self in
+    let s = some_of (rows_at (g.C.Chunks.contents c.args.chunks.now) c.args.depth (stamp_of c.args.at)) c.requires in
+    let r = rows-kept (g.C.Chunks.contents c.args.chunks.now) p c.args.depth (stamp_of c.args.at) s.0 c.show.ensures.grown s.1 in
+    let k = copyable p c.args.depth (stamp_of c.args.at) s.0 _ r c.in_ok-held.ensures.content in
+    copy_wide p c.args.depth c.args.at _ c.in_ok-node.field-0 c.in_ok-held.ensures.content k.deep
+    (subst (λ (ch : Chunk Ref). IsCopy c.args.depth ch c.in_ok-node.field-0) c.chunk.ensures c.in_ok-node.ensures) (subst (λ q. IsWideAt q c.args.at) c.leave.ensures w)

@@ -1,9 +1,10 @@
-use Rattle.std.proofs.Common.{◌≡◌, ◌∙◌, ap, sym, subst, refl, arith, ◌-◌}
+use Rattle.std.proofs.Common.{◌≡◌, ◌∙◌, ap, sym, subst, refl, arith, ◌-◌, length}
 use Rattle.group_history.specs.Rows.{Rows, keys_of, values_of, paired, AreKeys}
 use Rattle.group_history.proofs.Pairs.{paired-parts}
-use Rattle.map_tree.specs.Copies.{MayBeDeep, chunk_pieces}
+use Rattle.map_tree.specs.Copies.{MayBeDeep, chunk_pieces, chunk_entries}
 use Rattle.map_tree.specs.Nodes.{row_pieces, kids_fresh}
 use Rattle.map_tree.proofs.CopyLemmas.{all_as_placed, copied_inner, copied_pieces, placed_fresh}
+use Rattle.map_tree.proofs.SearchLemmas.{length-keys_of}
 use Rattle.map_tree.proofs.nodes.Node.of_chunk.Goals as goal
 
 pub invariant_of-result-in-Inner : goal.invariant_of-result-in-Inner
@@ -24,6 +25,7 @@ returns-in_ok-copied_values-in-Leaf c =
       ap (λ w. row_pieces (paired w c.in_ok-copied_values-in-Leaf.field-0.items)) texts ∙ ap (λ w. row_pieces (paired (keys_of rows) w)) items
           ∙ ap row_pieces (paired-parts rows) ∙ ap (chunk_pieces c.args.depth) (sym c.in-Leaf.is),
       refl,
+      ap length texts ∙ length-keys_of rows ∙ ap chunk_entries (sym c.in-Leaf.is),
     )
 
 pub returns-in_ok-placed_children-in-Inner : goal.returns-in_ok-placed_children-in-Inner
@@ -34,4 +36,5 @@ returns-in_ok-placed_children-in-Inner c =
       refl,
       copied_pieces (c.args.depth - 1) c.shared-keys-in-Inner.result.texts c.in_ok-placed_children-in-Inner.field-0.items kids texts items ∙ ap (chunk_pieces c.args.depth) (sym c.in-Inner.is),
       omega (arith, placed_fresh (values_of kids), ap kids_fresh items),
+      ap length texts ∙ length-keys_of kids ∙ ap chunk_entries (sym c.in-Inner.is),
     )

@@ -1,10 +1,12 @@
-use Rattle.std.proofs.Common.{◌≡◌, ◌∙◌, ◌++◌, ap, sym, subst, Some, nat_cmp, true}
+use Rattle.std.proofs.Common.{◌≡◌, ◌∙◌, ◌++◌, ◌≤◌, ap, sym, subst, Some, nat_cmp, true, arith, inr, length}
 use Rattle.std.specs.Cmp.Lexicographic.{slice_cmp}
 use Rattle.std.specs.FinMap as finite
 use Rattle.group_history.specs.Spelling.{begins_with}
+use Rattle.map_tree.specs.Counts.{half_fresh, HasKept}
 use Rattle.map_tree.specs.Halves.{half_pieces, IsHalf, least}
 use Rattle.map_tree.specs.Nodes.{HeadIs}
 use Rattle.map_tree.specs.Shown.{Seen, shown, rows_or}
+use Rattle.map_tree.proofs.CountLemmas.{wide_kept}
 use Rattle.map_tree.proofs.LeafLemmas.{put-strict}
 use Rattle.map_tree.proofs.OpenLemmas.{known}
 use Rattle.map_tree.proofs.RootLemmas.{two, begins_least}
@@ -41,3 +43,31 @@ root_above-requires-clause-order g c =
     let t = two q c.in_ok-first.first hf.1.0 c.put.new.self.pieces c.in-Some.half.node.pieces rows e (put-strict key c.args.value n.rows n.order)
     (subst (λ w. begins_with w rows ≡ true) (sym f) b) c.in_ok-put.ensures.filled hf.1.1 in
     t.order
+
+pub returns-in-None-clause-wide : goal.returns-in-None-clause-wide
+returns-in-None-clause-wide g c w = wide_kept c.args.self.now c.put.new.self c.in_ok-put.field-0 c.in-None.is c.put.ensures.depth c.in_ok-put.ensures.entries w
+
+pub returns-in-Some-clause-few : goal.returns-in-Some-clause-few
+returns-in-Some-clause-few g c =
+    omega (arith, c.root_above.ensures.fresh, ap (λ (s : Seen). s.fresh) c.root_above-in-Some.view_is, ap (λ (s : Seen). s.fresh) c.replace-lower.ensures.value, c.in_ok-put.ensures.fresh, ap half_fresh c.in-Some.is)
+
+pub returns-in-Some-clause-deep : goal.returns-in-Some-clause-deep
+returns-in-Some-clause-deep g c =
+    let d = ap (λ (s : Seen). s.depth) c.root_above-in-Some.view_is ∙ c.root_above.ensures.depth in
+    let e = ap (λ (s : Seen). s.depth) c.replace-lower.ensures.value ∙ c.put.ensures.depth in
+    (omega (arith, d, e), omega (arith, d, e))
+
+pub returns-in-Some-clause-wide : goal.returns-in-Some-clause-wide
+returns-in-Some-clause-wide g c w = let n = ap (λ (s : Seen). s.entries) c.root_above-in-Some.view_is ∙ c.root_above.ensures.entries in inr (omega (arith, n))
+
+pub root_above-requires-clause-keys : goal.root_above-requires-clause-keys
+root_above-requires-clause-keys g c =
+    let kept : HasKept c.args.self.now.entries c.put.new.self.entries (Some c.in-Some.half) = subst (HasKept c.args.self.now.entries c.put.new.self.entries) c.in-Some.is c.in_ok-put.ensures.entries in
+    let full : 16 ≤ length c.as_slice-2.result.now = omega (arith, kept.0, ap (λ (s : Seen). s.entries) c.self.view_is, ap length c.as_slice-2.ensures) in
+    (c.in_ok-room.ensures.keys, (c.in_ok-room.ensures.room full).0)
+
+pub root_above-requires-clause-kids : goal.root_above-requires-clause-kids
+root_above-requires-clause-kids g c =
+    let kept : HasKept c.args.self.now.entries c.put.new.self.entries (Some c.in-Some.half) = subst (HasKept c.args.self.now.entries c.put.new.self.entries) c.in-Some.is c.in_ok-put.ensures.entries in
+    let full : 16 ≤ length c.as_slice-2.result.now = omega (arith, kept.0, ap (λ (s : Seen). s.entries) c.self.view_is, ap length c.as_slice-2.ensures) in
+    (c.in_ok-room.ensures.entries, (c.in_ok-room.ensures.room full).1)

@@ -1,8 +1,14 @@
-use Rattle.std.proofs.Common.{ap, ◌∙◌}
+use Rattle.std.proofs.Common.{ap, ◌∙◌, Some, inl}
 use Rattle.std.specs.Prelude.{option_and_then}
 use Rattle.map_tree.specs.Shown.{shown, map_of_rows}
 use Rattle.map_tree.proofs.TreeLemmas.{map_of_nothing}
 use Rattle.map_tree.proofs.tree.Tree.empty.Goals as goal
 
-pub returns : goal.returns
-returns c contents = ap (λ ps. option_and_then map_of_rows (shown contents ps)) c.empty.ensures.pieces ∙ map_of_nothing
+pub returns-clause-map : goal.returns-clause-map
+returns-clause-map c contents = ap (λ ps. option_and_then map_of_rows (shown contents ps)) c.empty.ensures.pieces ∙ map_of_nothing
+
+pub returns-clause-depth : goal.returns-clause-depth
+returns-clause-depth c contents = ap (λ n. Some n) c.empty.ensures.depth
+
+pub returns-clause-wide : goal.returns-clause-wide
+returns-clause-wide c contents = inl c.empty.ensures.depth

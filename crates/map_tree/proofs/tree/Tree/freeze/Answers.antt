@@ -1,10 +1,40 @@
-use Rattle.std.proofs.Common.{sym, ap, ◌∙◌}
+use Rattle.std.proofs.Common.{◌≡◌, ◌+◌, ◌<◌, ◌^◌, sym, ap, subst, ◌∙◌, length, OnOk, IfErr, refl, arith, ◌⊎◌}
 use Rattle.map_tree.specs.Freezing.{with_nodes}
-use Rattle.map_tree.specs.Trees.{root_map}
+use Rattle.group_history.specs.declared.refusals.Refusal.TheVariants as refusal
+use Rattle.map_tree.specs.Trees.{root_map, root_fresh, placed_root, IsWide}
 use Rattle.map_tree.proofs.FreezeLemmas.{map_frozen}
+use Rattle.map_tree.proofs.JoinLemmas.{some_is}
+use Rattle.map_tree.proofs.WideLemmas.{wide_frozen}
 use Rattle.map_tree.proofs.tree.Tree.freeze.Goals as goal
 
 pub returns-in-Own-clause-spelled : goal.returns-in-Own-clause-spelled
 returns-in-Own-clause-spelled c contents m l h =
     map_frozen c.frozen.result (with_nodes contents c.args.draft.now.nodes) (with_nodes contents c.frozen.new.draft.nodes) c.in-Own.node m
     (ap (root_map (with_nodes contents c.args.draft.now.nodes)) (sym c.in-Own.is) ∙ h) (λ rows e. c.frozen.ensures.spelled contents rows l e)
+
+pub returns-in-Placed-clause-wide : goal.returns-in-Placed-clause-wide
+returns-in-Placed-clause-wide c contents m l h w = subst (IsWide (with_nodes contents c.args.draft.now.nodes)) c.in-Placed.is w
+
+pub returns-in-Placed-clause-shared : goal.returns-in-Placed-clause-shared
+returns-in-Placed-clause-shared c at h = (some_is (ap placed_root (sym c.in-Placed.is) ∙ h), refl)
+
+pub returns-in-Placed-clause-count : goal.returns-in-Placed-clause-count
+returns-in-Placed-clause-count c = omega (arith, ap root_fresh c.in-Placed.is)
+
+pub returns-in-Own-clause-wide : goal.returns-in-Own-clause-wide
+returns-in-Own-clause-wide c contents m l h w =
+    wide_frozen c.frozen.result (with_nodes contents c.args.draft.now.nodes) (with_nodes contents c.frozen.new.draft.nodes) c.in-Own.node m
+    (ap (root_map (with_nodes contents c.args.draft.now.nodes)) (sym c.in-Own.is) ∙ h) (subst (IsWide (with_nodes contents c.args.draft.now.nodes)) c.in-Own.is w)
+    (λ rows e. c.frozen.ensures.spelled contents rows l e) (λ n. c.frozen.ensures.wide contents l n)
+
+pub returns-in-Own-clause-shared : goal.returns-in-Own-clause-shared
+returns-in-Own-clause-shared c at h = let e = ap placed_root (sym c.in-Own.is) ∙ h in absurd (cc e)
+
+pub returns-in-Own-clause-count : goal.returns-in-Own-clause-count
+returns-in-Own-clause-count c =
+    subst (λ n. OnOk c.frozen.result (length c.frozen.new.draft.nodes ≡ length c.args.draft.now.nodes + n)) (ap root_fresh (sym c.in-Own.is)) c.frozen.ensures.count
+
+pub returns-in-Own-clause-why : goal.returns-in-Own-clause-why
+returns-in-Own-clause-why c =
+    subst (λ n. IfErr c.frozen.result (λ e. (e ≡ refusal.NoMemory) ⊎ ((e ≡ refusal.Stamps) × (2 ^ 44 < c.args.draft.now.first + length c.args.draft.now.nodes + n))))
+    (ap root_fresh (sym c.in-Own.is)) c.frozen.ensures.why

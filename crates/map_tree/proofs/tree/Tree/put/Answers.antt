@@ -1,11 +1,13 @@
-use Rattle.std.proofs.Common.{◌≡◌, ◌∙◌, ap, sym, subst, Some, refl}
+use Rattle.std.proofs.Common.{◌≡◌, ◌∙◌, ap, sym, subst, Some, refl, arith}
 use Rattle.std.specs.Prelude.{IsSome, option_and_then}
 use Rattle.std.specs.FinMap as finite
 use Rattle.group_history.specs.Refs.{stamp_of}
 use Rattle.group_history.specs.Spelling.{map_at, rows_at}
 use Rattle.map_tree.specs.Shown.{shown, map_of_rows}
-use Rattle.map_tree.specs.Trees.{root_map, tree_map}
+use Rattle.map_tree.specs.Trees.{root_map, root_fresh, tree_map, IsWide}
+use Rattle.group_history.proofs.Folding.{prefix_trans}
 use Rattle.map_tree.proofs.AnswerLemmas.{on_ok}
+use Rattle.map_tree.proofs.RootCounts.{own_depth, placed_depth, root_depth_kept, wide_root_grown, is_there}
 use Rattle.map_tree.proofs.OpenLemmas.{rows_at-segment, segment-kept}
 use Rattle.map_tree.proofs.Shelves.{some_of}
 use Rattle.map_tree.proofs.TreeLemmas.{map_is}
@@ -133,3 +135,92 @@ returns-in-Placed-clause-ok g c m h =
     let p3 = g.C.Chunks.contents c.copied.new.chunks in
     let x : shown p3 c.in_ok-node-in-Placed.node.pieces ≡ Some (finite.entries m) = c.in_ok-node-in-Placed.ensures.rows ∙ r in
     put_copied (shown p3 c.in_ok-node-in-Placed.node.pieces) (shown (g.C.Chunks.contents c.write-in-Placed.new.chunks) c.write-in-Placed.new.self.pieces) m key c.args.value.now x c.in_ok-write-in-Placed.ensures.done
+
+pub returns-then-is_value-clause-few : goal.returns-then-is_value-clause-few
+returns-then-is_value-clause-few g c d t = omega arith
+
+pub returns-then-is_value-clause-replaced : goal.returns-then-is_value-clause-replaced
+returns-then-is_value-clause-replaced g c m d h t f = omega arith
+
+pub returns-then-is_value-clause-deep : goal.returns-then-is_value-clause-deep
+returns-then-is_value-clause-deep g c d t =
+    (d, root_depth_kept (g.C.Chunks.contents c.args.chunks.now) (g.C.Chunks.contents c.get.new.chunks) c.args.self.now.root d c.get.ensures.grown t, omega arith, omega arith)
+
+pub returns-then-is_value-clause-wide : goal.returns-then-is_value-clause-wide
+returns-then-is_value-clause-wide g c w =
+    let p0 = g.C.Chunks.contents c.args.chunks.now in
+    let s = some_of (tree_map p0 c.args.self.now) c.requires in
+    wide_root_grown p0 (g.C.Chunks.contents c.get.new.chunks) c.args.self.now.root s.0 c.get.ensures.grown s.1 w
+
+pub returns-in-Own-clause-few : goal.returns-in-Own-clause-few
+returns-in-Own-clause-few g c d t =
+    let p0 = g.C.Chunks.contents c.args.chunks.now in
+    let e = own_depth p0 c.args.self.now.root c.in-Own.node d c.in-Own.is t in
+    on_ok c.write.result c.write.ensures.few (λ n. omega (arith, n, e, ap root_fresh c.in-Own.is))
+
+pub returns-in-Own-clause-replaced : goal.returns-in-Own-clause-replaced
+returns-in-Own-clause-replaced g c m d h t f =
+    let p0 = g.C.Chunks.contents c.args.chunks.now in
+    let e = own_depth p0 c.args.self.now.root c.in-Own.node d c.in-Own.is t in
+    let there = is_there c.in_ok-found.found (finite.get m c.args.key.now) c.is_some-there.result (c.in_ok-found.ensures.value m h) c.is_some-there.ensures f in
+    on_ok c.write.result (c.write.ensures.replaced there) (λ n. omega (arith, n, e, ap root_fresh c.in-Own.is))
+
+pub returns-in-Own-clause-deep : goal.returns-in-Own-clause-deep
+returns-in-Own-clause-deep g c d t =
+    let p0 = g.C.Chunks.contents c.args.chunks.now in
+    let e = own_depth p0 c.args.self.now.root c.in-Own.node d c.in-Own.is t in
+    on_ok c.write.result c.write.ensures.deep (λ n. (c.write.new.self.depth, refl, omega (arith, n.0, e), omega (arith, n.1, e)))
+
+pub returns-in-Own-clause-wide : goal.returns-in-Own-clause-wide
+returns-in-Own-clause-wide g c w = c.write.ensures.wide (subst (IsWide (g.C.Chunks.contents c.args.chunks.now)) c.in-Own.is w)
+
+pub returns-in-Placed-clause-few : goal.returns-in-Placed-clause-few
+returns-in-Placed-clause-few g c d t =
+    let p0 = g.C.Chunks.contents c.args.chunks.now in
+    let p = g.C.Chunks.contents c.get.new.chunks in
+    let s = some_of (tree_map p0 c.args.self.now) c.requires in
+    let k = stamp_of c.in-Placed.at in
+    let h1 : map_at p k ≡ Some s.0 = ap (root_map p) (sym c.in-Placed.is) ∙ root_kept p0 p c.args.self.now.root s.0 c.get.ensures.grown s.1 in
+    let sp = placed_map p k s.0 h1 in
+    let e : c.in_ok-depth-in-Placed.depth ≡ sp.segment.depth = c.in_ok-depth-in-Placed.ensures.depth sp.segment sp.is in
+    let f = placed_depth p0 p c.args.self.now.root c.in-Placed.at d sp.segment c.in-Placed.is c.get.ensures.grown t sp.is in
+    omega (arith, c.in_ok-write-in-Placed.ensures.few, c.in_ok-node-in-Placed.ensures.fresh, c.in_ok-node-in-Placed.ensures.depth, e, f)
+
+pub returns-in-Placed-clause-replaced : goal.returns-in-Placed-clause-replaced
+returns-in-Placed-clause-replaced g c m d h t found =
+    let p0 = g.C.Chunks.contents c.args.chunks.now in
+    let p = g.C.Chunks.contents c.get.new.chunks in
+    let s = some_of (tree_map p0 c.args.self.now) c.requires in
+    let k = stamp_of c.in-Placed.at in
+    let h1 : map_at p k ≡ Some s.0 = ap (root_map p) (sym c.in-Placed.is) ∙ root_kept p0 p c.args.self.now.root s.0 c.get.ensures.grown s.1 in
+    let sp = placed_map p k s.0 h1 in
+    let e : c.in_ok-depth-in-Placed.depth ≡ sp.segment.depth = c.in_ok-depth-in-Placed.ensures.depth sp.segment sp.is in
+    let f = placed_depth p0 p c.args.self.now.root c.in-Placed.at d sp.segment c.in-Placed.is c.get.ensures.grown t sp.is in
+    let there = is_there c.in_ok-found.found (finite.get m c.args.key.now) c.is_some-there.result (c.in_ok-found.ensures.value m h) c.is_some-there.ensures found in
+    omega (arith, c.in_ok-write-in-Placed.ensures.replaced there, c.in_ok-node-in-Placed.ensures.fresh, c.in_ok-node-in-Placed.ensures.depth, e, f)
+
+pub returns-in-Placed-clause-deep : goal.returns-in-Placed-clause-deep
+returns-in-Placed-clause-deep g c d t =
+    let p0 = g.C.Chunks.contents c.args.chunks.now in
+    let p = g.C.Chunks.contents c.get.new.chunks in
+    let s = some_of (tree_map p0 c.args.self.now) c.requires in
+    let k = stamp_of c.in-Placed.at in
+    let h1 : map_at p k ≡ Some s.0 = ap (root_map p) (sym c.in-Placed.is) ∙ root_kept p0 p c.args.self.now.root s.0 c.get.ensures.grown s.1 in
+    let sp = placed_map p k s.0 h1 in
+    let e : c.in_ok-depth-in-Placed.depth ≡ sp.segment.depth = c.in_ok-depth-in-Placed.ensures.depth sp.segment sp.is in
+    let f = placed_depth p0 p c.args.self.now.root c.in-Placed.at d sp.segment c.in-Placed.is c.get.ensures.grown t sp.is in
+    let n = c.in_ok-write-in-Placed.ensures.deep in (
+      c.write-in-Placed.new.self.depth,
+      refl,
+      omega (arith, n.0, c.in_ok-node-in-Placed.ensures.depth, e, f),
+      omega (arith, n.1, c.in_ok-node-in-Placed.ensures.depth, e, f),
+    )
+
+pub returns-in-Placed-clause-wide : goal.returns-in-Placed-clause-wide
+returns-in-Placed-clause-wide g c w =
+    let p0 = g.C.Chunks.contents c.args.chunks.now in
+    let p = g.C.Chunks.contents c.get.new.chunks in
+    let q = g.C.Chunks.contents c.copied.new.chunks in
+    let s = some_of (tree_map p0 c.args.self.now) c.requires in
+    let far = prefix_trans p0 p q c.get.ensures.grown (prefix_trans p (g.C.Chunks.contents c.depth_placed.new.chunks) q c.depth_placed.ensures.grown c.copied.ensures.grown) in
+    c.in_ok-write-in-Placed.ensures.wide (c.in_ok-node-in-Placed.ensures.wide (subst (IsWide q) c.in-Placed.is (wide_root_grown p0 q c.args.self.now.root s.0 far s.1 w)))

@@ -1,8 +1,11 @@
-use Rattle.std.proofs.Common.{◌≡◌, ◌∙◌, [], ap, sym, subst, length, insert, Some, None, set, append-nil, get_or, refl, replicate}
+use Rattle.std.proofs.Common.{◌≡◌, ◌∙◌, [], ap, sym, subst, length, insert, Some, None, set, append-nil, get_or, refl, replicate, nat_cmp}
+use Rattle.std.specs.Cmp.Lexicographic.{slice_cmp}
+use Rattle.std.specs.FinMap.{put}
 use Rattle.group_history.specs.Rows.{paired}
 use Rattle.map_tree.specs.Nodes.{row_pieces}
 use Rattle.map_tree.specs.Search.{IsFound, IsAbsent}
 use Rattle.map_tree.proofs.ChangeLemmas.{replaced, put-found}
+use Rattle.map_tree.proofs.CountLemmas.{kept_alone, kept_halves, rows_put}
 use Rattle.map_tree.proofs.LeafLemmas.{put_parted, leaf_halves, leaf_whole}
 use Rattle.map_tree.proofs.SearchLemmas.{found_in}
 use Rattle.map_tree.proofs.nodes.putting.leaves.put_row.Goals as goal
@@ -90,3 +93,26 @@ returns-in-Some-clause-leaf c =
     c.make_room.ensures.texts c.reserve.ensures.items c.in_ok-text.ensures.cases c.requires.keys.1 c.requires.pairs a c.in-Some.ensures in
     let b = leaf_halves keys values c.insert_entry.new.keys.texts c.insert_entry.new.entries.items c.in-Some.keys.texts c.in-Some.values.items c.in-Err.place key c.args.value c.requires.keys.1 c.requires.pairs a h in
     b.left
+
+pub returns-in-None-clause-entries : goal.returns-in-None-clause-entries
+returns-in-None-clause-entries c =
+    let keys = c.args.keys.now.texts in
+    let values = c.args.values.now.items in
+    let key = c.args.key.now in
+    let a : IsAbsent key keys c.in-Err.place = subst (λ z. IsAbsent key z c.in-Err.place) c.as_slice.ensures (subst (λ k. IsAbsent k c.as_slice.result.now c.in-Err.place) c.as_str.ensures c.in-Err.ensures.absent) in
+    let h = put_parted keys values c.make_room.new.self.texts c.reserve.new.self.items c.in-Err.place key c.in_ok-text.text c.args.value c.insert_entry.new.keys.texts c.insert_entry.new.entries.items None
+    c.make_room.ensures.texts c.reserve.ensures.items c.in_ok-text.ensures.cases c.requires.keys.1 c.requires.pairs a c.in-None.ensures in
+    kept_alone (put (slice_cmp nat_cmp) key c.args.value (paired keys values)) c.insert_entry.new.keys.texts c.insert_entry.new.entries.items (length keys) h
+    (rows_put keys values c.in-Err.place key c.args.value c.requires.keys.1 c.requires.pairs a)
+
+pub returns-in-Some-clause-entries : goal.returns-in-Some-clause-entries
+returns-in-Some-clause-entries c =
+    let keys = c.args.keys.now.texts in
+    let values = c.args.values.now.items in
+    let key = c.args.key.now in
+    let a : IsAbsent key keys c.in-Err.place = subst (λ z. IsAbsent key z c.in-Err.place) c.as_slice.ensures (subst (λ k. IsAbsent k c.as_slice.result.now c.in-Err.place) c.as_str.ensures c.in-Err.ensures.absent) in
+    let h = put_parted keys values c.make_room.new.self.texts c.reserve.new.self.items c.in-Err.place key c.in_ok-text.text c.args.value c.insert_entry.new.keys.texts c.insert_entry.new.entries.items
+    (Some (c.in-Some.keys.texts, c.in-Some.values.items))
+    c.make_room.ensures.texts c.reserve.ensures.items c.in_ok-text.ensures.cases c.requires.keys.1 c.requires.pairs a c.in-Some.ensures in
+    kept_halves (put (slice_cmp nat_cmp) key c.args.value (paired keys values)) c.insert_entry.new.keys.texts c.insert_entry.new.entries.items c.in-Some.keys.texts c.in-Some.values.items (length keys) h
+    (rows_put keys values c.in-Err.place key c.args.value c.requires.keys.1 c.requires.pairs a)

@@ -4,12 +4,14 @@ use Rattle.map_tree.specs.Halves.{with_half, IsHalf}
 use Rattle.map_tree.specs.Inserting.{Parted}
 use Rattle.map_tree.specs.Nodes.{Kids}
 use Rattle.map_tree.specs.declared.nodes.Child.TheVariants.{Own}
+use Rattle.map_tree.specs.Counts.{half_fresh}
+use Rattle.map_tree.proofs.CountLemmas.{entries_fresh, fresh-alone, fresh-halves, fresh-with_half, kept_alone, kept_halves}
 use Rattle.map_tree.proofs.KidLemmas.{finished_alone, kid_halves, putting, chosen_are}
 use Rattle.map_tree.proofs.ListLemmas.{length-paired}
 use Rattle.map_tree.proofs.nodes.putting.middles.finish.Goals as goal
 
-pub returns-in_default : goal.returns-in_default
-returns-in_default c =
+pub returns-in_default-clause-shape : goal.returns-in_default-clause-shape
+returns-in_default-clause-shape c =
     let keys = c.args.keys.now.texts in
     let kids = c.args.kids.now.items in
     let es : Kids = with_half c.args.place c.args.half (paired keys kids) in
@@ -17,8 +19,8 @@ returns-in_default c =
     let n = ap length e ∙ length-paired keys kids c.requires.pairs in
     finished_alone c.args.depth c.args.copies es keys kids (sym e, c.requires.pairs) c.requires.kids c.requires.order (omega (arith, n, c.requires.few)) (omega (arith, n, c.requires.within))
 
-pub returns-in_default-insert_entry : goal.returns-in_default-insert_entry
-returns-in_default-insert_entry c =
+pub returns-in_default-insert_entry-clause-shape : goal.returns-in_default-insert_entry-clause-shape
+returns-in_default-insert_entry-clause-shape c =
     let keys = c.args.keys.now.texts in
     let kids = c.args.kids.now.items in
     let es : Kids = with_half c.args.place c.args.half (paired keys kids) in
@@ -42,8 +44,8 @@ invariant_of-result c =
     let b = kid_halves (c.args.depth - 1) es c.insert_entry.new.keys.texts c.insert_entry.new.entries.items c.in-Some-insert_entry.upper_keys.texts c.in-Some-insert_entry.upper.items h c.requires.kids c.requires.order in
     (b.right.1, (c.requires.above, b.right.2, b.right.0, b.right.3))
 
-pub returns : goal.returns
-returns c =
+pub returns-clause-shape : goal.returns-clause-shape
+returns-clause-shape c =
     let keys = c.args.keys.now.texts in
     let kids = c.args.kids.now.items in
     let es : Kids = with_half c.args.place c.args.half (paired keys kids) in
@@ -70,3 +72,55 @@ returns c =
       b.left.2,
       b.left.3,
     )
+
+pub returns-in_default-insert_entry-clause-fresh : goal.returns-in_default-insert_entry-clause-fresh
+returns-in_default-insert_entry-clause-fresh c =
+    let keys = c.args.keys.now.texts in
+    let kids = c.args.kids.now.items in
+    let es : Kids = with_half c.args.place c.args.half (paired keys kids) in
+    let hf : IsHalf (c.args.copies + 1) (c.args.depth - 1) (Some c.in-Some.half) = subst (IsHalf (c.args.copies + 1) (c.args.depth - 1)) c.in-Some.is c.requires.half in
+    let p = putting keys kids c.args.place c.args.copies (c.args.depth - 1) c.in-Some.half c.in-Some-pop.first c.pop.new.self.items c.requires.pairs c.requires.within hf c.in-Some-pop.ensures.items in
+    let back : with_half c.args.place (Some c.in-Some.half) (paired keys kids) ≡ es = ap (λ h. with_half c.args.place h (paired keys kids)) (sym c.in-Some.is) in
+    let q : insert (paired keys kids) (c.args.place + 1) (c.in-Some-pop.first, Own c.in-Some.half.node) ≡ es = p.es_is ∙ back in
+    let h = subst (λ (w : Kids). Parted w c.insert_entry.new.keys.texts c.insert_entry.new.entries.items None) q c.in_default-insert_entry.ensures in
+    let m = fresh-with_half keys kids c.args.place c.in-Some.half c.requires.pairs c.requires.within in
+    let n = fresh-alone es c.insert_entry.new.keys.texts c.insert_entry.new.entries.items h in
+    omega (arith, m, n, ap entries_fresh back, ap half_fresh c.in-Some.is)
+
+pub returns-clause-fresh : goal.returns-clause-fresh
+returns-clause-fresh c =
+    let keys = c.args.keys.now.texts in
+    let kids = c.args.kids.now.items in
+    let es : Kids = with_half c.args.place c.args.half (paired keys kids) in
+    let hf : IsHalf (c.args.copies + 1) (c.args.depth - 1) (Some c.in-Some.half) = subst (IsHalf (c.args.copies + 1) (c.args.depth - 1)) c.in-Some.is c.requires.half in
+    let p = putting keys kids c.args.place c.args.copies (c.args.depth - 1) c.in-Some.half c.in-Some-pop.first c.pop.new.self.items c.requires.pairs c.requires.within hf c.in-Some-pop.ensures.items in
+    let back : with_half c.args.place (Some c.in-Some.half) (paired keys kids) ≡ es = ap (λ h. with_half c.args.place h (paired keys kids)) (sym c.in-Some.is) in
+    let q : insert (paired keys kids) (c.args.place + 1) (c.in-Some-pop.first, Own c.in-Some.half.node) ≡ es = p.es_is ∙ back in
+    let h = subst (λ (w : Kids). Parted w c.insert_entry.new.keys.texts c.insert_entry.new.entries.items (Some (c.in-Some-insert_entry.upper_keys.texts, c.in-Some-insert_entry.upper.items))) q c.in-Some-insert_entry.ensures in
+    let m = fresh-with_half keys kids c.args.place c.in-Some.half c.requires.pairs c.requires.within in
+    let n = fresh-halves es c.insert_entry.new.keys.texts c.insert_entry.new.entries.items c.in-Some-insert_entry.upper_keys.texts c.in-Some-insert_entry.upper.items h in
+    omega (arith, m, n, ap entries_fresh back, ap half_fresh c.in-Some.is)
+
+pub returns-in_default-insert_entry-clause-entries : goal.returns-in_default-insert_entry-clause-entries
+returns-in_default-insert_entry-clause-entries c =
+    let keys = c.args.keys.now.texts in
+    let kids = c.args.kids.now.items in
+    let es : Kids = with_half c.args.place c.args.half (paired keys kids) in
+    let hf : IsHalf (c.args.copies + 1) (c.args.depth - 1) (Some c.in-Some.half) = subst (IsHalf (c.args.copies + 1) (c.args.depth - 1)) c.in-Some.is c.requires.half in
+    let p = putting keys kids c.args.place c.args.copies (c.args.depth - 1) c.in-Some.half c.in-Some-pop.first c.pop.new.self.items c.requires.pairs c.requires.within hf c.in-Some-pop.ensures.items in
+    let back : with_half c.args.place (Some c.in-Some.half) (paired keys kids) ≡ es = ap (λ h. with_half c.args.place h (paired keys kids)) (sym c.in-Some.is) in
+    let q : insert (paired keys kids) (c.args.place + 1) (c.in-Some-pop.first, Own c.in-Some.half.node) ≡ es = p.es_is ∙ back in
+    let h = subst (λ (w : Kids). Parted w c.insert_entry.new.keys.texts c.insert_entry.new.entries.items None) q c.in_default-insert_entry.ensures in
+    kept_alone es c.insert_entry.new.keys.texts c.insert_entry.new.entries.items (length keys) h (sym (ap length back) ∙ p.whole)
+
+pub returns-clause-entries : goal.returns-clause-entries
+returns-clause-entries c =
+    let keys = c.args.keys.now.texts in
+    let kids = c.args.kids.now.items in
+    let es : Kids = with_half c.args.place c.args.half (paired keys kids) in
+    let hf : IsHalf (c.args.copies + 1) (c.args.depth - 1) (Some c.in-Some.half) = subst (IsHalf (c.args.copies + 1) (c.args.depth - 1)) c.in-Some.is c.requires.half in
+    let p = putting keys kids c.args.place c.args.copies (c.args.depth - 1) c.in-Some.half c.in-Some-pop.first c.pop.new.self.items c.requires.pairs c.requires.within hf c.in-Some-pop.ensures.items in
+    let back : with_half c.args.place (Some c.in-Some.half) (paired keys kids) ≡ es = ap (λ h. with_half c.args.place h (paired keys kids)) (sym c.in-Some.is) in
+    let q : insert (paired keys kids) (c.args.place + 1) (c.in-Some-pop.first, Own c.in-Some.half.node) ≡ es = p.es_is ∙ back in
+    let h = subst (λ (w : Kids). Parted w c.insert_entry.new.keys.texts c.insert_entry.new.entries.items (Some (c.in-Some-insert_entry.upper_keys.texts, c.in-Some-insert_entry.upper.items))) q c.in-Some-insert_entry.ensures in
+    kept_halves es c.insert_entry.new.keys.texts c.insert_entry.new.entries.items c.in-Some-insert_entry.upper_keys.texts c.in-Some-insert_entry.upper.items (length keys) h (sym (ap length back) ∙ p.whole)

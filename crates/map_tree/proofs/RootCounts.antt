@@ -1,0 +1,47 @@
+-- How deep a map is, and how wide its root, once more is placed.
+use Rattle.std.proofs.Common.{◌≡◌, ℕ, Bool, true, Option, Some, None, refl, sym, ap, ◌∙◌, is_some}
+use Rattle.std.specs.Prelude.{IsSome, option_map}
+use mathlib.Core.List.{IsPrefix}
+use Rattle.group_history.specs.declared.refs.Ref.{Ref}
+use Rattle.group_history.specs.Map.{Bytes, Entries}
+use Rattle.group_history.specs.Refs.{stamp_of}
+use Rattle.group_history.specs.Spelling.{Contents, Segment, segment_at}
+use Rattle.group_history.proofs.Spellings.{segment-content}
+use Rattle.map_tree.specs.Shown.{Seen}
+use Rattle.map_tree.specs.Trees.{root_map, root_depth, IsWide}
+use Rattle.map_tree.specs.declared.tree.Root.{Root}
+use Rattle.map_tree.specs.declared.tree.Root.TheVariants.{Placed, Own}
+use Rattle.map_tree.proofs.JoinLemmas.{some_is}
+use Rattle.map_tree.proofs.OpenLemmas.{segment-kept}
+use Rattle.map_tree.proofs.WideLemmas.{wide_grown}
+use Rattle.map_tree.proofs.WriteLemmas.{placed_map}
+
+pub own_depth : (p : Contents) (r : Root) (n : Seen) (d : ℕ) → r ≡ Own n → root_depth p r ≡ Some d → n.depth ≡ d
+own_depth p r n d e h = some_is (ap (root_depth p) (sym e) ∙ h)
+
+-- a placed root is as deep as its segment
+pub placed_depth : (old new : Contents) (r : Root) (at : Ref) (d : ℕ) (s : Segment) → r ≡ Placed at → IsPrefix old new → root_depth old r ≡ Some d → segment_at new (stamp_of at) ≡ Some s → s.depth ≡ d
+placed_depth old new r at d s e p h g = by (segment_at old (stamp_of at)) refl (ap (root_depth old) (sym e) ∙ h)
+  where
+    by : (o : Option Segment) → segment_at old (stamp_of at) ≡ o → option_map (λ (t : Segment). t.depth) o ≡ Some d → s.depth ≡ d
+    by None q h = absurd cc
+    by (Some t) q h = ap (λ (t : Segment). t.depth) (some_is (sym g ∙ segment-kept old new (stamp_of at) t p q)) ∙ some_is h
+
+pub root_depth_kept : (old new : Contents) (r : Root) (d : ℕ) → IsPrefix old new → root_depth old r ≡ Some d → root_depth new r ≡ Some d
+root_depth_kept old new (Own n) d p h = h
+root_depth_kept old new (Placed at) d p h = by (segment_at old (stamp_of at)) refl h
+  where
+    by : (o : Option Segment) → segment_at old (stamp_of at) ≡ o → option_map (λ (t : Segment). t.depth) o ≡ Some d → root_depth new (Placed at) ≡ Some d
+    by None q h = absurd cc
+    by (Some t) q h = ap (option_map (λ (t : Segment). t.depth)) (segment-kept old new (stamp_of at) t p q) ∙ h
+
+pub wide_root_grown : (old new : Contents) (r : Root) (m : Entries) → IsPrefix old new → root_map old r ≡ Some m → IsWide old r → IsWide new r
+wide_root_grown old new (Own n) m p h w = w
+wide_root_grown old new (Placed at) m p h w =
+    let s = placed_map old (stamp_of at) m h in
+    let c = segment-content old (stamp_of at) s.segment s.is in
+    wide_grown old new at _ p c.2 w
+
+-- a key that is there was found
+pub is_there : (found there : Option Bytes) (b : Bool) → found ≡ there → b ≡ is_some found → IsSome there → b ≡ true
+is_there found there b e f h = f ∙ ap is_some e ∙ h

@@ -1,0 +1,18 @@
+-- How many chunks and keys a put makes.
+use Rattle.std.specs.Prelude.{◌≡◌, ◌⊎◌, ◌<◌, ◌≤◌, ℕ, Option, Some, None}
+use Rattle.map_tree.specs.Shown.{Seen}
+use Rattle.map_tree.specs.declared.nodes.putting.Half.{Half}
+
+-- how many own chunks an upper half is
+abbrev pub half_fresh : Option Half → ℕ
+half_fresh None = 0
+half_fresh (Some h) = h.node.fresh
+
+-- A chunk that isn't split has no fewer keys than before. One that is split had 16; 8 keys stay, and 9 go.
+abbrev pub HasKept : ℕ → ℕ → Option Half → Type 0
+HasKept old new None = old ≤ new
+HasKept old new (Some h) = (old ≡ 16) × (new ≡ 8) × (h.node.entries ≡ 9)
+
+-- not an inner chunk with one child
+abbrev pub IsWideChunk : Seen → Type 0
+IsWideChunk n = (n.depth ≡ 1) ⊎ (1 < n.entries)
