@@ -12,3 +12,7 @@ on_err (Err e) p f = f p
 pub either_way : {A E P Q R : Type 0} (r : Result A E) → OnOk r P → OnErr r Q → (P → R) → (Q → R) → R
 either_way (Ok a) p q f g = f p
 either_way (Err e) p q f g = g q
+
+pub both_ok : {A E P Q R : Type 0} (r : Result A E) → OnOk r P → OnOk r Q → (P → Q → R) → OnOk r R
+both_ok (Ok a) p q f = f p q
+both_ok (Err e) p q f = tt

@@ -33,7 +33,7 @@ if_ok (Err e) p q f = tt
 
 -- CONTENTS
 
-map-append : {A B : Type 0} (f : A → B) (xs ys : List A) → map f (xs ++ ys) ≡ map f xs ++ map f ys
+pub map-append : {A B : Type 0} (f : A → B) (xs ys : List A) → map f (xs ++ ys) ≡ map f xs ++ map f ys
 map-append f [] ys = refl
 map-append f (x ∷ xs) ys = ap (λ w. f x ∷ w) (map-append f xs ys)
 

@@ -23,3 +23,8 @@ pub mod PrefixLemmas
 pub mod CountLemmas
 pub mod WideLemmas
 pub mod RootCounts
+pub mod SecondLemmas
+pub mod EndLemmas
+pub mod RemoveLemmas
+pub mod EmptyLemmas
+pub mod DeleteLemmas

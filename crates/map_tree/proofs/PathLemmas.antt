@@ -119,7 +119,7 @@ paired-both (j ∷ ks) [] (suc i) k y = refl
 paired-both (j ∷ ks) (x ∷ xs) zero k y = refl
 paired-both (j ∷ ks) (x ∷ xs) (suc i) k y = ap (λ w. (j, x) ∷ w) (paired-both ks xs i k y)
 
-lowered_pairs : (keys : List Bytes) (kids : List Child) (i : ℕ) (lower : Option Bytes) (y c : Child) (before : Kids) (first : Bytes) (behind : Kids) → length kids ≡ length keys
+pub lowered_pairs : (keys : List Bytes) (kids : List Child) (i : ℕ) (lower : Option Bytes) (y c : Child) (before : Kids) (first : Bytes) (behind : Kids) → length kids ≡ length keys
     → paired keys kids ≡ before ++ (first, c) ∷ behind → length before ≡ i → paired (lowered i lower keys) (set kids i y) ≡ before ++ (first_key first lower, y) ∷ behind
 lowered_pairs keys kids i None y c before first behind l w a = replaced keys kids i y c before first behind l w a
 lowered_pairs keys kids i (Some k) y c before first behind l w a =

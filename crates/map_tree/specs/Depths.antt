@@ -1,5 +1,5 @@
 -- How deep a placed chunk is, by its first child.
-use Rattle.std.specs.Prelude.{◌≡◌, ℕ, ◌+◌, ◌<◌, Option, Some, None, slice_get}
+use Rattle.std.specs.Prelude.{◌≡◌, ◌==◌, Bool, false, ℕ, ◌+◌, ◌<◌, Option, Some, None, length, slice_get}
 use Rattle.group_history.specs.declared.nodes.Chunk.{Chunk}
 use Rattle.group_history.specs.declared.nodes.Chunk.TheVariants.{Leaf, Inner}
 use Rattle.group_history.specs.declared.refs.Ref.{Ref}
@@ -16,3 +16,8 @@ IsFirst (Inner kids) child = child ≡ slice_get (values_of kids) 0
 abbrev pub IsAbove : Contents → ℕ → Segment → Option Ref → Type 0
 IsAbove contents stamp s None = s.depth ≡ 1
 IsAbove contents stamp s (Some child) = (stamp_of child < stamp) × ((t : Segment) × (segment_at contents (stamp_of child) ≡ Some t) × (s.depth ≡ t.depth + 1))
+
+-- a leaf without rows
+abbrev pub has_none : Chunk Ref → Bool
+has_none (Leaf rows) = length rows == 0
+has_none (Inner kids) = false

@@ -1,13 +1,16 @@
 pub mod Copies
 pub mod Depths
 pub mod Drafts
+pub mod Ends
 pub mod Falls
 pub mod Halves
 pub mod Inserting
 pub mod Keys
 pub mod KeysSeen
 pub mod Nodes
+pub mod Removing
 pub mod Search
+pub mod SecondKeys
 pub mod Shown
 pub mod Steps
 pub mod Trees

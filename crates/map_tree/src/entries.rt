@@ -1,6 +1,6 @@
 //! Keys and what stands under them, changed together.
-ghost use Rattle.std.specs.Prelude.{◌≡◌, ◌<◌, ◌≤◌, [], length, IfOk, Some, vec_items, vec_len, vec_capacity};
-ghost use Rattle.std.specs.List.{insert};
+ghost use Rattle.std.specs.Prelude.{◌≡◌, ◌<◌, ◌≤◌, [], length, IfOk, OnOk, OnErr, Some, vec_items, vec_len, vec_capacity};
+ghost use Rattle.std.specs.List.{insert, remove};
 ghost use Rattle.std.specs.Option.{option_map};
 ghost use Rattle.group_history.specs.Rows.{paired};
 ghost use Rattle.map_tree.specs.Inserting.{Parted};
@@ -66,4 +66,22 @@ pub(crate) fn insert_entry<T: Drop>(
     let upper_keys = keys.split(texts);
     move_tail(entries, &mut upper);
     Some((upper_keys, upper))
+}
+
+/// Takes the entry at the place out.
+pub(crate) fn remove_entry<T: Drop>(
+    keys: &mut NodeKeys,
+    entries: &mut Vec<T>,
+    alloc: Global,
+    place: usize,
+) -> Result<(), AllocError>
+    requires pairs { length entries.old.items ≡ length keys.old.texts }
+    requires within { place < length keys.old.texts }
+    ensures ok { OnOk result ((keys.new.texts ≡ remove keys.old.texts place) × (entries.new.items ≡ remove entries.old.items place)) }
+    ensures err { OnErr result ((keys.new.texts ≡ keys.old.texts) × (entries.new.items ≡ entries.old.items)) }
+{
+    keys.make_room(alloc)?;
+    keys.remove(place);
+    let _ = entries.remove(place);
+    Ok(())
 }

@@ -1,5 +1,5 @@
 //! The keys of a draft's chunk: shared with the chunk that it was copied from, until they change.
-ghost use Rattle.std.specs.Prelude.{◌≡◌, ◌<◌, ◌≤◌, ◌+◌, true, [], length, take, drop, IfOk, OnOk, slice_set, vec_items, vec_len, vec_capacity};
+ghost use Rattle.std.specs.Prelude.{◌≡◌, ◌<◌, ◌≤◌, ◌+◌, true, [], length, take, drop, IfOk, OnOk, slice_get, slice_set, vec_items, vec_len, vec_capacity};
 ghost use Rattle.std.specs.List.{insert, remove};
 ghost use Rattle.std.specs.Arc.{arc_value};
 
@@ -104,6 +104,20 @@ impl NodeKeys {
         }
     }
 
+    /// Takes the key at the place out.
+    pub(crate) fn remove(&mut self, place: usize)
+        requires room { 0 < self.old.room }
+        requires within { place < length self.old.texts }
+        ensures texts { self.new.texts ≡ remove self.old.texts place }
+    {
+        match &mut self.texts {
+            Texts::Shared(_) => {}
+            Texts::Own(texts) => {
+                let _ = texts.remove(place);
+            }
+        }
+    }
+
     /// Moves the keys from the place 8 on.
     pub(crate) fn split(&mut self, right: Vec<Text>) -> NodeKeys
         requires empty { right.items ≡ [] }
@@ -132,6 +146,16 @@ fn copied(alloc: Global, texts: &[Text]) -> Result<Vec<Text>, AllocError>
         copy.push(text.clone()?)?;
     }
     Ok(copy)
+}
+
+/// The second of the keys, if there are two.
+pub(crate) fn second_of(keys: &[Text]) -> Result<Option<Text>, AllocError>
+    ensures { IfOk result (λ key. key ≡ slice_get keys.now 1) }
+{
+    if keys.len() < 2 {
+        return Ok(None);
+    }
+    Ok(Some(keys[1].clone()?))
 }
 
 /// So many entries a chunk has at most, while it is changed.

@@ -3,6 +3,7 @@
 
 mod chunks;
 mod drafts;
+mod ends;
 mod entries;
 mod keys;
 mod looks;
@@ -10,6 +11,7 @@ mod nodes;
 mod placed;
 mod scanning;
 mod search;
+mod seconds;
 mod shelf;
 mod staged;
 mod tree;

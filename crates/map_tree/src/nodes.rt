@@ -8,6 +8,7 @@ mod counting;
 mod freezing;
 mod putting;
 mod reading;
+mod removing;
 mod replacing;
 #[cfg(test)]
 mod scan_tests;

@@ -1,5 +1,5 @@
 //! Queries of placed chunks. Each chunk is shown for one look, and left again.
-ghost use Rattle.std.specs.Prelude.{◌≡◌, ◌<◌, ◌≤◌, ◌+◌, ◌⊎◌, length, Some, IfOk, IfErr, IsSome};
+ghost use Rattle.std.specs.Prelude.{◌≡◌, ◌==◌, ◌<◌, ◌≤◌, ◌+◌, ◌⊎◌, length, Some, IfOk, IfErr, IsSome};
 ghost use mathlib.Core.List.{IsPrefix};
 ghost use Rattle.std.specs.Ordering.{nat_cmp};
 ghost use Rattle.std.specs.Cmp.Lexicographic.{slice_cmp};
@@ -8,7 +8,7 @@ ghost use Rattle.group_history.specs.Refs.{stamp_of};
 ghost use Rattle.group_history.specs.declared.mutators.Stop.TheVariants.{NoMemory};
 ghost use Rattle.map_tree.specs.Shown.{chunk_rows, IsTree, rows_or};
 ghost use Rattle.group_history.specs.Spelling.{Segment, segment_at};
-ghost use Rattle.map_tree.specs.Depths.{IsFirst, IsAbove};
+ghost use Rattle.map_tree.specs.Depths.{IsFirst, IsAbove, has_none};
 ghost use Rattle.map_tree.specs.Steps.{IsStep, Leads};
 
 use crate::chunks::{Chunks, ShowsChunk};
@@ -102,4 +102,26 @@ pub(crate) fn depth_placed<C: Chunks>(chunks: &mut C, at: Ref) -> Result<u64, St
             Ok(below + 1)
         }
     }
+}
+
+fn is_empty(chunk: &Chunk<Ref>) -> bool
+    ensures { result ≡ has_none chunk.now }
+{
+    match chunk {
+        Chunk::Leaf(leaf) => leaf.values().is_empty(),
+        Chunk::Inner(_) => false,
+    }
+}
+
+/// Whether a placed chunk has no rows: then it is a leaf.
+pub(crate) fn is_empty_placed<C: Chunks>(chunks: &mut C, at: Ref) -> Result<bool, Stop>
+    requires { IsSome (chunk_rows (C.contents chunks.old) (stamp_of at)) }
+    ensures grown { IsPrefix (C.contents chunks.old) (C.contents chunks.new) }
+    ensures value { IfOk result (λ b. b ≡ (length (rows_or (chunk_rows (C.contents chunks.old) (stamp_of at))) == 0)) }
+    ensures stopped { IfErr result (λ s. (s ≡ NoMemory) ⊎ C.stops s) }
+{
+    let held = chunks.show(at)?;
+    let empty = is_empty(held.chunk());
+    chunks.leave(held);
+    Ok(empty)
 }

@@ -1,6 +1,7 @@
 //! A map as a tree of chunks, of which any may be placed already.
 mod clearing;
 mod counting;
+mod deleting;
 mod freezing;
 mod scanning;
 

@@ -1,9 +1,11 @@
 //! Queries of a draft's chunks.
-ghost use Rattle.std.specs.Prelude.{◌≡◌, ◌⊎◌, IfOk, IfErr};
+ghost use Rattle.std.specs.Prelude.{◌≡◌, ◌==◌, ◌⊎◌, Some, IfOk, IfErr, length};
 ghost use mathlib.Core.List.{IsPrefix};
 ghost use Rattle.std.specs.Ordering.{nat_cmp};
 ghost use Rattle.std.specs.Cmp.Lexicographic.{slice_cmp};
 ghost use Rattle.std.specs.FinMap as finite;
+ghost use Rattle.group_history.specs.Rows.{Rows};
+ghost use Rattle.group_history.specs.Spelling.{Contents};
 ghost use Rattle.group_history.specs.declared.mutators.Stop.TheVariants.{NoMemory};
 ghost use Rattle.map_tree.specs.Shown.{shown, IsTree, rows_or};
 
@@ -31,5 +33,12 @@ impl Node {
                 }
             }
         }
+    }
+
+    /// Whether the chunk has no rows: then it is a leaf.
+    pub(crate) fn is_empty(&self) -> bool
+        ensures { (contents : Contents) (rows : Rows) → shown contents self.now.pieces ≡ Some rows → result ≡ (length rows == 0) }
+    {
+        self.keys.as_slice().is_empty()
     }
 }

@@ -1,0 +1,156 @@
+-- What chunks with one child each end in.
+use Rattle.std.proofs.Common.{◌≡◌, ◌<◌, ◌≤◌, ◌+◌, ◌-◌, ℕ, zero, suc, false, List, [], ◌∷◌, ◌++◌, Some, None, length, get_or, remove, slice_get, append-nil, refl, sym, ap, ◌∙◌, subst, arith, inl, inr}
+use Rattle.std.specs.Prelude.{IsSome}
+use Rattle.group_history.specs.declared.nodes.Chunk.{Chunk}
+use Rattle.group_history.specs.declared.nodes.Chunk.TheVariants as chunked
+use Rattle.group_history.specs.declared.refs.Ref.{Ref}
+use Rattle.group_history.specs.Map.{Bytes}
+use Rattle.group_history.specs.Naming.{chunk_content}
+use Rattle.group_history.specs.Refs.{stamp_of}
+use Rattle.group_history.specs.Rows.{Rows, paired}
+use Rattle.group_history.specs.Spelling.{Contents, Segment, segment_at, rows_at}
+use Rattle.map_tree.specs.Copies.{chunk_entries, MayBeDeep}
+use Rattle.map_tree.specs.Ends.{IsWideAt, IsWideNode, only_ref, IsOnlyChild, IsTaken, end_of_pieces, end_of}
+use Rattle.map_tree.specs.Removing.{one_shown}
+use Rattle.map_tree.specs.Nodes.{child_pieces, kids_pieces, row_pieces, HeadIs, IsChild, AllKids, kids_fresh}
+use Rattle.map_tree.specs.Shown.{Piece, Seen, shown, chunk_rows}
+use Rattle.map_tree.specs.Trees.{is_narrow}
+use Rattle.map_tree.specs.declared.nodes.Child.{Child}
+use Rattle.map_tree.specs.declared.nodes.Child.TheVariants.{Placed, Own}
+use mathlib.Core.List.{IsPrefix}
+use Rattle.map_tree.proofs.ChangeLemmas.{shown-kept}
+use Rattle.map_tree.proofs.JoinLemmas.{split_of, some_is}
+use Rattle.map_tree.proofs.OpenLemmas.{Opened, opened, chunk_rows-at}
+use Rattle.map_tree.proofs.Shelves.{some_of}
+
+no_more : (rs : Rows) → rs ++ [] ≡ rs
+no_more [] = refl
+no_more (r ∷ rs) = ap (λ t. r ∷ t) (no_more rs)
+
+wide-content : (c : Chunk Ref) → only_ref c ≡ None → is_narrow (chunk_content c) ≡ false
+wide-content (chunked.Leaf rows) h = refl
+wide-content (chunked.Inner []) h = refl
+wide-content (chunked.Inner (e ∷ [])) h = absurd cc
+wide-content (chunked.Inner (e ∷ f ∷ es)) h = refl
+
+pub only_is : (ns : Contents) (k : ℕ) (s : Segment) (c : Chunk Ref) → segment_at ns k ≡ Some s → slice_get ns k ≡ Some (chunk_content c) → chunk_rows ns k ≡ Some s.rows
+    → IsOnlyChild ns k (Some s.rows) (only_ref c)
+only_is ns k s c h g r = by c g (opened ns k s c h g)
+  where
+    wide : (c : Chunk Ref) → slice_get ns k ≡ Some (chunk_content c) → only_ref c ≡ None → IsWideAt ns k
+    wide c g o n e = subst (λ w. is_narrow w ≡ false) (some_is (sym g ∙ e)) (wide-content c o)
+
+    by : (c : Chunk Ref) → slice_get ns k ≡ Some (chunk_content c) → Opened ns k s c → IsOnlyChild ns k (Some s.rows) (only_ref c)
+    by (chunked.Leaf rows) g o = (r, wide (chunked.Leaf rows) g refl)
+    by (chunked.Inner []) g o = (r, wide (chunked.Inner []) g refl)
+    by (chunked.Inner (e ∷ [])) g o =
+        let p = split_of (e.0, rows_at ns o.depth (stamp_of e.1)) [] s.rows o.rows in
+        let nil : p.back ≡ [] = sym (some_is p.back_is) in
+        (o.low.0, chunk_rows-at ns o.depth (stamp_of e.1) p.front p.front_is ∙ ap (λ w. Some w) (sym (p.whole ∙ ap (λ w. p.front ++ w) nil ∙ no_more p.front)))
+    by (chunked.Inner (e ∷ f ∷ es)) g o = (r, wide (chunked.Inner (e ∷ f ∷ es)) g refl)
+
+-- a copy of a chunk that is wide is wide
+pub wide-copy : (ns : Contents) (k depth : ℕ) (c : Chunk Ref) (n : Seen) → slice_get ns k ≡ Some (chunk_content c) → MayBeDeep depth c → n.depth ≡ depth → n.entries ≡ chunk_entries c
+    → IsWideAt ns k → IsWideNode n
+wide-copy ns k depth c n g m d e w = by c m e (w (chunk_content c) g)
+  where
+    by : (c : Chunk Ref) → MayBeDeep depth c → n.entries ≡ chunk_entries c → is_narrow (chunk_content c) ≡ false → IsWideNode n
+    by (chunked.Leaf rows) m e f = inl (d ∙ m)
+    by (chunked.Inner []) m e f = absurd (omega (arith, m.1))
+    by (chunked.Inner (x ∷ [])) m e f = absurd cc
+    by (chunked.Inner (x ∷ y ∷ es)) m e f = inr (omega (arith, e))
+
+-- OWN CHUNKS
+
+-- a leaf's rows have no placed chunk
+pub end-rows : (rows : Rows) → None ≡ end_of_pieces (row_pieces rows)
+end-rows [] = refl
+end-rows (r ∷ []) = refl
+end-rows (r ∷ s ∷ rows) = refl
+
+-- a child has a piece
+piece_of : (below : ℕ) (k : Bytes) (c : Child) → IsChild below k c → 0 < length (child_pieces below k c)
+piece_of below k (Placed at) h = omega arith
+piece_of below k (Own n) h = some n.pieces h.1
+  where
+    some : (ps : List Piece) → HeadIs k ps → 0 < length ps
+    some [] h = absurd h
+    some (p ∷ ps) h = omega arith
+
+two_pieces : (ps : List Piece) → 1 < length ps → None ≡ end_of_pieces ps
+two_pieces [] l = absurd (omega arith)
+two_pieces (p ∷ []) l = absurd (omega arith)
+two_pieces (p ∷ q ∷ ps) l = refl
+
+both-pieces : (ps qs rs : List Piece) → 0 < length ps → 0 < length qs → 1 < length (ps ++ (qs ++ rs))
+both-pieces [] qs rs a b = absurd (omega arith)
+both-pieces (p ∷ []) [] rs a b = absurd (omega arith)
+both-pieces (p ∷ []) (q ∷ qs) rs a b = omega arith
+both-pieces (p ∷ q ∷ ps) qs rs a b = omega arith
+
+-- two children or more have none
+pub end-many : (below : ℕ) (keys : List Bytes) (kids : List Child) → length kids ≡ length keys → 0 < length keys → (length kids ≡ 1 → ⊥) → AllKids below (paired keys kids)
+    → None ≡ end_of_pieces (kids_pieces below (paired keys kids))
+end-many below [] kids l z o h = absurd (omega arith)
+end-many below (k ∷ ks) [] l z o h = absurd (omega arith)
+end-many below (k ∷ []) (x ∷ []) l z o h = absurd (o refl)
+end-many below (k ∷ []) (x ∷ y ∷ xs) l z o h = absurd (omega arith)
+end-many below (k ∷ j ∷ ks) (x ∷ []) l z o h = absurd (omega arith)
+end-many below (k ∷ j ∷ ks) (x ∷ y ∷ xs) l z o h =
+    two_pieces (kids_pieces below ((k, x) ∷ (j, y) ∷ paired ks xs))
+    (both-pieces (child_pieces below k x) (child_pieces below j y) (kids_pieces below (paired ks xs)) (piece_of below k x h.0) (piece_of below j y h.1.0))
+
+-- the end of one child
+pub end-one : (below : ℕ) (keys : List Bytes) (kids : List Child) (kid : Child) → length kids ≡ length keys → length kids ≡ 1 → kid ≡ get_or kids 0 kid
+    → end_of kid ≡ end_of_pieces (kids_pieces below (paired keys kids))
+end-one below [] kids kid l o g = absurd (omega arith)
+end-one below (k ∷ ks) [] kid l o g = absurd (omega arith)
+end-one below (k ∷ ks) (x ∷ y ∷ xs) kid l o g = absurd (omega arith)
+end-one below (k ∷ j ∷ ks) (x ∷ []) kid l o g = absurd (omega arith)
+end-one below (k ∷ []) (x ∷ []) kid l o g = ap end_of g ∙ by x
+  where
+    by : (c : Child) → end_of c ≡ end_of_pieces (child_pieces below k c ++ [])
+    by (Placed at) = refl
+    by (Own n) = ap end_of_pieces (sym (append-nil n.pieces))
+
+-- the one child of a chunk has its pieces
+pub one-pieces : (below : ℕ) (keys : List Bytes) (kids : List Child) (n : Seen) (kid : Child) → length kids ≡ length keys → length kids ≡ 1 → kid ≡ get_or kids 0 kid → kid ≡ Own n
+    → n.pieces ≡ kids_pieces below (paired keys kids)
+one-pieces below [] kids n kid l o g e = absurd (omega arith)
+one-pieces below (k ∷ ks) [] n kid l o g e = absurd (omega arith)
+one-pieces below (k ∷ ks) (x ∷ y ∷ xs) n kid l o g e = absurd (omega arith)
+one-pieces below (k ∷ j ∷ ks) (x ∷ []) n kid l o g e = absurd (omega arith)
+one-pieces below (k ∷ []) (x ∷ []) n kid l o g e =
+    sym (append-nil n.pieces) ∙ ap (λ c. child_pieces below k c ++ []) (sym e ∙ g)
+
+-- what was taken from the one child of a chunk has the chunk's pieces
+pub taken-pieces : (below : ℕ) (keys : List Bytes) (kids : List Child) (kid : Child) (n : Seen) → length kids ≡ length keys → length kids ≡ 1 → kid ≡ get_or kids 0 kid → IsTaken kid n
+    → n.pieces ≡ kids_pieces below (paired keys kids)
+taken-pieces below keys kids kid n l o g t = by kid refl t
+  where
+    by : (c : Child) → kid ≡ c → IsTaken c n → n.pieces ≡ kids_pieces below (paired keys kids)
+    by (Placed at) e t = absurd t
+    by (Own m) e t = t.0 ∙ one-pieces below keys kids m kid l o g e
+
+pub other_left : {A : Type 0} (kids : List A) (i : ℕ) (kid : A) → i < length kids → length kids ≤ 2 → (length kids ≡ 1 → ⊥) → kid ≡ get_or kids (1 - i) kid → remove kids i ≡ kid ∷ []
+other_left [] i kid w f o g = absurd (omega arith)
+other_left (x ∷ []) i kid w f o g = absurd (o refl)
+other_left (x ∷ y ∷ []) zero kid w f o g = ap (λ z. z ∷ []) (sym g)
+other_left (x ∷ y ∷ []) (suc zero) kid w f o g = ap (λ z. z ∷ []) (sym g)
+other_left (x ∷ y ∷ []) (suc (suc i)) kid w f o g = absurd (omega arith)
+other_left (x ∷ y ∷ z ∷ kids) i kid w f o g = absurd (omega arith)
+
+-- what was taken from the last child shows what the child did
+pub heir_taken : (p q : Contents) (left : List Child) (kid : Child) (n : Seen) → IsPrefix p q → left ≡ kid ∷ [] → IsSome (one_shown p left) → IsTaken kid n
+    → (shown q n.pieces ≡ one_shown p left) × IsWideNode n × (n.fresh ≤ kids_fresh left + 1)
+heir_taken p q left kid n pre e s t = by kid e t
+  where
+    by : (c : Child) → left ≡ c ∷ [] → IsTaken c n → (shown q n.pieces ≡ one_shown p left) × IsWideNode n × (n.fresh ≤ kids_fresh left + 1)
+    by (Placed at) e t = absurd t
+    by (Own m) e t =
+        let r = some_of (one_shown p left) s in
+        let was : shown p m.pieces ≡ Some r.0 = ap (one_shown p) (sym e) ∙ r.1 in (
+          ap (shown q) t.0 ∙ shown-kept p q m.pieces r.0 pre was ∙ sym r.1,
+          t.1,
+          omega (arith, t.2, ap kids_fresh e),
+        )

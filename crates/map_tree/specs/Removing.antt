@@ -1,0 +1,80 @@
+-- A key removed below a draft's chunk.
+use Rattle.std.specs.Prelude.{◌≡◌, ◌+◌, ◌<◌, ◌≤◌, ℕ, Bool, false, not, nat_le, filter, List, [], ◌∷◌, length, slice_set, Option, Some, None}
+use Rattle.std.specs.Ordering.{nat_cmp, is_eq}
+use Rattle.std.specs.Cmp.Lexicographic.{slice_cmp}
+use Rattle.group_history.specs.Map.{Bytes, same_text}
+use Rattle.group_history.specs.declared.refs.Ref.{Ref}
+use Rattle.group_history.specs.Refs.{stamp_of}
+use Rattle.group_history.specs.Rows.{Rows}
+use Rattle.group_history.specs.Spelling.{Contents}
+use Rattle.map_tree.specs.Ends.{IsWideAt, IsWideNode, IsEnd}
+use Rattle.map_tree.specs.Halves.{HasDepth}
+use Rattle.map_tree.specs.Nodes.{child_rows, child_fresh, kids_fresh}
+use Rattle.map_tree.specs.Scanning.{kid_shown}
+use Rattle.map_tree.specs.SecondKeys.{second_key}
+use Rattle.map_tree.specs.Shown.{Seen, shown, chunk_rows, rows_or, IsTree}
+use Rattle.map_tree.specs.declared.nodes.Child.{Child}
+use Rattle.map_tree.specs.declared.nodes.Child.TheVariants.{Own}
+use Rattle.map_tree.specs.declared.nodes.removing.Fate.{Fate}
+use Rattle.map_tree.specs.declared.nodes.removing.Fate.TheVariants.{Leaves, Stays}
+use Rattle.map_tree.specs.declared.nodes.removing.Heir.{Heir}
+use Rattle.map_tree.specs.declared.nodes.removing.Heir.TheVariants as heir
+
+-- rows without that of a key
+abbrev pub without : Bytes → Rows → Rows
+without key rows = filter (λ r. not (is_eq (slice_cmp nat_cmp key r.0))) rows
+
+-- A child with these rows, under its first key, leaves where its one row has the key. Else it stays: under its second
+-- key where its first row has the key, and under the key that it has where another row or none has it.
+abbrev pub IsFate : Bytes → Bytes → Rows → Fate → Type 0
+IsFate key first rows Leaves = (first ≡ key) × (second_key rows ≡ None)
+IsFate key first rows (Stays None) = same_text first key ≡ false
+IsFate key first rows (Stays (Some next)) = (first ≡ key) × (second_key rows ≡ Some next)
+
+-- a child that leaves has others beside it
+abbrev pub HasOthers : Fate → ℕ → Type 0
+HasOthers Leaves entries = 1 < entries
+HasOthers (Stays first) entries = Unit {0}
+
+-- how many children there are then
+abbrev pub AreLeft : Fate → ℕ → ℕ → Type 0
+AreLeft Leaves old new = new + 1 ≡ old
+AreLeft (Stays first) old new = new ≡ old
+
+-- whether fewer than two children stay
+abbrev pub gives_way : Fate → ℕ → Bool
+gives_way Leaves entries = nat_le entries 2
+gives_way (Stays first) entries = false
+
+-- a child of this depth that shows rows in order, of which some stay
+abbrev pub CanRemove : Contents → ℕ → Bytes → Child → Type 0
+CanRemove contents below key c = IsTree (child_rows contents below c) × HasDepth below c × (0 < length (without key (rows_or (child_rows contents below c))))
+
+-- an own child, so deep, stands at the place of this one, and shows these rows; so many chunks of it may be new
+abbrev pub ChildRemoved : Contents → ℕ → ℕ → List Child → List Child → Child → Option Rows → Type 0
+ChildRemoved contents below place old new child rows = (n : Seen) × (new ≡ slice_set old place (Own n)) × (n.depth ≡ below) × (shown contents n.pieces ≡ rows)
+    × (n.fresh ≤ child_fresh child + below)
+
+-- what children show of which there is at most one
+abbrev pub one_shown : Contents → List Child → Option Rows
+one_shown contents [] = Some []
+one_shown contents (c ∷ cs) = kid_shown contents c
+
+-- what stands in the place of a root with at most this one child: it shows what the child shows, and is wide
+abbrev pub IsHeir : Contents → Contents → List Child → Heir → Type 0
+IsHeir old new kids (heir.Placed at) = IsEnd new (one_shown old kids) at
+IsHeir old new kids (heir.Own n) = (shown new n.pieces ≡ one_shown old kids) × IsWideNode n × (n.fresh ≤ kids_fresh kids + 1)
+
+-- a placed heir changes no child
+abbrev pub KeptBy : List Child → List Child → Heir → Type 0
+KeptBy old new (heir.Placed at) = new ≡ old
+KeptBy old new (heir.Own n) = Unit {0}
+
+-- what a root shows: a placed chunk, if there is one, else the draft's
+abbrev pub root_rows : Contents → Seen → Option Ref → Option Rows
+root_rows contents n None = shown contents n.pieces
+root_rows contents n (Some at) = chunk_rows contents (stamp_of at)
+
+abbrev pub IsWideRoot : Contents → Seen → Option Ref → Type 0
+IsWideRoot contents n None = IsWideNode n
+IsWideRoot contents n (Some at) = IsWideAt contents (stamp_of at)

@@ -1,0 +1,196 @@
+//! A removal in a whole map: a root with fewer than two children gives way to what its last child ends in.
+ghost use Rattle.std.specs.Prelude.{◌≡◌, ◌⊎◌, ◌<◌, ◌≤◌, ◌+◌, length, None, Some, IsSome, IfOk, IfErr, OnOk, OnErr, vec_items};
+ghost use mathlib.Core.List.{IsPrefix};
+ghost use Rattle.std.specs.List.{remove};
+ghost use Rattle.group_history.specs.declared.mutators.Stop.TheVariants.{NoMemory};
+ghost use Rattle.map_tree.specs.Ends as ends;
+ghost use Rattle.map_tree.specs.Ends.{end_of_pieces, IsWideNode, IsKidEnd, IsTaken};
+ghost use Rattle.map_tree.specs.Removing as removals;
+ghost use Rattle.map_tree.specs.Removing.{without, one_shown, IsHeir, KeptBy, root_rows, IsWideRoot};
+ghost use Rattle.map_tree.specs.Scanning.{kid_shown};
+ghost use Rattle.map_tree.specs.Shown.{shown, IsTree, rows_or};
+
+use super::super::{Body, Child, Node};
+use super::fates::fate_of;
+use super::paths::{remove_at, remove_row};
+use super::{Fate, Heir};
+use crate::chunks::Chunks;
+use crate::ends::end_placed;
+use crate::search::place_of;
+use group_history::{Ref, Stop};
+use std::alloc::Global;
+
+impl Node {
+    // The placed chunk that is all there is below the chunk, if this is so.
+    fn placed_end(&self) -> Option<Ref>
+        ensures { result ≡ end_of_pieces self.now.pieces }
+    {
+        match &self.body {
+            Body::Leaf(_) => None,
+            Body::Inner(kids) => {
+                if kids.len() != 1 {
+                    return None;
+                }
+                match &kids[0] {
+                    Child::Placed(at) => Some(*at),
+                    Child::Own(node) => node.placed_end(),
+                }
+            }
+        }
+    }
+
+    // The chunk itself, or the first below it that is a leaf or has two children.
+    #[cycle(taken)]
+    fn narrowed(self, alloc: Global) -> Node
+        requires { end_of_pieces self.pieces ≡ None }
+        ensures pieces { result.pieces ≡ self.pieces }
+        ensures wide { IsWideNode result }
+        ensures fresh { result.fresh ≤ self.fresh }
+    {
+        let Node { depth, keys, body } = self;
+        match body {
+            Body::Leaf(values) => {
+                return Node {
+                    depth,
+                    keys,
+                    body: Body::Leaf(values),
+                };
+            }
+            Body::Inner(kids) => {
+                if kids.len() != 1 {
+                    return Node {
+                        depth,
+                        keys,
+                        body: Body::Inner(kids),
+                    };
+                }
+                let mut kids = kids;
+                return taken(kids.swap_remove(0), alloc);
+            }
+        }
+    }
+}
+
+// What a child ends in that ends in one of the draft's own.
+#[cycle(taken)]
+fn taken(kid: Child, alloc: Global) -> Node
+    requires { ends.end_of kid ≡ None }
+    ensures { IsTaken kid result }
+{
+    match kid {
+        Child::Own(node) => return node.narrowed(alloc),
+        Child::Placed(_) => return Node::empty(alloc),
+    }
+}
+
+fn end_of(kid: &Child) -> Option<Ref>
+    ensures { result ≡ ends.end_of kid.now }
+{
+    match kid {
+        Child::Placed(at) => Some(*at),
+        Child::Own(node) => node.placed_end(),
+    }
+}
+
+// The placed chunk that a child ends in, if it ends in none of the draft's own.
+fn kid_end<C: Chunks>(kid: &Child, chunks: &mut C) -> Result<Option<Ref>, Stop>
+    requires { IsSome (kid_shown (C.contents chunks.old) kid.now) }
+    ensures grown { IsPrefix (C.contents chunks.old) (C.contents chunks.new) }
+    ensures end { IfOk result (IsKidEnd (C.contents chunks.new) (kid_shown (C.contents chunks.old) kid.now) kid.now) }
+    ensures stopped { IfErr result (λ s. (s ≡ NoMemory) ⊎ C.stops s) }
+{
+    match end_of(kid) {
+        None => Ok(None),
+        Some(at) => {
+            let end = end_placed(chunks, at)?;
+            Ok(Some(end))
+        }
+    }
+}
+
+// Whether fewer than two children stay.
+fn gives_way(fate: &Fate, entries: usize) -> bool
+    ensures { result ≡ removals.gives_way fate.now entries }
+{
+    match fate {
+        Fate::Leaves => entries <= 2,
+        Fate::Stays(_) => false,
+    }
+}
+
+// What stands in the root's place, once the child at the place has left it.
+fn heir<C: Chunks>(
+    kids: &mut Vec<Child>,
+    place: usize,
+    alloc: Global,
+    chunks: &mut C,
+) -> Result<Heir, Stop>
+    requires within { place < length kids.old.items }
+    requires few { length kids.old.items ≤ 2 }
+    requires tree { IsSome (one_shown (C.contents chunks.old) (remove kids.old.items place)) }
+    ensures grown { IsPrefix (C.contents chunks.old) (C.contents chunks.new) }
+    ensures heir { IfOk result (IsHeir (C.contents chunks.old) (C.contents chunks.new) (remove kids.old.items place)) }
+    ensures kept { IfOk result (KeptBy kids.old.items kids.new.items) }
+    ensures err { OnErr result (kids.new.items ≡ kids.old.items) }
+    ensures stopped { IfErr result (λ s. (s ≡ NoMemory) ⊎ C.stops s) }
+{
+    if kids.len() == 1 {
+        return Ok(Heir::Own(Node::empty(alloc)));
+    }
+    let other = 1 - place;
+    match kid_end(&kids[other], chunks)? {
+        Some(at) => return Ok(Heir::Placed(at)),
+        None => return Ok(Heir::Own(taken(kids.swap_remove(other), alloc))),
+    }
+}
+
+impl Node {
+    /// Removes a key, if it is there, from the map whose root the chunk is. Answers a placed chunk where
+    /// that is the root from now on.
+    pub(crate) fn remove_root<C: Chunks>(
+        &mut self,
+        alloc: Global,
+        chunks: &mut C,
+        key: &str,
+    ) -> Result<Option<Ref>, Stop>
+        requires { IsTree (shown (C.contents chunks.old) self.old.pieces) }
+        ensures grown { IsPrefix (C.contents chunks.old) (C.contents chunks.new) }
+        ensures done { IfOk result (λ root. root_rows (C.contents chunks.new) self.new root ≡ Some (without key.now (rows_or (shown (C.contents chunks.old) self.old.pieces)))) }
+        ensures few { OnOk result (self.new.fresh + 1 ≤ self.old.fresh + self.old.depth) }
+        ensures wide { IsWideNode self.old → IfOk result (IsWideRoot (C.contents chunks.new) self.new) }
+        ensures err { OnErr result (self.new ≡ self.old) }
+        ensures stopped { IfErr result (λ s. (s ≡ NoMemory) ⊎ C.stops s) }
+    {
+        match &mut self.body {
+            Body::Leaf(values) => {
+                remove_row(&mut self.keys, values, alloc, key)?;
+                return Ok(None);
+            }
+            Body::Inner(kids) => {
+                let texts = self.keys.as_slice();
+                let place = place_of(texts, key);
+                let fate = fate_of(chunks, &texts[place], &kids[place], key)?;
+                if gives_way(&fate, kids.len()) {
+                    match heir(kids, place, alloc, chunks)? {
+                        Heir::Placed(at) => return Ok(Some(at)),
+                        Heir::Own(node) => {
+                            *self = node;
+                            return Ok(None);
+                        }
+                    }
+                }
+                remove_at(
+                    &mut self.keys,
+                    kids,
+                    self.depth,
+                    place,
+                    fate,
+                    alloc,
+                    chunks,
+                    key,
+                )?;
+                return Ok(None);
+            }
+        }
+    }
+}

@@ -1,0 +1,84 @@
+//! Keys removed from a map.
+ghost use Rattle.std.specs.Prelude.{◌≡◌, ◌⊎◌, ◌+◌, ◌≤◌, ◌==◌, ℕ, Some, None, IfOk, IfErr, OnOk, OnErr, IsSome, length};
+ghost use mathlib.Core.List.{IsPrefix};
+ghost use Rattle.std.specs.FinMap as finite;
+ghost use Rattle.group_history.specs.Map.{Entries};
+ghost use Rattle.group_history.specs.declared.mutators.Stop.TheVariants.{NoMemory};
+ghost use Rattle.map_tree.specs.Trees.{tree_map, tree_depth, tree_fresh, HasWideRoot};
+
+use super::{Root, Tree};
+use crate::chunks::Chunks;
+use crate::nodes::Node;
+use crate::placed::{depth_placed, is_empty_placed};
+use group_history::Stop;
+use std::alloc::Global;
+
+impl Tree {
+    /// Whether the map has no key.
+    pub fn is_empty<C: Chunks>(&self, chunks: &mut C) -> Result<bool, Stop>
+        requires { IsSome (tree_map (C.contents chunks.old) self.now) }
+        ensures grown { IsPrefix (C.contents chunks.old) (C.contents chunks.new) }
+        ensures value { (m : Entries) → tree_map (C.contents chunks.old) self.now ≡ Some m → IfOk result (λ b. b ≡ (length (finite.entries m) == 0)) }
+        ensures stopped { IfErr result (λ s. (s ≡ NoMemory) ⊎ C.stops s) }
+    {
+        match &self.root {
+            Root::Placed(at) => is_empty_placed(chunks, *at),
+            Root::Own(node) => Ok(node.is_empty()),
+        }
+    }
+
+    /// Removes a key, if it is there. The chunks on the way to it that are placed are copied first; a
+    /// chunk that has no row then leaves its parent, and a root with one child gives way to it. Where it
+    /// stops, the map is as it was.
+    pub fn del<C: Chunks>(&mut self, alloc: Global, chunks: &mut C, key: &str) -> Result<(), Stop>
+        requires { IsSome (tree_map (C.contents chunks.old) self.old) }
+        ensures grown { IsPrefix (C.contents chunks.old) (C.contents chunks.new) }
+        ensures ok { (m : Entries) → tree_map (C.contents chunks.old) self.old ≡ Some m → OnOk result (tree_map (C.contents chunks.new) self.new ≡ Some (finite.remove m key.now)) }
+        ensures same { (m : Entries) → tree_map (C.contents chunks.old) self.old ≡ Some m → finite.get m key.now ≡ None → OnOk result (self.new ≡ self.old) }
+        ensures few { (d : ℕ) → tree_depth (C.contents chunks.old) self.old ≡ Some d → OnOk result (tree_fresh self.new ≤ tree_fresh self.old + d) }
+        ensures wide { HasWideRoot (C.contents chunks.old) self.old → OnOk result (HasWideRoot (C.contents chunks.new) self.new) }
+        ensures err { OnErr result (self.new ≡ self.old) }
+        ensures stopped { IfErr result (λ s. (s ≡ NoMemory) ⊎ C.stops s) }
+    {
+        let there = self.has(chunks, key)?;
+        if there {
+            return self.remove(alloc, chunks, key);
+        }
+        Ok(())
+    }
+
+    // Removes a key on a path of chunks that are the tree's own from then on.
+    fn remove<C: Chunks>(&mut self, alloc: Global, chunks: &mut C, key: &str) -> Result<(), Stop>
+        requires { IsSome (tree_map (C.contents chunks.old) self.old) }
+        ensures grown { IsPrefix (C.contents chunks.old) (C.contents chunks.new) }
+        ensures ok { (m : Entries) → tree_map (C.contents chunks.old) self.old ≡ Some m → OnOk result (tree_map (C.contents chunks.new) self.new ≡ Some (finite.remove m key.now)) }
+        ensures few { (d : ℕ) → tree_depth (C.contents chunks.old) self.old ≡ Some d → OnOk result (tree_fresh self.new ≤ tree_fresh self.old + d) }
+        ensures wide { HasWideRoot (C.contents chunks.old) self.old → OnOk result (HasWideRoot (C.contents chunks.new) self.new) }
+        ensures err { OnErr result (self.new ≡ self.old) }
+        ensures stopped { IfErr result (λ s. (s ≡ NoMemory) ⊎ C.stops s) }
+    {
+        match &mut self.root {
+            Root::Own(node) => match node.remove_root(alloc, chunks, key)? {
+                None => return Ok(()),
+                Some(end) => {
+                    self.root = Root::Placed(end);
+                    return Ok(());
+                }
+            },
+            Root::Placed(at) => {
+                let depth = depth_placed(chunks, *at)?;
+                let mut node = Node::copied(alloc, chunks, *at, depth)?;
+                match node.remove_root(alloc, chunks, key)? {
+                    None => {
+                        self.root = Root::Own(node);
+                        return Ok(());
+                    }
+                    Some(end) => {
+                        self.root = Root::Placed(end);
+                        return Ok(());
+                    }
+                }
+            }
+        }
+    }
+}
