@@ -48,7 +48,7 @@ pub(crate) fn greatest_id(first: u64, client: &Text, pending: &[Mutation]) -> u6
 }
 
 /// Whether some change is below the confirmed id of its client.
-pub(crate) fn is_going_back(ids: &TextMap<u64>, changes: &[Confirmed]) -> bool
+pub fn is_going_back(ids: &TextMap<u64>, changes: &[Confirmed]) -> bool
     ensures { result ≡ goes_back ids.now changes.now }
 {
     changes
@@ -57,7 +57,7 @@ pub(crate) fn is_going_back(ids: &TextMap<u64>, changes: &[Confirmed]) -> bool
 }
 
 /// The confirmed ids after the changes, in order.
-pub(crate) fn overwrite(
+pub fn overwrite(
     ids: &TextMap<u64>,
     changes: &[Confirmed],
 ) -> Result<TextMap<u64>, AllocError>
@@ -71,7 +71,7 @@ pub(crate) fn overwrite(
 }
 
 /// The mutations that are not confirmed, in order.
-pub(crate) fn keep_unconfirmed(
+pub fn keep_unconfirmed(
     alloc: Global,
     ids: &TextMap<u64>,
     pending: &[Mutation],
@@ -114,7 +114,7 @@ pub(crate) fn replay<M: Mutators>(
 }
 
 /// Whether the response has the group's cookie, and nothing else.
-pub(crate) fn is_saying_nothing(cookie: &Cookie, pull: &PullOk) -> bool
+pub fn is_saying_nothing(cookie: &Cookie, pull: &PullOk) -> bool
     ensures { result ≡ says_nothing cookie.now pull.now }
 {
     pull.cookie().text() == cookie.text() && pull.patch().is_empty() && pull.changes().is_empty()

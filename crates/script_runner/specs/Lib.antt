@@ -4,6 +4,5 @@ pub mod Header
 pub mod Commands
 pub mod Faults
 pub mod Parsing
-pub mod Plain
 pub mod Runs
 pub mod Mutators

@@ -1,8 +1,9 @@
 //! A client of a script: what it keeps between its lines, and what each command does.
-use crate::plain::Plain;
+use crate::groups::Group;
 use crate::reply::{Reply, pending_text};
-use crate::script::{Call, Command, Query};
-use group_history::{Cookie, Mutators, Refusal, Text, TextMap};
+use crate::script::{self, Command, Query};
+use group_history::{Cookie, Refusal, Text, TextMap};
+use rebase::{Call, Mutate, Reply as Answer};
 use std::alloc::{AllocError, Global};
 
 /// A client of a script.
@@ -30,16 +31,12 @@ impl Client {
     }
 
     /// Does a command. A refusal is a reply like any other.
-    pub(crate) fn call<M: Mutators + Drop>(
-        &mut self,
-        group: &mut Plain<M>,
-        command: &Command,
-    ) -> Reply {
+    pub(crate) fn call<G: Group>(&mut self, group: &mut G, command: &Command) -> Reply {
         let answer = match command {
             Command::Begin(name) => self.begin(group, name),
             Command::End(name, body) => self.end(group, name, body),
             Command::Mutate(call) => self.mutate(group, call),
-            Command::Refresh => Ok(self.refresh(group)),
+            Command::Refresh => self.refresh(group),
             Command::Learn => Ok(Reply::Learnt),
             Command::Query(query) => self.query(group, query),
         };
@@ -49,60 +46,84 @@ impl Client {
         }
     }
 
-    fn query<M: Mutators + Drop>(&self, group: &Plain<M>, query: &Query) -> Result<Reply, Refusal> {
-        match query {
-            Query::Get(key) => match group.get(key) {
-                Some(value) => Ok(Reply::Value(value.clone()?)),
-                None => Ok(Reply::Nothing),
-            },
-            Query::Has(key) => Ok(Reply::Is(group.has(key))),
-            Query::Scan(scan) => Ok(Reply::Rows(group.scan(scan)?)),
-            Query::Empty => Ok(Reply::Is(group.is_empty())),
-            Query::Pending => Ok(Reply::Pending(pending_text(self.alloc, group.pending())?)),
-            Query::Cookie => Ok(Reply::Cookie(Text::new(self.alloc, group.cookie().text())?)),
-            Query::Push => Ok(Reply::Push(group.push_body()?)),
-        }
+    fn query<G: Group>(&self, group: &mut G, query: &Query) -> Result<Reply, Refusal> {
+        let call = match query {
+            Query::Get(key) => Call::Get(key),
+            Query::Has(key) => Call::Has(key),
+            Query::Scan(scan) => Call::Scan(scan),
+            Query::Empty => Call::IsEmpty,
+            Query::Pending => Call::Pending,
+            Query::Cookie => Call::Cookie,
+            Query::Push => Call::PushBody,
+        };
+        self.told(group.make_call(call)?)
     }
 
     /// A ticket whose name was given before is replaced, and where this is refused there is none of that name.
-    fn begin<M: Mutators + Drop>(
-        &mut self,
-        group: &Plain<M>,
-        name: &Text,
-    ) -> Result<Reply, Refusal> {
+    fn begin<G: Group>(&mut self, group: &mut G, name: &Text) -> Result<Reply, Refusal> {
         self.tickets.remove(name);
-        let ticket = group.begin_pull()?;
-        self.tickets.insert(name.clone()?, ticket.cookie)?;
-        Ok(Reply::Pull(ticket.body))
+        match group.make_call(Call::BeginPull)? {
+            Answer::Ticket(ticket) => {
+                self.tickets.insert(name.clone()?, ticket.cookie)?;
+                Ok(Reply::Pull(ticket.body))
+            }
+            answer => self.told(answer),
+        }
     }
 
-    fn end<M: Mutators + Drop>(
+    fn end<G: Group>(
         &self,
-        group: &mut Plain<M>,
+        group: &mut G,
         name: &Text,
         body: &Text,
     ) -> Result<Reply, Refusal> {
         match self.tickets.get(name) {
             Some(cookie) => {
-                let ended = group.end_pull(cookie, body.as_str().as_bytes())?;
-                Ok(Reply::Ended(ended))
+                let answer = group.make_call(Call::EndPull(cookie, body.as_str().as_bytes()))?;
+                self.told(answer)
             }
             None => Ok(Reply::NoTicket),
         }
     }
 
-    fn mutate<M: Mutators + Drop>(
-        &mut self,
-        group: &mut Plain<M>,
-        call: &Call,
-    ) -> Result<Reply, Refusal> {
-        let id = group.mutate(&self.id, self.last, &call.mutator, &call.args, call.time)?;
-        self.last = id;
-        Ok(Reply::Id(id))
+    fn mutate<G: Group>(&mut self, group: &mut G, call: &script::Call) -> Result<Reply, Refusal> {
+        let asked = Mutate {
+            client: &self.id,
+            last: self.last,
+            name: &call.mutator,
+            args: &call.args,
+            time: call.time,
+        };
+        let answer = group.make_call(Call::Mutate(asked))?;
+        if let Answer::Id(id) = &answer {
+            self.last = *id;
+        }
+        self.told(answer)
     }
 
-    fn refresh<M: Mutators + Drop>(&mut self, group: &Plain<M>) -> Reply {
-        self.last = group.last(&self.id);
-        Reply::Last(self.last)
+    fn refresh<G: Group>(&mut self, group: &mut G) -> Result<Reply, Refusal> {
+        match group.make_call(Call::Last(&self.id))? {
+            Answer::Id(id) => {
+                self.last = id;
+                Ok(Reply::Last(id))
+            }
+            answer => self.told(answer),
+        }
+    }
+
+    /// The reply of a line that hands on what the group answered.
+    fn told(&self, answer: Answer) -> Result<Reply, Refusal> {
+        Ok(match answer {
+            Answer::Value(Some(value)) => Reply::Value(value),
+            Answer::Value(None) => Reply::Nothing,
+            Answer::Is(is) => Reply::Is(is),
+            Answer::Rows(rows) => Reply::Rows(rows),
+            Answer::Pending(pending) => Reply::Pending(pending_text(self.alloc, &pending)?),
+            Answer::Cookie(cookie) => Reply::Cookie(Text::new(self.alloc, cookie.text())?),
+            Answer::Id(id) => Reply::Id(id),
+            Answer::Body(body) => Reply::Push(body),
+            Answer::Ticket(ticket) => Reply::Pull(ticket.body),
+            Answer::Ended(ended) => Reply::Ended(ended),
+        })
     }
 }

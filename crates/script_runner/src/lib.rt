@@ -8,9 +8,9 @@
 
 mod client;
 mod faults;
+mod groups;
 mod lines;
 mod mutators;
-mod plain;
 mod process;
 mod reply;
 mod runner;
@@ -18,7 +18,6 @@ mod script;
 
 pub use faults::{Fault, ScriptFault};
 pub use mutators::ScriptMutators;
-pub use plain::{Plain, Ticket};
 pub use process::program;
 pub use runner::{Gate, run};
 

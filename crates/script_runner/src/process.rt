@@ -6,7 +6,7 @@ use crate::runner::{Gate, run};
 use std::io::{self, Read, Write};
 
 /// A gate that holds no call.
-struct Open;
+pub(crate) struct Open;
 
 impl Gate for Open {
     fn before(&self, _client: &str, _line: u64) {}

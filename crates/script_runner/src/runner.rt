@@ -5,11 +5,14 @@ ghost use Rattle.script_runner.specs.Runs.{IsOfScript};
 
 use crate::client::Client;
 use crate::faults::Fault;
+use crate::groups::Group;
 use crate::mutators::ScriptMutators;
-use crate::plain::Plain;
 use crate::reply::print_line;
-use crate::script::{Header, Phase, read_script};
+use crate::script::{Header, Phase, Script, read_script};
 use group_history::Refusal;
+#[cfg(test)]
+use rebase::Plain;
+use rebase::Solo;
 use std::alloc::{AllocError, Global};
 use std::io;
 
@@ -23,29 +26,25 @@ pub trait Gate: Sync {
 
 /// A group with the clients of a script.
 #[derive(Drop)]
-struct Session {
-    group: Plain<ScriptMutators>,
+struct Session<G: Group + Drop> {
+    group: G,
     clients: Vec<Client>,
 }
 
-impl Session {
-    fn open(alloc: Global, header: &Header) -> Result<Session, Refusal> {
-        let identity = header.identity(alloc)?;
+impl<G: Group + Drop> Session<G> {
+    fn open(alloc: Global, header: &Header, group: G) -> Result<Session<G>, AllocError> {
         let mut clients = Vec::new(alloc);
         for client in &header.clients {
             clients.push(Client::new(alloc, &client.name, &client.id)?)?;
         }
-        Ok(Session {
-            group: Plain::new(alloc, ScriptMutators, identity)?,
-            clients,
-        })
+        Ok(Session { group, clients })
     }
 
     /// Runs a phase, and answers what it prints: the replies client by client.
-    fn phase<G: Gate>(
+    fn phase<T: Gate>(
         &mut self,
         alloc: Global,
-        gate: &G,
+        gate: &T,
         phase: &Phase,
     ) -> Result<Vec<u8>, AllocError> {
         let mut printed = Vec::new(alloc);
@@ -61,6 +60,31 @@ impl Session {
     }
 }
 
+/// Runs the phases of a script on a group, and writes the replies of each when it has ended.
+fn run_phases<G: Group + Drop, T: Gate, W: io::Write>(
+    alloc: Global,
+    script: &Script,
+    group: G,
+    gate: &T,
+    out: &mut W,
+) -> Result<(), Fault>
+    ensures { IfErr result (λ e. IsOfScript e → ⊥) }
+{
+    let mut session = Session::open(alloc, &script.header, group)?;
+    for phase in &script.phases {
+        let printed = session.phase(alloc, gate, phase)?;
+        if out.write_all(&printed).is_err() {
+            return Err(Fault::Write);
+        }
+    }
+    Ok(())
+}
+
+fn open_group(alloc: Global, header: &Header) -> Result<Solo<ScriptMutators>, Refusal> {
+    let identity = header.identity(alloc)?;
+    Solo::new(alloc, ScriptMutators, identity)
+}
+
 /// Runs a script, and writes the replies of each phase when it has ended. A faulty script is told before
 /// anything runs or is written. After `NoMemory` the writer has the output of whole phases.
 pub fn run<R: AllocGlobal, G: Gate, W: io::Write>(
@@ -74,15 +98,24 @@ pub fn run<R: AllocGlobal, G: Gate, W: io::Write>(
 {
     let alloc = rt.alloc();
     let script = read_script(alloc, script)?;
-    let mut session = match Session::open(alloc, &script.header) {
-        Ok(session) => session,
-        Err(_refused) => return Err(Fault::NoMemory),
+    let Ok(group) = open_group(alloc, &script.header) else {
+        return Err(Fault::NoMemory);
     };
-    for phase in &script.phases {
-        let printed = session.phase(alloc, gate, phase)?;
-        if out.write_all(&printed).is_err() {
-            return Err(Fault::Write);
-        }
-    }
-    Ok(())
+    run_phases(alloc, &script, group, gate, out)
+}
+
+/// The same on a plain group.
+#[cfg(test)]
+pub(crate) fn run_plain<G: Gate, W: io::Write>(
+    alloc: Global,
+    script: &[u8],
+    gate: &G,
+    out: &mut W,
+) -> Result<(), Fault> {
+    let read = read_script(alloc, script)?;
+    let identity = read.header.identity(alloc)?;
+    let Ok(group) = Plain::new(alloc, ScriptMutators, identity) else {
+        return Err(Fault::NoMemory);
+    };
+    run_phases(alloc, &read, group, gate, out)
 }

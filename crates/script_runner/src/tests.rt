@@ -1,5 +1,7 @@
 //! Worked scripts, and each fault that a line can have.
 use super::*;
+use crate::process::Open;
+use crate::runner::run_plain;
 use std::alloc::{AllocError, Global};
 use std::fmt::Write;
 use std::io;
@@ -7,13 +9,28 @@ use std::prelude::*;
 
 mod rows;
 
-/// What the program makes of a script: its status, and what stands on its two writers.
+/// What the program makes of a script: its status, and what stands on its two writers. Each script that runs is
+/// run on a plain group too, and where that prints otherwise the status is 4.
 fn ran(rt: &HostRuntime, script: &str) -> (u8, Vec<u8>, Vec<u8>) {
     let mut out = Vec::new(rt.alloc());
     let mut err = Vec::new(rt.alloc());
     let mut input = script.as_bytes();
     let status = program(rt, &mut input, &mut out, &mut err);
+    if status == 0 {
+        return (agreed(rt, script, &out), out, err);
+    }
     (status, out, err)
+}
+
+/// The status of a script that ran, by what a plain group makes of it: 0 where that prints the same, 3 where
+/// memory was refused, else 4.
+fn agreed(rt: &HostRuntime, script: &str, printed: &[u8]) -> u8 {
+    let mut out = Vec::new(rt.alloc());
+    match run_plain(rt.alloc(), script.as_bytes(), &Open, &mut out) {
+        Ok(()) if out.as_slice() == printed => 0,
+        Err(Fault::NoMemory) => 3,
+        _ => 4,
+    }
 }
 
 /// Whether the program makes just this of a script, where memory isn't refused.

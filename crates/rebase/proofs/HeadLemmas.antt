@@ -1,0 +1,124 @@
+-- What a head keeps.
+use Rattle.std.proofs.Common.{◌≡◌, ℕ, zero, suc, ◌+◌, ◌<◌, ◌≤◌, ◌^◌, Bool, true, false, cond, List, [], ◌∷◌, ◌++◌, map, take, get_or, length, Result, Ok, Err, Some, Option, slice_get, refl, sym, ap, ◌∙◌, subst, arith, length-append, append_assoc}
+use Rattle.std.proofs.lemmas.List.{take_more}
+use Rattle.std.specs.declared.cmp.Ordering.{Ordering}
+use Rattle.std.specs.declared.cmp.Ordering.TheVariants.{Less, Equal, Greater}
+use Rattle.group_history.specs.declared.nodes.Commit.{Commit}
+use Rattle.group_history.specs.declared.nodes.Commit.TheVariants.{Snapshot, Local}
+use Rattle.group_history.specs.declared.nodes.Node.{Node}
+use Rattle.group_history.specs.declared.nodes.Node.TheVariants as node
+use Rattle.group_history.specs.declared.refs.Ref.{Ref}
+use Rattle.group_history.specs.declared.refusals.Refusal.{Refusal}
+use Rattle.group_history.specs.declared.refusals.Refusal.TheVariants as refusal
+use Rattle.group_history.specs.declared.responses.Confirmed.{Confirmed}
+use Rattle.group_history.specs.declared.responses.Ended.{Ended}
+use Rattle.group_history.specs.declared.responses.Ended.TheVariants as ended
+use Rattle.group_history.specs.declared.responses.Patch.{Patch}
+use Rattle.group_history.specs.declared.responses.Response.TheVariants as response
+use Rattle.group_history.specs.declared.mutations.Mutation.{Mutation}
+use Rattle.group_history.specs.Ids.{IdsFollow}
+use Rattle.group_history.specs.Cookies.{Cookie, order_cmp}
+use Rattle.group_history.specs.Map.{Bytes, Entries, same_text, patched}
+use Rattle.group_history.specs.Naming.{content_of}
+use Rattle.group_history.specs.Pull.{Pull}
+use Rattle.group_history.specs.Pulling.{says_nothing, goes_back, by_order, end_reply, overwritten, unconfirmed, after_pull}
+use Rattle.group_history.specs.Meaning.{Meanings}
+use Rattle.group_history.specs.Mutating.{after_mutate}
+use Rattle.group_history.specs.Refs.{stamp_of}
+use Rattle.group_history.specs.Spelling.{Contents, Version, version_at}
+use Rattle.group_history.specs.State.{State, Ids, view_of, replayed_once, last_id}
+use Rattle.group_history.proofs.Folding.{append_nil}
+use Rattle.group_history.proofs.IdLemmas.{last_id-≤}
+use Rattle.group_history.proofs.Replays.{replayed-append}
+use Rattle.group_history.proofs.Spellings.{version-content}
+use Rattle.commits.proofs.Spelled.{local-at, snapshot-at}
+use Rattle.map_tree.specs.Freezing.{with_nodes}
+use Rattle.rebase.specs.Chaining.{with_more}
+use Rattle.rebase.specs.Fixing.{staged}
+use Rattle.rebase.proofs.FixedLemmas.{staged-is}
+use Rattle.rebase.specs.Solos.{Spells, IsHead, state_in, state_at, seen_at}
+
+pub head_of : (means : Meanings) (ns : Contents) (k : ℕ) (s : State) → Spells means ns k s → IdsFollow s.confirmed s.pending → IsHead means ns k
+head_of means ns k s h i =
+    let same : state_at ns k ≡ s = ap state_in h in
+    record { spells = h ∙ ap (λ (w : State). Some (seen_at means w)) (sym same); ids = subst (λ (w : State). IdsFollow w.confirmed w.pending) (sym same) i }
+
+-- a view with one mutation more
+pub view-mutated : (means : Meanings) (s : State) (x : Mutation) → view_of means (after_mutate s x) ≡ replayed_once means (view_of means s) x
+view-mutated means s x = replayed-append means s.pulled s.pending (x ∷ [])
+
+-- each pending mutation has a commit of its own
+few_at : (ns : Contents) (k : ℕ) (v : Version) (c : Commit ℕ) → slice_get ns k ≡ Some (node.Commit c) → version_at ns k ≡ Some v
+    → ((j : ℕ) (w : Version) → j < k → version_at ns j ≡ Some w → length w.state.pending ≤ j) → length v.state.pending ≤ k
+few_at ns k v (Snapshot s) at h below =
+    let f = snapshot-at ns k s v at h in
+    let none : length v.state.pending ≡ 0 = ap (λ (w : State). length w.pending) f.2 in
+    omega (arith, none)
+few_at ns k v (Local l) at h below =
+    let f = local-at ns k l v at h in
+    let more : length v.state.pending ≡ length f.0.state.pending + 1 = ap (λ (w : State). length w.pending) f.3 ∙ length-append f.0.state.pending (l.mutation ∷ []) in
+    let low = below l.basis f.0 f.1 f.2 in
+    let less = f.1 in
+    omega (arith, more, low, less)
+
+few_below : (n : ℕ) (ns : Contents) (k : ℕ) (v : Version) → k < n → version_at ns k ≡ Some v → length v.state.pending ≤ k
+few_below zero ns k v l h = absurd (omega arith)
+few_below (suc n) ns k v l h = let c = version-content ns k v h in few_at ns k v c.0 c.2 h (λ j w lt g. few_below n ns j w (omega (arith, l, lt)) g)
+
+pub pending-few : (ns : Contents) (k : ℕ) (v : Version) → version_at ns k ≡ Some v → length v.state.pending ≤ k
+pending-few ns k v h = few_below (suc k) ns k v (omega arith) h
+
+-- a client's last id is small
+pub last_id-low : (means : Meanings) (ns : Contents) (k : ℕ) (client : Bytes) → IsHead means ns k → last_id (state_at ns k) client ≤ 2 ^ 52 + k
+last_id-low means ns k client h =
+    let s = state_at ns k in
+    let few : length s.pending ≤ k = pending-few ns k (seen_at means s) h.spells in
+    let low = last_id-≤ s.confirmed s.pending client h.ids in
+    omega (arith, few, low)
+
+-- a stamp is below 2^44
+pub stamp-low : (r : Ref) → r.bits < 2 ^ 64 → stamp_of r < 2 ^ 44
+stamp-low r h = omega (arith, h)
+
+-- an empty draft adds nothing
+pub with_none : (contents : Contents) → with_nodes contents [] ≡ contents
+with_none contents = append_nil contents
+
+-- a head whose nodes were appended
+pub head_placed : (means : Meanings) (nodes drafted after : List (Node Ref)) (at : ℕ) (s : State) → after ≡ nodes ++ drafted → Spells means (staged nodes drafted) at s → IdsFollow s.confirmed s.pending → IsHead means (map content_of after) at
+head_placed means nodes drafted after at s is h ids =
+    head_of means (map content_of after) at s (ap (λ (ns : List (Node Ref)). version_at (map content_of ns) at) is ∙ (ap (λ (w : Contents). version_at w at) (staged-is nodes drafted) ∙ h)) ids
+
+-- one of the pending mutations more
+pub with_next : (s : State) (xs : List Mutation) (k : ℕ) (x : Mutation) → k < length xs → x ≡ get_or xs k x → after_mutate (with_more s (take k xs)) x ≡ with_more s (take (k + 1) xs)
+with_next s xs k x low is =
+    let all : (s.pending ++ take k xs) ++ x ∷ [] ≡ s.pending ++ take (k + 1) xs =
+    append_assoc s.pending (take k xs) (x ∷ []) ∙ ap (λ w. s.pending ++ w) (ap (λ (y : Mutation). take k xs ++ y ∷ []) is ∙ sym (take_more xs k x low)) in
+    ap (λ (w : List Mutation). let r : State = record { pulled = s.pulled; cookie = s.cookie; confirmed = s.confirmed; pending = w } in r) all
+
+-- the state after a pull, by its parts
+pub pulled_state : (s : State) (r : Pull) (cookie : Cookie) (ids old : Ids) (ops : List Patch) (changes : List Confirmed) (ps before : List Mutation)
+    → ops ≡ r.patch → cookie ≡ r.cookie → ids ≡ overwritten old changes → changes ≡ r.changes → s.confirmed ≡ old → ps ≡ unconfirmed ids before → before ≡ s.pending
+    → (let w : State = record { pulled = patched s.pulled ops; cookie = cookie; confirmed = ids; pending = ps } in w) ≡ after_pull s r
+pulled_state s r cookie ids old ops changes ps before p c i h o n b =
+    let is : ids ≡ overwritten s.confirmed r.changes = i ∙ (ap (overwritten old) h ∙ ap (λ (w : Ids). overwritten w r.changes) (sym o)) in
+    let left : ps ≡ unconfirmed (overwritten s.confirmed r.changes) s.pending = n ∙ (ap (λ (w : Ids). unconfirmed w before) is ∙ ap (unconfirmed (overwritten s.confirmed r.changes)) b) in
+    λ j. record { pulled = patched s.pulled (p j); cookie = c j; confirmed = is j; pending = left j }
+
+none_new : (b : Bool) → (let w : Result Ended Refusal = cond b (Ok ended.Same) (Err refusal.CookieNotNew) in w) ≡ Ok ended.Applied → ⊥
+none_new true h = cc h
+none_new false h = cc h
+
+none_back : (b : Bool) → (let w : Result Ended Refusal = cond b (Err refusal.IdWentBack) (Ok ended.Applied) in w) ≡ Ok ended.Applied → b ≡ false
+none_back true h = absurd (cc h)
+none_back false h = refl
+
+forward_by : (b : Bool) (o : Ordering) (s : State) (r : Pull) → cond b (by_order o s r) (Err refusal.Overtaken) ≡ Ok ended.Applied → goes_back s.confirmed r.changes ≡ false
+forward_by false o s r h = absurd (cc h)
+forward_by true Less s r h = absurd (cc h)
+forward_by true Equal s r h = absurd (none_new (says_nothing s.cookie r) h)
+forward_by true Greater s r h = none_back (goes_back s.confirmed r.changes) h
+
+-- a pull that is applied confirms no less
+pub applied-forward : (s : State) (ticket : Bytes) (r : Pull) (e : Ended) → Ok e ≡ end_reply s ticket (response.Ok r) → e ≡ ended.Applied → goes_back s.confirmed r.changes ≡ false
+applied-forward s ticket r e h is = forward_by (same_text s.cookie.text ticket) (order_cmp r.cookie.order s.cookie.order) s r (sym h ∙ ap (λ (w : Ended). Ok w) is)

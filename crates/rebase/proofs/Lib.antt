@@ -1,0 +1,5 @@
+pub mod FixedLemmas
+pub mod NewestLemmas
+pub mod HeadLemmas
+pub mod RunLemmas
+pub mod CallLemmas

@@ -1,0 +1,9 @@
+pub mod Refusing
+pub mod Solos
+pub mod Fixing
+pub mod Chaining
+pub mod Running
+pub mod Trials
+pub mod Replies
+pub mod Replying
+pub mod Calls

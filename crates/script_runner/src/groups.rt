@@ -1,0 +1,24 @@
+//! The group of a script.
+use crate::mutators::ScriptMutators;
+use group_history::Refusal;
+#[cfg(test)]
+use rebase::Plain;
+use rebase::{Call, Reply, Solo};
+
+/// A group whose clients call one after the other.
+pub(crate) trait Group {
+    fn make_call(&mut self, call: Call<'_>) -> Result<Reply, Refusal>;
+}
+
+impl Group for Solo<ScriptMutators> {
+    fn make_call(&mut self, call: Call<'_>) -> Result<Reply, Refusal> {
+        Solo::make_call(self, call)
+    }
+}
+
+#[cfg(test)]
+impl Group for Plain<ScriptMutators> {
+    fn make_call(&mut self, call: Call<'_>) -> Result<Reply, Refusal> {
+        Plain::make_call(self, call)
+    }
+}

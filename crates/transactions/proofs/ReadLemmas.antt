@@ -1,0 +1,36 @@
+-- A commit that is read while more is known to be placed.
+use Rattle.std.proofs.Common.{◌≡◌, ℕ, Option, Some, None, refl, sym, ap, ◌∙◌, subst}
+use Rattle.std.specs.Prelude.{IsSome}
+use mathlib.Core.List.{IsPrefix}
+use Rattle.group_history.specs.Spelling.{Contents, Version, version_at, map_at}
+use Rattle.commits.proofs.Spelled.{version-grown, map-grown}
+use Rattle.transactions.specs.Reads.{version_or, read_version, IsRead}
+
+pub some_version : (o : Option Version) → IsSome o → o ≡ Some (version_or o)
+some_version None h = absurd (cc h)
+some_version (Some v) h = refl
+
+-- the version stays
+pub version-same : (old new : Contents) (head root : ℕ) → IsPrefix old new → IsRead old head root → read_version new head ≡ read_version old head
+version-same old new head root p r = ap version_or (version-grown old new head (read_version old head) p r.version)
+
+-- and so does what is kept
+pub read-kept : (old new : Contents) (head root : ℕ) → IsPrefix old new → IsRead old head root → IsRead new head root
+read-kept old new head root p r =
+    let same = version-same old new head root p r in
+    record {
+      version = version-grown old new head (read_version old head) p r.version ∙ ap Some (sym same);
+      map = map-grown old new root (read_version old head).read p r.map ∙ ap (λ (v : Version). Some v.read) (sym same);
+    }
+
+-- a commit and its root that were just read
+pub read-opened : (old new : Contents) (head root : ℕ) → IsPrefix old new → IsSome (version_at old head) → ((v : Version) → version_at old head ≡ Some v → map_at new root ≡ Some v.read) → IsRead new head root
+read-opened old new head root p h at =
+    let v = read_version old head in
+    let is = some_version (version_at old head) h in
+    let later = version-grown old new head v p is in
+    let same : read_version new head ≡ v = ap version_or later in
+    record { version = later ∙ ap Some (sym same); map = at v is ∙ ap (λ (w : Version). Some w.read) (sym same) }
+
+pub read-version : (old new : Contents) (head : ℕ) (v : Version) → IsPrefix old new → version_at old head ≡ Some v → read_version new head ≡ v
+read-version old new head v p h = ap version_or (version-grown old new head v p h)

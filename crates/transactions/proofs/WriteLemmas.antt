@@ -1,0 +1,34 @@
+-- What a tree shows while it is read and written.
+use Rattle.std.proofs.Common.{◌≡◌, Option, Some, None, Result, Ok, Err, OnOk, OnErr, refl, sym, ap, ◌∙◌, subst}
+use Rattle.std.specs.Prelude.{IsSome}
+use mathlib.Core.List.{IsPrefix}
+use Rattle.group_history.specs.Map.{Entries}
+use Rattle.group_history.specs.Spelling.{Contents}
+use Rattle.map_tree.specs.Trees.{tree_map}
+use Rattle.map_tree.specs.declared.tree.Tree.{Tree}
+use Rattle.map_tree.proofs.AnswerLemmas.{on_ok, on_err, either_way}
+use Rattle.map_tree.proofs.WriteLemmas.{root_kept, kept_there}
+use Rattle.transactions.specs.Maps.{map_or, shown_map}
+
+pub some_map : (o : Option Entries) → IsSome o → o ≡ Some (map_or o)
+some_map None h = absurd (cc h)
+some_map (Some m) h = refl
+
+-- what is shown stays where more is known to be placed
+pub shown-kept : (old new : Contents) (t : Tree) → IsPrefix old new → IsSome (tree_map old t) → shown_map new t ≡ shown_map old t
+shown-kept old new t p h = ap map_or (root_kept old new t.root (shown_map old t) p (some_map (tree_map old t) h))
+
+-- a change that is done
+pub shown-changed : {A E : Type 0} (r : Result A E) (old new : Contents) (t u : Tree) (f : Entries → Entries) → IsSome (tree_map old t)
+    → ((m : Entries) → tree_map old t ≡ Some m → OnOk r (tree_map new u ≡ Some (f m))) → OnOk r (shown_map new u ≡ f (shown_map old t))
+shown-changed r old new t u f h g = on_ok r (g (shown_map old t) (some_map (tree_map old t) h)) (λ e. ap map_or e)
+
+-- a change that stops
+pub shown-stopped : {A E : Type 0} (r : Result A E) (old new : Contents) (t u : Tree) → IsPrefix old new → IsSome (tree_map old t) → OnErr r (u ≡ t) → OnErr r (shown_map new u ≡ shown_map old t)
+shown-stopped r old new t u p h e = on_err r e (λ is. ap (λ (w : Tree). shown_map new w) is ∙ shown-kept old new t p h)
+
+-- in both cases a map is there
+pub shown-there : {A E : Type 0} (r : Result A E) (old new : Contents) (t u : Tree) (f : Entries → Entries) → IsPrefix old new → IsSome (tree_map old t)
+    → ((m : Entries) → tree_map old t ≡ Some m → OnOk r (tree_map new u ≡ Some (f m))) → OnErr r (u ≡ t) → IsSome (tree_map new u)
+shown-there r old new t u f p h g e =
+    either_way r (g (shown_map old t) (some_map (tree_map old t) h)) e (λ is. subst IsSome (sym is) refl) (λ is. subst (λ (w : Tree). IsSome (tree_map new w)) (sym is) (kept_there old new t.root p h))

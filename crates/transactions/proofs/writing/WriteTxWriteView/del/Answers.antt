@@ -1,0 +1,19 @@
+use Rattle.std.specs.FinMap as finite
+use Rattle.group_history.specs.Map.{Entries}
+use Rattle.transactions.proofs.WriteLemmas.{shown-changed, shown-stopped, shown-there}
+use Rattle.transactions.proofs.writing.WriteTxWriteView.del.Goals as goal
+
+pub invariant_of-self : goal.invariant_of-self
+invariant_of-self g c =
+    let p = g.C.Chunks.contents in let t = c.args.self.now in
+    record { spells = shown-there c.del.result (p t.chunks) (p c.del.new.chunks) t.tree c.del.new.self (λ (m : Entries). finite.remove m c.args.key.now) c.del.ensures.grown t.spells c.del.ensures.ok c.del.ensures.err }
+
+pub returns-clause-ok : goal.returns-clause-ok
+returns-clause-ok g c =
+    let p = g.C.Chunks.contents in let t = c.args.self.now in
+    shown-changed c.del.result (p t.chunks) (p c.del.new.chunks) t.tree c.del.new.self (λ (m : Entries). finite.remove m c.args.key.now) t.spells c.del.ensures.ok
+
+pub returns-clause-err : goal.returns-clause-err
+returns-clause-err g c =
+    let p = g.C.Chunks.contents in let t = c.args.self.now in
+    shown-stopped c.del.result (p t.chunks) (p c.del.new.chunks) t.tree c.del.new.self c.del.ensures.grown t.spells c.del.ensures.err

@@ -1,0 +1,17 @@
+//! Maps under a reader's or a writer's hands.
+//!
+//! A `WriteTx` is the view that a mutator reads and writes: a tree of chunks, of which those that are
+//! written are its own until they are placed. A `ReadTx` answers queries at one commit. Each shows one
+//! map all along, though what is known to be placed may grow while it looks.
+#![tactic(auto)]
+
+mod fixed;
+mod reading;
+mod writing;
+
+pub use fixed::{Fixed, Known};
+pub use reading::ReadTx;
+pub use writing::WriteTx;
+
+#[cfg(test)]
+mod tests;

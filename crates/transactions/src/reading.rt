@@ -1,0 +1,133 @@
+//! A commit that is read.
+//!
+//! The type's invariant (`IsRead`) is that the head's stamp spells a version and the root's stamp the map
+//! of it. Contracts see the version, which no call changes, and what is known to be placed, which may
+//! grow with each call, also with one that stops.
+ghost use Rattle.std.specs.Prelude.{◌≡◌, ◌⊎◌, ◌==◌, length, Some, IfOk, IfErr, IsSome};
+ghost use mathlib.Core.List.{IsPrefix};
+ghost use Rattle.std.specs.FinMap as finite;
+ghost use Rattle.group_history.specs.Refs.{stamp_of};
+ghost use Rattle.group_history.specs.Scans.{rows_of};
+ghost use Rattle.group_history.specs.Spelling.{Version, version_at};
+ghost use Rattle.group_history.specs.declared.mutators.Stop.TheVariants.{NoMemory};
+
+use commits::{Nodes, cookie_of, read_root, walk};
+use group_history::{Cookie, Json, Mutation, Ref, Scan, Stop, Text};
+use map_tree::Tree;
+use std::alloc::Global;
+use std::marker::Model;
+
+/// Reads one commit. Every answer is that of the commit on which it was opened.
+#[derive(Drop)]
+pub struct ReadTx<N: Nodes> {
+    alloc: Global,
+    nodes: N,
+    head: Ref,
+    root: Ref,
+}
+
+impl<N: Nodes> Model for ReadTx<N> {
+    ghost use Rattle.std.specs.Ordering.{nat_cmp};
+    ghost use Rattle.std.specs.Cmp.Lexicographic.{slice_cmp};
+    ghost use Rattle.std.specs.Coded.{codes, coded_ℕ, coded_list};
+    ghost use Rattle.std.specs.FinMap as finite;
+    ghost use Rattle.group_history.specs.Refs.{stamp_of};
+    ghost use Rattle.transactions.specs.Reads.{Read, IsRead, read_version};
+
+    ghost Value = { Read };
+
+    ghost coded = { Prim.hlevel (codes, finite.code {R = slice_cmp nat_cmp} (coded_list coded_ℕ) (coded_list coded_ℕ), finite.code {R = slice_cmp nat_cmp} (coded_list coded_ℕ) coded_ℕ) };
+
+    ghost view = { λ tx. record { contents = N.contents tx.nodes; version = read_version (N.contents tx.nodes) (stamp_of tx.head) } };
+
+    ghost invariant = { λ tx. IsRead (N.contents tx.nodes) (stamp_of tx.head) (stamp_of tx.root) };
+}
+
+impl<N: Nodes> ReadTx<N> {
+    /// Opens a commit. Where it stops, the nodes are handed back.
+    pub fn open(alloc: Global, nodes: N, head: Ref) -> Result<ReadTx<N>, (N, Stop)>
+        requires { IsSome (version_at (N.contents nodes) (stamp_of head)) }
+        ensures version { (v : Version) → version_at (N.contents nodes) (stamp_of head) ≡ Some v → IfOk result (λ tx. tx.version ≡ v) }
+        ensures grown { IfOk result (λ tx. IsPrefix (N.contents nodes) tx.contents) }
+        ensures back { IfErr result (λ e. IsPrefix (N.contents nodes) (N.contents e.0)) }
+        ensures stopped { IfErr result (λ e. N.stops e.1) }
+    {
+        let mut nodes = nodes;
+        match read_root(&mut nodes, head) {
+            Ok(root) => Ok(ReadTx {
+                alloc,
+                nodes,
+                head,
+                root,
+            }),
+            Err(stop) => Err((nodes, stop)),
+        }
+    }
+
+    /// The value at a key.
+    pub fn get(&mut self, key: &str) -> Result<Option<Json>, Stop>
+        ensures value { IfOk result (λ found. found ≡ finite.get self.old.version.read key.now) }
+        ensures same { self.new.version ≡ self.old.version }
+        ensures grown { IsPrefix self.old.contents self.new.contents }
+        ensures stopped { IfErr result (λ stop. (stop ≡ NoMemory) ⊎ N.stops stop) }
+    {
+        Tree::at(self.root).get(&mut self.nodes, key)
+    }
+
+    /// Whether the key is there.
+    pub fn has(&mut self, key: &str) -> Result<bool, Stop>
+        ensures value { IfOk result (λ found. found ≡ finite.contains_key self.old.version.read key.now) }
+        ensures same { self.new.version ≡ self.old.version }
+        ensures grown { IsPrefix self.old.contents self.new.contents }
+        ensures stopped { IfErr result (λ stop. (stop ≡ NoMemory) ⊎ N.stops stop) }
+    {
+        Tree::at(self.root).has(&mut self.nodes, key)
+    }
+
+    /// The pairs that the scan asks for, in the order of their keys.
+    pub fn scan(&mut self, scan: &Scan) -> Result<Vec<(Text, Json)>, Stop>
+        ensures rows { IfOk result (λ rows. rows.items ≡ rows_of scan.now self.old.version.read) }
+        ensures same { self.new.version ≡ self.old.version }
+        ensures grown { IsPrefix self.old.contents self.new.contents }
+        ensures stopped { IfErr result (λ stop. (stop ≡ NoMemory) ⊎ N.stops stop) }
+    {
+        Tree::at(self.root).scan(self.alloc, &mut self.nodes, scan)
+    }
+
+    /// Whether no key is there.
+    pub fn is_empty(&mut self) -> Result<bool, Stop>
+        ensures value { IfOk result (λ b. b ≡ (length (finite.entries self.old.version.read) == 0)) }
+        ensures same { self.new.version ≡ self.old.version }
+        ensures grown { IsPrefix self.old.contents self.new.contents }
+        ensures stopped { IfErr result (λ stop. (stop ≡ NoMemory) ⊎ N.stops stop) }
+    {
+        Tree::at(self.root).is_empty(&mut self.nodes)
+    }
+
+    /// The mutations that are not confirmed, the oldest first.
+    pub fn pending(&mut self) -> Result<Vec<Mutation>, Stop>
+        ensures pending { IfOk result (λ xs. xs.items ≡ self.old.version.state.pending) }
+        ensures same { self.new.version ≡ self.old.version }
+        ensures grown { IsPrefix self.old.contents self.new.contents }
+        ensures stopped { IfErr result (λ stop. (stop ≡ NoMemory) ⊎ N.stops stop) }
+    {
+        walk(self.alloc, &mut self.nodes, self.head)
+    }
+
+    /// The cookie of the commit's state.
+    pub fn cookie(&mut self) -> Result<Cookie, Stop>
+        ensures cookie { IfOk result (λ cookie. cookie ≡ self.old.version.state.cookie) }
+        ensures same { self.new.version ≡ self.old.version }
+        ensures grown { IsPrefix self.old.contents self.new.contents }
+        ensures stopped { IfErr result (λ stop. (stop ≡ NoMemory) ⊎ N.stops stop) }
+    {
+        cookie_of(&mut self.nodes, self.head)
+    }
+
+    /// Ends the reading, and hands back the nodes.
+    pub fn close(self) -> N
+        ensures { N.contents result ≡ self.contents }
+    {
+        self.nodes
+    }
+}
