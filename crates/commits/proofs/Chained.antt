@@ -1,5 +1,5 @@
 -- What the looks along a chain tell of a commit's state.
-use Rattle.std.proofs.Common.{◌≡◌, ℕ, zero, suc, max, ◌<◌, List, [], ◌∷◌, ◌++◌, reverse, Some, None, Option, slice_get, refl, ap, sym, subst, ◌∙◌, arith, append_assoc}
+use Rattle.std.proofs.Common.{◌≡◌, ℕ, zero, suc, ◌<◌, List, [], ◌∷◌, ◌++◌, reverse, Some, None, Option, slice_get, refl, ap, sym, subst, ◌∙◌, arith, append_assoc}
 use Rattle.std.specs.Prelude.{IsSome}
 use mathlib.Core.List.{IsPrefix, reverse-append}
 use Rattle.group_history.specs.declared.nodes.Commit.{Commit}
@@ -12,7 +12,8 @@ use Rattle.group_history.specs.declared.refs.Ref.{Ref}
 use Rattle.group_history.specs.Map.{Bytes}
 use Rattle.group_history.specs.Refs.{stamp_of}
 use Rattle.group_history.specs.Naming.{commit_content}
-use Rattle.group_history.specs.State.{State, last_id}
+use Rattle.group_history.specs.Ids.{Follows, IdsFollow}
+use Rattle.group_history.specs.State.{State, confirmed_id, ids_of, last_id}
 use Rattle.group_history.specs.Mutating.{after_mutate}
 use Rattle.group_history.specs.Spelling.{Contents, Version, version_at, map_at}
 use Rattle.group_history.proofs.Folding.{append_nil, prefix_trans}
@@ -21,7 +22,7 @@ use Rattle.commits.specs.declared.chains.Base.{Base}
 use Rattle.commits.specs.declared.chains.Step.{Step}
 use Rattle.commits.specs.Chains.{LiesAt, basis_of, step_of, root_of, own_id, IsSnapshot, IsSnapshotAt, HasCookie, HasBase, IsBase}
 use Rattle.commits.proofs.Spelled.{local-at, snapshot-at, version-grown, map-grown}
-use Rattle.commits.proofs.LastIds.{last_id-after}
+use Rattle.commits.proofs.LastIds.{newest_id}
 
 pub some_version : (ns : Contents) (k : ℕ) → IsSome (version_at ns k) → (v : Version) × (version_at ns k ≡ Some v)
 some_version ns k h = of_some (version_at ns k) h
@@ -126,29 +127,35 @@ root_read first more head (Snapshot c) v h pre lies =
 root_read first more head (Local c) v h pre lies =
     let l : Locally ℕ = record { basis = stamp_of c.basis; mutation = c.mutation; root = stamp_of c.root } in (local-at more head l v lies (version-grown first more head v pre h)).5
 
--- While ids are looked for: the last id is the greatest of what was met and of what is left.
-abbrev pub IsCount : Contents → Bytes → ℕ → Option Ref → ℕ → Type 0
-IsCount ns client last None met = met ≡ last
-IsCount ns client last (Some at) met = (b : Version) × (version_at ns (stamp_of at) ≡ Some b) × (max met (last_id b.state client) ≡ last)
+-- While a client's newest commit is looked for: its last id is that of the commit at hand, where its ids follow.
+abbrev pub IsSearch : Contents → Bytes → ℕ → Option Ref → Type 0
+IsSearch ns client last None = 0 ≡ last
+IsSearch ns client last (Some at) = (b : Version) × (version_at ns (stamp_of at) ≡ Some b) × Follows (confirmed_id b.state.confirmed client) (ids_of client b.state.pending) × (last_id b.state client ≡ last)
 
 -- how far the chain can still go
 abbrev pub ahead : Option Ref → ℕ
 ahead None = 0
 ahead (Some at) = suc (stamp_of at)
 
-max_assoc : (a b c d e : ℕ) → max a d ≡ e → d ≡ max b c → max (max a c) b ≡ e
-max_assoc a b c d e p q = grind (arith, p, q)
+pub search_begins : (ns : Contents) (at : Ref) (client : Bytes) (v : Version) → version_at ns (stamp_of at) ≡ Some v → IdsFollow v.state.confirmed v.state.pending → IsSearch ns client (last_id v.state client) (Some at)
+search_begins ns at client v h ids = (v, h, ids.pending_ids client, refl)
 
-pub count_step : (ns more : Contents) (client : Bytes) (last : ℕ) (at : Ref) (met : ℕ) (c : Commit Ref) → IsCount ns client last (Some at) met → IsPrefix ns more → LiesAt more (stamp_of at) c
-    → (ahead (basis_of c) < suc (stamp_of at)) × IsCount more client last (basis_of c) (max met (own_id client c))
-count_step ns more client last at met (Snapshot c) d pre lies =
+-- A commit that knows an id of the client has its last one; below one that knows none the search goes on.
+pub search_step : (ns more : Contents) (client : Bytes) (last : ℕ) (at : Ref) (c : Commit Ref) → IsSearch ns client last (Some at) → IsPrefix ns more → LiesAt more (stamp_of at) c
+    → (ahead (basis_of c) < suc (stamp_of at)) × (0 < own_id client c → own_id client c ≡ last) × (own_id client c ≡ 0 → IsSearch more client last (basis_of c))
+search_step ns more client last at (Snapshot c) d pre lies =
     let s : Snapped ℕ = record { cookie = c.cookie; confirmed = c.confirmed; root = stamp_of c.root } in
     let f = snapshot-at more (stamp_of at) s d.0 lies (version-grown ns more (stamp_of at) d.0 pre d.1) in
-    (omega arith, ap (λ (w : State). max met (last_id w client)) (sym f.2) ∙ d.2)
-count_step ns more client last at met (Local c) d pre lies =
+    let is : confirmed_id c.confirmed client ≡ last = ap (λ (w : State). last_id w client) (sym f.2) ∙ d.3 in
+    (omega arith, λ h. is, λ h. sym h ∙ is)
+search_step ns more client last at (Local c) d pre lies =
     let l : Locally ℕ = record { basis = stamp_of c.basis; mutation = c.mutation; root = stamp_of c.root } in
     let f = local-at more (stamp_of at) l d.0 lies (version-grown ns more (stamp_of at) d.0 pre d.1) in
-    (omega (arith, f.1), (f.0, f.2, max_assoc met (last_id f.0.state client) (own_id client (Local c)) (last_id d.0.state client) last d.2 (ap (λ (w : State). last_id w client) f.3 ∙ last_id-after f.0.state c.mutation client)))
+    let ids : Follows (confirmed_id f.0.state.confirmed client) (ids_of client (f.0.state.pending ++ c.mutation ∷ [])) =
+    subst (λ (w : State). Follows (confirmed_id w.confirmed client) (ids_of client w.pending)) f.3 d.2 in
+    let is : last_id (after_mutate f.0.state c.mutation) client ≡ last = ap (λ (w : State). last_id w client) (sym f.3) ∙ d.3 in
+    let t = newest_id f.0.state c.mutation client ids in
+    (omega (arith, f.1), λ h. sym (t.0 h) ∙ is, λ h. let u = t.1 h in (f.0, f.2, u.0, sym u.1 ∙ is))
 
 -- a snapshot that is shown again has what its state has from the server
 pub base_cookie : (ns more : Contents) (k : ℕ) (c : Commit Ref) (s : State) (cookie : Cookie) → IsBase ns k s → IsPrefix ns more → LiesAt more k c → HasCookie c cookie → cookie ≡ s.cookie

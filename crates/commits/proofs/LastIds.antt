@@ -1,29 +1,33 @@
--- A client's last id, commit by commit.
-use Rattle.std.proofs.Common.{◌≡◌, ℕ, max, Bool, true, false, [], ◌∷◌, ◌++◌, map, refl, ap, ◌∙◌, arith}
-use Rattle.std.specs.Prelude.{filter, fold, if◌then◌else◌}
-use Rattle.std.specs.Ordering.{nat_cmp, ord_max}
-use Rattle.std.proofs.lemmas.Bool.Decides.{nat_tests}
-use Rattle.std.proofs.lemmas.List.{map-append}
+-- A client's last id, commit by commit, where its ids follow.
+use Rattle.std.proofs.Common.{◌≡◌, ℕ, ◌+◌, ◌<◌, max, Bool, true, false, cond, List, [], ◌∷◌, ◌++◌, map, length, fold, ap, subst, ◌∙◌, arith, append-nil}
+use Rattle.std.specs.Prelude.{if◌then◌else◌}
 use Rattle.std.proofs.lemmas.List.Sums.{fold-append}
-use Rattle.std.proofs.lemmas.List.Elements.{filter-append}
 use Rattle.group_history.specs.declared.mutations.Mutation.{Mutation}
+use Rattle.group_history.specs.Ids.{Follows}
 use Rattle.group_history.specs.Map.{Bytes, same_text}
 use Rattle.group_history.specs.State.{State, confirmed_id, ids_of, last_id}
 use Rattle.group_history.specs.Mutating.{after_mutate}
+use Rattle.group_history.proofs.IdLemmas.{greatest-Follows, ids_of-append}
 
-one_more : (a : ℕ) (b : Bool) (x : Mutation) → fold max a (map (λ (x : Mutation). x.id) (if b then (x ∷ []) else [])) ≡ max a (if b then x.id else 0)
-one_more a true x = refl
-one_more a false x = omega arith
+-- without the last of them the numbers still follow, and the last is the one after all before it
+Follows-pop : (n : ℕ) (xs : List ℕ) (x : ℕ) → Follows n (xs ++ x ∷ []) → Follows n xs × (x ≡ n + length xs + 1)
+Follows-pop n [] x f = (tt, omega (arith, f.0))
+Follows-pop n (y ∷ ys) x f = let r = Follows-pop (n + 1) ys x f.1 in ((f.0, r.0), omega (arith, r.1))
 
--- the last id after one mutation more
-pub last_id-after : (s : State) (x : Mutation) (client : Bytes) → last_id (after_mutate s x) client ≡ max (last_id s client) (if same_text x.client client then x.id else 0)
-last_id-after s x client =
-    let own : Mutation → Bool = λ x. same_text x.client client in
-    let a = confirmed_id s.confirmed client in
-    let cut : ids_of client (s.pending ++ x ∷ []) ≡ ids_of client s.pending ++ ids_of client (x ∷ []) =
-    ap (map (λ (x : Mutation). x.id)) (filter-append own s.pending (x ∷ [])) ∙ map-append (λ (x : Mutation). x.id) (filter own s.pending) (filter own (x ∷ [])) in
-    ap (fold max a) cut ∙ (fold-append max a (ids_of client s.pending) (ids_of client (x ∷ [])) ∙ one_more (last_id s client) (own x) x)
+last_of : (n : ℕ) (xs : List ℕ) (x : ℕ) → Follows n xs → x ≡ n + length xs + 1 → fold max n (xs ++ x ∷ []) ≡ x
+last_of n xs x f is = let before = greatest-Follows n xs f in fold-append max n xs (x ∷ []) ∙ omega (arith, before, is)
 
--- the method `max` of numbers
-pub ord_max-max : (a b : ℕ) → ord_max nat_cmp a b ≡ max a b
-ord_max-max a b = grind (arith, nat_tests)
+-- The id of a client's newest mutation is the client's last one; a mutation of another client changes nothing.
+pub newest_id : (s : State) (x : Mutation) (client : Bytes) → Follows (confirmed_id s.confirmed client) (ids_of client (s.pending ++ x ∷ []))
+    → (0 < (if same_text x.client client then x.id else 0) → last_id (after_mutate s x) client ≡ (if same_text x.client client then x.id else 0))
+    × ((if same_text x.client client then x.id else 0) ≡ 0 → Follows (confirmed_id s.confirmed client) (ids_of client s.pending) × (last_id (after_mutate s x) client ≡ last_id s client))
+newest_id s x client ids =
+    let n = confirmed_id s.confirmed client in let before = ids_of client s.pending in
+    let own : Bool → List ℕ = λ b. map (λ (m : Mutation). m.id) (cond b (x ∷ []) []) in
+    let cut : ids_of client (s.pending ++ x ∷ []) ≡ before ++ own (same_text x.client client) = ids_of-append client s.pending (x ∷ []) in
+    let last : last_id (after_mutate s x) client ≡ fold max n (before ++ own (same_text x.client client)) = ap (fold max n) cut in
+    elim (same_text x.client client) as (λ b. Follows n (before ++ own b) → last_id (after_mutate s x) client ≡ fold max n (before ++ own b)
+    → (0 < (if b then x.id else 0) → last_id (after_mutate s x) client ≡ (if b then x.id else 0)) × ((if b then x.id else 0) ≡ 0 → Follows n before × (last_id (after_mutate s x) client ≡ last_id s client))) [
+      | true ↦ λ f l. let r = Follows-pop n before x.id f in (λ h. l ∙ last_of n before x.id r.0 r.1, λ h. absurd (omega (arith, h, r.1)))
+      | false ↦ λ f l. let e = append-nil before in (λ h. absurd (omega (arith, h)), λ h. (subst (Follows n) e f, l ∙ ap (fold max n) e))
+    ] (subst (Follows n) cut ids) last

@@ -5,6 +5,7 @@
 //! that the head spells.
 ghost use Rattle.std.specs.Prelude.{◌≡◌, ◌⊎◌, Some, IfOk, IfErr, OnOk, OnErr, IsSome, ◌++◌, [], ◌∷◌};
 ghost use mathlib.Core.List.{IsPrefix};
+ghost use Rattle.group_history.specs.Ids.{IdsFollow};
 ghost use Rattle.group_history.specs.Refs.{stamp_of};
 ghost use Rattle.group_history.specs.State.{last_id};
 ghost use Rattle.group_history.specs.Spelling.{Version, version_at, map_at};
@@ -123,22 +124,24 @@ pub fn cookie_of<N: Nodes>(nodes: &mut N, head: Ref) -> Result<Cookie, Stop>
     Ok(cookie)
 }
 
-/// A client's last id: the greatest of its confirmed id and its pending ids, 0 where there is none. It
-/// looks at the whole chain, so nothing is asked of the order of ids.
+/// A client's last id, where the ids follow: that of its newest commit, or else what the snapshot has
+/// confirmed. The walk ends there.
 pub fn last_id_of<N: Nodes>(nodes: &mut N, head: Ref, client: &Text) -> Result<u64, Stop>
-    requires { IsSome (version_at (N.contents nodes.old) (stamp_of head)) }
+    requires head { IsSome (version_at (N.contents nodes.old) (stamp_of head)) }
+    requires ids { (v : Version) → version_at (N.contents nodes.old) (stamp_of head) ≡ Some v → IdsFollow v.state.confirmed v.state.pending }
     ensures grown { IsPrefix (N.contents nodes.old) (N.contents nodes.new) }
     ensures id { (v : Version) → version_at (N.contents nodes.old) (stamp_of head) ≡ Some v → IfOk result (λ id. id ≡ last_id v.state client.now) }
     ensures stopped { IfErr result N.stops }
 {
-    let mut last = 0;
     let mut next = Some(head);
     while let Some(at) = next {
         let own = show_own_id(nodes, at, client)?;
-        last = last.max(own.id);
+        if own.id > 0 {
+            return Ok(own.id);
+        }
         next = own.basis;
     }
-    Ok(last)
+    Ok(0)
 }
 
 /// The root of the map that queries read at a commit.

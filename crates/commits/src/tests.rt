@@ -1,11 +1,13 @@
 //! What no contract says: that calls succeed on real nodes, and values from outside.
-ghost use Rattle.std.specs.Prelude.{◌≡◌, ◌<◌, ◌++◌, [], ◌∷◌, map, length, IfOk, IsSome};
+ghost use Rattle.std.specs.Prelude.{◌≡◌, ◌<◌, ◌++◌, [], ◌∷◌, map, length, Some, IfOk, IsSome};
 ghost use Rattle.std.specs.Arc.{arc_value};
+ghost use Rattle.std.specs.FinMap as finite;
+ghost use Rattle.group_history.specs.Ids.{IdsFollow};
 ghost use Rattle.group_history.specs.Map.{Bytes};
 ghost use Rattle.group_history.specs.Refs.{stamp_of};
 ghost use Rattle.group_history.specs.Naming.{content_of};
 ghost use Rattle.group_history.specs.Rows.{AreKeys};
-ghost use Rattle.group_history.specs.Spelling.{version_at};
+ghost use Rattle.group_history.specs.Spelling.{Version, version_at};
 ghost use Rattle.group_history.specs.declared.nodes.Chunk.TheVariants as chunk;
 ghost use Rattle.group_history.specs.declared.nodes.Commit.TheVariants as commit;
 ghost use Rattle.group_history.specs.declared.nodes.Node.TheVariants as node;
@@ -71,7 +73,8 @@ fn inner(alloc: Global, left: Ref, right: Ref) -> Result<Node<Ref>, Fail>
 
 /// A snapshot with the cookie null, in which `a` is confirmed up to an id.
 fn snapshot(alloc: Global, id: u64, root: Ref) -> Result<Snapshot<Ref>, Fail>
-    ensures { IfOk result (λ s. s.root ≡ root) }
+    ensures root { IfOk result (λ s. s.root ≡ root) }
+    ensures confirmed { IfOk result (λ s. s.confirmed ≡ finite.insert finite.empty (97 ∷ []) id) }
 {
     let cookie = Cookie::null(alloc)?;
     let mut confirmed = TextMap::new(alloc);
@@ -84,14 +87,16 @@ fn snapshot(alloc: Global, id: u64, root: Ref) -> Result<Snapshot<Ref>, Fail>
 }
 
 fn with_snapshot(alloc: Global, nodes: VecNodes, id: u64, root: Ref) -> Result<VecNodes, Fail>
-    ensures { IfOk result (λ after. (s : Snapped Reference) × (s.root ≡ root) × (after ≡ nodes ++ node.Commit (commit.Snapshot s) ∷ [])) }
+    ensures { IfOk result (λ after. (s : Snapped Reference) × (s.root ≡ root) × (s.confirmed ≡ finite.insert finite.empty (97 ∷ []) id) × (after ≡ nodes ++ node.Commit (commit.Snapshot s) ∷ [])) }
 {
     let snapshot = snapshot(alloc, id, root)?;
     let after = with(alloc, nodes, Node::Commit(Commit::Snapshot(snapshot)))?;
     Ok(after)
 }
 
-fn mutation(alloc: Global, client: &str, id: u64) -> Result<Mutation, Fail> {
+fn mutation(alloc: Global, client: &str, id: u64) -> Result<Mutation, Fail>
+    ensures { IfOk result (λ x. (x.client ≡ client.now) × (x.id ≡ id)) }
+{
     Ok(Mutation {
         client: Text::new(alloc, client)?,
         id,
@@ -109,7 +114,7 @@ fn with_local(
     basis: Ref,
     root: Ref,
 ) -> Result<VecNodes, Fail>
-    ensures { IfOk result (λ after. (x : Mutated) × (after ≡ nodes ++ node.Commit (commit.Local (record { basis = basis; mutation = x; root = root })) ∷ [])) }
+    ensures { IfOk result (λ after. (x : Mutated) × (x.client ≡ made.entry.0.now) × (x.id ≡ made.entry.1) × (after ≡ nodes ++ node.Commit (commit.Local (record { basis = basis; mutation = x; root = root })) ∷ [])) }
 {
     let mutation = mutation(alloc, made.0, made.1)?;
     let local = Local {
@@ -139,6 +144,8 @@ fn example(alloc: Global) -> Result<VecNodes, Fail>
     ensures second { IfOk result (λ ns. IsSome (version_at (map content_of ns) 5)) }
     ensures third { IfOk result (λ ns. IsSome (version_at (map content_of ns) 6)) }
     ensures next { IfOk result (λ ns. IsSome (version_at (map content_of ns) 7)) }
+    ensures confirmed_ids { IfOk result (λ ns. (v : Version) → version_at (map content_of ns) 3 ≡ Some v → IdsFollow v.state.confirmed v.state.pending) }
+    ensures pending_ids { IfOk result (λ ns. (v : Version) → version_at (map content_of ns) 6 ≡ Some v → IdsFollow v.state.confirmed v.state.pending) }
 {
     let nodes = chunks(alloc)?;
     let nodes = with_snapshot(alloc, nodes, 4, at(2))?;
@@ -211,7 +218,8 @@ fn a_state_is_told(rt: HostRuntime) -> Result<(), Fail> {
 
 /// The last id of a client at a commit.
 fn last_id(alloc: Global, nodes: &VecNodes, head: Ref, client: &str) -> Result<u64, Fail>
-    requires { IsSome (version_at (map content_of nodes.now) (stamp_of head)) }
+    requires head { IsSome (version_at (map content_of nodes.now) (stamp_of head)) }
+    requires ids { (v : Version) → version_at (map content_of nodes.now) (stamp_of head) ≡ Some v → IdsFollow v.state.confirmed v.state.pending }
 {
     let mut shelf = nodes.shelf();
     let client = Text::new(alloc, client)?;

@@ -13,7 +13,7 @@ use group_history::{
 };
 use pull_patch::read_response;
 use push_body::Identity;
-use std::alloc::Global;
+use std::alloc::{AllocError, Global};
 use std::prelude::*;
 use std::test::Fail;
 
@@ -48,13 +48,13 @@ impl Mutators for Trials {
     }
 }
 
-fn group(alloc: Global) -> Result<Solo<Trials>, Fail> {
+fn group(alloc: Global) -> Result<Solo<Trials>, Refusal> {
     let identity = Identity {
         group: Text::new(alloc, "g")?,
         profile: Text::new(alloc, "p1")?,
         schema: Text::new(alloc, "s1")?,
     };
-    Ok(Solo::new(alloc, Trials, identity)?)
+    Solo::new(alloc, Trials, identity)
 }
 
 /// Begins a pull and ends it with this body.
@@ -85,99 +85,106 @@ fn got(alloc: Global, solo: &Solo<Trials>, key: &str) -> Result<Text, Refusal> {
     }
 }
 
+const FIRST: &str =
+    r#"{"cookie":1,"lastMutationIDChanges":{},"patch":[{"op":"put","key":"n","value":5}]}"#;
+
+/// Ends a first pull and then one with this body, and answers the second.
+fn pulled_again(alloc: Global, body: &str) -> Result<Ended, Refusal> {
+    let mut solo = group(alloc)?;
+    pulled(&mut solo, FIRST)?;
+    pulled(&mut solo, body)
+}
+
 #[test]
-fn a_first_pull(rt: HostRuntime) -> Result<(), Fail> {
-    let mut solo = group(rt.alloc())?;
-    let empty = solo.is_empty()?;
-    assert!(rt; empty);
-    let ended = pulled(
-        &mut solo,
-        r#"{"cookie":1,"lastMutationIDChanges":{},"patch":[{"op":"put","key":"n","value":5}]}"#,
-    );
-    assert_eq!(rt; ended, Ok(Ended::Applied));
-    assert_eq!(rt; got(rt.alloc(), &solo, "n")?.as_str(), "5");
-    let again = pulled(
-        &mut solo,
-        r#"{"cookie":1,"lastMutationIDChanges":{},"patch":[]}"#,
-    );
-    assert_eq!(rt; again, Ok(Ended::Same));
-    Ok(())
+fn pulls_are_ended(rt: HostRuntime) {
+    for (body, want) in [
+        (
+            r#"{"cookie":1,"lastMutationIDChanges":{},"patch":[]}"#,
+            Ok(Ended::Same),
+        ),
+        (
+            r#"{"cookie":2,"lastMutationIDChanges":{},"patch":[]}"#,
+            Ok(Ended::Applied),
+        ),
+        (
+            r#"{"cookie":null,"lastMutationIDChanges":{},"patch":[]}"#,
+            Err(Refusal::CookieWentBack),
+        ),
+        (
+            r#"{"error":"ClientStateNotFound"}"#,
+            Err(Refusal::StateNotFound),
+        ),
+        ("{", Err(Refusal::NotJson)),
+    ] {
+        let ended = pulled_again(rt.alloc(), body);
+        assert_eq!(rt; ended, want, "at {body}");
+    }
+}
+
+/// What a first mutation of a new group answers.
+fn first_made(alloc: Global, last: u64, name: &str) -> Result<u64, Refusal> {
+    let mut solo = group(alloc)?;
+    made(alloc, &mut solo, last, name, "7")
+}
+
+#[test]
+fn mutations_are_answered(rt: HostRuntime) {
+    for (last, name, want) in [
+        (0_u64, "keep", Ok(1)),
+        (1, "keep", Err(Refusal::Stale)),
+        (0, "nosuch", Err(Refusal::NoMutator)),
+        (0, "copy", Err(Refusal::Refused(2))),
+    ] {
+        let id = first_made(rt.alloc(), last, name);
+        assert_eq!(rt; id, want, "at {name}");
+    }
+}
+
+/// What is at `m` after a pull under a pending `copy`.
+fn copied_again(alloc: Global, body: &str) -> Result<Text, Refusal> {
+    let mut solo = group(alloc)?;
+    pulled(&mut solo, FIRST)?;
+    made(alloc, &mut solo, 0, "copy", "[]")?;
+    pulled(&mut solo, body)?;
+    got(alloc, &solo, "m")
 }
 
 #[test]
 fn pending_mutations_are_replayed(rt: HostRuntime) -> Result<(), Fail> {
-    let alloc = rt.alloc();
-    let mut solo = group(alloc)?;
-    pulled(
-        &mut solo,
-        r#"{"cookie":1,"lastMutationIDChanges":{},"patch":[{"op":"put","key":"n","value":5}]}"#,
-    )?;
-    let id = made(alloc, &mut solo, 0, "copy", "[]");
-    assert_eq!(rt; id, Ok(1));
-    assert_eq!(rt; got(alloc, &solo, "m")?.as_str(), "5");
-    pulled(
-        &mut solo,
-        r#"{"cookie":2,"lastMutationIDChanges":{},"patch":[{"op":"put","key":"n","value":10}]}"#,
-    )?;
-    assert_eq!(rt; got(alloc, &solo, "m")?.as_str(), "10");
-    let last = solo.last(&Text::new(alloc, "a")?)?;
-    assert_eq!(rt; last, 1);
-    pulled(
-        &mut solo,
-        r#"{"cookie":3,"lastMutationIDChanges":{"a":1},"patch":[{"op":"clear"}]}"#,
-    )?;
-    assert_eq!(rt; got(alloc, &solo, "m")?.as_str(), "none");
-    let pending = solo.pending()?;
-    assert_eq!(rt; pending.len(), 0);
+    for (body, want) in [
+        (
+            r#"{"cookie":2,"lastMutationIDChanges":{},"patch":[{"op":"put","key":"n","value":10}]}"#,
+            "10",
+        ),
+        (
+            r#"{"cookie":2,"lastMutationIDChanges":{},"patch":[{"op":"clear"}]}"#,
+            "none",
+        ),
+        (
+            r#"{"cookie":2,"lastMutationIDChanges":{},"patch":[{"op":"del","key":"n"}]}"#,
+            "none",
+        ),
+        (
+            r#"{"cookie":2,"lastMutationIDChanges":{"a":1},"patch":[{"op":"put","key":"m","value":8}]}"#,
+            "8",
+        ),
+    ] {
+        let text = copied_again(rt.alloc(), body)?;
+        assert_eq!(rt; text.as_str(), want, "at {body}");
+    }
     Ok(())
 }
 
-#[test]
-fn a_refusing_mutation_stays_pending(rt: HostRuntime) -> Result<(), Fail> {
-    let alloc = rt.alloc();
-    let mut solo = group(alloc)?;
-    let refused = made(alloc, &mut solo, 0, "copy", "[]");
-    assert_eq!(rt; refused, Err(Refusal::Refused(2)));
-    let unknown = made(alloc, &mut solo, 0, "nosuch", "[]");
-    assert_eq!(rt; unknown, Err(Refusal::NoMutator));
-    let stale = made(alloc, &mut solo, 1, "keep", "1");
-    assert_eq!(rt; stale, Err(Refusal::Stale));
-    pulled(
-        &mut solo,
-        r#"{"cookie":1,"lastMutationIDChanges":{},"patch":[{"op":"put","key":"n","value":5}]}"#,
-    )?;
-    made(alloc, &mut solo, 0, "copy", "[]")?;
-    made(alloc, &mut solo, 1, "keep", "7")?;
-    pulled(
-        &mut solo,
-        r#"{"cookie":2,"lastMutationIDChanges":{},"patch":[{"op":"del","key":"n"}]}"#,
-    )?;
-    assert_eq!(rt; got(alloc, &solo, "m")?.as_str(), "none");
-    assert_eq!(rt; got(alloc, &solo, "k01")?.as_str(), "7");
-    let pending = solo.pending()?;
-    assert_eq!(rt; pending.len(), 2);
-    pulled(
-        &mut solo,
-        r#"{"cookie":3,"lastMutationIDChanges":{},"patch":[{"op":"put","key":"n","value":6}]}"#,
-    )?;
-    assert_eq!(rt; got(alloc, &solo, "m")?.as_str(), "6");
-    Ok(())
-}
-
-#[test]
-fn requests_and_rows(rt: HostRuntime) -> Result<(), Fail> {
-    let alloc = rt.alloc();
+/// A group with one pending mutation.
+fn one_pending(alloc: Global) -> Result<Solo<Trials>, Refusal> {
     let mut solo = group(alloc)?;
     made(alloc, &mut solo, 0, "keep", "7")?;
-    let scan = Scan {
-        prefix: Text::new(alloc, "k")?,
-        start: Start::Any,
-        limit: None,
-    };
-    let rows = solo.scan(&scan)?;
-    assert_eq!(rt; rows.len(), 1);
-    let there = solo.has(&Text::new(alloc, "k01")?)?;
-    assert!(rt; there);
+    Ok(solo)
+}
+
+#[test]
+fn requests(rt: HostRuntime) -> Result<(), Fail> {
+    let solo = one_pending(rt.alloc())?;
     let body = solo.push_body()?;
     assert_eq!(rt;
         body.as_slice(),
@@ -188,8 +195,33 @@ fn requests_and_rows(rt: HostRuntime) -> Result<(), Fail> {
         ticket.body.as_slice(),
         r#"{"clientGroupID":"g","cookie":null,"profileID":"p1","pullVersion":1,"schemaVersion":"s1"}"#.as_bytes()
     );
-    let cookie = solo.cookie()?;
-    assert_eq!(rt; cookie.text(), "null");
+    Ok(())
+}
+
+#[test]
+fn rows(rt: HostRuntime) -> Result<(), Fail> {
+    let solo = one_pending(rt.alloc())?;
+    let scan = Scan {
+        prefix: Text::new(rt.alloc(), "k")?,
+        start: Start::Any,
+        limit: None,
+    };
+    let rows = solo.scan(&scan)?;
+    assert_eq!(rt; rows.len(), 1);
+    let there = solo.has(&Text::new(rt.alloc(), "k01")?)?;
+    assert!(rt; there);
+    Ok(())
+}
+
+#[test]
+fn what_is_known(rt: HostRuntime) -> Result<(), Fail> {
+    let solo = one_pending(rt.alloc())?;
+    let pending = solo.pending()?;
+    assert_eq!(rt; pending.len(), 1);
+    let last = solo.last(&Text::new(rt.alloc(), "a")?)?;
+    assert_eq!(rt; last, 1);
+    let empty = solo.is_empty()?;
+    assert!(rt; !empty);
     Ok(())
 }
 
@@ -227,22 +259,126 @@ fn dropped_by(
     Ok(left.len())
 }
 
-#[test]
-fn a_pull_shares_the_pulled_map(rt: HostRuntime) -> Result<(), Fail> {
-    let alloc = rt.alloc();
+/// The group of the row: 17 keys were pulled, and one of them is set.
+fn one_set(alloc: Global) -> Result<Solo<Trials>, Fail> {
     let mut solo = group(alloc)?;
     let body = seventeen(alloc)?;
     pulled(&mut solo, body.as_str())?;
     made(alloc, &mut solo, 0, "keep", "0")?;
-    let response = read_response(
-        alloc,
-        r#"{"cookie":2,"lastMutationIDChanges":{},"patch":[]}"#.as_bytes(),
-    )?;
-    let Response::Ok(pull) = response else {
+    Ok(solo)
+}
+
+fn nothing_new(alloc: Global) -> Result<PullOk, Fail> {
+    let body = r#"{"cookie":2,"lastMutationIDChanges":{},"patch":[]}"#;
+    let Response::Ok(pull) = read_response(alloc, body.as_bytes())? else {
         return Err(Fail::new("no error"));
     };
-    let Solo { nodes, head, .. } = solo;
-    let count = dropped_by(alloc, nodes, head, &pull)?;
+    Ok(pull)
+}
+
+#[test]
+fn a_pull_shares_the_pulled_map(rt: HostRuntime) -> Result<(), Fail> {
+    let pull = nothing_new(rt.alloc())?;
+    let Solo { nodes, head, .. } = one_set(rt.alloc())?;
+    let count = dropped_by(rt.alloc(), nodes, head, &pull)?;
     assert_eq!(rt; count, 4);
+    Ok(())
+}
+
+fn plain(alloc: Global) -> Result<Plain<Trials>, Refusal> {
+    let identity = Identity {
+        group: Text::new(alloc, "g")?,
+        profile: Text::new(alloc, "p1")?,
+        schema: Text::new(alloc, "s1")?,
+    };
+    Plain::new(alloc, Trials, identity)
+}
+
+const OTHER: u64 = 90;
+const STALE: u64 = 91;
+const REFUSED: u64 = 92;
+
+/// A reply as a number: an id, how many are pending, or 1 for yes and for a value that is there.
+fn number_of(reply: &Result<Reply, Refusal>) -> u64 {
+    match reply {
+        Ok(Reply::Value(found)) => u64::from(found.is_some()),
+        Ok(Reply::Is(is)) => u64::from(*is),
+        Ok(Reply::Id(id)) => *id,
+        Ok(Reply::Pending(pending)) => pending.len() as u64,
+        Ok(_) => OTHER,
+        Err(Refusal::Stale) => STALE,
+        Err(_) => REFUSED,
+    }
+}
+
+fn replies(alloc: Global, calls: &[Call<'_>], on_plain: bool) -> Result<Vec<u64>, Refusal> {
+    let replies = if on_plain {
+        let mut group = plain(alloc)?;
+        group.call_all(alloc, calls)?
+    } else {
+        let mut group = group(alloc)?;
+        group.call_all(alloc, calls)?
+    };
+    let mut numbers = Vec::new(alloc);
+    for reply in &replies {
+        numbers.push(number_of(reply))?;
+    }
+    Ok(numbers)
+}
+
+#[derive(Drop)]
+struct Asked {
+    client: Text,
+    key: Text,
+    name: Text,
+    args: Json,
+}
+
+fn asked(alloc: Global) -> Result<Asked, Refusal> {
+    Ok(Asked {
+        client: Text::new(alloc, "a")?,
+        key: Text::new(alloc, "k01")?,
+        name: Text::new(alloc, "keep")?,
+        args: Json::read(alloc, "7".as_bytes())?,
+    })
+}
+
+fn first_mutation<'a>(asked: &'a Asked) -> Mutate<'a> {
+    Mutate {
+        client: &asked.client,
+        last: 0,
+        name: &asked.name,
+        args: &asked.args,
+        time: 1000,
+    }
+}
+
+/// A key that isn't there; a mutation, and the same once more; what is there then.
+fn calls_of<'a>(alloc: Global, asked: &'a Asked) -> Result<Vec<Call<'a>>, AllocError> {
+    let mut calls = Vec::with_capacity(alloc, 9)?;
+    let _ = calls.push(Call::Get(&asked.key));
+    let _ = calls.push(Call::Mutate(first_mutation(asked)));
+    let _ = calls.push(Call::Mutate(first_mutation(asked)));
+    let _ = calls.push(Call::Get(&asked.key));
+    let _ = calls.push(Call::Has(&asked.key));
+    let _ = calls.push(Call::Last(&asked.client));
+    let _ = calls.push(Call::Pending);
+    let _ = calls.push(Call::IsEmpty);
+    let _ = calls.push(Call::PushBody);
+    Ok(calls)
+}
+
+fn listed(alloc: Global, on_plain: bool) -> Result<Vec<u64>, Refusal> {
+    let asked = asked(alloc)?;
+    let calls = calls_of(alloc, &asked)?;
+    replies(alloc, &calls, on_plain)
+}
+
+#[test]
+fn both_groups_reply_alike(rt: HostRuntime) -> Result<(), Refusal> {
+    for on_plain in [false, true] {
+        let found = listed(rt.alloc(), on_plain)?;
+        assert_eq!(rt; found.as_slice(), &[0, 1, STALE, 1, 1, 1, 1, 0, OTHER][..]);
+    }
     Ok(())
 }

@@ -1,7 +1,7 @@
 //! What no contract says: that calls succeed on real chunks.
 use super::*;
 use group_history::{Json, Scan, Start, Text, WriteView};
-use map_tree::{Tree, VecChunks};
+use map_tree::{Chunks, Tree, VecChunks};
 use std::alloc::Global;
 use std::prelude::*;
 use std::test::Fail;
@@ -34,29 +34,55 @@ fn scanned<V: WriteView>(alloc: Global, view: &mut V) -> Result<String, Fail> {
     Ok(text)
 }
 
-#[test]
-fn a_map_is_written(rt: HostRuntime) -> Result<(), Fail> {
-    let nodes = VecChunks::new(rt.alloc());
-    let mut tx = WriteTx::new(rt.alloc(), nodes.shelf(), Tree::empty(rt.alloc()));
-    put_keys(rt.alloc(), &mut tx, 17)?;
+/// What a transaction answers that has the keys of the first 17 numbers.
+#[derive(Drop)]
+struct Seen {
+    there: bool,
+    behind: bool,
+    found: Option<Json>,
+    rows: String,
+}
+
+fn written<C: Chunks + Drop>(alloc: Global, chunks: C) -> Result<Seen, Fail> {
+    let mut tx = WriteTx::new(alloc, chunks, Tree::empty(alloc));
+    put_keys(alloc, &mut tx, 17)?;
     let there = tx.has("k09")?;
     let behind = tx.has("k18")?;
     let found = tx.get("k03")?;
-    assert!(rt; there);
-    assert!(rt; !behind);
-    assert!(rt; found.is_some_and(|value| value.text() == "3"));
-    let rows = scanned(rt.alloc(), &mut tx)?;
-    assert_eq!(rt; rows.as_str(), "k16=16 k17=17 ");
+    let rows = scanned(alloc, &mut tx)?;
+    Ok(Seen {
+        there,
+        behind,
+        found,
+        rows,
+    })
+}
+
+/// Whether a key is there after all are taken away.
+fn cleared<C: Chunks + Drop>(alloc: Global, chunks: C) -> Result<bool, Fail> {
+    let mut tx = WriteTx::new(alloc, chunks, Tree::empty(alloc));
+    put_keys(alloc, &mut tx, 3)?;
+    tx.clear();
+    let there = tx.has("k02")?;
+    let (_chunks, _tree) = tx.into_parts();
+    Ok(there)
+}
+
+#[test]
+fn a_map_is_written(rt: HostRuntime) -> Result<(), Fail> {
+    let nodes = VecChunks::new(rt.alloc());
+    let seen = written(rt.alloc(), nodes.shelf())?;
+    assert!(rt; seen.there);
+    assert!(rt; !seen.behind);
+    assert!(rt; seen.found.is_some_and(|value| value.text() == "3"));
+    assert_eq!(rt; seen.rows.as_str(), "k16=16 k17=17 ");
     Ok(())
 }
 
 #[test]
 fn a_map_is_cleared(rt: HostRuntime) -> Result<(), Fail> {
     let nodes = VecChunks::new(rt.alloc());
-    let mut tx = WriteTx::new(rt.alloc(), nodes.shelf(), Tree::empty(rt.alloc()));
-    put_keys(rt.alloc(), &mut tx, 3)?;
-    tx.clear();
-    let there = tx.has("k02")?;
+    let there = cleared(rt.alloc(), nodes.shelf())?;
     assert!(rt; !there);
     Ok(())
 }

@@ -3,12 +3,12 @@ use mathlib.Core.List.{IsPrefix}
 use Rattle.group_history.specs.Refs.{stamp_of}
 use Rattle.group_history.specs.State.{last_id}
 use Rattle.group_history.specs.Spelling.{Version, version_at}
-use Rattle.commits.proofs.Chained.{IsCount, ahead}
+use Rattle.commits.proofs.Chained.{IsSearch, ahead}
 use Rattle.commits.proofs.states.last_id_of.Given as goal
 
 abbrev pub invariant-loop-next : goal.invariant-loop-next
 invariant-loop-next g l = (v : Version) × (version_at (g.N.Chunks.contents l.initial.nodes) (stamp_of l.fn.head) ≡ Some v)
-    × IsCount (g.N.Chunks.contents l.nodes) l.client (last_id v.state l.client) l.next l.last
+    × IsSearch (g.N.Chunks.contents l.nodes) l.client (last_id v.state l.client) l.next
     × IsPrefix (g.N.Chunks.contents l.initial.nodes) (g.N.Chunks.contents l.nodes)
 
 abbrev pub decreases-loop-next : goal.decreases-loop-next
