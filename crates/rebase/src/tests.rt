@@ -334,7 +334,7 @@ struct Asked {
     args: Json,
 }
 
-fn asked(alloc: Global) -> Result<Asked, Refusal> {
+fn first_asked(alloc: Global) -> Result<Asked, Refusal> {
     Ok(Asked {
         client: Text::new(alloc, "a")?,
         key: Text::new(alloc, "k01")?,
@@ -369,7 +369,7 @@ fn calls_of<'a>(alloc: Global, asked: &'a Asked) -> Result<Vec<Call<'a>>, AllocE
 }
 
 fn listed(alloc: Global, on_plain: bool) -> Result<Vec<u64>, Refusal> {
-    let asked = asked(alloc)?;
+    let asked = first_asked(alloc)?;
     let calls = calls_of(alloc, &asked)?;
     replies(alloc, &calls, on_plain)
 }
