@@ -57,10 +57,7 @@ pub fn is_going_back(ids: &TextMap<u64>, changes: &[Confirmed]) -> bool
 }
 
 /// The confirmed ids after the changes, in order.
-pub fn overwrite(
-    ids: &TextMap<u64>,
-    changes: &[Confirmed],
-) -> Result<TextMap<u64>, AllocError>
+pub fn overwrite(ids: &TextMap<u64>, changes: &[Confirmed]) -> Result<TextMap<u64>, AllocError>
     ensures { IfOk result (λ m. m ≡ overwritten ids.now changes.now) }
 {
     let mut after = ids.copied()?;

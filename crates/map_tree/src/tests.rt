@@ -1,5 +1,6 @@
 //! Shapes of trees, and that calls succeed.
 mod counts;
+
 ghost use Rattle.std.specs.Prelude.{◌++◌, IfOk, IsSome, map};
 ghost use Rattle.group_history.specs.Naming.{content_of};
 ghost use Rattle.group_history.specs.Refs.{stamp_of};
@@ -76,12 +77,7 @@ fn filled(alloc: Global, chunks: &mut Shelf<'_>, count: u32) -> Result<Tree, Sto
 }
 
 // Removes the keys of the first so many numbers, in this order.
-fn thinned(
-    alloc: Global,
-    chunks: &mut Shelf<'_>,
-    mut tree: Tree,
-    count: u32,
-) -> Result<Tree, Stop>
+fn thinned(alloc: Global, chunks: &mut Shelf<'_>, mut tree: Tree, count: u32) -> Result<Tree, Stop>
     requires { IsSome (tree_map (map content_of chunks.old.nodes.now) tree) }
     ensures { IfOk result (λ tree. IsSome (tree_map (map content_of chunks.new.nodes.now) tree)) }
 {
@@ -128,7 +124,12 @@ fn left(alloc: Global, count: u32, keys: &str) -> Result<(u64, bool, bool), Stop
 #[test]
 fn removals(rt: HostRuntime) {
     for (count, depth, empty, keys) in [
-        (0, 2, false, "k01k02k03k04k05k06k07k08k09k10k11k12k13k14k15k16k17"),
+        (
+            0,
+            2,
+            false,
+            "k01k02k03k04k05k06k07k08k09k10k11k12k13k14k15k16k17",
+        ),
         (7, 2, false, "k08k09k10k11k12k13k14k15k16k17"),
         (8, 1, false, "k09k10k11k12k13k14k15k16k17"),
         (16, 1, false, "k17"),

@@ -37,14 +37,7 @@ pub fn mutated<M: Mutators>(
     ensures err { (s : State) → IsTip M.means (staged nodes.now draft.old.nodes) tip s → IfErr result (λ e. RefusesOrStamps e (by_meaning (M.means mutation.name mutation.args (view_of M.means s)) mutation.id)) }
     ensures first { draft.new.first ≡ draft.old.first }
 {
-    let Run { ran, tree } = run_on(
-        alloc,
-        nodes,
-        draft,
-        Tree::at(tip.root),
-        mutators,
-        &mutation,
-    )?;
+    let Run { ran, tree } = run_on(alloc, nodes, draft, Tree::at(tip.root), mutators, &mutation)?;
     match ran {
         Ran::Unknown => {
             return Err(Refusal::NoMutator);

@@ -199,7 +199,14 @@ impl<M: Mutators + Drop> Solo<M> {
         };
         let tip = tip_here(&self.nodes, self.head)?;
         let mut draft = self.nodes.draft(alloc);
-        let head = mutated(alloc, &self.nodes, &mut draft, tip, &self.mutators, mutation)?;
+        let head = mutated(
+            alloc,
+            &self.nodes,
+            &mut draft,
+            tip,
+            &self.mutators,
+            mutation,
+        )?;
         self.nodes.append(draft)?;
         self.head = head;
         Ok(id)

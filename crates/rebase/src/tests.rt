@@ -241,12 +241,7 @@ fn seventeen(alloc: Global) -> Result<String, Fail> {
 }
 
 /// How many nodes a pull over these leaves behind.
-fn dropped_by(
-    alloc: Global,
-    nodes: VecNodes,
-    head: Ref,
-    pull: &PullOk,
-) -> Result<usize, Fail>
+fn dropped_by(alloc: Global, nodes: VecNodes, head: Ref, pull: &PullOk) -> Result<usize, Fail>
     requires { IsSome (version_at (map content_of nodes) (stamp_of head)) }
 {
     let mut nodes = nodes;
@@ -295,7 +290,9 @@ fn plain(alloc: Global) -> Result<Plain<Trials>, Refusal> {
 }
 
 const OTHER: u64 = 90;
+
 const STALE: u64 = 91;
+
 const REFUSED: u64 = 92;
 
 /// A reply as a number: an id, how many are pending, or 1 for yes and for a value that is there.

@@ -71,12 +71,7 @@ impl Client {
         }
     }
 
-    fn end<G: Group>(
-        &self,
-        group: &mut G,
-        name: &Text,
-        body: &Text,
-    ) -> Result<Reply, Refusal> {
+    fn end<G: Group>(&self, group: &mut G, name: &Text, body: &Text) -> Result<Reply, Refusal> {
         match self.tickets.get(name) {
             Some(cookie) => {
                 let answer = group.make_call(Call::EndPull(cookie, body.as_str().as_bytes()))?;

@@ -8,7 +8,9 @@ use std::alloc::Global;
 use std::time::{Clock, Duration, Instant};
 
 const OPERATIONS: u64 = 100_000;
+
 const SCANS: u64 = 1_000;
+
 const ROWS: u64 = 100;
 
 #[derive(Clone, Copy)]

@@ -59,7 +59,11 @@ fn put_number<V: WriteView>(alloc: Global, map: &mut V, number: u64) -> Result<(
 
 fn put_numbers<V: WriteView>(alloc: Global, map: &mut V, keys: u64) -> Result<(), Refusal> {
     for turn in 0..keys {
-        put_number(alloc, map, turn.wrapping_mul(618_033).checked_rem(keys).unwrap_or(0))?;
+        put_number(
+            alloc,
+            map,
+            turn.wrapping_mul(618_033).checked_rem(keys).unwrap_or(0),
+        )?;
     }
     Ok(())
 }

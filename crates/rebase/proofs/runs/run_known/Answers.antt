@@ -12,5 +12,5 @@ returns-clause-ran g c =
       m,
       c.into_parts-tree.ensures.map,
       subst (λ (t : Tree). RunsAs (means x.name x.args (shown_map known t)) c.in_ok-ran.ran m) c.new-view.ensures.tree
-      (subst (λ (name : Bytes). RunsAs (means name x.args (shown_map known c.new-view.result.tree)) c.in_ok-ran.ran m) c.as_str.ensures c.in_ok-ran.ensures.ran),
+          (subst (λ (name : Bytes). RunsAs (means name x.args (shown_map known c.new-view.result.tree)) c.in_ok-ran.ran m) c.as_str.ensures c.in_ok-ran.ensures.ran),
     )
