@@ -22,6 +22,3 @@ pub use nodes::{Nodes, ShowsCommit};
 pub use reaching::dropped;
 pub use shelves::LentCommit;
 pub use states::{CommitState, cookie_of, last_id_of, read_root, state_of, walk};
-
-#[cfg(test)]
-mod tests;

@@ -21,6 +21,3 @@ pub use drafts::Draft;
 pub use shelf::{Lent, Shelf, VecChunks};
 pub use staged::Staged;
 pub use tree::Tree;
-
-#[cfg(test)]
-mod tests;

@@ -10,8 +10,6 @@ mod putting;
 mod reading;
 mod removing;
 mod replacing;
-#[cfg(test)]
-mod scan_tests;
 mod scanning;
 mod writing;
 

@@ -7,10 +7,11 @@ ghost use Rattle.group_history.specs.Spelling.{version_at};
 use super::*;
 use crate::looks::state_here;
 use crate::pulls::rebased;
-use commits::{VecNodes, dropped};
+use commits::{LentCommit, Nodes, VecNodes, dropped};
 use group_history::{
     Ended, Json, Mutators, PullOk, Ran, Ref, Refusal, Response, Scan, Start, Stop, Text, WriteView,
 };
+use map_tree::{Chunks, Lent, Shelf};
 use pull_patch::read_response;
 use push_body::Identity;
 use std::alloc::{AllocError, Global};
@@ -225,14 +226,15 @@ fn what_is_known(rt: HostRuntime) -> Result<(), Fail> {
     Ok(())
 }
 
-/// The body of a pull with the keys of the first 17 numbers, each with its number.
-fn seventeen(alloc: Global) -> Result<String, Fail> {
+/// The body of a pull with the keys of the first so many numbers, each with its number.
+fn numbered(alloc: Global, count: u64) -> Result<String, Fail> {
     let mut body = String::new(alloc);
     body.push_str(r#"{"cookie":1,"lastMutationIDChanges":{},"patch":["#)?;
-    for number in 1..18_u64 {
-        if number > 1 {
+    for before in 0..count {
+        if before > 0 {
             body.push(',')?;
         }
+        let number = before + 1;
         let op = format!(in alloc; r#"{{"op":"put","key":"k{number:02}","value":{number}}}"#)?;
         body.push_str(op.as_str())?;
     }
@@ -240,8 +242,50 @@ fn seventeen(alloc: Global) -> Result<String, Fail> {
     Ok(body)
 }
 
-/// How many nodes a pull over these leaves behind.
-fn dropped_by(alloc: Global, nodes: VecNodes, head: Ref, pull: &PullOk) -> Result<usize, Fail>
+/// Counts how often a node is shown.
+#[derive(Drop)]
+struct Counted<'a> {
+    shelf: Shelf<'a>,
+    shown: u64,
+}
+
+impl<'a> Chunks for Counted<'a> {
+    type Held = Lent<'a>;
+
+    ghost contents = { λ counted. map content_of counted.shelf.nodes.now };
+
+    ghost stops = { λ stop. ⊥ };
+
+    fn show(&mut self, at: Ref) -> Result<Lent<'a>, Stop> {
+        self.shown = self.shown.saturating_add(1);
+        self.shelf.show(at)
+    }
+
+    fn leave(&mut self, held: Lent<'a>) {
+        self.shelf.leave(held);
+    }
+}
+
+impl<'a> Nodes for Counted<'a> {
+    type HeldCommit = LentCommit<'a>;
+
+    fn show_commit(&mut self, at: Ref) -> Result<LentCommit<'a>, Stop> {
+        self.shown = self.shown.saturating_add(1);
+        self.shelf.show_commit(at)
+    }
+
+    fn leave_commit(&mut self, held: LentCommit<'a>) {
+        self.shelf.leave_commit(held);
+    }
+}
+
+/// How many nodes a pull over these leaves behind, and how many are shown until that is known.
+fn dropped_by(
+    alloc: Global,
+    nodes: VecNodes,
+    head: Ref,
+    pull: &PullOk,
+) -> Result<(usize, u64), Fail>
     requires { IsSome (version_at (map content_of nodes) (stamp_of head)) }
 {
     let mut nodes = nodes;
@@ -249,15 +293,18 @@ fn dropped_by(alloc: Global, nodes: VecNodes, head: Ref, pull: &PullOk) -> Resul
     let mut draft = nodes.draft(alloc);
     let new = rebased(alloc, &nodes, &mut draft, &Trials, state, pull)?;
     nodes.append(draft)?;
-    let mut shelf = nodes.shelf();
-    let left = dropped(alloc, &mut shelf, head, new)?;
-    Ok(left.len())
+    let mut counted = Counted {
+        shelf: nodes.shelf(),
+        shown: 0,
+    };
+    let left = dropped(alloc, &mut counted, head, new)?;
+    Ok((left.len(), counted.shown))
 }
 
-/// The group of the row: 17 keys were pulled, and one of them is set.
-fn one_set(alloc: Global) -> Result<Solo<Trials>, Fail> {
+/// A group that has pulled so many keys, and has one of them set.
+fn one_set(alloc: Global, count: u64) -> Result<Solo<Trials>, Fail> {
     let mut solo = group(alloc)?;
-    let body = seventeen(alloc)?;
+    let body = numbered(alloc, count)?;
     pulled(&mut solo, body.as_str())?;
     made(alloc, &mut solo, 0, "keep", "0")?;
     Ok(solo)
@@ -271,12 +318,27 @@ fn nothing_new(alloc: Global) -> Result<PullOk, Fail> {
     Ok(pull)
 }
 
+/// What a pull that brings nothing new leaves behind in such a group, and how many nodes are shown for it.
+fn left_behind(alloc: Global, count: u64) -> Result<(usize, u64), Fail> {
+    let pull = nothing_new(alloc)?;
+    let Solo { nodes, head, .. } = one_set(alloc, count)?;
+    dropped_by(alloc, nodes, head, &pull)
+}
+
 #[test]
 fn a_pull_shares_the_pulled_map(rt: HostRuntime) -> Result<(), Fail> {
-    let pull = nothing_new(rt.alloc())?;
-    let Solo { nodes, head, .. } = one_set(rt.alloc())?;
-    let count = dropped_by(rt.alloc(), nodes, head, &pull)?;
-    assert_eq!(rt; count, 4);
+    let (left, _) = left_behind(rt.alloc(), 17)?;
+    assert_eq!(rt; left, 4);
+    Ok(())
+}
+
+// So many keys fill 625 leaves at least. The set copied one of them, and the replay another; to show each
+// that is shared would show more than 600.
+#[test]
+fn what_is_shared_is_not_walked(rt: HostRuntime) -> Result<(), Fail> {
+    let (left, shown) = left_behind(rt.alloc(), 10_000)?;
+    assert!(rt; left < 10, "{left} left");
+    assert!(rt; shown < 600, "{shown} shown");
     Ok(())
 }
 

@@ -12,6 +12,3 @@ mod writing;
 pub use fixed::{Fixed, Known};
 pub use reading::ReadTx;
 pub use writing::WriteTx;
-
-#[cfg(test)]
-mod tests;

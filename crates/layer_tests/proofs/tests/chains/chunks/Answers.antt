@@ -1,0 +1,30 @@
+use Rattle.std.proofs.Common.{◌≡◌, ℕ, List, [], ◌∷◌, ◌++◌, map, ap, ◌∙◌}
+use Rattle.group_history.specs.declared.nodes.Chunk.TheVariants.{Leaf, Inner}
+use Rattle.group_history.specs.declared.nodes.Node.{Node}
+use Rattle.group_history.specs.declared.nodes.Node.TheVariants as node
+use Rattle.group_history.specs.declared.refs.Ref.{Ref}
+use Rattle.group_history.specs.Map.{Bytes}
+use Rattle.group_history.specs.Refs.{stamp_of}
+use Rattle.group_history.specs.Naming.{content_of}
+use Rattle.layer_tests.proofs.tests.chains.chunks.Goals as goal
+
+-- one node, then another, then one over both
+three : (none one two all : List (Node Ref)) (x y z : Node Ref) (v w : Bytes) (l r : Ref) → none ≡ [] → one ≡ none ++ x ∷ [] → two ≡ one ++ y ∷ [] → all ≡ two ++ z ∷ []
+    → x ≡ node.Chunk (Leaf ((97 ∷ [], v) ∷ [])) → y ≡ node.Chunk (Leaf ((98 ∷ [], w) ∷ [])) → z ≡ node.Chunk (Inner ((97 ∷ [], l) ∷ (98 ∷ [], r) ∷ [])) → stamp_of l ≡ 0 → stamp_of r ≡ 1
+    → map content_of all ≡ node.Chunk (Leaf ((97 ∷ [], v) ∷ [])) ∷ node.Chunk (Leaf ((98 ∷ [], w) ∷ [])) ∷ node.Chunk (Inner ((97 ∷ [], 0) ∷ (98 ∷ [], 1) ∷ [])) ∷ []
+three none one two all x y z v w l r h h1 h2 h3 a b i s t =
+    let p1 : one ≡ x ∷ [] = h1 ∙ ap (λ (ns : List (Node Ref)). ns ++ x ∷ []) h in
+    let p2 : two ≡ x ∷ y ∷ [] = h2 ∙ ap (λ (ns : List (Node Ref)). ns ++ y ∷ []) p1 in
+    let p3 : all ≡ x ∷ y ∷ z ∷ [] = h3 ∙ ap (λ (ns : List (Node Ref)). ns ++ z ∷ []) p2 in
+    let is : x ∷ y ∷ z ∷ [] ≡ node.Chunk (Leaf ((97 ∷ [], v) ∷ [])) ∷ node.Chunk (Leaf ((98 ∷ [], w) ∷ [])) ∷ node.Chunk (Inner ((97 ∷ [], l) ∷ (98 ∷ [], r) ∷ [])) ∷ [] = cc (a, b, i) in
+    let shape : ℕ → ℕ → List (Node ℕ) = λ p q. node.Chunk (Leaf ((97 ∷ [], v) ∷ [])) ∷ node.Chunk (Leaf ((98 ∷ [], w) ∷ [])) ∷ node.Chunk (Inner ((97 ∷ [], p) ∷ (98 ∷ [], q) ∷ [])) ∷ [] in
+    ap (map content_of) (p3 ∙ is) ∙ (ap (λ (p : ℕ). shape p (stamp_of r)) s ∙ ap (λ (q : ℕ). shape 0 q) t)
+
+pub returns : goal.returns
+returns c =
+    let a = c.in_ok-leaf.ensures in let b = c.in_ok-leaf-2.ensures in (
+      a.0,
+      b.0,
+      three c.new.result c.in_ok-nodes.nodes c.in_ok-nodes-2.nodes c.in_ok-nodes-3.nodes c.in_ok-leaf.field-0 c.in_ok-leaf-2.field-0 c.in_ok-inner.field-0 a.0 b.0 c.at.result c.at-2.result
+          c.new.ensures c.in_ok-nodes.ensures c.in_ok-nodes-2.ensures c.in_ok-nodes-3.ensures a.1 b.1 c.in_ok-inner.ensures c.at.ensures c.at-2.ensures,
+    )

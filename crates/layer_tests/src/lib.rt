@@ -1,0 +1,7 @@
+//! Tests of the map's tree, of transactions and of commits, by what these crates make public.
+//!
+//! They stand in a crate of their own, since a crate with tests is proved once more for them.
+#![tactic(auto)]
+
+#[cfg(test)]
+mod tests;

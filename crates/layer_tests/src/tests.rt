@@ -1,0 +1,7 @@
+//! What no contract says: that calls succeed, how chunks are shaped, and values from outside.
+mod chains;
+mod maps;
+mod reads;
+mod scans;
+mod trees;
+mod writes;

@@ -1,0 +1,294 @@
+//! Commits over nodes that are written down one by one.
+ghost use Rattle.std.specs.Prelude.{◌≡◌, ◌<◌, ◌++◌, [], ◌∷◌, map, length, Some, IfOk, IsSome};
+ghost use Rattle.std.specs.Arc.{arc_value};
+ghost use Rattle.std.specs.FinMap as finite;
+ghost use Rattle.group_history.specs.Ids.{IdsFollow};
+ghost use Rattle.group_history.specs.Map.{Bytes};
+ghost use Rattle.group_history.specs.Refs.{stamp_of};
+ghost use Rattle.group_history.specs.Naming.{content_of};
+ghost use Rattle.group_history.specs.Rows.{AreKeys};
+ghost use Rattle.group_history.specs.Spelling.{Version, version_at};
+ghost use Rattle.group_history.specs.declared.nodes.Chunk.TheVariants as chunk;
+ghost use Rattle.group_history.specs.declared.nodes.Commit.TheVariants as commit;
+ghost use Rattle.group_history.specs.declared.nodes.Node.TheVariants as node;
+ghost use Rattle.group_history.specs.declared.nodes.Snapshot.{Snapshot as Snapped};
+ghost use Rattle.group_history.specs.declared.mutations.Mutation.{Mutation as Mutated};
+ghost use Rattle.group_history.specs.declared.refs.Ref.{Ref as Reference};
+
+use commits::{VecNodes, cookie_of, dropped, last_id_of, read_root, state_of, walk};
+use group_history::{
+    Chunk, Commit, Cookie, Inner, Json, Keys, Leaf, Local, Mutation, Node, Ref, Snapshot, Text,
+    TextMap,
+};
+use std::alloc::Global;
+use std::prelude::*;
+use std::sync::Arc;
+use std::test::Fail;
+
+/// The reference of a stamp; it lies in a slot of another number.
+pub(super) fn at(stamp: u64) -> Ref
+    requires { stamp < 64 }
+    ensures { stamp_of result ≡ stamp }
+{
+    Ref::new(stamp, 100 + stamp as u32)
+}
+
+fn with(alloc: Global, mut nodes: VecNodes, node: Node<Ref>) -> Result<VecNodes, Fail>
+    ensures { IfOk result (λ after. after ≡ nodes ++ node ∷ []) }
+{
+    let mut draft = nodes.draft(alloc);
+    draft.push(node)?;
+    nodes.append(draft)?;
+    Ok(nodes)
+}
+
+fn one_key(alloc: Global, key: &str) -> Result<Arc<Keys>, Fail>
+    ensures { IfOk result (λ keys. arc_value keys ≡ key.now ∷ []) }
+{
+    let mut texts = Vec::new(alloc);
+    texts.push(Text::new(alloc, key)?)?;
+    Ok(Arc::new(alloc, Keys::new(texts))?)
+}
+
+fn leaf(alloc: Global, key: &str) -> Result<Node<Ref>, Fail>
+    ensures { IfOk result (λ n. (v : Bytes) × (n ≡ node.Chunk (chunk.Leaf ((key.now, v) ∷ [])))) }
+{
+    let keys = one_key(alloc, key)?;
+    let mut values = Vec::new(alloc);
+    values.push(Json::read(alloc, "1".as_bytes())?)?;
+    Ok(Node::Chunk(Chunk::Leaf(Leaf::new(keys, values))))
+}
+
+/// An inner chunk of two children, under the keys `a` and `b`.
+fn inner(alloc: Global, left: Ref, right: Ref) -> Result<Node<Ref>, Fail>
+    ensures { IfOk result (λ n. n ≡ node.Chunk (chunk.Inner ((97 ∷ [], left) ∷ (98 ∷ [], right) ∷ []))) }
+{
+    let mut texts = Vec::new(alloc);
+    texts.push(Text::new(alloc, "a")?)?;
+    texts.push(Text::new(alloc, "b")?)?;
+    let children = [left, right].to_vec(alloc)?;
+    let firsts = Arc::new(alloc, Keys::new(texts))?;
+    Ok(Node::Chunk(Chunk::Inner(Inner::new(firsts, children))))
+}
+
+/// A snapshot with the cookie null, in which `a` is confirmed up to an id.
+fn snapshot(alloc: Global, id: u64, root: Ref) -> Result<Snapshot<Ref>, Fail>
+    ensures root { IfOk result (λ s. s.root ≡ root) }
+    ensures confirmed { IfOk result (λ s. s.confirmed ≡ finite.insert finite.empty (97 ∷ []) id) }
+{
+    let cookie = Cookie::null(alloc)?;
+    let mut confirmed = TextMap::new(alloc);
+    confirmed.insert(Text::new(alloc, "a")?, id)?;
+    Ok(Snapshot {
+        cookie,
+        confirmed,
+        root,
+    })
+}
+
+fn with_snapshot(alloc: Global, nodes: VecNodes, id: u64, root: Ref) -> Result<VecNodes, Fail>
+    ensures { IfOk result (λ after. (s : Snapped Reference) × (s.root ≡ root) × (s.confirmed ≡ finite.insert finite.empty (97 ∷ []) id) × (after ≡ nodes ++ node.Commit (commit.Snapshot s) ∷ [])) }
+{
+    let snapshot = snapshot(alloc, id, root)?;
+    let after = with(alloc, nodes, Node::Commit(Commit::Snapshot(snapshot)))?;
+    Ok(after)
+}
+
+fn mutation(alloc: Global, client: &str, id: u64) -> Result<Mutation, Fail>
+    ensures { IfOk result (λ x. (x.client ≡ client.now) × (x.id ≡ id)) }
+{
+    Ok(Mutation {
+        client: Text::new(alloc, client)?,
+        id,
+        name: Text::new(alloc, "put")?,
+        args: Json::read(alloc, "[]".as_bytes())?,
+        timestamp: 0,
+    })
+}
+
+/// A local commit with a mutation of this client and id.
+fn with_local(
+    alloc: Global,
+    nodes: VecNodes,
+    made: (&str, u64),
+    basis: Ref,
+    root: Ref,
+) -> Result<VecNodes, Fail>
+    ensures { IfOk result (λ after. (x : Mutated) × (x.client ≡ made.entry.0.now) × (x.id ≡ made.entry.1) × (after ≡ nodes ++ node.Commit (commit.Local (record { basis = basis; mutation = x; root = root })) ∷ [])) }
+{
+    let mutation = mutation(alloc, made.0, made.1)?;
+    let local = Local {
+        basis,
+        mutation,
+        root,
+    };
+    let after = with(alloc, nodes, Node::Commit(Commit::Local(local)))?;
+    Ok(after)
+}
+
+/// A chunk with the key `a`, one with the key `b`, and one over both: the stamps 0, 1 and 2.
+fn chunks(alloc: Global) -> Result<VecNodes, Fail>
+    ensures { IfOk result (λ ns. (v w : Bytes) × (map content_of ns ≡ node.Chunk (chunk.Leaf ((97 ∷ [], v) ∷ [])) ∷ node.Chunk (chunk.Leaf ((98 ∷ [], w) ∷ [])) ∷ node.Chunk (chunk.Inner ((97 ∷ [], 0) ∷ (98 ∷ [], 1) ∷ [])) ∷ [])) }
+{
+    let nodes = with(alloc, VecNodes::new(alloc), leaf(alloc, "a")?)?;
+    let nodes = with(alloc, nodes, leaf(alloc, "b")?)?;
+    let nodes = with(alloc, nodes, inner(alloc, at(0), at(1))?)?;
+    Ok(nodes)
+}
+
+/// Three chunks; at stamp 3 a snapshot of the map of both keys, on it three local commits at 4, 5 and 6
+/// with the maps of `a`, of both, and of `b`; at 7 a snapshot that shares the chunk of `a`.
+pub(super) fn example(alloc: Global) -> Result<VecNodes, Fail>
+    ensures snapshot { IfOk result (λ ns. IsSome (version_at (map content_of ns) 3)) }
+    ensures first { IfOk result (λ ns. IsSome (version_at (map content_of ns) 4)) }
+    ensures second { IfOk result (λ ns. IsSome (version_at (map content_of ns) 5)) }
+    ensures third { IfOk result (λ ns. IsSome (version_at (map content_of ns) 6)) }
+    ensures next { IfOk result (λ ns. IsSome (version_at (map content_of ns) 7)) }
+    ensures confirmed_ids { IfOk result (λ ns. (v : Version) → version_at (map content_of ns) 3 ≡ Some v → IdsFollow v.state.confirmed v.state.pending) }
+    ensures pending_ids { IfOk result (λ ns. (v : Version) → version_at (map content_of ns) 6 ≡ Some v → IdsFollow v.state.confirmed v.state.pending) }
+{
+    let nodes = chunks(alloc)?;
+    let nodes = with_snapshot(alloc, nodes, 4, at(2))?;
+    let nodes = with_local(alloc, nodes, ("a", 5), at(3), at(0))?;
+    let nodes = with_local(alloc, nodes, ("b", 1), at(4), at(2))?;
+    let nodes = with_local(alloc, nodes, ("a", 6), at(5), at(1))?;
+    let nodes = with_snapshot(alloc, nodes, 6, at(0))?;
+    Ok(nodes)
+}
+
+fn walked_ids(alloc: Global, nodes: &VecNodes, head: Ref) -> Result<Vec<u64>, Fail>
+    requires { IsSome (version_at (map content_of nodes.now) (stamp_of head)) }
+{
+    let mut shelf = nodes.shelf();
+    let mut ids = Vec::new(alloc);
+    for mutation in &walk(alloc, &mut shelf, head)? {
+        ids.push(mutation.id)?;
+    }
+    Ok(ids)
+}
+
+fn dropped_words(alloc: Global, nodes: &VecNodes, old: Ref, new: Ref) -> Result<Vec<u64>, Fail>
+    requires old { IsSome (version_at (map content_of nodes.now) (stamp_of old)) }
+    requires new { IsSome (version_at (map content_of nodes.now) (stamp_of new)) }
+{
+    let mut shelf = nodes.shelf();
+    let mut words = Vec::new(alloc);
+    for at in &dropped(alloc, &mut shelf, old, new)? {
+        words.push(at.bits())?;
+    }
+    Ok(words)
+}
+
+fn words_of(alloc: Global, stamps: &[u64]) -> Result<Vec<u64>, Fail> {
+    let mut words = Vec::new(alloc);
+    for stamp in stamps {
+        words.push((*stamp % 64) * (1 << 20) + 100 + *stamp % 64)?;
+    }
+    Ok(words)
+}
+
+#[test]
+fn the_oldest_stands_first(rt: HostRuntime) -> Result<(), Fail> {
+    let nodes = example(rt.alloc())?;
+    let ids = walked_ids(rt.alloc(), &nodes, at(6))?;
+    assert_eq!(rt; ids.as_slice(), [5, 1, 6].as_slice());
+    Ok(())
+}
+
+#[test]
+fn a_snapshot_has_nothing_pending(rt: HostRuntime) -> Result<(), Fail> {
+    let nodes = example(rt.alloc())?;
+    let ids = walked_ids(rt.alloc(), &nodes, at(7))?;
+    assert_eq!(rt; ids.len(), 0);
+    Ok(())
+}
+
+#[test]
+fn a_state_is_told(rt: HostRuntime) -> Result<(), Fail> {
+    let nodes = example(rt.alloc())?;
+    let mut shelf = nodes.shelf();
+    let state = state_of(rt.alloc(), &mut shelf, at(5))?;
+    let client = Text::new(rt.alloc(), "a")?;
+    assert_eq!(rt; state.cookie.text(), "null");
+    assert_eq!(rt; state.pulled.bits(), at(2).bits());
+    assert_eq!(rt; state.pending.len(), 2);
+    assert_eq!(rt; state.confirmed.get(&client).copied(), Some(4));
+    Ok(())
+}
+
+/// The last id of a client at a commit.
+fn last_id(alloc: Global, nodes: &VecNodes, head: Ref, client: &str) -> Result<u64, Fail>
+    requires head { IsSome (version_at (map content_of nodes.now) (stamp_of head)) }
+    requires ids { (v : Version) → version_at (map content_of nodes.now) (stamp_of head) ≡ Some v → IdsFollow v.state.confirmed v.state.pending }
+{
+    let mut shelf = nodes.shelf();
+    let client = Text::new(alloc, client)?;
+    let id = last_id_of(&mut shelf, head, &client)?;
+    Ok(id)
+}
+
+#[test]
+fn last_ids(rt: HostRuntime) -> Result<(), Fail> {
+    let nodes = example(rt.alloc())?;
+    for (client, last) in [("a", 6), ("b", 1), ("c", 0)] {
+        assert_eq!(rt;
+            last_id(rt.alloc(), &nodes, at(6), client)?,
+            last,
+            "of {client}"
+        );
+    }
+    assert_eq!(rt; last_id(rt.alloc(), &nodes, at(3), "a")?, 4);
+    Ok(())
+}
+
+fn root_read(nodes: &VecNodes, head: Ref) -> Result<Ref, Fail>
+    requires { IsSome (version_at (map content_of nodes.now) (stamp_of head)) }
+{
+    let mut shelf = nodes.shelf();
+    let root = read_root(&mut shelf, head)?;
+    Ok(root)
+}
+
+fn cookie_told(nodes: &VecNodes, head: Ref) -> Result<Cookie, Fail>
+    requires { IsSome (version_at (map content_of nodes.now) (stamp_of head)) }
+{
+    let mut shelf = nodes.shelf();
+    let cookie = cookie_of(&mut shelf, head)?;
+    Ok(cookie)
+}
+
+#[test]
+fn queries_read_the_newest_map(rt: HostRuntime) -> Result<(), Fail> {
+    let nodes = example(rt.alloc())?;
+    assert_eq!(rt; root_read(&nodes, at(6))?.bits(), at(1).bits());
+    assert_eq!(rt; root_read(&nodes, at(7))?.bits(), at(0).bits());
+    Ok(())
+}
+
+#[test]
+fn a_cookie_is_told(rt: HostRuntime) -> Result<(), Fail> {
+    let nodes = example(rt.alloc())?;
+    let cookie = cookie_told(&nodes, at(6))?;
+    assert_eq!(rt; cookie.text(), "null");
+    Ok(())
+}
+
+#[test]
+fn a_shared_chunk_stays(rt: HostRuntime) -> Result<(), Fail> {
+    let nodes = example(rt.alloc())?;
+    let words = dropped_words(rt.alloc(), &nodes, at(4), at(7))?;
+    let want = words_of(rt.alloc(), &[4, 3, 2, 1])?;
+    assert_eq!(rt; words.as_slice(), want.as_slice());
+    Ok(())
+}
+
+#[test]
+fn a_basis_stays(rt: HostRuntime) -> Result<(), Fail> {
+    let nodes = example(rt.alloc())?;
+    let words = dropped_words(rt.alloc(), &nodes, at(6), at(5))?;
+    let none = dropped_words(rt.alloc(), &nodes, at(5), at(6))?;
+    let want = words_of(rt.alloc(), &[6])?;
+    assert_eq!(rt; words.as_slice(), want.as_slice());
+    assert_eq!(rt; none.len(), 0);
+    Ok(())
+}

@@ -1,0 +1,95 @@
+//! Scans of a map that is a draft, and of the same map once it is placed.
+ghost use Rattle.std.specs.Prelude.{map, IsSome};
+ghost use Rattle.group_history.specs.Naming.{content_of};
+ghost use Rattle.map_tree.specs.Trees.{tree_map};
+
+use super::maps::{grown, placed};
+use group_history::{Json, Refusal, Scan, Start, Text};
+use map_tree::{Staged, Tree, VecChunks};
+use std::alloc::Global;
+use std::prelude::*;
+
+/// The numbers of the keys, one after another.
+fn told(alloc: Global, rows: &[(Text, Json)]) -> Result<String, Refusal> {
+    let mut told = String::new(alloc);
+    for (key, _) in rows {
+        told.push_str(key.as_str().trim_start_matches('k'))?;
+        told.push(' ')?;
+    }
+    Ok(told)
+}
+
+/// The scan in the map of k01 to k18.
+fn of_draft(alloc: Global, scan: &Scan) -> Result<String, Refusal> {
+    let nodes = VecChunks::new(alloc);
+    let mut chunks = nodes.shelf();
+    let tree = grown(alloc, &mut chunks, 2, 18)?;
+    told(alloc, &tree.scan(alloc, &mut chunks, scan)?)
+}
+
+/// The scan in the same map, frozen.
+fn of_placed(alloc: Global, scan: &Scan) -> Result<String, Refusal> {
+    let nodes = VecChunks::new(alloc);
+    let placed = placed(alloc, &nodes, 2, 18)?;
+    let mut chunks = Staged::new(placed.nodes, &placed.draft);
+    let rows = Tree::at(placed.root).scan(alloc, &mut chunks, scan)?;
+    told(alloc, &rows)
+}
+
+/// From which key a scan of a case begins.
+#[derive(Clone, Copy)]
+enum From {
+    Any,
+    At(&'static str),
+    After(&'static str),
+}
+
+fn start(alloc: Global, from: From) -> Result<Start, Refusal> {
+    match from {
+        From::Any => Ok(Start::Any),
+        From::At(key) => Ok(Start::At(Text::new(alloc, key)?)),
+        From::After(key) => Ok(Start::After(Text::new(alloc, key)?)),
+    }
+}
+
+/// The same answer for the draft and for the placed map, or "differ".
+fn answer(alloc: Global, prefix: &str, from: From, limit: Option<u64>) -> Result<String, Refusal> {
+    let scan = Scan {
+        prefix: Text::new(alloc, prefix)?,
+        start: start(alloc, from)?,
+        limit,
+    };
+    let draft = of_draft(alloc, &scan)?;
+    let placed = of_placed(alloc, &scan)?;
+    if draft == placed {
+        Ok(draft)
+    } else {
+        Ok(String::from_str(alloc, "differ")?)
+    }
+}
+
+#[test]
+fn scans(rt: HostRuntime) -> Result<(), Refusal> {
+    for (prefix, from, limit, want) in [
+        ("k0", From::Any, None, "01 02 03 04 05 06 07 08 09 "),
+        ("", From::Any, Some(0), ""),
+        ("", From::Any, Some(1), "01 "),
+        ("k1", From::Any, Some(99), "10 11 12 13 14 15 16 17 18 "),
+        ("k1", From::Any, Some(1), "10 "),
+        ("k2", From::Any, None, ""),
+        ("", From::At("k07"), Some(3), "07 08 09 "),
+        ("", From::At("k075"), Some(2), "08 09 "),
+        ("", From::After("k08"), Some(1), "09 "),
+        ("k0", From::After("k07"), None, "08 09 "),
+        ("k1", From::At("a"), Some(2), "10 11 "),
+        ("k0", From::At("k10"), None, ""),
+        ("", From::After("k18"), None, ""),
+    ] {
+        assert_eq!(rt;
+            answer(rt.alloc(), prefix, from, limit)?.as_str(),
+            want,
+            "{prefix}"
+        );
+    }
+    Ok(())
+}

@@ -1,0 +1,230 @@
+//! How trees are shaped, and how many chunks a change makes new.
+ghost use Rattle.std.specs.Prelude.{map, IfOk, IsSome};
+ghost use Rattle.group_history.specs.Naming.{content_of};
+ghost use Rattle.map_tree.specs.Trees.{tree_map};
+
+use super::maps::{grown, json, key_of, placed};
+use group_history::{Chunk, Node, Ref, Refusal, Scan, Start, Text};
+use map_tree::{Draft, Shelf, Staged, Tree, VecChunks};
+use std::alloc::Global;
+use std::prelude::*;
+
+/// How many leaves there are, and how many inner chunks.
+fn kinds(nodes: &[Node<Ref>]) -> (usize, usize) {
+    let mut leaves = 0usize;
+    let mut inners = 0usize;
+    for node in nodes {
+        match node {
+            Node::Chunk(Chunk::Leaf(_)) => leaves = leaves.saturating_add(1),
+            Node::Chunk(Chunk::Inner(_)) => inners = inners.saturating_add(1),
+            Node::Commit(_) => {}
+        }
+    }
+    (leaves, inners)
+}
+
+/// How many keys the leaf at a place has.
+fn keys_at(nodes: &[Node<Ref>], place: usize) -> usize {
+    match nodes.get(place) {
+        Some(Node::Chunk(Chunk::Leaf(leaf))) => leaf.keys().as_slice().len(),
+        _ => 0,
+    }
+}
+
+/// How deep the map of the first so many keys is, and how many new chunks, leaves and inner chunks it has.
+fn shape(alloc: Global, digits: usize, count: u64) -> Result<(u64, u64, usize, usize), Refusal> {
+    let nodes = VecChunks::new(alloc);
+    let mut chunks = nodes.shelf();
+    let tree = grown(alloc, &mut chunks, digits, count)?;
+    let depth = tree.depth(&mut chunks)?;
+    let fresh = tree.new_chunks();
+    let mut draft = nodes.draft(alloc);
+    let _ = tree.freeze(alloc, &mut draft)?;
+    let (leaves, inners) = kinds(draft.nodes());
+    Ok((depth, fresh, leaves, inners))
+}
+
+/// How many keys the first two leaves of the map of k01 to k17 have.
+fn first_leaves(alloc: Global) -> Result<(usize, usize), Refusal> {
+    let nodes = VecChunks::new(alloc);
+    let tree = grown(alloc, &mut nodes.shelf(), 2, 17)?;
+    let mut draft = nodes.draft(alloc);
+    let _ = tree.freeze(alloc, &mut draft)?;
+    Ok((keys_at(draft.nodes(), 0), keys_at(draft.nodes(), 1)))
+}
+
+#[test]
+fn chunks_of_maps(rt: HostRuntime) {
+    for (digits, count, want) in [
+        (2, 0, (1, 1, 1, 0)),
+        (2, 1, (1, 1, 1, 0)),
+        (2, 16, (1, 1, 1, 0)),
+        (2, 17, (2, 3, 2, 1)),
+        (3, 136, (2, 17, 16, 1)),
+        (3, 137, (3, 20, 17, 3)),
+    ] {
+        let got = shape(rt.alloc(), digits, count);
+        assert_eq!(rt; got, Ok(want), "{count} keys");
+    }
+    assert_eq!(rt; first_leaves(rt.alloc()), Ok((8, 9)));
+}
+
+/// Whether the map of k01 to k17 has the key.
+fn has(alloc: Global, key: &str) -> Result<bool, Refusal> {
+    let nodes = VecChunks::new(alloc);
+    let mut chunks = nodes.shelf();
+    let tree = grown(alloc, &mut chunks, 2, 17)?;
+    Ok(tree.has(&mut chunks, key)?)
+}
+
+/// The keys behind one that begin with a prefix, one after another, in the map of k01 to k17.
+fn scanned(alloc: Global, prefix: &str, after: &str) -> Result<String, Refusal> {
+    let nodes = VecChunks::new(alloc);
+    let mut chunks = nodes.shelf();
+    let tree = grown(alloc, &mut chunks, 2, 17)?;
+    let scan = Scan {
+        prefix: Text::new(alloc, prefix)?,
+        start: Start::After(Text::new(alloc, after)?),
+        limit: None,
+    };
+    let mut keys = String::new(alloc);
+    for (key, _) in &tree.scan(alloc, &mut chunks, &scan)? {
+        keys.push_str(key.as_str())?;
+    }
+    Ok(keys)
+}
+
+#[test]
+fn keys_of_both_leaves(rt: HostRuntime) -> Result<(), Refusal> {
+    assert_eq!(rt; has(rt.alloc(), "k09"), Ok(true));
+    assert_eq!(rt; has(rt.alloc(), "k18"), Ok(false));
+    let keys = scanned(rt.alloc(), "k1", "k15")?;
+    assert_eq!(rt; keys.as_str(), "k16k17");
+    Ok(())
+}
+
+/// Removes the keys of the first so many numbers, in this order.
+fn thinned(
+    alloc: Global,
+    chunks: &mut Shelf<'_>,
+    mut tree: Tree,
+    count: u32,
+) -> Result<Tree, Refusal>
+    requires { IsSome (tree_map (map content_of chunks.old.nodes.now) tree) }
+    ensures { IfOk result (λ tree. IsSome (tree_map (map content_of chunks.new.nodes.now) tree)) }
+{
+    for number in 1..u64::from(count) + 1 {
+        let key = key_of(alloc, 2, number)?;
+        tree.del(alloc, chunks, key.as_str())?;
+    }
+    Ok(tree)
+}
+
+/// How deep a map is, whether it is empty, and whether these are its keys, one after another.
+fn seen(
+    alloc: Global,
+    chunks: &mut Shelf<'_>,
+    tree: &Tree,
+    keys: &str,
+) -> Result<(u64, bool, bool), Refusal>
+    requires { IsSome (tree_map (map content_of chunks.old.nodes.now) tree.now) }
+{
+    let all = Scan {
+        prefix: Text::new(alloc, "")?,
+        start: Start::Any,
+        limit: None,
+    };
+    let depth = tree.depth(chunks)?;
+    let empty = tree.is_empty(chunks)?;
+    let rows = tree.scan(alloc, chunks, &all)?;
+    let mut told = String::new(alloc);
+    for (key, _) in &rows {
+        told.push_str(key.as_str())?;
+    }
+    Ok((depth, empty, told.as_str() == keys))
+}
+
+/// What is seen of a map with the keys of the first 17 numbers, once the first so many are removed.
+fn left(alloc: Global, count: u32, keys: &str) -> Result<(u64, bool, bool), Refusal> {
+    let nodes = VecChunks::new(alloc);
+    let mut chunks = nodes.shelf();
+    let tree = grown(alloc, &mut chunks, 2, 17)?;
+    let tree = thinned(alloc, &mut chunks, tree, count)?;
+    seen(alloc, &mut chunks, &tree, keys)
+}
+
+#[test]
+fn removals(rt: HostRuntime) {
+    for (count, depth, empty, keys) in [
+        (
+            0,
+            2,
+            false,
+            "k01k02k03k04k05k06k07k08k09k10k11k12k13k14k15k16k17",
+        ),
+        (7, 2, false, "k08k09k10k11k12k13k14k15k16k17"),
+        (8, 1, false, "k09k10k11k12k13k14k15k16k17"),
+        (16, 1, false, "k17"),
+        (17, 1, true, ""),
+    ] {
+        let got = left(rt.alloc(), count, keys);
+        assert_eq!(rt; got, Ok((depth, empty, true)), "{count} removed");
+    }
+}
+
+/// How many chunks are new once a value is put at a key of the placed map of the first so many keys.
+fn new_after_put(
+    alloc: Global,
+    digits: usize,
+    count: u64,
+    number: u64,
+    value: &str,
+) -> Result<u64, Refusal> {
+    let nodes = VecChunks::new(alloc);
+    let placed = placed(alloc, &nodes, digits, count)?;
+    let mut chunks = Staged::new(placed.nodes, &placed.draft);
+    let mut tree = Tree::at(placed.root);
+    let key = key_of(alloc, digits, number)?;
+    let value = json(alloc, value)?;
+    tree.put(alloc, &mut chunks, key.as_str(), &value)?;
+    Ok(tree.new_chunks())
+}
+
+#[test]
+fn chunks_of_changes(rt: HostRuntime) {
+    for (digits, count, number, value, want) in [
+        (2, 1, 1, "2", 1),
+        (2, 1, 1, "1", 0),
+        (2, 17, 9, "2", 2),
+        (2, 17, 9, "1", 0),
+        (2, 17, 18, "1", 2),
+        (3, 136, 137, "1", 5),
+        (3, 137, 1, "2", 3),
+        (3, 137, 137, "1", 0),
+    ] {
+        let got = new_after_put(rt.alloc(), digits, count, number, value);
+        assert_eq!(rt; got, Ok(want), "{number} in {count} keys");
+    }
+}
+
+/// How many chunks are new once a key is removed from the placed map of k01 to k17, and whether that map
+/// still has its first key.
+fn removed(alloc: Global, key: &str) -> Result<(u64, bool), Refusal> {
+    let nodes = VecChunks::new(alloc);
+    let placed = placed(alloc, &nodes, 2, 17)?;
+    let mut chunks = Staged::new(placed.nodes, &placed.draft);
+    let mut tree = Tree::at(placed.root);
+    tree.del(alloc, &mut chunks, key)?;
+    let mut made = Draft::new(alloc, 0);
+    let _ = tree.freeze(alloc, &mut made)?;
+    let has = Tree::at(placed.root).has(&mut chunks, "k01")?;
+    Ok((made.len(), has))
+}
+
+#[test]
+fn placed_maps_stay(rt: HostRuntime) {
+    for (key, want) in [("k00", 0), ("k18", 0), ("k01", 2), ("k09", 2), ("k17", 2)] {
+        let got = removed(rt.alloc(), key);
+        assert_eq!(rt; got, Ok((want, true)), "{key} removed");
+    }
+}
