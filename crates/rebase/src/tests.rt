@@ -96,8 +96,16 @@ fn pulled_again(alloc: Global, body: &str) -> Result<Ended, Refusal> {
     pulled(&mut solo, body)
 }
 
+/// An answer, where memory wasn't refused.
+fn answered<T: Drop>(answer: Result<T, Refusal>) -> Result<Result<T, Refusal>, Refusal> {
+    match answer {
+        Err(Refusal::NoMemory) => Err(Refusal::NoMemory),
+        answer => Ok(answer),
+    }
+}
+
 #[test]
-fn pulls_are_ended(rt: HostRuntime) {
+fn pulls_are_ended(rt: HostRuntime) -> Result<(), Refusal> {
     for (body, want) in [
         (
             r#"{"cookie":1,"lastMutationIDChanges":{},"patch":[]}"#,
@@ -117,9 +125,10 @@ fn pulls_are_ended(rt: HostRuntime) {
         ),
         ("{", Err(Refusal::NotJson)),
     ] {
-        let ended = pulled_again(rt.alloc(), body);
+        let ended = answered(pulled_again(rt.alloc(), body))?;
         assert_eq!(rt; ended, want, "at {body}");
     }
+    Ok(())
 }
 
 /// What a first mutation of a new group answers.
@@ -129,16 +138,17 @@ fn first_made(alloc: Global, last: u64, name: &str) -> Result<u64, Refusal> {
 }
 
 #[test]
-fn mutations_are_answered(rt: HostRuntime) {
+fn mutations_are_answered(rt: HostRuntime) -> Result<(), Refusal> {
     for (last, name, want) in [
         (0_u64, "keep", Ok(1)),
         (1, "keep", Err(Refusal::Stale)),
         (0, "nosuch", Err(Refusal::NoMutator)),
         (0, "copy", Err(Refusal::Refused(2))),
     ] {
-        let id = first_made(rt.alloc(), last, name);
+        let id = answered(first_made(rt.alloc(), last, name))?;
         assert_eq!(rt; id, want, "at {name}");
     }
+    Ok(())
 }
 
 /// What is at `m` after a pull under a pending `copy`.
@@ -355,18 +365,16 @@ const OTHER: u64 = 90;
 
 const STALE: u64 = 91;
 
-const REFUSED: u64 = 92;
-
 /// A reply as a number: an id, how many are pending, or 1 for yes and for a value that is there.
-fn number_of(reply: &Result<Reply, Refusal>) -> u64 {
+fn number_of(reply: &Result<Reply, Refusal>) -> Result<u64, Refusal> {
     match reply {
-        Ok(Reply::Value(found)) => u64::from(found.is_some()),
-        Ok(Reply::Is(is)) => u64::from(*is),
-        Ok(Reply::Id(id)) => *id,
-        Ok(Reply::Pending(pending)) => pending.len() as u64,
-        Ok(_) => OTHER,
-        Err(Refusal::Stale) => STALE,
-        Err(_) => REFUSED,
+        Ok(Reply::Value(found)) => Ok(u64::from(found.is_some())),
+        Ok(Reply::Is(is)) => Ok(u64::from(*is)),
+        Ok(Reply::Id(id)) => Ok(*id),
+        Ok(Reply::Pending(pending)) => Ok(pending.len() as u64),
+        Ok(_) => Ok(OTHER),
+        Err(Refusal::Stale) => Ok(STALE),
+        Err(other) => Err(*other),
     }
 }
 
@@ -380,7 +388,7 @@ fn replies(alloc: Global, calls: &[Call<'_>], on_plain: bool) -> Result<Vec<u64>
     };
     let mut numbers = Vec::new(alloc);
     for reply in &replies {
-        numbers.push(number_of(reply))?;
+        numbers.push(number_of(reply)?)?;
     }
     Ok(numbers)
 }

@@ -54,7 +54,7 @@ fn first_leaves(alloc: Global) -> Result<(usize, usize), Refusal> {
 }
 
 #[test]
-fn chunks_of_maps(rt: HostRuntime) {
+fn chunks_of_maps(rt: HostRuntime) -> Result<(), Refusal> {
     for (digits, count, want) in [
         (2, 0, (1, 1, 1, 0)),
         (2, 1, (1, 1, 1, 0)),
@@ -63,10 +63,11 @@ fn chunks_of_maps(rt: HostRuntime) {
         (3, 136, (2, 17, 16, 1)),
         (3, 137, (3, 20, 17, 3)),
     ] {
-        let got = shape(rt.alloc(), digits, count);
-        assert_eq!(rt; got, Ok(want), "{count} keys");
+        let got = shape(rt.alloc(), digits, count)?;
+        assert_eq!(rt; got, want, "{count} keys");
     }
-    assert_eq!(rt; first_leaves(rt.alloc()), Ok((8, 9)));
+    assert_eq!(rt; first_leaves(rt.alloc())?, (8, 9));
+    Ok(())
 }
 
 /// Whether the map of k01 to k17 has the key.
@@ -96,8 +97,8 @@ fn scanned(alloc: Global, prefix: &str, after: &str) -> Result<String, Refusal> 
 
 #[test]
 fn keys_of_both_leaves(rt: HostRuntime) -> Result<(), Refusal> {
-    assert_eq!(rt; has(rt.alloc(), "k09"), Ok(true));
-    assert_eq!(rt; has(rt.alloc(), "k18"), Ok(false));
+    assert!(rt; has(rt.alloc(), "k09")?);
+    assert!(rt; !has(rt.alloc(), "k18")?);
     let keys = scanned(rt.alloc(), "k1", "k15")?;
     assert_eq!(rt; keys.as_str(), "k16k17");
     Ok(())
@@ -154,7 +155,7 @@ fn left(alloc: Global, count: u32, keys: &str) -> Result<(u64, bool, bool), Refu
 }
 
 #[test]
-fn removals(rt: HostRuntime) {
+fn removals(rt: HostRuntime) -> Result<(), Refusal> {
     for (count, depth, empty, keys) in [
         (
             0,
@@ -167,9 +168,10 @@ fn removals(rt: HostRuntime) {
         (16, 1, false, "k17"),
         (17, 1, true, ""),
     ] {
-        let got = left(rt.alloc(), count, keys);
-        assert_eq!(rt; got, Ok((depth, empty, true)), "{count} removed");
+        let got = left(rt.alloc(), count, keys)?;
+        assert_eq!(rt; got, (depth, empty, true), "{count} removed");
     }
+    Ok(())
 }
 
 /// How many chunks are new once a value is put at a key of the placed map of the first so many keys.
@@ -191,7 +193,7 @@ fn new_after_put(
 }
 
 #[test]
-fn chunks_of_changes(rt: HostRuntime) {
+fn chunks_of_changes(rt: HostRuntime) -> Result<(), Refusal> {
     for (digits, count, number, value, want) in [
         (2, 1, 1, "2", 1),
         (2, 1, 1, "1", 0),
@@ -202,9 +204,10 @@ fn chunks_of_changes(rt: HostRuntime) {
         (3, 137, 1, "2", 3),
         (3, 137, 137, "1", 0),
     ] {
-        let got = new_after_put(rt.alloc(), digits, count, number, value);
-        assert_eq!(rt; got, Ok(want), "{number} in {count} keys");
+        let got = new_after_put(rt.alloc(), digits, count, number, value)?;
+        assert_eq!(rt; got, want, "{number} in {count} keys");
     }
+    Ok(())
 }
 
 /// How many chunks are new once a key is removed from the placed map of k01 to k17, and whether that map
@@ -222,9 +225,10 @@ fn removed(alloc: Global, key: &str) -> Result<(u64, bool), Refusal> {
 }
 
 #[test]
-fn placed_maps_stay(rt: HostRuntime) {
+fn placed_maps_stay(rt: HostRuntime) -> Result<(), Refusal> {
     for (key, want) in [("k00", 0), ("k18", 0), ("k01", 2), ("k09", 2), ("k17", 2)] {
-        let got = removed(rt.alloc(), key);
-        assert_eq!(rt; got, Ok((want, true)), "{key} removed");
+        let got = removed(rt.alloc(), key)?;
+        assert_eq!(rt; got, (want, true), "{key} removed");
     }
+    Ok(())
 }
