@@ -10,8 +10,8 @@ use Rattle.group_history.specs.Refs.{stamp_of}
 use Rattle.group_history.specs.Rows.{Rows, keys_of, paired}
 use Rattle.group_history.specs.Spelling.{Contents, joined_one, joined_rows, begins_with}
 use Rattle.group_history.proofs.Pairs.{keys_of-paired}
-use Rattle.map_tree.specs.Shown.{Part, value, chunk, Piece, Seen, part_rows, shown}
-use Rattle.map_tree.specs.Nodes.{Kids, kids_pieces, HeadIs, AllKids, child_rows}
+use Rattle.map_tree.specs.Shown.{Part, value, chunk, Piece, part_rows, shown}
+use Rattle.map_tree.specs.Nodes.{Kid, Kids, kids_pieces, HeadIs, AllKids, child_rows}
 use Rattle.map_tree.specs.declared.nodes.Child.{Child}
 use Rattle.map_tree.specs.declared.nodes.Child.TheVariants.{Placed, Own}
 use Rattle.map_tree.proofs.RowLemmas.{cmp, AllBelow, AllAbove, AllAbove-less, IsStrict, find-above, put-front, put-back, put-at}
@@ -40,7 +40,7 @@ shown-kept old new (q ∷ ps) rs p h =
 
 child-kept : (old new : Contents) (below : ℕ) (c : Child) (rs : Rows) → IsPrefix old new → child_rows old below c ≡ Some rs → child_rows new below c ≡ Some rs
 child-kept old new below (Placed at) rs p h = rows-kept old new below (stamp_of at) rs p h
-child-kept old new below (Own n) rs p h = shown-kept old new n.pieces rs p h
+child-kept old new below (Own n) rs p h = shown-kept old new n.value.pieces rs p h
 
 pub kids-kept : (old new : Contents) (below : ℕ) (es : Kids) (rs : Rows) → IsPrefix old new → joined_rows (shows_of (kid_rows old below) es) ≡ Some rs
     → joined_rows (shows_of (kid_rows new below) es) ≡ Some rs
@@ -111,10 +111,10 @@ head_from p k (q ∷ ps) rs e h =
         first_key (r ∷ rs) = r.0
 
 -- one own child shows its rows, under the key with which they begin
-pub one_child : (p : Contents) (below : ℕ) (k : Bytes) (n : Seen) (rs : Rows) → n.depth ≡ below → shown p n.pieces ≡ Some rs → begins_with k rs ≡ true
+pub one_child : (p : Contents) (below : ℕ) (k : Bytes) (n : Kid) (rs : Rows) → n.value.depth ≡ below → shown p n.value.pieces ≡ Some rs → begins_with k rs ≡ true
     → AllKids below ((k, Own n) ∷ []) × (joined_rows (shows_of (kid_rows p below) ((k, Own n) ∷ [])) ≡ Some rs)
 one_child p below k n rs d e h = (
-  ((d, head_from p k n.pieces rs e h), tt),
+  ((d, head_from p k n.value.pieces rs e h), tt),
   ap (λ x. joined_one k x (Some [])) e ∙ ap (λ u. cond u (Some (rs ++ [])) None) h ∙ ap (λ w. Some w) (no_more rs),
 )
 

@@ -61,7 +61,7 @@ fresh-halves es nk ne k2 e2 h =
 
 -- the children among which an upper half is put
 pub fresh-with_half : (keys : List Bytes) (kids : List Child) (place : ℕ) (half : Half) → length kids ≡ length keys → place < length keys
-    → entries_fresh (with_half place (Some half) (paired keys kids)) ≡ kids_fresh kids + half.node.fresh
+    → entries_fresh (with_half place (Some half) (paired keys kids)) ≡ kids_fresh kids + half.node.value.fresh
 fresh-with_half keys kids place half l w =
     let a = fresh-inserted (paired keys kids) (place + 1) (get_or half.firsts.items 0 [], Own half.node) (omega (arith, length-paired keys kids l, w)) in
     let b = ap kids_fresh (values_of-paired keys kids l) in

@@ -12,7 +12,7 @@ use Rattle.group_history.specs.Spelling.{Contents, Segment, segment_at, rows_at}
 use Rattle.map_tree.specs.Copies.{chunk_entries, MayBeDeep}
 use Rattle.map_tree.specs.Ends.{IsWideAt, IsWideNode, only_ref, IsOnlyChild, IsTaken, end_of_pieces, end_of}
 use Rattle.map_tree.specs.Removing.{one_shown}
-use Rattle.map_tree.specs.Nodes.{child_pieces, kids_pieces, row_pieces, HeadIs, IsChild, AllKids, kids_fresh}
+use Rattle.map_tree.specs.Nodes.{Kid, child_pieces, kids_pieces, row_pieces, HeadIs, IsChild, AllKids, kids_fresh}
 use Rattle.map_tree.specs.Shown.{Piece, Seen, shown, chunk_rows}
 use Rattle.map_tree.specs.Trees.{is_narrow}
 use Rattle.map_tree.specs.declared.nodes.Child.{Child}
@@ -71,7 +71,7 @@ end-rows (r ∷ s ∷ rows) = refl
 -- a child has a piece
 piece_of : (below : ℕ) (k : Bytes) (c : Child) → IsChild below k c → 0 < length (child_pieces below k c)
 piece_of below k (Placed at) h = omega arith
-piece_of below k (Own n) h = some n.pieces h.1
+piece_of below k (Own n) h = some n.value.pieces h.1
   where
     some : (ps : List Piece) → HeadIs k ps → 0 < length ps
     some [] h = absurd h
@@ -111,17 +111,17 @@ end-one below (k ∷ []) (x ∷ []) kid l o g = ap end_of g ∙ by x
   where
     by : (c : Child) → end_of c ≡ end_of_pieces (child_pieces below k c ++ [])
     by (Placed at) = refl
-    by (Own n) = ap end_of_pieces (sym (append-nil n.pieces))
+    by (Own n) = ap end_of_pieces (sym (append-nil n.value.pieces))
 
 -- the one child of a chunk has its pieces
-pub one-pieces : (below : ℕ) (keys : List Bytes) (kids : List Child) (n : Seen) (kid : Child) → length kids ≡ length keys → length kids ≡ 1 → kid ≡ get_or kids 0 kid → kid ≡ Own n
-    → n.pieces ≡ kids_pieces below (paired keys kids)
+pub one-pieces : (below : ℕ) (keys : List Bytes) (kids : List Child) (n : Kid) (kid : Child) → length kids ≡ length keys → length kids ≡ 1 → kid ≡ get_or kids 0 kid → kid ≡ Own n
+    → n.value.pieces ≡ kids_pieces below (paired keys kids)
 one-pieces below [] kids n kid l o g e = absurd (omega arith)
 one-pieces below (k ∷ ks) [] n kid l o g e = absurd (omega arith)
 one-pieces below (k ∷ ks) (x ∷ y ∷ xs) n kid l o g e = absurd (omega arith)
 one-pieces below (k ∷ j ∷ ks) (x ∷ []) n kid l o g e = absurd (omega arith)
 one-pieces below (k ∷ []) (x ∷ []) n kid l o g e =
-    sym (append-nil n.pieces) ∙ ap (λ c. child_pieces below k c ++ []) (sym e ∙ g)
+    sym (append-nil n.value.pieces) ∙ ap (λ c. child_pieces below k c ++ []) (sym e ∙ g)
 
 -- what was taken from the one child of a chunk has the chunk's pieces
 pub taken-pieces : (below : ℕ) (keys : List Bytes) (kids : List Child) (kid : Child) (n : Seen) → length kids ≡ length keys → length kids ≡ 1 → kid ≡ get_or kids 0 kid → IsTaken kid n
@@ -149,8 +149,8 @@ heir_taken p q left kid n pre e s t = by kid e t
     by (Placed at) e t = absurd t
     by (Own m) e t =
         let r = some_of (one_shown p left) s in
-        let was : shown p m.pieces ≡ Some r.0 = ap (one_shown p) (sym e) ∙ r.1 in (
-          ap (shown q) t.0 ∙ shown-kept p q m.pieces r.0 pre was ∙ sym r.1,
+        let was : shown p m.value.pieces ≡ Some r.0 = ap (one_shown p) (sym e) ∙ r.1 in (
+          ap (shown q) t.0 ∙ shown-kept p q m.value.pieces r.0 pre was ∙ sym r.1,
           t.1,
           omega (arith, t.2, ap kids_fresh e),
         )

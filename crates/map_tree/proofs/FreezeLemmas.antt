@@ -18,7 +18,7 @@ use Rattle.group_history.specs.Rows.{Rows, paired}
 use Rattle.group_history.specs.Spelling.{Contents, Segment, segment, as_segment, spelled_by, spelled, sized, chunk_in, inner_in, segment_in, rows_in, segment_at, rows_at, map_at, joined_one, joined_rows}
 use Rattle.group_history.proofs.Folding.{folded_more, length_folded, seam}
 use Rattle.map_tree.specs.Freezing.{with_nodes, IsDeep, IsFrozen, AreFrozen}
-use Rattle.map_tree.specs.Nodes.{IsChild, AllKids, child_rows, child_fresh, kids_fresh, child_height, kids_height}
+use Rattle.map_tree.specs.Nodes.{Kid, IsChild, AllKids, child_rows, child_fresh, kids_fresh, child_height, kids_height}
 use Rattle.map_tree.specs.Shown.{Seen, shown, chunk_rows, map_of_rows}
 use Rattle.map_tree.specs.declared.nodes.Child.{Child}
 use Rattle.map_tree.specs.declared.nodes.Child.TheVariants.{Placed, Own}
@@ -55,7 +55,7 @@ nodes-grown contents old new p = (map content_of p.0, sym (nodes-more contents o
 
 child-stays : (old new : Contents) (depth : ℕ) (child : Child) (rows : Rows) → IsPrefix old new → child_rows old depth child ≡ Some rows → child_rows new depth child ≡ Some rows
 child-stays old new depth (Placed at) rows p h = rows-kept old new depth (stamp_of at) rows p h
-child-stays old new depth (Own n) rows p h = shown-kept old new n.pieces rows p h
+child-stays old new depth (Own n) rows p h = shown-kept old new n.value.pieces rows p h
 
 pub frozen-later : (first : ℕ) (old mid new : List (Node Ref)) (child : Child) (at : Ref) → IsPrefix mid new → IsFrozen first old mid child at → IsFrozen first old new child at
 frozen-later first old mid new child at p f contents depth rows l d h =
@@ -200,8 +200,8 @@ err_so (Ok a) q = tt
 err_so (Err e) q = q
 
 -- an own child that is written down
-pub own_frozen : {E : Type 0} (r : Result Ref E) (first : ℕ) (old new : List (Node Ref)) (n : Seen)
-    → ((contents : Contents) (rows : Rows) → length contents ≡ first → shown (with_nodes contents old) n.pieces ≡ Some rows → IfOk r (λ root. rows_at (with_nodes contents new) n.depth (stamp_of root) ≡ Some rows))
+pub own_frozen : {E : Type 0} (r : Result Ref E) (first : ℕ) (old new : List (Node Ref)) (n : Kid)
+    → ((contents : Contents) (rows : Rows) → length contents ≡ first → shown (with_nodes contents old) n.value.pieces ≡ Some rows → IfOk r (λ root. rows_at (with_nodes contents new) n.value.depth (stamp_of root) ≡ Some rows))
     → IfOk r (IsFrozen first old new (Own n))
 own_frozen (Ok at) first old new n f = λ contents depth rows l d h. subst (λ w. rows_at (with_nodes contents new) w (stamp_of at) ≡ Some rows) d (f contents rows l h)
 own_frozen (Err e) first old new n f = tt

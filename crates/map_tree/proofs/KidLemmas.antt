@@ -51,7 +51,7 @@ head_kids below zero (e ∷ es) l h = by e.1 h.0
   where
     by : (c : Child) → IsChild below e.0 c → HeadIs e.0 (child_pieces below e.0 c ++ kids_pieces below es)
     by (Placed at) i = refl
-    by (Own m) i = HeadIs-more e.0 m.pieces (kids_pieces below es) i.1
+    by (Own m) i = HeadIs-more e.0 m.value.pieces (kids_pieces below es) i.1
 head_kids below (suc n) (e ∷ es) l h = head_kids below n es (omega arith) h.1
 
 -- what a repeated text is without the last of its copies

@@ -13,6 +13,7 @@ pub mod ReplaceLemmas
 pub mod RootLemmas
 pub mod RowLemmas
 pub mod SearchLemmas
+pub mod SeekLemmas
 pub mod Shelves
 pub mod Texts
 pub mod TreeLemmas

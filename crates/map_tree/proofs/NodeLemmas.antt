@@ -1,5 +1,7 @@
 -- The way down a chunk of a draft.
-use Rattle.std.proofs.Common.{◌≡◌, ◌<◌, ◌-◌, ℕ, true, cond, List, [], ◌∷◌, ◌++◌, Option, Some, None, length, map, get_or, slice_get, refl, sym, ap, ◌∙◌, subst, arith, nat_cmp}
+use Rattle.std.proofs.Common.{◌≡◌, ◌<◌, ◌-◌, ℕ, true, cond, List, [], ◌∷◌, ◌++◌, Option, Some, None, length, map, get_or, set, slice_get, refl, sym, ap, ◌∙◌, subst, arith, nat_cmp}
+use Rattle.std.proofs.lemmas.List.{set-get_or}
+use Rattle.std.specs.Box.{with_value}
 use Rattle.std.specs.Cmp.Lexicographic.{slice_cmp}
 use Rattle.std.specs.FinMap.{find}
 use Rattle.group_history.specs.declared.refs.Ref.{Ref}
@@ -10,7 +12,7 @@ use Rattle.group_history.specs.Spelling.{Contents, rows_at, joined_one, joined_r
 use Rattle.group_history.proofs.Pairs.{keys_of-paired, values_of-paired}
 use Rattle.map_tree.specs.Search.{IsPlace}
 use Rattle.map_tree.specs.Shown.{Piece, Seen, part_rows, shown, chunk_rows, IsTree, rows_or}
-use Rattle.map_tree.specs.Nodes.{Kids, child_pieces, kids_pieces, row_pieces, body_pieces, HeadIs, IsChild, AllKids, IsNode, child_rows}
+use Rattle.map_tree.specs.Nodes.{Kid, Kids, child_pieces, kids_pieces, row_pieces, body_pieces, HeadIs, IsChild, AllKids, IsNode, child_rows}
 use Rattle.map_tree.specs.declared.nodes.Body.{Body}
 use Rattle.map_tree.specs.declared.nodes.Body.TheVariants.{Inner}
 use Rattle.map_tree.specs.declared.nodes.Child.{Child}
@@ -61,7 +63,7 @@ shown-kids p below (e ∷ es) h = by e.1 h.0 (shown-kids p below es h.1)
     by : (c : Child) → IsChild below e.0 c → shown p (kids_pieces below es) ≡ joined_rows (shows_of (kid_rows p below) es)
         → shown p (child_pieces below e.0 c ++ kids_pieces below es) ≡ joined_one e.0 (child_rows p below c) (joined_rows (shows_of (kid_rows p below) es))
     by (Placed at) h ih = ap (joined_one e.0 (rows_at p below (stamp_of at))) ih
-    by (Own n) h ih = shown-append p n.pieces (kids_pieces below es) ∙ ap (appended (shown p n.pieces)) ih ∙ one_of p e.0 n.pieces (joined_rows (shows_of (kid_rows p below) es)) h.1
+    by (Own n) h ih = shown-append p n.value.pieces (kids_pieces below es) ∙ ap (appended (shown p n.value.pieces)) ih ∙ one_of p e.0 n.value.pieces (joined_rows (shows_of (kid_rows p below) es)) h.1
 
 pub AllKids-split : (below : ℕ) (before : Kids) (e : Bytes × Child) (behind : Kids) → AllKids below (before ++ e ∷ behind) → AllKids below before × IsChild below e.0 e.1 × AllKids below behind
 AllKids-split below [] e behind h = (tt, h.0, h.1)
@@ -106,6 +108,10 @@ down p depth keys kids pieces key i child l h e q g o =
       place = pl;
     }
 
+-- an own child that is written as it was
+pub written_back : (kids : List Child) (i : ℕ) (child : Child) (n : Kid) (s : Seen) → child ≡ get_or kids i child → child ≡ Own n → s ≡ n.value → set kids i (Own (with_value n s)) ≡ kids
+written_back kids i child n s g o e = ap (λ w. set kids i (Own (with_value n w))) e ∙ ap (set kids i) (sym o ∙ g) ∙ set-get_or kids i child
+
 -- what a child is that was indexed
 pub child_at : (kids : List Child) (i n : ℕ) (c : Child) → length kids ≡ n → i < n → c ≡ get_or kids i c → slice_get kids i ≡ Some c
 child_at kids i n c l h e = got kids i c (omega arith) ∙ ap (λ w. Some w) (sym e)
@@ -127,8 +133,8 @@ pub down_placed : (p : Contents) (depth : ℕ) (keys : List Bytes) (kids : List 
     → (d : Down p depth keys kids pieces key i child) → child ≡ Placed at → chunk_rows p (stamp_of at) ≡ Some d.way.here
 down_placed p depth keys kids pieces key i child at d e = chunk_rows-at p (depth - 1) (stamp_of at) d.way.here (ap (child_rows p (depth - 1)) (sym e) ∙ d.way.here_is)
 
-pub down_own : (p : Contents) (depth : ℕ) (keys : List Bytes) (kids : List Child) (pieces : List Piece) (key : Bytes) (i : ℕ) (child : Child) (n : Seen)
-    → (d : Down p depth keys kids pieces key i child) → child ≡ Own n → (shown p n.pieces ≡ Some d.way.here) × (n.depth ≡ depth - 1) × HeadIs d.first n.pieces
+pub down_own : (p : Contents) (depth : ℕ) (keys : List Bytes) (kids : List Child) (pieces : List Piece) (key : Bytes) (i : ℕ) (child : Child) (n : Kid)
+    → (d : Down p depth keys kids pieces key i child) → child ≡ Own n → (shown p n.value.pieces ≡ Some d.way.here) × (n.value.depth ≡ depth - 1) × HeadIs d.first n.value.pieces
 down_own p depth keys kids pieces key i child n d e =
     let c : IsChild (depth - 1) d.first (Own n) = subst (IsChild (depth - 1) d.first) e d.all.1 in
     (ap (child_rows p (depth - 1)) (sym e) ∙ d.way.here_is, c.0, c.1)

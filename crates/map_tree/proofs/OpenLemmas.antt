@@ -254,7 +254,7 @@ pub shows-append : {A : Type 0} (g : Bytes × A → Option Rows) (xs ys : List (
 shows-append g [] ys = refl
 shows-append g (x ∷ xs) ys = ap (λ w. (x.0, g x) ∷ w) (shows-append g xs ys)
 
-low_at : (k : ℕ) (before : List (Bytes × Ref)) (e : Bytes × Ref) (behind : List (Bytes × Ref)) → AllLow k (before ++ e ∷ behind) → stamp_of e.1 < k
+pub low_at : (k : ℕ) (before : List (Bytes × Ref)) (e : Bytes × Ref) (behind : List (Bytes × Ref)) → AllLow k (before ++ e ∷ behind) → stamp_of e.1 < k
 low_at k [] e behind h = h.0
 low_at k (b ∷ before) e behind h = low_at k before e behind h.1
 

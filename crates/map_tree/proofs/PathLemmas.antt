@@ -10,9 +10,9 @@ use Rattle.group_history.specs.Rows.{Rows, keys_of, paired, rises, is_below_all}
 use Rattle.group_history.specs.Spelling.{Contents, begins_with, joined_rows}
 use Rattle.group_history.proofs.Pairs.{keys_of-paired}
 use Rattle.map_tree.specs.Halves.{HasDepth, half_pieces, IsHalf, with_half, lowered, IsLower, ChildPut, AreNinth}
-use Rattle.map_tree.specs.Nodes.{body_pieces, IsNode, Kids, child_pieces, kids_pieces, row_pieces, HeadIs, IsChild, AllKids, child_rows}
+use Rattle.map_tree.specs.Nodes.{Kid, body_pieces, IsNode, Kids, child_pieces, kids_pieces, row_pieces, HeadIs, IsChild, AllKids, child_rows}
 use Rattle.map_tree.specs.Search.{is_above, IsPlace}
-use Rattle.map_tree.specs.Shown.{Piece, Seen, part_rows, shown, rows_or, IsTree}
+use Rattle.map_tree.specs.Shown.{Piece, part_rows, shown, rows_or, IsTree}
 use Rattle.map_tree.specs.declared.nodes.Body.{Body}
 use Rattle.map_tree.specs.declared.nodes.Body.TheVariants.{Inner}
 use Rattle.map_tree.specs.declared.nodes.Child.{Child}
@@ -39,28 +39,28 @@ filled_rows : (q : Contents) (ps : List Piece) (rs : Rows) → 0 < length ps →
 filled_rows q [] rs l e = absurd (omega arith)
 filled_rows q (p ∷ ps) rs l e = let b = back_begins (p.0, part_rows q p.0 p.1) (pieces_shown q ps) rs e in omega (arith, ap length b.whole)
 
-half_first : (copies below : ℕ) (h : Half) → IsHalf (copies + 1) below (Some h) → HeadIs (get_or h.firsts.items 0 []) h.node.pieces
+half_first : (copies below : ℕ) (h : Half) → IsHalf (copies + 1) below (Some h) → HeadIs (get_or h.firsts.items 0 []) h.node.value.pieces
 half_first copies below h i =
     let s : copies + 1 ≡ suc copies = omega arith in
-    subst (λ k. HeadIs k h.node.pieces) (sym (ap (λ z. get_or z 0 []) (i.1.2 ∙ ap (λ n. replicate n i.1.0) s))) i.1.1
+    subst (λ k. HeadIs k h.node.value.pieces) (sym (ap (λ z. get_or z 0 []) (i.1.2 ∙ ap (λ n. replicate n i.1.0) s))) i.1.1
 
 -- the child and its upper half show its rows
-pub child_news : (q : Contents) (below copies : ℕ) (k : Bytes) (n : Seen) (half : Option Half) (rs : Rows) → n.depth ≡ below → 0 < length n.pieces
-    → shown q (n.pieces ++ half_pieces half) ≡ Some rs → IsHalf (copies + 1) below half → begins_with k rs ≡ true
+pub child_news : (q : Contents) (below copies : ℕ) (k : Bytes) (n : Kid) (half : Option Half) (rs : Rows) → n.value.depth ≡ below → 0 < length n.value.pieces
+    → shown q (n.value.pieces ++ half_pieces half) ≡ Some rs → IsHalf (copies + 1) below half → begins_with k rs ≡ true
     → AllKids below ((k, Own n) ∷ half_kids half) × (joined_rows (shows_of (kid_rows q below) ((k, Own n) ∷ half_kids half)) ≡ Some rs)
 child_news q below copies k n half rs d l e i b =
-    let f = halves (shown q n.pieces) (shown q (half_pieces half)) rs (sym (shown-append q n.pieces (half_pieces half)) ∙ e) in
-    let z = filled_rows q n.pieces f.front l f.front_is in
-    let h = head_from q k n.pieces f.front f.front_is (begins_front k f.front f.back z (subst (λ w. begins_with k w ≡ true) f.whole b)) in
+    let f = halves (shown q n.value.pieces) (shown q (half_pieces half)) rs (sym (shown-append q n.value.pieces (half_pieces half)) ∙ e) in
+    let z = filled_rows q n.value.pieces f.front l f.front_is in
+    let h = head_from q k n.value.pieces f.front f.front_is (begins_front k f.front f.back z (subst (λ w. begins_with k w ≡ true) f.whole b)) in
     by half e i h
   where
-    by : (half : Option Half) → shown q (n.pieces ++ half_pieces half) ≡ Some rs → IsHalf (copies + 1) below half → HeadIs k n.pieces
+    by : (half : Option Half) → shown q (n.value.pieces ++ half_pieces half) ≡ Some rs → IsHalf (copies + 1) below half → HeadIs k n.value.pieces
         → AllKids below ((k, Own n) ∷ half_kids half) × (joined_rows (shows_of (kid_rows q below) ((k, Own n) ∷ half_kids half)) ≡ Some rs)
     by None e i h = (((d, h), tt), sym (shown-kids q below ((k, Own n) ∷ []) ((d, h), tt)) ∙ e)
     by (Some m) e i h =
         let first = half_first copies below m i in
         let all : AllKids below ((k, Own n) ∷ half_kids (Some m)) = ((d, h), ((i.0, first), tt)) in
-        (all, sym (shown-kids q below ((k, Own n) ∷ half_kids (Some m)) all) ∙ ap (λ w. shown q (n.pieces ++ w)) (append-nil m.node.pieces) ∙ e)
+        (all, sym (shown-kids q below ((k, Own n) ∷ half_kids (Some m)) all) ∙ ap (λ w. shown q (n.value.pieces ++ w)) (append-nil m.node.value.pieces) ∙ e)
 
 below_joined : (q : Contents) (below : ℕ) (k : Bytes) (es : Kids) (rs : Rows) → joined_rows (shows_of (kid_rows q below) es) ≡ Some rs → AllAbove k rs → T (is_below_all k (keys_of es))
 below_joined q below k [] rs h a = tt
@@ -145,7 +145,7 @@ put_path p q depth copies keys kids new pieces key v i child lower half pre l d 
     let first : get_or keys i [] ≡ d.first = ap (λ z. get_or z i []) (sym (keys_of-paired keys kids l)) ∙ ap (λ z. get_or (keys_of z) i []) d.whole ∙ key_at d.before (d.first, child) d.behind i d.at in
     let low2 : IsLower key d.first lower = subst (λ f. IsLower key f lower) first low in
     let n = c.0 in
-    let rows : shown q (n.pieces ++ half_pieces half) ≡ Some (put (slice_cmp nat_cmp) key v d.way.here) = c.4 ∙ ap (λ z. Some (put (slice_cmp nat_cmp) key v (rows_or z))) d.way.here_is in
+    let rows : shown q (n.value.pieces ++ half_pieces half) ≡ Some (put (slice_cmp nat_cmp) key v d.way.here) = c.4 ∙ ap (λ z. Some (put (slice_cmp nat_cmp) key v (rows_or z))) d.way.here_is in
     let k = first_key d.first lower in
     let news = child_news q below copies k n half (put (slice_cmp nat_cmp) key v d.way.here) c.2 c.3 rows c.5 (begins_put d.first key v lower d.way.here d.way.starts low2) in
     let ch = changed p q depth keys kids pieces key i child (put (slice_cmp nat_cmp) key v) ((k, Own n) ∷ half_kids half) pre d (put-local key v) news.0 news.1 in
@@ -202,7 +202,7 @@ filled_kids below (e ∷ es) l h = by e.1 h.0
 
     by : (c : Child) → IsChild below e.0 c → 0 < length (child_pieces below e.0 c ++ kids_pieces below es)
     by (Placed at) i = omega arith
-    by (Own m) i = some e.0 m.pieces (kids_pieces below es) i.1
+    by (Own m) i = some e.0 m.value.pieces (kids_pieces below es) i.1
 
 pub filled_pairs : (ks vs : List Bytes) → length vs ≡ length ks → 0 < length ks → 0 < length (row_pieces (paired ks vs))
 filled_pairs [] vs l z = z

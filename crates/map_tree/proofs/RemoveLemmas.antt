@@ -256,7 +256,7 @@ child_stays p q depth keys nk kids ne pieces key i child other pre l m z d f som
     let below = depth - 1 in
     let n = c.0 in
     let k = first_key d.first other in
-    let rows : shown q n.pieces ≡ Some (without key d.way.here) = c.3 ∙ ap (λ z. Some (without key (rows_or z))) d.way.here_is in
+    let rows : shown q n.value.pieces ≡ Some (without key d.way.here) = c.3 ∙ ap (λ z. Some (without key (rows_or z))) d.way.here_is in
     let b = begins_without key d.first d.way.here other d.way.starts d.way.strict f in
     let one = one_child q below k n (without key d.way.here) c.2 rows b in
     let ch = changed p q depth keys kids pieces key i child (without key) ((k, Own n) ∷ []) pre d (without-local key) one.0 one.1 in

@@ -8,8 +8,8 @@ use Rattle.group_history.specs.Map.{Bytes}
 use Rattle.group_history.specs.Rows.{Rows, paired, AreKeys}
 use Rattle.group_history.specs.Spelling.{Contents}
 use Rattle.map_tree.specs.Search.{IsFound, IsAbsent}
-use Rattle.map_tree.specs.Shown.{Piece, Seen, shown, rows_or}
-use Rattle.map_tree.specs.Nodes.{Kids, kids_pieces, row_pieces, body_pieces, IsNode, IsChild, AllKids}
+use Rattle.map_tree.specs.Shown.{Piece, shown, rows_or}
+use Rattle.map_tree.specs.Nodes.{Kid, Kids, kids_pieces, row_pieces, body_pieces, IsNode, IsChild, AllKids}
 use Rattle.map_tree.specs.declared.nodes.Body.{Body}
 use Rattle.map_tree.specs.declared.nodes.Body.TheVariants.{Leaf, Inner}
 use Rattle.map_tree.specs.declared.nodes.Child.{Child}
@@ -69,19 +69,19 @@ pub record Replaced (new : Contents) (below : ℕ) (es : Kids) (rows : Option Ro
   pub all : AllKids below es
   pub shown_is : shown new (kids_pieces below es) ≡ rows
 
-pub kid_replaced : (old new : Contents) (depth : ℕ) (keys : List Bytes) (kids : List Child) (pieces : List Piece) (key v : Bytes) (i : ℕ) (child : Child) (n : Seen) (x : Option Rows)
+pub kid_replaced : (old new : Contents) (depth : ℕ) (keys : List Bytes) (kids : List Child) (pieces : List Piece) (key v : Bytes) (i : ℕ) (child : Child) (n : Kid) (x : Option Rows)
     → IsPrefix old new → (d : Down old depth keys kids pieces key i child) → IsSome (find (slice_cmp nat_cmp) key (rows_or (shown old pieces))) → x ≡ Some d.way.here
-    → n.depth ≡ depth - 1 → shown new n.pieces ≡ Some (put (slice_cmp nat_cmp) key v (rows_or x))
+    → n.value.depth ≡ depth - 1 → shown new n.value.pieces ≡ Some (put (slice_cmp nat_cmp) key v (rows_or x))
     → Replaced new (depth - 1) (d.before ++ (d.first, Own n) ∷ d.behind) (Some (put (slice_cmp nat_cmp) key v (rows_or (shown old pieces))))
 kid_replaced old new depth keys kids pieces key v i child n x p d t e b s =
-    let r : shown new n.pieces ≡ Some (put (slice_cmp nat_cmp) key v d.way.here) = s ∙ ap (λ z. Some (put (slice_cmp nat_cmp) key v (rows_or z))) e in
+    let r : shown new n.value.pieces ≡ Some (put (slice_cmp nat_cmp) key v d.way.here) = s ∙ ap (λ z. Some (put (slice_cmp nat_cmp) key v (rows_or z))) e in
     let k = put-begins d.first key v d.way.here d.way.starts (there_above d.first key d.way.here d.way.starts d.way.strict (there_below old depth keys kids pieces key i child d t)) in
     let o = one_child new (depth - 1) d.first n (put (slice_cmp nat_cmp) key v d.way.here) b r k in
     let c = changed old new depth keys kids pieces key i child (put (slice_cmp nat_cmp) key v) ((d.first, Own n) ∷ []) p d (put-local key v) o.0 o.1 in
     record { all = c.all; shown_is = c.shown_is ∙ ap (λ z. Some (put (slice_cmp nat_cmp) key v (rows_or z))) (sym d.rows_is) }
 
 -- the child as it was
-pub kid_kept : (p : Contents) (depth : ℕ) (keys : List Bytes) (kids : List Child) (pieces : List Piece) (key : Bytes) (i : ℕ) (child : Child) (n : Seen)
+pub kid_kept : (p : Contents) (depth : ℕ) (keys : List Bytes) (kids : List Child) (pieces : List Piece) (key : Bytes) (i : ℕ) (child : Child) (n : Kid)
     → (d : Down p depth keys kids pieces key i child) → child ≡ Own n → AllKids (depth - 1) (d.before ++ (d.first, Own n) ∷ d.behind)
 kid_kept p depth keys kids pieces key i child n d e =
     AllKids-join (depth - 1) d.before ((d.first, Own n) ∷ d.behind) d.all.0 (subst (IsChild (depth - 1) d.first) e d.all.1, d.all.2)

@@ -6,9 +6,9 @@ use Rattle.group_history.specs.Map.{Bytes}
 use Rattle.group_history.specs.Rows.{Rows, AreKeys, rises, paired}
 use Rattle.group_history.specs.Spelling.{Contents, begins_with}
 use Rattle.map_tree.specs.Halves.{IsHalf, least, AreInOrder}
-use Rattle.map_tree.specs.Nodes.{kids_pieces, row_pieces, body_pieces, HeadIs, AllKids, IsNode}
+use Rattle.map_tree.specs.Nodes.{Kid, kids_pieces, row_pieces, body_pieces, HeadIs, AllKids, IsNode}
 use Rattle.map_tree.specs.Search.{is_above}
-use Rattle.map_tree.specs.Shown.{Piece, Seen, part_rows, shown}
+use Rattle.map_tree.specs.Shown.{Piece, part_rows, shown}
 use Rattle.map_tree.specs.declared.nodes.Body.{Body}
 use Rattle.map_tree.specs.declared.nodes.Body.TheVariants.{Leaf, Inner}
 use Rattle.map_tree.specs.declared.nodes.Child.{Child}
@@ -72,30 +72,30 @@ two q first k (x ∷ lower) (y ∷ upper) rows e o b l h =
     same first k v rest more h = h
 
 -- what the new root is
-pub record Root (depth : ℕ) (first second : Bytes) (lower : Seen) (half : Half) (keys : List Bytes) (kids : List Child) : Type 0 where
+pub record Root (depth : ℕ) (first second : Bytes) (lower : Kid) (half : Half) (keys : List Bytes) (kids : List Child) : Type 0 where
   pub node : AreKeys keys × ((0 < depth + 1) × (0 < length keys) × (length kids ≡ length keys) × AllKids ((depth + 1) - 1) (paired keys kids))
-  pub pieces : kids_pieces ((depth + 1) - 1) (paired keys kids) ≡ lower.pieces ++ half.node.pieces
+  pub pieces : kids_pieces ((depth + 1) - 1) (paired keys kids) ≡ lower.value.pieces ++ half.node.value.pieces
 
-pub root : (first second : Bytes) (lower : Seen) (half : Half) (keys given : List Bytes) (kids : List Child) → HeadIs first lower.pieces → IsHalf 1 lower.depth (Some half) → AreInOrder first half.node.pieces
-    → half.firsts.items ≡ given ++ second ∷ [] → keys ≡ first ∷ second ∷ [] → kids ≡ Own lower ∷ Own half.node ∷ [] → Root lower.depth first second lower half keys kids
+pub root : (first second : Bytes) (lower : Kid) (half : Half) (keys given : List Bytes) (kids : List Child) → HeadIs first lower.value.pieces → IsHalf 1 lower.value.depth (Some half) → AreInOrder first half.node.value.pieces
+    → half.firsts.items ≡ given ++ second ∷ [] → keys ≡ first ∷ second ∷ [] → kids ≡ Own lower ∷ Own half.node ∷ [] → Root lower.value.depth first second lower half keys kids
 root first second lower half keys given kids h i o g ek ec =
     let z : replicate (0 + 1) i.1.0 ≡ replicate 1 i.1.0 = refl in
     let r = repeated 0 i.1.0 second given (sym i.1.2 ∙ g) in
-    let hd : HeadIs second half.node.pieces = subst (λ k. HeadIs k half.node.pieces) (sym r.0) i.1.1 in
-    let below : (lower.depth + 1) - 1 ≡ lower.depth = omega arith in
-    let all : AllKids ((lower.depth + 1) - 1) ((first, Own lower) ∷ (second, Own half.node) ∷ []) = ((sym below, h), ((i.0 ∙ sym below, hd), tt)) in
+    let hd : HeadIs second half.node.value.pieces = subst (λ k. HeadIs k half.node.value.pieces) (sym r.0) i.1.1 in
+    let below : (lower.value.depth + 1) - 1 ≡ lower.value.depth = omega arith in
+    let all : AllKids ((lower.value.depth + 1) - 1) ((first, Own lower) ∷ (second, Own half.node) ∷ []) = ((sym below, h), ((i.0 ∙ sym below, hd), tt)) in
     record {
       node = (
-        (omega (arith, ap length ek), subst (λ w. T (rises w)) (sym ek) (both (is_lt (cmp first second) && true) (true && true) (both (is_lt (cmp first second)) true (less_of half.node.pieces o hd) tt) tt)),
+        (omega (arith, ap length ek), subst (λ w. T (rises w)) (sym ek) (both (is_lt (cmp first second) && true) (true && true) (both (is_lt (cmp first second)) true (less_of half.node.value.pieces o hd) tt) tt)),
         (
           omega arith,
           omega (arith, ap length ek),
           omega (arith, ap length ek, ap length ec),
-          subst (λ w. AllKids ((lower.depth + 1) - 1) (paired w kids)) (sym ek) (subst (λ w. AllKids ((lower.depth + 1) - 1) (paired (first ∷ second ∷ []) w)) (sym ec) all),
+          subst (λ w. AllKids ((lower.value.depth + 1) - 1) (paired w kids)) (sym ek) (subst (λ w. AllKids ((lower.value.depth + 1) - 1) (paired (first ∷ second ∷ []) w)) (sym ec) all),
         ),
       );
-      pieces = ap (λ w. kids_pieces ((lower.depth + 1) - 1) (paired w kids)) ek ∙ ap (λ w. kids_pieces ((lower.depth + 1) - 1) (paired (first ∷ second ∷ []) w)) ec
-          ∙ ap (λ w. lower.pieces ++ w) (append-nil half.node.pieces);
+      pieces = ap (λ w. kids_pieces ((lower.value.depth + 1) - 1) (paired w kids)) ek ∙ ap (λ w. kids_pieces ((lower.value.depth + 1) - 1) (paired (first ∷ second ∷ []) w)) ec
+          ∙ ap (λ w. lower.value.pieces ++ w) (append-nil half.node.value.pieces);
     }
   where
     less_of : (ps : List Piece) → AreInOrder first ps → HeadIs second ps → T (is_lt (cmp first second))

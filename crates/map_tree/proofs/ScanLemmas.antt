@@ -473,7 +473,7 @@ shown_kid contents e = kid_shown contents e.1
 
 pub kid_shown-kept : (old new : Contents) (kid : Child) (rs : Rows) → IsPrefix old new → kid_shown old kid ≡ Some rs → kid_shown new kid ≡ Some rs
 kid_shown-kept old new (Placed at) rs p h = chunk_rows-kept old new (stamp_of at) rs p h
-kid_shown-kept old new (Own n) rs p h = shown-kept old new n.pieces rs p h
+kid_shown-kept old new (Own n) rs p h = shown-kept old new n.value.pieces rs p h
 
 pub kid_shown-at : (p : Contents) (below : ℕ) (kid : Child) (rs : Rows) → child_rows p below kid ≡ Some rs → kid_shown p kid ≡ Some rs
 kid_shown-at p below (Placed at) rs h = chunk_rows-at p below (stamp_of at) rs h

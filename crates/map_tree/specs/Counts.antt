@@ -6,12 +6,12 @@ use Rattle.map_tree.specs.declared.nodes.putting.Half.{Half}
 -- how many own chunks an upper half is
 abbrev pub half_fresh : Option Half → ℕ
 half_fresh None = 0
-half_fresh (Some h) = h.node.fresh
+half_fresh (Some h) = h.node.value.fresh
 
 -- A chunk that isn't split has no fewer keys than before. One that is split had 16; 8 keys stay, and 9 go.
 abbrev pub HasKept : ℕ → ℕ → Option Half → Type 0
 HasKept old new None = old ≤ new
-HasKept old new (Some h) = (old ≡ 16) × (new ≡ 8) × (h.node.entries ≡ 9)
+HasKept old new (Some h) = (old ≡ 16) × (new ≡ 8) × (h.node.value.entries ≡ 9)
 
 -- not an inner chunk with one child
 abbrev pub IsWideChunk : Seen → Type 0

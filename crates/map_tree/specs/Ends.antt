@@ -49,7 +49,7 @@ end_of_pieces (q ∷ r ∷ qs) = None
 
 abbrev pub end_of : Child → Option Ref
 end_of (Placed at) = Some at
-end_of (Own n) = end_of_pieces n.pieces
+end_of (Own n) = end_of_pieces n.value.pieces
 
 -- a child with these rows ends in a placed chunk, or in one of the draft's own
 abbrev pub IsKidEnd : Contents → Option Rows → Child → Option Ref → Type 0
@@ -59,4 +59,4 @@ IsKidEnd contents rows kid (Some at) = IsEnd contents rows at
 -- what a draft's own child ends in: it shows the same, and is wide
 abbrev pub IsTaken : Child → Seen → Type 0
 IsTaken (Placed at) n = ⊥
-IsTaken (Own m) n = (n.pieces ≡ m.pieces) × IsWideNode n × (n.fresh ≤ m.fresh)
+IsTaken (Own m) n = (n.pieces ≡ m.value.pieces) × IsWideNode n × (n.fresh ≤ m.value.fresh)

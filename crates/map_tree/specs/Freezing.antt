@@ -17,7 +17,7 @@ with_nodes contents nodes = contents ++ map content_of nodes
 -- an own child is so deep
 abbrev pub IsDeep : ℕ → Child → Type 0
 IsDeep depth (Placed at) = Unit {0}
-IsDeep depth (Own n) = n.depth ≡ depth
+IsDeep depth (Own n) = n.value.depth ≡ depth
 
 -- The rows that the child shows while the draft has the old nodes are spelled by the reference's stamp where it
 -- has the new ones. The draft's first stamp is given.

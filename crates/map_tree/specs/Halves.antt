@@ -7,20 +7,20 @@ use Rattle.group_history.specs.Map.{Bytes}
 use Rattle.group_history.specs.Rows.{AreKeys, paired}
 use Rattle.group_history.specs.Spelling.{Contents}
 use Rattle.map_tree.specs.Search.{is_above}
-use Rattle.map_tree.specs.Shown.{Piece, Seen, shown}
-use Rattle.map_tree.specs.Nodes.{Kids, HeadIs, AllKids, kids_pieces}
+use Rattle.map_tree.specs.Shown.{Piece, shown}
+use Rattle.map_tree.specs.Nodes.{Kid, Kids, HeadIs, AllKids, kids_pieces}
 use Rattle.map_tree.specs.declared.nodes.Child.{Child}
 use Rattle.map_tree.specs.declared.nodes.Child.TheVariants.{Placed, Own}
 use Rattle.map_tree.specs.declared.nodes.putting.Half.{Half}
 
 abbrev pub half_pieces : Option Half → List Piece
 half_pieces None = []
-half_pieces (Some h) = h.node.pieces
+half_pieces (Some h) = h.node.value.pieces
 
 -- it is so deep, and its first key is there so often
 abbrev pub IsHalf : ℕ → ℕ → Option Half → Type 0
 IsHalf copies depth None = Unit {0}
-IsHalf copies depth (Some h) = (h.node.depth ≡ depth) × ((first : Bytes) × HeadIs first h.node.pieces × (h.firsts.items ≡ replicate copies first))
+IsHalf copies depth (Some h) = (h.node.value.depth ≡ depth) × ((first : Bytes) × HeadIs first h.node.value.pieces × (h.firsts.items ≡ replicate copies first))
 
 -- children with the upper half of the one at the place put behind it
 abbrev pub with_half : ℕ → Option Half → Kids → Kids
@@ -43,8 +43,8 @@ Finished depth copies es keys kids half = (kids_pieces (depth - 1) (paired keys 
 
 -- an own child, so deep, stands at the place of one, and shows with its upper half these rows
 abbrev pub ChildPut : Contents → ℕ → ℕ → ℕ → List Child → List Child → Option Half → (Option (List (Bytes × Bytes))) → Type 0
-ChildPut contents copies below place old new half rows = (n : Seen) × (new ≡ slice_set old place (Own n)) × (n.depth ≡ below) × (0 < length n.pieces)
-    × (shown contents (n.pieces ++ half_pieces half) ≡ rows) × IsHalf copies below half
+ChildPut contents copies below place old new half rows = (n : Kid) × (new ≡ slice_set old place (Own n)) × (n.value.depth ≡ below) × (0 < length n.value.pieces)
+    × (shown contents (n.value.pieces ++ half_pieces half) ≡ rows) × IsHalf copies below half
 
 -- the key where it is below the first one, else none
 abbrev pub IsLower : Bytes → Bytes → Option Bytes → Type 0
@@ -54,7 +54,7 @@ IsLower key first (Some k) = (k ≡ key) × (is_above first key ≡ true)
 -- an own child is so deep
 abbrev pub HasDepth : ℕ → Child → Type 0
 HasDepth below (Placed at) = Unit {0}
-HasDepth below (Own n) = n.depth ≡ below
+HasDepth below (Own n) = n.value.depth ≡ below
 
 -- the first key once this one is put
 abbrev pub least : Bytes → List Bytes → Bytes

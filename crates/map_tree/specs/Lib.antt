@@ -11,6 +11,7 @@ pub mod Nodes
 pub mod Removing
 pub mod Search
 pub mod SecondKeys
+pub mod Seeking
 pub mod Shown
 pub mod Steps
 pub mod Trees

@@ -1,14 +1,19 @@
 -- The chunks of a draft: what their pieces are, and what holds of them.
-use Rattle.std.specs.Prelude.{ℕ, ◌+◌, ◌-◌, ◌<◌, max, List, [], ◌∷◌, ◌++◌, map, length, ◌≡◌, Option}
+use Rattle.std.specs.Prelude.{ℕ, ◌+◌, ◌-◌, ◌<◌, max, Box, List, [], ◌∷◌, ◌++◌, map, length, ◌≡◌, Option}
+use Rattle.std.specs.declared.alloc.Global.{Global}
 use Rattle.group_history.specs.Map.{Bytes}
 use Rattle.group_history.specs.Refs.{stamp_of}
 use Rattle.group_history.specs.Rows.{Rows, AreKeys, paired}
 use Rattle.group_history.specs.Spelling.{Contents, rows_at}
-use Rattle.map_tree.specs.Shown.{value, chunk, Piece, shown}
+use Rattle.map_tree.specs.Shown.{value, chunk, Piece, Seen, shown}
 use Rattle.map_tree.specs.declared.nodes.Child.{Child}
 use Rattle.map_tree.specs.declared.nodes.Child.TheVariants.{Placed, Own}
 use Rattle.map_tree.specs.declared.nodes.Body.{Body}
 use Rattle.map_tree.specs.declared.nodes.Body.TheVariants.{Leaf, Inner}
+
+-- an own chunk where it is a child
+abbrev pub Kid : Type 0
+Kid = Box Seen Global
 
 -- children, each under its first key
 abbrev pub Kids : Type 0
@@ -17,7 +22,7 @@ Kids = List (Bytes × Child)
 -- a child's pieces, where the children are so deep
 abbrev pub child_pieces : ℕ → Bytes → Child → List Piece
 child_pieces below first (Placed at) = (first, chunk below at) ∷ []
-child_pieces below first (Own n) = n.pieces
+child_pieces below first (Own n) = n.value.pieces
 
 abbrev pub kids_pieces : ℕ → Kids → List Piece
 kids_pieces below [] = []
@@ -37,7 +42,7 @@ HeadIs k (q ∷ qs) = q.0 ≡ k
 
 abbrev pub IsChild : ℕ → Bytes → Child → Type 0
 IsChild below first (Placed at) = Unit {0}
-IsChild below first (Own n) = (n.depth ≡ below) × HeadIs first n.pieces
+IsChild below first (Own n) = (n.value.depth ≡ below) × HeadIs first n.value.pieces
 
 abbrev pub AllKids : ℕ → Kids → Type 0
 AllKids below [] = Unit {0}
@@ -54,7 +59,7 @@ IsNode depth keys body = AreKeys keys × IsBody depth keys body
 -- how deep own chunks are nested in it
 abbrev pub child_height : Child → ℕ
 child_height (Placed at) = 1
-child_height (Own n) = n.height + 1
+child_height (Own n) = n.value.height + 1
 
 abbrev pub kids_height : List Child → ℕ
 kids_height [] = 0
@@ -67,7 +72,7 @@ body_height (Inner kids) = kids_height kids.items + 2
 -- how many own chunks it is
 abbrev pub child_fresh : Child → ℕ
 child_fresh (Placed at) = 0
-child_fresh (Own n) = n.fresh
+child_fresh (Own n) = n.value.fresh
 
 abbrev pub kids_fresh : List Child → ℕ
 kids_fresh [] = 0
@@ -80,4 +85,4 @@ body_fresh (Inner kids) = kids_fresh kids.items + 1
 -- the rows that a child shows
 abbrev pub child_rows : Contents → ℕ → Child → Option Rows
 child_rows contents below (Placed at) = rows_at contents below (stamp_of at)
-child_rows contents below (Own n) = shown contents n.pieces
+child_rows contents below (Own n) = shown contents n.value.pieces

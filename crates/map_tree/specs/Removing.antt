@@ -9,7 +9,7 @@ use Rattle.group_history.specs.Rows.{Rows}
 use Rattle.group_history.specs.Spelling.{Contents}
 use Rattle.map_tree.specs.Ends.{IsWideAt, IsWideNode, IsEnd}
 use Rattle.map_tree.specs.Halves.{HasDepth}
-use Rattle.map_tree.specs.Nodes.{child_rows, child_fresh, kids_fresh}
+use Rattle.map_tree.specs.Nodes.{Kid, child_rows, child_fresh, kids_fresh}
 use Rattle.map_tree.specs.Scanning.{kid_shown}
 use Rattle.map_tree.specs.SecondKeys.{second_key}
 use Rattle.map_tree.specs.Shown.{Seen, shown, chunk_rows, rows_or, IsTree}
@@ -52,8 +52,8 @@ CanRemove contents below key c = IsTree (child_rows contents below c) × HasDept
 
 -- an own child, so deep, stands at the place of this one, and shows these rows; so many chunks of it may be new
 abbrev pub ChildRemoved : Contents → ℕ → ℕ → List Child → List Child → Child → Option Rows → Type 0
-ChildRemoved contents below place old new child rows = (n : Seen) × (new ≡ slice_set old place (Own n)) × (n.depth ≡ below) × (shown contents n.pieces ≡ rows)
-    × (n.fresh ≤ child_fresh child + below)
+ChildRemoved contents below place old new child rows = (n : Kid) × (new ≡ slice_set old place (Own n)) × (n.value.depth ≡ below) × (shown contents n.value.pieces ≡ rows)
+    × (n.value.fresh ≤ child_fresh child + below)
 
 -- what children show of which there is at most one
 abbrev pub one_shown : Contents → List Child → Option Rows

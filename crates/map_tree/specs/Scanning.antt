@@ -63,7 +63,7 @@ opened_rows contents (Inner children) = children_rows contents children
 -- the rows of a child of a draft's chunk, however deep it is
 abbrev pub kid_shown : Contents → Child → Option Rows
 kid_shown contents (Placed at) = chunk_rows contents (stamp_of at)
-kid_shown contents (Own n) = shown contents n.pieces
+kid_shown contents (Own n) = shown contents n.value.pieces
 
 -- the rows of the children of a draft's chunk
 abbrev pub kids_shown : Contents → List (Bytes × Child) → Option Rows

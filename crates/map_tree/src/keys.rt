@@ -172,9 +172,11 @@ pub(crate) fn move_tail<T: Drop>(left: &mut Vec<T>, right: &mut Vec<T>)
     ensures left { left.new.items ≡ take 8 left.old.items }
     ensures right { right.new.items ≡ drop 8 left.old.items }
 {
+    // The last one comes first, so they are turned round at the end.
     while left.len() > FIRST_HALF {
         if let Some(last) = left.pop() {
-            let _ = right.insert(0, last);
+            let _ = right.push(last);
         }
     }
+    right.reverse();
 }

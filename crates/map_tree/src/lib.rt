@@ -12,6 +12,7 @@ mod placed;
 mod scanning;
 mod search;
 mod seconds;
+mod seeking;
 mod shelf;
 mod staged;
 mod tree;

@@ -1,6 +1,7 @@
 //! Looks at placed chunks, each of which is left again at once.
 ghost use Rattle.std.specs.Prelude.{◌≡◌, ◌<◌, ◌⊎◌, length, Some, IfOk, IfErr};
 ghost use mathlib.Core.List.{IsPrefix};
+ghost use Rattle.map_tree.specs.Writes.{is_there, is_the_same};
 
 use group_history::{Json, Ref, Text};
 
@@ -11,6 +12,58 @@ pub(crate) enum Step {
     Found(Option<Json>),
     /// The child to which the key belongs.
     Below(Ref),
+}
+
+/// How the value at a key stands to another one.
+#[derive(Clone, Copy)]
+pub(crate) enum Standing {
+    /// There is no such key.
+    Absent,
+    /// Another value is there, or none was asked for.
+    Other,
+    /// This very value is there.
+    Same,
+}
+
+impl Standing {
+    /// Whether the key is there.
+    pub(crate) fn is_there(self) -> bool
+        ensures { result ≡ is_there self }
+    {
+        match self {
+            Standing::Absent => false,
+            Standing::Other => true,
+            Standing::Same => true,
+        }
+    }
+
+    /// Whether the value is there.
+    pub(crate) fn is_same(self) -> bool
+        ensures { result ≡ is_the_same self }
+    {
+        match self {
+            Standing::Absent => false,
+            Standing::Other => false,
+            Standing::Same => true,
+        }
+    }
+}
+
+/// What a look at one chunk on the way to a key tells of its value.
+#[derive(Clone, Copy)]
+pub(crate) enum Hint {
+    /// How the value stands to the one asked for.
+    Stands(Standing),
+    /// The child to which the key belongs.
+    On(Ref),
+}
+
+/// What a look all the way down tells of a key's value.
+#[derive(Clone, Copy)]
+pub(crate) struct Sought {
+    pub(crate) standing: Standing,
+    /// How many chunks there are on the way: the depth of the tree.
+    pub(crate) depth: u64,
 }
 
 /// What a look at one chunk on the way to the second key of its rows gives.

@@ -1,11 +1,13 @@
 //! The chunks of a draft that it owns, and changes in place.
 //!
-//! An own chunk holds its children, each an own chunk or a reference to a placed one. Contracts see it
-//! as the list of its pieces: rows, and the placed chunks below it, in the order of their keys.
+//! An own chunk holds its children, each an own chunk behind a pointer or a reference to a placed one, so
+//! a child takes two words. Contracts see an own chunk as the list of its pieces: rows, and the placed
+//! chunks below it, in the order of their keys.
 mod building;
 mod copies;
 mod counting;
 mod freezing;
+mod homes;
 mod putting;
 mod reading;
 mod removing;
@@ -14,6 +16,7 @@ mod scanning;
 mod writing;
 
 use crate::keys::NodeKeys;
+pub(crate) use copies::room_for;
 pub(crate) use freezing::frozen;
 use group_history::{Json, Ref};
 use std::marker::Model;
@@ -38,7 +41,7 @@ enum Body {
 #[derive(Drop)]
 enum Child {
     Placed(Ref),
-    Own(Node),
+    Own(Box<Node>),
 }
 
 impl Model for Node {

@@ -55,7 +55,7 @@ fn is_past(scan: &Scan, key: &Text) -> bool
 {
     let key = key.as_str();
     let prefix = scan.prefix.as_str();
-    key.cmp(prefix).is_gt() && !key.as_bytes().starts_with(prefix.as_bytes())
+    !key.as_bytes().starts_with(prefix.as_bytes()) && key.cmp(prefix).is_gt()
 }
 
 // Takes the row, if its key is in the scan.

@@ -5,12 +5,11 @@ mod deleting;
 mod freezing;
 mod scanning;
 
-ghost use Rattle.std.specs.Prelude.{◌≡◌};
-ghost use Rattle.map_tree.specs.Writes.{is_same};
-
 use crate::chunks::Chunks;
-use crate::nodes::Node;
+use crate::looks::Sought;
+use crate::nodes::{Node, room_for};
 use crate::placed::{depth_placed, get_placed};
+use crate::seeking::seek_placed;
 use group_history::{Json, Ref, Stop};
 use std::alloc::Global;
 
@@ -28,7 +27,7 @@ enum Root {
 }
 
 impl Tree {
-    ghost use Rattle.std.specs.Prelude.{◌≡◌, ◌⊎◌, ◌+◌, ◌≤◌, ℕ, Some, IfOk, IfErr, OnOk, OnErr, IsSome};
+    ghost use Rattle.std.specs.Prelude.{◌≡◌, ◌⊎◌, ◌+◌, ◌≤◌, ℕ, Some, IfOk, IfErr, OnOk, OnErr, IsSome, option_copied};
     ghost use mathlib.Core.List.{IsPrefix};
     ghost use Rattle.std.specs.FinMap as finite;
     ghost use Rattle.group_history.specs.Map.{Entries};
@@ -36,6 +35,7 @@ impl Tree {
     ghost use Rattle.group_history.specs.Spelling.{Contents, map_at};
     ghost use Rattle.group_history.specs.declared.mutators.Stop.TheVariants.{NoMemory};
     ghost use Rattle.map_tree.specs.Trees.{tree_map, tree_depth, tree_fresh, tree_root, HasWideRoot, IsWideAt};
+    ghost use Rattle.map_tree.specs.Writes.{standing};
 
     /// The map whose root is placed there.
     pub fn at(root: Ref) -> Tree
@@ -81,7 +81,33 @@ impl Tree {
         ensures value { (m : Entries) → tree_map (C.contents chunks.old) self.now ≡ Some m → IfOk result (λ v. v ≡ finite.contains_key m key.now) }
         ensures stopped { IfErr result (λ s. (s ≡ NoMemory) ⊎ C.stops s) }
     {
-        Ok(self.get(chunks, key)?.is_some())
+        let sought = self.sought(chunks, key, None)?;
+        Ok(sought.standing.is_there())
+    }
+
+    // How the value at the key stands to the one asked for, and how deep the tree is.
+    fn sought<C: Chunks>(
+        &self,
+        chunks: &mut C,
+        key: &str,
+        asked: Option<&Json>,
+    ) -> Result<Sought, Stop>
+        requires { IsSome (tree_map (C.contents chunks.old) self.now) }
+        ensures grown { IsPrefix (C.contents chunks.old) (C.contents chunks.new) }
+        ensures standing { (m : Entries) → tree_map (C.contents chunks.old) self.now ≡ Some m → IfOk result (λ s. s.standing ≡ standing (finite.get m key.now) (option_copied asked.entry)) }
+        ensures depth { IfOk result (λ s. tree_depth (C.contents chunks.old) self.now ≡ Some s.depth) }
+        ensures stopped { IfErr result (λ s. (s ≡ NoMemory) ⊎ C.stops s) }
+    {
+        match &self.root {
+            Root::Placed(at) => seek_placed(chunks, *at, key, asked),
+            Root::Own(node) => {
+                let standing = node.standing(chunks, key, asked)?;
+                Ok(Sought {
+                    standing,
+                    depth: node.depth(),
+                })
+            }
+        }
     }
 
     /// How deep the tree is: 1 where its root is a leaf.
@@ -118,30 +144,20 @@ impl Tree {
         ensures err { OnErr result (self.new ≡ self.old) }
         ensures stopped { IfErr result (λ s. (s ≡ NoMemory) ⊎ C.stops s) }
     {
-        let found = self.get(chunks, key)?;
-        let there = found.is_some();
-        if is_value(&found, value) {
+        let sought = self.sought(chunks, key, Some(value))?;
+        if sought.standing.is_same() {
             return Ok(());
         }
+        let there = sought.standing.is_there();
         match &mut self.root {
             Root::Own(node) => return node.write(alloc, chunks, key, value, there),
             Root::Placed(at) => {
-                let depth = depth_placed(chunks, *at)?;
-                let mut node = Node::copied(alloc, chunks, *at, depth)?;
+                let room = room_for(there);
+                let mut node = Node::copied(alloc, chunks, *at, sought.depth, room)?;
                 node.write(alloc, chunks, key, value, there)?;
                 self.root = Root::Own(node);
                 return Ok(());
             }
         }
-    }
-}
-
-// Whether this value was found.
-fn is_value(found: &Option<Json>, value: &Json) -> bool
-    ensures { result ≡ is_same found.now value.now }
-{
-    match found {
-        Some(there) => there == value,
-        None => false,
     }
 }

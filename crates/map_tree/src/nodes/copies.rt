@@ -1,5 +1,6 @@
-//! Copies of placed chunks.
-ghost use Rattle.std.specs.Prelude.{◌≡◌, ◌⊎◌, length, map, Some, IfOk, IfErr, IsSome};
+//! Copies of placed chunks. A copy in which an entry is to be added gets room for a full chunk, and another
+//! one room for what it has.
+ghost use Rattle.std.specs.Prelude.{◌≡◌, ◌⊎◌, length, map, Some, IfOk, IfErr, IsSome, if◌then◌else◌};
 ghost use mathlib.Core.List.{IsPrefix};
 ghost use Rattle.group_history.specs.Refs.{stamp_of};
 ghost use Rattle.group_history.specs.Spelling.{rows_at};
@@ -12,17 +13,18 @@ ghost use Rattle.map_tree.specs.declared.nodes.Child.TheVariants.{Placed};
 
 use super::{Body, Child, Node};
 use crate::chunks::{Chunks, ShowsChunk};
-use crate::keys::NodeKeys;
+use crate::keys::{NodeKeys, ROOM};
 use group_history::{Chunk, Json, Ref, Stop};
 use std::alloc::{AllocError, Global};
 
 impl Node {
-    /// A copy of the placed chunk, which is so deep.
+    /// A copy of the placed chunk, which is so deep, with room for so many entries.
     pub(crate) fn copied<C: Chunks>(
         alloc: Global,
         chunks: &mut C,
         at: Ref,
         depth: u64,
+        room: usize,
     ) -> Result<Node, Stop>
         requires { IsSome (rows_at (C.contents chunks.old) depth (stamp_of at)) }
         ensures grown { IsPrefix (C.contents chunks.old) (C.contents chunks.new) }
@@ -33,47 +35,56 @@ impl Node {
         ensures stopped { IfErr result (λ s. (s ≡ NoMemory) ⊎ C.stops s) }
     {
         let held = chunks.show(at)?;
-        let node = Node::of_chunk(alloc, held.chunk(), depth);
+        let node = Node::of_chunk(alloc, held.chunk(), depth, room);
         chunks.leave(held);
         Ok(node?)
     }
 
-    fn of_chunk(alloc: Global, chunk: &Chunk<Ref>, depth: u64) -> Result<Node, AllocError>
+    fn of_chunk(
+        alloc: Global,
+        chunk: &Chunk<Ref>,
+        depth: u64,
+        room: usize,
+    ) -> Result<Node, AllocError>
         requires { MayBeDeep depth chunk.now }
         ensures { IfOk result (IsCopy depth chunk.now) }
     {
         match chunk {
             Chunk::Leaf(leaf) => {
                 let keys = NodeKeys::shared(leaf.keys().clone()?);
-                let body = Body::Leaf(copied_values(alloc, leaf.values())?);
+                let body = Body::Leaf(copied_values(alloc, leaf.values(), room)?);
                 Ok(Node { depth, keys, body })
             }
             Chunk::Inner(inner) => {
                 let keys = NodeKeys::shared(inner.firsts().clone()?);
-                let body = Body::Inner(placed_children(alloc, inner.children())?);
+                let body = Body::Inner(placed_children(alloc, inner.children(), room)?);
                 Ok(Node { depth, keys, body })
             }
         }
     }
 }
 
-/// So many entries a chunk has at most, while it is changed.
-const ROOM: usize = 17;
+/// The room of a copy, by whether the key that is put is there already.
+pub(crate) fn room_for(there: bool) -> usize
+    ensures { result ≡ (if there then 0 else 17) }
+{
+    if there { 0 } else { ROOM }
+}
 
-fn copied_values(alloc: Global, values: &[Json]) -> Result<Vec<Json>, AllocError>
+fn copied_values(alloc: Global, values: &[Json], room: usize) -> Result<Vec<Json>, AllocError>
     ensures { IfOk result (λ copy. copy.items ≡ values.now) }
 {
-    let mut copy = Vec::with_capacity(alloc, ROOM)?;
+    let mut copy = Vec::with_capacity(alloc, values.len().max(room))?;
     for value in values {
         copy.push(value.clone()?)?;
     }
     Ok(copy)
 }
 
-fn placed_children(alloc: Global, children: &[Ref]) -> Result<Vec<Child>, AllocError>
+fn placed_children(alloc: Global, children: &[Ref], room: usize) -> Result<Vec<Child>, AllocError>
     ensures { IfOk result (λ copy. copy.items ≡ map (λ at. Placed at) children.now) }
 {
-    let mut copy = Vec::with_capacity(alloc, ROOM)?;
+    let mut copy = Vec::with_capacity(alloc, children.len().max(room))?;
     for at in children {
         copy.push(Child::Placed(*at))?;
     }

@@ -101,7 +101,7 @@ fn freeze_kid(alloc: Global, kid: Child, draft: &mut Draft) -> Result<Ref, Refus
             return Ok(at);
         }
         Child::Own(node) => {
-            return node.freeze(alloc, draft);
+            return Box::into_inner(node).freeze(alloc, draft);
         }
     }
 }

@@ -15,5 +15,5 @@ use group_history::Text;
 #[derive(Drop)]
 pub(crate) struct Half {
     pub(crate) firsts: Vec<Text>,
-    pub(crate) node: Node,
+    pub(crate) node: Box<Node>,
 }

@@ -1,5 +1,5 @@
 //! Queries of a draft's chunks.
-ghost use Rattle.std.specs.Prelude.{◌≡◌, ◌==◌, ◌⊎◌, Some, IfOk, IfErr, length};
+ghost use Rattle.std.specs.Prelude.{◌≡◌, ◌==◌, ◌⊎◌, Some, IfOk, IfErr, length, option_copied};
 ghost use mathlib.Core.List.{IsPrefix};
 ghost use Rattle.std.specs.Ordering.{nat_cmp};
 ghost use Rattle.std.specs.Cmp.Lexicographic.{slice_cmp};
@@ -7,12 +7,15 @@ ghost use Rattle.std.specs.FinMap as finite;
 ghost use Rattle.group_history.specs.Rows.{Rows};
 ghost use Rattle.group_history.specs.Spelling.{Contents};
 ghost use Rattle.group_history.specs.declared.mutators.Stop.TheVariants.{NoMemory};
+ghost use Rattle.map_tree.specs.Seeking.{stands_in};
 ghost use Rattle.map_tree.specs.Shown.{shown, IsTree, rows_or};
 
 use super::{Body, Child, Node};
 use crate::chunks::Chunks;
+use crate::looks::Standing;
 use crate::placed::get_placed;
-use crate::search::{place_of, value_at};
+use crate::search::{place_of, standing_at, value_at};
+use crate::seeking::seek_placed;
 use group_history::{Json, Stop};
 
 impl Node {
@@ -30,6 +33,33 @@ impl Node {
                 match &kids[place] {
                     Child::Placed(at) => get_placed(chunks, *at, key),
                     Child::Own(node) => node.get(chunks, key),
+                }
+            }
+        }
+    }
+
+    /// How the value at a key stands to the one asked for.
+    pub(crate) fn standing<C: Chunks>(
+        &self,
+        chunks: &mut C,
+        key: &str,
+        asked: Option<&Json>,
+    ) -> Result<Standing, Stop>
+        requires { IsTree (shown (C.contents chunks.old) self.now.pieces) }
+        ensures grown { IsPrefix (C.contents chunks.old) (C.contents chunks.new) }
+        ensures standing { IfOk result (λ s. s ≡ stands_in (rows_or (shown (C.contents chunks.old) self.now.pieces)) key.now (option_copied asked.entry)) }
+        ensures stopped { IfErr result (λ s. (s ≡ NoMemory) ⊎ C.stops s) }
+    {
+        match &self.body {
+            Body::Leaf(values) => Ok(standing_at(self.keys.as_slice(), values, key, asked)),
+            Body::Inner(kids) => {
+                let place = place_of(self.keys.as_slice(), key);
+                match &kids[place] {
+                    Child::Placed(at) => {
+                        let sought = seek_placed(chunks, *at, key, asked)?;
+                        Ok(sought.standing)
+                    }
+                    Child::Own(node) => node.standing(chunks, key, asked),
                 }
             }
         }

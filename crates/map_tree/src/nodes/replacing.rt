@@ -45,7 +45,7 @@ impl Node {
                 match &mut kids[place] {
                     Child::Own(node) => return node.replace(alloc, chunks, key, value),
                     Child::Placed(at) => {
-                        let mut node = Node::copied(alloc, chunks, *at, self.depth - 1)?;
+                        let mut node = Node::copied_child(alloc, chunks, *at, self.depth - 1, 0)?;
                         node.replace(alloc, chunks, key, value)?;
                         kids[place] = Child::Own(node);
                         return Ok(());

@@ -9,7 +9,7 @@ ghost use Rattle.map_tree.specs.Trees.{tree_map, tree_depth, tree_fresh, HasWide
 use super::{Root, Tree};
 use crate::chunks::Chunks;
 use crate::nodes::Node;
-use crate::placed::{depth_placed, is_empty_placed};
+use crate::placed::is_empty_placed;
 use group_history::Stop;
 use std::alloc::Global;
 
@@ -40,16 +40,23 @@ impl Tree {
         ensures err { OnErr result (self.new ≡ self.old) }
         ensures stopped { IfErr result (λ s. (s ≡ NoMemory) ⊎ C.stops s) }
     {
-        let there = self.has(chunks, key)?;
-        if there {
-            return self.remove(alloc, chunks, key);
+        let sought = self.sought(chunks, key, None)?;
+        if sought.standing.is_there() {
+            return self.remove(alloc, chunks, key, sought.depth);
         }
         Ok(())
     }
 
-    // Removes a key on a path of chunks that are the tree's own from then on.
-    fn remove<C: Chunks>(&mut self, alloc: Global, chunks: &mut C, key: &str) -> Result<(), Stop>
-        requires { IsSome (tree_map (C.contents chunks.old) self.old) }
+    // Removes a key on a path of chunks that are the tree's own from then on. The tree is so deep.
+    fn remove<C: Chunks>(
+        &mut self,
+        alloc: Global,
+        chunks: &mut C,
+        key: &str,
+        depth: u64,
+    ) -> Result<(), Stop>
+        requires map { IsSome (tree_map (C.contents chunks.old) self.old) }
+        requires depth { tree_depth (C.contents chunks.old) self.old ≡ Some depth }
         ensures grown { IsPrefix (C.contents chunks.old) (C.contents chunks.new) }
         ensures ok { (m : Entries) → tree_map (C.contents chunks.old) self.old ≡ Some m → OnOk result (tree_map (C.contents chunks.new) self.new ≡ Some (finite.remove m key.now)) }
         ensures few { (d : ℕ) → tree_depth (C.contents chunks.old) self.old ≡ Some d → OnOk result (tree_fresh self.new ≤ tree_fresh self.old + d) }
@@ -66,8 +73,7 @@ impl Tree {
                 }
             },
             Root::Placed(at) => {
-                let depth = depth_placed(chunks, *at)?;
-                let mut node = Node::copied(alloc, chunks, *at, depth)?;
+                let mut node = Node::copied(alloc, chunks, *at, depth, 0)?;
                 match node.remove_root(alloc, chunks, key)? {
                     None => {
                         self.root = Root::Own(node);

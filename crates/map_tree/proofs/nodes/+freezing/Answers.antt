@@ -1,10 +1,11 @@
-use Rattle.std.proofs.Common.{refl, ◌<◌, [], ◌∷◌, ◌++◌, append_assoc, ◌≡◌, ◌∙◌, ◌≤◌, ◌+◌, ◌-◌, ap, sym, subst, arith, length, IfOk}
+use Rattle.std.proofs.Common.{refl, ◌<◌, [], ◌∷◌, ◌++◌, append_assoc, ◌≡◌, ◌∙◌, ◌≤◌, ◌+◌, ◌-◌, ap, sym, subst, arith, length, IfOk, Some}
 use Rattle.group_history.specs.declared.nodes.Chunk.TheVariants as chunked
 use Rattle.group_history.specs.declared.nodes.Node.TheVariants as node
 use Rattle.group_history.specs.Naming.{content_of}
-use Rattle.group_history.specs.Rows.{paired}
+use Rattle.group_history.specs.Refs.{stamp_of}
+use Rattle.group_history.specs.Rows.{Rows, paired}
 use Rattle.std.specs.Vec.Iter.{into_iter_items}
-use Rattle.group_history.specs.Spelling.{rows_at, joined_rows}
+use Rattle.group_history.specs.Spelling.{Contents, rows_at, joined_rows}
 use Rattle.group_history.proofs.Folding.{prefix_trans}
 use Rattle.map_tree.specs.Freezing.{with_nodes, IsFrozen, AreFrozen}
 use Rattle.map_tree.specs.Nodes.{body_pieces, body_height, child_height, child_fresh, kids_fresh, kids_height, IsNode}
@@ -67,7 +68,7 @@ Node::freeze-returns-in-Inner-clause-spelled t c contents rows l h =
 pub freezing::freeze_kid-returns-in-Own-clause-frozen : goal.freezing::freeze_kid-returns-in-Own-clause-frozen
 freezing::freeze_kid-returns-in-Own-clause-frozen t c =
     subst (λ (k : Child). IfOk c.freeze.result (IsFrozen c.args.draft.now.first c.args.draft.now.nodes c.freeze.new.draft.nodes k)) (sym c.in-Own.is)
-    (own_frozen c.freeze.result c.args.draft.now.first c.args.draft.now.nodes c.freeze.new.draft.nodes c.in-Own.node c.freeze.ensures.spelled)
+    (own_frozen c.freeze.result c.args.draft.now.first c.args.draft.now.nodes c.freeze.new.draft.nodes c.in-Own.node (subst (λ (s : Seen). (contents : Contents) (rows : Rows) → length contents ≡ c.args.draft.now.first → shown (with_nodes contents c.args.draft.now.nodes) s.pieces ≡ Some rows → IfOk c.freeze.result (λ root. rows_at (with_nodes contents c.freeze.new.draft.nodes) s.depth (stamp_of root) ≡ Some rows)) c.into_inner.ensures c.freeze.ensures.spelled))
 
 pub freezing::freeze_kids-freeze_kid-requires : goal.freezing::freeze_kids-freeze_kid-requires
 freezing::freeze_kids-freeze_kid-requires t c =

@@ -1,5 +1,6 @@
 use Rattle.std.proofs.Common.{◌≡◌, ◌+◌, ◌-◌, arith, length, sym, ap, subst, ◌∙◌, Some, get_or, length-set, slice_get, nat_cmp, T, refl, set-set}
 use Rattle.std.specs.Prelude.{IsSome}
+use Rattle.std.specs.Box.{with_value}
 use Rattle.std.specs.Cmp.Lexicographic.{slice_cmp}
 use Rattle.std.specs.FinMap as finite
 use Rattle.group_history.specs.Refs.{stamp_of}
@@ -7,13 +8,14 @@ use Rattle.group_history.specs.Rows.{paired, rises, keys_of}
 use Rattle.group_history.specs.Spelling.{rows_at}
 use Rattle.map_tree.specs.Counts.{HasKept}
 use Rattle.map_tree.specs.Halves.{IsHalf, AreNinth, HasDepth, ChildPut, with_half, lowered}
-use Rattle.map_tree.specs.Nodes.{AllKids, child_rows, kids_pieces, child_fresh, kids_fresh}
+use Rattle.map_tree.specs.Nodes.{Kid, AllKids, child_rows, kids_pieces, child_fresh, kids_fresh}
 use Rattle.map_tree.specs.Search.{IsPlace}
 use Rattle.map_tree.specs.Shown.{Seen, shown, rows_or, IsTree}
 use Rattle.map_tree.specs.declared.nodes.Child.{Child}
 use Rattle.map_tree.specs.declared.nodes.Child.TheVariants.{Placed, Own}
 use Rattle.map_tree.proofs.CountLemmas.{if_ok_so, fresh-set, leaf_counts, inner_counts}
-use Rattle.map_tree.proofs.NodeLemmas.{shown-rows, child_at}
+use Rattle.map_tree.proofs.AnswerLemmas.{on_err}
+use Rattle.map_tree.proofs.NodeLemmas.{shown-rows, child_at, written_back}
 use Rattle.map_tree.proofs.OpenLemmas.{known}
 use Rattle.map_tree.proofs.ReplaceLemmas.{leaf_rows}
 use Rattle.map_tree.proofs.PathLemmas.{put_path, filled_pairs, filled_kids, length-pairs, node_at, child_requires, if_ok, indexed_child, done_at, length-lowered, ninth_lowered}
@@ -218,8 +220,9 @@ putting::paths::put_child-put-requires g t c κs within =
     let kids = c.args.kids.now.items in
     let child = c.index_mut.result.now in
     let r = c.requires.tree child (child_at kids c.args.place (length kids) child refl c.requires.within c.index_mut.ensures.value) in
-    let d : c.in-Own.node.depth ≡ c.args.below = subst (HasDepth c.args.below) c.in-Own.is r.1 in
-    (omega (arith, d, c.decreases), (within.0, (within.1, (subst (λ x. IsTree (child_rows p c.args.below x)) c.in-Own.is r.0, omega (arith, d, c.requires.copies)))))
+    let v = c.deref_mut.ensures.value in
+    let d : c.deref_mut.result.now.depth ≡ c.args.below = ap (λ (s : Seen). s.depth) v ∙ subst (HasDepth c.args.below) c.in-Own.is r.1 in
+    (omega (arith, d, c.decreases), (within.0, (within.1, (subst (λ (s : Seen). IsTree (shown p s.pieces)) (sym v) (subst (λ x. IsTree (child_rows p c.args.below x)) c.in-Own.is r.0), omega (arith, d, c.requires.copies)))))
 
 pub putting::paths::put_child-returns-in-Own-clause-done : goal.putting::paths::put_child-returns-in-Own-clause-done
 putting::paths::put_child-returns-in-Own-clause-done g t c x h =
@@ -228,14 +231,22 @@ putting::paths::put_child-returns-in-Own-clause-done g t c x h =
     let child = c.index_mut.result.now in
     let r = c.requires.tree child (child_at kids c.args.place (length kids) child refl c.requires.within c.index_mut.ensures.value) in
     let q = g.C.Chunks.contents c.put.new.chunks in
-    let n : Seen = c.put.new.self in
-    let d : c.in-Own.node.depth ≡ c.args.below = subst (HasDepth c.args.below) c.in-Own.is r.1 in
+    let n : Kid = with_value c.in-Own.node c.put.new.self in
+    let v = c.deref_mut.ensures.value in
+    let d : c.deref_mut.result.now.depth ≡ c.args.below = ap (λ (s : Seen). s.depth) v ∙ subst (HasDepth c.args.below) c.in-Own.is r.1 in
     let e : x ≡ Own c.in-Own.node = indexed_child kids c.args.place child x c.requires.within c.index_mut.ensures.value h ∙ c.in-Own.is in
-    if_ok c.put.result c.put.ensures.done c.put.ensures.half c.put.ensures.filled (λ half s i f.
-    (n, refl, c.put.ensures.depth ∙ d, f, s ∙ ap (λ y. Some (finite.put (slice_cmp nat_cmp) c.args.key.now c.args.value (rows_or (child_rows p c.args.below y)))) (sym e), subst (λ w. IsHalf c.args.copies w half) d i))
+    if_ok c.put.result c.put.ensures.done c.put.ensures.half c.put.ensures.filled (λ half s i f. (
+      n,
+      refl,
+      c.put.ensures.depth ∙ d,
+      f,
+      s ∙ ap (λ (m : Seen). Some (finite.put (slice_cmp nat_cmp) c.args.key.now c.args.value (rows_or (shown p m.pieces)))) v
+          ∙ ap (λ y. Some (finite.put (slice_cmp nat_cmp) c.args.key.now c.args.value (rows_or (child_rows p c.args.below y)))) (sym e),
+      subst (λ w. IsHalf c.args.copies w half) d i,
+    ))
 
-pub putting::paths::put_child-copied-requires : goal.putting::paths::put_child-copied-requires
-putting::paths::put_child-copied-requires g t c =
+pub putting::paths::put_child-copied_child-requires : goal.putting::paths::put_child-copied_child-requires
+putting::paths::put_child-copied_child-requires g t c =
     let p = g.C.Chunks.contents c.args.chunks.now in
     let kids = c.args.kids.now.items in
     let child = c.index_mut.result.now in
@@ -248,13 +259,20 @@ putting::paths::put_child-put-requires-in-Placed g t c κs within =
     let p = g.C.Chunks.contents c.args.chunks.now in
     let kids = c.args.kids.now.items in
     let child = c.index_mut.result.now in
-    let r = c.requires.tree child (child_at kids c.args.place (length kids) child refl c.requires.within c.index_mut.ensures.value) in (
-      omega (arith, c.in_ok-node-in-Placed.ensures.depth, c.decreases),
+    let r = c.requires.tree child (child_at kids c.args.place (length kids) child refl c.requires.within c.index_mut.ensures.value) in
+    let q = g.C.Chunks.contents c.copied_child.new.chunks in
+    let v = c.deref_mut-in-Placed.ensures.value in
+    let d : c.deref_mut-in-Placed.result.now.depth ≡ c.args.below = ap (λ (s : Seen). s.depth) v ∙ c.in_ok-node-in-Placed.ensures.depth in (
+      omega (arith, d, c.decreases),
       (
         within.0,
         (
           within.1,
-          (subst IsTree (sym c.in_ok-node-in-Placed.ensures.rows) (subst (λ x. IsTree (child_rows p c.args.below x)) c.in-Placed.is r.0), omega (arith, c.in_ok-node-in-Placed.ensures.depth, c.requires.copies)),
+          (
+            subst (λ (s : Seen). IsTree (shown q s.pieces)) (sym v)
+                (subst IsTree (sym c.in_ok-node-in-Placed.ensures.rows) (subst (λ x. IsTree (child_rows p c.args.below x)) c.in-Placed.is r.0)),
+            omega (arith, d, c.requires.copies),
+          ),
         ),
       ),
     )
@@ -265,16 +283,19 @@ putting::paths::put_child-returns-in-Placed-clause-done g t c x h =
     let kids = c.args.kids.now.items in
     let child = c.index_mut.result.now in
     let r = c.requires.tree child (child_at kids c.args.place (length kids) child refl c.requires.within c.index_mut.ensures.value) in
-    let n : Seen = c.put-in-Placed.new.self in
+    let n : Kid = with_value c.in_ok-node-in-Placed.node c.put-in-Placed.new.self in
+    let v = c.deref_mut-in-Placed.ensures.value in
     let half = c.in_ok-half-in-Placed.half in
     let e : x ≡ Placed c.in-Placed.at = indexed_child kids c.args.place child x c.requires.within c.index_mut.ensures.value h ∙ c.in-Placed.is in
-    let d : c.in_ok-node-in-Placed.node.depth ≡ c.args.below = c.in_ok-node-in-Placed.ensures.depth in (
+    let q = g.C.Chunks.contents c.copied_child.new.chunks in
+    let d : c.deref_mut-in-Placed.result.now.depth ≡ c.args.below = ap (λ (s : Seen). s.depth) v ∙ c.in_ok-node-in-Placed.ensures.depth in (
       n,
       set-set kids c.args.place (Placed c.in-Placed.at) (Own n),
       c.put-in-Placed.ensures.depth ∙ d,
       c.in_ok-half-in-Placed.ensures.filled,
       c.in_ok-half-in-Placed.ensures.done
-          ∙ ap (λ z. Some (finite.put (slice_cmp nat_cmp) c.args.key.now c.args.value (rows_or z))) (c.in_ok-node-in-Placed.ensures.rows ∙ ap (child_rows p c.args.below) (sym e)),
+          ∙ ap (λ z. Some (finite.put (slice_cmp nat_cmp) c.args.key.now c.args.value (rows_or z)))
+          (ap (λ (s : Seen). shown q s.pieces) v ∙ c.in_ok-node-in-Placed.ensures.rows ∙ ap (child_rows p c.args.below) (sym e)),
       subst (λ w. IsHalf c.args.copies w half) d c.in_ok-half-in-Placed.ensures.half,
     )
 
@@ -300,15 +321,27 @@ putting::paths::put_child-returns-in-Own-clause-fresh g t c =
     let kids = c.args.kids.now.items in
     let child = c.index_mut.result.now in
     let r = c.requires.tree child (child_at kids c.args.place (length kids) child refl c.requires.within c.index_mut.ensures.value) in
-    let d : c.in-Own.node.depth ≡ c.args.below = subst (HasDepth c.args.below) c.in-Own.is r.1 in
-    let f = fresh-set kids c.args.place child (Own c.put.new.self) c.requires.within c.index_mut.ensures.value in
-    if_ok_so c.put.result c.put.ensures.fresh (λ half s. omega (arith, s, f, d, ap child_fresh c.in-Own.is))
+    let v = c.deref_mut.ensures.value in
+    let d : c.deref_mut.result.now.depth ≡ c.args.below = ap (λ (s : Seen). s.depth) v ∙ subst (HasDepth c.args.below) c.in-Own.is r.1 in
+    let f = fresh-set kids c.args.place child (Own (with_value c.in-Own.node c.put.new.self)) c.requires.within c.index_mut.ensures.value in
+    if_ok_so c.put.result c.put.ensures.fresh (λ half s. omega (arith, s, f, d, ap (λ (s : Seen). s.fresh) v, ap child_fresh c.in-Own.is))
 
 pub putting::paths::put_child-returns-in-Placed-clause-fresh : goal.putting::paths::put_child-returns-in-Placed-clause-fresh
 putting::paths::put_child-returns-in-Placed-clause-fresh g t c =
     let kids = c.args.kids.now.items in
     let child = c.index_mut.result.now in
-    let n : Seen = c.put-in-Placed.new.self in
+    let n : Kid = with_value c.in_ok-node-in-Placed.node c.put-in-Placed.new.self in
+    let v = c.deref_mut-in-Placed.ensures.value in
     let f = fresh-set kids c.args.place child (Own n) c.requires.within c.index_mut.ensures.value in
     let twice = ap kids_fresh (set-set kids c.args.place (Placed c.in-Placed.at) (Own n)) in
-    omega (arith, c.in_ok-half-in-Placed.ensures.fresh, f, twice, c.in_ok-node-in-Placed.ensures.depth, c.in_ok-node-in-Placed.ensures.fresh, ap child_fresh c.in-Placed.is)
+    omega (arith, c.in_ok-half-in-Placed.ensures.fresh, f, twice, ap (λ (s : Seen). s.depth) v, ap (λ (s : Seen). s.fresh) v, c.in_ok-node-in-Placed.ensures.depth, c.in_ok-node-in-Placed.ensures.fresh, ap child_fresh c.in-Placed.is)
+
+pub putting::paths::put_child-returns-in-Own-clause-err : goal.putting::paths::put_child-returns-in-Own-clause-err
+putting::paths::put_child-returns-in-Own-clause-err g t c =
+    on_err c.put.result c.put.ensures.err
+    (λ e. written_back c.args.kids.now.items c.args.place c.index_mut.result.now c.in-Own.node c.put.new.self c.index_mut.ensures.value c.in-Own.is (e ∙ c.deref_mut.ensures.value))
+
+pub Node::put-prepare-requires-clause-place : goal.Node::put-prepare-requires-clause-place
+Node::put-prepare-requires-clause-place g t c =
+    let i = c.place_of-place.result in
+    subst (λ w. IsPlace c.args.key.now w i) c.as_slice.ensures (subst (λ k. IsPlace k c.as_slice.result.now i) c.as_str.ensures c.place_of-place.ensures)

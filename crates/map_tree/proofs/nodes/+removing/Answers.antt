@@ -1,19 +1,20 @@
 use Rattle.std.proofs.Common.{◌≡◌, ◌<◌, ◌-◌, ◌∙◌, Some, OnOk, ap, sym, subst, arith, refl, length, get_or, set-set, []}
 use Rattle.std.specs.Prelude.{IsSome}
+use Rattle.std.specs.Box.{with_value}
 use Rattle.group_history.proofs.Folding.{append_nil}
 use Rattle.group_history.specs.Refs.{stamp_of}
 use Rattle.group_history.specs.Rows.{paired}
 use Rattle.group_history.specs.Spelling.{rows_at}
 use Rattle.map_tree.specs.Halves.{lowered}
-use Rattle.map_tree.specs.Nodes.{body_pieces, child_rows, child_fresh, kids_fresh, kids_pieces, row_pieces, IsNode}
+use Rattle.map_tree.specs.Nodes.{Kid, body_pieces, child_rows, child_fresh, kids_fresh, kids_pieces, row_pieces, IsNode}
 use Rattle.map_tree.specs.Removing.{without, IsFate, HasOthers, CanRemove}
 use Rattle.map_tree.specs.Search.{IsPlace}
 use Rattle.map_tree.specs.Shown.{Seen, shown, rows_or, IsTree}
 use Rattle.map_tree.specs.declared.nodes.Body.TheVariants.{Inner}
 use Rattle.map_tree.specs.declared.nodes.Child.{Child}
 use Rattle.map_tree.specs.declared.nodes.Child.TheVariants.{Placed, Own}
-use Rattle.map_tree.proofs.AnswerLemmas.{both_ok}
-use Rattle.map_tree.proofs.NodeLemmas.{shown-rows, child_at, node_down}
+use Rattle.map_tree.proofs.AnswerLemmas.{both_ok, on_err}
+use Rattle.map_tree.proofs.NodeLemmas.{shown-rows, child_at, node_down, written_back}
 use Rattle.map_tree.proofs.OpenLemmas.{known}
 use Rattle.map_tree.proofs.PathLemmas.{node_at, indexed_child}
 use Rattle.map_tree.proofs.ReplaceLemmas.{leaf_rows}
@@ -202,8 +203,20 @@ removing::paths::remove_child-remove-requires g t c κs within =
     let kids = c.args.kids.now.items in
     let child = c.index_mut.result.now in
     let r = c.requires.1.1.1.1 in
-    let can = subst (CanRemove p c.args.below c.args.key.now) c.in-Own.is (r.1 child (child_at kids c.args.place (length kids) child refl r.0 c.index_mut.ensures.value)) in
-    (omega (arith, can.1, c.requires.1.0), (within.0, (within.1, (can.0, can.2))))
+    let v = c.deref_mut.ensures.value in
+    let can = subst (CanRemove p c.args.below c.args.key.now) c.in-Own.is (r.1 child (child_at kids c.args.place (length kids) child refl r.0 c.index_mut.ensures.value)) in (
+      omega (arith, ap (λ (s : Seen). s.depth) v, can.1, c.requires.1.0),
+      (
+        within.0,
+        (
+          within.1,
+          (
+            subst (λ (s : Seen). IsTree (shown p s.pieces)) (sym v) can.0,
+            subst (λ (s : Seen). 0 < length (without c.args.key.now (rows_or (shown p s.pieces)))) (sym v) can.2,
+          ),
+        ),
+      ),
+    )
 
 pub removing::paths::remove_child-returns-in-Own-clause-done : goal.removing::paths::remove_child-returns-in-Own-clause-done
 removing::paths::remove_child-returns-in-Own-clause-done g t c x h =
@@ -211,19 +224,20 @@ removing::paths::remove_child-returns-in-Own-clause-done g t c x h =
     let kids = c.args.kids.now.items in
     let child = c.index_mut.result.now in
     let r = c.requires.1.1.1.1 in
+    let v = c.deref_mut.ensures.value in
     let can = subst (CanRemove p c.args.below c.args.key.now) c.in-Own.is (r.1 child (child_at kids c.args.place (length kids) child refl r.0 c.index_mut.ensures.value)) in
-    let n : Seen = c.remove.new.self in
+    let n : Kid = with_value c.in-Own.node c.remove.new.self in
     let e : x ≡ Own c.in-Own.node = indexed_child kids c.args.place child x r.0 c.index_mut.ensures.value h ∙ c.in-Own.is in
     both_ok c.remove.result c.remove.ensures.done c.remove.ensures.few (λ s f. (
       n,
       refl,
-      c.remove.ensures.depth ∙ can.1,
-      s ∙ ap (λ y. Some (without c.args.key.now (rows_or (child_rows p c.args.below y)))) (sym e),
-      omega (arith, f, can.1, ap child_fresh e),
+      c.remove.ensures.depth ∙ ap (λ (s : Seen). s.depth) v ∙ can.1,
+      s ∙ ap (λ (m : Seen). Some (without c.args.key.now (rows_or (shown p m.pieces)))) v ∙ ap (λ y. Some (without c.args.key.now (rows_or (child_rows p c.args.below y)))) (sym e),
+      omega (arith, f, can.1, ap (λ (s : Seen). s.depth) v, ap (λ (s : Seen). s.fresh) v, ap child_fresh e),
     ))
 
-pub removing::paths::remove_child-copied-requires : goal.removing::paths::remove_child-copied-requires
-removing::paths::remove_child-copied-requires g t c =
+pub removing::paths::remove_child-copied_child-requires : goal.removing::paths::remove_child-copied_child-requires
+removing::paths::remove_child-copied_child-requires g t c =
     let p = g.C.Chunks.contents c.args.chunks.now in
     let kids = c.args.kids.now.items in
     let child = c.index_mut.result.now in
@@ -238,15 +252,18 @@ removing::paths::remove_child-remove-requires-in-Placed g t c κs within =
     let kids = c.args.kids.now.items in
     let child = c.index_mut.result.now in
     let r = c.requires.1.1.1.1 in
-    let can = subst (CanRemove p c.args.below c.args.key.now) c.in-Placed.is (r.1 child (child_at kids c.args.place (length kids) child refl r.0 c.index_mut.ensures.value)) in (
-      omega (arith, c.in_ok-node-in-Placed.ensures.depth, c.requires.1.0),
+    let can = subst (CanRemove p c.args.below c.args.key.now) c.in-Placed.is (r.1 child (child_at kids c.args.place (length kids) child refl r.0 c.index_mut.ensures.value)) in
+    let q = g.C.Chunks.contents c.copied_child.new.chunks in
+    let v = c.deref_mut-in-Placed.ensures.value in (
+      omega (arith, ap (λ (s : Seen). s.depth) v, c.in_ok-node-in-Placed.ensures.depth, c.requires.1.0),
       (
         within.0,
         (
           within.1,
           (
-            subst IsTree (sym c.in_ok-node-in-Placed.ensures.rows) can.0,
-            subst (λ z. 0 < length (without c.args.key.now (rows_or z))) (sym c.in_ok-node-in-Placed.ensures.rows) can.2,
+            subst (λ (s : Seen). IsTree (shown q s.pieces)) (sym v) (subst IsTree (sym c.in_ok-node-in-Placed.ensures.rows) can.0),
+            subst (λ (s : Seen). 0 < length (without c.args.key.now (rows_or (shown q s.pieces)))) (sym v)
+                (subst (λ z. 0 < length (without c.args.key.now (rows_or z))) (sym c.in_ok-node-in-Placed.ensures.rows) can.2),
           ),
         ),
       ),
@@ -258,12 +275,19 @@ removing::paths::remove_child-returns-in-Placed-clause-done g t c x h =
     let kids = c.args.kids.now.items in
     let child = c.index_mut.result.now in
     let r = c.requires.1.1.1.1 in
-    let n : Seen = c.remove-in-Placed.new.self in
+    let n : Kid = with_value c.in_ok-node-in-Placed.node c.remove-in-Placed.new.self in
+    let q = g.C.Chunks.contents c.copied_child.new.chunks in
+    let v = c.deref_mut-in-Placed.ensures.value in
     let e : x ≡ Placed c.in-Placed.at = indexed_child kids c.args.place child x r.0 c.index_mut.ensures.value h ∙ c.in-Placed.is in (
       n,
       set-set kids c.args.place (Placed c.in-Placed.at) (Own n),
-      c.remove-in-Placed.ensures.depth ∙ c.in_ok-node-in-Placed.ensures.depth,
+      c.remove-in-Placed.ensures.depth ∙ ap (λ (s : Seen). s.depth) v ∙ c.in_ok-node-in-Placed.ensures.depth,
       c.in_ok-remove-in-Placed.ensures.done
-          ∙ ap (λ z. Some (without c.args.key.now (rows_or z))) (c.in_ok-node-in-Placed.ensures.rows ∙ ap (child_rows p c.args.below) (sym e)),
-      omega (arith, c.in_ok-remove-in-Placed.ensures.few, c.in_ok-node-in-Placed.ensures.fresh, c.in_ok-node-in-Placed.ensures.depth),
+          ∙ ap (λ z. Some (without c.args.key.now (rows_or z))) (ap (λ (s : Seen). shown q s.pieces) v ∙ c.in_ok-node-in-Placed.ensures.rows ∙ ap (child_rows p c.args.below) (sym e)),
+      omega (arith, c.in_ok-remove-in-Placed.ensures.few, ap (λ (s : Seen). s.depth) v, ap (λ (s : Seen). s.fresh) v, c.in_ok-node-in-Placed.ensures.fresh, c.in_ok-node-in-Placed.ensures.depth),
     )
+
+pub removing::paths::remove_child-returns-in-Own-clause-err : goal.removing::paths::remove_child-returns-in-Own-clause-err
+removing::paths::remove_child-returns-in-Own-clause-err g t c =
+    on_err c.remove.result c.remove.ensures.err
+    (λ e. written_back c.args.kids.now.items c.args.place c.index_mut.result.now c.in-Own.node c.remove.new.self c.index_mut.ensures.value c.in-Own.is (e ∙ c.deref_mut.ensures.value))

@@ -8,6 +8,7 @@ ghost use Rattle.map_tree.specs.Nodes.{row_pieces};
 ghost use Rattle.map_tree.specs.Halves.{half_pieces, IsHalf, AreNinth};
 ghost use Rattle.map_tree.specs.Counts.{half_fresh, HasKept};
 
+use super::super::homes::{housed, take_home};
 use super::super::{Body, Node};
 use super::Half;
 use crate::entries::{MOST, insert_entry, take_spare};
@@ -73,18 +74,22 @@ pub(crate) fn put_row(
     };
     let firsts = ninth_copies(alloc, keys.as_slice(), place, key, copies)?;
     let spare = take_spare(alloc, values.len())?;
+    let home = take_home(alloc, values.len())?;
     let text = key.clone()?;
     values.reserve(1)?;
     keys.make_room(alloc)?;
     match insert_entry(keys, values, place, text, value, spare) {
         None => Ok(None),
-        Some((keys, values)) => Ok(Some(Half {
-            firsts,
-            node: Node {
+        Some((keys, values)) => {
+            let upper = Node {
                 depth: 1,
                 keys,
                 body: Body::Leaf(values),
-            },
-        })),
+            };
+            Ok(Some(Half {
+                firsts,
+                node: housed(home, upper),
+            }))
+        }
     }
 }

@@ -1,11 +1,12 @@
 //! A new child in an inner chunk.
-ghost use Rattle.std.specs.Prelude.{◌≡◌, ◌<◌, ◌≤◌, ◌+◌, ◌-◌, [], length, T, Some, None, vec_items, vec_len, vec_capacity};
+ghost use Rattle.std.specs.Prelude.{◌≡◌, ◌<◌, ◌≤◌, ◌+◌, ◌-◌, [], length, T, Some, None, IsSome, vec_items, vec_len, vec_capacity};
 ghost use Rattle.group_history.specs.Map.{Bytes};
 ghost use Rattle.group_history.specs.Rows.{rises, keys_of, paired};
 ghost use Rattle.map_tree.specs.Nodes.{AllKids, kids_fresh};
 ghost use Rattle.map_tree.specs.Halves.{IsHalf, AreNinth, with_half, lowered, Finished};
 ghost use Rattle.map_tree.specs.Counts.{half_fresh, HasKept};
 
+use super::super::homes::housed;
 use super::super::{Body, Child, Node};
 use super::Half;
 use crate::entries::{Spare, insert_entry};
@@ -32,6 +33,7 @@ pub(crate) fn finish(
     depth: u64,
     firsts: Vec<Text>,
     spare: Spare<Child>,
+    home: Option<Box<Node>>,
     half: Option<Half>,
     copies: usize,
 ) -> Option<Half>
@@ -43,6 +45,7 @@ pub(crate) fn finish(
     requires spare_keys { spare.keys.items ≡ [] }
     requires spare_entries { spare.entries.items ≡ [] }
     requires spare_room { 16 ≤ length keys.old.texts → (17 ≤ vec_capacity spare.keys) × (17 ≤ vec_capacity spare.entries) }
+    requires home { 16 ≤ length keys.old.texts → IsSome home }
     requires half { IsHalf (copies + 1) (depth - 1) half }
     requires firsts { (key : Bytes) → (place + 1 ≡ 8 → ⊥) → AreNinth copies keys.old.texts (place + 1) key firsts.items }
     requires kids { AllKids (depth - 1) (with_half place half (paired keys.old.texts kids.old.items)) }
@@ -71,13 +74,14 @@ pub(crate) fn finish(
     ) else {
         return None;
     };
+    let upper = Node {
+        depth,
+        keys: upper_keys,
+        body: Body::Inner(upper),
+    };
     Some(Half {
         firsts: chosen(place, given, firsts),
-        node: Node {
-            depth,
-            keys: upper_keys,
-            body: Body::Inner(upper),
-        },
+        node: housed(home, upper),
     })
 }
 

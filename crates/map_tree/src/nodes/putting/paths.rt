@@ -1,23 +1,25 @@
 //! A put on its way down.
-ghost use Rattle.std.specs.Prelude.{◌≡◌, ◌⊎◌, ◌<◌, ◌≤◌, ◌+◌, ◌*◌, ◌^◌, ◌++◌, [], length, slice_get, slice_index_or, Some, IfOk, IfErr, OnOk, OnErr, vec_items, vec_len, vec_capacity};
+ghost use Rattle.std.specs.Prelude.{◌≡◌, ◌⊎◌, ◌<◌, ◌≤◌, ◌+◌, ◌*◌, ◌^◌, ◌++◌, [], length, slice_get, slice_index_or, Some, IsSome, IfOk, IfErr, OnOk, OnErr, vec_items, vec_len, vec_capacity};
 ghost use mathlib.Core.List.{IsPrefix};
 ghost use Rattle.std.specs.Ordering.{nat_cmp};
 ghost use Rattle.std.specs.Cmp.Lexicographic.{slice_cmp};
 ghost use Rattle.std.specs.FinMap as finite;
 ghost use Rattle.group_history.specs.declared.mutators.Stop.TheVariants.{NoMemory};
+ghost use Rattle.map_tree.specs.Search.{IsPlace};
 ghost use Rattle.map_tree.specs.Shown.{shown, IsTree, rows_or};
 ghost use Rattle.map_tree.specs.Nodes.{child_rows, kids_fresh};
 ghost use Rattle.map_tree.specs.Halves.{half_pieces, IsHalf, AreNinth, ChildPut, IsLower, HasDepth};
 ghost use Rattle.map_tree.specs.Counts.{half_fresh, HasKept};
 ghost use Rattle.map_tree.specs.declared.nodes.Child.{Child as Childs};
 
+use super::super::homes::take_home;
 use super::super::{Body, Child, Node};
 use super::Half;
 use super::leaves::{ninth_copies, put_row};
 use super::middles::{finish, lower_first};
 use crate::chunks::Chunks;
 use crate::entries::{Spare, take_spare};
-use crate::keys::NodeKeys;
+use crate::keys::{NodeKeys, ROOM};
 use crate::search::place_of;
 use group_history::{Json, Stop, Text};
 use std::alloc::{AllocError, Global};
@@ -28,6 +30,7 @@ struct Ready {
     lower: Option<Text>,
     firsts: Vec<Text>,
     spare: Spare<Child>,
+    home: Option<Box<Node>>,
 }
 
 fn prepare(
@@ -38,7 +41,7 @@ fn prepare(
     key: &Text,
     copies: usize,
 ) -> Result<Ready, AllocError>
-    requires within { place < length keys.old.texts }
+    requires place { IsPlace key.now keys.old.texts place }
     requires pairs { length kids.old.items ≡ length keys.old.texts }
     ensures texts { keys.new.texts ≡ keys.old.texts }
     ensures kids { kids.new.items ≡ kids.old.items }
@@ -47,25 +50,31 @@ fn prepare(
     ensures firsts { IfOk result (λ r. AreNinth copies keys.old.texts (place + 1) key.now r.firsts.items) }
     ensures spare_keys { IfOk result (λ r. r.spare.keys.items ≡ []) }
     ensures spare_entries { IfOk result (λ r. r.spare.entries.items ≡ []) }
+    ensures home { IfOk result (λ r. 16 ≤ length keys.old.texts → IsSome r.home) }
     ensures spare_room { IfOk result (λ r. 16 ≤ length keys.old.texts → (17 ≤ vec_capacity r.spare.keys) × (17 ≤ vec_capacity r.spare.entries)) }
 {
     let lower = lower_key(keys.as_slice(), place, key)?;
     let firsts = ninth_copies(alloc, keys.as_slice(), place + 1, key, copies)?;
     let spare = take_spare(alloc, kids.len())?;
+    let home = take_home(alloc, kids.len())?;
     kids.reserve(1)?;
     keys.make_room(alloc)?;
     Ok(Ready {
         lower,
         firsts,
         spare,
+        home,
     })
 }
 
-// The key, where it is below the one at the place.
+// The key, where it is below the one of the child to which it belongs. That is the first child then.
 fn lower_key(keys: &[Text], place: usize, key: &Text) -> Result<Option<Text>, AllocError>
-    requires { place < length keys.now }
+    requires { IsPlace key.now keys.now place }
     ensures { IfOk result (IsLower key.now (slice_index_or keys.now place [])) }
 {
+    if place > 0 {
+        return Ok(None);
+    }
     if keys[place].as_str().cmp(key.as_str()).is_gt() {
         return Ok(Some(key.clone()?));
     }
@@ -96,7 +105,7 @@ fn put_child<C: Chunks>(
     match &mut kids[place] {
         Child::Own(node) => return node.put(alloc, chunks, key, value, copies),
         Child::Placed(at) => {
-            let mut node = Node::copied(alloc, chunks, *at, below)?;
+            let mut node = Node::copied_child(alloc, chunks, *at, below, ROOM)?;
             let half = node.put(alloc, chunks, key, value, copies)?;
             kids[place] = Child::Own(node);
             return Ok(half);
@@ -157,6 +166,7 @@ impl Node {
                     self.depth,
                     ready.firsts,
                     ready.spare,
+                    ready.home,
                     half,
                     copies,
                 ));

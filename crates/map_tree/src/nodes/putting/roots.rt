@@ -10,45 +10,46 @@ ghost use Rattle.map_tree.specs.Nodes.{HeadIs};
 ghost use Rattle.map_tree.specs.Halves.{IsHalf, least, AreInOrder};
 ghost use Rattle.map_tree.specs.Counts.{IsWideChunk};
 
+use super::super::homes::{housed, take_home};
 use super::super::{Body, Child, Node};
 use super::Half;
 use crate::chunks::Chunks;
-use crate::entries::{Spare, take_spare};
+use crate::entries::{MOST, Spare, take_spare};
 use crate::keys::NodeKeys;
 use group_history::{Json, Stop, Text};
 use std::alloc::{AllocError, Global};
 use std::mem;
 
-// The first key once this one is put.
-fn least_key(keys: &[Text], key: &Text) -> Result<Text, AllocError>
-    ensures { IfOk result (λ first. first ≡ least key.now keys.now) }
+// The first key once this one is put, where the chunk may be split.
+fn least_key(keys: &[Text], key: &Text) -> Result<Option<Text>, AllocError>
+    ensures { IfOk result (λ first. 16 ≤ length keys.now → first ≡ Some (least key.now keys.now)) }
 {
-    if keys.is_empty() {
-        return Ok(key.clone()?);
+    if keys.len() < MOST {
+        return Ok(None);
     }
     if keys[0].as_str().cmp(key.as_str()).is_gt() {
-        return Ok(key.clone()?);
+        return Ok(Some(key.clone()?));
     }
-    Ok(keys[0].clone()?)
+    Ok(Some(keys[0].clone()?))
 }
 
 // A root above both halves, made in the room that was taken for it.
-fn root_above(lower: Node, half: Half, first: Text, room: Spare<Child>) -> Node
-    requires depth { lower.depth + 1 < 2 ^ 64 }
-    requires head { HeadIs first lower.pieces }
-    requires half { IsHalf 1 lower.depth (Some half) }
-    requires order { AreInOrder first half.node.pieces }
+fn root_above(lower: Box<Node>, half: Half, first: Text, room: Spare<Child>) -> Node
+    requires depth { lower.value.depth + 1 < 2 ^ 64 }
+    requires head { HeadIs first lower.value.pieces }
+    requires half { IsHalf 1 lower.value.depth (Some half) }
+    requires order { AreInOrder first half.node.value.pieces }
     requires keys { (room.keys.items ≡ []) × (17 ≤ vec_capacity room.keys) }
     requires kids { (room.entries.items ≡ []) × (17 ≤ vec_capacity room.entries) }
-    ensures pieces { result.pieces ≡ lower.pieces ++ half.node.pieces }
-    ensures depth { result.depth ≡ lower.depth + 1 }
-    ensures fresh { result.fresh ≡ lower.fresh + half.node.fresh + 1 }
+    ensures pieces { result.pieces ≡ lower.value.pieces ++ half.node.value.pieces }
+    ensures depth { result.depth ≡ lower.value.depth + 1 }
+    ensures fresh { result.fresh ≡ lower.value.fresh + half.node.value.fresh + 1 }
     ensures entries { result.entries ≡ 2 }
 {
-    let depth = lower.depth + 1;
+    let depth = lower.depth() + 1;
     let Half { mut firsts, node } = half;
     let Some(second) = firsts.pop() else {
-        return lower;
+        return Box::into_inner(lower);
     };
     let Spare {
         mut keys,
@@ -89,12 +90,14 @@ impl Node {
             return Err(Stop::NoMemory);
         }
         let first = least_key(self.keys.as_slice(), key)?;
-        let room = take_spare(alloc, self.keys.as_slice().len())?;
+        let len = self.keys.as_slice().len();
+        let room = take_spare(alloc, len)?;
+        let home = take_home(alloc, len)?;
         match self.put(alloc, chunks, key, value, 1)? {
             None => return Ok(()),
             Some(half) => {
-                let lower = mem::replace(self, Node::empty(alloc));
-                *self = root_above(lower, half, first, room);
+                let lower = housed(home, mem::replace(self, Node::empty(alloc)));
+                *self = root_above(lower, half, first.unwrap(), room);
                 return Ok(());
             }
         }

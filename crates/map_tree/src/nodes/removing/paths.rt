@@ -83,7 +83,7 @@ fn remove_child<C: Chunks>(
     match &mut kids[place] {
         Child::Own(node) => return node.remove(alloc, chunks, key),
         Child::Placed(at) => {
-            let mut node = Node::copied(alloc, chunks, *at, below)?;
+            let mut node = Node::copied_child(alloc, chunks, *at, below, 0)?;
             node.remove(alloc, chunks, key)?;
             kids[place] = Child::Own(node);
             return Ok(());

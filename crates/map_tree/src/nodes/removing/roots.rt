@@ -78,7 +78,7 @@ fn taken(kid: Child, alloc: Global) -> Node
     ensures { IsTaken kid result }
 {
     match kid {
-        Child::Own(node) => return node.narrowed(alloc),
+        Child::Own(node) => return Box::into_inner(node).narrowed(alloc),
         Child::Placed(_) => return Node::empty(alloc),
     }
 }

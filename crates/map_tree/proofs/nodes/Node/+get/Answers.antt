@@ -4,7 +4,7 @@ use Rattle.std.specs.FinMap as finite
 use Rattle.group_history.specs.Refs.{stamp_of}
 use Rattle.group_history.specs.Rows.{paired}
 use Rattle.map_tree.specs.Nodes.{body_pieces}
-use Rattle.map_tree.specs.Shown.{Seen, rows_or, shown, chunk_rows}
+use Rattle.map_tree.specs.Shown.{Seen, rows_or, shown, chunk_rows, IsTree}
 use Rattle.map_tree.proofs.OpenLemmas.{tree_of}
 use Rattle.map_tree.proofs.NodeLemmas.{node_down, inner_depth, down_placed, down_own, down-find, shown-rows}
 use Rattle.map_tree.proofs.nodes.Node.+get.Goals as goal
@@ -24,7 +24,10 @@ get-requires g t c κs within =
     let o = down_own p _ _ _ _ _ _ _ c.in-Own.node d c.in-Own.is in
     let z = inner_depth c.self.inside.depth c.self.inside.keys.texts c.self.inside.body c.in-Inner.kids c.in-Inner.is c.self.invariant in
     let here = ap (λ (s : Seen). s.depth) c.self.view_is in
-    (omega (arith, o.1, z, here, c.requires.1.0), (within.0, (within.1, tree_of (shown p c.in-Own.node.pieces) d.way.here o.0 d.way.strict)))
+    let v = c.deref-in-Own.ensures in (
+      omega (arith, ap (λ (s : Seen). s.depth) v, o.1, z, here, c.requires.1.0),
+      (within.0, (within.1, subst (λ (s : Seen). IsTree (shown p s.pieces)) (sym v) (tree_of (shown p c.in-Own.node.value.pieces) d.way.here o.0 d.way.strict))),
+    )
 
 pub returns-in_ok-value_at-in-Leaf-clause-value : goal.returns-in_ok-value_at-in-Leaf-clause-value
 returns-in_ok-value_at-in-Leaf-clause-value g t c =
@@ -49,4 +52,4 @@ returns-in-Own-clause-value g t c =
     let d = node_down p c.self.inside.depth c.self.inside.keys.texts c.self.inside.body c.in-Inner.kids c.args.self.now.pieces c.as_slice-in-Inner.result.now c.args.key.now
     c.place_of-place.result c.index.result.now (ap (λ (s : Seen). s.pieces) c.self.view_is) c.in-Inner.is c.self.invariant c.as_slice-in-Inner.ensures c.place_of-place.ensures c.index.ensures c.requires.1.1.1.1 in
     let o = down_own p _ _ _ _ _ _ _ c.in-Own.node d c.in-Own.is in
-    subst (λ x. IfOk c.get.result (λ v. v ≡ x)) (down-find p _ _ _ _ _ _ _ _ d o.0) c.get.ensures.value
+    subst (λ x. IfOk c.get.result (λ v. v ≡ x)) (down-find p _ _ _ _ _ _ _ _ d (ap (λ (s : Seen). shown p s.pieces) c.deref-in-Own.ensures ∙ o.0)) c.get.ensures.value

@@ -37,4 +37,4 @@ returns-in-Own t c =
     let i : IsNode c.self.inside.depth keys (Inner c.in-Inner.kids) = subst (IsNode c.self.inside.depth keys) c.in-Inner.is c.self.invariant in
     let one : length kids ≡ 1 = omega (arith, c.len.ensures, c.if-len-ne1.false, c.in-Inner.kids.ok.0) in
     let pieces : kids_pieces (c.self.inside.depth - 1) (paired keys kids) ≡ c.args.self.now.pieces = ap (body_pieces c.self.inside.depth keys) (sym c.in-Inner.is) ∙ ap (λ (s : Seen). s.pieces) c.self.view_is in
-    c.placed_end.ensures ∙ sym (ap end_of c.in-Own.is) ∙ end-one (c.self.inside.depth - 1) keys kids c.index.result.now i.1.2 one c.index.ensures ∙ ap end_of_pieces pieces
+    c.placed_end.ensures ∙ ap (λ (s : Seen). end_of_pieces s.pieces) c.deref.ensures ∙ sym (ap end_of c.in-Own.is) ∙ end-one (c.self.inside.depth - 1) keys kids c.index.result.now i.1.2 one c.index.ensures ∙ ap end_of_pieces pieces

@@ -1,14 +1,15 @@
-use Rattle.std.proofs.Common.{◌≡◌, ◌∙◌, ap, sym, subst, Some, refl}
+use Rattle.std.proofs.Common.{[], ◌≡◌, ◌∙◌, ap, sym, subst, Some, refl}
 use Rattle.std.specs.Prelude.{IsSome}
 use Rattle.std.specs.FinMap as finite
 use Rattle.group_history.specs.Refs.{stamp_of}
 use Rattle.group_history.specs.Spelling.{rows_at}
-use Rattle.group_history.proofs.Folding.{prefix_trans}
+use Rattle.group_history.proofs.Folding.{append_nil}
 use Rattle.map_tree.specs.Removing.{without, root_rows, IsWideRoot}
 use Rattle.map_tree.specs.Shown.{shown, rows_or}
 use Rattle.map_tree.specs.Trees.{root_map, tree_map, IsWide}
 use Rattle.map_tree.proofs.DeleteLemmas.{own_removed, placed_removed, wide_at-kept}
-use Rattle.map_tree.proofs.OpenLemmas.{rows_at-segment, segment-kept}
+use Rattle.map_tree.proofs.OpenLemmas.{rows_at-segment}
+use Rattle.map_tree.proofs.RootCounts.{placed_depth}
 use Rattle.map_tree.proofs.Shelves.{some_of}
 use Rattle.map_tree.proofs.TreeLemmas.{map_from}
 use Rattle.map_tree.proofs.WriteLemmas.{placed_map, entries_tree}
@@ -33,27 +34,23 @@ returns-in-Some-clause-ok g c m h =
 pub copied-requires : goal.copied-requires
 copied-requires g c =
     let p = g.C.Chunks.contents c.args.chunks.now in
-    let s = some_of (tree_map p c.args.self.now) c.requires in
+    let s = some_of (tree_map p c.args.self.now) c.requires.map in
     let m = s.0 in
     let k = stamp_of c.in-Placed.at in
     let sp = placed_map p k m (ap (root_map p) (sym c.in-Placed.is) ∙ s.1) in
-    let p2 = g.C.Chunks.contents c.depth_placed.new.chunks in
-    let d : c.in_ok-depth-in-Placed.depth ≡ sp.segment.depth = c.in_ok-depth-in-Placed.ensures.depth sp.segment sp.is in
-    let r : rows_at p2 c.in_ok-depth-in-Placed.depth k ≡ Some (finite.entries m) =
-    ap (λ n. rows_at p2 n k) d ∙ rows_at-segment p2 k sp.segment (segment-kept p p2 k sp.segment c.depth_placed.ensures.grown sp.is) ∙ ap (λ w. Some w) sp.rows in
+    let d = placed_depth p p c.args.self.now.root c.in-Placed.at c.args.depth sp.segment c.in-Placed.is ([], append_nil p) c.requires.depth sp.is in
+    let r : rows_at p c.args.depth k ≡ Some (finite.entries m) = ap (λ n. rows_at p n k) (sym d) ∙ rows_at-segment p k sp.segment sp.is ∙ ap (λ w. Some w) sp.rows in
     subst IsSome (sym r) refl
 
 pub remove_root-requires-in-Placed : goal.remove_root-requires-in-Placed
 remove_root-requires-in-Placed g c =
     let p = g.C.Chunks.contents c.args.chunks.now in
-    let s = some_of (tree_map p c.args.self.now) c.requires in
+    let s = some_of (tree_map p c.args.self.now) c.requires.map in
     let m = s.0 in
     let k = stamp_of c.in-Placed.at in
     let sp = placed_map p k m (ap (root_map p) (sym c.in-Placed.is) ∙ s.1) in
-    let p2 = g.C.Chunks.contents c.depth_placed.new.chunks in
-    let d : c.in_ok-depth-in-Placed.depth ≡ sp.segment.depth = c.in_ok-depth-in-Placed.ensures.depth sp.segment sp.is in
-    let r : rows_at p2 c.in_ok-depth-in-Placed.depth k ≡ Some (finite.entries m) =
-    ap (λ n. rows_at p2 n k) d ∙ rows_at-segment p2 k sp.segment (segment-kept p p2 k sp.segment c.depth_placed.ensures.grown sp.is) ∙ ap (λ w. Some w) sp.rows in
+    let d = placed_depth p p c.args.self.now.root c.in-Placed.at c.args.depth sp.segment c.in-Placed.is ([], append_nil p) c.requires.depth sp.is in
+    let r : rows_at p c.args.depth k ≡ Some (finite.entries m) = ap (λ n. rows_at p n k) (sym d) ∙ rows_at-segment p k sp.segment sp.is ∙ ap (λ w. Some w) sp.rows in
     let p3 = g.C.Chunks.contents c.copied.new.chunks in
     entries_tree (shown p3 c.in_ok-node-in-Placed.node.pieces) m (c.in_ok-node-in-Placed.ensures.rows ∙ r)
 
@@ -62,11 +59,9 @@ returns-in-None-2-clause-ok g c m h =
     let p = g.C.Chunks.contents c.args.chunks.now in
     let k = stamp_of c.in-Placed.at in
     let sp = placed_map p k m (ap (root_map p) (sym c.in-Placed.is) ∙ h) in
-    let p2 = g.C.Chunks.contents c.depth_placed.new.chunks in
     let p3 = g.C.Chunks.contents c.copied.new.chunks in
-    let d : c.in_ok-depth-in-Placed.depth ≡ sp.segment.depth = c.in_ok-depth-in-Placed.ensures.depth sp.segment sp.is in
-    let r : rows_at p2 c.in_ok-depth-in-Placed.depth k ≡ Some (finite.entries m) =
-    ap (λ n. rows_at p2 n k) d ∙ rows_at-segment p2 k sp.segment (segment-kept p p2 k sp.segment c.depth_placed.ensures.grown sp.is) ∙ ap (λ w. Some w) sp.rows in
+    let d = placed_depth p p c.args.self.now.root c.in-Placed.at c.args.depth sp.segment c.in-Placed.is ([], append_nil p) c.requires.depth sp.is in
+    let r : rows_at p c.args.depth k ≡ Some (finite.entries m) = ap (λ n. rows_at p n k) (sym d) ∙ rows_at-segment p k sp.segment sp.is ∙ ap (λ w. Some w) sp.rows in
     let x : shown p3 c.in_ok-node-in-Placed.node.pieces ≡ Some (finite.entries m) = c.in_ok-node-in-Placed.ensures.rows ∙ r in
     let q = g.C.Chunks.contents c.remove_root-in-Placed.new.chunks in
     let n = c.remove_root-in-Placed.new.self in
@@ -76,14 +71,13 @@ returns-in-None-2-clause-ok g c m h =
 pub returns-in-None-2-clause-wide : goal.returns-in-None-2-clause-wide
 returns-in-None-2-clause-wide g c w =
     let p = g.C.Chunks.contents c.args.chunks.now in
-    let s = some_of (tree_map p c.args.self.now) c.requires in
+    let s = some_of (tree_map p c.args.self.now) c.requires.map in
     let m = s.0 in
     let k = stamp_of c.in-Placed.at in
     let sp = placed_map p k m (ap (root_map p) (sym c.in-Placed.is) ∙ s.1) in
-    let p2 = g.C.Chunks.contents c.depth_placed.new.chunks in
     let p3 = g.C.Chunks.contents c.copied.new.chunks in
     let q = g.C.Chunks.contents c.remove_root-in-Placed.new.chunks in
-    let later = wide_at-kept p p3 k sp.segment (prefix_trans p p2 p3 c.depth_placed.ensures.grown c.copied.ensures.grown) sp.is (subst (IsWide p) c.in-Placed.is w) in
+    let later = wide_at-kept p p3 k sp.segment c.copied.ensures.grown sp.is (subst (IsWide p) c.in-Placed.is w) in
     subst (IsWideRoot q c.remove_root-in-Placed.new.self) c.in-None-2.is (c.in_ok-remove_root-in-Placed.ensures.wide (c.in_ok-node-in-Placed.ensures.wide later))
 
 pub returns-in-Some-2-clause-ok : goal.returns-in-Some-2-clause-ok
@@ -91,11 +85,9 @@ returns-in-Some-2-clause-ok g c m h =
     let p = g.C.Chunks.contents c.args.chunks.now in
     let k = stamp_of c.in-Placed.at in
     let sp = placed_map p k m (ap (root_map p) (sym c.in-Placed.is) ∙ h) in
-    let p2 = g.C.Chunks.contents c.depth_placed.new.chunks in
     let p3 = g.C.Chunks.contents c.copied.new.chunks in
-    let d : c.in_ok-depth-in-Placed.depth ≡ sp.segment.depth = c.in_ok-depth-in-Placed.ensures.depth sp.segment sp.is in
-    let r : rows_at p2 c.in_ok-depth-in-Placed.depth k ≡ Some (finite.entries m) =
-    ap (λ n. rows_at p2 n k) d ∙ rows_at-segment p2 k sp.segment (segment-kept p p2 k sp.segment c.depth_placed.ensures.grown sp.is) ∙ ap (λ w. Some w) sp.rows in
+    let d = placed_depth p p c.args.self.now.root c.in-Placed.at c.args.depth sp.segment c.in-Placed.is ([], append_nil p) c.requires.depth sp.is in
+    let r : rows_at p c.args.depth k ≡ Some (finite.entries m) = ap (λ n. rows_at p n k) (sym d) ∙ rows_at-segment p k sp.segment sp.is ∙ ap (λ w. Some w) sp.rows in
     let x : shown p3 c.in_ok-node-in-Placed.node.pieces ≡ Some (finite.entries m) = c.in_ok-node-in-Placed.ensures.rows ∙ r in
     let q = g.C.Chunks.contents c.remove_root-in-Placed.new.chunks in
     let n = c.remove_root-in-Placed.new.self in
@@ -105,12 +97,11 @@ returns-in-Some-2-clause-ok g c m h =
 pub returns-in-Some-2-clause-wide : goal.returns-in-Some-2-clause-wide
 returns-in-Some-2-clause-wide g c w =
     let p = g.C.Chunks.contents c.args.chunks.now in
-    let s = some_of (tree_map p c.args.self.now) c.requires in
+    let s = some_of (tree_map p c.args.self.now) c.requires.map in
     let m = s.0 in
     let k = stamp_of c.in-Placed.at in
     let sp = placed_map p k m (ap (root_map p) (sym c.in-Placed.is) ∙ s.1) in
-    let p2 = g.C.Chunks.contents c.depth_placed.new.chunks in
     let p3 = g.C.Chunks.contents c.copied.new.chunks in
     let q = g.C.Chunks.contents c.remove_root-in-Placed.new.chunks in
-    let later = wide_at-kept p p3 k sp.segment (prefix_trans p p2 p3 c.depth_placed.ensures.grown c.copied.ensures.grown) sp.is (subst (IsWide p) c.in-Placed.is w) in
+    let later = wide_at-kept p p3 k sp.segment c.copied.ensures.grown sp.is (subst (IsWide p) c.in-Placed.is w) in
     subst (IsWideRoot q c.remove_root-in-Placed.new.self) c.in-Some-2.is (c.in_ok-remove_root-in-Placed.ensures.wide (c.in_ok-node-in-Placed.ensures.wide later))
