@@ -1,8 +1,7 @@
 //! How a key's value stands to another one, and how deep the tree is, by one way down.
-ghost use Rattle.std.specs.Prelude.{◌≡◌, ◌≤◌, ◌+◌, ◌⊎◌, Some, IfOk, IfErr, option_copied};
+ghost use Rattle.std.specs.Prelude.{◌≡◌, ◌≤◌, ◌+◌, Some, IfOk, IfErr, option_copied};
 ghost use mathlib.Core.List.{IsPrefix};
 ghost use Rattle.group_history.specs.Refs.{stamp_of};
-ghost use Rattle.group_history.specs.declared.mutators.Stop.TheVariants.{NoMemory};
 ghost use Rattle.map_tree.specs.Seeking.{chunk_depth, stands_in, IsHint, Hints};
 ghost use Rattle.map_tree.specs.Shown.{chunk_rows, IsTree, rows_or};
 
@@ -35,7 +34,7 @@ fn hint<C: Chunks>(chunks: &mut C, at: Ref, key: &str, asked: Option<&Json>) -> 
     requires { IsTree (chunk_rows (C.contents chunks.old) (stamp_of at)) }
     ensures grown { IsPrefix (C.contents chunks.old) (C.contents chunks.new) }
     ensures hint { IfOk result (Hints (C.contents chunks.new) key.now (option_copied asked.entry) (stamp_of at) (chunk_depth (C.contents chunks.old) (stamp_of at)) (rows_or (chunk_rows (C.contents chunks.old) (stamp_of at)))) }
-    ensures stopped { IfErr result (λ s. (s ≡ NoMemory) ⊎ C.stops s) }
+    ensures stopped { IfErr result C.stops }
 {
     let held = chunks.show(at)?;
     let hint = hint_of(held.chunk(), key, asked);
@@ -55,7 +54,7 @@ pub(crate) fn seek_placed<C: Chunks>(
     ensures standing { IfOk result (λ s. s.standing ≡ stands_in (rows_or (chunk_rows (C.contents chunks.old) (stamp_of at))) key.now (option_copied asked.entry)) }
     ensures depth { IfOk result (λ s. chunk_depth (C.contents chunks.old) (stamp_of at) ≡ Some s.depth) }
     ensures bound { IfOk result (λ s. s.depth ≤ stamp_of at + 1) }
-    ensures stopped { IfErr result (λ s. (s ≡ NoMemory) ⊎ C.stops s) }
+    ensures stopped { IfErr result C.stops }
 {
     match hint(chunks, at, key, asked)? {
         Hint::Stands(standing) => Ok(Sought { standing, depth: 1 }),

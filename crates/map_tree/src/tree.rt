@@ -74,12 +74,12 @@ impl Tree {
         }
     }
 
-    /// Whether the key is there.
+    /// Whether the key is there. Takes no memory.
     pub fn has<C: Chunks>(&self, chunks: &mut C, key: &str) -> Result<bool, Stop>
         requires { IsSome (tree_map (C.contents chunks.old) self.now) }
         ensures grown { IsPrefix (C.contents chunks.old) (C.contents chunks.new) }
         ensures value { (m : Entries) → tree_map (C.contents chunks.old) self.now ≡ Some m → IfOk result (λ v. v ≡ finite.contains_key m key.now) }
-        ensures stopped { IfErr result (λ s. (s ≡ NoMemory) ⊎ C.stops s) }
+        ensures stopped { IfErr result C.stops }
     {
         let sought = self.sought(chunks, key, None)?;
         Ok(sought.standing.is_there())
@@ -96,7 +96,7 @@ impl Tree {
         ensures grown { IsPrefix (C.contents chunks.old) (C.contents chunks.new) }
         ensures standing { (m : Entries) → tree_map (C.contents chunks.old) self.now ≡ Some m → IfOk result (λ s. s.standing ≡ standing (finite.get m key.now) (option_copied asked.entry)) }
         ensures depth { IfOk result (λ s. tree_depth (C.contents chunks.old) self.now ≡ Some s.depth) }
-        ensures stopped { IfErr result (λ s. (s ≡ NoMemory) ⊎ C.stops s) }
+        ensures stopped { IfErr result C.stops }
     {
         match &self.root {
             Root::Placed(at) => seek_placed(chunks, *at, key, asked),

@@ -48,7 +48,7 @@ impl Node {
         requires { IsTree (shown (C.contents chunks.old) self.now.pieces) }
         ensures grown { IsPrefix (C.contents chunks.old) (C.contents chunks.new) }
         ensures standing { IfOk result (λ s. s ≡ stands_in (rows_or (shown (C.contents chunks.old) self.now.pieces)) key.now (option_copied asked.entry)) }
-        ensures stopped { IfErr result (λ s. (s ≡ NoMemory) ⊎ C.stops s) }
+        ensures stopped { IfErr result C.stops }
     {
         match &self.body {
             Body::Leaf(values) => Ok(standing_at(self.keys.as_slice(), values, key, asked)),
