@@ -29,3 +29,4 @@ pub mod EndLemmas
 pub mod RemoveLemmas
 pub mod EmptyLemmas
 pub mod DeleteLemmas
+pub mod NamedLemmas

@@ -79,7 +79,7 @@ fn first_child<C: Chunks>(chunks: &mut C, at: Ref) -> Result<Option<Ref>, Stop>
     requires { IsSome (segment_at (C.contents chunks.old) (stamp_of at)) }
     ensures grown { IsPrefix (C.contents chunks.old) (C.contents chunks.new) }
     ensures child { (s : Segment) → segment_at (C.contents chunks.old) (stamp_of at) ≡ Some s → IfOk result (IsAbove (C.contents chunks.new) (stamp_of at) s) }
-    ensures stopped { IfErr result (λ s. (s ≡ NoMemory) ⊎ C.stops s) }
+    ensures stopped { IfErr result C.stops }
 {
     let held = chunks.show(at)?;
     let child = first_of(held.chunk());
@@ -93,7 +93,7 @@ pub(crate) fn depth_placed<C: Chunks>(chunks: &mut C, at: Ref) -> Result<u64, St
     ensures grown { IsPrefix (C.contents chunks.old) (C.contents chunks.new) }
     ensures depth { (s : Segment) → segment_at (C.contents chunks.old) (stamp_of at) ≡ Some s → IfOk result (λ d. d ≡ s.depth) }
     ensures bound { IfOk result (λ d. d ≤ stamp_of at + 1) }
-    ensures stopped { IfErr result (λ s. (s ≡ NoMemory) ⊎ C.stops s) }
+    ensures stopped { IfErr result C.stops }
 {
     match first_child(chunks, at)? {
         None => Ok(1),
@@ -118,7 +118,7 @@ pub(crate) fn is_empty_placed<C: Chunks>(chunks: &mut C, at: Ref) -> Result<bool
     requires { IsSome (chunk_rows (C.contents chunks.old) (stamp_of at)) }
     ensures grown { IsPrefix (C.contents chunks.old) (C.contents chunks.new) }
     ensures value { IfOk result (λ b. b ≡ (length (rows_or (chunk_rows (C.contents chunks.old) (stamp_of at))) == 0)) }
-    ensures stopped { IfErr result (λ s. (s ≡ NoMemory) ⊎ C.stops s) }
+    ensures stopped { IfErr result C.stops }
 {
     let held = chunks.show(at)?;
     let empty = is_empty(held.chunk());

@@ -110,12 +110,12 @@ impl Tree {
         }
     }
 
-    /// How deep the tree is: 1 where its root is a leaf.
+    /// How deep the tree is: 1 where its root is a leaf. Takes no memory.
     pub fn depth<C: Chunks>(&self, chunks: &mut C) -> Result<u64, Stop>
         requires { IsSome (tree_map (C.contents chunks.old) self.now) }
         ensures grown { IsPrefix (C.contents chunks.old) (C.contents chunks.new) }
         ensures depth { IfOk result (λ d. tree_depth (C.contents chunks.old) self.now ≡ Some d) }
-        ensures stopped { IfErr result (λ s. (s ≡ NoMemory) ⊎ C.stops s) }
+        ensures stopped { IfErr result C.stops }
     {
         match &self.root {
             Root::Placed(at) => depth_placed(chunks, *at),

@@ -1,11 +1,11 @@
 //! A draft's chunks written down as nodes that can be placed, children before parents.
 ghost use Rattle.std.specs.Prelude.{◌≡◌, ◌+◌, ◌<◌, ◌≤◌, ◌^◌, ◌⊎◌, length, Some, IfOk, IfErr, OnOk, OnErr};
 ghost use mathlib.Core.List.{IsPrefix};
-ghost use Rattle.group_history.specs.Refs.{stamp_of};
+ghost use Rattle.group_history.specs.Refs.{stamp_of, slot_of};
 ghost use Rattle.group_history.specs.Rows.{Rows};
 ghost use Rattle.group_history.specs.Spelling.{Contents, rows_at};
 ghost use Rattle.group_history.specs.declared.refusals.Refusal.TheVariants as refusal;
-ghost use Rattle.map_tree.specs.Freezing.{with_nodes, IsFrozen, AreFrozen};
+ghost use Rattle.map_tree.specs.Freezing.{with_nodes, IsFrozen, AreFrozen, places_of, child_places, kids_places, IsNamed, AreNamed, AddsNamed};
 ghost use Rattle.map_tree.specs.Nodes.{child_fresh, kids_fresh};
 ghost use Rattle.map_tree.specs.Shown.{shown};
 ghost use Rattle.map_tree.specs.Trees.{IsWideAt};
@@ -19,6 +19,8 @@ use std::alloc::Global;
 pub(crate) fn frozen(alloc: Global, node: Node, draft: &mut Draft) -> Result<Ref, Refusal>
     ensures spelled { (contents : Contents) (rows : Rows) → length contents ≡ draft.old.first → shown (with_nodes contents draft.old.nodes) node.pieces ≡ Some rows → IfOk result (λ root. rows_at (with_nodes contents draft.new.nodes) node.depth (stamp_of root) ≡ Some rows) }
     ensures wide { (contents : Contents) → length contents ≡ draft.old.first → 1 < node.entries → IfOk result (IsWideAt (with_nodes contents draft.new.nodes)) }
+    ensures named { OnOk result (AddsNamed draft.old.first (places_of node.pieces) draft.old.nodes draft.new.nodes) }
+    ensures drafted { IfOk result (λ at. (draft.old.first ≤ stamp_of at) × (slot_of at ≡ 0)) }
     ensures count { OnOk result (length draft.new.nodes ≡ length draft.old.nodes + node.fresh) }
     ensures first { draft.new.first ≡ draft.old.first }
     ensures grown { IsPrefix draft.old.nodes draft.new.nodes }
@@ -44,6 +46,8 @@ impl Node {
     fn freeze(self, alloc: Global, draft: &mut Draft) -> Result<Ref, Refusal>
         ensures spelled { (contents : Contents) (rows : Rows) → length contents ≡ draft.old.first → shown (with_nodes contents draft.old.nodes) self.pieces ≡ Some rows → IfOk result (λ root. rows_at (with_nodes contents draft.new.nodes) self.depth (stamp_of root) ≡ Some rows) }
         ensures wide { (contents : Contents) → length contents ≡ draft.old.first → 1 < self.entries → IfOk result (IsWideAt (with_nodes contents draft.new.nodes)) }
+        ensures named { OnOk result (AddsNamed draft.old.first (places_of self.pieces) draft.old.nodes draft.new.nodes) }
+        ensures drafted { IfOk result (λ at. (draft.old.first ≤ stamp_of at) × (slot_of at ≡ 0)) }
         ensures count { OnOk result (length draft.new.nodes ≡ length draft.old.nodes + self.fresh) }
         ensures bound { OnErr result (length draft.new.nodes < length draft.old.nodes + self.fresh) }
         ensures first { draft.new.first ≡ draft.old.first }
@@ -73,6 +77,8 @@ impl Node {
 #[cycle(freezing)]
 fn freeze_kids(alloc: Global, kids: Vec<Child>, draft: &mut Draft) -> Result<Vec<Ref>, Refusal>
     ensures frozen { IfOk result (λ ats. AreFrozen draft.old.first draft.old.nodes draft.new.nodes kids.items ats.items) }
+    ensures named { OnOk result (AddsNamed draft.old.first (kids_places kids.items) draft.old.nodes draft.new.nodes) }
+    ensures names { IfOk result (λ ats. AreNamed draft.old.first (kids_places kids.items) ats.items) }
     ensures count { OnOk result (length draft.new.nodes ≡ length draft.old.nodes + kids_fresh kids.items) }
     ensures bound { OnErr result (length draft.new.nodes ≤ length draft.old.nodes + kids_fresh kids.items) }
     ensures first { draft.new.first ≡ draft.old.first }
@@ -90,6 +96,8 @@ fn freeze_kids(alloc: Global, kids: Vec<Child>, draft: &mut Draft) -> Result<Vec
 #[cycle(freezing)]
 fn freeze_kid(alloc: Global, kid: Child, draft: &mut Draft) -> Result<Ref, Refusal>
     ensures frozen { IfOk result (IsFrozen draft.old.first draft.old.nodes draft.new.nodes kid) }
+    ensures named { OnOk result (AddsNamed draft.old.first (child_places kid) draft.old.nodes draft.new.nodes) }
+    ensures name { IfOk result (IsNamed draft.old.first (child_places kid)) }
     ensures count { OnOk result (length draft.new.nodes ≡ length draft.old.nodes + child_fresh kid) }
     ensures bound { OnErr result (length draft.new.nodes ≤ length draft.old.nodes + child_fresh kid) }
     ensures first { draft.new.first ≡ draft.old.first }

@@ -2,7 +2,7 @@
 ghost use Rattle.std.specs.Prelude.{◌≡◌, Some};
 ghost use Rattle.std.specs.FinMap as finite;
 ghost use Rattle.group_history.specs.Spelling.{Contents};
-ghost use Rattle.map_tree.specs.Trees.{tree_map, tree_fresh, HasWideRoot};
+ghost use Rattle.map_tree.specs.Trees.{tree_map, tree_depth, tree_fresh, HasWideRoot};
 
 use super::Tree;
 use std::alloc::Global;
@@ -11,6 +11,7 @@ impl Tree {
     /// Takes out all keys. Placed chunks are left alone.
     pub fn clear(&mut self, alloc: Global)
         ensures map { (contents : Contents) → tree_map contents self.new ≡ Some finite.empty }
+        ensures depth { (contents : Contents) → tree_depth contents self.new ≡ Some 1 }
         ensures fresh { tree_fresh self.new ≡ 1 }
         ensures wide { (contents : Contents) → HasWideRoot contents self.new }
     {

@@ -14,12 +14,12 @@ use group_history::Stop;
 use std::alloc::Global;
 
 impl Tree {
-    /// Whether the map has no key.
+    /// Whether the map has no key. Takes no memory.
     pub fn is_empty<C: Chunks>(&self, chunks: &mut C) -> Result<bool, Stop>
         requires { IsSome (tree_map (C.contents chunks.old) self.now) }
         ensures grown { IsPrefix (C.contents chunks.old) (C.contents chunks.new) }
         ensures value { (m : Entries) → tree_map (C.contents chunks.old) self.now ≡ Some m → IfOk result (λ b. b ≡ (length (finite.entries m) == 0)) }
-        ensures stopped { IfErr result (λ s. (s ≡ NoMemory) ⊎ C.stops s) }
+        ensures stopped { IfErr result C.stops }
     {
         match &self.root {
             Root::Placed(at) => is_empty_placed(chunks, *at),

@@ -1,12 +1,12 @@
 //! A map written down as nodes.
-ghost use Rattle.std.specs.Prelude.{◌≡◌, ◌⊎◌, ◌+◌, ◌<◌, ◌^◌, length, Some, IfOk, IfErr, OnOk, OnErr};
+ghost use Rattle.std.specs.Prelude.{◌≡◌, ◌⊎◌, ◌+◌, ◌<◌, ◌^◌, length, Some, Ok, IfOk, IfErr, OnOk, OnErr};
 ghost use mathlib.Core.List.{IsPrefix};
 ghost use Rattle.group_history.specs.Map.{Entries};
 ghost use Rattle.group_history.specs.Refs.{stamp_of};
 ghost use Rattle.group_history.specs.declared.refs.Ref.{Ref as Reference};
 ghost use Rattle.group_history.specs.declared.refusals.Refusal.TheVariants as refusal;
 ghost use Rattle.group_history.specs.Spelling.{Contents, map_at};
-ghost use Rattle.map_tree.specs.Freezing.{with_nodes};
+ghost use Rattle.map_tree.specs.Freezing.{with_nodes, tree_places, IsNamed, AddsNamed};
 ghost use Rattle.map_tree.specs.Trees.{tree_map, tree_fresh, tree_root, HasWideRoot, IsWideAt};
 
 use super::{Root, Tree};
@@ -17,11 +17,13 @@ use std::alloc::Global;
 
 impl Tree {
     /// Appends the chunks that aren't placed to the draft, all or none, and answers the root's name. A
-    /// map whose root is placed adds nothing, and keeps its name.
+    /// map whose root is placed adds nothing, keeps its name, and is never refused.
     pub fn freeze(self, alloc: Global, draft: &mut Draft) -> Result<Ref, Refusal>
         ensures spelled { (contents : Contents) (m : Entries) → length contents ≡ draft.old.first → tree_map (with_nodes contents draft.old.nodes) self ≡ Some m → IfOk result (λ root. map_at (with_nodes contents draft.new.nodes) (stamp_of root) ≡ Some m) }
         ensures wide { (contents : Contents) (m : Entries) → length contents ≡ draft.old.first → tree_map (with_nodes contents draft.old.nodes) self ≡ Some m → HasWideRoot (with_nodes contents draft.old.nodes) self → IfOk result (IsWideAt (with_nodes contents draft.new.nodes)) }
-        ensures shared { (at : Reference) → tree_root self ≡ Some at → IfOk result (λ root. (root ≡ at) × (draft.new ≡ draft.old)) }
+        ensures shared { (at : Reference) → tree_root self ≡ Some at → (result ≡ Ok at) × (draft.new ≡ draft.old) }
+        ensures named { OnOk result (AddsNamed draft.old.first (tree_places self) draft.old.nodes draft.new.nodes) }
+        ensures name { IfOk result (IsNamed draft.old.first (tree_places self)) }
         ensures count { OnOk result (length draft.new.nodes ≡ length draft.old.nodes + tree_fresh self) }
         ensures first { draft.new.first ≡ draft.old.first }
         ensures grown { IsPrefix draft.old.nodes draft.new.nodes }

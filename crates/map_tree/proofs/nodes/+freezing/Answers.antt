@@ -1,4 +1,4 @@
-use Rattle.std.proofs.Common.{refl, ◌<◌, [], ◌∷◌, ◌++◌, append_assoc, ◌≡◌, ◌∙◌, ◌≤◌, ◌+◌, ◌-◌, ap, sym, subst, arith, length, IfOk, Some}
+use Rattle.std.proofs.Common.{refl, ◌<◌, [], ◌∷◌, ◌++◌, append_assoc, ◌≡◌, ◌∙◌, ◌≤◌, ◌+◌, ◌-◌, ap, sym, subst, arith, length, IfOk, OnOk, Some, inl}
 use Rattle.group_history.specs.declared.nodes.Chunk.TheVariants as chunked
 use Rattle.group_history.specs.declared.nodes.Node.TheVariants as node
 use Rattle.group_history.specs.Naming.{content_of}
@@ -7,7 +7,7 @@ use Rattle.group_history.specs.Rows.{Rows, paired}
 use Rattle.std.specs.Vec.Iter.{into_iter_items}
 use Rattle.group_history.specs.Spelling.{Contents, rows_at, joined_rows}
 use Rattle.group_history.proofs.Folding.{prefix_trans}
-use Rattle.map_tree.specs.Freezing.{with_nodes, IsFrozen, AreFrozen}
+use Rattle.map_tree.specs.Freezing.{with_nodes, IsFrozen, AreFrozen, places_of, child_places, kids_places, IsNamed, AreNamed, AddsNamed}
 use Rattle.map_tree.specs.Nodes.{body_pieces, body_height, child_height, child_fresh, kids_fresh, kids_height, IsNode}
 use Rattle.map_tree.specs.Shown.{Seen, shown}
 use Rattle.map_tree.specs.declared.nodes.Body.TheVariants.{Leaf, Inner}
@@ -18,6 +18,9 @@ use Rattle.map_tree.proofs.NodeLemmas.{shown-rows, shown-kids}
 use Rattle.map_tree.proofs.ScanLemmas.{length-pairs}
 use Rattle.map_tree.proofs.WideLemmas.{pushed_at, wide_node, wide_inner}
 use Rattle.map_tree.proofs.FreezeLemmas.{if_ok, err_so, own_frozen, leaf_pushed, inner_pushed, all-spelled, frozen-length, frozen-sooner, all-later, all-one, fresh-one, fresh-within, high-within}
+use Rattle.std.specs.List.{Contains}
+use Rattle.map_tree.proofs.AnswerLemmas.{on_ok}
+use Rattle.map_tree.proofs.NamedLemmas.{one_here, none_here, adds-none, adds-one, kid-added, kid-named, places-kids, inner-named, drafted-named}
 use Rattle.map_tree.proofs.nodes.+freezing.Goals as goal
 
 pub Node::freeze-returns-in-Leaf-clause-spelled : goal.Node::freeze-returns-in-Leaf-clause-spelled
@@ -111,6 +114,9 @@ freezing::freeze_kids-loop-kid-preserved t c =
       frozen = subst (λ ats. AreFrozen first old new (done ++ kid ∷ []) ats) (sym c.in_ok-push.ensures.items)
           (all-one first old new done c.loop-kid.children.items kid c.in_ok-at.at (all-later first old mid new done c.loop-kid.children.items c.freeze_kid.ensures.grown c.loop-kid.invariant.frozen)
           (frozen-sooner first old mid new kid c.in_ok-at.at c.loop-kid.invariant.grown this));
+      named = kid-added first done kid old mid new c.loop-kid.invariant.named (subst (λ n. AddsNamed n (child_places kid) mid new) c.loop-kid.invariant.first c.in_ok-at.ensures.named);
+      names = subst (AreNamed first (kids_places (done ++ kid ∷ []))) (sym c.in_ok-push.ensures.items)
+          (kid-named first done kid c.loop-kid.children.items c.in_ok-at.at c.loop-kid.invariant.names (subst (λ n. IsNamed n (child_places kid) c.in_ok-at.at) c.loop-kid.invariant.first c.in_ok-at.ensures.name));
     }
 
 pub Node::freeze-returns-in-Leaf-clause-wide : goal.Node::freeze-returns-in-Leaf-clause-wide
@@ -136,3 +142,50 @@ Node::freeze-returns-in-Inner-clause-wide t c contents l h =
     wide_node (with_nodes contents c.push-in-Inner.new.self.nodes) at (content_of x)
     (pushed_at contents c.args.draft.now.first c.freeze_kids.new.draft.nodes c.push-in-Inner.new.self.nodes x at l (ap (λ d. d.nodes) o)
     (k.0 ∙ ap (λ n. n + length c.freeze_kids.new.draft.nodes) c.freeze_kids.ensures.first)) (wide_inner c.new-inner.result more))
+
+pub Node::freeze-returns-in-Leaf-clause-named : goal.Node::freeze-returns-in-Leaf-clause-named
+Node::freeze-returns-in-Leaf-clause-named t c =
+    let old = c.args.draft.now.nodes in
+    on_ok c.push.result c.push.ensures.ok (λ o.
+    adds-one c.args.draft.now.first (places_of c.args.self.pieces) old old c.push.new.self.nodes (node.Chunk (chunked.Leaf c.new-leaf.result)) (adds-none c.args.draft.now.first (places_of c.args.self.pieces) old)
+    (λ at h. absurd (none_here at h)) (ap (λ d. d.nodes) o))
+
+pub Node::freeze-returns-in-Leaf-clause-drafted : goal.Node::freeze-returns-in-Leaf-clause-drafted
+Node::freeze-returns-in-Leaf-clause-drafted t c = if_ok c.push.result c.push.ensures.stamp c.push.ensures.ok (λ at k o. (omega (arith, k.0), k.1))
+
+pub Node::freeze-returns-in-Inner-clause-named : goal.Node::freeze-returns-in-Inner-clause-named
+Node::freeze-returns-in-Inner-clause-named t c =
+    let first = c.args.draft.now.first in
+    let old = c.args.draft.now.nodes in
+    let mid = c.freeze_kids.new.draft.nodes in
+    let depth = c.self.inside.depth in
+    let texts = c.self.inside.keys.texts in
+    let kids = c.in-Inner.kids.items in
+    let ats = c.in_ok-children-in-Inner.children.items in
+    let inv : IsNode depth texts (Inner c.in-Inner.kids) = subst (IsNode depth texts) c.in-Inner.is c.self.invariant in
+    let pieces = ap (body_pieces depth texts) (sym c.in-Inner.is) ∙ ap (λ (s : Seen). s.pieces) c.self.view_is in
+    let places : places_of c.args.self.pieces ≡ kids_places kids = ap places_of (sym pieces) ∙ places-kids (depth - 1) texts kids inv.1.2 in
+    let inner : c.new-inner.result ≡ paired texts ats = c.new-inner.ensures ∙ ap (λ w. paired w ats) c.in_ok-keys.ensures in
+    let long : length ats ≡ length texts = frozen-length _ _ _ kids ats c.in_ok-children-in-Inner.ensures.frozen ∙ inv.1.2 in
+    on_ok c.push-in-Inner.result c.push-in-Inner.ensures.ok (λ o.
+    subst (λ w. AddsNamed first w old c.push-in-Inner.new.self.nodes) (sym places)
+    (adds-one first (kids_places kids) old mid c.push-in-Inner.new.self.nodes (node.Chunk (chunked.Inner c.new-inner.result)) c.in_ok-children-in-Inner.ensures.named
+    (inner-named first (kids_places kids) texts ats c.new-inner.result long inner c.in_ok-children-in-Inner.ensures.names) (ap (λ d. d.nodes) o)))
+
+pub Node::freeze-returns-in-Inner-clause-drafted : goal.Node::freeze-returns-in-Inner-clause-drafted
+Node::freeze-returns-in-Inner-clause-drafted t c =
+    if_ok c.push-in-Inner.result c.push-in-Inner.ensures.stamp c.push-in-Inner.ensures.ok (λ at k o. (omega (arith, k.0, c.freeze_kids.ensures.first), k.1))
+
+pub freezing::freeze_kid-returns-in-Placed-clause-named : goal.freezing::freeze_kid-returns-in-Placed-clause-named
+freezing::freeze_kid-returns-in-Placed-clause-named t c = adds-none c.args.draft.now.first (child_places c.args.kid) c.args.draft.now.nodes
+
+pub freezing::freeze_kid-returns-in-Placed-clause-name : goal.freezing::freeze_kid-returns-in-Placed-clause-name
+freezing::freeze_kid-returns-in-Placed-clause-name t c = inl (subst (λ (k : Child). Contains (child_places k) c.in-Placed.at) (sym c.in-Placed.is) (one_here c.in-Placed.at))
+
+pub freezing::freeze_kid-returns-in-Own-clause-named : goal.freezing::freeze_kid-returns-in-Own-clause-named
+freezing::freeze_kid-returns-in-Own-clause-named t c =
+    subst (λ (k : Child). OnOk c.freeze.result (AddsNamed c.args.draft.now.first (child_places k) c.args.draft.now.nodes c.freeze.new.draft.nodes)) (sym c.in-Own.is)
+    (subst (λ (s : Seen). OnOk c.freeze.result (AddsNamed c.args.draft.now.first (places_of s.pieces) c.args.draft.now.nodes c.freeze.new.draft.nodes)) c.into_inner.ensures c.freeze.ensures.named)
+
+pub freezing::freeze_kid-returns-in-Own-clause-name : goal.freezing::freeze_kid-returns-in-Own-clause-name
+freezing::freeze_kid-returns-in-Own-clause-name t c = drafted-named c.args.draft.now.first (child_places c.args.kid) c.freeze.result c.freeze.ensures.drafted

@@ -1,7 +1,7 @@
 use Rattle.std.proofs.Common.{◌≡◌, ◌+◌, ◌++◌, length}
 use mathlib.Core.List.{IsPrefix}
 use Rattle.std.specs.Vec.Iter.{into_iter_items}
-use Rattle.map_tree.specs.Freezing.{AreFrozen}
+use Rattle.map_tree.specs.Freezing.{kids_places, AreFrozen, AreNamed, AddsNamed}
 use Rattle.map_tree.specs.Nodes.{kids_fresh, child_height, kids_height}
 use Rattle.map_tree.proofs.nodes.+freezing.Given as goal
 
@@ -24,4 +24,6 @@ invariant-freezing::freeze_kids-loop-kid l =
       grown : IsPrefix l.fn.draft.nodes l.draft.nodes;
       count : length l.draft.nodes ≡ length l.fn.draft.nodes + kids_fresh l.yielded;
       frozen : AreFrozen l.fn.draft.first l.fn.draft.nodes l.draft.nodes l.yielded l.children.items;
+      named : AddsNamed l.fn.draft.first (kids_places l.yielded) l.fn.draft.nodes l.draft.nodes;
+      names : AreNamed l.fn.draft.first (kids_places l.yielded) l.children.items;
     }

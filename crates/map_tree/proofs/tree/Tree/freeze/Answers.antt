@@ -1,9 +1,11 @@
-use Rattle.std.proofs.Common.{◌≡◌, ◌+◌, ◌<◌, ◌^◌, sym, ap, subst, ◌∙◌, length, OnOk, IfErr, refl, arith, ◌⊎◌}
-use Rattle.map_tree.specs.Freezing.{with_nodes}
+use Rattle.std.proofs.Common.{◌≡◌, ◌+◌, ◌<◌, ◌^◌, sym, ap, subst, ◌∙◌, length, Ok, OnOk, IfErr, refl, arith, ◌⊎◌, inl}
+use Rattle.map_tree.specs.Freezing.{with_nodes, root_places, tree_places, AddsNamed}
 use Rattle.group_history.specs.declared.refusals.Refusal.TheVariants as refusal
 use Rattle.map_tree.specs.Trees.{root_map, root_fresh, placed_root, IsWide}
 use Rattle.map_tree.proofs.FreezeLemmas.{map_frozen}
 use Rattle.map_tree.proofs.JoinLemmas.{some_is}
+use Rattle.std.specs.List.{Contains}
+use Rattle.map_tree.proofs.NamedLemmas.{one_here, adds-none, drafted-named}
 use Rattle.map_tree.proofs.WideLemmas.{wide_frozen}
 use Rattle.map_tree.proofs.tree.Tree.freeze.Goals as goal
 
@@ -16,7 +18,7 @@ pub returns-in-Placed-clause-wide : goal.returns-in-Placed-clause-wide
 returns-in-Placed-clause-wide c contents m l h w = subst (IsWide (with_nodes contents c.args.draft.now.nodes)) c.in-Placed.is w
 
 pub returns-in-Placed-clause-shared : goal.returns-in-Placed-clause-shared
-returns-in-Placed-clause-shared c at h = (some_is (ap placed_root (sym c.in-Placed.is) ∙ h), refl)
+returns-in-Placed-clause-shared c at h = (ap Ok (some_is (ap placed_root (sym c.in-Placed.is) ∙ h)), refl)
 
 pub returns-in-Placed-clause-count : goal.returns-in-Placed-clause-count
 returns-in-Placed-clause-count c = omega (arith, ap root_fresh c.in-Placed.is)
@@ -38,3 +40,16 @@ pub returns-in-Own-clause-why : goal.returns-in-Own-clause-why
 returns-in-Own-clause-why c =
     subst (λ n. IfErr c.frozen.result (λ e. (e ≡ refusal.NoMemory) ⊎ ((e ≡ refusal.Stamps) × (2 ^ 44 < c.args.draft.now.first + length c.args.draft.now.nodes + n))))
     (ap root_fresh (sym c.in-Own.is)) c.frozen.ensures.why
+
+pub returns-in-Placed-clause-named : goal.returns-in-Placed-clause-named
+returns-in-Placed-clause-named c = adds-none c.args.draft.now.first (tree_places c.args.self) c.args.draft.now.nodes
+
+pub returns-in-Placed-clause-name : goal.returns-in-Placed-clause-name
+returns-in-Placed-clause-name c = inl (subst (λ r. Contains (root_places r) c.in-Placed.at) (sym c.in-Placed.is) (one_here c.in-Placed.at))
+
+pub returns-in-Own-clause-named : goal.returns-in-Own-clause-named
+returns-in-Own-clause-named c =
+    subst (λ r. OnOk c.frozen.result (AddsNamed c.args.draft.now.first (root_places r) c.args.draft.now.nodes c.frozen.new.draft.nodes)) (sym c.in-Own.is) c.frozen.ensures.named
+
+pub returns-in-Own-clause-name : goal.returns-in-Own-clause-name
+returns-in-Own-clause-name c = drafted-named c.args.draft.now.first (tree_places c.args.self) c.frozen.result c.frozen.ensures.drafted
