@@ -3,8 +3,7 @@ use Rattle.std.proofs.Common.{◌≡◌, ◌<◌, ◌+◌, ℕ, Bool, true, fals
 use Rattle.std.proofs.lemmas.List.{take_more}
 use Rattle.group_history.specs.declared.refusals.Refusal.{Refusal}
 use Rattle.group_history.specs.Meaning.{Meanings}
-use Rattle.rebase.specs.Calls.{reply_to, left_by, AreReplies}
-use Rattle.rebase.specs.Refusing.{AnswersOrStamps}
+use Rattle.rebase.specs.Calls.{reply_to, left_by, IsReplyTo, AreReplies}
 use Rattle.rebase.specs.Replies.{Replied}
 use Rattle.rebase.specs.Replying.{replied}
 use Rattle.rebase.specs.declared.calls.Reply.{Reply}
@@ -13,8 +12,8 @@ use Rattle.rebase.specs.declared.calls.Call.{Call}
 
 -- one call more
 pub replies-more : (means : Meanings) (g mid end : SoloState) (cs : List Call) (rs : List (Result Replied Refusal)) (c : Call) (r : Result Replied Refusal) → AreReplies means g cs rs mid
-    → AnswersOrStamps r (reply_to means mid c) → end ≡ left_by means mid c r → AreReplies means g (cs ++ c ∷ []) (rs ++ r ∷ []) end
-replies-more means g mid end [] [] c r h a e = (subst (λ w. AnswersOrStamps r (reply_to means w c)) h a, e ∙ ap (λ w. left_by means w c r) h)
+    → IsReplyTo c r (reply_to means mid c) → end ≡ left_by means mid c r → AreReplies means g (cs ++ c ∷ []) (rs ++ r ∷ []) end
+replies-more means g mid end [] [] c r h a e = (subst (λ w. IsReplyTo c r (reply_to means w c)) h a, e ∙ ap (λ w. left_by means w c r) h)
 replies-more means g mid end [] (x ∷ rs) c r h a e = absurd h
 replies-more means g mid end (d ∷ cs) [] c r h a e = absurd h
 replies-more means g mid end (d ∷ cs) (x ∷ rs) c r h a e = (h.0, replies-more means (left_by means g d x) mid end cs rs c r h.1 a e)
@@ -25,7 +24,7 @@ map_more f (y ∷ xs) x = ap (λ w. f y ∷ w) (map_more f xs x)
 
 -- a turn of the loop over the calls
 pub turn : (means : Meanings) (g mid end : SoloState) (all : List Call) (i : ℕ) (c : Call) (rs news : List (Result Reply Refusal)) (r : Result Reply Refusal) → i < length all → c ≡ get_or all i c
-    → AreReplies means g (take i all) (map replied rs) mid → AnswersOrStamps (replied r) (reply_to means mid c) → end ≡ left_by means mid c (replied r) → news ≡ rs ++ r ∷ []
+    → AreReplies means g (take i all) (map replied rs) mid → IsReplyTo c (replied r) (reply_to means mid c) → end ≡ left_by means mid c (replied r) → news ≡ rs ++ r ∷ []
     → AreReplies means g (take (i + 1) all) (map replied news) end
 turn means g mid end all i c rs news r l q h a e n =
     let front : take (i + 1) all ≡ take i all ++ c ∷ [] = take_more all i c l ∙ ap (λ w. take i all ++ w ∷ []) (sym q) in

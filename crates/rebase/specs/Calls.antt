@@ -2,7 +2,7 @@
 -- Source: Replicache, How It Works; what a refused call leaves is this project's own rule.
 use Rattle.std.specs.Prelude.{◌≡◌, List, [], ◌∷◌, Result, Ok, Err}
 use Rattle.group_history.specs.declared.refusals.Refusal.{Refusal}
-use Rattle.group_history.specs.Answers.{◌>>=◌}
+use Rattle.group_history.specs.Answers.{Answers, ◌>>=◌}
 use Rattle.group_history.specs.Meaning.{Meanings}
 use Rattle.group_history.specs.Mutating.{mutate_reply, left_by_mutate}
 use Rattle.group_history.specs.Queries.{get_at, has_at, rows_at, is_empty_at}
@@ -48,9 +48,23 @@ abbrev pub left_by : Meanings → SoloState → Call → Result Replied Refusal 
 left_by means g c (Ok r) = record { state = after_call means g.state c; identity = g.identity }
 left_by means g c (Err e) = g
 
+-- The reply is the right one. Want of memory may come in its place where the call takes memory, want of stamps where it is a change.
+abbrev pub IsReplyTo : Call → Result Replied Refusal → Result Replied Refusal → Type 0
+IsReplyTo (call.Get key) r right = Answers r right
+IsReplyTo (call.Has key) r right = Answers r right
+IsReplyTo (call.Scan scan) r right = Answers r right
+IsReplyTo call.IsEmpty r right = r ≡ right
+IsReplyTo call.Pending r right = Answers r right
+IsReplyTo call.Cookie r right = Answers r right
+IsReplyTo (call.Last client) r right = r ≡ right
+IsReplyTo call.PushBody r right = Answers r right
+IsReplyTo call.BeginPull r right = Answers r right
+IsReplyTo (call.Mutate m) r right = AnswersOrStamps r right
+IsReplyTo (call.EndPull at bytes) r right = AnswersOrStamps r right
+
 -- Each call of the list is answered rightly at the group that the calls before it left; the last one leaves the group at the end.
 abbrev pub AreReplies : Meanings → SoloState → List Call → List (Result Replied Refusal) → SoloState → Type 0
 AreReplies means g [] [] end = end ≡ g
 AreReplies means g [] (r ∷ rs) end = ⊥
 AreReplies means g (c ∷ cs) [] end = ⊥
-AreReplies means g (c ∷ cs) (r ∷ rs) end = AnswersOrStamps r (reply_to means g c) × AreReplies means (left_by means g c r) cs rs end
+AreReplies means g (c ∷ cs) (r ∷ rs) end = IsReplyTo c r (reply_to means g c) × AreReplies means (left_by means g c r) cs rs end

@@ -1,7 +1,6 @@
 //! A group of one thread, call by call.
 ghost use Rattle.std.specs.Prelude.{◌≡◌, map, IfOk, OnErr};
-ghost use Rattle.rebase.specs.Calls.{reply_to, left_by, AreReplies};
-ghost use Rattle.rebase.specs.Refusing.{AnswersOrStamps};
+ghost use Rattle.rebase.specs.Calls.{reply_to, left_by, IsReplyTo, AreReplies};
 ghost use Rattle.rebase.specs.Replying.{replied};
 
 use crate::calls::{Call, Reply};
@@ -12,7 +11,7 @@ use std::alloc::{AllocError, Global};
 impl<M: Mutators + Drop> Solo<M> {
     /// Makes one call. A refused one leaves the group as it was.
     pub fn make_call(&mut self, call: Call<'_>) -> Result<Reply, Refusal>
-        ensures answer { AnswersOrStamps (replied result) (reply_to M.means self.old call.entry) }
+        ensures answer { IsReplyTo call.entry (replied result) (reply_to M.means self.old call.entry) }
         ensures left { self.new ≡ left_by M.means self.old call.entry (replied result) }
     {
         match call {

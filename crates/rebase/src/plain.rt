@@ -10,8 +10,7 @@ ghost use Rattle.group_history.specs.State.{opening};
 ghost use Rattle.group_history.specs.declared.refusals.Refusal.TheVariants.{NoMemory};
 ghost use Rattle.pull_patch.specs.Grammar.{answer_to};
 ghost use Rattle.push_body.specs.Bodies.{pull_text, push_text};
-ghost use Rattle.rebase.specs.Calls.{reply_to, left_by, AreReplies};
-ghost use Rattle.rebase.specs.Refusing.{AnswersOrStamps};
+ghost use Rattle.rebase.specs.Calls.{reply_to, left_by, IsReplyTo, AreReplies};
 ghost use Rattle.rebase.specs.Replying.{replied};
 ghost use Rattle.rebase.specs.Solos.{end_bytes_reply, left_by_bytes};
 
@@ -62,7 +61,7 @@ impl<M: Mutators + Drop> Plain<M> {
 
     /// Makes one call. A refused one leaves the group as it was.
     pub fn make_call(&mut self, call: Call<'_>) -> Result<Reply, Refusal>
-        ensures answer { AnswersOrStamps (replied result) (reply_to M.means self.old call.entry) }
+        ensures answer { IsReplyTo call.entry (replied result) (reply_to M.means self.old call.entry) }
         ensures left { self.new ≡ left_by M.means self.old call.entry (replied result) }
     {
         match call {

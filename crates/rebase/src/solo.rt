@@ -79,10 +79,10 @@ impl<M: Mutators + Drop> Solo<M> {
         })
     }
 
-    /// Reads the group as it is now.
+    /// Reads the group as it is now. Takes no memory, and is never refused.
     pub fn read(&self) -> Result<ReadTx<Shelf<'_>>, Refusal>
         ensures version { IfOk result (λ tx. tx.version ≡ seen_at M.means self.now.state) }
-        ensures err { IfErr result (λ e. e ≡ NoMemory) }
+        ensures err { IfErr result (λ e. ⊥) }
     {
         match ReadTx::open(self.alloc, self.nodes.shelf(), self.head) {
             Ok(tx) => Ok(tx),
@@ -117,10 +117,10 @@ impl<M: Mutators + Drop> Solo<M> {
         Ok(tx.scan(scan)?)
     }
 
-    /// Whether the view has no key.
+    /// Whether the view has no key. Takes no memory, and is never refused.
     pub fn is_empty(&self) -> Result<bool, Refusal>
         ensures value { IfOk result (λ b. b ≡ is_empty_at M.means self.now.state) }
-        ensures err { IfErr result (λ e. e ≡ NoMemory) }
+        ensures err { IfErr result (λ e. ⊥) }
     {
         let mut tx = self.read()?;
         Ok(tx.is_empty()?)
@@ -143,10 +143,10 @@ impl<M: Mutators + Drop> Solo<M> {
         Ok(tx.cookie()?)
     }
 
-    /// The client's last id in the group.
+    /// The client's last id in the group. Takes no memory, and is never refused.
     pub fn last(&self, client: &Text) -> Result<u64, Refusal>
         ensures id { IfOk result (λ id. id ≡ last_id self.now.state client.now) }
-        ensures err { IfErr result (λ e. e ≡ NoMemory) }
+        ensures err { IfErr result (λ e. ⊥) }
     {
         let mut shelf = self.nodes.shelf();
         Ok(last_id_of(&mut shelf, self.head, client)?)

@@ -1,12 +1,12 @@
 -- What is shown through a copy of known nodes.
-use Rattle.std.proofs.Common.{◌≡◌, ℕ, List, [], ◌∷◌, ◌++◌, map, Some, Option, slice_get, refl, sym, ap, ◌∙◌, subst}
+use Rattle.std.proofs.Common.{◌≡◌, ℕ, Some, slice_get, sym, ◌∙◌, subst}
 use Rattle.std.specs.Prelude.{IsSome}
 use mathlib.Core.List.{IsPrefix}
 use Rattle.group_history.specs.declared.nodes.Chunk.{Chunk}
 use Rattle.group_history.specs.declared.nodes.Commit.{Commit}
 use Rattle.group_history.specs.declared.nodes.Node.{Node}
 use Rattle.group_history.specs.declared.refs.Ref.{Ref}
-use Rattle.group_history.specs.Naming.{content_of, chunk_content, commit_content}
+use Rattle.group_history.specs.Naming.{chunk_content, commit_content}
 use Rattle.group_history.specs.Spelling.{Contents, segment_at, version_at}
 use Rattle.group_history.proofs.Spellings.{segment-content, version-content}
 use Rattle.map_tree.proofs.Shelves.{some_of}

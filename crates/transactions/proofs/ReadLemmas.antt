@@ -1,5 +1,5 @@
 -- A commit that is read while more is known to be placed.
-use Rattle.std.proofs.Common.{◌≡◌, ℕ, Option, Some, None, refl, sym, ap, ◌∙◌, subst}
+use Rattle.std.proofs.Common.{◌≡◌, ℕ, Option, Some, None, refl, sym, ap, ◌∙◌}
 use Rattle.std.specs.Prelude.{IsSome}
 use mathlib.Core.List.{IsPrefix}
 use Rattle.group_history.specs.Spelling.{Contents, Version, version_at, map_at}

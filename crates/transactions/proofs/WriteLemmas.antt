@@ -1,5 +1,5 @@
 -- What a tree shows while it is read and written.
-use Rattle.std.proofs.Common.{◌≡◌, Option, Some, None, Result, Ok, Err, OnOk, OnErr, refl, sym, ap, ◌∙◌, subst}
+use Rattle.std.proofs.Common.{◌≡◌, Option, Some, None, Result, OnOk, OnErr, refl, sym, ap, ◌∙◌, subst}
 use Rattle.std.specs.Prelude.{IsSome}
 use mathlib.Core.List.{IsPrefix}
 use Rattle.group_history.specs.Map.{Entries}

@@ -33,6 +33,7 @@ pub struct Fixed<C: Chunks + Copy, K: Known> {
 impl<C: Chunks + Copy, K: Known> Fixed<C, K> {
     pub fn new(chunks: C) -> Fixed<C, K>
         requires { C.contents chunks ≡ K.known }
+        ensures { result.chunks ≡ chunks }
     {
         Fixed {
             chunks,

@@ -94,12 +94,12 @@ impl<N: Nodes> ReadTx<N> {
         Tree::at(self.root).scan(self.alloc, &mut self.nodes, scan)
     }
 
-    /// Whether no key is there.
+    /// Whether no key is there. Takes no memory.
     pub fn is_empty(&mut self) -> Result<bool, Stop>
         ensures value { IfOk result (λ b. b ≡ (length (finite.entries self.old.version.read) == 0)) }
         ensures same { self.new.version ≡ self.old.version }
         ensures grown { IsPrefix self.old.contents self.new.contents }
-        ensures stopped { IfErr result (λ stop. (stop ≡ NoMemory) ⊎ N.stops stop) }
+        ensures stopped { IfErr result N.stops }
     {
         Tree::at(self.root).is_empty(&mut self.nodes)
     }

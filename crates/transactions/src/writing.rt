@@ -1,11 +1,14 @@
 //! A map that is written.
 //!
 //! The type's invariant is that the tree spells a map, given what is known to be placed: this map is what
-//! the transaction shows. A look at a chunk may teach more of what is placed, which changes no map.
-ghost use Rattle.std.specs.Prelude.{◌≡◌, ◌⊎◌, Some, IsSome};
+//! the transaction shows. A look at a chunk may teach more of what is placed, which changes no map; a look
+//! and a call that stops leave the tree itself, so they make no chunk new.
+ghost use Rattle.std.specs.Prelude.{◌≡◌, ◌⊎◌, Some, None, IsSome, IfOk, IfErr, OnOk, OnErr};
+ghost use mathlib.Core.List.{IsPrefix};
 ghost use Rattle.std.specs.FinMap as finite;
+ghost use Rattle.group_history.specs.Scans.{rows_of};
 ghost use Rattle.group_history.specs.declared.mutators.Stop.TheVariants.{NoMemory};
-ghost use Rattle.map_tree.specs.Trees.{tree_map};
+ghost use Rattle.map_tree.specs.Trees.{tree_map, tree_fresh, HasWideRoot};
 ghost use Rattle.transactions.specs.Maps.{shown_map};
 
 use group_history::{Json, Scan, Stop, Text, WriteView};
@@ -54,6 +57,8 @@ impl<C: Chunks> WriteTx<C> {
     pub fn clear(&mut self)
         ensures chunks { self.new.chunks ≡ self.old.chunks }
         ensures map { tree_map (C.contents self.new.chunks) self.new.tree ≡ Some finite.empty }
+        ensures fresh { tree_fresh self.new.tree ≡ 1 }
+        ensures wide { HasWideRoot (C.contents self.new.chunks) self.new.tree }
     {
         self.tree.clear(self.alloc);
     }
@@ -64,23 +69,55 @@ impl<C: Chunks> WriteView for WriteTx<C> {
 
     ghost stops = { λ stop. (stop ≡ NoMemory) ⊎ C.stops stop };
 
-    fn get(&mut self, key: &str) -> Result<Option<Json>, Stop> {
+    fn get(&mut self, key: &str) -> Result<Option<Json>, Stop>
+        ensures value { IfOk result (λ found. found ≡ finite.get (shown_map (C.contents self.old.chunks) self.old.tree) key.now) }
+        ensures kept { shown_map (C.contents self.new.chunks) self.new.tree ≡ shown_map (C.contents self.old.chunks) self.old.tree }
+        ensures tree { self.new.tree ≡ self.old.tree }
+        ensures grown { IsPrefix (C.contents self.old.chunks) (C.contents self.new.chunks) }
+        ensures stopped { IfErr result (λ stop. (stop ≡ NoMemory) ⊎ C.stops stop) }
+    {
         self.tree.get(&mut self.chunks, key)
     }
 
-    fn has(&mut self, key: &str) -> Result<bool, Stop> {
+    fn has(&mut self, key: &str) -> Result<bool, Stop>
+        ensures value { IfOk result (λ found. found ≡ finite.contains_key (shown_map (C.contents self.old.chunks) self.old.tree) key.now) }
+        ensures kept { shown_map (C.contents self.new.chunks) self.new.tree ≡ shown_map (C.contents self.old.chunks) self.old.tree }
+        ensures tree { self.new.tree ≡ self.old.tree }
+        ensures grown { IsPrefix (C.contents self.old.chunks) (C.contents self.new.chunks) }
+        ensures stopped { IfErr result (λ stop. (stop ≡ NoMemory) ⊎ C.stops stop) }
+    {
         self.tree.has(&mut self.chunks, key)
     }
 
-    fn scan(&mut self, scan: &Scan) -> Result<Vec<(Text, Json)>, Stop> {
+    fn scan(&mut self, scan: &Scan) -> Result<Vec<(Text, Json)>, Stop>
+        ensures value { IfOk result (λ rows. rows.items ≡ rows_of scan.now (shown_map (C.contents self.old.chunks) self.old.tree)) }
+        ensures kept { shown_map (C.contents self.new.chunks) self.new.tree ≡ shown_map (C.contents self.old.chunks) self.old.tree }
+        ensures tree { self.new.tree ≡ self.old.tree }
+        ensures grown { IsPrefix (C.contents self.old.chunks) (C.contents self.new.chunks) }
+        ensures stopped { IfErr result (λ stop. (stop ≡ NoMemory) ⊎ C.stops stop) }
+    {
         self.tree.scan(self.alloc, &mut self.chunks, scan)
     }
 
-    fn put(&mut self, key: &str, value: &Json) -> Result<(), Stop> {
+    fn put(&mut self, key: &str, value: &Json) -> Result<(), Stop>
+        ensures ok { OnOk result (shown_map (C.contents self.new.chunks) self.new.tree ≡ finite.insert (shown_map (C.contents self.old.chunks) self.old.tree) key.now value.now) }
+        ensures err { OnErr result (shown_map (C.contents self.new.chunks) self.new.tree ≡ shown_map (C.contents self.old.chunks) self.old.tree) }
+        ensures tree { OnErr result (self.new.tree ≡ self.old.tree) }
+        ensures same { finite.get (shown_map (C.contents self.old.chunks) self.old.tree) key.now ≡ Some value.now → OnOk result (self.new.tree ≡ self.old.tree) }
+        ensures grown { IsPrefix (C.contents self.old.chunks) (C.contents self.new.chunks) }
+        ensures stopped { IfErr result (λ stop. (stop ≡ NoMemory) ⊎ C.stops stop) }
+    {
         self.tree.put(self.alloc, &mut self.chunks, key, value)
     }
 
-    fn del(&mut self, key: &str) -> Result<(), Stop> {
+    fn del(&mut self, key: &str) -> Result<(), Stop>
+        ensures ok { OnOk result (shown_map (C.contents self.new.chunks) self.new.tree ≡ finite.remove (shown_map (C.contents self.old.chunks) self.old.tree) key.now) }
+        ensures err { OnErr result (shown_map (C.contents self.new.chunks) self.new.tree ≡ shown_map (C.contents self.old.chunks) self.old.tree) }
+        ensures tree { OnErr result (self.new.tree ≡ self.old.tree) }
+        ensures same { finite.get (shown_map (C.contents self.old.chunks) self.old.tree) key.now ≡ None → OnOk result (self.new.tree ≡ self.old.tree) }
+        ensures grown { IsPrefix (C.contents self.old.chunks) (C.contents self.new.chunks) }
+        ensures stopped { IfErr result (λ stop. (stop ≡ NoMemory) ⊎ C.stops stop) }
+    {
         self.tree.del(self.alloc, &mut self.chunks, key)
     }
 }

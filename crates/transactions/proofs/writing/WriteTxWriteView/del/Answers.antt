@@ -1,6 +1,8 @@
 use Rattle.std.specs.FinMap as finite
 use Rattle.group_history.specs.Map.{Entries}
-use Rattle.transactions.proofs.WriteLemmas.{shown-changed, shown-stopped, shown-there}
+use Rattle.map_tree.specs.Trees.{tree_map}
+use Rattle.transactions.specs.Maps.{shown_map}
+use Rattle.transactions.proofs.WriteLemmas.{some_map, shown-changed, shown-stopped, shown-there}
 use Rattle.transactions.proofs.writing.WriteTxWriteView.del.Goals as goal
 
 pub invariant_of-self : goal.invariant_of-self
@@ -17,3 +19,8 @@ pub returns-clause-err : goal.returns-clause-err
 returns-clause-err g c =
     let p = g.C.Chunks.contents in let t = c.args.self.now in
     shown-stopped c.del.result (p t.chunks) (p c.del.new.chunks) t.tree c.del.new.self c.del.ensures.grown t.spells c.del.ensures.err
+
+pub returns-clause-same : goal.returns-clause-same
+returns-clause-same g c h =
+    let p = g.C.Chunks.contents in let t = c.args.self.now in
+    c.del.ensures.same (shown_map (p t.chunks) t.tree) (some_map (tree_map (p t.chunks) t.tree) t.spells) h

@@ -1,0 +1,4 @@
+use Rattle.transactions.proofs.writing.WriteTx.clear.Goals as goal
+
+pub returns-clause-wide : goal.returns-clause-wide
+returns-clause-wide g c = c.clear.ensures.wide (g.C.Chunks.contents c.args.self.now.chunks)
