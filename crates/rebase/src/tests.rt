@@ -253,6 +253,7 @@ fn numbered(alloc: Global, count: u64) -> Result<String, Fail> {
 }
 
 /// Counts how often a node is shown.
+#[derive(Drop)]
 struct Counted<'a> {
     shelf: Shelf<'a>,
     shown: u64,

@@ -1,79 +1,104 @@
 -- The lines from the first phase on: what each needs, each need with the fault of a line that doesn't meet it, and
 -- what it says. Where a line has several faults, the first need that isn't met tells.
-use Rattle.std.specs.Prelude.{codes, ℕ, ◌^◌, ◌-◌, Bool, true, ◌&&◌, ◌||◌, ◌==◌, List, [], ◌∷◌, ◌++◌, Option, Some, None, is_some, is_none, Result, Err, if◌then◌else◌}
+use Rattle.std.specs.Prelude.{codes, ℕ, ◌^◌, ◌-◌, Bool, true, ◌&&◌, ◌==◌, List, [], ◌∷◌, ◌++◌, Option, Some, None, is_some, is_none, Result, Ok, Err, if◌then◌else◌}
 use Rattle.std.specs.List.{list_any}
+use Rattle.std.specs.Str.Parse.{digits_value}
 use Rattle.group_history.specs.Map.{Bytes, same_text}
 use Rattle.script_runner.specs.declared.faults.ScriptFault.{ScriptFault}
 use Rattle.script_runner.specs.declared.faults.ScriptFault.TheVariants as fault
+use Rattle.script_runner.specs.declared.script.Command.{Command}
+use Rattle.script_runner.specs.declared.script.Command.TheVariants as command
+use Rattle.script_runner.specs.declared.script.Query.TheVariants as query
 use Rattle.script_runner.specs.Context.{Context, place_of, meets}
-use Rattle.script_runner.specs.Words.{word, more, text, is_word, begins_with_word, is_ticket_name, is_client_name, is_number, is_start, is_limit, is_json}
+use Rattle.script_runner.specs.Words.{word, more, text, is_word, begins_with_word, is_ticket_name, is_client_name, is_number, is_start, is_limit, is_json, json_said, prefix_said, start_said, limit_said}
 
 -- `phase`
 unfoldable pub phase_line : Context → Option Bytes → Result Context ScriptFault
 phase_line c rest = meets ((is_none rest, fault.BadWords) ∷ []) (record c { begun = true })
 
--- `get KEY`, `has KEY`
-unfoldable pub key_line : Context → Option Bytes → Result Context ScriptFault
-key_line c rest = meets ((is_some rest, fault.BadWords) ∷ []) c
+-- what a client's line says: what is said with it too, and its command
+abbrev pub Told : Type 0
+Told = Result (Context × Command) ScriptFault
+
+-- `get KEY`
+unfoldable pub get_line : Context → Option Bytes → Told
+get_line c rest = meets ((is_some rest, fault.BadWords) ∷ []) (c, command.Query (query.Get (text rest)))
+
+-- `has KEY`
+unfoldable pub has_line : Context → Option Bytes → Told
+has_line c rest = meets ((is_some rest, fault.BadWords) ∷ []) (c, command.Query (query.Has (text rest)))
 
 -- `scan PREFIX START LIMIT`
-unfoldable pub scan_line : Context → Option Bytes → Result Context ScriptFault
+unfoldable pub scan_line : Context → Option Bytes → Told
 scan_line c rest =
     let after_prefix = text (more (text rest)) in
     let limit = text (more after_prefix) in
     meets ((begins_with_word (text rest), fault.BadWords) ∷ (begins_with_word after_prefix, fault.BadWords) ∷ (is_word limit, fault.BadWords)
     ∷ (is_start (word after_prefix), fault.BadWords)
     ∷ (is_limit limit, fault.BadNumber)
-    ∷ []) c
+    ∷ [])
+    (c, command.Query (query.Scan (record { prefix = prefix_said (word (text rest)); start = start_said (word after_prefix); limit = limit_said limit })))
 
 -- `begin T`
-unfoldable pub begin_line : Context → ℕ → Option Bytes → Result Context ScriptFault
+unfoldable pub begin_line : Context → ℕ → Option Bytes → Told
 begin_line c client rest =
     meets ((is_some rest, fault.BadWords) ∷ (is_ticket_name (text rest), fault.BadWords) ∷ [])
-    (record c { tickets = c.tickets ++ (client, text rest) ∷ [] })
+    (record c { tickets = c.tickets ++ (client, text rest) ∷ [] }, command.Begin (text rest))
 
 -- whether a line of this client made the ticket
 unfoldable pub is_made : ℕ → Bytes → List (ℕ × Bytes) → Bool
 is_made client ticket tickets = list_any (λ made. (made.0 == client) && same_text made.1 ticket) tickets
 
 -- `end T BODY`
-unfoldable pub end_line : Context → ℕ → Option Bytes → Result Context ScriptFault
+unfoldable pub end_line : Context → ℕ → Option Bytes → Told
 end_line c client rest =
     let ticket = word (text rest) in
     meets ((is_some rest, fault.BadWords) ∷ (is_ticket_name ticket, fault.BadWords) ∷ (is_some (more (text rest)), fault.BadWords)
     ∷ (is_made client ticket c.tickets, fault.UnknownName)
-    ∷ []) c
+    ∷ [])
+    (c, command.End ticket (text (more (text rest))))
 
 -- `mutate TIME MUTATOR ARGS`
-unfoldable pub mutate_line : Context → Option Bytes → Result Context ScriptFault
+unfoldable pub mutate_line : Context → Option Bytes → Told
 mutate_line c rest =
     let after_time = text (more (text rest)) in
     let args = more after_time in
     meets ((begins_with_word (text rest), fault.BadWords) ∷ (begins_with_word after_time, fault.BadWords) ∷ (is_some args, fault.BadWords)
     ∷ (is_number 0 (2 ^ 53 - 1) (word (text rest)), fault.BadNumber)
     ∷ (is_json (text args), fault.BadJson)
-    ∷ []) c
+    ∷ [])
+    (c, command.Mutate (record { time = digits_value 10 (word (text rest)); mutator = word after_time; args = json_said (text args) }))
 
 -- `learn NAME`
-unfoldable pub learn_line : Context → Option Bytes → Result Context ScriptFault
+unfoldable pub learn_line : Context → Option Bytes → Told
 learn_line c rest =
-    meets ((is_some rest, fault.BadWords) ∷ (is_client_name (text rest), fault.BadWords) ∷ (is_some (place_of (text rest) c.clients), fault.UnknownName) ∷ []) c
+    meets ((is_some rest, fault.BadWords) ∷ (is_client_name (text rest), fault.BadWords) ∷ (is_some (place_of (text rest) c.clients), fault.UnknownName) ∷ [])
+    (c, command.Learn)
 
 -- the commands that take no words
-unfoldable pub is_bare_command : Bytes → Bool
-is_bare_command name =
-    same_text name (codes "empty") || same_text name (codes "pending") || same_text name (codes "cookie") || same_text name (codes "push")
-    || same_text name (codes "refresh")
+unfoldable pub bare_command : Bytes → Option Command
+bare_command name =
+    if same_text name (codes "empty") then Some (command.Query query.Empty)
+    else if same_text name (codes "pending") then Some (command.Query query.Pending)
+    else if same_text name (codes "cookie") then Some (command.Query query.Cookie)
+    else if same_text name (codes "push") then Some (command.Query query.Push)
+    else if same_text name (codes "refresh") then Some command.Refresh
+    else None
+
+-- such a command, where there is one
+abbrev pub told_bare : Context → Option Command → Option Bytes → Told
+told_bare c None rest = Err fault.UnknownCommand
+told_bare c (Some said) rest = meets ((is_none rest, fault.BadWords) ∷ []) (c, said)
 
 -- any other command
-unfoldable pub bare_line : Context → Bytes → Option Bytes → Result Context ScriptFault
-bare_line c name rest = meets ((is_bare_command name, fault.UnknownCommand) ∷ (is_none rest, fault.BadWords) ∷ []) c
+unfoldable pub bare_line : Context → Bytes → Option Bytes → Told
+bare_line c name rest = told_bare c (bare_command name) rest
 
 -- a command of the client at a place, by its name and what follows
-unfoldable pub command : Context → ℕ → Bytes → Option Bytes → Result Context ScriptFault
-command c client name rest =
-    if same_text name (codes "get") then key_line c rest
-    else if same_text name (codes "has") then key_line c rest
+unfoldable pub named_command : Context → ℕ → Bytes → Option Bytes → Told
+named_command c client name rest =
+    if same_text name (codes "get") then get_line c rest
+    else if same_text name (codes "has") then has_line c rest
     else if same_text name (codes "scan") then scan_line c rest
     else if same_text name (codes "begin") then begin_line c client rest
     else if same_text name (codes "end") then end_line c client rest
@@ -82,15 +107,20 @@ command c client name rest =
     else bare_line c name rest
 
 -- what a client's line has after its name: a missing command is unknown
-unfoldable pub command_of : Context → ℕ → Option Bytes → Result Context ScriptFault
+unfoldable pub command_of : Context → ℕ → Option Bytes → Told
 command_of c client None = Err fault.UnknownCommand
-command_of c client (Some rest) = command c client (word rest) (more rest)
+command_of c client (Some rest) = named_command c client (word rest) (more rest)
 
 -- the line of the client at this place, where there is one
-unfoldable pub command_at : Context → Option ℕ → Option Bytes → Result Context ScriptFault
+unfoldable pub command_at : Context → Option ℕ → Option Bytes → Told
 command_at c None rest = Err fault.UnknownClient
 command_at c (Some client) rest = command_of c client rest
 
+-- what is said with such a line too
+abbrev pub said_by : Told → Result Context ScriptFault
+said_by (Ok told) = Ok told.0
+said_by (Err f) = Err f
+
 -- a line from the first phase on, by its first word and what follows
 unfoldable pub command_line : Context → Bytes → Option Bytes → Result Context ScriptFault
-command_line c name rest = command_at c (place_of name c.clients) rest
+command_line c name rest = said_by (command_at c (place_of name c.clients) rest)

@@ -1,17 +1,17 @@
 -- What the lines of a script have said so far, and what a line needs.
-use Rattle.std.specs.Prelude.{ℕ, Bool, false, List, [], ◌∷◌, Option, Result, Ok, Err, if◌then◌else◌, position}
+use Rattle.std.specs.Prelude.{ℕ, Bool, false, List, [], ◌∷◌, Option, None, Result, Ok, Err, if◌then◌else◌, position}
 use Rattle.group_history.specs.Map.{Bytes, same_text}
 use Rattle.script_runner.specs.declared.faults.ScriptFault.{ScriptFault}
 
 -- what the lines so far have said
 pub record Context : Type 0 where
-  -- whether there was such a header line
-  pub group : Bool
-  pub profile : Bool
-  pub schema : Bool
-  pub slots : Bool
-  -- the names of the clients, in the order of their lines
-  pub clients : List Bytes
+  -- what such a header line said, where there was one; the group's ID in its lower-case hyphenated form
+  pub group : Option Bytes
+  pub profile : Option Bytes
+  pub schema : Option Bytes
+  pub slots : Option ℕ
+  -- the clients, in the order of their lines: the name, and the ID in that same form
+  pub clients : List (Bytes × Bytes)
   -- whether a phase began
   pub begun : Bool
   -- the tickets that are made, each with the place of its client
@@ -19,13 +19,13 @@ pub record Context : Type 0 where
 
 -- before the first line
 abbrev pub nothing_said : Context
-nothing_said = record { group = false; profile = false; schema = false; slots = false; clients = []; begun = false; tickets = [] }
+nothing_said = record { group = None; profile = None; schema = None; slots = None; clients = []; begun = false; tickets = [] }
 
 -- the place of a client, by its name
-unfoldable pub place_of : Bytes → List Bytes → Option ℕ
-place_of name clients = position (λ client. same_text client name) clients
+unfoldable pub place_of : Bytes → List (Bytes × Bytes) → Option ℕ
+place_of name clients = position (λ client. same_text client.0 name) clients
 
--- the fault of the first need that isn't met, and else this context
-abbrev pub meets : List (Bool × ScriptFault) → Context → Result Context ScriptFault
-meets [] c = Ok c
-meets ((holds, fault) ∷ needs) c = if holds then meets needs c else Err fault
+-- the fault of the first need that isn't met, and else what is said
+abbrev pub meets : {X : Type 0} → List (Bool × ScriptFault) → X → Result X ScriptFault
+meets [] said = Ok said
+meets ((holds, fault) ∷ needs) said = if holds then meets needs said else Err fault

@@ -10,6 +10,7 @@ use Rattle.script_runner.specs.declared.faults.LineFault.{LineFault}
 use Rattle.script_runner.specs.declared.faults.LineFault.TheVariants as line
 use Rattle.script_runner.specs.declared.faults.Fault.{Fault}
 use Rattle.script_runner.specs.declared.faults.Fault.TheVariants as fault
+use Rattle.script_runner.specs.declared.script.Command.{Command}
 use Rattle.script_runner.specs.Context.{Context, nothing_said}
 use Rattle.script_runner.specs.Header.{header_line}
 use Rattle.script_runner.specs.Commands.{phase_line, command_line}
@@ -75,6 +76,12 @@ abbrev pub Follows : {X : Type 0} → Result Context ScriptFault → Context →
 Follows right c (Ok x) = right ≡ Ok c
 Follows right c (Err (line.Script f)) = right ≡ Err f
 Follows right c (Err line.NoMemory) = ⊤
+
+-- The same of a client's line: Ok with its command.
+abbrev pub Tells : Result (Context × Command) ScriptFault → Context → Result Command LineFault → Type 0
+Tells right c (Ok k) = right ≡ Ok (c, k)
+Tells right c (Err (line.Script f)) = right ≡ Err f
+Tells right c (Err line.NoMemory) = ⊤
 
 -- The answer on a script: a fault of the script only where it is the first one, and success only where there is
 -- none. Want of memory, or a failed writer, may come in place of success; want of memory of any answer.

@@ -6,3 +6,4 @@ pub mod Faults
 pub mod Parsing
 pub mod Runs
 pub mod Mutators
+pub mod Printing

@@ -1,10 +1,13 @@
 -- The words of a line, and which of them are names and numbers. Words are parted by one space.
-use Rattle.std.specs.Prelude.{codes, ℕ, ◌^◌, ◌-◌, Bool, ◌&&◌, ◌||◌, not, ◌==◌, nat_lt, nat_le, [], length, slice_index, Option, Some, None, unwrap_or, is_some, is_ok, if◌then◌else◌}
+use Rattle.std.specs.Prelude.{codes, ℕ, ◌^◌, ◌-◌, Bool, ◌&&◌, ◌||◌, not, ◌==◌, nat_lt, nat_le, [], length, drop, slice_index, Option, Some, None, unwrap_or, is_some, Result, Ok, Err, is_ok, if◌then◌else◌}
 use Rattle.std.specs.Char.{is_ascii_alphabetic, is_ascii_alphanumeric}
 use Rattle.std.specs.List.{position_or_len, before_first, after_first, list_all, list_any}
 use Rattle.std.specs.Str.{all_ascii_digits}
 use Rattle.std.specs.Str.Parse.{digits_value}
-use Rattle.uuid.specs.Text.{parsed}
+use Rattle.uuid.specs.Text.{parsed, hyphenated_text, lower}
+use Rattle.group_history.specs.declared.refusals.Refusal.{Refusal}
+use Rattle.group_history.specs.declared.scans.Start.{Start}
+use Rattle.group_history.specs.declared.scans.Start.TheVariants.{Any, At, After}
 use Rattle.group_history.specs.Json.{json_text}
 use Rattle.group_history.specs.Map.{Bytes, same_text}
 
@@ -56,6 +59,31 @@ is_limit t = same_text t (codes "-") || is_number 0 (2 ^ 64 - 1) t
 unfoldable pub is_uuid : Bytes → Bool
 is_uuid t = is_some (parsed t)
 
+-- the UUID's lower-case hyphenated form
+unfoldable pub uuid_said : Bytes → Bytes
+uuid_said t = hyphenated_text lower (unwrap_or (parsed t) [])
+
 -- JSON whose numbers are whole
 unfoldable pub is_json : Bytes → Bool
 is_json t = is_ok (json_text t)
+
+-- the text that was read, empty where none was
+abbrev pub read_text : Result Bytes Refusal → Bytes
+read_text (Ok t) = t
+read_text (Err e) = []
+
+-- its compact text
+unfoldable pub json_said : Bytes → Bytes
+json_said t = read_text (json_text t)
+
+-- the prefix of a scan: `-` is the empty one
+unfoldable pub prefix_said : Bytes → Bytes
+prefix_said t = if same_text t (codes "-") then [] else t
+
+-- the start of a scan: at the key after `=`, after the key behind `>`
+unfoldable pub start_said : Bytes → Start
+start_said t = if same_text t (codes "-") then Any else (if slice_index t 0 == 61 then At (drop 1 t) else After (drop 1 t))
+
+-- the limit of a scan: `-` is none
+unfoldable pub limit_said : Bytes → Option ℕ
+limit_said t = if same_text t (codes "-") then None else Some (digits_value 10 t)

@@ -1,4 +1,9 @@
 //! A client of a script: what it keeps between its lines, and what each command does.
+ghost use Rattle.std.specs.Prelude.{◌≡◌, IfOk, IfErr};
+ghost use Rattle.group_history.specs.declared.refusals.Refusal.TheVariants.{NoMemory};
+ghost use Rattle.rebase.specs.Replying.{reply_seen};
+ghost use Rattle.script_runner.specs.Printing.{reply_text, answer_text};
+
 use crate::groups::Group;
 use crate::reply::{Reply, pending_text};
 use crate::script::{self, Command, Query};
@@ -107,7 +112,10 @@ impl Client {
     }
 
     /// The reply of a line that hands on what the group answered.
-    fn told(&self, answer: Answer) -> Result<Reply, Refusal> {
+    fn told(&self, answer: Answer) -> Result<Reply, Refusal>
+        ensures text { IfOk result (λ reply. reply_text reply ≡ answer_text (reply_seen answer)) }
+        ensures err { IfErr result (λ e. e ≡ NoMemory) }
+    {
         Ok(match answer {
             Answer::Value(Some(value)) => Reply::Value(value),
             Answer::Value(None) => Reply::Nothing,

@@ -1,6 +1,7 @@
 //! The words of a line.
 ghost use Rattle.std.specs.Prelude.{◌≡◌, IfOk, is_some, is_none};
 ghost use Rattle.std.specs.Option.{option_copied};
+ghost use Rattle.std.specs.Str.Parse.{digits_value};
 ghost use Rattle.script_runner.specs.Words.{word, more, text, is_word, begins_with_word, is_ticket_name, is_client_name, is_decimal, is_number};
 ghost use Rattle.script_runner.specs.Faults.{Tests};
 ghost use Rattle.script_runner.specs.declared.faults.ScriptFault.TheVariants as script_fault;
@@ -111,7 +112,8 @@ fn is_decimal(text: &str) -> bool
 /// A number in decimal digits, from `low` to `high`.
 #[tactic(auto, unfolding(crate::specs::Words::is_number))]
 pub(crate) fn number(word: &str, low: u64, high: u64) -> Result<u64, ScriptFault>
-    ensures { Tests (is_number low high word.now) script_fault.BadNumber result }
+    ensures form { Tests (is_number low high word.now) script_fault.BadNumber result }
+    ensures value { IfOk result (λ n. n ≡ digits_value 10 word.now) }
 {
     if !is_decimal(word) {
         return Err(ScriptFault::BadNumber);

@@ -1,5 +1,7 @@
 //! The program over any reader and writers.
-ghost use Rattle.std.specs.Prelude.{◌≡◌, ◌⊎◌};
+ghost use Rattle.std.specs.Prelude.{◌≡◌, ◌⊎◌, true, None, IfSome, is_some};
+ghost use Rattle.script_runner.specs.Faults.{first_fault};
+ghost use Rattle.script_runner.specs.Runs.{status_of};
 
 use crate::faults::Fault;
 use crate::runner::{Gate, run};
@@ -14,6 +16,16 @@ impl Gate for Open {
     fn after(&self, _client: &str, _line: u64) {}
 }
 
+/// The status of a process that ends with the fault.
+fn status_of(fault: Fault) -> u8
+    ensures { result ≡ status_of fault }
+{
+    match fault {
+        Fault::Script { .. } => 2,
+        Fault::NoMemory | Fault::Write => 3,
+    }
+}
+
 /// Reads a script to its end, runs it, and answers the status of a process: 0 where it ran, 2 where it is
 /// faulty, 3 where memory was refused or the reader or the writer failed. What is wrong is a line on `err`; a
 /// failed write there changes nothing.
@@ -24,6 +36,8 @@ pub fn program<R: AllocGlobal, I: Read, W: Write, E: Write>(
     err: &mut E,
 ) -> u8
     ensures statuses { (result ≡ 0) ⊎ (result ≡ 2) ⊎ (result ≡ 3) }
+    ensures ran { result ≡ 0 → IfSome (I.remaining input.old) (λ script. first_fault script ≡ None) }
+    ensures faulty { result ≡ 2 → IfSome (I.remaining input.old) (λ script. is_some (first_fault script) ≡ true) }
     ensures nothing_written { result ≡ 2 → W.contents out.new ≡ W.contents out.old }
 {
     let mut script = Vec::new(rt.alloc());
@@ -40,10 +54,7 @@ pub fn program<R: AllocGlobal, I: Read, W: Write, E: Write>(
         Ok(()) => 0,
         Err(fault) => {
             let _ = writeln!(err, "{fault}");
-            match fault {
-                Fault::Script { .. } => 2,
-                Fault::NoMemory | Fault::Write => 3,
-            }
+            status_of(fault)
         }
     }
 }

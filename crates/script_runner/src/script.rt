@@ -3,13 +3,13 @@
 //! `Parser` takes the lines one after the other and keeps what they say. No line is looked at twice as text.
 //! Each function that takes a piece of a line says, by the definition of that piece, what the lines have said after
 //! it, or which fault the piece has.
-ghost use Rattle.std.specs.Prelude.{◌≡◌, not, map, is_some, OnOk, true, vec_len};
+ghost use Rattle.std.specs.Prelude.{◌≡◌, codes, map, unwrap_or, is_none, IfOk, OnOk, Some, vec_len};
 ghost use Rattle.std.specs.Option.{option_copied};
 ghost use Rattle.std.specs.Str.Lossy.{utf8_valid_len};
 ghost use Rattle.script_runner.specs.Context.{place_of, nothing_said};
-ghost use Rattle.script_runner.specs.Commands.{is_bare_command};
+ghost use Rattle.script_runner.specs.Commands.{bare_command};
 ghost use Rattle.script_runner.specs.Faults.{Tests, TestsLine, Checks, first_fault, fault_in, lines_of, line_of_bad_byte};
-ghost use Rattle.script_runner.specs.Words.{is_uuid, is_start, is_limit, is_json};
+ghost use Rattle.script_runner.specs.Words.{is_uuid, uuid_said, is_start, start_said, is_limit, limit_said, is_json, json_said};
 ghost use Rattle.script_runner.specs.declared.faults.ScriptFault.TheVariants as script_fault;
 ghost use Rattle.script_runner.specs.declared.faults.Fault.TheVariants as fault;
 
@@ -112,7 +112,13 @@ const LATEST_TIME: u64 = 9_007_199_254_740_991;
 
 impl Header {
     /// Whose requests the group writes.
-    pub(crate) fn identity(&self, alloc: Global) -> Result<Identity, AllocError> {
+    pub(crate) fn identity(&self, alloc: Global) -> Result<Identity, AllocError>
+        ensures { IfOk result (λ identity. identity ≡ record {
+          group = unwrap_or self.now.group (codes "00000000-0000-0000-0000-000000000000");
+          profile = unwrap_or self.now.profile (codes "p1");
+          schema = unwrap_or self.now.schema (codes "s1");
+        }) }
+    {
         Ok(Identity {
             group: text_or(alloc, &self.group, "00000000-0000-0000-0000-000000000000")?,
             profile: text_or(alloc, &self.profile, "p1")?,
@@ -122,7 +128,7 @@ impl Header {
 
     #[tactic(auto, unfolding(crate::specs::Context::place_of))]
     fn place_of(&self, name: &str) -> Option<usize>
-        ensures { result ≡ place_of name.now (map (λ client. client.name) self.now.clients.items) }
+        ensures { result ≡ place_of name.now (map (λ client. (client.name, client.id)) self.now.clients.items) }
     {
         self.clients
             .iter()
@@ -130,7 +136,9 @@ impl Header {
     }
 }
 
-fn text_or(alloc: Global, said: &Option<Text>, default: &str) -> Result<Text, AllocError> {
+fn text_or(alloc: Global, said: &Option<Text>, default: &str) -> Result<Text, AllocError>
+    ensures { IfOk result (λ text. text ≡ unwrap_or said.now default.now) }
+{
     match said {
         Some(text) => text.clone(),
         None => Text::new(alloc, default),
@@ -138,9 +146,10 @@ fn text_or(alloc: Global, said: &Option<Text>, default: &str) -> Result<Text, Al
 }
 
 /// The lower-case hyphenated form of a UUID in any of its text forms (RFC 9562).
-#[tactic(auto, unfolding(crate::specs::Words::is_uuid))]
+#[tactic(auto, unfolding(crate::specs::Words::is_uuid, crate::specs::Words::uuid_said))]
 fn uuid_text(alloc: Global, word: &str) -> Result<Text, LineFault>
-    ensures { TestsLine (is_uuid word.now) script_fault.BadUuid result }
+    ensures form { TestsLine (is_uuid word.now) script_fault.BadUuid result }
+    ensures value { IfOk result (λ id. id ≡ uuid_said word.now) }
 {
     let Ok(id) = Uuid::parse_str(word) else {
         return Err(LineFault::Script(ScriptFault::BadUuid));
@@ -170,8 +179,8 @@ struct Parser {
 impl Parser {
     ghost use Rattle.script_runner.specs.Context.{nothing_said};
     ghost use Rattle.script_runner.specs.Header.{group_line, profile_line, schema_line, slots_line, client_line, header_line};
-    ghost use Rattle.script_runner.specs.Commands.{phase_line, key_line, scan_line, begin_line, is_made, end_line, mutate_line, learn_line, bare_line, command, command_of, command_line};
-    ghost use Rattle.script_runner.specs.Faults.{Follows, said_with, words_line};
+    ghost use Rattle.script_runner.specs.Commands.{phase_line, get_line, has_line, scan_line, begin_line, is_made, end_line, mutate_line, learn_line, bare_line, named_command, command_of, command_line};
+    ghost use Rattle.script_runner.specs.Faults.{Follows, Tells, said_with, words_line};
     ghost use Rattle.script_runner.specs.Parsing.{context_of};
 
     fn new(alloc: Global) -> Parser
@@ -327,7 +336,7 @@ impl Parser {
 
     #[tactic(auto, unfolding(crate::specs::Commands::command_of))]
     fn command_of(&mut self, client: usize, rest: Option<&str>) -> Result<Command, LineFault>
-        ensures { Follows (command_of (context_of self.old) client (option_copied rest.entry))
+        ensures { Tells (command_of (context_of self.old) client (option_copied rest.entry))
             (context_of self.new) result }
     {
         let Some(rest) = rest else {
@@ -337,14 +346,14 @@ impl Parser {
         self.command(client, name, rest)
     }
 
-    #[tactic(auto, unfolding(crate::specs::Commands::command))]
+    #[tactic(auto, unfolding(crate::specs::Commands::named_command))]
     fn command(
         &mut self,
         client: usize,
         name: &str,
         rest: Option<&str>,
     ) -> Result<Command, LineFault>
-        ensures { Follows (command (context_of self.old) client name.now (option_copied rest.entry))
+        ensures { Tells (named_command (context_of self.old) client name.now (option_copied rest.entry))
             (context_of self.new) result }
     {
         if name == "get" {
@@ -371,27 +380,27 @@ impl Parser {
         self.bare(name, rest)
     }
 
-    #[tactic(auto, unfolding(crate::specs::Commands::key_line))]
+    #[tactic(auto, unfolding(crate::specs::Commands::get_line))]
     fn get(&self, rest: Option<&str>) -> Result<Command, LineFault>
-        ensures { Follows (key_line (context_of self.now) (option_copied rest.entry))
+        ensures { Tells (get_line (context_of self.now) (option_copied rest.entry))
             (context_of self.now) result }
     {
         let key = Text::new(self.alloc, self::rest(rest)?)?;
         Ok(Command::Query(Query::Get(key)))
     }
 
-    #[tactic(auto, unfolding(crate::specs::Commands::key_line))]
+    #[tactic(auto, unfolding(crate::specs::Commands::has_line))]
     fn has(&self, rest: Option<&str>) -> Result<Command, LineFault>
-        ensures { Follows (key_line (context_of self.now) (option_copied rest.entry))
+        ensures { Tells (has_line (context_of self.now) (option_copied rest.entry))
             (context_of self.now) result }
     {
         let key = Text::new(self.alloc, self::rest(rest)?)?;
         Ok(Command::Query(Query::Has(key)))
     }
 
-    #[tactic(auto, unfolding(crate::specs::Commands::scan_line))]
+    #[tactic(auto, unfolding(crate::specs::Commands::scan_line, crate::specs::Words::prefix_said))]
     fn scan(&self, rest: Option<&str>) -> Result<Command, LineFault>
-        ensures { Follows (scan_line (context_of self.now) (option_copied rest.entry))
+        ensures { Tells (scan_line (context_of self.now) (option_copied rest.entry))
             (context_of self.now) result }
     {
         let (prefix, rest) = word_of(rest)?;
@@ -410,7 +419,7 @@ impl Parser {
 
     #[tactic(auto, unfolding(crate::specs::Commands::mutate_line))]
     fn mutate(&self, rest: Option<&str>) -> Result<Command, LineFault>
-        ensures { Follows (mutate_line (context_of self.now) (option_copied rest.entry))
+        ensures { Tells (mutate_line (context_of self.now) (option_copied rest.entry))
             (context_of self.now) result }
     {
         let (time, rest) = word_of(rest)?;
@@ -428,7 +437,7 @@ impl Parser {
 
     #[tactic(auto, unfolding(crate::specs::Commands::learn_line))]
     fn learn(&self, rest: Option<&str>) -> Result<Command, LineFault>
-        ensures { Follows (learn_line (context_of self.now) (option_copied rest.entry))
+        ensures { Tells (learn_line (context_of self.now) (option_copied rest.entry))
             (context_of self.now) result }
     {
         let name = self::rest(rest)?;
@@ -443,7 +452,7 @@ impl Parser {
 
     #[tactic(auto, unfolding(crate::specs::Commands::begin_line))]
     fn begin(&mut self, client: usize, rest: Option<&str>) -> Result<Command, LineFault>
-        ensures { Follows (begin_line (context_of self.old) client (option_copied rest.entry))
+        ensures { Tells (begin_line (context_of self.old) client (option_copied rest.entry))
             (context_of self.new) result }
     {
         let name = self::rest(rest)?;
@@ -458,7 +467,7 @@ impl Parser {
 
     #[tactic(auto, unfolding(crate::specs::Commands::end_line))]
     fn end(&self, client: usize, rest: Option<&str>) -> Result<Command, LineFault>
-        ensures { Follows (end_line (context_of self.now) client (option_copied rest.entry))
+        ensures { Tells (end_line (context_of self.now) client (option_copied rest.entry))
             (context_of self.now) result }
     {
         let (name, body) = first_word(self::rest(rest)?);
@@ -482,7 +491,7 @@ impl Parser {
 
     #[tactic(auto, unfolding(crate::specs::Commands::bare_line))]
     fn bare(&self, name: &str, rest: Option<&str>) -> Result<Command, LineFault>
-        ensures { Follows (bare_line (context_of self.now) name.now (option_copied rest.entry))
+        ensures { Tells (bare_line (context_of self.now) name.now (option_copied rest.entry))
             (context_of self.now) result }
     {
         let Some(command) = bare_command(name) else {
@@ -519,7 +528,8 @@ fn keep(phases: &mut Vec<Phase>, client: usize, line: Line) -> Result<(), AllocE
 /// The start of a scan: `-`, `=KEY` or `>KEY`.
 #[tactic(auto, unfolding(crate::specs::Words::is_start))]
 fn start_of(alloc: Global, word: &str) -> Result<Start, LineFault>
-    ensures { TestsLine (is_start word.now) script_fault.BadWords result }
+    ensures form { TestsLine (is_start word.now) script_fault.BadWords result }
+    ensures value { IfOk result (λ start. start ≡ start_said word.now) }
 {
     if word == "-" {
         return Ok(Start::Any);
@@ -534,9 +544,10 @@ fn start_of(alloc: Global, word: &str) -> Result<Start, LineFault>
 }
 
 /// The limit of a scan: `-` or a number.
-#[tactic(auto, unfolding(crate::specs::Words::is_limit))]
+#[tactic(auto, unfolding(crate::specs::Words::is_limit, crate::specs::Words::limit_said))]
 fn limit_of(word: &str) -> Result<Option<u64>, ScriptFault>
-    ensures { Tests (is_limit word.now) script_fault.BadNumber result }
+    ensures form { Tests (is_limit word.now) script_fault.BadNumber result }
+    ensures value { IfOk result (λ limit. limit ≡ limit_said word.now) }
 {
     if word == "-" {
         return Ok(None);
@@ -545,9 +556,10 @@ fn limit_of(word: &str) -> Result<Option<u64>, ScriptFault>
 }
 
 /// The arguments of a mutator.
-#[tactic(auto, unfolding(crate::specs::Words::is_json))]
+#[tactic(auto, unfolding(crate::specs::Words::is_json, crate::specs::Words::json_said))]
 fn json(alloc: Global, text: &str) -> Result<Json, LineFault>
-    ensures { TestsLine (is_json text.now) script_fault.BadJson result }
+    ensures form { TestsLine (is_json text.now) script_fault.BadJson result }
+    ensures value { IfOk result (λ json. json ≡ json_said text.now) }
 {
     match Json::read(alloc, text.as_bytes()) {
         Ok(json) => Ok(json),
@@ -557,9 +569,9 @@ fn json(alloc: Global, text: &str) -> Result<Json, LineFault>
 }
 
 /// A command that takes no words.
-#[tactic(auto, unfolding(crate::specs::Commands::is_bare_command))]
+#[tactic(auto, unfolding(crate::specs::Commands::bare_command))]
 fn bare_command(name: &str) -> Option<Command>
-    ensures { is_some result ≡ is_bare_command name.now }
+    ensures { result ≡ bare_command name.now }
 {
     if name == "empty" {
         return Some(Command::Query(Query::Empty));
@@ -580,8 +592,8 @@ fn bare_command(name: &str) -> Option<Command>
 }
 
 fn say(said: &mut Option<Text>, text: Text) -> Result<(), LineFault>
-    ensures once { TestsLine (not (is_some said.old)) script_fault.SaidTwice result }
-    ensures said { OnOk result (is_some said.new ≡ true) }
+    ensures once { TestsLine (is_none said.old) script_fault.SaidTwice result }
+    ensures said { OnOk result (said.new ≡ Some text) }
 {
     if said.is_some() {
         return Err(LineFault::Script(ScriptFault::SaidTwice));

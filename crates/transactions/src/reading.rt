@@ -74,12 +74,12 @@ impl<N: Nodes> ReadTx<N> {
         Tree::at(self.root).get(&mut self.nodes, key)
     }
 
-    /// Whether the key is there.
+    /// Whether the key is there. Takes no memory.
     pub fn has(&mut self, key: &str) -> Result<bool, Stop>
         ensures value { IfOk result (λ found. found ≡ finite.contains_key self.old.version.read key.now) }
         ensures same { self.new.version ≡ self.old.version }
         ensures grown { IsPrefix self.old.contents self.new.contents }
-        ensures stopped { IfErr result (λ stop. (stop ≡ NoMemory) ⊎ N.stops stop) }
+        ensures stopped { IfErr result N.stops }
     {
         Tree::at(self.root).has(&mut self.nodes, key)
     }

@@ -25,7 +25,7 @@ placed nodes drafted after shown k v p q h =
     subst IsSome (sym all) refl
 
 pub dropped-requires-clause-old : goal.dropped-requires-clause-old
-dropped-requires-clause-old c = stays c.args.nodes c.rebased.new.draft.nodes c.append.new.self c.shelf-shelf.result.nodes.now (stamp_of c.args.head) c.shelf-shelf.ensures c.in_ok-append.ensures.ok c.requires
+dropped-requires-clause-old c = stays c.args.nodes c.rebased.new.draft.nodes c.append.new.self c.shelf.result.nodes.now (stamp_of c.args.head) c.shelf.ensures c.in_ok-append.ensures.ok c.requires
 
 pub dropped-requires-clause-new : goal.dropped-requires-clause-new
 dropped-requires-clause-new c =
@@ -35,4 +35,4 @@ dropped-requires-clause-new c =
     let root = stamp_of c.in_ok-state.state.pulled in
     let there = ap (λ (d : Drafted). map_at (staged nodes d.nodes) root) c.draft-draft.ensures ∙ (ap (λ (w : Contents). map_at w root) (with_none contents) ∙ state.2) in
     let spelled = c.in_ok-new.ensures.spelled v.0.state there (sym state.1) (sym state.3) in
-    placed nodes c.rebased.new.draft.nodes c.append.new.self c.shelf-shelf.result.nodes.now (stamp_of c.in_ok-new.new) _ c.shelf-shelf.ensures c.in_ok-append.ensures.ok spelled
+    placed nodes c.rebased.new.draft.nodes c.append.new.self c.shelf.result.nodes.now (stamp_of c.in_ok-new.new) _ c.shelf.ensures c.in_ok-append.ensures.ok spelled

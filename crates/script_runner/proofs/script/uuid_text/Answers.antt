@@ -4,8 +4,8 @@ use Rattle.script_runner.specs.Words.{is_uuid}
 use Rattle.script_runner.proofs.Lists.{none_from}
 use Rattle.script_runner.proofs.script.uuid_text.Goals as goal
 
-pub returns-in_default : goal.returns-in_default
+pub returns-in_default-clause-form : goal.returns-in_default-clause-form
 unfolding is_uuid
-returns-in_default c =
+returns-in_default-clause-form c =
     let never = c.in_default.ensures.ok.1 in
     (none_from _ (λ p. false≢true (never p)), refl)

@@ -11,4 +11,4 @@ unfolding place_of
 returns c =
     let found = position_from_yields_List (λ client. same_text client.name c.args.name.now) _ _ c.position.result c.position.ensures.ran
     (YieldsList-from_slice c.args.self.now.clients.items cc) (λ x b q k. search (rules, tests)) in
-    found ∙ sym (position-map (λ name. same_text name c.args.name.now) (λ client. client.name) c.args.self.now.clients.items)
+    found ∙ sym (position-map (λ said. same_text said.0 c.args.name.now) (λ client. (client.name, client.id)) c.args.self.now.clients.items)
