@@ -8,6 +8,7 @@ pub mod Inserting
 pub mod Keys
 pub mod KeysSeen
 pub mod Nodes
+pub mod Ready
 pub mod Removing
 pub mod Search
 pub mod SecondKeys

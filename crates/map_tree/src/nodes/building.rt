@@ -1,7 +1,8 @@
 //! New chunks of a draft.
-ghost use Rattle.std.specs.Prelude.{◌≡◌, []};
+ghost use Rattle.std.specs.Prelude.{◌≡◌, [], nat_lt};
 
 use super::{Body, Node};
+use crate::entries::MOST;
 use crate::keys::NodeKeys;
 use std::alloc::Global;
 
@@ -17,6 +18,13 @@ impl Node {
             keys: NodeKeys::own(Vec::new(alloc)),
             body: Body::Leaf(Vec::new(alloc)),
         }
+    }
+
+    /// Whether one more entry fits in the chunk.
+    pub(crate) fn is_open(&self) -> bool
+        ensures { result ≡ nat_lt self.now.entries 16 }
+    {
+        self.keys.as_slice().len() < MOST
     }
 
     /// How deep the chunk is.

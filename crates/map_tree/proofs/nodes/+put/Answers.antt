@@ -1,5 +1,5 @@
 use Rattle.std.proofs.Common.{◌≡◌, ◌+◌, ◌-◌, arith, length, sym, ap, subst, ◌∙◌, Some, get_or, length-set, slice_get, nat_cmp, T, refl, set-set}
-use Rattle.std.specs.Prelude.{IsSome}
+use Rattle.std.specs.Prelude.{IsSome, Result, Ok, Err, OnErr}
 use Rattle.std.specs.Box.{with_value}
 use Rattle.std.specs.Cmp.Lexicographic.{slice_cmp}
 use Rattle.std.specs.FinMap as finite
@@ -47,10 +47,13 @@ Node::put-put_child-requires g t c κs within =
         (
           within.1,
           (
-            omega (arith, x.3.0, x.2.1.2, ap length c.prepare.ensures.kids),
+            omega (arith, x.3.0, x.2.1.2, ap length c.reserve.ensures.items),
             (
-              omega (arith, here, x.2.1.0, c.requires.copies),
-              child_requires p c.self.inside.depth c.self.inside.keys.texts c.in-Inner.kids.items c.prepare.new.kids.items c.args.self.now.pieces c.args.key.now i (get_or c.in-Inner.kids.items i at) x.0 x.1 c.prepare.ensures.kids,
+              subst (λ w. IsPlace c.args.key.now w i) c.as_slice.ensures (subst (λ k. IsPlace k c.as_slice.result.now i) c.as_str.ensures c.place_of-place.ensures),
+              (
+                omega (arith, here, x.2.1.0, c.requires.copies),
+                child_requires p c.self.inside.depth c.self.inside.keys.texts c.in-Inner.kids.items c.reserve.new.self.items c.args.self.now.pieces c.args.key.now i (get_or c.in-Inner.kids.items i at) x.0 x.1 c.reserve.ensures.items,
+              ),
             ),
           ),
         ),
@@ -69,13 +72,13 @@ Node::put-finish-requires-clause-pairs g t c =
     let child = get_or c.in-Inner.kids.items i at in
     let keys = c.self.inside.keys.texts in
     let kids = c.in-Inner.kids.items in
-    let kk : c.prepare.new.kids.items ≡ kids = c.prepare.ensures.kids in
-    let done = subst (λ ks. ChildPut q (c.args.copies + 1) (c.self.inside.depth - 1) i ks c.put_child.new.kids.items c.in_ok-half-in-Inner.half
+    let kk : c.reserve.new.self.items ≡ kids = c.reserve.ensures.items in
+    let done = subst (λ ks. ChildPut q (c.args.copies + 1) (c.self.inside.depth - 1) i ks c.put_child.new.kids.items c.in_ok-ready-in-Inner.half
     (Some (finite.put (slice_cmp nat_cmp) c.args.key.now c.args.value (rows_or (child_rows p (c.self.inside.depth - 1) child))))) kk
-    (c.in_ok-half-in-Inner.ensures.done child (ap (λ w. slice_get w i) kk ∙ x.1)) in
-    let low = c.lower_first.ensures.texts ∙ ap (lowered i c.in_ok-ready-in-Inner.ready.lower) c.prepare.ensures.texts in
+    (c.in_ok-ready-in-Inner.ensures.done child (ap (λ w. slice_get w i) kk ∙ x.1)) in
+    let low = c.lower_first.ensures.texts ∙ ap (lowered i c.in_ok-ready-in-Inner.ready.lower) c.put_child.ensures.texts in
     let u = put_path p q c.self.inside.depth c.args.copies keys kids c.put_child.new.kids.items c.args.self.now.pieces c.args.key.now c.args.value i child c.in_ok-ready-in-Inner.ready.lower
-    c.in_ok-half-in-Inner.half c.put_child.ensures.grown x.2.1.2 x.0 c.in_ok-ready-in-Inner.ensures.lower done in
+    c.in_ok-ready-in-Inner.half c.put_child.ensures.grown x.2.1.2 x.0 c.in_ok-ready-in-Inner.ensures.lower done in
     ap length done.1 ∙ length-set kids i (Own done.0) ∙ x.2.1.2 ∙ sym (ap length low ∙ length-lowered i c.in_ok-ready-in-Inner.ready.lower keys)
 
 pub Node::put-finish-requires-clause-room : goal.Node::put-finish-requires-clause-room
@@ -90,17 +93,36 @@ Node::put-finish-requires-clause-room g t c =
     let child = get_or c.in-Inner.kids.items i at in
     let keys = c.self.inside.keys.texts in
     let kids = c.in-Inner.kids.items in
-    let kk : c.prepare.new.kids.items ≡ kids = c.prepare.ensures.kids in
-    let done = subst (λ ks. ChildPut q (c.args.copies + 1) (c.self.inside.depth - 1) i ks c.put_child.new.kids.items c.in_ok-half-in-Inner.half
+    let kk : c.reserve.new.self.items ≡ kids = c.reserve.ensures.items in
+    let done = subst (λ ks. ChildPut q (c.args.copies + 1) (c.self.inside.depth - 1) i ks c.put_child.new.kids.items c.in_ok-ready-in-Inner.half
     (Some (finite.put (slice_cmp nat_cmp) c.args.key.now c.args.value (rows_or (child_rows p (c.self.inside.depth - 1) child))))) kk
-    (c.in_ok-half-in-Inner.ensures.done child (ap (λ w. slice_get w i) kk ∙ x.1)) in
-    let low = c.lower_first.ensures.texts ∙ ap (lowered i c.in_ok-ready-in-Inner.ready.lower) c.prepare.ensures.texts in
+    (c.in_ok-ready-in-Inner.ensures.done child (ap (λ w. slice_get w i) kk ∙ x.1)) in
+    let low = c.lower_first.ensures.texts ∙ ap (lowered i c.in_ok-ready-in-Inner.ready.lower) c.put_child.ensures.texts in
     let u = put_path p q c.self.inside.depth c.args.copies keys kids c.put_child.new.kids.items c.args.self.now.pieces c.args.key.now c.args.value i child c.in_ok-ready-in-Inner.ready.lower
-    c.in_ok-half-in-Inner.half c.put_child.ensures.grown x.2.1.2 x.0 c.in_ok-ready-in-Inner.ensures.lower done in
-    let n = ap length done.1 ∙ length-set kids i (Own done.0) ∙ sym (ap length kk) in (
-      omega (arith, c.lower_first.ensures.room, c.in_ok-ready-in-Inner.ensures.room.0),
-      omega (arith, n, c.put_child.ensures.room, c.in_ok-ready-in-Inner.ensures.room.1, c.put_child.new.kids.ok.0, c.prepare.new.kids.ok.0),
-    )
+    c.in_ok-ready-in-Inner.half c.put_child.ensures.grown x.2.1.2 x.0 c.in_ok-ready-in-Inner.ensures.lower done in
+    λ some. omega (arith, c.lower_first.ensures.room, (c.in_ok-ready-in-Inner.ensures.ready some).0)
+
+pub Node::put-finish-requires-clause-kids_room : goal.Node::put-finish-requires-clause-kids_room
+Node::put-finish-requires-clause-kids_room g t c =
+    let p = g.C.Chunks.contents c.args.chunks.now in
+    let at : Child = Placed (record { bits = 0 }) in
+    let i = c.place_of-place.result in
+    let x = node_at p c.self.inside.depth c.self.inside.keys.texts c.self.inside.body c.in-Inner.kids c.args.self.now.pieces c.as_slice.result.now c.args.key.now i at
+    (ap (λ (s : Seen). s.pieces) c.self.view_is) c.in-Inner.is c.self.invariant c.as_slice.ensures
+    (subst (λ k. IsPlace k c.as_slice.result.now i) c.as_str.ensures c.place_of-place.ensures) c.requires.tree in
+    let q = g.C.Chunks.contents c.put_child.new.chunks in
+    let child = get_or c.in-Inner.kids.items i at in
+    let keys = c.self.inside.keys.texts in
+    let kids = c.in-Inner.kids.items in
+    let kk : c.reserve.new.self.items ≡ kids = c.reserve.ensures.items in
+    let done = subst (λ ks. ChildPut q (c.args.copies + 1) (c.self.inside.depth - 1) i ks c.put_child.new.kids.items c.in_ok-ready-in-Inner.half
+    (Some (finite.put (slice_cmp nat_cmp) c.args.key.now c.args.value (rows_or (child_rows p (c.self.inside.depth - 1) child))))) kk
+    (c.in_ok-ready-in-Inner.ensures.done child (ap (λ w. slice_get w i) kk ∙ x.1)) in
+    let low = c.lower_first.ensures.texts ∙ ap (lowered i c.in_ok-ready-in-Inner.ready.lower) c.put_child.ensures.texts in
+    let u = put_path p q c.self.inside.depth c.args.copies keys kids c.put_child.new.kids.items c.args.self.now.pieces c.args.key.now c.args.value i child c.in_ok-ready-in-Inner.ready.lower
+    c.in_ok-ready-in-Inner.half c.put_child.ensures.grown x.2.1.2 x.0 c.in_ok-ready-in-Inner.ensures.lower done in
+    let n = ap length done.1 ∙ length-set kids i (Own done.0) ∙ sym (ap length kk) in
+    omega (arith, n, c.put_child.ensures.kept, c.in_ok-reserve-in-Inner.ensures.ok, c.put_child.new.kids.ok.0, c.reserve.new.self.ok.0)
 
 pub Node::put-finish-requires-clause-half : goal.Node::put-finish-requires-clause-half
 Node::put-finish-requires-clause-half g t c =
@@ -114,13 +136,13 @@ Node::put-finish-requires-clause-half g t c =
     let child = get_or c.in-Inner.kids.items i at in
     let keys = c.self.inside.keys.texts in
     let kids = c.in-Inner.kids.items in
-    let kk : c.prepare.new.kids.items ≡ kids = c.prepare.ensures.kids in
-    let done = subst (λ ks. ChildPut q (c.args.copies + 1) (c.self.inside.depth - 1) i ks c.put_child.new.kids.items c.in_ok-half-in-Inner.half
+    let kk : c.reserve.new.self.items ≡ kids = c.reserve.ensures.items in
+    let done = subst (λ ks. ChildPut q (c.args.copies + 1) (c.self.inside.depth - 1) i ks c.put_child.new.kids.items c.in_ok-ready-in-Inner.half
     (Some (finite.put (slice_cmp nat_cmp) c.args.key.now c.args.value (rows_or (child_rows p (c.self.inside.depth - 1) child))))) kk
-    (c.in_ok-half-in-Inner.ensures.done child (ap (λ w. slice_get w i) kk ∙ x.1)) in
-    let low = c.lower_first.ensures.texts ∙ ap (lowered i c.in_ok-ready-in-Inner.ready.lower) c.prepare.ensures.texts in
+    (c.in_ok-ready-in-Inner.ensures.done child (ap (λ w. slice_get w i) kk ∙ x.1)) in
+    let low = c.lower_first.ensures.texts ∙ ap (lowered i c.in_ok-ready-in-Inner.ready.lower) c.put_child.ensures.texts in
     let u = put_path p q c.self.inside.depth c.args.copies keys kids c.put_child.new.kids.items c.args.self.now.pieces c.args.key.now c.args.value i child c.in_ok-ready-in-Inner.ready.lower
-    c.in_ok-half-in-Inner.half c.put_child.ensures.grown x.2.1.2 x.0 c.in_ok-ready-in-Inner.ensures.lower done in
+    c.in_ok-ready-in-Inner.half c.put_child.ensures.grown x.2.1.2 x.0 c.in_ok-ready-in-Inner.ensures.lower done in
     done.5
 
 pub Node::put-finish-requires-clause-firsts : goal.Node::put-finish-requires-clause-firsts
@@ -135,15 +157,15 @@ Node::put-finish-requires-clause-firsts g t c =
     let child = get_or c.in-Inner.kids.items i at in
     let keys = c.self.inside.keys.texts in
     let kids = c.in-Inner.kids.items in
-    let kk : c.prepare.new.kids.items ≡ kids = c.prepare.ensures.kids in
-    let done = subst (λ ks. ChildPut q (c.args.copies + 1) (c.self.inside.depth - 1) i ks c.put_child.new.kids.items c.in_ok-half-in-Inner.half
+    let kk : c.reserve.new.self.items ≡ kids = c.reserve.ensures.items in
+    let done = subst (λ ks. ChildPut q (c.args.copies + 1) (c.self.inside.depth - 1) i ks c.put_child.new.kids.items c.in_ok-ready-in-Inner.half
     (Some (finite.put (slice_cmp nat_cmp) c.args.key.now c.args.value (rows_or (child_rows p (c.self.inside.depth - 1) child))))) kk
-    (c.in_ok-half-in-Inner.ensures.done child (ap (λ w. slice_get w i) kk ∙ x.1)) in
-    let low = c.lower_first.ensures.texts ∙ ap (lowered i c.in_ok-ready-in-Inner.ready.lower) c.prepare.ensures.texts in
+    (c.in_ok-ready-in-Inner.ensures.done child (ap (λ w. slice_get w i) kk ∙ x.1)) in
+    let low = c.lower_first.ensures.texts ∙ ap (lowered i c.in_ok-ready-in-Inner.ready.lower) c.put_child.ensures.texts in
     let u = put_path p q c.self.inside.depth c.args.copies keys kids c.put_child.new.kids.items c.args.self.now.pieces c.args.key.now c.args.value i child c.in_ok-ready-in-Inner.ready.lower
-    c.in_ok-half-in-Inner.half c.put_child.ensures.grown x.2.1.2 x.0 c.in_ok-ready-in-Inner.ensures.lower done in
-    λ key z. subst (λ ks. AreNinth c.args.copies ks (i + 1) key c.in_ok-ready-in-Inner.ready.firsts.items) (sym low)
-    (ninth_lowered c.args.copies keys i c.args.key.now c.in_ok-ready-in-Inner.ready.lower c.in_ok-ready-in-Inner.ready.firsts.items x.3 c.in_ok-ready-in-Inner.ensures.lower c.in_ok-ready-in-Inner.ensures.firsts key z)
+    c.in_ok-ready-in-Inner.half c.put_child.ensures.grown x.2.1.2 x.0 c.in_ok-ready-in-Inner.ensures.lower done in
+    λ some key z. subst (λ ks. AreNinth c.args.copies ks (i + 1) key c.in_ok-ready-in-Inner.ready.firsts.items) (sym low)
+    (ninth_lowered c.args.copies keys i c.args.key.now c.in_ok-ready-in-Inner.ready.lower c.in_ok-ready-in-Inner.ready.firsts.items x.3 c.in_ok-ready-in-Inner.ensures.lower (c.in_ok-ready-in-Inner.ensures.ready some).1 key z)
 
 pub Node::put-finish-requires-clause-kids : goal.Node::put-finish-requires-clause-kids
 Node::put-finish-requires-clause-kids g t c =
@@ -157,14 +179,14 @@ Node::put-finish-requires-clause-kids g t c =
     let child = get_or c.in-Inner.kids.items i at in
     let keys = c.self.inside.keys.texts in
     let kids = c.in-Inner.kids.items in
-    let kk : c.prepare.new.kids.items ≡ kids = c.prepare.ensures.kids in
-    let done = subst (λ ks. ChildPut q (c.args.copies + 1) (c.self.inside.depth - 1) i ks c.put_child.new.kids.items c.in_ok-half-in-Inner.half
+    let kk : c.reserve.new.self.items ≡ kids = c.reserve.ensures.items in
+    let done = subst (λ ks. ChildPut q (c.args.copies + 1) (c.self.inside.depth - 1) i ks c.put_child.new.kids.items c.in_ok-ready-in-Inner.half
     (Some (finite.put (slice_cmp nat_cmp) c.args.key.now c.args.value (rows_or (child_rows p (c.self.inside.depth - 1) child))))) kk
-    (c.in_ok-half-in-Inner.ensures.done child (ap (λ w. slice_get w i) kk ∙ x.1)) in
-    let low = c.lower_first.ensures.texts ∙ ap (lowered i c.in_ok-ready-in-Inner.ready.lower) c.prepare.ensures.texts in
+    (c.in_ok-ready-in-Inner.ensures.done child (ap (λ w. slice_get w i) kk ∙ x.1)) in
+    let low = c.lower_first.ensures.texts ∙ ap (lowered i c.in_ok-ready-in-Inner.ready.lower) c.put_child.ensures.texts in
     let u = put_path p q c.self.inside.depth c.args.copies keys kids c.put_child.new.kids.items c.args.self.now.pieces c.args.key.now c.args.value i child c.in_ok-ready-in-Inner.ready.lower
-    c.in_ok-half-in-Inner.half c.put_child.ensures.grown x.2.1.2 x.0 c.in_ok-ready-in-Inner.ensures.lower done in
-    subst (λ ks. AllKids (c.self.inside.depth - 1) (with_half i c.in_ok-half-in-Inner.half (paired ks c.put_child.new.kids.items))) (sym low) u.all
+    c.in_ok-ready-in-Inner.half c.put_child.ensures.grown x.2.1.2 x.0 c.in_ok-ready-in-Inner.ensures.lower done in
+    subst (λ ks. AllKids (c.self.inside.depth - 1) (with_half i c.in_ok-ready-in-Inner.half (paired ks c.put_child.new.kids.items))) (sym low) u.all
 
 pub Node::put-finish-requires-clause-order : goal.Node::put-finish-requires-clause-order
 Node::put-finish-requires-clause-order g t c =
@@ -178,14 +200,14 @@ Node::put-finish-requires-clause-order g t c =
     let child = get_or c.in-Inner.kids.items i at in
     let keys = c.self.inside.keys.texts in
     let kids = c.in-Inner.kids.items in
-    let kk : c.prepare.new.kids.items ≡ kids = c.prepare.ensures.kids in
-    let done = subst (λ ks. ChildPut q (c.args.copies + 1) (c.self.inside.depth - 1) i ks c.put_child.new.kids.items c.in_ok-half-in-Inner.half
+    let kk : c.reserve.new.self.items ≡ kids = c.reserve.ensures.items in
+    let done = subst (λ ks. ChildPut q (c.args.copies + 1) (c.self.inside.depth - 1) i ks c.put_child.new.kids.items c.in_ok-ready-in-Inner.half
     (Some (finite.put (slice_cmp nat_cmp) c.args.key.now c.args.value (rows_or (child_rows p (c.self.inside.depth - 1) child))))) kk
-    (c.in_ok-half-in-Inner.ensures.done child (ap (λ w. slice_get w i) kk ∙ x.1)) in
-    let low = c.lower_first.ensures.texts ∙ ap (lowered i c.in_ok-ready-in-Inner.ready.lower) c.prepare.ensures.texts in
+    (c.in_ok-ready-in-Inner.ensures.done child (ap (λ w. slice_get w i) kk ∙ x.1)) in
+    let low = c.lower_first.ensures.texts ∙ ap (lowered i c.in_ok-ready-in-Inner.ready.lower) c.put_child.ensures.texts in
     let u = put_path p q c.self.inside.depth c.args.copies keys kids c.put_child.new.kids.items c.args.self.now.pieces c.args.key.now c.args.value i child c.in_ok-ready-in-Inner.ready.lower
-    c.in_ok-half-in-Inner.half c.put_child.ensures.grown x.2.1.2 x.0 c.in_ok-ready-in-Inner.ensures.lower done in
-    subst (λ ks. T (rises (keys_of (with_half i c.in_ok-half-in-Inner.half (paired ks c.put_child.new.kids.items))))) (sym low) u.order
+    c.in_ok-ready-in-Inner.half c.put_child.ensures.grown x.2.1.2 x.0 c.in_ok-ready-in-Inner.ensures.lower done in
+    subst (λ ks. T (rises (keys_of (with_half i c.in_ok-ready-in-Inner.half (paired ks c.put_child.new.kids.items))))) (sym low) u.order
 
 pub Node::put-returns-in-Inner-clause-done : goal.Node::put-returns-in-Inner-clause-done
 Node::put-returns-in-Inner-clause-done g t c =
@@ -199,15 +221,15 @@ Node::put-returns-in-Inner-clause-done g t c =
     let child = get_or c.in-Inner.kids.items i at in
     let keys = c.self.inside.keys.texts in
     let kids = c.in-Inner.kids.items in
-    let kk : c.prepare.new.kids.items ≡ kids = c.prepare.ensures.kids in
-    let done = subst (λ ks. ChildPut q (c.args.copies + 1) (c.self.inside.depth - 1) i ks c.put_child.new.kids.items c.in_ok-half-in-Inner.half
+    let kk : c.reserve.new.self.items ≡ kids = c.reserve.ensures.items in
+    let done = subst (λ ks. ChildPut q (c.args.copies + 1) (c.self.inside.depth - 1) i ks c.put_child.new.kids.items c.in_ok-ready-in-Inner.half
     (Some (finite.put (slice_cmp nat_cmp) c.args.key.now c.args.value (rows_or (child_rows p (c.self.inside.depth - 1) child))))) kk
-    (c.in_ok-half-in-Inner.ensures.done child (ap (λ w. slice_get w i) kk ∙ x.1)) in
-    let low = c.lower_first.ensures.texts ∙ ap (lowered i c.in_ok-ready-in-Inner.ready.lower) c.prepare.ensures.texts in
+    (c.in_ok-ready-in-Inner.ensures.done child (ap (λ w. slice_get w i) kk ∙ x.1)) in
+    let low = c.lower_first.ensures.texts ∙ ap (lowered i c.in_ok-ready-in-Inner.ready.lower) c.put_child.ensures.texts in
     let u = put_path p q c.self.inside.depth c.args.copies keys kids c.put_child.new.kids.items c.args.self.now.pieces c.args.key.now c.args.value i child c.in_ok-ready-in-Inner.ready.lower
-    c.in_ok-half-in-Inner.half c.put_child.ensures.grown x.2.1.2 x.0 c.in_ok-ready-in-Inner.ensures.lower done in
-    done_at q (c.self.inside.depth - 1) (with_half i c.in_ok-half-in-Inner.half (paired (lowered i c.in_ok-ready-in-Inner.ready.lower keys) c.put_child.new.kids.items)) (shown p c.args.self.now.pieces) x.0.rows c.args.key.now c.args.value _ x.0.rows_is
-    (c.finish.ensures.shape.0 ∙ ap (λ ks. kids_pieces (c.self.inside.depth - 1) (with_half i c.in_ok-half-in-Inner.half (paired ks c.put_child.new.kids.items))) low) u.shown_is
+    c.in_ok-ready-in-Inner.half c.put_child.ensures.grown x.2.1.2 x.0 c.in_ok-ready-in-Inner.ensures.lower done in
+    done_at q (c.self.inside.depth - 1) (with_half i c.in_ok-ready-in-Inner.half (paired (lowered i c.in_ok-ready-in-Inner.ready.lower keys) c.put_child.new.kids.items)) (shown p c.args.self.now.pieces) x.0.rows c.args.key.now c.args.value _ x.0.rows_is
+    (c.finish.ensures.shape.0 ∙ ap (λ ks. kids_pieces (c.self.inside.depth - 1) (with_half i c.in_ok-ready-in-Inner.half (paired ks c.put_child.new.kids.items))) low) u.shown_is
 
 pub Node::put-returns-in-Inner-clause-filled : goal.Node::put-returns-in-Inner-clause-filled
 Node::put-returns-in-Inner-clause-filled g t c =
@@ -234,16 +256,15 @@ putting::paths::put_child-returns-in-Own-clause-done g t c x h =
     let n : Kid = with_value c.in-Own.node c.put.new.self in
     let v = c.deref_mut.ensures.value in
     let d : c.deref_mut.result.now.depth ≡ c.args.below = ap (λ (s : Seen). s.depth) v ∙ subst (HasDepth c.args.below) c.in-Own.is r.1 in
-    let e : x ≡ Own c.in-Own.node = indexed_child kids c.args.place child x c.requires.within c.index_mut.ensures.value h ∙ c.in-Own.is in
-    if_ok c.put.result c.put.ensures.done c.put.ensures.half c.put.ensures.filled (λ half s i f. (
+    let e : x ≡ Own c.in-Own.node = indexed_child kids c.args.place child x c.requires.within c.index_mut.ensures.value h ∙ c.in-Own.is in (
       n,
       refl,
       c.put.ensures.depth ∙ d,
-      f,
-      s ∙ ap (λ (m : Seen). Some (finite.put (slice_cmp nat_cmp) c.args.key.now c.args.value (rows_or (shown p m.pieces)))) v
+      c.in_ok-half-in-Own.ensures.filled,
+      c.in_ok-half-in-Own.ensures.done ∙ ap (λ (m : Seen). Some (finite.put (slice_cmp nat_cmp) c.args.key.now c.args.value (rows_or (shown p m.pieces)))) v
           ∙ ap (λ y. Some (finite.put (slice_cmp nat_cmp) c.args.key.now c.args.value (rows_or (child_rows p c.args.below y)))) (sym e),
-      subst (λ w. IsHalf c.args.copies w half) d i,
-    ))
+      subst (λ w. IsHalf (c.args.copies + 1) w c.in_ok-half-in-Own.half) d c.in_ok-half-in-Own.ensures.half,
+    )
 
 pub putting::paths::put_child-copied_child-requires : goal.putting::paths::put_child-copied_child-requires
 putting::paths::put_child-copied_child-requires g t c =
@@ -296,7 +317,7 @@ putting::paths::put_child-returns-in-Placed-clause-done g t c x h =
       c.in_ok-half-in-Placed.ensures.done
           ∙ ap (λ z. Some (finite.put (slice_cmp nat_cmp) c.args.key.now c.args.value (rows_or z)))
           (ap (λ (s : Seen). shown q s.pieces) v ∙ c.in_ok-node-in-Placed.ensures.rows ∙ ap (child_rows p c.args.below) (sym e)),
-      subst (λ w. IsHalf c.args.copies w half) d c.in_ok-half-in-Placed.ensures.half,
+      subst (λ w. IsHalf (c.args.copies + 1) w half) d c.in_ok-half-in-Placed.ensures.half,
     )
 
 pub Node::put-returns-in-Leaf-clause-fresh : goal.Node::put-returns-in-Leaf-clause-fresh
@@ -307,13 +328,13 @@ Node::put-returns-in-Leaf-clause-fresh g t c =
 pub Node::put-returns-in-Inner-clause-fresh : goal.Node::put-returns-in-Inner-clause-fresh
 Node::put-returns-in-Inner-clause-fresh g t c =
     let n = inner_counts c.self.inside.depth c.self.inside.keys.texts c.self.inside.body c.in-Inner.kids c.in-Inner.is c.self.invariant in
-    omega (arith, c.finish.ensures.fresh, c.in_ok-half-in-Inner.ensures.fresh, ap kids_fresh c.prepare.ensures.kids, n.0, n.1, ap (λ (s : Seen). s.depth) c.self.view_is, ap (λ (s : Seen). s.fresh) c.self.view_is)
+    omega (arith, c.finish.ensures.fresh, c.in_ok-ready-in-Inner.ensures.fresh, ap kids_fresh c.reserve.ensures.items, n.0, n.1, ap (λ (s : Seen). s.depth) c.self.view_is, ap (λ (s : Seen). s.fresh) c.self.view_is)
 
 pub Node::put-returns-in-Inner-clause-entries : goal.Node::put-returns-in-Inner-clause-entries
 Node::put-returns-in-Inner-clause-entries g t c =
     let keys = c.self.inside.keys.texts in
     let i = c.place_of-place.result in
-    let low = ap length (c.lower_first.ensures.texts ∙ ap (lowered i c.in_ok-ready-in-Inner.ready.lower) c.prepare.ensures.texts) ∙ length-lowered i c.in_ok-ready-in-Inner.ready.lower keys in
+    let low = ap length (c.lower_first.ensures.texts ∙ ap (lowered i c.in_ok-ready-in-Inner.ready.lower) c.put_child.ensures.texts) ∙ length-lowered i c.in_ok-ready-in-Inner.ready.lower keys in
     subst (λ n. HasKept n (length c.finish.new.keys.texts) c.finish.result) (low ∙ ap (λ (s : Seen). s.entries) c.self.view_is) c.finish.ensures.entries
 
 pub putting::paths::put_child-returns-in-Own-clause-fresh : goal.putting::paths::put_child-returns-in-Own-clause-fresh
@@ -324,7 +345,7 @@ putting::paths::put_child-returns-in-Own-clause-fresh g t c =
     let v = c.deref_mut.ensures.value in
     let d : c.deref_mut.result.now.depth ≡ c.args.below = ap (λ (s : Seen). s.depth) v ∙ subst (HasDepth c.args.below) c.in-Own.is r.1 in
     let f = fresh-set kids c.args.place child (Own (with_value c.in-Own.node c.put.new.self)) c.requires.within c.index_mut.ensures.value in
-    if_ok_so c.put.result c.put.ensures.fresh (λ half s. omega (arith, s, f, d, ap (λ (s : Seen). s.fresh) v, ap child_fresh c.in-Own.is))
+    omega (arith, c.in_ok-half-in-Own.ensures.fresh, f, d, ap (λ (s : Seen). s.fresh) v, ap child_fresh c.in-Own.is)
 
 pub putting::paths::put_child-returns-in-Placed-clause-fresh : goal.putting::paths::put_child-returns-in-Placed-clause-fresh
 putting::paths::put_child-returns-in-Placed-clause-fresh g t c =
@@ -336,12 +357,12 @@ putting::paths::put_child-returns-in-Placed-clause-fresh g t c =
     let twice = ap kids_fresh (set-set kids c.args.place (Placed c.in-Placed.at) (Own n)) in
     omega (arith, c.in_ok-half-in-Placed.ensures.fresh, f, twice, ap (λ (s : Seen). s.depth) v, ap (λ (s : Seen). s.fresh) v, c.in_ok-node-in-Placed.ensures.depth, c.in_ok-node-in-Placed.ensures.fresh, ap child_fresh c.in-Placed.is)
 
-pub putting::paths::put_child-returns-in-Own-clause-err : goal.putting::paths::put_child-returns-in-Own-clause-err
-putting::paths::put_child-returns-in-Own-clause-err g t c =
-    on_err c.put.result c.put.ensures.err
-    (λ e. written_back c.args.kids.now.items c.args.place c.index_mut.result.now c.in-Own.node c.put.new.self c.index_mut.ensures.value c.in-Own.is (e ∙ c.deref_mut.ensures.value))
+-- what holds in any case holds where it fails
+on_any : {T E P : Type 0} (r : Result T E) → P → OnErr r P
+on_any (Ok x) h = tt
+on_any (Err e) h = h
 
-pub Node::put-prepare-requires-clause-place : goal.Node::put-prepare-requires-clause-place
-Node::put-prepare-requires-clause-place g t c =
-    let i = c.place_of-place.result in
-    subst (λ w. IsPlace c.args.key.now w i) c.as_slice.ensures (subst (λ k. IsPlace k c.as_slice.result.now i) c.as_str.ensures c.place_of-place.ensures)
+pub putting::paths::put_child-returns-in_err-half-in-Own-clause-err : goal.putting::paths::put_child-returns-in_err-half-in-Own-clause-err
+putting::paths::put_child-returns-in_err-half-in-Own-clause-err g t c =
+    on_any c.from_residual-in_err-half-in-Own.result
+    (written_back c.args.kids.now.items c.args.place c.index_mut.result.now c.in-Own.node c.put.new.self c.index_mut.ensures.value c.in-Own.is (c.in_err-half-in-Own.ensures.err ∙ c.deref_mut.ensures.value))

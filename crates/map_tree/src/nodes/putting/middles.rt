@@ -15,7 +15,7 @@ use group_history::Text;
 
 /// Puts a lower first key in the place of one, if there is one.
 pub(crate) fn lower_first(keys: &mut NodeKeys, place: usize, lower: Option<Text>)
-    requires room { 0 < keys.old.room }
+    requires room { IsSome lower → 0 < keys.old.room }
     requires within { place < length keys.old.texts }
     ensures texts { keys.new.texts ≡ lowered place lower keys.old.texts }
     ensures room { keys.new.room ≡ keys.old.room }
@@ -41,13 +41,14 @@ pub(crate) fn finish(
     requires few { length keys.old.texts ≤ 16 }
     requires within { place < length keys.old.texts }
     requires above { 0 < depth }
-    requires room { (0 < keys.old.room) × (vec_len kids.old < vec_capacity kids.old) }
+    requires kids_room { vec_len kids.old < vec_capacity kids.old }
+    requires room { IsSome half → 0 < keys.old.room }
     requires spare_keys { spare.keys.items ≡ [] }
     requires spare_entries { spare.entries.items ≡ [] }
-    requires spare_room { 16 ≤ length keys.old.texts → (17 ≤ vec_capacity spare.keys) × (17 ≤ vec_capacity spare.entries) }
-    requires home { 16 ≤ length keys.old.texts → IsSome home }
+    requires spare_room { IsSome half → 16 ≤ length keys.old.texts → (17 ≤ vec_capacity spare.keys) × (17 ≤ vec_capacity spare.entries) }
+    requires home { IsSome half → 16 ≤ length keys.old.texts → IsSome home }
     requires half { IsHalf (copies + 1) (depth - 1) half }
-    requires firsts { (key : Bytes) → (place + 1 ≡ 8 → ⊥) → AreNinth copies keys.old.texts (place + 1) key firsts.items }
+    requires firsts { IsSome half → (key : Bytes) → (place + 1 ≡ 8 → ⊥) → AreNinth copies keys.old.texts (place + 1) key firsts.items }
     requires kids { AllKids (depth - 1) (with_half place half (paired keys.old.texts kids.old.items)) }
     requires order { T (rises (keys_of (with_half place half (paired keys.old.texts kids.old.items)))) }
     ensures shape { Finished depth copies (with_half place half (paired keys.old.texts kids.old.items)) keys.new.texts kids.new.items result }

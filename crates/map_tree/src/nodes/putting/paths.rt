@@ -1,5 +1,5 @@
 //! A put on its way down.
-ghost use Rattle.std.specs.Prelude.{◌≡◌, ◌⊎◌, ◌<◌, ◌≤◌, ◌+◌, ◌*◌, ◌^◌, ◌++◌, [], length, slice_get, slice_index_or, Some, IsSome, IfOk, IfErr, OnOk, OnErr, vec_items, vec_len, vec_capacity};
+ghost use Rattle.std.specs.Prelude.{◌≡◌, ◌⊎◌, ◌<◌, ◌≤◌, ◌+◌, ◌*◌, ◌^◌, ◌++◌, [], false, length, slice_get, slice_index_or, Some, IsSome, IfOk, IfErr, OnOk, OnErr, vec_items, vec_len, vec_capacity};
 ghost use mathlib.Core.List.{IsPrefix};
 ghost use Rattle.std.specs.Ordering.{nat_cmp};
 ghost use Rattle.std.specs.Cmp.Lexicographic.{slice_cmp};
@@ -9,6 +9,7 @@ ghost use Rattle.map_tree.specs.Search.{IsPlace};
 ghost use Rattle.map_tree.specs.Shown.{shown, IsTree, rows_or};
 ghost use Rattle.map_tree.specs.Nodes.{child_rows, kids_fresh};
 ghost use Rattle.map_tree.specs.Halves.{half_pieces, IsHalf, AreNinth, ChildPut, IsLower, HasDepth};
+ghost use Rattle.map_tree.specs.Ready.{IsReady};
 ghost use Rattle.map_tree.specs.Counts.{half_fresh, HasKept};
 ghost use Rattle.map_tree.specs.declared.nodes.Child.{Child as Childs};
 
@@ -33,31 +34,39 @@ struct Ready {
     home: Option<Box<Node>>,
 }
 
+// Takes what is needed above a child, of which `fits` says whether one more entry fits in it. Only where it
+// may be split, or where its first key changes, the keys above become the chunk's own.
 fn prepare(
     keys: &mut NodeKeys,
-    kids: &mut Vec<Child>,
     alloc: Global,
     place: usize,
     key: &Text,
     copies: usize,
+    fits: bool,
 ) -> Result<Ready, AllocError>
     requires place { IsPlace key.now keys.old.texts place }
-    requires pairs { length kids.old.items ≡ length keys.old.texts }
     ensures texts { keys.new.texts ≡ keys.old.texts }
-    ensures kids { kids.new.items ≡ kids.old.items }
-    ensures room { OnOk result ((0 < keys.new.room) × (vec_len kids.new < vec_capacity kids.new)) }
+    ensures lowers { IfOk result (λ r. IsSome r.lower → 0 < keys.new.room) }
     ensures lower { IfOk result (λ r. IsLower key.now (slice_index_or keys.old.texts place []) r.lower) }
-    ensures firsts { IfOk result (λ r. AreNinth copies keys.old.texts (place + 1) key.now r.firsts.items) }
-    ensures spare_keys { IfOk result (λ r. r.spare.keys.items ≡ []) }
-    ensures spare_entries { IfOk result (λ r. r.spare.entries.items ≡ []) }
-    ensures home { IfOk result (λ r. 16 ≤ length keys.old.texts → IsSome r.home) }
-    ensures spare_room { IfOk result (λ r. 16 ≤ length keys.old.texts → (17 ≤ vec_capacity r.spare.keys) × (17 ≤ vec_capacity r.spare.entries)) }
+    ensures spare { IfOk result (λ r. (r.spare.keys.items ≡ []) × (r.spare.entries.items ≡ [])) }
+    ensures ready { fits ≡ false → IfOk result (λ r. IsReady copies keys.old.texts keys.new.room place key.now r.firsts.items r.spare r.home) }
 {
     let lower = lower_key(keys.as_slice(), place, key)?;
+    if fits {
+        if lower.is_some() {
+            keys.make_room(alloc)?;
+        }
+        return Ok(Ready {
+            lower,
+            firsts: Vec::new(alloc),
+            spare: take_spare(alloc, 0)?,
+            home: None,
+        });
+    }
+    let len = keys.as_slice().len();
     let firsts = ninth_copies(alloc, keys.as_slice(), place + 1, key, copies)?;
-    let spare = take_spare(alloc, kids.len())?;
-    let home = take_home(alloc, kids.len())?;
-    kids.reserve(1)?;
+    let spare = take_spare(alloc, len)?;
+    let home = take_home(alloc, len)?;
     keys.make_room(alloc)?;
     Ok(Ready {
         lower,
@@ -83,6 +92,7 @@ fn lower_key(keys: &[Text], place: usize, key: &Text) -> Result<Option<Text>, Al
 
 #[cycle(put)]
 fn put_child<C: Chunks>(
+    keys: &mut NodeKeys,
     kids: &mut Vec<Child>,
     place: usize,
     below: u64,
@@ -91,24 +101,35 @@ fn put_child<C: Chunks>(
     key: &Text,
     value: Json,
     copies: usize,
-) -> Result<Option<Half>, Stop>
+) -> Result<(Ready, Option<Half>), Stop>
     requires within { place < length kids.old.items }
-    requires copies { copies + below < 2 ^ 64 }
+    requires place { IsPlace key.now keys.old.texts place }
+    requires copies { copies + 1 + below < 2 ^ 64 }
     requires tree { (c : Childs) → slice_get kids.old.items place ≡ Some c → IsTree (child_rows (C.contents chunks.old) below c) × HasDepth below c }
     ensures grown { IsPrefix (C.contents chunks.old) (C.contents chunks.new) }
-    ensures done { (c : Childs) → slice_get kids.old.items place ≡ Some c → IfOk result (λ half. ChildPut (C.contents chunks.new) copies below place kids.old.items kids.new.items half (Some (finite.put (slice_cmp nat_cmp) key.now value (rows_or (child_rows (C.contents chunks.old) below c))))) }
-    ensures fresh { IfOk result (λ half. kids_fresh kids.new.items + half_fresh half ≤ kids_fresh kids.old.items + 2 * below) }
-    ensures room { vec_capacity kids.new ≡ vec_capacity kids.old }
+    ensures done { (c : Childs) → slice_get kids.old.items place ≡ Some c → IfOk result (λ r. ChildPut (C.contents chunks.new) (copies + 1) below place kids.old.items kids.new.items r.1 (Some (finite.put (slice_cmp nat_cmp) key.now value (rows_or (child_rows (C.contents chunks.old) below c))))) }
+    ensures fresh { IfOk result (λ r. kids_fresh kids.new.items + half_fresh r.1 ≤ kids_fresh kids.old.items + 2 * below) }
+    ensures kept { vec_capacity kids.new ≡ vec_capacity kids.old }
+    ensures texts { keys.new.texts ≡ keys.old.texts }
+    ensures lowers { IfOk result (λ r. IsSome r.0.lower → 0 < keys.new.room) }
+    ensures lower { IfOk result (λ r. IsLower key.now (slice_index_or keys.old.texts place []) r.0.lower) }
+    ensures ready { IfOk result (λ r. IsSome r.1 → IsReady copies keys.old.texts keys.new.room place key.now r.0.firsts.items r.0.spare r.0.home) }
+    ensures spare { IfOk result (λ r. (r.0.spare.keys.items ≡ []) × (r.0.spare.entries.items ≡ [])) }
     ensures err { OnErr result (kids.new.items ≡ kids.old.items) }
     ensures stopped { IfErr result (λ s. (s ≡ NoMemory) ⊎ C.stops s) }
 {
     match &mut kids[place] {
-        Child::Own(node) => return node.put(alloc, chunks, key, value, copies),
+        Child::Own(node) => {
+            let ready = prepare(keys, alloc, place, key, copies, node.is_open())?;
+            let half = node.put(alloc, chunks, key, value, copies + 1)?;
+            return Ok((ready, half));
+        }
         Child::Placed(at) => {
             let mut node = Node::copied_child(alloc, chunks, *at, below, ROOM)?;
-            let half = node.put(alloc, chunks, key, value, copies)?;
+            let ready = prepare(keys, alloc, place, key, copies, node.is_open())?;
+            let half = node.put(alloc, chunks, key, value, copies + 1)?;
             kids[place] = Child::Own(node);
-            return Ok(half);
+            return Ok((ready, half));
         }
     }
 }
@@ -147,8 +168,9 @@ impl Node {
             )?),
             Body::Inner(kids) => {
                 let place = place_of(self.keys.as_slice(), key.as_str());
-                let ready = prepare(&mut self.keys, kids, alloc, place, key, copies)?;
-                let half = put_child(
+                kids.reserve(1)?;
+                let (ready, half) = put_child(
+                    &mut self.keys,
                     kids,
                     place,
                     self.depth - 1,
@@ -156,7 +178,7 @@ impl Node {
                     chunks,
                     key,
                     value,
-                    copies + 1,
+                    copies,
                 )?;
                 lower_first(&mut self.keys, place, ready.lower);
                 return Ok(finish(

@@ -1,4 +1,5 @@
 use Rattle.std.proofs.Common.{◌≡◌, ◌∙◌, ◌++◌, ◌<◌, ◌+◌, ◌-◌, [], ap, sym, subst, arith, length, insert, Some, None, get_or, refl}
+use Rattle.std.specs.Prelude.{IsSome}
 use Rattle.group_history.specs.Rows.{paired, keys_of}
 use Rattle.map_tree.specs.Halves.{with_half, IsHalf}
 use Rattle.map_tree.specs.Inserting.{Parted}
@@ -65,7 +66,7 @@ returns-clause-shape c =
           get_or (keys_of es) 8 [],
           subst (λ (s : Seen). HeadIs (get_or (keys_of es) 8 []) s.pieces) (sym c.housed.ensures) b.head,
           chosen_are c.args.place c.args.copies c.in-Some-pop.first (get_or (keys_of es) 8 []) (get_or (insert keys (c.args.place + 1) c.in-Some-pop.first) 8 []) c.pop.new.self.items c.args.firsts.items c.chosen.result.items
-              n p.given_are p.at_eight c.chosen.ensures.at c.chosen.ensures.other (λ z. c.requires.firsts c.in-Some-pop.first z full c.in-Some-pop.first (λ y. refl)),
+              n p.given_are p.at_eight c.chosen.ensures.at c.chosen.ensures.other (λ z. c.requires.firsts (subst IsSome (sym c.in-Some.is) refl) c.in-Some-pop.first z full c.in-Some-pop.first (λ y. refl)),
         ),
       ),
       b.left.0,
@@ -137,4 +138,4 @@ housed-requires c =
     let back : with_half c.args.place (Some c.in-Some.half) (paired keys kids) ≡ es = ap (λ h. with_half c.args.place h (paired keys kids)) (sym c.in-Some.is) in
     let q : insert (paired keys kids) (c.args.place + 1) (c.in-Some-pop.first, Own c.in-Some.half.node) ≡ es = p.es_is ∙ back in
     let h = subst (λ (w : Kids). Parted w c.insert_entry.new.keys.texts c.insert_entry.new.entries.items (Some (c.in-Some-insert_entry.upper_keys.texts, c.in-Some-insert_entry.upper.items))) q c.in-Some-insert_entry.ensures in
-    c.requires.home (omega (arith, h.2, p.whole, ap length back))
+    c.requires.home (subst IsSome (sym c.in-Some.is) refl) (omega (arith, h.2, p.whole, ap length back))
