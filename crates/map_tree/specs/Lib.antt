@@ -16,6 +16,7 @@ pub mod Seeking
 pub mod Shown
 pub mod Steps
 pub mod Trees
+pub mod Unput
 pub mod Writes
 pub mod Freezing
 pub mod Scanning

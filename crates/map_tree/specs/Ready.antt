@@ -1,6 +1,5 @@
 -- What a chunk needs before the upper half of a child is put in it.
-use Rattle.std.specs.Prelude.{ℕ, ◌+◌, ◌<◌, ◌≤◌, List, Option, IsSome, length, Box, vec_capacity}
-use Rattle.std.specs.declared.alloc.Global.{Global}
+use Rattle.std.specs.Prelude.{ℕ, ◌+◌, ◌<◌, ◌≤◌, List, Option, IsSome, length, vec_capacity}
 use Rattle.group_history.specs.Map.{Bytes}
 use Rattle.map_tree.specs.Halves.{AreNinth}
 use Rattle.map_tree.specs.Nodes.{Kid}

@@ -1,8 +1,7 @@
 //! New chunks of a draft.
-ghost use Rattle.std.specs.Prelude.{◌≡◌, [], nat_lt};
+ghost use Rattle.std.specs.Prelude.{◌≡◌, []};
 
 use super::{Body, Node};
-use crate::entries::MOST;
 use crate::keys::NodeKeys;
 use std::alloc::Global;
 
@@ -18,13 +17,6 @@ impl Node {
             keys: NodeKeys::own(Vec::new(alloc)),
             body: Body::Leaf(Vec::new(alloc)),
         }
-    }
-
-    /// Whether one more entry fits in the chunk.
-    pub(crate) fn is_open(&self) -> bool
-        ensures { result ≡ nat_lt self.now.entries 16 }
-    {
-        self.keys.as_slice().len() < MOST
     }
 
     /// How deep the chunk is.

@@ -34,9 +34,8 @@ impl Node {
         ensures err { OnErr result (self.new ≡ self.old) }
         ensures stopped { IfErr result (λ s. (s ≡ NoMemory) ⊎ C.stops s) }
     {
-        let value = value.clone()?;
         if there {
-            return self.replace(alloc, chunks, key, value);
+            return self.replace(alloc, chunks, key, value.clone()?);
         }
         let key = Text::new(alloc, key)?;
         self.put_root(alloc, chunks, &key, value)

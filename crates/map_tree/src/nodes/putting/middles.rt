@@ -54,6 +54,7 @@ pub(crate) fn finish(
     ensures shape { Finished depth copies (with_half place half (paired keys.old.texts kids.old.items)) keys.new.texts kids.new.items result }
     ensures fresh { kids_fresh kids.new.items + half_fresh result ≤ kids_fresh kids.old.items + half_fresh half + 1 }
     ensures entries { HasKept (length keys.old.texts) (length keys.new.texts) result }
+    ensures whole { half ≡ None → result ≡ None }
 {
     let Some(half) = half else {
         return None;

@@ -12,7 +12,7 @@ ghost use Rattle.map_tree.specs.Counts.{IsWideChunk};
 
 use super::super::homes::{housed, take_home};
 use super::super::{Body, Child, Node};
-use super::Half;
+use super::{Half, Unput};
 use crate::chunks::Chunks;
 use crate::entries::{MOST, Spare, take_spare};
 use crate::keys::NodeKeys;
@@ -67,18 +67,18 @@ fn root_above(lower: Box<Node>, half: Half, first: Text, room: Spare<Child>) -> 
 }
 
 impl Node {
-    /// Puts a row in the map whose root the chunk is. Only a root that is full may be split, and
-    /// takes the room of a new one.
+    /// Puts a row in the map whose root the chunk is. Only where it can't be put otherwise, the root is
+    /// split.
     pub(crate) fn put_root<C: Chunks>(
         &mut self,
         alloc: Global,
         chunks: &mut C,
         key: &Text,
-        value: Json,
+        value: &Json,
     ) -> Result<(), Stop>
         requires { IsTree (shown (C.contents chunks.old) self.old.pieces) }
         ensures grown { IsPrefix (C.contents chunks.old) (C.contents chunks.new) }
-        ensures done { OnOk result (shown (C.contents chunks.new) self.new.pieces ≡ Some (finite.put (slice_cmp nat_cmp) key.now value (rows_or (shown (C.contents chunks.old) self.old.pieces)))) }
+        ensures done { OnOk result (shown (C.contents chunks.new) self.new.pieces ≡ Some (finite.put (slice_cmp nat_cmp) key.now value.now (rows_or (shown (C.contents chunks.old) self.old.pieces)))) }
         ensures few { OnOk result (self.new.fresh ≤ self.old.fresh + 2 * self.old.depth) }
         ensures deep { OnOk result ((self.old.depth ≤ self.new.depth) × (self.new.depth ≤ self.old.depth + 1)) }
         ensures wide { IsWideChunk self.old → OnOk result (IsWideChunk self.new) }
@@ -89,17 +89,44 @@ impl Node {
         if self.depth == u64::MAX {
             return Err(Stop::NoMemory);
         }
+        match self.put(alloc, chunks, key, value, 1, false) {
+            Ok(_) => return Ok(()),
+            Err(Unput::Full) => return self.put_split(alloc, chunks, key, value),
+            Err(Unput::Stopped(stop)) => return Err(stop),
+        }
+    }
+
+    // Puts a row, where the root may be split.
+    fn put_split<C: Chunks>(
+        &mut self,
+        alloc: Global,
+        chunks: &mut C,
+        key: &Text,
+        value: &Json,
+    ) -> Result<(), Stop>
+        requires tree { IsTree (shown (C.contents chunks.old) self.old.pieces) }
+        requires depth { self.old.depth + 1 < 2 ^ 64 }
+        ensures grown { IsPrefix (C.contents chunks.old) (C.contents chunks.new) }
+        ensures done { OnOk result (shown (C.contents chunks.new) self.new.pieces ≡ Some (finite.put (slice_cmp nat_cmp) key.now value.now (rows_or (shown (C.contents chunks.old) self.old.pieces)))) }
+        ensures few { OnOk result (self.new.fresh ≤ self.old.fresh + 2 * self.old.depth) }
+        ensures deep { OnOk result ((self.old.depth ≤ self.new.depth) × (self.new.depth ≤ self.old.depth + 1)) }
+        ensures wide { IsWideChunk self.old → OnOk result (IsWideChunk self.new) }
+        ensures err { OnErr result (self.new ≡ self.old) }
+        ensures stopped { IfErr result (λ s. (s ≡ NoMemory) ⊎ C.stops s) }
+    {
         let first = least_key(self.keys.as_slice(), key)?;
         let len = self.keys.as_slice().len();
         let room = take_spare(alloc, len)?;
         let home = take_home(alloc, len)?;
-        match self.put(alloc, chunks, key, value, 1)? {
-            None => return Ok(()),
-            Some(half) => {
+        match self.put(alloc, chunks, key, value, 1, true) {
+            Ok(None) => return Ok(()),
+            Ok(Some(half)) => {
                 let lower = housed(home, mem::replace(self, Node::empty(alloc)));
                 *self = root_above(lower, half, first.unwrap(), room);
                 return Ok(());
             }
+            Err(Unput::Stopped(stop)) => return Err(stop),
+            Err(Unput::Full) => unreachable!(),
         }
     }
 }

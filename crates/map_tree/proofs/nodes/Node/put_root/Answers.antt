@@ -1,90 +1,25 @@
-use Rattle.std.proofs.Common.{◌≡◌, ◌∙◌, ◌++◌, ◌≤◌, ap, sym, subst, Some, nat_cmp, true, arith, inr, length, refl}
-use Rattle.std.specs.Prelude.{IsSome}
+use Rattle.std.proofs.Common.{◌∙◌, ap, sym, subst, nat_cmp, Some}
 use Rattle.std.specs.Cmp.Lexicographic.{slice_cmp}
 use Rattle.std.specs.FinMap as finite
-use Rattle.group_history.specs.Spelling.{begins_with}
-use Rattle.map_tree.specs.Counts.{half_fresh, HasKept}
-use Rattle.map_tree.specs.Halves.{half_pieces, IsHalf, least}
-use Rattle.map_tree.specs.Nodes.{HeadIs}
-use Rattle.map_tree.specs.Shown.{Seen, shown, rows_or}
-use Rattle.map_tree.proofs.CountLemmas.{wide_kept}
-use Rattle.map_tree.proofs.JoinLemmas.{some_is}
-use Rattle.map_tree.proofs.LeafLemmas.{put-strict}
-use Rattle.map_tree.proofs.OpenLemmas.{known}
-use Rattle.map_tree.proofs.RootLemmas.{two, begins_least}
+use Rattle.map_tree.specs.Shown.{Seen, shown, rows_or, IsTree}
+use Rattle.map_tree.proofs.AnswerLemmas.{on_ok}
+use Rattle.map_tree.proofs.ChangeLemmas.{shown-kept}
+use Rattle.map_tree.proofs.OpenLemmas.{known, tree_of}
 use Rattle.map_tree.proofs.nodes.Node.put_root.Goals as goal
 
-pub root_above-requires-clause-head : goal.root_above-requires-clause-head
-root_above-requires-clause-head g c =
+pub put_split-requires-clause-tree : goal.put_split-requires-clause-tree
+put_split-requires-clause-tree g c =
     let p = g.C.Chunks.contents c.args.chunks.now in
     let q = g.C.Chunks.contents c.put.new.chunks in
-    let key = c.args.key.now in
     let n = known (shown p c.args.self.now.pieces) c.requires in
-    let rows = finite.put (slice_cmp nat_cmp) key c.args.value n.rows in
-    let e : shown q (c.put.new.self.pieces ++ c.in-Some.half.node.value.pieces) ≡ Some rows =
-    ap (λ h. shown q (c.put.new.self.pieces ++ half_pieces h)) (sym c.in-Some.is) ∙ c.in_ok-put.ensures.done ∙ ap (λ z. Some (finite.put (slice_cmp nat_cmp) key c.args.value (rows_or z))) n.is in
-    let hf : IsHalf 1 c.args.self.now.depth (Some c.in-Some.half) = subst (IsHalf 1 c.args.self.now.depth) c.in-Some.is c.in_ok-put.ensures.half in
-    let b = begins_least p c.self.inside.depth c.self.inside.keys.texts c.self.inside.body n.rows key c.args.value c.self.invariant (ap (shown p) (ap (λ (s : Seen). s.pieces) c.self.view_is) ∙ n.is) in
-    let kept : HasKept c.args.self.now.entries c.put.new.self.entries (Some c.in-Some.half) = subst (HasKept c.args.self.now.entries c.put.new.self.entries) c.in-Some.is c.in_ok-put.ensures.entries in
-    let wide : 16 ≤ length c.as_slice.result.now = omega (arith, kept.0, ap (λ (s : Seen). s.entries) c.self.view_is, ap length c.as_slice.ensures) in
-    let f : c.unwrap.result ≡ least key c.self.inside.keys.texts = some_is (sym c.unwrap.ensures ∙ c.in_ok-first.ensures wide) ∙ ap (least key) c.as_slice.ensures in
-    let t = two q c.unwrap.result hf.1.0 c.put.new.self.pieces c.in-Some.half.node.value.pieces rows e (put-strict key c.args.value n.rows n.order)
-    (subst (λ w. begins_with w rows ≡ true) (sym f) b) c.in_ok-put.ensures.filled hf.1.1 in
-    subst (λ (s : Seen). HeadIs c.unwrap.result s.pieces) (sym (c.housed-lower.ensures ∙ c.replace.ensures.value)) t.head
+    let here = shown-kept p q c.args.self.now.pieces n.rows c.put.ensures.grown n.is in
+    subst (λ (s : Seen). IsTree (shown q s.pieces)) (sym c.in-Err-Full.ensures.err) (tree_of (shown q c.args.self.now.pieces) n.rows here n.order)
 
-pub root_above-requires-clause-order : goal.root_above-requires-clause-order
-root_above-requires-clause-order g c =
+pub returns-in-Err-Full-clause-done : goal.returns-in-Err-Full-clause-done
+returns-in-Err-Full-clause-done g c =
     let p = g.C.Chunks.contents c.args.chunks.now in
     let q = g.C.Chunks.contents c.put.new.chunks in
-    let key = c.args.key.now in
     let n = known (shown p c.args.self.now.pieces) c.requires in
-    let rows = finite.put (slice_cmp nat_cmp) key c.args.value n.rows in
-    let e : shown q (c.put.new.self.pieces ++ c.in-Some.half.node.value.pieces) ≡ Some rows =
-    ap (λ h. shown q (c.put.new.self.pieces ++ half_pieces h)) (sym c.in-Some.is) ∙ c.in_ok-put.ensures.done ∙ ap (λ z. Some (finite.put (slice_cmp nat_cmp) key c.args.value (rows_or z))) n.is in
-    let hf : IsHalf 1 c.args.self.now.depth (Some c.in-Some.half) = subst (IsHalf 1 c.args.self.now.depth) c.in-Some.is c.in_ok-put.ensures.half in
-    let b = begins_least p c.self.inside.depth c.self.inside.keys.texts c.self.inside.body n.rows key c.args.value c.self.invariant (ap (shown p) (ap (λ (s : Seen). s.pieces) c.self.view_is) ∙ n.is) in
-    let kept : HasKept c.args.self.now.entries c.put.new.self.entries (Some c.in-Some.half) = subst (HasKept c.args.self.now.entries c.put.new.self.entries) c.in-Some.is c.in_ok-put.ensures.entries in
-    let wide : 16 ≤ length c.as_slice.result.now = omega (arith, kept.0, ap (λ (s : Seen). s.entries) c.self.view_is, ap length c.as_slice.ensures) in
-    let f : c.unwrap.result ≡ least key c.self.inside.keys.texts = some_is (sym c.unwrap.ensures ∙ c.in_ok-first.ensures wide) ∙ ap (least key) c.as_slice.ensures in
-    let t = two q c.unwrap.result hf.1.0 c.put.new.self.pieces c.in-Some.half.node.value.pieces rows e (put-strict key c.args.value n.rows n.order)
-    (subst (λ w. begins_with w rows ≡ true) (sym f) b) c.in_ok-put.ensures.filled hf.1.1 in
-    t.order
-
-pub returns-in-None-clause-wide : goal.returns-in-None-clause-wide
-returns-in-None-clause-wide g c w = wide_kept c.args.self.now c.put.new.self c.in_ok-put.field-0 c.in-None.is c.put.ensures.depth c.in_ok-put.ensures.entries w
-
-pub returns-in-Some-clause-few : goal.returns-in-Some-clause-few
-returns-in-Some-clause-few g c =
-    omega (arith, c.root_above.ensures.fresh, ap (λ (s : Seen). s.fresh) c.root_above-in-Some.view_is, ap (λ (s : Seen). s.fresh) (c.housed-lower.ensures ∙ c.replace.ensures.value), c.in_ok-put.ensures.fresh, ap half_fresh c.in-Some.is)
-
-pub returns-in-Some-clause-deep : goal.returns-in-Some-clause-deep
-returns-in-Some-clause-deep g c =
-    let d = ap (λ (s : Seen). s.depth) c.root_above-in-Some.view_is ∙ c.root_above.ensures.depth in
-    let e = ap (λ (s : Seen). s.depth) (c.housed-lower.ensures ∙ c.replace.ensures.value) ∙ c.put.ensures.depth in
-    (omega (arith, d, e), omega (arith, d, e))
-
-pub returns-in-Some-clause-wide : goal.returns-in-Some-clause-wide
-returns-in-Some-clause-wide g c w = let n = ap (λ (s : Seen). s.entries) c.root_above-in-Some.view_is ∙ c.root_above.ensures.entries in inr (omega (arith, n))
-
-pub root_above-requires-clause-keys : goal.root_above-requires-clause-keys
-root_above-requires-clause-keys g c =
-    let kept : HasKept c.args.self.now.entries c.put.new.self.entries (Some c.in-Some.half) = subst (HasKept c.args.self.now.entries c.put.new.self.entries) c.in-Some.is c.in_ok-put.ensures.entries in
-    let full : 16 ≤ length c.as_slice-len.result.now = omega (arith, kept.0, ap (λ (s : Seen). s.entries) c.self.view_is, ap length c.as_slice-len.ensures) in
-    (c.in_ok-room.ensures.keys, (c.in_ok-room.ensures.room full).0)
-
-pub root_above-requires-clause-kids : goal.root_above-requires-clause-kids
-root_above-requires-clause-kids g c =
-    let kept : HasKept c.args.self.now.entries c.put.new.self.entries (Some c.in-Some.half) = subst (HasKept c.args.self.now.entries c.put.new.self.entries) c.in-Some.is c.in_ok-put.ensures.entries in
-    let full : 16 ≤ length c.as_slice-len.result.now = omega (arith, kept.0, ap (λ (s : Seen). s.entries) c.self.view_is, ap length c.as_slice-len.ensures) in
-    (c.in_ok-room.ensures.entries, (c.in_ok-room.ensures.room full).1)
-
-pub housed-lower-requires : goal.housed-lower-requires
-housed-lower-requires g c =
-    let kept : HasKept c.args.self.now.entries c.put.new.self.entries (Some c.in-Some.half) = subst (HasKept c.args.self.now.entries c.put.new.self.entries) c.in-Some.is c.in_ok-put.ensures.entries in
-    c.in_ok-home.ensures (omega (arith, kept.0, ap (λ (s : Seen). s.entries) c.self.view_is, ap length c.as_slice-len.ensures))
-
-pub unwrap-requires : goal.unwrap-requires
-unwrap-requires g c =
-    let kept : HasKept c.args.self.now.entries c.put.new.self.entries (Some c.in-Some.half) = subst (HasKept c.args.self.now.entries c.put.new.self.entries) c.in-Some.is c.in_ok-put.ensures.entries in
-    let wide : 16 ≤ length c.as_slice.result.now = omega (arith, kept.0, ap (λ (s : Seen). s.entries) c.self.view_is, ap length c.as_slice.ensures) in
-    subst IsSome (sym (c.in_ok-first.ensures wide)) refl
+    let here = shown-kept p q c.args.self.now.pieces n.rows c.put.ensures.grown n.is in
+    on_ok c.put_split.result c.put_split.ensures.done
+    (λ done. done ∙ ap (λ z. Some (finite.put (slice_cmp nat_cmp) c.args.key.now c.args.value.now (rows_or z))) (ap (λ (s : Seen). shown q s.pieces) c.in-Err-Full.ensures.err ∙ here ∙ sym n.is))
