@@ -1,5 +1,5 @@
 -- What a head keeps.
-use Rattle.std.proofs.Common.{◌≡◌, ℕ, zero, suc, ◌+◌, ◌<◌, ◌≤◌, ◌^◌, Bool, true, false, cond, List, [], ◌∷◌, ◌++◌, map, take, get_or, length, Result, Ok, Err, Some, Option, slice_get, refl, sym, ap, ◌∙◌, subst, arith, length-append, append_assoc}
+use Rattle.std.proofs.Common.{◌≡◌, ℕ, zero, suc, ◌+◌, ◌<◌, ◌≤◌, ◌^◌, Bool, true, false, cond, List, [], ◌∷◌, ◌++◌, map, take, get_or, length, Result, Ok, Err, Some, slice_get, refl, sym, ap, ◌∙◌, subst, arith, length-append, append_assoc}
 use Rattle.std.proofs.lemmas.List.{take_more}
 use Rattle.std.specs.declared.cmp.Ordering.{Ordering}
 use Rattle.std.specs.declared.cmp.Ordering.TheVariants.{Less, Equal, Greater}
@@ -18,7 +18,7 @@ use Rattle.group_history.specs.declared.responses.Response.TheVariants as respon
 use Rattle.group_history.specs.declared.mutations.Mutation.{Mutation}
 use Rattle.group_history.specs.Ids.{IdsFollow}
 use Rattle.group_history.specs.Cookies.{Cookie, order_cmp}
-use Rattle.group_history.specs.Map.{Bytes, Entries, same_text, patched}
+use Rattle.group_history.specs.Map.{Bytes, same_text, patched}
 use Rattle.group_history.specs.Naming.{content_of}
 use Rattle.group_history.specs.Pull.{Pull}
 use Rattle.group_history.specs.Pulling.{says_nothing, goes_back, by_order, end_reply, overwritten, unconfirmed, after_pull}

@@ -17,14 +17,13 @@ use Rattle.group_history.specs.Map.{Bytes, Entries}
 use Rattle.group_history.specs.Mutating.{after_mutate}
 use Rattle.group_history.specs.Naming.{content_of}
 use Rattle.group_history.specs.Refs.{stamp_of}
-use Rattle.group_history.specs.Spelling.{Contents, Version, Segment, as_version, version, spelled_by, spelled, version_at, map_at, map_of, segment_at}
-use Rattle.group_history.specs.State.{State, Ids, opening}
+use Rattle.group_history.specs.Spelling.{Contents, Version, as_version, version, spelled_by, spelled, version_at, map_at}
+use Rattle.group_history.specs.State.{Ids, opening}
 use Rattle.group_history.proofs.Folding.{seam, folded_more, length_folded}
 use Rattle.map_tree.specs.Freezing.{with_nodes}
 use Rattle.map_tree.proofs.FreezeLemmas.{nodes-grown}
 use Rattle.commits.proofs.Spelled.{version-grown, map-grown}
 use Rattle.rebase.specs.Chaining.{HasTip}
-use Rattle.rebase.specs.declared.tips.Tip.{Tip}
 use Rattle.rebase.proofs.FixedLemmas.{map-joined}
 
 -- it spells what it makes of those before it

@@ -1,6 +1,5 @@
 -- What a run leaves, and what it replies.
-use Rattle.std.proofs.Common.{◌≡◌, ℕ, Result, Ok, Err, Some, refl, sym, ap, ◌∙◌}
-use Rattle.group_history.specs.declared.mutators.Ran.{Ran}
+use Rattle.std.proofs.Common.{◌≡◌, ℕ, Ok, Err, refl, sym, ap}
 use Rattle.group_history.specs.declared.mutators.Ran.TheVariants as ran
 use Rattle.group_history.specs.declared.refusals.Refusal.TheVariants as refusal
 use Rattle.group_history.specs.Map.{Entries}

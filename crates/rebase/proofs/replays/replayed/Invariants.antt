@@ -1,4 +1,4 @@
-use Rattle.std.proofs.Common.{◌≡◌, length, take}
+use Rattle.std.proofs.Common.{◌≡◌, take}
 use Rattle.group_history.specs.State.{State}
 use Rattle.rebase.specs.Chaining.{IsTip, with_more}
 use Rattle.rebase.specs.Fixing.{staged}

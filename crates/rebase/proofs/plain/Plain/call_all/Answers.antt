@@ -1,4 +1,4 @@
-use Rattle.std.proofs.Common.{arith, is_ok, ap, length, ◌++◌, ◌∷◌, [], length-append}
+use Rattle.std.proofs.Common.{arith, is_ok, ap, length, ◌∷◌, [], length-append}
 use Rattle.rebase.proofs.CallLemmas.{turn, pushed}
 use Rattle.rebase.proofs.plain.Plain.call_all.Goals as goal
 

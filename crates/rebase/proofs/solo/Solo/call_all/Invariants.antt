@@ -1,4 +1,4 @@
-use Rattle.std.proofs.Common.{◌≡◌, ◌≤◌, ◌+◌, map, take, length}
+use Rattle.std.proofs.Common.{◌≡◌, ◌≤◌, map, take, length}
 use Rattle.rebase.specs.Calls.{AreReplies}
 use Rattle.rebase.specs.Replying.{replied}
 use Rattle.rebase.proofs.solo.Solo.call_all.Given as goal
