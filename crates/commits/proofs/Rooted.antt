@@ -1,5 +1,5 @@
 -- What a root reaches, told by one look at a node.
-use Rattle.std.proofs.Common.{◌≡◌, ◌<◌, ◌↔◌, ℕ, List, [], ◌∷◌, map, Option, Some, None, refl, sym, ap, ◌∙◌, subst, slice_get}
+use Rattle.std.proofs.Common.{◌≡◌, ◌<◌, ◌↔◌, ℕ, inr, List, [], ◌∷◌, map, Option, Some, None, refl, sym, ap, ◌∙◌, subst, slice_get}
 use Rattle.std.specs.Prelude.{IsSome}
 use Rattle.std.specs.List.{Contains}
 use mathlib.Core.List.{IsPrefix}
@@ -16,8 +16,10 @@ use Rattle.group_history.specs.Rows.{Rows, keys_of, values_of}
 use Rattle.group_history.specs.Naming.{children, commit_content}
 use Rattle.group_history.specs.Spelling.{Contents, Segment, Version, segment, chunk_in, segment_at, version_at, map_at}
 use Rattle.group_history.proofs.Folding.{prefix_trans}
-use Rattle.commits.specs.Chains.{LiesAt, basis_of, root_of}
-use Rattle.commits.specs.Reach.{Reaches, itself, through}
+use Rattle.commits.specs.declared.chains.Base.{Base}
+use Rattle.commits.specs.declared.chains.Step.{Step}
+use Rattle.commits.specs.Chains.{LiesAt, IsShownAt, HasBase, basis_of, step_of, root_of}
+use Rattle.commits.specs.Reach.{Reaches, IsNamed, itself, through}
 use Rattle.commits.specs.Meeting.{keys_in, IsFirst, HasKey, LiesChunk}
 use Rattle.commits.proofs.Spelled.{made_of, spelled_segment, option_map-some, sized-some, chunk-at, inner-at, local-at, not_both, no_element, version-grown, segment-grown, map-grown}
 use Rattle.commits.proofs.Chained.{some_version, root_read}
@@ -123,6 +125,25 @@ rooted_ends first ns more head at c is pre lies =
     root_child : (c : Commit Ref) → Contains (children (commit_content c)) (stamp_of (root_of c))
     root_child (Snapshot s) = first_here (stamp_of s.root) []
     root_child (Local l) = later_here (stamp_of l.basis) (stamp_of l.root ∷ []) (stamp_of l.root) (first_here (stamp_of l.root) [])
+
+-- the root that a shown commit names is named from a head that reaches the commit
+pub root_named : {H C : Type 0} (chunk : H → Chunk Ref) (commit : C → Commit Ref) (ns : Contents) (head : Ref) (k : ℕ) (c : Commit Ref) → Reaches ns (stamp_of head) k → IsShownAt commit ns k c → IsNamed chunk commit ns head (root_of c)
+root_named chunk commit ns head k c reached at = inr (node.Commit c, k, inr (at.0.0, ap node.Commit at.0.1), reached, at.1, root_there c)
+  where
+    root_there : (c : Commit Ref) → Contains (children (node.Commit c)) (root_of c)
+    root_there (Snapshot s) = first_here s.root []
+    root_there (Local l) = later_here l.basis (l.root ∷ []) l.root (first_here l.root [])
+
+-- the pulled map's root is that of the snapshot
+pub base_named : (c : Commit Ref) (base : Base) → HasBase c base → root_of c ≡ base.pulled
+base_named (Snapshot s) base h = sym (ap (λ (w : Base). w.pulled) h)
+base_named (Local l) base h = absurd h
+
+-- a step leads to the commit before
+pub step_basis : (c : Commit Ref) (s : Step) → step_of c ≡ Some s → basis_of c ≡ Some s.basis
+step_basis (Snapshot c) s h = absurd (cc h)
+step_basis (Local c) s h =
+    let e : (let r : Step = record { mutation = c.mutation; basis = c.basis } in r) ≡ s = cc h in ap (λ (w : Step). Some w.basis) e
 
 pub some_segment : (ns : Contents) (k : ℕ) → IsSome (segment_at ns k) → (s : Segment) × (segment_at ns k ≡ Some s)
 some_segment ns k h = of (segment_at ns k) h

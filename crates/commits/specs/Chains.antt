@@ -17,6 +17,10 @@ use Rattle.commits.specs.declared.chains.Step.{Step}
 abbrev pub LiesAt : Contents → ℕ → Commit Ref → Type 0
 LiesAt ns k c = slice_get ns k ≡ Some (commit_content c)
 
+-- A commit is shown there: it is what one held shows, its references with their slots.
+abbrev pub IsShownAt : {H : Type 0} → (H → Commit Ref) → Contents → ℕ → Commit Ref → Type 0
+IsShownAt {H} commit ns k c = ((held : H) × (c ≡ commit held)) × LiesAt ns k c
+
 -- the commit before it
 abbrev pub basis_of : Commit Ref → Option Ref
 basis_of (Snapshot s) = None

@@ -9,7 +9,7 @@ ghost use Rattle.group_history.specs.State.{confirmed_id};
 ghost use Rattle.group_history.specs.declared.nodes.Commit.{Commit as Committed};
 ghost use Rattle.group_history.specs.declared.refs.Ref.{Ref as Reference};
 ghost use Rattle.group_history.specs.declared.mutators.Stop.TheVariants.{NoMemory};
-ghost use Rattle.commits.specs.Chains.{step_of, basis_of, root_of, own_id, IsSnapshot, IsSnapshotAt, HasBase, HasCookie, LiesAt};
+ghost use Rattle.commits.specs.Chains.{step_of, basis_of, root_of, own_id, IsSnapshot, IsSnapshotAt, HasBase, HasCookie, IsShownAt, LiesAt};
 
 use crate::nodes::{Nodes, ShowsCommit};
 use group_history::{Commit, Cookie, Mutation, Ref, Stop, Text, TextMap};
@@ -119,7 +119,7 @@ fn base_in(commit: &Commit<Ref>) -> Result<Base, AllocError>
 pub fn show_step<N: Nodes>(nodes: &mut N, at: Ref) -> Result<Option<Step>, Stop>
     requires { IsSome (version_at (N.contents nodes.old) (stamp_of at)) }
     ensures grown { IsPrefix (N.contents nodes.old) (N.contents nodes.new) }
-    ensures content { IfOk result (λ step. (c : Committed Reference) × LiesAt (N.contents nodes.new) (stamp_of at) c × (step ≡ step_of c)) }
+    ensures content { IfOk result (λ step. (c : Committed Reference) × IsShownAt N.HeldCommit.shown (N.contents nodes.new) (stamp_of at) c × (step ≡ step_of c)) }
     ensures stopped { IfErr result (λ stop. (stop ≡ NoMemory) ⊎ N.stops stop) }
 {
     let held = nodes.show_commit(at)?;
@@ -132,7 +132,7 @@ pub fn show_step<N: Nodes>(nodes: &mut N, at: Ref) -> Result<Option<Step>, Stop>
 pub fn show_basis<N: Nodes>(nodes: &mut N, at: Ref) -> Result<Option<Ref>, Stop>
     requires { IsSome (version_at (N.contents nodes.old) (stamp_of at)) }
     ensures grown { IsPrefix (N.contents nodes.old) (N.contents nodes.new) }
-    ensures content { IfOk result (λ basis. (c : Committed Reference) × LiesAt (N.contents nodes.new) (stamp_of at) c × (basis ≡ basis_of c)) }
+    ensures content { IfOk result (λ basis. (c : Committed Reference) × IsShownAt N.HeldCommit.shown (N.contents nodes.new) (stamp_of at) c × (basis ≡ basis_of c)) }
     ensures stopped { IfErr result N.stops }
 {
     let held = nodes.show_commit(at)?;
@@ -145,7 +145,7 @@ pub fn show_basis<N: Nodes>(nodes: &mut N, at: Ref) -> Result<Option<Ref>, Stop>
 pub fn show_root<N: Nodes>(nodes: &mut N, at: Ref) -> Result<Ref, Stop>
     requires { IsSome (version_at (N.contents nodes.old) (stamp_of at)) }
     ensures grown { IsPrefix (N.contents nodes.old) (N.contents nodes.new) }
-    ensures content { IfOk result (λ root. (c : Committed Reference) × LiesAt (N.contents nodes.new) (stamp_of at) c × (root ≡ root_of c)) }
+    ensures content { IfOk result (λ root. (c : Committed Reference) × IsShownAt N.HeldCommit.shown (N.contents nodes.new) (stamp_of at) c × (root ≡ root_of c)) }
     ensures stopped { IfErr result N.stops }
 {
     let held = nodes.show_commit(at)?;
@@ -158,7 +158,7 @@ pub fn show_root<N: Nodes>(nodes: &mut N, at: Ref) -> Result<Ref, Stop>
 pub fn show_own_id<N: Nodes>(nodes: &mut N, at: Ref, client: &Text) -> Result<OwnId, Stop>
     requires { IsSome (version_at (N.contents nodes.old) (stamp_of at)) }
     ensures grown { IsPrefix (N.contents nodes.old) (N.contents nodes.new) }
-    ensures content { IfOk result (λ own. (c : Committed Reference) × LiesAt (N.contents nodes.new) (stamp_of at) c × (own.id ≡ own_id client.now c) × (own.basis ≡ basis_of c)) }
+    ensures content { IfOk result (λ own. (c : Committed Reference) × IsShownAt N.HeldCommit.shown (N.contents nodes.new) (stamp_of at) c × (own.id ≡ own_id client.now c) × (own.basis ≡ basis_of c)) }
     ensures stopped { IfErr result N.stops }
 {
     let held = nodes.show_commit(at)?;
@@ -185,7 +185,7 @@ pub fn show_cookie<N: Nodes>(nodes: &mut N, at: Ref) -> Result<Cookie, Stop>
 pub fn show_base<N: Nodes>(nodes: &mut N, at: Ref) -> Result<Base, Stop>
     requires { IsSnapshotAt (N.contents nodes.old) (stamp_of at) }
     ensures grown { IsPrefix (N.contents nodes.old) (N.contents nodes.new) }
-    ensures content { IfOk result (λ base. (c : Committed Reference) × LiesAt (N.contents nodes.new) (stamp_of at) c × HasBase c base) }
+    ensures content { IfOk result (λ base. (c : Committed Reference) × IsShownAt N.HeldCommit.shown (N.contents nodes.new) (stamp_of at) c × HasBase c base) }
     ensures stopped { IfErr result (λ stop. (stop ≡ NoMemory) ⊎ N.stops stop) }
 {
     let held = nodes.show_commit(at)?;

@@ -7,7 +7,7 @@ ghost use Rattle.group_history.specs.declared.nodes.Chunk.{Chunk as Chunked};
 ghost use Rattle.group_history.specs.declared.refs.Ref.{Ref as Reference};
 ghost use Rattle.group_history.specs.declared.mutators.Stop.TheVariants.{NoMemory};
 ghost use Rattle.commits.specs.Meeting.{keys_in, IsFirst, LiesChunk};
-ghost use Rattle.commits.specs.Reach.{Reaches, IsSpelled, stamp_in};
+ghost use Rattle.commits.specs.Reach.{IsNamed, Reaches, IsSpelled, stamp_in};
 
 use crate::chains::{show_basis, show_root};
 use crate::founds::Found;
@@ -81,6 +81,7 @@ pub fn base_root<N: Nodes>(nodes: &mut N, head: Ref) -> Result<Ref, Stop>
     ensures grown { IsPrefix (N.contents nodes.old) (N.contents nodes.new) }
     ensures map { IfOk result (λ root. IsSome (map_at (N.contents nodes.new) (stamp_of root))) }
     ensures reached { IfOk result (λ root. Reaches (N.contents nodes.new) (stamp_of head) (stamp_of root)) }
+    ensures named { IfOk result (IsNamed N.Held.shown N.HeldCommit.shown (N.contents nodes.new) head) }
     ensures stopped { IfErr result N.stops }
 {
     let mut at = head;

@@ -11,6 +11,7 @@ ghost use Rattle.group_history.specs.State.{last_id};
 ghost use Rattle.group_history.specs.Spelling.{Version, version_at, map_at};
 ghost use Rattle.group_history.specs.declared.mutators.Stop.TheVariants.{NoMemory};
 ghost use Rattle.commits.specs.Chains.{IsBase, IsSnapshotAt};
+ghost use Rattle.commits.specs.Reach.{IsNamed, Reaches};
 
 use crate::chains::{Base, show_base, show_basis, show_cookie, show_own_id, show_root, show_step};
 use crate::nodes::Nodes;
@@ -47,6 +48,7 @@ fn descend<N: Nodes>(alloc: Global, nodes: &mut N, head: Ref) -> Result<Descent,
     requires { IsSome (version_at (N.contents nodes.old) (stamp_of head)) }
     ensures grown { IsPrefix (N.contents nodes.old) (N.contents nodes.new) }
     ensures lies { IfOk result (λ d. IsSnapshotAt (N.contents nodes.new) (stamp_of d.snapshot)) }
+    ensures reached { IfOk result (λ d. Reaches (N.contents nodes.new) (stamp_of head) (stamp_of d.snapshot)) }
     ensures state { (v : Version) → version_at (N.contents nodes.old) (stamp_of head) ≡ Some v → IfOk result (λ d. (d.pending.items ≡ v.state.pending) × IsBase (N.contents nodes.new) (stamp_of d.snapshot) v.state) }
     ensures stopped { IfErr result (λ stop. (stop ≡ NoMemory) ⊎ N.stops stop) }
 {
@@ -88,13 +90,14 @@ fn snapshot_of<N: Nodes>(nodes: &mut N, head: Ref) -> Result<Ref, Stop>
     Ok(at)
 }
 
-/// The state of a commit.
+/// The state of a commit. The pulled map's root is the reference that the snapshot names.
 pub fn state_of<N: Nodes>(alloc: Global, nodes: &mut N, head: Ref) -> Result<CommitState, Stop>
     requires { IsSome (version_at (N.contents nodes.old) (stamp_of head)) }
     ensures grown { IsPrefix (N.contents nodes.old) (N.contents nodes.new) }
     ensures cookie { (v : Version) → version_at (N.contents nodes.old) (stamp_of head) ≡ Some v → IfOk result (λ s. s.cookie ≡ v.state.cookie) }
     ensures confirmed { (v : Version) → version_at (N.contents nodes.old) (stamp_of head) ≡ Some v → IfOk result (λ s. s.confirmed ≡ v.state.confirmed) }
     ensures pulled { (v : Version) → version_at (N.contents nodes.old) (stamp_of head) ≡ Some v → IfOk result (λ s. map_at (N.contents nodes.new) (stamp_of s.pulled) ≡ Some v.state.pulled) }
+    ensures named { IfOk result (λ s. IsNamed N.Held.shown N.HeldCommit.shown (N.contents nodes.new) head s.pulled) }
     ensures pending { (v : Version) → version_at (N.contents nodes.old) (stamp_of head) ≡ Some v → IfOk result (λ s. s.pending.items ≡ v.state.pending) }
     ensures stopped { IfErr result (λ stop. (stop ≡ NoMemory) ⊎ N.stops stop) }
 {
@@ -144,11 +147,12 @@ pub fn last_id_of<N: Nodes>(nodes: &mut N, head: Ref, client: &Text) -> Result<u
     Ok(0)
 }
 
-/// The root of the map that queries read at a commit.
+/// The root of the map that queries read at a commit: the reference that the commit names.
 pub fn read_root<N: Nodes>(nodes: &mut N, head: Ref) -> Result<Ref, Stop>
     requires { IsSome (version_at (N.contents nodes.old) (stamp_of head)) }
     ensures grown { IsPrefix (N.contents nodes.old) (N.contents nodes.new) }
     ensures root { (v : Version) → version_at (N.contents nodes.old) (stamp_of head) ≡ Some v → IfOk result (λ root. map_at (N.contents nodes.new) (stamp_of root) ≡ Some v.read) }
+    ensures named { IfOk result (IsNamed N.Held.shown N.HeldCommit.shown (N.contents nodes.new) head) }
     ensures stopped { IfErr result N.stops }
 {
     let root = show_root(nodes, head)?;

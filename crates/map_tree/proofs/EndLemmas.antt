@@ -1,25 +1,29 @@
 -- What chunks with one child each end in.
 use Rattle.std.proofs.Common.{◌≡◌, ◌<◌, ◌≤◌, ◌+◌, ◌-◌, ℕ, zero, suc, false, List, [], ◌∷◌, ◌++◌, Some, None, length, get_or, remove, slice_get, append-nil, refl, sym, ap, ◌∙◌, subst, arith, inl, inr}
 use Rattle.std.specs.Prelude.{IsSome}
+use Rattle.std.specs.List.{Contains}
+use Rattle.std.proofs.lemmas.List.Elements.{Contains-append_cases, Contains-append_left, Contains-append_right}
 use Rattle.group_history.specs.declared.nodes.Chunk.{Chunk}
 use Rattle.group_history.specs.declared.nodes.Chunk.TheVariants as chunked
 use Rattle.group_history.specs.declared.refs.Ref.{Ref}
 use Rattle.group_history.specs.Map.{Bytes}
-use Rattle.group_history.specs.Naming.{chunk_content}
+use Rattle.group_history.specs.Naming.{chunk_content, chunk_children}
 use Rattle.group_history.specs.Refs.{stamp_of}
 use Rattle.group_history.specs.Rows.{Rows, paired}
 use Rattle.group_history.specs.Spelling.{Contents, Segment, segment_at, rows_at}
 use Rattle.map_tree.specs.Copies.{chunk_entries, MayBeDeep}
-use Rattle.map_tree.specs.Ends.{IsWideAt, IsWideNode, only_ref, IsOnlyChild, IsTaken, end_of_pieces, end_of}
+use Rattle.map_tree.specs.Ends.{IsWideAt, IsWideNode, only_ref, part_ref, IsOnlyChild, IsTaken, end_of_pieces, end_of}
+use Rattle.map_tree.specs.Freezing.{AreKept, IsShownChild, part_places, places_of, child_places, kids_places}
 use Rattle.map_tree.specs.Removing.{one_shown}
 use Rattle.map_tree.specs.Nodes.{Kid, child_pieces, kids_pieces, row_pieces, HeadIs, IsChild, AllKids, kids_fresh}
-use Rattle.map_tree.specs.Shown.{Piece, Seen, shown, chunk_rows}
+use Rattle.map_tree.specs.Shown.{Part, value, chunk, Piece, Seen, shown, chunk_rows}
 use Rattle.map_tree.specs.Trees.{is_narrow}
 use Rattle.map_tree.specs.declared.nodes.Child.{Child}
 use Rattle.map_tree.specs.declared.nodes.Child.TheVariants.{Placed, Own}
 use mathlib.Core.List.{IsPrefix}
 use Rattle.map_tree.proofs.ChangeLemmas.{shown-kept}
 use Rattle.map_tree.proofs.JoinLemmas.{split_of, some_is}
+use Rattle.map_tree.proofs.NamedLemmas.{one_here}
 use Rattle.map_tree.proofs.OpenLemmas.{Opened, opened, chunk_rows-at}
 use Rattle.map_tree.proofs.Shelves.{some_of}
 
@@ -154,3 +158,48 @@ heir_taken p q left kid n pre e s t = by kid e t
           t.1,
           omega (arith, t.2, ap kids_fresh e),
         )
+
+-- REFERENCES
+
+only_one : {A : Type 0} (y x : A) → Contains (y ∷ []) x → y ≡ x
+only_one y x (zero, low, e) = e
+only_one y x (suc k, low, e) = absurd (omega arith)
+
+pub only_ref-child : (c : Chunk Ref) (r : Ref) → only_ref c ≡ Some r → Contains (chunk_children c) r
+only_ref-child (chunked.Leaf rows) r h = absurd (cc h)
+only_ref-child (chunked.Inner []) r h = absurd (cc h)
+only_ref-child (chunked.Inner (e ∷ [])) r h = let s : e.1 ≡ r = cc h in subst (Contains (e.1 ∷ [])) s (one_here e.1)
+only_ref-child (chunked.Inner (e ∷ f ∷ es)) r h = absurd (cc h)
+
+pub kept-one : {H : Type 0} (show : H → Chunk Ref) (ns : Contents) (r : Ref) → IsShownChild show ns r → AreKept show ns [] (r ∷ [])
+kept-one show ns r h at i = inr (subst (IsShownChild show ns) (only_one r at i) h)
+
+pub kept-start : {H : Type 0} (show : H → Chunk Ref) (ns : Contents) (old more new : List Ref) → ((at : Ref) → Contains old at → Contains more at) → AreKept show ns old new → AreKept show ns more new
+kept-start show ns old more new w h at i = elim (h at i) [ inl p ↦ inl (w at p) | inr q ↦ inr q ]
+
+pieces-end : (ps : List Piece) (at : Ref) → end_of_pieces ps ≡ Some at → Contains (places_of ps) at
+pieces-end [] at h = absurd (cc h)
+pieces-end (q ∷ []) at h = by q.1 h
+  where
+    by : (x : Part) → part_ref x ≡ Some at → Contains (part_places x ++ []) at
+    by (value v) h = absurd (cc h)
+    by (chunk d r) h = let s : r ≡ at = cc h in subst (Contains (r ∷ [])) s (one_here r)
+pieces-end (q ∷ r ∷ ps) at h = absurd (cc h)
+
+-- the placed chunk that a child ends in stands among its places
+pub kid-end : (kid : Child) (end : Ref) → end_of kid ≡ Some end → (at : Ref) → Contains (end ∷ []) at → Contains (child_places kid) at
+kid-end (Placed r) end h at i = let s : r ≡ end = cc h in subst (λ w. Contains (w ∷ []) at) (sym s) i
+kid-end (Own n) end h at i = subst (Contains (places_of n.value.pieces)) (only_one end at i) (pieces-end n.value.pieces end h)
+
+pub taken-places : (kid : Child) (n : Seen) → IsTaken kid n → (at : Ref) → Contains (places_of n.pieces) at → Contains (child_places kid) at
+taken-places (Placed r) n t at h = absurd t
+taken-places (Own m) n t at h = subst (λ ps. Contains (places_of ps) at) t.0 h
+
+pub kids-removed : (kids : List Child) (i : ℕ) (at : Ref) → Contains (kids_places (remove kids i)) at → Contains (kids_places kids) at
+kids-removed [] zero at h = h
+kids-removed [] (suc i) at h = h
+kids-removed (k ∷ kids) zero at h = Contains-append_right (child_places k) (kids_places kids) at h
+kids-removed (k ∷ kids) (suc i) at h = elim (Contains-append_cases (child_places k) (kids_places (remove kids i)) at h) [
+  | inl p ↦ Contains-append_left (child_places k) (kids_places kids) at p
+  | inr q ↦ Contains-append_right (child_places k) (kids_places kids) at (kids-removed kids i at q)
+]

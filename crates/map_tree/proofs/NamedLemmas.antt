@@ -1,18 +1,27 @@
 -- How the nodes that a freeze appends name their children.
-use Rattle.std.proofs.Common.{◌≡◌, ◌<◌, ◌≤◌, ℕ, zero, suc, inl, inr, List, [], ◌∷◌, ◌++◌, length, refl, sym, ap, ◌∙◌, subst, arith, append_assoc, Result, Ok, Err, IfOk}
+use Rattle.std.proofs.Common.{◌≡◌, ◌<◌, ◌≤◌, ◌⊎◌, ◌+◌, ◌-◌, ℕ, zero, suc, inl, inr, List, [], ◌∷◌, ◌++◌, Option, Some, None, length, map, slice_get, get_or, set, insert, refl, sym, ap, ◌∙◌, subst, arith, append_assoc, Result, Ok, Err, IfOk}
 use Rattle.std.specs.List.{Contains}
 use Rattle.std.proofs.lemmas.List.Elements.{Contains-append_cases, Contains-append_left, Contains-append_right}
 use Rattle.group_history.specs.declared.nodes.Node.{Node}
 use Rattle.group_history.specs.declared.refs.Ref.{Ref}
 use Rattle.group_history.specs.Map.{Bytes}
-use Rattle.group_history.specs.Naming.{children}
+use Rattle.group_history.specs.Naming.{children, chunk_content, chunk_children}
+use Rattle.group_history.specs.declared.nodes.Chunk.{Chunk}
+use Rattle.group_history.specs.declared.nodes.Chunk.TheVariants.{Leaf, Inner}
+use mathlib.Core.List.{IsPrefix}
 use Rattle.group_history.specs.Refs.{stamp_of, slot_of}
-use Rattle.group_history.specs.Rows.{paired, values_of}
+use Rattle.group_history.specs.Rows.{Rows, paired, values_of}
+use Rattle.group_history.specs.Spelling.{Contents}
 use Rattle.group_history.proofs.Folding.{append_nil}
 use Rattle.group_history.proofs.Pairs.{values_of-paired}
-use Rattle.map_tree.specs.Freezing.{part_places, places_of, child_places, kids_places, IsNamed, AreNamed, HaveNamed, AddsNamed}
-use Rattle.map_tree.specs.Nodes.{kids_pieces}
-use Rattle.map_tree.specs.Shown.{Piece}
+use Rattle.map_tree.specs.Copies.{chunk_pieces}
+use Rattle.map_tree.specs.Freezing.{IsShownChild, AreKept, part_places, places_of, child_places, kids_places, IsNamed, AreNamed, HaveNamed, AddsNamed}
+use Rattle.map_tree.specs.Halves.{half_pieces, with_half}
+use Rattle.map_tree.specs.Nodes.{Kid, Kids, body_pieces, child_pieces, kids_pieces, row_pieces}
+use Rattle.map_tree.specs.declared.nodes.Body.{Body}
+use Rattle.map_tree.specs.declared.nodes.Body.TheVariants as inner
+use Rattle.map_tree.specs.declared.nodes.putting.Half.{Half}
+use Rattle.map_tree.specs.Shown.{Piece, chunk}
 use Rattle.map_tree.specs.declared.nodes.Child.{Child}
 use Rattle.map_tree.specs.declared.nodes.Child.TheVariants.{Placed, Own}
 
@@ -102,3 +111,130 @@ inner-named first places keys ats es l e h = subst (AreNamed first places) (sym 
 pub drafted-named : {E : Type 0} (first : ℕ) (places : List Ref) (r : Result Ref E) → IfOk r (λ at. (first ≤ stamp_of at) × (slot_of at ≡ 0)) → IfOk r (IsNamed first places)
 drafted-named first places (Ok at) d = inr d
 drafted-named first places (Err e) d = tt
+
+-- REFERENCES OF A CHANGED TREE
+
+get_more : {A : Type 0} (xs ys : List A) (k : ℕ) (x : A) → slice_get xs k ≡ Some x → slice_get (xs ++ ys) k ≡ Some x
+get_more [] ys k x h = absurd (cc h)
+get_more (y ∷ xs) ys zero x h = h
+get_more (y ∷ xs) ys (suc k) x h = get_more xs ys k x h
+
+pub kept-none : {H : Type 0} (show : H → Chunk Ref) (ns : Contents) (old : List Ref) → AreKept show ns old []
+kept-none show ns old at i = absurd (none_here at i)
+
+pub kept-same : {H : Type 0} (show : H → Chunk Ref) (ns : Contents) (old : List Ref) → AreKept show ns old old
+kept-same show ns old at i = inl i
+
+pub kept-grown : {H : Type 0} (show : H → Chunk Ref) (ns more : Contents) (old new : List Ref) → IsPrefix ns more → AreKept show ns old new → AreKept show more old new
+kept-grown show ns more old new pre h at i = elim (h at i) [
+  | inl p ↦ inl p
+  | inr q ↦ inr (q.0, q.1, subst (λ (w : Contents). slice_get w q.1 ≡ Some (chunk_content (show q.0))) pre.1 (get_more ns pre.0 q.1 (chunk_content (show q.0)) q.2), q.3)
+]
+
+pub kept-trans : {H : Type 0} (show : H → Chunk Ref) (ns : Contents) (old mid new : List Ref) → AreKept show ns old mid → AreKept show ns mid new → AreKept show ns old new
+kept-trans show ns old mid new g h at i = elim (h at i) [ inl p ↦ g at p | inr q ↦ inr q ]
+
+pub kept-within : {H : Type 0} (show : H → Chunk Ref) (ns : Contents) (old new more : List Ref) → ((at : Ref) → Contains new at → Contains more at) → AreKept show ns old more → AreKept show ns old new
+kept-within show ns old new more w h at i = h at (w at i)
+
+-- what stands in no chunk of the old ones was shown
+pub kept-from_none : {H : Type 0} (show : H → Chunk Ref) (ns : Contents) (old new : List Ref) → AreKept show ns [] new → AreKept show ns old new
+kept-from_none show ns old new h at i = elim (h at i) [ inl p ↦ absurd (none_here at p) | inr q ↦ inr q ]
+
+pub places-rows : (rows : Rows) → places_of (row_pieces rows) ≡ []
+places-rows [] = refl
+places-rows (r ∷ rows) = places-rows rows
+
+-- a child's places are among those of all children
+pub kid-within : (kids : List Child) (i : ℕ) (c : Child) → i < length kids → c ≡ get_or kids i c → (at : Ref) → Contains (child_places c) at → Contains (kids_places kids) at
+kid-within [] i c l e at h = absurd (omega arith)
+kid-within (k ∷ kids) zero c l e at h = Contains-append_left (child_places k) (kids_places kids) at (subst (λ (w : Child). Contains (child_places w) at) e h)
+kid-within (k ∷ kids) (suc i) c l e at h = Contains-append_right (child_places k) (kids_places kids) at (kid-within kids i c (omega arith) e at h)
+
+kids-set : (kids : List Child) (i : ℕ) (y : Child) (at : Ref) → Contains (kids_places (set kids i y)) at → Contains (kids_places kids) at ⊎ Contains (child_places y) at
+kids-set [] i y at h = inl h
+kids-set (k ∷ kids) zero y at h = elim (Contains-append_cases (child_places y) (kids_places kids) at h) [
+  | inl p ↦ inr p
+  | inr q ↦ inl (Contains-append_right (child_places k) (kids_places kids) at q)
+]
+kids-set (k ∷ kids) (suc i) y at h = elim (Contains-append_cases (child_places k) (kids_places (set kids i y)) at h) [
+  | inl p ↦ inl (Contains-append_left (child_places k) (kids_places kids) at p)
+  | inr q ↦ elim (kids-set kids i y at q) [ inl r ↦ inl (Contains-append_right (child_places k) (kids_places kids) at r) | inr r ↦ inr r ]
+]
+
+-- a child changed in its place, with what else came of it
+pub kept-kid : {H : Type 0} (show : H → Chunk Ref) (ns : Contents) (kids : List Child) (i : ℕ) (c : Child) (n : Kid) (pieces : List Piece) → i < length kids → c ≡ get_or kids i c
+    → AreKept show ns (child_places c) (places_of (n.value.pieces ++ pieces)) → AreKept show ns (kids_places kids) (kids_places (set kids i (Own n)) ++ places_of pieces)
+kept-kid show ns kids i c n pieces l e h at t = elim (Contains-append_cases (kids_places (set kids i (Own n))) (places_of pieces) at t) [
+  | inl p ↦ elim (kids-set kids i (Own n) at p) [
+    | inl q ↦ inl q
+    | inr q ↦ below (h at (subst (λ w. Contains w at) (sym (places-joined n.value.pieces pieces)) (Contains-append_left (places_of n.value.pieces) (places_of pieces) at q)))
+  ]
+  | inr p ↦ below (h at (subst (λ w. Contains w at) (sym (places-joined n.value.pieces pieces)) (Contains-append_right (places_of n.value.pieces) (places_of pieces) at p)))
+]
+  where
+    below : Contains (child_places c) at ⊎ IsShownChild show ns at → Contains (kids_places kids) at ⊎ IsShownChild show ns at
+    below (inl a) = inl (kid-within kids i c l e at a)
+    below (inr b) = inr b
+
+child-pieces : (below : ℕ) (k : Bytes) (c : Child) → places_of (child_pieces below k c) ≡ child_places c
+child-pieces below k (Placed at) = refl
+child-pieces below k (Own n) = refl
+
+in-front : (below : ℕ) (es : Kids) (e : Bytes × Child) (at : Ref) → Contains (places_of (kids_pieces below (e ∷ es))) at → Contains (places_of (kids_pieces below es)) at ⊎ Contains (child_places e.1) at
+in-front below es e at h =
+    elim (Contains-append_cases (places_of (child_pieces below e.0 e.1)) (places_of (kids_pieces below es)) at (subst (λ w. Contains w at) (places-joined (child_pieces below e.0 e.1) (kids_pieces below es)) h)) [
+      | inl p ↦ inr (subst (λ w. Contains w at) (child-pieces below e.0 e.1) p)
+      | inr q ↦ inl q
+    ]
+
+entries-inserted : (below : ℕ) (es : Kids) (n : ℕ) (e : Bytes × Child) (at : Ref) → Contains (places_of (kids_pieces below (insert es n e))) at
+    → Contains (places_of (kids_pieces below es)) at ⊎ Contains (child_places e.1) at
+entries-inserted below es zero e at h = in-front below es e at h
+entries-inserted below [] (suc n) e at h = in-front below [] e at h
+entries-inserted below (x ∷ es) (suc n) e at h =
+    elim (Contains-append_cases (places_of (child_pieces below x.0 x.1)) (places_of (kids_pieces below (insert es n e))) at (subst (λ w. Contains w at) (places-joined (child_pieces below x.0 x.1) (kids_pieces below (insert es n e))) h)) [
+      | inl p ↦ inl (subst (λ w. Contains w at) (sym (places-joined (child_pieces below x.0 x.1) (kids_pieces below es))) (Contains-append_left (places_of (child_pieces below x.0 x.1)) (places_of (kids_pieces below es)) at p))
+      | inr q ↦ elim (entries-inserted below es n e at q) [
+        | inl r ↦ inl (subst (λ w. Contains w at) (sym (places-joined (child_pieces below x.0 x.1) (kids_pieces below es))) (Contains-append_right (places_of (child_pieces below x.0 x.1)) (places_of (kids_pieces below es)) at r))
+        | inr r ↦ inr r
+      ]
+    ]
+
+-- children with the upper half of one put behind it
+pub half-places : (below i : ℕ) (half : Option Half) (keys : List Bytes) (kids : List Child) → length kids ≡ length keys → (at : Ref) → Contains (places_of (kids_pieces below (with_half i half (paired keys kids)))) at
+    → Contains (kids_places kids ++ places_of (half_pieces half)) at
+half-places below i None keys kids l at h = Contains-append_left (kids_places kids) [] at (subst (λ w. Contains w at) (places-kids below keys kids l) h)
+half-places below i (Some t) keys kids l at h = elim (entries-inserted below (paired keys kids) (i + 1) (get_or t.firsts.items 0 [], Own t.node) at h) [
+  | inl p ↦ Contains-append_left (kids_places kids) (places_of t.node.value.pieces) at (subst (λ w. Contains w at) (places-kids below keys kids l) p)
+  | inr q ↦ Contains-append_right (kids_places kids) (places_of t.node.value.pieces) at q
+]
+
+-- the placed chunks of a copy are the children of the copied one
+pub copy-places : (depth : ℕ) (c : Chunk Ref) (at : Ref) → Contains (places_of (chunk_pieces depth c)) at → Contains (chunk_children c) at
+copy-places depth (Leaf rows) at h = absurd (none_here at (subst (λ w. Contains w at) (places-rows rows) h))
+copy-places depth (Inner kids) at h = subst (λ w. Contains w at) (all kids) h
+  where
+    all : (es : List (Bytes × Ref)) → places_of (map (λ e. (e.0, chunk (depth - 1) e.1)) es) ≡ values_of es
+    all [] = refl
+    all (e ∷ es) = ap (λ w. e.1 ∷ w) (all es)
+
+-- the same child without what else came of it
+pub kept-child : {H : Type 0} (show : H → Chunk Ref) (ns : Contents) (kids : List Child) (i : ℕ) (c : Child) (n : Kid) → i < length kids → c ≡ get_or kids i c
+    → AreKept show ns (child_places c) (places_of n.value.pieces) → AreKept show ns (kids_places kids) (kids_places (set kids i (Own n)))
+kept-child show ns kids i c n l e h at t = elim (kids-set kids i (Own n) at t) [
+  | inl q ↦ inl q
+  | inr q ↦ elim (h at q) [ inl a ↦ inl (kid-within kids i c l e at a) | inr b ↦ inr b ]
+]
+
+pub kept-front : {H : Type 0} (show : H → Chunk Ref) (ns : Contents) (old : List Ref) (a b : List Piece) → AreKept show ns old (places_of (a ++ b)) → AreKept show ns old (places_of a)
+kept-front show ns old a b h at i = h at (subst (λ w. Contains w at) (sym (places-joined a b)) (Contains-append_left (places_of a) (places_of b) at i))
+
+-- pieces that are those of children, with an upper half among them
+pub kept-finished : {H : Type 0} (show : H → Chunk Ref) (ns : Contents) (old : List Ref) (below i : ℕ) (half : Option Half) (keys : List Bytes) (kids : List Child) (ps : List Piece) → length kids ≡ length keys
+    → ps ≡ kids_pieces below (with_half i half (paired keys kids)) → AreKept show ns old (kids_places kids ++ places_of (half_pieces half)) → AreKept show ns old (places_of ps)
+kept-finished show ns old below i half keys kids ps l e h at t = h at (half-places below i half keys kids l at (subst (λ w. Contains (places_of w) at) e t))
+
+-- the places of an inner chunk are those of its children
+pub own-places : (depth : ℕ) (keys : List Bytes) (body : Body) (kids : _) (pieces : List Piece) → body_pieces depth keys body ≡ pieces → body ≡ inner.Inner kids → length kids.items ≡ length keys → places_of pieces ≡ kids_places kids.items
+own-places depth keys body kids pieces v e l = ap places_of (sym v ∙ ap (body_pieces depth keys) e) ∙ places-kids (depth - 1) keys kids.items l

@@ -1,10 +1,11 @@
 -- A draft's chunks written down as nodes: what shows rows in the draft spells them once its nodes are placed, and each node names
 -- its children by the draft's own names, or as the draft names what is placed.
-use Rattle.std.specs.Prelude.{◌≡◌, ◌⊎◌, ◌≤◌, ℕ, List, [], ◌∷◌, ◌++◌, map, length, Some}
+use Rattle.std.specs.Prelude.{◌≡◌, ◌⊎◌, ◌≤◌, ℕ, List, [], ◌∷◌, ◌++◌, map, length, slice_get, Some}
 use Rattle.std.specs.List.{Contains}
 use Rattle.group_history.specs.declared.nodes.Node.{Node}
 use Rattle.group_history.specs.declared.refs.Ref.{Ref}
-use Rattle.group_history.specs.Naming.{children, content_of}
+use Rattle.group_history.specs.declared.nodes.Chunk.{Chunk}
+use Rattle.group_history.specs.Naming.{children, content_of, chunk_content, chunk_children}
 use Rattle.group_history.specs.Refs.{stamp_of, slot_of}
 use Rattle.group_history.specs.Rows.{Rows}
 use Rattle.group_history.specs.Spelling.{Contents, rows_at}
@@ -78,3 +79,11 @@ HaveNamed first places (n ∷ ns) = AreNamed first places (children n) × HaveNa
 -- behind the old nodes stand more, whose children are so named
 abbrev pub AddsNamed : ℕ → List Ref → List (Node Ref) → List (Node Ref) → Type 0
 AddsNamed first places old new = (more : List (Node Ref)) × (old ++ more ≡ new) × HaveNamed first places more
+
+-- The reference is a child of a chunk that is shown: it stands in what one held shows, its slot too.
+abbrev pub IsShownChild : {H : Type 0} → (H → Chunk Ref) → Contents → Ref → Type 0
+IsShownChild {H} show contents at = (held : H) × (k : ℕ) × (slice_get contents k ≡ Some (chunk_content (show held))) × Contains (chunk_children (show held)) at
+
+-- each of the new references is one of the old ones, its slot too, or a child of a chunk that is shown
+abbrev pub AreKept : {H : Type 0} → (H → Chunk Ref) → Contents → List Ref → List Ref → Type 0
+AreKept show contents old new = (at : Ref) → Contains new at → Contains old at ⊎ IsShownChild show contents at

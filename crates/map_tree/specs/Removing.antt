@@ -8,6 +8,7 @@ use Rattle.group_history.specs.Refs.{stamp_of}
 use Rattle.group_history.specs.Rows.{Rows}
 use Rattle.group_history.specs.Spelling.{Contents}
 use Rattle.map_tree.specs.Ends.{IsWideAt, IsWideNode, IsEnd}
+use Rattle.map_tree.specs.Freezing.{places_of}
 use Rattle.map_tree.specs.Halves.{HasDepth}
 use Rattle.map_tree.specs.Nodes.{Kid, child_rows, child_fresh, kids_fresh}
 use Rattle.map_tree.specs.Scanning.{kid_shown}
@@ -78,3 +79,18 @@ root_rows contents n (Some at) = chunk_rows contents (stamp_of at)
 abbrev pub IsWideRoot : Contents → Seen → Option Ref → Type 0
 IsWideRoot contents n None = IsWideNode n
 IsWideRoot contents n (Some at) = IsWideAt contents (stamp_of at)
+
+-- the placed chunk that stands in a root's place, or those that the draft's own names
+abbrev pub heir_places : Heir → List Ref
+heir_places (heir.Placed at) = at ∷ []
+heir_places (heir.Own n) = places_of n.pieces
+
+-- a placed chunk, if there is one
+abbrev pub end_places : Option Ref → List Ref
+end_places None = []
+end_places (Some at) = at ∷ []
+
+-- the placed chunks that a root names: itself, if it is placed, else those that the draft's own names
+abbrev pub root_left : Seen → Option Ref → List Ref
+root_left n None = places_of n.pieces
+root_left n (Some at) = at ∷ []

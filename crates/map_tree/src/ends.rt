@@ -1,9 +1,11 @@
 //! Placed chunks with one child each, and what they end in.
-ghost use Rattle.std.specs.Prelude.{◌≡◌, ◌⊎◌, IfOk, IfErr, IsSome};
+ghost use Rattle.std.specs.Prelude.{◌≡◌, ◌⊎◌, [], ◌∷◌, Some, IfOk, IfErr, IsSome};
 ghost use mathlib.Core.List.{IsPrefix};
 ghost use Rattle.group_history.specs.Refs.{stamp_of};
 ghost use Rattle.group_history.specs.declared.mutators.Stop.TheVariants.{NoMemory};
 ghost use Rattle.map_tree.specs.Ends.{only_ref, IsOnlyChild, IsEnd};
+ghost use Rattle.group_history.specs.declared.refs.Ref.{Ref as Reference};
+ghost use Rattle.map_tree.specs.Freezing.{AreKept, IsShownChild};
 ghost use Rattle.map_tree.specs.Shown.{chunk_rows};
 
 use crate::chunks::{Chunks, ShowsChunk};
@@ -28,6 +30,7 @@ fn only_of(chunk: &Chunk<Ref>) -> Option<Ref>
 fn only_child<C: Chunks>(chunks: &mut C, at: Ref) -> Result<Option<Ref>, Stop>
     requires { IsSome (chunk_rows (C.contents chunks.old) (stamp_of at)) }
     ensures grown { IsPrefix (C.contents chunks.old) (C.contents chunks.new) }
+    ensures shown { IfOk result (λ child. (r : Reference) → child ≡ Some r → IsShownChild C.Held.shown (C.contents chunks.new) r) }
     ensures child { IfOk result (IsOnlyChild (C.contents chunks.new) (stamp_of at) (chunk_rows (C.contents chunks.old) (stamp_of at))) }
     ensures stopped { IfErr result (λ s. (s ≡ NoMemory) ⊎ C.stops s) }
 {
@@ -41,11 +44,12 @@ fn only_child<C: Chunks>(chunks: &mut C, at: Ref) -> Result<Option<Ref>, Stop>
 pub(crate) fn end_placed<C: Chunks>(chunks: &mut C, at: Ref) -> Result<Ref, Stop>
     requires { IsSome (chunk_rows (C.contents chunks.old) (stamp_of at)) }
     ensures grown { IsPrefix (C.contents chunks.old) (C.contents chunks.new) }
+    ensures places { IfOk result (λ end. AreKept C.Held.shown (C.contents chunks.new) (at ∷ []) (end ∷ [])) }
     ensures end { IfOk result (IsEnd (C.contents chunks.new) (chunk_rows (C.contents chunks.old) (stamp_of at))) }
     ensures stopped { IfErr result (λ s. (s ≡ NoMemory) ⊎ C.stops s) }
 {
     match only_child(chunks, at)? {
-        None => Ok(at),
-        Some(child) => end_placed(chunks, child),
+        None => return Ok(at),
+        Some(child) => return end_placed(chunks, child),
     }
 }

@@ -36,6 +36,7 @@ impl Tree {
     ghost use Rattle.group_history.specs.declared.mutators.Stop.TheVariants.{NoMemory};
     ghost use Rattle.map_tree.specs.Trees.{tree_map, tree_depth, tree_fresh, tree_root, HasWideRoot, IsWideAt};
     ghost use Rattle.map_tree.specs.Writes.{standing};
+    ghost use Rattle.map_tree.specs.Freezing.{AreKept, tree_places};
 
     /// The map whose root is placed there.
     pub fn at(root: Ref) -> Tree
@@ -140,6 +141,7 @@ impl Tree {
         ensures replaced { (m : Entries) (d : ℕ) → tree_map (C.contents chunks.old) self.old ≡ Some m → tree_depth (C.contents chunks.old) self.old ≡ Some d → IsSome (finite.get m key.now) → OnOk result (tree_fresh self.new ≤ tree_fresh self.old + d) }
         ensures deep { (d : ℕ) → tree_depth (C.contents chunks.old) self.old ≡ Some d → OnOk result ((e : ℕ) × (tree_depth (C.contents chunks.new) self.new ≡ Some e) × (d ≤ e) × (e ≤ d + 1)) }
         ensures wide { HasWideRoot (C.contents chunks.old) self.old → OnOk result (HasWideRoot (C.contents chunks.new) self.new) }
+        ensures places { OnOk result (AreKept C.Held.shown (C.contents chunks.new) (tree_places self.old) (tree_places self.new)) }
         ensures same { (m : Entries) → tree_map (C.contents chunks.old) self.old ≡ Some m → finite.get m key.now ≡ Some value.now → OnOk result (self.new ≡ self.old) }
         ensures err { OnErr result (self.new ≡ self.old) }
         ensures stopped { IfErr result (λ s. (s ≡ NoMemory) ⊎ C.stops s) }

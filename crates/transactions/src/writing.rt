@@ -8,6 +8,7 @@ ghost use mathlib.Core.List.{IsPrefix};
 ghost use Rattle.std.specs.FinMap as finite;
 ghost use Rattle.group_history.specs.Scans.{rows_of};
 ghost use Rattle.group_history.specs.declared.mutators.Stop.TheVariants.{NoMemory};
+ghost use Rattle.map_tree.specs.Freezing.{AreKept, tree_places};
 ghost use Rattle.map_tree.specs.Trees.{tree_map, tree_fresh, HasWideRoot};
 ghost use Rattle.transactions.specs.Maps.{shown_map};
 
@@ -104,6 +105,7 @@ impl<C: Chunks> WriteView for WriteTx<C> {
         ensures err { OnErr result (shown_map (C.contents self.new.chunks) self.new.tree ≡ shown_map (C.contents self.old.chunks) self.old.tree) }
         ensures tree { OnErr result (self.new.tree ≡ self.old.tree) }
         ensures same { finite.get (shown_map (C.contents self.old.chunks) self.old.tree) key.now ≡ Some value.now → OnOk result (self.new.tree ≡ self.old.tree) }
+        ensures places { OnOk result (AreKept C.Held.shown (C.contents self.new.chunks) (tree_places self.old.tree) (tree_places self.new.tree)) }
         ensures grown { IsPrefix (C.contents self.old.chunks) (C.contents self.new.chunks) }
         ensures stopped { IfErr result (λ stop. (stop ≡ NoMemory) ⊎ C.stops stop) }
     {
@@ -115,6 +117,7 @@ impl<C: Chunks> WriteView for WriteTx<C> {
         ensures err { OnErr result (shown_map (C.contents self.new.chunks) self.new.tree ≡ shown_map (C.contents self.old.chunks) self.old.tree) }
         ensures tree { OnErr result (self.new.tree ≡ self.old.tree) }
         ensures same { finite.get (shown_map (C.contents self.old.chunks) self.old.tree) key.now ≡ None → OnOk result (self.new.tree ≡ self.old.tree) }
+        ensures places { OnOk result (AreKept C.Held.shown (C.contents self.new.chunks) (tree_places self.old.tree) (tree_places self.new.tree)) }
         ensures grown { IsPrefix (C.contents self.old.chunks) (C.contents self.new.chunks) }
         ensures stopped { IfErr result (λ stop. (stop ≡ NoMemory) ⊎ C.stops stop) }
     {

@@ -5,6 +5,7 @@ ghost use Rattle.std.specs.Ordering.{nat_cmp};
 ghost use Rattle.std.specs.Cmp.Lexicographic.{slice_cmp};
 ghost use Rattle.std.specs.FinMap as finite;
 ghost use Rattle.group_history.specs.declared.mutators.Stop.TheVariants.{NoMemory};
+ghost use Rattle.map_tree.specs.Freezing.{AreKept, places_of};
 ghost use Rattle.map_tree.specs.Shown.{shown, IsTree, rows_or};
 
 use super::{Body, Child, Node};
@@ -28,6 +29,7 @@ impl Node {
         ensures depth { self.new.depth ≡ self.old.depth }
         ensures entries { self.new.entries ≡ self.old.entries }
         ensures fresh { OnOk result (self.new.fresh < self.old.fresh + self.old.depth) }
+        ensures places { OnOk result (AreKept C.Held.shown (C.contents chunks.new) (places_of self.old.pieces) (places_of self.new.pieces)) }
         ensures done { OnOk result (shown (C.contents chunks.new) self.new.pieces ≡ Some (finite.put (slice_cmp nat_cmp) key.now value (rows_or (shown (C.contents chunks.old) self.old.pieces)))) }
         ensures err { OnErr result (self.new ≡ self.old) }
         ensures stopped { IfErr result (λ s. (s ≡ NoMemory) ⊎ C.stops s) }

@@ -6,6 +6,7 @@ ghost use Rattle.std.specs.Cmp.Lexicographic.{slice_cmp};
 ghost use Rattle.std.specs.FinMap as finite;
 ghost use Rattle.group_history.specs.declared.mutators.Stop.TheVariants.{NoMemory};
 ghost use Rattle.map_tree.specs.Counts.{IsWideChunk};
+ghost use Rattle.map_tree.specs.Freezing.{AreKept, places_of};
 ghost use Rattle.map_tree.specs.Shown.{shown, IsTree, rows_or};
 
 use super::Node;
@@ -28,6 +29,7 @@ impl Node {
         ensures grown { IsPrefix (C.contents chunks.old) (C.contents chunks.new) }
         ensures done { OnOk result (shown (C.contents chunks.new) self.new.pieces ≡ Some (finite.put (slice_cmp nat_cmp) key.now value.now (rows_or (shown (C.contents chunks.old) self.old.pieces)))) }
         ensures few { OnOk result (self.new.fresh ≤ self.old.fresh + 2 * self.old.depth) }
+        ensures places { OnOk result (AreKept C.Held.shown (C.contents chunks.new) (places_of self.old.pieces) (places_of self.new.pieces)) }
         ensures replaced { there ≡ true → OnOk result (self.new.fresh < self.old.fresh + self.old.depth) }
         ensures deep { OnOk result ((self.old.depth ≤ self.new.depth) × (self.new.depth ≤ self.old.depth + 1)) }
         ensures wide { IsWideChunk self.old → OnOk result (IsWideChunk self.new) }

@@ -4,6 +4,7 @@ ghost use mathlib.Core.List.{IsPrefix};
 ghost use Rattle.std.specs.FinMap as finite;
 ghost use Rattle.group_history.specs.Map.{Entries};
 ghost use Rattle.group_history.specs.declared.mutators.Stop.TheVariants.{NoMemory};
+ghost use Rattle.map_tree.specs.Freezing.{AreKept, tree_places};
 ghost use Rattle.map_tree.specs.Trees.{tree_map, tree_depth, tree_fresh, HasWideRoot};
 
 use super::{Root, Tree};
@@ -37,6 +38,7 @@ impl Tree {
         ensures same { (m : Entries) → tree_map (C.contents chunks.old) self.old ≡ Some m → finite.get m key.now ≡ None → OnOk result (self.new ≡ self.old) }
         ensures few { (d : ℕ) → tree_depth (C.contents chunks.old) self.old ≡ Some d → OnOk result (tree_fresh self.new ≤ tree_fresh self.old + d) }
         ensures wide { HasWideRoot (C.contents chunks.old) self.old → OnOk result (HasWideRoot (C.contents chunks.new) self.new) }
+        ensures places { OnOk result (AreKept C.Held.shown (C.contents chunks.new) (tree_places self.old) (tree_places self.new)) }
         ensures err { OnErr result (self.new ≡ self.old) }
         ensures stopped { IfErr result (λ s. (s ≡ NoMemory) ⊎ C.stops s) }
     {
@@ -61,6 +63,7 @@ impl Tree {
         ensures ok { (m : Entries) → tree_map (C.contents chunks.old) self.old ≡ Some m → OnOk result (tree_map (C.contents chunks.new) self.new ≡ Some (finite.remove m key.now)) }
         ensures few { (d : ℕ) → tree_depth (C.contents chunks.old) self.old ≡ Some d → OnOk result (tree_fresh self.new ≤ tree_fresh self.old + d) }
         ensures wide { HasWideRoot (C.contents chunks.old) self.old → OnOk result (HasWideRoot (C.contents chunks.new) self.new) }
+        ensures places { OnOk result (AreKept C.Held.shown (C.contents chunks.new) (tree_places self.old) (tree_places self.new)) }
         ensures err { OnErr result (self.new ≡ self.old) }
         ensures stopped { IfErr result (λ s. (s ≡ NoMemory) ⊎ C.stops s) }
     {

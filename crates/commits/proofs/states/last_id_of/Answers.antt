@@ -17,7 +17,7 @@ pub returns-then-own-gt0-clause-id : goal.returns-then-own-gt0-clause-id
 returns-then-own-gt0-clause-id g c v h =
     let m = g.N.Chunks.contents in let i = c.loop-next.invariant in let k = c.in_ok-own.ensures.content in let last = last_id i.0.state c.args.client.now in
     let met = subst (λ (o : Option Ref). IsSearch (m c.loop-next.nodes) c.args.client.now last o) c.in-Some.is i.2 in
-    let s = search_step (m c.loop-next.nodes) (m c.show_own_id.new.nodes) c.args.client.now last c.in-Some.at k.0 met c.show_own_id.ensures.grown k.1 in
+    let s = search_step (m c.loop-next.nodes) (m c.show_own_id.new.nodes) c.args.client.now last c.in-Some.at k.0 met c.show_own_id.ensures.grown k.1.1 in
     let same : i.0 ≡ v = (let e : Some i.0 ≡ Some v = sym i.1 ∙ h in cc e) in
     k.2 ∙ (s.1 (subst (λ (n : ℕ). 0 < n) k.2 c.if-own-gt0.true) ∙ ap (λ (w : Version). last_id w.state c.args.client.now) same)
 
@@ -25,13 +25,13 @@ pub loop-next-smaller : goal.loop-next-smaller
 loop-next-smaller g c =
     let m = g.N.Chunks.contents in let i = c.loop-next.invariant in let k = c.in_ok-own.ensures.content in let last = last_id i.0.state c.args.client.now in
     let met = subst (λ (o : Option Ref). IsSearch (m c.loop-next.nodes) c.args.client.now last o) c.in-Some.is i.2 in
-    let s = search_step (m c.loop-next.nodes) (m c.show_own_id.new.nodes) c.args.client.now last c.in-Some.at k.0 met c.show_own_id.ensures.grown k.1 in
+    let s = search_step (m c.loop-next.nodes) (m c.show_own_id.new.nodes) c.args.client.now last c.in-Some.at k.0 met c.show_own_id.ensures.grown k.1.1 in
     subst (λ (o : Option Ref). ahead c.in_ok-own.own.basis < ahead o) (sym c.in-Some.is) (subst (λ (o : Option Ref). ahead o < suc (stamp_of c.in-Some.at)) (sym k.3) s.0)
 
 pub loop-next-preserved : goal.loop-next-preserved
 loop-next-preserved g c =
     let m = g.N.Chunks.contents in let i = c.loop-next.invariant in let k = c.in_ok-own.ensures.content in let last = last_id i.0.state c.args.client.now in
     let met = subst (λ (o : Option Ref). IsSearch (m c.loop-next.nodes) c.args.client.now last o) c.in-Some.is i.2 in
-    let s = search_step (m c.loop-next.nodes) (m c.show_own_id.new.nodes) c.args.client.now last c.in-Some.at k.0 met c.show_own_id.ensures.grown k.1 in
+    let s = search_step (m c.loop-next.nodes) (m c.show_own_id.new.nodes) c.args.client.now last c.in-Some.at k.0 met c.show_own_id.ensures.grown k.1.1 in
     let none = sym k.2 ∙ omega (arith, c.if-own-gt0.false) in
     (i.0, i.1, subst (λ (o : Option Ref). IsSearch (m c.show_own_id.new.nodes) c.args.client.now last o) (sym k.3) (s.2 none), prefix_trans (m c.args.nodes.now) (m c.loop-next.nodes) (m c.show_own_id.new.nodes) i.3 c.show_own_id.ensures.grown)

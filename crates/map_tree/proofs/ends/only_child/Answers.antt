@@ -1,8 +1,10 @@
-use Rattle.std.proofs.Common.{subst, sym, ap, ◌∙◌, Some}
+use Rattle.std.proofs.Common.{◌≡◌, slice_get, subst, sym, ap, ◌∙◌, Some}
 use Rattle.group_history.specs.Refs.{stamp_of}
+use Rattle.group_history.specs.Naming.{chunk_content}
+use Rattle.group_history.specs.Spelling.{Contents}
 use Rattle.map_tree.specs.Ends.{only_ref, IsOnlyChild}
 use Rattle.map_tree.specs.Shown.{chunk_rows}
-use Rattle.map_tree.proofs.EndLemmas.{only_is}
+use Rattle.map_tree.proofs.EndLemmas.{only_is, only_ref-child}
 use Rattle.map_tree.proofs.OpenLemmas.{spells_rows, segment-kept}
 use Rattle.map_tree.proofs.ScanLemmas.{chunk_rows-kept}
 use Rattle.map_tree.proofs.Shelves.{some_of}
@@ -21,3 +23,13 @@ returns-clause-child g c =
     subst (λ ns. IsOnlyChild ns k (chunk_rows p k) c.only_of-child.result) (sym c.leave.ensures)
     (subst (λ rs. IsOnlyChild q k rs c.only_of-child.result) (ap (λ w. Some w) s.rows ∙ sym n.1)
     (subst (IsOnlyChild q k (Some s.segment.rows)) (ap only_ref (sym c.chunk.ensures) ∙ sym c.only_of-child.ensures) l))
+
+pub returns-clause-shown : goal.returns-clause-shown
+returns-clause-shown g c r h =
+    let k = stamp_of c.args.at in
+    let show = g.C.Held.ShowsChunk.shown in (
+      c.in_ok-held.held,
+      k,
+      subst (λ (w : Contents). slice_get w k ≡ Some (chunk_content (show c.in_ok-held.held))) (sym c.leave.ensures) c.in_ok-held.ensures.content,
+      only_ref-child (show c.in_ok-held.held) r (ap only_ref (sym c.chunk.ensures) ∙ sym c.only_of-child.ensures ∙ h),
+    )

@@ -1,4 +1,4 @@
-use Rattle.std.proofs.Common.{◌≡◌, ◌+◌, ◌-◌, ◌≤◌, ℕ, Option, None, arith, length, sym, ap, subst, ◌∙◌, Some, get_or, length-set, slice_get, nat_cmp, T, refl, set-set}
+use Rattle.std.proofs.Common.{◌≡◌, ◌+◌, ◌-◌, ◌++◌, [], ◌≤◌, ℕ, Option, None, arith, length, sym, ap, subst, ◌∙◌, Some, get_or, length-set, slice_get, nat_cmp, T, refl, set-set}
 use Rattle.std.specs.Prelude.{IsSome}
 use Rattle.std.specs.Box.{with_value}
 use Rattle.std.specs.Cmp.Lexicographic.{slice_cmp}
@@ -7,7 +7,8 @@ use Rattle.group_history.specs.Refs.{stamp_of}
 use Rattle.group_history.specs.Rows.{paired, rises, keys_of}
 use Rattle.group_history.specs.Spelling.{rows_at}
 use Rattle.map_tree.specs.Counts.{HasKept}
-use Rattle.map_tree.specs.Halves.{IsHalf, AreNinth, HasDepth, ChildPut, with_half, lowered}
+use Rattle.map_tree.specs.Freezing.{AreKept, child_places, kids_places, places_of}
+use Rattle.map_tree.specs.Halves.{half_pieces, IsHalf, AreNinth, HasDepth, ChildPut, with_half, lowered}
 use Rattle.map_tree.specs.Nodes.{Kid, AllKids, child_rows, kids_pieces, child_fresh, kids_fresh}
 use Rattle.map_tree.specs.Search.{IsPlace}
 use Rattle.map_tree.specs.Shown.{Seen, shown, rows_or, IsTree}
@@ -17,6 +18,7 @@ use Rattle.map_tree.specs.declared.nodes.Child.TheVariants.{Placed, Own}
 use Rattle.map_tree.proofs.CountLemmas.{if_ok_so, fresh-set, leaf_counts, inner_counts}
 use Rattle.map_tree.proofs.AnswerLemmas.{on_err}
 use Rattle.map_tree.proofs.ChangeLemmas.{shown-kept}
+use Rattle.map_tree.proofs.NamedLemmas.{kept-none, kept-grown, kept-trans, kept-from_none, kept-kid, kept-finished, own-places, places-rows}
 use Rattle.map_tree.proofs.NodeLemmas.{shown-rows, child_at, written_back}
 use Rattle.map_tree.proofs.OpenLemmas.{known, tree_of}
 use Rattle.map_tree.proofs.ReplaceLemmas.{leaf_rows}
@@ -406,3 +408,70 @@ Node::put-returns-in-Inner-clause-whole g t c m =
     let low = ap length (c.lower_first.ensures.texts ∙ ap (lowered i c.in_ok-ready-in-Inner.ready.lower) c.put_child.ensures.texts) ∙ length-lowered i c.in_ok-ready-in-Inner.ready.lower keys in
     whole_kept (length keys) (length c.finish.new.keys.texts) c.finish.result (subst (λ n. HasKept n (length c.finish.new.keys.texts) c.finish.result) low c.finish.ensures.entries)
     (λ full. c.finish.ensures.whole (c.in_ok-ready-in-Inner.ensures.whole m full))
+
+-- REFERENCES
+
+pub Node::put-returns-in-Leaf-clause-places : goal.Node::put-returns-in-Leaf-clause-places
+Node::put-returns-in-Leaf-clause-places g t c =
+    let p = g.C.Chunks.contents c.args.chunks.now in
+    let show = g.C.Held.ShowsChunk.shown in
+    let old = places_of c.args.self.now.pieces in
+    let rows = finite.put (slice_cmp nat_cmp) c.args.key.now c.in_ok-value-in-Leaf.value (paired c.self.inside.keys.texts c.in-Leaf.values.items) in
+    subst (λ ps. AreKept show p old (places_of ps)) (sym c.in_ok-put_row-in-Leaf.ensures.rows) (subst (AreKept show p old) (sym (places-rows rows)) (kept-none show p old))
+
+pub Node::put-returns-in-Inner-clause-places : goal.Node::put-returns-in-Inner-clause-places
+Node::put-returns-in-Inner-clause-places g t c =
+    let p = g.C.Chunks.contents c.args.chunks.now in
+    let at : Child = Placed (record { bits = 0 }) in
+    let i = c.place_of-place.result in
+    let x = node_at p c.self.inside.depth c.self.inside.keys.texts c.self.inside.body c.in-Inner.kids c.args.self.now.pieces c.as_slice-in-Inner.result.now c.args.key.now i at
+    (ap (λ (s : Seen). s.pieces) c.self.view_is) c.in-Inner.is c.self.invariant c.as_slice-in-Inner.ensures
+    (subst (λ k. IsPlace k c.as_slice-in-Inner.result.now i) c.as_str.ensures c.place_of-place.ensures) c.requires.tree in
+    let q = g.C.Chunks.contents c.put_child.new.chunks in
+    let show = g.C.Held.ShowsChunk.shown in
+    let child = get_or c.in-Inner.kids.items i at in
+    let keys = c.self.inside.keys.texts in
+    let kids = c.in-Inner.kids.items in
+    let kk : c.reserve.new.self.items ≡ kids = c.reserve.ensures.items in
+    let done = subst (λ ks. ChildPut q (c.args.copies + 1) (c.self.inside.depth - 1) i ks c.put_child.new.kids.items c.in_ok-ready-in-Inner.half
+    (Some (finite.put (slice_cmp nat_cmp) c.args.key.now c.args.value.now (rows_or (child_rows p (c.self.inside.depth - 1) child))))) kk
+    (c.in_ok-ready-in-Inner.ensures.done child (ap (λ w. slice_get w i) kk ∙ x.1)) in
+    let low = c.lower_first.ensures.texts ∙ ap (lowered i c.in_ok-ready-in-Inner.ready.lower) c.put_child.ensures.texts in
+    let n : length c.put_child.new.kids.items ≡ length c.lower_first.new.keys.texts =
+    ap length done.1 ∙ length-set kids i (Own done.0) ∙ x.2.1.2 ∙ sym (ap length low ∙ length-lowered i c.in_ok-ready-in-Inner.ready.lower keys) in
+    let here : kids_places c.reserve.new.self.items ≡ places_of c.args.self.now.pieces =
+    ap kids_places kk ∙ sym (own-places c.self.inside.depth keys c.self.inside.body c.in-Inner.kids c.args.self.now.pieces (ap (λ (s : Seen). s.pieces) c.self.view_is) c.in-Inner.is x.2.1.2) in
+    kept-finished show q (places_of c.args.self.now.pieces) (c.self.inside.depth - 1) i c.in_ok-ready-in-Inner.half c.lower_first.new.keys.texts c.put_child.new.kids.items _ n c.finish.ensures.shape.0
+    (subst (λ w. AreKept show q w (kids_places c.put_child.new.kids.items ++ places_of (half_pieces c.in_ok-ready-in-Inner.half))) here c.in_ok-ready-in-Inner.ensures.places)
+
+pub Node::put_below-returns-clause-places : goal.Node::put_below-returns-clause-places
+Node::put_below-returns-clause-places g t c =
+    let q = g.C.Chunks.contents c.put-2.new.chunks in
+    subst (λ (s : Seen). AreKept g.C.Held.ShowsChunk.shown q (places_of s.pieces) (places_of (c.put-2.new.self.pieces ++ half_pieces c.in_ok-half.half))) c.in-Err-Full.ensures.err c.in_ok-half.ensures.places
+
+pub putting::paths::put_child-returns-in-Own-clause-places : goal.putting::paths::put_child-returns-in-Own-clause-places
+putting::paths::put_child-returns-in-Own-clause-places g t c =
+    let kids = c.args.kids.now.items in
+    let child = c.index_mut.result.now in
+    let q = g.C.Chunks.contents c.put_below.new.chunks in
+    let show = g.C.Held.ShowsChunk.shown in
+    let n : Kid = with_value c.in-Own.node c.put_below.new.self in
+    if_ok_so c.put_below.result c.put_below.ensures.places
+    (λ put kept. kept-kid show q kids c.args.place child n (half_pieces put.1) c.requires.within c.index_mut.ensures.value
+    (subst (λ (x : Child). AreKept show q (child_places x) (places_of (c.put_below.new.self.pieces ++ half_pieces put.1))) (sym c.in-Own.is)
+    (subst (λ (s : Seen). AreKept show q (places_of s.pieces) (places_of (c.put_below.new.self.pieces ++ half_pieces put.1))) c.deref_mut.ensures.value kept)))
+
+pub putting::paths::put_child-returns-in-Placed-clause-places : goal.putting::paths::put_child-returns-in-Placed-clause-places
+putting::paths::put_child-returns-in-Placed-clause-places g t c =
+    let kids = c.args.kids.now.items in
+    let child = c.index_mut.result.now in
+    let p = g.C.Chunks.contents c.copied_child.new.chunks in
+    let q = g.C.Chunks.contents c.put_below-in-Placed.new.chunks in
+    let show = g.C.Held.ShowsChunk.shown in
+    let n : Kid = with_value c.in_ok-node-in-Placed.node c.put_below-in-Placed.new.self in
+    let half = half_pieces c.in_ok-put-in-Placed.put.1 in
+    let copied = kept-grown show p q [] (places_of c.in_ok-node-in-Placed.node.value.pieces) c.put_below-in-Placed.ensures.grown c.in_ok-node-in-Placed.ensures.places in
+    let put = subst (λ (s : Seen). AreKept show q (places_of s.pieces) (places_of (c.put_below-in-Placed.new.self.pieces ++ half))) c.deref_mut-in-Placed.ensures.value c.in_ok-put-in-Placed.ensures.places in
+    let all = kept-trans show q [] (places_of c.in_ok-node-in-Placed.node.value.pieces) (places_of (c.put_below-in-Placed.new.self.pieces ++ half)) copied put in
+    subst (λ ks. AreKept show q (kids_places kids) (kids_places ks ++ places_of half)) (sym (set-set kids c.args.place (Placed c.in-Placed.at) (Own n)))
+    (kept-kid show q kids c.args.place child n half c.requires.within c.index_mut.ensures.value (kept-from_none show q (child_places child) (places_of (c.put_below-in-Placed.new.self.pieces ++ half)) all))

@@ -1,10 +1,11 @@
-use Rattle.std.proofs.Common.{◌≡◌, ◌<◌, ◌-◌, ◌∙◌, Some, OnOk, ap, sym, subst, arith, refl, length, get_or, set-set, []}
+use Rattle.std.proofs.Common.{◌≡◌, ◌<◌, ◌-◌, ◌∙◌, Some, OnOk, ap, sym, subst, arith, refl, length, get_or, set-set, remove, []}
 use Rattle.std.specs.Prelude.{IsSome}
 use Rattle.std.specs.Box.{with_value}
 use Rattle.group_history.proofs.Folding.{append_nil}
 use Rattle.group_history.specs.Refs.{stamp_of}
 use Rattle.group_history.specs.Rows.{paired}
 use Rattle.group_history.specs.Spelling.{rows_at}
+use Rattle.map_tree.specs.Freezing.{AreKept, child_places, kids_places, places_of}
 use Rattle.map_tree.specs.Halves.{lowered}
 use Rattle.map_tree.specs.Nodes.{Kid, body_pieces, child_rows, child_fresh, kids_fresh, kids_pieces, row_pieces, IsNode}
 use Rattle.map_tree.specs.Removing.{without, IsFate, HasOthers, CanRemove}
@@ -13,7 +14,9 @@ use Rattle.map_tree.specs.Shown.{Seen, shown, rows_or, IsTree}
 use Rattle.map_tree.specs.declared.nodes.Body.TheVariants.{Inner}
 use Rattle.map_tree.specs.declared.nodes.Child.{Child}
 use Rattle.map_tree.specs.declared.nodes.Child.TheVariants.{Placed, Own}
-use Rattle.map_tree.proofs.AnswerLemmas.{both_ok, on_err}
+use Rattle.map_tree.proofs.AnswerLemmas.{both_ok, on_err, on_ok}
+use Rattle.map_tree.proofs.EndLemmas.{kids-removed}
+use Rattle.map_tree.proofs.NamedLemmas.{kept-none, kept-same, kept-grown, kept-trans, kept-within, kept-from_none, kept-child, own-places, places-kids, places-rows}
 use Rattle.map_tree.proofs.NodeLemmas.{shown-rows, child_at, node_down, written_back}
 use Rattle.map_tree.proofs.OpenLemmas.{known}
 use Rattle.map_tree.proofs.PathLemmas.{node_at, indexed_child}
@@ -291,3 +294,59 @@ pub removing::paths::remove_child-returns-in-Own-clause-err : goal.removing::pat
 removing::paths::remove_child-returns-in-Own-clause-err g t c =
     on_err c.remove.result c.remove.ensures.err
     (λ e. written_back c.args.kids.now.items c.args.place c.index_mut.result.now c.in-Own.node c.remove.new.self c.index_mut.ensures.value c.in-Own.is (e ∙ c.deref_mut.ensures.value))
+
+-- REFERENCES
+
+pub removing::paths::remove_child-returns-in-Own-clause-places : goal.removing::paths::remove_child-returns-in-Own-clause-places
+removing::paths::remove_child-returns-in-Own-clause-places g t c =
+    let kids = c.args.kids.now.items in
+    let child = c.index_mut.result.now in
+    let q = g.C.Chunks.contents c.remove.new.chunks in
+    let show = g.C.Held.ShowsChunk.shown in
+    let n : Kid = with_value c.in-Own.node c.remove.new.self in
+    on_ok c.remove.result c.remove.ensures.places
+    (λ kept. kept-child show q kids c.args.place child n c.requires.1.1.1.1.0 c.index_mut.ensures.value
+    (subst (λ (x : Child). AreKept show q (child_places x) (places_of c.remove.new.self.pieces)) (sym c.in-Own.is)
+    (subst (λ (s : Seen). AreKept show q (places_of s.pieces) (places_of c.remove.new.self.pieces)) c.deref_mut.ensures.value kept)))
+
+pub removing::paths::remove_child-returns-in-Placed-clause-places : goal.removing::paths::remove_child-returns-in-Placed-clause-places
+removing::paths::remove_child-returns-in-Placed-clause-places g t c =
+    let kids = c.args.kids.now.items in
+    let child = c.index_mut.result.now in
+    let p = g.C.Chunks.contents c.copied_child.new.chunks in
+    let q = g.C.Chunks.contents c.remove-in-Placed.new.chunks in
+    let show = g.C.Held.ShowsChunk.shown in
+    let n : Kid = with_value c.in_ok-node-in-Placed.node c.remove-in-Placed.new.self in
+    let mid = places_of c.in_ok-node-in-Placed.node.value.pieces in
+    let new = places_of c.remove-in-Placed.new.self.pieces in
+    let copied = kept-grown show p q [] mid c.remove-in-Placed.ensures.grown c.in_ok-node-in-Placed.ensures.places in
+    let left = subst (λ (s : Seen). AreKept show q (places_of s.pieces) new) c.deref_mut-in-Placed.ensures.value c.in_ok-remove-in-Placed.ensures.places in
+    subst (λ ks. AreKept show q (kids_places kids) (kids_places ks)) (sym (set-set kids c.args.place (Placed c.in-Placed.at) (Own n)))
+    (kept-child show q kids c.args.place child n c.requires.1.1.1.1.0 c.index_mut.ensures.value (kept-from_none show q (child_places child) new (kept-trans show q [] mid new copied left)))
+
+pub removing::paths::remove_at-returns-in-Leaves-clause-places : goal.removing::paths::remove_at-returns-in-Leaves-clause-places
+removing::paths::remove_at-returns-in-Leaves-clause-places g t c =
+    let p = g.C.Chunks.contents c.args.chunks.now in
+    let show = g.C.Held.ShowsChunk.shown in
+    let kids = c.args.kids.now.items in
+    subst (λ ks. AreKept show p (kids_places kids) (kids_places ks)) (sym c.in_ok-remove_entry-in-Leaves.ensures.ok.1)
+    (kept-within show p (kids_places kids) (kids_places (remove kids c.args.place)) (kids_places kids) (kids-removed kids c.args.place) (kept-same show p (kids_places kids)))
+
+pub Node::remove-returns-in-Leaf-clause-places : goal.Node::remove-returns-in-Leaf-clause-places
+Node::remove-returns-in-Leaf-clause-places g t c =
+    let p = g.C.Chunks.contents c.args.chunks.now in
+    let show = g.C.Held.ShowsChunk.shown in
+    let old = places_of c.args.self.now.pieces in
+    subst (AreKept show p old) (sym (places-rows (paired c.remove_row.new.keys.texts c.remove_row.new.values.items))) (kept-none show p old)
+
+pub Node::remove-returns-in-Inner-clause-places : goal.Node::remove-returns-in-Inner-clause-places
+Node::remove-returns-in-Inner-clause-places g t c =
+    let q = g.C.Chunks.contents c.remove_at.new.chunks in
+    let show = g.C.Held.ShowsChunk.shown in
+    let depth = c.self.inside.depth in
+    let keys = c.self.inside.keys.texts in
+    let node : IsNode depth keys (Inner c.in-Inner.kids) = subst (IsNode depth keys) c.in-Inner.is c.self.invariant in
+    let old = own-places depth keys c.self.inside.body c.in-Inner.kids c.args.self.now.pieces (ap (λ (s : Seen). s.pieces) c.self.view_is) c.in-Inner.is node.1.2 in
+    let new = places-kids (depth - 1) c.remove_at.new.keys.texts c.remove_at.new.kids.items c.remove_at.ensures.node.1.2 in
+    on_ok c.remove_at.result c.remove_at.ensures.places
+    (λ kept. subst (AreKept show q (places_of c.args.self.now.pieces)) (sym new) (subst (λ w. AreKept show q w (kids_places c.remove_at.new.kids.items)) (sym old) kept))

@@ -10,6 +10,7 @@ ghost use Rattle.map_tree.specs.Nodes.{child_rows, kids_fresh};
 ghost use Rattle.map_tree.specs.Halves.{half_pieces, IsHalf, ChildPut, IsLower, HasDepth};
 ghost use Rattle.map_tree.specs.Ready.{IsReady};
 ghost use Rattle.map_tree.specs.Counts.{half_fresh, HasKept};
+ghost use Rattle.map_tree.specs.Freezing.{AreKept, kids_places, places_of};
 ghost use Rattle.map_tree.specs.Unput.{IsUnput};
 ghost use Rattle.map_tree.specs.declared.nodes.Child.{Child as Childs};
 
@@ -45,6 +46,7 @@ fn put_child<C: Chunks>(
     ensures grown { IsPrefix (C.contents chunks.old) (C.contents chunks.new) }
     ensures done { (c : Childs) → slice_get kids.old.items place ≡ Some c → IfOk result (λ r. ChildPut (C.contents chunks.new) (copies + 1) below place kids.old.items kids.new.items r.1 (Some (finite.put (slice_cmp nat_cmp) key.now value.now (rows_or (child_rows (C.contents chunks.old) below c))))) }
     ensures fresh { IfOk result (λ r. kids_fresh kids.new.items + half_fresh r.1 ≤ kids_fresh kids.old.items + 2 * below) }
+    ensures places { IfOk result (λ r. AreKept C.Held.shown (C.contents chunks.new) (kids_places kids.old.items) (kids_places kids.new.items ++ places_of (half_pieces r.1))) }
     ensures kept { vec_capacity kids.new ≡ vec_capacity kids.old }
     ensures texts { keys.new.texts ≡ keys.old.texts }
     ensures lowers { IfOk result (λ r. IsSome r.0.lower → 0 < keys.new.room) }
@@ -90,6 +92,7 @@ impl Node {
         ensures depth { self.new.depth ≡ self.old.depth }
         ensures done { IfOk result (λ r. shown (C.contents chunks.new) (self.new.pieces ++ half_pieces r.1) ≡ Some (finite.put (slice_cmp nat_cmp) key.now value.now (rows_or (shown (C.contents chunks.old) self.old.pieces)))) }
         ensures half { IfOk result (λ r. IsHalf (copies + 1) self.old.depth r.1) }
+        ensures places { IfOk result (λ r. AreKept C.Held.shown (C.contents chunks.new) (places_of self.old.pieces) (places_of (self.new.pieces ++ half_pieces r.1))) }
         ensures fresh { IfOk result (λ r. self.new.fresh + half_fresh r.1 < self.old.fresh + 2 * self.old.depth) }
         ensures filled { OnOk result (0 < length self.new.pieces) }
         ensures texts { keys.new.texts ≡ keys.old.texts }
@@ -133,6 +136,7 @@ impl Node {
         ensures depth { self.new.depth ≡ self.old.depth }
         ensures done { IfOk result (λ half. shown (C.contents chunks.new) (self.new.pieces ++ half_pieces half) ≡ Some (finite.put (slice_cmp nat_cmp) key.now value.now (rows_or (shown (C.contents chunks.old) self.old.pieces)))) }
         ensures half { IfOk result (IsHalf copies self.old.depth) }
+        ensures places { IfOk result (λ half. AreKept C.Held.shown (C.contents chunks.new) (places_of self.old.pieces) (places_of (self.new.pieces ++ half_pieces half))) }
         ensures fresh { IfOk result (λ half. self.new.fresh + half_fresh half < self.old.fresh + 2 * self.old.depth) }
         ensures entries { IfOk result (HasKept self.old.entries self.new.entries) }
         ensures filled { OnOk result (0 < length self.new.pieces) }

@@ -9,6 +9,7 @@ ghost use Rattle.map_tree.specs.Shown.{shown, IsTree, rows_or};
 ghost use Rattle.map_tree.specs.Nodes.{HeadIs};
 ghost use Rattle.map_tree.specs.Halves.{IsHalf, least, AreInOrder};
 ghost use Rattle.map_tree.specs.Counts.{IsWideChunk};
+ghost use Rattle.map_tree.specs.Freezing.{AreKept, places_of};
 
 use super::super::homes::{housed, take_home};
 use super::super::{Body, Child, Node};
@@ -80,6 +81,7 @@ impl Node {
         ensures grown { IsPrefix (C.contents chunks.old) (C.contents chunks.new) }
         ensures done { OnOk result (shown (C.contents chunks.new) self.new.pieces ≡ Some (finite.put (slice_cmp nat_cmp) key.now value.now (rows_or (shown (C.contents chunks.old) self.old.pieces)))) }
         ensures few { OnOk result (self.new.fresh ≤ self.old.fresh + 2 * self.old.depth) }
+        ensures places { OnOk result (AreKept C.Held.shown (C.contents chunks.new) (places_of self.old.pieces) (places_of self.new.pieces)) }
         ensures deep { OnOk result ((self.old.depth ≤ self.new.depth) × (self.new.depth ≤ self.old.depth + 1)) }
         ensures wide { IsWideChunk self.old → OnOk result (IsWideChunk self.new) }
         ensures err { OnErr result (self.new ≡ self.old) }
@@ -109,6 +111,7 @@ impl Node {
         ensures grown { IsPrefix (C.contents chunks.old) (C.contents chunks.new) }
         ensures done { OnOk result (shown (C.contents chunks.new) self.new.pieces ≡ Some (finite.put (slice_cmp nat_cmp) key.now value.now (rows_or (shown (C.contents chunks.old) self.old.pieces)))) }
         ensures few { OnOk result (self.new.fresh ≤ self.old.fresh + 2 * self.old.depth) }
+        ensures places { OnOk result (AreKept C.Held.shown (C.contents chunks.new) (places_of self.old.pieces) (places_of self.new.pieces)) }
         ensures deep { OnOk result ((self.old.depth ≤ self.new.depth) × (self.new.depth ≤ self.old.depth + 1)) }
         ensures wide { IsWideChunk self.old → OnOk result (IsWideChunk self.new) }
         ensures err { OnErr result (self.new ≡ self.old) }

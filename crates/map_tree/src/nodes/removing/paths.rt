@@ -3,6 +3,7 @@ ghost use Rattle.std.specs.Prelude.{◌≡◌, ◌⊎◌, ◌<◌, ◌≤◌, �
 ghost use mathlib.Core.List.{IsPrefix};
 ghost use Rattle.group_history.specs.Rows.{AreKeys, paired};
 ghost use Rattle.group_history.specs.declared.mutators.Stop.TheVariants.{NoMemory};
+ghost use Rattle.map_tree.specs.Freezing.{AreKept, kids_places, places_of};
 ghost use Rattle.map_tree.specs.Halves.{lowered};
 ghost use Rattle.map_tree.specs.Nodes.{IsNode, body_pieces, body_fresh, child_rows};
 ghost use Rattle.map_tree.specs.Removing.{without, IsFate, HasOthers, AreLeft, CanRemove, ChildRemoved};
@@ -77,6 +78,7 @@ fn remove_child<C: Chunks>(
     requires tree { (c : Childs) → slice_get kids.old.items place ≡ Some c → CanRemove (C.contents chunks.old) below key.now c }
     ensures grown { IsPrefix (C.contents chunks.old) (C.contents chunks.new) }
     ensures done { (c : Childs) → slice_get kids.old.items place ≡ Some c → OnOk result (ChildRemoved (C.contents chunks.new) below place kids.old.items kids.new.items c (Some (without key.now (rows_or (child_rows (C.contents chunks.old) below c))))) }
+    ensures places { OnOk result (AreKept C.Held.shown (C.contents chunks.new) (kids_places kids.old.items) (kids_places kids.new.items)) }
     ensures err { OnErr result (kids.new.items ≡ kids.old.items) }
     ensures stopped { IfErr result (λ s. (s ≡ NoMemory) ⊎ C.stops s) }
 {
@@ -112,6 +114,7 @@ pub(super) fn remove_at<C: Chunks>(
     ensures node { IsNode depth keys.new.texts (body.Inner kids.new) }
     ensures done { OnOk result (shown (C.contents chunks.new) (body_pieces depth keys.new.texts (body.Inner kids.new)) ≡ Some (without key.now (rows_or (shown (C.contents chunks.old) (body_pieces depth keys.old.texts (body.Inner kids.old)))))) }
     ensures few { OnOk result (body_fresh (body.Inner kids.new) + 1 ≤ body_fresh (body.Inner kids.old) + depth) }
+    ensures places { OnOk result (AreKept C.Held.shown (C.contents chunks.new) (kids_places kids.old.items) (kids_places kids.new.items)) }
     ensures left { OnOk result (AreLeft fate (length keys.old.texts) (length keys.new.texts)) }
     ensures err { OnErr result ((keys.new.texts ≡ keys.old.texts) × (kids.new.items ≡ kids.old.items)) }
     ensures stopped { IfErr result (λ s. (s ≡ NoMemory) ⊎ C.stops s) }
@@ -139,6 +142,7 @@ impl Node {
         ensures grown { IsPrefix (C.contents chunks.old) (C.contents chunks.new) }
         ensures depth { self.new.depth ≡ self.old.depth }
         ensures done { OnOk result (shown (C.contents chunks.new) self.new.pieces ≡ Some (without key.now (rows_or (shown (C.contents chunks.old) self.old.pieces)))) }
+        ensures places { OnOk result (AreKept C.Held.shown (C.contents chunks.new) (places_of self.old.pieces) (places_of self.new.pieces)) }
         ensures few { OnOk result (self.new.fresh + 1 ≤ self.old.fresh + self.old.depth) }
         ensures err { OnErr result (self.new ≡ self.old) }
         ensures stopped { IfErr result (λ s. (s ≡ NoMemory) ⊎ C.stops s) }

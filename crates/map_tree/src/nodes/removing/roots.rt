@@ -5,8 +5,9 @@ ghost use Rattle.std.specs.List.{remove};
 ghost use Rattle.group_history.specs.declared.mutators.Stop.TheVariants.{NoMemory};
 ghost use Rattle.map_tree.specs.Ends as ends;
 ghost use Rattle.map_tree.specs.Ends.{end_of_pieces, IsWideNode, IsKidEnd, IsTaken};
+ghost use Rattle.map_tree.specs.Freezing.{AreKept, child_places, kids_places, places_of};
 ghost use Rattle.map_tree.specs.Removing as removals;
-ghost use Rattle.map_tree.specs.Removing.{without, one_shown, IsHeir, KeptBy, root_rows, IsWideRoot};
+ghost use Rattle.map_tree.specs.Removing.{end_places, heir_places, root_left, without, one_shown, IsHeir, KeptBy, root_rows, IsWideRoot};
 ghost use Rattle.map_tree.specs.Scanning.{kid_shown};
 ghost use Rattle.map_tree.specs.Shown.{shown, IsTree, rows_or};
 
@@ -96,14 +97,15 @@ fn end_of(kid: &Child) -> Option<Ref>
 fn kid_end<C: Chunks>(kid: &Child, chunks: &mut C) -> Result<Option<Ref>, Stop>
     requires { IsSome (kid_shown (C.contents chunks.old) kid.now) }
     ensures grown { IsPrefix (C.contents chunks.old) (C.contents chunks.new) }
+    ensures places { IfOk result (λ end. AreKept C.Held.shown (C.contents chunks.new) (child_places kid.now) (end_places end)) }
     ensures end { IfOk result (IsKidEnd (C.contents chunks.new) (kid_shown (C.contents chunks.old) kid.now) kid.now) }
     ensures stopped { IfErr result (λ s. (s ≡ NoMemory) ⊎ C.stops s) }
 {
     match end_of(kid) {
-        None => Ok(None),
+        None => return Ok(None),
         Some(at) => {
             let end = end_placed(chunks, at)?;
-            Ok(Some(end))
+            return Ok(Some(end));
         }
     }
 }
@@ -130,6 +132,7 @@ fn heir<C: Chunks>(
     requires tree { IsSome (one_shown (C.contents chunks.old) (remove kids.old.items place)) }
     ensures grown { IsPrefix (C.contents chunks.old) (C.contents chunks.new) }
     ensures heir { IfOk result (IsHeir (C.contents chunks.old) (C.contents chunks.new) (remove kids.old.items place)) }
+    ensures places { IfOk result (λ heir. AreKept C.Held.shown (C.contents chunks.new) (kids_places kids.old.items) (heir_places heir)) }
     ensures kept { IfOk result (KeptBy kids.old.items kids.new.items) }
     ensures err { OnErr result (kids.new.items ≡ kids.old.items) }
     ensures stopped { IfErr result (λ s. (s ≡ NoMemory) ⊎ C.stops s) }
@@ -156,6 +159,7 @@ impl Node {
         requires { IsTree (shown (C.contents chunks.old) self.old.pieces) }
         ensures grown { IsPrefix (C.contents chunks.old) (C.contents chunks.new) }
         ensures done { IfOk result (λ root. root_rows (C.contents chunks.new) self.new root ≡ Some (without key.now (rows_or (shown (C.contents chunks.old) self.old.pieces)))) }
+        ensures places { IfOk result (λ root. AreKept C.Held.shown (C.contents chunks.new) (places_of self.old.pieces) (root_left self.new root)) }
         ensures few { OnOk result (self.new.fresh + 1 ≤ self.old.fresh + self.old.depth) }
         ensures wide { IsWideNode self.old → IfOk result (IsWideRoot (C.contents chunks.new) self.new) }
         ensures err { OnErr result (self.new ≡ self.old) }

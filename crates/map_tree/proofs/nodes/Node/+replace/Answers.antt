@@ -1,4 +1,4 @@
-use Rattle.std.proofs.Common.{◌≡◌, ◌<◌, ◌+◌, List, refl, length, ◌-◌, ◌++◌, ◌∷◌, arith, sym, ap, subst, ◌∙◌, Some, nat_cmp, set-set}
+use Rattle.std.proofs.Common.{length-set, set, [], ◌≡◌, ◌<◌, ◌+◌, List, refl, length, ◌-◌, ◌++◌, ◌∷◌, arith, sym, ap, subst, ◌∙◌, Some, nat_cmp, set-set}
 use Rattle.std.specs.Prelude.{IsSome}
 use Rattle.std.specs.Box.{with_value}
 use Rattle.std.specs.Cmp.Lexicographic.{slice_cmp}
@@ -6,6 +6,7 @@ use Rattle.std.specs.FinMap as finite
 use Rattle.group_history.specs.Refs.{stamp_of}
 use Rattle.group_history.specs.Rows.{paired}
 use Rattle.group_history.specs.Spelling.{rows_at}
+use Rattle.map_tree.specs.Freezing.{AreKept, child_places, kids_places, places_of}
 use Rattle.map_tree.specs.Nodes.{Kid, child_rows, kids_pieces, AllKids, body_pieces, body_fresh, body_height, kids_height, child_fresh, kids_fresh}
 use Rattle.map_tree.specs.Shown.{Seen, rows_or, shown}
 use Rattle.map_tree.specs.declared.nodes.Body.{Body}
@@ -15,6 +16,7 @@ use Rattle.group_history.proofs.Folding.{prefix_trans}
 use Rattle.map_tree.proofs.AnswerLemmas.{on_ok, on_err, either_way}
 use Rattle.map_tree.proofs.ChangeLemmas.{replaced}
 use Rattle.map_tree.proofs.CountLemmas.{fresh-set, leaf_counts, inner_counts}
+use Rattle.map_tree.proofs.NamedLemmas.{kept-none, kept-grown, kept-trans, kept-from_none, kept-child, own-places, places-kids, places-rows}
 use Rattle.map_tree.proofs.NodeLemmas.{node_down, inner_depth, down_own, written_back}
 use Rattle.map_tree.proofs.OpenLemmas.{tree_of}
 use Rattle.map_tree.proofs.ReplaceLemmas.{leaf_replaced, leaf_has, inner_with, inner_lengths, there_below, kid_replaced, kid_kept}
@@ -228,3 +230,55 @@ returns-in-Own-clause-err g t c =
     on_err c.replace.result c.replace.ensures.err (λ e.
     ap inner (written_back c.in-Inner.kids.items c.place_of-place.result c.index_mut-in-Inner.result.now c.in-Own.node c.replace.new.self c.index_mut-in-Inner.ensures.value c.in-Own.is (e ∙ c.deref_mut.ensures.value))
     ∙ ap seen (sym c.in-Inner.is) ∙ c.self.view_is)
+
+pub returns-in_default-clause-places : goal.returns-in_default-clause-places
+returns-in_default-clause-places g t c =
+    let p = g.C.Chunks.contents c.args.chunks.now in
+    let show = g.C.Held.ShowsChunk.shown in
+    subst (AreKept show p (places_of c.args.self.now.pieces)) (sym (places-rows (paired c.self.inside.keys.texts c.in-Leaf.values.items))) (kept-none show p (places_of c.args.self.now.pieces))
+
+pub returns-in-Leaf-clause-places : goal.returns-in-Leaf-clause-places
+returns-in-Leaf-clause-places g t c =
+    let p = g.C.Chunks.contents c.args.chunks.now in
+    let show = g.C.Held.ShowsChunk.shown in
+    subst (AreKept show p (places_of c.args.self.now.pieces)) (sym (places-rows (paired c.self.inside.keys.texts (set c.in-Leaf.values.items c.in-Ok.place c.args.value)))) (kept-none show p (places_of c.args.self.now.pieces))
+
+pub returns-in-Own-clause-places : goal.returns-in-Own-clause-places
+returns-in-Own-clause-places g t c =
+    let q = g.C.Chunks.contents c.replace.new.chunks in
+    let show = g.C.Held.ShowsChunk.shown in
+    let keys = c.self.inside.keys.texts in
+    let kids = c.in-Inner.kids.items in
+    let child = c.index_mut-in-Inner.result.now in
+    let l = inner_lengths c.self.inside.depth keys c.self.inside.body c.in-Inner.kids c.in-Inner.is c.self.invariant in
+    let i = c.place_of-place.result in
+    let within : i < length kids = omega (arith, c.place_of-place.ensures.0, ap length c.as_slice-in-Inner.ensures, l) in
+    let n : Kid = with_value c.in-Own.node c.replace.new.self in
+    let old = own-places c.self.inside.depth keys c.self.inside.body c.in-Inner.kids c.args.self.now.pieces (ap (λ (s : Seen). s.pieces) c.self.view_is) c.in-Inner.is l in
+    let new = places-kids (c.self.inside.depth - 1) keys (set kids i (Own n)) (length-set kids i (Own n) ∙ l) in
+    on_ok c.replace.result c.replace.ensures.places
+    (λ kept. subst (AreKept show q (places_of c.args.self.now.pieces)) (sym new) (subst (λ w. AreKept show q w (kids_places (set kids i (Own n)))) (sym old)
+    (kept-child show q kids i child n within c.index_mut-in-Inner.ensures.value
+    (subst (λ (x : Child). AreKept show q (child_places x) (places_of c.replace.new.self.pieces)) (sym c.in-Own.is)
+    (subst (λ (s : Seen). AreKept show q (places_of s.pieces) (places_of c.replace.new.self.pieces)) c.deref_mut.ensures.value kept)))))
+
+pub returns-in-Placed-clause-places : goal.returns-in-Placed-clause-places
+returns-in-Placed-clause-places g t c =
+    let p = g.C.Chunks.contents c.copied_child.new.chunks in
+    let q = g.C.Chunks.contents c.replace-in-Placed.new.chunks in
+    let show = g.C.Held.ShowsChunk.shown in
+    let keys = c.self.inside.keys.texts in
+    let kids = c.in-Inner.kids.items in
+    let child = c.index_mut-in-Inner.result.now in
+    let l = inner_lengths c.self.inside.depth keys c.self.inside.body c.in-Inner.kids c.in-Inner.is c.self.invariant in
+    let i = c.place_of-place.result in
+    let within : i < length kids = omega (arith, c.place_of-place.ensures.0, ap length c.as_slice-in-Inner.ensures, l) in
+    let n : Kid = with_value c.in_ok-node-in-Placed.node c.replace-in-Placed.new.self in
+    let old = own-places c.self.inside.depth keys c.self.inside.body c.in-Inner.kids c.args.self.now.pieces (ap (λ (s : Seen). s.pieces) c.self.view_is) c.in-Inner.is l in
+    let twice = set-set kids i (Placed c.in-Placed.at) (Own n) in
+    let new = ap (λ es. places_of (kids_pieces (c.self.inside.depth - 1) (paired keys es))) twice ∙ places-kids (c.self.inside.depth - 1) keys (set kids i (Own n)) (length-set kids i (Own n) ∙ l) in
+    let copied = kept-grown show p q [] (places_of c.in_ok-node-in-Placed.node.value.pieces) c.replace-in-Placed.ensures.grown c.in_ok-node-in-Placed.ensures.places in
+    let put = subst (λ (s : Seen). AreKept show q (places_of s.pieces) (places_of c.replace-in-Placed.new.self.pieces)) c.deref_mut-in-Placed.ensures.value c.in_ok-replace-in-Placed.ensures.places in
+    let all = kept-trans show q [] (places_of c.in_ok-node-in-Placed.node.value.pieces) (places_of c.replace-in-Placed.new.self.pieces) copied put in
+    subst (AreKept show q (places_of c.args.self.now.pieces)) (sym new) (subst (λ w. AreKept show q w (kids_places (set kids i (Own n)))) (sym old)
+    (kept-child show q kids i child n within c.index_mut-in-Inner.ensures.value (kept-from_none show q (child_places child) (places_of c.replace-in-Placed.new.self.pieces) all)))

@@ -1,12 +1,16 @@
-use Rattle.std.proofs.Common.{◌∙◌, ap, sym, subst}
+use Rattle.std.proofs.Common.{◌≡◌, ◌∙◌, ap, sym, subst, inr, Some, slice_get}
+use Rattle.std.specs.List.{Contains}
 use Rattle.group_history.specs.declared.nodes.Chunk.{Chunk}
 use Rattle.group_history.specs.declared.refs.Ref.{Ref}
 use Rattle.group_history.specs.Refs.{stamp_of}
-use Rattle.group_history.specs.Spelling.{rows_at}
+use Rattle.group_history.specs.Naming.{chunk_content}
+use Rattle.group_history.specs.Spelling.{Contents, rows_at}
+use Rattle.map_tree.specs.Freezing.{places_of}
 use Rattle.map_tree.specs.Copies.{MayBeDeep, IsCopy, chunk_pieces}
 use Rattle.map_tree.specs.Shown.{shown}
 use Rattle.map_tree.specs.Trees.{IsWideAt}
 use Rattle.map_tree.proofs.CopyLemmas.{copyable}
+use Rattle.map_tree.proofs.NamedLemmas.{copy-places}
 use Rattle.map_tree.proofs.OpenLemmas.{rows-kept}
 use Rattle.map_tree.proofs.Shelves.{some_of}
 use Rattle.map_tree.proofs.WideLemmas.{copy_wide}
@@ -36,3 +40,14 @@ returns-clause-wide g c w =
     let k = copyable p c.args.depth (stamp_of c.args.at) s.0 _ r c.in_ok-held.ensures.content in
     copy_wide p c.args.depth c.args.at _ c.in_ok-node.field-0 c.in_ok-held.ensures.content k.deep
     (subst (λ (ch : Chunk Ref). IsCopy c.args.depth ch c.in_ok-node.field-0) c.chunk.ensures c.in_ok-node.ensures) (subst (λ q. IsWideAt q c.args.at) c.leave.ensures w)
+
+pub returns-clause-places : goal.returns-clause-places
+returns-clause-places g c at h =
+    let k = stamp_of c.args.at in
+    let show = g.C.Held.ShowsChunk.shown in
+    inr (
+      c.in_ok-held.held,
+      k,
+      subst (λ (w : Contents). slice_get w k ≡ Some (chunk_content (show c.in_ok-held.held))) (sym c.leave.ensures) c.in_ok-held.ensures.content,
+      copy-places c.args.depth (show c.in_ok-held.held) at (subst (λ ps. Contains (places_of ps) at) (c.in_ok-node.ensures.1 ∙ ap (chunk_pieces c.args.depth) c.chunk.ensures) h),
+    )

@@ -4,12 +4,14 @@ use Rattle.std.specs.Cmp.Lexicographic.{slice_cmp}
 use Rattle.std.specs.FinMap as finite
 use Rattle.group_history.specs.Spelling.{begins_with}
 use Rattle.map_tree.specs.Counts.{half_fresh, HasKept}
+use Rattle.map_tree.specs.Freezing.{AreKept, places_of}
 use Rattle.map_tree.specs.Halves.{half_pieces, IsHalf, least}
 use Rattle.map_tree.specs.Nodes.{HeadIs}
 use Rattle.map_tree.specs.Shown.{Seen, shown, rows_or}
 use Rattle.map_tree.proofs.CountLemmas.{wide_kept}
 use Rattle.map_tree.proofs.JoinLemmas.{some_is}
 use Rattle.map_tree.proofs.LeafLemmas.{put-strict}
+use Rattle.map_tree.proofs.NamedLemmas.{kept-front}
 use Rattle.map_tree.proofs.OpenLemmas.{known}
 use Rattle.map_tree.proofs.RootLemmas.{two, begins_least}
 use Rattle.map_tree.proofs.nodes.Node.put_split.Goals as goal
@@ -88,3 +90,14 @@ unwrap-requires g c =
     let kept : HasKept c.args.self.now.entries c.put.new.self.entries (Some c.in-Ok-Some.half) = subst (HasKept c.args.self.now.entries c.put.new.self.entries) c.in-Ok-Some.field-0-is c.in-Ok-Some.ensures.entries in
     let wide : 16 ≤ length c.as_slice.result.now = omega (arith, kept.0, ap (λ (s : Seen). s.entries) c.self.view_is, ap length c.as_slice.ensures) in
     subst IsSome (sym (c.in_ok-first.ensures wide)) refl
+
+pub returns-in-Ok-None-clause-places : goal.returns-in-Ok-None-clause-places
+returns-in-Ok-None-clause-places g c =
+    kept-front g.C.Held.ShowsChunk.shown (g.C.Chunks.contents c.put.new.chunks) (places_of c.args.self.now.pieces) c.put.new.self.pieces (half_pieces c.in-Ok-None.field-0) c.in-Ok-None.ensures.places
+
+pub returns-in-Ok-Some-clause-places : goal.returns-in-Ok-Some-clause-places
+returns-in-Ok-Some-clause-places g c =
+    let e = ap (λ (s : Seen). s.pieces) c.root_above-in-Ok-Some.view_is ∙ c.root_above.ensures.pieces
+    ∙ ap (λ (s : Seen). s.pieces ++ c.in-Ok-Some.half.node.value.pieces) (c.housed-lower.ensures ∙ c.replace.ensures.value)
+    ∙ ap (λ h. c.put.new.self.pieces ++ half_pieces h) (sym c.in-Ok-Some.field-0-is) in
+    subst (λ ps. AreKept g.C.Held.ShowsChunk.shown (g.C.Chunks.contents c.put.new.chunks) (places_of c.args.self.now.pieces) (places_of ps)) (sym e) c.in-Ok-Some.ensures.places

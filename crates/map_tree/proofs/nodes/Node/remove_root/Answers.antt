@@ -1,13 +1,15 @@
-use Rattle.std.proofs.Common.{◌∙◌, ◌-◌, Some, ap, sym, subst, arith, refl, get_or, remove}
+use Rattle.std.proofs.Common.{[], ◌∷◌, ◌∙◌, ◌-◌, Some, ap, sym, subst, arith, refl, get_or, remove}
 use Rattle.std.specs.Prelude.{IsSome}
 use Rattle.group_history.specs.Rows.{paired}
+use Rattle.map_tree.specs.Freezing.{AreKept, kids_places, places_of}
 use Rattle.map_tree.specs.Nodes.{body_pieces, row_pieces, IsNode}
-use Rattle.map_tree.specs.Removing.{without, IsFate, IsHeir}
+use Rattle.map_tree.specs.Removing.{heir_places, without, IsFate, IsHeir}
 use Rattle.map_tree.specs.Search.{IsPlace}
 use Rattle.map_tree.specs.Shown.{Seen, shown, rows_or, IsTree}
 use Rattle.map_tree.specs.declared.nodes.Body.TheVariants.{Inner}
 use Rattle.map_tree.specs.declared.nodes.Child.{Child}
 use Rattle.map_tree.specs.declared.nodes.Child.TheVariants.{Placed}
+use Rattle.map_tree.proofs.NamedLemmas.{kept-none, own-places, places-kids, places-rows}
 use Rattle.map_tree.proofs.NodeLemmas.{shown-rows, node_down}
 use Rattle.map_tree.proofs.PathLemmas.{node_at}
 use Rattle.map_tree.proofs.ReplaceLemmas.{leaf_rows}
@@ -143,3 +145,40 @@ returns-in-Inner-clause-done g c =
     c.in_ok-remove_at-in-Inner.ensures.done
     ∙ ap (λ z. Some (without c.args.key.now (rows_or z)))
     (shown_later p q c.self.inside.depth c.self.inside.keys.texts c.self.inside.body c.in-Inner.kids c.args.self.now.pieces c.fate_of.ensures.grown (ap (λ (s : Seen). s.pieces) c.self.view_is) c.in-Inner.is c.requires)
+
+pub returns-in-Leaf-clause-places : goal.returns-in-Leaf-clause-places
+returns-in-Leaf-clause-places g c =
+    let p = g.C.Chunks.contents c.args.chunks.now in
+    let show = g.C.Held.ShowsChunk.shown in
+    let old = places_of c.args.self.now.pieces in
+    subst (AreKept show p old) (sym (places-rows (paired c.remove_row.new.keys.texts c.remove_row.new.values.items))) (kept-none show p old)
+
+pub returns-in-Placed-clause-places : goal.returns-in-Placed-clause-places
+returns-in-Placed-clause-places g c =
+    let q = g.C.Chunks.contents c.heir.new.chunks in
+    let show = g.C.Held.ShowsChunk.shown in
+    let keys = c.self.inside.keys.texts in
+    let node : IsNode c.self.inside.depth keys (Inner c.in-Inner.kids) = subst (IsNode c.self.inside.depth keys) c.in-Inner.is c.self.invariant in
+    let old = own-places c.self.inside.depth keys c.self.inside.body c.in-Inner.kids c.args.self.now.pieces (ap (λ (s : Seen). s.pieces) c.self.view_is) c.in-Inner.is node.1.2 in
+    subst (λ w. AreKept show q w (c.in-Placed.at ∷ [])) (sym old) (subst (λ h. AreKept show q (kids_places c.in-Inner.kids.items) (heir_places h)) c.in-Placed.is c.in_ok-at-in-Inner.ensures.places)
+
+pub returns-in-Own-clause-places : goal.returns-in-Own-clause-places
+returns-in-Own-clause-places g c =
+    let q = g.C.Chunks.contents c.heir.new.chunks in
+    let show = g.C.Held.ShowsChunk.shown in
+    let keys = c.self.inside.keys.texts in
+    let node : IsNode c.self.inside.depth keys (Inner c.in-Inner.kids) = subst (IsNode c.self.inside.depth keys) c.in-Inner.is c.self.invariant in
+    let old = own-places c.self.inside.depth keys c.self.inside.body c.in-Inner.kids c.args.self.now.pieces (ap (λ (s : Seen). s.pieces) c.self.view_is) c.in-Inner.is node.1.2 in
+    subst (λ (s : Seen). AreKept show q (places_of c.args.self.now.pieces) (places_of s.pieces)) (sym c.node.view_is)
+    (subst (λ w. AreKept show q w (places_of c.in-Own.node.pieces)) (sym old) (subst (λ h. AreKept show q (kids_places c.in-Inner.kids.items) (heir_places h)) c.in-Own.is c.in_ok-at-in-Inner.ensures.places))
+
+pub returns-in-Inner-clause-places : goal.returns-in-Inner-clause-places
+returns-in-Inner-clause-places g c =
+    let q = g.C.Chunks.contents c.remove_at.new.chunks in
+    let show = g.C.Held.ShowsChunk.shown in
+    let depth = c.self.inside.depth in
+    let keys = c.self.inside.keys.texts in
+    let node : IsNode depth keys (Inner c.in-Inner.kids) = subst (IsNode depth keys) c.in-Inner.is c.self.invariant in
+    let old = own-places depth keys c.self.inside.body c.in-Inner.kids c.args.self.now.pieces (ap (λ (s : Seen). s.pieces) c.self.view_is) c.in-Inner.is node.1.2 in
+    let new = places-kids (depth - 1) c.remove_at.new.keys.texts c.remove_at.new.kids.items c.remove_at.ensures.node.1.2 in
+    subst (AreKept show q (places_of c.args.self.now.pieces)) (sym new) (subst (λ w. AreKept show q w (kids_places c.remove_at.new.kids.items)) (sym old) c.in_ok-remove_at-in-Inner.ensures.places)

@@ -1,14 +1,16 @@
-use Rattle.std.proofs.Common.{◌≡◌, ◌∙◌, ap, sym, subst, Some, refl, arith}
+use Rattle.std.proofs.Common.{[], ◌≡◌, ◌∙◌, ap, sym, subst, Some, refl, arith}
 use Rattle.std.specs.Prelude.{IsSome, option_and_then}
 use Rattle.std.specs.FinMap as finite
 use Rattle.group_history.specs.Refs.{stamp_of}
 use Rattle.group_history.specs.Spelling.{map_at, rows_at}
+use Rattle.map_tree.specs.Freezing.{AreKept, places_of, root_places, tree_places}
 use Rattle.map_tree.specs.Shown.{shown, map_of_rows}
 use Rattle.map_tree.specs.Trees.{root_map, root_fresh, tree_map, IsWide}
 use Rattle.map_tree.specs.Writes.{is_there, is_the_same}
 use Rattle.group_history.proofs.Folding.{prefix_trans}
 use Rattle.map_tree.proofs.AnswerLemmas.{on_ok}
 use Rattle.map_tree.proofs.RootCounts.{own_depth, placed_depth, root_depth_kept, wide_root_grown, is_there as was_there}
+use Rattle.map_tree.proofs.NamedLemmas.{kept-same, kept-grown, kept-trans, kept-from_none}
 use Rattle.map_tree.proofs.OpenLemmas.{rows_at-segment}
 use Rattle.map_tree.proofs.SeekLemmas.{there_is, same_found}
 use Rattle.map_tree.proofs.Shelves.{some_of}
@@ -210,3 +212,21 @@ returns-in-Placed-clause-wide g c w =
     let s = some_of (tree_map p0 c.args.self.now) c.requires in
     let far = prefix_trans p0 p q c.sought.ensures.grown c.copied.ensures.grown in
     c.in_ok-write-in-Placed.ensures.wide (c.in_ok-node-in-Placed.ensures.wide (subst (IsWide q) c.in-Placed.is (wide_root_grown p0 q c.args.self.now.root s.0 far s.1 w)))
+
+pub returns-then-is_same-clause-places : goal.returns-then-is_same-clause-places
+returns-then-is_same-clause-places g c = kept-same g.C.Held.ShowsChunk.shown (g.C.Chunks.contents c.sought.new.chunks) (tree_places c.args.self.now)
+
+pub returns-in-Own-clause-places : goal.returns-in-Own-clause-places
+returns-in-Own-clause-places g c =
+    on_ok c.write.result c.write.ensures.places
+    (λ kept. subst (λ r. AreKept g.C.Held.ShowsChunk.shown (g.C.Chunks.contents c.write.new.chunks) (root_places r) (places_of c.write.new.self.pieces)) (sym c.in-Own.is) kept)
+
+pub returns-in-Placed-clause-places : goal.returns-in-Placed-clause-places
+returns-in-Placed-clause-places g c =
+    let p = g.C.Chunks.contents c.copied.new.chunks in
+    let q = g.C.Chunks.contents c.write-in-Placed.new.chunks in
+    let show = g.C.Held.ShowsChunk.shown in
+    let mid = places_of c.in_ok-node-in-Placed.node.pieces in
+    let new = places_of c.write-in-Placed.new.self.pieces in
+    let copied = kept-grown show p q [] mid c.write-in-Placed.ensures.grown c.in_ok-node-in-Placed.ensures.places in
+    kept-from_none show q (tree_places c.args.self.now) new (kept-trans show q [] mid new copied c.in_ok-write-in-Placed.ensures.places)

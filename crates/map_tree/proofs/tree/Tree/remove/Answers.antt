@@ -1,13 +1,15 @@
-use Rattle.std.proofs.Common.{[], ◌≡◌, ◌∙◌, ap, sym, subst, Some, refl}
+use Rattle.std.proofs.Common.{[], ◌∷◌, ◌≡◌, ◌∙◌, ap, sym, subst, Some, refl}
 use Rattle.std.specs.Prelude.{IsSome}
 use Rattle.std.specs.FinMap as finite
 use Rattle.group_history.specs.Refs.{stamp_of}
 use Rattle.group_history.specs.Spelling.{rows_at}
 use Rattle.group_history.proofs.Folding.{append_nil}
-use Rattle.map_tree.specs.Removing.{without, root_rows, IsWideRoot}
+use Rattle.map_tree.specs.Freezing.{AreKept, places_of, root_places, tree_places}
+use Rattle.map_tree.specs.Removing.{root_left, without, root_rows, IsWideRoot}
 use Rattle.map_tree.specs.Shown.{shown, rows_or}
 use Rattle.map_tree.specs.Trees.{root_map, tree_map, IsWide}
 use Rattle.map_tree.proofs.DeleteLemmas.{own_removed, placed_removed, wide_at-kept}
+use Rattle.map_tree.proofs.NamedLemmas.{kept-grown, kept-trans, kept-from_none}
 use Rattle.map_tree.proofs.OpenLemmas.{rows_at-segment}
 use Rattle.map_tree.proofs.RootCounts.{placed_depth}
 use Rattle.map_tree.proofs.Shelves.{some_of}
@@ -105,3 +107,40 @@ returns-in-Some-2-clause-wide g c w =
     let q = g.C.Chunks.contents c.remove_root-in-Placed.new.chunks in
     let later = wide_at-kept p p3 k sp.segment c.copied.ensures.grown sp.is (subst (IsWide p) c.in-Placed.is w) in
     subst (IsWideRoot q c.remove_root-in-Placed.new.self) c.in-Some-2.is (c.in_ok-remove_root-in-Placed.ensures.wide (c.in_ok-node-in-Placed.ensures.wide later))
+
+pub returns-in-None-clause-places : goal.returns-in-None-clause-places
+returns-in-None-clause-places g c =
+    let q = g.C.Chunks.contents c.remove_root.new.chunks in
+    let show = g.C.Held.ShowsChunk.shown in
+    let n = c.remove_root.new.self in
+    subst (λ r. AreKept show q (root_places r) (places_of n.pieces)) (sym c.in-Own.is)
+    (subst (λ e. AreKept show q (places_of c.in-Own.node.pieces) (root_left n e)) c.in-None.is c.in_ok-remove_root-in-Own.ensures.places)
+
+pub returns-in-Some-clause-places : goal.returns-in-Some-clause-places
+returns-in-Some-clause-places g c =
+    let q = g.C.Chunks.contents c.remove_root.new.chunks in
+    let show = g.C.Held.ShowsChunk.shown in
+    let n = c.remove_root.new.self in
+    subst (λ r. AreKept show q (root_places r) (c.in-Some.end ∷ [])) (sym c.in-Own.is)
+    (subst (λ e. AreKept show q (places_of c.in-Own.node.pieces) (root_left n e)) c.in-Some.is c.in_ok-remove_root-in-Own.ensures.places)
+
+pub returns-in-None-2-clause-places : goal.returns-in-None-2-clause-places
+returns-in-None-2-clause-places g c =
+    let p = g.C.Chunks.contents c.copied.new.chunks in
+    let q = g.C.Chunks.contents c.remove_root-in-Placed.new.chunks in
+    let show = g.C.Held.ShowsChunk.shown in
+    let n = c.remove_root-in-Placed.new.self in
+    let mid = places_of c.in_ok-node-in-Placed.node.pieces in
+    let copied = kept-grown show p q [] mid c.remove_root-in-Placed.ensures.grown c.in_ok-node-in-Placed.ensures.places in
+    kept-from_none show q (tree_places c.args.self.now) (places_of n.pieces) (kept-trans show q [] mid (places_of n.pieces) copied (subst (λ e. AreKept show q mid (root_left n e)) c.in-None-2.is c.in_ok-remove_root-in-Placed.ensures.places))
+
+pub returns-in-Some-2-clause-places : goal.returns-in-Some-2-clause-places
+returns-in-Some-2-clause-places g c =
+    let p = g.C.Chunks.contents c.copied.new.chunks in
+    let q = g.C.Chunks.contents c.remove_root-in-Placed.new.chunks in
+    let show = g.C.Held.ShowsChunk.shown in
+    let n = c.remove_root-in-Placed.new.self in
+    let mid = places_of c.in_ok-node-in-Placed.node.pieces in
+    let new = c.in-Some-2.end ∷ [] in
+    let copied = kept-grown show p q [] mid c.remove_root-in-Placed.ensures.grown c.in_ok-node-in-Placed.ensures.places in
+    kept-from_none show q (tree_places c.args.self.now) new (kept-trans show q [] mid new copied (subst (λ e. AreKept show q mid (root_left n e)) c.in-Some-2.is c.in_ok-remove_root-in-Placed.ensures.places))
