@@ -1,3 +1,4 @@
+pub mod Listed
 pub mod Spelled
 pub mod LastIds
 pub mod Chained

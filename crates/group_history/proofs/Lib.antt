@@ -1,4 +1,3 @@
-pub mod Lists
 pub mod TextMaps
 pub mod Replays
 pub mod Records

@@ -6,4 +6,5 @@ pub mod Crosses
 pub mod Owning
 pub mod Stepping
 pub mod BookLaws
+pub mod Newest
 pub mod FirstPulls

@@ -14,8 +14,7 @@ use Rattle.group_history.specs.Meaning.{Meanings, unknown}
 use Rattle.group_history.specs.Record.{after_change}
 use Rattle.group_history.specs.State.{opening}
 use Rattle.head_word.specs.declared.entry.Entry.{Entry}
-use Rattle.group_history.specs.Spelling.{Spells}
-use Rattle.head_word.specs.Books.{drawn}
+use Rattle.head_word.specs.Books.{drawn, Spells}
 
 abbrev pub no_mutators : Meanings
 no_mutators name args m = unknown

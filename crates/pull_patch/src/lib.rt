@@ -18,3 +18,6 @@ mod response;
 pub use group_history::{apply_patch, cookie_cmp};
 pub use laws::{unknown_fields_law, whole_numbers_law, worked_bodies};
 pub use response::read_response;
+
+#[cfg(test)]
+mod tests;

@@ -1,7 +1,9 @@
 //! The group of a script.
 use crate::mutators::ScriptMutators;
 use group_history::Refusal;
-use rebase::{Call, Plain, Reply, Solo};
+#[cfg(test)]
+use rebase::Plain;
+use rebase::{Call, Reply, Solo};
 
 /// A group whose clients call one after the other.
 pub(crate) trait Group {
@@ -14,6 +16,7 @@ impl Group for Solo<ScriptMutators> {
     }
 }
 
+#[cfg(test)]
 impl Group for Plain<ScriptMutators> {
     fn make_call(&mut self, call: Call<'_>) -> Result<Reply, Refusal> {
         Plain::make_call(self, call)

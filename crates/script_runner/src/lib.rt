@@ -19,4 +19,7 @@ mod script;
 pub use faults::{Fault, ScriptFault};
 pub use mutators::ScriptMutators;
 pub use process::program;
-pub use runner::{Gate, run, run_plain};
+pub use runner::{Gate, run};
+
+#[cfg(test)]
+mod tests;

@@ -1,6 +1,5 @@
-//! Bodies of requests, byte for byte.
+use crate::{Identity, pull_bytes, push_bytes};
 use group_history::{Cookie, Json, Mutation, Refusal, Text, nests_within, read_value};
-use push_body::{Identity, pull_bytes, push_bytes};
 use std::alloc::{AllocError, Global};
 use std::test::Fail;
 
