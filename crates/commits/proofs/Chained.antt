@@ -1,6 +1,7 @@
 -- What the looks along a chain tell of a commit's state.
-use Rattle.std.proofs.Common.{◌≡◌, ℕ, zero, suc, ◌<◌, List, [], ◌∷◌, ◌++◌, reverse, Some, None, Option, slice_get, refl, ap, sym, subst, ◌∙◌, arith, append_assoc}
+use Rattle.std.proofs.Common.{◌≡◌, ℕ, suc, ◌<◌, List, [], ◌∷◌, ◌++◌, reverse, Some, None, Option, slice_get, refl, ap, sym, subst, ◌∙◌, arith, append_assoc}
 use Rattle.std.specs.Prelude.{IsSome}
+use Rattle.std.proofs.lemmas.List.{append-nil}
 use mathlib.Core.List.{IsPrefix, reverse-append}
 use Rattle.group_history.specs.declared.nodes.Commit.{Commit}
 use Rattle.group_history.specs.declared.nodes.Commit.TheVariants.{Snapshot, Local}
@@ -16,8 +17,8 @@ use Rattle.group_history.specs.Ids.{Follows, IdsFollow}
 use Rattle.group_history.specs.State.{State, confirmed_id, ids_of, last_id}
 use Rattle.group_history.specs.Mutating.{after_mutate}
 use Rattle.group_history.specs.Spelling.{Contents, Version, version_at, map_at}
-use Rattle.group_history.proofs.Folding.{append_nil, prefix_trans}
 use Rattle.group_history.specs.Cookies.{Cookie}
+use Rattle.group_history.proofs.Lists.{get_more, prefix_trans}
 use Rattle.commits.specs.declared.chains.Base.{Base}
 use Rattle.commits.specs.declared.chains.Step.{Step}
 use Rattle.commits.specs.Chains.{LiesAt, basis_of, step_of, root_of, own_id, IsSnapshot, IsSnapshotAt, HasCookie, HasBase, IsBase}
@@ -34,11 +35,6 @@ some_version ns k h = of_some (version_at ns k) h
 pub version_stays : (ns more : Contents) (k : ℕ) → IsPrefix ns more → IsSome (version_at ns k) → IsSome (version_at more k)
 version_stays ns more k pre h = let v = some_version ns k h in subst (λ (o : Option Version). IsSome o) (sym (version-grown ns more k v.0 pre v.1)) refl
 
-pub get_more : {A : Type 0} (xs ys : List A) (k : ℕ) (x : A) → slice_get xs k ≡ Some x → slice_get (xs ++ ys) k ≡ Some x
-get_more [] ys k x h = absurd (cc h)
-get_more (y ∷ xs) ys zero x h = h
-get_more (y ∷ xs) ys (suc k) x h = get_more xs ys k x h
-
 pub get_stays : {A : Type 0} (xs ys : List A) (k : ℕ) (x : A) → IsPrefix xs ys → slice_get xs k ≡ Some x → slice_get ys k ≡ Some x
 get_stays xs ys k x pre h = subst (λ (w : List _). slice_get w k ≡ Some x) pre.1 (get_more xs pre.0 k x h)
 
@@ -53,7 +49,7 @@ abbrev pub with_more : State → List Mutation → State
 with_more s xs = record { pulled = s.pulled; cookie = s.cookie; confirmed = s.confirmed; pending = s.pending ++ xs }
 
 with_none : (s : State) → with_more s [] ≡ s
-with_none s = ap (λ (w : List Mutation). let r : State = record { pulled = s.pulled; cookie = s.cookie; confirmed = s.confirmed; pending = w } in r) (append_nil s.pending)
+with_none s = ap (λ (w : List Mutation). let r : State = record { pulled = s.pulled; cookie = s.cookie; confirmed = s.confirmed; pending = w } in r) (append-nil s.pending)
 
 -- While a chain is gone down from a head: the head's state is that of the commit at hand with the mutations met, the newest first.
 pub record IsDescent (first ns : Contents) (head at : ℕ) (met : List Mutation) : Type 0 where
@@ -102,9 +98,6 @@ pub descent_lies : (first ns more : Contents) (head at : ℕ) (met : List Mutati
 descent_lies first ns more head at met (Local c) d pre lies is = absurd (cc (is.1))
 descent_lies first ns more head at met (Snapshot c) d pre lies is =
     (subst (λ (o : Option Version). IsSome o) (sym (version-grown ns more at d.left pre d.here)) refl, (record { cookie = c.cookie; confirmed = c.confirmed; root = stamp_of c.root }, lies))
-
-pub version_here : (first ns : Contents) (head at : ℕ) (met : List Mutation) → IsDescent first ns head at met → IsSome (version_at ns at)
-version_here first ns head at met d = subst (λ (o : Option Version). IsSome o) (sym d.here) refl
 
 -- at the snapshot
 pub descent_ends : (first ns more : Contents) (head at : ℕ) (met : List Mutation) (c : Commit Ref) → IsDescent first ns head at met → IsPrefix ns more → LiesAt more at c → IsSnapshot c

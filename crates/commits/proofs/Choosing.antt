@@ -1,77 +1,25 @@
 -- Which child of a chunk has a key. In rows of strict order one at most has it: the last whose first key isn't above it.
-use Rattle.std.proofs.Common.{◌≡◌, inl, inr, ℕ, Bool, true, false, ◌&&◌, T, List, [], ◌∷◌, ◌++◌, map, Option, Some, None, refl, sym, ap, ◌∙◌, subst, arith, Ordering, Less, Equal, Greater, is_lt, is_gt, nat_cmp, nat_eq}
+use Rattle.std.proofs.Common.{◌≡◌, inl, inr, ℕ, Bool, true, false, List, [], ◌∷◌, ◌++◌, map, Option, Some, None, refl, sym, ap, ◌∙◌, subst, Less, is_gt}
 use Rattle.std.specs.Prelude.{if◌then◌else◌}
 use Rattle.std.specs.List.{Contains}
 use Rattle.std.specs.Ordering.{ordering_reverse}
-use Rattle.std.specs.Cmp.Lexicographic.{slice_cmp, nat_list_cmp_total}
+use Rattle.std.specs.Cmp.Lexicographic.{nat_list_cmp_total}
 use Rattle.std.proofs.lemmas.Cmp.{tied_itself}
 use Rattle.std.proofs.lemmas.List.Elements.{Contains-append_left, Contains-append_right}
-use Rattle.std.proofs.lemmas.Bool.Decides.{nat_tests}
-use Rattle.std.specs.Cmp.Lexicographic.{pointwise}
-use Rattle.std.specs.FinMap as finite
-use Rattle.std.specs.FinMap.Entries.{below_all}
-use Rattle.group_history.specs.Map.{Bytes, same_text}
+use Rattle.group_history.specs.Map.{Bytes}
 use Rattle.group_history.specs.Rows.{Rows, keys_of, values_of}
 use Rattle.group_history.specs.Spelling.{Spelled, rows_in, begins_with, joined_one, joined_rows}
+use Rattle.group_history.proofs.Lists.{cons_cases, no_element, map_from, map_to, first_here}
 use Rattle.commits.specs.Meeting.{or_this, choose}
-use Rattle.commits.proofs.Spelled.{cons_cases, no_element, joined_one-some}
-use Rattle.commits.proofs.Findings.{map_from, map_to, first_here}
-
-abbrev pub cmp : Bytes → Bytes → Ordering
-cmp x y = slice_cmp nat_cmp x y
-
--- this key is below each of these
-abbrev pub AllAbove : Bytes → Rows → Type 0
-AllAbove k [] = Unit {0}
-AllAbove k (r ∷ rs) = (cmp k r.0 ≡ Less) × AllAbove k rs
-
--- each key is below those behind it
-abbrev pub IsStrict : Rows → Type 0
-IsStrict [] = Unit {0}
-IsStrict (r ∷ rs) = AllAbove r.0 rs × IsStrict rs
-
-first : (a b : Bool) → T (a && b) → T a
-first true b p = tt
-first false b p = p
-
-second : (a b : Bool) → T (a && b) → T b
-second true b p = p
-second false b p = absurd p
-
-less : (o : Ordering) → T (is_lt o) → o ≡ Less
-less Less p = refl
-less Equal p = absurd p
-less Greater p = absurd p
-
-above_test : (k : Bytes) (rs : Rows) → T (below_all (slice_cmp nat_cmp) k rs) → AllAbove k rs
-above_test k [] h = tt
-above_test k (r ∷ rs) h = (less _ (first _ _ h), above_test k rs (second _ _ h))
-
-pub strict : (rs : Rows) → T (finite.is_sorted (slice_cmp nat_cmp) rs) → IsStrict rs
-strict [] h = tt
-strict (r ∷ rs) h = (above_test r.0 rs (first _ _ h), strict rs (second _ _ h))
-
-above_back : (k : Bytes) (a b : Rows) → AllAbove k (a ++ b) → AllAbove k b
-above_back k [] b h = h
-above_back k (r ∷ a) b h = above_back k a b h.1
-
-above_front : (k : Bytes) (a b : Rows) → AllAbove k (a ++ b) → AllAbove k a
-above_front k [] b h = tt
-above_front k (r ∷ a) b h = (h.0, above_front k a b h.1)
-
-strict_back : (a b : Rows) → IsStrict (a ++ b) → IsStrict b
-strict_back [] b h = h
-strict_back (r ∷ a) b h = strict_back a b h.1
-
-strict_front : (a b : Rows) → IsStrict (a ++ b) → IsStrict a
-strict_front [] b h = tt
-strict_front (r ∷ a) b h = (above_front r.0 a b h.0, strict_front a b h.1)
+use Rattle.commits.proofs.Spelled.{joined_one-some}
+use Rattle.map_tree.proofs.Texts.{same_text-is}
+use Rattle.map_tree.proofs.RowLemmas.{cmp, AllAbove, IsStrict, AllAbove-back, AllAbove-front, IsStrict-back, IsStrict-front}
 
 -- a key of a front is below all behind the front
 above_seam : (k : Bytes) (a b : Rows) → IsStrict (a ++ b) → Contains (keys_of a) k → AllAbove k b
 above_seam k [] b h has = absurd (no_element k has)
 above_seam k (r ∷ a) b h has = elim (cons_cases r.0 (keys_of a) k has) [
-  | inl e ↦ subst (λ (w : Bytes). AllAbove w b) e (above_back r.0 a b h.0)
+  | inl e ↦ subst (λ (w : Bytes). AllAbove w b) e (AllAbove-back r.0 a b h.0)
   | inr q ↦ above_seam k a b h.1 q
 ]
 
@@ -79,26 +27,9 @@ above_has : (k j : Bytes) (rs : Rows) → AllAbove k rs → Contains (keys_of rs
 above_has k j [] h has = absurd (no_element j has)
 above_has k j (r ∷ rs) h has = elim (cons_cases r.0 (keys_of rs) j has) [ inl e ↦ subst (λ (w : Bytes). cmp k w ≡ Less) e h.0 | inr q ↦ above_has k j rs h.1 q ]
 
-and_first : (a b : Bool) → (a && b) ≡ true → a ≡ true
-and_first true b h = refl
-and_first false b h = h
-
-and_second : (a b : Bool) → (a && b) ≡ true → b ≡ true
-and_second true b h = h
-and_second false b h = absurd (cc h)
-
-same_texts : (x y : Bytes) → same_text x y ≡ true → x ≡ y
-same_texts [] [] h = refl
-same_texts [] (b ∷ y) h = absurd (cc h)
-same_texts (a ∷ x) [] h = absurd (cc h)
-same_texts (a ∷ x) (b ∷ y) h =
-    let e : a ≡ b = (let g = and_first (nat_eq a b) (pointwise nat_eq x y) h in grind (arith, nat_tests)) in
-    let r = same_texts x y (and_second (nat_eq a b) (pointwise nat_eq x y) h) in
-    cc (e, r)
-
 begins : (k : Bytes) (rs : Rows) → begins_with k rs ≡ true → (r : Bytes × Bytes) × (rest : Rows) × (rs ≡ r ∷ rest) × (r.0 ≡ k)
 begins k [] h = absurd (cc h)
-begins k (r ∷ rs) h = (r, rs, refl, same_texts r.0 k h)
+begins k (r ∷ rs) h = (r, rs, refl, same_text-is r.0 k h)
 
 turned_less : (x y : Bytes) → cmp x y ≡ Less → is_gt (cmp y x) ≡ true
 turned_less x y h = ap is_gt (nat_list_cmp_total.antisymm y x ∙ ap ordering_reverse h)
@@ -143,9 +74,9 @@ module _ (done : List (Option Spelled)) (d : ℕ) (k : Bytes) where
   none_above (e ∷ es) rows h above =
       let r = split e es rows h in
       let all : AllAbove k (r.0 ++ r.1) = subst (AllAbove k) (sym r.4) above in
-      let rest = none_above es r.1 r.3 (above_back k r.0 r.1 all) in
+      let rest = none_above es r.1 r.3 (AllAbove-back k r.0 r.1 all) in
       let s = begins e.0 r.0 r.5 in
-      let low : cmp k e.0 ≡ Less = subst (λ (w : Bytes). cmp k w ≡ Less) s.3 (subst (AllAbove k) s.2 (above_front k r.0 r.1 all)).0 in
+      let low : cmp k e.0 ≡ Less = subst (λ (w : Bytes). cmp k w ≡ Less) s.3 (subst (AllAbove k) s.2 (AllAbove-front k r.0 r.1 all)).0 in
       ap (λ o. or_this o (if is_gt (cmp e.0 k) then None else Some e.1)) rest ∙ ap (λ b. if b then None else Some e.1) (turned_less k e.0 low)
 
   -- the child that has the key is chosen
@@ -158,9 +89,9 @@ module _ (done : List (Option Spelled)) (d : ℕ) (k : Bytes) where
         | inl q ↦ (let same : rs ≡ r.0 = (let x : Some rs ≡ Some r.0 = sym is ∙ (ap (rows_in done d) (sym q) ∙ r.2) in cc x) in
             let own : Contains (keys_of r.0) k = subst (λ (w : Rows). Contains (keys_of w) k) same key in
             let rest = none_above es r.1 r.3 (above_seam k r.0 r.1 all own) in
-            let low = first_low k e.0 r.0 (strict_front r.0 r.1 all) r.5 own in
+            let low = first_low k e.0 r.0 (IsStrict-front r.0 r.1 all) r.5 own in
             ap (λ o. or_this o (if is_gt (cmp e.0 k) then None else Some e.1)) rest ∙ (ap (λ b. if b then None else Some e.1) low ∙ ap Some q))
-        | inr q ↦ ap (λ o. or_this o (if is_gt (cmp e.0 k) then None else Some e.1)) (chosen es r.1 c rs r.3 (strict_back r.0 r.1 all) q is key)
+        | inr q ↦ ap (λ o. or_this o (if is_gt (cmp e.0 k) then None else Some e.1)) (chosen es r.1 c rs r.3 (IsStrict-back r.0 r.1 all) q is key)
       ]
 
   -- no child is empty
@@ -190,10 +121,10 @@ module _ (done : List (Option Spelled)) (d : ℕ) (k : Bytes) where
       let all : IsStrict (r.0 ++ r.1) = subst IsStrict (sym r.4) order in
       elim (cons_cases e.1 (values_of es) c has) [
         | inl q ↦ (let same : r.0 ≡ rs = (let x : Some r.0 ≡ Some rs = sym r.2 ∙ (ap (rows_in done d) q ∙ is) in cc x) in (
-          subst IsStrict same (strict_front r.0 r.1 all),
+          subst IsStrict same (IsStrict-front r.0 r.1 all),
           λ i. subst (λ (w : Rows). Contains (keys_of w) k) r.4 (in_front r.0 r.1 (subst (λ (w : Rows). Contains (keys_of w) k) (sym same) i)),
         ))
-        | inr q ↦ (let p = part es r.1 c rs r.3 (strict_back r.0 r.1 all) q is in (p.0, λ i. subst (λ (w : Rows). Contains (keys_of w) k) r.4 (in_back r.0 r.1 (p.1 i))))
+        | inr q ↦ (let p = part es r.1 c rs r.3 (IsStrict-back r.0 r.1 all) q is in (p.0, λ i. subst (λ (w : Rows). Contains (keys_of w) k) r.4 (in_back r.0 r.1 (p.1 i))))
       ]
     where
       in_front : (a b : Rows) → Contains (keys_of a) k → Contains (keys_of (a ++ b)) k

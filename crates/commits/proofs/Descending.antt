@@ -16,14 +16,15 @@ use Rattle.group_history.specs.Refs.{stamp_of}
 use Rattle.group_history.specs.Rows.{paired, keys_of, values_of}
 use Rattle.group_history.specs.Naming.{children}
 use Rattle.group_history.specs.Spelling.{Contents, Segment, Spelled, segment, segment_in, rows_if, rows_in, joined_rows, sized, chunk_in, map_of, segment_at, map_at}
-use Rattle.group_history.proofs.Folding.{and_then-some, prefix_trans}
+use Rattle.group_history.proofs.Folding.{and_then-some}
+use Rattle.group_history.proofs.Lists.{prefix_trans, no_element, first_here, later_here}
 use Rattle.commits.specs.Reach.{Reaches, itself, through}
 use Rattle.commits.specs.Meeting.{or_this, choose, child_for, HasKey, LiesChunk}
-use Rattle.commits.proofs.Spelled.{made_of, spelled_segment, option_map-some, sized-some, below_segment, segment-grown, chunk-at, inner-at, no_element, joined_there}
-use Rattle.commits.proofs.Findings.{first_here, later_here}
+use Rattle.commits.proofs.Spelled.{made_of, spelled_segment, option_map-some, sized-some, below_segment, segment-grown, chunk-at, inner-at, joined_there}
 use Rattle.std.proofs.lemmas.Bool.{eq-eqb}
-use Rattle.commits.proofs.Choosing.{IsStrict, strict, chosen, part}
+use Rattle.commits.proofs.Choosing.{chosen, part}
 use Rattle.commits.proofs.Reached.{IsThere, there_segment, reaches_stays, reaches_back, child_there}
+use Rattle.map_tree.proofs.RowLemmas.{IsStrict, strict}
 
 -- the rows of a stamp's chunk are in strict order
 abbrev pub Ordered : Contents → ℕ → Type 0

@@ -1,5 +1,5 @@
 -- Lists of what was found, by stamp.
-use Rattle.std.proofs.Common.{◌≡◌, ℕ, inl, inr, List, [], ◌∷◌, ◌++◌, map, refl, ap, sym, subst, ◌∙◌, arith}
+use Rattle.std.proofs.Common.{◌≡◌, ℕ, inl, inr, List, [], ◌∷◌, ◌++◌, map, refl, ap, sym, subst, ◌∙◌}
 use Rattle.std.specs.List.{Contains}
 use Rattle.std.specs.Ordering.{nat_cmp, match_ordering}
 use Rattle.std.specs.BTreeMap.{insert_entry}
@@ -9,25 +9,7 @@ use Rattle.std.proofs.lemmas.List.Elements.{Contains-append_cases, Contains-appe
 use Rattle.std.proofs.lemmas.Map.Lookups.{exact_unsigned}
 use Rattle.commits.specs.declared.founds.Found.{Found}
 use Rattle.commits.specs.Reach.{stamp_in, AreKeyed, HasStamp, Adds}
-use Rattle.commits.proofs.Spelled.{only_one, cons_cases, no_element}
-
-pub one_here : {A : Type 0} (x : A) → Contains (x ∷ []) x
-one_here x = (0, omega arith, refl)
-
-pub first_here : {A : Type 0} (x : A) (xs : List A) → Contains (x ∷ xs) x
-first_here x xs = Contains-append_left (x ∷ []) xs x (one_here x)
-
-pub later_here : {A : Type 0} (y : A) (xs : List A) (x : A) → Contains xs x → Contains (y ∷ xs) x
-later_here y xs x h = Contains-append_right (y ∷ []) xs x h
-
--- an element behind a map comes from one before it, and the other way
-pub map_from : {A B : Type 0} (f : A → B) (xs : List A) (y : B) → Contains (map f xs) y → (x : A) × Contains xs x × (f x ≡ y)
-map_from f [] y h = absurd (no_element y h)
-map_from f (x ∷ xs) y h = elim (cons_cases (f x) (map f xs) y h) [ inl e ↦ (x, first_here x xs, e) | inr q ↦ (let r = map_from f xs y q in (r.0, later_here x xs r.0 r.1, r.2)) ]
-
-pub map_to : {A B : Type 0} (f : A → B) (xs : List A) (x : A) → Contains xs x → Contains (map f xs) (f x)
-map_to f [] x h = absurd (no_element x h)
-map_to f (y ∷ xs) x h = elim (cons_cases y xs x h) [ inl e ↦ subst (λ w. Contains (f y ∷ map f xs) (f w)) e (first_here (f y) (map f xs)) | inr q ↦ later_here (f y) (map f xs) (f x) (map_to f xs x q) ]
+use Rattle.group_history.proofs.Lists.{only_one, cons_cases, no_element, one_here, first_here, later_here, map_to}
 
 keyed_first : (e : ℕ × Found) (es : List (ℕ × Found)) → AreKeyed (e ∷ es) → e.0 ≡ stamp_in e.1
 keyed_first e es h = let p : e.0 ≡ stamp_in e.1 = cc h in p
@@ -96,9 +78,6 @@ keyed_at es f keyed h =
 pub keyed_last : (es : List (ℕ × Found)) (e : ℕ × Found) → AreKeyed (es ++ e ∷ []) → AreKeyed es × (e.0 ≡ stamp_in e.1)
 keyed_last [] e keyed = (refl, keyed_first e [] keyed)
 keyed_last (d ∷ es) e keyed = let r = keyed_last es e (keyed_rest d (es ++ e ∷ []) keyed) in (cons_both (keyed_first d (es ++ e ∷ []) keyed) r.0, r.1)
-
-pub adds_none : (a : List Found) → Adds a [] a
-adds_none a = record { from = λ g h. inl h; kept = λ g h. (g, h, refl); added = λ g h. absurd (no_element g h) }
 
 pub adds_more : (a b d xs ys : List Found) → Adds a xs b → Adds b ys d → Adds a (xs ++ ys) d
 adds_more a b d xs ys p q =

@@ -8,9 +8,8 @@ use Rattle.std.proofs.lemmas.Bool.{cases_lt}
 use Rattle.std.proofs.Math.Nat.{eq-or-lt_of_le}
 use Rattle.group_history.specs.declared.refs.Ref.{Ref}
 use Rattle.group_history.specs.Refs.{stamp_of}
+use Rattle.group_history.proofs.Lists.{only_one, map_from, map_to}
 use Rattle.commits.specs.Reach.{Falls, stamps_of, Leaves}
-use Rattle.commits.proofs.Spelled.{only_one, no_element}
-use Rattle.commits.proofs.Findings.{map_from, map_to}
 use Rattle.commits.proofs.Listing.{falls_append}
 
 pub element : (xs : List ℕ) (j : ℕ) → j < length xs → Contains xs (slice_index xs j)
@@ -122,18 +121,6 @@ module _ (before kept left : List Ref) (i from place : ℕ) (d : Ref) (falls : F
         leaves = subst (λ (w : List Ref). Leaves w kept (left ++ x ∷ [])) (sym (take_more before i d low)) (leaves_add (take i before) kept left x is.leaves out);
         falls = subst Falls (sym (map-append stamp_of left (x ∷ []))) (falls_append (stamps_of left) (stamp_of x) is.falls (above_next before kept left i d falls is.leaves low));
       }
-
-pub merge_begins : (before kept : List Ref) → IsMerge before kept [] 0 0
-merge_begins before kept = record {
-  within = omega arith;
-  past = λ j k l m n. absurd (omega (arith, l));
-  leaves = λ r. (λ h. absurd (no_element r h), λ q. absurd (no_element r (subst (λ (w : List Ref). Contains w r) (take_none before) q.0)));
-  falls = tt;
-}
-  where
-    take_none : (rs : List Ref) → take 0 rs ≡ []
-    take_none [] = refl
-    take_none (r ∷ rs) = refl
 
 pub take_all : {A : Type 0} (xs : List A) (n : ℕ) → length xs ≤ n → take n xs ≡ xs
 take_all [] zero h = refl

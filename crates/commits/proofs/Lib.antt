@@ -1,4 +1,3 @@
-pub mod Listed
 pub mod Spelled
 pub mod LastIds
 pub mod Chained

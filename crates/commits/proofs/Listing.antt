@@ -11,16 +11,15 @@ use Rattle.group_history.specs.declared.refs.Ref.{Ref}
 use Rattle.group_history.specs.Refs.{stamp_of}
 use Rattle.group_history.specs.Naming.{children, content_of}
 use Rattle.group_history.specs.Spelling.{Contents, Version, version_at, map_at}
-use Rattle.group_history.proofs.Folding.{prefix_trans}
+use Rattle.group_history.proofs.Lists.{prefix_trans, only_one, cons_cases, no_element, one_here, first_here, later_here, map_from, map_to}
 use Rattle.commits.specs.declared.founds.Found.{Found}
 use Rattle.commits.specs.declared.founds.Found.TheVariants as found
 use Rattle.commits.specs.Reach.{Reaches, itself, through, Falls, stamps_of, IsShown, IsNamed, ref_in, stamp_in, found_in, IsSpelled, HasStamp, Adds}
 use Rattle.std.specs.Prelude.{IsSome}
 use Rattle.commits.proofs.Descending.{map_ordered}
 use Rattle.commits.proofs.Rooted.{map_some_stays, kept_grown}
-use Rattle.commits.proofs.Spelled.{content-at, only_one, cons_cases, no_element}
+use Rattle.commits.proofs.Spelled.{content-at}
 use Rattle.commits.proofs.Chained.{get_stays}
-use Rattle.commits.proofs.Findings.{one_here, first_here, later_here, map_from, map_to}
 use Rattle.commits.proofs.Reached.{IsThere, there_segment, child_there, there_found, spelled_grown, names_spelled, found_stamps, found_refs, reaches_stays, reaches_child, closed}
 
 -- listed already, or still ahead, or kept by the root

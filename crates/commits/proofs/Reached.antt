@@ -16,14 +16,13 @@ use Rattle.group_history.specs.Rows.{values_of}
 use Rattle.group_history.specs.Folds.{answer}
 use Rattle.group_history.specs.Naming.{children, content_of, chunk_content, commit_content}
 use Rattle.group_history.specs.Spelling.{Contents, Segment, Version, Spelled, segment, version, as_segment, as_version, spelled, segment_at, version_at, map_at, map_of}
-use Rattle.group_history.proofs.Folding.{and_then-some, folded_stays}
+use Rattle.group_history.proofs.Folding.{and_then-some}
 use Rattle.commits.specs.declared.founds.Found.{Found}
 use Rattle.commits.specs.declared.founds.Found.TheVariants as found
 use Rattle.commits.specs.Reach.{Reaches, itself, through, IsSpelled, stamp_in, ref_in, found_in, found_in_commit}
-use Rattle.commits.proofs.Spelled.{local-at, snapshot-at, inner-at, commit-at, chunk-at, content-at, spelled_version, spelled_segment, segment-grown, version-grown, only_one, cons_cases, no_element}
-use Rattle.commits.proofs.Findings.{map_from, map_to}
+use Rattle.commits.proofs.Spelled.{local-at, snapshot-at, inner-at, commit-at, chunk-at, content-at, spelled_version, spelled_segment, segment-grown, version-grown}
 use Rattle.commits.proofs.Chained.{get_stays}
-use Rattle.group_history.specs.Spelling.{spelled_by}
+use Rattle.group_history.proofs.Lists.{only_one, cons_cases, no_element, map_from, map_to}
 
 -- the stamp spells something
 abbrev pub IsThere : Contents → ℕ → Type 0
@@ -37,9 +36,6 @@ there_version ns k v h = (version v, spelled_version ns k v h)
 
 pub root_segment : (ns : Contents) (k : ℕ) (m : Entries) → map_at ns k ≡ Some m → (s : Segment) × (segment_at ns k ≡ Some s)
 root_segment ns k m h = let s = and_then-some (segment_at ns k) map_of m h in (s.0, s.1)
-
-pub there_grown : (ns more : Contents) (k : ℕ) → IsPrefix ns more → IsThere ns k → IsThere more k
-there_grown ns more k pre t = (t.0, subst (λ (w : Contents). answer (spelled w) k ≡ Some t.0) pre.1 (folded_stays spelled_by ns pre.0 k t.0 t.1))
 
 -- The children of what spells something have smaller stamps and spell something.
 commit_child : (ns : Contents) (k c : ℕ) (n : Commit ℕ) (v : Version) → slice_get ns k ≡ Some (node.Commit n) → version_at ns k ≡ Some v → Contains (children (node.Commit n)) c → (c < k) × IsThere ns c

@@ -15,15 +15,14 @@ use Rattle.group_history.specs.Refs.{stamp_of}
 use Rattle.group_history.specs.Rows.{Rows, keys_of, values_of}
 use Rattle.group_history.specs.Naming.{children, commit_content}
 use Rattle.group_history.specs.Spelling.{Contents, Segment, Version, segment, chunk_in, segment_at, version_at, map_at}
-use Rattle.group_history.proofs.Folding.{prefix_trans}
+use Rattle.group_history.proofs.Lists.{prefix_trans, no_element, first_here, later_here}
 use Rattle.commits.specs.declared.chains.Base.{Base}
 use Rattle.commits.specs.declared.chains.Step.{Step}
 use Rattle.commits.specs.Chains.{LiesAt, IsShownAt, HasBase, basis_of, step_of, root_of}
 use Rattle.commits.specs.Reach.{Reaches, IsNamed, itself, through}
 use Rattle.commits.specs.Meeting.{keys_in, IsFirst, HasKey, LiesChunk}
-use Rattle.commits.proofs.Spelled.{made_of, spelled_segment, option_map-some, sized-some, chunk-at, inner-at, local-at, not_both, no_element, version-grown, segment-grown, map-grown}
+use Rattle.commits.proofs.Spelled.{made_of, spelled_segment, option_map-some, sized-some, chunk-at, inner-at, local-at, not_both, version-grown, segment-grown, map-grown}
 use Rattle.commits.proofs.Chained.{some_version, root_read}
-use Rattle.commits.proofs.Findings.{first_here, later_here}
 use Rattle.commits.proofs.Choosing.{filled, first_part}
 use Rattle.commits.proofs.Descending.{inner_parts, map_ordered}
 use Rattle.commits.proofs.Reached.{there_segment, reaches_stays, reaches_back, reaches_child}
@@ -35,9 +34,6 @@ leaf_rows ns k rows s h is =
     let o = option_map-some segment (chunk_in u.0 (Leaf rows)) (segment s) u.1 in
     let same : o.0 ≡ s = cc (o.2) in
     ap (λ (x : Segment). x.rows) (sym same) ∙ (sized-some _ 1 rows o.0 o.1).1
-
-stamped : List (Bytes × Ref) → List (Bytes × ℕ)
-stamped kids = map (λ (e : Bytes × Ref). (e.0, stamp_of e.1)) kids
 
 pub first_has : (ns : Contents) (k : ℕ) (s : Segment) (c : Chunk Ref) (key : Bytes) → segment_at ns k ≡ Some s → LiesChunk ns k c → IsFirst (keys_in c) (Some key) → HasKey ns k key
 first_has ns k s (Leaf rows) key h lies f =

@@ -1,8 +1,7 @@
 -- What the commit or the chunk of a stamp spells, by its children.
-use Rattle.std.proofs.Common.{◌≡◌, ℕ, zero, suc, ◌+◌, ◌<◌, ◌⊎◌, inl, inr, Bool, true, false, List, [], ◌∷◌, ◌++◌, map, length, Some, None, Option, slice_get, refl, ap, sym, subst, ◌∙◌, arith}
+use Rattle.std.proofs.Common.{◌≡◌, ℕ, ◌+◌, ◌<◌, inl, inr, Bool, true, false, List, [], ◌∷◌, ◌++◌, map, length, Some, None, Option, slice_get, refl, ap, sym, subst, ◌∙◌, arith}
 use Rattle.std.specs.Prelude.{option_and_then, option_map, nat_le, ◌==◌, if◌then◌else◌}
 use Rattle.std.specs.List.{Contains}
-use Rattle.std.proofs.lemmas.List.Elements.{Contains-append_cases}
 use mathlib.Core.List.{IsPrefix}
 use Rattle.std.proofs.lemmas.Bool.{eqb-true}
 use Rattle.std.proofs.lemmas.Option.{slice_get_cases}
@@ -21,6 +20,7 @@ use Rattle.group_history.specs.Folds.{answer}
 use Rattle.group_history.specs.Spelling.{Contents, Segment, Version, Spelled, segment, version, as_segment, as_version, segment_in, version_in, rows_if, rows_in, begins_with, joined_one, joined_rows, sized, chunk_in, map_of, map_in, commit_in, spelled_by, spelled, segment_at, version_at, map_at}
 use Rattle.group_history.proofs.Folding.{and_then-some, folded_at, answer_within, length_folded}
 use Rattle.group_history.proofs.Spellings.{segment-stays, version-stays, map-stays}
+use Rattle.group_history.proofs.Lists.{no_element, cons_cases}
 
 -- a value behind a map came from one before it
 pub option_map-some : {A B : Type 0} (f : A → B) (o : Option A) (v : B) → option_map f o ≡ Some v → (x : A) × (o ≡ Some x) × (f x ≡ v)
@@ -130,16 +130,6 @@ pub content-at : (ns : Contents) (k : ℕ) (x : Spelled) → answer (spelled ns)
 content-at ns k x h =
     let low = answer_within (spelled ns) k x h in
     elim (slice_get_cases ns k).1 [ inl p ↦ (p.0, p.2) | inr q ↦ absurd (omega (arith, low, length_folded spelled_by [] ns, q.0)) ]
-
-pub only_one : {A : Type 0} (y x : A) → Contains (y ∷ []) x → y ≡ x
-only_one y x (zero, low, e) = e
-only_one y x (suc k, low, e) = absurd (omega arith)
-
-pub cons_cases : {A : Type 0} (y : A) (ys : List A) (x : A) → Contains (y ∷ ys) x → (y ≡ x) ⊎ Contains ys x
-cons_cases y ys x h = elim (Contains-append_cases (y ∷ []) ys x h) [ inl p ↦ inl (only_one y x p) | inr q ↦ inr q ]
-
-pub no_element : {A : Type 0} (x : A) → Contains [] x → ⊥
-no_element x h = let l : h.0 < 0 = h.1 in omega arith
 
 if_some : {A : Type 0} {P : Type 0} (b : Bool) (x y : A) → (if b then Some x else None) ≡ Some y → (b ≡ true → P) → P × (x ≡ y)
 if_some true x y h f = (f refl, cc h)

@@ -1,15 +1,10 @@
 -- Answers by stamp, and longer lists of contents.
 use Rattle.std.proofs.Common.{◌≡◌, ℕ, zero, suc, ◌+◌, ◌<◌, List, [], ◌∷◌, ◌++◌, length, Some, None, Option, slice_get, refl, ap, sym, subst, ◌∙◌, arith, append_assoc, length-append}
 use Rattle.std.specs.Prelude.{option_and_then}
+use Rattle.std.proofs.lemmas.List.{append-nil}
 use mathlib.Core.List.{IsPrefix}
 use Rattle.group_history.specs.Folds.{folded, joined, answer}
-
-pub append_nil : {A : Type 0} (xs : List A) → xs ++ [] ≡ xs
-append_nil [] = refl
-append_nil (x ∷ xs) = ap (λ w. x ∷ w) (append_nil xs)
-
-pub prefix_trans : {A : Type 0} (xs ys zs : List A) → IsPrefix xs ys → IsPrefix ys zs → IsPrefix xs zs
-prefix_trans xs ys zs p q = (p.0 ++ q.0, sym (append_assoc xs p.0 q.0) ∙ (ap (λ w. w ++ q.0) p.1 ∙ q.1))
+use Rattle.group_history.proofs.Lists.{prefix_trans}
 
 -- a value behind two steps came from a value behind the first
 pub and_then-some : {A B : Type 0} (o : Option A) (f : A → Option B) (v : B) → option_and_then f o ≡ Some v → (x : A) × (o ≡ Some x) × (f x ≡ Some v)
@@ -40,7 +35,7 @@ folded_more f done [] ys = refl
 folded_more f done (x ∷ xs) ys = folded_more f (done ++ f done x ∷ []) xs ys
 
 pub folded_begins : {N A : Type 0} (f : List (Option A) → N → Option A) (done : List (Option A)) (ns : List N) → IsPrefix done (folded f done ns)
-folded_begins f done [] = ([], append_nil done)
+folded_begins f done [] = ([], append-nil done)
 folded_begins f done (n ∷ ns) = prefix_trans done (done ++ f done n ∷ []) (folded f (done ++ f done n ∷ []) ns) (f done n ∷ [], refl) (folded_begins f (done ++ f done n ∷ []) ns)
 
 pub length_folded : {N A : Type 0} (f : List (Option A) → N → Option A) (done : List (Option A)) (ns : List N) → length (folded f done ns) ≡ length done + length ns

@@ -93,7 +93,7 @@ confirmed_id-insert ids c client P here there =
       | Greater ↦ λ e. there
     ] refl)
 
-or_false : (a b : Bool) → (a || b) ≡ false → (a ≡ false) × (b ≡ false)
+pub or_false : (a b : Bool) → (a || b) ≡ false → (a ≡ false) × (b ≡ false)
 or_false true b e = (cc, cc)
 or_false false b e = (refl, e)
 

@@ -1,3 +1,4 @@
+pub mod Lists
 pub mod TextMaps
 pub mod Replays
 pub mod Records

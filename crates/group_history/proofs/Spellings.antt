@@ -1,5 +1,5 @@
 -- What a stamp spells, and longer lists of contents.
-use Rattle.std.proofs.Common.{◌≡◌, ◌<◌, ℕ, zero, suc, ◌++◌, [], ◌∷◌, length, slice_get, Some, None, Option, refl, ap, sym, ◌∙◌, arith}
+use Rattle.std.proofs.Common.{◌≡◌, ◌<◌, ℕ, zero, suc, ◌++◌, [], ◌∷◌, length, slice_get, Some, None, Option, refl, ap, sym, ◌∙◌, arith, subst}
 use Rattle.std.specs.Prelude.{option_and_then, option_map}
 use Rattle.group_history.specs.declared.nodes.Chunk.{Chunk}
 use Rattle.group_history.specs.declared.nodes.Commit.{Commit}
@@ -7,9 +7,9 @@ use Rattle.group_history.specs.declared.nodes.Node.{Node}
 use Rattle.group_history.specs.declared.nodes.Node.TheVariants as node
 use Rattle.group_history.specs.Map.{Entries}
 use Rattle.group_history.specs.Rows.{Rows}
-use Rattle.group_history.specs.Folds.{answer}
+use Rattle.group_history.specs.Folds.{answer, joined}
 use Rattle.group_history.specs.Spelling.{Contents, Spelled, Segment, Version, as_segment, as_version, segment, version, spelled_by, spelled, segment_at, version_at, rows_at, rows_if, map_at, map_of, chunk_in, commit_in}
-use Rattle.group_history.proofs.Folding.{and_then-some, folded_stays, folded_at, answer_within, length_folded}
+use Rattle.group_history.proofs.Folding.{and_then-some, folded_stays, folded_at, answer_within, length_folded, seam, folded_more}
 
 pub segment-stays : (xs ys : Contents) (k : ℕ) (s : Segment) → segment_at xs k ≡ Some s → segment_at (xs ++ ys) k ≡ Some s
 segment-stays xs ys k s h =
@@ -93,3 +93,11 @@ version-content ns k v h =
         × ((j : ℕ) (y : Spelled) → answer (spelled pre) j ≡ Some y → (j < k) × (answer (spelled ns) j ≡ Some y))
     by (node.Commit c) pre x g at is below = (c, pre, at, a_version (commit_in (spelled pre) c) x v is g, below)
     by (node.Chunk c) pre x g at is below = absurd (no_chunk (chunk_in (spelled pre) c) x v is g)
+
+-- the newest content of a list spells what it makes of those before it
+pub version-newest : (cs : Contents) (c : Node ℕ) → version_at (cs ++ c ∷ []) (length cs) ≡ option_and_then as_version (spelled_by (spelled cs) c)
+version-newest cs c =
+    let done = spelled cs in
+    let long : length done ≡ length cs = let l = length_folded spelled_by [] cs in omega (arith, l) in
+    ap (λ w. option_and_then as_version (joined (slice_get w (length cs)))) (folded_more spelled_by [] cs (c ∷ []))
+    ∙ subst (λ k. option_and_then as_version (joined (slice_get (done ++ spelled_by done c ∷ []) k)) ≡ option_and_then as_version (spelled_by done c)) long (ap (λ o. option_and_then as_version (joined o)) (seam done (spelled_by done c) []))

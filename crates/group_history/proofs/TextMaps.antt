@@ -9,7 +9,7 @@ use Rattle.std.specs.Cmp.Lexicographic.{slice_cmp, nat_list_cmp_total}
 use Rattle.std.specs.BTreeMap.{is_at}
 use Rattle.std.specs.Map.{lookup}
 use Rattle.std.specs.List.{AllZip}
-use Rattle.std.specs.FinMap.{find, entries, empty, len-entries, len-empty, entries-insert, get, insert, remove, from_entries, get-from_entries, get-insert, get-remove, same_map, IsAntisymmetric, slice_cmp-IsAntisymmetric, nat_cmp-IsAntisymmetric}
+use Rattle.std.specs.FinMap.{find, entries, empty, len-entries, len-empty, entries-insert, get, insert, remove, from_entries, get-from_entries, get-insert, get-remove, same_map, IsAntisymmetric, slice_cmp-IsAntisymmetric, nat_cmp-IsAntisymmetric, from_sorted, entries-from_sorted, empty_of_len}
 
 text_cmp-IsAntisymmetric : IsAntisymmetric (slice_cmp nat_cmp)
 text_cmp-IsAntisymmetric = slice_cmp-IsAntisymmetric nat_cmp-IsAntisymmetric
@@ -66,3 +66,7 @@ module _ {V : Type 0} where
   unfolding IsStrictlySortedBy
   entries-from_entries [] h = entries-empty
   entries-from_entries (e ∷ es) h = entries-insert nat_list_cmp_total (from_entries es) e.0 e.1 ∙ ap (put (slice_cmp nat_cmp) e.0 e.1) (entries-from_entries es h.1) ∙ put_first e es h
+
+-- no rows make the empty map
+pub empty_map : from_sorted {K = List ℕ} {X = List ℕ} {R = slice_cmp nat_cmp} [] ≡ empty
+empty_map = empty_of_len _ (len-entries _ ∙ ap length (entries-from_sorted (slice_cmp nat_cmp) [] tt))

@@ -1,6 +1,6 @@
 -- What contents spell together: chunks a map's rows, commits a state and the map that queries read.
 -- Source: Replicache, How It Works, "The Client View"; that maps are kept in chunks is this project's own rule.
-use Rattle.std.specs.Prelude.{ℕ, ◌+◌, nat_le, ◌==◌, Bool, false, List, [], ◌∷◌, ◌++◌, map, length, if◌then◌else◌, Some, None, Option, option_and_then, option_map}
+use Rattle.std.specs.Prelude.{ℕ, ◌+◌, nat_le, ◌==◌, Bool, false, List, [], ◌∷◌, ◌++◌, map, length, if◌then◌else◌, Some, None, Option, option_and_then, option_map, ◌≡◌}
 use Rattle.std.specs.Ordering.{nat_cmp}
 use Rattle.std.specs.Cmp.Lexicographic.{slice_cmp}
 use Rattle.std.specs.FinMap as finite
@@ -12,9 +12,10 @@ use Rattle.group_history.specs.declared.nodes.Node.{Node}
 use Rattle.group_history.specs.declared.nodes.Node.TheVariants as node
 use Rattle.group_history.specs.Map.{Bytes, Entries, same_text}
 use Rattle.group_history.specs.Rows.{Rows}
-use Rattle.group_history.specs.State.{State}
+use Rattle.group_history.specs.State.{State, view_of}
 use Rattle.group_history.specs.Mutating.{after_mutate}
 use Rattle.group_history.specs.Folds.{folded, answer}
+use Rattle.group_history.specs.Meaning.{Meanings}
 
 -- contents by stamp; each names its children by their stamps
 abbrev pub Contents : Type 0
@@ -122,3 +123,11 @@ map_at contents root = map_in (spelled contents) root
 
 abbrev pub version_at : Contents → ℕ → Option Version
 version_at contents k = version_in (spelled contents) k
+
+-- the version of a state: queries read the state's view
+abbrev pub version_of : Meanings → State → Version
+version_of means s = record { state = s; read = view_of means s }
+
+-- the commit of the stamp spells the state, and queries read the state's view there
+abbrev pub Spells : Meanings → Contents → ℕ → State → Type 0
+Spells means contents stamp s = version_at contents stamp ≡ Some (version_of means s)

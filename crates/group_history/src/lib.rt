@@ -39,6 +39,3 @@ pub use scans::{Scan, Start};
 pub use steps::{apply_patch, is_going_back, is_saying_nothing, keep_unconfirmed, overwrite};
 pub use text_map::TextMap;
 pub use texts::Text;
-
-#[cfg(test)]
-mod tests;

@@ -1,21 +1,21 @@
 -- The laws of books.
-use Rattle.std.proofs.Common.{Option, ◌≡◌, ℕ, zero, suc, ◌+◌, ◌<◌, ◌≤◌, ◌==◌, ◌&&◌, Bool, true, false, List, [], ◌∷◌, ◌++◌, ◌⊎◌, inl, inr, length, slice_get, Some, refl, ap, sym, ◌∙◌, subst, arith, length-append}
+use Rattle.std.proofs.Common.{◌≡◌, ℕ, zero, suc, ◌+◌, ◌<◌, ◌≤◌, ◌==◌, ◌&&◌, Bool, true, false, List, [], ◌∷◌, ◌++◌, ◌⊎◌, inl, inr, length, slice_get, Some, refl, ap, sym, ◌∙◌, subst, arith, length-append}
 use Rattle.std.specs.Prelude.{option_map}
 use Rattle.std.proofs.lemmas.Option.{slice_get-map}
 use Rattle.std.proofs.lemmas.Bool.{eqb-true}
 use mathlib.Core.List.{IsPrefix}
-use Rattle.group_history.specs.declared.nodes.Child.{Child}
 use Rattle.group_history.specs.declared.nodes.Node.{Node}
 use Rattle.group_history.specs.Meaning.{Meanings}
 use Rattle.group_history.specs.Naming.{drafted_content}
 use Rattle.group_history.specs.Spelling.{Version, version_at}
 use Rattle.group_history.proofs.Spellings.{version-stays}
+use Rattle.group_history.proofs.Lists.{get_more}
 use Rattle.head_word.specs.declared.entry.Draft.{Draft}
 use Rattle.head_word.specs.declared.entry.Entry.{Entry}
 use Rattle.head_word.specs.declared.entry.Entry.TheVariants as v
-use Rattle.head_word.specs.Books.{next_stamp, drafted, drafted_contents, drawn, numbered, record_of}
+use Rattle.head_word.specs.Books.{drafted_contents, drawn, numbered, record_of}
 use Rattle.head_word.specs.Laws.{IsDraftAt, BookLaws}
-use Rattle.head_word.proofs.Beginnings.{get_more, prefix_one}
+use Rattle.head_word.proofs.Beginnings.{prefix_one}
 use Rattle.head_word.proofs.Books.{drawn_more, length-drafted, record_more}
 
 -- the contents of a longer book are longer
@@ -43,15 +43,6 @@ get_front (x ∷ xs) ys (suc k) lt = get_front xs ys k (omega (arith, lt))
 get_back : {A : Type 0} (xs ys : List A) (k : ℕ) → slice_get (xs ++ ys) (length xs + k) ≡ slice_get ys k
 get_back [] ys k = ap (slice_get ys) (let e : 0 + k ≡ k = omega arith in e)
 get_back (x ∷ xs) ys k = ap (slice_get (x ∷ xs ++ ys)) (let e : suc (length xs) + k ≡ suc (length xs + k) = omega arith in e) ∙ get_back xs ys k
-
--- what a draft just added: its node at place p is the content of its first stamp plus p
-pub content-newest : (log : List Entry) (by : Option ℕ) (first : ℕ) (nodes : List (Node Child)) → next_stamp log ≡ first → (p : ℕ) → p < length nodes
-    → slice_get (drawn (log ++ drafted by first nodes ∷ [])) (first + p) ≡ option_map (drafted_content first) (slice_get nodes p)
-content-newest log by first nodes next p lt =
-    let dc = drafted_contents first nodes in
-    ap (λ (k : ℕ). slice_get (drawn (log ++ drafted by first nodes ∷ [])) (k + p)) (sym next)
-    ∙ (ap (λ w. slice_get w (next_stamp log + p)) (drawn_more log (drafted by first nodes ∷ []))
-    ∙ (get_back (drawn log) (dc ++ []) p ∙ (get_front dc [] p (omega (arith, lt, length-drafted first nodes)) ∙ slice_get-map (drafted_content first) nodes p)))
 
 -- by places from the book's front: with n stamps drawn before these entries, a draft's node at place p is n stamps further back
 drafted_at : (n : ℕ) (log : List Entry) → numbered n log ≡ true → (at : ℕ) (d : Draft) → IsDraftAt log at d → (p : ℕ) → p < length d.contents

@@ -14,12 +14,12 @@ use Rattle.group_history.specs.Map.{Bytes}
 use Rattle.group_history.specs.Meaning.{Meanings}
 use Rattle.group_history.specs.Naming.{children, renamed, child_stamp, drafted_content}
 use Rattle.group_history.specs.Rows.{values_of}
-use Rattle.group_history.specs.Spelling.{Contents}
+use Rattle.group_history.specs.Spelling.{Contents, version_of, Spells}
 use Rattle.group_history.specs.State.{State}
 use Rattle.group_history.proofs.Spellings.{version-stays}
 use Rattle.head_word.specs.declared.entry.Entry.{Entry}
 use Rattle.head_word.specs.declared.entry.Entry.TheVariants as v
-use Rattle.head_word.specs.Books.{drafted_contents, drawn, next_stamp, numbered, moved_from, with_change, record_of, AreOrdered, version_of, Spells, StartsOpened, IsBefore, AreAfter}
+use Rattle.head_word.specs.Books.{drafted_contents, drawn, next_stamp, numbered, moved_from, with_change, record_of, AreOrdered, StartsOpened, IsBefore, AreAfter}
 
 pub drawn_more : (xs ys : List Entry) → drawn (xs ++ ys) ≡ drawn xs ++ drawn ys
 drawn_more [] ys = refl

@@ -14,16 +14,16 @@ use Rattle.group_history.specs.Cookies.{Cookie, order_cmp}
 use Rattle.group_history.specs.Pulling.{by_order}
 use Rattle.group_history.specs.Record.{IsAccepted}
 use Rattle.group_history.specs.Refs.{stamp_of}
-use Rattle.group_history.specs.Spelling.{Segment, as_version, map_of, map_in, segment_at, spelled, version_at, version}
+use Rattle.group_history.specs.Spelling.{Segment, as_version, map_of, map_in, segment_at, spelled, version_at, version, Spells}
 use Rattle.group_history.specs.State.{opening as opening_state}
-use Rattle.group_history.proofs.Spellings.{segment-stays}
+use Rattle.group_history.proofs.Spellings.{segment-stays, version-newest}
+use Rattle.group_history.proofs.TextMaps.{empty_map}
 use Rattle.head_word.specs.declared.entry.Entry.{Entry}
 use Rattle.head_word.specs.declared.lost.Lost.{Lost}
-use Rattle.head_word.specs.Books.{drafted, drawn, empty_leaf, next_stamp, opening, Spells, StartsOpened, AreAfter, Follows}
+use Rattle.head_word.specs.Books.{drafted, drawn, empty_leaf, next_stamp, opening, StartsOpened, AreAfter, Follows}
 use Rattle.head_word.specs.Trials.{no_mutators, bare, bare_pull, SpellsBare}
 use Rattle.head_word.proofs.Books.{drawn_more}
-use Rattle.head_word.proofs.Newest.{version-newest}
-use Rattle.head_word.proofs.Stepping.{empty_map, opening_spells, spells_from, starts_from, starts_with}
+use Rattle.head_word.proofs.Stepping.{opening_spells, spells_from, starts_from, starts_with}
 
 -- in every book the leaf of stamp 0 is the empty map
 empty_root : (log : List Entry) → StartsOpened log → map_in (spelled (drawn log)) 0 ≡ Some finite.empty

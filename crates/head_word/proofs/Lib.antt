@@ -6,5 +6,4 @@ pub mod Crosses
 pub mod Owning
 pub mod Stepping
 pub mod BookLaws
-pub mod Newest
 pub mod FirstPulls

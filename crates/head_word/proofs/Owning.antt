@@ -5,10 +5,7 @@ use Rattle.head_word.specs.declared.entry.Answer.{Answer}
 use Rattle.head_word.specs.declared.entry.Entry.{Entry}
 use Rattle.head_word.specs.Tallies.{key_of, count, mine, told_count}
 use Rattle.head_word.specs.Books.{next_stamp}
-use Rattle.logbook.specs.Pages.{Book}
-use Rattle.std.specs.List.{All}
-use Rattle.std.proofs.lemmas.List.Elements.{All-push}
-use Rattle.head_word.specs.Marks.{Known, known, own, own_of, others, seated, HasSeat}
+use Rattle.head_word.specs.Marks.{Known, own, own_of, others}
 use Rattle.head_word.specs.Rules.{answer}
 use Rattle.std.proofs.lemmas.Bool.Decides.{eqb_tells}
 use Rattle.std.proofs.lemmas.Bool.{eq-eqb}
@@ -59,26 +56,11 @@ own_within : (seat : Option ℕ) (log : List Entry) → length (own_of seat log)
 own_within None log = omega arith
 own_within (Some j) log = mine_within (suc j) log
 
-grown_by : (seat : Option ℕ) (xs ys : List Entry) → length (own_of seat (xs ++ ys)) ≤ length (own_of seat xs) + length ys
-grown_by None xs ys = omega arith
-grown_by (Some j) xs ys = omega (arith, ap length (mine_more (suc j) xs ys) ∙ length-append (mine (suc j) xs) (mine (suc j) ys), mine_within (suc j) ys)
-
 -- where a book has more entries, and the same ones of the seat, others added some
 pub others_rise : (m w : Known) → length m.log < length w.log → own w ≡ own m → others m < others w
 others_rise m w more same = omega (arith, more, ap length same, own_within m.seat m.log)
-
--- no step lowers the number of others' entries
-pub others_grow : (m w : Known) → IsPrefix m.log w.log → w.seat ≡ m.seat → others m ≤ others w
-others_grow m w pre seat =
-    let grown : own w ≡ own_of m.seat (m.log ++ pre.0) = (λ i. own_of (seat i) (sym pre.1 i)) in
-    omega (arith, ap length grown, grown_by m.seat m.log pre.0, own_within m.seat m.log, sym (ap length pre.1) ∙ length-append m.log pre.0)
 
 -- a book in which other stamps were drawn since has more entries
 pub drew_more : (xs ys : List Entry) → IsPrefix xs ys → next_stamp ys ≢ next_stamp xs → length xs < length ys
 drew_more xs ys ([], is) other = absurd (other (ap next_stamp (sym is ∙ append-nil xs)))
 drew_more xs ys (e ∷ es, is) other = omega (arith, sym (ap length is) ∙ length-append xs (e ∷ es))
-
--- the marks of a new book's seats have each a seat
-pub seated_all : (book : Book) (log : List Entry) (n : ℕ) → All (HasSeat book) (seated book log n)
-seated_all book log zero = λ k d lt. absurd (omega (arith, lt))
-seated_all book log (suc n) = All-push (HasSeat book) (seated book log n) (known book log (Some n)) (seated_all book log n) (refl, refl)

@@ -2,8 +2,6 @@
 use Rattle.std.proofs.Common.{◌≡◌, ◌≢◌, ℕ, zero, suc, ◌+◌, ◌^◌, ◌≤◌, ◌<◌, ◌==◌, Bool, true, false, List, [], ◌∷◌, ◌++◌, length, slice_index_or, Some, None, Option, refl, ap, sym, ◌∙◌, subst, arith, lit≤, inl, inr, length-append}
 use Rattle.std.specs.Prelude.{option_and_then}
 use Rattle.std.specs.FinMap as finite
-use Rattle.std.specs.Ordering.{nat_cmp}
-use Rattle.std.specs.Cmp.Lexicographic.{slice_cmp}
 use Rattle.std.proofs.lemmas.List.{append-nil}
 use Rattle.std.proofs.lemmas.Bool.{eqb-true, eq-eqb}
 use Rattle.std.proofs.lemmas.Bool.Decides.{eqb_tells}
@@ -17,20 +15,21 @@ use Rattle.group_history.specs.declared.nodes.Child.{Child}
 use Rattle.group_history.specs.declared.nodes.Child.TheVariants.{Placed, Drafted}
 use Rattle.group_history.specs.Cookies.{null_cookie}
 use Rattle.group_history.specs.Folds.{answer as answer_at}
-use Rattle.group_history.specs.Map.{Bytes, Entries}
+use Rattle.group_history.specs.Map.{Entries}
 use Rattle.group_history.specs.Meaning.{Meanings}
 use Rattle.group_history.specs.Record.{IsAccepted, IsLegal, after, after_change}
 use Rattle.group_history.specs.Refs.{stamp_of}
-use Rattle.group_history.specs.Spelling.{Contents, Segment, Version, Spelled, segment, version, as_segment, as_version, spelled, segment_at}
+use Rattle.group_history.specs.Spelling.{Contents, Segment, Version, Spelled, segment, version, as_segment, as_version, spelled, segment_at, version_of, Spells}
 use Rattle.group_history.specs.State.{State}
 use Rattle.group_history.proofs.Records.{after-push, IsLegal-push}
 use Rattle.group_history.proofs.Spellings.{segment-stays}
+use Rattle.group_history.proofs.TextMaps.{empty_map}
 use Rattle.head_word.specs.declared.entry.Answer.{Answer}
 use Rattle.head_word.specs.declared.entry.Entry.{Entry}
 use Rattle.head_word.specs.declared.entry.Entry.TheVariants as v
-use Rattle.head_word.specs.Books.{drafted_contents, drawn, next_stamp, last_move, nowhere, record_of, AreOrdered, version_of, Spells, IsBook, drafted, moved, opening, StartsOpened, IsOpened, IsBefore, AreAfter, Follows}
+use Rattle.head_word.specs.Books.{drafted_contents, drawn, next_stamp, last_move, nowhere, record_of, AreOrdered, IsBook, drafted, moved, opening, StartsOpened, IsOpened, IsBefore, AreAfter, Follows}
 use Rattle.head_word.specs.Tallies.{key_of, count, Trades}
-use Rattle.head_word.specs.Rules.{Fits, IsKept, answer, AddsDraft, AddsMove, LooksAtHead, CountsAtHead, CountsAtDrafts, Opens}
+use Rattle.head_word.specs.Rules.{Fits, IsKept, answer, AddsDraft, AddsMove, CountsAtHead, CountsAtDrafts, Opens}
 use Rattle.head_word.proofs.Books.{drawn_more, moved_more, record_more, length-drafted, numbered_more, ordered_more, drafted_ordered, spells_more, starts_more, next_more}
 use Rattle.head_word.proofs.Counting.{count_more, count_other, count_starts}
 
@@ -128,25 +127,6 @@ same_words means log h d fits = subst (λ (w : List Entry). IsKept means ((h, tr
 
 same_opened : (means : Meanings) (log : List Entry) → IsOpened means log → IsOpened means (log ++ [])
 same_opened means log o = subst (IsOpened means) (sym (append-nil log)) o
-
--- a look at the head word by no seat
-pub head_looked : (means : Meanings) (v : List Entry) (ask : Entry) → StartsOpened v → Moves (IsKept means) shown (Trades ask) 0 (v, (no_nib, Some (answer 0 0))) (λ n. n) (LooksAtHead means (step 0 0 0 ask) (v, (no_nib, Some (answer 0 0))))
-head_looked means v ask starts cs log kept pre away =
-    let fits = fits_opened means v log kept.head kept.drafts pre starts kept.fits in
-    let P : List Cell → Type 0 = λ c. (0 < length c) × ((cell c 0).1 ≡ true) × Goes (IsKept means) shown (Trades ask) 0 (v, (no_nib, Some (answer 0 0))) (λ n. n) (LooksAtHead means (step 0 0 0 ask) (v, (no_nib, Some (answer 0 0)))) c log in
-    subst P (sym kept.words) (
-      omega arith,
-      refl,
-      (
-        keeps,
-        [],
-        Some (answer 0 0),
-        tt,
-        same_words means log kept.head kept.drafts fits,
-        inl (refl, append-nil log),
-        (same_opened means log fits.0, ap (λ (w : List Entry). (last_move w).bits) (append-nil log) ∙ sym fits.1),
-      ),
-    )
 
 -- a seat's look, at either word
 pub head_counted : (means : Meanings) (v : List Entry) (ask : Entry) → StartsOpened v → Moves (IsKept means) shown (Trades ask) 0 (v, (no_nib, None)) (λ n. n) (CountsAtHead means (step 0 0 0 ask) (v, (no_nib, None)))
@@ -298,10 +278,6 @@ opening_counts r k other = elim (eqb_tells 0 k) [
 opening_child : (k : ℕ) (d : ℕ) → k < 1 → slice_index_or (0 ∷ []) k d < 1
 opening_child zero d lt = omega arith
 opening_child (suc k) d lt = absurd (omega (arith, lt))
-
--- no rows make the empty map
-pub empty_map : finite.from_sorted {K = Bytes} {X = Bytes} {R = slice_cmp nat_cmp} [] ≡ finite.empty
-empty_map = finite.empty_of_len _ (finite.len-entries _ ∙ ap length (finite.entries-from_sorted (slice_cmp nat_cmp) [] tt))
 
 -- the opening commit spells the opening state
 pub opening_spells : (means : Meanings) (r : Ref) → Spells means (drawn (opening r)) 1 (after [])

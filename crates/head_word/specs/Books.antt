@@ -15,8 +15,8 @@ use Rattle.group_history.specs.Meaning.{Meanings}
 use Rattle.group_history.specs.Naming.{children, drafted_content}
 use Rattle.group_history.specs.Record.{IsAccepted, IsLegal, after, after_change}
 use Rattle.group_history.specs.Refs.{stamp_of}
-use Rattle.group_history.specs.Spelling.{Contents, Version, version_at}
-use Rattle.group_history.specs.State.{State, view_of}
+use Rattle.group_history.specs.Spelling.{Contents, Spells}
+use Rattle.group_history.specs.State.{State}
 use Rattle.head_word.specs.declared.entry.Entry.{Entry}
 use Rattle.head_word.specs.declared.entry.Entry.TheVariants as v
 
@@ -69,14 +69,6 @@ record_of (v.Move m ∷ es) = with_change m.change (record_of es)
 abbrev pub AreOrdered : ℕ → Contents → Type 0
 AreOrdered n [] = Unit {0}
 AreOrdered n (c ∷ cs) = All (λ k. k < n) (children c) × AreOrdered (suc n) cs
-
--- the commit's version for a state: queries read the state's view
-abbrev pub version_of : Meanings → State → Version
-version_of means s = record { state = s; read = view_of means s }
-
--- the commit of the stamp spells the state, and queries read the state's view there
-abbrev pub Spells : Meanings → Contents → ℕ → State → Type 0
-Spells means contents stamp s = version_at contents stamp ≡ Some (version_of means s)
 
 -- What is true of every book: stamps go up one by one, children before parents, its record is legal, and the commit
 -- where its last move went spells the state after that record.

@@ -14,7 +14,8 @@ use Rattle.group_history.specs.Meaning.{Meanings, unknown}
 use Rattle.group_history.specs.Record.{after_change}
 use Rattle.group_history.specs.State.{opening}
 use Rattle.head_word.specs.declared.entry.Entry.{Entry}
-use Rattle.head_word.specs.Books.{drawn, Spells}
+use Rattle.group_history.specs.Spelling.{Spells}
+use Rattle.head_word.specs.Books.{drawn}
 
 abbrev pub no_mutators : Meanings
 no_mutators name args m = unknown

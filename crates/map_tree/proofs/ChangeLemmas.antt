@@ -4,6 +4,7 @@ use Rattle.std.specs.Prelude.{IsSome}
 use Rattle.std.specs.Cmp.Lexicographic.{slice_cmp}
 use Rattle.std.specs.FinMap.{find, put}
 use Rattle.std.specs.FinMap.Entries.{by_order}
+use Rattle.std.proofs.lemmas.List.{append-nil}
 use mathlib.Core.List.{IsPrefix}
 use Rattle.group_history.specs.Map.{Bytes}
 use Rattle.group_history.specs.Refs.{stamp_of}
@@ -87,10 +88,6 @@ changed old new depth keys kids pieces key i child op news p d local all n =
     let every : AllKids below (d.before ++ (news ++ d.behind)) = AllKids-join below d.before (news ++ d.behind) d.all.0 (AllKids-join below news d.behind all d.all.2) in
     record { all = every; joined_is = whole; shown_is = shown-kids new below (d.before ++ (news ++ d.behind)) every ∙ whole }
 
-no_more : (rs : Rows) → rs ++ [] ≡ rs
-no_more [] = refl
-no_more (r ∷ rs) = ap (λ t. r ∷ t) (no_more rs)
-
 -- the first piece is under the first key
 pub head_from : (p : Contents) (k : Bytes) (ps : List Piece) (rs : Rows) → shown p ps ≡ Some rs → begins_with k rs ≡ true → HeadIs k ps
 head_from p k [] rs e h = by rs (let g : [] ≡ rs = cc e in g) h
@@ -115,7 +112,7 @@ pub one_child : (p : Contents) (below : ℕ) (k : Bytes) (n : Kid) (rs : Rows) �
     → AllKids below ((k, Own n) ∷ []) × (joined_rows (shows_of (kid_rows p below) ((k, Own n) ∷ [])) ≡ Some rs)
 one_child p below k n rs d e h = (
   ((d, head_from p k n.value.pieces rs e h), tt),
-  ap (λ x. joined_one k x (Some [])) e ∙ ap (λ u. cond u (Some (rs ++ [])) None) h ∙ ap (λ w. Some w) (no_more rs),
+  ap (λ x. joined_one k x (Some [])) e ∙ ap (λ u. cond u (Some (rs ++ [])) None) h ∙ ap (λ w. Some w) (append-nil rs),
 )
 
 pub paired-set : {A : Type 0} (ks : List Bytes) (xs : List A) (i : ℕ) (y : A) → paired ks (set xs i y) ≡ set (paired ks xs) i (get_or ks i [], y)

@@ -5,7 +5,7 @@ use Rattle.std.specs.FinMap.{put}
 use Rattle.group_history.specs.Map.{Bytes}
 use Rattle.group_history.specs.Rows.{paired, rises, values_of}
 use Rattle.group_history.proofs.Pairs.{values_of-paired}
-use Rattle.map_tree.specs.Counts.{HasKept, IsWideChunk}
+use Rattle.map_tree.specs.Counts.{HasKept}
 use Rattle.map_tree.specs.Halves.{with_half}
 use Rattle.map_tree.specs.Inserting.{ArePairs, Parted}
 use Rattle.map_tree.specs.Nodes.{Kids, child_fresh, kids_fresh, body_fresh, child_height, kids_height, IsNode}
@@ -18,6 +18,7 @@ use Rattle.map_tree.specs.declared.nodes.Child.TheVariants.{Own}
 use Rattle.map_tree.specs.declared.nodes.putting.Half.{Half}
 use Rattle.map_tree.proofs.LeafLemmas.{leaf_put}
 use Rattle.map_tree.proofs.ListLemmas.{length-inserted, length-paired}
+use Rattle.map_tree.specs.Trees.{IsWideChunk}
 
 -- ANSWERS
 

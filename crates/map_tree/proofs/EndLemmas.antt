@@ -11,25 +11,20 @@ use Rattle.group_history.specs.Naming.{chunk_content, chunk_children}
 use Rattle.group_history.specs.Refs.{stamp_of}
 use Rattle.group_history.specs.Rows.{Rows, paired}
 use Rattle.group_history.specs.Spelling.{Contents, Segment, segment_at, rows_at}
-use Rattle.map_tree.specs.Copies.{chunk_entries, MayBeDeep}
-use Rattle.map_tree.specs.Ends.{IsWideAt, IsWideNode, only_ref, part_ref, IsOnlyChild, IsTaken, end_of_pieces, end_of}
+use Rattle.group_history.proofs.Lists.{one_here, only_one}
+use Rattle.map_tree.specs.Ends.{only_ref, part_ref, IsOnlyChild, IsTaken, end_of_pieces, end_of}
 use Rattle.map_tree.specs.Freezing.{AreKept, IsShownChild, part_places, places_of, child_places, kids_places}
 use Rattle.map_tree.specs.Removing.{one_shown}
 use Rattle.map_tree.specs.Nodes.{Kid, child_pieces, kids_pieces, row_pieces, HeadIs, IsChild, AllKids, kids_fresh}
 use Rattle.map_tree.specs.Shown.{Part, value, chunk, Piece, Seen, shown, chunk_rows}
-use Rattle.map_tree.specs.Trees.{is_narrow}
+use Rattle.map_tree.specs.Trees.{is_narrow, IsWideAt, IsWideChunk}
 use Rattle.map_tree.specs.declared.nodes.Child.{Child}
 use Rattle.map_tree.specs.declared.nodes.Child.TheVariants.{Placed, Own}
 use mathlib.Core.List.{IsPrefix}
 use Rattle.map_tree.proofs.ChangeLemmas.{shown-kept}
 use Rattle.map_tree.proofs.JoinLemmas.{split_of, some_is}
-use Rattle.map_tree.proofs.NamedLemmas.{one_here}
 use Rattle.map_tree.proofs.OpenLemmas.{Opened, opened, chunk_rows-at}
 use Rattle.map_tree.proofs.Shelves.{some_of}
-
-no_more : (rs : Rows) → rs ++ [] ≡ rs
-no_more [] = refl
-no_more (r ∷ rs) = ap (λ t. r ∷ t) (no_more rs)
 
 wide-content : (c : Chunk Ref) → only_ref c ≡ None → is_narrow (chunk_content c) ≡ false
 wide-content (chunked.Leaf rows) h = refl
@@ -50,19 +45,8 @@ only_is ns k s c h g r = by c g (opened ns k s c h g)
     by (chunked.Inner (e ∷ [])) g o =
         let p = split_of (e.0, rows_at ns o.depth (stamp_of e.1)) [] s.rows o.rows in
         let nil : p.back ≡ [] = sym (some_is p.back_is) in
-        (o.low.0, chunk_rows-at ns o.depth (stamp_of e.1) p.front p.front_is ∙ ap (λ w. Some w) (sym (p.whole ∙ ap (λ w. p.front ++ w) nil ∙ no_more p.front)))
+        (o.low.0, chunk_rows-at ns o.depth (stamp_of e.1) p.front p.front_is ∙ ap (λ w. Some w) (sym (p.whole ∙ ap (λ w. p.front ++ w) nil ∙ append-nil p.front)))
     by (chunked.Inner (e ∷ f ∷ es)) g o = (r, wide (chunked.Inner (e ∷ f ∷ es)) g refl)
-
--- a copy of a chunk that is wide is wide
-pub wide-copy : (ns : Contents) (k depth : ℕ) (c : Chunk Ref) (n : Seen) → slice_get ns k ≡ Some (chunk_content c) → MayBeDeep depth c → n.depth ≡ depth → n.entries ≡ chunk_entries c
-    → IsWideAt ns k → IsWideNode n
-wide-copy ns k depth c n g m d e w = by c m e (w (chunk_content c) g)
-  where
-    by : (c : Chunk Ref) → MayBeDeep depth c → n.entries ≡ chunk_entries c → is_narrow (chunk_content c) ≡ false → IsWideNode n
-    by (chunked.Leaf rows) m e f = inl (d ∙ m)
-    by (chunked.Inner []) m e f = absurd (omega (arith, m.1))
-    by (chunked.Inner (x ∷ [])) m e f = absurd cc
-    by (chunked.Inner (x ∷ y ∷ es)) m e f = inr (omega (arith, e))
 
 -- OWN CHUNKS
 
@@ -146,10 +130,10 @@ other_left (x ∷ y ∷ z ∷ kids) i kid w f o g = absurd (omega arith)
 
 -- what was taken from the last child shows what the child did
 pub heir_taken : (p q : Contents) (left : List Child) (kid : Child) (n : Seen) → IsPrefix p q → left ≡ kid ∷ [] → IsSome (one_shown p left) → IsTaken kid n
-    → (shown q n.pieces ≡ one_shown p left) × IsWideNode n × (n.fresh ≤ kids_fresh left + 1)
+    → (shown q n.pieces ≡ one_shown p left) × IsWideChunk n × (n.fresh ≤ kids_fresh left + 1)
 heir_taken p q left kid n pre e s t = by kid e t
   where
-    by : (c : Child) → left ≡ c ∷ [] → IsTaken c n → (shown q n.pieces ≡ one_shown p left) × IsWideNode n × (n.fresh ≤ kids_fresh left + 1)
+    by : (c : Child) → left ≡ c ∷ [] → IsTaken c n → (shown q n.pieces ≡ one_shown p left) × IsWideChunk n × (n.fresh ≤ kids_fresh left + 1)
     by (Placed at) e t = absurd t
     by (Own m) e t =
         let r = some_of (one_shown p left) s in
@@ -160,10 +144,6 @@ heir_taken p q left kid n pre e s t = by kid e t
         )
 
 -- REFERENCES
-
-only_one : {A : Type 0} (y x : A) → Contains (y ∷ []) x → y ≡ x
-only_one y x (zero, low, e) = e
-only_one y x (suc k, low, e) = absurd (omega arith)
 
 pub only_ref-child : (c : Chunk Ref) (r : Ref) → only_ref c ≡ Some r → Contains (chunk_children c) r
 only_ref-child (chunked.Leaf rows) r h = absurd (cc h)

@@ -1,5 +1,5 @@
 -- A draft's chunks written down as nodes.
-use Rattle.std.proofs.Common.{◌≡◌, ◌<◌, ◌≤◌, ◌+◌, ℕ, suc, Bool, true, false, cond, List, [], ◌∷◌, ◌++◌, Option, Some, None, length, map, take, nat_le, refl, sym, ap, ◌∙◌, subst, arith, append_assoc, Result, Ok, Err, IfOk, OnOk, OnErr}
+use Rattle.std.proofs.Common.{◌≡◌, ◌<◌, ◌≤◌, ◌+◌, ℕ, suc, Bool, true, false, cond, List, [], ◌∷◌, ◌++◌, Some, None, length, map, nat_le, refl, sym, ap, ◌∙◌, subst, arith, append_assoc, Result, Ok, Err, IfOk, OnOk, OnErr}
 use Rattle.std.proofs.lemmas.Bool.Decides.{nat_tests}
 use Rattle.std.specs.Prelude.{option_and_then, option_map}
 use mathlib.Core.List.{IsPrefix}
@@ -11,6 +11,7 @@ use Rattle.group_history.specs.declared.refs.Ref.{Ref}
 use Rattle.group_history.specs.Folds.{joined}
 use Rattle.group_history.specs.Map.{Bytes, Entries}
 use Rattle.std.specs.FinMap as finite
+use Rattle.std.proofs.lemmas.List.{map-append, length-map, length-append}
 use Rattle.map_tree.proofs.TreeLemmas.{map_is, map_from, map_at-rows}
 use Rattle.group_history.specs.Naming.{content_of, renamed_chunk}
 use Rattle.group_history.specs.Refs.{stamp_of}
@@ -23,27 +24,15 @@ use Rattle.map_tree.specs.Shown.{Seen, shown, chunk_rows, map_of_rows}
 use Rattle.map_tree.specs.declared.nodes.Child.{Child}
 use Rattle.map_tree.specs.declared.nodes.Child.TheVariants.{Placed, Own}
 use Rattle.map_tree.proofs.ChangeLemmas.{shown-kept}
-use Rattle.map_tree.proofs.JoinLemmas.{Shows, split_of}
+use Rattle.map_tree.proofs.JoinLemmas.{split_of}
 use Rattle.map_tree.proofs.NodeLemmas.{kid_rows}
-use Rattle.map_tree.proofs.OpenLemmas.{shows_of, shows_by, spells_at, rows_at-segment, rows-kept, chunk_rows-at}
+use Rattle.map_tree.proofs.OpenLemmas.{shows_of, shows_by, spells_at, rows_at-segment, rows-kept, chunk_rows-at, stamped, stamps_shown, renamed-shows, length-renamed}
 
 pub if_ok : {A E Q : Type 0} {P R : A → Type 0} (r : Result A E) → IfOk r P → OnOk r Q → ((a : A) → P a → Q → R a) → IfOk r R
 if_ok (Ok a) p q f = f a p q
 if_ok (Err e) p q f = tt
 
 -- CONTENTS
-
-pub map-append : {A B : Type 0} (f : A → B) (xs ys : List A) → map f (xs ++ ys) ≡ map f xs ++ map f ys
-map-append f [] ys = refl
-map-append f (x ∷ xs) ys = ap (λ w. f x ∷ w) (map-append f xs ys)
-
-length-mapped : {A B : Type 0} (f : A → B) (xs : List A) → length (map f xs) ≡ length xs
-length-mapped f [] = refl
-length-mapped f (x ∷ xs) = ap suc (length-mapped f xs)
-
-length-joined : {A : Type 0} (xs ys : List A) → length (xs ++ ys) ≡ length xs + length ys
-length-joined [] ys = omega arith
-length-joined (x ∷ xs) ys = let r = length-joined xs ys in omega arith
 
 nodes-more : (contents : Contents) (nodes more : List (Node Ref)) → with_nodes contents (nodes ++ more) ≡ with_nodes contents nodes ++ map content_of more
 nodes-more contents nodes more = ap (λ w. contents ++ w) (map-append content_of nodes more) ∙ sym (append_assoc contents (map content_of nodes) (map content_of more))
@@ -114,10 +103,6 @@ pub high-within : (xs : List Child) (x : Child) (ys : List Child) → child_heig
 high-within [] x ys = omega arith
 high-within (y ∷ xs) x ys = let r = high-within xs x ys in omega arith
 
-pub fresh-front : (xs ys : List Child) → kids_fresh xs ≤ kids_fresh (xs ++ ys)
-fresh-front [] ys = omega arith
-fresh-front (x ∷ xs) ys = let r = fresh-front xs ys in omega arith
-
 -- A NODE BEHIND OTHERS
 
 pushed : (ns : Contents) (c : Chunk ℕ) (s : Segment) → chunk_in (spelled ns) c ≡ Some s → segment_at (ns ++ node.Chunk c ∷ []) (length ns) ≡ Some s
@@ -134,7 +119,7 @@ pub node_pushed : (contents : Contents) (first : ℕ) (nodes new : List (Node Re
 node_pushed contents first nodes new c s at l e k h =
     let ns = with_nodes contents nodes in
     let more = node.Chunk (renamed_chunk stamp_of c) ∷ [] in
-    let long : stamp_of at ≡ length ns = omega (arith, k, l, length-joined contents (map content_of nodes), length-mapped content_of nodes) in
+    let long : stamp_of at ≡ length ns = omega (arith, k, l, length-append contents (map content_of nodes), length-map nodes content_of) in
     let whole : with_nodes contents new ≡ ns ++ more = ap (with_nodes contents) e ∙ nodes-more contents nodes (node.Chunk c ∷ []) in
     ap (λ w. rows_at w s.depth (stamp_of at)) whole ∙ ap (rows_at (ns ++ more) s.depth) long ∙ rows_at-segment (ns ++ more) (length ns) s (pushed ns (renamed_chunk stamp_of c) s h)
 
@@ -154,31 +139,17 @@ leaf_pushed contents first nodes new leaf rows depth at l e k n d r =
     ap (λ w. rows_at (with_nodes contents new) w (stamp_of at)) d
     ∙ node_pushed contents first nodes new (chunked.Leaf leaf) (record { depth = 1; rows = leaf }) at l e k (sized-some (length leaf) 1 leaf n) ∙ ap (λ w. Some w) r
 
-abbrev stamps : List (Bytes × Ref) → List (Bytes × ℕ)
-stamps kids = map (λ e. (e.0, stamp_of e.1)) kids
-
-abbrev shown_stamps : (ℕ → Option Rows) → List (Bytes × ℕ) → Shows
-shown_stamps f kids = map (λ x. (x.0, f x.1)) kids
-
-stamps-shown : (f : ℕ → Option Rows) (kids : List (Bytes × Ref)) → shown_stamps f (stamps kids) ≡ shows_by f kids
-stamps-shown f [] = refl
-stamps-shown f (e ∷ es) = ap (λ w. (e.0, f (stamp_of e.1)) ∷ w) (stamps-shown f es)
-
-length-stamps : (kids : List (Bytes × Ref)) → length (stamps kids) ≡ length kids
-length-stamps [] = refl
-length-stamps (e ∷ es) = ap suc (length-stamps es)
-
 inner-some : (ns : Contents) (below : ℕ) (kids : List (Bytes × Ref)) (rows : Rows) → 0 < length kids → length kids ≤ 16 → joined_rows (shows_by (rows_at ns below) kids) ≡ Some rows
-    → inner_in (spelled ns) (stamps kids) ≡ Some (record { depth = below + 1; rows = rows })
+    → inner_in (spelled ns) (stamped kids) ≡ Some (record { depth = below + 1; rows = rows })
 inner-some ns below [] rows z n h = absurd (omega arith)
 inner-some ns below (e ∷ es) rows z n h =
     let s = split_of (e.0, rows_at ns below (stamp_of e.1)) (shows_by (rows_at ns below) es) rows h in
     let f = spells_at ns below (stamp_of e.1) s.front s.front_is in
-    ap (λ o. option_and_then (λ (s : Segment). option_and_then (sized (length (stamps (e ∷ es))) (s.depth + 1)) (joined_rows (shown_stamps (rows_in (spelled ns) s.depth) (stamps (e ∷ es))))) o) f.0.is
-    ∙ ap (λ d. option_and_then (sized (length (stamps (e ∷ es))) (d + 1)) (joined_rows (shown_stamps (rows_in (spelled ns) d) (stamps (e ∷ es))))) f.1
-    ∙ ap (λ w. option_and_then (sized (length (stamps (e ∷ es))) (below + 1)) (joined_rows w)) (stamps-shown (rows_at ns below) (e ∷ es))
-    ∙ ap (option_and_then (sized (length (stamps (e ∷ es))) (below + 1))) h
-    ∙ sized-some (length (stamps (e ∷ es))) (below + 1) rows (omega (arith, n, length-stamps es))
+    ap (λ o. option_and_then (λ (s : Segment). option_and_then (sized (length (stamped (e ∷ es))) (s.depth + 1)) (joined_rows (stamps_shown (rows_in (spelled ns) s.depth) (stamped (e ∷ es))))) o) f.0.is
+    ∙ ap (λ d. option_and_then (sized (length (stamped (e ∷ es))) (d + 1)) (joined_rows (stamps_shown (rows_in (spelled ns) d) (stamped (e ∷ es))))) f.1
+    ∙ ap (λ w. option_and_then (sized (length (stamped (e ∷ es))) (below + 1)) (joined_rows w)) (renamed-shows (rows_at ns below) (e ∷ es))
+    ∙ ap (option_and_then (sized (length (stamped (e ∷ es))) (below + 1))) h
+    ∙ sized-some (length (stamped (e ∷ es))) (below + 1) rows (omega (arith, n, length-renamed es))
 
 pub inner_pushed : (contents : Contents) (first : ℕ) (nodes new : List (Node Ref)) (kids : List (Bytes × Ref)) (rows : Rows) (below depth : ℕ) (at : Ref) → length contents ≡ first
     → new ≡ nodes ++ node.Chunk (chunked.Inner kids) ∷ [] → stamp_of at ≡ first + length nodes → 0 < length kids → length kids ≤ 16 → depth ≡ below + 1
@@ -186,14 +157,6 @@ pub inner_pushed : (contents : Contents) (first : ℕ) (nodes new : List (Node R
 inner_pushed contents first nodes new kids rows below depth at l e k z n d h =
     ap (λ w. rows_at (with_nodes contents new) w (stamp_of at)) d
     ∙ node_pushed contents first nodes new (chunked.Inner kids) (record { depth = below + 1; rows = rows }) at l e k (inner-some (with_nodes contents nodes) below kids rows z n h)
-
--- the front of a longer list is the shorter one
-pub front_again : {A : Type 0} (xs ys : List A) (n : ℕ) → IsPrefix xs ys → n ≡ length xs → take n ys ≡ xs
-front_again {A} xs ys n p e = ap (λ m. take m ys) e ∙ ap (take (length xs)) (sym p.1) ∙ go xs
-  where
-    go : (zs : List A) → take (length zs) (zs ++ p.0) ≡ zs
-    go [] = refl
-    go (z ∷ zs) = ap (λ w. z ∷ w) (go zs)
 
 pub err_so : {A E Q : Type 0} (r : Result A E) → Q → OnErr r Q
 err_so (Ok a) q = tt

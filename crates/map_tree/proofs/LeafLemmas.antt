@@ -1,5 +1,5 @@
 -- A new row in a leaf.
-use Rattle.std.proofs.Common.{◌≡◌, ◌<◌, ◌≤◌, ◌+◌, ◌-◌, Option, Some, None, min, length-take, length-drop, ℕ, zero, suc, T, List, [], ◌∷◌, ◌++◌, length, take, drop, get_or, insert, take-append-drop, refl, sym, ap, ◌∙◌, subst, arith, nat_cmp, Less}
+use Rattle.std.proofs.Common.{◌≡◌, ◌<◌, ◌≤◌, ◌+◌, ◌-◌, Option, Some, None, min, length-take, length-drop, ℕ, zero, suc, T, List, [], ◌∷◌, ◌++◌, length, take, drop, get_or, insert, take-append-drop, refl, sym, ap, ◌∙◌, subst, arith, nat_cmp}
 use Rattle.std.specs.Cmp.Lexicographic.{slice_cmp, nat_list_cmp_total}
 use Rattle.std.specs.FinMap.{put}
 use Rattle.std.specs.FinMap.Entries.{is_sorted-put}
@@ -10,14 +10,9 @@ use Rattle.map_tree.specs.Search.{IsAbsent}
 use Rattle.map_tree.specs.Shown.{value}
 use Rattle.map_tree.specs.Nodes.{row_pieces, HeadIs}
 use Rattle.map_tree.specs.Inserting.{ArePairs, Parted}
-use Rattle.map_tree.proofs.RowLemmas.{cmp, both, is_less, IsStrict, AllAbove, strict, sorted, rises_strict, put-back, put-above, IsStrict-front, IsStrict-back}
+use Rattle.map_tree.proofs.RowLemmas.{both, is_less, IsStrict, AllAbove, strict, sorted, rises_strict, put-back, put-above, IsStrict-front, IsStrict-back}
 use Rattle.map_tree.proofs.ListLemmas.{cut_front, cut_back, paired-insert, length-inserted, length-paired}
 use Rattle.map_tree.proofs.SearchLemmas.{absent_in, length-keys_of}
-
--- keys of entries in order rise
-abbrev pub AllUnder : {A : Type 0} → Bytes → List (Bytes × A) → Type 0
-AllUnder k [] = Unit {0}
-AllUnder k (e ∷ es) = (cmp k e.0 ≡ Less) × AllUnder k es
 
 strict_below : (k : Bytes) (rs : Rows) → AllAbove k rs → T (is_below_all k (keys_of rs))
 strict_below k [] h = tt

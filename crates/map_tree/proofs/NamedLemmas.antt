@@ -2,6 +2,7 @@
 use Rattle.std.proofs.Common.{◌≡◌, ◌<◌, ◌≤◌, ◌⊎◌, ◌+◌, ◌-◌, ℕ, zero, suc, inl, inr, List, [], ◌∷◌, ◌++◌, Option, Some, None, length, map, slice_get, get_or, set, insert, refl, sym, ap, ◌∙◌, subst, arith, append_assoc, Result, Ok, Err, IfOk}
 use Rattle.std.specs.List.{Contains}
 use Rattle.std.proofs.lemmas.List.Elements.{Contains-append_cases, Contains-append_left, Contains-append_right}
+use Rattle.std.proofs.lemmas.List.{append-nil}
 use Rattle.group_history.specs.declared.nodes.Node.{Node}
 use Rattle.group_history.specs.declared.refs.Ref.{Ref}
 use Rattle.group_history.specs.Map.{Bytes}
@@ -12,8 +13,8 @@ use mathlib.Core.List.{IsPrefix}
 use Rattle.group_history.specs.Refs.{stamp_of, slot_of}
 use Rattle.group_history.specs.Rows.{Rows, paired, values_of}
 use Rattle.group_history.specs.Spelling.{Contents}
-use Rattle.group_history.proofs.Folding.{append_nil}
 use Rattle.group_history.proofs.Pairs.{values_of-paired}
+use Rattle.group_history.proofs.Lists.{no_element, only_one, get_more}
 use Rattle.map_tree.specs.Copies.{chunk_pieces}
 use Rattle.map_tree.specs.Freezing.{IsShownChild, AreKept, part_places, places_of, child_places, kids_places, IsNamed, AreNamed, HaveNamed, AddsNamed}
 use Rattle.map_tree.specs.Halves.{half_pieces, with_half}
@@ -24,16 +25,6 @@ use Rattle.map_tree.specs.declared.nodes.putting.Half.{Half}
 use Rattle.map_tree.specs.Shown.{Piece, chunk}
 use Rattle.map_tree.specs.declared.nodes.Child.{Child}
 use Rattle.map_tree.specs.declared.nodes.Child.TheVariants.{Placed, Own}
-
-pub one_here : {A : Type 0} (x : A) → Contains (x ∷ []) x
-one_here x = (0, omega arith, refl)
-
-only_one : {A : Type 0} (y x : A) → Contains (y ∷ []) x → y ≡ x
-only_one y x (zero, low, e) = e
-only_one y x (suc k, low, e) = absurd (omega arith)
-
-pub none_here : {A : Type 0} (x : A) → Contains [] x → ⊥
-none_here x h = let l : h.0 < 0 = h.1 in omega arith
 
 -- MORE PLACES
 
@@ -54,7 +45,7 @@ have-both first places (x ∷ xs) ys g h = (g.0, have-both first places xs ys g.
 -- MORE NODES
 
 pub adds-none : (first : ℕ) (places : List Ref) (old : List (Node Ref)) → AddsNamed first places old old
-adds-none first places old = ([], append_nil old, tt)
+adds-none first places old = ([], append-nil old, tt)
 
 pub adds-one : (first : ℕ) (places : List Ref) (old mid new : List (Node Ref)) (n : Node Ref) → AddsNamed first places old mid → AreNamed first places (children n) → new ≡ mid ++ n ∷ [] → AddsNamed first places old new
 adds-one first places old mid new n a h e = (a.0 ++ n ∷ [], sym (append_assoc old a.0 (n ∷ [])) ∙ ap (λ w. w ++ n ∷ []) a.1 ∙ sym e, have-both first places a.0 (n ∷ []) a.2 (h, tt))
@@ -68,7 +59,7 @@ adds-within first places more old new w a = (a.0, a.1, have-within first places 
 -- CHILDREN
 
 kids-one : (xs : List Child) (x : Child) → kids_places (xs ++ x ∷ []) ≡ kids_places xs ++ child_places x
-kids-one [] x = append_nil (child_places x)
+kids-one [] x = append-nil (child_places x)
 kids-one (y ∷ xs) x = ap (λ w. child_places y ++ w) (kids-one xs x) ∙ sym (append_assoc (child_places y) (kids_places xs) (child_places x))
 
 front-within : (xs : List Child) (x : Child) → Within (kids_places xs) (kids_places (xs ++ x ∷ []))
@@ -114,13 +105,8 @@ drafted-named first places (Err e) d = tt
 
 -- REFERENCES OF A CHANGED TREE
 
-get_more : {A : Type 0} (xs ys : List A) (k : ℕ) (x : A) → slice_get xs k ≡ Some x → slice_get (xs ++ ys) k ≡ Some x
-get_more [] ys k x h = absurd (cc h)
-get_more (y ∷ xs) ys zero x h = h
-get_more (y ∷ xs) ys (suc k) x h = get_more xs ys k x h
-
 pub kept-none : {H : Type 0} (show : H → Chunk Ref) (ns : Contents) (old : List Ref) → AreKept show ns old []
-kept-none show ns old at i = absurd (none_here at i)
+kept-none show ns old at i = absurd (no_element at i)
 
 pub kept-same : {H : Type 0} (show : H → Chunk Ref) (ns : Contents) (old : List Ref) → AreKept show ns old old
 kept-same show ns old at i = inl i
@@ -139,7 +125,7 @@ kept-within show ns old new more w h at i = h at (w at i)
 
 -- what stands in no chunk of the old ones was shown
 pub kept-from_none : {H : Type 0} (show : H → Chunk Ref) (ns : Contents) (old new : List Ref) → AreKept show ns [] new → AreKept show ns old new
-kept-from_none show ns old new h at i = elim (h at i) [ inl p ↦ absurd (none_here at p) | inr q ↦ inr q ]
+kept-from_none show ns old new h at i = elim (h at i) [ inl p ↦ absurd (no_element at p) | inr q ↦ inr q ]
 
 pub places-rows : (rows : Rows) → places_of (row_pieces rows) ≡ []
 places-rows [] = refl
@@ -212,7 +198,7 @@ half-places below i (Some t) keys kids l at h = elim (entries-inserted below (pa
 
 -- the placed chunks of a copy are the children of the copied one
 pub copy-places : (depth : ℕ) (c : Chunk Ref) (at : Ref) → Contains (places_of (chunk_pieces depth c)) at → Contains (chunk_children c) at
-copy-places depth (Leaf rows) at h = absurd (none_here at (subst (λ w. Contains w at) (places-rows rows) h))
+copy-places depth (Leaf rows) at h = absurd (no_element at (subst (λ w. Contains w at) (places-rows rows) h))
 copy-places depth (Inner kids) at h = subst (λ w. Contains w at) (all kids) h
   where
     all : (es : List (Bytes × Ref)) → places_of (map (λ e. (e.0, chunk (depth - 1) e.1)) es) ≡ values_of es

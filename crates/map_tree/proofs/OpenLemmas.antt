@@ -144,17 +144,17 @@ rows_in-lift done whole k d c v t h =
     (b.0, ap (λ o. option_and_then (rows_if d) (option_and_then as_segment o)) b.1 ∙ ap (λ o. option_and_then (rows_if d) o) a.2 ∙ m.2)
 
 -- the children by their stamps, and what shows these
-abbrev stamped : List (Bytes × Ref) → List (Bytes × ℕ)
+abbrev pub stamped : List (Bytes × Ref) → List (Bytes × ℕ)
 stamped kids = map (λ e. (e.0, stamp_of e.1)) kids
 
-abbrev stamps_shown : (ℕ → Option Rows) → List (Bytes × ℕ) → Shows
+abbrev pub stamps_shown : (ℕ → Option Rows) → List (Bytes × ℕ) → Shows
 stamps_shown f kids = map (λ x. (x.0, f x.1)) kids
 
-renamed-shows : (f : ℕ → Option Rows) (kids : List (Bytes × Ref)) → stamps_shown f (stamped kids) ≡ shows_by f kids
+pub renamed-shows : (f : ℕ → Option Rows) (kids : List (Bytes × Ref)) → stamps_shown f (stamped kids) ≡ shows_by f kids
 renamed-shows f [] = refl
 renamed-shows f (e ∷ es) = ap (λ w. (e.0, f (stamp_of e.1)) ∷ w) (renamed-shows f es)
 
-length-renamed : (kids : List (Bytes × Ref)) → length (stamped kids) ≡ length kids
+pub length-renamed : (kids : List (Bytes × Ref)) → length (stamped kids) ≡ length kids
 length-renamed [] = refl
 length-renamed (e ∷ es) = ap suc (length-renamed es)
 

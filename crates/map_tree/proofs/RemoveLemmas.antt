@@ -6,6 +6,7 @@ use Rattle.std.specs.Ordering.{ordering_reverse, eq_by_cmp}
 use Rattle.std.specs.Cmp.Lexicographic.{slice_cmp, nat_list_cmp_total}
 use Rattle.std.specs.FinMap as finite
 use Rattle.std.specs.FinMap.Entries.{find, find-where_key, is_sorted-where_key, same_entries}
+use Rattle.std.proofs.lemmas.List.{append-nil}
 use mathlib.Core.List.{IsPrefix}
 use Rattle.group_history.specs.Map.{Bytes, Entries, same_text}
 use Rattle.group_history.specs.Rows.{Rows, keys_of, paired, AreKeys, rises}
@@ -300,10 +301,6 @@ others p depth keys kids pieces key i child l d nil z =
     by (r ∷ front) back f b s e = let u = joined_some (kid_rows p (depth - 1)) d.before (r ∷ front) f (omega arith) in omega arith
     by [] back f b s e = let u = joined_some (kid_rows p (depth - 1)) d.behind back b (omega arith) in omega arith
 
-no_more : (rs : Rows) → rs ++ [] ≡ rs
-no_more [] = refl
-no_more (r ∷ rs) = ap (λ t. r ∷ t) (no_more rs)
-
 -- one child left shows what stays
 pub last_shown : (p : Contents) (depth : ℕ) (keys : List Bytes) (kids : List Child) (pieces : List Piece) (key : Bytes) (i : ℕ) (child : Child) → length kids ≡ length keys → length kids ≤ 2
     → (d : Down p depth keys kids pieces key i child) → without key d.way.here ≡ [] → one_shown p (remove kids i) ≡ Some (without key d.rows)
@@ -336,13 +333,13 @@ last_shown p depth keys kids pieces key i child l few d nil =
     alone e rs h =
         let s = split_of (e.0, child_rows p (depth - 1) e.1) [] rs h in
         let nil : s.back ≡ [] = sym (some_is s.back_is) in
-        kid_shown-at p (depth - 1) e.1 s.front s.front_is ∙ ap (λ w. Some w) (sym (s.whole ∙ ap (λ w. s.front ++ w) nil ∙ no_more s.front))
+        kid_shown-at p (depth - 1) e.1 s.front s.front_is ∙ ap (λ w. Some w) (sym (s.whole ∙ ap (λ w. s.front ++ w) nil ∙ append-nil s.front))
 
     by : (before behind : Kids) (front back : Rows) → joined_rows (shows_of (kid_rows p (depth - 1)) before) ≡ Some front → joined_rows (shows_of (kid_rows p (depth - 1)) behind) ≡ Some back
         → length before + length behind ≤ 1 → one_shown p (kids_in (before ++ behind)) ≡ Some (front ++ back)
     by [] [] front back f b n = ap (λ w. Some w) (ap (λ w. w ++ []) (some_is f) ∙ ap (λ w. front ++ w) (some_is b))
     by [] (e ∷ []) front back f b n = alone e back b ∙ ap (λ w. Some (w ++ back)) (some_is f)
-    by (e ∷ []) [] front back f b n = alone e front f ∙ ap (λ w. Some w) (sym (no_more front)) ∙ ap (λ w. Some (front ++ w)) (some_is b)
+    by (e ∷ []) [] front back f b n = alone e front f ∙ ap (λ w. Some w) (sym (append-nil front)) ∙ ap (λ w. Some (front ++ w)) (some_is b)
     by [] (e ∷ g ∷ es) front back f b n = absurd (omega arith)
     by (e ∷ g ∷ es) behind front back f b n = absurd (omega arith)
     by (e ∷ []) (g ∷ es) front back f b n = absurd (omega arith)

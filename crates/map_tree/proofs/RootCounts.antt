@@ -40,7 +40,7 @@ wide_root_grown old new (Own n) m p h w = w
 wide_root_grown old new (Placed at) m p h w =
     let s = placed_map old (stamp_of at) m h in
     let c = segment-content old (stamp_of at) s.segment s.is in
-    wide_grown old new at _ p c.2 w
+    wide_grown old new (stamp_of at) _ p c.2 w
 
 -- a key that is there was found
 pub is_there : (found there : Option Bytes) (b : Bool) → found ≡ there → b ≡ is_some found → IsSome there → b ≡ true

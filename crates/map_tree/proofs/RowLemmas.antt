@@ -44,15 +44,6 @@ less Greater p = absurd p
 pub is_less : (o : Ordering) → o ≡ Less → T (is_lt o)
 is_less o p = subst (λ r. T (is_lt r)) (sym p) tt
 
--- x isn't above y, and y is below z
-pub upto_less : (x y z : Bytes) → is_gt (cmp x y) ≡ false → cmp y z ≡ Less → cmp x z ≡ Less
-upto_less x y z p q = by (cmp x y) refl p
-  where
-    by : (o : Ordering) → cmp x y ≡ o → is_gt o ≡ false → cmp x z ≡ Less
-    by Less e p = less_trans x y z e q
-    by Equal e p = subst (λ w. cmp w z ≡ Less) (sym (same_key x y e)) q
-    by Greater e p = absurd (cc)
-
 -- x is below y, and y isn't above z
 pub less_upto : (x y z : Bytes) → cmp x y ≡ Less → is_gt (cmp y z) ≡ false → cmp x z ≡ Less
 less_upto x y z p q = by (cmp y z) refl q
@@ -105,10 +96,6 @@ pub AllAbove-less : (j k : Bytes) (rs : Rows) → cmp j k ≡ Less → AllAbove 
 AllAbove-less j k [] l h = tt
 AllAbove-less j k (r ∷ rs) l h = (less_trans j k r.0 l h.0, AllAbove-less j k rs l h.1)
 
-pub AllBelow-less : (j k : Bytes) (rs : Rows) → cmp j k ≡ Less → AllBelow j rs → AllBelow k rs
-AllBelow-less j k [] l h = tt
-AllBelow-less j k (r ∷ rs) l h = (less_trans r.0 j k h.0 l, AllBelow-less j k rs l h.1)
-
 -- also where j isn't above k
 pub AllBelow-upto : (j k : Bytes) (rs : Rows) → is_gt (cmp j k) ≡ false → AllBelow j rs → AllBelow k rs
 AllBelow-upto j k [] l h = tt
@@ -122,14 +109,6 @@ pub AllAbove-front : (k : Bytes) (a b : Rows) → AllAbove k (a ++ b) → AllAbo
 AllAbove-front k [] b h = tt
 AllAbove-front k (r ∷ a) b h = (h.0, AllAbove-front k a b h.1)
 
-pub AllAbove-append : (k : Bytes) (a b : Rows) → AllAbove k a → AllAbove k b → AllAbove k (a ++ b)
-AllAbove-append k [] b g h = h
-AllAbove-append k (r ∷ a) b g h = (g.0, AllAbove-append k a b g.1 h)
-
-pub AllBelow-append : (k : Bytes) (a b : Rows) → AllBelow k a → AllBelow k b → AllBelow k (a ++ b)
-AllBelow-append k [] b g h = h
-AllBelow-append k (r ∷ a) b g h = (g.0, AllBelow-append k a b g.1 h)
-
 pub IsStrict-back : (a b : Rows) → IsStrict (a ++ b) → IsStrict b
 IsStrict-back [] b h = h
 IsStrict-back (r ∷ a) b h = IsStrict-back a b h.1
@@ -142,11 +121,6 @@ IsStrict-front (r ∷ a) b h = (AllAbove-front r.0 a b h.0, IsStrict-front a b h
 pub AllBelow-before : (a : Rows) (r : Bytes × Bytes) (b : Rows) → IsStrict (a ++ r ∷ b) → AllBelow r.0 a
 AllBelow-before [] r b h = tt
 AllBelow-before (s ∷ a) r b h = ((AllAbove-back s.0 a (r ∷ b) h.0).0, AllBelow-before a r b h.1)
-
--- a list that is put on another has a key between
-pub IsStrict-join : (a b : Rows) (k : Bytes) → IsStrict a → IsStrict b → AllBelow k a → AllAbove k b → IsStrict (a ++ b)
-IsStrict-join [] b k g h l u = h
-IsStrict-join (r ∷ a) b k g h l u = (AllAbove-append r.0 a b g.0 (AllAbove-less r.0 k b l.0 u), IsStrict-join a b k g.1 h l.1 u)
 
 value_of : Bytes → Rows → Option Bytes
 value_of k rs = find (slice_cmp nat_cmp) k rs

@@ -19,6 +19,7 @@ use Rattle.group_history.specs.Refs.{stamp_of}
 use Rattle.group_history.specs.declared.nodes.Chunk.{Chunk}
 use Rattle.group_history.specs.declared.nodes.Chunk.TheVariants as chunked
 use Rattle.group_history.specs.declared.refs.Ref.{Ref}
+use Rattle.group_history.proofs.Readings.{not-true}
 use Rattle.std.specs.Prelude.{option_map, option_and_then}
 use mathlib.Core.List.{IsPrefix}
 use Rattle.map_tree.specs.Search.{is_above, IsPlace}
@@ -36,6 +37,8 @@ use Rattle.map_tree.proofs.JoinLemmas.{some_is, Split, split_of, begins, begins-
 use Rattle.map_tree.proofs.OpenLemmas.{Known, known, tree_of, shows_of, placing, way_by, AllLow, Opened, opened, spells_rows, segment-kept, chunk_rows-at}
 use Rattle.map_tree.proofs.TreeLemmas.{map_is}
 use Rattle.map_tree.proofs.PrefixLemmas.{past_prefix, below_prefix}
+use Rattle.map_tree.proofs.Texts.{and-first, and-second}
+use Rattle.map_tree.proofs.ListLemmas.{length-paired}
 
 -- LIMITS
 
@@ -81,18 +84,6 @@ and-none false b h = refl
 and-last : (a b : Bool) → b ≡ false → (a && b) ≡ false
 and-last true b h = h
 and-last false b h = refl
-
-and-first : (a b : Bool) → (a && b) ≡ true → a ≡ true
-and-first true b h = refl
-and-first false b h = absurd cc
-
-and-second : (a b : Bool) → (a && b) ≡ true → b ≡ true
-and-second true b h = h
-and-second false b h = absurd cc
-
-not-true : (b : Bool) → not b ≡ true → b ≡ false
-not-true true h = absurd cc
-not-true false h = refl
 
 above-greater : (x y : Bytes) → is_above x y ≡ true → cmp x y ≡ Greater
 above-greater x y h = by (cmp x y) h
@@ -312,11 +303,6 @@ paired-at (j ∷ ks) [] i k x e l h p q s = absurd (omega arith)
 paired-at (j ∷ ks) (y ∷ xs) zero k x e l h p q s = cc
 paired-at (j ∷ ks) (y ∷ xs) (suc i) k x e l h p q s = paired-at ks xs i k x e (omega arith) (omega arith) p q s
 
-pub length-pairs : {A : Type 0} (ks : List Bytes) (xs : List A) → length xs ≡ length ks → length (paired ks xs) ≡ length ks
-length-pairs [] xs l = refl
-length-pairs (k ∷ ks) [] l = absurd (omega arith)
-length-pairs (k ∷ ks) (x ∷ xs) l = ap suc (length-pairs ks xs (omega arith))
-
 pub key_of-pair : {A : Type 0} (ks : List Bytes) (xs : List A) (i : ℕ) (k : Bytes) (e : Bytes × A) → i < length ks → k ≡ get_or ks i k → slice_get (paired ks xs) i ≡ Some e → k ≡ e.0
 key_of-pair [] xs i k e h p s = absurd (omega arith)
 key_of-pair (j ∷ ks) [] i k e h p s = absurd cc
@@ -328,11 +314,11 @@ key_of-pair (j ∷ ks) (y ∷ xs) (suc i) k e h p s = key_of-pair ks xs i k e (o
 pub pairs_begun : {A : Type 0} (g : Bytes × A → Option Rows) (ks : List Bytes) (xs : List A) (i : ℕ) (rs : Rows) (scan : Scan) (low : Bytes) (out : Rows) → length xs ≡ length ks
     → joined_rows (shows_of g (paired ks xs)) ≡ Some rs → IsStrict rs → IsLow scan low → IsPlace low ks i → IsWithin scan out → out ≡ with_scanned scan out (first_rows g (paired ks xs) i)
 pairs_begun g ks xs i rs scan low out l h o z p w =
-    begun g (paired ks xs) i rs scan low out h o z (subst (λ w. IsPlace low w i) (sym (keys_of-paired ks xs l)) p) (omega (arith, p.0, length-pairs ks xs l)) w
+    begun g (paired ks xs) i rs scan low out h o z (subst (λ w. IsPlace low w i) (sym (keys_of-paired ks xs l)) p) (omega (arith, p.0, length-paired ks xs l)) w
 
 pub pairs_turn : {A : Type 0} (g : Bytes × A → Option Rows) (ks : List Bytes) (xs : List A) (i : ℕ) (rs : Rows) → length xs ≡ length ks
     → joined_rows (shows_of g (paired ks xs)) ≡ Some rs → IsStrict rs → i < length ks → Turn g (paired ks xs) i rs
-pairs_turn g ks xs i rs l h o b = turn g (paired ks xs) i rs h o (omega (arith, length-pairs ks xs l))
+pairs_turn g ks xs i rs l h o b = turn g (paired ks xs) i rs h o (omega (arith, length-paired ks xs l))
 
 pub pairs_over : {A : Type 0} (g : Bytes × A → Option Rows) (ks : List Bytes) (xs : List A) (i : ℕ) (rs : Rows) (scan : Scan) (before out : Rows) (k : Bytes) → length xs ≡ length ks
     → joined_rows (shows_of g (paired ks xs)) ≡ Some rs → IsStrict rs → i < length ks → k ≡ get_or ks i k → out ≡ with_scanned scan before (first_rows g (paired ks xs) i)
@@ -343,7 +329,7 @@ pairs_over g ks xs i rs scan before out k l h o b q e v =
 
 pub pairs_all : {A : Type 0} (g : Bytes × A → Option Rows) (ks : List Bytes) (xs : List A) (i : ℕ) (rs : Rows) (scan : Scan) (before out : Rows) → length xs ≡ length ks
     → joined_rows (shows_of g (paired ks xs)) ≡ Some rs → i ≡ length ks → out ≡ with_scanned scan before (first_rows g (paired ks xs) i) → out ≡ with_scanned scan before rs
-pairs_all g ks xs i rs scan before out l h e q = q ∙ ap (with_scanned scan before) (first_all g (paired ks xs) i rs h (omega (arith, e, length-pairs ks xs l)))
+pairs_all g ks xs i rs scan before out l h e q = q ∙ ap (with_scanned scan before) (first_all g (paired ks xs) i rs h (omega (arith, e, length-paired ks xs l)))
 
 one_more : {A : Type 0} (g : Bytes × A → Option Rows) (es : List (Bytes × A)) (i : ℕ) (rs : Rows) → (t : Turn g es i rs) → first_rows g es (i + 1) ≡ first_rows g es i ++ t.here
 one_more g es i rs t = (let n : i + 1 ≡ suc i = omega arith in ap (first_rows g es) n) ∙ t.more
@@ -424,10 +410,6 @@ chunk_rows-kept old new k rs p h =
     let s = spells_rows old k rs h in
     ap (option_map (λ (z : Segment). z.rows)) (segment-kept old new k s.segment p s.is) ∙ ap (λ w. Some w) s.rows
 
--- the front of rows in order is in order
-pub IsStrict-here : (a b : Rows) → IsStrict (a ++ b) → IsStrict a
-IsStrict-here a b o = IsStrict-front a b o
-
 -- the children of a chunk in one turn
 pub refs_known : (ns : Contents) (ks : List Bytes) (xs : List Ref) → IsTree (joined_rows (shows_of (ref_rows ns) (paired ks xs))) → Known (joined_rows (shows_of (ref_rows ns) (paired ks xs)))
 refs_known ns ks xs h = known (joined_rows (shows_of (ref_rows ns) (paired ks xs))) h
@@ -455,7 +437,7 @@ ref_turn old new ks xs i at p l n b q =
     record {
       turn = t;
       rows_are = r;
-      tree = tree_of (chunk_rows new (stamp_of at)) t.here r (IsStrict-here t.here t.back t.strict);
+      tree = tree_of (chunk_rows new (stamp_of at)) t.here r (IsStrict-front t.here t.back t.strict);
       low = subst (λ w. stamp_of w < top (paired ks xs)) (sym same) (below_top (paired ks xs) i t.entry t.at);
     }
 
@@ -498,7 +480,7 @@ kid_turn old new ks xs i kid p l n b q =
     let t = pairs_turn (shown_kid old) ks xs i n.rows l n.is n.order b in
     let same = value_of-pair ks xs i kid t.entry l b q t.at in
     let r : kid_shown new kid ≡ Some t.here = ap (kid_shown new) same ∙ kid_shown-kept old new t.entry.1 t.here p t.here_is in
-    record { turn = t; rows_are = r; tree = tree_of (kid_shown new kid) t.here r (IsStrict-here t.here t.back t.strict) }
+    record { turn = t; rows_are = r; tree = tree_of (kid_shown new kid) t.here r (IsStrict-front t.here t.back t.strict) }
 
 pub kid_height : (kids : List Child) (i : ℕ) (kid : Child) → i < length kids → kid ≡ get_or kids i kid → child_height kid ≤ kids_height kids
 kid_height [] i kid l q = absurd (omega arith)
@@ -506,14 +488,6 @@ kid_height (k ∷ kids) zero kid l q = subst (λ w. child_height w ≤ max (chil
 kid_height (k ∷ kids) (suc i) kid l q = let r = kid_height kids i kid (omega arith) q in omega arith
 
 -- A WHOLE MAP
-
-none_within : (l : Option ℕ) → limited {A = Bytes × Bytes} l [] ≡ []
-none_within None = refl
-none_within (Some zero) = refl
-none_within (Some (suc n)) = refl
-
-pub starts_within : (scan : Scan) (out : Rows) → out ≡ [] → IsWithin scan out
-starts_within scan out e = subst (λ w. IsWithin scan w) (sym e) (none_within scan.limit)
 
 -- a scan of a map's rows, where nothing was there
 pub scan_of-map : (x : Option Rows) (m : Entries) (scan : Scan) (out : Rows) → option_and_then map_of_rows x ≡ Some m → out ≡ [] → with_scanned scan out (rows_or x) ≡ rows_of scan m

@@ -1,6 +1,6 @@
 -- Rows and the map that they are.
 use Rattle.std.proofs.Common.{◌≡◌, ℕ, Bool, true, false, cond, T, List, [], Option, Some, None, refl, sym, ap, ◌∙◌, subst, nat_cmp, length, ◌∷◌, arith}
-use Rattle.std.specs.Prelude.{IsSome, option_and_then, option_map}
+use Rattle.std.specs.Prelude.{option_and_then, option_map}
 use Rattle.std.specs.Cmp.Lexicographic.{slice_cmp}
 use Rattle.std.specs.FinMap as finite
 use Rattle.group_history.specs.Map.{Bytes, Entries}
@@ -32,14 +32,6 @@ map_is (Some rs) m h = by (finite.is_sorted (slice_cmp nat_cmp) rs) refl h
         let r = ap finite.entries (sym e) ∙ finite.entries-from_sorted (slice_cmp nat_cmp) rs o in
         record { tree = o; rows = r; is = ap (λ w. Some w) (sym r) }
     by false q g = absurd cc
-
-pub tree_there : (x : Option Rows) → IsSome (option_and_then map_of_rows x) → IsTree x
-tree_there None h = absurd cc
-tree_there (Some rs) h = by (finite.is_sorted (slice_cmp nat_cmp) rs) refl (finite.from_sorted rs) h
-  where
-    by : (u : Bool) → finite.is_sorted (slice_cmp nat_cmp) rs ≡ u → (e : Entries) → IsSome (cond u (Some e) None) → T (finite.is_sorted (slice_cmp nat_cmp) rs)
-    by true q e g = subst T (sym q) tt
-    by false q e g = absurd cc
 
 pub value_of_map : (x : Option Rows) (m : Entries) (key : Bytes) → option_and_then map_of_rows x ≡ Some m → finite.find (slice_cmp nat_cmp) key (rows_or x) ≡ finite.get m key
 value_of_map x m key h =

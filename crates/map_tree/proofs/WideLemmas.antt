@@ -15,11 +15,11 @@ use Rattle.group_history.specs.Rows.{Rows}
 use Rattle.group_history.specs.Spelling.{Contents, Segment, Spelled, spelled, sized, chunk_in, inner_in, segment_in, segment_at, rows_in, rows_at, joined_rows}
 use Rattle.group_history.proofs.Folding.{and_then-some}
 use Rattle.group_history.proofs.Spellings.{segment-content}
-use Rattle.map_tree.specs.Copies.{MayBeDeep, IsCopy}
-use Rattle.map_tree.specs.Counts.{IsWideChunk}
+use Rattle.group_history.proofs.Lists.{get_more}
+use Rattle.map_tree.specs.Copies.{chunk_entries, MayBeDeep}
 use Rattle.map_tree.specs.Freezing.{with_nodes}
 use Rattle.map_tree.specs.Shown.{Seen, shown, map_of_rows}
-use Rattle.map_tree.specs.Trees.{is_narrow, IsWideAt}
+use Rattle.map_tree.specs.Trees.{is_narrow, IsWideAt, IsWideChunk}
 use Rattle.map_tree.proofs.JoinLemmas.{some_is}
 use Rattle.map_tree.proofs.OpenLemmas.{spells_at}
 use Rattle.map_tree.proofs.TreeLemmas.{map_is}
@@ -50,8 +50,8 @@ pushed_at contents first old new x at l e s =
     ap (λ w. slice_get w (stamp_of at)) whole ∙ last_at (contents ++ map content_of old) (content_of x) (stamp_of at) (omega (arith, s, l, length-contents contents old))
 
 -- the node of a stamp, where it is wide
-pub wide_node : (p : Contents) (at : Ref) (n : Node ℕ) → slice_get p (stamp_of at) ≡ Some n → is_narrow n ≡ false → IsWideAt p at
-wide_node p at n g w = λ m e. ap is_narrow (some_is (sym e ∙ g)) ∙ w
+pub wide_node : (p : Contents) (k : ℕ) (n : Node ℕ) → slice_get p k ≡ Some n → is_narrow n ≡ false → IsWideAt p k
+wide_node p k n g w = λ m e. ap is_narrow (some_is (sym e ∙ g)) ∙ w
 
 pub wide_inner : (kids : List (Bytes × Ref)) → 1 < length kids → is_narrow (chunk_content (chunked.Inner kids)) ≡ false
 wide_inner [] h = absurd (omega arith)
@@ -82,11 +82,11 @@ deep p k s h = let c = segment-content p k s h in by c.0 c.1 c.3
     by (chunked.Inner []) pre e = absurd cc
     by (chunked.Inner (x ∷ xs)) pre e = let i = inner_depth (spelled pre) x xs s e in omega (arith, i.2)
 
-pub low_wide : (p : Contents) (at : Ref) (rows : Rows) → rows_at p 1 (stamp_of at) ≡ Some rows → IsWideAt p at
-low_wide p at rows h =
-    let f = spells_at p 1 (stamp_of at) rows h in
-    let c = segment-content p (stamp_of at) f.0.segment f.0.is in
-    wide_node p at (node.Chunk c.0) c.2 (by c.0 c.1 f.0.segment c.3 f.1)
+low_wide : (p : Contents) (k : ℕ) (rows : Rows) → rows_at p 1 k ≡ Some rows → IsWideAt p k
+low_wide p k rows h =
+    let f = spells_at p 1 k rows h in
+    let c = segment-content p k f.0.segment f.0.is in
+    wide_node p k (node.Chunk c.0) c.2 (by c.0 c.1 f.0.segment c.3 f.1)
   where
     by : (c : Chunk ℕ) (pre : Contents) (s : Segment) → chunk_in (spelled pre) c ≡ Some s → s.depth ≡ 1 → is_narrow (node.Chunk c) ≡ false
     by (chunked.Leaf rows) pre s e d = refl
@@ -96,27 +96,27 @@ low_wide p at rows h =
 
 -- COPIES
 
-pub copy_wide : (p : Contents) (depth : ℕ) (at : Ref) (c : Chunk Ref) (n : Seen) → slice_get p (stamp_of at) ≡ Some (chunk_content c) → MayBeDeep depth c → IsCopy depth c n → IsWideAt p at → IsWideChunk n
-copy_wide p depth at (chunked.Leaf rows) n g d i w = inl (i.0 ∙ d)
-copy_wide p depth at (chunked.Inner []) n g d i w = absurd (omega (arith, d.1))
-copy_wide p depth at (chunked.Inner (e ∷ [])) n g d i w = let bad : true ≡ false = w (chunk_content (chunked.Inner (e ∷ []))) g in absurd (cc bad)
-copy_wide p depth at (chunked.Inner (e ∷ f ∷ es)) n g d i w = inr (omega (arith, i.3))
+-- a copy of a chunk that is wide is wide
+pub wide-copy : (ns : Contents) (k depth : ℕ) (c : Chunk Ref) (n : Seen) → slice_get ns k ≡ Some (chunk_content c) → MayBeDeep depth c → n.depth ≡ depth → n.entries ≡ chunk_entries c
+    → IsWideAt ns k → IsWideChunk n
+wide-copy ns k depth c n g m d e w = by c m e (w (chunk_content c) g)
+  where
+    by : (c : Chunk Ref) → MayBeDeep depth c → n.entries ≡ chunk_entries c → is_narrow (chunk_content c) ≡ false → IsWideChunk n
+    by (chunked.Leaf rows) m e f = inl (d ∙ m)
+    by (chunked.Inner []) m e f = absurd (omega (arith, m.1))
+    by (chunked.Inner (x ∷ [])) m e f = absurd cc
+    by (chunked.Inner (x ∷ y ∷ es)) m e f = inr (omega (arith, e))
 
 -- more contents
-pub wide_grown : (old new : Contents) (at : Ref) (n : Node ℕ) → IsPrefix old new → slice_get old (stamp_of at) ≡ Some n → IsWideAt old at → IsWideAt new at
-wide_grown old new at n p g w = wide_node new at n (subst (λ c. slice_get c (stamp_of at) ≡ Some n) p.1 (more old p.0 (stamp_of at) g)) (w n g)
-  where
-    more : (xs ys : Contents) (k : ℕ) → slice_get xs k ≡ Some n → slice_get (xs ++ ys) k ≡ Some n
-    more [] ys k h = absurd cc
-    more (x ∷ xs) ys zero h = h
-    more (x ∷ xs) ys (suc k) h = more xs ys k h
+pub wide_grown : (old new : Contents) (k : ℕ) (n : Node ℕ) → IsPrefix old new → slice_get old k ≡ Some n → IsWideAt old k → IsWideAt new k
+wide_grown old new k n p g w = wide_node new k n (subst (λ c. slice_get c k ≡ Some n) p.1 (get_more old p.0 k n g)) (w n g)
 
 -- A WHOLE MAP
 
 pub wide_frozen : {E : Type 0} (r : Result Ref E) (old new : Contents) (n : Seen) (m : Entries) → option_and_then map_of_rows (shown old n.pieces) ≡ Some m → IsWideChunk n
-    → ((rows : Rows) → shown old n.pieces ≡ Some rows → IfOk r (λ root. rows_at new n.depth (stamp_of root) ≡ Some rows)) → (1 < n.entries → IfOk r (IsWideAt new)) → IfOk r (IsWideAt new)
+    → ((rows : Rows) → shown old n.pieces ≡ Some rows → IfOk r (λ root. rows_at new n.depth (stamp_of root) ≡ Some rows)) → (1 < n.entries → IfOk r (λ root. IsWideAt new (stamp_of root))) → IfOk r (λ root. IsWideAt new (stamp_of root))
 wide_frozen (Err e) old new n m h w f g = tt
 wide_frozen (Ok at) old new n m h (inr w) f g = g w
 wide_frozen (Ok at) old new n m h (inl d) f g =
     let x = map_is (shown old n.pieces) m h in
-    low_wide new at (finite.entries m) (subst (λ k. rows_at new k (stamp_of at) ≡ Some (finite.entries m)) d (f (finite.entries m) x.is))
+    low_wide new (stamp_of at) (finite.entries m) (subst (λ k. rows_at new k (stamp_of at) ≡ Some (finite.entries m)) d (f (finite.entries m) x.is))

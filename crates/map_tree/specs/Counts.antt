@@ -1,6 +1,5 @@
 -- How many chunks and keys a put makes.
-use Rattle.std.specs.Prelude.{◌≡◌, ◌⊎◌, ◌<◌, ◌≤◌, ℕ, Option, Some, None}
-use Rattle.map_tree.specs.Shown.{Seen}
+use Rattle.std.specs.Prelude.{◌≡◌, ◌≤◌, ℕ, Option, Some, None}
 use Rattle.map_tree.specs.declared.nodes.putting.Half.{Half}
 
 -- how many own chunks an upper half is
@@ -12,7 +11,3 @@ half_fresh (Some h) = h.node.value.fresh
 abbrev pub HasKept : ℕ → ℕ → Option Half → Type 0
 HasKept old new None = old ≤ new
 HasKept old new (Some h) = (old ≡ 16) × (new ≡ 8) × (h.node.value.entries ≡ 9)
-
--- not an inner chunk with one child
-abbrev pub IsWideChunk : Seen → Type 0
-IsWideChunk n = (n.depth ≡ 1) ⊎ (1 < n.entries)

@@ -1,24 +1,15 @@
 -- Chunks with one child each, and what they end in.
-use Rattle.std.specs.Prelude.{◌≡◌, ◌<◌, ◌≤◌, ◌⊎◌, false, ℕ, List, [], ◌∷◌, Option, Some, None, slice_get}
+use Rattle.std.specs.Prelude.{◌≡◌, ◌<◌, ◌≤◌, ℕ, List, [], ◌∷◌, Option, Some, None}
 use Rattle.group_history.specs.declared.nodes.Chunk.{Chunk}
 use Rattle.group_history.specs.declared.nodes.Chunk.TheVariants.{Leaf, Inner}
-use Rattle.group_history.specs.declared.nodes.Node.{Node}
 use Rattle.group_history.specs.declared.refs.Ref.{Ref}
 use Rattle.group_history.specs.Refs.{stamp_of}
 use Rattle.group_history.specs.Rows.{Rows}
 use Rattle.group_history.specs.Spelling.{Contents}
 use Rattle.map_tree.specs.Shown.{Part, value, chunk, Piece, Seen, chunk_rows}
-use Rattle.map_tree.specs.Trees.{is_narrow}
+use Rattle.map_tree.specs.Trees.{IsWideAt, IsWideChunk}
 use Rattle.map_tree.specs.declared.nodes.Child.{Child}
 use Rattle.map_tree.specs.declared.nodes.Child.TheVariants.{Placed, Own}
-
--- the chunk of the stamp isn't an inner chunk with one child
-abbrev pub IsWideAt : Contents → ℕ → Type 0
-IsWideAt contents stamp = (n : Node ℕ) → slice_get contents stamp ≡ Some n → is_narrow n ≡ false
-
--- a leaf, or a chunk with two children or more
-abbrev pub IsWideNode : Seen → Type 0
-IsWideNode n = (n.depth ≡ 1) ⊎ (1 < n.entries)
 
 -- the child of an inner chunk that has but one
 abbrev pub only_ref : Chunk Ref → Option Ref
@@ -59,4 +50,4 @@ IsKidEnd contents rows kid (Some at) = IsEnd contents rows at
 -- what a draft's own child ends in: it shows the same, and is wide
 abbrev pub IsTaken : Child → Seen → Type 0
 IsTaken (Placed at) n = ⊥
-IsTaken (Own m) n = (n.pieces ≡ m.value.pieces) × IsWideNode n × (n.fresh ≤ m.value.fresh)
+IsTaken (Own m) n = (n.pieces ≡ m.value.pieces) × IsWideChunk n × (n.fresh ≤ m.value.fresh)

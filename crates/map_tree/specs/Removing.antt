@@ -7,7 +7,7 @@ use Rattle.group_history.specs.declared.refs.Ref.{Ref}
 use Rattle.group_history.specs.Refs.{stamp_of}
 use Rattle.group_history.specs.Rows.{Rows}
 use Rattle.group_history.specs.Spelling.{Contents}
-use Rattle.map_tree.specs.Ends.{IsWideAt, IsWideNode, IsEnd}
+use Rattle.map_tree.specs.Ends.{IsEnd}
 use Rattle.map_tree.specs.Freezing.{places_of}
 use Rattle.map_tree.specs.Halves.{HasDepth}
 use Rattle.map_tree.specs.Nodes.{Kid, child_rows, child_fresh, kids_fresh}
@@ -20,6 +20,7 @@ use Rattle.map_tree.specs.declared.nodes.removing.Fate.{Fate}
 use Rattle.map_tree.specs.declared.nodes.removing.Fate.TheVariants.{Leaves, Stays}
 use Rattle.map_tree.specs.declared.nodes.removing.Heir.{Heir}
 use Rattle.map_tree.specs.declared.nodes.removing.Heir.TheVariants as heir
+use Rattle.map_tree.specs.Trees.{IsWideAt, IsWideChunk}
 
 -- rows without that of a key
 abbrev pub without : Bytes → Rows → Rows
@@ -64,7 +65,7 @@ one_shown contents (c ∷ cs) = kid_shown contents c
 -- what stands in the place of a root with at most this one child: it shows what the child shows, and is wide
 abbrev pub IsHeir : Contents → Contents → List Child → Heir → Type 0
 IsHeir old new kids (heir.Placed at) = IsEnd new (one_shown old kids) at
-IsHeir old new kids (heir.Own n) = (shown new n.pieces ≡ one_shown old kids) × IsWideNode n × (n.fresh ≤ kids_fresh kids + 1)
+IsHeir old new kids (heir.Own n) = (shown new n.pieces ≡ one_shown old kids) × IsWideChunk n × (n.fresh ≤ kids_fresh kids + 1)
 
 -- a placed heir changes no child
 abbrev pub KeptBy : List Child → List Child → Heir → Type 0
@@ -77,7 +78,7 @@ root_rows contents n None = shown contents n.pieces
 root_rows contents n (Some at) = chunk_rows contents (stamp_of at)
 
 abbrev pub IsWideRoot : Contents → Seen → Option Ref → Type 0
-IsWideRoot contents n None = IsWideNode n
+IsWideRoot contents n None = IsWideChunk n
 IsWideRoot contents n (Some at) = IsWideAt contents (stamp_of at)
 
 -- the placed chunk that stands in a root's place, or those that the draft's own names

@@ -7,7 +7,7 @@ use Rattle.group_history.specs.declared.refs.Ref.{Ref}
 use Rattle.group_history.specs.Map.{Entries}
 use Rattle.group_history.specs.Refs.{stamp_of}
 use Rattle.group_history.specs.Spelling.{Contents, Segment, segment_at, map_at}
-use Rattle.map_tree.specs.Shown.{shown, map_of_rows}
+use Rattle.map_tree.specs.Shown.{shown, map_of_rows, Seen}
 use Rattle.map_tree.specs.declared.tree.Tree.{Tree}
 use Rattle.map_tree.specs.declared.tree.Root.{Root}
 use Rattle.map_tree.specs.declared.tree.Root.TheVariants.{Placed, Own}
@@ -44,17 +44,21 @@ is_narrow (Chunk (Inner [])) = false
 is_narrow (Chunk (Leaf rows)) = false
 is_narrow (Commit c) = false
 
+-- the chunk of the stamp isn't one
+abbrev pub IsWideAt : Contents → ℕ → Type 0
+IsWideAt contents stamp = (n : Node ℕ) → slice_get contents stamp ≡ Some n → is_narrow n ≡ false
+
+-- a draft's chunk isn't one
+abbrev pub IsWideChunk : Seen → Type 0
+IsWideChunk n = (n.depth ≡ 1) ⊎ (1 < n.entries)
+
 abbrev pub IsWide : Contents → Root → Type 0
-IsWide contents (Placed at) = (n : Node ℕ) → slice_get contents (stamp_of at) ≡ Some n → is_narrow n ≡ false
-IsWide contents (Own n) = (n.depth ≡ 1) ⊎ (1 < n.entries)
+IsWide contents (Placed at) = IsWideAt contents (stamp_of at)
+IsWide contents (Own n) = IsWideChunk n
 
 -- the root isn't an inner chunk with one child: such a root is replaced by the child
 abbrev pub HasWideRoot : Contents → Tree → Type 0
 HasWideRoot contents t = IsWide contents t.root
-
--- the chunk that the reference names isn't such a root
-abbrev pub IsWideAt : Contents → Ref → Type 0
-IsWideAt contents at = IsWide contents (Placed at)
 
 abbrev pub placed_root : Root → Option Ref
 placed_root (Placed at) = Some at

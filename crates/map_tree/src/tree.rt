@@ -43,7 +43,7 @@ impl Tree {
         ensures map { (contents : Contents) → tree_map contents result ≡ map_at contents (stamp_of root) }
         ensures fresh { tree_fresh result ≡ 0 }
         ensures placed { tree_root result ≡ Some root }
-        ensures wide { (contents : Contents) → IsWideAt contents root → HasWideRoot contents result }
+        ensures wide { (contents : Contents) → IsWideAt contents (stamp_of root) → HasWideRoot contents result }
     {
         Tree {
             root: Root::Placed(root),

@@ -21,12 +21,6 @@ Gave-none f all left done x gave is = gave ∙ ap (λ o. option_map (λ ys. done
 pub Gave-all : {A B : Type 0} (f : A → Option B) (all : List A) (done : List B) → Gave f all done [] → each f all ≡ Some done
 Gave-all f all done gave = gave ∙ ap Some (append-nil done)
 
-pub Gave-start : {A B : Type 0} (f : A → Option B) (all : List A) → Gave f all [] all
-Gave-start f all = same (each f all) where
-  same : {B : Type 0} (o : Option (List B)) → o ≡ option_map (λ ys. [] ++ ys) o
-  same None = refl
-  same (Some ys) = refl
-
 -- ---- what was gathered so far, unless something was missing
 
 abbrev pub Gathered : {A B : Type 0} → (A → Option B) → List A → Bool → List B → Type 0

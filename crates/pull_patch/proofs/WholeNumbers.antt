@@ -1,9 +1,9 @@
 -- NotWhole is told only where a number isn't whole.
-use Rattle.std.proofs.Common.{◌≡◌, ◌||◌, ◌^◌, ℕ, List, [], ◌∷◌, Bool, true, false, cond, nat_le, Option, Some, None, option_map, option_and_then, Ok, Err, Ordering, Less, Equal, Greater, codes, refl, bytes_eq}
+use Rattle.std.proofs.Common.{◌≡◌, ◌^◌, ℕ, List, [], ◌∷◌, Bool, true, false, cond, nat_le, Option, Some, None, option_map, option_and_then, Ok, Err, Ordering, Less, Equal, Greater, codes, refl, bytes_eq}
 use Rattle.std.specs.Prelude.{⊤, ok_or}
 use Rattle.std.specs.Ordering.{match_ordering}
 use Rattle.serde_json.specs.Data as tree
-use Rattle.serde_json.specs.Data.{Num, unsigned, negative, float, Data, null, boolean, string, array, object, Items, no_items, item, Members, no_members, member}
+use Rattle.serde_json.specs.Data.{unsigned, negative, float, Data, null, boolean, string, array, object, Items, no_items, item, Members, no_members, member}
 use Rattle.serde_json.specs.Find.{get, get_member, as_str, as_array, as_object}
 use Rattle.serde_json.specs.Written.{has_float, items_have_float, members_have_float, compact_text}
 use Rattle.group_history.specs.declared.cookies.Order.{Order}
@@ -13,6 +13,7 @@ use Rattle.group_history.specs.declared.responses.Patch.{Patch}
 use Rattle.group_history.specs.declared.responses.Response.{Response}
 use Rattle.group_history.specs.Answers.{◌>>=◌}
 use Rattle.group_history.specs.Cookies.{Cookie, plain_order_of, order_of, cookie_of}
+use Rattle.group_history.proofs.IdLemmas.{or_false}
 use Rattle.pull_patch.specs.Fields.{text_at, array_at, object_at, each, items_list, members_list, ◌>>-◌}
 use Rattle.pull_patch.specs.Operations.{Edit, put, del, clear, put_of, del_of, edit_named, edit_of, edits_of, operation_of}
 use Rattle.pull_patch.specs.Changes.{Entry, entry, id_of, entry_of, entries_of, change_of}
@@ -21,10 +22,6 @@ use Rattle.pull_patch.specs.Laws.{OnlyNumbersAreNotWhole}
 use Rattle.pull_patch.proofs.Joins.{shape, said, joined}
 
 -- ---- what is there has no float
-
-both_false : (a b : Bool) → (a || b) ≡ false → (a ≡ false) × (b ≡ false)
-both_false true b e = (cc, cc)
-both_false false b e = (refl, e)
 
 abbrev WholeAt : Option Data → Type 0
 WholeAt None = ⊤
@@ -38,7 +35,7 @@ whole_by Greater a b c p q r = r
 member_whole : (k : List ℕ) (ms : Members) → members_have_float ms ≡ false → WholeAt (get_member k ms)
 member_whole k no_members h = tt
 member_whole k (member l e ms) h =
-    let p = both_false (has_float e) (members_have_float ms) h in
+    let p = or_false (has_float e) (members_have_float ms) h in
     whole_by _ (get_member k ms) (Some e) (get_member k ms) (member_whole k ms p.1) p.0 (member_whole k ms p.1)
 
 field_whole : (k : List ℕ) (d : Data) → has_float d ≡ false → WholeAt (get k d)
@@ -203,7 +200,7 @@ each_finds g f (x ∷ xs) h = next_finds f (g x) (each g xs) h.0 (each_finds g f
 members_find : (ms : Members) → members_have_float ms ≡ false → AllFind entry_of change_of (members_list ms)
 members_find no_members h = tt
 members_find (member name d ms) h =
-    let p = both_false (has_float d) (members_have_float ms) h in (entry_finds name d p.0, members_find ms p.1)
+    let p = or_false (has_float d) (members_have_float ms) h in (entry_finds name d p.0, members_find ms p.1)
 
 changes_find : (o : Option Members) → MembersWhole o → Finds (each change_of) (option_and_then entries_of o)
 unfolding entries_of
@@ -213,7 +210,7 @@ changes_find (Some ms) h = each_finds entry_of change_of (members_list ms) (memb
 items_find : (ds : Items) → items_have_float ds ≡ false → AllFind edit_of operation_of (items_list ds)
 items_find no_items h = tt
 items_find (item d ds) h =
-    let p = both_false (has_float d) (items_have_float ds) h in (edit_finds d p.0, items_find ds p.1)
+    let p = or_false (has_float d) (items_have_float ds) h in (edit_finds d p.0, items_find ds p.1)
 
 patch_finds : (o : Option Items) → ItemsWhole o → Finds (each operation_of) (option_and_then edits_of o)
 unfolding edits_of

@@ -18,6 +18,3 @@ mod response;
 pub use group_history::{apply_patch, cookie_cmp};
 pub use laws::{unknown_fields_law, whole_numbers_law, worked_bodies};
 pub use response::read_response;
-
-#[cfg(test)]
-mod tests;

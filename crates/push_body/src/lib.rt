@@ -14,6 +14,3 @@ pub use identities::Identity;
 pub use laws::bodies_read_back;
 pub use pull::pull_bytes;
 pub use push::push_bytes;
-
-#[cfg(test)]
-mod tests;

@@ -1,5 +1,5 @@
 -- What follows where a call answers nothing, or something.
-use Rattle.std.specs.Prelude.{MatchOption, IfSome, IfNone}
+use Rattle.std.specs.Prelude.{IfSome, IfNone}
 use Rattle.std.specs.declared.option.Option.{Option}
 use Rattle.std.specs.declared.option.Option.TheVariants.{None, Some}
 
@@ -7,15 +7,7 @@ pub none_then : {A : Type 0} (r : Option A) (P Q : Type 0) → (P → Q) → IfN
 none_then None P Q f h = f h
 none_then (Some x) P Q f h = tt
 
-pub some_then : {A : Type 0} (r : Option A) (P Q : A → Type 0) → ((x : A) → P x → Q x) → IfSome r P → IfSome r Q
-some_then None P Q f h = tt
-some_then (Some x) P Q f h = f x h
-
 -- an answer that is always so
 pub some_always : {A : Type 0} (r : Option A) (Q : A → Type 0) → ((x : A) → Q x) → IfSome r Q
 some_always None Q f = tt
 some_always (Some x) Q f = f x
-
-pub option_then : {A : Type 0} (r : Option A) (P P' : Type 0) (Q Q' : A → Type 0) → (P → P') → ((x : A) → Q x → Q' x) → MatchOption r P Q → MatchOption r P' Q'
-option_then None P P' Q Q' f g h = f h
-option_then (Some x) P P' Q Q' f g h = g x h

@@ -1,15 +1,13 @@
 -- What a pass over the slots knows.
-use Rattle.std.proofs.Common.{◌≡◌, ℕ, suc, ◌+◌, ◌≤◌, ◌≢◌, List, [], ◌∷◌, ◌++◌, length, refl, sym, ap, ap₂, ◌∙◌, subst, arith, append_assoc}
+use Rattle.std.proofs.Common.{◌≡◌, ℕ, suc, ◌+◌, ◌≢◌, List, [], ◌∷◌, ◌++◌, length, refl, sym, ap, ap₂, ◌∙◌, subst, arith, append_assoc}
 use mathlib.Core.Logic.{dite}
 use native.Mathlib.Decide.{ℕ_discrete, dec_lt}
 use mathlib.Core.Option.{Option, some}
 use lib.ListN.{get_elem?}
 use Rattle.reader_claims.specs.Words.{slot_word}
 use Rattle.reader_claims.specs.Views.{with_taken, with_note, with_given, promoted, ArePinsRead, IsOpen, IsClosed}
-use Rattle.reader_claims.specs.Seats.{KeepsPin}
 use Rattle.reader_claims.specs.Passes as passes
-use Rattle.reader_claims.specs.Passes.{passed, Looks, Saw, LostAfter, WhyShut, IsShut, AreShut, FindsNone, Later}
-use Rattle.reader_claims.specs.declared.words.Pin.{Pin}
+use Rattle.reader_claims.specs.Passes.{passed, Saw, WhyShut, IsShut, AreShut, FindsNone, Later}
 use Rattle.reader_claims.specs.declared.view.View.{View}
 use Rattle.reader_claims.specs.declared.words.SlotState.{SlotState}
 use Rattle.reader_claims.specs.declared.words.SlotState.TheVariants.{Free, Taken, Live, Retired}
@@ -104,42 +102,6 @@ all_more from end v u l h one i over near = dite (ℕ_discrete i end) (λ e. sub
 pub all_joined : (from at end : ℕ) (v : View) → AreShut from at v → AreShut at end v → AreShut from end v
 all_joined from at end v a b i over near = dite (dec_lt i at) (λ lt. a i over lt) (λ ge. b i (omega arith) near)
 
-pub promoted_keeps : (p : Pin) (e : ℕ) → KeepsPin p (promoted p e)
-promoted_keeps p e = record { held = λ n h. ap (λ q. promoted q e) h; absent = λ h. ap (λ q. promoted q e) h }
-
-pub looks_later : (v u : View) → Later v u → Looks v u
-looks_later v u l = let low = l.2 in record {
-  sizes = ap (λ (y : View). y.sizes) l.0;
-  number = ap (λ (y : View). y.number) l.0;
-  pin = subst (KeepsPin v.pin) (sym (ap (λ (y : View). y.pin) l.0)) record { held = λ e h. h; absent = λ h. h };
-  settled = ap (λ (y : View). y.settled) l.0;
-  retired = ap (λ (y : View). y.retired) l.0;
-  reached = omega (arith, ap (λ (y : View). y.reached) l.0);
-  floor = low;
-}
-
-pub looks_passed : (v u : View) → u ≡ passed v u → v.reached ≤ u.reached → Looks v u
-looks_passed v u is past = record {
-  sizes = ap (λ (y : View). y.sizes) is;
-  number = ap (λ (y : View). y.number) is;
-  pin = subst (KeepsPin v.pin) (sym (ap (λ (y : View). y.pin) is)) (promoted_keeps v.pin u.reached);
-  settled = ap (λ (y : View). y.settled) is;
-  retired = ap (λ (y : View). y.retired) is;
-  reached = past;
-  floor = omega (arith, ap (λ (y : View). y.floor) is);
-}
-
-pub looks_looks : (v u t : View) → Looks v u → Looks u t → Looks v t
-looks_looks v u t a b = let p = a.reached in let q = b.reached in let f = a.floor in let g = b.floor in record {
-  sizes = b.sizes ∙ a.sizes;
-  number = b.number ∙ a.number;
-  pin = record { held = λ e h. b.pin.held e (a.pin.held e h); absent = λ h. b.pin.absent (a.pin.absent h) };
-  settled = b.settled ∙ a.settled;
-  retired = b.retired ∙ a.retired;
-  reached = omega arith;
-  floor = omega arith;
-}
-
 -- a reading of the epoch and the pins from v to u, and then steps on slots to t
 pub finds_none : (v u t : View) (end : ℕ) → u ≡ passed v u → ArePinsRead u → Later u t → AreShut 0 end t → FindsNone v t end
 finds_none v u t end is read l shut = record {
@@ -147,10 +109,6 @@ finds_none v u t end is read l shut = record {
   pins = read_later u t l read;
   slots = shut;
 }
-
--- a pass that began later than at the view v
-pub finds_since : (v u t : View) (end : ℕ) → Later v u → FindsNone u t end → FindsNone v t end
-finds_since v u t end l h = record { epoch = (h.epoch.0 ∙ ap (λ (y : View). y.passes + 1) l.0, h.epoch.1); pins = h.pins; slots = h.slots }
 
 -- a whole pass: the ordinary slots in two ranges, and then those to the end
 pub passed_over : (v u a b t : View) (begin ordinary end : ℕ) → u ≡ passed v u → ArePinsRead u → Later u a → Later a b → Later b t → AreShut begin ordinary a → AreShut 0 begin b → AreShut ordinary end t → FindsNone v t end

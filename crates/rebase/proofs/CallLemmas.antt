@@ -1,5 +1,5 @@
 -- Replies in order.
-use Rattle.std.proofs.Common.{◌≡◌, ◌<◌, ◌+◌, ℕ, Bool, true, false, cond, List, [], ◌∷◌, ◌++◌, map, take, length, get_or, Result, refl, sym, ap, ◌∙◌, subst}
+use Rattle.std.proofs.Common.{◌≡◌, ◌<◌, ◌+◌, ℕ, List, [], ◌∷◌, ◌++◌, map, take, length, get_or, Result, refl, sym, ap, ◌∙◌, subst}
 use Rattle.std.proofs.lemmas.List.{take_more}
 use Rattle.group_history.specs.declared.refusals.Refusal.{Refusal}
 use Rattle.group_history.specs.Meaning.{Meanings}
@@ -31,8 +31,3 @@ turn means g mid end all i c rs news r l q h a e n =
     let back : map replied news ≡ map replied rs ++ replied r ∷ [] = ap (map replied) n ∙ map_more replied rs r in
     subst (λ w. AreReplies means g w (map replied news) end) (sym front)
     (subst (λ w. AreReplies means g (take i all ++ c ∷ []) w end) (sym back) (replies-more means g mid end (take i all) (map replied rs) c (replied r) h a e))
-
--- what a list is after a push for which there was room
-pub pushed : {A : Type 0} (b : Bool) (x y z : A) → b ≡ true → x ≡ cond b y z → x ≡ y
-pushed true x y z h e = e
-pushed false x y z h e = absurd cc

@@ -1,6 +1,6 @@
 -- What a head keeps.
 use Rattle.std.proofs.Common.{◌≡◌, ℕ, zero, suc, ◌+◌, ◌<◌, ◌≤◌, ◌^◌, Bool, true, false, cond, List, [], ◌∷◌, ◌++◌, map, take, get_or, length, Result, Ok, Err, Some, slice_get, refl, sym, ap, ◌∙◌, subst, arith, length-append, append_assoc}
-use Rattle.std.proofs.lemmas.List.{take_more}
+use Rattle.std.proofs.lemmas.List.{take_more, append-nil}
 use Rattle.std.specs.declared.cmp.Ordering.{Ordering}
 use Rattle.std.specs.declared.cmp.Ordering.TheVariants.{Less, Equal, Greater}
 use Rattle.group_history.specs.declared.nodes.Commit.{Commit}
@@ -25,9 +25,8 @@ use Rattle.group_history.specs.Pulling.{says_nothing, goes_back, by_order, end_r
 use Rattle.group_history.specs.Meaning.{Meanings}
 use Rattle.group_history.specs.Mutating.{after_mutate}
 use Rattle.group_history.specs.Refs.{stamp_of}
-use Rattle.group_history.specs.Spelling.{Contents, Version, version_at}
+use Rattle.group_history.specs.Spelling.{Contents, Version, version_at, Spells, version_of}
 use Rattle.group_history.specs.State.{State, Ids, view_of, replayed_once, last_id}
-use Rattle.group_history.proofs.Folding.{append_nil}
 use Rattle.group_history.proofs.IdLemmas.{last_id-≤}
 use Rattle.group_history.proofs.Replays.{replayed-append}
 use Rattle.group_history.proofs.Spellings.{version-content}
@@ -36,12 +35,12 @@ use Rattle.map_tree.specs.Freezing.{with_nodes}
 use Rattle.rebase.specs.Chaining.{with_more}
 use Rattle.rebase.specs.Fixing.{staged}
 use Rattle.rebase.proofs.FixedLemmas.{staged-is}
-use Rattle.rebase.specs.Solos.{Spells, IsHead, state_in, state_at, seen_at}
+use Rattle.rebase.specs.Solos.{IsHead, state_in, state_at}
 
 pub head_of : (means : Meanings) (ns : Contents) (k : ℕ) (s : State) → Spells means ns k s → IdsFollow s.confirmed s.pending → IsHead means ns k
 head_of means ns k s h i =
     let same : state_at ns k ≡ s = ap state_in h in
-    record { spells = h ∙ ap (λ (w : State). Some (seen_at means w)) (sym same); ids = subst (λ (w : State). IdsFollow w.confirmed w.pending) (sym same) i }
+    record { spells = h ∙ ap (λ (w : State). Some (version_of means w)) (sym same); ids = subst (λ (w : State). IdsFollow w.confirmed w.pending) (sym same) i }
 
 -- a view with one mutation more
 pub view-mutated : (means : Meanings) (s : State) (x : Mutation) → view_of means (after_mutate s x) ≡ replayed_once means (view_of means s) x
@@ -72,7 +71,7 @@ pending-few ns k v h = few_below (suc k) ns k v (omega arith) h
 pub last_id-low : (means : Meanings) (ns : Contents) (k : ℕ) (client : Bytes) → IsHead means ns k → last_id (state_at ns k) client ≤ 2 ^ 52 + k
 last_id-low means ns k client h =
     let s = state_at ns k in
-    let few : length s.pending ≤ k = pending-few ns k (seen_at means s) h.spells in
+    let few : length s.pending ≤ k = pending-few ns k (version_of means s) h.spells in
     let low = last_id-≤ s.confirmed s.pending client h.ids in
     omega (arith, few, low)
 
@@ -82,7 +81,7 @@ stamp-low r h = omega (arith, h)
 
 -- an empty draft adds nothing
 pub with_none : (contents : Contents) → with_nodes contents [] ≡ contents
-with_none contents = append_nil contents
+with_none contents = append-nil contents
 
 -- a head whose nodes were appended
 pub head_placed : (means : Meanings) (nodes drafted after : List (Node Ref)) (at : ℕ) (s : State) → after ≡ nodes ++ drafted → Spells means (staged nodes drafted) at s → IdsFollow s.confirmed s.pending → IsHead means (map content_of after) at

@@ -1,9 +1,8 @@
 -- What the newest content of a list spells, and a draft's newest node.
-use Rattle.std.proofs.Common.{◌≡◌, ℕ, ◌+◌, List, [], ◌∷◌, ◌++◌, map, length, slice_get, Some, Option, refl, sym, ap, ◌∙◌, subst, arith, append_assoc, length-append}
+use Rattle.std.proofs.Common.{◌≡◌, ℕ, ◌+◌, List, [], ◌∷◌, ◌++◌, map, length, Some, Option, refl, sym, ap, ◌∙◌, subst, arith, append_assoc, length-append}
 use Rattle.std.specs.Prelude.{option_and_then, option_map}
 use Rattle.std.specs.FinMap as finite
-use Rattle.std.specs.Ordering.{nat_cmp}
-use Rattle.std.specs.Cmp.Lexicographic.{slice_cmp}
+use Rattle.std.proofs.lemmas.List.{map-append, length-map}
 use mathlib.Core.List.{IsPrefix}
 use Rattle.group_history.specs.declared.nodes.Chunk.TheVariants.{Leaf}
 use Rattle.group_history.specs.declared.nodes.Commit.TheVariants.{Snapshot, Local}
@@ -12,27 +11,18 @@ use Rattle.group_history.specs.declared.nodes.Node.TheVariants as node
 use Rattle.group_history.specs.declared.mutations.Mutation.{Mutation}
 use Rattle.group_history.specs.declared.refs.Ref.{Ref}
 use Rattle.group_history.specs.Cookies.{Cookie, null_cookie}
-use Rattle.group_history.specs.Folds.{joined}
-use Rattle.group_history.specs.Map.{Bytes, Entries}
+use Rattle.group_history.specs.Map.{Entries}
 use Rattle.group_history.specs.Mutating.{after_mutate}
 use Rattle.group_history.specs.Naming.{content_of}
 use Rattle.group_history.specs.Refs.{stamp_of}
-use Rattle.group_history.specs.Spelling.{Contents, Version, as_version, version, spelled_by, spelled, version_at, map_at}
+use Rattle.group_history.specs.Spelling.{Contents, Version, as_version, version, version_at, map_at}
 use Rattle.group_history.specs.State.{Ids, opening}
-use Rattle.group_history.proofs.Folding.{seam, folded_more, length_folded}
+use Rattle.group_history.proofs.Spellings.{version-newest}
+use Rattle.group_history.proofs.TextMaps.{empty_map}
 use Rattle.map_tree.specs.Freezing.{with_nodes}
 use Rattle.map_tree.proofs.FreezeLemmas.{nodes-grown}
 use Rattle.commits.proofs.Spelled.{version-grown, map-grown}
 use Rattle.rebase.specs.Chaining.{HasTip}
-use Rattle.rebase.proofs.FixedLemmas.{map-joined}
-
--- it spells what it makes of those before it
-version-newest : (cs : Contents) (c : Node ℕ) → version_at (cs ++ c ∷ []) (length cs) ≡ option_and_then as_version (spelled_by (spelled cs) c)
-version-newest cs c =
-    let done = spelled cs in
-    let long : length done ≡ length cs = let l = length_folded spelled_by [] cs in omega (arith, l) in
-    ap (λ w. option_and_then as_version (joined (slice_get w (length cs)))) (folded_more spelled_by [] cs (c ∷ []))
-    ∙ subst (λ k. option_and_then as_version (joined (slice_get (done ++ spelled_by done c ∷ []) k)) ≡ option_and_then as_version (spelled_by done c)) long (ap (λ o. option_and_then as_version (joined o)) (seam done (spelled_by done c) []))
 
 -- a local commit
 new_local : (cs : Contents) (basis root : ℕ) (x : Mutation) (v : Version) (m : Entries) → version_at cs basis ≡ Some v → map_at cs root ≡ Some m
@@ -51,20 +41,16 @@ new_snapshot cs cookie confirmed root m r =
     version-newest cs (node.Commit (Snapshot (record { cookie = cookie; confirmed = confirmed; root = root })))
     ∙ ap (λ o. option_and_then as_version (option_map version (option_and_then with_map o))) r
 
-length-mapped : {A B : Type 0} (f : A → B) (xs : List A) → length (map f xs) ≡ length xs
-length-mapped f [] = refl
-length-mapped f (x ∷ xs) = let l = length-mapped f xs in omega (arith, l)
-
 -- a vector's contents are as many as its nodes
 pub length-contents : (nodes : List (Node Ref)) (first : ℕ) → first ≡ length nodes → length (map content_of nodes) ≡ first
-length-contents nodes first h = length-mapped content_of nodes ∙ sym h
+length-contents nodes first h = length-map nodes content_of ∙ sym h
 
 -- a draft with one node more
 nodes-pushed : (contents : Contents) (nodes : List (Node Ref)) (n : Node Ref) → with_nodes contents (nodes ++ n ∷ []) ≡ with_nodes contents nodes ++ content_of n ∷ []
-nodes-pushed contents nodes n = ap (λ w. contents ++ w) (map-joined content_of nodes (n ∷ [])) ∙ sym (append_assoc contents (map content_of nodes) (content_of n ∷ []))
+nodes-pushed contents nodes n = ap (λ w. contents ++ w) (map-append content_of nodes (n ∷ [])) ∙ sym (append_assoc contents (map content_of nodes) (content_of n ∷ []))
 
 stamp_next : (contents : Contents) (nodes : List (Node Ref)) (first at : ℕ) → length contents ≡ first → at ≡ first + length nodes → length (with_nodes contents nodes) ≡ at
-stamp_next contents nodes first at l h = omega (arith, l, h, length-append contents (map content_of nodes), length-mapped content_of nodes)
+stamp_next contents nodes first at l h = omega (arith, l, h, length-append contents (map content_of nodes), length-map nodes content_of)
 
 -- the newest node of a draft spells the version, so it is a tip with a root that was there before
 tip_of : (contents : Contents) (mid new : List (Node Ref)) (first : ℕ) (n : Node Ref) (at root : Ref) (v : Version) → length contents ≡ first → new ≡ mid ++ n ∷ [] → stamp_of at ≡ first + length mid
@@ -95,10 +81,6 @@ pub snapshot_tip : (contents : Contents) (mid new : List (Node Ref)) (first : �
 snapshot_tip contents mid new first root at cookie confirmed m l is stamp r =
     tip_of contents mid new first (node.Commit (Snapshot (record { cookie = cookie; confirmed = confirmed; root = root }))) at root (record { state = record { pulled = m; cookie = cookie; confirmed = confirmed; pending = [] }; read = m }) l is stamp
     (new_snapshot (with_nodes contents mid) cookie confirmed (stamp_of root) m r) r
-
--- no rows make the empty map
-empty_map : finite.from_sorted {K = Bytes} {X = Bytes} {R = slice_cmp nat_cmp} [] ≡ finite.empty
-empty_map = finite.empty_of_len _ (finite.len-entries _ ∙ ap length (finite.entries-from_sorted (slice_cmp nat_cmp) [] tt))
 
 empty_leaf : map_at (node.Chunk (Leaf []) ∷ []) 0 ≡ Some finite.empty
 empty_leaf = ap (λ (m : Entries). Some m) empty_map

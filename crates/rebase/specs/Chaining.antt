@@ -3,9 +3,8 @@ use Rattle.std.specs.Prelude.{◌≡◌, List, ◌++◌, Some}
 use Rattle.group_history.specs.declared.mutations.Mutation.{Mutation}
 use Rattle.group_history.specs.Meaning.{Meanings}
 use Rattle.group_history.specs.Refs.{stamp_of}
-use Rattle.group_history.specs.Spelling.{Contents, Version, version_at, map_at}
+use Rattle.group_history.specs.Spelling.{Contents, Version, version_at, map_at, version_of}
 use Rattle.group_history.specs.State.{State}
-use Rattle.rebase.specs.Solos.{seen_at}
 use Rattle.commits.specs.declared.states.CommitState.{CommitState}
 use Rattle.rebase.specs.declared.tips.Tip.{Tip}
 
@@ -15,7 +14,7 @@ HasTip contents tip v = (version_at contents (stamp_of tip.commit) ≡ Some v) �
 
 -- the commit is one of the state, and the root the state's view
 abbrev pub IsTip : Meanings → Contents → Tip → State → Type 0
-IsTip means contents tip s = HasTip contents tip (seen_at means s)
+IsTip means contents tip s = HasTip contents tip (version_of means s)
 
 -- the state with more mutations at the end of what is pending
 abbrev pub with_more : State → List Mutation → State

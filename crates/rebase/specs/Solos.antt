@@ -1,5 +1,5 @@
 -- A group of one thread over nodes: what it shows, and what its head spells.
-use Rattle.std.specs.Prelude.{◌≡◌, ℕ, Option, Some, None, Result, Ok, Err}
+use Rattle.std.specs.Prelude.{ℕ, Option, Some, None, Result, Ok, Err}
 use Rattle.group_history.specs.declared.refusals.Refusal.{Refusal}
 use Rattle.group_history.specs.declared.responses.Ended.{Ended}
 use Rattle.group_history.specs.declared.responses.Response.{Response}
@@ -8,8 +8,8 @@ use Rattle.group_history.specs.Meaning.{Meanings}
 use Rattle.group_history.specs.Answers.{◌>>=◌}
 use Rattle.group_history.specs.Ids.{IdsFollow}
 use Rattle.group_history.specs.Pulling.{end_reply, left_by_end}
-use Rattle.group_history.specs.Spelling.{Contents, Version, version_at}
-use Rattle.group_history.specs.State.{State, opening, view_of}
+use Rattle.group_history.specs.Spelling.{Contents, Version, version_at, Spells}
+use Rattle.group_history.specs.State.{State, opening}
 use Rattle.push_body.specs.declared.identities.Identity.{Identity}
 use Rattle.pull_patch.specs.Grammar.{answer_to}
 
@@ -26,14 +26,6 @@ end_bytes_reply s ticket bytes = answer_to bytes >>= end_reply s ticket
 abbrev pub left_by_bytes : Result Ended Refusal → State → Result Response Refusal → State
 left_by_bytes reply s (Ok r) = left_by_end reply s r
 left_by_bytes reply s (Err e) = s
-
--- the version of a state, whose map is the state's view
-abbrev pub seen_at : Meanings → State → Version
-seen_at means s = record { state = s; read = view_of means s }
-
--- the stamp is a commit of the state, at which queries read the state's view
-abbrev pub Spells : Meanings → Contents → ℕ → State → Type 0
-Spells means contents stamp s = version_at contents stamp ≡ Some (seen_at means s)
 
 abbrev pub state_in : Option Version → State
 state_in None = opening

@@ -3,12 +3,11 @@ ghost use Rattle.std.specs.Prelude.{◌≡◌, ◌⊎◌, length, Some, IsSome, 
 ghost use Rattle.group_history.specs.Pull.{AreInRange};
 ghost use Rattle.group_history.specs.Pulling.{end_reply, after_pull, goes_back};
 ghost use Rattle.group_history.specs.Refs.{stamp_of};
-ghost use Rattle.group_history.specs.Spelling.{map_at};
+ghost use Rattle.group_history.specs.Spelling.{map_at, Spells};
 ghost use Rattle.group_history.specs.State.{State};
 ghost use Rattle.group_history.specs.declared.refusals.Refusal.TheVariants.{NoMemory, Stamps};
 ghost use Rattle.group_history.specs.declared.responses.Response.TheVariants as response;
 ghost use Rattle.rebase.specs.Fixing.{staged};
-ghost use Rattle.rebase.specs.Solos.{Spells};
 
 use crate::patches::patched_map;
 use crate::replays::replayed;

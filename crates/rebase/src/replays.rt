@@ -4,7 +4,7 @@ ghost use Rattle.group_history.specs.Map.{Entries};
 ghost use Rattle.group_history.specs.Meaning.{Meaning, left_by};
 ghost use Rattle.group_history.specs.Mutating.{after_mutate, by_meaning};
 ghost use Rattle.group_history.specs.Refs.{stamp_of};
-ghost use Rattle.group_history.specs.Spelling.{Contents, map_at};
+ghost use Rattle.group_history.specs.Spelling.{Contents, map_at, Spells};
 ghost use Rattle.group_history.specs.State.{State, view_of};
 ghost use Rattle.group_history.specs.declared.refusals.Refusal.TheVariants.{NoMemory, Stamps};
 ghost use Rattle.map_tree.specs.Trees.{tree_map};
@@ -12,7 +12,6 @@ ghost use Rattle.rebase.specs.Chaining.{IsTip, with_more};
 ghost use Rattle.rebase.specs.Fixing.{staged};
 ghost use Rattle.rebase.specs.Refusing.{RefusesOrStamps};
 ghost use Rattle.rebase.specs.Running.{HasRun};
-ghost use Rattle.rebase.specs.Solos.{Spells};
 
 use crate::runs::{Run, run_on};
 use crate::tips::{Tip, add_local};

@@ -13,7 +13,8 @@ ghost use Rattle.group_history.specs.declared.responses.Response.TheVariants as 
 ghost use Rattle.pull_patch.specs.Grammar.{answer_to};
 ghost use Rattle.push_body.specs.Bodies.{pull_text, push_text};
 ghost use Rattle.rebase.specs.Refusing.{AnswersOrStamps};
-ghost use Rattle.rebase.specs.Solos.{end_bytes_reply, left_by_bytes, seen_at};
+ghost use Rattle.group_history.specs.Spelling.{version_of};
+ghost use Rattle.rebase.specs.Solos.{end_bytes_reply, left_by_bytes};
 
 use crate::looks::{state_here, tip_here};
 use crate::pulls::{judged, rebased};
@@ -81,7 +82,7 @@ impl<M: Mutators + Drop> Solo<M> {
 
     /// Reads the group as it is now. Takes no memory, and is never refused.
     pub fn read(&self) -> Result<ReadTx<Shelf<'_>>, Refusal>
-        ensures version { IfOk result (λ tx. tx.version ≡ seen_at M.means self.now.state) }
+        ensures version { IfOk result (λ tx. tx.version ≡ version_of M.means self.now.state) }
         ensures err { IfErr result (λ e. ⊥) }
     {
         match ReadTx::open(self.alloc, self.nodes.shelf(), self.head) {

@@ -1,9 +1,7 @@
 //! The group of a script.
 use crate::mutators::ScriptMutators;
 use group_history::Refusal;
-#[cfg(test)]
-use rebase::Plain;
-use rebase::{Call, Reply, Solo};
+use rebase::{Call, Plain, Reply, Solo};
 
 /// A group whose clients call one after the other.
 pub(crate) trait Group {
@@ -16,7 +14,6 @@ impl Group for Solo<ScriptMutators> {
     }
 }
 
-#[cfg(test)]
 impl Group for Plain<ScriptMutators> {
     fn make_call(&mut self, call: Call<'_>) -> Result<Reply, Refusal> {
         Plain::make_call(self, call)

@@ -19,7 +19,4 @@ mod script;
 pub use faults::{Fault, ScriptFault};
 pub use mutators::ScriptMutators;
 pub use process::program;
-pub use runner::{Gate, run};
-
-#[cfg(test)]
-mod tests;
+pub use runner::{Gate, run, run_plain};

@@ -222,6 +222,3 @@ fn quoted(alloc: Global, text: String) -> Result<Json, AllocError>
 {
     Json::of_whole(alloc, &Value::String(text))
 }
-
-#[cfg(test)]
-mod tests;

@@ -10,9 +10,7 @@ use crate::mutators::ScriptMutators;
 use crate::reply::print_line;
 use crate::script::{Header, Phase, Script, read_script};
 use group_history::Refusal;
-#[cfg(test)]
-use rebase::Plain;
-use rebase::Solo;
+use rebase::{Plain, Solo};
 use std::alloc::{AllocError, Global};
 use std::io;
 
@@ -104,18 +102,25 @@ pub fn run<R: AllocGlobal, G: Gate, W: io::Write>(
     run_phases(alloc, &script, group, gate, out)
 }
 
-/// The same on a plain group.
-#[cfg(test)]
-pub(crate) fn run_plain<G: Gate, W: io::Write>(
-    alloc: Global,
+fn open_plain(alloc: Global, header: &Header) -> Result<Plain<ScriptMutators>, Refusal> {
+    let identity = header.identity(alloc)?;
+    Plain::new(alloc, ScriptMutators, identity)
+}
+
+/// The same on a plain group, by which `run` can be judged: a list of calls over a map, with no tree below it.
+pub fn run_plain<R: AllocGlobal, G: Gate, W: io::Write>(
+    rt: &R,
     script: &[u8],
     gate: &G,
     out: &mut W,
-) -> Result<(), Fault> {
-    let read = read_script(alloc, script)?;
-    let identity = read.header.identity(alloc)?;
-    let Ok(group) = Plain::new(alloc, ScriptMutators, identity) else {
+) -> Result<(), Fault>
+    ensures first { Checks (first_fault script.now) result }
+    ensures nothing_written { IfErr result (λ e. IsOfScript e → W.contents out.new ≡ W.contents out.old) }
+{
+    let alloc = rt.alloc();
+    let script = read_script(alloc, script)?;
+    let Ok(group) = open_plain(alloc, &script.header) else {
         return Err(Fault::NoMemory);
     };
-    run_phases(alloc, &read, group, gate, out)
+    run_phases(alloc, &script, group, gate, out)
 }

@@ -6,10 +6,9 @@ ghost use Rattle.group_history.specs.Refs.{stamp_of};
 ghost use Rattle.group_history.specs.Spelling.{rows_at};
 ghost use Rattle.group_history.specs.declared.mutators.Stop.TheVariants.{NoMemory};
 ghost use Rattle.map_tree.specs.Copies.{MayBeDeep, IsCopy};
-ghost use Rattle.map_tree.specs.Counts.{IsWideChunk};
 ghost use Rattle.map_tree.specs.Freezing.{AreKept, places_of};
 ghost use Rattle.map_tree.specs.Shown.{shown};
-ghost use Rattle.map_tree.specs.Trees.{IsWideAt};
+ghost use Rattle.map_tree.specs.Trees.{IsWideAt, IsWideChunk};
 ghost use Rattle.map_tree.specs.declared.nodes.Child.TheVariants.{Placed};
 
 use super::{Body, Child, Node};
@@ -33,7 +32,7 @@ impl Node {
         ensures rows { IfOk result (λ n. shown (C.contents chunks.new) n.pieces ≡ rows_at (C.contents chunks.old) depth (stamp_of at)) }
         ensures fresh { IfOk result (λ n. n.fresh ≡ 1) }
         ensures places { IfOk result (λ n. AreKept C.Held.shown (C.contents chunks.new) [] (places_of n.pieces)) }
-        ensures wide { IsWideAt (C.contents chunks.new) at → IfOk result IsWideChunk }
+        ensures wide { IsWideAt (C.contents chunks.new) (stamp_of at) → IfOk result IsWideChunk }
         ensures stopped { IfErr result (λ s. (s ≡ NoMemory) ⊎ C.stops s) }
     {
         let held = chunks.show(at)?;

@@ -18,7 +18,7 @@ use std::alloc::Global;
 /// Appends the chunk and those that it owns to the draft, all or none, and answers its root's name.
 pub(crate) fn frozen(alloc: Global, node: Node, draft: &mut Draft) -> Result<Ref, Refusal>
     ensures spelled { (contents : Contents) (rows : Rows) → length contents ≡ draft.old.first → shown (with_nodes contents draft.old.nodes) node.pieces ≡ Some rows → IfOk result (λ root. rows_at (with_nodes contents draft.new.nodes) node.depth (stamp_of root) ≡ Some rows) }
-    ensures wide { (contents : Contents) → length contents ≡ draft.old.first → 1 < node.entries → IfOk result (IsWideAt (with_nodes contents draft.new.nodes)) }
+    ensures wide { (contents : Contents) → length contents ≡ draft.old.first → 1 < node.entries → IfOk result (λ root. IsWideAt (with_nodes contents draft.new.nodes) (stamp_of root)) }
     ensures named { OnOk result (AddsNamed draft.old.first (places_of node.pieces) draft.old.nodes draft.new.nodes) }
     ensures drafted { IfOk result (λ at. (draft.old.first ≤ stamp_of at) × (slot_of at ≡ 0)) }
     ensures count { OnOk result (length draft.new.nodes ≡ length draft.old.nodes + node.fresh) }
@@ -45,7 +45,7 @@ impl Node {
     #[cycle(freezing)]
     fn freeze(self, alloc: Global, draft: &mut Draft) -> Result<Ref, Refusal>
         ensures spelled { (contents : Contents) (rows : Rows) → length contents ≡ draft.old.first → shown (with_nodes contents draft.old.nodes) self.pieces ≡ Some rows → IfOk result (λ root. rows_at (with_nodes contents draft.new.nodes) self.depth (stamp_of root) ≡ Some rows) }
-        ensures wide { (contents : Contents) → length contents ≡ draft.old.first → 1 < self.entries → IfOk result (IsWideAt (with_nodes contents draft.new.nodes)) }
+        ensures wide { (contents : Contents) → length contents ≡ draft.old.first → 1 < self.entries → IfOk result (λ root. IsWideAt (with_nodes contents draft.new.nodes) (stamp_of root)) }
         ensures named { OnOk result (AddsNamed draft.old.first (places_of self.pieces) draft.old.nodes draft.new.nodes) }
         ensures drafted { IfOk result (λ at. (draft.old.first ≤ stamp_of at) × (slot_of at ≡ 0)) }
         ensures count { OnOk result (length draft.new.nodes ≡ length draft.old.nodes + self.fresh) }

@@ -5,9 +5,9 @@ ghost use Rattle.std.specs.Ordering.{nat_cmp};
 ghost use Rattle.std.specs.Cmp.Lexicographic.{slice_cmp};
 ghost use Rattle.std.specs.FinMap as finite;
 ghost use Rattle.group_history.specs.declared.mutators.Stop.TheVariants.{NoMemory};
-ghost use Rattle.map_tree.specs.Counts.{IsWideChunk};
 ghost use Rattle.map_tree.specs.Freezing.{AreKept, places_of};
 ghost use Rattle.map_tree.specs.Shown.{shown, IsTree, rows_or};
+ghost use Rattle.map_tree.specs.Trees.{IsWideChunk};
 
 use super::Node;
 use crate::chunks::Chunks;

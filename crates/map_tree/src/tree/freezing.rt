@@ -20,7 +20,7 @@ impl Tree {
     /// map whose root is placed adds nothing, keeps its name, and is never refused.
     pub fn freeze(self, alloc: Global, draft: &mut Draft) -> Result<Ref, Refusal>
         ensures spelled { (contents : Contents) (m : Entries) → length contents ≡ draft.old.first → tree_map (with_nodes contents draft.old.nodes) self ≡ Some m → IfOk result (λ root. map_at (with_nodes contents draft.new.nodes) (stamp_of root) ≡ Some m) }
-        ensures wide { (contents : Contents) (m : Entries) → length contents ≡ draft.old.first → tree_map (with_nodes contents draft.old.nodes) self ≡ Some m → HasWideRoot (with_nodes contents draft.old.nodes) self → IfOk result (IsWideAt (with_nodes contents draft.new.nodes)) }
+        ensures wide { (contents : Contents) (m : Entries) → length contents ≡ draft.old.first → tree_map (with_nodes contents draft.old.nodes) self ≡ Some m → HasWideRoot (with_nodes contents draft.old.nodes) self → IfOk result (λ root. IsWideAt (with_nodes contents draft.new.nodes) (stamp_of root)) }
         ensures shared { (at : Reference) → tree_root self ≡ Some at → (result ≡ Ok at) × (draft.new ≡ draft.old) }
         ensures named { OnOk result (AddsNamed draft.old.first (tree_places self) draft.old.nodes draft.new.nodes) }
         ensures name { IfOk result (IsNamed draft.old.first (tree_places self)) }

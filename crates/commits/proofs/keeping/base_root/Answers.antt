@@ -3,9 +3,8 @@ use Rattle.std.specs.Prelude.{IsSome}
 use Rattle.group_history.specs.declared.refs.Ref.{Ref}
 use Rattle.group_history.specs.Refs.{stamp_of}
 use Rattle.group_history.specs.Spelling.{map_at}
-use Rattle.group_history.proofs.Folding.{prefix_trans}
+use Rattle.group_history.proofs.Lists.{prefix_trans, prefix_self}
 use Rattle.commits.specs.Reach.{Reaches, IsNamed, itself}
-use Rattle.commits.proofs.Listed.{prefix_self}
 use Rattle.commits.proofs.Chained.{version_stays}
 use Rattle.commits.proofs.Reached.{reaches_stays}
 use Rattle.commits.proofs.Rooted.{rooted_step, rooted_ends, root_named}

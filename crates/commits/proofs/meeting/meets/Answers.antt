@@ -1,7 +1,7 @@
 use Rattle.std.proofs.Common.{◌≡◌, ◌<◌, ◌≤◌, sym, ◌∙◌, arith}
 use Rattle.std.proofs.lemmas.Bool.{eqb-true, eq-eqb}
 use Rattle.group_history.specs.Refs.{stamp_of}
-use Rattle.commits.proofs.Listed.{prefix_self}
+use Rattle.group_history.proofs.Lists.{prefix_self}
 use Rattle.commits.proofs.Chained.{none_from}
 use Rattle.commits.proofs.Descending.{meeting_begins, meeting_step, meeting_stops, meeting_ends}
 use Rattle.commits.proofs.meeting.meets.Goals as goal

@@ -1,7 +1,7 @@
 use Rattle.std.proofs.Common.{List, subst}
 use Rattle.group_history.specs.declared.refs.Ref.{Ref}
 use Rattle.group_history.specs.Refs.{stamp_of}
-use Rattle.group_history.proofs.Folding.{prefix_trans}
+use Rattle.group_history.proofs.Lists.{prefix_trans}
 use Rattle.commits.specs.Reach.{Leaves}
 use Rattle.commits.proofs.Chained.{some_version, version_stays}
 use Rattle.commits.proofs.Reached.{there_version, reaches_stays, reaches_back}

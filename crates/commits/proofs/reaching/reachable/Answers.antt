@@ -3,12 +3,11 @@ use Rattle.std.specs.List.{Contains}
 use Rattle.std.proofs.lemmas.List.Elements.{Contains-append_right}
 use Rattle.group_history.specs.declared.refs.Ref.{Ref}
 use Rattle.group_history.specs.Refs.{stamp_of}
+use Rattle.group_history.proofs.Lists.{one_here, prefix_self}
 use Rattle.commits.specs.declared.founds.Found.{Found}
 use Rattle.commits.specs.declared.founds.Found.TheVariants as found
 use Rattle.commits.specs.Reach.{Adds}
-use Rattle.commits.proofs.Listed.{prefix_self}
 use Rattle.commits.proofs.Chained.{some_version}
-use Rattle.commits.proofs.Findings.{one_here}
 use Rattle.commits.proofs.Reached.{spelled_grown}
 use Rattle.commits.proofs.Listing.{IsListing, bound, listing_begins, listing_grown, listing_step, listing_skip, listing_falls, skip_falls, listing_ends}
 use Rattle.commits.proofs.reaching.reachable.Goals as goal

@@ -1,8 +1,8 @@
 use Rattle.std.proofs.Common.{List, sym, subst, ◌∙◌}
 use Rattle.group_history.specs.declared.mutations.Mutation.{Mutation}
 use Rattle.group_history.specs.Refs.{stamp_of}
+use Rattle.group_history.proofs.Lists.{prefix_self}
 use Rattle.commits.specs.Reach.{itself}
-use Rattle.commits.proofs.Listed.{prefix_self}
 use Rattle.commits.proofs.Reached.{reaches_stays}
 use Rattle.commits.proofs.Rooted.{rooted_step, step_basis}
 use Rattle.commits.proofs.Chained.{IsDescent, descent_begins, descent_step, descent_ends, descent_lies, no_step, none_from}

@@ -2,9 +2,8 @@ use Rattle.std.proofs.Common.{◌≡◌, ◌<◌, ℕ, suc, Some, Option, ap, sy
 use Rattle.group_history.specs.declared.refs.Ref.{Ref}
 use Rattle.group_history.specs.Refs.{stamp_of}
 use Rattle.group_history.specs.State.{last_id}
-use Rattle.group_history.proofs.Folding.{prefix_trans}
 use Rattle.group_history.specs.Spelling.{Version}
-use Rattle.commits.proofs.Listed.{prefix_self}
+use Rattle.group_history.proofs.Lists.{prefix_trans, prefix_self}
 use Rattle.commits.proofs.Chained.{IsSearch, ahead, search_begins, search_step, some_version}
 use Rattle.commits.proofs.states.last_id_of.Goals as goal
 

@@ -1,7 +1,7 @@
 use Rattle.std.proofs.Common.{◌<◌, ◌++◌, ◌∷◌, [], sym, subst, ◌∙◌}
 use Rattle.group_history.specs.declared.refs.Ref.{Ref}
 use Rattle.group_history.specs.Refs.{stamp_of}
-use Rattle.commits.proofs.Listed.{prefix_self}
+use Rattle.group_history.proofs.Lists.{prefix_self}
 use Rattle.commits.proofs.Chained.{IsDescent, descent_begins, descent_step, descent_ends, descent_lies, basis_step, no_basis, none_from}
 use Rattle.commits.proofs.states.snapshot_of.Goals as goal
 

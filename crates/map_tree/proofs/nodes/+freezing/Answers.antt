@@ -6,7 +6,7 @@ use Rattle.group_history.specs.Refs.{stamp_of}
 use Rattle.group_history.specs.Rows.{Rows, paired}
 use Rattle.std.specs.Vec.Iter.{into_iter_items}
 use Rattle.group_history.specs.Spelling.{Contents, rows_at, joined_rows}
-use Rattle.group_history.proofs.Folding.{prefix_trans}
+use Rattle.group_history.proofs.Lists.{prefix_trans, one_here, no_element}
 use Rattle.map_tree.specs.Freezing.{with_nodes, IsFrozen, AreFrozen, places_of, child_places, kids_places, IsNamed, AreNamed, AddsNamed}
 use Rattle.map_tree.specs.Nodes.{body_pieces, body_height, child_height, child_fresh, kids_fresh, kids_height, IsNode}
 use Rattle.map_tree.specs.Shown.{Seen, shown}
@@ -15,13 +15,13 @@ use Rattle.map_tree.specs.declared.nodes.Child.{Child}
 use Rattle.map_tree.proofs.JoinLemmas.{some_is}
 use Rattle.map_tree.proofs.OpenLemmas.{shows_by}
 use Rattle.map_tree.proofs.NodeLemmas.{shown-rows, shown-kids}
-use Rattle.map_tree.proofs.ScanLemmas.{length-pairs}
 use Rattle.map_tree.proofs.WideLemmas.{pushed_at, wide_node, wide_inner}
 use Rattle.map_tree.proofs.FreezeLemmas.{if_ok, err_so, own_frozen, leaf_pushed, inner_pushed, all-spelled, frozen-length, frozen-sooner, all-later, all-one, fresh-one, fresh-within, high-within}
 use Rattle.std.specs.List.{Contains}
 use Rattle.map_tree.proofs.AnswerLemmas.{on_ok}
-use Rattle.map_tree.proofs.NamedLemmas.{one_here, none_here, adds-none, adds-one, kid-added, kid-named, places-kids, inner-named, drafted-named}
+use Rattle.map_tree.proofs.NamedLemmas.{adds-none, adds-one, kid-added, kid-named, places-kids, inner-named, drafted-named}
 use Rattle.map_tree.proofs.nodes.+freezing.Goals as goal
+use Rattle.map_tree.proofs.ListLemmas.{length-paired}
 
 pub Node::freeze-returns-in-Leaf-clause-spelled : goal.Node::freeze-returns-in-Leaf-clause-spelled
 Node::freeze-returns-in-Leaf-clause-spelled t c contents rows l h =
@@ -34,7 +34,7 @@ Node::freeze-returns-in-Leaf-clause-spelled t c contents rows l h =
     let leaf : c.new-leaf.result ≡ paired texts c.in-Leaf.values.items = c.new-leaf.ensures ∙ ap (λ w. paired w c.in-Leaf.values.items) c.in_ok-keys.ensures in
     if_ok c.push.result c.push.ensures.stamp c.push.ensures.ok (λ at k o.
     leaf_pushed contents c.args.draft.now.first c.args.draft.now.nodes c.push.new.self.nodes c.new-leaf.result rows c.args.self.depth at l (ap (λ d. d.nodes) o) k.0
-    (omega (arith, ap length leaf, length-pairs texts c.in-Leaf.values.items inv.1.1, inv.0.0)) (sym (ap (λ (s : Seen). s.depth) c.self.view_is) ∙ inv.1.0) (leaf ∙ same))
+    (omega (arith, ap length leaf, length-paired texts c.in-Leaf.values.items inv.1.1, inv.0.0)) (sym (ap (λ (s : Seen). s.depth) c.self.view_is) ∙ inv.1.0) (leaf ∙ same))
 
 pub Node::freeze-freeze_kids-requires : goal.Node::freeze-freeze_kids-requires
 Node::freeze-freeze_kids-requires t c =
@@ -61,7 +61,7 @@ Node::freeze-returns-in-Inner-clause-spelled t c contents rows l h =
     let spelt = all-spelled contents c.args.draft.now.first c.args.draft.now.nodes c.freeze_kids.new.draft.nodes (depth - 1) texts kids ats rows l c.in_ok-children-in-Inner.ensures.frozen inv.1.3 shows in
     let inner : c.new-inner.result ≡ paired texts ats = c.new-inner.ensures ∙ ap (λ w. paired w ats) c.in_ok-keys.ensures in
     let long : length ats ≡ length texts = frozen-length _ _ _ kids ats c.in_ok-children-in-Inner.ensures.frozen ∙ inv.1.2 in
-    let size : length c.new-inner.result ≡ length texts = ap length inner ∙ length-pairs texts ats long in
+    let size : length c.new-inner.result ≡ length texts = ap length inner ∙ length-paired texts ats long in
     let here = ap (λ (s : Seen). s.depth) c.self.view_is in
     if_ok c.push-in-Inner.result c.push-in-Inner.ensures.stamp c.push-in-Inner.ensures.ok (λ at k o.
     inner_pushed contents c.args.draft.now.first c.freeze_kids.new.draft.nodes c.push-in-Inner.new.self.nodes c.new-inner.result rows (depth - 1) c.args.self.depth at l (ap (λ d. d.nodes) o)
@@ -123,7 +123,7 @@ pub Node::freeze-returns-in-Leaf-clause-wide : goal.Node::freeze-returns-in-Leaf
 Node::freeze-returns-in-Leaf-clause-wide t c contents l h =
     let x = node.Chunk (chunked.Leaf c.new-leaf.result) in
     if_ok c.push.result c.push.ensures.stamp c.push.ensures.ok (λ at k o.
-    wide_node (with_nodes contents c.push.new.self.nodes) at (content_of x)
+    wide_node (with_nodes contents c.push.new.self.nodes) (stamp_of at) (content_of x)
     (pushed_at contents c.args.draft.now.first c.args.draft.now.nodes c.push.new.self.nodes x at l (ap (λ d. d.nodes) o) k.0) refl)
 
 pub Node::freeze-returns-in-Inner-clause-wide : goal.Node::freeze-returns-in-Inner-clause-wide
@@ -135,11 +135,11 @@ Node::freeze-returns-in-Inner-clause-wide t c contents l h =
     let inv : IsNode depth texts (Inner c.in-Inner.kids) = subst (IsNode depth texts) c.in-Inner.is c.self.invariant in
     let inner : c.new-inner.result ≡ paired texts ats = c.new-inner.ensures ∙ ap (λ w. paired w ats) c.in_ok-keys.ensures in
     let long : length ats ≡ length texts = frozen-length _ _ _ kids ats c.in_ok-children-in-Inner.ensures.frozen ∙ inv.1.2 in
-    let size : length c.new-inner.result ≡ length texts = ap length inner ∙ length-pairs texts ats long in
+    let size : length c.new-inner.result ≡ length texts = ap length inner ∙ length-paired texts ats long in
     let more : 1 < length c.new-inner.result = omega (arith, size, ap (λ (s : Seen). s.entries) c.self.view_is, h) in
     let x = node.Chunk (chunked.Inner c.new-inner.result) in
     if_ok c.push-in-Inner.result c.push-in-Inner.ensures.stamp c.push-in-Inner.ensures.ok (λ at k o.
-    wide_node (with_nodes contents c.push-in-Inner.new.self.nodes) at (content_of x)
+    wide_node (with_nodes contents c.push-in-Inner.new.self.nodes) (stamp_of at) (content_of x)
     (pushed_at contents c.args.draft.now.first c.freeze_kids.new.draft.nodes c.push-in-Inner.new.self.nodes x at l (ap (λ d. d.nodes) o)
     (k.0 ∙ ap (λ n. n + length c.freeze_kids.new.draft.nodes) c.freeze_kids.ensures.first)) (wide_inner c.new-inner.result more))
 
@@ -148,7 +148,7 @@ Node::freeze-returns-in-Leaf-clause-named t c =
     let old = c.args.draft.now.nodes in
     on_ok c.push.result c.push.ensures.ok (λ o.
     adds-one c.args.draft.now.first (places_of c.args.self.pieces) old old c.push.new.self.nodes (node.Chunk (chunked.Leaf c.new-leaf.result)) (adds-none c.args.draft.now.first (places_of c.args.self.pieces) old)
-    (λ at h. absurd (none_here at h)) (ap (λ d. d.nodes) o))
+    (λ at h. absurd (no_element at h)) (ap (λ d. d.nodes) o))
 
 pub Node::freeze-returns-in-Leaf-clause-drafted : goal.Node::freeze-returns-in-Leaf-clause-drafted
 Node::freeze-returns-in-Leaf-clause-drafted t c = if_ok c.push.result c.push.ensures.stamp c.push.ensures.ok (λ at k o. (omega (arith, k.0), k.1))

@@ -1,6 +1,7 @@
 use Rattle.std.proofs.Common.{[], ◌≡◌, ◌∙◌, ap, sym, subst, arith, length, true, OnOk, T}
-use Rattle.group_history.proofs.Folding.{prefix_trans, append_nil}
+use Rattle.std.proofs.lemmas.List.{append-nil}
 use Rattle.group_history.specs.Rows.{paired, rises}
+use Rattle.group_history.proofs.Lists.{prefix_trans}
 use Rattle.map_tree.specs.Nodes.{body_pieces, body_height, kids_height, IsNode}
 use Rattle.map_tree.specs.Scanning.{is_over, with_scanned, kids_shown}
 use Rattle.map_tree.specs.Shown.{Seen, rows_or, shown}
@@ -16,7 +17,7 @@ scanning::scan_kids-loop-place-init g t c =
     let r = c.requires.1.1.1.1 in
     let n = known (kids_shown p (paired c.args.firsts.now c.args.kids.now)) r.1.1.0 in
     record {
-      grown = ([], append_nil p);
+      grown = ([], append-nil p);
       rows = pairs_begun (shown_kid p) c.args.firsts.now c.args.kids.now c.place_of-place.result n.rows c.args.scan.now c.args.low.now c.args.out.now.items r.1.0 n.is n.order
           r.1.1.1.0 c.place_of-place.ensures r.1.1.1.1;
     }

@@ -1,7 +1,7 @@
 use Rattle.std.proofs.Common.{◌≡◌, ◌<◌, ◌-◌, ◌∙◌, Some, OnOk, ap, sym, subst, arith, refl, length, get_or, set-set, remove, []}
 use Rattle.std.specs.Prelude.{IsSome}
 use Rattle.std.specs.Box.{with_value}
-use Rattle.group_history.proofs.Folding.{append_nil}
+use Rattle.std.proofs.lemmas.List.{append-nil}
 use Rattle.group_history.specs.Refs.{stamp_of}
 use Rattle.group_history.specs.Rows.{paired}
 use Rattle.group_history.specs.Spelling.{rows_at}
@@ -55,7 +55,7 @@ Node::remove-remove_at-requires g t c κs within =
     let node : IsNode depth keys (Inner kids) = subst (IsNode depth keys) c.in-Inner.is c.self.invariant in
     let view = ap (λ (s : Seen). s.pieces) c.self.view_is in
     let d = node_down p depth keys c.self.inside.body kids pieces c.as_slice-texts.result.now key i child view c.in-Inner.is c.self.invariant c.as_slice-texts.ensures c.place_of-place.ensures c.index.ensures r.0 in
-    let now = fate_later p p depth keys c.as_slice-texts.result.now kids.items pieces key c.index-texts-place.result i child fate ([], append_nil p) node.1.2 c.as_slice-texts.ensures c.place_of-place.ensures.0 d
+    let now = fate_later p p depth keys c.as_slice-texts.result.now kids.items pieces key c.index-texts-place.result i child fate ([], append-nil p) node.1.2 c.as_slice-texts.ensures c.place_of-place.ensures.0 d
     c.index.ensures c.index-texts-place.is c.in_ok-fate-in-Inner.ensures.fate child (child_at kids.items i (length keys) child node.1.2 (omega (arith, c.place_of-place.ensures.0, ap length c.as_slice-texts.ensures)) c.index.ensures) in
     let f = fate_here p depth keys kids.items pieces key i child fate node.1.2 d now in
     let here = ap (λ (s : Seen). s.depth) c.self.view_is in (
@@ -106,7 +106,7 @@ removing::paths::remove_at-returns-in-Leaves-clause-node g t c =
     let pieces = body_pieces depth keys (Inner kids) in
     let x = node_at p depth keys (Inner kids) kids pieces keys key i at refl refl r.0 refl r.1.1.0 r.1.0 in
     let f = subst (IsFate key x.0.first x.0.way.here) c.in-Leaves.is (fate_here p depth keys kids.items pieces key i child c.args.fate r.0.1.2 x.0 (r.1.1.1.0 child x.1)) in
-    (child_gone p p depth keys c.remove_entry.new.keys.texts kids.items c.remove_entry.new.entries.items pieces key i child ([], append_nil p) r.0.1.2 r.0.0.0 r.0.1.0 x.0
+    (child_gone p p depth keys c.remove_entry.new.keys.texts kids.items c.remove_entry.new.entries.items pieces key i child ([], append-nil p) r.0.1.2 r.0.0.0 r.0.1.0 x.0
     (leaves_none key x.0.first x.0.way.here x.0.way.starts f) (subst (λ e. HasOthers e (length keys)) c.in-Leaves.is r.1.1.1.1) r.1.1.0.0 c.in_ok-remove_entry-in-Leaves.ensures.ok.0 c.in_ok-remove_entry-in-Leaves.ensures.ok.1).node
 
 pub removing::paths::remove_at-returns-in-Leaves-clause-done : goal.removing::paths::remove_at-returns-in-Leaves-clause-done
@@ -123,7 +123,7 @@ removing::paths::remove_at-returns-in-Leaves-clause-done g t c =
     let pieces = body_pieces depth keys (Inner kids) in
     let x = node_at p depth keys (Inner kids) kids pieces keys key i at refl refl r.0 refl r.1.1.0 r.1.0 in
     let f = subst (IsFate key x.0.first x.0.way.here) c.in-Leaves.is (fate_here p depth keys kids.items pieces key i child c.args.fate r.0.1.2 x.0 (r.1.1.1.0 child x.1)) in
-    (child_gone p p depth keys c.remove_entry.new.keys.texts kids.items c.remove_entry.new.entries.items pieces key i child ([], append_nil p) r.0.1.2 r.0.0.0 r.0.1.0 x.0
+    (child_gone p p depth keys c.remove_entry.new.keys.texts kids.items c.remove_entry.new.entries.items pieces key i child ([], append-nil p) r.0.1.2 r.0.0.0 r.0.1.0 x.0
     (leaves_none key x.0.first x.0.way.here x.0.way.starts f) (subst (λ e. HasOthers e (length keys)) c.in-Leaves.is r.1.1.1.1) r.1.1.0.0 c.in_ok-remove_entry-in-Leaves.ensures.ok.0 c.in_ok-remove_entry-in-Leaves.ensures.ok.1).shown_is
     ∙ ap (λ z. Some (without key (rows_or z))) (sym x.0.rows_is)
 

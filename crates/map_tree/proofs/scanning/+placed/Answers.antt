@@ -1,10 +1,11 @@
 use Rattle.std.proofs.Common.{[], ◌≡◌, ◌∙◌, ap, sym, subst, arith, length, true, slice_index_or, OnOk}
+use Rattle.std.proofs.lemmas.List.{append-nil}
 use Rattle.group_history.specs.declared.nodes.Chunk.{Chunk}
 use Rattle.group_history.specs.declared.refs.Ref.{Ref}
 use Rattle.group_history.specs.Refs.{stamp_of}
 use Rattle.group_history.specs.Rows.{Rows, paired, keys_of, values_of}
-use Rattle.group_history.proofs.Folding.{prefix_trans, append_nil}
 use Rattle.group_history.proofs.Pairs.{paired-parts}
+use Rattle.group_history.proofs.Lists.{prefix_trans}
 use Rattle.map_tree.specs.Scanning.{is_over, with_scanned, opened_rows, children_rows}
 use Rattle.map_tree.specs.Shown.{IsTree, rows_or, chunk_rows}
 use Rattle.map_tree.proofs.OpenLemmas.{known, tree_of}
@@ -18,7 +19,7 @@ scan_children-loop-place-init g t c =
     let r = c.requires.1.1.1.1 in
     let n = refs_known p c.args.firsts.now c.args.children.now r.1.1.0 in
     record {
-      grown = ([], append_nil p);
+      grown = ([], append-nil p);
       rows = pairs_begun (ref_rows p) c.args.firsts.now c.args.children.now c.place_of-place.result n.rows c.args.scan.now c.args.low.now c.args.out.now.items r.1.0 n.is n.order
           r.1.1.1.0 c.place_of-place.ensures r.1.1.1.1;
     }

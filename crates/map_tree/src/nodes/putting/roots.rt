@@ -8,8 +8,8 @@ ghost use Rattle.group_history.specs.declared.mutators.Stop.TheVariants.{NoMemor
 ghost use Rattle.map_tree.specs.Shown.{shown, IsTree, rows_or};
 ghost use Rattle.map_tree.specs.Nodes.{HeadIs};
 ghost use Rattle.map_tree.specs.Halves.{IsHalf, least, AreInOrder};
-ghost use Rattle.map_tree.specs.Counts.{IsWideChunk};
 ghost use Rattle.map_tree.specs.Freezing.{AreKept, places_of};
+ghost use Rattle.map_tree.specs.Trees.{IsWideChunk};
 
 use super::super::homes::{housed, take_home};
 use super::super::{Body, Child, Node};

@@ -4,7 +4,8 @@ ghost use mathlib.Core.List.{IsPrefix};
 ghost use Rattle.std.specs.List.{remove};
 ghost use Rattle.group_history.specs.declared.mutators.Stop.TheVariants.{NoMemory};
 ghost use Rattle.map_tree.specs.Ends as ends;
-ghost use Rattle.map_tree.specs.Ends.{end_of_pieces, IsWideNode, IsKidEnd, IsTaken};
+ghost use Rattle.map_tree.specs.Ends.{end_of_pieces, IsKidEnd, IsTaken};
+ghost use Rattle.map_tree.specs.Trees.{IsWideChunk};
 ghost use Rattle.map_tree.specs.Freezing.{AreKept, child_places, kids_places, places_of};
 ghost use Rattle.map_tree.specs.Removing as removals;
 ghost use Rattle.map_tree.specs.Removing.{end_places, heir_places, root_left, without, one_shown, IsHeir, KeptBy, root_rows, IsWideRoot};
@@ -45,7 +46,7 @@ impl Node {
     fn narrowed(self, alloc: Global) -> Node
         requires { end_of_pieces self.pieces ≡ None }
         ensures pieces { result.pieces ≡ self.pieces }
-        ensures wide { IsWideNode result }
+        ensures wide { IsWideChunk result }
         ensures fresh { result.fresh ≤ self.fresh }
     {
         let Node { depth, keys, body } = self;
@@ -161,7 +162,7 @@ impl Node {
         ensures done { IfOk result (λ root. root_rows (C.contents chunks.new) self.new root ≡ Some (without key.now (rows_or (shown (C.contents chunks.old) self.old.pieces)))) }
         ensures places { IfOk result (λ root. AreKept C.Held.shown (C.contents chunks.new) (places_of self.old.pieces) (root_left self.new root)) }
         ensures few { OnOk result (self.new.fresh + 1 ≤ self.old.fresh + self.old.depth) }
-        ensures wide { IsWideNode self.old → IfOk result (IsWideRoot (C.contents chunks.new) self.new) }
+        ensures wide { IsWideChunk self.old → IfOk result (IsWideRoot (C.contents chunks.new) self.new) }
         ensures err { OnErr result (self.new ≡ self.old) }
         ensures stopped { IfErr result (λ s. (s ≡ NoMemory) ⊎ C.stops s) }
     {

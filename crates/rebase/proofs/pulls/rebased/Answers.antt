@@ -2,12 +2,11 @@ use Rattle.std.proofs.Common.{◌≡◌, Some, [], map, rules, sym, ap, ◌∙�
 use Rattle.group_history.specs.Map.{patched}
 use Rattle.group_history.specs.Naming.{content_of}
 use Rattle.group_history.specs.Refs.{stamp_of}
-use Rattle.group_history.specs.Spelling.{map_at}
+use Rattle.group_history.specs.Spelling.{map_at, version_of}
 use Rattle.group_history.specs.State.{State}
 use Rattle.transactions.specs.Maps.{map_or}
 use Rattle.transactions.proofs.WriteLemmas.{some_map}
 use Rattle.rebase.specs.Fixing.{staged}
-use Rattle.rebase.specs.Solos.{seen_at}
 use Rattle.rebase.proofs.HeadLemmas.{pulled_state}
 use Rattle.rebase.proofs.NewestLemmas.{length-contents}
 use Rattle.rebase.proofs.pulls.rebased.Goals as goal
@@ -32,4 +31,4 @@ returns-clause-spelled g c s h confirmed pending =
     let whole =
     pulled_state s pull c.in_ok-cookie.cookie c.in_ok-confirmed.confirmed c.args.state.confirmed c.patch.result.now c.changes-changes.result.now c.deref-2.result.now c.deref.result.now c.patch.ensures cookie
     c.in_ok-confirmed.ensures c.changes-changes.ensures.changes confirmed (c.deref-2.ensures.value ∙ c.in_ok-pending.ensures) (c.deref.ensures.value ∙ sym pending) in
-    tip.0 ∙ ap (λ (w : State). Some (seen_at means w)) whole
+    tip.0 ∙ ap (λ (w : State). Some (version_of means w)) whole

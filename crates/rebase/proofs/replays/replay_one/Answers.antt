@@ -4,11 +4,10 @@ use Rattle.group_history.specs.Map.{Entries}
 use Rattle.group_history.specs.Meaning.{left_by}
 use Rattle.group_history.specs.Mutating.{after_mutate}
 use Rattle.group_history.specs.Naming.{content_of}
-use Rattle.group_history.specs.Spelling.{Version}
+use Rattle.group_history.specs.Spelling.{Version, version_of}
 use Rattle.group_history.specs.State.{view_of}
 use Rattle.rebase.specs.Chaining.{HasTip}
 use Rattle.rebase.specs.Fixing.{staged}
-use Rattle.rebase.specs.Solos.{seen_at}
 use Rattle.rebase.proofs.HeadLemmas.{view-mutated}
 use Rattle.rebase.proofs.NewestLemmas.{length-contents}
 use Rattle.rebase.proofs.replays.replay_one.Goals as goal
@@ -22,7 +21,7 @@ returns-clause-tip g c s h =
     let left = c.kept.ensures old m meaning h.1 run in
     let same : c.in_ok-mutation_kept.mutation_kept ≡ x = search rules in
     let shape : Mutation → Entries → Version = λ y r. record { state = after_mutate s y; read = r } in
-    let is : shape c.in_ok-mutation_kept.mutation_kept (left_by meaning m) ≡ seen_at means (after_mutate s x) =
+    let is : shape c.in_ok-mutation_kept.mutation_kept (left_by meaning m) ≡ version_of means (after_mutate s x) =
     ap (λ (y : Mutation). shape y (left_by meaning m)) same ∙ ap (shape x) (sym (view-mutated means s x)) in
     subst (λ (v : Version). IfOk c.add_local.result (λ tip. HasTip new tip v)) is
-    (c.add_local.ensures.spelled (map content_of nodes) (seen_at means s) (left_by meaning m) (length-contents nodes c.args.draft.now.first c.requires.behind) h.0 left)
+    (c.add_local.ensures.spelled (map content_of nodes) (version_of means s) (left_by meaning m) (length-contents nodes c.args.draft.now.first c.requires.behind) h.0 left)

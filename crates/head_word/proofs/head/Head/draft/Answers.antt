@@ -2,10 +2,10 @@ use Rattle.std.proofs.Common.{ℕ, Option, refl, sym, ap, ◌∙◌, arith}
 use Rattle.std.proofs.lemmas.List.{append-nil}
 use Rattle.head_word.specs.Books.{drafted}
 use Rattle.head_word.specs.Marks.{own}
-use Rattle.head_word.proofs.Beginnings.{prefix_length}
 use Rattle.head_word.proofs.Stepping.{after_from}
 use Rattle.head_word.proofs.Owning.{others_rise, drew_more}
 use Rattle.head_word.proofs.head.Head.draft.Goals as goal
+use Rattle.group_history.proofs.Lists.{prefix_length}
 
 pub add_draft-requires-clause-asked : goal.add_draft-requires-clause-asked
 add_draft-requires-clause-asked g c κs within =

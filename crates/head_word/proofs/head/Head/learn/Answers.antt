@@ -6,10 +6,10 @@ use Rattle.head_word.specs.Books.{moved, nowhere}
 use Rattle.head_word.specs.Tallies.{key_of, count}
 use Rattle.head_word.specs.Marks.{Known, Sits, own, own_of, number_of}
 use Rattle.head_word.specs.Rules.{answer}
-use Rattle.head_word.proofs.Beginnings.{prefix_trans}
 use Rattle.head_word.proofs.Stepping.{starts_from, head_counted}
 use Rattle.head_word.proofs.Owning.{count_told, own_same}
 use Rattle.head_word.proofs.head.Head.learn.Goals as goal
+use Rattle.group_history.proofs.Lists.{prefix_trans}
 
 pub load-requires : goal.load-requires
 load-requires g c =

@@ -1,29 +1,24 @@
-use Rattle.std.proofs.Common.{◌≡◌, ◌∷◌, [], ◌++◌, List, Some, length, map, ap, suc, sym, subst, refl, ◌∙◌}
+use Rattle.std.proofs.Common.{◌≡◌, [], Some, length, map, ap, sym, subst, refl, ◌∙◌}
 use Rattle.std.specs.Prelude.{IsSome}
-use Rattle.group_history.proofs.Folding.{append_nil}
+use Rattle.std.proofs.lemmas.List.{append-nil, map-append, length-map}
 use Rattle.group_history.specs.Naming.{content_of}
 use Rattle.group_history.specs.Refs.{stamp_of}
 use Rattle.group_history.specs.Spelling.{map_at}
 use Rattle.map_tree.specs.Drafts.{Drafted}
 use Rattle.map_tree.specs.Freezing.{with_nodes}
 use Rattle.map_tree.specs.Trees.{tree_map}
-use Rattle.map_tree.proofs.FreezeLemmas.{map-append}
 use Rattle.map_tree.proofs.Shelves.{some_of}
 use Rattle.layer_tests.proofs.tests.maps.placed.Goals as goal
-
-length-map : {A B : Type 0} (f : A → B) (xs : List A) → length (map f xs) ≡ length xs
-length-map f [] = refl
-length-map f (x ∷ xs) = ap suc (length-map f xs)
 
 pub invariant_of-result : goal.invariant_of-result
 invariant_of-result c =
     let ns = c.grown.new.chunks.nodes.now in
     let contents = map content_of ns in
     let m = some_of (tree_map contents c.in_ok-tree.tree) c.in_ok-tree.ensures in
-    let first : length contents ≡ c.draft-draft.result.first = length-map content_of ns ∙ sym (ap (λ (d : Drafted). d.first) c.draft-draft.ensures) in
+    let first : length contents ≡ c.draft-draft.result.first = length-map ns content_of ∙ sym (ap (λ (d : Drafted). d.first) c.draft-draft.ensures) in
     let none : c.draft-draft.result.nodes ≡ [] = ap (λ (d : Drafted). d.nodes) c.draft-draft.ensures in
     let was : tree_map (with_nodes contents c.draft-draft.result.nodes) c.in_ok-tree.tree ≡ Some m.0 =
-    ap (λ w. tree_map (with_nodes contents w) c.in_ok-tree.tree) none ∙ ap (λ w. tree_map w c.in_ok-tree.tree) (append_nil contents) ∙ m.1 in
+    ap (λ w. tree_map (with_nodes contents w) c.in_ok-tree.tree) none ∙ ap (λ w. tree_map w c.in_ok-tree.tree) (append-nil contents) ∙ m.1 in
     let r = c.in_ok-root.ensures.spelled contents m.0 first was in
     record {
       behind = c.in_ok-root.ensures.first ∙ ap (λ (d : Drafted). d.first) c.draft-draft.ensures;

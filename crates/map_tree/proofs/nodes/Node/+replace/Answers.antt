@@ -6,13 +6,13 @@ use Rattle.std.specs.FinMap as finite
 use Rattle.group_history.specs.Refs.{stamp_of}
 use Rattle.group_history.specs.Rows.{paired}
 use Rattle.group_history.specs.Spelling.{rows_at}
+use Rattle.group_history.proofs.Lists.{prefix_trans}
 use Rattle.map_tree.specs.Freezing.{AreKept, child_places, kids_places, places_of}
 use Rattle.map_tree.specs.Nodes.{Kid, child_rows, kids_pieces, AllKids, body_pieces, body_fresh, body_height, kids_height, child_fresh, kids_fresh}
 use Rattle.map_tree.specs.Shown.{Seen, rows_or, shown}
 use Rattle.map_tree.specs.declared.nodes.Body.{Body}
 use Rattle.map_tree.specs.declared.nodes.Child.{Child}
 use Rattle.map_tree.specs.declared.nodes.Child.TheVariants.{Placed, Own}
-use Rattle.group_history.proofs.Folding.{prefix_trans}
 use Rattle.map_tree.proofs.AnswerLemmas.{on_ok, on_err, either_way}
 use Rattle.map_tree.proofs.ChangeLemmas.{replaced}
 use Rattle.map_tree.proofs.CountLemmas.{fresh-set, leaf_counts, inner_counts}

@@ -13,7 +13,7 @@ use Rattle.map_tree.proofs.CopyLemmas.{copyable}
 use Rattle.map_tree.proofs.NamedLemmas.{copy-places}
 use Rattle.map_tree.proofs.OpenLemmas.{rows-kept}
 use Rattle.map_tree.proofs.Shelves.{some_of}
-use Rattle.map_tree.proofs.WideLemmas.{copy_wide}
+use Rattle.map_tree.proofs.WideLemmas.{wide-copy}
 use Rattle.map_tree.proofs.nodes.Node.copied.Goals as goal
 
 pub of_chunk-node-requires : goal.of_chunk-node-requires
@@ -38,8 +38,8 @@ returns-clause-wide g c w =
     let s = some_of (rows_at (g.C.Chunks.contents c.args.chunks.now) c.args.depth (stamp_of c.args.at)) c.requires in
     let r = rows-kept (g.C.Chunks.contents c.args.chunks.now) p c.args.depth (stamp_of c.args.at) s.0 c.show.ensures.grown s.1 in
     let k = copyable p c.args.depth (stamp_of c.args.at) s.0 _ r c.in_ok-held.ensures.content in
-    copy_wide p c.args.depth c.args.at _ c.in_ok-node.field-0 c.in_ok-held.ensures.content k.deep
-    (subst (λ (ch : Chunk Ref). IsCopy c.args.depth ch c.in_ok-node.field-0) c.chunk.ensures c.in_ok-node.ensures) (subst (λ q. IsWideAt q c.args.at) c.leave.ensures w)
+    let is = subst (λ (ch : Chunk Ref). IsCopy c.args.depth ch c.in_ok-node.field-0) c.chunk.ensures c.in_ok-node.ensures in
+    wide-copy p (stamp_of c.args.at) c.args.depth _ c.in_ok-node.field-0 c.in_ok-held.ensures.content k.deep is.0 is.3 (subst (λ q. IsWideAt q (stamp_of c.args.at)) c.leave.ensures w)
 
 pub returns-clause-places : goal.returns-clause-places
 returns-clause-places g c at h =

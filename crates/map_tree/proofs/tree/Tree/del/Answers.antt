@@ -2,9 +2,9 @@ use Rattle.std.proofs.Common.{◌∙◌, ap, sym, Some, None}
 use Rattle.std.specs.FinMap as finite
 use Rattle.map_tree.specs.Trees.{tree_map}
 use Rattle.map_tree.specs.Writes.{is_there}
-use Rattle.map_tree.proofs.DeleteLemmas.{depth_kept, not_there, wide_kept}
+use Rattle.map_tree.proofs.DeleteLemmas.{not_there}
 use Rattle.map_tree.proofs.RemoveLemmas.{removed_same}
-use Rattle.map_tree.proofs.RootCounts.{root_depth_kept}
+use Rattle.map_tree.proofs.RootCounts.{root_depth_kept, wide_root_grown}
 use Rattle.map_tree.proofs.SeekLemmas.{there_is}
 use Rattle.map_tree.proofs.Shelves.{some_of}
 use Rattle.map_tree.proofs.WriteLemmas.{kept_there, root_kept}
@@ -23,13 +23,12 @@ returns-then-is_there-clause-ok g c m h =
 
 pub returns-then-is_there-clause-few : goal.returns-then-is_there-clause-few
 returns-then-is_there-clause-few g c d e =
-    let s = some_of (tree_map (g.C.Chunks.contents c.args.chunks.now) c.args.self.now) c.requires in
-    c.remove.ensures.few d (depth_kept (g.C.Chunks.contents c.args.chunks.now) (g.C.Chunks.contents c.sought.new.chunks) c.args.self.now.root s.0 d c.sought.ensures.grown s.1 e)
+    c.remove.ensures.few d (root_depth_kept (g.C.Chunks.contents c.args.chunks.now) (g.C.Chunks.contents c.sought.new.chunks) c.args.self.now.root d c.sought.ensures.grown e)
 
 pub returns-then-is_there-clause-wide : goal.returns-then-is_there-clause-wide
 returns-then-is_there-clause-wide g c w =
     let s = some_of (tree_map (g.C.Chunks.contents c.args.chunks.now) c.args.self.now) c.requires in
-    c.remove.ensures.wide (wide_kept (g.C.Chunks.contents c.args.chunks.now) (g.C.Chunks.contents c.sought.new.chunks) c.args.self.now.root s.0 c.sought.ensures.grown s.1 w)
+    c.remove.ensures.wide (wide_root_grown (g.C.Chunks.contents c.args.chunks.now) (g.C.Chunks.contents c.sought.new.chunks) c.args.self.now.root s.0 c.sought.ensures.grown s.1 w)
 
 pub returns-clause-ok : goal.returns-clause-ok
 returns-clause-ok g c m h =
@@ -40,4 +39,4 @@ returns-clause-ok g c m h =
 pub returns-clause-wide : goal.returns-clause-wide
 returns-clause-wide g c w =
     let s = some_of (tree_map (g.C.Chunks.contents c.args.chunks.now) c.args.self.now) c.requires in
-    wide_kept (g.C.Chunks.contents c.args.chunks.now) (g.C.Chunks.contents c.sought.new.chunks) c.args.self.now.root s.0 c.sought.ensures.grown s.1 w
+    wide_root_grown (g.C.Chunks.contents c.args.chunks.now) (g.C.Chunks.contents c.sought.new.chunks) c.args.self.now.root s.0 c.sought.ensures.grown s.1 w

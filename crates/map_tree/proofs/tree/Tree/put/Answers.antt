@@ -3,11 +3,11 @@ use Rattle.std.specs.Prelude.{IsSome, option_and_then}
 use Rattle.std.specs.FinMap as finite
 use Rattle.group_history.specs.Refs.{stamp_of}
 use Rattle.group_history.specs.Spelling.{map_at, rows_at}
+use Rattle.group_history.proofs.Lists.{prefix_trans}
 use Rattle.map_tree.specs.Freezing.{AreKept, places_of, root_places, tree_places}
 use Rattle.map_tree.specs.Shown.{shown, map_of_rows}
 use Rattle.map_tree.specs.Trees.{root_map, root_fresh, tree_map, IsWide}
 use Rattle.map_tree.specs.Writes.{is_there, is_the_same}
-use Rattle.group_history.proofs.Folding.{prefix_trans}
 use Rattle.map_tree.proofs.AnswerLemmas.{on_ok}
 use Rattle.map_tree.proofs.RootCounts.{own_depth, placed_depth, root_depth_kept, wide_root_grown, is_there as was_there}
 use Rattle.map_tree.proofs.NamedLemmas.{kept-same, kept-grown, kept-trans, kept-from_none}

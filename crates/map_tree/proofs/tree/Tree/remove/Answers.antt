@@ -1,9 +1,9 @@
 use Rattle.std.proofs.Common.{[], ◌∷◌, ◌≡◌, ◌∙◌, ap, sym, subst, Some, refl}
 use Rattle.std.specs.Prelude.{IsSome}
 use Rattle.std.specs.FinMap as finite
+use Rattle.std.proofs.lemmas.List.{append-nil}
 use Rattle.group_history.specs.Refs.{stamp_of}
 use Rattle.group_history.specs.Spelling.{rows_at}
-use Rattle.group_history.proofs.Folding.{append_nil}
 use Rattle.map_tree.specs.Freezing.{AreKept, places_of, root_places, tree_places}
 use Rattle.map_tree.specs.Removing.{root_left, without, root_rows, IsWideRoot}
 use Rattle.map_tree.specs.Shown.{shown, rows_or}
@@ -40,7 +40,7 @@ copied-requires g c =
     let m = s.0 in
     let k = stamp_of c.in-Placed.at in
     let sp = placed_map p k m (ap (root_map p) (sym c.in-Placed.is) ∙ s.1) in
-    let d = placed_depth p p c.args.self.now.root c.in-Placed.at c.args.depth sp.segment c.in-Placed.is ([], append_nil p) c.requires.depth sp.is in
+    let d = placed_depth p p c.args.self.now.root c.in-Placed.at c.args.depth sp.segment c.in-Placed.is ([], append-nil p) c.requires.depth sp.is in
     let r : rows_at p c.args.depth k ≡ Some (finite.entries m) = ap (λ n. rows_at p n k) (sym d) ∙ rows_at-segment p k sp.segment sp.is ∙ ap (λ w. Some w) sp.rows in
     subst IsSome (sym r) refl
 
@@ -51,7 +51,7 @@ remove_root-requires-in-Placed g c =
     let m = s.0 in
     let k = stamp_of c.in-Placed.at in
     let sp = placed_map p k m (ap (root_map p) (sym c.in-Placed.is) ∙ s.1) in
-    let d = placed_depth p p c.args.self.now.root c.in-Placed.at c.args.depth sp.segment c.in-Placed.is ([], append_nil p) c.requires.depth sp.is in
+    let d = placed_depth p p c.args.self.now.root c.in-Placed.at c.args.depth sp.segment c.in-Placed.is ([], append-nil p) c.requires.depth sp.is in
     let r : rows_at p c.args.depth k ≡ Some (finite.entries m) = ap (λ n. rows_at p n k) (sym d) ∙ rows_at-segment p k sp.segment sp.is ∙ ap (λ w. Some w) sp.rows in
     let p3 = g.C.Chunks.contents c.copied.new.chunks in
     entries_tree (shown p3 c.in_ok-node-in-Placed.node.pieces) m (c.in_ok-node-in-Placed.ensures.rows ∙ r)
@@ -62,7 +62,7 @@ returns-in-None-2-clause-ok g c m h =
     let k = stamp_of c.in-Placed.at in
     let sp = placed_map p k m (ap (root_map p) (sym c.in-Placed.is) ∙ h) in
     let p3 = g.C.Chunks.contents c.copied.new.chunks in
-    let d = placed_depth p p c.args.self.now.root c.in-Placed.at c.args.depth sp.segment c.in-Placed.is ([], append_nil p) c.requires.depth sp.is in
+    let d = placed_depth p p c.args.self.now.root c.in-Placed.at c.args.depth sp.segment c.in-Placed.is ([], append-nil p) c.requires.depth sp.is in
     let r : rows_at p c.args.depth k ≡ Some (finite.entries m) = ap (λ n. rows_at p n k) (sym d) ∙ rows_at-segment p k sp.segment sp.is ∙ ap (λ w. Some w) sp.rows in
     let x : shown p3 c.in_ok-node-in-Placed.node.pieces ≡ Some (finite.entries m) = c.in_ok-node-in-Placed.ensures.rows ∙ r in
     let q = g.C.Chunks.contents c.remove_root-in-Placed.new.chunks in
@@ -88,7 +88,7 @@ returns-in-Some-2-clause-ok g c m h =
     let k = stamp_of c.in-Placed.at in
     let sp = placed_map p k m (ap (root_map p) (sym c.in-Placed.is) ∙ h) in
     let p3 = g.C.Chunks.contents c.copied.new.chunks in
-    let d = placed_depth p p c.args.self.now.root c.in-Placed.at c.args.depth sp.segment c.in-Placed.is ([], append_nil p) c.requires.depth sp.is in
+    let d = placed_depth p p c.args.self.now.root c.in-Placed.at c.args.depth sp.segment c.in-Placed.is ([], append-nil p) c.requires.depth sp.is in
     let r : rows_at p c.args.depth k ≡ Some (finite.entries m) = ap (λ n. rows_at p n k) (sym d) ∙ rows_at-segment p k sp.segment sp.is ∙ ap (λ w. Some w) sp.rows in
     let x : shown p3 c.in_ok-node-in-Placed.node.pieces ≡ Some (finite.entries m) = c.in_ok-node-in-Placed.ensures.rows ∙ r in
     let q = g.C.Chunks.contents c.remove_root-in-Placed.new.chunks in

@@ -3,11 +3,11 @@ use Rattle.std.proofs.lemmas.List.Elements.{recursion_from_All}
 use Rattle.group_history.specs.Naming.{content_of}
 use Rattle.group_history.specs.Pulling.{after_pull}
 use Rattle.group_history.specs.Refs.{stamp_of}
-use Rattle.group_history.specs.Spelling.{Contents, map_at}
+use Rattle.group_history.specs.Spelling.{Contents, map_at, version_of}
 use Rattle.group_history.proofs.IdLemmas.{after_pull-IdsFollow}
 use Rattle.map_tree.specs.Drafts.{Drafted}
 use Rattle.rebase.specs.Fixing.{staged}
-use Rattle.rebase.specs.Solos.{seen_at, state_at}
+use Rattle.rebase.specs.Solos.{state_at}
 use Rattle.rebase.proofs.HeadLemmas.{applied-forward, head_placed, with_none}
 use Rattle.rebase.proofs.solo.Solo.end_ok.Goals as goal
 
@@ -15,7 +15,7 @@ pub invariant_of-self-in-Applied : goal.invariant_of-self-in-Applied
 invariant_of-self-in-Applied g c =
     let means = g.M.Mutators.means in let nodes = c.self.inside.nodes in let contents = map content_of nodes in
     let pull = c.args.pull.now in let s = state_at contents (stamp_of c.self.inside.head) in
-    let state = c.in_ok-state.ensures.state (seen_at means s) c.self.invariant.spells in
+    let state = c.in_ok-state.ensures.state (version_of means s) c.self.invariant.spells in
     let root = stamp_of c.in_ok-state.state.pulled in
     let there = ap (λ (d : Drafted). map_at (staged nodes d.nodes) root) c.draft-draft.ensures ∙ (ap (λ (w : Contents). map_at w root) (with_none contents) ∙ state.2) in
     let spelled = c.in_ok-head-in-Applied.ensures.spelled s there (sym state.1) (sym state.3) in

@@ -3,13 +3,13 @@ use Rattle.group_history.specs.declared.mutations.Mutation.{Mutation}
 use Rattle.group_history.specs.Mutating.{after_mutate}
 use Rattle.group_history.specs.Naming.{content_of}
 use Rattle.group_history.specs.Refs.{stamp_of}
-use Rattle.group_history.specs.Spelling.{Contents}
+use Rattle.group_history.specs.Spelling.{Contents, version_of}
 use Rattle.group_history.specs.State.{last_id}
 use Rattle.group_history.proofs.IdLemmas.{after_mutate-IdsFollow}
 use Rattle.map_tree.specs.Drafts.{Drafted}
 use Rattle.rebase.specs.Chaining.{IsTip}
 use Rattle.rebase.specs.Fixing.{staged}
-use Rattle.rebase.specs.Solos.{SoloState, seen_at, state_at}
+use Rattle.rebase.specs.Solos.{SoloState, state_at}
 use Rattle.rebase.proofs.HeadLemmas.{head_placed, last_id-low, stamp-low, with_none}
 use Rattle.rebase.proofs.solo.Solo.mutate.Goals as goal
 
@@ -31,7 +31,7 @@ invariant_of-self-2 g c =
     let client = c.args.client.now in let s = state_at contents (stamp_of c.self.inside.head) in
     let x : Mutation = record { client = c.in_ok-clone.field-0; id = c.args.last + 1; name = c.in_ok-clone-2.field-0; args = c.in_ok-clone-3.field-0; timestamp = c.args.time } in
     let bare : staged nodes c.draft-draft.result.nodes ≡ contents = ap (λ (d : Drafted). staged nodes d.nodes) c.draft-draft.ensures ∙ with_none contents in
-    let ready = subst (λ (w : Contents). IsTip means w c.in_ok-tip.tip s) (sym bare) (c.in_ok-tip.ensures.tip (seen_at means s) c.self.invariant.spells) in
+    let ready = subst (λ (w : Contents). IsTip means w c.in_ok-tip.tip s) (sym bare) (c.in_ok-tip.ensures.tip (version_of means s) c.self.invariant.spells) in
     let done = c.in_ok-head.ensures.ok s ready in
     let same : c.in_ok-clone.field-0 ≡ client = search rules in
     let last : c.args.last ≡ last_id s x.client = sym c.if-branch-last.false ∙ (c.in_ok-last.ensures.id ∙ (sym (ap (λ (w : SoloState). last_id w.state client) c.self.view_is) ∙ ap (last_id s) (sym same))) in

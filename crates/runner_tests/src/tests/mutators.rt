@@ -2,8 +2,8 @@
 ghost use Rattle.std.specs.Prelude.{◌≡◌};
 ghost use Rattle.group_history.specs.declared.mutators.Stop.TheVariants.{NoMemory};
 
-use super::ScriptMutators;
 use group_history::{Json, Mutators, Ran, Refusal, Scan, Stop, Text, TextMap, WriteView};
+use script_runner::ScriptMutators;
 use std::alloc::Global;
 use std::prelude::*;
 

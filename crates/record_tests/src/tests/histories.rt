@@ -6,7 +6,11 @@ ghost use Rattle.group_history.specs.Map.{same_text};
 ghost use Rattle.group_history.specs.Rows.{AreKeys};
 ghost use Rattle.group_history.specs.Meaning.{unknown, refuses, done};
 
-use super::*;
+use group_history::{
+    Change, Confirmed, Cookie, Inner, Json, Keys, Leaf, Mutation, Mutators, Patch, PlainGroup,
+    PullOk, Ran, Ref, Refusal, Reply, Response, Stop, Text, WriteView, cookie_cmp, nests_within,
+    read_value, record_laws, worked_examples,
+};
 use std::alloc::Global;
 use std::cmp::Ordering;
 use std::prelude::*;

@@ -1,6 +1,6 @@
 //! What no contract says: that calls succeed, and what bodies from outside are read as.
-use super::*;
 use group_history::{Json, Patch, PullOk, Refusal, Response, Text, TextMap};
+use pull_patch::{apply_patch, read_response};
 use std::alloc::Global;
 use std::prelude::*;
 

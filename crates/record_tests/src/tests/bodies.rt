@@ -1,5 +1,6 @@
-use crate::{Identity, pull_bytes, push_bytes};
+//! Bodies of requests, byte for byte.
 use group_history::{Cookie, Json, Mutation, Refusal, Text, nests_within, read_value};
+use push_body::{Identity, pull_bytes, push_bytes};
 use std::alloc::{AllocError, Global};
 use std::test::Fail;
 

@@ -1,13 +1,19 @@
 //! Worked scripts, and each fault that a line can have.
-use super::*;
-use crate::process::Open;
-use crate::runner::run_plain;
+use super::rows;
+use script_runner::{Fault, Gate, program, run_plain};
 use std::alloc::{AllocError, Global};
 use std::fmt::Write;
 use std::io;
 use std::prelude::*;
 
-mod rows;
+/// A gate that holds no call.
+struct Open;
+
+impl Gate for Open {
+    fn before(&self, _client: &str, _line: u64) {}
+
+    fn after(&self, _client: &str, _line: u64) {}
+}
 
 /// What the program makes of a script: its status, and what stands on its two writers. Each script that runs is
 /// run on a plain group too, and where that prints otherwise the status is 4.
@@ -26,7 +32,7 @@ fn ran(rt: &HostRuntime, script: &str) -> (u8, Vec<u8>, Vec<u8>) {
 /// memory was refused, else 4.
 fn agreed(rt: &HostRuntime, script: &str, printed: &[u8]) -> u8 {
     let mut out = Vec::new(rt.alloc());
-    match run_plain(rt.alloc(), script.as_bytes(), &Open, &mut out) {
+    match run_plain(rt, script.as_bytes(), &Open, &mut out) {
         Ok(()) if out.as_slice() == printed => 0,
         Err(Fault::NoMemory) => 3,
         _ => 4,

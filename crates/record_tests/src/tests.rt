@@ -1,0 +1,4 @@
+//! What no contract says: that calls succeed, and values from outside.
+mod bodies;
+mod histories;
+mod responses;
