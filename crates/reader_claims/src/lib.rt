@@ -8,8 +8,6 @@ mod passes;
 mod plays;
 mod slot;
 mod steps;
-#[cfg(test)]
-mod tests;
 mod view;
 mod words;
 

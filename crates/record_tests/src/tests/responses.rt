@@ -41,6 +41,7 @@ fn answer(alloc: Global, bytes: &[u8]) -> Result<String, Refusal> {
         Ok(Response::VersionNotSupported(kind)) => {
             Ok(format!(in alloc; "VersionNotSupported {kind}")?)
         }
+        Err(Refusal::NoMemory) => Err(Refusal::NoMemory),
         Err(refusal) => Ok(format!(in alloc; "{refusal:?}")?),
     }
 }

@@ -1,8 +1,9 @@
+//! What no contract says: that slots are found and pins held, and what threads meet.
 ghost use Rattle.std.specs.Prelude.{◌≡◌};
 ghost use Rattle.std.specs.List.{All};
 ghost use Rattle.reader_claims.specs.Seats.{IsNew};
 
-use crate::{ClaimSeat, Claims, Kind, Slot};
+use reader_claims::{ClaimSeat, Claims, Kind, Slot};
 use std::sync::atomic::AtomicU64;
 use std::sync::atomic::Ordering::SeqCst;
 use std::test::Fail;
