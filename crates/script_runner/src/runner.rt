@@ -118,9 +118,9 @@ pub fn run_plain<R: AllocGlobal, G: Gate, W: io::Write>(
     ensures nothing_written { IfErr result (λ e. IsOfScript e → W.contents out.new ≡ W.contents out.old) }
 {
     let alloc = rt.alloc();
-    let script = read_script(alloc, script)?;
-    let Ok(group) = open_plain(alloc, &script.header) else {
+    let read = read_script(alloc, script)?;
+    let Ok(group) = open_plain(alloc, &read.header) else {
         return Err(Fault::NoMemory);
     };
-    run_phases(alloc, &script, group, gate, out)
+    run_phases(alloc, &read, group, gate, out)
 }
