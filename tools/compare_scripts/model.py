@@ -1,0 +1,159 @@
+"""A group of one thread: the pulled map, the cookie, the confirmed ids and what is pending."""
+
+from typing import Any, NamedTuple
+
+from wire import Refused, compact, is_int, order_of, quoted, read_response
+
+
+class Mutation(NamedTuple):
+    client: str
+    id: int
+    name: str
+    args: Any
+    time: int
+
+
+class NoMutator(Exception):
+    pass
+
+
+class Declined(Exception):
+    """A mutator refused, with a code."""
+
+
+class Group:
+    def __init__(self, identity):
+        self.identity = identity
+        self.pulled = {}
+        self.cookie = None
+        self.confirmed = {}
+        self.pending = []
+
+    def view(self):
+        rows = self.pulled
+        for mutation in self.pending:
+            try:
+                rows = mutated(mutation.name, mutation.args, rows)
+            except (NoMutator, Declined):
+                pass
+        return rows
+
+    def last(self, client):
+        own = [mutation.id for mutation in self.pending if mutation.client == client]
+        return max([self.confirmed.get(client, 0), *own])
+
+    def mutate(self, client, last, name, args, time):
+        if self.last(client) != last:
+            raise Refused("Stale")
+        try:
+            mutated(name, args, self.view())
+        except NoMutator as error:
+            raise Refused("NoMutator") from error
+        except Declined as code:
+            raise Refused(f"Refused {code}") from code
+        self.pending.append(Mutation(client, last + 1, name, args, time))
+        return last + 1
+
+    def end_pull(self, ticket, body):
+        cookie, changes, patch = read_response(body)
+        if compact(self.cookie) != ticket:
+            raise Refused("Overtaken")
+        if order_of(cookie) < order_of(self.cookie):
+            raise Refused("CookieWentBack")
+        if order_of(cookie) == order_of(self.cookie):
+            if compact(cookie) == ticket and not changes and not patch:
+                return "same"
+            raise Refused("CookieNotNew")
+        if any(id < self.confirmed.get(client, 0) for client, id in changes.items()):
+            raise Refused("IdWentBack")
+        self.pulled = patched(self.pulled, patch)
+        self.cookie = cookie
+        self.confirmed |= changes
+        self.pending = [it for it in self.pending if it.id > self.confirmed.get(it.client, 0)]
+        return "applied"
+
+    def scan(self, prefix, start, limit):
+        rows = self.view()
+        keys = sorted((key for key in rows if key.startswith(prefix)), key=str.encode)
+        if start.startswith("="):
+            keys = [key for key in keys if key.encode() >= start[1:].encode()]
+        if start.startswith(">"):
+            keys = [key for key in keys if key.encode() > start[1:].encode()]
+        return [[key, rows[key]] for key in keys[:limit]]
+
+    def push_body(self):
+        group, profile, schema = map(quoted, self.identity)
+        mutations = ",".join(
+            f'{{"args":{compact(it.args)},"clientID":{quoted(it.client)},"id":{it.id}'
+            f',"name":{quoted(it.name)},"timestamp":{it.time}}}'
+            for it in self.pending
+        )
+        return (
+            f'{{"clientGroupID":{group},"mutations":[{mutations}]'
+            f',"profileID":{profile},"pushVersion":1,"schemaVersion":{schema}}}'
+        )
+
+    def pull_body(self):
+        group, profile, schema = map(quoted, self.identity)
+        return (
+            f'{{"clientGroupID":{group},"cookie":{compact(self.cookie)}'
+            f',"profileID":{profile},"pullVersion":1,"schemaVersion":{schema}}}'
+        )
+
+
+def patched(rows, patch):
+    rows = dict(rows)
+    for op in patch:
+        if op["op"] == "put":
+            rows[op["key"]] = op["value"]
+        elif op["op"] == "del":
+            rows.pop(op["key"], None)
+        else:
+            rows.clear()
+    return rows
+
+
+WRONG_ARGUMENTS, NOT_THERE, OTHER_KIND, OUT_OF_RANGE = 1, 2, 3, 4
+LENGTHS = {"set": 2, "del": 1, "incr": 2, "append": 2}
+
+
+def mutated(name, args, rows):
+    """The map after a mutator ran on it."""
+    if name not in LENGTHS:
+        raise NoMutator
+    if not isinstance(args, list) or len(args) != LENGTHS[name] or not isinstance(args[0], str):
+        raise Declined(WRONG_ARGUMENTS)
+    rows, key = dict(rows), args[0]
+    if name == "set":
+        rows[key] = args[1]
+    elif name == "del":
+        rows.pop(key, None)
+    elif name == "incr":
+        rows[key] = raised(rows, key, args[1])
+    else:
+        rows[key] = lengthened(rows, key, args[1])
+    return rows
+
+
+def is_i64(value):
+    return is_int(value) and -(2**63) <= value < 2**63
+
+
+def raised(rows, key, by):
+    if not is_i64(by):
+        raise Declined(WRONG_ARGUMENTS)
+    if key not in rows:
+        raise Declined(NOT_THERE)
+    if not is_i64(rows[key]):
+        raise Declined(OTHER_KIND)
+    if not is_i64(rows[key] + by):
+        raise Declined(OUT_OF_RANGE)
+    return rows[key] + by
+
+
+def lengthened(rows, key, tail):
+    if not isinstance(tail, str):
+        raise Declined(WRONG_ARGUMENTS)
+    if not isinstance(rows.get(key, ""), str):
+        raise Declined(OTHER_KIND)
+    return rows.get(key, "") + tail

@@ -1,0 +1,278 @@
+"""Scripts made at random, each from a number: most run, some have a fault."""
+
+import random
+
+from script import uuid_of
+from wire import ARGS_DEPTH, NotJson, is_whole, quoted, read_json
+
+UUIDS = (
+    "00000000-0000-4000-8000-00000000000a",
+    "00000000-0000-4000-8000-00000000000b",
+    "0A0B0C0D-1111-4222-8333-ABCDEFABCDEF",
+    "urn:uuid:00000000-0000-4000-8000-00000000000c",
+    "URN:Uuid:00000000-0000-4000-8000-00000000000c",
+    "{00000000-0000-4000-8000-00000000000d}",
+    "0000000000004000800000000000000e",
+)
+ODD_KEYS = ("", "a", "b", "n", "ab", "a b", "log", "é", "\x01", "\x7f", '"', "\\", "日本", "😀")
+NUMBERS = (0, 1, -1, 5, 42, 2**63 - 1, -(2**63), 2**63, 2**64 - 1)
+TEXTS = ("", "x", "é\x01", 'a"b\\', "\n\t\r\b\f", "/\x7f", "\u2028", "😀")
+NO_WHOLE_NUMBERS = ("1.5", "-0", "1e3", "0.0", "18446744073709551616", "-9223372036854775809")
+ODD_BODIES = (
+    "",
+    "{",
+    "[]",
+    "null",
+    "1 2",
+    '{"a":"\\ud800"}',
+    '{"error":null}',
+    '{"error":"ClientStateNotFound"}',
+    '{"error":"VersionNotSupported"}',
+    '{"error":"VersionNotSupported","versionType":"push"}',
+    '{"error":"VersionNotSupported","versionType":"schema","cookie":1.5}',
+    '{"cookie":1}',
+    '{"cookie":1,"lastMutationIDChanges":[],"patch":[]}',
+    '{"cookie":1,"lastMutationIDChanges":{},"patch":{}}',
+)
+ODD_OPERATIONS = ("{}", "1", '{"op":"update","key":"n"}', '{"op":"put","key":"n"}', '{"op":"put","key":1,"value":1}')
+DEEPEST_ARGS = f"{'[' * ARGS_DEPTH}{']' * ARGS_DEPTH}"
+ODD_ARGS = ("[]", "{}", "1", '["a"]', '["a",1,2]', '["n","1"]', '["n",18446744073709551615]', DEEPEST_ARGS)
+ODD_LINES = (
+    "phase x",
+    "phase ",
+    " ",
+    "A",
+    "A ",
+    "Q get a",
+    "client A 1",
+    f"client phase {UUIDS[0]}",
+    f"client 1a {UUIDS[0]}",
+    "slots 15",
+    "slots +16",
+    "group zz",
+    f"group {UUIDS[0]}",
+    "profile",
+    "A scan - x -",
+    "A scan - - +1",
+    "A scan - - 18446744073709551616",
+    "A scan  - -",
+    "A mutate 9007199254740992 set [1]",
+    "A mutate 1 set ",
+    "A mutate 1 set",
+    "A mutate 1  []",
+    "A mutate 1 set [1.5]",
+    f"A mutate 1 set [{DEEPEST_ARGS}]",
+    "A end t",
+    "A end zz {}",
+    "A learn Q",
+    "A learn phase",
+    "A begin t!",
+    "A begin 12345678901234567",
+    "A get",
+    "A push ",
+    "A empty x",
+)
+
+
+class Scripts:
+    """Makes one script. A wide one has thousands of keys, so that chunks split and empty."""
+
+    def __init__(self, number):
+        self.random = random.Random(number)
+        self.is_wide = self.chance(0.1)
+        self.numbered = 3000 if self.is_wide else 40
+        self.cookie_number = 0
+        self.greatest_id = 3
+
+    def chance(self, part):
+        return self.random.random() < part
+
+    def pick(self, choices):
+        return self.random.choice(choices)
+
+    def script(self):
+        names = self.random.sample(["A", "B", "C", "client", "get", "x9", "group"], self.pick((1, 2, 2, 3)))
+        self.clients = {name: self.pick(UUIDS) for name in names}
+        self.tickets = []
+        lines = self.header()
+        for _ in range(self.pick((1, 2, 4, 8))):
+            lines.append("phase")
+            for _ in range(self.pick((1, 5, 20, 40))):
+                lines += self.calls(self.pick(names))
+        script = "\n".join(lines + [""] * self.chance(0.5)).encode()
+        return self.spoilt(script) if self.chance(0.25) else script
+
+    def header(self):
+        lines = [f"client {name} {id}" for name, id in self.clients.items()]
+        for part, line in (
+            (0.8, f"group {self.pick(UUIDS)}"),
+            (0.3, self.pick(("profile p x", "profile ", 'profile "é"', "profile p1 "))),
+            (0.3, self.pick(("schema s2", "schema ", "schema \\\t"))),
+            (0.3, self.pick(("slots 16", "slots 0032", "slots 1048576"))),
+        ):
+            lines += [line] * self.chance(part)
+        self.random.shuffle(lines)
+        return lines
+
+    def calls(self, name):
+        if self.chance(0.03):
+            return [self.pick(("", "# note"))]
+        kinds = (self.mutation, self.query, self.pull, self.other_end)
+        [kind] = self.random.choices(kinds, (35, 40, 20, 5))
+        return kind(name)
+
+    def mutation(self, name):
+        mutator, args = self.asked()
+        self.greatest_id += self.chance(0.3)
+        time = self.pick(("0", "1", "007", "9007199254740991"))
+        return [f"{name} mutate {time} {mutator} {args}"] + [f"{name} refresh"] * self.chance(0.3)
+
+    def asked(self):
+        mutator = self.pick(("set", "set", "set", "del", "incr", "incr", "append", "append", "nosuch", "Set"))
+        key = self.escaped(self.key())
+        arguments = {
+            "del": key,
+            "incr": f"{key},{self.pick((1, -1, 5, 2**63 - 1, -(2**63), self.whole_value()))}",
+            "append": f"{key},{self.escaped(self.pick(TEXTS)) if self.chance(0.9) else self.whole_value()}",
+        }
+        args = f"[{arguments.get(mutator, f'{key},{self.whole_value()}')}]"
+        if self.chance(0.06):
+            args = self.pick(ODD_ARGS)
+        return mutator, f" {args} " if self.chance(0.1) else args
+
+    def query(self, name):
+        bare = ("empty", "pending", "cookie", "push", "refresh")
+        return [
+            self.pick(
+                (
+                    f"{name} {self.pick(bare)}",
+                    f"{name} get {self.key()}",
+                    f"{name} has {self.key()}",
+                    f"{name} learn {self.pick(list(self.clients))}",
+                    f"{name} scan {self.scan()}",
+                    f"{name} scan {self.scan()}",
+                )
+            )
+        ]
+
+    def scan(self):
+        key = self.key().replace(" ", "")
+        start = self.pick(("-", f"={key}", f">{key}"))
+        return f"{self.pick(('-', 'k', 'k0', 'a', 'é'))} {start} {self.pick(('-', '-', '0', '1', '3', 2**64 - 1))}"
+
+    def pull(self, name):
+        ticket = self.pick(("t", "u", "w9"))
+        self.tickets.append((name, ticket))
+        return [f"{name} begin {ticket}"] + [f"{name} end {ticket} {self.body()}"] * self.chance(0.8)
+
+    def other_end(self, name):
+        if not self.tickets:
+            return self.query(name)
+        name, ticket = self.pick(self.tickets)
+        return [f"{name} end {ticket} {self.body()}"]
+
+    def body(self):
+        if self.chance(0.05):
+            return self.pick(ODD_BODIES)
+        patch = ",".join(self.operation() for _ in range(self.pick((0, 50, 400) if self.is_wide else (0, 0, 1, 2, 5, 20))))
+        fields = [
+            f'"cookie":{self.cookie()}',
+            f'"lastMutationIDChanges":{{{",".join(self.change() for _ in range(self.pick((0, 0, 0, 1, 2))))}}}',
+            f'"patch":[{patch}]',
+        ]
+        if self.chance(0.3):
+            self.random.shuffle(fields)
+        if self.chance(0.1):
+            fields.append(f'"more":{self.value()}')
+        if self.chance(0.05):
+            fields.append(f'"cookie":{self.cookie()}')
+        if self.chance(0.03):
+            depth = self.pick((125, 126, 127))
+            fields.append(f'"x":{"[" * depth}{"]" * depth}')
+        return f"{{{','.join(fields)}}}"
+
+    def cookie(self):
+        if self.chance(0.6):
+            self.cookie_number += self.pick((0, 1, 1, 1, 2))
+            return str(self.cookie_number)
+        if self.chance(0.5):
+            return self.pick(("null", '"1"', '"2"', '"é"', "-5", "1.5", "true", "[]"))
+        order = self.pick((self.cookie_number, self.cookie_number + 1, '"1"', '"2"', "null", "1.5"))
+        more = self.pick(("", "", ',"by":4', ',"x":[1,{}]', ',"q":1.5'))
+        return f'{{"order":{order}{more}}}'
+
+    def change(self):
+        client = self.pick([uuid_of(id) for id in self.clients.values()] + ["x", UUIDS[0].upper()])
+        odd = ("4503599627370496", "4503599627370497", "-1", "1.5", '"1"')
+        id = self.pick(odd) if self.chance(0.1) else self.random.randrange(self.greatest_id)
+        return f"{self.escaped(client)}:{id}"
+
+    def operation(self):
+        key = self.escaped(self.key())
+        if self.chance(0.01):
+            return self.pick(ODD_OPERATIONS)
+        if self.chance(0.03):
+            return '{"op":"clear"}'
+        if self.chance(0.25):
+            return f'{{"op":"del","key":{key}}}'
+        value = self.value() if self.chance(0.02) else self.whole_value()
+        return f'{{"op":"put","key":{key},"value":{value}}}'
+
+    def key(self):
+        return self.pick(ODD_KEYS) if self.chance(0.5) else f"k{self.random.randrange(self.numbered):02}"
+
+    def value(self, depth=0):
+        kinds = ("number", "number", "text", "text", "word", "fraction", "array", "object")
+        kind = self.pick(kinds if depth < 4 else kinds[:4])
+        if kind == "number":
+            return str(self.pick(NUMBERS))
+        if kind == "text":
+            return self.escaped(self.pick(TEXTS))
+        if kind == "word":
+            return self.pick(("null", "true", "false"))
+        if kind == "fraction":
+            return self.pick(NO_WHOLE_NUMBERS)
+        values = [self.value(depth + 1) for _ in range(self.random.randrange(3))]
+        if kind == "array":
+            return f"[{', '.join(values)}]"
+        return f"{{{','.join(f'{self.escaped(self.key())} : {value}' for value in values)}}}"
+
+    def whole_value(self):
+        while True:
+            value = self.value()
+            try:
+                if is_whole(read_json(value.encode(), ARGS_DEPTH)):
+                    return value
+            except NotJson:
+                pass
+
+    def escaped(self, text):
+        """The text as JSON, some characters by their codes that needn't be."""
+        return "".join(
+            f"\\u{ord(char):04X}" if ord(char) < 2**16 and char not in '"' and self.chance(0.05) else quoted(char)[1:-1]
+            for char in text
+        ).join('""')
+
+    def spoilt(self, script):
+        lines = script.split(b"\n")
+        at = self.random.randrange(len(lines))
+        spoil = self.pick((self.with_odd_line, self.with_clients, self.with_other_words, self.with_other_order))
+        spoil(lines, at)
+        return b"\n".join(lines)
+
+    def with_odd_line(self, lines, at):
+        lines.insert(at, self.pick(ODD_LINES).encode())
+
+    def with_clients(self, lines, at):
+        count = self.pick((60, 62, 63, 64, 65))
+        lines[at:at] = [f"client C{number} {UUIDS[number % 7]}".encode() for number in range(count)]
+
+    def with_other_words(self, lines, at):
+        line = lines[at]
+        odd_byte = bytes([self.pick((0xFF, 0xC3, 0xED, 0x0D, 0x00, 0x09))])
+        lines[at] = self.pick((line + b" x", line.rsplit(b" ", 1)[0], line.replace(b" ", b"  ", 1), line + odd_byte))
+
+    def with_other_order(self, lines, at):
+        if self.chance(0.5):
+            lines.append(lines[at])
+        self.random.shuffle(lines)
