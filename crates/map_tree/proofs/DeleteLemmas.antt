@@ -1,5 +1,5 @@
 -- What a removal makes of a map.
-use Rattle.std.proofs.Common.{◌≡◌, ℕ, Bool, false, true, is_some, Option, Some, None, refl, sym, ◌∙◌}
+use Rattle.std.proofs.Common.{◌≡◌, ◌≤◌, ℕ, Bool, false, true, is_some, Option, Some, None, refl, sym, ◌∙◌, arith}
 use Rattle.std.specs.Prelude.{option_and_then}
 use Rattle.std.specs.FinMap as finite
 use mathlib.Core.List.{IsPrefix}
@@ -10,10 +10,11 @@ use Rattle.group_history.specs.Refs.{stamp_of}
 use Rattle.group_history.specs.Rows.{Rows}
 use Rattle.group_history.specs.Spelling.{Contents, Segment, segment_at}
 use Rattle.group_history.proofs.Spellings.{segment-content}
-use Rattle.map_tree.specs.Removing.{without, root_rows}
+use Rattle.map_tree.specs.Freezing.{root_places}
+use Rattle.map_tree.specs.Removing.{without, root_left, root_rows, IsWideRoot}
 use Rattle.map_tree.specs.Shown.{Seen, shown, chunk_rows, rows_or, map_of_rows}
-use Rattle.map_tree.specs.Trees.{root_map, IsWideAt}
-use Rattle.map_tree.specs.declared.tree.Root.TheVariants.{Placed, Own}
+use Rattle.map_tree.specs.Trees.{root_map, root_fresh, root_or, IsWide, IsWideAt}
+use Rattle.map_tree.specs.declared.tree.Root.TheVariants.{Own}
 use Rattle.map_tree.proofs.RemoveLemmas.{map_removed}
 use Rattle.map_tree.proofs.TreeLemmas.{map_at-rows}
 use Rattle.map_tree.proofs.WideLemmas.{wide_grown}
@@ -23,14 +24,23 @@ pub wide_at-kept : (old new : Contents) (k : ℕ) (s : Segment) → IsPrefix old
 wide_at-kept old new k s p h w =
     let c = segment-content old k s h in wide_grown old new k (node.Chunk c.0) p c.2 w
 
--- a root of a draft, or the placed one that takes its place
-pub own_removed : (q : Contents) (n : Seen) (x : Option Rows) (m : Entries) (key : Bytes) → option_and_then map_of_rows x ≡ Some m → root_rows q n None ≡ Some (without key (rows_or x))
-    → root_map q (Own n) ≡ Some (finite.remove m key)
-own_removed q n x m key h e = map_removed x (shown q n.pieces) m key h e
+-- a root of a draft, or the placed one to which it gives way
+pub removed_map : (q : Contents) (n : Seen) (end : Option Ref) (x : Option Rows) (m : Entries) (key : Bytes) → option_and_then map_of_rows x ≡ Some m
+    → root_rows q n end ≡ Some (without key (rows_or x)) → root_map q (root_or end (Own n)) ≡ Some (finite.remove m key)
+removed_map q n None x m key h e = map_removed x (shown q n.pieces) m key h e
+removed_map q n (Some at) x m key h e = map_at-rows q (stamp_of at) ∙ map_removed x (chunk_rows q (stamp_of at)) m key h e
 
-pub placed_removed : (q : Contents) (n : Seen) (at : Ref) (x : Option Rows) (m : Entries) (key : Bytes) → option_and_then map_of_rows x ≡ Some m
-    → root_rows q n (Some at) ≡ Some (without key (rows_or x)) → root_map q (Placed at) ≡ Some (finite.remove m key)
-placed_removed q n at x m key h e = map_at-rows q (stamp_of at) ∙ map_removed x (chunk_rows q (stamp_of at)) m key h e
+pub removed_wide : (q : Contents) (n : Seen) (end : Option Ref) → IsWideRoot q n end → IsWide q (root_or end (Own n))
+removed_wide q n None w = w
+removed_wide q n (Some at) w = w
+
+pub removed_places : (n : Seen) (end : Option Ref) → root_left n end ≡ root_places (root_or end (Own n))
+removed_places n None = refl
+removed_places n (Some at) = refl
+
+pub removed_fresh : (n : Seen) (end : Option Ref) → root_fresh (root_or end (Own n)) ≤ n.fresh
+removed_fresh n None = omega arith
+removed_fresh n (Some at) = omega arith
 
 -- a key that wasn't found isn't there
 pub not_there : (there : Bool) (o : Option Bytes) → there ≡ is_some o → there ≡ false → o ≡ None

@@ -61,12 +61,11 @@ head_drop n [] l = absurd (omega arith)
 head_drop zero (r ∷ rs) l = refl
 head_drop (suc n) (r ∷ rs) l = head_drop n rs (omega arith)
 
-pub put_parted : (keys values ks vs : List Bytes) (i : ℕ) (key text v : Bytes) (nk ne : List Bytes) (r : Option (List Bytes × List Bytes)) → ks ≡ keys → vs ≡ values → text ≡ key
-    → T (rises keys) → length values ≡ length keys → IsAbsent key keys i → Parted (insert (paired ks vs) i (text, v)) nk ne r
+-- the rows with the new one, once they are parted
+pub parted_put : (keys values : List Bytes) (i : ℕ) (key v : Bytes) (nk ne : List Bytes) (r : Option (List Bytes × List Bytes))
+    → T (rises keys) → length values ≡ length keys → IsAbsent key keys i → Parted (insert (paired keys values) i (key, v)) nk ne r
     → Parted (put (slice_cmp nat_cmp) key v (paired keys values)) nk ne r
-put_parted keys values ks vs i key text v nk ne r ek ev et o l a h =
-    subst (λ (w : Rows). Parted w nk ne r)
-    (ap (λ w. insert (paired w vs) i (text, v)) ek ∙ ap (λ w. insert (paired keys w) i (text, v)) ev ∙ ap (λ w. insert (paired keys values) i (w, v)) et ∙ (leaf_put keys values i key v o l a).is) h
+parted_put keys values i key v nk ne r o l a h = subst (λ (w : Rows). Parted w nk ne r) (leaf_put keys values i key v o l a).is h
 
 -- what a leaf's rows and its upper half's are, once a row is put
 pub record LeafHalves (keys values nk ne k2 e2 : List Bytes) (i : ℕ) (key v : Bytes) : Type 0 where

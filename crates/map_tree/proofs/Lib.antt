@@ -30,3 +30,5 @@ pub mod RemoveLemmas
 pub mod EmptyLemmas
 pub mod DeleteLemmas
 pub mod NamedLemmas
+pub mod UnputLemmas
+pub mod HeirLemmas

@@ -1,5 +1,5 @@
 -- The way down a chunk of a draft.
-use Rattle.std.proofs.Common.{◌≡◌, ◌<◌, ◌-◌, ℕ, true, cond, List, [], ◌∷◌, ◌++◌, Option, Some, None, length, map, get_or, set, slice_get, refl, sym, ap, ◌∙◌, subst, arith, nat_cmp}
+use Rattle.std.proofs.Common.{◌≡◌, ◌<◌, ◌+◌, ◌-◌, ℕ, true, cond, List, [], ◌∷◌, ◌++◌, Option, Some, None, length, map, get_or, set, slice_get, refl, sym, ap, ◌∙◌, subst, arith, nat_cmp}
 use Rattle.std.proofs.lemmas.List.{set-get_or}
 use Rattle.std.specs.Box.{with_value}
 use Rattle.std.specs.Cmp.Lexicographic.{slice_cmp}
@@ -12,7 +12,7 @@ use Rattle.group_history.specs.Spelling.{Contents, rows_at, joined_one, joined_r
 use Rattle.group_history.proofs.Pairs.{keys_of-paired, values_of-paired}
 use Rattle.map_tree.specs.Search.{IsPlace}
 use Rattle.map_tree.specs.Shown.{Piece, Seen, part_rows, shown, chunk_rows, IsTree, rows_or}
-use Rattle.map_tree.specs.Nodes.{Kid, Kids, child_pieces, kids_pieces, row_pieces, body_pieces, HeadIs, IsChild, AllKids, IsNode, child_rows}
+use Rattle.map_tree.specs.Nodes.{Kid, Kids, child_pieces, kids_pieces, kids_height, kids_fresh, row_pieces, body_pieces, HeadIs, IsChild, AllKids, IsNode, child_rows}
 use Rattle.map_tree.specs.declared.nodes.Body.{Body}
 use Rattle.map_tree.specs.declared.nodes.Body.TheVariants.{Inner}
 use Rattle.map_tree.specs.declared.nodes.Child.{Child}
@@ -144,3 +144,11 @@ pub down-find : (p : Contents) (depth : ℕ) (keys : List Bytes) (kids : List Ch
     → (d : Down p depth keys kids pieces key i child) → x ≡ Some d.way.here → find (slice_cmp nat_cmp) key (rows_or x) ≡ find (slice_cmp nat_cmp) key (rows_or (shown p pieces))
 down-find p depth keys kids pieces key i child x d e =
     ap (λ w. find (slice_cmp nat_cmp) key (rows_or w)) e ∙ find-way key _ _ _ _ d.rows d.way ∙ ap (λ w. find (slice_cmp nat_cmp) key (rows_or w)) (sym d.rows_is)
+
+-- an inner chunk as clauses see it, by its keys and children
+abbrev pub inner_seen : ℕ → List Bytes → List Child → Seen
+inner_seen depth keys kids =
+    record { depth = depth; entries = length keys; pieces = kids_pieces (depth - 1) (paired keys kids); height = kids_height kids + 2; fresh = kids_fresh kids + 1 }
+
+pub inner_same : (depth : ℕ) (keys2 keys : List Bytes) (kids2 kids : List Child) → keys2 ≡ keys → kids2 ≡ kids → inner_seen depth keys2 kids2 ≡ inner_seen depth keys kids
+inner_same depth keys2 keys kids2 kids k e = ap (λ ks. inner_seen depth ks kids2) k ∙ ap (inner_seen depth keys) e

@@ -13,8 +13,8 @@ use Rattle.group_history.specs.Rows.{Rows, keys_of, paired, AreKeys, rises}
 use Rattle.group_history.specs.Spelling.{Contents, begins_with, joined_rows}
 use Rattle.group_history.proofs.Pairs.{keys_of-paired}
 use Rattle.map_tree.specs.Halves.{lowered}
-use Rattle.map_tree.specs.Nodes.{Kids, kids_pieces, body_pieces, AllKids, child_rows, child_fresh, kids_fresh}
-use Rattle.map_tree.specs.Removing.{without, IsFate, HasOthers, gives_way, CanRemove, ChildRemoved, one_shown}
+use Rattle.map_tree.specs.Nodes.{ChildChanged, Kids, kids_pieces, body_pieces, AllKids, child_rows, child_fresh, kids_fresh}
+use Rattle.map_tree.specs.Removing.{without, IsFate, HasOthers, gives_way, CanRemove, one_shown}
 use Rattle.map_tree.specs.Scanning.{kid_shown}
 use Rattle.map_tree.specs.Search.{IsFound, IsAbsent}
 use Rattle.map_tree.specs.SecondKeys.{second_key}
@@ -252,7 +252,7 @@ fate_here p depth keys kids pieces key i child fate l d f =
 -- the child stays, without the key's row
 pub child_stays : (p q : Contents) (depth : ℕ) (keys nk : List Bytes) (kids ne : List Child) (pieces : List Piece) (key : Bytes) (i : ℕ) (child : Child) (other : Option Bytes) → IsPrefix p q
     → length kids ≡ length keys → length keys ≤ 16 → 0 < depth → (d : Down p depth keys kids pieces key i child) → IsFate key d.first d.way.here (Stays other) → 0 < length keys
-    → nk ≡ lowered i other keys → ChildRemoved q (depth - 1) i kids ne child (Some (without key (rows_or (child_rows p (depth - 1) child)))) → Left q depth nk ne (without key d.rows)
+    → nk ≡ lowered i other keys → ChildChanged q (depth - 1) i kids ne child (Some (without key (rows_or (child_rows p (depth - 1) child)))) → Left q depth nk ne (without key d.rows)
 child_stays p q depth keys nk kids ne pieces key i child other pre l m z d f some ek c =
     let below = depth - 1 in
     let n = c.0 in

@@ -1,5 +1,5 @@
 -- A value replaced below a draft's chunk.
-use Rattle.std.proofs.Common.{◌≡◌, ◌<◌, ◌-◌, ℕ, List, [], ◌∷◌, ◌++◌, Option, Some, length, set, sym, ap, ◌∙◌, subst, nat_cmp, length-set}
+use Rattle.std.proofs.Common.{◌≡◌, ◌<◌, ◌-◌, ℕ, List, [], ◌∷◌, ◌++◌, Option, Some, length, slice_get, set, refl, sym, ap, ◌∙◌, subst, nat_cmp, length-set}
 use Rattle.std.specs.Prelude.{IsSome}
 use Rattle.std.specs.Cmp.Lexicographic.{slice_cmp}
 use Rattle.std.specs.FinMap.{find, put}
@@ -7,16 +7,19 @@ use mathlib.Core.List.{IsPrefix}
 use Rattle.group_history.specs.Map.{Bytes}
 use Rattle.group_history.specs.Rows.{Rows, paired, AreKeys}
 use Rattle.group_history.specs.Spelling.{Contents}
+use Rattle.map_tree.specs.Replacing.{CanReplace}
 use Rattle.map_tree.specs.Search.{IsFound, IsAbsent}
 use Rattle.map_tree.specs.Shown.{Piece, shown, rows_or}
-use Rattle.map_tree.specs.Nodes.{Kid, Kids, kids_pieces, row_pieces, body_pieces, IsNode, IsChild, AllKids}
+use Rattle.map_tree.specs.Nodes.{Kid, Kids, ChildChanged, child_rows, kids_pieces, row_pieces, body_pieces, IsNode, AllKids}
 use Rattle.map_tree.specs.declared.nodes.Body.{Body}
 use Rattle.map_tree.specs.declared.nodes.Body.TheVariants.{Leaf, Inner}
 use Rattle.map_tree.specs.declared.nodes.Child.{Child}
 use Rattle.map_tree.specs.declared.nodes.Child.TheVariants.{Own}
-use Rattle.map_tree.proofs.ChangeLemmas.{changed, one_child, put-local, put-begins, there_above, none_there, put-found, replaced, AllKids-join}
+use Rattle.map_tree.proofs.ChangeLemmas.{changed, one_child, put-local, put-begins, there_above, none_there, put-found, replaced}
+use Rattle.map_tree.proofs.JoinLemmas.{some_is}
 use Rattle.map_tree.proofs.NodeLemmas.{Down, shown-rows}
 use Rattle.map_tree.proofs.OpenLemmas.{find-way}
+use Rattle.map_tree.proofs.PathLemmas.{child_requires}
 use Rattle.map_tree.proofs.SearchLemmas.{found_in, absent_in, find-absent}
 
 -- a leaf shows its rows
@@ -80,8 +83,29 @@ kid_replaced old new depth keys kids pieces key v i child n x p d t e b s =
     let c = changed old new depth keys kids pieces key i child (put (slice_cmp nat_cmp) key v) ((d.first, Own n) ∷ []) p d (put-local key v) o.0 o.1 in
     record { all = c.all; shown_is = c.shown_is ∙ ap (λ z. Some (put (slice_cmp nat_cmp) key v (rows_or z))) (sym d.rows_is) }
 
--- the child as it was
-pub kid_kept : (p : Contents) (depth : ℕ) (keys : List Bytes) (kids : List Child) (pieces : List Piece) (key : Bytes) (i : ℕ) (child : Child) (n : Kid)
-    → (d : Down p depth keys kids pieces key i child) → child ≡ Own n → AllKids (depth - 1) (d.before ++ (d.first, Own n) ∷ d.behind)
-kid_kept p depth keys kids pieces key i child n d e =
-    AllKids-join (depth - 1) d.before ((d.first, Own n) ∷ d.behind) d.all.0 (subst (IsChild (depth - 1) d.first) e d.all.1, d.all.2)
+pub can_replace : (p : Contents) (depth : ℕ) (keys : List Bytes) (kids : List Child) (pieces : List Piece) (key : Bytes) (i : ℕ) (child : Child)
+    → (d : Down p depth keys kids pieces key i child) → slice_get kids i ≡ Some child → IsSome (find (slice_cmp nat_cmp) key (rows_or (shown p pieces)))
+    → (c : Child) → slice_get kids i ≡ Some c → CanReplace p (depth - 1) key c
+can_replace p depth keys kids pieces key i child d g t c h =
+    let r = child_requires p depth keys kids kids pieces key i child d g refl c h in
+    let here = ap (child_rows p (depth - 1)) (some_is (sym h ∙ g)) ∙ d.way.here_is in
+    (r.0, r.1, subst (λ z. IsSome (find (slice_cmp nat_cmp) key (rows_or z))) (sym here) (there_below p depth keys kids pieces key i child d t))
+
+-- an inner node whose child is changed so
+pub record ChildReplaced (new : Contents) (depth : ℕ) (keys : List Bytes) (kids ne : List Child) (rows : Option Rows) : Type 0 where
+  pub node : AreKeys keys × ((0 < depth) × (0 < length keys) × (length ne ≡ length keys) × AllKids (depth - 1) (paired keys ne))
+  pub shown_is : shown new (kids_pieces (depth - 1) (paired keys ne)) ≡ rows
+
+pub child_replaced : (old new : Contents) (depth : ℕ) (keys : List Bytes) (body : Body) (kids : _) (ne : List Child) (pieces : List Piece) (key v : Bytes) (i : ℕ) (child : Child)
+    → IsPrefix old new → body ≡ Inner kids → IsNode depth keys body → (d : Down old depth keys kids.items pieces key i child) → IsSome (find (slice_cmp nat_cmp) key (rows_or (shown old pieces)))
+    → ChildChanged new (depth - 1) i kids.items ne child (Some (put (slice_cmp nat_cmp) key v (rows_or (child_rows old (depth - 1) child))))
+    → ChildReplaced new depth keys kids.items ne (Some (put (slice_cmp nat_cmp) key v (rows_or (shown old pieces))))
+child_replaced old new depth keys body kids ne pieces key v i child pre is inv d t c =
+    let n = c.0 in
+    let e = replaced keys kids.items i (Own n) child d.before d.first d.behind (inner_lengths depth keys body kids is inv) d.whole d.at in
+    let k = kid_replaced old new depth keys kids.items pieces key v i child n (child_rows old (depth - 1) child) pre d t d.way.here_is c.2 c.3 in
+    let w = inner_with depth keys body kids i (Own n) (d.before ++ (d.first, Own n) ∷ d.behind) is inv e k.all in
+    record {
+      node = (w.0, (w.1.0, w.1.1, ap length c.1 ∙ w.1.2, subst (λ es. AllKids (depth - 1) (paired keys es)) (sym c.1) w.1.3));
+      shown_is = ap (λ es. shown new (kids_pieces (depth - 1) (paired keys es))) c.1 ∙ ap (λ es. shown new (kids_pieces (depth - 1) es)) e ∙ k.shown_is;
+    }

@@ -1,18 +1,21 @@
 -- How deep a map is, and how wide its root, once more is placed.
-use Rattle.std.proofs.Common.{◌≡◌, ℕ, Bool, true, Option, Some, None, refl, sym, ap, ◌∙◌, is_some}
+use Rattle.std.proofs.Common.{◌≡◌, ℕ, Bool, true, [], Option, Some, None, refl, sym, ap, ◌∙◌, is_some}
+use Rattle.std.proofs.lemmas.List.{append-nil}
 use Rattle.std.specs.Prelude.{IsSome, option_map}
+use Rattle.std.specs.FinMap as finite
 use mathlib.Core.List.{IsPrefix}
 use Rattle.group_history.specs.declared.refs.Ref.{Ref}
 use Rattle.group_history.specs.Map.{Bytes, Entries}
 use Rattle.group_history.specs.Refs.{stamp_of}
-use Rattle.group_history.specs.Spelling.{Contents, Segment, segment_at}
+use Rattle.group_history.specs.Spelling.{Contents, Segment, segment_at, map_at, rows_at}
 use Rattle.group_history.proofs.Spellings.{segment-content}
+use Rattle.map_tree.specs.Seeking.{chunk_depth}
 use Rattle.map_tree.specs.Shown.{Seen}
 use Rattle.map_tree.specs.Trees.{root_map, root_depth, IsWide}
 use Rattle.map_tree.specs.declared.tree.Root.{Root}
 use Rattle.map_tree.specs.declared.tree.Root.TheVariants.{Placed, Own}
 use Rattle.map_tree.proofs.JoinLemmas.{some_is}
-use Rattle.map_tree.proofs.OpenLemmas.{segment-kept}
+use Rattle.map_tree.proofs.OpenLemmas.{segment-kept, rows_at-segment}
 use Rattle.map_tree.proofs.WideLemmas.{wide_grown}
 use Rattle.map_tree.proofs.WriteLemmas.{placed_map}
 
@@ -26,6 +29,13 @@ placed_depth old new r at d s e p h g = by (segment_at old (stamp_of at)) refl (
     by : (o : Option Segment) → segment_at old (stamp_of at) ≡ o → option_map (λ (t : Segment). t.depth) o ≡ Some d → s.depth ≡ d
     by None q h = absurd cc
     by (Some t) q h = ap (λ (t : Segment). t.depth) (some_is (sym g ∙ segment-kept old new (stamp_of at) t p q)) ∙ some_is h
+
+-- the rows of a placed map that is so deep
+pub placed_rows : (p : Contents) (at : Ref) (m : Entries) (d : ℕ) → map_at p (stamp_of at) ≡ Some m → chunk_depth p (stamp_of at) ≡ Some d → rows_at p d (stamp_of at) ≡ Some (finite.entries m)
+placed_rows p at m d h e =
+    let sp = placed_map p (stamp_of at) m h in
+    let n = placed_depth p p (Placed at) at d sp.segment refl ([], append-nil p) e sp.is in
+    ap (λ k. rows_at p k (stamp_of at)) (sym n) ∙ rows_at-segment p (stamp_of at) sp.segment sp.is ∙ ap (λ w. Some w) sp.rows
 
 pub root_depth_kept : (old new : Contents) (r : Root) (d : ℕ) → IsPrefix old new → root_depth old r ≡ Some d → root_depth new r ≡ Some d
 root_depth_kept old new (Own n) d p h = h

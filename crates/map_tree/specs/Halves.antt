@@ -65,3 +65,8 @@ least key (k ∷ ks) = if is_above k key then key else k
 abbrev pub AreInOrder : Bytes → List Piece → Type 0
 AreInOrder first [] = ⊥
 AreInOrder first (q ∷ qs) = T (is_lt (slice_cmp nat_cmp first q.0))
+
+-- there is a first key: that of the lower half's pieces, below the first one of the upper half's
+abbrev pub HeadsBoth : Option Bytes → List Piece → List Piece → Type 0
+HeadsBoth None lower upper = ⊥
+HeadsBoth (Some first) lower upper = HeadIs first lower × AreInOrder first upper

@@ -21,3 +21,4 @@ pub mod Writes
 pub mod Freezing
 pub mod Scanning
 pub mod Counts
+pub mod Replacing

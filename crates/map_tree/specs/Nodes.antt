@@ -1,5 +1,5 @@
 -- The chunks of a draft: what their pieces are, and what holds of them.
-use Rattle.std.specs.Prelude.{ℕ, ◌+◌, ◌-◌, ◌<◌, max, Box, List, [], ◌∷◌, ◌++◌, map, length, ◌≡◌, Option}
+use Rattle.std.specs.Prelude.{ℕ, ◌+◌, ◌-◌, ◌<◌, ◌≤◌, max, Box, List, [], ◌∷◌, ◌++◌, map, length, slice_set, ◌≡◌, Option}
 use Rattle.std.specs.declared.alloc.Global.{Global}
 use Rattle.group_history.specs.Map.{Bytes}
 use Rattle.group_history.specs.Refs.{stamp_of}
@@ -86,3 +86,8 @@ body_fresh (Inner kids) = kids_fresh kids.items + 1
 abbrev pub child_rows : Contents → ℕ → Child → Option Rows
 child_rows contents below (Placed at) = rows_at contents below (stamp_of at)
 child_rows contents below (Own n) = shown contents n.value.pieces
+
+-- an own child, so deep, stands at the place of this one, and shows these rows; so many chunks of it may be new
+abbrev pub ChildChanged : Contents → ℕ → ℕ → List Child → List Child → Child → Option Rows → Type 0
+ChildChanged contents below place old new child rows = (n : Kid) × (new ≡ slice_set old place (Own n)) × (n.value.depth ≡ below) × (shown contents n.value.pieces ≡ rows)
+    × (n.value.fresh ≤ child_fresh child + below)

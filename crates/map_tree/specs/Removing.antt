@@ -1,21 +1,20 @@
 -- A key removed below a draft's chunk.
-use Rattle.std.specs.Prelude.{◌≡◌, ◌+◌, ◌<◌, ◌≤◌, ℕ, Bool, false, not, nat_le, filter, List, [], ◌∷◌, length, slice_set, Option, Some, None}
+use Rattle.std.specs.Prelude.{◌≡◌, ◌+◌, ◌-◌, ◌<◌, ◌≤◌, ℕ, Bool, false, not, nat_le, filter, List, [], ◌∷◌, length, Option, Some, None}
 use Rattle.std.specs.Ordering.{nat_cmp, is_eq}
 use Rattle.std.specs.Cmp.Lexicographic.{slice_cmp}
 use Rattle.group_history.specs.Map.{Bytes, same_text}
 use Rattle.group_history.specs.declared.refs.Ref.{Ref}
 use Rattle.group_history.specs.Refs.{stamp_of}
-use Rattle.group_history.specs.Rows.{Rows}
+use Rattle.group_history.specs.Rows.{Rows, paired}
 use Rattle.group_history.specs.Spelling.{Contents}
 use Rattle.map_tree.specs.Ends.{IsEnd}
-use Rattle.map_tree.specs.Freezing.{places_of}
+use Rattle.map_tree.specs.Freezing.{kids_places, places_of}
 use Rattle.map_tree.specs.Halves.{HasDepth}
-use Rattle.map_tree.specs.Nodes.{Kid, child_rows, child_fresh, kids_fresh}
+use Rattle.map_tree.specs.Nodes.{child_rows, kids_fresh, kids_pieces}
 use Rattle.map_tree.specs.Scanning.{kid_shown}
 use Rattle.map_tree.specs.SecondKeys.{second_key}
 use Rattle.map_tree.specs.Shown.{Seen, shown, chunk_rows, rows_or, IsTree}
 use Rattle.map_tree.specs.declared.nodes.Child.{Child}
-use Rattle.map_tree.specs.declared.nodes.Child.TheVariants.{Own}
 use Rattle.map_tree.specs.declared.nodes.removing.Fate.{Fate}
 use Rattle.map_tree.specs.declared.nodes.removing.Fate.TheVariants.{Leaves, Stays}
 use Rattle.map_tree.specs.declared.nodes.removing.Heir.{Heir}
@@ -52,11 +51,6 @@ gives_way (Stays first) entries = false
 abbrev pub CanRemove : Contents → ℕ → Bytes → Child → Type 0
 CanRemove contents below key c = IsTree (child_rows contents below c) × HasDepth below c × (0 < length (without key (rows_or (child_rows contents below c))))
 
--- an own child, so deep, stands at the place of this one, and shows these rows; so many chunks of it may be new
-abbrev pub ChildRemoved : Contents → ℕ → ℕ → List Child → List Child → Child → Option Rows → Type 0
-ChildRemoved contents below place old new child rows = (n : Kid) × (new ≡ slice_set old place (Own n)) × (n.value.depth ≡ below) × (shown contents n.value.pieces ≡ rows)
-    × (n.value.fresh ≤ child_fresh child + below)
-
 -- what children show of which there is at most one
 abbrev pub one_shown : Contents → List Child → Option Rows
 one_shown contents [] = Some []
@@ -85,6 +79,29 @@ IsWideRoot contents n (Some at) = IsWideAt contents (stamp_of at)
 abbrev pub heir_places : Heir → List Ref
 heir_places (heir.Placed at) = at ∷ []
 heir_places (heir.Own n) = places_of n.pieces
+
+-- what an inner root shows once a key is removed: what its heir shows, if it has one, else its children
+abbrev pub left_rows : Contents → ℕ → List Bytes → List Child → Option Heir → Option Rows
+left_rows contents depth keys kids None = shown contents (kids_pieces (depth - 1) (paired keys kids))
+left_rows contents depth keys kids (Some (heir.Placed at)) = chunk_rows contents (stamp_of at)
+left_rows contents depth keys kids (Some (heir.Own n)) = shown contents n.pieces
+
+-- how many own chunks it is then
+abbrev pub left_fresh : List Child → Option Heir → ℕ
+left_fresh kids None = kids_fresh kids + 1
+left_fresh kids (Some (heir.Placed at)) = kids_fresh kids + 1
+left_fresh kids (Some (heir.Own n)) = n.fresh
+
+-- an heir is wide, and a root that has none stays so
+abbrev pub IsWideLeft : Contents → ℕ → ℕ → Option Heir → Type 0
+IsWideLeft contents old new None = 1 < old → 1 < new
+IsWideLeft contents old new (Some (heir.Placed at)) = IsWideAt contents (stamp_of at)
+IsWideLeft contents old new (Some (heir.Own n)) = IsWideChunk n
+
+-- the placed chunks that are named then
+abbrev pub left_places : List Child → Option Heir → List Ref
+left_places kids None = kids_places kids
+left_places kids (Some h) = heir_places h
 
 -- a placed chunk, if there is one
 abbrev pub end_places : Option Ref → List Ref

@@ -12,6 +12,11 @@ use Rattle.map_tree.specs.declared.tree.Tree.{Tree}
 use Rattle.map_tree.specs.declared.tree.Root.{Root}
 use Rattle.map_tree.specs.declared.tree.Root.TheVariants.{Placed, Own}
 
+-- a placed root, if there is one, in the place of this one
+abbrev pub root_or : Option Ref → Root → Root
+root_or None root = root
+root_or (Some at) root = Placed at
+
 abbrev pub root_map : Contents → Root → Option Entries
 root_map contents (Placed at) = map_at contents (stamp_of at)
 root_map contents (Own n) = option_and_then map_of_rows (shown contents n.pieces)

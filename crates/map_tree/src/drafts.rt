@@ -59,10 +59,8 @@ impl Draft {
         let Some(stamp) = self.next() else {
             return Err(Refusal::Stamps);
         };
-        match self.nodes.push(node) {
-            Ok(()) => Ok(Ref::new(stamp, 0)),
-            Err(_) => Err(Refusal::NoMemory),
-        }
+        self.nodes.push(node)?;
+        Ok(Ref::new(stamp, 0))
     }
 
     /// Forgets the nodes from the place `len` on.

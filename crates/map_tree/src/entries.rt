@@ -36,6 +36,21 @@ pub(crate) fn take_spare<T: Drop>(alloc: Global, len: usize) -> Result<Spare<T>,
     Ok(Spare { keys, entries })
 }
 
+/// Room for one entry more.
+pub(crate) fn make_room<T: Drop>(
+    keys: &mut NodeKeys,
+    entries: &mut Vec<T>,
+    alloc: Global,
+) -> Result<(), AllocError>
+    ensures keys { keys.new.texts ≡ keys.old.texts }
+    ensures entries { entries.new.items ≡ entries.old.items }
+    ensures room { OnOk result ((0 < keys.new.room) × (vec_len entries.new < vec_capacity entries.new)) }
+{
+    entries.reserve(1)?;
+    keys.make_room(alloc)?;
+    Ok(())
+}
+
 /// Puts an entry before the one at the place, and answers the upper half where there are 17 then.
 pub(crate) fn insert_entry<T: Drop>(
     keys: &mut NodeKeys,

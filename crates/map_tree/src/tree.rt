@@ -3,11 +3,12 @@ mod clearing;
 mod counting;
 mod deleting;
 mod freezing;
+mod putting;
 mod scanning;
 
 use crate::chunks::Chunks;
 use crate::looks::Sought;
-use crate::nodes::{Node, room_for};
+use crate::nodes::Node;
 use crate::placed::{depth_placed, get_placed};
 use crate::seeking::seek_placed;
 use group_history::{Json, Ref, Stop};
@@ -27,7 +28,7 @@ enum Root {
 }
 
 impl Tree {
-    ghost use Rattle.std.specs.Prelude.{◌≡◌, ◌⊎◌, ◌+◌, ◌≤◌, ℕ, Some, IfOk, IfErr, OnOk, OnErr, IsSome, option_copied};
+    ghost use Rattle.std.specs.Prelude.{◌≡◌, ◌⊎◌, Some, IfOk, IfErr, IsSome, option_copied};
     ghost use mathlib.Core.List.{IsPrefix};
     ghost use Rattle.std.specs.FinMap as finite;
     ghost use Rattle.group_history.specs.Map.{Entries};
@@ -36,7 +37,6 @@ impl Tree {
     ghost use Rattle.group_history.specs.declared.mutators.Stop.TheVariants.{NoMemory};
     ghost use Rattle.map_tree.specs.Trees.{tree_map, tree_depth, tree_fresh, tree_root, HasWideRoot, IsWideAt};
     ghost use Rattle.map_tree.specs.Writes.{standing};
-    ghost use Rattle.map_tree.specs.Freezing.{AreKept, tree_places};
 
     /// The map whose root is placed there.
     pub fn at(root: Ref) -> Tree
@@ -121,45 +121,6 @@ impl Tree {
         match &self.root {
             Root::Placed(at) => depth_placed(chunks, *at),
             Root::Own(node) => Ok(node.depth()),
-        }
-    }
-
-    /// Puts a value at a key. New are only the chunks on the way to it and those that a split adds, and
-    /// none where the value is there already; placed chunks are copied first. Where it stops, the map is
-    /// as it was.
-    pub fn put<C: Chunks>(
-        &mut self,
-        alloc: Global,
-        chunks: &mut C,
-        key: &str,
-        value: &Json,
-    ) -> Result<(), Stop>
-        requires { IsSome (tree_map (C.contents chunks.old) self.old) }
-        ensures grown { IsPrefix (C.contents chunks.old) (C.contents chunks.new) }
-        ensures ok { (m : Entries) → tree_map (C.contents chunks.old) self.old ≡ Some m → OnOk result (tree_map (C.contents chunks.new) self.new ≡ Some (finite.insert m key.now value.now)) }
-        ensures few { (d : ℕ) → tree_depth (C.contents chunks.old) self.old ≡ Some d → OnOk result (tree_fresh self.new ≤ tree_fresh self.old + d + d + 1) }
-        ensures replaced { (m : Entries) (d : ℕ) → tree_map (C.contents chunks.old) self.old ≡ Some m → tree_depth (C.contents chunks.old) self.old ≡ Some d → IsSome (finite.get m key.now) → OnOk result (tree_fresh self.new ≤ tree_fresh self.old + d) }
-        ensures deep { (d : ℕ) → tree_depth (C.contents chunks.old) self.old ≡ Some d → OnOk result ((e : ℕ) × (tree_depth (C.contents chunks.new) self.new ≡ Some e) × (d ≤ e) × (e ≤ d + 1)) }
-        ensures wide { HasWideRoot (C.contents chunks.old) self.old → OnOk result (HasWideRoot (C.contents chunks.new) self.new) }
-        ensures places { OnOk result (AreKept C.Held.shown (C.contents chunks.new) (tree_places self.old) (tree_places self.new)) }
-        ensures same { (m : Entries) → tree_map (C.contents chunks.old) self.old ≡ Some m → finite.get m key.now ≡ Some value.now → OnOk result (self.new ≡ self.old) }
-        ensures err { OnErr result (self.new ≡ self.old) }
-        ensures stopped { IfErr result (λ s. (s ≡ NoMemory) ⊎ C.stops s) }
-    {
-        let sought = self.sought(chunks, key, Some(value))?;
-        if sought.standing.is_same() {
-            return Ok(());
-        }
-        let there = sought.standing.is_there();
-        match &mut self.root {
-            Root::Own(node) => return node.write(alloc, chunks, key, value, there),
-            Root::Placed(at) => {
-                let room = room_for(there);
-                let mut node = Node::copied(alloc, chunks, *at, sought.depth, room)?;
-                node.write(alloc, chunks, key, value, there)?;
-                self.root = Root::Own(node);
-                return Ok(());
-            }
         }
     }
 }

@@ -14,6 +14,7 @@ mod leaves;
 mod middles;
 mod paths;
 mod roots;
+mod splits;
 
 use super::Node;
 use group_history::{Stop, Text};

@@ -1,17 +1,20 @@
 //! Keys removed from a map.
-ghost use Rattle.std.specs.Prelude.{◌≡◌, ◌⊎◌, ◌+◌, ◌≤◌, ◌==◌, ℕ, Some, None, IfOk, IfErr, OnOk, OnErr, IsSome, length};
+ghost use Rattle.std.specs.Prelude.{◌≡◌, ◌⊎◌, ◌+◌, ◌≤◌, ◌==◌, [], ℕ, Some, None, IfOk, IfErr, OnOk, OnErr, IsSome, length};
 ghost use mathlib.Core.List.{IsPrefix};
 ghost use Rattle.std.specs.FinMap as finite;
 ghost use Rattle.group_history.specs.Map.{Entries};
+ghost use Rattle.group_history.specs.Refs.{stamp_of};
+ghost use Rattle.group_history.specs.Spelling.{map_at};
 ghost use Rattle.group_history.specs.declared.mutators.Stop.TheVariants.{NoMemory};
-ghost use Rattle.map_tree.specs.Freezing.{AreKept, tree_places};
-ghost use Rattle.map_tree.specs.Trees.{tree_map, tree_depth, tree_fresh, HasWideRoot};
+ghost use Rattle.map_tree.specs.Freezing.{AreKept, root_places, tree_places};
+ghost use Rattle.map_tree.specs.Seeking.{chunk_depth};
+ghost use Rattle.map_tree.specs.Trees.{root_map, root_fresh, root_or, tree_map, tree_depth, tree_fresh, HasWideRoot, IsWide, IsWideAt};
 
 use super::{Root, Tree};
 use crate::chunks::Chunks;
 use crate::nodes::Node;
 use crate::placed::is_empty_placed;
-use group_history::Stop;
+use group_history::{Ref, Stop};
 use std::alloc::Global;
 
 impl Tree {
@@ -68,26 +71,50 @@ impl Tree {
         ensures stopped { IfErr result (λ s. (s ≡ NoMemory) ⊎ C.stops s) }
     {
         match &mut self.root {
-            Root::Own(node) => match node.remove_root(alloc, chunks, key)? {
-                None => return Ok(()),
-                Some(end) => {
-                    self.root = Root::Placed(end);
-                    return Ok(());
-                }
-            },
-            Root::Placed(at) => {
-                let mut node = Node::copied(alloc, chunks, *at, depth, 0)?;
-                match node.remove_root(alloc, chunks, key)? {
-                    None => {
-                        self.root = Root::Own(node);
-                        return Ok(());
-                    }
-                    Some(end) => {
-                        self.root = Root::Placed(end);
-                        return Ok(());
-                    }
-                }
+            Root::Own(node) => {
+                let end = node.remove_root(alloc, chunks, key)?;
+                self.root.give_way(end);
+                return Ok(());
             }
+            Root::Placed(at) => {
+                self.root = root_without(alloc, chunks, *at, depth, key)?;
+                return Ok(());
+            }
+        }
+    }
+}
+
+// The root of a map without a key, where its root was placed and so deep.
+fn root_without<C: Chunks>(
+    alloc: Global,
+    chunks: &mut C,
+    at: Ref,
+    depth: u64,
+    key: &str,
+) -> Result<Root, Stop>
+    requires map { IsSome (map_at (C.contents chunks.old) (stamp_of at)) }
+    requires depth { chunk_depth (C.contents chunks.old) (stamp_of at) ≡ Some depth }
+    ensures grown { IsPrefix (C.contents chunks.old) (C.contents chunks.new) }
+    ensures ok { (m : Entries) → map_at (C.contents chunks.old) (stamp_of at) ≡ Some m → IfOk result (λ root. root_map (C.contents chunks.new) root ≡ Some (finite.remove m key.now)) }
+    ensures few { IfOk result (λ root. root_fresh root ≤ depth) }
+    ensures wide { IsWideAt (C.contents chunks.old) (stamp_of at) → IfOk result (IsWide (C.contents chunks.new)) }
+    ensures places { IfOk result (λ root. AreKept C.Held.shown (C.contents chunks.new) [] (root_places root)) }
+    ensures stopped { IfErr result (λ s. (s ≡ NoMemory) ⊎ C.stops s) }
+{
+    let mut node = Node::copied(alloc, chunks, at, depth, 0)?;
+    let end = node.remove_root(alloc, chunks, key)?;
+    let mut root = Root::Own(node);
+    root.give_way(end);
+    Ok(root)
+}
+
+impl Root {
+    // Gives way to the placed chunk, if there is one.
+    fn give_way(&mut self, end: Option<Ref>)
+        ensures { self.new ≡ root_or end self.old }
+    {
+        if let Some(at) = end {
+            *self = Root::Placed(at);
         }
     }
 }

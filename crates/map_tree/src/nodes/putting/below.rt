@@ -1,13 +1,12 @@
 //! What an inner chunk needs before a row is put below it.
 ghost use Rattle.std.specs.Prelude.{◌≡◌, ◌<◌, ◌≤◌, ◌+◌, [], length, IfOk, IsSome, slice_index_or, vec_items, vec_capacity};
 ghost use Rattle.map_tree.specs.Search.{IsPlace};
-ghost use Rattle.map_tree.specs.Halves.{AreNinth, IsLower};
+ghost use Rattle.map_tree.specs.Halves.{IsLower};
 ghost use Rattle.map_tree.specs.Ready.{IsReady};
 
-use super::super::homes::take_home;
-use super::super::{Child, Node};
-use super::leaves::ninth_copies;
-use crate::entries::{Spare, take_spare};
+use super::super::Child;
+use super::splits::{HalfRoom, take_half_room};
+use crate::entries::Spare;
 use crate::keys::NodeKeys;
 use group_history::Text;
 use std::alloc::{AllocError, Global};
@@ -16,27 +15,25 @@ use std::alloc::{AllocError, Global};
 #[derive(Drop)]
 pub(crate) struct Ready {
     pub(crate) lower: Option<Text>,
-    pub(crate) firsts: Vec<Text>,
-    pub(crate) spare: Spare<Child>,
-    pub(crate) home: Option<Box<Node>>,
+    pub(crate) room: HalfRoom<Child>,
 }
 
 impl Ready {
     /// Where the child isn't split.
     pub(crate) fn of_whole(alloc: Global, lower: Option<Text>) -> Ready
         ensures lower { result.lower ≡ lower }
-        ensures spare { (result.spare.keys.items ≡ []) × (result.spare.entries.items ≡ []) }
+        ensures spare { (result.room.spare.keys.items ≡ []) × (result.room.spare.entries.items ≡ []) }
     {
         let spare = Spare {
             keys: Vec::new(alloc),
             entries: Vec::new(alloc),
         };
-        Ready {
-            lower,
+        let room = HalfRoom {
             firsts: Vec::new(alloc),
             spare,
             home: None,
-        }
+        };
+        Ready { lower, room }
     }
 
     /// Where the child is split. The keys become the chunk's own.
@@ -51,20 +48,12 @@ impl Ready {
         requires place { IsPlace key.now keys.old.texts place }
         ensures texts { keys.new.texts ≡ keys.old.texts }
         ensures lower { IfOk result (λ r. r.lower ≡ lower) }
-        ensures spare { IfOk result (λ r. (r.spare.keys.items ≡ []) × (r.spare.entries.items ≡ [])) }
-        ensures ready { IfOk result (λ r. IsReady copies keys.old.texts keys.new.room place key.now r.firsts.items r.spare r.home) }
+        ensures spare { IfOk result (λ r. (r.room.spare.keys.items ≡ []) × (r.room.spare.entries.items ≡ [])) }
+        ensures ready { IfOk result (λ r. IsReady copies keys.old.texts keys.new.room place key.now r.room) }
     {
-        let len = keys.as_slice().len();
-        let firsts = ninth_copies(alloc, keys.as_slice(), place + 1, key, copies)?;
-        let spare = take_spare(alloc, len)?;
-        let home = take_home(alloc, len)?;
+        let room = take_half_room(alloc, keys.as_slice(), place + 1, key, copies)?;
         keys.make_room(alloc)?;
-        Ok(Ready {
-            lower,
-            firsts,
-            spare,
-            home,
-        })
+        Ok(Ready { lower, room })
     }
 }
 

@@ -1,17 +1,20 @@
 //! A new row in a leaf.
-ghost use Rattle.std.specs.Prelude.{◌≡◌, ◌<◌, ◌≤◌, ◌++◌, length, replicate, IfOk, OnErr, vec_items};
+ghost use Rattle.std.specs.Prelude.{◌≡◌, ◌<◌, ◌≤◌, ◌++◌, [], false, length, replicate, None, IfOk, IfErr, OnOk, OnErr, IsSome, vec_items, vec_len, vec_capacity};
 ghost use Rattle.std.specs.Ordering.{nat_cmp};
 ghost use Rattle.std.specs.Cmp.Lexicographic.{slice_cmp};
 ghost use Rattle.std.specs.FinMap as finite;
 ghost use Rattle.group_history.specs.Rows.{AreKeys, paired};
 ghost use Rattle.map_tree.specs.Nodes.{row_pieces};
+ghost use Rattle.map_tree.specs.Search.{IsAbsent};
 ghost use Rattle.map_tree.specs.Halves.{half_pieces, IsHalf, AreNinth};
 ghost use Rattle.map_tree.specs.Counts.{half_fresh, HasKept};
+ghost use Rattle.map_tree.specs.Unput.{IsUnput};
 
-use super::super::homes::{housed, take_home};
+use super::super::homes::housed;
 use super::super::{Body, Node};
-use super::Half;
-use crate::entries::{MOST, insert_entry, take_spare};
+use super::splits::{HalfRoom, take_half_room};
+use super::{Half, Unput};
+use crate::entries::{MOST, insert_entry, make_room};
 use crate::keys::NodeKeys;
 use crate::search::search;
 use group_history::{Json, Text};
@@ -47,8 +50,36 @@ pub(crate) fn ninth_copies(
     copies_of(alloc, &keys[ninth], count)
 }
 
-/// Puts a row in a leaf's.
-pub(crate) fn put_row(
+/// Puts a row in a leaf's, unless they would be split and may not be.
+pub(crate) fn put_leaf(
+    keys: &mut NodeKeys,
+    values: &mut Vec<Json>,
+    alloc: Global,
+    key: &Text,
+    value: &Json,
+    copies: usize,
+    may_split: bool,
+) -> Result<Option<Half>, Unput>
+    requires keys { AreKeys keys.old.texts }
+    requires pairs { length values.old.items ≡ length keys.old.texts }
+    ensures rows { IfOk result (λ half. row_pieces (paired keys.new.texts values.new.items) ++ half_pieces half ≡ row_pieces (finite.put (slice_cmp nat_cmp) key.now value.now (paired keys.old.texts values.old.items))) }
+    ensures half { IfOk result (IsHalf copies 1) }
+    ensures leaf { OnOk result (AreKeys keys.new.texts × (length values.new.items ≡ length keys.new.texts) × (0 < length keys.new.texts)) }
+    ensures fresh { IfOk result (λ half. half_fresh half ≤ 1) }
+    ensures entries { IfOk result (HasKept (length keys.old.texts) (length keys.new.texts)) }
+    ensures whole { may_split ≡ false → IfOk result (λ half. half ≡ None) }
+    ensures err { OnErr result ((keys.new.texts ≡ keys.old.texts) × (values.new.items ≡ values.old.items)) }
+    ensures unput { IfErr result (IsUnput (λ _. ⊥) may_split) }
+{
+    if !may_split && keys.as_slice().len() >= MOST {
+        return Err(Unput::Full);
+    }
+    let value = value.clone()?;
+    Ok(put_row(keys, values, alloc, key, value, copies)?)
+}
+
+// Puts a row in a leaf's.
+fn put_row(
     keys: &mut NodeKeys,
     values: &mut Vec<Json>,
     alloc: Global,
@@ -65,31 +96,80 @@ pub(crate) fn put_row(
     ensures entries { IfOk result (HasKept (length keys.old.texts) (length keys.new.texts)) }
     ensures err { OnErr result ((keys.new.texts ≡ keys.old.texts) × (values.new.items ≡ values.old.items)) }
 {
-    let place = match search(keys.as_slice(), key.as_str()) {
+    match search(keys.as_slice(), key.as_str()) {
         Ok(place) => {
             values[place] = value;
             return Ok(None);
         }
-        Err(place) => place,
-    };
-    let firsts = ninth_copies(alloc, keys.as_slice(), place, key, copies)?;
-    let spare = take_spare(alloc, values.len())?;
-    let home = take_home(alloc, values.len())?;
-    let text = key.clone()?;
-    values.reserve(1)?;
-    keys.make_room(alloc)?;
-    match insert_entry(keys, values, place, text, value, spare) {
-        None => Ok(None),
-        Some((keys, values)) => {
-            let upper = Node {
-                depth: 1,
-                keys,
-                body: Body::Leaf(values),
-            };
-            Ok(Some(Half {
-                firsts,
-                node: housed(home, upper),
-            }))
-        }
+        Err(place) => return insert_row(keys, values, place, alloc, key, value, copies),
     }
+}
+
+// Puts a row whose key is new before the one at the place.
+fn insert_row(
+    keys: &mut NodeKeys,
+    values: &mut Vec<Json>,
+    place: usize,
+    alloc: Global,
+    key: &Text,
+    value: Json,
+    copies: usize,
+) -> Result<Option<Half>, AllocError>
+    requires keys { AreKeys keys.old.texts }
+    requires pairs { length values.old.items ≡ length keys.old.texts }
+    requires absent { IsAbsent key.now keys.old.texts place }
+    ensures rows { IfOk result (λ half. row_pieces (paired keys.new.texts values.new.items) ++ half_pieces half ≡ row_pieces (finite.put (slice_cmp nat_cmp) key.now value (paired keys.old.texts values.old.items))) }
+    ensures half { IfOk result (IsHalf copies 1) }
+    ensures leaf { IfOk result (λ half. AreKeys keys.new.texts × (length values.new.items ≡ length keys.new.texts) × (0 < length keys.new.texts)) }
+    ensures fresh { IfOk result (λ half. half_fresh half ≤ 1) }
+    ensures entries { IfOk result (HasKept (length keys.old.texts) (length keys.new.texts)) }
+    ensures err { OnErr result ((keys.new.texts ≡ keys.old.texts) × (values.new.items ≡ values.old.items)) }
+{
+    let room = take_half_room(alloc, keys.as_slice(), place, key, copies)?;
+    let text = key.clone()?;
+    make_room(keys, values, alloc)?;
+    Ok(settle_row(keys, values, place, text, value, room, copies))
+}
+
+// Puts a row in the room made for it, and splits the rows where they are 17 then.
+fn settle_row(
+    keys: &mut NodeKeys,
+    values: &mut Vec<Json>,
+    place: usize,
+    key: Text,
+    value: Json,
+    room: HalfRoom<Json>,
+    copies: usize,
+) -> Option<Half>
+    requires keys { AreKeys keys.old.texts }
+    requires pairs { length values.old.items ≡ length keys.old.texts }
+    requires absent { IsAbsent key keys.old.texts place }
+    requires room { (0 < keys.old.room) × (vec_len values.old < vec_capacity values.old) }
+    requires firsts { AreNinth copies keys.old.texts place key room.firsts.items }
+    requires empty { (room.spare.keys.items ≡ []) × (room.spare.entries.items ≡ []) }
+    requires spare { 16 ≤ length keys.old.texts → (17 ≤ vec_capacity room.spare.keys) × (17 ≤ vec_capacity room.spare.entries) }
+    requires home { 16 ≤ length keys.old.texts → IsSome room.home }
+    ensures rows { row_pieces (paired keys.new.texts values.new.items) ++ half_pieces result ≡ row_pieces (finite.put (slice_cmp nat_cmp) key value (paired keys.old.texts values.old.items)) }
+    ensures half { IsHalf copies 1 result }
+    ensures leaf { AreKeys keys.new.texts × (length values.new.items ≡ length keys.new.texts) × (0 < length keys.new.texts) }
+    ensures fresh { half_fresh result ≤ 1 }
+    ensures entries { HasKept (length keys.old.texts) (length keys.new.texts) result }
+{
+    let HalfRoom {
+        firsts,
+        spare,
+        home,
+    } = room;
+    let Some((upper_keys, upper)) = insert_entry(keys, values, place, key, value, spare) else {
+        return None;
+    };
+    let upper = Node {
+        depth: 1,
+        keys: upper_keys,
+        body: Body::Leaf(upper),
+    };
+    Some(Half {
+        firsts,
+        node: housed(home, upper),
+    })
 }

@@ -9,7 +9,8 @@ ghost use Rattle.map_tree.specs.Counts.{half_fresh, HasKept};
 use super::super::homes::housed;
 use super::super::{Body, Child, Node};
 use super::Half;
-use crate::entries::{Spare, insert_entry};
+use super::splits::HalfRoom;
+use crate::entries::insert_entry;
 use crate::keys::NodeKeys;
 use group_history::Text;
 
@@ -31,9 +32,7 @@ pub(crate) fn finish(
     kids: &mut Vec<Child>,
     place: usize,
     depth: u64,
-    firsts: Vec<Text>,
-    spare: Spare<Child>,
-    home: Option<Box<Node>>,
+    room: HalfRoom<Child>,
     half: Option<Half>,
     copies: usize,
 ) -> Option<Half>
@@ -42,13 +41,13 @@ pub(crate) fn finish(
     requires within { place < length keys.old.texts }
     requires above { 0 < depth }
     requires kids_room { vec_len kids.old < vec_capacity kids.old }
-    requires room { IsSome half → 0 < keys.old.room }
-    requires spare_keys { spare.keys.items ≡ [] }
-    requires spare_entries { spare.entries.items ≡ [] }
-    requires spare_room { IsSome half → 16 ≤ length keys.old.texts → (17 ≤ vec_capacity spare.keys) × (17 ≤ vec_capacity spare.entries) }
-    requires home { IsSome half → 16 ≤ length keys.old.texts → IsSome home }
+    requires keys_room { IsSome half → 0 < keys.old.room }
+    requires spare_keys { room.spare.keys.items ≡ [] }
+    requires spare_entries { room.spare.entries.items ≡ [] }
+    requires spare_room { IsSome half → 16 ≤ length keys.old.texts → (17 ≤ vec_capacity room.spare.keys) × (17 ≤ vec_capacity room.spare.entries) }
+    requires home { IsSome half → 16 ≤ length keys.old.texts → IsSome room.home }
     requires half { IsHalf (copies + 1) (depth - 1) half }
-    requires firsts { IsSome half → (key : Bytes) → (place + 1 ≡ 8 → ⊥) → AreNinth copies keys.old.texts (place + 1) key firsts.items }
+    requires firsts { IsSome half → (key : Bytes) → (place + 1 ≡ 8 → ⊥) → AreNinth copies keys.old.texts (place + 1) key room.firsts.items }
     requires kids { AllKids (depth - 1) (with_half place half (paired keys.old.texts kids.old.items)) }
     requires order { T (rises (keys_of (with_half place half (paired keys.old.texts kids.old.items)))) }
     ensures shape { Finished depth copies (with_half place half (paired keys.old.texts kids.old.items)) keys.new.texts kids.new.items result }
@@ -66,6 +65,11 @@ pub(crate) fn finish(
     let Some(first) = given.pop() else {
         return None;
     };
+    let HalfRoom {
+        firsts,
+        spare,
+        home,
+    } = room;
     let Some((upper_keys, upper)) = insert_entry(
         keys,
         kids,

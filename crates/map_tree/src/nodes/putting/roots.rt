@@ -1,5 +1,5 @@
 //! A put in a whole map: where its root is split, a new root stands above both halves.
-ghost use Rattle.std.specs.Prelude.{◌≡◌, ◌⊎◌, ◌<◌, ◌≤◌, ◌+◌, ◌*◌, ◌^◌, ◌++◌, [], length, Some, IfOk, IfErr, OnOk, OnErr, T, vec_items, vec_len, vec_capacity};
+ghost use Rattle.std.specs.Prelude.{◌≡◌, ◌⊎◌, ◌<◌, ◌≤◌, ◌+◌, ◌*◌, ◌^◌, ◌++◌, [], length, Some, IsSome, IfOk, IfErr, OnOk, OnErr, T, vec_items, vec_len, vec_capacity};
 ghost use mathlib.Core.List.{IsPrefix};
 ghost use Rattle.std.specs.Ordering.{nat_cmp};
 ghost use Rattle.std.specs.Cmp.Lexicographic.{slice_cmp};
@@ -7,7 +7,8 @@ ghost use Rattle.std.specs.FinMap as finite;
 ghost use Rattle.group_history.specs.declared.mutators.Stop.TheVariants.{NoMemory};
 ghost use Rattle.map_tree.specs.Shown.{shown, IsTree, rows_or};
 ghost use Rattle.map_tree.specs.Nodes.{HeadIs};
-ghost use Rattle.map_tree.specs.Halves.{IsHalf, least, AreInOrder};
+ghost use Rattle.map_tree.specs.Halves.{half_pieces, IsHalf, least, AreInOrder, HeadsBoth};
+ghost use Rattle.map_tree.specs.Counts.{half_fresh, HasKept};
 ghost use Rattle.map_tree.specs.Freezing.{AreKept, places_of};
 ghost use Rattle.map_tree.specs.Trees.{IsWideChunk};
 
@@ -32,6 +33,28 @@ fn least_key(keys: &[Text], key: &Text) -> Result<Option<Text>, AllocError>
         return Ok(Some(key.clone()?));
     }
     Ok(Some(keys[0].clone()?))
+}
+
+// What a root above a chunk and its upper half needs: its first key, room for itself, and room for the
+// chunk as its child.
+#[derive(Drop)]
+struct Above {
+    first: Option<Text>,
+    spare: Spare<Child>,
+    home: Option<Box<Node>>,
+}
+
+// All of it, where the chunk with these keys may be split.
+fn take_above(alloc: Global, keys: &[Text], key: &Text) -> Result<Above, AllocError>
+    ensures first { IfOk result (λ a. 16 ≤ length keys.now → a.first ≡ Some (least key.now keys.now)) }
+    ensures empty { IfOk result (λ a. (a.spare.keys.items ≡ []) × (a.spare.entries.items ≡ [])) }
+    ensures spare { IfOk result (λ a. 16 ≤ length keys.now → (17 ≤ vec_capacity a.spare.keys) × (17 ≤ vec_capacity a.spare.entries)) }
+    ensures home { IfOk result (λ a. 16 ≤ length keys.now → IsSome a.home) }
+{
+    let first = least_key(keys, key)?;
+    let spare = take_spare(alloc, keys.len())?;
+    let home = take_home(alloc, keys.len())?;
+    Ok(Above { first, spare, home })
 }
 
 // A root above both halves, made in the room that was taken for it.
@@ -117,19 +140,58 @@ impl Node {
         ensures err { OnErr result (self.new ≡ self.old) }
         ensures stopped { IfErr result (λ s. (s ≡ NoMemory) ⊎ C.stops s) }
     {
-        let first = least_key(self.keys.as_slice(), key)?;
-        let len = self.keys.as_slice().len();
-        let room = take_spare(alloc, len)?;
-        let home = take_home(alloc, len)?;
+        let above = take_above(alloc, self.keys.as_slice(), key)?;
+        let Some(half) = self.put_anyway(alloc, chunks, key, value)? else {
+            drop(above);
+            return Ok(());
+        };
+        self.rise(alloc, half, above);
+        Ok(())
+    }
+
+    // Puts a row in the chunk, which may be split, and so is never refused as full.
+    fn put_anyway<C: Chunks>(
+        &mut self,
+        alloc: Global,
+        chunks: &mut C,
+        key: &Text,
+        value: &Json,
+    ) -> Result<Option<Half>, Stop>
+        requires tree { IsTree (shown (C.contents chunks.old) self.old.pieces) }
+        requires depth { self.old.depth + 1 < 2 ^ 64 }
+        ensures grown { IsPrefix (C.contents chunks.old) (C.contents chunks.new) }
+        ensures depth { self.new.depth ≡ self.old.depth }
+        ensures done { IfOk result (λ half. shown (C.contents chunks.new) (self.new.pieces ++ half_pieces half) ≡ Some (finite.put (slice_cmp nat_cmp) key.now value.now (rows_or (shown (C.contents chunks.old) self.old.pieces)))) }
+        ensures half { IfOk result (IsHalf 1 self.old.depth) }
+        ensures places { IfOk result (λ half. AreKept C.Held.shown (C.contents chunks.new) (places_of self.old.pieces) (places_of (self.new.pieces ++ half_pieces half))) }
+        ensures fresh { IfOk result (λ half. self.new.fresh + half_fresh half < self.old.fresh + 2 * self.old.depth) }
+        ensures entries { IfOk result (HasKept self.old.entries self.new.entries) }
+        ensures filled { OnOk result (0 < length self.new.pieces) }
+        ensures err { OnErr result (self.new ≡ self.old) }
+        ensures stopped { IfErr result (λ s. (s ≡ NoMemory) ⊎ C.stops s) }
+    {
         match self.put(alloc, chunks, key, value, 1, true) {
-            Ok(None) => return Ok(()),
-            Ok(Some(half)) => {
-                let lower = housed(home, mem::replace(self, Node::empty(alloc)));
-                *self = root_above(lower, half, first.unwrap(), room);
-                return Ok(());
-            }
+            Ok(half) => return Ok(half),
             Err(Unput::Stopped(stop)) => return Err(stop),
             Err(Unput::Full) => unreachable!(),
         }
+    }
+
+    // Makes the chunk a root above both halves, of which it was the lower one.
+    fn rise(&mut self, alloc: Global, half: Half, above: Above)
+        requires depth { self.old.depth + 1 < 2 ^ 64 }
+        requires half { IsHalf 1 self.old.depth (Some half) }
+        requires first { HeadsBoth above.first self.old.pieces half.node.value.pieces }
+        requires keys { (above.spare.keys.items ≡ []) × (17 ≤ vec_capacity above.spare.keys) }
+        requires kids { (above.spare.entries.items ≡ []) × (17 ≤ vec_capacity above.spare.entries) }
+        requires home { IsSome above.home }
+        ensures pieces { self.new.pieces ≡ self.old.pieces ++ half.node.value.pieces }
+        ensures depth { self.new.depth ≡ self.old.depth + 1 }
+        ensures fresh { self.new.fresh ≡ self.old.fresh + half.node.value.fresh + 1 }
+        ensures entries { self.new.entries ≡ 2 }
+    {
+        let Above { first, spare, home } = above;
+        let lower = housed(home, mem::replace(self, Node::empty(alloc)));
+        *self = root_above(lower, half, first.unwrap(), spare);
     }
 }

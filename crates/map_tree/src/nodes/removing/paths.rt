@@ -5,8 +5,8 @@ ghost use Rattle.group_history.specs.Rows.{AreKeys, paired};
 ghost use Rattle.group_history.specs.declared.mutators.Stop.TheVariants.{NoMemory};
 ghost use Rattle.map_tree.specs.Freezing.{AreKept, kids_places, places_of};
 ghost use Rattle.map_tree.specs.Halves.{lowered};
-ghost use Rattle.map_tree.specs.Nodes.{IsNode, body_pieces, body_fresh, child_rows};
-ghost use Rattle.map_tree.specs.Removing.{without, IsFate, HasOthers, AreLeft, CanRemove, ChildRemoved};
+ghost use Rattle.map_tree.specs.Nodes.{ChildChanged, IsNode, body_pieces, body_fresh, child_rows};
+ghost use Rattle.map_tree.specs.Removing.{without, IsFate, HasOthers, AreLeft, CanRemove};
 ghost use Rattle.map_tree.specs.Scanning.{kid_shown};
 ghost use Rattle.map_tree.specs.Search.{IsPlace};
 ghost use Rattle.map_tree.specs.Shown.{shown, IsTree, rows_or};
@@ -77,7 +77,7 @@ fn remove_child<C: Chunks>(
     requires within { place < length kids.old.items }
     requires tree { (c : Childs) → slice_get kids.old.items place ≡ Some c → CanRemove (C.contents chunks.old) below key.now c }
     ensures grown { IsPrefix (C.contents chunks.old) (C.contents chunks.new) }
-    ensures done { (c : Childs) → slice_get kids.old.items place ≡ Some c → OnOk result (ChildRemoved (C.contents chunks.new) below place kids.old.items kids.new.items c (Some (without key.now (rows_or (child_rows (C.contents chunks.old) below c))))) }
+    ensures done { (c : Childs) → slice_get kids.old.items place ≡ Some c → OnOk result (ChildChanged (C.contents chunks.new) below place kids.old.items kids.new.items c (Some (without key.now (rows_or (child_rows (C.contents chunks.old) below c))))) }
     ensures places { OnOk result (AreKept C.Held.shown (C.contents chunks.new) (kids_places kids.old.items) (kids_places kids.new.items)) }
     ensures err { OnErr result (kids.new.items ≡ kids.old.items) }
     ensures stopped { IfErr result (λ s. (s ≡ NoMemory) ⊎ C.stops s) }

@@ -1,16 +1,22 @@
 //! A removal in a whole map: a root with fewer than two children gives way to what its last child ends in.
-ghost use Rattle.std.specs.Prelude.{◌≡◌, ◌⊎◌, ◌<◌, ◌≤◌, ◌+◌, length, None, Some, IsSome, IfOk, IfErr, OnOk, OnErr, vec_items};
+ghost use Rattle.std.specs.Prelude.{◌≡◌, ◌⊎◌, ◌<◌, ◌≤◌, ◌+◌, [], length, slice_get, slice_index_or, None, Some, IsSome, IfOk, IfErr, OnOk, OnErr, vec_items};
 ghost use mathlib.Core.List.{IsPrefix};
 ghost use Rattle.std.specs.List.{remove};
 ghost use Rattle.group_history.specs.declared.mutators.Stop.TheVariants.{NoMemory};
 ghost use Rattle.map_tree.specs.Ends as ends;
 ghost use Rattle.map_tree.specs.Ends.{end_of_pieces, IsKidEnd, IsTaken};
+ghost use Rattle.map_tree.specs.Nodes.{IsNode, body_pieces, kids_fresh};
 ghost use Rattle.map_tree.specs.Trees.{IsWideChunk};
+ghost use Rattle.map_tree.specs.declared.nodes.Body.TheVariants as body;
+ghost use Rattle.map_tree.specs.declared.nodes.removing.Heir.TheVariants as heirs;
+ghost use Rattle.group_history.specs.declared.refs.Ref.{Ref as Reference};
 ghost use Rattle.map_tree.specs.Freezing.{AreKept, child_places, kids_places, places_of};
 ghost use Rattle.map_tree.specs.Removing as removals;
-ghost use Rattle.map_tree.specs.Removing.{end_places, heir_places, root_left, without, one_shown, IsHeir, KeptBy, root_rows, IsWideRoot};
+ghost use Rattle.map_tree.specs.Removing.{end_places, heir_places, left_fresh, left_places, left_rows, root_left, without, one_shown, IsFate, IsHeir, KeptBy, root_rows, IsWideLeft, IsWideRoot};
 ghost use Rattle.map_tree.specs.Scanning.{kid_shown};
+ghost use Rattle.map_tree.specs.Search.{IsPlace};
 ghost use Rattle.map_tree.specs.Shown.{shown, IsTree, rows_or};
+ghost use Rattle.map_tree.specs.declared.nodes.Child.{Child as Childs};
 
 use super::super::{Body, Child, Node};
 use super::fates::fate_of;
@@ -18,6 +24,7 @@ use super::paths::{remove_at, remove_row};
 use super::{Fate, Heir};
 use crate::chunks::Chunks;
 use crate::ends::end_placed;
+use crate::keys::NodeKeys;
 use crate::search::place_of;
 use group_history::{Ref, Stop};
 use std::alloc::Global;
@@ -148,6 +155,67 @@ fn heir<C: Chunks>(
     }
 }
 
+// Removes a key below a root with these keys and children. Answers the root's heir where fewer than two
+// children would stay.
+fn remove_inner<C: Chunks>(
+    keys: &mut NodeKeys,
+    kids: &mut Vec<Child>,
+    depth: u64,
+    alloc: Global,
+    chunks: &mut C,
+    key: &str,
+) -> Result<Option<Heir>, Stop>
+    requires node { IsNode depth keys.old.texts (body.Inner kids.old) }
+    requires tree { IsTree (shown (C.contents chunks.old) (body_pieces depth keys.old.texts (body.Inner kids.old))) }
+    ensures grown { IsPrefix (C.contents chunks.old) (C.contents chunks.new) }
+    ensures node { IfOk result (λ heir. heir ≡ None → IsNode depth keys.new.texts (body.Inner kids.new)) }
+    ensures done { IfOk result (λ heir. left_rows (C.contents chunks.new) depth keys.new.texts kids.new.items heir ≡ Some (without key.now (rows_or (shown (C.contents chunks.old) (body_pieces depth keys.old.texts (body.Inner kids.old)))))) }
+    ensures few { IfOk result (λ heir. left_fresh kids.new.items heir ≤ kids_fresh kids.old.items + depth) }
+    ensures wide { IfOk result (IsWideLeft (C.contents chunks.new) (length keys.old.texts) (length keys.new.texts)) }
+    ensures places { IfOk result (λ heir. AreKept C.Held.shown (C.contents chunks.new) (kids_places kids.old.items) (left_places kids.new.items heir)) }
+    ensures kept { IfOk result (λ heir. (at : Reference) → heir ≡ Some (heirs.Placed at) → (keys.new.texts ≡ keys.old.texts) × (kids.new.items ≡ kids.old.items)) }
+    ensures err { OnErr result ((keys.new.texts ≡ keys.old.texts) × (kids.new.items ≡ kids.old.items)) }
+    ensures stopped { IfErr result (λ s. (s ≡ NoMemory) ⊎ C.stops s) }
+{
+    let texts = keys.as_slice();
+    let place = place_of(texts, key);
+    let fate = fate_of(chunks, &texts[place], &kids[place], key)?;
+    remove_fated(keys, kids, depth, place, fate, alloc, chunks, key)
+}
+
+// Removes a key below the child at the place, whose fate is known.
+fn remove_fated<C: Chunks>(
+    keys: &mut NodeKeys,
+    kids: &mut Vec<Child>,
+    depth: u64,
+    place: usize,
+    fate: Fate,
+    alloc: Global,
+    chunks: &mut C,
+    key: &str,
+) -> Result<Option<Heir>, Stop>
+    requires node { IsNode depth keys.old.texts (body.Inner kids.old) }
+    requires tree { IsTree (shown (C.contents chunks.old) (body_pieces depth keys.old.texts (body.Inner kids.old))) }
+    requires place { IsPlace key.now keys.old.texts place }
+    requires fate { (c : Childs) → slice_get kids.old.items place ≡ Some c → IsFate key.now (slice_index_or keys.old.texts place []) (rows_or (kid_shown (C.contents chunks.old) c)) fate }
+    ensures grown { IsPrefix (C.contents chunks.old) (C.contents chunks.new) }
+    ensures node { IfOk result (λ heir. heir ≡ None → IsNode depth keys.new.texts (body.Inner kids.new)) }
+    ensures done { IfOk result (λ heir. left_rows (C.contents chunks.new) depth keys.new.texts kids.new.items heir ≡ Some (without key.now (rows_or (shown (C.contents chunks.old) (body_pieces depth keys.old.texts (body.Inner kids.old)))))) }
+    ensures few { IfOk result (λ heir. left_fresh kids.new.items heir ≤ kids_fresh kids.old.items + depth) }
+    ensures wide { IfOk result (IsWideLeft (C.contents chunks.new) (length keys.old.texts) (length keys.new.texts)) }
+    ensures places { IfOk result (λ heir. AreKept C.Held.shown (C.contents chunks.new) (kids_places kids.old.items) (left_places kids.new.items heir)) }
+    ensures kept { IfOk result (λ heir. (at : Reference) → heir ≡ Some (heirs.Placed at) → (keys.new.texts ≡ keys.old.texts) × (kids.new.items ≡ kids.old.items)) }
+    ensures err { OnErr result ((keys.new.texts ≡ keys.old.texts) × (kids.new.items ≡ kids.old.items)) }
+    ensures stopped { IfErr result (λ s. (s ≡ NoMemory) ⊎ C.stops s) }
+{
+    if gives_way(&fate, kids.len()) {
+        let heir = heir(kids, place, alloc, chunks)?;
+        return Ok(Some(heir));
+    }
+    remove_at(keys, kids, depth, place, fate, alloc, chunks, key)?;
+    Ok(None)
+}
+
 impl Node {
     /// Removes a key, if it is there, from the map whose root the chunk is. Answers a placed chunk where
     /// that is the root from now on.
@@ -172,29 +240,14 @@ impl Node {
                 return Ok(None);
             }
             Body::Inner(kids) => {
-                let texts = self.keys.as_slice();
-                let place = place_of(texts, key);
-                let fate = fate_of(chunks, &texts[place], &kids[place], key)?;
-                if gives_way(&fate, kids.len()) {
-                    match heir(kids, place, alloc, chunks)? {
-                        Heir::Placed(at) => return Ok(Some(at)),
-                        Heir::Own(node) => {
-                            *self = node;
-                            return Ok(None);
-                        }
+                match remove_inner(&mut self.keys, kids, self.depth, alloc, chunks, key)? {
+                    None => return Ok(None),
+                    Some(Heir::Placed(at)) => return Ok(Some(at)),
+                    Some(Heir::Own(node)) => {
+                        *self = node;
+                        return Ok(None);
                     }
                 }
-                remove_at(
-                    &mut self.keys,
-                    kids,
-                    self.depth,
-                    place,
-                    fate,
-                    alloc,
-                    chunks,
-                    key,
-                )?;
-                return Ok(None);
             }
         }
     }

@@ -65,7 +65,7 @@ returns-clause-shape c =
         (
           get_or (keys_of es) 8 [],
           subst (λ (s : Seen). HeadIs (get_or (keys_of es) 8 []) s.pieces) (sym c.housed.ensures) b.head,
-          chosen_are c.args.place c.args.copies c.in-Some-pop.first (get_or (keys_of es) 8 []) (get_or (insert keys (c.args.place + 1) c.in-Some-pop.first) 8 []) c.pop.new.self.items c.args.firsts.items c.chosen.result.items
+          chosen_are c.args.place c.args.copies c.in-Some-pop.first (get_or (keys_of es) 8 []) (get_or (insert keys (c.args.place + 1) c.in-Some-pop.first) 8 []) c.pop.new.self.items c.args.room.firsts.items c.chosen.result.items
               n p.given_are p.at_eight c.chosen.ensures.at c.chosen.ensures.other (λ z. c.requires.firsts (subst IsSome (sym c.in-Some.is) refl) c.in-Some-pop.first z full c.in-Some-pop.first (λ y. refl)),
         ),
       ),

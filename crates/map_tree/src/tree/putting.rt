@@ -1,0 +1,110 @@
+//! Values put in a map.
+ghost use Rattle.std.specs.Prelude.{◌≡◌, ◌⊎◌, ◌+◌, ◌≤◌, [], ℕ, true, Some, IfOk, IfErr, OnOk, OnErr, IsSome, is_some};
+ghost use mathlib.Core.List.{IsPrefix};
+ghost use Rattle.std.specs.FinMap as finite;
+ghost use Rattle.group_history.specs.Map.{Entries};
+ghost use Rattle.group_history.specs.Refs.{stamp_of};
+ghost use Rattle.group_history.specs.Spelling.{map_at};
+ghost use Rattle.group_history.specs.declared.mutators.Stop.TheVariants.{NoMemory};
+ghost use Rattle.map_tree.specs.Freezing.{AreKept, root_places, tree_places};
+ghost use Rattle.map_tree.specs.Seeking.{chunk_depth};
+ghost use Rattle.map_tree.specs.Trees.{root_map, root_depth, root_fresh, tree_map, tree_depth, tree_fresh, HasWideRoot, IsWide, IsWideAt};
+
+use super::{Root, Tree};
+use crate::chunks::Chunks;
+use crate::nodes::{Node, room_for};
+use group_history::{Json, Ref, Stop};
+use std::alloc::Global;
+
+impl Tree {
+    /// Puts a value at a key. New are only the chunks on the way to it and those that a split adds, and
+    /// none where the value is there already; placed chunks are copied first. Where it stops, the map is
+    /// as it was.
+    pub fn put<C: Chunks>(
+        &mut self,
+        alloc: Global,
+        chunks: &mut C,
+        key: &str,
+        value: &Json,
+    ) -> Result<(), Stop>
+        requires { IsSome (tree_map (C.contents chunks.old) self.old) }
+        ensures grown { IsPrefix (C.contents chunks.old) (C.contents chunks.new) }
+        ensures ok { (m : Entries) → tree_map (C.contents chunks.old) self.old ≡ Some m → OnOk result (tree_map (C.contents chunks.new) self.new ≡ Some (finite.insert m key.now value.now)) }
+        ensures few { (d : ℕ) → tree_depth (C.contents chunks.old) self.old ≡ Some d → OnOk result (tree_fresh self.new ≤ tree_fresh self.old + d + d + 1) }
+        ensures replaced { (m : Entries) (d : ℕ) → tree_map (C.contents chunks.old) self.old ≡ Some m → tree_depth (C.contents chunks.old) self.old ≡ Some d → IsSome (finite.get m key.now) → OnOk result (tree_fresh self.new ≤ tree_fresh self.old + d) }
+        ensures deep { (d : ℕ) → tree_depth (C.contents chunks.old) self.old ≡ Some d → OnOk result ((e : ℕ) × (tree_depth (C.contents chunks.new) self.new ≡ Some e) × (d ≤ e) × (e ≤ d + 1)) }
+        ensures wide { HasWideRoot (C.contents chunks.old) self.old → OnOk result (HasWideRoot (C.contents chunks.new) self.new) }
+        ensures places { OnOk result (AreKept C.Held.shown (C.contents chunks.new) (tree_places self.old) (tree_places self.new)) }
+        ensures same { (m : Entries) → tree_map (C.contents chunks.old) self.old ≡ Some m → finite.get m key.now ≡ Some value.now → OnOk result (self.new ≡ self.old) }
+        ensures err { OnErr result (self.new ≡ self.old) }
+        ensures stopped { IfErr result (λ s. (s ≡ NoMemory) ⊎ C.stops s) }
+    {
+        let sought = self.sought(chunks, key, Some(value))?;
+        if sought.standing.is_same() {
+            return Ok(());
+        }
+        let there = sought.standing.is_there();
+        self.write(alloc, chunks, key, value, sought.depth, there)
+    }
+
+    // Puts a value at a key on a path of chunks that are the tree's own from then on. The tree is so deep;
+    // `there` says whether the key is there.
+    fn write<C: Chunks>(
+        &mut self,
+        alloc: Global,
+        chunks: &mut C,
+        key: &str,
+        value: &Json,
+        depth: u64,
+        there: bool,
+    ) -> Result<(), Stop>
+        requires map { IsSome (tree_map (C.contents chunks.old) self.old) }
+        requires depth { tree_depth (C.contents chunks.old) self.old ≡ Some depth }
+        requires there { (m : Entries) → tree_map (C.contents chunks.old) self.old ≡ Some m → there ≡ is_some (finite.get m key.now) }
+        ensures grown { IsPrefix (C.contents chunks.old) (C.contents chunks.new) }
+        ensures ok { (m : Entries) → tree_map (C.contents chunks.old) self.old ≡ Some m → OnOk result (tree_map (C.contents chunks.new) self.new ≡ Some (finite.insert m key.now value.now)) }
+        ensures few { OnOk result (tree_fresh self.new ≤ tree_fresh self.old + depth + depth + 1) }
+        ensures replaced { there ≡ true → OnOk result (tree_fresh self.new ≤ tree_fresh self.old + depth) }
+        ensures deep { OnOk result ((e : ℕ) × (tree_depth (C.contents chunks.new) self.new ≡ Some e) × (depth ≤ e) × (e ≤ depth + 1)) }
+        ensures wide { HasWideRoot (C.contents chunks.old) self.old → OnOk result (HasWideRoot (C.contents chunks.new) self.new) }
+        ensures places { OnOk result (AreKept C.Held.shown (C.contents chunks.new) (tree_places self.old) (tree_places self.new)) }
+        ensures err { OnErr result (self.new ≡ self.old) }
+        ensures stopped { IfErr result (λ s. (s ≡ NoMemory) ⊎ C.stops s) }
+    {
+        match &mut self.root {
+            Root::Own(node) => return node.write(alloc, chunks, key, value, there),
+            Root::Placed(at) => {
+                let root = root_with(alloc, chunks, *at, depth, key, value, there)?;
+                self.root = root;
+                return Ok(());
+            }
+        }
+    }
+}
+
+// The root of a map with a value put at a key, where its root was placed and so deep.
+fn root_with<C: Chunks>(
+    alloc: Global,
+    chunks: &mut C,
+    at: Ref,
+    depth: u64,
+    key: &str,
+    value: &Json,
+    there: bool,
+) -> Result<Root, Stop>
+    requires map { IsSome (map_at (C.contents chunks.old) (stamp_of at)) }
+    requires depth { chunk_depth (C.contents chunks.old) (stamp_of at) ≡ Some depth }
+    requires there { (m : Entries) → map_at (C.contents chunks.old) (stamp_of at) ≡ Some m → there ≡ is_some (finite.get m key.now) }
+    ensures grown { IsPrefix (C.contents chunks.old) (C.contents chunks.new) }
+    ensures ok { (m : Entries) → map_at (C.contents chunks.old) (stamp_of at) ≡ Some m → IfOk result (λ root. root_map (C.contents chunks.new) root ≡ Some (finite.insert m key.now value.now)) }
+    ensures few { IfOk result (λ root. root_fresh root ≤ depth + depth + 1) }
+    ensures replaced { there ≡ true → IfOk result (λ root. root_fresh root ≤ depth) }
+    ensures deep { IfOk result (λ root. (e : ℕ) × (root_depth (C.contents chunks.new) root ≡ Some e) × (depth ≤ e) × (e ≤ depth + 1)) }
+    ensures wide { IsWideAt (C.contents chunks.old) (stamp_of at) → IfOk result (IsWide (C.contents chunks.new)) }
+    ensures places { IfOk result (λ root. AreKept C.Held.shown (C.contents chunks.new) [] (root_places root)) }
+    ensures stopped { IfErr result (λ s. (s ≡ NoMemory) ⊎ C.stops s) }
+{
+    let mut node = Node::copied(alloc, chunks, at, depth, room_for(there))?;
+    node.write(alloc, chunks, key, value, there)?;
+    Ok(Root::Own(node))
+}
