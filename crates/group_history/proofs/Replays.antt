@@ -1,26 +1,26 @@
 -- Replaying one mutation more.
 use Rattle.std.proofs.Common.{◌≡◌, List, [], ◌∷◌, ◌++◌, refl, sym, ap, ◌∙◌}
 use Rattle.group_history.specs.declared.mutations.Mutation.{Mutation}
-use Rattle.group_history.specs.declared.mutators.Ran.TheVariants as ran
+use Rattle.std.specs.Prelude.{Ok}
 use Rattle.group_history.specs.Map.{Bytes, Entries}
 use Rattle.group_history.specs.Meaning.{Meaning, Meanings, unknown, refuses, done, left_by}
 use Rattle.group_history.specs.State.{replayed, replayed_once}
-use Rattle.group_history.specs.Ran.{RunsAs}
+use Rattle.group_history.specs.Mutating.{map_of}
 
 pub replayed-append : (means : Meanings) (m : Entries) (xs ys : List Mutation) → replayed means m (xs ++ ys) ≡ replayed means (replayed means m xs) ys
 replayed-append means m [] ys = refl
 replayed-append means m (x ∷ xs) ys = replayed-append means (replayed_once means m x) xs ys
 
--- what a run that is done leaves is what its meaning leaves
-left_of_done : (meaning : Meaning) (m left : Entries) → RunsAs meaning ran.Done left → left ≡ left_by meaning m
-left_of_done unknown m left h = absurd h
-left_of_done (refuses code) m left h = absurd h
-left_of_done (done n) m left h = h
+-- the map that a mutation leaves is what its meaning leaves
+left_of_done : (meaning : Meaning) (m left : Entries) → map_of meaning ≡ Ok left → left ≡ left_by meaning m
+left_of_done unknown m left e = cc
+left_of_done (refuses code) m left e = cc
+left_of_done (done n) m left e = cc
 
--- a run that is done on what is shown leaves what is shown with the mutation at the end
-pub shown_after : (means : Meanings) (m : Entries) (xs ys : List Mutation) (x : Mutation) (name args : Bytes) (shown left : Entries)
-    → RunsAs (means name args shown) ran.Done left → ys ≡ xs ++ x ∷ [] → shown ≡ replayed means m xs → name ≡ x.name → args ≡ x.args → left ≡ replayed means m ys
-shown_after means m xs ys x name args shown left runs more is same_name same_args =
-    left_of_done (means name args shown) shown left runs
+-- the map that a mutation leaves of what is shown is what is shown with it at the end
+pub shown_with : (means : Meanings) (m : Entries) (xs ys : List Mutation) (x : Mutation) (name args : Bytes) (shown left : Entries)
+    → map_of (means name args shown) ≡ Ok left → ys ≡ xs ++ x ∷ [] → shown ≡ replayed means m xs → name ≡ x.name → args ≡ x.args → left ≡ replayed means m ys
+shown_with means m xs ys x name args shown left leaves more is same_name same_args =
+    left_of_done (means name args shown) shown left leaves
     ∙ (λ i. left_by (means (same_name i) (same_args i) (is i)) (is i))
     ∙ sym (ap (replayed means m) more ∙ replayed-append means m xs (x ∷ []))

@@ -5,7 +5,7 @@ use Rattle.std.specs.Prelude.{ℕ, ◌+◌, [], ◌∷◌, ◌++◌, nat_eq, if�
 use Rattle.group_history.specs.declared.refusals.Refusal.{Refusal}
 use Rattle.group_history.specs.declared.refusals.Refusal.TheVariants as refusal
 use Rattle.group_history.specs.declared.mutations.Mutation.{Mutation}
-use Rattle.group_history.specs.Map.{Bytes}
+use Rattle.group_history.specs.Map.{Bytes, Entries}
 use Rattle.group_history.specs.Meaning.{Meaning, Meanings, unknown, refuses, done}
 use Rattle.group_history.specs.State.{State, view_of, last_id}
 
@@ -14,6 +14,12 @@ abbrev pub by_meaning : Meaning → ℕ → Result ℕ Refusal
 by_meaning unknown id = Err refusal.NoMutator
 by_meaning (refuses code) id = Err (refusal.Refused code)
 by_meaning (done m) id = Ok id
+
+-- the map that a mutation leaves, or why it is refused
+abbrev pub map_of : Meaning → Result Entries Refusal
+map_of unknown = Err refusal.NoMutator
+map_of (refuses code) = Err (refusal.Refused code)
+map_of (done m) = Ok m
 
 -- The reply to a mutation by a client whose own last id is `last`: the next id, where the mutator is done at the view.
 abbrev pub mutate_reply : Meanings → State → Bytes → ℕ → Bytes → Bytes → Result ℕ Refusal

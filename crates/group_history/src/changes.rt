@@ -4,7 +4,7 @@ use crate::mutations::Mutation;
 use crate::responses::{Ended, PullOk};
 
 /// A change of a group: an entry of its record.
-#[derive(Clone, Debug, PartialEq, Eq, Drop)]
+#[derive(Drop)]
 pub enum Change {
     /// An accepted mutation. Its reply is its id.
     Mutated(Mutation),
@@ -14,7 +14,7 @@ pub enum Change {
 }
 
 /// The reply to a change.
-#[derive(Clone, Copy, Debug, PartialEq, Eq)]
+#[derive(Clone, Copy, PartialEq, Eq)]
 pub enum Reply {
     /// The new mutation's id.
     Id(u64),

@@ -21,7 +21,7 @@ use std::cmp::Ordering;
 use std::marker::Model;
 
 /// What a cookie is compared by: null is below every number, and every number below every text.
-#[derive(Clone, Debug, Drop)]
+#[derive(Clone, Drop)]
 pub enum Order {
     Null,
     Number(i128),
@@ -75,7 +75,7 @@ impl Ord for Order {
 }
 
 /// A cookie. It may nest 126 deep, since it stands in a body that nests 127, so it is no `Json`.
-#[derive(Clone, Debug, Drop)]
+#[derive(Clone, Drop)]
 pub struct Cookie {
     text: Text,
     order: Order,

@@ -44,7 +44,7 @@ impl From<Stop> for Refusal {
 }
 
 /// How a run ended that wasn't stopped.
-#[derive(Clone, Copy, Debug, PartialEq, Eq)]
+#[derive(Clone, Copy, PartialEq, Eq)]
 pub enum Ran {
     Done,
     Unknown,

@@ -186,7 +186,7 @@ pub enum Node<R> {
 }
 
 /// How a drafted node names a child.
-#[derive(Clone, Copy, Debug, PartialEq, Eq)]
+#[derive(Clone, Copy)]
 pub enum Child {
     /// A node that was placed before.
     Placed(Ref),

@@ -8,9 +8,9 @@ ghost use Rattle.std.specs.Prelude.{◌≡◌, false, IfOk, IfErr, OnOk, OnErr};
 ghost use Rattle.std.specs.Option.{option_copied};
 ghost use Rattle.group_history.specs.declared.refusals.Refusal.TheVariants.{NoMemory};
 ghost use Rattle.group_history.specs.Answers.{Answers};
-ghost use Rattle.group_history.specs.State.{opening, last_id};
+ghost use Rattle.group_history.specs.State.{opening, last_id, view_of};
 ghost use Rattle.group_history.specs.Queries.{get_at, has_at, rows_at, is_empty_at};
-ghost use Rattle.group_history.specs.Mutating.{mutate_reply, left_by_mutate};
+ghost use Rattle.group_history.specs.Mutating.{mutate_reply, left_by_mutate, map_of};
 ghost use Rattle.group_history.specs.Pulling.{after_pull, end_reply, left_by_end, goes_back};
 
 use crate::cookies::{Cookie, cookie_cmp};
@@ -169,22 +169,35 @@ impl<M: Mutators> PlainGroup<M> {
         ensures ok { OnOk result (self.new ≡ after_pull self.old pull.now) }
         ensures err { OnErr result (self.new ≡ self.old) }
     {
-        let alloc = self.alloc;
-        let pulled = steps::apply_patch(&self.pulled, pull.patch())?;
-        let cookie = pull.cookie().clone()?;
-        let confirmed = steps::overwrite(&self.confirmed, pull.changes())?;
-        let pending = steps::keep_unconfirmed(alloc, &confirmed, &self.pending)?;
-        let view = steps::replay(alloc, mutators, &pulled, &pending)?;
-        *self = PlainGroup {
-            alloc,
-            pulled,
-            cookie,
-            confirmed,
-            pending,
-            view,
-            mutators: PhantomData,
-        };
+        let rebased = self.rebased(mutators, pull)?;
+        *self = rebased;
         Ok(())
+    }
+
+    // The group after a pull: its patch is applied, and what stays pending is replayed on that.
+    fn rebased(&self, mutators: &M, pull: &PullOk) -> Result<PlainGroup<M>, AllocError>
+        requires { goes_back self.now.confirmed pull.now.changes ≡ false }
+        ensures { IfOk result (λ g. g ≡ after_pull self.now pull.now) }
+    {
+        let alloc = self.alloc;
+        let left = steps::confirm(alloc, &self.confirmed, pull.changes(), &self.pending)?;
+        let shown = steps::patch_and_replay(
+            alloc,
+            mutators,
+            &self.pulled,
+            pull.patch(),
+            &left.pending,
+        )?;
+        let cookie = pull.cookie().clone()?;
+        Ok(PlainGroup {
+            alloc,
+            pulled: shown.pulled,
+            cookie,
+            confirmed: left.confirmed,
+            pending: left.pending,
+            view: shown.view,
+            mutators: PhantomData,
+        })
     }
 
     /// Makes a mutation, by a client whose own last id is `last`, and answers its id, `last + 1`. `time`
@@ -204,24 +217,24 @@ impl<M: Mutators> PlainGroup<M> {
         if self.last(client) != last {
             return Err(Refusal::Stale);
         }
-        let alloc = self.alloc;
-        let mut scratch = PlainView {
-            alloc,
+        let id = last + 1;
+        let view = self.shown_after(mutators, name, args)?;
+        let mutation = Mutation::new(client, id, name, args, time)?;
+        self.pending.push(mutation)?;
+        self.view = view;
+        Ok(id)
+    }
+
+    // The view after one run of a mutator on it, unless that refuses or isn't known.
+    fn shown_after(&self, mutators: &M, name: &Text, args: &Json) -> Result<TextMap<Json>, Refusal>
+        ensures { Answers result (map_of (M.means name.now args.now (view_of M.means self.now))) }
+    {
+        let mut view = PlainView {
+            alloc: self.alloc,
             map: self.view.copied()?,
         };
-        match mutators.run(alloc, name.as_str(), args, &mut scratch) {
-            Ok(Ran::Done) => {
-                let id = last + 1;
-                self.pending.push(Mutation {
-                    client: client.clone()?,
-                    id,
-                    name: name.clone()?,
-                    args: args.clone()?,
-                    timestamp: time,
-                })?;
-                self.view = scratch.map;
-                Ok(id)
-            }
+        match mutators.run(self.alloc, name.as_str(), args, &mut view) {
+            Ok(Ran::Done) => Ok(view.map),
             Ok(Ran::Unknown) => Err(Refusal::NoMutator),
             Ok(Ran::Refused(code)) => Err(Refusal::Refused(code)),
             Err(_stop) => Err(Refusal::NoMemory),

@@ -4,50 +4,89 @@ ghost use Rattle.group_history.specs.declared.refusals.Refusal.TheVariants as re
 
 use crate::responses::VersionKind;
 use std::alloc::{AllocError, AllocFailed};
+use std::fmt;
 use thiserror::Error;
 
 /// Why a call was refused. After every refusal the group is as other clients' changes left it, and the
 /// refused client's last id is as it was.
 #[derive(Clone, Copy, Debug, PartialEq, Eq, Error)]
 pub enum Refusal {
-    #[error("memory was refused: free some and call again")]
     NoMemory,
-    #[error("other clients changed the group first, as often as the call tries: call again")]
     Moved,
-    #[error("a slot or a pin was lost to other clients, as often as the call tries: call again")]
     Busy,
-    #[error("a slot was given again while it was looked for: call again")]
     Gone,
-    #[error("no slot is free: pull, or close readers, and call again")]
     Full,
-    #[error("the group has drawn all its stamps: open a new group")]
     Stamps,
-    #[error("the client's last id is not the group's: refresh it and call again")]
     Stale,
-    #[error("no mutator has this name")]
     NoMutator,
-    #[error("the mutator refused with code {0}")]
+    /// With the mutator's code.
     Refused(u32),
-    #[error("the bytes are no JSON text, or one that nests too deep")]
     NotJson,
-    #[error("a field is missing, of a wrong type or out of range")]
     BadShape,
-    #[error("a number is not whole, or does not fit 64 bits")]
     NotWhole,
-    #[error("another pull was applied since this one began: begin a new one")]
     Overtaken,
-    #[error("the response's cookie is lower than the group's")]
     CookieWentBack,
-    #[error("the response's cookie is as high as the group's, but the response brings something")]
     CookieNotNew,
-    #[error("the response confirms less of a client than was confirmed")]
     IdWentBack,
-    #[error("the server does not know the client group")]
     StateNotFound,
-    #[error("the server does not support this version ({0})")]
     VersionNotSupported(VersionKind),
-    #[error("all seats are out: give one back")]
     NoSeat,
+}
+
+impl Refusal {
+    /// What happened, and what the caller can do about it; a mutator's code is not in it.
+    fn message(self) -> &'static str {
+        match self {
+            Refusal::NoMemory => "memory was refused: free some and call again",
+            Refusal::Moved => {
+                "other clients changed the group first, as often as the call tries: call again"
+            }
+            Refusal::Busy => {
+                "a slot or a pin was lost to other clients, as often as the call tries: call again"
+            }
+            Refusal::Gone => "a slot was given again while it was looked for: call again",
+            Refusal::Full => "no slot is free: pull, or close readers, and call again",
+            Refusal::Stamps => "the group has drawn all its stamps: open a new group",
+            Refusal::Stale => {
+                "the client's last id is not the group's: refresh it and call again"
+            }
+            Refusal::NoMutator => "no mutator has this name",
+            Refusal::Refused(_) => "the mutator refused with code",
+            Refusal::NotJson => "the bytes are no JSON text, or one that nests too deep",
+            Refusal::BadShape => "a field is missing, of a wrong type or out of range",
+            Refusal::NotWhole => "a number is not whole, or does not fit 64 bits",
+            Refusal::Overtaken => {
+                "another pull was applied since this one began: begin a new one"
+            }
+            Refusal::CookieWentBack => "the response's cookie is lower than the group's",
+            Refusal::CookieNotNew => {
+                "the response's cookie is as high as the group's, but the response brings something"
+            }
+            Refusal::IdWentBack => "the response confirms less of a client than was confirmed",
+            Refusal::StateNotFound => "the server does not know the client group",
+            Refusal::VersionNotSupported(kind) => unsupported(kind),
+            Refusal::NoSeat => "all seats are out: give one back",
+        }
+    }
+}
+
+fn unsupported(kind: VersionKind) -> &'static str {
+    match kind {
+        VersionKind::Push => "the server does not support this version (push)",
+        VersionKind::Pull => "the server does not support this version (pull)",
+        VersionKind::Schema => "the server does not support this version (schema)",
+        VersionKind::Unknown => "the server does not support this version (unknown)",
+    }
+}
+
+impl fmt::Display for Refusal {
+    fn fmt<W: fmt::Write>(&self, f: &mut fmt::Formatter<W>) -> fmt::Result {
+        f.write_str(self.message())?;
+        if let Refusal::Refused(code) = self {
+            return write!(f, " {code}");
+        }
+        Ok(())
+    }
 }
 
 impl From<AllocError> for Refusal {

@@ -11,7 +11,7 @@ use std::fmt;
 use std::marker::Model;
 
 /// One operation on the pulled map (Pull Endpoint Reference, "patch").
-#[derive(Clone, Debug, Drop)]
+#[derive(Clone, Drop)]
 pub enum Patch {
     /// The key has the value.
     Put(Text, Json),
@@ -41,7 +41,7 @@ impl Eq for Patch {
 }
 
 /// Up to which id a client's mutations are confirmed (Pull Endpoint Reference, "lastMutationIDChanges").
-#[derive(Clone, Debug, Drop)]
+#[derive(Clone, Drop)]
 pub struct Confirmed {
     /// The client's ID.
     pub client: Text,
@@ -64,7 +64,7 @@ impl Eq for Confirmed {
 }
 
 /// A response without an error. Each of its ids is from 0 to 2^52.
-#[derive(Debug, Drop)]
+#[derive(Drop)]
 pub struct PullOk {
     cookie: Cookie,
     changes: Vec<Confirmed>,
@@ -171,7 +171,7 @@ impl fmt::Display for VersionKind {
 }
 
 /// A response to a pull (Pull Endpoint Reference, version 1).
-#[derive(Clone, Debug, PartialEq, Eq, Drop)]
+#[derive(PartialEq, Eq, Drop)]
 pub enum Response {
     Ok(PullOk),
     /// The server doesn't know the client group.

@@ -4,7 +4,7 @@ ghost use Rattle.std.specs.Prelude.{◌≡◌};
 use crate::texts::Text;
 
 /// Where a scan begins.
-#[derive(Clone, Debug, PartialEq, Drop)]
+#[derive(Drop)]
 pub enum Start {
     /// At the first key.
     Any,
@@ -16,7 +16,7 @@ pub enum Start {
 
 /// A scan: the keys that begin with the prefix, from the start on, in the order of their bytes, and of
 /// these the first `limit` where there is one.
-#[derive(Clone, Debug, PartialEq, Drop)]
+#[derive(Drop)]
 pub struct Scan {
     pub prefix: Text,
     pub start: Start,

@@ -110,6 +110,51 @@ pub(crate) fn replay<M: Mutators>(
     Ok(shown)
 }
 
+/// What a pull leaves confirmed and pending.
+#[derive(Drop)]
+pub(crate) struct Unconfirmed {
+    pub(crate) confirmed: TextMap<u64>,
+    pub(crate) pending: Vec<Mutation>,
+}
+
+/// The confirmed ids after a response's changes, and the mutations that stay pending under them.
+pub(crate) fn confirm(
+    alloc: Global,
+    ids: &TextMap<u64>,
+    changes: &[Confirmed],
+    pending: &[Mutation],
+) -> Result<Unconfirmed, AllocError>
+    ensures confirmed { IfOk result (λ u. u.confirmed ≡ overwritten ids.now changes.now) }
+    ensures pending { IfOk result (λ u. u.pending.items ≡ unconfirmed u.confirmed pending.now) }
+{
+    let confirmed = overwrite(ids, changes)?;
+    let pending = keep_unconfirmed(alloc, &confirmed, pending)?;
+    Ok(Unconfirmed { confirmed, pending })
+}
+
+/// A pulled map, and what it shows.
+#[derive(Drop)]
+pub(crate) struct Shown {
+    pub(crate) pulled: TextMap<Json>,
+    pub(crate) view: TextMap<Json>,
+}
+
+/// The pulled map after a patch, and what that shows once the mutations are replayed on it.
+pub(crate) fn patch_and_replay<M: Mutators>(
+    alloc: Global,
+    mutators: &M,
+    pulled: &TextMap<Json>,
+    patch: &[Patch],
+    pending: &[Mutation],
+) -> Result<Shown, AllocError>
+    ensures pulled { IfOk result (λ s. s.pulled ≡ patched pulled.now patch.now) }
+    ensures view { IfOk result (λ s. s.view ≡ replayed M.means s.pulled pending.now) }
+{
+    let pulled = apply_patch(pulled, patch)?;
+    let view = replay(alloc, mutators, &pulled, pending)?;
+    Ok(Shown { pulled, view })
+}
+
 /// Whether the response has the group's cookie, and nothing else.
 pub fn is_saying_nothing(cookie: &Cookie, pull: &PullOk) -> bool
     ensures { result ≡ says_nothing cookie.now pull.now }
