@@ -1,5 +1,5 @@
 -- A response of three fields.
-use Rattle.std.proofs.Common.{◌≡◌, List, Option, Some, None, option_map, Result, Ok, Err, refl}
+use Rattle.std.proofs.Common.{◌≡◌, List, Option, Some, None, option_map, Result, Ok, Err, refl, sym}
 use Rattle.std.specs.Prelude.{ok_or}
 use Rattle.serde_json.specs.Data.{Data}
 use Rattle.group_history.specs.declared.refusals.Refusal.{Refusal}
@@ -8,13 +8,13 @@ use Rattle.group_history.specs.declared.responses.Confirmed.{Confirmed}
 use Rattle.group_history.specs.declared.responses.Patch.{Patch}
 use Rattle.group_history.specs.declared.responses.Response.{Response}
 use Rattle.group_history.specs.declared.responses.Response.TheVariants as response
-use Rattle.group_history.specs.Answers.{◌>>=◌, Refuses}
+use Rattle.group_history.specs.Answers.{◌>>=◌, Answers, Refuses}
 use Rattle.group_history.specs.Cookies.{Cookie, cookie_of}
 use Rattle.pull_patch.specs.Fields.{◌>>-◌, each}
 use Rattle.pull_patch.specs.Operations.{Edit, operation_of}
 use Rattle.pull_patch.specs.Changes.{Entry, change_of}
 use Rattle.pull_patch.specs.Grammar.{Fields, pull_of, pull_response, fields_of}
-use Rattle.pull_patch.specs.Parts.{cookie_field, changes_field, patch_field}
+use Rattle.pull_patch.specs.Parts.{cookie_field, changes_field, patch_field, joined}
 
 -- what is right of the whole is right of the part that was refused
 pub Refuses-through : {A B : Type 0} (e : Refusal) (part : Result A Refusal) (whole : Result B Refusal) → ((r : Refusal) → part ≡ Err r → whole ≡ Err r) → Refuses e part → Refuses e whole
@@ -44,9 +44,6 @@ third None p None r h = cc
 third (Some c) None None r h = cc
 third (Some c) (Some cs) None r h = cc
 third o p (Some es) r h = cc
-
-abbrev pub joined : Option Cookie → Option (List Confirmed) → Option (List Patch) → Result Response Refusal
-joined c cs ops = ok_or (option_map response.Ok (c >>- λ c. cs >>- λ cs. ops >>- λ ops. Some (record { cookie = c; changes = cs; patch = ops }))) NotWhole
 
 whole : (o : Option Data) (p : Option (List Entry)) (q : Option (List Edit)) (c : Option Cookie) (cs : Option (List Confirmed)) (ops : Option (List Patch))
     → part cookie_of o ≡ Ok c → part (each change_of) p ≡ Ok cs → part (each operation_of) q ≡ Ok ops → said (shape o p q) ≡ joined c cs ops
@@ -84,3 +81,9 @@ pub no_patch : (c : Option Cookie) (cs : Option (List Confirmed)) → joined c c
 no_patch None cs = refl
 no_patch (Some c) None = refl
 no_patch (Some c) (Some cs) = refl
+
+-- what is right is an answer
+pub Answers-is : {X : Type 0} (r right : Result X Refusal) → r ≡ right → Answers r right
+Answers-is (Ok x) right is = sym is
+Answers-is (Err NoMemory) right is = tt
+Answers-is (Err e) right is = sym is

@@ -19,7 +19,8 @@ use Rattle.pull_patch.specs.Operations.{Edit, put, del, clear, put_of, del_of, e
 use Rattle.pull_patch.specs.Changes.{Entry, entry, id_of, entry_of, entries_of, change_of}
 use Rattle.pull_patch.specs.Grammar.{is_plain_order, has_plain_order, is_cookie, cookie_at, fields_of, pull_of, pull_response, error_named, error_of, by_error, response_of}
 use Rattle.pull_patch.specs.Laws.{OnlyNumbersAreNotWhole}
-use Rattle.pull_patch.proofs.Joins.{shape, said, joined}
+use Rattle.pull_patch.proofs.Joins.{shape, said}
+use Rattle.pull_patch.specs.Parts.{joined}
 
 -- ---- what is there has no float
 

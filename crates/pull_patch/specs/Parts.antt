@@ -1,12 +1,14 @@
 -- Words for the private parts of the reader: a field of the right shape, or none in it where a number isn't whole.
-use Rattle.std.specs.Prelude.{ℕ, List, Option, option_map, ok_or, Result, codes}
+use Rattle.std.specs.Prelude.{ℕ, List, Option, Some, option_map, ok_or, Result, codes}
 use Rattle.serde_json.specs.Data.{Data, Items, Members, depth}
 use Rattle.serde_json.specs.Find.{get}
 use Rattle.serde_json.specs.View.{view}
 use Rattle.group_history.specs.declared.refusals.Refusal.{Refusal}
-use Rattle.group_history.specs.declared.refusals.Refusal.TheVariants.{BadShape}
+use Rattle.group_history.specs.declared.refusals.Refusal.TheVariants.{BadShape, NotWhole}
 use Rattle.group_history.specs.declared.responses.Confirmed.{Confirmed}
 use Rattle.group_history.specs.declared.responses.Patch.{Patch}
+use Rattle.group_history.specs.declared.responses.Response.{Response}
+use Rattle.group_history.specs.declared.responses.Response.TheVariants as response
 use Rattle.group_history.specs.Cookies.{Cookie, cookie_of}
 use Rattle.pull_patch.specs.declared.operations.Edit as code
 use Rattle.pull_patch.specs.declared.operations.Edit.TheVariants as borrowed
@@ -43,3 +45,7 @@ changes_field d = ok_or (option_map (each change_of) (object_at (codes "lastMuta
 
 unfoldable pub patch_field : Data → Result (Option (List Patch)) Refusal
 patch_field d = ok_or (option_map (each operation_of) (array_at (codes "patch") d >>- edits_of)) BadShape
+
+-- the response of the three, where no number isn't whole
+abbrev pub joined : Option Cookie → Option (List Confirmed) → Option (List Patch) → Result Response Refusal
+joined c cs ops = ok_or (option_map response.Ok (c >>- λ c. cs >>- λ cs. ops >>- λ ops. Some (record { cookie = c; changes = cs; patch = ops }))) NotWhole

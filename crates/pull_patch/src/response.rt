@@ -80,13 +80,25 @@ fn pull_response(alloc: Global, value: &Value) -> Result<Response, Refusal>
     let read_cookie = cookie_field(alloc, value)?;
     let read_changes = changes_field(alloc, value)?;
     let read_patch = patch_field(alloc, value)?;
-    let Some(cookie) = read_cookie else {
+    joined(read_cookie, read_changes, read_patch)
+}
+
+// The response of three fields, if no number in them that counts isn't whole.
+fn joined(
+    cookie: Option<Cookie>,
+    changes: Option<Vec<Confirmed>>,
+    patch: Option<Vec<Patch>>,
+) -> Result<Response, Refusal>
+    requires { IfSome changes (λ v. AreInRange v.items) }
+    ensures { result ≡ parts.joined cookie (option_map (λ v. v.items) changes) (option_map (λ v. v.items) patch) }
+{
+    let Some(cookie) = cookie else {
         return Err(Refusal::NotWhole);
     };
-    let Some(changes) = read_changes else {
+    let Some(changes) = changes else {
         return Err(Refusal::NotWhole);
     };
-    let Some(patch) = read_patch else {
+    let Some(patch) = patch else {
         return Err(Refusal::NotWhole);
     };
     Ok(Response::Ok(PullOk::new(cookie, changes, patch)))
