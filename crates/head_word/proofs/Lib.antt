@@ -6,4 +6,3 @@ pub mod Crosses
 pub mod Owning
 pub mod Stepping
 pub mod BookLaws
-pub mod FirstPulls

@@ -1,5 +1,5 @@
 -- Each step on a word keeps the rule.
-use Rattle.std.proofs.Common.{◌≡◌, ◌≢◌, ℕ, zero, suc, ◌+◌, ◌^◌, ◌≤◌, ◌<◌, ◌==◌, Bool, true, false, List, [], ◌∷◌, ◌++◌, length, slice_index_or, Some, None, Option, refl, ap, sym, ◌∙◌, subst, arith, lit≤, inl, inr, length-append}
+use Rattle.std.proofs.Common.{◌≡◌, ◌≢◌, ℕ, zero, suc, ◌+◌, ◌^◌, ◌≤◌, ◌<◌, ◌==◌, Bool, true, false, List, [], ◌∷◌, ◌++◌, length, slice_index_or, Some, None, Option, replicate, refl, ap, sym, ◌∙◌, subst, arith, lit≤, inl, inr, length-append}
 use Rattle.std.specs.Prelude.{option_and_then}
 use Rattle.std.specs.FinMap as finite
 use Rattle.std.proofs.lemmas.List.{append-nil}
@@ -27,7 +27,7 @@ use Rattle.group_history.proofs.TextMaps.{empty_map}
 use Rattle.head_word.specs.declared.entry.Answer.{Answer}
 use Rattle.head_word.specs.declared.entry.Entry.{Entry}
 use Rattle.head_word.specs.declared.entry.Entry.TheVariants as v
-use Rattle.head_word.specs.Books.{drafted_contents, drawn, next_stamp, last_move, nowhere, record_of, AreOrdered, IsBook, drafted, moved, opening, StartsOpened, IsOpened, IsBefore, AreAfter, Follows}
+use Rattle.head_word.specs.Books.{drafted_contents, drawn, next_stamp, last_move, nowhere, record_of, AreOrdered, IsBook, drafted, moved, empty_leaf, opening, StartsOpened, IsOpened, IsBefore, AreAfter, Follows}
 use Rattle.head_word.specs.Tallies.{key_of, count, Trades}
 use Rattle.head_word.specs.Rules.{Fits, IsKept, answer, AddsDraft, AddsMove, CountsAtHead, CountsAtDrafts, Opens}
 use Rattle.head_word.proofs.Books.{drawn_more, moved_more, record_more, length-drafted, numbered_more, ordered_more, drafted_ordered, spells_more, starts_more, next_more}
@@ -178,6 +178,11 @@ after_more n m place (c ∷ cs) le h = ((λ k d lt. before_more n m place _ le (
 -- what stood after a book stands after every longer one
 pub after_from : (v log : List Entry) (contents : List (Node Child)) → IsPrefix v log → AreAfter (next_stamp v) 0 contents → AreAfter (next_stamp log) 0 contents
 after_from v log contents pre h = after_more (next_stamp v) (next_stamp log) 0 contents (omega (arith, sym (ap next_stamp pre.1) ∙ next_more v pre.0)) h
+
+-- empty leaves have no children, so they stand after every book
+pub leaves_after : (n place count : ℕ) → AreAfter n place (replicate count empty_leaf)
+leaves_after n place zero = tt
+leaves_after n place (suc count) = ((λ k d lt. absurd (omega (arith, lt))), leaves_after n (suc place) count)
 
 draft_goes : (means : Meanings) (v log : List Entry) (by : Option ℕ) (contents : List (Node Child)) (old h d : ℕ) → IsPrefix v log → AreAfter (next_stamp v) 0 contents → IsOpened means log × (h ≡ (last_move log).bits) × (d ≡ next_stamp log)
     → old + length contents ≤ 2 ^ 44 → (b : Bool) → (d == old) ≡ b

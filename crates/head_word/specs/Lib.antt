@@ -3,4 +3,3 @@ pub mod Tallies
 pub mod Rules
 pub mod Marks
 pub mod Laws
-pub mod Trials

@@ -17,6 +17,14 @@ pub struct Wanted<'a> {
     pub contents: &'a [Node<Child>],
 }
 
+/// A draft to be added, of so many empty leaves.
+#[derive(Drop)]
+pub struct Leaves {
+    pub by: Option<u64>,
+    pub first: u64,
+    pub count: u64,
+}
+
 /// A move to be added.
 #[derive(Drop)]
 pub struct Proposed<'a> {
@@ -42,6 +50,15 @@ impl<'a> Plain<Wanted<'a>, Entry, Answer> for Asks {
     ghost use Rattle.head_word.specs.Books.{drafted};
 
     ghost ask = { λ w. drafted w.by w.first w.contents.now };
+
+    ghost state = { λ w. None };
+}
+
+impl Plain<Leaves, Entry, Answer> for Asks {
+    ghost use Rattle.std.specs.Prelude.{None, replicate};
+    ghost use Rattle.head_word.specs.Books.{drafted, empty_leaf};
+
+    ghost ask = { λ w. drafted w.by w.first (replicate w.count empty_leaf) };
 
     ghost state = { λ w. None };
 }

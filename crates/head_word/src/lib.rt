@@ -10,10 +10,9 @@ mod laws;
 mod lost;
 mod mark;
 mod opening;
+mod skip;
 mod steps;
 mod tally;
-#[cfg(test)]
-mod tests;
 
 pub use entry::{Draft, Entry, Move};
 pub use group_history::Ref;

@@ -3,7 +3,6 @@ pub mod Solos
 pub mod Fixing
 pub mod Chaining
 pub mod Running
-pub mod Trials
 pub mod Replies
 pub mod Replying
 pub mod Calls

@@ -20,8 +20,6 @@ mod tips;
 
 pub use calls::{Call, Mutate, Reply};
 pub use plain::Plain;
+pub use pulls::rebased;
 pub use solo::Solo;
 pub use tickets::Ticket;
-
-#[cfg(test)]
-mod tests;

@@ -1,5 +1,6 @@
 //! The end of a pull.
-ghost use Rattle.std.specs.Prelude.{◌≡◌, ◌⊎◌, length, Some, IsSome, IfOk, IfErr};
+ghost use Rattle.std.specs.Prelude.{◌≡◌, ◌⊎◌, [], length, Some, IsSome, IfOk, IfErr};
+ghost use Rattle.group_history.specs.Map.{Entries, patched};
 ghost use Rattle.group_history.specs.Pull.{AreInRange};
 ghost use Rattle.group_history.specs.Pulling.{end_reply, after_pull, goes_back};
 ghost use Rattle.group_history.specs.Refs.{stamp_of};
@@ -7,15 +8,16 @@ ghost use Rattle.group_history.specs.Spelling.{map_at, Spells};
 ghost use Rattle.group_history.specs.State.{State};
 ghost use Rattle.group_history.specs.declared.refusals.Refusal.TheVariants.{NoMemory, Stamps};
 ghost use Rattle.group_history.specs.declared.responses.Response.TheVariants as response;
+ghost use Rattle.rebase.specs.Chaining.{HasTip};
 ghost use Rattle.rebase.specs.Fixing.{staged};
 
 use crate::patches::patched_map;
 use crate::replays::replayed;
-use crate::tips::add_snapshot;
+use crate::tips::{Tip, add_snapshot};
 use commits::{CommitState, VecNodes};
 use group_history::{
-    Cookie, Ended, Mutators, PullOk, Ref, Refusal, cookie_cmp, is_going_back, is_saying_nothing,
-    keep_unconfirmed, overwrite,
+    Cookie, Ended, Mutators, PullOk, Ref, Refusal, TextMap, cookie_cmp, is_going_back,
+    is_saying_nothing, keep_unconfirmed, overwrite,
 };
 use map_tree::Draft;
 use std::alloc::Global;
@@ -47,6 +49,26 @@ pub fn judged(state: &CommitState, ticket: &Cookie, pull: &PullOk) -> Result<End
     }
 }
 
+// Drafts the snapshot after a pull: the patched map, under the response's cookie and the ids confirmed then.
+fn add_patched(
+    alloc: Global,
+    nodes: &VecNodes,
+    draft: &mut Draft,
+    root: Ref,
+    pull: &PullOk,
+    confirmed: TextMap<u64>,
+) -> Result<Tip, Refusal>
+    requires behind { draft.old.first ≡ length nodes.now }
+    requires map { IsSome (map_at (staged nodes.now draft.old.nodes) (stamp_of root)) }
+    ensures tip { (m : Entries) → map_at (staged nodes.now draft.old.nodes) (stamp_of root) ≡ Some m → IfOk result (λ tip. HasTip (staged nodes.now draft.new.nodes) tip (record { state = record { pulled = patched m pull.now.patch; cookie = pull.now.cookie; confirmed = confirmed; pending = [] }; read = patched m pull.now.patch })) }
+    ensures first { draft.new.first ≡ draft.old.first }
+    ensures err { IfErr result (λ e. (e ≡ NoMemory) ⊎ (e ≡ Stamps)) }
+{
+    let tree = patched_map(alloc, nodes, draft, root, pull.patch())?;
+    let cookie = pull.cookie().clone()?;
+    add_snapshot(alloc, draft, tree, cookie, confirmed)
+}
+
 /// Drafts the commits of the state after a pull: a snapshot of the patched map, and on it the mutations
 /// that stay pending, replayed. A patch without operations shares the whole pulled map.
 pub fn rebased<M: Mutators>(
@@ -54,22 +76,19 @@ pub fn rebased<M: Mutators>(
     nodes: &VecNodes,
     draft: &mut Draft,
     mutators: &M,
-    state: CommitState,
+    state: &CommitState,
     pull: &PullOk,
 ) -> Result<Ref, Refusal>
     requires behind { draft.old.first ≡ length nodes.now }
-    requires map { IsSome (map_at (staged nodes.now draft.old.nodes) (stamp_of state.pulled)) }
-    ensures spelled { (s : State) → map_at (staged nodes.now draft.old.nodes) (stamp_of state.pulled) ≡ Some s.pulled → s.confirmed ≡ state.confirmed → s.pending ≡ state.pending.items → IfOk result (λ at. Spells M.means (staged nodes.now draft.new.nodes) (stamp_of at) (after_pull s pull.now)) }
+    requires map { IsSome (map_at (staged nodes.now draft.old.nodes) (stamp_of state.now.pulled)) }
+    ensures spelled { (s : State) → map_at (staged nodes.now draft.old.nodes) (stamp_of state.now.pulled) ≡ Some s.pulled → s.confirmed ≡ state.now.confirmed → s.pending ≡ state.now.pending.items → IfOk result (λ at. Spells M.means (staged nodes.now draft.new.nodes) (stamp_of at) (after_pull s pull.now)) }
     ensures in_range { AreInRange pull.now.changes }
     ensures first { draft.new.first ≡ draft.old.first }
     ensures err { IfErr result (λ e. (e ≡ NoMemory) ⊎ (e ≡ Stamps)) }
 {
-    let changes = pull.changes();
-    let tree = patched_map(alloc, nodes, draft, state.pulled, pull.patch())?;
-    let confirmed = overwrite(&state.confirmed, changes)?;
+    let confirmed = overwrite(&state.confirmed, pull.changes())?;
     let pending = keep_unconfirmed(alloc, &confirmed, &state.pending)?;
-    let cookie = pull.cookie().clone()?;
-    let snapshot = add_snapshot(alloc, draft, tree, cookie, confirmed)?;
+    let snapshot = add_patched(alloc, nodes, draft, state.pulled, pull, confirmed)?;
     let tip = replayed(alloc, nodes, draft, snapshot, mutators, &pending)?;
     Ok(tip.commit)
 }

@@ -1,8 +1,8 @@
 //! Local commits: a new mutation, and pending ones that are replayed.
-ghost use Rattle.std.specs.Prelude.{◌≡◌, ◌⊎◌, length, Some, Ok, IsSome, IfOk, IfErr};
+ghost use Rattle.std.specs.Prelude.{◌≡◌, ◌⊎◌, length, Some, Ok, Err, IsSome, IfOk, IfErr};
 ghost use Rattle.group_history.specs.Map.{Entries};
 ghost use Rattle.group_history.specs.Meaning.{Meaning, left_by};
-ghost use Rattle.group_history.specs.Mutating.{after_mutate, by_meaning};
+ghost use Rattle.group_history.specs.Mutating.{after_mutate, by_meaning, map_of};
 ghost use Rattle.group_history.specs.Refs.{stamp_of};
 ghost use Rattle.group_history.specs.Spelling.{Contents, map_at, Spells};
 ghost use Rattle.group_history.specs.State.{State, view_of};
@@ -36,18 +36,22 @@ pub fn mutated<M: Mutators>(
     ensures err { (s : State) → IsTip M.means (staged nodes.now draft.old.nodes) tip s → IfErr result (λ e. RefusesOrStamps e (by_meaning (M.means mutation.name mutation.args (view_of M.means s)) mutation.id)) }
     ensures first { draft.new.first ≡ draft.old.first }
 {
-    let Run { ran, tree } = run_on(alloc, nodes, draft, Tree::at(tip.root), mutators, &mutation)?;
+    let run = run_on(alloc, nodes, draft, Tree::at(tip.root), mutators, &mutation)?;
+    let tree = done(run)?;
+    let after = add_local(alloc, draft, tree, tip.commit, mutation)?;
+    Ok(after.commit)
+}
+
+// The tree that a run left, if it was done; else why its mutation is refused.
+fn done(run: Run) -> Result<Tree, Refusal>
+    ensures ok { (contents : Contents) (meaning : Meaning) → HasRun contents meaning run → IfOk result (λ tree. (m : Entries) × (tree_map contents tree ≡ Some m) × (map_of meaning ≡ Ok m)) }
+    ensures err { (contents : Contents) (meaning : Meaning) → HasRun contents meaning run → IfErr result (λ e. map_of meaning ≡ Err e) }
+{
+    let Run { ran, tree } = run;
     match ran {
-        Ran::Unknown => {
-            return Err(Refusal::NoMutator);
-        }
-        Ran::Refused(code) => {
-            return Err(Refusal::Refused(code));
-        }
-        Ran::Done => {
-            let after = add_local(alloc, draft, tree, tip.commit, mutation)?;
-            return Ok(after.commit);
-        }
+        Ran::Unknown => Err(Refusal::NoMutator),
+        Ran::Refused(code) => Err(Refusal::Refused(code)),
+        Ran::Done => Ok(tree),
     }
 }
 

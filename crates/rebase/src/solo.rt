@@ -3,17 +3,19 @@
 //! Its nodes lie in a vector, and its head is a plain reference. The invariant (`IsHead`) says that the
 //! head spells the group's state, that queries read the state's view there, and that each client's
 //! pending ids are the numbers that follow its confirmed id.
-ghost use Rattle.std.specs.Prelude.{◌≡◌, ◌⊎◌, IfOk, IfErr, IsOkUnless};
+ghost use Rattle.std.specs.Prelude.{◌≡◌, ◌⊎◌, IfOk, IfErr, IsOkUnless, map};
 ghost use Rattle.group_history.specs.declared.refusals.Refusal.TheVariants.{NoMemory};
 ghost use Rattle.group_history.specs.Mutating.{mutate_reply, left_by_mutate};
+ghost use Rattle.group_history.specs.Naming.{content_of};
 ghost use Rattle.group_history.specs.Pulling.{end_reply, left_by_end};
 ghost use Rattle.group_history.specs.Queries.{get_at, has_at, rows_at, is_empty_at};
+ghost use Rattle.group_history.specs.Refs.{stamp_of};
+ghost use Rattle.group_history.specs.Spelling.{Spells, version_of};
 ghost use Rattle.group_history.specs.State.{opening, last_id};
 ghost use Rattle.group_history.specs.declared.responses.Response.TheVariants as response;
 ghost use Rattle.pull_patch.specs.Grammar.{answer_to};
 ghost use Rattle.push_body.specs.Bodies.{pull_text, push_text};
 ghost use Rattle.rebase.specs.Refusing.{AnswersOrStamps};
-ghost use Rattle.group_history.specs.Spelling.{version_of};
 ghost use Rattle.rebase.specs.Solos.{end_bytes_reply, left_by_bytes};
 
 use crate::looks::{state_here, tip_here};
@@ -78,6 +80,13 @@ impl<M: Mutators + Drop> Solo<M> {
             mutators,
             identity,
         })
+    }
+
+    /// The group's nodes, and its head: the commit of its state.
+    pub fn into_parts(self) -> (VecNodes, Ref)
+        ensures head { Spells M.means (map content_of result.0) (stamp_of result.1) self.state }
+    {
+        (self.nodes, self.head)
     }
 
     /// Reads the group as it is now. Takes no memory, and is never refused.
@@ -257,7 +266,7 @@ impl<M: Mutators + Drop> Solo<M> {
             }
             Ended::Applied => {
                 let mut draft = self.nodes.draft(alloc);
-                let head = rebased(alloc, &self.nodes, &mut draft, &self.mutators, state, pull)?;
+                let head = rebased(alloc, &self.nodes, &mut draft, &self.mutators, &state, pull)?;
                 self.nodes.append(draft)?;
                 self.head = head;
                 return Ok(Ended::Applied);

@@ -15,15 +15,14 @@ ghost use Rattle.group_history.specs.declared.nodes.Snapshot.{Snapshot as Snappe
 ghost use Rattle.group_history.specs.declared.mutations.Mutation.{Mutation as Mutated};
 ghost use Rattle.group_history.specs.declared.refs.Ref.{Ref as Reference};
 
-use commits::{VecNodes, cookie_of, dropped, last_id_of, read_root, state_of, walk};
+use commits::{CommitState, VecNodes, cookie_of, dropped, last_id_of, read_root, state_of, walk};
 use group_history::{
-    Chunk, Commit, Cookie, Inner, Json, Keys, Leaf, Local, Mutation, Node, Ref, Snapshot, Text,
-    TextMap,
+    Chunk, Commit, Cookie, Inner, Json, Keys, Leaf, Local, Mutation, Node, Ref, Refusal, Snapshot,
+    Text, TextMap,
 };
 use std::alloc::Global;
 use std::prelude::*;
 use std::sync::Arc;
-use std::test::Fail;
 
 /// The reference of a stamp; it lies in a slot of another number.
 pub(super) fn at(stamp: u64) -> Ref
@@ -33,7 +32,7 @@ pub(super) fn at(stamp: u64) -> Ref
     Ref::new(stamp, 100 + stamp as u32)
 }
 
-fn with(alloc: Global, mut nodes: VecNodes, node: Node<Ref>) -> Result<VecNodes, Fail>
+fn with(alloc: Global, mut nodes: VecNodes, node: Node<Ref>) -> Result<VecNodes, Refusal>
     ensures { IfOk result (λ after. after ≡ nodes ++ node ∷ []) }
 {
     let mut draft = nodes.draft(alloc);
@@ -42,7 +41,7 @@ fn with(alloc: Global, mut nodes: VecNodes, node: Node<Ref>) -> Result<VecNodes,
     Ok(nodes)
 }
 
-fn one_key(alloc: Global, key: &str) -> Result<Arc<Keys>, Fail>
+fn one_key(alloc: Global, key: &str) -> Result<Arc<Keys>, Refusal>
     ensures { IfOk result (λ keys. arc_value keys ≡ key.now ∷ []) }
 {
     let mut texts = Vec::new(alloc);
@@ -50,7 +49,7 @@ fn one_key(alloc: Global, key: &str) -> Result<Arc<Keys>, Fail>
     Ok(Arc::new(alloc, Keys::new(texts))?)
 }
 
-fn leaf(alloc: Global, key: &str) -> Result<Node<Ref>, Fail>
+fn leaf(alloc: Global, key: &str) -> Result<Node<Ref>, Refusal>
     ensures { IfOk result (λ n. (v : Bytes) × (n ≡ node.Chunk (chunk.Leaf ((key.now, v) ∷ [])))) }
 {
     let keys = one_key(alloc, key)?;
@@ -60,7 +59,7 @@ fn leaf(alloc: Global, key: &str) -> Result<Node<Ref>, Fail>
 }
 
 /// An inner chunk of two children, under the keys `a` and `b`.
-fn inner(alloc: Global, left: Ref, right: Ref) -> Result<Node<Ref>, Fail>
+fn inner(alloc: Global, left: Ref, right: Ref) -> Result<Node<Ref>, Refusal>
     ensures { IfOk result (λ n. n ≡ node.Chunk (chunk.Inner ((97 ∷ [], left) ∷ (98 ∷ [], right) ∷ []))) }
 {
     let mut texts = Vec::new(alloc);
@@ -72,7 +71,7 @@ fn inner(alloc: Global, left: Ref, right: Ref) -> Result<Node<Ref>, Fail>
 }
 
 /// A snapshot with the cookie null, in which `a` is confirmed up to an id.
-fn snapshot(alloc: Global, id: u64, root: Ref) -> Result<Snapshot<Ref>, Fail>
+fn snapshot(alloc: Global, id: u64, root: Ref) -> Result<Snapshot<Ref>, Refusal>
     ensures root { IfOk result (λ s. s.root ≡ root) }
     ensures confirmed { IfOk result (λ s. s.confirmed ≡ finite.insert finite.empty (97 ∷ []) id) }
 {
@@ -86,7 +85,7 @@ fn snapshot(alloc: Global, id: u64, root: Ref) -> Result<Snapshot<Ref>, Fail>
     })
 }
 
-fn with_snapshot(alloc: Global, nodes: VecNodes, id: u64, root: Ref) -> Result<VecNodes, Fail>
+fn with_snapshot(alloc: Global, nodes: VecNodes, id: u64, root: Ref) -> Result<VecNodes, Refusal>
     ensures { IfOk result (λ after. (s : Snapped Reference) × (s.root ≡ root) × (s.confirmed ≡ finite.insert finite.empty (97 ∷ []) id) × (after ≡ nodes ++ node.Commit (commit.Snapshot s) ∷ [])) }
 {
     let snapshot = snapshot(alloc, id, root)?;
@@ -94,7 +93,7 @@ fn with_snapshot(alloc: Global, nodes: VecNodes, id: u64, root: Ref) -> Result<V
     Ok(after)
 }
 
-fn mutation(alloc: Global, client: &str, id: u64) -> Result<Mutation, Fail>
+fn mutation(alloc: Global, client: &str, id: u64) -> Result<Mutation, Refusal>
     ensures { IfOk result (λ x. (x.client ≡ client.now) × (x.id ≡ id)) }
 {
     Ok(Mutation {
@@ -113,7 +112,7 @@ fn with_local(
     made: (&str, u64),
     basis: Ref,
     root: Ref,
-) -> Result<VecNodes, Fail>
+) -> Result<VecNodes, Refusal>
     ensures { IfOk result (λ after. (x : Mutated) × (x.client ≡ made.entry.0.now) × (x.id ≡ made.entry.1) × (after ≡ nodes ++ node.Commit (commit.Local (record { basis = basis; mutation = x; root = root })) ∷ [])) }
 {
     let mutation = mutation(alloc, made.0, made.1)?;
@@ -127,7 +126,7 @@ fn with_local(
 }
 
 /// A chunk with the key `a`, one with the key `b`, and one over both: the stamps 0, 1 and 2.
-fn chunks(alloc: Global) -> Result<VecNodes, Fail>
+fn chunks(alloc: Global) -> Result<VecNodes, Refusal>
     ensures { IfOk result (λ ns. (v w : Bytes) × (map content_of ns ≡ node.Chunk (chunk.Leaf ((97 ∷ [], v) ∷ [])) ∷ node.Chunk (chunk.Leaf ((98 ∷ [], w) ∷ [])) ∷ node.Chunk (chunk.Inner ((97 ∷ [], 0) ∷ (98 ∷ [], 1) ∷ [])) ∷ [])) }
 {
     let nodes = with(alloc, VecNodes::new(alloc), leaf(alloc, "a")?)?;
@@ -138,7 +137,7 @@ fn chunks(alloc: Global) -> Result<VecNodes, Fail>
 
 /// Three chunks; at stamp 3 a snapshot of the map of both keys, on it three local commits at 4, 5 and 6
 /// with the maps of `a`, of both, and of `b`; at 7 a snapshot that shares the chunk of `a`.
-pub(super) fn example(alloc: Global) -> Result<VecNodes, Fail>
+pub(super) fn example(alloc: Global) -> Result<VecNodes, Refusal>
     ensures snapshot { IfOk result (λ ns. IsSome (version_at (map content_of ns) 3)) }
     ensures first { IfOk result (λ ns. IsSome (version_at (map content_of ns) 4)) }
     ensures second { IfOk result (λ ns. IsSome (version_at (map content_of ns) 5)) }
@@ -156,68 +155,85 @@ pub(super) fn example(alloc: Global) -> Result<VecNodes, Fail>
     Ok(nodes)
 }
 
-fn walked_ids(alloc: Global, nodes: &VecNodes, head: Ref) -> Result<Vec<u64>, Fail>
+/// The ids that are pending, as the digits of a number.
+fn walked_ids(alloc: Global, nodes: &VecNodes, head: Ref) -> Result<u64, Refusal>
     requires { IsSome (version_at (map content_of nodes.now) (stamp_of head)) }
 {
     let mut shelf = nodes.shelf();
-    let mut ids = Vec::new(alloc);
+    let mut ids = 0u64;
     for mutation in &walk(alloc, &mut shelf, head)? {
-        ids.push(mutation.id)?;
+        ids = ids.wrapping_mul(10).wrapping_add(mutation.id);
     }
     Ok(ids)
 }
 
-fn dropped_words(alloc: Global, nodes: &VecNodes, old: Ref, new: Ref) -> Result<Vec<u64>, Fail>
-    requires old { IsSome (version_at (map content_of nodes.now) (stamp_of old)) }
-    requires new { IsSome (version_at (map content_of nodes.now) (stamp_of new)) }
+fn third_walked(alloc: Global) -> Result<u64, Refusal> {
+    let nodes = example(alloc)?;
+    walked_ids(alloc, &nodes, at(6))
+}
+
+fn next_walked(alloc: Global) -> Result<u64, Refusal> {
+    let nodes = example(alloc)?;
+    walked_ids(alloc, &nodes, at(7))
+}
+
+#[test]
+fn the_oldest_stands_first(rt: HostRuntime) -> Result<(), Refusal> {
+    assert_eq!(rt; third_walked(rt.alloc())?, 516);
+    Ok(())
+}
+
+#[test]
+fn a_snapshot_has_nothing_pending(rt: HostRuntime) -> Result<(), Refusal> {
+    assert_eq!(rt; next_walked(rt.alloc())?, 0);
+    Ok(())
+}
+
+/// What a state has: whether its cookie is null, the root of its pulled map, how many mutations are pending, and
+/// what is confirmed of `a`.
+#[derive(Clone, Copy)]
+struct Facts {
+    is_null: bool,
+    pulled: u64,
+    pending: usize,
+    confirmed: Option<u64>,
+}
+
+fn told(alloc: Global, state: &CommitState) -> Result<Facts, Refusal> {
+    let client = Text::new(alloc, "a")?;
+    Ok(Facts {
+        is_null: state.cookie.text() == "null",
+        pulled: state.pulled.bits(),
+        pending: state.pending.len(),
+        confirmed: state.confirmed.get(&client).copied(),
+    })
+}
+
+fn state_told(alloc: Global, nodes: &VecNodes, head: Ref) -> Result<Facts, Refusal>
+    requires { IsSome (version_at (map content_of nodes.now) (stamp_of head)) }
 {
     let mut shelf = nodes.shelf();
-    let mut words = Vec::new(alloc);
-    for at in &dropped(alloc, &mut shelf, old, new)? {
-        words.push(at.bits())?;
-    }
-    Ok(words)
+    let state = state_of(alloc, &mut shelf, head)?;
+    told(alloc, &state)
 }
 
-fn words_of(alloc: Global, stamps: &[u64]) -> Result<Vec<u64>, Fail> {
-    let mut words = Vec::new(alloc);
-    for stamp in stamps {
-        words.push((*stamp % 64) * (1 << 20) + 100 + *stamp % 64)?;
-    }
-    Ok(words)
+fn second_told(alloc: Global) -> Result<Facts, Refusal> {
+    let nodes = example(alloc)?;
+    state_told(alloc, &nodes, at(5))
 }
 
 #[test]
-fn the_oldest_stands_first(rt: HostRuntime) -> Result<(), Fail> {
-    let nodes = example(rt.alloc())?;
-    let ids = walked_ids(rt.alloc(), &nodes, at(6))?;
-    assert_eq!(rt; ids.as_slice(), [5, 1, 6].as_slice());
-    Ok(())
-}
-
-#[test]
-fn a_snapshot_has_nothing_pending(rt: HostRuntime) -> Result<(), Fail> {
-    let nodes = example(rt.alloc())?;
-    let ids = walked_ids(rt.alloc(), &nodes, at(7))?;
-    assert_eq!(rt; ids.len(), 0);
-    Ok(())
-}
-
-#[test]
-fn a_state_is_told(rt: HostRuntime) -> Result<(), Fail> {
-    let nodes = example(rt.alloc())?;
-    let mut shelf = nodes.shelf();
-    let state = state_of(rt.alloc(), &mut shelf, at(5))?;
-    let client = Text::new(rt.alloc(), "a")?;
-    assert_eq!(rt; state.cookie.text(), "null");
-    assert_eq!(rt; state.pulled.bits(), at(2).bits());
-    assert_eq!(rt; state.pending.len(), 2);
-    assert_eq!(rt; state.confirmed.get(&client).copied(), Some(4));
+fn a_state_is_told(rt: HostRuntime) -> Result<(), Refusal> {
+    let state = second_told(rt.alloc())?;
+    assert!(rt; state.is_null);
+    assert_eq!(rt; state.pulled, at(2).bits());
+    assert_eq!(rt; state.pending, 2);
+    assert_eq!(rt; state.confirmed, Some(4));
     Ok(())
 }
 
 /// The last id of a client at a commit.
-fn last_id(alloc: Global, nodes: &VecNodes, head: Ref, client: &str) -> Result<u64, Fail>
+fn last_id(alloc: Global, nodes: &VecNodes, head: Ref, client: &str) -> Result<u64, Refusal>
     requires head { IsSome (version_at (map content_of nodes.now) (stamp_of head)) }
     requires ids { (v : Version) → version_at (map content_of nodes.now) (stamp_of head) ≡ Some v → IdsFollow v.state.confirmed v.state.pending }
 {
@@ -227,68 +243,124 @@ fn last_id(alloc: Global, nodes: &VecNodes, head: Ref, client: &str) -> Result<u
     Ok(id)
 }
 
+/// The last id of a client at the third local commit.
+fn third_id(alloc: Global, client: &str) -> Result<u64, Refusal> {
+    let nodes = example(alloc)?;
+    last_id(alloc, &nodes, at(6), client)
+}
+
+/// Those of `a`, `b` and `c`.
+fn third_ids(alloc: Global) -> Result<(u64, u64, u64), Refusal> {
+    Ok((
+        third_id(alloc, "a")?,
+        third_id(alloc, "b")?,
+        third_id(alloc, "c")?,
+    ))
+}
+
+/// The last id of `a` at the first snapshot.
+fn confirmed_id(alloc: Global) -> Result<u64, Refusal> {
+    let nodes = example(alloc)?;
+    last_id(alloc, &nodes, at(3), "a")
+}
+
 #[test]
-fn last_ids(rt: HostRuntime) -> Result<(), Fail> {
-    let nodes = example(rt.alloc())?;
-    for (client, last) in [("a", 6), ("b", 1), ("c", 0)] {
-        assert_eq!(rt;
-            last_id(rt.alloc(), &nodes, at(6), client)?,
-            last,
-            "of {client}"
-        );
-    }
-    assert_eq!(rt; last_id(rt.alloc(), &nodes, at(3), "a")?, 4);
+fn last_ids(rt: HostRuntime) -> Result<(), Refusal> {
+    assert_eq!(rt; third_ids(rt.alloc())?, (6, 1, 0));
+    assert_eq!(rt; confirmed_id(rt.alloc())?, 4);
     Ok(())
 }
 
-fn root_read(nodes: &VecNodes, head: Ref) -> Result<Ref, Fail>
+fn root_read(nodes: &VecNodes, head: Ref) -> Result<u64, Refusal>
     requires { IsSome (version_at (map content_of nodes.now) (stamp_of head)) }
 {
     let mut shelf = nodes.shelf();
     let root = read_root(&mut shelf, head)?;
-    Ok(root)
+    Ok(root.bits())
 }
 
-fn cookie_told(nodes: &VecNodes, head: Ref) -> Result<Cookie, Fail>
+fn third_root(alloc: Global) -> Result<u64, Refusal> {
+    let nodes = example(alloc)?;
+    root_read(&nodes, at(6))
+}
+
+fn next_root(alloc: Global) -> Result<u64, Refusal> {
+    let nodes = example(alloc)?;
+    root_read(&nodes, at(7))
+}
+
+#[test]
+fn queries_read_the_newest_map(rt: HostRuntime) -> Result<(), Refusal> {
+    assert_eq!(rt; third_root(rt.alloc())?, at(1).bits());
+    assert_eq!(rt; next_root(rt.alloc())?, at(0).bits());
+    Ok(())
+}
+
+fn has_null(nodes: &VecNodes, head: Ref) -> Result<bool, Refusal>
     requires { IsSome (version_at (map content_of nodes.now) (stamp_of head)) }
 {
     let mut shelf = nodes.shelf();
     let cookie = cookie_of(&mut shelf, head)?;
-    Ok(cookie)
+    Ok(cookie.text() == "null")
+}
+
+fn third_has_null(alloc: Global) -> Result<bool, Refusal> {
+    let nodes = example(alloc)?;
+    has_null(&nodes, at(6))
 }
 
 #[test]
-fn queries_read_the_newest_map(rt: HostRuntime) -> Result<(), Fail> {
-    let nodes = example(rt.alloc())?;
-    assert_eq!(rt; root_read(&nodes, at(6))?.bits(), at(1).bits());
-    assert_eq!(rt; root_read(&nodes, at(7))?.bits(), at(0).bits());
+fn a_cookie_is_told(rt: HostRuntime) -> Result<(), Refusal> {
+    assert!(rt; third_has_null(rt.alloc())?);
+    Ok(())
+}
+
+/// How many nodes are dropped, their stamps as the digits of a number, and whether each is named by the reference
+/// that it was placed by.
+fn dropped_stamps(
+    alloc: Global,
+    nodes: &VecNodes,
+    old: Ref,
+    new: Ref,
+) -> Result<(usize, u64, bool), Refusal>
+    requires old { IsSome (version_at (map content_of nodes.now) (stamp_of old)) }
+    requires new { IsSome (version_at (map content_of nodes.now) (stamp_of new)) }
+{
+    let mut shelf = nodes.shelf();
+    let listed = dropped(alloc, &mut shelf, old, new)?;
+    let mut stamps = 0u64;
+    let mut same = true;
+    for named in &listed {
+        stamps = stamps.wrapping_mul(10).wrapping_add(named.stamp());
+        same = same && named.bits() == at(named.stamp() % 64).bits();
+    }
+    Ok((listed.len(), stamps, same))
+}
+
+fn first_to_next(alloc: Global) -> Result<(usize, u64, bool), Refusal> {
+    let nodes = example(alloc)?;
+    dropped_stamps(alloc, &nodes, at(4), at(7))
+}
+
+fn third_to_second(alloc: Global) -> Result<(usize, u64, bool), Refusal> {
+    let nodes = example(alloc)?;
+    dropped_stamps(alloc, &nodes, at(6), at(5))
+}
+
+fn second_to_third(alloc: Global) -> Result<(usize, u64, bool), Refusal> {
+    let nodes = example(alloc)?;
+    dropped_stamps(alloc, &nodes, at(5), at(6))
+}
+
+#[test]
+fn a_shared_chunk_stays(rt: HostRuntime) -> Result<(), Refusal> {
+    assert_eq!(rt; first_to_next(rt.alloc())?, (4, 4321, true));
     Ok(())
 }
 
 #[test]
-fn a_cookie_is_told(rt: HostRuntime) -> Result<(), Fail> {
-    let nodes = example(rt.alloc())?;
-    let cookie = cookie_told(&nodes, at(6))?;
-    assert_eq!(rt; cookie.text(), "null");
-    Ok(())
-}
-
-#[test]
-fn a_shared_chunk_stays(rt: HostRuntime) -> Result<(), Fail> {
-    let nodes = example(rt.alloc())?;
-    let words = dropped_words(rt.alloc(), &nodes, at(4), at(7))?;
-    let want = words_of(rt.alloc(), &[4, 3, 2, 1])?;
-    assert_eq!(rt; words.as_slice(), want.as_slice());
-    Ok(())
-}
-
-#[test]
-fn a_basis_stays(rt: HostRuntime) -> Result<(), Fail> {
-    let nodes = example(rt.alloc())?;
-    let words = dropped_words(rt.alloc(), &nodes, at(6), at(5))?;
-    let none = dropped_words(rt.alloc(), &nodes, at(5), at(6))?;
-    let want = words_of(rt.alloc(), &[6])?;
-    assert_eq!(rt; words.as_slice(), want.as_slice());
-    assert_eq!(rt; none.len(), 0);
+fn a_basis_stays(rt: HostRuntime) -> Result<(), Refusal> {
+    assert_eq!(rt; third_to_second(rt.alloc())?, (1, 6, true));
+    assert_eq!(rt; second_to_third(rt.alloc())?, (0, 0, true));
     Ok(())
 }

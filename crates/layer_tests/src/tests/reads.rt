@@ -5,77 +5,103 @@ ghost use Rattle.group_history.specs.Spelling.{version_at};
 
 use super::chains::{at, example};
 use commits::Nodes;
-use group_history::{Json, Ref, Scan, Start, Text};
+use group_history::{Json, Ref, Refusal, Scan, Start, Text};
 use std::alloc::Global;
 use std::prelude::*;
-use std::test::Fail;
 use transactions::ReadTx;
 
 /// Opens a commit; a commit that can't be shown is an error.
-fn opened<N: Nodes + Drop>(alloc: Global, nodes: N, head: Ref) -> Result<ReadTx<N>, Fail>
+fn opened<N: Nodes + Drop>(alloc: Global, nodes: N, head: Ref) -> Result<ReadTx<N>, Refusal>
     requires { IsSome (version_at (N.contents nodes) (stamp_of head)) }
 {
     match ReadTx::open(alloc, nodes, head) {
         Ok(tx) => Ok(tx),
-        Err((_nodes, _stop)) => Err(Fail::new("not opened")),
+        Err((_nodes, stop)) => Err(Refusal::from(stop)),
     }
 }
 
-/// The keys of a scan of all, one after another.
-fn keys<N: Nodes>(alloc: Global, tx: &mut ReadTx<N>) -> Result<String, Fail> {
-    let all = Scan {
+/// A scan of all.
+fn scan_all(alloc: Global) -> Result<Scan, Refusal> {
+    Ok(Scan {
         prefix: Text::new(alloc, "")?,
         start: Start::Any,
         limit: None,
-    };
-    let mut told = String::new(alloc);
-    for (key, _) in &tx.scan(&all)? {
-        told.push_str(key.as_str())?;
-    }
-    Ok(told)
-}
-
-/// What a commit answers.
-#[derive(Drop)]
-struct Answers {
-    has_a: bool,
-    at_b: Option<Json>,
-    keys: String,
-    empty: bool,
-    pending: usize,
-    cookie: String,
-}
-
-fn seen<N: Nodes + Drop>(alloc: Global, nodes: N, head: Ref) -> Result<Answers, Fail>
-    requires { IsSome (version_at (N.contents nodes) (stamp_of head)) }
-{
-    let mut tx = opened(alloc, nodes, head)?;
-    let has_a = tx.has("a")?;
-    let at_b = tx.get("b")?;
-    let keys = keys(alloc, &mut tx)?;
-    let empty = tx.is_empty()?;
-    let pending = tx.pending()?.len();
-    let cookie = String::from_str(alloc, tx.cookie()?.text())?;
-    let _nodes = tx.close();
-    Ok(Answers {
-        has_a,
-        at_b,
-        keys,
-        empty,
-        pending,
-        cookie,
     })
 }
 
+fn is_b(rows: &[(Text, Json)]) -> bool {
+    match rows {
+        [(key, _)] => key.as_str() == "b",
+        _ => false,
+    }
+}
+
+/// What a commit answers: whether it has `a`, whether 1 is at `b`, whether `b` is its only key, whether it has none,
+/// how many mutations are pending, and whether its cookie is null.
+#[derive(Clone, Copy)]
+struct Answers {
+    has_a: bool,
+    one_at_b: bool,
+    only_b: bool,
+    empty: bool,
+    pending: usize,
+    null: bool,
+}
+
+fn one_at_b<N: Nodes>(tx: &mut ReadTx<N>) -> Result<bool, Refusal> {
+    let found = tx.get("b")?;
+    Ok(found.is_some_and(|value| value.text() == "1"))
+}
+
+fn only_b<N: Nodes>(alloc: Global, tx: &mut ReadTx<N>) -> Result<bool, Refusal> {
+    let all = scan_all(alloc)?;
+    let rows = tx.scan(&all)?;
+    Ok(is_b(&rows))
+}
+
+fn pending<N: Nodes>(tx: &mut ReadTx<N>) -> Result<usize, Refusal> {
+    let pending = tx.pending()?;
+    Ok(pending.len())
+}
+
+fn has_null<N: Nodes>(tx: &mut ReadTx<N>) -> Result<bool, Refusal> {
+    let cookie = tx.cookie()?;
+    Ok(cookie.text() == "null")
+}
+
+fn answered<N: Nodes>(alloc: Global, tx: &mut ReadTx<N>) -> Result<Answers, Refusal> {
+    Ok(Answers {
+        has_a: tx.has("a")?,
+        one_at_b: one_at_b(tx)?,
+        only_b: only_b(alloc, tx)?,
+        empty: tx.is_empty()?,
+        pending: pending(tx)?,
+        null: has_null(tx)?,
+    })
+}
+
+fn seen<N: Nodes + Drop>(alloc: Global, nodes: N, head: Ref) -> Result<Answers, Refusal>
+    requires { IsSome (version_at (N.contents nodes) (stamp_of head)) }
+{
+    let mut tx = opened(alloc, nodes, head)?;
+    let answers = answered(alloc, &mut tx)?;
+    let _nodes = tx.close();
+    Ok(answers)
+}
+
+fn third_seen(alloc: Global) -> Result<Answers, Refusal> {
+    let nodes = example(alloc)?;
+    seen(alloc, nodes.shelf(), at(6))
+}
+
 #[test]
-fn a_commit_is_read(rt: HostRuntime) -> Result<(), Fail> {
-    let nodes = example(rt.alloc())?;
-    let seen = seen(rt.alloc(), nodes.shelf(), at(6))?;
+fn a_commit_is_read(rt: HostRuntime) -> Result<(), Refusal> {
+    let seen = third_seen(rt.alloc())?;
     assert!(rt; !seen.has_a);
-    assert!(rt; seen.at_b.is_some_and(|value| value.text() == "1"));
-    assert_eq!(rt; seen.keys.as_str(), "b");
+    assert!(rt; seen.one_at_b);
+    assert!(rt; seen.only_b);
     assert!(rt; !seen.empty);
     assert_eq!(rt; seen.pending, 3);
-    assert_eq!(rt; seen.cookie.as_str(), "null");
+    assert!(rt; seen.null);
     Ok(())
 }

@@ -4,7 +4,7 @@ ghost use Rattle.group_history.specs.Naming.{content_of};
 ghost use Rattle.map_tree.specs.Trees.{tree_map};
 
 use super::maps::{grown, json, key_of, placed};
-use group_history::{Chunk, Node, Ref, Refusal, Scan, Start, Text};
+use group_history::{Chunk, Json, Node, Ref, Refusal, Scan, Start, Text};
 use map_tree::{Draft, Shelf, Staged, Tree, VecChunks};
 use std::alloc::Global;
 use std::prelude::*;
@@ -53,19 +53,29 @@ fn first_leaves(alloc: Global) -> Result<(usize, usize), Refusal> {
     Ok((keys_at(draft.nodes(), 0), keys_at(draft.nodes(), 1)))
 }
 
+/// The digits of the keys, how many there are, and the shape of their map.
+const SHAPES: [(usize, u64, (u64, u64, usize, usize)); 6] = [
+    (2, 0, (1, 1, 1, 0)),
+    (2, 1, (1, 1, 1, 0)),
+    (2, 16, (1, 1, 1, 0)),
+    (2, 17, (2, 3, 2, 1)),
+    (3, 136, (2, 17, 16, 1)),
+    (3, 137, (3, 20, 17, 3)),
+];
+
+/// How many keys the first of these maps has that is of another shape.
+fn other_shape(alloc: Global) -> Result<Option<u64>, Refusal> {
+    for (digits, count, want) in &SHAPES {
+        if shape(alloc, *digits, *count)? != *want {
+            return Ok(Some(*count));
+        }
+    }
+    Ok(None)
+}
+
 #[test]
 fn chunks_of_maps(rt: HostRuntime) -> Result<(), Refusal> {
-    for (digits, count, want) in [
-        (2, 0, (1, 1, 1, 0)),
-        (2, 1, (1, 1, 1, 0)),
-        (2, 16, (1, 1, 1, 0)),
-        (2, 17, (2, 3, 2, 1)),
-        (3, 136, (2, 17, 16, 1)),
-        (3, 137, (3, 20, 17, 3)),
-    ] {
-        let got = shape(rt.alloc(), digits, count)?;
-        assert_eq!(rt; got, want, "{count} keys");
-    }
+    assert_eq!(rt; other_shape(rt.alloc())?, None);
     assert_eq!(rt; first_leaves(rt.alloc())?, (8, 9));
     Ok(())
 }
@@ -78,29 +88,43 @@ fn has(alloc: Global, key: &str) -> Result<bool, Refusal> {
     Ok(tree.has(&mut chunks, key)?)
 }
 
-/// The keys behind one that begin with a prefix, one after another, in the map of k01 to k17.
-fn scanned(alloc: Global, prefix: &str, after: &str) -> Result<String, Refusal> {
-    let nodes = VecChunks::new(alloc);
-    let mut chunks = nodes.shelf();
-    let tree = grown(alloc, &mut chunks, 2, 17)?;
-    let scan = Scan {
+/// Whether these are the keys of the rows, one after another.
+fn are_keys(alloc: Global, rows: &[(Text, Json)], keys: &str) -> Result<bool, Refusal> {
+    let mut told = String::new(alloc);
+    for (key, _) in rows {
+        told.push_str(key.as_str())?;
+    }
+    Ok(told.as_str() == keys)
+}
+
+/// A scan of the keys behind one that begin with a prefix.
+fn scan_after(alloc: Global, prefix: &str, after: &str) -> Result<Scan, Refusal> {
+    Ok(Scan {
         prefix: Text::new(alloc, prefix)?,
         start: Start::After(Text::new(alloc, after)?),
         limit: None,
-    };
-    let mut keys = String::new(alloc);
-    for (key, _) in &tree.scan(alloc, &mut chunks, &scan)? {
-        keys.push_str(key.as_str())?;
-    }
-    Ok(keys)
+    })
+}
+
+/// Whether a scan of the map of k01 to k17 has these keys.
+fn scans(alloc: Global, scan: &Scan, keys: &str) -> Result<bool, Refusal> {
+    let nodes = VecChunks::new(alloc);
+    let mut chunks = nodes.shelf();
+    let tree = grown(alloc, &mut chunks, 2, 17)?;
+    let rows = tree.scan(alloc, &mut chunks, scan)?;
+    are_keys(alloc, &rows, keys)
+}
+
+fn last_two_scanned(alloc: Global) -> Result<bool, Refusal> {
+    let scan = scan_after(alloc, "k1", "k15")?;
+    scans(alloc, &scan, "k16k17")
 }
 
 #[test]
 fn keys_of_both_leaves(rt: HostRuntime) -> Result<(), Refusal> {
     assert!(rt; has(rt.alloc(), "k09")?);
     assert!(rt; !has(rt.alloc(), "k18")?);
-    let keys = scanned(rt.alloc(), "k1", "k15")?;
-    assert_eq!(rt; keys.as_str(), "k16k17");
+    assert!(rt; last_two_scanned(rt.alloc())?);
     Ok(())
 }
 
@@ -126,51 +150,63 @@ fn seen(
     alloc: Global,
     chunks: &mut Shelf<'_>,
     tree: &Tree,
+    all: &Scan,
     keys: &str,
 ) -> Result<(u64, bool, bool), Refusal>
     requires { IsSome (tree_map (map content_of chunks.old.nodes.now) tree.now) }
 {
-    let all = Scan {
+    let depth = tree.depth(chunks)?;
+    let empty = tree.is_empty(chunks)?;
+    let rows = tree.scan(alloc, chunks, all)?;
+    Ok((depth, empty, are_keys(alloc, &rows, keys)?))
+}
+
+/// A scan of all.
+fn scan_all(alloc: Global) -> Result<Scan, Refusal> {
+    Ok(Scan {
         prefix: Text::new(alloc, "")?,
         start: Start::Any,
         limit: None,
-    };
-    let depth = tree.depth(chunks)?;
-    let empty = tree.is_empty(chunks)?;
-    let rows = tree.scan(alloc, chunks, &all)?;
-    let mut told = String::new(alloc);
-    for (key, _) in &rows {
-        told.push_str(key.as_str())?;
-    }
-    Ok((depth, empty, told.as_str() == keys))
+    })
 }
 
 /// What is seen of a map with the keys of the first 17 numbers, once the first so many are removed.
 fn left(alloc: Global, count: u32, keys: &str) -> Result<(u64, bool, bool), Refusal> {
+    let all = scan_all(alloc)?;
     let nodes = VecChunks::new(alloc);
     let mut chunks = nodes.shelf();
     let tree = grown(alloc, &mut chunks, 2, 17)?;
     let tree = thinned(alloc, &mut chunks, tree, count)?;
-    seen(alloc, &mut chunks, &tree, keys)
+    seen(alloc, &mut chunks, &tree, &all, keys)
+}
+
+/// How many keys are removed, how deep the map is then, whether it is empty, and its keys.
+const REMOVALS: [(u32, u64, bool, &str); 5] = [
+    (
+        0,
+        2,
+        false,
+        "k01k02k03k04k05k06k07k08k09k10k11k12k13k14k15k16k17",
+    ),
+    (7, 2, false, "k08k09k10k11k12k13k14k15k16k17"),
+    (8, 1, false, "k09k10k11k12k13k14k15k16k17"),
+    (16, 1, false, "k17"),
+    (17, 1, true, ""),
+];
+
+/// How many keys are removed where something else is left.
+fn other_left(alloc: Global) -> Result<Option<u32>, Refusal> {
+    for (count, depth, empty, keys) in &REMOVALS {
+        if left(alloc, *count, keys)? != (*depth, *empty, true) {
+            return Ok(Some(*count));
+        }
+    }
+    Ok(None)
 }
 
 #[test]
 fn removals(rt: HostRuntime) -> Result<(), Refusal> {
-    for (count, depth, empty, keys) in [
-        (
-            0,
-            2,
-            false,
-            "k01k02k03k04k05k06k07k08k09k10k11k12k13k14k15k16k17",
-        ),
-        (7, 2, false, "k08k09k10k11k12k13k14k15k16k17"),
-        (8, 1, false, "k09k10k11k12k13k14k15k16k17"),
-        (16, 1, false, "k17"),
-        (17, 1, true, ""),
-    ] {
-        let got = left(rt.alloc(), count, keys)?;
-        assert_eq!(rt; got, (depth, empty, true), "{count} removed");
-    }
+    assert_eq!(rt; other_left(rt.alloc())?, None);
     Ok(())
 }
 
@@ -179,34 +215,54 @@ fn new_after_put(
     alloc: Global,
     digits: usize,
     count: u64,
-    number: u64,
-    value: &str,
+    key: &str,
+    value: &Json,
 ) -> Result<u64, Refusal> {
     let nodes = VecChunks::new(alloc);
     let placed = placed(alloc, &nodes, digits, count)?;
     let mut chunks = Staged::new(placed.nodes, &placed.draft);
     let mut tree = Tree::at(placed.root);
+    tree.put(alloc, &mut chunks, key, value)?;
+    Ok(tree.new_chunks())
+}
+
+fn new_after_number(
+    alloc: Global,
+    digits: usize,
+    count: u64,
+    number: u64,
+    value: &str,
+) -> Result<u64, Refusal> {
     let key = key_of(alloc, digits, number)?;
     let value = json(alloc, value)?;
-    tree.put(alloc, &mut chunks, key.as_str(), &value)?;
-    Ok(tree.new_chunks())
+    new_after_put(alloc, digits, count, key.as_str(), &value)
+}
+
+/// The digits of the keys, how many there are, at which a value is put, which, and how many chunks are new then.
+const CHANGES: [(usize, u64, u64, &str, u64); 8] = [
+    (2, 1, 1, "2", 1),
+    (2, 1, 1, "1", 0),
+    (2, 17, 9, "2", 2),
+    (2, 17, 9, "1", 0),
+    (2, 17, 18, "1", 2),
+    (3, 136, 137, "1", 5),
+    (3, 137, 1, "2", 3),
+    (3, 137, 137, "1", 0),
+];
+
+/// The first key at which a put makes another number of chunks.
+fn other_change(alloc: Global) -> Result<Option<u64>, Refusal> {
+    for (digits, count, number, value, want) in &CHANGES {
+        if new_after_number(alloc, *digits, *count, *number, value)? != *want {
+            return Ok(Some(*number));
+        }
+    }
+    Ok(None)
 }
 
 #[test]
 fn chunks_of_changes(rt: HostRuntime) -> Result<(), Refusal> {
-    for (digits, count, number, value, want) in [
-        (2, 1, 1, "2", 1),
-        (2, 1, 1, "1", 0),
-        (2, 17, 9, "2", 2),
-        (2, 17, 9, "1", 0),
-        (2, 17, 18, "1", 2),
-        (3, 136, 137, "1", 5),
-        (3, 137, 1, "2", 3),
-        (3, 137, 137, "1", 0),
-    ] {
-        let got = new_after_put(rt.alloc(), digits, count, number, value)?;
-        assert_eq!(rt; got, want, "{number} in {count} keys");
-    }
+    assert_eq!(rt; other_change(rt.alloc())?, None);
     Ok(())
 }
 
@@ -224,11 +280,20 @@ fn removed(alloc: Global, key: &str) -> Result<(u64, bool), Refusal> {
     Ok((made.len(), has))
 }
 
+const REMOVED: [(&str, u64); 5] = [("k00", 0), ("k18", 0), ("k01", 2), ("k09", 2), ("k17", 2)];
+
+/// The first key whose removal makes another number of chunks, or changes the placed map.
+fn other_removed(alloc: Global) -> Result<Option<&'static str>, Refusal> {
+    for (key, want) in &REMOVED {
+        if removed(alloc, key)? != (*want, true) {
+            return Ok(Some(key));
+        }
+    }
+    Ok(None)
+}
+
 #[test]
 fn placed_maps_stay(rt: HostRuntime) -> Result<(), Refusal> {
-    for (key, want) in [("k00", 0), ("k18", 0), ("k01", 2), ("k09", 2), ("k17", 2)] {
-        let got = removed(rt.alloc(), key)?;
-        assert_eq!(rt; got, (want, true), "{key} removed");
-    }
+    assert_eq!(rt; other_removed(rt.alloc())?, None);
     Ok(())
 }

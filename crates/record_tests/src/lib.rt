@@ -1,7 +1,0 @@
-//! Tests of the record, of reading responses and of writing requests, by what these crates make public.
-//!
-//! They stand in a crate of their own, since a crate with tests is proved once more for them.
-#![tactic(auto)]
-
-#[cfg(test)]
-mod tests;

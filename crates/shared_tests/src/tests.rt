@@ -1,0 +1,3 @@
+//! What no contract says: that calls succeed, and what threads meet.
+mod claims;
+mod heads;
