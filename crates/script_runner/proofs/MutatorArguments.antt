@@ -1,14 +1,16 @@
 -- What holds of the arguments of a mutator and of their parts.
-use Rattle.std.proofs.Common.{◌≡◌, ◌≢◌, ℕ, ◌≤◌, List, [], ◌∷◌, length, Bool, true, false, cond, ◌||◌, Some, None, Ok, Err, IfSome, refl, sym, subst, arith, nat_le}
+use Rattle.std.proofs.Common.{◌≡◌, ◌≢◌, ℕ, ◌≤◌, List, [], ◌∷◌, length, Bool, true, false, cond, ◌||◌, Some, None, Ok, Err, IfSome, refl, sym, ap, subst, arith, nat_le}
 use Rattle.std.proofs.lemmas.Bool.{leb-true}
 use Rattle.serde_json.specs.Data.{Data, null, boolean, number, string, array, object, no_items, item, depth}
 use Rattle.serde_json.specs.View.{items_view}
 use Rattle.serde_json.specs.Written.{has_float, compact_text}
 use Rattle.serde_json.specs.declared.value.Value.{Value}
 use Rattle.group_history.specs.declared.refusals.Refusal.TheVariants.{NotJson, NotWhole}
-use Rattle.group_history.specs.Map.{Bytes}
+use Rattle.group_history.specs.Map.{Bytes, Entries}
 use Rattle.group_history.specs.Json.{text_of}
-use Rattle.script_runner.specs.Mutators.{one_item, two_items, text_and_value}
+use Rattle.group_history.specs.Meaning.{Meaning}
+use Rattle.std.specs.Prelude.{Option}
+use Rattle.script_runner.specs.Mutators.{wrong_arguments, needs, value_of, one_item, two_items, text_and_value, meaning_at, meaning_of}
 
 -- it nests at most 124 deep, and no number in it is a float
 abbrev pub HasText : Data → Type 0
@@ -62,3 +64,8 @@ HasText-part (array (item a (item v (item b ds)))) h = tt
 -- the value beside a key, where the arguments have a compact text
 pub HasText-value : (args : Data) (both : Bytes × Data) → HasText args → Some both ≡ text_and_value args → HasText both.1
 HasText-value args both h is = subst (λ o. IfSome o (λ both. HasText both.1)) (sym is) (HasText-part args h)
+
+-- at arguments that read as a value a mutator means what it means at the value
+pub meaning_of_read : (means : Option (Data → Entries → Meaning)) (args : Bytes) (d : Data) (m : Entries) → value_of args ≡ Some d → meaning_of means args m ≡ meaning_at means d m
+meaning_of_read None args d m is = refl
+meaning_of_read (Some means) args d m is = ap (λ o. needs wrong_arguments o (λ a. means a m)) is

@@ -4,6 +4,7 @@ use Rattle.std.specs.Prelude.{codes, ℕ, ◌^◌, ◌-◌, Bool, true, ◌&&◌
 use Rattle.std.specs.List.{list_any}
 use Rattle.std.specs.Str.Parse.{digits_value}
 use Rattle.group_history.specs.Map.{Bytes, same_text}
+use Rattle.group_history.specs.declared.scans.Scan.{Scan}
 use Rattle.script_runner.specs.declared.faults.ScriptFault.{ScriptFault}
 use Rattle.script_runner.specs.declared.faults.ScriptFault.TheVariants as fault
 use Rattle.script_runner.specs.declared.script.Command.{Command}
@@ -27,6 +28,12 @@ get_line c rest = meets ((is_some rest, fault.BadWords) ∷ []) (c, command.Quer
 -- `has KEY`
 unfoldable pub has_line : Context → Option Bytes → Told
 has_line c rest = meets ((is_some rest, fault.BadWords) ∷ []) (c, command.Query (query.Has (text rest)))
+
+-- what the three words of a scan say
+abbrev pub scan_said : Bytes → Bytes → Bytes → Result Scan ScriptFault
+scan_said prefix start limit =
+    meets ((is_start start, fault.BadWords) ∷ (is_limit limit, fault.BadNumber) ∷ [])
+    (record { prefix = prefix_said prefix; start = start_said start; limit = limit_said limit })
 
 -- `scan PREFIX START LIMIT`
 unfoldable pub scan_line : Context → Option Bytes → Told
@@ -94,17 +101,22 @@ told_bare c (Some said) rest = meets ((is_none rest, fault.BadWords) ∷ []) (c,
 unfoldable pub bare_line : Context → Bytes → Option Bytes → Told
 bare_line c name rest = told_bare c (bare_command name) rest
 
--- a command of the client at a place, by its name and what follows
-unfoldable pub named_command : Context → ℕ → Bytes → Option Bytes → Told
-named_command c client name rest =
+-- a command that makes no ticket and needs none, by its name and what follows
+unfoldable pub look_line : Context → Bytes → Option Bytes → Told
+look_line c name rest =
     if same_text name (codes "get") then get_line c rest
     else if same_text name (codes "has") then has_line c rest
     else if same_text name (codes "scan") then scan_line c rest
-    else if same_text name (codes "begin") then begin_line c client rest
-    else if same_text name (codes "end") then end_line c client rest
-    else if same_text name (codes "mutate") then mutate_line c rest
     else if same_text name (codes "learn") then learn_line c rest
     else bare_line c name rest
+
+-- a command of the client at a place, by its name and what follows
+unfoldable pub named_command : Context → ℕ → Bytes → Option Bytes → Told
+named_command c client name rest =
+    if same_text name (codes "begin") then begin_line c client rest
+    else if same_text name (codes "end") then end_line c client rest
+    else if same_text name (codes "mutate") then mutate_line c rest
+    else look_line c name rest
 
 -- what a client's line has after its name: a missing command is unknown
 unfoldable pub command_of : Context → ℕ → Option Bytes → Told

@@ -70,6 +70,13 @@ TestsLine holds f (Ok x) = holds ≡ true
 TestsLine holds f (Err (line.Script e)) = (holds ≡ false) × (e ≡ f)
 TestsLine holds f (Err line.NoMemory) = ⊤
 
+-- The answer where needs decide: the value that is said where all are met, and else the fault of the first that isn't.
+-- Want of memory may come in place of any answer.
+abbrev pub Reads : {X : Type 0} → Result X ScriptFault → Result X LineFault → Type 0
+Reads right (Ok x) = right ≡ Ok x
+Reads right (Err (line.Script f)) = right ≡ Err f
+Reads right (Err line.NoMemory) = ⊤
+
 -- The call's answer on a line: Ok where the line is right, and this is then said; else the line's fault. Want of
 -- memory may come in place of any answer.
 abbrev pub Follows : {X : Type 0} → Result Context ScriptFault → Context → Result X LineFault → Type 0

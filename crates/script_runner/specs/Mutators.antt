@@ -74,6 +74,10 @@ unfoldable pub text_there : Option Bytes → Option Bytes
 text_there None = Some []
 text_there (Some there) = option_and_then as_str (value_of there)
 
+-- the JSON text of the text that is there with another behind it
+unfoldable pub followed : Option Bytes → Bytes → Option Bytes
+followed there added = option_map (λ s. compact_text (string (s ++ added))) (text_there there)
+
 -- `set`: the key has the value
 unfoldable pub set_means : Data → Entries → Meaning
 set_means args m = needs wrong_arguments (text_and_value args) (λ a. done (finite.insert m a.0 (compact_text a.1)))
@@ -95,18 +99,28 @@ incr_means args m =
 unfoldable pub append_means : Data → Entries → Meaning
 append_means args m =
     needs wrong_arguments (text_and_text args) (λ a.
-    needs other_kind (text_there (finite.get m a.0)) (λ s.
-    done (finite.insert m a.0 (compact_text (string (s ++ a.1))))))
+    needs other_kind (followed (finite.get m a.0) a.1) (λ s.
+    done (finite.insert m a.0 s)))
 
--- by the value that the arguments are
-abbrev pub given : (Data → Entries → Meaning) → Bytes → Entries → Meaning
-given means args m = needs wrong_arguments (value_of args) (λ d. means d m)
+-- the mutator of a name, where there is one
+unfoldable pub mutator_of : Bytes → Option (Data → Entries → Meaning)
+mutator_of name =
+    if same_text name (codes "set") then Some set_means
+    else (if same_text name (codes "incr") then Some incr_means
+    else (if same_text name (codes "del") then Some del_means
+    else (if same_text name (codes "append") then Some append_means
+    else None)))
+
+-- what a mutator means at the value that the arguments are; without one it is unknown
+abbrev pub meaning_at : Option (Data → Entries → Meaning) → Data → Entries → Meaning
+meaning_at None args m = unknown
+meaning_at (Some means) args m = means args m
+
+-- the same at the arguments' text
+abbrev pub meaning_of : Option (Data → Entries → Meaning) → Bytes → Entries → Meaning
+meaning_of None args m = unknown
+meaning_of (Some means) args m = needs wrong_arguments (value_of args) (λ d. means d m)
 
 -- what a name means
 unfoldable pub script_means : Meanings
-script_means name args m =
-    if same_text name (codes "set") then given set_means args m
-    else (if same_text name (codes "incr") then given incr_means args m
-    else (if same_text name (codes "del") then given del_means args m
-    else (if same_text name (codes "append") then given append_means args m
-    else unknown)))
+script_means name args m = meaning_of (mutator_of name) args m

@@ -61,22 +61,39 @@ abbrev pub ended_text : Ended → Bytes
 ended_text Applied = codes "applied"
 ended_text Same = codes "same"
 
+-- the word that says which reply it is
+abbrev pub reply_word : Reply → Bytes
+reply_word (reply.Value json) = codes "value "
+reply_word reply.Nothing = codes "none"
+reply_word (reply.Is is) = bool_text is
+reply_word (reply.Rows rs) = codes "rows "
+reply_word (reply.Pending ms) = codes "pending "
+reply_word (reply.Cookie c) = codes "cookie "
+reply_word (reply.Push bytes) = codes "push "
+reply_word (reply.Pull bytes) = codes "pull "
+reply_word (reply.Ended e) = ended_text e
+reply_word reply.NoTicket = codes "no ticket"
+reply_word (reply.Id n) = codes "id "
+reply_word (reply.Last n) = codes "last "
+reply_word reply.Learnt = codes "learnt"
+reply_word (reply.Refused e) = codes "refused "
+
+-- what it tells
+abbrev pub reply_detail : Reply → Bytes
+reply_detail (reply.Value json) = json
+reply_detail (reply.Rows rs) = array_text (map row_text rs.items)
+reply_detail (reply.Pending ms) = array_text (map pending_row ms.items)
+reply_detail (reply.Cookie c) = c.text
+reply_detail (reply.Push bytes) = bytes.items
+reply_detail (reply.Pull bytes) = bytes.items
+reply_detail (reply.Id n) = decimal n
+reply_detail (reply.Last n) = decimal n
+reply_detail (reply.Refused e) = refusal_name e ++ refusal_detail e
+reply_detail r = []
+
 -- a reply
 abbrev pub reply_text : Reply → Bytes
-reply_text (reply.Value json) = codes "value " ++ json
-reply_text reply.Nothing = codes "none"
-reply_text (reply.Is is) = bool_text is
-reply_text (reply.Rows rs) = codes "rows " ++ array_text (map row_text rs.items)
-reply_text (reply.Pending text) = codes "pending " ++ text.items
-reply_text (reply.Cookie text) = codes "cookie " ++ text
-reply_text (reply.Push bytes) = codes "push " ++ bytes.items
-reply_text (reply.Pull bytes) = codes "pull " ++ bytes.items
-reply_text (reply.Ended e) = ended_text e
-reply_text reply.NoTicket = codes "no ticket"
-reply_text (reply.Id n) = codes "id " ++ decimal n
-reply_text (reply.Last n) = codes "last " ++ decimal n
-reply_text reply.Learnt = codes "learnt"
-reply_text (reply.Refused e) = codes "refused " ++ refusal_name e ++ refusal_detail e
+reply_text said = reply_word said ++ reply_detail said
 
 -- what the group answered, where a line hands it on
 abbrev pub answer_text : Replied → Bytes

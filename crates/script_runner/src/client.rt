@@ -1,11 +1,10 @@
 //! A client of a script: what it keeps between its lines, and what each command does.
-ghost use Rattle.std.specs.Prelude.{◌≡◌, IfOk, IfErr};
-ghost use Rattle.group_history.specs.declared.refusals.Refusal.TheVariants.{NoMemory};
+ghost use Rattle.std.specs.Prelude.{◌≡◌};
 ghost use Rattle.rebase.specs.Replying.{reply_seen};
 ghost use Rattle.script_runner.specs.Printing.{reply_text, answer_text};
 
 use crate::groups::Group;
-use crate::reply::{Reply, pending_text};
+use crate::reply::Reply;
 use crate::script::{self, Command, Query};
 use group_history::{Cookie, Refusal, Text, TextMap};
 use rebase::{Call, Mutate, Reply as Answer};
@@ -61,7 +60,7 @@ impl Client {
             Query::Cookie => Call::Cookie,
             Query::Push => Call::PushBody,
         };
-        self.told(group.make_call(call)?)
+        Ok(reply_of(group.make_call(call)?))
     }
 
     /// A ticket whose name was given before is replaced, and where this is refused there is none of that name.
@@ -72,7 +71,7 @@ impl Client {
                 self.tickets.insert(name.clone()?, ticket.cookie)?;
                 Ok(Reply::Pull(ticket.body))
             }
-            answer => self.told(answer),
+            answer => Ok(reply_of(answer)),
         }
     }
 
@@ -80,7 +79,7 @@ impl Client {
         match self.tickets.get(name) {
             Some(cookie) => {
                 let answer = group.make_call(Call::EndPull(cookie, body.as_str().as_bytes()))?;
-                self.told(answer)
+                Ok(reply_of(answer))
             }
             None => Ok(Reply::NoTicket),
         }
@@ -98,7 +97,7 @@ impl Client {
         if let Answer::Id(id) = &answer {
             self.last = *id;
         }
-        self.told(answer)
+        Ok(reply_of(answer))
     }
 
     fn refresh<G: Group>(&mut self, group: &mut G) -> Result<Reply, Refusal> {
@@ -107,26 +106,25 @@ impl Client {
                 self.last = id;
                 Ok(Reply::Last(id))
             }
-            answer => self.told(answer),
+            answer => Ok(reply_of(answer)),
         }
     }
+}
 
-    /// The reply of a line that hands on what the group answered.
-    fn told(&self, answer: Answer) -> Result<Reply, Refusal>
-        ensures text { IfOk result (λ reply. reply_text reply ≡ answer_text (reply_seen answer)) }
-        ensures err { IfErr result (λ e. e ≡ NoMemory) }
-    {
-        Ok(match answer {
-            Answer::Value(Some(value)) => Reply::Value(value),
-            Answer::Value(None) => Reply::Nothing,
-            Answer::Is(is) => Reply::Is(is),
-            Answer::Rows(rows) => Reply::Rows(rows),
-            Answer::Pending(pending) => Reply::Pending(pending_text(self.alloc, &pending)?),
-            Answer::Cookie(cookie) => Reply::Cookie(Text::new(self.alloc, cookie.text())?),
-            Answer::Id(id) => Reply::Id(id),
-            Answer::Body(body) => Reply::Push(body),
-            Answer::Ticket(ticket) => Reply::Pull(ticket.body),
-            Answer::Ended(ended) => Reply::Ended(ended),
-        })
+/// The reply of a line that hands on what the group answered.
+fn reply_of(answer: Answer) -> Reply
+    ensures { reply_text result ≡ answer_text (reply_seen answer) }
+{
+    match answer {
+        Answer::Value(Some(value)) => Reply::Value(value),
+        Answer::Value(None) => Reply::Nothing,
+        Answer::Is(is) => Reply::Is(is),
+        Answer::Rows(rows) => Reply::Rows(rows),
+        Answer::Pending(pending) => Reply::Pending(pending),
+        Answer::Cookie(cookie) => Reply::Cookie(cookie),
+        Answer::Id(id) => Reply::Id(id),
+        Answer::Body(body) => Reply::Push(body),
+        Answer::Ticket(ticket) => Reply::Pull(ticket.body),
+        Answer::Ended(ended) => Reply::Ended(ended),
     }
 }

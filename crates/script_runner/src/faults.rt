@@ -4,42 +4,57 @@ ghost use Rattle.script_runner.specs.declared.faults.LineFault.TheVariants as li
 ghost use Rattle.script_runner.specs.declared.faults.Fault.TheVariants as fault;
 
 use std::alloc::{AllocError, AllocFailed};
+use std::fmt;
 use thiserror::Error;
 
 /// What is wrong with a line of a script. Where several are, the first of this list is told.
 #[derive(Clone, Copy, Debug, PartialEq, Eq, Error)]
 pub enum ScriptFault {
-    #[error("not UTF-8")]
     NotUtf8,
     /// Before the first phase, the first word is no header word and not `phase`.
-    #[error("unknown line")]
     UnknownLine,
     /// From the first phase on, the first word is no client's name and not `phase`.
-    #[error("unknown client")]
     UnknownClient,
     /// The second word is no command, or is missing.
-    #[error("unknown command")]
     UnknownCommand,
     /// A word is missing or empty, one too many, or not of its form.
-    #[error("bad words")]
     BadWords,
-    #[error("bad UUID")]
     BadUuid,
     /// A number isn't decimal digits, or is out of range.
-    #[error("bad number")]
     BadNumber,
     /// A header line that may stand once stands twice, or a client's name does.
-    #[error("said twice")]
     SaidTwice,
     /// The 65th client line.
-    #[error("too many clients")]
     TooManyClients,
     /// Arguments that are no JSON of whole numbers, or nest too deep.
-    #[error("bad JSON")]
     BadJson,
     /// No client's name, or a ticket that no earlier line of the client makes.
-    #[error("unknown name")]
     UnknownName,
+}
+
+impl ScriptFault {
+    /// How the fault is told.
+    fn text(self) -> &'static str {
+        match self {
+            ScriptFault::NotUtf8 => "not UTF-8",
+            ScriptFault::UnknownLine => "unknown line",
+            ScriptFault::UnknownClient => "unknown client",
+            ScriptFault::UnknownCommand => "unknown command",
+            ScriptFault::BadWords => "bad words",
+            ScriptFault::BadUuid => "bad UUID",
+            ScriptFault::BadNumber => "bad number",
+            ScriptFault::SaidTwice => "said twice",
+            ScriptFault::TooManyClients => "too many clients",
+            ScriptFault::BadJson => "bad JSON",
+            ScriptFault::UnknownName => "unknown name",
+        }
+    }
+}
+
+impl fmt::Display for ScriptFault {
+    fn fmt<W: fmt::Write>(&self, f: &mut fmt::Formatter<W>) -> fmt::Result {
+        f.write_str(self.text())
+    }
 }
 
 /// Why a script didn't run to its end.

@@ -3,9 +3,11 @@
 //! Each takes a JSON array as its arguments, and refuses with a code where they are wrong or where the
 //! value at the key doesn't suit. What each means is a definition in `specs/Mutators`, and the clause
 //! `ran` of its function says that it is run as that, over any view.
-ghost use Rattle.std.specs.Prelude.{◌≡◌, ◌≤◌, ◌⊎◌, false, Some, IfOk, IfErr, option_map, string_bytes};
+ghost use Rattle.std.specs.Prelude.{◌≡◌, ◌≤◌, ◌⊎◌, false, Some, IfOk, IfErr, OnOk, option_map, option_and_then, string_bytes};
 ghost use Rattle.std.specs.Fmt.{signed_decimal};
+ghost use Rattle.std.specs.FinMap as finite;
 ghost use Rattle.serde_json.specs.Data.{depth, string};
+ghost use Rattle.serde_json.specs.Find.{as_str};
 ghost use Rattle.serde_json.specs.View.{view as data_of};
 ghost use Rattle.serde_json.specs.Written.{has_float, compact_text};
 ghost use Rattle.group_history.specs.Ran.{RunsAs};
@@ -23,7 +25,7 @@ pub struct ScriptMutators;
 impl Mutators for ScriptMutators {
     ghost means = { spec.script_means };
 
-    #[tactic(auto, unfolding(crate::specs::Mutators::script_means))]
+    #[tactic(auto, using(crate::proofs::MutatorArguments::meaning_of_read), unfolding(crate::specs::Mutators::script_means))]
     fn run<V: WriteView>(
         &self,
         alloc: Global,
@@ -32,20 +34,36 @@ impl Mutators for ScriptMutators {
         view: &mut V,
     ) -> Result<Ran, Stop> {
         let args = value_of(alloc, args)?;
-        if name == "set" {
-            return set(alloc, &args, view);
-        }
-        if name == "incr" {
-            return incr(alloc, &args, view);
-        }
-        if name == "del" {
-            return del(&args, view);
-        }
-        if name == "append" {
-            return append(alloc, &args, view);
-        }
-        Ok(Ran::Unknown)
+        run_named(alloc, name, &args, view)
     }
+}
+
+/// Runs the mutator of this name, by the value that its arguments are.
+#[tactic(auto, unfolding(crate::specs::Mutators::mutator_of))]
+fn run_named<V: WriteView>(
+    alloc: Global,
+    name: &str,
+    args: &Value,
+    view: &mut V,
+) -> Result<Ran, Stop>
+    requires shallow { depth (data_of args.now) ≤ 124 }
+    requires whole { has_float (data_of args.now) ≡ false }
+    ensures ran { IfOk result (λ ran. RunsAs (spec.meaning_at (spec.mutator_of name.now) (data_of args.now) (V.contents view.old)) ran (V.contents view.new)) }
+    ensures stopped { IfErr result (λ stop. (stop ≡ NoMemory) ⊎ V.stops stop) }
+{
+    if name == "set" {
+        return set(alloc, args, view);
+    }
+    if name == "incr" {
+        return incr(alloc, args, view);
+    }
+    if name == "del" {
+        return del(args, view);
+    }
+    if name == "append" {
+        return append(alloc, args, view);
+    }
+    Ok(Ran::Unknown)
 }
 
 /// The code where the arguments are not those that the mutator takes.
@@ -87,14 +105,23 @@ fn incr<V: WriteView>(alloc: Global, args: &Value, view: &mut V) -> Result<Ran, 
     let Some(there) = view.get(key)? else {
         return Ok(Ran::Refused(KEY_NOT_THERE));
     };
-    let Some(number) = value_of(alloc, &there)?.as_i64() else {
+    let Some(number) = number_in(alloc, there)? else {
         return Ok(Ran::Refused(OTHER_KIND));
     };
     let Some(sum) = sum_of(number, by) else {
         return Ok(Ran::Refused(OUT_OF_RANGE));
     };
-    view.put(key, &decimal(alloc, sum)?)?;
+    put_number(alloc, view, key, sum)?;
     Ok(Ran::Done)
+}
+
+/// Puts a number at a key.
+fn put_number<V: WriteView>(alloc: Global, view: &mut V, key: &str, number: i64) -> Result<(), Stop>
+    ensures put { OnOk result (V.contents view.new ≡ finite.insert (V.contents view.old) key.now (signed_decimal number)) }
+    ensures stopped { IfErr result (λ stop. (stop ≡ NoMemory) ⊎ V.stops stop) }
+{
+    let number = decimal(alloc, number)?;
+    view.put(key, &number)
 }
 
 /// Takes the key away, which needn't be there.
@@ -119,12 +146,25 @@ fn append<V: WriteView>(alloc: Global, args: &Value, view: &mut V) -> Result<Ran
     let Some((key, added)) = text_and_text(args) else {
         return Ok(Ran::Refused(WRONG_ARGUMENTS));
     };
-    let Some(mut text) = text_there(alloc, view.get(key)?)? else {
+    let there = view.get(key)?;
+    let Some(text) = followed(alloc, there, added)? else {
         return Ok(Ran::Refused(OTHER_KIND));
     };
-    text.push_str(added)?;
-    view.put(key, &quoted(alloc, text)?)?;
+    view.put(key, &text)?;
     Ok(Ran::Done)
+}
+
+/// The JSON text of what is there with a text behind it; `None` where what is there is no text.
+#[tactic(auto, unfolding(crate::specs::Mutators::followed))]
+fn followed(alloc: Global, there: Option<Json>, added: &str) -> Result<Option<Json>, Stop>
+    ensures ok { IfOk result (λ text. text ≡ spec.followed there added.now) }
+    ensures stopped { IfErr result (λ stop. stop ≡ NoMemory) }
+{
+    let Some(mut text) = text_there(alloc, there)? else {
+        return Ok(None);
+    };
+    text.push_str(added)?;
+    Ok(Some(quoted(alloc, text)?))
 }
 
 /// Arguments that are one text.
@@ -186,6 +226,15 @@ fn value_of(alloc: Global, json: &Json) -> Result<Value, Stop>
     }
 }
 
+/// The number that a JSON text is, where it is one from -2^63 to 2^63 - 1.
+fn number_in(alloc: Global, json: Json) -> Result<Option<i64>, Stop>
+    ensures ok { IfOk result (λ number. number ≡ option_and_then spec.number_of (spec.value_of json)) }
+    ensures stopped { IfErr result (λ stop. stop ≡ NoMemory) }
+{
+    let value = value_of(alloc, &json)?;
+    Ok(value.as_i64())
+}
+
 /// A copy of the text that is there, the empty one where nothing is; `None` where it is no text.
 #[tactic(auto, unfolding(crate::specs::Mutators::text_there))]
 fn text_there(alloc: Global, there: Option<Json>) -> Result<Option<String>, Stop>
@@ -195,7 +244,16 @@ fn text_there(alloc: Global, there: Option<Json>) -> Result<Option<String>, Stop
     let Some(there) = there else {
         return Ok(Some(String::new(alloc)));
     };
-    match value_of(alloc, &there)?.as_str() {
+    text_in(alloc, there)
+}
+
+/// A copy of the text that a JSON text is, where it is one.
+fn text_in(alloc: Global, json: Json) -> Result<Option<String>, Stop>
+    ensures ok { IfOk result (λ text. option_map string_bytes text ≡ option_and_then as_str (spec.value_of json)) }
+    ensures stopped { IfErr result (λ stop. stop ≡ NoMemory) }
+{
+    let value = value_of(alloc, &json)?;
+    match value.as_str() {
         Some(text) => Ok(Some(String::from_str(alloc, text)?)),
         None => Ok(None),
     }

@@ -26,6 +26,16 @@ fn status_of(fault: Fault) -> u8
     }
 }
 
+/// Tells that a script was not read to its end.
+fn tell_unread<E: Write>(error: &io::Error, err: &mut E) {
+    let told = if error.kind() == io::ErrorKind::OutOfMemory {
+        "no memory\n"
+    } else {
+        "read failed\n"
+    };
+    let _ = err.write_all(told.as_bytes());
+}
+
 /// Reads a script to its end, runs it, and answers the status of a process: 0 where it ran, 2 where it is
 /// faulty, 3 where memory was refused or the reader or the writer failed. What is wrong is a line on `err`; a
 /// failed write there changes nothing.
@@ -42,12 +52,7 @@ pub fn program<R: AllocGlobal, I: Read, W: Write, E: Write>(
 {
     let mut script = Vec::new(rt.alloc());
     if let Err(error) = input.read_to_end(&mut script) {
-        let told = if error.kind() == io::ErrorKind::OutOfMemory {
-            "no memory\n"
-        } else {
-            "read failed\n"
-        };
-        let _ = err.write_all(told.as_bytes());
+        tell_unread(&error, err);
         return 3;
     }
     match run(rt, &script, &Open, out) {

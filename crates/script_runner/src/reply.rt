@@ -1,10 +1,10 @@
 //! What a call of a client replies, and how that is printed. The texts are those of `specs/Printing`.
-ghost use Rattle.std.specs.Prelude.{◌≡◌, ◌++◌, codes, map, decimal, IfOk, OnOk};
+ghost use Rattle.std.specs.Prelude.{◌≡◌, ◌++◌, map, decimal, IfOk, OnOk};
 ghost use Rattle.std.specs.List.{join_with_byte};
 ghost use Rattle.push_body.specs.Bodies.{quoted};
-ghost use Rattle.script_runner.specs.Printing.{row_text, pending_row, array_text, refusal_name, refusal_detail, reply_text, line_text};
+ghost use Rattle.script_runner.specs.Printing.{row_text, pending_row, array_text, refusal_name, refusal_detail, reply_word, reply_detail, reply_text, line_text};
 
-use group_history::{Ended, Json, Mutation, Refusal, Text};
+use group_history::{Cookie, Ended, Json, Mutation, Refusal, Text};
 use json::Writer;
 use std::alloc::{AllocError, Global};
 
@@ -15,10 +15,9 @@ pub(crate) enum Reply {
     Nothing,
     Is(bool),
     Rows(Vec<(Text, Json)>),
-    /// The compact JSON text of the pending mutations.
-    Pending(Vec<u8>),
-    /// A cookie's compact text.
-    Cookie(Text),
+    /// The pending mutations, the oldest first.
+    Pending(Vec<Mutation>),
+    Cookie(Cookie),
     Push(Vec<u8>),
     Pull(Vec<u8>),
     Ended(Ended),
@@ -30,27 +29,51 @@ pub(crate) enum Reply {
 }
 
 impl Reply {
-    /// Appends the printed text.
+    /// Appends the printed text: the word that says which reply it is, and behind it what it tells.
     pub(crate) fn print(&self, out: &mut Vec<u8>) -> Result<(), AllocError>
         ensures { OnOk result (out.new.items ≡ out.old.items ++ reply_text self.now) }
     {
+        out.extend_from_slice(self.word().as_bytes())?;
+        self.print_detail(out)
+    }
+
+    fn word(&self) -> &'static str
+        ensures { result.now ≡ reply_word self.now }
+    {
         match self {
-            Reply::Value(json) => said(out, "value ", json.text().as_bytes()),
-            Reply::Nothing => said(out, "none", &[]),
-            Reply::Is(true) => said(out, "yes", &[]),
-            Reply::Is(false) => said(out, "no", &[]),
+            Reply::Value(_) => "value ",
+            Reply::Nothing => "none",
+            Reply::Is(true) => "yes",
+            Reply::Is(false) => "no",
+            Reply::Rows(_) => "rows ",
+            Reply::Pending(_) => "pending ",
+            Reply::Cookie(_) => "cookie ",
+            Reply::Push(_) => "push ",
+            Reply::Pull(_) => "pull ",
+            Reply::Ended(Ended::Applied) => "applied",
+            Reply::Ended(Ended::Same) => "same",
+            Reply::NoTicket => "no ticket",
+            Reply::Id(_) => "id ",
+            Reply::Last(_) => "last ",
+            Reply::Learnt => "learnt",
+            Reply::Refused(_) => "refused ",
+        }
+    }
+
+    fn print_detail(&self, out: &mut Vec<u8>) -> Result<(), AllocError>
+        ensures { OnOk result (out.new.items ≡ out.old.items ++ reply_detail self.now) }
+    {
+        match self {
+            Reply::Value(json) => out.extend_from_slice(json.text().as_bytes()),
             Reply::Rows(rows) => print_rows(rows, out),
-            Reply::Pending(text) => said(out, "pending ", text),
-            Reply::Cookie(text) => said(out, "cookie ", text.as_str().as_bytes()),
-            Reply::Push(body) => said(out, "push ", body),
-            Reply::Pull(body) => said(out, "pull ", body),
-            Reply::Ended(Ended::Applied) => said(out, "applied", &[]),
-            Reply::Ended(Ended::Same) => said(out, "same", &[]),
-            Reply::NoTicket => said(out, "no ticket", &[]),
-            Reply::Id(id) => print_number(out, "id ", *id),
-            Reply::Last(id) => print_number(out, "last ", *id),
-            Reply::Learnt => said(out, "learnt", &[]),
+            Reply::Pending(pending) => print_pending(pending, out),
+            Reply::Cookie(cookie) => out.extend_from_slice(cookie.text().as_bytes()),
+            Reply::Push(body) | Reply::Pull(body) => out.extend_from_slice(body),
+            Reply::Id(id) | Reply::Last(id) => print_number(out, "", *id),
             Reply::Refused(refusal) => print_refusal(*refusal, out),
+            Reply::Nothing | Reply::Is(_) | Reply::Ended(_) | Reply::NoTicket | Reply::Learnt => Ok(
+                (),
+            ),
         }
     }
 }
@@ -78,14 +101,21 @@ fn quoted(alloc: Global, text: &str) -> Result<Vec<u8>, AllocError>
     Ok(writer.into_inner())
 }
 
+/// Appends a word, and a text as compact JSON behind it.
+fn print_quoted(out: &mut Vec<u8>, word: &str, text: &str) -> Result<(), AllocError>
+    ensures { OnOk result (out.new.items ≡ out.old.items ++ word.now ++ quoted text.now) }
+{
+    let text = quoted(out.allocator().clone()?, text)?;
+    said(out, word, &text)
+}
+
 /// Appends a row of a scan, as a JSON array of its key and value.
 #[tactic(auto, unfolding(crate::specs::Printing::row_text))]
 fn print_row(row: &(Text, Json), out: &mut Vec<u8>) -> Result<(), AllocError>
     ensures { OnOk result (out.new.items ≡ out.old.items ++ row_text row.now) }
 {
     let (key, value) = row;
-    let key = quoted(out.allocator().clone()?, key.as_str())?;
-    said(out, "[", &key)?;
+    print_quoted(out, "[", key.as_str())?;
     said(out, ",", value.text().as_bytes())?;
     said(out, "]", &[])
 }
@@ -106,9 +136,9 @@ fn print_row_list(rows: &[(Text, Json)], out: &mut Vec<u8>) -> Result<(), AllocE
 }
 
 fn print_rows(rows: &[(Text, Json)], out: &mut Vec<u8>) -> Result<(), AllocError>
-    ensures { OnOk result (out.new.items ≡ out.old.items ++ codes "rows " ++ array_text (map row_text rows.now)) }
+    ensures { OnOk result (out.new.items ≡ out.old.items ++ array_text (map row_text rows.now)) }
 {
-    said(out, "rows ", b"[")?;
+    said(out, "[", &[])?;
     print_row_list(rows, out)?;
     said(out, "]", &[])
 }
@@ -118,12 +148,9 @@ fn print_rows(rows: &[(Text, Json)], out: &mut Vec<u8>) -> Result<(), AllocError
 fn print_pending_row(mutation: &Mutation, out: &mut Vec<u8>) -> Result<(), AllocError>
     ensures { OnOk result (out.new.items ≡ out.old.items ++ pending_row mutation.now) }
 {
-    let alloc = out.allocator().clone()?;
-    let client = quoted(alloc, mutation.client.as_str())?;
-    let name = quoted(alloc, mutation.name.as_str())?;
-    said(out, "[", &client)?;
+    print_quoted(out, "[", mutation.client.as_str())?;
     print_number(out, ",", mutation.id)?;
-    said(out, ",", &name)?;
+    print_quoted(out, ",", mutation.name.as_str())?;
     said(out, "]", &[])
 }
 
@@ -142,21 +169,18 @@ fn print_pending_list(pending: &[Mutation], out: &mut Vec<u8>) -> Result<(), All
     Ok(())
 }
 
-/// The pending mutations as JSON: an array of client ID, id and name.
-pub(crate) fn pending_text(alloc: Global, pending: &[Mutation]) -> Result<Vec<u8>, AllocError>
-    ensures { IfOk result (λ v. v.items ≡ array_text (map pending_row pending.now)) }
+fn print_pending(pending: &[Mutation], out: &mut Vec<u8>) -> Result<(), AllocError>
+    ensures { OnOk result (out.new.items ≡ out.old.items ++ array_text (map pending_row pending.now)) }
 {
-    let mut out = Vec::new(alloc);
-    said(&mut out, "[", &[])?;
-    print_pending_list(pending, &mut out)?;
-    said(&mut out, "]", &[])?;
-    Ok(out)
+    said(out, "[", &[])?;
+    print_pending_list(pending, out)?;
+    said(out, "]", &[])
 }
 
 fn print_refusal(refusal: Refusal, out: &mut Vec<u8>) -> Result<(), AllocError>
-    ensures { OnOk result (out.new.items ≡ out.old.items ++ codes "refused " ++ refusal_name refusal ++ refusal_detail refusal) }
+    ensures { OnOk result (out.new.items ≡ out.old.items ++ refusal_name refusal ++ refusal_detail refusal) }
 {
-    said(out, "refused ", refusal_name(refusal).as_bytes())?;
+    out.extend_from_slice(refusal_name(refusal).as_bytes())?;
     match refusal {
         Refusal::Refused(code) => print_number(out, " ", u64::from(code)),
         Refusal::VersionNotSupported(kind) => {

@@ -7,8 +7,8 @@ ghost use Rattle.std.specs.Prelude.{◌≡◌, codes, map, unwrap_or, is_none, I
 ghost use Rattle.std.specs.Option.{option_copied};
 ghost use Rattle.std.specs.Str.Lossy.{utf8_valid_len};
 ghost use Rattle.script_runner.specs.Context.{place_of, nothing_said};
-ghost use Rattle.script_runner.specs.Commands.{bare_command};
-ghost use Rattle.script_runner.specs.Faults.{Tests, TestsLine, Checks, first_fault, fault_in, lines_of, line_of_bad_byte};
+ghost use Rattle.script_runner.specs.Commands.{bare_command, scan_said};
+ghost use Rattle.script_runner.specs.Faults.{Tests, TestsLine, Reads, Checks, first_fault, fault_in, lines_of, line_of_bad_byte};
 ghost use Rattle.script_runner.specs.Words.{is_uuid, uuid_said, is_start, start_said, is_limit, limit_said, is_json, json_said};
 ghost use Rattle.script_runner.specs.declared.faults.ScriptFault.TheVariants as script_fault;
 ghost use Rattle.script_runner.specs.declared.faults.Fault.TheVariants as fault;
@@ -178,8 +178,8 @@ struct Parser {
 
 impl Parser {
     ghost use Rattle.script_runner.specs.Context.{nothing_said};
-    ghost use Rattle.script_runner.specs.Header.{group_line, profile_line, schema_line, slots_line, client_line, header_line};
-    ghost use Rattle.script_runner.specs.Commands.{phase_line, get_line, has_line, scan_line, begin_line, is_made, end_line, mutate_line, learn_line, bare_line, named_command, command_of, command_line};
+    ghost use Rattle.script_runner.specs.Header.{group_line, profile_line, schema_line, slots_line, client_line, admitted, header_line};
+    ghost use Rattle.script_runner.specs.Commands.{phase_line, get_line, has_line, scan_line, begin_line, is_made, end_line, mutate_line, learn_line, bare_line, look_line, named_command, command_of, command_line};
     ghost use Rattle.script_runner.specs.Faults.{Follows, Tells, said_with, words_line};
     ghost use Rattle.script_runner.specs.Parsing.{context_of};
 
@@ -310,6 +310,14 @@ impl Parser {
             return Err(LineFault::Script(ScriptFault::BadWords));
         }
         let id = uuid_text(self.alloc, one_word(id)?)?;
+        self.admit(name, id)
+    }
+
+    /// Adds a client of a new name, if there is room for one.
+    fn admit(&mut self, name: &str, id: Text) -> Result<(), LineFault>
+        ensures { Follows (admitted (context_of self.old) name.now id)
+            (context_of self.new) result }
+    {
         if self.header.place_of(name).is_some() {
             return Err(LineFault::Script(ScriptFault::SaidTwice));
         }
@@ -356,15 +364,6 @@ impl Parser {
         ensures { Tells (named_command (context_of self.old) client name.now (option_copied rest.entry))
             (context_of self.new) result }
     {
-        if name == "get" {
-            return self.get(rest);
-        }
-        if name == "has" {
-            return self.has(rest);
-        }
-        if name == "scan" {
-            return self.scan(rest);
-        }
         if name == "begin" {
             return self.begin(client, rest);
         }
@@ -373,6 +372,23 @@ impl Parser {
         }
         if name == "mutate" {
             return self.mutate(rest);
+        }
+        self.look(name, rest)
+    }
+
+    #[tactic(auto, unfolding(crate::specs::Commands::look_line))]
+    fn look(&self, name: &str, rest: Option<&str>) -> Result<Command, LineFault>
+        ensures { Tells (look_line (context_of self.now) name.now (option_copied rest.entry))
+            (context_of self.now) result }
+    {
+        if name == "get" {
+            return self.get(rest);
+        }
+        if name == "has" {
+            return self.has(rest);
+        }
+        if name == "scan" {
+            return self.scan(rest);
         }
         if name == "learn" {
             return self.learn(rest);
@@ -398,23 +414,15 @@ impl Parser {
         Ok(Command::Query(Query::Has(key)))
     }
 
-    #[tactic(auto, unfolding(crate::specs::Commands::scan_line, crate::specs::Words::prefix_said))]
+    #[tactic(auto, unfolding(crate::specs::Commands::scan_line))]
     fn scan(&self, rest: Option<&str>) -> Result<Command, LineFault>
         ensures { Tells (scan_line (context_of self.now) (option_copied rest.entry))
             (context_of self.now) result }
     {
         let (prefix, rest) = word_of(rest)?;
         let (start, rest) = word_of(rest)?;
-        let limit = one_word(rest)?;
-        let start = start_of(self.alloc, start)?;
-        let limit = limit_of(limit)?;
-        let prefix = if prefix == "-" { "" } else { prefix };
-        let prefix = Text::new(self.alloc, prefix)?;
-        Ok(Command::Query(Query::Scan(Scan {
-            prefix,
-            start,
-            limit,
-        })))
+        let scan = scan_of(self.alloc, prefix, start, one_word(rest)?)?;
+        Ok(Command::Query(Query::Scan(scan)))
     }
 
     #[tactic(auto, unfolding(crate::specs::Commands::mutate_line))]
@@ -523,6 +531,22 @@ fn keep(phases: &mut Vec<Phase>, client: usize, line: Line) -> Result<(), AllocE
         lines.push(line)?;
     }
     Ok(())
+}
+
+/// The scan of three words: its prefix, its start and its limit.
+#[tactic(auto, unfolding(crate::specs::Words::prefix_said))]
+fn scan_of(alloc: Global, prefix: &str, start: &str, limit: &str) -> Result<Scan, LineFault>
+    ensures { Reads (scan_said prefix.now start.now limit.now) result }
+{
+    let start = start_of(alloc, start)?;
+    let limit = limit_of(limit)?;
+    let prefix = if prefix == "-" { "" } else { prefix };
+    let prefix = Text::new(alloc, prefix)?;
+    Ok(Scan {
+        prefix,
+        start,
+        limit,
+    })
 }
 
 /// The start of a scan: `-`, `=KEY` or `>KEY`.
