@@ -1,37 +1,24 @@
-//! Runs the example scripts, and says of each whether it prints what stands beside it.
+//! Runs scripts, and says of each whether it prints what stands beside it.
+//!
+//! `stories` tell how a client is used, `rows` show a rule each, and `faults` are scripts that are not run. Each script
+//! runs as the program runs it, and on a plain group, which has to print the same. Where memory is refused this
+//! program ends with an error, so it never says of such a run that it printed something else.
 #![tactic(auto)]
 
-use script_runner::program;
-use std::{fs, io};
+mod faults;
+mod rows;
+mod runs;
+mod streams;
 
-/// Each a script, `NAME.script`, and what it prints, `NAME.printed`.
-const EXAMPLES: [&str; 5] = [
-    "counter",
-    "offline",
-    "comes_back",
-    "overtaken",
-    "no_response",
-];
-
-fn prints_as_told(rt: &HostRuntime, name: &str) -> io::Result<bool> {
-    let path = format!(in rt.alloc(); "{name}.script")?;
-    let script = fs::read_to_string(rt, path.as_str())?;
-    let path = format!(in rt.alloc(); "{name}.printed")?;
-    let printed = fs::read_to_string(rt, path.as_str())?;
-    let mut out = Vec::new(rt.alloc());
-    let mut told = Vec::new(rt.alloc());
-    let mut input = script.as_str().as_bytes();
-    let status = program(rt, &mut input, &mut out, &mut told);
-    Ok(status == 0 && out.as_slice() == printed.as_str().as_bytes())
-}
+use std::io;
 
 fn main(rt: HostRuntime) -> io::Result<()> {
-    for name in EXAMPLES {
-        let told = prints_as_told(&rt, name)?;
-        println!(rt;
-            "{name}: {}",
-            if told { "as told" } else { "something else" }
-        )?;
+    for name in rows::STORIES {
+        rows::tell(&rt, "stories", name)?;
     }
-    Ok(())
+    for name in rows::ROWS {
+        rows::tell(&rt, "rows", name)?;
+    }
+    faults::tell_all(&rt)?;
+    streams::tell_all(&rt)
 }

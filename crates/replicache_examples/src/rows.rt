@@ -1,0 +1,71 @@
+//! Scripts that run: each a script, `NAME.script`, and what it prints, `NAME.printed`.
+use crate::runs::{Ran, read, run, run_plainly};
+use std::io::{self, Write};
+
+pub(crate) const STORIES: [&str; 5] = [
+    "counter",
+    "offline",
+    "comes_back",
+    "overtaken",
+    "no_response",
+];
+
+pub(crate) const ROWS: [&str; 33] = [
+    "first_pull",
+    "empty",
+    "counted_lines",
+    "header_texts",
+    "order_of_clients",
+    "opening",
+    "patch",
+    "two_clients",
+    "steps_of_a_group",
+    "rebased",
+    "cleared",
+    "overtaken",
+    "same",
+    "cookies",
+    "low_cookies",
+    "confirmed_ids",
+    "no_responses",
+    "texts",
+    "sums",
+    "two_of_one_id",
+    "refused_ends",
+    "refused_mutations",
+    "keys",
+    "escapes",
+    "numbers",
+    "seventeen_keys",
+    "a_hundred_each",
+    "deep_arguments",
+    "deep_bodies_125",
+    "deep_bodies_126",
+    "deep_bodies_127",
+    "mutators_done",
+    "mutators_refused",
+];
+
+/// Says whether a script prints what stands beside it.
+pub(crate) fn tell(rt: &HostRuntime, folder: &str, name: &str) -> io::Result<()> {
+    let script = read(rt, folder, name, "script")?;
+    let wanted = read(rt, folder, name, "printed")?;
+    compare(rt, name, &script, &wanted)
+}
+
+fn compare(rt: &HostRuntime, name: &str, script: &[u8], wanted: &[u8]) -> io::Result<()> {
+    let ran = run(rt, script)?;
+    let plain = run_plainly(rt, script)?;
+    if ran.has_printed(wanted) && plain.has_printed(wanted) {
+        return println!(rt; "{name}: as told");
+    }
+    println!(rt; "{name}: something else")?;
+    show(rt, &ran)?;
+    show(rt, &plain)
+}
+
+/// Prints what a run printed.
+fn show(rt: &HostRuntime, ran: &Ran) -> io::Result<()> {
+    io::writer(rt).write_all(&ran.out)?;
+    io::writer(rt).write_all(&ran.told)
+}
