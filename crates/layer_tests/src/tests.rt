@@ -2,9 +2,7 @@
 mod chains;
 mod groups;
 mod maps;
-mod plain_groups;
 mod reads;
-mod records;
 mod scans;
 mod trees;
 mod writes;

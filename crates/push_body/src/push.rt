@@ -1,7 +1,7 @@
 //! The body of a push: all that is pending, in order.
-ghost use Rattle.std.specs.Prelude.{◌≡◌, ◌++◌, IfOk, IsOkUnless};
+ghost use Rattle.std.specs.Prelude.{◌≡◌, ◌++◌, codes, IfOk, IsOkUnless};
 ghost use Rattle.group_history.specs.declared.refusals.Refusal.TheVariants as refusal;
-ghost use Rattle.push_body.specs.Bodies.{mutation_text, mutations_text, push_text};
+ghost use Rattle.push_body.specs.Bodies.{quoted, mutation_text, mutations_text, push_text};
 
 use crate::body::Body;
 use crate::identities::Identity;
@@ -11,10 +11,7 @@ use std::alloc::{AllocError, Global};
 fn with_mutation(body: Body, mutation: &Mutation) -> Result<Body, AllocError>
     ensures { IfOk result (λ b. b ≡ body ++ mutation_text mutation.now) }
 {
-    body.raw(r#"{"args":"#)?
-        .raw(mutation.args.text())?
-        .raw(r#","clientID":"#)?
-        .text(mutation.client.as_str())?
+    with_client(body, mutation)?
         .raw(r#","id":"#)?
         .number(mutation.id)?
         .raw(r#","name":"#)?
@@ -22,6 +19,16 @@ fn with_mutation(body: Body, mutation: &Mutation) -> Result<Body, AllocError>
         .raw(r#","timestamp":"#)?
         .number(mutation.timestamp)?
         .raw("}")
+}
+
+// The beginning of a mutation, up to its client.
+fn with_client(body: Body, mutation: &Mutation) -> Result<Body, AllocError>
+    ensures { IfOk result (λ b. b ≡ body ++ codes "{\"args\":" ++ mutation.now.args ++ codes ",\"clientID\":" ++ quoted mutation.now.client) }
+{
+    body.raw(r#"{"args":"#)?
+        .raw(mutation.args.text())?
+        .raw(r#","clientID":"#)?
+        .text(mutation.client.as_str())
 }
 
 /// The mutations in order, with commas between them.

@@ -13,12 +13,18 @@ fn name_of(alloc: Global, refusal: Refusal) -> Result<String, Refusal> {
     Ok(format!(in alloc; "{refusal:?}")?)
 }
 
-/// The compact text of a JSON text.
+/// The compact text of a JSON text, by way of the value that it is.
 pub(crate) fn text(alloc: Global, bytes: &[u8]) -> Result<String, Refusal> {
     match Json::read(alloc, bytes) {
-        Ok(json) => Ok(String::from_str(alloc, json.text())?),
+        Ok(json) => text_again(alloc, &json),
         Err(refusal) => name_of(alloc, refusal),
     }
+}
+
+fn text_again(alloc: Global, json: &Json) -> Result<String, Refusal> {
+    let value = json.value(alloc)?;
+    let again = Json::of(alloc, &value)?;
+    Ok(String::from_str(alloc, again.text())?)
 }
 
 fn operation(alloc: Global, operation: &Patch) -> Result<String, Refusal> {
@@ -96,4 +102,13 @@ pub(crate) fn order(alloc: Global, cookies: &str) -> Result<String, Refusal> {
         None => "no cookies",
     };
     Ok(String::from_str(alloc, sign)?)
+}
+
+/// Whether the body before the bar says the same as the one after it.
+pub(crate) fn sameness(alloc: Global, bodies: &str) -> Result<String, Refusal> {
+    let (first, second) = bodies.split_once(" | ").unwrap_or((bodies, ""));
+    let first = read_response(alloc, first.as_bytes())?;
+    let second = read_response(alloc, second.as_bytes())?;
+    let word = if first == second { "same" } else { "other" };
+    Ok(String::from_str(alloc, word)?)
 }

@@ -7,6 +7,7 @@
 
 mod answers;
 mod bodies;
+mod records;
 mod requests;
 mod rows;
 
@@ -16,5 +17,6 @@ fn main(rt: HostRuntime) -> anyhow::Result<()> {
     for kind in KINDS {
         tell(&rt, kind)?;
     }
-    bodies::tell_all(&rt)
+    bodies::tell_all(&rt)?;
+    records::tell_all(&rt)
 }

@@ -30,7 +30,7 @@ fn identity_of(texts: Vec<Text>) -> Option<Identity> {
     })
 }
 
-fn incremented(alloc: Global, client: Text) -> Result<Mutation, Refusal> {
+pub(crate) fn incremented(alloc: Global, client: Text) -> Result<Mutation, Refusal> {
     let name = Text::new(alloc, "incr")?;
     let args = Json::read(alloc, b"[\"n\",1]")?;
     Ok(Mutation {

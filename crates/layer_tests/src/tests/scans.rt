@@ -67,39 +67,36 @@ fn both_answer(alloc: Global, scan: &Scan, want: &str) -> Result<bool, Refusal> 
     Ok(draft.as_str() == want && placed.as_str() == want)
 }
 
-fn answers(
-    alloc: Global,
-    prefix: &str,
-    from: From,
-    limit: Option<u64>,
-    want: &str,
-) -> Result<bool, Refusal> {
-    let scan = scan_of(alloc, prefix, from, limit)?;
+/// A prefix, from where, how many rows at most, and the numbers of the keys.
+struct Case(&'static str, From, Option<u64>, &'static str);
+
+const CASES: [Case; 13] = [
+    Case("k0", From::Any, None, "01 02 03 04 05 06 07 08 09 "),
+    Case("", From::Any, Some(0), ""),
+    Case("", From::Any, Some(1), "01 "),
+    Case("k1", From::Any, Some(99), "10 11 12 13 14 15 16 17 18 "),
+    Case("k1", From::Any, Some(1), "10 "),
+    Case("k2", From::Any, None, ""),
+    Case("", From::At("k07"), Some(3), "07 08 09 "),
+    Case("", From::At("k075"), Some(2), "08 09 "),
+    Case("", From::After("k08"), Some(1), "09 "),
+    Case("k0", From::After("k07"), None, "08 09 "),
+    Case("k1", From::At("a"), Some(2), "10 11 "),
+    Case("k0", From::At("k10"), None, ""),
+    Case("", From::After("k18"), None, ""),
+];
+
+fn is_answered(alloc: Global, case: &Case) -> Result<bool, Refusal> {
+    let Case(prefix, from, limit, want) = case;
+    let scan = scan_of(alloc, prefix, *from, *limit)?;
     both_answer(alloc, &scan, want)
 }
 
-/// A prefix, from where, how many rows at most, and the numbers of the keys.
-const SCANS: [(&str, From, Option<u64>, &str); 13] = [
-    ("k0", From::Any, None, "01 02 03 04 05 06 07 08 09 "),
-    ("", From::Any, Some(0), ""),
-    ("", From::Any, Some(1), "01 "),
-    ("k1", From::Any, Some(99), "10 11 12 13 14 15 16 17 18 "),
-    ("k1", From::Any, Some(1), "10 "),
-    ("k2", From::Any, None, ""),
-    ("", From::At("k07"), Some(3), "07 08 09 "),
-    ("", From::At("k075"), Some(2), "08 09 "),
-    ("", From::After("k08"), Some(1), "09 "),
-    ("k0", From::After("k07"), None, "08 09 "),
-    ("k1", From::At("a"), Some(2), "10 11 "),
-    ("k0", From::At("k10"), None, ""),
-    ("", From::After("k18"), None, ""),
-];
-
 /// What the first of the scans that is answered otherwise is to answer.
 fn other_scan(alloc: Global) -> Result<Option<&'static str>, Refusal> {
-    for (prefix, from, limit, want) in &SCANS {
-        if !answers(alloc, prefix, *from, *limit, want)? {
-            return Ok(Some(want));
+    for case in &CASES {
+        if !is_answered(alloc, case)? {
+            return Ok(Some(case.3));
         }
     }
     Ok(None)

@@ -5,11 +5,15 @@ use std::alloc::Global;
 use std::prelude::*;
 use transactions::WriteTx;
 
+fn number_text(alloc: Global, number: u64) -> Result<Json, Refusal> {
+    let text = format!(in alloc; "{number}")?;
+    Json::read(alloc, text.as_bytes())
+}
+
 /// Puts a number at the key of the number.
 fn put_key<V: WriteView>(alloc: Global, view: &mut V, number: u64) -> Result<(), Refusal> {
     let key = format!(in alloc; "k{number:02}")?;
-    let text = format!(in alloc; "{number}")?;
-    let value = Json::read(alloc, text.as_bytes())?;
+    let value = number_text(alloc, number)?;
     view.put(key.as_str(), &value)?;
     Ok(())
 }
@@ -43,12 +47,16 @@ fn scan_last_two(alloc: Global) -> Result<Scan, Refusal> {
     })
 }
 
+fn are_last_two(alloc: Global, rows: &[(Text, Json)]) -> Result<bool, Refusal> {
+    let text = text_of(alloc, rows)?;
+    Ok(text.as_str() == "k16=16 k17=17 ")
+}
+
 /// Whether the scan has the keys of 16 and 17, with their numbers.
 fn last_two_scanned<V: WriteView>(alloc: Global, view: &mut V) -> Result<bool, Refusal> {
     let scan = scan_last_two(alloc)?;
     let rows = view.scan(&scan)?;
-    let text = text_of(alloc, &rows)?;
-    Ok(text.as_str() == "k16=16 k17=17 ")
+    are_last_two(alloc, &rows)
 }
 
 /// Whether the number 3 is at its key.
@@ -86,9 +94,7 @@ fn cleared<C: Chunks + Drop>(alloc: Global, chunks: C) -> Result<bool, Refusal> 
     let mut tx = WriteTx::new(alloc, chunks, Tree::empty(alloc));
     put_keys(alloc, &mut tx, 3)?;
     tx.clear();
-    let there = tx.has("k02")?;
-    let (_chunks, _tree) = tx.into_parts();
-    Ok(there)
+    Ok(tx.has("k02")?)
 }
 
 #[test]

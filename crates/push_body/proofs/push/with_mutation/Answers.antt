@@ -8,8 +8,8 @@ use Rattle.push_body.proofs.push.with_mutation.Goals as goal
 pub returns : goal.returns
 unfolding mutation_text
 returns c =
-    IfOk-weaker c.raw-7.result _ _
+    IfOk-weaker c.raw-4.result _ _
     (λ b e. e
-    ∙ rw (c.in_ok-number-2.ensures, c.in_ok-raw-6.ensures, c.in_ok-text-2.ensures, c.in_ok-raw-5.ensures, c.in_ok-number.ensures, c.in_ok-raw-4.ensures, c.in_ok-text.ensures, c.in_ok-raw-3.ensures, c.in_ok-raw-2.ensures, c.in_ok-raw.ensures, c.text.ensures, c.as_str.ensures, c.as_str-2.ensures)
+    ∙ rw (c.in_ok-number-2.ensures, c.in_ok-raw-3.ensures, c.in_ok-text.ensures, c.in_ok-raw-2.ensures, c.in_ok-number.ensures, c.in_ok-raw.ensures, c.in_ok-with_client.ensures, c.as_str.ensures)
     (fold-append c.args.body (mutation_pieces c.args.mutation.now)))
-    c.raw-7.ensures
+    c.raw-4.ensures
