@@ -33,7 +33,8 @@ use group_history::{Change, Child, Mutators, Node, Ref};
 use logbook::{Offer, Word};
 use std::marker::Model;
 
-const STAMPS: u64 = 1 << 44;
+/// No stamp is this high.
+pub(crate) const STAMPS: u64 = 1 << 44;
 
 /// The two words that all threads share. Contracts see which book they are of.
 #[derive(Drop)]

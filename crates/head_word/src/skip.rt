@@ -6,12 +6,10 @@ ghost use Rattle.head_word.specs.Books.{next_stamp, drafted, empty_leaf};
 ghost use Rattle.head_word.specs.Marks.{own, others};
 
 use crate::asks::{Asks, Leaves};
-use crate::head::Head;
+use crate::head::{Head, STAMPS};
 use crate::lost::Lost;
 use crate::mark::Mark;
 use group_history::Mutators;
-
-const STAMPS: u64 = 1 << 44;
 
 impl<M: Mutators> Head<M> {
     /// Draws a stamp for each of so many empty leaves, as `draft` does for nodes that its caller has, and

@@ -191,22 +191,16 @@ fn a_snapshot_has_nothing_pending(rt: HostRuntime) -> Result<(), Refusal> {
 
 /// What a state has: whether its cookie is null, the root of its pulled map, how many mutations are pending, and
 /// what is confirmed of `a`.
-#[derive(Clone, Copy)]
-struct Facts {
-    is_null: bool,
-    pulled: u64,
-    pending: usize,
-    confirmed: Option<u64>,
-}
+type Facts = (bool, u64, usize, Option<u64>);
 
 fn told(alloc: Global, state: &CommitState) -> Result<Facts, Refusal> {
     let client = Text::new(alloc, "a")?;
-    Ok(Facts {
-        is_null: state.cookie.text() == "null",
-        pulled: state.pulled.bits(),
-        pending: state.pending.len(),
-        confirmed: state.confirmed.get(&client).copied(),
-    })
+    Ok((
+        state.cookie.text() == "null",
+        state.pulled.bits(),
+        state.pending.len(),
+        state.confirmed.get(&client).copied(),
+    ))
 }
 
 fn state_told(alloc: Global, nodes: &VecNodes, head: Ref) -> Result<Facts, Refusal>
@@ -224,11 +218,8 @@ fn second_told(alloc: Global) -> Result<Facts, Refusal> {
 
 #[test]
 fn a_state_is_told(rt: HostRuntime) -> Result<(), Refusal> {
-    let state = second_told(rt.alloc())?;
-    assert!(rt; state.is_null);
-    assert_eq!(rt; state.pulled, at(2).bits());
-    assert_eq!(rt; state.pending, 2);
-    assert_eq!(rt; state.confirmed, Some(4));
+    let told = second_told(rt.alloc())?;
+    assert_eq!(rt; told, (true, at(2).bits(), 2, Some(4)));
     Ok(())
 }
 
@@ -279,20 +270,18 @@ fn root_read(nodes: &VecNodes, head: Ref) -> Result<u64, Refusal>
     Ok(root.bits())
 }
 
-fn third_root(alloc: Global) -> Result<u64, Refusal> {
+/// The roots that are read at the third local commit and at the next snapshot.
+fn roots_read(alloc: Global) -> Result<(u64, u64), Refusal> {
     let nodes = example(alloc)?;
-    root_read(&nodes, at(6))
-}
-
-fn next_root(alloc: Global) -> Result<u64, Refusal> {
-    let nodes = example(alloc)?;
-    root_read(&nodes, at(7))
+    let third = root_read(&nodes, at(6))?;
+    let next = root_read(&nodes, at(7))?;
+    Ok((third, next))
 }
 
 #[test]
 fn queries_read_the_newest_map(rt: HostRuntime) -> Result<(), Refusal> {
-    assert_eq!(rt; third_root(rt.alloc())?, at(1).bits());
-    assert_eq!(rt; next_root(rt.alloc())?, at(0).bits());
+    let roots = roots_read(rt.alloc())?;
+    assert_eq!(rt; roots, (at(1).bits(), at(0).bits()));
     Ok(())
 }
 

@@ -92,9 +92,16 @@ fn told_by_solo(alloc: Global, calls: &[Call<'_>]) -> Result<Vec<u64>, Refusal> 
     numbers_of(alloc, &replies)
 }
 
-fn told_by_plain(alloc: Global, calls: &[Call<'_>]) -> Result<Vec<u64>, Refusal> {
+/// What the plain group replies.
+type Replies = Vec<Result<Reply, Refusal>>;
+
+fn replies_of_plain(alloc: Global, calls: &[Call<'_>]) -> Result<Replies, Refusal> {
     let mut plain = plain(alloc)?;
-    let replies = plain.call_all(alloc, calls)?;
+    Ok(plain.call_all(alloc, calls)?)
+}
+
+fn told_by_plain(alloc: Global, calls: &[Call<'_>]) -> Result<Vec<u64>, Refusal> {
+    let replies = replies_of_plain(alloc, calls)?;
     numbers_of(alloc, &replies)
 }
 
@@ -268,6 +275,19 @@ fn count_dropped(
     Ok((left.len(), counted.shown))
 }
 
+/// How many nodes a pull leaves behind, and how many are shown until that is known.
+fn dropped_by(
+    alloc: Global,
+    nodes: &mut VecNodes,
+    head: Ref,
+    pull: &PullOk,
+) -> Result<(usize, u64), Refusal>
+    requires { IsSome (version_at (map content_of nodes.old) (stamp_of head)) }
+{
+    let new = add_rebased(alloc, nodes, head, pull)?;
+    count_dropped(alloc, nodes, head, new)
+}
+
 /// Pulls so many keys.
 fn pull_keys(alloc: Global, solo: &mut Solo<ScriptMutators>, count: u32) -> Result<Ended, Refusal> {
     let body = numbered(alloc, count)?;
@@ -303,8 +323,7 @@ fn parts(alloc: Global, count: u32) -> Result<(VecNodes, Ref), Refusal>
 fn left_behind(alloc: Global, count: u32) -> Result<(usize, u64), Refusal> {
     let pull = nothing_new(alloc)?;
     let (mut nodes, head) = parts(alloc, count)?;
-    let new = add_rebased(alloc, &mut nodes, head, &pull)?;
-    count_dropped(alloc, &nodes, head, new)
+    dropped_by(alloc, &mut nodes, head, &pull)
 }
 
 #[test]

@@ -1,5 +1,5 @@
 //! Maps of numbered keys.
-ghost use Rattle.std.specs.Prelude.{◌≡◌, ◌++◌, length, map, IfOk, IsSome};
+ghost use Rattle.std.specs.Prelude.{◌≡◌, ◌++◌, length, map, IfOk, OnOk, IsSome};
 ghost use Rattle.group_history.specs.Naming.{content_of};
 ghost use Rattle.group_history.specs.Refs.{stamp_of};
 ghost use Rattle.group_history.specs.Spelling.{map_at};
@@ -35,10 +35,26 @@ pub(super) fn grown(
     let mut tree = Tree::empty(alloc);
     let one = json(alloc, "1")?;
     for before in 0..count {
-        let key = key_of(alloc, digits, before + 1)?;
-        tree.put(alloc, chunks, key.as_str(), &one)?;
+        put_number(alloc, chunks, &mut tree, before + 1, digits, &one)?;
     }
     Ok(tree)
+}
+
+/// Puts a value at the key of a number.
+fn put_number(
+    alloc: Global,
+    chunks: &mut Shelf<'_>,
+    tree: &mut Tree,
+    number: u64,
+    digits: usize,
+    value: &Json,
+) -> Result<(), Refusal>
+    requires { IsSome (tree_map (map content_of chunks.old.nodes.now) tree.old) }
+    ensures { OnOk result (IsSome (tree_map (map content_of chunks.new.nodes.now) tree.new)) }
+{
+    let key = key_of(alloc, digits, number)?;
+    tree.put(alloc, chunks, key.as_str(), value)?;
+    Ok(())
 }
 
 /// Nodes, a draft of more, and the root of a map in the draft.

@@ -36,14 +36,20 @@ fn is_b(rows: &[(Text, Json)]) -> bool {
     }
 }
 
-/// What a commit answers: whether it has `a`, whether 1 is at `b`, whether `b` is its only key, whether it has none,
-/// how many mutations are pending, and whether its cookie is null.
+/// What a commit answers of its map: whether it has `a`, whether 1 is at `b`, whether `b` is its only key, and whether
+/// it has none.
 #[derive(Clone, Copy)]
-struct Answers {
+struct InMap {
     has_a: bool,
     one_at_b: bool,
     only_b: bool,
     empty: bool,
+}
+
+/// The same; how many mutations are pending; and whether its cookie is null.
+#[derive(Clone, Copy)]
+struct Answers {
+    map: InMap,
     pending: usize,
     null: bool,
 }
@@ -53,10 +59,14 @@ fn one_at_b<N: Nodes>(tx: &mut ReadTx<N>) -> Result<bool, Refusal> {
     Ok(found.is_some_and(|value| value.text() == "1"))
 }
 
+fn finds_b<N: Nodes>(tx: &mut ReadTx<N>, scan: &Scan) -> Result<bool, Refusal> {
+    let rows = tx.scan(scan)?;
+    Ok(is_b(&rows))
+}
+
 fn only_b<N: Nodes>(alloc: Global, tx: &mut ReadTx<N>) -> Result<bool, Refusal> {
     let all = scan_all(alloc)?;
-    let rows = tx.scan(&all)?;
-    Ok(is_b(&rows))
+    finds_b(tx, &all)
 }
 
 fn pending<N: Nodes>(tx: &mut ReadTx<N>) -> Result<usize, Refusal> {
@@ -69,12 +79,18 @@ fn has_null<N: Nodes>(tx: &mut ReadTx<N>) -> Result<bool, Refusal> {
     Ok(cookie.text() == "null")
 }
 
-fn answered<N: Nodes>(alloc: Global, tx: &mut ReadTx<N>) -> Result<Answers, Refusal> {
-    Ok(Answers {
+fn in_map<N: Nodes>(alloc: Global, tx: &mut ReadTx<N>) -> Result<InMap, Refusal> {
+    Ok(InMap {
         has_a: tx.has("a")?,
         one_at_b: one_at_b(tx)?,
         only_b: only_b(alloc, tx)?,
         empty: tx.is_empty()?,
+    })
+}
+
+fn answered<N: Nodes>(alloc: Global, tx: &mut ReadTx<N>) -> Result<Answers, Refusal> {
+    Ok(Answers {
+        map: in_map(alloc, tx)?,
         pending: pending(tx)?,
         null: has_null(tx)?,
     })
@@ -97,10 +113,10 @@ fn third_seen(alloc: Global) -> Result<Answers, Refusal> {
 #[test]
 fn a_commit_is_read(rt: HostRuntime) -> Result<(), Refusal> {
     let seen = third_seen(rt.alloc())?;
-    assert!(rt; !seen.has_a);
-    assert!(rt; seen.one_at_b);
-    assert!(rt; seen.only_b);
-    assert!(rt; !seen.empty);
+    assert!(rt; !seen.map.has_a);
+    assert!(rt; seen.map.one_at_b);
+    assert!(rt; seen.map.only_b);
+    assert!(rt; !seen.map.empty);
     assert_eq!(rt; seen.pending, 3);
     assert!(rt; seen.null);
     Ok(())

@@ -1,11 +1,10 @@
 //! Scans of a map that is a draft, and of the same map once it is placed.
-ghost use Rattle.std.specs.Prelude.{map, IsSome};
-ghost use Rattle.group_history.specs.Naming.{content_of};
+ghost use Rattle.std.specs.Prelude.{IsSome};
 ghost use Rattle.map_tree.specs.Trees.{tree_map};
 
 use super::maps::{grown, placed};
 use group_history::{Json, Refusal, Scan, Start, Text};
-use map_tree::{Staged, Tree, VecChunks};
+use map_tree::{Chunks, Staged, Tree, VecChunks};
 use std::alloc::Global;
 use std::prelude::*;
 
@@ -19,12 +18,25 @@ fn told(alloc: Global, rows: &[(Text, Json)]) -> Result<String, Refusal> {
     Ok(told)
 }
 
+/// What a scan of a map tells.
+fn scanned<C: Chunks>(
+    alloc: Global,
+    chunks: &mut C,
+    tree: &Tree,
+    scan: &Scan,
+) -> Result<String, Refusal>
+    requires { IsSome (tree_map (C.contents chunks.old) tree.now) }
+{
+    let rows = tree.scan(alloc, chunks, scan)?;
+    told(alloc, &rows)
+}
+
 /// The scan in the map of k01 to k18.
 fn of_draft(alloc: Global, scan: &Scan) -> Result<String, Refusal> {
     let nodes = VecChunks::new(alloc);
     let mut chunks = nodes.shelf();
     let tree = grown(alloc, &mut chunks, 2, 18)?;
-    told(alloc, &tree.scan(alloc, &mut chunks, scan)?)
+    scanned(alloc, &mut chunks, &tree, scan)
 }
 
 /// The scan in the same map, frozen.
@@ -32,8 +44,7 @@ fn of_placed(alloc: Global, scan: &Scan) -> Result<String, Refusal> {
     let nodes = VecChunks::new(alloc);
     let placed = placed(alloc, &nodes, 2, 18)?;
     let mut chunks = Staged::new(placed.nodes, &placed.draft);
-    let rows = Tree::at(placed.root).scan(alloc, &mut chunks, scan)?;
-    told(alloc, &rows)
+    scanned(alloc, &mut chunks, &Tree::at(placed.root), scan)
 }
 
 /// From which key a scan of a case begins.
@@ -70,13 +81,16 @@ fn both_answer(alloc: Global, scan: &Scan, want: &str) -> Result<bool, Refusal> 
 /// A prefix, from where, how many rows at most, and the numbers of the keys.
 struct Case(&'static str, From, Option<u64>, &'static str);
 
-const CASES: [Case; 13] = [
+const FROM_ANY: [Case; 6] = [
     Case("k0", From::Any, None, "01 02 03 04 05 06 07 08 09 "),
     Case("", From::Any, Some(0), ""),
     Case("", From::Any, Some(1), "01 "),
     Case("k1", From::Any, Some(99), "10 11 12 13 14 15 16 17 18 "),
     Case("k1", From::Any, Some(1), "10 "),
     Case("k2", From::Any, None, ""),
+];
+
+const FROM_A_KEY: [Case; 7] = [
     Case("", From::At("k07"), Some(3), "07 08 09 "),
     Case("", From::At("k075"), Some(2), "08 09 "),
     Case("", From::After("k08"), Some(1), "09 "),
@@ -93,8 +107,8 @@ fn is_answered(alloc: Global, case: &Case) -> Result<bool, Refusal> {
 }
 
 /// What the first of the scans that is answered otherwise is to answer.
-fn other_scan(alloc: Global) -> Result<Option<&'static str>, Refusal> {
-    for case in &CASES {
+fn other_scan(alloc: Global, cases: &[Case]) -> Result<Option<&'static str>, Refusal> {
+    for case in cases {
         if !is_answered(alloc, case)? {
             return Ok(Some(case.3));
         }
@@ -103,7 +117,13 @@ fn other_scan(alloc: Global) -> Result<Option<&'static str>, Refusal> {
 }
 
 #[test]
-fn scans(rt: HostRuntime) -> Result<(), Refusal> {
-    assert_eq!(rt; other_scan(rt.alloc())?, None);
+fn scans_from_any_key(rt: HostRuntime) -> Result<(), Refusal> {
+    assert_eq!(rt; other_scan(rt.alloc(), &FROM_ANY)?, None);
+    Ok(())
+}
+
+#[test]
+fn scans_from_a_key(rt: HostRuntime) -> Result<(), Refusal> {
+    assert_eq!(rt; other_scan(rt.alloc(), &FROM_A_KEY)?, None);
     Ok(())
 }

@@ -1,11 +1,14 @@
 //! How trees are shaped, and how many chunks a change makes new.
-ghost use Rattle.std.specs.Prelude.{map, IfOk, IsSome};
+ghost use Rattle.std.specs.Prelude.{◌++◌, map, IfOk, IsSome};
+ghost use mathlib.Core.List.{IsPrefix};
 ghost use Rattle.group_history.specs.Naming.{content_of};
+ghost use Rattle.group_history.specs.Refs.{stamp_of};
+ghost use Rattle.group_history.specs.Spelling.{map_at};
 ghost use Rattle.map_tree.specs.Trees.{tree_map};
 
 use super::maps::{grown, json, key_of, placed};
 use group_history::{Chunk, Json, Node, Ref, Refusal, Scan, Start, Text};
-use map_tree::{Draft, Shelf, Staged, Tree, VecChunks};
+use map_tree::{Chunks, Draft, Shelf, Staged, Tree, VecChunks};
 use std::alloc::Global;
 use std::prelude::*;
 
@@ -31,6 +34,13 @@ fn keys_at(nodes: &[Node<Ref>], place: usize) -> usize {
     }
 }
 
+/// Those of a tree that is frozen.
+fn frozen_kinds(alloc: Global, nodes: &VecChunks, tree: Tree) -> Result<(usize, usize), Refusal> {
+    let mut draft = nodes.draft(alloc);
+    let _ = tree.freeze(alloc, &mut draft)?;
+    Ok(kinds(draft.nodes()))
+}
+
 /// How deep the map of the first so many keys is, and how many new chunks, leaves and inner chunks it has.
 fn shape(alloc: Global, digits: usize, count: u64) -> Result<(u64, u64, usize, usize), Refusal> {
     let nodes = VecChunks::new(alloc);
@@ -38,9 +48,7 @@ fn shape(alloc: Global, digits: usize, count: u64) -> Result<(u64, u64, usize, u
     let tree = grown(alloc, &mut chunks, digits, count)?;
     let depth = tree.depth(&mut chunks)?;
     let fresh = tree.new_chunks();
-    let mut draft = nodes.draft(alloc);
-    let _ = tree.freeze(alloc, &mut draft)?;
-    let (leaves, inners) = kinds(draft.nodes());
+    let (leaves, inners) = frozen_kinds(alloc, &nodes, tree)?;
     Ok((depth, fresh, leaves, inners))
 }
 
@@ -150,14 +158,14 @@ fn seen(
     alloc: Global,
     chunks: &mut Shelf<'_>,
     tree: &Tree,
-    all: &Scan,
     keys: &str,
 ) -> Result<(u64, bool, bool), Refusal>
     requires { IsSome (tree_map (map content_of chunks.old.nodes.now) tree.now) }
 {
+    let all = scan_all(alloc)?;
     let depth = tree.depth(chunks)?;
     let empty = tree.is_empty(chunks)?;
-    let rows = tree.scan(alloc, chunks, all)?;
+    let rows = tree.scan(alloc, chunks, &all)?;
     Ok((depth, empty, are_keys(alloc, &rows, keys)?))
 }
 
@@ -172,12 +180,11 @@ fn scan_all(alloc: Global) -> Result<Scan, Refusal> {
 
 /// What is seen of a map with the keys of the first 17 numbers, once the first so many are removed.
 fn left(alloc: Global, count: u32, keys: &str) -> Result<(u64, bool, bool), Refusal> {
-    let all = scan_all(alloc)?;
     let nodes = VecChunks::new(alloc);
     let mut chunks = nodes.shelf();
     let tree = grown(alloc, &mut chunks, 2, 17)?;
     let tree = thinned(alloc, &mut chunks, tree, count)?;
-    seen(alloc, &mut chunks, &tree, &all, keys)
+    seen(alloc, &mut chunks, &tree, keys)
 }
 
 /// How many keys are removed, how deep the map is then, whether it is empty, and its keys.
@@ -221,8 +228,21 @@ fn new_after_put(
     let nodes = VecChunks::new(alloc);
     let placed = placed(alloc, &nodes, digits, count)?;
     let mut chunks = Staged::new(placed.nodes, &placed.draft);
-    let mut tree = Tree::at(placed.root);
-    tree.put(alloc, &mut chunks, key, value)?;
+    new_in(alloc, &mut chunks, placed.root, key, value)
+}
+
+/// How many chunks are new once a value is put at a key of a placed map.
+fn new_in<C: Chunks>(
+    alloc: Global,
+    chunks: &mut C,
+    root: Ref,
+    key: &str,
+    value: &Json,
+) -> Result<u64, Refusal>
+    requires { IsSome (map_at (C.contents chunks.old) (stamp_of root)) }
+{
+    let mut tree = Tree::at(root);
+    tree.put(alloc, chunks, key, value)?;
     Ok(tree.new_chunks())
 }
 
@@ -266,18 +286,31 @@ fn chunks_of_changes(rt: HostRuntime) -> Result<(), Refusal> {
     Ok(())
 }
 
-/// How many chunks are new once a key is removed from the placed map of k01 to k17, and whether that map
-/// still has its first key.
+/// How many chunks are new once a key is removed from a placed map.
+fn new_after_del(
+    alloc: Global,
+    chunks: &mut Staged<'_>,
+    root: Ref,
+    key: &str,
+) -> Result<u64, Refusal>
+    requires { IsSome (map_at (map content_of (chunks.old.nodes.now ++ chunks.old.draft.now.nodes)) (stamp_of root)) }
+    ensures { IsPrefix (map content_of (chunks.old.nodes.now ++ chunks.old.draft.now.nodes)) (map content_of (chunks.new.nodes.now ++ chunks.new.draft.now.nodes)) }
+{
+    let mut tree = Tree::at(root);
+    tree.del(alloc, chunks, key)?;
+    let mut made = Draft::new(alloc, 0);
+    let _ = tree.freeze(alloc, &mut made)?;
+    Ok(made.len())
+}
+
+/// The same of the placed map of k01 to k17, and whether that map still has its first key.
 fn removed(alloc: Global, key: &str) -> Result<(u64, bool), Refusal> {
     let nodes = VecChunks::new(alloc);
     let placed = placed(alloc, &nodes, 2, 17)?;
     let mut chunks = Staged::new(placed.nodes, &placed.draft);
-    let mut tree = Tree::at(placed.root);
-    tree.del(alloc, &mut chunks, key)?;
-    let mut made = Draft::new(alloc, 0);
-    let _ = tree.freeze(alloc, &mut made)?;
+    let fresh = new_after_del(alloc, &mut chunks, placed.root, key)?;
     let has = Tree::at(placed.root).has(&mut chunks, "k01")?;
-    Ok((made.len(), has))
+    Ok((fresh, has))
 }
 
 const REMOVED: [(&str, u64); 5] = [("k00", 0), ("k18", 0), ("k01", 2), ("k09", 2), ("k17", 2)];

@@ -75,6 +75,7 @@ struct Answers {
 }
 
 fn answered<V: WriteView>(alloc: Global, view: &mut V) -> Result<Answers, Refusal> {
+    put_keys(alloc, view, 17)?;
     Ok(Answers {
         there: view.has("k09")?,
         behind: view.has("k18")?,
@@ -85,16 +86,19 @@ fn answered<V: WriteView>(alloc: Global, view: &mut V) -> Result<Answers, Refusa
 
 fn written<C: Chunks + Drop>(alloc: Global, chunks: C) -> Result<Answers, Refusal> {
     let mut tx = WriteTx::new(alloc, chunks, Tree::empty(alloc));
-    put_keys(alloc, &mut tx, 17)?;
     answered(alloc, &mut tx)
 }
 
 /// Whether a key is there after all are taken away.
-fn cleared<C: Chunks + Drop>(alloc: Global, chunks: C) -> Result<bool, Refusal> {
-    let mut tx = WriteTx::new(alloc, chunks, Tree::empty(alloc));
-    put_keys(alloc, &mut tx, 3)?;
+fn left_after_clear<C: Chunks + Drop>(alloc: Global, tx: &mut WriteTx<C>) -> Result<bool, Refusal> {
+    put_keys(alloc, tx, 3)?;
     tx.clear();
     Ok(tx.has("k02")?)
+}
+
+fn cleared<C: Chunks + Drop>(alloc: Global, chunks: C) -> Result<bool, Refusal> {
+    let mut tx = WriteTx::new(alloc, chunks, Tree::empty(alloc));
+    left_after_clear(alloc, &mut tx)
 }
 
 #[test]

@@ -13,9 +13,9 @@ use Rattle.layer_tests.proofs.tests.trees.removed.Goals as goal
 pub has-requires : goal.has-requires
 has-requires c =
     let p = map content_of (c.new-chunks.result.nodes.now ++ c.new-chunks.result.draft.now.nodes) in
-    let q = map content_of (c.del.new.chunks.nodes.now ++ c.del.new.chunks.draft.now.nodes) in
+    let q = map content_of (c.new_after_del.new.chunks.nodes.now ++ c.new_after_del.new.chunks.draft.now.nodes) in
     let root = c.in_ok-placed.placed.root in
     let all = ap (λ (ns : List (Node Ref)). map content_of (ns ++ c.new-chunks.result.draft.now.nodes)) c.new-chunks.ensures.0
     ∙ ap (λ (d : Drafted). map content_of (c.in_ok-placed.placed.nodes.now ++ d.nodes)) c.new-chunks.ensures.1 in
     let before = subst IsSome (sym (ap (λ w. map_at w (stamp_of root)) all)) c.in_ok-placed.placed.spelled in
-    kept_there p q c.at.result.root c.del.ensures.grown (subst IsSome (sym (c.at.ensures.map p)) before)
+    kept_there p q c.at.result.root c.new_after_del.ensures (subst IsSome (sym (c.at.ensures.map p)) before)
