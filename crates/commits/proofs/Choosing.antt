@@ -12,8 +12,8 @@ use Rattle.group_history.specs.Spelling.{Spelled, rows_in, begins_with, joined_o
 use Rattle.group_history.proofs.Lists.{cons_cases, no_element, map_from, map_to, first_here}
 use Rattle.commits.specs.Meeting.{or_this, choose}
 use Rattle.commits.proofs.Spelled.{joined_one-some}
-use Rattle.map_tree.proofs.Texts.{same_text-is}
-use Rattle.map_tree.proofs.RowLemmas.{cmp, AllAbove, IsStrict, AllAbove-back, AllAbove-front, IsStrict-back, IsStrict-front}
+use Rattle.map_chunks.proofs.Texts.{same_text-is}
+use Rattle.map_chunks.proofs.RowLemmas.{cmp, AllAbove, IsStrict, AllAbove-back, AllAbove-front, IsStrict-back, IsStrict-front}
 
 -- a key of a front is below all behind the front
 above_seam : (k : Bytes) (a b : Rows) → IsStrict (a ++ b) → Contains (keys_of a) k → AllAbove k b

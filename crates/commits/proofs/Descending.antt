@@ -24,7 +24,7 @@ use Rattle.commits.proofs.Spelled.{made_of, spelled_segment, option_map-some, si
 use Rattle.std.proofs.lemmas.Bool.{eq-eqb}
 use Rattle.commits.proofs.Choosing.{chosen, part}
 use Rattle.commits.proofs.Reached.{IsThere, there_segment, reaches_stays, reaches_back, child_there}
-use Rattle.map_tree.proofs.RowLemmas.{IsStrict, strict}
+use Rattle.map_chunks.proofs.RowLemmas.{IsStrict, strict}
 
 -- the rows of a stamp's chunk are in strict order
 abbrev pub Ordered : Contents → ℕ → Type 0

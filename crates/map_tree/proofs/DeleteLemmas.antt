@@ -10,14 +10,14 @@ use Rattle.group_history.specs.Refs.{stamp_of}
 use Rattle.group_history.specs.Rows.{Rows}
 use Rattle.group_history.specs.Spelling.{Contents, Segment, segment_at}
 use Rattle.group_history.proofs.Spellings.{segment-content}
-use Rattle.map_tree.specs.Freezing.{root_places}
-use Rattle.map_tree.specs.Removing.{without, root_left, root_rows, IsWideRoot}
-use Rattle.map_tree.specs.Shown.{Seen, shown, chunk_rows, rows_or, map_of_rows}
-use Rattle.map_tree.specs.Trees.{root_map, root_fresh, root_or, IsWide, IsWideAt}
+use Rattle.map_tree.specs.Trees.{root_places, root_map, root_fresh, root_or, IsWide}
+use Rattle.map_nodes.specs.Removing.{without, root_left, root_rows, IsWideRoot}
+use Rattle.map_chunks.specs.Shown.{Seen, shown, chunk_rows, rows_or, map_of_rows}
+use Rattle.map_chunks.specs.Wide.{IsWideAt}
 use Rattle.map_tree.specs.declared.tree.Root.TheVariants.{Own}
-use Rattle.map_tree.proofs.RemoveLemmas.{map_removed}
-use Rattle.map_tree.proofs.TreeLemmas.{map_at-rows}
-use Rattle.map_tree.proofs.WideLemmas.{wide_grown}
+use Rattle.map_nodes.proofs.RemoveLemmas.{map_removed}
+use Rattle.map_chunks.proofs.TreeLemmas.{map_at-rows}
+use Rattle.map_nodes.proofs.WideLemmas.{wide_grown}
 
 -- what stands at a stamp that spells a chunk is there for good
 pub wide_at-kept : (old new : Contents) (k : ℕ) (s : Segment) → IsPrefix old new → segment_at old k ≡ Some s → IsWideAt old k → IsWideAt new k

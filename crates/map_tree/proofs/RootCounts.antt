@@ -9,14 +9,14 @@ use Rattle.group_history.specs.Map.{Bytes, Entries}
 use Rattle.group_history.specs.Refs.{stamp_of}
 use Rattle.group_history.specs.Spelling.{Contents, Segment, segment_at, map_at, rows_at}
 use Rattle.group_history.proofs.Spellings.{segment-content}
-use Rattle.map_tree.specs.Seeking.{chunk_depth}
-use Rattle.map_tree.specs.Shown.{Seen}
+use Rattle.map_chunks.specs.Seeking.{chunk_depth}
+use Rattle.map_chunks.specs.Shown.{Seen}
 use Rattle.map_tree.specs.Trees.{root_map, root_depth, IsWide}
 use Rattle.map_tree.specs.declared.tree.Root.{Root}
 use Rattle.map_tree.specs.declared.tree.Root.TheVariants.{Placed, Own}
-use Rattle.map_tree.proofs.JoinLemmas.{some_is}
-use Rattle.map_tree.proofs.OpenLemmas.{segment-kept, rows_at-segment}
-use Rattle.map_tree.proofs.WideLemmas.{wide_grown}
+use Rattle.map_chunks.proofs.JoinLemmas.{some_is}
+use Rattle.map_chunks.proofs.OpenLemmas.{segment-kept, rows_at-segment}
+use Rattle.map_nodes.proofs.WideLemmas.{wide_grown}
 use Rattle.map_tree.proofs.WriteLemmas.{placed_map}
 
 pub own_depth : (p : Contents) (r : Root) (n : Seen) (d : ℕ) → r ≡ Own n → root_depth p r ≡ Some d → n.depth ≡ d

@@ -10,17 +10,17 @@ use Rattle.group_history.specs.Rows.{Rows}
 use Rattle.group_history.specs.Spelling.{Contents, map_at}
 use Rattle.group_history.proofs.Folding.{and_then-some}
 use Rattle.group_history.proofs.Spellings.{map-stays}
-use Rattle.map_tree.specs.Shown.{shown, chunk_rows, IsTree, rows_or, map_of_rows}
+use Rattle.map_chunks.specs.Shown.{shown, chunk_rows, IsTree, rows_or, map_of_rows}
 use Rattle.map_tree.specs.Trees.{root_map}
-use Rattle.map_tree.specs.Writes.{is_same}
+use Rattle.map_chunks.specs.Writes.{is_same}
 use Rattle.map_tree.specs.declared.tree.Root.{Root}
 use Rattle.map_tree.specs.declared.tree.Root.TheVariants.{Placed, Own}
-use Rattle.map_tree.proofs.ChangeLemmas.{shown-kept}
-use Rattle.map_tree.proofs.OpenLemmas.{spells_rows, Spells}
-use Rattle.map_tree.proofs.RowLemmas.{cmp, same_key}
-use Rattle.map_tree.proofs.Shelves.{some_of}
-use Rattle.map_tree.proofs.Texts.{same_text-is}
-use Rattle.map_tree.proofs.TreeLemmas.{map_at-rows, map_is, map_from}
+use Rattle.map_nodes.proofs.ChangeLemmas.{shown-kept}
+use Rattle.map_chunks.proofs.OpenLemmas.{spells_rows, Spells}
+use Rattle.map_chunks.proofs.RowLemmas.{cmp, same_key}
+use Rattle.map_chunks.proofs.Shelves.{some_of}
+use Rattle.map_chunks.proofs.Texts.{same_text-is}
+use Rattle.map_chunks.proofs.TreeLemmas.{map_at-rows, map_is, map_from}
 
 pub put_map : (x y : Option Rows) (m : Entries) (key v : Bytes) → option_and_then map_of_rows x ≡ Some m → y ≡ Some (finite.put (slice_cmp nat_cmp) key v (rows_or x))
     → option_and_then map_of_rows y ≡ Some (finite.insert m key v)

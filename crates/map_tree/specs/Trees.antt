@@ -1,16 +1,15 @@
 -- The map that a tree is.
-use Rattle.std.specs.Prelude.{◌≡◌, ◌⊎◌, ◌<◌, ℕ, Bool, true, false, [], ◌∷◌, Option, Some, option_and_then, option_map, slice_get, None}
-use Rattle.group_history.specs.declared.nodes.Chunk.TheVariants.{Leaf, Inner}
-use Rattle.group_history.specs.declared.nodes.Node.{Node}
-use Rattle.group_history.specs.declared.nodes.Node.TheVariants.{Chunk, Commit}
+use Rattle.std.specs.Prelude.{ℕ, List, [], ◌∷◌, Option, Some, None, option_and_then, option_map}
 use Rattle.group_history.specs.declared.refs.Ref.{Ref}
 use Rattle.group_history.specs.Map.{Entries}
 use Rattle.group_history.specs.Refs.{stamp_of}
 use Rattle.group_history.specs.Spelling.{Contents, Segment, segment_at, map_at}
-use Rattle.map_tree.specs.Shown.{shown, map_of_rows, Seen}
-use Rattle.map_tree.specs.declared.tree.Tree.{Tree}
+use Rattle.map_chunks.specs.Places.{places_of}
+use Rattle.map_chunks.specs.Shown.{shown, map_of_rows}
+use Rattle.map_chunks.specs.Wide.{IsWideAt, IsWideChunk}
 use Rattle.map_tree.specs.declared.tree.Root.{Root}
 use Rattle.map_tree.specs.declared.tree.Root.TheVariants.{Placed, Own}
+use Rattle.map_tree.specs.declared.tree.Tree.{Tree}
 
 -- a placed root, if there is one, in the place of this one
 abbrev pub root_or : Option Ref → Root → Root
@@ -41,22 +40,6 @@ root_fresh (Own n) = n.fresh
 abbrev pub tree_fresh : Tree → ℕ
 tree_fresh t = root_fresh t.root
 
--- an inner chunk with one child
-abbrev pub is_narrow : Node ℕ → Bool
-is_narrow (Chunk (Inner (e ∷ []))) = true
-is_narrow (Chunk (Inner (e ∷ f ∷ es))) = false
-is_narrow (Chunk (Inner [])) = false
-is_narrow (Chunk (Leaf rows)) = false
-is_narrow (Commit c) = false
-
--- the chunk of the stamp isn't one
-abbrev pub IsWideAt : Contents → ℕ → Type 0
-IsWideAt contents stamp = (n : Node ℕ) → slice_get contents stamp ≡ Some n → is_narrow n ≡ false
-
--- a draft's chunk isn't one
-abbrev pub IsWideChunk : Seen → Type 0
-IsWideChunk n = (n.depth ≡ 1) ⊎ (1 < n.entries)
-
 abbrev pub IsWide : Contents → Root → Type 0
 IsWide contents (Placed at) = IsWideAt contents (stamp_of at)
 IsWide contents (Own n) = IsWideChunk n
@@ -72,3 +55,11 @@ placed_root (Own n) = None
 -- the reference of the root, where it is placed
 abbrev pub tree_root : Tree → Option Ref
 tree_root t = placed_root t.root
+
+abbrev pub root_places : Root → List Ref
+root_places (Placed at) = at ∷ []
+root_places (Own n) = places_of n.pieces
+
+-- the placed chunks that a tree names
+abbrev pub tree_places : Tree → List Ref
+tree_places t = root_places t.root

@@ -1,24 +1,10 @@
 //! A map as a tree of chunks.
+//!
+//! `Tree` is the map: its root is a chunk that was placed, or one of the draft's own. What shows placed
+//! chunks is handed on from `map_chunks`.
 #![tactic(auto)]
 
-mod chunks;
-mod drafts;
-mod ends;
-mod entries;
-mod keys;
-mod looks;
-mod nodes;
-mod placed;
-mod scanning;
-mod search;
-mod seconds;
-mod seeking;
-mod shelf;
-mod staged;
 mod tree;
 
-pub use chunks::{Chunks, ShowsChunk};
-pub use drafts::Draft;
-pub use shelf::{Lent, Shelf, VecChunks};
-pub use staged::Staged;
+pub use map_chunks::{Chunks, Draft, Lent, Shelf, ShowsChunk, Staged, VecChunks};
 pub use tree::Tree;

@@ -6,12 +6,12 @@ mod freezing;
 mod putting;
 mod scanning;
 
-use crate::chunks::Chunks;
-use crate::looks::Sought;
-use crate::nodes::Node;
-use crate::placed::{depth_placed, get_placed};
-use crate::seeking::seek_placed;
 use group_history::{Json, Ref, Stop};
+use map_chunks::Chunks;
+use map_chunks::looks::Sought;
+use map_chunks::placed::{depth_placed, get_placed};
+use map_chunks::seeking::seek_placed;
+use map_nodes::Node;
 use std::alloc::Global;
 
 /// A map from texts to JSON values. A change copies the chunks on its way that are placed; these are
@@ -35,8 +35,9 @@ impl Tree {
     ghost use Rattle.group_history.specs.Refs.{stamp_of};
     ghost use Rattle.group_history.specs.Spelling.{Contents, map_at};
     ghost use Rattle.group_history.specs.declared.mutators.Stop.TheVariants.{NoMemory};
-    ghost use Rattle.map_tree.specs.Trees.{tree_map, tree_depth, tree_fresh, tree_root, HasWideRoot, IsWideAt};
-    ghost use Rattle.map_tree.specs.Writes.{standing};
+    ghost use Rattle.map_tree.specs.Trees.{tree_map, tree_depth, tree_fresh, tree_root, HasWideRoot};
+    ghost use Rattle.map_chunks.specs.Wide.{IsWideAt};
+    ghost use Rattle.map_chunks.specs.Writes.{standing};
 
     /// The map whose root is placed there.
     pub fn at(root: Ref) -> Tree

@@ -31,7 +31,7 @@ use Rattle.group_history.proofs.IdLemmas.{last_id-≤}
 use Rattle.group_history.proofs.Replays.{replayed-append}
 use Rattle.group_history.proofs.Spellings.{version-content}
 use Rattle.commits.proofs.Spelled.{local-at, snapshot-at}
-use Rattle.map_tree.specs.Freezing.{with_nodes}
+use Rattle.map_chunks.specs.Places.{with_nodes}
 use Rattle.rebase.specs.Chaining.{with_more}
 use Rattle.rebase.specs.Fixing.{staged}
 use Rattle.rebase.proofs.FixedLemmas.{staged-is}

@@ -19,8 +19,8 @@ use Rattle.group_history.specs.Spelling.{Contents, Version, as_version, version,
 use Rattle.group_history.specs.State.{Ids, opening}
 use Rattle.group_history.proofs.Spellings.{version-newest}
 use Rattle.group_history.proofs.TextMaps.{empty_map}
-use Rattle.map_tree.specs.Freezing.{with_nodes}
-use Rattle.map_tree.proofs.FreezeLemmas.{nodes-grown}
+use Rattle.map_chunks.specs.Places.{with_nodes}
+use Rattle.map_nodes.proofs.FreezeLemmas.{nodes-grown}
 use Rattle.commits.proofs.Spelled.{version-grown, map-grown}
 use Rattle.rebase.specs.Chaining.{HasTip}
 

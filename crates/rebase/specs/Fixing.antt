@@ -4,7 +4,7 @@ use Rattle.group_history.specs.declared.nodes.Node.{Node}
 use Rattle.group_history.specs.declared.refs.Ref.{Ref}
 use Rattle.group_history.specs.Naming.{content_of}
 use Rattle.group_history.specs.Spelling.{Contents}
-use Rattle.map_tree.specs.Freezing.{with_nodes}
+use Rattle.map_chunks.specs.Places.{with_nodes}
 
 -- their contents, in order
 abbrev pub staged : List (Node Ref) → List (Node Ref) → Contents

@@ -12,7 +12,7 @@ ghost use Rattle.group_history.specs.Refs.{stamp_of};
 ghost use Rattle.group_history.specs.Spelling.{Contents, Version, version_at};
 ghost use Rattle.group_history.specs.State.{opening};
 ghost use Rattle.group_history.specs.declared.refusals.Refusal.TheVariants.{NoMemory, Stamps};
-ghost use Rattle.map_tree.specs.Freezing.{with_nodes};
+ghost use Rattle.map_chunks.specs.Places.{with_nodes};
 ghost use Rattle.map_tree.specs.Trees.{tree_map};
 ghost use Rattle.rebase.specs.Chaining.{HasTip};
 

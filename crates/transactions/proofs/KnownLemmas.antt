@@ -9,7 +9,7 @@ use Rattle.group_history.specs.declared.refs.Ref.{Ref}
 use Rattle.group_history.specs.Naming.{chunk_content, commit_content}
 use Rattle.group_history.specs.Spelling.{Contents, segment_at, version_at}
 use Rattle.group_history.proofs.Spellings.{segment-content, version-content}
-use Rattle.map_tree.proofs.Shelves.{some_of}
+use Rattle.map_chunks.proofs.Shelves.{some_of}
 use Rattle.commits.proofs.Chained.{get_stays}
 
 -- what lies at a stamp lies there in a longer list too

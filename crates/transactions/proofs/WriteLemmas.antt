@@ -6,7 +6,7 @@ use Rattle.group_history.specs.Map.{Entries}
 use Rattle.group_history.specs.Spelling.{Contents}
 use Rattle.map_tree.specs.Trees.{tree_map}
 use Rattle.map_tree.specs.declared.tree.Tree.{Tree}
-use Rattle.map_tree.proofs.AnswerLemmas.{on_ok, on_err, either_way}
+use Rattle.map_chunks.proofs.AnswerLemmas.{on_ok, on_err, either_way}
 use Rattle.map_tree.proofs.WriteLemmas.{root_kept, kept_there}
 use Rattle.transactions.specs.Maps.{map_or, shown_map}
 

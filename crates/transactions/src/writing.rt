@@ -8,8 +8,8 @@ ghost use mathlib.Core.List.{IsPrefix};
 ghost use Rattle.std.specs.FinMap as finite;
 ghost use Rattle.group_history.specs.Scans.{rows_of};
 ghost use Rattle.group_history.specs.declared.mutators.Stop.TheVariants.{NoMemory};
-ghost use Rattle.map_tree.specs.Freezing.{AreKept, tree_places};
-ghost use Rattle.map_tree.specs.Trees.{tree_map, tree_fresh, HasWideRoot};
+ghost use Rattle.map_chunks.specs.Places.{AreKept};
+ghost use Rattle.map_tree.specs.Trees.{tree_places, tree_map, tree_fresh, HasWideRoot};
 ghost use Rattle.transactions.specs.Maps.{shown_map};
 
 use group_history::{Json, Scan, Stop, Text, WriteView};

@@ -6,13 +6,14 @@ ghost use Rattle.group_history.specs.Refs.{stamp_of};
 ghost use Rattle.group_history.specs.declared.refs.Ref.{Ref as Reference};
 ghost use Rattle.group_history.specs.declared.refusals.Refusal.TheVariants as refusal;
 ghost use Rattle.group_history.specs.Spelling.{Contents, map_at};
-ghost use Rattle.map_tree.specs.Freezing.{with_nodes, tree_places, IsNamed, AddsNamed};
-ghost use Rattle.map_tree.specs.Trees.{tree_map, tree_fresh, tree_root, HasWideRoot, IsWideAt};
+ghost use Rattle.map_chunks.specs.Places.{with_nodes, IsNamed, AddsNamed};
+ghost use Rattle.map_tree.specs.Trees.{tree_places, tree_map, tree_fresh, tree_root, HasWideRoot};
+ghost use Rattle.map_chunks.specs.Wide.{IsWideAt};
 
 use super::{Root, Tree};
-use crate::drafts::Draft;
-use crate::nodes::frozen;
 use group_history::{Ref, Refusal};
+use map_chunks::Draft;
+use map_nodes::frozen;
 use std::alloc::Global;
 
 impl Tree {

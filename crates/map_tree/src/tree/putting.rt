@@ -6,14 +6,15 @@ ghost use Rattle.group_history.specs.Map.{Entries};
 ghost use Rattle.group_history.specs.Refs.{stamp_of};
 ghost use Rattle.group_history.specs.Spelling.{map_at};
 ghost use Rattle.group_history.specs.declared.mutators.Stop.TheVariants.{NoMemory};
-ghost use Rattle.map_tree.specs.Freezing.{AreKept, root_places, tree_places};
-ghost use Rattle.map_tree.specs.Seeking.{chunk_depth};
-ghost use Rattle.map_tree.specs.Trees.{root_map, root_depth, root_fresh, tree_map, tree_depth, tree_fresh, HasWideRoot, IsWide, IsWideAt};
+ghost use Rattle.map_chunks.specs.Places.{AreKept};
+ghost use Rattle.map_tree.specs.Trees.{root_places, tree_places, root_map, root_depth, root_fresh, tree_map, tree_depth, tree_fresh, HasWideRoot, IsWide};
+ghost use Rattle.map_chunks.specs.Seeking.{chunk_depth};
+ghost use Rattle.map_chunks.specs.Wide.{IsWideAt};
 
 use super::{Root, Tree};
-use crate::chunks::Chunks;
-use crate::nodes::{Node, room_for};
 use group_history::{Json, Ref, Stop};
+use map_chunks::Chunks;
+use map_nodes::{Node, room_for};
 use std::alloc::Global;
 
 impl Tree {

@@ -4,13 +4,13 @@ ghost use mathlib.Core.List.{IsPrefix};
 ghost use Rattle.group_history.specs.Map.{Entries};
 ghost use Rattle.group_history.specs.Scans.{rows_of};
 ghost use Rattle.group_history.specs.declared.mutators.Stop.TheVariants.{NoMemory};
-ghost use Rattle.map_tree.specs.Scanning.{IsWithin, IsLow};
+ghost use Rattle.map_chunks.specs.Scanning.{IsWithin, IsLow};
 ghost use Rattle.map_tree.specs.Trees.{tree_map};
 
 use super::{Root, Tree};
-use crate::chunks::Chunks;
-use crate::scanning::{lowest, scan_placed};
 use group_history::{Json, Scan, Stop, Text};
+use map_chunks::Chunks;
+use map_chunks::scanning::{lowest, scan_placed};
 use std::alloc::Global;
 
 impl Tree {

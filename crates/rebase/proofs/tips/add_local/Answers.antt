@@ -1,5 +1,5 @@
 use Rattle.std.proofs.Common.{ap, ◌∙◌, sym}
-use Rattle.map_tree.specs.Drafts.{Drafted}
+use Rattle.map_chunks.specs.Drafts.{Drafted}
 use Rattle.rebase.proofs.NewestLemmas.{local_tip}
 use Rattle.rebase.proofs.tips.add_local.Goals as goal
 

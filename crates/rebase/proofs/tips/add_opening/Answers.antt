@@ -2,7 +2,7 @@ use Rattle.std.proofs.Common.{ℕ, ◌+◌, ◌++◌, ◌∷◌, [], length, ap,
 use Rattle.group_history.specs.Rows.{Rows}
 use Rattle.group_history.specs.declared.nodes.Chunk.TheVariants.{Leaf}
 use Rattle.group_history.specs.declared.nodes.Node.TheVariants as node
-use Rattle.map_tree.specs.Drafts.{Drafted}
+use Rattle.map_chunks.specs.Drafts.{Drafted}
 use Rattle.rebase.proofs.NewestLemmas.{opening_tip}
 use Rattle.rebase.proofs.tips.add_opening.Goals as goal
 

@@ -1,5 +1,5 @@
 use Rattle.std.proofs.Common.{ap, ◌∙◌, sym}
-use Rattle.map_tree.specs.Drafts.{Drafted}
+use Rattle.map_chunks.specs.Drafts.{Drafted}
 use Rattle.rebase.proofs.NewestLemmas.{snapshot_tip}
 use Rattle.rebase.proofs.tips.add_snapshot.Goals as goal
 

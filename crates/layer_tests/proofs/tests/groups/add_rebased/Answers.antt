@@ -6,8 +6,8 @@ use Rattle.group_history.specs.Naming.{content_of}
 use Rattle.group_history.specs.Refs.{stamp_of}
 use Rattle.group_history.specs.Spelling.{Contents, Version, map_at, version_at}
 use Rattle.group_history.specs.State.{State}
-use Rattle.map_tree.specs.Drafts.{Drafted}
-use Rattle.map_tree.proofs.Shelves.{some_of}
+use Rattle.map_chunks.specs.Drafts.{Drafted}
+use Rattle.map_chunks.proofs.Shelves.{some_of}
 use Rattle.commits.proofs.Chained.{version_stays}
 use Rattle.rebase.specs.Fixing.{staged}
 use Rattle.rebase.proofs.FixedLemmas.{staged-is}

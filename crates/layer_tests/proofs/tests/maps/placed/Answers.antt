@@ -4,10 +4,10 @@ use Rattle.std.proofs.lemmas.List.{append-nil, map-append, length-map}
 use Rattle.group_history.specs.Naming.{content_of}
 use Rattle.group_history.specs.Refs.{stamp_of}
 use Rattle.group_history.specs.Spelling.{map_at}
-use Rattle.map_tree.specs.Drafts.{Drafted}
-use Rattle.map_tree.specs.Freezing.{with_nodes}
+use Rattle.map_chunks.specs.Drafts.{Drafted}
+use Rattle.map_chunks.specs.Places.{with_nodes}
 use Rattle.map_tree.specs.Trees.{tree_map}
-use Rattle.map_tree.proofs.Shelves.{some_of}
+use Rattle.map_chunks.proofs.Shelves.{some_of}
 use Rattle.layer_tests.proofs.tests.maps.placed.Goals as goal
 
 pub invariant_of-result : goal.invariant_of-result

@@ -1,12 +1,12 @@
 use Rattle.std.proofs.Common.{◌∙◌, ap, sym, Some, None}
 use Rattle.std.specs.FinMap as finite
 use Rattle.map_tree.specs.Trees.{tree_map}
-use Rattle.map_tree.specs.Writes.{is_there}
+use Rattle.map_chunks.specs.Writes.{is_there}
 use Rattle.map_tree.proofs.DeleteLemmas.{not_there}
-use Rattle.map_tree.proofs.RemoveLemmas.{removed_same}
+use Rattle.map_nodes.proofs.RemoveLemmas.{removed_same}
 use Rattle.map_tree.proofs.RootCounts.{root_depth_kept, wide_root_grown}
 use Rattle.map_tree.proofs.SeekLemmas.{there_is}
-use Rattle.map_tree.proofs.Shelves.{some_of}
+use Rattle.map_chunks.proofs.Shelves.{some_of}
 use Rattle.map_tree.proofs.WriteLemmas.{kept_there, root_kept}
 use Rattle.map_tree.proofs.tree.Tree.del.Goals as goal
 

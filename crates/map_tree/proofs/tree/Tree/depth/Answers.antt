@@ -3,7 +3,7 @@ use Rattle.std.specs.Prelude.{IsSome, option_map}
 use Rattle.group_history.specs.Refs.{stamp_of}
 use Rattle.group_history.specs.Spelling.{Segment}
 use Rattle.map_tree.specs.Trees.{root_map, root_depth, tree_map}
-use Rattle.map_tree.proofs.Shelves.{some_of}
+use Rattle.map_chunks.proofs.Shelves.{some_of}
 use Rattle.map_tree.proofs.WriteLemmas.{placed_map, depth_is}
 use Rattle.map_tree.proofs.tree.Tree.depth.Goals as goal
 

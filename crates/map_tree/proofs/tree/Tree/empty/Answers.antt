@@ -1,7 +1,7 @@
 use Rattle.std.proofs.Common.{ap, ◌∙◌, Some, inl}
 use Rattle.std.specs.Prelude.{option_and_then}
-use Rattle.map_tree.specs.Shown.{shown, map_of_rows}
-use Rattle.map_tree.proofs.TreeLemmas.{map_of_nothing}
+use Rattle.map_chunks.specs.Shown.{shown, map_of_rows}
+use Rattle.map_chunks.proofs.TreeLemmas.{map_of_nothing}
 use Rattle.map_tree.proofs.tree.Tree.empty.Goals as goal
 
 pub returns-clause-map : goal.returns-clause-map

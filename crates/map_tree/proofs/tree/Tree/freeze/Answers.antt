@@ -1,13 +1,13 @@
 use Rattle.std.proofs.Common.{◌≡◌, ◌+◌, ◌<◌, ◌^◌, sym, ap, subst, ◌∙◌, length, Ok, OnOk, IfErr, refl, arith, ◌⊎◌, inl}
-use Rattle.map_tree.specs.Freezing.{with_nodes, root_places, tree_places, AddsNamed}
+use Rattle.map_chunks.specs.Places.{with_nodes, AddsNamed}
+use Rattle.map_tree.specs.Trees.{root_places, tree_places, root_map, root_fresh, placed_root, IsWide}
 use Rattle.group_history.specs.declared.refusals.Refusal.TheVariants as refusal
 use Rattle.group_history.proofs.Lists.{one_here}
-use Rattle.map_tree.specs.Trees.{root_map, root_fresh, placed_root, IsWide}
-use Rattle.map_tree.proofs.FreezeLemmas.{map_frozen}
-use Rattle.map_tree.proofs.JoinLemmas.{some_is}
+use Rattle.map_nodes.proofs.FreezeLemmas.{map_frozen}
+use Rattle.map_chunks.proofs.JoinLemmas.{some_is}
 use Rattle.std.specs.List.{Contains}
-use Rattle.map_tree.proofs.NamedLemmas.{adds-none, drafted-named}
-use Rattle.map_tree.proofs.WideLemmas.{wide_frozen}
+use Rattle.map_nodes.proofs.NamedLemmas.{adds-none, drafted-named}
+use Rattle.map_nodes.proofs.WideLemmas.{wide_frozen}
 use Rattle.map_tree.proofs.tree.Tree.freeze.Goals as goal
 
 pub returns-in-Own-clause-spelled : goal.returns-in-Own-clause-spelled

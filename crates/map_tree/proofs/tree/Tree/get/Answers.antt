@@ -1,9 +1,9 @@
 use Rattle.std.proofs.Common.{◌≡◌, Some, IfOk, sym, ap, subst, ◌∙◌}
 use Rattle.std.specs.Prelude.{option_and_then}
 use Rattle.group_history.specs.Refs.{stamp_of}
-use Rattle.map_tree.specs.Shown.{chunk_rows, shown, map_of_rows}
+use Rattle.map_chunks.specs.Shown.{chunk_rows, shown, map_of_rows}
 use Rattle.map_tree.specs.Trees.{root_map}
-use Rattle.map_tree.proofs.TreeLemmas.{map_at-rows, value_of_map}
+use Rattle.map_chunks.proofs.TreeLemmas.{map_at-rows, value_of_map}
 use Rattle.map_tree.proofs.tree.Tree.get.Goals as goal
 
 pub returns-in-Placed-clause-value : goal.returns-in-Placed-clause-value

@@ -1,6 +1,6 @@
 use Rattle.std.proofs.Common.{None, ap, ◌∙◌}
 use Rattle.std.specs.FinMap as finite
-use Rattle.map_tree.specs.Writes.{is_there}
+use Rattle.map_chunks.specs.Writes.{is_there}
 use Rattle.map_tree.proofs.SeekLemmas.{there_is}
 use Rattle.map_tree.proofs.tree.Tree.has.Goals as goal
 

@@ -2,11 +2,11 @@ use Rattle.std.proofs.Common.{◌≡◌, Some, IfOk, sym, ap, subst, ◌∙◌, 
 use Rattle.std.specs.Prelude.{IsSome, option_and_then}
 use Rattle.std.specs.FinMap as finite
 use Rattle.group_history.specs.Refs.{stamp_of}
-use Rattle.map_tree.specs.Shown.{chunk_rows, shown, map_of_rows}
+use Rattle.map_chunks.specs.Shown.{chunk_rows, shown, map_of_rows}
 use Rattle.map_tree.specs.Trees.{root_map, tree_map}
-use Rattle.map_tree.proofs.EmptyLemmas.{none_of-map}
-use Rattle.map_tree.proofs.Shelves.{some_of}
-use Rattle.map_tree.proofs.TreeLemmas.{map_at-rows, map_is}
+use Rattle.map_chunks.proofs.EmptyLemmas.{none_of-map}
+use Rattle.map_chunks.proofs.Shelves.{some_of}
+use Rattle.map_chunks.proofs.TreeLemmas.{map_at-rows, map_is}
 use Rattle.map_tree.proofs.tree.Tree.is_empty.Goals as goal
 
 pub is_empty_placed-requires : goal.is_empty_placed-requires

@@ -1,14 +1,13 @@
 use Rattle.std.proofs.Common.{◌≡◌, ◌∙◌, ap, sym, Some, refl, arith}
 use Rattle.std.specs.FinMap as finite
-use Rattle.map_tree.specs.Freezing.{tree_places}
-use Rattle.map_tree.specs.Trees.{tree_map}
-use Rattle.map_tree.specs.Writes.{is_there, is_the_same}
-use Rattle.map_tree.proofs.AnswerLemmas.{on_ok}
-use Rattle.map_tree.proofs.JoinLemmas.{some_is}
+use Rattle.map_tree.specs.Trees.{tree_places, tree_map}
+use Rattle.map_chunks.specs.Writes.{is_there, is_the_same}
+use Rattle.map_chunks.proofs.AnswerLemmas.{on_ok}
+use Rattle.map_chunks.proofs.JoinLemmas.{some_is}
 use Rattle.map_tree.proofs.RootCounts.{root_depth_kept, wide_root_grown, is_there as was_there}
-use Rattle.map_tree.proofs.NamedLemmas.{kept-same}
+use Rattle.map_chunks.proofs.KeptLemmas.{kept-same}
 use Rattle.map_tree.proofs.SeekLemmas.{there_is, same_found}
-use Rattle.map_tree.proofs.Shelves.{some_of}
+use Rattle.map_chunks.proofs.Shelves.{some_of}
 use Rattle.map_tree.proofs.WriteLemmas.{put_same, kept_there, root_kept}
 use Rattle.map_tree.proofs.tree.Tree.put.Goals as goal
 

@@ -1,13 +1,13 @@
 use Rattle.std.proofs.Common.{◌≡◌, ◌∙◌, ap, sym, subst, Some, arith}
 use Rattle.std.specs.Prelude.{IsSome}
-use Rattle.map_tree.specs.Freezing.{AreKept, places_of, root_places, tree_places}
-use Rattle.map_tree.specs.Shown.{shown}
-use Rattle.map_tree.specs.Trees.{root_map, root_depth, root_fresh, root_or, IsWide}
+use Rattle.map_chunks.specs.Places.{AreKept, places_of}
+use Rattle.map_tree.specs.Trees.{root_places, tree_places, root_map, root_depth, root_fresh, root_or, IsWide}
+use Rattle.map_chunks.specs.Shown.{shown}
 use Rattle.map_tree.specs.declared.tree.Root.{Root}
 use Rattle.map_tree.specs.declared.tree.Root.TheVariants.{Own}
 use Rattle.map_tree.proofs.DeleteLemmas.{removed_map, removed_fresh, removed_places, removed_wide}
-use Rattle.map_tree.proofs.JoinLemmas.{some_is}
-use Rattle.map_tree.proofs.NamedLemmas.{kept-from_none}
+use Rattle.map_chunks.proofs.JoinLemmas.{some_is}
+use Rattle.map_chunks.proofs.KeptLemmas.{kept-from_none}
 use Rattle.map_tree.proofs.RootCounts.{own_depth}
 use Rattle.map_tree.proofs.tree.Tree.remove.Goals as goal
 

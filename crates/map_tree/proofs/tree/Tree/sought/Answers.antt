@@ -1,11 +1,11 @@
 use Rattle.std.proofs.Common.{◌≡◌, Some, sym, ap, ◌∙◌}
 use Rattle.std.specs.Prelude.{option_and_then, option_copied}
 use Rattle.group_history.specs.Refs.{stamp_of}
-use Rattle.map_tree.specs.Shown.{chunk_rows, shown, map_of_rows}
+use Rattle.map_chunks.specs.Shown.{chunk_rows, shown, map_of_rows}
 use Rattle.map_tree.specs.Trees.{root_map, root_depth}
-use Rattle.map_tree.specs.Writes.{standing}
-use Rattle.map_tree.proofs.CountLemmas.{if_ok_so}
-use Rattle.map_tree.proofs.TreeLemmas.{map_at-rows, value_of_map}
+use Rattle.map_chunks.specs.Writes.{standing}
+use Rattle.map_chunks.proofs.AnswerLemmas.{if_ok_so}
+use Rattle.map_chunks.proofs.TreeLemmas.{map_at-rows, value_of_map}
 use Rattle.map_tree.proofs.tree.Tree.sought.Goals as goal
 
 pub returns-in-Placed-clause-standing : goal.returns-in-Placed-clause-standing

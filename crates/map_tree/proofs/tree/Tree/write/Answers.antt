@@ -1,14 +1,14 @@
 use Rattle.std.proofs.Common.{◌≡◌, ◌∙◌, ap, sym, subst, Some, refl, arith}
 use Rattle.std.specs.Prelude.{IsSome}
 use Rattle.std.specs.FinMap as finite
-use Rattle.map_tree.specs.Freezing.{AreKept, places_of, root_places, tree_places}
-use Rattle.map_tree.specs.Shown.{shown}
-use Rattle.map_tree.specs.Trees.{root_map, root_depth, root_fresh, tree_map, IsWide}
-use Rattle.map_tree.proofs.AnswerLemmas.{on_ok}
-use Rattle.map_tree.proofs.NamedLemmas.{kept-from_none}
+use Rattle.map_chunks.specs.Places.{AreKept, places_of}
+use Rattle.map_tree.specs.Trees.{root_places, tree_places, root_map, root_depth, root_fresh, tree_map, IsWide}
+use Rattle.map_chunks.specs.Shown.{shown}
+use Rattle.map_chunks.proofs.AnswerLemmas.{on_ok}
+use Rattle.map_chunks.proofs.KeptLemmas.{kept-from_none}
 use Rattle.map_tree.proofs.RootCounts.{own_depth}
-use Rattle.map_tree.proofs.Shelves.{some_of}
-use Rattle.map_tree.proofs.TreeLemmas.{map_is}
+use Rattle.map_chunks.proofs.Shelves.{some_of}
+use Rattle.map_chunks.proofs.TreeLemmas.{map_is}
 use Rattle.map_tree.proofs.WriteLemmas.{put_map, found_there}
 use Rattle.map_tree.proofs.tree.Tree.write.Goals as goal
 

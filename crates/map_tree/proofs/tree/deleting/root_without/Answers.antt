@@ -2,16 +2,16 @@ use Rattle.std.proofs.Common.{[], ◌∙◌, ap, sym, subst, refl, arith}
 use Rattle.std.specs.Prelude.{IsSome}
 use Rattle.group_history.specs.Refs.{stamp_of}
 use Rattle.group_history.specs.Spelling.{map_at}
-use Rattle.map_tree.specs.Freezing.{AreKept, places_of, root_places}
-use Rattle.map_tree.specs.Removing.{root_left}
-use Rattle.map_tree.specs.Shown.{shown}
-use Rattle.map_tree.specs.Trees.{root_map, root_fresh, IsWide}
+use Rattle.map_chunks.specs.Places.{AreKept, places_of}
+use Rattle.map_tree.specs.Trees.{root_places, root_map, root_fresh, IsWide}
+use Rattle.map_nodes.specs.Removing.{root_left}
+use Rattle.map_chunks.specs.Shown.{shown}
 use Rattle.map_tree.specs.declared.tree.Root.{Root}
 use Rattle.map_tree.proofs.DeleteLemmas.{removed_map, removed_fresh, removed_places, removed_wide, wide_at-kept}
-use Rattle.map_tree.proofs.NamedLemmas.{kept-grown, kept-trans}
+use Rattle.map_chunks.proofs.KeptLemmas.{kept-grown, kept-trans}
 use Rattle.map_tree.proofs.RootCounts.{placed_rows}
-use Rattle.map_tree.proofs.Shelves.{some_of}
-use Rattle.map_tree.proofs.TreeLemmas.{map_from}
+use Rattle.map_chunks.proofs.Shelves.{some_of}
+use Rattle.map_chunks.proofs.TreeLemmas.{map_from}
 use Rattle.map_tree.proofs.WriteLemmas.{placed_map, entries_tree}
 use Rattle.map_tree.proofs.tree.deleting.root_without.Goals as goal
 

@@ -3,12 +3,12 @@ use Rattle.std.specs.Prelude.{IsSome}
 use Rattle.std.specs.FinMap as finite
 use Rattle.group_history.specs.Refs.{stamp_of}
 use Rattle.group_history.specs.Spelling.{map_at}
-use Rattle.map_tree.specs.Freezing.{places_of}
-use Rattle.map_tree.specs.Shown.{shown}
+use Rattle.map_chunks.specs.Places.{places_of}
+use Rattle.map_chunks.specs.Shown.{shown}
 use Rattle.map_tree.proofs.DeleteLemmas.{wide_at-kept}
-use Rattle.map_tree.proofs.NamedLemmas.{kept-grown, kept-trans}
+use Rattle.map_chunks.proofs.KeptLemmas.{kept-grown, kept-trans}
 use Rattle.map_tree.proofs.RootCounts.{placed_rows}
-use Rattle.map_tree.proofs.Shelves.{some_of}
+use Rattle.map_chunks.proofs.Shelves.{some_of}
 use Rattle.map_tree.proofs.WriteLemmas.{placed_map, found_there, entries_tree, put_copied}
 use Rattle.map_tree.proofs.tree.putting.root_with.Goals as goal
 

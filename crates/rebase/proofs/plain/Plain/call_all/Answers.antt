@@ -1,7 +1,7 @@
 use Rattle.std.proofs.Common.{arith, is_ok, ap, length, ◌∷◌, [], length-append}
 use Rattle.rebase.proofs.CallLemmas.{turn}
 use Rattle.rebase.proofs.plain.Plain.call_all.Goals as goal
-use Rattle.map_tree.proofs.ListLemmas.{succeeded}
+use Rattle.map_chunks.proofs.ListLemmas.{succeeded}
 
 pub loop-call-preserved : goal.loop-call-preserved
 loop-call-preserved g c =

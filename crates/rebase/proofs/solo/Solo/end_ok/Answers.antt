@@ -5,7 +5,7 @@ use Rattle.group_history.specs.Pulling.{after_pull}
 use Rattle.group_history.specs.Refs.{stamp_of}
 use Rattle.group_history.specs.Spelling.{Contents, map_at, version_of}
 use Rattle.group_history.proofs.IdLemmas.{after_pull-IdsFollow}
-use Rattle.map_tree.specs.Drafts.{Drafted}
+use Rattle.map_chunks.specs.Drafts.{Drafted}
 use Rattle.rebase.specs.Fixing.{staged}
 use Rattle.rebase.specs.Solos.{state_at}
 use Rattle.rebase.proofs.HeadLemmas.{applied-forward, head_placed, with_none}

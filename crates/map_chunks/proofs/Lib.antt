@@ -1,0 +1,17 @@
+pub mod AnswerLemmas
+pub mod DepthLemmas
+pub mod EmptyLemmas
+pub mod EndLemmas
+pub mod JoinLemmas
+pub mod KeptLemmas
+pub mod ListLemmas
+pub mod OpenLemmas
+pub mod PrefixLemmas
+pub mod RowLemmas
+pub mod ScanLemmas
+pub mod SearchLemmas
+pub mod SecondLemmas
+pub mod SeekLemmas
+pub mod Shelves
+pub mod Texts
+pub mod TreeLemmas

@@ -1,0 +1,23 @@
+use Rattle.std.proofs.Common.{◌≡◌, ◌+◌, ◌*◌}
+use mathlib.Core.List.{IsPrefix}
+use Rattle.group_history.specs.Refs.{stamp_of}
+use Rattle.group_history.specs.Rows.{paired}
+use Rattle.map_chunks.specs.Scanning.{with_scanned}
+use Rattle.map_chunks.proofs.ScanLemmas.{first_rows, ref_rows, top, chunk_top}
+use Rattle.map_chunks.proofs.scanning.+placed.Given as goal
+
+abbrev pub decreases-scan_placed : goal.decreases-scan_placed
+decreases-scan_placed g l = 3 * stamp_of l.at + 2
+
+abbrev pub decreases-scan_chunk : goal.decreases-scan_chunk
+decreases-scan_chunk g l = 3 * chunk_top l.chunk.now + 1
+
+abbrev pub decreases-scan_children : goal.decreases-scan_children
+decreases-scan_children g l = 3 * top (paired l.firsts.now l.children.now)
+
+abbrev pub invariant-scan_children-loop-place : goal.invariant-scan_children-loop-place
+invariant-scan_children-loop-place g l =
+    record {
+      grown : IsPrefix (g.C.Chunks.contents l.fn.chunks) (g.C.Chunks.contents l.chunks);
+      rows : l.out.items ≡ with_scanned l.scan l.fn.out.items (first_rows (ref_rows (g.C.Chunks.contents l.fn.chunks)) (paired l.firsts l.children) l.place);
+    }

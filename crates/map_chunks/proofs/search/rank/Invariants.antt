@@ -1,0 +1,12 @@
+use Rattle.std.proofs.Common.{◌-◌, ◌≡◌, ◌<◌, ◌≤◌, length, true, false, slice_index_or}
+use Rattle.group_history.specs.Map.{Bytes}
+use Rattle.map_chunks.specs.Search.{is_above}
+use Rattle.map_chunks.proofs.search.rank.Given as goal
+
+abbrev pub invariant-loop-low : goal.invariant-loop-low
+invariant-loop-low l = (l.low ≤ l.high) × (l.high ≤ length l.keys)
+    × ((d : Bytes) → 0 < l.low → is_above (slice_index_or l.keys (l.low - 1) d) l.key ≡ false)
+    × ((d : Bytes) → l.high < length l.keys → is_above (slice_index_or l.keys l.high d) l.key ≡ true)
+
+abbrev pub decreases-loop-low : goal.decreases-loop-low
+decreases-loop-low l = l.high - l.low

@@ -1,0 +1,15 @@
+pub mod Depths
+pub mod Drafts
+pub mod Ends
+pub mod Inserting
+pub mod Keys
+pub mod KeysSeen
+pub mod Places
+pub mod Scanning
+pub mod Search
+pub mod SecondKeys
+pub mod Seeking
+pub mod Shown
+pub mod Steps
+pub mod Wide
+pub mod Writes

@@ -1,0 +1,100 @@
+//! Nodes that are to be placed together.
+//!
+//! A draft's nodes have the stamps from its first one on, children before parents, so that they can be
+//! placed in their order. The references that a draft gives name stamps; a slot is not chosen yet, and
+//! each bears the slot 0.
+ghost use Rattle.std.specs.Prelude.{◌≡◌, ◌+◌, ◌⊎◌, ◌^◌, ◌≤◌, ◌++◌, [], ◌∷◌, length, IfOk, IfErr, OnOk, OnErr, IfSome, IfNone, take, ◌<◌};
+ghost use Rattle.group_history.specs.Refs.{stamp_of, slot_of};
+ghost use Rattle.group_history.specs.declared.refusals.Refusal.TheVariants as refusal;
+
+use group_history::{Node, Ref, Refusal};
+use std::alloc::Global;
+use std::marker::Model;
+
+/// Nodes in the order of their stamps, and the first stamp.
+#[derive(Drop)]
+pub struct Draft {
+    first: u64,
+    nodes: Vec<Node<Ref>>,
+}
+
+impl Model for Draft {
+    ghost use Rattle.map_chunks.specs.Drafts.{Drafted};
+    ghost use Rattle.group_history.specs.State.{ids_coded};
+    ghost use Rattle.std.specs.Coded.{codes};
+
+    ghost Value = { Drafted };
+
+    ghost coded = { Prim.hlevel (codes, ids_coded) };
+
+    ghost view = { λ d. record { first = d.first; nodes = d.nodes.items } };
+}
+
+const STAMPS: u64 = 1 << 44;
+
+impl Draft {
+    /// An empty draft, whose first node will have this stamp.
+    pub fn new(alloc: Global, first: u64) -> Draft
+        ensures { result ≡ record { first = first; nodes = [] } }
+    {
+        Draft {
+            first,
+            nodes: Vec::new(alloc),
+        }
+    }
+
+    /// How many nodes it has.
+    pub fn len(&self) -> u64
+        ensures { result ≡ length self.now.nodes }
+    {
+        self.nodes.len() as u64
+    }
+
+    /// Appends a node, and answers how it is named. Refused with Stamps where its stamp would be 2^44.
+    pub fn push(&mut self, node: Node<Ref>) -> Result<Ref, Refusal>
+        ensures stamp { IfOk result (λ at. (stamp_of at ≡ self.old.first + length self.old.nodes) × (slot_of at ≡ 0)) }
+        ensures ok { OnOk result (self.new ≡ record { first = self.old.first; nodes = self.old.nodes ++ node ∷ [] }) }
+        ensures err { OnErr result (self.new ≡ self.old) }
+        ensures why { IfErr result (λ e. (e ≡ refusal.NoMemory) ⊎ ((e ≡ refusal.Stamps) × (2 ^ 44 ≤ self.old.first + length self.old.nodes))) }
+    {
+        let Some(stamp) = self.next() else {
+            return Err(Refusal::Stamps);
+        };
+        self.nodes.push(node)?;
+        Ok(Ref::new(stamp, 0))
+    }
+
+    /// Forgets the nodes from the place `len` on.
+    pub fn truncate(&mut self, len: u64)
+        ensures { self.new ≡ record { first = self.old.first; nodes = take len self.old.nodes } }
+    {
+        self.nodes.truncate(len as usize);
+    }
+
+    /// The nodes, in the order of their stamps.
+    pub fn nodes(&self) -> &[Node<Ref>]
+        ensures { result.now ≡ self.now.nodes }
+    {
+        &self.nodes
+    }
+
+    /// The same, by value.
+    pub fn into_nodes(self) -> Vec<Node<Ref>>
+        ensures { result.items ≡ self.nodes }
+    {
+        self.nodes
+    }
+
+    // The next stamp, if it is below 2^44.
+    fn next(&self) -> Option<u64>
+        ensures some { IfSome result (λ stamp. (stamp ≡ self.now.first + length self.now.nodes) × (stamp < 2 ^ 44)) }
+        ensures none { IfNone result (2 ^ 44 ≤ self.now.first + length self.now.nodes) }
+    {
+        let len = self.nodes.len() as u64;
+        if self.first < STAMPS && len < STAMPS - self.first {
+            Some(self.first + len)
+        } else {
+            None
+        }
+    }
+}

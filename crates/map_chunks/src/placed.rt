@@ -1,0 +1,123 @@
+//! Queries of placed chunks. Each chunk is shown for one look, and left again.
+ghost use Rattle.std.specs.Prelude.{◌≡◌, ◌==◌, ◌<◌, ◌≤◌, ◌+◌, ◌⊎◌, length, Some, IfOk, IfErr, IsSome};
+ghost use mathlib.Core.List.{IsPrefix};
+ghost use Rattle.std.specs.Ordering.{nat_cmp};
+ghost use Rattle.std.specs.Cmp.Lexicographic.{slice_cmp};
+ghost use Rattle.std.specs.FinMap as finite;
+ghost use Rattle.group_history.specs.Refs.{stamp_of};
+ghost use Rattle.group_history.specs.declared.mutators.Stop.TheVariants.{NoMemory};
+ghost use Rattle.map_chunks.specs.Shown.{chunk_rows, IsTree, rows_or};
+ghost use Rattle.group_history.specs.Spelling.{Segment, segment_at};
+ghost use Rattle.map_chunks.specs.Depths.{IsFirst, IsAbove, has_none};
+ghost use Rattle.map_chunks.specs.Steps.{IsStep, Leads};
+
+use crate::chunks::{Chunks, ShowsChunk};
+use crate::looks::Step;
+use crate::search::{place_of, value_at};
+use group_history::{Chunk, Json, Ref, Stop};
+use std::alloc::AllocError;
+
+// What a chunk says of a key.
+fn step_of(chunk: &Chunk<Ref>, key: &str) -> Result<Step, AllocError>
+    ensures { IfOk result (IsStep chunk.now key.now) }
+{
+    match chunk {
+        Chunk::Leaf(leaf) => {
+            let value = value_at(leaf.keys().as_slice(), leaf.values(), key)?;
+            Ok(Step::Found(value))
+        }
+        Chunk::Inner(inner) => {
+            let children = inner.children();
+            if children.is_empty() {
+                return Ok(Step::Found(None));
+            }
+            let place = place_of(inner.firsts().as_slice(), key);
+            Ok(Step::Below(children[place]))
+        }
+    }
+}
+
+fn look<C: Chunks>(chunks: &mut C, at: Ref, key: &str) -> Result<Step, Stop>
+    requires { IsTree (chunk_rows (C.contents chunks.old) (stamp_of at)) }
+    ensures grown { IsPrefix (C.contents chunks.old) (C.contents chunks.new) }
+    ensures step { IfOk result (Leads (C.contents chunks.new) key.now (stamp_of at) (rows_or (chunk_rows (C.contents chunks.old) (stamp_of at)))) }
+    ensures stopped { IfErr result (λ s. (s ≡ NoMemory) ⊎ C.stops s) }
+{
+    let held = chunks.show(at)?;
+    let step = step_of(held.chunk(), key);
+    chunks.leave(held);
+    Ok(step?)
+}
+
+/// The value at a key of the chunk's rows, if it is there. Stops for want of memory, or as the store does.
+pub fn get_placed<C: Chunks>(chunks: &mut C, at: Ref, key: &str) -> Result<Option<Json>, Stop>
+    requires { IsTree (chunk_rows (C.contents chunks.old) (stamp_of at)) }
+    ensures grown { IsPrefix (C.contents chunks.old) (C.contents chunks.new) }
+    ensures value { IfOk result (λ v. v ≡ finite.find (slice_cmp nat_cmp) key.now (rows_or (chunk_rows (C.contents chunks.old) (stamp_of at)))) }
+    ensures stopped { IfErr result (λ s. (s ≡ NoMemory) ⊎ C.stops s) }
+{
+    match look(chunks, at, key)? {
+        Step::Found(value) => Ok(value),
+        Step::Below(child) => get_placed(chunks, child, key),
+    }
+}
+
+fn first_of(chunk: &Chunk<Ref>) -> Option<Ref>
+    ensures { IsFirst chunk.now result }
+{
+    match chunk {
+        Chunk::Leaf(_) => None,
+        Chunk::Inner(inner) => inner.children().first().copied(),
+    }
+}
+
+fn first_child<C: Chunks>(chunks: &mut C, at: Ref) -> Result<Option<Ref>, Stop>
+    requires { IsSome (segment_at (C.contents chunks.old) (stamp_of at)) }
+    ensures grown { IsPrefix (C.contents chunks.old) (C.contents chunks.new) }
+    ensures child { (s : Segment) → segment_at (C.contents chunks.old) (stamp_of at) ≡ Some s → IfOk result (IsAbove (C.contents chunks.new) (stamp_of at) s) }
+    ensures stopped { IfErr result C.stops }
+{
+    let held = chunks.show(at)?;
+    let child = first_of(held.chunk());
+    chunks.leave(held);
+    Ok(child)
+}
+
+/// How deep a placed chunk is: 1 where it is a leaf. Stops as the store does alone.
+pub fn depth_placed<C: Chunks>(chunks: &mut C, at: Ref) -> Result<u64, Stop>
+    requires { IsSome (segment_at (C.contents chunks.old) (stamp_of at)) }
+    ensures grown { IsPrefix (C.contents chunks.old) (C.contents chunks.new) }
+    ensures depth { (s : Segment) → segment_at (C.contents chunks.old) (stamp_of at) ≡ Some s → IfOk result (λ d. d ≡ s.depth) }
+    ensures bound { IfOk result (λ d. d ≤ stamp_of at + 1) }
+    ensures stopped { IfErr result C.stops }
+{
+    match first_child(chunks, at)? {
+        None => Ok(1),
+        Some(child) => {
+            let below = depth_placed(chunks, child)?;
+            Ok(below + 1)
+        }
+    }
+}
+
+fn is_empty(chunk: &Chunk<Ref>) -> bool
+    ensures { result ≡ has_none chunk.now }
+{
+    match chunk {
+        Chunk::Leaf(leaf) => leaf.values().is_empty(),
+        Chunk::Inner(_) => false,
+    }
+}
+
+/// Whether a placed chunk has no rows: then it is a leaf. Stops as the store does alone.
+pub fn is_empty_placed<C: Chunks>(chunks: &mut C, at: Ref) -> Result<bool, Stop>
+    requires { IsSome (chunk_rows (C.contents chunks.old) (stamp_of at)) }
+    ensures grown { IsPrefix (C.contents chunks.old) (C.contents chunks.new) }
+    ensures value { IfOk result (λ b. b ≡ (length (rows_or (chunk_rows (C.contents chunks.old) (stamp_of at))) == 0)) }
+    ensures stopped { IfErr result C.stops }
+{
+    let held = chunks.show(at)?;
+    let empty = is_empty(held.chunk());
+    chunks.leave(held);
+    Ok(empty)
+}

@@ -1,0 +1,98 @@
+//! A key's place among keys in order.
+ghost use Rattle.std.specs.Prelude.{◌≡◌, ◌<◌, length, Some, IfOk, IfErr, T, option_copied};
+ghost use Rattle.std.specs.Ordering.{nat_cmp};
+ghost use Rattle.std.specs.Cmp.Lexicographic.{slice_cmp};
+ghost use Rattle.std.specs.FinMap as finite;
+ghost use Rattle.group_history.specs.Rows.{rises, paired};
+ghost use Rattle.map_chunks.specs.Search.{IsRank, IsPlace, IsFound, IsAbsent};
+ghost use Rattle.map_chunks.specs.Seeking.{stands_in};
+ghost use Rattle.map_chunks.specs.Writes.{standing};
+
+use crate::looks::Standing;
+use group_history::{Json, Text};
+use std::alloc::AllocError;
+use std::cmp::Ordering;
+
+/// How many of the keys aren't above this one.
+pub(crate) fn rank(keys: &[Text], key: &str) -> usize
+    ensures { IsRank key.now keys.now result }
+{
+    let mut low = 0;
+    let mut high = keys.len();
+    while low < high {
+        let middle = low + (high - low) / 2;
+        if keys[middle].as_str().cmp(key).is_gt() {
+            high = middle;
+        } else {
+            low = middle + 1;
+        }
+    }
+    low
+}
+
+/// The place of the child to which a key belongs: the last whose first key isn't above it, else the first.
+pub fn place_of(keys: &[Text], key: &str) -> usize
+    requires filled { 0 < length keys.now }
+    requires order { T (rises keys.now) }
+    ensures { IsPlace key.now keys.now result }
+{
+    let rank = rank(keys, key);
+    if rank == 0 { 0 } else { rank - 1 }
+}
+
+/// Where a key stands, or the place before which it would have to be put.
+pub fn search(keys: &[Text], key: &str) -> Result<usize, usize>
+    ensures found { IfOk result (IsFound key.now keys.now) }
+    ensures absent { IfErr result (IsAbsent key.now keys.now) }
+{
+    let mut low = 0;
+    let mut high = keys.len();
+    while low < high {
+        let middle = low + (high - low) / 2;
+        match keys[middle].as_str().cmp(key) {
+            Ordering::Less => low = middle + 1,
+            Ordering::Equal => return Ok(middle),
+            Ordering::Greater => high = middle,
+        }
+    }
+    Err(low)
+}
+
+// How a value stands to the one asked for.
+fn compared(value: &Json, asked: Option<&Json>) -> Standing
+    ensures { result ≡ standing (Some value.now) (option_copied asked.entry) }
+{
+    match asked {
+        None => Standing::Other,
+        Some(asked) => {
+            if value == asked {
+                return Standing::Same;
+            }
+            Standing::Other
+        }
+    }
+}
+
+/// How the value at a key stands to the one asked for. No value is copied.
+pub fn standing_at(keys: &[Text], values: &[Json], key: &str, asked: Option<&Json>) -> Standing
+    requires order { T (rises keys.now) }
+    requires values { length values.now ≡ length keys.now }
+    ensures { result ≡ stands_in (paired keys.now values.now) key.now (option_copied asked.entry) }
+{
+    match search(keys, key) {
+        Ok(place) => compared(&values[place], asked),
+        Err(_) => Standing::Absent,
+    }
+}
+
+/// The value at a key, copied, if it is there.
+pub fn value_at(keys: &[Text], values: &[Json], key: &str) -> Result<Option<Json>, AllocError>
+    requires order { T (rises keys.now) }
+    requires values { length values.now ≡ length keys.now }
+    ensures { IfOk result (λ v. v ≡ finite.find (slice_cmp nat_cmp) key.now (paired keys.now values.now)) }
+{
+    match search(keys, key) {
+        Ok(place) => Ok(Some(values[place].clone()?)),
+        Err(_) => Ok(None),
+    }
+}

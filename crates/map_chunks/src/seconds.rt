@@ -1,0 +1,61 @@
+//! The second key of a placed chunk's rows. A chunk with one row has none.
+ghost use Rattle.std.specs.Prelude.{◌≡◌, ◌⊎◌, IfOk, IfErr, IsSome};
+ghost use mathlib.Core.List.{IsPrefix};
+ghost use Rattle.group_history.specs.Refs.{stamp_of};
+ghost use Rattle.group_history.specs.declared.mutators.Stop.TheVariants.{NoMemory};
+ghost use Rattle.map_chunks.specs.SecondKeys.{second_key, IsSecondStep, LeadsToSecond};
+ghost use Rattle.map_chunks.specs.Shown.{chunk_rows, rows_or};
+
+use crate::chunks::{Chunks, ShowsChunk};
+use crate::keys::second_of;
+use crate::looks::Second;
+use group_history::{Chunk, Ref, Stop, Text};
+use std::alloc::AllocError;
+
+// What a chunk says of the second key of its rows.
+fn step_of(chunk: &Chunk<Ref>) -> Result<Second, AllocError>
+    ensures { IfOk result (IsSecondStep chunk.now) }
+{
+    match chunk {
+        Chunk::Leaf(leaf) => {
+            let key = second_of(leaf.keys().as_slice())?;
+            Ok(Second::Known(key))
+        }
+        Chunk::Inner(inner) => {
+            let children = inner.children();
+            if children.is_empty() {
+                return Ok(Second::Known(None));
+            }
+            let key = second_of(inner.firsts().as_slice())?;
+            Ok(Second::First(children[0], key))
+        }
+    }
+}
+
+fn look<C: Chunks>(chunks: &mut C, at: Ref) -> Result<Second, Stop>
+    requires { IsSome (chunk_rows (C.contents chunks.old) (stamp_of at)) }
+    ensures grown { IsPrefix (C.contents chunks.old) (C.contents chunks.new) }
+    ensures step { IfOk result (LeadsToSecond (C.contents chunks.new) (stamp_of at) (rows_or (chunk_rows (C.contents chunks.old) (stamp_of at)))) }
+    ensures stopped { IfErr result (λ s. (s ≡ NoMemory) ⊎ C.stops s) }
+{
+    let held = chunks.show(at)?;
+    let step = step_of(held.chunk());
+    chunks.leave(held);
+    Ok(step?)
+}
+
+/// The second key of the chunk's rows, if there are two. Stops for want of memory, or as the store does.
+pub fn second_placed<C: Chunks>(chunks: &mut C, at: Ref) -> Result<Option<Text>, Stop>
+    requires { IsSome (chunk_rows (C.contents chunks.old) (stamp_of at)) }
+    ensures grown { IsPrefix (C.contents chunks.old) (C.contents chunks.new) }
+    ensures key { IfOk result (λ key. key ≡ second_key (rows_or (chunk_rows (C.contents chunks.old) (stamp_of at)))) }
+    ensures stopped { IfErr result (λ s. (s ≡ NoMemory) ⊎ C.stops s) }
+{
+    match look(chunks, at)? {
+        Second::Known(key) => Ok(key),
+        Second::First(child, next) => {
+            let key = second_placed(chunks, child)?;
+            Ok(key.or(next))
+        }
+    }
+}

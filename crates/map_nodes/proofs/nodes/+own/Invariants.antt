@@ -1,0 +1,24 @@
+use Rattle.std.proofs.Common.{◌≡◌, ◌+◌}
+use mathlib.Core.List.{IsPrefix}
+use Rattle.group_history.specs.Rows.{paired}
+use Rattle.map_nodes.specs.Nodes.{child_height, kids_height}
+use Rattle.map_chunks.specs.Scanning.{with_scanned}
+use Rattle.map_chunks.proofs.ScanLemmas.{first_rows}
+use Rattle.map_nodes.proofs.ScanLemmas.{shown_kid}
+use Rattle.map_nodes.proofs.nodes.+own.Given as goal
+
+abbrev pub decreases-Node::scan : goal.decreases-Node::scan
+decreases-Node::scan g l = l.self.now.height
+
+abbrev pub decreases-scanning::scan_kids : goal.decreases-scanning::scan_kids
+decreases-scanning::scan_kids g l = kids_height l.kids.now + 1
+
+abbrev pub decreases-scanning::scan_kid : goal.decreases-scanning::scan_kid
+decreases-scanning::scan_kid g l = child_height l.kid.now
+
+abbrev pub invariant-scanning::scan_kids-loop-place : goal.invariant-scanning::scan_kids-loop-place
+invariant-scanning::scan_kids-loop-place g l =
+    record {
+      grown : IsPrefix (g.C.Chunks.contents l.fn.chunks) (g.C.Chunks.contents l.chunks);
+      rows : l.out.items ≡ with_scanned l.scan l.fn.out.items (first_rows (shown_kid (g.C.Chunks.contents l.fn.chunks)) (paired l.firsts l.kids) l.place);
+    }

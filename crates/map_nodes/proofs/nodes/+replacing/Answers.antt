@@ -1,0 +1,287 @@
+use Rattle.std.proofs.Common.{length-set, set, [], ◌≡◌, ◌-◌, refl, length, get_or, arith, sym, ap, subst, ◌∙◌, Some, nat_cmp, set-set}
+use Rattle.std.specs.Prelude.{IsSome}
+use Rattle.std.specs.Box.{with_value}
+use Rattle.std.specs.Cmp.Lexicographic.{slice_cmp}
+use Rattle.std.specs.FinMap as finite
+use Rattle.group_history.specs.Refs.{stamp_of}
+use Rattle.group_history.specs.Rows.{paired}
+use Rattle.group_history.specs.Spelling.{rows_at}
+use Rattle.map_chunks.specs.Places.{AreKept, places_of}
+use Rattle.map_nodes.specs.Freezing.{child_places, kids_places}
+use Rattle.map_nodes.specs.Nodes.{Kid, AllKids, child_rows, body_pieces, body_fresh, body_height, child_fresh, kids_fresh}
+use Rattle.map_nodes.specs.Replacing.{CanReplace}
+use Rattle.map_chunks.specs.Shown.{Seen, IsTree, rows_or, shown}
+use Rattle.map_nodes.specs.declared.nodes.Body.{Body}
+use Rattle.map_nodes.specs.declared.nodes.Child.{Child}
+use Rattle.map_nodes.specs.declared.nodes.Child.TheVariants.{Placed, Own}
+use Rattle.map_chunks.proofs.AnswerLemmas.{both_ok, on_ok, on_err, either_way}
+use Rattle.map_nodes.proofs.CountLemmas.{leaf_counts, inner_counts}
+use Rattle.map_chunks.proofs.KeptLemmas.{kept-none, kept-grown, kept-trans, kept-from_none}
+use Rattle.map_nodes.proofs.NamedLemmas.{kept-child, own-places, places-kids, places-rows}
+use Rattle.map_nodes.proofs.NodeLemmas.{child_at, inner_same, written_back}
+use Rattle.map_chunks.proofs.OpenLemmas.{known}
+use Rattle.map_nodes.proofs.PathLemmas.{node_at, indexed_child}
+use Rattle.map_nodes.proofs.RemoveLemmas.{fresh-set}
+use Rattle.map_nodes.proofs.ReplaceLemmas.{leaf_replaced, leaf_has, can_replace, child_replaced}
+use Rattle.map_nodes.proofs.nodes.+replacing.Goals as goal
+
+pub Node::replace-returns-in_default-clause-done : goal.Node::replace-returns-in_default-clause-done
+Node::replace-returns-in_default-clause-done g t c =
+    absurd (leaf_has (g.C.Chunks.contents c.args.chunks.now) c.self.inside.depth c.self.inside.keys.texts c.self.inside.body c.in-Leaf.values c.args.self.now.pieces
+    c.as_slice.result.now c.args.key.now c.in_default.field-0 (ap (λ (s : Seen). s.pieces) c.self.view_is) c.in-Leaf.is c.self.invariant c.as_slice.ensures c.requires.1.1.1.1.1 c.in_default.ensures.absent)
+
+pub Node::replace-returns-in-Leaf-clause-done : goal.Node::replace-returns-in-Leaf-clause-done
+Node::replace-returns-in-Leaf-clause-done g t c =
+    leaf_replaced (g.C.Chunks.contents c.args.chunks.now) c.self.inside.depth c.self.inside.keys.texts c.self.inside.body c.in-Leaf.values c.args.self.now.pieces
+    c.as_slice.result.now c.args.key.now c.args.value c.in-Ok.place (ap (λ (s : Seen). s.pieces) c.self.view_is) c.in-Leaf.is c.self.invariant c.as_slice.ensures c.in-Ok.ensures.found
+
+pub Node::replace-returns-in_default-clause-fresh : goal.Node::replace-returns-in_default-clause-fresh
+Node::replace-returns-in_default-clause-fresh g t c =
+    let n = leaf_counts c.self.inside.depth c.self.inside.keys.texts c.self.inside.body c.in-Leaf.values c.in-Leaf.is c.self.invariant in
+    omega (arith, n.0, n.1, ap (λ (s : Seen). s.depth) c.self.view_is, ap (λ (s : Seen). s.fresh) c.self.view_is)
+
+pub Node::replace-returns-in-Leaf-clause-fresh : goal.Node::replace-returns-in-Leaf-clause-fresh
+Node::replace-returns-in-Leaf-clause-fresh g t c =
+    let n = leaf_counts c.self.inside.depth c.self.inside.keys.texts c.self.inside.body c.in-Leaf.values c.in-Leaf.is c.self.invariant in
+    omega (arith, n.0, n.1, ap (λ (s : Seen). s.depth) c.self.view_is, ap (λ (s : Seen). s.fresh) c.self.view_is)
+
+pub Node::replace-returns-in_default-clause-places : goal.Node::replace-returns-in_default-clause-places
+Node::replace-returns-in_default-clause-places g t c =
+    let p = g.C.Chunks.contents c.args.chunks.now in
+    let show = g.C.Held.ShowsChunk.shown in
+    subst (AreKept show p (places_of c.args.self.now.pieces)) (sym (places-rows (paired c.self.inside.keys.texts c.in-Leaf.values.items))) (kept-none show p (places_of c.args.self.now.pieces))
+
+pub Node::replace-returns-in-Leaf-clause-places : goal.Node::replace-returns-in-Leaf-clause-places
+Node::replace-returns-in-Leaf-clause-places g t c =
+    let p = g.C.Chunks.contents c.args.chunks.now in
+    let show = g.C.Held.ShowsChunk.shown in
+    subst (AreKept show p (places_of c.args.self.now.pieces)) (sym (places-rows (paired c.self.inside.keys.texts (set c.in-Leaf.values.items c.in-Ok.place c.args.value)))) (kept-none show p (places_of c.args.self.now.pieces))
+
+pub replacing::replace_child-replace-requires : goal.replacing::replace_child-replace-requires
+replacing::replace_child-replace-requires g t c κs within =
+    let p = g.C.Chunks.contents c.args.chunks.now in
+    let kids = c.args.kids.now.items in
+    let child = c.index_mut.result.now in
+    let v = c.deref_mut.ensures.value in
+    let can = subst (CanReplace p c.args.below c.args.key.now) c.in-Own.is (c.requires.1.1.1.1.1 child (child_at kids c.args.place (length kids) child refl c.requires.1.1.1.1.0 c.index_mut.ensures.value)) in (
+      omega (arith, ap (λ (s : Seen). s.depth) v, can.1, c.requires.1.0),
+      (
+        within.0,
+        (
+          within.1,
+          (
+            subst (λ (s : Seen). IsTree (shown p s.pieces)) (sym v) can.0,
+            subst (λ (s : Seen). IsSome (finite.find (slice_cmp nat_cmp) c.args.key.now (rows_or (shown p s.pieces)))) (sym v) can.2,
+          ),
+        ),
+      ),
+    )
+
+pub replacing::replace_child-returns-in-Own-clause-done : goal.replacing::replace_child-returns-in-Own-clause-done
+replacing::replace_child-returns-in-Own-clause-done g t c x h =
+    let p = g.C.Chunks.contents c.args.chunks.now in
+    let kids = c.args.kids.now.items in
+    let child = c.index_mut.result.now in
+    let v = c.deref_mut.ensures.value in
+    let can = subst (CanReplace p c.args.below c.args.key.now) c.in-Own.is (c.requires.1.1.1.1.1 child (child_at kids c.args.place (length kids) child refl c.requires.1.1.1.1.0 c.index_mut.ensures.value)) in
+    let n : Kid = with_value c.in-Own.node c.replace.new.self in
+    let e : x ≡ Own c.in-Own.node = indexed_child kids c.args.place child x c.requires.1.1.1.1.0 c.index_mut.ensures.value h ∙ c.in-Own.is in
+    both_ok c.replace.result c.replace.ensures.done c.replace.ensures.fresh (λ s f. (
+      n,
+      refl,
+      c.replace.ensures.depth ∙ ap (λ (s : Seen). s.depth) v ∙ can.1,
+      s ∙ ap (λ (m : Seen). Some (finite.put (slice_cmp nat_cmp) c.args.key.now c.args.value (rows_or (shown p m.pieces)))) v ∙ ap (λ y. Some (finite.put (slice_cmp nat_cmp) c.args.key.now c.args.value (rows_or (child_rows p c.args.below y)))) (sym e),
+      omega (arith, f, can.1, ap (λ (s : Seen). s.depth) v, ap (λ (s : Seen). s.fresh) v, ap child_fresh e),
+    ))
+
+pub replacing::replace_child-returns-in-Own-clause-err : goal.replacing::replace_child-returns-in-Own-clause-err
+replacing::replace_child-returns-in-Own-clause-err g t c =
+    on_err c.replace.result c.replace.ensures.err
+    (λ e. written_back c.args.kids.now.items c.args.place c.index_mut.result.now c.in-Own.node c.replace.new.self c.index_mut.ensures.value c.in-Own.is (e ∙ c.deref_mut.ensures.value))
+
+pub replacing::replace_child-returns-in-Own-clause-places : goal.replacing::replace_child-returns-in-Own-clause-places
+replacing::replace_child-returns-in-Own-clause-places g t c =
+    let kids = c.args.kids.now.items in
+    let child = c.index_mut.result.now in
+    let q = g.C.Chunks.contents c.replace.new.chunks in
+    let show = g.C.Held.ShowsChunk.shown in
+    let n : Kid = with_value c.in-Own.node c.replace.new.self in
+    on_ok c.replace.result c.replace.ensures.places
+    (λ kept. kept-child show q kids c.args.place child n c.requires.1.1.1.1.0 c.index_mut.ensures.value
+    (subst (λ (x : Child). AreKept show q (child_places x) (places_of c.replace.new.self.pieces)) (sym c.in-Own.is)
+    (subst (λ (s : Seen). AreKept show q (places_of s.pieces) (places_of c.replace.new.self.pieces)) c.deref_mut.ensures.value kept)))
+
+pub Node::replace-replace_child-requires : goal.Node::replace-replace_child-requires
+Node::replace-replace_child-requires g t c κs within =
+    let p = g.C.Chunks.contents c.args.chunks.now in
+    let depth = c.self.inside.depth in
+    let keys = c.self.inside.keys.texts in
+    let kids = c.in-Inner.kids in
+    let pieces = c.args.self.now.pieces in
+    let i = c.place_of-place.result in
+    let at : Child = Placed (record { bits = 0 }) in
+    let x = node_at p depth keys c.self.inside.body kids pieces c.as_slice-in-Inner.result.now c.args.key.now i at (ap (λ (s : Seen). s.pieces) c.self.view_is) c.in-Inner.is c.self.invariant
+    c.as_slice-in-Inner.ensures c.place_of-place.ensures c.requires.1.1.1.1.0 in
+    let child = get_or kids.items i at in (
+      omega (arith, x.2.1.0, ap (λ (s : Seen). s.depth) c.self.view_is, c.requires.1.0),
+      (within.0, (within.1, (omega (arith, x.3.0, x.2.1.2), can_replace p depth keys kids.items pieces c.args.key.now i child x.0 x.1 c.requires.1.1.1.1.1))),
+    )
+
+pub Node::replace-invariant_of-self-in-Inner : goal.Node::replace-invariant_of-self-in-Inner
+Node::replace-invariant_of-self-in-Inner g t c =
+    let p = g.C.Chunks.contents c.args.chunks.now in
+    let depth = c.self.inside.depth in
+    let keys = c.self.inside.keys.texts in
+    let kids = c.in-Inner.kids in
+    let pieces = c.args.self.now.pieces in
+    let i = c.place_of-place.result in
+    let at : Child = Placed (record { bits = 0 }) in
+    let x = node_at p depth keys c.self.inside.body kids pieces c.as_slice-in-Inner.result.now c.args.key.now i at (ap (λ (s : Seen). s.pieces) c.self.view_is) c.in-Inner.is c.self.invariant
+    c.as_slice-in-Inner.ensures c.place_of-place.ensures c.requires.1.1.1.1.0 in
+    let child = get_or kids.items i at in
+    let q = g.C.Chunks.contents c.replace_child.new.chunks in
+    let done = c.replace_child.ensures.done child x.1 in
+    either_way c.replace_child.result done c.replace_child.ensures.err
+    (λ s. (child_replaced p q depth keys c.self.inside.body kids c.replace_child.new.kids.items pieces c.args.key.now c.args.value i child c.replace_child.ensures.grown c.in-Inner.is c.self.invariant x.0 c.requires.1.1.1.1.1 s).node)
+    (λ e. (x.2.0, (x.2.1.0, x.2.1.1, ap length e ∙ x.2.1.2, subst (λ es. AllKids (depth - 1) (paired keys es)) (sym e) x.2.1.3)))
+
+pub Node::replace-returns-in-Inner-clause-done : goal.Node::replace-returns-in-Inner-clause-done
+Node::replace-returns-in-Inner-clause-done g t c =
+    let p = g.C.Chunks.contents c.args.chunks.now in
+    let depth = c.self.inside.depth in
+    let keys = c.self.inside.keys.texts in
+    let kids = c.in-Inner.kids in
+    let pieces = c.args.self.now.pieces in
+    let i = c.place_of-place.result in
+    let at : Child = Placed (record { bits = 0 }) in
+    let x = node_at p depth keys c.self.inside.body kids pieces c.as_slice-in-Inner.result.now c.args.key.now i at (ap (λ (s : Seen). s.pieces) c.self.view_is) c.in-Inner.is c.self.invariant
+    c.as_slice-in-Inner.ensures c.place_of-place.ensures c.requires.1.1.1.1.0 in
+    let child = get_or kids.items i at in
+    let q = g.C.Chunks.contents c.replace_child.new.chunks in
+    let done = c.replace_child.ensures.done child x.1 in
+    on_ok c.replace_child.result done (λ s. (child_replaced p q depth keys c.self.inside.body kids c.replace_child.new.kids.items pieces c.args.key.now c.args.value i child c.replace_child.ensures.grown c.in-Inner.is c.self.invariant x.0 c.requires.1.1.1.1.1 s).shown_is)
+
+pub Node::replace-returns-in-Inner-clause-fresh : goal.Node::replace-returns-in-Inner-clause-fresh
+Node::replace-returns-in-Inner-clause-fresh g t c =
+    let p = g.C.Chunks.contents c.args.chunks.now in
+    let depth = c.self.inside.depth in
+    let keys = c.self.inside.keys.texts in
+    let kids = c.in-Inner.kids in
+    let pieces = c.args.self.now.pieces in
+    let i = c.place_of-place.result in
+    let at : Child = Placed (record { bits = 0 }) in
+    let x = node_at p depth keys c.self.inside.body kids pieces c.as_slice-in-Inner.result.now c.args.key.now i at (ap (λ (s : Seen). s.pieces) c.self.view_is) c.in-Inner.is c.self.invariant
+    c.as_slice-in-Inner.ensures c.place_of-place.ensures c.requires.1.1.1.1.0 in
+    let child = get_or kids.items i at in
+    let q = g.C.Chunks.contents c.replace_child.new.chunks in
+    let done = c.replace_child.ensures.done child x.1 in
+    let n = inner_counts depth keys c.self.inside.body kids c.in-Inner.is c.self.invariant in
+    on_ok c.replace_child.result done (λ s.
+    omega (arith, fresh-set kids.items i child (Own s.0) x.1, ap kids_fresh s.1, s.4, n.0, n.1, ap (λ (s : Seen). s.depth) c.self.view_is, ap (λ (s : Seen). s.fresh) c.self.view_is))
+
+pub Node::replace-returns-in-Inner-clause-places : goal.Node::replace-returns-in-Inner-clause-places
+Node::replace-returns-in-Inner-clause-places g t c =
+    let p = g.C.Chunks.contents c.args.chunks.now in
+    let depth = c.self.inside.depth in
+    let keys = c.self.inside.keys.texts in
+    let kids = c.in-Inner.kids in
+    let pieces = c.args.self.now.pieces in
+    let i = c.place_of-place.result in
+    let at : Child = Placed (record { bits = 0 }) in
+    let x = node_at p depth keys c.self.inside.body kids pieces c.as_slice-in-Inner.result.now c.args.key.now i at (ap (λ (s : Seen). s.pieces) c.self.view_is) c.in-Inner.is c.self.invariant
+    c.as_slice-in-Inner.ensures c.place_of-place.ensures c.requires.1.1.1.1.0 in
+    let child = get_or kids.items i at in
+    let q = g.C.Chunks.contents c.replace_child.new.chunks in
+    let done = c.replace_child.ensures.done child x.1 in
+    let show = g.C.Held.ShowsChunk.shown in
+    let old = own-places depth keys c.self.inside.body kids pieces (ap (λ (s : Seen). s.pieces) c.self.view_is) c.in-Inner.is x.2.1.2 in
+    both_ok c.replace_child.result done c.replace_child.ensures.places (λ s kept.
+    subst (AreKept show q (places_of pieces)) (sym (places-kids (depth - 1) keys c.replace_child.new.kids.items (ap length s.1 ∙ length-set kids.items i (Own s.0) ∙ x.2.1.2)))
+    (subst (λ w. AreKept show q w (kids_places c.replace_child.new.kids.items)) (sym old) kept))
+
+pub Node::replace-returns-in-Inner-clause-err : goal.Node::replace-returns-in-Inner-clause-err
+Node::replace-returns-in-Inner-clause-err g t c =
+    let depth = c.self.inside.depth in
+    let keys = c.self.inside.keys.texts in
+    let seen : Body → Seen = λ b. record { depth = depth; entries = length keys; pieces = body_pieces depth keys b; height = body_height b; fresh = body_fresh b } in
+    on_err c.replace_child.result c.replace_child.ensures.err (λ e. inner_same depth keys keys c.replace_child.new.kids.items c.in-Inner.kids.items refl e ∙ ap seen (sym c.in-Inner.is) ∙ c.self.view_is)
+
+pub replacing::replace_child-replaced_copy-requires : goal.replacing::replace_child-replaced_copy-requires
+replacing::replace_child-replaced_copy-requires g t c κs within =
+    let p = g.C.Chunks.contents c.args.chunks.now in
+    let kids = c.args.kids.now.items in
+    let child = c.index_mut.result.now in
+    let r = c.requires.1.1.1.1 in
+    let can = subst (CanReplace p c.args.below c.args.key.now) c.in-Placed.is (r.1 child (child_at kids c.args.place (length kids) child refl r.0 c.index_mut.ensures.value)) in
+    (omega (arith, c.requires.1.0), (within.0, (within.1, can)))
+
+pub replacing::replace_child-returns-in-Placed-clause-done : goal.replacing::replace_child-returns-in-Placed-clause-done
+replacing::replace_child-returns-in-Placed-clause-done g t c x h =
+    let p = g.C.Chunks.contents c.args.chunks.now in
+    let kids = c.args.kids.now.items in
+    let n = c.in_ok-node-in-Placed.node in
+    let e : x ≡ Placed c.in-Placed.at = indexed_child kids c.args.place c.index_mut.result.now x c.requires.1.1.1.1.0 c.index_mut.ensures.value h ∙ c.in-Placed.is in (
+      n,
+      set-set kids c.args.place (Placed c.in-Placed.at) (Own n),
+      c.in_ok-node-in-Placed.ensures.depth,
+      c.in_ok-node-in-Placed.ensures.done ∙ ap (λ y. Some (finite.put (slice_cmp nat_cmp) c.args.key.now c.args.value (rows_or (child_rows p c.args.below y)))) (sym e),
+      omega (arith, c.in_ok-node-in-Placed.ensures.fresh),
+    )
+
+pub replacing::replace_child-returns-in-Placed-clause-places : goal.replacing::replace_child-returns-in-Placed-clause-places
+replacing::replace_child-returns-in-Placed-clause-places g t c =
+    let kids = c.args.kids.now.items in
+    let child = c.index_mut.result.now in
+    let q = g.C.Chunks.contents c.replaced_copy.new.chunks in
+    let show = g.C.Held.ShowsChunk.shown in
+    let n = c.in_ok-node-in-Placed.node in
+    subst (λ ks. AreKept show q (kids_places kids) (kids_places ks)) (sym (set-set kids c.args.place (Placed c.in-Placed.at) (Own n)))
+    (kept-child show q kids c.args.place child n c.requires.1.1.1.1.0 c.index_mut.ensures.value (kept-from_none show q (child_places child) (places_of n.value.pieces) c.in_ok-node-in-Placed.ensures.places))
+
+pub replacing::replaced_copy-copied_child-requires : goal.replacing::replaced_copy-copied_child-requires
+replacing::replaced_copy-copied_child-requires g t c =
+    let k = known (rows_at (g.C.Chunks.contents c.args.chunks.now) c.args.depth (stamp_of c.args.at)) c.requires.1.1.1.1.0 in
+    subst IsSome (sym k.is) refl
+
+pub replacing::replaced_copy-replace-requires : goal.replacing::replaced_copy-replace-requires
+replacing::replaced_copy-replace-requires g t c κs within =
+    let q = g.C.Chunks.contents c.copied_child.new.chunks in
+    let can = c.requires.1.1.1.1 in
+    let v = c.deref_mut.ensures.value in (
+      omega (arith, ap (λ (s : Seen). s.depth) v, c.in_ok-node.ensures.depth, c.requires.1.0),
+      (
+        within.0,
+        (
+          within.1,
+          (
+            subst (λ (s : Seen). IsTree (shown q s.pieces)) (sym v) (subst IsTree (sym c.in_ok-node.ensures.rows) can.0),
+            subst (λ (s : Seen). IsSome (finite.find (slice_cmp nat_cmp) c.args.key.now (rows_or (shown q s.pieces)))) (sym v)
+                (subst (λ z. IsSome (finite.find (slice_cmp nat_cmp) c.args.key.now (rows_or z))) (sym c.in_ok-node.ensures.rows) can.2),
+          ),
+        ),
+      ),
+    )
+
+pub replacing::replaced_copy-returns-clause-depth : goal.replacing::replaced_copy-returns-clause-depth
+replacing::replaced_copy-returns-clause-depth g t c = c.replace.ensures.depth ∙ ap (λ (s : Seen). s.depth) c.deref_mut.ensures.value ∙ c.in_ok-node.ensures.depth
+
+pub replacing::replaced_copy-returns-clause-done : goal.replacing::replaced_copy-returns-clause-done
+replacing::replaced_copy-returns-clause-done g t c =
+    let q = g.C.Chunks.contents c.copied_child.new.chunks in
+    c.in_ok-replace.ensures.done
+    ∙ ap (λ z. Some (finite.put (slice_cmp nat_cmp) c.args.key.now c.args.value (rows_or z))) (ap (λ (s : Seen). shown q s.pieces) c.deref_mut.ensures.value ∙ c.in_ok-node.ensures.rows)
+
+pub replacing::replaced_copy-returns-clause-fresh : goal.replacing::replaced_copy-returns-clause-fresh
+replacing::replaced_copy-returns-clause-fresh g t c =
+    let v = c.deref_mut.ensures.value in
+    omega (arith, c.in_ok-replace.ensures.fresh, ap (λ (s : Seen). s.depth) v, ap (λ (s : Seen). s.fresh) v, c.in_ok-node.ensures.fresh, c.in_ok-node.ensures.depth)
+
+pub replacing::replaced_copy-returns-clause-places : goal.replacing::replaced_copy-returns-clause-places
+replacing::replaced_copy-returns-clause-places g t c =
+    let p = g.C.Chunks.contents c.copied_child.new.chunks in
+    let q = g.C.Chunks.contents c.replace.new.chunks in
+    let show = g.C.Held.ShowsChunk.shown in
+    let mid = places_of c.in_ok-node.node.value.pieces in
+    let new = places_of c.replace.new.self.pieces in
+    kept-trans show q [] mid new (kept-grown show p q [] mid c.replace.ensures.grown c.in_ok-node.ensures.places)
+    (subst (λ (s : Seen). AreKept show q (places_of s.pieces) new) c.deref_mut.ensures.value c.in_ok-replace.ensures.places)

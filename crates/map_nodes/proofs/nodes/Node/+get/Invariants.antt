@@ -1,0 +1,4 @@
+use Rattle.map_nodes.proofs.nodes.Node.+get.Given as goal
+
+abbrev pub decreases-get : goal.decreases-get
+decreases-get g l = l.self.now.depth

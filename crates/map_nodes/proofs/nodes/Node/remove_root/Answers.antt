@@ -1,0 +1,70 @@
+use Rattle.std.proofs.Common.{◌∙◌, ◌-◌, [], ◌∷◌, Some, ap, sym, subst}
+use Rattle.group_history.specs.Rows.{paired}
+use Rattle.map_chunks.specs.Places.{AreKept, places_of}
+use Rattle.map_nodes.specs.Freezing.{kids_places}
+use Rattle.map_nodes.specs.Nodes.{body_pieces, row_pieces, IsNode}
+use Rattle.map_nodes.specs.Removing.{left_places, without}
+use Rattle.map_chunks.specs.Shown.{Seen, shown, rows_or, IsTree}
+use Rattle.map_nodes.specs.declared.nodes.Body.TheVariants.{Inner}
+use Rattle.map_chunks.proofs.KeptLemmas.{kept-none}
+use Rattle.map_nodes.proofs.NamedLemmas.{own-places, places-kids, places-rows}
+use Rattle.map_nodes.proofs.NodeLemmas.{shown-rows}
+use Rattle.map_nodes.proofs.ReplaceLemmas.{leaf_rows}
+use Rattle.map_nodes.proofs.nodes.Node.remove_root.Goals as goal
+
+pub returns-in-Leaf-clause-done : goal.returns-in-Leaf-clause-done
+returns-in-Leaf-clause-done g c =
+    let p = g.C.Chunks.contents c.args.chunks.now in
+    ap (λ w. shown p (row_pieces w)) c.in_ok-remove_row-in-Leaf.ensures.rows ∙ shown-rows p (without c.args.key.now (paired c.self.inside.keys.texts c.in-Leaf.values.items))
+    ∙ ap (λ z. Some (without c.args.key.now (rows_or z)))
+    (sym (leaf_rows p c.self.inside.depth c.self.inside.keys.texts c.self.inside.body c.in-Leaf.values c.args.self.now.pieces (ap (λ (s : Seen). s.pieces) c.self.view_is) c.in-Leaf.is))
+
+pub returns-in-Leaf-clause-places : goal.returns-in-Leaf-clause-places
+returns-in-Leaf-clause-places g c =
+    let p = g.C.Chunks.contents c.args.chunks.now in
+    let show = g.C.Held.ShowsChunk.shown in
+    let old = places_of c.args.self.now.pieces in
+    subst (AreKept show p old) (sym (places-rows (paired c.remove_row.new.keys.texts c.remove_row.new.values.items))) (kept-none show p old)
+
+pub remove_inner-requires-clause-node : goal.remove_inner-requires-clause-node
+remove_inner-requires-clause-node g c = subst (IsNode c.self.inside.depth c.self.inside.keys.texts) c.in-Inner.is c.self.invariant
+
+pub remove_inner-requires-clause-tree : goal.remove_inner-requires-clause-tree
+remove_inner-requires-clause-tree g c =
+    let depth = c.self.inside.depth in
+    let keys = c.self.inside.keys.texts in
+    let kids = c.in-Inner.kids in
+    let view = ap (body_pieces depth keys) (sym c.in-Inner.is) ∙ ap (λ (s : Seen). s.pieces) c.self.view_is in
+    subst (λ ps. IsTree (shown (g.C.Chunks.contents c.args.chunks.now) ps)) (sym view) c.requires
+
+pub returns-in-None-clause-places : goal.returns-in-None-clause-places
+returns-in-None-clause-places g c =
+    let q = g.C.Chunks.contents c.remove_inner.new.chunks in
+    let show = g.C.Held.ShowsChunk.shown in
+    let keys = c.self.inside.keys.texts in
+    let node : IsNode c.self.inside.depth keys (Inner c.in-Inner.kids) = subst (IsNode c.self.inside.depth keys) c.in-Inner.is c.self.invariant in
+    let old = own-places c.self.inside.depth keys c.self.inside.body c.in-Inner.kids c.args.self.now.pieces (ap (λ (s : Seen). s.pieces) c.self.view_is) c.in-Inner.is node.1.2 in
+    let left = subst (λ o. AreKept show q (kids_places c.in-Inner.kids.items) (left_places c.remove_inner.new.kids.items o)) c.in-None.is c.in_ok-remove_inner-in-Inner.ensures.places in
+    let new = places-kids (c.self.inside.depth - 1) c.remove_inner.new.keys.texts c.remove_inner.new.kids.items (c.in_ok-remove_inner-in-Inner.ensures.node c.in-None.is).1.2 in
+    subst (AreKept show q (places_of c.args.self.now.pieces)) (sym new) (subst (λ w. AreKept show q w (kids_places c.remove_inner.new.kids.items)) (sym old) left)
+
+pub returns-in-Some-Placed-clause-places : goal.returns-in-Some-Placed-clause-places
+returns-in-Some-Placed-clause-places g c =
+    let q = g.C.Chunks.contents c.remove_inner.new.chunks in
+    let show = g.C.Held.ShowsChunk.shown in
+    let keys = c.self.inside.keys.texts in
+    let node : IsNode c.self.inside.depth keys (Inner c.in-Inner.kids) = subst (IsNode c.self.inside.depth keys) c.in-Inner.is c.self.invariant in
+    let old = own-places c.self.inside.depth keys c.self.inside.body c.in-Inner.kids c.args.self.now.pieces (ap (λ (s : Seen). s.pieces) c.self.view_is) c.in-Inner.is node.1.2 in
+    let left = subst (λ o. AreKept show q (kids_places c.in-Inner.kids.items) (left_places c.remove_inner.new.kids.items o)) (c.in-Some-Placed.is ∙ ap (λ h. Some h) c.in-Some-Placed.field-0-is) c.in_ok-remove_inner-in-Inner.ensures.places in
+    subst (λ w. AreKept show q w (c.in-Some-Placed.at ∷ [])) (sym old) left
+
+pub returns-in-Some-Own-clause-places : goal.returns-in-Some-Own-clause-places
+returns-in-Some-Own-clause-places g c =
+    let q = g.C.Chunks.contents c.remove_inner.new.chunks in
+    let show = g.C.Held.ShowsChunk.shown in
+    let keys = c.self.inside.keys.texts in
+    let node : IsNode c.self.inside.depth keys (Inner c.in-Inner.kids) = subst (IsNode c.self.inside.depth keys) c.in-Inner.is c.self.invariant in
+    let old = own-places c.self.inside.depth keys c.self.inside.body c.in-Inner.kids c.args.self.now.pieces (ap (λ (s : Seen). s.pieces) c.self.view_is) c.in-Inner.is node.1.2 in
+    let left = subst (λ o. AreKept show q (kids_places c.in-Inner.kids.items) (left_places c.remove_inner.new.kids.items o)) (c.in-Some-Own.is ∙ ap (λ h. Some h) c.in-Some-Own.field-0-is) c.in_ok-remove_inner-in-Inner.ensures.places in
+    subst (λ (s : Seen). AreKept show q (places_of c.args.self.now.pieces) (places_of s.pieces)) (sym c.node.view_is)
+    (subst (λ w. AreKept show q w (places_of c.in-Some-Own.node.pieces)) (sym old) left)

@@ -1,0 +1,35 @@
+-- What a draft's chunks with one child each end in.
+use Rattle.std.specs.Prelude.{◌≡◌, ◌≤◌, List, [], ◌∷◌, Option, Some, None}
+use Rattle.group_history.specs.declared.refs.Ref.{Ref}
+use Rattle.group_history.specs.Rows.{Rows}
+use Rattle.group_history.specs.Spelling.{Contents}
+use Rattle.map_chunks.specs.Shown.{Part, value, chunk, Piece, Seen}
+use Rattle.map_chunks.specs.Wide.{IsWideChunk}
+use Rattle.map_nodes.specs.declared.nodes.Child.{Child}
+use Rattle.map_nodes.specs.declared.nodes.Child.TheVariants.{Placed, Own}
+use Rattle.map_chunks.specs.Ends.{IsEnd}
+
+-- the placed chunk of a piece
+abbrev pub part_ref : Part → Option Ref
+part_ref (value v) = None
+part_ref (chunk depth at) = Some at
+
+-- the placed chunk that is all there is below a draft's chunk, if this is so: then each chunk on the way to it has one child
+abbrev pub end_of_pieces : List Piece → Option Ref
+end_of_pieces [] = None
+end_of_pieces (q ∷ []) = part_ref q.1
+end_of_pieces (q ∷ r ∷ qs) = None
+
+abbrev pub end_of : Child → Option Ref
+end_of (Placed at) = Some at
+end_of (Own n) = end_of_pieces n.value.pieces
+
+-- a child with these rows ends in a placed chunk, or in one of the draft's own
+abbrev pub IsKidEnd : Contents → Option Rows → Child → Option Ref → Type 0
+IsKidEnd contents rows kid None = end_of kid ≡ None
+IsKidEnd contents rows kid (Some at) = IsEnd contents rows at
+
+-- what a draft's own child ends in: it shows the same, and is wide
+abbrev pub IsTaken : Child → Seen → Type 0
+IsTaken (Placed at) n = ⊥
+IsTaken (Own m) n = (n.pieces ≡ m.value.pieces) × IsWideChunk n × (n.fresh ≤ m.value.fresh)

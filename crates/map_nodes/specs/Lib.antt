@@ -1,0 +1,12 @@
+pub mod Copies
+pub mod Counts
+pub mod Ends
+pub mod Falls
+pub mod Freezing
+pub mod Halves
+pub mod Nodes
+pub mod Ready
+pub mod Removing
+pub mod Replacing
+pub mod Scanning
+pub mod Unput

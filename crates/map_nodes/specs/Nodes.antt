@@ -1,0 +1,93 @@
+-- The chunks of a draft: what their pieces are, and what holds of them.
+use Rattle.std.specs.Prelude.{ℕ, ◌+◌, ◌-◌, ◌<◌, ◌≤◌, max, Box, List, [], ◌∷◌, ◌++◌, map, length, slice_set, ◌≡◌, Option}
+use Rattle.std.specs.declared.alloc.Global.{Global}
+use Rattle.group_history.specs.Map.{Bytes}
+use Rattle.group_history.specs.Refs.{stamp_of}
+use Rattle.group_history.specs.Rows.{Rows, AreKeys, paired}
+use Rattle.group_history.specs.Spelling.{Contents, rows_at}
+use Rattle.map_chunks.specs.Shown.{value, chunk, Piece, Seen, shown}
+use Rattle.map_nodes.specs.declared.nodes.Child.{Child}
+use Rattle.map_nodes.specs.declared.nodes.Child.TheVariants.{Placed, Own}
+use Rattle.map_nodes.specs.declared.nodes.Body.{Body}
+use Rattle.map_nodes.specs.declared.nodes.Body.TheVariants.{Leaf, Inner}
+
+-- an own chunk where it is a child
+abbrev pub Kid : Type 0
+Kid = Box Seen Global
+
+-- children, each under its first key
+abbrev pub Kids : Type 0
+Kids = List (Bytes × Child)
+
+-- a child's pieces, where the children are so deep
+abbrev pub child_pieces : ℕ → Bytes → Child → List Piece
+child_pieces below first (Placed at) = (first, chunk below at) ∷ []
+child_pieces below first (Own n) = n.value.pieces
+
+abbrev pub kids_pieces : ℕ → Kids → List Piece
+kids_pieces below [] = []
+kids_pieces below (e ∷ es) = child_pieces below e.0 e.1 ++ kids_pieces below es
+
+abbrev pub row_pieces : Rows → List Piece
+row_pieces rows = map (λ r. (r.0, value r.1)) rows
+
+abbrev pub body_pieces : ℕ → List Bytes → Body → List Piece
+body_pieces depth keys (Leaf values) = row_pieces (paired keys values.items)
+body_pieces depth keys (Inner kids) = kids_pieces (depth - 1) (paired keys kids.items)
+
+-- the first piece is under this key
+abbrev pub HeadIs : Bytes → List Piece → Type 0
+HeadIs k [] = ⊥
+HeadIs k (q ∷ qs) = q.0 ≡ k
+
+abbrev pub IsChild : ℕ → Bytes → Child → Type 0
+IsChild below first (Placed at) = Unit {0}
+IsChild below first (Own n) = (n.value.depth ≡ below) × HeadIs first n.value.pieces
+
+abbrev pub AllKids : ℕ → Kids → Type 0
+AllKids below [] = Unit {0}
+AllKids below (e ∷ es) = IsChild below e.0 e.1 × AllKids below es
+
+abbrev pub IsBody : ℕ → List Bytes → Body → Type 0
+IsBody depth keys (Leaf values) = (depth ≡ 1) × (length values.items ≡ length keys)
+IsBody depth keys (Inner kids) = (0 < depth) × (0 < length keys) × (length kids.items ≡ length keys) × AllKids (depth - 1) (paired keys kids.items)
+
+-- at most 16 keys in strict order, each with a value or a child; each child is one level below, under its first key
+abbrev pub IsNode : ℕ → List Bytes → Body → Type 0
+IsNode depth keys body = AreKeys keys × IsBody depth keys body
+
+-- how deep own chunks are nested in it
+abbrev pub child_height : Child → ℕ
+child_height (Placed at) = 1
+child_height (Own n) = n.value.height + 1
+
+abbrev pub kids_height : List Child → ℕ
+kids_height [] = 0
+kids_height (k ∷ ks) = max (child_height k) (kids_height ks)
+
+abbrev pub body_height : Body → ℕ
+body_height (Leaf values) = 1
+body_height (Inner kids) = kids_height kids.items + 2
+
+-- how many own chunks it is
+abbrev pub child_fresh : Child → ℕ
+child_fresh (Placed at) = 0
+child_fresh (Own n) = n.value.fresh
+
+abbrev pub kids_fresh : List Child → ℕ
+kids_fresh [] = 0
+kids_fresh (k ∷ ks) = child_fresh k + kids_fresh ks
+
+abbrev pub body_fresh : Body → ℕ
+body_fresh (Leaf values) = 1
+body_fresh (Inner kids) = kids_fresh kids.items + 1
+
+-- the rows that a child shows
+abbrev pub child_rows : Contents → ℕ → Child → Option Rows
+child_rows contents below (Placed at) = rows_at contents below (stamp_of at)
+child_rows contents below (Own n) = shown contents n.value.pieces
+
+-- an own child, so deep, stands at the place of this one, and shows these rows; so many chunks of it may be new
+abbrev pub ChildChanged : Contents → ℕ → ℕ → List Child → List Child → Child → Option Rows → Type 0
+ChildChanged contents below place old new child rows = (n : Kid) × (new ≡ slice_set old place (Own n)) × (n.value.depth ≡ below) × (shown contents n.value.pieces ≡ rows)
+    × (n.value.fresh ≤ child_fresh child + below)

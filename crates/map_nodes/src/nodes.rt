@@ -1,0 +1,70 @@
+//! The chunks of a draft that it owns, and changes in place.
+//!
+//! An own chunk holds its children, each an own chunk behind a pointer or a reference to a placed one, so
+//! a child takes two words. Contracts see an own chunk as the list of its pieces: rows, and the placed
+//! chunks below it, in the order of their keys.
+mod building;
+mod copies;
+mod counting;
+mod freezing;
+mod homes;
+mod putting;
+mod reading;
+mod removing;
+mod replacing;
+mod scanning;
+mod writing;
+
+pub use copies::room_for;
+pub use freezing::frozen;
+use group_history::{Json, Ref};
+use map_chunks::keys::NodeKeys;
+use std::marker::Model;
+
+/// A chunk that a draft owns. A leaf is 1 deep.
+#[cycle(node)]
+#[derive(Drop)]
+pub struct Node {
+    depth: u64,
+    keys: NodeKeys,
+    body: Body,
+}
+
+#[cycle(node)]
+#[derive(Drop)]
+enum Body {
+    Leaf(Vec<Json>),
+    Inner(Vec<Child>),
+}
+
+#[cycle(node)]
+#[derive(Drop)]
+enum Child {
+    Placed(Ref),
+    Own(Box<Node>),
+}
+
+impl Model for Node {
+    ghost use Rattle.map_chunks.specs.Shown.{Seen};
+
+    ghost Value = { Seen };
+
+    ghost use Rattle.std.specs.Prelude.{length};
+    ghost use Rattle.map_nodes.specs.Nodes.{body_pieces, body_height, body_fresh, IsNode};
+
+    ghost view = { λ n. record {
+      depth = n.depth;
+      entries = length n.keys.texts;
+      pieces = body_pieces n.depth n.keys.texts n.body;
+      height = body_height n.body;
+      fresh = body_fresh n.body;
+    } };
+
+    ghost invariant = { λ n. IsNode n.depth n.keys.texts n.body };
+
+    ghost size = { λ s. s.height };
+
+    ghost use Rattle.map_nodes.specs.Falls.{deep-body};
+
+    ghost size_decreases = { λ a h. deep-body a.body };
+}

@@ -1,0 +1,28 @@
+//! New chunks of a draft.
+ghost use Rattle.std.specs.Prelude.{◌≡◌, []};
+
+use super::{Body, Node};
+use map_chunks::keys::NodeKeys;
+use std::alloc::Global;
+
+impl Node {
+    /// An empty leaf.
+    pub fn empty(alloc: Global) -> Node
+        ensures depth { result.depth ≡ 1 }
+        ensures pieces { result.pieces ≡ [] }
+        ensures fresh { result.fresh ≡ 1 }
+    {
+        Node {
+            depth: 1,
+            keys: NodeKeys::own(Vec::new(alloc)),
+            body: Body::Leaf(Vec::new(alloc)),
+        }
+    }
+
+    /// How deep the chunk is.
+    pub fn depth(&self) -> u64
+        ensures { result ≡ self.now.depth }
+    {
+        self.depth
+    }
+}

@@ -1,0 +1,94 @@
+//! Copies of placed chunks. A copy in which an entry is to be added gets room for a full chunk, and another
+//! one room for what it has.
+ghost use Rattle.std.specs.Prelude.{◌≡◌, ◌⊎◌, [], length, map, Some, IfOk, IfErr, IsSome, if◌then◌else◌};
+ghost use mathlib.Core.List.{IsPrefix};
+ghost use Rattle.group_history.specs.Refs.{stamp_of};
+ghost use Rattle.group_history.specs.Spelling.{rows_at};
+ghost use Rattle.group_history.specs.declared.mutators.Stop.TheVariants.{NoMemory};
+ghost use Rattle.map_nodes.specs.Copies.{MayBeDeep, IsCopy};
+ghost use Rattle.map_chunks.specs.Places.{AreKept, places_of};
+ghost use Rattle.map_chunks.specs.Shown.{shown};
+ghost use Rattle.map_chunks.specs.Wide.{IsWideAt, IsWideChunk};
+ghost use Rattle.map_nodes.specs.declared.nodes.Child.TheVariants.{Placed};
+
+use super::{Body, Child, Node};
+use group_history::{Chunk, Json, Ref, Stop};
+use map_chunks::keys::{NodeKeys, ROOM};
+use map_chunks::{Chunks, ShowsChunk};
+use std::alloc::{AllocError, Global};
+
+impl Node {
+    /// A copy of the placed chunk, which is so deep, with room for so many entries. Stops for want
+    /// of memory, or as the store does.
+    pub fn copied<C: Chunks>(
+        alloc: Global,
+        chunks: &mut C,
+        at: Ref,
+        depth: u64,
+        room: usize,
+    ) -> Result<Node, Stop>
+        requires { IsSome (rows_at (C.contents chunks.old) depth (stamp_of at)) }
+        ensures grown { IsPrefix (C.contents chunks.old) (C.contents chunks.new) }
+        ensures depth { IfOk result (λ n. n.depth ≡ depth) }
+        ensures rows { IfOk result (λ n. shown (C.contents chunks.new) n.pieces ≡ rows_at (C.contents chunks.old) depth (stamp_of at)) }
+        ensures fresh { IfOk result (λ n. n.fresh ≡ 1) }
+        ensures places { IfOk result (λ n. AreKept C.Held.shown (C.contents chunks.new) [] (places_of n.pieces)) }
+        ensures wide { IsWideAt (C.contents chunks.new) (stamp_of at) → IfOk result IsWideChunk }
+        ensures stopped { IfErr result (λ s. (s ≡ NoMemory) ⊎ C.stops s) }
+    {
+        let held = chunks.show(at)?;
+        let node = Node::of_chunk(alloc, held.chunk(), depth, room);
+        chunks.leave(held);
+        Ok(node?)
+    }
+
+    fn of_chunk(
+        alloc: Global,
+        chunk: &Chunk<Ref>,
+        depth: u64,
+        room: usize,
+    ) -> Result<Node, AllocError>
+        requires { MayBeDeep depth chunk.now }
+        ensures { IfOk result (IsCopy depth chunk.now) }
+    {
+        match chunk {
+            Chunk::Leaf(leaf) => {
+                let keys = NodeKeys::shared(leaf.keys().clone()?);
+                let body = Body::Leaf(copied_values(alloc, leaf.values(), room)?);
+                Ok(Node { depth, keys, body })
+            }
+            Chunk::Inner(inner) => {
+                let keys = NodeKeys::shared(inner.firsts().clone()?);
+                let body = Body::Inner(placed_children(alloc, inner.children(), room)?);
+                Ok(Node { depth, keys, body })
+            }
+        }
+    }
+}
+
+/// The room of a copy, by whether the key that is put is there already.
+pub fn room_for(there: bool) -> usize
+    ensures { result ≡ (if there then 0 else 17) }
+{
+    if there { 0 } else { ROOM }
+}
+
+fn copied_values(alloc: Global, values: &[Json], room: usize) -> Result<Vec<Json>, AllocError>
+    ensures { IfOk result (λ copy. copy.items ≡ values.now) }
+{
+    let mut copy = Vec::with_capacity(alloc, values.len().max(room))?;
+    for value in values {
+        copy.push(value.clone()?)?;
+    }
+    Ok(copy)
+}
+
+fn placed_children(alloc: Global, children: &[Ref], room: usize) -> Result<Vec<Child>, AllocError>
+    ensures { IfOk result (λ copy. copy.items ≡ map (λ at. Placed at) children.now) }
+{
+    let mut copy = Vec::with_capacity(alloc, children.len().max(room))?;
+    for at in children {
+        copy.push(Child::Placed(*at))?;
+    }
+    Ok(copy)
+}

@@ -1,0 +1,117 @@
+//! A draft's chunks written down as nodes that can be placed, children before parents.
+ghost use Rattle.std.specs.Prelude.{◌≡◌, ◌+◌, ◌<◌, ◌≤◌, ◌^◌, ◌⊎◌, length, Some, IfOk, IfErr, OnOk, OnErr};
+ghost use mathlib.Core.List.{IsPrefix};
+ghost use Rattle.group_history.specs.Refs.{stamp_of, slot_of};
+ghost use Rattle.group_history.specs.Rows.{Rows};
+ghost use Rattle.group_history.specs.Spelling.{Contents, rows_at};
+ghost use Rattle.group_history.specs.declared.refusals.Refusal.TheVariants as refusal;
+ghost use Rattle.map_chunks.specs.Places.{with_nodes, places_of, IsNamed, AreNamed, AddsNamed};
+ghost use Rattle.map_nodes.specs.Freezing.{IsFrozen, AreFrozen, child_places, kids_places};
+ghost use Rattle.map_nodes.specs.Nodes.{child_fresh, kids_fresh};
+ghost use Rattle.map_chunks.specs.Shown.{shown};
+ghost use Rattle.map_chunks.specs.Wide.{IsWideAt};
+
+use super::{Body, Child, Node};
+use group_history::{Chunk, Inner, Leaf, Ref, Refusal};
+use map_chunks::Draft;
+use std::alloc::Global;
+
+/// Appends the chunk and those that it owns to the draft, all or none, and answers its root's name.
+/// Refused for want of memory, or with Stamps where the nodes would have stamps from 2^44 on.
+pub fn frozen(alloc: Global, node: Node, draft: &mut Draft) -> Result<Ref, Refusal>
+    ensures spelled { (contents : Contents) (rows : Rows) → length contents ≡ draft.old.first → shown (with_nodes contents draft.old.nodes) node.pieces ≡ Some rows → IfOk result (λ root. rows_at (with_nodes contents draft.new.nodes) node.depth (stamp_of root) ≡ Some rows) }
+    ensures wide { (contents : Contents) → length contents ≡ draft.old.first → 1 < node.entries → IfOk result (λ root. IsWideAt (with_nodes contents draft.new.nodes) (stamp_of root)) }
+    ensures named { OnOk result (AddsNamed draft.old.first (places_of node.pieces) draft.old.nodes draft.new.nodes) }
+    ensures drafted { IfOk result (λ at. (draft.old.first ≤ stamp_of at) × (slot_of at ≡ 0)) }
+    ensures count { OnOk result (length draft.new.nodes ≡ length draft.old.nodes + node.fresh) }
+    ensures first { draft.new.first ≡ draft.old.first }
+    ensures grown { IsPrefix draft.old.nodes draft.new.nodes }
+    ensures err { OnErr result (draft.new ≡ draft.old) }
+    ensures why { IfErr result (λ e. (e ≡ refusal.NoMemory) ⊎ ((e ≡ refusal.Stamps) × (2 ^ 44 < draft.old.first + length draft.old.nodes + node.fresh))) }
+{
+    let len = draft.len();
+    match node.freeze(alloc, draft) {
+        Ok(root) => {
+            return Ok(root);
+        }
+        Err(refused) => {
+            draft.truncate(len);
+            return Err(refused);
+        }
+    }
+}
+
+impl Node {
+    /// Appends the chunk to the draft, behind its own children, and answers its name. Placed children
+    /// keep their names. A refusal leaves what was appended so far.
+    #[cycle(freezing)]
+    fn freeze(self, alloc: Global, draft: &mut Draft) -> Result<Ref, Refusal>
+        ensures spelled { (contents : Contents) (rows : Rows) → length contents ≡ draft.old.first → shown (with_nodes contents draft.old.nodes) self.pieces ≡ Some rows → IfOk result (λ root. rows_at (with_nodes contents draft.new.nodes) self.depth (stamp_of root) ≡ Some rows) }
+        ensures wide { (contents : Contents) → length contents ≡ draft.old.first → 1 < self.entries → IfOk result (λ root. IsWideAt (with_nodes contents draft.new.nodes) (stamp_of root)) }
+        ensures named { OnOk result (AddsNamed draft.old.first (places_of self.pieces) draft.old.nodes draft.new.nodes) }
+        ensures drafted { IfOk result (λ at. (draft.old.first ≤ stamp_of at) × (slot_of at ≡ 0)) }
+        ensures count { OnOk result (length draft.new.nodes ≡ length draft.old.nodes + self.fresh) }
+        ensures bound { OnErr result (length draft.new.nodes < length draft.old.nodes + self.fresh) }
+        ensures first { draft.new.first ≡ draft.old.first }
+        ensures grown { IsPrefix draft.old.nodes draft.new.nodes }
+        ensures why { IfErr result (λ e. (e ≡ refusal.NoMemory) ⊎ ((e ≡ refusal.Stamps) × (2 ^ 44 ≤ draft.new.first + length draft.new.nodes))) }
+    {
+        let Node {
+            depth: _,
+            keys,
+            body,
+        } = self;
+        let keys = keys.into_keys(alloc)?;
+        match body {
+            Body::Leaf(values) => {
+                let leaf = Leaf::new(keys, values);
+                return draft.push(group_history::Node::Chunk(Chunk::Leaf(leaf)));
+            }
+            Body::Inner(kids) => {
+                let children = freeze_kids(alloc, kids, draft)?;
+                let inner = Inner::new(keys, children);
+                return draft.push(group_history::Node::Chunk(Chunk::Inner(inner)));
+            }
+        }
+    }
+}
+
+#[cycle(freezing)]
+fn freeze_kids(alloc: Global, kids: Vec<Child>, draft: &mut Draft) -> Result<Vec<Ref>, Refusal>
+    ensures frozen { IfOk result (λ ats. AreFrozen draft.old.first draft.old.nodes draft.new.nodes kids.items ats.items) }
+    ensures named { OnOk result (AddsNamed draft.old.first (kids_places kids.items) draft.old.nodes draft.new.nodes) }
+    ensures names { IfOk result (λ ats. AreNamed draft.old.first (kids_places kids.items) ats.items) }
+    ensures count { OnOk result (length draft.new.nodes ≡ length draft.old.nodes + kids_fresh kids.items) }
+    ensures bound { OnErr result (length draft.new.nodes ≤ length draft.old.nodes + kids_fresh kids.items) }
+    ensures first { draft.new.first ≡ draft.old.first }
+    ensures grown { IsPrefix draft.old.nodes draft.new.nodes }
+    ensures why { IfErr result (λ e. (e ≡ refusal.NoMemory) ⊎ ((e ≡ refusal.Stamps) × (2 ^ 44 ≤ draft.new.first + length draft.new.nodes))) }
+{
+    let mut children = Vec::with_capacity(alloc, kids.len())?;
+    for kid in kids {
+        let at = freeze_kid(alloc, kid, draft)?;
+        children.push(at)?;
+    }
+    Ok(children)
+}
+
+#[cycle(freezing)]
+fn freeze_kid(alloc: Global, kid: Child, draft: &mut Draft) -> Result<Ref, Refusal>
+    ensures frozen { IfOk result (IsFrozen draft.old.first draft.old.nodes draft.new.nodes kid) }
+    ensures named { OnOk result (AddsNamed draft.old.first (child_places kid) draft.old.nodes draft.new.nodes) }
+    ensures name { IfOk result (IsNamed draft.old.first (child_places kid)) }
+    ensures count { OnOk result (length draft.new.nodes ≡ length draft.old.nodes + child_fresh kid) }
+    ensures bound { OnErr result (length draft.new.nodes ≤ length draft.old.nodes + child_fresh kid) }
+    ensures first { draft.new.first ≡ draft.old.first }
+    ensures grown { IsPrefix draft.old.nodes draft.new.nodes }
+    ensures why { IfErr result (λ e. (e ≡ refusal.NoMemory) ⊎ ((e ≡ refusal.Stamps) × (2 ^ 44 ≤ draft.new.first + length draft.new.nodes))) }
+{
+    match kid {
+        Child::Placed(at) => {
+            return Ok(at);
+        }
+        Child::Own(node) => {
+            return Box::into_inner(node).freeze(alloc, draft);
+        }
+    }
+}

@@ -1,0 +1,52 @@
+//! What a put of a new key takes and makes.
+//!
+//! A chunk with 17 entries is split: the first 8 stay, the last 9 become its upper half, which its parent
+//! puts behind it. All memory is taken before anything changes, so a chunk puts a row below first where
+//! nothing may be split, and only where that can't be done takes what an upper half needs: a key list of
+//! its own, and where it is full itself, room for a split. The first key of an upper half is copied for
+//! each chunk above.
+ghost use Rattle.std.specs.Prelude.{◌≡◌};
+ghost use Rattle.group_history.specs.declared.mutators.Stop.TheVariants.{NoMemory};
+ghost use Rattle.map_nodes.specs.declared.nodes.putting.Unput.TheVariants.{Stopped};
+
+mod below;
+mod leaves;
+mod middles;
+mod paths;
+mod roots;
+mod splits;
+
+use super::Node;
+use group_history::{Stop, Text};
+use std::alloc::AllocError;
+
+/// The upper half of a chunk that was split, and copies of its first key.
+#[derive(Drop)]
+pub(crate) struct Half {
+    pub(crate) firsts: Vec<Text>,
+    pub(crate) node: Box<Node>,
+}
+
+/// Why a row isn't put.
+#[derive(Drop)]
+pub(crate) enum Unput {
+    Stopped(Stop),
+    /// The chunk would be split, and may not be.
+    Full,
+}
+
+impl From<AllocError> for Unput {
+    ghost from_gives = { λ _ e. e ≡ Stopped NoMemory };
+
+    fn from(_refused: AllocError) -> Unput {
+        Unput::Stopped(Stop::NoMemory)
+    }
+}
+
+impl From<Stop> for Unput {
+    ghost from_gives = { λ stop e. e ≡ Stopped stop };
+
+    fn from(stop: Stop) -> Unput {
+        Unput::Stopped(stop)
+    }
+}

@@ -1,0 +1,82 @@
+//! What an inner chunk needs before a row is put below it.
+ghost use Rattle.std.specs.Prelude.{◌≡◌, ◌<◌, ◌≤◌, ◌+◌, [], length, IfOk, IsSome, slice_index_or, vec_items, vec_capacity};
+ghost use Rattle.map_chunks.specs.Search.{IsPlace};
+ghost use Rattle.map_nodes.specs.Halves.{IsLower};
+ghost use Rattle.map_nodes.specs.Ready.{IsReady};
+
+use super::super::Child;
+use super::splits::{HalfRoom, take_half_room};
+use group_history::Text;
+use map_chunks::entries::Spare;
+use map_chunks::keys::NodeKeys;
+use std::alloc::{AllocError, Global};
+
+/// What an inner chunk may need once its child is changed.
+#[derive(Drop)]
+pub(crate) struct Ready {
+    pub(crate) lower: Option<Text>,
+    pub(crate) room: HalfRoom<Child>,
+}
+
+impl Ready {
+    /// Where the child isn't split.
+    pub(crate) fn of_whole(alloc: Global, lower: Option<Text>) -> Ready
+        ensures lower { result.lower ≡ lower }
+        ensures spare { (result.room.spare.keys.items ≡ []) × (result.room.spare.entries.items ≡ []) }
+    {
+        let spare = Spare {
+            keys: Vec::new(alloc),
+            entries: Vec::new(alloc),
+        };
+        let room = HalfRoom {
+            firsts: Vec::new(alloc),
+            spare,
+            home: None,
+        };
+        Ready { lower, room }
+    }
+
+    /// Where the child is split. The keys become the chunk's own.
+    pub(crate) fn of_split(
+        keys: &mut NodeKeys,
+        alloc: Global,
+        place: usize,
+        key: &Text,
+        lower: Option<Text>,
+        copies: usize,
+    ) -> Result<Ready, AllocError>
+        requires place { IsPlace key.now keys.old.texts place }
+        ensures texts { keys.new.texts ≡ keys.old.texts }
+        ensures lower { IfOk result (λ r. r.lower ≡ lower) }
+        ensures spare { IfOk result (λ r. (r.room.spare.keys.items ≡ []) × (r.room.spare.entries.items ≡ [])) }
+        ensures ready { IfOk result (λ r. IsReady copies keys.old.texts keys.new.room place key.now r.room) }
+    {
+        let room = take_half_room(alloc, keys.as_slice(), place + 1, key, copies)?;
+        keys.make_room(alloc)?;
+        Ok(Ready { lower, room })
+    }
+}
+
+/// The key, where it is below the one of the child to which it belongs. That is the first child then, and
+/// the keys become the chunk's own.
+pub(crate) fn lower_key(
+    keys: &mut NodeKeys,
+    alloc: Global,
+    place: usize,
+    key: &Text,
+) -> Result<Option<Text>, AllocError>
+    requires { IsPlace key.now keys.old.texts place }
+    ensures texts { keys.new.texts ≡ keys.old.texts }
+    ensures lower { IfOk result (IsLower key.now (slice_index_or keys.old.texts place [])) }
+    ensures room { IfOk result (λ lower. IsSome lower → 0 < keys.new.room) }
+{
+    if place > 0 {
+        return Ok(None);
+    }
+    if keys.as_slice()[place].as_str().cmp(key.as_str()).is_gt() {
+        let lower = key.clone()?;
+        keys.make_room(alloc)?;
+        return Ok(Some(lower));
+    }
+    Ok(None)
+}

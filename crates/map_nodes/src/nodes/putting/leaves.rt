@@ -1,0 +1,175 @@
+//! A new row in a leaf.
+ghost use Rattle.std.specs.Prelude.{◌≡◌, ◌<◌, ◌≤◌, ◌++◌, [], false, length, replicate, None, IfOk, IfErr, OnOk, OnErr, IsSome, vec_items, vec_len, vec_capacity};
+ghost use Rattle.std.specs.Ordering.{nat_cmp};
+ghost use Rattle.std.specs.Cmp.Lexicographic.{slice_cmp};
+ghost use Rattle.std.specs.FinMap as finite;
+ghost use Rattle.group_history.specs.Rows.{AreKeys, paired};
+ghost use Rattle.map_nodes.specs.Nodes.{row_pieces};
+ghost use Rattle.map_chunks.specs.Search.{IsAbsent};
+ghost use Rattle.map_nodes.specs.Halves.{half_pieces, IsHalf, AreNinth};
+ghost use Rattle.map_nodes.specs.Counts.{half_fresh, HasKept};
+ghost use Rattle.map_nodes.specs.Unput.{IsUnput};
+
+use super::super::homes::housed;
+use super::super::{Body, Node};
+use super::splits::{HalfRoom, take_half_room};
+use super::{Half, Unput};
+use group_history::{Json, Text};
+use map_chunks::entries::{MOST, insert_entry, make_room};
+use map_chunks::keys::NodeKeys;
+use map_chunks::search::search;
+use std::alloc::{AllocError, Global};
+
+fn copies_of(alloc: Global, text: &Text, count: usize) -> Result<Vec<Text>, AllocError>
+    ensures { IfOk result (λ copies. copies.items ≡ replicate count text.now) }
+{
+    let mut copies = Vec::with_capacity(alloc, count)?;
+    for _made in 0..count {
+        copies.push(text.clone()?)?;
+    }
+    Ok(copies)
+}
+
+/// Copies of the first key of the upper half, where the key is put before the place.
+pub(crate) fn ninth_copies(
+    alloc: Global,
+    keys: &[Text],
+    place: usize,
+    key: &Text,
+    count: usize,
+) -> Result<Vec<Text>, AllocError>
+    ensures { IfOk result (λ copies. AreNinth count keys.now place key.now copies.items) }
+{
+    if keys.len() != MOST {
+        return Ok(Vec::new(alloc));
+    }
+    if place == 8 {
+        return copies_of(alloc, key, count);
+    }
+    let ninth = if place < 8 { 7 } else { 8 };
+    copies_of(alloc, &keys[ninth], count)
+}
+
+/// Puts a row in a leaf's, unless they would be split and may not be.
+pub(crate) fn put_leaf(
+    keys: &mut NodeKeys,
+    values: &mut Vec<Json>,
+    alloc: Global,
+    key: &Text,
+    value: &Json,
+    copies: usize,
+    may_split: bool,
+) -> Result<Option<Half>, Unput>
+    requires keys { AreKeys keys.old.texts }
+    requires pairs { length values.old.items ≡ length keys.old.texts }
+    ensures rows { IfOk result (λ half. row_pieces (paired keys.new.texts values.new.items) ++ half_pieces half ≡ row_pieces (finite.put (slice_cmp nat_cmp) key.now value.now (paired keys.old.texts values.old.items))) }
+    ensures half { IfOk result (IsHalf copies 1) }
+    ensures leaf { OnOk result (AreKeys keys.new.texts × (length values.new.items ≡ length keys.new.texts) × (0 < length keys.new.texts)) }
+    ensures fresh { IfOk result (λ half. half_fresh half ≤ 1) }
+    ensures entries { IfOk result (HasKept (length keys.old.texts) (length keys.new.texts)) }
+    ensures whole { may_split ≡ false → IfOk result (λ half. half ≡ None) }
+    ensures err { OnErr result ((keys.new.texts ≡ keys.old.texts) × (values.new.items ≡ values.old.items)) }
+    ensures unput { IfErr result (IsUnput (λ _. ⊥) may_split) }
+{
+    if !may_split && keys.as_slice().len() >= MOST {
+        return Err(Unput::Full);
+    }
+    let value = value.clone()?;
+    Ok(put_row(keys, values, alloc, key, value, copies)?)
+}
+
+// Puts a row in a leaf's.
+fn put_row(
+    keys: &mut NodeKeys,
+    values: &mut Vec<Json>,
+    alloc: Global,
+    key: &Text,
+    value: Json,
+    copies: usize,
+) -> Result<Option<Half>, AllocError>
+    requires keys { AreKeys keys.old.texts }
+    requires pairs { length values.old.items ≡ length keys.old.texts }
+    ensures rows { IfOk result (λ half. row_pieces (paired keys.new.texts values.new.items) ++ half_pieces half ≡ row_pieces (finite.put (slice_cmp nat_cmp) key.now value (paired keys.old.texts values.old.items))) }
+    ensures half { IfOk result (IsHalf copies 1) }
+    ensures leaf { IfOk result (λ half. AreKeys keys.new.texts × (length values.new.items ≡ length keys.new.texts) × (0 < length keys.new.texts)) }
+    ensures fresh { IfOk result (λ half. half_fresh half ≤ 1) }
+    ensures entries { IfOk result (HasKept (length keys.old.texts) (length keys.new.texts)) }
+    ensures err { OnErr result ((keys.new.texts ≡ keys.old.texts) × (values.new.items ≡ values.old.items)) }
+{
+    match search(keys.as_slice(), key.as_str()) {
+        Ok(place) => {
+            values[place] = value;
+            return Ok(None);
+        }
+        Err(place) => return insert_row(keys, values, place, alloc, key, value, copies),
+    }
+}
+
+// Puts a row whose key is new before the one at the place.
+fn insert_row(
+    keys: &mut NodeKeys,
+    values: &mut Vec<Json>,
+    place: usize,
+    alloc: Global,
+    key: &Text,
+    value: Json,
+    copies: usize,
+) -> Result<Option<Half>, AllocError>
+    requires keys { AreKeys keys.old.texts }
+    requires pairs { length values.old.items ≡ length keys.old.texts }
+    requires absent { IsAbsent key.now keys.old.texts place }
+    ensures rows { IfOk result (λ half. row_pieces (paired keys.new.texts values.new.items) ++ half_pieces half ≡ row_pieces (finite.put (slice_cmp nat_cmp) key.now value (paired keys.old.texts values.old.items))) }
+    ensures half { IfOk result (IsHalf copies 1) }
+    ensures leaf { IfOk result (λ half. AreKeys keys.new.texts × (length values.new.items ≡ length keys.new.texts) × (0 < length keys.new.texts)) }
+    ensures fresh { IfOk result (λ half. half_fresh half ≤ 1) }
+    ensures entries { IfOk result (HasKept (length keys.old.texts) (length keys.new.texts)) }
+    ensures err { OnErr result ((keys.new.texts ≡ keys.old.texts) × (values.new.items ≡ values.old.items)) }
+{
+    let room = take_half_room(alloc, keys.as_slice(), place, key, copies)?;
+    let text = key.clone()?;
+    make_room(keys, values, alloc)?;
+    Ok(settle_row(keys, values, place, text, value, room, copies))
+}
+
+// Puts a row in the room made for it, and splits the rows where they are 17 then.
+fn settle_row(
+    keys: &mut NodeKeys,
+    values: &mut Vec<Json>,
+    place: usize,
+    key: Text,
+    value: Json,
+    room: HalfRoom<Json>,
+    copies: usize,
+) -> Option<Half>
+    requires keys { AreKeys keys.old.texts }
+    requires pairs { length values.old.items ≡ length keys.old.texts }
+    requires absent { IsAbsent key keys.old.texts place }
+    requires room { (0 < keys.old.room) × (vec_len values.old < vec_capacity values.old) }
+    requires firsts { AreNinth copies keys.old.texts place key room.firsts.items }
+    requires empty { (room.spare.keys.items ≡ []) × (room.spare.entries.items ≡ []) }
+    requires spare { 16 ≤ length keys.old.texts → (17 ≤ vec_capacity room.spare.keys) × (17 ≤ vec_capacity room.spare.entries) }
+    requires home { 16 ≤ length keys.old.texts → IsSome room.home }
+    ensures rows { row_pieces (paired keys.new.texts values.new.items) ++ half_pieces result ≡ row_pieces (finite.put (slice_cmp nat_cmp) key value (paired keys.old.texts values.old.items)) }
+    ensures half { IsHalf copies 1 result }
+    ensures leaf { AreKeys keys.new.texts × (length values.new.items ≡ length keys.new.texts) × (0 < length keys.new.texts) }
+    ensures fresh { half_fresh result ≤ 1 }
+    ensures entries { HasKept (length keys.old.texts) (length keys.new.texts) result }
+{
+    let HalfRoom {
+        firsts,
+        spare,
+        home,
+    } = room;
+    let Some((upper_keys, upper)) = insert_entry(keys, values, place, key, value, spare) else {
+        return None;
+    };
+    let upper = Node {
+        depth: 1,
+        keys: upper_keys,
+        body: Body::Leaf(upper),
+    };
+    Some(Half {
+        firsts,
+        node: housed(home, upper),
+    })
+}

@@ -1,0 +1,103 @@
+//! A new child in an inner chunk.
+ghost use Rattle.std.specs.Prelude.{◌≡◌, ◌<◌, ◌≤◌, ◌+◌, ◌-◌, [], length, T, Some, None, IsSome, vec_items, vec_len, vec_capacity};
+ghost use Rattle.group_history.specs.Map.{Bytes};
+ghost use Rattle.group_history.specs.Rows.{rises, keys_of, paired};
+ghost use Rattle.map_nodes.specs.Nodes.{AllKids, kids_fresh};
+ghost use Rattle.map_nodes.specs.Halves.{IsHalf, AreNinth, with_half, lowered, Finished};
+ghost use Rattle.map_nodes.specs.Counts.{half_fresh, HasKept};
+
+use super::super::homes::housed;
+use super::super::{Body, Child, Node};
+use super::Half;
+use super::splits::HalfRoom;
+use group_history::Text;
+use map_chunks::entries::insert_entry;
+use map_chunks::keys::NodeKeys;
+
+/// Puts a lower first key in the place of one, if there is one.
+pub(crate) fn lower_first(keys: &mut NodeKeys, place: usize, lower: Option<Text>)
+    requires room { IsSome lower → 0 < keys.old.room }
+    requires within { place < length keys.old.texts }
+    ensures texts { keys.new.texts ≡ lowered place lower keys.old.texts }
+    ensures room { keys.new.room ≡ keys.old.room }
+{
+    if let Some(key) = lower {
+        keys.set(place, key);
+    }
+}
+
+/// Puts the upper half of the child at the place behind it, and splits the children where they are 17 then.
+pub(crate) fn finish(
+    keys: &mut NodeKeys,
+    kids: &mut Vec<Child>,
+    place: usize,
+    depth: u64,
+    room: HalfRoom<Child>,
+    half: Option<Half>,
+    copies: usize,
+) -> Option<Half>
+    requires pairs { length kids.old.items ≡ length keys.old.texts }
+    requires few { length keys.old.texts ≤ 16 }
+    requires within { place < length keys.old.texts }
+    requires above { 0 < depth }
+    requires kids_room { vec_len kids.old < vec_capacity kids.old }
+    requires keys_room { IsSome half → 0 < keys.old.room }
+    requires spare_keys { room.spare.keys.items ≡ [] }
+    requires spare_entries { room.spare.entries.items ≡ [] }
+    requires spare_room { IsSome half → 16 ≤ length keys.old.texts → (17 ≤ vec_capacity room.spare.keys) × (17 ≤ vec_capacity room.spare.entries) }
+    requires home { IsSome half → 16 ≤ length keys.old.texts → IsSome room.home }
+    requires half { IsHalf (copies + 1) (depth - 1) half }
+    requires firsts { IsSome half → (key : Bytes) → (place + 1 ≡ 8 → ⊥) → AreNinth copies keys.old.texts (place + 1) key room.firsts.items }
+    requires kids { AllKids (depth - 1) (with_half place half (paired keys.old.texts kids.old.items)) }
+    requires order { T (rises (keys_of (with_half place half (paired keys.old.texts kids.old.items)))) }
+    ensures shape { Finished depth copies (with_half place half (paired keys.old.texts kids.old.items)) keys.new.texts kids.new.items result }
+    ensures fresh { kids_fresh kids.new.items + half_fresh result ≤ kids_fresh kids.old.items + half_fresh half + 1 }
+    ensures entries { HasKept (length keys.old.texts) (length keys.new.texts) result }
+    ensures whole { half ≡ None → result ≡ None }
+{
+    let Some(half) = half else {
+        return None;
+    };
+    let Half {
+        firsts: mut given,
+        node,
+    } = half;
+    let Some(first) = given.pop() else {
+        return None;
+    };
+    let HalfRoom {
+        firsts,
+        spare,
+        home,
+    } = room;
+    let Some((upper_keys, upper)) = insert_entry(
+        keys,
+        kids,
+        place + 1,
+        first,
+        Child::Own(node),
+        spare,
+    ) else {
+        return None;
+    };
+    let upper = Node {
+        depth,
+        keys: upper_keys,
+        body: Body::Inner(upper),
+    };
+    Some(Half {
+        firsts: chosen(place, given, firsts),
+        node: housed(home, upper),
+    })
+}
+
+// The copies of the child's own half where that begins the upper half, else the others.
+fn chosen(place: usize, given: Vec<Text>, firsts: Vec<Text>) -> Vec<Text>
+    ensures at { place ≡ 7 → result.items ≡ given.items }
+    ensures other { (place ≡ 7 → ⊥) → result.items ≡ firsts.items }
+{
+    if place == 7 {
+        return given;
+    }
+    firsts
+}

@@ -1,0 +1,197 @@
+//! A put in a whole map: where its root is split, a new root stands above both halves.
+ghost use Rattle.std.specs.Prelude.{◌≡◌, ◌⊎◌, ◌<◌, ◌≤◌, ◌+◌, ◌*◌, ◌^◌, ◌++◌, [], length, Some, IsSome, IfOk, IfErr, OnOk, OnErr, T, vec_items, vec_len, vec_capacity};
+ghost use mathlib.Core.List.{IsPrefix};
+ghost use Rattle.std.specs.Ordering.{nat_cmp};
+ghost use Rattle.std.specs.Cmp.Lexicographic.{slice_cmp};
+ghost use Rattle.std.specs.FinMap as finite;
+ghost use Rattle.group_history.specs.declared.mutators.Stop.TheVariants.{NoMemory};
+ghost use Rattle.map_chunks.specs.Shown.{shown, IsTree, rows_or};
+ghost use Rattle.map_nodes.specs.Nodes.{HeadIs};
+ghost use Rattle.map_nodes.specs.Halves.{half_pieces, IsHalf, least, AreInOrder, HeadsBoth};
+ghost use Rattle.map_nodes.specs.Counts.{half_fresh, HasKept};
+ghost use Rattle.map_chunks.specs.Places.{AreKept, places_of};
+ghost use Rattle.map_chunks.specs.Wide.{IsWideChunk};
+
+use super::super::homes::{housed, take_home};
+use super::super::{Body, Child, Node};
+use super::{Half, Unput};
+use group_history::{Json, Stop, Text};
+use map_chunks::Chunks;
+use map_chunks::entries::{MOST, Spare, take_spare};
+use map_chunks::keys::NodeKeys;
+use std::alloc::{AllocError, Global};
+use std::mem;
+
+// The first key once this one is put, where the chunk may be split.
+fn least_key(keys: &[Text], key: &Text) -> Result<Option<Text>, AllocError>
+    ensures { IfOk result (λ first. 16 ≤ length keys.now → first ≡ Some (least key.now keys.now)) }
+{
+    if keys.len() < MOST {
+        return Ok(None);
+    }
+    if keys[0].as_str().cmp(key.as_str()).is_gt() {
+        return Ok(Some(key.clone()?));
+    }
+    Ok(Some(keys[0].clone()?))
+}
+
+// What a root above a chunk and its upper half needs: its first key, room for itself, and room for the
+// chunk as its child.
+#[derive(Drop)]
+struct Above {
+    first: Option<Text>,
+    spare: Spare<Child>,
+    home: Option<Box<Node>>,
+}
+
+// All of it, where the chunk with these keys may be split.
+fn take_above(alloc: Global, keys: &[Text], key: &Text) -> Result<Above, AllocError>
+    ensures first { IfOk result (λ a. 16 ≤ length keys.now → a.first ≡ Some (least key.now keys.now)) }
+    ensures empty { IfOk result (λ a. (a.spare.keys.items ≡ []) × (a.spare.entries.items ≡ [])) }
+    ensures spare { IfOk result (λ a. 16 ≤ length keys.now → (17 ≤ vec_capacity a.spare.keys) × (17 ≤ vec_capacity a.spare.entries)) }
+    ensures home { IfOk result (λ a. 16 ≤ length keys.now → IsSome a.home) }
+{
+    let first = least_key(keys, key)?;
+    let spare = take_spare(alloc, keys.len())?;
+    let home = take_home(alloc, keys.len())?;
+    Ok(Above { first, spare, home })
+}
+
+// A root above both halves, made in the room that was taken for it.
+fn root_above(lower: Box<Node>, half: Half, first: Text, room: Spare<Child>) -> Node
+    requires depth { lower.value.depth + 1 < 2 ^ 64 }
+    requires head { HeadIs first lower.value.pieces }
+    requires half { IsHalf 1 lower.value.depth (Some half) }
+    requires order { AreInOrder first half.node.value.pieces }
+    requires keys { (room.keys.items ≡ []) × (17 ≤ vec_capacity room.keys) }
+    requires kids { (room.entries.items ≡ []) × (17 ≤ vec_capacity room.entries) }
+    ensures pieces { result.pieces ≡ lower.value.pieces ++ half.node.value.pieces }
+    ensures depth { result.depth ≡ lower.value.depth + 1 }
+    ensures fresh { result.fresh ≡ lower.value.fresh + half.node.value.fresh + 1 }
+    ensures entries { result.entries ≡ 2 }
+{
+    let depth = lower.depth() + 1;
+    let Half { mut firsts, node } = half;
+    let Some(second) = firsts.pop() else {
+        return Box::into_inner(lower);
+    };
+    let Spare {
+        mut keys,
+        entries: mut kids,
+    } = room;
+    let _ = keys.push(first);
+    let _ = keys.push(second);
+    let _ = kids.push(Child::Own(lower));
+    let _ = kids.push(Child::Own(node));
+    Node {
+        depth,
+        keys: NodeKeys::own(keys),
+        body: Body::Inner(kids),
+    }
+}
+
+impl Node {
+    /// Puts a row in the map whose root the chunk is. Only where it can't be put otherwise, the root is
+    /// split.
+    pub(crate) fn put_root<C: Chunks>(
+        &mut self,
+        alloc: Global,
+        chunks: &mut C,
+        key: &Text,
+        value: &Json,
+    ) -> Result<(), Stop>
+        requires { IsTree (shown (C.contents chunks.old) self.old.pieces) }
+        ensures grown { IsPrefix (C.contents chunks.old) (C.contents chunks.new) }
+        ensures done { OnOk result (shown (C.contents chunks.new) self.new.pieces ≡ Some (finite.put (slice_cmp nat_cmp) key.now value.now (rows_or (shown (C.contents chunks.old) self.old.pieces)))) }
+        ensures few { OnOk result (self.new.fresh ≤ self.old.fresh + 2 * self.old.depth) }
+        ensures places { OnOk result (AreKept C.Held.shown (C.contents chunks.new) (places_of self.old.pieces) (places_of self.new.pieces)) }
+        ensures deep { OnOk result ((self.old.depth ≤ self.new.depth) × (self.new.depth ≤ self.old.depth + 1)) }
+        ensures wide { IsWideChunk self.old → OnOk result (IsWideChunk self.new) }
+        ensures err { OnErr result (self.new ≡ self.old) }
+        ensures stopped { IfErr result (λ s. (s ≡ NoMemory) ⊎ C.stops s) }
+    {
+        // No memory holds a tree so deep.
+        if self.depth == u64::MAX {
+            return Err(Stop::NoMemory);
+        }
+        match self.put(alloc, chunks, key, value, 1, false) {
+            Ok(_) => return Ok(()),
+            Err(Unput::Full) => return self.put_split(alloc, chunks, key, value),
+            Err(Unput::Stopped(stop)) => return Err(stop),
+        }
+    }
+
+    // Puts a row, where the root may be split.
+    fn put_split<C: Chunks>(
+        &mut self,
+        alloc: Global,
+        chunks: &mut C,
+        key: &Text,
+        value: &Json,
+    ) -> Result<(), Stop>
+        requires tree { IsTree (shown (C.contents chunks.old) self.old.pieces) }
+        requires depth { self.old.depth + 1 < 2 ^ 64 }
+        ensures grown { IsPrefix (C.contents chunks.old) (C.contents chunks.new) }
+        ensures done { OnOk result (shown (C.contents chunks.new) self.new.pieces ≡ Some (finite.put (slice_cmp nat_cmp) key.now value.now (rows_or (shown (C.contents chunks.old) self.old.pieces)))) }
+        ensures few { OnOk result (self.new.fresh ≤ self.old.fresh + 2 * self.old.depth) }
+        ensures places { OnOk result (AreKept C.Held.shown (C.contents chunks.new) (places_of self.old.pieces) (places_of self.new.pieces)) }
+        ensures deep { OnOk result ((self.old.depth ≤ self.new.depth) × (self.new.depth ≤ self.old.depth + 1)) }
+        ensures wide { IsWideChunk self.old → OnOk result (IsWideChunk self.new) }
+        ensures err { OnErr result (self.new ≡ self.old) }
+        ensures stopped { IfErr result (λ s. (s ≡ NoMemory) ⊎ C.stops s) }
+    {
+        let above = take_above(alloc, self.keys.as_slice(), key)?;
+        let Some(half) = self.put_anyway(alloc, chunks, key, value)? else {
+            drop(above);
+            return Ok(());
+        };
+        self.rise(alloc, half, above);
+        Ok(())
+    }
+
+    // Puts a row in the chunk, which may be split, and so is never refused as full.
+    fn put_anyway<C: Chunks>(
+        &mut self,
+        alloc: Global,
+        chunks: &mut C,
+        key: &Text,
+        value: &Json,
+    ) -> Result<Option<Half>, Stop>
+        requires tree { IsTree (shown (C.contents chunks.old) self.old.pieces) }
+        requires depth { self.old.depth + 1 < 2 ^ 64 }
+        ensures grown { IsPrefix (C.contents chunks.old) (C.contents chunks.new) }
+        ensures depth { self.new.depth ≡ self.old.depth }
+        ensures done { IfOk result (λ half. shown (C.contents chunks.new) (self.new.pieces ++ half_pieces half) ≡ Some (finite.put (slice_cmp nat_cmp) key.now value.now (rows_or (shown (C.contents chunks.old) self.old.pieces)))) }
+        ensures half { IfOk result (IsHalf 1 self.old.depth) }
+        ensures places { IfOk result (λ half. AreKept C.Held.shown (C.contents chunks.new) (places_of self.old.pieces) (places_of (self.new.pieces ++ half_pieces half))) }
+        ensures fresh { IfOk result (λ half. self.new.fresh + half_fresh half < self.old.fresh + 2 * self.old.depth) }
+        ensures entries { IfOk result (HasKept self.old.entries self.new.entries) }
+        ensures filled { OnOk result (0 < length self.new.pieces) }
+        ensures err { OnErr result (self.new ≡ self.old) }
+        ensures stopped { IfErr result (λ s. (s ≡ NoMemory) ⊎ C.stops s) }
+    {
+        match self.put(alloc, chunks, key, value, 1, true) {
+            Ok(half) => return Ok(half),
+            Err(Unput::Stopped(stop)) => return Err(stop),
+            Err(Unput::Full) => unreachable!(),
+        }
+    }
+
+    // Makes the chunk a root above both halves, of which it was the lower one.
+    fn rise(&mut self, alloc: Global, half: Half, above: Above)
+        requires depth { self.old.depth + 1 < 2 ^ 64 }
+        requires half { IsHalf 1 self.old.depth (Some half) }
+        requires first { HeadsBoth above.first self.old.pieces half.node.value.pieces }
+        requires keys { (above.spare.keys.items ≡ []) × (17 ≤ vec_capacity above.spare.keys) }
+        requires kids { (above.spare.entries.items ≡ []) × (17 ≤ vec_capacity above.spare.entries) }
+        requires home { IsSome above.home }
+        ensures pieces { self.new.pieces ≡ self.old.pieces ++ half.node.value.pieces }
+        ensures depth { self.new.depth ≡ self.old.depth + 1 }
+        ensures fresh { self.new.fresh ≡ self.old.fresh + half.node.value.fresh + 1 }
+        ensures entries { self.new.entries ≡ 2 }
+    {
+        let Above { first, spare, home } = above;
+        let lower = housed(home, mem::replace(self, Node::empty(alloc)));
+        *self = root_above(lower, half, first.unwrap(), spare);
+    }
+}

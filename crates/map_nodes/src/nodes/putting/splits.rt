@@ -1,0 +1,41 @@
+//! What the upper half of a chunk needs, taken before anything changes.
+ghost use Rattle.std.specs.Prelude.{◌≡◌, ◌≤◌, [], length, IfOk, IsSome, vec_capacity};
+ghost use Rattle.map_nodes.specs.Halves.{AreNinth};
+
+use super::super::Node;
+use super::super::homes::take_home;
+use super::leaves::ninth_copies;
+use group_history::Text;
+use map_chunks::entries::{Spare, take_spare};
+use std::alloc::{AllocError, Global};
+
+/// Copies of the upper half's first key, and room for it.
+#[derive(Drop)]
+pub(crate) struct HalfRoom<T> {
+    pub(crate) firsts: Vec<Text>,
+    pub(crate) spare: Spare<T>,
+    pub(crate) home: Option<Box<Node>>,
+}
+
+/// Room for the upper half, where the key is put before the place.
+pub(crate) fn take_half_room<T: Drop>(
+    alloc: Global,
+    keys: &[Text],
+    place: usize,
+    key: &Text,
+    copies: usize,
+) -> Result<HalfRoom<T>, AllocError>
+    ensures firsts { IfOk result (λ r. AreNinth copies keys.now place key.now r.firsts.items) }
+    ensures empty { IfOk result (λ r. (r.spare.keys.items ≡ []) × (r.spare.entries.items ≡ [])) }
+    ensures spare { IfOk result (λ r. 16 ≤ length keys.now → (17 ≤ vec_capacity r.spare.keys) × (17 ≤ vec_capacity r.spare.entries)) }
+    ensures home { IfOk result (λ r. 16 ≤ length keys.now → IsSome r.home) }
+{
+    let firsts = ninth_copies(alloc, keys, place, key, copies)?;
+    let spare = take_spare(alloc, keys.len())?;
+    let home = take_home(alloc, keys.len())?;
+    Ok(HalfRoom {
+        firsts,
+        spare,
+        home,
+    })
+}

@@ -1,0 +1,74 @@
+//! Queries of a draft's chunks.
+ghost use Rattle.std.specs.Prelude.{◌≡◌, ◌==◌, ◌⊎◌, Some, IfOk, IfErr, length, option_copied};
+ghost use mathlib.Core.List.{IsPrefix};
+ghost use Rattle.std.specs.Ordering.{nat_cmp};
+ghost use Rattle.std.specs.Cmp.Lexicographic.{slice_cmp};
+ghost use Rattle.std.specs.FinMap as finite;
+ghost use Rattle.group_history.specs.Rows.{Rows};
+ghost use Rattle.group_history.specs.Spelling.{Contents};
+ghost use Rattle.group_history.specs.declared.mutators.Stop.TheVariants.{NoMemory};
+ghost use Rattle.map_chunks.specs.Seeking.{stands_in};
+ghost use Rattle.map_chunks.specs.Shown.{shown, IsTree, rows_or};
+
+use super::{Body, Child, Node};
+use group_history::{Json, Stop};
+use map_chunks::Chunks;
+use map_chunks::looks::Standing;
+use map_chunks::placed::get_placed;
+use map_chunks::search::{place_of, standing_at, value_at};
+use map_chunks::seeking::seek_placed;
+
+impl Node {
+    /// The value at a key, if it is there. Stops for want of memory, or as the store does.
+    pub fn get<C: Chunks>(&self, chunks: &mut C, key: &str) -> Result<Option<Json>, Stop>
+        requires { IsTree (shown (C.contents chunks.old) self.now.pieces) }
+        ensures grown { IsPrefix (C.contents chunks.old) (C.contents chunks.new) }
+        ensures value { IfOk result (λ v. v ≡ finite.find (slice_cmp nat_cmp) key.now (rows_or (shown (C.contents chunks.old) self.now.pieces))) }
+        ensures stopped { IfErr result (λ s. (s ≡ NoMemory) ⊎ C.stops s) }
+    {
+        match &self.body {
+            Body::Leaf(values) => Ok(value_at(self.keys.as_slice(), values, key)?),
+            Body::Inner(kids) => {
+                let place = place_of(self.keys.as_slice(), key);
+                match &kids[place] {
+                    Child::Placed(at) => get_placed(chunks, *at, key),
+                    Child::Own(node) => node.get(chunks, key),
+                }
+            }
+        }
+    }
+
+    /// How the value at a key stands to the one asked for. Stops as the store does alone.
+    pub fn standing<C: Chunks>(
+        &self,
+        chunks: &mut C,
+        key: &str,
+        asked: Option<&Json>,
+    ) -> Result<Standing, Stop>
+        requires { IsTree (shown (C.contents chunks.old) self.now.pieces) }
+        ensures grown { IsPrefix (C.contents chunks.old) (C.contents chunks.new) }
+        ensures standing { IfOk result (λ s. s ≡ stands_in (rows_or (shown (C.contents chunks.old) self.now.pieces)) key.now (option_copied asked.entry)) }
+        ensures stopped { IfErr result C.stops }
+    {
+        match &self.body {
+            Body::Leaf(values) => Ok(standing_at(self.keys.as_slice(), values, key, asked)),
+            Body::Inner(kids) => {
+                let place = place_of(self.keys.as_slice(), key);
+                match &kids[place] {
+                    Child::Placed(at) => {
+                        let sought = seek_placed(chunks, *at, key, asked)?;
+                        Ok(sought.standing)
+                    }
+                    Child::Own(node) => node.standing(chunks, key, asked),
+                }
+            }
+        }
+    }
+
+    /// Whether the chunk has no rows: then it is a leaf.
+    pub fn is_empty(&self) -> bool
+        ensures { (contents : Contents) (rows : Rows) → shown contents self.now.pieces ≡ Some rows → result ≡ (length rows == 0) }
+    {
+        self.keys.as_slice().is_empty()
+    }
+}

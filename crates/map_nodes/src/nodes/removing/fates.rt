@@ -1,0 +1,69 @@
+//! Looks at what would stay of a child.
+ghost use Rattle.std.specs.Prelude.{◌≡◌, ◌⊎◌, IfOk, IfErr, IsSome};
+ghost use mathlib.Core.List.{IsPrefix};
+ghost use Rattle.group_history.specs.declared.mutators.Stop.TheVariants.{NoMemory};
+ghost use Rattle.map_nodes.specs.Removing.{IsFate};
+ghost use Rattle.map_nodes.specs.Scanning.{kid_shown};
+ghost use Rattle.map_chunks.specs.SecondKeys.{second_key};
+ghost use Rattle.map_chunks.specs.Shown.{shown, rows_or};
+
+use super::super::{Body, Child, Node};
+use super::Fate;
+use group_history::{Stop, Text};
+use map_chunks::Chunks;
+use map_chunks::keys::second_of;
+use map_chunks::seconds::second_placed;
+
+impl Node {
+    // The second key of the chunk's rows, if there are two.
+    #[cycle(second)]
+    fn second<C: Chunks>(&self, chunks: &mut C) -> Result<Option<Text>, Stop>
+        requires { IsSome (shown (C.contents chunks.old) self.now.pieces) }
+        ensures grown { IsPrefix (C.contents chunks.old) (C.contents chunks.new) }
+        ensures key { IfOk result (λ key. key ≡ second_key (rows_or (shown (C.contents chunks.old) self.now.pieces))) }
+        ensures stopped { IfErr result (λ s. (s ≡ NoMemory) ⊎ C.stops s) }
+    {
+        let next = second_of(self.keys.as_slice())?;
+        match &self.body {
+            Body::Leaf(_) => Ok(next),
+            Body::Inner(kids) => {
+                let key = kid_second(&kids[0], chunks)?;
+                Ok(key.or(next))
+            }
+        }
+    }
+}
+
+#[cycle(second)]
+fn kid_second<C: Chunks>(kid: &Child, chunks: &mut C) -> Result<Option<Text>, Stop>
+    requires { IsSome (kid_shown (C.contents chunks.old) kid.now) }
+    ensures grown { IsPrefix (C.contents chunks.old) (C.contents chunks.new) }
+    ensures key { IfOk result (λ key. key ≡ second_key (rows_or (kid_shown (C.contents chunks.old) kid.now))) }
+    ensures stopped { IfErr result (λ s. (s ≡ NoMemory) ⊎ C.stops s) }
+{
+    match kid {
+        Child::Placed(at) => second_placed(chunks, *at),
+        Child::Own(node) => node.second(chunks),
+    }
+}
+
+/// What becomes of the child to which the key belongs, by its first key and its rows.
+pub(super) fn fate_of<C: Chunks>(
+    chunks: &mut C,
+    first: &Text,
+    kid: &Child,
+    key: &str,
+) -> Result<Fate, Stop>
+    requires { IsSome (kid_shown (C.contents chunks.old) kid.now) }
+    ensures grown { IsPrefix (C.contents chunks.old) (C.contents chunks.new) }
+    ensures fate { IfOk result (IsFate key.now first.now (rows_or (kid_shown (C.contents chunks.old) kid.now))) }
+    ensures stopped { IfErr result (λ s. (s ≡ NoMemory) ⊎ C.stops s) }
+{
+    if first.as_str() != key {
+        return Ok(Fate::Stays(None));
+    }
+    match kid_second(kid, chunks)? {
+        None => Ok(Fate::Leaves),
+        Some(next) => Ok(Fate::Stays(Some(next))),
+    }
+}

@@ -1,0 +1,256 @@
+//! A removal in a whole map: a root with fewer than two children gives way to what its last child ends in.
+ghost use Rattle.std.specs.Prelude.{◌≡◌, ◌⊎◌, ◌<◌, ◌≤◌, ◌+◌, [], length, slice_get, slice_index_or, None, Some, IsSome, IfOk, IfErr, OnOk, OnErr, vec_items};
+ghost use mathlib.Core.List.{IsPrefix};
+ghost use Rattle.std.specs.List.{remove};
+ghost use Rattle.group_history.specs.declared.mutators.Stop.TheVariants.{NoMemory};
+ghost use Rattle.map_nodes.specs.Ends as ends;
+ghost use Rattle.map_nodes.specs.Ends.{end_of_pieces, IsKidEnd, IsTaken};
+ghost use Rattle.map_nodes.specs.Nodes.{IsNode, body_pieces, kids_fresh};
+ghost use Rattle.map_chunks.specs.Wide.{IsWideChunk};
+ghost use Rattle.map_nodes.specs.declared.nodes.Body.TheVariants as body;
+ghost use Rattle.map_nodes.specs.declared.nodes.removing.Heir.TheVariants as heirs;
+ghost use Rattle.group_history.specs.declared.refs.Ref.{Ref as Reference};
+ghost use Rattle.map_chunks.specs.Places.{AreKept, places_of};
+ghost use Rattle.map_nodes.specs.Freezing.{child_places, kids_places};
+ghost use Rattle.map_nodes.specs.Removing as removals;
+ghost use Rattle.map_nodes.specs.Removing.{end_places, heir_places, left_fresh, left_places, left_rows, root_left, without, one_shown, IsFate, IsHeir, KeptBy, root_rows, IsWideLeft, IsWideRoot};
+ghost use Rattle.map_nodes.specs.Scanning.{kid_shown};
+ghost use Rattle.map_chunks.specs.Search.{IsPlace};
+ghost use Rattle.map_chunks.specs.Shown.{shown, IsTree, rows_or};
+ghost use Rattle.map_nodes.specs.declared.nodes.Child.{Child as Childs};
+
+use super::super::{Body, Child, Node};
+use super::fates::fate_of;
+use super::paths::{remove_at, remove_row};
+use super::{Fate, Heir};
+use group_history::{Ref, Stop};
+use map_chunks::Chunks;
+use map_chunks::ends::end_placed;
+use map_chunks::keys::NodeKeys;
+use map_chunks::search::place_of;
+use std::alloc::Global;
+
+impl Node {
+    // The placed chunk that is all there is below the chunk, if this is so.
+    fn placed_end(&self) -> Option<Ref>
+        ensures { result ≡ end_of_pieces self.now.pieces }
+    {
+        match &self.body {
+            Body::Leaf(_) => None,
+            Body::Inner(kids) => {
+                if kids.len() != 1 {
+                    return None;
+                }
+                match &kids[0] {
+                    Child::Placed(at) => Some(*at),
+                    Child::Own(node) => node.placed_end(),
+                }
+            }
+        }
+    }
+
+    // The chunk itself, or the first below it that is a leaf or has two children.
+    #[cycle(taken)]
+    fn narrowed(self, alloc: Global) -> Node
+        requires { end_of_pieces self.pieces ≡ None }
+        ensures pieces { result.pieces ≡ self.pieces }
+        ensures wide { IsWideChunk result }
+        ensures fresh { result.fresh ≤ self.fresh }
+    {
+        let Node { depth, keys, body } = self;
+        match body {
+            Body::Leaf(values) => {
+                return Node {
+                    depth,
+                    keys,
+                    body: Body::Leaf(values),
+                };
+            }
+            Body::Inner(kids) => {
+                if kids.len() != 1 {
+                    return Node {
+                        depth,
+                        keys,
+                        body: Body::Inner(kids),
+                    };
+                }
+                let mut kids = kids;
+                return taken(kids.swap_remove(0), alloc);
+            }
+        }
+    }
+}
+
+// What a child ends in that ends in one of the draft's own.
+#[cycle(taken)]
+fn taken(kid: Child, alloc: Global) -> Node
+    requires { ends.end_of kid ≡ None }
+    ensures { IsTaken kid result }
+{
+    match kid {
+        Child::Own(node) => return Box::into_inner(node).narrowed(alloc),
+        Child::Placed(_) => return Node::empty(alloc),
+    }
+}
+
+fn end_of(kid: &Child) -> Option<Ref>
+    ensures { result ≡ ends.end_of kid.now }
+{
+    match kid {
+        Child::Placed(at) => Some(*at),
+        Child::Own(node) => node.placed_end(),
+    }
+}
+
+// The placed chunk that a child ends in, if it ends in none of the draft's own.
+fn kid_end<C: Chunks>(kid: &Child, chunks: &mut C) -> Result<Option<Ref>, Stop>
+    requires { IsSome (kid_shown (C.contents chunks.old) kid.now) }
+    ensures grown { IsPrefix (C.contents chunks.old) (C.contents chunks.new) }
+    ensures places { IfOk result (λ end. AreKept C.Held.shown (C.contents chunks.new) (child_places kid.now) (end_places end)) }
+    ensures end { IfOk result (IsKidEnd (C.contents chunks.new) (kid_shown (C.contents chunks.old) kid.now) kid.now) }
+    ensures stopped { IfErr result (λ s. (s ≡ NoMemory) ⊎ C.stops s) }
+{
+    match end_of(kid) {
+        None => return Ok(None),
+        Some(at) => {
+            let end = end_placed(chunks, at)?;
+            return Ok(Some(end));
+        }
+    }
+}
+
+// Whether fewer than two children stay.
+fn gives_way(fate: &Fate, entries: usize) -> bool
+    ensures { result ≡ removals.gives_way fate.now entries }
+{
+    match fate {
+        Fate::Leaves => entries <= 2,
+        Fate::Stays(_) => false,
+    }
+}
+
+// What stands in the root's place, once the child at the place has left it.
+fn heir<C: Chunks>(
+    kids: &mut Vec<Child>,
+    place: usize,
+    alloc: Global,
+    chunks: &mut C,
+) -> Result<Heir, Stop>
+    requires within { place < length kids.old.items }
+    requires few { length kids.old.items ≤ 2 }
+    requires tree { IsSome (one_shown (C.contents chunks.old) (remove kids.old.items place)) }
+    ensures grown { IsPrefix (C.contents chunks.old) (C.contents chunks.new) }
+    ensures heir { IfOk result (IsHeir (C.contents chunks.old) (C.contents chunks.new) (remove kids.old.items place)) }
+    ensures places { IfOk result (λ heir. AreKept C.Held.shown (C.contents chunks.new) (kids_places kids.old.items) (heir_places heir)) }
+    ensures kept { IfOk result (KeptBy kids.old.items kids.new.items) }
+    ensures err { OnErr result (kids.new.items ≡ kids.old.items) }
+    ensures stopped { IfErr result (λ s. (s ≡ NoMemory) ⊎ C.stops s) }
+{
+    if kids.len() == 1 {
+        return Ok(Heir::Own(Node::empty(alloc)));
+    }
+    let other = 1 - place;
+    match kid_end(&kids[other], chunks)? {
+        Some(at) => return Ok(Heir::Placed(at)),
+        None => return Ok(Heir::Own(taken(kids.swap_remove(other), alloc))),
+    }
+}
+
+// Removes a key below a root with these keys and children. Answers the root's heir where fewer than two
+// children would stay.
+fn remove_inner<C: Chunks>(
+    keys: &mut NodeKeys,
+    kids: &mut Vec<Child>,
+    depth: u64,
+    alloc: Global,
+    chunks: &mut C,
+    key: &str,
+) -> Result<Option<Heir>, Stop>
+    requires node { IsNode depth keys.old.texts (body.Inner kids.old) }
+    requires tree { IsTree (shown (C.contents chunks.old) (body_pieces depth keys.old.texts (body.Inner kids.old))) }
+    ensures grown { IsPrefix (C.contents chunks.old) (C.contents chunks.new) }
+    ensures node { IfOk result (λ heir. heir ≡ None → IsNode depth keys.new.texts (body.Inner kids.new)) }
+    ensures done { IfOk result (λ heir. left_rows (C.contents chunks.new) depth keys.new.texts kids.new.items heir ≡ Some (without key.now (rows_or (shown (C.contents chunks.old) (body_pieces depth keys.old.texts (body.Inner kids.old)))))) }
+    ensures few { IfOk result (λ heir. left_fresh kids.new.items heir ≤ kids_fresh kids.old.items + depth) }
+    ensures wide { IfOk result (IsWideLeft (C.contents chunks.new) (length keys.old.texts) (length keys.new.texts)) }
+    ensures places { IfOk result (λ heir. AreKept C.Held.shown (C.contents chunks.new) (kids_places kids.old.items) (left_places kids.new.items heir)) }
+    ensures kept { IfOk result (λ heir. (at : Reference) → heir ≡ Some (heirs.Placed at) → (keys.new.texts ≡ keys.old.texts) × (kids.new.items ≡ kids.old.items)) }
+    ensures err { OnErr result ((keys.new.texts ≡ keys.old.texts) × (kids.new.items ≡ kids.old.items)) }
+    ensures stopped { IfErr result (λ s. (s ≡ NoMemory) ⊎ C.stops s) }
+{
+    let texts = keys.as_slice();
+    let place = place_of(texts, key);
+    let fate = fate_of(chunks, &texts[place], &kids[place], key)?;
+    remove_fated(keys, kids, depth, place, fate, alloc, chunks, key)
+}
+
+// Removes a key below the child at the place, whose fate is known.
+fn remove_fated<C: Chunks>(
+    keys: &mut NodeKeys,
+    kids: &mut Vec<Child>,
+    depth: u64,
+    place: usize,
+    fate: Fate,
+    alloc: Global,
+    chunks: &mut C,
+    key: &str,
+) -> Result<Option<Heir>, Stop>
+    requires node { IsNode depth keys.old.texts (body.Inner kids.old) }
+    requires tree { IsTree (shown (C.contents chunks.old) (body_pieces depth keys.old.texts (body.Inner kids.old))) }
+    requires place { IsPlace key.now keys.old.texts place }
+    requires fate { (c : Childs) → slice_get kids.old.items place ≡ Some c → IsFate key.now (slice_index_or keys.old.texts place []) (rows_or (kid_shown (C.contents chunks.old) c)) fate }
+    ensures grown { IsPrefix (C.contents chunks.old) (C.contents chunks.new) }
+    ensures node { IfOk result (λ heir. heir ≡ None → IsNode depth keys.new.texts (body.Inner kids.new)) }
+    ensures done { IfOk result (λ heir. left_rows (C.contents chunks.new) depth keys.new.texts kids.new.items heir ≡ Some (without key.now (rows_or (shown (C.contents chunks.old) (body_pieces depth keys.old.texts (body.Inner kids.old)))))) }
+    ensures few { IfOk result (λ heir. left_fresh kids.new.items heir ≤ kids_fresh kids.old.items + depth) }
+    ensures wide { IfOk result (IsWideLeft (C.contents chunks.new) (length keys.old.texts) (length keys.new.texts)) }
+    ensures places { IfOk result (λ heir. AreKept C.Held.shown (C.contents chunks.new) (kids_places kids.old.items) (left_places kids.new.items heir)) }
+    ensures kept { IfOk result (λ heir. (at : Reference) → heir ≡ Some (heirs.Placed at) → (keys.new.texts ≡ keys.old.texts) × (kids.new.items ≡ kids.old.items)) }
+    ensures err { OnErr result ((keys.new.texts ≡ keys.old.texts) × (kids.new.items ≡ kids.old.items)) }
+    ensures stopped { IfErr result (λ s. (s ≡ NoMemory) ⊎ C.stops s) }
+{
+    if gives_way(&fate, kids.len()) {
+        let heir = heir(kids, place, alloc, chunks)?;
+        return Ok(Some(heir));
+    }
+    remove_at(keys, kids, depth, place, fate, alloc, chunks, key)?;
+    Ok(None)
+}
+
+impl Node {
+    /// Removes a key, if it is there, from the map whose root the chunk is. Answers a placed chunk where
+    /// that is the root from now on. Stops for want of memory, or as the store does, and the chunk is as it
+    /// was then.
+    pub fn remove_root<C: Chunks>(
+        &mut self,
+        alloc: Global,
+        chunks: &mut C,
+        key: &str,
+    ) -> Result<Option<Ref>, Stop>
+        requires { IsTree (shown (C.contents chunks.old) self.old.pieces) }
+        ensures grown { IsPrefix (C.contents chunks.old) (C.contents chunks.new) }
+        ensures done { IfOk result (λ root. root_rows (C.contents chunks.new) self.new root ≡ Some (without key.now (rows_or (shown (C.contents chunks.old) self.old.pieces)))) }
+        ensures places { IfOk result (λ root. AreKept C.Held.shown (C.contents chunks.new) (places_of self.old.pieces) (root_left self.new root)) }
+        ensures few { OnOk result (self.new.fresh + 1 ≤ self.old.fresh + self.old.depth) }
+        ensures wide { IsWideChunk self.old → IfOk result (IsWideRoot (C.contents chunks.new) self.new) }
+        ensures err { OnErr result (self.new ≡ self.old) }
+        ensures stopped { IfErr result (λ s. (s ≡ NoMemory) ⊎ C.stops s) }
+    {
+        match &mut self.body {
+            Body::Leaf(values) => {
+                remove_row(&mut self.keys, values, alloc, key)?;
+                return Ok(None);
+            }
+            Body::Inner(kids) => {
+                match remove_inner(&mut self.keys, kids, self.depth, alloc, chunks, key)? {
+                    None => return Ok(None),
+                    Some(Heir::Placed(at)) => return Ok(Some(at)),
+                    Some(Heir::Own(node)) => {
+                        *self = node;
+                        return Ok(None);
+                    }
+                }
+            }
+        }
+    }
+}

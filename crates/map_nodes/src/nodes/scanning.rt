@@ -1,0 +1,95 @@
+//! Scans of a draft's chunks.
+ghost use Rattle.std.specs.Prelude.{◌≡◌, ◌⊎◌, length, T, IfErr, OnOk};
+ghost use mathlib.Core.List.{IsPrefix};
+ghost use Rattle.group_history.specs.Rows.{rises, paired};
+ghost use Rattle.group_history.specs.declared.mutators.Stop.TheVariants.{NoMemory};
+ghost use Rattle.map_chunks.specs.Shown.{shown, IsTree, rows_or};
+ghost use Rattle.map_chunks.specs.Scanning.{with_scanned, IsWithin, IsLow};
+ghost use Rattle.map_nodes.specs.Scanning.{kid_shown, kids_shown};
+
+use super::{Body, Child, Node};
+use group_history::{Json, Scan, Stop, Text};
+use map_chunks::Chunks;
+use map_chunks::scanning::{is_over, scan_placed, scan_rows};
+use map_chunks::search::place_of;
+
+impl Node {
+    /// Appends the scan's rows of the chunk, and ends at the limit of all that is there. Stops for want of
+    /// memory, or as the store does; what was appended by then stays.
+    #[cycle(own)]
+    pub fn scan<C: Chunks>(
+        &self,
+        chunks: &mut C,
+        scan: &Scan,
+        low: &str,
+        out: &mut Vec<(Text, Json)>,
+    ) -> Result<(), Stop>
+        requires tree { IsTree (shown (C.contents chunks.old) self.now.pieces) }
+        requires low { IsLow scan.now low.now }
+        requires within { IsWithin scan.now out.old.items }
+        ensures grown { IsPrefix (C.contents chunks.old) (C.contents chunks.new) }
+        ensures rows { OnOk result (out.new.items ≡ with_scanned scan.now out.old.items (rows_or (shown (C.contents chunks.old) self.now.pieces))) }
+        ensures stopped { IfErr result (λ s. (s ≡ NoMemory) ⊎ C.stops s) }
+    {
+        match &self.body {
+            Body::Leaf(values) => {
+                scan_rows(self.keys.as_slice(), values, scan, low, out)?;
+                return Ok(());
+            }
+            Body::Inner(kids) => {
+                return scan_kids(chunks, self.keys.as_slice(), kids, scan, low, out);
+            }
+        }
+    }
+}
+
+#[cycle(own)]
+fn scan_kids<C: Chunks>(
+    chunks: &mut C,
+    firsts: &[Text],
+    kids: &[Child],
+    scan: &Scan,
+    low: &str,
+    out: &mut Vec<(Text, Json)>,
+) -> Result<(), Stop>
+    requires order { T (rises firsts.now) }
+    requires kids { length kids.now ≡ length firsts.now }
+    requires tree { IsTree (kids_shown (C.contents chunks.old) (paired firsts.now kids.now)) }
+    requires low { IsLow scan.now low.now }
+    requires within { IsWithin scan.now out.old.items }
+    ensures grown { IsPrefix (C.contents chunks.old) (C.contents chunks.new) }
+    ensures rows { OnOk result (out.new.items ≡ with_scanned scan.now out.old.items (rows_or (kids_shown (C.contents chunks.old) (paired firsts.now kids.now)))) }
+    ensures stopped { IfErr result (λ s. (s ≡ NoMemory) ⊎ C.stops s) }
+{
+    if firsts.is_empty() {
+        return Ok(());
+    }
+    for place in place_of(firsts, low)..firsts.len() {
+        if is_over(scan, out.len(), &firsts[place]) {
+            return Ok(());
+        }
+        scan_kid(chunks, &kids[place], scan, low, out)?;
+    }
+    Ok(())
+}
+
+#[cycle(own)]
+fn scan_kid<C: Chunks>(
+    chunks: &mut C,
+    kid: &Child,
+    scan: &Scan,
+    low: &str,
+    out: &mut Vec<(Text, Json)>,
+) -> Result<(), Stop>
+    requires tree { IsTree (kid_shown (C.contents chunks.old) kid.now) }
+    requires low { IsLow scan.now low.now }
+    requires within { IsWithin scan.now out.old.items }
+    ensures grown { IsPrefix (C.contents chunks.old) (C.contents chunks.new) }
+    ensures rows { OnOk result (out.new.items ≡ with_scanned scan.now out.old.items (rows_or (kid_shown (C.contents chunks.old) kid.now))) }
+    ensures stopped { IfErr result (λ s. (s ≡ NoMemory) ⊎ C.stops s) }
+{
+    match kid {
+        Child::Placed(at) => scan_placed(chunks, *at, scan, low, out),
+        Child::Own(node) => node.scan(chunks, scan, low, out),
+    }
+}

@@ -1,4 +1,0 @@
-use Rattle.map_tree.proofs.nodes.Node.+get.Given as goal
-
-abbrev pub decreases-get : goal.decreases-get
-decreases-get g l = l.self.now.depth

@@ -1,4 +1,0 @@
-use Rattle.map_tree.proofs.nodes.Node.+placed_end.Given as goal
-
-abbrev pub decreases-placed_end : goal.decreases-placed_end
-decreases-placed_end l = l.self.now.height

@@ -1,5 +1,0 @@
-use Rattle.group_history.specs.Refs.{stamp_of}
-use Rattle.map_tree.proofs.seconds.+second_placed.Given as goal
-
-abbrev pub decreases-second_placed : goal.decreases-second_placed
-decreases-second_placed g l = stamp_of l.at
