@@ -1,8 +1,12 @@
-"""A group of one thread: the pulled map, the cookie, the confirmed ids and what is pending."""
+"""A group of one thread: the pulled map, the cookie, the confirmed ids, what is pending, and whether it is closed."""
 
 from typing import Any, NamedTuple
 
 from wire import Refused, compact, is_int, order_of, quoted, read_response
+
+
+# Why a mutator is run, as `tag` writes it: its client makes the mutation, or a pull was applied under it.
+INITIAL, REBASE = "i", "r"
 
 
 class Mutation(NamedTuple):
@@ -11,6 +15,7 @@ class Mutation(NamedTuple):
     name: str
     args: Any
     time: int
+    reason: str
 
 
 class NoMutator(Exception):
@@ -28,12 +33,13 @@ class Group:
         self.cookie = None
         self.confirmed = {}
         self.pending = []
+        self.closed = False
 
     def view(self):
         rows = self.pulled
         for mutation in self.pending:
             try:
-                rows = mutated(mutation.name, mutation.args, rows)
+                rows = mutated(mutation.name, mutation.args, mutation.reason, rows)
             except (NoMutator, Declined):
                 pass
         return rows
@@ -43,19 +49,27 @@ class Group:
         return max([self.confirmed.get(client, 0), *own])
 
     def mutate(self, client, last, name, args, time):
+        if self.closed:
+            raise Refused("Closed")
         if self.last(client) != last:
             raise Refused("Stale")
         try:
-            mutated(name, args, self.view())
+            mutated(name, args, INITIAL, self.view())
         except NoMutator as error:
             raise Refused("NoMutator") from error
         except Declined as code:
             raise Refused(f"Refused {code}") from code
-        self.pending.append(Mutation(client, last + 1, name, args, time))
+        self.pending.append(Mutation(client, last + 1, name, args, time, INITIAL))
         return last + 1
 
     def end_pull(self, ticket, body):
-        cookie, changes, patch = read_response(body)
+        error, response = read_response(body)
+        if self.closed:
+            raise Refused("Closed")
+        if error:
+            self.closed = error == "StateNotFound"
+            raise Refused(error)
+        cookie, changes, patch = response
         if compact(self.cookie) != ticket:
             raise Refused("Overtaken")
         if order_of(cookie) < order_of(self.cookie):
@@ -69,7 +83,8 @@ class Group:
         self.pulled = patched(self.pulled, patch)
         self.cookie = cookie
         self.confirmed |= changes
-        self.pending = [it for it in self.pending if it.id > self.confirmed.get(it.client, 0)]
+        unconfirmed = (it for it in self.pending if it.id > self.confirmed.get(it.client, 0))
+        self.pending = [it._replace(reason=REBASE) for it in unconfirmed]
         return "applied"
 
     def scan(self, prefix, start, limit):
@@ -114,11 +129,11 @@ def patched(rows, patch):
 
 
 WRONG_ARGUMENTS, NOT_THERE, OTHER_KIND, OUT_OF_RANGE = 1, 2, 3, 4
-LENGTHS = {"set": 2, "del": 1, "incr": 2, "append": 2}
+LENGTHS = {"set": 2, "del": 1, "incr": 2, "append": 2, "tag": 1}
 
 
-def mutated(name, args, rows):
-    """The map after a mutator ran on it."""
+def mutated(name, args, why, rows):
+    """The map after a mutator ran on it for a reason."""
     if name not in LENGTHS:
         raise NoMutator
     if not isinstance(args, list) or len(args) != LENGTHS[name] or not isinstance(args[0], str):
@@ -131,7 +146,7 @@ def mutated(name, args, rows):
     elif name == "incr":
         rows[key] = raised(rows, key, args[1])
     else:
-        rows[key] = lengthened(rows, key, args[1])
+        rows[key] = lengthened(rows, key, why if name == "tag" else args[1])
     return rows
 
 

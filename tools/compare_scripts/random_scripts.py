@@ -35,6 +35,7 @@ ODD_BODIES = (
     '{"cookie":1,"lastMutationIDChanges":{},"patch":{}}',
 )
 ODD_OPERATIONS = ("{}", "1", '{"op":"update","key":"n"}', '{"op":"put","key":"n"}', '{"op":"put","key":1,"value":1}')
+MUTATORS = ("set", "set", "set", "del", "incr", "incr", "append", "append", "tag", "tag", "nosuch", "Set")
 DEEPEST_ARGS = f"{'[' * ARGS_DEPTH}{']' * ARGS_DEPTH}"
 ODD_ARGS = ("[]", "{}", "1", '["a"]', '["a",1,2]', '["n","1"]', '["n",18446744073709551615]', DEEPEST_ARGS)
 ODD_LINES = (
@@ -49,6 +50,7 @@ ODD_LINES = (
     f"client 1a {UUIDS[0]}",
     "slots 15",
     "slots +16",
+    "slots 16777217",
     "group zz",
     f"group {UUIDS[0]}",
     "profile",
@@ -71,6 +73,7 @@ ODD_LINES = (
     "A get",
     "A push ",
     "A empty x",
+    "A closed x",
 )
 
 
@@ -108,7 +111,7 @@ class Scripts:
             (0.8, f"group {self.pick(UUIDS)}"),
             (0.3, self.pick(("profile p x", "profile ", 'profile "é"', "profile p1 "))),
             (0.3, self.pick(("schema s2", "schema ", "schema \\\t"))),
-            (0.3, self.pick(("slots 16", "slots 0032", "slots 1048576"))),
+            (0.3, self.pick(("slots 16", "slots 0032", "slots 16777216"))),
         ):
             lines += [line] * self.chance(part)
         self.random.shuffle(lines)
@@ -128,10 +131,11 @@ class Scripts:
         return [f"{name} mutate {time} {mutator} {args}"] + [f"{name} refresh"] * self.chance(0.3)
 
     def asked(self):
-        mutator = self.pick(("set", "set", "set", "del", "incr", "incr", "append", "append", "nosuch", "Set"))
+        mutator = self.pick(MUTATORS)
         key = self.escaped(self.key())
         arguments = {
             "del": key,
+            "tag": key,
             "incr": f"{key},{self.pick((1, -1, 5, 2**63 - 1, -(2**63), self.whole_value()))}",
             "append": f"{key},{self.escaped(self.pick(TEXTS)) if self.chance(0.9) else self.whole_value()}",
         }
@@ -141,7 +145,7 @@ class Scripts:
         return mutator, f" {args} " if self.chance(0.1) else args
 
     def query(self, name):
-        bare = ("empty", "pending", "cookie", "push", "refresh")
+        bare = ("empty", "closed", "pending", "cookie", "push", "refresh")
         return [
             self.pick(
                 (
@@ -264,7 +268,7 @@ class Scripts:
         lines.insert(at, self.pick(ODD_LINES).encode())
 
     def with_clients(self, lines, at):
-        count = self.pick((60, 62, 63, 64, 65))
+        count = self.pick((60, 252, 254, 255, 256, 257))
         lines[at:at] = [f"client C{number} {UUIDS[number % 7]}".encode() for number in range(count)]
 
     def with_other_words(self, lines, at):

@@ -7,8 +7,11 @@ from model import Group
 from wire import ARGS_DEPTH, NotJson, Refused, compact, is_whole, read_json
 
 HEADER_WORDS = ("group", "profile", "schema", "slots", "client")
-BARE_COMMANDS = ("empty", "pending", "cookie", "push", "refresh")
+BARE_COMMANDS = ("empty", "closed", "pending", "cookie", "push", "refresh")
 COMMANDS = (*BARE_COMMANDS, "get", "has", "scan", "begin", "end", "mutate", "learn")
+
+MOST_SLOTS = 2**24
+MOST_CLIENTS = 256
 
 NAME = re.compile(r"(?!phase\Z)[A-Za-z][A-Za-z0-9]{0,15}")
 TICKET = re.compile(r"[A-Za-z0-9]{1,16}")
@@ -72,7 +75,7 @@ class Script:
             value = line[len(word) + 1 :]
         else:
             expect(len(words) == 2 and words[1], "bad words")
-            value = uuid_of(words[1]) if word == "group" else number_of(words[1], 16, 1048577)
+            value = uuid_of(words[1]) if word == "group" else number_of(words[1], 16, MOST_SLOTS + 1)
         expect(word not in self.has_said, "said twice")
         self.has_said.add(word)
         self.said[word] = value
@@ -81,7 +84,7 @@ class Script:
         expect(len(words) == 3 and NAME.fullmatch(words[1]) and words[2], "bad words")
         id = uuid_of(words[2])
         expect(words[1] not in self.names, "said twice")
-        expect(len(self.names) < 64, "too many clients")
+        expect(len(self.names) < MOST_CLIENTS, "too many clients")
         self.names.append(words[1])
         self.ids.append(id)
 
@@ -171,6 +174,9 @@ class Client:
 
     def empty(self, group, _words):
         return "no" if group.view() else "yes"
+
+    def closed(self, group, _words):
+        return "yes" if group.closed else "no"
 
     def scan(self, group, words):
         return f"rows {compact(group.scan(*words))}"

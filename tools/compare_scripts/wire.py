@@ -129,7 +129,7 @@ def compact(value):
 
 
 def read_response(data):
-    """The cookie, the changed ids and the patch of a body that brings no error."""
+    """The error that a body brings, or None; and else its cookie, its changed ids and its patch."""
     try:
         body = read_json(data, BODY_DEPTH)
     except NotJson as error:
@@ -137,7 +137,7 @@ def read_response(data):
     if not isinstance(body, dict):
         raise Refused("BadShape")
     if "error" in body:
-        raise Refused(error_of(body))
+        return error_of(body), None
     if not {"cookie", "lastMutationIDChanges", "patch"} <= body.keys():
         raise Refused("BadShape")
     cookie, changes, patch = body["cookie"], body["lastMutationIDChanges"], body["patch"]
@@ -146,14 +146,14 @@ def read_response(data):
     values = [op["value"] for op in patch if op["op"] == "put"]
     if not is_whole([cookie, changes, values]):
         raise Refused("NotWhole")
-    return cookie, changes, patch
+    return None, (cookie, changes, patch)
 
 
 def error_of(body):
     if body["error"] == "ClientStateNotFound":
         return "StateNotFound"
     if body["error"] != "VersionNotSupported":
-        return "BadShape"
+        raise Refused("BadShape")
     kind = body.get("versionType")
     known = isinstance(kind, str) and kind in ("push", "pull", "schema")
     return f"VersionNotSupported {kind if known else 'unknown'}"

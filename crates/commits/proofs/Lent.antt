@@ -15,7 +15,8 @@ use Rattle.group_history.specs.Spelling.{version}
 pub nothing_there : (ns : List (Node Ref)) (k : ℕ) → IsSome (version_at (map content_of ns) k) → slice_get ns k ≡ None → ⊥
 nothing_there ns k h e =
     let v = some_version (map content_of ns) k h in
-    let c = content-at (map content_of ns) k (version v.0) (spelled_version (map content_of ns) k v.0 v.1) in
+    let w = spelled_version (map content_of ns) k v.0 v.1 in
+    let c = content-at (map content_of ns) k (version v.0 w.0) w.1 in
     let bad = sym c.1 ∙ (slice_get-map content_of ns k ∙ ap (option_map content_of) e) in cc bad
 
 pub chunk_there : (ns : List (Node Ref)) (k : ℕ) (x : Chunk Ref) → IsSome (version_at (map content_of ns) k) → slice_get ns k ≡ Some (node.Chunk x) → ⊥

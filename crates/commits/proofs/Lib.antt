@@ -1,4 +1,5 @@
 pub mod Spelled
+pub mod Snapshots
 pub mod LastIds
 pub mod Chained
 pub mod Findings

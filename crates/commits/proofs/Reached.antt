@@ -1,12 +1,13 @@
 -- How stamps are reached.
-use Rattle.std.proofs.Common.{◌≡◌, ℕ, ◌<◌, inl, inr, List, [], ◌∷◌, map, Some, slice_get, refl, ap, sym, subst, ◌∙◌}
-use Rattle.std.specs.Prelude.{option_and_then}
+use Rattle.std.proofs.Common.{◌≡◌, ℕ, ◌<◌, inl, inr, List, [], ◌∷◌, map, Some, Option, arith, slice_get, refl, ap, sym, subst, ◌∙◌}
+use Rattle.std.specs.Prelude.{option_and_then, IsSome}
 use Rattle.std.specs.List.{Contains}
 use mathlib.Core.List.{IsPrefix}
 use Rattle.group_history.specs.declared.nodes.Chunk.{Chunk}
 use Rattle.group_history.specs.declared.nodes.Chunk.TheVariants.{Leaf, Inner}
 use Rattle.group_history.specs.declared.nodes.Commit.{Commit}
-use Rattle.group_history.specs.declared.nodes.Commit.TheVariants.{Snapshot, Local}
+use Rattle.group_history.specs.declared.nodes.Kind.{Kind}
+use Rattle.group_history.specs.declared.nodes.Kind.TheVariants.{Snapshot, Over}
 use Rattle.group_history.specs.declared.nodes.Node.{Node}
 use Rattle.group_history.specs.declared.nodes.Node.TheVariants as node
 use Rattle.group_history.specs.declared.refs.Ref.{Ref}
@@ -14,14 +15,15 @@ use Rattle.group_history.specs.Map.{Bytes, Entries}
 use Rattle.group_history.specs.Refs.{stamp_of}
 use Rattle.group_history.specs.Rows.{values_of}
 use Rattle.group_history.specs.Folds.{answer}
-use Rattle.group_history.specs.Naming.{children, content_of, chunk_content, commit_content}
+use Rattle.group_history.specs.Naming.{children, commits_named, renamed_kind, content_of, chunk_content, commit_content}
 use Rattle.group_history.specs.Spelling.{Contents, Segment, Version, Spelled, segment, version, as_segment, as_version, spelled, segment_at, version_at, map_at, map_of}
 use Rattle.group_history.proofs.Folding.{and_then-some}
 use Rattle.commits.specs.declared.founds.Found.{Found}
 use Rattle.commits.specs.declared.founds.Found.TheVariants as found
-use Rattle.commits.specs.Reach.{Reaches, itself, through, IsSpelled, stamp_in, ref_in, found_in, found_in_commit}
-use Rattle.commits.proofs.Spelled.{local-at, snapshot-at, inner-at, commit-at, chunk-at, content-at, spelled_version, spelled_segment, segment-grown, version-grown}
-use Rattle.commits.proofs.Chained.{get_stays}
+use Rattle.commits.specs.Reach.{Reaches, itself, through, IsSpelled, stamp_in, ref_in, found_in}
+use Rattle.commits.proofs.Spelled.{IsMade, commit-made, inner-at, commit-at, chunk-at, content-at, spelled_version, spelled_segment, segment-grown, version-grown}
+use Rattle.commits.proofs.Snapshots.{begins}
+use Rattle.commits.proofs.Chained.{get_stays, some_version}
 use Rattle.group_history.proofs.Lists.{only_one, cons_cases, no_element, map_from, map_to}
 
 -- the stamp spells something
@@ -32,21 +34,28 @@ pub there_segment : (ns : Contents) (k : ℕ) (s : Segment) → segment_at ns k 
 there_segment ns k s h = (segment s, spelled_segment ns k s h)
 
 pub there_version : (ns : Contents) (k : ℕ) (v : Version) → version_at ns k ≡ Some v → IsThere ns k
-there_version ns k v h = (version v, spelled_version ns k v h)
+there_version ns k v h = let w = spelled_version ns k v h in (version v w.0, w.1)
 
 pub root_segment : (ns : Contents) (k : ℕ) (m : Entries) → map_at ns k ≡ Some m → (s : Segment) × (segment_at ns k ≡ Some s)
 root_segment ns k m h = let s = and_then-some (segment_at ns k) map_of m h in (s.0, s.1)
 
+-- The commits that a commit names have smaller stamps and spell versions.
+named_commit : (ns : Contents) (k c : ℕ) (kind : Kind ℕ) (v : Version) → IsMade ns k kind v → Contains (commits_named kind) c → (c < k) × IsSome (version_at ns c)
+named_commit ns k c (Snapshot s) v made has = absurd (no_element c has)
+named_commit ns k c (Over o) v made has =
+    let b = begins ns o.basis made.0 o.snapshot made.2 made.3 in
+    elim (cons_cases o.basis (o.snapshot ∷ []) c has) [
+      | inl e ↦ subst (λ (w : ℕ). (w < k) × IsSome (version_at ns w)) e (made.1, subst (λ (w : Option Version). IsSome w) (sym made.2) refl)
+      | inr q ↦ subst (λ (w : ℕ). (w < k) × IsSome (version_at ns w)) (only_one o.snapshot c q) (omega (arith, b.low, made.1), b.lies.0)
+    ]
+
 -- The children of what spells something have smaller stamps and spell something.
 commit_child : (ns : Contents) (k c : ℕ) (n : Commit ℕ) (v : Version) → slice_get ns k ≡ Some (node.Commit n) → version_at ns k ≡ Some v → Contains (children (node.Commit n)) c → (c < k) × IsThere ns c
-commit_child ns k c (Snapshot s) v is h has =
-    let f = snapshot-at ns k s v is h in let r = root_segment ns s.root v.read f.1 in
-    subst (λ (w : ℕ). (w < k) × IsThere ns w) (only_one s.root c has) (f.0, there_segment ns s.root r.0 r.1)
-commit_child ns k c (Local l) v is h has =
-    let f = local-at ns k l v is h in let r = root_segment ns l.root v.read f.5 in
-    elim (cons_cases l.basis (l.root ∷ []) c has) [
-      | inl e ↦ subst (λ (w : ℕ). (w < k) × IsThere ns w) e (f.1, there_version ns l.basis f.0 f.2)
-      | inr q ↦ subst (λ (w : ℕ). (w < k) × IsThere ns w) (only_one l.root c q) (f.4, there_segment ns l.root r.0 r.1)
+commit_child ns k c n v is h has =
+    let f = commit-made ns k n v is h in
+    elim (cons_cases n.root (commits_named n.kind) c has) [
+      | inl e ↦ (let r = root_segment ns n.root v.read f.1 in subst (λ (w : ℕ). (w < k) × IsThere ns w) e (f.0, there_segment ns n.root r.0 r.1))
+      | inr q ↦ (let d = named_commit ns k c n.kind v f.3 q in let w = some_version ns c d.1 in (d.0, there_version ns c w.0 w.1))
     ]
 
 chunk_child : (ns : Contents) (k c : ℕ) (n : Chunk ℕ) (s : Segment) → slice_get ns k ≡ Some (node.Chunk n) → segment_at ns k ≡ Some s → Contains (children (node.Chunk n)) c → (c < k) × IsThere ns c
@@ -55,7 +64,7 @@ chunk_child ns k c (Inner kids) s is h has =
     let f = inner-at ns k kids s is h in let t = f.2 c has in (t.0, there_segment ns c t.1.0 t.1.1)
 
 pub child_there : (ns : Contents) (k c : ℕ) (n : Node ℕ) → IsThere ns k → slice_get ns k ≡ Some n → Contains (children n) c → (c < k) × IsThere ns c
-child_there ns k c n (version v, h) is has =
+child_there ns k c n (version v j, h) is has =
     let at : version_at ns k ≡ Some v = ap (λ o. option_and_then as_version o) h in
     let m = commit-at ns k n v is at in
     commit_child ns k c m.0 v (is ∙ ap Some m.1) at (subst (λ (w : Node ℕ). Contains (children w) c) m.1 has)
@@ -96,21 +105,27 @@ kid_stamps : (kids : List (Bytes × Ref)) → map stamp_in (map found.Chunk (val
 kid_stamps [] = refl
 kid_stamps (e ∷ es) = ap (λ w. stamp_of e.1 ∷ w) (kid_stamps es)
 
+named_stamps : (kind : Kind Ref) → map stamp_in (map found.Commit (commits_named kind)) ≡ commits_named (renamed_kind stamp_of kind)
+named_stamps (Snapshot s) = refl
+named_stamps (Over o) = refl
+
 pub found_stamps : (n : Node Ref) → map stamp_in (found_in n) ≡ children (content_of n)
 found_stamps (node.Chunk (Leaf rows)) = refl
 found_stamps (node.Chunk (Inner kids)) = kid_stamps kids
-found_stamps (node.Commit (Snapshot s)) = refl
-found_stamps (node.Commit (Local l)) = refl
+found_stamps (node.Commit c) = ap (λ w. stamp_of c.root ∷ w) (named_stamps c.kind)
 
 kid_refs : (rs : List Ref) → map ref_in (map found.Chunk rs) ≡ rs
 kid_refs [] = refl
 kid_refs (r ∷ rs) = ap (λ w. r ∷ w) (kid_refs rs)
 
+named_refs : (kind : Kind Ref) → map ref_in (map found.Commit (commits_named kind)) ≡ commits_named kind
+named_refs (Snapshot s) = refl
+named_refs (Over o) = refl
+
 pub found_refs : (n : Node Ref) → map ref_in (found_in n) ≡ children n
 found_refs (node.Chunk (Leaf rows)) = refl
 found_refs (node.Chunk (Inner kids)) = kid_refs (values_of kids)
-found_refs (node.Commit (Snapshot s)) = refl
-found_refs (node.Commit (Local l)) = refl
+found_refs (node.Commit c) = ap (λ w. c.root ∷ w) (named_refs c.kind)
 
 pub there_found : (ns : Contents) (f : Found) → IsSpelled ns f → IsThere ns (stamp_in f)
 there_found ns (found.Chunk r) s = there_segment ns (stamp_of r) s.0 s.1
@@ -121,15 +136,16 @@ spelled_grown ns more (found.Chunk r) pre s = (s.0, segment-grown ns more (stamp
 spelled_grown ns more (found.Commit r) pre s = (s.0, version-grown ns more (stamp_of r) s.0 pre s.1)
 
 -- What a node names is of its kind.
-commit_names : (ns : Contents) (k : ℕ) (c : Commit Ref) (v : Version) (f : Found) → slice_get ns k ≡ Some (commit_content c) → version_at ns k ≡ Some v → Contains (found_in_commit c) f → IsSpelled ns f
-commit_names ns k (Snapshot s) v f is h has =
-    let a = snapshot-at ns k (record { cookie = s.cookie; confirmed = s.confirmed; root = stamp_of s.root }) v is h in
-    subst (IsSpelled ns) (only_one (found.Chunk s.root) f has) (root_segment ns (stamp_of s.root) v.read a.1)
-commit_names ns k (Local l) v f is h has =
-    let a = local-at ns k (record { basis = stamp_of l.basis; mutation = l.mutation; root = stamp_of l.root }) v is h in
-    elim (cons_cases (found.Commit l.basis) (found.Chunk l.root ∷ []) f has) [
-      | inl e ↦ subst (IsSpelled ns) e (a.0, a.2)
-      | inr q ↦ subst (IsSpelled ns) (only_one (found.Chunk l.root) f q) (root_segment ns (stamp_of l.root) v.read a.5)
+commit_names : (ns : Contents) (k : ℕ) (c : Commit Ref) (v : Version) (f : Found) → slice_get ns k ≡ Some (commit_content c) → version_at ns k ≡ Some v → Contains (found_in (node.Commit c)) f → IsSpelled ns f
+commit_names ns k c v f is h has =
+    let a = commit-made ns k _ v is h in
+    elim (cons_cases (found.Chunk c.root) (map found.Commit (commits_named c.kind)) f has) [
+      | inl e ↦ subst (IsSpelled ns) e (root_segment ns (stamp_of c.root) v.read a.1)
+      | inr q ↦
+          let r = map_from found.Commit (commits_named c.kind) f q in
+          let low = subst (λ (w : List ℕ). Contains w (stamp_in f)) (named_stamps c.kind) (map_to stamp_in (map found.Commit (commits_named c.kind)) f q) in
+          let d = named_commit ns k (stamp_in f) (renamed_kind stamp_of c.kind) v a.3 low in
+          subst (IsSpelled ns) r.2 (some_version ns (stamp_of r.0) (subst (λ (w : Found). IsSome (version_at ns (stamp_in w))) (sym r.2) d.1))
     ]
 
 chunk_names : (ns : Contents) (k : ℕ) (c : Chunk Ref) (s : Segment) (f : Found) → slice_get ns k ≡ Some (chunk_content c) → segment_at ns k ≡ Some s → Contains (found_in (node.Chunk c)) f → IsSpelled ns f

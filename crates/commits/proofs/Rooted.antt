@@ -1,28 +1,28 @@
 -- What a root reaches, told by one look at a node.
-use Rattle.std.proofs.Common.{◌≡◌, ◌<◌, ◌↔◌, ℕ, inr, List, [], ◌∷◌, map, Option, Some, None, refl, sym, ap, ◌∙◌, subst, slice_get}
+use Rattle.std.proofs.Common.{◌≡◌, ◌↔◌, ℕ, inl, inr, List, [], ◌∷◌, map, Option, Some, None, refl, sym, ap, ◌∙◌, subst, slice_get}
 use Rattle.std.specs.Prelude.{IsSome}
 use Rattle.std.specs.List.{Contains}
 use mathlib.Core.List.{IsPrefix}
 use Rattle.group_history.specs.declared.nodes.Chunk.{Chunk}
 use Rattle.group_history.specs.declared.nodes.Chunk.TheVariants.{Leaf, Inner}
 use Rattle.group_history.specs.declared.nodes.Commit.{Commit}
-use Rattle.group_history.specs.declared.nodes.Commit.TheVariants.{Snapshot, Local}
+use Rattle.group_history.specs.declared.nodes.Kind.{Kind}
+use Rattle.group_history.specs.declared.nodes.Kind.TheVariants.{Snapshot, Over}
 use Rattle.group_history.specs.declared.nodes.Node.{Node}
 use Rattle.group_history.specs.declared.nodes.Node.TheVariants as node
 use Rattle.group_history.specs.declared.refs.Ref.{Ref}
 use Rattle.group_history.specs.Map.{Bytes, Entries}
 use Rattle.group_history.specs.Refs.{stamp_of}
 use Rattle.group_history.specs.Rows.{Rows, keys_of, values_of}
-use Rattle.group_history.specs.Naming.{children, commit_content}
+use Rattle.group_history.specs.Naming.{children, commits_named, renamed_kind}
 use Rattle.group_history.specs.Spelling.{Contents, Segment, Version, segment, chunk_in, segment_at, version_at, map_at}
-use Rattle.group_history.proofs.Lists.{prefix_trans, no_element, first_here, later_here}
+use Rattle.group_history.proofs.Lists.{no_element, first_here, later_here}
 use Rattle.commits.specs.declared.chains.Base.{Base}
-use Rattle.commits.specs.declared.chains.Step.{Step}
-use Rattle.commits.specs.Chains.{LiesAt, IsShownAt, HasBase, basis_of, step_of, root_of}
+use Rattle.commits.specs.Chains.{LiesAt, IsShownAt, HasBase, base_in, top_of, snapshot_named}
 use Rattle.commits.specs.Reach.{Reaches, IsNamed, itself, through}
 use Rattle.commits.specs.Meeting.{keys_in, IsFirst, HasKey, LiesChunk}
-use Rattle.commits.proofs.Spelled.{made_of, spelled_segment, option_map-some, sized-some, chunk-at, inner-at, local-at, not_both, version-grown, segment-grown, map-grown}
-use Rattle.commits.proofs.Chained.{some_version, root_read}
+use Rattle.commits.proofs.Spelled.{made_of, spelled_segment, option_map-some, sized-some, chunk-at, inner-at, not_both, segment-grown, map-grown}
+use Rattle.commits.proofs.Chained.{LiesSo}
 use Rattle.commits.proofs.Choosing.{filled, first_part}
 use Rattle.commits.proofs.Descending.{inner_parts, map_ordered}
 use Rattle.commits.proofs.Reached.{there_segment, reaches_stays, reaches_back, reaches_child}
@@ -92,54 +92,47 @@ empty_only ns root k r s (Inner kids) g h lies f = absurd (none kids f lies)
         let o = option_map-some segment (chunk_in u.0 (Inner [])) (segment s) u.1 in cc (o.1)
     none (e ∷ es) f lies = cc f
 
--- While the chain is gone down: the head reaches the commit at hand.
-pub record IsRooted (first ns : Contents) (head at : ℕ) : Type 0 where
-  pub reached : Reaches ns head at
-  pub here : IsSome (version_at ns at)
-  pub grown : IsPrefix first ns
+-- a head reaches the snapshot of its chain, and the root that it names
+over_reached : (ns : Contents) (head : Ref) (root : Ref) (kind : Kind Ref) → LiesSo ns (stamp_of head) root kind → Reaches ns (stamp_of head) (stamp_of (snapshot_named head kind))
+over_reached ns head root (Snapshot s) lies = itself (stamp_of head)
+over_reached ns head root (Over o) lies =
+    let n : Node ℕ = node.Commit (record { root = stamp_of root; kind = renamed_kind stamp_of (Over o) }) in
+    reaches_child ns (stamp_of head) (stamp_of head) (stamp_of o.snapshot) n (itself (stamp_of head)) lies
+    (later_here (stamp_of root) (stamp_of o.basis ∷ stamp_of o.snapshot ∷ []) (stamp_of o.snapshot) (later_here (stamp_of o.basis) (stamp_of o.snapshot ∷ []) (stamp_of o.snapshot) (first_here (stamp_of o.snapshot) [])))
 
-pub rooted_step : (first ns more : Contents) (head at : ℕ) (c : Commit Ref) (r : Ref) → IsRooted first ns head at → IsPrefix ns more → LiesAt more at c → basis_of c ≡ Some r → (stamp_of r < at) × IsRooted first more head (stamp_of r)
-rooted_step first ns more head at (Snapshot c) r is pre lies b = absurd (cc b)
-rooted_step first ns more head at (Local c) r is pre lies b =
-    let v = some_version ns at is.here in
-    let f = local-at more at (record { basis = stamp_of c.basis; mutation = c.mutation; root = stamp_of c.root }) v.0 lies (version-grown ns more at v.0 pre v.1) in
-    let e : c.basis ≡ r = cc b in
-    subst (λ (w : Ref). (stamp_of w < at) × IsRooted first more head (stamp_of w)) e (
-      f.1,
-      record {
-        reached = reaches_child more head at (stamp_of c.basis) _ (reaches_stays ns more head at pre is.reached) lies (first_here (stamp_of c.basis) (stamp_of c.root ∷ []));
-        here = subst (λ (o : Option Version). IsSome o) (sym f.2) refl;
-        grown = prefix_trans first ns more is.grown pre;
-      },
-    )
+pub snapshot_reached : (ns : Contents) (head : Ref) (c : Commit Ref) → LiesAt ns (stamp_of head) c → Reaches ns (stamp_of head) (stamp_of (top_of head c).snapshot)
+snapshot_reached ns head c lies = over_reached ns head c.root c.kind lies
 
-pub rooted_ends : (first ns more : Contents) (head at : ℕ) (c : Commit Ref) → IsRooted first ns head at → IsPrefix ns more → LiesAt more at c → IsSome (map_at more (stamp_of (root_of c))) × Reaches more head (stamp_of (root_of c))
-rooted_ends first ns more head at c is pre lies =
-    let v = some_version ns at is.here in
-    (subst (λ (o : Option Entries). IsSome o) (sym (root_read ns more at c v.0 v.1 pre lies)) refl, reaches_child more head at (stamp_of (root_of c)) _ (reaches_stays ns more head at pre is.reached) lies (root_child c))
-  where
-    root_child : (c : Commit Ref) → Contains (children (commit_content c)) (stamp_of (root_of c))
-    root_child (Snapshot s) = first_here (stamp_of s.root) []
-    root_child (Local l) = later_here (stamp_of l.basis) (stamp_of l.root ∷ []) (stamp_of l.root) (first_here (stamp_of l.root) [])
+pub root_reached : (ns : Contents) (head k : ℕ) (c : Commit Ref) → Reaches ns head k → LiesAt ns k c → Reaches ns head (stamp_of c.root)
+root_reached ns head k c reached lies = reaches_child ns head k (stamp_of c.root) _ reached lies (first_here (stamp_of c.root) _)
 
 -- the root that a shown commit names is named from a head that reaches the commit
-pub root_named : {H C : Type 0} (chunk : H → Chunk Ref) (commit : C → Commit Ref) (ns : Contents) (head : Ref) (k : ℕ) (c : Commit Ref) → Reaches ns (stamp_of head) k → IsShownAt commit ns k c → IsNamed chunk commit ns head (root_of c)
-root_named chunk commit ns head k c reached at = inr (node.Commit c, k, inr (at.0.0, ap node.Commit at.0.1), reached, at.1, root_there c)
-  where
-    root_there : (c : Commit Ref) → Contains (children (node.Commit c)) (root_of c)
-    root_there (Snapshot s) = first_here s.root []
-    root_there (Local l) = later_here l.basis (l.root ∷ []) l.root (first_here l.root [])
+pub root_named : {H C : Type 0} (chunk : H → Chunk Ref) (commit : C → Commit Ref) (ns : Contents) (head : Ref) (k : ℕ) (c : Commit Ref) → Reaches ns (stamp_of head) k → IsShownAt commit ns k c → IsNamed chunk commit ns head c.root
+root_named chunk commit ns head k c reached at = inr (node.Commit c, k, inr (at.0.0, ap node.Commit at.0.1), reached, at.1, first_here c.root _)
+
+-- and so is the snapshot of its chain, where the head itself is shown
+over_named : {H C : Type 0} (chunk : H → Chunk Ref) (commit : C → Commit Ref) (ns : Contents) (head : Ref) (c : Commit Ref) (kind : Kind Ref) → c.kind ≡ kind → IsShownAt commit ns (stamp_of head) c → IsNamed chunk commit ns head (snapshot_named head kind)
+over_named chunk commit ns head c (Snapshot s) is at = inl refl
+over_named chunk commit ns head c (Over o) is at =
+    inr (
+      node.Commit c,
+      stamp_of head,
+      inr (at.0.0, ap node.Commit at.0.1),
+      itself (stamp_of head),
+      at.1,
+      later_here c.root (commits_named c.kind) o.snapshot (subst (λ (k : Kind Ref). Contains (commits_named k) o.snapshot) (sym is) (later_here o.basis (o.snapshot ∷ []) o.snapshot (first_here o.snapshot []))),
+    )
+
+pub snapshot_is_named : {H C : Type 0} (chunk : H → Chunk Ref) (commit : C → Commit Ref) (ns : Contents) (head : Ref) (c : Commit Ref) → IsShownAt commit ns (stamp_of head) c → IsNamed chunk commit ns head (top_of head c).snapshot
+snapshot_is_named chunk commit ns head c at = over_named chunk commit ns head c c.kind refl at
 
 -- the pulled map's root is that of the snapshot
-pub base_named : (c : Commit Ref) (base : Base) → HasBase c base → root_of c ≡ base.pulled
-base_named (Snapshot s) base h = sym (ap (λ (w : Base). w.pulled) h)
-base_named (Local l) base h = absurd h
+base_root_named : (root : Ref) (kind : Kind Ref) (base : Base) → base_in root kind base → root ≡ base.pulled
+base_root_named root (Snapshot s) base h = sym (ap (λ (w : Base). w.pulled) h)
+base_root_named root (Over o) base h = absurd h
 
--- a step leads to the commit before
-pub step_basis : (c : Commit Ref) (s : Step) → step_of c ≡ Some s → basis_of c ≡ Some s.basis
-step_basis (Snapshot c) s h = absurd (cc h)
-step_basis (Local c) s h =
-    let e : (let r : Step = record { mutation = c.mutation; basis = c.basis } in r) ≡ s = cc h in ap (λ (w : Step). Some w.basis) e
+pub base_named : (c : Commit Ref) (base : Base) → HasBase c base → c.root ≡ base.pulled
+base_named c base h = base_root_named c.root c.kind base h
 
 pub some_segment : (ns : Contents) (k : ℕ) → IsSome (segment_at ns k) → (s : Segment) × (segment_at ns k ≡ Some s)
 some_segment ns k h = of (segment_at ns k) h

@@ -8,18 +8,17 @@ use Rattle.std.proofs.lemmas.Option.{slice_get_cases}
 use Rattle.group_history.specs.declared.nodes.Chunk.{Chunk}
 use Rattle.group_history.specs.declared.nodes.Chunk.TheVariants.{Inner}
 use Rattle.group_history.specs.declared.nodes.Commit.{Commit}
-use Rattle.group_history.specs.declared.nodes.Commit.TheVariants.{Snapshot, Local}
-use Rattle.group_history.specs.declared.nodes.Snapshot.{Snapshot as Snapped}
-use Rattle.group_history.specs.declared.nodes.Local.{Local as Locally}
+use Rattle.group_history.specs.declared.nodes.Kind.{Kind}
+use Rattle.group_history.specs.declared.nodes.Kind.TheVariants.{Snapshot, Over}
 use Rattle.group_history.specs.declared.nodes.Node.{Node}
 use Rattle.group_history.specs.declared.nodes.Node.TheVariants as node
 use Rattle.group_history.specs.Map.{Bytes, Entries}
 use Rattle.group_history.specs.Rows.{Rows, values_of}
-use Rattle.group_history.specs.Mutating.{after_mutate}
+use Rattle.group_history.specs.State.{State, pulled_state}
 use Rattle.group_history.specs.Folds.{answer}
-use Rattle.group_history.specs.Spelling.{Contents, Segment, Version, Spelled, segment, version, as_segment, as_version, segment_in, version_in, rows_if, rows_in, begins_with, joined_one, joined_rows, sized, chunk_in, map_of, map_in, commit_in, spelled_by, spelled, segment_at, version_at, map_at}
+use Rattle.group_history.specs.Spelling.{Contents, Segment, Version, Spelled, segment, version, as_segment, as_version, as_snapshot, segment_in, version_in, snapshot_in, basis_in, stepped, state_over, state_in, snapshot_of, rows_if, rows_in, begins_with, joined_one, joined_rows, sized, chunk_in, map_of, map_in, commit_in, spelled_by, spelled, segment_at, version_at, snapshot_at, map_at}
 use Rattle.group_history.proofs.Folding.{and_then-some, folded_at, answer_within, length_folded}
-use Rattle.group_history.proofs.Spellings.{segment-stays, version-stays, map-stays}
+use Rattle.group_history.proofs.Spellings.{segment-stays, version-stays, snapshot-stays, map-stays}
 use Rattle.group_history.proofs.Lists.{no_element, cons_cases}
 
 -- a value behind a map came from one before it
@@ -31,34 +30,42 @@ option_map-some f (Some x) v h = (x, refl, cc h)
 pub version-grown : (xs ys : Contents) (k : ℕ) (v : Version) → IsPrefix xs ys → version_at xs k ≡ Some v → version_at ys k ≡ Some v
 version-grown xs ys k v pre h = subst (λ (w : Contents). version_at w k ≡ Some v) pre.1 (version-stays xs pre.0 k v h)
 
+pub snapshot-grown : (xs ys : Contents) (k j : ℕ) → IsPrefix xs ys → snapshot_at xs k ≡ Some j → snapshot_at ys k ≡ Some j
+snapshot-grown xs ys k j pre h = subst (λ (w : Contents). snapshot_at w k ≡ Some j) pre.1 (snapshot-stays xs pre.0 k j h)
+
 pub segment-grown : (xs ys : Contents) (k : ℕ) (s : Segment) → IsPrefix xs ys → segment_at xs k ≡ Some s → segment_at ys k ≡ Some s
 segment-grown xs ys k s pre h = subst (λ (w : Contents). segment_at w k ≡ Some s) pre.1 (segment-stays xs pre.0 k s h)
 
 pub map-grown : (xs ys : Contents) (k : ℕ) (m : Entries) → IsPrefix xs ys → map_at xs k ≡ Some m → map_at ys k ≡ Some m
 map-grown xs ys k m pre h = subst (λ (w : Contents). map_at w k ≡ Some m) pre.1 (map-stays xs pre.0 k m h)
 
-only_version : (v : Version) (x : Spelled) → as_version x ≡ Some v → x ≡ version v
+only_version : (v : Version) (x : Spelled) → as_version x ≡ Some v → (j : ℕ) × (x ≡ version v j)
 only_version v (segment s) e = absurd (cc e)
-only_version v (version w) e = ap version (let f : w ≡ v = cc e in f)
+only_version v (version w j) e = (j, ap (λ (u : Version). version u j) (let f : w ≡ v = cc e in f))
 
 only_segment : (s : Segment) (x : Spelled) → as_segment x ≡ Some s → x ≡ segment s
 only_segment s (segment t) e = ap segment (let f : t ≡ s = cc e in f)
-only_segment s (version w) e = absurd (cc e)
+only_segment s (version w j) e = absurd (cc e)
 
-pub spelled_version : (ns : Contents) (k : ℕ) (v : Version) → version_at ns k ≡ Some v → answer (spelled ns) k ≡ Some (version v)
-spelled_version ns k v h = let m = and_then-some (answer (spelled ns) k) as_version v h in m.1 ∙ ap Some (only_version v m.0 m.2)
+pub spelled_version : (ns : Contents) (k : ℕ) (v : Version) → version_at ns k ≡ Some v → (j : ℕ) × (answer (spelled ns) k ≡ Some (version v j))
+spelled_version ns k v h =
+    let m = and_then-some (answer (spelled ns) k) as_version v h in
+    let o = only_version v m.0 m.2 in
+    (o.0, m.1 ∙ ap Some o.1)
 
 pub spelled_segment : (ns : Contents) (k : ℕ) (s : Segment) → segment_at ns k ≡ Some s → answer (spelled ns) k ≡ Some (segment s)
 spelled_segment ns k s h = let m = and_then-some (answer (spelled ns) k) as_segment s h in m.1 ∙ ap Some (only_segment s m.0 m.2)
 
 -- a stamp spells a chunk's rows or a commit's state, never both
 pub not_both : (ns : Contents) (k : ℕ) (s : Segment) (v : Version) → segment_at ns k ≡ Some s → version_at ns k ≡ Some v → ⊥
-not_both ns k s v p q = let e : Some (segment s) ≡ Some (version v) = sym (spelled_segment ns k s p) ∙ spelled_version ns k v q in cc e
+not_both ns k s v p q =
+    let w = spelled_version ns k v q in
+    let e : Some (segment s) ≡ Some (version v w.0) = sym (spelled_segment ns k s p) ∙ w.1 in cc e
 
--- What a stamp spells is made of its content and of what smaller stamps spell.
+-- What a stamp spells is made of its content and of what the smaller stamps spell.
 pub made_of : (ns : Contents) (k : ℕ) (n : Node ℕ) (x : Spelled) → slice_get ns k ≡ Some n → answer (spelled ns) k ≡ Some x
-    → (done : List (Option Spelled)) × (spelled_by done n ≡ Some x) × ((c : ℕ) (y : Spelled) → answer done c ≡ Some y → (c < k) × (answer (spelled ns) c ≡ Some y))
-made_of ns k n x is h = let u = folded_at spelled_by ns k n is in (spelled u.0, sym u.1 ∙ h, u.2)
+    → (done : List (Option Spelled)) × (spelled_by done n ≡ Some x) × ((c : ℕ) (y : Spelled) → answer done c ≡ Some y → (c < k) × (answer (spelled ns) c ≡ Some y)) × (length done ≡ k)
+made_of ns k n x is h = let u = folded_at spelled_by ns k n is in (spelled u.0, sym u.1 ∙ h, u.2, u.3)
 
 -- what smaller stamps spell, as commit, as chunk and as map
 below_version : (ns : Contents) (k : ℕ) (done : List (Option Spelled)) (c : ℕ) (v : Version) → ((c : ℕ) (y : Spelled) → answer done c ≡ Some y → (c < k) × (answer (spelled ns) c ≡ Some y))
@@ -82,47 +89,73 @@ below_map ns k done c m below h =
     let w = below_segment ns k done c s.0 below s.1 in
     (w.0, ap (λ o. option_and_then map_of o) w.1 ∙ s.2)
 
--- A local commit: its basis and its root have smaller stamps. Its state is the basis' with its mutation last, and its map is its root's.
-pub local-at : (ns : Contents) (k : ℕ) (l : Locally ℕ) (v : Version) → slice_get ns k ≡ Some (node.Commit (Local l)) → version_at ns k ≡ Some v
-    → (b : Version) × (l.basis < k) × (version_at ns l.basis ≡ Some b) × (v.state ≡ after_mutate b.state l.mutation) × (l.root < k) × (map_at ns l.root ≡ Some v.read)
-local-at ns k l v is h =
-    let u = made_of ns k (node.Commit (Local l)) (version v) is (spelled_version ns k v h) in
-    let o = option_map-some version (commit_in u.0 (Local l)) (version v) u.1 in
-    let same : o.0 ≡ v = cc (o.2) in
-    let b = and_then-some (version_in u.0 l.basis) _ o.0 o.1 in
-    let m = and_then-some (map_in u.0 l.root) _ o.0 b.2 in
-    let made : record { state = after_mutate b.0.state l.mutation; read = m.0 } ≡ v = (let e : Some (let r : Version = record { state = after_mutate b.0.state l.mutation; read = m.0 } in r) ≡ Some o.0 = m.2 in cc (e, same)) in
-    let w = below_version ns k u.0 l.basis b.0 u.2 b.1 in
-    let r = below_map ns k u.0 l.root m.0 u.2 m.1 in
-    (b.0, w.0, w.1, ap (λ (x : Version). x.state) (sym made), r.0, r.1 ∙ ap Some (ap (λ (x : Version). x.read) made))
+below_snapshot : (ns : Contents) (k : ℕ) (done : List (Option Spelled)) (c j : ℕ) → ((c : ℕ) (y : Spelled) → answer done c ≡ Some y → (c < k) × (answer (spelled ns) c ≡ Some y))
+    → snapshot_in done c ≡ Some j → snapshot_at ns c ≡ Some j
+below_snapshot ns k done c j below h =
+    let m = and_then-some (answer done c) as_snapshot j h in
+    ap (λ o. option_and_then as_snapshot o) (below c m.0 m.1).1 ∙ m.2
 
--- A snapshot: its root has a smaller stamp and spells the pulled map, which queries read; nothing is pending.
-pub snapshot-at : (ns : Contents) (k : ℕ) (s : Snapped ℕ) (v : Version) → slice_get ns k ≡ Some (node.Commit (Snapshot s)) → version_at ns k ≡ Some v
-    → (s.root < k) × (map_at ns s.root ≡ Some v.read) × (v.state ≡ record { pulled = v.read; cookie = s.cookie; confirmed = s.confirmed; pending = [] })
-snapshot-at ns k s v is h =
-    let u = made_of ns k (node.Commit (Snapshot s)) (version v) is (spelled_version ns k v h) in
-    let o = option_map-some version (commit_in u.0 (Snapshot s)) (version v) u.1 in
+-- What makes a commit's state: a snapshot has its own, a commit over a basis has the basis's after its step.
+abbrev pub IsMade : Contents → ℕ → Kind ℕ → Version → Type 0
+IsMade ns k (Snapshot s) v = v.state ≡ pulled_state v.read s.cookie s.confirmed
+IsMade ns k (Over o) v =
+    (b : Version) × (o.basis < k) × (version_at ns o.basis ≡ Some b) × (snapshot_at ns o.basis ≡ Some o.snapshot) × (b.state.closed ≡ false) × (v.state ≡ stepped b.state o.step)
+
+if_there : {A : Type 0} (b : Bool) (o : Option A) (x : A) → (if b then o else None) ≡ Some x → (b ≡ true) × (o ≡ Some x)
+if_there true o x h = (refl, h)
+if_there false o x h = absurd (cc h)
+
+if_open : {A : Type 0} (b : Bool) (x y : A) → (if b then None else Some x) ≡ Some y → (b ≡ false) × (x ≡ y)
+if_open true x y h = absurd (cc h)
+if_open false x y h = (refl, cc h)
+
+made_so : (ns : Contents) (k : ℕ) (done : List (Option Spelled)) (kind : Kind ℕ) (m : Entries) (s : State) (v : Version) → ((c : ℕ) (y : Spelled) → answer done c ≡ Some y → (c < k) × (answer (spelled ns) c ≡ Some y))
+    → state_in done kind m ≡ Some s → v.state ≡ s → v.read ≡ m → IsMade ns k kind v
+made_so ns k done (Snapshot sn) m s v below is state read =
+    let e : pulled_state m sn.cookie sn.confirmed ≡ s = cc is in
+    state ∙ sym e ∙ ap (λ (x : Entries). pulled_state x sn.cookie sn.confirmed) (sym read)
+made_so ns k done (Over o) m s v below is state read =
+    let b = and_then-some (basis_in done o.basis o.snapshot) (state_over o.step) s is in
+    let j = and_then-some (snapshot_in done o.basis) (λ (i : ℕ). if i == o.snapshot then version_in done o.basis else None) b.0 b.1 in
+    let t = if_there (j.0 == o.snapshot) (version_in done o.basis) b.0 j.2 in
+    let w = below_version ns k done o.basis b.0 below t.1 in
+    let c = if_open b.0.state.closed (stepped b.0.state o.step) s b.2 in
+    (b.0, w.0, w.1, below_snapshot ns k done o.basis j.0 below j.1 ∙ ap Some (eqb-true j.0 o.snapshot t.0), c.0, state ∙ sym c.1)
+
+-- A commit: its root has a smaller stamp and spells the map that queries read; its chain begins where it says; and what makes its state.
+pub commit-made : (ns : Contents) (k : ℕ) (c : Commit ℕ) (v : Version) → slice_get ns k ≡ Some (node.Commit c) → version_at ns k ≡ Some v
+    → (c.root < k) × (map_at ns c.root ≡ Some v.read) × (snapshot_at ns k ≡ Some (snapshot_of k c.kind)) × IsMade ns k c.kind v
+commit-made ns k c v is h =
+    let w = spelled_version ns k v h in
+    let u = made_of ns k (node.Commit c) (version v w.0) is w.1 in
+    let o = option_map-some (λ (x : Version). version x (snapshot_of (length u.0) c.kind)) (commit_in u.0 c) (version v w.0) u.1 in
     let same : o.0 ≡ v = cc (o.2) in
-    let m = and_then-some (map_in u.0 s.root) _ o.0 o.1 in
-    let shape : Entries → Version = λ x. record { state = record { pulled = x; cookie = s.cookie; confirmed = s.confirmed; pending = [] }; read = x } in
-    let made : shape m.0 ≡ v = (let e : Some (shape m.0) ≡ Some o.0 = m.2 in cc (e, same)) in
-    let r = below_map ns k u.0 s.root m.0 u.2 m.1 in
-    let read : m.0 ≡ v.read = ap (λ (x : Version). x.read) made in
-    (r.0, r.1 ∙ ap Some read, ap (λ (x : Version). x.state) (sym made) ∙ ap (λ (x : Entries). (shape x).state) read)
+    let begins : snapshot_of (length u.0) c.kind ≡ w.0 = cc (o.2) in
+    let m = and_then-some (map_in u.0 c.root) (λ (x : Entries). option_map (λ (s : State). let r : Version = record { state = s; read = x } in r) (state_in u.0 c.kind x)) o.0 o.1 in
+    let s = option_map-some (λ (s : State). let r : Version = record { state = s; read = m.0 } in r) (state_in u.0 c.kind m.0) o.0 m.2 in
+    let r = below_map ns k u.0 c.root m.0 u.2 m.1 in
+    let made : (let r : Version = record { state = s.0; read = m.0 } in r) ≡ v = s.2 ∙ same in
+    let read : v.read ≡ m.0 = ap (λ (x : Version). x.read) (sym made) in (
+      r.0,
+      r.1 ∙ ap Some (sym read),
+      ap (λ o. option_and_then as_snapshot o) w.1 ∙ ap Some (sym begins ∙ ap (λ (n : ℕ). snapshot_of n c.kind) u.3),
+      made_so ns k u.0 c.kind m.0 s.0 v u.2 s.1 (ap (λ (x : Version). x.state) (sym made)) read,
+    )
 
 -- what spells a version is a commit, and what spells a segment a chunk
 pub commit-at : (ns : Contents) (k : ℕ) (n : Node ℕ) (v : Version) → slice_get ns k ≡ Some n → version_at ns k ≡ Some v → (c : Commit ℕ) × (n ≡ node.Commit c)
 commit-at ns k (node.Commit c) v is h = (c, refl)
 commit-at ns k (node.Chunk c) v is h =
-    let u = made_of ns k (node.Chunk c) (version v) is (spelled_version ns k v h) in
-    let o = option_map-some segment (chunk_in u.0 c) (version v) u.1 in
+    let w = spelled_version ns k v h in
+    let u = made_of ns k (node.Chunk c) (version v w.0) is w.1 in
+    let o = option_map-some segment (chunk_in u.0 c) (version v w.0) u.1 in
     absurd (cc (o.2))
 
 pub chunk-at : (ns : Contents) (k : ℕ) (n : Node ℕ) (s : Segment) → slice_get ns k ≡ Some n → segment_at ns k ≡ Some s → (c : Chunk ℕ) × (n ≡ node.Chunk c)
 chunk-at ns k (node.Chunk c) s is h = (c, refl)
 chunk-at ns k (node.Commit c) s is h =
     let u = made_of ns k (node.Commit c) (segment s) is (spelled_segment ns k s h) in
-    let o = option_map-some version (commit_in u.0 c) (segment s) u.1 in
+    let o = option_map-some (λ (x : Version). version x (snapshot_of (length u.0) c.kind)) (commit_in u.0 c) (segment s) u.1 in
     absurd (cc (o.2))
 
 -- what is spelled has a content

@@ -3,12 +3,11 @@ use Rattle.std.specs.Prelude.{ℕ, ◌≡◌, ◌<◌, ◌⊎◌, ◌↔◌, Lis
 use Rattle.std.specs.List.{Contains}
 use Rattle.group_history.specs.declared.nodes.Chunk.{Chunk}
 use Rattle.group_history.specs.declared.nodes.Commit.{Commit}
-use Rattle.group_history.specs.declared.nodes.Commit.TheVariants.{Snapshot, Local}
 use Rattle.group_history.specs.declared.nodes.Node.{Node}
 use Rattle.group_history.specs.declared.nodes.Node.TheVariants as node
 use Rattle.group_history.specs.declared.refs.Ref.{Ref}
 use Rattle.group_history.specs.Refs.{stamp_of}
-use Rattle.group_history.specs.Naming.{children, chunk_children, content_of}
+use Rattle.group_history.specs.Naming.{children, chunk_children, commits_named, content_of}
 use Rattle.group_history.specs.Spelling.{Contents, Segment, Version, segment_at, version_at}
 use Rattle.commits.specs.declared.founds.Found.{Found}
 use Rattle.commits.specs.declared.founds.Found.TheVariants as found
@@ -47,13 +46,9 @@ abbrev pub stamp_in : Found → ℕ
 stamp_in f = stamp_of (ref_in f)
 
 -- what a node names, each by its kind
-abbrev pub found_in_commit : Commit Ref → List Found
-found_in_commit (Snapshot s) = found.Chunk s.root ∷ []
-found_in_commit (Local l) = found.Commit l.basis ∷ found.Chunk l.root ∷ []
-
 abbrev pub found_in : Node Ref → List Found
 found_in (node.Chunk c) = map found.Chunk (chunk_children c)
-found_in (node.Commit c) = found_in_commit c
+found_in (node.Commit c) = found.Chunk c.root ∷ map found.Commit (commits_named c.kind)
 
 -- it is of its kind, with all below it
 abbrev pub IsSpelled : Contents → Found → Type 0

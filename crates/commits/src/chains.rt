@@ -5,28 +5,39 @@ ghost use Rattle.std.specs.Prelude.{◌≡◌, ◌⊎◌, Some, IfOk, IfErr, IsS
 ghost use mathlib.Core.List.{IsPrefix};
 ghost use Rattle.group_history.specs.Refs.{stamp_of};
 ghost use Rattle.group_history.specs.Spelling.{version_at};
-ghost use Rattle.group_history.specs.State.{confirmed_id};
 ghost use Rattle.group_history.specs.declared.nodes.Commit.{Commit as Committed};
 ghost use Rattle.group_history.specs.declared.refs.Ref.{Ref as Reference};
 ghost use Rattle.group_history.specs.declared.mutators.Stop.TheVariants.{NoMemory};
-ghost use Rattle.commits.specs.Chains.{step_of, basis_of, root_of, own_id, IsSnapshot, IsSnapshotAt, HasBase, HasCookie, IsShownAt, LiesAt};
+ghost use Rattle.commits.specs.Chains.{added_by, link_of, top_of, id_in, own_id, basis_of, IsSnapshot, IsSnapshotAt, HasBase, HasCookie, IsShownAt, LiesAt};
 
 use crate::nodes::{Nodes, ShowsCommit};
-use group_history::{Commit, Cookie, Mutation, Ref, Stop, Text, TextMap};
+use group_history::{Commit, ConfirmedIds, Cookie, Kind, Mutation, Ref, Step, Stop, Text};
 use std::alloc::AllocError;
 
-/// A local commit as a step of its chain.
+/// A commit over a basis, as a link of its chain.
 #[derive(Drop)]
-pub struct Step {
-    pub mutation: Mutation,
+pub struct Link {
+    /// The mutation that it adds; none where it closes the group.
+    pub added: Option<Mutation>,
     pub basis: Ref,
+}
+
+/// What a commit tells of its map, and of the whole chain below it.
+#[derive(Clone, Copy)]
+pub struct Top {
+    /// The root of the map that queries read.
+    pub root: Ref,
+    /// The snapshot at which the chain begins; the commit itself, where it is one.
+    pub snapshot: Ref,
+    /// Whether the group is closed at the commit.
+    pub closed: bool,
 }
 
 /// What the server last sent, its map by the root.
 #[derive(Drop)]
 pub struct Base {
     pub cookie: Cookie,
-    pub confirmed: TextMap<u64>,
+    pub confirmed: ConfirmedIds,
     pub pulled: Ref,
 }
 
@@ -37,57 +48,74 @@ pub struct OwnId {
     pub basis: Option<Ref>,
 }
 
-fn step_in(commit: &Commit<Ref>) -> Result<Option<Step>, AllocError>
-    ensures { IfOk result (λ step. step ≡ step_of commit.now) }
+fn added_by(step: &Step) -> Result<Option<Mutation>, AllocError>
+    ensures { IfOk result (λ added. added ≡ added_by step.now) }
 {
-    match commit {
-        Commit::Snapshot(_) => Ok(None),
-        Commit::Local(local) => Ok(Some(Step {
-            mutation: local.mutation.clone()?,
-            basis: local.basis,
+    match step {
+        Step::Local(mutation) => Ok(Some(mutation.clone()?)),
+        Step::Closed => Ok(None),
+    }
+}
+
+fn link_in(commit: &Commit<Ref>) -> Result<Option<Link>, AllocError>
+    ensures { IfOk result (λ link. link ≡ link_of commit.now) }
+{
+    match &commit.kind {
+        Kind::Snapshot(_) => Ok(None),
+        Kind::Over(over) => Ok(Some(Link {
+            added: added_by(&over.step)?,
+            basis: over.basis,
         })),
+    }
+}
+
+fn top_in(commit: &Commit<Ref>, at: Ref) -> Top
+    ensures { result ≡ top_of at commit.now }
+{
+    match &commit.kind {
+        Kind::Snapshot(_) => Top {
+            root: commit.root,
+            snapshot: at,
+            closed: false,
+        },
+        Kind::Over(over) => Top {
+            root: commit.root,
+            snapshot: over.snapshot,
+            closed: matches!(over.step, Step::Closed),
+        },
     }
 }
 
 fn basis_in(commit: &Commit<Ref>) -> Option<Ref>
     ensures { result ≡ basis_of commit.now }
 {
-    match commit {
-        Commit::Snapshot(_) => None,
-        Commit::Local(local) => Some(local.basis),
+    match &commit.kind {
+        Kind::Snapshot(_) => None,
+        Kind::Over(over) => Some(over.basis),
     }
 }
 
-fn root_in(commit: &Commit<Ref>) -> Ref
-    ensures { result ≡ root_of commit.now }
+fn id_in(step: &Step, client: &Text) -> u64
+    ensures { result ≡ id_in client.now step.now }
 {
-    match commit {
-        Commit::Snapshot(snapshot) => snapshot.root,
-        Commit::Local(local) => local.root,
-    }
-}
-
-fn confirmed_in(confirmed: &TextMap<u64>, client: &Text) -> u64
-    ensures { result ≡ confirmed_id confirmed.now client.now }
-{
-    match confirmed.get(client) {
-        Some(id) => *id,
-        None => 0,
+    match step {
+        Step::Local(mutation) => {
+            if mutation.client == *client {
+                mutation.id
+            } else {
+                0
+            }
+        }
+        Step::Closed => 0,
     }
 }
 
 fn own_id_in(commit: &Commit<Ref>, client: &Text) -> u64
     ensures { result ≡ own_id client.now commit.now }
 {
-    match commit {
-        Commit::Snapshot(snapshot) => confirmed_in(&snapshot.confirmed, client),
-        Commit::Local(local) => {
-            if local.mutation.client == *client {
-                local.mutation.id
-            } else {
-                0
-            }
-        }
+    match &commit.kind {
+        Kind::Snapshot(snapshot) => snapshot.confirmed.of(client),
+        Kind::Over(over) => id_in(&over.step, client),
     }
 }
 
@@ -95,7 +123,7 @@ fn cookie_in(commit: &Commit<Ref>) -> Result<Cookie, AllocError>
     requires { IsSnapshot commit.now }
     ensures { IfOk result (λ cookie. HasCookie commit.now cookie) }
 {
-    let Commit::Snapshot(snapshot) = commit else {
+    let Kind::Snapshot(snapshot) = &commit.kind else {
         unreachable!();
     };
     snapshot.cookie.clone()
@@ -105,51 +133,51 @@ fn base_in(commit: &Commit<Ref>) -> Result<Base, AllocError>
     requires { IsSnapshot commit.now }
     ensures { IfOk result (λ base. HasBase commit.now base) }
 {
-    let Commit::Snapshot(snapshot) = commit else {
+    let Kind::Snapshot(snapshot) = &commit.kind else {
         unreachable!();
     };
     Ok(Base {
         cookie: snapshot.cookie.clone()?,
-        confirmed: snapshot.confirmed.copied()?,
-        pulled: snapshot.root,
+        confirmed: snapshot.confirmed.clone()?,
+        pulled: commit.root,
     })
 }
 
-/// The step that a commit is; none for a snapshot.
-pub fn show_step<N: Nodes>(nodes: &mut N, at: Ref) -> Result<Option<Step>, Stop>
+/// The link that a commit is; none for a snapshot.
+pub fn show_link<N: Nodes>(nodes: &mut N, at: Ref) -> Result<Option<Link>, Stop>
     requires { IsSome (version_at (N.contents nodes.old) (stamp_of at)) }
     ensures grown { IsPrefix (N.contents nodes.old) (N.contents nodes.new) }
-    ensures content { IfOk result (λ step. (c : Committed Reference) × IsShownAt N.HeldCommit.shown (N.contents nodes.new) (stamp_of at) c × (step ≡ step_of c)) }
+    ensures content { IfOk result (λ link. (c : Committed Reference) × IsShownAt N.HeldCommit.shown (N.contents nodes.new) (stamp_of at) c × (link ≡ link_of c)) }
     ensures stopped { IfErr result (λ stop. (stop ≡ NoMemory) ⊎ N.stops stop) }
 {
     let held = nodes.show_commit(at)?;
-    let step = step_in(held.commit());
+    let link = link_in(held.commit());
     nodes.leave_commit(held);
-    Ok(step?)
+    Ok(link?)
 }
 
-/// The commit before one; none for a snapshot.
-pub fn show_basis<N: Nodes>(nodes: &mut N, at: Ref) -> Result<Option<Ref>, Stop>
+/// What a commit tells by one look.
+pub fn show_top<N: Nodes>(nodes: &mut N, at: Ref) -> Result<Top, Stop>
     requires { IsSome (version_at (N.contents nodes.old) (stamp_of at)) }
     ensures grown { IsPrefix (N.contents nodes.old) (N.contents nodes.new) }
-    ensures content { IfOk result (λ basis. (c : Committed Reference) × IsShownAt N.HeldCommit.shown (N.contents nodes.new) (stamp_of at) c × (basis ≡ basis_of c)) }
+    ensures content { IfOk result (λ top. (c : Committed Reference) × IsShownAt N.HeldCommit.shown (N.contents nodes.new) (stamp_of at) c × (top ≡ top_of at c)) }
     ensures stopped { IfErr result N.stops }
 {
     let held = nodes.show_commit(at)?;
-    let basis = basis_in(held.commit());
+    let top = top_in(held.commit(), at);
     nodes.leave_commit(held);
-    Ok(basis)
+    Ok(top)
 }
 
 /// The root of the map that queries read at a commit.
 pub fn show_root<N: Nodes>(nodes: &mut N, at: Ref) -> Result<Ref, Stop>
     requires { IsSome (version_at (N.contents nodes.old) (stamp_of at)) }
     ensures grown { IsPrefix (N.contents nodes.old) (N.contents nodes.new) }
-    ensures content { IfOk result (λ root. (c : Committed Reference) × IsShownAt N.HeldCommit.shown (N.contents nodes.new) (stamp_of at) c × (root ≡ root_of c)) }
+    ensures content { IfOk result (λ root. (c : Committed Reference) × IsShownAt N.HeldCommit.shown (N.contents nodes.new) (stamp_of at) c × (root ≡ c.root)) }
     ensures stopped { IfErr result N.stops }
 {
     let held = nodes.show_commit(at)?;
-    let root = root_in(held.commit());
+    let root = held.commit().root;
     nodes.leave_commit(held);
     Ok(root)
 }

@@ -9,12 +9,13 @@ ghost use Rattle.group_history.specs.declared.mutators.Stop.TheVariants.{NoMemor
 ghost use Rattle.commits.specs.Meeting.{keys_in, IsFirst, LiesChunk};
 ghost use Rattle.commits.specs.Reach.{IsNamed, Reaches, IsSpelled, stamp_in};
 
-use crate::chains::{show_basis, show_root};
+use crate::chains::show_root;
 use crate::founds::Found;
 use crate::meeting::meets;
 use crate::nodes::Nodes;
+use crate::states::snapshot_of;
 use group_history::{Chunk, Ref, Stop, Text};
-use map_tree::{Chunks, ShowsChunk};
+use map_chunks::{Chunks, ShowsChunk};
 use std::alloc::AllocError;
 
 fn first_of(keys: &[Text]) -> Result<Option<Text>, AllocError>
@@ -84,10 +85,7 @@ pub fn base_root<N: Nodes>(nodes: &mut N, head: Ref) -> Result<Ref, Stop>
     ensures named { IfOk result (IsNamed N.Held.shown N.HeldCommit.shown (N.contents nodes.new) head) }
     ensures stopped { IfErr result N.stops }
 {
-    let mut at = head;
-    while let Some(basis) = show_basis(nodes, at)? {
-        at = basis;
-    }
-    let root = show_root(nodes, at)?;
+    let snapshot = snapshot_of(nodes, head)?;
+    let root = show_root(nodes, snapshot)?;
     Ok(root)
 }

@@ -2,20 +2,20 @@
 ghost use Rattle.std.specs.Prelude.{◌≡◌, ◌⊎◌, ◌∷◌, [], map, take, Some, OnOk, IfErr, IsSome, slice_get};
 ghost use mathlib.Core.List.{IsPrefix};
 ghost use Rattle.group_history.specs.Refs.{stamp_of};
-ghost use Rattle.group_history.specs.Naming.{content_of};
+ghost use Rattle.group_history.specs.Naming.{commits_named, content_of};
 ghost use Rattle.group_history.specs.Spelling.{segment_at, version_at};
 ghost use Rattle.group_history.specs.declared.nodes.Node.{Node as Noded};
 ghost use Rattle.group_history.specs.declared.nodes.Node.TheVariants as node;
 ghost use Rattle.group_history.specs.declared.refs.Ref.{Ref as Reference};
 ghost use Rattle.group_history.specs.declared.mutators.Stop.TheVariants.{NoMemory};
-ghost use Rattle.commits.specs.Reach.{Adds, IsShown, IsSpelled, stamp_in, found_in, found_in_commit};
+ghost use Rattle.commits.specs.Reach.{Adds, IsShown, IsSpelled, stamp_in, found_in};
 ghost use Rattle.commits.specs.declared.founds.Found.TheVariants as found;
 
 use crate::founds::Found;
 use crate::frontiers::Frontier;
 use crate::nodes::{Nodes, ShowsCommit};
-use group_history::{Chunk, Commit, Ref, Stop};
-use map_tree::ShowsChunk;
+use group_history::{Chunk, Commit, Kind, Ref, Stop};
+use map_chunks::ShowsChunk;
 use std::alloc::AllocError;
 
 fn add_chunks(frontier: &mut Frontier, roots: &[Ref]) -> Result<(), AllocError>
@@ -36,20 +36,27 @@ fn add_of_chunk(frontier: &mut Frontier, chunk: &Chunk<Ref>) -> Result<(), Alloc
     }
 }
 
-fn add_two(frontier: &mut Frontier, basis: Ref, root: Ref) -> Result<(), AllocError>
-    ensures { OnOk result (Adds frontier.old (found.Commit basis ∷ found.Chunk root ∷ []) frontier.new) }
+fn add_commits(frontier: &mut Frontier, basis: Ref, snapshot: Ref) -> Result<(), AllocError>
+    ensures { OnOk result (Adds frontier.old (found.Commit basis ∷ found.Commit snapshot ∷ []) frontier.new) }
 {
     frontier.add(Found::Commit(basis))?;
-    frontier.add(Found::Chunk(root))
+    frontier.add(Found::Commit(snapshot))
+}
+
+fn add_named(frontier: &mut Frontier, kind: &Kind<Ref>) -> Result<(), AllocError>
+    ensures { OnOk result (Adds frontier.old (map found.Commit (commits_named kind.now)) frontier.new) }
+{
+    match kind {
+        Kind::Snapshot(_) => add_chunks(frontier, &[]),
+        Kind::Over(over) => add_commits(frontier, over.basis, over.snapshot),
+    }
 }
 
 fn add_of_commit(frontier: &mut Frontier, commit: &Commit<Ref>) -> Result<(), AllocError>
-    ensures { OnOk result (Adds frontier.old (found_in_commit commit.now) frontier.new) }
+    ensures { OnOk result (Adds frontier.old (found_in (node.Commit commit.now)) frontier.new) }
 {
-    match commit {
-        Commit::Snapshot(snapshot) => frontier.add(Found::Chunk(snapshot.root)),
-        Commit::Local(local) => add_two(frontier, local.basis, local.root),
-    }
+    frontier.add(Found::Chunk(commit.root))?;
+    add_named(frontier, &commit.kind)
 }
 
 fn look_at_chunk<N: Nodes>(nodes: &mut N, frontier: &mut Frontier, at: Ref) -> Result<(), Stop>

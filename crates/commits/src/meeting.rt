@@ -15,7 +15,7 @@ ghost use Rattle.commits.specs.Meeting.{choose, child_for, HasKey, LiesChunk};
 ghost use Rattle.commits.specs.Reach.{Reaches};
 
 use group_history::{Chunk, Ref, Stop, Text};
-use map_tree::{Chunks, ShowsChunk};
+use map_chunks::{Chunks, ShowsChunk};
 
 fn chosen(firsts: &[Text], children: &[Ref], key: &Text) -> Option<Ref>
     requires { length children.now ≡ length firsts.now }

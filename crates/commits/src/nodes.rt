@@ -8,7 +8,7 @@ ghost use Rattle.group_history.specs.declared.nodes.Commit.{Commit as Committed}
 ghost use Rattle.group_history.specs.declared.refs.Ref.{Ref as Reference};
 
 use group_history::{Commit, Ref, Stop};
-use map_tree::Chunks;
+use map_chunks::Chunks;
 
 /// A commit that is being shown.
 pub trait ShowsCommit {

@@ -3,7 +3,7 @@ ghost use Rattle.group_history.specs.declared.nodes.Commit.{Commit as Committed}
 
 use crate::nodes::{Nodes, ShowsCommit};
 use group_history::{Commit, Node, Ref, Stop};
-use map_tree::Shelf;
+use map_chunks::Shelf;
 
 /// A commit of a vector.
 #[derive(Clone, Copy)]

@@ -1,68 +1,46 @@
 //! What a commit's state is.
 //!
-//! A head's chain is gone down to its snapshot. On the way each local commit gives one pending mutation,
-//! the newest first; at its end lies what the server last sent. Every clause speaks of the one version
-//! that the head spells.
+//! What the server last sent lies at the snapshot that the head names: two looks, however much is
+//! pending. The pending mutations are met on the way down the chain, the newest first. Every clause speaks
+//! of the one version that the head spells.
 ghost use Rattle.std.specs.Prelude.{◌≡◌, ◌⊎◌, Some, IfOk, IfErr, OnOk, OnErr, IsSome, ◌++◌, [], ◌∷◌};
 ghost use mathlib.Core.List.{IsPrefix};
 ghost use Rattle.group_history.specs.Ids.{IdsFollow};
 ghost use Rattle.group_history.specs.Refs.{stamp_of};
 ghost use Rattle.group_history.specs.State.{last_id};
-ghost use Rattle.group_history.specs.Spelling.{Version, version_at, map_at};
+ghost use Rattle.group_history.specs.Spelling.{Version, version_at, snapshot_at, map_at};
 ghost use Rattle.group_history.specs.declared.mutators.Stop.TheVariants.{NoMemory};
-ghost use Rattle.commits.specs.Chains.{IsBase, IsSnapshotAt};
+ghost use Rattle.commits.specs.Chains.{IsBase, IsBaseOf, IsSnapshotAt, listed};
 ghost use Rattle.commits.specs.Reach.{IsNamed, Reaches};
 
-use crate::chains::{Base, show_base, show_basis, show_cookie, show_own_id, show_root, show_step};
+use crate::chains::{
+    Base, Top, show_base, show_cookie, show_link, show_own_id, show_root, show_top,
+};
 use crate::nodes::Nodes;
-use group_history::{Cookie, Mutation, Ref, Stop, Text, TextMap};
+use group_history::{ConfirmedIds, Cookie, Mutation, Ref, Stop, Text};
 use std::alloc::{AllocError, Global};
-
-/// The pending mutations of a commit, and the snapshot below it.
-#[derive(Drop)]
-struct Descent {
-    pending: Vec<Mutation>,
-    snapshot: Ref,
-}
 
 /// The state of a commit. The pulled map is named by its root.
 #[derive(Drop)]
 pub struct CommitState {
     pub cookie: Cookie,
     /// Each client's confirmed id.
-    pub confirmed: TextMap<u64>,
+    pub confirmed: ConfirmedIds,
     /// The root of the map as the server last sent it.
     pub pulled: Ref,
     /// The mutations that are not confirmed, the oldest first.
     pub pending: Vec<Mutation>,
+    /// Whether the server said that it doesn't know the group.
+    pub closed: bool,
 }
 
-fn add(mutations: &mut Vec<Mutation>, mutation: Mutation) -> Result<(), AllocError>
-    ensures { OnOk result (mutations.new.items ≡ mutations.old.items ++ mutation ∷ []) }
+fn add(mutations: &mut Vec<Mutation>, mutation: Option<Mutation>) -> Result<(), AllocError>
+    ensures { OnOk result (mutations.new.items ≡ mutations.old.items ++ listed mutation) }
 {
-    mutations.push(mutation)?;
-    Ok(())
-}
-
-fn descend<N: Nodes>(alloc: Global, nodes: &mut N, head: Ref) -> Result<Descent, Stop>
-    requires { IsSome (version_at (N.contents nodes.old) (stamp_of head)) }
-    ensures grown { IsPrefix (N.contents nodes.old) (N.contents nodes.new) }
-    ensures lies { IfOk result (λ d. IsSnapshotAt (N.contents nodes.new) (stamp_of d.snapshot)) }
-    ensures reached { IfOk result (λ d. Reaches (N.contents nodes.new) (stamp_of head) (stamp_of d.snapshot)) }
-    ensures state { (v : Version) → version_at (N.contents nodes.old) (stamp_of head) ≡ Some v → IfOk result (λ d. (d.pending.items ≡ v.state.pending) × IsBase (N.contents nodes.new) (stamp_of d.snapshot) v.state) }
-    ensures stopped { IfErr result (λ stop. (stop ≡ NoMemory) ⊎ N.stops stop) }
-{
-    let mut pending = Vec::new(alloc);
-    let mut at = head;
-    while let Some(step) = show_step(nodes, at)? {
-        add(&mut pending, step.mutation)?;
-        at = step.basis;
+    if let Some(mutation) = mutation {
+        mutations.push(mutation)?;
     }
-    pending.reverse();
-    Ok(Descent {
-        pending,
-        snapshot: at,
-    })
+    Ok(())
 }
 
 /// The pending mutations of a commit, the oldest first.
@@ -72,22 +50,66 @@ pub fn walk<N: Nodes>(alloc: Global, nodes: &mut N, head: Ref) -> Result<Vec<Mut
     ensures pending { (v : Version) → version_at (N.contents nodes.old) (stamp_of head) ≡ Some v → IfOk result (λ xs. xs.items ≡ v.state.pending) }
     ensures stopped { IfErr result (λ stop. (stop ≡ NoMemory) ⊎ N.stops stop) }
 {
-    let descent = descend(alloc, nodes, head)?;
-    Ok(descent.pending)
+    let mut pending = Vec::new(alloc);
+    let mut at = head;
+    while let Some(link) = show_link(nodes, at)? {
+        add(&mut pending, link.added)?;
+        at = link.basis;
+    }
+    pending.reverse();
+    Ok(pending)
 }
 
-fn snapshot_of<N: Nodes>(nodes: &mut N, head: Ref) -> Result<Ref, Stop>
+/// The snapshot of a commit's chain.
+pub(crate) fn snapshot_of<N: Nodes>(nodes: &mut N, head: Ref) -> Result<Ref, Stop>
     requires { IsSome (version_at (N.contents nodes.old) (stamp_of head)) }
     ensures grown { IsPrefix (N.contents nodes.old) (N.contents nodes.new) }
     ensures lies { IfOk result (λ at. IsSnapshotAt (N.contents nodes.new) (stamp_of at)) }
+    ensures reached { IfOk result (λ at. Reaches (N.contents nodes.new) (stamp_of head) (stamp_of at)) }
     ensures state { (v : Version) → version_at (N.contents nodes.old) (stamp_of head) ≡ Some v → IfOk result (λ at. IsBase (N.contents nodes.new) (stamp_of at) v.state) }
     ensures stopped { IfErr result N.stops }
 {
-    let mut at = head;
-    while let Some(basis) = show_basis(nodes, at)? {
-        at = basis;
-    }
-    Ok(at)
+    let top = show_top(nodes, head)?;
+    Ok(top.snapshot)
+}
+
+/// What a commit tells by one look: the root of its map, the snapshot of its chain, and whether the group
+/// is closed at it.
+pub fn top_of<N: Nodes>(nodes: &mut N, head: Ref) -> Result<Top, Stop>
+    requires { IsSome (version_at (N.contents nodes.old) (stamp_of head)) }
+    ensures grown { IsPrefix (N.contents nodes.old) (N.contents nodes.new) }
+    ensures root { (v : Version) → version_at (N.contents nodes.old) (stamp_of head) ≡ Some v → IfOk result (λ top. map_at (N.contents nodes.new) (stamp_of top.root) ≡ Some v.read) }
+    ensures snapshot { IfOk result (λ top. snapshot_at (N.contents nodes.new) (stamp_of head) ≡ Some (stamp_of top.snapshot)) }
+    ensures closed { (v : Version) → version_at (N.contents nodes.old) (stamp_of head) ≡ Some v → IfOk result (λ top. top.closed ≡ v.state.closed) }
+    ensures named { IfOk result (λ top. IsNamed N.Held.shown N.HeldCommit.shown (N.contents nodes.new) head top.root × IsNamed N.Held.shown N.HeldCommit.shown (N.contents nodes.new) head top.snapshot) }
+    ensures stopped { IfErr result N.stops }
+{
+    let top = show_top(nodes, head)?;
+    Ok(top)
+}
+
+/// Whether the group is closed at a commit.
+pub fn closed_of<N: Nodes>(nodes: &mut N, head: Ref) -> Result<bool, Stop>
+    requires { IsSome (version_at (N.contents nodes.old) (stamp_of head)) }
+    ensures grown { IsPrefix (N.contents nodes.old) (N.contents nodes.new) }
+    ensures closed { (v : Version) → version_at (N.contents nodes.old) (stamp_of head) ≡ Some v → IfOk result (λ closed. closed ≡ v.state.closed) }
+    ensures stopped { IfErr result N.stops }
+{
+    let top = show_top(nodes, head)?;
+    Ok(top.closed)
+}
+
+/// What the server last sent, as a commit's state has it: two looks, however much is pending.
+pub fn base_of<N: Nodes>(nodes: &mut N, head: Ref) -> Result<Base, Stop>
+    requires { IsSome (version_at (N.contents nodes.old) (stamp_of head)) }
+    ensures grown { IsPrefix (N.contents nodes.old) (N.contents nodes.new) }
+    ensures state { (v : Version) → version_at (N.contents nodes.old) (stamp_of head) ≡ Some v → IfOk result (IsBaseOf (N.contents nodes.new) v.state) }
+    ensures named { IfOk result (λ b. IsNamed N.Held.shown N.HeldCommit.shown (N.contents nodes.new) head b.pulled) }
+    ensures stopped { IfErr result (λ stop. (stop ≡ NoMemory) ⊎ N.stops stop) }
+{
+    let snapshot = snapshot_of(nodes, head)?;
+    let base = show_base(nodes, snapshot)?;
+    Ok(base)
 }
 
 /// The state of a commit. The pulled map's root is the reference that the snapshot names.
@@ -99,19 +121,22 @@ pub fn state_of<N: Nodes>(alloc: Global, nodes: &mut N, head: Ref) -> Result<Com
     ensures pulled { (v : Version) → version_at (N.contents nodes.old) (stamp_of head) ≡ Some v → IfOk result (λ s. map_at (N.contents nodes.new) (stamp_of s.pulled) ≡ Some v.state.pulled) }
     ensures named { IfOk result (λ s. IsNamed N.Held.shown N.HeldCommit.shown (N.contents nodes.new) head s.pulled) }
     ensures pending { (v : Version) → version_at (N.contents nodes.old) (stamp_of head) ≡ Some v → IfOk result (λ s. s.pending.items ≡ v.state.pending) }
+    ensures closed { (v : Version) → version_at (N.contents nodes.old) (stamp_of head) ≡ Some v → IfOk result (λ s. s.closed ≡ v.state.closed) }
     ensures stopped { IfErr result (λ stop. (stop ≡ NoMemory) ⊎ N.stops stop) }
 {
-    let Descent { pending, snapshot } = descend(alloc, nodes, head)?;
+    let closed = closed_of(nodes, head)?;
+    let pending = walk(alloc, nodes, head)?;
     let Base {
         cookie,
         confirmed,
         pulled,
-    } = show_base(nodes, snapshot)?;
+    } = base_of(nodes, head)?;
     Ok(CommitState {
         cookie,
         confirmed,
         pulled,
         pending,
+        closed,
     })
 }
 

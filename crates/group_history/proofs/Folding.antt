@@ -50,7 +50,7 @@ folded_stays f xs ys k v h =
 
 -- A stamp means what its content makes of the stamps before it; and each of these means the same in the whole list.
 pub folded_at : {N A : Type 0} (f : List (Option A) → N → Option A) (ns : List N) (k : ℕ) (n : N) → slice_get ns k ≡ Some n
-    → (pre : List N) × (answer (folded f [] ns) k ≡ f (folded f [] pre) n) × ((c : ℕ) (v : A) → answer (folded f [] pre) c ≡ Some v → (c < k) × (answer (folded f [] ns) c ≡ Some v))
+    → (pre : List N) × (answer (folded f [] ns) k ≡ f (folded f [] pre) n) × ((c : ℕ) (v : A) → answer (folded f [] pre) c ≡ Some v → (c < k) × (answer (folded f [] ns) c ≡ Some v)) × (length (folded f [] pre) ≡ k)
 folded_at f ns k n h =
     let s = split_at ns k n h in
     let done = folded f [] s.0 in
@@ -60,4 +60,5 @@ folded_at f ns k n h =
       s.0,
       subst (λ w. answer w k ≡ f done n) is (subst (λ j. joined (slice_get (done ++ f done n ∷ whole.0) j) ≡ f done n) long (ap joined (seam done (f done n) whole.0))),
       λ c v e. (omega (arith, answer_within done c v e, long), subst (λ w. answer w c ≡ Some v) is (answer_more done (f done n ∷ whole.0) c v e)),
+      long,
     )

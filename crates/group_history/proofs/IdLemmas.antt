@@ -12,8 +12,8 @@ use Rattle.group_history.specs.declared.mutations.Mutation.{Mutation}
 use Rattle.group_history.specs.declared.responses.Confirmed.{Confirmed}
 use Rattle.group_history.specs.Map.{Bytes, Entries, same_text}
 use Rattle.group_history.specs.Meaning.{Meanings}
-use Rattle.group_history.specs.State.{Ids, confirmed_id, ids_of, replayed}
-use Rattle.group_history.specs.Pulling.{overwritten, unconfirmed, goes_back}
+use Rattle.group_history.specs.State.{Ids, confirmed_id, ids_of, replayed, rebased}
+use Rattle.group_history.specs.Pulling.{overwritten, unconfirmed, left_pending, goes_back}
 use Rattle.group_history.specs.Ids.{Follows, IdsFollow, IsKept}
 
 -- the greatest of n and the numbers that follow it
@@ -56,7 +56,7 @@ Follows-above m n (x ∷ xs) f h =
     ] refl
 
 -- the ids of a client's mutations that are not confirmed are those of its ids that are above its confirmed id
-pub ids_of-unconfirmed : (ids : Ids) (client : Bytes) (xs : List Mutation)
+ids_of-unconfirmed : (ids : Ids) (client : Bytes) (xs : List Mutation)
     → ids_of client (unconfirmed ids xs) ≡ filter (λ i. nat_lt (confirmed_id ids client) i) (ids_of client xs)
 ids_of-unconfirmed ids client [] = refl
 ids_of-unconfirmed ids client (x ∷ xs) =
@@ -79,6 +79,21 @@ ids_of-unconfirmed ids client (x ∷ xs) =
             | false ↦ rest
           ]
     ] refl
+
+-- a new reason changes no id
+ids_of-rebased : (client : Bytes) (xs : List Mutation) → ids_of client (map rebased xs) ≡ ids_of client xs
+ids_of-rebased client [] = refl
+ids_of-rebased client (x ∷ xs) =
+    let S : Mutation → Bool = λ m. same_text m.client client in
+    elim (same_text x.client client) as (λ p. map (λ (m : Mutation). m.id) (cond p (rebased x ∷ filter S (map rebased xs)) (filter S (map rebased xs))) ≡ map (λ (m : Mutation). m.id) (cond p (x ∷ filter S xs) (filter S xs))) [
+      | true ↦ ap (λ ys. x.id ∷ ys) (ids_of-rebased client xs)
+      | false ↦ ids_of-rebased client xs
+    ]
+
+-- the ids that a pull leaves pending
+pub ids_of-left : (ids : Ids) (client : Bytes) (xs : List Mutation)
+    → ids_of client (left_pending ids xs) ≡ filter (λ i. nat_lt (confirmed_id ids client) i) (ids_of client xs)
+ids_of-left ids client xs = ids_of-rebased client (unconfirmed ids xs) ∙ ids_of-unconfirmed ids client xs
 
 text_cmp-IsAntisymmetric : finite.IsAntisymmetric (slice_cmp nat_cmp)
 text_cmp-IsAntisymmetric = finite.slice_cmp-IsAntisymmetric finite.nat_cmp-IsAntisymmetric
@@ -116,9 +131,9 @@ overwritten-≤ (c ∷ cs) all ids h client =
 
 -- a pull that is applied keeps the ids in order
 pub after_pull-IdsFollow : (ids : Ids) (changes : List Confirmed) (xs : List Mutation) → IdsFollow ids xs → goes_back ids changes ≡ false → AllByRecursion (λ c. c.id ≤ 2 ^ 52) changes
-    → IdsFollow (overwritten ids changes) (unconfirmed (overwritten ids changes) xs)
+    → IdsFollow (overwritten ids changes) (left_pending (overwritten ids changes) xs)
 after_pull-IdsFollow ids changes xs ok forward small = record {
-  pending_ids = λ client. subst (Follows _) (sym (ids_of-unconfirmed (overwritten ids changes) client xs))
+  pending_ids = λ client. subst (Follows _) (sym (ids_of-left (overwritten ids changes) client xs))
       (Follows-above (confirmed_id (overwritten ids changes) client) (confirmed_id ids client) (ids_of client xs) (ok.pending_ids client) (overwritten-≥ ids changes forward ids (λ k. omega arith) client));
   bounded = λ client. overwritten-≤ changes small ids ok.bounded client;
 }
@@ -168,8 +183,8 @@ new_kept means view pulled ids xs v p i x =
 
 -- and so does one after a pull
 pub pull_kept : (means : Meanings) (view pulled : Entries) (old ids : Ids) (changes : List Confirmed) (xs ys : List Mutation) → IdsFollow old xs → goes_back old changes ≡ false → All (λ c. c.id ≤ 2 ^ 52) changes
-    → view ≡ replayed means pulled ys → ids ≡ overwritten old changes → ys ≡ unconfirmed ids xs → IsKept means view pulled ids ys
+    → view ≡ replayed means pulled ys → ids ≡ overwritten old changes → ys ≡ left_pending ids xs → IsKept means view pulled ids ys
 pull_kept means view pulled old ids changes xs ys ok forward small v i y = record {
   replay = v;
-  ids = subst (IdsFollow ids) (sym y) (subst (λ ids. IdsFollow ids (unconfirmed ids xs)) (sym i) (after_pull-IdsFollow old changes xs ok forward (recursion_from_All _ changes small)));
+  ids = subst (IdsFollow ids) (sym y) (subst (λ ids. IdsFollow ids (left_pending ids xs)) (sym i) (after_pull-IdsFollow old changes xs ok forward (recursion_from_All _ changes small)));
 }

@@ -2,8 +2,8 @@
 use Rattle.std.proofs.Common.{◌≡◌, List, [], ◌∷◌, ◌++◌, refl, sym, ap, ◌∙◌}
 use Rattle.group_history.specs.declared.mutations.Mutation.{Mutation}
 use Rattle.std.specs.Prelude.{Ok}
-use Rattle.group_history.specs.Map.{Bytes, Entries}
-use Rattle.group_history.specs.Meaning.{Meaning, Meanings, unknown, refuses, done, left_by}
+use Rattle.group_history.specs.Map.{Entries}
+use Rattle.group_history.specs.Meaning.{Meaning, Meanings, unknown, refuses, done, left_by, meaning_of}
 use Rattle.group_history.specs.State.{replayed, replayed_once}
 use Rattle.group_history.specs.Mutating.{map_of}
 
@@ -18,9 +18,9 @@ left_of_done (refuses code) m left e = cc
 left_of_done (done n) m left e = cc
 
 -- the map that a mutation leaves of what is shown is what is shown with it at the end
-pub shown_with : (means : Meanings) (m : Entries) (xs ys : List Mutation) (x : Mutation) (name args : Bytes) (shown left : Entries)
-    → map_of (means name args shown) ≡ Ok left → ys ≡ xs ++ x ∷ [] → shown ≡ replayed means m xs → name ≡ x.name → args ≡ x.args → left ≡ replayed means m ys
-shown_with means m xs ys x name args shown left leaves more is same_name same_args =
-    left_of_done (means name args shown) shown left leaves
-    ∙ (λ i. left_by (means (same_name i) (same_args i) (is i)) (is i))
+pub shown_with : (means : Meanings) (m : Entries) (xs ys : List Mutation) (x : Mutation) (shown left : Entries)
+    → map_of (meaning_of means x shown) ≡ Ok left → ys ≡ xs ++ x ∷ [] → shown ≡ replayed means m xs → left ≡ replayed means m ys
+shown_with means m xs ys x shown left leaves more is =
+    left_of_done (meaning_of means x shown) shown left leaves
+    ∙ (λ i. left_by (meaning_of means x (is i)) (is i))
     ∙ sym (ap (replayed means m) more ∙ replayed-append means m xs (x ∷ []))

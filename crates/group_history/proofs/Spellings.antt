@@ -8,7 +8,7 @@ use Rattle.group_history.specs.declared.nodes.Node.TheVariants as node
 use Rattle.group_history.specs.Map.{Entries}
 use Rattle.group_history.specs.Rows.{Rows}
 use Rattle.group_history.specs.Folds.{answer, joined}
-use Rattle.group_history.specs.Spelling.{Contents, Spelled, Segment, Version, as_segment, as_version, segment, version, spelled_by, spelled, segment_at, version_at, rows_at, rows_if, map_at, map_of, chunk_in, commit_in}
+use Rattle.group_history.specs.Spelling.{Contents, Spelled, Segment, Version, as_segment, as_version, as_snapshot, segment, version, spelled_by, spelled, segment_at, version_at, snapshot_at, rows_at, rows_if, map_at, map_of, chunk_in, commit_in, snapshot_of}
 use Rattle.group_history.proofs.Folding.{and_then-some, folded_stays, folded_at, answer_within, length_folded, seam, folded_more}
 
 pub segment-stays : (xs ys : Contents) (k : ℕ) (s : Segment) → segment_at xs k ≡ Some s → segment_at (xs ++ ys) k ≡ Some s
@@ -20,6 +20,11 @@ pub version-stays : (xs ys : Contents) (k : ℕ) (v : Version) → version_at xs
 version-stays xs ys k v h =
     let m = and_then-some (answer (spelled xs) k) as_version v h in
     ap (λ o. option_and_then as_version o) (folded_stays spelled_by xs ys k m.0 m.1) ∙ m.2
+
+pub snapshot-stays : (xs ys : Contents) (k j : ℕ) → snapshot_at xs k ≡ Some j → snapshot_at (xs ++ ys) k ≡ Some j
+snapshot-stays xs ys k j h =
+    let m = and_then-some (answer (spelled xs) k) as_snapshot j h in
+    ap (λ o. option_and_then as_snapshot o) (folded_stays spelled_by xs ys k m.0 m.1) ∙ m.2
 
 pub rows-stay : (xs ys : Contents) (depth k : ℕ) (rows : Rows) → rows_at xs depth k ≡ Some rows → rows_at (xs ++ ys) depth k ≡ Some rows
 rows-stay xs ys depth k rows h =
@@ -46,9 +51,9 @@ spelled-content ns k x h =
     let f = folded_at spelled_by ns k n.0 n.1 in
     (n.0, f.0, n.1, sym f.1 ∙ h, f.2)
 
-no_commit : (o : Option Version) (x : Spelled) (s : Segment) → option_map version o ≡ Some x → as_segment x ≡ Some s → ⊥
-no_commit None x s h g = cc
-no_commit (Some v) x s h g = let e : x ≡ version v = cc h in let bad = ap as_segment (sym e) ∙ g in cc bad
+no_commit : (o : Option Version) (k : ℕ) (x : Spelled) (s : Segment) → option_map (λ v. version v k) o ≡ Some x → as_segment x ≡ Some s → ⊥
+no_commit None k x s h g = cc
+no_commit (Some v) k x s h g = let e : x ≡ version v k = cc h in let bad = ap as_segment (sym e) ∙ g in cc bad
 
 no_chunk : (o : Option Segment) (x : Spelled) (v : Version) → option_map segment o ≡ Some x → as_version x ≡ Some v → ⊥
 no_chunk None x v h g = cc
@@ -58,9 +63,9 @@ a_segment : (o : Option Segment) (x : Spelled) (s : Segment) → option_map segm
 a_segment None x s h g = absurd cc
 a_segment (Some r) x s h g = let e : x ≡ segment r = cc h in ap as_segment (sym e) ∙ g
 
-a_version : (o : Option Version) (x : Spelled) (v : Version) → option_map version o ≡ Some x → as_version x ≡ Some v → o ≡ Some v
-a_version None x v h g = absurd cc
-a_version (Some r) x v h g = let e : x ≡ version r = cc h in ap as_version (sym e) ∙ g
+a_version : (o : Option Version) (k : ℕ) (x : Spelled) (v : Version) → option_map (λ v. version v k) o ≡ Some x → as_version x ≡ Some v → o ≡ Some v
+a_version None k x v h g = absurd cc
+a_version (Some r) k x v h g = let e : x ≡ version r k = cc h in ap as_version (sym e) ∙ g
 
 -- what a stamp has that spells rows: a chunk, and what this makes of the stamps before it
 pub segment-content : (ns : Contents) (k : ℕ) (s : Segment) → segment_at ns k ≡ Some s
@@ -76,7 +81,7 @@ segment-content ns k s h =
         → (c : Chunk ℕ) × (pre : Contents) × (slice_get ns k ≡ Some (node.Chunk c)) × (chunk_in (spelled pre) c ≡ Some s)
         × ((j : ℕ) (y : Spelled) → answer (spelled pre) j ≡ Some y → (j < k) × (answer (spelled ns) j ≡ Some y))
     by (node.Chunk c) pre x g at is below = (c, pre, at, a_segment (chunk_in (spelled pre) c) x s is g, below)
-    by (node.Commit c) pre x g at is below = absurd (no_commit (commit_in (spelled pre) c) x s is g)
+    by (node.Commit c) pre x g at is below = absurd (no_commit (commit_in (spelled pre) c) (snapshot_of (length (spelled pre)) c.kind) x s is g)
 
 -- what a stamp has that spells a version: a commit
 pub version-content : (ns : Contents) (k : ℕ) (v : Version) → version_at ns k ≡ Some v
@@ -91,13 +96,19 @@ version-content ns k v h =
         → ((j : ℕ) (y : Spelled) → answer (spelled pre) j ≡ Some y → (j < k) × (answer (spelled ns) j ≡ Some y))
         → (c : Commit ℕ) × (pre : Contents) × (slice_get ns k ≡ Some (node.Commit c)) × (commit_in (spelled pre) c ≡ Some v)
         × ((j : ℕ) (y : Spelled) → answer (spelled pre) j ≡ Some y → (j < k) × (answer (spelled ns) j ≡ Some y))
-    by (node.Commit c) pre x g at is below = (c, pre, at, a_version (commit_in (spelled pre) c) x v is g, below)
+    by (node.Commit c) pre x g at is below = (c, pre, at, a_version (commit_in (spelled pre) c) (snapshot_of (length (spelled pre)) c.kind) x v is g, below)
     by (node.Chunk c) pre x g at is below = absurd (no_chunk (chunk_in (spelled pre) c) x v is g)
 
+-- there are as many answers as contents
+pub length-spelled : (cs : Contents) → length (spelled cs) ≡ length cs
+length-spelled cs = let l = length_folded spelled_by [] cs in omega (arith, l)
+
 -- the newest content of a list spells what it makes of those before it
-pub version-newest : (cs : Contents) (c : Node ℕ) → version_at (cs ++ c ∷ []) (length cs) ≡ option_and_then as_version (spelled_by (spelled cs) c)
-version-newest cs c =
+pub spelled-newest : (cs : Contents) (c : Node ℕ) → answer (spelled (cs ++ c ∷ [])) (length cs) ≡ spelled_by (spelled cs) c
+spelled-newest cs c =
     let done = spelled cs in
-    let long : length done ≡ length cs = let l = length_folded spelled_by [] cs in omega (arith, l) in
-    ap (λ w. option_and_then as_version (joined (slice_get w (length cs)))) (folded_more spelled_by [] cs (c ∷ []))
-    ∙ subst (λ k. option_and_then as_version (joined (slice_get (done ++ spelled_by done c ∷ []) k)) ≡ option_and_then as_version (spelled_by done c)) long (ap (λ o. option_and_then as_version (joined o)) (seam done (spelled_by done c) []))
+    ap (λ w. joined (slice_get w (length cs))) (folded_more spelled_by [] cs (c ∷ []))
+    ∙ subst (λ k. joined (slice_get (done ++ spelled_by done c ∷ []) k) ≡ spelled_by done c) (length-spelled cs) (ap joined (seam done (spelled_by done c) []))
+
+pub version-newest : (cs : Contents) (c : Node ℕ) → version_at (cs ++ c ∷ []) (length cs) ≡ option_and_then as_version (spelled_by (spelled cs) c)
+version-newest cs c = ap (λ o. option_and_then as_version o) (spelled-newest cs c)

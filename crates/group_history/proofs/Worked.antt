@@ -21,7 +21,7 @@ worked = record {
   patch_in_order = refl;
   scan_after_put = simp (entries-insert {X = List ℕ} nat_list_cmp_total, entries-empty) refl;
   optimistic = simp gets refl;
-  rebased = simp gets refl;
+  replayed_on_pull = simp gets refl;
   confirmed = simp gets refl;
   cleared_under_pending = (simp gets refl, simp gets refl, simp gets refl);
   refused_while_cleared = simp gets refl;
@@ -30,4 +30,7 @@ worked = record {
   cookies_in_order = (cookies_read.0, cookies_read.1, cookies_read.2, refl, refl);
   same_or_not_new = (refl, refl, refl);
   id_went_back = simp gets refl;
+  reasons = (simp gets refl, simp gets refl);
+  closes = (refl, simp gets refl);
+  closed_for_all = (refl, refl);
 }

@@ -1,29 +1,31 @@
 -- Worked examples, computed by the definitions alone.
-use Rattle.std.specs.Prelude.{◌≡◌, ℕ, ◌+◌, List, [], ◌∷◌, Option, option_map, Some, None, Ok, Err, codes, if◌then◌else◌, pos}
+use Rattle.std.specs.Prelude.{◌≡◌, false, ℕ, ◌+◌, List, [], ◌∷◌, Option, option_map, Some, None, Ok, Err, codes, if◌then◌else◌, pos}
 use Rattle.std.specs.declared.cmp.Ordering.TheVariants.{Less, Equal}
 use Rattle.std.specs.FinMap as finite
 use Rattle.group_history.specs.declared.cookies.Order.{Order}
 use Rattle.group_history.specs.declared.cookies.Order.TheVariants as order
 use Rattle.group_history.specs.declared.mutations.Mutation.{Mutation}
+use Rattle.group_history.specs.declared.mutations.Reason.{Reason}
+use Rattle.group_history.specs.declared.mutations.Reason.TheVariants.{Initial, Rebase}
 use Rattle.group_history.specs.declared.responses.Patch.{Patch}
 use Rattle.group_history.specs.declared.responses.Patch.TheVariants.{Put, Clear}
 use Rattle.group_history.specs.declared.responses.Confirmed.{Confirmed}
 use Rattle.group_history.specs.declared.responses.Response.TheVariants as response
 use Rattle.group_history.specs.declared.responses.Ended.TheVariants.{Same}
-use Rattle.group_history.specs.declared.refusals.Refusal.TheVariants.{Refused, Overtaken, CookieWentBack, CookieNotNew, IdWentBack}
+use Rattle.group_history.specs.declared.refusals.Refusal.TheVariants.{Refused, Overtaken, CookieWentBack, CookieNotNew, IdWentBack, StateNotFound, Closed}
 use Rattle.group_history.specs.declared.scans.Start.TheVariants.{After}
 use Rattle.group_history.specs.Map.{Bytes, Entries, patched, same_text}
 use Rattle.group_history.specs.Meaning.{Meaning, Meanings, unknown, refuses, done}
 use Rattle.group_history.specs.Cookies.{Cookie, order_cmp, cookie_at}
 use Rattle.group_history.specs.Pull.{Pull}
-use Rattle.group_history.specs.State.{State, opening}
+use Rattle.group_history.specs.State.{State, state, opening, made, rebased}
 use Rattle.group_history.specs.Scans.{rows_of}
 use Rattle.group_history.specs.Queries.{get_at}
 use Rattle.group_history.specs.Mutating.{mutate_reply, after_mutate}
-use Rattle.group_history.specs.Pulling.{end_reply, after_pull}
+use Rattle.group_history.specs.Pulling.{end_reply, after_pull, after_closing}
 
--- Two mutators to try the definitions with: `up` raises the last digit of the text at `n`, and refuses with 2 where there is none;
--- `note` puts its arguments at `log`.
+-- Three mutators to try the definitions with: `up` raises the last digit of the text at `n`, and refuses with 2 where there is none;
+-- `note` puts its arguments at `log`, `tag` puts its reason at `t`.
 abbrev pub raised : Bytes → Bytes
 raised [] = []
 raised (x ∷ []) = (x + 1) ∷ []
@@ -33,20 +35,28 @@ abbrev pub up_at : Option Bytes → Entries → Meaning
 up_at None m = refuses 2
 up_at (Some text) m = done (finite.insert m (codes "n") (raised text))
 
+abbrev pub tagged : Reason → Bytes
+tagged Initial = codes "i"
+tagged Rebase = codes "r"
+
 abbrev pub trial : Meanings
-trial name args m =
+trial name args why m =
     if same_text name (codes "up") then up_at (finite.get m (codes "n")) m
-    else (if same_text name (codes "note") then done (finite.insert m (codes "log") args) else unknown)
+    else (if same_text name (codes "note") then done (finite.insert m (codes "log") args)
+    else (if same_text name (codes "tag") then done (finite.insert m (codes "t") (tagged why)) else unknown))
 
 -- the client `a` makes its mutation of this id
-abbrev pub made : ℕ → Bytes → Bytes → Mutation
-made id name args = record { client = codes "a"; id = id; name = name; args = args; timestamp = 0 }
+abbrev pub made_by_a : ℕ → Bytes → Bytes → Mutation
+made_by_a id name args = made (codes "a") id name args 0
 
 abbrev pub up : ℕ → Mutation
-up id = made id (codes "up") (codes "[]")
+up id = made_by_a id (codes "up") (codes "[]")
 
 abbrev pub note : ℕ → Mutation
-note id = made id (codes "note") (codes "1")
+note id = made_by_a id (codes "note") (codes "1")
+
+abbrev pub tag : ℕ → Mutation
+tag id = made_by_a id (codes "tag") (codes "[]")
 
 -- the cookie of a number of one digit
 abbrev pub cookie : ℕ → Cookie
@@ -81,10 +91,10 @@ pub record WorkedExamples : Type 0 where
   pub patch_in_order : patched finite.empty (Put (codes "a") (codes "1") ∷ Clear ∷ Put (codes "b") (codes "2") ∷ []) ≡ finite.insert finite.empty (codes "b") (codes "2")
   pub scan_after_put : rows_of (record { prefix = codes "k"; start = After (codes "k1"); limit = Some 1 }) (patched finite.empty (Put (codes "k2") (codes "2") ∷ Put (codes "k1") (codes "1") ∷ Put (codes "k3") (codes "3") ∷ [])) ≡ (codes "k2", codes "2") ∷ []
   pub optimistic : get_at trial raised_five (codes "n") ≡ Some (codes "6")
-  pub rebased : get_at trial (after_pull raised_five (pull 2 [] (put_n (codes "10")))) (codes "n") ≡ Some (codes "11")
-  pub confirmed : after_pull raised_five (pull 2 (confirms 1) (put_n (codes "11"))) ≡ record { pulled = finite.insert (finite.insert finite.empty (codes "n") (codes "5")) (codes "n") (codes "11"); cookie = cookie 2; confirmed = finite.insert finite.empty (codes "a") 1; pending = [] }
-  pub cleared_under_pending : (get_at trial cleared (codes "n") ≡ None) × (get_at trial cleared (codes "log") ≡ Some (codes "1")) × (cleared.pending ≡ up 1 ∷ note 2 ∷ [])
-  pub refused_while_cleared : mutate_reply trial cleared (codes "a") 2 (codes "up") (codes "[]") ≡ Err (Refused 2)
+  pub replayed_on_pull : get_at trial (after_pull raised_five (pull 2 [] (put_n (codes "10")))) (codes "n") ≡ Some (codes "11")
+  pub confirmed : after_pull raised_five (pull 2 (confirms 1) (put_n (codes "11"))) ≡ state (finite.insert (finite.insert finite.empty (codes "n") (codes "5")) (codes "n") (codes "11")) (cookie 2) (finite.insert finite.empty (codes "a") 1) [] false
+  pub cleared_under_pending : (get_at trial cleared (codes "n") ≡ None) × (get_at trial cleared (codes "log") ≡ Some (codes "1")) × (cleared.pending ≡ rebased (up 1) ∷ rebased (note 2) ∷ [])
+  pub refused_while_cleared : mutate_reply trial cleared 2 (up 3) ≡ Err (Refused 2)
   pub comes_back : get_at trial (after_pull cleared (pull 3 [] (put_n (codes "5")))) (codes "n") ≡ Some (codes "6")
   pub overtaken : end_reply five (codes "null") (response.Ok (pull 2 [] (put_n (codes "6")))) ≡ Err Overtaken
   -- 7 is below "1", which is equal in order to {"order":"1"}
@@ -93,3 +103,8 @@ pub record WorkedExamples : Type 0 where
       × (order_cmp (order.Number (pos 7)) (order.Text (codes "1")) ≡ Less) × (order_cmp (order.Text (codes "1")) (order.Text (codes "1")) ≡ Equal)
   pub same_or_not_new : (end_reply five (codes "1") (response.Ok (pull 1 [] [])) ≡ Ok Same) × (end_reply five (codes "1") (response.Ok (pull 1 [] (put_n (codes "6")))) ≡ Err CookieNotNew) × (end_reply five (codes "1") (response.Ok (pull 0 [] [])) ≡ Err CookieWentBack)
   pub id_went_back : end_reply (after_pull five (pull 2 (confirms 3) [])) (codes "2") (response.Ok (pull 3 (confirms 2) [])) ≡ Err IdWentBack
+  -- a mutator is told why it is run: first by its client, then under each pull that is applied
+  pub reasons : (get_at trial (after_mutate five (tag 1)) (codes "t") ≡ Some (codes "i")) × (get_at trial (after_pull (after_mutate five (tag 1)) (pull 2 [] [])) (codes "t") ≡ Some (codes "r"))
+  -- a response that the server doesn't know the group closes it, whatever the ticket; the view stays
+  pub closes : (end_reply raised_five (codes "null") response.StateNotFound ≡ Err StateNotFound) × (get_at trial (after_closing raised_five) (codes "n") ≡ Some (codes "6"))
+  pub closed_for_all : (mutate_reply trial (after_closing raised_five) 1 (up 2) ≡ Err Closed) × (end_reply (after_closing raised_five) (codes "1") (response.Ok (pull 2 [] [])) ≡ Err Closed)

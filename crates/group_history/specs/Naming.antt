@@ -3,7 +3,8 @@ use Rattle.std.specs.Prelude.{ℕ, ◌+◌, List, [], ◌∷◌, map}
 use Rattle.group_history.specs.declared.nodes.Chunk.{Chunk}
 use Rattle.group_history.specs.declared.nodes.Chunk.TheVariants.{Leaf, Inner}
 use Rattle.group_history.specs.declared.nodes.Commit.{Commit}
-use Rattle.group_history.specs.declared.nodes.Commit.TheVariants.{Snapshot, Local}
+use Rattle.group_history.specs.declared.nodes.Kind.{Kind}
+use Rattle.group_history.specs.declared.nodes.Kind.TheVariants.{Snapshot, Over}
 use Rattle.group_history.specs.declared.nodes.Node.{Node}
 use Rattle.group_history.specs.declared.nodes.Node.TheVariants as node
 use Rattle.group_history.specs.declared.nodes.Child.{Child}
@@ -17,9 +18,12 @@ abbrev pub renamed_chunk : {A B : Type 0} → (A → B) → Chunk A → Chunk B
 renamed_chunk f (Leaf rows) = Leaf rows
 renamed_chunk f (Inner kids) = Inner (map (λ e. (e.0, f e.1)) kids)
 
+abbrev pub renamed_kind : {A B : Type 0} → (A → B) → Kind A → Kind B
+renamed_kind f (Snapshot s) = Snapshot s
+renamed_kind f (Over o) = Over (record { basis = f o.basis; snapshot = f o.snapshot; step = o.step })
+
 abbrev pub renamed_commit : {A B : Type 0} → (A → B) → Commit A → Commit B
-renamed_commit f (Snapshot s) = Snapshot (record { cookie = s.cookie; confirmed = s.confirmed; root = f s.root })
-renamed_commit f (Local l) = Local (record { basis = f l.basis; mutation = l.mutation; root = f l.root })
+renamed_commit f c = record { root = f c.root; kind = renamed_kind f c.kind }
 
 abbrev pub renamed : {A B : Type 0} → (A → B) → Node A → Node B
 renamed f (node.Chunk c) = node.Chunk (renamed_chunk f c)
@@ -30,9 +34,13 @@ abbrev pub chunk_children : {A : Type 0} → Chunk A → List A
 chunk_children (Leaf rows) = []
 chunk_children (Inner kids) = values_of kids
 
+-- the commits that a commit names: its basis, and the snapshot of its chain
+abbrev pub commits_named : {A : Type 0} → Kind A → List A
+commits_named (Snapshot s) = []
+commits_named (Over o) = o.basis ∷ o.snapshot ∷ []
+
 abbrev pub commit_children : {A : Type 0} → Commit A → List A
-commit_children (Snapshot s) = s.root ∷ []
-commit_children (Local l) = l.basis ∷ l.root ∷ []
+commit_children c = c.root ∷ commits_named c.kind
 
 abbrev pub children : {A : Type 0} → Node A → List A
 children (node.Chunk c) = chunk_children c

@@ -7,13 +7,17 @@ use Rattle.std.specs.FinMap as finite
 use Rattle.group_history.specs.declared.nodes.Chunk.{Chunk}
 use Rattle.group_history.specs.declared.nodes.Chunk.TheVariants.{Leaf, Inner}
 use Rattle.group_history.specs.declared.nodes.Commit.{Commit}
-use Rattle.group_history.specs.declared.nodes.Commit.TheVariants.{Snapshot, Local}
+use Rattle.group_history.specs.declared.nodes.Kind.{Kind}
+use Rattle.group_history.specs.declared.nodes.Kind.TheVariants.{Snapshot, Over}
+use Rattle.group_history.specs.declared.nodes.Step.{Step}
+use Rattle.group_history.specs.declared.nodes.Step.TheVariants.{Local, Closed}
 use Rattle.group_history.specs.declared.nodes.Node.{Node}
 use Rattle.group_history.specs.declared.nodes.Node.TheVariants as node
 use Rattle.group_history.specs.Map.{Bytes, Entries, same_text}
 use Rattle.group_history.specs.Rows.{Rows}
-use Rattle.group_history.specs.State.{State, view_of}
+use Rattle.group_history.specs.State.{State, pulled_state, view_of}
 use Rattle.group_history.specs.Mutating.{after_mutate}
+use Rattle.group_history.specs.Pulling.{after_closing}
 use Rattle.group_history.specs.Folds.{folded, answer}
 use Rattle.group_history.specs.Meaning.{Meanings}
 
@@ -33,15 +37,20 @@ pub record Version : Type 0 where
 
 pub data Spelled : Type 0 where
   segment : Segment → Spelled
-  version : Version → Spelled
+  -- a version, and the stamp of the snapshot at which its chain begins
+  version : Version → ℕ → Spelled
 
 abbrev pub as_segment : Spelled → Option Segment
 as_segment (segment s) = Some s
-as_segment (version v) = None
+as_segment (version v k) = None
 
 abbrev pub as_version : Spelled → Option Version
 as_version (segment s) = None
-as_version (version v) = Some v
+as_version (version v k) = Some v
+
+abbrev pub as_snapshot : Spelled → Option ℕ
+as_snapshot (segment s) = None
+as_snapshot (version v k) = Some k
 
 -- what the chunk, or the commit, of a stamp spells
 abbrev pub segment_in : List (Option Spelled) → ℕ → Option Segment
@@ -49,6 +58,10 @@ segment_in done k = option_and_then as_segment (answer done k)
 
 abbrev pub version_in : List (Option Spelled) → ℕ → Option Version
 version_in done k = option_and_then as_version (answer done k)
+
+-- the snapshot at which the chain of a commit begins
+abbrev pub snapshot_in : List (Option Spelled) → ℕ → Option ℕ
+snapshot_in done k = option_and_then as_snapshot (answer done k)
 
 -- the rows of a chunk, if it is so deep
 abbrev pub rows_if : ℕ → Segment → Option Rows
@@ -94,19 +107,37 @@ map_of s = if finite.is_sorted (slice_cmp nat_cmp) s.rows then Some (finite.from
 abbrev pub map_in : List (Option Spelled) → ℕ → Option Entries
 map_in done root = option_and_then map_of (segment_in done root)
 
--- a snapshot spells a state with nothing pending, a local commit its basis' state with one mutation more
-abbrev pub commit_in : List (Option Spelled) → Commit ℕ → Option Version
-commit_in done (Snapshot s) = option_and_then (λ m.
-    Some (record { state = record { pulled = m; cookie = s.cookie; confirmed = s.confirmed; pending = [] }; read = m }))
-    (map_in done s.root)
-commit_in done (Local l) = option_and_then (λ v. option_and_then (λ m.
-    Some (record { state = after_mutate v.state l.mutation; read = m }))
-    (map_in done l.root)) (version_in done l.basis)
+-- what a basis spells, if its chain begins at this snapshot
+abbrev pub basis_in : List (Option Spelled) → ℕ → ℕ → Option Version
+basis_in done basis snapshot = option_and_then (λ k. if k == snapshot then version_in done basis else None) (snapshot_in done basis)
 
--- what a content spells, by what those before it spell
+-- the state after what a commit adds to its basis
+abbrev pub stepped : State → Step → State
+stepped s (Local x) = after_mutate s x
+stepped s Closed = after_closing s
+
+-- the state after one step more; a closed one has none
+abbrev pub state_over : Step → Version → Option State
+state_over step v = if v.state.closed then None else Some (stepped v.state step)
+
+-- a snapshot spells a state with nothing pending, a commit over a basis the basis's state after one step more
+abbrev pub state_in : List (Option Spelled) → Kind ℕ → Entries → Option State
+state_in done (Snapshot s) m = Some (pulled_state m s.cookie s.confirmed)
+state_in done (Over o) m = option_and_then (state_over o.step) (basis_in done o.basis o.snapshot)
+
+-- a commit spells that state, and the map of its root for queries
+abbrev pub commit_in : List (Option Spelled) → Commit ℕ → Option Version
+commit_in done c = option_and_then (λ m. option_map (λ s. record { state = s; read = m }) (state_in done c.kind m)) (map_in done c.root)
+
+-- the snapshot of a commit's chain; a snapshot of this stamp begins one
+abbrev pub snapshot_of : ℕ → Kind ℕ → ℕ
+snapshot_of own (Snapshot s) = own
+snapshot_of own (Over o) = o.snapshot
+
+-- what a content spells, by what those before it spell; its stamp is their number
 abbrev pub spelled_by : List (Option Spelled) → Node ℕ → Option Spelled
 spelled_by done (node.Chunk c) = option_map segment (chunk_in done c)
-spelled_by done (node.Commit c) = option_map version (commit_in done c)
+spelled_by done (node.Commit c) = option_map (λ v. version v (snapshot_of (length done) c.kind)) (commit_in done c)
 
 -- what each stamp spells
 abbrev pub spelled : Contents → List (Option Spelled)
@@ -123,6 +154,10 @@ map_at contents root = map_in (spelled contents) root
 
 abbrev pub version_at : Contents → ℕ → Option Version
 version_at contents k = version_in (spelled contents) k
+
+-- the stamp of the snapshot at which the chain of this commit begins
+abbrev pub snapshot_at : Contents → ℕ → Option ℕ
+snapshot_at contents k = snapshot_in (spelled contents) k
 
 -- the version of a state: queries read the state's view
 abbrev pub version_of : Meanings → State → Version

@@ -1,4 +1,4 @@
-//! The two kinds of change of a group, and how each is answered.
+//! The kinds of change of a group, and how each is answered.
 use crate::cookies::Cookie;
 use crate::mutations::Mutation;
 use crate::responses::{Ended, PullOk};
@@ -11,6 +11,10 @@ pub enum Change {
 
     /// An applied end of a pull: the ticket's cookie, and the response.
     Pulled(Cookie, PullOk),
+
+    /// An end of a pull whose response says that the server doesn't know the group. Nothing is accepted
+    /// after it.
+    Closed,
 }
 
 /// The reply to a change.
@@ -21,6 +25,9 @@ pub enum Reply {
 
     /// How an end of a pull was answered.
     Ended(Ended),
+
+    /// An end of a pull was refused with StateNotFound, and closed the group.
+    StateNotFound,
 }
 
 impl Change {
@@ -34,6 +41,7 @@ impl Change {
         match self {
             Change::Mutated(mutation) => Reply::Id(mutation.id),
             Change::Pulled(_, _) => Reply::Ended(Ended::Applied),
+            Change::Closed => Reply::StateNotFound,
         }
     }
 }

@@ -8,6 +8,7 @@
 #![tactic(auto)]
 
 mod changes;
+mod confirmed;
 mod cookies;
 mod json;
 mod laws;
@@ -25,14 +26,15 @@ mod text_map;
 mod texts;
 
 pub use changes::{Change, Reply};
+pub use confirmed::ConfirmedIds;
 pub use cookies::{Cookie, Order, cookie_cmp};
 pub use json::{Json, is_whole, nests_within, read_value};
 pub use laws::{record_laws, worked_examples};
-pub use mutations::Mutation;
-pub use mutators::{Mutators, Ran, Stop, WriteView};
-pub use nodes::{Child, Chunk, Commit, Inner, Keys, Leaf, Local, Node, Snapshot};
+pub use mutations::{Mutation, Reason};
+pub use mutators::{Means, Mutators, Ran, Stop, WriteView};
+pub use nodes::{Child, Chunk, Commit, Inner, Keys, Kind, Leaf, Node, Over, Snapshot, Step};
 pub use plain::PlainGroup;
-pub use refs::Ref;
+pub use refs::{MAX_SEATS, MAX_SLOTS, Ref, STAMP_BITS, STAMPS};
 pub use refusals::Refusal;
 pub use responses::{Confirmed, Ended, Patch, PullOk, Response, VersionKind};
 pub use scans::{Scan, Start};

@@ -1,12 +1,23 @@
-//! A mutation as it waits for the server.
+//! A mutation as it waits for the server, and why its mutator is run.
 ghost use Rattle.std.specs.Prelude.{◌≡◌, IfOk};
+ghost use Rattle.group_history.specs.State.{made, rebased};
 
 use crate::json::Json;
 use crate::texts::Text;
 use std::alloc::AllocError;
 
+/// Why a mutator is run (Replicache, `WriteTransaction`, "reason").
+#[derive(Clone, Copy, Debug, PartialEq, Eq)]
+pub enum Reason {
+    /// The client makes the mutation.
+    Initial,
+
+    /// A pull was applied under the mutation, which is replayed on what was pulled.
+    Rebase,
+}
+
 /// A mutation that a client made and the server has not confirmed. Its fields are those of the Push
-/// Endpoint Reference, version 1.
+/// Endpoint Reference, version 1, and the reason with which it is replayed, which no request shows.
 #[derive(Clone, Drop)]
 pub struct Mutation {
     /// The client's ID.
@@ -18,10 +29,12 @@ pub struct Mutation {
     pub args: Json,
     /// Milliseconds since the epoch, as the caller handed it in.
     pub timestamp: u64,
+    /// Initial until a pull is applied under it.
+    pub reason: Reason,
 }
 
 impl Mutation {
-    /// A mutation of these parts.
+    /// A mutation that its client makes.
     pub fn new(
         client: &Text,
         id: u64,
@@ -29,7 +42,7 @@ impl Mutation {
         args: &Json,
         timestamp: u64,
     ) -> Result<Mutation, AllocError>
-        ensures { IfOk result (λ x. x ≡ record { client = client.now; id = id; name = name.now; args = args.now; timestamp = timestamp }) }
+        ensures { IfOk result (λ x. x ≡ made client.now id name.now args.now timestamp) }
     {
         let client = client.clone()?;
         let name = name.clone()?;
@@ -40,6 +53,16 @@ impl Mutation {
             name,
             args,
             timestamp,
+            reason: Reason::Initial,
         })
+    }
+
+    /// The mutation as an applied pull leaves it: to be replayed for the reason Rebase.
+    pub fn rebased(&self) -> Result<Mutation, AllocError>
+        ensures { IfOk result (λ x. x ≡ rebased self.now) }
+    {
+        let mut mutation = self.clone()?;
+        mutation.reason = Reason::Rebase;
+        Ok(mutation)
     }
 }

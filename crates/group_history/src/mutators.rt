@@ -10,6 +10,7 @@ ghost use Rattle.group_history.specs.declared.mutators.Stop.{Stop};
 ghost use Rattle.group_history.specs.declared.mutators.Stop.TheVariants.{NoMemory};
 
 use crate::json::Json;
+use crate::mutations::Reason;
 use crate::refusals::Refusal;
 use crate::scans::Scan;
 use crate::texts::Text;
@@ -85,19 +86,23 @@ pub trait WriteView {
         ensures stopped { IfErr result stops };
 }
 
-/// The mutators of an application.
-pub trait Mutators: Sync {
-    /// What they mean.
+/// What an application's mutators mean. What runs none of them asks for this alone.
+pub trait Means {
+    /// By name, arguments and reason, at a map.
     ghost means: { Meanings };
+}
 
-    /// Runs one. What a refusing one wrote is thrown away by the caller.
+/// The mutators of an application.
+pub trait Mutators: Means + Sync {
+    /// Runs one, for this reason. What a refusing one wrote is thrown away by the caller.
     fn run<V: WriteView>(
         &self,
         alloc: Global,
         name: &str,
         args: &Json,
+        why: Reason,
         view: &mut V,
     ) -> Result<Ran, Stop>
-        ensures ran { IfOk result (λ ran. RunsAs (means name.now args.now (V.contents view.old)) ran (V.contents view.new)) }
+        ensures ran { IfOk result (λ ran. RunsAs (Self.means name.now args.now why (V.contents view.old)) ran (V.contents view.new)) }
         ensures stopped { IfErr result (λ stop. (stop ≡ NoMemory) ⊎ V.stops stop) };
 }

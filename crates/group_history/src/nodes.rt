@@ -5,11 +5,11 @@
 ghost use Rattle.std.specs.Prelude.{◌≡◌, ◌≤◌, length};
 ghost use Rattle.std.specs.Arc.{arc_value};
 
+use crate::confirmed::ConfirmedIds;
 use crate::cookies::Cookie;
 use crate::json::Json;
 use crate::mutations::Mutation;
 use crate::refs::Ref;
-use crate::text_map::TextMap;
 use crate::texts::Text;
 use std::marker::Model;
 use std::sync::Arc;
@@ -152,30 +152,44 @@ pub enum Chunk<R> {
     Inner(Inner<R>),
 }
 
-/// A commit without a basis: what the server last sent.
+/// A snapshot: what the server last sent, beside the pulled map.
 #[derive(Drop)]
-pub struct Snapshot<R> {
+pub struct Snapshot {
     pub cookie: Cookie,
-    /// Each client's confirmed id.
-    pub confirmed: TextMap<u64>,
-    /// The pulled map's root.
-    pub root: R,
+    pub confirmed: ConfirmedIds,
 }
 
-/// A commit that adds one mutation to its basis.
+/// What a commit adds to its basis.
 #[derive(Drop)]
-pub struct Local<R> {
+pub enum Step {
+    /// A mutation, which is pending at it.
+    Local(Mutation),
+
+    /// The end of a pull that closed the group. What queries read stays as it was.
+    Closed,
+}
+
+/// A commit over another one.
+#[derive(Drop)]
+pub struct Over<R> {
     /// The commit before it.
     pub basis: R,
-    pub mutation: Mutation,
-    /// The root of the map after the mutation.
-    pub root: R,
+    /// The snapshot at which its chain begins: the basis's own, or the basis where that is one.
+    pub snapshot: R,
+    pub step: Step,
 }
 
 #[derive(Drop)]
-pub enum Commit<R> {
-    Snapshot(Snapshot<R>),
-    Local(Local<R>),
+pub enum Kind<R> {
+    Snapshot(Snapshot),
+    Over(Over<R>),
+}
+
+/// A commit: the root of the map that queries read at it, and what it is.
+#[derive(Drop)]
+pub struct Commit<R> {
+    pub root: R,
+    pub kind: Kind<R>,
 }
 
 /// What lies in a slot, or is drafted to lie there.

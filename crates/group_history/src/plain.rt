@@ -4,14 +4,15 @@
 //! view, so that a query is one look-up. Its invariant (`IsKept`) says that the view is the replay of what
 //! is pending, and that each client's pending ids are the numbers that follow its confirmed id. So the next
 //! id fits 64 bits with no bound asked of the caller.
-ghost use Rattle.std.specs.Prelude.{◌≡◌, false, IfOk, IfErr, OnOk, OnErr};
+ghost use Rattle.std.specs.Prelude.{◌≡◌, ◌+◌, false, Ok, IfOk, IfErr, OnOk, OnErr};
 ghost use Rattle.std.specs.Option.{option_copied};
 ghost use Rattle.group_history.specs.declared.refusals.Refusal.TheVariants.{NoMemory};
-ghost use Rattle.group_history.specs.Answers.{Answers};
-ghost use Rattle.group_history.specs.State.{opening, last_id, view_of};
+ghost use Rattle.group_history.specs.Answers.{Answers, Refuses};
+ghost use Rattle.group_history.specs.Meaning.{meaning_of};
+ghost use Rattle.group_history.specs.State.{opening, made, last_id, view_of};
 ghost use Rattle.group_history.specs.Queries.{get_at, has_at, rows_at, is_empty_at};
-ghost use Rattle.group_history.specs.Mutating.{mutate_reply, left_by_mutate, map_of};
-ghost use Rattle.group_history.specs.Pulling.{after_pull, end_reply, left_by_end, goes_back};
+ghost use Rattle.group_history.specs.Mutating.{mutate_reply, after_mutate, left_by_mutate, map_of};
+ghost use Rattle.group_history.specs.Pulling.{after_pull, end_at, end_reply, left_at_end, left_by_end, goes_back};
 
 use crate::cookies::{Cookie, cookie_cmp};
 use crate::json::Json;
@@ -36,12 +37,13 @@ pub struct PlainGroup<M: Mutators> {
     cookie: Cookie,
     confirmed: TextMap<u64>,
     pending: Vec<Mutation>,
+    closed: bool,
     view: TextMap<Json>,
     mutators: PhantomData<M>,
 }
 
 impl<M: Mutators> Model for PlainGroup<M> {
-    ghost use Rattle.group_history.specs.State.{State};
+    ghost use Rattle.group_history.specs.State.{State, state};
     ghost use Rattle.group_history.specs.Ids.{IsKept};
     ghost use Rattle.std.specs.Ordering.{nat_cmp};
     ghost use Rattle.std.specs.Cmp.Lexicographic.{slice_cmp};
@@ -52,13 +54,13 @@ impl<M: Mutators> Model for PlainGroup<M> {
 
     ghost coded = { Prim.hlevel (codes, finite.code {R = slice_cmp nat_cmp} (coded_list coded_ℕ) (coded_list coded_ℕ), finite.code {R = slice_cmp nat_cmp} (coded_list coded_ℕ) coded_ℕ) };
 
-    ghost view = { λ g. record { pulled = g.pulled; cookie = g.cookie; confirmed = g.confirmed; pending = g.pending.items } };
+    ghost view = { λ g. state g.pulled g.cookie g.confirmed g.pending.items g.closed };
 
     ghost invariant = { λ g. IsKept M.means g.view g.pulled g.confirmed g.pending.items };
 }
 
 impl<M: Mutators> PlainGroup<M> {
-    /// A new group: nothing is pulled, nothing is pending, and the cookie is null.
+    /// A new group: nothing is pulled, nothing is pending, the cookie is null, and it is open.
     pub fn new(alloc: Global) -> Result<PlainGroup<M>, Refusal>
         ensures ok { IfOk result (λ g. g ≡ opening) }
         ensures err { IfErr result (λ e. e ≡ NoMemory) }
@@ -69,6 +71,7 @@ impl<M: Mutators> PlainGroup<M> {
             cookie: Cookie::null(alloc)?,
             confirmed: TextMap::new(alloc),
             pending: Vec::new(alloc),
+            closed: false,
             view: TextMap::new(alloc),
             mutators: PhantomData,
         })
@@ -124,8 +127,16 @@ impl<M: Mutators> PlainGroup<M> {
         steps::greatest_id(confirmed, client, &self.pending)
     }
 
-    /// Ends a pull that was begun at the cookie `ticket`. Refused, in this order, with what an error
-    /// response says, Overtaken, CookieWentBack, CookieNotNew, IdWentBack.
+    /// Whether the server answered a pull with StateNotFound: then no change is accepted any more.
+    pub fn closed(&self) -> bool
+        ensures { result ≡ self.now.closed }
+    {
+        self.closed
+    }
+
+    /// Ends a pull that was begun at the cookie `ticket`. Refused, in this order, with Closed, what an
+    /// error response says, Overtaken, CookieWentBack, CookieNotNew, IdWentBack. StateNotFound closes the
+    /// group, whatever the ticket.
     pub fn end_pull(
         &mut self,
         mutators: &M,
@@ -135,13 +146,24 @@ impl<M: Mutators> PlainGroup<M> {
         ensures answer { Answers result (end_reply self.old ticket.now.text response.now) }
         ensures left { self.new ≡ left_by_end result self.old response.now }
     {
-        let pull = match response {
-            Response::Ok(pull) => pull,
-            Response::StateNotFound => return Err(Refusal::StateNotFound),
-            Response::VersionNotSupported(kind) => {
-                return Err(Refusal::VersionNotSupported(*kind));
+        if self.closed() {
+            return Err(Refusal::Closed);
+        }
+        match response {
+            Response::Ok(pull) => self.end_with(mutators, ticket, pull),
+            Response::StateNotFound => {
+                self.closed = true;
+                Err(Refusal::StateNotFound)
             }
-        };
+            Response::VersionNotSupported(kind) => Err(Refusal::VersionNotSupported(*kind)),
+        }
+    }
+
+    // Ends a pull of an open group by a response without an error.
+    fn end_with(&mut self, mutators: &M, ticket: &Cookie, pull: &PullOk) -> Result<Ended, Refusal>
+        ensures answer { Answers result (end_at self.old ticket.now.text pull.now) }
+        ensures left { self.new ≡ left_at_end result self.old pull.now }
+    {
         if self.cookie.text() != ticket.text() {
             return Err(Refusal::Overtaken);
         }
@@ -195,13 +217,14 @@ impl<M: Mutators> PlainGroup<M> {
             cookie,
             confirmed: left.confirmed,
             pending: left.pending,
+            closed: self.closed,
             view: shown.view,
             mutators: PhantomData,
         })
     }
 
     /// Makes a mutation, by a client whose own last id is `last`, and answers its id, `last + 1`. `time`
-    /// is in milliseconds. Refused, in this order, with Stale, NoMutator, Refused.
+    /// is in milliseconds. Refused, in this order, with Closed, Stale, NoMutator, Refused.
     pub fn mutate(
         &mut self,
         mutators: &M,
@@ -211,29 +234,44 @@ impl<M: Mutators> PlainGroup<M> {
         args: &Json,
         time: u64,
     ) -> Result<u64, Refusal>
-        ensures answer { Answers result (mutate_reply M.means self.old client.now last name.now args.now) }
-        ensures left { self.new ≡ left_by_mutate result self.old client.now name.now args.now time }
+        ensures answer { Answers result (mutate_reply M.means self.old last (made client.now (last + 1) name.now args.now time)) }
+        ensures left { self.new ≡ left_by_mutate result self.old (made client.now (last + 1) name.now args.now time) }
     {
+        if self.closed {
+            return Err(Refusal::Closed);
+        }
         if self.last(client) != last {
             return Err(Refusal::Stale);
         }
         let id = last + 1;
-        let view = self.shown_after(mutators, name, args)?;
         let mutation = Mutation::new(client, id, name, args, time)?;
-        self.pending.push(mutation)?;
-        self.view = view;
+        self.accept(mutators, mutation)?;
         Ok(id)
     }
 
-    // The view after one run of a mutator on it, unless that refuses or isn't known.
-    fn shown_after(&self, mutators: &M, name: &Text, args: &Json) -> Result<TextMap<Json>, Refusal>
-        ensures { Answers result (map_of (M.means name.now args.now (view_of M.means self.now))) }
+    // Adds the client's next mutation, unless its mutator refuses or isn't known.
+    fn accept(&mut self, mutators: &M, mutation: Mutation) -> Result<(), Refusal>
+        requires { mutation.id ≡ last_id self.old mutation.client + 1 }
+        ensures done { OnOk result (map_of (meaning_of M.means mutation (view_of M.means self.old)) ≡ Ok (view_of M.means self.new)) }
+        ensures ok { OnOk result (self.new ≡ after_mutate self.old mutation) }
+        ensures err { OnErr result (self.new ≡ self.old) }
+        ensures why { IfErr result (λ e. Refuses e (map_of (meaning_of M.means mutation (view_of M.means self.old)))) }
+    {
+        let view = self.shown_after(mutators, &mutation)?;
+        self.pending.push(mutation)?;
+        self.view = view;
+        Ok(())
+    }
+
+    // The view after one run of a mutation on it, unless its mutator refuses or isn't known.
+    fn shown_after(&self, mutators: &M, mutation: &Mutation) -> Result<TextMap<Json>, Refusal>
+        ensures { Answers result (map_of (meaning_of M.means mutation.now (view_of M.means self.now))) }
     {
         let mut view = PlainView {
             alloc: self.alloc,
             map: self.view.copied()?,
         };
-        match mutators.run(self.alloc, name.as_str(), args, &mut view) {
+        match view.run(mutators, mutation) {
             Ok(Ran::Done) => Ok(view.map),
             Ok(Ran::Unknown) => Err(Refusal::NoMutator),
             Ok(Ran::Refused(code)) => Err(Refusal::Refused(code)),

@@ -3,7 +3,8 @@ ghost use Rattle.std.specs.Prelude.{◌≡◌};
 ghost use Rattle.group_history.specs.declared.mutators.Stop.TheVariants.{NoMemory};
 
 use crate::json::Json;
-use crate::mutators::{Stop, WriteView};
+use crate::mutations::Mutation;
+use crate::mutators::{Mutators, Ran, Stop, WriteView};
 use crate::scans::Scan;
 use crate::text_map::TextMap;
 use crate::texts::Text;
@@ -13,6 +14,25 @@ use std::alloc::Global;
 pub(crate) struct PlainView {
     pub(crate) alloc: Global,
     pub(crate) map: TextMap<Json>,
+}
+
+impl PlainView {
+    ghost use Rattle.std.specs.Prelude.{IfOk, IfErr};
+    ghost use Rattle.group_history.specs.Meaning.{meaning_of};
+    ghost use Rattle.group_history.specs.Ran.{RunsAs};
+
+    /// Runs a mutation's mutator on the map, for the mutation's reason.
+    pub(crate) fn run<M: Mutators>(
+        &mut self,
+        mutators: &M,
+        mutation: &Mutation,
+    ) -> Result<Ran, Stop>
+        ensures ran { IfOk result (λ ran. RunsAs (meaning_of M.means mutation.now self.old.map) ran self.new.map) }
+        ensures stopped { IfErr result (λ stop. stop ≡ NoMemory) }
+    {
+        let name = mutation.name.as_str();
+        mutators.run(self.alloc, name, &mutation.args, mutation.reason, self)
+    }
 }
 
 impl WriteView for PlainView {

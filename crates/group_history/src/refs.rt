@@ -1,25 +1,37 @@
-//! Where a node is found.
-ghost use Rattle.std.specs.Prelude.{◌≡◌, ◌<◌, ◌+◌, ◌*◌, ◌^◌};
-ghost use Rattle.group_history.specs.Refs.{stamp_of, slot_of};
+//! Where a node is found, and how many stamps, slots and seats there may be.
+ghost use Rattle.std.specs.Prelude.{◌≡◌, ◌<◌, ◌+◌, ◌*◌};
+ghost use Rattle.group_history.specs.Refs.{stamp_of, slot_of, stamps, max_slots};
 
-/// A node's name and place in one word: its stamp, in 44 bits, above the number of the slot where it
-/// lies, in 20 bits. A stamp names one node for good; a slot may hold another one later.
+/// How many bits of a reference's word hold the stamp. The others hold the slot's number.
+pub const STAMP_BITS: u32 = 40;
+
+/// No stamp is this high.
+pub const STAMPS: u64 = 1 << STAMP_BITS;
+
+/// As many slots a reference can tell apart: a group has no more.
+pub const MAX_SLOTS: u64 = 1 << (64 - STAMP_BITS);
+
+/// A group has no more seats than this.
+pub const MAX_SEATS: u64 = 256;
+
+/// A node's name and place in one word: its stamp above the number of the slot where it lies. A stamp
+/// names one node for good; a slot may hold another one later.
 #[derive(Clone, Copy, Debug, PartialEq, Eq)]
 pub struct Ref {
     bits: u64,
 }
 
 impl Ref {
-    /// The stamp is below 2^44, the slot's number below 2^20.
+    /// The stamp is below `STAMPS`, the slot's number below `MAX_SLOTS`.
     pub fn new(stamp: u64, slot: u32) -> Ref
-        requires stamp { stamp < 2 ^ 44 }
-        requires slot { slot < 2 ^ 20 }
-        ensures bits { result.bits ≡ stamp * 2 ^ 20 + slot }
+        requires stamp { stamp < stamps }
+        requires slot { slot < max_slots }
+        ensures bits { result.bits ≡ stamp * max_slots + slot }
         ensures stamp { stamp_of result ≡ stamp }
         ensures slot { slot_of result ≡ slot }
     {
         Ref {
-            bits: stamp * (1 << 20) + slot as u64,
+            bits: stamp * MAX_SLOTS + slot as u64,
         }
     }
 
@@ -39,15 +51,15 @@ impl Ref {
 
     pub fn stamp(self) -> u64
         ensures stamp { result ≡ stamp_of self }
-        ensures bound { result < 2 ^ 44 }
+        ensures bound { result < stamps }
     {
-        self.bits >> 20
+        self.bits / MAX_SLOTS
     }
 
     pub fn slot(self) -> u32
         ensures slot { result ≡ slot_of self }
-        ensures bound { result < 2 ^ 20 }
+        ensures bound { result < max_slots }
     {
-        (self.bits & 0xF_FFFF) as u32
+        (self.bits % MAX_SLOTS) as u32
     }
 }

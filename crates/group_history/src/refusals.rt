@@ -7,8 +7,8 @@ use std::alloc::{AllocError, AllocFailed};
 use std::fmt;
 use thiserror::Error;
 
-/// Why a call was refused. After every refusal the group is as other clients' changes left it, and the
-/// refused client's last id is as it was.
+/// Why a call was refused. After every refusal the group is as other clients' changes left it, but that
+/// StateNotFound closes it; the refused client's last id is as it was.
 #[derive(Clone, Copy, Debug, PartialEq, Eq, Error)]
 pub enum Refusal {
     NoMemory,
@@ -31,6 +31,7 @@ pub enum Refusal {
     StateNotFound,
     VersionNotSupported(VersionKind),
     NoSeat,
+    Closed,
 }
 
 impl Refusal {
@@ -63,9 +64,12 @@ impl Refusal {
                 "the response's cookie is as high as the group's, but the response brings something"
             }
             Refusal::IdWentBack => "the response confirms less of a client than was confirmed",
-            Refusal::StateNotFound => "the server does not know the client group",
+            Refusal::StateNotFound => "the server does not know the client group: open a new one",
             Refusal::VersionNotSupported(kind) => unsupported(kind),
             Refusal::NoSeat => "all seats are out: give one back",
+            Refusal::Closed => {
+                "the group is closed, since the server does not know it: open a new group"
+            }
         }
     }
 }

@@ -174,7 +174,7 @@ impl fmt::Display for VersionKind {
 #[derive(PartialEq, Eq, Drop)]
 pub enum Response {
     Ok(PullOk),
-    /// The server doesn't know the client group.
+    /// The server doesn't know the client group, which is closed by this.
     StateNotFound,
     VersionNotSupported(VersionKind),
 }

@@ -2,7 +2,7 @@
 ghost use Rattle.std.specs.Prelude.{◌≡◌, IfOk, fold, max};
 ghost use Rattle.group_history.specs.Map.{patched};
 ghost use Rattle.group_history.specs.State.{confirmed_id, replayed, ids_of};
-ghost use Rattle.group_history.specs.Pulling.{goes_back, overwritten, unconfirmed, says_nothing};
+ghost use Rattle.group_history.specs.Pulling.{goes_back, overwritten, left_pending, says_nothing};
 
 use crate::cookies::Cookie;
 use crate::json::Json;
@@ -67,24 +67,24 @@ pub fn overwrite(ids: &TextMap<u64>, changes: &[Confirmed]) -> Result<TextMap<u6
     Ok(after)
 }
 
-/// The mutations that are not confirmed, in order.
+/// The mutations that are not confirmed, in order, each to be replayed for the reason Rebase.
 pub fn keep_unconfirmed(
     alloc: Global,
     ids: &TextMap<u64>,
     pending: &[Mutation],
 ) -> Result<Vec<Mutation>, AllocError>
-    ensures { IfOk result (λ v. v.items ≡ unconfirmed ids.now pending.now) }
+    ensures { IfOk result (λ v. v.items ≡ left_pending ids.now pending.now) }
 {
     let mut kept = Vec::new(alloc);
     for mutation in pending {
         if confirmed_id_of(ids, &mutation.client) < mutation.id {
-            kept.push(mutation.clone()?)?;
+            kept.push(mutation.rebased()?)?;
         }
     }
     Ok(kept)
 }
 
-/// The map after the mutations are replayed on it, in order.
+/// The map after the mutations are replayed on it, in order, each for its own reason.
 pub(crate) fn replay<M: Mutators>(
     alloc: Global,
     mutators: &M,
@@ -99,7 +99,7 @@ pub(crate) fn replay<M: Mutators>(
             alloc,
             map: shown.copied()?,
         };
-        match mutators.run(alloc, mutation.name.as_str(), &mutation.args, &mut view) {
+        match view.run(mutators, mutation) {
             Ok(Ran::Done) => shown = view.map,
             // What a refusing mutator wrote is thrown away with the view.
             Ok(Ran::Unknown | Ran::Refused(_)) => {}
@@ -125,7 +125,7 @@ pub(crate) fn confirm(
     pending: &[Mutation],
 ) -> Result<Unconfirmed, AllocError>
     ensures confirmed { IfOk result (λ u. u.confirmed ≡ overwritten ids.now changes.now) }
-    ensures pending { IfOk result (λ u. u.pending.items ≡ unconfirmed u.confirmed pending.now) }
+    ensures pending { IfOk result (λ u. u.pending.items ≡ left_pending u.confirmed pending.now) }
 {
     let confirmed = overwrite(ids, changes)?;
     let pending = keep_unconfirmed(alloc, &confirmed, pending)?;

@@ -5,14 +5,15 @@ use Rattle.std.proofs.lemmas.List.Elements.{All-map}
 use Rattle.group_history.specs.declared.refs.Ref.{Ref}
 use Rattle.group_history.specs.declared.changes.Change.{Change}
 use Rattle.group_history.specs.declared.nodes.Chunk.TheVariants.{Leaf, Inner}
-use Rattle.group_history.specs.declared.nodes.Commit.TheVariants.{Snapshot, Local}
+use Rattle.group_history.specs.declared.nodes.Kind.{Kind}
+use Rattle.group_history.specs.declared.nodes.Kind.TheVariants.{Snapshot, Over}
 use Rattle.group_history.specs.declared.nodes.Node.{Node}
 use Rattle.group_history.specs.declared.nodes.Node.TheVariants as node
 use Rattle.group_history.specs.declared.nodes.Child.{Child}
 use Rattle.group_history.specs.declared.nodes.Child.TheVariants.{Placed, Drafted}
 use Rattle.group_history.specs.Map.{Bytes}
 use Rattle.group_history.specs.Meaning.{Meanings}
-use Rattle.group_history.specs.Naming.{children, renamed, child_stamp, drafted_content}
+use Rattle.group_history.specs.Naming.{children, commits_named, renamed, renamed_kind, child_stamp, drafted_content}
 use Rattle.group_history.specs.Rows.{values_of}
 use Rattle.group_history.specs.Spelling.{Contents, version_of, Spells}
 use Rattle.group_history.specs.State.{State}
@@ -64,11 +65,14 @@ values-renamed : {A B : Type 0} (f : A → B) (kids : List (Bytes × A)) → val
 values-renamed f [] = refl
 values-renamed f (k ∷ ks) = ap (λ w. f k.1 ∷ w) (values-renamed f ks)
 
+named-renamed : {A B : Type 0} (f : A → B) (k : Kind A) → commits_named (renamed_kind f k) ≡ map f (commits_named k)
+named-renamed f (Snapshot s) = refl
+named-renamed f (Over o) = refl
+
 children-renamed : {A B : Type 0} (f : A → B) (n : Node A) → children (renamed f n) ≡ map f (children n)
 children-renamed f (node.Chunk (Leaf rows)) = refl
 children-renamed f (node.Chunk (Inner kids)) = values-renamed f kids
-children-renamed f (node.Commit (Snapshot s)) = refl
-children-renamed f (node.Commit (Local l)) = refl
+children-renamed f (node.Commit c) = ap (λ w. f c.root ∷ w) (named-renamed f c.kind)
 
 child_below : (n first place : ℕ) (c : Child) → n ≤ first → IsBefore n place c → child_stamp first c < first + place
 child_below n first place (Placed at) le h = omega (arith, le, h)

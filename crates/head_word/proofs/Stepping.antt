@@ -1,5 +1,5 @@
 -- Each step on a word keeps the rule.
-use Rattle.std.proofs.Common.{◌≡◌, ◌≢◌, ℕ, zero, suc, ◌+◌, ◌^◌, ◌≤◌, ◌<◌, ◌==◌, Bool, true, false, List, [], ◌∷◌, ◌++◌, length, slice_index_or, Some, None, Option, replicate, refl, ap, sym, ◌∙◌, subst, arith, lit≤, inl, inr, length-append}
+use Rattle.std.proofs.Common.{◌≡◌, ◌≢◌, ℕ, zero, suc, ◌+◌, ◌≤◌, ◌<◌, ◌==◌, Bool, true, false, List, [], ◌∷◌, ◌++◌, length, slice_index_or, Some, None, Option, replicate, refl, ap, sym, ◌∙◌, subst, arith, lit≤, inl, inr, length-append}
 use Rattle.std.specs.Prelude.{option_and_then}
 use Rattle.std.specs.FinMap as finite
 use Rattle.std.proofs.lemmas.List.{append-nil}
@@ -18,9 +18,9 @@ use Rattle.group_history.specs.Folds.{answer as answer_at}
 use Rattle.group_history.specs.Map.{Entries}
 use Rattle.group_history.specs.Meaning.{Meanings}
 use Rattle.group_history.specs.Record.{IsAccepted, IsLegal, after, after_change}
-use Rattle.group_history.specs.Refs.{stamp_of}
+use Rattle.group_history.specs.Refs.{stamp_of, stamps}
 use Rattle.group_history.specs.Spelling.{Contents, Segment, Version, Spelled, segment, version, as_segment, as_version, spelled, segment_at, version_of, Spells}
-use Rattle.group_history.specs.State.{State}
+use Rattle.group_history.specs.State.{State, pulled_state}
 use Rattle.group_history.proofs.Records.{after-push, IsLegal-push}
 use Rattle.group_history.proofs.Spellings.{segment-stays}
 use Rattle.group_history.proofs.TextMaps.{empty_map}
@@ -33,7 +33,7 @@ use Rattle.head_word.specs.Rules.{Fits, IsKept, answer, AddsDraft, AddsMove, Cou
 use Rattle.head_word.proofs.Books.{drawn_more, moved_more, record_more, length-drafted, numbered_more, ordered_more, drafted_ordered, spells_more, starts_more, next_more}
 use Rattle.head_word.proofs.Counting.{count_more, count_other, count_starts}
 
-pub book_draft : (means : Meanings) (log : List Entry) (by : Option ℕ) (contents : List (Node Child)) → IsBook means log → AreAfter (next_stamp log) 0 contents → next_stamp log + length contents ≤ 2 ^ 44
+pub book_draft : (means : Meanings) (log : List Entry) (by : Option ℕ) (contents : List (Node Child)) → IsBook means log → AreAfter (next_stamp log) 0 contents → next_stamp log + length contents ≤ stamps
     → IsBook means (log ++ drafted by (next_stamp log) contents ∷ [])
 book_draft means log by contents b before room =
     let first = next_stamp log in
@@ -82,7 +82,7 @@ spells_once means contents stamp s t p q =
 not_both : (o : Option Spelled) (s : Segment) (w : Version) → option_and_then as_segment o ≡ Some s → option_and_then as_version o ≡ Some w → ⊥
 not_both None s w p q = absurd cc
 not_both (Some (segment t)) s w p q = absurd cc
-not_both (Some (version t)) s w p q = absurd cc
+not_both (Some (version t k)) s w p q = absurd cc
 
 -- a book that is opened begins with what it opened with
 pub starts_with : (log : List Entry) → StartsOpened log → (r : Ref) × IsPrefix (opening r) log
@@ -185,13 +185,13 @@ leaves_after n place zero = tt
 leaves_after n place (suc count) = ((λ k d lt. absurd (omega (arith, lt))), leaves_after n (suc place) count)
 
 draft_goes : (means : Meanings) (v log : List Entry) (by : Option ℕ) (contents : List (Node Child)) (old h d : ℕ) → IsPrefix v log → AreAfter (next_stamp v) 0 contents → IsOpened means log × (h ≡ (last_move log).bits) × (d ≡ next_stamp log)
-    → old + length contents ≤ 2 ^ 44 → (b : Bool) → (d == old) ≡ b
+    → old + length contents ≤ stamps → (b : Bool) → (d == old) ≡ b
     → Goes (IsKept means) shown (Trades (drafted by old contents)) 1 (v, (no_nib, None)) (λ n. either (n == old) (old + length contents) n) (AddsDraft means (step 1 old (old + length contents) (drafted by old contents)) (v, (no_nib, None))) ((h, true) ∷ (d, true) ∷ []) log
 draft_goes means v log by contents old h d pre before fits room true is =
     let at : next_stamp log ≡ old = sym fits.2 ∙ eqb-true d old is in
     let e = drafted by old contents in
     let n : Answer = answer (count (key_of e) log) (count (key_of e) (log ++ e ∷ [])) in
-    let room' : next_stamp log + length contents ≤ 2 ^ 44 = omega (arith, at, room) in
+    let room' : next_stamp log + length contents ≤ stamps = omega (arith, at, room) in
     let book' : IsBook means (log ++ e ∷ []) = subst (λ (k : ℕ). IsBook means (log ++ drafted by k contents ∷ [])) at (book_draft means log by contents fits.0.0 (after_from v log contents pre before) room') in
     let starts' : StartsOpened (log ++ e ∷ []) = starts_more log (e ∷ []) fits.0.1 in
     let last : h ≡ (last_move (log ++ e ∷ [])).bits = fits.1 ∙ sym (ap (λ (r : Ref). r.bits) (moved_more nowhere log (e ∷ []))) in
@@ -219,7 +219,7 @@ draft_goes means v log by contents old h d pre before fits room false is =
     )
 
 -- whatever the book is, the exchange adds the draft, or finds that other stamps were drawn
-pub draft_moves : (means : Meanings) (v : List Entry) (by : Option ℕ) (contents : List (Node Child)) (old : ℕ) → StartsOpened v → AreAfter (next_stamp v) 0 contents → old + length contents ≤ 2 ^ 44
+pub draft_moves : (means : Meanings) (v : List Entry) (by : Option ℕ) (contents : List (Node Child)) (old : ℕ) → StartsOpened v → AreAfter (next_stamp v) 0 contents → old + length contents ≤ stamps
     → Moves (IsKept means) shown (Trades (drafted by old contents)) 1 (v, (no_nib, None)) (λ n. either (n == old) (old + length contents) n) (AddsDraft means (step 1 old (old + length contents) (drafted by old contents)) (v, (no_nib, None)))
 draft_moves means v by contents old starts before room cs log kept pre away =
     let fits = fits_opened means v log kept.head kept.drafts pre starts kept.fits in
@@ -286,7 +286,7 @@ opening_child (suc k) d lt = absurd (omega (arith, lt))
 
 -- the opening commit spells the opening state
 pub opening_spells : (means : Meanings) (r : Ref) → Spells means (drawn (opening r)) 1 (after [])
-opening_spells means r = ap (λ (m : Entries). Some (record { state = record { pulled = m; cookie = null_cookie; confirmed = finite.empty; pending = [] }; read = m })) empty_map
+opening_spells means r = ap (λ (m : Entries). Some (record { state = pulled_state m null_cookie finite.empty; read = m })) empty_map
 
 -- the opening book
 pub opening_book : (means : Meanings) (r : Ref) → stamp_of r ≡ 1 → IsOpened means (opening r)

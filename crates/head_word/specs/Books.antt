@@ -1,11 +1,11 @@
 -- The book of a group: the contents that were drafted, by stamp, and the moves of the head.
 -- This project's own rules.
-use Rattle.std.specs.Prelude.{ℕ, suc, ◌≡◌, ◌+◌, ◌^◌, ◌<◌, ◌≤◌, ◌==◌, ◌&&◌, Bool, true, List, [], ◌∷◌, ◌++◌, length, map, take, All, Some, None, Option}
+use Rattle.std.specs.Prelude.{ℕ, suc, ◌≡◌, ◌+◌, ◌<◌, ◌≤◌, ◌==◌, ◌&&◌, Bool, true, List, [], ◌∷◌, ◌++◌, length, map, take, All, Some, None, Option}
 use Rattle.std.specs.FinMap as finite
 use Rattle.group_history.specs.declared.refs.Ref.{Ref}
 use Rattle.group_history.specs.declared.changes.Change.{Change}
 use Rattle.group_history.specs.declared.nodes.Chunk.TheVariants.{Leaf}
-use Rattle.group_history.specs.declared.nodes.Commit.TheVariants.{Snapshot}
+use Rattle.group_history.specs.declared.nodes.Kind.TheVariants.{Snapshot}
 use Rattle.group_history.specs.declared.nodes.Node.{Node}
 use Rattle.group_history.specs.declared.nodes.Node.TheVariants as node
 use Rattle.group_history.specs.declared.nodes.Child.{Child}
@@ -14,7 +14,7 @@ use Rattle.group_history.specs.Cookies.{null_cookie}
 use Rattle.group_history.specs.Meaning.{Meanings}
 use Rattle.group_history.specs.Naming.{children, drafted_content}
 use Rattle.group_history.specs.Record.{IsAccepted, IsLegal, after, after_change}
-use Rattle.group_history.specs.Refs.{stamp_of}
+use Rattle.group_history.specs.Refs.{stamp_of, stamps, max_slots}
 use Rattle.group_history.specs.Spelling.{Contents, Spells}
 use Rattle.group_history.specs.State.{State}
 use Rattle.head_word.specs.declared.entry.Entry.{Entry}
@@ -74,7 +74,7 @@ AreOrdered n (c ∷ cs) = All (λ k. k < n) (children c) × AreOrdered (suc n) c
 -- where its last move went spells the state after that record.
 pub record IsBook (means : Meanings) (log : List Entry) : Type 0 where
   pub numbered : numbered 0 log ≡ true
-  pub room : next_stamp log ≤ 2 ^ 44
+  pub room : next_stamp log ≤ stamps
   pub ordered : AreOrdered 0 (drawn log)
   pub legal : IsLegal means (record_of log)
   pub spelled : Spells means (drawn log) (stamp_of (last_move log)) (after (record_of log))
@@ -90,7 +90,7 @@ abbrev pub empty_leaf : Node Child
 empty_leaf = node.Chunk (Leaf [])
 
 abbrev pub opening_snapshot : Node Child
-opening_snapshot = node.Commit (Snapshot (record { cookie = null_cookie; confirmed = finite.empty; root = Drafted 0 }))
+opening_snapshot = node.Commit (record { root = Drafted 0; kind = Snapshot (record { cookie = null_cookie; confirmed = finite.empty }) })
 
 -- the entries that a book opens with, by no seat
 abbrev pub opening : Ref → List Entry
@@ -98,7 +98,7 @@ opening r = drafted None 0 (empty_leaf ∷ opening_snapshot ∷ []) ∷ moved No
 
 -- where the opening move goes: the stamp 1 in the given slot
 abbrev pub opening_ref : ℕ → Ref
-opening_ref slot = record { bits = 2 ^ 20 + slot }
+opening_ref slot = record { bits = max_slots + slot }
 
 -- where a book's second entry, the opening move, went
 abbrev pub opened_at : List Entry → Ref

@@ -17,8 +17,9 @@
 //! seat itself can raise it. Each step of a seat, also a look or an exchange that was lost, hands the tally
 //! over and takes it back at the book's own count; so a call proves not just what it added, but that it
 //! added nothing else, and an exchange that is lost leaves the tally as it was.
-ghost use Rattle.std.specs.Prelude.{◌≡◌, ◌≢◌, ◌+◌, ◌^◌, ◌<◌, ◌≤◌, ◌++◌, ◌∷◌, [], List, Some, IsSome, IfOk, IfErr, length};
+ghost use Rattle.std.specs.Prelude.{◌≡◌, ◌≢◌, ◌+◌, ◌<◌, ◌≤◌, ◌++◌, ◌∷◌, [], List, Some, IsSome, IfOk, IfErr, length};
 ghost use mathlib.Core.List.{IsPrefix};
+ghost use Rattle.group_history.specs.Refs.{stamps};
 ghost use Rattle.head_word.specs.declared.entry.Entry.{Entry};
 ghost use Rattle.head_word.specs.Books.{last_move, next_stamp, drawn, drafted, moved, AreAfter, Follows};
 ghost use Rattle.head_word.specs.Marks.{own, others};
@@ -29,21 +30,18 @@ use crate::law::{CountsAtHead, Law, LooksAtHead, Nothing, Traded};
 use crate::lost::{Lost, Moved};
 use crate::mark::{Mark, Seat};
 use crate::tally::Tally;
-use group_history::{Change, Child, Mutators, Node, Ref};
+use group_history::{Change, Child, Means, Node, Ref, STAMPS};
 use logbook::{Offer, Word};
 use std::marker::Model;
 
-/// No stamp is this high.
-pub(crate) const STAMPS: u64 = 1 << 44;
-
 /// The two words that all threads share. Contracts see which book they are of.
 #[derive(Drop)]
-pub struct Head<M: Mutators> {
+pub struct Head<M: Means> {
     pub(crate) head_word: Word<Entry, Answer, Law<M>>,
     pub(crate) draft_word: Word<Entry, Answer, Law<M>>,
 }
 
-impl<M: Mutators> Model for Head<M> {
+impl<M: Means> Model for Head<M> {
     ghost use Rattle.std.specs.Prelude.{◌≡◌};
     ghost use Rattle.logbook.specs.Pages.{Book, book_coded};
     ghost use Rattle.head_word.specs.Rules.{word_of};
@@ -57,7 +55,7 @@ impl<M: Mutators> Model for Head<M> {
     ghost invariant = { λ h. (h.head_word ≡ word_of 0 h.head_word.book) × (h.draft_word ≡ word_of 1 h.head_word.book) };
 }
 
-impl<M: Mutators> Head<M> {
+impl<M: Means> Head<M> {
     /// Where the last move of the book went. A mark without a seat may look as well.
     pub fn load(&self, mark: &mut Mark<M>) -> Ref
         requires book { mark.old.book ≡ self.now }
@@ -95,7 +93,7 @@ impl<M: Mutators> Head<M> {
     /// Draws a stamp for each of the nodes, in order, and answers the first. A node names a child by its
     /// `Ref` where that was drawn before, and by its place in the slice where it is drawn with it; there
     /// it stands earlier. It is `Moved` where another seat drew stamps meanwhile, and `Stamps` where the
-    /// group would have drawn all of its 2^44.
+    /// group would have drawn all of its `STAMPS`.
     pub fn draft(&self, mark: &mut Mark<M>, contents: &[Node<Child>]) -> Result<u64, Lost>
         requires book { mark.old.book ≡ self.now }
         requires seat { IsSome mark.old.seat }
@@ -105,12 +103,12 @@ impl<M: Mutators> Head<M> {
         ensures seat { mark.new.seat ≡ mark.old.seat }
         ensures seen { IsPrefix mark.old.log mark.new.log }
         ensures drawn { IfOk result (λ first. (log : List Entry) × IsPrefix mark.old.log log × (next_stamp log ≡ first) × (mark.new.log ≡ log ++ drafted mark.old.seat first contents.now ∷ [])) }
-        ensures room { IfOk result (λ first. first + length contents.now < 2 ^ 44) }
+        ensures room { IfOk result (λ first. first + length contents.now < stamps) }
         ensures once { IfOk result (λ first. own mark.new ≡ own mark.old ++ drafted mark.old.seat first contents.now ∷ []) }
         ensures nothing { IfErr result (λ _. own mark.new ≡ own mark.old) }
         ensures moved { IfErr result (λ e. e ≡ Lost.Moved → length mark.old.log < length mark.new.log) }
         ensures others { IfErr result (λ e. e ≡ Lost.Moved → others mark.old < others mark.new) }
-        ensures stamps { IfErr result (λ e. e ≡ Lost.Stamps → 2 ^ 44 ≤ next_stamp mark.new.log + length contents.now) }
+        ensures stamps { IfErr result (λ e. e ≡ Lost.Stamps → stamps ≤ next_stamp mark.new.log + length contents.now) }
     {
         let first = self.next(mark);
         if contents.len() as u64 >= STAMPS.saturating_sub(first) {

@@ -1,15 +1,15 @@
 //! The rule that every step on the two words keeps, and what each kind of step tells.
 use crate::entry::{Answer, Entry};
-use group_history::Mutators;
+use group_history::Means;
 use logbook::{Gain, Play, Rule};
 use std::marker::PhantomData;
 
 /// The rule of the book. Which records are legal depends on what the mutators mean.
-pub struct Law<M: Mutators> {
+pub struct Law<M: Means> {
     of: PhantomData<M>,
 }
 
-impl<M: Mutators> Rule<Entry, Answer> for Law<M> {
+impl<M: Means> Rule<Entry, Answer> for Law<M> {
     ghost use Rattle.std.specs.Prelude.{[]};
     ghost use Rattle.head_word.specs.Rules.{IsKept};
     ghost use Rattle.head_word.specs.Tallies.{kept_tallies, Trades};
@@ -55,55 +55,55 @@ impl Play<Entry, Answer> for Opens {
 }
 
 /// A look at the head word by no seat.
-pub struct LooksAtHead<M: Mutators> {
+pub struct LooksAtHead<M: Means> {
     of: PhantomData<M>,
 }
 
-impl<M: Mutators> Play<Entry, Answer> for LooksAtHead<M> {
+impl<M: Means> Play<Entry, Answer> for LooksAtHead<M> {
     ghost use Rattle.head_word.specs.Rules.{LooksAtHead};
 
     ghost then = { LooksAtHead M.means };
 }
 
 /// A seat's look at the head word.
-pub struct CountsAtHead<M: Mutators> {
+pub struct CountsAtHead<M: Means> {
     of: PhantomData<M>,
 }
 
-impl<M: Mutators> Play<Entry, Answer> for CountsAtHead<M> {
+impl<M: Means> Play<Entry, Answer> for CountsAtHead<M> {
     ghost use Rattle.head_word.specs.Rules.{CountsAtHead};
 
     ghost then = { CountsAtHead M.means };
 }
 
 /// A seat's look at the draft word.
-pub struct CountsAtDrafts<M: Mutators> {
+pub struct CountsAtDrafts<M: Means> {
     of: PhantomData<M>,
 }
 
-impl<M: Mutators> Play<Entry, Answer> for CountsAtDrafts<M> {
+impl<M: Means> Play<Entry, Answer> for CountsAtDrafts<M> {
     ghost use Rattle.head_word.specs.Rules.{CountsAtDrafts};
 
     ghost then = { CountsAtDrafts M.means };
 }
 
 /// An exchange of the draft word.
-pub struct AddsDraft<M: Mutators> {
+pub struct AddsDraft<M: Means> {
     of: PhantomData<M>,
 }
 
-impl<M: Mutators> Play<Entry, Answer> for AddsDraft<M> {
+impl<M: Means> Play<Entry, Answer> for AddsDraft<M> {
     ghost use Rattle.head_word.specs.Rules.{AddsDraft};
 
     ghost then = { AddsDraft M.means };
 }
 
 /// An exchange of the head word.
-pub struct AddsMove<M: Mutators> {
+pub struct AddsMove<M: Means> {
     of: PhantomData<M>,
 }
 
-impl<M: Mutators> Play<Entry, Answer> for AddsMove<M> {
+impl<M: Means> Play<Entry, Answer> for AddsMove<M> {
     ghost use Rattle.head_word.specs.Rules.{AddsMove};
 
     ghost then = { AddsMove M.means };

@@ -11,7 +11,7 @@ ghost use Rattle.head_word.specs.Marks.{known};
 use crate::entry::{Answer, Entry};
 use crate::law::Law;
 use crate::tally::Tally;
-use group_history::Mutators;
+use group_history::Means;
 use logbook::Seen;
 use std::marker::Model;
 
@@ -24,12 +24,12 @@ pub struct Seat {
 
 /// A beginning of the book that was seen, and a seat, where the mark has one.
 #[derive(Drop)]
-pub struct Mark<M: Mutators> {
+pub struct Mark<M: Means> {
     pub(crate) seen: Seen<Entry, Answer, Law<M>>,
     pub(crate) seat: Option<Seat>,
 }
 
-impl<M: Mutators> Model for Mark<M> {
+impl<M: Means> Model for Mark<M> {
     ghost use Rattle.head_word.specs.Books.{IsOpened};
     ghost use Rattle.head_word.specs.Marks.{Known, known, number_of, Sits};
     ghost use Rattle.head_word.specs.contracts.entry.Entry as entry;
@@ -44,7 +44,7 @@ impl<M: Mutators> Model for Mark<M> {
     ghost invariant = { λ m. IsOpened M.means m.seen.log × Sits m.seen.names m.seen.log m.seat };
 }
 
-impl<M: Mutators> Mark<M> {
+impl<M: Means> Mark<M> {
     /// What the mark has seen, with no seat: a copy can be learnt from, and adds nothing.
     pub fn copy(&self) -> Mark<M>
         ensures { result ≡ known self.now.book self.now.log None }

@@ -1,9 +1,9 @@
 //! How a book is opened: it begins with no entry and the head word 0, and one exchange by no seat adds the
 //! opening draft and the opening move together. Nobody else has the words yet, so it is never lost; the
 //! contract knows that from the tally of no seat, which says that nothing was added before.
-ghost use Rattle.std.specs.Prelude.{◌≡◌, ◌+◌, ◌^◌, ◌<◌, ◌≤◌, List, IfOk};
+ghost use Rattle.std.specs.Prelude.{◌≡◌, ◌+◌, ◌<◌, ◌≤◌, List, IfOk};
 ghost use Rattle.group_history.specs.declared.refs.Ref.{Ref};
-ghost use Rattle.group_history.specs.Refs.{stamp_of};
+ghost use Rattle.group_history.specs.Refs.{stamp_of, max_slots, max_seats};
 ghost use Rattle.head_word.specs.Books.{IsOpened, opening, opening_ref};
 ghost use Rattle.head_word.specs.Marks.{seated};
 ghost use Rattle.head_word.specs.Tallies.{keys_of};
@@ -14,17 +14,17 @@ use crate::head::Head;
 use crate::law::{Law, Opens, Traded};
 use crate::mark::{Mark, Seat};
 use crate::tally::{Tallies, Tally};
-use group_history::{Mutators, Ref};
+use group_history::{Means, Ref};
 use logbook::{Seen, Word};
 use std::alloc::{AllocError, Global};
 
-impl<M: Mutators> Head<M> {
-    /// A new book for 1 to 64 seats, which opens with an empty map, and one mark for each seat. The
-    /// opening snapshot has the stamp 1 and lies in the slot, which is below 2^20. No other call takes
-    /// memory.
+impl<M: Means> Head<M> {
+    /// A new book for 1 to `MAX_SEATS` seats, which opens with an empty map, and one mark for each seat.
+    /// The opening snapshot has the stamp 1 and lies in the slot, which is below `MAX_SLOTS`. No other
+    /// call takes memory.
     pub fn open(alloc: Global, seats: u32, slot: u32) -> Result<(Head<M>, Vec<Mark<M>>), AllocError>
-        requires seats { (1 ≤ seats) × (seats ≤ 64) }
-        requires slot { slot < 2 ^ 20 }
+        requires seats { (1 ≤ seats) × (seats ≤ max_seats) }
+        requires slot { slot < max_slots }
         ensures marks { IfOk result (λ made. made.1.items ≡ seated made.0 (opening (opening_ref slot)) seats) }
     {
         let (start, mut tallies) = Tallies::open::<M>(seats as u64 + 1);
@@ -59,7 +59,7 @@ impl<M: Mutators> Head<M> {
 }
 
 // A mark for each seat, at a new book.
-fn seat_all<M: Mutators>(
+fn seat_all<M: Means>(
     alloc: Global,
     seen: &Seen<Entry, Answer, Law<M>>,
     mut tallies: Tallies,

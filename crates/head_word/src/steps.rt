@@ -1,9 +1,10 @@
 //! The steps of a seat on the two words, one for each function. The tally goes into the step's offer and
 //! comes back, also where the step is a look or an exchange that is lost.
-ghost use Rattle.std.specs.Prelude.{◌≡◌, ◌≢◌, ◌+◌, ◌^◌, ◌≤◌, ◌++◌, ◌∷◌, [], List, Some, IsSome, MatchBool, if◌then◌else◌, length};
+ghost use Rattle.std.specs.Prelude.{◌≡◌, ◌≢◌, ◌+◌, ◌≤◌, ◌++◌, ◌∷◌, [], List, Some, IsSome, MatchBool, if◌then◌else◌, length};
 ghost use mathlib.Core.List.{IsPrefix};
 ghost use Rattle.group_history.specs.declared.nodes.Child.{Child};
 ghost use Rattle.group_history.specs.declared.nodes.Node.{Node};
+ghost use Rattle.group_history.specs.Refs.{stamps};
 ghost use Rattle.head_word.specs.declared.entry.Entry.{Entry};
 ghost use Rattle.head_word.specs.Books.{last_move, next_stamp, drawn, drafted, moved, AreAfter, Follows};
 ghost use Rattle.head_word.specs.Marks.{own};
@@ -14,10 +15,10 @@ use crate::head::Head;
 use crate::law::{AddsDraft, AddsMove, CountsAtDrafts, Traded};
 use crate::mark::{Mark, Seat};
 use crate::tally::Tally;
-use group_history::{Change, Mutators, Ref};
+use group_history::{Change, Means, Ref};
 use logbook::Plain;
 
-impl<M: Mutators> Head<M> {
+impl<M: Means> Head<M> {
     /// The first stamp not drawn.
     pub(crate) fn next(&self, mark: &mut Mark<M>) -> u64
         requires book { mark.old.book ≡ self.now }
@@ -53,7 +54,7 @@ impl<M: Mutators> Head<M> {
     ) -> bool
         requires book { mark.old.book ≡ self.now }
         requires seat { IsSome mark.old.seat }
-        requires room { first + count ≤ 2 ^ 44 }
+        requires room { first + count ≤ stamps }
         requires asked { (contents : List (Node Child)) × (P.ask about.now ≡ drafted mark.old.seat first contents) × (length contents ≡ count) × AreAfter (next_stamp mark.old.log) 0 contents }
         ensures book { mark.new.book ≡ mark.old.book }
         ensures seat { mark.new.seat ≡ mark.old.seat }

@@ -11,7 +11,7 @@ ghost use Rattle.head_word.specs.declared.entry.Answer.{Answer};
 
 use crate::entry::{Answer, Entry};
 use crate::law::{Law, Traded};
-use group_history::Mutators;
+use group_history::Means;
 use logbook::{Gained, Offer, Plain, Start};
 use std::marker::{Model, PhantomData};
 
@@ -41,7 +41,7 @@ impl Model for Tallies {
 
 impl Tallies {
     /// What clients of a new book keep, and the tallies of so many keys.
-    pub fn open<M: Mutators>(keys: u64) -> (Start<Entry, Answer, Law<M>>, Tallies)
+    pub fn open<M: Means>(keys: u64) -> (Start<Entry, Answer, Law<M>>, Tallies)
         ensures { (result.0.shown ≡ []) × (result.0.names ≡ result.1.names) × (keys_of result.1.names ≡ keys) × (result.1.next ≡ 0) × (result.1.left ≡ keys) }
     {
         let _ = keys;
@@ -68,7 +68,7 @@ impl Tallies {
 
 impl Tally {
     /// The tally goes into an offer, for one step.
-    pub fn offered<M: Mutators, X, P: Plain<X, Entry, Answer>>(
+    pub fn offered<M: Means, X, P: Plain<X, Entry, Answer>>(
         self,
         about: &X,
     ) -> Offer<Entry, Answer, Law<M>, Traded>

@@ -1,5 +1,5 @@
 -- What chunks with one child each end in.
-use Rattle.std.proofs.Common.{◌≡◌, ◌+◌, ◌-◌, ℕ, false, [], ◌∷◌, ◌++◌, Some, None, slice_get, append-nil, refl, sym, ap, ◌∙◌, subst, inr}
+use Rattle.std.proofs.Common.{◌≡◌, ℕ, false, [], ◌∷◌, ◌++◌, Some, None, slice_get, append-nil, refl, sym, ap, ◌∙◌, subst, inr}
 use Rattle.std.specs.List.{Contains}
 use Rattle.group_history.specs.declared.nodes.Chunk.{Chunk}
 use Rattle.group_history.specs.declared.nodes.Chunk.TheVariants as chunked

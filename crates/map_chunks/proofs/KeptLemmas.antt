@@ -1,5 +1,5 @@
 -- References that were there before, or were shown.
-use Rattle.std.proofs.Common.{◌≡◌, ◌-◌, inl, inr, List, [], Some, slice_get, subst}
+use Rattle.std.proofs.Common.{◌≡◌, inl, inr, List, [], Some, slice_get, subst}
 use Rattle.std.specs.List.{Contains}
 use Rattle.group_history.specs.declared.refs.Ref.{Ref}
 use Rattle.group_history.specs.Naming.{chunk_content}

@@ -1,5 +1,5 @@
 -- A scan of rows that stand one part after another.
-use Rattle.std.proofs.Common.{◌≡◌, ◌<◌, ◌≤◌, ◌+◌, ◌-◌, ℕ, zero, suc, Bool, true, false, cond, not, ◌&&◌, ◌||◌, nat_eq, nat_le, T, List, [], ◌∷◌, ◌++◌, Option, Some, None, length, max, take, get_or, slice_get, refl, sym, ap, ◌∙◌, subst, arith, append_assoc, filter, Ordering, Less, Equal, Greater, is_gt}
+use Rattle.std.proofs.Common.{◌≡◌, ◌<◌, ◌≤◌, ◌+◌, ℕ, zero, suc, Bool, true, false, cond, not, ◌&&◌, ◌||◌, nat_eq, nat_le, T, List, [], ◌∷◌, ◌++◌, Option, Some, None, length, max, take, get_or, slice_get, refl, sym, ap, ◌∙◌, subst, arith, append_assoc, filter, Ordering, Less, Equal, Greater, is_gt}
 use Rattle.std.proofs.lemmas.Bool.Decides.{nat_tests}
 use Rattle.std.proofs.lemmas.List.{append-nil, take-append-le}
 use Rattle.std.proofs.lemmas.List.Elements.{filter-append}

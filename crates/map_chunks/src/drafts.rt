@@ -3,11 +3,11 @@
 //! A draft's nodes have the stamps from its first one on, children before parents, so that they can be
 //! placed in their order. The references that a draft gives name stamps; a slot is not chosen yet, and
 //! each bears the slot 0.
-ghost use Rattle.std.specs.Prelude.{◌≡◌, ◌+◌, ◌⊎◌, ◌^◌, ◌≤◌, ◌++◌, [], ◌∷◌, length, IfOk, IfErr, OnOk, OnErr, IfSome, IfNone, take, ◌<◌};
-ghost use Rattle.group_history.specs.Refs.{stamp_of, slot_of};
+ghost use Rattle.std.specs.Prelude.{◌≡◌, ◌+◌, ◌⊎◌, ◌≤◌, ◌++◌, [], ◌∷◌, length, IfOk, IfErr, OnOk, OnErr, IfSome, IfNone, take, ◌<◌};
+ghost use Rattle.group_history.specs.Refs.{stamps, stamp_of, slot_of};
 ghost use Rattle.group_history.specs.declared.refusals.Refusal.TheVariants as refusal;
 
-use group_history::{Node, Ref, Refusal};
+use group_history::{Node, Ref, Refusal, STAMPS};
 use std::alloc::Global;
 use std::marker::Model;
 
@@ -30,8 +30,6 @@ impl Model for Draft {
     ghost view = { λ d. record { first = d.first; nodes = d.nodes.items } };
 }
 
-const STAMPS: u64 = 1 << 44;
-
 impl Draft {
     /// An empty draft, whose first node will have this stamp.
     pub fn new(alloc: Global, first: u64) -> Draft
@@ -50,12 +48,12 @@ impl Draft {
         self.nodes.len() as u64
     }
 
-    /// Appends a node, and answers how it is named. Refused with Stamps where its stamp would be 2^44.
+    /// Appends a node, and answers how it is named. Refused with Stamps where its stamp would be `STAMPS`.
     pub fn push(&mut self, node: Node<Ref>) -> Result<Ref, Refusal>
         ensures stamp { IfOk result (λ at. (stamp_of at ≡ self.old.first + length self.old.nodes) × (slot_of at ≡ 0)) }
         ensures ok { OnOk result (self.new ≡ record { first = self.old.first; nodes = self.old.nodes ++ node ∷ [] }) }
         ensures err { OnErr result (self.new ≡ self.old) }
-        ensures why { IfErr result (λ e. (e ≡ refusal.NoMemory) ⊎ ((e ≡ refusal.Stamps) × (2 ^ 44 ≤ self.old.first + length self.old.nodes))) }
+        ensures why { IfErr result (λ e. (e ≡ refusal.NoMemory) ⊎ ((e ≡ refusal.Stamps) × (stamps ≤ self.old.first + length self.old.nodes))) }
     {
         let Some(stamp) = self.next() else {
             return Err(Refusal::Stamps);
@@ -85,10 +83,10 @@ impl Draft {
         self.nodes
     }
 
-    // The next stamp, if it is below 2^44.
+    // The next stamp, if it is below `STAMPS`.
     fn next(&self) -> Option<u64>
-        ensures some { IfSome result (λ stamp. (stamp ≡ self.now.first + length self.now.nodes) × (stamp < 2 ^ 44)) }
-        ensures none { IfNone result (2 ^ 44 ≤ self.now.first + length self.now.nodes) }
+        ensures some { IfSome result (λ stamp. (stamp ≡ self.now.first + length self.now.nodes) × (stamp < stamps)) }
+        ensures none { IfNone result (stamps ≤ self.now.first + length self.now.nodes) }
     {
         let len = self.nodes.len() as u64;
         if self.first < STAMPS && len < STAMPS - self.first {

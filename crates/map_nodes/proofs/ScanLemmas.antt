@@ -16,7 +16,7 @@ use Rattle.map_nodes.proofs.ChangeLemmas.{shown-kept}
 use Rattle.map_nodes.specs.Scanning.{kid_shown, kids_shown}
 use Rattle.map_chunks.proofs.RowLemmas.{IsStrict-front}
 use Rattle.map_chunks.proofs.OpenLemmas.{Known, tree_of, shows_of, chunk_rows-at}
-use Rattle.map_chunks.proofs.ScanLemmas.{Turn, chunk_rows-kept, pairs_turn, shown_as, turn, value_of-pair}
+use Rattle.map_chunks.proofs.ScanLemmas.{Turn, chunk_rows-kept, pairs_turn, shown_as, value_of-pair}
 
 -- CHILDREN OF A DRAFT'S CHUNK
 

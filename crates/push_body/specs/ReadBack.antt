@@ -1,6 +1,6 @@
 -- What a JSON reader finds in the bodies: objects with just these fields.
 -- Source: Replicache, Push Endpoint Reference and Pull Endpoint Reference, version 1.
-use Rattle.std.specs.Prelude.{◌≡◌, ◌<◌, ◌^◌, List, [], ◌∷◌, All, codes, Option, Some, None, option_map, option_and_then, IsSomeAnd, Ok}
+use Rattle.std.specs.Prelude.{◌≡◌, ◌<◌, ◌^◌, List, [], ◌∷◌, All, codes, Option, Some, option_map, option_and_then, IsSomeAnd, Ok}
 use Rattle.std.specs.Str.{IsUtf8}
 use Rattle.serde_json.specs.Data.{Data, unsigned, number, string, array, object, Items, no_items, item, Members, no_members, member}
 use Rattle.serde_json.specs.Read.{read}

@@ -8,7 +8,8 @@ use lib.Seq.{set-get_or}
 use Rattle.atomic_table.specs.Table.{State, Splits}
 use Rattle.atomic_table.proofs.Lists.{at_set, set_here, set_else, at_longer}
 use Rattle.reader_claims.specs.declared.words.SlotState.TheVariants.{Taken}
-use Rattle.reader_claims.specs.Words.{most_readers, pin_at, slot_at, pin_word, slot_word}
+use Rattle.group_history.specs.Refs.{max_seats}
+use Rattle.reader_claims.specs.Words.{pin_at, slot_at, pin_word, slot_word}
 use Rattle.reader_claims.specs.Lists.{In, Noted}
 use Rattle.reader_claims.specs.Views.{reader, dealer, promoted, with_pin}
 use Rattle.reader_claims.specs.Plays.{dealt_left, dealt_right}
@@ -43,7 +44,7 @@ pub record Turns (k : Sizes) (s : St) (id : ℕ) (v w : View) (ws : List ℕ) : 
   pub long : length ws ≡ length s.words
   pub rises : get_or s.words 0 0 ≤ get_or ws 0 0
   pub low : get_or ws 0 0 ≤ 2 ^ 60
-  pub others : (j : ℕ) → 0 < j → j ≢ id → j ≤ most_readers → get_or ws (pin_at j) 0 ≡ get_or s.words (pin_at j) 0
+  pub others : (j : ℕ) → 0 < j → j ≢ id → j ≤ max_seats → get_or ws (pin_at j) 0 ≡ get_or s.words (pin_at j) 0
   pub mine : 0 < id → get_or ws (pin_at id) 0 ≡ pin_word w.pin
   pub behind : (w.loaded ≤ w.reached) × (w.reached ≤ get_or ws 0 0)
   pub fresh : (e : ℕ) → w.pin ≡ Held e → (v.pin ≡ Held e) ⊎ (get_or s.words 0 0 ≡ e)
@@ -130,7 +131,7 @@ module _ (k : Sizes) where
   none_noted i x R h = absurd (some-ne-none (i, x) (sym h.1))
 
   -- a step on the seat's own pin, which leaves it absent or stored
-  pub own_pin : (s : St) (o : Sound k s) (id : ℕ) (v : View) (p : Pin) (x : ℕ) → get_elem? s.views id ≡ some v → 0 < v.number → v.number ≤ most_readers → x ≡ pin_word p → ((e : ℕ) → p ≢ Held e)
+  pub own_pin : (s : St) (o : Sound k s) (id : ℕ) (v : View) (p : Pin) (x : ℕ) → get_elem? s.views id ≡ some v → 0 < v.number → v.number ≤ max_seats → x ≡ pin_word p → ((e : ℕ) → p ≢ Held e)
       → Sound k (board s (set s.words (pin_at v.number) x) (set s.views id (with_pin v p)))
   own_pin s o id v p x me some_pin few word never = let here : v.number ≡ id = o.pins.numbered id v me in let wide = o.pins.wide in let i : ℕ = pin_at v.number in
       let epoch : get_or (set s.words i x) 0 0 ≡ get_or s.words 0 0 = get_or-set_other s.words i 0 x 0 (λ e. omega arith) in

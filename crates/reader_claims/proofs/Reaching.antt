@@ -11,7 +11,8 @@ use Rattle.reader_claims.specs.declared.words.SlotState.TheVariants.{Free, Taken
 use Rattle.reader_claims.specs.declared.words.Pin.TheVariants.{Absent, Stored, Held}
 use Rattle.reader_claims.specs.declared.view.Sizes.{Sizes}
 use Rattle.reader_claims.specs.declared.view.View.{View}
-use Rattle.reader_claims.specs.Words.{most_readers, pin_at, first_slot, slot_at, pin_word, slot_word}
+use Rattle.group_history.specs.Refs.{max_seats}
+use Rattle.reader_claims.specs.Words.{pin_at, first_slot, slot_at, pin_word, slot_word}
 use Rattle.reader_claims.specs.Lists.{In, Noted}
 use Rattle.reader_claims.specs.Views.{dealer, promoted, IsOpen, with_epoch, with_pin, with_read, with_raise, with_taken, with_settled, with_withdrawn, with_retired, with_note, with_given}
 use Rattle.reader_claims.specs.Machine as machine
@@ -25,7 +26,7 @@ abbrev pub state : List ℕ → List View → St
 state ws vs = record { words = ws; homes = []; views = vs }
 
 module _ (k : Sizes) where
-  read_sound : (ws : List ℕ) (vs : List View) (o : Sound k (state ws vs)) (id : ℕ) (v : View) (i : ℕ) → get_elem? vs id ≡ some v → 0 < i → i ≤ most_readers
+  read_sound : (ws : List ℕ) (vs : List View) (o : Sound k (state ws vs)) (id : ℕ) (v : View) (i : ℕ) → get_elem? vs id ≡ some v → 0 < i → i ≤ max_seats
       → Sound k (state (set ws (pin_at i) (get_or ws (pin_at i) 0)) (set vs id (with_read v i (get_or ws (pin_at i) 0))))
   read_sound ws vs o id v i me some_pin few = let s = state ws vs in let w = with_read v i (get_or ws (pin_at i) 0) in
       let after : (j y e : ℕ) (u : View) → get_elem? vs j ≡ some u → Noted w.read j y → u.pin ≡ Held e → (y ≡ e + 1) ⊎ (w.reached ≤ e) = λ j y e u at noted h. here j y e u at h noted.0 noted.1 in
@@ -153,7 +154,7 @@ module _ (k : Sizes) where
   move_sound ws vs o id v me i x y w at (machine.give j r room open_at) = give_sound ws vs o id v j r me (roomy ws vs o id v me j room) open_at at
   move_sound ws vs o id v me i x y w at (machine.lost j old n room miss) = subst (λ q. Sound k (state (set ws (slot_at j) q) (set vs id (with_note v j old q)))) at (unmoved k (state ws vs) o (slot_at j) id v ((j, (old, get_or ws (slot_at j) 0)) ∷ v.found) me)
 
-  opened_sound : (ws : List ℕ) → length ws ≡ first_slot + k.slots → k.readers ≤ most_readers → ((j : ℕ) → get_or ws j 0 ≡ 0) → Sound k (state ws (dealer k 1 ∷ []))
+  opened_sound : (ws : List ℕ) → length ws ≡ first_slot + k.slots → k.readers ≤ max_seats → ((j : ℕ) → get_or ws j 0 ≡ 0) → Sound k (state ws (dealer k 1 ∷ []))
   opened_sound ws long sized zeros = record {
     pins = record {
       wide = long;
@@ -188,7 +189,7 @@ module _ (k : Sizes) where
   sound ws vs (machine.dealt ws' vs' id n r me some_pin room) = deals k id n some_pin room (state ws' vs') (sound ws' vs' r) me
   sound ws vs (machine.stepped ws' vs' id i y v w r me m) = move_sound ws' vs' (sound ws' vs' r) id v me i (get_or ws' i 0) y w refl m
 
-  pub opens : (ws : List ℕ) → length ws ≡ first_slot + k.slots → k.readers ≤ most_readers → ((j : ℕ) → get_or ws j 0 ≡ 0) → Lawful k (opening ws [] (dealer k 1))
+  pub opens : (ws : List ℕ) → length ws ≡ first_slot + k.slots → k.readers ≤ max_seats → ((j : ℕ) → get_or ws j 0 ≡ 0) → Lawful k (opening ws [] (dealer k 1))
   opens ws long sized zeros = machine.opened ws long sized zeros
 
   pub deals_as : (id n : ℕ) → 0 < n → n ≤ k.readers → Splits (Lawful k) id (dealer k n) (dealt_left (dealer k n)) (dealt_right (dealer k n))
@@ -209,18 +210,18 @@ module _ (k : Sizes) where
   loads_as n id m s r wide me _ = let o = sound s.words s.views r in let e : ℕ = get_or s.words 0 0 in let move : Move m.0 0 e e (with_epoch m.0 e) = machine.load_epoch e in
       goes s 0 id m (loaded (step n 0 0 0 none) m) e (with_epoch m.0 e) r me move ((refl, move), (o.pins.behind id m.0 me).1, o.pins.low)
 
-  pub stores_as : (n id : ℕ) (m : Sat) (i x e : ℕ) → i ≡ pin_at m.0.number → 0 < m.0.number → m.0.number ≤ most_readers → x ≡ e + 1 → Allows (Lawful k) n id m i (λ _. x) (λ _. stored (step n i x 0 none) m x)
+  pub stores_as : (n id : ℕ) (m : Sat) (i x e : ℕ) → i ≡ pin_at m.0.number → 0 < m.0.number → m.0.number ≤ max_seats → x ≡ e + 1 → Allows (Lawful k) n id m i (λ _. x) (λ _. stored (step n i x 0 none) m x)
   stores_as n id m i x e is some_pin few word s r wide me _ = let was : ℕ = get_or s.words i 0 in
       let move : Move m.0 i was x (with_pin m.0 (Stored e)) = subst (λ (q : ℕ × ℕ). Move m.0 q.0 was q.1 (with_pin m.0 (Stored e))) (λ d. (sym is d, sym word d)) (machine.store_pin was e some_pin few) in
       goes s i id m (λ _. stored (step n i x 0 none) m x) x (with_pin m.0 (Stored e)) r me move
       (λ e' same. let q : e ≡ e' = omega arith in subst (λ y. (x' : ℕ) × Goes (step n i x 0 none) m x' x (with_pin m.0 (Stored e), m.1) (with_pin m.0 (Stored y))) q (was, (refl, move)))
 
-  pub clears_as : (n id : ℕ) (m : Sat) (i : ℕ) → i ≡ pin_at m.0.number → 0 < m.0.number → m.0.number ≤ most_readers → Allows (Lawful k) n id m i (λ _. 0) (λ _. cleared (step n i 0 0 none) m 0)
+  pub clears_as : (n id : ℕ) (m : Sat) (i : ℕ) → i ≡ pin_at m.0.number → 0 < m.0.number → m.0.number ≤ max_seats → Allows (Lawful k) n id m i (λ _. 0) (λ _. cleared (step n i 0 0 none) m 0)
   clears_as n id m i is some_pin few s r wide me _ = let was : ℕ = get_or s.words i 0 in
       let move : Move m.0 i was 0 (with_pin m.0 Absent) = subst (λ q. Move m.0 q was 0 (with_pin m.0 Absent)) (sym is) (machine.clear_pin was some_pin few) in
       goes s i id m (λ _. cleared (step n i 0 0 none) m 0) 0 (with_pin m.0 Absent) r me move (was, (refl, move))
 
-  pub reads_as : (n id : ℕ) (m : Sat) (j : ℕ) → 0 < j → j ≤ most_readers → Allows (Lawful k) n id m (pin_at j) (λ y. y) (read (step n (pin_at j) 0 0 none) m)
+  pub reads_as : (n id : ℕ) (m : Sat) (j : ℕ) → 0 < j → j ≤ max_seats → Allows (Lawful k) n id m (pin_at j) (λ y. y) (read (step n (pin_at j) 0 0 none) m)
   reads_as n id m j some_pin few s r wide me _ = let x : ℕ = get_or s.words (pin_at j) 0 in let move : Move m.0 (pin_at j) x x (with_read m.0 j x) = machine.load_pin j x some_pin few in
       goes s (pin_at j) id m (read (step n (pin_at j) 0 0 none) m) x (with_read m.0 j x) r me move
       (λ j' at. let same : j ≡ j' = omega arith in told_at (step n (pin_at j) 0 0 none) m x x (λ q. with_read m.0 q x) j j' same move)
@@ -288,7 +289,7 @@ module _ (k : Sizes) where
       (λ miss. misses s id n m i old 0 T reached me room miss (λ told. (refl, λ i' e at at_e. ((λ z. absurd (miss z)), λ ne. told i' at))))
 
   -- the same at a word that is the slot's, or the pin's
-  pub reads_at : (n id : ℕ) (m : Sat) (j p : ℕ) → p ≡ pin_at j → 0 < j → j ≤ most_readers → Allows (Lawful k) n id m p (λ y. y) (read (step n p 0 0 none) m)
+  pub reads_at : (n id : ℕ) (m : Sat) (j p : ℕ) → p ≡ pin_at j → 0 < j → j ≤ max_seats → Allows (Lawful k) n id m p (λ y. y) (read (step n p 0 0 none) m)
   reads_at n id m j p at some_pin few = subst (λ q. Allows (Lawful k) n id m q (λ y. y) (read (step n q 0 0 none) m)) (sym at) (reads_as n id m j some_pin few)
 
   pub takes_at : (n id : ℕ) (m : Sat) (i new p : ℕ) → p ≡ slot_at i → i < m.0.sizes.slots → new ≡ slot_word (Taken m.0.number) → Allows (Lawful k) n id m p (λ y. either (eqb y 0) new y) (took (step n p 0 new none) m)

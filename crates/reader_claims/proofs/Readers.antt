@@ -4,7 +4,7 @@ use mathlib.Core.Logic.{dite}
 use native.Mathlib.Decide.{ℕ_discrete}
 use Rattle.atomic_table.specs.Seated.{TableId}
 use Rattle.reader_claims.specs.declared.view.View.{View}
-use Rattle.reader_claims.specs.Words.{most_readers}
+use Rattle.group_history.specs.Refs.{max_seats}
 use Rattle.reader_claims.specs.Views.{with_retired, with_note}
 use Rattle.reader_claims.specs.Machine.{Move}
 use Rattle.reader_claims.specs.Plays.{Sat, left_by}
@@ -17,11 +17,11 @@ id_of z m = record { table = z; sizes = m.0.sizes }
 -- the table and the number of a reader stay, and its epoch fits
 pub record Stays (z z' : TableId) (m n : Sat) (number : ℕ) : Type 0 where
   pub table : id_of z' n ≡ id_of z m
-  pub own : (n.0.number ≡ number) × (0 < number) × (number ≤ most_readers)
+  pub own : (n.0.number ≡ number) × (0 < number) × (number ≤ max_seats)
   pub bare : n.1 ≡ []
   pub low : n.0.reached ≤ 2 ^ 60
 
-pub stays : (z z' : TableId) (m n : Sat) (number : ℕ) (w : View) → z' ≡ z → n ≡ (w, m.1) → w.sizes ≡ m.0.sizes → w.number ≡ m.0.number → w.reached ≤ 2 ^ 60 → (m.0.number ≡ number) × (0 < number) × (number ≤ most_readers) → m.1 ≡ [] → Stays z z' m n number
+pub stays : (z z' : TableId) (m n : Sat) (number : ℕ) (w : View) → z' ≡ z → n ≡ (w, m.1) → w.sizes ≡ m.0.sizes → w.number ≡ m.0.number → w.reached ≤ 2 ^ 60 → (m.0.number ≡ number) × (0 < number) × (number ≤ max_seats) → m.1 ≡ [] → Stays z z' m n number
 stays z z' m n number w there is sizes same low own bare = record {
   table = let size : n.0.sizes ≡ m.0.sizes = ap (λ (x : Sat). x.0.sizes) is ∙ sizes in λ i. record { table = there i; sizes = size i };
   own = (ap (λ (x : Sat). x.0.number) is ∙ same ∙ own.0, own.1, own.2);

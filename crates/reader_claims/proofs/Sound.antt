@@ -7,19 +7,20 @@ use Rattle.reader_claims.specs.declared.words.Pin.TheVariants.{Absent, Held}
 use Rattle.reader_claims.specs.declared.words.SlotState.TheVariants.{Taken, Retired}
 use Rattle.reader_claims.specs.declared.view.Sizes.{Sizes}
 use Rattle.reader_claims.specs.declared.view.View.{View}
-use Rattle.reader_claims.specs.Words.{most_readers, pin_at, first_slot, slot_at, pin_word, slot_word}
+use Rattle.group_history.specs.Refs.{max_seats}
+use Rattle.reader_claims.specs.Words.{pin_at, first_slot, slot_at, pin_word, slot_word}
 use Rattle.reader_claims.specs.Lists.{In, Noted}
 
 -- The epoch and the pins
 pub record Pins (k : Sizes) (s : State (Unit {0}) View) : Type 0 where
   pub wide : length s.words ≡ first_slot + k.slots
-  pub sized : k.readers ≤ most_readers
+  pub sized : k.readers ≤ max_seats
   pub few : length s.views ≤ k.readers + 1
   pub of : (j : ℕ) (v : View) → get_elem? s.views j ≡ some v → v.sizes ≡ k
   pub numbered : (j : ℕ) (v : View) → get_elem? s.views j ≡ some v → v.number ≡ j
   pub dealing : (v : View) → get_elem? s.views 0 ≡ some v → v.next ≡ length s.views
   pub pinless : (v : View) → get_elem? s.views 0 ≡ some v → v.pin ≡ Absent
-  pub undealt : (j : ℕ) → length s.views ≤ j → j ≤ most_readers → slice_index s.words (pin_at j) ≡ 0
+  pub undealt : (j : ℕ) → length s.views ≤ j → j ≤ max_seats → slice_index s.words (pin_at j) ≡ 0
   pub low : slice_index s.words 0 ≤ 2 ^ 60
   -- each pin stands in its word
   pub pinned : (j : ℕ) (v : View) → get_elem? s.views j ≡ some v → 0 < j → slice_index s.words (pin_at j) ≡ pin_word v.pin

@@ -7,7 +7,8 @@ use Rattle.reader_claims.specs.declared.words.Pin.TheVariants.{Held}
 use Rattle.reader_claims.specs.declared.words.SlotState.TheVariants.{Free, Taken, Live, Retired}
 use Rattle.reader_claims.specs.declared.view.Sizes.{Sizes}
 use Rattle.reader_claims.specs.declared.view.View.{View}
-use Rattle.reader_claims.specs.Words.{most_readers, epoch_at, slot_at, slot_word}
+use Rattle.group_history.specs.Refs.{max_seats}
+use Rattle.reader_claims.specs.Words.{epoch_at, slot_at, slot_word}
 use Rattle.reader_claims.specs.Lists.{In, Noted}
 use Rattle.reader_claims.specs.Views.{reader, IsOpen}
 use Rattle.reader_claims.specs.Machine.{Move, Reached, Lawful}
@@ -63,5 +64,5 @@ StepLaw = (k : Sizes) (ws : List ℕ) (vs : List View) (id i y : ℕ) (v w : Vie
 
 -- The rule of the table of words has room for no other step here: an exchange from Live to Free breaks it, whatever becomes of the view of the seat (here of one that has seen nothing)
 abbrev pub BareLaw : Type 0
-BareLaw = (k : Sizes) (slot : ℕ) → 1 < k.readers → k.readers ≤ most_readers → slot < k.slots
+BareLaw = (k : Sizes) (slot : ℕ) → 1 < k.readers → k.readers ≤ max_seats → slot < k.slots
     → Allows (Lawful k) 0 2 (reader k 2, []) (slot_at slot) (left_by (slot_word Live) (slot_word Free)) (λ _ _. Unit {0}) → ⊥

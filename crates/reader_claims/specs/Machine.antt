@@ -8,16 +8,17 @@ use Rattle.reader_claims.specs.declared.words.Pin.TheVariants.{Absent, Stored}
 use Rattle.reader_claims.specs.declared.words.SlotState.TheVariants.{Free, Taken, Live, Retired}
 use Rattle.reader_claims.specs.declared.view.Sizes.{Sizes}
 use Rattle.reader_claims.specs.declared.view.View.{View}
-use Rattle.reader_claims.specs.Words.{most_readers, epoch_at, pin_at, first_slot, slot_at, slot_word}
+use Rattle.group_history.specs.Refs.{max_seats}
+use Rattle.reader_claims.specs.Words.{epoch_at, pin_at, first_slot, slot_at, slot_word}
 use Rattle.reader_claims.specs.Lists.{In}
 use Rattle.reader_claims.specs.Views.{reader, dealer, IsOpen, with_epoch, with_pin, with_read, with_raise, with_taken, with_settled, with_withdrawn, with_retired, with_given, with_note}
 
 -- A seat with the view v finds a number in a word and leaves one there, and then has another view: Move v WORD FOUND LEFT VIEW
 pub data Move (v : View) : ℕ → ℕ → ℕ → View → Type 0 where
   load_epoch : (e : ℕ) → Move v epoch_at e e (with_epoch v e)
-  store_pin : (x e : ℕ) → 0 < v.number → v.number ≤ most_readers → Move v (pin_at v.number) x (e + 1) (with_pin v (Stored e))
-  clear_pin : (x : ℕ) → 0 < v.number → v.number ≤ most_readers → Move v (pin_at v.number) x 0 (with_pin v Absent)
-  load_pin : (j x : ℕ) → 0 < j → j ≤ most_readers → Move v (pin_at j) x x (with_read v j x)
+  store_pin : (x e : ℕ) → 0 < v.number → v.number ≤ max_seats → Move v (pin_at v.number) x (e + 1) (with_pin v (Stored e))
+  clear_pin : (x : ℕ) → 0 < v.number → v.number ≤ max_seats → Move v (pin_at v.number) x 0 (with_pin v Absent)
+  load_pin : (j x : ℕ) → 0 < j → j ≤ max_seats → Move v (pin_at j) x x (with_read v j x)
   raise : (n : ℕ) → n < 2 ^ 60 → n ≤ v.reached → Move v epoch_at n (n + 1) (with_raise v (n + 1))
   -- the epoch was no longer n
   raise_lost : (n x : ℕ) → n ≤ v.reached → x ≢ n → Move v epoch_at x x (with_raise v x)
@@ -37,7 +38,7 @@ pub data Moves : View → View → Type 0 where
 
 -- The tables that steps lead to, by their words and the views of their seats. The view of the reader j stands at the place j, and the dealer's at 0.
 pub data Reached (k : Sizes) : List ℕ → List View → Type 0 where
-  opened : (ws : List ℕ) → length ws ≡ first_slot + k.slots → k.readers ≤ most_readers → ((i : ℕ) → slice_index ws i ≡ 0) → Reached k ws (dealer k 1 ∷ [])
+  opened : (ws : List ℕ) → length ws ≡ first_slot + k.slots → k.readers ≤ max_seats → ((i : ℕ) → slice_index ws i ≡ 0) → Reached k ws (dealer k 1 ∷ [])
   dealt : (ws : List ℕ) (vs : List View) (id n : ℕ) → Reached k ws vs → get_elem? vs id ≡ some (dealer k n) → 0 < n → n ≤ k.readers → Reached k ws (slice_set vs id (dealer k (n + 1)) ++ reader k n ∷ [])
   stepped : (ws : List ℕ) (vs : List View) (id i y : ℕ) (v w : View) → Reached k ws vs → get_elem? vs id ≡ some v → Move v i (slice_index ws i) y w → Reached k (slice_set ws i y) (slice_set vs id w)
 

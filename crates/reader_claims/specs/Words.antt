@@ -1,24 +1,21 @@
 -- The words of the table: where each stands, and which number stands for a pin or a slot.
--- Words lie 8 bytes apart, so 8 words fill a cache line: the epoch and each pin have a line of their own. The layout is that of 256 readers, however many there are.
+-- Words lie 8 bytes apart, so 8 words fill a cache line: the epoch and each pin have a line of their own. The layout is that of `max_seats` readers, however many there are.
 use Rattle.std.specs.Prelude.{ℕ, ◌+◌, ◌*◌, ◌-◌, ◌^◌, ◌<◌}
+use Rattle.group_history.specs.Refs.{max_seats}
 use Rattle.reader_claims.specs.declared.words.Pin.{Pin}
 use Rattle.reader_claims.specs.declared.words.Pin.TheVariants.{Absent, Stored, Held}
 use Rattle.reader_claims.specs.declared.words.SlotState.{SlotState}
 use Rattle.reader_claims.specs.declared.words.SlotState.TheVariants.{Free, Taken, Live, Retired}
 
--- the readers are numbered from 1 on
-abbrev pub most_readers : ℕ
-most_readers = 256
-
 abbrev pub epoch_at : ℕ
 epoch_at = 0
 
--- the word of the pin of the reader j
+-- the word of the pin of the reader j, counted from 1 on
 abbrev pub pin_at : ℕ → ℕ
 pin_at j = 8 * j
 
 abbrev pub first_slot : ℕ
-first_slot = 2056
+first_slot = 8 * (max_seats + 1)
 
 -- the word of the slot i
 abbrev pub slot_at : ℕ → ℕ

@@ -33,6 +33,7 @@
 //! follows from it is the contract of [`claims_law`](crate::claims_law). What a seat knows is its
 //! view, and each call says how it changes.
 ghost use Rattle.std.specs.Prelude.{◌≡◌, ℕ, ◌+◌, ◌^◌, ◌<◌, ◌≤◌, [], true, false, IfOk, IfErr, IfNone, IfSome, MatchResult, MatchOption, ◌∷◌};
+ghost use Rattle.group_history.specs.Refs.{max_slots, max_seats};
 ghost use Rattle.group_history.specs.declared.refusals.Refusal.TheVariants.{NoMemory};
 ghost use Rattle.reader_claims.specs.declared.words.Pin.TheVariants.{Absent};
 ghost use Rattle.reader_claims.specs.Lists.{In};
@@ -115,11 +116,11 @@ impl ClaimSeat {
 }
 
 impl Claims {
-    /// A table of 16 to 2^20 slots, all free, whose epoch is 0, and its 1 to 64 seats. It is refused
-    /// with `NoMemory` alone, and no other call takes memory.
+    /// A table of 16 to `MAX_SLOTS` slots, all free, whose epoch is 0, and its 1 to `MAX_SEATS` seats.
+    /// It is refused with `NoMemory` alone, and no other call takes memory.
     pub fn new(alloc: Global, slots: u32, readers: u32) -> Result<(Claims, Vec<ClaimSeat>), Refusal>
-        requires slots { (16 ≤ slots) × (slots ≤ 2 ^ 20) }
-        requires readers { (1 ≤ readers) × (readers ≤ 64) }
+        requires slots { (16 ≤ slots) × (slots ≤ max_slots) }
+        requires readers { (1 ≤ readers) × (readers ≤ max_seats) }
         ensures sizes { IfOk result (λ made. made.0.sizes ≡ record { readers = readers; slots = slots }) }
         ensures seats { IfOk result (λ made. AreSeats made.0 readers made.1.items) }
         ensures err { IfErr result (λ refusal. refusal ≡ NoMemory) }

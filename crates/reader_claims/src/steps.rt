@@ -1,9 +1,10 @@
 // The single steps: each loads, stores or exchanges one word, and its clause says which step of the
 // machine it was.
 ghost use Rattle.std.specs.Prelude.{◌≡◌, ◌≢◌, ℕ, ◌+◌, ◌^◌, ◌<◌, ◌≤◌, [], true, false, max, ◌-◌};
+ghost use Rattle.group_history.specs.Refs.{max_seats};
 ghost use Rattle.reader_claims.specs.declared.words.Pin.TheVariants.{Absent, Stored};
 ghost use Rattle.reader_claims.specs.declared.words.SlotState.TheVariants.{Free, Taken, Live, Retired};
-ghost use Rattle.reader_claims.specs.Words.{epoch_at, pin_at, slot_at, slot_word, first_slot, most_readers, IsSmall};
+ghost use Rattle.reader_claims.specs.Words.{epoch_at, pin_at, slot_at, slot_word, first_slot, IsSmall};
 ghost use Rattle.reader_claims.specs.Lists.{In};
 ghost use Rattle.reader_claims.specs.Views.{IsOpen, with_epoch, with_pin, with_read, with_raise, with_taken, with_settled, with_withdrawn, with_retired, with_given, with_note};
 ghost use Rattle.reader_claims.specs.Plays.{left_by};
@@ -24,7 +25,7 @@ use std::alloc::Global;
 pub(crate) struct Words {
     pub(crate) table: Table<(), View, Sizes, Claimed, Global>,
     pub(crate) sizes: Sizes,
-    ghost sized: { (table.shared.key ≡ sizes) × (table.shared.table_id.words ≡ first_slot + sizes.slots) × (sizes.readers ≤ most_readers) },
+    ghost sized: { (table.shared.key ≡ sizes) × (table.shared.table_id.words ≡ first_slot + sizes.slots) × (sizes.readers ≤ max_seats) },
 }
 
 // A seat at the table. Its epoch is at most 2 ^ 60, so that what is one above it fits a word.
@@ -32,7 +33,7 @@ pub(crate) struct Words {
 pub(crate) struct Reader {
     pub(crate) seat: Seat<(), View>,
     pub(crate) number: u32,
-    ghost own: { (seat.me.0.number ≡ number) × (0 < number) × (number ≤ most_readers) },
+    ghost own: { (seat.me.0.number ≡ number) × (0 < number) × (number ≤ max_seats) },
     ghost bare: { seat.me.1 ≡ [] },
     ghost low: { seat.me.0.reached ≤ 2 ^ 60 },
 }
@@ -81,7 +82,7 @@ impl Words {
     // The word of the pin of a reader.
     pub(crate) fn load_pin(&self, reader: &mut Reader, other: u32) -> u64
         requires table { reader_id reader.old ≡ words_id self.now }
-        requires other { (0 < other) × (other ≤ most_readers) }
+        requires other { (0 < other) × (other ≤ max_seats) }
         ensures table { reader_id reader.new ≡ reader_id reader.old }
         ensures view { view reader.new ≡ with_read (view reader.old) other result }
         ensures step { Move (view reader.old) (pin_at other) result result (view reader.new) }

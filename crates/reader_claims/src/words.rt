@@ -2,6 +2,8 @@
 // else packs or unpacks one.
 ghost use Rattle.std.specs.Prelude.{◌≡◌, ◌≤◌, ◌<◌, ◌^◌};
 
+use group_history::MAX_SEATS;
+
 /// A reader's pin, as its own seat knows it. Another seat reads a held pin as stored.
 #[derive(Clone, Copy, Debug, PartialEq, Eq)]
 pub enum Pin {
@@ -25,7 +27,7 @@ pub enum SlotState {
 
 pub(crate) const EPOCH: usize = 0;
 
-pub(crate) const FIRST_SLOT: usize = 2056;
+pub(crate) const FIRST_SLOT: usize = 8 * (MAX_SEATS as usize + 1);
 
 pub(crate) const FREE: u64 = 0;
 
@@ -34,11 +36,12 @@ pub(crate) const LIVE: u64 = 1;
 pub(crate) const NO_PIN: u64 = 0;
 
 impl Pin {
-    ghost use Rattle.reader_claims.specs.Words.{pin_at, most_readers, pin_word, IsSmallPin};
+    ghost use Rattle.group_history.specs.Refs.{max_seats};
+    ghost use Rattle.reader_claims.specs.Words.{pin_at, pin_word, IsSmallPin};
 
     // Where the pin of a reader stands.
     pub(crate) fn place(reader: u32) -> usize
-        requires { reader ≤ most_readers }
+        requires { reader ≤ max_seats }
         ensures { result ≡ pin_at reader }
     {
         8 * reader as usize

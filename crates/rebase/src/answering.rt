@@ -9,7 +9,7 @@ use group_history::{Mutators, Refusal};
 use std::alloc::{AllocError, Global};
 
 impl<M: Mutators + Drop> Solo<M> {
-    /// Makes one call. A refused one leaves the group as it was.
+    /// Makes one call. A refused one leaves the group as it was, but for StateNotFound, which closes it.
     pub fn make_call(&mut self, call: Call<'_>) -> Result<Reply, Refusal>
         ensures answer { IsReplyTo call.entry (replied result) (reply_to M.means self.old call.entry) }
         ensures left { self.new ≡ left_by M.means self.old call.entry (replied result) }
@@ -19,6 +19,7 @@ impl<M: Mutators + Drop> Solo<M> {
             Call::Has(key) => Ok(Reply::Is(self.has(key)?)),
             Call::Scan(scan) => Ok(Reply::Rows(self.scan(scan)?)),
             Call::IsEmpty => Ok(Reply::Is(self.is_empty()?)),
+            Call::Closed => Ok(Reply::Is(self.closed()?)),
             Call::Pending => Ok(Reply::Pending(self.pending()?)),
             Call::Cookie => Ok(Reply::Cookie(self.cookie()?)),
             Call::Last(client) => Ok(Reply::Id(self.last(client)?)),

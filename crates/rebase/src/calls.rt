@@ -25,6 +25,8 @@ pub enum Call<'a> {
     Has(&'a Text),
     Scan(&'a Scan),
     IsEmpty,
+    /// Whether the group is closed.
+    Closed,
     Pending,
     Cookie,
     Last(&'a Text),

@@ -10,7 +10,7 @@ ghost use Rattle.group_history.specs.State.{opening};
 ghost use Rattle.group_history.specs.declared.refusals.Refusal.TheVariants.{NoMemory};
 ghost use Rattle.pull_patch.specs.Grammar.{answer_to};
 ghost use Rattle.push_body.specs.Bodies.{pull_text, push_text};
-ghost use Rattle.rebase.specs.Calls.{reply_to, left_by, IsReplyTo, AreReplies};
+ghost use Rattle.rebase.specs.Calls.{asked, reply_to, left_by, IsReplyTo, AreReplies};
 ghost use Rattle.rebase.specs.Replying.{replied};
 ghost use Rattle.rebase.specs.Solos.{end_bytes_reply, left_by_bytes};
 
@@ -59,7 +59,7 @@ impl<M: Mutators + Drop> Plain<M> {
         })
     }
 
-    /// Makes one call. A refused one leaves the group as it was.
+    /// Makes one call. A refused one leaves the group as it was, but for StateNotFound, which closes it.
     pub fn make_call(&mut self, call: Call<'_>) -> Result<Reply, Refusal>
         ensures answer { IsReplyTo call.entry (replied result) (reply_to M.means self.old call.entry) }
         ensures left { self.new ≡ left_by M.means self.old call.entry (replied result) }
@@ -69,6 +69,7 @@ impl<M: Mutators + Drop> Plain<M> {
             Call::Has(key) => Ok(Reply::Is(self.group.has(key))),
             Call::Scan(scan) => Ok(Reply::Rows(self.group.scan(scan)?)),
             Call::IsEmpty => Ok(Reply::Is(self.group.is_empty())),
+            Call::Closed => Ok(Reply::Is(self.group.closed())),
             Call::Pending => Ok(Reply::Pending(self.pending()?)),
             Call::Cookie => Ok(Reply::Cookie(self.group.cookie().clone()?)),
             Call::Last(client) => Ok(Reply::Id(self.group.last(client))),
@@ -139,8 +140,8 @@ impl<M: Mutators + Drop> Plain<M> {
     }
 
     fn mutate(&mut self, m: Mutate<'_>) -> Result<u64, Refusal>
-        ensures answer { Answers result (mutate_reply M.means self.old.state m.entry.client.now m.entry.last m.entry.name.now m.entry.args.now) }
-        ensures left { self.new.state ≡ left_by_mutate result self.old.state m.entry.client.now m.entry.name.now m.entry.args.now m.entry.time }
+        ensures answer { Answers result (mutate_reply M.means self.old.state m.entry.last (asked m.entry)) }
+        ensures left { self.new.state ≡ left_by_mutate result self.old.state (asked m.entry) }
         ensures same { self.new.identity ≡ self.old.identity }
     {
         self.group

@@ -1,7 +1,7 @@
 //! Local commits: a new mutation, and pending ones that are replayed.
-ghost use Rattle.std.specs.Prelude.{◌≡◌, ◌⊎◌, length, Some, Ok, Err, IsSome, IfOk, IfErr};
+ghost use Rattle.std.specs.Prelude.{◌≡◌, ◌⊎◌, false, length, Some, Ok, Err, IsSome, IfOk, IfErr};
 ghost use Rattle.group_history.specs.Map.{Entries};
-ghost use Rattle.group_history.specs.Meaning.{Meaning, left_by};
+ghost use Rattle.group_history.specs.Meaning.{Meaning, left_by, meaning_of};
 ghost use Rattle.group_history.specs.Mutating.{after_mutate, by_meaning, map_of};
 ghost use Rattle.group_history.specs.Refs.{stamp_of};
 ghost use Rattle.group_history.specs.Spelling.{Contents, map_at, Spells};
@@ -32,13 +32,13 @@ pub fn mutated<M: Mutators>(
 ) -> Result<Ref, Refusal>
     requires behind { draft.old.first ≡ length nodes.now }
     requires map { IsSome (map_at (staged nodes.now draft.old.nodes) (stamp_of tip.root)) }
-    ensures ok { (s : State) → IsTip M.means (staged nodes.now draft.old.nodes) tip s → IfOk result (λ at. (by_meaning (M.means mutation.name mutation.args (view_of M.means s)) mutation.id ≡ Ok mutation.id) × Spells M.means (staged nodes.now draft.new.nodes) (stamp_of at) (after_mutate s mutation)) }
-    ensures err { (s : State) → IsTip M.means (staged nodes.now draft.old.nodes) tip s → IfErr result (λ e. RefusesOrStamps e (by_meaning (M.means mutation.name mutation.args (view_of M.means s)) mutation.id)) }
+    ensures ok { (s : State) → IsTip M.means (staged nodes.now draft.old.nodes) tip s → s.closed ≡ false → IfOk result (λ at. (by_meaning (meaning_of M.means mutation (view_of M.means s)) mutation.id ≡ Ok mutation.id) × Spells M.means (staged nodes.now draft.new.nodes) (stamp_of at) (after_mutate s mutation)) }
+    ensures err { (s : State) → IsTip M.means (staged nodes.now draft.old.nodes) tip s → IfErr result (λ e. RefusesOrStamps e (by_meaning (meaning_of M.means mutation (view_of M.means s)) mutation.id)) }
     ensures first { draft.new.first ≡ draft.old.first }
 {
     let run = run_on(alloc, nodes, draft, Tree::at(tip.root), mutators, &mutation)?;
     let tree = done(run)?;
-    let after = add_local(alloc, draft, tree, tip.commit, mutation)?;
+    let after = add_local(alloc, draft, tree, tip, mutation)?;
     Ok(after.commit)
 }
 
@@ -77,13 +77,13 @@ fn replay_one<M: Mutators>(
 ) -> Result<Tip, Refusal>
     requires behind { draft.old.first ≡ length nodes.now }
     requires map { IsSome (map_at (staged nodes.now draft.old.nodes) (stamp_of tip.root)) }
-    ensures tip { (s : State) → IsTip M.means (staged nodes.now draft.old.nodes) tip s → IfOk result (λ after. IsTip M.means (staged nodes.now draft.new.nodes) after (after_mutate s mutation.now)) }
+    ensures tip { (s : State) → IsTip M.means (staged nodes.now draft.old.nodes) tip s → s.closed ≡ false → IfOk result (λ after. IsTip M.means (staged nodes.now draft.new.nodes) after (after_mutate s mutation.now)) }
     ensures first { draft.new.first ≡ draft.old.first }
     ensures err { IfErr result (λ e. (e ≡ NoMemory) ⊎ (e ≡ Stamps)) }
 {
     let mutation_kept = mutation.clone()?;
     let run = run_on(alloc, nodes, draft, Tree::at(tip.root), mutators, mutation)?;
-    add_local(alloc, draft, kept(run, tip.root), tip.commit, mutation_kept)
+    add_local(alloc, draft, kept(run, tip.root), tip, mutation_kept)
 }
 
 /// Drafts a commit for each of the mutations, in order.
@@ -96,8 +96,8 @@ pub fn replayed<M: Mutators>(
     pending: &[Mutation],
 ) -> Result<Tip, Refusal>
     requires behind { draft.old.first ≡ length nodes.now }
-    requires tip { (s : State) × IsTip M.means (staged nodes.now draft.old.nodes) basis s }
-    ensures tip { (s : State) → IsTip M.means (staged nodes.now draft.old.nodes) basis s → IfOk result (λ after. IsTip M.means (staged nodes.now draft.new.nodes) after (with_more s pending.now)) }
+    requires tip { (s : State) × IsTip M.means (staged nodes.now draft.old.nodes) basis s × (s.closed ≡ false) }
+    ensures tip { (s : State) → IsTip M.means (staged nodes.now draft.old.nodes) basis s → s.closed ≡ false → IfOk result (λ after. IsTip M.means (staged nodes.now draft.new.nodes) after (with_more s pending.now)) }
     ensures first { draft.new.first ≡ draft.old.first }
     ensures err { IfErr result (λ e. (e ≡ NoMemory) ⊎ (e ≡ Stamps)) }
 {

@@ -3,6 +3,7 @@ ghost use Rattle.std.specs.Prelude.{◌≡◌, Some, IsSome, IfOk, IfErr, length
 ghost use Rattle.group_history.specs.declared.mutators.Stop.{Stop as Stopped};
 ghost use Rattle.group_history.specs.declared.refusals.Refusal.TheVariants.{NoMemory};
 ghost use Rattle.group_history.specs.Map.{Entries};
+ghost use Rattle.group_history.specs.Meaning.{meaning_of};
 ghost use Rattle.map_tree.specs.Trees.{tree_map};
 ghost use Rattle.transactions.specs.Maps.{shown_map};
 ghost use Rattle.rebase.specs.Fixing.{staged};
@@ -32,16 +33,17 @@ fn run_known<C: Chunks + Copy, K: Known, M: Mutators>(
     requires known { C.contents chunks ≡ K.known }
     requires shown { (s : Stopped) → C.stops s → ⊥ }
     requires map { IsSome (tree_map K.known tree) }
-    ensures ran { IfOk result (λ run. HasRun K.known (M.means mutation.now.name mutation.now.args (shown_map K.known tree)) run) }
+    ensures ran { IfOk result (λ run. HasRun K.known (meaning_of M.means mutation.now (shown_map K.known tree)) run) }
     ensures err { IfErr result (λ e. e ≡ NoMemory) }
 {
     let mut view = WriteTx::new(alloc, Fixed::<C, K>::new(chunks), tree);
-    let ran = mutators.run(alloc, mutation.name.as_str(), &mutation.args, &mut view)?;
+    let name = mutation.name.as_str();
+    let ran = mutators.run(alloc, name, &mutation.args, mutation.reason, &mut view)?;
     let (_, tree) = view.into_parts();
     Ok(Run { ran, tree })
 }
 
-/// Runs a mutation's mutator on a tree.
+/// Runs a mutation's mutator on a tree, for the mutation's reason.
 pub fn run_on<'a, M: Mutators>(
     alloc: Global,
     nodes: &'a VecNodes,
@@ -52,7 +54,7 @@ pub fn run_on<'a, M: Mutators>(
 ) -> Result<Run, Refusal>
     requires behind { draft.now.first ≡ length nodes.now }
     requires map { IsSome (tree_map (staged nodes.now draft.now.nodes) tree) }
-    ensures ran { (m : Entries) → tree_map (staged nodes.now draft.now.nodes) tree ≡ Some m → IfOk result (λ run. HasRun (staged nodes.now draft.now.nodes) (M.means mutation.now.name mutation.now.args m) run) }
+    ensures ran { (m : Entries) → tree_map (staged nodes.now draft.now.nodes) tree ≡ Some m → IfOk result (λ run. HasRun (staged nodes.now draft.now.nodes) (meaning_of M.means mutation.now m) run) }
     ensures err { IfErr result (λ e. e ≡ NoMemory) }
 {
     let chunks = Staged::new(nodes, draft);

@@ -3,26 +3,26 @@
 //! Its nodes lie in a vector, and its head is a plain reference. The invariant (`IsHead`) says that the
 //! head spells the group's state, that queries read the state's view there, and that each client's
 //! pending ids are the numbers that follow its confirmed id.
-ghost use Rattle.std.specs.Prelude.{◌≡◌, ◌⊎◌, IfOk, IfErr, IsOkUnless, map};
-ghost use Rattle.group_history.specs.declared.refusals.Refusal.TheVariants.{NoMemory};
-ghost use Rattle.group_history.specs.Mutating.{mutate_reply, left_by_mutate};
+ghost use Rattle.std.specs.Prelude.{◌≡◌, ◌⊎◌, ◌+◌, false, Ok, IfOk, IfErr, OnOk, OnErr, IsOkUnless, map};
+ghost use Rattle.group_history.specs.declared.refusals.Refusal.TheVariants.{NoMemory, Stamps};
+ghost use Rattle.group_history.specs.Meaning.{meaning_of};
+ghost use Rattle.group_history.specs.Mutating.{mutate_reply, by_meaning, after_mutate, left_by_mutate};
 ghost use Rattle.group_history.specs.Naming.{content_of};
-ghost use Rattle.group_history.specs.Pulling.{end_reply, left_by_end};
+ghost use Rattle.group_history.specs.Pulling.{goes_back, end_at, open_end_reply, after_pull, after_closing, left_at_end, left_by_end};
 ghost use Rattle.group_history.specs.Queries.{get_at, has_at, rows_at, is_empty_at};
 ghost use Rattle.group_history.specs.Refs.{stamp_of};
 ghost use Rattle.group_history.specs.Spelling.{Spells, version_of};
-ghost use Rattle.group_history.specs.State.{opening, last_id};
-ghost use Rattle.group_history.specs.declared.responses.Response.TheVariants as response;
+ghost use Rattle.group_history.specs.State.{opening, made, view_of, last_id};
 ghost use Rattle.pull_patch.specs.Grammar.{answer_to};
 ghost use Rattle.push_body.specs.Bodies.{pull_text, push_text};
-ghost use Rattle.rebase.specs.Refusing.{AnswersOrStamps};
+ghost use Rattle.rebase.specs.Refusing.{AnswersOrStamps, RefusesOrStamps};
 ghost use Rattle.rebase.specs.Solos.{end_bytes_reply, left_by_bytes};
 
-use crate::looks::{state_here, tip_here};
+use crate::looks::{base_here, pending_here, tip_here};
 use crate::pulls::{judged, rebased};
 use crate::replays::mutated;
 use crate::tickets::Ticket;
-use crate::tips::add_opening;
+use crate::tips::{add_closing, add_opening};
 use commits::{VecNodes, last_id_of};
 use group_history::{
     Cookie, Ended, Json, Mutation, Mutators, PullOk, Ref, Refusal, Response, Scan, Text,
@@ -181,8 +181,17 @@ impl<M: Mutators + Drop> Solo<M> {
         Ok(Ticket { body, cookie })
     }
 
+    /// Whether the group is closed. Takes no memory, and is never refused.
+    pub fn closed(&self) -> Result<bool, Refusal>
+        ensures closed { IfOk result (λ closed. closed ≡ self.now.state.closed) }
+        ensures err { IfErr result (λ e. ⊥) }
+    {
+        let mut tx = self.read()?;
+        Ok(tx.closed()?)
+    }
+
     /// Makes a mutation, by a client whose own last id is `last`, and answers its id. `time` is in
-    /// milliseconds. Refused, in this order, with Stale, NoMutator, Refused.
+    /// milliseconds. Refused, in this order, with Closed, Stale, NoMutator, Refused.
     pub fn mutate(
         &mut self,
         client: &Text,
@@ -191,22 +200,33 @@ impl<M: Mutators + Drop> Solo<M> {
         args: &Json,
         time: u64,
     ) -> Result<u64, Refusal>
-        ensures answer { AnswersOrStamps result (mutate_reply M.means self.old.state client.now last name.now args.now) }
-        ensures left { self.new.state ≡ left_by_mutate result self.old.state client.now name.now args.now time }
+        ensures answer { AnswersOrStamps result (mutate_reply M.means self.old.state last (made client.now (last + 1) name.now args.now time)) }
+        ensures left { self.new.state ≡ left_by_mutate result self.old.state (made client.now (last + 1) name.now args.now time) }
         ensures same { self.new.identity ≡ self.old.identity }
     {
+        if self.closed()? {
+            return Err(Refusal::Closed);
+        }
         if self.last(client)? != last {
             return Err(Refusal::Stale);
         }
         let alloc = self.alloc;
         let id = last + 1;
-        let mutation = Mutation {
-            client: client.clone()?,
-            id,
-            name: name.clone()?,
-            args: args.clone()?,
-            timestamp: time,
-        };
+        let mutation = Mutation::new(client, id, name, args, time)?;
+        self.accept(alloc, mutation)?;
+        Ok(id)
+    }
+
+    // Adds the client's next mutation, unless its mutator refuses or isn't known.
+    fn accept(&mut self, alloc: Global, mutation: Mutation) -> Result<(), Refusal>
+        requires open { self.old.state.closed ≡ false }
+        requires next { mutation.id ≡ last_id self.old.state mutation.client + 1 }
+        ensures done { OnOk result (by_meaning (meaning_of M.means mutation (view_of M.means self.old.state)) mutation.id ≡ Ok mutation.id) }
+        ensures ok { OnOk result (self.new.state ≡ after_mutate self.old.state mutation) }
+        ensures err { OnErr result (self.new.state ≡ self.old.state) }
+        ensures why { IfErr result (λ e. RefusesOrStamps e (by_meaning (meaning_of M.means mutation (view_of M.means self.old.state)) mutation.id)) }
+        ensures same { self.new.identity ≡ self.old.identity }
+    {
         let tip = tip_here(&self.nodes, self.head)?;
         let mut draft = self.nodes.draft(alloc);
         let head = mutated(
@@ -219,28 +239,35 @@ impl<M: Mutators + Drop> Solo<M> {
         )?;
         self.nodes.append(draft)?;
         self.head = head;
-        Ok(id)
+        Ok(())
     }
 
     /// Ends a pull with the bytes of its response. They are read first, and refused with NotJson, BadShape or
-    /// NotWhole where they are no response; then the pull is ended.
+    /// NotWhole where they are no response; then the pull is ended. Refused, in this order, with Closed, what
+    /// an error response says, Overtaken, CookieWentBack, CookieNotNew, IdWentBack. StateNotFound closes the
+    /// group, whatever the ticket.
     pub fn end_pull(&mut self, ticket: &Cookie, body: &[u8]) -> Result<Ended, Refusal>
         ensures answer { AnswersOrStamps result (end_bytes_reply self.old.state ticket.now.text body.now) }
         ensures left { self.new.state ≡ left_by_bytes result self.old.state (answer_to body.now) }
         ensures same { self.new.identity ≡ self.old.identity }
     {
         let response = read_response(self.alloc, body)?;
+        if self.closed()? {
+            return Err(Refusal::Closed);
+        }
         self.end(ticket, &response)
     }
 
-    // Ends a pull with its response.
+    // Ends a pull of an open group with its response.
     fn end(&mut self, ticket: &Cookie, response: &Response) -> Result<Ended, Refusal>
-        ensures answer { AnswersOrStamps result (end_reply self.old.state ticket.now.text response.now) }
+        requires { self.old.state.closed ≡ false }
+        ensures answer { AnswersOrStamps result (open_end_reply self.old.state ticket.now.text response.now) }
         ensures left { self.new.state ≡ left_by_end result self.old.state response.now }
         ensures same { self.new.identity ≡ self.old.identity }
     {
         match response {
             Response::StateNotFound => {
+                self.close()?;
                 return Err(Refusal::StateNotFound);
             }
             Response::VersionNotSupported(kind) => {
@@ -252,25 +279,66 @@ impl<M: Mutators + Drop> Solo<M> {
         }
     }
 
-    // Ends a pull that brought no error.
-    fn end_ok(&mut self, ticket: &Cookie, pull: &PullOk) -> Result<Ended, Refusal>
-        ensures answer { AnswersOrStamps result (end_reply self.old.state ticket.now.text (response.Ok pull.now)) }
-        ensures left { self.new.state ≡ left_by_end result self.old.state (response.Ok pull.now) }
+    // Closes the group.
+    fn close(&mut self) -> Result<(), Refusal>
+        requires { self.old.state.closed ≡ false }
+        ensures ok { OnOk result (self.new.state ≡ after_closing self.old.state) }
+        ensures err { OnErr result (self.new.state ≡ self.old.state) }
+        ensures why { IfErr result (λ e. (e ≡ NoMemory) ⊎ (e ≡ Stamps)) }
         ensures same { self.new.identity ≡ self.old.identity }
     {
-        let alloc = self.alloc;
-        let state = state_here(alloc, &self.nodes, self.head)?;
-        match judged(&state, ticket, pull)? {
+        let tip = tip_here(&self.nodes, self.head)?;
+        let mut draft = self.nodes.draft(self.alloc);
+        let head = add_closing(&mut draft, tip)?;
+        self.nodes.append(draft)?;
+        self.head = head;
+        Ok(())
+    }
+
+    // Ends a pull of an open group that brought no error.
+    fn end_ok(&mut self, ticket: &Cookie, pull: &PullOk) -> Result<Ended, Refusal>
+        requires { self.old.state.closed ≡ false }
+        ensures answer { AnswersOrStamps result (end_at self.old.state ticket.now.text pull.now) }
+        ensures left { self.new.state ≡ left_at_end result self.old.state pull.now }
+        ensures same { self.new.identity ≡ self.old.identity }
+    {
+        let base = base_here(&self.nodes, self.head)?;
+        match judged(&base, ticket, pull)? {
             Ended::Same => {
                 return Ok(Ended::Same);
             }
             Ended::Applied => {
-                let mut draft = self.nodes.draft(alloc);
-                let head = rebased(alloc, &self.nodes, &mut draft, &self.mutators, &state, pull)?;
-                self.nodes.append(draft)?;
-                self.head = head;
+                self.apply(pull)?;
                 return Ok(Ended::Applied);
             }
         }
+    }
+
+    // Sets the head to the state after a pull that confirms no less than was confirmed.
+    fn apply(&mut self, pull: &PullOk) -> Result<(), Refusal>
+        requires open { self.old.state.closed ≡ false }
+        requires forward { goes_back self.old.state.confirmed pull.now.changes ≡ false }
+        ensures ok { OnOk result (self.new.state ≡ after_pull self.old.state pull.now) }
+        ensures err { OnErr result (self.new.state ≡ self.old.state) }
+        ensures why { IfErr result (λ e. (e ≡ NoMemory) ⊎ (e ≡ Stamps)) }
+        ensures same { self.new.identity ≡ self.old.identity }
+    {
+        let alloc = self.alloc;
+        let base = base_here(&self.nodes, self.head)?;
+        let pending = pending_here(alloc, &self.nodes, self.head)?;
+        let mut draft = self.nodes.draft(alloc);
+        let mutators = &self.mutators;
+        let head = rebased(
+            alloc,
+            &self.nodes,
+            &mut draft,
+            mutators,
+            &base,
+            &pending,
+            pull,
+        )?;
+        self.nodes.append(draft)?;
+        self.head = head;
+        Ok(())
     }
 }

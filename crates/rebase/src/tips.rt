@@ -2,32 +2,60 @@
 //!
 //! A commit's map is drafted before the commit itself. Both are told as a `Tip`, from which the next
 //! commit goes on.
-ghost use Rattle.std.specs.Prelude.{◌≡◌, ◌⊎◌, [], length, Some, IfOk, IfErr};
+ghost use Rattle.std.specs.Prelude.{◌≡◌, ◌⊎◌, [], false, length, Some, IfOk, IfErr};
 ghost use Rattle.std.specs.FinMap as finite;
 ghost use mathlib.Core.List.{IsPrefix};
 ghost use Rattle.group_history.specs.Cookies.{null_cookie};
 ghost use Rattle.group_history.specs.Map.{Entries};
 ghost use Rattle.group_history.specs.Mutating.{after_mutate};
+ghost use Rattle.group_history.specs.Pulling.{after_closing};
 ghost use Rattle.group_history.specs.Refs.{stamp_of};
-ghost use Rattle.group_history.specs.Spelling.{Contents, Version, version_at};
-ghost use Rattle.group_history.specs.State.{opening};
+ghost use Rattle.group_history.specs.Spelling.{Contents, Version, version_at, snapshot_at, map_at, stepped};
+ghost use Rattle.group_history.specs.State.{opening, pulled_state};
 ghost use Rattle.group_history.specs.declared.refusals.Refusal.TheVariants.{NoMemory, Stamps};
 ghost use Rattle.map_chunks.specs.Places.{with_nodes};
 ghost use Rattle.map_tree.specs.Trees.{tree_map};
 ghost use Rattle.rebase.specs.Chaining.{HasTip};
 
 use group_history::{
-    Chunk, Commit, Cookie, Keys, Leaf, Local, Mutation, Node, Ref, Refusal, Snapshot, TextMap,
+    Chunk, Commit, ConfirmedIds, Cookie, Keys, Kind, Leaf, Mutation, Node, Over, Ref, Refusal,
+    Snapshot, Step, TextMap,
 };
 use map_tree::{Draft, Tree};
 use std::alloc::{AllocError, Global};
 use std::sync::Arc;
 
-/// The newest commit of a chain, and the root of the map that queries read at it.
+/// The newest commit of a chain, the snapshot at which the chain begins, and the root of the map that
+/// queries read at the commit.
 #[derive(Clone, Copy, Debug)]
 pub struct Tip {
     pub commit: Ref,
+    pub snapshot: Ref,
     pub root: Ref,
+}
+
+// Drafts a commit over a basis, with the map of this root.
+fn add_over(draft: &mut Draft, basis: Tip, root: Ref, step: Step) -> Result<Tip, Refusal>
+    ensures spelled { (contents : Contents) (v : Version) (m : Entries) → length contents ≡ draft.old.first → version_at (with_nodes contents draft.old.nodes) (stamp_of basis.commit) ≡ Some v → snapshot_at (with_nodes contents draft.old.nodes) (stamp_of basis.commit) ≡ Some (stamp_of basis.snapshot) → v.state.closed ≡ false → map_at (with_nodes contents draft.old.nodes) (stamp_of root) ≡ Some m → IfOk result (λ tip. HasTip (with_nodes contents draft.new.nodes) tip (record { state = stepped v.state step; read = m })) }
+    ensures first { draft.new.first ≡ draft.old.first }
+    ensures grown { IsPrefix draft.old.nodes draft.new.nodes }
+    ensures why { IfErr result (λ e. (e ≡ NoMemory) ⊎ (e ≡ Stamps)) }
+{
+    let snapshot = basis.snapshot;
+    let over = Over {
+        basis: basis.commit,
+        snapshot,
+        step,
+    };
+    let commit = draft.push(Node::Commit(Commit {
+        root,
+        kind: Kind::Over(over),
+    }))?;
+    Ok(Tip {
+        commit,
+        snapshot,
+        root,
+    })
 }
 
 /// Drafts what a tree has new, and a local commit of its map.
@@ -35,21 +63,27 @@ pub fn add_local(
     alloc: Global,
     draft: &mut Draft,
     tree: Tree,
-    basis: Ref,
+    basis: Tip,
     mutation: Mutation,
 ) -> Result<Tip, Refusal>
-    ensures spelled { (contents : Contents) (v : Version) (m : Entries) → length contents ≡ draft.old.first → version_at (with_nodes contents draft.old.nodes) (stamp_of basis) ≡ Some v → tree_map (with_nodes contents draft.old.nodes) tree ≡ Some m → IfOk result (λ tip. HasTip (with_nodes contents draft.new.nodes) tip (record { state = after_mutate v.state mutation; read = m })) }
+    ensures spelled { (contents : Contents) (v : Version) (m : Entries) → length contents ≡ draft.old.first → version_at (with_nodes contents draft.old.nodes) (stamp_of basis.commit) ≡ Some v → snapshot_at (with_nodes contents draft.old.nodes) (stamp_of basis.commit) ≡ Some (stamp_of basis.snapshot) → v.state.closed ≡ false → tree_map (with_nodes contents draft.old.nodes) tree ≡ Some m → IfOk result (λ tip. HasTip (with_nodes contents draft.new.nodes) tip (record { state = after_mutate v.state mutation; read = m })) }
     ensures first { draft.new.first ≡ draft.old.first }
     ensures grown { IsPrefix draft.old.nodes draft.new.nodes }
     ensures why { IfErr result (λ e. (e ≡ NoMemory) ⊎ (e ≡ Stamps)) }
 {
     let root = tree.freeze(alloc, draft)?;
-    let commit = draft.push(Node::Commit(Commit::Local(Local {
-        basis,
-        mutation,
-        root,
-    })))?;
-    Ok(Tip { commit, root })
+    let tip = add_over(draft, basis, root, Step::Local(mutation))?;
+    Ok(tip)
+}
+
+/// Drafts a commit that closes the group. It has the map of its basis.
+pub fn add_closing(draft: &mut Draft, basis: Tip) -> Result<Ref, Refusal>
+    ensures spelled { (contents : Contents) (v : Version) → length contents ≡ draft.old.first → HasTip (with_nodes contents draft.old.nodes) basis v → v.state.closed ≡ false → IfOk result (λ at. version_at (with_nodes contents draft.new.nodes) (stamp_of at) ≡ Some (record { state = after_closing v.state; read = v.read })) }
+    ensures first { draft.new.first ≡ draft.old.first }
+    ensures why { IfErr result (λ e. (e ≡ NoMemory) ⊎ (e ≡ Stamps)) }
+{
+    let tip = add_over(draft, basis, basis.root, Step::Closed)?;
+    Ok(tip.commit)
 }
 
 /// Drafts what a tree has new, and a snapshot of its map.
@@ -58,20 +92,21 @@ pub fn add_snapshot(
     draft: &mut Draft,
     tree: Tree,
     cookie: Cookie,
-    confirmed: TextMap<u64>,
+    confirmed: ConfirmedIds,
 ) -> Result<Tip, Refusal>
-    ensures spelled { (contents : Contents) (m : Entries) → length contents ≡ draft.old.first → tree_map (with_nodes contents draft.old.nodes) tree ≡ Some m → IfOk result (λ tip. HasTip (with_nodes contents draft.new.nodes) tip (record { state = record { pulled = m; cookie = cookie; confirmed = confirmed; pending = [] }; read = m })) }
+    ensures spelled { (contents : Contents) (m : Entries) → length contents ≡ draft.old.first → tree_map (with_nodes contents draft.old.nodes) tree ≡ Some m → IfOk result (λ tip. HasTip (with_nodes contents draft.new.nodes) tip (record { state = pulled_state m cookie confirmed; read = m })) }
     ensures first { draft.new.first ≡ draft.old.first }
     ensures grown { IsPrefix draft.old.nodes draft.new.nodes }
     ensures why { IfErr result (λ e. (e ≡ NoMemory) ⊎ (e ≡ Stamps)) }
 {
     let root = tree.freeze(alloc, draft)?;
-    let commit = draft.push(Node::Commit(Commit::Snapshot(Snapshot {
-        cookie,
-        confirmed,
+    let kind = Kind::Snapshot(Snapshot { cookie, confirmed });
+    let commit = draft.push(Node::Commit(Commit { root, kind }))?;
+    Ok(Tip {
+        commit,
+        snapshot: commit,
         root,
-    })))?;
-    Ok(Tip { commit, root })
+    })
 }
 
 fn empty_leaf(alloc: Global) -> Result<Leaf, AllocError>
@@ -89,11 +124,9 @@ pub fn add_opening(alloc: Global, draft: &mut Draft) -> Result<Ref, Refusal>
     ensures err { IfErr result (λ e. e ≡ NoMemory) }
 {
     let root = draft.push(Node::Chunk(Chunk::Leaf(empty_leaf(alloc)?)))?;
-    let snapshot = Snapshot {
-        cookie: Cookie::null(alloc)?,
-        confirmed: TextMap::new(alloc),
-        root,
-    };
-    let head = draft.push(Node::Commit(Commit::Snapshot(snapshot)))?;
+    let cookie = Cookie::null(alloc)?;
+    let confirmed = ConfirmedIds::new(alloc, TextMap::new(alloc))?;
+    let kind = Kind::Snapshot(Snapshot { cookie, confirmed });
+    let head = draft.push(Node::Commit(Commit { root, kind }))?;
     Ok(head)
 }

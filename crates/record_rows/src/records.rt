@@ -1,29 +1,35 @@
-//! Words of references and replies of changes; and the laws of the record, which are called as any function is.
+//! Words of references, replies of changes and a refusal's message; and the laws of the record, which are called as
+//! any function is.
 use crate::requests::incremented;
-use group_history::{Change, Ref, Refusal, Reply, Text, record_laws, worked_examples};
+use group_history::{
+    Change, MAX_SLOTS, Ref, Refusal, Reply, STAMPS, Text, record_laws, worked_examples,
+};
 use std::alloc::Global;
 
-/// The id that is the reply to a mutation.
-fn id_of(alloc: Global) -> Result<Option<u64>, Refusal> {
+/// An accepted mutation.
+fn mutated(alloc: Global) -> Result<Change, Refusal> {
     let client = Text::new(alloc, "a")?;
-    let made = Change::Mutated(incremented(alloc, client)?);
-    match made.reply() {
-        Reply::Id(id) => Ok(Some(id)),
-        Reply::Ended(_) => Ok(None),
-    }
+    Ok(Change::Mutated(incremented(alloc, client)?))
 }
 
-fn tell_reply(rt: &HostRuntime) -> anyhow::Result<()> {
-    match id_of(rt.alloc())? {
-        Some(id) => println!(rt; "reply: id {id}")?,
-        None => println!(rt; "reply: something else")?,
+fn tell_reply(rt: &HostRuntime, change: &Change) -> anyhow::Result<()> {
+    match change.reply() {
+        Reply::Id(id) => println!(rt; "reply: id {id}")?,
+        Reply::Ended(_) => println!(rt; "reply: an end of a pull")?,
+        Reply::StateNotFound => println!(rt; "reply: StateNotFound")?,
     }
+    Ok(())
+}
+
+/// What an application tells its user once the group is closed.
+fn tell_message(rt: &HostRuntime, refusal: Refusal) -> anyhow::Result<()> {
+    println!(rt; "{refusal:?}: {refusal}")?;
     Ok(())
 }
 
 /// The word of the highest reference, that of a low one, and the stamp and the slot of that one.
 fn tell_references(rt: &HostRuntime) -> anyhow::Result<()> {
-    let highest = Ref::new((1 << 44) - 1, (1 << 20) - 1).bits();
+    let highest = Ref::new(STAMPS - 1, (MAX_SLOTS - 1) as u32).bits();
     let low = Ref::new(1, 3).bits();
     let read = Ref::from_bits(low);
     let (stamp, slot) = (read.stamp(), read.slot());
@@ -34,6 +40,8 @@ fn tell_references(rt: &HostRuntime) -> anyhow::Result<()> {
 pub(crate) fn tell_all(rt: &HostRuntime) -> anyhow::Result<()> {
     record_laws();
     worked_examples();
-    tell_reply(rt)?;
+    tell_reply(rt, &mutated(rt.alloc())?)?;
+    tell_reply(rt, &Change::Closed)?;
+    tell_message(rt, Refusal::Closed)?;
     tell_references(rt)
 }

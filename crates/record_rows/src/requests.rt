@@ -33,13 +33,7 @@ fn identity_of(texts: Vec<Text>) -> Option<Identity> {
 pub(crate) fn incremented(alloc: Global, client: Text) -> Result<Mutation, Refusal> {
     let name = Text::new(alloc, "incr")?;
     let args = Json::read(alloc, b"[\"n\",1]")?;
-    Ok(Mutation {
-        client,
-        id: 1,
-        name,
-        args,
-        timestamp: 1000,
-    })
+    Ok(Mutation::new(&client, 1, &name, &args, 1000)?)
 }
 
 /// The body of a push of one increment for each client.

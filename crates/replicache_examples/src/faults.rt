@@ -4,7 +4,7 @@ use std::{fs, io};
 
 /// Scripts that are files of their own, and what is told of them.
 const WHOLE: [(&str, &str); 2] = [
-    ("many_clients", "line 65: too many clients"),
+    ("many_clients", "line 257: too many clients"),
     ("not_utf8", "line 4: not UTF-8"),
 ];
 

@@ -2,15 +2,16 @@
 use crate::runs::{Ran, read, run, run_plainly};
 use std::io::{self, Write};
 
-pub(crate) const STORIES: [&str; 5] = [
+pub(crate) const STORIES: [&str; 6] = [
     "counter",
     "offline",
     "comes_back",
     "overtaken",
     "no_response",
+    "closed",
 ];
 
-pub(crate) const ROWS: [&str; 33] = [
+pub(crate) const ROWS: [&str; 36] = [
     "first_pull",
     "empty",
     "counted_lines",
@@ -21,6 +22,7 @@ pub(crate) const ROWS: [&str; 33] = [
     "two_clients",
     "steps_of_a_group",
     "rebased",
+    "reasons",
     "cleared",
     "overtaken",
     "same",
@@ -28,6 +30,7 @@ pub(crate) const ROWS: [&str; 33] = [
     "low_cookies",
     "confirmed_ids",
     "no_responses",
+    "closed_group",
     "texts",
     "sums",
     "two_of_one_id",
@@ -38,6 +41,7 @@ pub(crate) const ROWS: [&str; 33] = [
     "numbers",
     "seventeen_keys",
     "a_hundred_each",
+    "most_clients",
     "deep_arguments",
     "deep_bodies_125",
     "deep_bodies_126",

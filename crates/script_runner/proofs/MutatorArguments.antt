@@ -10,7 +10,7 @@ use Rattle.group_history.specs.Map.{Bytes, Entries}
 use Rattle.group_history.specs.Json.{text_of}
 use Rattle.group_history.specs.Meaning.{Meaning}
 use Rattle.std.specs.Prelude.{Option}
-use Rattle.script_runner.specs.Mutators.{wrong_arguments, needs, value_of, one_item, two_items, text_and_value, meaning_at, meaning_of}
+use Rattle.script_runner.specs.Mutators.{wrong_arguments, needs, value_of, one_item, two_items, text_and_value, meaning_at, meaning_at_text}
 
 -- it nests at most 124 deep, and no number in it is a float
 abbrev pub HasText : Data → Type 0
@@ -66,6 +66,6 @@ pub HasText-value : (args : Data) (both : Bytes × Data) → HasText args → So
 HasText-value args both h is = subst (λ o. IfSome o (λ both. HasText both.1)) (sym is) (HasText-part args h)
 
 -- at arguments that read as a value a mutator means what it means at the value
-pub meaning_of_read : (means : Option (Data → Entries → Meaning)) (args : Bytes) (d : Data) (m : Entries) → value_of args ≡ Some d → meaning_of means args m ≡ meaning_at means d m
-meaning_of_read None args d m is = refl
-meaning_of_read (Some means) args d m is = ap (λ o. needs wrong_arguments o (λ a. means a m)) is
+pub meaning_at_text_read : (means : Option (Data → Entries → Meaning)) (args : Bytes) (d : Data) (m : Entries) → value_of args ≡ Some d → meaning_at_text means args m ≡ meaning_at means d m
+meaning_at_text_read None args d m is = refl
+meaning_at_text_read (Some means) args d m is = ap (λ o. needs wrong_arguments o (λ a. means a m)) is

@@ -86,6 +86,7 @@ learn_line c rest =
 unfoldable pub bare_command : Bytes → Option Command
 bare_command name =
     if same_text name (codes "empty") then Some (command.Query query.Empty)
+    else if same_text name (codes "closed") then Some (command.Query query.Closed)
     else if same_text name (codes "pending") then Some (command.Query query.Pending)
     else if same_text name (codes "cookie") then Some (command.Query query.Cookie)
     else if same_text name (codes "push") then Some (command.Query query.Push)

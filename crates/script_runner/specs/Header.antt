@@ -3,6 +3,7 @@
 use Rattle.std.specs.Prelude.{codes, [], ◌∷◌, ◌++◌, length, nat_lt, Option, Some, is_some, is_none, Result, Err, if◌then◌else◌}
 use Rattle.std.specs.Str.Parse.{digits_value}
 use Rattle.group_history.specs.Map.{Bytes, same_text}
+use Rattle.group_history.specs.Refs.{max_slots, max_seats}
 use Rattle.script_runner.specs.declared.faults.ScriptFault.{ScriptFault}
 use Rattle.script_runner.specs.declared.faults.ScriptFault.TheVariants as fault
 use Rattle.script_runner.specs.Context.{Context, place_of, meets}
@@ -25,13 +26,13 @@ schema_line c rest = meets ((is_some rest, fault.BadWords) ∷ (is_none c.schema
 -- `slots N`
 unfoldable pub slots_line : Context → Option Bytes → Result Context ScriptFault
 slots_line c rest =
-    meets ((is_word (text rest), fault.BadWords) ∷ (is_number 16 1_048_576 (text rest), fault.BadNumber) ∷ (is_none c.slots, fault.SaidTwice) ∷ [])
+    meets ((is_word (text rest), fault.BadWords) ∷ (is_number 16 max_slots (text rest), fault.BadNumber) ∷ (is_none c.slots, fault.SaidTwice) ∷ [])
     (record c { slots = Some (digits_value 10 (text rest)) })
 
 -- a client of a new name, where there is room for one
 abbrev pub admitted : Context → Bytes → Bytes → Result Context ScriptFault
 admitted c name id =
-    meets ((is_none (place_of name c.clients), fault.SaidTwice) ∷ (nat_lt (length c.clients) 64, fault.TooManyClients) ∷ [])
+    meets ((is_none (place_of name c.clients), fault.SaidTwice) ∷ (nat_lt (length c.clients) max_seats, fault.TooManyClients) ∷ [])
     (record c { clients = c.clients ++ (name, id) ∷ [] })
 
 -- `client NAME UUID`
@@ -41,7 +42,7 @@ client_line c rest =
     let id = text (more (text rest)) in
     meets ((is_some rest, fault.BadWords) ∷ (is_client_name name, fault.BadWords) ∷ (is_word id, fault.BadWords) ∷ (is_uuid id, fault.BadUuid)
     ∷ (is_none (place_of name c.clients), fault.SaidTwice)
-    ∷ (nat_lt (length c.clients) 64, fault.TooManyClients)
+    ∷ (nat_lt (length c.clients) max_seats, fault.TooManyClients)
     ∷ [])
     (record c { clients = c.clients ++ (name, uuid_said id) ∷ [] })
 

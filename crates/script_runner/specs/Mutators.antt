@@ -5,6 +5,8 @@ use Rattle.std.specs.FinMap as finite
 use Rattle.serde_json.specs.Data.{Data, string, Items, no_items, item}
 use Rattle.serde_json.specs.Find.{as_array, as_str, as_number, as_i64}
 use Rattle.serde_json.specs.Written.{compact_text}
+use Rattle.group_history.specs.declared.mutations.Reason.{Reason}
+use Rattle.group_history.specs.declared.mutations.Reason.TheVariants.{Initial, Rebase}
 use Rattle.group_history.specs.Map.{Bytes, Entries, same_text}
 use Rattle.group_history.specs.Meaning.{Meaning, Meanings, unknown, refuses, done}
 use Rattle.group_history.specs.Cookies.{value_read}
@@ -95,21 +97,32 @@ incr_means args m =
     needs out_of_range (sum_of n a.1) (λ sum.
     done (finite.insert m a.0 (signed_decimal sum))))))
 
+-- the text at a key, followed by another
+unfoldable pub appended : Bytes → Bytes → Entries → Meaning
+appended key added m = needs other_kind (followed (finite.get m key) added) (λ s. done (finite.insert m key s))
+
 -- `append`: the text at the key is followed by a text
 unfoldable pub append_means : Data → Entries → Meaning
-append_means args m =
-    needs wrong_arguments (text_and_text args) (λ a.
-    needs other_kind (followed (finite.get m a.0) a.1) (λ s.
-    done (finite.insert m a.0 s)))
+append_means args m = needs wrong_arguments (text_and_text args) (λ a. appended a.0 a.1 m)
 
--- the mutator of a name, where there is one
-unfoldable pub mutator_of : Bytes → Option (Data → Entries → Meaning)
-mutator_of name =
+-- the text that tells a reason
+abbrev pub reason_text : Reason → Bytes
+reason_text Initial = codes "i"
+reason_text Rebase = codes "r"
+
+-- `tag`: the text at the key is followed by the text of the reason
+unfoldable pub tag_means : Reason → Data → Entries → Meaning
+tag_means why args m = needs wrong_arguments (text_alone args) (λ key. appended key (reason_text why) m)
+
+-- the mutator of a name as it is run for a reason, where there is one; only `tag` looks at the reason
+unfoldable pub mutator_of : Bytes → Reason → Option (Data → Entries → Meaning)
+mutator_of name why =
     if same_text name (codes "set") then Some set_means
     else (if same_text name (codes "incr") then Some incr_means
     else (if same_text name (codes "del") then Some del_means
     else (if same_text name (codes "append") then Some append_means
-    else None)))
+    else (if same_text name (codes "tag") then Some (tag_means why)
+    else None))))
 
 -- what a mutator means at the value that the arguments are; without one it is unknown
 abbrev pub meaning_at : Option (Data → Entries → Meaning) → Data → Entries → Meaning
@@ -117,10 +130,10 @@ meaning_at None args m = unknown
 meaning_at (Some means) args m = means args m
 
 -- the same at the arguments' text
-abbrev pub meaning_of : Option (Data → Entries → Meaning) → Bytes → Entries → Meaning
-meaning_of None args m = unknown
-meaning_of (Some means) args m = needs wrong_arguments (value_of args) (λ d. means d m)
+abbrev pub meaning_at_text : Option (Data → Entries → Meaning) → Bytes → Entries → Meaning
+meaning_at_text None args m = unknown
+meaning_at_text (Some means) args m = needs wrong_arguments (value_of args) (λ d. means d m)
 
 -- what a name means
 unfoldable pub script_means : Meanings
-script_means name args m = meaning_of (mutator_of name) args m
+script_means name args why m = meaning_at_text (mutator_of name why) args m

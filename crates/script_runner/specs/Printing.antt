@@ -46,6 +46,7 @@ refusal_name refusal.IdWentBack = codes "IdWentBack"
 refusal_name refusal.StateNotFound = codes "StateNotFound"
 refusal_name (refusal.VersionNotSupported kind) = codes "VersionNotSupported"
 refusal_name refusal.NoSeat = codes "NoSeat"
+refusal_name refusal.Closed = codes "Closed"
 
 -- what follows the name
 abbrev pub refusal_detail : Refusal → Bytes

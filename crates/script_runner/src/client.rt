@@ -56,6 +56,7 @@ impl Client {
             Query::Has(key) => Call::Has(key),
             Query::Scan(scan) => Call::Scan(scan),
             Query::Empty => Call::IsEmpty,
+            Query::Closed => Call::Closed,
             Query::Pending => Call::Pending,
             Query::Cookie => Call::Cookie,
             Query::Push => Call::PushBody,

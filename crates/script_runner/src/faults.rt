@@ -24,7 +24,7 @@ pub enum ScriptFault {
     BadNumber,
     /// A header line that may stand once stands twice, or a client's name does.
     SaidTwice,
-    /// The 65th client line.
+    /// One client line more than a group has seats.
     TooManyClients,
     /// Arguments that are no JSON of whole numbers, or nest too deep.
     BadJson,

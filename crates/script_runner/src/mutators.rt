@@ -1,8 +1,8 @@
-//! The mutators of scripts: `set`, `incr`, `del` and `append`.
+//! The mutators of scripts: `set`, `incr`, `del`, `append` and `tag`.
 //!
 //! Each takes a JSON array as its arguments, and refuses with a code where they are wrong or where the
-//! value at the key doesn't suit. What each means is a definition in `specs/Mutators`, and the clause
-//! `ran` of its function says that it is run as that, over any view.
+//! value at the key doesn't suit. `tag` alone looks at the reason. What each means is a definition in
+//! `specs/Mutators`, and the clause `ran` of its function says that it is run as that, over any view.
 ghost use Rattle.std.specs.Prelude.{◌≡◌, ◌≤◌, ◌⊎◌, false, Some, IfOk, IfErr, OnOk, option_map, option_and_then, string_bytes};
 ghost use Rattle.std.specs.Fmt.{signed_decimal};
 ghost use Rattle.std.specs.FinMap as finite;
@@ -14,7 +14,7 @@ ghost use Rattle.group_history.specs.Ran.{RunsAs};
 ghost use Rattle.group_history.specs.declared.mutators.Stop.TheVariants.{NoMemory};
 ghost use Rattle.script_runner.specs.Mutators as spec;
 
-use group_history::{Json, Mutators, Ran, Refusal, Stop, WriteView};
+use group_history::{Json, Means, Mutators, Ran, Reason, Refusal, Stop, WriteView};
 use serde_json::Value;
 use std::alloc::{AllocError, Global};
 
@@ -22,19 +22,22 @@ use std::alloc::{AllocError, Global};
 #[derive(Clone, Copy, Debug)]
 pub struct ScriptMutators;
 
-impl Mutators for ScriptMutators {
+impl Means for ScriptMutators {
     ghost means = { spec.script_means };
+}
 
-    #[tactic(auto, using(crate::proofs::MutatorArguments::meaning_of_read), unfolding(crate::specs::Mutators::script_means))]
+impl Mutators for ScriptMutators {
+    #[tactic(auto, using(crate::proofs::MutatorArguments::meaning_at_text_read), unfolding(crate::specs::Mutators::script_means))]
     fn run<V: WriteView>(
         &self,
         alloc: Global,
         name: &str,
         args: &Json,
+        why: Reason,
         view: &mut V,
     ) -> Result<Ran, Stop> {
         let args = value_of(alloc, args)?;
-        run_named(alloc, name, &args, view)
+        run_named(alloc, name, &args, why, view)
     }
 }
 
@@ -44,11 +47,12 @@ fn run_named<V: WriteView>(
     alloc: Global,
     name: &str,
     args: &Value,
+    why: Reason,
     view: &mut V,
 ) -> Result<Ran, Stop>
     requires shallow { depth (data_of args.now) ≤ 124 }
     requires whole { has_float (data_of args.now) ≡ false }
-    ensures ran { IfOk result (λ ran. RunsAs (spec.meaning_at (spec.mutator_of name.now) (data_of args.now) (V.contents view.old)) ran (V.contents view.new)) }
+    ensures ran { IfOk result (λ ran. RunsAs (spec.meaning_at (spec.mutator_of name.now why) (data_of args.now) (V.contents view.old)) ran (V.contents view.new)) }
     ensures stopped { IfErr result (λ stop. (stop ≡ NoMemory) ⊎ V.stops stop) }
 {
     if name == "set" {
@@ -62,6 +66,9 @@ fn run_named<V: WriteView>(
     }
     if name == "append" {
         return append(alloc, args, view);
+    }
+    if name == "tag" {
+        return tag(alloc, args, why, view);
     }
     Ok(Ran::Unknown)
 }
@@ -137,7 +144,7 @@ fn del<V: WriteView>(args: &Value, view: &mut V) -> Result<Ran, Stop>
     Ok(Ran::Done)
 }
 
-/// Lets a text follow the text at the key, the empty one where the key isn't there.
+/// Lets a text follow the text at the key.
 #[tactic(auto, unfolding(crate::specs::Mutators::append_means))]
 fn append<V: WriteView>(alloc: Global, args: &Value, view: &mut V) -> Result<Ran, Stop>
     ensures ran { IfOk result (λ ran. RunsAs (spec.append_means (data_of args.now) (V.contents view.old)) ran (V.contents view.new)) }
@@ -146,6 +153,36 @@ fn append<V: WriteView>(alloc: Global, args: &Value, view: &mut V) -> Result<Ran
     let Some((key, added)) = text_and_text(args) else {
         return Ok(Ran::Refused(WRONG_ARGUMENTS));
     };
+    lengthen(alloc, key, added, view)
+}
+
+/// Lets the text of the reason follow the text at the key.
+#[tactic(auto, unfolding(crate::specs::Mutators::tag_means))]
+fn tag<V: WriteView>(alloc: Global, args: &Value, why: Reason, view: &mut V) -> Result<Ran, Stop>
+    ensures ran { IfOk result (λ ran. RunsAs (spec.tag_means why (data_of args.now) (V.contents view.old)) ran (V.contents view.new)) }
+    ensures stopped { IfErr result (λ stop. (stop ≡ NoMemory) ⊎ V.stops stop) }
+{
+    let Some(key) = text_alone(args) else {
+        return Ok(Ran::Refused(WRONG_ARGUMENTS));
+    };
+    lengthen(alloc, key, reason_text(why), view)
+}
+
+fn reason_text(why: Reason) -> &'static str
+    ensures { result.now ≡ spec.reason_text why }
+{
+    match why {
+        Reason::Initial => "i",
+        Reason::Rebase => "r",
+    }
+}
+
+/// Lets a text follow the text at a key, the empty one where the key isn't there.
+#[tactic(auto, unfolding(crate::specs::Mutators::appended))]
+fn lengthen<V: WriteView>(alloc: Global, key: &str, added: &str, view: &mut V) -> Result<Ran, Stop>
+    ensures ran { IfOk result (λ ran. RunsAs (spec.appended key.now added.now (V.contents view.old)) ran (V.contents view.new)) }
+    ensures stopped { IfErr result (λ stop. (stop ≡ NoMemory) ⊎ V.stops stop) }
+{
     let there = view.get(key)?;
     let Some(text) = followed(alloc, there, added)? else {
         return Ok(Ran::Refused(OTHER_KIND));

@@ -214,6 +214,7 @@ fn refusal_name(refusal: Refusal) -> &'static str
         Refusal::StateNotFound => "StateNotFound",
         Refusal::VersionNotSupported(_) => "VersionNotSupported",
         Refusal::NoSeat => "NoSeat",
+        Refusal::Closed => "Closed",
     }
 }
 

@@ -17,7 +17,7 @@ use crate::faults::{Fault, LineFault, ScriptFault};
 use crate::lines::{
     first_word, is_client_name, is_ticket_name, no_words, number, one_word, rest, word_of,
 };
-use group_history::{Json, Refusal, Scan, Start, Text};
+use group_history::{Json, MAX_SEATS, MAX_SLOTS, Refusal, Scan, Start, Text};
 use push_body::Identity;
 use std::alloc::{AllocError, Global};
 use uuid::Uuid;
@@ -50,6 +50,8 @@ pub(crate) enum Query {
     Scan(Scan),
     /// Whether no key is there.
     Empty,
+    /// Whether the group is closed.
+    Closed,
     /// The pending mutations of the group.
     Pending,
     Cookie,
@@ -103,10 +105,6 @@ pub(crate) struct Script {
 }
 
 const FEWEST_SLOTS: u64 = 16;
-
-const MOST_SLOTS: u64 = 1_048_576;
-
-const MOST_CLIENTS: usize = 64;
 
 const LATEST_TIME: u64 = 9_007_199_254_740_991;
 
@@ -292,7 +290,7 @@ impl Parser {
         ensures { Follows (slots_line (context_of self.old) (option_copied rest.entry))
             (context_of self.new) result }
     {
-        let slots = number(one_word(rest)?, FEWEST_SLOTS, MOST_SLOTS)?;
+        let slots = number(one_word(rest)?, FEWEST_SLOTS, MAX_SLOTS)?;
         if self.header.slots.is_some() {
             return Err(LineFault::Script(ScriptFault::SaidTwice));
         }
@@ -321,7 +319,7 @@ impl Parser {
         if self.header.place_of(name).is_some() {
             return Err(LineFault::Script(ScriptFault::SaidTwice));
         }
-        if self.header.clients.len() >= MOST_CLIENTS {
+        if self.header.clients.len() as u64 >= MAX_SEATS {
             return Err(LineFault::Script(ScriptFault::TooManyClients));
         }
         let name = Text::new(self.alloc, name)?;
@@ -599,6 +597,9 @@ fn bare_command(name: &str) -> Option<Command>
 {
     if name == "empty" {
         return Some(Command::Query(Query::Empty));
+    }
+    if name == "closed" {
+        return Some(Command::Query(Query::Closed));
     }
     if name == "pending" {
         return Some(Command::Query(Query::Pending));

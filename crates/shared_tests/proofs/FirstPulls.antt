@@ -1,21 +1,21 @@
 -- The first pull of a group, where it brings a cookie and nothing else.
-use Rattle.std.proofs.Common.{◌≡◌, ℕ, ◌+◌, ◌<◌, ◌^◌, length, Result, Ok, Err, IfOk, List, [], ◌∷◌, ◌++◌, Some, Option, refl, ap, sym, ◌∙◌, subst, arith}
+use Rattle.std.proofs.Common.{◌≡◌, ℕ, ◌+◌, ◌<◌, length, Result, Ok, Err, IfOk, List, [], ◌∷◌, ◌++◌, Some, Option, refl, ap, sym, ◌∙◌, subst, arith}
 use Rattle.std.specs.Prelude.{option_and_then, option_map}
 use Rattle.std.specs.FinMap as finite
 use Rattle.std.specs.declared.cmp.Ordering.TheVariants.{Greater}
 use mathlib.Core.List.{IsPrefix}
 use Rattle.group_history.specs.declared.refs.Ref.{Ref}
 use Rattle.group_history.specs.declared.cookies.Order.TheVariants as order
-use Rattle.group_history.specs.declared.nodes.Commit.TheVariants.{Snapshot}
+use Rattle.group_history.specs.declared.nodes.Kind.TheVariants.{Snapshot}
 use Rattle.group_history.specs.declared.nodes.Node.{Node}
 use Rattle.group_history.specs.declared.nodes.Node.TheVariants as node
 use Rattle.group_history.specs.declared.nodes.Child.{Child}
 use Rattle.group_history.specs.Cookies.{Cookie, order_cmp}
 use Rattle.group_history.specs.Pulling.{by_order}
 use Rattle.group_history.specs.Record.{IsAccepted}
-use Rattle.group_history.specs.Refs.{stamp_of}
+use Rattle.group_history.specs.Refs.{stamp_of, stamps}
 use Rattle.group_history.specs.Spelling.{Segment, as_version, map_of, map_in, segment_at, spelled, version_at, version, Spells}
-use Rattle.group_history.specs.State.{opening as opening_state}
+use Rattle.group_history.specs.State.{pulled_state, opening as opening_state}
 use Rattle.group_history.proofs.Spellings.{segment-stays, version-newest}
 use Rattle.group_history.proofs.TextMaps.{empty_map}
 use Rattle.head_word.specs.declared.entry.Entry.{Entry}
@@ -38,12 +38,12 @@ empty_root log starts =
 pub bare_spells : (log : List Entry) (by : Option ℕ) (cookie : Cookie) (root : Ref) → StartsOpened log → stamp_of root ≡ 0 → SpellsBare (log ++ drafted by (next_stamp log) (bare cookie root ∷ []) ∷ []) (next_stamp log) cookie
 bare_spells log by cookie root starts at_leaf =
     let e = drafted by (next_stamp log) (bare cookie root ∷ []) in
-    let content : Node ℕ = node.Commit (Snapshot (record { cookie = cookie; confirmed = finite.empty; root = stamp_of root })) in
+    let content : Node ℕ = node.Commit (record { root = stamp_of root; kind = Snapshot (record { cookie = cookie; confirmed = finite.empty }) }) in
     let map : map_in (spelled (drawn log)) (stamp_of root) ≡ Some finite.empty = ap (map_in (spelled (drawn log))) at_leaf ∙ empty_root log starts in
-    let made : version_at (drawn log ++ content ∷ []) (next_stamp log) ≡ Some (record { state = record { pulled = finite.empty; cookie = cookie; confirmed = finite.empty; pending = [] }; read = finite.empty }) =
+    let made : version_at (drawn log ++ content ∷ []) (next_stamp log) ≡ Some (record { state = pulled_state finite.empty cookie finite.empty; read = finite.empty }) =
     version-newest (drawn log) content
-    ∙ ap (λ o. option_and_then as_version (option_map version (option_and_then (λ m. Some (record { state = record { pulled = m; cookie = cookie; confirmed = finite.empty; pending = [] }; read = m })) o))) map in
-    subst (λ cs. version_at cs (next_stamp log) ≡ Some (record { state = record { pulled = finite.empty; cookie = cookie; confirmed = finite.empty; pending = [] }; read = finite.empty })) (sym (drawn_more log (e ∷ []))) made
+    ∙ ap (λ o. option_and_then as_version (option_map (λ v. version v (length (spelled (drawn log)))) (option_and_then (λ m. Some (record { state = pulled_state m cookie finite.empty; read = m })) o))) map in
+    subst (λ cs. version_at cs (next_stamp log) ≡ Some (record { state = pulled_state finite.empty cookie finite.empty; read = finite.empty })) (sym (drawn_more log (e ∷ []))) made
 
 -- a cookie above null is accepted at the opening
 pub bare_accepted : (cookie : Cookie) → order_cmp cookie.order order.Null ≡ Greater → IsAccepted no_mutators opening_state (bare_pull cookie)
@@ -64,8 +64,8 @@ bare_follows log cookie base new starts at_opening above spells =
 
 -- a draft that was drawn is the snapshot's
 pub bare_drawn : (result : Result ℕ Lost) (old new : List Entry) (by : Option ℕ) (cookie : Cookie) (root : Ref) (nodes : List (Node Child)) → StartsOpened old → stamp_of root ≡ 0 → nodes ≡ bare cookie root ∷ []
-    → IfOk result (λ first. (log : List Entry) × IsPrefix old log × (next_stamp log ≡ first) × (new ≡ log ++ drafted by first nodes ∷ [])) → IfOk result (λ first. first + length nodes < 2 ^ 44)
-    → IfOk result (λ first. (first < 2 ^ 44) × SpellsBare new first cookie)
+    → IfOk result (λ first. (log : List Entry) × IsPrefix old log × (next_stamp log ≡ first) × (new ≡ log ++ drafted by first nodes ∷ [])) → IfOk result (λ first. first + length nodes < stamps)
+    → IfOk result (λ first. (first < stamps) × SpellsBare new first cookie)
 bare_drawn (Err e) old new by cookie root nodes starts at_leaf is drew room = tt
 bare_drawn (Ok first) old new by cookie root nodes starts at_leaf is (log, pre, next, all) room =
     let here : SpellsBare (log ++ drafted by first nodes ∷ []) first cookie = subst (λ (t : ℕ × List (Node Child)). SpellsBare (log ++ drafted by t.0 t.1 ∷ []) t.0 cookie) (λ i. (next i, sym is i)) (bare_spells log by cookie root (starts_from old log pre starts) at_leaf) in

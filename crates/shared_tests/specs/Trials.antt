@@ -3,7 +3,7 @@ use Rattle.std.specs.Prelude.{ℕ, List, []}
 use Rattle.std.specs.FinMap as finite
 use Rattle.group_history.specs.declared.changes.Change.{Change}
 use Rattle.group_history.specs.declared.changes.Change.TheVariants.{Pulled}
-use Rattle.group_history.specs.declared.nodes.Commit.TheVariants.{Snapshot}
+use Rattle.group_history.specs.declared.nodes.Kind.TheVariants.{Snapshot}
 use Rattle.group_history.specs.declared.nodes.Node.{Node}
 use Rattle.group_history.specs.declared.nodes.Node.TheVariants as node
 use Rattle.group_history.specs.declared.nodes.Child.{Child}
@@ -18,11 +18,11 @@ use Rattle.group_history.specs.Spelling.{Spells}
 use Rattle.head_word.specs.Books.{drawn}
 
 abbrev pub no_mutators : Meanings
-no_mutators name args m = unknown
+no_mutators name args why m = unknown
 
 -- the snapshot of an empty map under a cookie, over the leaf that `root` names
 abbrev pub bare : Cookie → Ref → Node Child
-bare cookie root = node.Commit (Snapshot (record { cookie = cookie; confirmed = finite.empty; root = Placed root }))
+bare cookie root = node.Commit (record { root = Placed root; kind = Snapshot (record { cookie = cookie; confirmed = finite.empty }) })
 
 abbrev pub bare_pull : Cookie → Change
 bare_pull cookie = Pulled null_cookie (record { cookie = cookie; changes = []; patch = [] })

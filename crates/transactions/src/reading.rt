@@ -11,7 +11,7 @@ ghost use Rattle.group_history.specs.Scans.{rows_of};
 ghost use Rattle.group_history.specs.Spelling.{Version, version_at};
 ghost use Rattle.group_history.specs.declared.mutators.Stop.TheVariants.{NoMemory};
 
-use commits::{Nodes, cookie_of, read_root, walk};
+use commits::{Nodes, closed_of, cookie_of, read_root, walk};
 use group_history::{Cookie, Json, Mutation, Ref, Scan, Stop, Text};
 use map_tree::Tree;
 use std::alloc::Global;
@@ -122,6 +122,16 @@ impl<N: Nodes> ReadTx<N> {
         ensures stopped { IfErr result (λ stop. (stop ≡ NoMemory) ⊎ N.stops stop) }
     {
         cookie_of(&mut self.nodes, self.head)
+    }
+
+    /// Whether the group is closed at the commit. Takes no memory.
+    pub fn closed(&mut self) -> Result<bool, Stop>
+        ensures closed { IfOk result (λ closed. closed ≡ self.old.version.state.closed) }
+        ensures same { self.new.version ≡ self.old.version }
+        ensures grown { IsPrefix self.old.contents self.new.contents }
+        ensures stopped { IfErr result N.stops }
+    {
+        closed_of(&mut self.nodes, self.head)
     }
 
     /// Ends the reading, and hands back the nodes.

@@ -9,16 +9,19 @@ ghost use Rattle.group_history.specs.Naming.{content_of};
 ghost use Rattle.group_history.specs.Rows.{AreKeys};
 ghost use Rattle.group_history.specs.Spelling.{Version, version_at};
 ghost use Rattle.group_history.specs.declared.nodes.Chunk.TheVariants as chunk;
-ghost use Rattle.group_history.specs.declared.nodes.Commit.TheVariants as commit;
+ghost use Rattle.group_history.specs.declared.nodes.Kind.TheVariants as kind;
+ghost use Rattle.group_history.specs.declared.nodes.Step.TheVariants as step;
 ghost use Rattle.group_history.specs.declared.nodes.Node.TheVariants as node;
 ghost use Rattle.group_history.specs.declared.nodes.Snapshot.{Snapshot as Snapped};
 ghost use Rattle.group_history.specs.declared.mutations.Mutation.{Mutation as Mutated};
 ghost use Rattle.group_history.specs.declared.refs.Ref.{Ref as Reference};
 
-use commits::{CommitState, VecNodes, cookie_of, dropped, last_id_of, read_root, state_of, walk};
+use commits::{
+    CommitState, VecNodes, closed_of, cookie_of, dropped, last_id_of, read_root, state_of, walk,
+};
 use group_history::{
-    Chunk, Commit, Cookie, Inner, Json, Keys, Leaf, Local, Mutation, Node, Ref, Refusal, Snapshot,
-    Text, TextMap,
+    Chunk, Commit, ConfirmedIds, Cookie, Inner, Json, Keys, Kind, Leaf, Mutation, Node, Over, Ref,
+    Refusal, Snapshot, Step, Text, TextMap,
 };
 use std::alloc::Global;
 use std::prelude::*;
@@ -71,38 +74,55 @@ fn inner(alloc: Global, left: Ref, right: Ref) -> Result<Node<Ref>, Refusal>
 }
 
 /// A snapshot with the cookie null, in which `a` is confirmed up to an id.
-fn snapshot(alloc: Global, id: u64, root: Ref) -> Result<Snapshot<Ref>, Refusal>
-    ensures root { IfOk result (λ s. s.root ≡ root) }
-    ensures confirmed { IfOk result (λ s. s.confirmed ≡ finite.insert finite.empty (97 ∷ []) id) }
+fn snapshot(alloc: Global, id: u64) -> Result<Snapshot, Refusal>
+    ensures { IfOk result (λ s. s.confirmed ≡ finite.insert finite.empty (97 ∷ []) id) }
 {
     let cookie = Cookie::null(alloc)?;
-    let mut confirmed = TextMap::new(alloc);
-    confirmed.insert(Text::new(alloc, "a")?, id)?;
-    Ok(Snapshot {
-        cookie,
-        confirmed,
-        root,
-    })
+    let mut ids = TextMap::new(alloc);
+    ids.insert(Text::new(alloc, "a")?, id)?;
+    let confirmed = ConfirmedIds::new(alloc, ids)?;
+    Ok(Snapshot { cookie, confirmed })
 }
 
 fn with_snapshot(alloc: Global, nodes: VecNodes, id: u64, root: Ref) -> Result<VecNodes, Refusal>
-    ensures { IfOk result (λ after. (s : Snapped Reference) × (s.root ≡ root) × (s.confirmed ≡ finite.insert finite.empty (97 ∷ []) id) × (after ≡ nodes ++ node.Commit (commit.Snapshot s) ∷ [])) }
+    ensures { IfOk result (λ after. (s : Snapped) × (s.confirmed ≡ finite.insert finite.empty (97 ∷ []) id) × (after ≡ nodes ++ node.Commit (record { root = root; kind = kind.Snapshot s }) ∷ [])) }
 {
-    let snapshot = snapshot(alloc, id, root)?;
-    let after = with(alloc, nodes, Node::Commit(Commit::Snapshot(snapshot)))?;
+    let kind = Kind::Snapshot(snapshot(alloc, id)?);
+    let after = with(alloc, nodes, Node::Commit(Commit { root, kind }))?;
     Ok(after)
 }
 
 fn mutation(alloc: Global, client: &str, id: u64) -> Result<Mutation, Refusal>
     ensures { IfOk result (λ x. (x.client ≡ client.now) × (x.id ≡ id)) }
 {
-    Ok(Mutation {
-        client: Text::new(alloc, client)?,
-        id,
-        name: Text::new(alloc, "put")?,
-        args: Json::read(alloc, "[]".as_bytes())?,
-        timestamp: 0,
-    })
+    let client = Text::new(alloc, client)?;
+    let name = Text::new(alloc, "put")?;
+    let args = Json::read(alloc, "[]".as_bytes())?;
+    Ok(Mutation::new(&client, id, &name, &args, 0)?)
+}
+
+/// A commit over a basis, whose chain begins at the stamp 3.
+fn with_over(
+    alloc: Global,
+    nodes: VecNodes,
+    basis: Ref,
+    root: Ref,
+    step: Step,
+) -> Result<VecNodes, Refusal>
+    ensures { IfOk result (λ after. (r : Reference) × (stamp_of r ≡ 3) × (after ≡ nodes ++ node.Commit (record { root = root; kind = kind.Over (record { basis = basis; snapshot = r; step = step }) }) ∷ [])) }
+{
+    let snapshot = at(3);
+    let over = Over {
+        basis,
+        snapshot,
+        step,
+    };
+    let commit = Commit {
+        root,
+        kind: Kind::Over(over),
+    };
+    let after = with(alloc, nodes, Node::Commit(commit))?;
+    Ok(after)
 }
 
 /// A local commit with a mutation of this client and id.
@@ -113,15 +133,10 @@ fn with_local(
     basis: Ref,
     root: Ref,
 ) -> Result<VecNodes, Refusal>
-    ensures { IfOk result (λ after. (x : Mutated) × (x.client ≡ made.entry.0.now) × (x.id ≡ made.entry.1) × (after ≡ nodes ++ node.Commit (commit.Local (record { basis = basis; mutation = x; root = root })) ∷ [])) }
+    ensures { IfOk result (λ after. (x : Mutated) × (x.client ≡ made.entry.0.now) × (x.id ≡ made.entry.1) × (r : Reference) × (stamp_of r ≡ 3) × (after ≡ nodes ++ node.Commit (record { root = root; kind = kind.Over (record { basis = basis; snapshot = r; step = step.Local x }) }) ∷ [])) }
 {
     let mutation = mutation(alloc, made.0, made.1)?;
-    let local = Local {
-        basis,
-        mutation,
-        root,
-    };
-    let after = with(alloc, nodes, Node::Commit(Commit::Local(local)))?;
+    let after = with_over(alloc, nodes, basis, root, Step::Local(mutation))?;
     Ok(after)
 }
 
@@ -136,13 +151,15 @@ fn chunks(alloc: Global) -> Result<VecNodes, Refusal>
 }
 
 /// Three chunks; at stamp 3 a snapshot of the map of both keys, on it three local commits at 4, 5 and 6
-/// with the maps of `a`, of both, and of `b`; at 7 a snapshot that shares the chunk of `a`.
+/// with the maps of `a`, of both, and of `b`; at 7 a snapshot that shares the chunk of `a`; at 8 a closing
+/// over the third local commit.
 pub(super) fn example(alloc: Global) -> Result<VecNodes, Refusal>
     ensures snapshot { IfOk result (λ ns. IsSome (version_at (map content_of ns) 3)) }
     ensures first { IfOk result (λ ns. IsSome (version_at (map content_of ns) 4)) }
     ensures second { IfOk result (λ ns. IsSome (version_at (map content_of ns) 5)) }
     ensures third { IfOk result (λ ns. IsSome (version_at (map content_of ns) 6)) }
     ensures next { IfOk result (λ ns. IsSome (version_at (map content_of ns) 7)) }
+    ensures closed { IfOk result (λ ns. IsSome (version_at (map content_of ns) 8)) }
     ensures confirmed_ids { IfOk result (λ ns. (v : Version) → version_at (map content_of ns) 3 ≡ Some v → IdsFollow v.state.confirmed v.state.pending) }
     ensures pending_ids { IfOk result (λ ns. (v : Version) → version_at (map content_of ns) 6 ≡ Some v → IdsFollow v.state.confirmed v.state.pending) }
 {
@@ -152,6 +169,7 @@ pub(super) fn example(alloc: Global) -> Result<VecNodes, Refusal>
     let nodes = with_local(alloc, nodes, ("b", 1), at(4), at(2))?;
     let nodes = with_local(alloc, nodes, ("a", 6), at(5), at(1))?;
     let nodes = with_snapshot(alloc, nodes, 6, at(0))?;
+    let nodes = with_over(alloc, nodes, at(6), at(1), Step::Closed)?;
     Ok(nodes)
 }
 
@@ -177,9 +195,36 @@ fn next_walked(alloc: Global) -> Result<u64, Refusal> {
     walked_ids(alloc, &nodes, at(7))
 }
 
+fn closing_walked(alloc: Global) -> Result<u64, Refusal> {
+    let nodes = example(alloc)?;
+    walked_ids(alloc, &nodes, at(8))
+}
+
 #[test]
 fn the_oldest_stands_first(rt: HostRuntime) -> Result<(), Refusal> {
     assert_eq!(rt; third_walked(rt.alloc())?, 516);
+    assert_eq!(rt; closing_walked(rt.alloc())?, 516);
+    Ok(())
+}
+
+fn is_closed(nodes: &VecNodes, head: Ref) -> Result<bool, Refusal>
+    requires { IsSome (version_at (map content_of nodes.now) (stamp_of head)) }
+{
+    let mut shelf = nodes.shelf();
+    Ok(closed_of(&mut shelf, head)?)
+}
+
+/// Whether the group is closed at the third local commit, and at the closing over it.
+fn closings(alloc: Global) -> Result<(bool, bool), Refusal> {
+    let nodes = example(alloc)?;
+    let third = is_closed(&nodes, at(6))?;
+    let closing = is_closed(&nodes, at(8))?;
+    Ok((third, closing))
+}
+
+#[test]
+fn a_closing_is_told(rt: HostRuntime) -> Result<(), Refusal> {
+    assert_eq!(rt; closings(rt.alloc())?, (false, true));
     Ok(())
 }
 
@@ -191,7 +236,7 @@ fn a_snapshot_has_nothing_pending(rt: HostRuntime) -> Result<(), Refusal> {
 
 /// What a state has: whether its cookie is null, the root of its pulled map, how many mutations are pending, and
 /// what is confirmed of `a`.
-type Facts = (bool, u64, usize, Option<u64>);
+type Facts = (bool, u64, usize, u64);
 
 fn told(alloc: Global, state: &CommitState) -> Result<Facts, Refusal> {
     let client = Text::new(alloc, "a")?;
@@ -199,7 +244,7 @@ fn told(alloc: Global, state: &CommitState) -> Result<Facts, Refusal> {
         state.cookie.text() == "null",
         state.pulled.bits(),
         state.pending.len(),
-        state.confirmed.get(&client).copied(),
+        state.confirmed.of(&client),
     ))
 }
 
@@ -219,7 +264,7 @@ fn second_told(alloc: Global) -> Result<Facts, Refusal> {
 #[test]
 fn a_state_is_told(rt: HostRuntime) -> Result<(), Refusal> {
     let told = second_told(rt.alloc())?;
-    assert_eq!(rt; told, (true, at(2).bits(), 2, Some(4)));
+    assert_eq!(rt; told, (true, at(2).bits(), 2, 4));
     Ok(())
 }
 

@@ -5,7 +5,8 @@ ghost use Rattle.group_history.specs.Refs.{stamp_of};
 ghost use Rattle.group_history.specs.Spelling.{map_at, version_at};
 ghost use Rattle.group_history.specs.declared.mutators.Stop.{Stop as Stopped};
 
-use commits::{CommitState, LentCommit, Nodes, VecNodes, dropped, state_of};
+use super::chains::{at, example};
+use commits::{Base, CommitState, LentCommit, Nodes, VecNodes, cookie_of, dropped, state_of};
 use group_history::{Ended, Json, PullOk, Ref, Refusal, Response, Stop, Text};
 use map_tree::{Chunks, Lent, Shelf};
 use pull_patch::read_response;
@@ -250,9 +251,28 @@ fn add_rebased(
     ensures old { IfOk result (λ _. IsSome (version_at (map content_of nodes.new) (stamp_of head))) }
     ensures new { IfOk result (λ new. IsSome (version_at (map content_of nodes.new) (stamp_of new))) }
 {
-    let state = state_here(alloc, nodes, head)?;
+    let CommitState {
+        cookie,
+        confirmed,
+        pulled,
+        pending,
+        closed: _,
+    } = state_here(alloc, nodes, head)?;
+    let base = Base {
+        cookie,
+        confirmed,
+        pulled,
+    };
     let mut draft = nodes.draft(alloc);
-    let new = rebased(alloc, nodes, &mut draft, &ScriptMutators, &state, pull)?;
+    let new = rebased(
+        alloc,
+        nodes,
+        &mut draft,
+        &ScriptMutators,
+        &base,
+        &pending,
+        pull,
+    )?;
     nodes.append(draft)?;
     Ok(new)
 }
@@ -273,6 +293,29 @@ fn count_dropped(
     };
     let left = dropped(alloc, &mut counted, old, new)?;
     Ok((left.len(), counted.shown))
+}
+
+/// How many nodes are shown until the cookie is known.
+fn looks_for_cookie(nodes: &VecNodes, head: Ref) -> Result<u64, Refusal>
+    requires { IsSome (version_at (map content_of nodes.now) (stamp_of head)) }
+{
+    let mut counted = Counted {
+        shelf: nodes.shelf(),
+        shown: 0,
+    };
+    cookie_of(&mut counted, head)?;
+    Ok(counted.shown)
+}
+
+fn third_looks(alloc: Global) -> Result<u64, Refusal> {
+    let nodes = example(alloc)?;
+    looks_for_cookie(&nodes, at(6))
+}
+
+#[test]
+fn a_cookie_is_two_looks_away(rt: HostRuntime) -> Result<(), Refusal> {
+    assert_eq!(rt; third_looks(rt.alloc())?, 2);
+    Ok(())
 }
 
 /// How many nodes a pull leaves behind, and how many are shown until that is known.

@@ -1,7 +1,7 @@
 //! A draft's chunks written down as nodes that can be placed, children before parents.
-ghost use Rattle.std.specs.Prelude.{◌≡◌, ◌+◌, ◌<◌, ◌≤◌, ◌^◌, ◌⊎◌, length, Some, IfOk, IfErr, OnOk, OnErr};
+ghost use Rattle.std.specs.Prelude.{◌≡◌, ◌+◌, ◌<◌, ◌≤◌, ◌⊎◌, length, Some, IfOk, IfErr, OnOk, OnErr};
 ghost use mathlib.Core.List.{IsPrefix};
-ghost use Rattle.group_history.specs.Refs.{stamp_of, slot_of};
+ghost use Rattle.group_history.specs.Refs.{stamps, stamp_of, slot_of};
 ghost use Rattle.group_history.specs.Rows.{Rows};
 ghost use Rattle.group_history.specs.Spelling.{Contents, rows_at};
 ghost use Rattle.group_history.specs.declared.refusals.Refusal.TheVariants as refusal;
@@ -27,7 +27,7 @@ pub fn frozen(alloc: Global, node: Node, draft: &mut Draft) -> Result<Ref, Refus
     ensures first { draft.new.first ≡ draft.old.first }
     ensures grown { IsPrefix draft.old.nodes draft.new.nodes }
     ensures err { OnErr result (draft.new ≡ draft.old) }
-    ensures why { IfErr result (λ e. (e ≡ refusal.NoMemory) ⊎ ((e ≡ refusal.Stamps) × (2 ^ 44 < draft.old.first + length draft.old.nodes + node.fresh))) }
+    ensures why { IfErr result (λ e. (e ≡ refusal.NoMemory) ⊎ ((e ≡ refusal.Stamps) × (stamps < draft.old.first + length draft.old.nodes + node.fresh))) }
 {
     let len = draft.len();
     match node.freeze(alloc, draft) {
@@ -54,7 +54,7 @@ impl Node {
         ensures bound { OnErr result (length draft.new.nodes < length draft.old.nodes + self.fresh) }
         ensures first { draft.new.first ≡ draft.old.first }
         ensures grown { IsPrefix draft.old.nodes draft.new.nodes }
-        ensures why { IfErr result (λ e. (e ≡ refusal.NoMemory) ⊎ ((e ≡ refusal.Stamps) × (2 ^ 44 ≤ draft.new.first + length draft.new.nodes))) }
+        ensures why { IfErr result (λ e. (e ≡ refusal.NoMemory) ⊎ ((e ≡ refusal.Stamps) × (stamps ≤ draft.new.first + length draft.new.nodes))) }
     {
         let Node {
             depth: _,
@@ -85,7 +85,7 @@ fn freeze_kids(alloc: Global, kids: Vec<Child>, draft: &mut Draft) -> Result<Vec
     ensures bound { OnErr result (length draft.new.nodes ≤ length draft.old.nodes + kids_fresh kids.items) }
     ensures first { draft.new.first ≡ draft.old.first }
     ensures grown { IsPrefix draft.old.nodes draft.new.nodes }
-    ensures why { IfErr result (λ e. (e ≡ refusal.NoMemory) ⊎ ((e ≡ refusal.Stamps) × (2 ^ 44 ≤ draft.new.first + length draft.new.nodes))) }
+    ensures why { IfErr result (λ e. (e ≡ refusal.NoMemory) ⊎ ((e ≡ refusal.Stamps) × (stamps ≤ draft.new.first + length draft.new.nodes))) }
 {
     let mut children = Vec::with_capacity(alloc, kids.len())?;
     for kid in kids {
@@ -104,7 +104,7 @@ fn freeze_kid(alloc: Global, kid: Child, draft: &mut Draft) -> Result<Ref, Refus
     ensures bound { OnErr result (length draft.new.nodes ≤ length draft.old.nodes + child_fresh kid) }
     ensures first { draft.new.first ≡ draft.old.first }
     ensures grown { IsPrefix draft.old.nodes draft.new.nodes }
-    ensures why { IfErr result (λ e. (e ≡ refusal.NoMemory) ⊎ ((e ≡ refusal.Stamps) × (2 ^ 44 ≤ draft.new.first + length draft.new.nodes))) }
+    ensures why { IfErr result (λ e. (e ≡ refusal.NoMemory) ⊎ ((e ≡ refusal.Stamps) × (stamps ≤ draft.new.first + length draft.new.nodes))) }
 {
     match kid {
         Child::Placed(at) => {

@@ -1,16 +1,16 @@
 //! Of the shared head: that calls succeed, that the words say what the book says, that threads end.
-ghost use Rattle.std.specs.Prelude.{◌≡◌, ◌<◌, ◌^◌, IsSome, IfOk, IfSome};
+ghost use Rattle.std.specs.Prelude.{◌≡◌, ◌<◌, IsSome, IfOk, IfSome};
 ghost use Rattle.std.specs.List.{All};
 ghost use Rattle.std.specs.declared.cmp.Ordering.TheVariants.{Greater};
 ghost use Rattle.group_history.specs.Cookies.{order_cmp};
-ghost use Rattle.group_history.specs.Refs.{stamp_of};
+ghost use Rattle.group_history.specs.Refs.{stamp_of, stamps, max_slots};
 ghost use Rattle.group_history.specs.declared.cookies.Order.TheVariants as order;
 ghost use Rattle.head_word.specs.Marks.{HasSeat};
 ghost use Rattle.shared_tests.specs.Trials.{bare, bare_pull, SpellsBare};
 
 use group_history::{
-    Change, Child, Commit, Cookie, Json, Mutators, Node, PullOk, Ran, Ref, Refusal, Snapshot, Stop,
-    TextMap, WriteView, cookie_cmp, nests_within, read_value,
+    Change, Child, Commit, ConfirmedIds, Cookie, Kind, Means, Node, PullOk, Ref, Refusal, STAMPS,
+    Snapshot, TextMap, cookie_cmp, nests_within, read_value,
 };
 use head_word::{Head, Lost, Mark, Moved, book_laws, one_record};
 use serde_json::Value;
@@ -18,25 +18,13 @@ use std::alloc::Global;
 use std::cmp::Ordering;
 use std::thread::{Threads, join};
 
-const STAMPS: u64 = 1 << 44;
-
 /// An application without mutators.
 struct Nobody;
 
-impl Mutators for Nobody {
+impl Means for Nobody {
     ghost use Rattle.shared_tests.specs.Trials.{no_mutators};
 
     ghost means = { no_mutators };
-
-    fn run<V: WriteView>(
-        &self,
-        _alloc: Global,
-        _name: &str,
-        _args: &Json,
-        _view: &mut V,
-    ) -> Result<Ran, Stop> {
-        Ok(Ran::Unknown)
-    }
 }
 
 fn may_cross<T: Send + Sync>(_value: &T) {}
@@ -92,11 +80,13 @@ fn first_cookie(alloc: Global) -> Result<Cookie, Refusal> {
 fn bare_snapshot(alloc: Global, cookie: &Cookie) -> Result<Node<Child>, Refusal>
     ensures { IfOk result (λ node. node ≡ bare cookie.now (record { bits = 7 })) }
 {
-    Ok(Node::Commit(Commit::Snapshot(Snapshot {
-        cookie: cookie.clone()?,
-        confirmed: TextMap::new(alloc),
+    Ok(Node::Commit(Commit {
         root: Child::Placed(Ref::new(0, 7)),
-    })))
+        kind: Kind::Snapshot(Snapshot {
+            cookie: cookie.clone()?,
+            confirmed: ConfirmedIds::new(alloc, TextMap::new(alloc))?,
+        }),
+    }))
 }
 
 // Drafts the snapshot of a pull that brings this cookie alone.
@@ -110,7 +100,7 @@ fn drafts(
     requires seat { IsSome mark.old.seat }
     ensures book { mark.new.book ≡ mark.old.book }
     ensures seat { mark.new.seat ≡ mark.old.seat }
-    ensures drawn { IfOk result (λ drew. IfOk drew (λ first. (first < 2 ^ 44) × SpellsBare mark.new.log first cookie.now)) }
+    ensures drawn { IfOk result (λ drew. IfOk drew (λ first. (first < stamps) × SpellsBare mark.new.log first cookie.now)) }
 {
     let nodes = [bare_snapshot(alloc, cookie)?];
     mark.legal();
@@ -173,7 +163,7 @@ impl Place<'_> {
         slot: u32,
         cookie: &Cookie,
     ) -> Result<Option<u64>, Refusal>
-        requires { slot < 2 ^ 20 }
+        requires { slot < max_slots }
         ensures { self.new.head ≡ self.old.head }
     {
         let Ok(first) = drafts(self.head, &mut self.mark, alloc, cookie)? else {
@@ -185,7 +175,7 @@ impl Place<'_> {
     }
 
     fn pulls(&mut self, alloc: Global, slot: u32) -> Result<Option<u64>, Refusal>
-        requires { slot < 2 ^ 20 }
+        requires { slot < max_slots }
         ensures { self.new.head ≡ self.old.head }
     {
         let cookie = first_cookie(alloc)?;
@@ -233,7 +223,7 @@ impl Place<'_> {
     }
 
     fn wins(mut self, alloc: Global, slot: u32) -> bool
-        requires { slot < 2 ^ 20 }
+        requires { slot < max_slots }
     {
         match self.pulls(alloc, slot) {
             Ok(won) => won.is_some(),

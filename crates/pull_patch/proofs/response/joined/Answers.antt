@@ -1,4 +1,4 @@
-use Rattle.std.proofs.Common.{option_map, Ok, refl, sym, ap, ◌∙◌}
+use Rattle.std.proofs.Common.{option_map, Ok, refl, sym, ap}
 use Rattle.group_history.specs.declared.responses.Response.TheVariants as response
 use Rattle.group_history.specs.Pull.{Pull}
 use Rattle.pull_patch.proofs.Joins.{no_changes, no_patch}

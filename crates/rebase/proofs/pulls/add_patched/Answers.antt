@@ -1,7 +1,8 @@
-use Rattle.std.proofs.Common.{◌≡◌, List, [], map, rules, subst, IfOk}
+use Rattle.std.proofs.Common.{◌≡◌, List, map, rules, subst, IfOk}
 use Rattle.group_history.specs.Cookies.{Cookie}
 use Rattle.group_history.specs.Map.{patched}
 use Rattle.group_history.specs.Naming.{content_of}
+use Rattle.group_history.specs.State.{pulled_state}
 use Rattle.group_history.specs.declared.responses.Patch.{Patch}
 use Rattle.rebase.specs.Chaining.{HasTip}
 use Rattle.rebase.specs.Fixing.{staged}
@@ -12,7 +13,7 @@ pub returns-clause-tip : goal.returns-clause-tip
 returns-clause-tip c m h =
     let nodes = c.args.nodes.now in let pull = c.args.pull.now in
     let P : List Patch → Cookie → Type 0 = λ ops cookie. IfOk c.add_snapshot.result (λ tip. HasTip (staged nodes c.add_snapshot.new.draft.nodes) tip
-    (record { state = record { pulled = patched m ops; cookie = cookie; confirmed = c.args.confirmed; pending = [] }; read = patched m ops })) in
+    (record { state = pulled_state (patched m ops) cookie c.args.confirmed; read = patched m ops })) in
     let cookie : c.in_ok-cookie.cookie ≡ pull.cookie = search rules in
     subst (λ ops. P ops pull.cookie) c.patch.ensures (subst (P c.patch.result.now) cookie
     (c.add_snapshot.ensures.spelled (map content_of nodes) (patched m c.patch.result.now) (length-contents nodes c.args.draft.now.first c.requires.behind) (c.in_ok-tree.ensures.map m h)))

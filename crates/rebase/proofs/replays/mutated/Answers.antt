@@ -1,6 +1,7 @@
-use Rattle.std.proofs.Common.{◌≡◌, Some, map, inr, sym, ap, ◌∙◌}
+use Rattle.std.proofs.Common.{Some, map, inr, sym, ap, ◌∙◌}
 use Rattle.std.proofs.lemmas.Result.{err_from_is_err_and}
 use Rattle.group_history.specs.Map.{Entries}
+use Rattle.group_history.specs.Meaning.{meaning_of}
 use Rattle.group_history.specs.Mutating.{after_mutate}
 use Rattle.group_history.specs.Naming.{content_of}
 use Rattle.group_history.specs.Spelling.{Version, version_of}
@@ -12,18 +13,18 @@ use Rattle.rebase.proofs.RunLemmas.{Refuses-is, left-done, reply-done, reply-ref
 use Rattle.rebase.proofs.replays.mutated.Goals as goal
 
 pub returns-clause-ok : goal.returns-clause-ok
-returns-clause-ok g c s h =
-    let means = g.M.Mutators.means in let nodes = c.args.nodes.now in let x = c.args.mutation in
-    let old = staged nodes c.args.draft.now.nodes in let m = view_of means s in let meaning = means x.name x.args m in
+returns-clause-ok g c s h is_open =
+    let means = g.M.Means.means in let nodes = c.args.nodes.now in let x = c.args.mutation in
+    let old = staged nodes c.args.draft.now.nodes in let m = view_of means s in let meaning = meaning_of means x m in
     let tree = c.in_ok-tree.ensures.ok old meaning (c.in_ok-run.ensures.ran m (c.at.ensures.map old ∙ h.1)) in
-    let spelled = c.in_ok-after.ensures.spelled (map content_of nodes) (version_of means s) tree.0 (length-contents nodes c.args.draft.now.first c.requires.behind) h.0 tree.1 in
+    let spelled = c.in_ok-after.ensures.spelled (map content_of nodes) (version_of means s) tree.0 (length-contents nodes c.args.draft.now.first c.requires.behind) h.0 h.2 is_open tree.1 in
     let shape : Entries → Version = λ r. record { state = after_mutate s x; read = r } in
     (reply-done meaning tree.0 x.id tree.2, spelled.0 ∙ ap (λ (r : Entries). Some (shape r)) (left-done meaning m tree.0 tree.2 ∙ sym (view-mutated means s x)))
 
 pub returns-in_err-tree-clause-err : goal.returns-in_err-tree-clause-err
 returns-in_err-tree-clause-err g c s h =
-    let means = g.M.Mutators.means in let x = c.args.mutation in
-    let old = staged c.args.nodes.now c.args.draft.now.nodes in let m = view_of means s in let meaning = means x.name x.args m in
+    let means = g.M.Means.means in let x = c.args.mutation in
+    let old = staged c.args.nodes.now c.args.draft.now.nodes in let m = view_of means s in let meaning = meaning_of means x m in
     let p = err_from_is_err_and c.from_residual-in_err-tree.result c.from_residual-in_err-tree.ensures.1 in
     let refused = c.in_err-tree.ensures.err old meaning (c.in_ok-run.ensures.ran m (c.at.ensures.map old ∙ h.1)) in
     rw (p.1, p.2) (inr (Refuses-is _ _ (reply-refused meaning _ x.id refused)))

@@ -1,7 +1,7 @@
 use Rattle.std.proofs.Common.{◌≡◌, map, rules, sym, ap, ◌∙◌, subst, IfOk}
 use Rattle.group_history.specs.declared.mutations.Mutation.{Mutation}
 use Rattle.group_history.specs.Map.{Entries}
-use Rattle.group_history.specs.Meaning.{left_by}
+use Rattle.group_history.specs.Meaning.{left_by, meaning_of}
 use Rattle.group_history.specs.Mutating.{after_mutate}
 use Rattle.group_history.specs.Naming.{content_of}
 use Rattle.group_history.specs.Spelling.{Version, version_of}
@@ -13,10 +13,10 @@ use Rattle.rebase.proofs.NewestLemmas.{length-contents}
 use Rattle.rebase.proofs.replays.replay_one.Goals as goal
 
 pub returns-clause-tip : goal.returns-clause-tip
-returns-clause-tip g c s h =
-    let means = g.M.Mutators.means in let nodes = c.args.nodes.now in let x = c.args.mutation.now in
+returns-clause-tip g c s h is_open =
+    let means = g.M.Means.means in let nodes = c.args.nodes.now in let x = c.args.mutation.now in
     let old = staged nodes c.args.draft.now.nodes in let new = staged nodes c.add_local.new.draft.nodes in
-    let m = view_of means s in let meaning = means x.name x.args m in
+    let m = view_of means s in let meaning = meaning_of means x m in
     let run = c.in_ok-run.ensures.ran m (c.at.ensures.map old ∙ h.1) in
     let left = c.kept.ensures old m meaning h.1 run in
     let same : c.in_ok-mutation_kept.mutation_kept ≡ x = search rules in
@@ -24,4 +24,4 @@ returns-clause-tip g c s h =
     let is : shape c.in_ok-mutation_kept.mutation_kept (left_by meaning m) ≡ version_of means (after_mutate s x) =
     ap (λ (y : Mutation). shape y (left_by meaning m)) same ∙ ap (shape x) (sym (view-mutated means s x)) in
     subst (λ (v : Version). IfOk c.add_local.result (λ tip. HasTip new tip v)) is
-    (c.add_local.ensures.spelled (map content_of nodes) (version_of means s) (left_by meaning m) (length-contents nodes c.args.draft.now.first c.requires.behind) h.0 left)
+    (c.add_local.ensures.spelled (map content_of nodes) (version_of means s) (left_by meaning m) (length-contents nodes c.args.draft.now.first c.requires.behind) h.0 h.2 is_open left)

@@ -9,6 +9,6 @@ pub loop-mutation-preserved : goal.loop-mutation-preserved
 loop-mutation-preserved g c =
     let i = c.loop-mutation.invariant in let k = c.loop-mutation.mutation-index in let xs = c.args.pending.now in (
       c.in_ok-tip.ensures.first ∙ i.0,
-      λ s h. subst (λ (w : State). IsTip g.M.Mutators.means (staged c.args.nodes.now c.replay_one.new.draft.nodes) c.in_ok-tip.tip w) (with_next s xs k c.mutation-item.result c.loop-mutation-test.true c.mutation-item.is)
-          (c.in_ok-tip.ensures.tip (with_more s (take k xs)) (i.1 s h)),
+      λ s h is_open. subst (λ (w : State). IsTip g.M.Means.means (staged c.args.nodes.now c.replay_one.new.draft.nodes) c.in_ok-tip.tip w) (with_next s xs k c.mutation-item.result c.loop-mutation-test.true c.mutation-item.is)
+          (c.in_ok-tip.ensures.tip (with_more s (take k xs)) (i.1 s h is_open) is_open),
     )

@@ -7,10 +7,10 @@ use Rattle.rebase.proofs.runs.run_known.Goals as goal
 
 pub returns-clause-ran : goal.returns-clause-ran
 returns-clause-ran g c =
-    let known = g.K.Known.known in let means = g.M.Mutators.means in let x = c.args.mutation.now in
+    let known = g.K.Known.known in let means = g.M.Means.means in let x = c.args.mutation.now in
     let m = shown_map known c.run.new.view.tree in (
       m,
       c.into_parts-tree.ensures.map,
-      subst (λ (t : Tree). RunsAs (means x.name x.args (shown_map known t)) c.in_ok-ran.ran m) c.new-view.ensures.tree
-          (subst (λ (name : Bytes). RunsAs (means name x.args (shown_map known c.new-view.result.tree)) c.in_ok-ran.ran m) c.as_str.ensures c.in_ok-ran.ensures.ran),
+      subst (λ (t : Tree). RunsAs (means x.name x.args x.reason (shown_map known t)) c.in_ok-ran.ran m) c.new-view.ensures.tree
+          (subst (λ (name : Bytes). RunsAs (means name x.args x.reason (shown_map known c.new-view.result.tree)) c.in_ok-ran.ran m) c.as_str-name.ensures c.in_ok-ran.ensures.ran),
     )

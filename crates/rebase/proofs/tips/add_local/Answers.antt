@@ -1,9 +1,13 @@
-use Rattle.std.proofs.Common.{ap, ◌∙◌, sym}
-use Rattle.map_chunks.specs.Drafts.{Drafted}
-use Rattle.rebase.proofs.NewestLemmas.{local_tip}
+use Rattle.std.proofs.Common.{sym, ◌∙◌}
+use Rattle.group_history.specs.Refs.{stamp_of}
+use Rattle.map_chunks.specs.Places.{with_nodes}
+use Rattle.map_nodes.proofs.FreezeLemmas.{nodes-grown}
+use Rattle.commits.proofs.Spelled.{version-grown, snapshot-grown}
 use Rattle.rebase.proofs.tips.add_local.Goals as goal
 
 pub returns-clause-spelled : goal.returns-clause-spelled
-returns-clause-spelled c contents v m l b h =
-    local_tip contents c.args.draft.now.nodes c.freeze.new.draft.nodes c.push.new.self.nodes c.freeze.new.draft.first c.args.basis c.in_ok-root.root c.in_ok-commit.commit c.args.mutation v m (l ∙ sym c.freeze.ensures.first)
-    c.freeze.ensures.grown (ap (λ (d : Drafted). d.nodes) c.in_ok-commit.ensures.ok) c.in_ok-commit.ensures.stamp.0 b (c.in_ok-root.ensures.spelled contents m l h)
+returns-clause-spelled c contents v m l b s is_open h =
+    let old = with_nodes contents c.args.draft.now.nodes in let mid = with_nodes contents c.freeze.new.draft.nodes in
+    let grown = nodes-grown contents c.args.draft.now.nodes c.freeze.new.draft.nodes c.freeze.ensures.grown in
+    let at = stamp_of c.args.basis.commit in
+    c.in_ok-tip.ensures.spelled contents v m (l ∙ sym c.freeze.ensures.first) (version-grown old mid at v grown b) (snapshot-grown old mid at (stamp_of c.args.basis.snapshot) grown s) is_open (c.in_ok-root.ensures.spelled contents m l h)

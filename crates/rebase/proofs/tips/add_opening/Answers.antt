@@ -10,7 +10,7 @@ pub returns-clause-spelled : goal.returns-clause-spelled
 returns-clause-spelled c =
     let leaf = node.Chunk (Leaf c.in_ok-empty_leaf.field-0) in
     let one = c.push.new.self.nodes in
-    opening_tip one c.push-2.new.self.nodes leaf c.in_ok-root.root c.in_ok-head.head c.in_ok-null.field-0 c.new.result
+    opening_tip one c.push-2.new.self.nodes leaf c.in_ok-root.root c.in_ok-head.head c.in_ok-cookie.cookie c.in_ok-confirmed.confirmed
     (ap (λ (d : Drafted). d.nodes) c.in_ok-root.ensures.ok ∙ ap (λ (d : Drafted). d.nodes ++ leaf ∷ []) c.requires) (ap (λ (rows : Rows). node.Chunk (Leaf rows)) c.in_ok-empty_leaf.ensures)
     (c.in_ok-root.ensures.stamp.0 ∙ ap (λ (d : Drafted). d.first + length d.nodes) c.requires) (ap (λ (d : Drafted). d.nodes) c.in_ok-head.ensures.ok)
-    (c.in_ok-head.ensures.stamp.0 ∙ ap (λ (k : ℕ). k + length one) (ap (λ (d : Drafted). d.first) c.in_ok-root.ensures.ok ∙ ap (λ (d : Drafted). d.first) c.requires)) c.in_ok-null.ensures c.new.ensures
+    (c.in_ok-head.ensures.stamp.0 ∙ ap (λ (k : ℕ). k + length one) (ap (λ (d : Drafted). d.first) c.in_ok-root.ensures.ok ∙ ap (λ (d : Drafted). d.first) c.requires)) c.in_ok-cookie.ensures (c.in_ok-confirmed.ensures ∙ c.new.ensures)

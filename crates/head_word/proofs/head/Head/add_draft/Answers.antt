@@ -1,4 +1,5 @@
-use Rattle.std.proofs.Common.{◌≡◌, ◌+◌, ◌^◌, ◌≤◌, ◌++◌, [], ◌∷◌, sym, ◌∙◌, ap, subst, Some, Option, suc, ℕ, List, Bool, if◌then◌else◌, nat_eq}
+use Rattle.std.proofs.Common.{◌≡◌, ◌+◌, ◌≤◌, ◌++◌, [], ◌∷◌, sym, ◌∙◌, ap, subst, Some, Option, suc, ℕ, List, Bool, if◌then◌else◌, nat_eq}
+use Rattle.group_history.specs.Refs.{stamps}
 use Rattle.head_word.specs.declared.entry.Entry.{Entry}
 use Rattle.head_word.specs.declared.mark.Seat.{Seat}
 use Rattle.head_word.specs.Books.{next_stamp, drafted, AreAfter}
@@ -19,13 +20,13 @@ compare_exchange-found-requires g c =
     let seated = sym (ap (λ (m : Known). m.seat) c.mark.view_is) ∙ ap number_of seat_is in
     let ask_is = offer.1 ∙ (asked.1 ∙ ap (λ (s : Option ℕ). drafted s c.args.first asked.0) seated) in
     let after = subst (λ (m : Known). AreAfter (next_stamp m.log) 0 asked.0) (sym c.mark.view_is) asked.3 in
-    let room = subst (λ (n : ℕ). c.args.first + n ≤ 2 ^ 44) (sym asked.2) c.requires.room in
+    let room = subst (λ (n : ℕ). c.args.first + n ≤ stamps) (sym asked.2) c.requires.room in
     let sits = subst (Sits c.mark.inside.seen.names c.mark.inside.seen.log) seat_is c.mark.invariant.1 in (
       ap (λ w. w.tracked) words,
       book,
       pen.0 ∙ book,
       offer.0 ∙ sits.0,
-      rw (ap (λ w. w.key) words, pen.1, ask_is, offer.3, sym asked.2) (draft_moves g.M.Mutators.means c.mark.inside.seen.log (Some c.in-Some.seat.number) asked.0 c.args.first c.mark.invariant.0.1 after room),
+      rw (ap (λ w. w.key) words, pen.1, ask_is, offer.3, sym asked.2) (draft_moves g.M.Means.means c.mark.inside.seen.log (Some c.in-Some.seat.number) asked.0 c.args.first c.mark.invariant.0.1 after room),
     )
 
 pub returns-clause-own : goal.returns-clause-own

@@ -10,7 +10,7 @@ use Rattle.head_word.proofs.head.Head.add_move.Goals as goal
 
 pub compare_exchange-found-requires : goal.compare_exchange-found-requires
 compare_exchange-found-requires g c =
-    let means = g.M.Mutators.means in
+    let means = g.M.Means.means in
     let words = c.self.invariant.0 in
     let offer = c.offered-offer.ensures in
     let pen = c.no_pen-pen.ensures in

@@ -1,4 +1,4 @@
-use Rattle.std.proofs.Common.{ℕ, Option, refl, sym, ap, ◌∙◌, arith}
+use Rattle.std.proofs.Common.{rules, ℕ, Option, refl, sym, ap, ◌∙◌, arith}
 use Rattle.std.proofs.lemmas.List.{append-nil}
 use Rattle.head_word.specs.Books.{drafted}
 use Rattle.head_word.specs.Marks.{own}
@@ -8,7 +8,7 @@ use Rattle.head_word.proofs.head.Head.draft.Goals as goal
 use Rattle.group_history.proofs.Lists.{prefix_length}
 
 pub add_draft-requires-clause-asked : goal.add_draft-requires-clause-asked
-add_draft-requires-clause-asked g c κs within =
+add_draft-requires-clause-asked g c =
     (c.args.contents.now, ap (λ (s : Option ℕ). drafted s c.next-first.result c.args.contents.now) c.seat.ensures, refl, after_from c.args.mark.now.log c.next-first.new.mark.log c.args.contents.now c.next-first.ensures.seen c.requires.children)
 
 pub returns-else-add_draft-clause-moved : goal.returns-else-add_draft-clause-moved
@@ -23,3 +23,9 @@ returns-else-add_draft-clause-others g c = λ is.
     let looked = c.next-first.ensures in
     let lost = c.if-add_draft.ensures in
     others_rise c.args.mark.now c.add_draft.new.mark (returns-else-add_draft-clause-moved g c is) (lost.own ∙ (append-nil (own c.next-first.new.mark) ∙ looked.own))
+
+pub returns-then-add_draft-clause-nothing : goal.returns-then-add_draft-clause-nothing
+returns-then-add_draft-clause-nothing g c = search rules
+
+pub returns-then-add_draft-clause-others : goal.returns-then-add_draft-clause-others
+returns-then-add_draft-clause-others g c = search rules

@@ -21,7 +21,7 @@ load-requires g c =
       ap (λ w. w.tracked) words,
       book,
       offer.0 ∙ (sits.0 ∙ sym both.1),
-      rw (ap (λ w. w.key) words, offer.1, offer.3) (head_counted g.M.Mutators.means c.learn-2.new.self.log (moved (Some c.in-Some.seat.number) nowhere None) (starts_from c.mark.inside.seen.log c.learn-2.new.self.log both.2 c.mark.invariant.0.1)),
+      rw (ap (λ w. w.key) words, offer.1, offer.3) (head_counted g.M.Means.means c.learn-2.new.self.log (moved (Some c.in-Some.seat.number) nowhere None) (starts_from c.mark.inside.seen.log c.learn-2.new.self.log both.2 c.mark.invariant.0.1)),
     )
 
 pub returns-clause-seen : goal.returns-clause-seen

@@ -1,4 +1,4 @@
-use Rattle.std.proofs.Common.{◌≡◌, sym, ◌∙◌, ap, subst, Some, None, Option, suc}
+use Rattle.std.proofs.Common.{rules, ◌≡◌, sym, ◌∙◌, ap, subst, Some, None, Option, suc}
 use Rattle.head_word.specs.declared.entry.Entry.{Entry}
 use Rattle.head_word.specs.declared.mark.Seat.{Seat}
 use Rattle.head_word.specs.Books.{moved, nowhere}
@@ -17,7 +17,7 @@ load-bits-requires g c =
       ap (λ w. w.tracked) words,
       ap (λ (m : Known). m.book) c.mark.view_is ∙ (c.requires.book ∙ sym c.self.view_is),
       offer.0 ∙ sits.0,
-      rw (ap (λ w. w.key) words, offer.1, offer.3) (head_counted g.M.Mutators.means c.mark.inside.seen.log (moved (Some c.in-Some.seat.number) nowhere None) c.mark.invariant.0.1),
+      rw (ap (λ w. w.key) words, offer.1, offer.3) (head_counted g.M.Means.means c.mark.inside.seen.log (moved (Some c.in-Some.seat.number) nowhere None) c.mark.invariant.0.1),
     )
 
 pub returns-in-Some-clause-own : goal.returns-in-Some-clause-own
@@ -35,3 +35,6 @@ returns-in-Some-clause-own g c =
     let counted = subst (λ (e : Entry). c.load-bits.new.offer.state ≡ Some (answer (count (key_of e) log') (count (key_of e) log'))) offer.1 load.6.1.2 in
     own_same (suc number) c.in-Some.seat.tally.count log log' load.5 sits.2 c.into_gain.result.answer (count (suc number) log') (sym gain.2 ∙ counted) told
     ∙ (sym (ap (λ (s : Option Seat). own_of (number_of s) log) seat_is) ∙ ap own c.mark.view_is)
+
+pub returns-in-Some-clause-last : goal.returns-in-Some-clause-last
+returns-in-Some-clause-last g c = search rules

@@ -17,7 +17,7 @@ load-next-requires g c =
       ap (λ w. w.tracked) words,
       ap (λ (m : Known). m.book) c.mark.view_is ∙ (c.requires.book ∙ (sym c.self.view_is ∙ sym (ap (λ w. w.book) words))),
       offer.0 ∙ sits.0,
-      rw (ap (λ w. w.key) words, offer.1, offer.3) (drafts_counted g.M.Mutators.means c.mark.inside.seen.log (moved (Some c.in-Some.seat.number) nowhere None) c.mark.invariant.0.1),
+      rw (ap (λ w. w.key) words, offer.1, offer.3) (drafts_counted g.M.Means.means c.mark.inside.seen.log (moved (Some c.in-Some.seat.number) nowhere None) c.mark.invariant.0.1),
     )
 
 pub returns-clause-own : goal.returns-clause-own

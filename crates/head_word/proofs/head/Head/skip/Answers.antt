@@ -8,7 +8,7 @@ use Rattle.head_word.proofs.head.Head.skip.Goals as goal
 use Rattle.group_history.proofs.Lists.{prefix_length}
 
 pub add_draft-requires-clause-asked : goal.add_draft-requires-clause-asked
-add_draft-requires-clause-asked g c κs within =
+add_draft-requires-clause-asked g c =
     let leaves = replicate c.args.count empty_leaf in
     (leaves, ap (λ (s : Option ℕ). drafted s c.next-first.result leaves) c.seat.ensures, length-replicate c.args.count empty_leaf, leaves_after (next_stamp c.next-first.new.mark.log) 0 c.args.count)
 

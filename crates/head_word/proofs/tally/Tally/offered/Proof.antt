@@ -45,7 +45,7 @@ offered_spec 𝓤 𝓛 𝓜 𝓡 wired S X N _ _ _ g d gn dn _ _ =
     (λ κs. ((λ x. token ∷ []), (shr_vals, tt))) (λ κs. ((λ x vs is. token_told unit vs is.0), (shr_Tells (named 0) κs.0 X', tt))) (λ κs qs bounds a gh are.
     let me = a.0 in let x = a.1.0.now in let ask = gn.ask x in let at : Val = vptr a.1.0.ref_ptr.0 a.1.0.ref_ptr.1 in
     let y : (walk_of 𝓛 En hs c).Ghost = ((κs, qs, bounds, a, (token ∷ [], (at ∷ [], tt))), gh) in let Post : Val → SProp 𝓤 = (walk_of 𝓛 En hs c).post y in let toks : Fml = fsep (flft κs.0 qs.0) (fsep (flft κs.1.0 qs.1.0) (fsep (flft κs.1.1.0 qs.1.1.0) (fsep (flft κs.1.1.1.0 qs.1.1.1.0) ftrue))) in
-    qed 𝓛 ((‵ toks ⊛ ‵ (owns (types_at En.signature.params κs) a y.0.4)) ∷ raw (fact 𝓤 _) ∷ raw (fact 𝓤 _) ∷ raw (fact 𝓤 _) ∷ raw (fact 𝓤 _) ∷ given _ (‵ ftrue) ∷ []) ∵ keep ! (5 ∷ 0 ∷ []) $ learn ! (λ asked. drop ! $ split ! $
+    qed 𝓛 ((‵ toks ⊛ ‵ (owns (types_at En.signature.params κs) a y.0.4)) ∷ raw (fact 𝓤 _) ∷ raw (fact 𝓤 _) ∷ raw (fact 𝓤 _) ∷ given _ (‵ ftrue) ∷ []) ∵ keep ! (4 ∷ 0 ∷ []) $ learn ! (λ asked. drop ! $ split ! $
     move ! (1 ∷ []) $ fsplit ! $ fsplit ! $ keep ! (1 ∷ 3 ∷ []) $
     enter ! 𝓣.C 𝓣.Λ fn (token ∷ at ∷ []) Post $ alloc_all ! (λ l. pass_all ! refl ((tt, (tt, tt)), ((tt, tt), tt)) $
     let about = ask ∷ replicate me.count ask in let less : key_of ask < keys_of me.names = subst (λ (k : ℕ). k < keys_of me.names) (sym asked.0) asked.1 in

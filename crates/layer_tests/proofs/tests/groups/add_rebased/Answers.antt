@@ -1,11 +1,11 @@
 use Rattle.std.proofs.Common.{◌≡◌, ℕ, List, ◌++◌, map, Some, sym, ap, ◌∙◌, subst}
-use Rattle.std.specs.Prelude.{IsSome, refl}
+use Rattle.std.specs.Prelude.{IsSome, refl, false}
 use Rattle.group_history.specs.declared.nodes.Node.{Node}
 use Rattle.group_history.specs.declared.refs.Ref.{Ref}
 use Rattle.group_history.specs.Naming.{content_of}
 use Rattle.group_history.specs.Refs.{stamp_of}
 use Rattle.group_history.specs.Spelling.{Contents, Version, map_at, version_at}
-use Rattle.group_history.specs.State.{State}
+use Rattle.group_history.specs.State.{State, state}
 use Rattle.map_chunks.specs.Drafts.{Drafted}
 use Rattle.map_chunks.proofs.Shelves.{some_of}
 use Rattle.commits.proofs.Chained.{version_stays}
@@ -31,9 +31,9 @@ returns-clause-old c = stays c.args.nodes.now c.rebased.new.draft.nodes c.append
 pub returns-clause-new : goal.returns-clause-new
 returns-clause-new c =
     let nodes = c.args.nodes.now in let contents = map content_of nodes in
-    let state = c.in_ok-state.state in let root = stamp_of state.pulled in
-    let m = some_of (map_at contents root) c.in_ok-state.ensures in
+    let st = c.in_ok-cookie.field-0 in let root = stamp_of st.pulled in
+    let m = some_of (map_at contents root) c.in_ok-cookie.ensures in
     let there = ap (λ (d : Drafted). map_at (staged nodes d.nodes) root) c.draft-draft.ensures ∙ (ap (λ (w : Contents). map_at w root) (with_none contents) ∙ m.1) in
-    let s : State = record { pulled = m.0; cookie = state.cookie; confirmed = state.confirmed; pending = state.pending.items } in
-    let spelled = c.in_ok-new.ensures.spelled s there refl refl in
+    let s : State = state m.0 st.cookie st.confirmed c.deref.result.now false in
+    let spelled = c.in_ok-new.ensures.spelled s there refl refl refl in
     placed nodes c.rebased.new.draft.nodes c.append.new.self (stamp_of c.in_ok-new.new) _ c.in_ok-append.ensures.ok spelled

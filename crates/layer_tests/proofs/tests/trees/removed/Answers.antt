@@ -6,7 +6,6 @@ use Rattle.group_history.specs.Naming.{content_of}
 use Rattle.group_history.specs.Refs.{stamp_of}
 use Rattle.group_history.specs.Spelling.{map_at}
 use Rattle.map_chunks.specs.Drafts.{Drafted}
-use Rattle.map_tree.specs.Trees.{tree_map}
 use Rattle.map_tree.proofs.WriteLemmas.{kept_there}
 use Rattle.layer_tests.proofs.tests.trees.removed.Goals as goal
 

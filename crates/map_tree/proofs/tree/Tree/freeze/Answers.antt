@@ -1,4 +1,5 @@
-use Rattle.std.proofs.Common.{◌≡◌, ◌+◌, ◌<◌, ◌^◌, sym, ap, subst, ◌∙◌, length, Ok, OnOk, IfErr, refl, arith, ◌⊎◌, inl}
+use Rattle.std.proofs.Common.{◌≡◌, ◌+◌, ◌<◌, sym, ap, subst, ◌∙◌, length, Ok, OnOk, IfErr, refl, arith, ◌⊎◌, inl}
+use Rattle.group_history.specs.Refs.{stamps}
 use Rattle.map_chunks.specs.Places.{with_nodes, AddsNamed}
 use Rattle.map_tree.specs.Trees.{root_places, tree_places, root_map, root_fresh, placed_root, IsWide}
 use Rattle.group_history.specs.declared.refusals.Refusal.TheVariants as refusal
@@ -39,7 +40,7 @@ returns-in-Own-clause-count c =
 
 pub returns-in-Own-clause-why : goal.returns-in-Own-clause-why
 returns-in-Own-clause-why c =
-    subst (λ n. IfErr c.frozen.result (λ e. (e ≡ refusal.NoMemory) ⊎ ((e ≡ refusal.Stamps) × (2 ^ 44 < c.args.draft.now.first + length c.args.draft.now.nodes + n))))
+    subst (λ n. IfErr c.frozen.result (λ e. (e ≡ refusal.NoMemory) ⊎ ((e ≡ refusal.Stamps) × (stamps < c.args.draft.now.first + length c.args.draft.now.nodes + n))))
     (ap root_fresh (sym c.in-Own.is)) c.frozen.ensures.why
 
 pub returns-in-Placed-clause-named : goal.returns-in-Placed-clause-named

@@ -5,7 +5,7 @@ use Rattle.rebase.proofs.plain.Plain.call_all.Given as goal
 
 abbrev pub invariant-loop-call : goal.invariant-loop-call
 invariant-loop-call g l = record {
-  replies : AreReplies g.M.Mutators.means l.fn.self (take l.call-index l.calls) (map replied l.replies.items) l.self;
+  replies : AreReplies g.M.Means.means l.fn.self (take l.call-index l.calls) (map replied l.replies.items) l.self;
   room : length l.calls ≤ l.replies.cap;
   count : length l.replies.items ≡ l.call-index;
 }

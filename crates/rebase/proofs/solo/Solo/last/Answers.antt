@@ -12,4 +12,4 @@ pub returns-clause-id : goal.returns-clause-id
 returns-clause-id g c =
     let at = stamp_of c.self.inside.head in
     let here = ap (λ (ns : List (Node Ref)). version_at (map content_of ns) at) c.shelf-shelf.ensures ∙ c.self.invariant.spells in
-    c.in_ok-last_id_of.ensures.id (version_of g.M.Mutators.means (state_at (map content_of c.self.inside.nodes) at)) here ∙ ap (λ (s : SoloState). last_id s.state c.args.client.now) c.self.view_is
+    c.in_ok-last_id_of.ensures.id (version_of g.M.Means.means (state_at (map content_of c.self.inside.nodes) at)) here ∙ ap (λ (s : SoloState). last_id s.state c.args.client.now) c.self.view_is

@@ -13,4 +13,4 @@ pub invariant_of-result : goal.invariant_of-result
 invariant_of-result g c =
     let at = stamp_of c.in_ok-head.head in
     let all = c.in_ok-append.ensures.ok ∙ ap (λ (ns : List (Node Ref)). ns ++ c.add_opening.new.draft.nodes) c.new-nodes.ensures in
-    head_of g.M.Mutators.means (map content_of c.append.new.self) at opening (ap (λ (ns : List (Node Ref)). version_at (map content_of ns) at) all ∙ c.in_ok-head.ensures.spelled) new_follows
+    head_of g.M.Means.means (map content_of c.append.new.self) at opening (ap (λ (ns : List (Node Ref)). version_at (map content_of ns) at) all ∙ c.in_ok-head.ensures.spelled) new_follows

@@ -1,0 +1,7 @@
+use Rattle.std.proofs.Common.{rules}
+use Rattle.script_runner.specs.Mutators.{followed}
+use Rattle.script_runner.proofs.mutators.followed.Goals as goal
+
+pub returns-clause-ok : goal.returns-clause-ok
+unfolding followed
+returns-clause-ok c = search rules

@@ -1,0 +1,8 @@
+use Rattle.std.proofs.Common.{arith}
+use Rattle.std.proofs.lemmas.Grind.{common_steps}
+use Rattle.script_runner.specs.Mutators.{text_and_value}
+use Rattle.script_runner.proofs.mutators.text_and_value.Goals as goal
+
+pub returns : goal.returns
+unfolding text_and_value
+returns c = grind (arith, common_steps)

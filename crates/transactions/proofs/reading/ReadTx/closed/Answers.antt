@@ -1,0 +1,14 @@
+use Rattle.std.proofs.Common.{ap, ◌∙◌}
+use Rattle.group_history.specs.Refs.{stamp_of}
+use Rattle.transactions.specs.Reads.{Read}
+use Rattle.transactions.proofs.ReadLemmas.{version-same, read-kept}
+use Rattle.transactions.proofs.reading.ReadTx.closed.Goals as goal
+
+pub invariant_of-self : goal.invariant_of-self
+invariant_of-self g c =
+    let m = g.N.Chunks.contents in let t = c.self.inside in read-kept (m t.nodes) (m c.closed_of.new.nodes) (stamp_of t.head) (stamp_of t.root) c.closed_of.ensures.grown c.self.invariant
+
+pub returns-clause-same : goal.returns-clause-same
+returns-clause-same g c =
+    let m = g.N.Chunks.contents in let t = c.self.inside in
+    version-same (m t.nodes) (m c.closed_of.new.nodes) (stamp_of t.head) (stamp_of t.root) c.closed_of.ensures.grown c.self.invariant ∙ ap (λ (r : Read). r.version) c.self.view_is
