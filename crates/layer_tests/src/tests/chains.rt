@@ -154,12 +154,7 @@ fn chunks(alloc: Global) -> Result<VecNodes, Refusal>
 /// with the maps of `a`, of both, and of `b`; at 7 a snapshot that shares the chunk of `a`; at 8 a closing
 /// over the third local commit.
 pub(super) fn example(alloc: Global) -> Result<VecNodes, Refusal>
-    ensures snapshot { IfOk result (λ ns. IsSome (version_at (map content_of ns) 3)) }
-    ensures first { IfOk result (λ ns. IsSome (version_at (map content_of ns) 4)) }
-    ensures second { IfOk result (λ ns. IsSome (version_at (map content_of ns) 5)) }
-    ensures third { IfOk result (λ ns. IsSome (version_at (map content_of ns) 6)) }
-    ensures next { IfOk result (λ ns. IsSome (version_at (map content_of ns) 7)) }
-    ensures closed { IfOk result (λ ns. IsSome (version_at (map content_of ns) 8)) }
+    ensures versions { IfOk result (λ ns. let all = map content_of ns in IsSome (version_at all 3) × IsSome (version_at all 4) × IsSome (version_at all 5) × IsSome (version_at all 6) × IsSome (version_at all 7) × IsSome (version_at all 8)) }
     ensures confirmed_ids { IfOk result (λ ns. (v : Version) → version_at (map content_of ns) 3 ≡ Some v → IdsFollow v.state.confirmed v.state.pending) }
     ensures pending_ids { IfOk result (λ ns. (v : Version) → version_at (map content_of ns) 6 ≡ Some v → IdsFollow v.state.confirmed v.state.pending) }
 {

@@ -101,12 +101,14 @@ whole v w s t x y z =
     ∷ node.Commit (local 0 3 3 x) ∷ node.Commit (local 2 4 3 y) ∷ node.Commit (local 1 5 3 z) ∷ node.Commit (snapped 0 t) ∷ node.Commit (closing 1 6 3) ∷ []
 
 -- each commit of them spells a version
-spelled_whole : (v w : Bytes) (s t : Snapped) (x y z : Mutation) → let ns = whole v w s t x y z in
-    IsSome (version_at ns 3) × IsSome (version_at ns 4) × IsSome (version_at ns 5) × IsSome (version_at ns 6) × IsSome (version_at ns 7) × IsSome (version_at ns 8)
+abbrev AreSpelled : Contents → Type 0
+AreSpelled ns = IsSome (version_at ns 3) × IsSome (version_at ns 4) × IsSome (version_at ns 5) × IsSome (version_at ns 6) × IsSome (version_at ns 7) × IsSome (version_at ns 8)
+
+spelled_whole : (v w : Bytes) (s t : Snapped) (x y z : Mutation) → AreSpelled (whole v w s t x y z)
 spelled_whole v w s t x y z = (refl, refl, refl, refl, refl, refl)
 
-pub returns-clause-snapshot : goal.returns-clause-snapshot
-returns-clause-snapshot c =
+pub returns-clause-versions : goal.returns-clause-versions
+returns-clause-versions c =
     let f = c.in_ok-nodes.ensures in let s = c.in_ok-nodes-2.ensures in let x = c.in_ok-nodes-3.ensures in let y = c.in_ok-nodes-4.ensures in let z = c.in_ok-nodes-5.ensures in let t = c.in_ok-nodes-6.ensures in
     let e = c.in_ok-nodes-7.ensures in
     let all = nine c.in_ok-nodes.nodes c.in_ok-nodes-2.nodes c.in_ok-nodes-3.nodes c.in_ok-nodes-4.nodes c.in_ok-nodes-5.nodes c.in_ok-nodes-6.nodes c.in_ok-nodes-7.nodes _ _ _ _ _ _ _ _ _ f.2 s.2 x.5 y.5 z.5 t.2 e.2 in
@@ -114,62 +116,7 @@ returns-clause-snapshot c =
     all ∙ (λ i. node.Chunk (Leaf ((97 ∷ [], f.0) ∷ [])) ∷ node.Chunk (Leaf ((98 ∷ [], f.1) ∷ [])) ∷ node.Chunk (Inner ((97 ∷ [], 0) ∷ (98 ∷ [], 1) ∷ [])) ∷ node.Commit (snapped (c.at.ensures i) s.0)
     ∷ node.Commit (local (c.at-3.ensures i) (c.at-2.ensures i) (x.4 i) x.0) ∷ node.Commit (local (c.at-5.ensures i) (c.at-4.ensures i) (y.4 i) y.0) ∷ node.Commit (local (c.at-7.ensures i) (c.at-6.ensures i) (z.4 i) z.0)
     ∷ node.Commit (snapped (c.at-8.ensures i) t.0) ∷ node.Commit (closing (c.at-10.ensures i) (c.at-9.ensures i) (e.1 i)) ∷ []) in
-    subst (λ (w : Contents). IsSome (version_at w 3)) (sym numbers) (spelled_whole f.0 f.1 s.0 t.0 x.0 y.0 z.0).0
-
-pub returns-clause-first : goal.returns-clause-first
-returns-clause-first c =
-    let f = c.in_ok-nodes.ensures in let s = c.in_ok-nodes-2.ensures in let x = c.in_ok-nodes-3.ensures in let y = c.in_ok-nodes-4.ensures in let z = c.in_ok-nodes-5.ensures in let t = c.in_ok-nodes-6.ensures in
-    let e = c.in_ok-nodes-7.ensures in
-    let all = nine c.in_ok-nodes.nodes c.in_ok-nodes-2.nodes c.in_ok-nodes-3.nodes c.in_ok-nodes-4.nodes c.in_ok-nodes-5.nodes c.in_ok-nodes-6.nodes c.in_ok-nodes-7.nodes _ _ _ _ _ _ _ _ _ f.2 s.2 x.5 y.5 z.5 t.2 e.2 in
-    let numbers : map content_of c.in_ok-nodes-7.nodes ≡ whole f.0 f.1 s.0 t.0 x.0 y.0 z.0 =
-    all ∙ (λ i. node.Chunk (Leaf ((97 ∷ [], f.0) ∷ [])) ∷ node.Chunk (Leaf ((98 ∷ [], f.1) ∷ [])) ∷ node.Chunk (Inner ((97 ∷ [], 0) ∷ (98 ∷ [], 1) ∷ [])) ∷ node.Commit (snapped (c.at.ensures i) s.0)
-    ∷ node.Commit (local (c.at-3.ensures i) (c.at-2.ensures i) (x.4 i) x.0) ∷ node.Commit (local (c.at-5.ensures i) (c.at-4.ensures i) (y.4 i) y.0) ∷ node.Commit (local (c.at-7.ensures i) (c.at-6.ensures i) (z.4 i) z.0)
-    ∷ node.Commit (snapped (c.at-8.ensures i) t.0) ∷ node.Commit (closing (c.at-10.ensures i) (c.at-9.ensures i) (e.1 i)) ∷ []) in
-    subst (λ (w : Contents). IsSome (version_at w 4)) (sym numbers) (spelled_whole f.0 f.1 s.0 t.0 x.0 y.0 z.0).1
-
-pub returns-clause-second : goal.returns-clause-second
-returns-clause-second c =
-    let f = c.in_ok-nodes.ensures in let s = c.in_ok-nodes-2.ensures in let x = c.in_ok-nodes-3.ensures in let y = c.in_ok-nodes-4.ensures in let z = c.in_ok-nodes-5.ensures in let t = c.in_ok-nodes-6.ensures in
-    let e = c.in_ok-nodes-7.ensures in
-    let all = nine c.in_ok-nodes.nodes c.in_ok-nodes-2.nodes c.in_ok-nodes-3.nodes c.in_ok-nodes-4.nodes c.in_ok-nodes-5.nodes c.in_ok-nodes-6.nodes c.in_ok-nodes-7.nodes _ _ _ _ _ _ _ _ _ f.2 s.2 x.5 y.5 z.5 t.2 e.2 in
-    let numbers : map content_of c.in_ok-nodes-7.nodes ≡ whole f.0 f.1 s.0 t.0 x.0 y.0 z.0 =
-    all ∙ (λ i. node.Chunk (Leaf ((97 ∷ [], f.0) ∷ [])) ∷ node.Chunk (Leaf ((98 ∷ [], f.1) ∷ [])) ∷ node.Chunk (Inner ((97 ∷ [], 0) ∷ (98 ∷ [], 1) ∷ [])) ∷ node.Commit (snapped (c.at.ensures i) s.0)
-    ∷ node.Commit (local (c.at-3.ensures i) (c.at-2.ensures i) (x.4 i) x.0) ∷ node.Commit (local (c.at-5.ensures i) (c.at-4.ensures i) (y.4 i) y.0) ∷ node.Commit (local (c.at-7.ensures i) (c.at-6.ensures i) (z.4 i) z.0)
-    ∷ node.Commit (snapped (c.at-8.ensures i) t.0) ∷ node.Commit (closing (c.at-10.ensures i) (c.at-9.ensures i) (e.1 i)) ∷ []) in
-    subst (λ (w : Contents). IsSome (version_at w 5)) (sym numbers) (spelled_whole f.0 f.1 s.0 t.0 x.0 y.0 z.0).2
-
-pub returns-clause-third : goal.returns-clause-third
-returns-clause-third c =
-    let f = c.in_ok-nodes.ensures in let s = c.in_ok-nodes-2.ensures in let x = c.in_ok-nodes-3.ensures in let y = c.in_ok-nodes-4.ensures in let z = c.in_ok-nodes-5.ensures in let t = c.in_ok-nodes-6.ensures in
-    let e = c.in_ok-nodes-7.ensures in
-    let all = nine c.in_ok-nodes.nodes c.in_ok-nodes-2.nodes c.in_ok-nodes-3.nodes c.in_ok-nodes-4.nodes c.in_ok-nodes-5.nodes c.in_ok-nodes-6.nodes c.in_ok-nodes-7.nodes _ _ _ _ _ _ _ _ _ f.2 s.2 x.5 y.5 z.5 t.2 e.2 in
-    let numbers : map content_of c.in_ok-nodes-7.nodes ≡ whole f.0 f.1 s.0 t.0 x.0 y.0 z.0 =
-    all ∙ (λ i. node.Chunk (Leaf ((97 ∷ [], f.0) ∷ [])) ∷ node.Chunk (Leaf ((98 ∷ [], f.1) ∷ [])) ∷ node.Chunk (Inner ((97 ∷ [], 0) ∷ (98 ∷ [], 1) ∷ [])) ∷ node.Commit (snapped (c.at.ensures i) s.0)
-    ∷ node.Commit (local (c.at-3.ensures i) (c.at-2.ensures i) (x.4 i) x.0) ∷ node.Commit (local (c.at-5.ensures i) (c.at-4.ensures i) (y.4 i) y.0) ∷ node.Commit (local (c.at-7.ensures i) (c.at-6.ensures i) (z.4 i) z.0)
-    ∷ node.Commit (snapped (c.at-8.ensures i) t.0) ∷ node.Commit (closing (c.at-10.ensures i) (c.at-9.ensures i) (e.1 i)) ∷ []) in
-    subst (λ (w : Contents). IsSome (version_at w 6)) (sym numbers) (spelled_whole f.0 f.1 s.0 t.0 x.0 y.0 z.0).3
-
-pub returns-clause-next : goal.returns-clause-next
-returns-clause-next c =
-    let f = c.in_ok-nodes.ensures in let s = c.in_ok-nodes-2.ensures in let x = c.in_ok-nodes-3.ensures in let y = c.in_ok-nodes-4.ensures in let z = c.in_ok-nodes-5.ensures in let t = c.in_ok-nodes-6.ensures in
-    let e = c.in_ok-nodes-7.ensures in
-    let all = nine c.in_ok-nodes.nodes c.in_ok-nodes-2.nodes c.in_ok-nodes-3.nodes c.in_ok-nodes-4.nodes c.in_ok-nodes-5.nodes c.in_ok-nodes-6.nodes c.in_ok-nodes-7.nodes _ _ _ _ _ _ _ _ _ f.2 s.2 x.5 y.5 z.5 t.2 e.2 in
-    let numbers : map content_of c.in_ok-nodes-7.nodes ≡ whole f.0 f.1 s.0 t.0 x.0 y.0 z.0 =
-    all ∙ (λ i. node.Chunk (Leaf ((97 ∷ [], f.0) ∷ [])) ∷ node.Chunk (Leaf ((98 ∷ [], f.1) ∷ [])) ∷ node.Chunk (Inner ((97 ∷ [], 0) ∷ (98 ∷ [], 1) ∷ [])) ∷ node.Commit (snapped (c.at.ensures i) s.0)
-    ∷ node.Commit (local (c.at-3.ensures i) (c.at-2.ensures i) (x.4 i) x.0) ∷ node.Commit (local (c.at-5.ensures i) (c.at-4.ensures i) (y.4 i) y.0) ∷ node.Commit (local (c.at-7.ensures i) (c.at-6.ensures i) (z.4 i) z.0)
-    ∷ node.Commit (snapped (c.at-8.ensures i) t.0) ∷ node.Commit (closing (c.at-10.ensures i) (c.at-9.ensures i) (e.1 i)) ∷ []) in
-    subst (λ (w : Contents). IsSome (version_at w 7)) (sym numbers) (spelled_whole f.0 f.1 s.0 t.0 x.0 y.0 z.0).4
-
-pub returns-clause-closed : goal.returns-clause-closed
-returns-clause-closed c =
-    let f = c.in_ok-nodes.ensures in let s = c.in_ok-nodes-2.ensures in let x = c.in_ok-nodes-3.ensures in let y = c.in_ok-nodes-4.ensures in let z = c.in_ok-nodes-5.ensures in let t = c.in_ok-nodes-6.ensures in
-    let e = c.in_ok-nodes-7.ensures in
-    let all = nine c.in_ok-nodes.nodes c.in_ok-nodes-2.nodes c.in_ok-nodes-3.nodes c.in_ok-nodes-4.nodes c.in_ok-nodes-5.nodes c.in_ok-nodes-6.nodes c.in_ok-nodes-7.nodes _ _ _ _ _ _ _ _ _ f.2 s.2 x.5 y.5 z.5 t.2 e.2 in
-    let numbers : map content_of c.in_ok-nodes-7.nodes ≡ whole f.0 f.1 s.0 t.0 x.0 y.0 z.0 =
-    all ∙ (λ i. node.Chunk (Leaf ((97 ∷ [], f.0) ∷ [])) ∷ node.Chunk (Leaf ((98 ∷ [], f.1) ∷ [])) ∷ node.Chunk (Inner ((97 ∷ [], 0) ∷ (98 ∷ [], 1) ∷ [])) ∷ node.Commit (snapped (c.at.ensures i) s.0)
-    ∷ node.Commit (local (c.at-3.ensures i) (c.at-2.ensures i) (x.4 i) x.0) ∷ node.Commit (local (c.at-5.ensures i) (c.at-4.ensures i) (y.4 i) y.0) ∷ node.Commit (local (c.at-7.ensures i) (c.at-6.ensures i) (z.4 i) z.0)
-    ∷ node.Commit (snapped (c.at-8.ensures i) t.0) ∷ node.Commit (closing (c.at-10.ensures i) (c.at-9.ensures i) (e.1 i)) ∷ []) in
-    subst (λ (w : Contents). IsSome (version_at w 8)) (sym numbers) (spelled_whole f.0 f.1 s.0 t.0 x.0 y.0 z.0).5
+    subst (λ (w : Contents). AreSpelled w) (sym numbers) (spelled_whole f.0 f.1 s.0 t.0 x.0 y.0 z.0)
 
 pub returns-clause-confirmed_ids : goal.returns-clause-confirmed_ids
 returns-clause-confirmed_ids c =
