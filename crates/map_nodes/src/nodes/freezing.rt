@@ -17,7 +17,7 @@ use map_chunks::Draft;
 use std::alloc::Global;
 
 /// Appends the chunk and those that it owns to the draft, all or none, and answers its root's name.
-/// Refused for want of memory, or with Stamps where the nodes would have stamps from 2^44 on.
+/// Refused for want of memory, or with Stamps where the nodes would have stamps from `STAMPS` on.
 pub fn frozen(alloc: Global, node: Node, draft: &mut Draft) -> Result<Ref, Refusal>
     ensures spelled { (contents : Contents) (rows : Rows) → length contents ≡ draft.old.first → shown (with_nodes contents draft.old.nodes) node.pieces ≡ Some rows → IfOk result (λ root. rows_at (with_nodes contents draft.new.nodes) node.depth (stamp_of root) ≡ Some rows) }
     ensures wide { (contents : Contents) → length contents ≡ draft.old.first → 1 < node.entries → IfOk result (λ root. IsWideAt (with_nodes contents draft.new.nodes) (stamp_of root)) }
