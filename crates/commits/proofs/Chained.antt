@@ -22,7 +22,8 @@ use Rattle.group_history.specs.Cookies.{Cookie}
 use Rattle.group_history.proofs.Lists.{get_more, prefix_trans}
 use Rattle.commits.specs.declared.chains.Base.{Base}
 use Rattle.commits.specs.declared.chains.Link.{Link}
-use Rattle.commits.specs.Chains.{LiesAt, basis_of, basis_named, added_by, listed, link_of, link_named, top_of, snapshot_named, closes_group, closes, id_in, own_id, id_named, IsSnapshot, IsSnapshotAt, HasCookie, cookie_in, HasBase, base_in, IsBaseOf, snapshot_content, IsBase}
+use Rattle.commits.specs.Chains.{IsBaseOf}
+use Rattle.commits.specs.Inside.Chains.{LiesAt, basis_of, basis_named, added_by, listed, link_of, link_named, top_of, snapshot_named, closes_group, closes, id_in, own_id, id_named, IsSnapshot, IsSnapshotAt, HasCookie, cookie_in, HasBase, base_in, snapshot_content, IsBase}
 use Rattle.commits.proofs.Spelled.{IsMade, commit-made, version-grown, map-grown}
 use Rattle.commits.proofs.Snapshots.{begins}
 use Rattle.commits.proofs.LastIds.{newest_id}

@@ -10,7 +10,7 @@ use Rattle.group_history.specs.Map.{Bytes}
 use Rattle.group_history.specs.Rows.{Rows, keys_of, values_of}
 use Rattle.group_history.specs.Spelling.{Spelled, rows_in, begins_with, joined_one, joined_rows}
 use Rattle.group_history.proofs.Lists.{cons_cases, no_element, map_from, map_to, first_here}
-use Rattle.commits.specs.Meeting.{or_this, choose}
+use Rattle.commits.specs.Inside.Meeting.{or_this, choose}
 use Rattle.commits.proofs.Spelled.{joined_one-some}
 use Rattle.map_chunks.proofs.Texts.{same_text-is}
 use Rattle.map_chunks.proofs.RowLemmas.{cmp, AllAbove, IsStrict, AllAbove-back, AllAbove-front, IsStrict-back, IsStrict-front}

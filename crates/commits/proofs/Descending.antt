@@ -14,12 +14,13 @@ use Rattle.group_history.specs.declared.refs.Ref.{Ref}
 use Rattle.group_history.specs.Map.{Bytes, Entries}
 use Rattle.group_history.specs.Refs.{stamp_of}
 use Rattle.group_history.specs.Rows.{paired, keys_of, values_of}
-use Rattle.group_history.specs.Naming.{children}
+use Rattle.group_history.specs.Naming.{children, chunk_children}
 use Rattle.group_history.specs.Spelling.{Contents, Segment, Spelled, segment, segment_in, rows_if, rows_in, joined_rows, sized, chunk_in, map_of, segment_at, map_at}
 use Rattle.group_history.proofs.Folding.{and_then-some}
 use Rattle.group_history.proofs.Lists.{prefix_trans, no_element, first_here, later_here}
+use Rattle.map_chunks.specs.Places.{AreAll, IfAt}
 use Rattle.commits.specs.Reach.{Reaches, itself, through}
-use Rattle.commits.specs.Meeting.{or_this, choose, child_for, HasKey, LiesChunk}
+use Rattle.commits.specs.Inside.Meeting.{or_this, choose, child_for, HasKey, LiesChunk}
 use Rattle.commits.proofs.Spelled.{made_of, spelled_segment, option_map-some, sized-some, below_segment, segment-grown, chunk-at, inner-at, joined_there}
 use Rattle.std.proofs.lemmas.Bool.{eq-eqb}
 use Rattle.commits.proofs.Choosing.{chosen, part}
@@ -203,3 +204,18 @@ paired_end (a ∷ xs) (b ∷ ys) x y h = ap (λ w. (a, b) ∷ w) (paired_end xs 
 
 pub paired_append : {A B : Type 0} (xs : List A) (ys : List B) (i : ℕ) (x : A) (y : B) → length ys ≡ length xs → paired (take i xs ++ x ∷ []) (take i ys ++ y ∷ []) ≡ paired (take i xs) (take i ys) ++ (x, y) ∷ []
 paired_append xs ys i x y h = paired_end (take i xs) (take i ys) x y (length-take i xs ∙ (ap (min i) (sym h) ∙ sym (length-take i ys)))
+
+-- a child that is chosen is one of the children
+pub chosen_in : (k : Bytes) (kids : List (Bytes × Ref)) (r : Ref) → choose k kids ≡ Some r → Contains (values_of kids) r
+chosen_in k [] r h = absurd (cc h)
+chosen_in k (e ∷ es) r h = by (choose k es) refl (is_gt (slice_cmp nat_cmp e.0 k)) h (λ c. chosen_in k es r c)
+  where
+    by : (o : Option Ref) → choose k es ≡ o → (b : Bool) → or_this o (if b then None else Some e.1) ≡ Some r → (choose k es ≡ Some r → Contains (values_of es) r) → Contains (values_of (e ∷ es)) r
+    by (Some x) c b i below = let same : x ≡ r = cc i in later_here e.1 (values_of es) r (below (c ∙ ap Some same))
+    by None c true i below = absurd (cc i)
+    by None c false i below = let same : e.1 ≡ r = cc i in subst (Contains (e.1 ∷ values_of es)) same (first_here e.1 (values_of es))
+
+pub child_may : (may : Ref → Type 0) (k : Bytes) (c : Chunk Ref) (child : Option Ref) → AreAll may (chunk_children c) → child ≡ child_for k c → IfAt may child
+child_may may k c None all e = tt
+child_may may k (Leaf rows) (Some r) all e = absurd (cc e)
+child_may may k (Inner kids) (Some r) all e = all r (chosen_in k kids r (sym e))

@@ -8,7 +8,7 @@ use Rattle.std.specs.declared.cmp.Ordering.TheVariants.{Less, Equal, Greater}
 use Rattle.std.proofs.lemmas.List.Elements.{Contains-append_cases, Contains-append_left, Contains-append_right}
 use Rattle.std.proofs.lemmas.Map.Lookups.{exact_unsigned}
 use Rattle.commits.specs.declared.founds.Found.{Found}
-use Rattle.commits.specs.Reach.{stamp_in, AreKeyed, HasStamp, Adds}
+use Rattle.commits.specs.Inside.Reach.{stamp_in, AreKeyed, HasStamp, Adds}
 use Rattle.group_history.proofs.Lists.{only_one, cons_cases, no_element, one_here, first_here, later_here, map_to}
 
 keyed_first : (e : ℕ × Found) (es : List (ℕ × Found)) → AreKeyed (e ∷ es) → e.0 ≡ stamp_in e.1

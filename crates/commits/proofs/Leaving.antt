@@ -9,7 +9,8 @@ use Rattle.std.proofs.Math.Nat.{eq-or-lt_of_le}
 use Rattle.group_history.specs.declared.refs.Ref.{Ref}
 use Rattle.group_history.specs.Refs.{stamp_of}
 use Rattle.group_history.proofs.Lists.{only_one, map_from, map_to}
-use Rattle.commits.specs.Reach.{Falls, stamps_of, Leaves}
+use Rattle.commits.specs.Reach.{Falls, stamps_of}
+use Rattle.commits.specs.Inside.Reach.{Leaves}
 use Rattle.commits.proofs.Listing.{falls_append}
 
 pub element : (xs : List ℕ) (j : ℕ) → j < length xs → Contains xs (slice_index xs j)

@@ -4,17 +4,17 @@ use Rattle.std.specs.List.{Contains}
 use Rattle.std.proofs.lemmas.List.{map-append}
 use Rattle.std.proofs.lemmas.List.Elements.{Contains-append_cases, Contains-append_left, Contains-append_right}
 use mathlib.Core.List.{IsPrefix}
-use Rattle.group_history.specs.declared.nodes.Chunk.{Chunk}
-use Rattle.group_history.specs.declared.nodes.Commit.{Commit}
 use Rattle.group_history.specs.declared.nodes.Node.{Node}
 use Rattle.group_history.specs.declared.refs.Ref.{Ref}
 use Rattle.group_history.specs.Refs.{stamp_of}
 use Rattle.group_history.specs.Naming.{children, content_of}
 use Rattle.group_history.specs.Spelling.{Contents, Version, version_at, map_at}
 use Rattle.group_history.proofs.Lists.{prefix_trans, only_one, cons_cases, no_element, one_here, first_here, later_here, map_from, map_to}
+use Rattle.map_chunks.specs.Places.{AreAll}
 use Rattle.commits.specs.declared.founds.Found.{Found}
 use Rattle.commits.specs.declared.founds.Found.TheVariants as found
-use Rattle.commits.specs.Reach.{Reaches, itself, through, Falls, stamps_of, IsShown, IsNamed, ref_in, stamp_in, found_in, IsSpelled, HasStamp, Adds}
+use Rattle.commits.specs.Reach.{Reaches, itself, through, Falls, stamps_of}
+use Rattle.commits.specs.Inside.Reach.{AreFound, ref_in, stamp_in, found_in, IsSpelled, HasStamp, Adds}
 use Rattle.std.specs.Prelude.{IsSome}
 use Rattle.commits.proofs.Descending.{map_ordered}
 use Rattle.commits.proofs.Rooted.{map_some_stays, kept_grown}
@@ -27,18 +27,19 @@ abbrev pub Has : Contents → ℕ → List Ref → List Found → ℕ → Type 0
 Has ns root out frontier x = (Contains (stamps_of out) x ⊎ HasStamp frontier x) ⊎ Reaches ns root x
 
 -- While a head's reach is listed, but for what a root keeps: out is listed, and the frontier is still to be looked at. Together with the root they have the children of all in out.
-pub record IsListing {H C : Type 0} (chunk : H → Chunk Ref) (commit : C → Commit Ref) (first ns : Contents) (head : Ref) (root : ℕ) (out : List Ref) (frontier : List Found) : Type 0 where
+pub record IsListing (was may : Ref → Type 0) (first ns : Contents) (head : Ref) (root : ℕ) (out : List Ref) (frontier : List Found) : Type 0 where
   pub listed : (r : Ref) → Contains out r → Reaches ns (stamp_of head) (stamp_of r)
   pub apart : (r : Ref) → Contains out r → Reaches ns root (stamp_of r) → ⊥
   pub ahead : (f : Found) → Contains frontier f → Reaches ns (stamp_of head) (stamp_in f) × IsSpelled ns f
   pub begun : Has ns root out frontier (stamp_of head)
   pub whole : (r : Ref) → Contains out r → (n : Node ℕ) × (slice_get ns (stamp_of r) ≡ Some n) × ((c : ℕ) → Contains (children n) c → Has ns root out frontier c)
-  pub named : (r : Ref) → Contains out r → IsNamed chunk commit ns head r
-  pub named_ahead : (f : Found) → Contains frontier f → IsNamed chunk commit ns head (ref_in f)
+  pub places : AreAll may out
+  pub places_ahead : AreFound may frontier
   pub falls : Falls (stamps_of out)
   pub above : (r : Ref) (f : Found) → Contains out r → Contains frontier f → stamp_in f < stamp_of r
   pub rooted : IsSome (map_at ns root)
   pub grown : IsPrefix first ns
+  pub wider : (r : Ref) → was r → may r
 
 -- for a measure: a number above the stamps of all
 abbrev pub bound : List Found → ℕ
@@ -62,15 +63,9 @@ falls_append (z ∷ xs) x f low = (
   falls_append xs x f.1 (λ y h. low y (later_here z xs y h)),
 )
 
-named_grown : {H C : Type 0} (chunk : H → Chunk Ref) (commit : C → Commit Ref) (ns more : Contents) (head r : Ref) → IsPrefix ns more → IsNamed chunk commit ns head r → IsNamed chunk commit more head r
-named_grown chunk commit ns more head r pre h = elim h [
-  | inl e ↦ inl e
-  | inr q ↦ inr (q.0, q.1, q.2, reaches_stays ns more (stamp_of head) q.1 pre q.3, get_stays ns more q.1 (content_of q.0) pre q.4, q.5)
-]
-
-pub listing_grown : {H C : Type 0} (chunk : H → Chunk Ref) (commit : C → Commit Ref) (first ns more : Contents) (head : Ref) (root : ℕ) (out : List Ref) (keys : List Found) → IsListing chunk commit first ns head root out keys → IsPrefix ns more
-    → IsListing chunk commit first more head root out keys
-listing_grown chunk commit first ns more head root out keys is pre =
+pub listing_grown : (was may wide : Ref → Type 0) (first ns more : Contents) (head : Ref) (root : ℕ) (out : List Ref) (keys : List Found) → IsListing was may first ns head root out keys → IsPrefix ns more → ((r : Ref) → may r → wide r)
+    → IsListing was wide first more head root out keys
+listing_grown was may wide first ns more head root out keys is pre on =
     let moved : (c : ℕ) → Has ns root out keys c → Has more root out keys c = λ c h. elim h [ inl p ↦ inl p | inr q ↦ inr (reaches_stays ns more root c pre q) ] in
     record {
       listed = λ r h. reaches_stays ns more (stamp_of head) (stamp_of r) pre (is.listed r h);
@@ -78,17 +73,18 @@ listing_grown chunk commit first ns more head root out keys is pre =
       ahead = λ f h. (let w = is.ahead f h in (reaches_stays ns more (stamp_of head) (stamp_in f) pre w.0, spelled_grown ns more f pre w.1));
       begun = moved (stamp_of head) is.begun;
       whole = λ r h. (let w = is.whole r h in (w.0, get_stays ns more (stamp_of r) w.0 pre w.1, λ c i. moved c (w.2 c i)));
-      named = λ r h. named_grown chunk commit ns more head r pre (is.named r h);
-      named_ahead = λ f h. named_grown chunk commit ns more head (ref_in f) pre (is.named_ahead f h);
+      places = λ r h. on r (is.places r h);
+      places_ahead = λ f h. on (ref_in f) (is.places_ahead f h);
       falls = is.falls;
       above = is.above;
       rooted = map_some_stays ns more root pre is.rooted;
       grown = prefix_trans first ns more is.grown pre;
+      wider = λ r h. on r (is.wider r h);
     }
 
-pub listing_begins : {H C : Type 0} (chunk : H → Chunk Ref) (commit : C → Commit Ref) (first : Contents) (head : Ref) (root : ℕ) (v : Version) (keys : List Found) → version_at first (stamp_of head) ≡ Some v → IsSome (map_at first root) → Adds [] (found.Commit head ∷ []) keys → IsPrefix first first
-    → IsListing chunk commit first first head root [] keys
-listing_begins chunk commit first head root v keys s o adds pre =
+pub listing_begins : (may : Ref → Type 0) (first : Contents) (head : Ref) (root : ℕ) (v : Version) (keys : List Found) → version_at first (stamp_of head) ≡ Some v → IsSome (map_at first root) → Adds [] (found.Commit head ∷ []) keys → IsPrefix first first → may head
+    → IsListing may may first first head root [] keys
+listing_begins may first head root v keys s o adds pre here =
     let is : (f : Found) → Contains keys f → found.Commit head ≡ f = λ f h. elim (adds.from f h) [ inl p ↦ absurd (no_element f p) | inr q ↦ only_one (found.Commit head) f q ] in
     record {
       listed = λ r h. absurd (no_element r h);
@@ -96,19 +92,20 @@ listing_begins chunk commit first head root v keys s o adds pre =
       ahead = λ f h. subst (λ (g : Found). Reaches first (stamp_of head) (stamp_in g) × IsSpelled first g) (is f h) (itself (stamp_of head), (v, s));
       begun = inl (inr (adds.added (found.Commit head) (one_here (found.Commit head))));
       whole = λ r h. absurd (no_element r h);
-      named = λ r h. absurd (no_element r h);
-      named_ahead = λ f h. inl (sym (ap ref_in (is f h)));
+      places = λ r h. absurd (no_element r h);
+      places_ahead = λ f h. subst (λ (g : Found). may (ref_in g)) (is f h) here;
       falls = tt;
       above = λ r f h i. absurd (no_element r h);
       rooted = o;
       grown = pre;
+      wider = λ r h. h;
     }
 
 -- One step: the greatest of the frontier is listed, and its children join the frontier.
-pub listing_step : {H C : Type 0} (chunk : H → Chunk Ref) (commit : C → Commit Ref) (first ns : Contents) (head : Ref) (root : ℕ) (at : Found) (n : Node Ref) (out : List Ref) (keys rest news : List Found)
-    → IsListing chunk commit first ns head root out keys → keys ≡ rest ++ at ∷ [] → ((f : Found) → Contains rest f → stamp_in f < stamp_in at)
-    → (Reaches ns root (stamp_in at) → ⊥) → IsShown chunk commit n → slice_get ns (stamp_in at) ≡ Some (content_of n) → Adds rest (found_in n) news → IsListing chunk commit first ns head root (out ++ ref_in at ∷ []) news
-listing_step chunk commit first ns head root at n out keys rest news is cut low free shown lies adds =
+pub listing_step : (was may : Ref → Type 0) (first ns : Contents) (head : Ref) (root : ℕ) (at : Found) (n : Node Ref) (out : List Ref) (keys rest news : List Found)
+    → IsListing was may first ns head root out keys → keys ≡ rest ++ at ∷ [] → ((f : Found) → Contains rest f → stamp_in f < stamp_in at)
+    → (Reaches ns root (stamp_in at) → ⊥) → AreAll may (children n) → slice_get ns (stamp_in at) ≡ Some (content_of n) → Adds rest (found_in n) news → IsListing was may first ns head root (out ++ ref_in at ∷ []) news
+listing_step was may first ns head root at n out keys rest news is cut low free shown lies adds =
     let in_rest : (f : Found) → Contains rest f → Contains keys f = λ f h. subst (λ ks. Contains ks f) (sym cut) (Contains-append_left rest (at ∷ []) f h) in
     let at_keys : Contains keys at = subst (λ ks. Contains ks at) (sym cut) (Contains-append_right rest (at ∷ []) at (one_here at)) in
     let now = (is.ahead at at_keys).0 in
@@ -143,13 +140,13 @@ listing_step chunk commit first ns head root at n out keys rest news is cut low 
           λ c i. (let f = map_from stamp_in (found_in n) c (subst (λ (w : List ℕ). Contains w c) (sym (found_stamps n)) i) in let k = adds.added f.0 f.1 in inl (inr (k.0, k.1, k.2 ∙ f.2))),
         )
       ];
-      named = λ r h. elim (Contains-append_cases out (ref_in at ∷ []) r h) [
-        | inl p ↦ is.named r p
-        | inr q ↦ subst (IsNamed chunk commit ns head) (only_one (ref_in at) r q) (is.named_ahead at at_keys)
+      places = λ r h. elim (Contains-append_cases out (ref_in at ∷ []) r h) [
+        | inl p ↦ is.places r p
+        | inr q ↦ subst may (only_one (ref_in at) r q) (is.places_ahead at at_keys)
       ];
-      named_ahead = λ f h. elim (adds.from f h) [
-        | inl p ↦ is.named_ahead f (in_rest f p)
-        | inr q ↦ inr (n, stamp_in at, shown, now, lies, subst (λ (w : List Ref). Contains w (ref_in f)) (found_refs n) (map_to ref_in (found_in n) f q))
+      places_ahead = λ f h. elim (adds.from f h) [
+        | inl p ↦ is.places_ahead f (in_rest f p)
+        | inr q ↦ shown (ref_in f) (subst (λ (w : List Ref). Contains w (ref_in f)) (found_refs n) (map_to ref_in (found_in n) f q))
       ];
       falls = subst Falls (sym stamps) (falls_append (stamps_of out) (stamp_in at) is.falls (λ y h. (let r = map_from stamp_of out y h in subst (λ (w : ℕ). stamp_in at < w) r.2 (is.above r.0 at r.1 at_keys))));
       above = λ r f h i. elim (Contains-append_cases out (ref_in at ∷ []) r h) [
@@ -158,12 +155,13 @@ listing_step chunk commit first ns head root at n out keys rest news is cut low 
       ];
       rooted = is.rooted;
       grown = is.grown;
+      wider = is.wider;
     }
 
 -- What the root keeps is passed over.
-pub listing_skip : {H C : Type 0} (chunk : H → Chunk Ref) (commit : C → Commit Ref) (first ns : Contents) (head : Ref) (root : ℕ) (at : Found) (out : List Ref) (keys rest : List Found)
-    → IsListing chunk commit first ns head root out keys → keys ≡ rest ++ at ∷ [] → Reaches ns root (stamp_in at) → IsListing chunk commit first ns head root out rest
-listing_skip chunk commit first ns head root at out keys rest is cut kept =
+pub listing_skip : (was may : Ref → Type 0) (first ns : Contents) (head : Ref) (root : ℕ) (at : Found) (out : List Ref) (keys rest : List Found)
+    → IsListing was may first ns head root out keys → keys ≡ rest ++ at ∷ [] → Reaches ns root (stamp_in at) → IsListing was may first ns head root out rest
+listing_skip was may first ns head root at out keys rest is cut kept =
     let in_rest : (f : Found) → Contains rest f → Contains keys f = λ f h. subst (λ ks. Contains ks f) (sym cut) (Contains-append_left rest (at ∷ []) f h) in
     let moved : (c : ℕ) → Has ns root out keys c → Has ns root out rest c = λ c h. elim h [
       | inr k ↦ inr k
@@ -181,12 +179,13 @@ listing_skip chunk commit first ns head root at out keys rest is cut kept =
       ahead = λ f h. is.ahead f (in_rest f h);
       begun = moved (stamp_of head) is.begun;
       whole = λ r h. (let w = is.whole r h in (w.0, w.1, λ c i. moved c (w.2 c i)));
-      named = is.named;
-      named_ahead = λ f h. is.named_ahead f (in_rest f h);
+      places = is.places;
+      places_ahead = λ f h. is.places_ahead f (in_rest f h);
       falls = is.falls;
       above = λ r f h i. is.above r f h (in_rest f i);
       rooted = is.rooted;
       grown = is.grown;
+      wider = is.wider;
     }
 
 -- the frontier falls
@@ -209,9 +208,9 @@ there_reached ns _ _ t (itself a) = t
 there_reached ns _ _ t (through a c b n is child rest) = there_reached ns c b (child_there ns a c n t is child).1 rest
 
 -- With nothing ahead, just what is reached and not kept is listed.
-pub listing_ends : {H C : Type 0} (chunk : H → Chunk Ref) (commit : C → Commit Ref) (first ns : Contents) (head : Ref) (root : ℕ) (out : List Ref) → IsListing chunk commit first ns head root out []
+pub listing_ends : (was may : Ref → Type 0) (first ns : Contents) (head : Ref) (root : ℕ) (out : List Ref) → IsListing was may first ns head root out []
     → (x : ℕ) → Contains (stamps_of out) x ↔ (Reaches ns (stamp_of head) x × (Reaches ns root x → ⊥))
-listing_ends chunk commit first ns head root out is x =
+listing_ends was may first ns head root out is x =
     let only : (c : ℕ) → Has ns root out [] c → Contains (stamps_of out) c ⊎ Reaches ns root c = λ c h. elim h [ inr k ↦ inr k | inl g ↦ elim g [ inl p ↦ inl p | inr q ↦ absurd (no_element q.0 q.1) ] ] in
     let o = map_ordered ns root is.rooted in
     let step : (y : ℕ) → Contains (stamps_of out) y ⊎ Reaches ns root y → (n : Node ℕ) × (slice_get ns y ≡ Some n) × ((c : ℕ) → Contains (children n) c → Contains (stamps_of out) c ⊎ Reaches ns root c) = λ y h. elim h [

@@ -20,7 +20,8 @@ use Rattle.group_history.specs.Spelling.{Contents, Segment, Version, Spelled, se
 use Rattle.group_history.proofs.Folding.{and_then-some}
 use Rattle.commits.specs.declared.founds.Found.{Found}
 use Rattle.commits.specs.declared.founds.Found.TheVariants as found
-use Rattle.commits.specs.Reach.{Reaches, itself, through, IsSpelled, stamp_in, ref_in, found_in}
+use Rattle.commits.specs.Reach.{Reaches, itself, through}
+use Rattle.commits.specs.Inside.Reach.{IsSpelled, stamp_in, ref_in, found_in}
 use Rattle.commits.proofs.Spelled.{IsMade, commit-made, inner-at, commit-at, chunk-at, content-at, spelled_version, spelled_segment, segment-grown, version-grown}
 use Rattle.commits.proofs.Snapshots.{begins}
 use Rattle.commits.proofs.Chained.{get_stays, some_version}

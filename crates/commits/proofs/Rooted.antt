@@ -1,5 +1,5 @@
 -- What a root reaches, told by one look at a node.
-use Rattle.std.proofs.Common.{◌≡◌, ◌↔◌, ℕ, inl, inr, List, [], ◌∷◌, map, Option, Some, None, refl, sym, ap, ◌∙◌, subst, slice_get}
+use Rattle.std.proofs.Common.{◌≡◌, ◌↔◌, ℕ, List, [], ◌∷◌, map, Option, Some, None, refl, sym, ap, ◌∙◌, subst, slice_get}
 use Rattle.std.specs.Prelude.{IsSome}
 use Rattle.std.specs.List.{Contains}
 use mathlib.Core.List.{IsPrefix}
@@ -17,10 +17,12 @@ use Rattle.group_history.specs.Rows.{Rows, keys_of, values_of}
 use Rattle.group_history.specs.Naming.{children, commits_named, renamed_kind}
 use Rattle.group_history.specs.Spelling.{Contents, Segment, Version, segment, chunk_in, segment_at, version_at, map_at}
 use Rattle.group_history.proofs.Lists.{no_element, first_here, later_here}
+use Rattle.map_chunks.specs.Places.{AreAll, IfAt}
 use Rattle.commits.specs.declared.chains.Base.{Base}
-use Rattle.commits.specs.Chains.{LiesAt, IsShownAt, HasBase, base_in, top_of, snapshot_named}
-use Rattle.commits.specs.Reach.{Reaches, IsNamed, itself, through}
-use Rattle.commits.specs.Meeting.{keys_in, IsFirst, HasKey, LiesChunk}
+use Rattle.commits.specs.declared.chains.Link.{Link}
+use Rattle.commits.specs.Inside.Chains.{LiesAt, IsShownAt, HasBase, base_in, top_of, snapshot_named, basis_named, basis_of, link_named, link_of}
+use Rattle.commits.specs.Reach.{Reaches, itself, through}
+use Rattle.commits.specs.Inside.Meeting.{keys_in, IsFirst, HasKey, LiesChunk}
 use Rattle.commits.proofs.Spelled.{made_of, spelled_segment, option_map-some, sized-some, chunk-at, inner-at, not_both, segment-grown, map-grown}
 use Rattle.commits.proofs.Chained.{LiesSo}
 use Rattle.commits.proofs.Choosing.{filled, first_part}
@@ -106,25 +108,32 @@ snapshot_reached ns head c lies = over_reached ns head c.root c.kind lies
 pub root_reached : (ns : Contents) (head k : ℕ) (c : Commit Ref) → Reaches ns head k → LiesAt ns k c → Reaches ns head (stamp_of c.root)
 root_reached ns head k c reached lies = reaches_child ns head k (stamp_of c.root) _ reached lies (first_here (stamp_of c.root) _)
 
--- the root that a shown commit names is named from a head that reaches the commit
-pub root_named : {H C : Type 0} (chunk : H → Chunk Ref) (commit : C → Commit Ref) (ns : Contents) (head : Ref) (k : ℕ) (c : Commit Ref) → Reaches ns (stamp_of head) k → IsShownAt commit ns k c → IsNamed chunk commit ns head c.root
-root_named chunk commit ns head k c reached at = inr (node.Commit c, k, inr (at.0.0, ap node.Commit at.0.1), reached, at.1, first_here c.root _)
+-- what a shown commit names may be looked for: its root
+pub root_may : (may : Ref → Type 0) (ns : Contents) (k : ℕ) (c : Commit Ref) → IsShownAt may ns k c → may c.root
+root_may may ns k c at = at.0 c.root (first_here c.root (commits_named c.kind))
 
--- and so is the snapshot of its chain, where the head itself is shown
-over_named : {H C : Type 0} (chunk : H → Chunk Ref) (commit : C → Commit Ref) (ns : Contents) (head : Ref) (c : Commit Ref) (kind : Kind Ref) → c.kind ≡ kind → IsShownAt commit ns (stamp_of head) c → IsNamed chunk commit ns head (snapshot_named head kind)
-over_named chunk commit ns head c (Snapshot s) is at = inl refl
-over_named chunk commit ns head c (Over o) is at =
-    inr (
-      node.Commit c,
-      stamp_of head,
-      inr (at.0.0, ap node.Commit at.0.1),
-      itself (stamp_of head),
-      at.1,
-      later_here c.root (commits_named c.kind) o.snapshot (subst (λ (k : Kind Ref). Contains (commits_named k) o.snapshot) (sym is) (later_here o.basis (o.snapshot ∷ []) o.snapshot (first_here o.snapshot []))),
-    )
+-- the snapshot of its chain, which is itself where it is one
+snapshot_may_be : (may : Ref → Type 0) (head root : Ref) (kind : Kind Ref) → AreAll may (root ∷ commits_named kind) → may head → may (snapshot_named head kind)
+snapshot_may_be may head root (Snapshot s) all here = here
+snapshot_may_be may head root (Over o) all here = all o.snapshot (later_here root (commits_named (Over o)) o.snapshot (later_here o.basis (o.snapshot ∷ []) o.snapshot (first_here o.snapshot [])))
 
-pub snapshot_is_named : {H C : Type 0} (chunk : H → Chunk Ref) (commit : C → Commit Ref) (ns : Contents) (head : Ref) (c : Commit Ref) → IsShownAt commit ns (stamp_of head) c → IsNamed chunk commit ns head (top_of head c).snapshot
-snapshot_is_named chunk commit ns head c at = over_named chunk commit ns head c c.kind refl at
+pub snapshot_may : (may : Ref → Type 0) (ns : Contents) (head : Ref) (k : ℕ) (c : Commit Ref) → may head → IsShownAt may ns k c → may (top_of head c).snapshot
+snapshot_may may ns head k c here at = snapshot_may_be may head c.root c.kind at.0 here
+
+-- and its basis
+basis_may_be : (may : Ref → Type 0) (root : Ref) (kind : Kind Ref) → AreAll may (root ∷ commits_named kind) → IfAt may (basis_named kind)
+basis_may_be may root (Snapshot s) all = tt
+basis_may_be may root (Over o) all = all o.basis (later_here root (commits_named (Over o)) o.basis (first_here o.basis (o.snapshot ∷ [])))
+
+pub basis_may : (may : Ref → Type 0) (ns : Contents) (k : ℕ) (c : Commit Ref) → IsShownAt may ns k c → IfAt may (basis_of c)
+basis_may may ns k c at = basis_may_be may c.root c.kind at.0
+
+link_may_be : (may : Ref → Type 0) (root : Ref) (kind : Kind Ref) (l : Link) → AreAll may (root ∷ commits_named kind) → link_named kind ≡ Some l → may l.basis
+link_may_be may root (Snapshot s) l all e = absurd (cc e)
+link_may_be may root (Over o) l all e = let same : o.basis ≡ l.basis = cc e in subst may same (basis_may_be may root (Over o) all)
+
+pub link_may : (may : Ref → Type 0) (ns : Contents) (k : ℕ) (c : Commit Ref) (l : Link) → IsShownAt may ns k c → link_of c ≡ Some l → may l.basis
+link_may may ns k c l at e = link_may_be may c.root c.kind l at.0 e
 
 -- the pulled map's root is that of the snapshot
 base_root_named : (root : Ref) (kind : Kind Ref) (base : Base) → base_in root kind base → root ≡ base.pulled

@@ -8,7 +8,7 @@ use Rattle.group_history.specs.declared.nodes.Step.TheVariants.{Local, Closed}
 use Rattle.group_history.specs.declared.nodes.Node.TheVariants as node
 use Rattle.group_history.specs.State.{State}
 use Rattle.group_history.specs.Spelling.{Contents, Version, version_at, snapshot_at, snapshot_of, stepped, map_at}
-use Rattle.commits.specs.Chains.{IsSnapshotAt, IsBase}
+use Rattle.commits.specs.Inside.Chains.{IsSnapshotAt, IsBase}
 use Rattle.commits.proofs.Spelled.{IsMade, commit-made, commit-at, content-at, spelled_version}
 
 -- a step leaves what the server last sent

@@ -2,13 +2,13 @@
 //!
 //! Each look shows one commit, takes from it what is wanted, and leaves it again on every way out.
 ghost use Rattle.std.specs.Prelude.{◌≡◌, ◌⊎◌, Some, IfOk, IfErr, IsSome};
-ghost use mathlib.Core.List.{IsPrefix};
 ghost use Rattle.group_history.specs.Refs.{stamp_of};
 ghost use Rattle.group_history.specs.Spelling.{version_at};
 ghost use Rattle.group_history.specs.declared.nodes.Commit.{Commit as Committed};
 ghost use Rattle.group_history.specs.declared.refs.Ref.{Ref as Reference};
 ghost use Rattle.group_history.specs.declared.mutators.Stop.TheVariants.{NoMemory};
-ghost use Rattle.commits.specs.Chains.{added_by, link_of, top_of, id_in, own_id, basis_of, IsSnapshot, IsSnapshotAt, HasBase, HasCookie, IsShownAt, LiesAt};
+ghost use Rattle.map_chunks.specs.Places.{Grows};
+ghost use Rattle.commits.specs.Inside.Chains.{added_by, link_of, top_of, id_in, own_id, basis_of, IsSnapshot, IsSnapshotAt, HasBase, HasCookie, IsShownAt, LiesAt};
 
 use crate::nodes::{Nodes, ShowsCommit};
 use group_history::{Commit, ConfirmedIds, Cookie, Kind, Mutation, Ref, Step, Stop, Text};
@@ -145,9 +145,10 @@ fn base_in(commit: &Commit<Ref>) -> Result<Base, AllocError>
 
 /// The link that a commit is; none for a snapshot.
 pub fn show_link<N: Nodes>(nodes: &mut N, at: Ref) -> Result<Option<Link>, Stop>
-    requires { IsSome (version_at (N.contents nodes.old) (stamp_of at)) }
-    ensures grown { IsPrefix (N.contents nodes.old) (N.contents nodes.new) }
-    ensures content { IfOk result (λ link. (c : Committed Reference) × IsShownAt N.HeldCommit.shown (N.contents nodes.new) (stamp_of at) c × (link ≡ link_of c)) }
+    requires known { IsSome (version_at (N.contents nodes.old) (stamp_of at)) }
+    requires place { N.places nodes.old at }
+    ensures grown { Grows N.contents N.places nodes.old nodes.new }
+    ensures content { IfOk result (λ link. (c : Committed Reference) × IsShownAt (N.places nodes.new) (N.contents nodes.new) (stamp_of at) c × (link ≡ link_of c)) }
     ensures stopped { IfErr result (λ stop. (stop ≡ NoMemory) ⊎ N.stops stop) }
 {
     let held = nodes.show_commit(at)?;
@@ -158,9 +159,10 @@ pub fn show_link<N: Nodes>(nodes: &mut N, at: Ref) -> Result<Option<Link>, Stop>
 
 /// What a commit tells by one look.
 pub fn show_top<N: Nodes>(nodes: &mut N, at: Ref) -> Result<Top, Stop>
-    requires { IsSome (version_at (N.contents nodes.old) (stamp_of at)) }
-    ensures grown { IsPrefix (N.contents nodes.old) (N.contents nodes.new) }
-    ensures content { IfOk result (λ top. (c : Committed Reference) × IsShownAt N.HeldCommit.shown (N.contents nodes.new) (stamp_of at) c × (top ≡ top_of at c)) }
+    requires known { IsSome (version_at (N.contents nodes.old) (stamp_of at)) }
+    requires place { N.places nodes.old at }
+    ensures grown { Grows N.contents N.places nodes.old nodes.new }
+    ensures content { IfOk result (λ top. (c : Committed Reference) × IsShownAt (N.places nodes.new) (N.contents nodes.new) (stamp_of at) c × (top ≡ top_of at c)) }
     ensures stopped { IfErr result N.stops }
 {
     let held = nodes.show_commit(at)?;
@@ -171,9 +173,10 @@ pub fn show_top<N: Nodes>(nodes: &mut N, at: Ref) -> Result<Top, Stop>
 
 /// The root of the map that queries read at a commit.
 pub fn show_root<N: Nodes>(nodes: &mut N, at: Ref) -> Result<Ref, Stop>
-    requires { IsSome (version_at (N.contents nodes.old) (stamp_of at)) }
-    ensures grown { IsPrefix (N.contents nodes.old) (N.contents nodes.new) }
-    ensures content { IfOk result (λ root. (c : Committed Reference) × IsShownAt N.HeldCommit.shown (N.contents nodes.new) (stamp_of at) c × (root ≡ c.root)) }
+    requires known { IsSome (version_at (N.contents nodes.old) (stamp_of at)) }
+    requires place { N.places nodes.old at }
+    ensures grown { Grows N.contents N.places nodes.old nodes.new }
+    ensures content { IfOk result (λ root. (c : Committed Reference) × IsShownAt (N.places nodes.new) (N.contents nodes.new) (stamp_of at) c × (root ≡ c.root)) }
     ensures stopped { IfErr result N.stops }
 {
     let held = nodes.show_commit(at)?;
@@ -184,9 +187,10 @@ pub fn show_root<N: Nodes>(nodes: &mut N, at: Ref) -> Result<Ref, Stop>
 
 /// The id that a commit alone knows of a client, and the commit before it.
 pub fn show_own_id<N: Nodes>(nodes: &mut N, at: Ref, client: &Text) -> Result<OwnId, Stop>
-    requires { IsSome (version_at (N.contents nodes.old) (stamp_of at)) }
-    ensures grown { IsPrefix (N.contents nodes.old) (N.contents nodes.new) }
-    ensures content { IfOk result (λ own. (c : Committed Reference) × IsShownAt N.HeldCommit.shown (N.contents nodes.new) (stamp_of at) c × (own.id ≡ own_id client.now c) × (own.basis ≡ basis_of c)) }
+    requires known { IsSome (version_at (N.contents nodes.old) (stamp_of at)) }
+    requires place { N.places nodes.old at }
+    ensures grown { Grows N.contents N.places nodes.old nodes.new }
+    ensures content { IfOk result (λ own. (c : Committed Reference) × IsShownAt (N.places nodes.new) (N.contents nodes.new) (stamp_of at) c × (own.id ≡ own_id client.now c) × (own.basis ≡ basis_of c)) }
     ensures stopped { IfErr result N.stops }
 {
     let held = nodes.show_commit(at)?;
@@ -198,8 +202,9 @@ pub fn show_own_id<N: Nodes>(nodes: &mut N, at: Ref, client: &Text) -> Result<Ow
 
 /// The cookie of a snapshot.
 pub fn show_cookie<N: Nodes>(nodes: &mut N, at: Ref) -> Result<Cookie, Stop>
-    requires { IsSnapshotAt (N.contents nodes.old) (stamp_of at) }
-    ensures grown { IsPrefix (N.contents nodes.old) (N.contents nodes.new) }
+    requires known { IsSnapshotAt (N.contents nodes.old) (stamp_of at) }
+    requires place { N.places nodes.old at }
+    ensures grown { Grows N.contents N.places nodes.old nodes.new }
     ensures content { IfOk result (λ cookie. (c : Committed Reference) × LiesAt (N.contents nodes.new) (stamp_of at) c × HasCookie c cookie) }
     ensures stopped { IfErr result (λ stop. (stop ≡ NoMemory) ⊎ N.stops stop) }
 {
@@ -211,9 +216,10 @@ pub fn show_cookie<N: Nodes>(nodes: &mut N, at: Ref) -> Result<Cookie, Stop>
 
 /// What a snapshot has from the server.
 pub fn show_base<N: Nodes>(nodes: &mut N, at: Ref) -> Result<Base, Stop>
-    requires { IsSnapshotAt (N.contents nodes.old) (stamp_of at) }
-    ensures grown { IsPrefix (N.contents nodes.old) (N.contents nodes.new) }
-    ensures content { IfOk result (λ base. (c : Committed Reference) × IsShownAt N.HeldCommit.shown (N.contents nodes.new) (stamp_of at) c × HasBase c base) }
+    requires known { IsSnapshotAt (N.contents nodes.old) (stamp_of at) }
+    requires place { N.places nodes.old at }
+    ensures grown { Grows N.contents N.places nodes.old nodes.new }
+    ensures content { IfOk result (λ base. (c : Committed Reference) × IsShownAt (N.places nodes.new) (N.contents nodes.new) (stamp_of at) c × HasBase c base) }
     ensures stopped { IfErr result (λ stop. (stop ≡ NoMemory) ⊎ N.stops stop) }
 {
     let held = nodes.show_commit(at)?;

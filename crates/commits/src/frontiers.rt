@@ -4,7 +4,7 @@
 //! no node twice, and needs no set of what it has met.
 ghost use Rattle.std.specs.Prelude.{◌≡◌, ◌<◌, ◌++◌, [], ◌∷◌, OnOk, IfSome, IfNone};
 ghost use Rattle.std.specs.List.{Contains};
-ghost use Rattle.commits.specs.Reach.{stamp_in, Adds};
+ghost use Rattle.commits.specs.Inside.Reach.{stamp_in, Adds};
 ghost use Rattle.commits.specs.declared.founds.Found.{Found as Finding};
 
 use crate::founds::Found;
@@ -21,7 +21,7 @@ pub struct Frontier {
 
 impl Model for Frontier {
     ghost use Rattle.std.specs.Prelude.{List, map};
-    ghost use Rattle.commits.specs.Reach.{AreKeyed};
+    ghost use Rattle.commits.specs.Inside.Reach.{AreKeyed};
     ghost use Rattle.commits.specs.declared.founds.Found.{Found as Finding};
 
     ghost Value = { List Finding };

@@ -1,13 +1,14 @@
 //! Whether a node lies in the tree of a root that stays.
 ghost use Rattle.std.specs.Prelude.{◌≡◌, ◌⊎◌, ◌↔◌, Some, IfOk, IfErr, IsSome, IsTrue};
-ghost use mathlib.Core.List.{IsPrefix};
 ghost use Rattle.group_history.specs.Refs.{stamp_of};
 ghost use Rattle.group_history.specs.Spelling.{segment_at, version_at, map_at};
 ghost use Rattle.group_history.specs.declared.nodes.Chunk.{Chunk as Chunked};
 ghost use Rattle.group_history.specs.declared.refs.Ref.{Ref as Reference};
 ghost use Rattle.group_history.specs.declared.mutators.Stop.TheVariants.{NoMemory};
-ghost use Rattle.commits.specs.Meeting.{keys_in, IsFirst, LiesChunk};
-ghost use Rattle.commits.specs.Reach.{IsNamed, Reaches, IsSpelled, stamp_in};
+ghost use Rattle.map_chunks.specs.Places.{Grows};
+ghost use Rattle.commits.specs.Inside.Meeting.{keys_in, IsFirst, LiesChunk};
+ghost use Rattle.commits.specs.Reach.{Reaches};
+ghost use Rattle.commits.specs.Inside.Reach.{IsSpelled, ref_in, stamp_in};
 
 use crate::chains::show_root;
 use crate::founds::Found;
@@ -37,8 +38,9 @@ fn first_key_in(chunk: &Chunk<Ref>) -> Result<Option<Text>, AllocError>
 }
 
 fn show_first_key<C: Chunks>(chunks: &mut C, at: Ref) -> Result<Option<Text>, Stop>
-    requires { IsSome (segment_at (C.contents chunks.old) (stamp_of at)) }
-    ensures grown { IsPrefix (C.contents chunks.old) (C.contents chunks.new) }
+    requires known { IsSome (segment_at (C.contents chunks.old) (stamp_of at)) }
+    requires place { C.places chunks.old at }
+    ensures grown { Grows C.contents C.places chunks.old chunks.new }
     ensures content { IfOk result (λ key. (c : Chunked Reference) × LiesChunk (C.contents chunks.new) (stamp_of at) c × IsFirst (keys_in c) key) }
     ensures stopped { IfErr result (λ stop. (stop ≡ NoMemory) ⊎ C.stops stop) }
 {
@@ -50,8 +52,9 @@ fn show_first_key<C: Chunks>(chunks: &mut C, at: Ref) -> Result<Option<Text>, St
 
 fn is_chunk_kept<C: Chunks>(chunks: &mut C, root: Ref, at: Ref) -> Result<bool, Stop>
     requires root { IsSome (map_at (C.contents chunks.old) (stamp_of root)) }
+    requires places { C.places chunks.old root × C.places chunks.old at }
     requires chunk { IsSome (segment_at (C.contents chunks.old) (stamp_of at)) }
-    ensures grown { IsPrefix (C.contents chunks.old) (C.contents chunks.new) }
+    ensures grown { Grows C.contents C.places chunks.old chunks.new }
     ensures kept { IfOk result (λ kept. IsTrue kept ↔ Reaches (C.contents chunks.new) (stamp_of root) (stamp_of at)) }
     ensures stopped { IfErr result (λ stop. (stop ≡ NoMemory) ⊎ C.stops stop) }
 {
@@ -65,8 +68,9 @@ fn is_chunk_kept<C: Chunks>(chunks: &mut C, root: Ref, at: Ref) -> Result<bool, 
 /// Whether the root of a map reaches a node that was found.
 pub fn is_kept<N: Nodes>(nodes: &mut N, root: Ref, at: Found) -> Result<bool, Stop>
     requires root { IsSome (map_at (N.contents nodes.old) (stamp_of root)) }
+    requires places { N.places nodes.old root × N.places nodes.old (ref_in at) }
     requires found { IsSpelled (N.contents nodes.old) at }
-    ensures grown { IsPrefix (N.contents nodes.old) (N.contents nodes.new) }
+    ensures grown { Grows N.contents N.places nodes.old nodes.new }
     ensures kept { IfOk result (λ kept. IsTrue kept ↔ Reaches (N.contents nodes.new) (stamp_of root) (stamp_in at)) }
     ensures stopped { IfErr result (λ stop. (stop ≡ NoMemory) ⊎ N.stops stop) }
 {
@@ -78,11 +82,12 @@ pub fn is_kept<N: Nodes>(nodes: &mut N, root: Ref, at: Found) -> Result<bool, St
 
 /// The root of the map that the server last sent.
 pub fn base_root<N: Nodes>(nodes: &mut N, head: Ref) -> Result<Ref, Stop>
-    requires { IsSome (version_at (N.contents nodes.old) (stamp_of head)) }
-    ensures grown { IsPrefix (N.contents nodes.old) (N.contents nodes.new) }
+    requires known { IsSome (version_at (N.contents nodes.old) (stamp_of head)) }
+    requires place { N.places nodes.old head }
+    ensures grown { Grows N.contents N.places nodes.old nodes.new }
     ensures map { IfOk result (λ root. IsSome (map_at (N.contents nodes.new) (stamp_of root))) }
     ensures reached { IfOk result (λ root. Reaches (N.contents nodes.new) (stamp_of head) (stamp_of root)) }
-    ensures named { IfOk result (IsNamed N.Held.shown N.HeldCommit.shown (N.contents nodes.new) head) }
+    ensures place { IfOk result (N.places nodes.new) }
     ensures stopped { IfErr result N.stops }
 {
     let snapshot = snapshot_of(nodes, head)?;

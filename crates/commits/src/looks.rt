@@ -1,14 +1,14 @@
 //! One look of a walk: a node is shown, and what it names joins the frontier.
 ghost use Rattle.std.specs.Prelude.{◌≡◌, ◌⊎◌, ◌∷◌, [], map, take, Some, OnOk, IfErr, IsSome, slice_get};
-ghost use mathlib.Core.List.{IsPrefix};
 ghost use Rattle.group_history.specs.Refs.{stamp_of};
-ghost use Rattle.group_history.specs.Naming.{commits_named, content_of};
+ghost use Rattle.group_history.specs.Naming.{children, commits_named, content_of};
 ghost use Rattle.group_history.specs.Spelling.{segment_at, version_at};
 ghost use Rattle.group_history.specs.declared.nodes.Node.{Node as Noded};
 ghost use Rattle.group_history.specs.declared.nodes.Node.TheVariants as node;
 ghost use Rattle.group_history.specs.declared.refs.Ref.{Ref as Reference};
 ghost use Rattle.group_history.specs.declared.mutators.Stop.TheVariants.{NoMemory};
-ghost use Rattle.commits.specs.Reach.{Adds, IsShown, IsSpelled, stamp_in, found_in};
+ghost use Rattle.map_chunks.specs.Places.{Grows, AreAll};
+ghost use Rattle.commits.specs.Inside.Reach.{Adds, IsSpelled, ref_in, stamp_in, found_in};
 ghost use Rattle.commits.specs.declared.founds.Found.TheVariants as found;
 
 use crate::founds::Found;
@@ -60,9 +60,10 @@ fn add_of_commit(frontier: &mut Frontier, commit: &Commit<Ref>) -> Result<(), Al
 }
 
 fn look_at_chunk<N: Nodes>(nodes: &mut N, frontier: &mut Frontier, at: Ref) -> Result<(), Stop>
-    requires { IsSome (segment_at (N.contents nodes.old) (stamp_of at)) }
-    ensures grown { IsPrefix (N.contents nodes.old) (N.contents nodes.new) }
-    ensures added { OnOk result ((n : Noded Reference) × IsShown N.Held.shown N.HeldCommit.shown n × (slice_get (N.contents nodes.new) (stamp_of at) ≡ Some (content_of n)) × Adds frontier.old (found_in n) frontier.new) }
+    requires known { IsSome (segment_at (N.contents nodes.old) (stamp_of at)) }
+    requires place { N.places nodes.old at }
+    ensures grown { Grows N.contents N.places nodes.old nodes.new }
+    ensures added { OnOk result ((n : Noded Reference) × AreAll (N.places nodes.new) (children n) × (slice_get (N.contents nodes.new) (stamp_of at) ≡ Some (content_of n)) × Adds frontier.old (found_in n) frontier.new) }
     ensures stopped { IfErr result (λ stop. (stop ≡ NoMemory) ⊎ N.stops stop) }
 {
     let held = nodes.show(at)?;
@@ -72,9 +73,10 @@ fn look_at_chunk<N: Nodes>(nodes: &mut N, frontier: &mut Frontier, at: Ref) -> R
 }
 
 fn look_at_commit<N: Nodes>(nodes: &mut N, frontier: &mut Frontier, at: Ref) -> Result<(), Stop>
-    requires { IsSome (version_at (N.contents nodes.old) (stamp_of at)) }
-    ensures grown { IsPrefix (N.contents nodes.old) (N.contents nodes.new) }
-    ensures added { OnOk result ((n : Noded Reference) × IsShown N.Held.shown N.HeldCommit.shown n × (slice_get (N.contents nodes.new) (stamp_of at) ≡ Some (content_of n)) × Adds frontier.old (found_in n) frontier.new) }
+    requires known { IsSome (version_at (N.contents nodes.old) (stamp_of at)) }
+    requires place { N.places nodes.old at }
+    ensures grown { Grows N.contents N.places nodes.old nodes.new }
+    ensures added { OnOk result ((n : Noded Reference) × AreAll (N.places nodes.new) (children n) × (slice_get (N.contents nodes.new) (stamp_of at) ≡ Some (content_of n)) × Adds frontier.old (found_in n) frontier.new) }
     ensures stopped { IfErr result (λ stop. (stop ≡ NoMemory) ⊎ N.stops stop) }
 {
     let held = nodes.show_commit(at)?;
@@ -85,9 +87,10 @@ fn look_at_commit<N: Nodes>(nodes: &mut N, frontier: &mut Frontier, at: Ref) -> 
 
 /// Shows the node that was found; what it names joins the frontier.
 pub fn look<N: Nodes>(nodes: &mut N, frontier: &mut Frontier, at: Found) -> Result<(), Stop>
-    requires { IsSpelled (N.contents nodes.old) at }
-    ensures grown { IsPrefix (N.contents nodes.old) (N.contents nodes.new) }
-    ensures added { OnOk result ((n : Noded Reference) × IsShown N.Held.shown N.HeldCommit.shown n × (slice_get (N.contents nodes.new) (stamp_in at) ≡ Some (content_of n)) × Adds frontier.old (found_in n) frontier.new) }
+    requires found { IsSpelled (N.contents nodes.old) at }
+    requires place { N.places nodes.old (ref_in at) }
+    ensures grown { Grows N.contents N.places nodes.old nodes.new }
+    ensures added { OnOk result ((n : Noded Reference) × AreAll (N.places nodes.new) (children n) × (slice_get (N.contents nodes.new) (stamp_in at) ≡ Some (content_of n)) × Adds frontier.old (found_in n) frontier.new) }
     ensures stopped { IfErr result (λ stop. (stop ≡ NoMemory) ⊎ N.stops stop) }
 {
     match at {

@@ -4,14 +4,14 @@
 //! descent to any of its keys, and no other part of the tree is looked at.
 ghost use Rattle.std.specs.Prelude.{◌≡◌, ◌↔◌, ◌<◌, ℕ, length, Some, IfOk, IfErr, IsSome, IsTrue};
 ghost use Rattle.std.specs.Arc.{arc_value};
-ghost use mathlib.Core.List.{IsPrefix};
 ghost use Rattle.group_history.specs.Refs.{stamp_of};
 ghost use Rattle.group_history.specs.Rows.{paired};
 ghost use Rattle.group_history.specs.Naming.{chunk_content};
 ghost use Rattle.group_history.specs.Spelling.{segment_at, map_at};
 ghost use Rattle.group_history.specs.declared.nodes.Chunk.{Chunk as Chunked};
 ghost use Rattle.group_history.specs.declared.refs.Ref.{Ref as Reference};
-ghost use Rattle.commits.specs.Meeting.{choose, child_for, HasKey, LiesChunk};
+ghost use Rattle.map_chunks.specs.Places.{Grows, IfAt};
+ghost use Rattle.commits.specs.Inside.Meeting.{choose, child_for, HasKey, LiesChunk};
 ghost use Rattle.commits.specs.Reach.{Reaches};
 
 use group_history::{Chunk, Ref, Stop, Text};
@@ -40,8 +40,10 @@ fn child_in(chunk: &Chunk<Ref>, key: &Text) -> Option<Ref>
 }
 
 fn show_child<C: Chunks>(chunks: &mut C, at: Ref, key: &Text) -> Result<Option<Ref>, Stop>
-    requires { IsSome (segment_at (C.contents chunks.old) (stamp_of at)) }
-    ensures grown { IsPrefix (C.contents chunks.old) (C.contents chunks.new) }
+    requires known { IsSome (segment_at (C.contents chunks.old) (stamp_of at)) }
+    requires place { C.places chunks.old at }
+    ensures grown { Grows C.contents C.places chunks.old chunks.new }
+    ensures place { IfOk result (IfAt (C.places chunks.new)) }
     ensures content { IfOk result (λ child. (c : Chunked Reference) × LiesChunk (C.contents chunks.new) (stamp_of at) c × (child ≡ child_for key.now c)) }
     ensures stopped { IfErr result C.stops }
 {
@@ -54,8 +56,9 @@ fn show_child<C: Chunks>(chunks: &mut C, at: Ref, key: &Text) -> Result<Option<R
 /// Whether the root of a map reaches the chunk of a stamp, which has this key.
 pub fn meets<C: Chunks>(chunks: &mut C, root: Ref, key: &Text, stamp: u64) -> Result<bool, Stop>
     requires root { IsSome (map_at (C.contents chunks.old) (stamp_of root)) }
+    requires place { C.places chunks.old root }
     requires key { HasKey (C.contents chunks.old) stamp key.now }
-    ensures grown { IsPrefix (C.contents chunks.old) (C.contents chunks.new) }
+    ensures grown { Grows C.contents C.places chunks.old chunks.new }
     ensures met { IfOk result (λ met. IsTrue met ↔ Reaches (C.contents chunks.old) (stamp_of root) stamp) }
     ensures stopped { IfErr result C.stops }
 {

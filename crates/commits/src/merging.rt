@@ -2,7 +2,8 @@
 ghost use Rattle.std.specs.Prelude.{◌≡◌, ◌≢◌, ◌<◌, ◌≤◌, ◌++◌, ◌∷◌, [], ℕ, true, false, length, slice_index, IfOk, OnOk};
 ghost use Rattle.std.specs.Bool.{Decides};
 ghost use Rattle.group_history.specs.Refs.{stamp_of};
-ghost use Rattle.commits.specs.Reach.{Falls, stamps_of, Leaves};
+ghost use Rattle.commits.specs.Reach.{Falls, stamps_of};
+ghost use Rattle.commits.specs.Inside.Reach.{Leaves};
 
 use group_history::Ref;
 use std::alloc::{AllocError, Global};

@@ -4,14 +4,15 @@
 //! stamps, each once, and two such lists are compared in one pass.
 ghost use Rattle.std.specs.Prelude.{◌≡◌, ◌⊎◌, Some, slice_get, ◌↔◌, ◌++◌, [], ◌∷◌, ℕ, IfOk, IfErr, OnOk, IsSome};
 ghost use Rattle.std.specs.List.{Contains};
-ghost use mathlib.Core.List.{IsPrefix};
 ghost use Rattle.group_history.specs.Refs.{stamp_of};
 ghost use Rattle.group_history.specs.Spelling.{version_at, map_at};
-ghost use Rattle.group_history.specs.Naming.{content_of};
+ghost use Rattle.group_history.specs.Naming.{children, content_of};
 ghost use Rattle.group_history.specs.declared.nodes.Node.{Node as Noded};
 ghost use Rattle.group_history.specs.declared.refs.Ref.{Ref as Reference};
 ghost use Rattle.group_history.specs.declared.mutators.Stop.TheVariants.{NoMemory};
-ghost use Rattle.commits.specs.Reach.{Adds, Reaches, IsDropped, IsNamed, IsShown, IsSpelled, Falls, found_in, stamps_of, stamp_in, ref_in};
+ghost use Rattle.map_chunks.specs.Places.{Grows, AreAll};
+ghost use Rattle.commits.specs.Reach.{Reaches, IsDropped, Falls, stamps_of};
+ghost use Rattle.commits.specs.Inside.Reach.{Adds, IsSpelled, found_in, stamp_in, ref_in};
 
 use crate::founds::Found;
 use crate::frontiers::Frontier;
@@ -40,9 +41,10 @@ fn visit<N: Nodes>(
     at: Found,
 ) -> Result<(), Stop>
     requires root { IsSome (map_at (N.contents nodes.old) (stamp_of root)) }
+    requires places { N.places nodes.old root × N.places nodes.old (ref_in at) }
     requires found { IsSpelled (N.contents nodes.old) at }
-    ensures grown { IsPrefix (N.contents nodes.old) (N.contents nodes.new) }
-    ensures visited { OnOk result ((Reaches (N.contents nodes.new) (stamp_of root) (stamp_in at) × (frontier.new ≡ frontier.old) × (listed.new.items ≡ listed.old.items)) ⊎ ((n : Noded Reference) × (Reaches (N.contents nodes.new) (stamp_of root) (stamp_in at) → ⊥) × IsShown N.Held.shown N.HeldCommit.shown n × (slice_get (N.contents nodes.new) (stamp_in at) ≡ Some (content_of n)) × Adds frontier.old (found_in n) frontier.new × (listed.new.items ≡ listed.old.items ++ ref_in at ∷ []))) }
+    ensures grown { Grows N.contents N.places nodes.old nodes.new }
+    ensures visited { OnOk result ((Reaches (N.contents nodes.new) (stamp_of root) (stamp_in at) × (frontier.new ≡ frontier.old) × (listed.new.items ≡ listed.old.items)) ⊎ ((n : Noded Reference) × (Reaches (N.contents nodes.new) (stamp_of root) (stamp_in at) → ⊥) × AreAll (N.places nodes.new) (children n) × (slice_get (N.contents nodes.new) (stamp_in at) ≡ Some (content_of n)) × Adds frontier.old (found_in n) frontier.new × (listed.new.items ≡ listed.old.items ++ ref_in at ∷ []))) }
     ensures stopped { IfErr result (λ stop. (stop ≡ NoMemory) ⊎ N.stops stop) }
 {
     if is_kept(nodes, root, at)? {
@@ -56,11 +58,12 @@ fn visit<N: Nodes>(
 /// All that a commit reaches and the root of a map doesn't, by falling stamps.
 fn reachable<N: Nodes>(alloc: Global, nodes: &mut N, head: Ref, root: Ref) -> Result<Vec<Ref>, Stop>
     requires head { IsSome (version_at (N.contents nodes.old) (stamp_of head)) }
+    requires places { N.places nodes.old head × N.places nodes.old root }
     requires root { IsSome (map_at (N.contents nodes.old) (stamp_of root)) }
-    ensures grown { IsPrefix (N.contents nodes.old) (N.contents nodes.new) }
+    ensures grown { Grows N.contents N.places nodes.old nodes.new }
     ensures exact { IfOk result (λ xs. (x : ℕ) → Contains (stamps_of xs.items) x ↔ IsDropped (N.contents nodes.new) (stamp_of head) (stamp_of root) x) }
     ensures once { IfOk result (λ xs. Falls (stamps_of xs.items)) }
-    ensures named { IfOk result (λ xs. (r : Reference) → Contains xs.items r → IsNamed N.Held.shown N.HeldCommit.shown (N.contents nodes.new) head r) }
+    ensures places { IfOk result (λ xs. AreAll (N.places nodes.new) xs.items) }
     ensures stopped { IfErr result (λ stop. (stop ≡ NoMemory) ⊎ N.stops stop) }
 {
     let mut listed = Vec::new(alloc);
@@ -79,11 +82,12 @@ fn reachable<N: Nodes>(alloc: Global, nodes: &mut N, head: Ref, root: Ref) -> Re
 /// isn't looked through.
 pub fn dropped<N: Nodes>(alloc: Global, nodes: &mut N, old: Ref, new: Ref) -> Result<Vec<Ref>, Stop>
     requires old { IsSome (version_at (N.contents nodes.old) (stamp_of old)) }
+    requires places { N.places nodes.old old × N.places nodes.old new }
     requires new { IsSome (version_at (N.contents nodes.old) (stamp_of new)) }
-    ensures grown { IsPrefix (N.contents nodes.old) (N.contents nodes.new) }
+    ensures grown { Grows N.contents N.places nodes.old nodes.new }
     ensures exact { IfOk result (λ xs. (x : ℕ) → Contains (stamps_of xs.items) x ↔ IsDropped (N.contents nodes.old) (stamp_of old) (stamp_of new) x) }
     ensures once { IfOk result (λ xs. Falls (stamps_of xs.items)) }
-    ensures named { IfOk result (λ xs. (r : Reference) → Contains xs.items r → IsNamed N.Held.shown N.HeldCommit.shown (N.contents nodes.new) old r) }
+    ensures places { IfOk result (λ xs. AreAll (N.places nodes.new) xs.items) }
     ensures stopped { IfErr result (λ stop. (stop ≡ NoMemory) ⊎ N.stops stop) }
 {
     let root = base_root(nodes, new)?;

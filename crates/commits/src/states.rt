@@ -4,14 +4,15 @@
 //! pending. The pending mutations are met on the way down the chain, the newest first. Every clause speaks
 //! of the one version that the head spells.
 ghost use Rattle.std.specs.Prelude.{◌≡◌, ◌⊎◌, Some, IfOk, IfErr, OnOk, OnErr, IsSome, ◌++◌, [], ◌∷◌};
-ghost use mathlib.Core.List.{IsPrefix};
 ghost use Rattle.group_history.specs.Ids.{IdsFollow};
 ghost use Rattle.group_history.specs.Refs.{stamp_of};
 ghost use Rattle.group_history.specs.State.{last_id};
 ghost use Rattle.group_history.specs.Spelling.{Version, version_at, snapshot_at, map_at};
 ghost use Rattle.group_history.specs.declared.mutators.Stop.TheVariants.{NoMemory};
-ghost use Rattle.commits.specs.Chains.{IsBase, IsBaseOf, IsSnapshotAt, listed};
-ghost use Rattle.commits.specs.Reach.{IsNamed, Reaches};
+ghost use Rattle.map_chunks.specs.Places.{Grows};
+ghost use Rattle.commits.specs.Chains.{IsBaseOf};
+ghost use Rattle.commits.specs.Inside.Chains.{IsBase, IsSnapshotAt, listed};
+ghost use Rattle.commits.specs.Reach.{Reaches};
 
 use crate::chains::{
     Base, Top, show_base, show_cookie, show_link, show_own_id, show_root, show_top,
@@ -45,8 +46,9 @@ fn add(mutations: &mut Vec<Mutation>, mutation: Option<Mutation>) -> Result<(), 
 
 /// The pending mutations of a commit, the oldest first.
 pub fn walk<N: Nodes>(alloc: Global, nodes: &mut N, head: Ref) -> Result<Vec<Mutation>, Stop>
-    requires { IsSome (version_at (N.contents nodes.old) (stamp_of head)) }
-    ensures grown { IsPrefix (N.contents nodes.old) (N.contents nodes.new) }
+    requires known { IsSome (version_at (N.contents nodes.old) (stamp_of head)) }
+    requires place { N.places nodes.old head }
+    ensures grown { Grows N.contents N.places nodes.old nodes.new }
     ensures pending { (v : Version) → version_at (N.contents nodes.old) (stamp_of head) ≡ Some v → IfOk result (λ xs. xs.items ≡ v.state.pending) }
     ensures stopped { IfErr result (λ stop. (stop ≡ NoMemory) ⊎ N.stops stop) }
 {
@@ -62,8 +64,10 @@ pub fn walk<N: Nodes>(alloc: Global, nodes: &mut N, head: Ref) -> Result<Vec<Mut
 
 /// The snapshot of a commit's chain.
 pub(crate) fn snapshot_of<N: Nodes>(nodes: &mut N, head: Ref) -> Result<Ref, Stop>
-    requires { IsSome (version_at (N.contents nodes.old) (stamp_of head)) }
-    ensures grown { IsPrefix (N.contents nodes.old) (N.contents nodes.new) }
+    requires known { IsSome (version_at (N.contents nodes.old) (stamp_of head)) }
+    requires place { N.places nodes.old head }
+    ensures grown { Grows N.contents N.places nodes.old nodes.new }
+    ensures place { IfOk result (N.places nodes.new) }
     ensures lies { IfOk result (λ at. IsSnapshotAt (N.contents nodes.new) (stamp_of at)) }
     ensures reached { IfOk result (λ at. Reaches (N.contents nodes.new) (stamp_of head) (stamp_of at)) }
     ensures state { (v : Version) → version_at (N.contents nodes.old) (stamp_of head) ≡ Some v → IfOk result (λ at. IsBase (N.contents nodes.new) (stamp_of at) v.state) }
@@ -76,12 +80,13 @@ pub(crate) fn snapshot_of<N: Nodes>(nodes: &mut N, head: Ref) -> Result<Ref, Sto
 /// What a commit tells by one look: the root of its map, the snapshot of its chain, and whether the group
 /// is closed at it.
 pub fn top_of<N: Nodes>(nodes: &mut N, head: Ref) -> Result<Top, Stop>
-    requires { IsSome (version_at (N.contents nodes.old) (stamp_of head)) }
-    ensures grown { IsPrefix (N.contents nodes.old) (N.contents nodes.new) }
+    requires known { IsSome (version_at (N.contents nodes.old) (stamp_of head)) }
+    requires place { N.places nodes.old head }
+    ensures grown { Grows N.contents N.places nodes.old nodes.new }
     ensures root { (v : Version) → version_at (N.contents nodes.old) (stamp_of head) ≡ Some v → IfOk result (λ top. map_at (N.contents nodes.new) (stamp_of top.root) ≡ Some v.read) }
     ensures snapshot { IfOk result (λ top. snapshot_at (N.contents nodes.new) (stamp_of head) ≡ Some (stamp_of top.snapshot)) }
     ensures closed { (v : Version) → version_at (N.contents nodes.old) (stamp_of head) ≡ Some v → IfOk result (λ top. top.closed ≡ v.state.closed) }
-    ensures named { IfOk result (λ top. IsNamed N.Held.shown N.HeldCommit.shown (N.contents nodes.new) head top.root × IsNamed N.Held.shown N.HeldCommit.shown (N.contents nodes.new) head top.snapshot) }
+    ensures places { IfOk result (λ top. N.places nodes.new top.root × N.places nodes.new top.snapshot) }
     ensures stopped { IfErr result N.stops }
 {
     let top = show_top(nodes, head)?;
@@ -90,8 +95,9 @@ pub fn top_of<N: Nodes>(nodes: &mut N, head: Ref) -> Result<Top, Stop>
 
 /// Whether the group is closed at a commit.
 pub fn closed_of<N: Nodes>(nodes: &mut N, head: Ref) -> Result<bool, Stop>
-    requires { IsSome (version_at (N.contents nodes.old) (stamp_of head)) }
-    ensures grown { IsPrefix (N.contents nodes.old) (N.contents nodes.new) }
+    requires known { IsSome (version_at (N.contents nodes.old) (stamp_of head)) }
+    requires place { N.places nodes.old head }
+    ensures grown { Grows N.contents N.places nodes.old nodes.new }
     ensures closed { (v : Version) → version_at (N.contents nodes.old) (stamp_of head) ≡ Some v → IfOk result (λ closed. closed ≡ v.state.closed) }
     ensures stopped { IfErr result N.stops }
 {
@@ -101,10 +107,11 @@ pub fn closed_of<N: Nodes>(nodes: &mut N, head: Ref) -> Result<bool, Stop>
 
 /// What the server last sent, as a commit's state has it: two looks, however much is pending.
 pub fn base_of<N: Nodes>(nodes: &mut N, head: Ref) -> Result<Base, Stop>
-    requires { IsSome (version_at (N.contents nodes.old) (stamp_of head)) }
-    ensures grown { IsPrefix (N.contents nodes.old) (N.contents nodes.new) }
+    requires known { IsSome (version_at (N.contents nodes.old) (stamp_of head)) }
+    requires place { N.places nodes.old head }
+    ensures grown { Grows N.contents N.places nodes.old nodes.new }
     ensures state { (v : Version) → version_at (N.contents nodes.old) (stamp_of head) ≡ Some v → IfOk result (IsBaseOf (N.contents nodes.new) v.state) }
-    ensures named { IfOk result (λ b. IsNamed N.Held.shown N.HeldCommit.shown (N.contents nodes.new) head b.pulled) }
+    ensures place { IfOk result (λ b. N.places nodes.new b.pulled) }
     ensures stopped { IfErr result (λ stop. (stop ≡ NoMemory) ⊎ N.stops stop) }
 {
     let snapshot = snapshot_of(nodes, head)?;
@@ -114,12 +121,13 @@ pub fn base_of<N: Nodes>(nodes: &mut N, head: Ref) -> Result<Base, Stop>
 
 /// The state of a commit. The pulled map's root is the reference that the snapshot names.
 pub fn state_of<N: Nodes>(alloc: Global, nodes: &mut N, head: Ref) -> Result<CommitState, Stop>
-    requires { IsSome (version_at (N.contents nodes.old) (stamp_of head)) }
-    ensures grown { IsPrefix (N.contents nodes.old) (N.contents nodes.new) }
+    requires known { IsSome (version_at (N.contents nodes.old) (stamp_of head)) }
+    requires place { N.places nodes.old head }
+    ensures grown { Grows N.contents N.places nodes.old nodes.new }
     ensures cookie { (v : Version) → version_at (N.contents nodes.old) (stamp_of head) ≡ Some v → IfOk result (λ s. s.cookie ≡ v.state.cookie) }
     ensures confirmed { (v : Version) → version_at (N.contents nodes.old) (stamp_of head) ≡ Some v → IfOk result (λ s. s.confirmed ≡ v.state.confirmed) }
     ensures pulled { (v : Version) → version_at (N.contents nodes.old) (stamp_of head) ≡ Some v → IfOk result (λ s. map_at (N.contents nodes.new) (stamp_of s.pulled) ≡ Some v.state.pulled) }
-    ensures named { IfOk result (λ s. IsNamed N.Held.shown N.HeldCommit.shown (N.contents nodes.new) head s.pulled) }
+    ensures place { IfOk result (λ s. N.places nodes.new s.pulled) }
     ensures pending { (v : Version) → version_at (N.contents nodes.old) (stamp_of head) ≡ Some v → IfOk result (λ s. s.pending.items ≡ v.state.pending) }
     ensures closed { (v : Version) → version_at (N.contents nodes.old) (stamp_of head) ≡ Some v → IfOk result (λ s. s.closed ≡ v.state.closed) }
     ensures stopped { IfErr result (λ stop. (stop ≡ NoMemory) ⊎ N.stops stop) }
@@ -142,8 +150,9 @@ pub fn state_of<N: Nodes>(alloc: Global, nodes: &mut N, head: Ref) -> Result<Com
 
 /// The cookie of a commit's state.
 pub fn cookie_of<N: Nodes>(nodes: &mut N, head: Ref) -> Result<Cookie, Stop>
-    requires { IsSome (version_at (N.contents nodes.old) (stamp_of head)) }
-    ensures grown { IsPrefix (N.contents nodes.old) (N.contents nodes.new) }
+    requires known { IsSome (version_at (N.contents nodes.old) (stamp_of head)) }
+    requires place { N.places nodes.old head }
+    ensures grown { Grows N.contents N.places nodes.old nodes.new }
     ensures cookie { (v : Version) → version_at (N.contents nodes.old) (stamp_of head) ≡ Some v → IfOk result (λ cookie. cookie ≡ v.state.cookie) }
     ensures stopped { IfErr result (λ stop. (stop ≡ NoMemory) ⊎ N.stops stop) }
 {
@@ -156,8 +165,9 @@ pub fn cookie_of<N: Nodes>(nodes: &mut N, head: Ref) -> Result<Cookie, Stop>
 /// confirmed. The walk ends there.
 pub fn last_id_of<N: Nodes>(nodes: &mut N, head: Ref, client: &Text) -> Result<u64, Stop>
     requires head { IsSome (version_at (N.contents nodes.old) (stamp_of head)) }
+    requires place { N.places nodes.old head }
     requires ids { (v : Version) → version_at (N.contents nodes.old) (stamp_of head) ≡ Some v → IdsFollow v.state.confirmed v.state.pending }
-    ensures grown { IsPrefix (N.contents nodes.old) (N.contents nodes.new) }
+    ensures grown { Grows N.contents N.places nodes.old nodes.new }
     ensures id { (v : Version) → version_at (N.contents nodes.old) (stamp_of head) ≡ Some v → IfOk result (λ id. id ≡ last_id v.state client.now) }
     ensures stopped { IfErr result N.stops }
 {
@@ -174,10 +184,11 @@ pub fn last_id_of<N: Nodes>(nodes: &mut N, head: Ref, client: &Text) -> Result<u
 
 /// The root of the map that queries read at a commit: the reference that the commit names.
 pub fn read_root<N: Nodes>(nodes: &mut N, head: Ref) -> Result<Ref, Stop>
-    requires { IsSome (version_at (N.contents nodes.old) (stamp_of head)) }
-    ensures grown { IsPrefix (N.contents nodes.old) (N.contents nodes.new) }
+    requires known { IsSome (version_at (N.contents nodes.old) (stamp_of head)) }
+    requires place { N.places nodes.old head }
+    ensures grown { Grows N.contents N.places nodes.old nodes.new }
     ensures root { (v : Version) → version_at (N.contents nodes.old) (stamp_of head) ≡ Some v → IfOk result (λ root. map_at (N.contents nodes.new) (stamp_of root) ≡ Some v.read) }
-    ensures named { IfOk result (IsNamed N.Held.shown N.HeldCommit.shown (N.contents nodes.new) head) }
+    ensures place { IfOk result (N.places nodes.new) }
     ensures stopped { IfErr result N.stops }
 {
     let root = show_root(nodes, head)?;

@@ -14,7 +14,8 @@ use Rattle.group_history.specs.Map.{Bytes, Entries, same_text}
 use Rattle.group_history.specs.Meaning.{Meanings}
 use Rattle.group_history.specs.State.{Ids, confirmed_id, ids_of, replayed, rebased}
 use Rattle.group_history.specs.Pulling.{overwritten, unconfirmed, left_pending, goes_back}
-use Rattle.group_history.specs.Ids.{Follows, IdsFollow, IsKept}
+use Rattle.group_history.specs.Ids.{Follows, IdsFollow}
+use Rattle.group_history.specs.Inside.Plain.{IsKept}
 
 -- the greatest of n and the numbers that follow it
 pub greatest-Follows : (n : ℕ) (xs : List ℕ) → Follows n xs → fold max n xs ≡ n + length xs

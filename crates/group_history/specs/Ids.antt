@@ -1,9 +1,8 @@
 -- Each client's pending ids follow its confirmed id.
 use Rattle.std.specs.Prelude.{◌≡◌, ℕ, ◌+◌, ◌≤◌, ◌^◌, List, [], ◌∷◌}
 use Rattle.group_history.specs.declared.mutations.Mutation.{Mutation}
-use Rattle.group_history.specs.Map.{Bytes, Entries}
-use Rattle.group_history.specs.Meaning.{Meanings}
-use Rattle.group_history.specs.State.{Ids, confirmed_id, ids_of, replayed}
+use Rattle.group_history.specs.Map.{Bytes}
+use Rattle.group_history.specs.State.{Ids, confirmed_id, ids_of}
 
 -- the numbers are those that follow n, in order
 abbrev pub Follows : ℕ → List ℕ → Type 0
@@ -14,8 +13,3 @@ Follows n (x ∷ xs) = (x ≡ n + 1) × Follows (n + 1) xs
 pub record IdsFollow (confirmed : Ids) (pending : List Mutation) : Type 0 where
   pub pending_ids : (client : Bytes) → Follows (confirmed_id confirmed client) (ids_of client pending)
   pub bounded : (client : Bytes) → confirmed_id confirmed client ≤ 2 ^ 52
-
--- What a group of one thread keeps: its view is the replay, and its ids follow.
-pub record IsKept (means : Meanings) (view pulled : Entries) (confirmed : Ids) (pending : List Mutation) : Type 0 where
-  pub replay : view ≡ replayed means pulled pending
-  pub ids : IdsFollow confirmed pending

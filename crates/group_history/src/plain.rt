@@ -44,7 +44,7 @@ pub struct PlainGroup<M: Mutators> {
 
 impl<M: Mutators> Model for PlainGroup<M> {
     ghost use Rattle.group_history.specs.State.{State, state};
-    ghost use Rattle.group_history.specs.Ids.{IsKept};
+    ghost use Rattle.group_history.specs.Inside.Plain.{IsKept};
     ghost use Rattle.std.specs.Ordering.{nat_cmp};
     ghost use Rattle.std.specs.Cmp.Lexicographic.{slice_cmp};
     ghost use Rattle.std.specs.Coded.{codes, coded_ℕ, coded_list};

@@ -1,14 +1,18 @@
 -- A tally that came back, and what its seat has added.
-use Rattle.std.proofs.Common.{◌≡◌, ◌≢◌, ◌<◌, ◌≤◌, arith, inl, inr, length-append, None, Bool, true, false, MatchBool, if◌then◌else◌, ℕ, zero, suc, List, [], ◌∷◌, ◌++◌, length, replicate, Some, Option, refl, ap, sym, ◌∙◌, subst}
+use Rattle.std.proofs.Common.{◌≡◌, ◌≢◌, ◌==◌, ◌<◌, ◌≤◌, arith, inl, inr, length-append, None, Bool, true, false, MatchBool, if◌then◌else◌, ℕ, zero, suc, List, [], ◌∷◌, ◌++◌, length, replicate, Some, Option, refl, ap, sym, ◌∙◌, subst}
 use mathlib.Core.List.{IsPrefix}
+use Rattle.group_history.specs.Meaning.{Meanings}
 use Rattle.head_word.specs.declared.entry.Answer.{Answer}
 use Rattle.head_word.specs.declared.entry.Entry.{Entry}
-use Rattle.head_word.specs.Tallies.{key_of, count, mine, told_count}
-use Rattle.head_word.specs.Books.{next_stamp}
+use Rattle.head_word.specs.Tallies.{key_of, count, mine}
+use Rattle.head_word.specs.Inside.Parts.{told_count}
+use Rattle.group_history.specs.declared.refs.Ref.{Ref}
+use Rattle.head_word.specs.Books.{next_stamp, last_move, IsOpened}
+use Rattle.head_word.specs.Rules.{head_says}
 use Rattle.head_word.specs.Marks.{Known, own, own_of, others}
-use Rattle.head_word.specs.Rules.{answer}
+use Rattle.head_word.specs.Inside.Steps.{Taken, answer, Adds, Misses}
 use Rattle.std.proofs.lemmas.Bool.Decides.{eqb_tells}
-use Rattle.std.proofs.lemmas.Bool.{eq-eqb}
+use Rattle.std.proofs.lemmas.Bool.{eq-eqb, false≢true}
 use Rattle.std.proofs.lemmas.List.{append-nil}
 use Rattle.head_word.proofs.Counting.{mine_more, mine_same}
 
@@ -28,22 +32,16 @@ own_same k n log log' pre sits a m is told =
 alone : (k : ℕ) (ask : Entry) → key_of ask ≡ k → mine k (ask ∷ []) ≡ ask ∷ []
 alone k ask key = rw (eq-eqb (key_of ask) k key) refl
 
--- what an exchange tells, of the book before it where it was won
-abbrev pub Told : (List Entry → Type 0) → Type 0 → List Entry → List Entry → Option Answer → Bool → Entry → Type 0
-Told Q R log log' state b ask = MatchBool b
-    ((mid : List Entry) × IsPrefix log mid × Q mid × (log' ≡ mid ++ ask ∷ []) × (state ≡ Some (answer (count (key_of ask) mid) (count (key_of ask) log'))))
-    (R × (state ≡ Some (answer (count (key_of ask) log') (count (key_of ask) log'))))
-
 -- an exchange of a seat's adds its one entry, or none
-pub own_added : (Q : List Entry → Type 0) (R : Type 0) (k n : ℕ) (log log' : List Entry) (ask : Entry) (a : Answer) (state : Option Answer) (b : Bool) → key_of ask ≡ k → n ≡ count k log → a.before ≡ n → state ≡ Some a → IsPrefix log log'
-    → Told Q R log log' state b ask → mine k log' ≡ mine k log ++ (if b then ask ∷ [] else [])
-own_added Q R k n log log' ask a state true key sits told has pre h =
-    let is = subst (λ (j : ℕ). Some a ≡ Some (answer (count j h.0) (count j log'))) key (sym has ∙ h.4) in
-    let mid : mine k h.0 ≡ mine k log = own_same k n log h.0 h.1 sits a (count k log') is told in
-    ap (mine k) h.3 ∙ (mine_more k h.0 (ask ∷ []) ∙ (ap (λ w. w ++ mine k (ask ∷ [])) mid ∙ ap (λ w. mine k log ++ w) (alone k ask key)))
-own_added Q R k n log log' ask a state false key sits told has pre h =
-    let is = subst (λ (j : ℕ). Some a ≡ Some (answer (count j log') (count j log'))) key (sym has ∙ h.1) in
-    own_same k n log log' pre sits a (count k log') is told ∙ sym (append-nil (mine k log))
+pub own_added : (says : List Entry → ℕ) (means : Meanings) (k n : ℕ) (t : Taken) (a : Answer) (won : Bool) → key_of t.ask ≡ k → n ≡ count k t.before → a.before ≡ n → t.answer ≡ Some a → IsPrefix t.before t.after
+    → MatchBool won (Adds says means t) (Misses says t) → mine k t.after ≡ mine k t.before ++ (if won then t.ask ∷ [] else [])
+own_added says means k n t a true key sits told has pre h =
+    let is = subst (λ (j : ℕ). Some a ≡ Some (answer (count j h.log) (count j t.after))) key (sym has ∙ h.counted) in
+    let mid : mine k h.log ≡ mine k t.before = own_same k n t.before h.log h.seen sits a (count k t.after) is told in
+    ap (mine k) h.added ∙ (mine_more k h.log (t.ask ∷ []) ∙ (ap (λ w. w ++ mine k (t.ask ∷ [])) mid ∙ ap (λ w. mine k t.before ++ w) (alone k t.ask key)))
+own_added says means k n t a false key sits told has pre h =
+    let is = subst (λ (j : ℕ). Some a ≡ Some (answer (count j t.after) (count j t.after))) key (sym has ∙ h.counted) in
+    own_same k n t.before t.after pre sits a (count k t.after) is told ∙ sym (append-nil (mine k t.before))
 
 mine_within : (k : ℕ) (xs : List Entry) → length (mine k xs) ≤ length xs
 mine_within k [] = omega arith
@@ -64,3 +62,13 @@ others_rise m w more same = omega (arith, more, ap length same, own_within m.sea
 pub drew_more : (xs ys : List Entry) → IsPrefix xs ys → next_stamp ys ≢ next_stamp xs → length xs < length ys
 drew_more xs ys ([], is) other = absurd (other (ap next_stamp (sym is ∙ append-nil xs)))
 drew_more xs ys (e ∷ es, is) other = omega (arith, sym (ap length is) ∙ length-append xs (e ∷ es))
+
+-- what an exchange of the head tells of the move
+pub move_told : (means : Meanings) (t : Taken) (base : Ref) (won : Bool) → t.expected ≡ base.bits → (t.found == t.expected) ≡ won → MatchBool won (Adds head_says means t) (Misses head_says t)
+    → MatchBool won ((log : List Entry) × IsPrefix t.before log × IsOpened means log × (last_move log ≡ base) × (t.after ≡ log ++ t.ask ∷ [])) (last_move t.after ≢ base)
+move_told means t base true at is told =
+    let at_base : last_move told.log ≡ base = ap (λ (n : ℕ). let r : Ref = record { bits = n } in r) (told.word ∙ at) in
+    (told.log, told.seen, told.opened, at_base, told.added)
+move_told means t base false at is told = λ same.
+    let met : t.found ≡ t.expected = sym told.word ∙ (ap (λ (r : Ref). r.bits) same ∙ sym at) in
+    absurd (false≢true (sym is ∙ eq-eqb t.found t.expected met))

@@ -28,8 +28,10 @@ use Rattle.head_word.specs.declared.entry.Answer.{Answer}
 use Rattle.head_word.specs.declared.entry.Entry.{Entry}
 use Rattle.head_word.specs.declared.entry.Entry.TheVariants as v
 use Rattle.head_word.specs.Books.{drafted_contents, drawn, next_stamp, last_move, nowhere, record_of, AreOrdered, IsBook, drafted, moved, empty_leaf, opening, StartsOpened, IsOpened, IsBefore, AreAfter, Follows}
-use Rattle.head_word.specs.Tallies.{key_of, count, Trades}
-use Rattle.head_word.specs.Rules.{Fits, IsKept, answer, AddsDraft, AddsMove, CountsAtHead, CountsAtDrafts, Opens}
+use Rattle.head_word.specs.Tallies.{key_of, count}
+use Rattle.head_word.specs.Rules.{head_says, drafts_say, FitsOpened, Fits, IsKept}
+use Rattle.head_word.specs.Inside.Parts.{Trades}
+use Rattle.head_word.specs.Inside.Steps.{tells, answer, Counts, Exchanges, Opens}
 use Rattle.head_word.proofs.Books.{drawn_more, moved_more, record_more, length-drafted, numbered_more, ordered_more, drafted_ordered, spells_more, starts_more, next_more}
 use Rattle.head_word.proofs.Counting.{count_more, count_other, count_starts}
 
@@ -111,9 +113,9 @@ abbrev pub shown : List Entry → List Entry
 shown log = log
 
 -- what was opened stays so, and its words are what they say
-pub fits_opened : (means : Meanings) (v log : List Entry) (h d : ℕ) → IsPrefix v log → StartsOpened v → Fits means h d log → IsOpened means log × (h ≡ (last_move log).bits) × (d ≡ next_stamp log)
+pub fits_opened : (means : Meanings) (v log : List Entry) (h d : ℕ) → IsPrefix v log → StartsOpened v → Fits means h d log → FitsOpened means h d log
 fits_opened means v log h d pre starts (inl is) = is
-fits_opened means v log h d pre starts (inr un) = let s : StartsOpened [] = subst StartsOpened un.0 (starts_from v log pre starts) in absurd (cc s)
+fits_opened means v log h d pre starts (inr un) = let s : StartsOpened [] = subst StartsOpened un.empty (starts_from v log pre starts) in absurd (cc s)
 
 trades_same : (ask : Entry) (log : List Entry) → Trades ask log (log ++ []) (answer (count (key_of ask) (log ++ [])) (count (key_of ask) (log ++ [])))
 trades_same ask log = record { before = ap (count (key_of ask)) (append-nil log); after = refl; others = λ k no. ap (count k) (append-nil log) }
@@ -122,17 +124,17 @@ trades_more : (ask : Entry) (log : List Entry) → Trades ask log (log ++ ask �
 trades_more ask log = record { before = refl; after = refl; others = λ k other. omega (arith, count_more k log (ask ∷ []), count_other k ask other) }
 
 -- a look adds nothing
-same_words : (means : Meanings) (log : List Entry) (h d : ℕ) → IsOpened means log × (h ≡ (last_move log).bits) × (d ≡ next_stamp log) → IsKept means ((h, true) ∷ (d, true) ∷ []) (log ++ [])
+same_words : (means : Meanings) (log : List Entry) (h d : ℕ) → FitsOpened means h d log → IsKept means ((h, true) ∷ (d, true) ∷ []) (log ++ [])
 same_words means log h d fits = subst (λ (w : List Entry). IsKept means ((h, true) ∷ (d, true) ∷ []) w) (sym (append-nil log)) (record { head = h; drafts = d; words = refl; fits = inl fits })
 
 same_opened : (means : Meanings) (log : List Entry) → IsOpened means log → IsOpened means (log ++ [])
 same_opened means log o = subst (IsOpened means) (sym (append-nil log)) o
 
 -- a seat's look, at either word
-pub head_counted : (means : Meanings) (v : List Entry) (ask : Entry) → StartsOpened v → Moves (IsKept means) shown (Trades ask) 0 (v, (no_nib, None)) (λ n. n) (CountsAtHead means (step 0 0 0 ask) (v, (no_nib, None)))
+pub head_counted : (means : Meanings) (v : List Entry) (ask : Entry) → StartsOpened v → Moves (IsKept means) shown (Trades ask) 0 (v, (no_nib, None)) (λ n. n) (tells (Counts head_says means) (step 0 0 0 ask) (v, (no_nib, None)))
 head_counted means v ask starts cs log kept pre away =
     let fits = fits_opened means v log kept.head kept.drafts pre starts kept.fits in
-    let P : List Cell → Type 0 = λ c. (0 < length c) × ((cell c 0).1 ≡ true) × Goes (IsKept means) shown (Trades ask) 0 (v, (no_nib, None)) (λ n. n) (CountsAtHead means (step 0 0 0 ask) (v, (no_nib, None))) c log in
+    let P : List Cell → Type 0 = λ c. (0 < length c) × ((cell c 0).1 ≡ true) × Goes (IsKept means) shown (Trades ask) 0 (v, (no_nib, None)) (λ n. n) (tells (Counts head_says means) (step 0 0 0 ask) (v, (no_nib, None))) c log in
     let n : Answer = answer (count (key_of ask) (log ++ [])) (count (key_of ask) (log ++ [])) in
     subst P (sym kept.words) (
       omega arith,
@@ -144,14 +146,14 @@ head_counted means v ask starts cs log kept pre away =
         tt,
         same_words means log kept.head kept.drafts fits,
         inr (n, refl, refl, trades_same ask log),
-        (same_opened means log fits.0, ap (λ (w : List Entry). (last_move w).bits) (append-nil log) ∙ sym fits.1, refl),
+        record { opened = same_opened means log fits.opened; word = ap head_says (append-nil log) ∙ sym fits.head_is; counted = refl },
       ),
     )
 
-pub drafts_counted : (means : Meanings) (v : List Entry) (ask : Entry) → StartsOpened v → Moves (IsKept means) shown (Trades ask) 1 (v, (no_nib, None)) (λ n. n) (CountsAtDrafts means (step 1 0 0 ask) (v, (no_nib, None)))
+pub drafts_counted : (means : Meanings) (v : List Entry) (ask : Entry) → StartsOpened v → Moves (IsKept means) shown (Trades ask) 1 (v, (no_nib, None)) (λ n. n) (tells (Counts drafts_say means) (step 1 0 0 ask) (v, (no_nib, None)))
 drafts_counted means v ask starts cs log kept pre away =
     let fits = fits_opened means v log kept.head kept.drafts pre starts kept.fits in
-    let P : List Cell → Type 0 = λ c. (1 < length c) × ((cell c 1).1 ≡ true) × Goes (IsKept means) shown (Trades ask) 1 (v, (no_nib, None)) (λ n. n) (CountsAtDrafts means (step 1 0 0 ask) (v, (no_nib, None))) c log in
+    let P : List Cell → Type 0 = λ c. (1 < length c) × ((cell c 1).1 ≡ true) × Goes (IsKept means) shown (Trades ask) 1 (v, (no_nib, None)) (λ n. n) (tells (Counts drafts_say means) (step 1 0 0 ask) (v, (no_nib, None))) c log in
     let n : Answer = answer (count (key_of ask) (log ++ [])) (count (key_of ask) (log ++ [])) in
     subst P (sym kept.words) (
       omega arith,
@@ -163,7 +165,7 @@ drafts_counted means v ask starts cs log kept pre away =
         tt,
         same_words means log kept.head kept.drafts fits,
         inr (n, refl, refl, trades_same ask log),
-        (same_opened means log fits.0, ap next_stamp (append-nil log) ∙ sym fits.2, refl),
+        record { opened = same_opened means log fits.opened; word = ap drafts_say (append-nil log) ∙ sym fits.drafts_are; counted = refl },
       ),
     )
 
@@ -184,26 +186,26 @@ pub leaves_after : (n place count : ℕ) → AreAfter n place (replicate count e
 leaves_after n place zero = tt
 leaves_after n place (suc count) = ((λ k d lt. absurd (omega (arith, lt))), leaves_after n (suc place) count)
 
-draft_goes : (means : Meanings) (v log : List Entry) (by : Option ℕ) (contents : List (Node Child)) (old h d : ℕ) → IsPrefix v log → AreAfter (next_stamp v) 0 contents → IsOpened means log × (h ≡ (last_move log).bits) × (d ≡ next_stamp log)
+draft_goes : (means : Meanings) (v log : List Entry) (by : Option ℕ) (contents : List (Node Child)) (old h d : ℕ) → IsPrefix v log → AreAfter (next_stamp v) 0 contents → FitsOpened means h d log
     → old + length contents ≤ stamps → (b : Bool) → (d == old) ≡ b
-    → Goes (IsKept means) shown (Trades (drafted by old contents)) 1 (v, (no_nib, None)) (λ n. either (n == old) (old + length contents) n) (AddsDraft means (step 1 old (old + length contents) (drafted by old contents)) (v, (no_nib, None))) ((h, true) ∷ (d, true) ∷ []) log
+    → Goes (IsKept means) shown (Trades (drafted by old contents)) 1 (v, (no_nib, None)) (λ n. either (n == old) (old + length contents) n) (tells (Exchanges drafts_say means) (step 1 old (old + length contents) (drafted by old contents)) (v, (no_nib, None))) ((h, true) ∷ (d, true) ∷ []) log
 draft_goes means v log by contents old h d pre before fits room true is =
-    let at : next_stamp log ≡ old = sym fits.2 ∙ eqb-true d old is in
+    let at : next_stamp log ≡ old = sym fits.drafts_are ∙ eqb-true d old is in
     let e = drafted by old contents in
     let n : Answer = answer (count (key_of e) log) (count (key_of e) (log ++ e ∷ [])) in
     let room' : next_stamp log + length contents ≤ stamps = omega (arith, at, room) in
-    let book' : IsBook means (log ++ e ∷ []) = subst (λ (k : ℕ). IsBook means (log ++ drafted by k contents ∷ [])) at (book_draft means log by contents fits.0.0 (after_from v log contents pre before) room') in
-    let starts' : StartsOpened (log ++ e ∷ []) = starts_more log (e ∷ []) fits.0.1 in
-    let last : h ≡ (last_move (log ++ e ∷ [])).bits = fits.1 ∙ sym (ap (λ (r : Ref). r.bits) (moved_more nowhere log (e ∷ []))) in
+    let book' : IsBook means (log ++ e ∷ []) = subst (λ (k : ℕ). IsBook means (log ++ drafted by k contents ∷ [])) at (book_draft means log by contents fits.opened.0 (after_from v log contents pre before) room') in
+    let starts' : StartsOpened (log ++ e ∷ []) = starts_more log (e ∷ []) fits.opened.1 in
+    let last : h ≡ (last_move (log ++ e ∷ [])).bits = fits.head_is ∙ sym (ap (λ (r : Ref). r.bits) (moved_more nowhere log (e ∷ []))) in
     let next : old + length contents ≡ next_stamp (log ++ e ∷ []) = omega (arith, at, next_more log (e ∷ []), length-append (drafted_contents old contents) [], length-drafted old contents) in
     let d' : either (d == old) (old + length contents) d ≡ old + length contents = rw is refl in (
       keeps,
       e ∷ [],
       Some n,
       tt,
-      record { head = h; drafts = old + length contents; words = ap (λ (k : ℕ). (h, true) ∷ (k, true) ∷ []) d'; fits = inl ((book', starts'), last, next) },
+      record { head = h; drafts = old + length contents; words = ap (λ (k : ℕ). (h, true) ∷ (k, true) ∷ []) d'; fits = inl (record { opened = (book', starts'); head_is = last; drafts_are = next }) },
       inr (n, refl, refl, trades_more e log),
-      ((book', starts'), rw is (log, pre, at, refl, refl)),
+      record { opened = (book', starts'); outcome = rw is (record { log = log; seen = pre; opened = fits.opened; word = at; added = refl; counted = refl }) },
     )
 draft_goes means v log by contents old h d pre before fits room false is =
     let e = drafted by old contents in
@@ -215,43 +217,43 @@ draft_goes means v log by contents old h d pre before fits room false is =
       tt,
       subst (λ (k : ℕ). IsKept means ((h, true) ∷ (k, true) ∷ []) (log ++ [])) (sym d') (same_words means log h d fits),
       inr (n, refl, refl, trades_same e log),
-      (same_opened means log fits.0, rw is (ap next_stamp (append-nil log) ∙ sym fits.2, refl)),
+      record { opened = same_opened means log fits.opened; outcome = rw is (record { word = ap drafts_say (append-nil log) ∙ sym fits.drafts_are; counted = refl }) },
     )
 
 -- whatever the book is, the exchange adds the draft, or finds that other stamps were drawn
 pub draft_moves : (means : Meanings) (v : List Entry) (by : Option ℕ) (contents : List (Node Child)) (old : ℕ) → StartsOpened v → AreAfter (next_stamp v) 0 contents → old + length contents ≤ stamps
-    → Moves (IsKept means) shown (Trades (drafted by old contents)) 1 (v, (no_nib, None)) (λ n. either (n == old) (old + length contents) n) (AddsDraft means (step 1 old (old + length contents) (drafted by old contents)) (v, (no_nib, None)))
+    → Moves (IsKept means) shown (Trades (drafted by old contents)) 1 (v, (no_nib, None)) (λ n. either (n == old) (old + length contents) n) (tells (Exchanges drafts_say means) (step 1 old (old + length contents) (drafted by old contents)) (v, (no_nib, None)))
 draft_moves means v by contents old starts before room cs log kept pre away =
     let fits = fits_opened means v log kept.head kept.drafts pre starts kept.fits in
-    let P : List Cell → Type 0 = λ c. (1 < length c) × ((cell c 1).1 ≡ true) × Goes (IsKept means) shown (Trades (drafted by old contents)) 1 (v, (no_nib, None)) (λ n. either (n == old) (old + length contents) n) (AddsDraft means (step 1 old (old + length contents) (drafted by old contents)) (v, (no_nib, None))) c log in
+    let P : List Cell → Type 0 = λ c. (1 < length c) × ((cell c 1).1 ≡ true) × Goes (IsKept means) shown (Trades (drafted by old contents)) 1 (v, (no_nib, None)) (λ n. either (n == old) (old + length contents) n) (tells (Exchanges drafts_say means) (step 1 old (old + length contents) (drafted by old contents)) (v, (no_nib, None))) c log in
     subst P (sym kept.words) (omega arith, refl, draft_goes means v log by contents old kept.head kept.drafts pre before fits room (kept.drafts == old) refl)
 
-move_goes : (means : Meanings) (v log : List Entry) (by : Option ℕ) (base to : Ref) (change : Change) (h d : ℕ) → IsPrefix v log → Follows means (drawn v) base to change → IsOpened means log × (h ≡ (last_move log).bits) × (d ≡ next_stamp log)
+move_goes : (means : Meanings) (v log : List Entry) (by : Option ℕ) (base to : Ref) (change : Change) (h d : ℕ) → IsPrefix v log → Follows means (drawn v) base to change → FitsOpened means h d log
     → (b : Bool) → (h == base.bits) ≡ b
-    → Goes (IsKept means) shown (Trades (moved by to (Some change))) 0 (v, (no_nib, None)) (λ n. either (n == base.bits) to.bits n) (AddsMove means (step 0 base.bits to.bits (moved by to (Some change))) (v, (no_nib, None))) ((h, true) ∷ (d, true) ∷ []) log
+    → Goes (IsKept means) shown (Trades (moved by to (Some change))) 0 (v, (no_nib, None)) (λ n. either (n == base.bits) to.bits n) (tells (Exchanges head_says means) (step 0 base.bits to.bits (moved by to (Some change))) (v, (no_nib, None))) ((h, true) ∷ (d, true) ∷ []) log
 move_goes means v log by base to change h d pre follows fits true is =
     let at : h ≡ base.bits = eqb-true h base.bits is in
-    let last : (last_move log).bits ≡ base.bits = sym fits.1 ∙ at in
+    let last : (last_move log).bits ≡ base.bits = sym fits.head_is ∙ at in
     let e = moved by to (Some change) in
     let n : Answer = answer (count (key_of e) log) (count (key_of e) (log ++ e ∷ [])) in
     let state : State = after (record_of log) in
     let here : Spells means (drawn log) (stamp_of base) follows.state = spells_from means v log (stamp_of base) follows.state pre follows.before in
-    let now : Spells means (drawn log) (stamp_of base) state = subst (λ (k : ℕ). Spells means (drawn log) (stamp_of (record { bits = k })) state) last fits.0.0.spelled in
+    let now : Spells means (drawn log) (stamp_of base) state = subst (λ (k : ℕ). Spells means (drawn log) (stamp_of (record { bits = k })) state) last fits.opened.0.spelled in
     let same : follows.state ≡ state = spells_once means (drawn log) (stamp_of base) follows.state state here now in
     let may : IsAccepted means state change = subst (λ (s : State). IsAccepted means s change) same follows.accepted in
     let then : Spells means (drawn log) (stamp_of to) (after_change state change) = subst (λ (s : State). Spells means (drawn log) (stamp_of to) (after_change s change)) same (spells_from means v log (stamp_of to) (after_change follows.state change) pre follows.then) in
-    let book' : IsBook means (log ++ e ∷ []) = book_move means log by to change fits.0.0 may then in
-    let starts' : StartsOpened (log ++ e ∷ []) = starts_more log (e ∷ []) fits.0.1 in
+    let book' : IsBook means (log ++ e ∷ []) = book_move means log by to change fits.opened.0 may then in
+    let starts' : StartsOpened (log ++ e ∷ []) = starts_more log (e ∷ []) fits.opened.1 in
     let goes : (last_move (log ++ e ∷ [])).bits ≡ to.bits = ap (λ (r : Ref). r.bits) (moved_more nowhere log (e ∷ [])) in
     let h' : either (h == base.bits) to.bits h ≡ to.bits = rw is refl in
-    let next : d ≡ next_stamp (log ++ e ∷ []) = let f : d ≡ next_stamp log = fits.2 in omega (arith, f, next_more log (e ∷ [])) in (
+    let next : d ≡ next_stamp (log ++ e ∷ []) = let f : d ≡ next_stamp log = fits.drafts_are in omega (arith, f, next_more log (e ∷ [])) in (
       keeps,
       e ∷ [],
       Some n,
       tt,
-      record { head = to.bits; drafts = d; words = ap (λ (k : ℕ). (k, true) ∷ (d, true) ∷ []) h'; fits = inl ((book', starts'), sym goes, next) },
+      record { head = to.bits; drafts = d; words = ap (λ (k : ℕ). (k, true) ∷ (d, true) ∷ []) h'; fits = inl (record { opened = (book', starts'); head_is = sym goes; drafts_are = next }) },
       inr (n, refl, refl, trades_more e log),
-      ((book', starts'), rw is (log, pre, last, refl, refl)),
+      record { opened = (book', starts'); outcome = rw is (record { log = log; seen = pre; opened = fits.opened; word = last; added = refl; counted = refl }) },
     )
 move_goes means v log by base to change h d pre follows fits false is =
     let e = moved by to (Some change) in
@@ -263,15 +265,15 @@ move_goes means v log by base to change h d pre follows fits false is =
       tt,
       subst (λ (k : ℕ). IsKept means ((k, true) ∷ (d, true) ∷ []) (log ++ [])) (sym h') (same_words means log h d fits),
       inr (n, refl, refl, trades_same e log),
-      (same_opened means log fits.0, rw is (ap (λ (w : List Entry). (last_move w).bits) (append-nil log) ∙ sym fits.1, refl)),
+      record { opened = same_opened means log fits.opened; outcome = rw is (record { word = ap head_says (append-nil log) ∙ sym fits.head_is; counted = refl }) },
     )
 
 -- whatever the book is, the exchange adds the move directly after the one expected, or finds another last move
 pub move_moves : (means : Meanings) (v : List Entry) (by : Option ℕ) (base to : Ref) (change : Change) → StartsOpened v → Follows means (drawn v) base to change
-    → Moves (IsKept means) shown (Trades (moved by to (Some change))) 0 (v, (no_nib, None)) (λ n. either (n == base.bits) to.bits n) (AddsMove means (step 0 base.bits to.bits (moved by to (Some change))) (v, (no_nib, None)))
+    → Moves (IsKept means) shown (Trades (moved by to (Some change))) 0 (v, (no_nib, None)) (λ n. either (n == base.bits) to.bits n) (tells (Exchanges head_says means) (step 0 base.bits to.bits (moved by to (Some change))) (v, (no_nib, None)))
 move_moves means v by base to change starts follows cs log kept pre away =
     let fits = fits_opened means v log kept.head kept.drafts pre starts kept.fits in
-    let P : List Cell → Type 0 = λ c. (0 < length c) × ((cell c 0).1 ≡ true) × Goes (IsKept means) shown (Trades (moved by to (Some change))) 0 (v, (no_nib, None)) (λ n. either (n == base.bits) to.bits n) (AddsMove means (step 0 base.bits to.bits (moved by to (Some change))) (v, (no_nib, None))) c log in
+    let P : List Cell → Type 0 = λ c. (0 < length c) × ((cell c 0).1 ≡ true) × Goes (IsKept means) shown (Trades (moved by to (Some change))) 0 (v, (no_nib, None)) (λ n. either (n == base.bits) to.bits n) (tells (Exchanges head_says means) (step 0 base.bits to.bits (moved by to (Some change))) (v, (no_nib, None))) c log in
     subst P (sym kept.words) (omega arith, refl, move_goes means v log by base to change kept.head kept.drafts pre follows fits (kept.head == base.bits) refl)
 
 pub opening_counts : (r : Ref) (k : ℕ) → k ≢ 0 → count k (opening r) ≡ 0
@@ -295,31 +297,31 @@ opening_book means r one =
     (record { numbered = refl; room = lit≤ tt; ordered = ((λ k d lt. absurd (omega (arith, lt))), ((λ k d lt. opening_child k d lt), tt)); legal = tt; spelled = spelled }, refl)
 
 opens_goes : (means : Meanings) (v log : List Entry) (ask : Entry) (r : Ref) (h d : ℕ) → key_of ask ≡ 0 → stamp_of r ≡ 1 → Fits means h d log
-    → Goes (IsKept means) shown (Trades ask) 0 (v, (no_nib, None)) (λ n. either (n == 0) r.bits n) (Opens (step 0 0 r.bits ask) (v, (no_nib, None))) ((h, true) ∷ (d, true) ∷ []) log
+    → Goes (IsKept means) shown (Trades ask) 0 (v, (no_nib, None)) (λ n. either (n == 0) r.bits n) (tells Opens (step 0 0 r.bits ask) (v, (no_nib, None))) ((h, true) ∷ (d, true) ∷ []) log
 opens_goes means v log ask r h d key one (inl fits) =
     let n : Answer = answer (count (key_of ask) (log ++ [])) (count (key_of ask) (log ++ [])) in
-    let is : (h == 0) ≡ false = head_some means log h fits.0 fits.1 in
+    let is : (h == 0) ≡ false = head_some means log h fits.opened fits.head_is in
     let h' : either (h == 0) r.bits h ≡ h = rw is refl in
-    let counts : 0 < count (key_of ask) (log ++ []) = rw (append-nil log, key) (count_starts log fits.0.1) in (
+    let counts : 0 < count (key_of ask) (log ++ []) = rw (append-nil log, key) (count_starts log fits.opened.1) in (
       keeps,
       [],
       Some n,
       tt,
       subst (λ (k : ℕ). IsKept means ((k, true) ∷ (d, true) ∷ []) (log ++ [])) (sym h') (same_words means log h d fits),
       inr (n, refl, refl, trades_same ask log),
-      (n, refl, λ none. absurd (omega (arith, none, counts))),
+      record { counts = n; counted = refl; opened = λ none. absurd (omega (arith, none, counts)) },
     )
 opens_goes means v log ask r h d key one (inr un) =
     let n : Answer = answer 0 2 in
-    let h' : either (h == 0) r.bits h ≡ r.bits = rw un.1 refl in
-    let d' : d ≡ next_stamp (opening r) = un.2 in
+    let h' : either (h == 0) r.bits h ≡ r.bits = rw un.head_is refl in
+    let d' : d ≡ next_stamp (opening r) = un.drafts_are in
     let opened : IsOpened means (opening r) = opening_book means r one in
-    let all : log ++ opening r ≡ opening r = ap (λ w. w ++ opening r) un.0 in
-    let kept : IsKept means ((r.bits, true) ∷ (d, true) ∷ []) (opening r) = record { head = r.bits; drafts = d; words = refl; fits = inl (opened, refl, d') } in
+    let all : log ++ opening r ≡ opening r = ap (λ w. w ++ opening r) un.empty in
+    let kept : IsKept means ((r.bits, true) ∷ (d, true) ∷ []) (opening r) = record { head = r.bits; drafts = d; words = refl; fits = inl (record { opened = opened; head_is = refl; drafts_are = d' }) } in
     let trade : Trades ask log (log ++ opening r) n = record {
-      before = sym (ap (count (key_of ask)) un.0);
+      before = sym (ap (count (key_of ask)) un.empty);
       after = rw (all, key) refl;
-      others = λ k other. rw (all, un.0) (opening_counts r k (λ e. other (e ∙ sym key)));
+      others = λ k other. rw (all, un.empty) (opening_counts r k (λ e. other (e ∙ sym key)));
     } in (
       keeps,
       opening r,
@@ -327,12 +329,12 @@ opens_goes means v log ask r h d key one (inr un) =
       tt,
       subst (λ (k : ℕ × List Entry). IsKept means ((k.0, true) ∷ (d, true) ∷ []) k.1) (λ i. (sym h' i, sym all i)) kept,
       inr (n, refl, refl, trade),
-      (n, refl, λ none. all),
+      record { counts = n; counted = refl; opened = λ none. all },
     )
 
 -- the exchange opens the book, where nothing was added by no seat
 pub opens_moves : (means : Meanings) (v : List Entry) (ask : Entry) (r : Ref) → key_of ask ≡ 0 → stamp_of r ≡ 1
-    → Moves (IsKept means) shown (Trades ask) 0 (v, (no_nib, None)) (λ n. either (n == 0) r.bits n) (Opens (step 0 0 r.bits ask) (v, (no_nib, None)))
+    → Moves (IsKept means) shown (Trades ask) 0 (v, (no_nib, None)) (λ n. either (n == 0) r.bits n) (tells Opens (step 0 0 r.bits ask) (v, (no_nib, None)))
 opens_moves means v ask r key one cs log kept pre away =
-    let P : List Cell → Type 0 = λ c. (0 < length c) × ((cell c 0).1 ≡ true) × Goes (IsKept means) shown (Trades ask) 0 (v, (no_nib, None)) (λ n. either (n == 0) r.bits n) (Opens (step 0 0 r.bits ask) (v, (no_nib, None))) c log in
+    let P : List Cell → Type 0 = λ c. (0 < length c) × ((cell c 0).1 ≡ true) × Goes (IsKept means) shown (Trades ask) 0 (v, (no_nib, None)) (λ n. either (n == 0) r.bits n) (tells Opens (step 0 0 r.bits ask) (v, (no_nib, None))) c log in
     subst P (sym kept.words) (omega arith, refl, opens_goes means v log ask r kept.head kept.drafts key one kept.fits)

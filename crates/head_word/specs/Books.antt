@@ -1,6 +1,6 @@
 -- The book of a group: the contents that were drafted, by stamp, and the moves of the head.
 -- This project's own rules.
-use Rattle.std.specs.Prelude.{ℕ, suc, ◌≡◌, ◌+◌, ◌<◌, ◌≤◌, ◌==◌, ◌&&◌, Bool, true, List, [], ◌∷◌, ◌++◌, length, map, take, All, Some, None, Option}
+use Rattle.std.specs.Prelude.{ℕ, suc, nat_lt, ◌-◌, cond, ◌≡◌, ◌+◌, ◌<◌, ◌≤◌, ◌==◌, ◌&&◌, Bool, true, List, [], ◌∷◌, ◌++◌, length, map, take, All, Some, None, Option}
 use Rattle.std.specs.FinMap as finite
 use Rattle.group_history.specs.declared.refs.Ref.{Ref}
 use Rattle.group_history.specs.declared.changes.Change.{Change}
@@ -12,7 +12,7 @@ use Rattle.group_history.specs.declared.nodes.Child.{Child}
 use Rattle.group_history.specs.declared.nodes.Child.TheVariants.{Placed, Drafted}
 use Rattle.group_history.specs.Cookies.{null_cookie}
 use Rattle.group_history.specs.Meaning.{Meanings}
-use Rattle.group_history.specs.Naming.{children, drafted_content}
+use Rattle.group_history.specs.Naming.{children, drafted_content, renamed}
 use Rattle.group_history.specs.Record.{IsAccepted, IsLegal, after, after_change}
 use Rattle.group_history.specs.Refs.{stamp_of, stamps, max_slots}
 use Rattle.group_history.specs.Spelling.{Contents, Spells}
@@ -79,24 +79,35 @@ pub record IsBook (means : Meanings) (log : List Entry) : Type 0 where
   pub legal : IsLegal means (record_of log)
   pub spelled : Spells means (drawn log) (stamp_of (last_move log)) (after (record_of log))
 
+-- the entry of a draft, by this seat or by none
 abbrev pub drafted : Option ℕ → ℕ → List (Node Child) → Entry
 drafted by first contents = v.Draft (record { by = by; first = first; contents = contents })
 
+-- the entry of a move, by this seat or by none
 abbrev pub moved : Option ℕ → Ref → Option Change → Entry
 moved by to change = v.Move (record { by = by; to = to; change = change })
 
--- what a book opens with: an empty leaf, of stamp 0, and the opening snapshot over it, of stamp 1
+-- what a book opens with: an empty leaf, of stamp 0
 abbrev pub empty_leaf : Node Child
 empty_leaf = node.Chunk (Leaf [])
 
+-- and the opening snapshot over it, of stamp 1
 abbrev pub opening_snapshot : Node Child
 opening_snapshot = node.Commit (record { root = Drafted 0; kind = Snapshot (record { cookie = null_cookie; confirmed = finite.empty }) })
 
--- the entries that a book opens with, by no seat
+-- so the opening draws so many stamps
+abbrev pub opening_stamps : ℕ
+opening_stamps = 2
+
+-- the two entries that a book opens with, by no seat: their draft, and a move to the snapshot
 abbrev pub opening : Ref → List Entry
 opening r = drafted None 0 (empty_leaf ∷ opening_snapshot ∷ []) ∷ moved None r None ∷ []
 
--- where the opening move goes: the stamp 1 in the given slot
+-- how many they are
+abbrev pub opening_entries : ℕ
+opening_entries = 2
+
+-- where the opening move goes: the snapshot's stamp, 1, in the given slot
 abbrev pub opening_ref : ℕ → Ref
 opening_ref slot = record { bits = max_slots + slot }
 
@@ -109,11 +120,20 @@ opened_at (e ∷ v.Move m ∷ es) = m.to
 
 -- the book begins with the opening's entries
 abbrev pub StartsOpened : List Entry → Type 0
-StartsOpened log = take 2 log ≡ opening (opened_at log)
+StartsOpened log = take opening_entries log ≡ opening (opened_at log)
 
 -- a legal book that begins with the opening's entries
 abbrev pub IsOpened : Meanings → List Entry → Type 0
 IsOpened means log = IsBook means log × StartsOpened log
+
+-- the child that a reference names in a draft whose nodes are numbered from here on: a stamp below is that of a node
+-- drawn before, and another one that of a node of the draft, by its number
+abbrev pub child_from : ℕ → Ref → Child
+child_from from at = cond (nat_lt (stamp_of at) from) (Placed at) (Drafted (stamp_of at - from))
+
+-- nodes that are numbered so, as a draft lists them
+abbrev pub drafted_from : ℕ → List (Node Ref) → List (Node Child)
+drafted_from from nodes = map (renamed (child_from from)) nodes
 
 -- a child of the node at this place of a draft has a stamp among the first n, or stands at an earlier place
 abbrev pub IsBefore : ℕ → ℕ → Child → Type 0

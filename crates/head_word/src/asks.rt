@@ -1,6 +1,6 @@
 //! What a step asks the book for. Nothing of it is made when the program runs.
 use crate::entry::{Answer, Entry};
-use group_history::{Change, Child, Node, Ref};
+use group_history::{Change, Node, Ref};
 use logbook::Plain;
 
 /// A look by a seat, or by none.
@@ -9,12 +9,13 @@ pub struct Look {
     pub by: Option<u64>,
 }
 
-/// A draft to be added.
+/// A draft to be added, whose nodes are numbered from `from` on among themselves.
 #[derive(Drop)]
 pub struct Wanted<'a> {
     pub by: Option<u64>,
     pub first: u64,
-    pub contents: &'a [Node<Child>],
+    pub from: u64,
+    pub nodes: &'a [Node<Ref>],
 }
 
 /// A draft to be added, of so many empty leaves.
@@ -47,9 +48,9 @@ impl Plain<Look, Entry, Answer> for Asks {
 
 impl<'a> Plain<Wanted<'a>, Entry, Answer> for Asks {
     ghost use Rattle.std.specs.Prelude.{None};
-    ghost use Rattle.head_word.specs.Books.{drafted};
+    ghost use Rattle.head_word.specs.Books.{drafted, drafted_from};
 
-    ghost ask = { λ w. drafted w.by w.first w.contents.now };
+    ghost ask = { λ w. drafted w.by w.first (drafted_from w.from w.nodes.now) };
 
     ghost state = { λ w. None };
 }
@@ -78,7 +79,7 @@ pub struct Idle;
 impl Plain<Look, Entry, Answer> for Idle {
     ghost use Rattle.std.specs.Prelude.{None, Some};
     ghost use Rattle.head_word.specs.Books.{moved, nowhere};
-    ghost use Rattle.head_word.specs.Rules.{answer};
+    ghost use Rattle.head_word.specs.Inside.Steps.{answer};
 
     ghost ask = { λ w. moved w.by nowhere None };
 

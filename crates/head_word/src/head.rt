@@ -21,7 +21,7 @@ ghost use Rattle.std.specs.Prelude.{◌≡◌, ◌≢◌, ◌+◌, ◌<◌, ◌�
 ghost use mathlib.Core.List.{IsPrefix};
 ghost use Rattle.group_history.specs.Refs.{stamps};
 ghost use Rattle.head_word.specs.declared.entry.Entry.{Entry};
-ghost use Rattle.head_word.specs.Books.{last_move, next_stamp, drawn, drafted, moved, AreAfter, Follows};
+ghost use Rattle.head_word.specs.Books.{last_move, next_stamp, drawn, drafted, moved, AreAfter, Follows, IsOpened, drafted_from};
 ghost use Rattle.head_word.specs.Marks.{own, others};
 
 use crate::asks::{Asks, Idle, Look, Wanted};
@@ -30,7 +30,7 @@ use crate::law::{CountsAtHead, Law, LooksAtHead, Nothing, Traded};
 use crate::lost::{Lost, Moved};
 use crate::mark::{Mark, Seat};
 use crate::tally::Tally;
-use group_history::{Change, Child, Means, Node, Ref, STAMPS};
+use group_history::{Change, Means, Node, Ref, STAMPS};
 use logbook::{Offer, Word};
 use std::marker::Model;
 
@@ -44,7 +44,7 @@ pub struct Head<M: Means> {
 impl<M: Means> Model for Head<M> {
     ghost use Rattle.std.specs.Prelude.{◌≡◌};
     ghost use Rattle.logbook.specs.Pages.{Book, book_coded};
-    ghost use Rattle.head_word.specs.Rules.{word_of};
+    ghost use Rattle.head_word.specs.Rules.{head_key, drafts_key, word_of};
 
     ghost Value = { Book };
 
@@ -52,7 +52,7 @@ impl<M: Means> Model for Head<M> {
 
     ghost view = { λ h. h.head_word.book };
 
-    ghost invariant = { λ h. (h.head_word ≡ word_of 0 h.head_word.book) × (h.draft_word ≡ word_of 1 h.head_word.book) };
+    ghost invariant = { λ h. (h.head_word ≡ word_of head_key h.head_word.book) × (h.draft_word ≡ word_of drafts_key h.head_word.book) };
 }
 
 impl<M: Means> Head<M> {
@@ -90,36 +90,37 @@ impl<M: Means> Head<M> {
         }
     }
 
-    /// Draws a stamp for each of the nodes, in order, and answers the first. A node names a child by its
-    /// `Ref` where that was drawn before, and by its place in the slice where it is drawn with it; there
-    /// it stands earlier. It is `Moved` where another seat drew stamps meanwhile, and `Stamps` where the
-    /// group would have drawn all of its `STAMPS`.
-    pub fn draft(&self, mark: &mut Mark<M>, contents: &[Node<Child>]) -> Result<u64, Lost>
+    /// Draws a stamp for each of the nodes, in order, and answers the first. Among themselves the nodes are
+    /// numbered from `from` on: a node names a child whose stamp is lower by its `Ref`, which was drawn
+    /// before, and one that is drawn with it by its number, and that one stands earlier. It is `Moved` where
+    /// another seat drew stamps meanwhile, and `Stamps` where the group would have drawn all of its `STAMPS`.
+    pub fn draft(&self, mark: &mut Mark<M>, from: u64, nodes: &[Node<Ref>]) -> Result<u64, Lost>
         requires book { mark.old.book ≡ self.now }
         requires seat { IsSome mark.old.seat }
-        requires some { 0 < length contents.now }
-        requires children { AreAfter (next_stamp mark.old.log) 0 contents.now }
+        requires some { 0 < length nodes.now }
+        requires children { AreAfter (next_stamp mark.old.log) 0 (drafted_from from nodes.now) }
         ensures book { mark.new.book ≡ mark.old.book }
         ensures seat { mark.new.seat ≡ mark.old.seat }
         ensures seen { IsPrefix mark.old.log mark.new.log }
-        ensures drawn { IfOk result (λ first. (log : List Entry) × IsPrefix mark.old.log log × (next_stamp log ≡ first) × (mark.new.log ≡ log ++ drafted mark.old.seat first contents.now ∷ [])) }
-        ensures room { IfOk result (λ first. first + length contents.now < stamps) }
-        ensures once { IfOk result (λ first. own mark.new ≡ own mark.old ++ drafted mark.old.seat first contents.now ∷ []) }
+        ensures drawn { IfOk result (λ first. (log : List Entry) × IsPrefix mark.old.log log × (next_stamp log ≡ first) × (mark.new.log ≡ log ++ drafted mark.old.seat first (drafted_from from nodes.now) ∷ [])) }
+        ensures room { IfOk result (λ first. first + length nodes.now < stamps) }
+        ensures once { IfOk result (λ first. own mark.new ≡ own mark.old ++ drafted mark.old.seat first (drafted_from from nodes.now) ∷ []) }
         ensures nothing { IfErr result (λ _. own mark.new ≡ own mark.old) }
         ensures moved { IfErr result (λ e. e ≡ Lost.Moved → length mark.old.log < length mark.new.log) }
         ensures others { IfErr result (λ e. e ≡ Lost.Moved → others mark.old < others mark.new) }
-        ensures stamps { IfErr result (λ e. e ≡ Lost.Stamps → stamps ≤ next_stamp mark.new.log + length contents.now) }
+        ensures stamps { IfErr result (λ e. e ≡ Lost.Stamps → stamps ≤ next_stamp mark.new.log + length nodes.now) }
     {
         let first = self.next(mark);
-        if contents.len() as u64 >= STAMPS.saturating_sub(first) {
+        if nodes.len() as u64 >= STAMPS.saturating_sub(first) {
             return Err(Lost::Stamps);
         }
         let wanted = Wanted {
             by: mark.seat(),
             first,
-            contents,
+            from,
+            nodes,
         };
-        if self.add_draft::<Wanted, Asks>(mark, first, contents.len() as u64, &wanted) {
+        if self.add_draft::<Wanted, Asks>(mark, first, nodes.len() as u64, &wanted) {
             Ok(first)
         } else {
             Err(Lost::Moved)
@@ -140,7 +141,7 @@ impl<M: Means> Head<M> {
         ensures book { mark.new.book ≡ mark.old.book }
         ensures seat { mark.new.seat ≡ mark.old.seat }
         ensures seen { IsPrefix mark.old.log mark.new.log }
-        ensures won { IfOk result (λ _. (log : List Entry) × IsPrefix mark.old.log log × (last_move log ≡ base) × (mark.new.log ≡ log ++ moved mark.old.seat new (Some change.now) ∷ [])) }
+        ensures won { IfOk result (λ _. (log : List Entry) × IsPrefix mark.old.log log × IsOpened M.means log × (last_move log ≡ base) × (mark.new.log ≡ log ++ moved mark.old.seat new (Some change.now) ∷ [])) }
         ensures once { IfOk result (λ _. own mark.new ≡ own mark.old ++ moved mark.old.seat new (Some change.now) ∷ []) }
         ensures nothing { IfErr result (λ _. own mark.new ≡ own mark.old) }
         ensures moved { IfErr result (λ _. last_move mark.new.log ≢ base) }

@@ -12,7 +12,7 @@ pub struct Law<M: Means> {
 impl<M: Means> Rule<Entry, Answer> for Law<M> {
     ghost use Rattle.std.specs.Prelude.{[]};
     ghost use Rattle.head_word.specs.Rules.{IsKept};
-    ghost use Rattle.head_word.specs.Tallies.{kept_tallies, Trades};
+    ghost use Rattle.head_word.specs.Inside.Parts.{kept_tallies, Trades};
 
     ghost holds = { λ cells log. IsKept M.means cells log };
 
@@ -40,7 +40,7 @@ impl Gain<Entry, Answer> for Nothing {
 pub struct Traded;
 
 impl Gain<Entry, Answer> for Traded {
-    ghost use Rattle.head_word.specs.Tallies.{traded};
+    ghost use Rattle.head_word.specs.Inside.Parts.{traded};
 
     ghost after = { λ names about answer. traded names about answer };
 }
@@ -49,9 +49,9 @@ impl Gain<Entry, Answer> for Traded {
 pub struct Opens;
 
 impl Play<Entry, Answer> for Opens {
-    ghost use Rattle.head_word.specs.Rules.{Opens};
+    ghost use Rattle.head_word.specs.Inside.Steps.{tells, Opens};
 
-    ghost then = { Opens };
+    ghost then = { tells Opens };
 }
 
 /// A look at the head word by no seat.
@@ -60,9 +60,10 @@ pub struct LooksAtHead<M: Means> {
 }
 
 impl<M: Means> Play<Entry, Answer> for LooksAtHead<M> {
-    ghost use Rattle.head_word.specs.Rules.{LooksAtHead};
+    ghost use Rattle.head_word.specs.Rules.{head_says};
+    ghost use Rattle.head_word.specs.Inside.Steps.{tells, Looks};
 
-    ghost then = { LooksAtHead M.means };
+    ghost then = { tells (Looks head_says M.means) };
 }
 
 /// A seat's look at the head word.
@@ -71,9 +72,10 @@ pub struct CountsAtHead<M: Means> {
 }
 
 impl<M: Means> Play<Entry, Answer> for CountsAtHead<M> {
-    ghost use Rattle.head_word.specs.Rules.{CountsAtHead};
+    ghost use Rattle.head_word.specs.Rules.{head_says};
+    ghost use Rattle.head_word.specs.Inside.Steps.{tells, Counts};
 
-    ghost then = { CountsAtHead M.means };
+    ghost then = { tells (Counts head_says M.means) };
 }
 
 /// A seat's look at the draft word.
@@ -82,9 +84,10 @@ pub struct CountsAtDrafts<M: Means> {
 }
 
 impl<M: Means> Play<Entry, Answer> for CountsAtDrafts<M> {
-    ghost use Rattle.head_word.specs.Rules.{CountsAtDrafts};
+    ghost use Rattle.head_word.specs.Rules.{drafts_say};
+    ghost use Rattle.head_word.specs.Inside.Steps.{tells, Counts};
 
-    ghost then = { CountsAtDrafts M.means };
+    ghost then = { tells (Counts drafts_say M.means) };
 }
 
 /// An exchange of the draft word.
@@ -93,9 +96,10 @@ pub struct AddsDraft<M: Means> {
 }
 
 impl<M: Means> Play<Entry, Answer> for AddsDraft<M> {
-    ghost use Rattle.head_word.specs.Rules.{AddsDraft};
+    ghost use Rattle.head_word.specs.Rules.{drafts_say};
+    ghost use Rattle.head_word.specs.Inside.Steps.{tells, Exchanges};
 
-    ghost then = { AddsDraft M.means };
+    ghost then = { tells (Exchanges drafts_say M.means) };
 }
 
 /// An exchange of the head word.
@@ -104,7 +108,8 @@ pub struct AddsMove<M: Means> {
 }
 
 impl<M: Means> Play<Entry, Answer> for AddsMove<M> {
-    ghost use Rattle.head_word.specs.Rules.{AddsMove};
+    ghost use Rattle.head_word.specs.Rules.{head_says};
+    ghost use Rattle.head_word.specs.Inside.Steps.{tells, Exchanges};
 
-    ghost then = { AddsMove M.means };
+    ghost then = { tells (Exchanges head_says M.means) };
 }

@@ -19,4 +19,4 @@ pub use group_history::Ref;
 pub use head::Head;
 pub use laws::{book_laws, one_record};
 pub use lost::{Lost, Moved};
-pub use mark::Mark;
+pub use mark::{Mark, Sight};

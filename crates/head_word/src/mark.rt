@@ -22,6 +22,38 @@ pub struct Seat {
     pub(crate) tally: Tally,
 }
 
+/// What a mark has seen, without a seat. It has no bytes, so a store keeps one beside each node.
+#[derive(Drop)]
+pub struct Sight<M: Means> {
+    seen: Seen<Entry, Answer, Law<M>>,
+}
+
+impl<M: Means> Model for Sight<M> {
+    ghost use Rattle.std.specs.Prelude.{None};
+    ghost use Rattle.head_word.specs.Books.{IsOpened};
+    ghost use Rattle.head_word.specs.Marks.{Known, known};
+    ghost use Rattle.head_word.specs.contracts.entry.Entry as entry;
+    ghost use Rattle.std.specs.Coded.{codes};
+
+    ghost Value = { Known };
+
+    ghost coded = { Prim.hlevel (codes, entry.the_row.coded) };
+
+    ghost view = { λ s. known s.seen.book s.seen.log None };
+
+    ghost invariant = { λ s. IsOpened M.means s.seen.log };
+}
+
+impl<M: Means> Sight<M> {
+    /// A mark that has seen this, and has no seat.
+    pub fn mark(&self) -> Mark<M>
+        ensures { result ≡ self.now }
+    {
+        let seen = self.seen.again();
+        Mark { seen, seat: None }
+    }
+}
+
 /// A beginning of the book that was seen, and a seat, where the mark has one.
 #[derive(Drop)]
 pub struct Mark<M: Means> {
@@ -31,7 +63,8 @@ pub struct Mark<M: Means> {
 
 impl<M: Means> Model for Mark<M> {
     ghost use Rattle.head_word.specs.Books.{IsOpened};
-    ghost use Rattle.head_word.specs.Marks.{Known, known, number_of, Sits};
+    ghost use Rattle.head_word.specs.Marks.{Known, known};
+    ghost use Rattle.head_word.specs.Inside.Seats.{number_of, Sits};
     ghost use Rattle.head_word.specs.contracts.entry.Entry as entry;
     ghost use Rattle.std.specs.Coded.{codes};
 
@@ -53,6 +86,14 @@ impl<M: Means> Mark<M> {
             seen: self.seen.again(),
             seat: None,
         }
+    }
+
+    /// What the mark has seen, with no seat and no bytes.
+    pub fn sight(&self) -> Sight<M>
+        ensures { result ≡ known self.now.book self.now.log None }
+    {
+        let seen = self.seen.again();
+        Sight { seen }
     }
 
     /// The number of its seat, where it has one.

@@ -6,7 +6,7 @@ ghost use Rattle.group_history.specs.declared.refs.Ref.{Ref};
 ghost use Rattle.group_history.specs.Refs.{stamp_of, max_slots, max_seats};
 ghost use Rattle.head_word.specs.Books.{IsOpened, opening, opening_ref};
 ghost use Rattle.head_word.specs.Marks.{seated};
-ghost use Rattle.head_word.specs.Tallies.{keys_of};
+ghost use Rattle.head_word.specs.Inside.Parts.{keys_of};
 
 use crate::asks::{Asks, Look};
 use crate::entry::{Answer, Entry};

@@ -6,7 +6,7 @@ ghost use Rattle.group_history.specs.declared.nodes.Child.{Child};
 ghost use Rattle.group_history.specs.declared.nodes.Node.{Node};
 ghost use Rattle.group_history.specs.Refs.{stamps};
 ghost use Rattle.head_word.specs.declared.entry.Entry.{Entry};
-ghost use Rattle.head_word.specs.Books.{last_move, next_stamp, drawn, drafted, moved, AreAfter, Follows};
+ghost use Rattle.head_word.specs.Books.{last_move, next_stamp, drawn, drafted, moved, AreAfter, Follows, IsOpened};
 ghost use Rattle.head_word.specs.Marks.{own};
 
 use crate::asks::{Asks, Look, Proposed};
@@ -92,7 +92,7 @@ impl<M: Means> Head<M> {
         ensures book { mark.new.book ≡ mark.old.book }
         ensures seat { mark.new.seat ≡ mark.old.seat }
         ensures seen { IsPrefix mark.old.log mark.new.log }
-        ensures added { MatchBool result ((log : List Entry) × IsPrefix mark.old.log log × (last_move log ≡ base) × (mark.new.log ≡ log ++ moved mark.old.seat new (Some change.now) ∷ [])) (last_move mark.new.log ≢ base) }
+        ensures added { MatchBool result ((log : List Entry) × IsPrefix mark.old.log log × IsOpened M.means log × (last_move log ≡ base) × (mark.new.log ≡ log ++ moved mark.old.seat new (Some change.now) ∷ [])) (last_move mark.new.log ≢ base) }
         ensures own { own mark.new ≡ own mark.old ++ (if result then moved mark.old.seat new (Some change.now) ∷ [] else []) }
     {
         let Some(seat) = mark.seat.take() else {

@@ -6,7 +6,8 @@
 //! functions do nothing when they run; the proofs beside them are by hand.
 ghost use Rattle.std.specs.Prelude.{◌≡◌, ℕ, suc, ◌+◌, ◌-◌, ◌<◌, List, [], ◌∷◌, Some, None, replicate};
 ghost use Rattle.logbook.specs.Kept.{pens_own};
-ghost use Rattle.head_word.specs.Tallies.{tally_name, keys_of, tally_owns, key_of, told_key, told_count};
+ghost use Rattle.head_word.specs.Tallies.{key_of};
+ghost use Rattle.head_word.specs.Inside.Parts.{tally_name, keys_of, tally_owns, told_key, told_count};
 ghost use Rattle.head_word.specs.declared.entry.Answer.{Answer};
 
 use crate::entry::{Answer, Entry};

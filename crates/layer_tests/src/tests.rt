@@ -4,5 +4,6 @@ mod groups;
 mod maps;
 mod reads;
 mod scans;
+mod slots;
 mod trees;
 mod writes;

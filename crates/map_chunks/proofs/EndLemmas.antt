@@ -1,25 +1,44 @@
 -- What chunks with one child each end in.
-use Rattle.std.proofs.Common.{◌≡◌, ℕ, false, [], ◌∷◌, ◌++◌, Some, None, slice_get, append-nil, refl, sym, ap, ◌∙◌, subst, inr}
+use Rattle.std.proofs.Common.{◌≡◌, ◌≤◌, ℕ, false, [], ◌∷◌, ◌++◌, Option, Some, None, slice_get, append-nil, refl, sym, ap, ◌∙◌, subst, inr, arith}
+use Rattle.std.specs.Prelude.{option_map}
+use mathlib.Core.List.{IsPrefix}
 use Rattle.std.specs.List.{Contains}
 use Rattle.group_history.specs.declared.nodes.Chunk.{Chunk}
 use Rattle.group_history.specs.declared.nodes.Chunk.TheVariants as chunked
 use Rattle.group_history.specs.declared.refs.Ref.{Ref}
 use Rattle.group_history.specs.Naming.{chunk_content, chunk_children}
 use Rattle.group_history.specs.Refs.{stamp_of}
+use Rattle.group_history.specs.Rows.{Rows}
 use Rattle.group_history.specs.Spelling.{Contents, Segment, segment_at, rows_at}
 use Rattle.group_history.proofs.Lists.{one_here, only_one}
-use Rattle.map_chunks.specs.Ends.{only_ref, IsOnlyChild}
-use Rattle.map_chunks.specs.Places.{AreKept, IsShownChild}
+use Rattle.map_chunks.specs.Ends.{only_ref, IsOnlyChild, IsNoDeeper}
+use Rattle.map_chunks.specs.Places.{AreKept}
+use Rattle.map_chunks.specs.Seeking.{chunk_depth}
 use Rattle.map_chunks.specs.Shown.{chunk_rows}
 use Rattle.map_chunks.specs.Wide.{is_narrow, IsWideAt}
 use Rattle.map_chunks.proofs.JoinLemmas.{split_of, some_is}
-use Rattle.map_chunks.proofs.OpenLemmas.{Opened, opened, chunk_rows-at}
+use Rattle.map_chunks.proofs.OpenLemmas.{Opened, opened, segment-kept, spells_at, chunk_rows-at}
 
 wide-content : (c : Chunk Ref) → only_ref c ≡ None → is_narrow (chunk_content c) ≡ false
 wide-content (chunked.Leaf rows) h = refl
 wide-content (chunked.Inner []) h = refl
 wide-content (chunked.Inner (e ∷ [])) h = absurd cc
 wide-content (chunked.Inner (e ∷ f ∷ es)) h = refl
+
+depth_of : (ns : Contents) (k : ℕ) (s : Segment) → segment_at ns k ≡ Some s → chunk_depth ns k ≡ Some s.depth
+depth_of ns k s h = ap (option_map (λ (t : Segment). t.depth)) h
+
+-- the segment of a chunk that is so deep
+segment_deep : (ns : Contents) (k d : ℕ) → chunk_depth ns k ≡ Some d → (s : Segment) × (segment_at ns k ≡ Some s) × (s.depth ≡ d)
+segment_deep ns k d h = by (segment_at ns k) refl h
+  where
+    by : (o : Option Segment) → segment_at ns k ≡ o → option_map (λ (t : Segment). t.depth) o ≡ Some d → (s : Segment) × (segment_at ns k ≡ Some s) × (s.depth ≡ d)
+    by None e h = absurd cc
+    by (Some s) e h = (s, e, some_is h)
+
+-- a chunk with rows at a depth is so deep
+pub depth-at : (ns : Contents) (d k : ℕ) (rs : Rows) → rows_at ns d k ≡ Some rs → chunk_depth ns k ≡ Some d
+depth-at ns d k rs h = let f = spells_at ns d k rs h in depth_of ns k f.0.segment f.0.is ∙ ap (λ n. Some n) f.1
 
 pub only_is : (ns : Contents) (k : ℕ) (s : Segment) (c : Chunk Ref) → segment_at ns k ≡ Some s → slice_get ns k ≡ Some (chunk_content c) → chunk_rows ns k ≡ Some s.rows
     → IsOnlyChild ns k (Some s.rows) (only_ref c)
@@ -33,9 +52,20 @@ only_is ns k s c h g r = by c g (opened ns k s c h g)
     by (chunked.Inner []) g o = (r, wide (chunked.Inner []) g refl)
     by (chunked.Inner (e ∷ [])) g o =
         let p = split_of (e.0, rows_at ns o.depth (stamp_of e.1)) [] s.rows o.rows in
-        let nil : p.back ≡ [] = sym (some_is p.back_is) in
-        (o.low.0, chunk_rows-at ns o.depth (stamp_of e.1) p.front p.front_is ∙ ap (λ w. Some w) (sym (p.whole ∙ ap (λ w. p.front ++ w) nil ∙ append-nil p.front)))
+        let nil : p.back ≡ [] = sym (some_is p.back_is) in (
+          o.low.0,
+          chunk_rows-at ns o.depth (stamp_of e.1) p.front p.front_is ∙ ap (λ w. Some w) (sym (p.whole ∙ ap (λ w. p.front ++ w) nil ∙ append-nil p.front)),
+          (o.depth, depth-at ns o.depth (stamp_of e.1) p.front p.front_is, depth_of ns k s h ∙ ap (λ n. Some n) o.deep),
+        )
     by (chunked.Inner (e ∷ f ∷ es)) g o = (r, wide (chunked.Inner (e ∷ f ∷ es)) g refl)
+
+-- DEPTHS
+
+pub depth-later : (old new : Contents) (k d : ℕ) → IsPrefix old new → chunk_depth old k ≡ Some d → chunk_depth new k ≡ Some d
+depth-later old new k d p h = let s = segment_deep old k d h in depth_of new k s.0 (segment-kept old new k s.0 p s.1) ∙ ap (λ n. Some n) s.2
+
+pub no_deeper : (ns : Contents) (d n : ℕ) (at : Ref) → d ≤ n → IsNoDeeper ns d at → IsNoDeeper ns n at
+no_deeper ns d n at l h = (h.0, h.1, omega (arith, h.2))
 
 -- REFERENCES
 
@@ -45,5 +75,5 @@ only_ref-child (chunked.Inner []) r h = absurd (cc h)
 only_ref-child (chunked.Inner (e ∷ [])) r h = let s : e.1 ≡ r = cc h in subst (Contains (e.1 ∷ [])) s (one_here e.1)
 only_ref-child (chunked.Inner (e ∷ f ∷ es)) r h = absurd (cc h)
 
-pub kept-one : {H : Type 0} (show : H → Chunk Ref) (ns : Contents) (r : Ref) → IsShownChild show ns r → AreKept show ns [] (r ∷ [])
-kept-one show ns r h at i = inr (subst (IsShownChild show ns) (only_one r at i) h)
+pub kept-one : (places : Ref → Type 0) (r : Ref) → places r → AreKept places [] (r ∷ [])
+kept-one places r h at i = inr (subst places (only_one r at i) h)

@@ -1,4 +1,5 @@
 pub mod AnswerLemmas
+pub mod ChildLemmas
 pub mod DepthLemmas
 pub mod EmptyLemmas
 pub mod EndLemmas

@@ -1,5 +1,6 @@
 -- Nodes placed behind others, and the references that name what is placed.
-use Rattle.std.specs.Prelude.{◌≡◌, ◌⊎◌, ◌≤◌, ℕ, List, [], ◌∷◌, ◌++◌, map, slice_get, Some}
+use Rattle.std.specs.Prelude.{◌≡◌, ◌⊎◌, ◌≤◌, ℕ, List, [], ◌∷◌, ◌++◌, map, Option, Some, None}
+use mathlib.Core.List.{IsPrefix}
 use Rattle.std.specs.List.{Contains}
 use Rattle.group_history.specs.declared.nodes.Node.{Node}
 use Rattle.group_history.specs.declared.refs.Ref.{Ref}
@@ -38,10 +39,19 @@ HaveNamed first places (n ∷ ns) = AreNamed first places (children n) × HaveNa
 abbrev pub AddsNamed : ℕ → List Ref → List (Node Ref) → List (Node Ref) → Type 0
 AddsNamed first places old new = (more : List (Node Ref)) × (old ++ more ≡ new) × HaveNamed first places more
 
--- The reference is a child of a chunk that is shown: it stands in what one held shows, its slot too.
-abbrev pub IsShownChild : {H : Type 0} → (H → Chunk Ref) → Contents → Ref → Type 0
-IsShownChild {H} show contents at = (held : H) × (k : ℕ) × (slice_get contents k ≡ Some (chunk_content (show held))) × Contains (chunk_children (show held)) at
+-- each of these references has the property
+abbrev pub AreAll : (Ref → Type 0) → List Ref → Type 0
+AreAll places ats = (at : Ref) → Contains ats at → places at
 
--- each of the new references is one of the old ones, its slot too, or a child of a chunk that is shown
-abbrev pub AreKept : {H : Type 0} → (H → Chunk Ref) → Contents → List Ref → List Ref → Type 0
-AreKept show contents old new = (at : Ref) → Contains new at → Contains old at ⊎ IsShownChild show contents at
+-- the reference has it, if there is one
+abbrev pub IfAt : (Ref → Type 0) → Option Ref → Type 0
+IfAt places None = Unit {0}
+IfAt places (Some at) = places at
+
+-- The contents grew, and with them the references at which a chunk may be looked for.
+abbrev pub Grows : {S : Type 0} → (S → Contents) → (S → Ref → Type 0) → S → S → Type 0
+Grows contents places old new = IsPrefix (contents old) (contents new) × ((at : Ref) → places old at → places new at)
+
+-- Each of the new references is one of the old ones, its slot too, or one at which a chunk may be looked for.
+abbrev pub AreKept : (Ref → Type 0) → List Ref → List Ref → Type 0
+AreKept places old new = (at : Ref) → Contains new at → Contains old at ⊎ places at

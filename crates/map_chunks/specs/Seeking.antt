@@ -32,6 +32,11 @@ IsHint (Leaf rows) key asked (On at) = ⊥
 IsHint (Inner kids) key asked (Stands s) = length kids ≡ 0
 IsHint (Inner kids) key asked (On at) = (i : ℕ) × IsPlace key (keys_of kids) i × (slice_get (values_of kids) i ≡ Some at)
 
+-- the child to which the key belongs has the property
+abbrev pub IsHintAt : (Ref → Type 0) → Hint → Type 0
+IsHintAt places (Stands s) = Unit {0}
+IsHintAt places (On at) = places at
+
 -- from the chunk of a stamp, so deep, with these rows: it is a leaf, and this is how the key's value stands, or that of a chunk one level below, which was placed before it
 abbrev pub Hints : Contents → Bytes → Option Bytes → ℕ → Option ℕ → Rows → Hint → Type 0
 Hints contents key asked stamp depth rows (Stands s) = (depth ≡ Some 1) × (s ≡ stands_in rows key asked)

@@ -22,6 +22,11 @@ IsStep (Leaf rows) key (Below at) = ⊥
 IsStep (Inner kids) key (Found v) = length kids ≡ 0
 IsStep (Inner kids) key (Below at) = (i : ℕ) × IsPlace key (keys_of kids) i × (slice_get (values_of kids) i ≡ Some at)
 
+-- the child to which the key belongs has the property
+abbrev pub IsStepAt : (Ref → Type 0) → Step → Type 0
+IsStepAt places (Found v) = Unit {0}
+IsStepAt places (Below at) = places at
+
 -- from the chunk of a stamp, with these rows: the key's value is found, or is that of a chunk placed before it
 abbrev pub Leads : Contents → Bytes → ℕ → Rows → Step → Type 0
 Leads contents key stamp rows (Found v) = v ≡ finite.find (slice_cmp nat_cmp) key rows

@@ -1,12 +1,12 @@
 //! What shows the chunks that were placed.
 ghost use Rattle.std.specs.Prelude.{◌≡◌, Some, IfOk, IfErr, IsSome, slice_get};
-ghost use mathlib.Core.List.{IsPrefix};
 ghost use Rattle.group_history.specs.Refs.{stamp_of};
-ghost use Rattle.group_history.specs.Naming.{chunk_content};
+ghost use Rattle.group_history.specs.Naming.{chunk_content, chunk_children};
 ghost use Rattle.group_history.specs.Spelling.{Contents, segment_at};
 ghost use Rattle.group_history.specs.declared.nodes.Chunk.{Chunk as Chunked};
 ghost use Rattle.group_history.specs.declared.refs.Ref.{Ref as Reference};
 ghost use Rattle.group_history.specs.declared.mutators.Stop.{Stop as Stopped};
+ghost use Rattle.map_chunks.specs.Places.{Grows, AreAll};
 
 use group_history::{Chunk, Ref, Stop};
 
@@ -25,16 +25,24 @@ pub trait Chunks {
     /// What is known to be placed, by stamp. It only grows.
     ghost contents: { Self → Contents };
 
+    /// At which references a chunk may be looked for, their slots too. What was one stays one.
+    ghost places: { Self → Reference → Type 0 };
+
+    /// That this is a proposition, so that a type can keep it.
+    ghost places_prop: { (s : Self) (at : Reference) → IsProp (places s at) };
+
     /// For which reasons a chunk may not be shown.
     ghost stops: { Stopped → Type 0 };
 
     /// Shows the chunk of the reference's stamp, which is left again by `leave`.
     fn show(&mut self, at: Ref) -> Result<Self::Held, Stop>
-        requires { IsSome (segment_at (contents self.old) (stamp_of at)) }
-        ensures grown { IsPrefix (contents self.old) (contents self.new) }
+        requires known { IsSome (segment_at (contents self.old) (stamp_of at)) }
+        requires place { places self.old at }
+        ensures grown { Grows contents places self.old self.new }
         ensures content { IfOk result (λ held. slice_get (contents self.new) (stamp_of at) ≡ Some (chunk_content (Self.Held.shown held))) }
+        ensures children { IfOk result (λ held. AreAll (places self.new) (chunk_children (Self.Held.shown held))) }
         ensures stopped { IfErr result stops };
 
     fn leave(&mut self, held: Self::Held)
-        ensures { contents self.new ≡ contents self.old };
+        ensures { self.new ≡ self.old };
 }

@@ -1,15 +1,15 @@
 //! Queries of placed chunks. Each chunk is shown for one look, and left again.
 ghost use Rattle.std.specs.Prelude.{◌≡◌, ◌==◌, ◌<◌, ◌≤◌, ◌+◌, ◌⊎◌, length, Some, IfOk, IfErr, IsSome};
-ghost use mathlib.Core.List.{IsPrefix};
 ghost use Rattle.std.specs.Ordering.{nat_cmp};
 ghost use Rattle.std.specs.Cmp.Lexicographic.{slice_cmp};
 ghost use Rattle.std.specs.FinMap as finite;
 ghost use Rattle.group_history.specs.Refs.{stamp_of};
 ghost use Rattle.group_history.specs.declared.mutators.Stop.TheVariants.{NoMemory};
+ghost use Rattle.map_chunks.specs.Places.{Grows, IfAt};
 ghost use Rattle.map_chunks.specs.Shown.{chunk_rows, IsTree, rows_or};
 ghost use Rattle.group_history.specs.Spelling.{Segment, segment_at};
 ghost use Rattle.map_chunks.specs.Depths.{IsFirst, IsAbove, has_none};
-ghost use Rattle.map_chunks.specs.Steps.{IsStep, Leads};
+ghost use Rattle.map_chunks.specs.Steps.{IsStep, IsStepAt, Leads};
 
 use crate::chunks::{Chunks, ShowsChunk};
 use crate::looks::Step;
@@ -38,8 +38,10 @@ fn step_of(chunk: &Chunk<Ref>, key: &str) -> Result<Step, AllocError>
 }
 
 fn look<C: Chunks>(chunks: &mut C, at: Ref, key: &str) -> Result<Step, Stop>
-    requires { IsTree (chunk_rows (C.contents chunks.old) (stamp_of at)) }
-    ensures grown { IsPrefix (C.contents chunks.old) (C.contents chunks.new) }
+    requires known { IsTree (chunk_rows (C.contents chunks.old) (stamp_of at)) }
+    requires place { C.places chunks.old at }
+    ensures grown { Grows C.contents C.places chunks.old chunks.new }
+    ensures place { IfOk result (IsStepAt (C.places chunks.new)) }
     ensures step { IfOk result (Leads (C.contents chunks.new) key.now (stamp_of at) (rows_or (chunk_rows (C.contents chunks.old) (stamp_of at)))) }
     ensures stopped { IfErr result (λ s. (s ≡ NoMemory) ⊎ C.stops s) }
 {
@@ -51,8 +53,9 @@ fn look<C: Chunks>(chunks: &mut C, at: Ref, key: &str) -> Result<Step, Stop>
 
 /// The value at a key of the chunk's rows, if it is there. Stops for want of memory, or as the store does.
 pub fn get_placed<C: Chunks>(chunks: &mut C, at: Ref, key: &str) -> Result<Option<Json>, Stop>
-    requires { IsTree (chunk_rows (C.contents chunks.old) (stamp_of at)) }
-    ensures grown { IsPrefix (C.contents chunks.old) (C.contents chunks.new) }
+    requires known { IsTree (chunk_rows (C.contents chunks.old) (stamp_of at)) }
+    requires place { C.places chunks.old at }
+    ensures grown { Grows C.contents C.places chunks.old chunks.new }
     ensures value { IfOk result (λ v. v ≡ finite.find (slice_cmp nat_cmp) key.now (rows_or (chunk_rows (C.contents chunks.old) (stamp_of at)))) }
     ensures stopped { IfErr result (λ s. (s ≡ NoMemory) ⊎ C.stops s) }
 {
@@ -72,8 +75,10 @@ fn first_of(chunk: &Chunk<Ref>) -> Option<Ref>
 }
 
 fn first_child<C: Chunks>(chunks: &mut C, at: Ref) -> Result<Option<Ref>, Stop>
-    requires { IsSome (segment_at (C.contents chunks.old) (stamp_of at)) }
-    ensures grown { IsPrefix (C.contents chunks.old) (C.contents chunks.new) }
+    requires known { IsSome (segment_at (C.contents chunks.old) (stamp_of at)) }
+    requires place { C.places chunks.old at }
+    ensures grown { Grows C.contents C.places chunks.old chunks.new }
+    ensures place { IfOk result (IfAt (C.places chunks.new)) }
     ensures child { (s : Segment) → segment_at (C.contents chunks.old) (stamp_of at) ≡ Some s → IfOk result (IsAbove (C.contents chunks.new) (stamp_of at) s) }
     ensures stopped { IfErr result C.stops }
 {
@@ -85,8 +90,9 @@ fn first_child<C: Chunks>(chunks: &mut C, at: Ref) -> Result<Option<Ref>, Stop>
 
 /// How deep a placed chunk is: 1 where it is a leaf. Stops as the store does alone.
 pub fn depth_placed<C: Chunks>(chunks: &mut C, at: Ref) -> Result<u64, Stop>
-    requires { IsSome (segment_at (C.contents chunks.old) (stamp_of at)) }
-    ensures grown { IsPrefix (C.contents chunks.old) (C.contents chunks.new) }
+    requires known { IsSome (segment_at (C.contents chunks.old) (stamp_of at)) }
+    requires place { C.places chunks.old at }
+    ensures grown { Grows C.contents C.places chunks.old chunks.new }
     ensures depth { (s : Segment) → segment_at (C.contents chunks.old) (stamp_of at) ≡ Some s → IfOk result (λ d. d ≡ s.depth) }
     ensures bound { IfOk result (λ d. d ≤ stamp_of at + 1) }
     ensures stopped { IfErr result C.stops }
@@ -111,8 +117,9 @@ fn is_empty(chunk: &Chunk<Ref>) -> bool
 
 /// Whether a placed chunk has no rows: then it is a leaf. Stops as the store does alone.
 pub fn is_empty_placed<C: Chunks>(chunks: &mut C, at: Ref) -> Result<bool, Stop>
-    requires { IsSome (chunk_rows (C.contents chunks.old) (stamp_of at)) }
-    ensures grown { IsPrefix (C.contents chunks.old) (C.contents chunks.new) }
+    requires known { IsSome (chunk_rows (C.contents chunks.old) (stamp_of at)) }
+    requires place { C.places chunks.old at }
+    ensures grown { Grows C.contents C.places chunks.old chunks.new }
     ensures value { IfOk result (λ b. b ≡ (length (rows_or (chunk_rows (C.contents chunks.old) (stamp_of at))) == 0)) }
     ensures stopped { IfErr result C.stops }
 {

@@ -4,10 +4,11 @@
 //! its limit, or at a key behind which none begins with the prefix. A chunk is shown while the chunks
 //! below it are scanned, so at most as many are shown at a time as the map is deep.
 ghost use Rattle.std.specs.Prelude.{◌≡◌, ◌⊎◌, length, T, ◌∷◌, [], ◌++◌, IfErr, OnOk};
-ghost use mathlib.Core.List.{IsPrefix};
+ghost use Rattle.group_history.specs.Naming.{chunk_children};
 ghost use Rattle.group_history.specs.Refs.{stamp_of};
 ghost use Rattle.group_history.specs.Rows.{rises, paired};
 ghost use Rattle.group_history.specs.declared.mutators.Stop.TheVariants.{NoMemory};
+ghost use Rattle.map_chunks.specs.Places.{Grows, AreAll};
 ghost use Rattle.map_chunks.specs.Shown.{chunk_rows, IsTree, rows_or};
 ghost use Rattle.map_chunks.specs.Scanning as scans;
 ghost use Rattle.map_chunks.specs.Scanning.{with_scanned, scanned, IsWithin, IsLow, children_rows, opened_rows};
@@ -112,10 +113,11 @@ pub fn scan_placed<C: Chunks>(
     low: &str,
     out: &mut Vec<(Text, Json)>,
 ) -> Result<(), Stop>
+    requires place { C.places chunks.old at }
     requires tree { IsTree (chunk_rows (C.contents chunks.old) (stamp_of at)) }
     requires low { IsLow scan.now low.now }
     requires within { IsWithin scan.now out.old.items }
-    ensures grown { IsPrefix (C.contents chunks.old) (C.contents chunks.new) }
+    ensures grown { Grows C.contents C.places chunks.old chunks.new }
     ensures rows { OnOk result (out.new.items ≡ with_scanned scan.now out.old.items (rows_or (chunk_rows (C.contents chunks.old) (stamp_of at)))) }
     ensures stopped { IfErr result (λ s. (s ≡ NoMemory) ⊎ C.stops s) }
 {
@@ -133,10 +135,11 @@ fn scan_chunk<C: Chunks>(
     low: &str,
     out: &mut Vec<(Text, Json)>,
 ) -> Result<(), Stop>
+    requires places { AreAll (C.places chunks.old) (chunk_children chunk.now) }
     requires tree { IsTree (opened_rows (C.contents chunks.old) chunk.now) }
     requires low { IsLow scan.now low.now }
     requires within { IsWithin scan.now out.old.items }
-    ensures grown { IsPrefix (C.contents chunks.old) (C.contents chunks.new) }
+    ensures grown { Grows C.contents C.places chunks.old chunks.new }
     ensures rows { OnOk result (out.new.items ≡ with_scanned scan.now out.old.items (rows_or (opened_rows (C.contents chunks.old) chunk.now))) }
     ensures stopped { IfErr result (λ s. (s ≡ NoMemory) ⊎ C.stops s) }
 {
@@ -161,12 +164,13 @@ fn scan_children<C: Chunks>(
     low: &str,
     out: &mut Vec<(Text, Json)>,
 ) -> Result<(), Stop>
+    requires places { AreAll (C.places chunks.old) children.now }
     requires order { T (rises firsts.now) }
     requires children { length children.now ≡ length firsts.now }
     requires tree { IsTree (children_rows (C.contents chunks.old) (paired firsts.now children.now)) }
     requires low { IsLow scan.now low.now }
     requires within { IsWithin scan.now out.old.items }
-    ensures grown { IsPrefix (C.contents chunks.old) (C.contents chunks.new) }
+    ensures grown { Grows C.contents C.places chunks.old chunks.new }
     ensures rows { OnOk result (out.new.items ≡ with_scanned scan.now out.old.items (rows_or (children_rows (C.contents chunks.old) (paired firsts.now children.now)))) }
     ensures stopped { IfErr result (λ s. (s ≡ NoMemory) ⊎ C.stops s) }
 {

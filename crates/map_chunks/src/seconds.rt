@@ -1,9 +1,9 @@
 //! The second key of a placed chunk's rows. A chunk with one row has none.
 ghost use Rattle.std.specs.Prelude.{◌≡◌, ◌⊎◌, IfOk, IfErr, IsSome};
-ghost use mathlib.Core.List.{IsPrefix};
 ghost use Rattle.group_history.specs.Refs.{stamp_of};
 ghost use Rattle.group_history.specs.declared.mutators.Stop.TheVariants.{NoMemory};
-ghost use Rattle.map_chunks.specs.SecondKeys.{second_key, IsSecondStep, LeadsToSecond};
+ghost use Rattle.map_chunks.specs.Places.{Grows};
+ghost use Rattle.map_chunks.specs.SecondKeys.{second_key, IsSecondStep, IsSecondAt, LeadsToSecond};
 ghost use Rattle.map_chunks.specs.Shown.{chunk_rows, rows_or};
 
 use crate::chunks::{Chunks, ShowsChunk};
@@ -33,8 +33,10 @@ fn step_of(chunk: &Chunk<Ref>) -> Result<Second, AllocError>
 }
 
 fn look<C: Chunks>(chunks: &mut C, at: Ref) -> Result<Second, Stop>
-    requires { IsSome (chunk_rows (C.contents chunks.old) (stamp_of at)) }
-    ensures grown { IsPrefix (C.contents chunks.old) (C.contents chunks.new) }
+    requires known { IsSome (chunk_rows (C.contents chunks.old) (stamp_of at)) }
+    requires place { C.places chunks.old at }
+    ensures grown { Grows C.contents C.places chunks.old chunks.new }
+    ensures place { IfOk result (IsSecondAt (C.places chunks.new)) }
     ensures step { IfOk result (LeadsToSecond (C.contents chunks.new) (stamp_of at) (rows_or (chunk_rows (C.contents chunks.old) (stamp_of at)))) }
     ensures stopped { IfErr result (λ s. (s ≡ NoMemory) ⊎ C.stops s) }
 {
@@ -46,8 +48,9 @@ fn look<C: Chunks>(chunks: &mut C, at: Ref) -> Result<Second, Stop>
 
 /// The second key of the chunk's rows, if there are two. Stops for want of memory, or as the store does.
 pub fn second_placed<C: Chunks>(chunks: &mut C, at: Ref) -> Result<Option<Text>, Stop>
-    requires { IsSome (chunk_rows (C.contents chunks.old) (stamp_of at)) }
-    ensures grown { IsPrefix (C.contents chunks.old) (C.contents chunks.new) }
+    requires known { IsSome (chunk_rows (C.contents chunks.old) (stamp_of at)) }
+    requires place { C.places chunks.old at }
+    ensures grown { Grows C.contents C.places chunks.old chunks.new }
     ensures key { IfOk result (λ key. key ≡ second_key (rows_or (chunk_rows (C.contents chunks.old) (stamp_of at)))) }
     ensures stopped { IfErr result (λ s. (s ≡ NoMemory) ⊎ C.stops s) }
 {

@@ -1,8 +1,8 @@
 //! How a key's value stands to another one, and how deep the tree is, by one way down.
 ghost use Rattle.std.specs.Prelude.{◌≡◌, ◌≤◌, ◌+◌, Some, IfOk, IfErr, option_copied};
-ghost use mathlib.Core.List.{IsPrefix};
 ghost use Rattle.group_history.specs.Refs.{stamp_of};
-ghost use Rattle.map_chunks.specs.Seeking.{chunk_depth, stands_in, IsHint, Hints};
+ghost use Rattle.map_chunks.specs.Places.{Grows};
+ghost use Rattle.map_chunks.specs.Seeking.{chunk_depth, stands_in, IsHint, IsHintAt, Hints};
 ghost use Rattle.map_chunks.specs.Shown.{chunk_rows, IsTree, rows_or};
 
 use crate::chunks::{Chunks, ShowsChunk};
@@ -31,8 +31,10 @@ fn hint_of(chunk: &Chunk<Ref>, key: &str, asked: Option<&Json>) -> Hint
 }
 
 fn hint<C: Chunks>(chunks: &mut C, at: Ref, key: &str, asked: Option<&Json>) -> Result<Hint, Stop>
-    requires { IsTree (chunk_rows (C.contents chunks.old) (stamp_of at)) }
-    ensures grown { IsPrefix (C.contents chunks.old) (C.contents chunks.new) }
+    requires known { IsTree (chunk_rows (C.contents chunks.old) (stamp_of at)) }
+    requires place { C.places chunks.old at }
+    ensures grown { Grows C.contents C.places chunks.old chunks.new }
+    ensures place { IfOk result (IsHintAt (C.places chunks.new)) }
     ensures hint { IfOk result (Hints (C.contents chunks.new) key.now (option_copied asked.entry) (stamp_of at) (chunk_depth (C.contents chunks.old) (stamp_of at)) (rows_or (chunk_rows (C.contents chunks.old) (stamp_of at)))) }
     ensures stopped { IfErr result C.stops }
 {
@@ -50,8 +52,9 @@ pub fn seek_placed<C: Chunks>(
     key: &str,
     asked: Option<&Json>,
 ) -> Result<Sought, Stop>
-    requires { IsTree (chunk_rows (C.contents chunks.old) (stamp_of at)) }
-    ensures grown { IsPrefix (C.contents chunks.old) (C.contents chunks.new) }
+    requires known { IsTree (chunk_rows (C.contents chunks.old) (stamp_of at)) }
+    requires place { C.places chunks.old at }
+    ensures grown { Grows C.contents C.places chunks.old chunks.new }
     ensures standing { IfOk result (λ s. s.standing ≡ stands_in (rows_or (chunk_rows (C.contents chunks.old) (stamp_of at))) key.now (option_copied asked.entry)) }
     ensures depth { IfOk result (λ s. chunk_depth (C.contents chunks.old) (stamp_of at) ≡ Some s.depth) }
     ensures bound { IfOk result (λ s. s.depth ≤ stamp_of at + 1) }

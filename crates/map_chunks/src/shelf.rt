@@ -2,6 +2,7 @@
 //!
 //! A node's place in the vector is its stamp, and the slot that a reference names is not looked at.
 ghost use Rattle.std.specs.Prelude.{◌≡◌, ◌++◌, [], ◌∷◌, map, length, slice_get, OnOk, OnErr};
+ghost use Rattle.std.specs.Coded.{Unit-prop};
 ghost use Rattle.std.specs.Option.{option_copied};
 ghost use Rattle.group_history.specs.Naming.{content_of};
 
@@ -104,6 +105,10 @@ impl<'a> Chunks for Shelf<'a> {
     type Held = Lent<'a>;
 
     ghost contents = { λ shelf. map content_of shelf.nodes.now };
+
+    ghost places = { λ shelf at. Unit {0} };
+
+    ghost places_prop = { λ _ at. Unit-prop };
 
     ghost stops = { λ stop. ⊥ };
 

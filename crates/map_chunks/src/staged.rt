@@ -1,5 +1,6 @@
 //! The nodes of a vector and those of a draft that will stand behind them, shown as one.
 ghost use Rattle.std.specs.Prelude.{◌≡◌, ◌++◌, map, length, slice_get};
+ghost use Rattle.std.specs.Coded.{Unit-prop};
 ghost use Rattle.std.specs.Option.{option_copied};
 ghost use Rattle.group_history.specs.Naming.{content_of};
 
@@ -42,6 +43,10 @@ impl<'a> Chunks for Staged<'a> {
     type Held = Lent<'a>;
 
     ghost contents = { λ staged. map content_of (staged.nodes.now ++ staged.draft.now.nodes) };
+
+    ghost places = { λ staged at. Unit {0} };
+
+    ghost places_prop = { λ _ at. Unit-prop };
 
     ghost stops = { λ stop. ⊥ };
 

@@ -1,5 +1,5 @@
 -- What a draft's chunks with one child each end in.
-use Rattle.std.proofs.Common.{◌≡◌, ◌<◌, ◌≤◌, ◌+◌, ◌-◌, ℕ, zero, suc, List, [], ◌∷◌, ◌++◌, Some, None, length, get_or, remove, append-nil, refl, sym, ap, ◌∙◌, subst, arith, inl, inr}
+use Rattle.std.proofs.Common.{◌≡◌, ◌<◌, ◌≤◌, ◌+◌, ◌-◌, ℕ, zero, suc, List, [], ◌∷◌, ◌++◌, Option, Some, None, length, get_or, remove, append-nil, refl, sym, ap, ◌∙◌, subst, arith, inl, inr}
 use Rattle.std.specs.Prelude.{IsSome}
 use Rattle.std.specs.List.{Contains}
 use Rattle.std.proofs.lemmas.List.Elements.{Contains-append_cases, Contains-append_left, Contains-append_right}
@@ -7,20 +7,27 @@ use Rattle.group_history.specs.declared.nodes.Chunk.{Chunk}
 use Rattle.group_history.specs.declared.refs.Ref.{Ref}
 use Rattle.group_history.specs.Map.{Bytes}
 use Rattle.group_history.specs.Rows.{Rows, paired}
-use Rattle.group_history.specs.Spelling.{Contents}
+use Rattle.group_history.specs.Refs.{stamp_of}
+use Rattle.group_history.specs.Spelling.{Contents, joined_rows}
 use Rattle.group_history.proofs.Lists.{one_here, only_one}
-use Rattle.map_nodes.specs.Ends.{part_ref, IsTaken, end_of_pieces, end_of}
+use Rattle.map_nodes.specs.Ends.{part_ref, IsTaken, end_of_pieces, end_of, IsPartBelow, IsEndBelow, IsKidBelow, IfNoDeeper}
+use Rattle.map_chunks.specs.Ends.{IsNoDeeper}
+use Rattle.map_nodes.specs.Halves.{HasDepth}
 use Rattle.map_chunks.specs.Places.{AreKept, part_places, places_of}
 use Rattle.map_nodes.specs.Freezing.{child_places, kids_places}
-use Rattle.map_nodes.specs.Removing.{one_shown}
-use Rattle.map_nodes.specs.Nodes.{Kid, child_pieces, kids_pieces, row_pieces, HeadIs, IsChild, AllKids, kids_fresh}
-use Rattle.map_chunks.specs.Shown.{Part, value, chunk, Piece, Seen, shown}
+use Rattle.map_nodes.specs.Removing.{one_shown, IsFirstAt}
+use Rattle.map_nodes.specs.Nodes.{Kid, child_pieces, kids_pieces, row_pieces, HeadIs, IsChild, AllKids, kids_fresh, child_rows}
+use Rattle.map_chunks.specs.Shown.{Part, value, chunk, Piece, Seen, part_rows, shown}
 use Rattle.map_chunks.specs.Wide.{IsWideChunk}
 use Rattle.map_nodes.specs.declared.nodes.Child.{Child}
 use Rattle.map_nodes.specs.declared.nodes.Child.TheVariants.{Placed, Own}
 use mathlib.Core.List.{IsPrefix}
 use Rattle.map_nodes.proofs.ChangeLemmas.{shown-kept}
 use Rattle.map_chunks.proofs.Shelves.{some_of}
+use Rattle.map_chunks.proofs.EndLemmas.{depth-at, no_deeper}
+use Rattle.map_chunks.proofs.JoinLemmas.{split_of, some_is}
+use Rattle.map_chunks.proofs.OpenLemmas.{shows_of}
+use Rattle.map_nodes.proofs.NodeLemmas.{kid_rows, shown-kids}
 
 -- OWN CHUNKS
 
@@ -50,17 +57,21 @@ both-pieces (p ∷ []) [] rs a b = absurd (omega arith)
 both-pieces (p ∷ []) (q ∷ qs) rs a b = omega arith
 both-pieces (p ∷ q ∷ ps) qs rs a b = omega arith
 
--- two children or more have none
+-- two children or more have two pieces or more
+many-pieces : (below : ℕ) (keys : List Bytes) (kids : List Child) → length kids ≡ length keys → 0 < length keys → (length kids ≡ 1 → ⊥) → AllKids below (paired keys kids)
+    → 1 < length (kids_pieces below (paired keys kids))
+many-pieces below [] kids l z o h = absurd (omega arith)
+many-pieces below (k ∷ ks) [] l z o h = absurd (omega arith)
+many-pieces below (k ∷ []) (x ∷ []) l z o h = absurd (o refl)
+many-pieces below (k ∷ []) (x ∷ y ∷ xs) l z o h = absurd (omega arith)
+many-pieces below (k ∷ j ∷ ks) (x ∷ []) l z o h = absurd (omega arith)
+many-pieces below (k ∷ j ∷ ks) (x ∷ y ∷ xs) l z o h =
+    both-pieces (child_pieces below k x) (child_pieces below j y) (kids_pieces below (paired ks xs)) (piece_of below k x h.0) (piece_of below j y h.1.0)
+
+-- they have no end
 pub end-many : (below : ℕ) (keys : List Bytes) (kids : List Child) → length kids ≡ length keys → 0 < length keys → (length kids ≡ 1 → ⊥) → AllKids below (paired keys kids)
     → None ≡ end_of_pieces (kids_pieces below (paired keys kids))
-end-many below [] kids l z o h = absurd (omega arith)
-end-many below (k ∷ ks) [] l z o h = absurd (omega arith)
-end-many below (k ∷ []) (x ∷ []) l z o h = absurd (o refl)
-end-many below (k ∷ []) (x ∷ y ∷ xs) l z o h = absurd (omega arith)
-end-many below (k ∷ j ∷ ks) (x ∷ []) l z o h = absurd (omega arith)
-end-many below (k ∷ j ∷ ks) (x ∷ y ∷ xs) l z o h =
-    two_pieces (kids_pieces below ((k, x) ∷ (j, y) ∷ paired ks xs))
-    (both-pieces (child_pieces below k x) (child_pieces below j y) (kids_pieces below (paired ks xs)) (piece_of below k x h.0) (piece_of below j y h.1.0))
+end-many below keys kids l z o h = two_pieces (kids_pieces below (paired keys kids)) (many-pieces below keys kids l z o h)
 
 -- the end of one child
 pub end-one : (below : ℕ) (keys : List Bytes) (kids : List Child) (kid : Child) → length kids ≡ length keys → length kids ≡ 1 → kid ≡ get_or kids 0 kid
@@ -117,8 +128,8 @@ heir_taken p q left kid n pre e s t = by kid e t
           omega (arith, t.2, ap kids_fresh e),
         )
 
-pub kept-start : {H : Type 0} (show : H → Chunk Ref) (ns : Contents) (old more new : List Ref) → ((at : Ref) → Contains old at → Contains more at) → AreKept show ns old new → AreKept show ns more new
-kept-start show ns old more new w h at i = elim (h at i) [ inl p ↦ inl (w at p) | inr q ↦ inr q ]
+pub kept-start : (may : Ref → Type 0) (old more new : List Ref) → ((at : Ref) → Contains old at → Contains more at) → AreKept may old new → AreKept may more new
+kept-start may old more new w h at i = elim (h at i) [ inl p ↦ inl (w at p) | inr q ↦ inr q ]
 
 pieces-end : (ps : List Piece) (at : Ref) → end_of_pieces ps ≡ Some at → Contains (places_of ps) at
 pieces-end [] at h = absurd (cc h)
@@ -146,3 +157,105 @@ kids-removed (k ∷ kids) (suc i) at h = elim (Contains-append_cases (child_plac
   | inl p ↦ Contains-append_left (child_places k) (kids_places kids) at p
   | inr q ↦ Contains-append_right (child_places k) (kids_places kids) at (kids-removed kids i at q)
 ]
+
+-- DEPTHS
+
+pub rows-below : (depth : ℕ) (rows : Rows) → IsEndBelow depth (row_pieces rows)
+rows-below depth [] = tt
+rows-below depth (r ∷ []) = tt
+rows-below depth (r ∷ s ∷ rows) = tt
+
+pub many-below : (depth below : ℕ) (keys : List Bytes) (kids : List Child) → length kids ≡ length keys → 0 < length keys → (length kids ≡ 1 → ⊥) → AllKids below (paired keys kids)
+    → IsEndBelow depth (kids_pieces below (paired keys kids))
+many-below depth below keys kids l z o h = by (kids_pieces below (paired keys kids)) (many-pieces below keys kids l z o h)
+  where
+    by : (ps : List Piece) → 1 < length ps → IsEndBelow depth ps
+    by [] l = absurd (omega arith)
+    by (p ∷ []) l = absurd (omega arith)
+    by (p ∷ q ∷ ps) l = tt
+
+-- what is less deep than the one child is less deep than the chunk
+pub one-below : (depth : ℕ) (keys : List Bytes) (kids : List Child) (kid : Child) → length kids ≡ length keys → length kids ≡ 1 → kid ≡ get_or kids 0 kid → 0 < depth
+    → AllKids (depth - 1) (paired keys kids) → IsKidBelow kid → IsEndBelow depth (kids_pieces (depth - 1) (paired keys kids))
+one-below depth [] kids kid l o g z h b = absurd (omega arith)
+one-below depth (k ∷ ks) [] kid l o g z h b = absurd (omega arith)
+one-below depth (k ∷ ks) (x ∷ y ∷ xs) kid l o g z h b = absurd (omega arith)
+one-below depth (k ∷ j ∷ ks) (x ∷ []) kid l o g z h b = absurd (omega arith)
+one-below depth (k ∷ []) (x ∷ []) kid l o g z h b = by x h.0 (subst IsKidBelow g b)
+  where
+    less : (d : ℕ) (ps : List Piece) → d ≤ depth → IsEndBelow d ps → IsEndBelow depth (ps ++ [])
+    less d [] n i = tt
+    less d (p ∷ []) n i = part p.1 i
+      where
+        part : (q : Part) → IsPartBelow d q → IsPartBelow depth q
+        part (value v) i = tt
+        part (chunk e at) i = omega arith
+    less d (p ∷ q ∷ ps) n i = tt
+
+    by : (c : Child) → IsChild (depth - 1) k c → IsKidBelow c → IsEndBelow depth (child_pieces (depth - 1) k c ++ [])
+    by (Placed at) h b = omega arith
+    by (Own n) h b = less n.value.depth n.value.pieces (omega (arith, h.0)) b
+
+-- what was taken from the one child of a chunk is less deep than the chunk
+pub taken-below : (below : ℕ) (keys : List Bytes) (kids : List Child) (kid : Child) (n : Seen) → length kids ≡ length keys → length kids ≡ 1 → kid ≡ get_or kids 0 kid
+    → AllKids below (paired keys kids) → IsTaken kid n → n.depth ≤ below
+taken-below below [] kids kid n l o g h t = absurd (omega arith)
+taken-below below (k ∷ ks) [] kid n l o g h t = absurd (omega arith)
+taken-below below (k ∷ ks) (x ∷ y ∷ xs) kid n l o g h t = absurd (omega arith)
+taken-below below (k ∷ j ∷ ks) (x ∷ []) kid n l o g h t = absurd (omega arith)
+taken-below below (k ∷ []) (x ∷ []) kid n l o g h t = by x h.0 (subst (λ c. IsTaken c n) g t)
+  where
+    by : (c : Child) → IsChild below k c → IsTaken c n → n.depth ≤ below
+    by (Placed at) h t = absurd t
+    by (Own m) h t = omega (arith, h.0, t.3)
+
+-- the placed chunk that a child ends in is no deeper than the child
+pub kid-deep : (p : Contents) (below : ℕ) (kid : Child) (at : Ref) → end_of kid ≡ Some at → IsKidBelow kid → HasDepth below kid → IsSome (child_rows p below kid) → IsNoDeeper p below at
+kid-deep p below (Placed r) at e b h s =
+    let v = some_of (child_rows p below (Placed r)) s in
+    subst (IsNoDeeper p below) (some_is e) (below, depth-at p below (stamp_of r) v.0 v.1, omega arith)
+kid-deep p below (Own n) at e b h s = let v = some_of (shown p n.value.pieces) s in by n.value.pieces e b v.0 v.1
+  where
+    by : (ps : List Piece) → end_of_pieces ps ≡ Some at → IsEndBelow n.value.depth ps → (rs : Rows) → shown p ps ≡ Some rs → IsNoDeeper p below at
+    by [] e b rs v = absurd (cc e)
+    by (q ∷ []) e b rs v = part q.1 e b (let f = split_of (q.0, part_rows p q.0 q.1) [] rs v in (f.front, f.front_is))
+      where
+        part : (x : Part) → part_ref x ≡ Some at → IsPartBelow n.value.depth x → (f : Rows) × (part_rows p q.0 x ≡ Some f) → IsNoDeeper p below at
+        part (value w) e b f = absurd (cc e)
+        part (chunk d r) e b f = subst (IsNoDeeper p below) (some_is e) (d, depth-at p d (stamp_of r) f.0 f.1, omega (arith, h))
+    by (q ∷ r ∷ ps) e b rs v = absurd (cc e)
+
+-- what stands in a root's place is no deeper than the root
+pub low_placed : (p q : Contents) (below : ℕ) (left : List Child) (kid : Child) (end : Option Ref) (at : Ref) → left ≡ kid ∷ [] → IsFirstAt p below left
+    → (HasDepth below kid → IsSome (child_rows p below kid) → IfNoDeeper q below end) → end ≡ Some at → IsNoDeeper q (below + 1) at
+low_placed p q below left kid end at l i f e =
+    let k = subst (IsFirstAt p below) l i in
+    no_deeper q below (below + 1) at (omega arith) (subst (IfNoDeeper q below) e (f k.0 k.1))
+
+pub low_taken : (p : Contents) (below : ℕ) (left : List Child) (kid : Child) (n : Seen) → left ≡ kid ∷ [] → IsFirstAt p below left → IsTaken kid n → n.depth ≤ below + 1
+low_taken p below left kid n l i t = by kid (subst (IsFirstAt p below) l i) t
+  where
+    by : (c : Child) → IsFirstAt p below (c ∷ []) → IsTaken c n → n.depth ≤ below + 1
+    by (Placed at) i t = absurd t
+    by (Own m) i t = omega (arith, i.0, t.3)
+
+-- each of the children is so deep, and shows rows
+pub first_at : (p : Contents) (below : ℕ) (keys : List Bytes) (kids : List Child) (i : ℕ) (rows : Rows) → length kids ≡ length keys → AllKids below (paired keys kids)
+    → shown p (kids_pieces below (paired keys kids)) ≡ Some rows → IsFirstAt p below (remove kids i)
+first_at p below keys kids i rows l h s = to keys kids i l h (sym (shown-kids p below (paired keys kids) h) ∙ s)
+  where
+    one : (k : Bytes) (c : Child) → IsChild below k c → (rs : Rows) → child_rows p below c ≡ Some rs → HasDepth below c × IsSome (child_rows p below c)
+    one k (Placed at) h rs e = (tt, subst IsSome (sym e) refl)
+    one k (Own n) h rs e = (h.0, subst IsSome (sym e) refl)
+
+    head : (ks : List Bytes) (xs : List Child) (rs : Rows) → length xs ≡ length ks → AllKids below (paired ks xs) → joined_rows (shows_of (kid_rows p below) (paired ks xs)) ≡ Some rs → IsFirstAt p below xs
+    head ks [] rs l h j = tt
+    head [] (x ∷ xs) rs l h j = absurd (omega arith)
+    head (k ∷ ks) (x ∷ xs) rs l h j = let f = split_of (k, child_rows p below x) (shows_of (kid_rows p below) (paired ks xs)) rs j in one k x h.0 f.front f.front_is
+
+    to : (ks : List Bytes) (xs : List Child) (i : ℕ) → length xs ≡ length ks → AllKids below (paired ks xs) → joined_rows (shows_of (kid_rows p below) (paired ks xs)) ≡ Some rows → IsFirstAt p below (remove xs i)
+    to ks [] zero l h j = tt
+    to ks [] (suc i) l h j = tt
+    to [] (x ∷ xs) i l h j = absurd (omega arith)
+    to (k ∷ ks) (x ∷ xs) zero l h j = let f = split_of (k, child_rows p below x) (shows_of (kid_rows p below) (paired ks xs)) rows j in head ks xs f.back (omega arith) h.1 f.back_is
+    to (k ∷ ks) (x ∷ xs) (suc i) l h j = let f = split_of (k, child_rows p below x) (shows_of (kid_rows p below) (paired ks xs)) rows j in one k x h.0 f.front f.front_is

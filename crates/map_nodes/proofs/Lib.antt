@@ -10,6 +10,7 @@ pub mod LeafLemmas
 pub mod NamedLemmas
 pub mod NodeLemmas
 pub mod PathLemmas
+pub mod PlaceLemmas
 pub mod RemoveLemmas
 pub mod ReplaceLemmas
 pub mod RootLemmas

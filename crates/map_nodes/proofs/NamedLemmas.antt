@@ -15,7 +15,7 @@ use Rattle.group_history.specs.Spelling.{Contents}
 use Rattle.group_history.proofs.Pairs.{values_of-paired}
 use Rattle.group_history.proofs.Lists.{no_element, only_one}
 use Rattle.map_nodes.specs.Copies.{chunk_pieces}
-use Rattle.map_chunks.specs.Places.{IsShownChild, AreKept, part_places, places_of, IsNamed, AreNamed, HaveNamed, AddsNamed}
+use Rattle.map_chunks.specs.Places.{AreKept, part_places, places_of, IsNamed, AreNamed, HaveNamed, AddsNamed}
 use Rattle.map_nodes.specs.Freezing.{child_places, kids_places}
 use Rattle.map_nodes.specs.Halves.{half_pieces, with_half}
 use Rattle.map_nodes.specs.Nodes.{Kid, Kids, body_pieces, child_pieces, kids_pieces, row_pieces}
@@ -125,9 +125,9 @@ kids-set (k ∷ kids) (suc i) y at h = elim (Contains-append_cases (child_places
 ]
 
 -- a child changed in its place, with what else came of it
-pub kept-kid : {H : Type 0} (show : H → Chunk Ref) (ns : Contents) (kids : List Child) (i : ℕ) (c : Child) (n : Kid) (pieces : List Piece) → i < length kids → c ≡ get_or kids i c
-    → AreKept show ns (child_places c) (places_of (n.value.pieces ++ pieces)) → AreKept show ns (kids_places kids) (kids_places (set kids i (Own n)) ++ places_of pieces)
-kept-kid show ns kids i c n pieces l e h at t = elim (Contains-append_cases (kids_places (set kids i (Own n))) (places_of pieces) at t) [
+pub kept-kid : (may : Ref → Type 0) (kids : List Child) (i : ℕ) (c : Child) (n : Kid) (pieces : List Piece) → i < length kids → c ≡ get_or kids i c
+    → AreKept may (child_places c) (places_of (n.value.pieces ++ pieces)) → AreKept may (kids_places kids) (kids_places (set kids i (Own n)) ++ places_of pieces)
+kept-kid may kids i c n pieces l e h at t = elim (Contains-append_cases (kids_places (set kids i (Own n))) (places_of pieces) at t) [
   | inl p ↦ elim (kids-set kids i (Own n) at p) [
     | inl q ↦ inl q
     | inr q ↦ below (h at (subst (λ w. Contains w at) (sym (places-joined n.value.pieces pieces)) (Contains-append_left (places_of n.value.pieces) (places_of pieces) at q)))
@@ -135,7 +135,7 @@ kept-kid show ns kids i c n pieces l e h at t = elim (Contains-append_cases (kid
   | inr p ↦ below (h at (subst (λ w. Contains w at) (sym (places-joined n.value.pieces pieces)) (Contains-append_right (places_of n.value.pieces) (places_of pieces) at p)))
 ]
   where
-    below : Contains (child_places c) at ⊎ IsShownChild show ns at → Contains (kids_places kids) at ⊎ IsShownChild show ns at
+    below : Contains (child_places c) at ⊎ may at → Contains (kids_places kids) at ⊎ may at
     below (inl a) = inl (kid-within kids i c l e at a)
     below (inr b) = inr b
 
@@ -182,20 +182,20 @@ copy-places depth (Inner kids) at h = subst (λ w. Contains w at) (all kids) h
     all (e ∷ es) = ap (λ w. e.1 ∷ w) (all es)
 
 -- the same child without what else came of it
-pub kept-child : {H : Type 0} (show : H → Chunk Ref) (ns : Contents) (kids : List Child) (i : ℕ) (c : Child) (n : Kid) → i < length kids → c ≡ get_or kids i c
-    → AreKept show ns (child_places c) (places_of n.value.pieces) → AreKept show ns (kids_places kids) (kids_places (set kids i (Own n)))
-kept-child show ns kids i c n l e h at t = elim (kids-set kids i (Own n) at t) [
+pub kept-child : (may : Ref → Type 0) (kids : List Child) (i : ℕ) (c : Child) (n : Kid) → i < length kids → c ≡ get_or kids i c
+    → AreKept may (child_places c) (places_of n.value.pieces) → AreKept may (kids_places kids) (kids_places (set kids i (Own n)))
+kept-child may kids i c n l e h at t = elim (kids-set kids i (Own n) at t) [
   | inl q ↦ inl q
   | inr q ↦ elim (h at q) [ inl a ↦ inl (kid-within kids i c l e at a) | inr b ↦ inr b ]
 ]
 
-pub kept-front : {H : Type 0} (show : H → Chunk Ref) (ns : Contents) (old : List Ref) (a b : List Piece) → AreKept show ns old (places_of (a ++ b)) → AreKept show ns old (places_of a)
-kept-front show ns old a b h at i = h at (subst (λ w. Contains w at) (sym (places-joined a b)) (Contains-append_left (places_of a) (places_of b) at i))
+pub kept-front : (may : Ref → Type 0) (old : List Ref) (a b : List Piece) → AreKept may old (places_of (a ++ b)) → AreKept may old (places_of a)
+kept-front may old a b h at i = h at (subst (λ w. Contains w at) (sym (places-joined a b)) (Contains-append_left (places_of a) (places_of b) at i))
 
 -- pieces that are those of children, with an upper half among them
-pub kept-finished : {H : Type 0} (show : H → Chunk Ref) (ns : Contents) (old : List Ref) (below i : ℕ) (half : Option Half) (keys : List Bytes) (kids : List Child) (ps : List Piece) → length kids ≡ length keys
-    → ps ≡ kids_pieces below (with_half i half (paired keys kids)) → AreKept show ns old (kids_places kids ++ places_of (half_pieces half)) → AreKept show ns old (places_of ps)
-kept-finished show ns old below i half keys kids ps l e h at t = h at (half-places below i half keys kids l at (subst (λ w. Contains (places_of w) at) e t))
+pub kept-finished : (may : Ref → Type 0) (old : List Ref) (below i : ℕ) (half : Option Half) (keys : List Bytes) (kids : List Child) (ps : List Piece) → length kids ≡ length keys
+    → ps ≡ kids_pieces below (with_half i half (paired keys kids)) → AreKept may old (kids_places kids ++ places_of (half_pieces half)) → AreKept may old (places_of ps)
+kept-finished may old below i half keys kids ps l e h at t = h at (half-places below i half keys kids l at (subst (λ w. Contains (places_of w) at) e t))
 
 -- the places of an inner chunk are those of its children
 pub own-places : (depth : ℕ) (keys : List Bytes) (body : Body) (kids : _) (pieces : List Piece) → body_pieces depth keys body ≡ pieces → body ≡ inner.Inner kids → length kids.items ≡ length keys → places_of pieces ≡ kids_places kids.items

@@ -1,5 +1,5 @@
 -- A key removed below a draft's chunk.
-use Rattle.std.specs.Prelude.{◌≡◌, ◌+◌, ◌-◌, ◌<◌, ◌≤◌, ℕ, Bool, false, not, nat_le, filter, List, [], ◌∷◌, length, Option, Some, None}
+use Rattle.std.specs.Prelude.{◌≡◌, ◌+◌, ◌-◌, ◌<◌, ◌≤◌, ℕ, Bool, false, not, nat_le, filter, List, [], ◌∷◌, length, Option, Some, None, IsSome}
 use Rattle.std.specs.Ordering.{nat_cmp, is_eq}
 use Rattle.std.specs.Cmp.Lexicographic.{slice_cmp}
 use Rattle.group_history.specs.Map.{Bytes, same_text}
@@ -7,7 +7,7 @@ use Rattle.group_history.specs.declared.refs.Ref.{Ref}
 use Rattle.group_history.specs.Refs.{stamp_of}
 use Rattle.group_history.specs.Rows.{Rows, paired}
 use Rattle.group_history.specs.Spelling.{Contents}
-use Rattle.map_chunks.specs.Ends.{IsEnd}
+use Rattle.map_chunks.specs.Ends.{IsEnd, IsNoDeeper}
 use Rattle.map_nodes.specs.Freezing.{kids_places}
 use Rattle.map_chunks.specs.Places.{places_of}
 use Rattle.map_nodes.specs.Halves.{HasDepth}
@@ -113,3 +113,21 @@ end_places (Some at) = at ∷ []
 abbrev pub root_left : Seen → Option Ref → List Ref
 root_left n None = places_of n.pieces
 root_left n (Some at) = at ∷ []
+
+-- the first child, if there is one, is so deep, and shows rows
+abbrev pub IsFirstAt : Contents → ℕ → List Child → Type 0
+IsFirstAt contents below [] = Unit {0}
+IsFirstAt contents below (c ∷ cs) = HasDepth below c × IsSome (child_rows contents below c)
+
+-- what stands in a root's place is at most so deep
+abbrev pub IsLowHeir : Contents → ℕ → Heir → Type 0
+IsLowHeir contents depth (heir.Placed at) = IsNoDeeper contents depth at
+IsLowHeir contents depth (heir.Own n) = n.depth ≤ depth
+
+abbrev pub IfLowHeir : Contents → ℕ → Option Heir → Type 0
+IfLowHeir contents depth None = Unit {0}
+IfLowHeir contents depth (Some h) = IsLowHeir contents depth h
+
+abbrev pub IsLowRoot : Contents → ℕ → Seen → Option Ref → Type 0
+IsLowRoot contents depth n None = n.depth ≤ depth
+IsLowRoot contents depth n (Some at) = IsNoDeeper contents depth at

@@ -10,8 +10,8 @@ use Rattle.group_history.specs.Refs.{stamp_of}
 use Rattle.group_history.specs.Rows.{Rows}
 use Rattle.group_history.specs.Spelling.{Contents, Segment, segment_at}
 use Rattle.group_history.proofs.Spellings.{segment-content}
-use Rattle.map_tree.specs.Trees.{root_places, root_map, root_fresh, root_or, IsWide}
-use Rattle.map_nodes.specs.Removing.{without, root_left, root_rows, IsWideRoot}
+use Rattle.map_tree.specs.Trees.{root_places, root_map, root_depth, root_fresh, root_or, IsWide}
+use Rattle.map_nodes.specs.Removing.{without, root_left, root_rows, IsLowRoot, IsWideRoot}
 use Rattle.map_chunks.specs.Shown.{Seen, shown, chunk_rows, rows_or, map_of_rows}
 use Rattle.map_chunks.specs.Wide.{IsWideAt}
 use Rattle.map_tree.specs.declared.tree.Root.TheVariants.{Own}
@@ -33,6 +33,10 @@ removed_map q n (Some at) x m key h e = map_at-rows q (stamp_of at) ∙ map_remo
 pub removed_wide : (q : Contents) (n : Seen) (end : Option Ref) → IsWideRoot q n end → IsWide q (root_or end (Own n))
 removed_wide q n None w = w
 removed_wide q n (Some at) w = w
+
+pub removed_depth : (q : Contents) (d : ℕ) (n : Seen) (end : Option Ref) → IsLowRoot q d n end → (e : ℕ) × (root_depth q (root_or end (Own n)) ≡ Some e) × (e ≤ d)
+removed_depth q d n None h = (n.depth, refl, h)
+removed_depth q d n (Some at) h = h
 
 pub removed_places : (n : Seen) (end : Option Ref) → root_left n end ≡ root_places (root_or end (Own n))
 removed_places n None = refl

@@ -1,4 +1,5 @@
 pub mod DeleteLemmas
+pub mod PlaceLemmas
 pub mod RootCounts
 pub mod SeekLemmas
 pub mod WriteLemmas

@@ -28,14 +28,14 @@ enum Root {
 }
 
 impl Tree {
-    ghost use Rattle.std.specs.Prelude.{◌≡◌, ◌⊎◌, Some, IfOk, IfErr, IsSome, option_copied};
-    ghost use mathlib.Core.List.{IsPrefix};
+    ghost use Rattle.std.specs.Prelude.{◌≡◌, ◌⊎◌, [], ◌∷◌, Some, IfOk, IfErr, IsSome, option_copied};
     ghost use Rattle.std.specs.FinMap as finite;
     ghost use Rattle.group_history.specs.Map.{Entries};
     ghost use Rattle.group_history.specs.Refs.{stamp_of};
     ghost use Rattle.group_history.specs.Spelling.{Contents, map_at};
     ghost use Rattle.group_history.specs.declared.mutators.Stop.TheVariants.{NoMemory};
-    ghost use Rattle.map_tree.specs.Trees.{tree_map, tree_depth, tree_fresh, tree_root, HasWideRoot};
+    ghost use Rattle.map_tree.specs.Trees.{tree_map, tree_depth, tree_fresh, tree_root, tree_places, HasWideRoot};
+    ghost use Rattle.map_chunks.specs.Places.{Grows, AreAll};
     ghost use Rattle.map_chunks.specs.Wide.{IsWideAt};
     ghost use Rattle.map_chunks.specs.Writes.{standing};
 
@@ -44,6 +44,7 @@ impl Tree {
         ensures map { (contents : Contents) → tree_map contents result ≡ map_at contents (stamp_of root) }
         ensures fresh { tree_fresh result ≡ 0 }
         ensures placed { tree_root result ≡ Some root }
+        ensures places { tree_places result ≡ root ∷ [] }
         ensures wide { (contents : Contents) → IsWideAt contents (stamp_of root) → HasWideRoot contents result }
     {
         Tree {
@@ -56,6 +57,7 @@ impl Tree {
         ensures map { (contents : Contents) → tree_map contents result ≡ Some finite.empty }
         ensures depth { (contents : Contents) → tree_depth contents result ≡ Some 1 }
         ensures fresh { tree_fresh result ≡ 1 }
+        ensures places { tree_places result ≡ [] }
         ensures wide { (contents : Contents) → HasWideRoot contents result }
     {
         Tree {
@@ -65,8 +67,9 @@ impl Tree {
 
     /// The value at a key.
     pub fn get<C: Chunks>(&self, chunks: &mut C, key: &str) -> Result<Option<Json>, Stop>
-        requires { IsSome (tree_map (C.contents chunks.old) self.now) }
-        ensures grown { IsPrefix (C.contents chunks.old) (C.contents chunks.new) }
+        requires places { AreAll (C.places chunks.old) (tree_places self.now) }
+        requires map { IsSome (tree_map (C.contents chunks.old) self.now) }
+        ensures grown { Grows C.contents C.places chunks.old chunks.new }
         ensures value { (m : Entries) → tree_map (C.contents chunks.old) self.now ≡ Some m → IfOk result (λ v. v ≡ finite.get m key.now) }
         ensures stopped { IfErr result (λ s. (s ≡ NoMemory) ⊎ C.stops s) }
     {
@@ -78,8 +81,9 @@ impl Tree {
 
     /// Whether the key is there. Takes no memory.
     pub fn has<C: Chunks>(&self, chunks: &mut C, key: &str) -> Result<bool, Stop>
-        requires { IsSome (tree_map (C.contents chunks.old) self.now) }
-        ensures grown { IsPrefix (C.contents chunks.old) (C.contents chunks.new) }
+        requires places { AreAll (C.places chunks.old) (tree_places self.now) }
+        requires map { IsSome (tree_map (C.contents chunks.old) self.now) }
+        ensures grown { Grows C.contents C.places chunks.old chunks.new }
         ensures value { (m : Entries) → tree_map (C.contents chunks.old) self.now ≡ Some m → IfOk result (λ v. v ≡ finite.contains_key m key.now) }
         ensures stopped { IfErr result C.stops }
     {
@@ -94,8 +98,9 @@ impl Tree {
         key: &str,
         asked: Option<&Json>,
     ) -> Result<Sought, Stop>
-        requires { IsSome (tree_map (C.contents chunks.old) self.now) }
-        ensures grown { IsPrefix (C.contents chunks.old) (C.contents chunks.new) }
+        requires places { AreAll (C.places chunks.old) (tree_places self.now) }
+        requires map { IsSome (tree_map (C.contents chunks.old) self.now) }
+        ensures grown { Grows C.contents C.places chunks.old chunks.new }
         ensures standing { (m : Entries) → tree_map (C.contents chunks.old) self.now ≡ Some m → IfOk result (λ s. s.standing ≡ standing (finite.get m key.now) (option_copied asked.entry)) }
         ensures depth { IfOk result (λ s. tree_depth (C.contents chunks.old) self.now ≡ Some s.depth) }
         ensures stopped { IfErr result C.stops }
@@ -114,8 +119,9 @@ impl Tree {
 
     /// How deep the tree is: 1 where its root is a leaf. Takes no memory.
     pub fn depth<C: Chunks>(&self, chunks: &mut C) -> Result<u64, Stop>
-        requires { IsSome (tree_map (C.contents chunks.old) self.now) }
-        ensures grown { IsPrefix (C.contents chunks.old) (C.contents chunks.new) }
+        requires places { AreAll (C.places chunks.old) (tree_places self.now) }
+        requires map { IsSome (tree_map (C.contents chunks.old) self.now) }
+        ensures grown { Grows C.contents C.places chunks.old chunks.new }
         ensures depth { IfOk result (λ d. tree_depth (C.contents chunks.old) self.now ≡ Some d) }
         ensures stopped { IfErr result C.stops }
     {

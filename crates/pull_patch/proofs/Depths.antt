@@ -6,7 +6,7 @@ use Rattle.serde_json.specs.Data.{Data, null, boolean, number, string, array, ob
 use Rattle.serde_json.specs.Find.{get, get_member, as_array}
 use Rattle.pull_patch.specs.Fields.{text_at, array_at}
 use Rattle.pull_patch.specs.Operations.{Edit, put, del, edit_of, put_of, del_of, edit_named}
-use Rattle.pull_patch.specs.Parts.{edit_depth}
+use Rattle.pull_patch.specs.Inside.Parts.{edit_depth}
 
 abbrev Below : ℕ → Option Data → Type 0
 Below n None = ⊤

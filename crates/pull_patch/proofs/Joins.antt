@@ -14,7 +14,7 @@ use Rattle.pull_patch.specs.Fields.{◌>>-◌, each}
 use Rattle.pull_patch.specs.Operations.{Edit, operation_of}
 use Rattle.pull_patch.specs.Changes.{Entry, change_of}
 use Rattle.pull_patch.specs.Grammar.{Fields, pull_of, pull_response, fields_of}
-use Rattle.pull_patch.specs.Parts.{cookie_field, changes_field, patch_field, joined}
+use Rattle.pull_patch.specs.Inside.Parts.{cookie_field, changes_field, patch_field, joined}
 
 -- what is right of the whole is right of the part that was refused
 pub Refuses-through : {A B : Type 0} (e : Refusal) (part : Result A Refusal) (whole : Result B Refusal) → ((r : Refusal) → part ≡ Err r → whole ≡ Err r) → Refuses e part → Refuses e whole

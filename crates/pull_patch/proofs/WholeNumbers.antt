@@ -20,7 +20,7 @@ use Rattle.pull_patch.specs.Changes.{Entry, entry, id_of, entry_of, entries_of, 
 use Rattle.pull_patch.specs.Grammar.{is_plain_order, has_plain_order, is_cookie, cookie_at, fields_of, pull_of, pull_response, error_named, error_of, by_error, response_of}
 use Rattle.pull_patch.specs.Laws.{OnlyNumbersAreNotWhole}
 use Rattle.pull_patch.proofs.Joins.{shape, said}
-use Rattle.pull_patch.specs.Parts.{joined}
+use Rattle.pull_patch.specs.Inside.Parts.{joined}
 
 -- ---- what is there has no float
 

@@ -4,7 +4,7 @@ ghost use Rattle.serde_json.specs.View.{view, number_view, members_view};
 ghost use Rattle.group_history.specs.Answers.{AnswersSeen};
 ghost use Rattle.group_history.specs.Pull.{AreInRange};
 ghost use Rattle.pull_patch.specs.Changes as changes;
-ghost use Rattle.pull_patch.specs.Parts.{changes_part};
+ghost use Rattle.pull_patch.specs.Inside.Parts.{changes_part};
 
 use group_history::{Confirmed, Refusal, Text};
 use serde_json::{Map, Number, Value};

@@ -5,7 +5,7 @@ ghost use Rattle.serde_json.specs.Data.{items_depth};
 ghost use Rattle.serde_json.specs.View.{view, items_view};
 ghost use Rattle.group_history.specs.Answers.{AnswersSeen};
 ghost use Rattle.pull_patch.specs.Operations as operations;
-ghost use Rattle.pull_patch.specs.Parts.{edit_view, edit_depth, patch_part};
+ghost use Rattle.pull_patch.specs.Inside.Parts.{edit_view, edit_depth, patch_part};
 
 use crate::fields::text_at;
 use group_history::{Json, Patch, Refusal, Text, is_whole};

@@ -5,7 +5,7 @@ ghost use Rattle.serde_json.specs.View.{view};
 ghost use Rattle.group_history.specs.Answers.{Answers, AnswersSeen};
 ghost use Rattle.group_history.specs.Pull.{AreInRange};
 ghost use Rattle.pull_patch.specs.Grammar as grammar;
-ghost use Rattle.pull_patch.specs.Parts as parts;
+ghost use Rattle.pull_patch.specs.Inside.Parts as parts;
 
 use crate::changes::read_changes;
 use crate::fields::{array_at, text_at};
@@ -35,7 +35,7 @@ fn is_cookie(value: &Value) -> bool
 
 // Each field is refused with BadShape where it has not its shape, and is none where a number isn't whole.
 
-#[tactic(auto, unfolding(crate::specs::Parts::cookie_field, crate::specs::Grammar::cookie_at))]
+#[tactic(auto, unfolding(crate::specs::Inside::Parts::cookie_field, crate::specs::Grammar::cookie_at))]
 fn cookie_field(alloc: Global, value: &Value) -> Result<Option<Cookie>, Refusal>
     requires { depth (view value.now) ≤ 127 }
     ensures { Answers result (parts.cookie_field (view value.now)) }
@@ -46,7 +46,7 @@ fn cookie_field(alloc: Global, value: &Value) -> Result<Option<Cookie>, Refusal>
     }
 }
 
-#[tactic(auto, unfolding(crate::specs::Parts::changes_field, crate::specs::Parts::changes_part))]
+#[tactic(auto, unfolding(crate::specs::Inside::Parts::changes_field, crate::specs::Inside::Parts::changes_part))]
 fn changes_field(alloc: Global, value: &Value) -> Result<Option<Vec<Confirmed>>, Refusal>
     ensures value { AnswersSeen (option_map (λ v. v.items)) result (parts.changes_field (view value.now)) }
     ensures in_range { IfOk result (λ o. IfSome o (λ v. AreInRange v.items)) }
@@ -60,7 +60,7 @@ fn changes_field(alloc: Global, value: &Value) -> Result<Option<Vec<Confirmed>>,
     }
 }
 
-#[tactic(auto, unfolding(crate::specs::Parts::patch_field, crate::specs::Parts::patch_part))]
+#[tactic(auto, unfolding(crate::specs::Inside::Parts::patch_field, crate::specs::Inside::Parts::patch_part))]
 fn patch_field(alloc: Global, value: &Value) -> Result<Option<Vec<Patch>>, Refusal>
     requires { depth (view value.now) ≤ 127 }
     ensures { AnswersSeen (option_map (λ v. v.items)) result (parts.patch_field (view value.now)) }

@@ -13,8 +13,7 @@ use Rattle.reader_claims.specs.Words.{first_slot, slot_at, slot_word}
 use Rattle.reader_claims.specs.Lists.{In}
 use Rattle.reader_claims.specs.Views.{reader, dealer, with_taken, with_settled}
 use Rattle.reader_claims.specs.Machine as machine
-use Rattle.reader_claims.specs.Machine.{Move, Reached, Lawful}
-use Rattle.reader_claims.specs.Plays.{left_by}
+use Rattle.reader_claims.specs.Machine.{Move, Reached, Lawful, left_by}
 use Rattle.reader_claims.specs.Laws.{BareLaw}
 use Rattle.reader_claims.proofs.Sound.{Sound}
 use Rattle.reader_claims.proofs.Keeps.{at_end}
@@ -34,9 +33,9 @@ adds v i x y w (machine.load_epoch e) z h = inl h
 adds v i x y w (machine.store_pin n e some_pin few) z h = absurd h
 adds v i x y w (machine.clear_pin n some_pin few) z h = absurd h
 adds v i x y w (machine.load_pin j n some_pin few) z h = inl h
-adds v i x y w (machine.raise n low past) z h = inl h
+adds v i x y w (machine.raise n some_reader low past) z h = inl h
 adds v i x y w (machine.raise_lost n e past miss) z h = inl h
-adds v i x y w (machine.take j room) z h = inl h
+adds v i x y w (machine.take j some_reader room) z h = inl h
 adds v i x y w (machine.settle j inside) z h = ⊎_elim (λ (e : z ≡ j). inr (ap slot_at (sym e), refl, (λ n. omega arith))) (λ g. inl g) h
 adds v i x y w (machine.withdraw j inside) z h = inl h
 adds v i x y w (machine.retire j room past) z h = inl h
@@ -81,7 +80,7 @@ bare_law k slot two sized room allowed =
     let vs : List View = dealer k 3 ∷ (reader k 1 ∷ (reader k 2 ∷ [])) in
     let both : Reached k ws vs = machine.dealt ws (dealer k 2 ∷ (reader k 1 ∷ [])) 0 2 first refl (omega arith) (omega arith) in
     let v : View = with_taken (reader k 1) slot in let w : View = with_settled v slot in let mine = slot_word (Taken 1) in
-    let took : Reached k (set ws i mine) (dealer k 3 ∷ (v ∷ (reader k 2 ∷ []))) = machine.stepped ws vs 1 i mine (reader k 1) v both refl (subst (λ x. Move (reader k 1) i x mine v) (sym (zeros i)) (machine.take slot room)) in
+    let took : Reached k (set ws i mine) (dealer k 3 ∷ (v ∷ (reader k 2 ∷ []))) = machine.stepped ws vs 1 i mine (reader k 1) v both refl (subst (λ x. Move (reader k 1) i x mine v) (sym (zeros i)) (machine.take slot (omega arith) room)) in
     let ws' : List ℕ = set ws i mine in let there : get_or ws' i 0 ≡ mine = get_or-set_same ws i mine 0 (omega arith) in
     let lived : Reached k (set ws' i 1) (dealer k 3 ∷ (w ∷ (reader k 2 ∷ []))) = machine.stepped ws' (dealer k 3 ∷ (v ∷ (reader k 2 ∷ []))) 1 i 1 v w took refl (subst (λ x. Move v i x 1 w) (sym there) (machine.settle slot (inl refl))) in
     let ws'' : List ℕ = set ws' i 1 in let long' : length ws' ≡ length ws = length-set ws i mine in let long'' : length ws'' ≡ length ws' = length-set ws' i 1 in

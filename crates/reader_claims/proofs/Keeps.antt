@@ -12,7 +12,7 @@ use Rattle.group_history.specs.Refs.{max_seats}
 use Rattle.reader_claims.specs.Words.{pin_at, slot_at, pin_word, slot_word}
 use Rattle.reader_claims.specs.Lists.{In, Noted}
 use Rattle.reader_claims.specs.Views.{reader, dealer, promoted, with_pin}
-use Rattle.reader_claims.specs.Plays.{dealt_left, dealt_right}
+use Rattle.reader_claims.specs.Inside.Plays.{dealt_left, dealt_right}
 use Rattle.reader_claims.proofs.Sound.{Pins, Slots, Sound}
 use Rattle.reader_claims.specs.declared.words.Pin.{Pin}
 use Rattle.reader_claims.specs.declared.words.Pin.TheVariants.{Absent, Stored, Held}

@@ -10,3 +10,4 @@ pub mod Options
 pub mod Lawful
 pub mod Moving
 pub mod Bare
+pub mod Raising

@@ -14,10 +14,11 @@ use Rattle.reader_claims.specs.declared.view.View.{View}
 use Rattle.group_history.specs.Refs.{max_seats}
 use Rattle.reader_claims.specs.Words.{pin_at, first_slot, slot_at, pin_word, slot_word}
 use Rattle.reader_claims.specs.Lists.{In, Noted}
+use Rattle.reader_claims.specs.Notes as notes
 use Rattle.reader_claims.specs.Views.{dealer, promoted, IsOpen, with_epoch, with_pin, with_read, with_raise, with_taken, with_settled, with_withdrawn, with_retired, with_note, with_given}
 use Rattle.reader_claims.specs.Machine as machine
-use Rattle.reader_claims.specs.Machine.{Move, Reached, Lawful}
-use Rattle.reader_claims.specs.Plays.{Sat, dealt_left, dealt_right, left_by, Goes, loaded, stored, cleared, read, raised, took, settled, withdrawn, retired, gave}
+use Rattle.reader_claims.specs.Machine.{Move, Reached, Lawful, left_by}
+use Rattle.reader_claims.specs.Inside.Plays.{Sat, dealt_left, dealt_right, Goes, loaded, stored, cleared, read, raised, took, settled, withdrawn, retired, gave}
 use Rattle.reader_claims.proofs.Sound.{Sound}
 use Rattle.reader_claims.proofs.Keeps.{St, turned, unturned, own_pin, none_noted, promoted_word, promoted_held, deals}
 use Rattle.reader_claims.proofs.Slotted.{moved, unmoved, ends_at, not_taken, quiet_holds}
@@ -79,7 +80,7 @@ module _ (k : Sizes) where
 
   take_sound : (ws : List ℕ) (vs : List View) (o : Sound k (state ws vs)) (id : ℕ) (v : View) (i : ℕ) → get_elem? vs id ≡ some v → i < k.slots → get_or ws (slot_at i) 0 ≡ slot_word Free
       → Sound k (state (set ws (slot_at i) (slot_word (Taken v.number))) (set vs id (with_taken v i)))
-  take_sound ws vs o id v i me room hit = let number = o.pins.numbered id v me in moved k (state ws vs) o id v i (slot_word (Taken v.number)) (i ∷ v.taken) v.settled v.found v.floor v.retired me record {
+  take_sound ws vs o id v i me room hit = let number = o.pins.numbered id v me in moved k (state ws vs) o id v i (slot_word (Taken v.number)) (i ∷ v.taken) v.settled v.notes v.floor v.retired v.withdrawn me record {
     room = room;
     owner = λ j e. absurd (omega arith);
     mine = λ z h. dite (ℕ_discrete z i) (λ e. inl (e, omega arith)) (λ ne. inr (ne, ⊎_elim (λ (q : z ≡ i). absurd (ne q)) (λ g. g) h));
@@ -92,7 +93,7 @@ module _ (k : Sizes) where
 
   retire_sound : (ws : List ℕ) (vs : List View) (o : Sound k (state ws vs)) (id : ℕ) (v : View) (i : ℕ) → get_elem? vs id ≡ some v → i < k.slots → v.loaded < v.reached → get_or ws (slot_at i) 0 ≡ slot_word Live
       → Sound k (state (set ws (slot_at i) (slot_word (Retired (v.loaded + 1)))) (set vs id (with_retired v i (v.loaded + 1))))
-  retire_sound ws vs o id v i me room past hit = let b = o.pins.behind id v me in moved k (state ws vs) o id v i (slot_word (Retired (v.loaded + 1))) v.taken v.settled v.found v.floor ((i, v.loaded + 1) ∷ v.retired) me record {
+  retire_sound ws vs o id v i me room past hit = let b = o.pins.behind id v me in moved k (state ws vs) o id v i (slot_word (Retired (v.loaded + 1))) v.taken v.settled v.notes v.floor ((i, v.loaded + 1) ∷ v.retired) v.withdrawn me record {
     room = room;
     owner = λ j e. absurd (omega arith);
     mine = λ z h. inr (not_taken k (state ws vs) o id v i z me (λ j e. omega arith) h);
@@ -106,7 +107,7 @@ module _ (k : Sizes) where
   give_sound : (ws : List ℕ) (vs : List View) (o : Sound k (state ws vs)) (id : ℕ) (v : View) (i r : ℕ) → get_elem? vs id ≡ some v → i < k.slots → IsOpen v r → get_or ws (slot_at i) 0 ≡ slot_word (Retired r)
       → Sound k (state (set ws (slot_at i) (slot_word Free)) (set vs id (with_given v i r)))
   give_sound ws vs o id v i r me room open_at hit = let b = o.pins.behind id v me in let past = open_at.0 in let low = o.slots.floor id v me in
-      moved k (state ws vs) o id v i 0 v.taken v.settled ((i, (slot_word (Retired r), slot_word (Retired r))) ∷ v.found) (max v.floor r) v.retired me record {
+      moved k (state ws vs) o id v i 0 v.taken v.settled (notes.gave i r ∷ v.notes) (max v.floor r) v.retired v.withdrawn me record {
         room = room;
         owner = λ j e. absurd (omega arith);
         mine = λ z h. inr (not_taken k (state ws vs) o id v i z me (λ j e. omega arith) h);
@@ -145,14 +146,14 @@ module _ (k : Sizes) where
   move_sound ws vs o id v me i x y w at (machine.store_pin old e some_pin few) = own_pin k (state ws vs) o id v (Stored e) (e + 1) me some_pin few refl (λ n h. cc)
   move_sound ws vs o id v me i x y w at (machine.clear_pin old some_pin few) = own_pin k (state ws vs) o id v Absent 0 me some_pin few refl (λ n h. cc)
   move_sound ws vs o id v me i x y w at (machine.load_pin j n some_pin few) = subst (λ q. Sound k (state (set ws (pin_at j) q) (set vs id (with_read v j q)))) at (read_sound ws vs o id v j me some_pin few)
-  move_sound ws vs o id v me i x y w at (machine.raise n low past) = let b = o.pins.behind id v me in raise_sound ws vs o id v (n + 1) (n + 1) me (omega arith) (omega arith) (omega arith) (omega arith)
+  move_sound ws vs o id v me i x y w at (machine.raise n some_reader low past) = let b = o.pins.behind id v me in raise_sound ws vs o id v (n + 1) (n + 1) me (omega arith) (omega arith) (omega arith) (omega arith)
   move_sound ws vs o id v me i x y w at (machine.raise_lost n e past miss) = let b = o.pins.behind id v me in let low = o.pins.low in raise_sound ws vs o id v e e me (omega arith) (omega arith) (omega arith) (omega arith)
-  move_sound ws vs o id v me i x y w at (machine.take j room) = take_sound ws vs o id v j me (roomy ws vs o id v me j room) at
-  move_sound ws vs o id v me i x y w at (machine.settle j inside) = ends_at k (state ws vs) o id v j 1 (j ∷ v.settled) me inside (omega arith)
-  move_sound ws vs o id v me i x y w at (machine.withdraw j inside) = ends_at k (state ws vs) o id v j 0 v.settled me inside (omega arith)
+  move_sound ws vs o id v me i x y w at (machine.take j some_reader room) = take_sound ws vs o id v j me (roomy ws vs o id v me j room) at
+  move_sound ws vs o id v me i x y w at (machine.settle j inside) = ends_at k (state ws vs) o id v j 1 (j ∷ v.settled) v.withdrawn me inside (omega arith)
+  move_sound ws vs o id v me i x y w at (machine.withdraw j inside) = ends_at k (state ws vs) o id v j 0 v.settled (j ∷ v.withdrawn) me inside (omega arith)
   move_sound ws vs o id v me i x y w at (machine.retire j room past) = retire_sound ws vs o id v j me (roomy ws vs o id v me j room) past at
   move_sound ws vs o id v me i x y w at (machine.give j r room open_at) = give_sound ws vs o id v j r me (roomy ws vs o id v me j room) open_at at
-  move_sound ws vs o id v me i x y w at (machine.lost j old n room miss) = subst (λ q. Sound k (state (set ws (slot_at j) q) (set vs id (with_note v j old q)))) at (unmoved k (state ws vs) o (slot_at j) id v ((j, (old, get_or ws (slot_at j) 0)) ∷ v.found) me)
+  move_sound ws vs o id v me i x y w at (machine.lost j old n room miss) = subst (λ q. Sound k (state (set ws (slot_at j) q) (set vs id (with_note v j old q)))) at (unmoved k (state ws vs) o (slot_at j) id v (notes.lost j old (get_or ws (slot_at j) 0) ∷ v.notes) me)
 
   opened_sound : (ws : List ℕ) → length ws ≡ first_slot + k.slots → k.readers ≤ max_seats → ((j : ℕ) → get_or ws j 0 ≡ 0) → Sound k (state ws (dealer k 1 ∷ []))
   opened_sound ws long sized zeros = record {
@@ -232,10 +233,10 @@ module _ (k : Sizes) where
   lost_left : (x old new : ℕ) → x ≢ old → left_by old new x ≡ x
   lost_left x old new ne = ap (λ b. cond b new x) (ne_eqb x old ne)
 
-  pub raises_as : (n id : ℕ) (m : Sat) (old : ℕ) → old < 2 ^ 60 → old ≤ m.0.reached → Allows (Lawful k) n id m 0 (λ y. either (eqb y old) (old + 1) y) (raised (step n 0 old (old + 1) none) m)
-  raises_as n id m old low seen s r wide me _ = let o = sound s.words s.views r in let b = o.pins.behind id m.0 me in let x : ℕ = get_or s.words 0 0 in let st : Step (Unit {0}) = step n 0 old (old + 1) none in let T = raised st m in
+  pub raises_as : (n id : ℕ) (m : Sat) (old : ℕ) → 0 < m.0.number → old < 2 ^ 60 → old ≤ m.0.reached → Allows (Lawful k) n id m 0 (λ y. either (eqb y old) (old + 1) y) (raised (step n 0 old (old + 1) none) m)
+  raises_as n id m old some_reader low seen s r wide me _ = let o = sound s.words s.views r in let b = o.pins.behind id m.0 me in let x : ℕ = get_or s.words 0 0 in let st : Step (Unit {0}) = step n 0 old (old + 1) none in let T = raised st m in
       exchanged x old (old + 1) (Steps s 0 id m T)
-      (λ hit. let w = with_raise m.0 (old + 1) in let move : Move m.0 0 x (old + 1) w = subst (λ q. Move m.0 0 q (old + 1) w) (sym hit) (machine.raise old low seen) in
+      (λ hit. let w = with_raise m.0 (old + 1) in let move : Move m.0 0 x (old + 1) w = subst (λ q. Move m.0 0 q (old + 1) w) (sym hit) (machine.raise old some_reader low seen) in
       goes s 0 id m T (old + 1) w r me move (refl, (let q : old + 1 ≡ max x (old + 1) = omega arith in told_at st m x (left_by old (old + 1) x) (with_raise m.0) (old + 1) (max x (old + 1)) q (subst (λ y. Move m.0 0 x y w) (sym (won_left x old (old + 1) hit)) move)), b.1, o.pins.low))
       (λ miss. let w = with_raise m.0 x in let move : Move m.0 0 x x w = machine.raise_lost old x seen miss in
       goes s 0 id m T x w r me move (refl, (let q : x ≡ max x (old + 1) = omega arith in told_at st m x (left_by old (old + 1) x) (with_raise m.0) x (max x (old + 1)) q (subst (λ y. Move m.0 0 x y w) (sym (lost_left x old (old + 1) miss)) move)), b.1, o.pins.low))
@@ -247,10 +248,10 @@ module _ (k : Sizes) where
   misses s id n m i old new T r me room miss told = let x : ℕ = get_or s.words (slot_at i) 0 in let w = with_note m.0 i old x in let move : Move m.0 (slot_at i) x x w = machine.lost i old x room miss in
       goes s (slot_at i) id m T x w r me move (told (λ i' at. let same : i ≡ i' = omega arith in told_at (step n (slot_at i) old new none) m x x (λ j. with_note m.0 j old x) i i' same move))
 
-  pub takes_as : (n id : ℕ) (m : Sat) (i new : ℕ) → i < m.0.sizes.slots → new ≡ slot_word (Taken m.0.number) → Allows (Lawful k) n id m (slot_at i) (λ y. either (eqb y 0) new y) (took (step n (slot_at i) 0 new none) m)
-  takes_as n id m i new room is s r wide me _ = let v = m.0 in let o = sound s.words s.views r in let x : ℕ = get_or s.words (slot_at i) 0 in let T = took (step n (slot_at i) 0 new none) m in
+  pub takes_as : (n id : ℕ) (m : Sat) (i new : ℕ) → 0 < m.0.number → i < m.0.sizes.slots → new ≡ slot_word (Taken m.0.number) → Allows (Lawful k) n id m (slot_at i) (λ y. either (eqb y 0) new y) (took (step n (slot_at i) 0 new none) m)
+  takes_as n id m i new some_reader room is s r wide me _ = let v = m.0 in let o = sound s.words s.views r in let x : ℕ = get_or s.words (slot_at i) 0 in let T = took (step n (slot_at i) 0 new none) m in
       exchanged x 0 new (Steps s (slot_at i) id m T)
-      (λ hit. let w = with_taken v i in let move : Move v (slot_at i) x new w = subst (λ (q : ℕ × ℕ). Move v (slot_at i) q.0 q.1 w) (λ d. (sym hit d, sym is d)) (machine.take i room) in
+      (λ hit. let w = with_taken v i in let move : Move v (slot_at i) x new w = subst (λ (q : ℕ × ℕ). Move v (slot_at i) q.0 q.1 w) (λ d. (sym hit d, sym is d)) (machine.take i some_reader room) in
       goes s (slot_at i) id m T new w r me move (
         refl,
         is,
@@ -292,8 +293,8 @@ module _ (k : Sizes) where
   pub reads_at : (n id : ℕ) (m : Sat) (j p : ℕ) → p ≡ pin_at j → 0 < j → j ≤ max_seats → Allows (Lawful k) n id m p (λ y. y) (read (step n p 0 0 none) m)
   reads_at n id m j p at some_pin few = subst (λ q. Allows (Lawful k) n id m q (λ y. y) (read (step n q 0 0 none) m)) (sym at) (reads_as n id m j some_pin few)
 
-  pub takes_at : (n id : ℕ) (m : Sat) (i new p : ℕ) → p ≡ slot_at i → i < m.0.sizes.slots → new ≡ slot_word (Taken m.0.number) → Allows (Lawful k) n id m p (λ y. either (eqb y 0) new y) (took (step n p 0 new none) m)
-  takes_at n id m i new p at room is = subst (λ q. Allows (Lawful k) n id m q (λ y. either (eqb y 0) new y) (took (step n q 0 new none) m)) (sym at) (takes_as n id m i new room is)
+  pub takes_at : (n id : ℕ) (m : Sat) (i new p : ℕ) → p ≡ slot_at i → 0 < m.0.number → i < m.0.sizes.slots → new ≡ slot_word (Taken m.0.number) → Allows (Lawful k) n id m p (λ y. either (eqb y 0) new y) (took (step n p 0 new none) m)
+  takes_at n id m i new p at some_reader room is = subst (λ q. Allows (Lawful k) n id m q (λ y. either (eqb y 0) new y) (took (step n q 0 new none) m)) (sym at) (takes_as n id m i new some_reader room is)
 
   pub settles_at : (n id : ℕ) (m : Sat) (i old p : ℕ) → p ≡ slot_at i → In m.0.taken i → old ≡ slot_word (Taken m.0.number) → Allows (Lawful k) n id m p (λ y. either (eqb y old) 1 y) (settled (step n p old 1 none) m)
   settles_at n id m i old p at inside is = subst (λ q. Allows (Lawful k) n id m q (λ y. either (eqb y old) 1 y) (settled (step n q old 1 none) m)) (sym at) (settles_as n id m i old inside is)

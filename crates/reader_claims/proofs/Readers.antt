@@ -6,8 +6,8 @@ use Rattle.atomic_table.specs.Seated.{TableId}
 use Rattle.reader_claims.specs.declared.view.View.{View}
 use Rattle.group_history.specs.Refs.{max_seats}
 use Rattle.reader_claims.specs.Views.{with_retired, with_note}
-use Rattle.reader_claims.specs.Machine.{Move}
-use Rattle.reader_claims.specs.Plays.{Sat, left_by}
+use Rattle.reader_claims.specs.Machine.{Move, left_by}
+use Rattle.reader_claims.specs.Inside.Plays.{Sat}
 use Rattle.reader_claims.specs.Passes.{IsButRetired}
 use Rattle.reader_claims.specs.Seats.{ClaimsId}
 

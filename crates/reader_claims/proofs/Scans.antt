@@ -1,26 +1,24 @@
 -- What a pass over the slots knows.
-use Rattle.std.proofs.Common.{◌≡◌, ℕ, suc, ◌+◌, ◌≢◌, List, [], ◌∷◌, ◌++◌, length, refl, sym, ap, ap₂, ◌∙◌, subst, arith, append_assoc}
+use Rattle.std.proofs.Common.{◌≡◌, ℕ, ◌+◌, ◌≢◌, List, [], ◌∷◌, ◌++◌, refl, sym, ap, ap₂, ◌∙◌, subst, arith, append_assoc}
 use mathlib.Core.Logic.{dite}
 use native.Mathlib.Decide.{ℕ_discrete, dec_lt}
-use mathlib.Core.Option.{Option, some}
-use lib.ListN.{get_elem?}
 use Rattle.reader_claims.specs.Words.{slot_word}
+use Rattle.reader_claims.specs.Notes.{Note, lost, gave, StandTogether}
 use Rattle.reader_claims.specs.Views.{with_taken, with_note, with_given, promoted, ArePinsRead, IsOpen, IsClosed}
 use Rattle.reader_claims.specs.Passes as passes
-use Rattle.reader_claims.specs.Passes.{passed, Saw, WhyShut, IsShut, AreShut, FindsNone, Later}
+use Rattle.reader_claims.specs.Passes.{passed, found, retired_at, WhyShut, AreShut, FindsNone}
+use Rattle.reader_claims.specs.Inside.Scans.{Later}
 use Rattle.reader_claims.specs.declared.view.View.{View}
 use Rattle.reader_claims.specs.declared.words.SlotState.{SlotState}
 use Rattle.reader_claims.specs.declared.words.SlotState.TheVariants.{Free, Taken, Live, Retired}
 
-behind : {A : Type 0} (xs ys : List A) (p : ℕ) → get_elem? (xs ++ ys) (length xs + p) ≡ get_elem? ys p
-behind [] ys p = let e : 0 + p ≡ p = omega arith in ap (get_elem? ys) e
-behind (x ∷ xs) ys p = let e : length (x ∷ xs) + p ≡ suc (length xs + p) = omega arith in ap (get_elem? (x ∷ (xs ++ ys))) e ∙ behind xs ys p
+-- notes that stand together stay so when more are put in front
+together_later : (run f g notes : List Note) → g ≡ notes ++ f → StandTogether run f → StandTogether run g
+together_later run f g notes is h = (notes ++ h.0, h.1, is ∙ ap (λ l. notes ++ l) h.2 ∙ sym (append_assoc notes h.0 (run ++ h.1)))
 
-abbrev Notes : Type 0
-Notes = List (ℕ × (ℕ × ℕ))
-
-moved_on : (f g notes : Notes) (p : ℕ) (x : Option (ℕ × (ℕ × ℕ))) → g ≡ notes ++ f → get_elem? f p ≡ x → get_elem? g (length notes + p) ≡ x
-moved_on f g notes p x is h = ap (λ l. get_elem? l (length notes + p)) is ∙ behind notes f p ∙ h
+-- the newest notes stand together
+pub in_front : (run back f : List Note) → f ≡ run ++ back → StandTogether run f
+in_front run back f is = ([], back, is)
 
 pub open_later : (r : ℕ) (v u : View) → Later v u → IsOpen v r → IsOpen u r
 open_later r v u l h = subst (λ (y : View). IsOpen y r) (sym l.0) h
@@ -31,19 +29,12 @@ closed_later r v u l h = subst (λ (y : View). IsClosed y r) (sym l.0) h
 pub read_later : (v u : View) → Later v u → ArePinsRead v → ArePinsRead u
 read_later v u l h = subst (λ (y : View). ArePinsRead y) (sym l.0) h
 
-saw_later : (v u : View) (i old w : ℕ) → Later v u → Saw v i old w → Saw u i old w
-saw_later v u i old w l h = (length l.1.0 + h.0, moved_on v.found u.found l.1.0 h.0 (some (i, (old, w))) l.1.1 h.1)
-
-why_later : (i w : ℕ) (v u : View) → Later v u → WhyShut v i w → WhyShut u i w
-why_later i w v u l (passes.taken j is) = passes.taken j is
-why_later i w v u l (passes.live is) = passes.live is
-why_later i w v u l (passes.closed r is h) = passes.closed r is (closed_later r v u l h)
-why_later i w v u l (passes.give_lost r x is ne saw) = passes.give_lost r x is ne (saw_later v u i w x l saw)
-why_later i w v u l (passes.take_lost r is e) = let notes = l.1.0 in let lt = e.4 in
-    passes.take_lost r is (length notes + e.0, length notes + e.1, e.2, e.3, omega arith, moved_on v.found u.found notes e.0 (some (i, (0, e.2))) l.1.1 e.5, moved_on v.found u.found notes e.1 (some (i, (w, w))) l.1.1 e.6)
-
-pub shut_later : (i : ℕ) (v u : View) → Later v u → IsShut i v → IsShut i u
-shut_later i v u l h = (h.0, saw_later v u i 0 h.0 l h.1, why_later i h.0 v u l h.2)
+pub shut_later : (i : ℕ) (v u : View) → Later v u → WhyShut i v → WhyShut i u
+shut_later i v u l (passes.taken j saw) = passes.taken j (together_later (found i (slot_word (Taken j)) ∷ []) v.notes u.notes l.1.0 l.1.1 saw)
+shut_later i v u l (passes.live saw) = passes.live (together_later (found i (slot_word Live) ∷ []) v.notes u.notes l.1.0 l.1.1 saw)
+shut_later i v u l (passes.closed r saw h) = passes.closed r (together_later (found i (retired_at r) ∷ []) v.notes u.notes l.1.0 l.1.1 saw) (closed_later r v u l h)
+shut_later i v u l (passes.give_lost r x ne run) = passes.give_lost r x ne (together_later (lost i (retired_at r) x ∷ (found i (retired_at r) ∷ [])) v.notes u.notes l.1.0 l.1.1 run)
+shut_later i v u l (passes.take_lost r x ne run) = passes.take_lost r x ne (together_later (found i x ∷ (gave i r ∷ (found i (retired_at r) ∷ []))) v.notes u.notes l.1.0 l.1.1 run)
 
 pub later_self : (v : View) → Later v v
 later_self v = (refl, ([], refl), omega arith)
@@ -52,51 +43,60 @@ pub later_taken : (v u : View) (i : ℕ) → u ≡ with_taken v i → Later v u
 later_taken v u i is = subst (Later v) (sym is) (refl, ([], refl), omega arith)
 
 pub later_note : (v u : View) (i old w : ℕ) → u ≡ with_note v i old w → Later v u
-later_note v u i old w is = subst (Later v) (sym is) (refl, ((i, (old, w)) ∷ [], refl), omega arith)
+later_note v u i old w is = subst (Later v) (sym is) (refl, (lost i old w ∷ [], refl), omega arith)
 
 pub later_given : (v u : View) (i r : ℕ) → u ≡ with_given v i r → Later v u
-later_given v u i r is = subst (Later v) (sym is) (refl, ((i, (slot_word (Retired r), slot_word (Retired r))) ∷ [], refl), omega arith)
+later_given v u i r is = subst (Later v) (sym is) (refl, (gave i r ∷ [], refl), omega arith)
 
 pub later_later : (v u t : View) → Later v u → Later u t → Later v t
 later_later v u t a b = (
-  b.0 ∙ ap (λ (y : View). record y { taken = t.taken; found = t.found; floor = t.floor }) a.0,
-  (b.1.0 ++ a.1.0, b.1.1 ∙ ap (λ (l : Notes). b.1.0 ++ l) a.1.1 ∙ sym (append_assoc b.1.0 a.1.0 v.found)),
+  b.0 ∙ ap (λ (y : View). record y { taken = t.taken; notes = t.notes; floor = t.floor }) a.0,
+  (b.1.0 ++ a.1.0, b.1.1 ∙ ap (λ (l : List Note). b.1.0 ++ l) a.1.1 ∙ sym (append_assoc b.1.0 a.1.0 v.notes)),
   (let p = a.2 in let q = b.2 in omega arith),
 )
 
 -- a slot that was found neither free nor retired
-pub why_not_retired : (i w : ℕ) (v : View) (state : SlotState) → slot_word state ≡ w → w ≢ 0 → ((r : ℕ) → state ≡ Retired r → ⊥) → WhyShut v i w
-why_not_retired i w v Free is some_word not = absurd (some_word (sym is))
-why_not_retired i w v (Taken j) is some_word not = passes.taken j (sym is)
-why_not_retired i w v Live is some_word not = passes.live (sym is)
-why_not_retired i w v (Retired r) is some_word not = absurd (not r refl)
+shut_at_look : (i : ℕ) (v u : View) (state : SlotState) → u.notes ≡ found i (slot_word state) ∷ v.notes → slot_word state ≢ 0 → ((r : ℕ) → state ≡ Retired r → ⊥) → WhyShut i u
+shut_at_look i v u Free is some_word not = absurd (some_word refl)
+shut_at_look i v u (Taken j) is some_word not = passes.taken j (in_front (found i (slot_word (Taken j)) ∷ []) v.notes u.notes is)
+shut_at_look i v u Live is some_word not = passes.live (in_front (found i (slot_word Live) ∷ []) v.notes u.notes is)
+shut_at_look i v u (Retired r) is some_word not = absurd (not r refl)
 
--- the first exchange was lost
-pub shut_at_once : (i w : ℕ) (v u : View) → u ≡ with_note v i 0 w → WhyShut u i w → (u.taken ≡ v.taken) × IsShut i u
-shut_at_once i w v u is why = (ap (λ (y : View). y.taken) is, (w, (0, ap (λ (y : View). get_elem? y.found 0) is), why))
+pub shut_at_once : (i w : ℕ) (v u : View) (state : SlotState) → u ≡ with_note v i 0 w → slot_word state ≡ w → w ≢ 0 → ((r : ℕ) → state ≡ Retired r → ⊥) → (u.taken ≡ v.taken) × WhyShut i u
+shut_at_once i w v u state is word some_word not = (
+  ap (λ (y : View). y.taken) is,
+  shut_at_look i v u state (ap (λ (y : View). y.notes) is ∙ ap (λ q. found i q ∷ v.notes) (sym word)) (λ e. some_word (sym word ∙ e)) not,
+)
+
+-- it was found retired, and closed
+pub shut_as_closed : (i r w : ℕ) (v u : View) → u ≡ with_note v i 0 w → w ≡ retired_at r → IsClosed u r → (u.taken ≡ v.taken) × WhyShut i u
+shut_as_closed i r w v u is word h = (
+  ap (λ (y : View). y.taken) is,
+  passes.closed r (in_front (found i (retired_at r) ∷ []) v.notes u.notes (ap (λ (y : View). y.notes) is ∙ ap (λ q. found i q ∷ v.notes) word)) h,
+)
 
 -- the give was lost
-pub shut_at_give : (i r w w' : ℕ) (v u t : View) → u ≡ with_note v i 0 w → w ≡ slot_word (Retired r) → w' ≢ slot_word (Retired r) → t ≡ with_note u i (slot_word (Retired r)) w' → (t.taken ≡ v.taken) × IsShut i t
-shut_at_give i r w w' v u t first is ne second = let both : t ≡ with_note (with_note v i 0 w) i (slot_word (Retired r)) w' = second ∙ ap (λ y. with_note y i (slot_word (Retired r)) w') first in (
+pub shut_at_give : (i r w x : ℕ) (v u t : View) → u ≡ with_note v i 0 w → w ≡ retired_at r → x ≢ retired_at r → t ≡ with_note u i (retired_at r) x → (t.taken ≡ v.taken) × WhyShut i t
+shut_at_give i r w x v u t first word ne second = let both : t ≡ with_note (with_note v i 0 w) i (retired_at r) x = second ∙ ap (λ y. with_note y i (retired_at r) x) first in (
   ap (λ (y : View). y.taken) both,
-  (w, (1, ap (λ (y : View). get_elem? y.found 1) both), passes.give_lost r w' is (λ e. ne (e ∙ is)) (0, ap (λ (y : View). get_elem? y.found 0) both ∙ ap (λ o. some (i, (o, w'))) (sym is))),
+  passes.give_lost r x ne (in_front (lost i (retired_at r) x ∷ (found i (retired_at r) ∷ [])) v.notes t.notes (ap (λ (y : View). y.notes) both ∙ ap (λ q. lost i (retired_at r) x ∷ (found i q ∷ v.notes)) word)),
 )
 
 -- the take after the give was lost
-pub shut_after_give : (i r w w' : ℕ) (v u t x : View) → u ≡ with_note v i 0 w → w ≡ slot_word (Retired r) → t ≡ with_given u i r → w' ≢ 0 → x ≡ with_note t i 0 w' → (x.taken ≡ v.taken) × IsShut i x
-shut_after_give i r w w' v u t x first is second ne third = let all : x ≡ with_note (with_given (with_note v i 0 w) i r) i 0 w' = third ∙ ap (λ y. with_note y i 0 w') (second ∙ ap (λ y. with_given y i r) first) in (
+pub shut_after_give : (i r w x : ℕ) (v u t z : View) → u ≡ with_note v i 0 w → w ≡ retired_at r → t ≡ with_given u i r → x ≢ 0 → z ≡ with_note t i 0 x → (z.taken ≡ v.taken) × WhyShut i z
+shut_after_give i r w x v u t z first word second ne third = let all : z ≡ with_note (with_given (with_note v i 0 w) i r) i 0 x = third ∙ ap (λ y. with_note y i 0 x) (second ∙ ap (λ y. with_given y i r) first) in (
   ap (λ (y : View). y.taken) all,
-  (w, (2, ap (λ (y : View). get_elem? y.found 2) all), passes.take_lost r is (0, 1, w', ne, omega arith, ap (λ (y : View). get_elem? y.found 0) all, ap (λ (y : View). get_elem? y.found 1) all ∙ ap (λ o. some (i, (o, o))) (sym is))),
+  passes.take_lost r x ne (in_front (found i x ∷ (gave i r ∷ (found i (retired_at r) ∷ []))) v.notes z.notes (ap (λ (y : View). y.notes) all ∙ ap (λ q. found i x ∷ (gave i r ∷ (found i q ∷ v.notes))) word)),
 )
 
 pub later_tried : (w i : ℕ) (v u : View) → (w ≡ 0 → u ≡ with_taken v i) → (w ≢ 0 → u ≡ with_note v i 0 w) → Later v u
-later_tried w i v u won lost = dite (ℕ_discrete w 0) (λ e. later_taken v u i (won e)) (λ ne. later_note v u i 0 w (lost ne))
+later_tried w i v u won miss = dite (ℕ_discrete w 0) (λ e. later_taken v u i (won e)) (λ ne. later_note v u i 0 w (miss ne))
 
 pub all_later : (from end : ℕ) (v u : View) → Later v u → AreShut from end v → AreShut from end u
 all_later from end v u l h i over near = shut_later i v u l (h i over near)
 
-pub all_more : (from end : ℕ) (v u : View) → Later v u → AreShut from end v → IsShut end u → AreShut from (end + 1) u
-all_more from end v u l h one i over near = dite (ℕ_discrete i end) (λ e. subst (λ j. IsShut j u) (sym e) one) (λ ne. shut_later i v u l (h i over (omega arith)))
+pub all_more : (from end : ℕ) (v u : View) → Later v u → AreShut from end v → WhyShut end u → AreShut from (end + 1) u
+all_more from end v u l h one i over near = dite (ℕ_discrete i end) (λ e. subst (λ j. WhyShut j u) (sym e) one) (λ ne. shut_later i v u l (h i over (omega arith)))
 
 -- two ranges that meet
 pub all_joined : (from at end : ℕ) (v : View) → AreShut from at v → AreShut at end v → AreShut from end v
@@ -124,4 +124,9 @@ passed_ordinary v u a b t begin ordinary is read l m n first second =
 -- a give after a reading of the pins
 pub given_passed : (v q u : View) (i r : ℕ) → q ≡ passed v q → u ≡ with_given q i r → u ≡ with_given (passed v u) i r
 given_passed v q u i r first second = second ∙ ap (λ y. with_given y i r) first
-    ∙ ap₂ (λ a b. with_given (record v { pin = promoted v.pin a; loaded = a; passes = v.passes + 1; reached = a; read = b; found = [] }) i r) (ap (λ (y : View). y.reached) (sym second)) (ap (λ (y : View). y.read) (sym second))
+    ∙ ap₂ (λ a b. with_given (record v { pin = promoted v.pin a; loaded = a; before = v.loaded; passes = v.passes + 1; reached = a; read = b; notes = [] }) i r) (ap (λ (y : View). y.reached) (sym second)) (ap (λ (y : View). y.read) (sym second))
+
+-- the same of a give that was lost
+pub noted_passed : (v q u : View) (i old x : ℕ) → q ≡ passed v q → u ≡ with_note q i old x → u ≡ with_note (passed v u) i old x
+noted_passed v q u i old x first second = second ∙ ap (λ y. with_note y i old x) first
+    ∙ ap₂ (λ a b. with_note (record v { pin = promoted v.pin a; loaded = a; before = v.loaded; passes = v.passes + 1; reached = a; read = b; notes = [] }) i old x) (ap (λ (y : View). y.reached) (sym second)) (ap (λ (y : View). y.read) (sym second))

@@ -11,6 +11,7 @@ use Rattle.reader_claims.specs.declared.view.Sizes.{Sizes}
 use Rattle.reader_claims.specs.declared.view.View.{View}
 use Rattle.reader_claims.specs.Words.{pin_at, slot_at, pin_word, slot_word}
 use Rattle.reader_claims.specs.Lists.{In, Noted, without}
+use Rattle.reader_claims.specs.Notes.{Note}
 use Rattle.reader_claims.specs.Views.{NoneBelow}
 use Rattle.reader_claims.proofs.Sound.{Sound}
 use Rattle.reader_claims.proofs.Keeps.{St, board, below, unturned}
@@ -30,8 +31,8 @@ still_in x z (y ∷ ys) n h = dite (ℕ_discrete x y)
     (λ ne. subst (λ b. In (cond b (without x ys) (y ∷ without x ys)) z) (sym (ne_eqb x y ne)) (⊎_elim (λ (q : z ≡ y). inl q) (λ g. inr (still_in x z ys n g)) h))
 
 -- the view after a step on a slot
-abbrev pub after : View → List ℕ → List ℕ → List (ℕ × (ℕ × ℕ)) → ℕ → List (ℕ × ℕ) → View
-after v t d f g h = record v { taken = t; settled = d; found = f; floor = g; retired = h }
+abbrev pub after : View → List ℕ → List ℕ → List Note → ℕ → List (ℕ × ℕ) → List ℕ → View
+after v t d f g h b = record v { taken = t; settled = d; notes = f; floor = g; retired = h; withdrawn = b }
 
 module _ (k : Sizes) where
   -- What a step on the slot i, to the word x, by the seat id, has to show
@@ -46,9 +47,9 @@ module _ (k : Sizes) where
     pub low : g ≤ get_or s.words 0 0
     pub floor : (j : ℕ) (u : View) (e : ℕ) → get_elem? s.views j ≡ some u → u.pin ≡ Held e → g ≤ e
 
-  pub moved : (s : St) (o : Sound k s) (id : ℕ) (v : View) (i x : ℕ) (t d : List ℕ) (f : List (ℕ × (ℕ × ℕ))) (g : ℕ) (h : List (ℕ × ℕ)) → get_elem? s.views id ≡ some v → Moves s id v i x t g
-      → Sound k (board s (set s.words (slot_at i) x) (set s.views id (after v t d f g h)))
-  moved s o id v i x t d f g h me m = let w = after v t d f g h in let ws : List ℕ = set s.words (slot_at i) x in let long = o.pins.wide in let near = m.room in
+  pub moved : (s : St) (o : Sound k s) (id : ℕ) (v : View) (i x : ℕ) (t d : List ℕ) (f : List Note) (g : ℕ) (h : List (ℕ × ℕ)) (b : List ℕ) → get_elem? s.views id ≡ some v → Moves s id v i x t g
+      → Sound k (board s (set s.words (slot_at i) x) (set s.views id (after v t d f g h b)))
+  moved s o id v i x t d f g h back me m = let w = after v t d f g h back in let ws : List ℕ = set s.words (slot_at i) x in let long = o.pins.wide in let near = m.room in
       let other : (j : ℕ) → j ≢ slot_at i → get_or ws j 0 ≡ get_or s.words j 0 = λ j ne. get_or-set_other s.words (slot_at i) j x 0 ne in
       let here : get_or ws (slot_at i) 0 ≡ x = get_or-set_same s.words (slot_at i) x 0 (omega arith) in
       let epoch : get_or ws 0 0 ≡ get_or s.words 0 0 = other 0 (λ e. omega arith) in
@@ -94,9 +95,9 @@ module _ (k : Sizes) where
       }
 
   -- a lost step on a slot, which may be noted
-  pub unmoved : (s : St) (o : Sound k s) (i id : ℕ) (v : View) (f : List (ℕ × (ℕ × ℕ))) → get_elem? s.views id ≡ some v
-      → Sound k (board s (set s.words i (get_or s.words i 0)) (set s.views id (after v v.taken v.settled f v.floor v.retired)))
-  unmoved s o i id v f me = unturned k s o i id v (after v v.taken v.settled f v.floor v.retired) me record {
+  pub unmoved : (s : St) (o : Sound k s) (i id : ℕ) (v : View) (f : List Note) → get_elem? s.views id ≡ some v
+      → Sound k (board s (set s.words i (get_or s.words i 0)) (set s.views id (after v v.taken v.settled f v.floor v.retired v.withdrawn)))
+  unmoved s o i id v f me = unturned k s o i id v (after v v.taken v.settled f v.floor v.retired v.withdrawn) me record {
     sizes = refl;
     number = refl;
     next = refl;
@@ -120,9 +121,9 @@ module _ (k : Sizes) where
   not_taken s o id v i z me free h = ((λ e. free id (ap (λ q. get_or s.words (slot_at q) 0) (sym e) ∙ (o.slots.taken id z v me h).1)), h)
 
   -- a taken slot becomes x, which is Live or Free
-  pub ends_at : (s : St) (o : Sound k s) (id : ℕ) (v : View) (i x : ℕ) (d : List ℕ) → get_elem? s.views id ≡ some v → In v.taken i → x < 2 → Sound k (board s (set s.words (slot_at i) x) (set s.views id (after v (without i v.taken) d v.found v.floor v.retired)))
-  ends_at s o id v i x d me inside small = let was = o.slots.taken id i v me inside in let there : get_or s.words (slot_at i) 0 ≡ 2 * id + 2 = was.1 in
-      moved s o id v i x (without i v.taken) d v.found v.floor v.retired me record {
+  pub ends_at : (s : St) (o : Sound k s) (id : ℕ) (v : View) (i x : ℕ) (d b : List ℕ) → get_elem? s.views id ≡ some v → In v.taken i → x < 2 → Sound k (board s (set s.words (slot_at i) x) (set s.views id (after v (without i v.taken) d v.notes v.floor v.retired b)))
+  ends_at s o id v i x d b me inside small = let was = o.slots.taken id i v me inside in let there : get_or s.words (slot_at i) 0 ≡ 2 * id + 2 = was.1 in
+      moved s o id v i x (without i v.taken) d v.notes v.floor v.retired b me record {
         room = was.0;
         owner = λ j e. omega arith;
         mine = λ z h. inr (left_of i z v.taken h);

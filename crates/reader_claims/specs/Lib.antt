@@ -1,10 +1,9 @@
 pub mod Words
 pub mod Lists
+pub mod Notes
 pub mod Views
 pub mod Machine
-pub mod Plays
 pub mod Seats
-pub mod Known
 pub mod Passes
-pub mod Looked
 pub mod Laws
+pub mod Inside

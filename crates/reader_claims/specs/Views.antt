@@ -2,19 +2,18 @@
 use Rattle.std.specs.Prelude.{◌≡◌, ℕ, ◌+◌, ◌<◌, ◌≤◌, ◌⊎◌, [], ◌∷◌, max, cond, ◌==◌}
 use Rattle.reader_claims.specs.declared.words.Pin.{Pin}
 use Rattle.reader_claims.specs.declared.words.Pin.TheVariants.{Absent, Stored, Held}
-use Rattle.reader_claims.specs.declared.words.SlotState.TheVariants.{Retired}
 use Rattle.reader_claims.specs.declared.view.Sizes.{Sizes}
 use Rattle.reader_claims.specs.declared.view.View.{View}
-use Rattle.reader_claims.specs.Words.{slot_word}
 use Rattle.reader_claims.specs.Lists.{Noted, without}
+use Rattle.reader_claims.specs.Notes.{lost, gave}
 
 -- the seat of the reader j, before its first step
 abbrev pub reader : Sizes → ℕ → View
-reader k j = record { sizes = k; number = j; next = 0; pin = Absent; loaded = 0; passes = 0; reached = 0; read = []; taken = []; settled = []; retired = []; found = []; floor = 0 }
+reader k j = record { sizes = k; number = j; next = 0; pin = Absent; stores = 0; loaded = 0; before = 0; passes = 0; reached = 0; raises = 0; read = []; taken = []; settled = []; withdrawn = []; retired = []; notes = []; floor = 0 }
 
 -- the seat that makes those of the readers, with the number that the next one gets
 abbrev pub dealer : Sizes → ℕ → View
-dealer k n = record { sizes = k; number = 0; next = n; pin = Absent; loaded = 0; passes = 0; reached = 0; read = []; taken = []; settled = []; retired = []; found = []; floor = 0 }
+dealer k n = record { sizes = k; number = 0; next = n; pin = Absent; stores = 0; loaded = 0; before = 0; passes = 0; reached = 0; raises = 0; read = []; taken = []; settled = []; withdrawn = []; retired = []; notes = []; floor = 0 }
 
 -- a stored pin becomes held where the epoch is read as its number
 abbrev pub promoted : Pin → ℕ → Pin
@@ -24,11 +23,11 @@ promoted (Held n) e = Held n
 
 -- the epoch was read as e
 abbrev pub with_epoch : View → ℕ → View
-with_epoch v e = record v { pin = promoted v.pin e; loaded = e; passes = v.passes + 1; reached = e; read = []; found = [] }
+with_epoch v e = record v { pin = promoted v.pin e; loaded = e; before = v.loaded; passes = v.passes + 1; reached = e; read = []; notes = [] }
 
--- the own pin was stored
+-- the own pin was stored, or taken away
 abbrev pub with_pin : View → Pin → View
-with_pin v p = record v { pin = p; settled = [] }
+with_pin v p = record v { pin = p; stores = v.stores + 1; settled = [] }
 
 -- the pin of the reader j was read, and its word is w
 abbrev pub with_read : View → ℕ → ℕ → View
@@ -36,27 +35,31 @@ with_read v j w = record v { read = (j, w) ∷ v.read }
 
 -- after a raise, won or lost, the epoch is at least e
 abbrev pub with_raise : View → ℕ → View
-with_raise v e = record v { reached = e; read = [] }
+with_raise v e = record v { reached = e; raises = v.raises + 1; read = [] }
 
+-- the slot i was taken
 abbrev pub with_taken : View → ℕ → View
 with_taken v i = record v { taken = i ∷ v.taken }
 
+-- the taken slot i became live
 abbrev pub with_settled : View → ℕ → View
 with_settled v i = record v { taken = without i v.taken; settled = i ∷ v.settled }
 
+-- the taken slot i became free again
 abbrev pub with_withdrawn : View → ℕ → View
-with_withdrawn v i = record v { taken = without i v.taken }
+with_withdrawn v i = record v { taken = without i v.taken; withdrawn = i ∷ v.withdrawn }
 
+-- the slot i was retired at r
 abbrev pub with_retired : View → ℕ → ℕ → View
 with_retired v i r = record v { retired = (i, r) ∷ v.retired }
 
 -- the slot i was given, which had been retired at r
 abbrev pub with_given : View → ℕ → ℕ → View
-with_given v i r = record v { found = (i, (slot_word (Retired r), slot_word (Retired r))) ∷ v.found; floor = max v.floor r }
+with_given v i r = record v { notes = gave i r ∷ v.notes; floor = max v.floor r }
 
--- the slot i was looked for at the word old, and found at w
+-- an exchange was lost: the slot i was sought at the word old, and w was there
 abbrev pub with_note : View → ℕ → ℕ → ℕ → View
-with_note v i old w = record v { found = (i, (old, w)) ∷ v.found }
+with_note v i old w = record v { notes = lost i old w ∷ v.notes }
 
 -- the pin of each reader was read since the epoch was last read or raised past
 abbrev pub ArePinsRead : View → Type 0

@@ -40,10 +40,9 @@ ghost use Rattle.reader_claims.specs.Lists.{In};
 ghost use Rattle.reader_claims.specs.Views.{IsOpen, IsClosed, with_epoch, with_pin, with_raise, with_settled, with_withdrawn};
 ghost use Rattle.reader_claims.specs.Words.{epoch_at, pin_at, slot_at, slot_word};
 ghost use Rattle.reader_claims.specs.declared.words.SlotState.TheVariants.{Free, Taken, Live, Retired};
-ghost use Rattle.reader_claims.specs.Plays.{left_by};
-ghost use Rattle.reader_claims.specs.Machine.{Move, Moves};
+ghost use Rattle.reader_claims.specs.Machine.{Move, Moves, left_by};
 ghost use Rattle.reader_claims.specs.Seats.{AreSeats, first_reserved, kind_end};
-ghost use Rattle.reader_claims.specs.Passes.{IsPinned, IsUnpinned, passed, IsRetired, IsButRetired, IsGiven, Takes, Looks, FindsNone};
+ghost use Rattle.reader_claims.specs.Passes.{IsPinned, IsUnpinned, passed, IsRetired, IsButRetired, IsGiven, IsNotGiven, Takes, Looks, FindsNone};
 
 use crate::plays::Deal;
 use crate::slot::{Kind, Slot};
@@ -75,7 +74,7 @@ impl Model for ClaimSeat {
 
     ghost Value = { Seated };
 
-    ghost use Rattle.reader_claims.specs.Known.{reader_id, view as view_of};
+    ghost use Rattle.reader_claims.specs.Inside.Known.{reader_id, view as view_of};
 
     ghost view = { λ s. record { table = reader_id s.reader; view = view_of s.reader } };
 }
@@ -91,7 +90,7 @@ impl Model for Claims {
 
     ghost Value = { ClaimsId };
 
-    ghost use Rattle.reader_claims.specs.Known.{words_id};
+    ghost use Rattle.reader_claims.specs.Inside.Known.{words_id};
 
     ghost view = { λ c. words_id c.words };
 }
@@ -160,7 +159,8 @@ impl Claims {
         self.words.load_epoch(&mut seat.reader)
     }
 
-    /// Pins the epoch, in one try. On `Raised` the pin is absent.
+    /// Pins the epoch, in one try. `Raised` comes only where the second load of the epoch read more
+    /// than the first; the pin is absent then.
     pub fn pin(&self, seat: &mut ClaimSeat) -> Result<u64, Raised>
         requires { seat.old.table ≡ self.now }
         ensures table { seat.new.table ≡ seat.old.table }
@@ -214,7 +214,8 @@ impl Claims {
 
     /// Takes a slot that is free, or that is retired and may be given. A reserved one is taken only
     /// where no ordinary one was free or could be given, but for those that other seats were
-    /// quicker to take. `None` comes after a whole pass.
+    /// quicker to take. `None` comes after a whole pass. On the way the seat stores no pin, raises
+    /// nothing, and settles, withdraws and retires no slot: it shuts none by itself.
     pub fn take_slot(&self, seat: &mut ClaimSeat, kind: Kind) -> Option<Slot>
         requires { seat.old.table ≡ self.now }
         ensures table { seat.new.table ≡ seat.old.table }
@@ -275,7 +276,7 @@ impl Claims {
     }
 
     /// Makes a retired slot free, where no reader can hold it. False where it is not retired, or
-    /// may not be given, or another seat was quicker.
+    /// may not be given, or another seat was quicker; then nothing was given.
     pub fn give(&self, seat: &mut ClaimSeat, slot: Slot) -> bool
         requires { (seat.old.table ≡ self.now) × (slot < self.now.sizes.slots) }
         ensures table { seat.new.table ≡ seat.old.table }
@@ -283,6 +284,7 @@ impl Claims {
         ensures looks { Looks seat.old.view seat.new.view }
         ensures taken { seat.new.view.taken ≡ seat.old.view.taken }
         ensures given { result ≡ true → IsGiven seat.old.view seat.new.view slot }
+        ensures not_given { result ≡ false → IsNotGiven seat.old.view seat.new.view slot }
     {
         self.words.try_give(&mut seat.reader, slot.number())
     }

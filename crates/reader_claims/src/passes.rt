@@ -6,7 +6,8 @@ ghost use Rattle.reader_claims.specs.declared.words.SlotState.TheVariants.{Free,
 ghost use Rattle.reader_claims.specs.Views.{ArePinsRead, IsOpen, IsClosed, with_epoch, with_pin};
 ghost use Rattle.reader_claims.specs.Machine.{Moves};
 ghost use Rattle.reader_claims.specs.Seats.{first_reserved, kind_end};
-ghost use Rattle.reader_claims.specs.Passes.{passed, Takes, Looks, IsGiven, IsShut, AreShut, FindsNone, Later};
+ghost use Rattle.reader_claims.specs.Passes.{passed, Takes, Looks, IsGiven, IsNotGiven, WhyShut, AreShut, FindsNone};
+ghost use Rattle.reader_claims.specs.Inside.Scans.{Later};
 
 use crate::slot::Kind;
 use crate::steps::{Reader, Words};
@@ -39,8 +40,8 @@ fn lower(least: u64, pin: Pin) -> u64
 }
 
 impl Words {
-    ghost use Rattle.reader_claims.specs.Known.{words_id, reader_id, view};
-    ghost use Rattle.reader_claims.specs.Looked.{IfTook};
+    ghost use Rattle.reader_claims.specs.Inside.Known.{words_id, reader_id, view};
+    ghost use Rattle.reader_claims.specs.Inside.Looked.{IfTook};
 
     // The ordinary slots are those below.
     fn ordinary(&self) -> u32
@@ -101,7 +102,7 @@ impl Words {
         ensures later { Later (view reader.old) (view reader.new) }
         ensures taken { result ≡ true → Takes (view reader.old) (view reader.new) slot }
         ensures shut { result ≡ false
-            → ((view reader.new).taken ≡ (view reader.old).taken) × IsShut slot (view reader.new) }
+            → ((view reader.new).taken ≡ (view reader.old).taken) × WhyShut slot (view reader.new) }
     {
         let found = self.take(reader, slot);
         if found == FREE {
@@ -127,6 +128,7 @@ impl Words {
         ensures looks { Looks (view reader.old) (view reader.new) }
         ensures taken { (view reader.new).taken ≡ (view reader.old).taken }
         ensures given { result ≡ true → IsGiven (view reader.old) (view reader.new) slot }
+        ensures not_given { result ≡ false → IsNotGiven (view reader.old) (view reader.new) slot }
     {
         let highest = self.open_below(reader);
         let SlotState::Retired(r) = self.look(slot) else {

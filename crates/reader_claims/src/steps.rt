@@ -7,9 +7,8 @@ ghost use Rattle.reader_claims.specs.declared.words.SlotState.TheVariants.{Free,
 ghost use Rattle.reader_claims.specs.Words.{epoch_at, pin_at, slot_at, slot_word, first_slot, IsSmall};
 ghost use Rattle.reader_claims.specs.Lists.{In};
 ghost use Rattle.reader_claims.specs.Views.{IsOpen, with_epoch, with_pin, with_read, with_raise, with_taken, with_settled, with_withdrawn, with_retired, with_given, with_note};
-ghost use Rattle.reader_claims.specs.Plays.{left_by};
 ghost use Rattle.reader_claims.specs.Passes.{IsButRetired};
-ghost use Rattle.reader_claims.specs.Machine.{Move};
+ghost use Rattle.reader_claims.specs.Machine.{Move, left_by};
 
 use crate::plays::{
     Claimed, ClearPin, Give, LoadEpoch, LoadPin, RaiseEpoch, Retire, Settle, StorePin, Take,
@@ -39,7 +38,7 @@ pub(crate) struct Reader {
 }
 
 impl Words {
-    ghost use Rattle.reader_claims.specs.Known.{words_id, reader_id, view};
+    ghost use Rattle.reader_claims.specs.Inside.Known.{words_id, reader_id, view};
 
     pub(crate) fn load_epoch(&self, reader: &mut Reader) -> u64
         requires { reader_id reader.old ≡ words_id self.now }

@@ -1,6 +1,7 @@
 // What a seat of the claims table knows, and how large the table is.
 ghost use Rattle.std.specs.Prelude.{ℕ, List};
 ghost use Rattle.std.specs.Borrow.{ftrue};
+ghost use Rattle.reader_claims.specs.Notes.{Note, notes_code};
 
 use crate::words::Pin;
 use std::marker::Model;
@@ -21,21 +22,32 @@ pub struct View {
     // Of that one: the number that the next seat gets.
     pub ghost next: { ℕ },
     pub pin: Pin,
-    // What the last load of the epoch read, and how often it was loaded.
+    // How often its pin was stored, or taken away.
+    pub ghost stores: { ℕ },
+    // What the last load of the epoch read.
     pub ghost loaded: { ℕ },
+    // What the load before that one read.
+    pub ghost before: { ℕ },
+    // How often it loaded the epoch.
     pub ghost passes: { ℕ },
     // The epoch that was last read or raised past.
     pub ghost reached: { ℕ },
-    // The pins read since then: the reader, and the word of its pin.
+    // How often it raised the epoch, or found it raised.
+    pub ghost raises: { ℕ },
+    // The pins read since the epoch was last read or raised past: the reader, and the word of its
+    // pin.
     pub ghost read: { List (ℕ × ℕ) },
+    // The slots that are its own.
     pub ghost taken: { List ℕ },
     // The slots settled since the own pin was last stored.
     pub ghost settled: { List ℕ },
+    // The slots that it withdrew, the newest first.
+    pub ghost withdrawn: { List ℕ },
     // The slots that it retired, each with the number, the newest first.
     pub ghost retired: { List (ℕ × ℕ) },
-    // The exchanges of slots since the epoch was last loaded that were lost, and the gives, the
-    // newest first: of a slot, the word that was looked for, and the word found.
-    pub ghost found: { List (ℕ × (ℕ × ℕ)) },
+    // The exchanges of slots that it lost since the epoch was last loaded, and its gives, the newest
+    // first.
+    pub ghost notes: { List Note } by { notes_code },
     // The greatest number at which the seat gave a slot. No lower pin is held, now or later.
     pub ghost floor: { ℕ },
 }

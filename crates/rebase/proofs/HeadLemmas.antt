@@ -32,7 +32,7 @@ use Rattle.group_history.proofs.Replays.{replayed-append}
 use Rattle.group_history.proofs.Spellings.{version-content}
 use Rattle.commits.proofs.Spelled.{IsMade, commit-made}
 use Rattle.map_chunks.specs.Places.{with_nodes}
-use Rattle.rebase.specs.Chaining.{with_more}
+use Rattle.rebase.specs.Inside.Chaining.{with_more}
 use Rattle.rebase.specs.Fixing.{staged}
 use Rattle.rebase.proofs.FixedLemmas.{staged-is}
 use Rattle.rebase.specs.Solos.{IsHead, state_in, state_at}

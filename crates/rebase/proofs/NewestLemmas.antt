@@ -23,7 +23,7 @@ use Rattle.group_history.proofs.Spellings.{spelled-newest, length-spelled}
 use Rattle.group_history.proofs.TextMaps.{empty_map}
 use Rattle.map_chunks.specs.Places.{with_nodes}
 use Rattle.commits.proofs.Spelled.{map-grown}
-use Rattle.rebase.specs.Chaining.{HasTip}
+use Rattle.rebase.specs.Inside.Chaining.{HasTip}
 use Rattle.rebase.specs.declared.tips.Tip.{Tip}
 
 -- the content of a commit over a basis

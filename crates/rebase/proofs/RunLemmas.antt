@@ -1,5 +1,5 @@
 -- What a run leaves, and what it replies.
-use Rattle.std.proofs.Common.{◌≡◌, ℕ, Result, Ok, Err, refl}
+use Rattle.std.proofs.Common.{◌≡◌, ◌⊎◌, inl, inr, ℕ, Result, Ok, Err, refl, sym, subst}
 use Rattle.group_history.specs.declared.mutators.Ran.TheVariants as ran
 use Rattle.group_history.specs.declared.refusals.Refusal.{Refusal}
 use Rattle.group_history.specs.declared.refusals.Refusal.TheVariants as refusal
@@ -8,6 +8,7 @@ use Rattle.group_history.specs.Map.{Entries}
 use Rattle.group_history.specs.Meaning.{Meaning, unknown, refuses, done, left_by}
 use Rattle.group_history.specs.Mutating.{by_meaning, map_of}
 use Rattle.group_history.specs.Ran.{RunsAs}
+use Rattle.rebase.specs.Refusing.{IsOfChange, RefusesOrStamps}
 
 -- the map that a mutation leaves, or why it is refused, by how its mutator ran
 pub map-done : (meaning : Meaning) (m : Entries) → RunsAs meaning ran.Done m → map_of meaning ≡ Ok m
@@ -35,6 +36,11 @@ left-done (done x) m n h = cc
 pub Refuses-is : {X : Type 0} (e : Refusal) (right : Result X Refusal) → right ≡ Err e → Refuses e right
 Refuses-is refusal.NoMemory right is = tt
 Refuses-is e right is = is
+
+-- what a change lacks may come in place of its answer
+pub wants : {X : Type 0} (e : Refusal) (right : Result X Refusal) → IsOfChange right → (e ≡ refusal.NoMemory) ⊎ (e ≡ refusal.Stamps) → RefusesOrStamps e right
+wants e right change (inl none) = inr (subst (λ (w : Refusal). Refuses w right) (sym none) tt)
+wants e right change (inr none) = inl (none, change)
 
 -- the replies
 pub reply-done : (meaning : Meaning) (n : Entries) (id : ℕ) → map_of meaning ≡ Ok n → by_meaning meaning id ≡ Ok id

@@ -1,8 +1,10 @@
+-- What a reader of the public clauses believes, in order of reading: how a change may be refused; what a group is; the
+-- nodes of a draft behind those that are placed; replies; and the calls with what is right to reply to each.
 pub mod Refusing
 pub mod Solos
 pub mod Fixing
-pub mod Chaining
-pub mod Running
 pub mod Replies
 pub mod Replying
 pub mod Calls
+-- Words that only private clauses of this crate use.
+pub mod Inside

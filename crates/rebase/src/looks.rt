@@ -6,7 +6,7 @@ ghost use Rattle.group_history.specs.Refs.{stamp_of};
 ghost use Rattle.group_history.specs.Spelling.{Version, version_at};
 ghost use Rattle.group_history.specs.declared.mutators.Stop.{Stop as Stopped};
 ghost use Rattle.group_history.specs.declared.refusals.Refusal.TheVariants.{NoMemory};
-ghost use Rattle.rebase.specs.Chaining.{HasTip};
+ghost use Rattle.rebase.specs.Inside.Chaining.{HasTip};
 
 use crate::tips::Tip;
 use commits::{Base, Nodes, VecNodes, base_of, top_of, walk};
@@ -20,6 +20,7 @@ fn tip_known<N: Nodes + Copy, K: Known>(nodes: N, head: Ref) -> Result<Tip, Refu
     requires known { N.contents nodes ≡ K.known }
     requires shown { (s : Stopped) → N.stops s → ⊥ }
     requires version { IsSome (version_at K.known (stamp_of head)) }
+    requires place { N.places nodes head }
     ensures tip { (v : Version) → version_at K.known (stamp_of head) ≡ Some v → IfOk result (λ tip. HasTip K.known tip v) }
     ensures err { IfErr result (λ e. e ≡ NoMemory) }
 {
@@ -36,6 +37,7 @@ fn base_known<N: Nodes + Copy, K: Known>(nodes: N, head: Ref) -> Result<Base, Re
     requires known { N.contents nodes ≡ K.known }
     requires shown { (s : Stopped) → N.stops s → ⊥ }
     requires version { IsSome (version_at K.known (stamp_of head)) }
+    requires place { N.places nodes head }
     ensures base { (v : Version) → version_at K.known (stamp_of head) ≡ Some v → IfOk result (IsBaseOf K.known v.state) }
     ensures err { IfErr result (λ e. e ≡ NoMemory) }
 {
@@ -52,6 +54,7 @@ fn pending_known<N: Nodes + Copy, K: Known>(
     requires known { N.contents nodes ≡ K.known }
     requires shown { (s : Stopped) → N.stops s → ⊥ }
     requires version { IsSome (version_at K.known (stamp_of head)) }
+    requires place { N.places nodes head }
     ensures pending { (v : Version) → version_at K.known (stamp_of head) ≡ Some v → IfOk result (λ xs. xs.items ≡ v.state.pending) }
     ensures err { IfErr result (λ e. e ≡ NoMemory) }
 {

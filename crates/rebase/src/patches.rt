@@ -1,13 +1,13 @@
 //! A pulled map after a patch.
 ghost use Rattle.std.specs.Prelude.{◌≡◌, ◌⊎◌, Some, IsSome, IfOk, IfErr, OnOk, length};
-ghost use mathlib.Core.List.{IsPrefix};
 ghost use Rattle.group_history.specs.declared.mutators.Stop.{Stop as Stopped};
 ghost use Rattle.group_history.specs.declared.mutators.Stop.TheVariants as stop;
 ghost use Rattle.group_history.specs.declared.refusals.Refusal.TheVariants.{NoMemory};
 ghost use Rattle.group_history.specs.Map.{Entries, patched, patched_once};
 ghost use Rattle.group_history.specs.Refs.{stamp_of};
 ghost use Rattle.group_history.specs.Spelling.{map_at};
-ghost use Rattle.map_tree.specs.Trees.{tree_map};
+ghost use Rattle.map_chunks.specs.Places.{Grows, AreAll, AreKept};
+ghost use Rattle.map_tree.specs.Trees.{tree_map, tree_places};
 ghost use Rattle.rebase.specs.Fixing.{staged};
 
 use commits::VecNodes;
@@ -24,9 +24,11 @@ fn operate<C: Chunks>(
     tree: &mut Tree,
     op: &Patch,
 ) -> Result<(), Stop>
-    requires { IsSome (tree_map (C.contents chunks.old) tree.old) }
-    ensures grown { IsPrefix (C.contents chunks.old) (C.contents chunks.new) }
+    requires map { IsSome (tree_map (C.contents chunks.old) tree.old) }
+    requires places { AreAll (C.places chunks.old) (tree_places tree.old) }
+    ensures grown { Grows C.contents C.places chunks.old chunks.new }
     ensures ok { (m : Entries) → tree_map (C.contents chunks.old) tree.old ≡ Some m → OnOk result (tree_map (C.contents chunks.new) tree.new ≡ Some (patched_once m op.now)) }
+    ensures places { OnOk result (AreKept (C.places chunks.new) (tree_places tree.old) (tree_places tree.new)) }
     ensures stopped { IfErr result (λ s. (s ≡ stop.NoMemory) ⊎ C.stops s) }
 {
     match op {
@@ -52,6 +54,7 @@ fn patched_known<C: Chunks + Copy, K: Known>(
     requires known { C.contents chunks ≡ K.known }
     requires shown { (s : Stopped) → C.stops s → ⊥ }
     requires map { IsSome (map_at K.known (stamp_of root)) }
+    requires place { C.places chunks root }
     ensures map { (m : Entries) → map_at K.known (stamp_of root) ≡ Some m → IfOk result (λ tree. tree_map K.known tree ≡ Some (patched m patch.now)) }
     ensures err { IfErr result (λ e. e ≡ NoMemory) }
 {

@@ -7,7 +7,7 @@ ghost use Rattle.group_history.specs.Refs.{stamp_of};
 ghost use Rattle.group_history.specs.Spelling.{map_at, Spells};
 ghost use Rattle.group_history.specs.State.{State, pulled_state};
 ghost use Rattle.group_history.specs.declared.refusals.Refusal.TheVariants.{NoMemory, Stamps};
-ghost use Rattle.rebase.specs.Chaining.{HasTip};
+ghost use Rattle.rebase.specs.Inside.Chaining.{HasTip};
 ghost use Rattle.rebase.specs.Fixing.{staged};
 
 use crate::patches::patched_map;

@@ -8,10 +8,10 @@ ghost use Rattle.group_history.specs.Spelling.{Contents, map_at, Spells};
 ghost use Rattle.group_history.specs.State.{State, view_of};
 ghost use Rattle.group_history.specs.declared.refusals.Refusal.TheVariants.{NoMemory, Stamps};
 ghost use Rattle.map_tree.specs.Trees.{tree_map};
-ghost use Rattle.rebase.specs.Chaining.{IsTip, with_more};
+ghost use Rattle.rebase.specs.Inside.Chaining.{IsTip, with_more};
 ghost use Rattle.rebase.specs.Fixing.{staged};
 ghost use Rattle.rebase.specs.Refusing.{RefusesOrStamps};
-ghost use Rattle.rebase.specs.Running.{HasRun};
+ghost use Rattle.rebase.specs.Inside.Running.{HasRun};
 
 use crate::runs::{Run, run_on};
 use crate::tips::{Tip, add_local};

@@ -4,10 +4,11 @@ ghost use Rattle.group_history.specs.declared.mutators.Stop.{Stop as Stopped};
 ghost use Rattle.group_history.specs.declared.refusals.Refusal.TheVariants.{NoMemory};
 ghost use Rattle.group_history.specs.Map.{Entries};
 ghost use Rattle.group_history.specs.Meaning.{meaning_of};
-ghost use Rattle.map_tree.specs.Trees.{tree_map};
+ghost use Rattle.map_chunks.specs.Places.{AreAll};
+ghost use Rattle.map_tree.specs.Trees.{tree_map, tree_places};
 ghost use Rattle.transactions.specs.Maps.{shown_map};
 ghost use Rattle.rebase.specs.Fixing.{staged};
-ghost use Rattle.rebase.specs.Running.{HasRun};
+ghost use Rattle.rebase.specs.Inside.Running.{HasRun};
 
 use commits::VecNodes;
 use group_history::{Mutation, Mutators, Ran, Refusal};
@@ -33,6 +34,7 @@ fn run_known<C: Chunks + Copy, K: Known, M: Mutators>(
     requires known { C.contents chunks ≡ K.known }
     requires shown { (s : Stopped) → C.stops s → ⊥ }
     requires map { IsSome (tree_map K.known tree) }
+    requires places { AreAll (C.places chunks) (tree_places tree) }
     ensures ran { IfOk result (λ run. HasRun K.known (meaning_of M.means mutation.now (shown_map K.known tree)) run) }
     ensures err { IfErr result (λ e. e ≡ NoMemory) }
 {

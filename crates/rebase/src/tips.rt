@@ -15,7 +15,7 @@ ghost use Rattle.group_history.specs.State.{opening, pulled_state};
 ghost use Rattle.group_history.specs.declared.refusals.Refusal.TheVariants.{NoMemory, Stamps};
 ghost use Rattle.map_chunks.specs.Places.{with_nodes};
 ghost use Rattle.map_tree.specs.Trees.{tree_map};
-ghost use Rattle.rebase.specs.Chaining.{HasTip};
+ghost use Rattle.rebase.specs.Inside.Chaining.{HasTip};
 
 use group_history::{
     Chunk, Commit, ConfirmedIds, Cookie, Keys, Kind, Leaf, Mutation, Node, Over, Ref, Refusal,

@@ -12,7 +12,8 @@ use Rattle.script_runner.specs.declared.faults.Fault.{Fault}
 use Rattle.script_runner.specs.declared.faults.Fault.TheVariants as fault
 use Rattle.script_runner.specs.declared.faults.ScriptFault.TheVariants as text
 use Rattle.script_runner.specs.Context.{Context, nothing_said}
-use Rattle.script_runner.specs.Faults.{fault_in, fault_after, said_with, fault_at, Follows, Checks, first_fault, lines_of, line_of_bad_byte}
+use Rattle.script_runner.specs.Faults.{fault_in, fault_after, said_with, Checks, first_fault, lines_of, line_of_bad_byte}
+use Rattle.script_runner.specs.Inside.Faults.{fault_at, Follows}
 
 -- The lines so far, of which there are n, have no fault, and say this: the first fault of a script that begins with
 -- them is the first one in what follows.

@@ -4,7 +4,6 @@ use Rattle.std.specs.Prelude.{codes, ℕ, ◌^◌, ◌-◌, Bool, true, ◌&&◌
 use Rattle.std.specs.List.{list_any}
 use Rattle.std.specs.Str.Parse.{digits_value}
 use Rattle.group_history.specs.Map.{Bytes, same_text}
-use Rattle.group_history.specs.declared.scans.Scan.{Scan}
 use Rattle.script_runner.specs.declared.faults.ScriptFault.{ScriptFault}
 use Rattle.script_runner.specs.declared.faults.ScriptFault.TheVariants as fault
 use Rattle.script_runner.specs.declared.script.Command.{Command}
@@ -28,12 +27,6 @@ get_line c rest = meets ((is_some rest, fault.BadWords) ∷ []) (c, command.Quer
 -- `has KEY`
 unfoldable pub has_line : Context → Option Bytes → Told
 has_line c rest = meets ((is_some rest, fault.BadWords) ∷ []) (c, command.Query (query.Has (text rest)))
-
--- what the three words of a scan say
-abbrev pub scan_said : Bytes → Bytes → Bytes → Result Scan ScriptFault
-scan_said prefix start limit =
-    meets ((is_start start, fault.BadWords) ∷ (is_limit limit, fault.BadNumber) ∷ [])
-    (record { prefix = prefix_said prefix; start = start_said start; limit = limit_said limit })
 
 -- `scan PREFIX START LIMIT`
 unfoldable pub scan_line : Context → Option Bytes → Told

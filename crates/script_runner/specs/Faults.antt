@@ -1,16 +1,13 @@
 -- Which line of a script is the first faulty one, and what is wrong with it.
-use Rattle.std.specs.Prelude.{codes, ◌≡◌, ⊤, ℕ, ◌+◌, Bool, true, false, ◌||◌, ◌==◌, List, [], ◌∷◌, length, take, slice_index, Option, Some, None, Result, Ok, Err, if◌then◌else◌, count_by}
+use Rattle.std.specs.Prelude.{codes, ◌≡◌, ⊤, ℕ, ◌+◌, Bool, ◌||◌, ◌==◌, List, [], ◌∷◌, length, take, slice_index, Option, Some, None, Result, Ok, Err, if◌then◌else◌, count_by}
 use Rattle.std.specs.List.{slice_split}
 use Rattle.std.specs.Str.{is_utf8}
 use Rattle.std.specs.Str.Lossy.{utf8_valid_len}
 use Rattle.group_history.specs.Map.{Bytes, same_text}
 use Rattle.script_runner.specs.declared.faults.ScriptFault.{ScriptFault}
 use Rattle.script_runner.specs.declared.faults.ScriptFault.TheVariants as text
-use Rattle.script_runner.specs.declared.faults.LineFault.{LineFault}
-use Rattle.script_runner.specs.declared.faults.LineFault.TheVariants as line
 use Rattle.script_runner.specs.declared.faults.Fault.{Fault}
 use Rattle.script_runner.specs.declared.faults.Fault.TheVariants as fault
-use Rattle.script_runner.specs.declared.script.Command.{Command}
 use Rattle.script_runner.specs.Context.{Context, nothing_said}
 use Rattle.script_runner.specs.Header.{header_line}
 use Rattle.script_runner.specs.Commands.{phase_line, command_line}
@@ -53,42 +50,6 @@ line_of_bad_byte bytes = count_by (λ b. b == 10) (take (utf8_valid_len bytes) b
 -- well formed. That a script is no UTF-8 is told before any other fault.
 unfoldable pub first_fault : Bytes → Option (ℕ × ScriptFault)
 first_fault bytes = if is_utf8 bytes then fault_in 1 nothing_said (lines_of bytes) else Some (line_of_bad_byte bytes, text.NotUtf8)
-
--- the fault of the script, where a line of this number has this fault
-abbrev pub fault_at : ℕ → LineFault → Fault
-fault_at n (line.Script t) = fault.Script n t
-fault_at n line.NoMemory = fault.NoMemory
-
--- The answer where a test decides: the value where it holds, and else this fault.
-abbrev pub Tests : {X : Type 0} → Bool → ScriptFault → Result X ScriptFault → Type 0
-Tests holds f (Ok x) = holds ≡ true
-Tests holds f (Err e) = (holds ≡ false) × (e ≡ f)
-
--- the same, and want of memory may come in place of any answer
-abbrev pub TestsLine : {X : Type 0} → Bool → ScriptFault → Result X LineFault → Type 0
-TestsLine holds f (Ok x) = holds ≡ true
-TestsLine holds f (Err (line.Script e)) = (holds ≡ false) × (e ≡ f)
-TestsLine holds f (Err line.NoMemory) = ⊤
-
--- The answer where needs decide: the value that is said where all are met, and else the fault of the first that isn't.
--- Want of memory may come in place of any answer.
-abbrev pub Reads : {X : Type 0} → Result X ScriptFault → Result X LineFault → Type 0
-Reads right (Ok x) = right ≡ Ok x
-Reads right (Err (line.Script f)) = right ≡ Err f
-Reads right (Err line.NoMemory) = ⊤
-
--- The call's answer on a line: Ok where the line is right, and this is then said; else the line's fault. Want of
--- memory may come in place of any answer.
-abbrev pub Follows : {X : Type 0} → Result Context ScriptFault → Context → Result X LineFault → Type 0
-Follows right c (Ok x) = right ≡ Ok c
-Follows right c (Err (line.Script f)) = right ≡ Err f
-Follows right c (Err line.NoMemory) = ⊤
-
--- The same of a client's line: Ok with its command.
-abbrev pub Tells : Result (Context × Command) ScriptFault → Context → Result Command LineFault → Type 0
-Tells right c (Ok k) = right ≡ Ok (c, k)
-Tells right c (Err (line.Script f)) = right ≡ Err f
-Tells right c (Err line.NoMemory) = ⊤
 
 -- The answer on a script: a fault of the script only where it is the first one, and success only where there is
 -- none. Want of memory, or a failed writer, may come in place of success; want of memory of any answer.

@@ -29,12 +29,6 @@ slots_line c rest =
     meets ((is_word (text rest), fault.BadWords) ∷ (is_number 16 max_slots (text rest), fault.BadNumber) ∷ (is_none c.slots, fault.SaidTwice) ∷ [])
     (record c { slots = Some (digits_value 10 (text rest)) })
 
--- a client of a new name, where there is room for one
-abbrev pub admitted : Context → Bytes → Bytes → Result Context ScriptFault
-admitted c name id =
-    meets ((is_none (place_of name c.clients), fault.SaidTwice) ∷ (nat_lt (length c.clients) max_seats, fault.TooManyClients) ∷ [])
-    (record c { clients = c.clients ++ (name, id) ∷ [] })
-
 -- `client NAME UUID`
 unfoldable pub client_line : Context → Option Bytes → Result Context ScriptFault
 client_line c rest =

@@ -124,12 +124,7 @@ mutator_of name why =
     else (if same_text name (codes "tag") then Some (tag_means why)
     else None))))
 
--- what a mutator means at the value that the arguments are; without one it is unknown
-abbrev pub meaning_at : Option (Data → Entries → Meaning) → Data → Entries → Meaning
-meaning_at None args m = unknown
-meaning_at (Some means) args m = means args m
-
--- the same at the arguments' text
+-- what a mutator means at the value that the arguments' text is; without one it is unknown
 abbrev pub meaning_at_text : Option (Data → Entries → Meaning) → Bytes → Entries → Meaning
 meaning_at_text None args m = unknown
 meaning_at_text (Some means) args m = needs wrong_arguments (value_of args) (λ d. means d m)

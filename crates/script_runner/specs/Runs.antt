@@ -1,5 +1,5 @@
 -- How a run of a script ends.
-use Rattle.std.specs.Prelude.{⊤, ℕ}
+use Rattle.std.specs.Prelude.{⊤}
 use Rattle.script_runner.specs.declared.faults.Fault.{Fault}
 use Rattle.script_runner.specs.declared.faults.Fault.TheVariants as fault
 
@@ -8,9 +8,3 @@ abbrev pub IsOfScript : Fault → Type 0
 IsOfScript (fault.Script line text) = ⊤
 IsOfScript fault.NoMemory = ⊥
 IsOfScript fault.Write = ⊥
-
--- the status of a process that ends with the fault
-abbrev pub status_of : Fault → ℕ
-status_of (fault.Script line text) = 2
-status_of fault.NoMemory = 3
-status_of fault.Write = 3

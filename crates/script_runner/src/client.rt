@@ -1,7 +1,7 @@
 //! A client of a script: what it keeps between its lines, and what each command does.
 ghost use Rattle.std.specs.Prelude.{◌≡◌};
 ghost use Rattle.rebase.specs.Replying.{reply_seen};
-ghost use Rattle.script_runner.specs.Printing.{reply_text, answer_text};
+ghost use Rattle.script_runner.specs.Inside.Printing.{reply_text, answer_text};
 
 use crate::groups::Group;
 use crate::reply::Reply;

@@ -83,7 +83,7 @@ pub(crate) enum LineFault {
 }
 
 impl LineFault {
-    ghost use Rattle.script_runner.specs.Faults.{fault_at};
+    ghost use Rattle.script_runner.specs.Inside.Faults.{fault_at};
 
     /// The fault of the whole script, where this is the line's.
     pub(crate) fn at(self, line: u64) -> Fault

@@ -13,6 +13,7 @@ ghost use Rattle.serde_json.specs.Written.{has_float, compact_text};
 ghost use Rattle.group_history.specs.Ran.{RunsAs};
 ghost use Rattle.group_history.specs.declared.mutators.Stop.TheVariants.{NoMemory};
 ghost use Rattle.script_runner.specs.Mutators as spec;
+ghost use Rattle.script_runner.specs.Inside.Mutators.{meaning_at};
 
 use group_history::{Json, Means, Mutators, Ran, Reason, Refusal, Stop, WriteView};
 use serde_json::Value;
@@ -52,7 +53,7 @@ fn run_named<V: WriteView>(
 ) -> Result<Ran, Stop>
     requires shallow { depth (data_of args.now) ≤ 124 }
     requires whole { has_float (data_of args.now) ≡ false }
-    ensures ran { IfOk result (λ ran. RunsAs (spec.meaning_at (spec.mutator_of name.now why) (data_of args.now) (V.contents view.old)) ran (V.contents view.new)) }
+    ensures ran { IfOk result (λ ran. RunsAs (meaning_at (spec.mutator_of name.now why) (data_of args.now) (V.contents view.old)) ran (V.contents view.new)) }
     ensures stopped { IfErr result (λ stop. (stop ≡ NoMemory) ⊎ V.stops stop) }
 {
     if name == "set" {

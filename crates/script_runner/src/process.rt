@@ -1,7 +1,7 @@
 //! The program over any reader and writers.
 ghost use Rattle.std.specs.Prelude.{◌≡◌, ◌⊎◌, true, None, IfSome, is_some};
 ghost use Rattle.script_runner.specs.Faults.{first_fault};
-ghost use Rattle.script_runner.specs.Runs.{status_of};
+ghost use Rattle.script_runner.specs.Inside.Runs.{status_of};
 
 use crate::faults::Fault;
 use crate::runner::{Gate, run};

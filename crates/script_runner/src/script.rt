@@ -7,8 +7,10 @@ ghost use Rattle.std.specs.Prelude.{◌≡◌, codes, map, unwrap_or, is_none, I
 ghost use Rattle.std.specs.Option.{option_copied};
 ghost use Rattle.std.specs.Str.Lossy.{utf8_valid_len};
 ghost use Rattle.script_runner.specs.Context.{place_of, nothing_said};
-ghost use Rattle.script_runner.specs.Commands.{bare_command, scan_said};
-ghost use Rattle.script_runner.specs.Faults.{Tests, TestsLine, Reads, Checks, first_fault, fault_in, lines_of, line_of_bad_byte};
+ghost use Rattle.script_runner.specs.Commands.{bare_command};
+ghost use Rattle.script_runner.specs.Inside.Commands.{scan_said};
+ghost use Rattle.script_runner.specs.Faults.{Checks, first_fault, fault_in, lines_of, line_of_bad_byte};
+ghost use Rattle.script_runner.specs.Inside.Faults.{Tests, TestsLine, Reads};
 ghost use Rattle.script_runner.specs.Words.{is_uuid, uuid_said, is_start, start_said, is_limit, limit_said, is_json, json_said};
 ghost use Rattle.script_runner.specs.declared.faults.ScriptFault.TheVariants as script_fault;
 ghost use Rattle.script_runner.specs.declared.faults.Fault.TheVariants as fault;
@@ -176,10 +178,12 @@ struct Parser {
 
 impl Parser {
     ghost use Rattle.script_runner.specs.Context.{nothing_said};
-    ghost use Rattle.script_runner.specs.Header.{group_line, profile_line, schema_line, slots_line, client_line, admitted, header_line};
+    ghost use Rattle.script_runner.specs.Header.{group_line, profile_line, schema_line, slots_line, client_line, header_line};
+    ghost use Rattle.script_runner.specs.Inside.Header.{admitted};
     ghost use Rattle.script_runner.specs.Commands.{phase_line, get_line, has_line, scan_line, begin_line, is_made, end_line, mutate_line, learn_line, bare_line, look_line, named_command, command_of, command_line};
-    ghost use Rattle.script_runner.specs.Faults.{Follows, Tells, said_with, words_line};
-    ghost use Rattle.script_runner.specs.Parsing.{context_of};
+    ghost use Rattle.script_runner.specs.Faults.{said_with, words_line};
+    ghost use Rattle.script_runner.specs.Inside.Faults.{Follows, Tells};
+    ghost use Rattle.script_runner.specs.Inside.Parsing.{context_of};
 
     fn new(alloc: Global) -> Parser
         ensures { context_of result ≡ nothing_said }

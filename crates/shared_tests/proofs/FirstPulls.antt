@@ -10,6 +10,7 @@ use Rattle.group_history.specs.declared.nodes.Kind.TheVariants.{Snapshot}
 use Rattle.group_history.specs.declared.nodes.Node.{Node}
 use Rattle.group_history.specs.declared.nodes.Node.TheVariants as node
 use Rattle.group_history.specs.declared.nodes.Child.{Child}
+use Rattle.group_history.specs.declared.nodes.Child.TheVariants.{Placed}
 use Rattle.group_history.specs.Cookies.{Cookie, order_cmp}
 use Rattle.group_history.specs.Pulling.{by_order}
 use Rattle.group_history.specs.Record.{IsAccepted}
@@ -21,7 +22,7 @@ use Rattle.group_history.proofs.TextMaps.{empty_map}
 use Rattle.head_word.specs.declared.entry.Entry.{Entry}
 use Rattle.head_word.specs.declared.lost.Lost.{Lost}
 use Rattle.head_word.specs.Books.{drafted, drawn, next_stamp, opening, StartsOpened, Follows}
-use Rattle.shared_tests.specs.Trials.{no_mutators, bare, bare_pull, SpellsBare}
+use Rattle.shared_tests.specs.Trials.{no_mutators, bare_pull, SpellsBare}
 use Rattle.head_word.proofs.Books.{drawn_more}
 use Rattle.head_word.proofs.Stepping.{opening_spells, spells_from, starts_from, starts_with}
 
@@ -34,10 +35,14 @@ empty_root log starts =
     let there : segment_at (drawn log) 0 ≡ Some leaf = subst (λ cs. segment_at cs 0 ≡ Some leaf) all (segment-stays (drawn (opening begun.0)) (drawn begun.1.0) 0 leaf refl) in
     ap (option_and_then map_of) there ∙ ap Some empty_map
 
+-- the snapshot as its draft lists it
+abbrev pub bare_node : Cookie → Ref → Node Child
+bare_node cookie root = node.Commit (record { root = Placed root; kind = Snapshot (record { cookie = cookie; confirmed = finite.empty }) })
+
 -- the draft of such a snapshot spells the state after the pull
-pub bare_spells : (log : List Entry) (by : Option ℕ) (cookie : Cookie) (root : Ref) → StartsOpened log → stamp_of root ≡ 0 → SpellsBare (log ++ drafted by (next_stamp log) (bare cookie root ∷ []) ∷ []) (next_stamp log) cookie
+pub bare_spells : (log : List Entry) (by : Option ℕ) (cookie : Cookie) (root : Ref) → StartsOpened log → stamp_of root ≡ 0 → SpellsBare (log ++ drafted by (next_stamp log) (bare_node cookie root ∷ []) ∷ []) (next_stamp log) cookie
 bare_spells log by cookie root starts at_leaf =
-    let e = drafted by (next_stamp log) (bare cookie root ∷ []) in
+    let e = drafted by (next_stamp log) (bare_node cookie root ∷ []) in
     let content : Node ℕ = node.Commit (record { root = stamp_of root; kind = Snapshot (record { cookie = cookie; confirmed = finite.empty }) }) in
     let map : map_in (spelled (drawn log)) (stamp_of root) ≡ Some finite.empty = ap (map_in (spelled (drawn log))) at_leaf ∙ empty_root log starts in
     let made : version_at (drawn log ++ content ∷ []) (next_stamp log) ≡ Some (record { state = pulled_state finite.empty cookie finite.empty; read = finite.empty }) =
@@ -63,7 +68,7 @@ bare_follows log cookie base new starts at_opening above spells =
     }
 
 -- a draft that was drawn is the snapshot's
-pub bare_drawn : (result : Result ℕ Lost) (old new : List Entry) (by : Option ℕ) (cookie : Cookie) (root : Ref) (nodes : List (Node Child)) → StartsOpened old → stamp_of root ≡ 0 → nodes ≡ bare cookie root ∷ []
+pub bare_drawn : (result : Result ℕ Lost) (old new : List Entry) (by : Option ℕ) (cookie : Cookie) (root : Ref) (nodes : List (Node Child)) → StartsOpened old → stamp_of root ≡ 0 → nodes ≡ bare_node cookie root ∷ []
     → IfOk result (λ first. (log : List Entry) × IsPrefix old log × (next_stamp log ≡ first) × (new ≡ log ++ drafted by first nodes ∷ [])) → IfOk result (λ first. first + length nodes < stamps)
     → IfOk result (λ first. (first < stamps) × SpellsBare new first cookie)
 bare_drawn (Err e) old new by cookie root nodes starts at_leaf is drew room = tt

@@ -1,1 +1,2 @@
 pub mod FirstPulls
+pub mod Leaves

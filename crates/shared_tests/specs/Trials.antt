@@ -1,13 +1,11 @@
--- What the tests try: a group without mutators, whose first pull brings a cookie and nothing else.
-use Rattle.std.specs.Prelude.{ℕ, List, []}
+-- What the tests try: a group without mutators, whose first pull brings a cookie and nothing else, and in which empty leaves are drafted.
+use Rattle.std.specs.Prelude.{ℕ, ◌≡◌, List, [], Some, slice_get}
 use Rattle.std.specs.FinMap as finite
 use Rattle.group_history.specs.declared.changes.Change.{Change}
 use Rattle.group_history.specs.declared.changes.Change.TheVariants.{Pulled}
 use Rattle.group_history.specs.declared.nodes.Kind.TheVariants.{Snapshot}
 use Rattle.group_history.specs.declared.nodes.Node.{Node}
 use Rattle.group_history.specs.declared.nodes.Node.TheVariants as node
-use Rattle.group_history.specs.declared.nodes.Child.{Child}
-use Rattle.group_history.specs.declared.nodes.Child.TheVariants.{Placed}
 use Rattle.group_history.specs.declared.refs.Ref.{Ref}
 use Rattle.group_history.specs.Cookies.{Cookie, null_cookie}
 use Rattle.group_history.specs.Meaning.{Meanings, unknown}
@@ -15,14 +13,15 @@ use Rattle.group_history.specs.Record.{after_change}
 use Rattle.group_history.specs.State.{opening}
 use Rattle.head_word.specs.declared.entry.Entry.{Entry}
 use Rattle.group_history.specs.Spelling.{Spells}
-use Rattle.head_word.specs.Books.{drawn}
+use Rattle.group_history.specs.Naming.{drafted_content}
+use Rattle.head_word.specs.Books.{drawn, empty_leaf}
 
 abbrev pub no_mutators : Meanings
 no_mutators name args why m = unknown
 
 -- the snapshot of an empty map under a cookie, over the leaf that `root` names
-abbrev pub bare : Cookie → Ref → Node Child
-bare cookie root = node.Commit (record { root = Placed root; kind = Snapshot (record { cookie = cookie; confirmed = finite.empty }) })
+abbrev pub bare : Cookie → Ref → Node Ref
+bare cookie root = node.Commit (record { root = root; kind = Snapshot (record { cookie = cookie; confirmed = finite.empty }) })
 
 abbrev pub bare_pull : Cookie → Change
 bare_pull cookie = Pulled null_cookie (record { cookie = cookie; changes = []; patch = [] })
@@ -30,3 +29,7 @@ bare_pull cookie = Pulled null_cookie (record { cookie = cookie; changes = []; p
 -- the stamp is a commit of the state after the pull
 abbrev pub SpellsBare : List Entry → ℕ → Cookie → Type 0
 SpellsBare log stamp cookie = Spells no_mutators (drawn log) stamp (after_change opening (bare_pull cookie))
+
+-- an empty leaf was drafted under the stamp
+abbrev pub HasLeaf : List Entry → ℕ → Type 0
+HasLeaf log stamp = slice_get (drawn log) stamp ≡ Some (drafted_content 0 empty_leaf)

@@ -1,3 +1,4 @@
 //! What no contract says: that calls succeed, and what threads meet.
 mod claims;
 mod heads;
+mod slots;

@@ -4,7 +4,10 @@ use Rattle.std.specs.Prelude.{IsSome}
 use mathlib.Core.List.{IsPrefix}
 use Rattle.group_history.specs.Map.{Entries}
 use Rattle.group_history.specs.Spelling.{Contents}
-use Rattle.map_tree.specs.Trees.{tree_map}
+use Rattle.group_history.specs.declared.refs.Ref.{Ref}
+use Rattle.map_chunks.specs.Places.{AreAll, AreKept}
+use Rattle.map_chunks.proofs.KeptLemmas.{all_kept}
+use Rattle.map_tree.specs.Trees.{tree_map, tree_places}
 use Rattle.map_tree.specs.declared.tree.Tree.{Tree}
 use Rattle.map_chunks.proofs.AnswerLemmas.{on_ok, on_err, either_way}
 use Rattle.map_tree.proofs.WriteLemmas.{root_kept, kept_there}
@@ -32,3 +35,7 @@ pub shown-there : {A E : Type 0} (r : Result A E) (old new : Contents) (t u : Tr
     → ((m : Entries) → tree_map old t ≡ Some m → OnOk r (tree_map new u ≡ Some (f m))) → OnErr r (u ≡ t) → IsSome (tree_map new u)
 shown-there r old new t u f p h g e =
     either_way r (g (shown_map old t) (some_map (tree_map old t) h)) e (λ is. subst IsSome (sym is) refl) (λ is. subst (λ (w : Tree). IsSome (tree_map new w)) (sym is) (kept_there old new t.root p h))
+
+-- what a changed tree names may be looked for, in both cases
+pub places-there : {A E : Type 0} (r : Result A E) (may : Ref → Type 0) (t u : Tree) → AreAll may (tree_places t) → OnOk r (AreKept may (tree_places t) (tree_places u)) → OnErr r (u ≡ t) → AreAll may (tree_places u)
+places-there r may t u all kept e = either_way r kept e (λ k. all_kept may (tree_places t) (tree_places u) all k) (λ is. subst (λ (w : Tree). AreAll may (tree_places w)) (sym is) all)

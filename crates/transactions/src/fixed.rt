@@ -2,8 +2,8 @@
 //!
 //! A run over any view hands back the view alone, and a look at a node may teach more of what is placed.
 //! So that a tree is still known to spell a map over the very nodes from which it began, these are named
-//! by the type: `K` stands for their contents, and each look goes through a copy.
-ghost use Rattle.std.specs.Prelude.{◌≡◌, []};
+//! by the type: `K` stands for their contents, whatever more the nodes tell on the way.
+ghost use Rattle.std.specs.Prelude.{◌≡◌, [], length, take};
 ghost use Rattle.std.specs.Coded.{Coded-set, codes};
 ghost use Rattle.group_history.specs.Spelling.{Contents};
 ghost use Rattle.group_history.specs.State.{ids_coded};
@@ -22,15 +22,15 @@ impl Known for Brand {
     ghost known = { [] };
 }
 
-/// Chunks whose contents are those that `K` names.
+/// Chunks whose contents begin with those that `K` names. No others are told.
 #[derive(Drop)]
-pub struct Fixed<C: Chunks + Copy, K: Known> {
+pub struct Fixed<C: Chunks, K: Known> {
     chunks: C,
     of: PhantomData<K>,
-    ghost same: { C.contents chunks ≡ K.known } by { Prim.hlevel (codes, ids_coded, Coded-set) },
+    ghost begun: { take (length K.known) (C.contents chunks) ≡ K.known } by { Prim.hlevel (codes, ids_coded, Coded-set) },
 }
 
-impl<C: Chunks + Copy, K: Known> Fixed<C, K> {
+impl<C: Chunks, K: Known> Fixed<C, K> {
     pub fn new(chunks: C) -> Fixed<C, K>
         requires { C.contents chunks ≡ K.known }
         ensures { result.chunks ≡ chunks }
@@ -42,36 +42,34 @@ impl<C: Chunks + Copy, K: Known> Fixed<C, K> {
     }
 }
 
-impl<C: Chunks + Copy, K: Known> Chunks for Fixed<C, K> {
+impl<C: Chunks, K: Known> Chunks for Fixed<C, K> {
     type Held = C::Held;
 
     ghost contents = { λ fixed. K.known };
 
+    ghost places = { λ fixed. C.places fixed.chunks };
+
+    ghost places_prop = { λ fixed. C.places_prop fixed.chunks };
+
     ghost stops = { C.stops };
 
     fn show(&mut self, at: Ref) -> Result<C::Held, Stop> {
-        let mut chunks = self.chunks;
-        let held = chunks.show(at)?;
-        Ok(held)
+        self.chunks.show(at)
     }
 
     fn leave(&mut self, held: C::Held) {
-        let mut chunks = self.chunks;
-        chunks.leave(held);
+        self.chunks.leave(held);
     }
 }
 
-impl<N: Nodes + Copy, K: Known> Nodes for Fixed<N, K> {
+impl<N: Nodes, K: Known> Nodes for Fixed<N, K> {
     type HeldCommit = N::HeldCommit;
 
     fn show_commit(&mut self, at: Ref) -> Result<N::HeldCommit, Stop> {
-        let mut nodes = self.chunks;
-        let held = nodes.show_commit(at)?;
-        Ok(held)
+        self.chunks.show_commit(at)
     }
 
     fn leave_commit(&mut self, held: N::HeldCommit) {
-        let mut nodes = self.chunks;
-        nodes.leave_commit(held);
+        self.chunks.leave_commit(held);
     }
 }

@@ -1,7 +1,7 @@
 //! A commit that is read.
 //!
-//! The type's invariant (`IsRead`) is that the head's stamp spells a version and the root's stamp the map
-//! of it. Contracts see the version, which no call changes, and what is known to be placed, which may
+//! The type's invariant is that the head's stamp spells a version and the root's stamp the map of it
+//! (`IsRead`), and that a node may be looked for at either. Contracts see the version, which no call changes, and what is known to be placed, which may
 //! grow with each call, also with one that stops.
 ghost use Rattle.std.specs.Prelude.{◌≡◌, ◌⊎◌, ◌==◌, length, Some, IfOk, IfErr, IsSome};
 ghost use mathlib.Core.List.{IsPrefix};
@@ -9,6 +9,7 @@ ghost use Rattle.std.specs.FinMap as finite;
 ghost use Rattle.group_history.specs.Refs.{stamp_of};
 ghost use Rattle.group_history.specs.Scans.{rows_of};
 ghost use Rattle.group_history.specs.Spelling.{Version, version_at};
+ghost use Rattle.map_chunks.specs.Places.{Grows};
 ghost use Rattle.group_history.specs.declared.mutators.Stop.TheVariants.{NoMemory};
 
 use commits::{Nodes, closed_of, cookie_of, read_root, walk};
@@ -27,6 +28,7 @@ pub struct ReadTx<N: Nodes> {
 }
 
 impl<N: Nodes> Model for ReadTx<N> {
+    ghost use Rattle.std.specs.Prelude.{◌≡◌};
     ghost use Rattle.std.specs.Ordering.{nat_cmp};
     ghost use Rattle.std.specs.Cmp.Lexicographic.{slice_cmp};
     ghost use Rattle.std.specs.Coded.{codes, coded_ℕ, coded_list};
@@ -40,16 +42,17 @@ impl<N: Nodes> Model for ReadTx<N> {
 
     ghost view = { λ tx. record { contents = N.contents tx.nodes; version = read_version (N.contents tx.nodes) (stamp_of tx.head) } };
 
-    ghost invariant = { λ tx. IsRead (N.contents tx.nodes) (stamp_of tx.head) (stamp_of tx.root) };
+    ghost invariant = { λ tx. IsRead (N.contents tx.nodes) (stamp_of tx.head) (stamp_of tx.root) × N.places tx.nodes tx.head × N.places tx.nodes tx.root };
 }
 
 impl<N: Nodes> ReadTx<N> {
     /// Opens a commit. Where it stops, the nodes are handed back.
     pub fn open(alloc: Global, nodes: N, head: Ref) -> Result<ReadTx<N>, (N, Stop)>
-        requires { IsSome (version_at (N.contents nodes) (stamp_of head)) }
+        requires known { IsSome (version_at (N.contents nodes) (stamp_of head)) }
+        requires place { N.places nodes head }
         ensures version { (v : Version) → version_at (N.contents nodes) (stamp_of head) ≡ Some v → IfOk result (λ tx. tx.version ≡ v) }
         ensures grown { IfOk result (λ tx. IsPrefix (N.contents nodes) tx.contents) }
-        ensures back { IfErr result (λ e. IsPrefix (N.contents nodes) (N.contents e.0)) }
+        ensures back { IfErr result (λ e. Grows N.contents N.places nodes e.0) }
         ensures stopped { IfErr result (λ e. N.stops e.1) }
     {
         let mut nodes = nodes;

@@ -1,16 +1,15 @@
 //! A map that is written.
 //!
-//! The type's invariant is that the tree spells a map, given what is known to be placed: this map is what
-//! the transaction shows. A look at a chunk may teach more of what is placed, which changes no map; a look
+//! The type's invariant is that the tree spells a map, given what is known to be placed, and that each
+//! chunk that it names may be looked for: this map is what the transaction shows. A look at a chunk may teach more of what is placed, which changes no map; a look
 //! and a call that stops leave the tree itself, so they make no chunk new.
-ghost use Rattle.std.specs.Prelude.{◌≡◌, ◌⊎◌, Some, None, IsSome, IfOk, IfErr, OnOk, OnErr};
-ghost use mathlib.Core.List.{IsPrefix};
+ghost use Rattle.std.specs.Prelude.{◌≡◌, ◌⊎◌, ◌+◌, ◌≤◌, ℕ, Some, None, IsSome, IfOk, IfErr, OnOk, OnErr};
 ghost use Rattle.std.specs.FinMap as finite;
 ghost use Rattle.group_history.specs.Scans.{rows_of};
 ghost use Rattle.group_history.specs.declared.mutators.Stop.TheVariants.{NoMemory};
-ghost use Rattle.map_chunks.specs.Places.{AreKept};
-ghost use Rattle.map_tree.specs.Trees.{tree_places, tree_map, tree_fresh, HasWideRoot};
-ghost use Rattle.transactions.specs.Maps.{shown_map};
+ghost use Rattle.map_chunks.specs.Places.{Grows, AreAll, AreKept};
+ghost use Rattle.map_tree.specs.Trees.{tree_places, tree_map, tree_depth, tree_fresh, HasWideRoot};
+ghost use Rattle.transactions.specs.Maps.{shown_map, all_prop};
 
 use group_history::{Json, Scan, Stop, Text, WriteView};
 use map_tree::{Chunks, Tree};
@@ -24,12 +23,14 @@ pub struct WriteTx<C: Chunks> {
     chunks: C,
     tree: Tree,
     ghost spells: { IsSome (tree_map (C.contents chunks) tree) },
+    ghost placed: { AreAll (C.places chunks) (tree_places tree) } by { all_prop (C.places chunks) (tree_places tree) (C.places_prop chunks) },
 }
 
 impl<C: Chunks> WriteTx<C> {
     /// A transaction that shows the tree's map.
     pub fn new(alloc: Global, chunks: C, tree: Tree) -> WriteTx<C>
-        requires { IsSome (tree_map (C.contents chunks) tree) }
+        requires map { IsSome (tree_map (C.contents chunks) tree) }
+        requires places { AreAll (C.places chunks) (tree_places tree) }
         ensures chunks { result.chunks ≡ chunks }
         ensures tree { result.tree ≡ tree }
     {
@@ -44,6 +45,7 @@ impl<C: Chunks> WriteTx<C> {
     pub fn into_parts(self) -> (C, Tree)
         ensures chunks { result.0 ≡ self.chunks }
         ensures tree { result.1 ≡ self.tree }
+        ensures places { AreAll (C.places result.0) (tree_places result.1) }
         ensures map { tree_map (C.contents result.0) result.1 ≡ Some (shown_map (C.contents self.chunks) self.tree) }
     {
         let WriteTx {
@@ -74,7 +76,7 @@ impl<C: Chunks> WriteView for WriteTx<C> {
         ensures value { IfOk result (λ found. found ≡ finite.get (shown_map (C.contents self.old.chunks) self.old.tree) key.now) }
         ensures kept { shown_map (C.contents self.new.chunks) self.new.tree ≡ shown_map (C.contents self.old.chunks) self.old.tree }
         ensures tree { self.new.tree ≡ self.old.tree }
-        ensures grown { IsPrefix (C.contents self.old.chunks) (C.contents self.new.chunks) }
+        ensures grown { Grows C.contents C.places self.old.chunks self.new.chunks }
         ensures stopped { IfErr result (λ stop. (stop ≡ NoMemory) ⊎ C.stops stop) }
     {
         self.tree.get(&mut self.chunks, key)
@@ -84,7 +86,7 @@ impl<C: Chunks> WriteView for WriteTx<C> {
         ensures value { IfOk result (λ found. found ≡ finite.contains_key (shown_map (C.contents self.old.chunks) self.old.tree) key.now) }
         ensures kept { shown_map (C.contents self.new.chunks) self.new.tree ≡ shown_map (C.contents self.old.chunks) self.old.tree }
         ensures tree { self.new.tree ≡ self.old.tree }
-        ensures grown { IsPrefix (C.contents self.old.chunks) (C.contents self.new.chunks) }
+        ensures grown { Grows C.contents C.places self.old.chunks self.new.chunks }
         ensures stopped { IfErr result (λ stop. (stop ≡ NoMemory) ⊎ C.stops stop) }
     {
         self.tree.has(&mut self.chunks, key)
@@ -94,7 +96,7 @@ impl<C: Chunks> WriteView for WriteTx<C> {
         ensures value { IfOk result (λ rows. rows.items ≡ rows_of scan.now (shown_map (C.contents self.old.chunks) self.old.tree)) }
         ensures kept { shown_map (C.contents self.new.chunks) self.new.tree ≡ shown_map (C.contents self.old.chunks) self.old.tree }
         ensures tree { self.new.tree ≡ self.old.tree }
-        ensures grown { IsPrefix (C.contents self.old.chunks) (C.contents self.new.chunks) }
+        ensures grown { Grows C.contents C.places self.old.chunks self.new.chunks }
         ensures stopped { IfErr result (λ stop. (stop ≡ NoMemory) ⊎ C.stops stop) }
     {
         self.tree.scan(self.alloc, &mut self.chunks, scan)
@@ -105,8 +107,12 @@ impl<C: Chunks> WriteView for WriteTx<C> {
         ensures err { OnErr result (shown_map (C.contents self.new.chunks) self.new.tree ≡ shown_map (C.contents self.old.chunks) self.old.tree) }
         ensures tree { OnErr result (self.new.tree ≡ self.old.tree) }
         ensures same { finite.get (shown_map (C.contents self.old.chunks) self.old.tree) key.now ≡ Some value.now → OnOk result (self.new.tree ≡ self.old.tree) }
-        ensures places { OnOk result (AreKept C.Held.shown (C.contents self.new.chunks) (tree_places self.old.tree) (tree_places self.new.tree)) }
-        ensures grown { IsPrefix (C.contents self.old.chunks) (C.contents self.new.chunks) }
+        ensures few { (d : ℕ) → tree_depth (C.contents self.old.chunks) self.old.tree ≡ Some d → OnOk result (tree_fresh self.new.tree ≤ tree_fresh self.old.tree + d + d + 1) }
+        ensures replaced { (d : ℕ) → tree_depth (C.contents self.old.chunks) self.old.tree ≡ Some d → IsSome (finite.get (shown_map (C.contents self.old.chunks) self.old.tree) key.now) → OnOk result (tree_fresh self.new.tree ≤ tree_fresh self.old.tree + d) }
+        ensures deep { (d : ℕ) → tree_depth (C.contents self.old.chunks) self.old.tree ≡ Some d → OnOk result ((e : ℕ) × (tree_depth (C.contents self.new.chunks) self.new.tree ≡ Some e) × (d ≤ e) × (e ≤ d + 1)) }
+        ensures wide { HasWideRoot (C.contents self.old.chunks) self.old.tree → OnOk result (HasWideRoot (C.contents self.new.chunks) self.new.tree) }
+        ensures places { OnOk result (AreKept (C.places self.new.chunks) (tree_places self.old.tree) (tree_places self.new.tree)) }
+        ensures grown { Grows C.contents C.places self.old.chunks self.new.chunks }
         ensures stopped { IfErr result (λ stop. (stop ≡ NoMemory) ⊎ C.stops stop) }
     {
         self.tree.put(self.alloc, &mut self.chunks, key, value)
@@ -117,8 +123,11 @@ impl<C: Chunks> WriteView for WriteTx<C> {
         ensures err { OnErr result (shown_map (C.contents self.new.chunks) self.new.tree ≡ shown_map (C.contents self.old.chunks) self.old.tree) }
         ensures tree { OnErr result (self.new.tree ≡ self.old.tree) }
         ensures same { finite.get (shown_map (C.contents self.old.chunks) self.old.tree) key.now ≡ None → OnOk result (self.new.tree ≡ self.old.tree) }
-        ensures places { OnOk result (AreKept C.Held.shown (C.contents self.new.chunks) (tree_places self.old.tree) (tree_places self.new.tree)) }
-        ensures grown { IsPrefix (C.contents self.old.chunks) (C.contents self.new.chunks) }
+        ensures few { (d : ℕ) → tree_depth (C.contents self.old.chunks) self.old.tree ≡ Some d → OnOk result (tree_fresh self.new.tree ≤ tree_fresh self.old.tree + d) }
+        ensures deep { (d : ℕ) → tree_depth (C.contents self.old.chunks) self.old.tree ≡ Some d → OnOk result ((e : ℕ) × (tree_depth (C.contents self.new.chunks) self.new.tree ≡ Some e) × (e ≤ d)) }
+        ensures wide { HasWideRoot (C.contents self.old.chunks) self.old.tree → OnOk result (HasWideRoot (C.contents self.new.chunks) self.new.tree) }
+        ensures places { OnOk result (AreKept (C.places self.new.chunks) (tree_places self.old.tree) (tree_places self.new.tree)) }
+        ensures grown { Grows C.contents C.places self.old.chunks self.new.chunks }
         ensures stopped { IfErr result (λ stop. (stop ≡ NoMemory) ⊎ C.stops stop) }
     {
         self.tree.del(self.alloc, &mut self.chunks, key)

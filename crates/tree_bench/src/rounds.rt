@@ -22,7 +22,8 @@ pub(crate) fn get_all<C: Chunks + Copy>(
     root: Ref,
     asked: &[Text],
 ) -> Result<(), Refusal>
-    requires { IsSome (map_at (C.contents chunks) (stamp_of root)) }
+    requires known { IsSome (map_at (C.contents chunks) (stamp_of root)) }
+    requires place { C.places chunks root }
 {
     let mut map = WriteTx::new(alloc, chunks, Tree::at(root));
     get_each(&mut map, asked)
@@ -36,7 +37,8 @@ pub(crate) fn replace_all<C: Chunks + Copy>(
     asked: &[Text],
     other: &Json,
 ) -> Result<(), Refusal>
-    requires { IsSome (map_at (C.contents chunks) (stamp_of root)) }
+    requires known { IsSome (map_at (C.contents chunks) (stamp_of root)) }
+    requires place { C.places chunks root }
 {
     for key in asked {
         let mut map = WriteTx::new(alloc, chunks, Tree::at(root));
@@ -95,7 +97,8 @@ pub(crate) fn scan_all<C: Chunks + Copy>(
     asked: &[Text],
     rows: u64,
 ) -> Result<(), Refusal>
-    requires { IsSome (map_at (C.contents chunks) (stamp_of root)) }
+    requires known { IsSome (map_at (C.contents chunks) (stamp_of root)) }
+    requires place { C.places chunks root }
 {
     let mut map = WriteTx::new(alloc, chunks, Tree::at(root));
     scan_each(alloc, &mut map, asked, rows)

@@ -1,5 +1,6 @@
 //! Groups: that the two reply alike, and what a pull shares with the maps before it.
 ghost use Rattle.std.specs.Prelude.{◌≡◌, ◌<◌, ◌^◌, IsSome, IfOk, map};
+ghost use Rattle.std.specs.Coded.{Unit-prop};
 ghost use Rattle.group_history.specs.Naming.{content_of};
 ghost use Rattle.group_history.specs.Refs.{stamp_of};
 ghost use Rattle.group_history.specs.Spelling.{map_at, version_at};
@@ -192,6 +193,10 @@ impl<'a> Chunks for Counted<'a> {
 
     ghost contents = { λ counted. map content_of counted.shelf.nodes.now };
 
+    ghost places = { λ counted at. Unit {0} };
+
+    ghost places_prop = { λ _ at. Unit-prop };
+
     ghost stops = { λ stop. ⊥ };
 
     fn show(&mut self, at: Ref) -> Result<Lent<'a>, Stop> {
@@ -226,6 +231,7 @@ fn state_known<N: Nodes + Copy, K: Known>(
     requires known { N.contents nodes ≡ K.known }
     requires shown { (s : Stopped) → N.stops s → ⊥ }
     requires version { IsSome (version_at K.known (stamp_of head)) }
+    requires place { N.places nodes head }
     ensures { IfOk result (λ state. IsSome (map_at K.known (stamp_of state.pulled))) }
 {
     let mut fixed = Fixed::<N, K>::new(nodes);

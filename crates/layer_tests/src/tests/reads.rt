@@ -12,7 +12,8 @@ use transactions::ReadTx;
 
 /// Opens a commit; a commit that can't be shown is an error.
 fn opened<N: Nodes + Drop>(alloc: Global, nodes: N, head: Ref) -> Result<ReadTx<N>, Refusal>
-    requires { IsSome (version_at (N.contents nodes) (stamp_of head)) }
+    requires known { IsSome (version_at (N.contents nodes) (stamp_of head)) }
+    requires place { N.places nodes head }
 {
     match ReadTx::open(alloc, nodes, head) {
         Ok(tx) => Ok(tx),
@@ -39,19 +40,19 @@ fn is_b(rows: &[(Text, Json)]) -> bool {
 /// What a commit answers of its map: whether it has `a`, whether 1 is at `b`, whether `b` is its only key, and whether
 /// it has none.
 #[derive(Clone, Copy)]
-struct InMap {
-    has_a: bool,
-    one_at_b: bool,
-    only_b: bool,
-    empty: bool,
+pub(super) struct InMap {
+    pub(super) has_a: bool,
+    pub(super) one_at_b: bool,
+    pub(super) only_b: bool,
+    pub(super) empty: bool,
 }
 
 /// The same; how many mutations are pending; and whether its cookie is null.
 #[derive(Clone, Copy)]
-struct Answers {
-    map: InMap,
-    pending: usize,
-    null: bool,
+pub(super) struct Answers {
+    pub(super) map: InMap,
+    pub(super) pending: usize,
+    pub(super) null: bool,
 }
 
 fn one_at_b<N: Nodes>(tx: &mut ReadTx<N>) -> Result<bool, Refusal> {
@@ -96,8 +97,9 @@ fn answered<N: Nodes>(alloc: Global, tx: &mut ReadTx<N>) -> Result<Answers, Refu
     })
 }
 
-fn seen<N: Nodes + Drop>(alloc: Global, nodes: N, head: Ref) -> Result<Answers, Refusal>
-    requires { IsSome (version_at (N.contents nodes) (stamp_of head)) }
+pub(super) fn seen<N: Nodes + Drop>(alloc: Global, nodes: N, head: Ref) -> Result<Answers, Refusal>
+    requires known { IsSome (version_at (N.contents nodes) (stamp_of head)) }
+    requires place { N.places nodes head }
 {
     let mut tx = opened(alloc, nodes, head)?;
     let answers = answered(alloc, &mut tx)?;

@@ -1,6 +1,7 @@
 //! Scans of a map that is a draft, and of the same map once it is placed.
 ghost use Rattle.std.specs.Prelude.{IsSome};
-ghost use Rattle.map_tree.specs.Trees.{tree_map};
+ghost use Rattle.map_chunks.specs.Places.{AreAll};
+ghost use Rattle.map_tree.specs.Trees.{tree_map, tree_places};
 
 use super::maps::{grown, placed};
 use group_history::{Json, Refusal, Scan, Start, Text};
@@ -25,7 +26,8 @@ fn scanned<C: Chunks>(
     tree: &Tree,
     scan: &Scan,
 ) -> Result<String, Refusal>
-    requires { IsSome (tree_map (C.contents chunks.old) tree.now) }
+    requires map { IsSome (tree_map (C.contents chunks.old) tree.now) }
+    requires places { AreAll (C.places chunks.old) (tree_places tree.now) }
 {
     let rows = tree.scan(alloc, chunks, scan)?;
     told(alloc, &rows)

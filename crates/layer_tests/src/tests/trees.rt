@@ -239,7 +239,8 @@ fn new_in<C: Chunks>(
     key: &str,
     value: &Json,
 ) -> Result<u64, Refusal>
-    requires { IsSome (map_at (C.contents chunks.old) (stamp_of root)) }
+    requires known { IsSome (map_at (C.contents chunks.old) (stamp_of root)) }
+    requires place { C.places chunks.old root }
 {
     let mut tree = Tree::at(root);
     tree.put(alloc, chunks, key, value)?;

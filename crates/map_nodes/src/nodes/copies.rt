@@ -1,12 +1,11 @@
 //! Copies of placed chunks. A copy in which an entry is to be added gets room for a full chunk, and another
 //! one room for what it has.
 ghost use Rattle.std.specs.Prelude.{◌≡◌, ◌⊎◌, [], length, map, Some, IfOk, IfErr, IsSome, if◌then◌else◌};
-ghost use mathlib.Core.List.{IsPrefix};
 ghost use Rattle.group_history.specs.Refs.{stamp_of};
 ghost use Rattle.group_history.specs.Spelling.{rows_at};
 ghost use Rattle.group_history.specs.declared.mutators.Stop.TheVariants.{NoMemory};
 ghost use Rattle.map_nodes.specs.Copies.{MayBeDeep, IsCopy};
-ghost use Rattle.map_chunks.specs.Places.{AreKept, places_of};
+ghost use Rattle.map_chunks.specs.Places.{Grows, AreKept, places_of};
 ghost use Rattle.map_chunks.specs.Shown.{shown};
 ghost use Rattle.map_chunks.specs.Wide.{IsWideAt, IsWideChunk};
 ghost use Rattle.map_nodes.specs.declared.nodes.Child.TheVariants.{Placed};
@@ -27,12 +26,13 @@ impl Node {
         depth: u64,
         room: usize,
     ) -> Result<Node, Stop>
-        requires { IsSome (rows_at (C.contents chunks.old) depth (stamp_of at)) }
-        ensures grown { IsPrefix (C.contents chunks.old) (C.contents chunks.new) }
+        requires place { C.places chunks.old at }
+        requires known { IsSome (rows_at (C.contents chunks.old) depth (stamp_of at)) }
+        ensures grown { Grows C.contents C.places chunks.old chunks.new }
         ensures depth { IfOk result (λ n. n.depth ≡ depth) }
         ensures rows { IfOk result (λ n. shown (C.contents chunks.new) n.pieces ≡ rows_at (C.contents chunks.old) depth (stamp_of at)) }
         ensures fresh { IfOk result (λ n. n.fresh ≡ 1) }
-        ensures places { IfOk result (λ n. AreKept C.Held.shown (C.contents chunks.new) [] (places_of n.pieces)) }
+        ensures places { IfOk result (λ n. AreKept (C.places chunks.new) [] (places_of n.pieces)) }
         ensures wide { IsWideAt (C.contents chunks.new) (stamp_of at) → IfOk result IsWideChunk }
         ensures stopped { IfErr result (λ s. (s ≡ NoMemory) ⊎ C.stops s) }
     {

@@ -1,10 +1,9 @@
 //! Own chunks as children: each lies behind a pointer, in room that may be taken before the chunk is made.
 ghost use Rattle.std.specs.Prelude.{◌≡◌, ◌⊎◌, ◌≤◌, [], IfOk, IfErr, IsSome};
-ghost use mathlib.Core.List.{IsPrefix};
 ghost use Rattle.group_history.specs.Refs.{stamp_of};
 ghost use Rattle.group_history.specs.Spelling.{rows_at};
 ghost use Rattle.group_history.specs.declared.mutators.Stop.TheVariants.{NoMemory};
-ghost use Rattle.map_chunks.specs.Places.{AreKept, places_of};
+ghost use Rattle.map_chunks.specs.Places.{Grows, AreKept, places_of};
 ghost use Rattle.map_chunks.specs.Shown.{shown};
 
 use super::Node;
@@ -43,12 +42,13 @@ impl Node {
         depth: u64,
         room: usize,
     ) -> Result<Box<Node>, Stop>
-        requires { IsSome (rows_at (C.contents chunks.old) depth (stamp_of at)) }
-        ensures grown { IsPrefix (C.contents chunks.old) (C.contents chunks.new) }
+        requires place { C.places chunks.old at }
+        requires known { IsSome (rows_at (C.contents chunks.old) depth (stamp_of at)) }
+        ensures grown { Grows C.contents C.places chunks.old chunks.new }
         ensures depth { IfOk result (λ n. n.value.depth ≡ depth) }
         ensures rows { IfOk result (λ n. shown (C.contents chunks.new) n.value.pieces ≡ rows_at (C.contents chunks.old) depth (stamp_of at)) }
         ensures fresh { IfOk result (λ n. n.value.fresh ≡ 1) }
-        ensures places { IfOk result (λ n. AreKept C.Held.shown (C.contents chunks.new) [] (places_of n.value.pieces)) }
+        ensures places { IfOk result (λ n. AreKept (C.places chunks.new) [] (places_of n.value.pieces)) }
         ensures stopped { IfErr result (λ s. (s ≡ NoMemory) ⊎ C.stops s) }
     {
         let node = Node::copied(alloc, chunks, at, depth, room)?;

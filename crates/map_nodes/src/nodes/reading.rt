@@ -1,12 +1,12 @@
 //! Queries of a draft's chunks.
 ghost use Rattle.std.specs.Prelude.{◌≡◌, ◌==◌, ◌⊎◌, Some, IfOk, IfErr, length, option_copied};
-ghost use mathlib.Core.List.{IsPrefix};
 ghost use Rattle.std.specs.Ordering.{nat_cmp};
 ghost use Rattle.std.specs.Cmp.Lexicographic.{slice_cmp};
 ghost use Rattle.std.specs.FinMap as finite;
 ghost use Rattle.group_history.specs.Rows.{Rows};
 ghost use Rattle.group_history.specs.Spelling.{Contents};
 ghost use Rattle.group_history.specs.declared.mutators.Stop.TheVariants.{NoMemory};
+ghost use Rattle.map_chunks.specs.Places.{Grows, AreAll, places_of};
 ghost use Rattle.map_chunks.specs.Seeking.{stands_in};
 ghost use Rattle.map_chunks.specs.Shown.{shown, IsTree, rows_or};
 
@@ -21,8 +21,9 @@ use map_chunks::seeking::seek_placed;
 impl Node {
     /// The value at a key, if it is there. Stops for want of memory, or as the store does.
     pub fn get<C: Chunks>(&self, chunks: &mut C, key: &str) -> Result<Option<Json>, Stop>
-        requires { IsTree (shown (C.contents chunks.old) self.now.pieces) }
-        ensures grown { IsPrefix (C.contents chunks.old) (C.contents chunks.new) }
+        requires places { AreAll (C.places chunks.old) (places_of self.now.pieces) }
+        requires tree { IsTree (shown (C.contents chunks.old) self.now.pieces) }
+        ensures grown { Grows C.contents C.places chunks.old chunks.new }
         ensures value { IfOk result (λ v. v ≡ finite.find (slice_cmp nat_cmp) key.now (rows_or (shown (C.contents chunks.old) self.now.pieces))) }
         ensures stopped { IfErr result (λ s. (s ≡ NoMemory) ⊎ C.stops s) }
     {
@@ -45,8 +46,9 @@ impl Node {
         key: &str,
         asked: Option<&Json>,
     ) -> Result<Standing, Stop>
-        requires { IsTree (shown (C.contents chunks.old) self.now.pieces) }
-        ensures grown { IsPrefix (C.contents chunks.old) (C.contents chunks.new) }
+        requires places { AreAll (C.places chunks.old) (places_of self.now.pieces) }
+        requires tree { IsTree (shown (C.contents chunks.old) self.now.pieces) }
+        ensures grown { Grows C.contents C.places chunks.old chunks.new }
         ensures standing { IfOk result (λ s. s ≡ stands_in (rows_or (shown (C.contents chunks.old) self.now.pieces)) key.now (option_copied asked.entry)) }
         ensures stopped { IfErr result C.stops }
     {

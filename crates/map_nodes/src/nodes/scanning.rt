@@ -1,8 +1,9 @@
 //! Scans of a draft's chunks.
 ghost use Rattle.std.specs.Prelude.{◌≡◌, ◌⊎◌, length, T, IfErr, OnOk};
-ghost use mathlib.Core.List.{IsPrefix};
 ghost use Rattle.group_history.specs.Rows.{rises, paired};
 ghost use Rattle.group_history.specs.declared.mutators.Stop.TheVariants.{NoMemory};
+ghost use Rattle.map_chunks.specs.Places.{Grows, AreAll, places_of};
+ghost use Rattle.map_nodes.specs.Freezing.{child_places, kids_places};
 ghost use Rattle.map_chunks.specs.Shown.{shown, IsTree, rows_or};
 ghost use Rattle.map_chunks.specs.Scanning.{with_scanned, IsWithin, IsLow};
 ghost use Rattle.map_nodes.specs.Scanning.{kid_shown, kids_shown};
@@ -24,10 +25,11 @@ impl Node {
         low: &str,
         out: &mut Vec<(Text, Json)>,
     ) -> Result<(), Stop>
+        requires places { AreAll (C.places chunks.old) (places_of self.now.pieces) }
         requires tree { IsTree (shown (C.contents chunks.old) self.now.pieces) }
         requires low { IsLow scan.now low.now }
         requires within { IsWithin scan.now out.old.items }
-        ensures grown { IsPrefix (C.contents chunks.old) (C.contents chunks.new) }
+        ensures grown { Grows C.contents C.places chunks.old chunks.new }
         ensures rows { OnOk result (out.new.items ≡ with_scanned scan.now out.old.items (rows_or (shown (C.contents chunks.old) self.now.pieces))) }
         ensures stopped { IfErr result (λ s. (s ≡ NoMemory) ⊎ C.stops s) }
     {
@@ -52,12 +54,13 @@ fn scan_kids<C: Chunks>(
     low: &str,
     out: &mut Vec<(Text, Json)>,
 ) -> Result<(), Stop>
+    requires places { AreAll (C.places chunks.old) (kids_places kids.now) }
     requires order { T (rises firsts.now) }
     requires kids { length kids.now ≡ length firsts.now }
     requires tree { IsTree (kids_shown (C.contents chunks.old) (paired firsts.now kids.now)) }
     requires low { IsLow scan.now low.now }
     requires within { IsWithin scan.now out.old.items }
-    ensures grown { IsPrefix (C.contents chunks.old) (C.contents chunks.new) }
+    ensures grown { Grows C.contents C.places chunks.old chunks.new }
     ensures rows { OnOk result (out.new.items ≡ with_scanned scan.now out.old.items (rows_or (kids_shown (C.contents chunks.old) (paired firsts.now kids.now)))) }
     ensures stopped { IfErr result (λ s. (s ≡ NoMemory) ⊎ C.stops s) }
 {
@@ -81,10 +84,11 @@ fn scan_kid<C: Chunks>(
     low: &str,
     out: &mut Vec<(Text, Json)>,
 ) -> Result<(), Stop>
+    requires places { AreAll (C.places chunks.old) (child_places kid.now) }
     requires tree { IsTree (kid_shown (C.contents chunks.old) kid.now) }
     requires low { IsLow scan.now low.now }
     requires within { IsWithin scan.now out.old.items }
-    ensures grown { IsPrefix (C.contents chunks.old) (C.contents chunks.new) }
+    ensures grown { Grows C.contents C.places chunks.old chunks.new }
     ensures rows { OnOk result (out.new.items ≡ with_scanned scan.now out.old.items (rows_or (kid_shown (C.contents chunks.old) kid.now))) }
     ensures stopped { IfErr result (λ s. (s ≡ NoMemory) ⊎ C.stops s) }
 {

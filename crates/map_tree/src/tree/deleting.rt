@@ -1,13 +1,12 @@
 //! Keys removed from a map.
 ghost use Rattle.std.specs.Prelude.{◌≡◌, ◌⊎◌, ◌+◌, ◌≤◌, ◌==◌, [], ℕ, Some, None, IfOk, IfErr, OnOk, OnErr, IsSome, length};
-ghost use mathlib.Core.List.{IsPrefix};
 ghost use Rattle.std.specs.FinMap as finite;
 ghost use Rattle.group_history.specs.Map.{Entries};
 ghost use Rattle.group_history.specs.Refs.{stamp_of};
 ghost use Rattle.group_history.specs.Spelling.{map_at};
 ghost use Rattle.group_history.specs.declared.mutators.Stop.TheVariants.{NoMemory};
-ghost use Rattle.map_chunks.specs.Places.{AreKept};
-ghost use Rattle.map_tree.specs.Trees.{root_places, tree_places, root_map, root_fresh, root_or, tree_map, tree_depth, tree_fresh, HasWideRoot, IsWide};
+ghost use Rattle.map_chunks.specs.Places.{Grows, AreAll, AreKept};
+ghost use Rattle.map_tree.specs.Trees.{root_places, tree_places, root_map, root_depth, root_fresh, root_or, tree_map, tree_depth, tree_fresh, HasWideRoot, IsWide};
 ghost use Rattle.map_chunks.specs.Seeking.{chunk_depth};
 ghost use Rattle.map_chunks.specs.Wide.{IsWideAt};
 
@@ -21,8 +20,9 @@ use std::alloc::Global;
 impl Tree {
     /// Whether the map has no key. Takes no memory.
     pub fn is_empty<C: Chunks>(&self, chunks: &mut C) -> Result<bool, Stop>
-        requires { IsSome (tree_map (C.contents chunks.old) self.now) }
-        ensures grown { IsPrefix (C.contents chunks.old) (C.contents chunks.new) }
+        requires places { AreAll (C.places chunks.old) (tree_places self.now) }
+        requires map { IsSome (tree_map (C.contents chunks.old) self.now) }
+        ensures grown { Grows C.contents C.places chunks.old chunks.new }
         ensures value { (m : Entries) → tree_map (C.contents chunks.old) self.now ≡ Some m → IfOk result (λ b. b ≡ (length (finite.entries m) == 0)) }
         ensures stopped { IfErr result C.stops }
     {
@@ -33,16 +33,18 @@ impl Tree {
     }
 
     /// Removes a key, if it is there. The chunks on the way to it that are placed are copied first; a
-    /// chunk that has no row then leaves its parent, and a root with one child gives way to it. Where it
-    /// stops, the map is as it was.
+    /// chunk that has no row then leaves its parent, and a root with one child gives way to it, so the tree
+    /// is no deeper than before. Where it stops, the map is as it was.
     pub fn del<C: Chunks>(&mut self, alloc: Global, chunks: &mut C, key: &str) -> Result<(), Stop>
-        requires { IsSome (tree_map (C.contents chunks.old) self.old) }
-        ensures grown { IsPrefix (C.contents chunks.old) (C.contents chunks.new) }
+        requires places { AreAll (C.places chunks.old) (tree_places self.old) }
+        requires map { IsSome (tree_map (C.contents chunks.old) self.old) }
+        ensures grown { Grows C.contents C.places chunks.old chunks.new }
         ensures ok { (m : Entries) → tree_map (C.contents chunks.old) self.old ≡ Some m → OnOk result (tree_map (C.contents chunks.new) self.new ≡ Some (finite.remove m key.now)) }
         ensures same { (m : Entries) → tree_map (C.contents chunks.old) self.old ≡ Some m → finite.get m key.now ≡ None → OnOk result (self.new ≡ self.old) }
         ensures few { (d : ℕ) → tree_depth (C.contents chunks.old) self.old ≡ Some d → OnOk result (tree_fresh self.new ≤ tree_fresh self.old + d) }
+        ensures deep { (d : ℕ) → tree_depth (C.contents chunks.old) self.old ≡ Some d → OnOk result ((e : ℕ) × (tree_depth (C.contents chunks.new) self.new ≡ Some e) × (e ≤ d)) }
         ensures wide { HasWideRoot (C.contents chunks.old) self.old → OnOk result (HasWideRoot (C.contents chunks.new) self.new) }
-        ensures places { OnOk result (AreKept C.Held.shown (C.contents chunks.new) (tree_places self.old) (tree_places self.new)) }
+        ensures places { OnOk result (AreKept (C.places chunks.new) (tree_places self.old) (tree_places self.new)) }
         ensures err { OnErr result (self.new ≡ self.old) }
         ensures stopped { IfErr result (λ s. (s ≡ NoMemory) ⊎ C.stops s) }
     {
@@ -61,13 +63,15 @@ impl Tree {
         key: &str,
         depth: u64,
     ) -> Result<(), Stop>
+        requires places { AreAll (C.places chunks.old) (tree_places self.old) }
         requires map { IsSome (tree_map (C.contents chunks.old) self.old) }
         requires depth { tree_depth (C.contents chunks.old) self.old ≡ Some depth }
-        ensures grown { IsPrefix (C.contents chunks.old) (C.contents chunks.new) }
+        ensures grown { Grows C.contents C.places chunks.old chunks.new }
         ensures ok { (m : Entries) → tree_map (C.contents chunks.old) self.old ≡ Some m → OnOk result (tree_map (C.contents chunks.new) self.new ≡ Some (finite.remove m key.now)) }
         ensures few { (d : ℕ) → tree_depth (C.contents chunks.old) self.old ≡ Some d → OnOk result (tree_fresh self.new ≤ tree_fresh self.old + d) }
+        ensures deep { OnOk result ((e : ℕ) × (tree_depth (C.contents chunks.new) self.new ≡ Some e) × (e ≤ depth)) }
         ensures wide { HasWideRoot (C.contents chunks.old) self.old → OnOk result (HasWideRoot (C.contents chunks.new) self.new) }
-        ensures places { OnOk result (AreKept C.Held.shown (C.contents chunks.new) (tree_places self.old) (tree_places self.new)) }
+        ensures places { OnOk result (AreKept (C.places chunks.new) (tree_places self.old) (tree_places self.new)) }
         ensures err { OnErr result (self.new ≡ self.old) }
         ensures stopped { IfErr result (λ s. (s ≡ NoMemory) ⊎ C.stops s) }
     {
@@ -93,13 +97,15 @@ fn root_without<C: Chunks>(
     depth: u64,
     key: &str,
 ) -> Result<Root, Stop>
+    requires place { C.places chunks.old at }
     requires map { IsSome (map_at (C.contents chunks.old) (stamp_of at)) }
     requires depth { chunk_depth (C.contents chunks.old) (stamp_of at) ≡ Some depth }
-    ensures grown { IsPrefix (C.contents chunks.old) (C.contents chunks.new) }
+    ensures grown { Grows C.contents C.places chunks.old chunks.new }
     ensures ok { (m : Entries) → map_at (C.contents chunks.old) (stamp_of at) ≡ Some m → IfOk result (λ root. root_map (C.contents chunks.new) root ≡ Some (finite.remove m key.now)) }
     ensures few { IfOk result (λ root. root_fresh root ≤ depth) }
+    ensures deep { IfOk result (λ root. (e : ℕ) × (root_depth (C.contents chunks.new) root ≡ Some e) × (e ≤ depth)) }
     ensures wide { IsWideAt (C.contents chunks.old) (stamp_of at) → IfOk result (IsWide (C.contents chunks.new)) }
-    ensures places { IfOk result (λ root. AreKept C.Held.shown (C.contents chunks.new) [] (root_places root)) }
+    ensures places { IfOk result (λ root. AreKept (C.places chunks.new) [] (root_places root)) }
     ensures stopped { IfErr result (λ s. (s ≡ NoMemory) ⊎ C.stops s) }
 {
     let mut node = Node::copied(alloc, chunks, at, depth, 0)?;

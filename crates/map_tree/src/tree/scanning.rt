@@ -1,11 +1,11 @@
 //! Scans of a map.
 ghost use Rattle.std.specs.Prelude.{◌≡◌, ◌⊎◌, [], Some, IfOk, IfErr, OnOk, IsSome};
-ghost use mathlib.Core.List.{IsPrefix};
 ghost use Rattle.group_history.specs.Map.{Entries};
 ghost use Rattle.group_history.specs.Scans.{rows_of};
 ghost use Rattle.group_history.specs.declared.mutators.Stop.TheVariants.{NoMemory};
 ghost use Rattle.map_chunks.specs.Scanning.{IsWithin, IsLow};
-ghost use Rattle.map_tree.specs.Trees.{tree_map};
+ghost use Rattle.map_chunks.specs.Places.{Grows, AreAll};
+ghost use Rattle.map_tree.specs.Trees.{tree_places, tree_map};
 
 use super::{Root, Tree};
 use group_history::{Json, Scan, Stop, Text};
@@ -21,8 +21,9 @@ impl Tree {
         chunks: &mut C,
         scan: &Scan,
     ) -> Result<Vec<(Text, Json)>, Stop>
-        requires { IsSome (tree_map (C.contents chunks.old) self.now) }
-        ensures grown { IsPrefix (C.contents chunks.old) (C.contents chunks.new) }
+        requires places { AreAll (C.places chunks.old) (tree_places self.now) }
+        requires map { IsSome (tree_map (C.contents chunks.old) self.now) }
+        ensures grown { Grows C.contents C.places chunks.old chunks.new }
         ensures rows { (m : Entries) → tree_map (C.contents chunks.old) self.now ≡ Some m → IfOk result (λ rows. rows.items ≡ rows_of scan.now m) }
         ensures stopped { IfErr result (λ s. (s ≡ NoMemory) ⊎ C.stops s) }
     {
@@ -38,10 +39,11 @@ impl Tree {
         low: &str,
         out: &mut Vec<(Text, Json)>,
     ) -> Result<(), Stop>
+        requires places { AreAll (C.places chunks.old) (tree_places self.now) }
         requires tree { IsSome (tree_map (C.contents chunks.old) self.now) }
         requires low { IsLow scan.now low.now }
         requires none { out.old.items ≡ [] }
-        ensures grown { IsPrefix (C.contents chunks.old) (C.contents chunks.new) }
+        ensures grown { Grows C.contents C.places chunks.old chunks.new }
         ensures rows { (m : Entries) → tree_map (C.contents chunks.old) self.now ≡ Some m → OnOk result (out.new.items ≡ rows_of scan.now m) }
         ensures stopped { IfErr result (λ s. (s ≡ NoMemory) ⊎ C.stops s) }
     {

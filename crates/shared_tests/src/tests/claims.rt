@@ -81,16 +81,14 @@ impl Place<'_> {
     }
 
     // Takes a slot, writes its number beside it while it has it, and settles and retires it, or
-    // withdraws it. False where it finds another's number.
-    fn churn(&mut self, beside: &[AtomicU64], number: u64, settles: bool) -> bool {
+    // withdraws it. False where it finds another's number, and none where it gets no slot.
+    fn churn(&mut self, beside: &[AtomicU64], number: u64, settles: bool) -> Option<bool> {
         let (claims, seat) = (self.claims, &mut self.seat);
-        let Some(slot) = claims.take_slot(seat, Kind::PullEnd) else {
-            return true;
-        };
+        let slot = claims.take_slot(seat, Kind::PullEnd)?;
         let own = marked(beside, slot.number() as usize, number);
         if !settles {
             claims.withdraw(seat, slot);
-            return own;
+            return Some(own);
         }
         claims.settle(seat, slot);
         let e = claims.epoch(seat);
@@ -98,11 +96,12 @@ impl Place<'_> {
             claims.raise(seat, e);
             claims.retire(seat, slot, e + 1);
         }
-        own
+        Some(own)
     }
 
-    // A slot that S settled and retired can't be had while T has its pin.
-    fn retires_under(&mut self, reader: &mut Place<'_>) -> bool {
+    // A slot that S settled and retired can't be had while T has its pin. It is given first, or by
+    // the take itself.
+    fn retires_under(&mut self, reader: &mut Place<'_>, gives: bool) -> bool {
         let (claims, s) = (self.claims, &mut self.seat);
         let Some(slot) = claims.take_slot(s, Kind::Ordinary) else {
             return false;
@@ -115,10 +114,10 @@ impl Place<'_> {
         }
         claims.raise(s, e);
         claims.retire(s, slot, e + 1);
-        let given_early = claims.give(s, slot);
+        let given_early = gives && claims.give(s, slot);
         let taken_early = claims.take_slot(s, Kind::Ordinary);
         reader.unpin();
-        let given = claims.give(s, slot);
+        let given = !gives || claims.give(s, slot);
         let taken = claims.take_slot(s, Kind::Ordinary);
         !given_early && taken_early.is_none() && given && taken == Some(slot)
     }
@@ -228,23 +227,24 @@ fn one_left<'a>(claims: &'a Claims, seats: &mut Vec<ClaimSeat>) -> Option<(Place
     }
 }
 
-fn retires(claims: &Claims, seats: &mut Vec<ClaimSeat>) -> bool
+fn retires(claims: &Claims, seats: &mut Vec<ClaimSeat>, gives: bool) -> bool
     requires { All (IsNew claims.now) seats.old.items }
 {
     match one_left(claims, seats) {
-        Some((mut t, mut s)) => s.retires_under(&mut t),
+        Some((mut t, mut s)) => s.retires_under(&mut t, gives),
         None => false,
     }
 }
 
-fn retires_in_new(alloc: Global) -> Result<bool, Refusal> {
+fn retires_in_new(alloc: Global, gives: bool) -> Result<bool, Refusal> {
     let (claims, mut seats) = Claims::new(alloc, 16, 2)?;
-    Ok(retires(&claims, &mut seats))
+    Ok(retires(&claims, &mut seats, gives))
 }
 
 #[test]
 fn a_retired_slot_waits_for_the_pin(rt: HostRuntime) -> Result<(), Refusal> {
-    assert!(rt; retires_in_new(rt.alloc())?);
+    assert!(rt; retires_in_new(rt.alloc(), false)?);
+    assert!(rt; retires_in_new(rt.alloc(), true)?);
     Ok(())
 }
 
@@ -279,21 +279,47 @@ fn pins(mut place: Place<'_>, rounds: u32) -> u32 {
     held
 }
 
-// Counts foreign numbers. In some rounds a pin keeps slots from being given.
-fn churns(mut place: Place<'_>, beside: &[AtomicU64], number: u64, rounds: u32) -> u32 {
+// What threads met: how many foreign numbers, and how many slots the thread took that took fewest.
+#[derive(Clone, Copy)]
+struct Storm {
+    foreign: u32,
+    fewest: u32,
+}
+
+impl Storm {
+    fn and(self, other: Storm) -> Storm {
+        Storm {
+            foreign: self.foreign.wrapping_add(other.foreign),
+            fewest: self.fewest.min(other.fewest),
+        }
+    }
+}
+
+// So many rounds, and more as long as it got no slot. In some a pin keeps slots from being given.
+fn churns(mut place: Place<'_>, beside: &[AtomicU64], number: u64, rounds: u32) -> Storm {
     let mut foreign = 0u32;
-    for round in 0..rounds {
+    let mut taken = 0u32;
+    for round in 0..rounds.saturating_mul(100) {
+        if round >= rounds && taken > 0 {
+            break;
+        }
         if round % 8 == 0 {
             place.pin();
         }
-        if !place.churn(beside, number, round % 3 != 0) {
-            foreign = foreign.wrapping_add(1);
+        match place.churn(beside, number, round % 3 != 0) {
+            Some(true) => taken = taken.wrapping_add(1),
+            Some(false) => foreign = foreign.wrapping_add(1),
+            None => {}
         }
         if round % 8 == 5 {
             place.unpin();
         }
     }
-    foreign
+    place.unpin();
+    Storm {
+        foreign,
+        fewest: taken,
+    }
 }
 
 fn two_pin<R: Threads + Sync>(rt: &R, a: Place<'_>, b: Place<'_>) -> u32 {
@@ -307,13 +333,13 @@ fn two_churn<R: Threads + Sync>(
     a: Place<'_>,
     b: Place<'_>,
     number: u64,
-) -> u32 {
+) -> Storm {
     let (a, b) = join(
         rt,
         || churns(a, beside, number, 10_000),
         || churns(b, beside, number.wrapping_add(1), 10_000),
     );
-    a.wrapping_add(b)
+    a.and(b)
 }
 
 // How many pins four threads held.
@@ -326,13 +352,13 @@ fn four_pin<R: Threads + Sync>(rt: &R, claims: &Claims, seats: &mut Vec<ClaimSea
     Some(left.wrapping_add(right))
 }
 
-// How many foreign numbers four threads found beside the slots that they had.
+// What four threads met beside the slots that they had.
 fn four_churn<R: Threads + Sync>(
     rt: &R,
     claims: &Claims,
     seats: &mut Vec<ClaimSeat>,
     beside: &[AtomicU64],
-) -> Option<u32>
+) -> Option<Storm>
     requires { All (IsNew claims.now) seats.old.items }
 {
     let (a, b) = two_places(claims, seats)?;
@@ -342,7 +368,7 @@ fn four_churn<R: Threads + Sync>(
         || two_churn(rt, beside, a, b, 1),
         || two_churn(rt, beside, c, d, 3),
     );
-    Some(left.wrapping_add(right))
+    Some(left.and(right))
 }
 
 fn pins_in_new<R: Threads + Sync>(rt: &R, alloc: Global) -> Result<Option<u32>, Refusal> {
@@ -357,11 +383,11 @@ fn four_threads_pin_and_raise(rt: HostRuntime) -> Result<(), Refusal> {
     Ok(())
 }
 
-fn foreign_in_new<R: Threads + Sync>(
+fn storm_in_new<R: Threads + Sync>(
     rt: &R,
     alloc: Global,
     beside: &[AtomicU64],
-) -> Result<Option<u32>, Refusal> {
+) -> Result<Option<Storm>, Refusal> {
     let (claims, mut seats) = Claims::new(alloc, 16, 4)?;
     Ok(four_churn(rt, &claims, &mut seats, beside))
 }
@@ -378,7 +404,7 @@ fn zeros(alloc: Global) -> Result<Vec<AtomicU64>, Refusal> {
 #[test]
 fn four_threads_find_no_foreign_number(rt: HostRuntime) -> Result<(), Refusal> {
     let beside = zeros(rt.alloc())?;
-    let foreign = foreign_in_new(&rt, rt.alloc(), beside.as_slice())?;
-    assert!(rt; foreign == Some(0));
+    let storm = storm_in_new(&rt, rt.alloc(), beside.as_slice())?;
+    assert!(rt; storm.is_some_and(|storm| storm.foreign == 0 && storm.fewest > 0));
     Ok(())
 }

@@ -9,7 +9,7 @@ ghost use Rattle.head_word.specs.Marks.{HasSeat};
 ghost use Rattle.shared_tests.specs.Trials.{bare, bare_pull, SpellsBare};
 
 use group_history::{
-    Change, Child, Commit, ConfirmedIds, Cookie, Kind, Means, Node, PullOk, Ref, Refusal, STAMPS,
+    Change, Commit, ConfirmedIds, Cookie, Kind, Means, Node, PullOk, Ref, Refusal, STAMPS,
     Snapshot, TextMap, cookie_cmp, nests_within, read_value,
 };
 use head_word::{Head, Lost, Mark, Moved, book_laws, one_record};
@@ -19,7 +19,7 @@ use std::cmp::Ordering;
 use std::thread::{Threads, join};
 
 /// An application without mutators.
-struct Nobody;
+pub(super) struct Nobody;
 
 impl Means for Nobody {
     ghost use Rattle.shared_tests.specs.Trials.{no_mutators};
@@ -77,11 +77,11 @@ fn first_cookie(alloc: Global) -> Result<Cookie, Refusal> {
 }
 
 // The snapshot of an empty map under the cookie, over the opening's leaf.
-fn bare_snapshot(alloc: Global, cookie: &Cookie) -> Result<Node<Child>, Refusal>
+fn bare_snapshot(alloc: Global, cookie: &Cookie) -> Result<Node<Ref>, Refusal>
     ensures { IfOk result (λ node. node ≡ bare cookie.now (record { bits = 7 })) }
 {
     Ok(Node::Commit(Commit {
-        root: Child::Placed(Ref::new(0, 7)),
+        root: Ref::new(0, 7),
         kind: Kind::Snapshot(Snapshot {
             cookie: cookie.clone()?,
             confirmed: ConfirmedIds::new(alloc, TextMap::new(alloc))?,
@@ -104,7 +104,7 @@ fn drafts(
 {
     let nodes = [bare_snapshot(alloc, cookie)?];
     mark.legal();
-    Ok(head.draft(mark, &nodes))
+    Ok(head.draft(mark, 2, &nodes))
 }
 
 // The change by a first pull that brings this cookie alone.

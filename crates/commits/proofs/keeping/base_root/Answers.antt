@@ -4,32 +4,30 @@ use Rattle.group_history.specs.declared.refs.Ref.{Ref}
 use Rattle.group_history.specs.Map.{Entries}
 use Rattle.group_history.specs.Refs.{stamp_of}
 use Rattle.group_history.specs.Spelling.{map_at}
-use Rattle.commits.specs.Reach.{Reaches, IsNamed}
+use Rattle.commits.specs.Reach.{Reaches}
 use Rattle.commits.proofs.Chained.{some_version, root_read}
 use Rattle.commits.proofs.Reached.{reaches_stays}
-use Rattle.commits.proofs.Rooted.{root_reached, root_named}
+use Rattle.commits.proofs.Rooted.{root_reached, root_may}
 use Rattle.commits.proofs.keeping.base_root.Goals as goal
 
-pub show_root-requires : goal.show_root-requires
-show_root-requires g c = c.in_ok-snapshot.ensures.lies.0
+pub show_root-requires-clause-known : goal.show_root-requires-clause-known
+show_root-requires-clause-known g c = c.in_ok-snapshot.ensures.lies.0
 
 pub returns-clause-map : goal.returns-clause-map
 returns-clause-map g c =
     let m = g.N.Chunks.contents in let k = c.in_ok-root.ensures.content in
     let v = some_version (m c.snapshot_of.new.nodes) (stamp_of c.in_ok-snapshot.snapshot) c.in_ok-snapshot.ensures.lies.0 in
     subst (λ (r : Ref). IsSome (map_at (m c.show_root.new.nodes) (stamp_of r))) (sym k.2)
-    (subst (λ (o : Option Entries). IsSome o) (sym (root_read (m c.snapshot_of.new.nodes) (m c.show_root.new.nodes) (stamp_of c.in_ok-snapshot.snapshot) k.0 v.0 v.1 c.show_root.ensures.grown k.1.1)) refl)
+    (subst (λ (o : Option Entries). IsSome o) (sym (root_read (m c.snapshot_of.new.nodes) (m c.show_root.new.nodes) (stamp_of c.in_ok-snapshot.snapshot) k.0 v.0 v.1 c.show_root.ensures.grown.0 k.1.1)) refl)
 
 pub returns-clause-reached : goal.returns-clause-reached
 returns-clause-reached g c =
     let m = g.N.Chunks.contents in let k = c.in_ok-root.ensures.content in
-    let r = reaches_stays (m c.snapshot_of.new.nodes) (m c.show_root.new.nodes) (stamp_of c.args.head) (stamp_of c.in_ok-snapshot.snapshot) c.show_root.ensures.grown c.in_ok-snapshot.ensures.reached in
+    let r = reaches_stays (m c.snapshot_of.new.nodes) (m c.show_root.new.nodes) (stamp_of c.args.head) (stamp_of c.in_ok-snapshot.snapshot) c.show_root.ensures.grown.0 c.in_ok-snapshot.ensures.reached in
     subst (λ (r : Ref). Reaches (m c.show_root.new.nodes) (stamp_of c.args.head) (stamp_of r)) (sym k.2)
     (root_reached (m c.show_root.new.nodes) (stamp_of c.args.head) (stamp_of c.in_ok-snapshot.snapshot) k.0 r k.1.1)
 
-pub returns-clause-named : goal.returns-clause-named
-returns-clause-named g c =
-    let m = g.N.Chunks.contents in let k = c.in_ok-root.ensures.content in
-    let r = reaches_stays (m c.snapshot_of.new.nodes) (m c.show_root.new.nodes) (stamp_of c.args.head) (stamp_of c.in_ok-snapshot.snapshot) c.show_root.ensures.grown c.in_ok-snapshot.ensures.reached in
-    subst (IsNamed g.N.Held.ShowsChunk.shown g.N.HeldCommit.ShowsCommit.shown (m c.show_root.new.nodes) c.args.head) (sym k.2)
-    (root_named g.N.Held.ShowsChunk.shown g.N.HeldCommit.ShowsCommit.shown (m c.show_root.new.nodes) c.args.head (stamp_of c.in_ok-snapshot.snapshot) k.0 r k.1)
+pub returns-clause-place : goal.returns-clause-place
+returns-clause-place g c =
+    let k = c.in_ok-root.ensures.content in
+    subst (g.N.Chunks.places c.show_root.new.nodes) (sym k.2) (root_may (g.N.Chunks.places c.show_root.new.nodes) (g.N.Chunks.contents c.show_root.new.nodes) (stamp_of c.in_ok-snapshot.snapshot) k.0 k.1)

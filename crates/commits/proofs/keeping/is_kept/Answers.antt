@@ -1,7 +1,8 @@
 use Rattle.std.proofs.Common.{subst}
 use Rattle.group_history.specs.Refs.{stamp_of}
 use Rattle.commits.specs.declared.founds.Found.{Found}
-use Rattle.commits.specs.Reach.{Reaches, IsSpelled, stamp_in}
+use Rattle.commits.specs.Reach.{Reaches}
+use Rattle.commits.specs.Inside.Reach.{IsSpelled, ref_in, stamp_in}
 use Rattle.commits.proofs.Descending.{map_ordered}
 use Rattle.commits.proofs.Rooted.{commit_unreached}
 use Rattle.commits.proofs.keeping.is_kept.Goals as goal
@@ -12,3 +13,6 @@ returns-in-Commit-clause-kept g c =
     let o = map_ordered m (stamp_of c.args.root) c.requires.root in
     let v = subst (IsSpelled m) c.in-Commit.is c.requires.found in
     (λ t. absurd (cc t), λ r. absurd (commit_unreached m (stamp_of c.args.root) (stamp_of c.in-Commit.field-0) o.0 v.0 o.1 v.1 (subst (λ (f : Found). Reaches m (stamp_of c.args.root) (stamp_in f)) c.in-Commit.is r)))
+
+pub is_chunk_kept-requires-clause-places : goal.is_chunk_kept-requires-clause-places
+is_chunk_kept-requires-clause-places g c = (c.requires.places.0, subst (λ (f : Found). g.N.Chunks.places c.args.nodes.now (ref_in f)) c.in-Chunk.is c.requires.places.1)

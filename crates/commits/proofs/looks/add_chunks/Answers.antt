@@ -3,7 +3,7 @@ use Rattle.std.proofs.lemmas.List.{take_more, map-append}
 use Rattle.group_history.specs.declared.refs.Ref.{Ref}
 use Rattle.commits.specs.declared.founds.Found.{Found}
 use Rattle.commits.specs.declared.founds.Found.TheVariants as found
-use Rattle.commits.specs.Reach.{Adds}
+use Rattle.commits.specs.Inside.Reach.{Adds}
 use Rattle.commits.proofs.Findings.{adds_more}
 use Rattle.commits.proofs.looks.add_chunks.Goals as goal
 

@@ -1,5 +1,5 @@
 use Rattle.std.proofs.Common.{map, take}
-use Rattle.commits.specs.Reach.{Adds}
+use Rattle.commits.specs.Inside.Reach.{Adds}
 use Rattle.commits.specs.declared.founds.Found.TheVariants as found
 use Rattle.commits.proofs.looks.add_chunks.Given as goal
 

@@ -3,7 +3,7 @@ use Rattle.group_history.specs.declared.refs.Ref.{Ref}
 use Rattle.group_history.specs.Map.{Bytes}
 use Rattle.group_history.specs.Rows.{paired, keys_of}
 use Rattle.group_history.proofs.Pairs.{paired-parts}
-use Rattle.commits.specs.Meeting.{choose, child_for}
+use Rattle.commits.specs.Inside.Meeting.{choose, child_for}
 use Rattle.commits.proofs.meeting.child_in.Goals as goal
 
 pub returns-in-Inner : goal.returns-in-Inner

@@ -6,7 +6,7 @@ use Rattle.std.proofs.lemmas.List.{take_more}
 use Rattle.group_history.specs.declared.refs.Ref.{Ref}
 use Rattle.group_history.specs.Map.{Bytes}
 use Rattle.group_history.specs.Rows.{paired}
-use Rattle.commits.specs.Meeting.{choose}
+use Rattle.commits.specs.Inside.Meeting.{choose}
 use Rattle.commits.proofs.Descending.{choose_append, paired_append}
 use Rattle.commits.proofs.meeting.chosen.Goals as goal
 use Rattle.commits.proofs.meeting.chosen.Goals.{then-not-is_gt, else-not-is_gt}

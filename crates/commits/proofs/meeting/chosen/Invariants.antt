@@ -1,6 +1,6 @@
 use Rattle.std.proofs.Common.{◌≡◌, take}
 use Rattle.group_history.specs.Rows.{paired}
-use Rattle.commits.specs.Meeting.{choose}
+use Rattle.commits.specs.Inside.Meeting.{choose}
 use Rattle.commits.proofs.meeting.chosen.Given as goal
 
 abbrev pub invariant-loop-place : goal.invariant-loop-place

@@ -2,7 +2,8 @@ use Rattle.std.proofs.Common.{◌≡◌, ℕ, ◌<◌, ◌≤◌, ◌+◌, List,
 use Rattle.std.specs.Prelude.{slice_index}
 use Rattle.group_history.specs.declared.refs.Ref.{Ref}
 use Rattle.group_history.specs.Refs.{stamp_of}
-use Rattle.commits.specs.Reach.{stamps_of, Leaves}
+use Rattle.commits.specs.Reach.{stamps_of}
+use Rattle.commits.specs.Inside.Reach.{Leaves}
 use Rattle.commits.proofs.Leaving.{IsMerge, merge_skip, merge_add, take_all}
 use Rattle.commits.proofs.merging.without.Goals as goal
 use Rattle.commits.proofs.merging.without.Goals.{then-not-is_at+in_ok-add, else-not-is_at}

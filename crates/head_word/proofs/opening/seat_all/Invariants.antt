@@ -1,6 +1,6 @@
 use Rattle.std.proofs.Common.{◌≡◌, ◌+◌}
 use Rattle.head_word.specs.Marks.{seated}
-use Rattle.head_word.specs.Tallies.{keys_of}
+use Rattle.head_word.specs.Inside.Parts.{keys_of}
 use Rattle.head_word.proofs.opening.seat_all.Given as goal
 
 abbrev pub invariant-loop-number : goal.invariant-loop-number

@@ -1,17 +1,21 @@
-use Rattle.std.proofs.Common.{[], ◌∷◌}
+use Rattle.std.proofs.Common.{◌≡◌, ◌+◌, ◌∙◌, sym, subst, arith}
+use Rattle.group_history.specs.Refs.{stamp_of}
+use Rattle.map_chunks.specs.Ends.{IsOnlyChild}
+use Rattle.map_chunks.specs.Shown.{chunk_rows}
 use Rattle.map_chunks.proofs.AnswerLemmas.{if_ok_so}
-use Rattle.map_chunks.proofs.EndLemmas.{kept-one}
-use Rattle.map_chunks.proofs.KeptLemmas.{kept-same, kept-grown, kept-trans, kept-from_none}
+use Rattle.map_chunks.proofs.EndLemmas.{depth-later, no_deeper}
+use Rattle.map_chunks.proofs.JoinLemmas.{some_is}
 use Rattle.map_chunks.proofs.ends.+end_placed.Goals as goal
 
-pub returns-in-None-clause-places : goal.returns-in-None-clause-places
-returns-in-None-clause-places g t c = kept-same g.C.Held.ShowsChunk.shown (g.C.Chunks.contents c.only_child.new.chunks) (c.args.at ∷ [])
+pub returns-in-None-clause-depth : goal.returns-in-None-clause-depth
+returns-in-None-clause-depth g t c d h =
+    (d, depth-later (g.C.Chunks.contents c.args.chunks.now) (g.C.Chunks.contents c.only_child.new.chunks) (stamp_of c.args.at) d c.only_child.ensures.grown.0 h, omega arith)
 
-pub returns-in-Some-clause-places : goal.returns-in-Some-clause-places
-returns-in-Some-clause-places g t c =
-    let p = g.C.Chunks.contents c.only_child.new.chunks in
-    let q = g.C.Chunks.contents c.end_placed.new.chunks in
-    let show = g.C.Held.ShowsChunk.shown in
-    let child = c.in-Some.child in
-    let here = kept-grown show p q [] (child ∷ []) c.end_placed.ensures.grown (kept-one show p child (c.in_ok-only_child.ensures.shown child c.in-Some.is)) in
-    if_ok_so c.end_placed.result c.end_placed.ensures.places (λ end kept. kept-from_none show q (c.args.at ∷ []) (end ∷ []) (kept-trans show q [] (child ∷ []) (end ∷ []) here kept))
+pub returns-in-Some-clause-depth : goal.returns-in-Some-clause-depth
+returns-in-Some-clause-depth g t c d h =
+    let p = g.C.Chunks.contents c.args.chunks.now in
+    let q = g.C.Chunks.contents c.only_child.new.chunks in
+    let k = stamp_of c.args.at in
+    let one = subst (IsOnlyChild q k (chunk_rows p k)) c.in-Some.is c.in_ok-only_child.ensures.child in
+    let deep : one.2.0 + 1 ≡ d = some_is (sym one.2.2 ∙ depth-later p q k d c.only_child.ensures.grown.0 h) in
+    if_ok_so c.end_placed.result (c.end_placed.ensures.depth one.2.0 one.2.1) (λ at. no_deeper (g.C.Chunks.contents c.end_placed.new.chunks) one.2.0 d at (omega (arith, deep)))

@@ -5,7 +5,10 @@ use Rattle.group_history.specs.declared.refs.Ref.{Ref}
 use Rattle.group_history.specs.Refs.{stamp_of}
 use Rattle.group_history.specs.Rows.{Rows, paired, keys_of, values_of}
 use Rattle.group_history.proofs.Pairs.{paired-parts}
-use Rattle.group_history.proofs.Lists.{prefix_trans}
+use Rattle.std.proofs.lemmas.List.Elements.{Contains-get_or}
+use Rattle.group_history.specs.Naming.{chunk_children}
+use Rattle.map_chunks.specs.Places.{AreAll}
+use Rattle.map_chunks.proofs.KeptLemmas.{grows_on}
 use Rattle.map_chunks.specs.Scanning.{is_over, with_scanned, opened_rows, children_rows}
 use Rattle.map_chunks.specs.Shown.{IsTree, rows_or, chunk_rows}
 use Rattle.map_chunks.proofs.OpenLemmas.{known, tree_of}
@@ -16,10 +19,10 @@ use Rattle.map_chunks.proofs.scanning.+placed.Goals as goal
 pub scan_children-loop-place-init : goal.scan_children-loop-place-init
 scan_children-loop-place-init g t c =
     let p = g.C.Chunks.contents c.args.chunks.now in
-    let r = c.requires.1.1.1.1 in
+    let r = c.requires.1.1.1.1.1 in
     let n = refs_known p c.args.firsts.now c.args.children.now r.1.1.0 in
     record {
-      grown = ([], append-nil p);
+      grown = (([], append-nil p), λ at h. h);
       rows = pairs_begun (ref_rows p) c.args.firsts.now c.args.children.now c.place_of-place.result n.rows c.args.scan.now c.args.low.now c.args.out.now.items r.1.0 n.is n.order
           r.1.1.1.0 c.place_of-place.ensures r.1.1.1.1;
     }
@@ -27,7 +30,7 @@ scan_children-loop-place-init g t c =
 pub scan_children-returns-then-is_over-clause-rows : goal.scan_children-returns-then-is_over-clause-rows
 scan_children-returns-then-is_over-clause-rows g t c =
     let p = g.C.Chunks.contents c.args.chunks.now in
-    let r = c.requires.1.1.1.1 in
+    let r = c.requires.1.1.1.1.1 in
     let n = refs_known p c.args.firsts.now c.args.children.now r.1.1.0 in
     let e : is_over c.args.scan.now (length c.loop-place.out.items) c.index-firsts-place.result ≡ true =
     ap (λ n. is_over c.args.scan.now n c.index-firsts-place.result) (sym (c.len.ensures ∙ c.loop-place.out.ok.0)) ∙ sym c.is_over.ensures ∙ c.if-is_over.true in
@@ -35,24 +38,34 @@ scan_children-returns-then-is_over-clause-rows g t c =
     n.is n.order c.loop-place-test.true c.index-firsts-place.is c.loop-place.invariant.rows e
     ∙ ap (λ w. with_scanned c.args.scan.now c.args.out.now.items (rows_or w)) (sym n.is)
 
+pub scan_children-returns-then-is_over-clause-grown : goal.scan_children-returns-then-is_over-clause-grown
+scan_children-returns-then-is_over-clause-grown g t c = c.loop-place.invariant.grown
+
+pub scan_children-returns-in_err-scan_placed-clause-grown : goal.scan_children-returns-in_err-scan_placed-clause-grown
+scan_children-returns-in_err-scan_placed-clause-grown g t c = grows_on g.C.Chunks.contents g.C.Chunks.places c.args.chunks.now c.loop-place.chunks c.scan_placed.new.chunks c.loop-place.invariant.grown c.scan_placed.ensures.grown
+
+pub scan_children-returns-clause-grown : goal.scan_children-returns-clause-grown
+scan_children-returns-clause-grown g t c = c.loop-place.invariant.grown
+
 pub scan_children-scan_placed-requires : goal.scan_children-scan_placed-requires
 scan_children-scan_placed-requires g t c κs ws =
     let p = g.C.Chunks.contents c.args.chunks.now in
-    let r = c.requires.1.1.1.1 in
+    let r = c.requires.1.1.1.1.1 in
     let n = refs_known p c.args.firsts.now c.args.children.now r.1.1.0 in
     let at = slice_index_or c.args.children.now c.loop-place.place (record { bits = 0 }) in
-    let u = ref_turn p (g.C.Chunks.contents c.loop-place.chunks) c.args.firsts.now c.args.children.now c.loop-place.place at c.loop-place.invariant.grown r.1.0 n c.loop-place-test.true (got_any c.args.children.now c.loop-place.place (record { bits = 0 }) at (omega (arith, r.1.0, c.loop-place-test.true))) in
-    (omega (arith, u.low, c.requires.1.0), (ws.0, (ws.1, (u.tree, (r.1.1.1.0, within c.args.scan.now c.loop-place.out.items c.args.out.now.items _ c.loop-place.invariant.rows)))))
+    let u = ref_turn p (g.C.Chunks.contents c.loop-place.chunks) c.args.firsts.now c.args.children.now c.loop-place.place at c.loop-place.invariant.grown.0 r.1.0 n c.loop-place-test.true (got_any c.args.children.now c.loop-place.place (record { bits = 0 }) at (omega (arith, r.1.0, c.loop-place-test.true))) in
+    let place = c.loop-place.invariant.grown.1 at (c.requires.1.1.1.1.0 at (Contains-get_or c.args.children.now c.loop-place.place (record { bits = 0 }) (omega (arith, r.1.0, c.loop-place-test.true)))) in
+    (omega (arith, u.low, c.requires.1.0), (ws.0, (ws.1, (place, (u.tree, (r.1.1.1.0, within c.args.scan.now c.loop-place.out.items c.args.out.now.items _ c.loop-place.invariant.rows))))))
 
 pub scan_children-loop-place-preserved : goal.scan_children-loop-place-preserved
 scan_children-loop-place-preserved g t c =
     let p = g.C.Chunks.contents c.args.chunks.now in
-    let r = c.requires.1.1.1.1 in
+    let r = c.requires.1.1.1.1.1 in
     let n = refs_known p c.args.firsts.now c.args.children.now r.1.1.0 in
     let at = slice_index_or c.args.children.now c.loop-place.place (record { bits = 0 }) in
-    let u = ref_turn p (g.C.Chunks.contents c.loop-place.chunks) c.args.firsts.now c.args.children.now c.loop-place.place at c.loop-place.invariant.grown r.1.0 n c.loop-place-test.true (got_any c.args.children.now c.loop-place.place (record { bits = 0 }) at (omega (arith, r.1.0, c.loop-place-test.true))) in
+    let u = ref_turn p (g.C.Chunks.contents c.loop-place.chunks) c.args.firsts.now c.args.children.now c.loop-place.place at c.loop-place.invariant.grown.0 r.1.0 n c.loop-place-test.true (got_any c.args.children.now c.loop-place.place (record { bits = 0 }) at (omega (arith, r.1.0, c.loop-place-test.true))) in
     record {
-      grown = prefix_trans p (g.C.Chunks.contents c.loop-place.chunks) (g.C.Chunks.contents c.scan_placed.new.chunks) c.loop-place.invariant.grown c.scan_placed.ensures.grown;
+      grown = grows_on g.C.Chunks.contents g.C.Chunks.places c.args.chunks.now c.loop-place.chunks c.scan_placed.new.chunks c.loop-place.invariant.grown c.scan_placed.ensures.grown;
       rows = pairs_child (ref_rows p) c.args.firsts.now c.args.children.now c.loop-place.place n.rows c.args.scan.now c.args.out.now.items c.loop-place.out.items c.scan_placed.new.out.items
           u.turn c.loop-place.invariant.rows (c.in_ok-scan_placed.ensures.rows ∙ ap (λ w. with_scanned c.args.scan.now c.loop-place.out.items (rows_or w)) u.rows_are);
     }
@@ -60,7 +73,7 @@ scan_children-loop-place-preserved g t c =
 pub scan_children-returns-clause-rows : goal.scan_children-returns-clause-rows
 scan_children-returns-clause-rows g t c =
     let p = g.C.Chunks.contents c.args.chunks.now in
-    let r = c.requires.1.1.1.1 in
+    let r = c.requires.1.1.1.1.1 in
     let n = refs_known p c.args.firsts.now c.args.children.now r.1.1.0 in
     pairs_all (ref_rows p) c.args.firsts.now c.args.children.now c.loop-place.place n.rows c.args.scan.now c.args.out.now.items c.loop-place.out.items r.1.0 n.is
     (omega (arith, c.place_of-place.ensures.0)) c.loop-place.invariant.rows
@@ -81,7 +94,7 @@ scan_chunk-returns-in-Leaf-clause-rows g t c =
 pub scan_chunk-scan_children-requires : goal.scan_chunk-scan_children-requires
 scan_chunk-scan_children-requires g t c κs ws =
     let p = g.C.Chunks.contents c.args.chunks.now in
-    let r = c.requires.1.1.1.1 in
+    let r = c.requires.1.1.1.1.1 in
     let kids = c.in-Inner.inner in
     let keys : c.as_slice-firsts.result.now ≡ keys_of kids = c.as_slice-firsts.ensures.keys ∙ c.deref-in-Inner.ensures ∙ c.firsts.ensures.keys in
     let children : c.children.result.now ≡ values_of kids = c.children.ensures in
@@ -93,10 +106,13 @@ scan_chunk-scan_children-requires g t c κs ws =
         (
           ws.1,
           (
-            c.as_slice-firsts.ensures.order.1,
+            subst (AreAll (g.C.Chunks.places c.args.chunks.now)) (sym children) (subst (λ (ch : Chunk Ref). AreAll (g.C.Chunks.places c.args.chunks.now) (chunk_children ch)) c.in-Inner.is c.requires.1.1.1.1.0),
             (
-              omega (arith, ap length keys, ap length children, length-keys_of kids, length-values_of kids),
-              (subst (λ w. IsTree (children_rows p w)) (sym pairs) (subst (λ (ch : Chunk Ref). IsTree (opened_rows p ch)) c.in-Inner.is r.0), r.1),
+              c.as_slice-firsts.ensures.order.1,
+              (
+                omega (arith, ap length keys, ap length children, length-keys_of kids, length-values_of kids),
+                (subst (λ w. IsTree (children_rows p w)) (sym pairs) (subst (λ (ch : Chunk Ref). IsTree (opened_rows p ch)) c.in-Inner.is r.0), r.1),
+              ),
             ),
           ),
         ),
@@ -117,9 +133,9 @@ pub scan_placed-scan_chunk-answer-requires : goal.scan_placed-scan_chunk-answer-
 scan_placed-scan_chunk-answer-requires g t c κs ws =
     let p = g.C.Chunks.contents c.args.chunks.now in
     let q = g.C.Chunks.contents c.show.new.self in
-    let r = c.requires.1.1.1.1 in
+    let r = c.requires.1.1.1.1.1 in
     let n = known (chunk_rows p (stamp_of c.args.at)) r.0 in
-    let o = opened_is q (stamp_of c.args.at) n.rows _ (chunk_rows-kept p q (stamp_of c.args.at) n.rows c.show.ensures.grown n.is) c.in_ok-held.ensures.content in
+    let o = opened_is q (stamp_of c.args.at) n.rows _ (chunk_rows-kept p q (stamp_of c.args.at) n.rows c.show.ensures.grown.0 n.is) c.in_ok-held.ensures.content in
     let tops = ap chunk_top c.chunk.ensures in (
       omega (arith, tops, o.low, c.requires.1.0),
       (
@@ -127,8 +143,11 @@ scan_placed-scan_chunk-answer-requires g t c κs ws =
         (
           ws.1,
           (
-            subst (λ (ch : Chunk Ref). IsTree (opened_rows q ch)) (sym c.chunk.ensures) (tree_of (opened_rows q _) n.rows o.rows_are n.order),
-            r.1,
+            subst (λ (ch : Chunk Ref). AreAll (g.C.Chunks.places c.show.new.self) (chunk_children ch)) (sym c.chunk.ensures) c.in_ok-held.ensures.children,
+            (
+              subst (λ (ch : Chunk Ref). IsTree (opened_rows q ch)) (sym c.chunk.ensures) (tree_of (opened_rows q _) n.rows o.rows_are n.order),
+              r.1,
+            ),
           ),
         ),
       ),
@@ -138,8 +157,8 @@ pub scan_placed-returns-clause-rows : goal.scan_placed-returns-clause-rows
 scan_placed-returns-clause-rows g t c =
     let p = g.C.Chunks.contents c.args.chunks.now in
     let q = g.C.Chunks.contents c.show.new.self in
-    let r = c.requires.1.1.1.1 in
+    let r = c.requires.1.1.1.1.1 in
     let n = known (chunk_rows p (stamp_of c.args.at)) r.0 in
-    let o = opened_is q (stamp_of c.args.at) n.rows _ (chunk_rows-kept p q (stamp_of c.args.at) n.rows c.show.ensures.grown n.is) c.in_ok-held.ensures.content in
+    let o = opened_is q (stamp_of c.args.at) n.rows _ (chunk_rows-kept p q (stamp_of c.args.at) n.rows c.show.ensures.grown.0 n.is) c.in_ok-held.ensures.content in
     subst (λ w. OnOk c.scan_chunk-answer.result (c.scan_chunk-answer.new.out.items ≡ with_scanned c.args.scan.now c.args.out.now.items (rows_or w)))
     (ap (λ (ch : Chunk Ref). opened_rows q ch) c.chunk.ensures ∙ o.rows_are ∙ sym n.is) c.scan_chunk-answer.ensures.rows

@@ -1,7 +1,7 @@
 use Rattle.std.proofs.Common.{◌≡◌, ◌+◌, ◌*◌}
-use mathlib.Core.List.{IsPrefix}
 use Rattle.group_history.specs.Refs.{stamp_of}
 use Rattle.group_history.specs.Rows.{paired}
+use Rattle.map_chunks.specs.Places.{Grows}
 use Rattle.map_chunks.specs.Scanning.{with_scanned}
 use Rattle.map_chunks.proofs.ScanLemmas.{first_rows, ref_rows, top, chunk_top}
 use Rattle.map_chunks.proofs.scanning.+placed.Given as goal
@@ -18,6 +18,6 @@ decreases-scan_children g l = 3 * top (paired l.firsts.now l.children.now)
 abbrev pub invariant-scan_children-loop-place : goal.invariant-scan_children-loop-place
 invariant-scan_children-loop-place g l =
     record {
-      grown : IsPrefix (g.C.Chunks.contents l.fn.chunks) (g.C.Chunks.contents l.chunks);
+      grown : Grows g.C.Chunks.contents g.C.Chunks.places l.fn.chunks l.chunks;
       rows : l.out.items ≡ with_scanned l.scan l.fn.out.items (first_rows (ref_rows (g.C.Chunks.contents l.fn.chunks)) (paired l.firsts l.children) l.place);
     }

@@ -6,6 +6,8 @@ use Rattle.group_history.specs.Refs.{stamp_of}
 use Rattle.group_history.specs.Spelling.{Segment}
 use Rattle.map_chunks.specs.Seeking.{chunk_depth, IsHint, Hints}
 use Rattle.map_chunks.specs.Shown.{chunk_rows, rows_or}
+use Rattle.map_chunks.specs.Seeking.{IsHintAt}
+use Rattle.map_chunks.proofs.ChildLemmas.{hint_at}
 use Rattle.map_chunks.proofs.RowLemmas.{IsStrict}
 use Rattle.map_chunks.proofs.OpenLemmas.{known, spells_rows, segment-kept}
 use Rattle.map_chunks.proofs.SeekLemmas.{hints}
@@ -19,12 +21,19 @@ returns-clause-hint g c =
     let p = g.C.Chunks.contents c.args.chunks.now in
     let q = g.C.Chunks.contents c.show.new.self in
     let hint = c.hint_of-hint.result in
-    let n = known (chunk_rows p k) c.requires in
+    let n = known (chunk_rows p k) c.requires.known in
     let s = spells_rows p k n.rows n.is in
-    let at = segment-kept p q k s.segment c.show.ensures.grown s.is in
+    let at = segment-kept p q k s.segment c.show.ensures.grown.0 s.is in
     let l = hints q k s.segment _ key asked hint at c.in_ok-held.ensures.content (subst IsStrict (sym s.rows) n.order)
     (subst (λ (ch : Chunk Ref). IsHint ch key asked hint) c.chunk.ensures c.hint_of-hint.ensures) in
     let depth : Some s.segment.depth ≡ chunk_depth p k = ap (option_map (λ (t : Segment). t.depth)) (sym s.is) in
     subst (λ d. Hints (g.C.Chunks.contents c.leave.new.self) key asked k d (rows_or (chunk_rows p k)) hint) depth
     (subst (λ rs. Hints (g.C.Chunks.contents c.leave.new.self) key asked k (Some s.segment.depth) rs hint) (s.rows ∙ ap rows_or (sym n.is))
-    (subst (λ ns. Hints ns key asked k (Some s.segment.depth) s.segment.rows hint) (sym c.leave.ensures) l))
+    (subst (λ ns. Hints ns key asked k (Some s.segment.depth) s.segment.rows hint) (sym (ap g.C.Chunks.contents c.leave.ensures)) l))
+
+pub returns-clause-place : goal.returns-clause-place
+returns-clause-place g c =
+    let hint = c.hint_of-hint.result in
+    let asked = option_copied c.args.asked in
+    subst (λ ns. IsHintAt (g.C.Chunks.places ns) hint) (sym c.leave.ensures)
+    (hint_at (g.C.Chunks.places c.show.new.self) _ c.args.key.now asked hint c.in_ok-held.ensures.children (subst (λ (ch : Chunk Ref). IsHint ch c.args.key.now asked hint) c.chunk.ensures c.hint_of-hint.ensures))

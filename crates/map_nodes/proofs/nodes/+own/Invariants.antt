@@ -1,5 +1,5 @@
 use Rattle.std.proofs.Common.{◌≡◌, ◌+◌}
-use mathlib.Core.List.{IsPrefix}
+use Rattle.map_chunks.specs.Places.{Grows}
 use Rattle.group_history.specs.Rows.{paired}
 use Rattle.map_nodes.specs.Nodes.{child_height, kids_height}
 use Rattle.map_chunks.specs.Scanning.{with_scanned}
@@ -19,6 +19,6 @@ decreases-scanning::scan_kid g l = child_height l.kid.now
 abbrev pub invariant-scanning::scan_kids-loop-place : goal.invariant-scanning::scan_kids-loop-place
 invariant-scanning::scan_kids-loop-place g l =
     record {
-      grown : IsPrefix (g.C.Chunks.contents l.fn.chunks) (g.C.Chunks.contents l.chunks);
+      grown : Grows g.C.Chunks.contents g.C.Chunks.places l.fn.chunks l.chunks;
       rows : l.out.items ≡ with_scanned l.scan l.fn.out.items (first_rows (shown_kid (g.C.Chunks.contents l.fn.chunks)) (paired l.firsts l.kids) l.place);
     }

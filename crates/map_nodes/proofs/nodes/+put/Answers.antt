@@ -7,7 +7,7 @@ use Rattle.group_history.specs.Refs.{stamp_of}
 use Rattle.group_history.specs.Rows.{paired, rises, keys_of}
 use Rattle.group_history.specs.Spelling.{rows_at}
 use Rattle.map_nodes.specs.Counts.{half_fresh, HasKept}
-use Rattle.map_chunks.specs.Places.{AreKept, places_of}
+use Rattle.map_chunks.specs.Places.{AreAll, AreKept, places_of}
 use Rattle.map_nodes.specs.Freezing.{child_places, kids_places}
 use Rattle.map_nodes.specs.Halves.{half_pieces, IsHalf, IsLower, AreNinth, HasDepth, ChildPut, with_half, lowered}
 use Rattle.map_nodes.specs.Nodes.{Kid, AllKids, IsNode, body_pieces, body_fresh, body_height, child_rows, kids_pieces, child_fresh, kids_fresh}
@@ -22,13 +22,14 @@ use Rattle.map_nodes.specs.declared.nodes.Child.TheVariants.{Placed, Own}
 use Rattle.map_chunks.proofs.AnswerLemmas.{if_ok_so, on_err, on_ok}
 use Rattle.map_nodes.proofs.CountLemmas.{fresh-set, leaf_counts, inner_counts}
 use Rattle.map_nodes.proofs.ChangeLemmas.{shown-kept}
-use Rattle.map_chunks.proofs.KeptLemmas.{kept-none, kept-grown, kept-trans, kept-from_none}
+use Rattle.map_chunks.proofs.KeptLemmas.{all_on, kept-none, kept-grown, kept-trans, kept-from_none}
 use Rattle.map_nodes.proofs.NamedLemmas.{kept-kid, kept-finished, own-places, places-rows}
 use Rattle.map_nodes.proofs.NodeLemmas.{inner_same, shown-rows, child_at, written_back}
 use Rattle.map_chunks.proofs.OpenLemmas.{known, tree_of}
 use Rattle.map_nodes.proofs.ReplaceLemmas.{leaf_rows}
 use Rattle.map_nodes.proofs.UnputLemmas.{unput_anyhow, unput_split}
 use Rattle.map_nodes.proofs.PathLemmas.{put_path, filled_pairs, filled_kids, length-pairs, node_at, child_requires, if_ok, indexed_child, done_at, length-lowered, ninth_lowered}
+use Rattle.map_nodes.proofs.PlaceLemmas.{kid_all, kids_may, own_may, placed_may, new_may}
 use Rattle.map_nodes.proofs.nodes.+put.Goals as goal
 
 pub putting::paths::put_inner-put_child-requires : goal.putting::paths::put_inner-put_child-requires
@@ -45,12 +46,15 @@ putting::paths::put_inner-put_child-requires g t c κs within =
         (
           within.1,
           (
-            omega (arith, x.3.0, x.2.1.2, ap length c.reserve.ensures.items),
+            subst (λ ks. AreAll (g.C.Chunks.places c.args.chunks.now) (kids_places ks)) (sym c.reserve.ensures.items) (kids_may (g.C.Chunks.places c.args.chunks.now) c.args.depth c.args.keys.now.texts (Inner c.args.kids.now) c.args.kids.now (body_pieces c.args.depth c.args.keys.now.texts (Inner c.args.kids.now)) refl refl c.requires.node c.requires.places),
             (
-              subst (λ w. IsPlace c.args.key.now w i) c.as_slice.ensures (subst (λ k. IsPlace k c.as_slice.result.now i) c.as_str.ensures c.place_of-place.ensures),
+              omega (arith, x.3.0, x.2.1.2, ap length c.reserve.ensures.items),
               (
-                omega (arith, x.2.1.0, c.requires.copies),
-                child_requires p c.args.depth c.args.keys.now.texts c.args.kids.now.items c.reserve.new.self.items (body_pieces c.args.depth c.args.keys.now.texts (Inner c.args.kids.now)) c.args.key.now i (get_or c.args.kids.now.items i at) x.0 x.1 c.reserve.ensures.items,
+                subst (λ w. IsPlace c.args.key.now w i) c.as_slice.ensures (subst (λ k. IsPlace k c.as_slice.result.now i) c.as_str.ensures c.place_of-place.ensures),
+                (
+                  omega (arith, x.2.1.0, c.requires.copies),
+                  child_requires p c.args.depth c.args.keys.now.texts c.args.kids.now.items c.reserve.new.self.items (body_pieces c.args.depth c.args.keys.now.texts (Inner c.args.kids.now)) c.args.key.now i (get_or c.args.kids.now.items i at) x.0 x.1 c.reserve.ensures.items,
+                ),
               ),
             ),
           ),
@@ -76,7 +80,7 @@ putting::paths::put_inner-finish-requires-clause-pairs g t c =
     (c.in_ok-ready.ensures.done child (ap (λ w. slice_get w i) kk ∙ x.1)) in
     let low = c.lower_first.ensures.texts ∙ ap (lowered i c.in_ok-ready.ready.lower) c.put_child.ensures.texts in
     let u = put_path p q c.args.depth c.args.copies keys kids c.put_child.new.kids.items (body_pieces c.args.depth c.args.keys.now.texts (Inner c.args.kids.now)) c.args.key.now c.args.value.now i child c.in_ok-ready.ready.lower
-    c.in_ok-ready.half c.put_child.ensures.grown x.2.1.2 x.0 c.in_ok-ready.ensures.lower done in
+    c.in_ok-ready.half c.put_child.ensures.grown.0 x.2.1.2 x.0 c.in_ok-ready.ensures.lower done in
     ap length done.1 ∙ length-set kids i (Own done.0) ∙ x.2.1.2 ∙ sym (ap length low ∙ length-lowered i c.in_ok-ready.ready.lower keys)
 
 pub putting::paths::put_inner-finish-requires-clause-keys_room : goal.putting::paths::put_inner-finish-requires-clause-keys_room
@@ -97,7 +101,7 @@ putting::paths::put_inner-finish-requires-clause-keys_room g t c =
     (c.in_ok-ready.ensures.done child (ap (λ w. slice_get w i) kk ∙ x.1)) in
     let low = c.lower_first.ensures.texts ∙ ap (lowered i c.in_ok-ready.ready.lower) c.put_child.ensures.texts in
     let u = put_path p q c.args.depth c.args.copies keys kids c.put_child.new.kids.items (body_pieces c.args.depth c.args.keys.now.texts (Inner c.args.kids.now)) c.args.key.now c.args.value.now i child c.in_ok-ready.ready.lower
-    c.in_ok-ready.half c.put_child.ensures.grown x.2.1.2 x.0 c.in_ok-ready.ensures.lower done in
+    c.in_ok-ready.half c.put_child.ensures.grown.0 x.2.1.2 x.0 c.in_ok-ready.ensures.lower done in
     λ some. omega (arith, c.lower_first.ensures.room, (c.in_ok-ready.ensures.ready some).0)
 
 pub putting::paths::put_inner-finish-requires-clause-kids_room : goal.putting::paths::put_inner-finish-requires-clause-kids_room
@@ -118,7 +122,7 @@ putting::paths::put_inner-finish-requires-clause-kids_room g t c =
     (c.in_ok-ready.ensures.done child (ap (λ w. slice_get w i) kk ∙ x.1)) in
     let low = c.lower_first.ensures.texts ∙ ap (lowered i c.in_ok-ready.ready.lower) c.put_child.ensures.texts in
     let u = put_path p q c.args.depth c.args.copies keys kids c.put_child.new.kids.items (body_pieces c.args.depth c.args.keys.now.texts (Inner c.args.kids.now)) c.args.key.now c.args.value.now i child c.in_ok-ready.ready.lower
-    c.in_ok-ready.half c.put_child.ensures.grown x.2.1.2 x.0 c.in_ok-ready.ensures.lower done in
+    c.in_ok-ready.half c.put_child.ensures.grown.0 x.2.1.2 x.0 c.in_ok-ready.ensures.lower done in
     let n = ap length done.1 ∙ length-set kids i (Own done.0) ∙ sym (ap length kk) in
     omega (arith, n, c.put_child.ensures.kept, c.in_ok-reserve.ensures.ok, c.put_child.new.kids.ok.0, c.reserve.new.self.ok.0)
 
@@ -140,7 +144,7 @@ putting::paths::put_inner-finish-requires-clause-half g t c =
     (c.in_ok-ready.ensures.done child (ap (λ w. slice_get w i) kk ∙ x.1)) in
     let low = c.lower_first.ensures.texts ∙ ap (lowered i c.in_ok-ready.ready.lower) c.put_child.ensures.texts in
     let u = put_path p q c.args.depth c.args.copies keys kids c.put_child.new.kids.items (body_pieces c.args.depth c.args.keys.now.texts (Inner c.args.kids.now)) c.args.key.now c.args.value.now i child c.in_ok-ready.ready.lower
-    c.in_ok-ready.half c.put_child.ensures.grown x.2.1.2 x.0 c.in_ok-ready.ensures.lower done in
+    c.in_ok-ready.half c.put_child.ensures.grown.0 x.2.1.2 x.0 c.in_ok-ready.ensures.lower done in
     done.5
 
 pub putting::paths::put_inner-finish-requires-clause-firsts : goal.putting::paths::put_inner-finish-requires-clause-firsts
@@ -161,7 +165,7 @@ putting::paths::put_inner-finish-requires-clause-firsts g t c =
     (c.in_ok-ready.ensures.done child (ap (λ w. slice_get w i) kk ∙ x.1)) in
     let low = c.lower_first.ensures.texts ∙ ap (lowered i c.in_ok-ready.ready.lower) c.put_child.ensures.texts in
     let u = put_path p q c.args.depth c.args.copies keys kids c.put_child.new.kids.items (body_pieces c.args.depth c.args.keys.now.texts (Inner c.args.kids.now)) c.args.key.now c.args.value.now i child c.in_ok-ready.ready.lower
-    c.in_ok-ready.half c.put_child.ensures.grown x.2.1.2 x.0 c.in_ok-ready.ensures.lower done in
+    c.in_ok-ready.half c.put_child.ensures.grown.0 x.2.1.2 x.0 c.in_ok-ready.ensures.lower done in
     λ some key z. subst (λ ks. AreNinth c.args.copies ks (i + 1) key c.in_ok-ready.ready.room.firsts.items) (sym low)
     (ninth_lowered c.args.copies keys i c.args.key.now c.in_ok-ready.ready.lower c.in_ok-ready.ready.room.firsts.items x.3 c.in_ok-ready.ensures.lower (c.in_ok-ready.ensures.ready some).1 key z)
 
@@ -183,7 +187,7 @@ putting::paths::put_inner-finish-requires-clause-kids g t c =
     (c.in_ok-ready.ensures.done child (ap (λ w. slice_get w i) kk ∙ x.1)) in
     let low = c.lower_first.ensures.texts ∙ ap (lowered i c.in_ok-ready.ready.lower) c.put_child.ensures.texts in
     let u = put_path p q c.args.depth c.args.copies keys kids c.put_child.new.kids.items (body_pieces c.args.depth c.args.keys.now.texts (Inner c.args.kids.now)) c.args.key.now c.args.value.now i child c.in_ok-ready.ready.lower
-    c.in_ok-ready.half c.put_child.ensures.grown x.2.1.2 x.0 c.in_ok-ready.ensures.lower done in
+    c.in_ok-ready.half c.put_child.ensures.grown.0 x.2.1.2 x.0 c.in_ok-ready.ensures.lower done in
     subst (λ ks. AllKids (c.args.depth - 1) (with_half i c.in_ok-ready.half (paired ks c.put_child.new.kids.items))) (sym low) u.all
 
 pub putting::paths::put_inner-finish-requires-clause-order : goal.putting::paths::put_inner-finish-requires-clause-order
@@ -204,7 +208,7 @@ putting::paths::put_inner-finish-requires-clause-order g t c =
     (c.in_ok-ready.ensures.done child (ap (λ w. slice_get w i) kk ∙ x.1)) in
     let low = c.lower_first.ensures.texts ∙ ap (lowered i c.in_ok-ready.ready.lower) c.put_child.ensures.texts in
     let u = put_path p q c.args.depth c.args.copies keys kids c.put_child.new.kids.items (body_pieces c.args.depth c.args.keys.now.texts (Inner c.args.kids.now)) c.args.key.now c.args.value.now i child c.in_ok-ready.ready.lower
-    c.in_ok-ready.half c.put_child.ensures.grown x.2.1.2 x.0 c.in_ok-ready.ensures.lower done in
+    c.in_ok-ready.half c.put_child.ensures.grown.0 x.2.1.2 x.0 c.in_ok-ready.ensures.lower done in
     subst (λ ks. T (rises (keys_of (with_half i c.in_ok-ready.half (paired ks c.put_child.new.kids.items))))) (sym low) u.order
 
 pub putting::paths::put_inner-returns-clause-done : goal.putting::paths::put_inner-returns-clause-done
@@ -225,7 +229,7 @@ putting::paths::put_inner-returns-clause-done g t c =
     (c.in_ok-ready.ensures.done child (ap (λ w. slice_get w i) kk ∙ x.1)) in
     let low = c.lower_first.ensures.texts ∙ ap (lowered i c.in_ok-ready.ready.lower) c.put_child.ensures.texts in
     let u = put_path p q c.args.depth c.args.copies keys kids c.put_child.new.kids.items (body_pieces c.args.depth c.args.keys.now.texts (Inner c.args.kids.now)) c.args.key.now c.args.value.now i child c.in_ok-ready.ready.lower
-    c.in_ok-ready.half c.put_child.ensures.grown x.2.1.2 x.0 c.in_ok-ready.ensures.lower done in
+    c.in_ok-ready.half c.put_child.ensures.grown.0 x.2.1.2 x.0 c.in_ok-ready.ensures.lower done in
     done_at q (c.args.depth - 1) (with_half i c.in_ok-ready.half (paired (lowered i c.in_ok-ready.ready.lower keys) c.put_child.new.kids.items)) (shown p (body_pieces c.args.depth c.args.keys.now.texts (Inner c.args.kids.now))) x.0.rows c.args.key.now c.args.value.now _ x.0.rows_is
     (c.finish.ensures.shape.0 ∙ ap (λ ks. kids_pieces (c.args.depth - 1) (with_half i c.in_ok-ready.half (paired ks c.put_child.new.kids.items))) low) u.shown_is
 
@@ -236,6 +240,7 @@ putting::paths::put_inner-returns-clause-filled g t c =
 
 pub putting::paths::put_child-put_below-requires : goal.putting::paths::put_child-put_below-requires
 putting::paths::put_child-put_below-requires g t c κs within =
+    let may = g.C.Chunks.places c.args.chunks.now in
     let p = g.C.Chunks.contents c.args.chunks.now in
     let kids = c.args.kids.now.items in
     let child = c.index_mut.result.now in
@@ -245,7 +250,13 @@ putting::paths::put_child-put_below-requires g t c κs within =
       omega (arith, d, c.decreases),
       (
         within.0,
-        (within.1, (subst (λ (s : Seen). IsTree (shown p s.pieces)) (sym v) (subst (λ x. IsTree (child_rows p c.args.below x)) c.in-Own.is r.0), (c.requires.place, omega (arith, d, c.requires.copies)))),
+        (
+          within.1,
+          (
+            subst (λ (s : Seen). AreAll may (places_of s.pieces)) (sym v) (own_may may child c.in-Own.node c.in-Own.is (kid_all may kids c.args.place child c.requires.within c.index_mut.ensures.value c.requires.places)),
+            (subst (λ (s : Seen). IsTree (shown p s.pieces)) (sym v) (subst (λ x. IsTree (child_rows p c.args.below x)) c.in-Own.is r.0), (c.requires.place, omega (arith, d, c.requires.copies))),
+          ),
+        ),
       ),
     )
 
@@ -270,8 +281,14 @@ putting::paths::put_child-returns-in-Own-clause-done g t c x h =
       subst (λ w. IsHalf (c.args.copies + 1) w put.1) d half,
     ))
 
-pub putting::paths::put_child-copied_child-requires : goal.putting::paths::put_child-copied_child-requires
-putting::paths::put_child-copied_child-requires g t c =
+pub putting::paths::put_child-copied_child-requires-clause-place : goal.putting::paths::put_child-copied_child-requires-clause-place
+putting::paths::put_child-copied_child-requires-clause-place g t c =
+    let may = g.C.Chunks.places c.args.chunks.now in
+    let child = c.index_mut.result.now in
+    placed_may may child c.in-Placed.at c.in-Placed.is (kid_all may c.args.kids.now.items c.args.place child c.requires.within c.index_mut.ensures.value c.requires.places)
+
+pub putting::paths::put_child-copied_child-requires-clause-known : goal.putting::paths::put_child-copied_child-requires-clause-known
+putting::paths::put_child-copied_child-requires-clause-known g t c =
     let p = g.C.Chunks.contents c.args.chunks.now in
     let kids = c.args.kids.now.items in
     let child = c.index_mut.result.now in
@@ -294,9 +311,12 @@ putting::paths::put_child-put_below-requires-in-Placed g t c κs within =
         (
           within.1,
           (
-            subst (λ (s : Seen). IsTree (shown q s.pieces)) (sym v)
-                (subst IsTree (sym c.in_ok-node-in-Placed.ensures.rows) (subst (λ x. IsTree (child_rows p c.args.below x)) c.in-Placed.is r.0)),
-            (c.requires.place, omega (arith, d, c.requires.copies)),
+            subst (λ (s : Seen). AreAll (g.C.Chunks.places c.copied_child.new.chunks) (places_of s.pieces)) (sym v) (new_may (g.C.Chunks.places c.copied_child.new.chunks) (places_of c.in_ok-node-in-Placed.node.value.pieces) c.in_ok-node-in-Placed.ensures.places),
+            (
+              subst (λ (s : Seen). IsTree (shown q s.pieces)) (sym v)
+                  (subst IsTree (sym c.in_ok-node-in-Placed.ensures.rows) (subst (λ x. IsTree (child_rows p c.args.below x)) c.in-Placed.is r.0)),
+              (c.requires.place, omega (arith, d, c.requires.copies)),
+            ),
           ),
         ),
       ),
@@ -367,11 +387,17 @@ Node::put_below-put_ready-requires g t c κs within =
     let n = known (shown p c.args.self.now.pieces) c.requires.tree in
     let e = c.in-Err-Full.ensures.err in
     let d = ap (λ (s : Seen). s.depth) e in
-    let here = shown-kept p q c.args.self.now.pieces n.rows c.put.ensures.grown n.is in (
+    let here = shown-kept p q c.args.self.now.pieces n.rows c.put.ensures.grown.0 n.is in (
       omega (arith, d, c.decreases),
       (
         within.0,
-        (within.1, (subst (λ (s : Seen). IsTree (shown q s.pieces)) (sym e) (tree_of (shown q c.args.self.now.pieces) n.rows here n.order), (subst (λ ks. IsPlace c.args.key.now ks c.args.place) (sym c.lower_key.ensures.texts) c.requires.place, omega (arith, d, c.requires.copies)))),
+        (
+          within.1,
+          (
+            subst (λ (s : Seen). AreAll (g.C.Chunks.places c.put.new.chunks) (places_of s.pieces)) (sym e) (all_on (g.C.Chunks.places c.args.chunks.now) (g.C.Chunks.places c.put.new.chunks) _ c.put.ensures.grown.1 c.requires.places),
+            (subst (λ (s : Seen). IsTree (shown q s.pieces)) (sym e) (tree_of (shown q c.args.self.now.pieces) n.rows here n.order), (subst (λ ks. IsPlace c.args.key.now ks c.args.place) (sym c.lower_key.ensures.texts) c.requires.place, omega (arith, d, c.requires.copies))),
+          ),
+        ),
       ),
     )
 
@@ -399,7 +425,7 @@ putting::paths::put_inner-returns-clause-places g t c =
     refl refl c.requires.node c.as_slice.ensures
     (subst (λ k. IsPlace k c.as_slice.result.now i) c.as_str.ensures c.place_of-place.ensures) c.requires.tree in
     let q = g.C.Chunks.contents c.put_child.new.chunks in
-    let show = g.C.Held.ShowsChunk.shown in
+    let at_q = g.C.Chunks.places c.put_child.new.chunks in
     let child = get_or c.args.kids.now.items i at in
     let keys = c.args.keys.now.texts in
     let kids = c.args.kids.now.items in
@@ -412,35 +438,33 @@ putting::paths::put_inner-returns-clause-places g t c =
     ap length done.1 ∙ length-set kids i (Own done.0) ∙ x.2.1.2 ∙ sym (ap length low ∙ length-lowered i c.in_ok-ready.ready.lower keys) in
     let here : kids_places c.reserve.new.self.items ≡ places_of (body_pieces c.args.depth c.args.keys.now.texts (Inner c.args.kids.now)) =
     ap kids_places kk ∙ sym (own-places c.args.depth keys (Inner c.args.kids.now) c.args.kids.now (body_pieces c.args.depth c.args.keys.now.texts (Inner c.args.kids.now)) refl refl x.2.1.2) in
-    kept-finished show q (places_of (body_pieces c.args.depth c.args.keys.now.texts (Inner c.args.kids.now))) (c.args.depth - 1) i c.in_ok-ready.half c.lower_first.new.keys.texts c.put_child.new.kids.items _ n c.finish.ensures.shape.0
-    (subst (λ w. AreKept show q w (kids_places c.put_child.new.kids.items ++ places_of (half_pieces c.in_ok-ready.half))) here c.in_ok-ready.ensures.places)
+    kept-finished at_q (places_of (body_pieces c.args.depth c.args.keys.now.texts (Inner c.args.kids.now))) (c.args.depth - 1) i c.in_ok-ready.half c.lower_first.new.keys.texts c.put_child.new.kids.items _ n c.finish.ensures.shape.0
+    (subst (λ w. AreKept at_q w (kids_places c.put_child.new.kids.items ++ places_of (half_pieces c.in_ok-ready.half))) here c.in_ok-ready.ensures.places)
 
 pub putting::paths::put_child-returns-in-Own-clause-places : goal.putting::paths::put_child-returns-in-Own-clause-places
 putting::paths::put_child-returns-in-Own-clause-places g t c =
     let kids = c.args.kids.now.items in
     let child = c.index_mut.result.now in
-    let q = g.C.Chunks.contents c.put_below.new.chunks in
-    let show = g.C.Held.ShowsChunk.shown in
+    let at_q = g.C.Chunks.places c.put_below.new.chunks in
     let n : Kid = with_value c.in-Own.node c.put_below.new.self in
     if_ok_so c.put_below.result c.put_below.ensures.places
-    (λ put kept. kept-kid show q kids c.args.place child n (half_pieces put.1) c.requires.within c.index_mut.ensures.value
-    (subst (λ (x : Child). AreKept show q (child_places x) (places_of (c.put_below.new.self.pieces ++ half_pieces put.1))) (sym c.in-Own.is)
-    (subst (λ (s : Seen). AreKept show q (places_of s.pieces) (places_of (c.put_below.new.self.pieces ++ half_pieces put.1))) c.deref_mut.ensures.value kept)))
+    (λ put kept. kept-kid at_q kids c.args.place child n (half_pieces put.1) c.requires.within c.index_mut.ensures.value
+    (subst (λ (x : Child). AreKept at_q (child_places x) (places_of (c.put_below.new.self.pieces ++ half_pieces put.1))) (sym c.in-Own.is)
+    (subst (λ (s : Seen). AreKept at_q (places_of s.pieces) (places_of (c.put_below.new.self.pieces ++ half_pieces put.1))) c.deref_mut.ensures.value kept)))
 
 pub putting::paths::put_child-returns-in-Placed-clause-places : goal.putting::paths::put_child-returns-in-Placed-clause-places
 putting::paths::put_child-returns-in-Placed-clause-places g t c =
     let kids = c.args.kids.now.items in
     let child = c.index_mut.result.now in
-    let p = g.C.Chunks.contents c.copied_child.new.chunks in
-    let q = g.C.Chunks.contents c.put_below-in-Placed.new.chunks in
-    let show = g.C.Held.ShowsChunk.shown in
+    let at_p = g.C.Chunks.places c.copied_child.new.chunks in
+    let at_q = g.C.Chunks.places c.put_below-in-Placed.new.chunks in
     let n : Kid = with_value c.in_ok-node-in-Placed.node c.put_below-in-Placed.new.self in
     let half = half_pieces c.in_ok-put-in-Placed.put.1 in
-    let copied = kept-grown show p q [] (places_of c.in_ok-node-in-Placed.node.value.pieces) c.put_below-in-Placed.ensures.grown c.in_ok-node-in-Placed.ensures.places in
-    let put = subst (λ (s : Seen). AreKept show q (places_of s.pieces) (places_of (c.put_below-in-Placed.new.self.pieces ++ half))) c.deref_mut-in-Placed.ensures.value c.in_ok-put-in-Placed.ensures.places in
-    let all = kept-trans show q [] (places_of c.in_ok-node-in-Placed.node.value.pieces) (places_of (c.put_below-in-Placed.new.self.pieces ++ half)) copied put in
-    subst (λ ks. AreKept show q (kids_places kids) (kids_places ks ++ places_of half)) (sym (set-set kids c.args.place (Placed c.in-Placed.at) (Own n)))
-    (kept-kid show q kids c.args.place child n half c.requires.within c.index_mut.ensures.value (kept-from_none show q (child_places child) (places_of (c.put_below-in-Placed.new.self.pieces ++ half)) all))
+    let copied = kept-grown at_p at_q [] (places_of c.in_ok-node-in-Placed.node.value.pieces) c.put_below-in-Placed.ensures.grown.1 c.in_ok-node-in-Placed.ensures.places in
+    let put = subst (λ (s : Seen). AreKept at_q (places_of s.pieces) (places_of (c.put_below-in-Placed.new.self.pieces ++ half))) c.deref_mut-in-Placed.ensures.value c.in_ok-put-in-Placed.ensures.places in
+    let all = kept-trans at_q [] (places_of c.in_ok-node-in-Placed.node.value.pieces) (places_of (c.put_below-in-Placed.new.self.pieces ++ half)) copied put in
+    subst (λ ks. AreKept at_q (kids_places kids) (kids_places ks ++ places_of half)) (sym (set-set kids c.args.place (Placed c.in-Placed.at) (Own n)))
+    (kept-kid at_q kids c.args.place child n half c.requires.within c.index_mut.ensures.value (kept-from_none at_q (child_places child) (places_of (c.put_below-in-Placed.new.self.pieces ++ half)) all))
 
 pub putting::paths::put_inner-returns-clause-node : goal.putting::paths::put_inner-returns-clause-node
 putting::paths::put_inner-returns-clause-node g t c = let s = c.finish.ensures.shape in (s.3, (c.requires.node.1.0, s.4, s.2, s.5))
@@ -475,11 +499,10 @@ Node::put-returns-in-Leaf-clause-entries g t c =
 
 pub Node::put-returns-in-Leaf-clause-places : goal.Node::put-returns-in-Leaf-clause-places
 Node::put-returns-in-Leaf-clause-places g t c =
-    let p = g.C.Chunks.contents c.args.chunks.now in
-    let show = g.C.Held.ShowsChunk.shown in
+    let at_p = g.C.Chunks.places c.args.chunks.now in
     let old = places_of c.args.self.now.pieces in
     let rows = finite.put (slice_cmp nat_cmp) c.args.key.now c.args.value.now (paired c.self.inside.keys.texts c.in-Leaf.values.items) in
-    if_ok_so c.put_leaf.result c.put_leaf.ensures.rows (λ half is. subst (λ ps. AreKept show p old (places_of ps)) (sym is) (subst (AreKept show p old) (sym (places-rows rows)) (kept-none show p old)))
+    if_ok_so c.put_leaf.result c.put_leaf.ensures.rows (λ half is. subst (λ ps. AreKept at_p old (places_of ps)) (sym is) (subst (AreKept at_p old) (sym (places-rows rows)) (kept-none at_p old)))
 
 pub Node::put-returns-in-Leaf-clause-unput : goal.Node::put-returns-in-Leaf-clause-unput
 Node::put-returns-in-Leaf-clause-unput g t c = unput_anyhow g.C.Chunks.stops c.args.may_split c.put_leaf.result c.put_leaf.ensures.unput
@@ -490,7 +513,8 @@ Node::put-put_inner-requires g t c κs within =
     let inner : IsNode c.self.inside.depth c.self.inside.keys.texts (Inner c.in-Inner.kids) = subst (IsNode c.self.inside.depth c.self.inside.keys.texts) c.in-Inner.is c.self.invariant in
     let here = ap (λ (s : Seen). s.depth) c.self.view_is in
     let view = ap (body_pieces c.self.inside.depth c.self.inside.keys.texts) (sym c.in-Inner.is) ∙ ap (λ (s : Seen). s.pieces) c.self.view_is in
-    (omega (arith, here, c.decreases), (within.0, (within.1, (inner, (subst (λ ps. IsTree (shown p ps)) (sym view) c.requires.tree, omega (arith, here, c.requires.copies))))))
+    let may = g.C.Chunks.places c.args.chunks.now in
+    (omega (arith, here, c.decreases), (within.0, (within.1, (subst (λ ps. AreAll may (places_of ps)) (sym view) c.requires.places, (inner, (subst (λ ps. IsTree (shown p ps)) (sym view) c.requires.tree, omega (arith, here, c.requires.copies)))))))
 
 pub Node::put-returns-in-Inner-clause-done : goal.Node::put-returns-in-Inner-clause-done
 Node::put-returns-in-Inner-clause-done g t c =
@@ -503,10 +527,10 @@ Node::put-returns-in-Inner-clause-half g t c = subst (λ d. IfOk c.put_inner.res
 
 pub Node::put-returns-in-Inner-clause-places : goal.Node::put-returns-in-Inner-clause-places
 Node::put-returns-in-Inner-clause-places g t c =
-    let q = g.C.Chunks.contents c.put_inner.new.chunks in
+    let at_q = g.C.Chunks.places c.put_inner.new.chunks in
     let view = ap (body_pieces c.self.inside.depth c.self.inside.keys.texts) (sym c.in-Inner.is) ∙ ap (λ (s : Seen). s.pieces) c.self.view_is in
     let new = body_pieces c.self.inside.depth c.put_inner.new.keys.texts (Inner c.put_inner.new.kids) in
-    subst (λ ps. IfOk c.put_inner.result (λ half. AreKept g.C.Held.ShowsChunk.shown q (places_of ps) (places_of (new ++ half_pieces half)))) view c.put_inner.ensures.places
+    subst (λ ps. IfOk c.put_inner.result (λ half. AreKept at_q (places_of ps) (places_of (new ++ half_pieces half)))) view c.put_inner.ensures.places
 
 pub Node::put-returns-in-Inner-clause-fresh : goal.Node::put-returns-in-Inner-clause-fresh
 Node::put-returns-in-Inner-clause-fresh g t c =
@@ -530,7 +554,7 @@ Node::put_below-returns-clause-done g t c =
     let q = g.C.Chunks.contents c.put.new.chunks in
     let n = known (shown p c.args.self.now.pieces) c.requires.tree in
     let e = c.in-Err-Full.ensures.err in
-    let here = shown-kept p q c.args.self.now.pieces n.rows c.put.ensures.grown n.is in
+    let here = shown-kept p q c.args.self.now.pieces n.rows c.put.ensures.grown.0 n.is in
     if_ok_so c.put_ready.result c.put_ready.ensures.done
     (λ r done. done ∙ ap (λ z. Some (finite.put (slice_cmp nat_cmp) c.args.key.now c.args.value.now (rows_or z))) (ap (λ (s : Seen). shown q s.pieces) e ∙ here ∙ sym n.is))
 
@@ -539,8 +563,8 @@ Node::put_below-returns-clause-half g t c = subst (λ (s : Seen). IfOk c.put_rea
 
 pub Node::put_below-returns-clause-places : goal.Node::put_below-returns-clause-places
 Node::put_below-returns-clause-places g t c =
-    let q = g.C.Chunks.contents c.put_ready.new.chunks in
-    subst (λ (s : Seen). IfOk c.put_ready.result (λ r. AreKept g.C.Held.ShowsChunk.shown q (places_of s.pieces) (places_of (c.put_ready.new.self.pieces ++ half_pieces r.1)))) c.in-Err-Full.ensures.err c.put_ready.ensures.places
+    let at_q = g.C.Chunks.places c.put_ready.new.chunks in
+    subst (λ (s : Seen). IfOk c.put_ready.result (λ r. AreKept at_q (places_of s.pieces) (places_of (c.put_ready.new.self.pieces ++ half_pieces r.1)))) c.in-Err-Full.ensures.err c.put_ready.ensures.places
 
 pub Node::put_below-returns-clause-fresh : goal.Node::put_below-returns-clause-fresh
 Node::put_below-returns-clause-fresh g t c =

@@ -6,7 +6,7 @@ use Rattle.std.specs.FinMap as finite
 use Rattle.group_history.specs.Refs.{stamp_of}
 use Rattle.group_history.specs.Rows.{paired}
 use Rattle.group_history.specs.Spelling.{rows_at}
-use Rattle.map_chunks.specs.Places.{AreKept, places_of}
+use Rattle.map_chunks.specs.Places.{AreAll, AreKept, places_of}
 use Rattle.map_nodes.specs.Freezing.{child_places, kids_places}
 use Rattle.map_nodes.specs.Nodes.{Kid, AllKids, child_rows, body_pieces, body_fresh, body_height, child_fresh, kids_fresh}
 use Rattle.map_nodes.specs.Replacing.{CanReplace}
@@ -23,12 +23,13 @@ use Rattle.map_chunks.proofs.OpenLemmas.{known}
 use Rattle.map_nodes.proofs.PathLemmas.{node_at, indexed_child}
 use Rattle.map_nodes.proofs.RemoveLemmas.{fresh-set}
 use Rattle.map_nodes.proofs.ReplaceLemmas.{leaf_replaced, leaf_has, can_replace, child_replaced}
+use Rattle.map_nodes.proofs.PlaceLemmas.{kid_all, kids_may, own_may, placed_may, new_may}
 use Rattle.map_nodes.proofs.nodes.+replacing.Goals as goal
 
 pub Node::replace-returns-in_default-clause-done : goal.Node::replace-returns-in_default-clause-done
 Node::replace-returns-in_default-clause-done g t c =
     absurd (leaf_has (g.C.Chunks.contents c.args.chunks.now) c.self.inside.depth c.self.inside.keys.texts c.self.inside.body c.in-Leaf.values c.args.self.now.pieces
-    c.as_slice.result.now c.args.key.now c.in_default.field-0 (ap (λ (s : Seen). s.pieces) c.self.view_is) c.in-Leaf.is c.self.invariant c.as_slice.ensures c.requires.1.1.1.1.1 c.in_default.ensures.absent)
+    c.as_slice.result.now c.args.key.now c.in_default.field-0 (ap (λ (s : Seen). s.pieces) c.self.view_is) c.in-Leaf.is c.self.invariant c.as_slice.ensures c.requires.1.1.1.1.1.1 c.in_default.ensures.absent)
 
 pub Node::replace-returns-in-Leaf-clause-done : goal.Node::replace-returns-in-Leaf-clause-done
 Node::replace-returns-in-Leaf-clause-done g t c =
@@ -47,31 +48,33 @@ Node::replace-returns-in-Leaf-clause-fresh g t c =
 
 pub Node::replace-returns-in_default-clause-places : goal.Node::replace-returns-in_default-clause-places
 Node::replace-returns-in_default-clause-places g t c =
-    let p = g.C.Chunks.contents c.args.chunks.now in
-    let show = g.C.Held.ShowsChunk.shown in
-    subst (AreKept show p (places_of c.args.self.now.pieces)) (sym (places-rows (paired c.self.inside.keys.texts c.in-Leaf.values.items))) (kept-none show p (places_of c.args.self.now.pieces))
+    let at_p = g.C.Chunks.places c.args.chunks.now in
+    subst (AreKept at_p (places_of c.args.self.now.pieces)) (sym (places-rows (paired c.self.inside.keys.texts c.in-Leaf.values.items))) (kept-none at_p (places_of c.args.self.now.pieces))
 
 pub Node::replace-returns-in-Leaf-clause-places : goal.Node::replace-returns-in-Leaf-clause-places
 Node::replace-returns-in-Leaf-clause-places g t c =
-    let p = g.C.Chunks.contents c.args.chunks.now in
-    let show = g.C.Held.ShowsChunk.shown in
-    subst (AreKept show p (places_of c.args.self.now.pieces)) (sym (places-rows (paired c.self.inside.keys.texts (set c.in-Leaf.values.items c.in-Ok.place c.args.value)))) (kept-none show p (places_of c.args.self.now.pieces))
+    let at_p = g.C.Chunks.places c.args.chunks.now in
+    subst (AreKept at_p (places_of c.args.self.now.pieces)) (sym (places-rows (paired c.self.inside.keys.texts (set c.in-Leaf.values.items c.in-Ok.place c.args.value)))) (kept-none at_p (places_of c.args.self.now.pieces))
 
 pub replacing::replace_child-replace-requires : goal.replacing::replace_child-replace-requires
 replacing::replace_child-replace-requires g t c κs within =
+    let may = g.C.Chunks.places c.args.chunks.now in
     let p = g.C.Chunks.contents c.args.chunks.now in
     let kids = c.args.kids.now.items in
     let child = c.index_mut.result.now in
     let v = c.deref_mut.ensures.value in
-    let can = subst (CanReplace p c.args.below c.args.key.now) c.in-Own.is (c.requires.1.1.1.1.1 child (child_at kids c.args.place (length kids) child refl c.requires.1.1.1.1.0 c.index_mut.ensures.value)) in (
+    let can = subst (CanReplace p c.args.below c.args.key.now) c.in-Own.is (c.requires.1.1.1.1.1.1 child (child_at kids c.args.place (length kids) child refl c.requires.1.1.1.1.1.0 c.index_mut.ensures.value)) in (
       omega (arith, ap (λ (s : Seen). s.depth) v, can.1, c.requires.1.0),
       (
         within.0,
         (
           within.1,
           (
-            subst (λ (s : Seen). IsTree (shown p s.pieces)) (sym v) can.0,
-            subst (λ (s : Seen). IsSome (finite.find (slice_cmp nat_cmp) c.args.key.now (rows_or (shown p s.pieces)))) (sym v) can.2,
+            subst (λ (s : Seen). AreAll may (places_of s.pieces)) (sym v) (own_may may child c.in-Own.node c.in-Own.is (kid_all may kids c.args.place child c.requires.1.1.1.1.1.0 c.index_mut.ensures.value c.requires.1.1.1.1.0)),
+            (
+              subst (λ (s : Seen). IsTree (shown p s.pieces)) (sym v) can.0,
+              subst (λ (s : Seen). IsSome (finite.find (slice_cmp nat_cmp) c.args.key.now (rows_or (shown p s.pieces)))) (sym v) can.2,
+            ),
           ),
         ),
       ),
@@ -83,9 +86,9 @@ replacing::replace_child-returns-in-Own-clause-done g t c x h =
     let kids = c.args.kids.now.items in
     let child = c.index_mut.result.now in
     let v = c.deref_mut.ensures.value in
-    let can = subst (CanReplace p c.args.below c.args.key.now) c.in-Own.is (c.requires.1.1.1.1.1 child (child_at kids c.args.place (length kids) child refl c.requires.1.1.1.1.0 c.index_mut.ensures.value)) in
+    let can = subst (CanReplace p c.args.below c.args.key.now) c.in-Own.is (c.requires.1.1.1.1.1.1 child (child_at kids c.args.place (length kids) child refl c.requires.1.1.1.1.1.0 c.index_mut.ensures.value)) in
     let n : Kid = with_value c.in-Own.node c.replace.new.self in
-    let e : x ≡ Own c.in-Own.node = indexed_child kids c.args.place child x c.requires.1.1.1.1.0 c.index_mut.ensures.value h ∙ c.in-Own.is in
+    let e : x ≡ Own c.in-Own.node = indexed_child kids c.args.place child x c.requires.1.1.1.1.1.0 c.index_mut.ensures.value h ∙ c.in-Own.is in
     both_ok c.replace.result c.replace.ensures.done c.replace.ensures.fresh (λ s f. (
       n,
       refl,
@@ -103,13 +106,12 @@ pub replacing::replace_child-returns-in-Own-clause-places : goal.replacing::repl
 replacing::replace_child-returns-in-Own-clause-places g t c =
     let kids = c.args.kids.now.items in
     let child = c.index_mut.result.now in
-    let q = g.C.Chunks.contents c.replace.new.chunks in
-    let show = g.C.Held.ShowsChunk.shown in
+    let at_q = g.C.Chunks.places c.replace.new.chunks in
     let n : Kid = with_value c.in-Own.node c.replace.new.self in
     on_ok c.replace.result c.replace.ensures.places
-    (λ kept. kept-child show q kids c.args.place child n c.requires.1.1.1.1.0 c.index_mut.ensures.value
-    (subst (λ (x : Child). AreKept show q (child_places x) (places_of c.replace.new.self.pieces)) (sym c.in-Own.is)
-    (subst (λ (s : Seen). AreKept show q (places_of s.pieces) (places_of c.replace.new.self.pieces)) c.deref_mut.ensures.value kept)))
+    (λ kept. kept-child at_q kids c.args.place child n c.requires.1.1.1.1.1.0 c.index_mut.ensures.value
+    (subst (λ (x : Child). AreKept at_q (child_places x) (places_of c.replace.new.self.pieces)) (sym c.in-Own.is)
+    (subst (λ (s : Seen). AreKept at_q (places_of s.pieces) (places_of c.replace.new.self.pieces)) c.deref_mut.ensures.value kept)))
 
 pub Node::replace-replace_child-requires : goal.Node::replace-replace_child-requires
 Node::replace-replace_child-requires g t c κs within =
@@ -121,10 +123,13 @@ Node::replace-replace_child-requires g t c κs within =
     let i = c.place_of-place.result in
     let at : Child = Placed (record { bits = 0 }) in
     let x = node_at p depth keys c.self.inside.body kids pieces c.as_slice-in-Inner.result.now c.args.key.now i at (ap (λ (s : Seen). s.pieces) c.self.view_is) c.in-Inner.is c.self.invariant
-    c.as_slice-in-Inner.ensures c.place_of-place.ensures c.requires.1.1.1.1.0 in
+    c.as_slice-in-Inner.ensures c.place_of-place.ensures c.requires.1.1.1.1.1.0 in
     let child = get_or kids.items i at in (
       omega (arith, x.2.1.0, ap (λ (s : Seen). s.depth) c.self.view_is, c.requires.1.0),
-      (within.0, (within.1, (omega (arith, x.3.0, x.2.1.2), can_replace p depth keys kids.items pieces c.args.key.now i child x.0 x.1 c.requires.1.1.1.1.1))),
+      (within.0, (within.1, (
+        kids_may (g.C.Chunks.places c.args.chunks.now) depth keys c.self.inside.body kids pieces (ap (λ (s : Seen). s.pieces) c.self.view_is) c.in-Inner.is c.self.invariant c.requires.1.1.1.1.0,
+        (omega (arith, x.3.0, x.2.1.2), can_replace p depth keys kids.items pieces c.args.key.now i child x.0 x.1 c.requires.1.1.1.1.1.1),
+      ))),
     )
 
 pub Node::replace-invariant_of-self-in-Inner : goal.Node::replace-invariant_of-self-in-Inner
@@ -137,12 +142,12 @@ Node::replace-invariant_of-self-in-Inner g t c =
     let i = c.place_of-place.result in
     let at : Child = Placed (record { bits = 0 }) in
     let x = node_at p depth keys c.self.inside.body kids pieces c.as_slice-in-Inner.result.now c.args.key.now i at (ap (λ (s : Seen). s.pieces) c.self.view_is) c.in-Inner.is c.self.invariant
-    c.as_slice-in-Inner.ensures c.place_of-place.ensures c.requires.1.1.1.1.0 in
+    c.as_slice-in-Inner.ensures c.place_of-place.ensures c.requires.1.1.1.1.1.0 in
     let child = get_or kids.items i at in
     let q = g.C.Chunks.contents c.replace_child.new.chunks in
     let done = c.replace_child.ensures.done child x.1 in
     either_way c.replace_child.result done c.replace_child.ensures.err
-    (λ s. (child_replaced p q depth keys c.self.inside.body kids c.replace_child.new.kids.items pieces c.args.key.now c.args.value i child c.replace_child.ensures.grown c.in-Inner.is c.self.invariant x.0 c.requires.1.1.1.1.1 s).node)
+    (λ s. (child_replaced p q depth keys c.self.inside.body kids c.replace_child.new.kids.items pieces c.args.key.now c.args.value i child c.replace_child.ensures.grown.0 c.in-Inner.is c.self.invariant x.0 c.requires.1.1.1.1.1.1 s).node)
     (λ e. (x.2.0, (x.2.1.0, x.2.1.1, ap length e ∙ x.2.1.2, subst (λ es. AllKids (depth - 1) (paired keys es)) (sym e) x.2.1.3)))
 
 pub Node::replace-returns-in-Inner-clause-done : goal.Node::replace-returns-in-Inner-clause-done
@@ -155,11 +160,11 @@ Node::replace-returns-in-Inner-clause-done g t c =
     let i = c.place_of-place.result in
     let at : Child = Placed (record { bits = 0 }) in
     let x = node_at p depth keys c.self.inside.body kids pieces c.as_slice-in-Inner.result.now c.args.key.now i at (ap (λ (s : Seen). s.pieces) c.self.view_is) c.in-Inner.is c.self.invariant
-    c.as_slice-in-Inner.ensures c.place_of-place.ensures c.requires.1.1.1.1.0 in
+    c.as_slice-in-Inner.ensures c.place_of-place.ensures c.requires.1.1.1.1.1.0 in
     let child = get_or kids.items i at in
     let q = g.C.Chunks.contents c.replace_child.new.chunks in
     let done = c.replace_child.ensures.done child x.1 in
-    on_ok c.replace_child.result done (λ s. (child_replaced p q depth keys c.self.inside.body kids c.replace_child.new.kids.items pieces c.args.key.now c.args.value i child c.replace_child.ensures.grown c.in-Inner.is c.self.invariant x.0 c.requires.1.1.1.1.1 s).shown_is)
+    on_ok c.replace_child.result done (λ s. (child_replaced p q depth keys c.self.inside.body kids c.replace_child.new.kids.items pieces c.args.key.now c.args.value i child c.replace_child.ensures.grown.0 c.in-Inner.is c.self.invariant x.0 c.requires.1.1.1.1.1.1 s).shown_is)
 
 pub Node::replace-returns-in-Inner-clause-fresh : goal.Node::replace-returns-in-Inner-clause-fresh
 Node::replace-returns-in-Inner-clause-fresh g t c =
@@ -171,7 +176,7 @@ Node::replace-returns-in-Inner-clause-fresh g t c =
     let i = c.place_of-place.result in
     let at : Child = Placed (record { bits = 0 }) in
     let x = node_at p depth keys c.self.inside.body kids pieces c.as_slice-in-Inner.result.now c.args.key.now i at (ap (λ (s : Seen). s.pieces) c.self.view_is) c.in-Inner.is c.self.invariant
-    c.as_slice-in-Inner.ensures c.place_of-place.ensures c.requires.1.1.1.1.0 in
+    c.as_slice-in-Inner.ensures c.place_of-place.ensures c.requires.1.1.1.1.1.0 in
     let child = get_or kids.items i at in
     let q = g.C.Chunks.contents c.replace_child.new.chunks in
     let done = c.replace_child.ensures.done child x.1 in
@@ -189,15 +194,14 @@ Node::replace-returns-in-Inner-clause-places g t c =
     let i = c.place_of-place.result in
     let at : Child = Placed (record { bits = 0 }) in
     let x = node_at p depth keys c.self.inside.body kids pieces c.as_slice-in-Inner.result.now c.args.key.now i at (ap (λ (s : Seen). s.pieces) c.self.view_is) c.in-Inner.is c.self.invariant
-    c.as_slice-in-Inner.ensures c.place_of-place.ensures c.requires.1.1.1.1.0 in
+    c.as_slice-in-Inner.ensures c.place_of-place.ensures c.requires.1.1.1.1.1.0 in
     let child = get_or kids.items i at in
-    let q = g.C.Chunks.contents c.replace_child.new.chunks in
+    let at_q = g.C.Chunks.places c.replace_child.new.chunks in
     let done = c.replace_child.ensures.done child x.1 in
-    let show = g.C.Held.ShowsChunk.shown in
     let old = own-places depth keys c.self.inside.body kids pieces (ap (λ (s : Seen). s.pieces) c.self.view_is) c.in-Inner.is x.2.1.2 in
     both_ok c.replace_child.result done c.replace_child.ensures.places (λ s kept.
-    subst (AreKept show q (places_of pieces)) (sym (places-kids (depth - 1) keys c.replace_child.new.kids.items (ap length s.1 ∙ length-set kids.items i (Own s.0) ∙ x.2.1.2)))
-    (subst (λ w. AreKept show q w (kids_places c.replace_child.new.kids.items)) (sym old) kept))
+    subst (AreKept at_q (places_of pieces)) (sym (places-kids (depth - 1) keys c.replace_child.new.kids.items (ap length s.1 ∙ length-set kids.items i (Own s.0) ∙ x.2.1.2)))
+    (subst (λ w. AreKept at_q w (kids_places c.replace_child.new.kids.items)) (sym old) kept))
 
 pub Node::replace-returns-in-Inner-clause-err : goal.Node::replace-returns-in-Inner-clause-err
 Node::replace-returns-in-Inner-clause-err g t c =
@@ -211,16 +215,17 @@ replacing::replace_child-replaced_copy-requires g t c κs within =
     let p = g.C.Chunks.contents c.args.chunks.now in
     let kids = c.args.kids.now.items in
     let child = c.index_mut.result.now in
-    let r = c.requires.1.1.1.1 in
+    let r = c.requires.1.1.1.1.1 in
     let can = subst (CanReplace p c.args.below c.args.key.now) c.in-Placed.is (r.1 child (child_at kids c.args.place (length kids) child refl r.0 c.index_mut.ensures.value)) in
-    (omega (arith, c.requires.1.0), (within.0, (within.1, can)))
+    let may = g.C.Chunks.places c.args.chunks.now in
+    (omega (arith, c.requires.1.0), (within.0, (within.1, (placed_may may child c.in-Placed.at c.in-Placed.is (kid_all may kids c.args.place child r.0 c.index_mut.ensures.value c.requires.1.1.1.1.0), can))))
 
 pub replacing::replace_child-returns-in-Placed-clause-done : goal.replacing::replace_child-returns-in-Placed-clause-done
 replacing::replace_child-returns-in-Placed-clause-done g t c x h =
     let p = g.C.Chunks.contents c.args.chunks.now in
     let kids = c.args.kids.now.items in
     let n = c.in_ok-node-in-Placed.node in
-    let e : x ≡ Placed c.in-Placed.at = indexed_child kids c.args.place c.index_mut.result.now x c.requires.1.1.1.1.0 c.index_mut.ensures.value h ∙ c.in-Placed.is in (
+    let e : x ≡ Placed c.in-Placed.at = indexed_child kids c.args.place c.index_mut.result.now x c.requires.1.1.1.1.1.0 c.index_mut.ensures.value h ∙ c.in-Placed.is in (
       n,
       set-set kids c.args.place (Placed c.in-Placed.at) (Own n),
       c.in_ok-node-in-Placed.ensures.depth,
@@ -232,21 +237,20 @@ pub replacing::replace_child-returns-in-Placed-clause-places : goal.replacing::r
 replacing::replace_child-returns-in-Placed-clause-places g t c =
     let kids = c.args.kids.now.items in
     let child = c.index_mut.result.now in
-    let q = g.C.Chunks.contents c.replaced_copy.new.chunks in
-    let show = g.C.Held.ShowsChunk.shown in
+    let at_q = g.C.Chunks.places c.replaced_copy.new.chunks in
     let n = c.in_ok-node-in-Placed.node in
-    subst (λ ks. AreKept show q (kids_places kids) (kids_places ks)) (sym (set-set kids c.args.place (Placed c.in-Placed.at) (Own n)))
-    (kept-child show q kids c.args.place child n c.requires.1.1.1.1.0 c.index_mut.ensures.value (kept-from_none show q (child_places child) (places_of n.value.pieces) c.in_ok-node-in-Placed.ensures.places))
+    subst (λ ks. AreKept at_q (kids_places kids) (kids_places ks)) (sym (set-set kids c.args.place (Placed c.in-Placed.at) (Own n)))
+    (kept-child at_q kids c.args.place child n c.requires.1.1.1.1.1.0 c.index_mut.ensures.value (kept-from_none at_q (child_places child) (places_of n.value.pieces) c.in_ok-node-in-Placed.ensures.places))
 
-pub replacing::replaced_copy-copied_child-requires : goal.replacing::replaced_copy-copied_child-requires
-replacing::replaced_copy-copied_child-requires g t c =
-    let k = known (rows_at (g.C.Chunks.contents c.args.chunks.now) c.args.depth (stamp_of c.args.at)) c.requires.1.1.1.1.0 in
+pub replacing::replaced_copy-copied_child-requires-clause-known : goal.replacing::replaced_copy-copied_child-requires-clause-known
+replacing::replaced_copy-copied_child-requires-clause-known g t c =
+    let k = known (rows_at (g.C.Chunks.contents c.args.chunks.now) c.args.depth (stamp_of c.args.at)) c.requires.1.1.1.1.1.0 in
     subst IsSome (sym k.is) refl
 
 pub replacing::replaced_copy-replace-requires : goal.replacing::replaced_copy-replace-requires
 replacing::replaced_copy-replace-requires g t c κs within =
     let q = g.C.Chunks.contents c.copied_child.new.chunks in
-    let can = c.requires.1.1.1.1 in
+    let can = c.requires.1.1.1.1.1 in
     let v = c.deref_mut.ensures.value in (
       omega (arith, ap (λ (s : Seen). s.depth) v, c.in_ok-node.ensures.depth, c.requires.1.0),
       (
@@ -254,9 +258,12 @@ replacing::replaced_copy-replace-requires g t c κs within =
         (
           within.1,
           (
-            subst (λ (s : Seen). IsTree (shown q s.pieces)) (sym v) (subst IsTree (sym c.in_ok-node.ensures.rows) can.0),
-            subst (λ (s : Seen). IsSome (finite.find (slice_cmp nat_cmp) c.args.key.now (rows_or (shown q s.pieces)))) (sym v)
-                (subst (λ z. IsSome (finite.find (slice_cmp nat_cmp) c.args.key.now (rows_or z))) (sym c.in_ok-node.ensures.rows) can.2),
+            subst (λ (s : Seen). AreAll (g.C.Chunks.places c.copied_child.new.chunks) (places_of s.pieces)) (sym v) (new_may (g.C.Chunks.places c.copied_child.new.chunks) (places_of c.in_ok-node.node.value.pieces) c.in_ok-node.ensures.places),
+            (
+              subst (λ (s : Seen). IsTree (shown q s.pieces)) (sym v) (subst IsTree (sym c.in_ok-node.ensures.rows) can.0),
+              subst (λ (s : Seen). IsSome (finite.find (slice_cmp nat_cmp) c.args.key.now (rows_or (shown q s.pieces)))) (sym v)
+                  (subst (λ z. IsSome (finite.find (slice_cmp nat_cmp) c.args.key.now (rows_or z))) (sym c.in_ok-node.ensures.rows) can.2),
+            ),
           ),
         ),
       ),
@@ -278,10 +285,9 @@ replacing::replaced_copy-returns-clause-fresh g t c =
 
 pub replacing::replaced_copy-returns-clause-places : goal.replacing::replaced_copy-returns-clause-places
 replacing::replaced_copy-returns-clause-places g t c =
-    let p = g.C.Chunks.contents c.copied_child.new.chunks in
-    let q = g.C.Chunks.contents c.replace.new.chunks in
-    let show = g.C.Held.ShowsChunk.shown in
+    let at_p = g.C.Chunks.places c.copied_child.new.chunks in
+    let at_q = g.C.Chunks.places c.replace.new.chunks in
     let mid = places_of c.in_ok-node.node.value.pieces in
     let new = places_of c.replace.new.self.pieces in
-    kept-trans show q [] mid new (kept-grown show p q [] mid c.replace.ensures.grown c.in_ok-node.ensures.places)
-    (subst (λ (s : Seen). AreKept show q (places_of s.pieces) new) c.deref_mut.ensures.value c.in_ok-replace.ensures.places)
+    kept-trans at_q [] mid new (kept-grown at_p at_q [] mid c.replace.ensures.grown.1 c.in_ok-node.ensures.places)
+    (subst (λ (s : Seen). AreKept at_q (places_of s.pieces) new) c.deref_mut.ensures.value c.in_ok-replace.ensures.places)

@@ -4,7 +4,7 @@ use Rattle.map_nodes.specs.Ends.{end_of_pieces}
 use Rattle.map_nodes.specs.Nodes.{body_height, body_pieces, kids_pieces, IsNode}
 use Rattle.map_chunks.specs.Shown.{Seen}
 use Rattle.map_nodes.specs.declared.nodes.Body.TheVariants.{Inner}
-use Rattle.map_nodes.proofs.EndLemmas.{end-one, taken-pieces}
+use Rattle.map_nodes.proofs.EndLemmas.{end-one, taken-pieces, taken-below}
 use Rattle.map_nodes.proofs.ScanLemmas.{kid_height}
 use Rattle.map_nodes.proofs.nodes.+taken.Goals as goal
 
@@ -27,3 +27,12 @@ Node::narrowed-returns-in-Inner-clause-pieces t c =
     let one : length kids ≡ 1 = omega (arith, c.len.ensures, c.if-len-ne1.false, c.in-Inner.kids.ok.0) in
     taken-pieces (c.self.inside.depth - 1) keys kids c.swap_remove.result c.taken.result i.1.2 one c.swap_remove.ensures.value c.taken.ensures
     ∙ ap (body_pieces c.self.inside.depth keys) (sym c.in-Inner.is) ∙ ap (λ (s : Seen). s.pieces) c.self.view_is
+
+pub Node::narrowed-returns-in-Inner-clause-depth : goal.Node::narrowed-returns-in-Inner-clause-depth
+Node::narrowed-returns-in-Inner-clause-depth t c =
+    let keys = c.self.inside.keys.texts in
+    let kids = c.in-Inner.kids.items in
+    let i : IsNode c.self.inside.depth keys (Inner c.in-Inner.kids) = subst (IsNode c.self.inside.depth keys) c.in-Inner.is c.self.invariant in
+    let one : length kids ≡ 1 = omega (arith, c.len.ensures, c.if-len-ne1.false, c.in-Inner.kids.ok.0) in
+    let less = taken-below (c.self.inside.depth - 1) keys kids c.swap_remove.result c.taken.result i.1.2 one c.swap_remove.ensures.value i.1.3 c.taken.ensures in
+    omega (arith, less, ap (λ (s : Seen). s.depth) c.self.view_is)

@@ -1,17 +1,16 @@
 //! A put on its way down.
 ghost use Rattle.std.specs.Prelude.{◌≡◌, ◌<◌, ◌≤◌, ◌+◌, ◌*◌, ◌^◌, ◌++◌, [], false, true, length, slice_get, slice_index_or, Some, None, IsSome, IfOk, IfErr, OnOk, OnErr, vec_items, vec_len, vec_capacity};
-ghost use mathlib.Core.List.{IsPrefix};
 ghost use Rattle.std.specs.Ordering.{nat_cmp};
 ghost use Rattle.std.specs.Cmp.Lexicographic.{slice_cmp};
 ghost use Rattle.std.specs.FinMap as finite;
+ghost use Rattle.map_chunks.specs.Places.{Grows, AreAll, AreKept, places_of};
+ghost use Rattle.map_nodes.specs.Freezing.{kids_places};
 ghost use Rattle.map_chunks.specs.Search.{IsPlace};
 ghost use Rattle.map_chunks.specs.Shown.{shown, IsTree, rows_or};
 ghost use Rattle.map_nodes.specs.Nodes.{IsNode, body_pieces, body_fresh, child_rows, kids_fresh};
 ghost use Rattle.map_nodes.specs.Halves.{half_pieces, IsHalf, ChildPut, IsLower, HasDepth};
 ghost use Rattle.map_nodes.specs.Ready.{IsReady};
 ghost use Rattle.map_nodes.specs.Counts.{half_fresh, HasKept};
-ghost use Rattle.map_chunks.specs.Places.{AreKept, places_of};
-ghost use Rattle.map_nodes.specs.Freezing.{kids_places};
 ghost use Rattle.map_nodes.specs.Unput.{IsUnput};
 ghost use Rattle.map_nodes.specs.declared.nodes.Body.TheVariants as body;
 ghost use Rattle.map_nodes.specs.declared.nodes.Child.{Child as Childs};
@@ -41,14 +40,15 @@ fn put_inner<C: Chunks>(
     copies: usize,
     may_split: bool,
 ) -> Result<Option<Half>, Unput>
+    requires places { AreAll (C.places chunks.old) (places_of (body_pieces depth keys.old.texts (body.Inner kids.old))) }
     requires node { IsNode depth keys.old.texts (body.Inner kids.old) }
     requires tree { IsTree (shown (C.contents chunks.old) (body_pieces depth keys.old.texts (body.Inner kids.old))) }
     requires copies { copies + depth < 2 ^ 64 }
-    ensures grown { IsPrefix (C.contents chunks.old) (C.contents chunks.new) }
+    ensures grown { Grows C.contents C.places chunks.old chunks.new }
     ensures node { IsNode depth keys.new.texts (body.Inner kids.new) }
     ensures done { IfOk result (λ half. shown (C.contents chunks.new) (body_pieces depth keys.new.texts (body.Inner kids.new) ++ half_pieces half) ≡ Some (finite.put (slice_cmp nat_cmp) key.now value.now (rows_or (shown (C.contents chunks.old) (body_pieces depth keys.old.texts (body.Inner kids.old)))))) }
     ensures half { IfOk result (IsHalf copies depth) }
-    ensures places { IfOk result (λ half. AreKept C.Held.shown (C.contents chunks.new) (places_of (body_pieces depth keys.old.texts (body.Inner kids.old))) (places_of (body_pieces depth keys.new.texts (body.Inner kids.new) ++ half_pieces half))) }
+    ensures places { IfOk result (λ half. AreKept (C.places chunks.new) (places_of (body_pieces depth keys.old.texts (body.Inner kids.old))) (places_of (body_pieces depth keys.new.texts (body.Inner kids.new) ++ half_pieces half))) }
     ensures fresh { IfOk result (λ half. body_fresh (body.Inner kids.new) + half_fresh half < body_fresh (body.Inner kids.old) + 2 * depth) }
     ensures entries { IfOk result (HasKept (length keys.old.texts) (length keys.new.texts)) }
     ensures filled { OnOk result (0 < length (body_pieces depth keys.new.texts (body.Inner kids.new))) }
@@ -87,14 +87,15 @@ fn put_child<C: Chunks>(
     copies: usize,
     may_split: bool,
 ) -> Result<(Ready, Option<Half>), Unput>
+    requires places { AreAll (C.places chunks.old) (kids_places kids.old.items) }
     requires within { place < length kids.old.items }
     requires place { IsPlace key.now keys.old.texts place }
     requires copies { copies + 1 + below < 2 ^ 64 }
     requires tree { (c : Childs) → slice_get kids.old.items place ≡ Some c → IsTree (child_rows (C.contents chunks.old) below c) × HasDepth below c }
-    ensures grown { IsPrefix (C.contents chunks.old) (C.contents chunks.new) }
+    ensures grown { Grows C.contents C.places chunks.old chunks.new }
     ensures done { (c : Childs) → slice_get kids.old.items place ≡ Some c → IfOk result (λ r. ChildPut (C.contents chunks.new) (copies + 1) below place kids.old.items kids.new.items r.1 (Some (finite.put (slice_cmp nat_cmp) key.now value.now (rows_or (child_rows (C.contents chunks.old) below c))))) }
     ensures fresh { IfOk result (λ r. kids_fresh kids.new.items + half_fresh r.1 ≤ kids_fresh kids.old.items + 2 * below) }
-    ensures places { IfOk result (λ r. AreKept C.Held.shown (C.contents chunks.new) (kids_places kids.old.items) (kids_places kids.new.items ++ places_of (half_pieces r.1))) }
+    ensures places { IfOk result (λ r. AreKept (C.places chunks.new) (kids_places kids.old.items) (kids_places kids.new.items ++ places_of (half_pieces r.1))) }
     ensures kept { vec_capacity kids.new ≡ vec_capacity kids.old }
     ensures texts { keys.new.texts ≡ keys.old.texts }
     ensures lowers { IfOk result (λ r. IsSome r.0.lower → 0 < keys.new.room) }
@@ -133,14 +134,15 @@ impl Node {
         copies: usize,
         may_split: bool,
     ) -> Result<(Ready, Option<Half>), Unput>
+        requires places { AreAll (C.places chunks.old) (places_of self.old.pieces) }
         requires tree { IsTree (shown (C.contents chunks.old) self.old.pieces) }
         requires place { IsPlace key.now keys.old.texts place }
         requires copies { copies + 1 + self.old.depth < 2 ^ 64 }
-        ensures grown { IsPrefix (C.contents chunks.old) (C.contents chunks.new) }
+        ensures grown { Grows C.contents C.places chunks.old chunks.new }
         ensures depth { self.new.depth ≡ self.old.depth }
         ensures done { IfOk result (λ r. shown (C.contents chunks.new) (self.new.pieces ++ half_pieces r.1) ≡ Some (finite.put (slice_cmp nat_cmp) key.now value.now (rows_or (shown (C.contents chunks.old) self.old.pieces)))) }
         ensures half { IfOk result (λ r. IsHalf (copies + 1) self.old.depth r.1) }
-        ensures places { IfOk result (λ r. AreKept C.Held.shown (C.contents chunks.new) (places_of self.old.pieces) (places_of (self.new.pieces ++ half_pieces r.1))) }
+        ensures places { IfOk result (λ r. AreKept (C.places chunks.new) (places_of self.old.pieces) (places_of (self.new.pieces ++ half_pieces r.1))) }
         ensures fresh { IfOk result (λ r. self.new.fresh + half_fresh r.1 < self.old.fresh + 2 * self.old.depth) }
         ensures filled { OnOk result (0 < length self.new.pieces) }
         ensures texts { keys.new.texts ≡ keys.old.texts }
@@ -177,14 +179,15 @@ impl Node {
         copies: usize,
         lower: Option<Text>,
     ) -> Result<(Ready, Option<Half>), Unput>
+        requires places { AreAll (C.places chunks.old) (places_of self.old.pieces) }
         requires tree { IsTree (shown (C.contents chunks.old) self.old.pieces) }
         requires place { IsPlace key.now keys.old.texts place }
         requires copies { copies + 1 + self.old.depth < 2 ^ 64 }
-        ensures grown { IsPrefix (C.contents chunks.old) (C.contents chunks.new) }
+        ensures grown { Grows C.contents C.places chunks.old chunks.new }
         ensures depth { self.new.depth ≡ self.old.depth }
         ensures done { IfOk result (λ r. shown (C.contents chunks.new) (self.new.pieces ++ half_pieces r.1) ≡ Some (finite.put (slice_cmp nat_cmp) key.now value.now (rows_or (shown (C.contents chunks.old) self.old.pieces)))) }
         ensures half { IfOk result (λ r. IsHalf (copies + 1) self.old.depth r.1) }
-        ensures places { IfOk result (λ r. AreKept C.Held.shown (C.contents chunks.new) (places_of self.old.pieces) (places_of (self.new.pieces ++ half_pieces r.1))) }
+        ensures places { IfOk result (λ r. AreKept (C.places chunks.new) (places_of self.old.pieces) (places_of (self.new.pieces ++ half_pieces r.1))) }
         ensures fresh { IfOk result (λ r. self.new.fresh + half_fresh r.1 < self.old.fresh + 2 * self.old.depth) }
         ensures filled { OnOk result (0 < length self.new.pieces) }
         ensures texts { keys.new.texts ≡ keys.old.texts }
@@ -211,13 +214,14 @@ impl Node {
         copies: usize,
         may_split: bool,
     ) -> Result<Option<Half>, Unput>
+        requires places { AreAll (C.places chunks.old) (places_of self.old.pieces) }
         requires tree { IsTree (shown (C.contents chunks.old) self.old.pieces) }
         requires copies { copies + self.old.depth < 2 ^ 64 }
-        ensures grown { IsPrefix (C.contents chunks.old) (C.contents chunks.new) }
+        ensures grown { Grows C.contents C.places chunks.old chunks.new }
         ensures depth { self.new.depth ≡ self.old.depth }
         ensures done { IfOk result (λ half. shown (C.contents chunks.new) (self.new.pieces ++ half_pieces half) ≡ Some (finite.put (slice_cmp nat_cmp) key.now value.now (rows_or (shown (C.contents chunks.old) self.old.pieces)))) }
         ensures half { IfOk result (IsHalf copies self.old.depth) }
-        ensures places { IfOk result (λ half. AreKept C.Held.shown (C.contents chunks.new) (places_of self.old.pieces) (places_of (self.new.pieces ++ half_pieces half))) }
+        ensures places { IfOk result (λ half. AreKept (C.places chunks.new) (places_of self.old.pieces) (places_of (self.new.pieces ++ half_pieces half))) }
         ensures fresh { IfOk result (λ half. self.new.fresh + half_fresh half < self.old.fresh + 2 * self.old.depth) }
         ensures entries { IfOk result (HasKept self.old.entries self.new.entries) }
         ensures filled { OnOk result (0 < length self.new.pieces) }

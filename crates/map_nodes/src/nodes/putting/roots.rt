@@ -1,15 +1,14 @@
 //! A put in a whole map: where its root is split, a new root stands above both halves.
 ghost use Rattle.std.specs.Prelude.{◌≡◌, ◌⊎◌, ◌<◌, ◌≤◌, ◌+◌, ◌*◌, ◌^◌, ◌++◌, [], length, Some, IsSome, IfOk, IfErr, OnOk, OnErr, T, vec_items, vec_len, vec_capacity};
-ghost use mathlib.Core.List.{IsPrefix};
 ghost use Rattle.std.specs.Ordering.{nat_cmp};
 ghost use Rattle.std.specs.Cmp.Lexicographic.{slice_cmp};
 ghost use Rattle.std.specs.FinMap as finite;
 ghost use Rattle.group_history.specs.declared.mutators.Stop.TheVariants.{NoMemory};
+ghost use Rattle.map_chunks.specs.Places.{Grows, AreAll, AreKept, places_of};
 ghost use Rattle.map_chunks.specs.Shown.{shown, IsTree, rows_or};
 ghost use Rattle.map_nodes.specs.Nodes.{HeadIs};
 ghost use Rattle.map_nodes.specs.Halves.{half_pieces, IsHalf, least, AreInOrder, HeadsBoth};
 ghost use Rattle.map_nodes.specs.Counts.{half_fresh, HasKept};
-ghost use Rattle.map_chunks.specs.Places.{AreKept, places_of};
 ghost use Rattle.map_chunks.specs.Wide.{IsWideChunk};
 
 use super::super::homes::{housed, take_home};
@@ -100,11 +99,12 @@ impl Node {
         key: &Text,
         value: &Json,
     ) -> Result<(), Stop>
-        requires { IsTree (shown (C.contents chunks.old) self.old.pieces) }
-        ensures grown { IsPrefix (C.contents chunks.old) (C.contents chunks.new) }
+        requires places { AreAll (C.places chunks.old) (places_of self.old.pieces) }
+        requires tree { IsTree (shown (C.contents chunks.old) self.old.pieces) }
+        ensures grown { Grows C.contents C.places chunks.old chunks.new }
         ensures done { OnOk result (shown (C.contents chunks.new) self.new.pieces ≡ Some (finite.put (slice_cmp nat_cmp) key.now value.now (rows_or (shown (C.contents chunks.old) self.old.pieces)))) }
         ensures few { OnOk result (self.new.fresh ≤ self.old.fresh + 2 * self.old.depth) }
-        ensures places { OnOk result (AreKept C.Held.shown (C.contents chunks.new) (places_of self.old.pieces) (places_of self.new.pieces)) }
+        ensures places { OnOk result (AreKept (C.places chunks.new) (places_of self.old.pieces) (places_of self.new.pieces)) }
         ensures deep { OnOk result ((self.old.depth ≤ self.new.depth) × (self.new.depth ≤ self.old.depth + 1)) }
         ensures wide { IsWideChunk self.old → OnOk result (IsWideChunk self.new) }
         ensures err { OnErr result (self.new ≡ self.old) }
@@ -129,12 +129,13 @@ impl Node {
         key: &Text,
         value: &Json,
     ) -> Result<(), Stop>
+        requires places { AreAll (C.places chunks.old) (places_of self.old.pieces) }
         requires tree { IsTree (shown (C.contents chunks.old) self.old.pieces) }
         requires depth { self.old.depth + 1 < 2 ^ 64 }
-        ensures grown { IsPrefix (C.contents chunks.old) (C.contents chunks.new) }
+        ensures grown { Grows C.contents C.places chunks.old chunks.new }
         ensures done { OnOk result (shown (C.contents chunks.new) self.new.pieces ≡ Some (finite.put (slice_cmp nat_cmp) key.now value.now (rows_or (shown (C.contents chunks.old) self.old.pieces)))) }
         ensures few { OnOk result (self.new.fresh ≤ self.old.fresh + 2 * self.old.depth) }
-        ensures places { OnOk result (AreKept C.Held.shown (C.contents chunks.new) (places_of self.old.pieces) (places_of self.new.pieces)) }
+        ensures places { OnOk result (AreKept (C.places chunks.new) (places_of self.old.pieces) (places_of self.new.pieces)) }
         ensures deep { OnOk result ((self.old.depth ≤ self.new.depth) × (self.new.depth ≤ self.old.depth + 1)) }
         ensures wide { IsWideChunk self.old → OnOk result (IsWideChunk self.new) }
         ensures err { OnErr result (self.new ≡ self.old) }
@@ -157,13 +158,14 @@ impl Node {
         key: &Text,
         value: &Json,
     ) -> Result<Option<Half>, Stop>
+        requires places { AreAll (C.places chunks.old) (places_of self.old.pieces) }
         requires tree { IsTree (shown (C.contents chunks.old) self.old.pieces) }
         requires depth { self.old.depth + 1 < 2 ^ 64 }
-        ensures grown { IsPrefix (C.contents chunks.old) (C.contents chunks.new) }
+        ensures grown { Grows C.contents C.places chunks.old chunks.new }
         ensures depth { self.new.depth ≡ self.old.depth }
         ensures done { IfOk result (λ half. shown (C.contents chunks.new) (self.new.pieces ++ half_pieces half) ≡ Some (finite.put (slice_cmp nat_cmp) key.now value.now (rows_or (shown (C.contents chunks.old) self.old.pieces)))) }
         ensures half { IfOk result (IsHalf 1 self.old.depth) }
-        ensures places { IfOk result (λ half. AreKept C.Held.shown (C.contents chunks.new) (places_of self.old.pieces) (places_of (self.new.pieces ++ half_pieces half))) }
+        ensures places { IfOk result (λ half. AreKept (C.places chunks.new) (places_of self.old.pieces) (places_of (self.new.pieces ++ half_pieces half))) }
         ensures fresh { IfOk result (λ half. self.new.fresh + half_fresh half < self.old.fresh + 2 * self.old.depth) }
         ensures entries { IfOk result (HasKept self.old.entries self.new.entries) }
         ensures filled { OnOk result (0 < length self.new.pieces) }

@@ -1,9 +1,10 @@
 //! Looks at what would stay of a child.
 ghost use Rattle.std.specs.Prelude.{◌≡◌, ◌⊎◌, IfOk, IfErr, IsSome};
-ghost use mathlib.Core.List.{IsPrefix};
 ghost use Rattle.group_history.specs.declared.mutators.Stop.TheVariants.{NoMemory};
 ghost use Rattle.map_nodes.specs.Removing.{IsFate};
 ghost use Rattle.map_nodes.specs.Scanning.{kid_shown};
+ghost use Rattle.map_chunks.specs.Places.{Grows, AreAll, places_of};
+ghost use Rattle.map_nodes.specs.Freezing.{child_places};
 ghost use Rattle.map_chunks.specs.SecondKeys.{second_key};
 ghost use Rattle.map_chunks.specs.Shown.{shown, rows_or};
 
@@ -18,8 +19,9 @@ impl Node {
     // The second key of the chunk's rows, if there are two.
     #[cycle(second)]
     fn second<C: Chunks>(&self, chunks: &mut C) -> Result<Option<Text>, Stop>
-        requires { IsSome (shown (C.contents chunks.old) self.now.pieces) }
-        ensures grown { IsPrefix (C.contents chunks.old) (C.contents chunks.new) }
+        requires places { AreAll (C.places chunks.old) (places_of self.now.pieces) }
+        requires tree { IsSome (shown (C.contents chunks.old) self.now.pieces) }
+        ensures grown { Grows C.contents C.places chunks.old chunks.new }
         ensures key { IfOk result (λ key. key ≡ second_key (rows_or (shown (C.contents chunks.old) self.now.pieces))) }
         ensures stopped { IfErr result (λ s. (s ≡ NoMemory) ⊎ C.stops s) }
     {
@@ -36,8 +38,9 @@ impl Node {
 
 #[cycle(second)]
 fn kid_second<C: Chunks>(kid: &Child, chunks: &mut C) -> Result<Option<Text>, Stop>
-    requires { IsSome (kid_shown (C.contents chunks.old) kid.now) }
-    ensures grown { IsPrefix (C.contents chunks.old) (C.contents chunks.new) }
+    requires places { AreAll (C.places chunks.old) (child_places kid.now) }
+    requires tree { IsSome (kid_shown (C.contents chunks.old) kid.now) }
+    ensures grown { Grows C.contents C.places chunks.old chunks.new }
     ensures key { IfOk result (λ key. key ≡ second_key (rows_or (kid_shown (C.contents chunks.old) kid.now))) }
     ensures stopped { IfErr result (λ s. (s ≡ NoMemory) ⊎ C.stops s) }
 {
@@ -54,8 +57,9 @@ pub(super) fn fate_of<C: Chunks>(
     kid: &Child,
     key: &str,
 ) -> Result<Fate, Stop>
-    requires { IsSome (kid_shown (C.contents chunks.old) kid.now) }
-    ensures grown { IsPrefix (C.contents chunks.old) (C.contents chunks.new) }
+    requires places { AreAll (C.places chunks.old) (child_places kid.now) }
+    requires tree { IsSome (kid_shown (C.contents chunks.old) kid.now) }
+    ensures grown { Grows C.contents C.places chunks.old chunks.new }
     ensures fate { IfOk result (IsFate key.now first.now (rows_or (kid_shown (C.contents chunks.old) kid.now))) }
     ensures stopped { IfErr result (λ s. (s ≡ NoMemory) ⊎ C.stops s) }
 {

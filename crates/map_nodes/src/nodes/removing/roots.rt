@@ -1,19 +1,19 @@
 //! A removal in a whole map: a root with fewer than two children gives way to what its last child ends in.
-ghost use Rattle.std.specs.Prelude.{◌≡◌, ◌⊎◌, ◌<◌, ◌≤◌, ◌+◌, [], length, slice_get, slice_index_or, None, Some, IsSome, IfOk, IfErr, OnOk, OnErr, vec_items};
-ghost use mathlib.Core.List.{IsPrefix};
+ghost use Rattle.std.specs.Prelude.{◌≡◌, ◌⊎◌, ◌<◌, ◌≤◌, ◌+◌, ℕ, [], length, slice_get, slice_index_or, None, Some, IsSome, IfOk, IfErr, OnOk, OnErr, vec_items};
 ghost use Rattle.std.specs.List.{remove};
 ghost use Rattle.group_history.specs.declared.mutators.Stop.TheVariants.{NoMemory};
 ghost use Rattle.map_nodes.specs.Ends as ends;
-ghost use Rattle.map_nodes.specs.Ends.{end_of_pieces, IsKidEnd, IsTaken};
-ghost use Rattle.map_nodes.specs.Nodes.{IsNode, body_pieces, kids_fresh};
+ghost use Rattle.map_nodes.specs.Ends.{end_of_pieces, IsEndBelow, IsKidBelow, IsKidEnd, IsTaken, IfNoDeeper};
+ghost use Rattle.map_nodes.specs.Nodes.{IsNode, body_pieces, child_rows, kids_fresh};
+ghost use Rattle.map_chunks.specs.Places.{Grows, AreAll, AreKept, places_of};
+ghost use Rattle.map_nodes.specs.Freezing.{child_places, kids_places};
 ghost use Rattle.map_chunks.specs.Wide.{IsWideChunk};
 ghost use Rattle.map_nodes.specs.declared.nodes.Body.TheVariants as body;
 ghost use Rattle.map_nodes.specs.declared.nodes.removing.Heir.TheVariants as heirs;
 ghost use Rattle.group_history.specs.declared.refs.Ref.{Ref as Reference};
-ghost use Rattle.map_chunks.specs.Places.{AreKept, places_of};
-ghost use Rattle.map_nodes.specs.Freezing.{child_places, kids_places};
 ghost use Rattle.map_nodes.specs.Removing as removals;
-ghost use Rattle.map_nodes.specs.Removing.{end_places, heir_places, left_fresh, left_places, left_rows, root_left, without, one_shown, IsFate, IsHeir, KeptBy, root_rows, IsWideLeft, IsWideRoot};
+ghost use Rattle.map_nodes.specs.Removing.{end_places, heir_places, left_fresh, left_places, left_rows, root_left, without, one_shown, IsFate, IsHeir, KeptBy, root_rows, IsWideLeft, IsWideRoot, IsFirstAt, IsLowHeir, IfLowHeir, IsLowRoot};
+ghost use Rattle.map_nodes.specs.Halves.{HasDepth};
 ghost use Rattle.map_nodes.specs.Scanning.{kid_shown};
 ghost use Rattle.map_chunks.specs.Search.{IsPlace};
 ghost use Rattle.map_chunks.specs.Shown.{shown, IsTree, rows_or};
@@ -33,7 +33,8 @@ use std::alloc::Global;
 impl Node {
     // The placed chunk that is all there is below the chunk, if this is so.
     fn placed_end(&self) -> Option<Ref>
-        ensures { result ≡ end_of_pieces self.now.pieces }
+        ensures end { result ≡ end_of_pieces self.now.pieces }
+        ensures below { IsEndBelow self.now.depth self.now.pieces }
     {
         match &self.body {
             Body::Leaf(_) => None,
@@ -56,6 +57,7 @@ impl Node {
         ensures pieces { result.pieces ≡ self.pieces }
         ensures wide { IsWideChunk result }
         ensures fresh { result.fresh ≤ self.fresh }
+        ensures depth { result.depth ≤ self.depth }
     {
         let Node { depth, keys, body } = self;
         match body {
@@ -94,7 +96,8 @@ fn taken(kid: Child, alloc: Global) -> Node
 }
 
 fn end_of(kid: &Child) -> Option<Ref>
-    ensures { result ≡ ends.end_of kid.now }
+    ensures end { result ≡ ends.end_of kid.now }
+    ensures below { IsKidBelow kid.now }
 {
     match kid {
         Child::Placed(at) => Some(*at),
@@ -104,10 +107,12 @@ fn end_of(kid: &Child) -> Option<Ref>
 
 // The placed chunk that a child ends in, if it ends in none of the draft's own.
 fn kid_end<C: Chunks>(kid: &Child, chunks: &mut C) -> Result<Option<Ref>, Stop>
-    requires { IsSome (kid_shown (C.contents chunks.old) kid.now) }
-    ensures grown { IsPrefix (C.contents chunks.old) (C.contents chunks.new) }
-    ensures places { IfOk result (λ end. AreKept C.Held.shown (C.contents chunks.new) (child_places kid.now) (end_places end)) }
+    requires places { AreAll (C.places chunks.old) (child_places kid.now) }
+    requires tree { IsSome (kid_shown (C.contents chunks.old) kid.now) }
+    ensures grown { Grows C.contents C.places chunks.old chunks.new }
+    ensures places { IfOk result (λ end. AreKept (C.places chunks.new) (child_places kid.now) (end_places end)) }
     ensures end { IfOk result (IsKidEnd (C.contents chunks.new) (kid_shown (C.contents chunks.old) kid.now) kid.now) }
+    ensures depth { (below : ℕ) → HasDepth below kid.now → IsSome (child_rows (C.contents chunks.old) below kid.now) → IfOk result (IfNoDeeper (C.contents chunks.new) below) }
     ensures stopped { IfErr result (λ s. (s ≡ NoMemory) ⊎ C.stops s) }
 {
     match end_of(kid) {
@@ -136,12 +141,14 @@ fn heir<C: Chunks>(
     alloc: Global,
     chunks: &mut C,
 ) -> Result<Heir, Stop>
+    requires places { AreAll (C.places chunks.old) (kids_places kids.old.items) }
     requires within { place < length kids.old.items }
     requires few { length kids.old.items ≤ 2 }
     requires tree { IsSome (one_shown (C.contents chunks.old) (remove kids.old.items place)) }
-    ensures grown { IsPrefix (C.contents chunks.old) (C.contents chunks.new) }
+    ensures grown { Grows C.contents C.places chunks.old chunks.new }
     ensures heir { IfOk result (IsHeir (C.contents chunks.old) (C.contents chunks.new) (remove kids.old.items place)) }
-    ensures places { IfOk result (λ heir. AreKept C.Held.shown (C.contents chunks.new) (kids_places kids.old.items) (heir_places heir)) }
+    ensures deep { (below : ℕ) → IsFirstAt (C.contents chunks.old) below (remove kids.old.items place) → IfOk result (IsLowHeir (C.contents chunks.new) (below + 1)) }
+    ensures places { IfOk result (λ heir. AreKept (C.places chunks.new) (kids_places kids.old.items) (heir_places heir)) }
     ensures kept { IfOk result (KeptBy kids.old.items kids.new.items) }
     ensures err { OnErr result (kids.new.items ≡ kids.old.items) }
     ensures stopped { IfErr result (λ s. (s ≡ NoMemory) ⊎ C.stops s) }
@@ -166,14 +173,16 @@ fn remove_inner<C: Chunks>(
     chunks: &mut C,
     key: &str,
 ) -> Result<Option<Heir>, Stop>
+    requires places { AreAll (C.places chunks.old) (kids_places kids.old.items) }
     requires node { IsNode depth keys.old.texts (body.Inner kids.old) }
     requires tree { IsTree (shown (C.contents chunks.old) (body_pieces depth keys.old.texts (body.Inner kids.old))) }
-    ensures grown { IsPrefix (C.contents chunks.old) (C.contents chunks.new) }
+    ensures grown { Grows C.contents C.places chunks.old chunks.new }
     ensures node { IfOk result (λ heir. heir ≡ None → IsNode depth keys.new.texts (body.Inner kids.new)) }
     ensures done { IfOk result (λ heir. left_rows (C.contents chunks.new) depth keys.new.texts kids.new.items heir ≡ Some (without key.now (rows_or (shown (C.contents chunks.old) (body_pieces depth keys.old.texts (body.Inner kids.old)))))) }
     ensures few { IfOk result (λ heir. left_fresh kids.new.items heir ≤ kids_fresh kids.old.items + depth) }
+    ensures deep { IfOk result (IfLowHeir (C.contents chunks.new) depth) }
     ensures wide { IfOk result (IsWideLeft (C.contents chunks.new) (length keys.old.texts) (length keys.new.texts)) }
-    ensures places { IfOk result (λ heir. AreKept C.Held.shown (C.contents chunks.new) (kids_places kids.old.items) (left_places kids.new.items heir)) }
+    ensures places { IfOk result (λ heir. AreKept (C.places chunks.new) (kids_places kids.old.items) (left_places kids.new.items heir)) }
     ensures kept { IfOk result (λ heir. (at : Reference) → heir ≡ Some (heirs.Placed at) → (keys.new.texts ≡ keys.old.texts) × (kids.new.items ≡ kids.old.items)) }
     ensures err { OnErr result ((keys.new.texts ≡ keys.old.texts) × (kids.new.items ≡ kids.old.items)) }
     ensures stopped { IfErr result (λ s. (s ≡ NoMemory) ⊎ C.stops s) }
@@ -195,16 +204,18 @@ fn remove_fated<C: Chunks>(
     chunks: &mut C,
     key: &str,
 ) -> Result<Option<Heir>, Stop>
+    requires places { AreAll (C.places chunks.old) (kids_places kids.old.items) }
     requires node { IsNode depth keys.old.texts (body.Inner kids.old) }
     requires tree { IsTree (shown (C.contents chunks.old) (body_pieces depth keys.old.texts (body.Inner kids.old))) }
     requires place { IsPlace key.now keys.old.texts place }
     requires fate { (c : Childs) → slice_get kids.old.items place ≡ Some c → IsFate key.now (slice_index_or keys.old.texts place []) (rows_or (kid_shown (C.contents chunks.old) c)) fate }
-    ensures grown { IsPrefix (C.contents chunks.old) (C.contents chunks.new) }
+    ensures grown { Grows C.contents C.places chunks.old chunks.new }
     ensures node { IfOk result (λ heir. heir ≡ None → IsNode depth keys.new.texts (body.Inner kids.new)) }
     ensures done { IfOk result (λ heir. left_rows (C.contents chunks.new) depth keys.new.texts kids.new.items heir ≡ Some (without key.now (rows_or (shown (C.contents chunks.old) (body_pieces depth keys.old.texts (body.Inner kids.old)))))) }
     ensures few { IfOk result (λ heir. left_fresh kids.new.items heir ≤ kids_fresh kids.old.items + depth) }
+    ensures deep { IfOk result (IfLowHeir (C.contents chunks.new) depth) }
     ensures wide { IfOk result (IsWideLeft (C.contents chunks.new) (length keys.old.texts) (length keys.new.texts)) }
-    ensures places { IfOk result (λ heir. AreKept C.Held.shown (C.contents chunks.new) (kids_places kids.old.items) (left_places kids.new.items heir)) }
+    ensures places { IfOk result (λ heir. AreKept (C.places chunks.new) (kids_places kids.old.items) (left_places kids.new.items heir)) }
     ensures kept { IfOk result (λ heir. (at : Reference) → heir ≡ Some (heirs.Placed at) → (keys.new.texts ≡ keys.old.texts) × (kids.new.items ≡ kids.old.items)) }
     ensures err { OnErr result ((keys.new.texts ≡ keys.old.texts) × (kids.new.items ≡ kids.old.items)) }
     ensures stopped { IfErr result (λ s. (s ≡ NoMemory) ⊎ C.stops s) }
@@ -227,11 +238,13 @@ impl Node {
         chunks: &mut C,
         key: &str,
     ) -> Result<Option<Ref>, Stop>
-        requires { IsTree (shown (C.contents chunks.old) self.old.pieces) }
-        ensures grown { IsPrefix (C.contents chunks.old) (C.contents chunks.new) }
+        requires places { AreAll (C.places chunks.old) (places_of self.old.pieces) }
+        requires tree { IsTree (shown (C.contents chunks.old) self.old.pieces) }
+        ensures grown { Grows C.contents C.places chunks.old chunks.new }
         ensures done { IfOk result (λ root. root_rows (C.contents chunks.new) self.new root ≡ Some (without key.now (rows_or (shown (C.contents chunks.old) self.old.pieces)))) }
-        ensures places { IfOk result (λ root. AreKept C.Held.shown (C.contents chunks.new) (places_of self.old.pieces) (root_left self.new root)) }
+        ensures places { IfOk result (λ root. AreKept (C.places chunks.new) (places_of self.old.pieces) (root_left self.new root)) }
         ensures few { OnOk result (self.new.fresh + 1 ≤ self.old.fresh + self.old.depth) }
+        ensures deep { IfOk result (IsLowRoot (C.contents chunks.new) self.old.depth self.new) }
         ensures wide { IsWideChunk self.old → IfOk result (IsWideRoot (C.contents chunks.new) self.new) }
         ensures err { OnErr result (self.new ≡ self.old) }
         ensures stopped { IfErr result (λ s. (s ≡ NoMemory) ⊎ C.stops s) }

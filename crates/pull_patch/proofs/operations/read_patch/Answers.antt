@@ -4,7 +4,7 @@ use Rattle.serde_json.specs.Data.{items_depth}
 use Rattle.serde_json.specs.View.{view, items_view}
 use Rattle.pull_patch.specs.Fields.{each}
 use Rattle.pull_patch.specs.Operations.{edit_of, operation_of}
-use Rattle.pull_patch.specs.Parts.{edit_view}
+use Rattle.pull_patch.specs.Inside.Parts.{edit_view}
 use Rattle.pull_patch.proofs.Eaches.{Gave, Gathered, Gave-next, Gave-none, Gave-all, Gathered-next, Gathered-missing}
 use Rattle.pull_patch.proofs.Depths.{edit_within}
 use Rattle.pull_patch.proofs.Lists.{patch_part-none, patch_part-ok}

@@ -1,4 +1,4 @@
-use Rattle.reader_claims.proofs.Lawful.{hold_law, learnt_law, open_law, given_law, held_law, taken_law, epoch_law, live_law, step_law}
+use Rattle.reader_claims.proofs.Lawful.{hold_law, learnt_law, open_law, given_law, held_law, retired_law, taken_law, taker_law, epoch_law, live_law, step_law}
 use Rattle.reader_claims.proofs.Bare.{bare_law}
 use Rattle.reader_claims.proofs.laws.claims_law.Goals as goal
 
@@ -17,8 +17,14 @@ returns-clause-given c = given_law
 pub returns-clause-held : goal.returns-clause-held
 returns-clause-held c = held_law
 
+pub returns-clause-retired : goal.returns-clause-retired
+returns-clause-retired c = retired_law
+
 pub returns-clause-taken : goal.returns-clause-taken
 returns-clause-taken c = taken_law
+
+pub returns-clause-taker : goal.returns-clause-taker
+returns-clause-taker c = taker_law
 
 pub returns-clause-epoch : goal.returns-clause-epoch
 returns-clause-epoch c = epoch_law

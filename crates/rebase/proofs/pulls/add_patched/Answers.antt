@@ -4,7 +4,7 @@ use Rattle.group_history.specs.Map.{patched}
 use Rattle.group_history.specs.Naming.{content_of}
 use Rattle.group_history.specs.State.{pulled_state}
 use Rattle.group_history.specs.declared.responses.Patch.{Patch}
-use Rattle.rebase.specs.Chaining.{HasTip}
+use Rattle.rebase.specs.Inside.Chaining.{HasTip}
 use Rattle.rebase.specs.Fixing.{staged}
 use Rattle.rebase.proofs.NewestLemmas.{length-contents}
 use Rattle.rebase.proofs.pulls.add_patched.Goals as goal

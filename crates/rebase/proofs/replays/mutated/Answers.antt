@@ -1,15 +1,16 @@
-use Rattle.std.proofs.Common.{Some, map, inr, sym, ap, ◌∙◌}
+use Rattle.std.proofs.Common.{Some, map, inr, sym, ap, subst, ◌∙◌}
 use Rattle.std.proofs.lemmas.Result.{err_from_is_err_and}
 use Rattle.group_history.specs.Map.{Entries}
 use Rattle.group_history.specs.Meaning.{meaning_of}
-use Rattle.group_history.specs.Mutating.{after_mutate}
+use Rattle.group_history.specs.Mutating.{after_mutate, by_meaning}
 use Rattle.group_history.specs.Naming.{content_of}
 use Rattle.group_history.specs.Spelling.{Version, version_of}
 use Rattle.group_history.specs.State.{view_of}
+use Rattle.rebase.specs.Refusing.{IsOfChange}
 use Rattle.rebase.specs.Fixing.{staged}
 use Rattle.rebase.proofs.HeadLemmas.{view-mutated}
 use Rattle.rebase.proofs.NewestLemmas.{length-contents}
-use Rattle.rebase.proofs.RunLemmas.{Refuses-is, left-done, reply-done, reply-refused}
+use Rattle.rebase.proofs.RunLemmas.{Refuses-is, left-done, reply-done, reply-refused, wants}
 use Rattle.rebase.proofs.replays.mutated.Goals as goal
 
 pub returns-clause-ok : goal.returns-clause-ok
@@ -28,3 +29,12 @@ returns-in_err-tree-clause-err g c s h =
     let p = err_from_is_err_and c.from_residual-in_err-tree.result c.from_residual-in_err-tree.ensures.1 in
     let refused = c.in_err-tree.ensures.err old meaning (c.in_ok-run.ensures.ran m (c.at.ensures.map old ∙ h.1)) in
     rw (p.1, p.2) (inr (Refuses-is _ _ (reply-refused meaning _ x.id refused)))
+
+pub returns-in_err-after-clause-err : goal.returns-in_err-after-clause-err
+returns-in_err-after-clause-err g c s h =
+    let means = g.M.Means.means in let x = c.args.mutation in
+    let old = staged c.args.nodes.now c.args.draft.now.nodes in let m = view_of means s in let meaning = meaning_of means x m in
+    let tree = c.in_ok-tree.ensures.ok old meaning (c.in_ok-run.ensures.ran m (c.at.ensures.map old ∙ h.1)) in
+    let done = subst IsOfChange (sym (reply-done meaning tree.0 x.id tree.2)) tt in
+    let p = err_from_is_err_and c.from_residual-in_err-after.result c.from_residual-in_err-after.ensures.1 in
+    rw (p.1, p.2) (wants _ (by_meaning meaning x.id) done c.in_err-after.ensures.why)

@@ -6,7 +6,7 @@ use Rattle.group_history.specs.Mutating.{after_mutate}
 use Rattle.group_history.specs.Naming.{content_of}
 use Rattle.group_history.specs.Spelling.{Version, version_of}
 use Rattle.group_history.specs.State.{view_of}
-use Rattle.rebase.specs.Chaining.{HasTip}
+use Rattle.rebase.specs.Inside.Chaining.{HasTip}
 use Rattle.rebase.specs.Fixing.{staged}
 use Rattle.rebase.proofs.HeadLemmas.{view-mutated}
 use Rattle.rebase.proofs.NewestLemmas.{length-contents}

@@ -1,6 +1,6 @@
 use Rattle.std.proofs.Common.{take, ◌∙◌, subst}
 use Rattle.group_history.specs.State.{State}
-use Rattle.rebase.specs.Chaining.{IsTip, with_more}
+use Rattle.rebase.specs.Inside.Chaining.{IsTip, with_more}
 use Rattle.rebase.specs.Fixing.{staged}
 use Rattle.rebase.proofs.HeadLemmas.{with_next}
 use Rattle.rebase.proofs.replays.replayed.Goals as goal

@@ -4,9 +4,10 @@ use Rattle.std.proofs.lemmas.Iterator.Splits.{YieldsList-from_str_split}
 use Rattle.std.proofs.lemmas.List.Splits.{length-slice_split}
 use Rattle.std.proofs.lemmas.List.Sums.{count_by-le-length}
 use Rattle.script_runner.specs.declared.script.Parser.{Parser}
-use Rattle.script_runner.specs.Parsing.{context_of}
+use Rattle.script_runner.specs.Inside.Parsing.{context_of}
 use Rattle.script_runner.specs.Context.{nothing_said}
-use Rattle.script_runner.specs.Faults.{lines_of, fault_in, said_with, Checks, fault_at}
+use Rattle.script_runner.specs.Faults.{lines_of, fault_in, said_with, Checks}
+use Rattle.script_runner.specs.Inside.Faults.{fault_at}
 use Rattle.script_runner.proofs.Scripts.{Said, Said-none, Said-turn, Said-fault, Said-all, Checks-fault}
 use Rattle.script_runner.proofs.script.read_lines.Goals as goal
 

@@ -1,5 +1,5 @@
 use Rattle.std.proofs.Common.{◌≡◌, map, length}
-use Rattle.script_runner.specs.Parsing.{context_of}
+use Rattle.script_runner.specs.Inside.Parsing.{context_of}
 use Rattle.script_runner.proofs.Scripts.{Said}
 use Rattle.script_runner.proofs.script.read_lines.Given as goal
 

@@ -2,7 +2,7 @@ use Rattle.std.proofs.Common.{◌≡◌, ℕ, List, [], ◌∷◌, map, ap, sym,
 use Rattle.std.specs.Ordering.{nat_cmp}
 use Rattle.std.specs.BTreeMap.{insert_entry}
 use Rattle.commits.specs.declared.founds.Found.{Found}
-use Rattle.commits.specs.Reach.{AreKeyed, Adds, stamp_in}
+use Rattle.commits.specs.Inside.Reach.{AreKeyed, Adds, stamp_in}
 use Rattle.commits.proofs.Findings.{inserted, keyed_inserted}
 use Rattle.commits.proofs.frontiers.Frontier.add.Goals as goal
 

@@ -5,7 +5,7 @@ use Rattle.std.specs.BTreeMap.Range.{IsLtBy}
 use Rattle.std.specs.declared.cmp.Ordering.TheVariants.{Less}
 use Rattle.std.proofs.lemmas.List.Elements.{All-contains}
 use Rattle.commits.specs.declared.founds.Found.{Found}
-use Rattle.commits.specs.Reach.{AreKeyed, stamp_in}
+use Rattle.commits.specs.Inside.Reach.{AreKeyed, stamp_in}
 use Rattle.commits.proofs.Findings.{keyed_last, keyed_at}
 use Rattle.commits.proofs.frontiers.Frontier.pop.Goals as goal
 

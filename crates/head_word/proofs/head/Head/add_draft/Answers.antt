@@ -1,12 +1,15 @@
-use Rattle.std.proofs.Common.{◌≡◌, ◌+◌, ◌≤◌, ◌++◌, [], ◌∷◌, sym, ◌∙◌, ap, subst, Some, Option, suc, ℕ, List, Bool, if◌then◌else◌, nat_eq}
+use Rattle.std.proofs.Common.{◌≡◌, ◌+◌, ◌≤◌, ◌++◌, [], ◌∷◌, sym, ◌∙◌, ap, subst, Some, Option, suc, ℕ, Bool, if◌then◌else◌, MatchBool, nat_eq}
 use Rattle.group_history.specs.Refs.{stamps}
 use Rattle.head_word.specs.declared.entry.Entry.{Entry}
 use Rattle.head_word.specs.declared.mark.Seat.{Seat}
 use Rattle.head_word.specs.Books.{next_stamp, drafted, AreAfter}
 use Rattle.head_word.specs.Tallies.{key_of, mine}
-use Rattle.head_word.specs.Marks.{Known, Sits, own, own_of, number_of}
+use Rattle.head_word.specs.Marks.{Known, own, own_of}
+use Rattle.head_word.specs.Rules.{drafts_say}
+use Rattle.head_word.specs.Inside.Seats.{Sits, number_of}
+use Rattle.head_word.specs.Inside.Steps.{Taken, Adds, Misses}
 use Rattle.head_word.proofs.Stepping.{draft_moves}
-use Rattle.head_word.proofs.Owning.{count_told, Told, own_added}
+use Rattle.head_word.proofs.Owning.{count_told, own_added}
 use Rattle.head_word.proofs.head.Head.add_draft.Goals as goal
 
 pub compare_exchange-found-requires : goal.compare_exchange-found-requires
@@ -25,7 +28,7 @@ compare_exchange-found-requires g c =
       ap (λ w. w.tracked) words,
       book,
       pen.0 ∙ book,
-      offer.0 ∙ sits.0,
+      offer.0 ∙ sits.names_are,
       rw (ap (λ w. w.key) words, pen.1, ask_is, offer.3, sym asked.2) (draft_moves g.M.Means.means c.mark.inside.seen.log (Some c.in-Some.seat.number) asked.0 c.args.first c.mark.invariant.0.1 after room),
     )
 
@@ -46,10 +49,9 @@ returns-clause-own g c =
     let gain = c.into_gain.ensures in
     let a = c.into_gain.result.answer in
     let told = c.regained.ensures.3 ∙ count_told c.into_gain.result.about ask c.in-Some.seat.tally.count (gain.1 ∙ (step.4 ∙ offer.2)) in
-    let Q : List Entry → Type 0 = λ mid. next_stamp mid ≡ c.args.first in
-    let R : Type 0 = next_stamp log' ≡ c.compare_exchange-found.result in
+    let t : Taken = record { ask = ask; expected = c.args.first; new = c.args.first + c.args.count; found = c.compare_exchange-found.result; before = log; after = log'; answer = c.compare_exchange-found.new.offer.state } in
     let own' : mine (suc number) log' ≡ mine (suc number) log ++ (if won then ask ∷ [] else []) =
-    own_added Q R (suc number) c.in-Some.seat.tally.count log log' ask a c.compare_exchange-found.new.offer.state won key sits.2 told gain.2 step.6
-    (subst (λ (e : Entry). Told Q R log log' c.compare_exchange-found.new.offer.state won e) offer.1 step.7.1) in
+    own_added drafts_say g.M.Means.means (suc number) c.in-Some.seat.tally.count t a won key sits.count_is told gain.2 step.6
+    (subst (λ (e : Entry). MatchBool won (Adds drafts_say g.M.Means.means (record t { ask = e })) (Misses drafts_say (record t { ask = e }))) offer.1 step.7.outcome) in
     let placed = subst (λ (s : Option Seat). mine (suc number) log' ≡ own_of (number_of s) log ++ (if won then ask ∷ [] else [])) (sym seat_is) own' in
     subst (λ (m : Known). mine (suc number) log' ≡ own m ++ (if won then ask ∷ [] else [])) c.mark.view_is placed

@@ -1,6 +1,7 @@
-use Rattle.std.proofs.Common.{rules, ℕ, Option, refl, sym, ap, ◌∙◌, arith}
-use Rattle.std.proofs.lemmas.List.{append-nil}
-use Rattle.head_word.specs.Books.{drafted}
+use Rattle.std.proofs.Common.{rules, ℕ, Option, sym, ap, ◌∙◌, arith}
+use Rattle.std.proofs.lemmas.List.{append-nil, length-map}
+use Rattle.group_history.specs.Naming.{renamed}
+use Rattle.head_word.specs.Books.{drafted, child_from, drafted_from}
 use Rattle.head_word.specs.Marks.{own}
 use Rattle.head_word.proofs.Stepping.{after_from}
 use Rattle.head_word.proofs.Owning.{others_rise, drew_more}
@@ -9,7 +10,12 @@ use Rattle.group_history.proofs.Lists.{prefix_length}
 
 pub add_draft-requires-clause-asked : goal.add_draft-requires-clause-asked
 add_draft-requires-clause-asked g c =
-    (c.args.contents.now, ap (λ (s : Option ℕ). drafted s c.next-first.result c.args.contents.now) c.seat.ensures, refl, after_from c.args.mark.now.log c.next-first.new.mark.log c.args.contents.now c.next-first.ensures.seen c.requires.children)
+    let ns = drafted_from c.args.from c.args.nodes.now in (
+      ns,
+      ap (λ (s : Option ℕ). drafted s c.next-first.result ns) c.seat.ensures,
+      length-map c.args.nodes.now (renamed (child_from c.args.from)),
+      after_from c.args.mark.now.log c.next-first.new.mark.log ns c.next-first.ensures.seen c.requires.children,
+    )
 
 pub returns-else-add_draft-clause-moved : goal.returns-else-add_draft-clause-moved
 returns-else-add_draft-clause-moved g c =

@@ -4,8 +4,9 @@ use Rattle.head_word.specs.declared.entry.Entry.{Entry}
 use Rattle.head_word.specs.declared.mark.Seat.{Seat}
 use Rattle.head_word.specs.Books.{moved, nowhere}
 use Rattle.head_word.specs.Tallies.{key_of, count}
-use Rattle.head_word.specs.Marks.{Known, Sits, own, own_of, number_of}
-use Rattle.head_word.specs.Rules.{answer}
+use Rattle.head_word.specs.Marks.{Known, own, own_of}
+use Rattle.head_word.specs.Inside.Seats.{Sits, number_of}
+use Rattle.head_word.specs.Inside.Steps.{answer}
 use Rattle.head_word.proofs.Stepping.{starts_from, head_counted}
 use Rattle.head_word.proofs.Owning.{count_told, own_same}
 use Rattle.head_word.proofs.head.Head.learn.Goals as goal
@@ -20,7 +21,7 @@ load-requires g c =
     let sits = subst (Sits c.mark.inside.seen.names c.mark.inside.seen.log) (sym c.take.ensures.value ∙ c.in-Some.is) c.mark.invariant.1 in (
       ap (λ w. w.tracked) words,
       book,
-      offer.0 ∙ (sits.0 ∙ sym both.1),
+      offer.0 ∙ (sits.names_are ∙ sym both.1),
       rw (ap (λ w. w.key) words, offer.1, offer.3) (head_counted g.M.Means.means c.learn-2.new.self.log (moved (Some c.in-Some.seat.number) nowhere None) (starts_from c.mark.inside.seen.log c.learn-2.new.self.log both.2 c.mark.invariant.0.1)),
     )
 
@@ -44,7 +45,7 @@ returns-clause-own g c =
     let gain = c.into_gain.ensures in
     let tally = c.regained.ensures in
     let told = tally.3 ∙ count_told c.into_gain.result.about (moved (Some number) nowhere None) c.in-Some.seat.tally.count (gain.1 ∙ (load.4 ∙ offer.2)) in
-    let counted = subst (λ (e : Entry). c.load.new.offer.state ≡ Some (answer (count (key_of e) log') (count (key_of e) log'))) offer.1 load.6.1.2 in
+    let counted = subst (λ (e : Entry). c.load.new.offer.state ≡ Some (answer (count (key_of e) log') (count (key_of e) log'))) offer.1 load.6.1.counted in
     let pre = prefix_trans log c.learn-2.new.self.log log' c.learn-2.ensures.2 load.5 in
-    own_same (suc number) c.in-Some.seat.tally.count log log' pre sits.2 c.into_gain.result.answer (count (suc number) log') (sym gain.2 ∙ counted) told
+    own_same (suc number) c.in-Some.seat.tally.count log log' pre sits.count_is c.into_gain.result.answer (count (suc number) log') (sym gain.2 ∙ counted) told
     ∙ (sym (ap (λ (s : Option Seat). own_of (number_of s) log) seat_is) ∙ ap own c.mark.view_is)

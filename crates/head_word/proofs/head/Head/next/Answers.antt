@@ -3,8 +3,9 @@ use Rattle.head_word.specs.declared.entry.Entry.{Entry}
 use Rattle.head_word.specs.declared.mark.Seat.{Seat}
 use Rattle.head_word.specs.Books.{moved, nowhere}
 use Rattle.head_word.specs.Tallies.{key_of, count}
-use Rattle.head_word.specs.Marks.{Known, Sits, own, own_of, number_of}
-use Rattle.head_word.specs.Rules.{answer}
+use Rattle.head_word.specs.Marks.{Known, own, own_of}
+use Rattle.head_word.specs.Inside.Seats.{Sits, number_of}
+use Rattle.head_word.specs.Inside.Steps.{answer}
 use Rattle.head_word.proofs.Stepping.{drafts_counted}
 use Rattle.head_word.proofs.Owning.{count_told, own_same}
 use Rattle.head_word.proofs.head.Head.next.Goals as goal
@@ -16,7 +17,7 @@ load-next-requires g c =
     let sits = subst (Sits c.mark.inside.seen.names c.mark.inside.seen.log) (sym c.take.ensures.value ∙ c.in-Some.is) c.mark.invariant.1 in (
       ap (λ w. w.tracked) words,
       ap (λ (m : Known). m.book) c.mark.view_is ∙ (c.requires.book ∙ (sym c.self.view_is ∙ sym (ap (λ w. w.book) words))),
-      offer.0 ∙ sits.0,
+      offer.0 ∙ sits.names_are,
       rw (ap (λ w. w.key) words, offer.1, offer.3) (drafts_counted g.M.Means.means c.mark.inside.seen.log (moved (Some c.in-Some.seat.number) nowhere None) c.mark.invariant.0.1),
     )
 
@@ -32,6 +33,6 @@ returns-clause-own g c =
     let gain = c.into_gain.ensures in
     let tally = c.regained.ensures in
     let told = tally.3 ∙ count_told c.into_gain.result.about (moved (Some number) nowhere None) c.in-Some.seat.tally.count (gain.1 ∙ (load.4 ∙ offer.2)) in
-    let counted = subst (λ (e : Entry). c.load-next.new.offer.state ≡ Some (answer (count (key_of e) log') (count (key_of e) log'))) offer.1 load.6.1.2 in
-    own_same (suc number) c.in-Some.seat.tally.count log log' load.5 sits.2 c.into_gain.result.answer (count (suc number) log') (sym gain.2 ∙ counted) told
+    let counted = subst (λ (e : Entry). c.load-next.new.offer.state ≡ Some (answer (count (key_of e) log') (count (key_of e) log'))) offer.1 load.6.1.counted in
+    own_same (suc number) c.in-Some.seat.tally.count log log' load.5 sits.count_is c.into_gain.result.answer (count (suc number) log') (sym gain.2 ∙ counted) told
     ∙ (sym (ap (λ (s : Option Seat). own_of (number_of s) log) seat_is) ∙ ap own c.mark.view_is)

@@ -28,7 +28,7 @@ use Rattle.head_word.specs.contracts.entry.Entry as Entry
 use Rattle.head_word.specs.contracts.law.Law as Law
 use Rattle.head_word.specs.contracts.law.LawRuleEntryAnswer.TheImpl as rule
 use Rattle.head_word.specs.contracts.tally.Tallies as Tallies
-use Rattle.head_word.specs.Tallies.{tally_name, kept_tallies}
+use Rattle.head_word.specs.Inside.Parts.{tally_name, kept_tallies}
 use Rattle.head_word.proofs.Trading as trading
 use Rattle.head_word.specs.contracts.tally.Tallies.open.{ended, clauses}
 use Rattle.head_word.specs.contracts.tally.Tallies.open.Key.{name as #self}

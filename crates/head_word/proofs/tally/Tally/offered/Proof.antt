@@ -28,7 +28,8 @@ use Rattle.head_word.specs.contracts.entry.Entry as Entry
 use Rattle.head_word.specs.contracts.law.Law as Law
 use Rattle.head_word.specs.contracts.law.Traded as Traded
 use Rattle.head_word.specs.contracts.tally.Tally as Tally
-use Rattle.head_word.specs.Tallies.{key_of, keys_of, kept_tallies, tally_owns, Trades, traded}
+use Rattle.head_word.specs.Tallies.{key_of}
+use Rattle.head_word.specs.Inside.Parts.{keys_of, kept_tallies, tally_owns, Trades, traded}
 use Rattle.head_word.proofs.Trading as trading
 use Rattle.head_word.specs.contracts.tally.Tally.offered.{ended, clauses}
 use Rattle.head_word.specs.contracts.tally.Tally.offered.Key.{name as #self}

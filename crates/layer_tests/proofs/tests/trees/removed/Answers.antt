@@ -9,8 +9,8 @@ use Rattle.map_chunks.specs.Drafts.{Drafted}
 use Rattle.map_tree.proofs.WriteLemmas.{kept_there}
 use Rattle.layer_tests.proofs.tests.trees.removed.Goals as goal
 
-pub has-requires : goal.has-requires
-has-requires c =
+pub has-requires-clause-map : goal.has-requires-clause-map
+has-requires-clause-map c =
     let p = map content_of (c.new-chunks.result.nodes.now ++ c.new-chunks.result.draft.now.nodes) in
     let q = map content_of (c.new_after_del.new.chunks.nodes.now ++ c.new_after_del.new.chunks.draft.now.nodes) in
     let root = c.in_ok-placed.placed.root in

@@ -4,29 +4,49 @@ use Rattle.std.specs.FinMap as finite
 use Rattle.group_history.specs.Refs.{stamp_of}
 use Rattle.group_history.specs.Rows.{paired}
 use Rattle.map_nodes.specs.Nodes.{body_pieces}
+use Rattle.map_chunks.specs.Places.{AreAll, places_of}
 use Rattle.map_chunks.specs.Shown.{Seen, rows_or, shown, chunk_rows, IsTree}
 use Rattle.map_chunks.proofs.OpenLemmas.{tree_of}
 use Rattle.map_nodes.proofs.NodeLemmas.{node_down, inner_depth, down_placed, down_own, down-find, shown-rows}
+use Rattle.map_nodes.proofs.PlaceLemmas.{down_may, placed_may, own_may}
 use Rattle.map_nodes.proofs.nodes.Node.+get.Goals as goal
 
-pub get_placed-requires : goal.get_placed-requires
-get_placed-requires g t c =
+pub get_placed-requires-clause-known : goal.get_placed-requires-clause-known
+get_placed-requires-clause-known g t c =
     let p = g.C.Chunks.contents c.args.chunks.now in
     let d = node_down p c.self.inside.depth c.self.inside.keys.texts c.self.inside.body c.in-Inner.kids c.args.self.now.pieces c.as_slice-in-Inner.result.now c.args.key.now
-    c.place_of-place.result c.index.result.now (ap (λ (s : Seen). s.pieces) c.self.view_is) c.in-Inner.is c.self.invariant c.as_slice-in-Inner.ensures c.place_of-place.ensures c.index.ensures c.requires.1.1.1.1 in
+    c.place_of-place.result c.index.result.now (ap (λ (s : Seen). s.pieces) c.self.view_is) c.in-Inner.is c.self.invariant c.as_slice-in-Inner.ensures c.place_of-place.ensures c.index.ensures c.requires.1.1.1.1.1 in
     tree_of (chunk_rows p (stamp_of c.in-Placed.at)) d.way.here (down_placed p _ _ _ _ _ _ _ c.in-Placed.at d c.in-Placed.is) d.way.strict
+
+pub get_placed-requires-clause-place : goal.get_placed-requires-clause-place
+get_placed-requires-clause-place g t c =
+    placed_may (g.C.Chunks.places c.args.chunks.now) c.index.result.now c.in-Placed.at c.in-Placed.is
+    (down_may (g.C.Chunks.places c.args.chunks.now) c.self.inside.depth c.self.inside.keys.texts c.self.inside.body c.in-Inner.kids c.args.self.now.pieces c.as_slice-in-Inner.result.now
+    c.place_of-place.result c.index.result.now (ap (λ (s : Seen). s.pieces) c.self.view_is) c.in-Inner.is c.self.invariant c.as_slice-in-Inner.ensures c.place_of-place.ensures.0 c.index.ensures c.requires.1.1.1.1.0)
 
 pub get-requires : goal.get-requires
 get-requires g t c κs within =
     let p = g.C.Chunks.contents c.args.chunks.now in
     let d = node_down p c.self.inside.depth c.self.inside.keys.texts c.self.inside.body c.in-Inner.kids c.args.self.now.pieces c.as_slice-in-Inner.result.now c.args.key.now
-    c.place_of-place.result c.index.result.now (ap (λ (s : Seen). s.pieces) c.self.view_is) c.in-Inner.is c.self.invariant c.as_slice-in-Inner.ensures c.place_of-place.ensures c.index.ensures c.requires.1.1.1.1 in
+    c.place_of-place.result c.index.result.now (ap (λ (s : Seen). s.pieces) c.self.view_is) c.in-Inner.is c.self.invariant c.as_slice-in-Inner.ensures c.place_of-place.ensures c.index.ensures c.requires.1.1.1.1.1 in
     let o = down_own p _ _ _ _ _ _ _ c.in-Own.node d c.in-Own.is in
     let z = inner_depth c.self.inside.depth c.self.inside.keys.texts c.self.inside.body c.in-Inner.kids c.in-Inner.is c.self.invariant in
     let here = ap (λ (s : Seen). s.depth) c.self.view_is in
+    let all =
+    down_may (g.C.Chunks.places c.args.chunks.now) c.self.inside.depth c.self.inside.keys.texts c.self.inside.body c.in-Inner.kids c.args.self.now.pieces c.as_slice-in-Inner.result.now
+    c.place_of-place.result c.index.result.now (ap (λ (s : Seen). s.pieces) c.self.view_is) c.in-Inner.is c.self.invariant c.as_slice-in-Inner.ensures c.place_of-place.ensures.0 c.index.ensures c.requires.1.1.1.1.0 in
     let v = c.deref-in-Own.ensures in (
       omega (arith, ap (λ (s : Seen). s.depth) v, o.1, z, here, c.requires.1.0),
-      (within.0, (within.1, subst (λ (s : Seen). IsTree (shown p s.pieces)) (sym v) (tree_of (shown p c.in-Own.node.value.pieces) d.way.here o.0 d.way.strict))),
+      (
+        within.0,
+        (
+          within.1,
+          (
+            subst (λ (s : Seen). AreAll (g.C.Chunks.places c.args.chunks.now) (places_of s.pieces)) (sym v) (own_may (g.C.Chunks.places c.args.chunks.now) c.index.result.now c.in-Own.node c.in-Own.is all),
+            subst (λ (s : Seen). IsTree (shown p s.pieces)) (sym v) (tree_of (shown p c.in-Own.node.value.pieces) d.way.here o.0 d.way.strict),
+          ),
+        ),
+      ),
     )
 
 pub returns-in_ok-value_at-in-Leaf-clause-value : goal.returns-in_ok-value_at-in-Leaf-clause-value
@@ -43,13 +63,13 @@ pub returns-in-Placed-clause-value : goal.returns-in-Placed-clause-value
 returns-in-Placed-clause-value g t c =
     let p = g.C.Chunks.contents c.args.chunks.now in
     let d = node_down p c.self.inside.depth c.self.inside.keys.texts c.self.inside.body c.in-Inner.kids c.args.self.now.pieces c.as_slice-in-Inner.result.now c.args.key.now
-    c.place_of-place.result c.index.result.now (ap (λ (s : Seen). s.pieces) c.self.view_is) c.in-Inner.is c.self.invariant c.as_slice-in-Inner.ensures c.place_of-place.ensures c.index.ensures c.requires.1.1.1.1 in
+    c.place_of-place.result c.index.result.now (ap (λ (s : Seen). s.pieces) c.self.view_is) c.in-Inner.is c.self.invariant c.as_slice-in-Inner.ensures c.place_of-place.ensures c.index.ensures c.requires.1.1.1.1.1 in
     subst (λ x. IfOk c.get_placed.result (λ v. v ≡ x)) (down-find p _ _ _ _ _ _ _ _ d (down_placed p _ _ _ _ _ _ _ c.in-Placed.at d c.in-Placed.is)) c.get_placed.ensures.value
 
 pub returns-in-Own-clause-value : goal.returns-in-Own-clause-value
 returns-in-Own-clause-value g t c =
     let p = g.C.Chunks.contents c.args.chunks.now in
     let d = node_down p c.self.inside.depth c.self.inside.keys.texts c.self.inside.body c.in-Inner.kids c.args.self.now.pieces c.as_slice-in-Inner.result.now c.args.key.now
-    c.place_of-place.result c.index.result.now (ap (λ (s : Seen). s.pieces) c.self.view_is) c.in-Inner.is c.self.invariant c.as_slice-in-Inner.ensures c.place_of-place.ensures c.index.ensures c.requires.1.1.1.1 in
+    c.place_of-place.result c.index.result.now (ap (λ (s : Seen). s.pieces) c.self.view_is) c.in-Inner.is c.self.invariant c.as_slice-in-Inner.ensures c.place_of-place.ensures c.index.ensures c.requires.1.1.1.1.1 in
     let o = down_own p _ _ _ _ _ _ _ c.in-Own.node d c.in-Own.is in
     subst (λ x. IfOk c.get.result (λ v. v ≡ x)) (down-find p _ _ _ _ _ _ _ _ d (ap (λ (s : Seen). shown p s.pieces) c.deref-in-Own.ensures ∙ o.0)) c.get.ensures.value

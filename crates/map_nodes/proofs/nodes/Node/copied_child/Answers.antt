@@ -5,4 +5,4 @@ use Rattle.map_nodes.proofs.nodes.Node.copied_child.Goals as goal
 
 pub returns-clause-places : goal.returns-clause-places
 returns-clause-places g c =
-    subst (λ (s : Seen). AreKept g.C.Held.ShowsChunk.shown (g.C.Chunks.contents c.copied.new.chunks) [] (places_of s.pieces)) (sym c.in_ok-boxed.ensures) c.in_ok-node.ensures.places
+    subst (λ (s : Seen). AreKept (g.C.Chunks.places c.copied.new.chunks) [] (places_of s.pieces)) (sym c.in_ok-boxed.ensures) c.in_ok-node.ensures.places

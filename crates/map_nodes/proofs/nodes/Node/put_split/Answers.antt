@@ -72,9 +72,9 @@ returns-clause-wide g c w = inr (omega (arith, c.rise.ensures.entries))
 
 pub returns-in_default-clause-places : goal.returns-in_default-clause-places
 returns-in_default-clause-places g c =
-    kept-front g.C.Held.ShowsChunk.shown (g.C.Chunks.contents c.put_anyway.new.chunks) (places_of c.args.self.now.pieces) c.put_anyway.new.self.pieces (half_pieces c.in_ok-half.field-0) c.in_ok-half.ensures.places
+    kept-front (g.C.Chunks.places c.put_anyway.new.chunks) (places_of c.args.self.now.pieces) c.put_anyway.new.self.pieces (half_pieces c.in_ok-half.field-0) c.in_ok-half.ensures.places
 
 pub returns-clause-places : goal.returns-clause-places
 returns-clause-places g c =
-    subst (λ ps. AreKept g.C.Held.ShowsChunk.shown (g.C.Chunks.contents c.put_anyway.new.chunks) (places_of c.args.self.now.pieces) (places_of ps))
+    subst (λ ps. AreKept (g.C.Chunks.places c.put_anyway.new.chunks) (places_of c.args.self.now.pieces) (places_of ps))
     (sym (c.rise.ensures.pieces ∙ ap (λ h. c.put_anyway.new.self.pieces ++ half_pieces h) (sym c.in-Some.is))) c.in_ok-half.ensures.places

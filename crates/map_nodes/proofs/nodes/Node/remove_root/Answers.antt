@@ -10,6 +10,7 @@ use Rattle.map_chunks.proofs.KeptLemmas.{kept-none}
 use Rattle.map_nodes.proofs.NamedLemmas.{own-places, places-kids, places-rows}
 use Rattle.map_nodes.proofs.NodeLemmas.{shown-rows}
 use Rattle.map_nodes.proofs.ReplaceLemmas.{leaf_rows}
+use Rattle.map_nodes.proofs.PlaceLemmas.{kids_may}
 use Rattle.map_nodes.proofs.nodes.Node.remove_root.Goals as goal
 
 pub returns-in-Leaf-clause-done : goal.returns-in-Leaf-clause-done
@@ -21,10 +22,13 @@ returns-in-Leaf-clause-done g c =
 
 pub returns-in-Leaf-clause-places : goal.returns-in-Leaf-clause-places
 returns-in-Leaf-clause-places g c =
-    let p = g.C.Chunks.contents c.args.chunks.now in
-    let show = g.C.Held.ShowsChunk.shown in
+    let at_p = g.C.Chunks.places c.args.chunks.now in
     let old = places_of c.args.self.now.pieces in
-    subst (AreKept show p old) (sym (places-rows (paired c.remove_row.new.keys.texts c.remove_row.new.values.items))) (kept-none show p old)
+    subst (AreKept at_p old) (sym (places-rows (paired c.remove_row.new.keys.texts c.remove_row.new.values.items))) (kept-none at_p old)
+
+pub remove_inner-requires-clause-places : goal.remove_inner-requires-clause-places
+remove_inner-requires-clause-places g c =
+    kids_may (g.C.Chunks.places c.args.chunks.now) c.self.inside.depth c.self.inside.keys.texts c.self.inside.body c.in-Inner.kids c.args.self.now.pieces (ap (λ (s : Seen). s.pieces) c.self.view_is) c.in-Inner.is c.self.invariant c.requires.places
 
 pub remove_inner-requires-clause-node : goal.remove_inner-requires-clause-node
 remove_inner-requires-clause-node g c = subst (IsNode c.self.inside.depth c.self.inside.keys.texts) c.in-Inner.is c.self.invariant
@@ -35,36 +39,33 @@ remove_inner-requires-clause-tree g c =
     let keys = c.self.inside.keys.texts in
     let kids = c.in-Inner.kids in
     let view = ap (body_pieces depth keys) (sym c.in-Inner.is) ∙ ap (λ (s : Seen). s.pieces) c.self.view_is in
-    subst (λ ps. IsTree (shown (g.C.Chunks.contents c.args.chunks.now) ps)) (sym view) c.requires
+    subst (λ ps. IsTree (shown (g.C.Chunks.contents c.args.chunks.now) ps)) (sym view) c.requires.tree
 
 pub returns-in-None-clause-places : goal.returns-in-None-clause-places
 returns-in-None-clause-places g c =
-    let q = g.C.Chunks.contents c.remove_inner.new.chunks in
-    let show = g.C.Held.ShowsChunk.shown in
+    let at_q = g.C.Chunks.places c.remove_inner.new.chunks in
     let keys = c.self.inside.keys.texts in
     let node : IsNode c.self.inside.depth keys (Inner c.in-Inner.kids) = subst (IsNode c.self.inside.depth keys) c.in-Inner.is c.self.invariant in
     let old = own-places c.self.inside.depth keys c.self.inside.body c.in-Inner.kids c.args.self.now.pieces (ap (λ (s : Seen). s.pieces) c.self.view_is) c.in-Inner.is node.1.2 in
-    let left = subst (λ o. AreKept show q (kids_places c.in-Inner.kids.items) (left_places c.remove_inner.new.kids.items o)) c.in-None.is c.in_ok-remove_inner-in-Inner.ensures.places in
+    let left = subst (λ o. AreKept at_q (kids_places c.in-Inner.kids.items) (left_places c.remove_inner.new.kids.items o)) c.in-None.is c.in_ok-remove_inner-in-Inner.ensures.places in
     let new = places-kids (c.self.inside.depth - 1) c.remove_inner.new.keys.texts c.remove_inner.new.kids.items (c.in_ok-remove_inner-in-Inner.ensures.node c.in-None.is).1.2 in
-    subst (AreKept show q (places_of c.args.self.now.pieces)) (sym new) (subst (λ w. AreKept show q w (kids_places c.remove_inner.new.kids.items)) (sym old) left)
+    subst (AreKept at_q (places_of c.args.self.now.pieces)) (sym new) (subst (λ w. AreKept at_q w (kids_places c.remove_inner.new.kids.items)) (sym old) left)
 
 pub returns-in-Some-Placed-clause-places : goal.returns-in-Some-Placed-clause-places
 returns-in-Some-Placed-clause-places g c =
-    let q = g.C.Chunks.contents c.remove_inner.new.chunks in
-    let show = g.C.Held.ShowsChunk.shown in
+    let at_q = g.C.Chunks.places c.remove_inner.new.chunks in
     let keys = c.self.inside.keys.texts in
     let node : IsNode c.self.inside.depth keys (Inner c.in-Inner.kids) = subst (IsNode c.self.inside.depth keys) c.in-Inner.is c.self.invariant in
     let old = own-places c.self.inside.depth keys c.self.inside.body c.in-Inner.kids c.args.self.now.pieces (ap (λ (s : Seen). s.pieces) c.self.view_is) c.in-Inner.is node.1.2 in
-    let left = subst (λ o. AreKept show q (kids_places c.in-Inner.kids.items) (left_places c.remove_inner.new.kids.items o)) (c.in-Some-Placed.is ∙ ap (λ h. Some h) c.in-Some-Placed.field-0-is) c.in_ok-remove_inner-in-Inner.ensures.places in
-    subst (λ w. AreKept show q w (c.in-Some-Placed.at ∷ [])) (sym old) left
+    let left = subst (λ o. AreKept at_q (kids_places c.in-Inner.kids.items) (left_places c.remove_inner.new.kids.items o)) (c.in-Some-Placed.is ∙ ap (λ h. Some h) c.in-Some-Placed.field-0-is) c.in_ok-remove_inner-in-Inner.ensures.places in
+    subst (λ w. AreKept at_q w (c.in-Some-Placed.at ∷ [])) (sym old) left
 
 pub returns-in-Some-Own-clause-places : goal.returns-in-Some-Own-clause-places
 returns-in-Some-Own-clause-places g c =
-    let q = g.C.Chunks.contents c.remove_inner.new.chunks in
-    let show = g.C.Held.ShowsChunk.shown in
+    let at_q = g.C.Chunks.places c.remove_inner.new.chunks in
     let keys = c.self.inside.keys.texts in
     let node : IsNode c.self.inside.depth keys (Inner c.in-Inner.kids) = subst (IsNode c.self.inside.depth keys) c.in-Inner.is c.self.invariant in
     let old = own-places c.self.inside.depth keys c.self.inside.body c.in-Inner.kids c.args.self.now.pieces (ap (λ (s : Seen). s.pieces) c.self.view_is) c.in-Inner.is node.1.2 in
-    let left = subst (λ o. AreKept show q (kids_places c.in-Inner.kids.items) (left_places c.remove_inner.new.kids.items o)) (c.in-Some-Own.is ∙ ap (λ h. Some h) c.in-Some-Own.field-0-is) c.in_ok-remove_inner-in-Inner.ensures.places in
-    subst (λ (s : Seen). AreKept show q (places_of c.args.self.now.pieces) (places_of s.pieces)) (sym c.node.view_is)
-    (subst (λ w. AreKept show q w (places_of c.in-Some-Own.node.pieces)) (sym old) left)
+    let left = subst (λ o. AreKept at_q (kids_places c.in-Inner.kids.items) (left_places c.remove_inner.new.kids.items o)) (c.in-Some-Own.is ∙ ap (λ h. Some h) c.in-Some-Own.field-0-is) c.in_ok-remove_inner-in-Inner.ensures.places in
+    subst (λ (s : Seen). AreKept at_q (places_of c.args.self.now.pieces) (places_of s.pieces)) (sym c.node.view_is)
+    (subst (λ w. AreKept at_q w (places_of c.in-Some-Own.node.pieces)) (sym old) left)

@@ -1,14 +1,15 @@
-use Rattle.std.proofs.Common.{◌≡◌, ◌∙◌, ap, sym, subst, Some, arith}
+use Rattle.std.proofs.Common.{◌≡◌, ◌≤◌, ℕ, ◌∙◌, ap, sym, subst, Some, arith}
 use Rattle.std.specs.Prelude.{IsSome}
 use Rattle.map_chunks.specs.Places.{AreKept, places_of}
 use Rattle.map_tree.specs.Trees.{root_places, tree_places, root_map, root_depth, root_fresh, root_or, IsWide}
 use Rattle.map_chunks.specs.Shown.{shown}
 use Rattle.map_tree.specs.declared.tree.Root.{Root}
 use Rattle.map_tree.specs.declared.tree.Root.TheVariants.{Own}
-use Rattle.map_tree.proofs.DeleteLemmas.{removed_map, removed_fresh, removed_places, removed_wide}
+use Rattle.map_tree.proofs.DeleteLemmas.{removed_map, removed_depth, removed_fresh, removed_places, removed_wide}
 use Rattle.map_chunks.proofs.JoinLemmas.{some_is}
 use Rattle.map_chunks.proofs.KeptLemmas.{kept-from_none}
 use Rattle.map_tree.proofs.RootCounts.{own_depth}
+use Rattle.map_tree.proofs.PlaceLemmas.{placed_may, own_may}
 use Rattle.map_tree.proofs.tree.Tree.remove.Goals as goal
 
 pub returns-in-Own-clause-ok : goal.returns-in-Own-clause-ok
@@ -23,6 +24,15 @@ returns-in-Own-clause-few g c d t =
     let e = own_depth (g.C.Chunks.contents c.args.chunks.now) c.args.self.now.root c.in-Own.node d c.in-Own.is t in
     omega (arith, c.in_ok-end-in-Own.ensures.few, removed_fresh c.remove_root.new.self c.in_ok-end-in-Own.end, ap root_fresh c.give_way.ensures, ap root_fresh c.in-Own.is, e)
 
+pub returns-in-Own-clause-deep : goal.returns-in-Own-clause-deep
+returns-in-Own-clause-deep g c =
+    let q = g.C.Chunks.contents c.remove_root.new.chunks in
+    let n = c.remove_root.new.self in
+    let top = own_depth (g.C.Chunks.contents c.args.chunks.now) c.args.self.now.root c.in-Own.node c.args.depth c.in-Own.is c.requires.depth in
+    subst (λ (r : Root). (e : ℕ) × (root_depth q r ≡ Some e) × (e ≤ c.args.depth)) (sym c.give_way.ensures)
+    (subst (λ d. (e : ℕ) × (root_depth q (root_or c.in_ok-end-in-Own.end (Own n)) ≡ Some e) × (e ≤ d)) top
+    (removed_depth q c.in-Own.node.depth n c.in_ok-end-in-Own.end c.in_ok-end-in-Own.ensures.deep))
+
 pub returns-in-Own-clause-wide : goal.returns-in-Own-clause-wide
 returns-in-Own-clause-wide g c w =
     let q = g.C.Chunks.contents c.remove_root.new.chunks in
@@ -31,12 +41,11 @@ returns-in-Own-clause-wide g c w =
 
 pub returns-in-Own-clause-places : goal.returns-in-Own-clause-places
 returns-in-Own-clause-places g c =
-    let q = g.C.Chunks.contents c.remove_root.new.chunks in
-    let show = g.C.Held.ShowsChunk.shown in
+    let at_q = g.C.Chunks.places c.remove_root.new.chunks in
     let n = c.remove_root.new.self in
-    subst (λ (r : Root). AreKept show q (tree_places c.args.self.now) (root_places r)) (sym c.give_way.ensures)
-    (subst (λ (r : Root). AreKept show q (root_places r) (root_places (root_or c.in_ok-end-in-Own.end (Own n)))) (sym c.in-Own.is)
-    (subst (AreKept show q (places_of c.in-Own.node.pieces)) (removed_places n c.in_ok-end-in-Own.end) c.in_ok-end-in-Own.ensures.places))
+    subst (λ (r : Root). AreKept at_q (tree_places c.args.self.now) (root_places r)) (sym c.give_way.ensures)
+    (subst (λ (r : Root). AreKept at_q (root_places r) (root_places (root_or c.in_ok-end-in-Own.end (Own n)))) (sym c.in-Own.is)
+    (subst (AreKept at_q (places_of c.in-Own.node.pieces)) (removed_places n c.in_ok-end-in-Own.end) c.in_ok-end-in-Own.ensures.places))
 
 pub root_without-requires-clause-map : goal.root_without-requires-clause-map
 root_without-requires-clause-map g c = subst (λ r. IsSome (root_map (g.C.Chunks.contents c.args.chunks.now) r)) c.in-Placed.is c.requires.map
@@ -55,4 +64,10 @@ returns-in-Placed-clause-wide g c w = c.in_ok-self-in-Placed.ensures.wide (subst
 
 pub returns-in-Placed-clause-places : goal.returns-in-Placed-clause-places
 returns-in-Placed-clause-places g c =
-    kept-from_none g.C.Held.ShowsChunk.shown (g.C.Chunks.contents c.root_without.new.chunks) (tree_places c.args.self.now) _ c.in_ok-self-in-Placed.ensures.places
+    kept-from_none (g.C.Chunks.places c.root_without.new.chunks) (tree_places c.args.self.now) _ c.in_ok-self-in-Placed.ensures.places
+
+pub remove_root-requires-clause-places : goal.remove_root-requires-clause-places
+remove_root-requires-clause-places g c = own_may (g.C.Chunks.places c.args.chunks.now) c.args.self.now.root c.in-Own.node c.in-Own.is c.requires.places
+
+pub root_without-requires-clause-place : goal.root_without-requires-clause-place
+root_without-requires-clause-place g c = placed_may (g.C.Chunks.places c.args.chunks.now) c.args.self.now.root c.in-Placed.at c.in-Placed.is c.requires.places

@@ -5,6 +5,7 @@ use Rattle.map_chunks.specs.Shown.{chunk_rows, shown, map_of_rows}
 use Rattle.map_tree.specs.Trees.{root_map}
 use Rattle.map_chunks.proofs.ScanLemmas.{scan_of-map}
 use Rattle.map_chunks.proofs.TreeLemmas.{map_at-rows}
+use Rattle.map_tree.proofs.PlaceLemmas.{placed_may, own_may}
 use Rattle.map_tree.proofs.tree.Tree.scan_into.Goals as goal
 
 pub returns-in-Placed-clause-rows : goal.returns-in-Placed-clause-rows
@@ -19,3 +20,9 @@ returns-in-Own-clause-rows g c m h =
     let p = g.C.Chunks.contents c.args.chunks.now in
     let e : option_and_then map_of_rows (shown p c.in-Own.node.pieces) ≡ Some m = ap (root_map p) (sym c.in-Own.is) ∙ h in
     subst (λ x. OnOk c.scan.result (c.scan.new.out.items ≡ x)) (scan_of-map (shown p c.in-Own.node.pieces) m c.args.scan.now c.args.out.now.items e c.requires.none) c.scan.ensures.rows
+
+pub scan_placed-requires-clause-place : goal.scan_placed-requires-clause-place
+scan_placed-requires-clause-place g c = placed_may (g.C.Chunks.places c.args.chunks.now) c.args.self.now.root c.in-Placed.at c.in-Placed.is c.requires.places
+
+pub scan-requires-clause-places : goal.scan-requires-clause-places
+scan-requires-clause-places g c = own_may (g.C.Chunks.places c.args.chunks.now) c.args.self.now.root c.in-Own.node c.in-Own.is c.requires.places

@@ -6,6 +6,7 @@ use Rattle.map_tree.specs.Trees.{root_map, root_depth}
 use Rattle.map_chunks.specs.Writes.{standing}
 use Rattle.map_chunks.proofs.AnswerLemmas.{if_ok_so}
 use Rattle.map_chunks.proofs.TreeLemmas.{map_at-rows, value_of_map}
+use Rattle.map_tree.proofs.PlaceLemmas.{placed_may, own_may}
 use Rattle.map_tree.proofs.tree.Tree.sought.Goals as goal
 
 pub returns-in-Placed-clause-standing : goal.returns-in-Placed-clause-standing
@@ -26,3 +27,9 @@ returns-in_ok-standing-in-Own-clause-standing g c m h =
 
 pub returns-in_ok-standing-in-Own-clause-depth : goal.returns-in_ok-standing-in-Own-clause-depth
 returns-in_ok-standing-in-Own-clause-depth g c = ap (root_depth (g.C.Chunks.contents c.args.chunks.now)) c.in-Own.is ∙ ap (λ n. Some n) (sym c.depth.ensures)
+
+pub seek_placed-requires-clause-place : goal.seek_placed-requires-clause-place
+seek_placed-requires-clause-place g c = placed_may (g.C.Chunks.places c.args.chunks.now) c.args.self.now.root c.in-Placed.at c.in-Placed.is c.requires.places
+
+pub standing-requires-clause-places : goal.standing-requires-clause-places
+standing-requires-clause-places g c = own_may (g.C.Chunks.places c.args.chunks.now) c.args.self.now.root c.in-Own.node c.in-Own.is c.requires.places

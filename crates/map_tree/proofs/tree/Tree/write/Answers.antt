@@ -10,6 +10,7 @@ use Rattle.map_tree.proofs.RootCounts.{own_depth}
 use Rattle.map_chunks.proofs.Shelves.{some_of}
 use Rattle.map_chunks.proofs.TreeLemmas.{map_is}
 use Rattle.map_tree.proofs.WriteLemmas.{put_map, found_there}
+use Rattle.map_tree.proofs.PlaceLemmas.{placed_may, own_may}
 use Rattle.map_tree.proofs.tree.Tree.write.Goals as goal
 
 pub write-requires-clause-tree : goal.write-requires-clause-tree
@@ -52,7 +53,7 @@ returns-in-Own-clause-wide g c w = c.write.ensures.wide (subst (IsWide (g.C.Chun
 pub returns-in-Own-clause-places : goal.returns-in-Own-clause-places
 returns-in-Own-clause-places g c =
     on_ok c.write.result c.write.ensures.places
-    (λ kept. subst (λ r. AreKept g.C.Held.ShowsChunk.shown (g.C.Chunks.contents c.write.new.chunks) (root_places r) (places_of c.write.new.self.pieces)) (sym c.in-Own.is) kept)
+    (λ kept. subst (λ r. AreKept (g.C.Chunks.places c.write.new.chunks) (root_places r) (places_of c.write.new.self.pieces)) (sym c.in-Own.is) kept)
 
 pub root_with-requires-clause-map : goal.root_with-requires-clause-map
 root_with-requires-clause-map g c = subst (λ r. IsSome (root_map (g.C.Chunks.contents c.args.chunks.now) r)) c.in-Placed.is c.requires.map
@@ -80,4 +81,10 @@ returns-in-Placed-clause-wide g c w = c.in_ok-root-in-Placed.ensures.wide (subst
 
 pub returns-in-Placed-clause-places : goal.returns-in-Placed-clause-places
 returns-in-Placed-clause-places g c =
-    kept-from_none g.C.Held.ShowsChunk.shown (g.C.Chunks.contents c.root_with.new.chunks) (tree_places c.args.self.now) (root_places c.in_ok-root-in-Placed.root) c.in_ok-root-in-Placed.ensures.places
+    kept-from_none (g.C.Chunks.places c.root_with.new.chunks) (tree_places c.args.self.now) (root_places c.in_ok-root-in-Placed.root) c.in_ok-root-in-Placed.ensures.places
+
+pub write-requires-clause-places : goal.write-requires-clause-places
+write-requires-clause-places g c = own_may (g.C.Chunks.places c.args.chunks.now) c.args.self.now.root c.in-Own.node c.in-Own.is c.requires.places
+
+pub root_with-requires-clause-place : goal.root_with-requires-clause-place
+root_with-requires-clause-place g c = placed_may (g.C.Chunks.places c.args.chunks.now) c.args.self.now.root c.in-Placed.at c.in-Placed.is c.requires.places

@@ -10,10 +10,11 @@ use Rattle.map_chunks.proofs.KeptLemmas.{kept-grown, kept-trans}
 use Rattle.map_tree.proofs.RootCounts.{placed_rows}
 use Rattle.map_chunks.proofs.Shelves.{some_of}
 use Rattle.map_tree.proofs.WriteLemmas.{placed_map, found_there, entries_tree, put_copied}
+use Rattle.map_nodes.proofs.PlaceLemmas.{new_may}
 use Rattle.map_tree.proofs.tree.putting.root_with.Goals as goal
 
-pub copied-requires : goal.copied-requires
-copied-requires g c =
+pub copied-requires-clause-known : goal.copied-requires-clause-known
+copied-requires-clause-known g c =
     let p = g.C.Chunks.contents c.args.chunks.now in
     let s = some_of (map_at p (stamp_of c.args.at)) c.requires.map in
     subst IsSome (sym (placed_rows p c.args.at s.0 c.args.depth s.1 c.requires.depth)) refl
@@ -53,12 +54,14 @@ returns-clause-wide g c w =
     let k = stamp_of c.args.at in
     let s = some_of (map_at p k) c.requires.map in
     let sp = placed_map p k s.0 s.1 in
-    c.in_ok-write.ensures.wide (c.in_ok-node.ensures.wide (wide_at-kept p (g.C.Chunks.contents c.copied.new.chunks) k sp.segment c.copied.ensures.grown sp.is w))
+    c.in_ok-write.ensures.wide (c.in_ok-node.ensures.wide (wide_at-kept p (g.C.Chunks.contents c.copied.new.chunks) k sp.segment c.copied.ensures.grown.0 sp.is w))
 
 pub returns-clause-places : goal.returns-clause-places
 returns-clause-places g c =
-    let p = g.C.Chunks.contents c.copied.new.chunks in
-    let q = g.C.Chunks.contents c.write.new.chunks in
-    let show = g.C.Held.ShowsChunk.shown in
+    let at_p = g.C.Chunks.places c.copied.new.chunks in
+    let at_q = g.C.Chunks.places c.write.new.chunks in
     let mid = places_of c.in_ok-node.node.pieces in
-    kept-trans show q [] mid (places_of c.write.new.self.pieces) (kept-grown show p q [] mid c.write.ensures.grown c.in_ok-node.ensures.places) c.in_ok-write.ensures.places
+    kept-trans at_q [] mid (places_of c.write.new.self.pieces) (kept-grown at_p at_q [] mid c.write.ensures.grown.1 c.in_ok-node.ensures.places) c.in_ok-write.ensures.places
+
+pub write-requires-clause-places : goal.write-requires-clause-places
+write-requires-clause-places g c = new_may (g.C.Chunks.places c.copied.new.chunks) (places_of c.in_ok-node.node.pieces) c.in_ok-node.ensures.places

@@ -7,7 +7,7 @@ use Rattle.reader_claims.specs.declared.view.Sizes.{Sizes}
 use Rattle.reader_claims.specs.declared.view.View.{View}
 use Rattle.reader_claims.specs.Views.{reader}
 use Rattle.reader_claims.specs.Machine.{Lawful}
-use Rattle.reader_claims.specs.Plays.{dealt_left, dealt_right}
+use Rattle.reader_claims.specs.Inside.Plays.{dealt_left, dealt_right}
 use Rattle.reader_claims.specs.Seats.{ClaimsId, IsNew}
 use Rattle.reader_claims.proofs.Reaching.{deals_as, opens}
 use Rattle.reader_claims.proofs.claims.Claims.new.Goals as goal

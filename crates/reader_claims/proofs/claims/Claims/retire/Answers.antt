@@ -2,8 +2,7 @@ use Rattle.std.proofs.Common.{subst, ap, sym, ℕ}
 use Rattle.reader_claims.specs.declared.view.View.{View}
 use Rattle.reader_claims.specs.declared.words.SlotState.TheVariants.{Live, Retired}
 use Rattle.reader_claims.specs.Words.{slot_at, slot_word}
-use Rattle.reader_claims.specs.Plays.{left_by}
-use Rattle.reader_claims.specs.Machine.{Move}
+use Rattle.reader_claims.specs.Machine.{Move, left_by}
 use Rattle.reader_claims.specs.Seats.{Seated}
 use Rattle.reader_claims.proofs.claims.Claims.retire.Goals as goal
 

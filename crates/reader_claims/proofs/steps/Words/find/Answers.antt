@@ -1,4 +1,4 @@
-use Rattle.reader_claims.specs.Known.{view}
+use Rattle.reader_claims.specs.Inside.Known.{view}
 use Rattle.reader_claims.specs.declared.view.View.{View}
 use Rattle.reader_claims.proofs.Moving.{moves_moves}
 use Rattle.reader_claims.proofs.steps.Words.find.Goals as goal

@@ -1,4 +1,4 @@
-use Rattle.reader_claims.specs.Known.{view}
+use Rattle.reader_claims.specs.Inside.Known.{view}
 use Rattle.reader_claims.specs.declared.view.View.{View}
 use Rattle.reader_claims.proofs.Moving.{three_moves}
 use Rattle.reader_claims.proofs.steps.Words.look_twice.Goals as goal

@@ -1,5 +1,5 @@
 use Rattle.std.proofs.Common.{rules, arith, inl, subst, ap, ◌∙◌, sym, min, ◌-◌, ◌≤◌, ◌≡◌, ◌<◌, ℕ}
-use Rattle.reader_claims.specs.Known.{view}
+use Rattle.reader_claims.specs.Inside.Known.{view}
 use Rattle.reader_claims.specs.declared.view.View.{View}
 use Rattle.reader_claims.specs.declared.view.Sizes.{Sizes}
 use Rattle.reader_claims.specs.Seats.{ClaimsId}

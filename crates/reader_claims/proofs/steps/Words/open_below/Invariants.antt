@@ -1,6 +1,6 @@
 use Rattle.std.proofs.Common.{◌≡◌, ℕ, ◌≤◌, ◌<◌}
 use Rattle.reader_claims.specs.Machine.{Moves}
-use Rattle.reader_claims.specs.Known.{reader_id, view}
+use Rattle.reader_claims.specs.Inside.Known.{reader_id, view}
 use Rattle.reader_claims.specs.Views.{IsClosed}
 use Rattle.reader_claims.proofs.Pins.{OpenTo}
 use Rattle.reader_claims.proofs.steps.Words.open_below.Given as goal

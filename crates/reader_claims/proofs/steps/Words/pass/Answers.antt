@@ -1,5 +1,5 @@
 use Rattle.std.proofs.Common.{subst, ◌≤◌}
-use Rattle.reader_claims.specs.Known.{view}
+use Rattle.reader_claims.specs.Inside.Known.{view}
 use Rattle.reader_claims.specs.declared.view.View.{View}
 use Rattle.reader_claims.specs.Seats.{first_reserved, kind_end}
 use Rattle.reader_claims.specs.Passes.{AreShut, FindsNone}

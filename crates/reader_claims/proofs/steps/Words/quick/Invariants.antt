@@ -1,7 +1,7 @@
 use Rattle.std.proofs.Common.{◌≡◌}
 use Rattle.reader_claims.specs.Machine.{Moves}
-use Rattle.reader_claims.specs.Known.{reader_id, view}
-use Rattle.reader_claims.specs.Passes.{Later}
+use Rattle.reader_claims.specs.Inside.Known.{reader_id, view}
+use Rattle.reader_claims.specs.Inside.Scans.{Later}
 use Rattle.reader_claims.proofs.steps.Words.quick.Given as goal
 
 abbrev pub invariant-loop-slot : goal.invariant-loop-slot

@@ -1,4 +1,4 @@
-use Rattle.reader_claims.specs.Known.{view}
+use Rattle.reader_claims.specs.Inside.Known.{view}
 use Rattle.reader_claims.specs.declared.view.View.{View}
 use Rattle.reader_claims.proofs.Scans.{later_self, later_tried}
 use Rattle.reader_claims.specs.Machine as machine

@@ -1,5 +1,5 @@
 use Rattle.std.proofs.Common.{rules, arith, refl, ◌∙◌}
-use Rattle.reader_claims.specs.Known.{view}
+use Rattle.reader_claims.specs.Inside.Known.{view}
 use Rattle.reader_claims.specs.declared.view.View.{View}
 use Rattle.reader_claims.proofs.Scans.{open_later, closed_later, later_self, later_later, all_more}
 use Rattle.reader_claims.specs.Machine as machine
@@ -30,3 +30,6 @@ returns-then-try_slot-clause-later c = let v : View = view c.args.reader.now in 
 
 pub returns-then-try_slot-clause-moves : goal.returns-then-try_slot-clause-moves
 returns-then-try_slot-clause-moves c = let v : View = view c.args.reader.now in let u : View = view c.loop-slot.reader in let t : View = view c.try_slot.new.reader in moves_moves v u t c.loop-slot.invariant.moves c.try_slot.ensures.moves
+
+pub returns-clause-shut : goal.returns-clause-shut
+returns-clause-shut c = λ i over near. c.loop-slot.invariant.shut i over (omega arith)

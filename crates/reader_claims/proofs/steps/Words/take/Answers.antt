@@ -8,7 +8,7 @@ use Rattle.reader_claims.proofs.Readers.{Stays, stays, either_way, went, left_mo
 use Rattle.reader_claims.proofs.steps.Words.take.Goals as goal
 
 pub compare_exchange-requires : goal.compare_exchange-requires
-compare_exchange-requires c = (search rules, omega arith, takes_at _ _ _ _ c.args.slot _ _ c.place.ensures (search rules) (c.word-mine.ensures ∙ ap (λ j. slot_word (Taken j)) (sym c.args.reader.now.own.0)))
+compare_exchange-requires c = (search rules, omega arith, takes_at _ _ _ _ c.args.slot _ _ c.place.ensures (let own = c.args.reader.now.own in let e = own.0 in let low = own.1 in omega arith) (search rules) (c.word-mine.ensures ∙ ap (λ j. slot_word (Taken j)) (sym c.args.reader.now.own.0)))
 
 pub invariant_of-reader : goal.invariant_of-reader
 invariant_of-reader c = let was = c.args.reader.now in let did = c.compare_exchange.ensures.2.2 c.args.slot c.place.ensures in

@@ -1,10 +1,9 @@
 use Rattle.std.proofs.Common.{sym, ◌∙◌, ◌≢◌, eq-eqb, true≢false}
-use Rattle.reader_claims.specs.Known.{view}
+use Rattle.reader_claims.specs.Inside.Known.{view}
 use Rattle.reader_claims.specs.Words.{slot_word}
 use Rattle.reader_claims.specs.declared.words.SlotState.TheVariants.{Retired}
 use Rattle.reader_claims.specs.declared.view.View.{View}
-use Rattle.reader_claims.specs.Passes as passes
-use Rattle.reader_claims.proofs.Scans.{open_later, closed_later, later_note, later_given, later_later, later_tried, why_not_retired, shut_at_once, shut_at_give, shut_after_give}
+use Rattle.reader_claims.proofs.Scans.{open_later, closed_later, later_note, later_given, later_later, later_tried, shut_at_once, shut_as_closed, shut_at_give, shut_after_give}
 use Rattle.reader_claims.proofs.Moving.{one_move, moves_moves}
 use Rattle.reader_claims.proofs.steps.Words.try_slot.Goals as goal
 
@@ -14,7 +13,7 @@ returns-in_default c = let lost = (c.take-found.ensures.lost c.if-found-eq-FREE.
   moves = one_move v u _ _ _ c.take-found.ensures.step;
   later = later_note v u _ _ _ lost;
   taken = λ no. absurd (true≢false (sym no));
-  shut = λ no. shut_at_once _ _ v u lost (why_not_retired _ _ u c.of_word.result c.of_word.ensures.word c.if-found-eq-FREE.false c.in_default.not-Retired);
+  shut = λ no. shut_at_once _ _ v u c.of_word.result lost c.of_word.ensures.word c.if-found-eq-FREE.false c.in_default.not-Retired;
 }
 
 pub returns-then-bound-r-clause-later : goal.returns-then-bound-r-clause-later
@@ -22,7 +21,7 @@ returns-then-bound-r-clause-later c = later_note _ _ _ _ _ (c.take-found.ensures
 
 pub returns-then-bound-r-clause-shut : goal.returns-then-bound-r-clause-shut
 returns-then-bound-r-clause-shut c = λ no. let lost = (c.take-found.ensures.lost c.if-found-eq-FREE.false) in let v : View = view c.args.reader.now in let u : View = view c.take-found.new.reader in
-    shut_at_once _ _ v u lost (passes.closed c.in-Retired.r (sym c.in-Retired.ensures.word) (closed_later _ v u (later_note v u _ _ _ lost) (c.requires.above c.in-Retired.r c.if-bound-r.true)))
+    shut_as_closed _ c.in-Retired.r _ v u lost (sym c.in-Retired.ensures.word) (closed_later _ v u (later_note v u _ _ _ lost) (c.requires.above c.in-Retired.r c.if-bound-r.true))
 
 pub give-requires-clause-open_at : goal.give-requires-clause-open_at
 give-requires-clause-open_at c = let v : View = view c.args.reader.now in let u : View = view c.take-found.new.reader in

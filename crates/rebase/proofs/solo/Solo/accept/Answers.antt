@@ -6,7 +6,7 @@ use Rattle.group_history.specs.Spelling.{Contents, version_of}
 use Rattle.group_history.specs.State.{last_id}
 use Rattle.group_history.proofs.IdLemmas.{after_mutate-IdsFollow}
 use Rattle.map_chunks.specs.Drafts.{Drafted}
-use Rattle.rebase.specs.Chaining.{IsTip}
+use Rattle.rebase.specs.Inside.Chaining.{IsTip}
 use Rattle.rebase.specs.Fixing.{staged}
 use Rattle.rebase.specs.Solos.{SoloState, state_at}
 use Rattle.rebase.proofs.HeadLemmas.{head_placed, with_none}

@@ -4,7 +4,7 @@ use Rattle.group_history.specs.Pulling.{after_closing}
 use Rattle.group_history.specs.Refs.{stamp_of}
 use Rattle.group_history.specs.Spelling.{Contents, version_of}
 use Rattle.map_chunks.specs.Drafts.{Drafted}
-use Rattle.rebase.specs.Chaining.{IsTip}
+use Rattle.rebase.specs.Inside.Chaining.{IsTip}
 use Rattle.rebase.specs.Fixing.{staged}
 use Rattle.rebase.specs.Solos.{SoloState, state_at}
 use Rattle.rebase.proofs.HeadLemmas.{head_placed, state_placed, with_none}

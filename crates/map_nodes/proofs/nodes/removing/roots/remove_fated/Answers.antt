@@ -1,14 +1,16 @@
-use Rattle.std.proofs.Common.{◌∙◌, ap, sym, subst, arith, refl, get_or, length, remove, Some}
+use Rattle.std.proofs.Common.{◌≡◌, ◌+◌, ◌-◌, ◌∙◌, ap, sym, subst, arith, refl, get_or, length, remove, Some}
 use Rattle.std.specs.Prelude.{IsSome}
 use Rattle.map_nodes.specs.Nodes.{body_pieces}
-use Rattle.map_nodes.specs.Removing.{without, IsFate}
-use Rattle.map_chunks.specs.Shown.{rows_or}
+use Rattle.map_nodes.specs.Removing.{without, IsFate, IsLowHeir}
+use Rattle.map_chunks.specs.Shown.{shown, rows_or}
 use Rattle.map_nodes.specs.declared.nodes.Body.TheVariants.{Inner}
 use Rattle.map_nodes.specs.declared.nodes.Child.{Child}
 use Rattle.map_nodes.specs.declared.nodes.Child.TheVariants.{Placed}
+use Rattle.map_nodes.proofs.EndLemmas.{first_at}
 use Rattle.map_nodes.proofs.HeirLemmas.{heir-rows, heir-fresh, heir-wide, heir-kept, still_wide}
 use Rattle.map_nodes.proofs.PathLemmas.{node_at}
 use Rattle.map_nodes.proofs.RemoveLemmas.{fate_here, fresh-removed, gives_way-is, last_shown, leaves_none}
+use Rattle.map_chunks.proofs.OpenLemmas.{known}
 use Rattle.map_nodes.proofs.nodes.removing.roots.remove_fated.Goals as goal
 
 pub heir-requires-clause-tree : goal.heir-requires-clause-tree
@@ -56,6 +58,16 @@ returns-then-gives_way-clause-few g c =
           (fresh-removed kids i),
       c.requires.node.1.0,
     )
+
+pub returns-then-gives_way-clause-deep : goal.returns-then-gives_way-clause-deep
+returns-then-gives_way-clause-deep g c =
+    let p = g.C.Chunks.contents c.args.chunks.now in
+    let depth = c.args.depth in
+    let keys = c.args.keys.now.texts in
+    let n = known (shown p (body_pieces depth keys (Inner c.args.kids.now))) c.requires.tree in
+    let top : depth - 1 + 1 ≡ depth = omega (arith, c.requires.node.1.0) in
+    subst (λ d. IsLowHeir (g.C.Chunks.contents c.heir.new.chunks) d c.in_ok-heir.heir) top
+    (c.in_ok-heir.ensures.deep (depth - 1) (first_at p (depth - 1) keys c.args.kids.now.items c.args.place n.rows c.requires.node.1.2 c.requires.node.1.3 n.is))
 
 pub returns-then-gives_way-clause-wide : goal.returns-then-gives_way-clause-wide
 returns-then-gives_way-clause-wide g c =

@@ -1,4 +1,4 @@
-use Rattle.std.proofs.Common.{◌≡◌, ◌∙◌, ◌-◌, ap, sym, subst, refl, Some}
+use Rattle.std.proofs.Common.{arith, length, ◌≡◌, ◌∙◌, ◌-◌, ap, sym, subst, refl, Some}
 use Rattle.std.specs.Prelude.{IsSome}
 use Rattle.map_nodes.specs.Nodes.{body_pieces, IsNode}
 use Rattle.map_nodes.specs.Removing.{without}
@@ -8,10 +8,19 @@ use Rattle.map_chunks.proofs.AnswerLemmas.{if_ok_so}
 use Rattle.map_nodes.proofs.NodeLemmas.{node_down}
 use Rattle.map_nodes.proofs.RemoveLemmas.{fate_later, shown_later}
 use Rattle.map_nodes.proofs.ScanLemmas.{kid_shown-at}
+use Rattle.map_chunks.proofs.KeptLemmas.{all_on}
+use Rattle.map_nodes.proofs.PlaceLemmas.{kid_all}
 use Rattle.map_nodes.proofs.nodes.removing.roots.remove_inner.Goals as goal
 
-pub fate_of-requires : goal.fate_of-requires
-fate_of-requires g c =
+pub fate_of-requires-clause-places : goal.fate_of-requires-clause-places
+fate_of-requires-clause-places g c =
+    kid_all (g.C.Chunks.places c.args.chunks.now) c.args.kids.now.items c.place_of-place.result c.index.result.now (omega (arith, c.requires.node.1.2, ap length c.as_slice-texts.ensures, c.place_of-place.ensures.0)) c.index.ensures c.requires.places
+
+pub remove_fated-requires-clause-places : goal.remove_fated-requires-clause-places
+remove_fated-requires-clause-places g c = all_on (g.C.Chunks.places c.args.chunks.now) (g.C.Chunks.places c.fate_of.new.chunks) _ c.fate_of.ensures.grown.1 c.requires.places
+
+pub fate_of-requires-clause-tree : goal.fate_of-requires-clause-tree
+fate_of-requires-clause-tree g c =
     let p = g.C.Chunks.contents c.args.chunks.now in
     let d = node_down p c.args.depth c.args.keys.now.texts (Inner c.args.kids.now) c.args.kids.now (body_pieces c.args.depth c.args.keys.now.texts (Inner c.args.kids.now)) c.as_slice-texts.result.now c.args.key.now
     c.place_of-place.result c.index.result.now refl refl c.requires.node c.as_slice-texts.ensures c.place_of-place.ensures c.index.ensures c.requires.tree in
@@ -22,7 +31,7 @@ remove_fated-requires-clause-tree g c =
     let p = g.C.Chunks.contents c.args.chunks.now in
     let q = g.C.Chunks.contents c.fate_of.new.chunks in
     subst IsTree
-    (sym (shown_later p q c.args.depth c.args.keys.now.texts (Inner c.args.kids.now) c.args.kids.now (body_pieces c.args.depth c.args.keys.now.texts (Inner c.args.kids.now)) c.fate_of.ensures.grown refl refl c.requires.tree))
+    (sym (shown_later p q c.args.depth c.args.keys.now.texts (Inner c.args.kids.now) c.args.kids.now (body_pieces c.args.depth c.args.keys.now.texts (Inner c.args.kids.now)) c.fate_of.ensures.grown.0 refl refl c.requires.tree))
     c.requires.tree
 
 pub remove_fated-requires-clause-fate : goal.remove_fated-requires-clause-fate
@@ -39,7 +48,7 @@ remove_fated-requires-clause-fate g c =
     let view : body_pieces depth keys (Inner kids) ≡ body_pieces depth keys (Inner kids) = refl in
     let d = node_down p depth keys (Inner c.args.kids.now) kids (body_pieces c.args.depth c.args.keys.now.texts (Inner c.args.kids.now)) c.as_slice-texts.result.now key i c.index.result.now view refl c.requires.node c.as_slice-texts.ensures c.place_of-place.ensures
     c.index.ensures c.requires.tree in
-    let known_fate = fate_later p q depth keys c.as_slice-texts.result.now kids.items (body_pieces c.args.depth c.args.keys.now.texts (Inner c.args.kids.now)) key c.index-texts-place.result i c.index.result.now fate c.fate_of.ensures.grown node.1.2 c.as_slice-texts.ensures
+    let known_fate = fate_later p q depth keys c.as_slice-texts.result.now kids.items (body_pieces c.args.depth c.args.keys.now.texts (Inner c.args.kids.now)) key c.index-texts-place.result i c.index.result.now fate c.fate_of.ensures.grown.0 node.1.2 c.as_slice-texts.ensures
     c.place_of-place.ensures.0 d c.index.ensures c.index-texts-place.is c.in_ok-fate.ensures.fate in
     known_fate
 
@@ -50,5 +59,5 @@ returns-clause-done g c =
     let depth = c.args.depth in
     let keys = c.args.keys.now.texts in
     let kids = c.args.kids.now in
-    let later = shown_later p q depth keys (Inner kids) kids (body_pieces depth keys (Inner kids)) c.fate_of.ensures.grown refl refl c.requires.tree in
+    let later = shown_later p q depth keys (Inner kids) kids (body_pieces depth keys (Inner kids)) c.fate_of.ensures.grown.0 refl refl c.requires.tree in
     if_ok_so c.remove_fated.result c.remove_fated.ensures.done (λ heir done. done ∙ ap (λ z. Some (without c.args.key.now (rows_or z))) later)

@@ -1,5 +1,5 @@
 -- What each kind of step tells its caller: of the step, the seat before, the number found (at a store, the number stored) and the seat after.
-use Rattle.std.specs.Prelude.{◌≡◌, ◌≢◌, ℕ, ◌+◌, ◌^◌, ◌≤◌, ◌<◌, max, cond, ◌==◌}
+use Rattle.std.specs.Prelude.{◌≡◌, ◌≢◌, ℕ, ◌+◌, ◌^◌, ◌≤◌, ◌<◌, max}
 use Rattle.atomic_table.specs.Table.{Me, Step}
 use Rattle.reader_claims.specs.declared.words.Pin.TheVariants.{Absent, Stored}
 use Rattle.reader_claims.specs.declared.words.SlotState.TheVariants.{Free, Taken, Live, Retired}
@@ -7,7 +7,7 @@ use Rattle.reader_claims.specs.declared.view.View.{View}
 use Rattle.reader_claims.specs.Words.{pin_at, slot_at, slot_word}
 use Rattle.reader_claims.specs.Lists.{In}
 use Rattle.reader_claims.specs.Views.{reader, dealer, with_epoch, with_pin, with_read, with_raise, with_taken, with_settled, with_withdrawn, with_retired, with_given, with_note}
-use Rattle.reader_claims.specs.Machine.{Move}
+use Rattle.reader_claims.specs.Machine.{Move, left_by}
 
 abbrev pub Sat : Type 0
 Sat = Me (Unit {0}) View
@@ -20,10 +20,6 @@ dealt_left v = dealer v.sizes (v.next + 1)
 
 abbrev pub dealt_right : View → View
 dealt_right v = reader v.sizes v.next
-
--- what a compare-exchange from old to new leaves where it found x
-abbrev pub left_by : ℕ → ℕ → ℕ → ℕ
-left_by old new x = cond (x == old) new x
 
 -- the step was this one of the machine, and the view became w
 abbrev pub Goes : Step (Unit {0}) → Sat → ℕ → ℕ → Sat → View → Type 0

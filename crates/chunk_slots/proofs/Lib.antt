@@ -1,0 +1,3 @@
+pub mod Claiming
+pub mod Begins
+pub mod Pinning

@@ -1,0 +1,4 @@
+pub mod Showing
+pub mod Appended
+pub mod Places
+pub mod Openings

@@ -1,0 +1,226 @@
+//! A store whose slots are used again: counted slots, given by the claims table.
+ghost use Rattle.std.specs.Prelude.{◌≡◌, IfOk, IfErr, length};
+ghost use Rattle.std.specs.List.{All};
+ghost use Rattle.group_history.specs.declared.refusals.Refusal.TheVariants.{NoMemory};
+ghost use Rattle.chunk_slots.specs.Inside.Places.{IsOfBook};
+
+use crate::arena_seat::ArenaSeat;
+use crate::counted::{Slot, look, put};
+use crate::dealt::Dealt;
+use crate::missed::{Busy, Missed};
+use crate::opening::{first, placed_leaf, placed_snapshot};
+use crate::placed::Placed;
+use crate::shown::Shown;
+use crate::store::{Slots, Store};
+use counted_slot::Counted;
+use group_history::{Means, Node, Ref, Refusal};
+use head_word::{Head, Mark, Sight};
+use reader_claims::{Claims, Kind};
+use std::alloc::Global;
+use std::marker::Model;
+
+/// The slots of a group, and which of them are claimed.
+#[derive(Drop)]
+pub struct Arena<M: Means> {
+    pub(crate) claims: Claims,
+    slots: Vec<Slot<M>>,
+    seen: Sight<M>,
+}
+
+impl<M: Means> Model for Arena<M> {
+    ghost use Rattle.chunk_slots.specs.Arenas.{ArenaId};
+    ghost use Rattle.chunk_slots.specs.Inside.Places.{HasPlaces};
+
+    ghost Value = { ArenaId };
+
+    ghost view = { λ a. record { claims = a.claims; book = a.seen.book } };
+
+    ghost invariant = { λ a. HasPlaces a.claims a.seen.book a.slots.items };
+}
+
+// An empty place for each slot.
+fn places<M: Means>(alloc: Global, slots: u32, seen: &Sight<M>) -> Result<Vec<Slot<M>>, Refusal>
+    ensures count { IfOk result (λ all. length all.items ≡ slots) }
+    ensures book { IfOk result (λ all. All (IsOfBook seen.now.book) all.items) }
+    ensures err { IfErr result (λ e. e ≡ NoMemory) }
+{
+    let mut all = Vec::with_capacity(alloc, slots as usize)?;
+    for _ in 0..slots {
+        all.push(Counted::new(None, seen))?;
+    }
+    Ok(all)
+}
+
+impl<M: Means> Arena<M> {
+    ghost use Rattle.std.specs.Prelude.{◌≡◌, ◌⊎◌, ◌<◌, ◌≤◌, IfOk, IfErr};
+    ghost use Rattle.group_history.specs.Refs.{max_slots};
+    ghost use Rattle.group_history.specs.declared.refs.Ref.{Ref as Reference};
+    ghost use Rattle.group_history.specs.declared.refusals.Refusal.TheVariants as refusal;
+    ghost use Rattle.head_word.specs.Books.{opening};
+    ghost use Rattle.chunk_slots.specs.Contents.{IsContent};
+    ghost use Rattle.chunk_slots.specs.declared.missed.Missed.TheVariants as missed;
+
+    // With the opening's nodes in the two slots.
+    pub(crate) fn with_opening(
+        alloc: Global,
+        claims: Claims,
+        slots: u32,
+        mark: &Mark<M>,
+        leaf: u32,
+        commit: u32,
+    ) -> Result<Arena<M>, Refusal>
+        requires slots { (claims.sizes.slots ≡ slots) × (slots ≤ max_slots) }
+        requires both { (leaf < slots) × (commit < slots) }
+        requires log { (at : Reference) × (mark.now.log ≡ opening at) }
+        ensures claims { IfOk result (λ arena. arena.claims ≡ claims) }
+        ensures book { IfOk result (λ arena. arena.book ≡ mark.now.book) }
+        ensures err { IfErr result (λ e. (e ≡ refusal.NoMemory) ⊎ (e ≡ refusal.Busy)) }
+    {
+        let seen = mark.sight();
+        let slots = places(alloc, slots, &seen)?;
+        let arena = Arena {
+            claims,
+            slots,
+            seen,
+        };
+        arena.fill_opening(alloc, mark, leaf, commit)?;
+        Ok(arena)
+    }
+
+    fn fill_opening(
+        &self,
+        alloc: Global,
+        mark: &Mark<M>,
+        leaf: u32,
+        commit: u32,
+    ) -> Result<(), Refusal>
+        requires book { mark.now.book ≡ self.now.book }
+        requires slots { self.now.claims.sizes.slots ≤ max_slots }
+        requires both { (leaf < self.now.claims.sizes.slots) × (commit < self.now.claims.sizes.slots) }
+        requires log { (at : Reference) × (mark.now.log ≡ opening at) }
+        ensures { IfErr result (λ e. (e ≡ refusal.NoMemory) ⊎ (e ≡ refusal.Busy)) }
+    {
+        let lower = placed_leaf(alloc, mark)?;
+        self.fill(leaf, lower, 1)?;
+        let upper = placed_snapshot(alloc, leaf, mark)?;
+        self.fill(commit, upper, 1)?;
+        Ok(())
+    }
+
+    fn find(&self, slot: u32, stamp: u64, tries: u32) -> Result<Shown<'_, M>, Missed>
+        ensures book { IfOk result (λ shown. shown.mark.book ≡ self.now.book) }
+        ensures content { IfOk result (λ shown. IsContent shown.mark.log stamp shown.node) }
+        ensures stamp { IfOk result (λ shown. shown.stamp ≡ stamp) }
+    {
+        let Some(slot) = self.slots.get(slot as usize) else {
+            return Err(Missed::Gone);
+        };
+        for _ in 1..tries {
+            match look(slot, stamp) {
+                Err(Missed::Busy) => {}
+                found => return found,
+            }
+        }
+        look(slot, stamp)
+    }
+
+    fn fill(&self, slot: u32, placed: Placed<M>, tries: u32) -> Result<u32, Busy>
+        requires slot { slot < self.now.claims.sizes.slots }
+        requires book { placed.mark.book ≡ self.now.book }
+        ensures { IfOk result (λ at. (at < max_slots) × (at ≡ slot)) }
+    {
+        let here = &self.slots[slot as usize];
+        let mut placed = placed;
+        for _ in 1..tries {
+            match put(here, placed) {
+                Ok(()) => return Ok(slot),
+                Err(back) => placed = back,
+            }
+        }
+        match put(here, placed) {
+            Ok(()) => Ok(slot),
+            Err(_) => Err(Busy),
+        }
+    }
+}
+
+impl<M: Means> Slots<M> for Arena<M> {
+    ghost use Rattle.std.specs.Prelude.{⊤};
+
+    type Seat = ArenaSeat;
+
+    ghost book = { λ a. a.book };
+
+    ghost serves = { λ a. a.claims };
+
+    ghost home = { λ seat. seat.table };
+
+    ghost reused = { ⊤ };
+
+    ghost view = { λ seat. seat.view };
+
+    fn show(&self, slot: u32, stamp: u64, tries: u32) -> Result<Shown<'_, M>, Missed> {
+        self.find(slot, stamp, tries)
+    }
+
+    fn settle(&self, seat: &mut ArenaSeat, slot: u32) {
+        seat.settle(&self.claims, slot);
+    }
+
+    fn withdraw(&self, seat: &mut ArenaSeat, slot: u32) {
+        seat.withdraw(&self.claims, slot);
+    }
+
+    fn raise(&self, seat: &mut ArenaSeat) -> Option<u64> {
+        seat.raise(&self.claims)
+    }
+
+    fn retire(&self, seat: &mut ArenaSeat, slot: u32, r: u64) {
+        if (slot as usize) < self.slots.len() {
+            seat.retire(&self.claims, slot, r);
+        }
+    }
+
+    fn pin(&self, seat: &mut ArenaSeat, tries: u32) -> Result<(), Busy> {
+        seat.pin(&self.claims, tries)
+    }
+
+    fn unpin(&self, seat: &mut ArenaSeat) {
+        seat.unpin(&self.claims);
+    }
+}
+
+impl<M: Means> Store<M> for Arena<M> {
+    type Parts = ();
+
+    fn open(
+        alloc: Global,
+        _parts: (),
+        slots: u32,
+        seats: u32,
+    ) -> Result<(Self, Vec<ArenaSeat>, Head<M>, Vec<Mark<M>>), Refusal> {
+        let dealt = Dealt::new(alloc, slots, seats)?;
+        let (head, marks) = Head::open(alloc, seats, dealt.commit)?;
+        let (arena, seats) = dealt.into_arena(alloc, slots, first(&marks))?;
+        Ok((arena, seats, head, marks))
+    }
+
+    fn place(
+        &self,
+        alloc: Global,
+        seat: &mut ArenaSeat,
+        mark: &Mark<M>,
+        slot: u32,
+        stamp: u64,
+        node: Node<Ref>,
+        tries: u32,
+    ) -> Result<u32, Refusal> {
+        seat.within(slot);
+        let node = Box::new(alloc, node)?;
+        Ok(self.fill(slot, Placed::new(stamp, node, mark), tries)?)
+    }
+
+    fn take_slot(&self, seat: &mut ArenaSeat, kind: Kind) -> Option<u32> {
+        seat.take(&self.claims, kind)
+    }
+}
