@@ -126,10 +126,16 @@ Node::replace-replace_child-requires g t c κs within =
     c.as_slice-in-Inner.ensures c.place_of-place.ensures c.requires.1.1.1.1.1.0 in
     let child = get_or kids.items i at in (
       omega (arith, x.2.1.0, ap (λ (s : Seen). s.depth) c.self.view_is, c.requires.1.0),
-      (within.0, (within.1, (
-        kids_may (g.C.Chunks.places c.args.chunks.now) depth keys c.self.inside.body kids pieces (ap (λ (s : Seen). s.pieces) c.self.view_is) c.in-Inner.is c.self.invariant c.requires.1.1.1.1.0,
-        (omega (arith, x.3.0, x.2.1.2), can_replace p depth keys kids.items pieces c.args.key.now i child x.0 x.1 c.requires.1.1.1.1.1.1),
-      ))),
+      (
+        within.0,
+        (
+          within.1,
+          (
+            kids_may (g.C.Chunks.places c.args.chunks.now) depth keys c.self.inside.body kids pieces (ap (λ (s : Seen). s.pieces) c.self.view_is) c.in-Inner.is c.self.invariant c.requires.1.1.1.1.0,
+            (omega (arith, x.3.0, x.2.1.2), can_replace p depth keys kids.items pieces c.args.key.now i child x.0 x.1 c.requires.1.1.1.1.1.1),
+          ),
+        ),
+      ),
     )
 
 pub Node::replace-invariant_of-self-in-Inner : goal.Node::replace-invariant_of-self-in-Inner
