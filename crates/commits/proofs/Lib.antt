@@ -7,6 +7,7 @@ pub mod Reached
 pub mod Listing
 pub mod Leaving
 pub mod Lent
+pub mod Marked
 pub mod Choosing
 pub mod Descending
 pub mod Rooted

@@ -1,5 +1,6 @@
--- Words that only private clauses of this crate use: what one commit tells of its chain, what a walk has found, and how a
--- chunk is met by a key of it.
+-- Words that only private clauses of this crate use: what one commit tells of its chain, what a walk has found, how a chunk
+-- is met by a key of it, and of which kind a node is.
 pub mod Chains
 pub mod Reach
 pub mod Meeting
+pub mod Kinds

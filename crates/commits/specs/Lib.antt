@@ -1,5 +1,7 @@
--- What a reader of the public clauses believes: what a base of the code is of a state, and what a stamp reaches.
+-- What a reader of the public clauses believes: what a base of the code is of a state, what a stamp reaches, and why a
+-- store doesn't show a node.
 pub mod Chains
 pub mod Reach
+pub mod Stores
 -- Words that only private clauses of this crate use.
 pub mod Inside

@@ -16,6 +16,7 @@ mod nodes;
 mod reaching;
 mod shelves;
 mod states;
+mod stores;
 
 pub use chains::{Base, Top};
 pub use map_chunks::VecChunks as VecNodes;
@@ -25,3 +26,4 @@ pub use shelves::LentCommit;
 pub use states::{
     CommitState, base_of, closed_of, cookie_of, last_id_of, read_root, state_of, top_of, walk,
 };
+pub use stores::{HeldChunk, HeldCommit, Shared, StoreNodes};

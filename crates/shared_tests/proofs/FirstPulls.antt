@@ -22,7 +22,9 @@ use Rattle.group_history.proofs.TextMaps.{empty_map}
 use Rattle.head_word.specs.declared.entry.Entry.{Entry}
 use Rattle.head_word.specs.declared.lost.Lost.{Lost}
 use Rattle.head_word.specs.Books.{drafted, drawn, next_stamp, opening, StartsOpened, Follows}
-use Rattle.shared_tests.specs.Trials.{no_mutators, bare_pull, SpellsBare}
+use Rattle.shared_tests.specs.Trials.{no_mutators, bare, bare_pull, SpellsBare}
+use Rattle.shared_tests.proofs.Leaves.{node_drawn}
+use Rattle.chunk_slots.specs.Contents.{IsContent}
 use Rattle.head_word.proofs.Books.{drawn_more}
 use Rattle.head_word.proofs.Stepping.{opening_spells, spells_from, starts_from, starts_with}
 
@@ -75,3 +77,9 @@ bare_drawn (Err e) old new by cookie root nodes starts at_leaf is drew room = tt
 bare_drawn (Ok first) old new by cookie root nodes starts at_leaf is (log, pre, next, all) room =
     let here : SpellsBare (log ++ drafted by first nodes ∷ []) first cookie = subst (λ (t : ℕ × List (Node Child)). SpellsBare (log ++ drafted by t.0 t.1 ∷ []) t.0 cookie) (λ i. (next i, sym is i)) (bare_spells log by cookie root (starts_from old log pre starts) at_leaf) in
     (omega (arith, room), subst (λ w. SpellsBare w first cookie) (sym all) here)
+
+-- and it is the content of its stamp
+pub bare_content : (result : Result ℕ Lost) (old new : List Entry) (by : Option ℕ) (cookie : Cookie) (root : Ref) (nodes : List (Node Child)) → nodes ≡ bare_node cookie root ∷ []
+    → IfOk result (λ first. (log : List Entry) × IsPrefix old log × (next_stamp log ≡ first) × (new ≡ log ++ drafted by first nodes ∷ [])) → IfOk result (λ first. IsContent new first (bare cookie root))
+bare_content (Err e) old new by cookie root nodes is drew = tt
+bare_content (Ok first) old new by cookie root nodes is (log, pre, next, all) = node_drawn log new by first (bare_node cookie root) nodes is next all

@@ -1,4 +1,4 @@
-//! Tests of the claims table and of the shared head, by what their crates make public.
+//! Tests of the claims table, of the shared head and of stores, by what their crates make public.
 //!
 //! They stand in a crate of their own, since a crate with tests is proved once more for them.
 #![tactic(auto)]

@@ -6,6 +6,7 @@ ghost use Rattle.group_history.specs.Cookies.{order_cmp};
 ghost use Rattle.group_history.specs.Refs.{stamp_of, stamps, max_slots};
 ghost use Rattle.group_history.specs.declared.cookies.Order.TheVariants as order;
 ghost use Rattle.head_word.specs.Marks.{HasSeat};
+ghost use Rattle.chunk_slots.specs.Contents.{IsContent};
 ghost use Rattle.shared_tests.specs.Trials.{bare, bare_pull, SpellsBare};
 
 use group_history::{
@@ -71,13 +72,13 @@ fn cookie_of(alloc: Global, value: &Value) -> Result<Cookie, Refusal> {
 }
 
 // The cookie 1.
-fn first_cookie(alloc: Global) -> Result<Cookie, Refusal> {
+pub(super) fn first_cookie(alloc: Global) -> Result<Cookie, Refusal> {
     let value = read_value(alloc, "1".as_bytes())?;
     cookie_of(alloc, &value)
 }
 
 // The snapshot of an empty map under the cookie, over the opening's leaf.
-fn bare_snapshot(alloc: Global, cookie: &Cookie) -> Result<Node<Ref>, Refusal>
+pub(super) fn bare_snapshot(alloc: Global, cookie: &Cookie) -> Result<Node<Ref>, Refusal>
     ensures { IfOk result (λ node. node ≡ bare cookie.now (record { bits = 7 })) }
 {
     Ok(Node::Commit(Commit {
@@ -90,7 +91,7 @@ fn bare_snapshot(alloc: Global, cookie: &Cookie) -> Result<Node<Ref>, Refusal>
 }
 
 // Drafts the snapshot of a pull that brings this cookie alone.
-fn drafts(
+pub(super) fn drafts(
     head: &Head<Nobody>,
     mark: &mut Mark<Nobody>,
     alloc: Global,
@@ -101,6 +102,7 @@ fn drafts(
     ensures book { mark.new.book ≡ mark.old.book }
     ensures seat { mark.new.seat ≡ mark.old.seat }
     ensures drawn { IfOk result (λ drew. IfOk drew (λ first. (first < stamps) × SpellsBare mark.new.log first cookie.now)) }
+    ensures content { IfOk result (λ drew. IfOk drew (λ first. IsContent mark.new.log first (bare cookie.now (record { bits = 7 })))) }
 {
     let nodes = [bare_snapshot(alloc, cookie)?];
     mark.legal();

@@ -1,7 +1,8 @@
 //! Of the stores: that calls succeed, which slots they find, and what threads meet.
-ghost use Rattle.std.specs.Prelude.{◌≡◌, [], IsSome, IfOk};
+ghost use Rattle.std.specs.Prelude.{◌≡◌, ◌<◌, [], IsSome, IfOk};
 ghost use Rattle.std.specs.List.{All};
 ghost use Rattle.group_history.specs.Naming.{content_of, drafted_content};
+ghost use Rattle.group_history.specs.Refs.{stamps};
 ghost use Rattle.reader_claims.specs.Lists.{In};
 ghost use Rattle.head_word.specs.Books.{empty_leaf};
 ghost use Rattle.head_word.specs.Marks.{HasSeat};
@@ -21,7 +22,7 @@ use std::thread::{Threads, join};
 
 const _: () = prove!(size_of::<Counted<Option<Placed<Nobody>>>>() == 32);
 
-fn empty(alloc: Global) -> Result<Leaf, Refusal>
+pub(super) fn empty(alloc: Global) -> Result<Leaf, Refusal>
     ensures { IfOk result (λ leaf. leaf ≡ []) }
 {
     let keys = Arc::new(alloc, Keys::new(Vec::new(alloc)))?;
@@ -29,12 +30,17 @@ fn empty(alloc: Global) -> Result<Leaf, Refusal>
 }
 
 // Draws a stamp for an empty leaf.
-fn draws(head: &Head<Nobody>, mark: &mut Mark<Nobody>, alloc: Global) -> Result<u64, Refusal>
+pub(super) fn draws(
+    head: &Head<Nobody>,
+    mark: &mut Mark<Nobody>,
+    alloc: Global,
+) -> Result<u64, Refusal>
     requires book { mark.old.book ≡ head.now }
     requires seat { IsSome mark.old.seat }
     ensures book { mark.new.book ≡ mark.old.book }
     ensures seat { mark.new.seat ≡ mark.old.seat }
     ensures drawn { IfOk result (λ first. HasLeaf mark.new.log first) }
+    ensures stamp { IfOk result (λ first. first < stamps) }
 {
     let nodes = [Node::<Ref>::Chunk(Chunk::Leaf(empty(alloc)?))];
     match head.draft(mark, 2, &nodes) {
