@@ -1,0 +1,47 @@
+-- One try of a call that makes a change: what is proposed at the head, and how its publishing ends.
+use Rattle.std.specs.Prelude.{◌≡◌, ◌≢◌, ◌⊎◌, true, List, Option, Some, None, Result, Ok, Err}
+use Rattle.group_history.specs.declared.changes.Change.{Change}
+use Rattle.group_history.specs.declared.refs.Ref.{Ref}
+use Rattle.group_history.specs.declared.refusals.Refusal.{Refusal}
+use Rattle.group_history.specs.declared.refusals.Refusal.TheVariants as refusal
+use Rattle.group_history.specs.Meaning.{Meanings}
+use Rattle.group_history.specs.Record.{after}
+use Rattle.group_history.specs.Refs.{stamp_of}
+use Rattle.group_history.specs.Spelling.{Spells}
+use Rattle.group_history.specs.State.{State}
+use Rattle.head_word.specs.declared.entry.Entry.{Entry}
+use Rattle.head_word.specs.Books.{drawn, last_move, record_of}
+use Rattle.head_word.specs.Marks.{Known}
+use Rattle.answered.specs.declared.trying.Proposed.{Proposed}
+use Rattle.answered.specs.declared.trying.Proposed.TheVariants as proposed
+use Rattle.answered.specs.declared.trying.Published.{Published}
+use Rattle.answered.specs.declared.trying.Published.TheVariants as published
+use Rattle.answered.specs.Answered.{IsPoint, own_moves, is_want}
+
+-- by what the caller knows of the book, the commit at the base spells this state
+abbrev pub IsBase : Meanings → Known → Ref → State → Type 0
+IsBase means m base s = Spells means (drawn m.log) (stamp_of base) s
+
+-- The exchange was won: the call has its point directly before the change, and the state there is this one.
+abbrev pub IsWon : Meanings → Known → Known → Change → State → Type 0
+IsWon means old new change s = (log : List Entry) × IsPoint means old new (Some change) log × (after (record_of log) ≡ s)
+
+-- The exchange was lost: the seat did not move the head, which is not at the base any more.
+abbrev pub IsLost : Known → Known → Ref → Type 0
+IsLost old new base = (own_moves new ≡ own_moves old) × (last_move new.log ≢ base)
+
+-- how a publishing ended, of a change that follows on the state that the base spells
+abbrev pub Ends : Meanings → Known → Known → Ref → Change → Published → Type 0
+Ends means old new base change published.Won = (s : State) → IsBase means old base s → IsWon means old new change s
+Ends means old new base change published.Lost = IsLost old new base
+
+-- What was proposed is right: a reply that stands for no change, or a change with the reply that stands for it, and a draft
+-- that leads to it.
+abbrev pub IsProposed : {X D : Type 0} → (D → Change → Type 0) → (Result X Refusal → Option Change) → Result X Refusal → Proposed X D → Type 0
+IsProposed leads change right (proposed.Reply x) = (right ≡ Ok x) × (change (Ok x) ≡ None)
+IsProposed leads change right (proposed.Change p) = (right ≡ p.reply) × (change p.reply ≡ Some p.change) × leads p.draft p.change
+
+-- A refusal of what was proposed is for want of something, or it is the right reply and stands for no change. No change of
+-- others is to blame: nothing was published yet.
+abbrev pub IsUnproposed : {X : Type 0} → (Result X Refusal → Option Change) → Result X Refusal → Refusal → Type 0
+IsUnproposed change right e = ((is_want e ≡ true) ⊎ ((right ≡ Err e) × (change (Err e) ≡ None))) × (e ≢ refusal.Moved)
