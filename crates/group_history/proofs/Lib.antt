@@ -9,3 +9,4 @@ pub mod Worked
 pub mod Pairs
 pub mod Folding
 pub mod Spellings
+pub mod InPlace

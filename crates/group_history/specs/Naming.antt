@@ -1,5 +1,5 @@
 -- How a node names its children.
-use Rattle.std.specs.Prelude.{ℕ, ◌+◌, List, [], ◌∷◌, map}
+use Rattle.std.specs.Prelude.{ℕ, ◌+◌, ◌-◌, nat_lt, cond, List, [], ◌∷◌, map, slice_index_or}
 use Rattle.group_history.specs.declared.nodes.Chunk.{Chunk}
 use Rattle.group_history.specs.declared.nodes.Chunk.TheVariants.{Leaf, Inner}
 use Rattle.group_history.specs.declared.nodes.Commit.{Commit}
@@ -64,3 +64,7 @@ child_stamp first (Drafted place) = first + place
 -- the content that a drafted node becomes
 abbrev pub drafted_content : ℕ → Node Child → Node ℕ
 drafted_content first n = renamed (child_stamp first) n
+
+-- the reference of a child of a drafted node, where the draft's nodes, with stamps from `from` on, were placed at these references
+abbrev pub placed_ref : ℕ → List Ref → Ref → Ref
+placed_ref from refs at = cond (nat_lt (stamp_of at) from) at (slice_index_or refs (stamp_of at - from) at)

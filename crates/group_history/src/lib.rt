@@ -19,6 +19,7 @@ mod plain;
 mod plain_view;
 mod refs;
 mod refusals;
+mod renaming;
 mod responses;
 mod scans;
 mod steps;

@@ -143,6 +143,15 @@ impl<R> Inner<R> {
     {
         &self.children
     }
+
+    // The first keys and the children, by value.
+    pub(crate) fn into_parts(self) -> (Arc<Keys>, Vec<R>)
+        ensures firsts { arc_value result.0 ≡ keys_of self }
+        ensures children { result.1.items ≡ values_of self }
+        ensures order { AreKeys (arc_value result.0) }
+    {
+        (self.firsts, self.children)
+    }
 }
 
 /// A chunk of a map.

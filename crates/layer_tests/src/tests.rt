@@ -3,6 +3,7 @@ mod chains;
 mod groups;
 mod maps;
 mod reads;
+mod renames;
 mod scans;
 mod slots;
 mod trees;

@@ -1,5 +1,5 @@
 -- A look at a chunk leads to one of its children.
-use Rattle.std.proofs.Common.{◌≡◌, ℕ, List, [], ◌∷◌, Option, Some, None, slice_get, subst, sym}
+use Rattle.std.proofs.Common.{◌≡◌, ℕ, List, Option, Some, None, slice_get, subst, sym}
 use Rattle.std.proofs.lemmas.Option.{slice_get_within, get_or_from_slice_get}
 use Rattle.std.proofs.lemmas.List.Elements.{Contains-get_or}
 use Rattle.std.specs.List.{Contains}
@@ -9,12 +9,12 @@ use Rattle.group_history.specs.declared.refs.Ref.{Ref}
 use Rattle.group_history.specs.Map.{Bytes}
 use Rattle.group_history.specs.Naming.{chunk_children}
 use Rattle.group_history.specs.Rows.{values_of}
-use Rattle.map_chunks.specs.Depths.{IsFirst}
-use Rattle.map_chunks.specs.Ends.{only_ref}
+use Rattle.map_chunks.specs.Inside.Depths.{IsFirst}
+use Rattle.map_chunks.specs.Inside.Ends.{only_ref}
 use Rattle.map_chunks.specs.Places.{AreAll, IfAt}
-use Rattle.map_chunks.specs.SecondKeys.{IsSecondStep, IsSecondAt}
-use Rattle.map_chunks.specs.Seeking.{IsHint, IsHintAt}
-use Rattle.map_chunks.specs.Steps.{IsStep, IsStepAt}
+use Rattle.map_chunks.specs.Inside.SecondKeys.{IsSecondStep, IsSecondAt}
+use Rattle.map_chunks.specs.Inside.Seeking.{IsHint, IsHintAt}
+use Rattle.map_chunks.specs.Inside.Steps.{IsStep, IsStepAt}
 use Rattle.map_chunks.specs.declared.looks.Hint.{Hint}
 use Rattle.map_chunks.specs.declared.looks.Hint.TheVariants.{Stands, On}
 use Rattle.map_chunks.specs.declared.looks.Second.{Second}

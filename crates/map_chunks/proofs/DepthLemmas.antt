@@ -6,7 +6,7 @@ use Rattle.group_history.specs.declared.refs.Ref.{Ref}
 use Rattle.group_history.specs.Naming.{chunk_content}
 use Rattle.group_history.specs.Refs.{stamp_of}
 use Rattle.group_history.specs.Spelling.{Contents, Segment, segment_at, rows_at}
-use Rattle.map_chunks.specs.Depths.{IsFirst, IsAbove}
+use Rattle.map_chunks.specs.Inside.Depths.{IsFirst, IsAbove}
 use Rattle.map_chunks.proofs.JoinLemmas.{split_of}
 use Rattle.map_chunks.proofs.OpenLemmas.{Opened, opened, spells_at, shows_by}
 

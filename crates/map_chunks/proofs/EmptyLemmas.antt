@@ -11,7 +11,7 @@ use Rattle.group_history.specs.Naming.{chunk_content}
 use Rattle.group_history.specs.Refs.{stamp_of}
 use Rattle.group_history.specs.Rows.{Rows}
 use Rattle.group_history.specs.Spelling.{Contents, Segment, segment_at, rows_at, joined_rows}
-use Rattle.map_chunks.specs.Depths.{has_none}
+use Rattle.map_chunks.specs.Inside.Depths.{has_none}
 use Rattle.map_chunks.specs.Shown.{rows_or, map_of_rows}
 use Rattle.map_chunks.proofs.JoinLemmas.{Shows, back_begins}
 use Rattle.map_chunks.proofs.OpenLemmas.{Opened, opened, shows_by}

@@ -11,7 +11,8 @@ use Rattle.group_history.specs.Refs.{stamp_of}
 use Rattle.group_history.specs.Rows.{Rows}
 use Rattle.group_history.specs.Spelling.{Contents, Segment, segment_at, rows_at}
 use Rattle.group_history.proofs.Lists.{one_here, only_one}
-use Rattle.map_chunks.specs.Ends.{only_ref, IsOnlyChild, IsNoDeeper}
+use Rattle.map_chunks.specs.Ends.{IsNoDeeper}
+use Rattle.map_chunks.specs.Inside.Ends.{only_ref, IsOnlyChild}
 use Rattle.map_chunks.specs.Places.{AreKept}
 use Rattle.map_chunks.specs.Seeking.{chunk_depth}
 use Rattle.map_chunks.specs.Shown.{chunk_rows}

@@ -1,5 +1,5 @@
 -- References that were there before, or at which a chunk may be looked for.
-use Rattle.std.proofs.Common.{◌≡◌, inl, inr, List, []}
+use Rattle.std.proofs.Common.{inl, inr, List, []}
 use Rattle.std.specs.List.{Contains}
 use Rattle.group_history.specs.declared.refs.Ref.{Ref}
 use Rattle.group_history.specs.Spelling.{Contents}

@@ -16,3 +16,4 @@ pub mod SeekLemmas
 pub mod Shelves
 pub mod Texts
 pub mod TreeLemmas
+pub mod DraftLemmas

@@ -19,7 +19,7 @@ use Rattle.group_history.proofs.Folding.{and_then-some}
 use Rattle.group_history.proofs.Spellings.{segment-content, segment-stays, rows-stay}
 use Rattle.map_chunks.specs.Search.{IsPlace, is_above}
 use Rattle.map_chunks.specs.Shown.{chunk_rows, IsTree, rows_or}
-use Rattle.map_chunks.specs.Steps.{IsStep, Leads}
+use Rattle.map_chunks.specs.Inside.Steps.{IsStep, Leads}
 use Rattle.map_chunks.specs.declared.looks.Step.{Step}
 use Rattle.map_chunks.specs.declared.looks.Step.TheVariants.{Found, Below}
 use Rattle.map_chunks.proofs.RowLemmas.{IsStrict, strict, sorted, find-front, find-back}

@@ -24,7 +24,8 @@ use Rattle.std.specs.Prelude.{option_map, option_and_then}
 use mathlib.Core.List.{IsPrefix}
 use Rattle.map_chunks.specs.Search.{is_above, IsPlace}
 use Rattle.map_chunks.specs.Shown.{rows_or, chunk_rows, IsTree, map_of_rows}
-use Rattle.map_chunks.specs.Scanning.{scanned, opened_rows, with_scanned, IsWithin, IsLow, greater, is_past, is_full, is_over}
+use Rattle.map_chunks.specs.Scanning.{scanned, with_scanned, IsWithin, IsLow, is_past, is_full, is_over}
+use Rattle.map_chunks.specs.Inside.Scanning.{opened_rows, greater}
 use Rattle.map_chunks.proofs.RowLemmas.{cmp, AllBelow, AllAbove, IsStrict, IsStrict-back, IsStrict-front, strict, rises_strict}
 use Rattle.map_chunks.proofs.JoinLemmas.{some_is, Split, split_of, begins, begins-with}
 use Rattle.map_chunks.proofs.OpenLemmas.{Known, known, tree_of, shows_of, placing, way_by, AllLow, Opened, opened, spells_rows, segment-kept, chunk_rows-at}

@@ -10,7 +10,8 @@ use Rattle.group_history.specs.Naming.{chunk_content}
 use Rattle.group_history.specs.Refs.{stamp_of}
 use Rattle.group_history.specs.Rows.{Rows, keys_of}
 use Rattle.group_history.specs.Spelling.{Contents, Segment, segment_at, rows_at, joined_rows, begins_with}
-use Rattle.map_chunks.specs.SecondKeys.{second_key, IsSecondStep, LeadsToSecond}
+use Rattle.map_chunks.specs.SecondKeys.{second_key}
+use Rattle.map_chunks.specs.Inside.SecondKeys.{IsSecondStep, LeadsToSecond}
 use Rattle.map_chunks.specs.Shown.{chunk_rows, rows_or}
 use Rattle.map_chunks.specs.declared.looks.Second.{Second}
 use Rattle.map_chunks.specs.declared.looks.Second.TheVariants.{Known, First}

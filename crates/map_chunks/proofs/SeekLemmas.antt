@@ -12,7 +12,8 @@ use Rattle.group_history.specs.Refs.{stamp_of}
 use Rattle.group_history.specs.Rows.{keys_of}
 use Rattle.group_history.specs.Spelling.{Contents, Segment, segment_at, rows_at, joined_rows}
 use Rattle.map_chunks.specs.Search.{IsPlace}
-use Rattle.map_chunks.specs.Seeking.{stands_in, IsHint, Hints}
+use Rattle.map_chunks.specs.Seeking.{stands_in}
+use Rattle.map_chunks.specs.Inside.Seeking.{IsHint, Hints}
 use Rattle.map_chunks.specs.Shown.{chunk_rows, rows_or}
 use Rattle.map_chunks.specs.declared.looks.Hint.{Hint}
 use Rattle.map_chunks.specs.declared.looks.Hint.TheVariants.{Stands, On}

@@ -4,8 +4,7 @@ use mathlib.Core.List.{IsPrefix}
 use Rattle.std.specs.List.{Contains}
 use Rattle.group_history.specs.declared.nodes.Node.{Node}
 use Rattle.group_history.specs.declared.refs.Ref.{Ref}
-use Rattle.group_history.specs.declared.nodes.Chunk.{Chunk}
-use Rattle.group_history.specs.Naming.{children, content_of, chunk_content, chunk_children}
+use Rattle.group_history.specs.Naming.{children, content_of}
 use Rattle.group_history.specs.Refs.{stamp_of, slot_of}
 use Rattle.group_history.specs.Spelling.{Contents}
 use Rattle.map_chunks.specs.Shown.{Part, value, chunk, Piece}

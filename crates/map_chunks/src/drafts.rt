@@ -4,14 +4,16 @@
 //! placed in their order. The references that a draft gives name stamps; a slot is not chosen yet, and
 //! each bears the slot 0.
 ghost use Rattle.std.specs.Prelude.{◌≡◌, ◌+◌, ◌⊎◌, ◌≤◌, ◌++◌, [], ◌∷◌, length, IfOk, IfErr, OnOk, OnErr, IfSome, IfNone, take, ◌<◌};
+ghost use Rattle.group_history.specs.Naming.{children};
 ghost use Rattle.group_history.specs.Refs.{stamps, stamp_of, slot_of};
 ghost use Rattle.group_history.specs.declared.refusals.Refusal.TheVariants as refusal;
+ghost use Rattle.map_chunks.specs.Drafts.{AreBelow, AreOrdered};
 
 use group_history::{Node, Ref, Refusal, STAMPS};
 use std::alloc::Global;
 use std::marker::Model;
 
-/// Nodes in the order of their stamps, and the first stamp.
+/// Nodes in the order of their stamps, and the first stamp. Each stands behind its children.
 #[derive(Drop)]
 pub struct Draft {
     first: u64,
@@ -19,7 +21,7 @@ pub struct Draft {
 }
 
 impl Model for Draft {
-    ghost use Rattle.map_chunks.specs.Drafts.{Drafted};
+    ghost use Rattle.map_chunks.specs.Drafts.{Drafted, AreOrdered};
     ghost use Rattle.group_history.specs.State.{ids_coded};
     ghost use Rattle.std.specs.Coded.{codes};
 
@@ -28,6 +30,8 @@ impl Model for Draft {
     ghost coded = { Prim.hlevel (codes, ids_coded) };
 
     ghost view = { λ d. record { first = d.first; nodes = d.nodes.items } };
+
+    ghost invariant = { λ d. AreOrdered d.first d.nodes.items };
 }
 
 impl Draft {
@@ -41,6 +45,13 @@ impl Draft {
         }
     }
 
+    /// The stamp of its first node.
+    pub fn first(&self) -> u64
+        ensures { result ≡ self.now.first }
+    {
+        self.first
+    }
+
     /// How many nodes it has.
     pub fn len(&self) -> u64
         ensures { result ≡ length self.now.nodes }
@@ -48,8 +59,10 @@ impl Draft {
         self.nodes.len() as u64
     }
 
-    /// Appends a node, and answers how it is named. Refused with Stamps where its stamp would be `STAMPS`.
+    /// Appends a node, whose children have stamps below its own, and answers how it is named. Refused with
+    /// Stamps where its stamp would be `STAMPS`.
     pub fn push(&mut self, node: Node<Ref>) -> Result<Ref, Refusal>
+        requires children { AreBelow (self.old.first + length self.old.nodes) (children node) }
         ensures stamp { IfOk result (λ at. (stamp_of at ≡ self.old.first + length self.old.nodes) × (slot_of at ≡ 0)) }
         ensures ok { OnOk result (self.new ≡ record { first = self.old.first; nodes = self.old.nodes ++ node ∷ [] }) }
         ensures err { OnErr result (self.new ≡ self.old) }
@@ -71,14 +84,16 @@ impl Draft {
 
     /// The nodes, in the order of their stamps.
     pub fn nodes(&self) -> &[Node<Ref>]
-        ensures { result.now ≡ self.now.nodes }
+        ensures nodes { result.now ≡ self.now.nodes }
+        ensures order { AreOrdered self.now.first self.now.nodes }
     {
         &self.nodes
     }
 
     /// The same, by value.
     pub fn into_nodes(self) -> Vec<Node<Ref>>
-        ensures { result.items ≡ self.nodes }
+        ensures nodes { result.items ≡ self.nodes }
+        ensures order { AreOrdered self.first self.nodes }
     {
         self.nodes
     }

@@ -2,7 +2,8 @@
 ghost use Rattle.std.specs.Prelude.{◌≡◌, ◌⊎◌, ℕ, [], ◌∷◌, Some, IfOk, IfErr, IsSome};
 ghost use Rattle.group_history.specs.Refs.{stamp_of};
 ghost use Rattle.group_history.specs.declared.mutators.Stop.TheVariants.{NoMemory};
-ghost use Rattle.map_chunks.specs.Ends.{only_ref, IsOnlyChild, IsEnd, IsNoDeeper};
+ghost use Rattle.map_chunks.specs.Ends.{IsEnd, IsNoDeeper};
+ghost use Rattle.map_chunks.specs.Inside.Ends.{only_ref, IsOnlyChild};
 ghost use Rattle.map_chunks.specs.Places.{Grows, IfAt};
 ghost use Rattle.map_chunks.specs.Seeking.{chunk_depth};
 ghost use Rattle.map_chunks.specs.Shown.{chunk_rows};

@@ -8,8 +8,8 @@ ghost use Rattle.group_history.specs.declared.mutators.Stop.TheVariants.{NoMemor
 ghost use Rattle.map_chunks.specs.Places.{Grows, IfAt};
 ghost use Rattle.map_chunks.specs.Shown.{chunk_rows, IsTree, rows_or};
 ghost use Rattle.group_history.specs.Spelling.{Segment, segment_at};
-ghost use Rattle.map_chunks.specs.Depths.{IsFirst, IsAbove, has_none};
-ghost use Rattle.map_chunks.specs.Steps.{IsStep, IsStepAt, Leads};
+ghost use Rattle.map_chunks.specs.Inside.Depths.{IsFirst, IsAbove, has_none};
+ghost use Rattle.map_chunks.specs.Inside.Steps.{IsStep, IsStepAt, Leads};
 
 use crate::chunks::{Chunks, ShowsChunk};
 use crate::looks::Step;

@@ -11,7 +11,9 @@ ghost use Rattle.group_history.specs.declared.mutators.Stop.TheVariants.{NoMemor
 ghost use Rattle.map_chunks.specs.Places.{Grows, AreAll};
 ghost use Rattle.map_chunks.specs.Shown.{chunk_rows, IsTree, rows_or};
 ghost use Rattle.map_chunks.specs.Scanning as scans;
-ghost use Rattle.map_chunks.specs.Scanning.{with_scanned, scanned, IsWithin, IsLow, children_rows, opened_rows};
+ghost use Rattle.map_chunks.specs.Scanning.{with_scanned, scanned, IsWithin, IsLow};
+ghost use Rattle.map_chunks.specs.Inside.Scanning as inside;
+ghost use Rattle.map_chunks.specs.Inside.Scanning.{children_rows, opened_rows};
 
 use crate::chunks::{Chunks, ShowsChunk};
 use crate::search::place_of;
@@ -30,7 +32,7 @@ pub fn lowest(scan: &Scan) -> &Text
 }
 
 fn greater<'a>(x: &'a Text, y: &'a Text) -> &'a Text
-    ensures { result.now ≡ scans.greater x.now y.now }
+    ensures { result.now ≡ inside.greater x.now y.now }
 {
     if x.cmp(y).is_gt() { x } else { y }
 }

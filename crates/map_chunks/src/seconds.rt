@@ -3,7 +3,8 @@ ghost use Rattle.std.specs.Prelude.{◌≡◌, ◌⊎◌, IfOk, IfErr, IsSome};
 ghost use Rattle.group_history.specs.Refs.{stamp_of};
 ghost use Rattle.group_history.specs.declared.mutators.Stop.TheVariants.{NoMemory};
 ghost use Rattle.map_chunks.specs.Places.{Grows};
-ghost use Rattle.map_chunks.specs.SecondKeys.{second_key, IsSecondStep, IsSecondAt, LeadsToSecond};
+ghost use Rattle.map_chunks.specs.SecondKeys.{second_key};
+ghost use Rattle.map_chunks.specs.Inside.SecondKeys.{IsSecondStep, IsSecondAt, LeadsToSecond};
 ghost use Rattle.map_chunks.specs.Shown.{chunk_rows, rows_or};
 
 use crate::chunks::{Chunks, ShowsChunk};

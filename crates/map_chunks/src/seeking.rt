@@ -2,7 +2,8 @@
 ghost use Rattle.std.specs.Prelude.{◌≡◌, ◌≤◌, ◌+◌, Some, IfOk, IfErr, option_copied};
 ghost use Rattle.group_history.specs.Refs.{stamp_of};
 ghost use Rattle.map_chunks.specs.Places.{Grows};
-ghost use Rattle.map_chunks.specs.Seeking.{chunk_depth, stands_in, IsHint, IsHintAt, Hints};
+ghost use Rattle.map_chunks.specs.Seeking.{chunk_depth, stands_in};
+ghost use Rattle.map_chunks.specs.Inside.Seeking.{IsHint, IsHintAt, Hints};
 ghost use Rattle.map_chunks.specs.Shown.{chunk_rows, IsTree, rows_or};
 
 use crate::chunks::{Chunks, ShowsChunk};

@@ -12,7 +12,8 @@ use Rattle.group_history.specs.Rows.{Rows, keys_of, paired}
 use Rattle.group_history.specs.Spelling.{Contents, joined_one, joined_rows, begins_with}
 use Rattle.group_history.proofs.Pairs.{keys_of-paired}
 use Rattle.map_chunks.specs.Shown.{Part, value, chunk, Piece, part_rows, shown}
-use Rattle.map_nodes.specs.Nodes.{Kid, Kids, kids_pieces, HeadIs, AllKids, child_rows}
+use Rattle.map_nodes.specs.Nodes.{Kids, kids_pieces, HeadIs, AllKids}
+use Rattle.map_nodes.specs.Inside.Nodes.{Kid, child_rows}
 use Rattle.map_nodes.specs.declared.nodes.Child.{Child}
 use Rattle.map_nodes.specs.declared.nodes.Child.TheVariants.{Placed, Own}
 use Rattle.map_chunks.proofs.RowLemmas.{cmp, AllBelow, AllAbove, AllAbove-less, IsStrict, find-above, put-front, put-back, put-at}

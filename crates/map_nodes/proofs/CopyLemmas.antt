@@ -8,7 +8,7 @@ use Rattle.group_history.specs.Naming.{chunk_content}
 use Rattle.group_history.specs.Refs.{stamp_of}
 use Rattle.group_history.specs.Rows.{Rows, keys_of, values_of, paired, AreKeys}
 use Rattle.group_history.specs.Spelling.{Contents, Segment, rows_at, joined_rows}
-use Rattle.map_nodes.specs.Copies.{MayBeDeep, chunk_pieces}
+use Rattle.map_nodes.specs.Inside.Copies.{MayBeDeep, chunk_pieces}
 use Rattle.map_nodes.specs.Nodes.{AllKids, kids_pieces, kids_fresh}
 use Rattle.map_chunks.specs.Shown.{chunk, shown}
 use Rattle.map_nodes.specs.declared.nodes.Child.{Child}

@@ -5,8 +5,8 @@ use Rattle.std.specs.FinMap.{put}
 use Rattle.group_history.specs.Map.{Bytes}
 use Rattle.group_history.specs.Rows.{paired, rises, values_of}
 use Rattle.group_history.proofs.Pairs.{values_of-paired}
-use Rattle.map_nodes.specs.Counts.{HasKept}
-use Rattle.map_nodes.specs.Halves.{with_half}
+use Rattle.map_nodes.specs.Inside.Counts.{HasKept}
+use Rattle.map_nodes.specs.Inside.Halves.{with_half}
 use Rattle.map_chunks.specs.Inserting.{ArePairs, Parted}
 use Rattle.map_nodes.specs.Nodes.{Kids, child_fresh, kids_fresh, body_fresh, child_height, kids_height, IsNode}
 use Rattle.map_chunks.specs.Search.{IsAbsent}

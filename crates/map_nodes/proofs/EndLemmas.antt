@@ -3,20 +3,20 @@ use Rattle.std.proofs.Common.{◌≡◌, ◌<◌, ◌≤◌, ◌+◌, ◌-◌, �
 use Rattle.std.specs.Prelude.{IsSome}
 use Rattle.std.specs.List.{Contains}
 use Rattle.std.proofs.lemmas.List.Elements.{Contains-append_cases, Contains-append_left, Contains-append_right}
-use Rattle.group_history.specs.declared.nodes.Chunk.{Chunk}
 use Rattle.group_history.specs.declared.refs.Ref.{Ref}
 use Rattle.group_history.specs.Map.{Bytes}
 use Rattle.group_history.specs.Rows.{Rows, paired}
 use Rattle.group_history.specs.Refs.{stamp_of}
 use Rattle.group_history.specs.Spelling.{Contents, joined_rows}
 use Rattle.group_history.proofs.Lists.{one_here, only_one}
-use Rattle.map_nodes.specs.Ends.{part_ref, IsTaken, end_of_pieces, end_of, IsPartBelow, IsEndBelow, IsKidBelow, IfNoDeeper}
+use Rattle.map_nodes.specs.Inside.Ends.{part_ref, IsTaken, end_of_pieces, end_of, IsPartBelow, IsEndBelow, IsKidBelow, IfNoDeeper}
 use Rattle.map_chunks.specs.Ends.{IsNoDeeper}
-use Rattle.map_nodes.specs.Halves.{HasDepth}
+use Rattle.map_nodes.specs.Inside.Halves.{HasDepth}
 use Rattle.map_chunks.specs.Places.{AreKept, part_places, places_of}
-use Rattle.map_nodes.specs.Freezing.{child_places, kids_places}
-use Rattle.map_nodes.specs.Removing.{one_shown, IsFirstAt}
-use Rattle.map_nodes.specs.Nodes.{Kid, child_pieces, kids_pieces, row_pieces, HeadIs, IsChild, AllKids, kids_fresh, child_rows}
+use Rattle.map_nodes.specs.Inside.Freezing.{child_places, kids_places}
+use Rattle.map_nodes.specs.Inside.Removing.{one_shown, IsFirstAt}
+use Rattle.map_nodes.specs.Nodes.{child_pieces, kids_pieces, row_pieces, HeadIs, IsChild, AllKids, kids_fresh}
+use Rattle.map_nodes.specs.Inside.Nodes.{Kid, child_rows}
 use Rattle.map_chunks.specs.Shown.{Part, value, chunk, Piece, Seen, part_rows, shown}
 use Rattle.map_chunks.specs.Wide.{IsWideChunk}
 use Rattle.map_nodes.specs.declared.nodes.Child.{Child}

@@ -19,8 +19,9 @@ use Rattle.group_history.specs.Rows.{Rows, paired}
 use Rattle.group_history.specs.Spelling.{Contents, Segment, segment, as_segment, spelled_by, spelled, sized, chunk_in, inner_in, segment_in, rows_in, segment_at, rows_at, map_at, joined_one, joined_rows}
 use Rattle.group_history.proofs.Folding.{folded_more, length_folded, seam}
 use Rattle.map_chunks.specs.Places.{with_nodes}
-use Rattle.map_nodes.specs.Freezing.{IsDeep, IsFrozen, AreFrozen}
-use Rattle.map_nodes.specs.Nodes.{Kid, IsChild, AllKids, child_rows, child_fresh, kids_fresh, child_height, kids_height}
+use Rattle.map_nodes.specs.Inside.Freezing.{IsDeep, IsFrozen, AreFrozen}
+use Rattle.map_nodes.specs.Nodes.{IsChild, AllKids, child_fresh, kids_fresh, child_height, kids_height}
+use Rattle.map_nodes.specs.Inside.Nodes.{Kid, child_rows}
 use Rattle.map_chunks.specs.Shown.{Seen, shown, chunk_rows, map_of_rows}
 use Rattle.map_nodes.specs.declared.nodes.Child.{Child}
 use Rattle.map_nodes.specs.declared.nodes.Child.TheVariants.{Placed, Own}

@@ -5,7 +5,7 @@ use Rattle.group_history.specs.declared.refs.Ref.{Ref}
 use Rattle.group_history.specs.Map.{Bytes}
 use Rattle.group_history.specs.Spelling.{Contents}
 use Rattle.map_nodes.specs.Nodes.{kids_fresh}
-use Rattle.map_nodes.specs.Removing.{left_rows, left_fresh, one_shown, gives_way, AreLeft, IsHeir, KeptBy, IsWideLeft}
+use Rattle.map_nodes.specs.Inside.Removing.{left_rows, left_fresh, one_shown, gives_way, AreLeft, IsHeir, KeptBy, IsWideLeft}
 use Rattle.map_nodes.specs.declared.nodes.Child.{Child}
 use Rattle.map_nodes.specs.declared.nodes.removing.Fate.{Fate}
 use Rattle.map_nodes.specs.declared.nodes.removing.Fate.TheVariants.{Leaves, Stays}

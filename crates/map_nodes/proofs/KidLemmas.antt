@@ -6,7 +6,7 @@ use Rattle.std.specs.Prelude.{◌==◌}
 use Rattle.group_history.specs.Map.{Bytes}
 use Rattle.group_history.specs.Rows.{paired, AreKeys, rises, is_below_all, keys_of}
 use Rattle.group_history.proofs.Pairs.{keys_of-paired}
-use Rattle.map_nodes.specs.Halves.{IsHalf, with_half, Finished}
+use Rattle.map_nodes.specs.Inside.Halves.{IsHalf, with_half, Finished}
 use Rattle.map_chunks.specs.Inserting.{ArePairs, Parted}
 use Rattle.map_nodes.specs.Nodes.{Kids, child_pieces, kids_pieces, HeadIs, IsChild, AllKids}
 use Rattle.map_chunks.specs.Shown.{Piece}

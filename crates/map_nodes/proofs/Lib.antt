@@ -18,3 +18,4 @@ pub mod ScanLemmas
 pub mod SecondLemmas
 pub mod UnputLemmas
 pub mod WideLemmas
+pub mod BelowLemmas

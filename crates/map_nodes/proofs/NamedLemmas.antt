@@ -11,14 +11,14 @@ use Rattle.group_history.specs.declared.nodes.Chunk.{Chunk}
 use Rattle.group_history.specs.declared.nodes.Chunk.TheVariants.{Leaf, Inner}
 use Rattle.group_history.specs.Refs.{stamp_of, slot_of}
 use Rattle.group_history.specs.Rows.{Rows, paired, values_of}
-use Rattle.group_history.specs.Spelling.{Contents}
 use Rattle.group_history.proofs.Pairs.{values_of-paired}
 use Rattle.group_history.proofs.Lists.{no_element, only_one}
-use Rattle.map_nodes.specs.Copies.{chunk_pieces}
+use Rattle.map_nodes.specs.Inside.Copies.{chunk_pieces}
 use Rattle.map_chunks.specs.Places.{AreKept, part_places, places_of, IsNamed, AreNamed, HaveNamed, AddsNamed}
-use Rattle.map_nodes.specs.Freezing.{child_places, kids_places}
-use Rattle.map_nodes.specs.Halves.{half_pieces, with_half}
-use Rattle.map_nodes.specs.Nodes.{Kid, Kids, body_pieces, child_pieces, kids_pieces, row_pieces}
+use Rattle.map_nodes.specs.Inside.Freezing.{child_places, kids_places}
+use Rattle.map_nodes.specs.Inside.Halves.{half_pieces, with_half}
+use Rattle.map_nodes.specs.Nodes.{Kids, body_pieces, child_pieces, kids_pieces, row_pieces}
+use Rattle.map_nodes.specs.Inside.Nodes.{Kid}
 use Rattle.map_nodes.specs.declared.nodes.Body.{Body}
 use Rattle.map_nodes.specs.declared.nodes.Body.TheVariants as inner
 use Rattle.map_nodes.specs.declared.nodes.putting.Half.{Half}

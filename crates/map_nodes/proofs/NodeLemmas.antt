@@ -12,7 +12,8 @@ use Rattle.group_history.specs.Spelling.{Contents, rows_at, joined_one, joined_r
 use Rattle.group_history.proofs.Pairs.{keys_of-paired, values_of-paired}
 use Rattle.map_chunks.specs.Search.{IsPlace}
 use Rattle.map_chunks.specs.Shown.{Piece, Seen, part_rows, shown, chunk_rows, IsTree, rows_or}
-use Rattle.map_nodes.specs.Nodes.{Kid, Kids, child_pieces, kids_pieces, kids_height, kids_fresh, row_pieces, body_pieces, HeadIs, IsChild, AllKids, IsNode, child_rows}
+use Rattle.map_nodes.specs.Nodes.{Kids, child_pieces, kids_pieces, kids_height, kids_fresh, row_pieces, body_pieces, HeadIs, IsChild, AllKids, IsNode}
+use Rattle.map_nodes.specs.Inside.Nodes.{Kid, child_rows}
 use Rattle.map_nodes.specs.declared.nodes.Body.{Body}
 use Rattle.map_nodes.specs.declared.nodes.Body.TheVariants.{Inner}
 use Rattle.map_nodes.specs.declared.nodes.Child.{Child}

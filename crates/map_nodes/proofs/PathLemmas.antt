@@ -9,8 +9,9 @@ use Rattle.group_history.specs.Map.{Bytes}
 use Rattle.group_history.specs.Rows.{Rows, keys_of, paired, rises, is_below_all}
 use Rattle.group_history.specs.Spelling.{Contents, begins_with, joined_rows}
 use Rattle.group_history.proofs.Pairs.{keys_of-paired}
-use Rattle.map_nodes.specs.Halves.{HasDepth, half_pieces, IsHalf, with_half, lowered, IsLower, ChildPut, AreNinth}
-use Rattle.map_nodes.specs.Nodes.{Kid, body_pieces, IsNode, Kids, child_pieces, kids_pieces, row_pieces, HeadIs, IsChild, AllKids, child_rows}
+use Rattle.map_nodes.specs.Inside.Halves.{HasDepth, half_pieces, IsHalf, with_half, lowered, IsLower, ChildPut, AreNinth}
+use Rattle.map_nodes.specs.Nodes.{body_pieces, IsNode, Kids, child_pieces, kids_pieces, row_pieces, HeadIs, IsChild, AllKids}
+use Rattle.map_nodes.specs.Inside.Nodes.{Kid, child_rows}
 use Rattle.map_chunks.specs.Search.{is_above, IsPlace}
 use Rattle.map_chunks.specs.Shown.{Piece, part_rows, shown, rows_or, IsTree}
 use Rattle.map_nodes.specs.declared.nodes.Body.{Body}

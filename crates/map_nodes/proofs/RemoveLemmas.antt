@@ -12,10 +12,12 @@ use Rattle.group_history.specs.Map.{Bytes, Entries, same_text}
 use Rattle.group_history.specs.Rows.{Rows, keys_of, paired, AreKeys, rises}
 use Rattle.group_history.specs.Spelling.{Contents, begins_with, joined_rows}
 use Rattle.group_history.proofs.Pairs.{keys_of-paired}
-use Rattle.map_nodes.specs.Halves.{lowered}
-use Rattle.map_nodes.specs.Nodes.{ChildChanged, Kids, kids_pieces, body_pieces, AllKids, child_rows, child_fresh, kids_fresh}
-use Rattle.map_nodes.specs.Removing.{without, IsFate, HasOthers, gives_way, CanRemove, one_shown}
-use Rattle.map_nodes.specs.Scanning.{kid_shown}
+use Rattle.map_nodes.specs.Inside.Halves.{lowered}
+use Rattle.map_nodes.specs.Nodes.{Kids, kids_pieces, body_pieces, AllKids, child_fresh, kids_fresh}
+use Rattle.map_nodes.specs.Inside.Nodes.{ChildChanged, child_rows}
+use Rattle.map_nodes.specs.Removing.{without}
+use Rattle.map_nodes.specs.Inside.Removing.{IsFate, HasOthers, gives_way, CanRemove, one_shown}
+use Rattle.map_nodes.specs.Inside.Scanning.{kid_shown}
 use Rattle.map_chunks.specs.Search.{IsFound, IsAbsent}
 use Rattle.map_chunks.specs.SecondKeys.{second_key}
 use Rattle.map_chunks.specs.Shown.{Piece, shown, rows_or, IsTree, map_of_rows}

@@ -7,10 +7,11 @@ use mathlib.Core.List.{IsPrefix}
 use Rattle.group_history.specs.Map.{Bytes}
 use Rattle.group_history.specs.Rows.{Rows, paired, AreKeys}
 use Rattle.group_history.specs.Spelling.{Contents}
-use Rattle.map_nodes.specs.Replacing.{CanReplace}
+use Rattle.map_nodes.specs.Inside.Replacing.{CanReplace}
 use Rattle.map_chunks.specs.Search.{IsFound, IsAbsent}
 use Rattle.map_chunks.specs.Shown.{Piece, shown, rows_or}
-use Rattle.map_nodes.specs.Nodes.{Kid, Kids, ChildChanged, child_rows, kids_pieces, row_pieces, body_pieces, IsNode, AllKids}
+use Rattle.map_nodes.specs.Nodes.{Kids, kids_pieces, row_pieces, body_pieces, IsNode, AllKids}
+use Rattle.map_nodes.specs.Inside.Nodes.{Kid, ChildChanged, child_rows}
 use Rattle.map_nodes.specs.declared.nodes.Body.{Body}
 use Rattle.map_nodes.specs.declared.nodes.Body.TheVariants.{Leaf, Inner}
 use Rattle.map_nodes.specs.declared.nodes.Child.{Child}

@@ -5,8 +5,9 @@ use Rattle.std.specs.FinMap.{put}
 use Rattle.group_history.specs.Map.{Bytes}
 use Rattle.group_history.specs.Rows.{Rows, AreKeys, rises, paired}
 use Rattle.group_history.specs.Spelling.{Contents, begins_with}
-use Rattle.map_nodes.specs.Halves.{IsHalf, least, AreInOrder}
-use Rattle.map_nodes.specs.Nodes.{Kid, kids_pieces, row_pieces, body_pieces, HeadIs, AllKids, IsNode}
+use Rattle.map_nodes.specs.Inside.Halves.{IsHalf, least, AreInOrder}
+use Rattle.map_nodes.specs.Nodes.{kids_pieces, row_pieces, body_pieces, HeadIs, AllKids, IsNode}
+use Rattle.map_nodes.specs.Inside.Nodes.{Kid}
 use Rattle.map_chunks.specs.Search.{is_above}
 use Rattle.map_chunks.specs.Shown.{Piece, part_rows, shown}
 use Rattle.map_nodes.specs.declared.nodes.Body.{Body}

@@ -6,14 +6,15 @@ use Rattle.group_history.specs.Spelling.{Contents, joined_rows}
 use Rattle.group_history.specs.Refs.{stamp_of}
 use mathlib.Core.List.{IsPrefix}
 use Rattle.map_chunks.specs.Shown.{IsTree, Piece, shown}
-use Rattle.map_nodes.specs.Nodes.{kids_pieces, body_pieces, IsNode, child_rows, child_height, kids_height}
+use Rattle.map_nodes.specs.Nodes.{kids_pieces, body_pieces, IsNode, child_height, kids_height}
+use Rattle.map_nodes.specs.Inside.Nodes.{child_rows}
 use Rattle.map_nodes.specs.declared.nodes.Child.{Child}
 use Rattle.map_nodes.specs.declared.nodes.Child.TheVariants.{Placed, Own}
 use Rattle.map_nodes.specs.declared.nodes.Body.{Body}
 use Rattle.map_nodes.specs.declared.nodes.Body.TheVariants.{Inner}
 use Rattle.map_nodes.proofs.NodeLemmas.{kid_rows, shown-kids}
 use Rattle.map_nodes.proofs.ChangeLemmas.{shown-kept}
-use Rattle.map_nodes.specs.Scanning.{kid_shown, kids_shown}
+use Rattle.map_nodes.specs.Inside.Scanning.{kid_shown, kids_shown}
 use Rattle.map_chunks.proofs.RowLemmas.{IsStrict-front}
 use Rattle.map_chunks.proofs.OpenLemmas.{Known, tree_of, shows_of, chunk_rows-at}
 use Rattle.map_chunks.proofs.ScanLemmas.{Turn, chunk_rows-kept, pairs_turn, shown_as, value_of-pair}

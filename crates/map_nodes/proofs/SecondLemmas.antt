@@ -5,7 +5,7 @@ use Rattle.group_history.specs.Map.{Bytes}
 use Rattle.group_history.specs.Rows.{Rows, keys_of, paired}
 use Rattle.group_history.specs.Spelling.{Contents}
 use Rattle.group_history.proofs.Pairs.{keys_of-paired}
-use Rattle.map_nodes.specs.Scanning.{kid_shown, kids_shown}
+use Rattle.map_nodes.specs.Inside.Scanning.{kid_shown, kids_shown}
 use Rattle.map_chunks.specs.SecondKeys.{second_key}
 use Rattle.map_nodes.specs.declared.nodes.Child.{Child}
 use Rattle.map_chunks.proofs.JoinLemmas.{split_of}

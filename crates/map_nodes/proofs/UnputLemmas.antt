@@ -1,7 +1,7 @@
 -- Why a row isn't put.
 use Rattle.std.proofs.Common.{Bool, true, inl, inr, Result, Ok, Err, IfErr}
 use Rattle.group_history.specs.declared.mutators.Stop.{Stop}
-use Rattle.map_nodes.specs.Unput.{IsUnput}
+use Rattle.map_nodes.specs.Inside.Unput.{IsUnput}
 use Rattle.map_nodes.specs.declared.nodes.putting.Unput.{Unput}
 use Rattle.map_nodes.specs.declared.nodes.putting.Unput.TheVariants.{Stopped, Full}
 

@@ -16,7 +16,7 @@ use Rattle.group_history.specs.Spelling.{Contents, Segment, Spelled, spelled, si
 use Rattle.group_history.proofs.Folding.{and_then-some}
 use Rattle.group_history.proofs.Spellings.{segment-content}
 use Rattle.group_history.proofs.Lists.{get_more}
-use Rattle.map_nodes.specs.Copies.{chunk_entries, MayBeDeep}
+use Rattle.map_nodes.specs.Inside.Copies.{chunk_entries, MayBeDeep}
 use Rattle.map_chunks.specs.Places.{with_nodes}
 use Rattle.map_chunks.specs.Shown.{Seen, shown, map_of_rows}
 use Rattle.map_chunks.specs.Wide.{is_narrow, IsWideAt, IsWideChunk}

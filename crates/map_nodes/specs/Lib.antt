@@ -1,12 +1,6 @@
-pub mod Copies
-pub mod Counts
-pub mod Ends
-pub mod Falls
-pub mod Freezing
-pub mod Halves
+-- What a reader of the public clauses believes, in order of reading: what the pieces of a draft's chunk are and what holds
+-- of it, and what a root is once a key is removed.
 pub mod Nodes
-pub mod Ready
 pub mod Removing
-pub mod Replacing
-pub mod Scanning
-pub mod Unput
+-- Words that only private clauses of this crate use.
+pub mod Inside

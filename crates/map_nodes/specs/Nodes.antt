@@ -1,19 +1,12 @@
 -- The chunks of a draft: what their pieces are, and what holds of them.
-use Rattle.std.specs.Prelude.{ℕ, ◌+◌, ◌-◌, ◌<◌, ◌≤◌, max, Box, List, [], ◌∷◌, ◌++◌, map, length, slice_set, ◌≡◌, Option}
-use Rattle.std.specs.declared.alloc.Global.{Global}
+use Rattle.std.specs.Prelude.{ℕ, ◌+◌, ◌-◌, ◌<◌, max, List, [], ◌∷◌, ◌++◌, map, length, ◌≡◌}
 use Rattle.group_history.specs.Map.{Bytes}
-use Rattle.group_history.specs.Refs.{stamp_of}
 use Rattle.group_history.specs.Rows.{Rows, AreKeys, paired}
-use Rattle.group_history.specs.Spelling.{Contents, rows_at}
-use Rattle.map_chunks.specs.Shown.{value, chunk, Piece, Seen, shown}
+use Rattle.map_chunks.specs.Shown.{value, chunk, Piece}
 use Rattle.map_nodes.specs.declared.nodes.Child.{Child}
 use Rattle.map_nodes.specs.declared.nodes.Child.TheVariants.{Placed, Own}
 use Rattle.map_nodes.specs.declared.nodes.Body.{Body}
 use Rattle.map_nodes.specs.declared.nodes.Body.TheVariants.{Leaf, Inner}
-
--- an own chunk where it is a child
-abbrev pub Kid : Type 0
-Kid = Box Seen Global
 
 -- children, each under its first key
 abbrev pub Kids : Type 0
@@ -81,13 +74,3 @@ kids_fresh (k ∷ ks) = child_fresh k + kids_fresh ks
 abbrev pub body_fresh : Body → ℕ
 body_fresh (Leaf values) = 1
 body_fresh (Inner kids) = kids_fresh kids.items + 1
-
--- the rows that a child shows
-abbrev pub child_rows : Contents → ℕ → Child → Option Rows
-child_rows contents below (Placed at) = rows_at contents below (stamp_of at)
-child_rows contents below (Own n) = shown contents n.value.pieces
-
--- an own child, so deep, stands at the place of this one, and shows these rows; so many chunks of it may be new
-abbrev pub ChildChanged : Contents → ℕ → ℕ → List Child → List Child → Child → Option Rows → Type 0
-ChildChanged contents below place old new child rows = (n : Kid) × (new ≡ slice_set old place (Own n)) × (n.value.depth ≡ below) × (shown contents n.value.pieces ≡ rows)
-    × (n.value.fresh ≤ child_fresh child + below)

@@ -1,71 +1,20 @@
--- A key removed below a draft's chunk.
-use Rattle.std.specs.Prelude.{◌≡◌, ◌+◌, ◌-◌, ◌<◌, ◌≤◌, ℕ, Bool, false, not, nat_le, filter, List, [], ◌∷◌, length, Option, Some, None, IsSome}
+-- What a map shows once a key is removed, and what its root is then.
+use Rattle.std.specs.Prelude.{◌≤◌, ℕ, not, filter, List, [], ◌∷◌, Option, Some, None}
 use Rattle.std.specs.Ordering.{nat_cmp, is_eq}
 use Rattle.std.specs.Cmp.Lexicographic.{slice_cmp}
-use Rattle.group_history.specs.Map.{Bytes, same_text}
+use Rattle.group_history.specs.Map.{Bytes}
 use Rattle.group_history.specs.declared.refs.Ref.{Ref}
 use Rattle.group_history.specs.Refs.{stamp_of}
-use Rattle.group_history.specs.Rows.{Rows, paired}
+use Rattle.group_history.specs.Rows.{Rows}
 use Rattle.group_history.specs.Spelling.{Contents}
-use Rattle.map_chunks.specs.Ends.{IsEnd, IsNoDeeper}
-use Rattle.map_nodes.specs.Freezing.{kids_places}
+use Rattle.map_chunks.specs.Ends.{IsNoDeeper}
 use Rattle.map_chunks.specs.Places.{places_of}
-use Rattle.map_nodes.specs.Halves.{HasDepth}
-use Rattle.map_nodes.specs.Nodes.{child_rows, kids_fresh, kids_pieces}
-use Rattle.map_nodes.specs.Scanning.{kid_shown}
-use Rattle.map_chunks.specs.SecondKeys.{second_key}
-use Rattle.map_chunks.specs.Shown.{Seen, shown, chunk_rows, rows_or, IsTree}
-use Rattle.map_nodes.specs.declared.nodes.Child.{Child}
-use Rattle.map_nodes.specs.declared.nodes.removing.Fate.{Fate}
-use Rattle.map_nodes.specs.declared.nodes.removing.Fate.TheVariants.{Leaves, Stays}
-use Rattle.map_nodes.specs.declared.nodes.removing.Heir.{Heir}
-use Rattle.map_nodes.specs.declared.nodes.removing.Heir.TheVariants as heir
+use Rattle.map_chunks.specs.Shown.{Seen, shown, chunk_rows}
 use Rattle.map_chunks.specs.Wide.{IsWideAt, IsWideChunk}
 
 -- rows without that of a key
 abbrev pub without : Bytes → Rows → Rows
 without key rows = filter (λ r. not (is_eq (slice_cmp nat_cmp key r.0))) rows
-
--- A child with these rows, under its first key, leaves where its one row has the key. Else it stays: under its second
--- key where its first row has the key, and under the key that it has where another row or none has it.
-abbrev pub IsFate : Bytes → Bytes → Rows → Fate → Type 0
-IsFate key first rows Leaves = (first ≡ key) × (second_key rows ≡ None)
-IsFate key first rows (Stays None) = same_text first key ≡ false
-IsFate key first rows (Stays (Some next)) = (first ≡ key) × (second_key rows ≡ Some next)
-
--- a child that leaves has others beside it
-abbrev pub HasOthers : Fate → ℕ → Type 0
-HasOthers Leaves entries = 1 < entries
-HasOthers (Stays first) entries = Unit {0}
-
--- how many children there are then
-abbrev pub AreLeft : Fate → ℕ → ℕ → Type 0
-AreLeft Leaves old new = new + 1 ≡ old
-AreLeft (Stays first) old new = new ≡ old
-
--- whether fewer than two children stay
-abbrev pub gives_way : Fate → ℕ → Bool
-gives_way Leaves entries = nat_le entries 2
-gives_way (Stays first) entries = false
-
--- a child of this depth that shows rows in order, of which some stay
-abbrev pub CanRemove : Contents → ℕ → Bytes → Child → Type 0
-CanRemove contents below key c = IsTree (child_rows contents below c) × HasDepth below c × (0 < length (without key (rows_or (child_rows contents below c))))
-
--- what children show of which there is at most one
-abbrev pub one_shown : Contents → List Child → Option Rows
-one_shown contents [] = Some []
-one_shown contents (c ∷ cs) = kid_shown contents c
-
--- what stands in the place of a root with at most this one child: it shows what the child shows, and is wide
-abbrev pub IsHeir : Contents → Contents → List Child → Heir → Type 0
-IsHeir old new kids (heir.Placed at) = IsEnd new (one_shown old kids) at
-IsHeir old new kids (heir.Own n) = (shown new n.pieces ≡ one_shown old kids) × IsWideChunk n × (n.fresh ≤ kids_fresh kids + 1)
-
--- a placed heir changes no child
-abbrev pub KeptBy : List Child → List Child → Heir → Type 0
-KeptBy old new (heir.Placed at) = new ≡ old
-KeptBy old new (heir.Own n) = Unit {0}
 
 -- what a root shows: a placed chunk, if there is one, else the draft's
 abbrev pub root_rows : Contents → Seen → Option Ref → Option Rows
@@ -76,58 +25,12 @@ abbrev pub IsWideRoot : Contents → Seen → Option Ref → Type 0
 IsWideRoot contents n None = IsWideChunk n
 IsWideRoot contents n (Some at) = IsWideAt contents (stamp_of at)
 
--- the placed chunk that stands in a root's place, or those that the draft's own names
-abbrev pub heir_places : Heir → List Ref
-heir_places (heir.Placed at) = at ∷ []
-heir_places (heir.Own n) = places_of n.pieces
-
--- what an inner root shows once a key is removed: what its heir shows, if it has one, else its children
-abbrev pub left_rows : Contents → ℕ → List Bytes → List Child → Option Heir → Option Rows
-left_rows contents depth keys kids None = shown contents (kids_pieces (depth - 1) (paired keys kids))
-left_rows contents depth keys kids (Some (heir.Placed at)) = chunk_rows contents (stamp_of at)
-left_rows contents depth keys kids (Some (heir.Own n)) = shown contents n.pieces
-
--- how many own chunks it is then
-abbrev pub left_fresh : List Child → Option Heir → ℕ
-left_fresh kids None = kids_fresh kids + 1
-left_fresh kids (Some (heir.Placed at)) = kids_fresh kids + 1
-left_fresh kids (Some (heir.Own n)) = n.fresh
-
--- an heir is wide, and a root that has none stays so
-abbrev pub IsWideLeft : Contents → ℕ → ℕ → Option Heir → Type 0
-IsWideLeft contents old new None = 1 < old → 1 < new
-IsWideLeft contents old new (Some (heir.Placed at)) = IsWideAt contents (stamp_of at)
-IsWideLeft contents old new (Some (heir.Own n)) = IsWideChunk n
-
--- the placed chunks that are named then
-abbrev pub left_places : List Child → Option Heir → List Ref
-left_places kids None = kids_places kids
-left_places kids (Some h) = heir_places h
-
--- a placed chunk, if there is one
-abbrev pub end_places : Option Ref → List Ref
-end_places None = []
-end_places (Some at) = at ∷ []
-
 -- the placed chunks that a root names: itself, if it is placed, else those that the draft's own names
 abbrev pub root_left : Seen → Option Ref → List Ref
 root_left n None = places_of n.pieces
 root_left n (Some at) = at ∷ []
 
--- the first child, if there is one, is so deep, and shows rows
-abbrev pub IsFirstAt : Contents → ℕ → List Child → Type 0
-IsFirstAt contents below [] = Unit {0}
-IsFirstAt contents below (c ∷ cs) = HasDepth below c × IsSome (child_rows contents below c)
-
--- what stands in a root's place is at most so deep
-abbrev pub IsLowHeir : Contents → ℕ → Heir → Type 0
-IsLowHeir contents depth (heir.Placed at) = IsNoDeeper contents depth at
-IsLowHeir contents depth (heir.Own n) = n.depth ≤ depth
-
-abbrev pub IfLowHeir : Contents → ℕ → Option Heir → Type 0
-IfLowHeir contents depth None = Unit {0}
-IfLowHeir contents depth (Some h) = IsLowHeir contents depth h
-
+-- a root is at most so deep
 abbrev pub IsLowRoot : Contents → ℕ → Seen → Option Ref → Type 0
 IsLowRoot contents depth n None = n.depth ≤ depth
 IsLowRoot contents depth n (Some at) = IsNoDeeper contents depth at

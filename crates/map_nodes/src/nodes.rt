@@ -64,7 +64,7 @@ impl Model for Node {
 
     ghost size = { λ s. s.height };
 
-    ghost use Rattle.map_nodes.specs.Falls.{deep-body};
+    ghost use Rattle.map_nodes.specs.Inside.Falls.{deep-body};
 
     ghost size_decreases = { λ a h. deep-body a.body };
 }

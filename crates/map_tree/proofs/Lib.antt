@@ -3,3 +3,4 @@ pub mod PlaceLemmas
 pub mod RootCounts
 pub mod SeekLemmas
 pub mod WriteLemmas
+pub mod BelowLemmas

@@ -3,3 +3,4 @@ pub mod NewestLemmas
 pub mod HeadLemmas
 pub mod RunLemmas
 pub mod CallLemmas
+pub mod BelowLemmas

@@ -31,7 +31,7 @@ pub fn mutated<M: Mutators>(
     mutation: Mutation,
 ) -> Result<Ref, Refusal>
     requires behind { draft.old.first ≡ length nodes.now }
-    requires map { IsSome (map_at (staged nodes.now draft.old.nodes) (stamp_of tip.root)) }
+    requires tip { (s : State) × IsTip M.means (staged nodes.now draft.old.nodes) tip s }
     ensures ok { (s : State) → IsTip M.means (staged nodes.now draft.old.nodes) tip s → s.closed ≡ false → IfOk result (λ at. (by_meaning (meaning_of M.means mutation (view_of M.means s)) mutation.id ≡ Ok mutation.id) × Spells M.means (staged nodes.now draft.new.nodes) (stamp_of at) (after_mutate s mutation)) }
     ensures err { (s : State) → IsTip M.means (staged nodes.now draft.old.nodes) tip s → IfErr result (λ e. RefusesOrStamps e (by_meaning (meaning_of M.means mutation (view_of M.means s)) mutation.id)) }
     ensures first { draft.new.first ≡ draft.old.first }
@@ -76,7 +76,7 @@ fn replay_one<M: Mutators>(
     mutation: &Mutation,
 ) -> Result<Tip, Refusal>
     requires behind { draft.old.first ≡ length nodes.now }
-    requires map { IsSome (map_at (staged nodes.now draft.old.nodes) (stamp_of tip.root)) }
+    requires tip { (s : State) × IsTip M.means (staged nodes.now draft.old.nodes) tip s }
     ensures tip { (s : State) → IsTip M.means (staged nodes.now draft.old.nodes) tip s → s.closed ≡ false → IfOk result (λ after. IsTip M.means (staged nodes.now draft.new.nodes) after (after_mutate s mutation.now)) }
     ensures first { draft.new.first ≡ draft.old.first }
     ensures err { IfErr result (λ e. (e ≡ NoMemory) ⊎ (e ≡ Stamps)) }

@@ -2,7 +2,7 @@
 //!
 //! A commit's map is drafted before the commit itself. Both are told as a `Tip`, from which the next
 //! commit goes on.
-ghost use Rattle.std.specs.Prelude.{◌≡◌, ◌⊎◌, [], false, length, Some, IfOk, IfErr};
+ghost use Rattle.std.specs.Prelude.{◌≡◌, ◌⊎◌, ◌+◌, [], ◌∷◌, false, length, Some, IfOk, IfErr};
 ghost use Rattle.std.specs.FinMap as finite;
 ghost use mathlib.Core.List.{IsPrefix};
 ghost use Rattle.group_history.specs.Cookies.{null_cookie};
@@ -13,8 +13,9 @@ ghost use Rattle.group_history.specs.Refs.{stamp_of};
 ghost use Rattle.group_history.specs.Spelling.{Contents, Version, version_at, snapshot_at, map_at, stepped};
 ghost use Rattle.group_history.specs.State.{opening, pulled_state};
 ghost use Rattle.group_history.specs.declared.refusals.Refusal.TheVariants.{NoMemory, Stamps};
+ghost use Rattle.map_chunks.specs.Drafts.{AreBelow};
 ghost use Rattle.map_chunks.specs.Places.{with_nodes};
-ghost use Rattle.map_tree.specs.Trees.{tree_map};
+ghost use Rattle.map_tree.specs.Trees.{tree_map, tree_places};
 ghost use Rattle.rebase.specs.Inside.Chaining.{HasTip};
 
 use group_history::{
@@ -36,6 +37,7 @@ pub struct Tip {
 
 // Drafts a commit over a basis, with the map of this root.
 fn add_over(draft: &mut Draft, basis: Tip, root: Ref, step: Step) -> Result<Tip, Refusal>
+    requires below { AreBelow (draft.old.first + length draft.old.nodes) (root ∷ basis.commit ∷ basis.snapshot ∷ []) }
     ensures spelled { (contents : Contents) (v : Version) (m : Entries) → length contents ≡ draft.old.first → version_at (with_nodes contents draft.old.nodes) (stamp_of basis.commit) ≡ Some v → snapshot_at (with_nodes contents draft.old.nodes) (stamp_of basis.commit) ≡ Some (stamp_of basis.snapshot) → v.state.closed ≡ false → map_at (with_nodes contents draft.old.nodes) (stamp_of root) ≡ Some m → IfOk result (λ tip. HasTip (with_nodes contents draft.new.nodes) tip (record { state = stepped v.state step; read = m })) }
     ensures first { draft.new.first ≡ draft.old.first }
     ensures grown { IsPrefix draft.old.nodes draft.new.nodes }
@@ -66,6 +68,8 @@ pub fn add_local(
     basis: Tip,
     mutation: Mutation,
 ) -> Result<Tip, Refusal>
+    requires map { AreBelow (draft.old.first + length draft.old.nodes) (tree_places tree) }
+    requires chain { AreBelow (draft.old.first + length draft.old.nodes) (basis.commit ∷ basis.snapshot ∷ []) }
     ensures spelled { (contents : Contents) (v : Version) (m : Entries) → length contents ≡ draft.old.first → version_at (with_nodes contents draft.old.nodes) (stamp_of basis.commit) ≡ Some v → snapshot_at (with_nodes contents draft.old.nodes) (stamp_of basis.commit) ≡ Some (stamp_of basis.snapshot) → v.state.closed ≡ false → tree_map (with_nodes contents draft.old.nodes) tree ≡ Some m → IfOk result (λ tip. HasTip (with_nodes contents draft.new.nodes) tip (record { state = after_mutate v.state mutation; read = m })) }
     ensures first { draft.new.first ≡ draft.old.first }
     ensures grown { IsPrefix draft.old.nodes draft.new.nodes }
@@ -78,6 +82,7 @@ pub fn add_local(
 
 /// Drafts a commit that closes the group. It has the map of its basis.
 pub fn add_closing(draft: &mut Draft, basis: Tip) -> Result<Ref, Refusal>
+    requires below { AreBelow (draft.old.first + length draft.old.nodes) (basis.root ∷ basis.commit ∷ basis.snapshot ∷ []) }
     ensures spelled { (contents : Contents) (v : Version) → length contents ≡ draft.old.first → HasTip (with_nodes contents draft.old.nodes) basis v → v.state.closed ≡ false → IfOk result (λ at. version_at (with_nodes contents draft.new.nodes) (stamp_of at) ≡ Some (record { state = after_closing v.state; read = v.read })) }
     ensures first { draft.new.first ≡ draft.old.first }
     ensures why { IfErr result (λ e. (e ≡ NoMemory) ⊎ (e ≡ Stamps)) }
@@ -94,6 +99,7 @@ pub fn add_snapshot(
     cookie: Cookie,
     confirmed: ConfirmedIds,
 ) -> Result<Tip, Refusal>
+    requires map { AreBelow (draft.old.first + length draft.old.nodes) (tree_places tree) }
     ensures spelled { (contents : Contents) (m : Entries) → length contents ≡ draft.old.first → tree_map (with_nodes contents draft.old.nodes) tree ≡ Some m → IfOk result (λ tip. HasTip (with_nodes contents draft.new.nodes) tip (record { state = pulled_state m cookie confirmed; read = m })) }
     ensures first { draft.new.first ≡ draft.old.first }
     ensures grown { IsPrefix draft.old.nodes draft.new.nodes }

@@ -5,7 +5,7 @@ ghost use Rattle.std.specs.FinMap as finite;
 ghost use Rattle.group_history.specs.Ids.{IdsFollow};
 ghost use Rattle.group_history.specs.Map.{Bytes};
 ghost use Rattle.group_history.specs.Refs.{stamp_of};
-ghost use Rattle.group_history.specs.Naming.{content_of};
+ghost use Rattle.group_history.specs.Naming.{children, content_of};
 ghost use Rattle.group_history.specs.Rows.{AreKeys};
 ghost use Rattle.group_history.specs.Spelling.{Version, version_at};
 ghost use Rattle.group_history.specs.declared.nodes.Chunk.TheVariants as chunk;
@@ -15,6 +15,7 @@ ghost use Rattle.group_history.specs.declared.nodes.Node.TheVariants as node;
 ghost use Rattle.group_history.specs.declared.nodes.Snapshot.{Snapshot as Snapped};
 ghost use Rattle.group_history.specs.declared.mutations.Mutation.{Mutation as Mutated};
 ghost use Rattle.group_history.specs.declared.refs.Ref.{Ref as Reference};
+ghost use Rattle.map_chunks.specs.Drafts.{AreBelow};
 
 use commits::{
     CommitState, VecNodes, closed_of, cookie_of, dropped, last_id_of, read_root, state_of, walk,
@@ -36,6 +37,7 @@ pub(super) fn at(stamp: u64) -> Ref
 }
 
 fn with(alloc: Global, mut nodes: VecNodes, node: Node<Ref>) -> Result<VecNodes, Refusal>
+    requires { AreBelow (length nodes) (children node) }
     ensures { IfOk result (λ after. after ≡ nodes ++ node ∷ []) }
 {
     let mut draft = nodes.draft(alloc);
@@ -62,7 +64,7 @@ fn leaf(alloc: Global, key: &str) -> Result<Node<Ref>, Refusal>
 }
 
 /// An inner chunk of two children, under the keys `a` and `b`.
-fn inner(alloc: Global, left: Ref, right: Ref) -> Result<Node<Ref>, Refusal>
+pub(super) fn inner(alloc: Global, left: Ref, right: Ref) -> Result<Node<Ref>, Refusal>
     ensures { IfOk result (λ n. n ≡ node.Chunk (chunk.Inner ((97 ∷ [], left) ∷ (98 ∷ [], right) ∷ []))) }
 {
     let mut texts = Vec::new(alloc);
@@ -85,6 +87,7 @@ fn snapshot(alloc: Global, id: u64) -> Result<Snapshot, Refusal>
 }
 
 fn with_snapshot(alloc: Global, nodes: VecNodes, id: u64, root: Ref) -> Result<VecNodes, Refusal>
+    requires { stamp_of root < length nodes }
     ensures { IfOk result (λ after. (s : Snapped) × (s.confirmed ≡ finite.insert finite.empty (97 ∷ []) id) × (after ≡ nodes ++ node.Commit (record { root = root; kind = kind.Snapshot s }) ∷ [])) }
 {
     let kind = Kind::Snapshot(snapshot(alloc, id)?);
@@ -109,6 +112,7 @@ fn with_over(
     root: Ref,
     step: Step,
 ) -> Result<VecNodes, Refusal>
+    requires { (stamp_of basis < length nodes) × (stamp_of root < length nodes) × (3 < length nodes) }
     ensures { IfOk result (λ after. (r : Reference) × (stamp_of r ≡ 3) × (after ≡ nodes ++ node.Commit (record { root = root; kind = kind.Over (record { basis = basis; snapshot = r; step = step }) }) ∷ [])) }
 {
     let snapshot = at(3);
@@ -133,6 +137,7 @@ fn with_local(
     basis: Ref,
     root: Ref,
 ) -> Result<VecNodes, Refusal>
+    requires { (stamp_of basis < length nodes) × (stamp_of root < length nodes) × (3 < length nodes) }
     ensures { IfOk result (λ after. (x : Mutated) × (x.client ≡ made.entry.0.now) × (x.id ≡ made.entry.1) × (r : Reference) × (stamp_of r ≡ 3) × (after ≡ nodes ++ node.Commit (record { root = root; kind = kind.Over (record { basis = basis; snapshot = r; step = step.Local x }) }) ∷ [])) }
 {
     let mutation = mutation(alloc, made.0, made.1)?;

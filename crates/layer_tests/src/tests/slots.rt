@@ -18,7 +18,7 @@ use commits::{
     walk,
 };
 use group_history::{Chunk, Commit, Json, Kind, Node, Ref, Refusal, Scan, Start, Stop, Text};
-use map_tree::{Chunks, Draft, Lent, Shelf, ShowsChunk, Tree};
+use map_tree::{Chunks, Lent, Shelf, ShowsChunk, Tree};
 use std::alloc::Global;
 use std::prelude::*;
 
@@ -280,23 +280,20 @@ fn scan_all(alloc: Global) -> Result<Scan, Refusal> {
     })
 }
 
-/// The map of both leaves, with `a` replaced or removed, and how many nodes its draft has whose children are
-/// named by their slots, or by the draft.
-fn changed_named<C: Chunks>(
+/// How many nodes the draft of the map of both leaves has, once `a` is replaced, whose children are named by
+/// their slots, or by the draft.
+fn changed_named(
     alloc: Global,
-    chunks: &mut C,
+    chunks: &mut Homed<'_>,
     root: Ref,
-    value: Option<&Json>,
+    value: &Json,
 ) -> Result<usize, Refusal>
-    requires known { IsSome (map_at (C.contents chunks.old) (stamp_of root)) }
-    requires place { C.places chunks.old root }
+    requires known { IsSome (map_at (map content_of chunks.old.shelf.nodes.now) (stamp_of root)) }
+    requires place { IsHome root }
 {
     let mut tree = Tree::at(root);
-    match value {
-        Some(value) => tree.put(alloc, chunks, "a", value)?,
-        None => tree.del(alloc, chunks, "a")?,
-    }
-    let mut draft = Draft::new(alloc, 50);
+    tree.put(alloc, chunks, "a", value)?;
+    let mut draft = chunks.shelf.nodes.draft(alloc);
     let _ = tree.freeze(alloc, &mut draft)?;
     Ok(named(draft.nodes()))
 }
@@ -320,7 +317,7 @@ fn is_named(node: &Node<Ref>) -> bool {
 
 fn are_named(ats: &[Ref]) -> bool {
     for at in ats {
-        if !is_home(*at) && (at.slot() != 0 || at.stamp() < 50) {
+        if !is_home(*at) && (at.slot() != 0 || at.stamp() < 3) {
             return false;
         }
     }
@@ -332,7 +329,7 @@ fn both_told(alloc: Global) -> Result<((u64, usize, bool), usize), Refusal> {
     let nodes = chunks(alloc)?;
     let two = Json::read(alloc, "2".as_bytes())?;
     let told = tree_told(alloc, &nodes, home(2))?;
-    let named = changed_named(alloc, &mut by_slots(&nodes), home(2), Some(&two))?;
+    let named = changed_named(alloc, &mut by_slots(&nodes), home(2), &two)?;
     Ok((told, named))
 }
 

@@ -8,7 +8,7 @@ ghost use Rattle.map_tree.specs.Trees.{tree_map};
 
 use super::maps::{grown, json, key_of, placed};
 use group_history::{Chunk, Json, Node, Ref, Refusal, Scan, Start, Text};
-use map_tree::{Chunks, Draft, Shelf, Staged, Tree, VecChunks};
+use map_tree::{Chunks, Shelf, Staged, Tree, VecChunks};
 use std::alloc::Global;
 use std::prelude::*;
 
@@ -35,7 +35,9 @@ fn keys_at(nodes: &[Node<Ref>], place: usize) -> usize {
 }
 
 /// Those of a tree that is frozen.
-fn frozen_kinds(alloc: Global, nodes: &VecChunks, tree: Tree) -> Result<(usize, usize), Refusal> {
+fn frozen_kinds(alloc: Global, nodes: &VecChunks, tree: Tree) -> Result<(usize, usize), Refusal>
+    requires { IsSome (tree_map (map content_of nodes.now) tree) }
+{
     let mut draft = nodes.draft(alloc);
     let _ = tree.freeze(alloc, &mut draft)?;
     Ok(kinds(draft.nodes()))
@@ -48,15 +50,16 @@ fn shape(alloc: Global, digits: usize, count: u64) -> Result<(u64, u64, usize, u
     let tree = grown(alloc, &mut chunks, digits, count)?;
     let depth = tree.depth(&mut chunks)?;
     let fresh = tree.new_chunks();
-    let (leaves, inners) = frozen_kinds(alloc, &nodes, tree)?;
+    let (leaves, inners) = frozen_kinds(alloc, chunks.nodes, tree)?;
     Ok((depth, fresh, leaves, inners))
 }
 
 /// How many keys the first two leaves of the map of k01 to k17 have.
 fn first_leaves(alloc: Global) -> Result<(usize, usize), Refusal> {
     let nodes = VecChunks::new(alloc);
-    let tree = grown(alloc, &mut nodes.shelf(), 2, 17)?;
-    let mut draft = nodes.draft(alloc);
+    let mut chunks = nodes.shelf();
+    let tree = grown(alloc, &mut chunks, 2, 17)?;
+    let mut draft = chunks.nodes.draft(alloc);
     let _ = tree.freeze(alloc, &mut draft)?;
     Ok((keys_at(draft.nodes(), 0), keys_at(draft.nodes(), 1)))
 }
@@ -299,9 +302,7 @@ fn new_after_del(
 {
     let mut tree = Tree::at(root);
     tree.del(alloc, chunks, key)?;
-    let mut made = Draft::new(alloc, 0);
-    let _ = tree.freeze(alloc, &mut made)?;
-    Ok(made.len())
+    Ok(tree.new_chunks())
 }
 
 /// The same of the placed map of k01 to k17, and whether that map still has its first key.

@@ -4,7 +4,7 @@ ghost use Rattle.std.specs.Prelude.{◌≡◌, ◌⊎◌, [], length, map, Some,
 ghost use Rattle.group_history.specs.Refs.{stamp_of};
 ghost use Rattle.group_history.specs.Spelling.{rows_at};
 ghost use Rattle.group_history.specs.declared.mutators.Stop.TheVariants.{NoMemory};
-ghost use Rattle.map_nodes.specs.Copies.{MayBeDeep, IsCopy};
+ghost use Rattle.map_nodes.specs.Inside.Copies.{MayBeDeep, IsCopy};
 ghost use Rattle.map_chunks.specs.Places.{Grows, AreKept, places_of};
 ghost use Rattle.map_chunks.specs.Shown.{shown};
 ghost use Rattle.map_chunks.specs.Wide.{IsWideAt, IsWideChunk};

@@ -5,8 +5,9 @@ ghost use Rattle.group_history.specs.Refs.{stamps, stamp_of, slot_of};
 ghost use Rattle.group_history.specs.Rows.{Rows};
 ghost use Rattle.group_history.specs.Spelling.{Contents, rows_at};
 ghost use Rattle.group_history.specs.declared.refusals.Refusal.TheVariants as refusal;
+ghost use Rattle.map_chunks.specs.Drafts.{AreBelow};
 ghost use Rattle.map_chunks.specs.Places.{with_nodes, places_of, IsNamed, AreNamed, AddsNamed};
-ghost use Rattle.map_nodes.specs.Freezing.{IsFrozen, AreFrozen, child_places, kids_places};
+ghost use Rattle.map_nodes.specs.Inside.Freezing.{IsFrozen, AreFrozen, child_places, kids_places};
 ghost use Rattle.map_nodes.specs.Nodes.{child_fresh, kids_fresh};
 ghost use Rattle.map_chunks.specs.Shown.{shown};
 ghost use Rattle.map_chunks.specs.Wide.{IsWideAt};
@@ -19,10 +20,12 @@ use std::alloc::Global;
 /// Appends the chunk and those that it owns to the draft, all or none, and answers its root's name.
 /// Refused for want of memory, or with Stamps where the nodes would have stamps from `STAMPS` on.
 pub fn frozen(alloc: Global, node: Node, draft: &mut Draft) -> Result<Ref, Refusal>
+    requires below { AreBelow (draft.old.first + length draft.old.nodes) (places_of node.pieces) }
     ensures spelled { (contents : Contents) (rows : Rows) → length contents ≡ draft.old.first → shown (with_nodes contents draft.old.nodes) node.pieces ≡ Some rows → IfOk result (λ root. rows_at (with_nodes contents draft.new.nodes) node.depth (stamp_of root) ≡ Some rows) }
     ensures wide { (contents : Contents) → length contents ≡ draft.old.first → 1 < node.entries → IfOk result (λ root. IsWideAt (with_nodes contents draft.new.nodes) (stamp_of root)) }
     ensures named { OnOk result (AddsNamed draft.old.first (places_of node.pieces) draft.old.nodes draft.new.nodes) }
     ensures drafted { IfOk result (λ at. (draft.old.first ≤ stamp_of at) × (slot_of at ≡ 0)) }
+    ensures below { IfOk result (λ at. stamp_of at < draft.new.first + length draft.new.nodes) }
     ensures count { OnOk result (length draft.new.nodes ≡ length draft.old.nodes + node.fresh) }
     ensures first { draft.new.first ≡ draft.old.first }
     ensures grown { IsPrefix draft.old.nodes draft.new.nodes }
@@ -46,10 +49,12 @@ impl Node {
     /// keep their names. A refusal leaves what was appended so far.
     #[cycle(freezing)]
     fn freeze(self, alloc: Global, draft: &mut Draft) -> Result<Ref, Refusal>
+        requires below { AreBelow (draft.old.first + length draft.old.nodes) (places_of self.pieces) }
         ensures spelled { (contents : Contents) (rows : Rows) → length contents ≡ draft.old.first → shown (with_nodes contents draft.old.nodes) self.pieces ≡ Some rows → IfOk result (λ root. rows_at (with_nodes contents draft.new.nodes) self.depth (stamp_of root) ≡ Some rows) }
         ensures wide { (contents : Contents) → length contents ≡ draft.old.first → 1 < self.entries → IfOk result (λ root. IsWideAt (with_nodes contents draft.new.nodes) (stamp_of root)) }
         ensures named { OnOk result (AddsNamed draft.old.first (places_of self.pieces) draft.old.nodes draft.new.nodes) }
         ensures drafted { IfOk result (λ at. (draft.old.first ≤ stamp_of at) × (slot_of at ≡ 0)) }
+        ensures below { IfOk result (λ at. stamp_of at < draft.new.first + length draft.new.nodes) }
         ensures count { OnOk result (length draft.new.nodes ≡ length draft.old.nodes + self.fresh) }
         ensures bound { OnErr result (length draft.new.nodes < length draft.old.nodes + self.fresh) }
         ensures first { draft.new.first ≡ draft.old.first }
@@ -78,9 +83,11 @@ impl Node {
 
 #[cycle(freezing)]
 fn freeze_kids(alloc: Global, kids: Vec<Child>, draft: &mut Draft) -> Result<Vec<Ref>, Refusal>
+    requires below { AreBelow (draft.old.first + length draft.old.nodes) (kids_places kids.items) }
     ensures frozen { IfOk result (λ ats. AreFrozen draft.old.first draft.old.nodes draft.new.nodes kids.items ats.items) }
     ensures named { OnOk result (AddsNamed draft.old.first (kids_places kids.items) draft.old.nodes draft.new.nodes) }
     ensures names { IfOk result (λ ats. AreNamed draft.old.first (kids_places kids.items) ats.items) }
+    ensures below { IfOk result (λ ats. AreBelow (draft.new.first + length draft.new.nodes) ats.items) }
     ensures count { OnOk result (length draft.new.nodes ≡ length draft.old.nodes + kids_fresh kids.items) }
     ensures bound { OnErr result (length draft.new.nodes ≤ length draft.old.nodes + kids_fresh kids.items) }
     ensures first { draft.new.first ≡ draft.old.first }
@@ -97,9 +104,11 @@ fn freeze_kids(alloc: Global, kids: Vec<Child>, draft: &mut Draft) -> Result<Vec
 
 #[cycle(freezing)]
 fn freeze_kid(alloc: Global, kid: Child, draft: &mut Draft) -> Result<Ref, Refusal>
+    requires below { AreBelow (draft.old.first + length draft.old.nodes) (child_places kid) }
     ensures frozen { IfOk result (IsFrozen draft.old.first draft.old.nodes draft.new.nodes kid) }
     ensures named { OnOk result (AddsNamed draft.old.first (child_places kid) draft.old.nodes draft.new.nodes) }
     ensures name { IfOk result (IsNamed draft.old.first (child_places kid)) }
+    ensures below { IfOk result (λ at. stamp_of at < draft.new.first + length draft.new.nodes) }
     ensures count { OnOk result (length draft.new.nodes ≡ length draft.old.nodes + child_fresh kid) }
     ensures bound { OnErr result (length draft.new.nodes ≤ length draft.old.nodes + child_fresh kid) }
     ensures first { draft.new.first ≡ draft.old.first }

@@ -3,10 +3,10 @@ ghost use Rattle.std.specs.Prelude.{◌≡◌, ◌⊎◌, length, T, IfErr, OnOk
 ghost use Rattle.group_history.specs.Rows.{rises, paired};
 ghost use Rattle.group_history.specs.declared.mutators.Stop.TheVariants.{NoMemory};
 ghost use Rattle.map_chunks.specs.Places.{Grows, AreAll, places_of};
-ghost use Rattle.map_nodes.specs.Freezing.{child_places, kids_places};
+ghost use Rattle.map_nodes.specs.Inside.Freezing.{child_places, kids_places};
 ghost use Rattle.map_chunks.specs.Shown.{shown, IsTree, rows_or};
 ghost use Rattle.map_chunks.specs.Scanning.{with_scanned, IsWithin, IsLow};
-ghost use Rattle.map_nodes.specs.Scanning.{kid_shown, kids_shown};
+ghost use Rattle.map_nodes.specs.Inside.Scanning.{kid_shown, kids_shown};
 
 use super::{Body, Child, Node};
 use group_history::{Json, Scan, Stop, Text};

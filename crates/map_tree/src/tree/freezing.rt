@@ -6,6 +6,7 @@ ghost use Rattle.group_history.specs.Refs.{stamps, stamp_of};
 ghost use Rattle.group_history.specs.declared.refs.Ref.{Ref as Reference};
 ghost use Rattle.group_history.specs.declared.refusals.Refusal.TheVariants as refusal;
 ghost use Rattle.group_history.specs.Spelling.{Contents, map_at};
+ghost use Rattle.map_chunks.specs.Drafts.{AreBelow};
 ghost use Rattle.map_chunks.specs.Places.{with_nodes, IsNamed, AddsNamed};
 ghost use Rattle.map_tree.specs.Trees.{tree_places, tree_map, tree_fresh, tree_root, HasWideRoot};
 ghost use Rattle.map_chunks.specs.Wide.{IsWideAt};
@@ -18,13 +19,16 @@ use std::alloc::Global;
 
 impl Tree {
     /// Appends the chunks that aren't placed to the draft, all or none, and answers the root's name. A
-    /// map whose root is placed adds nothing, keeps its name, and is never refused.
+    /// map whose root is placed adds nothing, keeps its name, and is never refused. What the tree names
+    /// has stamps below the draft's next one, and so has the answer.
     pub fn freeze(self, alloc: Global, draft: &mut Draft) -> Result<Ref, Refusal>
+        requires below { AreBelow (draft.old.first + length draft.old.nodes) (tree_places self) }
         ensures spelled { (contents : Contents) (m : Entries) → length contents ≡ draft.old.first → tree_map (with_nodes contents draft.old.nodes) self ≡ Some m → IfOk result (λ root. map_at (with_nodes contents draft.new.nodes) (stamp_of root) ≡ Some m) }
         ensures wide { (contents : Contents) (m : Entries) → length contents ≡ draft.old.first → tree_map (with_nodes contents draft.old.nodes) self ≡ Some m → HasWideRoot (with_nodes contents draft.old.nodes) self → IfOk result (λ root. IsWideAt (with_nodes contents draft.new.nodes) (stamp_of root)) }
         ensures shared { (at : Reference) → tree_root self ≡ Some at → (result ≡ Ok at) × (draft.new ≡ draft.old) }
         ensures named { OnOk result (AddsNamed draft.old.first (tree_places self) draft.old.nodes draft.new.nodes) }
         ensures name { IfOk result (IsNamed draft.old.first (tree_places self)) }
+        ensures below { IfOk result (λ root. stamp_of root < draft.new.first + length draft.new.nodes) }
         ensures count { OnOk result (length draft.new.nodes ≡ length draft.old.nodes + tree_fresh self) }
         ensures first { draft.new.first ≡ draft.old.first }
         ensures grown { IsPrefix draft.old.nodes draft.new.nodes }

@@ -1,6 +1,6 @@
 use Rattle.std.proofs.Common.{◌≡◌, ◌+◌, ◌∙◌, sym, subst, arith}
 use Rattle.group_history.specs.Refs.{stamp_of}
-use Rattle.map_chunks.specs.Ends.{IsOnlyChild}
+use Rattle.map_chunks.specs.Inside.Ends.{IsOnlyChild}
 use Rattle.map_chunks.specs.Shown.{chunk_rows}
 use Rattle.map_chunks.proofs.AnswerLemmas.{if_ok_so}
 use Rattle.map_chunks.proofs.EndLemmas.{depth-later, no_deeper}

@@ -1,6 +1,6 @@
 use Rattle.std.proofs.Common.{subst, sym, ap, ◌∙◌, Some}
 use Rattle.group_history.specs.Refs.{stamp_of}
-use Rattle.map_chunks.specs.Ends.{only_ref, IsOnlyChild}
+use Rattle.map_chunks.specs.Inside.Ends.{only_ref, IsOnlyChild}
 use Rattle.map_chunks.specs.Shown.{chunk_rows}
 use Rattle.map_chunks.specs.Places.{IfAt}
 use Rattle.map_chunks.proofs.ChildLemmas.{only_at}

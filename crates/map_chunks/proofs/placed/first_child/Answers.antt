@@ -2,7 +2,7 @@ use Rattle.std.proofs.Common.{subst, sym, ap}
 use Rattle.group_history.specs.declared.nodes.Chunk.{Chunk}
 use Rattle.group_history.specs.declared.refs.Ref.{Ref}
 use Rattle.group_history.specs.Refs.{stamp_of}
-use Rattle.map_chunks.specs.Depths.{IsFirst, IsAbove}
+use Rattle.map_chunks.specs.Inside.Depths.{IsFirst, IsAbove}
 use Rattle.map_chunks.specs.Places.{IfAt}
 use Rattle.map_chunks.proofs.ChildLemmas.{first_at}
 use Rattle.map_chunks.proofs.DepthLemmas.{above}

@@ -1,7 +1,7 @@
 use Rattle.std.proofs.Common.{ap, sym, ◌∙◌, length}
 use Rattle.std.specs.Prelude.{◌==◌}
 use Rattle.group_history.specs.Refs.{stamp_of}
-use Rattle.map_chunks.specs.Depths.{has_none}
+use Rattle.map_chunks.specs.Inside.Depths.{has_none}
 use Rattle.map_chunks.specs.Shown.{chunk_rows, rows_or}
 use Rattle.map_chunks.proofs.EmptyLemmas.{none_placed}
 use Rattle.map_chunks.proofs.OpenLemmas.{spells_rows, segment-kept}

@@ -3,8 +3,8 @@ use Rattle.group_history.specs.declared.nodes.Chunk.{Chunk}
 use Rattle.group_history.specs.declared.refs.Ref.{Ref}
 use Rattle.group_history.specs.Refs.{stamp_of}
 use Rattle.map_chunks.specs.Shown.{chunk_rows, rows_or}
-use Rattle.map_chunks.specs.Steps.{IsStep, Leads}
-use Rattle.map_chunks.specs.Steps.{IsStepAt}
+use Rattle.map_chunks.specs.Inside.Steps.{IsStep, Leads}
+use Rattle.map_chunks.specs.Inside.Steps.{IsStepAt}
 use Rattle.map_chunks.proofs.ChildLemmas.{step_at}
 use Rattle.map_chunks.proofs.RowLemmas.{IsStrict}
 use Rattle.map_chunks.proofs.OpenLemmas.{leads, known, spells_rows, segment-kept}

@@ -9,7 +9,8 @@ use Rattle.std.proofs.lemmas.List.Elements.{Contains-get_or}
 use Rattle.group_history.specs.Naming.{chunk_children}
 use Rattle.map_chunks.specs.Places.{AreAll}
 use Rattle.map_chunks.proofs.KeptLemmas.{grows_on}
-use Rattle.map_chunks.specs.Scanning.{is_over, with_scanned, opened_rows, children_rows}
+use Rattle.map_chunks.specs.Scanning.{is_over, with_scanned}
+use Rattle.map_chunks.specs.Inside.Scanning.{opened_rows, children_rows}
 use Rattle.map_chunks.specs.Shown.{IsTree, rows_or, chunk_rows}
 use Rattle.map_chunks.proofs.OpenLemmas.{known, tree_of}
 use Rattle.map_chunks.proofs.SearchLemmas.{length-keys_of, length-values_of}

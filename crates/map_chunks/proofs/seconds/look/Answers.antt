@@ -2,9 +2,9 @@ use Rattle.std.proofs.Common.{subst, sym, ap, ◌∙◌}
 use Rattle.group_history.specs.declared.nodes.Chunk.{Chunk}
 use Rattle.group_history.specs.declared.refs.Ref.{Ref}
 use Rattle.group_history.specs.Refs.{stamp_of}
-use Rattle.map_chunks.specs.SecondKeys.{IsSecondStep, LeadsToSecond}
+use Rattle.map_chunks.specs.Inside.SecondKeys.{IsSecondStep, LeadsToSecond}
 use Rattle.map_chunks.specs.Shown.{chunk_rows, rows_or}
-use Rattle.map_chunks.specs.SecondKeys.{IsSecondAt}
+use Rattle.map_chunks.specs.Inside.SecondKeys.{IsSecondAt}
 use Rattle.map_chunks.proofs.ChildLemmas.{second_at}
 use Rattle.map_chunks.proofs.OpenLemmas.{spells_rows, segment-kept}
 use Rattle.map_chunks.proofs.SecondLemmas.{leads_second}

@@ -4,9 +4,10 @@ use Rattle.group_history.specs.declared.nodes.Chunk.{Chunk}
 use Rattle.group_history.specs.declared.refs.Ref.{Ref}
 use Rattle.group_history.specs.Refs.{stamp_of}
 use Rattle.group_history.specs.Spelling.{Segment}
-use Rattle.map_chunks.specs.Seeking.{chunk_depth, IsHint, Hints}
+use Rattle.map_chunks.specs.Seeking.{chunk_depth}
+use Rattle.map_chunks.specs.Inside.Seeking.{IsHint, Hints}
 use Rattle.map_chunks.specs.Shown.{chunk_rows, rows_or}
-use Rattle.map_chunks.specs.Seeking.{IsHintAt}
+use Rattle.map_chunks.specs.Inside.Seeking.{IsHintAt}
 use Rattle.map_chunks.proofs.ChildLemmas.{hint_at}
 use Rattle.map_chunks.proofs.RowLemmas.{IsStrict}
 use Rattle.map_chunks.proofs.OpenLemmas.{known, spells_rows, segment-kept}

@@ -5,7 +5,8 @@ use Rattle.group_history.specs.declared.refs.Ref.{Ref}
 use Rattle.group_history.specs.Rows.{Rows, paired, keys_of, values_of}
 use Rattle.group_history.proofs.Pairs.{paired-parts}
 use Rattle.map_chunks.specs.Search.{IsPlace}
-use Rattle.map_chunks.specs.Seeking.{stands_in, IsHint}
+use Rattle.map_chunks.specs.Seeking.{stands_in}
+use Rattle.map_chunks.specs.Inside.Seeking.{IsHint}
 use Rattle.map_chunks.specs.declared.looks.Hint.TheVariants.{Stands, On}
 use Rattle.map_chunks.proofs.SearchLemmas.{got, length-values_of, length-keys_of}
 use Rattle.map_chunks.proofs.seeking.hint_of.Goals as goal

@@ -8,7 +8,7 @@ use Rattle.std.specs.Vec.Iter.{into_iter_items}
 use Rattle.group_history.specs.Spelling.{Contents, rows_at, joined_rows}
 use Rattle.group_history.proofs.Lists.{prefix_trans, one_here, no_element}
 use Rattle.map_chunks.specs.Places.{with_nodes, places_of, IsNamed, AreNamed, AddsNamed}
-use Rattle.map_nodes.specs.Freezing.{IsFrozen, AreFrozen, child_places, kids_places}
+use Rattle.map_nodes.specs.Inside.Freezing.{IsFrozen, AreFrozen, child_places, kids_places}
 use Rattle.map_nodes.specs.Nodes.{body_pieces, body_height, child_height, child_fresh, kids_fresh, kids_height, IsNode}
 use Rattle.map_chunks.specs.Shown.{Seen, shown}
 use Rattle.map_nodes.specs.declared.nodes.Body.TheVariants.{Leaf, Inner}
@@ -20,6 +20,9 @@ use Rattle.map_nodes.proofs.WideLemmas.{pushed_at, wide_node, wide_inner}
 use Rattle.map_nodes.proofs.FreezeLemmas.{if_ok, err_so, own_frozen, leaf_pushed, inner_pushed, all-spelled, frozen-length, frozen-sooner, all-later, all-one, fresh-one, fresh-within, high-within}
 use Rattle.std.specs.List.{Contains}
 use Rattle.map_chunks.proofs.AnswerLemmas.{on_ok}
+use Rattle.map_chunks.specs.Drafts.{AreBelow}
+use Rattle.map_chunks.proofs.DraftLemmas.{pushed-below}
+use Rattle.map_nodes.proofs.BelowLemmas.{kid-below, below-one, inner-below}
 use Rattle.map_nodes.proofs.NamedLemmas.{adds-none, adds-one, kid-added, kid-named, places-kids, inner-named, drafted-named}
 use Rattle.map_nodes.proofs.nodes.+freezing.Goals as goal
 use Rattle.map_chunks.proofs.ListLemmas.{length-paired}
@@ -40,7 +43,25 @@ Node::freeze-returns-in-Leaf-clause-spelled t c contents rows l h =
 pub Node::freeze-freeze_kids-requires : goal.Node::freeze-freeze_kids-requires
 Node::freeze-freeze_kids-requires t c =
     let high : body_height (Inner c.in-Inner.kids) ≡ c.args.self.height = ap body_height (sym c.in-Inner.is) ∙ ap (λ (s : Seen). s.height) c.self.view_is in
-    (omega (arith, high, c.decreases), tt)
+    let depth = c.self.inside.depth in
+    let texts = c.self.inside.keys.texts in
+    let kids = c.in-Inner.kids.items in
+    let inv : IsNode depth texts (Inner c.in-Inner.kids) = subst (IsNode depth texts) c.in-Inner.is c.self.invariant in
+    let pieces = ap (body_pieces depth texts) (sym c.in-Inner.is) ∙ ap (λ (s : Seen). s.pieces) c.self.view_is in
+    let places : places_of c.args.self.pieces ≡ kids_places kids = ap places_of (sym pieces) ∙ places-kids (depth - 1) texts kids inv.1.2 in
+    (omega (arith, high, c.decreases), subst (AreBelow (c.args.draft.now.first + length c.args.draft.now.nodes)) places c.requires.below)
+
+pub Node::freeze-push-requires-in-Inner : goal.Node::freeze-push-requires-in-Inner
+Node::freeze-push-requires-in-Inner t c =
+    let depth = c.self.inside.depth in
+    let texts = c.self.inside.keys.texts in
+    let kids = c.in-Inner.kids.items in
+    let ats = c.in_ok-children-in-Inner.children.items in
+    let inv : IsNode depth texts (Inner c.in-Inner.kids) = subst (IsNode depth texts) c.in-Inner.is c.self.invariant in
+    let inner : c.new-inner.result ≡ paired texts ats = c.new-inner.ensures ∙ ap (λ w. paired w ats) c.in_ok-keys.ensures in
+    let long : length ats ≡ length texts = frozen-length _ _ _ kids ats c.in_ok-children-in-Inner.ensures.frozen ∙ inv.1.2 in
+    let drafted = c.freeze_kids.new.draft in
+    record { children = inner-below (drafted.first + length drafted.nodes) texts ats c.new-inner.result long inner c.in_ok-children-in-Inner.ensures.below }
 
 pub Node::freeze-new-inner-requires-clause-children : goal.Node::freeze-new-inner-requires-clause-children
 Node::freeze-new-inner-requires-clause-children t c =
@@ -79,7 +100,10 @@ freezing::freeze_kids-freeze_kid-requires t c =
     let w : c.args.kids.items ≡ c.loop-kid.yielded ++ (c.in-Some.kid ∷ into_iter_items c.next.new.self) = c.loop-kid.invariant.whole ∙ ap (λ w. c.loop-kid.yielded ++ w) c.in-Some.ensures.steps.0 in
     let high : child_height c.in-Some.kid ≤ kids_height c.args.kids.items =
     subst (λ w. child_height c.in-Some.kid ≤ kids_height w) (sym w) (high-within c.loop-kid.yielded c.in-Some.kid (into_iter_items c.next.new.self)) in
-    (omega (arith, high, c.decreases), tt)
+    let more : c.args.draft.now.first + length c.args.draft.now.nodes ≤ c.loop-kid.draft.first + length c.loop-kid.draft.nodes = omega (arith, c.loop-kid.invariant.first, c.loop-kid.invariant.count) in (
+      omega (arith, high, c.decreases),
+      kid-below (c.args.draft.now.first + length c.args.draft.now.nodes) (c.loop-kid.draft.first + length c.loop-kid.draft.nodes) c.args.kids.items c.loop-kid.yielded (into_iter_items c.next.new.self) c.in-Some.kid w more c.requires.below,
+    )
 
 pub freezing::freeze_kids-returns-in_err-at-clause-bound : goal.freezing::freeze_kids-returns-in_err-at-clause-bound
 freezing::freeze_kids-returns-in_err-at-clause-bound t c =
@@ -116,6 +140,8 @@ freezing::freeze_kids-loop-kid-preserved t c =
           (all-one first old new done c.loop-kid.children.items kid c.in_ok-at.at (all-later first old mid new done c.loop-kid.children.items c.freeze_kid.ensures.grown c.loop-kid.invariant.frozen)
           (frozen-sooner first old mid new kid c.in_ok-at.at c.loop-kid.invariant.grown this));
       named = kid-added first done kid old mid new c.loop-kid.invariant.named (subst (λ n. AddsNamed n (child_places kid) mid new) c.loop-kid.invariant.first c.in_ok-at.ensures.named);
+      below = subst (AreBelow (c.freeze_kid.new.draft.first + length new)) (sym c.in_ok-push.ensures.items)
+          (below-one (c.loop-kid.draft.first + length mid) (c.freeze_kid.new.draft.first + length new) c.loop-kid.children.items c.in_ok-at.at (omega (arith, c.freeze_kid.ensures.first, c.in_ok-at.ensures.count)) c.loop-kid.invariant.below c.in_ok-at.ensures.below);
       names = subst (AreNamed first (kids_places (done ++ kid ∷ []))) (sym c.in_ok-push.ensures.items)
           (kid-named first done kid c.loop-kid.children.items c.in_ok-at.at c.loop-kid.invariant.names (subst (λ n. IsNamed n (child_places kid) c.in_ok-at.at) c.loop-kid.invariant.first c.in_ok-at.ensures.name));
     }
@@ -190,3 +216,14 @@ freezing::freeze_kid-returns-in-Own-clause-named t c =
 
 pub freezing::freeze_kid-returns-in-Own-clause-name : goal.freezing::freeze_kid-returns-in-Own-clause-name
 freezing::freeze_kid-returns-in-Own-clause-name t c = drafted-named c.args.draft.now.first (child_places c.args.kid) c.freeze.result c.freeze.ensures.drafted
+
+pub Node::freeze-returns-in-Leaf-clause-below : goal.Node::freeze-returns-in-Leaf-clause-below
+Node::freeze-returns-in-Leaf-clause-below t c =
+    if_ok c.push.result c.push.ensures.stamp c.push.ensures.ok (λ at k o. pushed-below c.args.draft.now c.push.new.self (node.Chunk (chunked.Leaf c.new-leaf.result)) at o k.0)
+
+pub Node::freeze-returns-in-Inner-clause-below : goal.Node::freeze-returns-in-Inner-clause-below
+Node::freeze-returns-in-Inner-clause-below t c =
+    if_ok c.push-in-Inner.result c.push-in-Inner.ensures.stamp c.push-in-Inner.ensures.ok (λ at k o. pushed-below c.freeze_kids.new.draft c.push-in-Inner.new.self (node.Chunk (chunked.Inner c.new-inner.result)) at o k.0)
+
+pub freezing::freeze_kid-returns-in-Placed-clause-below : goal.freezing::freeze_kid-returns-in-Placed-clause-below
+freezing::freeze_kid-returns-in-Placed-clause-below t c = c.requires.below c.in-Placed.at (subst (λ (k : Child). Contains (child_places k) c.in-Placed.at) (sym c.in-Placed.is) (one_here c.in-Placed.at))

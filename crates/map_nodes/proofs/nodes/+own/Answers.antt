@@ -3,9 +3,9 @@ use Rattle.std.proofs.lemmas.List.{append-nil}
 use Rattle.group_history.specs.Rows.{paired, rises}
 use Rattle.map_nodes.specs.Nodes.{body_pieces, body_height, kids_height, IsNode}
 use Rattle.map_chunks.specs.Places.{AreAll}
-use Rattle.map_nodes.specs.Freezing.{kids_places}
+use Rattle.map_nodes.specs.Inside.Freezing.{kids_places}
 use Rattle.map_chunks.specs.Scanning.{is_over, with_scanned}
-use Rattle.map_nodes.specs.Scanning.{kids_shown}
+use Rattle.map_nodes.specs.Inside.Scanning.{kids_shown}
 use Rattle.map_chunks.specs.Shown.{Seen, rows_or, shown}
 use Rattle.map_nodes.specs.declared.nodes.Body.TheVariants.{Inner}
 use Rattle.map_nodes.proofs.NodeLemmas.{shown-rows}

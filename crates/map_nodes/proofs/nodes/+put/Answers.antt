@@ -6,12 +6,13 @@ use Rattle.std.specs.FinMap as finite
 use Rattle.group_history.specs.Refs.{stamp_of}
 use Rattle.group_history.specs.Rows.{paired, rises, keys_of}
 use Rattle.group_history.specs.Spelling.{rows_at}
-use Rattle.map_nodes.specs.Counts.{half_fresh, HasKept}
+use Rattle.map_nodes.specs.Inside.Counts.{half_fresh, HasKept}
 use Rattle.map_chunks.specs.Places.{AreAll, AreKept, places_of}
-use Rattle.map_nodes.specs.Freezing.{child_places, kids_places}
-use Rattle.map_nodes.specs.Halves.{half_pieces, IsHalf, IsLower, AreNinth, HasDepth, ChildPut, with_half, lowered}
-use Rattle.map_nodes.specs.Nodes.{Kid, AllKids, IsNode, body_pieces, body_fresh, body_height, child_rows, kids_pieces, child_fresh, kids_fresh}
-use Rattle.map_nodes.specs.Ready.{IsReady}
+use Rattle.map_nodes.specs.Inside.Freezing.{child_places, kids_places}
+use Rattle.map_nodes.specs.Inside.Halves.{half_pieces, IsHalf, IsLower, AreNinth, HasDepth, ChildPut, with_half, lowered}
+use Rattle.map_nodes.specs.Nodes.{AllKids, IsNode, body_pieces, body_fresh, body_height, kids_pieces, child_fresh, kids_fresh}
+use Rattle.map_nodes.specs.Inside.Nodes.{Kid, child_rows}
+use Rattle.map_nodes.specs.Inside.Ready.{IsReady}
 use Rattle.map_chunks.specs.Search.{IsPlace}
 use Rattle.map_chunks.specs.Shown.{Seen, shown, rows_or, IsTree}
 use Rattle.map_nodes.specs.declared.nodes.Body.{Body}

@@ -6,10 +6,12 @@ use Rattle.group_history.specs.Refs.{stamp_of}
 use Rattle.group_history.specs.Rows.{paired}
 use Rattle.group_history.specs.Spelling.{rows_at}
 use Rattle.map_chunks.specs.Places.{AreAll, AreKept, places_of}
-use Rattle.map_nodes.specs.Freezing.{child_places, kids_places}
-use Rattle.map_nodes.specs.Halves.{lowered}
-use Rattle.map_nodes.specs.Nodes.{Kid, body_pieces, child_rows, child_fresh, kids_fresh, kids_pieces, row_pieces, IsNode}
-use Rattle.map_nodes.specs.Removing.{without, IsFate, HasOthers, CanRemove}
+use Rattle.map_nodes.specs.Inside.Freezing.{child_places, kids_places}
+use Rattle.map_nodes.specs.Inside.Halves.{lowered}
+use Rattle.map_nodes.specs.Nodes.{body_pieces, child_fresh, kids_fresh, kids_pieces, row_pieces, IsNode}
+use Rattle.map_nodes.specs.Inside.Nodes.{Kid, child_rows}
+use Rattle.map_nodes.specs.Removing.{without}
+use Rattle.map_nodes.specs.Inside.Removing.{IsFate, HasOthers, CanRemove}
 use Rattle.map_chunks.specs.Search.{IsPlace}
 use Rattle.map_chunks.specs.Shown.{Seen, shown, rows_or, IsTree}
 use Rattle.map_nodes.specs.declared.nodes.Body.TheVariants.{Inner}

@@ -7,9 +7,10 @@ use Rattle.group_history.specs.Refs.{stamp_of}
 use Rattle.group_history.specs.Rows.{paired}
 use Rattle.group_history.specs.Spelling.{rows_at}
 use Rattle.map_chunks.specs.Places.{AreAll, AreKept, places_of}
-use Rattle.map_nodes.specs.Freezing.{child_places, kids_places}
-use Rattle.map_nodes.specs.Nodes.{Kid, AllKids, child_rows, body_pieces, body_fresh, body_height, child_fresh, kids_fresh}
-use Rattle.map_nodes.specs.Replacing.{CanReplace}
+use Rattle.map_nodes.specs.Inside.Freezing.{child_places, kids_places}
+use Rattle.map_nodes.specs.Nodes.{AllKids, body_pieces, body_fresh, body_height, child_fresh, kids_fresh}
+use Rattle.map_nodes.specs.Inside.Nodes.{Kid, child_rows}
+use Rattle.map_nodes.specs.Inside.Replacing.{CanReplace}
 use Rattle.map_chunks.specs.Shown.{Seen, IsTree, rows_or, shown}
 use Rattle.map_nodes.specs.declared.nodes.Body.{Body}
 use Rattle.map_nodes.specs.declared.nodes.Child.{Child}

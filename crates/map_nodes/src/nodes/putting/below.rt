@@ -1,8 +1,8 @@
 //! What an inner chunk needs before a row is put below it.
 ghost use Rattle.std.specs.Prelude.{◌≡◌, ◌<◌, ◌≤◌, ◌+◌, [], length, IfOk, IsSome, slice_index_or, vec_items, vec_capacity};
 ghost use Rattle.map_chunks.specs.Search.{IsPlace};
-ghost use Rattle.map_nodes.specs.Halves.{IsLower};
-ghost use Rattle.map_nodes.specs.Ready.{IsReady};
+ghost use Rattle.map_nodes.specs.Inside.Halves.{IsLower};
+ghost use Rattle.map_nodes.specs.Inside.Ready.{IsReady};
 
 use super::super::Child;
 use super::splits::{HalfRoom, take_half_room};

@@ -6,9 +6,9 @@ ghost use Rattle.std.specs.FinMap as finite;
 ghost use Rattle.group_history.specs.Rows.{AreKeys, paired};
 ghost use Rattle.map_nodes.specs.Nodes.{row_pieces};
 ghost use Rattle.map_chunks.specs.Search.{IsAbsent};
-ghost use Rattle.map_nodes.specs.Halves.{half_pieces, IsHalf, AreNinth};
-ghost use Rattle.map_nodes.specs.Counts.{half_fresh, HasKept};
-ghost use Rattle.map_nodes.specs.Unput.{IsUnput};
+ghost use Rattle.map_nodes.specs.Inside.Halves.{half_pieces, IsHalf, AreNinth};
+ghost use Rattle.map_nodes.specs.Inside.Counts.{half_fresh, HasKept};
+ghost use Rattle.map_nodes.specs.Inside.Unput.{IsUnput};
 
 use super::super::homes::housed;
 use super::super::{Body, Node};

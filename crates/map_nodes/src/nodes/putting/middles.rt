@@ -3,8 +3,8 @@ ghost use Rattle.std.specs.Prelude.{◌≡◌, ◌<◌, ◌≤◌, ◌+◌, ◌-
 ghost use Rattle.group_history.specs.Map.{Bytes};
 ghost use Rattle.group_history.specs.Rows.{rises, keys_of, paired};
 ghost use Rattle.map_nodes.specs.Nodes.{AllKids, kids_fresh};
-ghost use Rattle.map_nodes.specs.Halves.{IsHalf, AreNinth, with_half, lowered, Finished};
-ghost use Rattle.map_nodes.specs.Counts.{half_fresh, HasKept};
+ghost use Rattle.map_nodes.specs.Inside.Halves.{IsHalf, AreNinth, with_half, lowered, Finished};
+ghost use Rattle.map_nodes.specs.Inside.Counts.{half_fresh, HasKept};
 
 use super::super::homes::housed;
 use super::super::{Body, Child, Node};

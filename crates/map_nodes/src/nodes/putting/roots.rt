@@ -7,8 +7,8 @@ ghost use Rattle.group_history.specs.declared.mutators.Stop.TheVariants.{NoMemor
 ghost use Rattle.map_chunks.specs.Places.{Grows, AreAll, AreKept, places_of};
 ghost use Rattle.map_chunks.specs.Shown.{shown, IsTree, rows_or};
 ghost use Rattle.map_nodes.specs.Nodes.{HeadIs};
-ghost use Rattle.map_nodes.specs.Halves.{half_pieces, IsHalf, least, AreInOrder, HeadsBoth};
-ghost use Rattle.map_nodes.specs.Counts.{half_fresh, HasKept};
+ghost use Rattle.map_nodes.specs.Inside.Halves.{half_pieces, IsHalf, least, AreInOrder, HeadsBoth};
+ghost use Rattle.map_nodes.specs.Inside.Counts.{half_fresh, HasKept};
 ghost use Rattle.map_chunks.specs.Wide.{IsWideChunk};
 
 use super::super::homes::{housed, take_home};

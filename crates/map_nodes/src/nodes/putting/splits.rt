@@ -1,6 +1,6 @@
 //! What the upper half of a chunk needs, taken before anything changes.
 ghost use Rattle.std.specs.Prelude.{◌≡◌, ◌≤◌, [], length, IfOk, IsSome, vec_capacity};
-ghost use Rattle.map_nodes.specs.Halves.{AreNinth};
+ghost use Rattle.map_nodes.specs.Inside.Halves.{AreNinth};
 
 use super::super::Node;
 use super::super::homes::take_home;

@@ -1,10 +1,10 @@
 //! Looks at what would stay of a child.
 ghost use Rattle.std.specs.Prelude.{◌≡◌, ◌⊎◌, IfOk, IfErr, IsSome};
 ghost use Rattle.group_history.specs.declared.mutators.Stop.TheVariants.{NoMemory};
-ghost use Rattle.map_nodes.specs.Removing.{IsFate};
-ghost use Rattle.map_nodes.specs.Scanning.{kid_shown};
+ghost use Rattle.map_nodes.specs.Inside.Removing.{IsFate};
+ghost use Rattle.map_nodes.specs.Inside.Scanning.{kid_shown};
 ghost use Rattle.map_chunks.specs.Places.{Grows, AreAll, places_of};
-ghost use Rattle.map_nodes.specs.Freezing.{child_places};
+ghost use Rattle.map_nodes.specs.Inside.Freezing.{child_places};
 ghost use Rattle.map_chunks.specs.SecondKeys.{second_key};
 ghost use Rattle.map_chunks.specs.Shown.{shown, rows_or};
 

@@ -1,4 +1,4 @@
-use Rattle.std.proofs.Common.{Some, map, inr, sym, ap, subst, ◌∙◌}
+use Rattle.std.proofs.Common.{Some, IsSome, map, inr, refl, sym, ap, subst, ◌∙◌}
 use Rattle.std.proofs.lemmas.Result.{err_from_is_err_and}
 use Rattle.group_history.specs.Map.{Entries}
 use Rattle.group_history.specs.Meaning.{meaning_of}
@@ -11,6 +11,8 @@ use Rattle.rebase.specs.Fixing.{staged}
 use Rattle.rebase.proofs.HeadLemmas.{view-mutated}
 use Rattle.rebase.proofs.NewestLemmas.{length-contents}
 use Rattle.rebase.proofs.RunLemmas.{Refuses-is, left-done, reply-done, reply-refused, wants}
+use Rattle.map_tree.proofs.BelowLemmas.{tree-behind}
+use Rattle.rebase.proofs.BelowLemmas.{chain-behind}
 use Rattle.rebase.proofs.replays.mutated.Goals as goal
 
 pub returns-clause-ok : goal.returns-clause-ok
@@ -38,3 +40,20 @@ returns-in_err-after-clause-err g c s h =
     let done = subst IsOfChange (sym (reply-done meaning tree.0 x.id tree.2)) tt in
     let p = err_from_is_err_and c.from_residual-in_err-after.result c.from_residual-in_err-after.ensures.1 in
     rw (p.1, p.2) (wants _ (by_meaning meaning x.id) done c.in_err-after.ensures.why)
+
+pub run_on-requires-clause-map : goal.run_on-requires-clause-map
+run_on-requires-clause-map g c κs below =
+    let old = staged c.args.nodes.now c.args.draft.now.nodes in
+    subst (λ o. IsSome o) (sym (c.at.ensures.map old ∙ c.requires.tip.1.1)) refl
+
+pub add_local-requires-clause-map : goal.add_local-requires-clause-map
+add_local-requires-clause-map g c =
+    let means = g.M.Means.means in let nodes = c.args.nodes.now in let m = view_of means c.requires.tip.0 in
+    let old = staged nodes c.args.draft.now.nodes in
+    let tree = c.in_ok-tree.ensures.ok old (meaning_of means c.args.mutation m) (c.in_ok-run.ensures.ran m (c.at.ensures.map old ∙ c.requires.tip.1.1)) in
+    tree-behind (map content_of nodes) c.args.draft.now c.in_ok-tree.tree tree.0 (length-contents nodes c.args.draft.now.first c.requires.behind) tree.1
+
+pub add_local-requires-clause-chain : goal.add_local-requires-clause-chain
+add_local-requires-clause-chain g c =
+    let nodes = c.args.nodes.now in
+    chain-behind (map content_of nodes) c.args.draft.now c.args.tip (version_of g.M.Means.means c.requires.tip.0) (length-contents nodes c.args.draft.now.first c.requires.behind) c.requires.tip.1

@@ -1,4 +1,4 @@
-use Rattle.std.proofs.Common.{◌≡◌, map, rules, sym, ap, ◌∙◌, subst, IfOk}
+use Rattle.std.proofs.Common.{◌≡◌, IsSome, map, refl, rules, sym, ap, ◌∙◌, subst, IfOk}
 use Rattle.group_history.specs.declared.mutations.Mutation.{Mutation}
 use Rattle.group_history.specs.Map.{Entries}
 use Rattle.group_history.specs.Meaning.{left_by, meaning_of}
@@ -10,6 +10,8 @@ use Rattle.rebase.specs.Inside.Chaining.{HasTip}
 use Rattle.rebase.specs.Fixing.{staged}
 use Rattle.rebase.proofs.HeadLemmas.{view-mutated}
 use Rattle.rebase.proofs.NewestLemmas.{length-contents}
+use Rattle.map_tree.proofs.BelowLemmas.{tree-behind}
+use Rattle.rebase.proofs.BelowLemmas.{chain-behind}
 use Rattle.rebase.proofs.replays.replay_one.Goals as goal
 
 pub returns-clause-tip : goal.returns-clause-tip
@@ -25,3 +27,20 @@ returns-clause-tip g c s h is_open =
     ap (λ (y : Mutation). shape y (left_by meaning m)) same ∙ ap (shape x) (sym (view-mutated means s x)) in
     subst (λ (v : Version). IfOk c.add_local.result (λ tip. HasTip new tip v)) is
     (c.add_local.ensures.spelled (map content_of nodes) (version_of means s) (left_by meaning m) (length-contents nodes c.args.draft.now.first c.requires.behind) h.0 h.2 is_open left)
+
+pub run_on-requires-clause-map : goal.run_on-requires-clause-map
+run_on-requires-clause-map g c κs below =
+    let old = staged c.args.nodes.now c.args.draft.now.nodes in
+    subst (λ o. IsSome o) (sym (c.at.ensures.map old ∙ c.requires.tip.1.1)) refl
+
+pub add_local-requires-clause-map : goal.add_local-requires-clause-map
+add_local-requires-clause-map g c =
+    let means = g.M.Means.means in let nodes = c.args.nodes.now in let m = view_of means c.requires.tip.0 in
+    let old = staged nodes c.args.draft.now.nodes in let meaning = meaning_of means c.args.mutation.now m in
+    let left = c.kept.ensures old m meaning c.requires.tip.1.1 (c.in_ok-run.ensures.ran m (c.at.ensures.map old ∙ c.requires.tip.1.1)) in
+    tree-behind (map content_of nodes) c.args.draft.now c.kept.result (left_by meaning m) (length-contents nodes c.args.draft.now.first c.requires.behind) left
+
+pub add_local-requires-clause-chain : goal.add_local-requires-clause-chain
+add_local-requires-clause-chain g c =
+    let nodes = c.args.nodes.now in
+    chain-behind (map content_of nodes) c.args.draft.now c.args.tip (version_of g.M.Means.means c.requires.tip.0) (length-contents nodes c.args.draft.now.first c.requires.behind) c.requires.tip.1

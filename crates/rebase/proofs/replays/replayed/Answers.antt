@@ -12,3 +12,7 @@ loop-mutation-preserved g c =
       λ s h is_open. subst (λ (w : State). IsTip g.M.Means.means (staged c.args.nodes.now c.replay_one.new.draft.nodes) c.in_ok-tip.tip w) (with_next s xs k c.mutation-item.result c.loop-mutation-test.true c.mutation-item.is)
           (c.in_ok-tip.ensures.tip (with_more s (take k xs)) (i.1 s h is_open) is_open),
     )
+
+pub replay_one-requires-clause-tip : goal.replay_one-requires-clause-tip
+replay_one-requires-clause-tip g c κs below =
+    let t = c.requires.tip in (with_more t.0 (take c.loop-mutation.mutation-index c.args.pending.now), c.loop-mutation.invariant.1 t.0 t.1 t.2)

@@ -4,6 +4,8 @@ use Rattle.group_history.specs.declared.nodes.Chunk.TheVariants.{Leaf}
 use Rattle.group_history.specs.declared.nodes.Node.TheVariants as node
 use Rattle.map_chunks.specs.Drafts.{Drafted}
 use Rattle.rebase.proofs.NewestLemmas.{opening_tip}
+use Rattle.map_chunks.proofs.DraftLemmas.{below-none, pushed-below}
+use Rattle.rebase.proofs.BelowLemmas.{below-cons}
 use Rattle.rebase.proofs.tips.add_opening.Goals as goal
 
 pub returns-clause-spelled : goal.returns-clause-spelled
@@ -14,3 +16,12 @@ returns-clause-spelled c =
     (ap (λ (d : Drafted). d.nodes) c.in_ok-root.ensures.ok ∙ ap (λ (d : Drafted). d.nodes ++ leaf ∷ []) c.requires) (ap (λ (rows : Rows). node.Chunk (Leaf rows)) c.in_ok-empty_leaf.ensures)
     (c.in_ok-root.ensures.stamp.0 ∙ ap (λ (d : Drafted). d.first + length d.nodes) c.requires) (ap (λ (d : Drafted). d.nodes) c.in_ok-head.ensures.ok)
     (c.in_ok-head.ensures.stamp.0 ∙ ap (λ (k : ℕ). k + length one) (ap (λ (d : Drafted). d.first) c.in_ok-root.ensures.ok ∙ ap (λ (d : Drafted). d.first) c.requires)) c.in_ok-cookie.ensures (c.in_ok-confirmed.ensures ∙ c.new.ensures)
+
+pub push-requires : goal.push-requires
+push-requires c = record { children = below-none (c.args.draft.now.first + length c.args.draft.now.nodes) }
+
+pub push-requires-2 : goal.push-requires-2
+push-requires-2 c =
+    let old = c.args.draft.now in let new = c.push.new.self in
+    let root = pushed-below old new (node.Chunk (Leaf c.in_ok-empty_leaf.field-0)) c.in_ok-root.root c.in_ok-root.ensures.ok c.in_ok-root.ensures.stamp.0 in
+    record { children = below-cons (new.first + length new.nodes) c.in_ok-root.root [] root (below-none (new.first + length new.nodes)) }

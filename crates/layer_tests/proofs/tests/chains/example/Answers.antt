@@ -1,9 +1,9 @@
-use Rattle.std.proofs.Common.{◌≡◌, ℕ, ◌+◌, List, [], ◌∷◌, ◌++◌, map, fold, max, Bool, true, false, cond, unwrap_or, Some, slice_get, refl, ap, sym, subst, ◌∙◌, arith}
+use Rattle.std.proofs.Common.{◌≡◌, ◌<◌, ℕ, suc, length, ◌+◌, List, [], ◌∷◌, ◌++◌, map, fold, max, Bool, true, false, cond, unwrap_or, Some, slice_get, refl, ap, sym, subst, ◌∙◌, arith}
 use Rattle.std.specs.Prelude.{IsSome}
 use Rattle.std.specs.Ordering.{nat_cmp}
 use Rattle.std.specs.Cmp.Lexicographic.{slice_cmp, nat_list_cmp_total}
 use Rattle.std.specs.FinMap as finite
-use Rattle.std.proofs.lemmas.List.{map-append}
+use Rattle.std.proofs.lemmas.List.{length-append, length-map, map-append}
 use Rattle.group_history.specs.declared.mutations.Mutation.{Mutation}
 use Rattle.group_history.specs.declared.nodes.Commit.{Commit}
 use Rattle.group_history.specs.declared.nodes.Kind.TheVariants.{Snapshot, Over}
@@ -134,3 +134,10 @@ returns-clause-pending_ids c =
     (stamp_of c.at-2.result) (stamp_of c.at-4.result) (stamp_of c.at-6.result) (stamp_of c.at.result) (stamp_of c.at-3.result) (stamp_of c.at-5.result) (stamp_of c.at-7.result) (stamp_of x.3) (stamp_of y.3) (stamp_of z.3)
     (ap (λ (w : Contents). slice_get w 3) all) s.1 (ap (λ (w : Contents). slice_get w 4) all) (ap (λ (w : Contents). slice_get w 5) all) (ap (λ (w : Contents). slice_get w 6) all)
     c.at-2.ensures c.at-4.ensures c.at-6.ensures (with_made x.0 y.0 z.0 x.1 x.2 y.1 y.2 z.1 z.2)
+
+-- how many nodes there are
+more : (xs ys : List (Node Ref)) (n : Node Ref) (k : ℕ) → ys ≡ xs ++ n ∷ [] → length xs ≡ k → length ys ≡ suc k
+more xs ys n k e l = omega (arith, ap length e, length-append xs (n ∷ []), l)
+
+pub with_snapshot-requires : goal.with_snapshot-requires
+with_snapshot-requires c = let three : length c.in_ok-nodes.nodes ≡ 3 = sym (length-map c.in_ok-nodes.nodes content_of) ∙ ap length c.in_ok-nodes.ensures.2 in omega (arith, three, c.at.ensures)

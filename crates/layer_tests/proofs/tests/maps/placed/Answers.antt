@@ -8,6 +8,7 @@ use Rattle.map_chunks.specs.Drafts.{Drafted}
 use Rattle.map_chunks.specs.Places.{with_nodes}
 use Rattle.map_tree.specs.Trees.{tree_map}
 use Rattle.map_chunks.proofs.Shelves.{some_of}
+use Rattle.map_tree.proofs.BelowLemmas.{tree-ready}
 use Rattle.layer_tests.proofs.tests.maps.placed.Goals as goal
 
 pub invariant_of-result : goal.invariant_of-result
@@ -24,3 +25,6 @@ invariant_of-result c =
       behind = c.in_ok-root.ensures.first ∙ ap (λ (d : Drafted). d.first) c.draft-draft.ensures;
       spelled = subst IsSome (sym (ap (λ w. map_at w (stamp_of c.in_ok-root.root)) (map-append content_of ns c.freeze.new.draft.nodes) ∙ r)) refl;
     }
+
+pub freeze-requires : goal.freeze-requires
+freeze-requires c = record { below = tree-ready c.grown.new.chunks.nodes.now c.draft-draft.result c.in_ok-tree.tree c.draft-draft.ensures c.in_ok-tree.ensures }

@@ -1,6 +1,6 @@
 use Rattle.std.proofs.Common.{◌≡◌, ◌∙◌, ◌-◌, length, ap, sym, subst, arith}
 use Rattle.group_history.specs.Rows.{paired}
-use Rattle.map_nodes.specs.Ends.{end_of_pieces, end_of, IsEndBelow, IsKidBelow}
+use Rattle.map_nodes.specs.Inside.Ends.{end_of_pieces, end_of, IsEndBelow, IsKidBelow}
 use Rattle.map_nodes.specs.Nodes.{body_pieces, kids_pieces, IsNode}
 use Rattle.map_chunks.specs.Shown.{Seen}
 use Rattle.map_nodes.specs.declared.nodes.Body.TheVariants.{Inner}

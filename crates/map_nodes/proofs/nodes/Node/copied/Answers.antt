@@ -1,12 +1,11 @@
-use Rattle.std.proofs.Common.{◌≡◌, ◌∙◌, ap, sym, subst, inr, Some, slice_get}
+use Rattle.std.proofs.Common.{◌∙◌, ap, sym, subst, inr}
 use Rattle.std.specs.List.{Contains}
 use Rattle.group_history.specs.declared.nodes.Chunk.{Chunk}
 use Rattle.group_history.specs.declared.refs.Ref.{Ref}
 use Rattle.group_history.specs.Refs.{stamp_of}
-use Rattle.group_history.specs.Naming.{chunk_content}
-use Rattle.group_history.specs.Spelling.{Contents, rows_at}
+use Rattle.group_history.specs.Spelling.{rows_at}
 use Rattle.map_chunks.specs.Places.{places_of}
-use Rattle.map_nodes.specs.Copies.{MayBeDeep, IsCopy, chunk_pieces}
+use Rattle.map_nodes.specs.Inside.Copies.{MayBeDeep, IsCopy, chunk_pieces}
 use Rattle.map_chunks.specs.Shown.{shown}
 use Rattle.map_chunks.specs.Wide.{IsWideAt}
 use Rattle.map_nodes.proofs.CopyLemmas.{copyable}

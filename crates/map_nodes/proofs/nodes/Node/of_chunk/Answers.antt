@@ -1,7 +1,7 @@
 use Rattle.std.proofs.Common.{◌≡◌, ◌∙◌, ap, sym, subst, refl, arith, ◌-◌, length}
 use Rattle.group_history.specs.Rows.{Rows, keys_of, values_of, paired, AreKeys}
 use Rattle.group_history.proofs.Pairs.{paired-parts}
-use Rattle.map_nodes.specs.Copies.{MayBeDeep, chunk_pieces, chunk_entries}
+use Rattle.map_nodes.specs.Inside.Copies.{MayBeDeep, chunk_pieces, chunk_entries}
 use Rattle.map_nodes.specs.Nodes.{row_pieces, kids_fresh}
 use Rattle.map_nodes.proofs.CopyLemmas.{all_as_placed, copied_inner, copied_pieces, placed_fresh}
 use Rattle.map_chunks.proofs.SearchLemmas.{length-keys_of}

@@ -2,7 +2,7 @@ use Rattle.std.proofs.Common.{◌∙◌, ap, sym, subst, nat_cmp, Some}
 use Rattle.std.specs.Cmp.Lexicographic.{slice_cmp}
 use Rattle.std.specs.FinMap as finite
 use Rattle.map_chunks.specs.Places.{AreAll, AreKept, places_of}
-use Rattle.map_nodes.specs.Halves.{half_pieces}
+use Rattle.map_nodes.specs.Inside.Halves.{half_pieces}
 use Rattle.map_chunks.specs.Shown.{Seen, shown, rows_or, IsTree}
 use Rattle.map_chunks.proofs.AnswerLemmas.{on_ok}
 use Rattle.map_nodes.proofs.ChangeLemmas.{shown-kept}

@@ -1,9 +1,9 @@
 use Rattle.std.proofs.Common.{◌≡◌, ◌∙◌, ◌++◌, ◌≤◌, ap, sym, subst, Some, nat_cmp, arith, inr, length}
 use Rattle.std.specs.Cmp.Lexicographic.{slice_cmp}
 use Rattle.std.specs.FinMap as finite
-use Rattle.map_nodes.specs.Counts.{half_fresh, HasKept}
+use Rattle.map_nodes.specs.Inside.Counts.{half_fresh, HasKept}
 use Rattle.map_chunks.specs.Places.{AreKept, places_of}
-use Rattle.map_nodes.specs.Halves.{half_pieces, HeadsBoth, IsHalf, least}
+use Rattle.map_nodes.specs.Inside.Halves.{half_pieces, HeadsBoth, IsHalf, least}
 use Rattle.map_chunks.specs.Shown.{Seen, shown, rows_or}
 use Rattle.map_nodes.proofs.CountLemmas.{wide_kept}
 use Rattle.map_nodes.proofs.LeafLemmas.{put-strict}

@@ -1,9 +1,10 @@
 use Rattle.std.proofs.Common.{◌∙◌, ◌-◌, [], ◌∷◌, Some, ap, sym, subst}
 use Rattle.group_history.specs.Rows.{paired}
 use Rattle.map_chunks.specs.Places.{AreKept, places_of}
-use Rattle.map_nodes.specs.Freezing.{kids_places}
+use Rattle.map_nodes.specs.Inside.Freezing.{kids_places}
 use Rattle.map_nodes.specs.Nodes.{body_pieces, row_pieces, IsNode}
-use Rattle.map_nodes.specs.Removing.{left_places, without}
+use Rattle.map_nodes.specs.Removing.{without}
+use Rattle.map_nodes.specs.Inside.Removing.{left_places}
 use Rattle.map_chunks.specs.Shown.{Seen, shown, rows_or, IsTree}
 use Rattle.map_nodes.specs.declared.nodes.Body.TheVariants.{Inner}
 use Rattle.map_chunks.proofs.KeptLemmas.{kept-none}

@@ -1,7 +1,7 @@
 use Rattle.std.proofs.Common.{◌∙◌, ap, sym, subst, arith, List, Option, Some, None, refl}
 use Rattle.std.specs.Prelude.{IsSome}
 use Rattle.group_history.specs.Map.{Bytes}
-use Rattle.map_nodes.specs.Halves.{HeadsBoth, IsHalf}
+use Rattle.map_nodes.specs.Inside.Halves.{HeadsBoth, IsHalf}
 use Rattle.map_nodes.specs.Nodes.{HeadIs}
 use Rattle.map_chunks.specs.Shown.{Piece, Seen}
 use Rattle.map_nodes.proofs.nodes.Node.rise.Goals as goal

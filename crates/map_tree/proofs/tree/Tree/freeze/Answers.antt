@@ -1,5 +1,6 @@
 use Rattle.std.proofs.Common.{◌≡◌, ◌+◌, ◌<◌, sym, ap, subst, ◌∙◌, length, Ok, OnOk, IfErr, refl, arith, ◌⊎◌, inl}
 use Rattle.group_history.specs.Refs.{stamps}
+use Rattle.map_chunks.specs.Drafts.{AreBelow}
 use Rattle.map_chunks.specs.Places.{with_nodes, AddsNamed}
 use Rattle.map_tree.specs.Trees.{root_places, tree_places, root_map, root_fresh, placed_root, IsWide}
 use Rattle.group_history.specs.declared.refusals.Refusal.TheVariants as refusal
@@ -55,3 +56,9 @@ returns-in-Own-clause-named c =
 
 pub returns-in-Own-clause-name : goal.returns-in-Own-clause-name
 returns-in-Own-clause-name c = drafted-named c.args.draft.now.first (tree_places c.args.self) c.frozen.result c.frozen.ensures.drafted
+
+pub returns-in-Placed-clause-below : goal.returns-in-Placed-clause-below
+returns-in-Placed-clause-below c = c.requires.below c.in-Placed.at (subst (λ r. Contains (root_places r) c.in-Placed.at) (sym c.in-Placed.is) (one_here c.in-Placed.at))
+
+pub frozen-requires : goal.frozen-requires
+frozen-requires c = record { below = subst (λ r. AreBelow (c.args.draft.now.first + length c.args.draft.now.nodes) (root_places r)) c.in-Own.is c.requires.below }

@@ -22,3 +22,10 @@ invariant_of-self-2 g c =
     let next = c.requires.next ∙ ap (λ (w : SoloState). last_id w.state x.client + 1) (sym c.self.view_is) in
     head_placed means nodes c.mutated.new.draft.nodes c.append.new.self (stamp_of c.in_ok-head.head) (after_mutate s x) c.in_ok-append.ensures.ok done.1
     (after_mutate-IdsFollow s.confirmed s.pending x c.self.invariant.ids next)
+
+pub mutated-requires-clause-tip : goal.mutated-requires-clause-tip
+mutated-requires-clause-tip g c κs below =
+    let means = g.M.Means.means in let contents = map content_of c.self.inside.nodes in
+    let s = state_at contents (stamp_of c.self.inside.head) in
+    let bare : staged c.self.inside.nodes c.draft-draft.result.nodes ≡ contents = ap (λ (d : Drafted). staged c.self.inside.nodes d.nodes) c.draft-draft.ensures ∙ with_none contents in
+    (s, subst (λ (w : Contents). IsTip means w c.in_ok-tip.tip s) (sym bare) (c.in_ok-tip.ensures.tip (version_of means s) c.self.invariant.spells))

@@ -7,6 +7,7 @@ use Rattle.map_chunks.specs.Drafts.{Drafted}
 use Rattle.map_chunks.specs.Places.{with_nodes}
 use Rattle.map_tree.specs.Trees.{tree_map}
 use Rattle.map_chunks.proofs.Shelves.{some_of}
+use Rattle.map_tree.proofs.BelowLemmas.{tree-ready}
 use Rattle.tree_bench.proofs.stored.Stored.filled.Goals as goal
 
 pub invariant_of-result : goal.invariant_of-result
@@ -21,3 +22,6 @@ invariant_of-result c =
     let h = c.in_ok-root.ensures.spelled [] t.0 f q in
     let a = c.in_ok-append.ensures.ok ∙ ap (λ w. w ++ c.freeze.new.draft.nodes) e in
     record { spelled = subst IsSome (sym (ap (λ w. map_at (map content_of w) (stamp_of c.in_ok-root.root)) a ∙ h)) refl }
+
+pub freeze-requires : goal.freeze-requires
+freeze-requires c = record { below = tree-ready c.new-chunks.result c.draft-draft.result c.in_ok-tree.tree c.draft-draft.ensures c.in_ok-tree.ensures }

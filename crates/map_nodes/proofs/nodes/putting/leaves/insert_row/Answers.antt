@@ -2,8 +2,8 @@ use Rattle.std.proofs.Common.{◌≤◌, ◌∙◌, ap, sym, subst, length, nat_
 use Rattle.std.specs.Cmp.Lexicographic.{slice_cmp}
 use Rattle.std.specs.FinMap.{put}
 use Rattle.group_history.specs.Rows.{AreKeys, paired}
-use Rattle.map_nodes.specs.Counts.{HasKept}
-use Rattle.map_nodes.specs.Halves.{AreNinth}
+use Rattle.map_nodes.specs.Inside.Counts.{HasKept}
+use Rattle.map_nodes.specs.Inside.Halves.{AreNinth}
 use Rattle.map_nodes.specs.Nodes.{row_pieces}
 use Rattle.map_chunks.specs.Search.{IsAbsent}
 use Rattle.map_nodes.proofs.nodes.putting.leaves.insert_row.Goals as goal

@@ -1,12 +1,12 @@
 use Rattle.std.proofs.Common.{◌≡◌, ◌∙◌, ◌++◌, ◌<◌, ◌+◌, ◌-◌, [], ap, sym, subst, arith, length, insert, Some, None, get_or, refl}
 use Rattle.std.specs.Prelude.{IsSome}
 use Rattle.group_history.specs.Rows.{paired, keys_of}
-use Rattle.map_nodes.specs.Halves.{with_half, IsHalf}
+use Rattle.map_nodes.specs.Inside.Halves.{with_half, IsHalf}
 use Rattle.map_chunks.specs.Inserting.{Parted}
 use Rattle.map_nodes.specs.Nodes.{Kids, HeadIs, kids_pieces}
 use Rattle.map_chunks.specs.Shown.{Seen}
 use Rattle.map_nodes.specs.declared.nodes.Child.TheVariants.{Own}
-use Rattle.map_nodes.specs.Counts.{half_fresh}
+use Rattle.map_nodes.specs.Inside.Counts.{half_fresh}
 use Rattle.map_nodes.proofs.CountLemmas.{entries_fresh, fresh-alone, fresh-halves, fresh-with_half, kept_alone, kept_halves}
 use Rattle.map_nodes.proofs.KidLemmas.{finished_alone, kid_halves, putting, chosen_are}
 use Rattle.map_chunks.proofs.ListLemmas.{length-paired}

@@ -1,7 +1,7 @@
 use Rattle.std.proofs.Common.{◌≡◌, ◌<◌, ◌-◌, ℕ, List, [], ◌∷◌, length, arith, refl, subst, sym}
 use Rattle.map_chunks.specs.Places.{AreKept, places_of}
-use Rattle.map_nodes.specs.Freezing.{child_places, kids_places}
-use Rattle.map_nodes.specs.Removing.{end_places}
+use Rattle.map_nodes.specs.Inside.Freezing.{child_places, kids_places}
+use Rattle.map_nodes.specs.Inside.Removing.{end_places}
 use Rattle.map_nodes.proofs.EndLemmas.{other_left, heir_taken, kept-start, low_placed, low_taken, taken-places}
 use Rattle.map_chunks.proofs.KeptLemmas.{kept-none, kept-same, kept-within}
 use Rattle.map_nodes.proofs.NamedLemmas.{kid-within}

@@ -1,5 +1,5 @@
 use Rattle.std.proofs.Common.{[], ◌∷◌, ◌∙◌, sym}
-use Rattle.map_nodes.specs.Freezing.{child_places}
+use Rattle.map_nodes.specs.Inside.Freezing.{child_places}
 use Rattle.map_nodes.proofs.EndLemmas.{kid-end, kid-deep}
 use Rattle.map_chunks.proofs.EndLemmas.{kept-one, no_deeper}
 use Rattle.group_history.proofs.Lists.{one_here}

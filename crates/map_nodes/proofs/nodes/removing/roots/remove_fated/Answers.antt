@@ -1,7 +1,8 @@
 use Rattle.std.proofs.Common.{◌≡◌, ◌+◌, ◌-◌, ◌∙◌, ap, sym, subst, arith, refl, get_or, length, remove, Some}
 use Rattle.std.specs.Prelude.{IsSome}
 use Rattle.map_nodes.specs.Nodes.{body_pieces}
-use Rattle.map_nodes.specs.Removing.{without, IsFate, IsLowHeir}
+use Rattle.map_nodes.specs.Removing.{without}
+use Rattle.map_nodes.specs.Inside.Removing.{IsFate, IsLowHeir}
 use Rattle.map_chunks.specs.Shown.{shown, rows_or}
 use Rattle.map_nodes.specs.declared.nodes.Body.TheVariants.{Inner}
 use Rattle.map_nodes.specs.declared.nodes.Child.{Child}

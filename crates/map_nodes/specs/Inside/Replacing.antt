@@ -5,8 +5,8 @@ use Rattle.std.specs.Cmp.Lexicographic.{slice_cmp}
 use Rattle.std.specs.FinMap.{find}
 use Rattle.group_history.specs.Map.{Bytes}
 use Rattle.group_history.specs.Spelling.{Contents}
-use Rattle.map_nodes.specs.Halves.{HasDepth}
-use Rattle.map_nodes.specs.Nodes.{child_rows}
+use Rattle.map_nodes.specs.Inside.Halves.{HasDepth}
+use Rattle.map_nodes.specs.Inside.Nodes.{child_rows}
 use Rattle.map_chunks.specs.Shown.{rows_or, IsTree}
 use Rattle.map_nodes.specs.declared.nodes.Child.{Child}
 

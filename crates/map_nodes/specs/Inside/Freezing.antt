@@ -7,7 +7,7 @@ use Rattle.group_history.specs.Naming.{children}
 use Rattle.group_history.specs.Refs.{stamp_of}
 use Rattle.group_history.specs.Rows.{Rows}
 use Rattle.group_history.specs.Spelling.{Contents, rows_at}
-use Rattle.map_nodes.specs.Nodes.{child_rows}
+use Rattle.map_nodes.specs.Inside.Nodes.{child_rows}
 use Rattle.map_nodes.specs.declared.nodes.Child.{Child}
 use Rattle.map_nodes.specs.declared.nodes.Child.TheVariants.{Placed, Own}
 use Rattle.map_chunks.specs.Places.{places_of, with_nodes}

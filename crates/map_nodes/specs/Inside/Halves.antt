@@ -8,7 +8,8 @@ use Rattle.group_history.specs.Rows.{AreKeys, paired}
 use Rattle.group_history.specs.Spelling.{Contents}
 use Rattle.map_chunks.specs.Search.{is_above}
 use Rattle.map_chunks.specs.Shown.{Piece, shown}
-use Rattle.map_nodes.specs.Nodes.{Kid, Kids, HeadIs, AllKids, kids_pieces}
+use Rattle.map_nodes.specs.Nodes.{Kids, HeadIs, AllKids, kids_pieces}
+use Rattle.map_nodes.specs.Inside.Nodes.{Kid}
 use Rattle.map_nodes.specs.declared.nodes.Child.{Child}
 use Rattle.map_nodes.specs.declared.nodes.Child.TheVariants.{Placed, Own}
 use Rattle.map_nodes.specs.declared.nodes.putting.Half.{Half}

@@ -1,7 +1,7 @@
 -- What a chunk needs before the upper half of a child is put in it.
 use Rattle.std.specs.Prelude.{ℕ, ◌+◌, ◌<◌, ◌≤◌, List, IsSome, length, vec_capacity}
 use Rattle.group_history.specs.Map.{Bytes}
-use Rattle.map_nodes.specs.Halves.{AreNinth}
+use Rattle.map_nodes.specs.Inside.Halves.{AreNinth}
 use Rattle.map_nodes.specs.declared.nodes.Child.{Child}
 use Rattle.map_nodes.specs.declared.nodes.putting.splits.HalfRoom.{HalfRoom}
 

@@ -1,0 +1,80 @@
+//! Nodes that were drafted, with their children named as they were placed.
+//!
+//! A draft's nodes have numbers for stamps, from a first one on; when they are placed, each gets a
+//! reference of its own, and its parents must name it by that.
+ghost use Rattle.std.specs.Prelude.{◌≡◌, map};
+ghost use Rattle.group_history.specs.Naming.{placed_ref, renamed, renamed_chunk, renamed_commit, renamed_kind};
+
+use crate::nodes::{Chunk, Commit, Inner, Kind, Node, Over};
+use crate::refs::Ref;
+
+impl Node<Ref> {
+    /// The node with each child that has a stamp of at least `from` named anew: by the reference that
+    /// stands at the place `stamp - from` of `refs`, where there is one. The others keep their names.
+    /// Takes no memory.
+    pub fn renamed(self, from: u64, refs: &[Ref]) -> Node<Ref>
+        ensures { result ≡ renamed (placed_ref from refs.now) self }
+    {
+        match self {
+            Node::Chunk(chunk) => Node::Chunk(renamed_chunk(chunk, from, refs)),
+            Node::Commit(commit) => Node::Commit(renamed_commit(commit, from, refs)),
+        }
+    }
+}
+
+// The reference of a child.
+fn renamed_ref(at: Ref, from: u64, refs: &[Ref]) -> Ref
+    ensures { result ≡ placed_ref from refs.now at }
+{
+    let stamp = at.stamp();
+    if stamp < from {
+        return at;
+    }
+    match refs.get((stamp - from) as usize) {
+        Some(placed) => *placed,
+        None => at,
+    }
+}
+
+fn rename_all(mut children: Vec<Ref>, from: u64, refs: &[Ref]) -> Vec<Ref>
+    ensures { result.items ≡ map (placed_ref from refs.now) children.items }
+{
+    for place in 0..children.len() {
+        children[place] = renamed_ref(children[place], from, refs);
+    }
+    children
+}
+
+fn renamed_chunk(chunk: Chunk<Ref>, from: u64, refs: &[Ref]) -> Chunk<Ref>
+    ensures { result ≡ renamed_chunk (placed_ref from refs.now) chunk }
+{
+    match chunk {
+        Chunk::Leaf(leaf) => Chunk::Leaf(leaf),
+        Chunk::Inner(inner) => {
+            let (firsts, children) = inner.into_parts();
+            Chunk::Inner(Inner::new(firsts, rename_all(children, from, refs)))
+        }
+    }
+}
+
+fn renamed_kind(kind: Kind<Ref>, from: u64, refs: &[Ref]) -> Kind<Ref>
+    ensures { result ≡ renamed_kind (placed_ref from refs.now) kind }
+{
+    match kind {
+        Kind::Snapshot(snapshot) => Kind::Snapshot(snapshot),
+        Kind::Over(over) => Kind::Over(Over {
+            basis: renamed_ref(over.basis, from, refs),
+            snapshot: renamed_ref(over.snapshot, from, refs),
+            step: over.step,
+        }),
+    }
+}
+
+fn renamed_commit(commit: Commit<Ref>, from: u64, refs: &[Ref]) -> Commit<Ref>
+    ensures { result ≡ renamed_commit (placed_ref from refs.now) commit }
+{
+    Commit {
+        root: renamed_ref(commit.root, from, refs),
+        kind: renamed_kind(commit.kind, from, refs),
+    }
+}

@@ -1,0 +1,11 @@
+use Rattle.std.proofs.Common.{◌<◌, length, [], ◌∷◌, sym, subst}
+use Rattle.map_chunks.proofs.DraftLemmas.{below-none}
+use Rattle.rebase.proofs.BelowLemmas.{below-cons}
+use Rattle.layer_tests.proofs.tests.chains.with_over.Goals as goal
+
+pub with-requires : goal.with-requires
+with-requires c =
+    let n = length c.args.nodes in
+    let first = c.at-snapshot.result in
+    let low = subst (λ k. k < n) (sym c.at-snapshot.ensures) c.requires.2 in
+    below-cons n c.args.root (c.args.basis ∷ first ∷ []) c.requires.1 (below-cons n c.args.basis (first ∷ []) c.requires.0 (below-cons n first [] low (below-none n)))

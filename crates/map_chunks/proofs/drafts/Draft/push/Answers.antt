@@ -1,0 +1,11 @@
+use Rattle.std.proofs.Common.{◌+◌, length, sym, subst}
+use Rattle.group_history.specs.Naming.{children}
+use Rattle.map_chunks.specs.Drafts.{Drafted, AreBelow, AreOrdered}
+use Rattle.map_chunks.proofs.DraftLemmas.{ordered-more}
+use Rattle.map_chunks.proofs.drafts.Draft.push.Goals as goal
+
+pub invariant_of-self-2 : goal.invariant_of-self-2
+invariant_of-self-2 c = (
+    let room = subst (λ (d : Drafted). AreBelow (d.first + length d.nodes) (children c.args.node)) (sym c.self.view_is) c.requires.children in
+    subst (AreOrdered c.self.inside.first) (sym c.in_ok-push.ensures.items) (ordered-more c.self.inside.first c.self.inside.nodes.items c.args.node c.self.invariant room)
+    )

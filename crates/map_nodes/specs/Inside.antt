@@ -1,0 +1,17 @@
+-- Words that only private clauses of this crate use. Chunks as children, why their sizes fall, what a scan finds below
+-- them, a placed chunk copied, and chunks written down as nodes.
+pub mod Nodes
+pub mod Falls
+pub mod Scanning
+pub mod Copies
+pub mod Freezing
+-- A put: the upper half of a chunk that was split, how many chunks and keys there are then, what is ready before it, why a
+-- row isn't put, and a value replaced.
+pub mod Halves
+pub mod Counts
+pub mod Ready
+pub mod Unput
+pub mod Replacing
+-- A removal: what chunks with one child each end in, and what becomes of children and root.
+pub mod Ends
+pub mod Removing
