@@ -1,5 +1,6 @@
 //! What no contract says: that calls succeed, how chunks are shaped, and values from outside.
 mod chains;
+mod configs;
 mod groups;
 mod maps;
 mod reads;

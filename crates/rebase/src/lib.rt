@@ -8,6 +8,7 @@
 
 mod answering;
 mod calls;
+mod config;
 mod looks;
 mod patches;
 mod plain;
@@ -19,6 +20,7 @@ mod tickets;
 mod tips;
 
 pub use calls::{Call, Mutate, Reply};
+pub use config::{Config, MIN_SLOTS, OutOfRange};
 pub use plain::Plain;
 pub use pulls::rebased;
 pub use solo::Solo;

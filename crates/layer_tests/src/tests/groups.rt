@@ -19,7 +19,7 @@ use std::marker::Brand;
 use std::prelude::*;
 use transactions::{Fixed, Known};
 
-fn identity(alloc: Global) -> Result<Identity, Refusal> {
+pub(super) fn identity(alloc: Global) -> Result<Identity, Refusal> {
     Ok(Identity {
         group: Text::new(alloc, "g")?,
         profile: Text::new(alloc, "p1")?,
