@@ -22,6 +22,7 @@ use Rattle.group_history.specs.Cookies.{Cookie}
 use Rattle.group_history.proofs.Lists.{get_more, prefix_trans}
 use Rattle.commits.specs.declared.chains.Base.{Base}
 use Rattle.commits.specs.declared.chains.Link.{Link}
+use Rattle.commits.specs.LastIds.{last_in, last_at}
 use Rattle.commits.specs.Chains.{IsBaseOf}
 use Rattle.commits.specs.Inside.Chains.{LiesAt, basis_of, basis_named, added_by, listed, link_of, link_named, top_of, snapshot_named, closes_group, closes, id_in, own_id, id_named, IsSnapshot, IsSnapshotAt, HasCookie, cookie_in, HasBase, base_in, snapshot_content, IsBase}
 use Rattle.commits.proofs.Spelled.{IsMade, commit-made, version-grown, map-grown}
@@ -195,6 +196,18 @@ search_over ns more client last at root (Over o) d pre lies =
 pub search_step : (ns more : Contents) (client : Bytes) (last : ℕ) (at : Ref) (c : Commit Ref) → IsSearch ns client last (Some at) → IsPrefix ns more → LiesAt more (stamp_of at) c
     → (ahead (basis_of c) < suc (stamp_of at)) × (0 < own_id client c → own_id client c ≡ last) × (own_id client c ≡ 0 → IsSearch more client last (basis_of c))
 search_step ns more client last at c d pre lies = search_over ns more client last at c.root c.kind d pre lies
+
+last_in-some : (client : Bytes) (o : Option Version) (id : ℕ) → last_in client o ≡ Some id → (v : Version) × (o ≡ Some v) × (last_id v.state client ≡ id)
+last_in-some client None id h = absurd (cc h)
+last_in-some client (Some v) id h = (v, refl, (let e : Some (last_id v.state client) ≡ Some id = h in cc e))
+
+-- at a commit where the last id was found before, it is that one
+pub search_ends : (first ns : Contents) (client : Bytes) (last : ℕ) (at : Ref) (k id : ℕ) → IsSearch ns client last (Some at) → IsPrefix first ns → k ≡ stamp_of at → last_at first k client ≡ Some id → id ≡ last
+search_ends first ns client last at k id d pre same was =
+    let f = last_in-some client (version_at first k) id was in
+    let here : version_at ns (stamp_of at) ≡ Some f.0 = subst (λ (n : ℕ). version_at ns n ≡ Some f.0) same (version-grown first ns k f.0 pre f.1) in
+    let one : f.0 ≡ d.0 = (let e : Some f.0 ≡ Some d.0 = sym here ∙ d.1 in cc e) in
+    sym f.2 ∙ ap (λ (v : Version). last_id v.state client) one ∙ d.3
 
 -- A SNAPSHOT THAT IS SHOWN AGAIN HAS WHAT ITS STATE HAS FROM THE SERVER
 

@@ -24,6 +24,7 @@ pub use nodes::{Nodes, ShowsCommit};
 pub use reaching::dropped;
 pub use shelves::LentCommit;
 pub use states::{
-    CommitState, base_of, closed_of, cookie_of, last_id_of, read_root, state_of, top_of, walk,
+    CommitState, LastId, base_of, closed_of, cookie_of, last_id_of, last_id_since, read_root,
+    state_of, top_of, walk,
 };
 pub use stores::{HeldChunk, HeldCommit, Shared, StoreNodes};

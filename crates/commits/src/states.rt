@@ -3,7 +3,7 @@
 //! What the server last sent lies at the snapshot that the head names: two looks, however much is
 //! pending. The pending mutations are met on the way down the chain, the newest first. Every clause speaks
 //! of the one version that the head spells.
-ghost use Rattle.std.specs.Prelude.{◌≡◌, ◌⊎◌, Some, IfOk, IfErr, OnOk, OnErr, IsSome, ◌++◌, [], ◌∷◌};
+ghost use Rattle.std.specs.Prelude.{◌≡◌, ◌⊎◌, Some, IfOk, IfErr, OnOk, OnErr, IsSome, ◌++◌, [], ◌∷◌, IfSome};
 ghost use Rattle.group_history.specs.Ids.{IdsFollow};
 ghost use Rattle.group_history.specs.Refs.{stamp_of};
 ghost use Rattle.group_history.specs.State.{last_id};
@@ -12,7 +12,9 @@ ghost use Rattle.group_history.specs.declared.mutators.Stop.TheVariants.{NoMemor
 ghost use Rattle.map_chunks.specs.Places.{Grows};
 ghost use Rattle.commits.specs.Chains.{IsBaseOf};
 ghost use Rattle.commits.specs.Inside.Chains.{IsBase, IsSnapshotAt, listed};
+ghost use Rattle.commits.specs.LastIds.{last_at};
 ghost use Rattle.commits.specs.Reach.{Reaches};
+ghost use Rattle.commits.specs.declared.states.LastId.{LastId as Ids};
 
 use crate::chains::{
     Base, Top, show_base, show_cookie, show_link, show_own_id, show_root, show_top,
@@ -161,6 +163,26 @@ pub fn cookie_of<N: Nodes>(nodes: &mut N, head: Ref) -> Result<Cookie, Stop>
     Ok(cookie)
 }
 
+/// A client's last id, and a commit at which it was found.
+#[derive(Clone, Copy, Debug)]
+pub struct LastId {
+    pub at: Ref,
+    pub id: u64,
+}
+
+// The id that was found before, at the commit where it was found.
+fn found_at(before: Option<LastId>, at: Ref) -> Option<u64>
+    ensures { IfSome result (λ id. (found : Ids) × (before ≡ Some found) × (stamp_of found.at ≡ stamp_of at) × (found.id ≡ id)) }
+{
+    let Some(found) = before else {
+        return None;
+    };
+    if found.at.stamp() == at.stamp() {
+        return Some(found.id);
+    }
+    None
+}
+
 /// A client's last id, where the ids follow: that of its newest commit, or else what the snapshot has
 /// confirmed. The walk ends there.
 pub fn last_id_of<N: Nodes>(nodes: &mut N, head: Ref, client: &Text) -> Result<u64, Stop>
@@ -171,8 +193,30 @@ pub fn last_id_of<N: Nodes>(nodes: &mut N, head: Ref, client: &Text) -> Result<u
     ensures id { (v : Version) → version_at (N.contents nodes.old) (stamp_of head) ≡ Some v → IfOk result (λ id. id ≡ last_id v.state client.now) }
     ensures stopped { IfErr result N.stops }
 {
+    last_id_since(nodes, head, client, None)
+}
+
+/// The same, for a client whose last id was found at a commit before. Where the walk meets that commit, it
+/// ends there.
+pub fn last_id_since<N: Nodes>(
+    nodes: &mut N,
+    head: Ref,
+    client: &Text,
+    before: Option<LastId>,
+) -> Result<u64, Stop>
+    requires head { IsSome (version_at (N.contents nodes.old) (stamp_of head)) }
+    requires place { N.places nodes.old head }
+    requires ids { (v : Version) → version_at (N.contents nodes.old) (stamp_of head) ≡ Some v → IdsFollow v.state.confirmed v.state.pending }
+    requires before { (found : Ids) → before ≡ Some found → last_at (N.contents nodes.old) (stamp_of found.at) client.now ≡ Some found.id }
+    ensures grown { Grows N.contents N.places nodes.old nodes.new }
+    ensures id { (v : Version) → version_at (N.contents nodes.old) (stamp_of head) ≡ Some v → IfOk result (λ id. id ≡ last_id v.state client.now) }
+    ensures stopped { IfErr result N.stops }
+{
     let mut next = Some(head);
     while let Some(at) = next {
+        if let Some(id) = found_at(before, at) {
+            return Ok(id);
+        }
         let own = show_own_id(nodes, at, client)?;
         if own.id > 0 {
             return Ok(own.id);

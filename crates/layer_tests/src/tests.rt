@@ -1,8 +1,8 @@
 //! What no contract says: that calls succeed, how chunks are shaped, and values from outside.
 mod chains;
-mod configs;
 mod groups;
 mod maps;
+mod pulls;
 mod reads;
 mod renames;
 mod scans;

@@ -20,9 +20,7 @@ pub mod search;
 pub mod seconds;
 pub mod seeking;
 mod shelf;
-mod staged;
 
 pub use chunks::{Chunks, ShowsChunk};
 pub use drafts::Draft;
 pub use shelf::{Lent, Shelf, VecChunks};
-pub use staged::Staged;

@@ -1,6 +1,2 @@
-pub mod FixedLemmas
-pub mod NewestLemmas
 pub mod HeadLemmas
-pub mod RunLemmas
 pub mod CallLemmas
-pub mod BelowLemmas

@@ -15,14 +15,11 @@ ghost use Rattle.group_history.specs.Spelling.{Spells, version_of};
 ghost use Rattle.group_history.specs.State.{opening, made, view_of, last_id};
 ghost use Rattle.pull_patch.specs.Grammar.{answer_to};
 ghost use Rattle.push_body.specs.Bodies.{pull_text, push_text};
-ghost use Rattle.rebase.specs.Refusing.{AnswersOrStamps, RefusesOrStamps};
+ghost use Rattle.rebase.specs.Refusing.{AnswersOrStamps};
+ghost use Rattle.replays.specs.Refusing.{RefusesOrStamps};
 ghost use Rattle.rebase.specs.Solos.{end_bytes_reply, left_by_bytes};
 
-use crate::looks::{base_here, pending_here, tip_here};
-use crate::pulls::{judged, rebased};
-use crate::replays::mutated;
 use crate::tickets::Ticket;
-use crate::tips::{add_closing, add_opening};
 use commits::{VecNodes, last_id_of};
 use group_history::{
     Cookie, Ended, Json, Mutation, Mutators, PullOk, Ref, Refusal, Response, Scan, Text,
@@ -30,8 +27,9 @@ use group_history::{
 use map_tree::Shelf;
 use pull_patch::read_response;
 use push_body::{Identity, pull_bytes, push_bytes};
+use replays::{add_closing, add_opening, base_at, judged, mutated, pending_at, rebased, tip_at};
 use std::alloc::Global;
-use std::marker::Model;
+use std::marker::{Brand, Model};
 use transactions::ReadTx;
 
 /// A client group of one thread, with its mutators, and whose requests it writes.
@@ -227,15 +225,12 @@ impl<M: Mutators + Drop> Solo<M> {
         ensures why { IfErr result (λ e. RefusesOrStamps e (by_meaning (meaning_of M.means mutation (view_of M.means self.old.state)) mutation.id)) }
         ensures same { self.new.identity ≡ self.old.identity }
     {
-        let tip = tip_here(&self.nodes, self.head)?;
+        let shelf = self.nodes.shelf();
+        let tip = tip_at::<Shelf<'_>, Brand>(shelf, self.head)?;
         let mut draft = self.nodes.draft(alloc);
-        let head = mutated(
-            alloc,
-            &self.nodes,
-            &mut draft,
-            tip,
-            &self.mutators,
-            mutation,
+        let mutators = &self.mutators;
+        let head = mutated::<Shelf<'_>, Brand, M>(
+            alloc, shelf, &mut draft, tip, mutators, mutation,
         )?;
         self.nodes.append(draft)?;
         self.head = head;
@@ -287,7 +282,7 @@ impl<M: Mutators + Drop> Solo<M> {
         ensures why { IfErr result (λ e. (e ≡ NoMemory) ⊎ (e ≡ Stamps)) }
         ensures same { self.new.identity ≡ self.old.identity }
     {
-        let tip = tip_here(&self.nodes, self.head)?;
+        let tip = tip_at::<Shelf<'_>, Brand>(self.nodes.shelf(), self.head)?;
         let mut draft = self.nodes.draft(self.alloc);
         let head = add_closing(&mut draft, tip)?;
         self.nodes.append(draft)?;
@@ -302,7 +297,7 @@ impl<M: Mutators + Drop> Solo<M> {
         ensures left { self.new.state ≡ left_at_end result self.old.state pull.now }
         ensures same { self.new.identity ≡ self.old.identity }
     {
-        let base = base_here(&self.nodes, self.head)?;
+        let base = base_at::<Shelf<'_>, Brand>(self.nodes.shelf(), self.head)?;
         match judged(&base, ticket, pull)? {
             Ended::Same => {
                 return Ok(Ended::Same);
@@ -324,18 +319,13 @@ impl<M: Mutators + Drop> Solo<M> {
         ensures same { self.new.identity ≡ self.old.identity }
     {
         let alloc = self.alloc;
-        let base = base_here(&self.nodes, self.head)?;
-        let pending = pending_here(alloc, &self.nodes, self.head)?;
+        let shelf = self.nodes.shelf();
+        let base = base_at::<Shelf<'_>, Brand>(shelf, self.head)?;
+        let pending = pending_at::<Shelf<'_>, Brand>(alloc, shelf, self.head)?;
         let mut draft = self.nodes.draft(alloc);
         let mutators = &self.mutators;
-        let head = rebased(
-            alloc,
-            &self.nodes,
-            &mut draft,
-            mutators,
-            &base,
-            &pending,
-            pull,
+        let head = rebased::<Shelf<'_>, Brand, M>(
+            alloc, shelf, &mut draft, mutators, &base, &pending, pull,
         )?;
         self.nodes.append(draft)?;
         self.head = head;

@@ -1,2 +1,3 @@
 pub mod FirstPulls
 pub mod Leaves
+pub mod Drafts

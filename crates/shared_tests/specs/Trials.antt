@@ -1,8 +1,9 @@
 -- What the tests try: a group without mutators, whose first pull brings a cookie and nothing else, and in which empty leaves are drafted.
-use Rattle.std.specs.Prelude.{ℕ, ◌≡◌, List, [], Some, slice_get}
+use Rattle.std.specs.Prelude.{ℕ, ◌≡◌, List, [], ◌∷◌, Some, slice_get}
 use Rattle.std.specs.FinMap as finite
 use Rattle.group_history.specs.declared.changes.Change.{Change}
 use Rattle.group_history.specs.declared.changes.Change.TheVariants.{Pulled}
+use Rattle.group_history.specs.declared.nodes.Chunk.TheVariants.{Leaf}
 use Rattle.group_history.specs.declared.nodes.Kind.TheVariants.{Snapshot}
 use Rattle.group_history.specs.declared.nodes.Node.{Node}
 use Rattle.group_history.specs.declared.nodes.Node.TheVariants as node
@@ -13,7 +14,9 @@ use Rattle.group_history.specs.Record.{after_change}
 use Rattle.group_history.specs.State.{opening}
 use Rattle.head_word.specs.declared.entry.Entry.{Entry}
 use Rattle.group_history.specs.Spelling.{Spells}
-use Rattle.group_history.specs.Naming.{drafted_content}
+use Rattle.group_history.specs.Naming.{drafted_content, placed_ref}
+use Rattle.group_history.specs.Refs.{stamp_of}
+use Rattle.map_chunks.specs.Drafts.{Drafted}
 use Rattle.head_word.specs.Books.{drawn, empty_leaf}
 
 abbrev pub no_mutators : Meanings
@@ -33,3 +36,11 @@ SpellsBare log stamp cookie = Spells no_mutators (drawn log) stamp (after_change
 -- an empty leaf was drafted under the stamp
 abbrev pub HasLeaf : List Entry → ℕ → Type 0
 HasLeaf log stamp = slice_get (drawn log) stamp ≡ Some (drafted_content 0 empty_leaf)
+
+-- The draft of such a pull, whose numbers begin behind the opening's stamps: an empty leaf, and the snapshot over it
+abbrev pub bare_draft : Cookie → Ref → Drafted
+bare_draft cookie root = record { first = 2; nodes = node.Chunk (Leaf []) ∷ bare cookie root ∷ [] }
+
+-- the snapshot's reference, where the draft was placed at these, is a commit of the state after the pull
+abbrev pub PlacesBare : List Entry → List Ref → Cookie → Type 0
+PlacesBare log refs cookie = (at : Ref) → stamp_of at ≡ 3 → SpellsBare log (stamp_of (placed_ref 2 refs at)) cookie

@@ -1,5 +1,8 @@
 //! What no contract says: that calls succeed, and what threads meet.
 mod claims;
+mod configs;
+mod drafts;
 mod heads;
 mod nodes;
+mod queries;
 mod slots;

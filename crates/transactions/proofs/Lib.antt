@@ -1,3 +1,4 @@
 pub mod WriteLemmas
 pub mod ReadLemmas
 pub mod KnownLemmas
+pub mod StagedLemmas

@@ -34,3 +34,9 @@ read-opened old new head root p h at =
 
 pub read-version : (old new : Contents) (head : ℕ) (v : Version) → IsPrefix old new → version_at old head ≡ Some v → read_version new head ≡ v
 read-version old new head v p h = ap version_or (version-grown old new head v p h)
+
+-- a commit and its root that are known
+pub read-is : (cs : Contents) (head root : ℕ) (v : Version) → version_at cs head ≡ Some v → map_at cs root ≡ Some v.read → IsRead cs head root
+read-is cs head root v is at =
+    let same : read_version cs head ≡ v = ap version_or is in
+    record { version = is ∙ ap Some (sym same); map = at ∙ ap (λ (w : Version). Some w.read) (sym same) }

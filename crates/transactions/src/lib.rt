@@ -7,8 +7,10 @@
 
 mod fixed;
 mod reading;
+mod staged;
 mod writing;
 
 pub use fixed::{Fixed, Known};
 pub use reading::ReadTx;
+pub use staged::{HeldStaged, Staged};
 pub use writing::WriteTx;

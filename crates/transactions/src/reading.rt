@@ -8,7 +8,7 @@ ghost use mathlib.Core.List.{IsPrefix};
 ghost use Rattle.std.specs.FinMap as finite;
 ghost use Rattle.group_history.specs.Refs.{stamp_of};
 ghost use Rattle.group_history.specs.Scans.{rows_of};
-ghost use Rattle.group_history.specs.Spelling.{Version, version_at};
+ghost use Rattle.group_history.specs.Spelling.{Version, map_at, version_at};
 ghost use Rattle.map_chunks.specs.Places.{Grows};
 ghost use Rattle.group_history.specs.declared.mutators.Stop.TheVariants.{NoMemory};
 
@@ -64,6 +64,21 @@ impl<N: Nodes> ReadTx<N> {
                 root,
             }),
             Err(stop) => Err((nodes, stop)),
+        }
+    }
+
+    /// Reads a commit whose root is known. Looks at nothing.
+    pub fn at(alloc: Global, nodes: N, head: Ref, root: Ref) -> ReadTx<N>
+        requires read { (v : Version) × (version_at (N.contents nodes) (stamp_of head) ≡ Some v) × (map_at (N.contents nodes) (stamp_of root) ≡ Some v.read) }
+        requires places { N.places nodes head × N.places nodes root }
+        ensures version { (v : Version) → version_at (N.contents nodes) (stamp_of head) ≡ Some v → result.version ≡ v }
+        ensures contents { result.contents ≡ N.contents nodes }
+    {
+        ReadTx {
+            alloc,
+            nodes,
+            head,
+            root,
         }
     }
 

@@ -4,20 +4,19 @@ ghost use Rattle.std.specs.Coded.{Unit-prop};
 ghost use Rattle.group_history.specs.Naming.{content_of};
 ghost use Rattle.group_history.specs.Refs.{stamp_of};
 ghost use Rattle.group_history.specs.Spelling.{map_at, version_at};
-ghost use Rattle.group_history.specs.declared.mutators.Stop.{Stop as Stopped};
 
 use super::chains::{at, example};
-use commits::{Base, CommitState, LentCommit, Nodes, VecNodes, cookie_of, dropped, state_of};
+use commits::{LentCommit, Nodes, VecNodes, cookie_of, dropped};
 use group_history::{Ended, Json, PullOk, Ref, Refusal, Response, Stop, Text};
 use map_tree::{Chunks, Lent, Shelf};
 use pull_patch::read_response;
 use push_body::Identity;
-use rebase::{Call, Mutate, Plain, Reply, Solo, rebased};
+use rebase::{Call, Mutate, Plain, Reply, Solo};
+use replays::{base_at, pending_at, rebased};
 use script_runner::ScriptMutators;
 use std::alloc::Global;
 use std::marker::Brand;
 use std::prelude::*;
-use transactions::{Fixed, Known};
 
 pub(super) fn identity(alloc: Global) -> Result<Identity, Refusal> {
     Ok(Identity {
@@ -222,30 +221,6 @@ impl<'a> Nodes for Counted<'a> {
     }
 }
 
-/// The state of a head, over nodes that stay those that `K` names.
-fn state_known<N: Nodes + Copy, K: Known>(
-    alloc: Global,
-    nodes: N,
-    head: Ref,
-) -> Result<CommitState, Refusal>
-    requires known { N.contents nodes ≡ K.known }
-    requires shown { (s : Stopped) → N.stops s → ⊥ }
-    requires version { IsSome (version_at K.known (stamp_of head)) }
-    requires place { N.places nodes head }
-    ensures { IfOk result (λ state. IsSome (map_at K.known (stamp_of state.pulled))) }
-{
-    let mut fixed = Fixed::<N, K>::new(nodes);
-    let state = state_of(alloc, &mut fixed, head)?;
-    Ok(state)
-}
-
-fn state_here<'a>(alloc: Global, nodes: &'a VecNodes, head: Ref) -> Result<CommitState, Refusal>
-    requires { IsSome (version_at (map content_of nodes.now) (stamp_of head)) }
-    ensures { IfOk result (λ state. IsSome (map_at (map content_of nodes.now) (stamp_of state.pulled))) }
-{
-    state_known::<Shelf<'a>, Brand>(alloc, nodes.shelf(), head)
-}
-
 /// Adds the nodes of a pull over this head, and answers the new head.
 fn add_rebased(
     alloc: Global,
@@ -257,27 +232,13 @@ fn add_rebased(
     ensures old { IfOk result (λ _. IsSome (version_at (map content_of nodes.new) (stamp_of head))) }
     ensures new { IfOk result (λ new. IsSome (version_at (map content_of nodes.new) (stamp_of new))) }
 {
-    let CommitState {
-        cookie,
-        confirmed,
-        pulled,
-        pending,
-        closed: _,
-    } = state_here(alloc, nodes, head)?;
-    let base = Base {
-        cookie,
-        confirmed,
-        pulled,
-    };
+    let shelf = nodes.shelf();
+    let base = base_at::<Shelf<'_>, Brand>(shelf, head)?;
+    let pending = pending_at::<Shelf<'_>, Brand>(alloc, shelf, head)?;
     let mut draft = nodes.draft(alloc);
-    let new = rebased(
-        alloc,
-        nodes,
-        &mut draft,
-        &ScriptMutators,
-        &base,
-        &pending,
-        pull,
+    let mutators = &ScriptMutators;
+    let new = rebased::<Shelf<'_>, Brand, ScriptMutators>(
+        alloc, shelf, &mut draft, mutators, &base, &pending, pull,
     )?;
     nodes.append(draft)?;
     Ok(new)

@@ -1,8 +1,9 @@
 //! Maps of numbered keys.
-ghost use Rattle.std.specs.Prelude.{◌≡◌, ◌++◌, length, map, IfOk, OnOk, IsSome};
+ghost use Rattle.std.specs.Prelude.{◌≡◌, length, map, IfOk, OnOk, IsSome};
 ghost use Rattle.group_history.specs.Naming.{content_of};
 ghost use Rattle.group_history.specs.Refs.{stamp_of};
 ghost use Rattle.group_history.specs.Spelling.{map_at};
+ghost use Rattle.map_chunks.specs.Places.{with_nodes};
 ghost use Rattle.map_tree.specs.Trees.{tree_map};
 
 use group_history::{Json, Ref, Refusal};
@@ -64,7 +65,7 @@ pub(super) struct PlacedMap<'a> {
     pub(super) draft: Draft,
     pub(super) root: Ref,
     ghost behind: { draft.first ≡ length nodes.now },
-    ghost spelled: { IsSome (map_at (map content_of (nodes.now ++ draft.nodes)) (stamp_of root)) },
+    ghost spelled: { IsSome (map_at (with_nodes (map content_of nodes.now) draft.nodes) (stamp_of root)) },
 }
 
 /// The same map, frozen.

@@ -11,7 +11,11 @@ use std::prelude::*;
 use transactions::ReadTx;
 
 /// Opens a commit; a commit that can't be shown is an error.
-fn opened<N: Nodes + Drop>(alloc: Global, nodes: N, head: Ref) -> Result<ReadTx<N>, Refusal>
+pub(super) fn opened<N: Nodes + Drop>(
+    alloc: Global,
+    nodes: N,
+    head: Ref,
+) -> Result<ReadTx<N>, Refusal>
     requires known { IsSome (version_at (N.contents nodes) (stamp_of head)) }
     requires place { N.places nodes head }
 {
@@ -22,7 +26,7 @@ fn opened<N: Nodes + Drop>(alloc: Global, nodes: N, head: Ref) -> Result<ReadTx<
 }
 
 /// A scan of all.
-fn scan_all(alloc: Global) -> Result<Scan, Refusal> {
+pub(super) fn scan_all(alloc: Global) -> Result<Scan, Refusal> {
     Ok(Scan {
         prefix: Text::new(alloc, "")?,
         start: Start::Any,

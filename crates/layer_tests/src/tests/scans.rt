@@ -1,13 +1,18 @@
 //! Scans of a map that is a draft, and of the same map once it is placed.
-ghost use Rattle.std.specs.Prelude.{IsSome};
-ghost use Rattle.map_chunks.specs.Places.{AreAll};
+ghost use Rattle.std.specs.Prelude.{◌≡◌, length, IsSome};
+ghost use Rattle.group_history.specs.Refs.{stamp_of};
+ghost use Rattle.group_history.specs.Spelling.{map_at};
+ghost use Rattle.group_history.specs.declared.refs.Ref.{Ref as Reference};
+ghost use Rattle.map_chunks.specs.Places.{AreAll, with_nodes};
 ghost use Rattle.map_tree.specs.Trees.{tree_map, tree_places};
 
 use super::maps::{grown, placed};
-use group_history::{Json, Refusal, Scan, Start, Text};
-use map_tree::{Chunks, Staged, Tree, VecChunks};
+use group_history::{Json, Ref, Refusal, Scan, Start, Text};
+use map_tree::{Chunks, Draft, Shelf, Tree, VecChunks};
 use std::alloc::Global;
+use std::marker::Brand;
 use std::prelude::*;
+use transactions::{Known, Staged};
 
 /// The numbers of the keys, one after another.
 fn told(alloc: Global, rows: &[(Text, Json)]) -> Result<String, Refusal> {
@@ -45,8 +50,25 @@ fn of_draft(alloc: Global, scan: &Scan) -> Result<String, Refusal> {
 fn of_placed(alloc: Global, scan: &Scan) -> Result<String, Refusal> {
     let nodes = VecChunks::new(alloc);
     let placed = placed(alloc, &nodes, 2, 18)?;
-    let mut chunks = Staged::new(placed.nodes, &placed.draft);
-    scanned(alloc, &mut chunks, &Tree::at(placed.root), scan)
+    let shelf = placed.nodes.shelf();
+    of_staged::<Shelf<'_>, Brand>(alloc, shelf, &placed.draft, placed.root, scan)
+}
+
+/// The scan in a map of the draft.
+fn of_staged<'a, C: Chunks + Copy, K: Known>(
+    alloc: Global,
+    chunks: C,
+    draft: &'a Draft,
+    root: Ref,
+    scan: &Scan,
+) -> Result<String, Refusal>
+    requires known { C.contents chunks ≡ K.known }
+    requires places { (at : Reference) → C.places chunks at }
+    requires behind { draft.now.first ≡ length K.known }
+    requires map { IsSome (map_at (with_nodes K.known draft.now.nodes) (stamp_of root)) }
+{
+    let mut staged = Staged::<'a, C, K>::new(chunks, draft);
+    scanned::<Staged<'a, C, K>>(alloc, &mut staged, &Tree::at(root), scan)
 }
 
 /// From which key a scan of a case begins.

@@ -23,7 +23,7 @@ use std::alloc::Global;
 use std::prelude::*;
 
 /// Whether the reference names the slot in which its node lies.
-fn is_home(at: Ref) -> bool
+pub(super) fn is_home(at: Ref) -> bool
     ensures { result ≡ true → IsHome at }
 {
     let slot = u64::from(at.slot());
@@ -69,7 +69,7 @@ fn by_slots(nodes: &VecNodes) -> Homed<'_>
 }
 
 /// The reference of a node of the examples.
-fn home(stamp: u64) -> Ref
+pub(super) fn home(stamp: u64) -> Ref
     requires { stamp < 64 }
     ensures stamp { stamp_of result ≡ stamp }
     ensures home { IsHome result }

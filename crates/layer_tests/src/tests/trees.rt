@@ -1,16 +1,19 @@
 //! How trees are shaped, and how many chunks a change makes new.
-ghost use Rattle.std.specs.Prelude.{◌++◌, map, IfOk, IsSome};
-ghost use mathlib.Core.List.{IsPrefix};
+ghost use Rattle.std.specs.Prelude.{◌≡◌, length, map, IfOk, IsSome};
 ghost use Rattle.group_history.specs.Naming.{content_of};
 ghost use Rattle.group_history.specs.Refs.{stamp_of};
 ghost use Rattle.group_history.specs.Spelling.{map_at};
+ghost use Rattle.group_history.specs.declared.refs.Ref.{Ref as Reference};
+ghost use Rattle.map_chunks.specs.Places.{Grows, with_nodes};
 ghost use Rattle.map_tree.specs.Trees.{tree_map};
 
 use super::maps::{grown, json, key_of, placed};
 use group_history::{Chunk, Json, Node, Ref, Refusal, Scan, Start, Text};
-use map_tree::{Chunks, Shelf, Staged, Tree, VecChunks};
+use map_tree::{Chunks, Draft, Shelf, Tree, VecChunks};
 use std::alloc::Global;
+use std::marker::Brand;
 use std::prelude::*;
+use transactions::{Known, Staged};
 
 /// How many leaves there are, and how many inner chunks.
 fn kinds(nodes: &[Node<Ref>]) -> (usize, usize) {
@@ -230,8 +233,27 @@ fn new_after_put(
 ) -> Result<u64, Refusal> {
     let nodes = VecChunks::new(alloc);
     let placed = placed(alloc, &nodes, digits, count)?;
-    let mut chunks = Staged::new(placed.nodes, &placed.draft);
-    new_in(alloc, &mut chunks, placed.root, key, value)
+    let key = Text::new(alloc, key)?;
+    let shelf = placed.nodes.shelf();
+    new_staged::<Shelf<'_>, Brand>(alloc, shelf, &placed.draft, placed.root, &key, value)
+}
+
+/// The same of a map of the draft.
+fn new_staged<'a, C: Chunks + Copy, K: Known>(
+    alloc: Global,
+    chunks: C,
+    draft: &'a Draft,
+    root: Ref,
+    key: &Text,
+    value: &Json,
+) -> Result<u64, Refusal>
+    requires known { C.contents chunks ≡ K.known }
+    requires places { (at : Reference) → C.places chunks at }
+    requires behind { draft.now.first ≡ length K.known }
+    requires map { IsSome (map_at (with_nodes K.known draft.now.nodes) (stamp_of root)) }
+{
+    let mut staged = Staged::<'a, C, K>::new(chunks, draft);
+    new_in::<Staged<'a, C, K>>(alloc, &mut staged, root, key.as_str(), value)
 }
 
 /// How many chunks are new once a value is put at a key of a placed map.
@@ -291,14 +313,15 @@ fn chunks_of_changes(rt: HostRuntime) -> Result<(), Refusal> {
 }
 
 /// How many chunks are new once a key is removed from a placed map.
-fn new_after_del(
+fn new_after_del<C: Chunks>(
     alloc: Global,
-    chunks: &mut Staged<'_>,
+    chunks: &mut C,
     root: Ref,
     key: &str,
 ) -> Result<u64, Refusal>
-    requires { IsSome (map_at (map content_of (chunks.old.nodes.now ++ chunks.old.draft.now.nodes)) (stamp_of root)) }
-    ensures { IsPrefix (map content_of (chunks.old.nodes.now ++ chunks.old.draft.now.nodes)) (map content_of (chunks.new.nodes.now ++ chunks.new.draft.now.nodes)) }
+    requires known { IsSome (map_at (C.contents chunks.old) (stamp_of root)) }
+    requires place { C.places chunks.old root }
+    ensures { Grows C.contents C.places chunks.old chunks.new }
 {
     let mut tree = Tree::at(root);
     tree.del(alloc, chunks, key)?;
@@ -309,9 +332,27 @@ fn new_after_del(
 fn removed(alloc: Global, key: &str) -> Result<(u64, bool), Refusal> {
     let nodes = VecChunks::new(alloc);
     let placed = placed(alloc, &nodes, 2, 17)?;
-    let mut chunks = Staged::new(placed.nodes, &placed.draft);
-    let fresh = new_after_del(alloc, &mut chunks, placed.root, key)?;
-    let has = Tree::at(placed.root).has(&mut chunks, "k01")?;
+    let key = Text::new(alloc, key)?;
+    let shelf = placed.nodes.shelf();
+    removed_staged::<Shelf<'_>, Brand>(alloc, shelf, &placed.draft, placed.root, &key)
+}
+
+/// The same of a map of the draft.
+fn removed_staged<'a, C: Chunks + Copy, K: Known>(
+    alloc: Global,
+    chunks: C,
+    draft: &'a Draft,
+    root: Ref,
+    key: &Text,
+) -> Result<(u64, bool), Refusal>
+    requires known { C.contents chunks ≡ K.known }
+    requires places { (at : Reference) → C.places chunks at }
+    requires behind { draft.now.first ≡ length K.known }
+    requires map { IsSome (map_at (with_nodes K.known draft.now.nodes) (stamp_of root)) }
+{
+    let mut staged = Staged::<'a, C, K>::new(chunks, draft);
+    let fresh = new_after_del::<Staged<'a, C, K>>(alloc, &mut staged, root, key.as_str())?;
+    let has = Tree::at(root).has::<Staged<'a, C, K>>(&mut staged, "k01")?;
     Ok((fresh, has))
 }
 

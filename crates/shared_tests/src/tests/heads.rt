@@ -20,6 +20,7 @@ use std::cmp::Ordering;
 use std::thread::{Threads, join};
 
 /// An application without mutators.
+#[derive(Drop)]
 pub(super) struct Nobody;
 
 impl Means for Nobody {
@@ -110,7 +111,7 @@ pub(super) fn drafts(
 }
 
 // The change by a first pull that brings this cookie alone.
-fn bare_change(alloc: Global, cookie: &Cookie) -> Result<Change, Refusal>
+pub(super) fn bare_change(alloc: Global, cookie: &Cookie) -> Result<Change, Refusal>
     ensures change { IfOk result (λ change. change ≡ bare_pull cookie.now) }
     ensures above { IfOk result (λ _. order_cmp cookie.now.order order.Null ≡ Greater) }
 {

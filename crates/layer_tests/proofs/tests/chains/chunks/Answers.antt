@@ -10,7 +10,7 @@ use Rattle.std.proofs.lemmas.List.{length-append}
 use Rattle.group_history.specs.Naming.{children}
 use Rattle.map_chunks.specs.Drafts.{AreBelow}
 use Rattle.map_chunks.proofs.DraftLemmas.{below-none}
-use Rattle.rebase.proofs.BelowLemmas.{below-cons}
+use Rattle.replays.proofs.BelowLemmas.{below-cons}
 use Rattle.layer_tests.proofs.tests.chains.chunks.Goals as goal
 
 grown : (xs ys : List (Node Ref)) (n : Node Ref) (k : ℕ) → ys ≡ xs ++ n ∷ [] → length xs ≡ k → length ys ≡ suc k

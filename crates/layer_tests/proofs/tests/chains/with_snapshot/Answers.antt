@@ -1,6 +1,6 @@
 use Rattle.std.proofs.Common.{length, []}
 use Rattle.map_chunks.proofs.DraftLemmas.{below-none}
-use Rattle.rebase.proofs.BelowLemmas.{below-cons}
+use Rattle.replays.proofs.BelowLemmas.{below-cons}
 use Rattle.layer_tests.proofs.tests.chains.with_snapshot.Goals as goal
 
 pub with-requires : goal.with-requires

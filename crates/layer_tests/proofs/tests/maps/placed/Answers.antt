@@ -1,9 +1,7 @@
 use Rattle.std.proofs.Common.{◌≡◌, [], Some, length, map, ap, sym, subst, refl, ◌∙◌}
 use Rattle.std.specs.Prelude.{IsSome}
-use Rattle.std.proofs.lemmas.List.{append-nil, map-append, length-map}
+use Rattle.std.proofs.lemmas.List.{append-nil, length-map}
 use Rattle.group_history.specs.Naming.{content_of}
-use Rattle.group_history.specs.Refs.{stamp_of}
-use Rattle.group_history.specs.Spelling.{map_at}
 use Rattle.map_chunks.specs.Drafts.{Drafted}
 use Rattle.map_chunks.specs.Places.{with_nodes}
 use Rattle.map_tree.specs.Trees.{tree_map}
@@ -20,10 +18,9 @@ invariant_of-result c =
     let none : c.draft-draft.result.nodes ≡ [] = ap (λ (d : Drafted). d.nodes) c.draft-draft.ensures in
     let was : tree_map (with_nodes contents c.draft-draft.result.nodes) c.in_ok-tree.tree ≡ Some m.0 =
     ap (λ w. tree_map (with_nodes contents w) c.in_ok-tree.tree) none ∙ ap (λ w. tree_map w c.in_ok-tree.tree) (append-nil contents) ∙ m.1 in
-    let r = c.in_ok-root.ensures.spelled contents m.0 first was in
     record {
       behind = c.in_ok-root.ensures.first ∙ ap (λ (d : Drafted). d.first) c.draft-draft.ensures;
-      spelled = subst IsSome (sym (ap (λ w. map_at w (stamp_of c.in_ok-root.root)) (map-append content_of ns c.freeze.new.draft.nodes) ∙ r)) refl;
+      spelled = subst IsSome (sym (c.in_ok-root.ensures.spelled contents m.0 first was)) refl;
     }
 
 pub freeze-requires : goal.freeze-requires

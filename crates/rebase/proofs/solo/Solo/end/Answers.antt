@@ -2,8 +2,8 @@ use Rattle.std.proofs.Common.{refl, sym, subst}
 use Rattle.std.proofs.lemmas.Result.{err_from_is_err_and}
 use Rattle.group_history.specs.declared.responses.Response.{Response}
 use Rattle.group_history.specs.Pulling.{open_end_reply}
-use Rattle.rebase.specs.Refusing.{IsOfChange}
-use Rattle.rebase.proofs.RunLemmas.{wants}
+use Rattle.replays.specs.Refusing.{IsOfChange}
+use Rattle.replays.proofs.RunLemmas.{wants}
 use Rattle.rebase.proofs.solo.Solo.end.Goals as goal
 
 pub returns-in_err-close-in-StateNotFound-clause-answer : goal.returns-in_err-close-in-StateNotFound-clause-answer

@@ -3,7 +3,8 @@ use Rattle.group_history.specs.Naming.{content_of}
 use Rattle.group_history.specs.Refs.{stamp_of}
 use Rattle.group_history.specs.State.{last_id}
 use Rattle.rebase.specs.Solos.{SoloState}
-use Rattle.rebase.proofs.HeadLemmas.{last_id-low, stamp-low}
+use Rattle.commits.proofs.Few.{stamp-low}
+use Rattle.rebase.proofs.HeadLemmas.{last_id-low}
 use Rattle.rebase.proofs.solo.Solo.mutate.Goals as goal
 
 -- The client's last id is small, since its pending ids follow its confirmed one, and each has a stamp of its own.

@@ -1,0 +1,55 @@
+//! A group of clients.
+ghost use Rattle.std.specs.Prelude.{◌≡◌, ◌⊎◌, ℕ, length, IfOk, IfErr};
+ghost use Rattle.std.specs.List.{All};
+ghost use Rattle.group_history.specs.declared.refusals.Refusal.TheVariants as refusal;
+ghost use Rattle.chunk_slots.specs.Seats.{IsIdle};
+
+use crate::config::Config;
+use crate::seats::{Seat, Seats, seat_all};
+use chunk_slots::{Slots, Store};
+use commits::Shared;
+use group_history::{Means, Refusal};
+use push_body::Identity;
+use std::alloc::Global;
+
+/// A group: the nodes and the head that its clients share, its mutators, and whose requests it writes.
+#[derive(Drop)]
+pub struct Group<M: Means, S: Slots<M>> {
+    pub(crate) alloc: Global,
+    pub(crate) shared: Shared<M, S>,
+    pub(crate) mutators: M,
+    pub(crate) identity: Identity,
+}
+
+impl<M: Means + Drop, S: Store<M> + Drop> Group<M, S>
+where
+    S::Seat: Drop,
+{
+    /// A new group in its opening state, and its seats. Two of its slots are taken then.
+    pub fn open(
+        alloc: Global,
+        config: Config,
+        mutators: M,
+        parts: S::Parts,
+    ) -> Result<(Group<M, S>, Seats<M, S>), Refusal>
+        ensures identity { IfOk result (λ made. made.0.identity ≡ config.identity) }
+        ensures count { IfOk result (λ made. length made.1.free.items ≡ config.seats) }
+        ensures seats { IfOk result (λ made. All (λ seat. (seat.mark.book ≡ made.0.shared.head) × (S.home seat.slots ≡ S.serves made.0.shared.store)) made.1.free.items) }
+        ensures err { IfErr result (λ e. (e ≡ refusal.NoMemory) ⊎ (S.reused × ((e ≡ refusal.Busy) ⊎ (e ≡ refusal.Full)))) }
+    {
+        let (slots, seats) = (config.slots(), config.seats());
+        let (store, claimed, head, marks) = S::open(alloc, parts, slots, seats)?;
+        let seats = seat_all(alloc, &store, &head, claimed, marks)?;
+        let shared = Shared { store, head };
+        let identity = config.into_identity();
+        Ok((
+            Group {
+                alloc,
+                shared,
+                mutators,
+                identity,
+            },
+            seats,
+        ))
+    }
+}

@@ -1,0 +1,22 @@
+//! Clients of one group, on any threads, over any store.
+//!
+//! The clients of a group share the nodes of a store and the head of its book. Each has a seat: what it
+//! claims slots with, and what it has seen of the book. A query pins the seat, looks where the head is,
+//! reads the commit there, and takes the pin away again.
+#![tactic(auto)]
+
+mod client;
+mod config;
+mod group;
+mod reading;
+mod seats;
+mod steps;
+mod tickets;
+mod views;
+
+pub use client::Client;
+pub use config::{Config, MIN_SLOTS, OutOfRange};
+pub use group::Group;
+pub use reading::{Point, ReadTx};
+pub use seats::{Seat, Seats};
+pub use tickets::Ticket;

@@ -1,0 +1,10 @@
+use Rattle.std.proofs.Common.{map}
+use Rattle.group_history.specs.Naming.{content_of}
+use Rattle.layer_tests.proofs.tests.pulls.add_by_slots.Given as goal
+
+-- the nodes at hand
+abbrev pub ghosts-base_at : goal.ghosts-base_at
+ghosts-base_at a = record { known = map content_of a.nodes.shelf.nodes.now }
+
+abbrev pub ghosts-rebased : goal.ghosts-rebased
+ghosts-rebased a = record { known = map content_of a.chunks.shelf.nodes.now }

@@ -1,0 +1,65 @@
+use Rattle.std.proofs.Common.{◌≡◌, ◌∷◌, ◌++◌, [], length, refl, ap, sym, subst, ◌∙◌, arith, rules, append_assoc, length-append}
+use Rattle.std.specs.Vec.Iter.{into_iter_items}
+use Rattle.head_word.specs.Books.{drawn}
+use Rattle.reader_claims.specs.Machine.{still}
+use Rattle.reader_claims.proofs.Moving.{moves_moves}
+use Rattle.publishing.specs.Retiring.{SettlesAll}
+use Rattle.publishing.specs.Stamped.{AreFrom}
+use Rattle.publishing.proofs.Numbers.{from_more, turn_drawn}
+use Rattle.publishing.proofs.placing.place_all.Goals as goal
+
+pub loop-node-init : goal.loop-node-init
+loop-node-init g c =
+    let v = g.S.Slots.view c.args.seat.now in
+    let none = c.requires.refs in
+    record {
+      can = tt;
+      finite = tt;
+      whole = search rules;
+      home = c.requires.home;
+      taken = c.requires.taken;
+      placed = ap length none;
+      left = omega (arith, c.requires.slots);
+      stamps = subst (AreFrom c.args.first) (sym none) tt;
+      settled = λ r. subst (λ ats. SettlesAll v ats v) (sym none) (refl, refl);
+      moves = λ r. still v;
+    }
+
+pub place_named-requires-clause-drawn : goal.place_named-requires-clause-drawn
+place_named-requires-clause-drawn g c κs within =
+    let is = c.loop-node.invariant in
+    let rest = into_iter_items c.next.new.self in
+    let node = c.in-Some.node in
+    let whole : c.args.nodes.items ≡ c.loop-node.yielded ++ (node ∷ rest) = is.whole ∙ ap (λ w. c.loop-node.yielded ++ w) c.in-Some.ensures.steps.0 in
+    turn_drawn c.args.from c.args.first c.args.nodes.items c.loop-node.yielded node rest c.loop-node.refs.items (drawn c.args.mark.now.log) whole is.placed c.requires.order is.stamps c.requires.drawn
+
+pub loop-node-preserved : goal.loop-node-preserved
+loop-node-preserved g c =
+    let is = c.loop-node.invariant in
+    let done = c.place_named.ensures in
+    let ok = c.in_ok-place_named.ensures in
+    let rest = into_iter_items c.next.new.self in
+    let node = c.in-Some.node in
+    let refs = c.loop-node.refs.items in
+    let first = g.S.Slots.view c.args.seat.now in
+    let v = g.S.Slots.view c.loop-node.seat in
+    let u = g.S.Slots.view c.place_named.new.seat in
+    let whole : c.args.nodes.items ≡ c.loop-node.yielded ++ (node ∷ rest) = is.whole ∙ ap (λ w. c.loop-node.yielded ++ w) c.in-Some.ensures.steps.0 in
+    let at = ok.placed.0 in
+    let one = length-append c.loop-node.yielded (node ∷ []) in
+    record {
+      can = tt;
+      finite = tt;
+      whole = whole ∙ sym (append_assoc c.loop-node.yielded (node ∷ []) rest);
+      home = done.home;
+      taken = done.taken;
+      placed = omega (arith, ap length ok.placed.1, length-append refs (at ∷ []), is.placed, one);
+      left = omega (arith, done.less, is.left, one);
+      stamps = subst (AreFrom c.args.first) (sym ok.placed.1) (from_more c.args.first refs at is.stamps ok.placed.2);
+      settled = λ r. done.settled r first (is.settled r);
+      moves = λ r. moves_moves first v u (is.moves r) (done.moves r);
+    }
+
+pub returns-in_err-place_named-clause-moves : goal.returns-in_err-place_named-clause-moves
+returns-in_err-place_named-clause-moves g c =
+    let view = g.S.Slots.view in λ r. moves_moves (view c.args.seat.now) (view c.loop-node.seat) (view c.place_named.new.seat) (c.loop-node.invariant.moves r) (c.place_named.ensures.moves r)

@@ -1,0 +1,23 @@
+use Rattle.std.proofs.Common.{◌≡◌, ◌+◌, ◌++◌, length}
+use Rattle.std.specs.Vec.Iter.{into_iter_items}
+use Rattle.reader_claims.specs.Machine.{Moves}
+use Rattle.publishing.specs.Retiring.{SettlesAll}
+use Rattle.publishing.specs.Stamped.{AreFrom}
+use Rattle.publishing.specs.Inside.Stacks.{HasTaken}
+use Rattle.publishing.proofs.placing.place_all.Given as goal
+
+abbrev pub invariant-loop-node : goal.invariant-loop-node
+invariant-loop-node g l =
+    let S = g.S.Slots in
+    record {
+      can : (goal.iterator-loop-node g).can_next l.node-iterator;
+      finite : (goal.iterator-loop-node g).is_finite l.node-iterator;
+      whole : l.fn.nodes.items ≡ l.yielded ++ into_iter_items l.node-iterator;
+      home : S.home l.seat ≡ S.serves l.store;
+      taken : S.reused → HasTaken (S.view l.seat) l.slots.items;
+      placed : length l.refs.items ≡ length l.yielded;
+      left : length l.slots.items + length l.yielded ≡ length l.fn.nodes.items;
+      stamps : AreFrom l.first l.refs.items;
+      settled : S.reused → SettlesAll (S.view l.fn.seat) l.refs.items (S.view l.seat);
+      moves : S.reused → Moves (S.view l.fn.seat) (S.view l.seat);
+    }

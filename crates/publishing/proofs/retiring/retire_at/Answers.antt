@@ -1,0 +1,42 @@
+use Rattle.std.proofs.Common.{◌≡◌, ◌<◌, ◌≤◌, [], List, take, refl, sym, subst}
+use Rattle.std.proofs.lemmas.List.{take_more}
+use Rattle.std.specs.Prelude.{slice_index_or}
+use Rattle.group_history.specs.declared.refs.Ref.{Ref}
+use Rattle.reader_claims.specs.declared.view.View.{View}
+use Rattle.reader_claims.specs.Machine.{still}
+use Rattle.reader_claims.specs.Passes.{IsRetired}
+use Rattle.reader_claims.proofs.Moving.{moves_moves}
+use Rattle.chunk_slots.specs.Seats.{MayRetire}
+use Rattle.publishing.specs.Retiring.{LetsGo, LetsAllGo}
+use Rattle.publishing.proofs.Leaving.{one_more}
+use Rattle.publishing.proofs.retiring.retire_at.Goals as goal
+
+pub loop-at-init : goal.loop-at-init
+loop-at-init g c = record {
+  home = c.requires.home;
+  raised = c.requires.raised;
+  none = c.requires.none;
+  moves = λ r. still (g.S.Slots.view c.args.seat.now);
+  retired = λ r. refl;
+}
+
+pub loop-at-preserved : goal.loop-at-preserved
+loop-at-preserved g c =
+    let S = g.S.Slots in
+    let is = c.loop-at.invariant in
+    let done = c.retire.ensures in
+    let first = S.view c.args.seat.now in
+    let v = S.view c.loop-at.seat in
+    let u = S.view c.retire.new.seat in
+    let slots = (S.serves c.args.store.now).sizes.slots in
+    let ats = c.args.refs.now in
+    let i = c.loop-at.at-index in
+    let at = slice_index_or ats i (record { bits = 0 }) in
+    let go : S.reused → LetsGo slots c.args.r v at u = λ r. subst (λ k. (k < slots → IsRetired v u k c.args.r) × (slots ≤ k → u ≡ v)) c.slot.ensures.slot (done.retired r, done.outside r) in
+    record {
+      home = done.seat;
+      raised = λ r. subst (λ (w : View). MayRetire w c.args.r) (sym (done.kept r)) (is.raised r);
+      none = λ r. subst (λ (w : View). w.taken ≡ []) (sym (done.kept r)) (is.none r);
+      moves = λ r. moves_moves first v u (is.moves r) (done.moves r);
+      retired = λ r. subst (λ (w : List Ref). LetsAllGo slots c.args.r first w u) (sym (take_more ats i (record { bits = 0 }) c.loop-at-test.true)) (one_more slots c.args.r first v u (take i ats) at (is.retired r) (go r));
+    }

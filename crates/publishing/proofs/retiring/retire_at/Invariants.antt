@@ -1,0 +1,16 @@
+use Rattle.std.proofs.Common.{◌≡◌, [], take}
+use Rattle.chunk_slots.specs.Seats.{MayRetire}
+use Rattle.reader_claims.specs.Machine.{Moves}
+use Rattle.publishing.specs.Retiring.{LetsAllGo}
+use Rattle.publishing.proofs.retiring.retire_at.Given as goal
+
+abbrev pub invariant-loop-at : goal.invariant-loop-at
+invariant-loop-at g l =
+    let S = g.S.Slots in
+    record {
+      home : S.home l.seat ≡ S.serves l.store;
+      raised : S.reused → MayRetire (S.view l.seat) l.r;
+      none : S.reused → (S.view l.seat).taken ≡ [];
+      moves : S.reused → Moves (S.view l.fn.seat) (S.view l.seat);
+      retired : S.reused → LetsAllGo (S.serves l.store).sizes.slots l.r (S.view l.fn.seat) (take l.at-index l.refs) (S.view l.seat);
+    }

@@ -1,0 +1,46 @@
+use Rattle.std.proofs.Common.{◌≡◌, refl, arith, rules}
+use Rattle.std.specs.Prelude.{IfErr}
+use Rattle.group_history.specs.declared.refusals.Refusal.TheVariants as refusal
+use Rattle.reader_claims.specs.Machine.{still}
+use Rattle.reader_claims.specs.Passes.{FindsNone}
+use Rattle.reader_claims.specs.Seats.{kind_end}
+use Rattle.reader_claims.proofs.Moving.{moves_moves}
+use Rattle.publishing.proofs.Leaving.{settles_none}
+use Rattle.publishing.proofs.Results.{if_err_then}
+use Rattle.publishing.proofs.taking.take_more.Goals as goal
+
+pub loop-held-init : goal.loop-held-init
+loop-held-init g c = record {
+  home = c.requires.home;
+  taken = c.requires.taken;
+  more = omega arith;
+  settled = λ r. (refl, refl);
+  moves = λ r. still (g.S.Slots.view c.args.seat.now);
+}
+
+pub loop-held-preserved : goal.loop-held-preserved
+loop-held-preserved g c =
+    let is = c.loop-held.invariant in
+    let done = c.take_next.ensures in
+    let first = g.S.Slots.view c.args.seat.now in
+    let v = g.S.Slots.view c.loop-held.seat in
+    let u = g.S.Slots.view c.take_next.new.seat in
+    record {
+      home = done.home;
+      taken = done.taken;
+      more = omega (arith, is.more, c.in_ok-take_next.ensures.more);
+      settled = λ r. settles_none first v u (is.settled r) (done.settled r);
+      moves = λ r. moves_moves first v u (is.moves r) (done.moves r);
+    }
+
+pub returns-in_err-take_next-clause-moves : goal.returns-in_err-take_next-clause-moves
+returns-in_err-take_next-clause-moves g c =
+    let view = g.S.Slots.view in λ r. moves_moves (view c.args.seat.now) (view c.loop-held.seat) (view c.take_next.new.seat) (c.loop-held.invariant.moves r) (c.take_next.ensures.moves r)
+
+pub returns-in_err-take_next-clause-full : goal.returns-in_err-take_next-clause-full
+returns-in_err-take_next-clause-full g c = λ r.
+    let v = g.S.Slots.view c.loop-held.seat in
+    let u = g.S.Slots.view c.take_next.new.seat in
+    let end = kind_end (g.S.Slots.serves c.args.store.now).sizes c.args.kind in
+    let here : IfErr c.from_residual.result (λ e. e ≡ refusal.Full → FindsNone v u end) = search rules in
+    if_err_then c.from_residual.result here (λ e found is. (v, u, c.loop-held.invariant.moves r, found is, still u))

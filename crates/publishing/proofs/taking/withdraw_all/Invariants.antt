@@ -1,0 +1,18 @@
+use Rattle.std.proofs.Common.{◌≡◌, vec_len}
+use Rattle.reader_claims.specs.Machine.{Moves}
+use Rattle.publishing.specs.Retiring.{SettlesNone}
+use Rattle.publishing.specs.Inside.Stacks.{HasTaken}
+use Rattle.publishing.proofs.taking.withdraw_all.Given as goal
+
+abbrev pub invariant-loop-slot : goal.invariant-loop-slot
+invariant-loop-slot g l =
+    let S = g.S.Slots in
+    record {
+      home : S.home l.seat ≡ S.serves l.store;
+      taken : S.reused → HasTaken (S.view l.seat) l.slots.items;
+      settled : S.reused → SettlesNone (S.view l.fn.seat) (S.view l.seat);
+      moves : S.reused → Moves (S.view l.fn.seat) (S.view l.seat);
+    }
+
+abbrev pub decreases-loop-slot : goal.decreases-loop-slot
+decreases-loop-slot g l = vec_len l.slots

@@ -1,0 +1,4 @@
+pub mod NewestLemmas
+pub mod StateLemmas
+pub mod RunLemmas
+pub mod BelowLemmas

@@ -1,0 +1,128 @@
+//! Local commits: a new mutation, and pending ones that are replayed.
+ghost use Rattle.std.specs.Prelude.{◌≡◌, ◌⊎◌, ◌<◌, false, length, Some, Ok, Err, IsSome, IfOk, IfErr, OnOk};
+ghost use Rattle.group_history.specs.Map.{Entries};
+ghost use Rattle.group_history.specs.Meaning.{Meaning, left_by, meaning_of};
+ghost use Rattle.group_history.specs.Mutating.{after_mutate, by_meaning, map_of};
+ghost use Rattle.group_history.specs.Refs.{stamp_of};
+ghost use Rattle.group_history.specs.Spelling.{Contents, map_at, Spells};
+ghost use Rattle.group_history.specs.State.{State, view_of};
+ghost use Rattle.group_history.specs.declared.refs.Ref.{Ref as Reference};
+ghost use Rattle.group_history.specs.declared.refusals.Refusal.TheVariants.{NoMemory, Stamps};
+ghost use Rattle.map_chunks.specs.Places.{with_nodes};
+ghost use Rattle.map_tree.specs.Trees.{tree_map};
+ghost use Rattle.replays.specs.Chaining.{IsTip};
+ghost use Rattle.replays.specs.Inside.Pending.{with_more};
+ghost use Rattle.replays.specs.Inside.Running.{HasRun};
+ghost use Rattle.replays.specs.Refusing.{RefusesFor, StopsAs};
+
+use crate::runs::{Run, run_on};
+use crate::tips::{Tip, add_local};
+use group_history::{Mutation, Mutators, Ran, Ref, Refusal};
+use map_tree::{Chunks, Draft, Tree};
+use std::alloc::Global;
+use transactions::Known;
+
+/// Drafts a commit of a new mutation. Refused with NoMutator or Refused where its mutator isn't done at
+/// the newest map.
+pub fn mutated<C: Chunks + Copy, K: Known, M: Mutators>(
+    alloc: Global,
+    chunks: C,
+    draft: &mut Draft,
+    tip: Tip,
+    mutators: &M,
+    mutation: Mutation,
+) -> Result<Ref, Refusal>
+    requires known { C.contents chunks ≡ K.known }
+    requires places { (at : Reference) → C.places chunks at }
+    requires behind { draft.old.first ≡ length K.known }
+    requires tip { (s : State) × IsTip M.means (with_nodes K.known draft.old.nodes) tip s }
+    ensures ok { (s : State) → IsTip M.means (with_nodes K.known draft.old.nodes) tip s → s.closed ≡ false → IfOk result (λ at. (by_meaning (meaning_of M.means mutation (view_of M.means s)) mutation.id ≡ Ok mutation.id) × Spells M.means (with_nodes K.known draft.new.nodes) (stamp_of at) (after_mutate s mutation)) }
+    ensures err { (s : State) → IsTip M.means (with_nodes K.known draft.old.nodes) tip s → IfErr result (λ e. RefusesFor C.stops e (by_meaning (meaning_of M.means mutation (view_of M.means s)) mutation.id)) }
+    ensures some { IfOk result (λ _. 0 < length draft.new.nodes) }
+    ensures first { draft.new.first ≡ draft.old.first }
+{
+    let run = run_on::<C, K, M>(
+        alloc,
+        chunks,
+        draft,
+        Tree::at(tip.root),
+        mutators,
+        &mutation,
+    )?;
+    let tree = done(run)?;
+    let after = add_local(alloc, draft, tree, tip, mutation)?;
+    Ok(after.commit)
+}
+
+// The tree that a run left, if it was done; else why its mutation is refused.
+fn done(run: Run) -> Result<Tree, Refusal>
+    ensures ok { (contents : Contents) (meaning : Meaning) → HasRun contents meaning run → IfOk result (λ tree. (m : Entries) × (tree_map contents tree ≡ Some m) × (map_of meaning ≡ Ok m)) }
+    ensures err { (contents : Contents) (meaning : Meaning) → HasRun contents meaning run → IfErr result (λ e. map_of meaning ≡ Err e) }
+{
+    let Run { ran, tree } = run;
+    match ran {
+        Ran::Unknown => Err(Refusal::NoMutator),
+        Ran::Refused(code) => Err(Refusal::Refused(code)),
+        Ran::Done => Ok(tree),
+    }
+}
+
+// The tree that a run left, if it was done; else the root from which it began.
+fn kept(run: Run, root: Ref) -> Tree
+    ensures { (contents : Contents) (m : Entries) (meaning : Meaning) → map_at contents (stamp_of root) ≡ Some m → HasRun contents meaning run → tree_map contents result ≡ Some (left_by meaning m) }
+{
+    let Run { ran, tree } = run;
+    match ran {
+        Ran::Done => tree,
+        Ran::Unknown | Ran::Refused(_) => Tree::at(root),
+    }
+}
+
+// One more mutation. Where its mutator isn't done, its commit has the map of the commit before it.
+fn replay_one<C: Chunks + Copy, K: Known, M: Mutators>(
+    alloc: Global,
+    chunks: C,
+    draft: &mut Draft,
+    tip: Tip,
+    mutators: &M,
+    mutation: &Mutation,
+) -> Result<Tip, Refusal>
+    requires known { C.contents chunks ≡ K.known }
+    requires places { (at : Reference) → C.places chunks at }
+    requires behind { draft.old.first ≡ length K.known }
+    requires tip { (s : State) × IsTip M.means (with_nodes K.known draft.old.nodes) tip s }
+    ensures tip { (s : State) → IsTip M.means (with_nodes K.known draft.old.nodes) tip s → s.closed ≡ false → IfOk result (λ after. IsTip M.means (with_nodes K.known draft.new.nodes) after (after_mutate s mutation.now)) }
+    ensures some { IfOk result (λ _. 0 < length draft.new.nodes) }
+    ensures first { draft.new.first ≡ draft.old.first }
+    ensures err { IfErr result (λ e. (e ≡ NoMemory) ⊎ (e ≡ Stamps) ⊎ StopsAs C.stops e) }
+{
+    let mutation_kept = mutation.clone()?;
+    let run = run_on::<C, K, M>(alloc, chunks, draft, Tree::at(tip.root), mutators, mutation)?;
+    let after = add_local(alloc, draft, kept(run, tip.root), tip, mutation_kept)?;
+    Ok(after)
+}
+
+/// Drafts a commit for each of the mutations, in order.
+pub fn replayed<C: Chunks + Copy, K: Known, M: Mutators>(
+    alloc: Global,
+    chunks: C,
+    draft: &mut Draft,
+    basis: Tip,
+    mutators: &M,
+    pending: &[Mutation],
+) -> Result<Tip, Refusal>
+    requires known { C.contents chunks ≡ K.known }
+    requires places { (at : Reference) → C.places chunks at }
+    requires behind { draft.old.first ≡ length K.known }
+    requires tip { (s : State) × IsTip M.means (with_nodes K.known draft.old.nodes) basis s × (s.closed ≡ false) }
+    ensures tip { (s : State) → IsTip M.means (with_nodes K.known draft.old.nodes) basis s → s.closed ≡ false → IfOk result (λ after. IsTip M.means (with_nodes K.known draft.new.nodes) after (with_more s pending.now)) }
+    ensures some { 0 < length draft.old.nodes → OnOk result (0 < length draft.new.nodes) }
+    ensures first { draft.new.first ≡ draft.old.first }
+    ensures err { IfErr result (λ e. (e ≡ NoMemory) ⊎ (e ≡ Stamps) ⊎ StopsAs C.stops e) }
+{
+    let mut tip = basis;
+    for mutation in pending {
+        tip = replay_one::<C, K, M>(alloc, chunks, draft, tip, mutators, mutation)?;
+    }
+    Ok(tip)
+}

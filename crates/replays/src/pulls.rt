@@ -1,0 +1,105 @@
+//! The end of a pull.
+ghost use Rattle.std.specs.Prelude.{◌≡◌, ◌⊎◌, ◌<◌, false, length, Some, IsSome, IfOk, IfErr};
+ghost use Rattle.group_history.specs.Map.{Entries, patched};
+ghost use Rattle.group_history.specs.Pull.{AreInRange};
+ghost use Rattle.group_history.specs.Pulling.{end_at, after_pull};
+ghost use Rattle.group_history.specs.Refs.{stamp_of};
+ghost use Rattle.group_history.specs.Spelling.{map_at, Spells};
+ghost use Rattle.group_history.specs.State.{State, pulled_state};
+ghost use Rattle.group_history.specs.declared.refs.Ref.{Ref as Reference};
+ghost use Rattle.group_history.specs.declared.refusals.Refusal.TheVariants.{NoMemory, Stamps};
+ghost use Rattle.map_chunks.specs.Places.{with_nodes};
+ghost use Rattle.replays.specs.Chaining.{HasTip};
+ghost use Rattle.replays.specs.Refusing.{StopsAs};
+
+use crate::locals::replayed;
+use crate::patches::patched_map;
+use crate::tips::{Tip, add_snapshot};
+use commits::Base;
+use group_history::{
+    ConfirmedIds, Cookie, Ended, Mutation, Mutators, PullOk, Ref, Refusal, cookie_cmp,
+    is_going_back, is_saying_nothing, keep_unconfirmed,
+};
+use map_tree::{Chunks, Draft};
+use std::alloc::Global;
+use std::cmp::Ordering;
+use transactions::Known;
+
+/// How a pull ends that brought no error, by the state's cookie and confirmed ids.
+pub fn judged(base: &Base, ticket: &Cookie, pull: &PullOk) -> Result<Ended, Refusal>
+    ensures reply { (s : State) → s.cookie ≡ base.now.cookie → s.confirmed ≡ base.now.confirmed → result ≡ end_at s ticket.now.text pull.now }
+{
+    if base.cookie.text() != ticket.text() {
+        return Err(Refusal::Overtaken);
+    }
+    match cookie_cmp(pull.cookie(), &base.cookie) {
+        Ordering::Less => Err(Refusal::CookieWentBack),
+        Ordering::Equal => {
+            if is_saying_nothing(&base.cookie, pull) {
+                Ok(Ended::Same)
+            } else {
+                Err(Refusal::CookieNotNew)
+            }
+        }
+        Ordering::Greater => {
+            if is_going_back(base.confirmed.as_map(), pull.changes()) {
+                Err(Refusal::IdWentBack)
+            } else {
+                Ok(Ended::Applied)
+            }
+        }
+    }
+}
+
+// Drafts the snapshot after a pull: the patched map, under the response's cookie and the ids confirmed then.
+fn add_patched<C: Chunks + Copy, K: Known>(
+    alloc: Global,
+    chunks: C,
+    draft: &mut Draft,
+    root: Ref,
+    pull: &PullOk,
+    confirmed: ConfirmedIds,
+) -> Result<Tip, Refusal>
+    requires known { C.contents chunks ≡ K.known }
+    requires places { (at : Reference) → C.places chunks at }
+    requires behind { draft.old.first ≡ length K.known }
+    requires map { IsSome (map_at (with_nodes K.known draft.old.nodes) (stamp_of root)) }
+    ensures tip { (m : Entries) → map_at (with_nodes K.known draft.old.nodes) (stamp_of root) ≡ Some m → IfOk result (λ tip. HasTip (with_nodes K.known draft.new.nodes) tip (record { state = pulled_state (patched m pull.now.patch) pull.now.cookie confirmed; read = patched m pull.now.patch })) }
+    ensures some { IfOk result (λ _. 0 < length draft.new.nodes) }
+    ensures first { draft.new.first ≡ draft.old.first }
+    ensures err { IfErr result (λ e. (e ≡ NoMemory) ⊎ (e ≡ Stamps) ⊎ StopsAs C.stops e) }
+{
+    let tree = patched_map::<C, K>(alloc, chunks, draft, root, pull.patch())?;
+    let cookie = pull.cookie().clone()?;
+    let tip = add_snapshot(alloc, draft, tree, cookie, confirmed)?;
+    Ok(tip)
+}
+
+/// Drafts the commits of the state after a pull: a snapshot of the patched map, and on it the mutations
+/// that stay pending, replayed. A patch without operations shares the whole pulled map, and a response
+/// without changes the confirmed ids.
+pub fn rebased<C: Chunks + Copy, K: Known, M: Mutators>(
+    alloc: Global,
+    chunks: C,
+    draft: &mut Draft,
+    mutators: &M,
+    base: &Base,
+    pending: &[Mutation],
+    pull: &PullOk,
+) -> Result<Ref, Refusal>
+    requires known { C.contents chunks ≡ K.known }
+    requires places { (at : Reference) → C.places chunks at }
+    requires behind { draft.old.first ≡ length K.known }
+    requires map { IsSome (map_at (with_nodes K.known draft.old.nodes) (stamp_of base.now.pulled)) }
+    ensures spelled { (s : State) → map_at (with_nodes K.known draft.old.nodes) (stamp_of base.now.pulled) ≡ Some s.pulled → s.confirmed ≡ base.now.confirmed → s.pending ≡ pending.now → s.closed ≡ false → IfOk result (λ at. Spells M.means (with_nodes K.known draft.new.nodes) (stamp_of at) (after_pull s pull.now)) }
+    ensures in_range { AreInRange pull.now.changes }
+    ensures some { IfOk result (λ _. 0 < length draft.new.nodes) }
+    ensures first { draft.new.first ≡ draft.old.first }
+    ensures err { IfErr result (λ e. (e ≡ NoMemory) ⊎ (e ≡ Stamps) ⊎ StopsAs C.stops e) }
+{
+    let confirmed = base.confirmed.overwritten(alloc, pull.changes())?;
+    let left = keep_unconfirmed(alloc, confirmed.as_map(), pending)?;
+    let snapshot = add_patched::<C, K>(alloc, chunks, draft, base.pulled, pull, confirmed)?;
+    let tip = replayed::<C, K, M>(alloc, chunks, draft, snapshot, mutators, &left)?;
+    Ok(tip.commit)
+}

@@ -1,0 +1,64 @@
+//! A run of a mutator on a tree over nodes that are placed or drafted.
+ghost use Rattle.std.specs.Prelude.{◌≡◌, ◌⊎◌, Some, IsSome, IfOk, IfErr, length};
+ghost use Rattle.group_history.specs.declared.refs.Ref.{Ref as Reference};
+ghost use Rattle.group_history.specs.declared.refusals.Refusal.TheVariants.{NoMemory};
+ghost use Rattle.group_history.specs.Map.{Entries};
+ghost use Rattle.group_history.specs.Meaning.{meaning_of};
+ghost use Rattle.map_chunks.specs.Places.{AreAll, with_nodes};
+ghost use Rattle.map_tree.specs.Trees.{tree_map, tree_places};
+ghost use Rattle.transactions.specs.Maps.{shown_map};
+ghost use Rattle.replays.specs.Inside.Running.{HasRun};
+ghost use Rattle.replays.specs.Refusing.{StopsAs};
+
+use group_history::{Mutation, Mutators, Ran, Refusal};
+use map_tree::{Chunks, Draft, Tree};
+use std::alloc::Global;
+use std::marker::Brand;
+use transactions::{Fixed, Known, Staged, WriteTx};
+
+/// How a run ended, and the map that it left; what a refusing mutator wrote is in it.
+#[derive(Drop)]
+pub struct Run {
+    pub ran: Ran,
+    pub tree: Tree,
+}
+
+fn run_known<C: Chunks + Drop, K: Known, M: Mutators>(
+    alloc: Global,
+    chunks: C,
+    tree: Tree,
+    mutators: &M,
+    mutation: &Mutation,
+) -> Result<Run, Refusal>
+    requires known { C.contents chunks ≡ K.known }
+    requires map { IsSome (tree_map K.known tree) }
+    requires places { AreAll (C.places chunks) (tree_places tree) }
+    ensures ran { IfOk result (λ run. HasRun K.known (meaning_of M.means mutation.now (shown_map K.known tree)) run) }
+    ensures err { IfErr result (λ e. (e ≡ NoMemory) ⊎ StopsAs C.stops e) }
+{
+    let mut view = WriteTx::new(alloc, Fixed::<C, K>::new(chunks), tree);
+    let name = mutation.name.as_str();
+    let ran = mutators.run(alloc, name, &mutation.args, mutation.reason, &mut view)?;
+    let (_, tree) = view.into_parts();
+    Ok(Run { ran, tree })
+}
+
+/// Runs a mutation's mutator on a tree, for the mutation's reason.
+pub fn run_on<'a, C: Chunks + Copy, K: Known, M: Mutators>(
+    alloc: Global,
+    chunks: C,
+    draft: &'a Draft,
+    tree: Tree,
+    mutators: &M,
+    mutation: &Mutation,
+) -> Result<Run, Refusal>
+    requires known { C.contents chunks ≡ K.known }
+    requires places { (at : Reference) → C.places chunks at }
+    requires behind { draft.now.first ≡ length K.known }
+    requires map { IsSome (tree_map (with_nodes K.known draft.now.nodes) tree) }
+    ensures ran { (m : Entries) → tree_map (with_nodes K.known draft.now.nodes) tree ≡ Some m → IfOk result (λ run. HasRun (with_nodes K.known draft.now.nodes) (meaning_of M.means mutation.now m) run) }
+    ensures err { IfErr result (λ e. (e ≡ NoMemory) ⊎ StopsAs C.stops e) }
+{
+    let staged = Staged::<'a, C, K>::new(chunks, draft);
+    run_known::<Staged<'a, C, K>, Brand, M>(alloc, staged, tree, mutators, mutation)
+}

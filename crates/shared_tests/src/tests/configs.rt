@@ -1,0 +1,53 @@
+//! How groups may be laid out.
+use super::queries::identity;
+use clients::{Config, OutOfRange};
+use group_history::Refusal;
+use std::alloc::Global;
+use std::prelude::*;
+
+// Why a group can't have so many slots and seats.
+fn refused(alloc: Global, slots: u32, seats: u32) -> Result<Option<OutOfRange>, Refusal> {
+    match Config::new(identity(alloc)?, slots, seats) {
+        Ok(_) => Ok(None),
+        Err(e) => Ok(Some(e)),
+    }
+}
+
+// So many slots and seats, and why they are refused.
+const RANGES: [(u32, u32, Option<OutOfRange>); 7] = [
+    (16, 1, None),
+    (16_777_216, 256, None),
+    (15, 1, Some(OutOfRange::Slots(15))),
+    (16_777_217, 1, Some(OutOfRange::Slots(16_777_217))),
+    (16, 0, Some(OutOfRange::Seats(0))),
+    (16, 257, Some(OutOfRange::Seats(257))),
+    (15, 257, Some(OutOfRange::Slots(15))),
+];
+
+// The first of these numbers that is answered otherwise.
+fn other_range(alloc: Global) -> Result<Option<(u32, u32)>, Refusal> {
+    for (slots, seats, want) in &RANGES {
+        if refused(alloc, *slots, *seats)? != *want {
+            return Ok(Some((*slots, *seats)));
+        }
+    }
+    Ok(None)
+}
+
+#[test]
+fn groups_have_their_limits(rt: HostRuntime) -> Result<(), Refusal> {
+    assert_eq!(rt; other_range(rt.alloc())?, None);
+    Ok(())
+}
+
+#[test]
+fn a_limit_is_told(rt: HostRuntime) -> Result<(), Refusal> {
+    let slots = format!(in rt.alloc(); "{}", OutOfRange::Slots(16_777_217))?;
+    assert_eq!(rt;
+        slots.as_str(),
+        "a group has 16 to 16777216 slots, not 16777217"
+    );
+    let seats = format!(in rt.alloc(); "{}", OutOfRange::Seats(0))?;
+    assert_eq!(rt; seats.as_str(), "a group has 1 to 256 seats, not 0");
+    Ok(())
+}
