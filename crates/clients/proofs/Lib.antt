@@ -1,2 +1,4 @@
+pub mod Drafting
 pub mod Finding
+pub mod Making
 pub mod Seating

@@ -1,3 +1,5 @@
 -- What a reader of the public clauses believes.
 pub mod Configs
 pub mod Queries
+-- Words that only private clauses of this crate use.
+pub mod Inside

@@ -2,12 +2,15 @@
 //!
 //! Its queries have their point where they look at the head: each pins the seat first, and takes the pin
 //! away before it returns.
-ghost use Rattle.std.specs.Prelude.{◌≡◌, ◌⊎◌, [], Ok, Some, None, IsSome, IfOk, IfErr};
+ghost use Rattle.std.specs.Prelude.{◌≡◌, ◌⊎◌, ◌+◌, ◌<◌, ◌^◌, [], Ok, Some, None, IsSome, IfOk, IfErr, OnOk};
 ghost use mathlib.Core.List.{IsPrefix};
 ghost use Rattle.group_history.specs.declared.refusals.Refusal.TheVariants.{NoMemory, Busy};
 ghost use Rattle.group_history.specs.Record.{after};
 ghost use Rattle.group_history.specs.Refs.{stamp_of};
-ghost use Rattle.group_history.specs.State.{last_id};
+ghost use Rattle.group_history.specs.Mutating.{mutate_reply};
+ghost use Rattle.group_history.specs.State.{last_id, made};
+ghost use Rattle.group_history.specs.declared.mutations.Reason.TheVariants.{Initial};
+ghost use Rattle.answered.specs.Changes.{change_made};
 ghost use Rattle.head_word.specs.Books.{drawn, record_of};
 ghost use Rattle.head_word.specs.Marks.{known};
 ghost use Rattle.reader_claims.specs.declared.words.Pin.TheVariants.{Absent};
@@ -20,14 +23,15 @@ ghost use Rattle.commits.specs.LastIds.{last_at};
 ghost use Rattle.uuid.specs.Text.{hyphenated_text, lower};
 
 use crate::group::Group;
+use crate::mutating::mutate;
 use crate::reading::{Point, ReadTx};
 use crate::seats::Seat;
 use crate::steps::{begin, find_last};
 use crate::tickets::Ticket;
 use crate::views::{cookie_at, pending_at, root_at};
-use chunk_slots::Slots;
+use chunk_slots::{Slots, Store};
 use commits::LastId;
-use group_history::{Means, Mutation, Ref, Refusal, Text};
+use group_history::{Json, Means, Mutation, Mutators, Ref, Refusal, Text};
 use head_word::Mark;
 use push_body::{pull_bytes, push_bytes};
 use std::alloc::{AllocError, Global};
@@ -51,6 +55,7 @@ where
     ghost home: { S.home slots ≡ S.serves group.now.shared.store },
     ghost none: { S.reused → (S.view slots).taken ≡ [] },
     ghost at: { last_at (drawn mark.log) (stamp_of found) id ≡ Some last },
+    ghost low: { last < 2 ^ 53 },
 }
 
 impl<'g, M: Means, S: Slots<M>> Client<'g, M, S>
@@ -82,6 +87,7 @@ where
     fn find(&mut self, tries: u32) -> Result<LastId, Refusal>
         ensures answer { Answers M.means tries self.old.mark self.new.mark (told (λ found. found.id) result) nothing (λ s. Ok (last_id s self.old.id)) }
         ensures found { IfOk result (λ found. last_at (drawn self.new.mark.log) (stamp_of found.at) self.old.id ≡ Some found.id) }
+        ensures low { IfOk result (λ found. found.id < 2 ^ 53) }
         ensures missed { IfErr result (IsMissed S.reused) }
         ensures idle { S.reused → IsIdle (S.view self.new.slots) }
         ensures seat { (self.new.mark.book ≡ self.old.mark.book) × (self.new.mark.seat ≡ self.old.mark.seat) }
@@ -216,6 +222,59 @@ where
         ensures same { (self.new.group.now ≡ self.old.group.now) × (self.new.id ≡ self.old.id) × (self.new.last ≡ self.old.last) }
     {
         self.group.shared.head.learn(&mut self.mark, other);
+    }
+}
+
+impl<'g, M: Mutators, S: Store<M>> Client<'g, M, S>
+where
+    S::Seat: Drop,
+{
+    // Makes the client's next mutation, and answers where it stands.
+    fn place(&mut self, mutation: &Mutation, tries: u32) -> Result<LastId, Refusal>
+        requires client { mutation.now.client ≡ self.old.id }
+        requires next { (mutation.now.id ≡ self.old.last + 1) × (mutation.now.reason ≡ Initial) }
+        ensures answer { Answers M.means tries self.old.mark self.new.mark (told (λ found. found.id) result) (change_made mutation.now) (λ s. mutate_reply M.means s self.old.last mutation.now) }
+        ensures found { IfOk result (λ found. (found.id ≡ mutation.now.id) × (last_at (drawn self.new.mark.log) (stamp_of found.at) self.old.id ≡ Some found.id) × (found.id < 2 ^ 53)) }
+        ensures idle { S.reused → IsIdle (S.view self.new.slots) }
+        ensures seat { (self.new.mark.book ≡ self.old.mark.book) × (self.new.mark.seat ≡ self.old.mark.seat) }
+        ensures same { (self.new.group.now ≡ self.old.group.now) × (self.new.id ≡ self.old.id) × (self.new.last ≡ self.old.last) }
+    {
+        let before = LastId {
+            at: self.found,
+            id: self.last,
+        };
+        mutate::<M, S>(
+            self.group,
+            &mut self.slots,
+            &mut self.mark,
+            mutation,
+            before,
+            tries,
+        )
+    }
+
+    /// Makes a mutation, and answers its id: one more than the client's last id, which it then is. `time` is in
+    /// milliseconds. Refused, in this order, with `Closed`, `Stale`, `NoMutator` and `Refused`; with `Moved` where
+    /// others changed the group first, as often as it was to try; and for want of memory, of a slot or of stamps.
+    pub fn try_mutate(
+        &mut self,
+        name: &Text,
+        args: &Json,
+        time: u64,
+        tries: u32,
+    ) -> Result<u64, Refusal>
+        ensures answer { Answers M.means tries self.old.mark self.new.mark result (change_made (made self.old.id (self.old.last + 1) name.now args.now time)) (λ s. mutate_reply M.means s self.old.last (made self.old.id (self.old.last + 1) name.now args.now time)) }
+        ensures last { IfOk result (λ id. (id ≡ self.old.last + 1) × (self.new.last ≡ id)) }
+        ensures left { IfErr result (λ _. self.new.last ≡ self.old.last) }
+        ensures idle { S.reused → IsIdle (S.view self.old.slots) → IsIdle (S.view self.new.slots) }
+        ensures seat { (self.new.mark.book ≡ self.old.mark.book) × (self.new.mark.seat ≡ self.old.mark.seat) }
+        ensures same { (self.new.group.now ≡ self.old.group.now) × (self.new.id ≡ self.old.id) }
+    {
+        let mutation = Mutation::new(&self.id, self.last + 1, name, args, time)?;
+        let LastId { at, id } = self.place(&mutation, tries)?;
+        self.found = at;
+        self.last = id;
+        Ok(id)
     }
 }
 

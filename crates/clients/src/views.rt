@@ -1,5 +1,6 @@
 //! What is read at a commit of the shared group.
-ghost use Rattle.std.specs.Prelude.{◌≡◌, ◌⊎◌, ℕ, Some, IsSome, IfOk, IfErr, IfSome};
+ghost use Rattle.std.specs.Prelude.{◌≡◌, ◌⊎◌, ◌<◌, ◌^◌, ℕ, Some, IsSome, IfOk, IfErr, IfSome};
+ghost use Rattle.group_history.specs.Ids.{IdsFollow};
 ghost use Rattle.group_history.specs.Record.{IsLegal, after};
 ghost use Rattle.group_history.specs.Refs.{stamp_of};
 ghost use Rattle.group_history.specs.Spelling.{Version, map_at, version_at};
@@ -12,7 +13,9 @@ ghost use Rattle.answered.specs.Trying.{IsBase};
 ghost use Rattle.clients.specs.Queries.{IsMissed};
 
 use chunk_slots::Slots;
-use commits::{LastId, Nodes, Shared, StoreNodes, cookie_of, last_id_since, read_root, walk};
+use commits::{
+    LastId, Nodes, Shared, StoreNodes, closed_of, cookie_of, last_id_since, read_root, walk,
+};
 use group_history::{Cookie, Means, Mutation, Ref, Refusal, Stop, Text};
 use head_word::Mark;
 use std::alloc::Global;
@@ -79,6 +82,22 @@ pub(crate) fn cookie_at<M: Means, S: Slots<M>>(
     Ok(cookie_of(&mut nodes, at)?)
 }
 
+/// Whether the group is closed at a commit.
+pub(crate) fn closed_at<M: Means, S: Slots<M>>(
+    shared: &Shared<M, S>,
+    mark: &Mark<M>,
+    at: Ref,
+    tries: u32,
+) -> Result<bool, Refusal>
+    requires book { mark.now.book ≡ shared.now.head }
+    requires spelled { (s : State) × IsBase M.means mark.now at s }
+    ensures closed { (s : State) → IsBase M.means mark.now at s → IfOk result (λ closed. closed ≡ s.closed) }
+    ensures err { IfErr result (IsMissed S.reused) }
+{
+    let mut nodes = StoreNodes::new(shared, mark, tries);
+    Ok(closed_of(&mut nodes, at)?)
+}
+
 /// A client's last id at a commit, where it was found at another one before or never.
 pub(crate) fn last_known<M: Means, S: Slots<M>>(
     shared: &Shared<M, S>,
@@ -89,12 +108,12 @@ pub(crate) fn last_known<M: Means, S: Slots<M>>(
     tries: u32,
 ) -> Result<u64, Refusal>
     requires book { mark.now.book ≡ shared.now.head }
-    requires spelled { IsBase M.means mark.now at (after (record_of mark.now.log)) }
+    requires spelled { (s : State) × IsBase M.means mark.now at s × IdsFollow s.confirmed s.pending }
     requires before { (found : Found) → before ≡ Some found → last_at (drawn mark.now.log) (stamp_of found.at) client.now ≡ Some found.id }
-    ensures id { IfOk result (λ id. id ≡ last_id (after (record_of mark.now.log)) client.now) }
+    ensures id { (s : State) → IsBase M.means mark.now at s → IfOk result (λ id. id ≡ last_id s client.now) }
+    ensures low { IfOk result (λ id. id < 2 ^ 53) }
     ensures err { IfErr result (IsMissed S.reused) }
 {
-    mark.legal();
     let mut nodes = StoreNodes::new(shared, mark, tries);
     Ok(last_id_since(&mut nodes, at, client, before)?)
 }

@@ -20,7 +20,7 @@ use logbook::Plain;
 
 impl<M: Means> Head<M> {
     /// The first stamp not drawn.
-    pub(crate) fn next(&self, mark: &mut Mark<M>) -> u64
+    pub fn next(&self, mark: &mut Mark<M>) -> u64
         requires book { mark.old.book ≡ self.now }
         requires seat { IsSome mark.old.seat }
         ensures book { mark.new.book ≡ mark.old.book }

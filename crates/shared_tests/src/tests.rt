@@ -3,6 +3,7 @@ mod claims;
 mod configs;
 mod drafts;
 mod heads;
+mod mutations;
 mod nodes;
 mod queries;
 mod slots;

@@ -13,7 +13,7 @@ use uuid::Uuid;
 
 const GROUP: &str = "00000000-0000-4000-8000-000000000001";
 
-const A: &str = "00000000-0000-4000-8000-00000000000a";
+pub(super) const A: &str = "00000000-0000-4000-8000-00000000000a";
 
 const B: &str = "00000000-0000-4000-8000-00000000000b";
 
@@ -32,14 +32,14 @@ pub(super) fn identity(alloc: Global) -> Result<Identity, Refusal> {
 }
 
 // A group of 16 slots and 2 seats.
-fn config(alloc: Global) -> Result<Config, Refusal> {
+pub(super) fn config_of(alloc: Global) -> Result<Config, Refusal> {
     match Config::new(identity(alloc)?, 16, 2) {
         Ok(config) => Ok(config),
         Err(_) => Err(Refusal::Full),
     }
 }
 
-fn id(text: &str) -> Result<Uuid, Refusal> {
+pub(super) fn id(text: &str) -> Result<Uuid, Refusal> {
     match Uuid::parse_str(text) {
         Ok(id) => Ok(id),
         Err(_) => Err(Refusal::BadShape),
@@ -225,7 +225,7 @@ where
 #[test]
 fn queries_answer_over_an_arena(rt: HostRuntime) -> Result<(), Refusal> {
     let all = all_rows(rt.alloc())?;
-    let seen = in_new::<Arena<Nobody>>(rt.alloc(), (), config(rt.alloc())?, &all)?;
+    let seen = in_new::<Arena<Nobody>>(rt.alloc(), (), config_of(rt.alloc())?, &all)?;
     assert!(rt; seen == (IN_A_NEW_GROUP, IN_A_NEW_GROUP, false));
     Ok(())
 }
@@ -233,7 +233,7 @@ fn queries_answer_over_an_arena(rt: HostRuntime) -> Result<(), Refusal> {
 #[test]
 fn queries_answer_over_a_vector(rt: HostRuntime) -> Result<(), Refusal> {
     let all = all_rows(rt.alloc())?;
-    let config = config(rt.alloc())?;
+    let config = config_of(rt.alloc())?;
     let seen = in_new::<Append<&HostRuntime, Nobody>>(rt.alloc(), &rt, config, &all)?;
     assert!(rt; seen == (IN_A_NEW_GROUP, IN_A_NEW_GROUP, false));
     Ok(())
