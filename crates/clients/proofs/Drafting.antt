@@ -16,6 +16,7 @@ use Rattle.answered.specs.Answered.{is_want}
 use Rattle.answered.specs.Changes.{change_made}
 use Rattle.answered.specs.Trying.{IsUnproposed}
 use Rattle.replays.specs.Refusing.{StopsAs, RefusesFor, RefusesOrStamps}
+use Rattle.clients.specs.Queries.{told}
 
 -- one commit spells one state
 pub one_state : (means : Meanings) (cs : Contents) (k : ℕ) (s t : State) → Spells means cs k s → Spells means cs k t → s ≡ t
@@ -29,7 +30,7 @@ lost_wants : {X : Type 0} (change : Result X Refusal → Option Change) (right :
 lost_wants change right reused e (s, inl gone, is) = for_want change right e refusal.Gone (is ∙ ap told_as gone) refl (λ h. cc h)
 lost_wants change right reused e (s, inr lost, is) = for_want change right e refusal.Busy (is ∙ ap told_as lost.1) refl (λ h. cc h)
 
-right_or : {X : Type 0} (e : Refusal) (right : Result X Refusal) → Refuses e right → (e ≡ refusal.NoMemory) ⊎ (right ≡ Err e)
+pub right_or : {X : Type 0} (e : Refusal) (right : Result X Refusal) → Refuses e right → (e ≡ refusal.NoMemory) ⊎ (right ≡ Err e)
 right_or refusal.NoMemory right is = inl refl
 right_or e right is = inr is
 
@@ -51,3 +52,9 @@ refused_for reused m id x e (inr (inr is)) = by_right m id x e (right_or e (by_m
 -- nothing behind contents
 pub behind_none : (cs : Contents) → with_nodes cs [] ≡ cs
 behind_none cs = append-nil cs
+
+-- a right answer that is told otherwise is refused as it is
+pub told_unproposed : {X Y : Type 0} (f : X → Y) (change : Result X Refusal → Option Change) (asked : Result Y Refusal → Option Change) (right : Result X Refusal) (e : Refusal)
+    → asked (Err e) ≡ None → IsUnproposed change right e → IsUnproposed asked (told f right) e
+told_unproposed f change asked right e none (inl want, other) = (inl want, other)
+told_unproposed f change asked right e none (inr is, other) = (inr (ap (told f) is.0, none), other)

@@ -1,4 +1,9 @@
 pub mod Drafting
+pub mod Ending
 pub mod Finding
+pub mod Lasting
 pub mod Making
 pub mod Seating
+pub mod Telling
+pub mod Trying
+pub mod Unread

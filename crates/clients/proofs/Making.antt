@@ -1,7 +1,7 @@
 -- How a change is answered, and where it stands.
-use Rattle.std.proofs.Common.{◌≡◌, ◌≢◌, ◌⊎◌, inl, inr, ℕ, ◌+◌, ◌<◌, ◌≤◌, ◌^◌, max, fold, Bool, true, false, cond, List, [], ◌∷◌, ◌++◌, map, filter, length, Option, Some, None, Result, Ok, Err, refl, sym, ap, subst, ◌∙◌, arith, append-nil}
+use Rattle.std.proofs.Common.{◌≡◌, ◌⊎◌, inl, inr, ℕ, ◌+◌, ◌<◌, ◌^◌, max, fold, Bool, true, false, cond, List, [], ◌∷◌, ◌++◌, map, Option, Some, None, Result, Ok, Err, refl, sym, ap, subst, ◌∙◌, arith, append-nil}
 use Rattle.std.proofs.lemmas.List.Sums.{fold-append}
-use Rattle.std.specs.Prelude.{nat_eq, if◌then◌else◌, IfNone}
+use Rattle.std.specs.Prelude.{nat_eq, if◌then◌else◌}
 use mathlib.Core.List.{IsPrefix}
 use Rattle.group_history.specs.declared.changes.Change.{Change}
 use Rattle.group_history.specs.declared.changes.Change.TheVariants.{Mutated}
@@ -11,12 +11,11 @@ use Rattle.group_history.specs.declared.refs.Ref.{Ref}
 use Rattle.group_history.specs.declared.refusals.Refusal.{Refusal}
 use Rattle.group_history.specs.declared.refusals.Refusal.TheVariants as refusal
 use Rattle.group_history.specs.Ids.{IdsFollow}
-use Rattle.group_history.specs.Map.{Bytes, same_text}
 use Rattle.group_history.specs.Meaning.{Meanings, meaning_of}
 use Rattle.group_history.specs.Mutating.{mutate_reply, open_reply, by_meaning, after_mutate}
 use Rattle.group_history.specs.Record.{IsAccepted, after}
 use Rattle.group_history.specs.Refs.{stamp_of}
-use Rattle.group_history.specs.Spelling.{Contents, Version, version_at, version_of, Spells}
+use Rattle.group_history.specs.Spelling.{Contents, version_of, Spells}
 use Rattle.group_history.specs.State.{State, last_id, confirmed_id, ids_of, view_of}
 use Rattle.group_history.proofs.IdLemmas.{ids_of-append, after_mutate-IdsFollow}
 use Rattle.group_history.proofs.Lists.{prefix_trans}
@@ -27,11 +26,9 @@ use Rattle.head_word.specs.Marks.{Known, others}
 use Rattle.commits.specs.LastIds.{last_in, last_at}
 use Rattle.commits.proofs.Few.{last_id-small}
 use Rattle.answered.specs.Answered.{IsPoint, IsRefused, IsLeft, Answers, is_want, own_moves}
-use Rattle.answered.specs.Changes.{change_made}
-use Rattle.answered.specs.Trying.{IsUnproposed, IsWon}
-use Rattle.answered.proofs.Replying.{replied_won, answers_since}
+use Rattle.answered.specs.Trying.{IsUnproposed}
 use Rattle.clients.specs.Inside.Arriving.{IsArrived}
-use Rattle.clients.specs.Inside.Proposing.{IsNext, IsUnmade}
+use Rattle.clients.specs.Inside.Proposing.{IsUnmade}
 
 -- a point stays one while more is seen, where the seat moves nothing
 pub point_later : (means : Meanings) (old mid new : Known) (log : List Entry) → IsPoint means old mid None log → IsPrefix mid.log new.log → own_moves new ≡ own_moves mid → IsPoint means old new None log
@@ -112,8 +109,3 @@ reply_next means s x last is_open is next =
 
 pub accepted_next : (means : Meanings) (s : State) (x : Mutation) (last : ℕ) → last_id s x.client ≡ last → mutate_reply means s last x ≡ Ok x.id → x.reason ≡ Initial → IsAccepted means s (Mutated x)
 accepted_next means s x last is reply reason = (ap (λ (n : ℕ). mutate_reply means s n x) is ∙ reply, reason)
-
--- what follows where there is nothing follows in any case that it is known
-pub if_none : {A : Type 0} {P : Type 0} (o : Option A) → P → IfNone o P
-if_none None p = p
-if_none (Some x) p = tt

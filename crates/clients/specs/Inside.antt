@@ -1,3 +1,5 @@
 -- Words that only private clauses of this crate use.
 pub mod Arriving
 pub mod Proposing
+pub mod Changing
+pub mod Leaving

@@ -1,5 +1,6 @@
 -- What a reader of the public clauses believes.
 pub mod Configs
 pub mod Queries
+pub mod Asking
 -- Words that only private clauses of this crate use.
 pub mod Inside

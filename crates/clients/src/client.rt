@@ -7,10 +7,7 @@ ghost use mathlib.Core.List.{IsPrefix};
 ghost use Rattle.group_history.specs.declared.refusals.Refusal.TheVariants.{NoMemory, Busy};
 ghost use Rattle.group_history.specs.Record.{after};
 ghost use Rattle.group_history.specs.Refs.{stamp_of};
-ghost use Rattle.group_history.specs.Mutating.{mutate_reply};
-ghost use Rattle.group_history.specs.State.{last_id, made};
-ghost use Rattle.group_history.specs.declared.mutations.Reason.TheVariants.{Initial};
-ghost use Rattle.answered.specs.Changes.{change_made};
+ghost use Rattle.group_history.specs.State.{last_id};
 ghost use Rattle.head_word.specs.Books.{drawn, record_of};
 ghost use Rattle.head_word.specs.Marks.{known};
 ghost use Rattle.reader_claims.specs.declared.words.Pin.TheVariants.{Absent};
@@ -23,15 +20,14 @@ ghost use Rattle.commits.specs.LastIds.{last_at};
 ghost use Rattle.uuid.specs.Text.{hyphenated_text, lower};
 
 use crate::group::Group;
-use crate::mutating::mutate;
 use crate::reading::{Point, ReadTx};
 use crate::seats::Seat;
 use crate::steps::{begin, find_last};
 use crate::tickets::Ticket;
 use crate::views::{cookie_at, pending_at, root_at};
-use chunk_slots::{Slots, Store};
+use chunk_slots::Slots;
 use commits::LastId;
-use group_history::{Json, Means, Mutation, Mutators, Ref, Refusal, Text};
+use group_history::{Means, Ref, Refusal, Text};
 use head_word::Mark;
 use push_body::{pull_bytes, push_bytes};
 use std::alloc::{AllocError, Global};
@@ -63,11 +59,12 @@ where
     S::Seat: Drop,
 {
     // Pins the seat, and looks where the head is.
-    fn begin(&mut self, tries: u32) -> Result<Ref, Refusal>
+    pub(crate) fn begin(&mut self, tries: u32) -> Result<Ref, Refusal>
         ensures looked { IfOk result (λ at. IsPoint M.means self.old.mark self.new.mark None self.new.mark.log × IsBase M.means self.new.mark at (after (record_of self.new.mark.log))) }
         ensures held { S.reused → IfOk result (λ _. IsHeld (S.view self.new.slots)) }
         ensures busy { IfErr result (λ e. (e ≡ Busy) × S.reused × (self.new.mark ≡ self.old.mark)) }
         ensures idle { S.reused → IfErr result (λ _. IsIdle (S.view self.new.slots)) }
+        ensures seen { IsPrefix self.old.mark.log self.new.mark.log }
         ensures seat { (self.new.mark.book ≡ self.old.mark.book) × (self.new.mark.seat ≡ self.old.mark.seat) }
         ensures same { (self.new.group.now ≡ self.old.group.now) × (self.new.id ≡ self.old.id) × (self.new.last ≡ self.old.last) }
     {
@@ -90,6 +87,7 @@ where
         ensures low { IfOk result (λ found. found.id < 2 ^ 53) }
         ensures missed { IfErr result (IsMissed S.reused) }
         ensures idle { S.reused → IsIdle (S.view self.new.slots) }
+        ensures seen { IsPrefix self.old.mark.log self.new.mark.log }
         ensures seat { (self.new.mark.book ≡ self.old.mark.book) × (self.new.mark.seat ≡ self.old.mark.seat) }
         ensures same { (self.new.group.now ≡ self.old.group.now) × (self.new.id ≡ self.old.id) × (self.new.last ≡ self.old.last) }
     {
@@ -111,6 +109,7 @@ where
     pub fn push_body(&mut self, tries: u32) -> Result<Vec<u8>, Refusal>
         ensures answer { Answers M.means tries self.old.mark self.new.mark (told (λ body. body.items) result) nothing (λ s. Ok (push_text self.old.group.now.identity s.pending)) }
         ensures idle { S.reused → IsIdle (S.view self.new.slots) }
+        ensures seen { IsPrefix self.old.mark.log self.new.mark.log }
         ensures seat { (self.new.mark.book ≡ self.old.mark.book) × (self.new.mark.seat ≡ self.old.mark.seat) }
         ensures same { (self.new.group.now ≡ self.old.group.now) × (self.new.id ≡ self.old.id) × (self.new.last ≡ self.old.last) }
     {
@@ -124,6 +123,7 @@ where
     pub fn begin_pull(&mut self, tries: u32) -> Result<Ticket, Refusal>
         ensures answer { Answers M.means tries self.old.mark self.new.mark (told asked result) nothing (λ s. Ok (asked_at self.old.group.now.identity s)) }
         ensures idle { S.reused → IsIdle (S.view self.new.slots) }
+        ensures seen { IsPrefix self.old.mark.log self.new.mark.log }
         ensures seat { (self.new.mark.book ≡ self.old.mark.book) × (self.new.mark.seat ≡ self.old.mark.seat) }
         ensures same { (self.new.group.now ≡ self.old.group.now) × (self.new.id ≡ self.old.id) × (self.new.last ≡ self.old.last) }
     {
@@ -142,6 +142,7 @@ where
         ensures left { IfErr result (λ _. self.new.last ≡ self.old.last) }
         ensures missed { IfErr result (IsMissed S.reused) }
         ensures idle { S.reused → IsIdle (S.view self.new.slots) }
+        ensures seen { IsPrefix self.old.mark.log self.new.mark.log }
         ensures seat { (self.new.mark.book ≡ self.old.mark.book) × (self.new.mark.seat ≡ self.old.mark.seat) }
         ensures same { (self.new.group.now ≡ self.old.group.now) × (self.new.id ≡ self.old.id) }
     {
@@ -158,6 +159,7 @@ where
         ensures missed { IfErr result (IsMissed S.reused) }
         ensures left { IfErr result (λ _. own_moves self.new.mark ≡ own_moves self.old.mark) }
         ensures idle { S.reused → IfErr result (λ _. IsIdle (S.view self.new.slots)) }
+        ensures seen { IsPrefix self.old.mark.log self.new.mark.log }
         ensures seat { (self.new.mark.book ≡ self.old.mark.book) × (self.new.mark.seat ≡ self.old.mark.seat) }
         ensures same { (self.new.group.now ≡ self.old.group.now) × (self.new.id ≡ self.old.id) × (self.new.last ≡ self.old.last) }
     {
@@ -222,59 +224,6 @@ where
         ensures same { (self.new.group.now ≡ self.old.group.now) × (self.new.id ≡ self.old.id) × (self.new.last ≡ self.old.last) }
     {
         self.group.shared.head.learn(&mut self.mark, other);
-    }
-}
-
-impl<'g, M: Mutators, S: Store<M>> Client<'g, M, S>
-where
-    S::Seat: Drop,
-{
-    // Makes the client's next mutation, and answers where it stands.
-    fn place(&mut self, mutation: &Mutation, tries: u32) -> Result<LastId, Refusal>
-        requires client { mutation.now.client ≡ self.old.id }
-        requires next { (mutation.now.id ≡ self.old.last + 1) × (mutation.now.reason ≡ Initial) }
-        ensures answer { Answers M.means tries self.old.mark self.new.mark (told (λ found. found.id) result) (change_made mutation.now) (λ s. mutate_reply M.means s self.old.last mutation.now) }
-        ensures found { IfOk result (λ found. (found.id ≡ mutation.now.id) × (last_at (drawn self.new.mark.log) (stamp_of found.at) self.old.id ≡ Some found.id) × (found.id < 2 ^ 53)) }
-        ensures idle { S.reused → IsIdle (S.view self.new.slots) }
-        ensures seat { (self.new.mark.book ≡ self.old.mark.book) × (self.new.mark.seat ≡ self.old.mark.seat) }
-        ensures same { (self.new.group.now ≡ self.old.group.now) × (self.new.id ≡ self.old.id) × (self.new.last ≡ self.old.last) }
-    {
-        let before = LastId {
-            at: self.found,
-            id: self.last,
-        };
-        mutate::<M, S>(
-            self.group,
-            &mut self.slots,
-            &mut self.mark,
-            mutation,
-            before,
-            tries,
-        )
-    }
-
-    /// Makes a mutation, and answers its id: one more than the client's last id, which it then is. `time` is in
-    /// milliseconds. Refused, in this order, with `Closed`, `Stale`, `NoMutator` and `Refused`; with `Moved` where
-    /// others changed the group first, as often as it was to try; and for want of memory, of a slot or of stamps.
-    pub fn try_mutate(
-        &mut self,
-        name: &Text,
-        args: &Json,
-        time: u64,
-        tries: u32,
-    ) -> Result<u64, Refusal>
-        ensures answer { Answers M.means tries self.old.mark self.new.mark result (change_made (made self.old.id (self.old.last + 1) name.now args.now time)) (λ s. mutate_reply M.means s self.old.last (made self.old.id (self.old.last + 1) name.now args.now time)) }
-        ensures last { IfOk result (λ id. (id ≡ self.old.last + 1) × (self.new.last ≡ id)) }
-        ensures left { IfErr result (λ _. self.new.last ≡ self.old.last) }
-        ensures idle { S.reused → IsIdle (S.view self.old.slots) → IsIdle (S.view self.new.slots) }
-        ensures seat { (self.new.mark.book ≡ self.old.mark.book) × (self.new.mark.seat ≡ self.old.mark.seat) }
-        ensures same { (self.new.group.now ≡ self.old.group.now) × (self.new.id ≡ self.old.id) }
-    {
-        let mutation = Mutation::new(&self.id, self.last + 1, name, args, time)?;
-        let LastId { at, id } = self.place(&mutation, tries)?;
-        self.found = at;
-        self.last = id;
-        Ok(id)
     }
 }
 

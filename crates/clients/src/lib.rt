@@ -7,11 +7,13 @@
 //! the commit where they left it.
 #![tactic(auto)]
 
+mod changes;
+mod changing;
 mod client;
 mod config;
 mod group;
 mod moving;
-mod mutating;
+mod proposing;
 mod reading;
 mod seats;
 mod steps;

@@ -324,11 +324,11 @@ impl<M: Mutators + Drop> Solo<M> {
         let pending = pending_at::<Shelf<'_>, Brand>(alloc, shelf, self.head)?;
         let mut draft = self.nodes.draft(alloc);
         let mutators = &self.mutators;
-        let head = rebased::<Shelf<'_>, Brand, M>(
+        let made = rebased::<Shelf<'_>, Brand, M>(
             alloc, shelf, &mut draft, mutators, &base, &pending, pull,
         )?;
         self.nodes.append(draft)?;
-        self.head = head;
+        self.head = made.commit;
         Ok(())
     }
 }

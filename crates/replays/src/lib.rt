@@ -19,5 +19,5 @@ mod tips;
 
 pub use locals::mutated;
 pub use looks::{base_at, pending_at, tip_at};
-pub use pulls::{judged, rebased};
+pub use pulls::{RebasedHead, judged, rebased};
 pub use tips::{Tip, add_closing, add_opening};

@@ -25,6 +25,13 @@ use std::alloc::Global;
 use std::cmp::Ordering;
 use transactions::Known;
 
+/// What a pull leads to: the commit of the state after it, and how many mutations stay pending there.
+#[derive(Clone, Copy, Debug)]
+pub struct RebasedHead {
+    pub commit: Ref,
+    pub left: usize,
+}
+
 /// How a pull ends that brought no error, by the state's cookie and confirmed ids.
 pub fn judged(base: &Base, ticket: &Cookie, pull: &PullOk) -> Result<Ended, Refusal>
     ensures reply { (s : State) → s.cookie ≡ base.now.cookie → s.confirmed ≡ base.now.confirmed → result ≡ end_at s ticket.now.text pull.now }
@@ -86,12 +93,13 @@ pub fn rebased<C: Chunks + Copy, K: Known, M: Mutators>(
     base: &Base,
     pending: &[Mutation],
     pull: &PullOk,
-) -> Result<Ref, Refusal>
+) -> Result<RebasedHead, Refusal>
     requires known { C.contents chunks ≡ K.known }
     requires places { (at : Reference) → C.places chunks at }
     requires behind { draft.old.first ≡ length K.known }
     requires map { IsSome (map_at (with_nodes K.known draft.old.nodes) (stamp_of base.now.pulled)) }
-    ensures spelled { (s : State) → map_at (with_nodes K.known draft.old.nodes) (stamp_of base.now.pulled) ≡ Some s.pulled → s.confirmed ≡ base.now.confirmed → s.pending ≡ pending.now → s.closed ≡ false → IfOk result (λ at. Spells M.means (with_nodes K.known draft.new.nodes) (stamp_of at) (after_pull s pull.now)) }
+    ensures spelled { (s : State) → map_at (with_nodes K.known draft.old.nodes) (stamp_of base.now.pulled) ≡ Some s.pulled → s.confirmed ≡ base.now.confirmed → s.pending ≡ pending.now → s.closed ≡ false → IfOk result (λ made. Spells M.means (with_nodes K.known draft.new.nodes) (stamp_of made.commit) (after_pull s pull.now)) }
+    ensures left { (s : State) → s.confirmed ≡ base.now.confirmed → s.pending ≡ pending.now → IfOk result (λ made. made.left ≡ length (after_pull s pull.now).pending) }
     ensures in_range { AreInRange pull.now.changes }
     ensures some { IfOk result (λ _. 0 < length draft.new.nodes) }
     ensures first { draft.new.first ≡ draft.old.first }
@@ -101,5 +109,8 @@ pub fn rebased<C: Chunks + Copy, K: Known, M: Mutators>(
     let left = keep_unconfirmed(alloc, confirmed.as_map(), pending)?;
     let snapshot = add_patched::<C, K>(alloc, chunks, draft, base.pulled, pull, confirmed)?;
     let tip = replayed::<C, K, M>(alloc, chunks, draft, snapshot, mutators, &left)?;
-    Ok(tip.commit)
+    Ok(RebasedHead {
+        commit: tip.commit,
+        left: left.len(),
+    })
 }

@@ -2,8 +2,11 @@
 mod claims;
 mod configs;
 mod drafts;
+mod ends;
 mod heads;
 mod mutations;
 mod nodes;
+mod opening;
 mod queries;
 mod slots;
+mod storms;

@@ -237,11 +237,11 @@ fn add_rebased(
     let pending = pending_at::<Shelf<'_>, Brand>(alloc, shelf, head)?;
     let mut draft = nodes.draft(alloc);
     let mutators = &ScriptMutators;
-    let new = rebased::<Shelf<'_>, Brand, ScriptMutators>(
+    let made = rebased::<Shelf<'_>, Brand, ScriptMutators>(
         alloc, shelf, &mut draft, mutators, &base, &pending, pull,
     )?;
     nodes.append(draft)?;
-    Ok(new)
+    Ok(made.commit)
 }
 
 /// How many nodes one head leaves behind for another, and how many are shown until that is known.

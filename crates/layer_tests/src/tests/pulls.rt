@@ -89,11 +89,11 @@ fn add_by_slots(
     let base = base_at::<Slotted<'_>, Brand>(slots, head)?;
     let mut draft = nodes.draft(alloc);
     let mutators = &ScriptMutators;
-    let new = rebased::<Slotted<'_>, Brand, ScriptMutators>(
+    let made = rebased::<Slotted<'_>, Brand, ScriptMutators>(
         alloc, slots, &mut draft, mutators, &base, pending, pull,
     )?;
     nodes.append(draft)?;
-    Ok(new)
+    Ok(made.commit)
 }
 
 /// A mutation of `a` with this id.

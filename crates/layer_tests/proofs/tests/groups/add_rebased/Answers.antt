@@ -20,4 +20,4 @@ returns-clause-new c =
     let base = c.in_ok-base.ensures.base v.0 (ap (λ (ns : List (Node Ref)). version_at (map content_of ns) (stamp_of c.args.head)) c.shelf-shelf.ensures ∙ v.1) in
     let there = ap (λ (w : Contents). map_at w (stamp_of c.in_ok-base.base.pulled)) (bare contents c.draft-draft.result _ c.draft-draft.ensures) ∙ base.2 in
     let s : State = state v.0.state.pulled v.0.state.cookie c.in_ok-base.base.confirmed c.deref.result.now false in
-    placed shown nodes c.rebased.new.draft.nodes c.append.new.self (stamp_of c.in_ok-new.new) _ c.shelf-shelf.ensures c.in_ok-append.ensures.ok (c.in_ok-new.ensures.spelled s there refl refl refl)
+    placed shown nodes c.rebased.new.draft.nodes c.append.new.self (stamp_of c.in_ok-made.made.commit) _ c.shelf-shelf.ensures c.in_ok-append.ensures.ok (c.in_ok-made.ensures.spelled s there refl refl refl)

@@ -20,7 +20,7 @@ invariant_of-self-2 g c =
     let pending = sym (c.deref.ensures.value ∙ c.in_ok-pending.ensures.pending (version_of means s) spelled) in
     let is_open = ap (λ (w : SoloState). w.state.closed) c.self.view_is ∙ c.requires.open in
     let forward = ap (λ (w : SoloState). goes_back w.state.confirmed pull.changes) c.self.view_is ∙ c.requires.forward in
-    let done = c.in_ok-head.ensures.spelled s there (sym base.1) pending is_open in
-    let small = recursion_from_All _ pull.changes c.in_ok-head.ensures.in_range in
-    head_placed means shown nodes c.rebased.new.draft.nodes c.append.new.self (stamp_of c.in_ok-head.head) (after_pull s pull) c.shelf-shelf.ensures c.in_ok-append.ensures.ok done
+    let done = c.in_ok-made.ensures.spelled s there (sym base.1) pending is_open in
+    let small = recursion_from_All _ pull.changes c.in_ok-made.ensures.in_range in
+    head_placed means shown nodes c.rebased.new.draft.nodes c.append.new.self (stamp_of c.in_ok-made.made.commit) (after_pull s pull) c.shelf-shelf.ensures c.in_ok-append.ensures.ok done
     (after_pull-IdsFollow s.confirmed pull.changes s.pending c.self.invariant.ids forward small)
