@@ -1,3 +1,4 @@
+pub mod CallLemmas
 pub mod Drafting
 pub mod Ending
 pub mod Finding

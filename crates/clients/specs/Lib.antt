@@ -2,5 +2,7 @@
 pub mod Configs
 pub mod Queries
 pub mod Asking
+pub mod Replies
+pub mod Calls
 -- Words that only private clauses of this crate use.
 pub mod Inside

@@ -153,7 +153,7 @@ where
     }
 
     // Pins the seat, and finds the commit at the head and its root. The pin is taken away where that is refused.
-    fn point(&mut self, tries: u32) -> Result<Point<M>, Refusal>
+    pub(crate) fn point(&mut self, tries: u32) -> Result<Point<M>, Refusal>
         ensures point { IfOk result (λ at. IsPoint M.means self.old.mark self.new.mark None at.log × (at.book ≡ self.new.mark.book)) }
         ensures held { S.reused → IfOk result (λ _. IsHeld (S.view self.new.slots)) }
         ensures missed { IfErr result (IsMissed S.reused) }

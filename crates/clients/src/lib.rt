@@ -7,6 +7,8 @@
 //! the commit where they left it.
 #![tactic(auto)]
 
+mod answering;
+mod calls;
 mod changes;
 mod changing;
 mod client;
@@ -20,6 +22,7 @@ mod steps;
 mod tickets;
 mod views;
 
+pub use calls::{Call, Mutate, Reply};
 pub use client::Client;
 pub use config::{Config, MIN_SLOTS, OutOfRange};
 pub use group::Group;

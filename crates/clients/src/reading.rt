@@ -62,7 +62,7 @@ impl<M: Means> Point<M> {
     }
 
     // Its commit, to be read.
-    fn open<'a, S: Slots<M>>(
+    pub(crate) fn open<'a, S: Slots<M>>(
         &'a self,
         alloc: Global,
         shared: &'a Shared<M, S>,
