@@ -2,11 +2,8 @@
 mod claims;
 mod configs;
 mod drafts;
-mod ends;
 mod heads;
 mod mutations;
 mod nodes;
-mod opening;
 mod queries;
 mod slots;
-mod storms;

@@ -1,5 +1,5 @@
 //! How groups may be laid out.
-use super::opening::identity;
+use super::queries::identity;
 use clients::{Config, OutOfRange};
 use group_history::Refusal;
 use std::alloc::Global;

@@ -65,7 +65,7 @@ fn two_places<'a>(
 }
 
 // The cookie that a value is.
-pub(super) fn cookie_of(alloc: Global, value: &Value) -> Result<Cookie, Refusal> {
+fn cookie_of(alloc: Global, value: &Value) -> Result<Cookie, Refusal> {
     if !nests_within(value, 126) {
         return Err(Refusal::NotJson);
     }

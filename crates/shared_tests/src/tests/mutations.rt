@@ -1,8 +1,8 @@
 //! Of mutations of a shared group, over both stores: that they are made, seen by others, and refused when they should be.
-ghost use Rattle.std.specs.Prelude.{◌≡◌};
+ghost use Rattle.std.specs.Prelude.{◌≡◌, IfOk};
 ghost use Rattle.std.specs.List.{All};
 
-use super::opening::{A, answered, config_of, next_client};
+use super::queries::{A, config_of, id};
 use chunk_slots::{Append, Arena, Store};
 use clients::{Client, Config, Group, Seats};
 use group_history::{Json, Means, Mutators, Ran, Reason, Refusal, Stop, Text, WriteView};
@@ -35,30 +35,49 @@ impl Mutators for Setter {
 const PUSH: &str =
     "{\"clientGroupID\":\"00000000-0000-4000-8000-000000000001\",\"mutations\":[{\"args\":5,\"clientID\":\"00000000-0000-4000-8000-00000000000a\",\"id\":1,\"name\":\"n\",\"timestamp\":1000}],\"profileID\":\"p1\",\"pushVersion\":1,\"schemaVersion\":\"s1\"}";
 
+// A client of A's ID on the next seat.
+fn next_client<'g, S: Store<Setter>>(
+    group: &'g Group<Setter, S>,
+    seats: &mut Seats<Setter, S>,
+) -> Result<Client<'g, Setter, S>, Refusal>
+where
+    S::Seat: Drop,
+    requires { All (λ seat. (seat.mark.book ≡ group.now.shared.head) × (S.home seat.slots ≡ S.serves group.now.shared.store)) seats.old.free.items }
+    ensures seats { All (λ seat. (seat.mark.book ≡ group.now.shared.head) × (S.home seat.slots ≡ S.serves group.now.shared.store)) seats.new.free.items }
+    ensures group { IfOk result (λ client. client.mark.book ≡ group.now.shared.head) }
+{
+    let a = id(A)?;
+    let seat = seats.take()?;
+    match group.client(seat, a, 9) {
+        Ok(client) => Ok(client),
+        Err((_, e)) => Err(e),
+    }
+}
+
 // How many more mutations it makes of six, with ids from 2 on and
 // the one value after the other, and why the next one is refused.
 fn fills<S: Store<Setter>>(
     client: &mut Client<'_, Setter, S>,
     name: &Text,
     values: [&Json; 2],
-) -> Result<(u64, Option<Refusal>), Refusal>
+) -> (u64, Option<Refusal>)
 where
     S::Seat: Drop,
 {
     for made in 0u64..6 {
         let value = if made % 2 == 0 { values[0] } else { values[1] };
-        match answered(client.try_mutate(name, value, 1000, 9))? {
+        match client.try_mutate(name, value, 1000, 9) {
             Ok(id) => {
                 if id != made + 2 {
-                    return Ok((made, None));
+                    return (made, None);
                 }
             }
             Err(e) => {
-                return Ok((made, Some(e)));
+                return (made, Some(e));
             }
         }
     }
-    Ok((6, None))
+    (6, None)
 }
 
 // Whether the key has the value for the client.
@@ -109,7 +128,7 @@ where
     S::Seat: Drop,
     ensures { client.new.mark.book ≡ client.old.mark.book }
 {
-    let first = answered(client.try_mutate(name, args, 1000, 9))?;
+    let first = client.try_mutate(name, args, 1000, 9);
     Ok((first, pushes(client)?))
 }
 
@@ -124,17 +143,17 @@ where
     S::Seat: Drop,
     requires { All (λ seat. (seat.mark.book ≡ group.now.shared.head) × (S.home seat.slots ≡ S.serves group.now.shared.store)) seats.old.free.items }
 {
-    let mut a = next_client(group, seats, A)?;
-    let mut c = next_client(group, seats, A)?;
+    let mut a = next_client(group, seats)?;
+    let mut c = next_client(group, seats)?;
     let (first, pushed) = makes(&mut a, name, args)?;
     c.learn(&a.mark());
-    let stale = answered(c.try_mutate(name, args, 1000, 9))?;
+    let stale = c.try_mutate(name, args, 1000, 9);
     let read = reads(&mut c, name, args)?;
     let other = Json::read(alloc, "6".as_bytes())?;
     Ok(Made {
         first,
         pushed,
-        filled: fills(&mut a, name, [&other, args])?,
+        filled: fills(&mut a, name, [&other, args]),
         read,
         stale,
         last: c.refresh(9)?,
@@ -160,13 +179,7 @@ where
 fn mutations_are_made_over_an_arena(rt: HostRuntime) -> Result<(), Refusal> {
     let name = Text::new(rt.alloc(), "n")?;
     let args = Json::read(rt.alloc(), "5".as_bytes())?;
-    let made = in_new::<Arena<Setter>>(
-        rt.alloc(),
-        (),
-        config_of(rt.alloc(), 16, 2)?,
-        &name,
-        &args,
-    )?;
+    let made = in_new::<Arena<Setter>>(rt.alloc(), (), config_of(rt.alloc())?, &name, &args)?;
     assert!(rt; made.first == Ok(1) && made.pushed && made.read);
     assert!(rt; made.stale == Err(Refusal::Stale));
     assert!(rt; made.filled == (4, Some(Refusal::Full)) && made.last == 5);
@@ -177,7 +190,7 @@ fn mutations_are_made_over_an_arena(rt: HostRuntime) -> Result<(), Refusal> {
 fn mutations_are_made_over_a_vector(rt: HostRuntime) -> Result<(), Refusal> {
     let name = Text::new(rt.alloc(), "n")?;
     let args = Json::read(rt.alloc(), "5".as_bytes())?;
-    let config = config_of(rt.alloc(), 16, 2)?;
+    let config = config_of(rt.alloc())?;
     let made = in_new::<Append<&HostRuntime, Setter>>(rt.alloc(), &rt, config, &name, &args)?;
     assert!(rt; made.first == Ok(1) && made.pushed && made.read);
     assert!(rt; made.stale == Err(Refusal::Stale));

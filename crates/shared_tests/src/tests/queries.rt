@@ -1,19 +1,69 @@
 //! Of clients of a shared group: what their queries answer in a new group, over both stores.
-ghost use Rattle.std.specs.Prelude.{◌≡◌};
+ghost use Rattle.std.specs.Prelude.{◌≡◌, IfOk};
 ghost use Rattle.std.specs.List.{All};
 
 use super::heads::Nobody;
-use super::opening::{A, B, config_of, next_client};
 use chunk_slots::{Append, Arena, Store};
 use clients::{Client, Config, Group, ReadTx, Seats};
 use group_history::{Refusal, Scan, Start, Text};
+use push_body::Identity;
 use std::alloc::Global;
+use std::prelude::*;
+use uuid::Uuid;
+
+const GROUP: &str = "00000000-0000-4000-8000-000000000001";
+
+pub(super) const A: &str = "00000000-0000-4000-8000-00000000000a";
+
+const B: &str = "00000000-0000-4000-8000-00000000000b";
 
 const PUSH: &str =
     "{\"clientGroupID\":\"00000000-0000-4000-8000-000000000001\",\"mutations\":[],\"profileID\":\"p1\",\"pushVersion\":1,\"schemaVersion\":\"s1\"}";
 
 const PULL: &str =
     "{\"clientGroupID\":\"00000000-0000-4000-8000-000000000001\",\"cookie\":null,\"profileID\":\"p1\",\"pullVersion\":1,\"schemaVersion\":\"s1\"}";
+
+pub(super) fn identity(alloc: Global) -> Result<Identity, Refusal> {
+    Ok(Identity {
+        group: Text::new(alloc, GROUP)?,
+        profile: Text::new(alloc, "p1")?,
+        schema: Text::new(alloc, "s1")?,
+    })
+}
+
+// A group of 16 slots and 2 seats.
+pub(super) fn config_of(alloc: Global) -> Result<Config, Refusal> {
+    match Config::new(identity(alloc)?, 16, 2) {
+        Ok(config) => Ok(config),
+        Err(_) => Err(Refusal::Full),
+    }
+}
+
+pub(super) fn id(text: &str) -> Result<Uuid, Refusal> {
+    match Uuid::parse_str(text) {
+        Ok(id) => Ok(id),
+        Err(_) => Err(Refusal::BadShape),
+    }
+}
+
+// A client on the next seat.
+fn next_client<'g, S: Store<Nobody>>(
+    group: &'g Group<Nobody, S>,
+    seats: &mut Seats<Nobody, S>,
+    text: &str,
+) -> Result<Client<'g, Nobody, S>, Refusal>
+where
+    S::Seat: Drop,
+    requires { All (λ seat. (seat.mark.book ≡ group.now.shared.head) × (S.home seat.slots ≡ S.serves group.now.shared.store)) seats.old.free.items }
+    ensures seats { All (λ seat. (seat.mark.book ≡ group.now.shared.head) × (S.home seat.slots ≡ S.serves group.now.shared.store)) seats.new.free.items }
+    ensures group { IfOk result (λ client. client.mark.book ≡ group.now.shared.head) }
+{
+    let seat = seats.take()?;
+    match group.client(seat, id(text)?, 9) {
+        Ok(client) => Ok(client),
+        Err((_, e)) => Err(e),
+    }
+}
 
 // What queries of the map answer.
 #[derive(Clone, Copy, PartialEq, Eq, Debug)]
@@ -175,7 +225,7 @@ where
 #[test]
 fn queries_answer_over_an_arena(rt: HostRuntime) -> Result<(), Refusal> {
     let all = all_rows(rt.alloc())?;
-    let seen = in_new::<Arena<Nobody>>(rt.alloc(), (), config_of(rt.alloc(), 16, 2)?, &all)?;
+    let seen = in_new::<Arena<Nobody>>(rt.alloc(), (), config_of(rt.alloc())?, &all)?;
     assert!(rt; seen == (IN_A_NEW_GROUP, IN_A_NEW_GROUP, false));
     Ok(())
 }
@@ -183,7 +233,7 @@ fn queries_answer_over_an_arena(rt: HostRuntime) -> Result<(), Refusal> {
 #[test]
 fn queries_answer_over_a_vector(rt: HostRuntime) -> Result<(), Refusal> {
     let all = all_rows(rt.alloc())?;
-    let config = config_of(rt.alloc(), 16, 2)?;
+    let config = config_of(rt.alloc())?;
     let seen = in_new::<Append<&HostRuntime, Nobody>>(rt.alloc(), &rt, config, &all)?;
     assert!(rt; seen == (IN_A_NEW_GROUP, IN_A_NEW_GROUP, false));
     Ok(())

@@ -7,12 +7,11 @@ ghost use Rattle.std.specs.List.{All};
 ghost use Rattle.group_history.specs.Pull.{AreInRange};
 
 use super::ends::{Answer, CLOSING, Told};
-use super::heads::cookie_of;
 use super::opening::{A, B, answered, config_of, next_client};
 use chunk_slots::{Append, Arena, Store};
 use clients::{Client, Group, Seats, Ticket};
 use group_history::{
-    Confirmed, Cookie, Ended, Json, Patch, PlainGroup, PullOk, Refusal, Response, Text,
+    Confirmed, Cookie, Ended, Json, Patch, PlainGroup, PullOk, Refusal, Response, Text, nests_within,
 };
 use script_runner::ScriptMutators;
 use serde_json::Value;
@@ -25,6 +24,13 @@ use std::thread::{Threads, join};
 const TRIES: u32 = 1_000;
 
 type Ending = Result<Ended, Refusal>;
+
+fn cookie_of(alloc: Global, value: &Value) -> Result<Cookie, Refusal> {
+    if !nests_within(value, 126) {
+        return Err(Refusal::NotJson);
+    }
+    Cookie::of(alloc, value)?.ok_or(Refusal::BadShape)
+}
 
 // Clients of these IDs on the next two seats.
 fn two_clients<'g, S: Store<ScriptMutators>>(
