@@ -2,9 +2,9 @@
 //!
 //! The clients of a group share the nodes of a store and the head of its book. Each has a seat: what it
 //! claims slots with, and what it has seen of the book. A query pins the seat, looks where the head is,
-//! reads the commit there, and takes the pin away again. A mutation is drafted at that commit, its nodes
-//! are placed, and the head is moved there from the commit; where others moved it first, it is made anew at
-//! the commit where they left it.
+//! reads the commit there, and takes the pin away again. A change, a mutation or an end of a pull, is drafted
+//! at that commit, its nodes are placed, and the head is moved there from the commit; where others moved it
+//! first, it is made anew at the commit where they left it.
 #![tactic(auto)]
 
 mod answering;
