@@ -3,7 +3,7 @@
 //! A list of calls is answered call by call, each at a point of its own (`AreAnswered`). Where no other seat
 //! moves the head meanwhile, the replies are those of a group of one thread (`AreReplies`): each is the right
 //! one at the state that the calls before it left.
-ghost use Rattle.std.specs.Prelude.{◌≡◌, ◌⊎◌, ◌≢◌, Bool, true, Ok, map, length, IfOk, IfErr, OnErr};
+ghost use Rattle.std.specs.Prelude.{◌≡◌, ◌⊎◌, true, Ok, map, IfOk, IfErr, OnErr};
 ghost use mathlib.Core.List.{IsPrefix};
 ghost use Rattle.group_history.specs.declared.refusals.Refusal.TheVariants.{NoMemory};
 ghost use Rattle.group_history.specs.Record.{after};
