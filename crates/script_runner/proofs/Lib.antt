@@ -1,5 +1,5 @@
 pub mod Lists
 pub mod Joining
+pub mod Changes
 pub mod Numbers
 pub mod Scripts
-pub mod MutatorArguments

@@ -1,5 +1,6 @@
 -- The lines of a script, one after the other.
 use Rattle.std.proofs.Common.{IsErrAnd, subst, ◌≡◌, ℕ, ◌+◌, ◌<◌, List, [], ◌∷◌, ◌++◌, map, length, take, drop, get_or, Option, Some, None, Result, Ok, Err, refl, sym, ap, ◌∙◌, append_assoc, append-nil, length-append, take-append-drop, drop-cons, suc}
+use Rattle.std.specs.Result.{result_err}
 use Rattle.std.specs.Str.{IsUtf8, is_utf8}
 use Rattle.std.proofs.lemmas.Bool.{false_from_ne_true}
 use Rattle.std.proofs.lemmas.List.{map-append}
@@ -12,26 +13,26 @@ use Rattle.script_runner.specs.declared.faults.Fault.{Fault}
 use Rattle.script_runner.specs.declared.faults.Fault.TheVariants as fault
 use Rattle.script_runner.specs.declared.faults.ScriptFault.TheVariants as text
 use Rattle.script_runner.specs.Context.{Context, nothing_said}
-use Rattle.script_runner.specs.Faults.{fault_in, fault_after, said_with, Checks, first_fault, lines_of, line_of_bad_byte}
+use Rattle.script_runner.specs.Faults.{said_in, said_after, said_with, Checks, script_said, first_fault, lines_of, line_of_bad_byte}
 use Rattle.script_runner.specs.Inside.Faults.{fault_at, Follows}
 
--- The lines so far, of which there are n, have no fault, and say this: the first fault of a script that begins with
--- them is the first one in what follows.
+-- The lines so far, of which there are n, have no fault, and say this: what a script says that begins with them is
+-- what the lines after them say too.
 pub record Said (n : ℕ) (before : List Bytes) (c : Context) : Type 0 where
-  pub all : (after : List Bytes) → fault_in 1 nothing_said (before ++ after) ≡ fault_in (n + 1) c after
+  pub all : (after : List Bytes) → said_in 1 nothing_said (before ++ after) ≡ said_in (n + 1) c after
 
 -- none yet
 pub Said-none : Said 0 [] nothing_said
 Said-none = record { all = λ after. refl }
 
 -- a line more
-Said-next : (n : ℕ) (before : List Bytes) (c d : Context) (l : Bytes) → Said n before c → said_with c l ≡ Ok d → Said (n + 1) (before ++ l ∷ []) d
+Said-next : (n : ℕ) (before : List Bytes) (c d : Context) (l : Bytes) → Said n before c → said_with c (n + 1) l ≡ Ok d → Said (n + 1) (before ++ l ∷ []) d
 Said-next n before c d l said right = record {
-  all = λ after. rw (append_assoc before (l ∷ []) after) (said.all (l ∷ after) ∙ ap (fault_after (n + 1) (λ e. fault_in (n + 1 + 1) e after)) right);
+  all = λ after. rw (append_assoc before (l ∷ []) after) (said.all (l ∷ after) ∙ ap (said_after (n + 1) (λ e. said_in (n + 1 + 1) e after)) right);
 }
 
 -- the same, of lines that are read by f
-pub Said-turn : {X : Type 0} (f : X → Bytes) (xs : List X) (x : X) (c d : Context) → Said (length xs) (map f xs) c → said_with c (f x) ≡ Ok d →
+pub Said-turn : {X : Type 0} (f : X → Bytes) (xs : List X) (x : X) (c d : Context) → Said (length xs) (map f xs) c → said_with c (length xs + 1) (f x) ≡ Ok d →
     Said (length (xs ++ x ∷ [])) (map f (xs ++ x ∷ [])) d
 Said-turn f xs x c d said right = rw (length-append xs (x ∷ []), map-append f xs (x ∷ [])) (Said-next (length xs) (map f xs) c d (f x) said right)
 
@@ -40,16 +41,16 @@ cut_at : (n : ℕ) (lines : List Bytes) (d : Bytes) → n < length lines → lin
 cut_at n lines d below = sym (take-append-drop n lines) ∙ ap (λ rest. take n lines ++ rest) (drop-cons lines n d below)
 
 -- a faulty line
-pub Said-fault : (n : ℕ) (before : List Bytes) (c : Context) (l : Bytes) (f : ScriptFault) (lines : List Bytes) → Said n before c → said_with c l ≡ Err f →
-    n < length lines → before ≡ take n lines → l ≡ get_or lines n l → fault_in 1 nothing_said lines ≡ Some (n + 1, f)
+pub Said-fault : (n : ℕ) (before : List Bytes) (c : Context) (l : Bytes) (f : ScriptFault) (lines : List Bytes) → Said n before c → said_with c (n + 1) l ≡ Err f →
+    n < length lines → before ≡ take n lines → l ≡ get_or lines n l → said_in 1 nothing_said lines ≡ Err (n + 1, f)
 Said-fault n before c l f lines said wrong below front here =
-    ap (fault_in 1 nothing_said) (cut_at n lines l below ∙ ap (λ b. b ++ get_or lines n l ∷ drop (suc n) lines) (sym front) ∙ ap (λ x. before ++ x ∷ drop (suc n) lines) (sym here))
+    ap (said_in 1 nothing_said) (cut_at n lines l below ∙ ap (λ b. b ++ get_or lines n l ∷ drop (suc n) lines) (sym front) ∙ ap (λ x. before ++ x ∷ drop (suc n) lines) (sym here))
     ∙ said.all (l ∷ drop (suc n) lines)
-    ∙ ap (fault_after (n + 1) (λ e. fault_in (n + 1 + 1) e (drop (suc n) lines))) wrong
+    ∙ ap (said_after (n + 1) (λ e. said_in (n + 1 + 1) e (drop (suc n) lines))) wrong
 
 -- no line is left
-pub Said-all : (n : ℕ) (c : Context) (lines : List Bytes) → Said n lines c → fault_in 1 nothing_said lines ≡ None
-Said-all n c lines said = ap (fault_in 1 nothing_said) (sym (append-nil lines)) ∙ said.all []
+pub Said-all : (n : ℕ) (c : Context) (lines : List Bytes) → Said n lines c → said_in 1 nothing_said lines ≡ Ok c
+Said-all n c lines said = ap (said_in 1 nothing_said) (sym (append-nil lines)) ∙ said.all []
 
 -- the fault of a line is the script's
 pub Checks-fault : (X Y : Type 0) (n : ℕ) (first : Option (ℕ × ScriptFault)) (right : Result Context ScriptFault) (c : Context) (e : LineFault) →
@@ -58,14 +59,19 @@ Checks-fault X Y n first right c (line.Script f) follows is = is f follows
 Checks-fault X Y n first right c line.NoMemory follows is = tt
 
 -- a script that is UTF-8
-pub first_fault-text : (bytes : Bytes) → IsUtf8 bytes → first_fault bytes ≡ fault_in 1 nothing_said (lines_of bytes)
-unfolding first_fault
-first_fault-text bytes utf8 = rw (is_utf8-from_IsUtf8 bytes utf8)
+pub script_said-text : (bytes : Bytes) → IsUtf8 bytes → script_said bytes ≡ said_in 1 nothing_said (lines_of bytes)
+unfolding script_said
+script_said-text bytes utf8 = rw (is_utf8-from_IsUtf8 bytes utf8)
 
 -- a script that isn't
-pub first_fault-bytes : (bytes : Bytes) → ¬ (IsUtf8 bytes) → first_fault bytes ≡ Some (line_of_bad_byte bytes, text.NotUtf8)
+pub script_said-bytes : (bytes : Bytes) → ¬ (IsUtf8 bytes) → script_said bytes ≡ Err (line_of_bad_byte bytes, text.NotUtf8)
+unfolding script_said
+script_said-bytes bytes other = rw (false_from_ne_true (is_utf8 bytes) (λ e. other (IsUtf8-from_is_utf8 bytes e)))
+
+-- the first fault of a script that says this
+pub first_fault-said : (bytes : Bytes) (said : Result Context (ℕ × ScriptFault)) → script_said bytes ≡ said → first_fault bytes ≡ result_err said
 unfolding first_fault
-first_fault-bytes bytes other = rw (false_from_ne_true (is_utf8 bytes) (λ e. other (IsUtf8-from_is_utf8 bytes e)))
+first_fault-said bytes said is = ap result_err is
 
 -- a fault says nothing of the value
 pub Checks-as : (X Y : Type 0) (first : Option (ℕ × ScriptFault)) (e : Fault) → Checks {X = X} first (Err e) → Checks {X = Y} first (Err e)

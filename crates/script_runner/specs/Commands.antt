@@ -1,6 +1,6 @@
 -- The lines from the first phase on: what each needs, each need with the fault of a line that doesn't meet it, and
 -- what it says. Where a line has several faults, the first need that isn't met tells.
-use Rattle.std.specs.Prelude.{codes, ℕ, ◌^◌, ◌-◌, Bool, true, ◌&&◌, ◌==◌, List, [], ◌∷◌, ◌++◌, Option, Some, None, is_some, is_none, Result, Ok, Err, if◌then◌else◌}
+use Rattle.std.specs.Prelude.{codes, ℕ, zero, suc, ◌^◌, ◌-◌, Bool, ◌&&◌, ◌==◌, List, [], ◌∷◌, ◌++◌, length, replicate, Option, Some, None, is_some, is_none, unwrap_or, Result, Ok, Err, if◌then◌else◌}
 use Rattle.std.specs.List.{list_any}
 use Rattle.std.specs.Str.Parse.{digits_value}
 use Rattle.group_history.specs.Map.{Bytes, same_text}
@@ -9,12 +9,12 @@ use Rattle.script_runner.specs.declared.faults.ScriptFault.TheVariants as fault
 use Rattle.script_runner.specs.declared.script.Command.{Command}
 use Rattle.script_runner.specs.declared.script.Command.TheVariants as command
 use Rattle.script_runner.specs.declared.script.Query.TheVariants as query
-use Rattle.script_runner.specs.Context.{Context, place_of, meets}
+use Rattle.script_runner.specs.Context.{Context, Lines, place_of, meets}
 use Rattle.script_runner.specs.Words.{word, more, text, is_word, begins_with_word, is_ticket_name, is_client_name, is_number, is_start, is_limit, is_json, json_said, prefix_said, start_said, limit_said}
 
--- `phase`
+-- `phase`: in a new phase no client has a line
 unfoldable pub phase_line : Context → Option Bytes → Result Context ScriptFault
-phase_line c rest = meets ((is_none rest, fault.BadWords) ∷ []) (record c { begun = true })
+phase_line c rest = meets ((is_none rest, fault.BadWords) ∷ []) (record c { phases = c.phases ++ replicate (length c.clients) [] ∷ [] })
 
 -- what a client's line says: what is said with it too, and its command
 abbrev pub Told : Type 0
@@ -69,11 +69,11 @@ mutate_line c rest =
     ∷ [])
     (c, command.Mutate (record { time = digits_value 10 (word (text rest)); mutator = word after_time; args = json_said (text args) }))
 
--- `learn NAME`
+-- `learn NAME`: from the client at this name's place
 unfoldable pub learn_line : Context → Option Bytes → Told
 learn_line c rest =
     meets ((is_some rest, fault.BadWords) ∷ (is_client_name (text rest), fault.BadWords) ∷ (is_some (place_of (text rest) c.clients), fault.UnknownName) ∷ [])
-    (c, command.Learn)
+    (c, command.Learn (unwrap_or (place_of (text rest) c.clients) 0))
 
 -- the commands that take no words
 unfoldable pub bare_command : Bytes → Option Command
@@ -117,16 +117,26 @@ unfoldable pub command_of : Context → ℕ → Option Bytes → Told
 command_of c client None = Err fault.UnknownCommand
 command_of c client (Some rest) = named_command c client (word rest) (more rest)
 
+-- the value at a place of a list is changed
+abbrev pub changed_at : {X : Type 0} → ℕ → (X → X) → List X → List X
+changed_at i change [] = []
+changed_at zero change (x ∷ xs) = change x ∷ xs
+changed_at (suc i) change (x ∷ xs) = x ∷ changed_at i change xs
+
+-- the line is the last one of the client at this place in the last phase
+unfoldable pub with_line : ℕ → ℕ × Command → List (List Lines) → List (List Lines)
+with_line client line phases = changed_at (length phases - 1) (changed_at client (λ lines. lines ++ line ∷ [])) phases
+
+-- what is said with such a line of this number too
+abbrev pub said_by : ℕ → ℕ → Told → Result Context ScriptFault
+said_by n client (Ok (c, command)) = Ok (record c { phases = with_line client (n, command) c.phases })
+said_by n client (Err f) = Err f
+
 -- the line of the client at this place, where there is one
-unfoldable pub command_at : Context → Option ℕ → Option Bytes → Told
-command_at c None rest = Err fault.UnknownClient
-command_at c (Some client) rest = command_of c client rest
+unfoldable pub command_at : Context → ℕ → Option ℕ → Option Bytes → Result Context ScriptFault
+command_at c n None rest = Err fault.UnknownClient
+command_at c n (Some client) rest = said_by n client (command_of c client rest)
 
--- what is said with such a line too
-abbrev pub said_by : Told → Result Context ScriptFault
-said_by (Ok told) = Ok told.0
-said_by (Err f) = Err f
-
--- a line from the first phase on, by its first word and what follows
-unfoldable pub command_line : Context → Bytes → Option Bytes → Result Context ScriptFault
-command_line c name rest = said_by (command_at c (place_of name c.clients) rest)
+-- a line of this number, from the first phase on, by its first word and what follows
+unfoldable pub command_line : Context → ℕ → Bytes → Option Bytes → Result Context ScriptFault
+command_line c n name rest = command_at c n (place_of name c.clients) rest

@@ -1,7 +1,12 @@
 -- What the lines of a script have said so far, and what a line needs.
-use Rattle.std.specs.Prelude.{ℕ, Bool, false, List, [], ◌∷◌, Option, None, Result, Ok, Err, if◌then◌else◌, position}
+use Rattle.std.specs.Prelude.{ℕ, Bool, List, [], ◌∷◌, Option, None, Result, Ok, Err, if◌then◌else◌, position}
 use Rattle.group_history.specs.Map.{Bytes, same_text}
 use Rattle.script_runner.specs.declared.faults.ScriptFault.{ScriptFault}
+use Rattle.script_runner.specs.declared.script.Command.{Command}
+
+-- the lines of a client in a phase, in their order: the number of each in the script, and its command
+abbrev pub Lines : Type 0
+Lines = List (ℕ × Command)
 
 -- what the lines so far have said
 pub record Context : Type 0 where
@@ -12,14 +17,14 @@ pub record Context : Type 0 where
   pub slots : Option ℕ
   -- the clients, in the order of their lines: the name, and the ID in that same form
   pub clients : List (Bytes × Bytes)
-  -- whether a phase began
-  pub begun : Bool
+  -- the phases, in their order; in each the lines of each client, in the order of the client lines
+  pub phases : List (List Lines)
   -- the tickets that are made, each with the place of its client
   pub tickets : List (ℕ × Bytes)
 
 -- before the first line
 abbrev pub nothing_said : Context
-nothing_said = record { group = None; profile = None; schema = None; slots = None; clients = []; begun = false; tickets = [] }
+nothing_said = record { group = None; profile = None; schema = None; slots = None; clients = []; phases = []; tickets = [] }
 
 -- the place of a client, by its name
 unfoldable pub place_of : Bytes → List (Bytes × Bytes) → Option ℕ

@@ -1,10 +1,66 @@
--- How a run of a script ends.
-use Rattle.std.specs.Prelude.{⊤}
+-- With which clients a run of a script begins, and how it ends.
+use Rattle.std.specs.Prelude.{◌≡◌, ◌⊎◌, ⊤, codes, List, map, Option, None, unwrap_or, Result, Err}
+use Rattle.std.specs.FinMap as finite
+use Rattle.std.specs.Io.KnownBytes.{Appends, Keeps}
+use Rattle.std.specs.List.{All}
+use Rattle.logbook.specs.Pages.{Book}
+use Rattle.group_history.specs.Map.{Bytes}
+use Rattle.group_history.specs.State.{last_id}
+use Rattle.head_word.specs.Marks.{Known}
+use Rattle.push_body.specs.declared.identities.Identity.{Identity}
+use Rattle.answered.specs.Answered.{IsAnswered}
 use Rattle.script_runner.specs.declared.faults.Fault.{Fault}
 use Rattle.script_runner.specs.declared.faults.Fault.TheVariants as fault
+use Rattle.script_runner.specs.Callers.{Learns, MayReply}
+use Rattle.script_runner.specs.Commanding.{Player}
+use Rattle.script_runner.specs.Context.{Context}
+use Rattle.script_mutators.specs.Mutators.{script_means}
+use Rattle.script_runner.specs.Phases.{AreWritten, HasWhole}
+
+-- whose requests a group writes: what the header lines of `group`, `profile` and `schema` say, and else the defaults
+abbrev pub identity_of : Option Bytes → Option Bytes → Option Bytes → Identity
+identity_of group profile schema = record {
+  group = unwrap_or group (codes "00000000-0000-0000-0000-000000000000");
+  profile = unwrap_or profile (codes "p1");
+  schema = unwrap_or schema (codes "s1");
+}
+
+-- a client of the group of this book before the first phase: it has the last id that the group has of it, and no ticket
+pub record IsNew (identity : Identity) (book : Book) (p : Player) : Type 0 where
+  pub identity : p.standing.caller.identity ≡ identity
+  pub book : p.standing.mark.book ≡ book
+  pub last : (before : Known) × IsAnswered script_means before p.standing.mark None (λ s. last_id s p.standing.caller.client ≡ p.standing.caller.last)
+  pub tickets : p.tickets ≡ finite.empty
+
+-- the clients before the first phase: those of the lines, each with its name and ID, in a group of its own
+pub record AreNew (identity : Identity) (lines : List (Bytes × Bytes)) (players : List Player) : Type 0 where
+  pub lines : map (λ p. (p.name, p.standing.caller.client)) players ≡ lines
+  pub all : (book : Book) × All (IsNew identity book) players
+
+-- A run to the end writes what the phases print that the script says, from its clients on.
+pub record HasRun (said : Context) (old new : Option Bytes) : Type 0 where
+  pub opened : List Player
+  pub are : AreNew (identity_of said.group said.profile said.schema) said.clients opened
+  pub text : Bytes
+  pub closed : List Player
+  pub written : AreWritten MayReply Learns opened said.phases text closed
+  pub appended : Appends old new text
+
+-- A run that memory ended has written what so many whole phases print, none where its clients were not opened.
+pub record HasRunSome (said : Context) (old new : Option Bytes) (opened : List Player) : Type 0 where
+  pub are : AreNew (identity_of said.group said.profile said.schema) said.clients opened
+  pub written : HasWhole MayReply Learns opened said.phases old new
+
+abbrev pub HasStopped : Context → Option Bytes → Option Bytes → Type 0
+HasStopped said old new = Keeps old new ⊎ ((opened : List Player) × HasRunSome said old new opened)
 
 -- the fault is one of the script, and not of memory or of the writer
 abbrev pub IsOfScript : Fault → Type 0
 IsOfScript (fault.Script line text) = ⊤
 IsOfScript fault.NoMemory = ⊥
 IsOfScript fault.Write = ⊥
+
+-- memory was refused
+abbrev pub IsWant : {X : Type 0} → Result X Fault → Type 0
+IsWant (Err fault.NoMemory) = ⊤
+IsWant other = ⊥

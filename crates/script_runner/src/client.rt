@@ -1,120 +1,183 @@
 //! A client of a script: what it keeps between its lines, and what each command does.
-ghost use Rattle.std.specs.Prelude.{◌≡◌};
-ghost use Rattle.rebase.specs.Replying.{reply_seen};
-ghost use Rattle.script_runner.specs.Inside.Printing.{reply_text, answer_text};
+ghost use Rattle.std.specs.Prelude.{◌≡◌, Ok, map};
+ghost use Rattle.std.specs.List.{All};
+ghost use Rattle.std.specs.FinMap as finite;
+ghost use Rattle.clients.specs.Queries.{asked, told};
+ghost use Rattle.clients.specs.Replies.{reply_seen, ticket as replied_ticket};
+ghost use Rattle.clients.specs.declared.calls.Call.TheVariants as call;
+ghost use Rattle.script_runner.specs.Commanding.{Asks, AsksEnd, AsksMutation, HandsOn, IsBegun, MayBegin, MayEnd, MayLearn, MayPrint};
+ghost use Rattle.script_runner.specs.Inside.Players.{player_of};
+ghost use Rattle.script_runner.specs.Printing.{answer_text, refreshed_text, replied_text};
+ghost use Rattle.script_runner.specs.Inside.Printing.{reply_text};
 
-use crate::groups::Group;
+use crate::callers::Caller;
 use crate::reply::Reply;
 use crate::script::{self, Command, Query};
-use group_history::{Cookie, Refusal, Text, TextMap};
-use rebase::{Call, Mutate, Reply as Answer};
+use clients::{Call, Mutate, Reply as Answer, Ticket};
+use group_history::{Refusal, Text, TextMap};
 use std::alloc::{AllocError, Global};
+use std::sync::Wait;
 
 /// A client of a script.
 #[derive(Drop)]
-pub(crate) struct Client {
+pub(crate) struct Client<C: Drop> {
     alloc: Global,
     pub(crate) name: Text,
-    /// The client's ID, a lower-case hyphenated UUID.
-    id: Text,
-    /// What the client holds for its last id.
-    last: u64,
-    /// The cookies at which its pulls were begun, by the tickets' names.
-    tickets: TextMap<Cookie>,
+    pub(crate) caller: C,
+    /// The pulls that it began and can end, by the tickets' names. Their bodies are handed on.
+    tickets: TextMap<Ticket>,
 }
 
-impl Client {
-    pub(crate) fn new(alloc: Global, name: &Text, id: &Text) -> Result<Client, AllocError> {
+impl<C: Caller + Drop> Client<C> {
+    pub(crate) fn new(alloc: Global, name: &Text, caller: C) -> Result<Client<C>, AllocError> {
         Ok(Client {
             alloc,
             name: name.clone()?,
-            id: id.clone()?,
-            last: 0,
+            caller,
             tickets: TextMap::new(alloc),
         })
     }
 
-    /// Does a command. A refusal is a reply like any other.
-    pub(crate) fn call<G: Group>(&mut self, group: &mut G, command: &Command) -> Reply {
-        let answer = match command {
-            Command::Begin(name) => self.begin(group, name),
-            Command::End(name, body) => self.end(group, name, body),
-            Command::Mutate(call) => self.mutate(group, call),
-            Command::Refresh => self.refresh(group),
-            Command::Learn => Ok(Reply::Learnt),
-            Command::Query(query) => self.query(group, query),
-        };
-        match answer {
-            Ok(reply) => reply,
-            Err(refusal) => Reply::Refused(refusal),
+    /// Does a command. A refusal is a reply like any other. `seen` is what each client had seen when the phase began.
+    pub(crate) fn call<R: Wait>(
+        &mut self,
+        rt: &R,
+        seen: &[C::Seen],
+        command: &Command,
+    ) -> Reply
+        requires { All (λ s. (C.seen_by s).book ≡ (C.stands self.old.caller).mark.book) seen.now }
+        ensures told { MayPrint C.may_reply C.learns (map C.seen_by seen.now) (player_of C.stands self.old) command.now (reply_text result) (player_of C.stands self.new) }
+        ensures name { self.new.name ≡ self.old.name }
+        ensures group { (C.stands self.new.caller).mark.book ≡ (C.stands self.old.caller).mark.book }
+    {
+        match command {
+            Command::Begin(name) => self.begin(rt, name),
+            Command::End(name, body) => self.end(rt, name, body),
+            Command::Mutate(call) => self.mutate(rt, call),
+            Command::Refresh => self.refresh(rt),
+            Command::Learn(place) => self.learn(seen, *place),
+            Command::Query(query) => self.query(rt, query),
         }
     }
 
-    fn query<G: Group>(&self, group: &mut G, query: &Query) -> Result<Reply, Refusal> {
-        let call = match query {
-            Query::Get(key) => Call::Get(key),
-            Query::Has(key) => Call::Has(key),
-            Query::Scan(scan) => Call::Scan(scan),
-            Query::Empty => Call::IsEmpty,
-            Query::Closed => Call::Closed,
-            Query::Pending => Call::Pending,
-            Query::Cookie => Call::Cookie,
-            Query::Push => Call::PushBody,
-        };
-        Ok(reply_of(group.make_call(call)?))
+    fn query<R: Wait>(&mut self, rt: &R, query: &Query) -> Reply
+        ensures told { HandsOn C.may_reply C.learns (Asks query.now) answer_text (player_of C.stands self.old) (reply_text result) (player_of C.stands self.new) }
+        ensures name { self.new.name ≡ self.old.name }
+        ensures group { (C.stands self.new.caller).mark.book ≡ (C.stands self.old.caller).mark.book }
+    {
+        reply_of(self.caller.call(rt, call_of(query)))
     }
 
     /// A ticket whose name was given before is replaced, and where this is refused there is none of that name.
-    fn begin<G: Group>(&mut self, group: &mut G, name: &Text) -> Result<Reply, Refusal> {
+    fn begin<R: Wait>(&mut self, rt: &R, name: &Text) -> Reply
+        ensures told { MayBegin C.may_reply C.learns name.now (player_of C.stands self.old) (reply_text result) (player_of C.stands self.new) }
+        ensures name { self.new.name ≡ self.old.name }
+        ensures group { (C.stands self.new.caller).mark.book ≡ (C.stands self.old.caller).mark.book }
+    {
         self.tickets.remove(name);
-        match group.make_call(Call::BeginPull)? {
-            Answer::Ticket(ticket) => {
-                self.tickets.insert(name.clone()?, ticket.cookie)?;
-                Ok(Reply::Pull(ticket.body))
-            }
-            answer => Ok(reply_of(answer)),
+        match self.caller.call(rt, Call::BeginPull) {
+            Ok(Answer::Ticket(ticket)) => self.keep(name, ticket),
+            answer => reply_of(answer),
         }
     }
 
-    fn end<G: Group>(&self, group: &mut G, name: &Text, body: &Text) -> Result<Reply, Refusal> {
+    /// Keeps a ticket, and hands its body on.
+    fn keep(&mut self, name: &Text, ticket: Ticket) -> Reply
+        ensures told { IsBegun self.old.tickets name.now (Ok (replied_ticket (asked ticket))) (reply_text result) self.new.tickets }
+        ensures same { (self.new.name ≡ self.old.name) × (self.new.caller ≡ self.old.caller) }
+    {
+        let Ticket { body, cookie } = ticket;
+        let kept = Ticket {
+            body: Vec::new(self.alloc),
+            cookie,
+        };
+        let Ok(name) = name.clone() else {
+            return Reply::Refused(Refusal::NoMemory);
+        };
+        match self.tickets.insert(name, kept) {
+            Ok(()) => Reply::Pull(body),
+            Err(_) => Reply::Refused(Refusal::NoMemory),
+        }
+    }
+
+    fn end<R: Wait>(&mut self, rt: &R, name: &Text, body: &Text) -> Reply
+        ensures told { MayEnd C.may_reply C.learns (finite.get self.old.tickets name.now) body.now (player_of C.stands self.old) (reply_text result) (player_of C.stands self.new) }
+        ensures name { self.new.name ≡ self.old.name }
+        ensures group { (C.stands self.new.caller).mark.book ≡ (C.stands self.old.caller).mark.book }
+    {
         match self.tickets.get(name) {
-            Some(cookie) => {
-                let answer = group.make_call(Call::EndPull(cookie, body.as_str().as_bytes()))?;
-                Ok(reply_of(answer))
+            Some(ticket) => {
+                reply_of(self.caller.call(rt, Call::EndPull(ticket, body.as_str().as_bytes())))
             }
-            None => Ok(Reply::NoTicket),
+            None => Reply::NoTicket,
         }
     }
 
-    fn mutate<G: Group>(&mut self, group: &mut G, call: &script::Call) -> Result<Reply, Refusal> {
+    fn mutate<R: Wait>(&mut self, rt: &R, call: &script::Call) -> Reply
+        ensures told { HandsOn C.may_reply C.learns (AsksMutation call.now) answer_text (player_of C.stands self.old) (reply_text result) (player_of C.stands self.new) }
+        ensures name { self.new.name ≡ self.old.name }
+        ensures group { (C.stands self.new.caller).mark.book ≡ (C.stands self.old.caller).mark.book }
+    {
         let asked = Mutate {
-            client: &self.id,
-            last: self.last,
             name: &call.mutator,
             args: &call.args,
             time: call.time,
         };
-        let answer = group.make_call(Call::Mutate(asked))?;
-        if let Answer::Id(id) = &answer {
-            self.last = *id;
-        }
-        Ok(reply_of(answer))
+        reply_of(self.caller.call(rt, Call::Mutate(asked)))
     }
 
-    fn refresh<G: Group>(&mut self, group: &mut G) -> Result<Reply, Refusal> {
-        match group.make_call(Call::Last(&self.id))? {
-            Answer::Id(id) => {
-                self.last = id;
-                Ok(Reply::Last(id))
-            }
-            answer => Ok(reply_of(answer)),
+    fn refresh<R: Wait>(&mut self, rt: &R) -> Reply
+        ensures told { HandsOn C.may_reply C.learns (λ c. c ≡ call.Refresh) refreshed_text (player_of C.stands self.old) (reply_text result) (player_of C.stands self.new) }
+        ensures name { self.new.name ≡ self.old.name }
+        ensures group { (C.stands self.new.caller).mark.book ≡ (C.stands self.old.caller).mark.book }
+    {
+        match self.caller.call(rt, Call::Refresh) {
+            Ok(Answer::Id(id)) => Reply::Last(id),
+            answer => reply_of(answer),
         }
+    }
+
+    fn learn(&mut self, seen: &[C::Seen], place: usize) -> Reply
+        requires { All (λ s. (C.seen_by s).book ≡ (C.stands self.old.caller).mark.book) seen.now }
+        ensures told { MayLearn C.may_reply C.learns (map C.seen_by seen.now) place (player_of C.stands self.old) (reply_text result) (player_of C.stands self.new) }
+        ensures name { self.new.name ≡ self.old.name }
+        ensures group { (C.stands self.new.caller).mark.book ≡ (C.stands self.old.caller).mark.book }
+    {
+        if let Some(other) = seen.get(place) {
+            self.caller.learn(other);
+        }
+        Reply::Learnt
+    }
+}
+
+/// The call that a query is.
+fn call_of(query: &Query) -> Call<'_>
+    ensures { Asks query.now result }
+{
+    match query {
+        Query::Get(key) => Call::Get(key),
+        Query::Has(key) => Call::Has(key),
+        Query::Scan(scan) => Call::Scan(scan),
+        Query::Empty => Call::IsEmpty,
+        Query::Closed => Call::Closed,
+        Query::Pending => Call::Pending,
+        Query::Cookie => Call::Cookie,
+        Query::Push => Call::PushBody,
     }
 }
 
 /// The reply of a line that hands on what the group answered.
-fn reply_of(answer: Answer) -> Reply
-    ensures { reply_text result ≡ answer_text (reply_seen answer) }
+fn reply_of(answer: Result<Answer, Refusal>) -> Reply
+    ensures { reply_text result ≡ answer_text (told reply_seen answer) }
+{
+    match answer {
+        Ok(answer) => handed_on(answer),
+        Err(refusal) => Reply::Refused(refusal),
+    }
+}
+
+fn handed_on(answer: Answer) -> Reply
+    ensures { reply_text result ≡ replied_text (reply_seen answer) }
 {
     match answer {
         Answer::Value(Some(value)) => Reply::Value(value),

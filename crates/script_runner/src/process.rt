@@ -4,8 +4,11 @@ ghost use Rattle.script_runner.specs.Faults.{first_fault};
 ghost use Rattle.script_runner.specs.Inside.Runs.{status_of};
 
 use crate::faults::Fault;
-use crate::runner::{Gate, run};
+use crate::phase::Gate;
+use crate::runner::run;
 use std::io::{self, Read, Write};
+use std::sync::Wait;
+use std::thread::Threads;
 
 /// A gate that holds no call.
 pub(crate) struct Open;
@@ -39,7 +42,7 @@ fn tell_unread<E: Write>(error: &io::Error, err: &mut E) {
 /// Reads a script to its end, runs it, and answers the status of a process: 0 where it ran, 2 where it is
 /// faulty, 3 where memory was refused or the reader or the writer failed. What is wrong is a line on `err`; a
 /// failed write there changes nothing.
-pub fn program<R: AllocGlobal, I: Read, W: Write, E: Write>(
+pub fn program<R: AllocGlobal + Threads + Wait + Sync, I: Read, W: Write, E: Write>(
     rt: &R,
     input: &mut I,
     out: &mut W,

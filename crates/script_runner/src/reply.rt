@@ -2,7 +2,8 @@
 ghost use Rattle.std.specs.Prelude.{◌≡◌, ◌++◌, map, decimal, IfOk, OnOk};
 ghost use Rattle.std.specs.List.{join_with_byte};
 ghost use Rattle.push_body.specs.Bodies.{quoted};
-ghost use Rattle.script_runner.specs.Inside.Printing.{row_text, pending_row, array_text, refusal_name, refusal_detail, reply_word, reply_detail, reply_text, line_text};
+ghost use Rattle.script_runner.specs.Printing.{row_text, pending_row, array_text, refusal_name, refusal_detail, line_text};
+ghost use Rattle.script_runner.specs.Inside.Printing.{reply_word, reply_detail, reply_text};
 
 use group_history::{Cookie, Ended, Json, Mutation, Refusal, Text};
 use json::Writer;
@@ -110,7 +111,7 @@ fn print_quoted(out: &mut Vec<u8>, word: &str, text: &str) -> Result<(), AllocEr
 }
 
 /// Appends a row of a scan, as a JSON array of its key and value.
-#[tactic(auto, unfolding(crate::specs::Inside::Printing::row_text))]
+#[tactic(auto, unfolding(crate::specs::Printing::row_text))]
 fn print_row(row: &(Text, Json), out: &mut Vec<u8>) -> Result<(), AllocError>
     ensures { OnOk result (out.new.items ≡ out.old.items ++ row_text row.now) }
 {
@@ -144,7 +145,7 @@ fn print_rows(rows: &[(Text, Json)], out: &mut Vec<u8>) -> Result<(), AllocError
 }
 
 /// Appends a pending mutation, as a JSON array of client ID, id and name.
-#[tactic(auto, unfolding(crate::specs::Inside::Printing::pending_row))]
+#[tactic(auto, unfolding(crate::specs::Printing::pending_row))]
 fn print_pending_row(mutation: &Mutation, out: &mut Vec<u8>) -> Result<(), AllocError>
     ensures { OnOk result (out.new.items ≡ out.old.items ++ pending_row mutation.now) }
 {
@@ -219,14 +220,14 @@ fn refusal_name(refusal: Refusal) -> &'static str
 }
 
 /// Appends a line of output: its number in the script, the client's name, the reply.
-#[tactic(auto, unfolding(crate::specs::Inside::Printing::line_text))]
+#[tactic(auto, unfolding(crate::specs::Printing::line_text))]
 pub(crate) fn print_line(
     out: &mut Vec<u8>,
     number: u64,
     name: &str,
     reply: &Reply,
 ) -> Result<(), AllocError>
-    ensures { OnOk result (out.new.items ≡ out.old.items ++ line_text number name.now reply.now) }
+    ensures { OnOk result (out.new.items ≡ out.old.items ++ line_text number name.now (reply_text reply.now)) }
 {
     let head = format!(in out.allocator().clone()?; "{number} {name} ")?;
     out.extend_from_slice(head.as_bytes())?;

@@ -1,91 +1,195 @@
-//! Runs a script: its phases one after the other, and in a phase its clients one after the other.
-ghost use Rattle.std.specs.Prelude.{◌≡◌, IfErr};
-ghost use Rattle.script_runner.specs.Faults.{Checks, first_fault};
-ghost use Rattle.script_runner.specs.Runs.{IsOfScript};
+//! Runs a script: its phases one after the other, on clients of one group.
+ghost use Rattle.std.specs.Prelude.{◌≡◌, ◌≤◌, ◌+◌, IfErr, IfOk, OnOk, length, map, vec_len};
+ghost use Rattle.std.specs.FinMap as finite;
+ghost use Rattle.std.specs.Io.KnownBytes.{Appends, Keeps};
+ghost use Rattle.std.specs.List.{All, concat};
+ghost use Rattle.logbook.specs.Pages.{Book};
+ghost use Rattle.script_runner.specs.Faults.{Checks, first_fault, script_said};
+ghost use Rattle.script_runner.specs.Context.{Context};
+ghost use Rattle.script_runner.specs.Phases.{AreWritten, HasWhole, IsPhase};
+ghost use Rattle.script_runner.specs.Runs.{HasRun, HasStopped, IsNew, IsOfScript, IsWant, identity_of};
+ghost use Rattle.clients.specs.Calls.{caller};
+ghost use Rattle.script_runner.specs.Inside.Parsing.{IsScript, client_said, phase_said};
+ghost use Rattle.script_runner.specs.Inside.Players.{player_of, players_of};
+ghost use Rattle.script_runner.specs.Inside.Turns.{AreOf, IsPrinted, texts_of};
 
+use crate::callers::{Caller, TRIES};
 use crate::client::Client;
 use crate::faults::Fault;
-use crate::groups::Group;
-use crate::mutators::ScriptMutators;
-use crate::reply::print_line;
-use crate::script::{Header, Phase, Script, read_script};
-use group_history::Refusal;
-use rebase::{Plain, Solo};
+use script_mutators::ScriptMutators;
+use crate::phase::{Gate, Turn, run_phase};
+use crate::plain::{Plain, PlainClient};
+use crate::script::{ClientLine, Header, Phase, Script, read_script, uuid_text};
+use chunk_slots::{Append, Store};
+use clients::{Config, Group, Seats};
+use group_history::Text;
 use std::alloc::{AllocError, Global};
 use std::io;
+use std::sync::{Mutex, Wait};
+use std::thread::Threads;
 
-/// Asked before and after each call of a client, with the client's name and the line's number. A gate may hold a
-/// call, so a test can order the calls of clients.
-pub trait Gate: Sync {
-    fn before(&self, client: &str, line: u64);
-
-    fn after(&self, client: &str, line: u64);
-}
-
-/// A group with the clients of a script.
-#[derive(Drop)]
-struct Session<G: Group + Drop> {
-    group: G,
-    clients: Vec<Client>,
-}
-
-impl<G: Group + Drop> Session<G> {
-    fn open(alloc: Global, header: &Header, group: G) -> Result<Session<G>, AllocError> {
-        let mut clients = Vec::new(alloc);
-        for client in &header.clients {
-            clients.push(Client::new(alloc, &client.name, &client.id)?)?;
+/// What a phase prints, client by client.
+fn text_of<C: Drop>(alloc: Global, turns: &[Turn<C>]) -> Result<Vec<u8>, AllocError>
+    ensures text { IfOk result (λ v. v.items ≡ concat (texts_of turns.now)) }
+    ensures all { OnOk result (All IsPrinted turns.now) }
+{
+    let mut text = Vec::new(alloc);
+    for turn in turns {
+        match &turn.printed {
+            Ok(printed) => text.extend_from_slice(printed)?,
+            Err(_) => return Err(AllocError),
         }
-        Ok(Session { group, clients })
     }
-
-    /// Runs a phase, and answers what it prints: the replies client by client.
-    fn phase<T: Gate>(
-        &mut self,
-        alloc: Global,
-        gate: &T,
-        phase: &Phase,
-    ) -> Result<Vec<u8>, AllocError> {
-        let mut printed = Vec::new(alloc);
-        for (client, lines) in self.clients.iter_mut().zip(phase.lines.iter()) {
-            for line in lines {
-                gate.before(client.name.as_str(), line.number);
-                let reply = client.call(&mut self.group, &line.command);
-                gate.after(client.name.as_str(), line.number);
-                print_line(&mut printed, line.number, client.name.as_str(), &reply)?;
-            }
-        }
-        Ok(printed)
-    }
+    Ok(text)
 }
 
-/// Runs the phases of a script on a group, and writes the replies of each when it has ended.
-fn run_phases<G: Group + Drop, T: Gate, W: io::Write>(
+/// Runs a phase, and writes what it prints when it has ended.
+fn write_phase<R: Threads + Wait + Sync, G: Gate, C: Caller + Send + Drop, W: io::Write>(
+    rt: &R,
     alloc: Global,
-    script: &Script,
-    group: G,
-    gate: &T,
+    gate: &G,
+    turns: &mut [Turn<C>],
+    phase: &Phase,
     out: &mut W,
 ) -> Result<(), Fault>
-    ensures { IfErr result (λ e. IsOfScript e → ⊥) }
+    requires lines { length turns.old ≡ vec_len phase.now.lines }
+    requires one { (b : Book) × AreOf C.stands b turns.old }
+    ensures phase { OnOk result (IsPhase C.may_reply C.learns (phase_said phase.now) (players_of C.stands turns.old) (texts_of turns.new) (players_of C.stands turns.new)) }
+    ensures text { OnOk result (Appends (W.contents out.old) (W.contents out.new) (concat (texts_of turns.new))) }
+    ensures group { (b : Book) → AreOf C.stands b turns.old → AreOf C.stands b turns.new }
+    ensures count { length turns.new ≡ length turns.old }
+    ensures want { IsWant result → Keeps (W.contents out.old) (W.contents out.new) }
+    ensures fault { IfErr result (λ e. IsOfScript e → ⊥) }
 {
-    let mut session = Session::open(alloc, &script.header, group)?;
-    for phase in &script.phases {
-        let printed = session.phase(alloc, gate, phase)?;
-        if out.write_all(&printed).is_err() {
-            return Err(Fault::Write);
-        }
+    run_phase(rt, alloc, gate, turns, &phase.lines)?;
+    let text = text_of(alloc, turns)?;
+    if out.write_all(&text).is_err() {
+        return Err(Fault::Write);
     }
     Ok(())
 }
 
-fn open_group(alloc: Global, header: &Header) -> Result<Solo<ScriptMutators>, Refusal> {
+/// Runs the phases of a script, and writes what each prints when it has ended.
+fn run_phases<R: Threads + Wait + Sync, G: Gate, C: Caller + Send + Drop, W: io::Write>(
+    rt: &R,
+    alloc: Global,
+    gate: &G,
+    turns: &mut [Turn<C>],
+    phases: &[Phase],
+    out: &mut W,
+) -> Result<(), Fault>
+    requires lines { All (λ p. vec_len p.lines ≡ length turns.old) phases.now }
+    requires one { (b : Book) × AreOf C.stands b turns.old }
+    ensures written { OnOk result ((text : _) × AreWritten C.may_reply C.learns (players_of C.stands turns.old) (map phase_said phases.now) text (players_of C.stands turns.new) × Appends (W.contents out.old) (W.contents out.new) text) }
+    ensures want { IsWant result → HasWhole C.may_reply C.learns (players_of C.stands turns.old) (map phase_said phases.now) (W.contents out.old) (W.contents out.new) }
+    ensures fault { IfErr result (λ e. IsOfScript e → ⊥) }
+{
+    for phase in phases {
+        write_phase(rt, alloc, gate, turns, phase, out)?;
+    }
+    Ok(())
+}
+
+/// How a script lays its group out: a seat for each client, and one where there are none.
+fn config_of(alloc: Global, header: &Header) -> Result<Config, AllocError>
+    ensures identity { IfOk result (λ config. config.identity ≡ identity_of header.now.group header.now.profile header.now.schema) }
+    ensures seats { IfOk result (λ config. vec_len header.now.clients ≤ config.seats) }
+{
     let identity = header.identity(alloc)?;
-    Solo::new(alloc, ScriptMutators, identity)
+    let seats = max(header.clients.len() as u32, 1);
+    let Ok(config) = Config::new(identity, header.slots(), seats) else {
+        unreachable!()
+    };
+    Ok(config)
+}
+
+/// A client before the first phase.
+fn turn_of<C: Caller + Drop>(alloc: Global, name: &Text, caller: C) -> Result<Turn<C>, AllocError>
+    ensures { IfOk result (λ turn. player_of C.stands turn.client ≡ record { name = name.now; standing = C.stands caller; tickets = finite.empty }) }
+{
+    let client = Client::new(alloc, name, caller)?;
+    Ok(Turn {
+        client,
+        printed: Ok(Vec::new(alloc)),
+    })
+}
+
+/// Opens a client on a seat of a group.
+fn open_client<'g, S: Store<ScriptMutators>>(
+    alloc: Global,
+    line: &ClientLine,
+    group: &'g Group<ScriptMutators, S>,
+    seats: &mut Seats<ScriptMutators, S>,
+) -> Result<Turn<clients::Client<'g, ScriptMutators, S>>, AllocError>
+where
+    S::Seat: Drop,
+    requires free { 1 ≤ length seats.old.free.items }
+    requires seats { All (λ seat. (seat.mark.book ≡ group.now.shared.head) × (S.home seat.slots ≡ S.serves group.now.shared.store)) seats.old.free.items }
+    ensures left { IfOk result (λ _. length seats.old.free.items ≡ length seats.new.free.items + 1) }
+    ensures seats { IfOk result (λ _. All (λ seat. (seat.mark.book ≡ group.now.shared.head) × (S.home seat.slots ≡ S.serves group.now.shared.store)) seats.new.free.items) }
+    ensures name { IfOk result (λ turn. (turn.client.name, turn.client.caller.id) ≡ client_said line.now) }
+    ensures new { IfOk result (λ turn. IsNew group.now.identity group.now.shared.head (player_of (λ c. record { caller = caller c.group.now.identity c.id c.last; mark = c.mark }) turn.client)) }
+{
+    let Ok(seat) = seats.take() else {
+        unreachable!()
+    };
+    // In a new group, in one thread, want of memory alone refuses a client.
+    let Ok(client) = group.client(seat, line.id, TRIES) else {
+        return Err(AllocError);
+    };
+    turn_of(alloc, &line.name, client)
+}
+
+/// Opens the clients of a script on the seats of a group, in the order of their lines.
+fn open_clients<'g, S: Store<ScriptMutators>>(
+    alloc: Global,
+    lines: &[ClientLine],
+    group: &'g Group<ScriptMutators, S>,
+    seats: Seats<ScriptMutators, S>,
+) -> Result<Vec<Turn<clients::Client<'g, ScriptMutators, S>>>, AllocError>
+where
+    S::Seat: Drop,
+    requires free { length lines.now ≤ length seats.free.items }
+    requires seats { All (λ seat. (seat.mark.book ≡ group.now.shared.head) × (S.home seat.slots ≡ S.serves group.now.shared.store)) seats.free.items }
+    ensures lines { IfOk result (λ turns. map (λ t. (t.client.name, t.client.caller.id)) turns.items ≡ map client_said lines.now) }
+    ensures new { IfOk result (λ turns. All (λ t. IsNew group.now.identity group.now.shared.head (player_of (λ c. record { caller = caller c.group.now.identity c.id c.last; mark = c.mark }) t.client)) turns.items) }
+{
+    let mut seats = seats;
+    let mut turns = Vec::with_capacity(alloc, lines.len())?;
+    for line in lines {
+        turns.push(open_client(alloc, line, group, &mut seats)?)?;
+    }
+    Ok(turns)
+}
+
+/// Runs a script that was read, on a group of its own.
+fn run_shared<R: AllocGlobal + Threads + Wait + Sync, G: Gate, W: io::Write>(
+    rt: &R,
+    script: &Script,
+    gate: &G,
+    out: &mut W,
+) -> Result<(), Fault>
+    ensures written { (said : Context) → IsScript said script.now → OnOk result (HasRun said (W.contents out.old) (W.contents out.new)) }
+    ensures want { (said : Context) → IsScript said script.now → IsWant result → HasStopped said (W.contents out.old) (W.contents out.new) }
+    ensures fault { IfErr result (λ e. IsOfScript e → ⊥) }
+{
+    let alloc = rt.alloc();
+    let config = config_of(alloc, &script.header)?;
+    let Ok((group, seats)) = Group::<ScriptMutators, Append<&R, ScriptMutators>>::open(
+        alloc,
+        config,
+        ScriptMutators,
+        rt,
+    ) else {
+        return Err(Fault::NoMemory);
+    };
+    let mut turns = open_clients(alloc, &script.header.clients, &group, seats)?;
+    run_phases(rt, alloc, gate, &mut turns, &script.phases, out)
 }
 
 /// Runs a script, and writes the replies of each phase when it has ended. A faulty script is told before
 /// anything runs or is written. After `NoMemory` the writer has the output of whole phases.
-pub fn run<R: AllocGlobal, G: Gate, W: io::Write>(
+pub fn run<R: AllocGlobal + Threads + Wait + Sync, G: Gate, W: io::Write>(
     rt: &R,
     script: &[u8],
     gate: &G,
@@ -93,22 +197,46 @@ pub fn run<R: AllocGlobal, G: Gate, W: io::Write>(
 ) -> Result<(), Fault>
     ensures first { Checks (first_fault script.now) result }
     ensures nothing_written { IfErr result (λ e. IsOfScript e → W.contents out.new ≡ W.contents out.old) }
+    ensures written { OnOk result (IfOk (script_said script.now) (λ said. HasRun said (W.contents out.old) (W.contents out.new))) }
+    ensures want { IsWant result → Keeps (W.contents out.old) (W.contents out.new) ⊎ IfOk (script_said script.now) (λ said. HasStopped said (W.contents out.old) (W.contents out.new)) }
 {
-    let alloc = rt.alloc();
-    let script = read_script(alloc, script)?;
-    let Ok(group) = open_group(alloc, &script.header) else {
-        return Err(Fault::NoMemory);
-    };
-    run_phases(alloc, &script, group, gate, out)
+    let read = read_script(rt.alloc(), script)?;
+    run_shared(rt, &read, gate, out)
 }
 
-fn open_plain(alloc: Global, header: &Header) -> Result<Plain<ScriptMutators>, Refusal> {
-    let identity = header.identity(alloc)?;
-    Plain::new(alloc, ScriptMutators, identity)
+/// Clients of a plain group, in the order of their lines.
+fn plain_clients<'g>(
+    alloc: Global,
+    lines: &[ClientLine],
+    group: &'g Mutex<Plain>,
+) -> Result<Vec<Turn<PlainClient<'g>>>, AllocError>
+    ensures { IfOk result (λ turns. length turns.items ≡ length lines.now) }
+{
+    let mut turns = Vec::with_capacity(alloc, lines.len())?;
+    for line in lines {
+        let client = PlainClient::new(group, uuid_text(alloc, line.id)?);
+        turns.push(turn_of(alloc, &line.name, client)?)?;
+    }
+    Ok(turns)
+}
+
+/// Runs a script that was read on a plain group.
+fn run_on_plain<R: AllocGlobal + Threads + Wait + Sync, G: Gate, W: io::Write>(
+    rt: &R,
+    script: &Script,
+    gate: &G,
+    out: &mut W,
+) -> Result<(), Fault>
+    ensures fault { IfErr result (λ e. IsOfScript e → ⊥) }
+{
+    let alloc = rt.alloc();
+    let group = Mutex::new(Plain::new(alloc, script.header.identity(alloc)?)?);
+    let mut turns = plain_clients(alloc, &script.header.clients, &group)?;
+    run_phases(rt, alloc, gate, &mut turns, &script.phases, out)
 }
 
 /// The same on a plain group, by which `run` can be judged: a list of calls over a map, with no tree below it.
-pub fn run_plain<R: AllocGlobal, G: Gate, W: io::Write>(
+pub fn run_plain<R: AllocGlobal + Threads + Wait + Sync, G: Gate, W: io::Write>(
     rt: &R,
     script: &[u8],
     gate: &G,
@@ -117,10 +245,6 @@ pub fn run_plain<R: AllocGlobal, G: Gate, W: io::Write>(
     ensures first { Checks (first_fault script.now) result }
     ensures nothing_written { IfErr result (λ e. IsOfScript e → W.contents out.new ≡ W.contents out.old) }
 {
-    let alloc = rt.alloc();
-    let read = read_script(alloc, script)?;
-    let Ok(group) = open_plain(alloc, &read.header) else {
-        return Err(Fault::NoMemory);
-    };
-    run_phases(alloc, &read, group, gate, out)
+    let read = read_script(rt.alloc(), script)?;
+    run_on_plain(rt, &read, gate, out)
 }

@@ -3,14 +3,17 @@
 //! `Parser` takes the lines one after the other and keeps what they say. No line is looked at twice as text.
 //! Each function that takes a piece of a line says, by the definition of that piece, what the lines have said after
 //! it, or which fault the piece has.
-ghost use Rattle.std.specs.Prelude.{◌≡◌, codes, map, unwrap_or, is_none, IfOk, OnOk, Some, vec_len};
+ghost use Rattle.std.specs.Prelude.{◌≡◌, codes, [], ◌∷◌, ◌++◌, map, replicate, unwrap_or, is_none, IfOk, OnOk, Some};
 ghost use Rattle.std.specs.Option.{option_copied};
+ghost use Rattle.std.specs.Result.{result_err};
 ghost use Rattle.std.specs.Str.Lossy.{utf8_valid_len};
-ghost use Rattle.script_runner.specs.Context.{place_of, nothing_said};
+ghost use Rattle.uuid.specs.Text.{hyphenated_text, lower};
+ghost use Rattle.script_runner.specs.Context.{Context, place_of, nothing_said};
 ghost use Rattle.script_runner.specs.Commands.{bare_command};
 ghost use Rattle.script_runner.specs.Inside.Commands.{scan_said};
-ghost use Rattle.script_runner.specs.Faults.{Checks, first_fault, fault_in, lines_of, line_of_bad_byte};
+ghost use Rattle.script_runner.specs.Faults.{Checks, script_said, first_fault, said_in, lines_of, line_of_bad_byte};
 ghost use Rattle.script_runner.specs.Inside.Faults.{Tests, TestsLine, Reads};
+ghost use Rattle.script_runner.specs.Inside.Parsing.{client_said, line_said, phase_said, context_of, IsScript};
 ghost use Rattle.script_runner.specs.Words.{is_uuid, uuid_said, is_start, start_said, is_limit, limit_said, is_json, json_said};
 ghost use Rattle.script_runner.specs.declared.faults.ScriptFault.TheVariants as script_fault;
 ghost use Rattle.script_runner.specs.declared.faults.Fault.TheVariants as fault;
@@ -28,8 +31,7 @@ use uuid::Uuid;
 #[derive(Drop)]
 pub(crate) struct ClientLine {
     pub(crate) name: Text,
-    /// The client's ID, as a lower-case hyphenated UUID.
-    pub(crate) id: Text,
+    pub(crate) id: Uuid,
 }
 
 /// What the lines before the first phase say.
@@ -72,8 +74,8 @@ pub(crate) enum Command {
     Mutate(Call),
     /// Read the client's last id anew.
     Refresh,
-    /// Learn what another client has seen. Every client sees everything.
-    Learn,
+    /// Learn what another client has seen, the one at this place.
+    Learn(usize),
 }
 
 /// A call of a mutator.
@@ -128,7 +130,7 @@ impl Header {
 
     #[tactic(auto, unfolding(crate::specs::Context::place_of))]
     fn place_of(&self, name: &str) -> Option<usize>
-        ensures { result ≡ place_of name.now (map (λ client. (client.name, client.id)) self.now.clients.items) }
+        ensures { result ≡ place_of name.now (map client_said self.now.clients.items) }
     {
         self.clients
             .iter()
@@ -145,17 +147,24 @@ fn text_or(alloc: Global, said: &Option<Text>, default: &str) -> Result<Text, Al
     }
 }
 
-/// The lower-case hyphenated form of a UUID in any of its text forms (RFC 9562).
+/// The UUID that a word is, in any of its text forms (RFC 9562).
 #[tactic(auto, unfolding(crate::specs::Words::is_uuid, crate::specs::Words::uuid_said))]
-fn uuid_text(alloc: Global, word: &str) -> Result<Text, LineFault>
-    ensures form { TestsLine (is_uuid word.now) script_fault.BadUuid result }
-    ensures value { IfOk result (λ id. id ≡ uuid_said word.now) }
+fn uuid_of(word: &str) -> Result<Uuid, ScriptFault>
+    ensures form { Tests (is_uuid word.now) script_fault.BadUuid result }
+    ensures value { IfOk result (λ id. hyphenated_text lower id ≡ uuid_said word.now) }
 {
     let Ok(id) = Uuid::parse_str(word) else {
-        return Err(LineFault::Script(ScriptFault::BadUuid));
+        return Err(ScriptFault::BadUuid);
     };
+    Ok(id)
+}
+
+/// The lower-case hyphenated form of a UUID.
+pub(crate) fn uuid_text(alloc: Global, id: Uuid) -> Result<Text, AllocError>
+    ensures { IfOk result (λ text. text ≡ hyphenated_text lower id) }
+{
     let mut buffer = Uuid::encode_buffer();
-    Ok(Text::new(alloc, id.hyphenated().encode_lower(&mut buffer))?)
+    Text::new(alloc, id.hyphenated().encode_lower(&mut buffer))
 }
 
 /// A ticket that a line makes.
@@ -180,10 +189,9 @@ impl Parser {
     ghost use Rattle.script_runner.specs.Context.{nothing_said};
     ghost use Rattle.script_runner.specs.Header.{group_line, profile_line, schema_line, slots_line, client_line, header_line};
     ghost use Rattle.script_runner.specs.Inside.Header.{admitted};
-    ghost use Rattle.script_runner.specs.Commands.{phase_line, get_line, has_line, scan_line, begin_line, is_made, end_line, mutate_line, learn_line, bare_line, look_line, named_command, command_of, command_line};
+    ghost use Rattle.script_runner.specs.Commands.{phase_line, get_line, has_line, scan_line, begin_line, is_made, end_line, mutate_line, learn_line, bare_line, look_line, named_command, command_of, with_line, command_line};
     ghost use Rattle.script_runner.specs.Faults.{said_with, words_line};
     ghost use Rattle.script_runner.specs.Inside.Faults.{Follows, Tells};
-    ghost use Rattle.script_runner.specs.Inside.Parsing.{context_of};
 
     fn new(alloc: Global) -> Parser
         ensures { context_of result ≡ nothing_said }
@@ -204,7 +212,7 @@ impl Parser {
 
     #[tactic(auto, unfolding(crate::specs::Faults::said_with, crate::specs::Faults::is_skipped))]
     fn line(&mut self, number: u64, line: &str) -> Result<(), LineFault>
-        ensures { Follows (said_with (context_of self.old) line.now)
+        ensures { Follows (said_with (context_of self.old) number line.now)
             (context_of self.new) result }
     {
         if line.is_empty() || line.starts_with('#') {
@@ -216,7 +224,7 @@ impl Parser {
 
     #[tactic(auto, unfolding(crate::specs::Faults::words_line))]
     fn words(&mut self, number: u64, word: &str, rest: Option<&str>) -> Result<(), LineFault>
-        ensures { Follows (words_line (context_of self.old) word.now (option_copied rest.entry))
+        ensures { Follows (words_line (context_of self.old) number word.now (option_copied rest.entry))
             (context_of self.new) result }
     {
         if word == "phase" {
@@ -267,7 +275,8 @@ impl Parser {
         ensures { Follows (group_line (context_of self.old) (option_copied rest.entry))
             (context_of self.new) result }
     {
-        let group = uuid_text(self.alloc, one_word(rest)?)?;
+        let id = uuid_of(one_word(rest)?)?;
+        let group = uuid_text(self.alloc, id)?;
         say(&mut self.header.group, group)
     }
 
@@ -311,13 +320,13 @@ impl Parser {
         if !is_client_name(name) {
             return Err(LineFault::Script(ScriptFault::BadWords));
         }
-        let id = uuid_text(self.alloc, one_word(id)?)?;
+        let id = uuid_of(one_word(id)?)?;
         self.admit(name, id)
     }
 
     /// Adds a client of a new name, if there is room for one.
-    fn admit(&mut self, name: &str, id: Text) -> Result<(), LineFault>
-        ensures { Follows (admitted (context_of self.old) name.now id)
+    fn admit(&mut self, name: &str, id: Uuid) -> Result<(), LineFault>
+        ensures { Follows (admitted (context_of self.old) name.now (hyphenated_text lower id))
             (context_of self.new) result }
     {
         if self.header.place_of(name).is_some() {
@@ -333,14 +342,27 @@ impl Parser {
 
     #[tactic(auto, unfolding(crate::specs::Commands::command_line, crate::specs::Commands::command_at))]
     fn command_line(&mut self, number: u64, word: &str, rest: Option<&str>) -> Result<(), LineFault>
-        ensures { Follows (command_line (context_of self.old) word.now (option_copied rest.entry))
+        ensures { Follows (command_line (context_of self.old) number word.now (option_copied rest.entry))
             (context_of self.new) result }
     {
         let Some(client) = self.header.place_of(word) else {
             return Err(LineFault::Script(ScriptFault::UnknownClient));
         };
         let command = self.command_of(client, rest)?;
-        keep(&mut self.phases, client, Line { number, command })?;
+        self.keep(client, Line { number, command })?;
+        Ok(())
+    }
+
+    /// Adds a line of a client to the last phase.
+    #[tactic(auto, unfolding(crate::specs::Commands::with_line))]
+    fn keep(&mut self, client: usize, line: Line) -> Result<(), AllocError>
+        ensures { OnOk result (context_of self.new ≡ record (context_of self.old) {
+          phases = with_line client (line_said line) (context_of self.old).phases;
+        }) }
+    {
+        if let Some(phase) = self.phases.last_mut() {
+            phase.keep(client, line)?;
+        }
         Ok(())
     }
 
@@ -454,10 +476,10 @@ impl Parser {
         if !is_client_name(name) {
             return Err(LineFault::Script(ScriptFault::BadWords));
         }
-        if self.header.place_of(name).is_none() {
+        let Some(place) = self.header.place_of(name) else {
             return Err(LineFault::Script(ScriptFault::UnknownName));
-        }
-        Ok(Command::Learn)
+        };
+        Ok(Command::Learn(place))
     }
 
     #[tactic(auto, unfolding(crate::specs::Commands::begin_line))]
@@ -513,26 +535,28 @@ impl Parser {
 }
 
 impl Phase {
+    ghost use Rattle.script_runner.specs.Commands.{changed_at};
+
     /// A phase of no lines yet, of so many clients.
-    fn new(alloc: Global, clients: usize) -> Result<Phase, AllocError> {
+    fn new(alloc: Global, clients: usize) -> Result<Phase, AllocError>
+        ensures { IfOk result (λ phase. phase_said phase ≡ replicate clients []) }
+    {
         let mut lines = Vec::new(alloc);
-        for _ in 0..clients {
+        for _client in 0..clients {
             lines.push(Vec::new(alloc))?;
         }
         Ok(Phase { lines })
     }
-}
 
-/// Adds a line of a client to the last phase.
-fn keep(phases: &mut Vec<Phase>, client: usize, line: Line) -> Result<(), AllocError>
-    ensures { OnOk result (vec_len phases.new ≡ vec_len phases.old) }
-{
-    if let Some(phase) = phases.last_mut()
-        && let Some(lines) = phase.lines.get_mut(client)
+    /// Adds a line at the end of those of a client.
+    fn keep(&mut self, client: usize, line: Line) -> Result<(), AllocError>
+        ensures { OnOk result (phase_said self.new ≡ changed_at client (λ lines. lines ++ line_said line ∷ []) (phase_said self.old)) }
     {
-        lines.push(line)?;
+        if let Some(lines) = self.lines.get_mut(client) {
+            lines.push(line)?;
+        }
+        Ok(())
     }
-    Ok(())
 }
 
 /// The scan of three words: its prefix, its start and its limit.
@@ -635,7 +659,8 @@ fn say(said: &mut Option<Text>, text: Text) -> Result<(), LineFault>
 /// byte, before any other fault.
 #[tactic(auto, unfolding(crate::specs::Faults::first_fault))]
 pub(crate) fn read_script(alloc: Global, bytes: &[u8]) -> Result<Script, Fault>
-    ensures { Checks (first_fault bytes.now) result }
+    ensures first { Checks (first_fault bytes.now) result }
+    ensures said { IfOk result (λ script. (said : Context) × (script_said bytes.now ≡ Ok said) × IsScript said script) }
 {
     let text = match str::from_utf8(bytes) {
         Ok(text) => text,
@@ -650,7 +675,8 @@ pub(crate) fn read_script(alloc: Global, bytes: &[u8]) -> Result<Script, Fault>
 
 /// A parser that has taken the lines of a text.
 fn read_lines(alloc: Global, text: &str) -> Result<Parser, Fault>
-    ensures { Checks (fault_in 1 nothing_said (lines_of text.now)) result }
+    ensures first { Checks (result_err (said_in 1 nothing_said (lines_of text.now))) result }
+    ensures said { IfOk result (λ parser. said_in 1 nothing_said (lines_of text.now) ≡ Ok (context_of parser)) }
 {
     let mut parser = Parser::new(alloc);
     let mut number = 0u64;

@@ -17,7 +17,7 @@ use group_history::{Json, Mutation, PullOk, Ref, Refusal, Response, Stop, Text};
 use map_tree::{Chunks, Lent, Shelf};
 use pull_patch::read_response;
 use replays::{base_at, rebased};
-use script_runner::ScriptMutators;
+use script_mutators::ScriptMutators;
 use std::alloc::Global;
 use std::marker::Brand;
 use std::prelude::*;
@@ -97,7 +97,7 @@ fn add_by_slots(
 }
 
 /// A mutation of `a` with this id.
-fn mutation(alloc: Global, id: u64, name: &str, args: &str) -> Result<Mutation, Refusal> {
+pub(super) fn mutation(alloc: Global, id: u64, name: &str, args: &str) -> Result<Mutation, Refusal> {
     let client = Text::new(alloc, "a")?;
     let name = Text::new(alloc, name)?;
     let args = Json::read(alloc, args.as_bytes())?;

@@ -1,7 +1,26 @@
 -- What a parser has read.
-use Rattle.std.specs.Prelude.{not, map, ◌==◌, vec_len}
+use Rattle.std.specs.Prelude.{◌≡◌, ℕ, List, map}
+use Rattle.uuid.specs.Text.{hyphenated_text, lower}
+use Rattle.group_history.specs.Map.{Bytes}
+use Rattle.script_runner.specs.declared.script.ClientLine.{ClientLine}
+use Rattle.script_runner.specs.declared.script.Command.{Command}
+use Rattle.script_runner.specs.declared.script.Line.{Line}
+use Rattle.script_runner.specs.declared.script.Phase.{Phase}
+use Rattle.script_runner.specs.declared.script.Script.{Script}
 use Rattle.script_runner.specs.declared.script.Parser.{Parser}
-use Rattle.script_runner.specs.Context.{Context}
+use Rattle.script_runner.specs.Context.{Context, Lines}
+
+-- what a client's line has said: its name, and its ID's lower-case hyphenated form
+abbrev pub client_said : ClientLine → Bytes × Bytes
+client_said client = (client.name, hyphenated_text lower client.id)
+
+-- what a line of a phase has said
+abbrev pub line_said : Line → ℕ × Command
+line_said line = (line.number, line.command)
+
+-- what the lines of a phase have said, client by client
+abbrev pub phase_said : Phase → List Lines
+phase_said phase = map (λ lines. map line_said lines.items) phase.lines.items
 
 -- what the lines so far have said
 abbrev pub context_of : Parser → Context
@@ -10,7 +29,16 @@ context_of p = record {
   profile = p.header.profile;
   schema = p.header.schema;
   slots = p.header.slots;
-  clients = map (λ client. (client.name, client.id)) p.header.clients.items;
-  begun = not (vec_len p.phases == 0);
+  clients = map client_said p.header.clients.items;
+  phases = map phase_said p.phases.items;
   tickets = map (λ made. (made.client, made.ticket)) p.tickets.items;
 }
+
+-- the script is what was said
+pub record IsScript (said : Context) (script : Script) : Type 0 where
+  pub group : script.header.group ≡ said.group
+  pub profile : script.header.profile ≡ said.profile
+  pub schema : script.header.schema ≡ said.schema
+  pub slots : script.header.slots ≡ said.slots
+  pub clients : map client_said script.header.clients.items ≡ said.clients
+  pub phases : map phase_said script.phases.items ≡ said.phases

@@ -1,66 +1,9 @@
--- The printed texts of replies.
-use Rattle.std.specs.Prelude.{ℕ, Bool, true, false, List, [], ◌∷◌, ◌++◌, map, codes, decimal, Some, None}
-use Rattle.std.specs.List.{concat, join_with_byte}
-use Rattle.group_history.specs.declared.mutations.Mutation.{Mutation}
-use Rattle.group_history.specs.declared.refusals.Refusal.{Refusal}
-use Rattle.group_history.specs.declared.refusals.Refusal.TheVariants as refusal
-use Rattle.group_history.specs.declared.responses.Ended.{Ended}
-use Rattle.group_history.specs.declared.responses.Ended.TheVariants.{Applied, Same}
+-- A reply of the code, as it is printed: a word, and what it tells.
+use Rattle.std.specs.Prelude.{[], ◌++◌, map, codes, decimal}
 use Rattle.group_history.specs.Map.{Bytes}
-use Rattle.group_history.specs.Pull.{kind_text}
-use Rattle.push_body.specs.Bodies.{quoted}
-use Rattle.rebase.specs.Replies.{Replied, value, yes_or_no, rows, pending, cookie, id, body, ticket, ended}
 use Rattle.script_runner.specs.declared.reply.Reply.{Reply}
 use Rattle.script_runner.specs.declared.reply.Reply.TheVariants as reply
-
--- a row of a scan, as a JSON array of its key and value; the value is compact JSON already
-unfoldable pub row_text : Bytes × Bytes → Bytes
-row_text row = concat (codes "[" ∷ quoted row.0 ∷ codes "," ∷ row.1 ∷ codes "]" ∷ [])
-
--- a pending mutation, as a JSON array of client ID, id and name
-unfoldable pub pending_row : Mutation → Bytes
-pending_row m = concat (codes "[" ∷ quoted m.client ∷ codes "," ∷ decimal m.id ∷ codes "," ∷ quoted m.name ∷ codes "]" ∷ [])
-
--- a JSON array of texts that are JSON, with commas (44) between them
-abbrev pub array_text : List Bytes → Bytes
-array_text texts = concat (codes "[" ∷ join_with_byte 44 texts ∷ codes "]" ∷ [])
-
--- the name of a refusal
-abbrev pub refusal_name : Refusal → Bytes
-refusal_name refusal.NoMemory = codes "NoMemory"
-refusal_name refusal.Moved = codes "Moved"
-refusal_name refusal.Busy = codes "Busy"
-refusal_name refusal.Gone = codes "Gone"
-refusal_name refusal.Full = codes "Full"
-refusal_name refusal.Stamps = codes "Stamps"
-refusal_name refusal.Stale = codes "Stale"
-refusal_name refusal.NoMutator = codes "NoMutator"
-refusal_name (refusal.Refused code) = codes "Refused"
-refusal_name refusal.NotJson = codes "NotJson"
-refusal_name refusal.BadShape = codes "BadShape"
-refusal_name refusal.NotWhole = codes "NotWhole"
-refusal_name refusal.Overtaken = codes "Overtaken"
-refusal_name refusal.CookieWentBack = codes "CookieWentBack"
-refusal_name refusal.CookieNotNew = codes "CookieNotNew"
-refusal_name refusal.IdWentBack = codes "IdWentBack"
-refusal_name refusal.StateNotFound = codes "StateNotFound"
-refusal_name (refusal.VersionNotSupported kind) = codes "VersionNotSupported"
-refusal_name refusal.NoSeat = codes "NoSeat"
-refusal_name refusal.Closed = codes "Closed"
-
--- what follows the name
-abbrev pub refusal_detail : Refusal → Bytes
-refusal_detail (refusal.Refused code) = codes " " ++ decimal code
-refusal_detail (refusal.VersionNotSupported kind) = codes " " ++ kind_text kind
-refusal_detail e = []
-
-abbrev pub bool_text : Bool → Bytes
-bool_text true = codes "yes"
-bool_text false = codes "no"
-
-abbrev pub ended_text : Ended → Bytes
-ended_text Applied = codes "applied"
-ended_text Same = codes "same"
+use Rattle.script_runner.specs.Printing.{array_text, bool_text, ended_text, pending_row, refusal_detail, refusal_name, row_text}
 
 -- the word that says which reply it is
 abbrev pub reply_word : Reply → Bytes
@@ -96,19 +39,3 @@ reply_detail r = []
 abbrev pub reply_text : Reply → Bytes
 reply_text said = reply_word said ++ reply_detail said
 
--- what the group answered, where a line hands it on
-abbrev pub answer_text : Replied → Bytes
-answer_text (value (Some json)) = codes "value " ++ json
-answer_text (value None) = codes "none"
-answer_text (yes_or_no is) = bool_text is
-answer_text (rows rs) = codes "rows " ++ array_text (map row_text rs)
-answer_text (pending ms) = codes "pending " ++ array_text (map pending_row ms)
-answer_text (cookie c) = codes "cookie " ++ c.text
-answer_text (id n) = codes "id " ++ decimal n
-answer_text (body bytes) = codes "push " ++ bytes
-answer_text (ticket c bytes) = codes "pull " ++ bytes
-answer_text (ended e) = ended_text e
-
--- a line of output, with the number of the script's line, the client's name and the reply
-unfoldable pub line_text : ℕ → Bytes → Reply → Bytes
-line_text number name said = concat (decimal number ∷ codes " " ∷ name ∷ codes " " ∷ reply_text said ∷ codes "\n" ∷ [])

@@ -1,7 +1,7 @@
 use Rattle.std.proofs.Common.{◌≡◌, ◌∷◌, ◌++◌, map, take}
 use Rattle.std.specs.List.{join_with_byte}
 use Rattle.group_history.specs.declared.mutations.Mutation.{Mutation}
-use Rattle.script_runner.specs.Inside.Printing.{pending_row}
+use Rattle.script_runner.specs.Printing.{pending_row}
 use Rattle.script_runner.proofs.reply.print_pending_list.Given as goal
 
 abbrev pub invariant-loop-mutation : goal.invariant-loop-mutation

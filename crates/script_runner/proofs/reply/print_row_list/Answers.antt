@@ -2,7 +2,7 @@ use Rattle.std.proofs.Common.{◌≡◌, ◌+◌, [], ◌∷◌, ◌++◌, map, 
 use Rattle.std.proofs.lemmas.List.{take_more}
 use Rattle.std.specs.List.{join_with_byte}
 use Rattle.push_body.proofs.Writings.{join-push}
-use Rattle.script_runner.specs.Inside.Printing.{row_text}
+use Rattle.script_runner.specs.Printing.{row_text}
 use Rattle.script_runner.proofs.Joining.{more_joined}
 use Rattle.script_runner.proofs.reply.print_row_list.Goals as goal
 

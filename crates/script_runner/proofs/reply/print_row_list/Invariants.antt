@@ -1,7 +1,7 @@
 use Rattle.std.proofs.Common.{◌≡◌, ◌∷◌, ◌++◌, map, take}
 use Rattle.std.specs.List.{join_with_byte}
 use Rattle.group_history.specs.Map.{Bytes}
-use Rattle.script_runner.specs.Inside.Printing.{row_text}
+use Rattle.script_runner.specs.Printing.{row_text}
 use Rattle.script_runner.proofs.reply.print_row_list.Given as goal
 
 abbrev pub invariant-loop-row : goal.invariant-loop-row

@@ -6,8 +6,7 @@ use Rattle.group_history.specs.Refs.{stamp_of}
 use Rattle.group_history.specs.Spelling.{Contents, map_at, version_at}
 use Rattle.group_history.specs.State.{State, state}
 use Rattle.map_chunks.proofs.Shelves.{some_of}
-use Rattle.rebase.proofs.HeadLemmas.{bare}
-use Rattle.layer_tests.proofs.PlacedLemmas.{stays, placed}
+use Rattle.layer_tests.proofs.PlacedLemmas.{bare, stays, placed}
 use Rattle.layer_tests.proofs.tests.groups.add_rebased.Goals as goal
 
 pub returns-clause-old : goal.returns-clause-old
@@ -19,5 +18,5 @@ returns-clause-new c =
     let v = some_of (version_at (map content_of nodes) (stamp_of c.args.head)) c.requires in
     let base = c.in_ok-base.ensures.base v.0 (ap (λ (ns : List (Node Ref)). version_at (map content_of ns) (stamp_of c.args.head)) c.shelf-shelf.ensures ∙ v.1) in
     let there = ap (λ (w : Contents). map_at w (stamp_of c.in_ok-base.base.pulled)) (bare contents c.draft-draft.result _ c.draft-draft.ensures) ∙ base.2 in
-    let s : State = state v.0.state.pulled v.0.state.cookie c.in_ok-base.base.confirmed c.deref.result.now false in
+    let s : State = state v.0.state.pulled v.0.state.cookie c.in_ok-base.base.confirmed c.args.pending.now false in
     placed shown nodes c.rebased.new.draft.nodes c.append.new.self (stamp_of c.in_ok-made.made.commit) _ c.shelf-shelf.ensures c.in_ok-append.ensures.ok (c.in_ok-made.ensures.spelled s there refl refl refl)

@@ -6,8 +6,5 @@ use Rattle.layer_tests.proofs.tests.groups.add_rebased.Given as goal
 abbrev pub ghosts-base_at : goal.ghosts-base_at
 ghosts-base_at a = record { known = map content_of a.nodes.nodes.now }
 
-abbrev pub ghosts-pending_at : goal.ghosts-pending_at
-ghosts-pending_at a = record { known = map content_of a.nodes.nodes.now }
-
 abbrev pub ghosts-rebased : goal.ghosts-rebased
 ghosts-rebased a = record { known = map content_of a.chunks.nodes.now }

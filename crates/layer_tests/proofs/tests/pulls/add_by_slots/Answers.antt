@@ -6,8 +6,7 @@ use Rattle.group_history.specs.Refs.{stamp_of}
 use Rattle.group_history.specs.Spelling.{Contents, map_at, version_at}
 use Rattle.group_history.specs.State.{State, state}
 use Rattle.map_chunks.proofs.Shelves.{some_of}
-use Rattle.rebase.proofs.HeadLemmas.{bare}
-use Rattle.layer_tests.proofs.PlacedLemmas.{placed}
+use Rattle.layer_tests.proofs.PlacedLemmas.{bare, placed}
 use Rattle.layer_tests.proofs.tests.pulls.add_by_slots.Goals as goal
 
 pub returns : goal.returns

@@ -1,6 +1,6 @@
 use Rattle.std.proofs.Common.{rules}
-use Rattle.script_runner.specs.Mutators.{followed}
-use Rattle.script_runner.proofs.mutators.followed.Goals as goal
+use Rattle.script_mutators.specs.Mutators.{followed}
+use Rattle.script_mutators.proofs.mutators.followed.Goals as goal
 
 pub returns-clause-ok : goal.returns-clause-ok
 unfolding followed

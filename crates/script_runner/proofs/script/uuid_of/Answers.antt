@@ -2,7 +2,7 @@ use Rattle.std.proofs.Common.{refl}
 use Rattle.std.proofs.lemmas.Bool.{false≢true}
 use Rattle.script_runner.specs.Words.{is_uuid}
 use Rattle.script_runner.proofs.Lists.{none_from}
-use Rattle.script_runner.proofs.script.uuid_text.Goals as goal
+use Rattle.script_runner.proofs.script.uuid_of.Goals as goal
 
 pub returns-in_default-clause-form : goal.returns-in_default-clause-form
 unfolding is_uuid

@@ -10,8 +10,8 @@ use Rattle.group_history.specs.Map.{Bytes, Entries}
 use Rattle.group_history.specs.Json.{text_of}
 use Rattle.group_history.specs.Meaning.{Meaning}
 use Rattle.std.specs.Prelude.{Option}
-use Rattle.script_runner.specs.Mutators.{wrong_arguments, needs, value_of, one_item, two_items, text_and_value, meaning_at_text}
-use Rattle.script_runner.specs.Inside.Mutators.{meaning_at}
+use Rattle.script_mutators.specs.Mutators.{wrong_arguments, needs, value_of, one_item, two_items, text_and_value, meaning_at_text}
+use Rattle.script_mutators.specs.Inside.Mutators.{meaning_at}
 
 -- it nests at most 124 deep, and no number in it is a float
 abbrev pub HasText : Data → Type 0

@@ -12,8 +12,8 @@ ghost use Rattle.serde_json.specs.View.{view as data_of};
 ghost use Rattle.serde_json.specs.Written.{has_float, compact_text};
 ghost use Rattle.group_history.specs.Ran.{RunsAs};
 ghost use Rattle.group_history.specs.declared.mutators.Stop.TheVariants.{NoMemory};
-ghost use Rattle.script_runner.specs.Mutators as spec;
-ghost use Rattle.script_runner.specs.Inside.Mutators.{meaning_at};
+ghost use Rattle.script_mutators.specs.Mutators as spec;
+ghost use Rattle.script_mutators.specs.Inside.Mutators.{meaning_at};
 
 use group_history::{Json, Means, Mutators, Ran, Reason, Refusal, Stop, WriteView};
 use serde_json::Value;

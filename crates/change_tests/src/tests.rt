@@ -1,0 +1,5 @@
+//! What no contract says: that calls succeed, and what threads meet.
+mod ends;
+mod lists;
+mod opening;
+mod storms;

@@ -1,0 +1,77 @@
+//! Of lists of calls of one client.
+ghost use Rattle.std.specs.Prelude.{◌≡◌};
+ghost use Rattle.std.specs.List.{All};
+
+use super::opening::{A, config_of, next_client};
+use chunk_slots::{Arena, Store};
+use clients::{Call, Client, Group, Mutate, Reply, Ticket};
+use group_history::{Ended, Json, Refusal, Text};
+use script_mutators::ScriptMutators;
+use std::alloc::Global;
+
+// The cookie is 1, and the one mutation of A is confirmed, which the server did not do.
+const CONFIRMED: &str =
+    r#"{"cookie":1,"lastMutationIDChanges":{"00000000-0000-4000-8000-00000000000a":1},"patch":[]}"#;
+
+// A mutation, which is seen at once, until a pull says that it came to nothing.
+fn made_by<S: Store<ScriptMutators>>(
+    alloc: Global,
+    client: &mut Client<'_, ScriptMutators, S>,
+    ticket: &Ticket,
+) -> Result<Vec<Result<Reply, Refusal>>, Refusal>
+where
+    S::Seat: Drop,
+{
+    let k = Text::new(alloc, "k")?;
+    let name = Text::new(alloc, "set")?;
+    let args = Json::read(alloc, br#"["k",1]"#)?;
+    let set = Mutate {
+        name: &name,
+        args: &args,
+        time: 1000,
+    };
+    let calls = [
+        Call::Mutate(set),
+        Call::Has(&k),
+        Call::EndPull(ticket, CONFIRMED.as_bytes()),
+        Call::Has(&k),
+        Call::Refresh,
+    ];
+    Ok(client.call_all(alloc, &calls, 1)?)
+}
+
+fn is_right(number: usize, reply: &Result<Reply, Refusal>) -> bool {
+    match (number, reply) {
+        (0, Ok(Reply::Id(id))) => *id == 1,
+        (1, Ok(Reply::Is(has))) => *has,
+        (2, Ok(Reply::Ended(ended))) => *ended == Ended::Applied,
+        (3, Ok(Reply::Is(has))) => !*has,
+        (4, Ok(Reply::Id(last))) => *last == 1,
+        _ => false,
+    }
+}
+
+fn count_right(replies: &[Result<Reply, Refusal>]) -> usize {
+    replies
+        .iter()
+        .enumerate()
+        .filter(|(number, reply)| is_right(*number, reply))
+        .count()
+}
+
+#[test]
+fn a_list_of_calls_is_answered_in_order(rt: HostRuntime) -> Result<(), Refusal> {
+    let alloc = rt.alloc();
+    let config = config_of(alloc, 32, 1)?;
+    let (group, mut seats) = Group::<ScriptMutators, Arena<ScriptMutators>>::open(
+        alloc,
+        config,
+        ScriptMutators,
+        (),
+    )?;
+    let mut client = next_client(&group, &mut seats, A)?;
+    let ticket = client.begin_pull(1)?;
+    let replies = made_by(alloc, &mut client, &ticket)?;
+    assert_eq!(rt; (replies.len(), count_right(&replies)), (5, 5));
+    Ok(())
+}

@@ -1,0 +1,611 @@
+//! Of threads that use one group at once: what they are answered.
+//!
+//! Two clients make short lists of calls at once. What each was answered has to be what a group of one thread answers
+//! in some order of the calls in which each client's own ones keep theirs.
+ghost use Rattle.std.specs.Prelude.{◌≡◌, IfOk};
+ghost use Rattle.std.specs.List.{All};
+ghost use Rattle.group_history.specs.Pull.{AreInRange};
+
+use super::ends::{Answer, CLOSING, Told};
+use super::opening::{A, B, answered, config_of, next_client};
+use chunk_slots::{Append, Arena, Store};
+use clients::{Client, Group, Seats, Ticket};
+use group_history::{
+    Confirmed, Cookie, Ended, Json, Patch, PlainGroup, PullOk, Refusal, Response, Text,
+    nests_within,
+};
+use script_mutators::ScriptMutators;
+use serde_json::Value;
+use std::alloc::Global;
+use std::sync::atomic::AtomicU64;
+use std::sync::atomic::Ordering::SeqCst;
+use std::thread::{Threads, join};
+
+// More than there are other calls to be lost to.
+const TRIES: u32 = 1_000;
+
+type Ending = Result<Ended, Refusal>;
+
+fn cookie_of(alloc: Global, value: &Value) -> Result<Cookie, Refusal> {
+    if !nests_within(value, 126) {
+        return Err(Refusal::NotJson);
+    }
+    Cookie::of(alloc, value)?.ok_or(Refusal::BadShape)
+}
+
+// Clients of these IDs on the next two seats.
+fn two_clients<'g, S: Store<ScriptMutators>>(
+    group: &'g Group<ScriptMutators, S>,
+    seats: &mut Seats<ScriptMutators, S>,
+) -> Result<(Client<'g, ScriptMutators, S>, Client<'g, ScriptMutators, S>), Refusal>
+where
+    S::Seat: Drop,
+    requires { All (λ seat. (seat.mark.book ≡ group.now.shared.head) × (S.home seat.slots ≡ S.serves group.now.shared.store)) seats.old.free.items }
+    ensures { All (λ seat. (seat.mark.book ≡ group.now.shared.head) × (S.home seat.slots ≡ S.serves group.now.shared.store)) seats.new.free.items }
+{
+    let a = next_client(group, seats, A)?;
+    let b = next_client(group, seats, B)?;
+    Ok((a, b))
+}
+
+fn closes<S: Store<ScriptMutators>>(mut client: Client<'_, ScriptMutators, S>) -> Ending
+where
+    S::Seat: Drop,
+{
+    let ticket = client.begin_pull(TRIES)?;
+    client.try_end_pull(&ticket, CLOSING.as_bytes(), TRIES)
+}
+
+fn two_close<R: Threads + Sync, S: Store<ScriptMutators>>(
+    rt: &R,
+    a: Client<'_, ScriptMutators, S>,
+    b: Client<'_, ScriptMutators, S>,
+) -> (Ending, Ending)
+where
+    S::Seat: Drop,
+{
+    join(rt, || closes(a), || closes(b))
+}
+
+// How often four clients that close a group at once are answered so.
+#[derive(Clone, Copy, PartialEq, Eq, Debug)]
+struct Closings {
+    not_found: usize,
+    closed: usize,
+}
+
+// A lack of memory is no answer.
+fn count(endings: &[Ending]) -> Result<Closings, Refusal> {
+    let mut closings = Closings {
+        not_found: 0,
+        closed: 0,
+    };
+    for ending in endings {
+        match ending {
+            Err(Refusal::NoMemory) => return Err(Refusal::NoMemory),
+            Err(Refusal::StateNotFound) => closings.not_found = closings.not_found.wrapping_add(1),
+            Err(Refusal::Closed) => closings.closed = closings.closed.wrapping_add(1),
+            _ => {}
+        }
+    }
+    Ok(closings)
+}
+
+fn four_close<R: Threads + Sync, S: Store<ScriptMutators>>(
+    rt: &R,
+    group: &Group<ScriptMutators, S>,
+    seats: &mut Seats<ScriptMutators, S>,
+) -> Result<Closings, Refusal>
+where
+    S::Seat: Drop,
+    requires { All (λ seat. (seat.mark.book ≡ group.now.shared.head) × (S.home seat.slots ≡ S.serves group.now.shared.store)) seats.old.free.items }
+{
+    let (a, b) = two_clients(group, seats)?;
+    let (c, d) = two_clients(group, seats)?;
+    let (left, right) = join(rt, || two_close(rt, a, b), || two_close(rt, c, d));
+    count(&[left.0, left.1, right.0, right.1])
+}
+
+const ONE_CLOSES: Closings = Closings {
+    not_found: 1,
+    closed: 3,
+};
+
+// The first answers of so many groups that are others than those.
+fn other_closings<R: Threads + Sync, S: Store<ScriptMutators> + Drop>(
+    rt: &R,
+    alloc: Global,
+    parts: S::Parts,
+    rounds: u32,
+) -> Result<Option<Closings>, Refusal>
+where
+    S::Seat: Drop,
+    S::Parts: Copy,
+{
+    for _ in 0..rounds {
+        let config = config_of(alloc, 32, 4)?;
+        let (group, mut seats) = Group::<ScriptMutators, S>::open(
+            alloc,
+            config,
+            ScriptMutators,
+            parts,
+        )?;
+        let closings = four_close(rt, &group, &mut seats)?;
+        if closings != ONE_CLOSES {
+            return Ok(Some(closings));
+        }
+    }
+    Ok(None)
+}
+
+#[test]
+fn one_of_four_threads_closes_an_arena(rt: HostRuntime) -> Result<(), Refusal> {
+    let other = other_closings::<HostRuntime, Arena<ScriptMutators>>(&rt, rt.alloc(), (), 100)?;
+    assert_eq!(rt; other, None);
+    Ok(())
+}
+
+#[test]
+fn one_of_four_threads_closes_a_vector(rt: HostRuntime) -> Result<(), Refusal> {
+    let other = other_closings::<HostRuntime, Append<&HostRuntime, ScriptMutators>>(
+        &rt,
+        rt.alloc(),
+        &rt,
+        100,
+    )?;
+    assert_eq!(rt; other, None);
+    Ok(())
+}
+
+// What a pull's response says: its cookie, A's last id, and the number at `n`.
+#[derive(Clone, Copy)]
+struct Pull {
+    cookie: u8,
+    confirms: u8,
+    n: u8,
+}
+
+#[derive(Clone, Copy)]
+enum Call {
+    // Of this mutator, with these arguments.
+    Mutate(&'static str, &'static str),
+    Get(&'static str),
+    // How many mutations are pending.
+    Pending,
+    Refresh,
+    // To begin a pull, whose ticket is kept.
+    Begin,
+    // To end the pull that was begun last.
+    End(Pull),
+}
+
+const CALLS: [Call; 16] = [
+    Call::Mutate("incr", r#"["n",1]"#),
+    Call::Mutate("incr", r#"["n",1]"#),
+    Call::Mutate("incr", r#"["n",10]"#),
+    Call::Mutate("set", r#"["n",100]"#),
+    Call::Mutate("set", r#"["n",7]"#),
+    Call::Mutate("set", r#"["k",1]"#),
+    Call::Get("n"),
+    Call::Get("n"),
+    Call::Get("k"),
+    Call::Pending,
+    Call::Refresh,
+    Call::Refresh,
+    Call::Begin,
+    Call::End(Pull {
+        cookie: 1,
+        confirms: 0,
+        n: 5,
+    }),
+    Call::End(Pull {
+        cookie: 2,
+        confirms: 1,
+        n: 20,
+    }),
+    Call::End(Pull {
+        cookie: 3,
+        confirms: 2,
+        n: 40,
+    }),
+];
+
+// The calls after which two threads have ended.
+const LAST_CALLS: [Call; 5] = [
+    Call::Get("n"),
+    Call::Get("k"),
+    Call::Pending,
+    Call::Begin,
+    Call::Refresh,
+];
+
+// A call and what it was answered.
+type Step = (Call, Answer);
+
+fn number_in(text: &str) -> Told {
+    Told::Value(text.parse::<i64>().ok())
+}
+
+fn number_of(value: Option<&Json>) -> Told {
+    match value {
+        Some(value) => number_in(value.text()),
+        None => Told::Value(None),
+    }
+}
+
+fn body_of(alloc: Global, pull: Pull) -> Result<String, Refusal> {
+    let Pull {
+        cookie,
+        confirms,
+        n,
+    } = pull;
+    Ok(format!(in alloc;
+        r#"{{"cookie":{cookie},"lastMutationIDChanges":{{"{A}":{confirms}}},"patch":[{{"op":"put","key":"n","value":{n}}}]}}"#
+    )?)
+}
+
+// A client of a thread, and the pull that it began last.
+#[derive(Drop)]
+struct Player<'g, S: Store<ScriptMutators>>
+where
+    S::Seat: Drop,
+{
+    client: Client<'g, ScriptMutators, S>,
+    ticket: Ticket,
+}
+
+impl<S: Store<ScriptMutators>> Player<'_, S>
+where
+    S::Seat: Drop,
+{
+    fn mutates(&mut self, alloc: Global, name: &str, args: &str) -> Answer {
+        let name = Text::new(alloc, name)?;
+        let args = Json::read(alloc, args.as_bytes())?;
+        Ok(Told::Id(self.client.try_mutate(&name, &args, 1000, TRIES)?))
+    }
+
+    fn gets(&mut self, key: &str) -> Answer {
+        let tx = self.client.read(TRIES)?;
+        let value = tx.get(key)?;
+        Ok(number_of(value.as_ref()))
+    }
+
+    fn counts(&mut self) -> Answer {
+        let tx = self.client.read(TRIES)?;
+        let pending = tx.pending()?;
+        Ok(Told::Last(pending.len() as u64))
+    }
+
+    fn begins(&mut self) -> Answer {
+        self.ticket = self.client.begin_pull(TRIES)?;
+        Ok(number_in(self.ticket.cookie.text()))
+    }
+
+    fn ends(&mut self, alloc: Global, pull: Pull) -> Answer {
+        let body = body_of(alloc, pull)?;
+        let ended = self
+            .client
+            .try_end_pull(&self.ticket, body.as_bytes(), TRIES)?;
+        Ok(Told::Ended(ended))
+    }
+
+    fn makes(&mut self, alloc: Global, call: Call) -> Answer {
+        match call {
+            Call::Mutate(name, args) => self.mutates(alloc, name, args),
+            Call::Get(key) => self.gets(key),
+            Call::Pending => self.counts(),
+            Call::Refresh => Ok(Told::Last(self.client.refresh(TRIES)?)),
+            Call::Begin => self.begins(),
+            Call::End(pull) => self.ends(alloc, pull),
+        }
+    }
+
+    fn makes_all(&mut self, alloc: Global, calls: &[Call]) -> Result<Vec<Step>, Refusal> {
+        let mut steps = Vec::new(alloc);
+        for call in calls {
+            let answer = answered(self.makes(alloc, *call))?;
+            steps.push((*call, answer))?;
+        }
+        Ok(steps)
+    }
+
+    // The same, once the other thread has come here too.
+    fn makes_beside(
+        &mut self,
+        alloc: Global,
+        calls: &[Call],
+        come: &AtomicU64,
+    ) -> Result<Vec<Step>, Refusal> {
+        come.fetch_add(1, SeqCst);
+        for _ in 0..100_000 {
+            if come.load(SeqCst) >= 2 {
+                break;
+            }
+        }
+        self.makes_all(alloc, calls)
+    }
+}
+
+// A client of the group of one thread, and what is to be explained of its calls.
+#[derive(Drop)]
+struct Side<'a> {
+    client: Text,
+    last: u64,
+    ticket: Cookie,
+    steps: &'a [Step],
+}
+
+fn side_of<'a>(alloc: Global, client: &str, steps: &'a [Step]) -> Result<Side<'a>, Refusal> {
+    let client = Text::new(alloc, client)?;
+    let ticket = Cookie::null(alloc)?;
+    Ok(Side {
+        client,
+        last: 0,
+        ticket,
+        steps,
+    })
+}
+
+// A is the one client whose mutations are confirmed.
+fn confirms(alloc: Global, pull: Pull) -> Result<Vec<Confirmed>, Refusal>
+    ensures { IfOk result (λ changes. AreInRange changes.items) }
+{
+    let mut changes = Vec::new(alloc);
+    changes.push(Confirmed {
+        client: Text::new(alloc, A)?,
+        id: u64::from(pull.confirms),
+    })?;
+    Ok(changes)
+}
+
+fn response_of(alloc: Global, pull: Pull) -> Result<Response, Refusal> {
+    let cookie = cookie_of(alloc, &Value::from(pull.cookie))?;
+    let n = Patch::Put(
+        Text::new(alloc, "n")?,
+        Json::of(alloc, &Value::from(pull.n))?,
+    );
+    let mut patch = Vec::new(alloc);
+    patch.push(n)?;
+    Ok(Response::Ok(PullOk::new(cookie, confirms(alloc, pull)?, patch)))
+}
+
+type Plain = PlainGroup<ScriptMutators>;
+
+impl Side<'_> {
+    fn mutates(&mut self, alloc: Global, group: &mut Plain, name: &str, args: &str) -> Answer {
+        let name = Text::new(alloc, name)?;
+        let args = Json::read(alloc, args.as_bytes())?;
+        let id = group.mutate(&ScriptMutators, &self.client, self.last, &name, &args, 1000)?;
+        self.last = id;
+        Ok(Told::Id(id))
+    }
+
+    fn refreshes(&mut self, group: &Plain) -> Answer {
+        self.last = group.last(&self.client);
+        Ok(Told::Last(self.last))
+    }
+
+    fn begins(&mut self, group: &Plain) -> Answer {
+        self.ticket = group.cookie().clone()?;
+        Ok(number_in(self.ticket.text()))
+    }
+
+    fn ends(&mut self, alloc: Global, group: &mut Plain, pull: Pull) -> Answer {
+        let response = response_of(alloc, pull)?;
+        let ended = group.end_pull(&ScriptMutators, &self.ticket, &response)?;
+        Ok(Told::Ended(ended))
+    }
+
+    fn makes(&mut self, alloc: Global, group: &mut Plain, call: Call) -> Answer {
+        match call {
+            Call::Mutate(name, args) => self.mutates(alloc, group, name, args),
+            Call::Get(key) => Ok(number_of(group.get(&Text::new(alloc, key)?))),
+            Call::Pending => Ok(Told::Last(group.pending().len() as u64)),
+            Call::Refresh => self.refreshes(group),
+            Call::Begin => self.begins(group),
+            Call::End(pull) => self.ends(alloc, group, pull),
+        }
+    }
+
+    // Makes the next call. False where it is answered otherwise, or where there is none.
+    fn fits(&mut self, alloc: Global, group: &mut Plain) -> Result<bool, Refusal> {
+        let Some(((call, answer), rest)) = self.steps.split_first() else {
+            return Ok(false);
+        };
+        self.steps = rest;
+        Ok(answered(self.makes(alloc, group, *call))? == *answer)
+    }
+}
+
+// What two clients made at once, of which the first one was A, and what A made then.
+#[derive(Drop)]
+struct Game {
+    by_a: Vec<Step>,
+    by_b: Vec<Step>,
+    last: Vec<Step>,
+}
+
+// Of two clients with four calls each.
+const TURNS: u32 = 8;
+
+// How an order explains a game: the first turn that it does not, or all.
+#[derive(Clone, Copy, PartialEq, Eq)]
+enum Explained {
+    Until(u32),
+    All,
+}
+
+// How a game is explained by the order in which the turns of A are the bits of a number, the highest one first. What A
+// made afterwards counts as one turn more.
+fn explained_by(alloc: Global, game: &Game, turns: u32) -> Result<Explained, Refusal> {
+    let mut group = Plain::new(alloc)?;
+    let mut a = side_of(alloc, A, &game.by_a)?;
+    let mut b = side_of(alloc, B, &game.by_b)?;
+    for turn in 0..TURNS {
+        let is_of_a = (turns >> (TURNS - 1 - turn)) & 1 == 1;
+        let fits = if is_of_a {
+            a.fits(alloc, &mut group)?
+        } else {
+            b.fits(alloc, &mut group)?
+        };
+        if !fits {
+            return Ok(Explained::Until(turn));
+        }
+    }
+    a.steps = &game.last;
+    ended_by(alloc, &mut group, &mut a)
+}
+
+fn ended_by(alloc: Global, group: &mut Plain, side: &mut Side<'_>) -> Result<Explained, Refusal> {
+    for _ in 0..LAST_CALLS.len() {
+        if !side.fits(alloc, group)? {
+            return Ok(Explained::Until(TURNS));
+        }
+    }
+    Ok(Explained::All)
+}
+
+// The first number above this one whose bits differ in this turn or before.
+fn next_order(turns: u32, turn: u32) -> u32 {
+    let after = if turn < TURNS { TURNS - 1 - turn } else { 0 };
+    (turns >> after).wrapping_add(1) << after
+}
+
+// The first order that explains all. Those that begin as one that does not are passed over.
+fn order_of(alloc: Global, game: &Game) -> Result<Option<u32>, Refusal> {
+    let mut next = 0;
+    for turns in 0u32..1 << TURNS {
+        if turns < next {
+            continue;
+        }
+        match explained_by(alloc, game, turns)? {
+            Explained::All => return Ok(Some(turns)),
+            Explained::Until(turn) => next = next_order(turns, turn),
+        }
+    }
+    Ok(None)
+}
+
+fn new_player<'g, S: Store<ScriptMutators>>(
+    group: &'g Group<ScriptMutators, S>,
+    seats: &mut Seats<ScriptMutators, S>,
+    text: &str,
+) -> Result<Player<'g, S>, Refusal>
+where
+    S::Seat: Drop,
+    requires { All (λ seat. (seat.mark.book ≡ group.now.shared.head) × (S.home seat.slots ≡ S.serves group.now.shared.store)) seats.old.free.items }
+    ensures { All (λ seat. (seat.mark.book ≡ group.now.shared.head) × (S.home seat.slots ≡ S.serves group.now.shared.store)) seats.new.free.items }
+{
+    let mut client = next_client(group, seats, text)?;
+    let ticket = client.begin_pull(TRIES)?;
+    Ok(Player { client, ticket })
+}
+
+// What calls are drawn by: the next number follows from the last one.
+#[derive(Drop)]
+struct Dice {
+    number: u64,
+}
+
+impl Dice {
+    fn draws(&mut self) -> Call {
+        self.number ^= self.number << 13;
+        self.number ^= self.number >> 7;
+        self.number ^= self.number << 17;
+        CALLS[(self.number % 16) as usize]
+    }
+
+    fn draws_four(&mut self) -> [Call; 4] {
+        [self.draws(), self.draws(), self.draws(), self.draws()]
+    }
+}
+
+fn both_play<R: Threads + Sync, S: Store<ScriptMutators>>(
+    rt: &R,
+    alloc: Global,
+    a: &mut Player<'_, S>,
+    b: &mut Player<'_, S>,
+    dice: &mut Dice,
+) -> Result<Game, Refusal>
+where
+    S::Seat: Drop,
+{
+    let calls = [dice.draws_four(), dice.draws_four()];
+    let come = AtomicU64::new(0);
+    let (by_a, by_b) = join(
+        rt,
+        || a.makes_beside(alloc, &calls[0], &come),
+        || b.makes_beside(alloc, &calls[1], &come),
+    );
+    let last = a.makes_all(alloc, &LAST_CALLS)?;
+    Ok(Game {
+        by_a: by_a?,
+        by_b: by_b?,
+        last,
+    })
+}
+
+fn played<R: Threads + Sync, S: Store<ScriptMutators>>(
+    rt: &R,
+    alloc: Global,
+    group: &Group<ScriptMutators, S>,
+    seats: &mut Seats<ScriptMutators, S>,
+    dice: &mut Dice,
+) -> Result<Option<u32>, Refusal>
+where
+    S::Seat: Drop,
+    requires { All (λ seat. (seat.mark.book ≡ group.now.shared.head) × (S.home seat.slots ≡ S.serves group.now.shared.store)) seats.old.free.items }
+{
+    let mut a = new_player(group, seats, A)?;
+    let mut b = new_player(group, seats, B)?;
+    let game = both_play(rt, alloc, &mut a, &mut b, dice)?;
+    order_of(alloc, &game)
+}
+
+const ROUNDS: u32 = 100;
+
+// How many rounds there are before one whose answers no order explains.
+fn rounds_explained<R: Threads + Sync, S: Store<ScriptMutators> + Drop>(
+    rt: &R,
+    alloc: Global,
+    parts: S::Parts,
+) -> Result<u32, Refusal>
+where
+    S::Seat: Drop,
+    S::Parts: Copy,
+{
+    let mut dice = Dice {
+        number: 0x2545_f491_4f6c_dd1d,
+    };
+    for round in 0..ROUNDS {
+        let config = config_of(alloc, 256, 2)?;
+        let (group, mut seats) = Group::<ScriptMutators, S>::open(
+            alloc,
+            config,
+            ScriptMutators,
+            parts,
+        )?;
+        if played(rt, alloc, &group, &mut seats, &mut dice)?.is_none() {
+            return Ok(round);
+        }
+    }
+    Ok(ROUNDS)
+}
+
+#[test]
+fn answers_over_an_arena_have_an_order(rt: HostRuntime) -> Result<(), Refusal> {
+    let rounds = rounds_explained::<HostRuntime, Arena<ScriptMutators>>(&rt, rt.alloc(), ())?;
+    assert_eq!(rt; rounds, ROUNDS);
+    Ok(())
+}
+
+#[test]
+fn answers_over_a_vector_have_an_order(rt: HostRuntime) -> Result<(), Refusal> {
+    let rounds = rounds_explained::<HostRuntime, Append<&HostRuntime, ScriptMutators>>(
+        &rt,
+        rt.alloc(),
+        &rt,
+    )?;
+    assert_eq!(rt; rounds, ROUNDS);
+    Ok(())
+}

@@ -1,0 +1,15 @@
+-- A value of a list that is changed at its place.
+use Rattle.std.proofs.Common.{◌≡◌, ℕ, zero, suc, ◌≤◌, List, [], ◌∷◌, length, map, set, get_or, refl, ap, arith}
+use Rattle.script_runner.specs.Commands.{changed_at}
+
+-- the view of a list in which a value was changed, by the views of the value before and after
+pub map_set-changed_at : {X Y : Type 0} (f : X → Y) (change : Y → Y) (xs : List X) (i : ℕ) (x w : X) → x ≡ get_or xs i x → f w ≡ change (f x) → map f (set xs i w) ≡ changed_at i change (map f xs)
+map_set-changed_at f change [] i x w at is = refl
+map_set-changed_at f change (y ∷ ys) zero x w at is = ap (λ z. z ∷ map f ys) (rw (← at) is)
+map_set-changed_at f change (y ∷ ys) (suc i) x w at is = ap (λ zs. f y ∷ zs) (map_set-changed_at f change ys i x w at is)
+
+-- past the end nothing is changed
+pub changed_at-past : {X : Type 0} (change : X → X) (xs : List X) (i : ℕ) → length xs ≤ i → changed_at i change xs ≡ xs
+changed_at-past change [] i past = refl
+changed_at-past change (x ∷ xs) zero past = absurd (omega arith)
+changed_at-past change (x ∷ xs) (suc i) past = ap (λ ys. x ∷ ys) (changed_at-past change xs i (omega arith))

@@ -1,7 +1,0 @@
-use Rattle.std.proofs.Common.{rules}
-use Rattle.script_runner.specs.Mutators.{sum_of}
-use Rattle.script_runner.proofs.mutators.sum_of.Goals as goal
-
-pub returns : goal.returns
-unfolding sum_of
-returns c = search rules

@@ -1,0 +1,97 @@
+-- What the call of a command may print, and how it leaves its client.
+use Rattle.std.specs.Prelude.{ℕ, ◌≡◌, ◌<◌, ◌⊎◌, ⊤, codes, List, length, slice_index_or, Option, Some, None, Result, Ok, Err}
+use Rattle.std.specs.Cmp.Lexicographic.{slice_cmp}
+use Rattle.std.specs.FinMap as finite
+use Rattle.std.specs.Ordering.{nat_cmp}
+use Rattle.group_history.specs.declared.refusals.Refusal.{Refusal}
+use Rattle.group_history.specs.declared.refusals.Refusal.TheVariants.{NoMemory}
+use Rattle.group_history.specs.Map.{Bytes}
+use Rattle.head_word.specs.Marks.{Known}
+use Rattle.clients.specs.Replies.{Replied, ticket}
+use Rattle.clients.specs.declared.calls.Call.{Call}
+use Rattle.clients.specs.declared.calls.Call.TheVariants as call
+use Rattle.clients.specs.declared.tickets.Ticket.{Ticket}
+use Rattle.script_runner.specs.declared.script.Call.{Call as Mutation}
+use Rattle.script_runner.specs.declared.script.Command.{Command}
+use Rattle.script_runner.specs.declared.script.Command.TheVariants as command
+use Rattle.script_runner.specs.declared.script.Query.{Query}
+use Rattle.script_runner.specs.declared.script.Query.TheVariants as query
+use Rattle.script_runner.specs.Callers.{Standing}
+use Rattle.script_runner.specs.Printing.{answer_text, refreshed_text, refused_text}
+
+-- the tickets of a client, by their names
+abbrev pub Tickets : Type 0
+Tickets = finite.FinMap (slice_cmp nat_cmp) Ticket
+
+-- a client of a script: its name, how it stands in its group, and its tickets
+pub record Player : Type 0 where
+  pub name : Bytes
+  pub standing : Standing
+  pub tickets : Tickets
+
+-- the call that a query is
+abbrev pub Asks : Query → Call → Type 0
+Asks (query.Get key) (call.Get k) = k.now ≡ key
+Asks (query.Has key) (call.Has k) = k.now ≡ key
+Asks (query.Scan scan) (call.Scan s) = s.now ≡ scan
+Asks query.Empty call.IsEmpty = ⊤
+Asks query.Closed call.Closed = ⊤
+Asks query.Pending call.Pending = ⊤
+Asks query.Cookie call.Cookie = ⊤
+Asks query.Push call.PushBody = ⊤
+Asks q other = ⊥
+
+-- the call that a mutation is
+abbrev pub AsksMutation : Mutation → Call → Type 0
+AsksMutation m (call.Mutate n) = (n.name.now ≡ m.mutator) × (n.args.now ≡ m.args) × (n.time ≡ m.time)
+AsksMutation m other = ⊥
+
+-- the call that the end of a ticket's pull is
+abbrev pub AsksEnd : Ticket → Bytes → Call → Type 0
+AsksEnd ticket body (call.EndPull at bytes) = (at.now ≡ ticket) × (bytes.now ≡ body)
+AsksEnd ticket body other = ⊥
+
+-- What a begun pull prints, and the tickets that it leaves: there is one of its name only where the pull was begun, and memory
+-- wasn't refused for it.
+abbrev pub IsBegun : Tickets → Bytes → Result Replied Refusal → Bytes → Tickets → Type 0
+IsBegun tickets name (Ok (ticket asked)) text after =
+    ((text ≡ answer_text (Ok (ticket asked))) × (t : Ticket) × (t.cookie ≡ asked.cookie) × (after ≡ finite.insert tickets name t))
+    ⊎ ((text ≡ refused_text NoMemory) × (after ≡ tickets))
+IsBegun tickets name answer text after = (text ≡ answer_text answer) × (after ≡ tickets)
+
+-- The rules of a group: what its clients' calls may reply, and how a client stands that has learnt what another one had seen.
+module _ (may_reply : Standing → Call → Result Replied Refusal → Standing → Type 0) (learns : Standing → Known → Standing → Type 0) where
+  -- one call is made, and what is printed tells its answer
+  pub record HandsOn (asks : Call → Type 0) (print : Result Replied Refusal → Bytes) (before : Player) (text : Bytes) (after : Player) : Type 0 where
+    pub call : Call
+    pub asked : asks call
+    pub answer : Result Replied Refusal
+    pub may : may_reply before.standing call answer after.standing
+    pub text : text ≡ print answer
+    pub tickets : after.tickets ≡ before.tickets
+
+  -- a pull is begun; a ticket of that name is given up first
+  pub record MayBegin (name : Bytes) (before : Player) (text : Bytes) (after : Player) : Type 0 where
+    pub answer : Result Replied Refusal
+    pub may : may_reply before.standing call.BeginPull answer after.standing
+    pub begun : IsBegun (finite.remove before.tickets name) name answer text after.tickets
+
+  -- a pull is ended whose ticket the client has; without one no call is made
+  abbrev pub MayEnd : Option Ticket → Bytes → Player → Bytes → Player → Type 0
+  MayEnd (Some ticket) body before text after = HandsOn (AsksEnd ticket body) answer_text before text after
+  MayEnd None body before text after = (text ≡ codes "no ticket") × (after ≡ before)
+
+  -- a client learns what the one at a place had seen
+  pub record MayLearn (seen : List Known) (place : ℕ) (before : Player) (text : Bytes) (after : Player) : Type 0 where
+    pub learnt : (s : Known) → place < length seen → learns before.standing (slice_index_or seen place s) after.standing
+    pub text : text ≡ codes "learnt"
+    pub tickets : after.tickets ≡ before.tickets
+
+  -- What a command may print, and how it leaves its client. `seen` is what each client had seen when the phase began.
+  abbrev pub MayPrint : List Known → Player → Command → Bytes → Player → Type 0
+  MayPrint seen before (command.Query q) text after = HandsOn (Asks q) answer_text before text after
+  MayPrint seen before (command.Begin name) text after = MayBegin name before text after
+  MayPrint seen before (command.End name body) text after = MayEnd (finite.get before.tickets name) body before text after
+  MayPrint seen before (command.Mutate m) text after = HandsOn (AsksMutation m) answer_text before text after
+  MayPrint seen before command.Refresh text after = HandsOn (λ c. c ≡ call.Refresh) refreshed_text before text after
+  MayPrint seen before (command.Learn place) text after = MayLearn seen place before text after

@@ -1,0 +1,54 @@
+-- A client's part of a phase, in the code.
+use Rattle.std.specs.Prelude.{ℕ, ◌≡◌, ◌<◌, List, [], ◌∷◌, ◌++◌, length, map, slice_index_or, Result, Ok, Err, IsOk, IfOk}
+use Rattle.std.specs.Global.{Vec}
+use Rattle.std.specs.List.{All}
+use Rattle.logbook.specs.Pages.{Book}
+use Rattle.group_history.specs.declared.refusals.Refusal.{Refusal}
+use Rattle.group_history.specs.Map.{Bytes}
+use Rattle.head_word.specs.Marks.{Known}
+use Rattle.clients.specs.Replies.{Replied}
+use Rattle.clients.specs.declared.calls.Call.{Call}
+use Rattle.script_runner.specs.declared.client.Client.{Client}
+use Rattle.script_runner.specs.declared.phase.Turn.{Turn}
+use Rattle.script_runner.specs.declared.script.Line.{Line}
+use Rattle.script_runner.specs.declared.script.Command.{Command}
+use Rattle.script_runner.specs.Callers.{Standing}
+use Rattle.script_runner.specs.Commanding.{MayPrint, Player}
+use Rattle.script_runner.specs.Context.{Lines}
+use Rattle.script_runner.specs.Phases.{AreTold}
+use Rattle.script_runner.specs.Printing.{line_text}
+use Rattle.script_runner.specs.Inside.Parsing.{line_said}
+use Rattle.script_runner.specs.Inside.Players.{player_of}
+
+-- what was printed of a client's part, where memory wasn't refused
+abbrev pub printed_text : {E : Type 0} → Result (Vec ℕ) E → Bytes
+printed_text (Ok text) = text.items
+printed_text (Err e) = []
+
+-- memory wasn't refused
+abbrev pub IsPrinted : {C : Type 0} → Turn C → Type 0
+IsPrinted turn = IsOk turn.printed
+
+abbrev pub texts_of : {C : Type 0} → List (Turn C) → List Bytes
+texts_of turns = map (λ t. printed_text t.printed) turns
+
+-- the lines of each client
+abbrev pub lines_said : List (Vec Line) → List Lines
+lines_said lines = map (λ own. map line_said own.items) lines
+
+-- all clients are of one group
+abbrev pub AreOf : {C : Type 0} → (C → Standing) → Book → List (Turn C) → Type 0
+AreOf stands book turns = All (λ t. (stands t.client.caller).mark.book ≡ book) turns
+
+module _ (may_reply : Standing → Call → Result Replied Refusal → Standing → Type 0) (learns : Standing → Known → Standing → Type 0) where
+  -- the printed text gained the line of output of one line
+  pub record IsTold (seen : List Known) (before : Player) (l : ℕ × Command) (old new : Bytes) (after : Player) : Type 0 where
+    pub told : Bytes
+    pub may : MayPrint may_reply learns seen before l.1 told after
+    pub name : after.name ≡ before.name
+    pub text : new ≡ old ++ line_text l.0 before.name told
+
+  -- a client's part of a phase, where memory wasn't refused
+  pub record IsTurn {C : Type 0} (stands : C → Standing) (seen : List Known) (lines : List Line) (before : Client C) (after : Turn C) : Type 0 where
+    pub told : IfOk after.printed (λ text. AreTold may_reply learns seen (player_of stands before) (map line_said lines) text.items (player_of stands after.client))
+    pub group : (stands after.client.caller).mark.book ≡ (stands before.caller).mark.book

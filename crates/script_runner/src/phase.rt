@@ -1,0 +1,132 @@
+//! A phase: each client with lines makes its calls on a thread of its own.
+ghost use Rattle.std.specs.Prelude.{◌≡◌, ◌<◌, IfOk, OnOk, length, map, slice_index_or};
+ghost use Rattle.std.specs.List.{All};
+ghost use Rattle.logbook.specs.Pages.{Book};
+ghost use Rattle.script_runner.specs.Phases.{AreTold, IsPhase, all_seen};
+ghost use Rattle.script_runner.specs.Inside.Players.{player_of, players_of};
+ghost use Rattle.script_runner.specs.Inside.Parsing.{line_said};
+ghost use Rattle.script_runner.specs.Inside.Turns.{AreOf, IsPrinted, IsTold, IsTurn, lines_said, texts_of};
+
+use crate::callers::Caller;
+use crate::client::Client;
+use crate::reply::print_line;
+use crate::script::Line;
+use std::alloc::{AllocError, Global};
+use std::sync::Wait;
+use std::thread::{self, Threads};
+
+/// Asked before and after each call of a client, from the client's own thread, with the client's name and the line's
+/// number. A gate may hold a call, so a test can order the calls of clients.
+pub trait Gate: Sync {
+    fn before(&self, client: &str, line: u64);
+
+    fn after(&self, client: &str, line: u64);
+}
+
+impl<C: Caller + Drop> Client<C> {
+    /// Does the command of a line, between the questions to the gate, and appends what is printed of it.
+    fn tell<R: Wait, G: Gate>(
+        &mut self,
+        rt: &R,
+        gate: &G,
+        seen: &[C::Seen],
+        line: &Line,
+        printed: &mut Vec<u8>,
+    ) -> Result<(), AllocError>
+        requires { All (λ s. (C.seen_by s).book ≡ (C.stands self.old.caller).mark.book) seen.now }
+        ensures told { OnOk result (IsTold C.may_reply C.learns (map C.seen_by seen.now) (player_of C.stands self.old) (line_said line.now) printed.old.items printed.new.items (player_of C.stands self.new)) }
+        ensures group { (C.stands self.new.caller).mark.book ≡ (C.stands self.old.caller).mark.book }
+    {
+        gate.before(self.name.as_str(), line.number);
+        let reply = self.call(rt, seen, &line.command);
+        gate.after(self.name.as_str(), line.number);
+        print_line(printed, line.number, self.name.as_str(), &reply)
+    }
+
+    /// Does the commands of the lines, in order, and answers what is printed of them.
+    fn tell_all<R: Wait, G: Gate>(
+        &mut self,
+        rt: &R,
+        alloc: Global,
+        gate: &G,
+        seen: &[C::Seen],
+        lines: &[Line],
+    ) -> Result<Vec<u8>, AllocError>
+        requires { All (λ s. (C.seen_by s).book ≡ (C.stands self.old.caller).mark.book) seen.now }
+        ensures told { IfOk result (λ text. AreTold C.may_reply C.learns (map C.seen_by seen.now) (player_of C.stands self.old) (map line_said lines.now) text.items (player_of C.stands self.new)) }
+        ensures group { (C.stands self.new.caller).mark.book ≡ (C.stands self.old.caller).mark.book }
+    {
+        let mut printed = Vec::new(alloc);
+        for line in lines {
+            self.tell(rt, gate, seen, line, &mut printed)?;
+        }
+        Ok(printed)
+    }
+}
+
+/// A client, and what is printed of its part of a phase.
+#[derive(Drop)]
+pub(crate) struct Turn<C: Drop> {
+    pub(crate) client: Client<C>,
+    pub(crate) printed: Result<Vec<u8>, AllocError>,
+}
+
+impl<C: Caller + Drop> Turn<C> {
+    fn play<R: Wait, G: Gate>(
+        &mut self,
+        rt: &R,
+        alloc: Global,
+        gate: &G,
+        seen: &[C::Seen],
+        lines: &[Line],
+    )
+        requires { All (λ s. (C.seen_by s).book ≡ (C.stands self.old.client.caller).mark.book) seen.now }
+        ensures { IsTurn C.may_reply C.learns C.stands (map C.seen_by seen.now) lines.now self.old.client self.new }
+    {
+        self.printed = self.client.tell_all(rt, alloc, gate, seen, lines);
+    }
+}
+
+/// What each client has seen.
+fn seen_of<C: Caller + Drop>(alloc: Global, turns: &[Turn<C>]) -> Result<Vec<C::Seen>, AllocError>
+    ensures { IfOk result (λ seen. map C.seen_by seen.items ≡ all_seen (players_of C.stands turns.now)) }
+{
+    let mut seen = Vec::with_capacity(alloc, turns.len())?;
+    for turn in turns {
+        seen.push(turn.client.caller.seen())?;
+    }
+    Ok(seen)
+}
+
+/// Does the lines of a phase: those of each place by the client of that place, on a thread of its own.
+pub(crate) fn run_phase<R: Threads + Wait + Sync, G: Gate, C: Caller + Send + Drop>(
+    rt: &R,
+    alloc: Global,
+    gate: &G,
+    turns: &mut [Turn<C>],
+    lines: &[Vec<Line>],
+) -> Result<(), AllocError>
+    requires lines { length turns.old ≡ length lines.now }
+    requires one { (b : Book) × AreOf C.stands b turns.old }
+    ensures phase { OnOk result (All IsPrinted turns.new → IsPhase C.may_reply C.learns (lines_said lines.now) (players_of C.stands turns.old) (texts_of turns.new) (players_of C.stands turns.new)) }
+    ensures group { (b : Book) → AreOf C.stands b turns.old → AreOf C.stands b turns.new }
+    ensures count { length turns.new ≡ length turns.old }
+{
+    if turns.is_empty() {
+        return Ok(());
+    }
+    let seen = seen_of(alloc, turns)?;
+    let busy = lines.iter().filter(|own| !own.is_empty()).count();
+    let count = if busy < 2 { 1 } else { turns.len() };
+    thread::for_each_mut(
+        rt,
+        turns,
+        count,
+        &|i, turn| -> ()
+            requires place { i < length lines.now }
+            requires one { All (λ s. (C.seen_by s).book ≡ (C.stands turn.entry.now.client.caller).mark.book) seen.now.items }
+            ensures { (l : _) → IsTurn C.may_reply C.learns C.stands (map C.seen_by seen.now.items) (slice_index_or lines.entry.now i l).items turn.entry.now.client turn.exit.now }
+        { turn.play(rt, alloc, gate, &seen, &lines[i]) },
+    );
+    Ok(())
+}

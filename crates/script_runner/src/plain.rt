@@ -1,0 +1,155 @@
+//! A plain group, by which a run can be judged.
+//!
+//! It keeps its view as one map, which a pull computes anew. It says by the shortest code what a group is; its clients
+//! take turns at it.
+ghost use Rattle.std.specs.Prelude.{◌≡◌, Ok, IfOk, OnErr, IsOkUnless};
+ghost use Rattle.group_history.specs.Answers.{Answers};
+ghost use Rattle.group_history.specs.Mutating.{mutate_reply};
+ghost use Rattle.group_history.specs.Queries.{get_at};
+ghost use Rattle.group_history.specs.declared.refusals.Refusal.TheVariants.{NoMemory};
+ghost use Rattle.push_body.specs.Bodies.{push_text};
+ghost use Rattle.clients.specs.Asking.{end_bytes_reply};
+ghost use Rattle.clients.specs.Calls.{IsReplyTo, asked_mutation, caller, reply_to};
+ghost use Rattle.clients.specs.Queries.{asked, asked_at, told};
+ghost use Rattle.clients.specs.Replies.{reply_seen};
+ghost use Rattle.script_mutators.specs.Mutators.{script_means};
+
+use crate::callers::Caller;
+use script_mutators::ScriptMutators;
+use clients::{Call, Mutate, Reply, Ticket};
+use group_history::{Ended, Json, Mutation, PlainGroup, Refusal, Text};
+use pull_patch::read_response;
+use push_body::{Identity, pull_bytes, push_bytes};
+use std::alloc::{AllocError, Global};
+use std::sync::{Mutex, Wait};
+
+/// A plain group, and whose requests it writes.
+#[derive(Drop)]
+pub(crate) struct Plain {
+    alloc: Global,
+    group: PlainGroup<ScriptMutators>,
+    identity: Identity,
+}
+
+impl Plain {
+    /// A new group, in its opening state.
+    pub(crate) fn new(alloc: Global, identity: Identity) -> Result<Plain, AllocError> {
+        Ok(Plain {
+            alloc,
+            group: PlainGroup::new(alloc)?,
+            identity,
+        })
+    }
+
+    /// Makes one call of a client with this ID and this last id.
+    fn make_call(&mut self, id: &Text, last: u64, call: Call<'_>) -> Result<Reply, Refusal>
+        ensures { IsReplyTo (told reply_seen result) (reply_to script_means (caller self.old.identity id.now last) self.old.group call.entry) }
+    {
+        match call {
+            Call::Get(key) => Ok(Reply::Value(self.get(key)?)),
+            Call::Has(key) => Ok(Reply::Is(self.group.has(key))),
+            Call::Scan(scan) => Ok(Reply::Rows(self.group.scan(scan)?)),
+            Call::IsEmpty => Ok(Reply::Is(self.group.is_empty())),
+            Call::Closed => Ok(Reply::Is(self.group.closed())),
+            Call::Pending => Ok(Reply::Pending(self.pending()?)),
+            Call::Cookie => Ok(Reply::Cookie(self.group.cookie().clone()?)),
+            Call::Refresh => Ok(Reply::Id(self.group.last(id))),
+            Call::PushBody => Ok(Reply::Body(self.push_body()?)),
+            Call::BeginPull => Ok(Reply::Ticket(self.begin_pull()?)),
+            Call::Mutate(m) => Ok(Reply::Id(self.mutate(id, last, m)?)),
+            Call::EndPull(ticket, body) => Ok(Reply::Ended(self.end_pull(ticket, body)?)),
+        }
+    }
+
+    fn get(&self, key: &Text) -> Result<Option<Json>, AllocError>
+        ensures { IfOk result (λ found. found ≡ get_at script_means self.now.group key.now) }
+    {
+        match self.group.get(key) {
+            Some(value) => Ok(Some(value.clone()?)),
+            None => Ok(None),
+        }
+    }
+
+    fn pending(&self) -> Result<Vec<Mutation>, AllocError>
+        ensures { IfOk result (λ xs. xs.items ≡ self.now.group.pending) }
+    {
+        let mut copy = Vec::new(self.alloc);
+        for mutation in self.group.pending() {
+            copy.push(mutation.clone()?)?;
+        }
+        Ok(copy)
+    }
+
+    fn push_body(&self) -> Result<Vec<u8>, Refusal>
+        ensures ok { IfOk result (λ v. v.items ≡ push_text self.now.identity self.now.group.pending) }
+        ensures err { IsOkUnless result NoMemory }
+    {
+        push_bytes(self.alloc, &self.identity, self.group.pending())
+    }
+
+    fn begin_pull(&self) -> Result<Ticket, Refusal>
+        ensures ok { IfOk result (λ t. asked t ≡ asked_at self.now.identity self.now.group) }
+        ensures err { IsOkUnless result NoMemory }
+    {
+        let cookie = self.group.cookie().clone()?;
+        let body = pull_bytes(self.alloc, &self.identity, &cookie)?;
+        Ok(Ticket { body, cookie })
+    }
+
+    fn mutate(&mut self, id: &Text, last: u64, m: Mutate<'_>) -> Result<u64, Refusal>
+        ensures { Answers result (mutate_reply script_means self.old.group last (asked_mutation (caller self.old.identity id.now last) m.entry)) }
+    {
+        self.group
+            .mutate(&ScriptMutators, id, last, m.name, m.args, m.time)
+    }
+
+    fn end_pull(&mut self, ticket: &Ticket, body: &[u8]) -> Result<Ended, Refusal>
+        ensures { Answers result (end_bytes_reply self.old.group ticket.now.cookie.text body.now) }
+    {
+        let response = read_response(self.alloc, body)?;
+        self.group
+            .end_pull(&ScriptMutators, &ticket.cookie, &response)
+    }
+}
+
+/// A client of a plain group that several take turns at.
+#[derive(Drop)]
+pub(crate) struct PlainClient<'g> {
+    group: &'g Mutex<Plain>,
+    id: Text,
+    last: u64,
+}
+
+impl<'g> PlainClient<'g> {
+    pub(crate) fn new(group: &'g Mutex<Plain>, id: Text) -> PlainClient<'g> {
+        PlainClient { group, id, last: 0 }
+    }
+}
+
+impl<'g> Caller for PlainClient<'g> {
+    ghost use Rattle.std.specs.Prelude.{[], None};
+    ghost use Rattle.head_word.specs.Marks.{known};
+    ghost use Rattle.script_runner.specs.Callers.{LearnsNothing, MayReplyPlainly, no_book, plain_standing};
+
+    type Seen = ();
+
+    ghost stands = { λ c. plain_standing c.id c.last };
+
+    ghost seen_by = { λ seen. known no_book [] None };
+
+    ghost may_reply = { MayReplyPlainly };
+
+    ghost learns = { LearnsNothing };
+
+    fn call<R: Wait>(&mut self, rt: &R, call: Call<'_>) -> Result<Reply, Refusal> {
+        let reply = self.group.lock(rt).make_call(&self.id, self.last, call);
+        if let Ok(Reply::Id(id)) = &reply {
+            self.last = *id;
+        }
+        reply
+    }
+
+    fn seen(&self) {}
+
+    fn learn(&mut self, _other: &()) {}
+}
