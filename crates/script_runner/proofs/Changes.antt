@@ -1,5 +1,6 @@
 -- A value of a list that is changed at its place.
-use Rattle.std.proofs.Common.{◌≡◌, ℕ, zero, suc, ◌≤◌, List, [], ◌∷◌, length, map, set, get_or, refl, ap, arith}
+use Rattle.std.proofs.Common.{◌≡◌, ℕ, zero, suc, ◌≤◌, List, [], ◌∷◌, length, map, set, get_or, All, refl, ap, arith}
+use Rattle.std.proofs.lemmas.List.Elements.{All-nil, All-cons, All-head, All-tail}
 use Rattle.script_runner.specs.Commands.{changed_at}
 
 -- the view of a list in which a value was changed, by the views of the value before and after
@@ -13,3 +14,14 @@ pub changed_at-past : {X : Type 0} (change : X → X) (xs : List X) (i : ℕ) �
 changed_at-past change [] i past = refl
 changed_at-past change (x ∷ xs) zero past = absurd (omega arith)
 changed_at-past change (x ∷ xs) (suc i) past = ap (λ ys. x ∷ ys) (changed_at-past change xs i (omega arith))
+
+pub length-changed_at : {X : Type 0} (change : X → X) (i : ℕ) (xs : List X) → length (changed_at i change xs) ≡ length xs
+length-changed_at change i [] = refl
+length-changed_at change zero (x ∷ xs) = refl
+length-changed_at change (suc i) (x ∷ xs) = ap suc (length-changed_at change i xs)
+
+-- what holds of each value holds after a change that keeps it
+pub All-changed_at : {X : Type 0} (P : X → Type 0) (change : X → X) (i : ℕ) (xs : List X) → ((x : X) → P x → P (change x)) → All P xs → All P (changed_at i change xs)
+All-changed_at P change i [] keeps all = All-nil P
+All-changed_at P change zero (x ∷ xs) keeps all = All-cons P (change x) xs (keeps x (All-head P x xs all)) (All-tail P x xs all)
+All-changed_at P change (suc i) (x ∷ xs) keeps all = All-cons P x (changed_at i change xs) (All-head P x xs all) (All-changed_at P change i xs keeps (All-tail P x xs all))

@@ -1,5 +1,10 @@
 pub mod Lists
 pub mod Joining
 pub mod Changes
+pub mod Needs
+pub mod CheckedLemmas
+pub mod CheckedScripts
 pub mod Numbers
 pub mod Scripts
+pub mod Turns
+pub mod Openings

@@ -48,8 +48,8 @@ AsksMutation m other = ⊥
 
 -- the call that the end of a ticket's pull is
 abbrev pub AsksEnd : Ticket → Bytes → Call → Type 0
-AsksEnd ticket body (call.EndPull at bytes) = (at.now ≡ ticket) × (bytes.now ≡ body)
-AsksEnd ticket body other = ⊥
+AsksEnd kept body (call.EndPull at bytes) = (at.now ≡ kept) × (bytes.now ≡ body)
+AsksEnd kept body other = ⊥
 
 -- What a begun pull prints, and the tickets that it leaves: there is one of its name only where the pull was begun, and memory
 -- wasn't refused for it.
@@ -63,11 +63,11 @@ IsBegun tickets name answer text after = (text ≡ answer_text answer) × (after
 module _ (may_reply : Standing → Call → Result Replied Refusal → Standing → Type 0) (learns : Standing → Known → Standing → Type 0) where
   -- one call is made, and what is printed tells its answer
   pub record HandsOn (asks : Call → Type 0) (print : Result Replied Refusal → Bytes) (before : Player) (text : Bytes) (after : Player) : Type 0 where
-    pub call : Call
-    pub asked : asks call
+    pub made : Call
+    pub asked : asks made
     pub answer : Result Replied Refusal
-    pub may : may_reply before.standing call answer after.standing
-    pub text : text ≡ print answer
+    pub may : may_reply before.standing made answer after.standing
+    pub printed : text ≡ print answer
     pub tickets : after.tickets ≡ before.tickets
 
   -- a pull is begun; a ticket of that name is given up first
@@ -78,13 +78,13 @@ module _ (may_reply : Standing → Call → Result Replied Refusal → Standing 
 
   -- a pull is ended whose ticket the client has; without one no call is made
   abbrev pub MayEnd : Option Ticket → Bytes → Player → Bytes → Player → Type 0
-  MayEnd (Some ticket) body before text after = HandsOn (AsksEnd ticket body) answer_text before text after
+  MayEnd (Some kept) body before text after = HandsOn (AsksEnd kept body) answer_text before text after
   MayEnd None body before text after = (text ≡ codes "no ticket") × (after ≡ before)
 
   -- a client learns what the one at a place had seen
   pub record MayLearn (seen : List Known) (place : ℕ) (before : Player) (text : Bytes) (after : Player) : Type 0 where
     pub learnt : (s : Known) → place < length seen → learns before.standing (slice_index_or seen place s) after.standing
-    pub text : text ≡ codes "learnt"
+    pub printed : text ≡ codes "learnt"
     pub tickets : after.tickets ≡ before.tickets
 
   -- What a command may print, and how it leaves its client. `seen` is what each client had seen when the phase began.

@@ -17,7 +17,7 @@ pub record Context : Type 0 where
   pub slots : Option ℕ
   -- the clients, in the order of their lines: the name, and the ID in that same form
   pub clients : List (Bytes × Bytes)
-  -- the phases, in their order; in each the lines of each client, in the order of the client lines
+  -- the phases, oldest first; in each the lines of each client, in the order of the client lines
   pub phases : List (List Lines)
   -- the tickets that are made, each with the place of its client
   pub tickets : List (ℕ × Bytes)

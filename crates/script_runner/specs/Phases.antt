@@ -27,8 +27,8 @@ module _ (may_reply : Standing → Call → Result Replied Refusal → Standing 
 
   -- Each client does the lines of its place, and has a text of its own. Nothing is said of whose call comes first.
   pub record IsPhase (lines : List Lines) (before : List Player) (texts : List Bytes) (after : List Player) : Type 0 where
-    pub texts : length texts ≡ length before
-    pub clients : length after ≡ length before
+    pub as_many_texts : length texts ≡ length before
+    pub as_many : length after ≡ length before
     pub each : (i : ℕ) (l : Lines) (b : Player) (t : Bytes) (a : Player) → i < length before
         → AreTold (all_seen before) (slice_index_or before i b) (slice_index_or lines i l) (slice_index_or texts i t) (slice_index_or after i a)
 

@@ -27,14 +27,14 @@ identity_of group profile schema = record {
 
 -- a client of the group of this book before the first phase: it has the last id that the group has of it, and no ticket
 pub record IsNew (identity : Identity) (book : Book) (p : Player) : Type 0 where
-  pub identity : p.standing.caller.identity ≡ identity
-  pub book : p.standing.mark.book ≡ book
+  pub writes : p.standing.caller.identity ≡ identity
+  pub of_book : p.standing.mark.book ≡ book
   pub last : (before : Known) × IsAnswered script_means before p.standing.mark None (λ s. last_id s p.standing.caller.client ≡ p.standing.caller.last)
   pub tickets : p.tickets ≡ finite.empty
 
 -- the clients before the first phase: those of the lines, each with its name and ID, in a group of its own
 pub record AreNew (identity : Identity) (lines : List (Bytes × Bytes)) (players : List Player) : Type 0 where
-  pub lines : map (λ p. (p.name, p.standing.caller.client)) players ≡ lines
+  pub named : map (λ p. (p.name, p.standing.caller.client)) players ≡ lines
   pub all : (book : Book) × All (IsNew identity book) players
 
 -- A run to the end writes what the phases print that the script says, from its clients on.

@@ -8,7 +8,7 @@ ghost use Rattle.clients.specs.declared.calls.Call.{Call as Asked};
 ghost use Rattle.script_runner.specs.Callers.{Standing, sight_of};
 
 use script_mutators::ScriptMutators;
-use chunk_slots::Store;
+use chunk_slots::Arena;
 use clients::{Call, Client, Reply};
 use group_history::Refusal;
 use head_word::Mark;
@@ -49,10 +49,10 @@ pub(crate) trait Caller {
         ensures group { (stands self.new).mark.book ≡ (stands self.old).mark.book };
 }
 
-impl<'g, S: Store<ScriptMutators>> Caller for Client<'g, ScriptMutators, S>
-where
-    S::Seat: Drop,
-{
+/// A client of a group whose clients may all call at the same time.
+pub(crate) type SharedClient<'g> = Client<'g, ScriptMutators, Arena<ScriptMutators>>;
+
+impl<'g> Caller for SharedClient<'g> {
     ghost use Rattle.clients.specs.Calls.{caller};
     ghost use Rattle.script_runner.specs.Callers.{MayReply, Learns};
 

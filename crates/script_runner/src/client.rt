@@ -1,5 +1,5 @@
 //! A client of a script: what it keeps between its lines, and what each command does.
-ghost use Rattle.std.specs.Prelude.{◌≡◌, Ok, map};
+ghost use Rattle.std.specs.Prelude.{◌≡◌, IfOk, Ok, map};
 ghost use Rattle.std.specs.List.{All};
 ghost use Rattle.std.specs.FinMap as finite;
 ghost use Rattle.clients.specs.Queries.{asked, told};
@@ -29,7 +29,9 @@ pub(crate) struct Client<C: Drop> {
 }
 
 impl<C: Caller + Drop> Client<C> {
-    pub(crate) fn new(alloc: Global, name: &Text, caller: C) -> Result<Client<C>, AllocError> {
+    pub(crate) fn new(alloc: Global, name: &Text, caller: C) -> Result<Client<C>, AllocError>
+        ensures { IfOk result (λ client. player_of C.stands client ≡ record { name = name.now; standing = C.stands caller; tickets = finite.empty }) }
+    {
         Ok(Client {
             alloc,
             name: name.clone()?,

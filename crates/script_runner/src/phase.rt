@@ -98,6 +98,14 @@ fn seen_of<C: Caller + Drop>(alloc: Global, turns: &[Turn<C>]) -> Result<Vec<C::
     Ok(seen)
 }
 
+/// How many threads serve so many clients: one each where two have lines, and else the one that is there.
+fn threads_for(clients: usize, lines: &[Vec<Line>]) -> usize
+    ensures { 0 < clients → 0 < result }
+{
+    let busy = lines.iter().filter(|own| !own.is_empty()).count();
+    if busy < 2 { 1 } else { clients }
+}
+
 /// Does the lines of a phase: those of each place by the client of that place, on a thread of its own.
 pub(crate) fn run_phase<R: Threads + Wait + Sync, G: Gate, C: Caller + Send + Drop>(
     rt: &R,
@@ -116,16 +124,15 @@ pub(crate) fn run_phase<R: Threads + Wait + Sync, G: Gate, C: Caller + Send + Dr
         return Ok(());
     }
     let seen = seen_of(alloc, turns)?;
-    let busy = lines.iter().filter(|own| !own.is_empty()).count();
-    let count = if busy < 2 { 1 } else { turns.len() };
+    let count = threads_for(turns.len(), lines);
     thread::for_each_mut(
         rt,
         turns,
         count,
         &|i, turn| -> ()
             requires place { i < length lines.now }
-            requires one { All (λ s. (C.seen_by s).book ≡ (C.stands turn.entry.now.client.caller).mark.book) seen.now.items }
-            ensures { (l : _) → IsTurn C.may_reply C.learns C.stands (map C.seen_by seen.now.items) (slice_index_or lines.entry.now i l).items turn.entry.now.client turn.exit.now }
+            requires one { All (λ s. (C.seen_by s).book ≡ (C.stands turn.now.client.caller).mark.book) seen.items }
+            ensures { (l : _) → IsTurn C.may_reply C.learns C.stands (map C.seen_by seen.items) (slice_index_or lines.entry.now i l).items turn.entry.now.client turn.exit.now }
         { turn.play(rt, alloc, gate, &seen, &lines[i]) },
     );
     Ok(())

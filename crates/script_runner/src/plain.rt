@@ -9,7 +9,7 @@ ghost use Rattle.group_history.specs.Queries.{get_at};
 ghost use Rattle.group_history.specs.declared.refusals.Refusal.TheVariants.{NoMemory};
 ghost use Rattle.push_body.specs.Bodies.{push_text};
 ghost use Rattle.clients.specs.Asking.{end_bytes_reply};
-ghost use Rattle.clients.specs.Calls.{IsReplyTo, asked_mutation, caller, reply_to};
+ghost use Rattle.clients.specs.Calls.{IsReplyTo, asked_mutation, caller, last_after, reply_to};
 ghost use Rattle.clients.specs.Queries.{asked, asked_at, told};
 ghost use Rattle.clients.specs.Replies.{reply_seen};
 ghost use Rattle.script_mutators.specs.Mutators.{script_means};
@@ -33,7 +33,7 @@ pub(crate) struct Plain {
 
 impl Plain {
     /// A new group, in its opening state.
-    pub(crate) fn new(alloc: Global, identity: Identity) -> Result<Plain, AllocError> {
+    pub(crate) fn new(alloc: Global, identity: Identity) -> Result<Plain, Refusal> {
         Ok(Plain {
             alloc,
             group: PlainGroup::new(alloc)?,
@@ -126,6 +126,16 @@ impl<'g> PlainClient<'g> {
     }
 }
 
+/// A client's last id after a reply: an id that is replied is its last one.
+fn last_after(last: u64, reply: &Result<Reply, Refusal>) -> u64
+    ensures { result ≡ last_after last (told reply_seen reply.now) }
+{
+    match reply {
+        Ok(Reply::Id(id)) => *id,
+        _ => last,
+    }
+}
+
 impl<'g> Caller for PlainClient<'g> {
     ghost use Rattle.std.specs.Prelude.{[], None};
     ghost use Rattle.head_word.specs.Marks.{known};
@@ -143,9 +153,7 @@ impl<'g> Caller for PlainClient<'g> {
 
     fn call<R: Wait>(&mut self, rt: &R, call: Call<'_>) -> Result<Reply, Refusal> {
         let reply = self.group.lock(rt).make_call(&self.id, self.last, call);
-        if let Ok(Reply::Id(id)) = &reply {
-            self.last = *id;
-        }
+        self.last = last_after(self.last, &reply);
         reply
     }
 

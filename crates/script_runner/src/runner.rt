@@ -1,5 +1,5 @@
 //! Runs a script: its phases one after the other, on clients of one group.
-ghost use Rattle.std.specs.Prelude.{◌≡◌, ◌≤◌, ◌+◌, IfErr, IfOk, OnOk, length, map, vec_len};
+ghost use Rattle.std.specs.Prelude.{◌≡◌, ◌≤◌, ◌+◌, ◌⊎◌, IfErr, IfOk, IfSome, OnOk, length, map, vec_len};
 ghost use Rattle.std.specs.FinMap as finite;
 ghost use Rattle.std.specs.Io.KnownBytes.{Appends, Keeps};
 ghost use Rattle.std.specs.List.{All, concat};
@@ -8,25 +8,30 @@ ghost use Rattle.script_runner.specs.Faults.{Checks, first_fault, script_said};
 ghost use Rattle.script_runner.specs.Context.{Context};
 ghost use Rattle.script_runner.specs.Phases.{AreWritten, HasWhole, IsPhase};
 ghost use Rattle.script_runner.specs.Runs.{HasRun, HasStopped, IsNew, IsOfScript, IsWant, identity_of};
+ghost use Rattle.group_history.specs.Refs.{max_seats, max_slots};
 ghost use Rattle.clients.specs.Calls.{caller};
-ghost use Rattle.script_runner.specs.Inside.Parsing.{IsScript, client_said, phase_said};
+ghost use Rattle.script_runner.specs.Inside.Parsing.{IsChecked, IsScript, client_said, phase_said};
 ghost use Rattle.script_runner.specs.Inside.Players.{player_of, players_of};
 ghost use Rattle.script_runner.specs.Inside.Turns.{AreOf, IsPrinted, texts_of};
 
-use crate::callers::{Caller, TRIES};
+use crate::callers::{Caller, SharedClient, TRIES};
 use crate::client::Client;
 use crate::faults::Fault;
 use script_mutators::ScriptMutators;
 use crate::phase::{Gate, Turn, run_phase};
 use crate::plain::{Plain, PlainClient};
 use crate::script::{ClientLine, Header, Phase, Script, read_script, uuid_text};
-use chunk_slots::{Append, Store};
+use chunk_slots::Arena;
 use clients::{Config, Group, Seats};
 use group_history::Text;
 use std::alloc::{AllocError, Global};
 use std::io;
 use std::sync::{Mutex, Wait};
 use std::thread::Threads;
+
+type SharedGroup = Group<ScriptMutators, Arena<ScriptMutators>>;
+
+type SharedSeats = Seats<ScriptMutators, Arena<ScriptMutators>>;
 
 /// What a phase prints, client by client.
 fn text_of<C: Drop>(alloc: Global, turns: &[Turn<C>]) -> Result<Vec<u8>, AllocError>
@@ -92,12 +97,15 @@ fn run_phases<R: Threads + Wait + Sync, G: Gate, C: Caller + Send + Drop, W: io:
 
 /// How a script lays its group out: a seat for each client, and one where there are none.
 fn config_of(alloc: Global, header: &Header) -> Result<Config, AllocError>
+    requires seats { vec_len header.now.clients ≤ max_seats }
+    requires slots { IfSome header.now.slots (λ n. (16 ≤ n) × (n ≤ max_slots)) }
     ensures identity { IfOk result (λ config. config.identity ≡ identity_of header.now.group header.now.profile header.now.schema) }
     ensures seats { IfOk result (λ config. vec_len header.now.clients ≤ config.seats) }
 {
     let identity = header.identity(alloc)?;
-    let seats = max(header.clients.len() as u32, 1);
-    let Ok(config) = Config::new(identity, header.slots(), seats) else {
+    let seats = header.clients.len().max(1) as u32;
+    let slots = header.slots_or_default() as u32;
+    let Ok(config) = Config::new(identity, slots, seats) else {
         unreachable!()
     };
     Ok(config)
@@ -115,18 +123,16 @@ fn turn_of<C: Caller + Drop>(alloc: Global, name: &Text, caller: C) -> Result<Tu
 }
 
 /// Opens a client on a seat of a group.
-fn open_client<'g, S: Store<ScriptMutators>>(
+fn open_client<'g>(
     alloc: Global,
     line: &ClientLine,
-    group: &'g Group<ScriptMutators, S>,
-    seats: &mut Seats<ScriptMutators, S>,
-) -> Result<Turn<clients::Client<'g, ScriptMutators, S>>, AllocError>
-where
-    S::Seat: Drop,
+    group: &'g SharedGroup,
+    seats: &mut SharedSeats,
+) -> Result<Turn<SharedClient<'g>>, AllocError>
     requires free { 1 ≤ length seats.old.free.items }
-    requires seats { All (λ seat. (seat.mark.book ≡ group.now.shared.head) × (S.home seat.slots ≡ S.serves group.now.shared.store)) seats.old.free.items }
+    requires seats { All (λ seat. (seat.mark.book ≡ group.now.shared.head) × (seat.slots.table ≡ group.now.shared.store.claims)) seats.old.free.items }
     ensures left { IfOk result (λ _. length seats.old.free.items ≡ length seats.new.free.items + 1) }
-    ensures seats { IfOk result (λ _. All (λ seat. (seat.mark.book ≡ group.now.shared.head) × (S.home seat.slots ≡ S.serves group.now.shared.store)) seats.new.free.items) }
+    ensures seats { IfOk result (λ _. All (λ seat. (seat.mark.book ≡ group.now.shared.head) × (seat.slots.table ≡ group.now.shared.store.claims)) seats.new.free.items) }
     ensures name { IfOk result (λ turn. (turn.client.name, turn.client.caller.id) ≡ client_said line.now) }
     ensures new { IfOk result (λ turn. IsNew group.now.identity group.now.shared.head (player_of (λ c. record { caller = caller c.group.now.identity c.id c.last; mark = c.mark }) turn.client)) }
 {
@@ -141,25 +147,46 @@ where
 }
 
 /// Opens the clients of a script on the seats of a group, in the order of their lines.
-fn open_clients<'g, S: Store<ScriptMutators>>(
+fn open_clients<'g>(
     alloc: Global,
     lines: &[ClientLine],
-    group: &'g Group<ScriptMutators, S>,
-    seats: Seats<ScriptMutators, S>,
-) -> Result<Vec<Turn<clients::Client<'g, ScriptMutators, S>>>, AllocError>
-where
-    S::Seat: Drop,
+    group: &'g SharedGroup,
+    seats: SharedSeats,
+) -> Result<Vec<Turn<SharedClient<'g>>>, AllocError>
     requires free { length lines.now ≤ length seats.free.items }
-    requires seats { All (λ seat. (seat.mark.book ≡ group.now.shared.head) × (S.home seat.slots ≡ S.serves group.now.shared.store)) seats.free.items }
+    requires seats { All (λ seat. (seat.mark.book ≡ group.now.shared.head) × (seat.slots.table ≡ group.now.shared.store.claims)) seats.free.items }
     ensures lines { IfOk result (λ turns. map (λ t. (t.client.name, t.client.caller.id)) turns.items ≡ map client_said lines.now) }
     ensures new { IfOk result (λ turns. All (λ t. IsNew group.now.identity group.now.shared.head (player_of (λ c. record { caller = caller c.group.now.identity c.id c.last; mark = c.mark }) t.client)) turns.items) }
 {
     let mut seats = seats;
     let mut turns = Vec::with_capacity(alloc, lines.len())?;
     for line in lines {
-        turns.push(open_client(alloc, line, group, &mut seats)?)?;
+        let turn = open_client(alloc, line, group, &mut seats)?;
+        turns.push(turn)?;
     }
     Ok(turns)
+}
+
+/// Runs a script that was read, in a new group with these seats.
+fn run_in<R: Threads + Wait + Sync, G: Gate, W: io::Write>(
+    rt: &R,
+    alloc: Global,
+    script: &Script,
+    group: &SharedGroup,
+    seats: SharedSeats,
+    gate: &G,
+    out: &mut W,
+) -> Result<(), Fault>
+    requires checked { IsChecked script.now }
+    requires identity { group.now.identity ≡ identity_of script.now.header.group script.now.header.profile script.now.header.schema }
+    requires free { vec_len script.now.header.clients ≤ length seats.free.items }
+    requires seats { All (λ seat. (seat.mark.book ≡ group.now.shared.head) × (seat.slots.table ≡ group.now.shared.store.claims)) seats.free.items }
+    ensures written { (said : Context) → IsScript said script.now → OnOk result (HasRun said (W.contents out.old) (W.contents out.new)) }
+    ensures want { (said : Context) → IsScript said script.now → IsWant result → HasStopped said (W.contents out.old) (W.contents out.new) }
+    ensures fault { IfErr result (λ e. IsOfScript e → ⊥) }
+{
+    let mut turns = open_clients(alloc, &script.header.clients, group, seats)?;
+    run_phases(rt, alloc, gate, &mut turns, &script.phases, out)
 }
 
 /// Runs a script that was read, on a group of its own.
@@ -169,22 +196,17 @@ fn run_shared<R: AllocGlobal + Threads + Wait + Sync, G: Gate, W: io::Write>(
     gate: &G,
     out: &mut W,
 ) -> Result<(), Fault>
+    requires { IsChecked script.now }
     ensures written { (said : Context) → IsScript said script.now → OnOk result (HasRun said (W.contents out.old) (W.contents out.new)) }
     ensures want { (said : Context) → IsScript said script.now → IsWant result → HasStopped said (W.contents out.old) (W.contents out.new) }
     ensures fault { IfErr result (λ e. IsOfScript e → ⊥) }
 {
     let alloc = rt.alloc();
     let config = config_of(alloc, &script.header)?;
-    let Ok((group, seats)) = Group::<ScriptMutators, Append<&R, ScriptMutators>>::open(
-        alloc,
-        config,
-        ScriptMutators,
-        rt,
-    ) else {
+    let Ok((group, seats)) = SharedGroup::open(alloc, config, ScriptMutators, ()) else {
         return Err(Fault::NoMemory);
     };
-    let mut turns = open_clients(alloc, &script.header.clients, &group, seats)?;
-    run_phases(rt, alloc, gate, &mut turns, &script.phases, out)
+    run_in(rt, alloc, script, &group, seats, gate, out)
 }
 
 /// Runs a script, and writes the replies of each phase when it has ended. A faulty script is told before
@@ -200,8 +222,8 @@ pub fn run<R: AllocGlobal + Threads + Wait + Sync, G: Gate, W: io::Write>(
     ensures written { OnOk result (IfOk (script_said script.now) (λ said. HasRun said (W.contents out.old) (W.contents out.new))) }
     ensures want { IsWant result → Keeps (W.contents out.old) (W.contents out.new) ⊎ IfOk (script_said script.now) (λ said. HasStopped said (W.contents out.old) (W.contents out.new)) }
 {
-    let read = read_script(rt.alloc(), script)?;
-    run_shared(rt, &read, gate, out)
+    let checked = read_script(rt.alloc(), script)?;
+    run_shared(rt, &checked, gate, out)
 }
 
 /// Clients of a plain group, in the order of their lines.
@@ -227,10 +249,15 @@ fn run_on_plain<R: AllocGlobal + Threads + Wait + Sync, G: Gate, W: io::Write>(
     gate: &G,
     out: &mut W,
 ) -> Result<(), Fault>
+    requires { IsChecked script.now }
     ensures fault { IfErr result (λ e. IsOfScript e → ⊥) }
 {
     let alloc = rt.alloc();
-    let group = Mutex::new(Plain::new(alloc, script.header.identity(alloc)?)?);
+    let identity = script.header.identity(alloc)?;
+    let Ok(plain) = Plain::new(alloc, identity) else {
+        return Err(Fault::NoMemory);
+    };
+    let group = Mutex::new(plain);
     let mut turns = plain_clients(alloc, &script.header.clients, &group)?;
     run_phases(rt, alloc, gate, &mut turns, &script.phases, out)
 }

@@ -13,7 +13,7 @@ ghost use Rattle.script_runner.specs.Commands.{bare_command};
 ghost use Rattle.script_runner.specs.Inside.Commands.{scan_said};
 ghost use Rattle.script_runner.specs.Faults.{Checks, script_said, first_fault, said_in, lines_of, line_of_bad_byte};
 ghost use Rattle.script_runner.specs.Inside.Faults.{Tests, TestsLine, Reads};
-ghost use Rattle.script_runner.specs.Inside.Parsing.{client_said, line_said, phase_said, context_of, IsScript};
+ghost use Rattle.script_runner.specs.Inside.Parsing.{client_said, line_said, phase_said, context_of, IsScript, IsChecked};
 ghost use Rattle.script_runner.specs.Words.{is_uuid, uuid_said, is_start, start_said, is_limit, limit_said, is_json, json_said};
 ghost use Rattle.script_runner.specs.declared.faults.ScriptFault.TheVariants as script_fault;
 ghost use Rattle.script_runner.specs.declared.faults.Fault.TheVariants as fault;
@@ -40,6 +40,7 @@ pub(crate) struct Header {
     group: Option<Text>,
     profile: Option<Text>,
     schema: Option<Text>,
+    /// From 16 to `MAX_SLOTS`.
     slots: Option<u64>,
     pub(crate) clients: Vec<ClientLine>,
 }
@@ -110,6 +111,8 @@ pub(crate) struct Script {
 
 const FEWEST_SLOTS: u64 = 16;
 
+const DEFAULT_SLOTS: u64 = 4096;
+
 const LATEST_TIME: u64 = 9_007_199_254_740_991;
 
 impl Header {
@@ -126,6 +129,13 @@ impl Header {
             profile: text_or(alloc, &self.profile, "p1")?,
             schema: text_or(alloc, &self.schema, "s1")?,
         })
+    }
+
+    /// How many slots the group has.
+    pub(crate) fn slots_or_default(&self) -> u64
+        ensures { result ≡ unwrap_or self.now.slots 4096 }
+    {
+        self.slots.unwrap_or(DEFAULT_SLOTS)
     }
 
     #[tactic(auto, unfolding(crate::specs::Context::place_of))]
@@ -661,6 +671,7 @@ fn say(said: &mut Option<Text>, text: Text) -> Result<(), LineFault>
 pub(crate) fn read_script(alloc: Global, bytes: &[u8]) -> Result<Script, Fault>
     ensures first { Checks (first_fault bytes.now) result }
     ensures said { IfOk result (λ script. (said : Context) × (script_said bytes.now ≡ Ok said) × IsScript said script) }
+    ensures checked { IfOk result (λ script. IsChecked script) }
 {
     let text = match str::from_utf8(bytes) {
         Ok(text) => text,

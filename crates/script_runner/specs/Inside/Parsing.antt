@@ -1,9 +1,11 @@
 -- What a parser has read.
-use Rattle.std.specs.Prelude.{◌≡◌, ℕ, List, map}
+use Rattle.std.specs.Prelude.{◌≡◌, ⊤, ℕ, ◌<◌, ◌≤◌, List, map, All, IfSome, vec_len}
 use Rattle.uuid.specs.Text.{hyphenated_text, lower}
 use Rattle.group_history.specs.Map.{Bytes}
+use Rattle.group_history.specs.Refs.{max_slots, max_seats}
 use Rattle.script_runner.specs.declared.script.ClientLine.{ClientLine}
 use Rattle.script_runner.specs.declared.script.Command.{Command}
+use Rattle.script_runner.specs.declared.script.Command.TheVariants as command
 use Rattle.script_runner.specs.declared.script.Line.{Line}
 use Rattle.script_runner.specs.declared.script.Phase.{Phase}
 use Rattle.script_runner.specs.declared.script.Script.{Script}
@@ -42,3 +44,16 @@ pub record IsScript (said : Context) (script : Script) : Type 0 where
   pub slots : script.header.slots ≡ said.slots
   pub clients : map client_said script.header.clients.items ≡ said.clients
   pub phases : map phase_said script.phases.items ≡ said.phases
+
+-- a client that is learnt from is one of so many
+abbrev pub LearnsWithin : ℕ → Command → Type 0
+LearnsWithin n (command.Learn place) = place < n
+LearnsWithin n k = ⊤
+
+-- what holds of a script that was checked
+pub record IsChecked (script : Script) : Type 0 where
+  -- a phase has the lines of each client
+  pub each_client : All (λ phase. vec_len phase.lines ≡ vec_len script.header.clients) script.phases.items
+  pub seats : vec_len script.header.clients ≤ max_seats
+  pub slots : IfSome script.header.slots (λ n. (16 ≤ n) × (n ≤ max_slots))
+  pub learnt : All (λ phase. All (λ lines. All (λ line. LearnsWithin (vec_len script.header.clients) line.command) lines.items) phase.lines.items) script.phases.items

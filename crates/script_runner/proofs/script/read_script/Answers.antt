@@ -1,11 +1,13 @@
-use Rattle.std.proofs.Common.{◌≡◌, ◌∙◌, sym, ap, subst, refl, Ok, Err}
+use Rattle.std.proofs.Common.{◌≡◌, ◌∙◌, sym, subst, refl, Ok, Err}
 use Rattle.std.specs.Result.{result_err}
 use Rattle.script_runner.specs.declared.script.Script.{Script}
 use Rattle.script_runner.specs.declared.script.Parser.{Parser}
-use Rattle.script_runner.specs.Faults.{Checks, script_said, first_fault, said_in, lines_of}
+use Rattle.script_runner.specs.Faults.{Checks, first_fault, said_in, lines_of}
 use Rattle.script_runner.specs.Context.{nothing_said}
 use Rattle.script_runner.specs.Inside.Parsing.{context_of}
 use Rattle.script_runner.proofs.Scripts.{script_said-text, script_said-bytes, first_fault-said, Checks-passed}
+use Rattle.script_runner.proofs.CheckedLemmas.{script_said-sound}
+use Rattle.script_runner.proofs.CheckedScripts.{IsChecked-from}
 use Rattle.script_runner.proofs.script.read_script.Goals as goal
 
 pub returns-in-Err-clause-first : goal.returns-in-Err-clause-first
@@ -33,4 +35,5 @@ returns c =
     record {
       first = first_fault-said bytes _ said;
       said = (context_of parser, said, record { group = refl; profile = refl; schema = refl; slots = refl; clients = refl; phases = refl });
+      checked = IsChecked-from parser (script_said-sound bytes (context_of parser) said);
     }

@@ -1,0 +1,16 @@
+use Rattle.std.proofs.Common.{◌∙◌, sym, map}
+use Rattle.script_runner.specs.Inside.Players.{player_of}
+use Rattle.script_runner.proofs.Turns.{line-more}
+use Rattle.script_runner.proofs.client.Client.tell_all.Goals as goal
+
+pub loop-line-preserved : goal.loop-line-preserved
+loop-line-preserved g c =
+    let l = c.loop-line in let stands = g.C.Caller.stands in
+    record {
+      told = line-more g.C.Caller.may_reply g.C.Caller.learns (map g.C.Caller.seen_by c.args.seen.now) (player_of stands c.args.self.now) (player_of stands l.self) (player_of stands c.tell.new.self) c.args.lines.now l.line-index c.line-item.result l.printed.items c.tell.new.printed.items
+          c.loop-line-test.true c.line-item.is l.invariant.told c.in_ok-tell.ensures.told;
+      group = c.tell.ensures.group ∙ l.invariant.group;
+    }
+
+pub tell-requires-after_bounds : goal.tell-requires-after_bounds
+tell-requires-after_bounds g c b m k d below = c.requires k d below ∙ sym c.loop-line.invariant.group
