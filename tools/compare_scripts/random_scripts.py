@@ -98,10 +98,12 @@ class Scripts:
         self.clients = {name: self.pick(UUIDS) for name in names}
         self.tickets = []
         lines = self.header()
-        for _ in range(self.pick((1, 2, 4, 8))):
+        # One client alone has lines in a phase: of two that call at once nothing says which is first.
+        for _ in range(self.pick((1, 5, 20, 80, 200))):
             lines.append("phase")
-            for _ in range(self.pick((1, 5, 20, 40))):
-                lines += self.calls(self.pick(names))
+            name = self.pick(names)
+            for _ in range(self.pick((1, 1, 2, 5))):
+                lines += self.calls(name)
         script = "\n".join(lines + [""] * self.chance(0.5)).encode()
         return self.spoilt(script) if self.chance(0.25) else script
 
@@ -111,7 +113,7 @@ class Scripts:
             (0.8, f"group {self.pick(UUIDS)}"),
             (0.3, self.pick(("profile p x", "profile ", 'profile "é"', "profile p1 "))),
             (0.3, self.pick(("schema s2", "schema ", "schema \\\t"))),
-            (0.3, self.pick(("slots 16", "slots 0032", "slots 16777216"))),
+            (1, self.pick(("slots 65536", "slots 0098304", "slots 131072"))),
         ):
             lines += [line] * self.chance(part)
         self.random.shuffle(lines)

@@ -211,6 +211,15 @@ class Client:
         return "learnt"
 
 
+def has_one_order(data):
+    """Whether no phase has lines of two clients, of which either may be first."""
+    try:
+        script = Script().read(data)
+    except Fault:
+        return True
+    return all(len({line.client for line in phase}) < 2 for phase in script.phases)
+
+
 def printed(data):
     """Standard output, standard error and the status."""
     try:

@@ -1,5 +1,7 @@
 //! Scripts that are faulty: the first fault is told, and nothing is printed.
 use crate::runs::{read, run};
+use std::sync::Wait;
+use std::thread::Threads;
 use std::{fs, io};
 
 /// Scripts that are files of their own, and what is told of them.
@@ -9,8 +11,13 @@ const WHOLE: [(&str, &str); 2] = [
 ];
 
 /// Whether the fault is told of the script; says what is told, where it isn't.
-fn is_told(rt: &HostRuntime, fault: &str, script: &[u8]) -> io::Result<bool> {
-    let ran = run(rt, script)?;
+fn is_told<R: AllocGlobal + Threads + Wait + Sync>(
+    rt: &HostRuntime,
+    on: &R,
+    fault: &str,
+    script: &[u8],
+) -> io::Result<bool> {
+    let ran = run(on, script)?;
     let as_told = ran.has_told(fault);
     if !as_told {
         let told = str::from_utf8(&ran.told).unwrap_or("").trim_end();
@@ -20,36 +27,48 @@ fn is_told(rt: &HostRuntime, fault: &str, script: &[u8]) -> io::Result<bool> {
 }
 
 /// The same, of a block of the file `faults`: a line with the fault, and the script.
-fn is_told_of(rt: &HostRuntime, block: &str) -> io::Result<bool> {
+fn is_told_of<R: AllocGlobal + Threads + Wait + Sync>(
+    rt: &HostRuntime,
+    on: &R,
+    block: &str,
+) -> io::Result<bool> {
     match block.split_once('\n') {
-        Some((fault, script)) => is_told(rt, fault, script.as_bytes()),
+        Some((fault, script)) => is_told(rt, on, fault, script.as_bytes()),
         None => Ok(false),
     }
 }
 
-fn tell_blocks(rt: &HostRuntime) -> io::Result<()> {
+fn tell_blocks<R: AllocGlobal + Threads + Wait + Sync>(rt: &HostRuntime, on: &R) -> io::Result<()> {
     let blocks = fs::read_to_string(rt, "faults/faults")?;
     let mut as_told = 0u64;
     for block in blocks.as_str().split("\n% ").skip(1) {
-        if is_told_of(rt, block)? {
+        if is_told_of(rt, on, block)? {
             as_told = as_told.saturating_add(1);
         }
     }
     println!(rt; "faults: {as_told} as told")
 }
 
-fn tell_whole(rt: &HostRuntime, name: &str, fault: &str) -> io::Result<()> {
+fn tell_whole<R: AllocGlobal + Threads + Wait + Sync>(
+    rt: &HostRuntime,
+    on: &R,
+    name: &str,
+    fault: &str,
+) -> io::Result<()> {
     let script = read(rt, "faults", name, "script")?;
-    if is_told(rt, fault, &script)? {
+    if is_told(rt, on, fault, &script)? {
         println!(rt; "{name}: as told")?;
     }
     Ok(())
 }
 
-pub(crate) fn tell_all(rt: &HostRuntime) -> io::Result<()> {
-    tell_blocks(rt)?;
+pub(crate) fn tell_all<R: AllocGlobal + Threads + Wait + Sync>(
+    rt: &HostRuntime,
+    on: &R,
+) -> io::Result<()> {
+    tell_blocks(rt, on)?;
     for (name, fault) in WHOLE {
-        tell_whole(rt, name, fault)?;
+        tell_whole(rt, on, name, fault)?;
     }
     Ok(())
 }

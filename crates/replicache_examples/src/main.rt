@@ -1,7 +1,7 @@
 //! Runs scripts, and says of each whether it prints what stands beside it.
 //!
 //! `stories` tell how a client is used, `rows` show a rule each, and `faults` are scripts that are not run. Each script
-//! runs as the program runs it, and on a plain group, which has to print the same. Where memory is refused this
+//! runs as the program runs it, on threads, and on a plain group, which has to print the same. Where memory is refused this
 //! program ends with an error, so it never says of such a run that it printed something else.
 #![tactic(auto)]
 
@@ -14,11 +14,11 @@ use std::io;
 
 fn main(rt: HostRuntime) -> io::Result<()> {
     for name in rows::STORIES {
-        rows::tell(&rt, "stories", name)?;
+        rows::tell(&rt, &rt, "stories", name)?;
     }
     for name in rows::ROWS {
-        rows::tell(&rt, "rows", name)?;
+        rows::tell(&rt, &rt, "rows", name)?;
     }
-    faults::tell_all(&rt)?;
-    streams::tell_all(&rt)
+    faults::tell_all(&rt, &rt)?;
+    streams::tell_all(&rt, &rt)
 }

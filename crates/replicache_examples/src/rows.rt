@@ -1,6 +1,8 @@
 //! Scripts that run: each a script, `NAME.script`, and what it prints, `NAME.printed`.
 use crate::runs::{Ran, read, run, run_plainly};
 use std::io::{self, Write};
+use std::sync::Wait;
+use std::thread::Threads;
 
 pub(crate) const STORIES: [&str; 6] = [
     "counter",
@@ -50,16 +52,27 @@ pub(crate) const ROWS: [&str; 36] = [
     "mutators_refused",
 ];
 
-/// Says whether a script prints what stands beside it.
-pub(crate) fn tell(rt: &HostRuntime, folder: &str, name: &str) -> io::Result<()> {
+/// Says whether a script prints what stands beside it. It runs on the threads of `on`.
+pub(crate) fn tell<R: AllocGlobal + Threads + Wait + Sync>(
+    rt: &HostRuntime,
+    on: &R,
+    folder: &str,
+    name: &str,
+) -> io::Result<()> {
     let script = read(rt, folder, name, "script")?;
     let wanted = read(rt, folder, name, "printed")?;
-    compare(rt, name, &script, &wanted)
+    compare(rt, on, name, &script, &wanted)
 }
 
-fn compare(rt: &HostRuntime, name: &str, script: &[u8], wanted: &[u8]) -> io::Result<()> {
-    let ran = run(rt, script)?;
-    let plain = run_plainly(rt, script)?;
+fn compare<R: AllocGlobal + Threads + Wait + Sync>(
+    rt: &HostRuntime,
+    on: &R,
+    name: &str,
+    script: &[u8],
+    wanted: &[u8],
+) -> io::Result<()> {
+    let ran = run(on, script)?;
+    let plain = run_plainly(on, script)?;
     if ran.has_printed(wanted) && plain.has_printed(wanted) {
         return println!(rt; "{name}: as told");
     }

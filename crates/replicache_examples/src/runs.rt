@@ -1,5 +1,7 @@
 //! Runs of a script in memory. Each is an error where memory was refused in it.
 use script_runner::{Fault, Gate, program, run_plain};
+use std::sync::Wait;
+use std::thread::Threads;
 use std::{fs, io};
 
 /// A gate that holds no call.
@@ -57,7 +59,10 @@ fn lacks_memory(printed: &[u8]) -> bool {
 const TOLD: usize = 64;
 
 /// Runs a script as the program does.
-pub(crate) fn run(rt: &HostRuntime, script: &[u8]) -> io::Result<Ran> {
+pub(crate) fn run<R: AllocGlobal + Threads + Wait + Sync>(
+    rt: &R,
+    script: &[u8],
+) -> io::Result<Ran> {
     let mut out = Vec::new(rt.alloc());
     let mut told = Vec::with_capacity(rt.alloc(), TOLD)?;
     let mut input = script;
@@ -70,7 +75,10 @@ pub(crate) fn run(rt: &HostRuntime, script: &[u8]) -> io::Result<Ran> {
 }
 
 /// Runs a script on a plain group.
-pub(crate) fn run_plainly(rt: &HostRuntime, script: &[u8]) -> io::Result<Ran> {
+pub(crate) fn run_plainly<R: AllocGlobal + Threads + Wait + Sync>(
+    rt: &R,
+    script: &[u8],
+) -> io::Result<Ran> {
     let mut out = Vec::new(rt.alloc());
     let status = match run_plain(rt, script, &Open, &mut out) {
         Ok(()) => 0,

@@ -46,7 +46,7 @@ module _ {C : Type 0} (turns : List (Turn C)) (stands : C → Standing) (book : 
     are_new : (said : Context) → IsScript said script → identity ≡ identity_of script.header.group script.header.profile script.header.schema → AreNew (identity_of said.group said.profile said.schema) said.clients (players_of stands turns)
     are_new said is writes =
         let so : identity ≡ identity_of said.group said.profile said.schema =
-            writes ∙ ap (λ g. identity_of g script.header.profile script.header.schema) is.group ∙ ap (λ p. identity_of said.group p script.header.schema) is.profile ∙ ap (identity_of said.group said.profile) is.schema in
+        writes ∙ ap (λ g. identity_of g script.header.profile script.header.schema) is.group ∙ ap (λ p. identity_of said.group p script.header.schema) is.profile ∙ ap (identity_of said.group said.profile) is.schema in
         record {
           named = fused (λ p. (p.name, p.standing.caller.client)) (λ t. player_of stands t.client) turns ∙ named ∙ is.clients;
           all = (book, All-map (IsNew (identity_of said.group said.profile said.schema) book) (λ t. player_of stands t.client) turns (subst (λ (i : Identity). All (λ t. IsNew i book (player_of stands t.client)) turns) so new));
@@ -71,7 +71,10 @@ module _ {C : Type 0} (turns : List (Turn C)) (stands : C → Standing) (book : 
         → identity ≡ identity_of script.header.group script.header.profile script.header.schema
         → HasWhole MayReply Learns (players_of stands slice) (map phase_said phases) old after → HasStopped said old after
     has_stopped slice phases said old after is so script_is writes ran =
-        inr (players_of stands turns, record {
-          are = are_new said script_is writes;
-          written = subst (λ w. HasWhole MayReply Learns (players_of stands turns) w old after) (ap (map phase_said) so ∙ script_is.phases) (subst (λ w. HasWhole MayReply Learns (players_of stands w) (map phase_said phases) old after) is ran);
-        })
+        inr (
+          players_of stands turns,
+          record {
+            are = are_new said script_is writes;
+            written = subst (λ w. HasWhole MayReply Learns (players_of stands turns) w old after) (ap (map phase_said) so ∙ script_is.phases) (subst (λ w. HasWhole MayReply Learns (players_of stands w) (map phase_said phases) old after) is ran);
+          },
+        )

@@ -77,12 +77,24 @@ module _ (may_reply : Standing → Call → Result Replied Refusal → Standing 
   -- one line more
   told_more : (seen : List Known) (c mid end : Player) (ls : Lines) (text : Bytes) (l : ℕ × Command) (told : Bytes) → AreTold may_reply learns seen c ls text mid
       → MayPrint may_reply learns seen mid l.1 told end → end.name ≡ mid.name → AreTold may_reply learns seen c (ls ++ l ∷ []) (text ++ line_text l.0 mid.name told) end
-  told_more seen c mid end [] text l told h may name =
-      (told, end, [], subst (λ w. MayPrint may_reply learns seen w l.1 told end) h.1 may, name ∙ ap (λ w. w.name) h.1,
-      ap (λ w. w ++ line_text l.0 mid.name told) h.0 ∙ ap (λ w. line_text l.0 w.name told) h.1 ∙ sym (append-nil (line_text l.0 c.name told)), (refl, refl))
-  told_more seen c mid end (d ∷ ls) text l told h may name =
-      (h.0, h.1, h.2 ++ line_text l.0 mid.name told, h.3, h.4,
-      ap (λ w. w ++ line_text l.0 mid.name told) h.5 ∙ append_assoc (line_text d.0 c.name h.0) h.2 (line_text l.0 mid.name told), told_more seen h.1 mid end ls h.2 l told h.6 may name)
+  told_more seen c mid end [] text l told h may name = (
+    told,
+    end,
+    [],
+    subst (λ w. MayPrint may_reply learns seen w l.1 told end) h.1 may,
+    name ∙ ap (λ w. w.name) h.1,
+    ap (λ w. w ++ line_text l.0 mid.name told) h.0 ∙ ap (λ w. line_text l.0 w.name told) h.1 ∙ sym (append-nil (line_text l.0 c.name told)),
+    (refl, refl),
+  )
+  told_more seen c mid end (d ∷ ls) text l told h may name = (
+    h.0,
+    h.1,
+    h.2 ++ line_text l.0 mid.name told,
+    h.3,
+    h.4,
+    ap (λ w. w ++ line_text l.0 mid.name told) h.5 ∙ append_assoc (line_text d.0 c.name h.0) h.2 (line_text l.0 mid.name told),
+    told_more seen h.1 mid end ls h.2 l told h.6 may name,
+  )
 
   -- a turn of the loop over the lines
   pub line-more : (seen : List Known) (c mid end : Player) (all : List Line) (i : ℕ) (l : Line) (old new : Bytes) → i < length all → l ≡ get_or all i l

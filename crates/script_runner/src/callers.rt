@@ -7,11 +7,11 @@ ghost use Rattle.clients.specs.Replies.{Replied, reply_seen};
 ghost use Rattle.clients.specs.declared.calls.Call.{Call as Asked};
 ghost use Rattle.script_runner.specs.Callers.{Standing, sight_of};
 
-use script_mutators::ScriptMutators;
 use chunk_slots::Arena;
 use clients::{Call, Client, Reply};
 use group_history::Refusal;
 use head_word::Mark;
+use script_mutators::ScriptMutators;
 use std::sync::Wait;
 
 /// How often a call tries that doesn't wait.

@@ -41,12 +41,7 @@ impl<C: Caller + Drop> Client<C> {
     }
 
     /// Does a command. A refusal is a reply like any other. `seen` is what each client had seen when the phase began.
-    pub(crate) fn call<R: Wait>(
-        &mut self,
-        rt: &R,
-        seen: &[C::Seen],
-        command: &Command,
-    ) -> Reply
+    pub(crate) fn call<R: Wait>(&mut self, rt: &R, seen: &[C::Seen], command: &Command) -> Reply
         requires { All (λ s. (C.seen_by s).book ≡ (C.stands self.old.caller).mark.book) seen.now }
         ensures told { MayPrint C.may_reply C.learns (map C.seen_by seen.now) (player_of C.stands self.old) command.now (reply_text result) (player_of C.stands self.new) }
         ensures name { self.new.name ≡ self.old.name }
@@ -109,7 +104,10 @@ impl<C: Caller + Drop> Client<C> {
     {
         match self.tickets.get(name) {
             Some(ticket) => {
-                reply_of(self.caller.call(rt, Call::EndPull(ticket, body.as_str().as_bytes())))
+                reply_of(
+                    self.caller
+                        .call(rt, Call::EndPull(ticket, body.as_str().as_bytes())),
+                )
             }
             None => Reply::NoTicket,
         }

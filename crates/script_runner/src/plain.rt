@@ -15,11 +15,11 @@ ghost use Rattle.clients.specs.Replies.{reply_seen};
 ghost use Rattle.script_mutators.specs.Mutators.{script_means};
 
 use crate::callers::Caller;
-use script_mutators::ScriptMutators;
 use clients::{Call, Mutate, Reply, Ticket};
 use group_history::{Ended, Json, Mutation, PlainGroup, Refusal, Text};
 use pull_patch::read_response;
 use push_body::{Identity, pull_bytes, push_bytes};
+use script_mutators::ScriptMutators;
 use std::alloc::{AllocError, Global};
 use std::sync::{Mutex, Wait};
 

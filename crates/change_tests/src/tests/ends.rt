@@ -136,6 +136,23 @@ struct Read {
     closed: bool,
 }
 
+fn read_by<S: Store<ScriptMutators>>(
+    tx: &ReadTx<'_, '_, ScriptMutators, S>,
+    all: &Scan,
+) -> Result<Read, Refusal>
+where
+    S::Seat: Drop,
+{
+    let cookie = tx.cookie()?;
+    let rows = tx.scan(all)?;
+    let closed = tx.closed()?;
+    Ok(Read {
+        cookie,
+        rows,
+        closed,
+    })
+}
+
 fn reads<S: Store<ScriptMutators>>(
     client: &mut Client<'_, ScriptMutators, S>,
     all: &Scan,
@@ -144,15 +161,9 @@ where
     S::Seat: Drop,
 {
     let tx = client.read(1)?;
-    let cookie = tx.cookie()?;
-    let rows = tx.scan(all)?;
-    let closed = tx.closed()?;
+    let read = read_by(&tx, all)?;
     tx.close();
-    Ok(Read {
-        cookie,
-        rows,
-        closed,
-    })
+    Ok(read)
 }
 
 // All that a client sees of the group: what is read, what is pending as a push carries it, and its last id.
@@ -197,6 +208,18 @@ fn is_same(before: &Seen, after: &Seen) -> bool {
         && before.last == after.last
 }
 
+fn sees_same<S: Store<ScriptMutators>>(
+    client: &mut Client<'_, ScriptMutators, S>,
+    before: &Seen,
+    all: &Scan,
+) -> Result<bool, Refusal>
+where
+    S::Seat: Drop,
+{
+    let after = sees_again(client, all)?;
+    Ok(is_same(before, &after))
+}
+
 // How a call is answered, and whether all that is seen is as it was.
 fn calls<S: Store<ScriptMutators>>(
     alloc: Global,
@@ -210,8 +233,7 @@ where
 {
     let before = sees_again(client, all)?;
     let answer = tells(alloc, client, old, asks);
-    let after = sees_again(client, all)?;
-    Ok((answer, is_same(&before, &after)))
+    Ok((answer, sees_same(client, &before, all)?))
 }
 
 // The same, once more where memory was refused and all is as it was.
@@ -270,6 +292,24 @@ fn all_rows(alloc: Global) -> Result<Scan, Refusal> {
 }
 
 // The number of the first step that is not right.
+fn other_seen<S: Store<ScriptMutators>>(
+    alloc: Global,
+    client: &mut Client<'_, ScriptMutators, S>,
+    old: &Ticket,
+    steps: &[Step],
+    all: &Scan,
+) -> Result<Option<usize>, Refusal>
+where
+    S::Seat: Drop,
+{
+    for (number, step) in steps.iter().enumerate() {
+        if !is_right(alloc, client, old, *step, all)? {
+            return Ok(Some(number));
+        }
+    }
+    Ok(None)
+}
+
 fn other_answer<S: Store<ScriptMutators>>(
     alloc: Global,
     client: &mut Client<'_, ScriptMutators, S>,
@@ -280,12 +320,19 @@ where
     S::Seat: Drop,
 {
     let all = all_rows(alloc)?;
-    for (number, step) in steps.iter().enumerate() {
-        if !is_right(alloc, client, old, *step, &all)? {
-            return Ok(Some(number));
-        }
-    }
-    Ok(None)
+    other_seen(alloc, client, old, steps, &all)
+}
+
+fn other_since_null<S: Store<ScriptMutators>>(
+    alloc: Global,
+    client: &mut Client<'_, ScriptMutators, S>,
+    steps: &[Step],
+) -> Result<Option<usize>, Refusal>
+where
+    S::Seat: Drop,
+{
+    let old = client.begin_pull(1)?;
+    other_answer(alloc, client, &old, steps)
 }
 
 fn other_in_group<S: Store<ScriptMutators>>(
@@ -299,8 +346,7 @@ where
     requires { All (λ seat. (seat.mark.book ≡ group.now.shared.head) × (S.home seat.slots ≡ S.serves group.now.shared.store)) seats.old.free.items }
 {
     let mut client = next_client(group, seats, A)?;
-    let old = client.begin_pull(1)?;
-    other_answer(alloc, &mut client, &old, steps)
+    other_since_null(alloc, &mut client, steps)
 }
 
 // The same in a new group of 32 slots, of which 24 are ordinary and 8 reserved.
@@ -338,7 +384,7 @@ const SECOND: &str =
 
 // Two slots are taken by what was pulled, and two by each mutation. An end of a pull that leaves five pending takes
 // twelve more, and with that all the ordinary ones are taken; six more mutations need those that it let go.
-const FIVE_PENDING: [Step; 7] = [
+static FIVE_PENDING: [Step; 7] = [
     (1, Asks::End(FIRST), APPLIED),
     (5, Asks::Incr, Ok(Told::Id(5))),
     (1, Asks::End(SECOND), APPLIED),
@@ -361,7 +407,7 @@ const SIX_CONFIRMED: &str =
 
 // An end that leaves six pending would take fourteen slots, of which ten are free. Reserved ones are no help, but for
 // an end that leaves nothing pending.
-const SIX_PENDING: [Step; 7] = [
+static SIX_PENDING: [Step; 7] = [
     (1, Asks::End(FIRST), APPLIED),
     (6, Asks::Incr, Ok(Told::Id(6))),
     (1, Asks::End(SECOND), Err(Refusal::Full)),
@@ -379,7 +425,7 @@ fn six_mutations_are_not_replayed_in_reserved_slots(rt: HostRuntime) -> Result<(
 }
 
 // Eleven mutations take all the ordinary slots. The group can still be closed, and is read as before.
-const FULL_AND_CLOSED: [Step; 8] = [
+static FULL_AND_CLOSED: [Step; 8] = [
     (1, Asks::End(FIRST), APPLIED),
     (11, Asks::Incr, Ok(Told::Id(11))),
     (1, Asks::Incr, Err(Refusal::Full)),
@@ -438,7 +484,7 @@ const CUT: &str = r#"{"cookie":6,"lastMut"#;
 
 // Each answer to an end of a pull, in the order in which they are looked for. `n` is raised and `k` is set by what is
 // pending when the bodies are refused. The old ticket has the cookie null.
-const ENDS: [Step; 41] = [
+static ENDS: [Step; 41] = [
     (1, Asks::End(BARE_NULL), SAME),
     (1, Asks::EndOld(BARE_NULL), SAME),
     (0, Asks::EndOld(FIFTH), APPLIED),
@@ -513,11 +559,11 @@ const N_IS_16: &str =
 const N_IS_20: &str =
     r#"{"cookie":3,"lastMutationIDChanges":{},"patch":[{"op":"put","key":"n","value":20}]}"#;
 
-const BEFORE_A_READER: [Step; 1] = [(1, Asks::End(N_IS_5), APPLIED)];
+static BEFORE_A_READER: [Step; 1] = [(1, Asks::End(N_IS_5), APPLIED)];
 
 // 22 ordinary slots are free or can be given, two a mutation. A slot that a refused mutation had settled would wait for
 // the reader, so none of them is made again.
-const BESIDE_A_READER: [Step; 12] = [
+static BESIDE_A_READER: [Step; 12] = [
     (0, Asks::Incr, Ok(Told::Id(1))),
     (0, Asks::Incr, Ok(Told::Id(2))),
     (0, Asks::Incr, Ok(Told::Id(3))),
@@ -533,14 +579,14 @@ const BESIDE_A_READER: [Step; 12] = [
 ];
 
 // The slots of the mutations wait for the reader, so what is pulled takes reserved ones.
-const PULLED_BESIDE_IT: [Step; 4] = [
+static PULLED_BESIDE_IT: [Step; 4] = [
     (1, Asks::End(N_IS_16), APPLIED),
     (1, Asks::Incr, Err(Refusal::Full)),
     (1, Asks::End(N_IS_20), APPLIED),
     (1, Asks::Incr, Err(Refusal::Full)),
 ];
 
-const AFTER_A_READER: [Step; 2] = [
+static AFTER_A_READER: [Step; 2] = [
     (1, Asks::Incr, Ok(Told::Id(12))),
     (1, Asks::Get("n"), Ok(Told::Value(Some(21)))),
 ];
@@ -567,21 +613,34 @@ where
     Ok(answered(number_at(tx, "n"))? == five)
 }
 
+fn meets_a_reader<S: Store<ScriptMutators>>(
+    alloc: Global,
+    reader: &mut Client<'_, ScriptMutators, S>,
+    client: &mut Client<'_, ScriptMutators, S>,
+    old: &Ticket,
+) -> Result<bool, Refusal>
+where
+    S::Seat: Drop,
+{
+    let tx = reader.read(1)?;
+    let beside = reads_the_same(alloc, &tx, client, old)?;
+    tx.close();
+    Ok(beside)
+}
+
 // What the one client meets before the reader of the other, beside it and after it.
 fn beside_a_reader<S: Store<ScriptMutators>>(
     alloc: Global,
     reader: &mut Client<'_, ScriptMutators, S>,
     client: &mut Client<'_, ScriptMutators, S>,
-    old: &Ticket,
 ) -> Result<(Option<usize>, bool, Option<usize>), Refusal>
 where
     S::Seat: Drop,
 {
-    let before = other_answer(alloc, client, old, &BEFORE_A_READER)?;
-    let tx = reader.read(1)?;
-    let beside = reads_the_same(alloc, &tx, client, old)?;
-    tx.close();
-    let after = other_answer(alloc, client, old, &AFTER_A_READER)?;
+    let old = client.begin_pull(1)?;
+    let before = other_answer(alloc, client, &old, &BEFORE_A_READER)?;
+    let beside = meets_a_reader(alloc, reader, client, &old)?;
+    let after = other_answer(alloc, client, &old, &AFTER_A_READER)?;
     Ok((before, beside, after))
 }
 
@@ -596,8 +655,7 @@ where
 {
     let mut a = next_client(group, seats, A)?;
     let mut b = next_client(group, seats, B)?;
-    let old = b.begin_pull(1)?;
-    beside_a_reader(alloc, &mut a, &mut b, &old)
+    beside_a_reader(alloc, &mut a, &mut b)
 }
 
 fn beside_in_new<S: Store<ScriptMutators> + Drop>(

@@ -4,7 +4,7 @@ ghost use Rattle.std.specs.List.{All};
 
 use super::opening::{A, config_of, next_client};
 use chunk_slots::{Arena, Store};
-use clients::{Call, Client, Group, Mutate, Reply, Ticket};
+use clients::{Call, Client, Group, Mutate, Reply, Seats, Ticket};
 use group_history::{Ended, Json, Refusal, Text};
 use script_mutators::ScriptMutators;
 use std::alloc::Global;
@@ -14,6 +14,26 @@ const CONFIRMED: &str =
     r#"{"cookie":1,"lastMutationIDChanges":{"00000000-0000-4000-8000-00000000000a":1},"patch":[]}"#;
 
 // A mutation, which is seen at once, until a pull says that it came to nothing.
+fn replies_to<'a, S: Store<ScriptMutators>>(
+    alloc: Global,
+    client: &mut Client<'_, ScriptMutators, S>,
+    ticket: &'a Ticket,
+    key: &'a Text,
+    set: Mutate<'a>,
+) -> Result<Vec<Result<Reply, Refusal>>, Refusal>
+where
+    S::Seat: Drop,
+{
+    let calls = [
+        Call::Mutate(set),
+        Call::Has(key),
+        Call::EndPull(ticket, CONFIRMED.as_bytes()),
+        Call::Has(key),
+        Call::Refresh,
+    ];
+    Ok(client.call_all(alloc, &calls, 1)?)
+}
+
 fn made_by<S: Store<ScriptMutators>>(
     alloc: Global,
     client: &mut Client<'_, ScriptMutators, S>,
@@ -30,14 +50,7 @@ where
         args: &args,
         time: 1000,
     };
-    let calls = [
-        Call::Mutate(set),
-        Call::Has(&k),
-        Call::EndPull(ticket, CONFIRMED.as_bytes()),
-        Call::Has(&k),
-        Call::Refresh,
-    ];
-    Ok(client.call_all(alloc, &calls, 1)?)
+    replies_to(alloc, client, ticket, &k, set)
 }
 
 fn is_right(number: usize, reply: &Result<Reply, Refusal>) -> bool {
@@ -59,9 +72,23 @@ fn count_right(replies: &[Result<Reply, Refusal>]) -> usize {
         .count()
 }
 
-#[test]
-fn a_list_of_calls_is_answered_in_order(rt: HostRuntime) -> Result<(), Refusal> {
-    let alloc = rt.alloc();
+// How many replies there are, and how many of them are right.
+fn counts_in_group<S: Store<ScriptMutators>>(
+    alloc: Global,
+    group: &Group<ScriptMutators, S>,
+    seats: &mut Seats<ScriptMutators, S>,
+) -> Result<(usize, usize), Refusal>
+where
+    S::Seat: Drop,
+    requires { All (λ seat. (seat.mark.book ≡ group.now.shared.head) × (S.home seat.slots ≡ S.serves group.now.shared.store)) seats.old.free.items }
+{
+    let mut client = next_client(group, seats, A)?;
+    let ticket = client.begin_pull(1)?;
+    let replies = made_by(alloc, &mut client, &ticket)?;
+    Ok((replies.len(), count_right(&replies)))
+}
+
+fn counts_in_new(alloc: Global) -> Result<(usize, usize), Refusal> {
     let config = config_of(alloc, 32, 1)?;
     let (group, mut seats) = Group::<ScriptMutators, Arena<ScriptMutators>>::open(
         alloc,
@@ -69,9 +96,12 @@ fn a_list_of_calls_is_answered_in_order(rt: HostRuntime) -> Result<(), Refusal> 
         ScriptMutators,
         (),
     )?;
-    let mut client = next_client(&group, &mut seats, A)?;
-    let ticket = client.begin_pull(1)?;
-    let replies = made_by(alloc, &mut client, &ticket)?;
-    assert_eq!(rt; (replies.len(), count_right(&replies)), (5, 5));
+    counts_in_group(alloc, &group, &mut seats)
+}
+
+#[test]
+fn a_list_of_calls_is_answered_in_order(rt: HostRuntime) -> Result<(), Refusal> {
+    let counts = counts_in_new(rt.alloc())?;
+    assert_eq!(rt; counts, (5, 5));
     Ok(())
 }

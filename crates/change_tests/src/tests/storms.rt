@@ -33,38 +33,55 @@ fn cookie_of(alloc: Global, value: &Value) -> Result<Cookie, Refusal> {
     Cookie::of(alloc, value)?.ok_or(Refusal::BadShape)
 }
 
-// Clients of these IDs on the next two seats.
-fn two_clients<'g, S: Store<ScriptMutators>>(
+// A client of a thread, and the pull that it began last.
+#[derive(Drop)]
+struct Player<'g, S: Store<ScriptMutators>>
+where
+    S::Seat: Drop,
+{
+    client: Client<'g, ScriptMutators, S>,
+    ticket: Ticket,
+}
+
+fn new_player<'g, S: Store<ScriptMutators>>(
     group: &'g Group<ScriptMutators, S>,
     seats: &mut Seats<ScriptMutators, S>,
-) -> Result<(Client<'g, ScriptMutators, S>, Client<'g, ScriptMutators, S>), Refusal>
+    text: &str,
+) -> Result<Player<'g, S>, Refusal>
 where
     S::Seat: Drop,
     requires { All (λ seat. (seat.mark.book ≡ group.now.shared.head) × (S.home seat.slots ≡ S.serves group.now.shared.store)) seats.old.free.items }
     ensures { All (λ seat. (seat.mark.book ≡ group.now.shared.head) × (S.home seat.slots ≡ S.serves group.now.shared.store)) seats.new.free.items }
 {
-    let a = next_client(group, seats, A)?;
-    let b = next_client(group, seats, B)?;
-    Ok((a, b))
+    let mut client = next_client(group, seats, text)?;
+    let ticket = client.begin_pull(TRIES)?;
+    Ok(Player { client, ticket })
 }
 
-fn closes<S: Store<ScriptMutators>>(mut client: Client<'_, ScriptMutators, S>) -> Ending
+// Players of these IDs on the next two seats.
+fn two_players<'g, S: Store<ScriptMutators>>(
+    group: &'g Group<ScriptMutators, S>,
+    seats: &mut Seats<ScriptMutators, S>,
+) -> Result<(Player<'g, S>, Player<'g, S>), Refusal>
 where
     S::Seat: Drop,
+    requires { All (λ seat. (seat.mark.book ≡ group.now.shared.head) × (S.home seat.slots ≡ S.serves group.now.shared.store)) seats.old.free.items }
+    ensures { All (λ seat. (seat.mark.book ≡ group.now.shared.head) × (S.home seat.slots ≡ S.serves group.now.shared.store)) seats.new.free.items }
 {
-    let ticket = client.begin_pull(TRIES)?;
-    client.try_end_pull(&ticket, CLOSING.as_bytes(), TRIES)
+    let a = new_player(group, seats, A)?;
+    let b = new_player(group, seats, B)?;
+    Ok((a, b))
 }
 
 fn two_close<R: Threads + Sync, S: Store<ScriptMutators>>(
     rt: &R,
-    a: Client<'_, ScriptMutators, S>,
-    b: Client<'_, ScriptMutators, S>,
+    mut a: Player<'_, S>,
+    mut b: Player<'_, S>,
 ) -> (Ending, Ending)
 where
     S::Seat: Drop,
 {
-    join(rt, || closes(a), || closes(b))
+    join(rt, || a.closes(), || b.closes())
 }
 
 // How often four clients that close a group at once are answered so.
@@ -100,8 +117,8 @@ where
     S::Seat: Drop,
     requires { All (λ seat. (seat.mark.book ≡ group.now.shared.head) × (S.home seat.slots ≡ S.serves group.now.shared.store)) seats.old.free.items }
 {
-    let (a, b) = two_clients(group, seats)?;
-    let (c, d) = two_clients(group, seats)?;
+    let (a, b) = two_players(group, seats)?;
+    let (c, d) = two_players(group, seats)?;
     let (left, right) = join(rt, || two_close(rt, a, b), || two_close(rt, c, d));
     count(&[left.0, left.1, right.0, right.1])
 }
@@ -110,6 +127,25 @@ const ONE_CLOSES: Closings = Closings {
     not_found: 1,
     closed: 3,
 };
+
+fn closings_in_new<R: Threads + Sync, S: Store<ScriptMutators> + Drop>(
+    rt: &R,
+    alloc: Global,
+    parts: S::Parts,
+) -> Result<Closings, Refusal>
+where
+    S::Seat: Drop,
+    S::Parts: Drop,
+{
+    let config = config_of(alloc, 32, 4)?;
+    let (group, mut seats) = Group::<ScriptMutators, S>::open(
+        alloc,
+        config,
+        ScriptMutators,
+        parts,
+    )?;
+    four_close(rt, &group, &mut seats)
+}
 
 // The first answers of so many groups that are others than those.
 fn other_closings<R: Threads + Sync, S: Store<ScriptMutators> + Drop>(
@@ -123,14 +159,7 @@ where
     S::Parts: Copy,
 {
     for _ in 0..rounds {
-        let config = config_of(alloc, 32, 4)?;
-        let (group, mut seats) = Group::<ScriptMutators, S>::open(
-            alloc,
-            config,
-            ScriptMutators,
-            parts,
-        )?;
-        let closings = four_close(rt, &group, &mut seats)?;
+        let closings = closings_in_new::<R, S>(rt, alloc, parts)?;
         if closings != ONE_CLOSES {
             return Ok(Some(closings));
         }
@@ -179,7 +208,7 @@ enum Call {
     End(Pull),
 }
 
-const CALLS: [Call; 16] = [
+static CALLS: [Call; 16] = [
     Call::Mutate("incr", r#"["n",1]"#),
     Call::Mutate("incr", r#"["n",1]"#),
     Call::Mutate("incr", r#"["n",10]"#),
@@ -211,7 +240,7 @@ const CALLS: [Call; 16] = [
 ];
 
 // The calls after which two threads have ended.
-const LAST_CALLS: [Call; 5] = [
+static LAST_CALLS: [Call; 5] = [
     Call::Get("n"),
     Call::Get("k"),
     Call::Pending,
@@ -244,20 +273,16 @@ fn body_of(alloc: Global, pull: Pull) -> Result<String, Refusal> {
     )?)
 }
 
-// A client of a thread, and the pull that it began last.
-#[derive(Drop)]
-struct Player<'g, S: Store<ScriptMutators>>
-where
-    S::Seat: Drop,
-{
-    client: Client<'g, ScriptMutators, S>,
-    ticket: Ticket,
-}
-
 impl<S: Store<ScriptMutators>> Player<'_, S>
 where
     S::Seat: Drop,
 {
+    fn closes(&mut self) -> Ending {
+        self.ticket = self.client.begin_pull(TRIES)?;
+        self.client
+            .try_end_pull(&self.ticket, CLOSING.as_bytes(), TRIES)
+    }
+
     fn mutates(&mut self, alloc: Global, name: &str, args: &str) -> Answer {
         let name = Text::new(alloc, name)?;
         let args = Json::read(alloc, args.as_bytes())?;
@@ -358,15 +383,21 @@ fn confirms(alloc: Global, pull: Pull) -> Result<Vec<Confirmed>, Refusal>
     Ok(changes)
 }
 
-fn response_of(alloc: Global, pull: Pull) -> Result<Response, Refusal> {
-    let cookie = cookie_of(alloc, &Value::from(pull.cookie))?;
+fn puts(alloc: Global, pull: Pull) -> Result<Vec<Patch>, Refusal> {
     let n = Patch::Put(
         Text::new(alloc, "n")?,
         Json::of(alloc, &Value::from(pull.n))?,
     );
     let mut patch = Vec::new(alloc);
     patch.push(n)?;
-    Ok(Response::Ok(PullOk::new(cookie, confirms(alloc, pull)?, patch)))
+    Ok(patch)
+}
+
+fn response_of(alloc: Global, pull: Pull) -> Result<Response, Refusal> {
+    let cookie = cookie_of(alloc, &Value::from(pull.cookie))?;
+    let changes = confirms(alloc, pull)?;
+    let patch = puts(alloc, pull)?;
+    Ok(Response::Ok(PullOk::new(cookie, changes, patch)))
 }
 
 type Plain = PlainGroup<ScriptMutators>;
@@ -435,25 +466,27 @@ enum Explained {
     All,
 }
 
-// How a game is explained by the order in which the turns of A are the bits of a number, the highest one first. What A
-// made afterwards counts as one turn more.
-fn explained_by(alloc: Global, game: &Game, turns: u32) -> Result<Explained, Refusal> {
-    let mut group = Plain::new(alloc)?;
-    let mut a = side_of(alloc, A, &game.by_a)?;
-    let mut b = side_of(alloc, B, &game.by_b)?;
+// The first turn that is answered otherwise in the order in which the turns of A are the bits of a number, the highest
+// one first.
+fn other_turn(
+    alloc: Global,
+    group: &mut Plain,
+    a: &mut Side<'_>,
+    b: &mut Side<'_>,
+    turns: u32,
+) -> Result<Option<u32>, Refusal> {
     for turn in 0..TURNS {
         let is_of_a = (turns >> (TURNS - 1 - turn)) & 1 == 1;
         let fits = if is_of_a {
-            a.fits(alloc, &mut group)?
+            a.fits(alloc, group)?
         } else {
-            b.fits(alloc, &mut group)?
+            b.fits(alloc, group)?
         };
         if !fits {
-            return Ok(Explained::Until(turn));
+            return Ok(Some(turn));
         }
     }
-    a.steps = &game.last;
-    ended_by(alloc, &mut group, &mut a)
+    Ok(None)
 }
 
 fn ended_by(alloc: Global, group: &mut Plain, side: &mut Side<'_>) -> Result<Explained, Refusal> {
@@ -463,6 +496,30 @@ fn ended_by(alloc: Global, group: &mut Plain, side: &mut Side<'_>) -> Result<Exp
         }
     }
     Ok(Explained::All)
+}
+
+// What A made afterwards counts as one turn more.
+fn explained_in<'a>(
+    alloc: Global,
+    group: &mut Plain,
+    a: &mut Side<'a>,
+    b: &mut Side<'_>,
+    last: &'a [Step],
+    turns: u32,
+) -> Result<Explained, Refusal> {
+    if let Some(turn) = other_turn(alloc, group, a, b, turns)? {
+        return Ok(Explained::Until(turn));
+    }
+    a.steps = last;
+    ended_by(alloc, group, a)
+}
+
+// How a game is explained by that order, in a group of one thread.
+fn explained_by(alloc: Global, game: &Game, turns: u32) -> Result<Explained, Refusal> {
+    let mut group = Plain::new(alloc)?;
+    let mut a = side_of(alloc, A, &game.by_a)?;
+    let mut b = side_of(alloc, B, &game.by_b)?;
+    explained_in(alloc, &mut group, &mut a, &mut b, &game.last, turns)
 }
 
 // The first number above this one whose bits differ in this turn or before.
@@ -484,21 +541,6 @@ fn order_of(alloc: Global, game: &Game) -> Result<Option<u32>, Refusal> {
         }
     }
     Ok(None)
-}
-
-fn new_player<'g, S: Store<ScriptMutators>>(
-    group: &'g Group<ScriptMutators, S>,
-    seats: &mut Seats<ScriptMutators, S>,
-    text: &str,
-) -> Result<Player<'g, S>, Refusal>
-where
-    S::Seat: Drop,
-    requires { All (λ seat. (seat.mark.book ≡ group.now.shared.head) × (S.home seat.slots ≡ S.serves group.now.shared.store)) seats.old.free.items }
-    ensures { All (λ seat. (seat.mark.book ≡ group.now.shared.head) × (S.home seat.slots ≡ S.serves group.now.shared.store)) seats.new.free.items }
-{
-    let mut client = next_client(group, seats, text)?;
-    let ticket = client.begin_pull(TRIES)?;
-    Ok(Player { client, ticket })
 }
 
 // What calls are drawn by: the next number follows from the last one.
@@ -545,21 +587,39 @@ where
     })
 }
 
-fn played<R: Threads + Sync, S: Store<ScriptMutators>>(
+fn game_in<R: Threads + Sync, S: Store<ScriptMutators>>(
     rt: &R,
     alloc: Global,
     group: &Group<ScriptMutators, S>,
     seats: &mut Seats<ScriptMutators, S>,
     dice: &mut Dice,
-) -> Result<Option<u32>, Refusal>
+) -> Result<Game, Refusal>
 where
     S::Seat: Drop,
     requires { All (λ seat. (seat.mark.book ≡ group.now.shared.head) × (S.home seat.slots ≡ S.serves group.now.shared.store)) seats.old.free.items }
 {
-    let mut a = new_player(group, seats, A)?;
-    let mut b = new_player(group, seats, B)?;
-    let game = both_play(rt, alloc, &mut a, &mut b, dice)?;
-    order_of(alloc, &game)
+    let (mut a, mut b) = two_players(group, seats)?;
+    both_play(rt, alloc, &mut a, &mut b, dice)
+}
+
+fn game_in_new<R: Threads + Sync, S: Store<ScriptMutators> + Drop>(
+    rt: &R,
+    alloc: Global,
+    parts: S::Parts,
+    dice: &mut Dice,
+) -> Result<Game, Refusal>
+where
+    S::Seat: Drop,
+    S::Parts: Drop,
+{
+    let config = config_of(alloc, 256, 2)?;
+    let (group, mut seats) = Group::<ScriptMutators, S>::open(
+        alloc,
+        config,
+        ScriptMutators,
+        parts,
+    )?;
+    game_in(rt, alloc, &group, &mut seats, dice)
 }
 
 const ROUNDS: u32 = 100;
@@ -578,14 +638,8 @@ where
         number: 0x2545_f491_4f6c_dd1d,
     };
     for round in 0..ROUNDS {
-        let config = config_of(alloc, 256, 2)?;
-        let (group, mut seats) = Group::<ScriptMutators, S>::open(
-            alloc,
-            config,
-            ScriptMutators,
-            parts,
-        )?;
-        if played(rt, alloc, &group, &mut seats, &mut dice)?.is_none() {
+        let game = game_in_new::<R, S>(rt, alloc, parts, &mut dice)?;
+        if order_of(alloc, &game)?.is_none() {
             return Ok(round);
         }
     }

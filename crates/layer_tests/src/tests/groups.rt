@@ -166,11 +166,7 @@ fn pulled(alloc: Global, body: &str) -> Result<PullOk, Refusal> {
 }
 
 /// The nodes and the head of a group that pulled so many keys, with these mutations pending.
-fn with_keys(
-    alloc: Global,
-    pending: &[Mutation],
-    count: u32,
-) -> Result<(VecNodes, Ref), Refusal>
+fn with_keys(alloc: Global, pending: &[Mutation], count: u32) -> Result<(VecNodes, Ref), Refusal>
     ensures { IfOk result (λ made. IsSome (version_at (map content_of made.0) (stamp_of made.1))) }
 {
     let body = numbered(alloc, count)?;
@@ -184,7 +180,10 @@ fn with_keys(
 /// many are shown until that is known.
 fn left_behind(alloc: Global, count: u32) -> Result<(usize, u64), Refusal> {
     let pending = [mutation(alloc, 1, "set", r#"["k01",0]"#)?];
-    let pull = pulled(alloc, r#"{"cookie":2,"lastMutationIDChanges":{},"patch":[]}"#)?;
+    let pull = pulled(
+        alloc,
+        r#"{"cookie":2,"lastMutationIDChanges":{},"patch":[]}"#,
+    )?;
     let (mut nodes, head) = with_keys(alloc, &pending, count)?;
     let new = add_rebased(alloc, &mut nodes, head, &pending, &pull)?;
     count_dropped(alloc, &nodes, head, new)

@@ -97,7 +97,12 @@ fn add_by_slots(
 }
 
 /// A mutation of `a` with this id.
-pub(super) fn mutation(alloc: Global, id: u64, name: &str, args: &str) -> Result<Mutation, Refusal> {
+pub(super) fn mutation(
+    alloc: Global,
+    id: u64,
+    name: &str,
+    args: &str,
+) -> Result<Mutation, Refusal> {
     let client = Text::new(alloc, "a")?;
     let name = Text::new(alloc, name)?;
     let args = Json::read(alloc, args.as_bytes())?;

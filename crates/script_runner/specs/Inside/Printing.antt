@@ -38,4 +38,3 @@ reply_detail r = []
 -- a reply
 abbrev pub reply_text : Reply → Bytes
 reply_text said = reply_word said ++ reply_detail said
-

@@ -54,30 +54,38 @@ where
     }
 }
 
+// A mutation that was refused memory has no answer, and ends a test.
+fn answered(answer: Result<u64, Refusal>) -> Result<Result<u64, Refusal>, Refusal> {
+    match answer {
+        Err(Refusal::NoMemory) => Err(Refusal::NoMemory),
+        other => Ok(other),
+    }
+}
+
 // How many more mutations it makes of six, with ids from 2 on and
 // the one value after the other, and why the next one is refused.
 fn fills<S: Store<Setter>>(
     client: &mut Client<'_, Setter, S>,
     name: &Text,
     values: [&Json; 2],
-) -> (u64, Option<Refusal>)
+) -> Result<(u64, Option<Refusal>), Refusal>
 where
     S::Seat: Drop,
 {
     for made in 0u64..6 {
         let value = if made % 2 == 0 { values[0] } else { values[1] };
-        match client.try_mutate(name, value, 1000, 9) {
+        match answered(client.try_mutate(name, value, 1000, 9))? {
             Ok(id) => {
                 if id != made + 2 {
-                    return (made, None);
+                    return Ok((made, None));
                 }
             }
             Err(e) => {
-                return (made, Some(e));
+                return Ok((made, Some(e)));
             }
         }
     }
-    (6, None)
+    Ok((6, None))
 }
 
 // Whether the key has the value for the client.
@@ -128,8 +136,48 @@ where
     S::Seat: Drop,
     ensures { client.new.mark.book ≡ client.old.mark.book }
 {
-    let first = client.try_mutate(name, args, 1000, 9);
+    let first = answered(client.try_mutate(name, args, 1000, 9))?;
     Ok((first, pushes(client)?))
+}
+
+// What the second one reads when it has learnt of what the first one made, and why its own mutation is refused.
+fn meets<S: Store<Setter>>(
+    first: &Client<'_, Setter, S>,
+    second: &mut Client<'_, Setter, S>,
+    name: &Text,
+    args: &Json,
+) -> Result<(bool, Result<u64, Refusal>), Refusal>
+where
+    S::Seat: Drop,
+    requires { first.now.mark.book ≡ second.old.mark.book }
+{
+    second.learn(&first.mark());
+    let stale = answered(second.try_mutate(name, args, 1000, 9))?;
+    let read = reads(second, name, args)?;
+    Ok((read, stale))
+}
+
+fn made_by_two<S: Store<Setter>>(
+    a: &mut Client<'_, Setter, S>,
+    c: &mut Client<'_, Setter, S>,
+    name: &Text,
+    args: &Json,
+    other: &Json,
+) -> Result<Made, Refusal>
+where
+    S::Seat: Drop,
+    requires { a.old.mark.book ≡ c.old.mark.book }
+{
+    let (first, pushed) = makes(a, name, args)?;
+    let (read, stale) = meets(a, c, name, args)?;
+    Ok(Made {
+        first,
+        pushed,
+        filled: fills(a, name, [other, args])?,
+        read,
+        stale,
+        last: c.refresh(9)?,
+    })
 }
 
 fn made_by<S: Store<Setter>>(
@@ -145,19 +193,8 @@ where
 {
     let mut a = next_client(group, seats)?;
     let mut c = next_client(group, seats)?;
-    let (first, pushed) = makes(&mut a, name, args)?;
-    c.learn(&a.mark());
-    let stale = c.try_mutate(name, args, 1000, 9);
-    let read = reads(&mut c, name, args)?;
     let other = Json::read(alloc, "6".as_bytes())?;
-    Ok(Made {
-        first,
-        pushed,
-        filled: fills(&mut a, name, [&other, args]),
-        read,
-        stale,
-        last: c.refresh(9)?,
-    })
+    made_by_two(&mut a, &mut c, name, args, &other)
 }
 
 fn in_new<S: Store<Setter> + Drop>(

@@ -31,8 +31,7 @@ pub returns-in_err-write_phase-clause-want : goal.returns-in_err-write_phase-cla
 returns-in_err-write_phase-clause-want g c want =
     let l = c.loop-phase in let so_far = l.invariant.written in let stands = g.C.Caller.stands in
     let p = err_from_is_err_and c.from_residual.result c.from_residual.ensures.1 in
-    let lacked = subst IsWant (p.1 ∙ ap (λ e. Err e) p.2) want in
-    (
+    let lacked = subst IsWant (p.1 ∙ ap (λ e. Err e) p.2) want in (
       l.phase-index,
       so_far.0,
       players_of stands l.turns,

@@ -1,7 +1,0 @@
-use Rattle.std.proofs.Common.{map}
-use Rattle.group_history.specs.Naming.{content_of}
-use Rattle.rebase.proofs.solo.Solo.close.Given as goal
-
--- the group's nodes
-abbrev pub ghosts-tip_at : goal.ghosts-tip_at
-ghosts-tip_at g a = record { known = map content_of a.nodes.nodes.now }
