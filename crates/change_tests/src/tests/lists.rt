@@ -64,12 +64,22 @@ fn is_right(number: usize, reply: &Result<Reply, Refusal>) -> bool {
     }
 }
 
-fn count_right(replies: &[Result<Reply, Refusal>]) -> usize {
-    replies
-        .iter()
-        .enumerate()
-        .filter(|(number, reply)| is_right(*number, reply))
-        .count()
+fn lacks_memory(reply: &Result<Reply, Refusal>) -> bool {
+    matches!(reply, Err(Refusal::NoMemory))
+}
+
+// A lack of memory is no answer.
+fn count_right(replies: &[Result<Reply, Refusal>]) -> Result<usize, Refusal> {
+    if replies.iter().any(|reply| lacks_memory(reply)) {
+        return Err(Refusal::NoMemory);
+    }
+    Ok(
+        replies
+            .iter()
+            .enumerate()
+            .filter(|(number, reply)| is_right(*number, reply))
+            .count(),
+    )
 }
 
 // How many replies there are, and how many of them are right.
@@ -85,7 +95,8 @@ where
     let mut client = next_client(group, seats, A)?;
     let ticket = client.begin_pull(1)?;
     let replies = made_by(alloc, &mut client, &ticket)?;
-    Ok((replies.len(), count_right(&replies)))
+    let right = count_right(&replies)?;
+    Ok((replies.len(), right))
 }
 
 fn counts_in_new(alloc: Global) -> Result<(usize, usize), Refusal> {
