@@ -11,8 +11,8 @@ use Rattle.logbook.specs.Pages.{Book}
 use Rattle.group_history.specs.declared.refusals.Refusal.{Refusal}
 use Rattle.group_history.specs.Map.{Bytes}
 use Rattle.head_word.specs.Marks.{Known}
-use Rattle.clients.specs.Replies.{Replied}
-use Rattle.clients.specs.declared.calls.Call.{Call}
+use Rattle.rebase.specs.Replies.{Replied}
+use Rattle.rebase.specs.declared.calls.Call.{Call}
 use Rattle.script_runner.specs.declared.phase.Turn.{Turn}
 use Rattle.script_runner.specs.declared.script.Command.{Command}
 use Rattle.script_runner.specs.declared.script.Line.{Line}

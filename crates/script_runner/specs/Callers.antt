@@ -8,10 +8,10 @@ use Rattle.group_history.specs.State.{State}
 use Rattle.head_word.specs.Marks.{Known, known}
 use Rattle.push_body.specs.declared.identities.Identity.{Identity}
 use Rattle.answered.specs.Answered.{Answers, own_moves}
-use Rattle.clients.specs.Calls.{Caller, IsLater, IsReplyTo, caller, change_of, last_after, reply_to}
-use Rattle.clients.specs.Replies.{Replied}
-use Rattle.clients.specs.declared.calls.Call.{Call}
-use Rattle.clients.specs.declared.calls.Call.TheVariants as call
+use Rattle.rebase.specs.Calls.{Caller, IsLater, IsReplyTo, caller, change_of, last_after, reply_to}
+use Rattle.rebase.specs.Replies.{Replied}
+use Rattle.rebase.specs.declared.calls.Call.{Call}
+use Rattle.rebase.specs.declared.calls.Call.TheVariants as call
 use Rattle.script_mutators.specs.Mutators.{script_means}
 
 -- A client: whose requests its group writes, its ID, its own last id, and what it has seen of the group's book.

@@ -7,10 +7,10 @@ use Rattle.group_history.specs.declared.refusals.Refusal.{Refusal}
 use Rattle.group_history.specs.declared.refusals.Refusal.TheVariants.{NoMemory}
 use Rattle.group_history.specs.Map.{Bytes}
 use Rattle.head_word.specs.Marks.{Known}
-use Rattle.clients.specs.Replies.{Replied, ticket}
-use Rattle.clients.specs.declared.calls.Call.{Call}
-use Rattle.clients.specs.declared.calls.Call.TheVariants as call
-use Rattle.clients.specs.declared.tickets.Ticket.{Ticket}
+use Rattle.rebase.specs.Replies.{Replied, ticket}
+use Rattle.rebase.specs.declared.calls.Call.{Call}
+use Rattle.rebase.specs.declared.calls.Call.TheVariants as call
+use Rattle.rebase.specs.declared.tickets.Ticket.{Ticket}
 use Rattle.script_runner.specs.declared.script.Call.{Call as Mutation}
 use Rattle.script_runner.specs.declared.script.Command.{Command}
 use Rattle.script_runner.specs.declared.script.Command.TheVariants as command

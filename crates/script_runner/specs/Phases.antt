@@ -5,8 +5,8 @@ use Rattle.std.specs.List.{concat}
 use Rattle.group_history.specs.declared.refusals.Refusal.{Refusal}
 use Rattle.group_history.specs.Map.{Bytes}
 use Rattle.head_word.specs.Marks.{Known}
-use Rattle.clients.specs.Replies.{Replied}
-use Rattle.clients.specs.declared.calls.Call.{Call}
+use Rattle.rebase.specs.Replies.{Replied}
+use Rattle.rebase.specs.declared.calls.Call.{Call}
 use Rattle.script_runner.specs.Callers.{Standing, sight_of}
 use Rattle.script_runner.specs.Commanding.{MayPrint, Player}
 use Rattle.script_runner.specs.Context.{Lines}

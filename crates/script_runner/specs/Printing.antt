@@ -9,7 +9,7 @@ use Rattle.group_history.specs.declared.responses.Ended.TheVariants.{Applied, Sa
 use Rattle.group_history.specs.Map.{Bytes}
 use Rattle.group_history.specs.Pull.{kind_text}
 use Rattle.push_body.specs.Bodies.{quoted}
-use Rattle.clients.specs.Replies.{Replied, value, yes_or_no, rows, pending, cookie, id, body, ticket, ended}
+use Rattle.rebase.specs.Replies.{Replied, value, yes_or_no, rows, pending, cookie, id, body, ticket, ended}
 
 -- a row of a scan, as a JSON array of its key and value; the value is compact JSON already
 unfoldable pub row_text : Bytes × Bytes → Bytes

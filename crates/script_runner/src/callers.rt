@@ -2,15 +2,15 @@
 ghost use Rattle.std.specs.Prelude.{◌≡◌, Result};
 ghost use Rattle.group_history.specs.declared.refusals.Refusal.{Refusal as Refused};
 ghost use Rattle.head_word.specs.Marks.{Known};
-ghost use Rattle.clients.specs.Queries.{told};
-ghost use Rattle.clients.specs.Replies.{Replied, reply_seen};
-ghost use Rattle.clients.specs.declared.calls.Call.{Call as Asked};
+ghost use Rattle.rebase.specs.Queries.{told};
+ghost use Rattle.rebase.specs.Replies.{Replied, reply_seen};
+ghost use Rattle.rebase.specs.declared.calls.Call.{Call as Asked};
 ghost use Rattle.script_runner.specs.Callers.{Standing, sight_of};
 
 use chunk_slots::Arena;
-use clients::{Call, Client, Reply};
 use group_history::Refusal;
 use head_word::Mark;
+use rebase::{Call, Client, Reply};
 use script_mutators::ScriptMutators;
 use std::sync::Wait;
 
@@ -53,7 +53,7 @@ pub(crate) trait Caller {
 pub(crate) type SharedClient<'g> = Client<'g, ScriptMutators, Arena<ScriptMutators>>;
 
 impl<'g> Caller for SharedClient<'g> {
-    ghost use Rattle.clients.specs.Calls.{caller};
+    ghost use Rattle.rebase.specs.Calls.{caller};
     ghost use Rattle.script_runner.specs.Callers.{MayReply, Learns};
 
     type Seen = Mark<ScriptMutators>;

@@ -2,9 +2,9 @@
 ghost use Rattle.std.specs.Prelude.{◌≡◌, IfOk, Ok, map};
 ghost use Rattle.std.specs.List.{All};
 ghost use Rattle.std.specs.FinMap as finite;
-ghost use Rattle.clients.specs.Queries.{asked, told};
-ghost use Rattle.clients.specs.Replies.{reply_seen, ticket as replied_ticket};
-ghost use Rattle.clients.specs.declared.calls.Call.TheVariants as call;
+ghost use Rattle.rebase.specs.Queries.{asked, told};
+ghost use Rattle.rebase.specs.Replies.{reply_seen, ticket as replied_ticket};
+ghost use Rattle.rebase.specs.declared.calls.Call.TheVariants as call;
 ghost use Rattle.script_runner.specs.Commanding.{Asks, AsksEnd, AsksMutation, HandsOn, IsBegun, MayBegin, MayEnd, MayLearn, MayPrint};
 ghost use Rattle.script_runner.specs.Inside.Players.{player_of};
 ghost use Rattle.script_runner.specs.Printing.{answer_text, refreshed_text, replied_text};
@@ -13,8 +13,8 @@ ghost use Rattle.script_runner.specs.Inside.Printing.{reply_text};
 use crate::callers::Caller;
 use crate::reply::Reply;
 use crate::script::{self, Command, Query};
-use clients::{Call, Mutate, Reply as Answer, Ticket};
 use group_history::{Refusal, Text, TextMap};
+use rebase::{Call, Mutate, Reply as Answer, Ticket};
 use std::alloc::{AllocError, Global};
 use std::sync::Wait;
 

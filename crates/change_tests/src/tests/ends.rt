@@ -8,8 +8,8 @@ ghost use Rattle.std.specs.List.{All};
 
 use super::opening::{A, B, answered, config_of, next_client};
 use chunk_slots::{Append, Arena, Store};
-use clients::{Client, Group, ReadTx, Seats, Ticket};
 use group_history::{Cookie, Ended, Json, Refusal, Scan, Start, Text, VersionKind};
+use rebase::{Client, Group, ReadTx, Seats, Ticket};
 use script_mutators::ScriptMutators;
 use std::alloc::Global;
 

@@ -4,8 +4,8 @@ ghost use Rattle.std.specs.List.{All};
 
 use super::opening::{A, config_of, next_client};
 use chunk_slots::{Arena, Store};
-use clients::{Call, Client, Group, Mutate, Reply, Seats, Ticket};
 use group_history::{Ended, Json, Refusal, Text};
+use rebase::{Call, Client, Group, Mutate, Reply, Seats, Ticket};
 use script_mutators::ScriptMutators;
 use std::alloc::Global;
 

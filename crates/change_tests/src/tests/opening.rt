@@ -3,9 +3,9 @@ ghost use Rattle.std.specs.Prelude.{◌≡◌, IfOk};
 ghost use Rattle.std.specs.List.{All};
 
 use chunk_slots::Store;
-use clients::{Client, Config, Group, Seats};
 use group_history::{Means, Refusal, Text};
 use push_body::Identity;
+use rebase::{Client, Config, Group, Seats};
 use std::alloc::Global;
 use uuid::Uuid;
 

@@ -9,11 +9,11 @@ ghost use Rattle.group_history.specs.Pull.{AreInRange};
 use super::ends::{Answer, CLOSING, Told};
 use super::opening::{A, B, answered, config_of, next_client};
 use chunk_slots::{Append, Arena, Store};
-use clients::{Client, Group, Seats, Ticket};
 use group_history::{
     Confirmed, Cookie, Ended, Json, Patch, PlainGroup, PullOk, Refusal, Response, Text,
     nests_within,
 };
+use rebase::{Client, Group, Seats, Ticket};
 use script_mutators::ScriptMutators;
 use serde_json::Value;
 use std::alloc::Global;

@@ -1,7 +1,7 @@
 //! How groups may be laid out.
 use super::queries::identity;
-use clients::{Config, OutOfRange};
 use group_history::Refusal;
+use rebase::{Config, OutOfRange};
 use std::alloc::Global;
 use std::prelude::*;
 

@@ -4,8 +4,8 @@ ghost use Rattle.std.specs.List.{All};
 
 use super::queries::{A, config_of, id};
 use chunk_slots::{Append, Arena, Store};
-use clients::{Client, Config, Group, Seats};
 use group_history::{Json, Means, Mutators, Ran, Reason, Refusal, Stop, Text, WriteView};
+use rebase::{Client, Config, Group, Seats};
 use std::alloc::Global;
 
 // Each mutation sets the key that is its name.

@@ -4,9 +4,9 @@ ghost use Rattle.std.specs.List.{All};
 
 use super::heads::Nobody;
 use chunk_slots::{Append, Arena, Store};
-use clients::{Client, Config, Group, ReadTx, Seats};
 use group_history::{Refusal, Scan, Start, Text};
 use push_body::Identity;
+use rebase::{Client, Config, Group, ReadTx, Seats};
 use std::alloc::Global;
 use std::prelude::*;
 use uuid::Uuid;

@@ -1,5 +1,5 @@
 use Rattle.std.proofs.Common.{◌≡◌, Some, refl}
-use Rattle.clients.proofs.Seating.{popped}
+use Rattle.rebase.proofs.Seating.{popped}
 use Rattle.script_runner.proofs.Openings.{if_ok}
 use Rattle.script_runner.proofs.runner.open_client.Goals as goal
 

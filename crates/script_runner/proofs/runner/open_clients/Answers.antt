@@ -1,7 +1,7 @@
 use Rattle.std.proofs.Common.{arith, sym, subst}
 use Rattle.std.proofs.lemmas.List.Elements.{All-push}
 use Rattle.std.specs.List.{All}
-use Rattle.clients.specs.Calls.{caller}
+use Rattle.rebase.specs.Calls.{caller}
 use Rattle.script_runner.specs.Runs.{IsNew}
 use Rattle.script_runner.specs.Inside.Parsing.{client_said}
 use Rattle.script_runner.specs.Inside.Players.{player_of}

@@ -1,6 +1,6 @@
 use Rattle.std.proofs.Common.{◌≡◌, ◌+◌, ◌≤◌, length, map, take}
 use Rattle.std.specs.List.{All}
-use Rattle.clients.specs.Calls.{caller}
+use Rattle.rebase.specs.Calls.{caller}
 use Rattle.script_runner.specs.Runs.{IsNew}
 use Rattle.script_runner.specs.Inside.Parsing.{client_said}
 use Rattle.script_runner.specs.Inside.Players.{player_of}

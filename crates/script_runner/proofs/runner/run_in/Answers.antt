@@ -1,5 +1,5 @@
 use Rattle.std.proofs.Common.{ap, ◌∙◌, map}
-use Rattle.clients.specs.Calls.{caller}
+use Rattle.rebase.specs.Calls.{caller}
 use Rattle.script_runner.proofs.Openings.{enough, has_run, has_stopped, of_one}
 use Rattle.script_runner.specs.Inside.Parsing.{client_said}
 use Rattle.script_runner.proofs.runner.run_in.Goals as goal

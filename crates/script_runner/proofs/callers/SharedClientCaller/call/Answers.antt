@@ -1,10 +1,10 @@
 use Rattle.std.proofs.Common.{◌≡◌, ℕ, Err, sym, ap, ◌∙◌, subst}
 use Rattle.std.proofs.lemmas.Result.{err_from_is_err_and}
 use Rattle.answered.specs.Answered.{Answers}
-use Rattle.clients.specs.Calls.{caller, change_of, last_after, reply_to}
-use Rattle.clients.specs.Queries.{told}
-use Rattle.clients.specs.Replies.{reply_seen}
-use Rattle.clients.proofs.CallLemmas.{ended_told}
+use Rattle.rebase.specs.Calls.{caller, change_of, last_after, reply_to}
+use Rattle.rebase.specs.Queries.{told}
+use Rattle.rebase.specs.Replies.{reply_seen}
+use Rattle.rebase.proofs.CallLemmas.{ended_told}
 use Rattle.script_runner.specs.Callers.{tries_of}
 use Rattle.script_mutators.specs.Mutators.{script_means}
 use Rattle.script_runner.proofs.callers.SharedClientCaller.call.Goals as goal

@@ -1,8 +1,8 @@
 use Rattle.std.proofs.Common.{Ok, sym, subst}
 use Rattle.std.specs.FinMap as finite
-use Rattle.clients.specs.Queries.{asked, told}
-use Rattle.clients.specs.Replies.{reply_seen, ticket}
-use Rattle.clients.specs.declared.calls.Call.TheVariants as call
+use Rattle.rebase.specs.Queries.{asked, told}
+use Rattle.rebase.specs.Replies.{reply_seen, ticket}
+use Rattle.rebase.specs.declared.calls.Call.TheVariants as call
 use Rattle.script_runner.specs.Commanding.{IsBegun}
 use Rattle.script_runner.specs.Inside.Printing.{reply_text}
 use Rattle.script_runner.proofs.client.Client.begin.Goals as goal

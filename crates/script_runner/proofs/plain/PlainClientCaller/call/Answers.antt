@@ -1,5 +1,5 @@
 use Rattle.std.proofs.Common.{refl, ap}
-use Rattle.clients.specs.Calls.{caller}
+use Rattle.rebase.specs.Calls.{caller}
 use Rattle.script_runner.specs.Callers.{plain_standing}
 use Rattle.script_runner.proofs.plain.PlainClientCaller.call.Goals as goal
 

@@ -1,5 +1,5 @@
 use Rattle.std.proofs.Common.{◌≡◌, Some, refl}
-use Rattle.clients.proofs.Seating.{popped}
+use Rattle.rebase.proofs.Seating.{popped}
 use Rattle.shared_tests.proofs.tests.queries.next_client.Goals as goal
 
 pub returns-in_err-id-clause-seats : goal.returns-in_err-id-clause-seats

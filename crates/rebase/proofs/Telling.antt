@@ -1,0 +1,82 @@
+-- One answer told as another.
+use Rattle.std.proofs.Common.{◌≡◌, ℕ, ◌+◌, Bool, true, false, Option, Some, None, Result, Ok, Err, refl, sym, ap, subst, ◌∙◌, arith}
+use Rattle.std.specs.Prelude.{nat_eq, if◌then◌else◌}
+use Rattle.group_history.specs.declared.changes.Change.{Change}
+use Rattle.group_history.specs.declared.changes.Change.TheVariants.{Mutated}
+use Rattle.group_history.specs.declared.mutations.Mutation.{Mutation}
+use Rattle.group_history.specs.declared.refusals.Refusal.{Refusal}
+use Rattle.group_history.specs.declared.refusals.Refusal.TheVariants as refusal
+use Rattle.group_history.specs.declared.responses.Ended.{Ended}
+use Rattle.group_history.specs.declared.responses.Ended.TheVariants as ended
+use Rattle.group_history.specs.Meaning.{Meaning, Meanings, unknown, refuses, done, meaning_of}
+use Rattle.group_history.specs.Mutating.{mutate_reply, by_meaning, open_reply}
+use Rattle.group_history.specs.Record.{after}
+use Rattle.group_history.specs.State.{State, last_id, view_of}
+use Rattle.head_word.specs.Books.{record_of}
+use Rattle.head_word.specs.Marks.{Known}
+use Rattle.answered.specs.Answered.{Answers, IsPoint, IsRefused, is_want}
+use Rattle.rebase.specs.Queries.{told}
+use Rattle.rebase.specs.Inside.Proposing.{asked_reply, is_applied}
+
+-- a value
+pub answers_as : {X Y : Type 0} (means : Meanings) (tries : ℕ) (old new : Known) (x : X) (y : Y) (change : Result X Refusal → Option Change) (other : Result Y Refusal → Option Change) (right : State → Result X Refusal) (so : State → Result Y Refusal)
+    → change (Ok x) ≡ other (Ok y) → ((s : State) → right s ≡ Ok x → so s ≡ Ok y) → Answers means tries old new (Ok x) change right → Answers means tries old new (Ok y) other so
+answers_as means tries old new x y change other right so same f is = (is.0, subst (λ (o : Option Change). IsPoint means old new o is.0) same is.1, f (after (record_of is.0)) is.2)
+
+refused_as : (means : Meanings) (tries : ℕ) (old new : Known) (mute : Bool) (e : Refusal) (right so : State → Type 0) → ((s : State) → right s → so s) → IsRefused means tries old new mute e None right → IsRefused means tries old new mute e None so
+refused_as means tries old new true e right so f is = is
+refused_as means tries old new false e right so f is = (is.0, is.1, f (after (record_of is.0)) is.2)
+
+-- a refusal that stands for no change
+pub refuses_as : {X Y : Type 0} (means : Meanings) (tries : ℕ) (old new : Known) (e : Refusal) (change : Result X Refusal → Option Change) (other : Result Y Refusal → Option Change) (right : State → Result X Refusal) (so : State → Result Y Refusal)
+    → change (Err e) ≡ None → other (Err e) ≡ None → ((s : State) → right s ≡ Err e → so s ≡ Err e) → Answers means tries old new (Err e) change right → Answers means tries old new (Err e) other so
+refuses_as means tries old new e change other right so one two f is =
+    subst (λ (o : Option Change). IsRefused means tries old new (mute o) e o (λ s. so s ≡ Err e)) (sym two)
+    (refused_as means tries old new (is_want e) e (λ s. right s ≡ Err e) (λ s. so s ≡ Err e) f
+    (subst (λ (o : Option Change). IsRefused means tries old new (mute o) e o (λ s. right s ≡ Err e)) one is))
+  where
+    mute : Option Change → Bool
+    mute None = is_want e
+    mute (Some c) = false
+
+-- WHAT WAS TOLD
+
+pub told_refused : {X Y : Type 0} (f : X → Y) (r : Result X Refusal) (e : Refusal) → told f r ≡ Err e → r ≡ Err e
+told_refused f (Ok x) e h = absurd (cc h)
+told_refused f (Err w) e h = let same : w ≡ e = cc h in ap Err same
+
+pub told_applied : (r : Result Ended Refusal) → told is_applied r ≡ Ok true → r ≡ Ok ended.Applied
+told_applied (Ok ended.Applied) h = refl
+told_applied (Ok ended.Same) h = absurd (cc h)
+told_applied (Err e) h = absurd (cc h)
+
+pub told_same : (r : Result Ended Refusal) → told is_applied r ≡ Ok false → r ≡ Ok ended.Same
+told_same (Ok ended.Applied) h = absurd (cc h)
+told_same (Ok ended.Same) h = refl
+told_same (Err e) h = absurd (cc h)
+
+by_told : (m : Meaning) (id : ℕ) → told (λ (n : ℕ). true) (by_meaning m id) ≡ Ok true → by_meaning m id ≡ Ok id
+by_told unknown id h = absurd (cc h)
+by_told (refuses code) id h = absurd (cc h)
+by_told (done m) id h = refl
+
+own_told : (b : Bool) (m : Meaning) (id : ℕ) → (let w : Result ℕ Refusal = if b then by_meaning m id else Err refusal.Stale in told (λ (n : ℕ). true) w) ≡ Ok true → (let w : Result ℕ Refusal = if b then by_meaning m id else Err refusal.Stale in w) ≡ Ok id
+own_told true m id h = by_told m id h
+own_told false m id h = absurd (cc h)
+
+open_told : (b : Bool) (y : Result ℕ Refusal) (id : ℕ) → (told (λ (n : ℕ). true) y ≡ Ok true → y ≡ Ok id) → (let w : Result ℕ Refusal = if b then Err refusal.Closed else y in told (λ (n : ℕ). true) w) ≡ Ok true
+    → (let w : Result ℕ Refusal = if b then Err refusal.Closed else y in w) ≡ Ok id
+open_told true y id f h = absurd (cc h)
+open_told false y id f h = f h
+
+-- a mutation that is made has the next id
+pub told_mutated : (means : Meanings) (s : State) (last : ℕ) (x : Mutation) → asked_reply means s last (Mutated x) ≡ Ok true → mutate_reply means s last x ≡ Ok (last + 1)
+told_mutated means s last x h = open_told s.closed (open_reply means s last x) (last + 1) (own_told (nat_eq (last_id s x.client) last) (meaning_of means x (view_of means s)) (last + 1)) h
+
+told_all : (r : Result ℕ Refusal) → told (λ (n : ℕ). true) r ≡ Ok false → ⊥
+told_all (Ok n) h = cc h
+told_all (Err e) h = cc h
+
+-- it changes something
+pub never_same : (means : Meanings) (s : State) (last : ℕ) (x : Mutation) → asked_reply means s last (Mutated x) ≡ Ok false → ⊥
+never_same means s last x h = told_all (mutate_reply means s last x) h

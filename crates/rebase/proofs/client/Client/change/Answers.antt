@@ -1,0 +1,15 @@
+use Rattle.group_history.specs.Refs.{stamp_of}
+use Rattle.head_word.specs.Books.{drawn}
+use Rattle.commits.specs.declared.states.LastId.{LastId}
+use Rattle.rebase.proofs.Finding.{last_grown}
+use Rattle.rebase.proofs.Trying.{may_ask_next}
+use Rattle.rebase.proofs.client.Client.change.Goals as goal
+
+pub make_change-requires-clause-asks : goal.make_change-requires-clause-asks
+make_change-requires-clause-asks g c κs within =
+    let client = c.args.self.now in let before : LastId = record { at = client.found; id = client.last } in
+    may_ask_next (drawn client.mark.log) before client.id c.args.change.now client.at c.requires.next
+
+pub invariant_of-self-clause-at : goal.invariant_of-self-clause-at
+invariant_of-self-clause-at g c =
+    let client = c.args.self.now in last_grown client.mark.log c.make_change.new.mark.log (stamp_of client.found) client.id client.last c.make_change.ensures.seen client.at

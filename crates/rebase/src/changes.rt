@@ -1,0 +1,240 @@
+//! The changes that a client makes: mutations, and ends of pulls.
+//!
+//! A change is made once, by one exchange of the group's head, or not at all. The forms that begin with `try_`
+//! return after as many tries as they are given; the others go on while others are in the way.
+ghost use Rattle.std.specs.Prelude.{◌≡◌, ◌+◌, false, Ok, IfOk, IfErr, IfSome};
+ghost use Rattle.group_history.specs.declared.responses.Response.TheVariants as response;
+ghost use mathlib.Core.List.{IsPrefix};
+ghost use Rattle.group_history.specs.Map.{Bytes};
+ghost use Rattle.group_history.specs.Mutating.{mutate_reply};
+ghost use Rattle.group_history.specs.Pulling.{end_reply};
+ghost use Rattle.group_history.specs.State.{made};
+ghost use Rattle.head_word.specs.Books.{drawn};
+ghost use Rattle.chunk_slots.specs.Seats.{IsIdle};
+ghost use Rattle.pull_patch.specs.Grammar.{answer_to};
+ghost use Rattle.answered.specs.Answered.{Answers, nothing};
+ghost use Rattle.answered.specs.Changes.{change_applied, change_closing, change_made, change_read};
+ghost use Rattle.rebase.specs.Asking.{end_bytes_reply, is_passing};
+ghost use Rattle.rebase.specs.Queries.{told};
+ghost use Rattle.rebase.specs.Inside.Changing.{is_made};
+ghost use Rattle.rebase.specs.Inside.Proposing.{AsksNext, HasLast, asked_reply, change_asked};
+
+use crate::changing::make_change;
+use crate::client::Client;
+use crate::tickets::Ticket;
+use crate::views::closed_at;
+use chunk_slots::Store;
+use commits::LastId;
+use group_history::{
+    Change, Cookie, Ended, Json, Mutation, Mutators, PullOk, Ref, Refusal, Response, Text,
+    VersionKind,
+};
+use pull_patch::read_response;
+use std::sync::Wait;
+
+// How often a call that may wait tries before it begins anew. In between it has no pin and no taken slot.
+const TRIES: u32 = 1000;
+
+// Whether the call was refused because others were in its way.
+fn is_passing<T>(reply: &Result<T, Refusal>) -> bool
+    ensures { result ≡ is_passing reply.now }
+{
+    matches!(reply, Err(Refusal::Moved | Refusal::Busy | Refusal::Gone))
+}
+
+impl<'g, M: Mutators, S: Store<M>> Client<'g, M, S>
+where
+    S::Seat: Drop,
+{
+    // Makes a change, and answers the commit where it stands: none where there is nothing to change.
+    fn change(&mut self, change: &Change, tries: u32) -> Result<Option<Ref>, Refusal>
+        requires next { AsksNext self.old.id self.old.last change.now }
+        ensures answer { Answers M.means tries self.old.mark self.new.mark (told is_made result) (change_asked change.now) (λ s. asked_reply M.means s self.old.last change.now) }
+        ensures found { IfOk result (λ made. IfSome made (λ at. HasLast (drawn self.new.mark.log) at change.now)) }
+        ensures idle { S.reused → IsIdle (S.view self.new.slots) }
+        ensures seen { IsPrefix self.old.mark.log self.new.mark.log }
+        ensures seat { (self.new.mark.book ≡ self.old.mark.book) × (self.new.mark.seat ≡ self.old.mark.seat) }
+        ensures same { (self.new.group.now ≡ self.old.group.now) × (self.new.id ≡ self.old.id) × (self.new.last ≡ self.old.last) }
+    {
+        let before = LastId {
+            at: self.found,
+            id: self.last,
+        };
+        make_change::<M, S>(
+            self.group,
+            &mut self.slots,
+            &mut self.mark,
+            change,
+            before,
+            tries,
+        )
+    }
+
+    /// Makes a mutation, and answers its id: one more than the client's last id, which it then is. `time` is in
+    /// milliseconds. Refused, in this order, with `Closed`, `Stale`, `NoMutator` and `Refused`; with `Moved` where
+    /// others changed the group first, as often as it was to try; and for want of memory, of a slot or of stamps.
+    pub fn try_mutate(
+        &mut self,
+        name: &Text,
+        args: &Json,
+        time: u64,
+        tries: u32,
+    ) -> Result<u64, Refusal>
+        ensures answer { Answers M.means tries self.old.mark self.new.mark result (change_made (made self.old.id (self.old.last + 1) name.now args.now time)) (λ s. mutate_reply M.means s self.old.last (made self.old.id (self.old.last + 1) name.now args.now time)) }
+        ensures last { IfOk result (λ id. (id ≡ self.old.last + 1) × (self.new.last ≡ id)) }
+        ensures left { IfErr result (λ _. self.new.last ≡ self.old.last) }
+        ensures idle { S.reused → IsIdle (S.view self.old.slots) → IsIdle (S.view self.new.slots) }
+        ensures seen { IsPrefix self.old.mark.log self.new.mark.log }
+        ensures seat { (self.new.mark.book ≡ self.old.mark.book) × (self.new.mark.seat ≡ self.old.mark.seat) }
+        ensures same { (self.new.group.now ≡ self.old.group.now) × (self.new.id ≡ self.old.id) }
+    {
+        let change = Change::Mutated(Mutation::new(&self.id, self.last + 1, name, args, time)?);
+        let made = match self.change(&change, tries) {
+            Ok(made) => made,
+            Err(e) => {
+                return Err(e);
+            }
+        };
+        let Some(at) = made else { unreachable!() };
+        self.found = at;
+        self.last += 1;
+        Ok(self.last)
+    }
+
+    // Ends a pull that brought no error.
+    fn end_applied(&mut self, ticket: &Cookie, pull: PullOk, tries: u32) -> Result<Ended, Refusal>
+        ensures answer { Answers M.means tries self.old.mark self.new.mark result (change_applied ticket.now pull) (λ s. end_reply s ticket.now.text (response.Ok pull)) }
+        ensures idle { S.reused → IsIdle (S.view self.old.slots) → IsIdle (S.view self.new.slots) }
+        ensures seen { IsPrefix self.old.mark.log self.new.mark.log }
+        ensures seat { (self.new.mark.book ≡ self.old.mark.book) × (self.new.mark.seat ≡ self.old.mark.seat) }
+        ensures same { (self.new.group.now ≡ self.old.group.now) × (self.new.id ≡ self.old.id) × (self.new.last ≡ self.old.last) }
+    {
+        let cookie = ticket.clone()?;
+        match self.change(&Change::Pulled(cookie, pull), tries) {
+            Ok(Some(_)) => Ok(Ended::Applied),
+            Ok(None) => Ok(Ended::Same),
+            Err(e) => Err(e),
+        }
+    }
+
+    // Ends a pull whose server does not know the group: closes it.
+    fn end_unknown(&mut self, tries: u32) -> Result<Ended, Refusal>
+        ensures answer { (ticket : Bytes) → Answers M.means tries self.old.mark self.new.mark result change_closing (λ s. end_reply s ticket response.StateNotFound) }
+        ensures idle { S.reused → IsIdle (S.view self.new.slots) }
+        ensures seen { IsPrefix self.old.mark.log self.new.mark.log }
+        ensures seat { (self.new.mark.book ≡ self.old.mark.book) × (self.new.mark.seat ≡ self.old.mark.seat) }
+        ensures same { (self.new.group.now ≡ self.old.group.now) × (self.new.id ≡ self.old.id) × (self.new.last ≡ self.old.last) }
+    {
+        match self.change(&Change::Closed, tries) {
+            Ok(_) => Err(Refusal::StateNotFound),
+            Err(e) => Err(e),
+        }
+    }
+
+    // Ends a pull whose server does not support a version.
+    fn end_unsupported(&mut self, kind: VersionKind, tries: u32) -> Result<Ended, Refusal>
+        ensures answer { (ticket : Bytes) → Answers M.means tries self.old.mark self.new.mark result nothing (λ s. end_reply s ticket (response.VersionNotSupported kind)) }
+        ensures idle { S.reused → IsIdle (S.view self.new.slots) }
+        ensures seen { IsPrefix self.old.mark.log self.new.mark.log }
+        ensures seat { (self.new.mark.book ≡ self.old.mark.book) × (self.new.mark.seat ≡ self.old.mark.seat) }
+        ensures same { (self.new.group.now ≡ self.old.group.now) × (self.new.id ≡ self.old.id) × (self.new.last ≡ self.old.last) }
+    {
+        let at = self.begin(tries)?;
+        let closed = closed_at(&self.group.shared, &self.mark, at, tries);
+        self.finish();
+        if closed? {
+            return Err(Refusal::Closed);
+        }
+        Err(Refusal::VersionNotSupported(kind))
+    }
+
+    /// Ends a pull with the bytes of its response. They are read first, once, and refused with `NotJson`, `BadShape` or
+    /// `NotWhole` where they are no response. Refused then, in this order, with `Closed`, what an error response says,
+    /// `Overtaken`, `CookieWentBack`, `CookieNotNew` and `IdWentBack`; with `Moved` where others changed the group
+    /// first, as often as it was to try; and for want of memory, of a slot or of stamps. `StateNotFound` closes the
+    /// group, whatever the ticket. A ticket may be ended again.
+    pub fn try_end_pull(
+        &mut self,
+        ticket: &Ticket,
+        body: &[u8],
+        tries: u32,
+    ) -> Result<Ended, Refusal>
+        ensures answer { Answers M.means tries self.old.mark self.new.mark result (change_read ticket.now.cookie (answer_to body.now)) (λ s. end_bytes_reply s ticket.now.cookie.text body.now) }
+        ensures idle { S.reused → IsIdle (S.view self.old.slots) → IsIdle (S.view self.new.slots) }
+        ensures seen { IsPrefix self.old.mark.log self.new.mark.log }
+        ensures seat { (self.new.mark.book ≡ self.old.mark.book) × (self.new.mark.seat ≡ self.old.mark.seat) }
+        ensures same { (self.new.group.now ≡ self.old.group.now) × (self.new.id ≡ self.old.id) × (self.new.last ≡ self.old.last) }
+    {
+        self.mark.legal();
+        let response = match read_response(self.group.alloc, body) {
+            Ok(response) => response,
+            Err(e) => {
+                return Err(e);
+            }
+        };
+        match response {
+            Response::Ok(pull) => {
+                return self.end_applied(&ticket.cookie, pull, tries);
+            }
+            Response::StateNotFound => {
+                return self.end_unknown(tries);
+            }
+            Response::VersionNotSupported(kind) => {
+                return self.end_unsupported(kind, tries);
+            }
+        }
+    }
+
+    /// Makes a mutation as `try_mutate` does, and begins anew where it was refused with `Moved`, `Busy` or `Gone`: so it may
+    /// wait for others.
+    pub fn mutate<R: Wait>(
+        &mut self,
+        rt: &R,
+        name: &Text,
+        args: &Json,
+        time: u64,
+    ) -> Result<u64, Refusal>
+        ensures answer { Answers M.means 0 self.old.mark self.new.mark result (change_made (made self.old.id (self.old.last + 1) name.now args.now time)) (λ s. mutate_reply M.means s self.old.last (made self.old.id (self.old.last + 1) name.now args.now time)) }
+        ensures lasting { is_passing result ≡ false }
+        ensures last { IfOk result (λ id. (id ≡ self.old.last + 1) × (self.new.last ≡ id)) }
+        ensures left { IfErr result (λ _. self.new.last ≡ self.old.last) }
+        ensures idle { S.reused → IsIdle (S.view self.old.slots) → IsIdle (S.view self.new.slots) }
+        ensures seen { IsPrefix self.old.mark.log self.new.mark.log }
+        ensures seat { (self.new.mark.book ≡ self.old.mark.book) × (self.new.mark.seat ≡ self.old.mark.seat) }
+        ensures same { (self.new.group.now ≡ self.old.group.now) × (self.new.id ≡ self.old.id) }
+    {
+        for turn in rt.forever() {
+            let _ = turn;
+            let reply = self.try_mutate(name, args, time, TRIES);
+            if !is_passing(&reply) {
+                return reply;
+            }
+        }
+        unreachable!()
+    }
+
+    /// Ends a pull as `try_end_pull` does, and begins anew where it was refused with `Moved`, `Busy` or `Gone`: so it may
+    /// wait for others.
+    pub fn end_pull<R: Wait>(
+        &mut self,
+        rt: &R,
+        ticket: &Ticket,
+        body: &[u8],
+    ) -> Result<Ended, Refusal>
+        ensures answer { Answers M.means 0 self.old.mark self.new.mark result (change_read ticket.now.cookie (answer_to body.now)) (λ s. end_bytes_reply s ticket.now.cookie.text body.now) }
+        ensures lasting { is_passing result ≡ false }
+        ensures idle { S.reused → IsIdle (S.view self.old.slots) → IsIdle (S.view self.new.slots) }
+        ensures seen { IsPrefix self.old.mark.log self.new.mark.log }
+        ensures seat { (self.new.mark.book ≡ self.old.mark.book) × (self.new.mark.seat ≡ self.old.mark.seat) }
+        ensures same { (self.new.group.now ≡ self.old.group.now) × (self.new.id ≡ self.old.id) × (self.new.last ≡ self.old.last) }
+    {
+        for turn in rt.forever() {
+            let _ = turn;
+            let reply = self.try_end_pull(ticket, body, TRIES);
+            if !is_passing(&reply) {
+                return reply;
+            }
+        }
+        unreachable!()
+    }
+}
