@@ -46,7 +46,9 @@ impl Refusal {
                 "a slot or a pin was lost to other clients, as often as the call tries: call again"
             }
             Refusal::Gone => "a slot was given again while it was looked for: call again",
-            Refusal::Full => "no slot is free: pull, or close readers, and call again",
+            Refusal::Full => {
+                "no slot is free: end a pull that confirms mutations, close readers, or open a group with more slots"
+            }
             Refusal::Stamps => "the group has drawn all its stamps: open a new group",
             Refusal::Stale => {
                 "the client's last id is not the group's: refresh it and call again"
