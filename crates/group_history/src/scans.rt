@@ -2,6 +2,7 @@
 ghost use Rattle.std.specs.Prelude.{◌≡◌};
 
 use crate::texts::Text;
+use std::alloc::AllocError;
 
 /// Where a scan begins.
 #[derive(Drop)]
@@ -21,6 +22,30 @@ pub struct Scan {
     pub prefix: Text,
     pub start: Start,
     pub limit: Option<u64>,
+}
+
+impl Clone for Start {
+    ghost is_clone = { λ start copy. copy ≡ start };
+
+    fn clone(&self) -> Result<Start, AllocError> {
+        match self {
+            Start::Any => Ok(Start::Any),
+            Start::At(key) => Ok(Start::At(key.clone()?)),
+            Start::After(key) => Ok(Start::After(key.clone()?)),
+        }
+    }
+}
+
+impl Clone for Scan {
+    ghost is_clone = { λ scan copy. copy ≡ scan };
+
+    fn clone(&self) -> Result<Scan, AllocError> {
+        Ok(Scan {
+            prefix: self.prefix.clone()?,
+            start: self.start.clone()?,
+            limit: self.limit,
+        })
+    }
 }
 
 impl Scan {

@@ -3,3 +3,4 @@ pub mod Arriving
 pub mod Proposing
 pub mod Changing
 pub mod Leaving
+pub mod Watching

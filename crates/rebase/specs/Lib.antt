@@ -4,5 +4,6 @@ pub mod Queries
 pub mod Asking
 pub mod Replies
 pub mod Calls
+pub mod Watching
 -- Words that only private clauses of this crate use.
 pub mod Inside

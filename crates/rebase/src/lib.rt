@@ -21,6 +21,7 @@ mod seats;
 mod steps;
 mod tickets;
 mod views;
+mod watching;
 
 pub use calls::{Call, Mutate, Reply};
 pub use client::Client;
@@ -29,3 +30,4 @@ pub use group::Group;
 pub use reading::{Point, ReadTx};
 pub use seats::{Seat, Seats};
 pub use tickets::Ticket;
+pub use watching::{Polled, Rows, Watch};

@@ -1,5 +1,6 @@
 //! One commit, read as often as its reader likes.
 ghost use Rattle.std.specs.Prelude.{◌≡◌, ◌⊎◌, Some, None, IfOk, IfErr};
+ghost use mathlib.Core.List.{IsPrefix};
 ghost use Rattle.group_history.specs.declared.refusals.Refusal.TheVariants.{NoMemory};
 ghost use Rattle.group_history.specs.Queries.{get_at, has_at, rows_at, is_empty_at};
 ghost use Rattle.group_history.specs.Record.{after};
@@ -12,10 +13,11 @@ ghost use Rattle.chunk_slots.specs.Seats.{IsIdle};
 ghost use Rattle.rebase.specs.Queries.{IsMissed};
 
 use crate::client::Client;
+use crate::group::Group;
 use chunk_slots::Slots;
 use commits::{Shared, StoreNodes};
 use group_history::{Cookie, Json, Means, Mutation, Ref, Refusal, Scan, Text};
-use head_word::Mark;
+use head_word::{Mark, one_record};
 use std::alloc::Global;
 use std::marker::Model;
 use transactions::ReadTx as CommitTx;
@@ -59,6 +61,43 @@ impl<M: Means> Point<M> {
             head,
             root,
         }
+    }
+
+    // The root of the map there.
+    pub(crate) fn root(&self) -> Ref
+        ensures { map_at (drawn self.now.log) (stamp_of result) ≡ Some (view_of M.means (after (record_of self.now.log))) }
+    {
+        self.root
+    }
+
+    // What has been seen there.
+    pub(crate) fn mark(&self) -> Mark<M>
+        ensures { result ≡ known self.now.book self.now.log None }
+    {
+        self.mark.copy()
+    }
+
+    // Of what has been seen there and what the mark has seen one begins the other.
+    pub(crate) fn begins_or_follows(&self, mark: &Mark<M>)
+        requires { mark.now.book ≡ self.now.book }
+        ensures { IsPrefix mark.now.log self.now.log ⊎ IsPrefix self.now.log mark.now.log }
+    {
+        one_record(mark, &self.mark);
+    }
+
+    // The rows of a scan there.
+    pub(crate) fn scan<S: Slots<M>>(
+        &self,
+        group: &Group<M, S>,
+        scan: &Scan,
+        tries: u32,
+    ) -> Result<Vec<(Text, Json)>, Refusal>
+        requires { self.now.book ≡ group.now.shared.head }
+        ensures rows { IfOk result (λ rows. rows.items ≡ rows_at M.means (after (record_of self.now.log)) scan.now) }
+        ensures err { IfErr result (λ e. (e ≡ NoMemory) ⊎ IsMissed S.reused e) }
+    {
+        let mut tx = self.open(group.alloc, &group.shared, tries);
+        Ok(tx.scan(scan)?)
     }
 
     // Its commit, to be read.
@@ -130,9 +169,7 @@ where
         ensures rows { IfOk result (λ rows. rows.items ≡ rows_at M.means (after (record_of self.now.at.log)) scan.now) }
         ensures err { IfErr result (λ e. (e ≡ NoMemory) ⊎ IsMissed S.reused e) }
     {
-        let group = self.client.group;
-        let mut tx = self.at.open(group.alloc, &group.shared, self.tries);
-        Ok(tx.scan(scan)?)
+        self.at.scan(self.client.group, scan, self.tries)
     }
 
     /// Whether no key is there. Takes no memory.

@@ -2,7 +2,7 @@
 //!
 //! A group has as many seats as clients may use it at a time. A seat claims slots of the group's store, and
 //! bears a number of the group's book. One that is out of use has no pin and no taken slot.
-ghost use Rattle.std.specs.Prelude.{◌≡◌, ◌≢◌, [], ◌∷◌, ◌++◌, List, length, IsSome, IfOk, IfErr};
+ghost use Rattle.std.specs.Prelude.{◌≡◌, ◌≢◌, ◌<◌, [], ◌∷◌, ◌++◌, List, length, IsSome, IfOk, IfErr, vec_capacity, vec_len};
 ghost use Rattle.std.specs.List.{All};
 ghost use Rattle.group_history.specs.declared.refusals.Refusal.TheVariants as refusal;
 ghost use Rattle.head_word.specs.Books.{opening, opening_ref};
@@ -70,6 +70,7 @@ where
 {
     /// A seat that no client has. It is `NoSeat` where all are out. Takes no memory.
     pub fn take(&mut self) -> Result<Seat<M, S>, Refusal>
+        ensures room { IfOk result (λ _. vec_len self.new.free < vec_capacity self.new.free) }
         ensures taken { IfOk result (λ seat. self.old.free.items ≡ self.new.free.items ++ seat ∷ []) }
         ensures none { IfErr result (λ e. (e ≡ refusal.NoSeat) × (self.old.free.items ≡ []) × (self.new.free.items ≡ [])) }
     {
@@ -77,5 +78,14 @@ where
             return Err(Refusal::NoSeat);
         };
         Ok(seat)
+    }
+
+    /// Takes a seat back, which the next client has then: it begins from what the seat's last client had seen. The
+    /// seat is one that was taken from here, so there is room for it. Takes no memory.
+    pub fn back(&mut self, seat: Seat<M, S>)
+        requires room { vec_len self.old.free < vec_capacity self.old.free }
+        ensures { self.new.free.items ≡ self.old.free.items ++ seat ∷ [] }
+    {
+        let _ = self.free.push(seat);
     }
 }

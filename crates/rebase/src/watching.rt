@@ -1,0 +1,238 @@
+//! Queries that are asked again and again, and answered where their rows are new.
+//!
+//! A watch keeps the rows that it answered last, and the root of the map that they were read from. What a stamp
+//! spells never changes, so at a commit of the same root the rows are the same, and none is read. Its type
+//! keeps that the rows are those of the root (`AreRead`), in what was seen of the book when they were read; of that and
+//! what a client has seen one begins the other.
+ghost use Rattle.std.specs.Prelude.{◌≡◌, ◌⊎◌, Some, None, Ok, true, IfOk, IfErr};
+ghost use Rattle.std.specs.Arc.{arc_value};
+ghost use mathlib.Core.List.{IsPrefix};
+ghost use Rattle.group_history.specs.declared.refusals.Refusal.TheVariants.{NoMemory};
+ghost use Rattle.group_history.specs.Queries.{rows_at};
+ghost use Rattle.group_history.specs.Record.{after};
+ghost use Rattle.head_word.specs.Books.{record_of};
+ghost use Rattle.chunk_slots.specs.Seats.{IsIdle};
+ghost use Rattle.answered.specs.Answered.{Answers, nothing};
+ghost use Rattle.rebase.specs.Queries.{IsMissed};
+ghost use Rattle.rebase.specs.Watching.{Watched, poll_at, poll_reply, was_told, watch_after};
+
+use crate::client::Client;
+use crate::group::Group;
+use crate::reading::Point;
+use chunk_slots::Slots;
+use group_history::{Json, Means, Ref, Refusal, Scan, Text};
+use head_word::Mark;
+use std::alloc::{AllocError, Global};
+use std::marker::Model;
+use std::sync::Arc;
+
+/// Rows that were answered, in the order of their keys. They are shared: a clone copies none.
+#[derive(Drop)]
+pub struct Rows {
+    shared: Arc<Vec<(Text, Json)>, Global>,
+}
+
+impl Model for Rows {
+    ghost use Rattle.std.specs.Prelude.{List};
+    ghost use Rattle.std.specs.Arc.{arc_value};
+    ghost use Rattle.group_history.specs.Map.{Bytes};
+
+    ghost Value = { List (Bytes × Bytes) };
+
+    ghost view = { λ rows. (arc_value rows.shared).items };
+}
+
+impl Rows {
+    fn new(alloc: Global, rows: Vec<(Text, Json)>) -> Result<Rows, AllocError>
+        ensures { IfOk result (λ shared. shared ≡ rows.items) }
+    {
+        let shared = Arc::new(alloc, rows)?;
+        Ok(Rows { shared })
+    }
+
+    pub fn as_slice(&self) -> &[(Text, Json)]
+        ensures { result.now ≡ self.now }
+    {
+        self.shared.as_slice()
+    }
+}
+
+impl Clone for Rows {
+    ghost is_clone = { λ rows copy. copy ≡ rows };
+
+    fn clone(&self) -> Result<Rows, AllocError> {
+        let shared = Arc::try_clone(&self.shared)?;
+        Ok(Rows { shared })
+    }
+}
+
+/// What a poll tells.
+#[derive(Drop)]
+pub enum Polled {
+    /// The rows, which are others than those that were answered last, or the first ones.
+    New(Rows),
+    Unchanged,
+}
+
+/// The rows that were answered last, and the root of the map that they were read from.
+#[derive(Drop)]
+pub(crate) struct Told {
+    root: Ref,
+    rows: Rows,
+}
+
+/// A scan that is polled. It may be polled by any client of its group.
+#[derive(Drop)]
+pub struct Watch<M: Means> {
+    scan: Scan,
+    // What was seen when the rows were read.
+    mark: Mark<M>,
+    last: Option<Told>,
+}
+
+impl<M: Means> Model for Watch<M> {
+    ghost use Rattle.head_word.specs.Books.{drawn};
+    ghost use Rattle.rebase.specs.Watching.{Watched};
+    ghost use Rattle.rebase.specs.Inside.Watching.{AreRead, rows_told};
+
+    ghost Value = { Watched };
+
+    ghost view = { λ w. record { book = w.mark.book; scan = w.scan; last = rows_told w.last } };
+
+    ghost invariant = { λ w. AreRead (drawn w.mark.log) w.scan w.last };
+}
+
+impl<M: Means> Watch<M> {
+    fn new(scan: Scan, seen: &Mark<M>) -> Watch<M>
+        ensures { result ≡ record { book = seen.now.book; scan = scan; last = None } }
+    {
+        Watch {
+            scan,
+            mark: seen.copy(),
+            last: None,
+        }
+    }
+
+    // Whether the map there is the one that was read last.
+    fn has_read(&self, at: &Point<M>) -> bool
+        requires { self.now.book ≡ at.now.book }
+        ensures { result ≡ true → self.now.last ≡ Some (rows_at M.means (after (record_of at.now.log)) self.now.scan) }
+    {
+        at.begins_or_follows(&self.mark);
+        match &self.last {
+            Some(told) => told.root.stamp() == at.root().stamp(),
+            None => false,
+        }
+    }
+
+    fn has_told(&self, rows: &Vec<(Text, Json)>) -> bool
+        ensures { result ≡ was_told self.now.last rows.now.items }
+    {
+        match &self.last {
+            Some(told) => *told.rows.shared == *rows,
+            None => false,
+        }
+    }
+
+    // The rows that were read there are those that were answered last.
+    fn found_again(&mut self, at: &Point<M>)
+        requires book { self.old.book ≡ at.now.book }
+        requires rows { self.old.last ≡ Some (rows_at M.means (after (record_of at.now.log)) self.old.scan) }
+        ensures { self.new ≡ self.old }
+    {
+        if let Some(Told { root: _, rows }) = self.last.take() {
+            self.last = Some(Told {
+                root: at.root(),
+                rows,
+            });
+        }
+        self.mark = at.mark();
+    }
+
+    // The rows that were read there are answered.
+    fn found_new(&mut self, at: &Point<M>, rows: Rows)
+        requires book { self.old.book ≡ at.now.book }
+        requires rows { rows ≡ rows_at M.means (after (record_of at.now.log)) self.old.scan }
+        ensures { self.new ≡ record self.old { last = Some rows } }
+    {
+        self.last = Some(Told {
+            root: at.root(),
+            rows,
+        });
+        self.mark = at.mark();
+    }
+
+    // Answers by the rows that were read there.
+    fn tell(
+        &mut self,
+        alloc: Global,
+        at: &Point<M>,
+        rows: Vec<(Text, Json)>,
+    ) -> Result<Polled, AllocError>
+        requires book { self.old.book ≡ at.now.book }
+        requires rows { rows.items ≡ rows_at M.means (after (record_of at.now.log)) self.old.scan }
+        ensures value { IfOk result (λ polled. polled ≡ poll_reply self.old.last rows.items) }
+        ensures kept { IfOk result (λ polled. self.new ≡ watch_after self.old (Ok polled)) }
+        ensures left { IfErr result (λ _. self.new ≡ self.old) }
+    {
+        if self.has_told(&rows) {
+            self.found_again(at);
+            return Ok(Polled::Unchanged);
+        }
+        let rows = Rows::new(alloc, rows)?;
+        let kept = rows.clone()?;
+        self.found_new(at, kept);
+        Ok(Polled::New(rows))
+    }
+
+    // Asks at a point. Where it is refused the watch is as it was.
+    fn ask<S: Slots<M>>(
+        &mut self,
+        group: &Group<M, S>,
+        at: &Point<M>,
+        tries: u32,
+    ) -> Result<Polled, Refusal>
+        requires book { self.old.book ≡ at.now.book }
+        requires group { at.now.book ≡ group.now.shared.head }
+        ensures value { IfOk result (λ polled. polled ≡ poll_at M.means self.old (after (record_of at.now.log))) }
+        ensures kept { IfOk result (λ polled. self.new ≡ watch_after self.old (Ok polled)) }
+        ensures left { IfErr result (λ _. self.new ≡ self.old) }
+        ensures err { IfErr result (λ e. (e ≡ NoMemory) ⊎ IsMissed S.reused e) }
+    {
+        if self.has_read(at) {
+            return Ok(Polled::Unchanged);
+        }
+        let rows = at.scan(group, &self.scan, tries)?;
+        Ok(self.tell(group.alloc, at, rows)?)
+    }
+}
+
+impl<'g, M: Means, S: Slots<M>> Client<'g, M, S>
+where
+    S::Seat: Drop,
+{
+    /// A watch of a scan, which has answered nothing yet. Nothing is read. Takes no memory.
+    pub fn watch(&self, scan: Scan) -> Watch<M>
+        ensures { result ≡ record { book = self.now.mark.book; scan = scan; last = None } }
+    {
+        Watch::new(scan, &self.mark)
+    }
+
+    /// The rows of the watch's scan, where they are others than those that it answered last, or the first ones; else
+    /// `Unchanged`. They are compared by their keys and compact texts. A refused poll leaves the watch as it was. The
+    /// watch is one of the client's group.
+    pub fn poll(&mut self, watch: &mut Watch<M>, tries: u32) -> Result<Polled, Refusal>
+        requires book { watch.old.book ≡ self.old.mark.book }
+        ensures answer { Answers M.means tries self.old.mark self.new.mark result nothing (λ s. Ok (poll_at M.means watch.old s)) }
+        ensures kept { watch.new ≡ watch_after watch.old result }
+        ensures idle { S.reused → IsIdle (S.view self.new.slots) }
+        ensures seen { IsPrefix self.old.mark.log self.new.mark.log }
+        ensures seat { (self.new.mark.book ≡ self.old.mark.book) × (self.new.mark.seat ≡ self.old.mark.seat) }
+        ensures same { (self.new.group.now ≡ self.old.group.now) × (self.new.id ≡ self.old.id) × (self.new.last ≡ self.old.last) }
+    {
+        let at = self.point(tries)?;
+        let polled = watch.ask(self.group, &at, tries);
+        self.finish();
+        polled
+    }
+}
