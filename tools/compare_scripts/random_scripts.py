@@ -69,6 +69,13 @@ ODD_LINES = (
     "A learn Q",
     "A learn phase",
     "A begin t!",
+    "A watch w",
+    "A watch w! - - -",
+    "A watch w - x -",
+    "A watch w - - +1",
+    "A watch w - - - -",
+    "A poll zz",
+    "A poll",
     "A begin 12345678901234567",
     "A get",
     "A push ",
@@ -97,6 +104,7 @@ class Scripts:
         names = self.random.sample(["A", "B", "C", "client", "get", "x9", "group"], self.pick((1, 2, 2, 3)))
         self.clients = {name: self.pick(UUIDS) for name in names}
         self.tickets = []
+        self.watches = []
         lines = self.header()
         # One client alone has lines in a phase: of two that call at once nothing says which is first.
         for _ in range(self.pick((1, 5, 20, 80, 200))):
@@ -122,8 +130,8 @@ class Scripts:
     def calls(self, name):
         if self.chance(0.03):
             return [self.pick(("", "# note"))]
-        kinds = (self.mutation, self.query, self.pull, self.other_end)
-        [kind] = self.random.choices(kinds, (35, 40, 20, 5))
+        kinds = (self.mutation, self.query, self.pull, self.other_end, self.poll)
+        [kind] = self.random.choices(kinds, (35, 30, 20, 5, 10))
         return kind(name)
 
     def mutation(self, name):
@@ -165,6 +173,14 @@ class Scripts:
         key = self.key().replace(" ", "")
         start = self.pick(("-", f"={key}", f">{key}"))
         return f"{self.pick(('-', 'k', 'k0', 'a', 'é'))} {start} {self.pick(('-', '-', '0', '1', '3', 2**64 - 1))}"
+
+    def poll(self, name):
+        own = [watch for client, watch in self.watches if client == name]
+        if own and self.chance(0.8):
+            return [f"{name} poll {self.pick(own)}"]
+        watch = self.pick(("w", "v", "t"))
+        self.watches.append((name, watch))
+        return [f"{name} watch {watch} {self.scan()}"] + [f"{name} poll {watch}"] * self.chance(0.8)
 
     def pull(self, name):
         ticket = self.pick(("t", "u", "w9"))

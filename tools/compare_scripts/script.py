@@ -8,7 +8,7 @@ from wire import ARGS_DEPTH, NotJson, Refused, compact, is_whole, read_json
 
 HEADER_WORDS = ("group", "profile", "schema", "slots", "client")
 BARE_COMMANDS = ("empty", "closed", "pending", "cookie", "push", "refresh")
-COMMANDS = (*BARE_COMMANDS, "get", "has", "scan", "begin", "end", "mutate", "learn")
+COMMANDS = (*BARE_COMMANDS, "get", "has", "scan", "begin", "end", "mutate", "learn", "watch", "poll")
 
 MOST_SLOTS = 2**24
 MOST_CLIENTS = 256
@@ -40,6 +40,7 @@ class Script:
         self.phases = []
         self.has_said = set()
         self.made_tickets = set()
+        self.made_watches = set()
 
     def read(self, data):
         try:
@@ -118,6 +119,17 @@ class Script:
         expect((client, words[0]) in self.made_tickets, "unknown name")
         return words[0], rest[len(words[0]) + 1 :].encode()
 
+    def read_watch(self, client, words, _rest):
+        expect(words and TICKET.fullmatch(words[0]), "bad words")
+        scan = self.read_scan(client, words[1:], None)
+        self.made_watches.add((client, words[0]))
+        return words[0], scan
+
+    def read_poll(self, client, words, _rest):
+        expect(len(words) == 1 and TICKET.fullmatch(words[0]), "bad words")
+        expect((client, words[0]) in self.made_watches, "unknown name")
+        return words[0]
+
     def read_learn(self, _client, words, _rest):
         expect(len(words) == 1 and NAME.fullmatch(words[0]), "bad words")
         expect(words[0] in self.names, "unknown name")
@@ -158,6 +170,7 @@ class Client:
         self.id = id
         self.last = 0
         self.tickets = {}
+        self.watches = {}
 
     def reply(self, group, command, words):
         try:
@@ -209,6 +222,17 @@ class Client:
 
     def learn(self, _group, _words):
         return "learnt"
+
+    def watch(self, _group, words):
+        name, scan = words
+        self.watches[name] = (scan, None)
+        return "watching"
+
+    def poll(self, group, name):
+        scan, last = self.watches[name]
+        rows = compact(group.scan(*scan))
+        self.watches[name] = (scan, rows)
+        return "unchanged" if rows == last else f"new {rows}"
 
 
 def has_one_order(data):

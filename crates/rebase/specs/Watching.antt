@@ -1,7 +1,8 @@
 -- What a watch answers: the rows of its scan, where they are others than those that it answered last.
 -- This project's own rule; Replicache's subscriptions tell of the same differences.
 use Rattle.std.specs.Prelude.{Bool, false, ◌&&◌, List, Option, Some, None, Result, Ok, Err, if◌then◌else◌}
-use Rattle.std.specs.Cmp.Lexicographic.{pointwise}
+use Rattle.std.specs.Cmp.{IsEquivalence, and_equiv, on_equiv}
+use Rattle.std.specs.Cmp.Lexicographic.{lists_equiv, nat_list_eq_equiv, pointwise}
 use Rattle.logbook.specs.Pages.{Book}
 use Rattle.group_history.specs.declared.refusals.Refusal.{Refusal}
 use Rattle.group_history.specs.declared.scans.Scan.{Scan}
@@ -25,6 +26,9 @@ pub record Watched : Type 0 where
 -- the same rows, one by one: the same keys with the same compact texts
 abbrev pub same_rows : Rows → Rows → Bool
 same_rows = pointwise (λ x y. same_text x.0 y.0 && same_text x.1 y.1)
+
+pub same_rows-equiv : IsEquivalence same_rows
+same_rows-equiv = lists_equiv (and_equiv (on_equiv (λ (x : Bytes × Bytes). x.0) nat_list_eq_equiv) (on_equiv (λ (x : Bytes × Bytes). x.1) nat_list_eq_equiv))
 
 -- whether these rows were answered last
 abbrev pub was_told : Option Rows → Rows → Bool

@@ -5,7 +5,7 @@
 //! keeps that the rows are those of the root (`AreRead`), in what was seen of the book when they were read; of that and
 //! what a client has seen one begins the other.
 ghost use Rattle.std.specs.Prelude.{◌≡◌, ◌⊎◌, Some, None, Ok, true, IfOk, IfErr};
-ghost use Rattle.std.specs.Arc.{arc_value};
+ghost use Rattle.std.specs.Cmp as laws;
 ghost use mathlib.Core.List.{IsPrefix};
 ghost use Rattle.group_history.specs.declared.refusals.Refusal.TheVariants.{NoMemory};
 ghost use Rattle.group_history.specs.Queries.{rows_at};
@@ -14,7 +14,7 @@ ghost use Rattle.head_word.specs.Books.{record_of};
 ghost use Rattle.chunk_slots.specs.Seats.{IsIdle};
 ghost use Rattle.answered.specs.Answered.{Answers, nothing};
 ghost use Rattle.rebase.specs.Queries.{IsMissed};
-ghost use Rattle.rebase.specs.Watching.{Watched, poll_at, poll_reply, was_told, watch_after};
+ghost use Rattle.rebase.specs.Watching.{Watched, poll_at, poll_reply, same_rows, same_rows-equiv, was_told, watch_after};
 
 use crate::client::Client;
 use crate::group::Group;
@@ -34,7 +34,7 @@ pub struct Rows {
 
 impl Model for Rows {
     ghost use Rattle.std.specs.Prelude.{List};
-    ghost use Rattle.std.specs.Arc.{arc_value};
+    ghost use Rattle.std.specs.Cmp as laws;
     ghost use Rattle.group_history.specs.Map.{Bytes};
 
     ghost Value = { List (Bytes × Bytes) };
@@ -43,7 +43,7 @@ impl Model for Rows {
 }
 
 impl Rows {
-    fn new(alloc: Global, rows: Vec<(Text, Json)>) -> Result<Rows, AllocError>
+    pub fn new(alloc: Global, rows: Vec<(Text, Json)>) -> Result<Rows, AllocError>
         ensures { IfOk result (λ shared. shared ≡ rows.items) }
     {
         let shared = Arc::new(alloc, rows)?;
@@ -63,6 +63,17 @@ impl Clone for Rows {
     fn clone(&self) -> Result<Rows, AllocError> {
         let shared = Arc::try_clone(&self.shared)?;
         Ok(Rows { shared })
+    }
+}
+
+/// They are equal where their keys and the compact texts of their values are.
+impl PartialEq for Rows {
+    ghost eq = { same_rows };
+
+    ghost laws = { laws.partial_equiv_from_equiv same_rows-equiv };
+
+    fn eq(&self, other: &Self) -> bool {
+        *self.shared == *other.shared
     }
 }
 
@@ -125,11 +136,11 @@ impl<M: Means> Watch<M> {
         }
     }
 
-    fn has_told(&self, rows: &Vec<(Text, Json)>) -> bool
-        ensures { result ≡ was_told self.now.last rows.now.items }
+    fn has_told(&self, rows: &Rows) -> bool
+        ensures { result ≡ was_told self.now.last rows.now }
     {
         match &self.last {
-            Some(told) => *told.rows.shared == *rows,
+            Some(told) => told.rows == *rows,
             None => false,
         }
     }
@@ -163,15 +174,10 @@ impl<M: Means> Watch<M> {
     }
 
     // Answers by the rows that were read there.
-    fn tell(
-        &mut self,
-        alloc: Global,
-        at: &Point<M>,
-        rows: Vec<(Text, Json)>,
-    ) -> Result<Polled, AllocError>
+    fn tell(&mut self, at: &Point<M>, rows: Rows) -> Result<Polled, AllocError>
         requires book { self.old.book ≡ at.now.book }
-        requires rows { rows.items ≡ rows_at M.means (after (record_of at.now.log)) self.old.scan }
-        ensures value { IfOk result (λ polled. polled ≡ poll_reply self.old.last rows.items) }
+        requires rows { rows ≡ rows_at M.means (after (record_of at.now.log)) self.old.scan }
+        ensures value { IfOk result (λ polled. polled ≡ poll_reply self.old.last rows) }
         ensures kept { IfOk result (λ polled. self.new ≡ watch_after self.old (Ok polled)) }
         ensures left { IfErr result (λ _. self.new ≡ self.old) }
     {
@@ -179,7 +185,6 @@ impl<M: Means> Watch<M> {
             self.found_again(at);
             return Ok(Polled::Unchanged);
         }
-        let rows = Rows::new(alloc, rows)?;
         let kept = rows.clone()?;
         self.found_new(at, kept);
         Ok(Polled::New(rows))
@@ -203,7 +208,27 @@ impl<M: Means> Watch<M> {
             return Ok(Polled::Unchanged);
         }
         let rows = at.scan(group, &self.scan, tries)?;
-        Ok(self.tell(group.alloc, at, rows)?)
+        Ok(self.tell(at, Rows::new(group.alloc, rows)?)?)
+    }
+}
+
+impl<M: Means> Clone for Watch<M> {
+    ghost is_clone = { λ watch copy. copy ≡ watch };
+
+    fn clone(&self) -> Result<Watch<M>, AllocError> {
+        let scan = self.scan.clone()?;
+        let last = match &self.last {
+            Some(told) => Some(Told {
+                root: told.root,
+                rows: told.rows.clone()?,
+            }),
+            None => None,
+        };
+        Ok(Watch {
+            scan,
+            mark: self.mark.copy(),
+            last,
+        })
     }
 }
 

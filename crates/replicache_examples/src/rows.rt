@@ -13,7 +13,7 @@ pub(crate) const STORIES: [&str; 6] = [
     "closed",
 ];
 
-pub(crate) const ROWS: [&str; 36] = [
+pub(crate) const ROWS: [&str; 38] = [
     "first_pull",
     "empty",
     "counted_lines",
@@ -50,6 +50,8 @@ pub(crate) const ROWS: [&str; 36] = [
     "deep_bodies_127",
     "mutators_done",
     "mutators_refused",
+    "watches",
+    "polls",
 ];
 
 /// Says whether a script prints what stands beside it. It runs on the threads of `on`.

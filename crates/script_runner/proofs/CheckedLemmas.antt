@@ -6,15 +6,19 @@ use Rattle.std.proofs.lemmas.Bool.{ltb-true, eqb-true}
 use Rattle.std.proofs.lemmas.Bool.Decides.{nat_tests}
 use Rattle.std.proofs.lemmas.List.{length-append, length-replicate}
 use Rattle.std.proofs.lemmas.List.Elements.{All-nil, All-push, All-replicate}
+use Rattle.group_history.specs.declared.scans.Scan.{Scan}
 use Rattle.group_history.specs.Map.{Bytes, same_text}
 use Rattle.group_history.specs.Refs.{max_slots, max_seats}
 use Rattle.script_runner.specs.declared.faults.ScriptFault.{ScriptFault}
 use Rattle.script_runner.specs.declared.faults.ScriptFault.TheVariants as text
 use Rattle.script_runner.specs.declared.script.Command.{Command}
-use Rattle.script_runner.specs.Words.{word, more, is_number}
+use Rattle.script_runner.specs.declared.script.Command.TheVariants as command
+use Rattle.script_runner.specs.declared.script.Query.TheVariants as query
+use Rattle.script_runner.specs.Words.{word, more, is_number, is_ticket_name}
+use Rattle.script_runner.specs.Words.{text as text_of}
 use Rattle.script_runner.specs.Context.{Context, Lines, nothing_said, place_of}
 use Rattle.script_runner.specs.Header.{group_line, profile_line, schema_line, slots_line, client_line, header_line}
-use Rattle.script_runner.specs.Commands.{Told, phase_line, get_line, has_line, scan_line, begin_line, end_line, mutate_line, learn_line, bare_command, told_bare, bare_line, look_line, named_command, command_of, changed_at, with_line, said_by, command_at, command_line}
+use Rattle.script_runner.specs.Commands.{Told, phase_line, get_line, has_line, scan_words, with_scan, scan_line, begin_line, end_line, watch_line, poll_line, mutate_line, learn_line, bare_command, told_bare, bare_line, look_line, named_command, command_of, changed_at, with_line, said_by, command_at, command_line}
 use Rattle.script_runner.specs.Faults.{is_skipped, words_line, said_with, said_after, lines_of, said_in, line_of_bad_byte, script_said}
 use Rattle.script_runner.specs.Inside.Parsing.{LearnsWithin}
 use Rattle.script_runner.proofs.Changes.{length-changed_at, All-changed_at}
@@ -46,9 +50,17 @@ has_line-sound : (c : Context) (rest : Option Bytes) → Sound c → IfOk (has_l
 unfolding has_line
 has_line-sound c rest sound = search (rules, IfOk-if)
 
+with_scan-sound : (said : Scan → Context × Command) (scan : Result Scan ScriptFault) → ((x : Scan) → SoundWith (said x)) → IfOk (with_scan said scan) SoundWith
+with_scan-sound said (Ok scan) sound = sound scan
+with_scan-sound said (Err f) sound = tt
+
 scan_line-sound : (c : Context) (rest : Option Bytes) → Sound c → IfOk (scan_line c rest) SoundWith
 unfolding scan_line
-scan_line-sound c rest sound = search (rules, IfOk-if)
+scan_line-sound c rest sound = with_scan-sound (λ scan. (c, command.Query (query.Scan scan))) (scan_words rest) (λ scan. (sound, tt))
+
+poll_line-sound : (c : Context) (client : ℕ) (rest : Option Bytes) → Sound c → IfOk (poll_line c client rest) SoundWith
+unfolding poll_line
+poll_line-sound c client rest sound = search (rules, IfOk-if)
 
 mutate_line-sound : (c : Context) (rest : Option Bytes) → Sound c → IfOk (mutate_line c rest) SoundWith
 unfolding mutate_line
@@ -58,9 +70,19 @@ end_line-sound : (c : Context) (client : ℕ) (rest : Option Bytes) → Sound c 
 unfolding end_line
 end_line-sound c client rest sound = search (rules, IfOk-if)
 
--- tickets are of no matter
+-- tickets and watches are of no matter
 Sound-made : (c : Context) (made : List (ℕ × Bytes)) → Sound c → Sound (record c { tickets = made })
 Sound-made c made sound = record { each_client = sound.each_client; seats = sound.seats; slots = sound.slots; learnt = sound.learnt }
+
+Sound-watched : (c : Context) (made : List (ℕ × Bytes)) → Sound c → Sound (record c { watches = made })
+Sound-watched c made sound = record { each_client = sound.each_client; seats = sound.seats; slots = sound.slots; learnt = sound.learnt }
+
+watch_line-sound : (c : Context) (client : ℕ) (rest : Option Bytes) → Sound c → IfOk (watch_line c client rest) SoundWith
+unfolding watch_line
+watch_line-sound c client rest sound =
+    let name = word (text_of rest) in let made = c.watches ++ (client, name) ∷ [] in
+    IfOk-if (is_ticket_name name) (with_scan (λ scan. (record c { watches = made }, command.Watch name scan)) (scan_words (more (text_of rest)))) (Err text.BadWords) SoundWith
+    (λ is. with_scan-sound (λ scan. (record c { watches = made }, command.Watch name scan)) (scan_words (more (text_of rest))) (λ scan. (Sound-watched c made sound, tt))) (λ other. tt)
 
 begin_line-sound : (c : Context) (client : ℕ) (rest : Option Bytes) → Sound c → IfOk (begin_line c client rest) SoundWith
 unfolding begin_line
@@ -93,11 +115,11 @@ bare_line-sound c name rest sound = told_bare-sound c (bare_command name) rest s
 
 look_line-sound : (c : Context) (name : Bytes) (rest : Option Bytes) → Sound c → IfOk (look_line c name rest) SoundWith
 unfolding look_line
-look_line-sound c name rest sound = search (rules, IfOk-if, get_line-sound, has_line-sound, scan_line-sound, learn_line-sound, bare_line-sound)
+look_line-sound c name rest sound = search (rules, IfOk-if, get_line-sound, has_line-sound, scan_line-sound, learn_line-sound, mutate_line-sound, bare_line-sound)
 
 named_command-sound : (c : Context) (client : ℕ) (name : Bytes) (rest : Option Bytes) → Sound c → IfOk (named_command c client name rest) SoundWith
 unfolding named_command
-named_command-sound c client name rest sound = search (rules, IfOk-if, begin_line-sound, end_line-sound, mutate_line-sound, look_line-sound)
+named_command-sound c client name rest sound = search (rules, IfOk-if, begin_line-sound, end_line-sound, watch_line-sound, poll_line-sound, look_line-sound)
 
 command_of-sound : (c : Context) (client : ℕ) (rest : Option Bytes) → Sound c → IfOk (command_of c client rest) SoundWith
 unfolding command_of

@@ -11,7 +11,7 @@ use Rattle.script_runner.specs.declared.faults.Fault.{Fault}
 use Rattle.script_runner.specs.declared.phase.Turn.{Turn}
 use Rattle.script_runner.specs.declared.script.Phase.{Phase}
 use Rattle.script_runner.specs.declared.script.Script.{Script}
-use Rattle.script_runner.specs.Callers.{Learns, MayReply, Standing}
+use Rattle.script_runner.specs.Callers.{shared_rules, Standing}
 use Rattle.script_runner.specs.Commanding.{Player}
 use Rattle.script_runner.specs.Context.{Context}
 use Rattle.script_runner.specs.Phases.{AreWritten, HasWhole}
@@ -55,13 +55,13 @@ module _ {C : Type 0} (turns : List (Turn C)) (stands : C → Standing) (book : 
     -- a run to the end
     pub has_run : (slice : List (Turn C)) (phases : List Phase) (closed : List Player) (r : Result (Unit {0}) Fault) (said : Context) (old after : Option Bytes) → slice ≡ turns → phases ≡ script.phases.items → IsScript said script
         → identity ≡ identity_of script.header.group script.header.profile script.header.schema
-        → OnOk r ((text : Bytes) × AreWritten MayReply Learns (players_of stands slice) (map phase_said phases) text closed × Appends old after text) → OnOk r (HasRun said old after)
+        → OnOk r ((text : Bytes) × AreWritten shared_rules (players_of stands slice) (map phase_said phases) text closed × Appends old after text) → OnOk r (HasRun said old after)
     has_run slice phases closed (Ok x) said old after is so script_is writes ran = record {
       opened = players_of stands turns;
       are = are_new said script_is writes;
       text = ran.0;
       closed = closed;
-      written = subst (λ w. AreWritten MayReply Learns (players_of stands turns) w ran.0 closed) (ap (map phase_said) so ∙ script_is.phases) (subst (λ w. AreWritten MayReply Learns (players_of stands w) (map phase_said phases) ran.0 closed) is ran.1);
+      written = subst (λ w. AreWritten shared_rules (players_of stands turns) w ran.0 closed) (ap (map phase_said) so ∙ script_is.phases) (subst (λ w. AreWritten shared_rules (players_of stands w) (map phase_said phases) ran.0 closed) is ran.1);
       appended = ran.2;
     }
     has_run slice phases closed (Err e) said old after is so script_is writes ran = tt
@@ -69,12 +69,12 @@ module _ {C : Type 0} (turns : List (Turn C)) (stands : C → Standing) (book : 
     -- one that memory ended
     pub has_stopped : (slice : List (Turn C)) (phases : List Phase) (said : Context) (old after : Option Bytes) → slice ≡ turns → phases ≡ script.phases.items → IsScript said script
         → identity ≡ identity_of script.header.group script.header.profile script.header.schema
-        → HasWhole MayReply Learns (players_of stands slice) (map phase_said phases) old after → HasStopped said old after
+        → HasWhole shared_rules (players_of stands slice) (map phase_said phases) old after → HasStopped said old after
     has_stopped slice phases said old after is so script_is writes ran =
         inr (
           players_of stands turns,
           record {
             are = are_new said script_is writes;
-            written = subst (λ w. HasWhole MayReply Learns (players_of stands turns) w old after) (ap (map phase_said) so ∙ script_is.phases) (subst (λ w. HasWhole MayReply Learns (players_of stands w) (map phase_said phases) old after) is ran);
+            written = subst (λ w. HasWhole shared_rules (players_of stands turns) w old after) (ap (map phase_said) so ∙ script_is.phases) (subst (λ w. HasWhole shared_rules (players_of stands w) (map phase_said phases) old after) is ran);
           },
         )

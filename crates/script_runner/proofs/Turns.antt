@@ -17,7 +17,7 @@ use Rattle.script_runner.specs.declared.phase.Turn.{Turn}
 use Rattle.script_runner.specs.declared.script.Command.{Command}
 use Rattle.script_runner.specs.declared.script.Line.{Line}
 use Rattle.script_runner.specs.declared.script.Phase.{Phase}
-use Rattle.script_runner.specs.Callers.{Standing, sight_of}
+use Rattle.script_runner.specs.Callers.{Rules, Standing, sight_of}
 use Rattle.script_runner.specs.Commanding.{MayPrint, Player}
 use Rattle.script_runner.specs.Context.{Lines}
 use Rattle.script_runner.specs.Phases.{AreTold, AreWritten, IsPhase, all_seen}
@@ -73,15 +73,15 @@ appends-kept (Some x) None c xs h k = absurd h
 appends-kept (Some x) (Some y) None xs h k = absurd k
 appends-kept (Some x) (Some y) (Some z) xs h k = k ∙ h
 
-module _ (may_reply : Standing → Call → Result Replied Refusal → Standing → Type 0) (learns : Standing → Known → Standing → Type 0) where
+module _ (law : Rules) where
   -- one line more
-  told_more : (seen : List Known) (c mid end : Player) (ls : Lines) (text : Bytes) (l : ℕ × Command) (told : Bytes) → AreTold may_reply learns seen c ls text mid
-      → MayPrint may_reply learns seen mid l.1 told end → end.name ≡ mid.name → AreTold may_reply learns seen c (ls ++ l ∷ []) (text ++ line_text l.0 mid.name told) end
+  told_more : (seen : List Known) (c mid end : Player) (ls : Lines) (text : Bytes) (l : ℕ × Command) (told : Bytes) → AreTold law seen c ls text mid
+      → MayPrint law seen mid l.1 told end → end.name ≡ mid.name → AreTold law seen c (ls ++ l ∷ []) (text ++ line_text l.0 mid.name told) end
   told_more seen c mid end [] text l told h may name = (
     told,
     end,
     [],
-    subst (λ w. MayPrint may_reply learns seen w l.1 told end) h.1 may,
+    subst (λ w. MayPrint law seen w l.1 told end) h.1 may,
     name ∙ ap (λ w. w.name) h.1,
     ap (λ w. w ++ line_text l.0 mid.name told) h.0 ∙ ap (λ w. line_text l.0 w.name told) h.1 ∙ sym (append-nil (line_text l.0 c.name told)),
     (refl, refl),
@@ -98,26 +98,26 @@ module _ (may_reply : Standing → Call → Result Replied Refusal → Standing 
 
   -- a turn of the loop over the lines
   pub line-more : (seen : List Known) (c mid end : Player) (all : List Line) (i : ℕ) (l : Line) (old new : Bytes) → i < length all → l ≡ get_or all i l
-      → AreTold may_reply learns seen c (map line_said (take i all)) old mid → IsTold may_reply learns seen mid (line_said l) old new end → AreTold may_reply learns seen c (map line_said (take (i + 1) all)) new end
+      → AreTold law seen c (map line_said (take i all)) old mid → IsTold law seen mid (line_said l) old new end → AreTold law seen c (map line_said (take (i + 1) all)) new end
   line-more seen c mid end all i l old new k q h a =
       let front = ap (map line_said) (take_more all i l k ∙ ap (λ w. take i all ++ w ∷ []) (sym q)) ∙ map-append line_said (take i all) (l ∷ []) in
-      subst (λ w. AreTold may_reply learns seen c w new end) (sym front)
-      (subst (λ w. AreTold may_reply learns seen c (map line_said (take i all) ++ line_said l ∷ []) w end) (sym a.text) (told_more seen c mid end (map line_said (take i all)) old (line_said l) a.told h a.may a.name))
+      subst (λ w. AreTold law seen c w new end) (sym front)
+      (subst (λ w. AreTold law seen c (map line_said (take i all) ++ line_said l ∷ []) w end) (sym a.text) (told_more seen c mid end (map line_said (take i all)) old (line_said l) a.told h a.may a.name))
 
   -- one phase more
-  written_more : (before mid after : List Player) (ps : List (List Lines)) (text : Bytes) (p : List Lines) (texts : List Bytes) → AreWritten may_reply learns before ps text mid → IsPhase may_reply learns p mid texts after
-      → AreWritten may_reply learns before (ps ++ p ∷ []) (text ++ concat texts) after
+  written_more : (before mid after : List Player) (ps : List (List Lines)) (text : Bytes) (p : List Lines) (texts : List Bytes) → AreWritten law before ps text mid → IsPhase law p mid texts after
+      → AreWritten law before (ps ++ p ∷ []) (text ++ concat texts) after
   written_more before mid after [] text p texts h a =
-      (texts, after, [], subst (λ w. IsPhase may_reply learns p w texts after) h.1 a, ap (λ w. w ++ concat texts) h.0 ∙ sym (append-nil (concat texts)), (refl, refl))
+      (texts, after, [], subst (λ w. IsPhase law p w texts after) h.1 a, ap (λ w. w ++ concat texts) h.0 ∙ sym (append-nil (concat texts)), (refl, refl))
   written_more before mid after (q ∷ ps) text p texts h a =
       (h.0, h.1, h.2 ++ concat texts, h.3, ap (λ w. w ++ concat texts) h.4 ∙ append_assoc (concat h.0) h.2 (concat texts), written_more h.1 mid after ps h.2 p texts h.5 a)
 
   -- a turn of the loop over the phases
   pub phase-more : (before mid after : List Player) (all : List Phase) (i : ℕ) (text : Bytes) (p : Phase) (texts : List Bytes) → i < length all → p ≡ get_or all i p
-      → AreWritten may_reply learns before (map phase_said (take i all)) text mid → IsPhase may_reply learns (phase_said p) mid texts after → AreWritten may_reply learns before (map phase_said (take (i + 1) all)) (text ++ concat texts) after
+      → AreWritten law before (map phase_said (take i all)) text mid → IsPhase law (phase_said p) mid texts after → AreWritten law before (map phase_said (take (i + 1) all)) (text ++ concat texts) after
   phase-more before mid after all i text p texts k q h a =
       let front = ap (map phase_said) (take_more all i p k ∙ ap (λ w. take i all ++ w ∷ []) (sym q)) ∙ map-append phase_said (take i all) (p ∷ []) in
-      subst (λ w. AreWritten may_reply learns before w (text ++ concat texts) after) (sym front) (written_more before mid after (map phase_said (take i all)) text (phase_said p) texts h a)
+      subst (λ w. AreWritten law before w (text ++ concat texts) after) (sym front) (written_more before mid after (map phase_said (take i all)) text (phase_said p) texts h a)
 
 -- A PHASE
 
@@ -147,26 +147,26 @@ module _ {C : Type 0} (stands : C → Standing) where
   lent seen_by turns seen i t k d is one below at in_seen =
       one_group seen_by one.0 turns seen is one.1 t (subst (λ u. (stands u.client.caller).mark.book ≡ one.0) (sym at) (one.1 i t below)) k d in_seen
 
-  module _ (may_reply : Standing → Call → Result Replied Refusal → Standing → Type 0) (learns : Standing → Known → Standing → Type 0) where
+  module _ (law : Rules) where
     -- a client's part of a phase, as it stands in the lists
     pub part : (seen : List Known) (old new : List (Turn C)) (lines : List (Vec Line)) (i : ℕ) (d : Turn C) (own : Vec Line) → i < length old → i < length new → i < length lines
-        → IsTurn may_reply learns stands seen (slice_index_or lines i own).items (slice_index_or old i d).client (slice_index_or new i d) → IsPrinted (slice_index_or new i d)
-        → (l : Lines) (b : Player) (t : Bytes) (a : Player) → AreTold may_reply learns seen (slice_index_or (players_of stands old) i b) (slice_index_or (lines_said lines) i l) (slice_index_or (texts_of new) i t) (slice_index_or (players_of stands new) i a)
+        → IsTurn law stands seen (slice_index_or lines i own).items (slice_index_or old i d).client (slice_index_or new i d) → IsPrinted (slice_index_or new i d)
+        → (l : Lines) (b : Player) (t : Bytes) (a : Player) → AreTold law seen (slice_index_or (players_of stands old) i b) (slice_index_or (lines_said lines) i l) (slice_index_or (texts_of new) i t) (slice_index_or (players_of stands new) i a)
     part seen old new lines i d own in_old in_new in_lines turn printed l b t a =
         let before : slice_index_or (players_of stands old) i b ≡ player_of stands (slice_index_or old i d).client = get_or-map (λ u. player_of stands u.client) old i d b in_old in
         let said : slice_index_or (lines_said lines) i l ≡ map line_said (slice_index_or lines i own).items = get_or-map (λ ls. map line_said ls.items) lines i own l in_lines in
         let text : slice_index_or (texts_of new) i t ≡ printed_text (slice_index_or new i d).printed = get_or-map (λ u. printed_text u.printed) new i d t in_new in
         let after : slice_index_or (players_of stands new) i a ≡ player_of stands (slice_index_or new i d).client = get_or-map (λ u. player_of stands u.client) new i d a in_new in
-        let told = told_of (λ w. AreTold may_reply learns seen (player_of stands (slice_index_or old i d).client) (map line_said (slice_index_or lines i own).items) w (player_of stands (slice_index_or new i d).client)) (slice_index_or new i d).printed printed turn.told in
-        subst (λ w. AreTold may_reply learns seen w (slice_index_or (lines_said lines) i l) (slice_index_or (texts_of new) i t) (slice_index_or (players_of stands new) i a)) (sym before)
-        (subst (λ w. AreTold may_reply learns seen (player_of stands (slice_index_or old i d).client) w (slice_index_or (texts_of new) i t) (slice_index_or (players_of stands new) i a)) (sym said)
-        (subst (λ w. AreTold may_reply learns seen (player_of stands (slice_index_or old i d).client) (map line_said (slice_index_or lines i own).items) w (slice_index_or (players_of stands new) i a)) (sym text)
-        (subst (λ w. AreTold may_reply learns seen (player_of stands (slice_index_or old i d).client) (map line_said (slice_index_or lines i own).items) (printed_text (slice_index_or new i d).printed) w) (sym after) told)))
+        let told = told_of (λ w. AreTold law seen (player_of stands (slice_index_or old i d).client) (map line_said (slice_index_or lines i own).items) w (player_of stands (slice_index_or new i d).client)) (slice_index_or new i d).printed printed turn.told in
+        subst (λ w. AreTold law seen w (slice_index_or (lines_said lines) i l) (slice_index_or (texts_of new) i t) (slice_index_or (players_of stands new) i a)) (sym before)
+        (subst (λ w. AreTold law seen (player_of stands (slice_index_or old i d).client) w (slice_index_or (texts_of new) i t) (slice_index_or (players_of stands new) i a)) (sym said)
+        (subst (λ w. AreTold law seen (player_of stands (slice_index_or old i d).client) (map line_said (slice_index_or lines i own).items) w (slice_index_or (players_of stands new) i a)) (sym text)
+        (subst (λ w. AreTold law seen (player_of stands (slice_index_or old i d).client) (map line_said (slice_index_or lines i own).items) (printed_text (slice_index_or new i d).printed) w) (sym after) told)))
 
     -- a phase, by each client's part of it
     pub phase : (seen : List Known) (old new : List (Turn C)) (lines : List (Vec Line)) → seen ≡ all_seen (players_of stands old) → length new ≡ length old → length old ≡ length lines
-        → ((i : ℕ) (d : Turn C) (own : Vec Line) → i < length old → IsTurn may_reply learns stands seen (slice_index_or lines i own).items (slice_index_or old i d).client (slice_index_or new i d)) → All IsPrinted new
-        → IsPhase may_reply learns (lines_said lines) (players_of stands old) (texts_of new) (players_of stands new)
+        → ((i : ℕ) (d : Turn C) (own : Vec Line) → i < length old → IsTurn law stands seen (slice_index_or lines i own).items (slice_index_or old i d).client (slice_index_or new i d)) → All IsPrinted new
+        → IsPhase law (lines_said lines) (players_of stands old) (texts_of new) (players_of stands new)
     phase seen old new lines is as_many enough turns printed =
         let olds = length-map old (λ u. player_of stands u.client) in let news = length-map new (λ u. player_of stands u.client) in let texts = length-map new (λ u. printed_text u.printed) in
         record {
@@ -177,13 +177,13 @@ module _ {C : Type 0} (stands : C → Standing) where
               let in_new : i < length new = omega (in_old, as_many, arith) in
               let in_lines : i < length lines = omega (in_old, enough, arith) in
               let d = some_of old i in_old in let own = some_of lines i in_lines in
-              subst (λ ss. AreTold may_reply learns ss (slice_index_or (players_of stands old) i b) (slice_index_or (lines_said lines) i l) (slice_index_or (texts_of new) i t) (slice_index_or (players_of stands new) i a)) is
+              subst (λ ss. AreTold law ss (slice_index_or (players_of stands old) i b) (slice_index_or (lines_said lines) i l) (slice_index_or (texts_of new) i t) (slice_index_or (players_of stands new) i a)) is
               (part seen old new lines i d own in_old in_new in_lines (turns i d own in_old) (printed i d in_new) l b t a);
         }
 
     -- and they are of one group still
     pub still_one : (seen : List Known) (old new : List (Turn C)) (lines : List (Vec Line)) → length new ≡ length old → length old ≡ length lines
-        → ((i : ℕ) (d : Turn C) (own : Vec Line) → i < length old → IsTurn may_reply learns stands seen (slice_index_or lines i own).items (slice_index_or old i d).client (slice_index_or new i d))
+        → ((i : ℕ) (d : Turn C) (own : Vec Line) → i < length old → IsTurn law stands seen (slice_index_or lines i own).items (slice_index_or old i d).client (slice_index_or new i d))
         → (book : Book) → AreOf stands book old → AreOf stands book new
     still_one seen old new lines as_many enough turns book of_one i d below =
         let in_old : i < length old = omega (below, as_many, arith) in

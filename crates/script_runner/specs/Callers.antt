@@ -1,27 +1,58 @@
--- How a client stands between its calls, what a call of it may reply, and how that leaves it.
-use Rattle.std.specs.Prelude.{ℕ, ◌≡◌, [], Result, None}
+-- How a client stands between its calls, what its calls may reply, and how they leave it.
+use Rattle.std.specs.Prelude.{ℕ, ◌≡◌, true, [], Result, Ok, Err, None}
+use Rattle.std.specs.Cmp.Lexicographic.{slice_cmp}
+use Rattle.std.specs.FinMap as finite
+use Rattle.std.specs.Ordering.{nat_cmp}
 use mathlib.Core.List.{IsPrefix}
 use Rattle.logbook.specs.Pages.{Book}
 use Rattle.group_history.specs.declared.refusals.Refusal.{Refusal}
+use Rattle.group_history.specs.declared.scans.Scan.{Scan}
 use Rattle.group_history.specs.Map.{Bytes}
 use Rattle.group_history.specs.State.{State}
 use Rattle.head_word.specs.Marks.{Known, known}
 use Rattle.push_body.specs.declared.identities.Identity.{Identity}
-use Rattle.answered.specs.Answered.{Answers, own_moves}
+use Rattle.answered.specs.Answered.{Answers, is_want, nothing, own_moves}
 use Rattle.rebase.specs.Calls.{Caller, IsLater, IsReplyTo, caller, change_of, last_after, reply_to}
 use Rattle.rebase.specs.Replies.{Replied}
 use Rattle.rebase.specs.declared.calls.Call.{Call}
 use Rattle.rebase.specs.declared.calls.Call.TheVariants as call
+use Rattle.rebase.specs.declared.watching.Polled.{Polled}
+use Rattle.rebase.specs.Watching.{Watched, poll_at, watch_after}
 use Rattle.script_mutators.specs.Mutators.{script_means}
 
--- A client: whose requests its group writes, its ID, its own last id, and what it has seen of the group's book.
+-- watches, by their names
+abbrev pub Watches : Type 0
+Watches = finite.FinMap (slice_cmp nat_cmp) Watched
+
+-- A client: whose requests its group writes, its ID, its own last id, what it has seen of the group's book, and its watches.
 pub record Standing : Type 0 where
   pub caller : Caller
   pub mark : Known
+  pub watches : Watches
+
+-- it has a watch more of this name, which has answered nothing yet
+abbrev pub watching : Bytes → Scan → Standing → Standing
+watching name scan c = record c { watches = finite.insert c.watches name (record { book = c.mark.book; scan = scan; last = None }) }
+
+-- it has no watch of this name
+abbrev pub unwatched : Bytes → Standing → Standing
+unwatched name c = record c { watches = finite.remove c.watches name }
+
+-- the watches after a poll of one: it keeps what was answered, and a refused poll leaves it as it was
+abbrev pub watches_after : Bytes → Watched → Watches → Result Polled Refusal → Watches
+watches_after name watch watches (Ok polled) = finite.insert watches name (watch_after watch (Ok polled))
+watches_after name watch watches (Err e) = watches
 
 -- what others learn from a client: what it has seen
 abbrev pub sight_of : Standing → Known
 sight_of c = known c.mark.book c.mark.log None
+
+-- The rules of a group: what its clients' calls and their polls may reply, and how a client stands then; and how a client
+-- stands that has learnt what another one had seen.
+pub record Rules : Type 1 where
+  pub may_reply : Standing → Call → Result Replied Refusal → Standing → Type 0
+  pub may_poll : Bytes → Watched → Standing → Result Polled Refusal → Standing → Type 0
+  pub learns : Standing → Known → Standing → Type 0
 
 -- how often a call tries: one that waits goes on until others are out of its way
 abbrev pub tries_of : Call → ℕ
@@ -34,6 +65,14 @@ pub record MayReply (before : Standing) (asked : Call) (reply : Result Replied R
   pub answer : Answers script_means (tries_of asked) before.mark after.mark reply (change_of before.caller asked) (λ s. reply_to script_means before.caller s asked)
   pub caller : after.caller ≡ caller before.caller.identity before.caller.client (last_after before.caller.last reply)
   pub later : IsLater before.mark after.mark
+  pub watches : after.watches ≡ before.watches
+
+-- The poll of a watch is answered rightly at a point of the group's record.
+pub record MayPoll (name : Bytes) (watch : Watched) (before : Standing) (reply : Result Polled Refusal) (after : Standing) : Type 0 where
+  pub answer : Answers script_means 1000000 before.mark after.mark reply nothing (λ s. Ok (poll_at script_means watch s))
+  pub caller : after.caller ≡ before.caller
+  pub later : IsLater before.mark after.mark
+  pub watches : after.watches ≡ watches_after name watch before.watches reply
 
 -- The client has seen what another one had seen too, and made no change.
 pub record Learns (before : Standing) (other : Known) (after : Standing) : Type 0 where
@@ -41,6 +80,11 @@ pub record Learns (before : Standing) (other : Known) (after : Standing) : Type 
   pub later : IsLater before.mark after.mark
   pub moves : own_moves after.mark ≡ own_moves before.mark
   pub caller : after.caller ≡ before.caller
+  pub watches : after.watches ≡ before.watches
+
+-- the rules of a group whose clients may all call at the same time
+abbrev pub shared_rules : Rules
+shared_rules = record { may_reply = MayReply; may_poll = MayPoll; learns = Learns }
 
 -- A client of a plain group, which is no group of a book: the call is answered rightly at some state.
 pub record MayReplyPlainly (before : Standing) (asked : Call) (reply : Result Replied Refusal) (after : Standing) : Type 0 where
@@ -48,13 +92,29 @@ pub record MayReplyPlainly (before : Standing) (asked : Call) (reply : Result Re
   pub at : State
   pub answer : IsReplyTo reply (reply_to script_means (caller identity before.caller.client before.caller.last) at asked)
   pub caller : after.caller ≡ caller before.caller.identity before.caller.client (last_after before.caller.last reply)
+  pub watches : after.watches ≡ before.watches
+
+-- a poll is answered rightly, or refused for want of something
+abbrev pub IsPolled : Result Polled Refusal → Polled → Type 0
+IsPolled (Ok polled) right = right ≡ polled
+IsPolled (Err e) right = is_want e ≡ true
+
+-- a poll too
+pub record MayPollPlainly (name : Bytes) (watch : Watched) (before : Standing) (reply : Result Polled Refusal) (after : Standing) : Type 0 where
+  pub at : State
+  pub answer : IsPolled reply (poll_at script_means watch at)
+  pub caller : after.caller ≡ before.caller
+  pub watches : after.watches ≡ watches_after name watch before.watches reply
 
 -- it sees everything, so it has nothing to learn
 abbrev pub LearnsNothing : Standing → Known → Standing → Type 0
 LearnsNothing before other after = after ≡ before
 
+abbrev pub plain_rules : Rules
+plain_rules = record { may_reply = MayReplyPlainly; may_poll = MayPollPlainly; learns = LearnsNothing }
+
 abbrev pub no_book : Book
 no_book = record { number = 0; log_name = 0; cells_name = 0 }
 
-abbrev pub plain_standing : Bytes → ℕ → Standing
-plain_standing id last = record { caller = caller (record { group = []; profile = []; schema = [] }) id last; mark = known no_book [] None }
+abbrev pub plain_standing : Bytes → ℕ → Watches → Standing
+plain_standing id last watches = record { caller = caller (record { group = []; profile = []; schema = [] }) id last; mark = known no_book [] None; watches = watches }

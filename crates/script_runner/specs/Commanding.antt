@@ -5,19 +5,22 @@ use Rattle.std.specs.FinMap as finite
 use Rattle.std.specs.Ordering.{nat_cmp}
 use Rattle.group_history.specs.declared.refusals.Refusal.{Refusal}
 use Rattle.group_history.specs.declared.refusals.Refusal.TheVariants.{NoMemory}
+use Rattle.group_history.specs.declared.scans.Scan.{Scan}
 use Rattle.group_history.specs.Map.{Bytes}
 use Rattle.head_word.specs.Marks.{Known}
 use Rattle.rebase.specs.Replies.{Replied, ticket}
 use Rattle.rebase.specs.declared.calls.Call.{Call}
 use Rattle.rebase.specs.declared.calls.Call.TheVariants as call
 use Rattle.rebase.specs.declared.tickets.Ticket.{Ticket}
+use Rattle.rebase.specs.declared.watching.Polled.{Polled}
+use Rattle.rebase.specs.Watching.{Watched}
 use Rattle.script_runner.specs.declared.script.Call.{Call as Mutation}
 use Rattle.script_runner.specs.declared.script.Command.{Command}
 use Rattle.script_runner.specs.declared.script.Command.TheVariants as command
 use Rattle.script_runner.specs.declared.script.Query.{Query}
 use Rattle.script_runner.specs.declared.script.Query.TheVariants as query
-use Rattle.script_runner.specs.Callers.{Standing}
-use Rattle.script_runner.specs.Printing.{answer_text, refreshed_text, refused_text}
+use Rattle.script_runner.specs.Callers.{Rules, Standing, unwatched, watching}
+use Rattle.script_runner.specs.Printing.{answer_text, polled_text, refreshed_text, refused_text}
 
 -- the tickets of a client, by their names
 abbrev pub Tickets : Type 0
@@ -59,21 +62,26 @@ IsBegun tickets name (Ok (ticket asked)) text after =
     ⊎ ((text ≡ refused_text NoMemory) × (after ≡ tickets))
 IsBegun tickets name answer text after = (text ≡ answer_text answer) × (after ≡ tickets)
 
--- The rules of a group: what its clients' calls may reply, and how a client stands that has learnt what another one had seen.
-module _ (may_reply : Standing → Call → Result Replied Refusal → Standing → Type 0) (learns : Standing → Known → Standing → Type 0) where
+-- A watch is kept under a name; where memory is refused for it there is none of that name. Nothing is read.
+pub record MayWatch (name : Bytes) (scan : Scan) (before : Player) (text : Bytes) (after : Player) : Type 0 where
+  pub kept : ((text ≡ codes "watching") × (after.standing ≡ watching name scan before.standing)) ⊎ ((text ≡ refused_text NoMemory) × (after.standing ≡ unwatched name before.standing))
+  pub tickets : after.tickets ≡ before.tickets
+
+-- By the rules of a group.
+module _ (law : Rules) where
   -- one call is made, and what is printed tells its answer
   pub record HandsOn (asks : Call → Type 0) (print : Result Replied Refusal → Bytes) (before : Player) (text : Bytes) (after : Player) : Type 0 where
     pub made : Call
     pub asked : asks made
     pub answer : Result Replied Refusal
-    pub may : may_reply before.standing made answer after.standing
+    pub may : law.may_reply before.standing made answer after.standing
     pub printed : text ≡ print answer
     pub tickets : after.tickets ≡ before.tickets
 
   -- a pull is begun; a ticket of that name is given up first
   pub record MayBegin (name : Bytes) (before : Player) (text : Bytes) (after : Player) : Type 0 where
     pub answer : Result Replied Refusal
-    pub may : may_reply before.standing call.BeginPull answer after.standing
+    pub may : law.may_reply before.standing call.BeginPull answer after.standing
     pub begun : IsBegun (finite.remove before.tickets name) name answer text after.tickets
 
   -- a pull is ended whose ticket the client has; without one no call is made
@@ -83,9 +91,21 @@ module _ (may_reply : Standing → Call → Result Replied Refusal → Standing 
 
   -- a client learns what the one at a place had seen
   pub record MayLearn (seen : List Known) (place : ℕ) (before : Player) (text : Bytes) (after : Player) : Type 0 where
-    pub learnt : (s : Known) → place < length seen → learns before.standing (slice_index_or seen place s) after.standing
+    pub learnt : (s : Known) → place < length seen → law.learns before.standing (slice_index_or seen place s) after.standing
     pub printed : text ≡ codes "learnt"
     pub tickets : after.tickets ≡ before.tickets
+
+  -- the watch of that name is polled
+  pub record Polls (name : Bytes) (watch : Watched) (before : Player) (text : Bytes) (after : Player) : Type 0 where
+    pub answer : Result Polled Refusal
+    pub may : law.may_poll name watch before.standing answer after.standing
+    pub printed : text ≡ polled_text answer
+    pub tickets : after.tickets ≡ before.tickets
+
+  -- a watch is polled that the client has; without one no call is made
+  abbrev pub MayPoll : Bytes → Option Watched → Player → Bytes → Player → Type 0
+  MayPoll name (Some watch) before text after = Polls name watch before text after
+  MayPoll name None before text after = (text ≡ codes "no watch") × (after ≡ before)
 
   -- What a command may print, and how it leaves its client. `seen` is what each client had seen when the phase began.
   abbrev pub MayPrint : List Known → Player → Command → Bytes → Player → Type 0
@@ -95,3 +115,5 @@ module _ (may_reply : Standing → Call → Result Replied Refusal → Standing 
   MayPrint seen before (command.Mutate m) text after = HandsOn (AsksMutation m) answer_text before text after
   MayPrint seen before command.Refresh text after = HandsOn (λ c. c ≡ call.Refresh) refreshed_text before text after
   MayPrint seen before (command.Learn place) text after = MayLearn seen place before text after
+  MayPrint seen before (command.Watch name scan) text after = MayWatch name scan before text after
+  MayPrint seen before (command.Poll name) text after = MayPoll name (finite.get before.standing.watches name) before text after

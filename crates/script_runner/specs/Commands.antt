@@ -3,6 +3,7 @@
 use Rattle.std.specs.Prelude.{codes, ℕ, zero, suc, ◌^◌, ◌-◌, Bool, ◌&&◌, ◌==◌, List, [], ◌∷◌, ◌++◌, length, replicate, Option, Some, None, is_some, is_none, unwrap_or, Result, Ok, Err, if◌then◌else◌}
 use Rattle.std.specs.List.{list_any}
 use Rattle.std.specs.Str.Parse.{digits_value}
+use Rattle.group_history.specs.declared.scans.Scan.{Scan}
 use Rattle.group_history.specs.Map.{Bytes, same_text}
 use Rattle.script_runner.specs.declared.faults.ScriptFault.{ScriptFault}
 use Rattle.script_runner.specs.declared.faults.ScriptFault.TheVariants as fault
@@ -28,16 +29,32 @@ get_line c rest = meets ((is_some rest, fault.BadWords) ∷ []) (c, command.Quer
 unfoldable pub has_line : Context → Option Bytes → Told
 has_line c rest = meets ((is_some rest, fault.BadWords) ∷ []) (c, command.Query (query.Has (text rest)))
 
--- `scan PREFIX START LIMIT`
-unfoldable pub scan_line : Context → Option Bytes → Told
-scan_line c rest =
+-- `PREFIX START LIMIT`: a scan
+unfoldable pub scan_words : Option Bytes → Result Scan ScriptFault
+scan_words rest =
     let after_prefix = text (more (text rest)) in
     let limit = text (more after_prefix) in
     meets ((begins_with_word (text rest), fault.BadWords) ∷ (begins_with_word after_prefix, fault.BadWords) ∷ (is_word limit, fault.BadWords)
     ∷ (is_start (word after_prefix), fault.BadWords)
     ∷ (is_limit limit, fault.BadNumber)
     ∷ [])
-    (c, command.Query (query.Scan (record { prefix = prefix_said (word (text rest)); start = start_said (word after_prefix); limit = limit_said limit })))
+    (record { prefix = prefix_said (word (text rest)); start = start_said (word after_prefix); limit = limit_said limit })
+
+-- what a line says that has a scan
+abbrev pub with_scan : (Scan → Context × Command) → Result Scan ScriptFault → Told
+with_scan said (Ok scan) = Ok (said scan)
+with_scan said (Err f) = Err f
+
+-- `scan PREFIX START LIMIT`
+unfoldable pub scan_line : Context → Option Bytes → Told
+scan_line c rest = with_scan (λ scan. (c, command.Query (query.Scan scan))) (scan_words rest)
+
+-- `watch W PREFIX START LIMIT`
+unfoldable pub watch_line : Context → ℕ → Option Bytes → Told
+watch_line c client rest =
+    let name = word (text rest) in
+    if is_ticket_name name then with_scan (λ scan. (record c { watches = c.watches ++ (client, name) ∷ [] }, command.Watch name scan)) (scan_words (more (text rest)))
+    else Err fault.BadWords
 
 -- `begin T`
 unfoldable pub begin_line : Context → ℕ → Option Bytes → Told
@@ -45,9 +62,9 @@ begin_line c client rest =
     meets ((is_some rest, fault.BadWords) ∷ (is_ticket_name (text rest), fault.BadWords) ∷ [])
     (record c { tickets = c.tickets ++ (client, text rest) ∷ [] }, command.Begin (text rest))
 
--- whether a line of this client made the ticket
+-- whether a line of this client made the ticket, or the watch
 unfoldable pub is_made : ℕ → Bytes → List (ℕ × Bytes) → Bool
-is_made client ticket tickets = list_any (λ made. (made.0 == client) && same_text made.1 ticket) tickets
+is_made client name all = list_any (λ made. (made.0 == client) && same_text made.1 name) all
 
 -- `end T BODY`
 unfoldable pub end_line : Context → ℕ → Option Bytes → Told
@@ -57,6 +74,12 @@ end_line c client rest =
     ∷ (is_made client ticket c.tickets, fault.UnknownName)
     ∷ [])
     (c, command.End ticket (text (more (text rest))))
+
+-- `poll W`
+unfoldable pub poll_line : Context → ℕ → Option Bytes → Told
+poll_line c client rest =
+    meets ((is_some rest, fault.BadWords) ∷ (is_ticket_name (text rest), fault.BadWords) ∷ (is_made client (text rest) c.watches, fault.UnknownName) ∷ [])
+    (c, command.Poll (text rest))
 
 -- `mutate TIME MUTATOR ARGS`
 unfoldable pub mutate_line : Context → Option Bytes → Told
@@ -95,13 +118,14 @@ told_bare c (Some said) rest = meets ((is_none rest, fault.BadWords) ∷ []) (c,
 unfoldable pub bare_line : Context → Bytes → Option Bytes → Told
 bare_line c name rest = told_bare c (bare_command name) rest
 
--- a command that makes no ticket and needs none, by its name and what follows
+-- a command that makes no ticket or watch and needs none, by its name and what follows
 unfoldable pub look_line : Context → Bytes → Option Bytes → Told
 look_line c name rest =
     if same_text name (codes "get") then get_line c rest
     else if same_text name (codes "has") then has_line c rest
     else if same_text name (codes "scan") then scan_line c rest
     else if same_text name (codes "learn") then learn_line c rest
+    else if same_text name (codes "mutate") then mutate_line c rest
     else bare_line c name rest
 
 -- a command of the client at a place, by its name and what follows
@@ -109,7 +133,8 @@ unfoldable pub named_command : Context → ℕ → Bytes → Option Bytes → To
 named_command c client name rest =
     if same_text name (codes "begin") then begin_line c client rest
     else if same_text name (codes "end") then end_line c client rest
-    else if same_text name (codes "mutate") then mutate_line c rest
+    else if same_text name (codes "watch") then watch_line c client rest
+    else if same_text name (codes "poll") then poll_line c client rest
     else look_line c name rest
 
 -- what a client's line has after its name: a missing command is unknown

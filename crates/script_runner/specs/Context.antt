@@ -21,10 +21,12 @@ pub record Context : Type 0 where
   pub phases : List (List Lines)
   -- the tickets that are made, each with the place of its client
   pub tickets : List (ℕ × Bytes)
+  -- and the watches
+  pub watches : List (ℕ × Bytes)
 
 -- before the first line
 abbrev pub nothing_said : Context
-nothing_said = record { group = None; profile = None; schema = None; slots = None; clients = []; phases = []; tickets = [] }
+nothing_said = record { group = None; profile = None; schema = None; slots = None; clients = []; phases = []; tickets = []; watches = [] }
 
 -- the place of a client, by its name
 unfoldable pub place_of : Bytes → List (Bytes × Bytes) → Option ℕ

@@ -7,7 +7,7 @@ use Rattle.group_history.specs.Map.{Bytes}
 use Rattle.head_word.specs.Marks.{Known}
 use Rattle.rebase.specs.Replies.{Replied}
 use Rattle.rebase.specs.declared.calls.Call.{Call}
-use Rattle.script_runner.specs.Callers.{Standing, sight_of}
+use Rattle.script_runner.specs.Callers.{Rules, sight_of}
 use Rattle.script_runner.specs.Commanding.{MayPrint, Player}
 use Rattle.script_runner.specs.Context.{Lines}
 use Rattle.script_runner.specs.Printing.{line_text}
@@ -16,13 +16,13 @@ use Rattle.script_runner.specs.Printing.{line_text}
 abbrev pub all_seen : List Player → List Known
 all_seen players = map (λ p. sight_of p.standing) players
 
-module _ (may_reply : Standing → Call → Result Replied Refusal → Standing → Type 0) (learns : Standing → Known → Standing → Type 0) where
+module _ (law : Rules) where
   -- The text has a line of output for each line, in order, with what its command may print on the client that the lines before
   -- left; the last one leaves the client at the end. `seen` is what each client had seen when the phase began.
   abbrev pub AreTold : List Known → Player → Lines → Bytes → Player → Type 0
   AreTold seen before [] text end = (text ≡ []) × (end ≡ before)
   AreTold seen before (l ∷ ls) text end =
-      (told : Bytes) × (next : Player) × (rest : Bytes) × MayPrint may_reply learns seen before l.1 told next × (next.name ≡ before.name)
+      (told : Bytes) × (next : Player) × (rest : Bytes) × MayPrint law seen before l.1 told next × (next.name ≡ before.name)
       × (text ≡ line_text l.0 before.name told ++ rest) × AreTold seen next ls rest end
 
   -- Each client does the lines of its place, and has a text of its own. Nothing is said of whose call comes first.

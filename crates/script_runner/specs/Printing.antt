@@ -9,6 +9,8 @@ use Rattle.group_history.specs.declared.responses.Ended.TheVariants.{Applied, Sa
 use Rattle.group_history.specs.Map.{Bytes}
 use Rattle.group_history.specs.Pull.{kind_text}
 use Rattle.push_body.specs.Bodies.{quoted}
+use Rattle.rebase.specs.declared.watching.Polled.{Polled}
+use Rattle.rebase.specs.declared.watching.Polled.TheVariants as polled
 use Rattle.rebase.specs.Replies.{Replied, value, yes_or_no, rows, pending, cookie, id, body, ticket, ended}
 
 -- a row of a scan, as a JSON array of its key and value; the value is compact JSON already
@@ -86,6 +88,12 @@ abbrev pub refreshed_text : Result Replied Refusal → Bytes
 refreshed_text (Ok (id n)) = codes "last " ++ decimal n
 refreshed_text (Ok other) = replied_text other
 refreshed_text (Err e) = refused_text e
+
+-- what a poll answers
+abbrev pub polled_text : Result Polled Refusal → Bytes
+polled_text (Ok (polled.New rs)) = codes "new " ++ array_text (map row_text rs)
+polled_text (Ok polled.Unchanged) = codes "unchanged"
+polled_text (Err e) = refused_text e
 
 -- a line of output, with the number of the script's line, the client's name and the reply
 unfoldable pub line_text : ℕ → Bytes → Bytes → Bytes

@@ -11,7 +11,7 @@ use Rattle.push_body.specs.declared.identities.Identity.{Identity}
 use Rattle.answered.specs.Answered.{IsAnswered}
 use Rattle.script_runner.specs.declared.faults.Fault.{Fault}
 use Rattle.script_runner.specs.declared.faults.Fault.TheVariants as fault
-use Rattle.script_runner.specs.Callers.{Learns, MayReply}
+use Rattle.script_runner.specs.Callers.{shared_rules}
 use Rattle.script_runner.specs.Commanding.{Player}
 use Rattle.script_runner.specs.Context.{Context}
 use Rattle.script_mutators.specs.Mutators.{script_means}
@@ -25,12 +25,13 @@ identity_of group profile schema = record {
   schema = unwrap_or schema (codes "s1");
 }
 
--- a client of the group of this book before the first phase: it has the last id that the group has of it, and no ticket
+-- a client of the group of this book before the first phase: it has the last id that the group has of it, no ticket and no watch
 pub record IsNew (identity : Identity) (book : Book) (p : Player) : Type 0 where
   pub writes : p.standing.caller.identity ≡ identity
   pub of_book : p.standing.mark.book ≡ book
   pub last : (before : Known) × IsAnswered script_means before p.standing.mark None (λ s. last_id s p.standing.caller.client ≡ p.standing.caller.last)
   pub tickets : p.tickets ≡ finite.empty
+  pub watches : p.standing.watches ≡ finite.empty
 
 -- the clients before the first phase: those of the lines, each with its name and ID, in a group of its own
 pub record AreNew (identity : Identity) (lines : List (Bytes × Bytes)) (players : List Player) : Type 0 where

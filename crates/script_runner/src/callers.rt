@@ -1,17 +1,20 @@
 //! Who makes the calls of a script: a client of a group.
-ghost use Rattle.std.specs.Prelude.{◌≡◌, Result};
-ghost use Rattle.group_history.specs.declared.refusals.Refusal.{Refusal as Refused};
+ghost use Rattle.std.specs.Prelude.{◌≡◌, Result, Some, IfNone, IfSome, OnErr, OnOk, codes, is_some};
+ghost use Rattle.std.specs.FinMap as finite;
+ghost use Rattle.group_history.specs.Map.{Bytes};
 ghost use Rattle.head_word.specs.Marks.{Known};
 ghost use Rattle.rebase.specs.Queries.{told};
-ghost use Rattle.rebase.specs.Replies.{Replied, reply_seen};
-ghost use Rattle.rebase.specs.declared.calls.Call.{Call as Asked};
-ghost use Rattle.script_runner.specs.Callers.{Standing, sight_of};
+ghost use Rattle.rebase.specs.Replies.{reply_seen};
+ghost use Rattle.rebase.specs.Watching.{Watched};
+ghost use Rattle.script_runner.specs.Callers.{MayPoll, Rules, Standing, sight_of, unwatched, watching};
+ghost use Rattle.script_runner.specs.Inside.Players.{standing_of};
 
 use chunk_slots::Arena;
-use group_history::Refusal;
+use group_history::{Refusal, Scan, Text, TextMap};
 use head_word::Mark;
-use rebase::{Call, Client, Reply};
+use rebase::{Call, Client, Polled, Reply, Watch};
 use script_mutators::ScriptMutators;
+use std::alloc::{AllocError, Global};
 use std::sync::Wait;
 
 /// How often a call tries that doesn't wait.
@@ -27,15 +30,24 @@ pub(crate) trait Caller {
 
     ghost seen_by: { Self.Seen → Known };
 
-    /// Whether a call may be answered so, and leave the client so.
-    ghost may_reply: { Standing → Asked → Result Replied Refused → Standing → Type 0 };
-
-    /// How a client stands that has learnt what another one had seen.
-    ghost learns: { Standing → Known → Standing → Type 0 };
+    /// The rules of its group: what its calls may reply.
+    ghost law: { Rules };
 
     /// Makes one call. A change may wait for others.
     fn call<R: Wait>(&mut self, rt: &R, call: Call<'_>) -> Result<Reply, Refusal>
-        ensures reply { may_reply (stands self.old) call.entry (told reply_seen result) (stands self.new) }
+        ensures reply { law.may_reply (stands self.old) call.entry (told reply_seen result) (stands self.new) }
+        ensures group { (stands self.new).mark.book ≡ (stands self.old).mark.book };
+
+    /// Keeps a watch of a scan under a name. An earlier one of that name is given up first.
+    fn watch(&mut self, name: &Text, scan: &Scan) -> Result<(), AllocError>
+        ensures kept { OnOk result (stands self.new ≡ watching name.now scan.now (stands self.old)) }
+        ensures left { OnErr result (stands self.new ≡ unwatched name.now (stands self.old)) };
+
+    /// Polls the watch of a name, where there is one.
+    fn poll<R: Wait>(&mut self, rt: &R, name: &Text) -> Option<Result<Polled, Refusal>>
+        ensures some { IfSome result (λ reply. IfSome (finite.get (stands self.old).watches name.now) (λ watch. law.may_poll name.now watch (stands self.old) reply (stands self.new))) }
+        ensures there { is_some result ≡ is_some (finite.get (stands self.old).watches name.now) }
+        ensures none { IfNone result (stands self.new ≡ stands self.old) }
         ensures group { (stands self.new).mark.book ≡ (stands self.old).mark.book };
 
     /// Takes no memory.
@@ -45,40 +57,85 @@ pub(crate) trait Caller {
     /// Takes no memory.
     fn learn(&mut self, other: &Self::Seen)
         requires { (seen_by other.now).book ≡ (stands self.old).mark.book }
-        ensures learns { learns (stands self.old) (seen_by other.now) (stands self.new) }
+        ensures learns { law.learns (stands self.old) (seen_by other.now) (stands self.new) }
         ensures group { (stands self.new).mark.book ≡ (stands self.old).mark.book };
 }
 
-/// A client of a group whose clients may all call at the same time.
-pub(crate) type SharedClient<'g> = Client<'g, ScriptMutators, Arena<ScriptMutators>>;
+/// A client of a group whose clients may all call at the same time, and its watches.
+#[derive(Drop)]
+pub(crate) struct SharedClient<'g> {
+    client: Client<'g, ScriptMutators, Arena<ScriptMutators>>,
+    watches: TextMap<Watch<ScriptMutators>>,
+    ghost of_group: { (name : Bytes) (watch : Watched) → finite.get watches name ≡ Some watch → watch.book ≡ client.mark.book } by { Prim.hlevel codes },
+}
+
+impl<'g> SharedClient<'g> {
+    /// A client without watches.
+    pub(crate) fn new(
+        alloc: Global,
+        client: Client<'g, ScriptMutators, Arena<ScriptMutators>>,
+    ) -> SharedClient<'g>
+        ensures client { result.client ≡ client }
+        ensures watches { result.watches ≡ finite.empty }
+    {
+        SharedClient {
+            client,
+            watches: TextMap::new(alloc),
+        }
+    }
+
+    /// Polls a watch, and keeps it. Where memory is refused for it the watch is as it was.
+    fn poll_kept(&mut self, name: &Text, watch: Watch<ScriptMutators>) -> Result<Polled, Refusal>
+        requires { finite.get self.old.watches name.now ≡ Some watch }
+        ensures { MayPoll name.now watch (standing_of self.old) result (standing_of self.new) }
+    {
+        let mut watch = watch;
+        let polled = self.client.poll(&mut watch, TRIES)?;
+        self.watches.insert(name.clone()?, watch)?;
+        Ok(polled)
+    }
+}
 
 impl<'g> Caller for SharedClient<'g> {
-    ghost use Rattle.rebase.specs.Calls.{caller};
-    ghost use Rattle.script_runner.specs.Callers.{MayReply, Learns};
+    ghost use Rattle.script_runner.specs.Callers.{shared_rules};
 
     type Seen = Mark<ScriptMutators>;
 
-    ghost stands = { λ c. record { caller = caller c.group.now.identity c.id c.last; mark = c.mark } };
+    ghost stands = { standing_of };
 
     ghost seen_by = { λ seen. seen };
 
-    ghost may_reply = { MayReply };
-
-    ghost learns = { Learns };
+    ghost law = { shared_rules };
 
     fn call<R: Wait>(&mut self, rt: &R, call: Call<'_>) -> Result<Reply, Refusal> {
         match call {
-            Call::Mutate(m) => Ok(Reply::Id(self.mutate(rt, m.name, m.args, m.time)?)),
-            Call::EndPull(ticket, body) => Ok(Reply::Ended(self.end_pull(rt, ticket, body)?)),
-            call => self.make_call(call, TRIES),
+            Call::Mutate(m) => Ok(Reply::Id(self.client.mutate(rt, m.name, m.args, m.time)?)),
+            Call::EndPull(ticket, body) => {
+                Ok(Reply::Ended(self.client.end_pull(rt, ticket, body)?))
+            }
+            call => self.client.make_call(call, TRIES),
+        }
+    }
+
+    fn watch(&mut self, name: &Text, scan: &Scan) -> Result<(), AllocError> {
+        self.watches.remove(name);
+        let watch = self.client.watch(scan.clone()?);
+        self.watches.insert(name.clone()?, watch)
+    }
+
+    fn poll<R: Wait>(&mut self, _rt: &R, name: &Text) -> Option<Result<Polled, Refusal>> {
+        let copy: Result<Watch<ScriptMutators>, AllocError> = self.watches.get(name)?.clone();
+        match copy {
+            Ok(watch) => Some(self.poll_kept(name, watch)),
+            Err(_) => Some(Err(Refusal::NoMemory)),
         }
     }
 
     fn seen(&self) -> Mark<ScriptMutators> {
-        self.mark()
+        self.client.mark()
     }
 
     fn learn(&mut self, other: &Mark<ScriptMutators>) {
-        Client::learn(self, other);
+        self.client.learn(other);
     }
 }

@@ -5,16 +5,16 @@ ghost use Rattle.std.specs.FinMap as finite;
 ghost use Rattle.rebase.specs.Queries.{asked, told};
 ghost use Rattle.rebase.specs.Replies.{reply_seen, ticket as replied_ticket};
 ghost use Rattle.rebase.specs.declared.calls.Call.TheVariants as call;
-ghost use Rattle.script_runner.specs.Commanding.{Asks, AsksEnd, AsksMutation, HandsOn, IsBegun, MayBegin, MayEnd, MayLearn, MayPrint};
+ghost use Rattle.script_runner.specs.Commanding.{Asks, AsksEnd, AsksMutation, HandsOn, IsBegun, MayBegin, MayEnd, MayLearn, MayPoll, MayPrint, MayWatch};
 ghost use Rattle.script_runner.specs.Inside.Players.{player_of};
-ghost use Rattle.script_runner.specs.Printing.{answer_text, refreshed_text, replied_text};
+ghost use Rattle.script_runner.specs.Printing.{answer_text, polled_text, refreshed_text, replied_text};
 ghost use Rattle.script_runner.specs.Inside.Printing.{reply_text};
 
 use crate::callers::Caller;
 use crate::reply::Reply;
 use crate::script::{self, Command, Query};
-use group_history::{Refusal, Text, TextMap};
-use rebase::{Call, Mutate, Reply as Answer, Ticket};
+use group_history::{Refusal, Scan, Text, TextMap};
+use rebase::{Call, Mutate, Polled, Reply as Answer, Ticket};
 use std::alloc::{AllocError, Global};
 use std::sync::Wait;
 
@@ -43,7 +43,7 @@ impl<C: Caller + Drop> Client<C> {
     /// Does a command. A refusal is a reply like any other. `seen` is what each client had seen when the phase began.
     pub(crate) fn call<R: Wait>(&mut self, rt: &R, seen: &[C::Seen], command: &Command) -> Reply
         requires { All (λ s. (C.seen_by s).book ≡ (C.stands self.old.caller).mark.book) seen.now }
-        ensures told { MayPrint C.may_reply C.learns (map C.seen_by seen.now) (player_of C.stands self.old) command.now (reply_text result) (player_of C.stands self.new) }
+        ensures told { MayPrint C.law (map C.seen_by seen.now) (player_of C.stands self.old) command.now (reply_text result) (player_of C.stands self.new) }
         ensures name { self.new.name ≡ self.old.name }
         ensures group { (C.stands self.new.caller).mark.book ≡ (C.stands self.old.caller).mark.book }
     {
@@ -53,12 +53,14 @@ impl<C: Caller + Drop> Client<C> {
             Command::Mutate(call) => self.mutate(rt, call),
             Command::Refresh => self.refresh(rt),
             Command::Learn(place) => self.learn(seen, *place),
+            Command::Watch(name, scan) => self.watch(name, scan),
+            Command::Poll(name) => self.poll(rt, name),
             Command::Query(query) => self.query(rt, query),
         }
     }
 
     fn query<R: Wait>(&mut self, rt: &R, query: &Query) -> Reply
-        ensures told { HandsOn C.may_reply C.learns (Asks query.now) answer_text (player_of C.stands self.old) (reply_text result) (player_of C.stands self.new) }
+        ensures told { HandsOn C.law (Asks query.now) answer_text (player_of C.stands self.old) (reply_text result) (player_of C.stands self.new) }
         ensures name { self.new.name ≡ self.old.name }
         ensures group { (C.stands self.new.caller).mark.book ≡ (C.stands self.old.caller).mark.book }
     {
@@ -67,7 +69,7 @@ impl<C: Caller + Drop> Client<C> {
 
     /// A ticket whose name was given before is replaced, and where this is refused there is none of that name.
     fn begin<R: Wait>(&mut self, rt: &R, name: &Text) -> Reply
-        ensures told { MayBegin C.may_reply C.learns name.now (player_of C.stands self.old) (reply_text result) (player_of C.stands self.new) }
+        ensures told { MayBegin C.law name.now (player_of C.stands self.old) (reply_text result) (player_of C.stands self.new) }
         ensures name { self.new.name ≡ self.old.name }
         ensures group { (C.stands self.new.caller).mark.book ≡ (C.stands self.old.caller).mark.book }
     {
@@ -98,7 +100,7 @@ impl<C: Caller + Drop> Client<C> {
     }
 
     fn end<R: Wait>(&mut self, rt: &R, name: &Text, body: &Text) -> Reply
-        ensures told { MayEnd C.may_reply C.learns (finite.get self.old.tickets name.now) body.now (player_of C.stands self.old) (reply_text result) (player_of C.stands self.new) }
+        ensures told { MayEnd C.law (finite.get self.old.tickets name.now) body.now (player_of C.stands self.old) (reply_text result) (player_of C.stands self.new) }
         ensures name { self.new.name ≡ self.old.name }
         ensures group { (C.stands self.new.caller).mark.book ≡ (C.stands self.old.caller).mark.book }
     {
@@ -114,7 +116,7 @@ impl<C: Caller + Drop> Client<C> {
     }
 
     fn mutate<R: Wait>(&mut self, rt: &R, call: &script::Call) -> Reply
-        ensures told { HandsOn C.may_reply C.learns (AsksMutation call.now) answer_text (player_of C.stands self.old) (reply_text result) (player_of C.stands self.new) }
+        ensures told { HandsOn C.law (AsksMutation call.now) answer_text (player_of C.stands self.old) (reply_text result) (player_of C.stands self.new) }
         ensures name { self.new.name ≡ self.old.name }
         ensures group { (C.stands self.new.caller).mark.book ≡ (C.stands self.old.caller).mark.book }
     {
@@ -127,7 +129,7 @@ impl<C: Caller + Drop> Client<C> {
     }
 
     fn refresh<R: Wait>(&mut self, rt: &R) -> Reply
-        ensures told { HandsOn C.may_reply C.learns (λ c. c ≡ call.Refresh) refreshed_text (player_of C.stands self.old) (reply_text result) (player_of C.stands self.new) }
+        ensures told { HandsOn C.law (λ c. c ≡ call.Refresh) refreshed_text (player_of C.stands self.old) (reply_text result) (player_of C.stands self.new) }
         ensures name { self.new.name ≡ self.old.name }
         ensures group { (C.stands self.new.caller).mark.book ≡ (C.stands self.old.caller).mark.book }
     {
@@ -137,9 +139,32 @@ impl<C: Caller + Drop> Client<C> {
         }
     }
 
+    /// A watch whose name was given before is replaced, and where this is refused there is none of that name.
+    fn watch(&mut self, name: &Text, scan: &Scan) -> Reply
+        ensures told { MayWatch name.now scan.now (player_of C.stands self.old) (reply_text result) (player_of C.stands self.new) }
+        ensures name { self.new.name ≡ self.old.name }
+        ensures group { (C.stands self.new.caller).mark.book ≡ (C.stands self.old.caller).mark.book }
+    {
+        match self.caller.watch(name, scan) {
+            Ok(()) => Reply::Watching,
+            Err(_) => Reply::Refused(Refusal::NoMemory),
+        }
+    }
+
+    fn poll<R: Wait>(&mut self, rt: &R, name: &Text) -> Reply
+        ensures told { MayPoll C.law name.now (finite.get (C.stands self.old.caller).watches name.now) (player_of C.stands self.old) (reply_text result) (player_of C.stands self.new) }
+        ensures name { self.new.name ≡ self.old.name }
+        ensures group { (C.stands self.new.caller).mark.book ≡ (C.stands self.old.caller).mark.book }
+    {
+        match self.caller.poll(rt, name) {
+            Some(polled) => polled_of(polled),
+            None => Reply::NoWatch,
+        }
+    }
+
     fn learn(&mut self, seen: &[C::Seen], place: usize) -> Reply
         requires { All (λ s. (C.seen_by s).book ≡ (C.stands self.old.caller).mark.book) seen.now }
-        ensures told { MayLearn C.may_reply C.learns (map C.seen_by seen.now) place (player_of C.stands self.old) (reply_text result) (player_of C.stands self.new) }
+        ensures told { MayLearn C.law (map C.seen_by seen.now) place (player_of C.stands self.old) (reply_text result) (player_of C.stands self.new) }
         ensures name { self.new.name ≡ self.old.name }
         ensures group { (C.stands self.new.caller).mark.book ≡ (C.stands self.old.caller).mark.book }
     {
@@ -147,6 +172,17 @@ impl<C: Caller + Drop> Client<C> {
             self.caller.learn(other);
         }
         Reply::Learnt
+    }
+}
+
+/// The reply of a line that polls.
+fn polled_of(polled: Result<Polled, Refusal>) -> Reply
+    ensures { reply_text result ≡ polled_text polled }
+{
+    match polled {
+        Ok(Polled::New(rows)) => Reply::New(rows),
+        Ok(Polled::Unchanged) => Reply::Unchanged,
+        Err(refusal) => Reply::Refused(refusal),
     }
 }
 

@@ -2,7 +2,8 @@
 //!
 //! It keeps its view as one map, which a pull computes anew. It says by the shortest code what a group is; its clients
 //! take turns at it.
-ghost use Rattle.std.specs.Prelude.{◌≡◌, Ok, IfOk, OnErr, IsOkUnless};
+ghost use Rattle.std.specs.Prelude.{◌≡◌, Ok, Some, IfOk, IfErr, OnErr, IsOkUnless};
+ghost use Rattle.std.specs.FinMap as finite;
 ghost use Rattle.group_history.specs.Answers.{Answers};
 ghost use Rattle.group_history.specs.Mutating.{mutate_reply};
 ghost use Rattle.group_history.specs.Queries.{get_at};
@@ -12,15 +13,19 @@ ghost use Rattle.rebase.specs.Asking.{end_bytes_reply};
 ghost use Rattle.rebase.specs.Calls.{IsReplyTo, asked_mutation, caller, last_after, reply_to};
 ghost use Rattle.rebase.specs.Queries.{asked, asked_at, told};
 ghost use Rattle.rebase.specs.Replies.{reply_seen};
+ghost use Rattle.rebase.specs.Watching.{poll_at, poll_reply, watch_after};
 ghost use Rattle.script_mutators.specs.Mutators.{script_means};
+ghost use Rattle.script_runner.specs.Callers.{IsPolled, MayPollPlainly};
+ghost use Rattle.script_runner.specs.Inside.Players.{standing_of_plain};
 
 use crate::callers::Caller;
-use group_history::{Ended, Json, Mutation, PlainGroup, Refusal, Text};
+use group_history::{Ended, Json, Mutation, PlainGroup, Refusal, Scan, Text, TextMap};
 use pull_patch::read_response;
 use push_body::{Identity, pull_bytes, push_bytes};
-use rebase::{Call, Mutate, Reply, Ticket};
+use rebase::{Call, Mutate, Polled, Reply, Rows, Ticket};
 use script_mutators::ScriptMutators;
 use std::alloc::{AllocError, Global};
+use std::marker::Model;
 use std::sync::{Mutex, Wait};
 
 /// A plain group, and whose requests it writes.
@@ -103,6 +108,15 @@ impl Plain {
             .mutate(&ScriptMutators, id, last, m.name, m.args, m.time)
     }
 
+    fn poll(&self, watch: &mut PlainWatch) -> Result<Polled, Refusal>
+        ensures answer { IsPolled result (poll_at script_means watch.old self.now.group) }
+        ensures kept { IfOk result (λ polled. watch.new ≡ watch_after watch.old (Ok polled)) }
+        ensures left { IfErr result (λ _. watch.new ≡ watch.old) }
+    {
+        let rows = self.group.scan(&watch.scan)?;
+        Ok(watch.tell(Rows::new(self.alloc, rows)?)?)
+    }
+
     fn end_pull(&mut self, ticket: &Ticket, body: &[u8]) -> Result<Ended, Refusal>
         ensures { Answers result (end_bytes_reply self.old.group ticket.now.cookie.text body.now) }
     {
@@ -112,17 +126,85 @@ impl Plain {
     }
 }
 
-/// A client of a plain group that several take turns at.
+/// A scan that is polled, and the rows that were answered last.
+#[derive(Drop)]
+pub(crate) struct PlainWatch {
+    scan: Scan,
+    last: Option<Rows>,
+}
+
+impl Model for PlainWatch {
+    ghost use Rattle.rebase.specs.Watching.{Watched};
+    ghost use Rattle.script_runner.specs.Callers.{no_book};
+
+    ghost Value = { Watched };
+
+    ghost view = { λ watch. record { book = no_book; scan = watch.scan; last = watch.last } };
+}
+
+impl Clone for PlainWatch {
+    ghost is_clone = { λ watch copy. copy ≡ watch };
+
+    fn clone(&self) -> Result<PlainWatch, AllocError> {
+        let scan = self.scan.clone()?;
+        let last = match &self.last {
+            Some(rows) => Some(rows.clone()?),
+            None => None,
+        };
+        Ok(PlainWatch { scan, last })
+    }
+}
+
+impl PlainWatch {
+    /// Answers by the rows that there are.
+    fn tell(&mut self, rows: Rows) -> Result<Polled, AllocError>
+        ensures value { IfOk result (λ polled. polled ≡ poll_reply self.old.last rows) }
+        ensures kept { IfOk result (λ polled. self.new ≡ watch_after self.old (Ok polled)) }
+        ensures left { IfErr result (λ _. self.new ≡ self.old) }
+    {
+        if let Some(last) = &self.last
+            && *last == rows
+        {
+            return Ok(Polled::Unchanged);
+        }
+        self.last = Some(rows.clone()?);
+        Ok(Polled::New(rows))
+    }
+}
+
+/// A client of a plain group that several take turns at, and its watches.
 #[derive(Drop)]
 pub(crate) struct PlainClient<'g> {
     group: &'g Mutex<Plain>,
     id: Text,
     last: u64,
+    watches: TextMap<PlainWatch>,
 }
 
 impl<'g> PlainClient<'g> {
-    pub(crate) fn new(group: &'g Mutex<Plain>, id: Text) -> PlainClient<'g> {
-        PlainClient { group, id, last: 0 }
+    pub(crate) fn new(alloc: Global, group: &'g Mutex<Plain>, id: Text) -> PlainClient<'g> {
+        PlainClient {
+            group,
+            id,
+            last: 0,
+            watches: TextMap::new(alloc),
+        }
+    }
+
+    /// Polls a watch, and keeps it. Where memory is refused for it the watch is as it was.
+    fn poll_kept<R: Wait>(
+        &mut self,
+        rt: &R,
+        name: &Text,
+        watch: PlainWatch,
+    ) -> Result<Polled, Refusal>
+        requires { finite.get self.old.watches name.now ≡ Some watch }
+        ensures { MayPollPlainly name.now watch (standing_of_plain self.old) result (standing_of_plain self.new) }
+    {
+        let mut watch = watch;
+        let polled = self.group.lock(rt).poll(&mut watch)?;
+        self.watches.insert(name.clone()?, watch)?;
+        Ok(polled)
     }
 }
 
@@ -139,22 +221,37 @@ fn last_after(last: u64, reply: &Result<Reply, Refusal>) -> u64
 impl<'g> Caller for PlainClient<'g> {
     ghost use Rattle.std.specs.Prelude.{[], None};
     ghost use Rattle.head_word.specs.Marks.{known};
-    ghost use Rattle.script_runner.specs.Callers.{LearnsNothing, MayReplyPlainly, no_book, plain_standing};
+    ghost use Rattle.script_runner.specs.Callers.{no_book, plain_rules};
 
     type Seen = ();
 
-    ghost stands = { λ c. plain_standing c.id c.last };
+    ghost stands = { standing_of_plain };
 
     ghost seen_by = { λ seen. known no_book [] None };
 
-    ghost may_reply = { MayReplyPlainly };
-
-    ghost learns = { LearnsNothing };
+    ghost law = { plain_rules };
 
     fn call<R: Wait>(&mut self, rt: &R, call: Call<'_>) -> Result<Reply, Refusal> {
         let reply = self.group.lock(rt).make_call(&self.id, self.last, call);
         self.last = last_after(self.last, &reply);
         reply
+    }
+
+    fn watch(&mut self, name: &Text, scan: &Scan) -> Result<(), AllocError> {
+        self.watches.remove(name);
+        let watch = PlainWatch {
+            scan: scan.clone()?,
+            last: None,
+        };
+        self.watches.insert(name.clone()?, watch)
+    }
+
+    fn poll<R: Wait>(&mut self, rt: &R, name: &Text) -> Option<Result<Polled, Refusal>> {
+        let copy: Result<PlainWatch, AllocError> = self.watches.get(name)?.clone();
+        match copy {
+            Ok(watch) => Some(self.poll_kept(rt, name, watch)),
+            Err(_) => Some(Err(Refusal::NoMemory)),
+        }
     }
 
     fn seen(&self) {}

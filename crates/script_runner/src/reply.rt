@@ -7,6 +7,7 @@ ghost use Rattle.script_runner.specs.Inside.Printing.{reply_word, reply_detail, 
 
 use group_history::{Cookie, Ended, Json, Mutation, Refusal, Text};
 use json::Writer;
+use rebase::Rows;
 use std::alloc::{AllocError, Global};
 
 /// The reply to a line.
@@ -23,6 +24,11 @@ pub(crate) enum Reply {
     Pull(Vec<u8>),
     Ended(Ended),
     NoTicket,
+    Watching,
+    /// The rows of a watch.
+    New(Rows),
+    Unchanged,
+    NoWatch,
     Id(u64),
     Last(u64),
     Learnt,
@@ -54,6 +60,10 @@ impl Reply {
             Reply::Ended(Ended::Applied) => "applied",
             Reply::Ended(Ended::Same) => "same",
             Reply::NoTicket => "no ticket",
+            Reply::Watching => "watching",
+            Reply::New(_) => "new ",
+            Reply::Unchanged => "unchanged",
+            Reply::NoWatch => "no watch",
             Reply::Id(_) => "id ",
             Reply::Last(_) => "last ",
             Reply::Learnt => "learnt",
@@ -67,6 +77,7 @@ impl Reply {
         match self {
             Reply::Value(json) => out.extend_from_slice(json.text().as_bytes()),
             Reply::Rows(rows) => print_rows(rows, out),
+            Reply::New(rows) => print_rows(rows.as_slice(), out),
             Reply::Pending(pending) => print_pending(pending, out),
             Reply::Cookie(cookie) => out.extend_from_slice(cookie.text().as_bytes()),
             Reply::Push(body) | Reply::Pull(body) => out.extend_from_slice(body),
@@ -75,6 +86,7 @@ impl Reply {
             Reply::Nothing | Reply::Is(_) | Reply::Ended(_) | Reply::NoTicket | Reply::Learnt => Ok(
                 (),
             ),
+            Reply::Watching | Reply::Unchanged | Reply::NoWatch => Ok(()),
         }
     }
 }

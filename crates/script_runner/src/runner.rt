@@ -9,9 +9,8 @@ ghost use Rattle.script_runner.specs.Context.{Context};
 ghost use Rattle.script_runner.specs.Phases.{AreWritten, HasWhole, IsPhase};
 ghost use Rattle.script_runner.specs.Runs.{HasRun, HasStopped, IsNew, IsOfScript, IsWant, identity_of};
 ghost use Rattle.group_history.specs.Refs.{max_seats, max_slots};
-ghost use Rattle.rebase.specs.Calls.{caller};
 ghost use Rattle.script_runner.specs.Inside.Parsing.{IsChecked, IsScript, client_said, phase_said};
-ghost use Rattle.script_runner.specs.Inside.Players.{player_of, players_of};
+ghost use Rattle.script_runner.specs.Inside.Players.{player_of, players_of, standing_of};
 ghost use Rattle.script_runner.specs.Inside.Turns.{AreOf, IsPrinted, texts_of};
 
 use crate::callers::{Caller, SharedClient, TRIES};
@@ -59,7 +58,7 @@ fn write_phase<R: Threads + Wait + Sync, G: Gate, C: Caller + Send + Drop, W: io
 ) -> Result<(), Fault>
     requires lines { length turns.old ≡ vec_len phase.now.lines }
     requires one { (b : Book) × AreOf C.stands b turns.old }
-    ensures phase { OnOk result (IsPhase C.may_reply C.learns (phase_said phase.now) (players_of C.stands turns.old) (texts_of turns.new) (players_of C.stands turns.new)) }
+    ensures phase { OnOk result (IsPhase C.law (phase_said phase.now) (players_of C.stands turns.old) (texts_of turns.new) (players_of C.stands turns.new)) }
     ensures text { OnOk result (Appends (W.contents out.old) (W.contents out.new) (concat (texts_of turns.new))) }
     ensures group { (b : Book) → AreOf C.stands b turns.old → AreOf C.stands b turns.new }
     ensures count { length turns.new ≡ length turns.old }
@@ -85,8 +84,8 @@ fn run_phases<R: Threads + Wait + Sync, G: Gate, C: Caller + Send + Drop, W: io:
 ) -> Result<(), Fault>
     requires lines { All (λ p. vec_len p.lines ≡ length turns.old) phases.now }
     requires one { (b : Book) × AreOf C.stands b turns.old }
-    ensures written { OnOk result ((text : _) × AreWritten C.may_reply C.learns (players_of C.stands turns.old) (map phase_said phases.now) text (players_of C.stands turns.new) × Appends (W.contents out.old) (W.contents out.new) text) }
-    ensures want { IsWant result → HasWhole C.may_reply C.learns (players_of C.stands turns.old) (map phase_said phases.now) (W.contents out.old) (W.contents out.new) }
+    ensures written { OnOk result ((text : _) × AreWritten C.law (players_of C.stands turns.old) (map phase_said phases.now) text (players_of C.stands turns.new) × Appends (W.contents out.old) (W.contents out.new) text) }
+    ensures want { IsWant result → HasWhole C.law (players_of C.stands turns.old) (map phase_said phases.now) (W.contents out.old) (W.contents out.new) }
     ensures fault { IfErr result (λ e. IsOfScript e → ⊥) }
 {
     for phase in phases {
@@ -133,8 +132,8 @@ fn open_client<'g>(
     requires seats { All (λ seat. (seat.mark.book ≡ group.now.shared.head) × (seat.slots.table ≡ group.now.shared.store.claims)) seats.old.free.items }
     ensures left { IfOk result (λ _. length seats.old.free.items ≡ length seats.new.free.items + 1) }
     ensures seats { IfOk result (λ _. All (λ seat. (seat.mark.book ≡ group.now.shared.head) × (seat.slots.table ≡ group.now.shared.store.claims)) seats.new.free.items) }
-    ensures name { IfOk result (λ turn. (turn.client.name, turn.client.caller.id) ≡ client_said line.now) }
-    ensures new { IfOk result (λ turn. IsNew group.now.identity group.now.shared.head (player_of (λ c. record { caller = caller c.group.now.identity c.id c.last; mark = c.mark }) turn.client)) }
+    ensures name { IfOk result (λ turn. (turn.client.name, turn.client.caller.client.id) ≡ client_said line.now) }
+    ensures new { IfOk result (λ turn. IsNew group.now.identity group.now.shared.head (player_of standing_of turn.client)) }
 {
     let Ok(seat) = seats.take() else {
         unreachable!()
@@ -143,7 +142,7 @@ fn open_client<'g>(
     let Ok(client) = group.client(seat, line.id, TRIES) else {
         return Err(AllocError);
     };
-    turn_of(alloc, &line.name, client)
+    turn_of(alloc, &line.name, SharedClient::new(alloc, client))
 }
 
 /// Opens the clients of a script on the seats of a group, in the order of their lines.
@@ -155,8 +154,8 @@ fn open_clients<'g>(
 ) -> Result<Vec<Turn<SharedClient<'g>>>, AllocError>
     requires free { length lines.now ≤ length seats.free.items }
     requires seats { All (λ seat. (seat.mark.book ≡ group.now.shared.head) × (seat.slots.table ≡ group.now.shared.store.claims)) seats.free.items }
-    ensures lines { IfOk result (λ turns. map (λ t. (t.client.name, t.client.caller.id)) turns.items ≡ map client_said lines.now) }
-    ensures new { IfOk result (λ turns. All (λ t. IsNew group.now.identity group.now.shared.head (player_of (λ c. record { caller = caller c.group.now.identity c.id c.last; mark = c.mark }) t.client)) turns.items) }
+    ensures lines { IfOk result (λ turns. map (λ t. (t.client.name, t.client.caller.client.id)) turns.items ≡ map client_said lines.now) }
+    ensures new { IfOk result (λ turns. All (λ t. IsNew group.now.identity group.now.shared.head (player_of standing_of t.client)) turns.items) }
 {
     let mut seats = seats;
     let mut turns = Vec::with_capacity(alloc, lines.len())?;
@@ -236,7 +235,7 @@ fn plain_clients<'g>(
 {
     let mut turns = Vec::with_capacity(alloc, lines.len())?;
     for line in lines {
-        let client = PlainClient::new(group, uuid_text(alloc, line.id)?);
+        let client = PlainClient::new(alloc, group, uuid_text(alloc, line.id)?);
         turns.push(turn_of(alloc, &line.name, client)?)?;
     }
     Ok(turns)

@@ -9,11 +9,11 @@ ghost use Rattle.std.specs.Result.{result_err};
 ghost use Rattle.std.specs.Str.Lossy.{utf8_valid_len};
 ghost use Rattle.uuid.specs.Text.{hyphenated_text, lower};
 ghost use Rattle.script_runner.specs.Context.{Context, place_of, nothing_said};
-ghost use Rattle.script_runner.specs.Commands.{bare_command};
+ghost use Rattle.script_runner.specs.Commands.{bare_command, is_made, scan_words};
 ghost use Rattle.script_runner.specs.Inside.Commands.{scan_said};
 ghost use Rattle.script_runner.specs.Faults.{Checks, script_said, first_fault, said_in, lines_of, line_of_bad_byte};
 ghost use Rattle.script_runner.specs.Inside.Faults.{Tests, TestsLine, Reads};
-ghost use Rattle.script_runner.specs.Inside.Parsing.{client_said, line_said, phase_said, context_of, IsScript, IsChecked};
+ghost use Rattle.script_runner.specs.Inside.Parsing.{client_said, line_said, made_said, phase_said, context_of, IsScript, IsChecked};
 ghost use Rattle.script_runner.specs.Words.{is_uuid, uuid_said, is_start, start_said, is_limit, limit_said, is_json, json_said};
 ghost use Rattle.script_runner.specs.declared.faults.ScriptFault.TheVariants as script_fault;
 ghost use Rattle.script_runner.specs.declared.faults.Fault.TheVariants as fault;
@@ -77,6 +77,10 @@ pub(crate) enum Command {
     Refresh,
     /// Learn what another client has seen, the one at this place.
     Learn(usize),
+    /// Watch a scan, and keep the watch under this name.
+    Watch(Text, Scan),
+    /// Poll the watch of this name.
+    Poll(Text),
 }
 
 /// A call of a mutator.
@@ -177,12 +181,12 @@ pub(crate) fn uuid_text(alloc: Global, id: Uuid) -> Result<Text, AllocError>
     Text::new(alloc, id.hyphenated().encode_lower(&mut buffer))
 }
 
-/// A ticket that a line makes.
+/// A ticket or a watch that a line makes.
 #[derive(Drop)]
-struct MadeTicket {
+struct Made {
     /// The place of its client.
     client: usize,
-    ticket: Text,
+    name: Text,
 }
 
 /// Takes the lines of a script, one after the other.
@@ -192,14 +196,16 @@ struct Parser {
     header: Header,
     phases: Vec<Phase>,
     /// The tickets that the lines so far make.
-    tickets: Vec<MadeTicket>,
+    tickets: Vec<Made>,
+    /// The watches that they make.
+    watches: Vec<Made>,
 }
 
 impl Parser {
     ghost use Rattle.script_runner.specs.Context.{nothing_said};
     ghost use Rattle.script_runner.specs.Header.{group_line, profile_line, schema_line, slots_line, client_line, header_line};
     ghost use Rattle.script_runner.specs.Inside.Header.{admitted};
-    ghost use Rattle.script_runner.specs.Commands.{phase_line, get_line, has_line, scan_line, begin_line, is_made, end_line, mutate_line, learn_line, bare_line, look_line, named_command, command_of, with_line, command_line};
+    ghost use Rattle.script_runner.specs.Commands.{phase_line, get_line, has_line, scan_line, begin_line, end_line, watch_line, poll_line, mutate_line, learn_line, bare_line, look_line, named_command, command_of, with_line, command_line};
     ghost use Rattle.script_runner.specs.Faults.{said_with, words_line};
     ghost use Rattle.script_runner.specs.Inside.Faults.{Follows, Tells};
 
@@ -217,6 +223,7 @@ impl Parser {
             },
             phases: Vec::new(alloc),
             tickets: Vec::new(alloc),
+            watches: Vec::new(alloc),
         }
     }
 
@@ -404,8 +411,11 @@ impl Parser {
         if name == "end" {
             return self.end(client, rest);
         }
-        if name == "mutate" {
-            return self.mutate(rest);
+        if name == "watch" {
+            return self.watch(client, rest);
+        }
+        if name == "poll" {
+            return self.poll(client, rest);
         }
         self.look(name, rest)
     }
@@ -426,6 +436,9 @@ impl Parser {
         }
         if name == "learn" {
             return self.learn(rest);
+        }
+        if name == "mutate" {
+            return self.mutate(rest);
         }
         self.bare(name, rest)
     }
@@ -453,10 +466,50 @@ impl Parser {
         ensures { Tells (scan_line (context_of self.now) (option_copied rest.entry))
             (context_of self.now) result }
     {
-        let (prefix, rest) = word_of(rest)?;
-        let (start, rest) = word_of(rest)?;
-        let scan = scan_of(self.alloc, prefix, start, one_word(rest)?)?;
+        let scan = scan_words(self.alloc, rest)?;
         Ok(Command::Query(Query::Scan(scan)))
+    }
+
+    #[tactic(auto, unfolding(crate::specs::Commands::watch_line))]
+    fn watch(&mut self, client: usize, rest: Option<&str>) -> Result<Command, LineFault>
+        ensures { Tells (watch_line (context_of self.old) client (option_copied rest.entry))
+            (context_of self.new) result }
+    {
+        let (name, rest) = first_word(self::rest(rest)?);
+        if !is_ticket_name(name) {
+            return Err(LineFault::Script(ScriptFault::BadWords));
+        }
+        let scan = scan_words(self.alloc, rest)?;
+        let name = self.make_watch(client, name)?;
+        Ok(Command::Watch(name, scan))
+    }
+
+    /// Notes that a line of a client makes a watch, and answers its name.
+    fn make_watch(&mut self, client: usize, name: &str) -> Result<Text, AllocError>
+        ensures name { IfOk result (λ text. text ≡ name.now) }
+        ensures made { OnOk result (context_of self.new ≡ record (context_of self.old) {
+          watches = (context_of self.old).watches ++ (client, name.now) ∷ [];
+        }) }
+    {
+        let name = Text::new(self.alloc, name)?;
+        let made = name.clone()?;
+        self.watches.push(Made { client, name: made })?;
+        Ok(name)
+    }
+
+    #[tactic(auto, unfolding(crate::specs::Commands::poll_line))]
+    fn poll(&self, client: usize, rest: Option<&str>) -> Result<Command, LineFault>
+        ensures { Tells (poll_line (context_of self.now) client (option_copied rest.entry))
+            (context_of self.now) result }
+    {
+        let name = self::rest(rest)?;
+        if !is_ticket_name(name) {
+            return Err(LineFault::Script(ScriptFault::BadWords));
+        }
+        if !has_made(&self.watches, client, name) {
+            return Err(LineFault::Script(ScriptFault::UnknownName));
+        }
+        Ok(Command::Poll(Text::new(self.alloc, name)?))
     }
 
     #[tactic(auto, unfolding(crate::specs::Commands::mutate_line))]
@@ -501,9 +554,9 @@ impl Parser {
         if !is_ticket_name(name) {
             return Err(LineFault::Script(ScriptFault::BadWords));
         }
-        let ticket = Text::new(self.alloc, name)?;
-        let name = ticket.clone()?;
-        self.tickets.push(MadeTicket { client, ticket })?;
+        let name = Text::new(self.alloc, name)?;
+        let made = name.clone()?;
+        self.tickets.push(Made { client, name: made })?;
         Ok(Command::Begin(name))
     }
 
@@ -517,18 +570,11 @@ impl Parser {
             return Err(LineFault::Script(ScriptFault::BadWords));
         }
         let body = self::rest(body)?;
-        if !self.has_made(client, name) {
+        if !has_made(&self.tickets, client, name) {
             return Err(LineFault::Script(ScriptFault::UnknownName));
         }
         let name = Text::new(self.alloc, name)?;
         Ok(Command::End(name, Text::new(self.alloc, body)?))
-    }
-
-    #[tactic(auto, unfolding(crate::specs::Commands::is_made))]
-    fn has_made(&self, client: usize, ticket: &str) -> bool
-        ensures { result ≡ is_made client ticket.now (map (λ made. (made.client, made.ticket)) self.now.tickets.items) }
-    {
-        self.tickets.iter().any(|made| made.client == client && made.ticket.as_str() == ticket)
     }
 
     #[tactic(auto, unfolding(crate::specs::Commands::bare_line))]
@@ -567,6 +613,25 @@ impl Phase {
         }
         Ok(())
     }
+}
+
+/// Whether a line of this client made the ticket, or the watch.
+#[tactic(auto, unfolding(crate::specs::Commands::is_made))]
+fn has_made(all: &Vec<Made>, client: usize, name: &str) -> bool
+    ensures { result ≡ is_made client name.now (map made_said all.now.items) }
+{
+    all.iter()
+        .any(|made| made.client == client && made.name.as_str() == name)
+}
+
+/// The scan that the rest of a line is.
+#[tactic(auto, unfolding(crate::specs::Commands::scan_words))]
+fn scan_words(alloc: Global, rest: Option<&str>) -> Result<Scan, LineFault>
+    ensures { Reads (scan_words (option_copied rest.entry)) result }
+{
+    let (prefix, rest) = word_of(rest)?;
+    let (start, rest) = word_of(rest)?;
+    scan_of(alloc, prefix, start, one_word(rest)?)
 }
 
 /// The scan of three words: its prefix, its start and its limit.

@@ -7,6 +7,7 @@ use Rattle.script_runner.specs.declared.script.ClientLine.{ClientLine}
 use Rattle.script_runner.specs.declared.script.Command.{Command}
 use Rattle.script_runner.specs.declared.script.Command.TheVariants as command
 use Rattle.script_runner.specs.declared.script.Line.{Line}
+use Rattle.script_runner.specs.declared.script.Made.{Made}
 use Rattle.script_runner.specs.declared.script.Phase.{Phase}
 use Rattle.script_runner.specs.declared.script.Script.{Script}
 use Rattle.script_runner.specs.declared.script.Parser.{Parser}
@@ -24,6 +25,10 @@ line_said line = (line.number, line.command)
 abbrev pub phase_said : Phase → List Lines
 phase_said phase = map (λ lines. map line_said lines.items) phase.lines.items
 
+-- what a line has said that makes a ticket or a watch: the place of its client, and the name
+abbrev pub made_said : Made → ℕ × Bytes
+made_said made = (made.client, made.name)
+
 -- what the lines so far have said
 abbrev pub context_of : Parser → Context
 context_of p = record {
@@ -33,7 +38,8 @@ context_of p = record {
   slots = p.header.slots;
   clients = map client_said p.header.clients.items;
   phases = map phase_said p.phases.items;
-  tickets = map (λ made. (made.client, made.ticket)) p.tickets.items;
+  tickets = map made_said p.tickets.items;
+  watches = map made_said p.watches.items;
 }
 
 -- the script is what was said

@@ -12,7 +12,7 @@ use Rattle.script_runner.specs.declared.client.Client.{Client}
 use Rattle.script_runner.specs.declared.phase.Turn.{Turn}
 use Rattle.script_runner.specs.declared.script.Line.{Line}
 use Rattle.script_runner.specs.declared.script.Command.{Command}
-use Rattle.script_runner.specs.Callers.{Standing}
+use Rattle.script_runner.specs.Callers.{Rules, Standing}
 use Rattle.script_runner.specs.Commanding.{MayPrint, Player}
 use Rattle.script_runner.specs.Context.{Lines}
 use Rattle.script_runner.specs.Phases.{AreTold}
@@ -40,15 +40,15 @@ lines_said lines = map (λ own. map line_said own.items) lines
 abbrev pub AreOf : {C : Type 0} → (C → Standing) → Book → List (Turn C) → Type 0
 AreOf stands book turns = All (λ t. (stands t.client.caller).mark.book ≡ book) turns
 
-module _ (may_reply : Standing → Call → Result Replied Refusal → Standing → Type 0) (learns : Standing → Known → Standing → Type 0) where
+module _ (law : Rules) where
   -- the printed text gained the line of output of one line
   pub record IsTold (seen : List Known) (before : Player) (l : ℕ × Command) (old new : Bytes) (after : Player) : Type 0 where
     pub told : Bytes
-    pub may : MayPrint may_reply learns seen before l.1 told after
+    pub may : MayPrint law seen before l.1 told after
     pub name : after.name ≡ before.name
     pub text : new ≡ old ++ line_text l.0 before.name told
 
   -- a client's part of a phase, where memory wasn't refused
   pub record IsTurn {C : Type 0} (stands : C → Standing) (seen : List Known) (lines : List Line) (before : Client C) (after : Turn C) : Type 0 where
-    pub told : IfOk after.printed (λ text. AreTold may_reply learns seen (player_of stands before) (map line_said lines) text.items (player_of stands after.client))
+    pub told : IfOk after.printed (λ text. AreTold law seen (player_of stands before) (map line_said lines) text.items (player_of stands after.client))
     pub group : (stands after.client.caller).mark.book ≡ (stands before.caller).mark.book

@@ -17,15 +17,15 @@ for_each_mut-requires-clause-accepts g c b m i p below is = (
 
 pub returns : goal.returns
 returns g c =
-    let stands = g.C.Caller.stands in let may = g.C.Caller.may_reply in let learns = g.C.Caller.learns in
+    let stands = g.C.Caller.stands in let law = g.C.Caller.law in
     let old = c.args.turns.now in let new = c.for_each_mut.new.s in let lines = c.args.lines.now in
     let seen = map g.C.Caller.seen_by c.in_ok-seen.seen.items in
-    let turns : (i : ℕ) (d : Turn _) (own : Vec Line) → i < length old → IsTurn may learns stands seen (slice_index_or lines i own).items (slice_index_or old i d).client (slice_index_or new i d) = λ i d own below.
+    let turns : (i : ℕ) (d : Turn _) (own : Vec Line) → i < length old → IsTurn law stands seen (slice_index_or lines i own).items (slice_index_or old i d).client (slice_index_or new i d) = λ i d own below.
     let w = (c.for_each_mut.ensures i d below).1 in
-    subst (λ x. IsTurn may learns stands seen (slice_index_or lines i own).items x.client (slice_index_or new i d)) w.argument_is
-    (subst (λ y. IsTurn may learns stands seen (slice_index_or lines i own).items w.argument.now.client y) w.left (w.call own)) in
+    subst (λ x. IsTurn law stands seen (slice_index_or lines i own).items x.client (slice_index_or new i d)) w.argument_is
+    (subst (λ y. IsTurn law stands seen (slice_index_or lines i own).items w.argument.now.client y) w.left (w.call own)) in
     record {
-      phase = λ printed. phase stands may learns seen old new lines c.in_ok-seen.ensures c.for_each_mut.auto.s c.requires.lines turns printed;
-      group = still_one stands may learns seen old new lines c.for_each_mut.auto.s c.requires.lines turns;
+      phase = λ printed. phase stands law seen old new lines c.in_ok-seen.ensures c.for_each_mut.auto.s c.requires.lines turns printed;
+      group = still_one stands law seen old new lines c.for_each_mut.auto.s c.requires.lines turns;
       count = c.for_each_mut.auto.s;
     }

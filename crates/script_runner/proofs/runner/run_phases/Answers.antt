@@ -16,7 +16,7 @@ loop-phase-preserved g c =
     record {
       written = (
         so_far.0 ++ concat (texts_of new),
-        phase-more g.C.Caller.may_reply g.C.Caller.learns (players_of stands c.args.turns.now) (players_of stands l.turns) (players_of stands new) c.args.phases.now l.phase-index so_far.0 c.phase-item.result (texts_of new) c.loop-phase-test.true
+        phase-more g.C.Caller.law (players_of stands c.args.turns.now) (players_of stands l.turns) (players_of stands new) c.args.phases.now l.phase-index so_far.0 c.phase-item.result (texts_of new) c.loop-phase-test.true
             c.phase-item.is so_far.1 c.in_ok-write_phase.ensures.phase,
         appends-twice (g.W.Write.contents c.args.out.now) (g.W.Write.contents l.out) (g.W.Write.contents c.write_phase.new.out) so_far.0 (concat (texts_of new)) so_far.2 c.in_ok-write_phase.ensures.text,
       );
@@ -35,6 +35,6 @@ returns-in_err-write_phase-clause-want g c want =
       l.phase-index,
       so_far.0,
       players_of stands l.turns,
-      subst (λ w. AreWritten g.C.Caller.may_reply g.C.Caller.learns (players_of stands c.args.turns.now) w so_far.0 (players_of stands l.turns)) (sym (take-map phase_said l.phase-index c.args.phases.now)) so_far.1,
+      subst (λ w. AreWritten g.C.Caller.law (players_of stands c.args.turns.now) w so_far.0 (players_of stands l.turns)) (sym (take-map phase_said l.phase-index c.args.phases.now)) so_far.1,
       appends-kept (g.W.Write.contents c.args.out.now) (g.W.Write.contents l.out) (g.W.Write.contents c.write_phase.new.out) so_far.0 so_far.2 (c.in_err-write_phase.ensures.want lacked),
     )

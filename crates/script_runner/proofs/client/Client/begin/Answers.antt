@@ -9,7 +9,7 @@ use Rattle.script_runner.proofs.client.Client.begin.Goals as goal
 
 pub returns-in-Ok-Ticket-clause-told : goal.returns-in-Ok-Ticket-clause-told
 returns-in-Ok-Ticket-clause-told g c =
-    let stands = g.C.Caller.stands in let may = g.C.Caller.may_reply in let answer = Ok (ticket (asked c.in-Ok-Ticket.ticket)) in
+    let stands = g.C.Caller.stands in let may = g.C.Caller.law.may_reply in let answer = Ok (ticket (asked c.in-Ok-Ticket.ticket)) in
     record {
       answer = answer;
       may = subst (λ w. may (stands c.args.self.now.caller) call.BeginPull answer (stands w)) (sym c.keep.ensures.same.1)
