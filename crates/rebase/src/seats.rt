@@ -71,6 +71,7 @@ where
     /// A seat that no client has. It is `NoSeat` where all are out. Takes no memory.
     pub fn take(&mut self) -> Result<Seat<M, S>, Refusal>
         ensures room { IfOk result (λ _. vec_len self.new.free < vec_capacity self.new.free) }
+        ensures capacity { vec_capacity self.new.free ≡ vec_capacity self.old.free }
         ensures taken { IfOk result (λ seat. self.old.free.items ≡ self.new.free.items ++ seat ∷ []) }
         ensures none { IfErr result (λ e. (e ≡ refusal.NoSeat) × (self.old.free.items ≡ []) × (self.new.free.items ≡ [])) }
     {

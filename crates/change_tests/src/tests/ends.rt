@@ -66,17 +66,19 @@ fn ends<S: Store<ScriptMutators>>(
 ) -> Answer
 where
     S::Seat: Drop,
+    ensures { client.new.mark.book ≡ client.old.mark.book }
 {
     let ended = client.try_end_pull(ticket, body.as_bytes(), 1)?;
     Ok(Told::Ended(ended))
 }
 
-fn ends_anew<S: Store<ScriptMutators>>(
+pub(super) fn ends_anew<S: Store<ScriptMutators>>(
     client: &mut Client<'_, ScriptMutators, S>,
     body: &str,
 ) -> Answer
 where
     S::Seat: Drop,
+    ensures { client.new.mark.book ≡ client.old.mark.book }
 {
     let ticket = client.begin_pull(1)?;
     ends(client, &ticket, body)

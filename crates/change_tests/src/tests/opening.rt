@@ -1,5 +1,5 @@
 //! How the tests open a group: whose it is, how it is laid out, and a client on its next seat.
-ghost use Rattle.std.specs.Prelude.{◌≡◌, IfOk};
+ghost use Rattle.std.specs.Prelude.{◌≡◌, ◌<◌, IfOk, vec_capacity, vec_len};
 ghost use Rattle.std.specs.List.{All};
 
 use chunk_slots::Store;
@@ -48,6 +48,7 @@ where
     S::Seat: Drop,
     requires { All (λ seat. (seat.mark.book ≡ group.now.shared.head) × (S.home seat.slots ≡ S.serves group.now.shared.store)) seats.old.free.items }
     ensures seats { All (λ seat. (seat.mark.book ≡ group.now.shared.head) × (S.home seat.slots ≡ S.serves group.now.shared.store)) seats.new.free.items }
+    ensures room { IfOk result (λ _. vec_len seats.new.free < vec_capacity seats.new.free) }
     ensures group { IfOk result (λ client. client.mark.book ≡ group.now.shared.head) }
 {
     let seat = seats.take()?;
