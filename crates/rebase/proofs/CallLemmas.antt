@@ -18,7 +18,7 @@ use Rattle.group_history.proofs.Lists.{prefix_self, prefix_trans}
 use Rattle.head_word.specs.declared.entry.Entry.{Entry}
 use Rattle.head_word.specs.declared.entry.Entry.TheVariants as v
 use Rattle.head_word.specs.Books.{record_of, with_change}
-use Rattle.head_word.specs.Marks.{Known, own, own_of, others}
+use Rattle.head_word.specs.Marks.{Known, own, own_of}
 use Rattle.head_word.specs.Tallies.{key_of, mine}
 use Rattle.head_word.proofs.Books.{record_more}
 use Rattle.head_word.proofs.Counting.{mine_more}
@@ -242,7 +242,7 @@ ended_told means tries old new c x ticket body r call_is is =
     (answers_told ended means tries old new r (change_read ticket.now.cookie (answer_to body.now)) (λ s. end_bytes_reply s ticket.now.cookie.text body.now)
     (change_of c (call.EndPull ticket body)) (λ s. reply_to means c s (call.EndPull ticket body)) (ap (change_read ticket.now.cookie (answer_to body.now)) (ended_shown r)) (λ s. refl) is)
 
-missing : (reused : Type 0) (e : Refusal) → (e ≡ refusal.NoMemory) ⊎ IsMissed reused e → (is_want e ≡ true) × (e ≢ refusal.Moved)
+pub missing : (reused : Type 0) (e : Refusal) → (e ≡ refusal.NoMemory) ⊎ IsMissed reused e → (is_want e ≡ true) × (e ≢ refusal.Moved)
 missing reused e (inl none) = (ap is_want none, λ moved. let h : refusal.NoMemory ≡ refusal.Moved = sym none ∙ moved in cc h)
 missing reused e (inr (inl gone)) = (ap is_want gone, λ moved. let h : refusal.Gone ≡ refusal.Moved = sym gone ∙ moved in cc h)
 missing reused e (inr (inr busy)) = (ap is_want busy.1, λ moved. let h : refusal.Busy ≡ refusal.Moved = sym busy.1 ∙ moved in cc h)

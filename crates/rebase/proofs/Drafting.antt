@@ -1,5 +1,5 @@
 -- What a draft of a mutation answers.
-use Rattle.std.proofs.Common.{◌≡◌, ◌≢◌, ◌⊎◌, inl, inr, ℕ, true, List, [], Option, Some, None, Result, Ok, Err, refl, sym, ap, subst, ◌∙◌, append-nil}
+use Rattle.std.proofs.Common.{◌≡◌, ◌≢◌, ◌⊎◌, inl, inr, ℕ, true, [], Option, Some, None, Result, Err, refl, sym, ap, subst, ◌∙◌, append-nil}
 use Rattle.group_history.specs.declared.changes.Change.{Change}
 use Rattle.group_history.specs.declared.mutations.Mutation.{Mutation}
 use Rattle.group_history.specs.declared.refusals.Refusal.{Refusal}
@@ -7,7 +7,7 @@ use Rattle.group_history.specs.declared.refusals.Refusal.TheVariants as refusal
 use Rattle.group_history.specs.Answers.{Refuses}
 use Rattle.group_history.specs.Meaning.{Meaning, Meanings, unknown, refuses, done}
 use Rattle.group_history.specs.Mutating.{by_meaning}
-use Rattle.group_history.specs.Spelling.{Contents, Version, version_at, version_of, Spells}
+use Rattle.group_history.specs.Spelling.{Contents, Version, version_of, Spells}
 use Rattle.group_history.specs.State.{State}
 use Rattle.group_history.specs.Stops.{told_as}
 use Rattle.map_chunks.specs.Places.{with_nodes}
@@ -15,7 +15,7 @@ use Rattle.commits.specs.Stores.{IsLost}
 use Rattle.answered.specs.Answered.{is_want}
 use Rattle.answered.specs.Changes.{change_made}
 use Rattle.answered.specs.Trying.{IsUnproposed}
-use Rattle.replays.specs.Refusing.{StopsAs, RefusesFor, RefusesOrStamps}
+use Rattle.replays.specs.Refusing.{StopsAs, RefusesFor}
 use Rattle.rebase.specs.Queries.{told}
 
 -- one commit spells one state

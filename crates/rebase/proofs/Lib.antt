@@ -8,4 +8,4 @@ pub mod Seating
 pub mod Telling
 pub mod Trying
 pub mod Unread
-pub mod Watching
+pub mod Polling

@@ -22,7 +22,7 @@ use Rattle.group_history.proofs.Lists.{prefix_trans}
 use Rattle.map_chunks.proofs.Texts.{same_text-itself}
 use Rattle.head_word.specs.declared.entry.Entry.{Entry}
 use Rattle.head_word.specs.Books.{record_of}
-use Rattle.head_word.specs.Marks.{Known, others}
+use Rattle.head_word.specs.Marks.{Known}
 use Rattle.commits.specs.LastIds.{last_in, last_at}
 use Rattle.commits.proofs.Few.{last_id-small}
 use Rattle.answered.specs.Answered.{IsPoint, IsRefused, IsLeft, Answers, is_want, own_moves}

@@ -1,6 +1,6 @@
 -- The calls of a client: what is right to reply to each, the change that a reply stands for, and when a list of calls is
 -- answered as a group of one thread answers it. What a refused call leaves is this project's own rule.
-use Rattle.std.specs.Prelude.{ℕ, ◌≡◌, ◌⊎◌, ◌+◌, ◌-◌, Bool, true, false, List, [], ◌∷◌, length, filter, Option, Some, None, Result, Ok, Err}
+use Rattle.std.specs.Prelude.{ℕ, ◌≡◌, ◌⊎◌, ◌+◌, ◌-◌, Bool, true, false, List, [], ◌∷◌, length, filter, Option, None, Result, Ok, Err}
 use mathlib.Core.List.{IsPrefix}
 use Rattle.group_history.specs.declared.changes.Change.{Change}
 use Rattle.group_history.specs.declared.mutations.Mutation.{Mutation}

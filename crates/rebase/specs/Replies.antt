@@ -1,5 +1,5 @@
 -- Replies as clauses see them.
-use Rattle.std.specs.Prelude.{ℕ, Bool, List, Option, Result, Ok, Err}
+use Rattle.std.specs.Prelude.{ℕ, Bool, List, Option}
 use Rattle.group_history.specs.declared.mutations.Mutation.{Mutation}
 use Rattle.group_history.specs.declared.responses.Ended.{Ended}
 use Rattle.group_history.specs.Cookies.{Cookie}

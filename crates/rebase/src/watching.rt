@@ -34,7 +34,7 @@ pub struct Rows {
 
 impl Model for Rows {
     ghost use Rattle.std.specs.Prelude.{List};
-    ghost use Rattle.std.specs.Cmp as laws;
+    ghost use Rattle.std.specs.Arc.{arc_value};
     ghost use Rattle.group_history.specs.Map.{Bytes};
 
     ghost Value = { List (Bytes × Bytes) };
@@ -92,6 +92,18 @@ pub(crate) struct Told {
     rows: Rows,
 }
 
+fn copy_of(last: &Option<Told>) -> Result<Option<Told>, AllocError>
+    ensures { IfOk result (λ copy. copy ≡ last.now) }
+{
+    match last {
+        Some(told) => Ok(Some(Told {
+            root: told.root,
+            rows: told.rows.clone()?,
+        })),
+        None => Ok(None),
+    }
+}
+
 /// A scan that is polled. It may be polled by any client of its group.
 #[derive(Drop)]
 pub struct Watch<M: Means> {
@@ -145,23 +157,8 @@ impl<M: Means> Watch<M> {
         }
     }
 
-    // The rows that were read there are those that were answered last.
-    fn found_again(&mut self, at: &Point<M>)
-        requires book { self.old.book ≡ at.now.book }
-        requires rows { self.old.last ≡ Some (rows_at M.means (after (record_of at.now.log)) self.old.scan) }
-        ensures { self.new ≡ self.old }
-    {
-        if let Some(Told { root: _, rows }) = self.last.take() {
-            self.last = Some(Told {
-                root: at.root(),
-                rows,
-            });
-        }
-        self.mark = at.mark();
-    }
-
-    // The rows that were read there are answered.
-    fn found_new(&mut self, at: &Point<M>, rows: Rows)
+    // Keeps the rows that were read there as the last ones.
+    fn keep(&mut self, at: &Point<M>, rows: Rows)
         requires book { self.old.book ≡ at.now.book }
         requires rows { rows ≡ rows_at M.means (after (record_of at.now.log)) self.old.scan }
         ensures { self.new ≡ record self.old { last = Some rows } }
@@ -182,11 +179,11 @@ impl<M: Means> Watch<M> {
         ensures left { IfErr result (λ _. self.new ≡ self.old) }
     {
         if self.has_told(&rows) {
-            self.found_again(at);
+            self.keep(at, rows);
             return Ok(Polled::Unchanged);
         }
         let kept = rows.clone()?;
-        self.found_new(at, kept);
+        self.keep(at, kept);
         Ok(Polled::New(rows))
     }
 
@@ -217,13 +214,7 @@ impl<M: Means> Clone for Watch<M> {
 
     fn clone(&self) -> Result<Watch<M>, AllocError> {
         let scan = self.scan.clone()?;
-        let last = match &self.last {
-            Some(told) => Some(Told {
-                root: told.root,
-                rows: told.rows.clone()?,
-            }),
-            None => None,
-        };
+        let last = copy_of(&self.last)?;
         Ok(Watch {
             scan,
             mark: self.mark.copy(),

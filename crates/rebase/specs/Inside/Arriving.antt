@@ -5,7 +5,6 @@ use Rattle.group_history.specs.declared.refs.Ref.{Ref}
 use Rattle.group_history.specs.Ids.{IdsFollow}
 use Rattle.group_history.specs.Meaning.{Meanings}
 use Rattle.group_history.specs.Record.{after}
-use Rattle.group_history.specs.State.{State}
 use Rattle.head_word.specs.Books.{last_move, next_stamp, record_of}
 use Rattle.head_word.specs.Marks.{Known, others}
 use Rattle.answered.specs.Answered.{IsPoint, own_moves}

@@ -1,4 +1,4 @@
-use Rattle.std.proofs.Common.{◌≡◌, ◌<◌, ◌^◌, subst, rules}
+use Rattle.std.proofs.Common.{◌<◌, ◌^◌, subst, rules}
 use Rattle.std.specs.Prelude.{IfSome}
 use Rattle.group_history.specs.declared.refs.Ref.{Ref}
 use Rattle.group_history.specs.Ids.{IdsFollow}

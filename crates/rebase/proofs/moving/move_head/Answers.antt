@@ -7,7 +7,7 @@ use Rattle.group_history.specs.Spelling.{version_of, Spells}
 use Rattle.group_history.specs.State.{State}
 use Rattle.head_word.specs.Books.{drawn}
 use Rattle.head_word.proofs.BookLaws.{spelled-stays}
-use Rattle.answered.specs.Trying.{Ends, IsWon}
+use Rattle.answered.specs.Trying.{Ends}
 use Rattle.answered.proofs.Losing.{point_since}
 use Rattle.publishing.proofs.Carrying.{placed-spelled}
 use Rattle.rebase.proofs.Drafting.{one_state}

@@ -1,12 +1,11 @@
-use Rattle.std.proofs.Common.{◌≡◌, true, Some, Result, Ok, refl, sym, ap, subst, ◌∙◌, rules}
+use Rattle.std.proofs.Common.{◌≡◌, true, Ok, refl, sym, ap, subst, ◌∙◌, rules}
 use Rattle.group_history.specs.declared.changes.Change.TheVariants.{Mutated}
 use Rattle.group_history.specs.declared.mutations.Mutation.{Mutation}
-use Rattle.group_history.specs.declared.refusals.Refusal.{Refusal}
 use Rattle.group_history.specs.Meaning.{meaning_of}
 use Rattle.group_history.specs.Mutating.{mutate_reply, by_meaning, after_mutate}
 use Rattle.group_history.specs.Refs.{stamp_of}
 use Rattle.group_history.specs.Spelling.{Contents, Spells, version_at, version_of}
-use Rattle.group_history.specs.State.{State, view_of}
+use Rattle.group_history.specs.State.{view_of}
 use Rattle.group_history.proofs.Lists.{prefix_self}
 use Rattle.head_word.specs.Books.{drawn}
 use Rattle.head_word.specs.Marks.{Known}
@@ -19,7 +18,7 @@ use Rattle.replays.specs.Chaining.{IsTip}
 use Rattle.replays.specs.Refusing.{RefusesFor}
 use Rattle.rebase.specs.Queries.{told}
 use Rattle.rebase.specs.Inside.Proposing.{change_asked}
-use Rattle.rebase.proofs.Drafting.{one_state, behind_none, refused_for, told_unproposed}
+use Rattle.rebase.proofs.Drafting.{behind_none, refused_for, told_unproposed}
 use Rattle.rebase.proofs.Making.{reply_next, accepted_next}
 use Rattle.rebase.proofs.proposing.draft_mutation.Goals as goal
 

@@ -1,12 +1,10 @@
-use Rattle.std.proofs.Common.{◌≡◌, ap, ◌∙◌, arith, filter, length, List}
+use Rattle.std.proofs.Common.{◌≡◌, ap, ◌∙◌, arith, filter, length}
 use Rattle.group_history.specs.Refs.{stamp_of}
 use Rattle.group_history.specs.Record.{after}
 use Rattle.group_history.specs.Spelling.{version_of}
 use Rattle.group_history.proofs.Lists.{prefix_length}
 use Rattle.group_history.proofs.RecordLaws.{record_laws_hold}
-use Rattle.head_word.specs.declared.entry.Entry.{Entry}
 use Rattle.head_word.specs.Books.{record_of}
-use Rattle.head_word.specs.Marks.{Known, own, others}
 use Rattle.head_word.proofs.BookLaws.{spelled-stays}
 use Rattle.answered.specs.Answered.{is_move, own_moves}
 use Rattle.rebase.proofs.Making.{point_later}

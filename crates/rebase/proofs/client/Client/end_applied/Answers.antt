@@ -1,9 +1,8 @@
-use Rattle.std.proofs.Common.{◌≡◌, Bool, Option, Result, Ok, Err, true, false, refl, subst, rules}
+use Rattle.std.proofs.Common.{◌≡◌, Option, Ok, Err, true, false, refl, subst, rules}
 use Rattle.group_history.specs.declared.changes.Change.TheVariants.{Pulled}
 use Rattle.group_history.specs.declared.responses.Ended.TheVariants as ended
 use Rattle.group_history.specs.declared.responses.Response.TheVariants as response
 use Rattle.group_history.specs.declared.refs.Ref.{Ref}
-use Rattle.group_history.specs.declared.refusals.Refusal.{Refusal}
 use Rattle.group_history.specs.Cookies.{Cookie}
 use Rattle.group_history.specs.Pulling.{end_reply}
 use Rattle.answered.specs.Answered.{Answers}

@@ -1,18 +1,26 @@
 -- What a watch has told: rows that are the same one by one are equal, and a root's rows stay.
-use Rattle.std.proofs.Common.{◌≡◌, ◌⊎◌, inl, inr, ℕ, ◌&&◌, Bool, true, false, List, Option, None, Some, if◌then◌else◌, refl, sym, ap, ◌∙◌}
+use Rattle.std.proofs.Common.{◌≡◌, ◌⊎◌, inl, inr, ℕ, ◌&&◌, Bool, true, false, List, Option, None, Some, Result, Ok, Err, IfOk, IfErr, if◌then◌else◌, refl, sym, ap, ◌∙◌, subst}
 use Rattle.std.specs.Bool.{Decides}
 use Rattle.std.specs.Cmp.Lexicographic.{pointwise_decides, bytes_decides}
 use Rattle.std.proofs.lemmas.Bool.{and_from}
 use mathlib.Core.List.{IsPrefix}
-use Rattle.group_history.specs.declared.scans.Scan.{Scan}
+use Rattle.std.proofs.lemmas.List.{append-nil}
+use Rattle.group_history.specs.declared.refusals.Refusal.{Refusal}
+use Rattle.group_history.specs.declared.refusals.Refusal.TheVariants as refusal
+use Rattle.group_history.specs.Meaning.{Meanings}
+use Rattle.group_history.specs.Record.{after}
+use Rattle.group_history.specs.State.{State}
 use Rattle.group_history.specs.Map.{Bytes, Entries}
 use Rattle.group_history.specs.Map.{same_text as same_bytes}
-use Rattle.group_history.specs.Scans.{rows_of}
-use Rattle.group_history.specs.Spelling.{Contents, map_at}
+use Rattle.group_history.specs.Spelling.{map_at}
 use Rattle.head_word.specs.declared.entry.Entry.{Entry}
-use Rattle.head_word.specs.Books.{drawn}
+use Rattle.head_word.specs.Books.{drawn, record_of}
+use Rattle.head_word.specs.Marks.{Known}
 use Rattle.head_word.proofs.BookLaws.{drawn_begins}
 use Rattle.commits.proofs.Spelled.{map-grown}
+use Rattle.answered.specs.Answered.{Answers, IsPoint, IsRefused, nothing, own_moves}
+use Rattle.rebase.specs.Queries.{IsMissed}
+use Rattle.rebase.proofs.CallLemmas.{missing}
 use Rattle.rebase.specs.declared.watching.Polled.{Polled}
 use Rattle.rebase.specs.declared.watching.Polled.TheVariants as polled
 use Rattle.rebase.specs.Watching.{Rows, poll_reply, same_rows, was_told}
@@ -52,3 +60,11 @@ told_again last rows is =
 pub was_told-is : (last : Option Rows) (rows : Rows) → was_told last rows ≡ true → last ≡ Some rows
 was_told-is None rows e = absurd cc
 was_told-is (Some last) rows e = ap Some ((rows_decide last rows).0 e)
+
+-- what is told of the rows at a point is right there
+pub polled_at : (reused : Type 0) (means : Meanings) (tries : ℕ) (old new : Known) (log : List Entry) (r : Result Polled Refusal) (right : State → Polled) → IsPoint means old new None log → IfOk r (λ polled. polled ≡ right (after (record_of log)))
+    → IfErr r (λ e. (e ≡ refusal.NoMemory) ⊎ IsMissed reused e) → Answers means tries old new r nothing (λ s. Ok (right s))
+polled_at reused means tries old new log (Ok polled) right p ok err = (log, p, ap Ok (sym ok))
+polled_at reused means tries old new log (Err e) right p ok err =
+    let want = missing reused e err in
+    subst (λ b. IsRefused means tries old new b e None (λ s. Ok (right s) ≡ Err e)) (sym want.0) (p.moves ∙ append-nil (own_moves old), λ moved. absurd (want.1 moved))
