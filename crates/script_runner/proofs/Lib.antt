@@ -8,3 +8,4 @@ pub mod Numbers
 pub mod Scripts
 pub mod Turns
 pub mod Openings
+pub mod Watches

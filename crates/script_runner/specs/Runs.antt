@@ -44,13 +44,13 @@ pub record HasRun (said : Context) (old new : Option Bytes) : Type 0 where
   pub are : AreNew (identity_of said.group said.profile said.schema) said.clients opened
   pub text : Bytes
   pub closed : List Player
-  pub written : AreWritten MayReply Learns opened said.phases text closed
+  pub written : AreWritten shared_rules opened said.phases text closed
   pub appended : Appends old new text
 
 -- A run that memory ended has written what so many whole phases print, none where its clients were not opened.
 pub record HasRunSome (said : Context) (old new : Option Bytes) (opened : List Player) : Type 0 where
   pub are : AreNew (identity_of said.group said.profile said.schema) said.clients opened
-  pub written : HasWhole MayReply Learns opened said.phases old new
+  pub written : HasWhole shared_rules opened said.phases old new
 
 abbrev pub HasStopped : Context → Option Bytes → Option Bytes → Type 0
 HasStopped said old new = Keeps old new ⊎ ((opened : List Player) × HasRunSome said old new opened)

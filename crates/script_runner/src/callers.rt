@@ -1,7 +1,6 @@
 //! Who makes the calls of a script: a client of a group.
 ghost use Rattle.std.specs.Prelude.{◌≡◌, Result, Some, IfNone, IfSome, OnErr, OnOk, codes, is_some};
 ghost use Rattle.std.specs.FinMap as finite;
-ghost use Rattle.group_history.specs.Map.{Bytes};
 ghost use Rattle.head_word.specs.Marks.{Known};
 ghost use Rattle.rebase.specs.Queries.{told};
 ghost use Rattle.rebase.specs.Replies.{reply_seen};
@@ -9,12 +8,12 @@ ghost use Rattle.rebase.specs.Watching.{Watched};
 ghost use Rattle.script_runner.specs.Callers.{MayPoll, Rules, Standing, sight_of, unwatched, watching};
 ghost use Rattle.script_runner.specs.Inside.Players.{standing_of};
 
-use chunk_slots::Arena;
+use crate::shared::SharedClient;
 use group_history::{Refusal, Scan, Text, TextMap};
 use head_word::Mark;
-use rebase::{Call, Client, Polled, Reply, Watch};
+use rebase::{Call, Polled, Reply, Watch};
 use script_mutators::ScriptMutators;
-use std::alloc::{AllocError, Global};
+use std::alloc::AllocError;
 use std::sync::Wait;
 
 /// How often a call tries that doesn't wait.
@@ -61,29 +60,7 @@ pub(crate) trait Caller {
         ensures group { (stands self.new).mark.book ≡ (stands self.old).mark.book };
 }
 
-/// A client of a group whose clients may all call at the same time, and its watches.
-#[derive(Drop)]
-pub(crate) struct SharedClient<'g> {
-    client: Client<'g, ScriptMutators, Arena<ScriptMutators>>,
-    watches: TextMap<Watch<ScriptMutators>>,
-    ghost of_group: { (name : Bytes) (watch : Watched) → finite.get watches name ≡ Some watch → watch.book ≡ client.mark.book } by { Prim.hlevel codes },
-}
-
 impl<'g> SharedClient<'g> {
-    /// A client without watches.
-    pub(crate) fn new(
-        alloc: Global,
-        client: Client<'g, ScriptMutators, Arena<ScriptMutators>>,
-    ) -> SharedClient<'g>
-        ensures client { result.client ≡ client }
-        ensures watches { result.watches ≡ finite.empty }
-    {
-        SharedClient {
-            client,
-            watches: TextMap::new(alloc),
-        }
-    }
-
     /// Polls a watch, and keeps it. Where memory is refused for it the watch is as it was.
     fn poll_kept(&mut self, name: &Text, watch: Watch<ScriptMutators>) -> Result<Polled, Refusal>
         requires { finite.get self.old.watches name.now ≡ Some watch }

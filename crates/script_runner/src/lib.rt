@@ -17,6 +17,7 @@ mod process;
 mod reply;
 mod runner;
 mod script;
+mod shared;
 
 pub use faults::{Fault, ScriptFault};
 pub use phase::Gate;

@@ -13,12 +13,13 @@ ghost use Rattle.script_runner.specs.Inside.Parsing.{IsChecked, IsScript, client
 ghost use Rattle.script_runner.specs.Inside.Players.{player_of, players_of, standing_of};
 ghost use Rattle.script_runner.specs.Inside.Turns.{AreOf, IsPrinted, texts_of};
 
-use crate::callers::{Caller, SharedClient, TRIES};
+use crate::callers::{Caller, TRIES};
 use crate::client::Client;
 use crate::faults::Fault;
 use crate::phase::{Gate, Turn, run_phase};
 use crate::plain::{Plain, PlainClient};
 use crate::script::{ClientLine, Header, Phase, Script, read_script, uuid_text};
+use crate::shared::SharedClient;
 use chunk_slots::Arena;
 use group_history::Text;
 use rebase::{Config, Group, Seats};

@@ -1,7 +1,7 @@
 -- The clients of the code, as a script has them.
 use Rattle.std.specs.Prelude.{List, map}
 use Rattle.rebase.specs.Calls.{caller}
-use Rattle.script_runner.specs.declared.callers.SharedClient.{SharedClient}
+use Rattle.script_runner.specs.declared.shared.SharedClient.{SharedClient}
 use Rattle.script_runner.specs.declared.client.Client.{Client}
 use Rattle.script_runner.specs.declared.phase.Turn.{Turn}
 use Rattle.script_runner.specs.declared.plain.PlainClient.{PlainClient}

@@ -1,0 +1,39 @@
+-- The watches of a client are of its group, and what a poll of one leaves.
+use Rattle.std.proofs.Common.{◌≡◌, ℕ, Bool, true, false, Option, Some, None, Result, Ok, Err, cond, sym, ap, ◌∙◌}
+use Rattle.std.proofs.lemmas.List.{append-nil}
+use Rattle.std.specs.Cmp.Lexicographic.{slice_cmp, nat_list_cmp_total}
+use Rattle.std.specs.FinMap as finite
+use Rattle.std.specs.Ordering.{nat_cmp, eq_by_cmp}
+use Rattle.logbook.specs.Pages.{Book}
+use Rattle.group_history.specs.declared.refusals.Refusal.{Refusal}
+use Rattle.group_history.specs.declared.refusals.Refusal.TheVariants as refusal
+use Rattle.group_history.specs.Map.{Bytes}
+use Rattle.group_history.specs.Meaning.{Meanings}
+use Rattle.group_history.specs.State.{State}
+use Rattle.head_word.specs.Marks.{Known}
+use Rattle.answered.specs.Answered.{Answers, nothing, own_moves}
+use Rattle.rebase.specs.Watching.{Watched}
+use Rattle.script_runner.specs.Callers.{Watches}
+
+abbrev pub AreOf : Watches → Book → Type 0
+AreOf watches book = (name : Bytes) (watch : Watched) → finite.get watches name ≡ Some watch → watch.book ≡ book
+
+-- one more
+pub insert_of : (watches : Watches) (book : Book) (name : Bytes) (new : Watched) → AreOf watches book → new.book ≡ book → AreOf (finite.insert watches name new) book
+insert_of watches book name new old is q watch at = by (eq_by_cmp (slice_cmp nat_cmp) q name) (sym (finite.get-insert nat_list_cmp_total watches name new q) ∙ at)
+  where
+    by : (b : Bool) → cond b (Some new) (finite.get watches q) ≡ Some watch → watch.book ≡ book
+    by true e = let same : new ≡ watch = cc e in ap (λ (w : Watched). w.book) (sym same) ∙ is
+    by false e = old q watch e
+
+-- one less
+pub remove_of : (watches : Watches) (book : Book) (name : Bytes) → AreOf watches book → AreOf (finite.remove watches name) book
+remove_of watches book name old q watch at = by (eq_by_cmp (slice_cmp nat_cmp) q name) (sym (finite.get-remove nat_list_cmp_total watches name q) ∙ at)
+  where
+    by : (b : Bool) → cond b None (finite.get watches q) ≡ Some watch → watch.book ≡ book
+    by true e = absurd (cc e)
+    by false e = old q watch e
+
+-- A poll that was answered may be refused for want of memory: it made no change.
+pub refused_after : {X : Type 0} (means : Meanings) (tries : ℕ) (old new : Known) (x : X) (right : State → Result X Refusal) → Answers means tries old new (Ok x) nothing right → Answers means tries old new (Err refusal.NoMemory) nothing right
+refused_after means tries old new x right is = (is.1.moves ∙ append-nil (own_moves old), λ moved. absurd (cc moved))

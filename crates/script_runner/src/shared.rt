@@ -1,0 +1,36 @@
+//! A client of a shared group, with the watches that its script keeps.
+ghost use Rattle.std.specs.Prelude.{◌≡◌, Some};
+ghost use Rattle.std.specs.Coded.{Coded-set, codes, Π_prop, →_prop};
+ghost use Rattle.std.specs.FinMap as finite;
+ghost use Rattle.group_history.specs.Map.{Bytes};
+ghost use Rattle.rebase.specs.Watching.{Watched};
+
+use chunk_slots::Arena;
+use group_history::TextMap;
+use rebase::{Client, Watch};
+use script_mutators::ScriptMutators;
+use std::alloc::Global;
+
+/// A client of a group whose clients may all call at the same time, and its watches.
+#[derive(Drop)]
+pub(crate) struct SharedClient<'g> {
+    pub(crate) client: Client<'g, ScriptMutators, Arena<ScriptMutators>>,
+    pub(crate) watches: TextMap<Watch<ScriptMutators>>,
+    ghost of_group: { (name : Bytes) (watch : Watched) → finite.get watches name ≡ Some watch → watch.book ≡ client.mark.book } by { Π_prop (λ name. Π_prop (λ watch. →_prop (Prim.hlevel (codes, Coded-set)))) },
+}
+
+impl<'g> SharedClient<'g> {
+    /// A client without watches.
+    pub(crate) fn new(
+        alloc: Global,
+        client: Client<'g, ScriptMutators, Arena<ScriptMutators>>,
+    ) -> SharedClient<'g>
+        ensures client { result.client ≡ client.entry }
+        ensures watches { result.watches ≡ finite.empty }
+    {
+        SharedClient {
+            client,
+            watches: TextMap::new(alloc),
+        }
+    }
+}
