@@ -2,7 +2,9 @@
 //!
 //! A commit is a snapshot, which is what the server last sent, or one over the commit before it, which
 //! adds a mutation or closes the group. So a head spells a state by the chain below it. The nodes are read
-//! where they were placed, through `Nodes`; nothing here changes one.
+//! where they were placed, through `Nodes`; nothing here changes one. That their slots are not used again while
+//! the head or a reader can reach them is the contract of [`joined_law`](crate::joined_law), over the machine
+//! that joins the claims table and the head.
 #![tactic(auto)]
 
 mod chains;
@@ -19,6 +21,7 @@ mod states;
 mod stores;
 
 pub use chains::{Base, Top};
+pub use joined_machine::joined_law;
 pub use map_chunks::VecChunks as VecNodes;
 pub use nodes::{Nodes, ShowsCommit};
 pub use reaching::dropped;
