@@ -1,5 +1,5 @@
 -- What holds of all that the lines of a script have said.
-use Rattle.std.proofs.Common.{◌≡◌, ◌+◌, ◌<◌, ◌≤◌, ℕ, Bool, true, false, List, [], ◌∷◌, ◌++◌, length, unwrap_or, is_some, Option, Some, None, Result, Ok, Err, IfOk, IfSome, All, cond, nat_lt, codes, replicate, ◌==◌, ◌-◌, ◌∙◌, refl, sym, subst, arith, rules}
+use Rattle.std.proofs.Common.{◌≡◌, ◌+◌, ◌<◌, ◌≤◌, ℕ, Bool, true, false, List, [], ◌∷◌, ◌++◌, length, unwrap_or, is_some, Option, Some, None, Result, Ok, Err, IfOk, IfSome, All, cond, ◌&&◌, nat_lt, codes, replicate, ◌==◌, ◌-◌, ◌∙◌, refl, sym, subst, arith, rules}
 use Rattle.std.specs.Str.{is_utf8}
 use Rattle.std.specs.Str.Parse.{digits_value}
 use Rattle.std.proofs.lemmas.Bool.{ltb-true, eqb-true}
@@ -81,7 +81,7 @@ watch_line-sound : (c : Context) (client : ℕ) (rest : Option Bytes) → Sound 
 unfolding watch_line
 watch_line-sound c client rest sound =
     let name = word (text_of rest) in let made = c.watches ++ (client, name) ∷ [] in
-    IfOk-if (is_ticket_name name) (with_scan (λ scan. (record c { watches = made }, command.Watch name scan)) (scan_words (more (text_of rest)))) (Err text.BadWords) SoundWith
+    IfOk-if (is_some rest && is_ticket_name name) (with_scan (λ scan. (record c { watches = made }, command.Watch name scan)) (scan_words (more (text_of rest)))) (Err text.BadWords) SoundWith
     (λ is. with_scan-sound (λ scan. (record c { watches = made }, command.Watch name scan)) (scan_words (more (text_of rest))) (λ scan. (Sound-watched c made sound, tt))) (λ other. tt)
 
 begin_line-sound : (c : Context) (client : ℕ) (rest : Option Bytes) → Sound c → IfOk (begin_line c client rest) SoundWith

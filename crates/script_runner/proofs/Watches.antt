@@ -1,5 +1,5 @@
 -- The watches of a client are of its group, and what a poll of one leaves.
-use Rattle.std.proofs.Common.{◌≡◌, ℕ, Bool, true, false, Option, Some, None, Result, Ok, Err, cond, sym, ap, ◌∙◌}
+use Rattle.std.proofs.Common.{◌≡◌, ℕ, Bool, true, false, Option, Some, None, IfSome, Result, Ok, Err, OnOk, OnErr, cond, refl, sym, ap, ◌∙◌, subst}
 use Rattle.std.proofs.lemmas.List.{append-nil}
 use Rattle.std.specs.Cmp.Lexicographic.{slice_cmp, nat_list_cmp_total}
 use Rattle.std.specs.FinMap as finite
@@ -12,7 +12,9 @@ use Rattle.group_history.specs.Meaning.{Meanings}
 use Rattle.group_history.specs.State.{State}
 use Rattle.head_word.specs.Marks.{Known}
 use Rattle.answered.specs.Answered.{Answers, nothing, own_moves}
-use Rattle.rebase.specs.Watching.{Watched}
+use Rattle.rebase.specs.declared.watching.Polled.{Polled}
+use Rattle.rebase.specs.declared.watching.Polled.TheVariants as polled
+use Rattle.rebase.specs.Watching.{Watched, watch_after}
 use Rattle.script_runner.specs.Callers.{Watches}
 
 abbrev pub AreOf : Watches → Book → Type 0
@@ -37,3 +39,22 @@ remove_of watches book name old q watch at = by (eq_by_cmp (slice_cmp nat_cmp) q
 -- A poll that was answered may be refused for want of memory: it made no change.
 pub refused_after : {X : Type 0} (means : Meanings) (tries : ℕ) (old new : Known) (x : X) (right : State → Result X Refusal) → Answers means tries old new (Ok x) nothing right → Answers means tries old new (Err refusal.NoMemory) nothing right
 refused_after means tries old new x right is = (is.1.moves ∙ append-nil (own_moves old), λ moved. absurd (cc moved))
+
+-- one more, where memory was not refused
+pub inserted_of : {X E : Type 0} (r : Result X E) (old new : Watches) (book : Book) (name : Bytes) (watch : Watched) → OnOk r (new ≡ finite.insert old name watch) → OnErr r (new ≡ old) → AreOf old book → watch.book ≡ book → AreOf new book
+inserted_of (Ok x) old new book name watch ok err of is = subst (λ (m : Watches). AreOf m book) (sym ok) (insert_of old book name watch of is)
+inserted_of (Err e) old new book name watch ok err of is = subst (λ (m : Watches). AreOf m book) (sym err) of
+
+pub on_ok : {X E A B : Type 0} (r : Result X E) → (A → B) → OnOk r A → OnOk r B
+on_ok (Ok x) f a = f a
+on_ok (Err e) f a = tt
+
+pub if_some : {X : Type 0} (P : X → Type 0) (o : Option X) → ((x : X) → P x) → IfSome o P
+if_some P None every = tt
+if_some P (Some x) every = every x
+
+-- a watch stays one of its group
+pub after_book : (watch : Watched) (reply : Result Polled Refusal) → (watch_after watch reply).book ≡ watch.book
+after_book watch (Ok (polled.New rows)) = refl
+after_book watch (Ok polled.Unchanged) = refl
+after_book watch (Err e) = refl

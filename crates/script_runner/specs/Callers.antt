@@ -30,9 +30,9 @@ pub record Standing : Type 0 where
   pub mark : Known
   pub watches : Watches
 
--- it has a watch more of this name, which has answered nothing yet
+-- it has a watch of this name, which has answered nothing yet; an earlier one is given up
 abbrev pub watching : Bytes → Scan → Standing → Standing
-watching name scan c = record c { watches = finite.insert c.watches name (record { book = c.mark.book; scan = scan; last = None }) }
+watching name scan c = record c { watches = finite.insert (finite.remove c.watches name) name (record { book = c.mark.book; scan = scan; last = None }) }
 
 -- it has no watch of this name
 abbrev pub unwatched : Bytes → Standing → Standing

@@ -53,7 +53,7 @@ scan_line c rest = with_scan (λ scan. (c, command.Query (query.Scan scan))) (sc
 unfoldable pub watch_line : Context → ℕ → Option Bytes → Told
 watch_line c client rest =
     let name = word (text rest) in
-    if is_ticket_name name then with_scan (λ scan. (record c { watches = c.watches ++ (client, name) ∷ [] }, command.Watch name scan)) (scan_words (more (text rest)))
+    if is_some rest && is_ticket_name name then with_scan (λ scan. (record c { watches = c.watches ++ (client, name) ∷ [] }, command.Watch name scan)) (scan_words (more (text rest)))
     else Err fault.BadWords
 
 -- `begin T`
