@@ -53,16 +53,16 @@ static STEPS: [(Does, Tells); 4] = [
     (Does::Pull(SAME_AGAIN), Tells::Unchanged),
 ];
 
-fn does<S: Store<ScriptMutators>>(
+fn makes_step<S: Store<ScriptMutators>>(
     alloc: Global,
     client: &mut Client<'_, ScriptMutators, S>,
-    does: Does,
+    step: Does,
 ) -> Result<(), Refusal>
 where
     S::Seat: Drop,
     ensures { client.new.mark.book ≡ client.old.mark.book }
 {
-    match does {
+    match step {
         Does::Set => {
             sets(alloc, client, r#"["a1",1]"#)?;
         }
@@ -110,7 +110,7 @@ where
 {
     for at in 0..STEPS.len() {
         let (step, tells) = STEPS[at];
-        does(alloc, client, step)?;
+        makes_step(alloc, client, step)?;
         if polls(client, watch)? != tells {
             return Ok(Some(at));
         }
