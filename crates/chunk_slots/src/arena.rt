@@ -15,7 +15,7 @@ use crate::store::{Slots, Store};
 use counted_slot::Counted;
 use group_history::{Means, Node, Ref, Refusal};
 use head_word::{Head, Mark, Sight};
-use reader_claims::{Claims, Kind};
+use reader_claims::{Claims, Kind, SlotCounts};
 use std::alloc::Global;
 use std::marker::Model;
 
@@ -52,13 +52,28 @@ fn places<M: Means>(alloc: Global, slots: u32, seen: &Sight<M>) -> Result<Vec<Sl
 }
 
 impl<M: Means> Arena<M> {
-    ghost use Rattle.std.specs.Prelude.{◌≡◌, ◌⊎◌, ◌<◌, ◌≤◌, IfOk, IfErr};
+    ghost use Rattle.std.specs.Prelude.{◌≡◌, ◌⊎◌, ◌-◌, ◌<◌, ◌≤◌, IfOk, IfErr};
     ghost use Rattle.group_history.specs.Refs.{max_slots};
+    ghost use Rattle.reader_claims.specs.Counts.{Counts, HasOldest, all_slots, whatever};
+    ghost use Rattle.reader_claims.specs.Seats.{first_reserved};
     ghost use Rattle.group_history.specs.declared.refs.Ref.{Ref as Reference};
     ghost use Rattle.group_history.specs.declared.refusals.Refusal.TheVariants as refusal;
     ghost use Rattle.head_word.specs.Books.{opening};
     ghost use Rattle.chunk_slots.specs.Contents.{IsContent};
     ghost use Rattle.chunk_slots.specs.declared.missed.Missed.TheVariants as missed;
+
+    /// How many slots are in each state, and how many seats are pinned, as the claims table counts them:
+    /// each word was so at some time in the call. Takes no memory and no seat.
+    pub fn count(&self) -> SlotCounts
+        ensures counts { Counts whatever self.now.claims.sizes result }
+        ensures all { all_slots result ≡ self.now.claims.sizes.slots }
+        ensures ordinary { result.ordinary_free ≤ first_reserved self.now.claims.sizes }
+        ensures reserved { result.reserved_free ≤ self.now.claims.sizes.slots - first_reserved self.now.claims.sizes }
+        ensures pins { result.pinned_seats ≤ self.now.claims.sizes.readers }
+        ensures oldest { HasOldest result }
+    {
+        self.claims.count()
+    }
 
     // With the opening's nodes in the two slots.
     pub(crate) fn with_opening(

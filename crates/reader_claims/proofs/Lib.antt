@@ -11,3 +11,4 @@ pub mod Lawful
 pub mod Moving
 pub mod Bare
 pub mod Raising
+pub mod Counting

@@ -5,5 +5,6 @@ pub mod Views
 pub mod Machine
 pub mod Seats
 pub mod Passes
+pub mod Counts
 pub mod Laws
 pub mod Inside

@@ -32,7 +32,7 @@
 //! words, so every step of every seat owes it, and the calls say which moves they made. What
 //! follows from it is the contract of [`claims_law`](crate::claims_law). What a seat knows is its
 //! view, and each call says how it changes.
-ghost use Rattle.std.specs.Prelude.{◌≡◌, ℕ, ◌+◌, ◌^◌, ◌<◌, ◌≤◌, [], true, false, IfOk, IfErr, IfNone, IfSome, MatchResult, MatchOption, ◌∷◌};
+ghost use Rattle.std.specs.Prelude.{◌≡◌, ℕ, ◌+◌, ◌-◌, ◌^◌, ◌<◌, ◌≤◌, [], true, false, IfOk, IfErr, IfNone, IfSome, MatchResult, MatchOption, ◌∷◌};
 ghost use Rattle.group_history.specs.Refs.{max_slots, max_seats};
 ghost use Rattle.group_history.specs.declared.refusals.Refusal.TheVariants.{NoMemory};
 ghost use Rattle.reader_claims.specs.declared.words.Pin.TheVariants.{Absent};
@@ -42,8 +42,10 @@ ghost use Rattle.reader_claims.specs.Words.{epoch_at, pin_at, slot_at, slot_word
 ghost use Rattle.reader_claims.specs.declared.words.SlotState.TheVariants.{Free, Taken, Live, Retired};
 ghost use Rattle.reader_claims.specs.Machine.{Move, Moves, left_by};
 ghost use Rattle.reader_claims.specs.Seats.{AreSeats, first_reserved, kind_end};
+ghost use Rattle.reader_claims.specs.Counts.{Counts, HasOldest, all_slots, whatever};
 ghost use Rattle.reader_claims.specs.Passes.{IsPinned, IsUnpinned, passed, IsRetired, IsButRetired, IsGiven, IsNotGiven, Takes, Looks, FindsNone};
 
+use crate::counts::{SlotCounts, count};
 use crate::plays::Deal;
 use crate::slot::{Kind, Slot};
 use crate::steps::{Reader, Words};
@@ -287,5 +289,19 @@ impl Claims {
         ensures not_given { result ≡ false → IsNotGiven seat.old.view seat.new.view slot }
     {
         self.words.try_give(&mut seat.reader, slot.number())
+    }
+
+    /// How many slots are in each state, and how many seats are pinned: one look at each word, one after
+    /// the other. Each word was so at some time in the call, and no two need have been so at once. Nothing
+    /// is changed, and no seat is needed.
+    pub fn count(&self) -> SlotCounts
+        ensures counts { Counts whatever self.now.sizes result }
+        ensures all { all_slots result ≡ self.now.sizes.slots }
+        ensures ordinary { result.ordinary_free ≤ first_reserved self.now.sizes }
+        ensures reserved { result.reserved_free ≤ self.now.sizes.slots - first_reserved self.now.sizes }
+        ensures pins { result.pinned_seats ≤ self.now.sizes.readers }
+        ensures oldest { HasOldest result }
+    {
+        count(&self.words, self.words.sizes)
     }
 }

@@ -3,6 +3,7 @@
 #![tactic(auto)]
 
 mod claims;
+mod counts;
 mod laws;
 mod passes;
 mod plays;
@@ -12,6 +13,7 @@ mod view;
 mod words;
 
 pub use claims::{ClaimSeat, Claims, Raised};
+pub use counts::SlotCounts;
 pub use laws::claims_law;
 pub use slot::{Kind, Slot};
 pub use view::{Sizes, View};

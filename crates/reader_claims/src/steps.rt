@@ -5,11 +5,13 @@ ghost use Rattle.group_history.specs.Refs.{max_seats};
 ghost use Rattle.reader_claims.specs.declared.words.Pin.TheVariants.{Absent, Stored};
 ghost use Rattle.reader_claims.specs.declared.words.SlotState.TheVariants.{Free, Taken, Live, Retired};
 ghost use Rattle.reader_claims.specs.Words.{epoch_at, pin_at, slot_at, slot_word, first_slot, IsSmall};
+ghost use Rattle.reader_claims.specs.Counts.{whatever};
 ghost use Rattle.reader_claims.specs.Lists.{In};
 ghost use Rattle.reader_claims.specs.Views.{IsOpen, with_epoch, with_pin, with_read, with_raise, with_taken, with_settled, with_withdrawn, with_retired, with_given, with_note};
 ghost use Rattle.reader_claims.specs.Passes.{IsButRetired};
 ghost use Rattle.reader_claims.specs.Machine.{Move, left_by};
 
+use crate::counts::Looked;
 use crate::plays::{
     Claimed, ClearPin, Give, LoadEpoch, LoadPin, RaiseEpoch, Retire, Settle, StorePin, Take,
     Withdraw,
@@ -188,5 +190,16 @@ impl Words {
         ensures { IsSmall result }
     {
         SlotState::of_word(self.table.shared.peek(SlotState::place(slot)))
+    }
+}
+
+impl Looked for Words {
+    ghost size = { λ w. w.table.shared.table_id.words };
+
+    // A plain load without a seat tells nothing of the table.
+    ghost found = { λ _. whatever };
+
+    fn look_at(&self, place: usize) -> u64 {
+        self.table.shared.peek(place)
     }
 }

@@ -1,15 +1,18 @@
 //! A group of clients.
-ghost use Rattle.std.specs.Prelude.{◌≡◌, ◌⊎◌, ℕ, length, IfOk, IfErr};
+ghost use Rattle.std.specs.Prelude.{◌≡◌, ◌⊎◌, ◌-◌, ◌≤◌, ℕ, length, IfOk, IfErr};
 ghost use Rattle.std.specs.List.{All};
 ghost use Rattle.group_history.specs.declared.refusals.Refusal.TheVariants as refusal;
+ghost use Rattle.reader_claims.specs.Counts.{Counts, HasOldest, all_slots, whatever};
+ghost use Rattle.reader_claims.specs.Seats.{first_reserved};
 ghost use Rattle.chunk_slots.specs.Seats.{IsIdle};
 
 use crate::config::Config;
 use crate::seats::{Seat, Seats, seat_all};
-use chunk_slots::{Slots, Store};
+use chunk_slots::{Arena, Slots, Store};
 use commits::Shared;
 use group_history::{Means, Refusal};
 use push_body::Identity;
+use reader_claims::SlotCounts;
 use std::alloc::Global;
 
 /// A group: the nodes and the head that its clients share, its mutators, and whose requests it writes.
@@ -51,5 +54,21 @@ where
             },
             seats,
         ))
+    }
+}
+
+impl<M: Means> Group<M, Arena<M>> {
+    /// How many of the group's slots are in each state, and how many of its seats are pinned: one look at
+    /// each word, one after the other, so each was so at some time in the call, and no two need have been so
+    /// at once. Nothing is changed, nobody is waited for, and no client and no memory is needed.
+    pub fn slots(&self) -> SlotCounts
+        ensures counts { Counts whatever self.now.shared.store.claims.sizes result }
+        ensures all { all_slots result ≡ self.now.shared.store.claims.sizes.slots }
+        ensures ordinary { result.ordinary_free ≤ first_reserved self.now.shared.store.claims.sizes }
+        ensures reserved { result.reserved_free ≤ self.now.shared.store.claims.sizes.slots - first_reserved self.now.shared.store.claims.sizes }
+        ensures pins { result.pinned_seats ≤ self.now.shared.store.claims.sizes.readers }
+        ensures oldest { HasOldest result }
+    {
+        self.shared.store.count()
     }
 }

@@ -27,6 +27,7 @@ pub use calls::{Call, Mutate, Reply};
 pub use client::Client;
 pub use config::{Config, MIN_SLOTS, OutOfRange};
 pub use group::Group;
+pub use reader_claims::SlotCounts;
 pub use reading::{Point, ReadTx};
 pub use seats::{Seat, Seats};
 pub use tickets::Ticket;

@@ -54,6 +54,9 @@ pub(crate) const ROWS: [&str; 38] = [
     "polls",
 ];
 
+/// Scripts that meet a full group. A plain group is never full, so they run on threads alone.
+pub(crate) const FULL: [&str; 1] = ["full_group"];
+
 /// Says whether a script prints what stands beside it. It runs on the threads of `on`.
 pub(crate) fn tell<R: AllocGlobal + Threads + Wait + Sync>(
     rt: &HostRuntime,
@@ -62,25 +65,34 @@ pub(crate) fn tell<R: AllocGlobal + Threads + Wait + Sync>(
     name: &str,
 ) -> io::Result<()> {
     let script = read(rt, folder, name, "script")?;
-    let wanted = read(rt, folder, name, "printed")?;
-    compare(rt, on, name, &script, &wanted)
+    let ran = run(on, &script)?;
+    let plain = run_plainly(on, &script)?;
+    say(rt, folder, name, &[ran, plain])
 }
 
-fn compare<R: AllocGlobal + Threads + Wait + Sync>(
+/// The same, but for a plain group.
+pub(crate) fn tell_shared<R: AllocGlobal + Threads + Wait + Sync>(
     rt: &HostRuntime,
     on: &R,
+    folder: &str,
     name: &str,
-    script: &[u8],
-    wanted: &[u8],
 ) -> io::Result<()> {
-    let ran = run(on, script)?;
-    let plain = run_plainly(on, script)?;
-    if ran.has_printed(wanted) && plain.has_printed(wanted) {
+    let script = read(rt, folder, name, "script")?;
+    let ran = run(on, &script)?;
+    say(rt, folder, name, &[ran])
+}
+
+/// Says whether each of the runs printed what stands beside the script.
+fn say(rt: &HostRuntime, folder: &str, name: &str, runs: &[Ran]) -> io::Result<()> {
+    let wanted = read(rt, folder, name, "printed")?;
+    if runs.iter().all(|ran| ran.has_printed(&wanted)) {
         return println!(rt; "{name}: as told");
     }
     println!(rt; "{name}: something else")?;
-    show(rt, &ran)?;
-    show(rt, &plain)
+    for ran in runs {
+        show(rt, ran)?;
+    }
+    Ok(())
 }
 
 /// Prints what a run printed.

@@ -45,7 +45,7 @@ pub(super) type Answer = Result<Told, Refusal>;
 // tell the client its last id.
 type Step = (u32, Asks, Answer);
 
-fn mutates<S: Store<ScriptMutators>>(
+pub(super) fn mutates<S: Store<ScriptMutators>>(
     alloc: Global,
     client: &mut Client<'_, ScriptMutators, S>,
     name: &str,
