@@ -1,3 +1,4 @@
 pub mod Claiming
 pub mod Begins
 pub mod Pinning
+pub mod Numbering

@@ -1,5 +1,6 @@
-//! What no contract says: that the clients of a phase run at the same time.
+//! What no contract says: that the clients of a phase run at the same time, and what they meet where the slots are few.
 use script_runner::{Fault, Gate, run};
+use std::alloc::{AllocError, Global};
 use std::sync::atomic::{AtomicBool, AtomicU64, Ordering};
 
 // How often a client looks for the other one. A turn is one load of an atomic word.
@@ -63,5 +64,112 @@ fn clients_of_a_phase_meet(rt: HostRuntime) -> Result<(), Fault> {
     run(&rt, TWO_CALLS.as_bytes(), &gate, &mut out)?;
     assert_eq!(rt; gate.missed.load(Ordering::SeqCst), 0);
     assert!(rt; out.as_slice() == "4 A none\n5 B none\n".as_bytes());
+    Ok(())
+}
+
+// A gate that lets every call go on.
+struct Open;
+
+impl Gate for Open {
+    fn before(&self, _client: &str, _line: u64) {}
+
+    fn after(&self, _client: &str, _line: u64) {}
+}
+
+// A group of 64 slots has 48 ordinary ones. What was pulled has two of them, and each mutation takes two, so 23 find room.
+const ROOM: u64 = 23;
+
+// What is done before two clients fill such a group. It ends with the phase of that.
+const FEW_SLOTS: &str = r#"slots 64
+client A 00000000-0000-4000-8000-00000000000a
+client B 00000000-0000-4000-8000-00000000000b
+phase
+A begin t
+A end t {"cookie":1,"lastMutationIDChanges":{},"patch":[{"op":"put","key":"n","value":0}]}
+phase
+"#;
+
+// A mutation of each, to be made a hundred times.
+const BOTH_ADD: &str = r#"A mutate 1 incr ["n",1]
+B mutate 1 incr ["n",1]
+"#;
+
+// What A reads when it has learnt what B saw.
+const A_READS: &str = "phase
+A learn B
+A get n
+";
+
+fn few_slots(alloc: Global) -> Result<String, AllocError> {
+    let mut script = String::new(alloc);
+    script.push_str(FEW_SLOTS)?;
+    for _ in 0..100 {
+        script.push_str(BOTH_ADD)?;
+    }
+    script.push_str(A_READS)?;
+    Ok(script)
+}
+
+// How many of a client's replies are ids in their order, how many are Full, and how many are neither.
+#[derive(Clone, Copy, PartialEq, Eq, Debug)]
+struct Replies {
+    ids: u64,
+    full: u64,
+    others: u64,
+}
+
+impl Replies {
+    fn add(&mut self, reply: &str) {
+        let id = reply
+            .strip_prefix("id ")
+            .and_then(|number| number.parse::<u64>().ok());
+        if id == Some(self.ids.wrapping_add(1)) {
+            self.ids = self.ids.wrapping_add(1);
+        } else if reply == "refused Full" {
+            self.full = self.full.wrapping_add(1);
+        } else {
+            self.others = self.others.wrapping_add(1);
+        }
+    }
+}
+
+// What the client of this name was replied in the phase of the mutations, the lines from 8 to 207.
+fn replies_to(name: &str, out: &str) -> Replies {
+    let mut replies = Replies {
+        ids: 0,
+        full: 0,
+        others: 0,
+    };
+    for line in out.lines() {
+        if let Some((number, rest)) = line.split_once(' ') {
+            let number = number.parse::<u64>().unwrap_or(0);
+            if (8..208).contains(&number) && rest.starts_with(name) {
+                replies.add(rest.get(2..).unwrap_or(""));
+            }
+        }
+    }
+    replies
+}
+
+#[test]
+fn clients_of_a_phase_fill_few_slots(rt: HostRuntime) -> Result<(), Fault> {
+    let script = few_slots(rt.alloc())?;
+    let mut out = Vec::new(rt.alloc());
+    run(&rt, script.as_bytes(), &Open, &mut out)?;
+    let out = str::from_utf8(&out).unwrap_or("");
+    let a = replies_to("A ", out);
+    let b = replies_to("B ", out);
+    assert!(rt;
+        a.others == 0 && a.ids.wrapping_add(a.full) == 100,
+        "A {a:?}"
+    );
+    assert!(rt;
+        b.others == 0 && b.ids.wrapping_add(b.full) == 100,
+        "B {b:?}"
+    );
+    let ids = a.ids.wrapping_add(b.ids);
+    assert!(rt; ids <= ROOM, "A {a:?}, B {b:?}");
+    let last = format!(in rt.alloc(); "\n209 A learnt\n210 A value {ids}\n")?;
+    assert!(rt; out.ends_with(last.as_str()), "{ids} ids");
     Ok(())
 }
