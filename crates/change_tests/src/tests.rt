@@ -4,4 +4,3 @@ mod ends;
 mod lists;
 mod opening;
 mod storms;
-mod watches;
