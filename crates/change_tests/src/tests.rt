@@ -4,3 +4,4 @@ mod ends;
 mod lists;
 mod opening;
 mod storms;
+mod watches;

@@ -50,6 +50,7 @@ where
     ensures seats { All (λ seat. (seat.mark.book ≡ group.now.shared.head) × (S.home seat.slots ≡ S.serves group.now.shared.store)) seats.new.free.items }
     ensures room { IfOk result (λ _. vec_len seats.new.free < vec_capacity seats.new.free) }
     ensures group { IfOk result (λ client. client.mark.book ≡ group.now.shared.head) }
+    ensures same { IfOk result (λ client. client.group.now ≡ group.now) }
 {
     let seat = seats.take()?;
     match group.client(seat, id(text)?, 9) {
