@@ -10,14 +10,16 @@ mod bodies;
 mod lines;
 mod lives;
 
+use lines::Line;
+use std::io;
+
 /// Reads the lines to their end.
-fn main(rt: HostRuntime) -> anyhow::Result<()> {
+fn main(rt: HostRuntime) -> io::Result<()> {
     for _ in 0..u64::MAX {
-        let Some(line) = lines::next(&rt)? else {
-            break;
-        };
-        if let Some((slots, keys)) = lines::two_numbers(&line) {
-            lives::live(&rt, slots, keys)?;
+        match lines::next(&rt)? {
+            Line::Group(slots, keys) => lives::live(&rt, slots, keys)?,
+            Line::End => break,
+            Line::Rounds(_) | Line::Other => {}
         }
     }
     Ok(())

@@ -2,7 +2,7 @@
 use Rattle.std.proofs.Common.{◌≡◌, ◌≢◌, ℕ, suc, ◌+◌, ◌-◌, ◌<◌, ◌≤◌, ◌==◌, ◌⊎◌, inl, inr, Bool, true, false, cond, List, [], ◌∷◌, ◌++◌, length, map, filter, take, get_or, Option, Some, None, Result, Ok, Err, refl, sym, ap, subst, ◌∙◌, arith, length-append}
 use Rattle.std.proofs.lemmas.List.{append-nil, take_more}
 use Rattle.std.proofs.lemmas.List.Elements.{filter-append}
-use Rattle.std.specs.Prelude.{IfOk, IfErr}
+use Rattle.std.specs.Prelude.{IfOk, IfErr, IsOkAnd, MatchResult}
 use Rattle.std.specs.Borrow.{Bor}
 use mathlib.Core.List.{IsPrefix}
 use Rattle.group_history.specs.declared.changes.Change.{Change}
@@ -12,6 +12,7 @@ use Rattle.group_history.specs.declared.refusals.Refusal.TheVariants as refusal
 use Rattle.group_history.specs.declared.responses.Ended.{Ended}
 use Rattle.group_history.specs.Map.{Bytes}
 use Rattle.group_history.specs.Meaning.{Meanings}
+use Rattle.group_history.specs.Mutating.{mutate_reply}
 use Rattle.group_history.specs.Record.{after}
 use Rattle.group_history.specs.State.{State}
 use Rattle.group_history.proofs.Lists.{prefix_self, prefix_trans}
@@ -23,16 +24,17 @@ use Rattle.head_word.specs.Tallies.{key_of, mine}
 use Rattle.head_word.proofs.Books.{record_more}
 use Rattle.head_word.proofs.Counting.{mine_more}
 use Rattle.answered.specs.Answered.{IsPoint, IsAnswered, IsLeft, IsRefused, Answers, is_move, is_mute, is_want, moves_for, nothing, own_moves}
-use Rattle.answered.specs.Changes.{after_made, change_read}
+use Rattle.answered.specs.Changes.{after_made, change_made, change_read}
 use Rattle.answered.proofs.AtOnce.{record_at}
 use Rattle.answered.proofs.Holding.{change_laws_hold}
 use Rattle.pull_patch.specs.Grammar.{answer_to}
 use Rattle.rebase.specs.Asking.{end_bytes_reply}
-use Rattle.rebase.specs.Calls.{AreAnswered, AreReplies, Caller, IsAlone, IsLater, IsReplyTo, caller_after, change_of, ended_in, moves_of_others, reply_to}
+use Rattle.rebase.specs.Calls.{AreAnswered, AreReplies, Caller, IsAlone, IsLater, IsReplyTo, asked_mutation, caller_after, change_of, ended_in, id_in, moves_of_others, reply_to}
 use Rattle.rebase.specs.Queries.{IsMissed, told}
-use Rattle.rebase.specs.Replies.{Replied, reply_seen, ended}
+use Rattle.rebase.specs.Replies.{Replied, reply_seen, ended, id}
 use Rattle.rebase.specs.declared.calls.Call.{Call}
 use Rattle.rebase.specs.declared.calls.Call.TheVariants as call
+use Rattle.rebase.specs.declared.calls.Mutate.{Mutate}
 use Rattle.rebase.specs.declared.calls.Reply.{Reply}
 use Rattle.rebase.specs.declared.tickets.Ticket.{Ticket}
 
@@ -230,17 +232,40 @@ answers_told f means tries old new (Err e) change right shown told_right same se
     by o true h = h
     by o false h = (h.0, h.1, seen (after (record_of h.0)) ∙ told_refusal f (right (after (record_of h.0))) e h.2)
 
+-- a reply that was made of an answer, as it is told
+pub mapped : {X : Type 0} (f : X → Reply) (shown : X → Replied) (r : Result X Refusal) (m : Result Reply Refusal) → ((x : X) → reply_seen (f x) ≡ shown x) → MatchResult r (λ x. IsOkAnd m (λ y. y ≡ f x)) (λ e. m ≡ Err e)
+    → told reply_seen m ≡ told shown r
+mapped f shown (Ok x) (Ok y) same is = ap (λ z. Ok (reply_seen z)) is ∙ ap Ok (same x)
+mapped f shown (Ok x) (Err e) same is = absurd is
+mapped f shown (Err e) m same is = ap (told reply_seen) is
+
+-- a call, by the one that it is
+call_told : {X : Type 0} (f : X → Replied) (means : Meanings) (tries : ℕ) (old new : Known) (c : Caller) (x y : Call) (r : Result X Refusal) (m : Result Replied Refusal) (change : Result X Refusal → Option Change) (right : State → Result X Refusal)
+    → x ≡ y → m ≡ told f r → change_of c y (told f r) ≡ change r → ((s : State) → reply_to means c s y ≡ told f (right s)) → Answers means tries old new r change right → Answers means tries old new m (change_of c x) (λ s. reply_to means c s x)
+call_told f means tries old new c x y r m change right is_call is_told same seen is =
+    subst (λ z. Answers means tries old new m (change_of c z) (λ s. reply_to means c s z)) (sym is_call)
+    (subst (λ w. Answers means tries old new w (change_of c y) (λ s. reply_to means c s y)) (sym is_told) (answers_told f means tries old new r change right (change_of c y) (λ s. reply_to means c s y) same seen is))
+
 ended_shown : (r : Result Ended Refusal) → told ended_in (told ended r) ≡ r
 ended_shown (Ok e) = refl
 ended_shown (Err e) = refl
 
+id_shown : (r : Result ℕ Refusal) → told id_in (told id r) ≡ r
+id_shown (Ok n) = refl
+id_shown (Err e) = refl
+
+-- of a mutation
+pub mutated_told : (means : Meanings) (tries : ℕ) (old new : Known) (c : Caller) (x : Call) (m : Mutate) (r : Result ℕ Refusal) (reply : Result Replied Refusal) → x ≡ call.Mutate m → reply ≡ told id r
+    → Answers means tries old new r (change_made (asked_mutation c m)) (λ s. mutate_reply means s c.last (asked_mutation c m)) → Answers means tries old new reply (change_of c x) (λ s. reply_to means c s x)
+mutated_told means tries old new c x m r reply call_is told_is is =
+    call_told id means tries old new c x (call.Mutate m) r reply (change_made (asked_mutation c m)) (λ s. mutate_reply means s c.last (asked_mutation c m)) call_is told_is (ap (change_made (asked_mutation c m)) (id_shown r)) (λ s. refl) is
+
 -- of an end of a pull
-pub ended_told : (means : Meanings) (tries : ℕ) (old new : Known) (c : Caller) (x : Call) (ticket : Bor Ticket) (body : Bor Bytes) (r : Result Ended Refusal) → x ≡ call.EndPull ticket body
-    → Answers means tries old new r (change_read ticket.now.cookie (answer_to body.now)) (λ s. end_bytes_reply s ticket.now.cookie.text body.now) → Answers means tries old new (told ended r) (change_of c x) (λ s. reply_to means c s x)
-ended_told means tries old new c x ticket body r call_is is =
-    subst (λ y. Answers means tries old new (told ended r) (change_of c y) (λ s. reply_to means c s y)) (sym call_is)
-    (answers_told ended means tries old new r (change_read ticket.now.cookie (answer_to body.now)) (λ s. end_bytes_reply s ticket.now.cookie.text body.now)
-    (change_of c (call.EndPull ticket body)) (λ s. reply_to means c s (call.EndPull ticket body)) (ap (change_read ticket.now.cookie (answer_to body.now)) (ended_shown r)) (λ s. refl) is)
+pub ended_told : (means : Meanings) (tries : ℕ) (old new : Known) (c : Caller) (x : Call) (ticket : Bor Ticket) (body : Bor Bytes) (r : Result Ended Refusal) (reply : Result Replied Refusal) → x ≡ call.EndPull ticket body → reply ≡ told ended r
+    → Answers means tries old new r (change_read ticket.now.cookie (answer_to body.now)) (λ s. end_bytes_reply s ticket.now.cookie.text body.now) → Answers means tries old new reply (change_of c x) (λ s. reply_to means c s x)
+ended_told means tries old new c x ticket body r reply call_is told_is is =
+    call_told ended means tries old new c x (call.EndPull ticket body) r reply (change_read ticket.now.cookie (answer_to body.now)) (λ s. end_bytes_reply s ticket.now.cookie.text body.now) call_is told_is
+    (ap (change_read ticket.now.cookie (answer_to body.now)) (ended_shown r)) (λ s. refl) is
 
 pub missing : (reused : Type 0) (e : Refusal) → (e ≡ refusal.NoMemory) ⊎ IsMissed reused e → (is_want e ≡ true) × (e ≢ refusal.Moved)
 missing reused e (inl none) = (ap is_want none, λ moved. let h : refusal.NoMemory ≡ refusal.Moved = sym none ∙ moved in cc h)

@@ -1,22 +1,33 @@
 -- One answer told as another.
-use Rattle.std.proofs.Common.{◌≡◌, ℕ, ◌+◌, Bool, true, false, Option, Some, None, Result, Ok, Err, refl, sym, ap, subst}
-use Rattle.std.specs.Prelude.{nat_eq, if◌then◌else◌}
+use Rattle.std.proofs.Common.{◌≡◌, ℕ, ◌+◌, ◌<◌, ◌^◌, Bool, true, false, Option, Some, None, Result, Ok, Err, refl, sym, ap, subst, ◌∙◌}
+use Rattle.std.specs.Prelude.{nat_eq, if◌then◌else◌, IfOk, IfSome, IsSome}
 use Rattle.group_history.specs.declared.changes.Change.{Change}
-use Rattle.group_history.specs.declared.changes.Change.TheVariants.{Mutated}
+use Rattle.group_history.specs.declared.changes.Change.TheVariants.{Mutated, Pulled}
 use Rattle.group_history.specs.declared.mutations.Mutation.{Mutation}
+use Rattle.group_history.specs.declared.refs.Ref.{Ref}
 use Rattle.group_history.specs.declared.refusals.Refusal.{Refusal}
 use Rattle.group_history.specs.declared.refusals.Refusal.TheVariants as refusal
 use Rattle.group_history.specs.declared.responses.Ended.{Ended}
 use Rattle.group_history.specs.declared.responses.Ended.TheVariants as ended
+use Rattle.group_history.specs.declared.responses.Response.TheVariants as response
+use Rattle.group_history.specs.Cookies.{Cookie}
+use Rattle.group_history.specs.Map.{Bytes}
 use Rattle.group_history.specs.Meaning.{Meaning, Meanings, unknown, refuses, done, meaning_of}
 use Rattle.group_history.specs.Mutating.{mutate_reply, by_meaning, open_reply}
+use Rattle.group_history.specs.Pull.{Pull}
+use Rattle.group_history.specs.Pulling.{end_reply}
 use Rattle.group_history.specs.Record.{after}
+use Rattle.group_history.specs.Refs.{stamp_of}
+use Rattle.group_history.specs.Spelling.{Contents}
 use Rattle.group_history.specs.State.{State, last_id, view_of}
 use Rattle.head_word.specs.Books.{record_of}
 use Rattle.head_word.specs.Marks.{Known}
+use Rattle.commits.specs.LastIds.{last_at}
 use Rattle.answered.specs.Answered.{Answers, IsPoint, IsRefused, is_want}
+use Rattle.answered.specs.Changes.{change_applied, change_made}
 use Rattle.rebase.specs.Queries.{told}
-use Rattle.rebase.specs.Inside.Proposing.{asked_reply, is_applied}
+use Rattle.rebase.specs.Inside.Changing.{ended_as, is_made}
+use Rattle.rebase.specs.Inside.Proposing.{HasLast, asked_reply, change_asked, is_applied}
 
 -- a value
 pub answers_as : {X Y : Type 0} (means : Meanings) (tries : ℕ) (old new : Known) (x : X) (y : Y) (change : Result X Refusal → Option Change) (other : Result Y Refusal → Option Change) (right : State → Result X Refusal) (so : State → Result Y Refusal)
@@ -80,3 +91,38 @@ told_all (Err e) h = cc h
 -- it changes something
 pub never_same : (means : Meanings) (s : State) (last : ℕ) (x : Mutation) → asked_reply means s last (Mutated x) ≡ Ok false → ⊥
 never_same means s last x h = told_all (mutate_reply means s last x) h
+
+-- WHAT IS MADE OF IT
+
+-- a mutation that is not refused is made
+pub next_there : (means : Meanings) (tries : ℕ) (old new : Known) (last : ℕ) (x : Mutation) (made : Result (Option Ref) Refusal) → Answers means tries old new (told is_made made) (change_asked (Mutated x)) (λ s. asked_reply means s last (Mutated x))
+    → IfOk made IsSome
+next_there means tries old new last x (Ok (Some at)) is = refl
+next_there means tries old new last x (Ok None) is = absurd (never_same means (after (record_of is.0)) last x is.2)
+next_there means tries old new last x (Err e) is = tt
+
+-- and answered by its id
+pub next_told : (means : Meanings) (tries : ℕ) (old new : Known) (last : ℕ) (x : Mutation) (made : Result (Option Ref) Refusal) → Answers means tries old new (told is_made made) (change_asked (Mutated x)) (λ s. asked_reply means s last (Mutated x))
+    → Answers means tries old new (told (λ at. last + 1) made) (change_made x) (λ s. mutate_reply means s last x)
+next_told means tries old new last x (Ok (Some at)) is =
+    answers_as means tries old new true (last + 1) (change_asked (Mutated x)) (change_made x) (λ s. asked_reply means s last (Mutated x)) (λ s. mutate_reply means s last x) refl (λ s h. told_mutated means s last x h) is
+next_told means tries old new last x (Ok None) is = absurd (never_same means (after (record_of is.0)) last x is.2)
+next_told means tries old new last x (Err e) is =
+    refuses_as means tries old new e (change_asked (Mutated x)) (change_made x) (λ s. asked_reply means s last (Mutated x)) (λ s. mutate_reply means s last x) refl refl (λ s h. told_refused (λ (id : ℕ). true) (mutate_reply means s last x) e h) is
+
+-- where it stands, its id is the last one of its client
+pub next_found : (cs : Contents) (client : Bytes) (last : ℕ) (x : Mutation) (made : Result (Option Ref) Refusal) → x.client ≡ client → x.id ≡ last + 1 → IfOk made (λ o. IfSome o (λ at. HasLast cs at (Mutated x)))
+    → IfOk made (λ o. IfSome o (λ at. (last_at cs (stamp_of at) client ≡ Some (last + 1)) × (last + 1 < 2 ^ 53)))
+next_found cs client last x (Ok (Some at)) own next has = (subst (λ (w : Bytes). last_at cs (stamp_of at) w ≡ Some (last + 1)) own (has.0 ∙ ap Some next), subst (λ (n : ℕ). n < 2 ^ 53) next has.1)
+next_found cs client last x (Ok None) own next has = tt
+next_found cs client last x (Err e) own next has = tt
+
+-- a pull is ended as its commit stands there or not
+pub pull_told : (means : Meanings) (tries : ℕ) (old new : Known) (last : ℕ) (t : Cookie) (r : Pull) (made : Result (Option Ref) Refusal) → Answers means tries old new (told is_made made) (change_asked (Pulled t r)) (λ s. asked_reply means s last (Pulled t r))
+    → Answers means tries old new (told ended_as made) (change_applied t r) (λ s. end_reply s t.text (response.Ok r))
+pull_told means tries old new last t r (Ok (Some at)) is =
+    answers_as means tries old new true ended.Applied (change_asked (Pulled t r)) (change_applied t r) (λ s. asked_reply means s last (Pulled t r)) (λ s. end_reply s t.text (response.Ok r)) refl (λ s h. told_applied (end_reply s t.text (response.Ok r)) h) is
+pull_told means tries old new last t r (Ok None) is =
+    answers_as means tries old new false ended.Same (change_asked (Pulled t r)) (change_applied t r) (λ s. asked_reply means s last (Pulled t r)) (λ s. end_reply s t.text (response.Ok r)) refl (λ s h. told_same (end_reply s t.text (response.Ok r)) h) is
+pull_told means tries old new last t r (Err e) is =
+    refuses_as means tries old new e (change_asked (Pulled t r)) (change_applied t r) (λ s. asked_reply means s last (Pulled t r)) (λ s. end_reply s t.text (response.Ok r)) refl refl (λ s h. told_refused is_applied (end_reply s t.text (response.Ok r)) e h) is

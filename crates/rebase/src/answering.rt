@@ -3,10 +3,14 @@
 //! A list of calls is answered call by call, each at a point of its own (`AreAnswered`). Where no other seat
 //! moves the head meanwhile, the replies are those of a group of one thread (`AreReplies`): each is the right
 //! one at the state that the calls before it left.
-ghost use Rattle.std.specs.Prelude.{◌≡◌, ◌⊎◌, true, Ok, map, IfOk, IfErr, OnErr};
+ghost use Rattle.std.specs.Prelude.{◌≡◌, ◌⊎◌, ◌≤◌, true, [], Ok, length, map, vec_capacity, IfOk, IfErr, OnErr};
 ghost use mathlib.Core.List.{IsPrefix};
+ghost use Rattle.group_history.specs.declared.mutators.Stop.TheVariants.{NoMemory as Dry};
 ghost use Rattle.group_history.specs.declared.refusals.Refusal.TheVariants.{NoMemory};
+ghost use Rattle.group_history.specs.Meaning.{Meanings};
 ghost use Rattle.group_history.specs.Record.{after};
+ghost use Rattle.group_history.specs.Spelling.{version_of};
+ghost use Rattle.group_history.specs.State.{State};
 ghost use Rattle.head_word.specs.Books.{record_of};
 ghost use Rattle.chunk_slots.specs.Seats.{IsIdle};
 ghost use Rattle.answered.specs.Answered.{Answers, nothing};
@@ -19,8 +23,28 @@ use crate::client::Client;
 use crate::group::Group;
 use crate::reading::Point;
 use chunk_slots::{Slots, Store};
-use group_history::{Mutators, Refusal};
+use commits::Nodes;
+use group_history::{Mutators, Refusal, Stop};
 use std::alloc::{AllocError, Global};
+use transactions::ReadTx as CommitTx;
+
+// What a commit that is read answers.
+fn read_call<N: Nodes>(tx: &mut CommitTx<N>, call: Call<'_>) -> Result<Reply, Stop>
+    requires query { is_query call ≡ true }
+    ensures value { (means : Meanings) (c : Caller) (s : State) → tx.old.version ≡ version_of means s → IfOk result (λ reply. reply_to means c s call.entry ≡ Ok (reply_seen reply)) }
+    ensures stopped { IfErr result (λ stop. (stop ≡ Dry) ⊎ N.stops stop) }
+{
+    match call {
+        Call::Get(key) => tx.get(key.as_str()).map(Reply::Value),
+        Call::Has(key) => tx.has(key.as_str()).map(Reply::Is),
+        Call::Scan(scan) => tx.scan(scan).map(Reply::Rows),
+        Call::IsEmpty => tx.is_empty().map(Reply::Is),
+        Call::Closed => tx.closed().map(Reply::Is),
+        Call::Pending => tx.pending().map(Reply::Pending),
+        Call::Cookie => tx.cookie().map(Reply::Cookie),
+        _ => unreachable!(),
+    }
+}
 
 // Asks what is read at a point.
 fn ask<M: Mutators, S: Slots<M>>(
@@ -35,16 +59,7 @@ fn ask<M: Mutators, S: Slots<M>>(
     ensures err { IfErr result (λ e. (e ≡ NoMemory) ⊎ IsMissed S.reused e) }
 {
     let mut tx = at.open(group.alloc, &group.shared, tries);
-    match call {
-        Call::Get(key) => Ok(Reply::Value(tx.get(key.as_str())?)),
-        Call::Has(key) => Ok(Reply::Is(tx.has(key.as_str())?)),
-        Call::Scan(scan) => Ok(Reply::Rows(tx.scan(scan)?)),
-        Call::IsEmpty => Ok(Reply::Is(tx.is_empty()?)),
-        Call::Closed => Ok(Reply::Is(tx.closed()?)),
-        Call::Pending => Ok(Reply::Pending(tx.pending()?)),
-        Call::Cookie => Ok(Reply::Cookie(tx.cookie()?)),
-        _ => unreachable!(),
-    }
+    Ok(read_call(&mut tx, call)?)
 }
 
 impl<'g, M: Mutators, S: Store<M>> Client<'g, M, S>
@@ -76,14 +91,34 @@ where
         ensures same { (self.new.group.now ≡ self.old.group.now) × (self.new.id ≡ self.old.id) }
     {
         match call {
-            Call::Refresh => Ok(Reply::Id(self.refresh(tries)?)),
-            Call::PushBody => Ok(Reply::Body(self.push_body(tries)?)),
-            Call::BeginPull => Ok(Reply::Ticket(self.begin_pull(tries)?)),
-            Call::Mutate(m) => Ok(Reply::Id(self.try_mutate(m.name, m.args, m.time, tries)?)),
-            Call::EndPull(ticket, body) => {
-                Ok(Reply::Ended(self.try_end_pull(ticket, body, tries)?))
-            }
+            Call::Refresh => self.refresh(tries).map(Reply::Id),
+            Call::PushBody => self.push_body(tries).map(Reply::Body),
+            Call::BeginPull => self.begin_pull(tries).map(Reply::Ticket),
+            Call::Mutate(m) => self
+                .try_mutate(m.name, m.args, m.time, tries)
+                .map(Reply::Id),
+            Call::EndPull(ticket, body) => self.try_end_pull(ticket, body, tries).map(Reply::Ended),
             query => self.query(query, tries),
+        }
+    }
+
+    // Makes calls in order, and adds what each replied. There is room for the replies.
+    fn call_each(
+        &mut self,
+        calls: &[Call<'_>],
+        tries: u32,
+        replies: &mut Vec<Result<Reply, Refusal>>,
+    )
+        requires none { replies.old.items ≡ [] }
+        requires room { length calls.now ≤ vec_capacity replies.old }
+        ensures answers { let c = caller self.old.group.now.identity self.old.id self.old.last in AreAnswered M.means tries c self.old.mark calls.now (map (told reply_seen) replies.new.items) self.new.mark (caller c.identity c.client self.new.last) }
+        ensures idle { S.reused → IsIdle (S.view self.old.slots) → IsIdle (S.view self.new.slots) }
+        ensures seat { (self.new.mark.book ≡ self.old.mark.book) × (self.new.mark.seat ≡ self.old.mark.seat) }
+        ensures same { (self.new.group.now ≡ self.old.group.now) × (self.new.id ≡ self.old.id) }
+    {
+        for call in calls {
+            let reply = self.make_call(*call, tries);
+            drop(replies.push(reply));
         }
     }
 
@@ -103,10 +138,7 @@ where
         ensures same { (self.new.group.now ≡ self.old.group.now) × (self.new.id ≡ self.old.id) }
     {
         let mut replies = Vec::with_capacity(alloc, calls.len())?;
-        for call in calls {
-            let reply = self.make_call(*call, tries);
-            let _ = replies.push(reply);
-        }
+        self.call_each(calls, tries, &mut replies);
         Ok(replies)
     }
 }

@@ -2,21 +2,23 @@
 //!
 //! A change is made once, by one exchange of the group's head, or not at all. The forms that begin with `try_`
 //! return after as many tries as they are given; the others go on while others are in the way.
-ghost use Rattle.std.specs.Prelude.{◌≡◌, ◌+◌, false, Ok, IfOk, IfErr, IfSome};
+ghost use Rattle.std.specs.Prelude.{◌≡◌, ◌+◌, ◌<◌, ◌^◌, false, Ok, Some, IfOk, IfErr, IfSome, IsSome};
 ghost use Rattle.group_history.specs.declared.responses.Response.TheVariants as response;
 ghost use mathlib.Core.List.{IsPrefix};
 ghost use Rattle.group_history.specs.Map.{Bytes};
 ghost use Rattle.group_history.specs.Mutating.{mutate_reply};
 ghost use Rattle.group_history.specs.Pulling.{end_reply};
+ghost use Rattle.group_history.specs.Refs.{stamp_of};
 ghost use Rattle.group_history.specs.State.{made};
 ghost use Rattle.head_word.specs.Books.{drawn};
 ghost use Rattle.chunk_slots.specs.Seats.{IsIdle};
+ghost use Rattle.commits.specs.LastIds.{last_at};
 ghost use Rattle.pull_patch.specs.Grammar.{answer_to};
 ghost use Rattle.answered.specs.Answered.{Answers, nothing};
 ghost use Rattle.answered.specs.Changes.{change_applied, change_closing, change_made, change_read};
 ghost use Rattle.rebase.specs.Asking.{end_bytes_reply, is_passing};
 ghost use Rattle.rebase.specs.Queries.{told};
-ghost use Rattle.rebase.specs.Inside.Changing.{is_made};
+ghost use Rattle.rebase.specs.Inside.Changing.{ended_as, is_made};
 ghost use Rattle.rebase.specs.Inside.Proposing.{AsksNext, HasLast, asked_reply, change_asked};
 
 use crate::changing::make_change;
@@ -42,15 +44,25 @@ fn is_passing<T>(reply: &Result<T, Refusal>) -> bool
     matches!(reply, Err(Refusal::Moved | Refusal::Busy | Refusal::Gone))
 }
 
+// How a pull was ended whose commit stands there, if it changed anything.
+fn ended_as(made: Result<Option<Ref>, Refusal>) -> Result<Ended, Refusal>
+    ensures { result ≡ told ended_as made }
+{
+    match made? {
+        Some(_) => Ok(Ended::Applied),
+        None => Ok(Ended::Same),
+    }
+}
+
 impl<'g, M: Mutators, S: Store<M>> Client<'g, M, S>
 where
     S::Seat: Drop,
 {
     // Makes a change, and answers the commit where it stands: none where there is nothing to change.
-    fn change(&mut self, change: &Change, tries: u32) -> Result<Option<Ref>, Refusal>
-        requires next { AsksNext self.old.id self.old.last change.now }
-        ensures answer { Answers M.means tries self.old.mark self.new.mark (told is_made result) (change_asked change.now) (λ s. asked_reply M.means s self.old.last change.now) }
-        ensures found { IfOk result (λ made. IfSome made (λ at. HasLast (drawn self.new.mark.log) at change.now)) }
+    fn change(&mut self, change: Change, tries: u32) -> Result<Option<Ref>, Refusal>
+        requires next { AsksNext self.old.id self.old.last change }
+        ensures answer { Answers M.means tries self.old.mark self.new.mark (told is_made result) (change_asked change) (λ s. asked_reply M.means s self.old.last change) }
+        ensures found { IfOk result (λ made. IfSome made (λ at. HasLast (drawn self.new.mark.log) at change)) }
         ensures idle { S.reused → IsIdle (S.view self.new.slots) }
         ensures seen { IsPrefix self.old.mark.log self.new.mark.log }
         ensures seat { (self.new.mark.book ≡ self.old.mark.book) × (self.new.mark.seat ≡ self.old.mark.seat) }
@@ -60,14 +72,33 @@ where
             at: self.found,
             id: self.last,
         };
-        make_change::<M, S>(
+        let made = make_change::<M, S>(
             self.group,
             &mut self.slots,
             &mut self.mark,
-            change,
+            &change,
             before,
             tries,
-        )
+        );
+        drop(change);
+        made
+    }
+
+    // Where the client's next mutation was made, its id is the client's last one, and is answered.
+    fn keep_next(&mut self, made: Result<Option<Ref>, Refusal>) -> Result<u64, Refusal>
+        requires made { IfOk made IsSome }
+        requires found { IfOk made (λ made. IfSome made (λ at. (last_at (drawn self.old.mark.log) (stamp_of at) self.old.id ≡ Some (self.old.last + 1)) × (self.old.last + 1 < 2 ^ 53))) }
+        ensures id { result ≡ told (λ at. self.old.last + 1) made }
+        ensures last { IfOk result (λ id. self.new.last ≡ id) }
+        ensures left { IfErr result (λ _. self.new.last ≡ self.old.last) }
+        ensures mark { self.new.mark ≡ self.old.mark }
+        ensures slots { S.view self.new.slots ≡ S.view self.old.slots }
+        ensures same { (self.new.group.now ≡ self.old.group.now) × (self.new.id ≡ self.old.id) }
+    {
+        let Some(at) = made? else { unreachable!() };
+        self.found = at;
+        self.last += 1;
+        Ok(self.last)
     }
 
     /// Makes a mutation, and answers its id: one more than the client's last id, which it then is. `time` is in
@@ -88,17 +119,9 @@ where
         ensures seat { (self.new.mark.book ≡ self.old.mark.book) × (self.new.mark.seat ≡ self.old.mark.seat) }
         ensures same { (self.new.group.now ≡ self.old.group.now) × (self.new.id ≡ self.old.id) }
     {
-        let change = Change::Mutated(Mutation::new(&self.id, self.last + 1, name, args, time)?);
-        let made = match self.change(&change, tries) {
-            Ok(made) => made,
-            Err(e) => {
-                return Err(e);
-            }
-        };
-        let Some(at) = made else { unreachable!() };
-        self.found = at;
-        self.last += 1;
-        Ok(self.last)
+        let mutation = Mutation::new(&self.id, self.last + 1, name, args, time)?;
+        let made = self.change(Change::Mutated(mutation), tries);
+        self.keep_next(made)
     }
 
     // Ends a pull that brought no error.
@@ -110,11 +133,7 @@ where
         ensures same { (self.new.group.now ≡ self.old.group.now) × (self.new.id ≡ self.old.id) × (self.new.last ≡ self.old.last) }
     {
         let cookie = ticket.clone()?;
-        match self.change(&Change::Pulled(cookie, pull), tries) {
-            Ok(Some(_)) => Ok(Ended::Applied),
-            Ok(None) => Ok(Ended::Same),
-            Err(e) => Err(e),
-        }
+        ended_as(self.change(Change::Pulled(cookie, pull), tries))
     }
 
     // Ends a pull whose server does not know the group: closes it.
@@ -125,7 +144,7 @@ where
         ensures seat { (self.new.mark.book ≡ self.old.mark.book) × (self.new.mark.seat ≡ self.old.mark.seat) }
         ensures same { (self.new.group.now ≡ self.old.group.now) × (self.new.id ≡ self.old.id) × (self.new.last ≡ self.old.last) }
     {
-        match self.change(&Change::Closed, tries) {
+        match self.change(Change::Closed, tries) {
             Ok(_) => Err(Refusal::StateNotFound),
             Err(e) => Err(e),
         }

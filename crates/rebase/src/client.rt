@@ -12,7 +12,7 @@ ghost use Rattle.head_word.specs.Books.{drawn, record_of};
 ghost use Rattle.head_word.specs.Marks.{known};
 ghost use Rattle.reader_claims.specs.declared.words.Pin.TheVariants.{Absent};
 ghost use Rattle.chunk_slots.specs.Seats.{IsIdle};
-ghost use Rattle.push_body.specs.Bodies.{push_text};
+ghost use Rattle.push_body.specs.Bodies.{pull_text, push_text};
 ghost use Rattle.answered.specs.Answered.{Answers, IsAnswered, IsLeft, IsPoint, own_moves, nothing};
 ghost use Rattle.answered.specs.Trying.{IsBase};
 ghost use Rattle.rebase.specs.Queries.{IsHeld, IsMissed, asked, asked_at, told};
@@ -27,9 +27,9 @@ use crate::tickets::Ticket;
 use crate::views::{cookie_at, pending_at, root_at};
 use chunk_slots::Slots;
 use commits::LastId;
-use group_history::{Means, Ref, Refusal, Text};
+use group_history::{Cookie, Means, Ref, Refusal, Text};
 use head_word::Mark;
-use push_body::{pull_bytes, push_bytes};
+use push_body::{Identity, pull_bytes, push_bytes};
 use std::alloc::{AllocError, Global};
 use uuid::Uuid;
 
@@ -130,9 +130,7 @@ where
         let at = self.begin(tries)?;
         let cookie = cookie_at(&self.group.shared, &self.mark, at, tries);
         self.finish();
-        let cookie = cookie?;
-        let body = pull_bytes(self.group.alloc, &self.group.identity, &cookie)?;
-        Ok(Ticket { body, cookie })
+        ticket_of(self.group.alloc, &self.group.identity, cookie?)
     }
 
     /// Finds the client's last id in the group, which is then its own. The remedy for `Stale`.
@@ -225,6 +223,15 @@ where
     {
         self.group.shared.head.learn(&mut self.mark, other);
     }
+}
+
+// The ticket of a pull at a cookie.
+fn ticket_of(alloc: Global, identity: &Identity, cookie: Cookie) -> Result<Ticket, Refusal>
+    ensures ok { IfOk result (λ ticket. asked ticket ≡ record { cookie = cookie; body = pull_text identity.now cookie }) }
+    ensures err { IfErr result (λ e. e ≡ NoMemory) }
+{
+    let body = pull_bytes(alloc, identity, &cookie)?;
+    Ok(Ticket { body, cookie })
 }
 
 fn client_id(alloc: Global, id: &Uuid) -> Result<Text, AllocError>

@@ -2,6 +2,7 @@
 ghost use Rattle.std.specs.Prelude.{◌≡◌, ◌⊎◌, ◌-◌, ◌≤◌, ℕ, length, IfOk, IfErr};
 ghost use Rattle.std.specs.List.{All};
 ghost use Rattle.group_history.specs.declared.refusals.Refusal.TheVariants as refusal;
+ghost use Rattle.group_history.specs.Refs.{max_seats, max_slots};
 ghost use Rattle.reader_claims.specs.Counts.{Counts, HasOldest, all_slots, whatever};
 ghost use Rattle.reader_claims.specs.Seats.{first_reserved};
 ghost use Rattle.chunk_slots.specs.Seats.{IsIdle};
@@ -24,6 +25,26 @@ pub struct Group<M: Means, S: Slots<M>> {
     pub(crate) identity: Identity,
 }
 
+// A new store and its head, and a seat for each of so many clients.
+fn open_shared<M: Means, S: Store<M> + Drop>(
+    alloc: Global,
+    parts: S::Parts,
+    slots: u32,
+    seats: u32,
+) -> Result<(Shared<M, S>, Seats<M, S>), Refusal>
+where
+    S::Seat: Drop,
+    requires slots { (16 ≤ slots) × (slots ≤ max_slots) }
+    requires seats { (1 ≤ seats) × (seats ≤ max_seats) }
+    ensures count { IfOk result (λ made. length made.1.free.items ≡ seats) }
+    ensures seats { IfOk result (λ made. All (λ seat. (seat.mark.book ≡ made.0.head) × (S.home seat.slots ≡ S.serves made.0.store)) made.1.free.items) }
+    ensures err { IfErr result (λ e. (e ≡ refusal.NoMemory) ⊎ (S.reused × ((e ≡ refusal.Busy) ⊎ (e ≡ refusal.Full)))) }
+{
+    let (store, claimed, head, marks) = S::open(alloc, parts, slots, seats)?;
+    let seats = seat_all(alloc, &store, &head, claimed, marks)?;
+    Ok((Shared { store, head }, seats))
+}
+
 impl<M: Means + Drop, S: Store<M> + Drop> Group<M, S>
 where
     S::Seat: Drop,
@@ -40,10 +61,7 @@ where
         ensures seats { IfOk result (λ made. All (λ seat. (seat.mark.book ≡ made.0.shared.head) × (S.home seat.slots ≡ S.serves made.0.shared.store)) made.1.free.items) }
         ensures err { IfErr result (λ e. (e ≡ refusal.NoMemory) ⊎ (S.reused × ((e ≡ refusal.Busy) ⊎ (e ≡ refusal.Full)))) }
     {
-        let (slots, seats) = (config.slots(), config.seats());
-        let (store, claimed, head, marks) = S::open(alloc, parts, slots, seats)?;
-        let seats = seat_all(alloc, &store, &head, claimed, marks)?;
-        let shared = Shared { store, head };
+        let (shared, seats) = open_shared::<M, S>(alloc, parts, config.slots(), config.seats())?;
         let identity = config.into_identity();
         Ok((
             Group {

@@ -134,8 +134,9 @@ pub(crate) fn move_head<M: Means, S: Store<M>>(
     let from = draft.first();
     let refs = place_draft::<M, S>(group.alloc, &group.shared, slots, mark, draft, kind, tries)?;
     let new = place_of(at, from, &refs);
-    match exchange::<M, S>(group, slots, mark, base, new, change, &refs, tries)? {
-        Published::Won => Ok(Some(new)),
-        Published::Lost => Ok(None),
+    match exchange::<M, S>(group, slots, mark, base, new, change, &refs, tries) {
+        Ok(Published::Won) => Ok(Some(new)),
+        Ok(Published::Lost) => Ok(None),
+        Err(e) => Err(e),
     }
 }

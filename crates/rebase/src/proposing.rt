@@ -77,9 +77,9 @@ fn draft_mutation<'a, M: Mutators, S: Slots<M>>(
     ensures proposed { (s : State) → IsBase M.means mark.now base s → IfOk result (λ p. Proposes M.means (drawn mark.now.log) s last (changed.Mutated mutation.now) (Some p)) }
     ensures err { (s : State) → IsBase M.means mark.now base s → IfErr result (IsUnproposed (change_asked (changed.Mutated mutation.now)) (asked_reply M.means s last (changed.Mutated mutation.now))) }
 {
-    let again = mutation.clone()?;
     let nodes = StoreNodes::new(&group.shared, mark, tries);
     let tip = tip_at::<StoreNodes<'a, M, S>, Brand>(nodes, base)?;
+    let again = mutation.clone()?;
     let mut draft = Draft::new(group.alloc, first);
     let made = mutated::<StoreNodes<'a, M, S>, Brand, M>(
         group.alloc,
@@ -169,6 +169,39 @@ fn draft_pull<'a, M: Mutators, S: Slots<M>>(
     })
 }
 
+// What leads to the pull, at an open group of this basis. Nothing where the response brings nothing new.
+fn propose_judged<M: Mutators, S: Slots<M>>(
+    group: &Group<M, S>,
+    mark: &Mark<M>,
+    base: Ref,
+    first: u64,
+    before: &Base,
+    ticket: &Cookie,
+    pull: &PullOk,
+    tries: u32,
+) -> Result<Option<Proposal>, Refusal>
+    requires book { mark.now.book ≡ group.now.shared.head }
+    requires base { (s : State) × IsBase M.means mark.now base s }
+    requires open { (s : State) → IsBase M.means mark.now base s → s.closed ≡ false }
+    requires before { (s : State) → IsBase M.means mark.now base s → IsBaseOf (drawn mark.now.log) s before.now }
+    requires first { first ≡ next_stamp mark.now.log }
+    ensures proposed { (s : State) (last : ℕ) → IsBase M.means mark.now base s → IfOk result (Proposes M.means (drawn mark.now.log) s last (changed.Pulled ticket.now pull.now)) }
+    ensures err { (s : State) (last : ℕ) → IsBase M.means mark.now base s → IfErr result (IsUnproposed (change_asked (changed.Pulled ticket.now pull.now)) (asked_reply M.means s last (changed.Pulled ticket.now pull.now))) }
+{
+    match judged(before, ticket, pull) {
+        Ok(Ended::Same) => {
+            return Ok(None);
+        }
+        Ok(Ended::Applied) => {
+            let proposal = draft_pull(group, mark, base, first, before, pull, tries)?;
+            return Ok(Some(proposal));
+        }
+        Err(e) => {
+            return Err(e);
+        }
+    }
+}
+
 // What leads to the pull, at an open group. Nothing where the response brings nothing new.
 fn propose_pull<'a, M: Mutators, S: Slots<M>>(
     group: &'a Group<M, S>,
@@ -188,18 +221,7 @@ fn propose_pull<'a, M: Mutators, S: Slots<M>>(
 {
     let nodes = StoreNodes::new(&group.shared, mark, tries);
     let before = base_at::<StoreNodes<'a, M, S>, Brand>(nodes, base)?;
-    match judged(&before, ticket, pull) {
-        Ok(Ended::Same) => {
-            return Ok(None);
-        }
-        Ok(Ended::Applied) => {
-            let proposal = draft_pull(group, mark, base, first, &before, pull, tries)?;
-            return Ok(Some(proposal));
-        }
-        Err(e) => {
-            return Err(e);
-        }
-    }
+    propose_judged(group, mark, base, first, &before, ticket, pull, tries)
 }
 
 // What leads to the closing of an open group.

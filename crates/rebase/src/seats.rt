@@ -35,7 +35,7 @@ where
     pub(crate) free: Vec<Seat<M, S>>,
 }
 
-// A seat for each of the marks, the first one last.
+// A seat for each of the marks, the first one last. Room for them is taken first.
 pub(crate) fn seat_all<M: Means, S: Slots<M>>(
     alloc: Global,
     store: &S,
@@ -59,7 +59,7 @@ where
         let Some(slots) = claimed.pop() else {
             unreachable!()
         };
-        free.push(Seat { slots, mark })?;
+        drop(free.push(Seat { slots, mark }));
     }
     Ok(Seats { free })
 }

@@ -1,6 +1,6 @@
 //! What is read from bytes, as a text. A refusal is its name; only want of memory is an error.
 use group_history::{
-    Cookie, Json, Patch, PullOk, Refusal, Response, cookie_cmp, nests_within, read_value,
+    Confirmed, Cookie, Json, Patch, PullOk, Refusal, Response, cookie_cmp, nests_within, read_value,
 };
 use pull_patch::read_response;
 use std::alloc::Global;
@@ -35,17 +35,27 @@ fn operation(alloc: Global, operation: &Patch) -> Result<String, Refusal> {
     }
 }
 
-/// The cookie, the confirmed ids and the operations, a space before each but the first.
-fn pulled(alloc: Global, pull: &PullOk) -> Result<String, Refusal> {
-    let mut text = String::from_str(alloc, pull.cookie().text())?;
-    for change in pull.changes() {
+fn add_changes(alloc: Global, text: &mut String, changes: &[Confirmed]) -> Result<(), Refusal> {
+    for change in changes {
         let client = change.client.as_str();
         let id = change.id;
         text.push_str(format!(in alloc; " {client}:{id}")?.as_str())?;
     }
-    for op in pull.patch() {
+    Ok(())
+}
+
+fn add_operations(alloc: Global, text: &mut String, patch: &[Patch]) -> Result<(), Refusal> {
+    for op in patch {
         text.push_str(operation(alloc, op)?.as_str())?;
     }
+    Ok(())
+}
+
+/// The cookie, the confirmed ids and the operations, a space before each but the first.
+fn pulled(alloc: Global, pull: &PullOk) -> Result<String, Refusal> {
+    let mut text = String::from_str(alloc, pull.cookie().text())?;
+    add_changes(alloc, &mut text, pull.changes())?;
+    add_operations(alloc, &mut text, pull.patch())?;
     Ok(text)
 }
 
@@ -86,12 +96,17 @@ fn sign_of(order: Ordering) -> &'static str {
     }
 }
 
+fn sign_before(alloc: Global, low: &Cookie, high: &str) -> Result<&'static str, Refusal> {
+    match cookie_of(alloc, high)? {
+        Some(high) => Ok(sign_of(cookie_cmp(low, &high))),
+        None => Ok("no cookie"),
+    }
+}
+
 fn sign_between(alloc: Global, low: &str, high: &str) -> Result<&'static str, Refusal> {
-    let low = cookie_of(alloc, low)?;
-    let high = cookie_of(alloc, high)?;
-    match (low, high) {
-        (Some(low), Some(high)) => Ok(sign_of(cookie_cmp(&low, &high))),
-        _ => Ok("no cookie"),
+    match cookie_of(alloc, low)? {
+        Some(low) => sign_before(alloc, &low, high),
+        None => Ok("no cookie"),
     }
 }
 
@@ -104,11 +119,19 @@ pub(crate) fn order(alloc: Global, cookies: &str) -> Result<String, Refusal> {
     Ok(String::from_str(alloc, sign)?)
 }
 
+fn word_for(alloc: Global, first: &Response, second: &str) -> Result<&'static str, Refusal> {
+    let second = read_response(alloc, second.as_bytes())?;
+    Ok(if *first == second { "same" } else { "other" })
+}
+
+fn word_between(alloc: Global, first: &str, second: &str) -> Result<&'static str, Refusal> {
+    let first = read_response(alloc, first.as_bytes())?;
+    word_for(alloc, &first, second)
+}
+
 /// Whether the body before the bar says the same as the one after it.
 pub(crate) fn sameness(alloc: Global, bodies: &str) -> Result<String, Refusal> {
     let (first, second) = bodies.split_once(" | ").unwrap_or((bodies, ""));
-    let first = read_response(alloc, first.as_bytes())?;
-    let second = read_response(alloc, second.as_bytes())?;
-    let word = if first == second { "same" } else { "other" };
+    let word = word_between(alloc, first, second)?;
     Ok(String::from_str(alloc, word)?)
 }

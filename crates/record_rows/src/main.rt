@@ -12,8 +12,9 @@ mod requests;
 mod rows;
 
 use rows::{KINDS, tell};
+use std::io;
 
-fn main(rt: HostRuntime) -> anyhow::Result<()> {
+fn main(rt: HostRuntime) -> io::Result<()> {
     for kind in KINDS {
         tell(&rt, kind)?;
     }

@@ -1,10 +1,12 @@
 //! Words of references, replies of changes and a refusal's message; and the laws of the record, which are called as
 //! any function is.
 use crate::requests::incremented;
+use crate::rows::failed;
 use group_history::{
     Change, MAX_SLOTS, Ref, Refusal, Reply, STAMPS, Text, record_laws, worked_examples,
 };
 use std::alloc::Global;
+use std::io;
 
 /// An accepted mutation.
 fn mutated(alloc: Global) -> Result<Change, Refusal> {
@@ -12,35 +14,39 @@ fn mutated(alloc: Global) -> Result<Change, Refusal> {
     Ok(Change::Mutated(incremented(alloc, client)?))
 }
 
-fn tell_reply(rt: &HostRuntime, change: &Change) -> anyhow::Result<()> {
+fn tell_reply(rt: &HostRuntime, change: &Change) -> io::Result<()> {
     match change.reply() {
-        Reply::Id(id) => println!(rt; "reply: id {id}")?,
-        Reply::Ended(_) => println!(rt; "reply: an end of a pull")?,
-        Reply::StateNotFound => println!(rt; "reply: StateNotFound")?,
+        Reply::Id(id) => println!(rt; "reply: id {id}"),
+        Reply::Ended(_) => println!(rt; "reply: an end of a pull"),
+        Reply::StateNotFound => println!(rt; "reply: StateNotFound"),
     }
-    Ok(())
+}
+
+fn tell_mutated(rt: &HostRuntime) -> io::Result<()> {
+    match mutated(rt.alloc()) {
+        Ok(change) => tell_reply(rt, &change),
+        Err(e) => Err(failed(rt.alloc(), e)),
+    }
 }
 
 /// What an application tells its user once the group is closed.
-fn tell_message(rt: &HostRuntime, refusal: Refusal) -> anyhow::Result<()> {
-    println!(rt; "{refusal:?}: {refusal}")?;
-    Ok(())
+fn tell_message(rt: &HostRuntime, refusal: Refusal) -> io::Result<()> {
+    println!(rt; "{refusal:?}: {refusal}")
 }
 
 /// The word of the highest reference, that of a low one, and the stamp and the slot of that one.
-fn tell_references(rt: &HostRuntime) -> anyhow::Result<()> {
+fn tell_references(rt: &HostRuntime) -> io::Result<()> {
     let highest = Ref::new(STAMPS - 1, (MAX_SLOTS - 1) as u32).bits();
     let low = Ref::new(1, 3).bits();
     let read = Ref::from_bits(low);
     let (stamp, slot) = (read.stamp(), read.slot());
-    println!(rt; "references: {highest}, {low} of stamp {stamp} and slot {slot}")?;
-    Ok(())
+    println!(rt; "references: {highest}, {low} of stamp {stamp} and slot {slot}")
 }
 
-pub(crate) fn tell_all(rt: &HostRuntime) -> anyhow::Result<()> {
+pub(crate) fn tell_all(rt: &HostRuntime) -> io::Result<()> {
     record_laws();
     worked_examples();
-    tell_reply(rt, &mutated(rt.alloc())?)?;
+    tell_mutated(rt)?;
     tell_reply(rt, &Change::Closed)?;
     tell_message(rt, Refusal::Closed)?;
     tell_references(rt)

@@ -5,20 +5,25 @@ use push_body::{Identity, pull_bytes, push_bytes};
 use serde_json::Value;
 use std::alloc::{AllocError, Global};
 
-/// The texts of an array.
-fn texts_of(alloc: Global, array: &str) -> Result<Vec<Text>, Refusal> {
-    let value = read_value(alloc, array.as_bytes())?;
+fn text_of(alloc: Global, value: &Value) -> Result<Text, AllocError> {
+    Text::new(alloc, value.as_str().unwrap_or(""))
+}
+
+fn texts_in(alloc: Global, items: &[Value]) -> Result<Vec<Text>, Refusal> {
     let mut texts = Vec::new(alloc);
-    if let Some(items) = value.as_array() {
-        for item in items {
-            texts.push(text_of(alloc, item)?)?;
-        }
+    for item in items {
+        texts.push(text_of(alloc, item)?)?;
     }
     Ok(texts)
 }
 
-fn text_of(alloc: Global, value: &Value) -> Result<Text, AllocError> {
-    Text::new(alloc, value.as_str().unwrap_or(""))
+/// The texts of an array.
+fn texts_of(alloc: Global, array: &str) -> Result<Vec<Text>, Refusal> {
+    let value = read_value(alloc, array.as_bytes())?;
+    match value.as_array() {
+        Some(items) => texts_in(alloc, items),
+        None => Ok(Vec::new(alloc)),
+    }
 }
 
 fn identity_of(texts: Vec<Text>) -> Option<Identity> {
@@ -65,15 +70,18 @@ fn body_of(
     }
 }
 
+/// The body that a request of an identity has, as a text.
+fn text_of_body(alloc: Global, identity: &Identity, request: &str) -> Result<String, Refusal> {
+    let (request, about) = request.split_once(' ').unwrap_or((request, ""));
+    let body = body_of(alloc, identity, request, about)?;
+    Ok(String::from_str(alloc, str::from_utf8(&body).unwrap_or(""))?)
+}
+
 /// The body of the request that a row asks for: `IDENTITY push CLIENTS` or `IDENTITY pull COOKIE`.
 pub(crate) fn body(alloc: Global, row: &str) -> Result<String, Refusal> {
     let (identity, request) = row.split_once(' ').unwrap_or((row, ""));
-    let (request, about) = request.split_once(' ').unwrap_or((request, ""));
     match identity_of(texts_of(alloc, identity)?) {
-        Some(identity) => {
-            let body = body_of(alloc, &identity, request, about)?;
-            Ok(String::from_str(alloc, str::from_utf8(&body).unwrap_or(""))?)
-        }
+        Some(identity) => text_of_body(alloc, &identity, request),
         None => Ok(String::from_str(alloc, "no identity")?),
     }
 }

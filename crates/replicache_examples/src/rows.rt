@@ -4,16 +4,18 @@ use std::io::{self, Write};
 use std::sync::Wait;
 use std::thread::Threads;
 
-pub(crate) const STORIES: [&str; 6] = [
+const STORIES: [&str; 8] = [
     "counter",
     "offline",
+    "together",
     "comes_back",
     "overtaken",
     "no_response",
+    "watch",
     "closed",
 ];
 
-pub(crate) const ROWS: [&str; 38] = [
+const ROWS: [&str; 38] = [
     "first_pull",
     "empty",
     "counted_lines",
@@ -54,11 +56,13 @@ pub(crate) const ROWS: [&str; 38] = [
     "polls",
 ];
 
-/// Scripts that meet a full group. A plain group is never full, so they run on threads alone.
-pub(crate) const FULL: [&str; 1] = ["full_group"];
+// The story of a full group, and the rows. A plain group is never full, so they run on threads alone.
+const FULL_STORIES: [&str; 1] = ["full"];
 
-/// Says whether a script prints what stands beside it. It runs on the threads of `on`.
-pub(crate) fn tell<R: AllocGlobal + Threads + Wait + Sync>(
+const FULL: [&str; 1] = ["full_group"];
+
+// Says whether a script prints what stands beside it. It runs on the threads of `on`.
+fn tell<R: AllocGlobal + Threads + Wait + Sync>(
     rt: &HostRuntime,
     on: &R,
     folder: &str,
@@ -70,8 +74,8 @@ pub(crate) fn tell<R: AllocGlobal + Threads + Wait + Sync>(
     say(rt, folder, name, &[ran, plain])
 }
 
-/// The same, but for a plain group.
-pub(crate) fn tell_shared<R: AllocGlobal + Threads + Wait + Sync>(
+// The same, but for a plain group.
+fn tell_shared<R: AllocGlobal + Threads + Wait + Sync>(
     rt: &HostRuntime,
     on: &R,
     folder: &str,
@@ -82,7 +86,7 @@ pub(crate) fn tell_shared<R: AllocGlobal + Threads + Wait + Sync>(
     say(rt, folder, name, &[ran])
 }
 
-/// Says whether each of the runs printed what stands beside the script.
+// Says whether each of the runs printed what stands beside the script.
 fn say(rt: &HostRuntime, folder: &str, name: &str, runs: &[Ran]) -> io::Result<()> {
     let wanted = read(rt, folder, name, "printed")?;
     if runs.iter().all(|ran| ran.has_printed(&wanted)) {
@@ -95,8 +99,43 @@ fn say(rt: &HostRuntime, folder: &str, name: &str, runs: &[Ran]) -> io::Result<(
     Ok(())
 }
 
-/// Prints what a run printed.
+// Prints what a run printed.
 fn show(rt: &HostRuntime, ran: &Ran) -> io::Result<()> {
     io::writer(rt).write_all(&ran.out)?;
     io::writer(rt).write_all(&ran.told)
+}
+
+fn tell_each<R: AllocGlobal + Threads + Wait + Sync>(
+    rt: &HostRuntime,
+    on: &R,
+    folder: &str,
+    names: &[&str],
+) -> io::Result<()> {
+    for name in names {
+        tell(rt, on, folder, name)?;
+    }
+    Ok(())
+}
+
+fn tell_full<R: AllocGlobal + Threads + Wait + Sync>(
+    rt: &HostRuntime,
+    on: &R,
+    folder: &str,
+    names: &[&str],
+) -> io::Result<()> {
+    for name in names {
+        tell_shared(rt, on, folder, name)?;
+    }
+    Ok(())
+}
+
+/// Says of each script whether it prints what stands beside it, on the threads of `on` and on a plain group.
+pub(crate) fn tell_all<R: AllocGlobal + Threads + Wait + Sync>(
+    rt: &HostRuntime,
+    on: &R,
+) -> io::Result<()> {
+    tell_each(rt, on, "stories", &STORIES)?;
+    tell_full(rt, on, "stories", &FULL_STORIES)?;
+    tell_each(rt, on, "rows", &ROWS)?;
+    tell_full(rt, on, "slots", &FULL)
 }

@@ -51,7 +51,7 @@ pub(crate) fn no_memory() -> io::Error {
 }
 
 /// Whether one of the replies is that memory was refused.
-fn lacks_memory(printed: &[u8]) -> bool {
+pub(crate) fn lacks_memory(printed: &[u8]) -> bool {
     str::from_utf8(printed).is_ok_and(|text| text.contains("refused NoMemory"))
 }
 

@@ -60,6 +60,18 @@ pub(crate) trait Caller {
         ensures group { (stands self.new).mark.book ≡ (stands self.old).mark.book };
 }
 
+/// Keeps a watch under a name. Where memory is refused for it the watches are as they were.
+pub(crate) fn keep_watch<W: Drop>(
+    watches: &mut TextMap<W>,
+    name: &Text,
+    watch: W,
+) -> Result<(), AllocError>
+    ensures ok { OnOk result (watches.new ≡ finite.insert watches.old name.now watch) }
+    ensures err { OnErr result (watches.new ≡ watches.old) }
+{
+    watches.insert(name.clone()?, watch)
+}
+
 impl<'g> SharedClient<'g> {
     /// Polls a watch, and keeps it. Where memory is refused for it the watch is as it was.
     fn poll_kept(&mut self, name: &Text, watch: Watch<ScriptMutators>) -> Result<Polled, Refusal>
@@ -68,7 +80,7 @@ impl<'g> SharedClient<'g> {
     {
         let mut watch = watch;
         let polled = self.client.poll(&mut watch, TRIES)?;
-        self.watches.insert(name.clone()?, watch)?;
+        keep_watch(&mut self.watches, name, watch)?;
         Ok(polled)
     }
 }
@@ -97,7 +109,7 @@ impl<'g> Caller for SharedClient<'g> {
     fn watch(&mut self, name: &Text, scan: &Scan) -> Result<(), AllocError> {
         self.watches.remove(name);
         let watch = self.client.watch(scan.clone()?);
-        self.watches.insert(name.clone()?, watch)
+        keep_watch(&mut self.watches, name, watch)
     }
 
     fn poll<R: Wait>(&mut self, _rt: &R, name: &Text) -> Option<Result<Polled, Refusal>> {

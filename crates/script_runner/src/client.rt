@@ -133,10 +133,13 @@ impl<C: Caller + Drop> Client<C> {
         ensures name { self.new.name ≡ self.old.name }
         ensures group { (C.stands self.new.caller).mark.book ≡ (C.stands self.old.caller).mark.book }
     {
-        match self.caller.call(rt, Call::Refresh) {
-            Ok(Answer::Id(id)) => Reply::Last(id),
-            answer => reply_of(answer),
+        let answer = self.caller.call(rt, Call::Refresh);
+        if let Ok(Answer::Id(id)) = &answer {
+            let id = *id;
+            drop(answer);
+            return Reply::Last(id);
         }
+        reply_of(answer)
     }
 
     /// A watch whose name was given before is replaced, and where this is refused there is none of that name.

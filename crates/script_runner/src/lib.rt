@@ -11,6 +11,7 @@ mod callers;
 mod client;
 mod faults;
 mod lines;
+mod names;
 mod phase;
 mod plain;
 mod process;

@@ -40,7 +40,9 @@ impl<C: Caller + Drop> Client<C> {
         gate.before(self.name.as_str(), line.number);
         let reply = self.call(rt, seen, &line.command);
         gate.after(self.name.as_str(), line.number);
-        print_line(printed, line.number, self.name.as_str(), &reply)
+        let told = print_line(printed, line.number, self.name.as_str(), &reply);
+        drop(reply);
+        told
     }
 
     /// Does the commands of the lines, in order, and answers what is printed of them.

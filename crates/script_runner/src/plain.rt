@@ -2,7 +2,7 @@
 //!
 //! It keeps its view as one map, which a pull computes anew. It says by the shortest code what a group is; its clients
 //! take turns at it.
-ghost use Rattle.std.specs.Prelude.{◌≡◌, Ok, Some, IfOk, IfErr, OnErr, IsOkUnless};
+ghost use Rattle.std.specs.Prelude.{◌≡◌, true, Ok, Some, IfOk, IfErr, OnErr, IsOkUnless};
 ghost use Rattle.std.specs.FinMap as finite;
 ghost use Rattle.group_history.specs.Answers.{Answers};
 ghost use Rattle.group_history.specs.Mutating.{mutate_reply};
@@ -10,7 +10,7 @@ ghost use Rattle.group_history.specs.Queries.{get_at};
 ghost use Rattle.group_history.specs.declared.refusals.Refusal.TheVariants.{NoMemory};
 ghost use Rattle.push_body.specs.Bodies.{push_text};
 ghost use Rattle.rebase.specs.Asking.{end_bytes_reply};
-ghost use Rattle.rebase.specs.Calls.{IsReplyTo, asked_mutation, caller, last_after, reply_to};
+ghost use Rattle.rebase.specs.Calls.{Caller as Asking, IsReplyTo, asked_mutation, caller, is_query, last_after, reply_to};
 ghost use Rattle.rebase.specs.Queries.{asked, asked_at, told};
 ghost use Rattle.rebase.specs.Replies.{reply_seen};
 ghost use Rattle.rebase.specs.Watching.{poll_at, poll_reply, watch_after};
@@ -18,7 +18,7 @@ ghost use Rattle.script_mutators.specs.Mutators.{script_means};
 ghost use Rattle.script_runner.specs.Callers.{IsPolled, MayPollPlainly};
 ghost use Rattle.script_runner.specs.Inside.Players.{standing_of_plain};
 
-use crate::callers::Caller;
+use crate::callers::{Caller, keep_watch};
 use group_history::{Ended, Json, Mutation, PlainGroup, Refusal, Scan, Text, TextMap};
 use pull_patch::read_response;
 use push_body::{Identity, pull_bytes, push_bytes};
@@ -51,6 +51,22 @@ impl Plain {
         ensures { IsReplyTo (told reply_seen result) (reply_to script_means (caller self.old.identity id.now last) self.old.group call.entry) }
     {
         match call {
+            Call::Refresh => Ok(Reply::Id(self.group.last(id))),
+            Call::PushBody => self.push_body().map(Reply::Body),
+            Call::BeginPull => self.begin_pull().map(Reply::Ticket),
+            Call::Mutate(m) => self.mutate(id, last, m).map(Reply::Id),
+            Call::EndPull(ticket, body) => self.end_pull(ticket, body).map(Reply::Ended),
+            query => self.query(query),
+        }
+    }
+
+    /// Makes a call that one reading answers.
+    fn query(&self, call: Call<'_>) -> Result<Reply, Refusal>
+        requires { is_query call ≡ true }
+        ensures ok { (c : Asking) → IfOk result (λ reply. reply_to script_means c self.now.group call.entry ≡ Ok (reply_seen reply)) }
+        ensures err { IsOkUnless result NoMemory }
+    {
+        match call {
             Call::Get(key) => Ok(Reply::Value(self.get(key)?)),
             Call::Has(key) => Ok(Reply::Is(self.group.has(key))),
             Call::Scan(scan) => Ok(Reply::Rows(self.group.scan(scan)?)),
@@ -58,11 +74,7 @@ impl Plain {
             Call::Closed => Ok(Reply::Is(self.group.closed())),
             Call::Pending => Ok(Reply::Pending(self.pending()?)),
             Call::Cookie => Ok(Reply::Cookie(self.group.cookie().clone()?)),
-            Call::Refresh => Ok(Reply::Id(self.group.last(id))),
-            Call::PushBody => Ok(Reply::Body(self.push_body()?)),
-            Call::BeginPull => Ok(Reply::Ticket(self.begin_pull()?)),
-            Call::Mutate(m) => Ok(Reply::Id(self.mutate(id, last, m)?)),
-            Call::EndPull(ticket, body) => Ok(Reply::Ended(self.end_pull(ticket, body)?)),
+            _ => unreachable!(),
         }
     }
 
@@ -203,7 +215,7 @@ impl<'g> PlainClient<'g> {
     {
         let mut watch = watch;
         let polled = self.group.lock(rt).poll(&mut watch)?;
-        self.watches.insert(name.clone()?, watch)?;
+        keep_watch(&mut self.watches, name, watch)?;
         Ok(polled)
     }
 }
@@ -243,7 +255,7 @@ impl<'g> Caller for PlainClient<'g> {
             scan: scan.clone()?,
             last: None,
         };
-        self.watches.insert(name.clone()?, watch)
+        keep_watch(&mut self.watches, name, watch)
     }
 
     fn poll<R: Wait>(&mut self, rt: &R, name: &Text) -> Option<Result<Polled, Refusal>> {

@@ -111,6 +111,22 @@ fn config_of(alloc: Global, header: &Header) -> Result<Config, AllocError>
     Ok(config)
 }
 
+/// Opens the group of a script.
+fn open_group(alloc: Global, header: &Header) -> Result<(SharedGroup, SharedSeats), Fault>
+    requires seats { vec_len header.now.clients ≤ max_seats }
+    requires slots { IfSome header.now.slots (λ n. (16 ≤ n) × (n ≤ max_slots)) }
+    ensures identity { IfOk result (λ made. made.0.identity ≡ identity_of header.now.group header.now.profile header.now.schema) }
+    ensures free { IfOk result (λ made. vec_len header.now.clients ≤ length made.1.free.items) }
+    ensures seats { IfOk result (λ made. All (λ seat. (seat.mark.book ≡ made.0.shared.head) × (seat.slots.table ≡ made.0.shared.store.claims)) made.1.free.items) }
+    ensures fault { IfErr result (λ e. IsOfScript e → ⊥) }
+{
+    let config = config_of(alloc, header)?;
+    let Ok(made) = SharedGroup::open(alloc, config, ScriptMutators, ()) else {
+        return Err(Fault::NoMemory);
+    };
+    Ok(made)
+}
+
 /// A client before the first phase.
 fn turn_of<C: Caller + Drop>(alloc: Global, name: &Text, caller: C) -> Result<Turn<C>, AllocError>
     ensures { IfOk result (λ turn. player_of C.stands turn.client ≡ record { name = name.now; standing = C.stands caller; tickets = finite.empty }) }
@@ -202,11 +218,10 @@ fn run_shared<R: AllocGlobal + Threads + Wait + Sync, G: Gate, W: io::Write>(
     ensures fault { IfErr result (λ e. IsOfScript e → ⊥) }
 {
     let alloc = rt.alloc();
-    let config = config_of(alloc, &script.header)?;
-    let Ok((group, seats)) = SharedGroup::open(alloc, config, ScriptMutators, ()) else {
-        return Err(Fault::NoMemory);
-    };
-    run_in(rt, alloc, script, &group, seats, gate, out)
+    let (group, seats) = open_group(alloc, &script.header)?;
+    let ran = run_in(rt, alloc, script, &group, seats, gate, out);
+    drop(group);
+    ran
 }
 
 /// Runs a script, and writes the replies of each phase when it has ended. A faulty script is told before
@@ -242,6 +257,17 @@ fn plain_clients<'g>(
     Ok(turns)
 }
 
+/// The plain group of a script.
+fn plain_of(alloc: Global, header: &Header) -> Result<Plain, Fault>
+    ensures { IfErr result (λ e. IsOfScript e → ⊥) }
+{
+    let identity = header.identity(alloc)?;
+    let Ok(plain) = Plain::new(alloc, identity) else {
+        return Err(Fault::NoMemory);
+    };
+    Ok(plain)
+}
+
 /// Runs a script that was read on a plain group.
 fn run_on_plain<R: AllocGlobal + Threads + Wait + Sync, G: Gate, W: io::Write>(
     rt: &R,
@@ -253,11 +279,7 @@ fn run_on_plain<R: AllocGlobal + Threads + Wait + Sync, G: Gate, W: io::Write>(
     ensures fault { IfErr result (λ e. IsOfScript e → ⊥) }
 {
     let alloc = rt.alloc();
-    let identity = script.header.identity(alloc)?;
-    let Ok(plain) = Plain::new(alloc, identity) else {
-        return Err(Fault::NoMemory);
-    };
-    let group = Mutex::new(plain);
+    let group = Mutex::new(plain_of(alloc, &script.header)?);
     let mut turns = plain_clients(alloc, &script.header.clients, &group)?;
     run_phases(rt, alloc, gate, &mut turns, &script.phases, out)
 }

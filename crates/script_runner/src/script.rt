@@ -9,11 +9,11 @@ ghost use Rattle.std.specs.Result.{result_err};
 ghost use Rattle.std.specs.Str.Lossy.{utf8_valid_len};
 ghost use Rattle.uuid.specs.Text.{hyphenated_text, lower};
 ghost use Rattle.script_runner.specs.Context.{Context, place_of, nothing_said};
-ghost use Rattle.script_runner.specs.Commands.{bare_command, is_made, scan_words};
+ghost use Rattle.script_runner.specs.Commands.{bare_command, scan_words};
 ghost use Rattle.script_runner.specs.Inside.Commands.{scan_said};
 ghost use Rattle.script_runner.specs.Faults.{Checks, script_said, first_fault, said_in, lines_of, line_of_bad_byte};
 ghost use Rattle.script_runner.specs.Inside.Faults.{Tests, TestsLine, Reads};
-ghost use Rattle.script_runner.specs.Inside.Parsing.{client_said, line_said, made_said, phase_said, context_of, IsScript, IsChecked};
+ghost use Rattle.script_runner.specs.Inside.Parsing.{client_said, line_said, phase_said, context_of, IsScript, IsChecked};
 ghost use Rattle.script_runner.specs.Words.{is_uuid, uuid_said, is_start, start_said, is_limit, limit_said, is_json, json_said};
 ghost use Rattle.script_runner.specs.declared.faults.ScriptFault.TheVariants as script_fault;
 ghost use Rattle.script_runner.specs.declared.faults.Fault.TheVariants as fault;
@@ -22,6 +22,7 @@ use crate::faults::{Fault, LineFault, ScriptFault};
 use crate::lines::{
     first_word, is_client_name, is_ticket_name, no_words, number, one_word, rest, word_of,
 };
+use crate::names::Names;
 use group_history::{Json, MAX_SEATS, MAX_SLOTS, Refusal, Scan, Start, Text};
 use push_body::Identity;
 use std::alloc::{AllocError, Global};
@@ -181,14 +182,6 @@ pub(crate) fn uuid_text(alloc: Global, id: Uuid) -> Result<Text, AllocError>
     Text::new(alloc, id.hyphenated().encode_lower(&mut buffer))
 }
 
-/// A ticket or a watch that a line makes.
-#[derive(Drop)]
-struct Made {
-    /// The place of its client.
-    client: usize,
-    name: Text,
-}
-
 /// Takes the lines of a script, one after the other.
 #[derive(Drop)]
 struct Parser {
@@ -196,9 +189,9 @@ struct Parser {
     header: Header,
     phases: Vec<Phase>,
     /// The tickets that the lines so far make.
-    tickets: Vec<Made>,
+    tickets: Names,
     /// The watches that they make.
-    watches: Vec<Made>,
+    watches: Names,
 }
 
 impl Parser {
@@ -222,8 +215,8 @@ impl Parser {
                 clients: Vec::new(alloc),
             },
             phases: Vec::new(alloc),
-            tickets: Vec::new(alloc),
-            watches: Vec::new(alloc),
+            tickets: Names::new(alloc),
+            watches: Names::new(alloc),
         }
     }
 
@@ -377,9 +370,11 @@ impl Parser {
           phases = with_line client (line_said line) (context_of self.old).phases;
         }) }
     {
-        if let Some(phase) = self.phases.last_mut() {
-            phase.keep(client, line)?;
-        }
+        let Some(phase) = self.phases.last_mut() else {
+            drop(line);
+            return Ok(());
+        };
+        phase.keep(client, line)?;
         Ok(())
     }
 
@@ -492,8 +487,7 @@ impl Parser {
         }) }
     {
         let name = Text::new(self.alloc, name)?;
-        let made = name.clone()?;
-        self.watches.push(Made { client, name: made })?;
+        self.watches.add(client, &name)?;
         Ok(name)
     }
 
@@ -506,10 +500,11 @@ impl Parser {
         if !is_ticket_name(name) {
             return Err(LineFault::Script(ScriptFault::BadWords));
         }
-        if !has_made(&self.watches, client, name) {
+        let name = Text::new(self.alloc, name)?;
+        if !self.watches.has(client, &name) {
             return Err(LineFault::Script(ScriptFault::UnknownName));
         }
-        Ok(Command::Poll(Text::new(self.alloc, name)?))
+        Ok(Command::Poll(name))
     }
 
     #[tactic(auto, unfolding(crate::specs::Commands::mutate_line))]
@@ -555,8 +550,7 @@ impl Parser {
             return Err(LineFault::Script(ScriptFault::BadWords));
         }
         let name = Text::new(self.alloc, name)?;
-        let made = name.clone()?;
-        self.tickets.push(Made { client, name: made })?;
+        self.tickets.add(client, &name)?;
         Ok(Command::Begin(name))
     }
 
@@ -570,10 +564,10 @@ impl Parser {
             return Err(LineFault::Script(ScriptFault::BadWords));
         }
         let body = self::rest(body)?;
-        if !has_made(&self.tickets, client, name) {
+        let name = Text::new(self.alloc, name)?;
+        if !self.tickets.has(client, &name) {
             return Err(LineFault::Script(ScriptFault::UnknownName));
         }
-        let name = Text::new(self.alloc, name)?;
         Ok(Command::End(name, Text::new(self.alloc, body)?))
     }
 
@@ -585,7 +579,10 @@ impl Parser {
         let Some(command) = bare_command(name) else {
             return Err(LineFault::Script(ScriptFault::UnknownCommand));
         };
-        no_words(rest)?;
+        if let Err(fault) = no_words(rest) {
+            drop(command);
+            return Err(LineFault::Script(fault));
+        }
         Ok(command)
     }
 }
@@ -608,20 +605,13 @@ impl Phase {
     fn keep(&mut self, client: usize, line: Line) -> Result<(), AllocError>
         ensures { OnOk result (phase_said self.new ≡ changed_at client (λ lines. lines ++ line_said line ∷ []) (phase_said self.old)) }
     {
-        if let Some(lines) = self.lines.get_mut(client) {
-            lines.push(line)?;
-        }
+        let Some(lines) = self.lines.get_mut(client) else {
+            drop(line);
+            return Ok(());
+        };
+        lines.push(line)?;
         Ok(())
     }
-}
-
-/// Whether a line of this client made the ticket, or the watch.
-#[tactic(auto, unfolding(crate::specs::Commands::is_made))]
-fn has_made(all: &Vec<Made>, client: usize, name: &str) -> bool
-    ensures { result ≡ is_made client name.now (map made_said all.now.items) }
-{
-    all.iter()
-        .any(|made| made.client == client && made.name.as_str() == name)
 }
 
 /// The scan that the rest of a line is.

@@ -5,6 +5,7 @@ use crate::stored::Stored;
 use group_history::{Json, Refusal, Text};
 use map_tree::{Shelf, VecChunks};
 use std::alloc::Global;
+use std::io;
 use std::time::{Clock, Duration, Instant};
 
 const OPERATIONS: u64 = 100_000;
@@ -48,7 +49,7 @@ impl Job {
     }
 
     /// The nanoseconds of one operation, with so many keys.
-    pub(crate) fn run<K: Clock>(self, clock: &K, alloc: Global, keys: u64) -> anyhow::Result<u64> {
+    pub(crate) fn run<K: Clock>(self, clock: &K, alloc: Global, keys: u64) -> io::Result<u64> {
         match self {
             Job::Get => get(clock, alloc, keys),
             Job::Replace => replace(clock, alloc, keys),
@@ -63,21 +64,63 @@ fn each(time: Duration, operations: u64) -> u64 {
     u64::try_from(nanoseconds).unwrap_or(u64::MAX)
 }
 
-fn get<K: Clock>(clock: &K, alloc: Global, keys: u64) -> anyhow::Result<u64> {
-    let stored = Stored::filled(alloc, keys)?;
-    let asked = drawn(alloc, keys, OPERATIONS)?;
-    let start = Instant::now(clock)?;
-    stored.get_all(&asked)?;
-    Ok(each(start.elapsed(clock)?, OPERATIONS))
+fn failed(_refusal: Refusal) -> io::Error {
+    io::Error::other("an operation was refused")
 }
 
-fn replace<K: Clock>(clock: &K, alloc: Global, keys: u64) -> anyhow::Result<u64> {
-    let stored = Stored::filled(alloc, keys)?;
-    let asked = drawn(alloc, keys, OPERATIONS)?;
-    let other = value(alloc, keys)?;
+/// The nanoseconds of one of the operations that a job makes.
+fn timed<K: Clock, F: FnOnce() -> Result<(), Refusal>>(
+    clock: &K,
+    operations: u64,
+    job: F,
+) -> io::Result<u64>
+    requires { F.IsAlwaysCallable job }
+{
     let start = Instant::now(clock)?;
-    stored.replace_all(&asked, &other)?;
-    Ok(each(start.elapsed(clock)?, OPERATIONS))
+    if let Err(e) = job() {
+        return Err(failed(e));
+    }
+    Ok(each(start.elapsed(clock)?, operations))
+}
+
+/// A placed map, and which keys are asked of it.
+#[derive(Drop)]
+struct Asked {
+    stored: Stored,
+    asked: Vec<Text>,
+}
+
+fn prepared(alloc: Global, keys: u64, count: u64) -> Result<Asked, Refusal> {
+    let stored = Stored::filled(alloc, keys)?;
+    let asked = drawn(alloc, keys, count)?;
+    Ok(Asked { stored, asked })
+}
+
+fn get<K: Clock>(clock: &K, alloc: Global, keys: u64) -> io::Result<u64> {
+    match prepared(alloc, keys, OPERATIONS) {
+        Ok(map) => timed(clock, OPERATIONS, || map.stored.get_all(&map.asked)),
+        Err(e) => Err(failed(e)),
+    }
+}
+
+fn replace_in<K: Clock>(clock: &K, map: &Asked, other: &Json) -> io::Result<u64> {
+    timed(clock, OPERATIONS, || {
+        map.stored.replace_all(&map.asked, other)
+    })
+}
+
+fn replace_by<K: Clock>(clock: &K, alloc: Global, keys: u64, other: &Json) -> io::Result<u64> {
+    match prepared(alloc, keys, OPERATIONS) {
+        Ok(map) => replace_in(clock, &map, other),
+        Err(e) => Err(failed(e)),
+    }
+}
+
+fn replace<K: Clock>(clock: &K, alloc: Global, keys: u64) -> io::Result<u64> {
+    match value(alloc, keys) {
+        Ok(other) => replace_by(clock, alloc, keys, &other),
+        Err(e) => Err(failed(e)),
+    }
 }
 
 fn loaded<'a>(
@@ -89,19 +132,32 @@ fn loaded<'a>(
     load_all::<Shelf<'a>>(alloc, chunks.shelf(), asked, value)
 }
 
-fn load<K: Clock>(clock: &K, alloc: Global, keys: u64) -> anyhow::Result<u64> {
-    let asked = drawn(alloc, keys, keys)?;
-    let other = value(alloc, keys)?;
+fn load_asked<K: Clock>(
+    clock: &K,
+    alloc: Global,
+    asked: &[Text],
+    other: &Json,
+    keys: u64,
+) -> io::Result<u64> {
     let chunks = VecChunks::new(alloc);
-    let start = Instant::now(clock)?;
-    loaded(alloc, &chunks, &asked, &other)?;
-    Ok(each(start.elapsed(clock)?, keys))
+    timed(clock, keys, || loaded(alloc, &chunks, asked, other))
 }
 
-fn scan<K: Clock>(clock: &K, alloc: Global, keys: u64) -> anyhow::Result<u64> {
-    let stored = Stored::filled(alloc, keys)?;
-    let asked = drawn(alloc, keys, SCANS)?;
-    let start = Instant::now(clock)?;
-    stored.scan_all(&asked, ROWS)?;
-    Ok(each(start.elapsed(clock)?, SCANS))
+fn load_by<K: Clock>(clock: &K, alloc: Global, keys: u64, other: &Json) -> io::Result<u64> {
+    let asked = drawn(alloc, keys, keys)?;
+    load_asked(clock, alloc, &asked, other, keys)
+}
+
+fn load<K: Clock>(clock: &K, alloc: Global, keys: u64) -> io::Result<u64> {
+    match value(alloc, keys) {
+        Ok(other) => load_by(clock, alloc, keys, &other),
+        Err(e) => Err(failed(e)),
+    }
+}
+
+fn scan<K: Clock>(clock: &K, alloc: Global, keys: u64) -> io::Result<u64> {
+    match prepared(alloc, keys, SCANS) {
+        Ok(map) => timed(clock, SCANS, || map.stored.scan_all(&map.asked, ROWS)),
+        Err(e) => Err(failed(e)),
+    }
 }

@@ -12,11 +12,11 @@ mod stored;
 
 use jobs::{JOBS, Job};
 use std::alloc::Global;
-use std::io::{Read, Write};
+use std::io::{self, Read, Write};
 use std::process::ExitCode;
 use std::time::Clock;
 
-fn print_jobs<W: Write>(out: &mut W) -> anyhow::Result<()> {
+fn print_jobs<W: Write>(out: &mut W) -> io::Result<()> {
     for job in JOBS {
         writeln!(out, "{}", job.name())?;
     }
@@ -28,7 +28,7 @@ fn run_line<K: Clock, W: Write>(
     alloc: Global,
     out: &mut W,
     line: &str,
-) -> anyhow::Result<()> {
+) -> io::Result<()> {
     let Some((name, number)) = line.split_once(' ') else {
         return Ok(());
     };
@@ -36,7 +36,21 @@ fn run_line<K: Clock, W: Write>(
         return Ok(());
     };
     let nanoseconds = job.run(clock, alloc, keys.max(1))?;
-    writeln!(out, "{name}\ttree\t{keys}\t{nanoseconds}")?;
+    writeln!(out, "{name}\ttree\t{keys}\t{nanoseconds}")
+}
+
+fn run_all<K: Clock, W: Write>(
+    clock: &K,
+    alloc: Global,
+    out: &mut W,
+    text: &[u8],
+) -> io::Result<()> {
+    let Ok(text) = str::from_utf8(text) else {
+        return Err(io::Error::other("the input is no UTF-8"));
+    };
+    for line in text.lines() {
+        run_line(clock, alloc, out, line)?;
+    }
     Ok(())
 }
 
@@ -45,16 +59,13 @@ fn program<K: Clock, I: Read, W: Write>(
     alloc: Global,
     input: &mut I,
     out: &mut W,
-) -> anyhow::Result<()> {
+) -> io::Result<()> {
     let mut text = Vec::new(alloc);
     input.read_to_end(&mut text)?;
     if text.is_empty() {
         return print_jobs(out);
     }
-    for line in str::from_utf8(&text)?.lines() {
-        run_line(clock, alloc, out, line)?;
-    }
-    Ok(())
+    run_all(clock, alloc, out, &text)
 }
 
 fn main(rt: HostRuntime) -> ExitCode {

@@ -6,7 +6,7 @@ ghost use Rattle.std.specs.Prelude.{◌≡◌};
 ghost use Rattle.std.specs.List.{All};
 
 use super::ends::{Answer, ends_anew, mutates};
-use super::opening::{A, B, config_of, next_client};
+use super::opening::{A, B, Player, opened, players_of, two_of};
 use chunk_slots::Arena;
 use group_history::Refusal;
 use rebase::{Client, Group, Seats, SlotCounts};
@@ -63,7 +63,7 @@ fn after_set(
     group: &Shared,
     client: &mut Client<'_, ScriptMutators, Store>,
 ) -> Counted {
-    after(group, mutates(alloc, client, "set", r#"["n",0]"#))
+    after(group, mutates(alloc, client, "set", r#"["n",0]"#, 1))
 }
 
 fn after_incr(
@@ -71,7 +71,7 @@ fn after_incr(
     group: &Shared,
     client: &mut Client<'_, ScriptMutators, Store>,
 ) -> Counted {
-    after(group, mutates(alloc, client, "incr", r#"["n",1]"#))
+    after(group, mutates(alloc, client, "incr", r#"["n",1]"#, 1))
 }
 
 fn after_pull(
@@ -109,16 +109,25 @@ fn wanted_beside() -> [SlotCounts; 4] {
     ]
 }
 
+fn pulls_twice(
+    group: &Shared,
+    client: &mut Client<'_, ScriptMutators, Store>,
+) -> Result<[SlotCounts; 3], Refusal> {
+    let open = group.slots();
+    let pulled = after_pull(group, client, CONFIRMED)?;
+    let again = after_pull(group, client, NEXT)?;
+    Ok([open, pulled, again])
+}
+
 fn beside_a_reader(
     group: &Shared,
     reader: &mut Client<'_, ScriptMutators, Store>,
     client: &mut Client<'_, ScriptMutators, Store>,
 ) -> Result<[SlotCounts; 4], Refusal> {
     let tx = reader.read(1)?;
-    let open = group.slots();
-    let pulled = after_pull(group, client, CONFIRMED)?;
-    let again = after_pull(group, client, NEXT)?;
+    let counted = pulls_twice(group, client);
     tx.close();
+    let [open, pulled, again] = counted?;
     Ok([open, pulled, again, group.slots()])
 }
 
@@ -151,8 +160,16 @@ fn counted_by(
 ) -> Result<Steps, Refusal> {
     let before = before_a_reader(alloc, group, b)?;
     let beside = beside_a_reader(group, a, b)?;
-    let full = when_full(alloc, group, b)?;
-    Ok((before, beside, full))
+    Ok((before, beside, when_full(alloc, group, b)?))
+}
+
+fn counted_of(
+    alloc: Global,
+    group: &Shared,
+    players: &mut [Player<'_, Store>],
+) -> Result<Steps, Refusal> {
+    let (a, b) = two_of(players)?;
+    counted_by(alloc, group, &mut a.client, &mut b.client)
 }
 
 fn counted_in(
@@ -162,14 +179,12 @@ fn counted_in(
 ) -> Result<Steps, Refusal>
     requires { All (λ seat. (seat.mark.book ≡ group.now.shared.head) × (seat.slots.table ≡ group.now.shared.store.claims)) seats.old.free.items }
 {
-    let mut a = next_client(group, seats, A)?;
-    let mut b = next_client(group, seats, B)?;
-    counted_by(alloc, group, &mut a, &mut b)
+    let mut players = players_of(alloc, group, seats, &[A, B])?;
+    counted_of(alloc, group, players.as_mut_slice())
 }
 
 fn counted(alloc: Global) -> Result<Steps, Refusal> {
-    let config = config_of(alloc, 32, 2)?;
-    let (group, mut seats) = Shared::open(alloc, config, ScriptMutators, ())?;
+    let (group, mut seats) = opened::<Store>(alloc, (), 32, 2)?;
     counted_in(alloc, &group, &mut seats)
 }
 

@@ -6,7 +6,7 @@
 ghost use Rattle.std.specs.Prelude.{◌≡◌};
 ghost use Rattle.std.specs.List.{All};
 
-use super::opening::{A, B, answered, config_of, next_client};
+use super::opening::{A, B, Player, answered, next_client, opened, players_of, two_of};
 use chunk_slots::{Append, Arena, Store};
 use group_history::{Cookie, Ended, Json, Refusal, Scan, Start, Text, VersionKind};
 use rebase::{Client, Group, ReadTx, Seats, Ticket};
@@ -50,25 +50,27 @@ pub(super) fn mutates<S: Store<ScriptMutators>>(
     client: &mut Client<'_, ScriptMutators, S>,
     name: &str,
     args: &str,
+    tries: u32,
 ) -> Answer
 where
     S::Seat: Drop,
 {
     let name = Text::new(alloc, name)?;
     let args = Json::read(alloc, args.as_bytes())?;
-    Ok(Told::Id(client.try_mutate(&name, &args, 1000, 1)?))
+    Ok(Told::Id(client.try_mutate(&name, &args, 1000, tries)?))
 }
 
-fn ends<S: Store<ScriptMutators>>(
+pub(super) fn ends<S: Store<ScriptMutators>>(
     client: &mut Client<'_, ScriptMutators, S>,
     ticket: &Ticket,
     body: &str,
+    tries: u32,
 ) -> Answer
 where
     S::Seat: Drop,
     ensures { client.new.mark.book ≡ client.old.mark.book }
 {
-    let ended = client.try_end_pull(ticket, body.as_bytes(), 1)?;
+    let ended = client.try_end_pull(ticket, body.as_bytes(), tries)?;
     Ok(Told::Ended(ended))
 }
 
@@ -81,34 +83,50 @@ where
     ensures { client.new.mark.book ≡ client.old.mark.book }
 {
     let ticket = client.begin_pull(1)?;
-    ends(client, &ticket, body)
+    ends(client, &ticket, body, 1)
+}
+
+pub(super) fn number_in(text: &str) -> Told {
+    Told::Value(text.parse::<i64>().ok())
+}
+
+pub(super) fn number_of(value: Option<&Json>) -> Told {
+    match value {
+        Some(value) => number_in(value.text()),
+        None => Told::Value(None),
+    }
 }
 
 fn number_at<S: Store<ScriptMutators>>(tx: &ReadTx<'_, '_, ScriptMutators, S>, key: &str) -> Answer
 where
     S::Seat: Drop,
 {
-    match tx.get(key)? {
-        Some(value) => Ok(Told::Value(value.text().parse::<i64>().ok())),
-        None => Ok(Told::Value(None)),
-    }
+    let value = tx.get(key)?;
+    Ok(number_of(value.as_ref()))
 }
 
-fn gets<S: Store<ScriptMutators>>(client: &mut Client<'_, ScriptMutators, S>, key: &str) -> Answer
+pub(super) fn gets<S: Store<ScriptMutators>>(
+    client: &mut Client<'_, ScriptMutators, S>,
+    key: &str,
+    tries: u32,
+) -> Answer
 where
     S::Seat: Drop,
 {
-    let tx = client.read(1)?;
-    let found = number_at(&tx, key)?;
+    let tx = client.read(tries)?;
+    let found = number_at(&tx, key);
     tx.close();
-    Ok(found)
+    found
 }
 
-fn refreshes<S: Store<ScriptMutators>>(client: &mut Client<'_, ScriptMutators, S>) -> Answer
+pub(super) fn refreshes<S: Store<ScriptMutators>>(
+    client: &mut Client<'_, ScriptMutators, S>,
+    tries: u32,
+) -> Answer
 where
     S::Seat: Drop,
 {
-    Ok(Told::Last(client.refresh(1)?))
+    Ok(Told::Last(client.refresh(tries)?))
 }
 
 fn tells<S: Store<ScriptMutators>>(
@@ -121,12 +139,12 @@ where
     S::Seat: Drop,
 {
     match asks {
-        Asks::Incr => mutates(alloc, client, "incr", r#"["n",1]"#),
-        Asks::Set => mutates(alloc, client, "set", r#"["k",1]"#),
+        Asks::Incr => mutates(alloc, client, "incr", r#"["n",1]"#, 1),
+        Asks::Set => mutates(alloc, client, "set", r#"["k",1]"#, 1),
         Asks::End(body) => ends_anew(client, body),
-        Asks::EndOld(body) => ends(client, old, body),
-        Asks::Get(key) => gets(client, key),
-        Asks::Refresh => refreshes(client),
+        Asks::EndOld(body) => ends(client, old, body, 1),
+        Asks::Get(key) => gets(client, key, 1),
+        Asks::Refresh => refreshes(client, 1),
     }
 }
 
@@ -145,9 +163,9 @@ fn read_by<S: Store<ScriptMutators>>(
 where
     S::Seat: Drop,
 {
+    let closed = tx.closed()?;
     let cookie = tx.cookie()?;
     let rows = tx.scan(all)?;
-    let closed = tx.closed()?;
     Ok(Read {
         cookie,
         rows,
@@ -163,9 +181,9 @@ where
     S::Seat: Drop,
 {
     let tx = client.read(1)?;
-    let read = read_by(&tx, all)?;
+    let read = read_by(&tx, all);
     tx.close();
-    Ok(read)
+    read
 }
 
 // All that a client sees of the group: what is read, what is pending as a push carries it, and its last id.
@@ -183,9 +201,9 @@ fn sees<S: Store<ScriptMutators>>(
 where
     S::Seat: Drop,
 {
-    let read = reads(client, all)?;
-    let push = client.push_body(1)?;
     let last = client.refresh(1)?;
+    let push = client.push_body(1)?;
+    let read = reads(client, all)?;
     Ok(Seen { read, push, last })
 }
 
@@ -361,13 +379,7 @@ where
     S::Seat: Drop,
     S::Parts: Drop,
 {
-    let config = config_of(alloc, 32, 2)?;
-    let (group, mut seats) = Group::<ScriptMutators, S>::open(
-        alloc,
-        config,
-        ScriptMutators,
-        parts,
-    )?;
+    let (group, mut seats) = opened::<S>(alloc, parts, 32, 2)?;
     other_in_group(alloc, &group, &mut seats, steps)
 }
 
@@ -625,62 +637,62 @@ where
     S::Seat: Drop,
 {
     let tx = reader.read(1)?;
-    let beside = reads_the_same(alloc, &tx, client, old)?;
+    let beside = reads_the_same(alloc, &tx, client, old);
     tx.close();
-    Ok(beside)
+    beside
 }
 
+type Met = (Option<usize>, bool, Option<usize>);
+
 // What the one client meets before the reader of the other, beside it and after it.
-fn beside_a_reader<S: Store<ScriptMutators>>(
+fn met_since<S: Store<ScriptMutators>>(
     alloc: Global,
     reader: &mut Client<'_, ScriptMutators, S>,
     client: &mut Client<'_, ScriptMutators, S>,
-) -> Result<(Option<usize>, bool, Option<usize>), Refusal>
+    old: &Ticket,
+) -> Result<Met, Refusal>
 where
     S::Seat: Drop,
 {
-    let old = client.begin_pull(1)?;
-    let before = other_answer(alloc, client, &old, &BEFORE_A_READER)?;
-    let beside = meets_a_reader(alloc, reader, client, &old)?;
-    let after = other_answer(alloc, client, &old, &AFTER_A_READER)?;
+    let before = other_answer(alloc, client, old, &BEFORE_A_READER)?;
+    let beside = meets_a_reader(alloc, reader, client, old)?;
+    let after = other_answer(alloc, client, old, &AFTER_A_READER)?;
     Ok((before, beside, after))
+}
+
+fn beside_a_reader<S: Store<ScriptMutators>>(
+    alloc: Global,
+    players: &mut [Player<'_, S>],
+) -> Result<Met, Refusal>
+where
+    S::Seat: Drop,
+{
+    let (a, b) = two_of(players)?;
+    let old = b.client.begin_pull(1)?;
+    met_since(alloc, &mut a.client, &mut b.client, &old)
 }
 
 fn beside_in_group<S: Store<ScriptMutators>>(
     alloc: Global,
     group: &Group<ScriptMutators, S>,
     seats: &mut Seats<ScriptMutators, S>,
-) -> Result<(Option<usize>, bool, Option<usize>), Refusal>
+) -> Result<Met, Refusal>
 where
     S::Seat: Drop,
     requires { All (λ seat. (seat.mark.book ≡ group.now.shared.head) × (S.home seat.slots ≡ S.serves group.now.shared.store)) seats.old.free.items }
 {
-    let mut a = next_client(group, seats, A)?;
-    let mut b = next_client(group, seats, B)?;
-    beside_a_reader(alloc, &mut a, &mut b)
+    let mut players = players_of(alloc, group, seats, &[A, B])?;
+    beside_a_reader(alloc, players.as_mut_slice())
 }
 
-fn beside_in_new<S: Store<ScriptMutators> + Drop>(
-    alloc: Global,
-    parts: S::Parts,
-) -> Result<(Option<usize>, bool, Option<usize>), Refusal>
-where
-    S::Seat: Drop,
-    S::Parts: Drop,
-{
-    let config = config_of(alloc, 32, 2)?;
-    let (group, mut seats) = Group::<ScriptMutators, S>::open(
-        alloc,
-        config,
-        ScriptMutators,
-        parts,
-    )?;
+fn beside_in_new(alloc: Global) -> Result<Met, Refusal> {
+    let (group, mut seats) = opened::<Arena<ScriptMutators>>(alloc, (), 32, 2)?;
     beside_in_group(alloc, &group, &mut seats)
 }
 
 #[test]
 fn slots_wait_for_a_reader(rt: HostRuntime) -> Result<(), Refusal> {
-    let seen = beside_in_new::<Arena<ScriptMutators>>(rt.alloc(), ())?;
-    assert_eq!(rt; seen, (None, true, None));
+    let met = beside_in_new(rt.alloc())?;
+    assert_eq!(rt; met, (None, true, None));
     Ok(())
 }

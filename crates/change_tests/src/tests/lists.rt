@@ -2,7 +2,7 @@
 ghost use Rattle.std.specs.Prelude.{◌≡◌};
 ghost use Rattle.std.specs.List.{All};
 
-use super::opening::{A, config_of, next_client};
+use super::opening::{A, next_client, opened};
 use chunk_slots::{Arena, Store};
 use group_history::{Ended, Json, Refusal, Text};
 use rebase::{Call, Client, Group, Mutate, Reply, Seats, Ticket};
@@ -83,6 +83,30 @@ fn count_right(replies: &[Result<Reply, Refusal>]) -> Result<usize, Refusal> {
 }
 
 // How many replies there are, and how many of them are right.
+fn counts_of<S: Store<ScriptMutators>>(
+    alloc: Global,
+    client: &mut Client<'_, ScriptMutators, S>,
+    ticket: &Ticket,
+) -> Result<(usize, usize), Refusal>
+where
+    S::Seat: Drop,
+{
+    let replies = made_by(alloc, client, ticket)?;
+    let count = replies.len();
+    Ok((count, count_right(&replies)?))
+}
+
+fn counts_since_null<S: Store<ScriptMutators>>(
+    alloc: Global,
+    client: &mut Client<'_, ScriptMutators, S>,
+) -> Result<(usize, usize), Refusal>
+where
+    S::Seat: Drop,
+{
+    let ticket = client.begin_pull(1)?;
+    counts_of(alloc, client, &ticket)
+}
+
 fn counts_in_group<S: Store<ScriptMutators>>(
     alloc: Global,
     group: &Group<ScriptMutators, S>,
@@ -93,20 +117,11 @@ where
     requires { All (λ seat. (seat.mark.book ≡ group.now.shared.head) × (S.home seat.slots ≡ S.serves group.now.shared.store)) seats.old.free.items }
 {
     let mut client = next_client(group, seats, A)?;
-    let ticket = client.begin_pull(1)?;
-    let replies = made_by(alloc, &mut client, &ticket)?;
-    let right = count_right(&replies)?;
-    Ok((replies.len(), right))
+    counts_since_null(alloc, &mut client)
 }
 
 fn counts_in_new(alloc: Global) -> Result<(usize, usize), Refusal> {
-    let config = config_of(alloc, 32, 1)?;
-    let (group, mut seats) = Group::<ScriptMutators, Arena<ScriptMutators>>::open(
-        alloc,
-        config,
-        ScriptMutators,
-        (),
-    )?;
+    let (group, mut seats) = opened::<Arena<ScriptMutators>>(alloc, (), 32, 1)?;
     counts_in_group(alloc, &group, &mut seats)
 }
 

@@ -1,4 +1,4 @@
-//! How the tests open a group: whose it is, how it is laid out, and a client on its next seat.
+//! How the tests open a group: whose it is, how it is laid out, and its clients.
 ghost use Rattle.std.specs.Prelude.{◌≡◌, ◌<◌, IfOk, vec_capacity, vec_len};
 ghost use Rattle.std.specs.List.{All};
 
@@ -6,6 +6,7 @@ use chunk_slots::Store;
 use group_history::{Means, Refusal, Text};
 use push_body::Identity;
 use rebase::{Client, Config, Group, Seats};
+use script_mutators::ScriptMutators;
 use std::alloc::Global;
 use uuid::Uuid;
 
@@ -15,7 +16,7 @@ pub(super) const A: &str = "00000000-0000-4000-8000-00000000000a";
 
 pub(super) const B: &str = "00000000-0000-4000-8000-00000000000b";
 
-pub(super) fn identity(alloc: Global) -> Result<Identity, Refusal> {
+fn identity(alloc: Global) -> Result<Identity, Refusal> {
     Ok(Identity {
         group: Text::new(alloc, GROUP)?,
         profile: Text::new(alloc, "p1")?,
@@ -23,9 +24,9 @@ pub(super) fn identity(alloc: Global) -> Result<Identity, Refusal> {
     })
 }
 
-// A group of so many slots and seats.
-pub(super) fn config_of(alloc: Global, slots: u32, seats: u32) -> Result<Config, Refusal> {
-    match Config::new(identity(alloc)?, slots, seats) {
+// A group of so many slots, with a seat for each of its clients.
+fn config_of(alloc: Global, slots: u32, clients: u32) -> Result<Config, Refusal> {
+    match Config::new(identity(alloc)?, slots, clients) {
         Ok(config) => Ok(config),
         Err(_) => Err(Refusal::Full),
     }
@@ -52,10 +53,71 @@ where
     ensures group { IfOk result (λ client. client.mark.book ≡ group.now.shared.head) }
     ensures same { IfOk result (λ client. client.group.now ≡ group.now) }
 {
+    let id = id(text)?;
     let seat = seats.take()?;
-    match group.client(seat, id(text)?, 9) {
+    match group.client(seat, id, 9) {
         Ok(client) => Ok(client),
         Err((_, e)) => Err(e),
+    }
+}
+
+// A client that may be lent to a thread.
+#[derive(Drop)]
+pub(super) struct Player<'g, S: Store<ScriptMutators>>
+where
+    S::Seat: Drop,
+{
+    pub(super) client: Client<'g, ScriptMutators, S>,
+}
+
+// Clients of these IDs on the next seats.
+pub(super) fn players_of<'g, S: Store<ScriptMutators>>(
+    alloc: Global,
+    group: &'g Group<ScriptMutators, S>,
+    seats: &mut Seats<ScriptMutators, S>,
+    ids: &[&str],
+) -> Result<Vec<Player<'g, S>>, Refusal>
+where
+    S::Seat: Drop,
+    requires { All (λ seat. (seat.mark.book ≡ group.now.shared.head) × (S.home seat.slots ≡ S.serves group.now.shared.store)) seats.old.free.items }
+{
+    let mut players = Vec::new(alloc);
+    for id in ids {
+        let client = next_client(group, seats, id)?;
+        players.push(Player { client })?;
+    }
+    Ok(players)
+}
+
+// A new group of so many slots, and a seat for each of its clients.
+pub(super) fn opened<S: Store<ScriptMutators> + Drop>(
+    alloc: Global,
+    parts: S::Parts,
+    slots: u32,
+    clients: u32,
+) -> Result<(Group<ScriptMutators, S>, Seats<ScriptMutators, S>), Refusal>
+where
+    S::Seat: Drop,
+    S::Parts: Drop,
+    ensures { IfOk result (λ made. All (λ seat. (seat.mark.book ≡ made.0.shared.head) × (S.home seat.slots ≡ S.serves made.0.shared.store)) made.1.free.items) }
+{
+    let config = config_of(alloc, slots, clients)?;
+    Group::<ScriptMutators, S>::open(alloc, config, ScriptMutators, parts)
+}
+
+// The first two of these players.
+pub(super) fn two_of<'a, 'g, S: Store<ScriptMutators>>(
+    players: &'a mut [Player<'g, S>],
+) -> Result<(&'a mut Player<'g, S>, &'a mut Player<'g, S>), Refusal>
+where
+    S::Seat: Drop,
+{
+    let Some((first, rest)) = players.split_first_mut() else {
+        return Err(Refusal::NoSeat);
+    };
+    match rest.first_mut() {
+        Some(second) => Ok((first, second)),
+        None => Err(Refusal::NoSeat),
     }
 }
 

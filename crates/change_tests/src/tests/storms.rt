@@ -6,14 +6,14 @@ ghost use Rattle.std.specs.Prelude.{◌≡◌, IfOk};
 ghost use Rattle.std.specs.List.{All};
 ghost use Rattle.group_history.specs.Pull.{AreInRange};
 
-use super::ends::{Answer, CLOSING, Told};
-use super::opening::{A, B, answered, config_of, next_client};
+use super::ends::{Answer, CLOSING, Told, ends, gets, mutates, number_in, number_of, refreshes};
+use super::opening::{A, B, Player, answered, opened, players_of, two_of};
 use chunk_slots::{Append, Arena, Store};
 use group_history::{
     Confirmed, Cookie, Ended, Json, Patch, PlainGroup, PullOk, Refusal, Response, Text,
     nests_within,
 };
-use rebase::{Client, Group, Seats, Ticket};
+use rebase::{Client, Group, ReadTx, Seats, Ticket};
 use script_mutators::ScriptMutators;
 use serde_json::Value;
 use std::alloc::Global;
@@ -33,55 +33,35 @@ fn cookie_of(alloc: Global, value: &Value) -> Result<Cookie, Refusal> {
     Cookie::of(alloc, value)?.ok_or(Refusal::BadShape)
 }
 
-// A client of a thread, and the pull that it began last.
-#[derive(Drop)]
-struct Player<'g, S: Store<ScriptMutators>>
+fn closes<S: Store<ScriptMutators>>(client: &mut Client<'_, ScriptMutators, S>) -> Ending
 where
     S::Seat: Drop,
 {
-    client: Client<'g, ScriptMutators, S>,
-    ticket: Ticket,
-}
-
-fn new_player<'g, S: Store<ScriptMutators>>(
-    group: &'g Group<ScriptMutators, S>,
-    seats: &mut Seats<ScriptMutators, S>,
-    text: &str,
-) -> Result<Player<'g, S>, Refusal>
-where
-    S::Seat: Drop,
-    requires { All (λ seat. (seat.mark.book ≡ group.now.shared.head) × (S.home seat.slots ≡ S.serves group.now.shared.store)) seats.old.free.items }
-    ensures { All (λ seat. (seat.mark.book ≡ group.now.shared.head) × (S.home seat.slots ≡ S.serves group.now.shared.store)) seats.new.free.items }
-{
-    let mut client = next_client(group, seats, text)?;
     let ticket = client.begin_pull(TRIES)?;
-    Ok(Player { client, ticket })
+    client.try_end_pull(&ticket, CLOSING.as_bytes(), TRIES)
 }
 
-// Players of these IDs on the next two seats.
-fn two_players<'g, S: Store<ScriptMutators>>(
-    group: &'g Group<ScriptMutators, S>,
-    seats: &mut Seats<ScriptMutators, S>,
-) -> Result<(Player<'g, S>, Player<'g, S>), Refusal>
+fn one_closes<S: Store<ScriptMutators>>(players: &mut [Player<'_, S>]) -> Ending
 where
     S::Seat: Drop,
-    requires { All (λ seat. (seat.mark.book ≡ group.now.shared.head) × (S.home seat.slots ≡ S.serves group.now.shared.store)) seats.old.free.items }
-    ensures { All (λ seat. (seat.mark.book ≡ group.now.shared.head) × (S.home seat.slots ≡ S.serves group.now.shared.store)) seats.new.free.items }
 {
-    let a = new_player(group, seats, A)?;
-    let b = new_player(group, seats, B)?;
-    Ok((a, b))
+    match players.first_mut() {
+        Some(player) => closes(&mut player.client),
+        None => Err(Refusal::NoSeat),
+    }
 }
 
+// Both halves of two players.
 fn two_close<R: Threads + Sync, S: Store<ScriptMutators>>(
     rt: &R,
-    mut a: Player<'_, S>,
-    mut b: Player<'_, S>,
+    players: &mut [Player<'_, S>],
 ) -> (Ending, Ending)
 where
     S::Seat: Drop,
 {
-    join(rt, || a.closes(), || b.closes())
+    let half = players.len() / 2;
+    let (a, b) = players.split_at_mut(half);
+    join(rt, || one_closes(a), || one_closes(b))
 }
 
 // How often four clients that close a group at once are answered so.
@@ -110,6 +90,20 @@ fn count(endings: &[Ending]) -> Result<Closings, Refusal> {
 
 fn four_close<R: Threads + Sync, S: Store<ScriptMutators>>(
     rt: &R,
+    players: &mut [Player<'_, S>],
+) -> Result<Closings, Refusal>
+where
+    S::Seat: Drop,
+{
+    let half = players.len() / 2;
+    let (left, right) = players.split_at_mut(half);
+    let (left, right) = join(rt, || two_close(rt, left), || two_close(rt, right));
+    count(&[left.0, left.1, right.0, right.1])
+}
+
+fn closings_in<R: Threads + Sync, S: Store<ScriptMutators>>(
+    rt: &R,
+    alloc: Global,
     group: &Group<ScriptMutators, S>,
     seats: &mut Seats<ScriptMutators, S>,
 ) -> Result<Closings, Refusal>
@@ -117,16 +111,9 @@ where
     S::Seat: Drop,
     requires { All (λ seat. (seat.mark.book ≡ group.now.shared.head) × (S.home seat.slots ≡ S.serves group.now.shared.store)) seats.old.free.items }
 {
-    let (a, b) = two_players(group, seats)?;
-    let (c, d) = two_players(group, seats)?;
-    let (left, right) = join(rt, || two_close(rt, a, b), || two_close(rt, c, d));
-    count(&[left.0, left.1, right.0, right.1])
+    let mut players = players_of(alloc, group, seats, &[A, B, A, B])?;
+    four_close(rt, players.as_mut_slice())
 }
-
-const ONE_CLOSES: Closings = Closings {
-    not_found: 1,
-    closed: 3,
-};
 
 fn closings_in_new<R: Threads + Sync, S: Store<ScriptMutators> + Drop>(
     rt: &R,
@@ -137,15 +124,14 @@ where
     S::Seat: Drop,
     S::Parts: Drop,
 {
-    let config = config_of(alloc, 32, 4)?;
-    let (group, mut seats) = Group::<ScriptMutators, S>::open(
-        alloc,
-        config,
-        ScriptMutators,
-        parts,
-    )?;
-    four_close(rt, &group, &mut seats)
+    let (group, mut seats) = opened::<S>(alloc, parts, 32, 4)?;
+    closings_in(rt, alloc, &group, &mut seats)
 }
+
+const ONE_CLOSES: Closings = Closings {
+    not_found: 1,
+    closed: 3,
+};
 
 // The first answers of so many groups that are others than those.
 fn other_closings<R: Threads + Sync, S: Store<ScriptMutators> + Drop>(
@@ -239,27 +225,26 @@ static CALLS: [Call; 16] = [
     }),
 ];
 
-// The calls after which two threads have ended.
-static LAST_CALLS: [Call; 5] = [
-    Call::Get("n"),
-    Call::Get("k"),
-    Call::Pending,
-    Call::Begin,
-    Call::Refresh,
-];
-
-// A call and what it was answered.
-type Step = (Call, Answer);
-
-fn number_in(text: &str) -> Told {
-    Told::Value(text.parse::<i64>().ok())
+// A call, and what it was answered once it was made.
+#[derive(Clone, Copy)]
+struct Step {
+    call: Call,
+    answer: Option<Answer>,
 }
 
-fn number_of(value: Option<&Json>) -> Told {
-    match value {
-        Some(value) => number_in(value.text()),
-        None => Told::Value(None),
-    }
+fn unmade(call: Call) -> Step {
+    Step { call, answer: None }
+}
+
+// What is asked when two threads have ended.
+fn last_steps() -> [Step; 5] {
+    [
+        unmade(Call::Get("n")),
+        unmade(Call::Get("k")),
+        unmade(Call::Pending),
+        unmade(Call::Begin),
+        unmade(Call::Refresh),
+    ]
 }
 
 fn body_of(alloc: Global, pull: Pull) -> Result<String, Refusal> {
@@ -273,82 +258,119 @@ fn body_of(alloc: Global, pull: Pull) -> Result<String, Refusal> {
     )?)
 }
 
-impl<S: Store<ScriptMutators>> Player<'_, S>
+// The pulls of a client: the first one of all, and the one that it began last since.
+#[derive(Drop)]
+struct Begun<'a> {
+    first: &'a Ticket,
+    last: Option<Ticket>,
+}
+
+impl Begun<'_> {
+    fn ticket(&self) -> &Ticket {
+        match &self.last {
+            Some(ticket) => ticket,
+            None => self.first,
+        }
+    }
+
+    fn begins<S: Store<ScriptMutators>>(
+        &mut self,
+        client: &mut Client<'_, ScriptMutators, S>,
+    ) -> Answer
+    where
+        S::Seat: Drop,
+    {
+        let ticket = client.begin_pull(TRIES)?;
+        let told = number_in(ticket.cookie.text());
+        self.last = Some(ticket);
+        Ok(told)
+    }
+
+    fn ends<S: Store<ScriptMutators>>(
+        &self,
+        alloc: Global,
+        client: &mut Client<'_, ScriptMutators, S>,
+        pull: Pull,
+    ) -> Answer
+    where
+        S::Seat: Drop,
+    {
+        let body = body_of(alloc, pull)?;
+        ends(client, self.ticket(), &body, TRIES)
+    }
+
+    fn makes<S: Store<ScriptMutators>>(
+        &mut self,
+        alloc: Global,
+        client: &mut Client<'_, ScriptMutators, S>,
+        call: Call,
+    ) -> Answer
+    where
+        S::Seat: Drop,
+    {
+        match call {
+            Call::Mutate(name, args) => mutates(alloc, client, name, args, TRIES),
+            Call::Get(key) => gets(client, key, TRIES),
+            Call::Pending => counts(client),
+            Call::Refresh => refreshes(client, TRIES),
+            Call::Begin => self.begins(client),
+            Call::End(pull) => self.ends(alloc, client, pull),
+        }
+    }
+}
+
+fn count_in<S: Store<ScriptMutators>>(tx: &ReadTx<'_, '_, ScriptMutators, S>) -> Answer
 where
     S::Seat: Drop,
 {
-    fn closes(&mut self) -> Ending {
-        self.ticket = self.client.begin_pull(TRIES)?;
-        self.client
-            .try_end_pull(&self.ticket, CLOSING.as_bytes(), TRIES)
-    }
+    let pending = tx.pending()?;
+    Ok(Told::Last(pending.len() as u64))
+}
 
-    fn mutates(&mut self, alloc: Global, name: &str, args: &str) -> Answer {
-        let name = Text::new(alloc, name)?;
-        let args = Json::read(alloc, args.as_bytes())?;
-        Ok(Told::Id(self.client.try_mutate(&name, &args, 1000, TRIES)?))
-    }
+fn counts<S: Store<ScriptMutators>>(client: &mut Client<'_, ScriptMutators, S>) -> Answer
+where
+    S::Seat: Drop,
+{
+    let tx = client.read(TRIES)?;
+    let count = count_in(&tx);
+    tx.close();
+    count
+}
 
-    fn gets(&mut self, key: &str) -> Answer {
-        let tx = self.client.read(TRIES)?;
-        let value = tx.get(key)?;
-        Ok(number_of(value.as_ref()))
+fn makes_all<S: Store<ScriptMutators>>(
+    alloc: Global,
+    client: &mut Client<'_, ScriptMutators, S>,
+    first: &Ticket,
+    steps: &mut [Step],
+) -> Result<(), Refusal>
+where
+    S::Seat: Drop,
+{
+    let mut begun = Begun { first, last: None };
+    for step in steps.iter_mut() {
+        step.answer = Some(answered(begun.makes(alloc, client, step.call))?);
     }
+    Ok(())
+}
 
-    fn counts(&mut self) -> Answer {
-        let tx = self.client.read(TRIES)?;
-        let pending = tx.pending()?;
-        Ok(Told::Last(pending.len() as u64))
-    }
-
-    fn begins(&mut self) -> Answer {
-        self.ticket = self.client.begin_pull(TRIES)?;
-        Ok(number_in(self.ticket.cookie.text()))
-    }
-
-    fn ends(&mut self, alloc: Global, pull: Pull) -> Answer {
-        let body = body_of(alloc, pull)?;
-        let ended = self
-            .client
-            .try_end_pull(&self.ticket, body.as_bytes(), TRIES)?;
-        Ok(Told::Ended(ended))
-    }
-
-    fn makes(&mut self, alloc: Global, call: Call) -> Answer {
-        match call {
-            Call::Mutate(name, args) => self.mutates(alloc, name, args),
-            Call::Get(key) => self.gets(key),
-            Call::Pending => self.counts(),
-            Call::Refresh => Ok(Told::Last(self.client.refresh(TRIES)?)),
-            Call::Begin => self.begins(),
-            Call::End(pull) => self.ends(alloc, pull),
+// The same, once the other thread has come here too.
+fn makes_beside<S: Store<ScriptMutators>>(
+    alloc: Global,
+    player: &mut Player<'_, S>,
+    first: &Ticket,
+    steps: &mut [Step],
+    come: &AtomicU64,
+) -> Result<(), Refusal>
+where
+    S::Seat: Drop,
+{
+    come.fetch_add(1, SeqCst);
+    for _ in 0..100_000 {
+        if come.load(SeqCst) >= 2 {
+            break;
         }
     }
-
-    fn makes_all(&mut self, alloc: Global, calls: &[Call]) -> Result<Vec<Step>, Refusal> {
-        let mut steps = Vec::new(alloc);
-        for call in calls {
-            let answer = answered(self.makes(alloc, *call))?;
-            steps.push((*call, answer))?;
-        }
-        Ok(steps)
-    }
-
-    // The same, once the other thread has come here too.
-    fn makes_beside(
-        &mut self,
-        alloc: Global,
-        calls: &[Call],
-        come: &AtomicU64,
-    ) -> Result<Vec<Step>, Refusal> {
-        come.fetch_add(1, SeqCst);
-        for _ in 0..100_000 {
-            if come.load(SeqCst) >= 2 {
-                break;
-            }
-        }
-        self.makes_all(alloc, calls)
-    }
+    makes_all(alloc, &mut player.client, first, steps)
 }
 
 // A client of the group of one thread, and what is to be explained of its calls.
@@ -440,20 +462,20 @@ impl Side<'_> {
 
     // Makes the next call. False where it is answered otherwise, or where there is none.
     fn fits(&mut self, alloc: Global, group: &mut Plain) -> Result<bool, Refusal> {
-        let Some(((call, answer), rest)) = self.steps.split_first() else {
+        let Some((step, rest)) = self.steps.split_first() else {
             return Ok(false);
         };
         self.steps = rest;
-        Ok(answered(self.makes(alloc, group, *call))? == *answer)
+        Ok(Some(answered(self.makes(alloc, group, step.call))?) == step.answer)
     }
 }
 
 // What two clients made at once, of which the first one was A, and what A made then.
-#[derive(Drop)]
+#[derive(Clone, Copy)]
 struct Game {
-    by_a: Vec<Step>,
-    by_b: Vec<Step>,
-    last: Vec<Step>,
+    by_a: [Step; 4],
+    by_b: [Step; 4],
+    last: [Step; 5],
 }
 
 // Of two clients with four calls each.
@@ -490,7 +512,7 @@ fn other_turn(
 }
 
 fn ended_by(alloc: Global, group: &mut Plain, side: &mut Side<'_>) -> Result<Explained, Refusal> {
-    for _ in 0..LAST_CALLS.len() {
+    for _ in 0..side.steps.len() {
         if !side.fits(alloc, group)? {
             return Ok(Explained::Until(TURNS));
         }
@@ -514,12 +536,31 @@ fn explained_in<'a>(
     ended_by(alloc, group, a)
 }
 
+fn explained_in_new<'a>(
+    alloc: Global,
+    a: &mut Side<'a>,
+    b: &mut Side<'_>,
+    last: &'a [Step],
+    turns: u32,
+) -> Result<Explained, Refusal> {
+    let mut group = Plain::new(alloc)?;
+    explained_in(alloc, &mut group, a, b, last, turns)
+}
+
+fn explained_for<'a>(
+    alloc: Global,
+    a: &mut Side<'a>,
+    game: &'a Game,
+    turns: u32,
+) -> Result<Explained, Refusal> {
+    let mut b = side_of(alloc, B, &game.by_b)?;
+    explained_in_new(alloc, a, &mut b, &game.last, turns)
+}
+
 // How a game is explained by that order, in a group of one thread.
 fn explained_by(alloc: Global, game: &Game, turns: u32) -> Result<Explained, Refusal> {
-    let mut group = Plain::new(alloc)?;
     let mut a = side_of(alloc, A, &game.by_a)?;
-    let mut b = side_of(alloc, B, &game.by_b)?;
-    explained_in(alloc, &mut group, &mut a, &mut b, &game.last, turns)
+    explained_for(alloc, &mut a, game, turns)
 }
 
 // The first number above this one whose bits differ in this turn or before.
@@ -557,34 +598,68 @@ impl Dice {
         CALLS[(self.number % 16) as usize]
     }
 
-    fn draws_four(&mut self) -> [Call; 4] {
-        [self.draws(), self.draws(), self.draws(), self.draws()]
+    fn draws_four(&mut self) -> [Step; 4] {
+        [
+            unmade(self.draws()),
+            unmade(self.draws()),
+            unmade(self.draws()),
+            unmade(self.draws()),
+        ]
+    }
+
+    fn draws_game(&mut self) -> Game {
+        let by_a = self.draws_four();
+        let by_b = self.draws_four();
+        Game {
+            by_a,
+            by_b,
+            last: last_steps(),
+        }
     }
 }
 
-fn both_play<R: Threads + Sync, S: Store<ScriptMutators>>(
+fn both_make<R: Threads + Sync, S: Store<ScriptMutators>>(
     rt: &R,
     alloc: Global,
     a: &mut Player<'_, S>,
     b: &mut Player<'_, S>,
-    dice: &mut Dice,
+    first: &Ticket,
+    by_a: &mut [Step],
+    by_b: &mut [Step],
+) -> Result<(), Refusal>
+where
+    S::Seat: Drop,
+{
+    let come = AtomicU64::new(0);
+    let (of_a, of_b) = join(
+        rt,
+        || makes_beside(alloc, a, first, by_a, &come),
+        || makes_beside(alloc, b, first, by_b, &come),
+    );
+    of_a?;
+    of_b
+}
+
+// The game with the answers.
+fn played<R: Threads + Sync, S: Store<ScriptMutators>>(
+    rt: &R,
+    alloc: Global,
+    players: &mut [Player<'_, S>],
+    drawn: Game,
 ) -> Result<Game, Refusal>
 where
     S::Seat: Drop,
 {
-    let calls = [dice.draws_four(), dice.draws_four()];
-    let come = AtomicU64::new(0);
-    let (by_a, by_b) = join(
-        rt,
-        || a.makes_beside(alloc, &calls[0], &come),
-        || b.makes_beside(alloc, &calls[1], &come),
-    );
-    let last = a.makes_all(alloc, &LAST_CALLS)?;
-    Ok(Game {
-        by_a: by_a?,
-        by_b: by_b?,
-        last,
-    })
+    let Game {
+        mut by_a,
+        mut by_b,
+        mut last,
+    } = drawn;
+    let (a, b) = two_of(players)?;
+    let first = a.client.begin_pull(TRIES)?;
+    both_make(rt, alloc, a, b, &first, &mut by_a, &mut by_b)?;
+    makes_all(alloc, &mut a.client, &first, &mut last)?;
+    Ok(Game { by_a, by_b, last })
 }
 
 fn game_in<R: Threads + Sync, S: Store<ScriptMutators>>(
@@ -592,34 +667,28 @@ fn game_in<R: Threads + Sync, S: Store<ScriptMutators>>(
     alloc: Global,
     group: &Group<ScriptMutators, S>,
     seats: &mut Seats<ScriptMutators, S>,
-    dice: &mut Dice,
+    drawn: Game,
 ) -> Result<Game, Refusal>
 where
     S::Seat: Drop,
     requires { All (λ seat. (seat.mark.book ≡ group.now.shared.head) × (S.home seat.slots ≡ S.serves group.now.shared.store)) seats.old.free.items }
 {
-    let (mut a, mut b) = two_players(group, seats)?;
-    both_play(rt, alloc, &mut a, &mut b, dice)
+    let mut players = players_of(alloc, group, seats, &[A, B])?;
+    played(rt, alloc, players.as_mut_slice(), drawn)
 }
 
 fn game_in_new<R: Threads + Sync, S: Store<ScriptMutators> + Drop>(
     rt: &R,
     alloc: Global,
     parts: S::Parts,
-    dice: &mut Dice,
+    drawn: Game,
 ) -> Result<Game, Refusal>
 where
     S::Seat: Drop,
     S::Parts: Drop,
 {
-    let config = config_of(alloc, 256, 2)?;
-    let (group, mut seats) = Group::<ScriptMutators, S>::open(
-        alloc,
-        config,
-        ScriptMutators,
-        parts,
-    )?;
-    game_in(rt, alloc, &group, &mut seats, dice)
+    let (group, mut seats) = opened::<S>(alloc, parts, 256, 2)?;
+    game_in(rt, alloc, &group, &mut seats, drawn)
 }
 
 const ROUNDS: u32 = 100;
@@ -638,7 +707,7 @@ where
         number: 0x2545_f491_4f6c_dd1d,
     };
     for round in 0..ROUNDS {
-        let game = game_in_new::<R, S>(rt, alloc, parts, &mut dice)?;
+        let game = game_in_new::<R, S>(rt, alloc, parts, dice.draws_game())?;
         if order_of(alloc, &game)?.is_none() {
             return Ok(round);
         }

@@ -3,7 +3,7 @@ ghost use Rattle.std.specs.Prelude.{◌≡◌, ◌<◌, IfOk, vec_capacity, vec_
 ghost use Rattle.std.specs.List.{All};
 
 use super::ends::ends_anew;
-use super::opening::{A, answered, config_of, next_client};
+use super::opening::{A, answered, next_client, opened};
 use chunk_slots::{Append, Arena, Store};
 use group_history::{Json, Refusal, Scan, Start, Text};
 use rebase::{Client, Group, Polled, Rows, Seats, Watch};
@@ -125,22 +125,34 @@ where
     S::Seat: Drop,
     requires { watch.old.book ≡ client.old.mark.book }
 {
-    if differs(alloc, client, watch, STEPS[0])? {
-        return Ok(Some(0));
-    }
-    if differs(alloc, client, watch, STEPS[1])? {
-        return Ok(Some(1));
-    }
-    if differs(alloc, client, watch, STEPS[2])? {
-        return Ok(Some(2));
-    }
-    if differs(alloc, client, watch, STEPS[3])? {
-        return Ok(Some(3));
+    for (number, step) in STEPS.iter().enumerate() {
+        if differs(alloc, client, watch, *step)? {
+            return Ok(Some(number));
+        }
     }
     Ok(None)
 }
 
+fn all_at_a(alloc: Global) -> Result<Scan, Refusal> {
+    Ok(Scan {
+        prefix: Text::new(alloc, "a")?,
+        start: Start::Any,
+        limit: None,
+    })
+}
+
 fn other_step_of<S: Store<ScriptMutators>>(
+    alloc: Global,
+    client: &mut Client<'_, ScriptMutators, S>,
+) -> Result<Option<usize>, Refusal>
+where
+    S::Seat: Drop,
+{
+    let mut watch = client.watch(all_at_a(alloc)?);
+    other_step(alloc, client, &mut watch)
+}
+
+fn other_step_in<S: Store<ScriptMutators>>(
     alloc: Global,
     group: &Group<ScriptMutators, S>,
     seats: &mut Seats<ScriptMutators, S>,
@@ -149,16 +161,11 @@ where
     S::Seat: Drop,
     requires { All (λ seat. (seat.mark.book ≡ group.now.shared.head) × (S.home seat.slots ≡ S.serves group.now.shared.store)) seats.old.free.items }
 {
-    let mut a = next_client(group, seats, A)?;
-    let mut watch = a.watch(Scan {
-        prefix: Text::new(alloc, "a")?,
-        start: Start::Any,
-        limit: None,
-    });
-    other_step(alloc, &mut a, &mut watch)
+    let mut client = next_client(group, seats, A)?;
+    other_step_of(alloc, &mut client)
 }
 
-fn other_step_in<S: Store<ScriptMutators> + Drop>(
+fn other_step_in_new<S: Store<ScriptMutators> + Drop>(
     alloc: Global,
     parts: S::Parts,
 ) -> Result<Option<usize>, Refusal>
@@ -166,26 +173,20 @@ where
     S::Seat: Drop,
     S::Parts: Drop,
 {
-    let config = config_of(alloc, 64, 1)?;
-    let (group, mut seats) = Group::<ScriptMutators, S>::open(
-        alloc,
-        config,
-        ScriptMutators,
-        parts,
-    )?;
-    other_step_of(alloc, &group, &mut seats)
+    let (group, mut seats) = opened::<S>(alloc, parts, 64, 1)?;
+    other_step_in(alloc, &group, &mut seats)
 }
 
 #[test]
 fn watches_tell_what_is_new_in_an_arena(rt: HostRuntime) -> Result<(), Refusal> {
-    let other = other_step_in::<Arena<ScriptMutators>>(rt.alloc(), ())?;
+    let other = other_step_in_new::<Arena<ScriptMutators>>(rt.alloc(), ())?;
     assert_eq!(rt; other, None);
     Ok(())
 }
 
 #[test]
 fn watches_tell_what_is_new_in_a_vector(rt: HostRuntime) -> Result<(), Refusal> {
-    let other = other_step_in::<Append<&HostRuntime, ScriptMutators>>(rt.alloc(), &rt)?;
+    let other = other_step_in_new::<Append<&HostRuntime, ScriptMutators>>(rt.alloc(), &rt)?;
     assert_eq!(rt; other, None);
     Ok(())
 }
@@ -203,23 +204,6 @@ const BOTH_TURNS: Turns = Turns {
     second_seat: Some(Refusal::NoSeat),
     again: Ok(2),
 };
-
-fn makes<'g, S: Store<ScriptMutators>>(
-    alloc: Global,
-    group: &'g Group<ScriptMutators, S>,
-    seats: &mut Seats<ScriptMutators, S>,
-) -> Result<(Client<'g, ScriptMutators, S>, Result<u64, Refusal>), Refusal>
-where
-    S::Seat: Drop,
-    requires { All (λ seat. (seat.mark.book ≡ group.now.shared.head) × (S.home seat.slots ≡ S.serves group.now.shared.store)) seats.old.free.items }
-    ensures seats { All (λ seat. (seat.mark.book ≡ group.now.shared.head) × (S.home seat.slots ≡ S.serves group.now.shared.store)) seats.new.free.items }
-    ensures room { IfOk result (λ _. vec_len seats.new.free < vec_capacity seats.new.free) }
-    ensures client { IfOk result (λ made. (made.0.mark.book ≡ group.now.shared.head) × (made.0.group.now ≡ group.now)) }
-{
-    let mut client = next_client(group, seats, A)?;
-    let made = answered(sets(alloc, &mut client, r#"["k",1]"#))?;
-    Ok((client, made))
-}
 
 // Why there is no other seat.
 fn asks_for_another<S: Store<ScriptMutators>>(
@@ -257,6 +241,38 @@ where
     seats.back(client.close());
 }
 
+// What the first client makes, and why there is no second seat meanwhile. Its seat goes back.
+fn first_turn<S: Store<ScriptMutators>>(
+    alloc: Global,
+    group: &Group<ScriptMutators, S>,
+    seats: &mut Seats<ScriptMutators, S>,
+) -> Result<(Result<u64, Refusal>, Option<Refusal>), Refusal>
+where
+    S::Seat: Drop,
+    requires { All (λ seat. (seat.mark.book ≡ group.now.shared.head) × (S.home seat.slots ≡ S.serves group.now.shared.store)) seats.old.free.items }
+    ensures { All (λ seat. (seat.mark.book ≡ group.now.shared.head) × (S.home seat.slots ≡ S.serves group.now.shared.store)) seats.new.free.items }
+{
+    let mut client = next_client(group, seats, A)?;
+    let made = sets(alloc, &mut client, r#"["k",1]"#);
+    let second_seat = asks_for_another(group, seats);
+    comes_back(group, seats, client);
+    Ok((answered(made)?, second_seat))
+}
+
+// What the next client of the seat makes.
+fn next_turn<S: Store<ScriptMutators>>(
+    alloc: Global,
+    group: &Group<ScriptMutators, S>,
+    seats: &mut Seats<ScriptMutators, S>,
+) -> Result<Result<u64, Refusal>, Refusal>
+where
+    S::Seat: Drop,
+    requires { All (λ seat. (seat.mark.book ≡ group.now.shared.head) × (S.home seat.slots ≡ S.serves group.now.shared.store)) seats.old.free.items }
+{
+    let mut client = next_client(group, seats, A)?;
+    answered(sets(alloc, &mut client, r#"["k",1]"#))
+}
+
 fn takes_turns<S: Store<ScriptMutators>>(
     alloc: Global,
     group: &Group<ScriptMutators, S>,
@@ -266,10 +282,8 @@ where
     S::Seat: Drop,
     requires { All (λ seat. (seat.mark.book ≡ group.now.shared.head) × (S.home seat.slots ≡ S.serves group.now.shared.store)) seats.old.free.items }
 {
-    let (client, first) = makes(alloc, group, seats)?;
-    let second_seat = asks_for_another(group, seats);
-    comes_back(group, seats, client);
-    let (_client, again) = makes(alloc, group, seats)?;
+    let (first, second_seat) = first_turn(alloc, group, seats)?;
+    let again = next_turn(alloc, group, seats)?;
     Ok(Turns {
         first,
         second_seat,
@@ -285,13 +299,7 @@ where
     S::Seat: Drop,
     S::Parts: Drop,
 {
-    let config = config_of(alloc, 64, 1)?;
-    let (group, mut seats) = Group::<ScriptMutators, S>::open(
-        alloc,
-        config,
-        ScriptMutators,
-        parts,
-    )?;
+    let (group, mut seats) = opened::<S>(alloc, parts, 64, 1)?;
     takes_turns(alloc, &group, &mut seats)
 }
 

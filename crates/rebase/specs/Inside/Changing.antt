@@ -3,6 +3,8 @@ use Rattle.std.specs.Prelude.{ℕ, ◌≡◌, ◌<◌, Bool, true, false, Some, 
 use Rattle.group_history.specs.declared.changes.Change.{Change}
 use Rattle.group_history.specs.declared.refs.Ref.{Ref}
 use Rattle.group_history.specs.declared.refusals.Refusal.{Refusal}
+use Rattle.group_history.specs.declared.responses.Ended.{Ended}
+use Rattle.group_history.specs.declared.responses.Ended.TheVariants as ended
 use Rattle.group_history.specs.Meaning.{Meanings}
 use Rattle.group_history.specs.State.{State}
 use Rattle.head_word.specs.Books.{drawn}
@@ -30,3 +32,8 @@ AnswersTry means tries old new last change (Err e) = Answers means tries old new
 abbrev pub is_made : Option Ref → Bool
 is_made (Some at) = true
 is_made None = false
+
+-- how a pull was ended: where it changed nothing, the same is there
+abbrev pub ended_as : Option Ref → Ended
+ended_as (Some at) = ended.Applied
+ended_as None = ended.Same

@@ -7,7 +7,7 @@ use Rattle.script_runner.specs.declared.script.ClientLine.{ClientLine}
 use Rattle.script_runner.specs.declared.script.Command.{Command}
 use Rattle.script_runner.specs.declared.script.Command.TheVariants as command
 use Rattle.script_runner.specs.declared.script.Line.{Line}
-use Rattle.script_runner.specs.declared.script.Made.{Made}
+use Rattle.script_runner.specs.declared.names.Made.{Made}
 use Rattle.script_runner.specs.declared.script.Phase.{Phase}
 use Rattle.script_runner.specs.declared.script.Script.{Script}
 use Rattle.script_runner.specs.declared.script.Parser.{Parser}
@@ -38,8 +38,8 @@ context_of p = record {
   slots = p.header.slots;
   clients = map client_said p.header.clients.items;
   phases = map phase_said p.phases.items;
-  tickets = map made_said p.tickets.items;
-  watches = map made_said p.watches.items;
+  tickets = map made_said p.tickets.all.items;
+  watches = map made_said p.watches.all.items;
 }
 
 -- the script is what was said

@@ -1,9 +1,9 @@
-//! How the tests open a group: whose it is, how it is laid out, and a client on its next seat.
+//! How the tests open a group: whose it is, how it is laid out, and its clients.
 ghost use Rattle.std.specs.Prelude.{◌≡◌, IfOk};
 ghost use Rattle.std.specs.List.{All};
 
 use chunk_slots::Store;
-use group_history::{Ended, Json, Means, Refusal, Text};
+use group_history::{Ended, Json, Refusal, Text};
 use push_body::Identity;
 use rebase::{Client, Config, Group, ReadTx, Seats};
 use script_mutators::ScriptMutators;
@@ -30,9 +30,9 @@ fn identity(alloc: Global) -> Result<Identity, Refusal> {
     })
 }
 
-// A group of so many slots and seats.
-pub(super) fn config_of(alloc: Global, slots: u32, seats: u32) -> Result<Config, Refusal> {
-    match Config::new(identity(alloc)?, slots, seats) {
+// A group of so many slots, with a seat for each of its clients.
+fn config_of(alloc: Global, slots: u32, clients: u32) -> Result<Config, Refusal> {
+    match Config::new(identity(alloc)?, slots, clients) {
         Ok(config) => Ok(config),
         Err(_) => Err(Refusal::Full),
     }
@@ -45,22 +45,81 @@ fn id(text: &str) -> Result<Uuid, Refusal> {
     }
 }
 
-// A client of this ID on the next seat. The first one has the seat that a gate knows as 0.
-pub(super) fn next_client<'g, M: Means, S: Store<M>>(
-    group: &'g Group<M, S>,
-    seats: &mut Seats<M, S>,
+// A client that may be lent to a thread.
+#[derive(Drop)]
+pub(super) struct Player<'g, S: Store<ScriptMutators>>
+where
+    S::Seat: Drop,
+{
+    pub(super) client: Client<'g, ScriptMutators, S>,
+}
+
+// A client of this ID on the next seat.
+fn next_player<'g, S: Store<ScriptMutators>>(
+    group: &'g Group<ScriptMutators, S>,
+    seats: &mut Seats<ScriptMutators, S>,
     text: &str,
-) -> Result<Client<'g, M, S>, Refusal>
+) -> Result<Player<'g, S>, Refusal>
 where
     S::Seat: Drop,
     requires { All (λ seat. (seat.mark.book ≡ group.now.shared.head) × (S.home seat.slots ≡ S.serves group.now.shared.store)) seats.old.free.items }
-    ensures seats { All (λ seat. (seat.mark.book ≡ group.now.shared.head) × (S.home seat.slots ≡ S.serves group.now.shared.store)) seats.new.free.items }
-    ensures group { IfOk result (λ client. client.mark.book ≡ group.now.shared.head) }
+    ensures { All (λ seat. (seat.mark.book ≡ group.now.shared.head) × (S.home seat.slots ≡ S.serves group.now.shared.store)) seats.new.free.items }
 {
+    let id = id(text)?;
     let seat = seats.take()?;
-    match group.client(seat, id(text)?, 9) {
-        Ok(client) => Ok(client),
+    match group.client(seat, id, 9) {
+        Ok(client) => Ok(Player { client }),
         Err((_, e)) => Err(e),
+    }
+}
+
+// Clients of these IDs on the next seats. The first one has the seat that a gate knows as 0.
+pub(super) fn players_of<'g, S: Store<ScriptMutators>>(
+    alloc: Global,
+    group: &'g Group<ScriptMutators, S>,
+    seats: &mut Seats<ScriptMutators, S>,
+    ids: &[&str],
+) -> Result<Vec<Player<'g, S>>, Refusal>
+where
+    S::Seat: Drop,
+    requires { All (λ seat. (seat.mark.book ≡ group.now.shared.head) × (S.home seat.slots ≡ S.serves group.now.shared.store)) seats.old.free.items }
+{
+    let mut players = Vec::new(alloc);
+    for id in ids {
+        players.push(next_player(group, seats, id)?)?;
+    }
+    Ok(players)
+}
+
+// A new group of so many slots, and a seat for each of its clients.
+pub(super) fn opened<S: Store<ScriptMutators> + Drop>(
+    alloc: Global,
+    parts: S::Parts,
+    slots: u32,
+    clients: u32,
+) -> Result<(Group<ScriptMutators, S>, Seats<ScriptMutators, S>), Refusal>
+where
+    S::Seat: Drop,
+    S::Parts: Drop,
+    ensures { IfOk result (λ made. All (λ seat. (seat.mark.book ≡ made.0.shared.head) × (S.home seat.slots ≡ S.serves made.0.shared.store)) made.1.free.items) }
+{
+    let config = config_of(alloc, slots, clients)?;
+    Group::<ScriptMutators, S>::open(alloc, config, ScriptMutators, parts)
+}
+
+// The first two of these players.
+pub(super) fn two_of<'a, 'g, S: Store<ScriptMutators>>(
+    players: &'a mut [Player<'g, S>],
+) -> Result<(&'a mut Player<'g, S>, &'a mut Player<'g, S>), Refusal>
+where
+    S::Seat: Drop,
+{
+    let Some((first, rest)) = players.split_first_mut() else {
+        return Err(Refusal::NoSeat);
+    };
+    match rest.first_mut() {
+        Some(second) => Ok((first, second)),
+        None => Err(Refusal::NoSeat),
     }
 }
 
@@ -108,4 +167,12 @@ pub(super) fn answered<T: Drop>(answer: Result<T, Refusal>) -> Result<Result<T, 
         Err(Refusal::NoMemory) => Err(Refusal::NoMemory),
         other => Ok(other),
     }
+}
+
+// What two threads were told, where neither was refused it.
+pub(super) fn both<A: Copy, B: Copy>(
+    told: (Result<A, Refusal>, Result<B, Refusal>),
+) -> Result<(A, B), Refusal> {
+    let (a, b) = told;
+    Ok((a?, b?))
 }

@@ -1,12 +1,14 @@
 //! Of two threads whose steps fall as a gate says: one of them comes to a certain step, lets the other one go, and waits
 //! until that one is done.
-ghost use Rattle.std.specs.Prelude.{◌≡◌, IfOk};
+ghost use Rattle.std.specs.Prelude.{◌≡◌};
 ghost use Rattle.std.specs.List.{All};
 
-use super::opening::{A, B, C, answered, call_of, config_of, n_in, next_client, pulls};
+use super::opening::{
+    A, B, C, MutatorCall, Player, answered, both, call_of, n_in, opened, players_of, pulls, two_of,
+};
 use chunk_slots::{Arena, Gated, Step, Steps, Store};
 use group_history::{Ended, Refusal};
-use rebase::{Client, Group, Seats};
+use rebase::{Client, Group, ReadTx, Seats};
 use script_mutators::ScriptMutators;
 use std::alloc::Global;
 use std::sync::atomic::AtomicU64;
@@ -129,7 +131,44 @@ impl Steps for &Turns {
 // How many calls were answered as they should be, and the first other answer.
 type Run = (u64, Option<Result<u64, Refusal>>);
 
-// Mutates with one try as often as others move the head first.
+// How mutations should be answered.
+#[derive(Clone, Copy)]
+enum Wants {
+    // Others move the head first.
+    Moved,
+    // Each has the next id, of which 1 is the first.
+    NextId,
+}
+
+impl Wants {
+    fn answer_after(self, made: u64) -> Result<u64, Refusal> {
+        match self {
+            Wants::Moved => Err(Refusal::Moved),
+            Wants::NextId => Ok(made.wrapping_add(1)),
+        }
+    }
+}
+
+// Mutates with one try, so often, as long as that is answered so.
+fn mutates_by<S: Store<ScriptMutators>>(
+    client: &mut Client<'_, ScriptMutators, S>,
+    call: &MutatorCall,
+    wants: Wants,
+    most: u64,
+) -> Result<Run, Refusal>
+where
+    S::Seat: Drop,
+{
+    for made in 0..most {
+        let answer = answered(client.try_mutate(&call.name, &call.args, 1000, 1))?;
+        if answer != wants.answer_after(made) {
+            return Ok((made, Some(answer)));
+        }
+    }
+    Ok((most, None))
+}
+
+// Mutates as often as others move the head first.
 fn loses_all<S: Store<ScriptMutators>>(
     alloc: Global,
     client: &mut Client<'_, ScriptMutators, S>,
@@ -139,13 +178,19 @@ where
     S::Seat: Drop,
 {
     let set = call_of(alloc, "set", r#"["k",1]"#)?;
-    for round in 0..rounds {
-        let answer = answered(client.try_mutate(&set.name, &set.args, 1000, 1))?;
-        if answer != Err(Refusal::Moved) {
-            return Ok((round, Some(answer)));
-        }
-    }
-    Ok((rounds, None))
+    mutates_by(client, &set, Wants::Moved, rounds)
+}
+
+// Raises `n` as long as that gives the next id.
+fn fills<S: Store<ScriptMutators>>(
+    alloc: Global,
+    client: &mut Client<'_, ScriptMutators, S>,
+) -> Result<Run, Refusal>
+where
+    S::Seat: Drop,
+{
+    let incr = call_of(alloc, "incr", r#"["n",1]"#)?;
+    mutates_by(client, &incr, Wants::NextId, 100)
 }
 
 fn n_is(alloc: Global, cookie: u64, n: u64) -> Result<String, Refusal> {
@@ -156,6 +201,19 @@ fn n_is(alloc: Global, cookie: u64, n: u64) -> Result<String, Refusal> {
 
 // How many pulls are applied, one in each round, and the first other answer.
 type Pulls = (u64, Option<Result<Ended, Refusal>>);
+
+// The answer to the pull of a round.
+fn pulls_in<S: Store<ScriptMutators>>(
+    alloc: Global,
+    client: &mut Client<'_, ScriptMutators, S>,
+    round: u64,
+) -> Result<Result<Ended, Refusal>, Refusal>
+where
+    S::Seat: Drop,
+{
+    let body = n_is(alloc, round, round)?;
+    answered(pulls(client, &body))
+}
 
 // Has one pull applied in each round.
 fn applies_all<S: Store<ScriptMutators>>(
@@ -169,8 +227,7 @@ where
     for round in 0..turns.holds.rounds {
         let number = round.wrapping_add(1);
         turns.waits(number);
-        let body = n_is(alloc, number, number)?;
-        let ended = answered(pulls(client, &body))?;
+        let ended = pulls_in(alloc, client, number)?;
         if ended != Ok(Ended::Applied) {
             return Ok((round, Some(ended)));
         }
@@ -179,79 +236,63 @@ where
     Ok((turns.holds.rounds, None))
 }
 
-// Raises `n` as long as that gives the next id.
-fn fills<S: Store<ScriptMutators>>(
+// The client whose mutations lose. When it is done, or is refused something, the other need not wait for it any more; so
+// it is with each client of a thread.
+fn loses<S: Store<ScriptMutators>>(
     alloc: Global,
-    client: &mut Client<'_, ScriptMutators, S>,
+    player: &mut Player<'_, S>,
+    turns: &Turns,
 ) -> Result<Run, Refusal>
 where
     S::Seat: Drop,
 {
-    let incr = call_of(alloc, "incr", r#"["n",1]"#)?;
-    for made in 0u64..100 {
-        let answer = answered(client.try_mutate(&incr.name, &incr.args, 1000, 1))?;
-        if answer != Ok(made.wrapping_add(1)) {
-            return Ok((made, Some(answer)));
-        }
-    }
-    Ok((100, None))
+    let run = loses_all(alloc, &mut player.client, turns.holds.rounds);
+    turns.open.store(u64::MAX, SeqCst);
+    run
 }
 
-// A client of a thread. When it is done, or is refused something, the other need not wait for it any more.
-#[derive(Drop)]
-struct Player<'g, S: Store<ScriptMutators>>
+fn applies<S: Store<ScriptMutators>>(
+    alloc: Global,
+    player: &mut Player<'_, S>,
+    turns: &Turns,
+) -> Result<Pulls, Refusal>
 where
     S::Seat: Drop,
 {
-    client: Client<'g, ScriptMutators, S>,
+    let pulled = applies_all(alloc, &mut player.client, turns);
+    turns.done.store(u64::MAX, SeqCst);
+    pulled
 }
 
-impl<S: Store<ScriptMutators>> Player<'_, S>
+fn both_lose<R: Threads + Sync, S: Store<ScriptMutators>>(
+    rt: &R,
+    alloc: Global,
+    a: &mut Player<'_, S>,
+    b: &mut Player<'_, S>,
+    turns: &Turns,
+) -> Result<(Run, Pulls), Refusal>
 where
     S::Seat: Drop,
 {
-    fn loses(&mut self, alloc: Global, turns: &Turns) -> Result<Run, Refusal> {
-        let run = loses_all(alloc, &mut self.client, turns.holds.rounds);
-        turns.open.store(u64::MAX, SeqCst);
-        run
-    }
-
-    fn applies(&mut self, alloc: Global, turns: &Turns) -> Result<Pulls, Refusal> {
-        let pulled = applies_all(alloc, &mut self.client, turns);
-        turns.done.store(u64::MAX, SeqCst);
-        pulled
-    }
-
-    fn reads(&mut self, turns: &Turns) -> Result<Seen, Refusal> {
-        let seen = reads_twice(&mut self.client, turns);
-        turns.done.store(u64::MAX, SeqCst);
-        seen
-    }
-
-    fn publishes(&mut self, alloc: Global, turns: &Turns) -> Result<Run, Refusal> {
-        let filled = pulls_and_fills(alloc, &mut self.client, N_IS_6);
-        turns.open.store(u64::MAX, SeqCst);
-        filled
-    }
+    both(join(rt, || loses(alloc, a, turns), || applies(alloc, b, turns)))
 }
 
 // What A meets whose mutations lose, what B meets, and what A meets alone.
 fn losing_of<R: Threads + Sync, S: Store<ScriptMutators>>(
     rt: &R,
     alloc: Global,
-    mut a: Player<'_, S>,
-    mut b: Player<'_, S>,
+    players: &mut [Player<'_, S>],
     turns: &Turns,
 ) -> Result<(Run, Pulls, Run), Refusal>
 where
     S::Seat: Drop,
 {
-    let (lost, pulled) = join(rt, || a.loses(alloc, turns), || b.applies(alloc, turns));
-    let filled = fills(alloc, &mut a.client)?;
-    Ok((lost?, pulled?, filled))
+    let (a, b) = two_of(players)?;
+    let (lost, pulled) = both_lose(rt, alloc, a, b, turns)?;
+    Ok((lost, pulled, fills(alloc, &mut a.client)?))
 }
 
-fn losing_in_group<R: Threads + Sync, S: Store<ScriptMutators>>(
+fn losing_in<R: Threads + Sync, S: Store<ScriptMutators>>(
     rt: &R,
     alloc: Global,
     group: &Group<ScriptMutators, S>,
@@ -262,9 +303,8 @@ where
     S::Seat: Drop,
     requires { All (λ seat. (seat.mark.book ≡ group.now.shared.head) × (S.home seat.slots ≡ S.serves group.now.shared.store)) seats.old.free.items }
 {
-    let a = next_client(group, seats, A)?;
-    let b = next_client(group, seats, B)?;
-    losing_of(rt, alloc, Player { client: a }, Player { client: b }, turns)
+    let mut players = players_of(alloc, group, seats, &[A, B])?;
+    losing_of(rt, alloc, players.as_mut_slice(), turns)
 }
 
 fn losing_in_new<R: Threads + Sync, S: Store<ScriptMutators> + Drop>(
@@ -277,39 +317,29 @@ where
     S::Seat: Drop,
     S::Parts: Drop,
 {
-    let config = config_of(alloc, 32, 2)?;
-    let (group, mut seats) = Group::<ScriptMutators, S>::open(
-        alloc,
-        config,
-        ScriptMutators,
-        parts,
-    )?;
-    losing_in_group(rt, alloc, &group, &mut seats, turns)
+    let (group, mut seats) = opened::<S>(alloc, parts, 32, 2)?;
+    losing_in(rt, alloc, &group, &mut seats, turns)
 }
 
 const ROUNDS: u64 = 1_000;
+
+// A is held once its mutation has placed both a leaf and a commit.
+fn lost_rounds<R: Threads + Sync>(rt: &R, alloc: Global) -> Result<(Run, Pulls, Run), Refusal> {
+    let placed = Moment {
+        seat: 0,
+        step: Step::Place,
+        side: Side::After,
+    };
+    let turns = Turns::new(Holds::new(placed, 2, ROUNDS));
+    losing_in_new::<R, Gated<Arena<ScriptMutators>, &Turns>>(rt, alloc, ((), &turns), &turns)
+}
 
 // A's mutation places a leaf and a commit. When both are placed B ends a pull, so that A has placed them in vain. Of 32
 // slots 24 are ordinary ones, of which the last pull has two. So eleven mutations find room then, if none was lost.
 #[test]
 fn a_thousand_lost_mutations_lose_no_slot(rt: HostRuntime) -> Result<(), Refusal> {
-    let turns = Turns::new(Holds::new(
-        Moment {
-            seat: 0,
-            step: Step::Place,
-            side: Side::After,
-        },
-        2,
-        ROUNDS,
-    ));
-    let (lost, pulled, filled) = losing_in_new::<HostRuntime, Gated<Arena<ScriptMutators>, &Turns>>(
-        &rt,
-        rt.alloc(),
-        ((), &turns),
-        &turns,
-    )?;
-    assert_eq!(rt; lost, (ROUNDS, None));
-    assert_eq!(rt; pulled, (ROUNDS, None));
+    let (lost, pulled, filled) = lost_rounds(&rt, rt.alloc())?;
+    assert_eq!(rt; (lost, pulled), ((ROUNDS, None), (ROUNDS, None)));
     assert_eq!(rt; filled, (11, Some(Err(Refusal::Full))));
     Ok(())
 }
@@ -318,6 +348,19 @@ fn a_thousand_lost_mutations_lose_no_slot(rt: HostRuntime) -> Result<(), Refusal
 type Seen = (Option<i64>, Option<i64>);
 
 fn reads_twice<S: Store<ScriptMutators>>(
+    tx: &ReadTx<'_, '_, ScriptMutators, S>,
+    turns: &Turns,
+) -> Result<Seen, Refusal>
+where
+    S::Seat: Drop,
+{
+    turns.done.store(1, SeqCst);
+    let first = n_in(tx)?;
+    turns.waits(2);
+    Ok((first, n_in(tx)?))
+}
+
+fn opens_and_reads<S: Store<ScriptMutators>>(
     client: &mut Client<'_, ScriptMutators, S>,
     turns: &Turns,
 ) -> Result<Seen, Refusal>
@@ -326,12 +369,21 @@ where
 {
     turns.waits(1);
     let tx = client.read(1)?;
-    turns.done.store(1, SeqCst);
-    let first = n_in(&tx)?;
-    turns.waits(2);
-    let last = n_in(&tx)?;
+    let seen = reads_twice(&tx, turns);
     tx.close();
-    Ok((first, last))
+    seen
+}
+
+fn reads<S: Store<ScriptMutators>>(
+    player: &mut Player<'_, S>,
+    turns: &Turns,
+) -> Result<Seen, Refusal>
+where
+    S::Seat: Drop,
+{
+    let seen = opens_and_reads(&mut player.client, turns);
+    turns.done.store(u64::MAX, SeqCst);
+    seen
 }
 
 fn pulls_and_fills<S: Store<ScriptMutators>>(
@@ -355,23 +407,48 @@ const N_IS_6: &str =
 const N_IS_7: &str =
     r#"{"cookie":3,"lastMutationIDChanges":{},"patch":[{"op":"put","key":"n","value":7}]}"#;
 
-// What A's reader reads, and what B meets beside it.
-fn reading_of<R: Threads + Sync, S: Store<ScriptMutators>>(
+fn publishes<S: Store<ScriptMutators>>(
+    alloc: Global,
+    player: &mut Player<'_, S>,
+    turns: &Turns,
+) -> Result<Run, Refusal>
+where
+    S::Seat: Drop,
+{
+    let filled = pulls_and_fills(alloc, &mut player.client, N_IS_6);
+    turns.open.store(u64::MAX, SeqCst);
+    filled
+}
+
+fn both_read<R: Threads + Sync, S: Store<ScriptMutators>>(
     rt: &R,
     alloc: Global,
-    mut a: Player<'_, S>,
-    mut b: Player<'_, S>,
+    a: &mut Player<'_, S>,
+    b: &mut Player<'_, S>,
     turns: &Turns,
 ) -> Result<(Seen, Run), Refusal>
 where
     S::Seat: Drop,
 {
-    pulls(&mut b.client, N_IS_5)?;
-    let (seen, filled) = join(rt, || a.reads(turns), || b.publishes(alloc, turns));
-    Ok((seen?, filled?))
+    both(join(rt, || reads(a, turns), || publishes(alloc, b, turns)))
 }
 
-fn reading_in_group<R: Threads + Sync, S: Store<ScriptMutators>>(
+// What A's reader reads, and what B meets beside it.
+fn reading_of<R: Threads + Sync, S: Store<ScriptMutators>>(
+    rt: &R,
+    alloc: Global,
+    players: &mut [Player<'_, S>],
+    turns: &Turns,
+) -> Result<(Seen, Run), Refusal>
+where
+    S::Seat: Drop,
+{
+    let (a, b) = two_of(players)?;
+    pulls(&mut b.client, N_IS_5)?;
+    both_read(rt, alloc, a, b, turns)
+}
+
+fn reading_in<R: Threads + Sync, S: Store<ScriptMutators>>(
     rt: &R,
     alloc: Global,
     group: &Group<ScriptMutators, S>,
@@ -382,9 +459,8 @@ where
     S::Seat: Drop,
     requires { All (λ seat. (seat.mark.book ≡ group.now.shared.head) × (S.home seat.slots ≡ S.serves group.now.shared.store)) seats.old.free.items }
 {
-    let a = next_client(group, seats, A)?;
-    let b = next_client(group, seats, B)?;
-    reading_of(rt, alloc, Player { client: a }, Player { client: b }, turns)
+    let mut players = players_of(alloc, group, seats, &[A, B])?;
+    reading_of(rt, alloc, players.as_mut_slice(), turns)
 }
 
 fn reading_in_new<R: Threads + Sync, S: Store<ScriptMutators> + Drop>(
@@ -397,37 +473,33 @@ where
     S::Seat: Drop,
     S::Parts: Drop,
 {
-    let config = config_of(alloc, 32, 2)?;
-    let (group, mut seats) = Group::<ScriptMutators, S>::open(
-        alloc,
-        config,
-        ScriptMutators,
-        parts,
-    )?;
-    reading_in_group(rt, alloc, &group, &mut seats, turns)
+    let (group, mut seats) = opened::<S>(alloc, parts, 32, 2)?;
+    reading_in(rt, alloc, &group, &mut seats, turns)
+}
+
+// B is held once: when it comes to that side of the step for the time that `every` tells.
+fn read_beside<R: Threads + Sync>(
+    rt: &R,
+    alloc: Global,
+    step: Step,
+    side: Side,
+    every: u64,
+) -> Result<(Seen, Run), Refusal> {
+    let moment = Moment {
+        seat: 1,
+        step,
+        side,
+    };
+    let turns = Turns::new(Holds::new(moment, every, 1));
+    reading_in_new::<R, Gated<Arena<ScriptMutators>, &Turns>>(rt, alloc, ((), &turns), &turns)
 }
 
 // B's two pulls settle two slots each. Before the last of them A opens a reader, which keeps the two slots of the first
 // pull; so ten mutations find room, of the twenty slots that are left.
 #[test]
 fn a_reader_keeps_what_is_dropped_after_it_came(rt: HostRuntime) -> Result<(), Refusal> {
-    let turns = Turns::new(Holds::new(
-        Moment {
-            seat: 1,
-            step: Step::Settle,
-            side: Side::Before,
-        },
-        4,
-        1,
-    ));
-    let (seen, filled) = reading_in_new::<HostRuntime, Gated<Arena<ScriptMutators>, &Turns>>(
-        &rt,
-        rt.alloc(),
-        ((), &turns),
-        &turns,
-    )?;
-    assert_eq!(rt; seen, (Some(5), Some(5)));
-    assert_eq!(rt; filled, (10, Some(Err(Refusal::Full))));
+    let told = read_beside(&rt, rt.alloc(), Step::Settle, Side::Before, 4)?;
+    assert_eq!(rt; told, ((Some(5), Some(5)), (10, Some(Err(Refusal::Full)))));
     Ok(())
 }
 
@@ -435,23 +507,8 @@ fn a_reader_keeps_what_is_dropped_after_it_came(rt: HostRuntime) -> Result<(), R
 // that commit, and keeps no slot of the one before.
 #[test]
 fn a_reader_keeps_nothing_that_was_dropped_before_it_came(rt: HostRuntime) -> Result<(), Refusal> {
-    let turns = Turns::new(Holds::new(
-        Moment {
-            seat: 1,
-            step: Step::Raise,
-            side: Side::After,
-        },
-        2,
-        1,
-    ));
-    let (seen, filled) = reading_in_new::<HostRuntime, Gated<Arena<ScriptMutators>, &Turns>>(
-        &rt,
-        rt.alloc(),
-        ((), &turns),
-        &turns,
-    )?;
-    assert_eq!(rt; seen, (Some(6), Some(6)));
-    assert_eq!(rt; filled, (11, Some(Err(Refusal::Full))));
+    let told = read_beside(&rt, rt.alloc(), Step::Raise, Side::After, 2)?;
+    assert_eq!(rt; told, ((Some(6), Some(6)), (11, Some(Err(Refusal::Full)))));
     Ok(())
 }
 
@@ -497,70 +554,97 @@ impl Steps for &Relay {
     }
 }
 
-// The client that reads, and the first publisher.
-#[derive(Drop)]
-struct Firsts<'g, S: Store<ScriptMutators>>
+// The first of the two publishers. Its pull has ended when the reader is opened.
+fn leads<S: Store<ScriptMutators>>(
+    reader: &mut Player<'_, S>,
+    publisher: &mut Player<'_, S>,
+    relay: &Relay,
+) -> Result<Seen, Refusal>
 where
     S::Seat: Drop,
 {
-    reader: Client<'g, ScriptMutators, S>,
-    publisher: Client<'g, ScriptMutators, S>,
+    let seen = pulls_and_reads(&mut reader.client, &mut publisher.client, relay);
+    relay.open.store(u64::MAX, SeqCst);
+    seen
 }
 
-impl<S: Store<ScriptMutators>> Firsts<'_, S>
+fn pulls_and_reads<S: Store<ScriptMutators>>(
+    reader: &mut Client<'_, ScriptMutators, S>,
+    publisher: &mut Client<'_, ScriptMutators, S>,
+    relay: &Relay,
+) -> Result<Seen, Refusal>
 where
     S::Seat: Drop,
 {
-    // The reader is opened when the pull has ended.
-    fn pulls_and_reads(&mut self, relay: &Relay) -> Result<Seen, Refusal> {
-        pulls(&mut self.publisher, N_IS_6)?;
-        let tx = self.reader.read(1)?;
-        relay.open.store(2, SeqCst);
-        let first = n_in(&tx)?;
-        comes(&relay.done, 2);
-        let last = n_in(&tx)?;
-        tx.close();
-        Ok((first, last))
-    }
-
-    // The same, and then the other need not wait any more.
-    fn leads(&mut self, relay: &Relay) -> Result<Seen, Refusal> {
-        let seen = self.pulls_and_reads(relay);
-        relay.open.store(u64::MAX, SeqCst);
-        seen
-    }
+    pulls(publisher, N_IS_6)?;
+    let tx = reader.read(1)?;
+    let seen = reads_around(&tx, relay);
+    tx.close();
+    seen
 }
 
-impl<S: Store<ScriptMutators>> Player<'_, S>
+// Reads before the second publisher goes on, and when it has ended.
+fn reads_around<S: Store<ScriptMutators>>(
+    tx: &ReadTx<'_, '_, ScriptMutators, S>,
+    relay: &Relay,
+) -> Result<Seen, Refusal>
 where
     S::Seat: Drop,
 {
-    // The second publisher.
-    fn follows(&mut self, alloc: Global, relay: &Relay) -> Result<Run, Refusal> {
-        comes(&relay.open, 1);
-        let filled = pulls_and_fills(alloc, &mut self.client, N_IS_7);
-        relay.done.store(u64::MAX, SeqCst);
-        filled
-    }
+    relay.open.store(2, SeqCst);
+    let first = n_in(tx)?;
+    comes(&relay.done, 2);
+    Ok((first, n_in(tx)?))
 }
 
-// What A's reader reads, and what B meets beside it.
-fn relay_of<R: Threads + Sync, S: Store<ScriptMutators>>(
+// The second publisher.
+fn follows<S: Store<ScriptMutators>>(
+    alloc: Global,
+    publisher: &mut Player<'_, S>,
+    relay: &Relay,
+) -> Result<Run, Refusal>
+where
+    S::Seat: Drop,
+{
+    comes(&relay.open, 1);
+    let filled = pulls_and_fills(alloc, &mut publisher.client, N_IS_7);
+    relay.done.store(u64::MAX, SeqCst);
+    filled
+}
+
+fn all_relay<R: Threads + Sync, S: Store<ScriptMutators>>(
     rt: &R,
     alloc: Global,
-    mut firsts: Firsts<'_, S>,
-    mut b: Player<'_, S>,
+    a: &mut Player<'_, S>,
+    b: &mut Player<'_, S>,
+    c: &mut Player<'_, S>,
     relay: &Relay,
 ) -> Result<(Seen, Run), Refusal>
 where
     S::Seat: Drop,
 {
-    pulls(&mut firsts.publisher, N_IS_5)?;
-    let (seen, filled) = join(rt, || firsts.leads(relay), || b.follows(alloc, relay));
-    Ok((seen?, filled?))
+    both(join(rt, || leads(a, c, relay), || follows(alloc, b, relay)))
 }
 
-fn relay_in_group<R: Threads + Sync, S: Store<ScriptMutators>>(
+// What A's reader reads, and what B meets beside it. C is the first publisher.
+fn relay_of<R: Threads + Sync, S: Store<ScriptMutators>>(
+    rt: &R,
+    alloc: Global,
+    players: &mut [Player<'_, S>],
+    relay: &Relay,
+) -> Result<(Seen, Run), Refusal>
+where
+    S::Seat: Drop,
+{
+    let Some((a, others)) = players.split_first_mut() else {
+        return Err(Refusal::NoSeat);
+    };
+    let (b, c) = two_of(others)?;
+    pulls(&mut c.client, N_IS_5)?;
+    all_relay(rt, alloc, a, b, c, relay)
+}
+
+fn relay_in<R: Threads + Sync, S: Store<ScriptMutators>>(
     rt: &R,
     alloc: Global,
     group: &Group<ScriptMutators, S>,
@@ -571,16 +655,8 @@ where
     S::Seat: Drop,
     requires { All (λ seat. (seat.mark.book ≡ group.now.shared.head) × (S.home seat.slots ≡ S.serves group.now.shared.store)) seats.old.free.items }
 {
-    let reader = next_client(group, seats, A)?;
-    let b = next_client(group, seats, B)?;
-    let publisher = next_client(group, seats, C)?;
-    relay_of(
-        rt,
-        alloc,
-        Firsts { reader, publisher },
-        Player { client: b },
-        relay,
-    )
+    let mut players = players_of(alloc, group, seats, &[A, B, C])?;
+    relay_of(rt, alloc, players.as_mut_slice(), relay)
 }
 
 fn relay_in_new<R: Threads + Sync, S: Store<ScriptMutators> + Drop>(
@@ -593,14 +669,35 @@ where
     S::Seat: Drop,
     S::Parts: Drop,
 {
-    let config = config_of(alloc, 32, 3)?;
-    let (group, mut seats) = Group::<ScriptMutators, S>::open(
-        alloc,
-        config,
-        ScriptMutators,
-        parts,
-    )?;
-    relay_in_group(rt, alloc, &group, &mut seats, relay)
+    let (group, mut seats) = opened::<S>(alloc, parts, 32, 3)?;
+    relay_in(rt, alloc, &group, &mut seats, relay)
+}
+
+impl Relay {
+    // C is held before its second pull raises the epoch, and B before its first pull settles its second slot.
+    fn new() -> Relay {
+        let raise = Moment {
+            seat: 2,
+            step: Step::Raise,
+            side: Side::Before,
+        };
+        let settle = Moment {
+            seat: 1,
+            step: Step::Settle,
+            side: Side::Before,
+        };
+        Relay {
+            first: Holds::new(raise, 2, 1),
+            second: Holds::new(settle, 2, 1),
+            open: AtomicU64::new(0),
+            done: AtomicU64::new(0),
+        }
+    }
+}
+
+fn relayed<R: Threads + Sync>(rt: &R, alloc: Global) -> Result<(Seen, Run), Refusal> {
+    let relay = Relay::new();
+    relay_in_new::<R, Gated<Arena<ScriptMutators>, &Relay>>(rt, alloc, ((), &relay), &relay)
 }
 
 // C's second pull is at the head, and has not raised the epoch yet, when B's pull begins. B has pinned the epoch of then
@@ -608,35 +705,7 @@ where
 // epoch that it pinned: the reader would not keep its two slots.
 #[test]
 fn a_reader_keeps_what_is_dropped_at_a_later_epoch(rt: HostRuntime) -> Result<(), Refusal> {
-    let relay = Relay {
-        first: Holds::new(
-            Moment {
-                seat: 2,
-                step: Step::Raise,
-                side: Side::Before,
-            },
-            2,
-            1,
-        ),
-        second: Holds::new(
-            Moment {
-                seat: 1,
-                step: Step::Settle,
-                side: Side::Before,
-            },
-            2,
-            1,
-        ),
-        open: AtomicU64::new(0),
-        done: AtomicU64::new(0),
-    };
-    let (seen, filled) = relay_in_new::<HostRuntime, Gated<Arena<ScriptMutators>, &Relay>>(
-        &rt,
-        rt.alloc(),
-        ((), &relay),
-        &relay,
-    )?;
-    assert_eq!(rt; seen, (Some(6), Some(6)));
-    assert_eq!(rt; filled, (10, Some(Err(Refusal::Full))));
+    let told = relayed(&rt, rt.alloc())?;
+    assert_eq!(rt; told, ((Some(6), Some(6)), (10, Some(Err(Refusal::Full)))));
     Ok(())
 }

@@ -4,13 +4,15 @@
 //! Slots come back by the pulls alone. So the storm ends only if none is lost for good, if none that a reader still needs
 //! is used again, and if nobody is kept away for ever; and the server's count is right only if each mutation is pending
 //! until it is confirmed, and then no more.
-ghost use Rattle.std.specs.Prelude.{◌≡◌, IfOk};
+ghost use Rattle.std.specs.Prelude.{◌≡◌};
 ghost use Rattle.std.specs.List.{All};
 
-use super::opening::{A, B, C, D, E, MutatorCall, call_of, config_of, n_in, next_client, pulls};
+use super::opening::{
+    A, B, C, D, E, MutatorCall, Player, call_of, n_in, opened, players_of, pulls,
+};
 use chunk_slots::{Arena, Store};
 use group_history::{Ended, Refusal, read_value};
-use rebase::{Client, Group, Seats, Ticket};
+use rebase::{Client, Group, ReadTx, Seats, Ticket};
 use script_mutators::ScriptMutators;
 use serde_json::Value;
 use std::alloc::Global;
@@ -80,6 +82,17 @@ const NONE: Answers = Answers {
 };
 
 impl Answers {
+    // The client's next id, or else a refusal.
+    fn add_made(&mut self, made: Result<u64, Refusal>) -> Result<(), Refusal> {
+        match made {
+            Ok(id) => {
+                self.add_id(id);
+                Ok(())
+            }
+            Err(e) => self.add_refusal(e),
+        }
+    }
+
     fn add_id(&mut self, id: u64) {
         if id == self.ids.wrapping_add(1) {
             self.ids = id;
@@ -120,65 +133,38 @@ impl Answers {
     }
 }
 
-// A client that mutates, and what it was answered.
-#[derive(Drop)]
-struct Mutating<'g, S: Store<ScriptMutators>>
+// What a client was answered.
+type Given = Result<Answers, Refusal>;
+
+// Mutates until the client has all its ids, or nobody may call any more.
+fn mutates_by<S: Store<ScriptMutators>>(
+    client: &mut Client<'_, ScriptMutators, S>,
+    incr: &MutatorCall,
+    budget: &Budget,
+) -> Given
 where
     S::Seat: Drop,
 {
-    client: Client<'g, ScriptMutators, S>,
-    incr: MutatorCall,
-    answers: Answers,
+    let mut answers = NONE;
+    for _ in 0..MOST_CALLS {
+        if answers.ids >= MUTATIONS || !budget.allows(1) {
+            break;
+        }
+        answers.add_made(client.try_mutate(&incr.name, &incr.args, 1000, TRIES))?;
+    }
+    Ok(answers)
 }
 
-fn new_mutating<'g, S: Store<ScriptMutators>>(
+fn mutates<S: Store<ScriptMutators>>(
     alloc: Global,
-    group: &'g Group<ScriptMutators, S>,
-    seats: &mut Seats<ScriptMutators, S>,
-    text: &str,
-) -> Result<Mutating<'g, S>, Refusal>
+    client: &mut Client<'_, ScriptMutators, S>,
+    budget: &Budget,
+) -> Given
 where
     S::Seat: Drop,
-    requires { All (λ seat. (seat.mark.book ≡ group.now.shared.head) × (S.home seat.slots ≡ S.serves group.now.shared.store)) seats.old.free.items }
-    ensures { All (λ seat. (seat.mark.book ≡ group.now.shared.head) × (S.home seat.slots ≡ S.serves group.now.shared.store)) seats.new.free.items }
 {
-    let client = next_client(group, seats, text)?;
     let incr = call_of(alloc, "incr", r#"["n",1]"#)?;
-    Ok(Mutating {
-        client,
-        incr,
-        answers: NONE,
-    })
-}
-
-impl<S: Store<ScriptMutators>> Mutating<'_, S>
-where
-    S::Seat: Drop,
-{
-    fn mutates(&mut self) -> Result<(), Refusal> {
-        match self
-            .client
-            .try_mutate(&self.incr.name, &self.incr.args, 1000, TRIES)
-        {
-            Ok(id) => self.answers.add_id(id),
-            Err(e) => self.answers.add_refusal(e)?,
-        }
-        Ok(())
-    }
-
-    // Mutates until it has all its ids, or nobody may call any more.
-    fn mutates_all(&mut self, budget: &Budget) -> Result<Answers, Refusal> {
-        for _ in 0..MOST_CALLS {
-            if self.answers.ids >= MUTATIONS || !budget.allows(1) {
-                break;
-            }
-            if let Err(e) = self.mutates() {
-                budget.ends();
-                return Err(e);
-            }
-        }
-        Ok(self.answers)
-    }
+    mutates_by(client, &incr, budget)
 }
 
 const MUTATING: [&str; 4] = [A, B, C, D];
@@ -210,9 +196,7 @@ impl Server {
         Some(())
     }
 
-    // Counts the mutations of a push.
-    fn counts_all(&mut self, alloc: Global, push: &[u8]) -> Result<(), Refusal> {
-        let push = read_value(alloc, push)?;
+    fn counts_each(&mut self, push: &Value) -> Result<(), Refusal> {
         let Some(mutations) = push.get("mutations").and_then(Value::as_array) else {
             return Err(Refusal::BadShape);
         };
@@ -222,6 +206,12 @@ impl Server {
             }
         }
         Ok(())
+    }
+
+    // Counts the mutations of a push.
+    fn counts_all(&mut self, alloc: Global, push: &[u8]) -> Result<(), Refusal> {
+        let push = read_value(alloc, push)?;
+        self.counts_each(&push)
     }
 
     // What a pull brings next.
@@ -240,149 +230,177 @@ impl Server {
     }
 }
 
-// The client that pulls, the server, and what the client was answered.
+// The server, and what the client was answered that pulls.
 #[derive(Drop)]
-struct Pulling<'g, S: Store<ScriptMutators>>
-where
-    S::Seat: Drop,
-{
-    client: Client<'g, ScriptMutators, S>,
+struct Pulling {
     server: Server,
     answers: Answers,
 }
 
-fn new_pulling<'g, S: Store<ScriptMutators>>(
-    group: &'g Group<ScriptMutators, S>,
-    seats: &mut Seats<ScriptMutators, S>,
-) -> Result<Pulling<'g, S>, Refusal>
-where
-    S::Seat: Drop,
-    requires { All (λ seat. (seat.mark.book ≡ group.now.shared.head) × (S.home seat.slots ≡ S.serves group.now.shared.store)) seats.old.free.items }
-{
-    let client = next_client(group, seats, E)?;
-    let server = Server {
-        greatest: [0; 4],
-        n: 0,
-        cookie: 1,
-        confirmed: 0,
-    };
-    Ok(Pulling {
-        client,
-        server,
-        answers: NONE,
-    })
-}
-
-impl<S: Store<ScriptMutators>> Pulling<'_, S>
-where
-    S::Seat: Drop,
-{
-    // Has the server count what is pending. False where that was refused.
-    fn pushes(&mut self, alloc: Global) -> Result<bool, Refusal> {
-        match self.client.push_body(TRIES) {
-            Ok(body) => {
-                self.answers.bodies = self.answers.bodies.wrapping_add(1);
-                self.server.counts_all(alloc, &body)?;
-                Ok(true)
-            }
-            Err(e) => {
-                self.answers.add_refusal(e)?;
-                Ok(false)
-            }
+impl Pulling {
+    fn new() -> Pulling {
+        let server = Server {
+            greatest: [0; 4],
+            n: 0,
+            cookie: 1,
+            confirmed: 0,
+        };
+        Pulling {
+            server,
+            answers: NONE,
         }
     }
 
-    fn begins(&mut self) -> Result<Option<Ticket>, Refusal> {
-        match self.client.begin_pull(TRIES) {
+    fn counts(&mut self, alloc: Global, push: &[u8]) -> Result<(), Refusal> {
+        self.answers.bodies = self.answers.bodies.wrapping_add(1);
+        self.server.counts_all(alloc, push)
+    }
+
+    fn ends<S: Store<ScriptMutators>>(
+        &mut self,
+        alloc: Global,
+        client: &mut Client<'_, ScriptMutators, S>,
+        ticket: &Ticket,
+    ) -> Result<(), Refusal>
+    where
+        S::Seat: Drop,
+    {
+        let body = self.server.responds(alloc)?;
+        match client.try_end_pull(ticket, body.as_bytes(), TRIES) {
+            Ok(ended) => {
+                self.is_ended(ended);
+                Ok(())
+            }
+            Err(e) => self.answers.add_refusal(e),
+        }
+    }
+
+    fn is_ended(&mut self, ended: Ended) {
+        self.answers.add_end(ended);
+        self.server.is_applied();
+    }
+
+    // Pulls what was counted.
+    fn pulls_counted<S: Store<ScriptMutators>>(
+        &mut self,
+        alloc: Global,
+        client: &mut Client<'_, ScriptMutators, S>,
+    ) -> Result<(), Refusal>
+    where
+        S::Seat: Drop,
+    {
+        match client.begin_pull(TRIES) {
             Ok(ticket) => {
                 self.answers.tickets = self.answers.tickets.wrapping_add(1);
-                Ok(Some(ticket))
+                self.ends(alloc, client, &ticket)
             }
-            Err(e) => {
-                self.answers.add_refusal(e)?;
-                Ok(None)
-            }
+            Err(e) => self.answers.add_refusal(e),
         }
     }
 
-    fn ends(&mut self, alloc: Global, ticket: &Ticket) -> Result<(), Refusal> {
-        let body = self.server.responds(alloc)?;
-        match self.client.try_end_pull(ticket, body.as_bytes(), TRIES) {
-            Ok(ended) => {
-                self.answers.add_end(ended);
-                self.server.is_applied();
-            }
-            Err(e) => self.answers.add_refusal(e)?,
+    // Has the server count what is pending, and pulls that, with three calls where none is refused.
+    fn pulls<S: Store<ScriptMutators>>(
+        &mut self,
+        alloc: Global,
+        client: &mut Client<'_, ScriptMutators, S>,
+    ) -> Result<(), Refusal>
+    where
+        S::Seat: Drop,
+    {
+        match client.push_body(TRIES) {
+            Ok(body) => self.counts(alloc, &body)?,
+            Err(e) => return self.answers.add_refusal(e),
         }
-        Ok(())
-    }
-
-    // Pulls what was counted, with three calls where none is refused.
-    fn pulls(&mut self, alloc: Global) -> Result<(), Refusal> {
-        if !self.pushes(alloc)? {
-            return Ok(());
-        }
-        let Some(ticket) = self.begins()? else {
-            return Ok(());
-        };
-        self.ends(alloc, &ticket)
-    }
-
-    // Pulls until all mutations are confirmed, or nobody may call any more.
-    fn pulls_all(&mut self, alloc: Global, budget: &Budget) -> Result<Answers, Refusal> {
-        for _ in 0..MOST_CALLS {
-            if self.server.confirmed >= 4 * MUTATIONS || !budget.allows(3) {
-                break;
-            }
-            if let Err(e) = self.pulls(alloc) {
-                budget.ends();
-                return Err(e);
-            }
-        }
-        Ok(self.answers)
-    }
-
-    // What is read when all is over: `n`, and how many mutations are pending.
-    fn reads(&mut self) -> Result<(Option<i64>, usize), Refusal> {
-        let tx = self.client.read(TRIES)?;
-        let n = n_in(&tx)?;
-        let pending = tx.pending()?;
-        tx.close();
-        Ok((n, pending.len()))
+        self.pulls_counted(alloc, client)
     }
 }
 
-type Given = Result<Answers, Refusal>;
+// Pulls until all mutations are confirmed, or nobody may call any more.
+fn pulls_all<S: Store<ScriptMutators>>(
+    alloc: Global,
+    client: &mut Client<'_, ScriptMutators, S>,
+    budget: &Budget,
+) -> Given
+where
+    S::Seat: Drop,
+{
+    let mut pulling = Pulling::new();
+    for _ in 0..MOST_CALLS {
+        if pulling.server.confirmed >= 4 * MUTATIONS || !budget.allows(3) {
+            break;
+        }
+        pulling.pulls(alloc, client)?;
+    }
+    Ok(pulling.answers)
+}
 
+// What one of the five is given. Where it is refused what it can't go on without, nobody calls any more.
+fn ending(budget: &Budget, given: Given) -> Given {
+    if given.is_err() {
+        budget.ends();
+    }
+    given
+}
+
+fn one_mutates<S: Store<ScriptMutators>>(
+    alloc: Global,
+    players: &mut [Player<'_, S>],
+    budget: &Budget,
+) -> Given
+where
+    S::Seat: Drop,
+{
+    match players.first_mut() {
+        Some(player) => ending(budget, mutates(alloc, &mut player.client, budget)),
+        None => Err(Refusal::NoSeat),
+    }
+}
+
+fn one_pulls<S: Store<ScriptMutators>>(
+    alloc: Global,
+    player: &mut Player<'_, S>,
+    budget: &Budget,
+) -> Given
+where
+    S::Seat: Drop,
+{
+    ending(budget, pulls_all(alloc, &mut player.client, budget))
+}
+
+// Both halves of two players.
 fn two_mutate<R: Threads + Sync, S: Store<ScriptMutators>>(
     rt: &R,
+    alloc: Global,
+    players: &mut [Player<'_, S>],
     budget: &Budget,
-    mut a: Mutating<'_, S>,
-    mut b: Mutating<'_, S>,
 ) -> (Given, Given)
 where
     S::Seat: Drop,
 {
-    join(rt, || a.mutates_all(budget), || b.mutates_all(budget))
+    let half = players.len() / 2;
+    let (a, b) = players.split_at_mut(half);
+    join(
+        rt,
+        || one_mutates(alloc, a, budget),
+        || one_mutates(alloc, b, budget),
+    )
 }
-
-type Pair<'g, S> = (Mutating<'g, S>, Mutating<'g, S>);
 
 fn four_mutate<R: Threads + Sync, S: Store<ScriptMutators>>(
     rt: &R,
+    alloc: Global,
+    players: &mut [Player<'_, S>],
     budget: &Budget,
-    left: Pair<'_, S>,
-    right: Pair<'_, S>,
 ) -> [Given; 4]
 where
     S::Seat: Drop,
 {
-    let (a, b) = left;
-    let (c, d) = right;
+    let half = players.len() / 2;
+    let (left, right) = players.split_at_mut(half);
     let (left, right) = join(
         rt,
-        || two_mutate(rt, budget, a, b),
-        || two_mutate(rt, budget, c, d),
+        || two_mutate(rt, alloc, left, budget),
+        || two_mutate(rt, alloc, right, budget),
     );
     [left.0, left.1, right.0, right.1]
 }
@@ -390,12 +408,14 @@ where
 // What a storm came to.
 #[derive(Clone, Copy, PartialEq, Eq, Debug)]
 struct Storm {
-    // How many ids the client has that has the fewest.
+    // How many ids the client has that has the fewest, and all answers together.
     fewest: u64,
     answers: Answers,
-    n: Option<i64>,
-    pending: usize,
+    left: Left,
 }
+
+// What is read when all is over: `n`, and how many mutations are pending.
+type Left = (Option<i64>, usize);
 
 // The fewest ids that one of them has, and all answers together.
 fn sum_of(given: &[Given]) -> Result<(u64, Answers), Refusal> {
@@ -413,51 +433,89 @@ fn sum_of(given: &[Given]) -> Result<(u64, Answers), Refusal> {
     Ok((fewest, all))
 }
 
-fn five_storm<R: Threads + Sync, S: Store<ScriptMutators>>(
+fn left_in<S: Store<ScriptMutators>>(
+    tx: &ReadTx<'_, '_, ScriptMutators, S>,
+) -> Result<Left, Refusal>
+where
+    S::Seat: Drop,
+{
+    let n = n_in(tx)?;
+    let pending = tx.pending()?;
+    Ok((n, pending.len()))
+}
+
+fn reads<S: Store<ScriptMutators>>(
+    client: &mut Client<'_, ScriptMutators, S>,
+) -> Result<Left, Refusal>
+where
+    S::Seat: Drop,
+{
+    let tx = client.read(TRIES)?;
+    let left = left_in(&tx);
+    tx.close();
+    left
+}
+
+// What five players are answered of whom four mutate, and the last one pulls.
+fn five_call<R: Threads + Sync, S: Store<ScriptMutators>>(
     rt: &R,
     alloc: Global,
-    left: Pair<'_, S>,
-    right: Pair<'_, S>,
-    mut e: Pulling<'_, S>,
-) -> Result<Storm, Refusal>
+    four: &mut [Player<'_, S>],
+    last: &mut Player<'_, S>,
+) -> ([Given; 4], Given)
 where
     S::Seat: Drop,
 {
     let budget = Budget::new();
-    let (given, pulled) = join(
+    join(
         rt,
-        || four_mutate(rt, &budget, left, right),
-        || e.pulls_all(alloc, &budget),
-    );
-    let (fewest, mut answers) = sum_of(&given)?;
+        || four_mutate(rt, alloc, four, &budget),
+        || one_pulls(alloc, last, &budget),
+    )
+}
+
+// The fewest ids of one of the four, and all answers of the five together.
+fn answers_of(given: &[Given], pulled: Given) -> Result<(u64, Answers), Refusal> {
+    let (fewest, mut answers) = sum_of(given)?;
     answers.add_all(&pulled?);
-    let (n, pending) = e.reads()?;
+    Ok((fewest, answers))
+}
+
+fn five_storm<R: Threads + Sync, S: Store<ScriptMutators>>(
+    rt: &R,
+    alloc: Global,
+    four: &mut [Player<'_, S>],
+    last: &mut Player<'_, S>,
+) -> Result<Storm, Refusal>
+where
+    S::Seat: Drop,
+{
+    let (given, pulled) = five_call(rt, alloc, four, last);
+    let (fewest, answers) = answers_of(&given, pulled)?;
+    let left = reads(&mut last.client)?;
     Ok(Storm {
         fewest,
         answers,
-        n,
-        pending,
+        left,
     })
 }
 
-fn two_mutating<'g, S: Store<ScriptMutators>>(
+fn storm_of<R: Threads + Sync, S: Store<ScriptMutators>>(
+    rt: &R,
     alloc: Global,
-    group: &'g Group<ScriptMutators, S>,
-    seats: &mut Seats<ScriptMutators, S>,
-    first: &str,
-    second: &str,
-) -> Result<Pair<'g, S>, Refusal>
+    players: &mut [Player<'_, S>],
+) -> Result<Storm, Refusal>
 where
     S::Seat: Drop,
-    requires { All (λ seat. (seat.mark.book ≡ group.now.shared.head) × (S.home seat.slots ≡ S.serves group.now.shared.store)) seats.old.free.items }
-    ensures { All (λ seat. (seat.mark.book ≡ group.now.shared.head) × (S.home seat.slots ≡ S.serves group.now.shared.store)) seats.new.free.items }
 {
-    let first = new_mutating(alloc, group, seats, first)?;
-    let second = new_mutating(alloc, group, seats, second)?;
-    Ok((first, second))
+    let Some((e, four)) = players.split_first_mut() else {
+        return Err(Refusal::NoSeat);
+    };
+    pulls(&mut e.client, N_IS_0)?;
+    five_storm(rt, alloc, four, e)
 }
 
-fn storm_in_group<R: Threads + Sync, S: Store<ScriptMutators>>(
+fn storm_in<R: Threads + Sync, S: Store<ScriptMutators>>(
     rt: &R,
     alloc: Global,
     group: &Group<ScriptMutators, S>,
@@ -467,11 +525,8 @@ where
     S::Seat: Drop,
     requires { All (λ seat. (seat.mark.book ≡ group.now.shared.head) × (S.home seat.slots ≡ S.serves group.now.shared.store)) seats.old.free.items }
 {
-    let left = two_mutating(alloc, group, seats, A, B)?;
-    let right = two_mutating(alloc, group, seats, C, D)?;
-    let mut e = new_pulling(group, seats)?;
-    pulls(&mut e.client, N_IS_0)?;
-    five_storm(rt, alloc, left, right, e)
+    let mut players = players_of(alloc, group, seats, &[E, A, B, C, D])?;
+    storm_of(rt, alloc, players.as_mut_slice())
 }
 
 fn storm_in_new<R: Threads + Sync, S: Store<ScriptMutators> + Drop>(
@@ -483,33 +538,26 @@ where
     S::Seat: Drop,
     S::Parts: Drop,
 {
-    let config = config_of(alloc, 64, 5)?;
-    let (group, mut seats) = Group::<ScriptMutators, S>::open(
-        alloc,
-        config,
-        ScriptMutators,
-        parts,
-    )?;
-    storm_in_group(rt, alloc, &group, &mut seats)
+    let (group, mut seats) = opened::<S>(alloc, parts, 64, 5)?;
+    storm_in(rt, alloc, &group, &mut seats)
 }
 
 // Full is answered often, since the slots are few. Busy is not: it says that a hundred steps were lost in a row. None is
 // ever Gone, since each call looks at what it pins.
+fn is_through(storm: &Storm) -> bool {
+    let answers = &storm.answers;
+    answers.gone == 0
+        && answers.odd == 0
+        && answers.same == 0
+        && answers.busy <= MUTATIONS
+        && storm.fewest == MUTATIONS
+        && answers.ids == 4 * MUTATIONS
+        && storm.left == (Some(4_000), 0)
+}
+
 #[test]
 fn five_threads_get_through_with_few_slots(rt: HostRuntime) -> Result<(), Refusal> {
     let storm = storm_in_new::<HostRuntime, Arena<ScriptMutators>>(&rt, rt.alloc(), ())?;
-    let Storm {
-        fewest,
-        answers,
-        n,
-        pending,
-    } = storm;
-    assert!(rt; answers.gone == 0 && answers.odd == 0, "{storm:?}");
-    assert!(rt; answers.same == 0 && answers.busy <= MUTATIONS, "{storm:?}");
-    assert!(rt;
-        fewest == MUTATIONS && answers.ids == 4 * MUTATIONS,
-        "{storm:?}"
-    );
-    assert!(rt; n == Some(4_000) && pending == 0, "{storm:?}");
+    assert!(rt; is_through(&storm), "{storm:?}");
     Ok(())
 }

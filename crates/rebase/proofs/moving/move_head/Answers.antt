@@ -27,8 +27,8 @@ exchange-requires-clause-follows g c κs within =
       then = subst (λ (r : Ref). Spells means (drawn new) (stamp_of r) (after_change l.0 change)) (sym placed) spelled;
     }
 
-pub returns-in-Won-clause-won : goal.returns-in-Won-clause-won
-returns-in-Won-clause-won g c s is =
+pub returns-in-Ok-Won-clause-won : goal.returns-in-Ok-Won-clause-won
+returns-in-Ok-Won-clause-won g c s is =
     let means = g.M.Means.means in let l = c.requires.leads in let p = c.args.proposal in let change = c.args.change.now in
     let old = c.args.mark.now in let mid = c.place_draft.new.mark in let new = c.exchange.new.mark in let refs = c.in_ok-refs.refs.items in
     let placed : c.place_of-new.result ≡ placed_ref p.draft.first refs p.at =
@@ -38,7 +38,7 @@ returns-in-Won-clause-won g c s is =
     let later = spelled-stays mid.log new.log c.exchange.ensures.seen (stamp_of c.place_of-new.result) (version_of means (after_change l.0 change)) there in
     let same = one_state means (drawn old.log) (stamp_of c.args.base) l.0 s l.1 is in
     let base = spelled-stays old.log mid.log c.place_draft.ensures.seen (stamp_of c.args.base) (version_of means s) is in
-    let ends = subst (Ends means mid new c.args.base change) c.in-Won.is c.in_ok-exchange.ensures.ends in
+    let ends = subst (Ends means mid new c.args.base change) c.in-Ok-Won.field-0-is c.in-Ok-Won.ensures.ends in
     let won = ends s base in (
       (won.0, point_since means old mid new (Some change) won.0 c.place_draft.ensures.seen c.place_draft.ensures.number c.place_draft.ensures.own won.1, won.2),
       subst (λ (t : State). Spells means (drawn new.log) (stamp_of c.place_of-new.result) (after_change t change)) same later,

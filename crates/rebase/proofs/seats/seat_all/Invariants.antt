@@ -1,4 +1,4 @@
-use Rattle.std.proofs.Common.{◌≡◌, ◌+◌, length}
+use Rattle.std.proofs.Common.{◌≡◌, ◌+◌, ◌≤◌, length}
 use Rattle.std.specs.List.{All}
 use Rattle.head_word.specs.Marks.{HasSeat}
 use Rattle.chunk_slots.specs.Seats.{IsIdle}
@@ -11,6 +11,7 @@ invariant-loop-mark g l = record {
   same : length l.claimed.items ≡ length l.marks.items;
   free : All (λ seat. (seat.mark.book ≡ l.head) × (g.S.Slots.home seat.slots ≡ g.S.Slots.serves l.store)) l.free.items;
   count : length l.marks.items + length l.free.items ≡ length l.fn.marks.items;
+  room : length l.fn.marks.items ≤ l.free.cap;
 }
 
 abbrev pub decreases-loop-mark : goal.decreases-loop-mark

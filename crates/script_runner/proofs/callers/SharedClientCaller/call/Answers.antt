@@ -18,7 +18,7 @@ returns-in_err-end_pull-in-EndPull-clause-reply g c =
     let none : tries_of c.args.call ≡ 0 = ap tries_of c.in-EndPull.is in
     let same = c.in_err-end_pull-in-EndPull.ensures.same in
     let answer : Answers script_means 0 old.mark new.mark (told reply_seen reply) (change_of who c.args.call) (λ s. reply_to script_means who s c.args.call) =
-    rw (p.1, p.2) (ended_told script_means 0 old.mark new.mark who c.args.call c.in-EndPull.ticket c.in-EndPull.body (Err _) c.in-EndPull.is c.in_err-end_pull-in-EndPull.ensures.answer) in
+    rw (p.1, p.2) (ended_told script_means 0 old.mark new.mark who c.args.call c.in-EndPull.ticket c.in-EndPull.body (Err _) (Err _) c.in-EndPull.is refl c.in_err-end_pull-in-EndPull.ensures.answer) in
     record {
       answer = subst (λ (n : ℕ). Answers script_means n old.mark new.mark (told reply_seen reply) (change_of who c.args.call) (λ s. reply_to script_means who s c.args.call)) (sym none) answer;
       caller = ap (λ w. caller w.identity new.id new.last) same.0 ∙ ap (λ w. caller old.group.now.identity w new.last) same.1

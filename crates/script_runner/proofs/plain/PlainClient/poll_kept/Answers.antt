@@ -1,6 +1,5 @@
 use Rattle.std.proofs.Common.{refl, ap, ◌∙◌}
 use Rattle.std.specs.FinMap as finite
-use Rattle.group_history.specs.Map.{Bytes}
 use Rattle.script_runner.proofs.plain.PlainClient.poll_kept.Goals as goal
 
 pub returns : goal.returns
@@ -10,5 +9,5 @@ returns g c =
       at = c.deref.result.now.group;
       answer = c.in_ok-polled.ensures.answer;
       caller = refl;
-      watches = c.in_ok-insert.ensures.ok ∙ ap (λ (k : Bytes). finite.insert old.watches k c.poll.new.watch) c.in_ok-clone.ensures.cases ∙ ap (finite.insert old.watches name) c.in_ok-polled.ensures.kept;
+      watches = c.in_ok-keep_watch.ensures.ok ∙ ap (finite.insert old.watches name) c.in_ok-polled.ensures.kept;
     }

@@ -5,9 +5,9 @@ use Rattle.script_runner.specs.Inside.Parsing.{line_said, phase_said, context_of
 use Rattle.script_runner.proofs.Changes.{map_set-changed_at}
 use Rattle.script_runner.proofs.script.Parser.keep.Goals as goal
 
-pub returns-in_ok-keep : goal.returns-in_ok-keep
+pub returns : goal.returns
 unfolding with_line
-returns-in_ok-keep c =
+returns c =
     let phases = c.args.self.now.phases in
     let change = changed_at c.args.client (λ lines. lines ++ line_said c.args.line ∷ []) in
     let many : vec_len phases ≡ length (map phase_said phases.items) = phases.ok.0 ∙ sym (length-map phases.items phase_said) in

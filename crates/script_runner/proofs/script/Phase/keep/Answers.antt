@@ -5,8 +5,8 @@ use Rattle.script_runner.specs.Inside.Parsing.{line_said, phase_said}
 use Rattle.script_runner.proofs.Changes.{map_set-changed_at, changed_at-past}
 use Rattle.script_runner.proofs.script.Phase.keep.Goals as goal
 
-pub returns-in_ok-push : goal.returns-in_ok-push
-returns-in_ok-push c =
+pub returns : goal.returns
+returns c =
     let line = c.args.line in
     let lines = c.in-Some.lines.now in
     let more = ap (map line_said) c.in_ok-push.ensures.items ∙ map-append line_said lines.items (line ∷ []) in

@@ -1,5 +1,4 @@
-use Rattle.std.proofs.Common.{Ok, sym, ap, ◌∙◌, subst}
-use Rattle.logbook.specs.Pages.{Book}
+use Rattle.std.proofs.Common.{sym, ap, ◌∙◌, subst}
 use Rattle.rebase.specs.Watching.{Watched}
 use Rattle.script_runner.proofs.Watches.{AreOf, after_book, inserted_of}
 use Rattle.script_runner.proofs.shared.SharedClient.poll_kept.Goals as goal
@@ -9,4 +8,4 @@ invariant_of-self-2 c =
     let old = c.args.self.now in let book = sym c.poll.ensures.seat.0 in
     let of = subst (AreOf old.watches) book old.of_group in
     let own = old.of_group c.args.name.now c.args.watch c.requires ∙ book in
-    record { of_group = inserted_of c.insert.result old.watches c.insert.new.self c.poll.new.self.mark.book _ c.poll.new.watch c.insert.ensures.ok c.insert.ensures.err of (ap (λ (w : Watched). w.book) c.poll.ensures.kept ∙ after_book c.args.watch c.poll.result ∙ own) }
+    record { of_group = inserted_of c.keep_watch.result old.watches c.keep_watch.new.watches c.poll.new.self.mark.book _ c.poll.new.watch c.keep_watch.ensures.ok c.keep_watch.ensures.err of (ap (λ (w : Watched). w.book) c.poll.ensures.kept ∙ after_book c.args.watch c.poll.result ∙ own) }

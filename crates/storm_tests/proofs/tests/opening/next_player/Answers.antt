@@ -1,15 +1,11 @@
 use Rattle.std.proofs.Common.{◌≡◌, Some, refl}
 use Rattle.rebase.proofs.Seating.{popped}
-use Rattle.storm_tests.proofs.tests.opening.next_client.Goals as goal
+use Rattle.storm_tests.proofs.tests.opening.next_player.Goals as goal
 
-pub returns-in_err-id-clause-seats : goal.returns-in_err-id-clause-seats
-returns-in_err-id-clause-seats g c =
+pub returns-in-Ok : goal.returns-in-Ok
+returns-in-Ok g c =
     (popped (λ seat. (seat.mark.book ≡ c.args.group.now.shared.head) × (g.S.Slots.home seat.slots ≡ g.S.Slots.serves c.args.group.now.shared.store)) c.args.seats.now.free.items c.take.new.self.free.items (Some c.in_ok-seat.seat) c.in_ok-seat.seat c.in_ok-seat.ensures.taken refl c.requires).0
 
-pub returns-in-Ok-clause-seats : goal.returns-in-Ok-clause-seats
-returns-in-Ok-clause-seats g c =
-    (popped (λ seat. (seat.mark.book ≡ c.args.group.now.shared.head) × (g.S.Slots.home seat.slots ≡ g.S.Slots.serves c.args.group.now.shared.store)) c.args.seats.now.free.items c.take.new.self.free.items (Some c.in_ok-seat.seat) c.in_ok-seat.seat c.in_ok-seat.ensures.taken refl c.requires).0
-
-pub returns-clause-seats : goal.returns-clause-seats
-returns-clause-seats g c =
+pub returns : goal.returns
+returns g c =
     (popped (λ seat. (seat.mark.book ≡ c.args.group.now.shared.head) × (g.S.Slots.home seat.slots ≡ g.S.Slots.serves c.args.group.now.shared.store)) c.args.seats.now.free.items c.take.new.self.free.items (Some c.in_ok-seat.seat) c.in_ok-seat.seat c.in_ok-seat.ensures.taken refl c.requires).0

@@ -3,7 +3,7 @@ use Rattle.chunk_slots.specs.Seats.{IsIdle}
 use Rattle.rebase.specs.Calls.{AreAnswered, IsLater, caller}
 use Rattle.rebase.specs.Queries.{told}
 use Rattle.rebase.specs.Replies.{reply_seen}
-use Rattle.rebase.proofs.client.Client.call_all.Given as goal
+use Rattle.rebase.proofs.client.Client.call_each.Given as goal
 
 abbrev pub invariant-loop-call : goal.invariant-loop-call
 invariant-loop-call g l =

@@ -1,0 +1,115 @@
+//! The steps of a seat at its store, and of a mark at its head, one after the other. They take no memory.
+ghost use Rattle.std.specs.Prelude.{◌≡◌, IsSome};
+
+use crate::answers::Answer;
+use crate::counts::Counted;
+use crate::given::TRIES;
+use crate::marks::{begins, ends};
+use crate::opening::{SEATS, SLOTS};
+use group_history::{Chunk, Keys, Leaf, Node, Ref, Refusal};
+use head_word::{Head, Mark};
+use reader_claims::Kind;
+use rebase::Reply;
+use script_mutators::ScriptMutators;
+use std::alloc::Global;
+use std::sync::Arc;
+
+// What a mark draws stamps for.
+fn empty_leaf(alloc: Global) -> Result<Node<Ref>, Refusal> {
+    let keys = Arc::new(alloc, Keys::new(Vec::new(alloc)))?;
+    Ok(Node::Chunk(Chunk::Leaf(Leaf::new(keys, Vec::new(alloc)))))
+}
+
+// Takes a slot, and retires it.
+fn retires<S: Counted>(store: &S, seat: &mut S::Seat) -> bool
+    requires { S.home seat.old ≡ S.serves store.now }
+    ensures { S.home seat.new ≡ S.serves store.now }
+{
+    let Some(slot) = store.take_slot(seat, Kind::Ordinary) else {
+        return false;
+    };
+    store.settle(seat, slot);
+    if let Some(r) = store.raise(seat) {
+        store.retire(seat, slot, r);
+    }
+    true
+}
+
+// Takes a slot, and gives it back.
+fn withdraws<S: Counted>(store: &S, seat: &mut S::Seat) -> bool
+    requires { S.home seat.old ≡ S.serves store.now }
+    ensures { S.home seat.new ≡ S.serves store.now }
+{
+    let Some(slot) = store.take_slot(seat, Kind::PullEnd) else {
+        return false;
+    };
+    store.withdraw(seat, slot);
+    true
+}
+
+// What the head shows is looked at under a pin.
+fn looks<S: Counted>(store: &S, at: Ref) -> bool {
+    let Ok(shown) = store.show(at.slot(), at.stamp(), TRIES) else {
+        return false;
+    };
+    let is_commit = matches!(shown.value(), Node::Commit(_));
+    shown.leave();
+    is_commit
+}
+
+// All that a seat does at its store.
+fn claims<S: Counted>(store: &S, seat: &mut S::Seat, at: Ref) -> bool
+    requires { S.home seat.old ≡ S.serves store.now }
+{
+    let pinned = store.pin(seat, TRIES).is_ok();
+    let looked = looks(store, at);
+    let retired = retires(store, seat);
+    let withdrawn = withdraws(store, seat);
+    store.unpin(seat);
+    pinned && looked && retired && withdrawn
+}
+
+// A copy of the mark is learnt from, and stamps are drawn.
+fn draws(head: &Head<ScriptMutators>, mark: &mut Mark<ScriptMutators>, node: &[Node<Ref>]) -> bool
+    requires book { mark.old.book ≡ head.now }
+    requires seat { IsSome mark.old.seat }
+{
+    let copy = mark.copy();
+    head.learn(mark, &copy);
+    head.draft(mark, 2, node).is_ok()
+}
+
+// Makes each step of the last seat and mark.
+fn step_all<S: Counted>(
+    rt: &HostRuntime,
+    store: &S,
+    head: &Head<ScriptMutators>,
+    seat: &mut S::Seat,
+    mark: &mut Mark<ScriptMutators>,
+    node: &[Node<Ref>],
+) -> bool
+    requires home { S.home seat.old ≡ S.serves store.now }
+    requires book { mark.old.book ≡ head.now }
+    requires seat { IsSome mark.old.seat }
+{
+    begins(rt);
+    let at = head.load(mark);
+    let stepped = claims(store, seat, at) && draws(head, mark, node);
+    ends(rt);
+    stepped
+}
+
+/// Opens a store, and makes each step once.
+pub(crate) fn make_steps<S: Counted>(rt: &HostRuntime, parts: S::Parts) -> Answer
+where
+    S::Seat: Drop,
+    S::Parts: Drop,
+{
+    let node = [empty_leaf(rt.alloc())?];
+    let (store, mut seats, head, mut marks) = S::open(rt.alloc(), parts, SLOTS, SEATS)?;
+    let (Some(mut seat), Some(mut mark)) = (seats.pop(), marks.pop()) else {
+        return Err(Refusal::NoSeat);
+    };
+    let stepped = step_all(rt, &store, &head, &mut seat, &mut mark, &node);
+    Ok(Reply::Is(stepped))
+}
