@@ -18,7 +18,8 @@ use Rattle.head_word.proofs.BookLaws.{spelled-stays}
 use Rattle.answered.specs.Answered.{IsPoint, own_moves, is_move}
 
 -- a call that adds no move has its point where the book is that it has seen last
-pub point_seen : (means : Meanings) (old new : Known) → IsPrefix old.log new.log → IsOpened means new.log → own_moves new ≡ own_moves old → IsPoint means old new None new.log
+pub point_seen : (means : Meanings) (old new : Known) → IsPrefix old.log new.log → IsOpened means new.log
+    → own_moves new ≡ own_moves old → IsPoint means old new None new.log
 point_seen means old new pre opened same = record {
   to = record { bits = 0 };
   since = pre;
@@ -28,7 +29,8 @@ point_seen means old new pre opened same = record {
 }
 
 -- and one that added a move directly before it
-pub point_moved : (means : Meanings) (old new : Known) (to : Ref) (change : Change) (log : List Entry) → IsPrefix old.log log → new.log ≡ log ++ moved old.seat to (Some change) ∷ [] → IsOpened means new.log
+pub point_moved : (means : Meanings) (old new : Known) (to : Ref) (change : Change) (log : List Entry)
+    → IsPrefix old.log log → new.log ≡ log ++ moved old.seat to (Some change) ∷ [] → IsOpened means new.log
     → own new ≡ own old ++ moved old.seat to (Some change) ∷ [] → IsPoint means old new (Some change) log
 point_moved means old new to change log pre is opened once = record {
   to = to;
@@ -39,7 +41,9 @@ point_moved means old new to change log pre is opened once = record {
 }
 
 -- the state of a commit to which the head led is the state of the record there
-pub state_there : (means : Meanings) (mine log : List Entry) (base : Ref) (s : State) → IsPrefix mine log → IsOpened means log → last_move log ≡ base → Spells means (drawn mine) (stamp_of base) s → after (record_of log) ≡ s
+pub state_there : (means : Meanings) (mine log : List Entry) (base : Ref) (s : State) → IsPrefix mine log
+    → IsOpened means log → last_move log ≡ base → Spells means (drawn mine) (stamp_of base) s
+    → after (record_of log) ≡ s
 state_there means mine log base s pre opened last spells =
     let here = spelled-stays mine log pre (stamp_of base) (version_of means s) spells in
     let there = subst (λ r. Spells means (drawn log) (stamp_of r) (after (record_of log))) last opened.0.spelled in

@@ -1,9 +1,12 @@
 -- When a call of a client is answered rightly, whatever others do at the same time.
 --
--- A call takes effect at one point between its beginning and its end: this is linearizability, said of the book of a group.
--- The book's record up to the point gives the state there, and the reply is the right one at this state. A change that the
+-- A call takes effect at one point between its beginning and its end: this is linearizability, said of the book of a
+-- group.
+-- The book's record up to the point gives the state there, and the reply is the right one at this state. A change that
+-- the
 -- call made stands directly behind the point, and the call made no other. This project's own words.
-use Rattle.std.specs.Prelude.{ℕ, ◌≡◌, ◌+◌, ◌≤◌, Bool, true, false, List, [], ◌∷◌, ◌++◌, filter, Option, Some, None, Result, Ok, Err, max}
+use Rattle.std.specs.Prelude.{ℕ, ◌≡◌, ◌+◌, ◌≤◌, Bool, true, false, List, [], ◌∷◌, ◌++◌, filter, Option, Some, None}
+use Rattle.std.specs.Prelude.{Result, Ok, Err, max}
 use mathlib.Core.List.{IsPrefix}
 use Rattle.group_history.specs.declared.changes.Change.{Change}
 use Rattle.group_history.specs.declared.refusals.Refusal.{Refusal}
@@ -31,8 +34,10 @@ abbrev pub moves_for : Option ℕ → Ref → Option Change → List Entry
 moves_for seat to None = []
 moves_for seat to (Some c) = moved seat to (Some c) ∷ []
 
--- A call that began when its caller knew `old` of the book, and ended when it knew `new`, has a point where the book was `log`:
--- not before the call, and not after it. The change, where it made one, stands directly behind the point, as a move of the
+-- A call that began when its caller knew `old` of the book, and ended when it knew `new`, has a point where the book
+-- was `log`:
+-- not before the call, and not after it. The change, where it made one, stands directly behind the point, as a move of
+-- the
 -- caller's seat, and is accepted there. In the whole call the seat moved the head by this change alone.
 pub record IsPoint (means : Meanings) (old new : Known) (change : Option Change) (log : List Entry) : Type 0 where
   pub to : Ref
@@ -43,7 +48,8 @@ pub record IsPoint (means : Meanings) (old new : Known) (change : Option Change)
 
 -- the reply is right at the state of some such point
 abbrev pub IsAnswered : Meanings → Known → Known → Option Change → (State → Type 0) → Type 0
-IsAnswered means old new change right = (log : List Entry) × IsPoint means old new change log × right (after (record_of log))
+IsAnswered means old new change right = (log : List Entry) × IsPoint means old new change log
+    × right (after (record_of log))
 
 -- a refusal for want of something: of memory, of a try more, of a slot, a stamp or a seat
 abbrev pub is_want : Refusal → Bool
@@ -61,7 +67,8 @@ abbrev pub is_mute : Refusal → Option Change → Bool
 is_mute e None = is_want e
 is_mute e (Some c) = false
 
--- The seat did not move the head; and where the call says that others did so first, they added as many entries as it was
+-- The seat did not move the head; and where the call says that others did so first, they added as many entries as it
+-- was
 -- to try, and one at least.
 abbrev pub IsLeft : ℕ → Known → Known → Refusal → Type 0
 IsLeft tries old new e = (own_moves new ≡ own_moves old) × (e ≡ refusal.Moved → others old + max 1 tries ≤ others new)
@@ -71,11 +78,14 @@ abbrev pub IsRefused : Meanings → ℕ → Known → Known → Bool → Refusal
 IsRefused means tries old new true e change right = IsLeft tries old new e
 IsRefused means tries old new false e change right = IsAnswered means old new change right
 
--- What a call answers, by the change that each reply stands for, and by the right reply at each state. A refusal may stand
+-- What a call answers, by the change that each reply stands for, and by the right reply at each state. A refusal may
+-- stand
 -- for a change too: that the server does not know the group closes it.
-abbrev pub Answers : {X : Type 0} → Meanings → ℕ → Known → Known → Result X Refusal → (Result X Refusal → Option Change) → (State → Result X Refusal) → Type 0
+abbrev pub Answers : {X : Type 0} → Meanings → ℕ → Known → Known → Result X Refusal → (Result X Refusal → Option Change)
+    → (State → Result X Refusal) → Type 0
 Answers means tries old new (Ok x) change right = IsAnswered means old new (change (Ok x)) (λ s. right s ≡ Ok x)
-Answers means tries old new (Err e) change right = IsRefused means tries old new (is_mute e (change (Err e))) e (change (Err e)) (λ s. right s ≡ Err e)
+Answers means tries old new (Err e) change right = IsRefused means tries old new (is_mute e (change (Err e))) e
+    (change (Err e)) (λ s. right s ≡ Err e)
 
 -- what the replies of a query stand for
 abbrev pub nothing : {X : Type 0} → Result X Refusal → Option Change

@@ -49,7 +49,8 @@ pulled = begun ++ theirs five ∷ []
 abbrev pub raised : List Entry
 raised = begun ++ theirs five ∷ ours raise ∷ []
 
--- The right replies to three calls: what the number is; to raise it, as the first mutation of its client; and to end a pull
+-- The right replies to three calls: what the number is; to raise it, as the first mutation of its client; and to end a
+-- pull
 -- whose response says that the server does not know the group.
 abbrev pub number_at : State → Result (Option Bytes) Refusal
 number_at s = Ok (get_at trial s (codes "n"))
@@ -65,10 +66,12 @@ abbrev pub Asked : Book → List Entry → List Entry → Result (Option Bytes) 
 Asked book before after reply = Answers trial 1 (seen book before) (seen book after) reply nothing number_at
 
 abbrev pub Raised : ℕ → Book → List Entry → List Entry → Result ℕ Refusal → Type 0
-Raised tries book before after reply = Answers trial tries (seen book before) (seen book after) reply (change_made (up 1)) raise_at
+Raised tries book before after reply = Answers trial tries (seen book before) (seen book after) reply
+    (change_made (up 1)) raise_at
 
 abbrev pub Closing : Book → List Entry → List Entry → Result Ended Refusal → Type 0
-Closing book before after reply = Answers trial 1 (seen book before) (seen book after) reply (change_ended null_cookie response.StateNotFound) end_at
+Closing book before after reply = Answers trial 1 (seen book before) (seen book after) reply
+    (change_ended null_cookie response.StateNotFound) end_at
 
 pub record AnsweredExamples (book : Book) : Type 0 where
   -- five is pulled while the caller asks: that there is no number is right, and that it is five is right as well
@@ -77,8 +80,10 @@ pub record AnsweredExamples (book : Book) : Type 0 where
   pub asked_late : Asked book pulled pulled (Ok None) → ⊥
   -- the number is raised behind the pull of others, and the one point of this call is between the two
   pub raised_behind : Raised 1 book begun raised (Ok 1)
-  pub one_point : (log : List Entry) → IsPoint trial (seen book begun) (seen book raised) (Some raise) log → log ≡ pulled
-  -- an id whose mutation the caller did not publish is wrong, and so is one beside which the caller published something else
+  pub one_point : (log : List Entry) → IsPoint trial (seen book begun) (seen book raised)
+      (Some raise) log → log ≡ pulled
+  -- an id whose mutation the caller did not publish is wrong, and so is one beside which the caller published something
+  -- else
   pub unpublished : Raised 1 book pulled pulled (Ok 1) → ⊥
   pub published_twice : Raised 1 book begun (begun ++ ours five ∷ ours raise ∷ []) (Ok 1) → ⊥
   -- where there is no number the mutator refuses with 2: no other refusal is right that says something of the state

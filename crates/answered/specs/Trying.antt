@@ -24,7 +24,8 @@ IsBase means m base s = Spells means (drawn m.log) (stamp_of base) s
 
 -- The exchange was won: the call has its point directly before the change, and the state there is this one.
 abbrev pub IsWon : Meanings → Known → Known → Change → State → Type 0
-IsWon means old new change s = (log : List Entry) × IsPoint means old new (Some change) log × (after (record_of log) ≡ s)
+IsWon means old new change s = (log : List Entry) × IsPoint means old new (Some change) log
+    × (after (record_of log) ≡ s)
 
 -- The exchange was lost: the seat did not move the head, which is not at the base any more.
 abbrev pub IsLost : Known → Known → Ref → Type 0
@@ -35,13 +36,17 @@ abbrev pub Ends : Meanings → Known → Known → Ref → Change → Published 
 Ends means old new base change published.Won = (s : State) → IsBase means old base s → IsWon means old new change s
 Ends means old new base change published.Lost = IsLost old new base
 
--- What was proposed is right: a reply that stands for no change, or a change with the reply that stands for it, and a draft
+-- What was proposed is right: a reply that stands for no change, or a change with the reply that stands for it, and a
+-- draft
 -- that leads to it.
-abbrev pub IsProposed : {X D : Type 0} → (D → Change → Type 0) → (Result X Refusal → Option Change) → Result X Refusal → Proposed X D → Type 0
+abbrev pub IsProposed : {X D : Type 0} → (D → Change → Type 0) → (Result X Refusal → Option Change) → Result X Refusal
+    → Proposed X D → Type 0
 IsProposed leads change right (proposed.Reply x) = (right ≡ Ok x) × (change (Ok x) ≡ None)
-IsProposed leads change right (proposed.Change p) = (right ≡ p.reply) × (change p.reply ≡ Some p.change) × leads p.draft p.change
+IsProposed leads change right (proposed.Change p) = (right ≡ p.reply) × (change p.reply ≡ Some p.change)
+    × leads p.draft p.change
 
--- A refusal of what was proposed is for want of something, or it is the right reply and stands for no change. No change of
+-- A refusal of what was proposed is for want of something, or it is the right reply and stands for no change. No change
+-- of
 -- others is to blame: nothing was published yet.
 abbrev pub IsUnproposed : {X : Type 0} → (Result X Refusal → Option Change) → Result X Refusal → Refusal → Type 0
 IsUnproposed change right e = ((is_want e ≡ true) ⊎ ((right ≡ Err e) × (change (Err e) ≡ None))) × (e ≢ refusal.Moved)

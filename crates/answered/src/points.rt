@@ -43,7 +43,8 @@ pub fn publish_at<M: Means>(
     ensures book { mark.new.book ≡ mark.old.book }
     ensures seat { mark.new.seat ≡ mark.old.seat }
     ensures seen { IsPrefix mark.old.log mark.new.log }
-    ensures won { (s : State) → IsBase M.means mark.old base s → IfOk result (λ _. IsWon M.means mark.old mark.new change.now s) }
+    ensures won { (s : State) → IsBase M.means mark.old base s
+        → IfOk result (λ _. IsWon M.means mark.old mark.new change.now s) }
     ensures own { IfErr result (λ _. own_moves mark.new ≡ own_moves mark.old) }
     ensures moved { IfErr result (λ _. last_move mark.new.log ≢ base) }
 {

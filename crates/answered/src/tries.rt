@@ -30,7 +30,8 @@ fn publish_proposal<M: Means, P: Proposes<M>>(
     ensures book { mark.new.book ≡ mark.old.book }
     ensures number { mark.new.seat ≡ mark.old.seat }
     ensures seen { IsPrefix mark.old.log mark.new.log }
-    ensures answer { IfSome result (λ reply. Answers M.means tries mark.old mark.new reply (P.change proposer.now) (P.right proposer.now)) }
+    ensures answer { IfSome result (λ reply. Answers M.means tries mark.old mark.new reply (P.change proposer.now)
+        (P.right proposer.now)) }
     ensures lost { IfNone result (IsLost mark.old mark.new base) }
 {
     let Proposal {
@@ -72,7 +73,8 @@ fn propose_and_publish<M: Means, P: Proposes<M>>(
     ensures book { mark.new.book ≡ mark.old.book }
     ensures number { mark.new.seat ≡ mark.old.seat }
     ensures seen { IsPrefix mark.old.log mark.new.log }
-    ensures answer { IfSome result (λ reply. Answers M.means tries mark.old mark.new reply (P.change proposer.now) (P.right proposer.now)) }
+    ensures answer { IfSome result (λ reply. Answers M.means tries mark.old mark.new reply (P.change proposer.now)
+        (P.right proposer.now)) }
     ensures lost { IfNone result ((own_moves mark.new ≡ own_moves mark.old) × (others mark.old < others mark.new)) }
 {
     let base = look(head, mark);
@@ -106,7 +108,8 @@ pub fn change_once<M: Means, P: Proposes<M>>(
     ensures book { mark.new.book ≡ mark.old.book }
     ensures number { mark.new.seat ≡ mark.old.seat }
     ensures seen { IsPrefix mark.old.log mark.new.log }
-    ensures answer { IfSome result (λ reply. Answers M.means tries mark.old mark.new reply (P.change proposer.now) (P.right proposer.now)) }
+    ensures answer { IfSome result (λ reply. Answers M.means tries mark.old mark.new reply (P.change proposer.now)
+        (P.right proposer.now)) }
     ensures lost { IfNone result ((own_moves mark.new ≡ own_moves mark.old) × (others mark.old < others mark.new)) }
 {
     if let Err(e) = proposer.begin(seat, tries) {

@@ -93,8 +93,11 @@ pub trait Proposes<M: Means> {
         requires trying { trying self.now seat.old }
         requires base { (s : State) × IsBase M.means mark.now base s }
         ensures trying { trying self.now seat.new }
-        ensures ok { (s : State) → IsBase M.means mark.now base s → IfOk result (IsProposed (λ draft made. leads self.now draft mark.now.log base made) (change self.now) (right self.now s)) }
-        ensures err { (s : State) → IsBase M.means mark.now base s → IfErr result (IsUnproposed (change self.now) (right self.now s)) };
+        ensures ok { (s : State) → IsBase M.means mark.now base s
+            → IfOk result (IsProposed (λ draft made. leads self.now draft mark.now.log base made) (change self.now)
+            (right self.now s)) }
+        ensures err { (s : State) → IsBase M.means mark.now base s
+            → IfErr result (IsUnproposed (change self.now) (right self.now s)) };
 
     /// Places what was proposed at `base`, and moves the head there. It moves the head once at most, and is
     /// refused only for want of something; `Moved` only where others added an entry for each of the tries.

@@ -1,5 +1,6 @@
 -- What a book knows when it is opened.
-use Rattle.std.proofs.Common.{◌≡◌, ◌≢◌, ℕ, ◌+◌, ◌<◌, ◌≤◌, zero, suc, length, arith, List, [], ◌∷◌, ap, subst, sym, ◌∙◌, refl, Some, slice_get, cond, eq-eqb, ne_eqb}
+use Rattle.std.proofs.Common.{◌≡◌, ◌≢◌, ℕ, ◌+◌, ◌<◌, ◌≤◌, zero, suc, length, arith, List, [], ◌∷◌, ap, subst, sym, ◌∙◌}
+use Rattle.std.proofs.Common.{refl, Some, slice_get, cond, eq-eqb, ne_eqb}
 use Rattle.std.specs.List.{All}
 use Rattle.std.proofs.lemmas.List.{length_push}
 use Rattle.std.proofs.lemmas.List.Elements.{All-nil, All-push}
@@ -17,18 +18,22 @@ use Rattle.chunk_slots.specs.Inside.Openings.{Knows}
 -- each mark of a new book knows just what it opens with
 pub seated_know : (book : Book) (log : List Entry) (n : ℕ) → All (Knows book log) (seated book log n)
 seated_know book log zero = All-nil (Knows book log)
-seated_know book log (suc n) = All-push (Knows book log) (seated book log n) (known book log (Some n)) (seated_know book log n) (refl, refl)
+seated_know book log (suc n) = All-push (Knows book log) (seated book log n) (known book log (Some n))
+    (seated_know book log n) (refl, refl)
 
 -- there are as many marks as seats
 pub length_seated : (book : Book) (log : List Entry) (n : ℕ) → length (seated book log n) ≡ n
 length_seated book log zero = refl
-length_seated book log (suc n) = length_push (seated book log n) (known book log (Some n)) ∙ ap (λ k. k + 1) (length_seated book log n) ∙ omega arith
+length_seated book log (suc n) = length_push (seated book log n) (known book log (Some n)) ∙ ap (λ k. k + 1)
+    (length_seated book log n) ∙ omega arith
 
 -- the leaf is the content of the stamp 0, and the snapshot that of the stamp 1
-pub leaf_opens : (log : List Entry) (at : Ref) (node : Node Ref) → log ≡ opening at → content_of node ≡ drafted_content 0 empty_leaf → IsContent log 0 node
+pub leaf_opens : (log : List Entry) (at : Ref) (node : Node Ref) → log ≡ opening at
+    → content_of node ≡ drafted_content 0 empty_leaf → IsContent log 0 node
 leaf_opens log at node is same = ap (λ l. slice_get (drawn l) 0) is ∙ ap Some (sym same)
 
-pub commit_opens : (log : List Entry) (at : Ref) (node : Node Ref) → log ≡ opening at → content_of node ≡ drafted_content 0 opening_snapshot → IsContent log 1 node
+pub commit_opens : (log : List Entry) (at : Ref) (node : Node Ref) → log ≡ opening at
+    → content_of node ≡ drafted_content 0 opening_snapshot → IsContent log 1 node
 commit_opens log at node is same = ap (λ l. slice_get (drawn l) 1) is ∙ ap Some (sym same)
 
 -- of two slots nothing is left without both
@@ -38,8 +43,10 @@ none_left a b two =
     ∙ ap (λ c. without b (b ∷ cond c [] (a ∷ []))) (eq-eqb a a refl)
     ∙ ap (λ c. cond c [] (b ∷ [])) (eq-eqb b b refl)
 
-pub marks_know : (book : Book) (log : List Entry) (n : ℕ) (marks : List Known) → marks ≡ seated book log n → All (Knows book log) marks
+pub marks_know : (book : Book) (log : List Entry) (n : ℕ) (marks : List Known) → marks ≡ seated book log n
+    → All (Knows book log) marks
 marks_know book log n marks is = subst (All (Knows book log)) (sym is) (seated_know book log n)
 
-pub some_marks : (book : Book) (log : List Entry) (n : ℕ) (marks : List Known) → marks ≡ seated book log n → 1 ≤ n → 0 < length marks
+pub some_marks : (book : Book) (log : List Entry) (n : ℕ) (marks : List Known) → marks ≡ seated book log n → 1 ≤ n
+    → 0 < length marks
 some_marks book log n marks is some = let long = ap length is ∙ length_seated book log n in omega arith

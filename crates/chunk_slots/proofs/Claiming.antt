@@ -20,35 +20,44 @@ use Rattle.chunk_slots.specs.Seats.{IsIdle}
 pub one_from : (s t : Seated) (w : View) (i x y : ℕ) → s ≡ t → Move s.view i x y w → Moves t.view w
 one_from s t w i x y e m = subst (λ (u : Seated). Moves u.view w) e (one_move s.view w i x y m)
 
-pub two_from : (s t : Seated) (u w : View) (i x y j z a : ℕ) → s ≡ t → Move s.view i x y u → Move u j z a w → Moves t.view w
+pub two_from : (s t : Seated) (u w : View) (i x y j z a : ℕ) → s ≡ t → Move s.view i x y u → Move u j z a w
+    → Moves t.view w
 two_from s t u w i x y j z a e m n = then_move t.view u w j z a (one_from s t u i x y e m) n
 
 -- a slot less leaves the others within the table
-pub settled_within : (s t : Seated) (slot : ℕ) → IsWithin s → t.table ≡ s.table → t.view ≡ with_settled s.view slot → IsWithin t
+pub settled_within : (s t : Seated) (slot : ℕ) → IsWithin s → t.table ≡ s.table
+    → t.view ≡ with_settled s.view slot → IsWithin t
 settled_within s t slot h same is = (
   ap (λ (v : View). v.sizes) is ∙ h.0 ∙ sym (ap (λ (z : ClaimsId). z.sizes) same),
-  (λ k m. subst (λ (z : ClaimsId). k < z.sizes.slots) (sym same) (h.1 k (left_of slot k s.view.taken (subst (λ (v : View). In v.taken k) is m)).1)),
+  (λ k m. subst (λ (z : ClaimsId). k < z.sizes.slots) (sym same)
+      (h.1 k (left_of slot k s.view.taken (subst (λ (v : View). In v.taken k) is m)).1)),
 )
 
-pub withdrawn_within : (s t : Seated) (slot : ℕ) → IsWithin s → t.table ≡ s.table → t.view ≡ with_withdrawn s.view slot → IsWithin t
+pub withdrawn_within : (s t : Seated) (slot : ℕ) → IsWithin s → t.table ≡ s.table
+    → t.view ≡ with_withdrawn s.view slot → IsWithin t
 withdrawn_within s t slot h same is = (
   ap (λ (v : View). v.sizes) is ∙ h.0 ∙ sym (ap (λ (z : ClaimsId). z.sizes) same),
-  (λ k m. subst (λ (z : ClaimsId). k < z.sizes.slots) (sym same) (h.1 k (left_of slot k s.view.taken (subst (λ (v : View). In v.taken k) is m)).1)),
+  (λ k m. subst (λ (z : ClaimsId). k < z.sizes.slots) (sym same)
+      (h.1 k (left_of slot k s.view.taken (subst (λ (v : View). In v.taken k) is m)).1)),
 )
 
 -- the seats of a new store, the last of which has placed what it opens with
-pub all_ready : (claims z : ClaimsId) (rest all : List Seated) (opener : Seated) → z ≡ claims → All (IsReady claims) rest → all ≡ rest ++ opener ∷ [] → IsReady z opener
+pub all_ready : (claims z : ClaimsId) (rest all : List Seated) (opener : Seated) → z ≡ claims
+    → All (IsReady claims) rest → all ≡ rest ++ opener ∷ [] → IsReady z opener
     → All (λ s. (s.table ≡ z) × (⊤ → IsIdle s.view)) all
 all_ready claims z rest all opener same ready is last =
     let P : Seated → Type 0 = λ s. (s.table ≡ z) × (⊤ → IsIdle s.view) in
-    subst (All P) (sym is) (All-push P rest opener (All-weaker (IsReady claims) P (λ s h. (h.0 ∙ sym same, λ _. h.1)) rest ready) (last.0, λ _. last.1))
+    subst (All P) (sym is) (All-push P rest opener
+    (All-weaker (IsReady claims) P (λ s h. (h.0 ∙ sym same, λ _. h.1)) rest ready) (last.0, λ _. last.1))
 
 -- what a seat has taken that had nothing and takes twice
 pub two_taken : (v u w : View) (a b : ℕ) → v.taken ≡ [] → Takes v u a → Takes u w b → w.taken ≡ b ∷ a ∷ []
-two_taken v u w a b none first second = second.1 ∙ ap (λ (ks : List ℕ). b ∷ ks) (first.1 ∙ ap (λ (ks : List ℕ). a ∷ ks) none)
+two_taken v u w a b none first second = second.1 ∙ ap (λ (ks : List ℕ). b ∷ ks)
+    (first.1 ∙ ap (λ (ks : List ℕ). a ∷ ks) none)
 
 -- the seats of a new table without the last one, and that one
-pub last_ready : (claims : ClaimsId) (all rest : List Seated) (last : Option Seated) (opener : Seated) → All (IsReady claims) all → all ≡ rest ++ option_to_list last → last ≡ Some opener
+pub last_ready : (claims : ClaimsId) (all rest : List Seated) (last : Option Seated) (opener : Seated)
+    → All (IsReady claims) all → all ≡ rest ++ option_to_list last → last ≡ Some opener
     → All (IsReady claims) rest × IsReady claims opener
 last_ready claims all rest last opener ready is one =
     let popped = All-pop (IsReady claims) all rest last is ready in

@@ -7,27 +7,69 @@ use Rattle.chunk_slots.specs.Seats.{IsPinned, IsOvertaken}
 
 -- but for its pin and what it read of the epoch, u is v
 abbrev pub IsButPin : View → View → Type 0
-IsButPin v u = u ≡ record v { pin = u.pin; stores = u.stores; loaded = u.loaded; before = u.before; passes = u.passes; reached = u.reached; read = u.read; notes = u.notes; settled = u.settled }
+IsButPin v u = u ≡ record v {
+  pin = u.pin;
+  stores = u.stores;
+  loaded = u.loaded;
+  before = u.before;
+  passes = u.passes;
+  reached = u.reached;
+  read = u.read;
+  notes = u.notes;
+  settled = u.settled;
+}
 
 -- after one more try that was lost
 pub lost_again : (v t u : View) → IsButPin v t → one.IsUnpinned t u → IsButPin v u
 lost_again v t u same lost = subst (IsButPin v) (sym lost.0)
-    (ap (λ (z : View). record z { pin = Absent; stores = t.stores + 2; loaded = u.loaded; before = u.before; passes = t.passes + 2; reached = u.loaded; read = []; notes = []; settled = [] }) same)
+    (ap (λ (z : View). record z {
+      pin = Absent;
+      stores = t.stores + 2;
+      loaded = u.loaded;
+      before = u.before;
+      passes = t.passes + 2;
+      reached = u.loaded;
+      read = [];
+      notes = [];
+      settled = [];
+    }) same)
 
 -- after one that was not
 pub held_at_last : (v t u : View) (e : ℕ) → IsButPin v t → v.reached ≤ t.reached → one.IsPinned t u e → IsPinned v u
 held_at_last v t u e same up held = subst (IsPinned v) (sym held.0) (
-  ap (λ (z : View). record z { pin = Held e; stores = t.stores + 1; loaded = e; before = e; passes = t.passes + 2; reached = e; read = []; notes = []; settled = [] }) same,
+  ap (λ (z : View). record z {
+    pin = Held e;
+    stores = t.stores + 1;
+    loaded = e;
+    before = e;
+    passes = t.passes + 2;
+    reached = e;
+    read = [];
+    notes = [];
+    settled = [];
+  }) same,
   let further = held.1 in omega arith,
 )
 
 -- each of so many tries was lost
-pub lost_at_last : (v t u : View) (tries k : ℕ) → IsButPin v t → 1 ≤ k → tries ≤ k → v.reached + k ≤ t.reached + 1 → one.IsUnpinned t u → IsOvertaken v u tries
+pub lost_at_last : (v t u : View) (tries k : ℕ) → IsButPin v t → 1 ≤ k → tries ≤ k → v.reached + k ≤ t.reached + 1
+    → one.IsUnpinned t u → IsOvertaken v u tries
 lost_at_last v t u tries k same some all up lost =
     let a = lost.1 in let b = lost.2 in
     let left : u ≡ one.unpinned t u.before u.loaded = lost.0 in (
-      subst (λ (w : View). w ≡ record (one.unpinned v w.before w.loaded) { stores = w.stores; passes = w.passes }) (sym left)
-          (ap (λ (z : View). record z { pin = Absent; stores = t.stores + 2; loaded = u.loaded; before = u.before; passes = t.passes + 2; reached = u.loaded; read = []; notes = []; settled = [] }) same),
+      subst (λ (w : View). w ≡ record (one.unpinned v w.before w.loaded)
+          { stores = w.stores; passes = w.passes }) (sym left)
+          (ap (λ (z : View). record z {
+            pin = Absent;
+            stores = t.stores + 2;
+            loaded = u.loaded;
+            before = u.before;
+            passes = t.passes + 2;
+            reached = u.loaded;
+            read = [];
+            notes = [];
+            settled = [];
+          }) same),
       omega arith,
       omega arith,
     )

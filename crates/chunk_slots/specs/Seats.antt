@@ -1,4 +1,5 @@
--- What a store's seat knows of the claims table, and what the calls of a store tell of it. In each v is what the seat knew before the call, and u what it knows after it.
+-- What a store's seat knows of the claims table, and what the calls of a store tell of it. In each v is what the seat
+-- knew before the call, and u what it knows after it.
 use Rattle.std.specs.Prelude.{ℕ, ◌≡◌, ◌+◌, ◌^◌, ◌<◌, ◌≤◌, []}
 use Rattle.reader_claims.specs.declared.words.Pin.TheVariants.{Absent}
 use Rattle.reader_claims.specs.declared.view.View.{View}
@@ -14,9 +15,11 @@ IsIdle v = (v.pin ≡ Absent) × (v.taken ≡ [])
 abbrev pub IsPinned : View → View → Type 0
 IsPinned v u = (u ≡ record (pinned v u.loaded) { stores = u.stores; passes = u.passes }) × (v.reached ≤ u.loaded)
 
--- The pin is absent. The epoch rose by one at least at each of so many tries, and at one try where that is 0; and the seat itself raised nothing
+-- The pin is absent. The epoch rose by one at least at each of so many tries, and at one try where that is 0; and the
+-- seat itself raised nothing
 abbrev pub IsOvertaken : View → View → ℕ → Type 0
-IsOvertaken v u tries = (u ≡ record (unpinned v u.before u.loaded) { stores = u.stores; passes = u.passes }) × (v.reached < u.loaded) × (v.reached + tries ≤ u.loaded)
+IsOvertaken v u tries = (u ≡ record (unpinned v u.before u.loaded) { stores = u.stores; passes = u.passes })
+    × (v.reached < u.loaded) × (v.reached + tries ≤ u.loaded)
 
 -- the seat may retire at r: that is one above the epoch that it loaded last, past which it has seen it since
 abbrev pub MayRetire : View → ℕ → Type 0
@@ -32,7 +35,18 @@ IsAtEnd u = u.loaded ≡ 2 ^ 60
 
 -- the table of a store that claims nothing, and what its seats know of it
 abbrev pub no_table : ClaimsId
-no_table = record { table = record { words = 0; slots = 0; views_name = 0; atom = 0; block = 0; offset = 0; slot_names = [] }; sizes = record { readers = 0; slots = 0 } }
+no_table = record {
+  table = record {
+    words = 0;
+    slots = 0;
+    views_name = 0;
+    atom = 0;
+    block = 0;
+    offset = 0;
+    slot_names = [];
+  };
+  sizes = record { readers = 0; slots = 0 };
+}
 
 abbrev pub no_view : View
 no_view = reader no_table.sizes 0

@@ -65,7 +65,8 @@ fn joined(word: u64) -> Result<u64, Missed>
 // The mark beside the node under the claim, where that has the stamp.
 fn mark_at<M: Means>(claim: &Claim<'_, Option<Placed<M>>>, stamp: u64) -> Option<Mark<M>>
     requires { claim.now.right ≡ 1 }
-    ensures { IfSome result (λ mark. (c : Content) × (claim.now.value ≡ Some (Some c)) × (c.stamp ≡ stamp) × (c.mark.book ≡ claim.now.tag.book) × IsDrawn c × (mark ≡ c.mark)) }
+    ensures { IfSome result (λ mark. (c : Content) × (claim.now.value ≡ Some (Some c)) × (c.stamp ≡ stamp)
+        × (c.mark.book ≡ claim.now.tag.book) × IsDrawn c × (mark ≡ c.mark)) }
 {
     match claim.get() {
         Some(placed) if placed.stamp() == stamp => Some(placed.mark()),

@@ -11,7 +11,8 @@
 //! them use its words. Where slots are never used again `reused` is false, and these clauses say nothing.
 //!
 //! What always returns stands in [`Slots`], and what may wait over some stores in [`Store`].
-ghost use Rattle.std.specs.Prelude.{◌≡◌, ◌⊎◌, ℕ, ◌^◌, ◌<◌, ◌≤◌, IfOk, IfErr, IfSome, IfNone, MatchOption, MatchResult, length};
+ghost use Rattle.std.specs.Prelude.{◌≡◌, ◌⊎◌, ℕ, ◌^◌, ◌<◌, ◌≤◌, IfOk, IfErr, IfSome, IfNone, MatchOption, MatchResult};
+ghost use Rattle.std.specs.Prelude.{length};
 ghost use Rattle.std.specs.List.{All};
 ghost use Rattle.logbook.specs.Pages.{Book};
 ghost use Rattle.group_history.specs.Refs.{max_slots, max_seats};
@@ -136,9 +137,12 @@ pub trait Store<M: Means>: Slots<M> {
         requires seats { (1 ≤ seats) × (seats ≤ max_seats) }
         ensures book { IfOk result (λ made. Self.book made.0 ≡ made.2) }
         ensures count { IfOk result (λ made. length made.1.items ≡ seats) }
-        ensures seats { IfOk result (λ made. All (λ seat. (Self.home seat ≡ Self.serves made.0) × (Self.reused → IsIdle (Self.view seat))) made.1.items) }
-        ensures marks { IfOk result (λ made. (slot : ℕ) × (made.3.items ≡ seated made.2 (opening (opening_ref slot)) seats)) }
-        ensures err { IfErr result (λ e. (e ≡ refusal.NoMemory) ⊎ (Self.reused × ((e ≡ refusal.Busy) ⊎ (e ≡ refusal.Full)))) };
+        ensures seats { IfOk result (λ made. All
+            (λ seat. (Self.home seat ≡ Self.serves made.0) × (Self.reused → IsIdle (Self.view seat))) made.1.items) }
+        ensures marks { IfOk result (λ made. (slot : ℕ)
+            × (made.3.items ≡ seated made.2 (opening (opening_ref slot)) seats)) }
+        ensures err { IfErr result (λ e. (e ≡ refusal.NoMemory)
+            ⊎ (Self.reused × ((e ≡ refusal.Busy) ⊎ (e ≡ refusal.Full)))) };
 
     /// Puts the node under the stamp. The answer is the slot number that the node's `Ref` bears, so
     /// children are placed before their parents.
@@ -158,7 +162,8 @@ pub trait Store<M: Means>: Slots<M> {
         requires drawn { IsContent mark.now.log stamp node }
         ensures seat { seat.new ≡ seat.old }
         ensures slot { IfOk result (λ at. (at < max_slots) × (Self.reused → at ≡ slot)) }
-        ensures err { IfErr result (λ e. (e ≡ refusal.NoMemory) ⊎ ((Self.reused × (e ≡ refusal.Busy)) ⊎ ((Self.reused → ⊥) × (e ≡ refusal.Full)))) };
+        ensures err { IfErr result (λ e. (e ≡ refusal.NoMemory)
+            ⊎ ((Self.reused × (e ≡ refusal.Busy)) ⊎ ((Self.reused → ⊥) × (e ≡ refusal.Full)))) };
 
     /// Takes a slot to place a node in. A reserved one is taken only where no ordinary one was free or
     /// could be given, but for those that other seats were quicker to take. `None` comes after a whole

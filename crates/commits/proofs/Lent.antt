@@ -12,15 +12,18 @@ use Rattle.commits.proofs.Spelled.{commit-at, content-at, spelled_version}
 use Rattle.commits.proofs.Chained.{some_version}
 use Rattle.group_history.specs.Spelling.{version}
 
-pub nothing_there : (ns : List (Node Ref)) (k : ℕ) → IsSome (version_at (map content_of ns) k) → slice_get ns k ≡ None → ⊥
+pub nothing_there : (ns : List (Node Ref)) (k : ℕ) → IsSome (version_at (map content_of ns) k)
+    → slice_get ns k ≡ None → ⊥
 nothing_there ns k h e =
     let v = some_version (map content_of ns) k h in
     let w = spelled_version (map content_of ns) k v.0 v.1 in
     let c = content-at (map content_of ns) k (version v.0 w.0) w.1 in
     let bad = sym c.1 ∙ (slice_get-map content_of ns k ∙ ap (option_map content_of) e) in cc bad
 
-pub chunk_there : (ns : List (Node Ref)) (k : ℕ) (x : Chunk Ref) → IsSome (version_at (map content_of ns) k) → slice_get ns k ≡ Some (node.Chunk x) → ⊥
+pub chunk_there : (ns : List (Node Ref)) (k : ℕ) (x : Chunk Ref) → IsSome (version_at (map content_of ns) k)
+    → slice_get ns k ≡ Some (node.Chunk x) → ⊥
 chunk_there ns k x h e =
     let v = some_version (map content_of ns) k h in
-    let c = commit-at (map content_of ns) k (content_of (node.Chunk x)) v.0 (slice_get-map content_of ns k ∙ ap (option_map content_of) e) v.1 in
+    let c = commit-at (map content_of ns) k (content_of (node.Chunk x)) v.0
+    (slice_get-map content_of ns k ∙ ap (option_map content_of) e) v.1 in
     let bad = c.1 in cc bad

@@ -7,4 +7,5 @@ use Rattle.commits.specs.declared.chains.Base.{Base}
 
 -- it is what a state has from the server, its pulled map by the root
 abbrev pub IsBaseOf : Contents → State → Base → Type 0
-IsBaseOf ns s base = (base.cookie ≡ s.cookie) × (base.confirmed ≡ s.confirmed) × (map_at ns (stamp_of base.pulled) ≡ Some s.pulled)
+IsBaseOf ns s base = (base.cookie ≡ s.cookie) × (base.confirmed ≡ s.confirmed)
+    × (map_at ns (stamp_of base.pulled) ≡ Some s.pulled)

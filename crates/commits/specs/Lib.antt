@@ -1,4 +1,5 @@
--- What a reader of the public clauses believes: what a base of the code is of a state, a client's last id, what a stamp reaches, and why a
+-- What a reader of the public clauses believes: what a base of the code is of a state, a client's last id, what a stamp
+-- reaches, and why a
 -- store doesn't show a node.
 pub mod Chains
 pub mod LastIds

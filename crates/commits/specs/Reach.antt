@@ -10,7 +10,8 @@ use Rattle.group_history.specs.Spelling.{Contents}
 -- a stamp reaches itself, and what its content's children reach
 pub data Reaches (ns : Contents) : ℕ → ℕ → Type 0 where
   itself : (a : ℕ) → Reaches ns a a
-  through : (a c b : ℕ) (n : Node ℕ) → slice_get ns a ≡ Some n → Contains (children n) c → Reaches ns c b → Reaches ns a b
+  through : (a c b : ℕ) (n : Node ℕ) → slice_get ns a ≡ Some n → Contains (children n) c → Reaches ns c b
+      → Reaches ns a b
 
 -- the old head reaches it, and the new one does not
 abbrev pub IsDropped : Contents → ℕ → ℕ → ℕ → Type 0

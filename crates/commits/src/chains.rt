@@ -8,7 +8,8 @@ ghost use Rattle.group_history.specs.declared.nodes.Commit.{Commit as Committed}
 ghost use Rattle.group_history.specs.declared.refs.Ref.{Ref as Reference};
 ghost use Rattle.group_history.specs.declared.mutators.Stop.TheVariants.{NoMemory};
 ghost use Rattle.map_chunks.specs.Places.{Grows};
-ghost use Rattle.commits.specs.Inside.Chains.{added_by, link_of, top_of, id_in, own_id, basis_of, IsSnapshot, IsSnapshotAt, HasBase, HasCookie, IsShownAt, LiesAt};
+ghost use Rattle.commits.specs.Inside.Chains.{added_by, link_of, top_of, id_in, own_id, basis_of, IsSnapshot};
+ghost use Rattle.commits.specs.Inside.Chains.{IsSnapshotAt, HasBase, HasCookie, IsShownAt, LiesAt};
 
 use crate::nodes::{Nodes, ShowsCommit};
 use group_history::{Commit, ConfirmedIds, Cookie, Kind, Mutation, Ref, Step, Stop, Text};
@@ -148,7 +149,8 @@ pub fn show_link<N: Nodes>(nodes: &mut N, at: Ref) -> Result<Option<Link>, Stop>
     requires known { IsSome (version_at (N.contents nodes.old) (stamp_of at)) }
     requires place { N.places nodes.old at }
     ensures grown { Grows N.contents N.places nodes.old nodes.new }
-    ensures content { IfOk result (λ link. (c : Committed Reference) × IsShownAt (N.places nodes.new) (N.contents nodes.new) (stamp_of at) c × (link ≡ link_of c)) }
+    ensures content { IfOk result (λ link. (c : Committed Reference)
+        × IsShownAt (N.places nodes.new) (N.contents nodes.new) (stamp_of at) c × (link ≡ link_of c)) }
     ensures stopped { IfErr result (λ stop. (stop ≡ NoMemory) ⊎ N.stops stop) }
 {
     let held = nodes.show_commit(at)?;
@@ -162,7 +164,8 @@ pub fn show_top<N: Nodes>(nodes: &mut N, at: Ref) -> Result<Top, Stop>
     requires known { IsSome (version_at (N.contents nodes.old) (stamp_of at)) }
     requires place { N.places nodes.old at }
     ensures grown { Grows N.contents N.places nodes.old nodes.new }
-    ensures content { IfOk result (λ top. (c : Committed Reference) × IsShownAt (N.places nodes.new) (N.contents nodes.new) (stamp_of at) c × (top ≡ top_of at c)) }
+    ensures content { IfOk result (λ top. (c : Committed Reference)
+        × IsShownAt (N.places nodes.new) (N.contents nodes.new) (stamp_of at) c × (top ≡ top_of at c)) }
     ensures stopped { IfErr result N.stops }
 {
     let held = nodes.show_commit(at)?;
@@ -176,7 +179,8 @@ pub fn show_root<N: Nodes>(nodes: &mut N, at: Ref) -> Result<Ref, Stop>
     requires known { IsSome (version_at (N.contents nodes.old) (stamp_of at)) }
     requires place { N.places nodes.old at }
     ensures grown { Grows N.contents N.places nodes.old nodes.new }
-    ensures content { IfOk result (λ root. (c : Committed Reference) × IsShownAt (N.places nodes.new) (N.contents nodes.new) (stamp_of at) c × (root ≡ c.root)) }
+    ensures content { IfOk result (λ root. (c : Committed Reference)
+        × IsShownAt (N.places nodes.new) (N.contents nodes.new) (stamp_of at) c × (root ≡ c.root)) }
     ensures stopped { IfErr result N.stops }
 {
     let held = nodes.show_commit(at)?;
@@ -190,7 +194,9 @@ pub fn show_own_id<N: Nodes>(nodes: &mut N, at: Ref, client: &Text) -> Result<Ow
     requires known { IsSome (version_at (N.contents nodes.old) (stamp_of at)) }
     requires place { N.places nodes.old at }
     ensures grown { Grows N.contents N.places nodes.old nodes.new }
-    ensures content { IfOk result (λ own. (c : Committed Reference) × IsShownAt (N.places nodes.new) (N.contents nodes.new) (stamp_of at) c × (own.id ≡ own_id client.now c) × (own.basis ≡ basis_of c)) }
+    ensures content { IfOk result (λ own. (c : Committed Reference)
+        × IsShownAt (N.places nodes.new) (N.contents nodes.new) (stamp_of at) c × (own.id ≡ own_id client.now c)
+        × (own.basis ≡ basis_of c)) }
     ensures stopped { IfErr result N.stops }
 {
     let held = nodes.show_commit(at)?;
@@ -205,7 +211,8 @@ pub fn show_cookie<N: Nodes>(nodes: &mut N, at: Ref) -> Result<Cookie, Stop>
     requires known { IsSnapshotAt (N.contents nodes.old) (stamp_of at) }
     requires place { N.places nodes.old at }
     ensures grown { Grows N.contents N.places nodes.old nodes.new }
-    ensures content { IfOk result (λ cookie. (c : Committed Reference) × LiesAt (N.contents nodes.new) (stamp_of at) c × HasCookie c cookie) }
+    ensures content { IfOk result (λ cookie. (c : Committed Reference) × LiesAt (N.contents nodes.new) (stamp_of at) c
+        × HasCookie c cookie) }
     ensures stopped { IfErr result (λ stop. (stop ≡ NoMemory) ⊎ N.stops stop) }
 {
     let held = nodes.show_commit(at)?;
@@ -219,7 +226,8 @@ pub fn show_base<N: Nodes>(nodes: &mut N, at: Ref) -> Result<Base, Stop>
     requires known { IsSnapshotAt (N.contents nodes.old) (stamp_of at) }
     requires place { N.places nodes.old at }
     ensures grown { Grows N.contents N.places nodes.old nodes.new }
-    ensures content { IfOk result (λ base. (c : Committed Reference) × IsShownAt (N.places nodes.new) (N.contents nodes.new) (stamp_of at) c × HasBase c base) }
+    ensures content { IfOk result (λ base. (c : Committed Reference)
+        × IsShownAt (N.places nodes.new) (N.contents nodes.new) (stamp_of at) c × HasBase c base) }
     ensures stopped { IfErr result (λ stop. (stop ≡ NoMemory) ⊎ N.stops stop) }
 {
     let held = nodes.show_commit(at)?;

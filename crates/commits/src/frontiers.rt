@@ -60,7 +60,8 @@ impl Frontier {
     pub fn pop(&mut self) -> Option<Found>
         ensures none { IfNone result (self.old ≡ []) }
         ensures some { IfSome result (λ found. self.old ≡ self.new ++ found ∷ []) }
-        ensures greatest { IfSome result (λ found. (other : Finding) → Contains self.new other → stamp_in other < stamp_in found) }
+        ensures greatest { IfSome result (λ found. (other : Finding) → Contains self.new other
+            → stamp_in other < stamp_in found) }
     {
         let (_, found) = self.tree.pop_last()?;
         Some(found)

@@ -41,7 +41,8 @@ fn show_first_key<C: Chunks>(chunks: &mut C, at: Ref) -> Result<Option<Text>, St
     requires known { IsSome (segment_at (C.contents chunks.old) (stamp_of at)) }
     requires place { C.places chunks.old at }
     ensures grown { Grows C.contents C.places chunks.old chunks.new }
-    ensures content { IfOk result (λ key. (c : Chunked Reference) × LiesChunk (C.contents chunks.new) (stamp_of at) c × IsFirst (keys_in c) key) }
+    ensures content { IfOk result (λ key. (c : Chunked Reference) × LiesChunk (C.contents chunks.new) (stamp_of at) c
+        × IsFirst (keys_in c) key) }
     ensures stopped { IfErr result (λ stop. (stop ≡ NoMemory) ⊎ C.stops stop) }
 {
     let held = chunks.show(at)?;

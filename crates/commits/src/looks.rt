@@ -63,7 +63,9 @@ fn look_at_chunk<N: Nodes>(nodes: &mut N, frontier: &mut Frontier, at: Ref) -> R
     requires known { IsSome (segment_at (N.contents nodes.old) (stamp_of at)) }
     requires place { N.places nodes.old at }
     ensures grown { Grows N.contents N.places nodes.old nodes.new }
-    ensures added { OnOk result ((n : Noded Reference) × AreAll (N.places nodes.new) (children n) × (slice_get (N.contents nodes.new) (stamp_of at) ≡ Some (content_of n)) × Adds frontier.old (found_in n) frontier.new) }
+    ensures added { OnOk result ((n : Noded Reference) × AreAll (N.places nodes.new) (children n)
+        × (slice_get (N.contents nodes.new) (stamp_of at) ≡ Some (content_of n))
+        × Adds frontier.old (found_in n) frontier.new) }
     ensures stopped { IfErr result (λ stop. (stop ≡ NoMemory) ⊎ N.stops stop) }
 {
     let held = nodes.show(at)?;
@@ -76,7 +78,9 @@ fn look_at_commit<N: Nodes>(nodes: &mut N, frontier: &mut Frontier, at: Ref) -> 
     requires known { IsSome (version_at (N.contents nodes.old) (stamp_of at)) }
     requires place { N.places nodes.old at }
     ensures grown { Grows N.contents N.places nodes.old nodes.new }
-    ensures added { OnOk result ((n : Noded Reference) × AreAll (N.places nodes.new) (children n) × (slice_get (N.contents nodes.new) (stamp_of at) ≡ Some (content_of n)) × Adds frontier.old (found_in n) frontier.new) }
+    ensures added { OnOk result ((n : Noded Reference) × AreAll (N.places nodes.new) (children n)
+        × (slice_get (N.contents nodes.new) (stamp_of at) ≡ Some (content_of n))
+        × Adds frontier.old (found_in n) frontier.new) }
     ensures stopped { IfErr result (λ stop. (stop ≡ NoMemory) ⊎ N.stops stop) }
 {
     let held = nodes.show_commit(at)?;
@@ -90,7 +94,9 @@ pub fn look<N: Nodes>(nodes: &mut N, frontier: &mut Frontier, at: Found) -> Resu
     requires found { IsSpelled (N.contents nodes.old) at }
     requires place { N.places nodes.old (ref_in at) }
     ensures grown { Grows N.contents N.places nodes.old nodes.new }
-    ensures added { OnOk result ((n : Noded Reference) × AreAll (N.places nodes.new) (children n) × (slice_get (N.contents nodes.new) (stamp_in at) ≡ Some (content_of n)) × Adds frontier.old (found_in n) frontier.new) }
+    ensures added { OnOk result ((n : Noded Reference) × AreAll (N.places nodes.new) (children n)
+        × (slice_get (N.contents nodes.new) (stamp_in at) ≡ Some (content_of n))
+        × Adds frontier.old (found_in n) frontier.new) }
     ensures stopped { IfErr result (λ stop. (stop ≡ NoMemory) ⊎ N.stops stop) }
 {
     match at {

@@ -44,7 +44,8 @@ fn show_child<C: Chunks>(chunks: &mut C, at: Ref, key: &Text) -> Result<Option<R
     requires place { C.places chunks.old at }
     ensures grown { Grows C.contents C.places chunks.old chunks.new }
     ensures place { IfOk result (IfAt (C.places chunks.new)) }
-    ensures content { IfOk result (λ child. (c : Chunked Reference) × LiesChunk (C.contents chunks.new) (stamp_of at) c × (child ≡ child_for key.now c)) }
+    ensures content { IfOk result (λ child. (c : Chunked Reference) × LiesChunk (C.contents chunks.new) (stamp_of at) c
+        × (child ≡ child_for key.now c)) }
     ensures stopped { IfErr result C.stops }
 {
     let held = chunks.show(at)?;

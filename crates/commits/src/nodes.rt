@@ -27,8 +27,10 @@ pub trait Nodes: Chunks {
         requires known { IsSome (version_at (Self.contents self.old) (stamp_of at)) }
         requires place { Self.places self.old at }
         ensures grown { Grows Self.contents Self.places self.old self.new }
-        ensures content { IfOk result (λ held. slice_get (Self.contents self.new) (stamp_of at) ≡ Some (commit_content (Self.HeldCommit.shown held))) }
-        ensures children { IfOk result (λ held. AreAll (Self.places self.new) (commit_children (Self.HeldCommit.shown held))) }
+        ensures content { IfOk result (λ held. slice_get (Self.contents self.new) (stamp_of at)
+            ≡ Some (commit_content (Self.HeldCommit.shown held))) }
+        ensures children { IfOk result (λ held. AreAll (Self.places self.new)
+            (commit_children (Self.HeldCommit.shown held))) }
         ensures stopped { IfErr result Self.stops };
 
     fn leave_commit(&mut self, held: Self::HeldCommit)

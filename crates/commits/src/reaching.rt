@@ -44,7 +44,12 @@ fn visit<N: Nodes>(
     requires places { N.places nodes.old root × N.places nodes.old (ref_in at) }
     requires found { IsSpelled (N.contents nodes.old) at }
     ensures grown { Grows N.contents N.places nodes.old nodes.new }
-    ensures visited { OnOk result ((Reaches (N.contents nodes.new) (stamp_of root) (stamp_in at) × (frontier.new ≡ frontier.old) × (listed.new.items ≡ listed.old.items)) ⊎ ((n : Noded Reference) × (Reaches (N.contents nodes.new) (stamp_of root) (stamp_in at) → ⊥) × AreAll (N.places nodes.new) (children n) × (slice_get (N.contents nodes.new) (stamp_in at) ≡ Some (content_of n)) × Adds frontier.old (found_in n) frontier.new × (listed.new.items ≡ listed.old.items ++ ref_in at ∷ []))) }
+    ensures visited { OnOk result ((Reaches (N.contents nodes.new) (stamp_of root) (stamp_in at)
+        × (frontier.new ≡ frontier.old) × (listed.new.items ≡ listed.old.items))
+        ⊎ ((n : Noded Reference) × (Reaches (N.contents nodes.new) (stamp_of root) (stamp_in at) → ⊥)
+        × AreAll (N.places nodes.new) (children n)
+        × (slice_get (N.contents nodes.new) (stamp_in at) ≡ Some (content_of n))
+        × Adds frontier.old (found_in n) frontier.new × (listed.new.items ≡ listed.old.items ++ ref_in at ∷ []))) }
     ensures stopped { IfErr result (λ stop. (stop ≡ NoMemory) ⊎ N.stops stop) }
 {
     if is_kept(nodes, root, at)? {
@@ -61,7 +66,8 @@ fn reachable<N: Nodes>(alloc: Global, nodes: &mut N, head: Ref, root: Ref) -> Re
     requires places { N.places nodes.old head × N.places nodes.old root }
     requires root { IsSome (map_at (N.contents nodes.old) (stamp_of root)) }
     ensures grown { Grows N.contents N.places nodes.old nodes.new }
-    ensures exact { IfOk result (λ xs. (x : ℕ) → Contains (stamps_of xs.items) x ↔ IsDropped (N.contents nodes.new) (stamp_of head) (stamp_of root) x) }
+    ensures exact { IfOk result (λ xs. (x : ℕ)
+        → Contains (stamps_of xs.items) x ↔ IsDropped (N.contents nodes.new) (stamp_of head) (stamp_of root) x) }
     ensures once { IfOk result (λ xs. Falls (stamps_of xs.items)) }
     ensures places { IfOk result (λ xs. AreAll (N.places nodes.new) xs.items) }
     ensures stopped { IfErr result (λ stop. (stop ≡ NoMemory) ⊎ N.stops stop) }
@@ -85,7 +91,8 @@ pub fn dropped<N: Nodes>(alloc: Global, nodes: &mut N, old: Ref, new: Ref) -> Re
     requires places { N.places nodes.old old × N.places nodes.old new }
     requires new { IsSome (version_at (N.contents nodes.old) (stamp_of new)) }
     ensures grown { Grows N.contents N.places nodes.old nodes.new }
-    ensures exact { IfOk result (λ xs. (x : ℕ) → Contains (stamps_of xs.items) x ↔ IsDropped (N.contents nodes.old) (stamp_of old) (stamp_of new) x) }
+    ensures exact { IfOk result (λ xs. (x : ℕ)
+        → Contains (stamps_of xs.items) x ↔ IsDropped (N.contents nodes.old) (stamp_of old) (stamp_of new) x) }
     ensures once { IfOk result (λ xs. Falls (stamps_of xs.items)) }
     ensures places { IfOk result (λ xs. AreAll (N.places nodes.new) xs.items) }
     ensures stopped { IfErr result (λ stop. (stop ≡ NoMemory) ⊎ N.stops stop) }

@@ -51,7 +51,8 @@ pub fn walk<N: Nodes>(alloc: Global, nodes: &mut N, head: Ref) -> Result<Vec<Mut
     requires known { IsSome (version_at (N.contents nodes.old) (stamp_of head)) }
     requires place { N.places nodes.old head }
     ensures grown { Grows N.contents N.places nodes.old nodes.new }
-    ensures pending { (v : Version) → version_at (N.contents nodes.old) (stamp_of head) ≡ Some v → IfOk result (λ xs. xs.items ≡ v.state.pending) }
+    ensures pending { (v : Version) → version_at (N.contents nodes.old) (stamp_of head) ≡ Some v
+        → IfOk result (λ xs. xs.items ≡ v.state.pending) }
     ensures stopped { IfErr result (λ stop. (stop ≡ NoMemory) ⊎ N.stops stop) }
 {
     let mut pending = Vec::new(alloc);
@@ -72,7 +73,8 @@ pub(crate) fn snapshot_of<N: Nodes>(nodes: &mut N, head: Ref) -> Result<Ref, Sto
     ensures place { IfOk result (N.places nodes.new) }
     ensures lies { IfOk result (λ at. IsSnapshotAt (N.contents nodes.new) (stamp_of at)) }
     ensures reached { IfOk result (λ at. Reaches (N.contents nodes.new) (stamp_of head) (stamp_of at)) }
-    ensures state { (v : Version) → version_at (N.contents nodes.old) (stamp_of head) ≡ Some v → IfOk result (λ at. IsBase (N.contents nodes.new) (stamp_of at) v.state) }
+    ensures state { (v : Version) → version_at (N.contents nodes.old) (stamp_of head) ≡ Some v
+        → IfOk result (λ at. IsBase (N.contents nodes.new) (stamp_of at) v.state) }
     ensures stopped { IfErr result N.stops }
 {
     let top = show_top(nodes, head)?;
@@ -85,9 +87,12 @@ pub fn top_of<N: Nodes>(nodes: &mut N, head: Ref) -> Result<Top, Stop>
     requires known { IsSome (version_at (N.contents nodes.old) (stamp_of head)) }
     requires place { N.places nodes.old head }
     ensures grown { Grows N.contents N.places nodes.old nodes.new }
-    ensures root { (v : Version) → version_at (N.contents nodes.old) (stamp_of head) ≡ Some v → IfOk result (λ top. map_at (N.contents nodes.new) (stamp_of top.root) ≡ Some v.read) }
-    ensures snapshot { IfOk result (λ top. snapshot_at (N.contents nodes.new) (stamp_of head) ≡ Some (stamp_of top.snapshot)) }
-    ensures closed { (v : Version) → version_at (N.contents nodes.old) (stamp_of head) ≡ Some v → IfOk result (λ top. top.closed ≡ v.state.closed) }
+    ensures root { (v : Version) → version_at (N.contents nodes.old) (stamp_of head) ≡ Some v
+        → IfOk result (λ top. map_at (N.contents nodes.new) (stamp_of top.root) ≡ Some v.read) }
+    ensures snapshot { IfOk result (λ top. snapshot_at (N.contents nodes.new) (stamp_of head)
+        ≡ Some (stamp_of top.snapshot)) }
+    ensures closed { (v : Version) → version_at (N.contents nodes.old) (stamp_of head) ≡ Some v
+        → IfOk result (λ top. top.closed ≡ v.state.closed) }
     ensures places { IfOk result (λ top. N.places nodes.new top.root × N.places nodes.new top.snapshot) }
     ensures stopped { IfErr result N.stops }
 {
@@ -100,7 +105,8 @@ pub fn closed_of<N: Nodes>(nodes: &mut N, head: Ref) -> Result<bool, Stop>
     requires known { IsSome (version_at (N.contents nodes.old) (stamp_of head)) }
     requires place { N.places nodes.old head }
     ensures grown { Grows N.contents N.places nodes.old nodes.new }
-    ensures closed { (v : Version) → version_at (N.contents nodes.old) (stamp_of head) ≡ Some v → IfOk result (λ closed. closed ≡ v.state.closed) }
+    ensures closed { (v : Version) → version_at (N.contents nodes.old) (stamp_of head) ≡ Some v
+        → IfOk result (λ closed. closed ≡ v.state.closed) }
     ensures stopped { IfErr result N.stops }
 {
     let top = show_top(nodes, head)?;
@@ -112,7 +118,8 @@ pub fn base_of<N: Nodes>(nodes: &mut N, head: Ref) -> Result<Base, Stop>
     requires known { IsSome (version_at (N.contents nodes.old) (stamp_of head)) }
     requires place { N.places nodes.old head }
     ensures grown { Grows N.contents N.places nodes.old nodes.new }
-    ensures state { (v : Version) → version_at (N.contents nodes.old) (stamp_of head) ≡ Some v → IfOk result (IsBaseOf (N.contents nodes.new) v.state) }
+    ensures state { (v : Version) → version_at (N.contents nodes.old) (stamp_of head) ≡ Some v
+        → IfOk result (IsBaseOf (N.contents nodes.new) v.state) }
     ensures place { IfOk result (λ b. N.places nodes.new b.pulled) }
     ensures stopped { IfErr result (λ stop. (stop ≡ NoMemory) ⊎ N.stops stop) }
 {
@@ -126,12 +133,17 @@ pub fn state_of<N: Nodes>(alloc: Global, nodes: &mut N, head: Ref) -> Result<Com
     requires known { IsSome (version_at (N.contents nodes.old) (stamp_of head)) }
     requires place { N.places nodes.old head }
     ensures grown { Grows N.contents N.places nodes.old nodes.new }
-    ensures cookie { (v : Version) → version_at (N.contents nodes.old) (stamp_of head) ≡ Some v → IfOk result (λ s. s.cookie ≡ v.state.cookie) }
-    ensures confirmed { (v : Version) → version_at (N.contents nodes.old) (stamp_of head) ≡ Some v → IfOk result (λ s. s.confirmed ≡ v.state.confirmed) }
-    ensures pulled { (v : Version) → version_at (N.contents nodes.old) (stamp_of head) ≡ Some v → IfOk result (λ s. map_at (N.contents nodes.new) (stamp_of s.pulled) ≡ Some v.state.pulled) }
+    ensures cookie { (v : Version) → version_at (N.contents nodes.old) (stamp_of head) ≡ Some v
+        → IfOk result (λ s. s.cookie ≡ v.state.cookie) }
+    ensures confirmed { (v : Version) → version_at (N.contents nodes.old) (stamp_of head) ≡ Some v
+        → IfOk result (λ s. s.confirmed ≡ v.state.confirmed) }
+    ensures pulled { (v : Version) → version_at (N.contents nodes.old) (stamp_of head) ≡ Some v
+        → IfOk result (λ s. map_at (N.contents nodes.new) (stamp_of s.pulled) ≡ Some v.state.pulled) }
     ensures place { IfOk result (λ s. N.places nodes.new s.pulled) }
-    ensures pending { (v : Version) → version_at (N.contents nodes.old) (stamp_of head) ≡ Some v → IfOk result (λ s. s.pending.items ≡ v.state.pending) }
-    ensures closed { (v : Version) → version_at (N.contents nodes.old) (stamp_of head) ≡ Some v → IfOk result (λ s. s.closed ≡ v.state.closed) }
+    ensures pending { (v : Version) → version_at (N.contents nodes.old) (stamp_of head) ≡ Some v
+        → IfOk result (λ s. s.pending.items ≡ v.state.pending) }
+    ensures closed { (v : Version) → version_at (N.contents nodes.old) (stamp_of head) ≡ Some v
+        → IfOk result (λ s. s.closed ≡ v.state.closed) }
     ensures stopped { IfErr result (λ stop. (stop ≡ NoMemory) ⊎ N.stops stop) }
 {
     let closed = closed_of(nodes, head)?;
@@ -155,7 +167,8 @@ pub fn cookie_of<N: Nodes>(nodes: &mut N, head: Ref) -> Result<Cookie, Stop>
     requires known { IsSome (version_at (N.contents nodes.old) (stamp_of head)) }
     requires place { N.places nodes.old head }
     ensures grown { Grows N.contents N.places nodes.old nodes.new }
-    ensures cookie { (v : Version) → version_at (N.contents nodes.old) (stamp_of head) ≡ Some v → IfOk result (λ cookie. cookie ≡ v.state.cookie) }
+    ensures cookie { (v : Version) → version_at (N.contents nodes.old) (stamp_of head) ≡ Some v
+        → IfOk result (λ cookie. cookie ≡ v.state.cookie) }
     ensures stopped { IfErr result (λ stop. (stop ≡ NoMemory) ⊎ N.stops stop) }
 {
     let snapshot = snapshot_of(nodes, head)?;
@@ -172,7 +185,8 @@ pub struct LastId {
 
 // The id that was found before, at the commit where it was found.
 fn found_at(before: Option<LastId>, at: Ref) -> Option<u64>
-    ensures { IfSome result (λ id. (found : Ids) × (before ≡ Some found) × (stamp_of found.at ≡ stamp_of at) × (found.id ≡ id)) }
+    ensures { IfSome result (λ id. (found : Ids) × (before ≡ Some found) × (stamp_of found.at ≡ stamp_of at)
+        × (found.id ≡ id)) }
 {
     let Some(found) = before else {
         return None;
@@ -188,9 +202,11 @@ fn found_at(before: Option<LastId>, at: Ref) -> Option<u64>
 pub fn last_id_of<N: Nodes>(nodes: &mut N, head: Ref, client: &Text) -> Result<u64, Stop>
     requires head { IsSome (version_at (N.contents nodes.old) (stamp_of head)) }
     requires place { N.places nodes.old head }
-    requires ids { (v : Version) → version_at (N.contents nodes.old) (stamp_of head) ≡ Some v → IdsFollow v.state.confirmed v.state.pending }
+    requires ids { (v : Version) → version_at (N.contents nodes.old) (stamp_of head) ≡ Some v
+        → IdsFollow v.state.confirmed v.state.pending }
     ensures grown { Grows N.contents N.places nodes.old nodes.new }
-    ensures id { (v : Version) → version_at (N.contents nodes.old) (stamp_of head) ≡ Some v → IfOk result (λ id. id ≡ last_id v.state client.now) }
+    ensures id { (v : Version) → version_at (N.contents nodes.old) (stamp_of head) ≡ Some v
+        → IfOk result (λ id. id ≡ last_id v.state client.now) }
     ensures stopped { IfErr result N.stops }
 {
     last_id_since(nodes, head, client, None)
@@ -206,10 +222,13 @@ pub fn last_id_since<N: Nodes>(
 ) -> Result<u64, Stop>
     requires head { IsSome (version_at (N.contents nodes.old) (stamp_of head)) }
     requires place { N.places nodes.old head }
-    requires ids { (v : Version) → version_at (N.contents nodes.old) (stamp_of head) ≡ Some v → IdsFollow v.state.confirmed v.state.pending }
-    requires before { (found : Ids) → before ≡ Some found → last_at (N.contents nodes.old) (stamp_of found.at) client.now ≡ Some found.id }
+    requires ids { (v : Version) → version_at (N.contents nodes.old) (stamp_of head) ≡ Some v
+        → IdsFollow v.state.confirmed v.state.pending }
+    requires before { (found : Ids) → before ≡ Some found
+        → last_at (N.contents nodes.old) (stamp_of found.at) client.now ≡ Some found.id }
     ensures grown { Grows N.contents N.places nodes.old nodes.new }
-    ensures id { (v : Version) → version_at (N.contents nodes.old) (stamp_of head) ≡ Some v → IfOk result (λ id. id ≡ last_id v.state client.now) }
+    ensures id { (v : Version) → version_at (N.contents nodes.old) (stamp_of head) ≡ Some v
+        → IfOk result (λ id. id ≡ last_id v.state client.now) }
     ensures stopped { IfErr result N.stops }
 {
     let mut next = Some(head);
@@ -231,7 +250,8 @@ pub fn read_root<N: Nodes>(nodes: &mut N, head: Ref) -> Result<Ref, Stop>
     requires known { IsSome (version_at (N.contents nodes.old) (stamp_of head)) }
     requires place { N.places nodes.old head }
     ensures grown { Grows N.contents N.places nodes.old nodes.new }
-    ensures root { (v : Version) → version_at (N.contents nodes.old) (stamp_of head) ≡ Some v → IfOk result (λ root. map_at (N.contents nodes.new) (stamp_of root) ≡ Some v.read) }
+    ensures root { (v : Version) → version_at (N.contents nodes.old) (stamp_of head) ≡ Some v
+        → IfOk result (λ root. map_at (N.contents nodes.new) (stamp_of root) ≡ Some v.read) }
     ensures place { IfOk result (N.places nodes.new) }
     ensures stopped { IfErr result N.stops }
 {

@@ -121,7 +121,8 @@ fn hold_commit<'a, M: Means>(shown: Shown<'a, M>) -> Result<HeldCommit<'a, M>, S
 // What is shown of a stamp that a mark of the same book knows is what the mark knows there.
 fn agrees<M: Means>(mark: &Mark<M>, shown: &Shown<'_, M>)
     requires { shown.now.mark.book ≡ mark.now.book }
-    ensures { IsSome (slice_get (drawn mark.now.log) shown.now.stamp) → IsContent mark.now.log shown.now.stamp shown.now.node }
+    ensures { IsSome (slice_get (drawn mark.now.log) shown.now.stamp)
+        → IsContent mark.now.log shown.now.stamp shown.now.node }
 {
     let _ = shown.value();
     one_record(mark, shown.mark());

@@ -1,19 +1,22 @@
 -- A list whose entries are replaced one by one, from the first on.
-use Rattle.std.proofs.Common.{◌≡◌, ℕ, zero, suc, ◌<◌, ◌≤◌, List, [], ◌∷◌, ◌++◌, map, take, drop, length, slice_set, slice_index_or, refl, ap, arith}
+use Rattle.std.proofs.Common.{◌≡◌, ℕ, zero, suc, ◌<◌, ◌≤◌, List, [], ◌∷◌, ◌++◌, map, take, drop, length, slice_set}
+use Rattle.std.proofs.Common.{slice_index_or, refl, ap, arith}
 
 -- the first n are replaced
 abbrev pub replaced : {A : Type 0} → (A → A) → ℕ → List A → List A
 replaced f n xs = map f (take n xs) ++ drop n xs
 
 -- the entry behind them is the old one
-pub replaced-get : {A : Type 0} (f : A → A) (n : ℕ) (xs : List A) (d : A) → slice_index_or (replaced f n xs) n d ≡ slice_index_or xs n d
+pub replaced-get : {A : Type 0} (f : A → A) (n : ℕ) (xs : List A) (d : A)
+    → slice_index_or (replaced f n xs) n d ≡ slice_index_or xs n d
 replaced-get f zero [] d = refl
 replaced-get f (suc n) [] d = refl
 replaced-get f zero (x ∷ xs) d = refl
 replaced-get f (suc n) (x ∷ xs) d = replaced-get f n xs d
 
 -- one more is replaced
-pub replaced-set : {A : Type 0} (f : A → A) (n : ℕ) (xs : List A) (d : A) → n < length xs → slice_set (replaced f n xs) n (f (slice_index_or xs n d)) ≡ replaced f (suc n) xs
+pub replaced-set : {A : Type 0} (f : A → A) (n : ℕ) (xs : List A) (d : A) → n < length xs
+    → slice_set (replaced f n xs) n (f (slice_index_or xs n d)) ≡ replaced f (suc n) xs
 replaced-set f n [] d lt = absurd omega (arith, lt)
 replaced-set f zero (x ∷ xs) d lt = refl
 replaced-set f (suc n) (x ∷ xs) d lt = ap (λ w. f x ∷ w) (replaced-set f n xs d (omega (arith, lt)))

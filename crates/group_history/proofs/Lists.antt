@@ -1,5 +1,6 @@
 -- Elements of lists, and lists that begin others.
-use Rattle.std.proofs.Common.{◌≡◌, ℕ, zero, suc, ◌<◌, ◌≤◌, ◌⊎◌, inl, inr, List, [], ◌∷◌, ◌++◌, length, map, Some, slice_get, refl, ap, sym, subst, ◌∙◌, arith, append_assoc, length-append}
+use Rattle.std.proofs.Common.{◌≡◌, ℕ, zero, suc, ◌<◌, ◌≤◌, ◌⊎◌, inl, inr, List, [], ◌∷◌, ◌++◌, length, map, Some}
+use Rattle.std.proofs.Common.{slice_get, refl, ap, sym, subst, ◌∙◌, arith, append_assoc, length-append}
 use Rattle.std.specs.List.{Contains}
 use Rattle.std.proofs.lemmas.List.Elements.{Contains-append_cases, Contains-append_left, Contains-append_right}
 use mathlib.Core.List.{IsPrefix}
@@ -24,13 +25,19 @@ pub cons_cases : {A : Type 0} (y : A) (ys : List A) (x : A) → Contains (y ∷ 
 cons_cases y ys x h = elim (Contains-append_cases (y ∷ []) ys x h) [ inl p ↦ inl (only_one y x p) | inr q ↦ inr q ]
 
 -- an element behind a map comes from one before it, and the other way
-pub map_from : {A B : Type 0} (f : A → B) (xs : List A) (y : B) → Contains (map f xs) y → (x : A) × Contains xs x × (f x ≡ y)
+pub map_from : {A B : Type 0} (f : A → B) (xs : List A) (y : B) → Contains (map f xs) y
+    → (x : A) × Contains xs x × (f x ≡ y)
 map_from f [] y h = absurd (no_element y h)
-map_from f (x ∷ xs) y h = elim (cons_cases (f x) (map f xs) y h) [ inl e ↦ (x, first_here x xs, e) | inr q ↦ (let r = map_from f xs y q in (r.0, later_here x xs r.0 r.1, r.2)) ]
+map_from f (x ∷ xs) y h = elim (cons_cases (f x) (map f xs) y h)
+    [ inl e ↦ (x, first_here x xs, e) | inr q ↦ (let r = map_from f xs y q in (r.0, later_here x xs r.0 r.1, r.2)) ]
 
 pub map_to : {A B : Type 0} (f : A → B) (xs : List A) (x : A) → Contains xs x → Contains (map f xs) (f x)
 map_to f [] x h = absurd (no_element x h)
-map_to f (y ∷ xs) x h = elim (cons_cases y xs x h) [ inl e ↦ subst (λ w. Contains (f y ∷ map f xs) (f w)) e (first_here (f y) (map f xs)) | inr q ↦ later_here (f y) (map f xs) (f x) (map_to f xs x q) ]
+map_to f (y ∷ xs) x h = elim (cons_cases y xs x h) [
+  | inl e ↦ subst (λ w. Contains (f y ∷ map f xs) (f w)) e (first_here (f y) (map f xs))
+  | inr q ↦ later_here (f y)
+      (map f xs) (f x) (map_to f xs x q)
+]
 
 -- BEGINNINGS
 

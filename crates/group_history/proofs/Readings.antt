@@ -1,5 +1,6 @@
 -- What the reading of bytes is.
-use Rattle.std.proofs.Common.{◌≡◌, ℕ, ◌≤◌, List, Bool, true, false, cond, Some, None, Ok, Err, refl, sym, ap, ◌∙◌, IsUtf8, nat_le, not}
+use Rattle.std.proofs.Common.{◌≡◌, ℕ, ◌≤◌, List, Bool, true, false, cond, Some, None, Ok, Err, refl, sym, ap, ◌∙◌}
+use Rattle.std.proofs.Common.{IsUtf8, nat_le, not}
 use Rattle.std.specs.Str.{is_utf8}
 use Rattle.std.proofs.lemmas.Bool.{le-leb}
 use Rattle.std.proofs.lemmas.Str.{IsUtf8-from_is_utf8, is_utf8-from_IsUtf8}
@@ -16,7 +17,8 @@ pub reading-ok : (bytes : List ℕ) (d : Data) → IsUtf8 bytes → read bytes �
 unfolding reading
 reading-ok bytes d utf8 is = rw (is_utf8-from_IsUtf8 bytes utf8) (ap or_not_json is)
 
-none_at : (b : Bool) (bytes : List ℕ) → is_utf8 bytes ≡ b → (IsUtf8 bytes → read bytes ≡ None) → cond b (or_not_json (read bytes)) (Err NotJson) ≡ Err NotJson
+none_at : (b : Bool) (bytes : List ℕ) → is_utf8 bytes ≡ b → (IsUtf8 bytes → read bytes ≡ None)
+    → cond b (or_not_json (read bytes)) (Err NotJson) ≡ Err NotJson
 none_at true bytes is none = ap or_not_json (none (IsUtf8-from_is_utf8 bytes is))
 none_at false bytes is none = refl
 
@@ -37,7 +39,8 @@ unfolding text_of
 text_of-ok d shallow whole = rw (le-leb (depth d) 124 shallow, whole)
 
 -- a value's compact text is its own
-pub json_text-compact : (d : Data) (text : List ℕ) → IsUtf8 text → read text ≡ Some d → text ≡ compact_text d → depth d ≤ 124 → has_float d ≡ false → json_text text ≡ Ok text
+pub json_text-compact : (d : Data) (text : List ℕ) → IsUtf8 text → read text ≡ Some d → text ≡ compact_text d
+    → depth d ≤ 124 → has_float d ≡ false → json_text text ≡ Ok text
 json_text-compact d text utf8 is same shallow whole =
     ap (λ r. r >>= text_of) (reading-ok text d utf8 is) ∙ text_of-ok d shallow whole ∙ ap Ok (sym same)
 
@@ -50,8 +53,10 @@ not-false true h = refl
 not-false false h = sym h
 
 -- a compact text is the cookie that its value is
-pub cookie_at-compact : (d : Data) (text : List ℕ) (o : Order) → IsUtf8 text → read text ≡ Some d → text ≡ compact_text d → depth d ≤ 126 → has_float d ≡ false → order_of d ≡ Some o
+pub cookie_at-compact : (d : Data) (text : List ℕ) (o : Order) → IsUtf8 text → read text ≡ Some d
+    → text ≡ compact_text d → depth d ≤ 126 → has_float d ≡ false → order_of d ≡ Some o
     → cookie_at text ≡ Some (record { text = text; order = o })
 unfolding cookie_at cookie_of
 cookie_at-compact d text o utf8 is same shallow whole order =
-    rw (reading-ok text d utf8 is, le-leb (depth d) 126 shallow, whole, order) (ap (λ t. Some (record { text = t; order = o })) (sym same))
+    rw (reading-ok text d utf8 is, le-leb (depth d) 126 shallow, whole, order)
+    (ap (λ t. Some (record { text = t; order = o })) (sym same))

@@ -1,5 +1,7 @@
 -- The laws of the record.
-use Rattle.std.proofs.Common.{◌≡◌, ◌⊎◌, inl, inr, ℕ, ◌+◌, ◌≤◌, ◌<◌, ◌^◌, Bool, true, false, true≢false, cond, List, [], ◌∷◌, ◌++◌, length, map, filter, fold, max, nat_eq, nat_lt, refl, sym, ap, ◌∙◌, subst, arith, Result, Ok, Err, All}
+use Rattle.std.proofs.Common.{◌≡◌, ◌⊎◌, inl, inr, ℕ, ◌+◌, ◌≤◌, ◌<◌, ◌^◌, Bool, true, false, true≢false, cond, List, []}
+use Rattle.std.proofs.Common.{◌∷◌, ◌++◌, length, map, filter, fold, max, nat_eq, nat_lt, refl, sym, ap, ◌∙◌, subst}
+use Rattle.std.proofs.Common.{arith, Result, Ok, Err, All}
 use Rattle.std.proofs.lemmas.Bool.{ltb-false, ltb-true}
 use Rattle.std.proofs.lemmas.List.Elements.{recursion_from_All, All-weaker, All-map, filter_passes}
 use Rattle.std.proofs.lemmas.Slice.Eq.{bytes_eq-Decides}
@@ -28,13 +30,16 @@ use Rattle.group_history.specs.Orders.{order_cmp_total}
 use Rattle.group_history.specs.Pull.{Pull}
 use Rattle.group_history.specs.State.{State, Ids, opening, view_of, replayed, confirmed_id, ids_of, last_id, rebased}
 use Rattle.group_history.specs.Mutating.{by_meaning, open_reply, after_mutate}
-use Rattle.group_history.specs.Pulling.{by_order, end_at, open_end_reply, end_reply, says_nothing, goes_back, unconfirmed, left_pending, overwritten, after_pull, after_closing, left_unknown, left_by_end}
+use Rattle.group_history.specs.Pulling.{by_order, end_at, open_end_reply, end_reply, says_nothing, goes_back}
+use Rattle.group_history.specs.Pulling.{unconfirmed, left_pending, overwritten, after_pull, after_closing, left_unknown}
+use Rattle.group_history.specs.Pulling.{left_by_end}
 use Rattle.group_history.specs.Record.{IsAccepted, AllAccepted, IsLegal, after, after_all, after_change}
 use Rattle.group_history.specs.Ids.{IdsFollow}
 use Rattle.group_history.specs.Laws.{ids_made, orders_of, IsPart, nothing, kept, left_out, IsAmong, RecordLaws}
 use Rattle.group_history.proofs.Replays.{replayed-append}
 use Rattle.group_history.proofs.Records.{IsLegal-front}
-use Rattle.group_history.proofs.IdLemmas.{ids_of-append, ids_of-left, overwritten-≥, after_mutate-IdsFollow, after_pull-IdsFollow, last_id-≤, new_follows}
+use Rattle.group_history.proofs.IdLemmas.{ids_of-append, ids_of-left, overwritten-≥, after_mutate-IdsFollow}
+use Rattle.group_history.proofs.IdLemmas.{after_pull-IdsFollow, last_id-≤, new_follows}
 
 -- WHAT AN ACCEPTED CHANGE SAYS
 
@@ -58,32 +63,39 @@ other_reply : (r : Result ℕ Refusal) (id : ℕ) → is_made r ≡ false → r 
 other_reply r id differs e = true≢false (sym (ap is_made e) ∙ differs)
 
 -- an applied pull's cookie is above the state's, and no change goes back
-applied_by : (o : Ordering) (s : State) (r : Pull) → by_order o s r ≡ Ok ended.Applied → (o ≡ Greater) × (goes_back s.confirmed r.changes ≡ false)
+applied_by : (o : Ordering) (s : State) (r : Pull) → by_order o s r ≡ Ok ended.Applied
+    → (o ≡ Greater) × (goes_back s.confirmed r.changes ≡ false)
 applied_by Less s r e = absurd (other_end _ refl e)
 applied_by Equal s r e =
-    elim (says_nothing s.cookie r) as (λ b. cond b (Ok ended.Same) (Err refusal.CookieNotNew) ≡ Ok ended.Applied → (Equal ≡ Greater) × (goes_back s.confirmed r.changes ≡ false)) [
+    elim (says_nothing s.cookie r) as (λ b. cond b (Ok ended.Same) (Err refusal.CookieNotNew) ≡ Ok ended.Applied
+    → (Equal ≡ Greater) × (goes_back s.confirmed r.changes ≡ false)) [
       | true ↦ λ d. absurd (other_end _ refl d)
       | false ↦ λ d. absurd (other_end _ refl d)
     ] e
 applied_by Greater s r e = (
   refl,
-  elim (goes_back s.confirmed r.changes) as (λ b. cond b (Err refusal.IdWentBack) (Ok ended.Applied) ≡ Ok ended.Applied → b ≡ false) [
-    | true ↦ λ d. absurd (other_end _ refl d)
-    | false ↦ λ d. refl
-  ] e,
+  elim (goes_back s.confirmed r.changes) as
+      (λ b. cond b (Err refusal.IdWentBack) (Ok ended.Applied) ≡ Ok ended.Applied → b ≡ false) [
+        | true ↦ λ d. absurd (other_end _ refl d)
+        | false ↦ λ d. refl
+      ] e,
 )
 
-applied_at : (s : State) (ticket : Bytes) (r : Pull) → end_at s ticket r ≡ Ok ended.Applied → (order_cmp r.cookie.order s.cookie.order ≡ Greater) × (goes_back s.confirmed r.changes ≡ false)
+applied_at : (s : State) (ticket : Bytes) (r : Pull) → end_at s ticket r ≡ Ok ended.Applied
+    → (order_cmp r.cookie.order s.cookie.order ≡ Greater) × (goes_back s.confirmed r.changes ≡ false)
 applied_at s ticket r e =
-    elim (same_text s.cookie.text ticket) as (λ b. cond b (by_order (order_cmp r.cookie.order s.cookie.order) s r) (Err refusal.Overtaken) ≡ Ok ended.Applied
+    elim (same_text s.cookie.text ticket) as
+    (λ b. cond b (by_order (order_cmp r.cookie.order s.cookie.order) s r) (Err refusal.Overtaken) ≡ Ok ended.Applied
     → (order_cmp r.cookie.order s.cookie.order ≡ Greater) × (goes_back s.confirmed r.changes ≡ false)) [
       | true ↦ λ d. applied_by _ s r d
       | false ↦ λ d. absurd (other_end _ refl d)
     ] e
 
-applied : (s : State) (ticket : Bytes) (r : Pull) → end_reply s ticket (response.Ok r) ≡ Ok ended.Applied → (order_cmp r.cookie.order s.cookie.order ≡ Greater) × (goes_back s.confirmed r.changes ≡ false)
+applied : (s : State) (ticket : Bytes) (r : Pull) → end_reply s ticket (response.Ok r) ≡ Ok ended.Applied
+    → (order_cmp r.cookie.order s.cookie.order ≡ Greater) × (goes_back s.confirmed r.changes ≡ false)
 applied s ticket r e =
-    elim s.closed as (λ b. cond b (Err refusal.Closed) (end_at s ticket r) ≡ Ok ended.Applied → (order_cmp r.cookie.order s.cookie.order ≡ Greater) × (goes_back s.confirmed r.changes ≡ false)) [
+    elim s.closed as (λ b. cond b (Err refusal.Closed) (end_at s ticket r) ≡ Ok ended.Applied
+    → (order_cmp r.cookie.order s.cookie.order ≡ Greater) × (goes_back s.confirmed r.changes ≡ false)) [
       | true ↦ λ d. absurd (other_end _ refl d)
       | false ↦ λ d. applied_at s ticket r d
     ] e
@@ -94,11 +106,15 @@ done_at (refuses code) v i j e = absurd (other_reply _ j refl e)
 done_at (done n) v i j e = (refl, sym (ap (id_or i) e))
 
 abbrev IsDoneNext : Meanings → State → Mutation → Type 0
-IsDoneNext means s x = (meaning_of means x (view_of means s) ≡ done (left_by (meaning_of means x (view_of means s)) (view_of means s))) × (x.id ≡ last_id s x.client + 1)
+IsDoneNext means s x = (meaning_of means x (view_of means s)
+    ≡ done (left_by (meaning_of means x (view_of means s)) (view_of means s))) × (x.id ≡ last_id s x.client + 1)
 
-open_mutated : (means : Meanings) (s : State) (x : Mutation) → open_reply means s (last_id s x.client) x ≡ Ok x.id → IsDoneNext means s x
+open_mutated : (means : Meanings) (s : State) (x : Mutation) → open_reply means s (last_id s x.client) x ≡ Ok x.id
+    → IsDoneNext means s x
 open_mutated means s x e =
-    elim (nat_eq (last_id s x.client) (last_id s x.client)) as (λ b. cond b (by_meaning (meaning_of means x (view_of means s)) (last_id s x.client + 1)) (Err refusal.Stale) ≡ Ok x.id → IsDoneNext means s x) [
+    elim (nat_eq (last_id s x.client) (last_id s x.client)) as
+    (λ b. cond b (by_meaning (meaning_of means x (view_of means s)) (last_id s x.client + 1)) (Err refusal.Stale)
+    ≡ Ok x.id → IsDoneNext means s x) [
       | true ↦ λ d. done_at _ (view_of means s) _ x.id d
       | false ↦ λ d. absurd (other_reply _ x.id refl d)
     ] e
@@ -106,12 +122,14 @@ open_mutated means s x e =
 -- an accepted mutation is done at the view, and its id is the client's next one
 mutated : (means : Meanings) (s : State) (x : Mutation) → IsAccepted means s (Mutated x) → IsDoneNext means s x
 mutated means s x e =
-    elim s.closed as (λ b. cond b (Err refusal.Closed) (open_reply means s (last_id s x.client) x) ≡ Ok x.id → IsDoneNext means s x) [
+    elim s.closed as (λ b. cond b (Err refusal.Closed) (open_reply means s (last_id s x.client) x) ≡ Ok x.id
+    → IsDoneNext means s x) [
       | true ↦ λ d. absurd (other_reply _ x.id refl d)
       | false ↦ λ d. open_mutated means s x d
     ] e.0
 
-mutated_view : (means : Meanings) (s : State) (x : Mutation) → IsAccepted means s (Mutated x) → meaning_of means x (view_of means s) ≡ done (view_of means (after_mutate s x))
+mutated_view : (means : Meanings) (s : State) (x : Mutation) → IsAccepted means s (Mutated x)
+    → meaning_of means x (view_of means s) ≡ done (view_of means (after_mutate s x))
 mutated_view means s x e = (mutated means s x e).0 ∙ ap done (sym (replayed-append means s.pulled s.pending (x ∷ [])))
 
 -- THE GREATEST OF SOME NUMBERS
@@ -128,7 +146,8 @@ fold_max-push n (x ∷ xs) y = fold_max-push (max n x) xs y
 fold_max-filter : (k a b : ℕ) (xs : List ℕ) → a ≤ b → k ≤ b → fold max a xs ≤ fold max b (filter (λ i. nat_lt k i) xs)
 fold_max-filter k a b [] h l = h
 fold_max-filter k a b (x ∷ xs) h l =
-    elim (nat_lt k x) as (λ c. nat_lt k x ≡ c → fold max (max a x) xs ≤ fold max b (cond c (x ∷ filter (λ i. nat_lt k i) xs) (filter (λ i. nat_lt k i) xs))) [
+    elim (nat_lt k x) as (λ c. nat_lt k x ≡ c
+    → fold max (max a x) xs ≤ fold max b (cond c (x ∷ filter (λ i. nat_lt k i) xs) (filter (λ i. nat_lt k i) xs))) [
       | true ↦ λ e. fold_max-filter k (max a x) (max b x) xs (omega arith) (omega arith)
       | false ↦ λ e. fold_max-filter k (max a x) b xs (omega (arith, ltb-false k x e)) l
     ] refl
@@ -137,21 +156,28 @@ fold_max-filter k a b (x ∷ xs) h l =
 
 last_id-mutate : (s : State) (x : Mutation) (client : Bytes) → last_id s client ≤ last_id (after_mutate s x) client
 last_id-mutate s x client =
-    subst (λ is. last_id s client ≤ fold max (confirmed_id s.confirmed client) is) (sym (ids_of-append client s.pending (x ∷ [])))
-    (elim (same_text x.client client) as (λ b. last_id s client ≤ fold max (confirmed_id s.confirmed client) (ids_of client s.pending ++ map (λ (m : Mutation). m.id) (cond b (x ∷ []) []))) [
+    subst (λ is. last_id s client ≤ fold max (confirmed_id s.confirmed client) is)
+    (sym (ids_of-append client s.pending (x ∷ [])))
+    (elim (same_text x.client client) as (λ b. last_id s client
+    ≤ fold max (confirmed_id s.confirmed client)
+    (ids_of client s.pending ++ map (λ (m : Mutation). m.id) (cond b (x ∷ []) []))) [
       | true ↦ subst (λ n. last_id s client ≤ n) (sym (fold_max-push _ (ids_of client s.pending) x.id)) (omega arith)
-      | false ↦ subst (λ is. last_id s client ≤ fold max (confirmed_id s.confirmed client) is) (sym (append-nil (ids_of client s.pending))) (omega arith)
+      | false ↦ subst (λ is. last_id s client ≤ fold max (confirmed_id s.confirmed client) is)
+          (sym (append-nil (ids_of client s.pending))) (omega arith)
     ])
 
-last_id-made : (s : State) (x : Mutation) (client : Bytes) → same_text x.client client ≡ true → x.id ≤ last_id (after_mutate s x) client
+last_id-made : (s : State) (x : Mutation) (client : Bytes) → same_text x.client client ≡ true
+    → x.id ≤ last_id (after_mutate s x) client
 last_id-made s x client same =
     subst (λ is. x.id ≤ fold max (confirmed_id s.confirmed client) is) (sym (ids_of-append client s.pending (x ∷ [])))
     (rw same (subst (λ n. x.id ≤ n) (sym (fold_max-push _ (ids_of client s.pending) x.id)) (omega arith)))
 
-last_id-pull : (s : State) (r : Pull) (client : Bytes) → goes_back s.confirmed r.changes ≡ false → last_id s client ≤ last_id (after_pull s r) client
+last_id-pull : (s : State) (r : Pull) (client : Bytes) → goes_back s.confirmed r.changes ≡ false
+    → last_id s client ≤ last_id (after_pull s r) client
 last_id-pull s r client forward =
     let ids : Ids = overwritten s.confirmed r.changes in
-    let up : confirmed_id s.confirmed client ≤ confirmed_id ids client = overwritten-≥ s.confirmed r.changes forward s.confirmed (λ k. omega arith) client in
+    let up : confirmed_id s.confirmed client
+    ≤ confirmed_id ids client = overwritten-≥ s.confirmed r.changes forward s.confirmed (λ k. omega arith) client in
     subst (λ is. last_id s client ≤ fold max (confirmed_id ids client) is) (sym (ids_of-left ids client s.pending))
     (fold_max-filter (confirmed_id ids client) _ _ (ids_of client s.pending) up (omega arith))
 
@@ -175,24 +201,33 @@ module _ {K : Type 0} (R : K → K → Ordering) (total : IsTotalOrder R) where
   sorted-Rises n (x ∷ xs) rises = ((rises.0, all_above n x xs rises.0 rises.1), sorted-Rises x xs rises.1)
 
 -- from a number at most the client's last id on
-ids_above : (means : Meanings) (s : State) (cs : List Change) → AllAccepted means s cs → (client : Bytes) (n : ℕ) → n ≤ last_id s client → Rises nat_cmp nat_cmp_total n (ids_made client cs)
+ids_above : (means : Meanings) (s : State) (cs : List Change) → AllAccepted means s cs → (client : Bytes) (n : ℕ)
+    → n ≤ last_id s client → Rises nat_cmp nat_cmp_total n (ids_made client cs)
 ids_above means s [] all client n low = tt
 ids_above means s (Mutated x ∷ cs) all client n low =
-    elim (same_text x.client client) as (λ b. same_text x.client client ≡ b → Rises nat_cmp nat_cmp_total n (cond b (x.id ∷ ids_made client cs) (ids_made client cs))) [
+    elim (same_text x.client client) as (λ b. same_text x.client client ≡ b
+    → Rises nat_cmp nat_cmp_total n (cond b (x.id ∷ ids_made client cs) (ids_made client cs))) [
       | true ↦ λ e.
-          let is : x.id ≡ last_id s client + 1 = (mutated means s x all.0).1 ∙ ap (λ c. last_id s c + 1) ((bytes_eq-Decides x.client client).0 e) in
-          (sym (nat_cmp_is n x.id Less (omega arith)), ids_above means (after_mutate s x) cs all.1 client x.id (last_id-made s x client e))
+          let is : x.id ≡ last_id s client + 1 = (mutated means s x all.0).1 ∙ ap (λ c. last_id s c + 1)
+          ((bytes_eq-Decides x.client client).0 e) in (
+            sym (nat_cmp_is n x.id Less (omega arith)),
+            ids_above means (after_mutate s x) cs all.1 client x.id (last_id-made s x client e),
+          )
       | false ↦ λ e. ids_above means (after_mutate s x) cs all.1 client n (omega (arith, last_id-mutate s x client))
     ] refl
 ids_above means s (Pulled ticket r ∷ cs) all client n low =
-    ids_above means (after_pull s r) cs all.1 client n (omega (arith, last_id-pull s r client (applied s ticket.text r all.0.0).1))
+    ids_above means (after_pull s r) cs all.1 client n
+    (omega (arith, last_id-pull s r client (applied s ticket.text r all.0.0).1))
 ids_above means s (Closed ∷ cs) all client n low = ids_above means (after_closing s) cs all.1 client n low
 
-orders_above : (means : Meanings) (s : State) (cs : List Change) → AllAccepted means s cs → Rises order_cmp order_cmp_total s.cookie.order (orders_of cs)
+orders_above : (means : Meanings) (s : State) (cs : List Change) → AllAccepted means s cs
+    → Rises order_cmp order_cmp_total s.cookie.order (orders_of cs)
 orders_above means s [] all = tt
 orders_above means s (Mutated x ∷ cs) all = orders_above means (after_mutate s x) cs all.1
-orders_above means s (Pulled ticket r ∷ cs) all =
-    (order_cmp_total.antisymm s.cookie.order r.cookie.order ∙ ap ordering_reverse (applied s ticket.text r all.0.0).0, orders_above means (after_pull s r) cs all.1)
+orders_above means s (Pulled ticket r ∷ cs) all = (
+  order_cmp_total.antisymm s.cookie.order r.cookie.order ∙ ap ordering_reverse (applied s ticket.text r all.0.0).0,
+  orders_above means (after_pull s r) cs all.1,
+)
 orders_above means s (Closed ∷ cs) all = orders_above means (after_closing s) cs all.1
 
 -- WHAT STAYS PENDING
@@ -215,12 +250,16 @@ length-IsPart {A} p (x ∷ xs) =
 
 -- IDS FOLLOW, AND FIT
 
-follow-all : (means : Meanings) (s : State) (cs : List Change) → AllAccepted means s cs → IdsFollow s.confirmed s.pending → IdsFollow (after_all s cs).confirmed (after_all s cs).pending
+follow-all : (means : Meanings) (s : State) (cs : List Change) → AllAccepted means s cs
+    → IdsFollow s.confirmed s.pending → IdsFollow (after_all s cs).confirmed (after_all s cs).pending
 follow-all means s [] all ok = ok
 follow-all means s (Mutated x ∷ cs) all ok =
-    follow-all means (after_mutate s x) cs all.1 (after_mutate-IdsFollow s.confirmed s.pending x ok (mutated means s x all.0).1)
+    follow-all means (after_mutate s x) cs all.1
+    (after_mutate-IdsFollow s.confirmed s.pending x ok (mutated means s x all.0).1)
 follow-all means s (Pulled ticket r ∷ cs) all ok =
-    follow-all means (after_pull s r) cs all.1 (after_pull-IdsFollow s.confirmed r.changes s.pending ok (applied s ticket.text r all.0.0).1 (recursion_from_All _ r.changes all.0.1))
+    follow-all means (after_pull s r) cs all.1
+    (after_pull-IdsFollow s.confirmed r.changes s.pending ok (applied s ticket.text r all.0.0).1
+    (recursion_from_All _ r.changes all.0.1))
 follow-all means s (Closed ∷ cs) all ok = follow-all means (after_closing s) cs all.1 ok
 
 opening_follows : IdsFollow opening.confirmed opening.pending
@@ -228,33 +267,50 @@ opening_follows = new_follows
 
 length-pending : (s : State) (cs : List Change) → length (after_all s cs).pending ≤ length s.pending + length cs
 length-pending s [] = omega arith
-length-pending s (Mutated x ∷ cs) = omega (arith, length-pending (after_mutate s x) cs, length-append s.pending (x ∷ []))
+length-pending s (Mutated x ∷ cs) = omega
+    (arith, length-pending (after_mutate s x) cs, length-append s.pending (x ∷ []))
 length-pending s (Pulled ticket r ∷ cs) =
     let ids : Ids = overwritten s.confirmed r.changes in
-    omega (arith, length-pending (after_pull s r) cs, length-map (unconfirmed ids s.pending) rebased, length-IsPart (λ (x : Mutation). nat_lt (confirmed_id ids x.client) x.id) s.pending)
+    omega (
+      arith,
+      length-pending (after_pull s r) cs,
+      length-map (unconfirmed ids s.pending) rebased,
+      length-IsPart (λ (x : Mutation). nat_lt (confirmed_id ids x.client) x.id) s.pending,
+    )
 length-pending s (Closed ∷ cs) = omega (arith, length-pending (after_closing s) cs)
 
-ids_fit : (means : Meanings) (cs : List Change) → IsLegal means cs → (client : Bytes) → last_id (after cs) client ≤ 2 ^ 52 + length cs
+ids_fit : (means : Meanings) (cs : List Change) → IsLegal means cs → (client : Bytes)
+    → last_id (after cs) client ≤ 2 ^ 52 + length cs
 ids_fit means cs legal client =
-    omega (arith, last_id-≤ (after cs).confirmed (after cs).pending client (follow-all means opening cs legal opening_follows), length-pending opening cs)
+    omega (
+      arith,
+      last_id-≤ (after cs).confirmed (after cs).pending client
+          (follow-all means opening cs legal opening_follows),
+      length-pending opening cs,
+    )
 
 still_unconfirmed : (ids : Ids) (xs : List Mutation) → All (λ x. confirmed_id ids x.client < x.id) (left_pending ids xs)
 still_unconfirmed ids xs =
     let above : Mutation → Bool = λ x. nat_lt (confirmed_id ids x.client) x.id in
     All-map (λ (x : Mutation). confirmed_id ids x.client < x.id) rebased (unconfirmed ids xs)
-    (All-weaker (λ x. above x ≡ true) (λ x. confirmed_id ids x.client < x.id) (λ x e. ltb-true (confirmed_id ids x.client) x.id e) (unconfirmed ids xs) (filter_passes above xs))
+    (All-weaker (λ x. above x ≡ true) (λ x. confirmed_id ids x.client < x.id)
+    (λ x e. ltb-true (confirmed_id ids x.client) x.id e) (unconfirmed ids xs) (filter_passes above xs))
 
 -- AGREEMENT
 
-none_left : (ids : Ids) (xs : List Mutation) → AllByRecursion (λ x. x.id ≤ confirmed_id ids x.client) xs → left_pending ids xs ≡ []
+none_left : (ids : Ids) (xs : List Mutation) → AllByRecursion (λ x. x.id ≤ confirmed_id ids x.client) xs
+    → left_pending ids xs ≡ []
 none_left ids [] all = refl
 none_left ids (x ∷ xs) all =
-    elim (nat_lt (confirmed_id ids x.client) x.id) as (λ b. nat_lt (confirmed_id ids x.client) x.id ≡ b → map rebased (cond b (x ∷ unconfirmed ids xs) (unconfirmed ids xs)) ≡ []) [
+    elim (nat_lt (confirmed_id ids x.client) x.id) as
+    (λ b. nat_lt (confirmed_id ids x.client) x.id ≡ b
+    → map rebased (cond b (x ∷ unconfirmed ids xs) (unconfirmed ids xs)) ≡ []) [
       | true ↦ λ e. absurd (omega (arith, ltb-true (confirmed_id ids x.client) x.id e, all.0))
       | false ↦ λ e. none_left ids xs all.1
     ] refl
 
-agreement : (means : Meanings) (s : State) (r : Pull) → All (λ x. x.id ≤ confirmed_id (overwritten s.confirmed r.changes) x.client) s.pending
+agreement : (means : Meanings) (s : State) (r : Pull)
+    → All (λ x. x.id ≤ confirmed_id (overwritten s.confirmed r.changes) x.client) s.pending
     → ((after_pull s r).pending ≡ []) × (view_of means (after_pull s r) ≡ patched s.pulled r.patch)
 agreement means s r all =
     let none = none_left (overwritten s.confirmed r.changes) s.pending (recursion_from_All _ s.pending all) in
@@ -273,37 +329,53 @@ among-last : (x : Mutation) (xs : List Mutation) → IsAmong x (xs ++ x ∷ [])
 among-last x [] = inl refl
 among-last x (z ∷ xs) = inr (among-last x xs)
 
-among-pull : (ids : Ids) (x : Mutation) (xs : List Mutation) → confirmed_id ids x.client < x.id → IsAmong x xs → IsAmong x (left_pending ids xs)
+among-pull : (ids : Ids) (x : Mutation) (xs : List Mutation) → confirmed_id ids x.client < x.id → IsAmong x xs
+    → IsAmong x (left_pending ids xs)
 among-pull ids x [] above h = absurd h
 among-pull ids x (z ∷ xs) above h =
-    elim (nat_lt (confirmed_id ids z.client) z.id) as (λ b. nat_lt (confirmed_id ids z.client) z.id ≡ b → IsAmong x (map rebased (cond b (z ∷ unconfirmed ids xs) (unconfirmed ids xs)))) [
+    elim (nat_lt (confirmed_id ids z.client) z.id) as
+    (λ b. nat_lt (confirmed_id ids z.client) z.id ≡ b
+    → IsAmong x (map rebased (cond b (z ∷ unconfirmed ids xs) (unconfirmed ids xs)))) [
       | true ↦ λ e. elim h [ inl is ↦ inl is | inr r ↦ inr (among-pull ids x xs above r) ]
       | false ↦ λ e. elim h [
         | inl is ↦
             let client : z.client ≡ x.client = ap (λ (m : Mutation). m.client) is in
             let id : z.id ≡ x.id = ap (λ (m : Mutation). m.id) is in
-            absurd (omega (arith, above, id, ltb-false (confirmed_id ids z.client) z.id e, ap (λ c. confirmed_id ids c) client))
+            absurd (omega (
+              arith,
+              above,
+              id,
+              ltb-false (confirmed_id ids z.client) z.id e,
+              ap (λ c. confirmed_id ids c) client,
+            ))
         | inr r ↦ among-pull ids x xs above r
       ]
     ] refl
 
-known-pull : (s : State) (x : Mutation) (r : Pull) → goes_back s.confirmed r.changes ≡ false → IsKnown x s → IsKnown x (after_pull s r)
+known-pull : (s : State) (x : Mutation) (r : Pull) → goes_back s.confirmed r.changes ≡ false → IsKnown x s
+    → IsKnown x (after_pull s r)
 known-pull s x r forward h =
     let ids : Ids = overwritten s.confirmed r.changes in
-    let up : confirmed_id s.confirmed x.client ≤ confirmed_id ids x.client = overwritten-≥ s.confirmed r.changes forward s.confirmed (λ k. omega arith) x.client in
+    let up : confirmed_id s.confirmed x.client
+    ≤ confirmed_id ids x.client = overwritten-≥ s.confirmed r.changes forward s.confirmed
+    (λ k. omega arith) x.client in
     elim h [
-      | inl is ↦ elim (nat_lt (confirmed_id ids x.client) x.id) as (λ b. nat_lt (confirmed_id ids x.client) x.id ≡ b → IsKnown x (after_pull s r)) [
-        | true ↦ λ e. inl (among-pull ids x s.pending (ltb-true (confirmed_id ids x.client) x.id e) is)
-        | false ↦ λ e. inr (ltb-false (confirmed_id ids x.client) x.id e)
-      ] refl
+      | inl is ↦ elim (nat_lt (confirmed_id ids x.client) x.id) as
+          (λ b. nat_lt (confirmed_id ids x.client) x.id ≡ b → IsKnown x (after_pull s r)) [
+            | true ↦ λ e. inl (among-pull ids x s.pending (ltb-true (confirmed_id ids x.client) x.id e) is)
+            | false ↦ λ e. inr (ltb-false (confirmed_id ids x.client) x.id e)
+          ] refl
       | inr low ↦ inr (omega (arith, low, up))
     ]
 
-known-all : (means : Meanings) (s : State) (x : Mutation) (cs : List Change) → AllAccepted means s cs → IsKnown x s → IsKnown x (after_all s cs)
+known-all : (means : Meanings) (s : State) (x : Mutation) (cs : List Change) → AllAccepted means s cs → IsKnown x s
+    → IsKnown x (after_all s cs)
 known-all means s x [] all h = h
 known-all means s x (Mutated y ∷ cs) all h =
-    known-all means (after_mutate s y) x cs all.1 (elim h [ inl is ↦ inl (among-left x s.pending (y ∷ []) is) | inr low ↦ inr low ])
-known-all means s x (Pulled ticket r ∷ cs) all h = known-all means (after_pull s r) x cs all.1 (known-pull s x r (applied s ticket.text r all.0.0).1 h)
+    known-all means (after_mutate s y) x cs all.1
+    (elim h [ inl is ↦ inl (among-left x s.pending (y ∷ []) is) | inr low ↦ inr low ])
+known-all means s x (Pulled ticket r ∷ cs) all h = known-all means (after_pull s r) x cs all.1
+    (known-pull s x r (applied s ticket.text r all.0.0).1 h)
 known-all means s x (Closed ∷ cs) all h = known-all means (after_closing s) x cs all.1 h
 
 -- TICKETS STAY GOOD
@@ -324,35 +396,47 @@ same_cookie s (Closed ∷ cs) none = same_cookie (after_closing s) cs none
 
 by_order-good : (o : Ordering) (s : State) (r : Pull) → says_overtaken (by_order o s r) ≡ false
 by_order-good Less s r = refl
-by_order-good Equal s r = elim (says_nothing s.cookie r) as (λ b. says_overtaken (cond b (Ok ended.Same) (Err refusal.CookieNotNew)) ≡ false) [ true ↦ refl | false ↦ refl ]
-by_order-good Greater s r = elim (goes_back s.confirmed r.changes) as (λ b. says_overtaken (cond b (Err refusal.IdWentBack) (Ok ended.Applied)) ≡ false) [ true ↦ refl | false ↦ refl ]
+by_order-good Equal s r = elim (says_nothing s.cookie r) as
+    (λ b. says_overtaken (cond b (Ok ended.Same) (Err refusal.CookieNotNew)) ≡ false) [ true ↦ refl | false ↦ refl ]
+by_order-good Greater s r = elim (goes_back s.confirmed r.changes) as
+    (λ b. says_overtaken (cond b (Err refusal.IdWentBack) (Ok ended.Applied)) ≡ false) [ true ↦ refl | false ↦ refl ]
 
-open_end-good : (s : State) (ticket : Bytes) (r : Response) → ticket ≡ s.cookie.text → says_overtaken (open_end_reply s ticket r) ≡ false
+open_end-good : (s : State) (ticket : Bytes) (r : Response) → ticket ≡ s.cookie.text
+    → says_overtaken (open_end_reply s ticket r) ≡ false
 open_end-good s ticket (response.Ok r) is =
-    rw ((bytes_eq-Decides s.cookie.text ticket).1 (sym is)) (by_order-good (order_cmp r.cookie.order s.cookie.order) s r)
+    rw ((bytes_eq-Decides s.cookie.text ticket).1 (sym is))
+    (by_order-good (order_cmp r.cookie.order s.cookie.order) s r)
 open_end-good s ticket response.StateNotFound is = refl
 open_end-good s ticket (response.VersionNotSupported kind) is = refl
 
-end-good : (s : State) (ticket : Bytes) (r : Response) → ticket ≡ s.cookie.text → says_overtaken (end_reply s ticket r) ≡ false
+end-good : (s : State) (ticket : Bytes) (r : Response) → ticket ≡ s.cookie.text
+    → says_overtaken (end_reply s ticket r) ≡ false
 end-good s ticket r is =
-    elim s.closed as (λ b. says_overtaken (cond b (Err refusal.Closed) (open_end_reply s ticket r)) ≡ false) [ true ↦ refl | false ↦ open_end-good s ticket r is ]
+    elim s.closed as (λ b. says_overtaken (cond b (Err refusal.Closed) (open_end_reply s ticket r)) ≡ false)
+    [ true ↦ refl | false ↦ open_end-good s ticket r is ]
 
-ticket_good : (s : State) (cs : List Change) (r : Response) → orders_of cs ≡ [] → end_reply (after_all s cs) s.cookie.text r ≡ Err refusal.Overtaken → ⊥
+ticket_good : (s : State) (cs : List Change) (r : Response) → orders_of cs ≡ []
+    → end_reply (after_all s cs) s.cookie.text r ≡ Err refusal.Overtaken → ⊥
 ticket_good s cs r none e =
-    true≢false (sym (ap says_overtaken e) ∙ end-good (after_all s cs) s.cookie.text r (sym (ap (λ (c : Cookie). c.text) (same_cookie s cs none))))
+    true≢false (sym (ap says_overtaken e) ∙ end-good (after_all s cs) s.cookie.text r
+    (sym (ap (λ (c : Cookie). c.text) (same_cookie s cs none))))
 
 -- CLOSED FOR GOOD
 
 closed_reply : (s : State) (ticket : Bytes) (r : Response) → s.closed ≡ true → end_reply s ticket r ≡ Err refusal.Closed
 closed_reply s ticket r closed = ap (λ b. cond b (Err refusal.Closed) (open_end_reply s ticket r)) closed
 
-closing_reply : (s : State) (ticket : Bytes) → s.closed ≡ false → end_reply s ticket response.StateNotFound ≡ Err refusal.StateNotFound
-closing_reply s ticket is_open = ap (λ b. cond b (Err refusal.Closed) (open_end_reply s ticket response.StateNotFound)) is_open
+closing_reply : (s : State) (ticket : Bytes) → s.closed ≡ false
+    → end_reply s ticket response.StateNotFound ≡ Err refusal.StateNotFound
+closing_reply s ticket is_open = ap (λ b. cond b (Err refusal.Closed)
+    (open_end_reply s ticket response.StateNotFound)) is_open
 
 closed_final : (means : Meanings) (s : State) (c : Change) → s.closed ≡ true → IsAccepted means s c → ⊥
 closed_final means s (Mutated x) closed is =
-    other_reply _ x.id refl (sym (ap (λ b. cond b (Err refusal.Closed) (open_reply means s (last_id s x.client) x)) closed) ∙ is.0)
-closed_final means s (Pulled ticket r) closed is = other_end _ refl (sym (closed_reply s ticket.text (response.Ok r) closed) ∙ is.0)
+    other_reply _ x.id refl (sym (ap (λ b. cond b (Err refusal.Closed)
+    (open_reply means s (last_id s x.client) x)) closed) ∙ is.0)
+closed_final means s (Pulled ticket r) closed is = other_end _ refl
+    (sym (closed_reply s ticket.text (response.Ok r) closed) ∙ is.0)
 closed_final means s Closed closed is = true≢false (sym closed ∙ is)
 
 closing_last : (means : Meanings) (s : State) (cs ds : List Change) → AllAccepted means s (cs ++ Closed ∷ ds) → ds ≡ []
@@ -376,9 +460,11 @@ refused_end s response.StateNotFound e other = left_otherwise s e other
 
 pub record_laws_hold : (means : Meanings) → RecordLaws means
 record_laws_hold means = record {
-  ids_rise = λ s cs all client. sorted-Rises nat_cmp nat_cmp_total (last_id s client) (ids_made client cs) (ids_above means s cs all client (last_id s client) (omega arith));
+  ids_rise = λ s cs all client. sorted-Rises nat_cmp nat_cmp_total (last_id s client) (ids_made client cs)
+      (ids_above means s cs all client (last_id s client) (omega arith));
   last_above_confirmed = λ s client. fold_max-≥ (confirmed_id s.confirmed client) (ids_of client s.pending);
-  cookies_rise = λ s cs all. sorted-Rises order_cmp order_cmp_total s.cookie.order (orders_of cs) (orders_above means s cs all);
+  cookies_rise = λ s cs all. sorted-Rises order_cmp order_cmp_total s.cookie.order (orders_of cs)
+      (orders_above means s cs all);
   mutated_view = mutated_view means;
   refused_mutation = λ s x e. refl;
   refused_end = refused_end;

@@ -7,7 +7,8 @@ use Rattle.group_history.specs.Meaning.{Meaning, Meanings, unknown, refuses, don
 use Rattle.group_history.specs.State.{replayed, replayed_once}
 use Rattle.group_history.specs.Mutating.{map_of}
 
-pub replayed-append : (means : Meanings) (m : Entries) (xs ys : List Mutation) → replayed means m (xs ++ ys) ≡ replayed means (replayed means m xs) ys
+pub replayed-append : (means : Meanings) (m : Entries) (xs ys : List Mutation)
+    → replayed means m (xs ++ ys) ≡ replayed means (replayed means m xs) ys
 replayed-append means m [] ys = refl
 replayed-append means m (x ∷ xs) ys = replayed-append means (replayed_once means m x) xs ys
 
@@ -19,7 +20,8 @@ left_of_done (done n) m left e = cc
 
 -- the map that a mutation leaves of what is shown is what is shown with it at the end
 pub shown_with : (means : Meanings) (m : Entries) (xs ys : List Mutation) (x : Mutation) (shown left : Entries)
-    → map_of (meaning_of means x shown) ≡ Ok left → ys ≡ xs ++ x ∷ [] → shown ≡ replayed means m xs → left ≡ replayed means m ys
+    → map_of (meaning_of means x shown) ≡ Ok left → ys ≡ xs ++ x ∷ [] → shown ≡ replayed means m xs
+    → left ≡ replayed means m ys
 shown_with means m xs ys x shown left leaves more is =
     left_of_done (meaning_of means x shown) shown left leaves
     ∙ (λ i. left_by (meaning_of means x (is i)) (is i))

@@ -12,7 +12,8 @@ use Rattle.group_history.specs.Examples.{WorkedExamples, order_at}
 use Rattle.group_history.proofs.TextMaps.{entries-empty}
 
 cookies_read :
-    (order_at (codes "7") ≡ Some (order.Number (pos 7))) × (order_at (codes "\"1\"") ≡ Some (order.Text (codes "1"))) × (order_at (codes "{\"order\":\"1\"}") ≡ Some (order.Text (codes "1")))
+    (order_at (codes "7") ≡ Some (order.Number (pos 7))) × (order_at (codes "\"1\"") ≡ Some (order.Text (codes "1")))
+    × (order_at (codes "{\"order\":\"1\"}") ≡ Some (order.Text (codes "1")))
 unfolding cookie_at cookie_of reading is_utf8 chars serde_json_on_literals
 cookies_read = (refl, refl, refl)
 

@@ -1,6 +1,7 @@
 -- Cookies, and their order.
 -- Source: Pull Endpoint Reference, "cookie"; the order is this project's own rule.
-use Rattle.std.specs.Prelude.{nat_le, codes, if◌then◌else◌, Option, Some, None, Result, Ok, Err, option_and_then, option_map}
+use Rattle.std.specs.Prelude.{nat_le, codes, if◌then◌else◌, Option, Some, None, Result, Ok, Err, option_and_then}
+use Rattle.std.specs.Prelude.{option_map}
 use Rattle.std.specs.Ordering.{nat_cmp, int_cmp}
 use Rattle.std.specs.Cmp.Lexicographic.{slice_cmp}
 use Rattle.std.specs.declared.cmp.Ordering.{Ordering}

@@ -24,7 +24,8 @@ map_of (done m) = Ok m
 -- the reply at an open state
 abbrev pub open_reply : Meanings → State → ℕ → Mutation → Result ℕ Refusal
 open_reply means s last x =
-    if nat_eq (last_id s x.client) last then by_meaning (meaning_of means x (view_of means s)) (last + 1) else Err refusal.Stale
+    if nat_eq (last_id s x.client) last then by_meaning (meaning_of means x (view_of means s))
+    (last + 1) else Err refusal.Stale
 
 -- The reply to a mutation by a client whose own last id is `last`: the next id, where the mutator is done at the view.
 abbrev pub mutate_reply : Meanings → State → ℕ → Mutation → Result ℕ Refusal

@@ -65,6 +65,7 @@ child_stamp first (Drafted place) = first + place
 abbrev pub drafted_content : ℕ → Node Child → Node ℕ
 drafted_content first n = renamed (child_stamp first) n
 
--- the reference of a child of a drafted node, where the draft's nodes, with stamps from `from` on, were placed at these references
+-- the reference of a child of a drafted node, where the draft's nodes, with stamps from `from` on, were placed at these
+-- references
 abbrev pub placed_ref : ℕ → List Ref → Ref → Ref
 placed_ref from refs at = cond (nat_lt (stamp_of at) from) at (slice_index_or refs (stamp_of at - from) at)

@@ -1,7 +1,8 @@
 -- Ending a pull: what the call answers, and the state after it.
 -- Source: Pull Endpoint Reference; Replicache, How It Works, "Pull" and "Rebase". The refusals but the
 -- response's own are this project's own rules.
-use Rattle.std.specs.Prelude.{Bool, true, List, [], ◌∷◌, map, filter, length, nat_lt, ◌==◌, ◌&&◌, if◌then◌else◌, Result, Ok, Err}
+use Rattle.std.specs.Prelude.{Bool, true, List, [], ◌∷◌, map, filter, length, nat_lt, ◌==◌, ◌&&◌, if◌then◌else◌, Result}
+use Rattle.std.specs.Prelude.{Ok, Err}
 use Rattle.std.specs.List.{list_any}
 use Rattle.std.specs.declared.cmp.Ordering.{Ordering}
 use Rattle.std.specs.declared.cmp.Ordering.TheVariants.{Less, Equal, Greater}
@@ -35,7 +36,8 @@ by_order Greater s r = if goes_back s.confirmed r.changes then Err refusal.IdWen
 
 -- the reply to a response without an error: a ticket is good only while the group's cookie text is its own
 abbrev pub end_at : State → Bytes → Pull → Result Ended Refusal
-end_at s ticket r = if same_text s.cookie.text ticket then by_order (order_cmp r.cookie.order s.cookie.order) s r else Err refusal.Overtaken
+end_at s ticket r = if same_text s.cookie.text ticket then by_order
+    (order_cmp r.cookie.order s.cookie.order) s r else Err refusal.Overtaken
 
 -- the reply at an open state: an error response is refused as it says, whatever the ticket
 abbrev pub open_end_reply : State → Bytes → Response → Result Ended Refusal

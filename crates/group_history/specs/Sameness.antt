@@ -1,4 +1,5 @@
--- When two responses say the same. Source: Pull Endpoint Reference; that texts are compared byte by byte is this project's own rule.
+-- When two responses say the same. Source: Pull Endpoint Reference; that texts are compared byte by byte is this
+-- project's own rule.
 use Rattle.std.specs.Prelude.{nat_eq, Bool, List, [], ◌∷◌}
 use Rattle.std.specs.Cmp.{IsEquivalence, on_equiv, and_equiv, nat_eq_equiv}
 use Rattle.std.specs.Ordering.{on, eq_of_both}
@@ -25,14 +26,17 @@ same_patch = on parts_of (pointwise same_text)
 
 -- one cookie text, the same ids and the same operations, in order
 abbrev pub same_pull : Pull → Pull → Bool
-same_pull = eq_of_both (on (λ p. p.cookie.text) same_text) (eq_of_both (on (λ p. p.changes) (pointwise same_confirmed)) (on (λ p. p.patch) (pointwise same_patch)))
+same_pull = eq_of_both (on (λ p. p.cookie.text) same_text)
+    (eq_of_both (on (λ p. p.changes) (pointwise same_confirmed)) (on (λ p. p.patch) (pointwise same_patch)))
 
 pub same_confirmed-equiv : IsEquivalence same_confirmed
-same_confirmed-equiv = and_equiv (on_equiv (λ (c : Confirmed). c.client) nat_list_eq_equiv) (on_equiv (λ (c : Confirmed). c.id) nat_eq_equiv)
+same_confirmed-equiv = and_equiv (on_equiv (λ (c : Confirmed). c.client) nat_list_eq_equiv)
+    (on_equiv (λ (c : Confirmed). c.id) nat_eq_equiv)
 
 pub same_patch-equiv : IsEquivalence same_patch
 same_patch-equiv = on_equiv parts_of (lists_equiv nat_list_eq_equiv)
 
 pub same_pull-equiv : IsEquivalence same_pull
 same_pull-equiv = and_equiv (on_equiv (λ (p : Pull). p.cookie.text) nat_list_eq_equiv)
-    (and_equiv (on_equiv (λ (p : Pull). p.changes) (lists_equiv same_confirmed-equiv)) (on_equiv (λ (p : Pull). p.patch) (lists_equiv same_patch-equiv)))
+    (and_equiv (on_equiv (λ (p : Pull). p.changes) (lists_equiv same_confirmed-equiv))
+    (on_equiv (λ (p : Pull). p.patch) (lists_equiv same_patch-equiv)))

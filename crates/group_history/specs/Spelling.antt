@@ -1,6 +1,7 @@
 -- What contents spell together: chunks a map's rows, commits a state and the map that queries read.
 -- Source: Replicache, How It Works, "The Client View"; that maps are kept in chunks is this project's own rule.
-use Rattle.std.specs.Prelude.{ℕ, ◌+◌, nat_le, ◌==◌, Bool, false, List, [], ◌∷◌, ◌++◌, map, length, if◌then◌else◌, Some, None, Option, option_and_then, option_map, ◌≡◌}
+use Rattle.std.specs.Prelude.{ℕ, ◌+◌, nat_le, ◌==◌, Bool, false, List, [], ◌∷◌, ◌++◌, map, length, if◌then◌else◌, Some}
+use Rattle.std.specs.Prelude.{None, Option, option_and_then, option_map, ◌≡◌}
 use Rattle.std.specs.Ordering.{nat_cmp}
 use Rattle.std.specs.Cmp.Lexicographic.{slice_cmp}
 use Rattle.std.specs.FinMap as finite
@@ -93,7 +94,8 @@ sized entries depth rows = if nat_le entries 16 then Some (record { depth = dept
 abbrev pub inner_in : List (Option Spelled) → List (Bytes × ℕ) → Option Segment
 inner_in done [] = None
 inner_in done (e ∷ es) = option_and_then (λ s.
-    option_and_then (sized (length (e ∷ es)) (s.depth + 1)) (joined_rows (map (λ x. (x.0, rows_in done s.depth x.1)) (e ∷ es))))
+    option_and_then (sized (length (e ∷ es)) (s.depth + 1))
+    (joined_rows (map (λ x. (x.0, rows_in done s.depth x.1)) (e ∷ es))))
     (segment_in done e.1)
 
 abbrev pub chunk_in : List (Option Spelled) → Chunk ℕ → Option Segment
@@ -109,7 +111,8 @@ map_in done root = option_and_then map_of (segment_in done root)
 
 -- what a basis spells, if its chain begins at this snapshot
 abbrev pub basis_in : List (Option Spelled) → ℕ → ℕ → Option Version
-basis_in done basis snapshot = option_and_then (λ k. if k == snapshot then version_in done basis else None) (snapshot_in done basis)
+basis_in done basis snapshot = option_and_then (λ k. if k == snapshot then version_in done basis else None)
+    (snapshot_in done basis)
 
 -- the state after what a commit adds to its basis
 abbrev pub stepped : State → Step → State
@@ -127,7 +130,8 @@ state_in done (Over o) m = option_and_then (state_over o.step) (basis_in done o.
 
 -- a commit spells that state, and the map of its root for queries
 abbrev pub commit_in : List (Option Spelled) → Commit ℕ → Option Version
-commit_in done c = option_and_then (λ m. option_map (λ s. record { state = s; read = m }) (state_in done c.kind m)) (map_in done c.root)
+commit_in done c = option_and_then (λ m. option_map (λ s. record { state = s; read = m }) (state_in done c.kind m))
+    (map_in done c.root)
 
 -- the snapshot of a commit's chain; a snapshot of this stamp begins one
 abbrev pub snapshot_of : ℕ → Kind ℕ → ℕ

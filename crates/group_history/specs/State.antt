@@ -31,7 +31,8 @@ pub record State : Type 0 where
 
 -- the state of these parts
 abbrev pub state : Entries → Cookie → Ids → List Mutation → Bool → State
-state pulled cookie confirmed pending closed = record { pulled = pulled; cookie = cookie; confirmed = confirmed; pending = pending; closed = closed }
+state pulled cookie confirmed pending closed =
+    record { pulled = pulled; cookie = cookie; confirmed = confirmed; pending = pending; closed = closed }
 
 -- a state with nothing pending
 abbrev pub pulled_state : Entries → Cookie → Ids → State
@@ -43,11 +44,25 @@ opening = pulled_state finite.empty null_cookie finite.empty
 
 -- a mutation as its client makes it
 abbrev pub made : Bytes → ℕ → Bytes → Bytes → ℕ → Mutation
-made client id name args time = record { client = client; id = id; name = name; args = args; timestamp = time; reason = Initial }
+made client id name args time = record {
+  client = client;
+  id = id;
+  name = name;
+  args = args;
+  timestamp = time;
+  reason = Initial;
+}
 
 -- a mutation as an applied pull leaves it
 abbrev pub rebased : Mutation → Mutation
-rebased x = record { client = x.client; id = x.id; name = x.name; args = x.args; timestamp = x.timestamp; reason = Rebase }
+rebased x = record {
+  client = x.client;
+  id = x.id;
+  name = x.name;
+  args = x.args;
+  timestamp = x.timestamp;
+  reason = Rebase;
+}
 
 -- the map after one mutation is replayed on it
 abbrev pub replayed_once : Meanings → Entries → Mutation → Entries

@@ -12,6 +12,8 @@ ghost use Rattle.group_history.specs.declared.refusals.Refusal.TheVariants as re
 ghost use Rattle.group_history.specs.Answers.{AnswersSeen, Answers};
 ghost use Rattle.group_history.specs.Json.{reading, json_text, text_of};
 
+mod compact;
+
 use crate::refusals::Refusal;
 use crate::texts::Text;
 use serde_json::{Map, Value};

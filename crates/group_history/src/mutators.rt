@@ -103,6 +103,7 @@ pub trait Mutators: Means + Sync {
         why: Reason,
         view: &mut V,
     ) -> Result<Ran, Stop>
-        ensures ran { IfOk result (λ ran. RunsAs (Self.means name.now args.now why (V.contents view.old)) ran (V.contents view.new)) }
+        ensures ran { IfOk result (λ ran. RunsAs (Self.means name.now args.now why (V.contents view.old)) ran
+            (V.contents view.new)) }
         ensures stopped { IfErr result (λ stop. (stop ≡ NoMemory) ⊎ V.stops stop) };
 }

@@ -52,7 +52,11 @@ impl<M: Mutators> Model for PlainGroup<M> {
 
     ghost Value = { State };
 
-    ghost coded = { Prim.hlevel (codes, finite.code {R = slice_cmp nat_cmp} (coded_list coded_ℕ) (coded_list coded_ℕ), finite.code {R = slice_cmp nat_cmp} (coded_list coded_ℕ) coded_ℕ) };
+    ghost coded = { Prim.hlevel (
+      codes,
+      finite.code {R = slice_cmp nat_cmp} (coded_list coded_ℕ) (coded_list coded_ℕ),
+      finite.code {R = slice_cmp nat_cmp} (coded_list coded_ℕ) coded_ℕ,
+    ) };
 
     ghost view = { λ g. state g.pulled g.cookie g.confirmed g.pending.items g.closed };
 
@@ -234,7 +238,8 @@ impl<M: Mutators> PlainGroup<M> {
         args: &Json,
         time: u64,
     ) -> Result<u64, Refusal>
-        ensures answer { Answers result (mutate_reply M.means self.old last (made client.now (last + 1) name.now args.now time)) }
+        ensures answer { Answers result (mutate_reply M.means self.old last
+            (made client.now (last + 1) name.now args.now time)) }
         ensures left { self.new ≡ left_by_mutate result self.old (made client.now (last + 1) name.now args.now time) }
     {
         if self.closed {
@@ -252,7 +257,8 @@ impl<M: Mutators> PlainGroup<M> {
     // Adds the client's next mutation, unless its mutator refuses or isn't known.
     fn accept(&mut self, mutators: &M, mutation: Mutation) -> Result<(), Refusal>
         requires { mutation.id ≡ last_id self.old mutation.client + 1 }
-        ensures done { OnOk result (map_of (meaning_of M.means mutation (view_of M.means self.old)) ≡ Ok (view_of M.means self.new)) }
+        ensures done { OnOk result (map_of (meaning_of M.means mutation (view_of M.means self.old))
+            ≡ Ok (view_of M.means self.new)) }
         ensures ok { OnOk result (self.new ≡ after_mutate self.old mutation) }
         ensures err { OnErr result (self.new ≡ self.old) }
         ensures why { IfErr result (λ e. Refuses e (map_of (meaning_of M.means mutation (view_of M.means self.old)))) }

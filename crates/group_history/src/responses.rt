@@ -1,7 +1,8 @@
 //! What a pull's response says, and how its end is answered.
 ghost use Rattle.std.specs.Prelude.{◌≡◌};
 ghost use Rattle.std.specs.Cmp as laws;
-ghost use Rattle.group_history.specs.Sameness.{same_confirmed, same_confirmed-equiv, same_patch, same_patch-equiv, same_pull, same_pull-equiv};
+ghost use Rattle.group_history.specs.Sameness.{same_confirmed, same_confirmed-equiv, same_patch, same_patch-equiv};
+ghost use Rattle.group_history.specs.Sameness.{same_pull, same_pull-equiv};
 
 use crate::cookies::Cookie;
 use crate::json::Json;

@@ -1,32 +1,50 @@
 //! A text that is shared and never changes: the key of a map, a client's name, a mutator's name.
 //!
 //! Contracts see a `Text` as the list of its UTF-8 bytes, so two texts are equal where their bytes are,
-//! and they are ordered by their bytes.
-ghost use Rattle.std.specs.Prelude.{◌≡◌, Some, IfOk, nat_eq, string_bytes};
+//! and they are ordered by their bytes. How a text is kept goes by its length alone: a short one lies in the
+//! `Text`, a middling one in one shared block, and a long one is a shared `String`.
+ghost use Rattle.std.specs.Prelude.{◌≡◌, ◌≤◌, length, Some, IfOk, nat_eq, string_bytes};
 ghost use Rattle.std.specs.Cmp as laws;
-ghost use Rattle.std.specs.Cmp.Lexicographic.{slice_cmp, pointwise, nat_list_eq_equiv, nat_list_cmp_total, texts_ties, texts_po};
+ghost use Rattle.std.specs.Cmp.Lexicographic.{slice_cmp, pointwise, nat_list_eq_equiv, nat_list_cmp_total, texts_ties};
+ghost use Rattle.std.specs.Cmp.Lexicographic.{texts_po};
 ghost use Rattle.std.specs.Ordering.{nat_cmp};
 ghost use Rattle.std.proofs.Common.{refl};
 
+mod packed;
+
+use packed::Packed;
 use std::alloc::{AllocError, Global};
 use std::cmp::Ordering;
 use std::fmt;
 use std::marker::Model;
-use std::sync::ArcStr;
+use std::sync::{Arc, ArcStr};
 
-/// A text, shared: a clone counts one up and copies no bytes.
-#[derive(Drop)]
+/// The longest text, in bytes, that lies in the `Text` itself.
+const SHORT: usize = 22;
+
+/// The longest text, in bytes, that is shared as one block.
+const MIDDLING: usize = 71;
+
+/// A text: a clone of a short one copies it, a clone of a longer one counts one up and copies no bytes.
 pub struct Text {
-    shared: ArcStr,
+    kept: Kept,
+}
+
+/// How a text is kept, by its length.
+enum Kept {
+    Short(Packed<SHORT>),
+    Middling(Arc<Packed<MIDDLING>>),
+    Long(ArcStr),
 }
 
 impl Model for Text {
     ghost use Rattle.std.specs.Prelude.{ℕ, List};
-    ghost use Rattle.std.specs.Arc.{arc_str_bytes};
 
     ghost Value = { List ℕ };
 
-    ghost view = { λ t. arc_str_bytes t.shared };
+    ghost use Rattle.group_history.specs.Inside.Texts.{kept_bytes};
+
+    ghost view = { λ t. kept_bytes t.kept };
 }
 
 impl Text {
@@ -34,22 +52,65 @@ impl Text {
     pub fn new(alloc: Global, text: &str) -> Result<Text, AllocError>
         ensures { IfOk result (λ t. t ≡ text.now) }
     {
-        let shared = ArcStr::from_str(alloc, text)?;
-        Ok(Text { shared })
+        if text.len() > MIDDLING {
+            let long = ArcStr::from_str(alloc, text)?;
+            return Ok(Text {
+                kept: Kept::Long(long),
+            });
+        }
+        Text::copied(alloc, text)
     }
 
-    /// The text that a `String` holds; its bytes are not copied.
+    /// The text that a `String` holds; the bytes of a long one are not copied.
     pub fn from_string(text: String) -> Result<Text, AllocError>
         ensures { IfOk result (λ t. t ≡ string_bytes text) }
     {
-        let shared = ArcStr::from_string(text)?;
-        Ok(Text { shared })
+        if text.len() > MIDDLING {
+            let long = ArcStr::from_string(text)?;
+            return Ok(Text {
+                kept: Kept::Long(long),
+            });
+        }
+        Text::copied(*text.allocator(), text.as_str())
     }
 
+    /// A copy of a text that is not long.
+    fn copied(alloc: Global, text: &str) -> Result<Text, AllocError>
+        requires { length text.now ≤ MIDDLING }
+        ensures { IfOk result (λ t. t ≡ text.now) }
+    {
+        if text.len() <= SHORT {
+            return Ok(Text {
+                kept: Kept::Short(Packed::new(text)),
+            });
+        }
+        let middling = Arc::new(alloc, Packed::new(text))?;
+        Ok(Text {
+            kept: Kept::Middling(middling),
+        })
+    }
+
+    #[inline]
     pub fn as_str(&self) -> &str
         ensures { result.now ≡ self.now }
     {
-        self.shared.as_str()
+        match &self.kept {
+            Kept::Short(short) => short.as_str(),
+            Kept::Middling(middling) => middling.as_str(),
+            Kept::Long(long) => long.as_str(),
+        }
+    }
+}
+
+impl Drop for Text {
+    #[inline(always)]
+    fn drop(self) {
+        let Text { kept } = self;
+        match kept {
+            Kept::Short(_) => {}
+            Kept::Middling(middling) => drop(middling),
+            Kept::Long(long) => drop(long),
+        }
     }
 }
 
@@ -57,8 +118,12 @@ impl Clone for Text {
     ghost is_clone = { λ t copy. copy ≡ t };
 
     fn clone(&self) -> Result<Text, AllocError> {
-        let shared = self.shared.clone()?;
-        Ok(Text { shared })
+        let kept = match &self.kept {
+            Kept::Short(short) => Kept::Short(*short),
+            Kept::Middling(middling) => Kept::Middling(middling.clone()?),
+            Kept::Long(long) => Kept::Long(long.clone()?),
+        };
+        Ok(Text { kept })
     }
 }
 

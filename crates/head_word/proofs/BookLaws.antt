@@ -1,5 +1,6 @@
 -- The laws of books.
-use Rattle.std.proofs.Common.{◌≡◌, ℕ, zero, suc, ◌+◌, ◌<◌, ◌≤◌, ◌==◌, ◌&&◌, Bool, true, false, List, [], ◌∷◌, ◌++◌, ◌⊎◌, inl, inr, length, slice_get, Some, refl, ap, sym, ◌∙◌, subst, arith, length-append}
+use Rattle.std.proofs.Common.{◌≡◌, ℕ, zero, suc, ◌+◌, ◌<◌, ◌≤◌, ◌==◌, ◌&&◌, Bool, true, false, List, [], ◌∷◌, ◌++◌, ◌⊎◌}
+use Rattle.std.proofs.Common.{inl, inr, length, slice_get, Some, refl, ap, sym, ◌∙◌, subst, arith, length-append}
 use Rattle.std.specs.Prelude.{option_map}
 use Rattle.std.proofs.lemmas.Option.{slice_get-map}
 use Rattle.std.proofs.lemmas.Bool.{eqb-true}
@@ -25,11 +26,15 @@ drawn_begins xs ys p = (drawn p.0, sym (drawn_more xs p.0) ∙ ap drawn p.1)
 pub record_begins : (xs ys : List Entry) → IsPrefix xs ys → IsPrefix (record_of xs) (record_of ys)
 record_begins xs ys p = (record_of p.0, sym (record_more xs p.0) ∙ ap record_of p.1)
 
-pub content-stays : (xs ys : List Entry) → IsPrefix xs ys → (stamp : ℕ) (c : Node ℕ) → slice_get (drawn xs) stamp ≡ Some c → slice_get (drawn ys) stamp ≡ Some c
-content-stays xs ys p stamp c h = let q = drawn_begins xs ys p in subst (λ w. slice_get w stamp ≡ Some c) q.1 (get_more (drawn xs) q.0 stamp c h)
+pub content-stays : (xs ys : List Entry) → IsPrefix xs ys → (stamp : ℕ) (c : Node ℕ)
+    → slice_get (drawn xs) stamp ≡ Some c → slice_get (drawn ys) stamp ≡ Some c
+content-stays xs ys p stamp c h = let q = drawn_begins xs ys p in
+    subst (λ w. slice_get w stamp ≡ Some c) q.1 (get_more (drawn xs) q.0 stamp c h)
 
-pub spelled-stays : (xs ys : List Entry) → IsPrefix xs ys → (stamp : ℕ) (w : Version) → version_at (drawn xs) stamp ≡ Some w → version_at (drawn ys) stamp ≡ Some w
-spelled-stays xs ys p stamp w h = let q = drawn_begins xs ys p in subst (λ cs. version_at cs stamp ≡ Some w) q.1 (version-stays (drawn xs) q.0 stamp w h)
+pub spelled-stays : (xs ys : List Entry) → IsPrefix xs ys → (stamp : ℕ) (w : Version)
+    → version_at (drawn xs) stamp ≡ Some w → version_at (drawn ys) stamp ≡ Some w
+spelled-stays xs ys p stamp w h = let q = drawn_begins xs ys p in
+    subst (λ cs. version_at cs stamp ≡ Some w) q.1 (version-stays (drawn xs) q.0 stamp w h)
 
 both : (a b : Bool) → (a && b) ≡ true → (a ≡ true) × (b ≡ true)
 both true b h = (refl, h)
@@ -42,46 +47,79 @@ get_front (x ∷ xs) ys (suc k) lt = get_front xs ys k (omega (arith, lt))
 
 get_back : {A : Type 0} (xs ys : List A) (k : ℕ) → slice_get (xs ++ ys) (length xs + k) ≡ slice_get ys k
 get_back [] ys k = ap (slice_get ys) (let e : 0 + k ≡ k = omega arith in e)
-get_back (x ∷ xs) ys k = ap (slice_get (x ∷ xs ++ ys)) (let e : suc (length xs) + k ≡ suc (length xs + k) = omega arith in e) ∙ get_back xs ys k
+get_back (x ∷ xs) ys k = ap (slice_get (x ∷ xs ++ ys))
+    (let e : suc (length xs) + k ≡ suc (length xs + k) = omega arith in e) ∙ get_back xs ys k
 
--- by places from the book's front: with n stamps drawn before these entries, a draft's node at place p is n stamps further back
-drafted_at : (n : ℕ) (log : List Entry) → numbered n log ≡ true → (at : ℕ) (d : Draft) → IsDraftAt log at d → (p : ℕ) → p < length d.contents
-    → (k : ℕ) × (d.first + p ≡ n + k) × (k < length (drawn log)) × (slice_get (drawn log) k ≡ option_map (drafted_content d.first) (slice_get d.contents p))
+-- by places from the book's front: with n stamps drawn before these entries, a draft's node at place p is n stamps
+-- further back
+drafted_at : (n : ℕ) (log : List Entry) → numbered n log ≡ true → (at : ℕ) (d : Draft) → IsDraftAt log at d → (p : ℕ)
+    → p < length d.contents
+    → (k : ℕ) × (d.first + p ≡ n + k) × (k < length (drawn log))
+    × (slice_get (drawn log) k ≡ option_map (drafted_content d.first) (slice_get d.contents p))
 drafted_at n [] h at d is p lt = absurd cc
 drafted_at n (v.Draft e ∷ es) h zero d is p lt =
     let same : e ≡ d = let s : Some (v.Draft e) ≡ Some (v.Draft d) = is in cc s in
     let first : e.first ≡ n = eqb-true e.first n (both (e.first == n) (numbered (n + length e.contents) es) h).0 in
     let dc = drafted_contents d.first d.contents in
     let long = length-drafted d.first d.contents in
-    subst (λ (w : Draft). (k : ℕ) × (d.first + p ≡ n + k) × (k < length (drafted_contents w.first w.contents ++ drawn es)) × (slice_get (drafted_contents w.first w.contents ++ drawn es) k ≡ option_map (drafted_content d.first) (slice_get d.contents p))) (sym same)
-    (p, omega (arith, first, ap (λ (w : Draft). w.first) same), omega (arith, lt, long, length-append dc (drawn es)), get_front dc (drawn es) p (omega (arith, lt, long)) ∙ slice_get-map (drafted_content d.first) d.contents p)
+    subst (λ (w : Draft). (k : ℕ) × (d.first + p ≡ n + k)
+    × (k < length (drafted_contents w.first w.contents ++ drawn es))
+    × (slice_get (drafted_contents w.first w.contents ++ drawn es) k
+    ≡ option_map (drafted_content d.first) (slice_get d.contents p))) (sym same) (
+      p,
+      omega (arith, first, ap (λ (w : Draft). w.first) same),
+      omega (arith, lt, long, length-append dc (drawn es)),
+      get_front dc (drawn es) p (omega (arith, lt, long)) ∙ slice_get-map (drafted_content d.first) d.contents p,
+    )
 drafted_at n (v.Draft e ∷ es) h (suc at) d is p lt =
     let dc = drafted_contents e.first e.contents in
     let long = length-drafted e.first e.contents in
-    let r = drafted_at (n + length e.contents) es (both (e.first == n) (numbered (n + length e.contents) es) h).1 at d is p lt in
-    (length dc + r.0, omega (arith, r.1, long), omega (arith, r.2, length-append dc (drawn es)), get_back dc (drawn es) r.0 ∙ r.3)
+    let r = drafted_at (n + length e.contents) es
+    (both (e.first == n) (numbered (n + length e.contents) es) h).1 at d is p lt in (
+      length dc + r.0,
+      omega (arith, r.1, long),
+      omega (arith, r.2, length-append dc (drawn es)),
+      get_back dc (drawn es) r.0 ∙ r.3,
+    )
 drafted_at n (v.Move m ∷ es) h zero d is p lt = absurd cc
 drafted_at n (v.Move m ∷ es) h (suc at) d is p lt = drafted_at n es h at d is p lt
 
 -- stamps of drafts behind n stamps are n or more
-drawn_behind : (n : ℕ) (log : List Entry) → numbered n log ≡ true → (at : ℕ) (d : Draft) → IsDraftAt log at d → n ≤ d.first
+drawn_behind : (n : ℕ) (log : List Entry) → numbered n log ≡ true → (at : ℕ) (d : Draft)
+    → IsDraftAt log at d → n ≤ d.first
 drawn_behind n [] h at d is = absurd cc
 drawn_behind n (v.Draft e ∷ es) h zero d is =
     let same : e ≡ d = let s : Some (v.Draft e) ≡ Some (v.Draft d) = is in cc s in
-    omega (arith, eqb-true e.first n (both (e.first == n) (numbered (n + length e.contents) es) h).0, ap (λ (w : Draft). w.first) same)
-drawn_behind n (v.Draft e ∷ es) h (suc at) d is = omega (arith, drawn_behind (n + length e.contents) es (both (e.first == n) (numbered (n + length e.contents) es) h).1 at d is)
+    omega (
+      arith,
+      eqb-true e.first n (both (e.first == n) (numbered (n + length e.contents) es) h).0,
+      ap (λ (w : Draft). w.first) same,
+    )
+drawn_behind n (v.Draft e ∷ es) h (suc at) d is = omega (
+  arith,
+  drawn_behind (n + length e.contents) es
+      (both (e.first == n) (numbered (n + length e.contents) es) h).1 at d is,
+)
 drawn_behind n (v.Move m ∷ es) h zero d is = absurd cc
 drawn_behind n (v.Move m ∷ es) h (suc at) d is = drawn_behind n es h at d is
 
 -- a draft before another ends before the other's first stamp
-apart : (n : ℕ) (log : List Entry) → numbered n log ≡ true → (at bt : ℕ) (d e : Draft) → IsDraftAt log at d → IsDraftAt log bt e → at < bt → d.first + length d.contents ≤ e.first
+apart : (n : ℕ) (log : List Entry) → numbered n log ≡ true → (at bt : ℕ) (d e : Draft) → IsDraftAt log at d
+    → IsDraftAt log bt e → at < bt → d.first + length d.contents ≤ e.first
 apart n [] h at bt d e is ie lt = absurd cc
 apart n (x ∷ es) h at zero d e is ie lt = absurd (omega (arith, lt))
 apart n (v.Draft x ∷ es) h zero (suc bt) d e is ie lt =
     let same : x ≡ d = let s : Some (v.Draft x) ≡ Some (v.Draft d) = is in cc s in
     let parts = both (x.first == n) (numbered (n + length x.contents) es) h in
-    omega (arith, drawn_behind (n + length x.contents) es parts.1 bt e ie, eqb-true x.first n parts.0, ap (λ (w : Draft). w.first) same, ap (λ (w : Draft). length w.contents) same)
-apart n (v.Draft x ∷ es) h (suc at) (suc bt) d e is ie lt = apart (n + length x.contents) es (both (x.first == n) (numbered (n + length x.contents) es) h).1 at bt d e is ie (omega (arith, lt))
+    omega (
+      arith,
+      drawn_behind (n + length x.contents) es parts.1 bt e ie,
+      eqb-true x.first n parts.0,
+      ap (λ (w : Draft). w.first) same,
+      ap (λ (w : Draft). length w.contents) same,
+    )
+apart n (v.Draft x ∷ es) h (suc at) (suc bt) d e is ie lt = apart (n + length x.contents) es
+    (both (x.first == n) (numbered (n + length x.contents) es) h).1 at bt d e is ie (omega (arith, lt))
 apart n (v.Move m ∷ es) h zero (suc bt) d e is ie lt = absurd cc
 apart n (v.Move m ∷ es) h (suc at) (suc bt) d e is ie lt = apart n es h at bt d e is ie (omega (arith, lt))
 
@@ -111,7 +149,8 @@ once log h at bt d e is ie p q lp lq same = elim (ordered at bt) [
 ]
 
 -- of two beginnings of one book one begins the other, and so do their records
-pub records_one : (xs ys zs : List Entry) → IsPrefix xs zs → IsPrefix ys zs → IsPrefix (record_of xs) (record_of ys) ⊎ IsPrefix (record_of ys) (record_of xs)
+pub records_one : (xs ys zs : List Entry) → IsPrefix xs zs → IsPrefix ys zs
+    → IsPrefix (record_of xs) (record_of ys) ⊎ IsPrefix (record_of ys) (record_of xs)
 records_one xs ys zs p q = elim (prefix_one xs ys zs p q) [
   | inl r ↦ inl (record_begins xs ys r)
   | inr r ↦ inr (record_begins ys xs r)
@@ -121,7 +160,8 @@ pub book_laws_hold : (means : Meanings) → BookLaws means
 book_laws_hold means = record {
   content_stays = content-stays;
   version_stays = spelled-stays;
-  content_drafted = λ log opened at d is p lt. let r = drafted_at 0 log opened.0.numbered at d is p lt in let k : d.first + p ≡ r.0 = omega (arith, r.1) in ap (slice_get (drawn log)) k ∙ r.3;
+  content_drafted = λ log opened at d is p lt. let r = drafted_at 0 log opened.0.numbered at d is p lt in
+      let k : d.first + p ≡ r.0 = omega (arith, r.1) in ap (slice_get (drawn log)) k ∙ r.3;
   drafted_once = λ log opened. once log opened.0.numbered;
   one_record = records_one;
   record_grows = record_begins;

@@ -1,5 +1,7 @@
 -- How a book grows.
-use Rattle.std.proofs.Common.{◌≡◌, ℕ, suc, ◌+◌, ◌<◌, ◌≤◌, ◌==◌, ◌&&◌, Bool, true, false, List, [], ◌∷◌, ◌++◌, map, length, All, slice_index_or, Some, None, Option, refl, ap, sym, ◌∙◌, subst, arith, append_assoc, length-append}
+use Rattle.std.proofs.Common.{◌≡◌, ℕ, suc, ◌+◌, ◌<◌, ◌≤◌, ◌==◌, ◌&&◌, Bool, true, false, List, [], ◌∷◌, ◌++◌, map}
+use Rattle.std.proofs.Common.{length, All, slice_index_or, Some, None, Option, refl, ap, sym, ◌∙◌, subst, arith}
+use Rattle.std.proofs.Common.{append_assoc, length-append}
 use Rattle.std.proofs.lemmas.List.{length-map}
 use Rattle.std.proofs.lemmas.List.Elements.{All-map}
 use Rattle.group_history.specs.declared.refs.Ref.{Ref}
@@ -20,11 +22,13 @@ use Rattle.group_history.specs.State.{State}
 use Rattle.group_history.proofs.Spellings.{version-stays}
 use Rattle.head_word.specs.declared.entry.Entry.{Entry}
 use Rattle.head_word.specs.declared.entry.Entry.TheVariants as v
-use Rattle.head_word.specs.Books.{drafted_contents, drawn, next_stamp, numbered, moved_from, with_change, record_of, AreOrdered, StartsOpened, IsBefore, AreAfter}
+use Rattle.head_word.specs.Books.{drafted_contents, drawn, next_stamp, numbered, moved_from, with_change, record_of}
+use Rattle.head_word.specs.Books.{AreOrdered, StartsOpened, IsBefore, AreAfter}
 
 pub drawn_more : (xs ys : List Entry) → drawn (xs ++ ys) ≡ drawn xs ++ drawn ys
 drawn_more [] ys = refl
-drawn_more (v.Draft d ∷ xs) ys = ap (λ w. drafted_contents d.first d.contents ++ w) (drawn_more xs ys) ∙ sym (append_assoc (drafted_contents d.first d.contents) (drawn xs) (drawn ys))
+drawn_more (v.Draft d ∷ xs) ys = ap (λ w. drafted_contents d.first d.contents ++ w) (drawn_more xs ys) ∙ sym
+    (append_assoc (drafted_contents d.first d.contents) (drawn xs) (drawn ys))
 drawn_more (v.Move m ∷ xs) ys = drawn_more xs ys
 
 pub moved_more : (r : Ref) (xs ys : List Entry) → moved_from r (xs ++ ys) ≡ moved_from (moved_from r xs) ys
@@ -39,7 +43,8 @@ with_more (Some c) cs ds = refl
 pub record_more : (xs ys : List Entry) → record_of (xs ++ ys) ≡ record_of xs ++ record_of ys
 record_more [] ys = refl
 record_more (v.Draft d ∷ xs) ys = record_more xs ys
-record_more (v.Move m ∷ xs) ys = ap (with_change m.change) (record_more xs ys) ∙ with_more m.change (record_of xs) (record_of ys)
+record_more (v.Move m ∷ xs) ys = ap (with_change m.change) (record_more xs ys) ∙ with_more m.change
+    (record_of xs) (record_of ys)
 
 and_assoc : (a b c : Bool) → (a && (b && c)) ≡ ((a && b) && c)
 and_assoc true b c = refl
@@ -48,20 +53,29 @@ and_assoc false b c = refl
 pub length-drafted : (first : ℕ) (nodes : List (Node Child)) → length (drafted_contents first nodes) ≡ length nodes
 length-drafted first nodes = length-map nodes (drafted_content first)
 
-pub numbered_more : (n : ℕ) (xs ys : List Entry) → numbered n (xs ++ ys) ≡ (numbered n xs && numbered (n + length (drawn xs)) ys)
+pub numbered_more : (n : ℕ) (xs ys : List Entry)
+    → numbered n (xs ++ ys) ≡ (numbered n xs && numbered (n + length (drawn xs)) ys)
 numbered_more n [] ys = ap (λ k. numbered k ys) (let e : n ≡ n + 0 = omega arith in e)
 numbered_more n (v.Draft d ∷ xs) ys =
     let dc = drafted_contents d.first d.contents in
-    let k : n + length d.contents + length (drawn xs) ≡ n + length (dc ++ drawn xs) = omega (arith, length-append dc (drawn xs), length-drafted d.first d.contents) in
-    ap (λ b. (d.first == n) && b) (numbered_more (n + length d.contents) xs ys ∙ ap (λ k. numbered (n + length d.contents) xs && numbered k ys) k)
+    let k : n + length d.contents + length (drawn xs)
+    ≡ n + length (dc ++ drawn xs) = omega (arith, length-append dc (drawn xs), length-drafted d.first d.contents) in
+    ap (λ b. (d.first == n) && b) (numbered_more (n + length d.contents) xs ys ∙ ap
+    (λ k. numbered (n + length d.contents) xs && numbered k ys) k)
     ∙ and_assoc (d.first == n) (numbered (n + length d.contents) xs) (numbered (n + length (dc ++ drawn xs)) ys)
 numbered_more n (v.Move m ∷ xs) ys = numbered_more n xs ys
 
-pub ordered_more : (n : ℕ) (xs ys : Contents) → AreOrdered n xs → AreOrdered (n + length xs) ys → AreOrdered n (xs ++ ys)
+pub ordered_more : (n : ℕ) (xs ys : Contents) → AreOrdered n xs → AreOrdered (n + length xs) ys
+    → AreOrdered n (xs ++ ys)
 ordered_more n [] ys a b = subst (λ k. AreOrdered k ys) (let e : n + 0 ≡ n = omega arith in e) b
-ordered_more n (x ∷ xs) ys a b = (a.0, ordered_more (suc n) xs ys a.1 (subst (λ k. AreOrdered k ys) (let e : n + suc (length xs) ≡ suc n + length xs = omega arith in e) b))
+ordered_more n (x ∷ xs) ys a b = (
+  a.0,
+  ordered_more (suc n) xs ys a.1
+      (subst (λ k. AreOrdered k ys) (let e : n + suc (length xs) ≡ suc n + length xs = omega arith in e) b),
+)
 
-values-renamed : {A B : Type 0} (f : A → B) (kids : List (Bytes × A)) → values_of (map (λ e. (e.0, f e.1)) kids) ≡ map f (values_of kids)
+values-renamed : {A B : Type 0} (f : A → B) (kids : List (Bytes × A))
+    → values_of (map (λ e. (e.0, f e.1)) kids) ≡ map f (values_of kids)
 values-renamed f [] = refl
 values-renamed f (k ∷ ks) = ap (λ w. f k.1 ∷ w) (values-renamed f ks)
 
@@ -78,19 +92,27 @@ child_below : (n first place : ℕ) (c : Child) → n ≤ first → IsBefore n p
 child_below n first place (Placed at) le h = omega (arith, le, h)
 child_below n first place (Drafted earlier) le h = omega (arith, h)
 
-children_below : (n first place : ℕ) (cs : List Child) → n ≤ first → All (IsBefore n place) cs → All (λ k. k < first + place) (map (child_stamp first) cs)
-children_below n first place cs le h = All-map (λ k. k < first + place) (child_stamp first) cs (λ k d lt. child_below n first place (slice_index_or cs k d) le (h k d lt))
+children_below : (n first place : ℕ) (cs : List Child) → n ≤ first → All (IsBefore n place) cs
+    → All (λ k. k < first + place) (map (child_stamp first) cs)
+children_below n first place cs le h = All-map (λ k. k < first + place) (child_stamp first) cs
+    (λ k d lt. child_below n first place (slice_index_or cs k d) le (h k d lt))
 
 -- nodes whose children were drawn, or stand earlier, become contents in order
-pub drafted_ordered : (n first place : ℕ) (cs : List (Node Child)) → n ≤ first → AreAfter n place cs → AreOrdered (first + place) (drafted_contents first cs)
+pub drafted_ordered : (n first place : ℕ) (cs : List (Node Child)) → n ≤ first → AreAfter n place cs
+    → AreOrdered (first + place) (drafted_contents first cs)
 drafted_ordered n first place [] le h = tt
 drafted_ordered n first place (c ∷ cs) le h = (
-  subst (All (λ k. k < first + place)) (sym (children-renamed (child_stamp first) c)) (children_below n first place (children c) le h.0),
-  subst (λ k. AreOrdered k (drafted_contents first cs)) (let e : first + suc place ≡ suc (first + place) = omega arith in e) (drafted_ordered n first (suc place) cs le h.1),
+  subst (All (λ k. k < first + place)) (sym (children-renamed (child_stamp first) c))
+      (children_below n first place (children c) le h.0),
+  subst (λ k. AreOrdered k (drafted_contents first cs))
+      (let e : first + suc place ≡ suc (first + place) = omega arith in e)
+      (drafted_ordered n first (suc place) cs le h.1),
 )
 
-pub spells_more : (means : Meanings) (xs ys : List Entry) (stamp : ℕ) (s : State) → Spells means (drawn xs) stamp s → Spells means (drawn (xs ++ ys)) stamp s
-spells_more means xs ys stamp s h = subst (λ w. Spells means w stamp s) (sym (drawn_more xs ys)) (version-stays (drawn xs) (drawn ys) stamp (version_of means s) h)
+pub spells_more : (means : Meanings) (xs ys : List Entry) (stamp : ℕ) (s : State) → Spells means (drawn xs) stamp s
+    → Spells means (drawn (xs ++ ys)) stamp s
+spells_more means xs ys stamp s h = subst (λ w. Spells means w stamp s) (sym (drawn_more xs ys))
+    (version-stays (drawn xs) (drawn ys) stamp (version_of means s) h)
 
 pub starts_more : (xs ys : List Entry) → StartsOpened xs → StartsOpened (xs ++ ys)
 starts_more [] ys h = absurd cc

@@ -1,5 +1,7 @@
 -- A tally that came back, and what its seat has added.
-use Rattle.std.proofs.Common.{◌≡◌, ◌≢◌, ◌==◌, ◌<◌, ◌≤◌, arith, inl, inr, length-append, None, Bool, true, false, MatchBool, if◌then◌else◌, ℕ, zero, suc, List, [], ◌∷◌, ◌++◌, length, replicate, Some, Option, refl, ap, sym, ◌∙◌, subst}
+use Rattle.std.proofs.Common.{◌≡◌, ◌≢◌, ◌==◌, ◌<◌, ◌≤◌, arith, inl, inr, length-append, None, Bool, true, false}
+use Rattle.std.proofs.Common.{MatchBool, if◌then◌else◌, ℕ, zero, suc, List, [], ◌∷◌, ◌++◌, length, replicate, Some}
+use Rattle.std.proofs.Common.{Option, refl, ap, sym, ◌∙◌, subst}
 use mathlib.Core.List.{IsPrefix}
 use Rattle.group_history.specs.Meaning.{Meanings}
 use Rattle.head_word.specs.declared.entry.Answer.{Answer}
@@ -24,7 +26,8 @@ pub count_told : (about : List Entry) (ask : Entry) (n : ℕ) → about ≡ ask 
 count_told about ask n is = ap told_count is ∙ told_of n ask
 
 -- the offer's answer says that the book had as many entries as the tally, so it has no other entries of the seat
-pub own_same : (k n : ℕ) (log log' : List Entry) → IsPrefix log log' → n ≡ count k log → (a : Answer) (m : ℕ) → Some a ≡ Some (answer (count k log') m) → a.before ≡ n → mine k log' ≡ mine k log
+pub own_same : (k n : ℕ) (log log' : List Entry) → IsPrefix log log' → n ≡ count k log → (a : Answer) (m : ℕ)
+    → Some a ≡ Some (answer (count k log') m) → a.before ≡ n → mine k log' ≡ mine k log
 own_same k n log log' pre sits a m is told =
     let is' : a ≡ answer (count k log') m = cc is in
     mine_same k log log' pre (sym (ap (λ (b : Answer). b.before) is') ∙ (told ∙ sits))
@@ -33,12 +36,15 @@ alone : (k : ℕ) (ask : Entry) → key_of ask ≡ k → mine k (ask ∷ []) ≡
 alone k ask key = rw (eq-eqb (key_of ask) k key) refl
 
 -- an exchange of a seat's adds its one entry, or none
-pub own_added : (says : List Entry → ℕ) (means : Meanings) (k n : ℕ) (t : Taken) (a : Answer) (won : Bool) → key_of t.ask ≡ k → n ≡ count k t.before → a.before ≡ n → t.answer ≡ Some a → IsPrefix t.before t.after
-    → MatchBool won (Adds says means t) (Misses says t) → mine k t.after ≡ mine k t.before ++ (if won then t.ask ∷ [] else [])
+pub own_added : (says : List Entry → ℕ) (means : Meanings) (k n : ℕ) (t : Taken) (a : Answer) (won : Bool)
+    → key_of t.ask ≡ k → n ≡ count k t.before → a.before ≡ n → t.answer ≡ Some a → IsPrefix t.before t.after
+    → MatchBool won (Adds says means t) (Misses says t)
+    → mine k t.after ≡ mine k t.before ++ (if won then t.ask ∷ [] else [])
 own_added says means k n t a true key sits told has pre h =
     let is = subst (λ (j : ℕ). Some a ≡ Some (answer (count j h.log) (count j t.after))) key (sym has ∙ h.counted) in
     let mid : mine k h.log ≡ mine k t.before = own_same k n t.before h.log h.seen sits a (count k t.after) is told in
-    ap (mine k) h.added ∙ (mine_more k h.log (t.ask ∷ []) ∙ (ap (λ w. w ++ mine k (t.ask ∷ [])) mid ∙ ap (λ w. mine k t.before ++ w) (alone k t.ask key)))
+    ap (mine k) h.added ∙ (mine_more k h.log (t.ask ∷ []) ∙
+    (ap (λ w. w ++ mine k (t.ask ∷ [])) mid ∙ ap (λ w. mine k t.before ++ w) (alone k t.ask key)))
 own_added says means k n t a false key sits told has pre h =
     let is = subst (λ (j : ℕ). Some a ≡ Some (answer (count j t.after) (count j t.after))) key (sym has ∙ h.counted) in
     own_same k n t.before t.after pre sits a (count k t.after) is told ∙ sym (append-nil (mine k t.before))
@@ -64,8 +70,10 @@ drew_more xs ys ([], is) other = absurd (other (ap next_stamp (sym is ∙ append
 drew_more xs ys (e ∷ es, is) other = omega (arith, sym (ap length is) ∙ length-append xs (e ∷ es))
 
 -- what an exchange of the head tells of the move
-pub move_told : (means : Meanings) (t : Taken) (base : Ref) (won : Bool) → t.expected ≡ base.bits → (t.found == t.expected) ≡ won → MatchBool won (Adds head_says means t) (Misses head_says t)
-    → MatchBool won ((log : List Entry) × IsPrefix t.before log × IsOpened means log × (last_move log ≡ base) × (t.after ≡ log ++ t.ask ∷ [])) (last_move t.after ≢ base)
+pub move_told : (means : Meanings) (t : Taken) (base : Ref) (won : Bool) → t.expected ≡ base.bits
+    → (t.found == t.expected) ≡ won → MatchBool won (Adds head_says means t) (Misses head_says t)
+    → MatchBool won ((log : List Entry) × IsPrefix t.before log × IsOpened means log × (last_move log ≡ base)
+    × (t.after ≡ log ++ t.ask ∷ [])) (last_move t.after ≢ base)
 move_told means t base true at is told =
     let at_base : last_move told.log ≡ base = ap (λ (n : ℕ). let r : Ref = record { bits = n } in r) (told.word ∙ at) in
     (told.log, told.seen, told.opened, at_base, told.added)

@@ -1,5 +1,7 @@
 -- Each step on a word keeps the rule.
-use Rattle.std.proofs.Common.{◌≡◌, ◌≢◌, ℕ, zero, suc, ◌+◌, ◌≤◌, ◌<◌, ◌==◌, Bool, true, false, List, [], ◌∷◌, ◌++◌, length, slice_index_or, Some, None, Option, replicate, refl, ap, sym, ◌∙◌, subst, arith, lit≤, inl, inr, length-append}
+use Rattle.std.proofs.Common.{◌≡◌, ◌≢◌, ℕ, zero, suc, ◌+◌, ◌≤◌, ◌<◌, ◌==◌, Bool, true, false, List, [], ◌∷◌, ◌++◌}
+use Rattle.std.proofs.Common.{length, slice_index_or, Some, None, Option, replicate, refl, ap, sym, ◌∙◌, subst, arith}
+use Rattle.std.proofs.Common.{lit≤, inl, inr, length-append}
 use Rattle.std.specs.Prelude.{option_and_then}
 use Rattle.std.specs.FinMap as finite
 use Rattle.std.proofs.lemmas.List.{append-nil}
@@ -19,7 +21,8 @@ use Rattle.group_history.specs.Map.{Entries}
 use Rattle.group_history.specs.Meaning.{Meanings}
 use Rattle.group_history.specs.Record.{IsAccepted, IsLegal, after, after_change}
 use Rattle.group_history.specs.Refs.{stamp_of, stamps}
-use Rattle.group_history.specs.Spelling.{Contents, Segment, Version, Spelled, segment, version, as_segment, as_version, spelled, segment_at, version_of, Spells}
+use Rattle.group_history.specs.Spelling.{Contents, Segment, Version, Spelled, segment, version, as_segment, as_version}
+use Rattle.group_history.specs.Spelling.{spelled, segment_at, version_of, Spells}
 use Rattle.group_history.specs.State.{State, pulled_state}
 use Rattle.group_history.proofs.Records.{after-push, IsLegal-push}
 use Rattle.group_history.proofs.Spellings.{segment-stays}
@@ -27,15 +30,19 @@ use Rattle.group_history.proofs.TextMaps.{empty_map}
 use Rattle.head_word.specs.declared.entry.Answer.{Answer}
 use Rattle.head_word.specs.declared.entry.Entry.{Entry}
 use Rattle.head_word.specs.declared.entry.Entry.TheVariants as v
-use Rattle.head_word.specs.Books.{drafted_contents, drawn, next_stamp, last_move, nowhere, record_of, AreOrdered, IsBook, drafted, moved, empty_leaf, opening, StartsOpened, IsOpened, IsBefore, AreAfter, Follows}
+use Rattle.head_word.specs.Books.{drafted_contents, drawn, next_stamp, last_move, nowhere, record_of, AreOrdered}
+use Rattle.head_word.specs.Books.{IsBook, drafted, moved, empty_leaf, opening, StartsOpened, IsOpened, IsBefore}
+use Rattle.head_word.specs.Books.{AreAfter, Follows}
 use Rattle.head_word.specs.Tallies.{key_of, count}
 use Rattle.head_word.specs.Rules.{head_says, drafts_say, FitsOpened, Fits, IsKept}
 use Rattle.head_word.specs.Inside.Parts.{Trades}
 use Rattle.head_word.specs.Inside.Steps.{tells, answer, Counts, Exchanges, Opens}
-use Rattle.head_word.proofs.Books.{drawn_more, moved_more, record_more, length-drafted, numbered_more, ordered_more, drafted_ordered, spells_more, starts_more, next_more}
+use Rattle.head_word.proofs.Books.{drawn_more, moved_more, record_more, length-drafted, numbered_more, ordered_more}
+use Rattle.head_word.proofs.Books.{drafted_ordered, spells_more, starts_more, next_more}
 use Rattle.head_word.proofs.Counting.{count_more, count_other, count_starts}
 
-pub book_draft : (means : Meanings) (log : List Entry) (by : Option ℕ) (contents : List (Node Child)) → IsBook means log → AreAfter (next_stamp log) 0 contents → next_stamp log + length contents ≤ stamps
+pub book_draft : (means : Meanings) (log : List Entry) (by : Option ℕ) (contents : List (Node Child)) → IsBook means log
+    → AreAfter (next_stamp log) 0 contents → next_stamp log + length contents ≤ stamps
     → IsBook means (log ++ drafted by (next_stamp log) contents ∷ [])
 book_draft means log by contents b before room =
     let first = next_stamp log in
@@ -44,44 +51,59 @@ book_draft means log by contents b before room =
     let n : (first == 0 + length (drawn log)) ≡ true = eq-eqb first (0 + length (drawn log)) (omega arith) in
     let rec : record_of log ≡ record_of (log ++ e ∷ []) = sym (record_more log (e ∷ []) ∙ append-nil (record_of log)) in
     let last : last_move log ≡ last_move (log ++ e ∷ []) = sym (moved_more nowhere log (e ∷ [])) in
-    let more : AreOrdered (0 + length (drawn log)) (dc ++ []) = subst (AreOrdered (0 + length (drawn log))) (sym (append-nil dc)) (subst (λ k. AreOrdered k dc) (let k : first + 0 ≡ 0 + length (drawn log) = omega arith in k) (drafted_ordered first first 0 contents (omega arith) before)) in
+    let more : AreOrdered (0 + length (drawn log)) (dc ++ []) = subst (AreOrdered (0 + length (drawn log)))
+    (sym (append-nil dc)) (subst (λ k. AreOrdered k dc)
+    (let k : first + 0 ≡ 0 + length (drawn log) = omega arith in k)
+    (drafted_ordered first first 0 contents (omega arith) before)) in
     record {
       numbered = numbered_more 0 log (e ∷ []) ∙ rw (b.numbered, n) refl;
       room = omega (arith, room, next_more log (e ∷ []), length-append dc [], length-drafted first contents);
-      ordered = subst (AreOrdered 0) (sym (drawn_more log (e ∷ []))) (ordered_more 0 (drawn log) (dc ++ []) b.ordered more);
+      ordered = subst (AreOrdered 0) (sym (drawn_more log (e ∷ [])))
+          (ordered_more 0 (drawn log) (dc ++ []) b.ordered more);
       legal = subst (IsLegal means) rec b.legal;
-      spelled = subst (λ (t : Ref × List Change). Spells means (drawn (log ++ e ∷ [])) (stamp_of t.0) (after t.1)) (λ i. (last i, rec i)) (spells_more means log (e ∷ []) (stamp_of (last_move log)) (after (record_of log)) b.spelled);
+      spelled = subst (λ (t : Ref × List Change). Spells means (drawn (log ++ e ∷ [])) (stamp_of t.0) (after t.1))
+          (λ i. (last i, rec i)) (spells_more means log (e ∷ []) (stamp_of (last_move log))
+          (after (record_of log)) b.spelled);
     }
 
-pub book_move : (means : Meanings) (log : List Entry) (by : Option ℕ) (to : Ref) (change : Change) → IsBook means log → IsAccepted means (after (record_of log)) change
-    → Spells means (drawn log) (stamp_of to) (after_change (after (record_of log)) change) → IsBook means (log ++ moved by to (Some change) ∷ [])
+pub book_move : (means : Meanings) (log : List Entry) (by : Option ℕ) (to : Ref) (change : Change) → IsBook means log
+    → IsAccepted means (after (record_of log)) change
+    → Spells means (drawn log) (stamp_of to) (after_change (after (record_of log)) change)
+    → IsBook means (log ++ moved by to (Some change) ∷ [])
 book_move means log by to change b may spells =
     let e = moved by to (Some change) in
     let rec : record_of log ++ change ∷ [] ≡ record_of (log ++ e ∷ []) = sym (record_more log (e ∷ [])) in
-    let state : after_change (after (record_of log)) change ≡ after (record_of (log ++ e ∷ [])) = sym (after-push (record_of log) change) ∙ ap after rec in
+    let state : after_change (after (record_of log)) change
+    ≡ after (record_of (log ++ e ∷ [])) = sym (after-push (record_of log) change) ∙ ap after rec in
     let last : to ≡ last_move (log ++ e ∷ []) = sym (moved_more nowhere log (e ∷ [])) in
     record {
       numbered = numbered_more 0 log (e ∷ []) ∙ rw b.numbered refl;
       room = omega (arith, b.room, next_more log (e ∷ []));
       ordered = subst (AreOrdered 0) (sym (drawn_more log (e ∷ []) ∙ append-nil (drawn log))) b.ordered;
       legal = subst (IsLegal means) rec (IsLegal-push means (record_of log) change b.legal may);
-      spelled = subst (λ (t : Ref × State). Spells means (drawn (log ++ e ∷ [])) (stamp_of t.0) t.1) (λ i. (last i, state i)) (spells_more means log (e ∷ []) (stamp_of to) (after_change (after (record_of log)) change) spells);
+      spelled = subst (λ (t : Ref × State). Spells means (drawn (log ++ e ∷ [])) (stamp_of t.0) t.1)
+          (λ i. (last i, state i)) (spells_more means log (e ∷ []) (stamp_of to)
+          (after_change (after (record_of log)) change) spells);
     }
 
 -- a book that begins with an opened one is opened
 pub starts_from : (v log : List Entry) → IsPrefix v log → StartsOpened v → StartsOpened log
 starts_from v log pre h = subst StartsOpened pre.1 (starts_more v pre.0 h)
 
-pub spells_from : (means : Meanings) (v log : List Entry) (stamp : ℕ) (s : State) → IsPrefix v log → Spells means (drawn v) stamp s → Spells means (drawn log) stamp s
-spells_from means v log stamp s pre h = subst (λ (w : List Entry). Spells means (drawn w) stamp s) pre.1 (spells_more means v pre.0 stamp s h)
+pub spells_from : (means : Meanings) (v log : List Entry) (stamp : ℕ) (s : State) → IsPrefix v log
+    → Spells means (drawn v) stamp s → Spells means (drawn log) stamp s
+spells_from means v log stamp s pre h = subst (λ (w : List Entry). Spells means (drawn w) stamp s) pre.1
+    (spells_more means v pre.0 stamp s h)
 
 -- the states that one stamp spells are one
-pub spells_once : (means : Meanings) (contents : Contents) (stamp : ℕ) (s t : State) → Spells means contents stamp s → Spells means contents stamp t → s ≡ t
+pub spells_once : (means : Meanings) (contents : Contents) (stamp : ℕ) (s t : State) → Spells means contents stamp s
+    → Spells means contents stamp t → s ≡ t
 spells_once means contents stamp s t p q =
     let e : Some (version_of means s) ≡ Some (version_of means t) = sym p ∙ q in
     let f : version_of means s ≡ version_of means t = cc e in ap (λ (w : Version). w.state) f
 
-not_both : (o : Option Spelled) (s : Segment) (w : Version) → option_and_then as_segment o ≡ Some s → option_and_then as_version o ≡ Some w → ⊥
+not_both : (o : Option Spelled) (s : Segment) (w : Version) → option_and_then as_segment o ≡ Some s
+    → option_and_then as_version o ≡ Some w → ⊥
 not_both None s w p q = absurd cc
 not_both (Some (segment t)) s w p q = absurd cc
 not_both (Some (version t k)) s w p q = absurd cc
@@ -98,14 +120,19 @@ no_commit : (means : Meanings) (log : List Entry) (s : State) → StartsOpened l
 no_commit means log s starts h =
     let begun = starts_with log starts in
     let leaf : Segment = record { depth = 1; rows = [] } in
-    let all : drawn (opening begun.0) ++ drawn begun.1.0 ≡ drawn log = sym (drawn_more (opening begun.0) begun.1.0) ∙ ap drawn begun.1.1 in
-    let here : segment_at (drawn log) 0 ≡ Some leaf = subst (λ cs. segment_at cs 0 ≡ Some leaf) all (segment-stays (drawn (opening begun.0)) (drawn begun.1.0) 0 leaf refl) in
+    let all : drawn (opening begun.0) ++ drawn begun.1.0
+    ≡ drawn log = sym (drawn_more (opening begun.0) begun.1.0) ∙ ap drawn begun.1.1 in
+    let here : segment_at (drawn log) 0 ≡ Some leaf = subst (λ cs. segment_at cs 0 ≡ Some leaf) all
+    (segment-stays (drawn (opening begun.0)) (drawn begun.1.0) 0 leaf refl) in
     not_both (answer_at (spelled (drawn log)) 0) leaf (version_of means s) here h
 
 -- so the head word of an opened book isn't 0
-pub head_some : (means : Meanings) (log : List Entry) (h : ℕ) → IsOpened means log → h ≡ (last_move log).bits → (h == 0) ≡ false
+pub head_some : (means : Meanings) (log : List Entry) (h : ℕ) → IsOpened means log → h ≡ (last_move log).bits
+    → (h == 0) ≡ false
 head_some means log h opened is = elim (eqb_tells h 0) [
-  | inl zero_is ↦ absurd (no_commit means log (after (record_of log)) opened.1 (subst (λ (n : ℕ). Spells means (drawn log) (stamp_of (record { bits = n })) (after (record_of log))) (sym is ∙ zero_is.1) opened.0.spelled))
+  | inl zero_is ↦ absurd (no_commit means log (after (record_of log)) opened.1
+      (subst (λ (n : ℕ). Spells means (drawn log) (stamp_of (record { bits = n })) (after (record_of log)))
+      (sym is ∙ zero_is.1) opened.0.spelled))
   | inr not ↦ not.0
 ]
 
@@ -113,28 +140,46 @@ abbrev pub shown : List Entry → List Entry
 shown log = log
 
 -- what was opened stays so, and its words are what they say
-pub fits_opened : (means : Meanings) (v log : List Entry) (h d : ℕ) → IsPrefix v log → StartsOpened v → Fits means h d log → FitsOpened means h d log
+pub fits_opened : (means : Meanings) (v log : List Entry) (h d : ℕ) → IsPrefix v log → StartsOpened v
+    → Fits means h d log → FitsOpened means h d log
 fits_opened means v log h d pre starts (inl is) = is
-fits_opened means v log h d pre starts (inr un) = let s : StartsOpened [] = subst StartsOpened un.empty (starts_from v log pre starts) in absurd (cc s)
+fits_opened means v log h d pre starts (inr un) = let s : StartsOpened [] = subst StartsOpened un.empty
+    (starts_from v log pre starts) in absurd (cc s)
 
-trades_same : (ask : Entry) (log : List Entry) → Trades ask log (log ++ []) (answer (count (key_of ask) (log ++ [])) (count (key_of ask) (log ++ [])))
-trades_same ask log = record { before = ap (count (key_of ask)) (append-nil log); after = refl; others = λ k no. ap (count k) (append-nil log) }
+trades_same : (ask : Entry) (log : List Entry)
+    → Trades ask log (log ++ []) (answer (count (key_of ask) (log ++ [])) (count (key_of ask) (log ++ [])))
+trades_same ask log = record {
+  before = ap (count (key_of ask)) (append-nil log);
+  after = refl;
+  others = λ k no. ap (count k) (append-nil log);
+}
 
-trades_more : (ask : Entry) (log : List Entry) → Trades ask log (log ++ ask ∷ []) (answer (count (key_of ask) log) (count (key_of ask) (log ++ ask ∷ [])))
-trades_more ask log = record { before = refl; after = refl; others = λ k other. omega (arith, count_more k log (ask ∷ []), count_other k ask other) }
+trades_more : (ask : Entry) (log : List Entry)
+    → Trades ask log (log ++ ask ∷ []) (answer (count (key_of ask) log) (count (key_of ask) (log ++ ask ∷ [])))
+trades_more ask log = record {
+  before = refl;
+  after = refl;
+  others = λ k other. omega (arith, count_more k log (ask ∷ []), count_other k ask other);
+}
 
 -- a look adds nothing
-same_words : (means : Meanings) (log : List Entry) (h d : ℕ) → FitsOpened means h d log → IsKept means ((h, true) ∷ (d, true) ∷ []) (log ++ [])
-same_words means log h d fits = subst (λ (w : List Entry). IsKept means ((h, true) ∷ (d, true) ∷ []) w) (sym (append-nil log)) (record { head = h; drafts = d; words = refl; fits = inl fits })
+same_words : (means : Meanings) (log : List Entry) (h d : ℕ) → FitsOpened means h d log
+    → IsKept means ((h, true) ∷ (d, true) ∷ []) (log ++ [])
+same_words means log h d fits = subst (λ (w : List Entry). IsKept means ((h, true) ∷ (d, true) ∷ []) w)
+    (sym (append-nil log)) (record { head = h; drafts = d; words = refl; fits = inl fits })
 
 same_opened : (means : Meanings) (log : List Entry) → IsOpened means log → IsOpened means (log ++ [])
 same_opened means log o = subst (IsOpened means) (sym (append-nil log)) o
 
 -- a seat's look, at either word
-pub head_counted : (means : Meanings) (v : List Entry) (ask : Entry) → StartsOpened v → Moves (IsKept means) shown (Trades ask) 0 (v, (no_nib, None)) (λ n. n) (tells (Counts head_says means) (step 0 0 0 ask) (v, (no_nib, None)))
+pub head_counted : (means : Meanings) (v : List Entry) (ask : Entry) → StartsOpened v
+    → Moves (IsKept means) shown (Trades ask) 0 (v, (no_nib, None)) (λ n. n)
+    (tells (Counts head_says means) (step 0 0 0 ask) (v, (no_nib, None)))
 head_counted means v ask starts cs log kept pre away =
     let fits = fits_opened means v log kept.head kept.drafts pre starts kept.fits in
-    let P : List Cell → Type 0 = λ c. (0 < length c) × ((cell c 0).1 ≡ true) × Goes (IsKept means) shown (Trades ask) 0 (v, (no_nib, None)) (λ n. n) (tells (Counts head_says means) (step 0 0 0 ask) (v, (no_nib, None))) c log in
+    let P : List Cell → Type 0 = λ c. (0 < length c) × ((cell c 0).1 ≡ true)
+    × Goes (IsKept means) shown (Trades ask) 0 (v, (no_nib, None)) (λ n. n)
+    (tells (Counts head_says means) (step 0 0 0 ask) (v, (no_nib, None))) c log in
     let n : Answer = answer (count (key_of ask) (log ++ [])) (count (key_of ask) (log ++ [])) in
     subst P (sym kept.words) (
       omega arith,
@@ -146,14 +191,22 @@ head_counted means v ask starts cs log kept pre away =
         tt,
         same_words means log kept.head kept.drafts fits,
         inr (n, refl, refl, trades_same ask log),
-        record { opened = same_opened means log fits.opened; word = ap head_says (append-nil log) ∙ sym fits.head_is; counted = refl },
+        record {
+          opened = same_opened means log fits.opened;
+          word = ap head_says (append-nil log) ∙ sym fits.head_is;
+          counted = refl;
+        },
       ),
     )
 
-pub drafts_counted : (means : Meanings) (v : List Entry) (ask : Entry) → StartsOpened v → Moves (IsKept means) shown (Trades ask) 1 (v, (no_nib, None)) (λ n. n) (tells (Counts drafts_say means) (step 1 0 0 ask) (v, (no_nib, None)))
+pub drafts_counted : (means : Meanings) (v : List Entry) (ask : Entry) → StartsOpened v
+    → Moves (IsKept means) shown (Trades ask) 1 (v, (no_nib, None)) (λ n. n)
+    (tells (Counts drafts_say means) (step 1 0 0 ask) (v, (no_nib, None)))
 drafts_counted means v ask starts cs log kept pre away =
     let fits = fits_opened means v log kept.head kept.drafts pre starts kept.fits in
-    let P : List Cell → Type 0 = λ c. (1 < length c) × ((cell c 1).1 ≡ true) × Goes (IsKept means) shown (Trades ask) 1 (v, (no_nib, None)) (λ n. n) (tells (Counts drafts_say means) (step 1 0 0 ask) (v, (no_nib, None))) c log in
+    let P : List Cell → Type 0 = λ c. (1 < length c) × ((cell c 1).1 ≡ true)
+    × Goes (IsKept means) shown (Trades ask) 1 (v, (no_nib, None)) (λ n. n)
+    (tells (Counts drafts_say means) (step 1 0 0 ask) (v, (no_nib, None))) c log in
     let n : Answer = answer (count (key_of ask) (log ++ [])) (count (key_of ask) (log ++ [])) in
     subst P (sym kept.words) (
       omega arith,
@@ -165,7 +218,11 @@ drafts_counted means v ask starts cs log kept pre away =
         tt,
         same_words means log kept.head kept.drafts fits,
         inr (n, refl, refl, trades_same ask log),
-        record { opened = same_opened means log fits.opened; word = ap drafts_say (append-nil log) ∙ sym fits.drafts_are; counted = refl },
+        record {
+          opened = same_opened means log fits.opened;
+          word = ap drafts_say (append-nil log) ∙ sym fits.drafts_are;
+          counted = refl;
+        },
       ),
     )
 
@@ -175,37 +232,63 @@ before_more n m place (Drafted earlier) le h = h
 
 after_more : (n m place : ℕ) (cs : List (Node Child)) → n ≤ m → AreAfter n place cs → AreAfter m place cs
 after_more n m place [] le h = tt
-after_more n m place (c ∷ cs) le h = ((λ k d lt. before_more n m place _ le (h.0 k d lt)), after_more n m (suc place) cs le h.1)
+after_more n m place (c ∷ cs) le h = (
+  (λ k d lt. before_more n m place _ le (h.0 k d lt)),
+  after_more n m (suc place) cs le h.1,
+)
 
 -- what stood after a book stands after every longer one
-pub after_from : (v log : List Entry) (contents : List (Node Child)) → IsPrefix v log → AreAfter (next_stamp v) 0 contents → AreAfter (next_stamp log) 0 contents
-after_from v log contents pre h = after_more (next_stamp v) (next_stamp log) 0 contents (omega (arith, sym (ap next_stamp pre.1) ∙ next_more v pre.0)) h
+pub after_from : (v log : List Entry) (contents : List (Node Child)) → IsPrefix v log
+    → AreAfter (next_stamp v) 0 contents → AreAfter (next_stamp log) 0 contents
+after_from v log contents pre h = after_more (next_stamp v) (next_stamp log) 0 contents
+    (omega (arith, sym (ap next_stamp pre.1) ∙ next_more v pre.0)) h
 
 -- empty leaves have no children, so they stand after every book
 pub leaves_after : (n place count : ℕ) → AreAfter n place (replicate count empty_leaf)
 leaves_after n place zero = tt
 leaves_after n place (suc count) = ((λ k d lt. absurd (omega (arith, lt))), leaves_after n (suc place) count)
 
-draft_goes : (means : Meanings) (v log : List Entry) (by : Option ℕ) (contents : List (Node Child)) (old h d : ℕ) → IsPrefix v log → AreAfter (next_stamp v) 0 contents → FitsOpened means h d log
+draft_goes : (means : Meanings) (v log : List Entry) (by : Option ℕ) (contents : List (Node Child)) (old h d : ℕ)
+    → IsPrefix v log → AreAfter (next_stamp v) 0 contents → FitsOpened means h d log
     → old + length contents ≤ stamps → (b : Bool) → (d == old) ≡ b
-    → Goes (IsKept means) shown (Trades (drafted by old contents)) 1 (v, (no_nib, None)) (λ n. either (n == old) (old + length contents) n) (tells (Exchanges drafts_say means) (step 1 old (old + length contents) (drafted by old contents)) (v, (no_nib, None))) ((h, true) ∷ (d, true) ∷ []) log
+    → Goes (IsKept means) shown (Trades (drafted by old contents)) 1 (v, (no_nib, None))
+    (λ n. either (n == old) (old + length contents) n)
+    (tells (Exchanges drafts_say means) (step 1 old (old + length contents) (drafted by old contents))
+    (v, (no_nib, None))) ((h, true) ∷ (d, true) ∷ []) log
 draft_goes means v log by contents old h d pre before fits room true is =
     let at : next_stamp log ≡ old = sym fits.drafts_are ∙ eqb-true d old is in
     let e = drafted by old contents in
     let n : Answer = answer (count (key_of e) log) (count (key_of e) (log ++ e ∷ [])) in
     let room' : next_stamp log + length contents ≤ stamps = omega (arith, at, room) in
-    let book' : IsBook means (log ++ e ∷ []) = subst (λ (k : ℕ). IsBook means (log ++ drafted by k contents ∷ [])) at (book_draft means log by contents fits.opened.0 (after_from v log contents pre before) room') in
+    let book' : IsBook means (log ++ e ∷ []) = subst (λ (k : ℕ). IsBook means (log ++ drafted by k contents ∷ [])) at
+    (book_draft means log by contents fits.opened.0 (after_from v log contents pre before) room') in
     let starts' : StartsOpened (log ++ e ∷ []) = starts_more log (e ∷ []) fits.opened.1 in
-    let last : h ≡ (last_move (log ++ e ∷ [])).bits = fits.head_is ∙ sym (ap (λ (r : Ref). r.bits) (moved_more nowhere log (e ∷ []))) in
-    let next : old + length contents ≡ next_stamp (log ++ e ∷ []) = omega (arith, at, next_more log (e ∷ []), length-append (drafted_contents old contents) [], length-drafted old contents) in
+    let last : h ≡ (last_move (log ++ e ∷ [])).bits = fits.head_is ∙ sym
+    (ap (λ (r : Ref). r.bits) (moved_more nowhere log (e ∷ []))) in
+    let next : old + length contents ≡ next_stamp (log ++ e ∷ []) = omega (
+      arith,
+      at,
+      next_more log (e ∷ []),
+      length-append (drafted_contents old contents) [],
+      length-drafted old contents,
+    ) in
     let d' : either (d == old) (old + length contents) d ≡ old + length contents = rw is refl in (
       keeps,
       e ∷ [],
       Some n,
       tt,
-      record { head = h; drafts = old + length contents; words = ap (λ (k : ℕ). (h, true) ∷ (k, true) ∷ []) d'; fits = inl (record { opened = (book', starts'); head_is = last; drafts_are = next }) },
+      record {
+        head = h;
+        drafts = old + length contents;
+        words = ap (λ (k : ℕ). (h, true) ∷ (k, true) ∷ []) d';
+        fits = inl (record { opened = (book', starts'); head_is = last; drafts_are = next });
+      },
       inr (n, refl, refl, trades_more e log),
-      record { opened = (book', starts'); outcome = rw is (record { log = log; seen = pre; opened = fits.opened; word = at; added = refl; counted = refl }) },
+      record {
+        opened = (book', starts');
+        outcome = rw is
+            (record { log = log; seen = pre; opened = fits.opened; word = at; added = refl; counted = refl });
+      },
     )
 draft_goes means v log by contents old h d pre before fits room false is =
     let e = drafted by old contents in
@@ -217,43 +300,77 @@ draft_goes means v log by contents old h d pre before fits room false is =
       tt,
       subst (λ (k : ℕ). IsKept means ((h, true) ∷ (k, true) ∷ []) (log ++ [])) (sym d') (same_words means log h d fits),
       inr (n, refl, refl, trades_same e log),
-      record { opened = same_opened means log fits.opened; outcome = rw is (record { word = ap drafts_say (append-nil log) ∙ sym fits.drafts_are; counted = refl }) },
+      record {
+        opened = same_opened means log fits.opened;
+        outcome = rw is (record { word = ap drafts_say (append-nil log) ∙ sym fits.drafts_are; counted = refl });
+      },
     )
 
 -- whatever the book is, the exchange adds the draft, or finds that other stamps were drawn
-pub draft_moves : (means : Meanings) (v : List Entry) (by : Option ℕ) (contents : List (Node Child)) (old : ℕ) → StartsOpened v → AreAfter (next_stamp v) 0 contents → old + length contents ≤ stamps
-    → Moves (IsKept means) shown (Trades (drafted by old contents)) 1 (v, (no_nib, None)) (λ n. either (n == old) (old + length contents) n) (tells (Exchanges drafts_say means) (step 1 old (old + length contents) (drafted by old contents)) (v, (no_nib, None)))
+pub draft_moves : (means : Meanings) (v : List Entry) (by : Option ℕ) (contents : List (Node Child)) (old : ℕ)
+    → StartsOpened v → AreAfter (next_stamp v) 0 contents → old + length contents ≤ stamps
+    → Moves (IsKept means) shown (Trades (drafted by old contents)) 1 (v, (no_nib, None))
+    (λ n. either (n == old) (old + length contents) n)
+    (tells (Exchanges drafts_say means) (step 1 old (old + length contents) (drafted by old contents))
+    (v, (no_nib, None)))
 draft_moves means v by contents old starts before room cs log kept pre away =
     let fits = fits_opened means v log kept.head kept.drafts pre starts kept.fits in
-    let P : List Cell → Type 0 = λ c. (1 < length c) × ((cell c 1).1 ≡ true) × Goes (IsKept means) shown (Trades (drafted by old contents)) 1 (v, (no_nib, None)) (λ n. either (n == old) (old + length contents) n) (tells (Exchanges drafts_say means) (step 1 old (old + length contents) (drafted by old contents)) (v, (no_nib, None))) c log in
-    subst P (sym kept.words) (omega arith, refl, draft_goes means v log by contents old kept.head kept.drafts pre before fits room (kept.drafts == old) refl)
+    let P : List Cell → Type 0 = λ c. (1 < length c) × ((cell c 1).1 ≡ true)
+    × Goes (IsKept means) shown (Trades (drafted by old contents)) 1 (v, (no_nib, None))
+    (λ n. either (n == old) (old + length contents) n)
+    (tells (Exchanges drafts_say means) (step 1 old (old + length contents) (drafted by old contents))
+    (v, (no_nib, None))) c log in
+    subst P (sym kept.words) (
+      omega arith,
+      refl,
+      draft_goes means v log by contents old kept.head kept.drafts pre before fits room (kept.drafts == old) refl,
+    )
 
-move_goes : (means : Meanings) (v log : List Entry) (by : Option ℕ) (base to : Ref) (change : Change) (h d : ℕ) → IsPrefix v log → Follows means (drawn v) base to change → FitsOpened means h d log
+move_goes : (means : Meanings) (v log : List Entry) (by : Option ℕ) (base to : Ref) (change : Change) (h d : ℕ)
+    → IsPrefix v log → Follows means (drawn v) base to change → FitsOpened means h d log
     → (b : Bool) → (h == base.bits) ≡ b
-    → Goes (IsKept means) shown (Trades (moved by to (Some change))) 0 (v, (no_nib, None)) (λ n. either (n == base.bits) to.bits n) (tells (Exchanges head_says means) (step 0 base.bits to.bits (moved by to (Some change))) (v, (no_nib, None))) ((h, true) ∷ (d, true) ∷ []) log
+    → Goes (IsKept means) shown (Trades (moved by to (Some change))) 0 (v, (no_nib, None))
+    (λ n. either (n == base.bits) to.bits n)
+    (tells (Exchanges head_says means) (step 0 base.bits to.bits (moved by to (Some change))) (v, (no_nib, None)))
+    ((h, true) ∷ (d, true) ∷ []) log
 move_goes means v log by base to change h d pre follows fits true is =
     let at : h ≡ base.bits = eqb-true h base.bits is in
     let last : (last_move log).bits ≡ base.bits = sym fits.head_is ∙ at in
     let e = moved by to (Some change) in
     let n : Answer = answer (count (key_of e) log) (count (key_of e) (log ++ e ∷ [])) in
     let state : State = after (record_of log) in
-    let here : Spells means (drawn log) (stamp_of base) follows.state = spells_from means v log (stamp_of base) follows.state pre follows.before in
-    let now : Spells means (drawn log) (stamp_of base) state = subst (λ (k : ℕ). Spells means (drawn log) (stamp_of (record { bits = k })) state) last fits.opened.0.spelled in
+    let here : Spells means (drawn log) (stamp_of base) follows.state = spells_from means v log
+    (stamp_of base) follows.state pre follows.before in
+    let now : Spells means (drawn log) (stamp_of base) state = subst
+    (λ (k : ℕ). Spells means (drawn log) (stamp_of (record { bits = k })) state) last fits.opened.0.spelled in
     let same : follows.state ≡ state = spells_once means (drawn log) (stamp_of base) follows.state state here now in
     let may : IsAccepted means state change = subst (λ (s : State). IsAccepted means s change) same follows.accepted in
-    let then : Spells means (drawn log) (stamp_of to) (after_change state change) = subst (λ (s : State). Spells means (drawn log) (stamp_of to) (after_change s change)) same (spells_from means v log (stamp_of to) (after_change follows.state change) pre follows.then) in
+    let then : Spells means (drawn log) (stamp_of to) (after_change state change) = subst
+    (λ (s : State). Spells means (drawn log) (stamp_of to) (after_change s change)) same
+    (spells_from means v log (stamp_of to) (after_change follows.state change) pre follows.then) in
     let book' : IsBook means (log ++ e ∷ []) = book_move means log by to change fits.opened.0 may then in
     let starts' : StartsOpened (log ++ e ∷ []) = starts_more log (e ∷ []) fits.opened.1 in
-    let goes : (last_move (log ++ e ∷ [])).bits ≡ to.bits = ap (λ (r : Ref). r.bits) (moved_more nowhere log (e ∷ [])) in
+    let goes : (last_move (log ++ e ∷ [])).bits
+    ≡ to.bits = ap (λ (r : Ref). r.bits) (moved_more nowhere log (e ∷ [])) in
     let h' : either (h == base.bits) to.bits h ≡ to.bits = rw is refl in
-    let next : d ≡ next_stamp (log ++ e ∷ []) = let f : d ≡ next_stamp log = fits.drafts_are in omega (arith, f, next_more log (e ∷ [])) in (
+    let next : d ≡ next_stamp (log ++ e ∷ []) = let f : d ≡ next_stamp log = fits.drafts_are in
+    omega (arith, f, next_more log (e ∷ [])) in (
       keeps,
       e ∷ [],
       Some n,
       tt,
-      record { head = to.bits; drafts = d; words = ap (λ (k : ℕ). (k, true) ∷ (d, true) ∷ []) h'; fits = inl (record { opened = (book', starts'); head_is = sym goes; drafts_are = next }) },
+      record {
+        head = to.bits;
+        drafts = d;
+        words = ap (λ (k : ℕ). (k, true) ∷ (d, true) ∷ []) h';
+        fits = inl (record { opened = (book', starts'); head_is = sym goes; drafts_are = next });
+      },
       inr (n, refl, refl, trades_more e log),
-      record { opened = (book', starts'); outcome = rw is (record { log = log; seen = pre; opened = fits.opened; word = last; added = refl; counted = refl }) },
+      record {
+        opened = (book', starts');
+        outcome = rw is
+            (record { log = log; seen = pre; opened = fits.opened; word = last; added = refl; counted = refl });
+      },
     )
 move_goes means v log by base to change h d pre follows fits false is =
     let e = moved by to (Some change) in
@@ -265,16 +382,30 @@ move_goes means v log by base to change h d pre follows fits false is =
       tt,
       subst (λ (k : ℕ). IsKept means ((k, true) ∷ (d, true) ∷ []) (log ++ [])) (sym h') (same_words means log h d fits),
       inr (n, refl, refl, trades_same e log),
-      record { opened = same_opened means log fits.opened; outcome = rw is (record { word = ap head_says (append-nil log) ∙ sym fits.head_is; counted = refl }) },
+      record {
+        opened = same_opened means log fits.opened;
+        outcome = rw is (record { word = ap head_says (append-nil log) ∙ sym fits.head_is; counted = refl });
+      },
     )
 
 -- whatever the book is, the exchange adds the move directly after the one expected, or finds another last move
-pub move_moves : (means : Meanings) (v : List Entry) (by : Option ℕ) (base to : Ref) (change : Change) → StartsOpened v → Follows means (drawn v) base to change
-    → Moves (IsKept means) shown (Trades (moved by to (Some change))) 0 (v, (no_nib, None)) (λ n. either (n == base.bits) to.bits n) (tells (Exchanges head_says means) (step 0 base.bits to.bits (moved by to (Some change))) (v, (no_nib, None)))
+pub move_moves : (means : Meanings) (v : List Entry) (by : Option ℕ) (base to : Ref) (change : Change) → StartsOpened v
+    → Follows means (drawn v) base to change
+    → Moves (IsKept means) shown (Trades (moved by to (Some change))) 0 (v, (no_nib, None))
+    (λ n. either (n == base.bits) to.bits n)
+    (tells (Exchanges head_says means) (step 0 base.bits to.bits (moved by to (Some change))) (v, (no_nib, None)))
 move_moves means v by base to change starts follows cs log kept pre away =
     let fits = fits_opened means v log kept.head kept.drafts pre starts kept.fits in
-    let P : List Cell → Type 0 = λ c. (0 < length c) × ((cell c 0).1 ≡ true) × Goes (IsKept means) shown (Trades (moved by to (Some change))) 0 (v, (no_nib, None)) (λ n. either (n == base.bits) to.bits n) (tells (Exchanges head_says means) (step 0 base.bits to.bits (moved by to (Some change))) (v, (no_nib, None))) c log in
-    subst P (sym kept.words) (omega arith, refl, move_goes means v log by base to change kept.head kept.drafts pre follows fits (kept.head == base.bits) refl)
+    let P : List Cell → Type 0 = λ c. (0 < length c) × ((cell c 0).1 ≡ true)
+    × Goes (IsKept means) shown (Trades (moved by to (Some change))) 0 (v, (no_nib, None))
+    (λ n. either (n == base.bits) to.bits n)
+    (tells (Exchanges head_says means) (step 0 base.bits to.bits (moved by to (Some change)))
+    (v, (no_nib, None))) c log in
+    subst P (sym kept.words) (
+      omega arith,
+      refl,
+      move_goes means v log by base to change kept.head kept.drafts pre follows fits (kept.head == base.bits) refl,
+    )
 
 pub opening_counts : (r : Ref) (k : ℕ) → k ≢ 0 → count k (opening r) ≡ 0
 opening_counts r k other = elim (eqb_tells 0 k) [
@@ -288,16 +419,28 @@ opening_child (suc k) d lt = absurd (omega (arith, lt))
 
 -- the opening commit spells the opening state
 pub opening_spells : (means : Meanings) (r : Ref) → Spells means (drawn (opening r)) 1 (after [])
-opening_spells means r = ap (λ (m : Entries). Some (record { state = pulled_state m null_cookie finite.empty; read = m })) empty_map
+opening_spells means r = ap (λ (m : Entries). Some
+    (record { state = pulled_state m null_cookie finite.empty; read = m })) empty_map
 
 -- the opening book
 pub opening_book : (means : Meanings) (r : Ref) → stamp_of r ≡ 1 → IsOpened means (opening r)
 opening_book means r one =
-    let spelled : Spells means (drawn (opening r)) (stamp_of r) (after []) = subst (λ (k : ℕ). Spells means (drawn (opening r)) k (after [])) (sym one) (opening_spells means r) in
-    (record { numbered = refl; room = lit≤ tt; ordered = ((λ k d lt. absurd (omega (arith, lt))), ((λ k d lt. opening_child k d lt), tt)); legal = tt; spelled = spelled }, refl)
+    let spelled : Spells means (drawn (opening r)) (stamp_of r) (after []) = subst
+    (λ (k : ℕ). Spells means (drawn (opening r)) k (after [])) (sym one) (opening_spells means r) in (
+      record {
+        numbered = refl;
+        room = lit≤ tt;
+        ordered = ((λ k d lt. absurd (omega (arith, lt))), ((λ k d lt. opening_child k d lt), tt));
+        legal = tt;
+        spelled = spelled;
+      },
+      refl,
+    )
 
-opens_goes : (means : Meanings) (v log : List Entry) (ask : Entry) (r : Ref) (h d : ℕ) → key_of ask ≡ 0 → stamp_of r ≡ 1 → Fits means h d log
-    → Goes (IsKept means) shown (Trades ask) 0 (v, (no_nib, None)) (λ n. either (n == 0) r.bits n) (tells Opens (step 0 0 r.bits ask) (v, (no_nib, None))) ((h, true) ∷ (d, true) ∷ []) log
+opens_goes : (means : Meanings) (v log : List Entry) (ask : Entry) (r : Ref) (h d : ℕ) → key_of ask ≡ 0 → stamp_of r ≡ 1
+    → Fits means h d log
+    → Goes (IsKept means) shown (Trades ask) 0 (v, (no_nib, None)) (λ n. either (n == 0) r.bits n)
+    (tells Opens (step 0 0 r.bits ask) (v, (no_nib, None))) ((h, true) ∷ (d, true) ∷ []) log
 opens_goes means v log ask r h d key one (inl fits) =
     let n : Answer = answer (count (key_of ask) (log ++ [])) (count (key_of ask) (log ++ [])) in
     let is : (h == 0) ≡ false = head_some means log h fits.opened fits.head_is in
@@ -317,7 +460,13 @@ opens_goes means v log ask r h d key one (inr un) =
     let d' : d ≡ next_stamp (opening r) = un.drafts_are in
     let opened : IsOpened means (opening r) = opening_book means r one in
     let all : log ++ opening r ≡ opening r = ap (λ w. w ++ opening r) un.empty in
-    let kept : IsKept means ((r.bits, true) ∷ (d, true) ∷ []) (opening r) = record { head = r.bits; drafts = d; words = refl; fits = inl (record { opened = opened; head_is = refl; drafts_are = d' }) } in
+    let kept : IsKept means ((r.bits, true) ∷ (d, true) ∷ [])
+    (opening r) = record {
+      head = r.bits;
+      drafts = d;
+      words = refl;
+      fits = inl (record { opened = opened; head_is = refl; drafts_are = d' });
+    } in
     let trade : Trades ask log (log ++ opening r) n = record {
       before = sym (ap (count (key_of ask)) un.empty);
       after = rw (all, key) refl;
@@ -334,7 +483,10 @@ opens_goes means v log ask r h d key one (inr un) =
 
 -- the exchange opens the book, where nothing was added by no seat
 pub opens_moves : (means : Meanings) (v : List Entry) (ask : Entry) (r : Ref) → key_of ask ≡ 0 → stamp_of r ≡ 1
-    → Moves (IsKept means) shown (Trades ask) 0 (v, (no_nib, None)) (λ n. either (n == 0) r.bits n) (tells Opens (step 0 0 r.bits ask) (v, (no_nib, None)))
+    → Moves (IsKept means) shown (Trades ask) 0 (v, (no_nib, None)) (λ n. either (n == 0) r.bits n)
+    (tells Opens (step 0 0 r.bits ask) (v, (no_nib, None)))
 opens_moves means v ask r key one cs log kept pre away =
-    let P : List Cell → Type 0 = λ c. (0 < length c) × ((cell c 0).1 ≡ true) × Goes (IsKept means) shown (Trades ask) 0 (v, (no_nib, None)) (λ n. either (n == 0) r.bits n) (tells Opens (step 0 0 r.bits ask) (v, (no_nib, None))) c log in
+    let P : List Cell → Type 0 = λ c. (0 < length c) × ((cell c 0).1 ≡ true)
+    × Goes (IsKept means) shown (Trades ask) 0 (v, (no_nib, None)) (λ n. either (n == 0) r.bits n)
+    (tells Opens (step 0 0 r.bits ask) (v, (no_nib, None))) c log in
     subst P (sym kept.words) (omega arith, refl, opens_goes means v log ask r kept.head kept.drafts key one kept.fits)

@@ -1,6 +1,7 @@
 -- The book of a group: the contents that were drafted, by stamp, and the moves of the head.
 -- This project's own rules.
-use Rattle.std.specs.Prelude.{ℕ, suc, nat_lt, ◌-◌, cond, ◌≡◌, ◌+◌, ◌<◌, ◌≤◌, ◌==◌, ◌&&◌, Bool, true, List, [], ◌∷◌, ◌++◌, length, map, take, All, Some, None, Option}
+use Rattle.std.specs.Prelude.{ℕ, suc, nat_lt, ◌-◌, cond, ◌≡◌, ◌+◌, ◌<◌, ◌≤◌, ◌==◌, ◌&&◌, Bool, true, List, [], ◌∷◌}
+use Rattle.std.specs.Prelude.{◌++◌, length, map, take, All, Some, None, Option}
 use Rattle.std.specs.FinMap as finite
 use Rattle.group_history.specs.declared.refs.Ref.{Ref}
 use Rattle.group_history.specs.declared.changes.Change.{Change}
@@ -93,7 +94,10 @@ empty_leaf = node.Chunk (Leaf [])
 
 -- and the opening snapshot over it, of stamp 1
 abbrev pub opening_snapshot : Node Child
-opening_snapshot = node.Commit (record { root = Drafted 0; kind = Snapshot (record { cookie = null_cookie; confirmed = finite.empty }) })
+opening_snapshot = node.Commit (record {
+  root = Drafted 0;
+  kind = Snapshot (record { cookie = null_cookie; confirmed = finite.empty });
+})
 
 -- so the opening draws so many stamps
 abbrev pub opening_stamps : ℕ

@@ -17,16 +17,21 @@ IsDraftAt log place d = slice_get log place ≡ Some (v.Draft d)
 -- Laws of books, for mutators of any meaning.
 pub record BookLaws (means : Meanings) : Type 0 where
   -- the content of a stamp is the same in every longer book
-  pub content_stays : (xs ys : List Entry) → IsPrefix xs ys → (stamp : ℕ) (c : Node ℕ) → slice_get (drawn xs) stamp ≡ Some c → slice_get (drawn ys) stamp ≡ Some c
+  pub content_stays : (xs ys : List Entry) → IsPrefix xs ys → (stamp : ℕ) (c : Node ℕ)
+      → slice_get (drawn xs) stamp ≡ Some c → slice_get (drawn ys) stamp ≡ Some c
   -- and so is the version that it spells
-  pub version_stays : (xs ys : List Entry) → IsPrefix xs ys → (stamp : ℕ) (w : Version) → version_at (drawn xs) stamp ≡ Some w → version_at (drawn ys) stamp ≡ Some w
+  pub version_stays : (xs ys : List Entry) → IsPrefix xs ys → (stamp : ℕ) (w : Version)
+      → version_at (drawn xs) stamp ≡ Some w → version_at (drawn ys) stamp ≡ Some w
   -- a draft's node at place p is the content of its first stamp plus p
-  pub content_drafted : (log : List Entry) → IsOpened means log → (at : ℕ) (d : Draft) → IsDraftAt log at d → (p : ℕ) → p < length d.contents
+  pub content_drafted : (log : List Entry) → IsOpened means log → (at : ℕ) (d : Draft) → IsDraftAt log at d → (p : ℕ)
+      → p < length d.contents
       → slice_get (drawn log) (d.first + p) ≡ option_map (drafted_content d.first) (slice_get d.contents p)
   -- a stamp names one draft of the book, and one node of it
-  pub drafted_once : (log : List Entry) → IsOpened means log → (at bt : ℕ) (d e : Draft) → IsDraftAt log at d → IsDraftAt log bt e
+  pub drafted_once : (log : List Entry) → IsOpened means log → (at bt : ℕ) (d e : Draft) → IsDraftAt log at d
+      → IsDraftAt log bt e
       → (p q : ℕ) → p < length d.contents → q < length e.contents → d.first + p ≡ e.first + q → (at ≡ bt) × (p ≡ q)
   -- of the records of two beginnings of one book one begins the other
-  pub one_record : (xs ys book : List Entry) → IsPrefix xs book → IsPrefix ys book → IsPrefix (record_of xs) (record_of ys) ⊎ IsPrefix (record_of ys) (record_of xs)
+  pub one_record : (xs ys book : List Entry) → IsPrefix xs book → IsPrefix ys book
+      → IsPrefix (record_of xs) (record_of ys) ⊎ IsPrefix (record_of ys) (record_of xs)
   -- the record of a book begins the record of every longer one
   pub record_grows : (xs ys : List Entry) → IsPrefix xs ys → IsPrefix (record_of xs) (record_of ys)

@@ -21,7 +21,8 @@ ghost use Rattle.std.specs.Prelude.{◌≡◌, ◌≢◌, ◌+◌, ◌<◌, ◌�
 ghost use mathlib.Core.List.{IsPrefix};
 ghost use Rattle.group_history.specs.Refs.{stamps};
 ghost use Rattle.head_word.specs.declared.entry.Entry.{Entry};
-ghost use Rattle.head_word.specs.Books.{last_move, next_stamp, drawn, drafted, moved, AreAfter, Follows, IsOpened, drafted_from};
+ghost use Rattle.head_word.specs.Books.{last_move, next_stamp, drawn, drafted, moved, AreAfter, Follows, IsOpened};
+ghost use Rattle.head_word.specs.Books.{drafted_from};
 ghost use Rattle.head_word.specs.Marks.{own, others};
 
 use crate::asks::{Asks, Idle, Look, Wanted};
@@ -52,7 +53,8 @@ impl<M: Means> Model for Head<M> {
 
     ghost view = { λ h. h.head_word.book };
 
-    ghost invariant = { λ h. (h.head_word ≡ word_of head_key h.head_word.book) × (h.draft_word ≡ word_of drafts_key h.head_word.book) };
+    ghost invariant = { λ h. (h.head_word ≡ word_of head_key h.head_word.book)
+        × (h.draft_word ≡ word_of drafts_key h.head_word.book) };
 }
 
 impl<M: Means> Head<M> {
@@ -102,9 +104,11 @@ impl<M: Means> Head<M> {
         ensures book { mark.new.book ≡ mark.old.book }
         ensures seat { mark.new.seat ≡ mark.old.seat }
         ensures seen { IsPrefix mark.old.log mark.new.log }
-        ensures drawn { IfOk result (λ first. (log : List Entry) × IsPrefix mark.old.log log × (next_stamp log ≡ first) × (mark.new.log ≡ log ++ drafted mark.old.seat first (drafted_from from nodes.now) ∷ [])) }
+        ensures drawn { IfOk result (λ first. (log : List Entry) × IsPrefix mark.old.log log × (next_stamp log ≡ first)
+            × (mark.new.log ≡ log ++ drafted mark.old.seat first (drafted_from from nodes.now) ∷ [])) }
         ensures room { IfOk result (λ first. first + length nodes.now < stamps) }
-        ensures once { IfOk result (λ first. own mark.new ≡ own mark.old ++ drafted mark.old.seat first (drafted_from from nodes.now) ∷ []) }
+        ensures once { IfOk result (λ first. own mark.new
+            ≡ own mark.old ++ drafted mark.old.seat first (drafted_from from nodes.now) ∷ []) }
         ensures nothing { IfErr result (λ _. own mark.new ≡ own mark.old) }
         ensures moved { IfErr result (λ e. e ≡ Lost.Moved → length mark.old.log < length mark.new.log) }
         ensures others { IfErr result (λ e. e ≡ Lost.Moved → others mark.old < others mark.new) }
@@ -141,8 +145,10 @@ impl<M: Means> Head<M> {
         ensures book { mark.new.book ≡ mark.old.book }
         ensures seat { mark.new.seat ≡ mark.old.seat }
         ensures seen { IsPrefix mark.old.log mark.new.log }
-        ensures won { IfOk result (λ _. (log : List Entry) × IsPrefix mark.old.log log × IsOpened M.means log × (last_move log ≡ base) × (mark.new.log ≡ log ++ moved mark.old.seat new (Some change.now) ∷ [])) }
-        ensures once { IfOk result (λ _. own mark.new ≡ own mark.old ++ moved mark.old.seat new (Some change.now) ∷ []) }
+        ensures won { IfOk result (λ _. (log : List Entry) × IsPrefix mark.old.log log × IsOpened M.means log
+            × (last_move log ≡ base) × (mark.new.log ≡ log ++ moved mark.old.seat new (Some change.now) ∷ [])) }
+        ensures once { IfOk result (λ _. own mark.new
+            ≡ own mark.old ++ moved mark.old.seat new (Some change.now) ∷ []) }
         ensures nothing { IfErr result (λ _. own mark.new ≡ own mark.old) }
         ensures moved { IfErr result (λ _. last_move mark.new.log ≢ base) }
     {

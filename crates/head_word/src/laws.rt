@@ -19,7 +19,8 @@ pub fn book_laws()
 pub fn one_record<M: Means>(one: &Mark<M>, other: &Mark<M>)
     requires { one.now.book ≡ other.now.book }
     ensures books { IsPrefix one.now.log other.now.log ⊎ IsPrefix other.now.log one.now.log }
-    ensures records { IsPrefix (record_of one.now.log) (record_of other.now.log) ⊎ IsPrefix (record_of other.now.log) (record_of one.now.log) }
+    ensures records { IsPrefix (record_of one.now.log) (record_of other.now.log)
+        ⊎ IsPrefix (record_of other.now.log) (record_of one.now.log) }
 {
     let mut both = one.seen.again();
     both.learn(&other.seen);

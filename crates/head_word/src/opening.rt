@@ -66,7 +66,8 @@ fn seat_all<M: Means>(
     seats: u32,
 ) -> Result<Vec<Mark<M>>, AllocError>
     requires opened { (at : Ref) × (seen.now.log ≡ opening at) × IsOpened M.means (opening at) }
-    requires tallies { (tallies.names ≡ seen.now.names) × (tallies.next ≡ 1) × (tallies.left ≡ seats) × (keys_of tallies.names ≡ seats + 1) }
+    requires tallies { (tallies.names ≡ seen.now.names) × (tallies.next ≡ 1) × (tallies.left ≡ seats)
+        × (keys_of tallies.names ≡ seats + 1) }
     ensures marks { IfOk result (λ marks. marks.items ≡ seated seen.now.book seen.now.log seats) }
 {
     let mut marks = Vec::with_capacity(alloc, seats as usize)?;

@@ -22,9 +22,11 @@ impl<M: Means> Head<M> {
         ensures book { mark.new.book ≡ mark.old.book }
         ensures seat { mark.new.seat ≡ mark.old.seat }
         ensures seen { IsPrefix mark.old.log mark.new.log }
-        ensures drawn { IfOk result (λ first. (log : List Entry) × IsPrefix mark.old.log log × (next_stamp log ≡ first) × (mark.new.log ≡ log ++ drafted mark.old.seat first (replicate count empty_leaf) ∷ [])) }
+        ensures drawn { IfOk result (λ first. (log : List Entry) × IsPrefix mark.old.log log × (next_stamp log ≡ first)
+            × (mark.new.log ≡ log ++ drafted mark.old.seat first (replicate count empty_leaf) ∷ [])) }
         ensures room { IfOk result (λ first. first + count < stamps) }
-        ensures once { IfOk result (λ first. own mark.new ≡ own mark.old ++ drafted mark.old.seat first (replicate count empty_leaf) ∷ []) }
+        ensures once { IfOk result (λ first. own mark.new
+            ≡ own mark.old ++ drafted mark.old.seat first (replicate count empty_leaf) ∷ []) }
         ensures nothing { IfErr result (λ _. own mark.new ≡ own mark.old) }
         ensures moved { IfErr result (λ e. e ≡ Lost.Moved → length mark.old.log < length mark.new.log) }
         ensures others { IfErr result (λ e. e ≡ Lost.Moved → others mark.old < others mark.new) }

@@ -1,6 +1,7 @@
 //! The steps of a seat on the two words, one for each function. The tally goes into the step's offer and
 //! comes back, also where the step is a look or an exchange that is lost.
-ghost use Rattle.std.specs.Prelude.{◌≡◌, ◌≢◌, ◌+◌, ◌≤◌, ◌++◌, ◌∷◌, [], List, Some, IsSome, MatchBool, if◌then◌else◌, length};
+ghost use Rattle.std.specs.Prelude.{◌≡◌, ◌≢◌, ◌+◌, ◌≤◌, ◌++◌, ◌∷◌, [], List, Some, IsSome, MatchBool, if◌then◌else◌};
+ghost use Rattle.std.specs.Prelude.{length};
 ghost use mathlib.Core.List.{IsPrefix};
 ghost use Rattle.group_history.specs.declared.nodes.Child.{Child};
 ghost use Rattle.group_history.specs.declared.nodes.Node.{Node};
@@ -55,11 +56,13 @@ impl<M: Means> Head<M> {
         requires book { mark.old.book ≡ self.now }
         requires seat { IsSome mark.old.seat }
         requires room { first + count ≤ stamps }
-        requires asked { (contents : List (Node Child)) × (P.ask about.now ≡ drafted mark.old.seat first contents) × (length contents ≡ count) × AreAfter (next_stamp mark.old.log) 0 contents }
+        requires asked { (contents : List (Node Child)) × (P.ask about.now ≡ drafted mark.old.seat first contents)
+            × (length contents ≡ count) × AreAfter (next_stamp mark.old.log) 0 contents }
         ensures book { mark.new.book ≡ mark.old.book }
         ensures seat { mark.new.seat ≡ mark.old.seat }
         ensures seen { IsPrefix mark.old.log mark.new.log }
-        ensures added { MatchBool result ((log : List Entry) × IsPrefix mark.old.log log × (next_stamp log ≡ first) × (mark.new.log ≡ log ++ P.ask about.now ∷ [])) (next_stamp mark.new.log ≢ first) }
+        ensures added { MatchBool result ((log : List Entry) × IsPrefix mark.old.log log × (next_stamp log ≡ first)
+            × (mark.new.log ≡ log ++ P.ask about.now ∷ [])) (next_stamp mark.new.log ≢ first) }
         ensures own { own mark.new ≡ own mark.old ++ (if result then P.ask about.now ∷ [] else []) }
     {
         let Some(seat) = mark.seat.take() else {
@@ -92,8 +95,11 @@ impl<M: Means> Head<M> {
         ensures book { mark.new.book ≡ mark.old.book }
         ensures seat { mark.new.seat ≡ mark.old.seat }
         ensures seen { IsPrefix mark.old.log mark.new.log }
-        ensures added { MatchBool result ((log : List Entry) × IsPrefix mark.old.log log × IsOpened M.means log × (last_move log ≡ base) × (mark.new.log ≡ log ++ moved mark.old.seat new (Some change.now) ∷ [])) (last_move mark.new.log ≢ base) }
-        ensures own { own mark.new ≡ own mark.old ++ (if result then moved mark.old.seat new (Some change.now) ∷ [] else []) }
+        ensures added { MatchBool result ((log : List Entry) × IsPrefix mark.old.log log × IsOpened M.means log
+            × (last_move log ≡ base) × (mark.new.log ≡ log ++ moved mark.old.seat new (Some change.now) ∷ []))
+            (last_move mark.new.log ≢ base) }
+        ensures own { own mark.new ≡ own mark.old
+            ++ (if result then moved mark.old.seat new (Some change.now) ∷ [] else []) }
     {
         let Some(seat) = mark.seat.take() else {
             return false;

@@ -43,7 +43,8 @@ impl Model for Tallies {
 impl Tallies {
     /// What clients of a new book keep, and the tallies of so many keys.
     pub fn open<M: Means>(keys: u64) -> (Start<Entry, Answer, Law<M>>, Tallies)
-        ensures { (result.0.shown ≡ []) × (result.0.names ≡ result.1.names) × (keys_of result.1.names ≡ keys) × (result.1.next ≡ 0) × (result.1.left ≡ keys) }
+        ensures { (result.0.shown ≡ []) × (result.0.names ≡ result.1.names) × (keys_of result.1.names ≡ keys)
+            × (result.1.next ≡ 0) × (result.1.left ≡ keys) }
     {
         let _ = keys;
         (
@@ -59,7 +60,8 @@ impl Tallies {
     pub fn take(&mut self) -> Tally
         requires { 0 < self.old.left }
         ensures tally { (result.names ≡ self.old.names) × (result.key ≡ self.old.next) × (result.count ≡ 0) }
-        ensures rest { (self.new.names ≡ self.old.names) × (self.new.next ≡ self.old.next + 1) × (self.new.left ≡ self.old.left - 1) }
+        ensures rest { (self.new.names ≡ self.old.names) × (self.new.next ≡ self.old.next + 1)
+            × (self.new.left ≡ self.old.left - 1) }
     {
         Tally {
             marker: PhantomData,
@@ -74,7 +76,8 @@ impl Tally {
         about: &X,
     ) -> Offer<Entry, Answer, Law<M>, Traded>
         requires { (key_of (P.ask about.now) ≡ self.key) × (self.key < keys_of self.names) }
-        ensures { (result.names ≡ self.names) × (result.ask ≡ P.ask about.now) × (result.about ≡ P.ask about.now ∷ replicate self.count (P.ask about.now)) × (result.state ≡ None) }
+        ensures { (result.names ≡ self.names) × (result.ask ≡ P.ask about.now)
+            × (result.about ≡ P.ask about.now ∷ replicate self.count (P.ask about.now)) × (result.state ≡ None) }
     {
         let Self { marker: _ } = self;
         Offer {
@@ -84,7 +87,8 @@ impl Tally {
 
     /// And comes back.
     pub fn regained(gained: Gained<Entry, Answer, Traded>) -> Tally
-        ensures { (result.names ≡ gained.names) × (result.key ≡ told_key gained.about) × (result.count ≡ gained.answer.after) × (gained.answer.before ≡ told_count gained.about) }
+        ensures { (result.names ≡ gained.names) × (result.key ≡ told_key gained.about)
+            × (result.count ≡ gained.answer.after) × (gained.answer.before ≡ told_count gained.about) }
     {
         let Gained { marker: _ } = gained;
         Tally {

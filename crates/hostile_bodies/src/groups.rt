@@ -52,7 +52,8 @@ fn client_of<'g>(
     seats: &mut Seats<ScriptMutators, Store>,
     id: Uuid,
 ) -> Result<Caller<'g>, Refusal>
-    requires { All (λ seat. (seat.mark.book ≡ group.now.shared.head) × (seat.slots.table ≡ group.now.shared.store.claims)) seats.old.free.items }
+    requires { All (λ seat. (seat.mark.book ≡ group.now.shared.head)
+        × (seat.slots.table ≡ group.now.shared.store.claims)) seats.old.free.items }
 {
     let seat = seats.take()?;
     match group.client(seat, id, TRIES) {
@@ -113,7 +114,8 @@ fn told_in(
     id: Uuid,
     bodies: &[&[u8]],
 ) -> Result<String, Refusal>
-    requires { All (λ seat. (seat.mark.book ≡ group.now.shared.head) × (seat.slots.table ≡ group.now.shared.store.claims)) seats.old.free.items }
+    requires { All (λ seat. (seat.mark.book ≡ group.now.shared.head)
+        × (seat.slots.table ≡ group.now.shared.store.claims)) seats.old.free.items }
 {
     let mut client = client_of(group, seats, id)?;
     told_by(alloc, &mut client, bodies)

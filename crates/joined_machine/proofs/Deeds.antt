@@ -16,9 +16,11 @@ use Rattle.joined_machine.proofs.Rows.{gone, left}
 
 -- A live slot stays so, or the seat retires it, which had it left
 abbrev pub Retires : View → Work → ℕ → ℕ → Work → Type 0
-Retires v a z y b = (y ≡ slot_word (Retired (v.loaded + 1))) × IsLate a.try × In (slots_of a.try) z × (In (slots_of b.try) z → ⊥)
+Retires v a z y b = (y ≡ slot_word (Retired (v.loaded + 1))) × IsLate a.try × In (slots_of a.try) z
+    × (In (slots_of b.try) z → ⊥)
 
-pub from_live : (v : View) (a : Work) (z i x y : ℕ) (w : View) (m : Move v i x y w) → May a.try m → i ≡ slot_at z → x ≡ slot_word Live
+pub from_live : (v : View) (a : Work) (z i x y : ℕ) (w : View) (m : Move v i x y w) → May a.try m → i ≡ slot_at z
+    → x ≡ slot_word Live
     → (y ≡ slot_word Live) ⊎ Retires v a z y (work_after a m)
 from_live v a z i x y w (table.load_epoch e) may at is = absurd (omega arith)
 from_live v a z i x y w (table.store_pin n e some_pin few) may at is = absurd (omega arith)
@@ -41,7 +43,8 @@ from_live v a z i x y w (table.give j r room open_at) may at is = absurd (omega 
 from_live v a z i x y w (table.lost j old n room miss) may at is = inl is
 
 -- a retired slot stays so, or the seat gives it
-pub from_retired : (v : View) (z r i x y : ℕ) (w : View) (m : Move v i x y w) → i ≡ slot_at z → x ≡ slot_word (Retired r)
+pub from_retired : (v : View) (z r i x y : ℕ) (w : View) (m : Move v i x y w) → i ≡ slot_at z
+    → x ≡ slot_word (Retired r)
     → (y ≡ slot_word (Retired r)) ⊎ IsOpen v r
 from_retired v z r i x y w (table.load_epoch e) at is = absurd (omega arith)
 from_retired v z r i x y w (table.store_pin n e some_pin few) at is = absurd (omega arith)
@@ -53,7 +56,8 @@ from_retired v z r i x y w (table.take j some_reader room) at is = absurd (omega
 from_retired v z r i x y w (table.settle j inside) at is = absurd (omega arith)
 from_retired v z r i x y w (table.withdraw j inside) at is = absurd (omega arith)
 from_retired v z r i x y w (table.retire j room past) at is = absurd (omega arith)
-from_retired v z r i x y w (table.give j s room open_at) at is = let same : s ≡ r = omega arith in inr (subst (IsOpen v) same open_at)
+from_retired v z r i x y w (table.give j s room open_at) at is = let same : s ≡ r = omega arith in
+    inr (subst (IsOpen v) same open_at)
 from_retired v z r i x y w (table.lost j old n room miss) at is = inl is
 
 -- the slot was the seat's own, and is live
@@ -71,7 +75,8 @@ same_slots (under_way settled drawn) z h = h
 same_slots (ended left loaded) z h = h
 
 -- the slots of a try are those from before, and one that was settled
-pub slots_from : (v : View) (a : Work) (z i x y : ℕ) (w : View) (m : Move v i x y w) → In (slots_of (work_after a m).try) z
+pub slots_from : (v : View) (a : Work) (z i x y : ℕ) (w : View) (m : Move v i x y w)
+    → In (slots_of (work_after a m).try) z
     → In (slots_of a.try) z ⊎ Settles v z i x y
 slots_from v a z i x y w (table.load_epoch e) h = inl (same_slots a.try z h)
 slots_from v a z i x y w (table.store_pin n e some_pin few) h = inl h
@@ -92,7 +97,8 @@ slots_from v a z i x y w (table.lost j old n room miss) h = inl h
 abbrev pub Keeps : View → Work → View → Commit → Type 0
 Keeps v a w c = Among a.commits c × ((e : ℕ) → v.pin ≡ Held e → w.pin ≡ Held e)
 
-pub commits_from : (v : View) (a : Work) (c : Commit) (i x y : ℕ) (w : View) (m : Move v i x y w) → Among (work_after a m).commits c
+pub commits_from : (v : View) (a : Work) (c : Commit) (i x y : ℕ) (w : View) (m : Move v i x y w)
+    → Among (work_after a m).commits c
     → Keeps v a w c
 commits_from v a c i x y w (table.load_epoch e) h = (h, λ n is. ap (λ p. promoted p e) is)
 commits_from v a c i x y w (table.store_pin n e some_pin few) h = absurd h
@@ -148,7 +154,8 @@ drawn_retired no_try j q h = h
 drawn_retired (under_way settled drawn) j q h = h
 drawn_retired (ended left loaded) j q h = h
 
-pub drawn_from : (v : View) (a : Work) (q i x y : ℕ) (w : View) (m : Move v i x y w) → IsDrawn (work_after a m).try q → IsDrawn a.try q
+pub drawn_from : (v : View) (a : Work) (q i x y : ℕ) (w : View) (m : Move v i x y w) → IsDrawn (work_after a m).try q
+    → IsDrawn a.try q
 drawn_from v a q i x y w (table.load_epoch e) h = drawn_loaded a.try q h
 drawn_from v a q i x y w (table.store_pin n e some_pin few) h = h
 drawn_from v a q i x y w (table.clear_pin n some_pin few) h = h
@@ -168,7 +175,8 @@ pub data Found (v : View) (x : ℕ) : Type 0 where
   taken : x ≡ slot_word (Taken v.number) → Found v x
   open_at : (r : ℕ) → x ≡ slot_word (Retired r) → IsOpen v r → Found v x
 
-pub found : (v : View) (z i x y : ℕ) (w : View) (m : Move v i x y w) → Reuses (deed_of m) z → (i ≡ slot_at z) × Found v x
+pub found : (v : View) (z i x y : ℕ) (w : View) (m : Move v i x y w) → Reuses (deed_of m) z
+    → (i ≡ slot_at z) × Found v x
 found v z i x y w (table.load_epoch e) h = absurd h
 found v z i x y w (table.store_pin n e some_pin few) h = absurd h
 found v z i x y w (table.clear_pin n some_pin few) h = absurd h

@@ -1,5 +1,6 @@
 -- Each event that is no step of the claims table keeps what holds of the joined machine.
-use Rattle.std.proofs.Common.{◌≡◌, ◌≢◌, ◌⊎◌, ℕ, ◌<◌, ◌≤◌, List, [], ◌∷◌, ◌++◌, set, refl, sym, ap, ◌∙◌, subst, inl, inr, ⊎_elim, arith}
+use Rattle.std.proofs.Common.{◌≡◌, ◌≢◌, ◌⊎◌, ℕ, ◌<◌, ◌≤◌, List, [], ◌∷◌, ◌++◌, set, refl, sym, ap, ◌∙◌, subst, inl, inr}
+use Rattle.std.proofs.Common.{⊎_elim, arith}
 use mathlib.Core.Option.{some}
 use lib.ListN.{get_elem?}
 use Rattle.std.specs.Prelude.{Some}
@@ -14,8 +15,10 @@ use Rattle.reader_claims.specs.declared.words.Pin.TheVariants.{Held}
 use Rattle.reader_claims.specs.declared.view.Sizes.{Sizes}
 use Rattle.reader_claims.specs.declared.view.View.{View}
 use Rattle.reader_claims.specs.Lists.{In}
-use Rattle.joined_machine.specs.Worlds.{Commit, Among, Work, World, Sits, HoldsPin, head, put, slots_of, IsLate, IsDrawn, minus}
-use Rattle.joined_machine.specs.Joined.{with_head, with_try, with_drawn, drew, MayPublish, with_won, with_lost, moved_to}
+use Rattle.joined_machine.specs.Worlds.{Commit, Among, Work, World, Sits, HoldsPin, head, put, slots_of, IsLate}
+use Rattle.joined_machine.specs.Worlds.{IsDrawn, minus}
+use Rattle.joined_machine.specs.Joined.{with_head, with_try, with_drawn, drew, MayPublish, with_won, with_lost}
+use Rattle.joined_machine.specs.Joined.{moved_to}
 use Rattle.joined_machine.proofs.Joint.{Does, Sees, IsLive, Reads, Joint}
 use Rattle.joined_machine.proofs.Rows.{each, in_minus, slots_drawn, late_drawn, drawn_now}
 
@@ -32,14 +35,17 @@ module _ (k : Sizes) (s : World) (o : Joint k s) (id : ℕ) (v : View) (a : Work
     drawn : (q : ℕ) → IsDrawn b.try q → (q < next_stamp log) × (IsDrawn a.try q ⊎ (next_stamp s.log ≤ q))
 
   turned : (log : List Entry) (b : Work) → Turns log b → Joint k (record (put s id b) { log = log })
-  turned log b g = let at_head : stamp_of (last_move log) ≡ stamp_of (last_move s.log) = ap stamp_of g.still in let rises = g.rises in
+  turned log b g = let at_head : stamp_of (last_move log) ≡ stamp_of (last_move s.log) = ap stamp_of g.still in
+      let rises = g.rises in
       let named = o.named in record {
         sound = o.sound;
         head = o.head;
-        held = λ j d c does has. let h = each (λ q d'. Among d'.commits c → Reads k s q c) s.works id b (λ h. g.held c h)
+        held = λ j d c does has. let h = each (λ q d'. Among d'.commits c → Reads k s q c) s.works id b
+            (λ h. g.held c h)
             (λ q d' ne at h. o.held q d' c at h) j d does has in
             record { view = h.view; epoch = h.epoch; seen = h.seen; pin = h.pin; safe = h.safe };
-        slots = λ j d z does inside. each (λ q d'. In (slots_of d'.try) z → (z < k.slots) × IsLive s z × (In s.reached z → ⊥)) s.works id b
+        slots = λ j d z does inside. each (λ q d'. In (slots_of d'.try) z
+            → (z < k.slots) × IsLive s z × (In s.reached z → ⊥)) s.works id b
             (λ h. o.slots id a z me.work (g.slots z h)) (λ q d' ne at h. o.slots q d' z at h) j d does inside;
         apart = λ p q c d z does does' is is'. each (λ p' c'. In (slots_of c'.try) z → p' ≡ q) s.works id b
             (λ h. each (λ q' d'. In (slots_of d'.try) z → id ≡ q') s.works id b (λ h'. refl)
@@ -50,10 +56,13 @@ module _ (k : Sizes) (s : World) (o : Joint k s) (id : ℕ) (v : View) (a : Work
         late = λ p q c d v' u n z e does sees late inside does' sees' has inside' pin. each
             (λ p' c'. Sees s p' v' → IsLate c'.try → In (slots_of c'.try) z → e ≤ v'.loaded) s.works id b
             (λ at l h. reached q d id a v' u n z e me.work at (g.late l) (g.slots z h) does' sees' has inside' pin)
-            (λ p' c' ne at sees'' l h. reached q d p' c' v' u n z e at sees'' l h does' sees' has inside' pin) p c does sees late inside;
+            (λ p' c' ne at sees'' l h. reached q d p' c' v' u n z e at sees'' l h does' sees' has inside' pin) p c does
+            sees late inside;
         named = omega arith;
-        known = λ j d c does has. let was = knew c j d does has in (let low = was.0 in omega arith, λ same. was.1 (same ∙ g.still));
-        drawn = λ j d q does is. each (λ p d'. IsDrawn d'.try q → (q < next_stamp log) × (stamp_of (last_move log) ≢ q)) s.works id b
+        known = λ j d c does has. let was = knew c j d does has in
+            (let low = was.0 in omega arith, λ same. was.1 (same ∙ g.still));
+        drawn = λ j d q does is. each (λ p d'. IsDrawn d'.try q
+            → (q < next_stamp log) × (stamp_of (last_move log) ≢ q)) s.works id b
             (λ h. let was = g.drawn q h in (
               was.0,
               ⊎_elim
@@ -69,24 +78,31 @@ module _ (k : Sizes) (s : World) (o : Joint k s) (id : ℕ) (v : View) (a : Work
         own = λ p j q d e does does' is is'. each (λ p' d'. IsDrawn d'.try q → p' ≡ j) s.works id b
             (λ h. each (λ j' e'. IsDrawn e'.try q → id ≡ j') s.works id b (λ h'. refl)
             (λ j' e' ne at h'. ⊎_elim (λ (old : IsDrawn a.try q). o.own id j' q a e' me.work at old h')
-            (λ (new : next_stamp s.log ≤ q). let low = (o.drawn j' e' q at h').0 in absurd (omega arith)) (g.drawn q h).1) j e does' is')
+            (λ (new : next_stamp s.log ≤ q). let low = (o.drawn j' e' q at h').0 in absurd (omega arith))
+            (g.drawn q h).1) j e does' is')
             (λ p' d' ne at h. each (λ j' e'. IsDrawn e'.try q → p' ≡ j') s.works id b
             (λ h'. ⊎_elim (λ (old : IsDrawn a.try q). o.own p' id q d' a at me.work h old)
-            (λ (new : next_stamp s.log ≤ q). let low = (o.drawn p' d' q at h).0 in absurd (omega arith)) (g.drawn q h').1)
+            (λ (new : next_stamp s.log ≤ q). let low = (o.drawn p' d' q at h).0 in absurd (omega arith))
+            (g.drawn q h').1)
             (λ j' e' ne' at' h'. o.own p' j' q d' e' at at' h h') j e does' is') p d does is;
       } where
         -- a seat has a commit that it had before, or the head
-        before : (P : ℕ → Commit → Type 0) → ((j : ℕ) (d : Work) (c : Commit) → Does s j d → Among d.commits c → P j c) → P id (head s)
+        before : (P : ℕ → Commit → Type 0) → ((j : ℕ) (d : Work) (c : Commit) → Does s j d → Among d.commits c
+            → P j c) → P id (head s)
             → (c : Commit) (j : ℕ) (d : Work) → get_elem? (set s.works id b) j ≡ some d → Among d.commits c → P j c
         before P old new c j d does has = each (λ j' d'. Among d'.commits c → P j' c) s.works id b
             (λ has'. ⊎_elim (λ (h : Among a.commits c). old id a c me.work h)
-            (λ (is : c ≡ head s). subst (P id) (sym is) new) (g.commits c has')) (λ j' d' ne at has'. old j' d' c at has') j d does has
+            (λ (is : c ≡ head s). subst (P id) (sym is) new) (g.commits c has'))
+            (λ j' d' ne at has'. old j' d' c at has') j d does has
 
-        reached : (j : ℕ) (d : Work) (p : ℕ) (c : Work) (v' u : View) (n : Commit) (z e : ℕ) → Does s p c → Sees s p v' → IsLate c.try
-            → In (slots_of c.try) z → get_elem? (set s.works id b) j ≡ some d → Sees s j u → Among d.commits n → In n.slots z
+        reached : (j : ℕ) (d : Work) (p : ℕ) (c : Work) (v' u : View) (n : Commit) (z e : ℕ) → Does s p c
+            → Sees s p v' → IsLate c.try
+            → In (slots_of c.try) z → get_elem? (set s.works id b) j ≡ some d → Sees s j u
+            → Among d.commits n → In n.slots z
             → u.pin ≡ Held e
             → e ≤ v'.loaded
-        reached j d p c v' u n z e at sees l h does sees' has inside pin = before (λ j' n'. Sees s j' u → In n'.slots z → e ≤ v'.loaded)
+        reached j d p c v' u n z e at sees l h does sees' has inside pin = before
+            (λ j' n'. Sees s j' u → In n'.slots z → e ≤ v'.loaded)
             (λ j' d' n' at' has' sees'' inside'. o.late p j' c d' v' u n' z e at sees l h at' sees'' has' inside' pin)
             (λ sees'' inside'. absurd ((o.slots p c z at h).2 inside')) n j d does has sees' inside
 
@@ -97,7 +113,8 @@ module _ (k : Sizes) (s : World) (o : Joint k s) (id : ℕ) (v : View) (a : Work
 
         knew : (n : Commit) (j : ℕ) (d : Work) → get_elem? (set s.works id b) j ≡ some d → Among d.commits n
             → (stamp_of n.at < next_stamp s.log) × (n.at ≡ last_move s.log → n.slots ≡ s.reached)
-        knew n j d does has = before (λ j' n'. (stamp_of n'.at < next_stamp s.log) × (n'.at ≡ last_move s.log → n'.slots ≡ s.reached))
+        knew n j d does has = before (λ j' n'. (stamp_of n'.at < next_stamp s.log)
+            × (n'.at ≡ last_move s.log → n'.slots ≡ s.reached))
             (λ j' d' n' at' has'. o.known j' d' n' at' has') (o.named, λ same. refl) n j d does has
 
   -- the seat loads the head under the pin that it holds
@@ -130,7 +147,8 @@ module _ (k : Sizes) (s : World) (o : Joint k s) (id : ℕ) (v : View) (a : Work
     drawn = λ q h. absurd h;
   }
 
-  pub draw_kept : (contents : List (Node Child)) → Joint k (drew s id a (s.log ++ drafted (Some id) (next_stamp s.log) contents ∷ []))
+  pub draw_kept : (contents : List (Node Child))
+      → Joint k (drew s id a (s.log ++ drafted (Some id) (next_stamp s.log) contents ∷ []))
   draw_kept contents = let entry : Entry = drafted (Some id) (next_stamp s.log) contents in
       let log : List Entry = s.log ++ entry ∷ [] in let first : ℕ = next_stamp s.log in let end : ℕ = next_stamp log in
       let rises : first ≤ end = let more = next_more s.log (entry ∷ []) in omega arith in
@@ -142,7 +160,8 @@ module _ (k : Sizes) (s : World) (o : Joint k s) (id : ℕ) (v : View) (a : Work
         late = λ h. late_drawn a.try first end h;
         commits = λ c h. inl h;
         drawn = λ q h. ⊎_elim (λ (now : (first ≤ q) × (q < end)). (now.1, inr now.0))
-            (λ (was : IsDrawn a.try q). let low = (o.drawn id a q me.work was).0 in (omega arith, inl was)) (drawn_now a.try first end q h);
+            (λ (was : IsDrawn a.try q). let low = (o.drawn id a q me.work was).0 in (omega arith, inl was))
+            (drawn_now a.try first end q h);
       }
 
   -- the try ends, and what it settled is left
@@ -158,7 +177,8 @@ module _ (k : Sizes) (s : World) (o : Joint k s) (id : ℕ) (v : View) (a : Work
   }
 
   -- the head moves to a commit that reaches only slots of the old one and slots that the seat settled
-  pub publish_kept : (old new : Commit) (change : Change) → MayPublish s a old new → Joint k (moved_to s id a old new change)
+  pub publish_kept : (old new : Commit) (change : Change) → MayPublish s a old new
+      → Joint k (moved_to s id a old new change)
   publish_kept old new change may = let b = with_won a old new in let drawn = may.drawn in
       let entry : Entry = moved (Some id) new.at (Some change) in let log : List Entry = s.log ++ entry ∷ [] in
       let goes : last_move log ≡ new.at = moved_more nowhere s.log (entry ∷ []) in
@@ -167,10 +187,12 @@ module _ (k : Sizes) (s : World) (o : Joint k s) (id : ℕ) (v : View) (a : Work
         sound = o.sound;
         head = λ z inside. ⊎_elim (λ (g : In old.slots z). o.head z (was z g))
             (λ (g : In (slots_of a.try) z). let h = o.slots id a z me.work g in (h.0, h.1)) (may.made z inside);
-        held = λ j d c does h. let g = each (λ q d'. Among d'.commits c → Reads k s q c) s.works id b (λ h'. o.held id a c me.work h')
+        held = λ j d c does h. let g = each (λ q d'. Among d'.commits c → Reads k s q c) s.works id b
+            (λ h'. o.held id a c me.work h')
             (λ q d' ne at' h'. o.held q d' c at' h') j d does h in
             record { view = g.view; epoch = g.epoch; seen = g.seen; pin = g.pin; safe = g.safe };
-        slots = λ j d z does inside. each (λ q d'. In (slots_of d'.try) z → (z < k.slots) × IsLive s z × (In new.slots z → ⊥)) s.works id b
+        slots = λ j d z does inside. each (λ q d'. In (slots_of d'.try) z
+            → (z < k.slots) × IsLive s z × (In new.slots z → ⊥)) s.works id b
             (λ h. let g = in_minus old.slots new.slots z h in let live = o.head z (was z g.0) in (live.0, live.1, g.1))
             (λ q d' ne at' h. let g = o.slots q d' z at' h in (
               g.0,
@@ -181,14 +203,16 @@ module _ (k : Sizes) (s : World) (o : Joint k s) (id : ℕ) (v : View) (a : Work
         apart = λ p q c d z does does' is is'. each (λ p' c'. In (slots_of c'.try) z → p' ≡ q) s.works id b
             (λ h. each (λ q' d'. In (slots_of d'.try) z → id ≡ q') s.works id b (λ h'. refl)
             (λ q' d' ne at' h'. absurd (dropped q' d' z at' h' h)) q d does' is')
-            (λ p' c' ne at' h. each (λ q' d'. In (slots_of d'.try) z → p' ≡ q') s.works id b (λ h'. absurd (dropped p' c' z at' h h'))
+            (λ p' c' ne at' h. each (λ q' d'. In (slots_of d'.try) z → p' ≡ q') s.works id b
+            (λ h'. absurd (dropped p' c' z at' h h'))
             (λ q' d' ne' at'' h'. o.apart p' q' c' d' z at' at'' h h') q d does' is') p c does is;
         late = λ p q c d v' u n z e does sees late inside does' sees' has' inside' pin. each
             (λ p' c'. Sees s p' v' → IsLate c'.try → In (slots_of c'.try) z → e ≤ v'.loaded) s.works id b
             (λ at' l h. absurd (cc))
             (λ p' c' ne at' sees'' l h. each (λ q' d'. Sees s q' u → Among d'.commits n → e ≤ v'.loaded) s.works id b
             (λ f g. o.late p' id c' a v' u n z e at' sees'' l h me.work f g inside' pin)
-            (λ q' d' ne' at'' f g. o.late p' q' c' d' v' u n z e at' sees'' l h at'' f g inside' pin) q d does' sees' has')
+            (λ q' d' ne' at'' f g. o.late p' q' c' d' v' u n z e at' sees'' l h at'' f g inside' pin) q d
+            does' sees' has')
             p c does sees late inside;
         named = let to : stamp_of (last_move log) ≡ stamp_of new.at = ap stamp_of goes in omega arith;
         known = λ j d c does h. each (λ q d'. Among d'.commits c → (stamp_of c.at < next_stamp log)
@@ -196,7 +220,8 @@ module _ (k : Sizes) (s : World) (o : Joint k s) (id : ℕ) (v : View) (a : Work
             (λ h'. (
               let g = (o.known id a c me.work h').0 in
                   omega arith,
-              λ same. absurd (o.unnamed id id (stamp_of new.at) a a c me.work drawn me.work h' (ap stamp_of (same ∙ goes))),
+              λ same. absurd (o.unnamed id id (stamp_of new.at) a a c me.work drawn me.work h'
+                  (ap stamp_of (same ∙ goes))),
             ))
             (λ q d' ne at' h'. (
               let g = (o.known q d' c at' h').0 in
@@ -204,7 +229,8 @@ module _ (k : Sizes) (s : World) (o : Joint k s) (id : ℕ) (v : View) (a : Work
               λ same. absurd (o.unnamed id q (stamp_of new.at) a d' c me.work drawn at' h' (ap stamp_of (same
                   ∙ goes))),
             )) j d does h;
-        drawn = λ j d q does is. each (λ p d'. IsDrawn d'.try q → (q < next_stamp log) × (stamp_of (last_move log) ≢ q)) s.works id b
+        drawn = λ j d q does is. each (λ p d'. IsDrawn d'.try q
+            → (q < next_stamp log) × (stamp_of (last_move log) ≢ q)) s.works id b
             (λ h. absurd h)
             (λ p d' ne at' h. (
               let g = (o.drawn p d' q at' h).0 in
@@ -212,7 +238,8 @@ module _ (k : Sizes) (s : World) (o : Joint k s) (id : ℕ) (v : View) (a : Work
               λ same. ne (o.own p id q d' a at' me.work h (subst (IsDrawn a.try) (sym (ap stamp_of goes)
                   ∙ same) drawn)),
             )) j d does is;
-        unnamed = λ p j q d e c does is does' h. each (λ p' d'. IsDrawn d'.try q → stamp_of c.at ≢ q) s.works id b (λ f. absurd f)
+        unnamed = λ p j q d e c does is does' h. each
+            (λ p' d'. IsDrawn d'.try q → stamp_of c.at ≢ q) s.works id b (λ f. absurd f)
             (λ p' d' ne at' f. each (λ j' e'. Among e'.commits c → stamp_of c.at ≢ q) s.works id b
             (λ g. o.unnamed p' id q d' a c at' f me.work g)
             (λ j' e' ne' at'' g. o.unnamed p' j' q d' e' c at' f at'' g) j e does' h) p d does is;

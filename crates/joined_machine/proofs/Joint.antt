@@ -43,17 +43,23 @@ pub record Joint (k : Sizes) (s : World) : Type 0 where
   -- a commit that a seat has was loaded under a pin that it holds
   pub held : (j : ℕ) (a : Work) (c : Commit) → Does s j a → Among a.commits c → Reads k s j c
   -- what a try settled, or has left to retire, is live, and not the head's
-  pub slots : (j : ℕ) (a : Work) (z : ℕ) → Does s j a → In (slots_of a.try) z → (z < k.slots) × IsLive s z × (In s.reached z → ⊥)
+  pub slots : (j : ℕ) (a : Work) (z : ℕ) → Does s j a → In (slots_of a.try) z
+      → (z < k.slots) × IsLive s z × (In s.reached z → ⊥)
   -- and no other seat's
-  pub apart : (i j : ℕ) (a b : Work) (z : ℕ) → Does s i a → Does s j b → In (slots_of a.try) z → In (slots_of b.try) z → i ≡ j
-  -- where a seat has loaded the epoch after its try, a pin under which some slot that it has left was reached is at most that number
-  pub late : (i j : ℕ) (a b : Work) (v u : View) (c : Commit) (z e : ℕ) → Does s i a → Sees s i v → IsLate a.try → In (slots_of a.try) z
+  pub apart : (i j : ℕ) (a b : Work) (z : ℕ) → Does s i a → Does s j b → In (slots_of a.try) z
+      → In (slots_of b.try) z → i ≡ j
+  -- where a seat has loaded the epoch after its try, a pin under which some slot that it has left was reached is at
+  -- most that number
+  pub late : (i j : ℕ) (a b : Work) (v u : View) (c : Commit) (z e : ℕ) → Does s i a → Sees s i v → IsLate a.try
+      → In (slots_of a.try) z
       → Does s j b → Sees s j u → Among b.commits c → In c.slots z → u.pin ≡ Held e → e ≤ v.loaded
   -- stamps are drawn before a commit has them, and one names one set of slots
   pub named : stamp_of (last_move s.log) < next_stamp s.log
   pub known : (j : ℕ) (a : Work) (c : Commit) → Does s j a → Among a.commits c → (stamp_of c.at < next_stamp s.log)
       × (c.at ≡ last_move s.log → c.slots ≡ s.reached)
   -- no commit has a stamp that was drawn in a try under way, and no other seat drew it
-  pub drawn : (i : ℕ) (a : Work) (q : ℕ) → Does s i a → IsDrawn a.try q → (q < next_stamp s.log) × (stamp_of (last_move s.log) ≢ q)
-  pub unnamed : (i j q : ℕ) (a b : Work) (c : Commit) → Does s i a → IsDrawn a.try q → Does s j b → Among b.commits c → stamp_of c.at ≢ q
+  pub drawn : (i : ℕ) (a : Work) (q : ℕ) → Does s i a → IsDrawn a.try q
+      → (q < next_stamp s.log) × (stamp_of (last_move s.log) ≢ q)
+  pub unnamed : (i j q : ℕ) (a b : Work) (c : Commit) → Does s i a → IsDrawn a.try q → Does s j b → Among b.commits c
+      → stamp_of c.at ≢ q
   pub own : (i j q : ℕ) (a b : Work) → Does s i a → Does s j b → IsDrawn a.try q → IsDrawn b.try q → i ≡ j

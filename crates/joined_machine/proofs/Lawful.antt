@@ -39,7 +39,8 @@ runs_joint k s t (e ∷ es) o r = runs_joint k r.0 t es (step_joint k s r.0 e o 
 -- a slot that is reached is live, or retired above a pin that some seat holds
 module _ (k : Sizes) (s : World) (o : Joint k s) where
   -- so no step finds it free or taken, or retired and open
-  not_found : (id z : ℕ) (v : View) → get_elem? s.views id ≡ some v → IsReached s z → Found v (get_or s.words (slot_at z) 0) → ⊥
+  not_found : (id z : ℕ) (v : View) → get_elem? s.views id ≡ some v → IsReached s z
+      → Found v (get_or s.words (slot_at z) 0) → ⊥
   not_found id z v at (inl h) f = let live = (o.head z h).1 in shut f where
     shut : Found v (get_or s.words (slot_at z) 0) → ⊥
     shut (deeds.free e) = let live = (o.head z h).1 in omega arith
@@ -47,14 +48,16 @@ module _ (k : Sizes) (s : World) (o : Joint k s) where
     shut (deeds.open_at r e open_at) = let live = (o.head z h).1 in omega arith
   not_found id z v at (inr h) f = let held = o.held h.0 h.2.0 h.1 h.2.1 h.2.2 in ⊎_elim
       (λ (live : IsLive s z). shut live f)
-      (λ (old : (r : ℕ) × (held.epoch < r) × (get_or s.words (slot_at z) 0 ≡ slot_word (Retired r))). late old.0 old.1 old.2 f)
+      (λ (old : (r : ℕ) × (held.epoch < r) × (get_or s.words (slot_at z) 0 ≡ slot_word (Retired r))). late
+      old.0 old.1 old.2 f)
       (held.safe z h.3).1 where
         shut : IsLive s z → Found v (get_or s.words (slot_at z) 0) → ⊥
         shut live (deeds.free e) = omega arith
         shut live (deeds.taken e) = omega arith
         shut live (deeds.open_at r e open_at) = omega arith
 
-        late : (r : ℕ) → (o.held h.0 h.2.0 h.1 h.2.1 h.2.2).epoch < r → get_or s.words (slot_at z) 0 ≡ slot_word (Retired r)
+        late : (r : ℕ) → (o.held h.0 h.2.0 h.1 h.2.1 h.2.2).epoch < r
+            → get_or s.words (slot_at z) 0 ≡ slot_word (Retired r)
             → Found v (get_or s.words (slot_at z) 0) → ⊥
         late r low is (deeds.free e) = omega arith
         late r low is (deeds.taken e) = omega arith
@@ -64,7 +67,8 @@ module _ (k : Sizes) (s : World) (o : Joint k s) where
             omega arith
 
   not_reused : (t : World) (e : Event) (z : ℕ) → Steps s e t → IsReached s z → Reuses e.deed z → ⊥
-  not_reused t e z (machine.at_table id i y v w a me m may) h reuses = let f = found v z i (get_or s.words i 0) y w m reuses in
+  not_reused t e z (machine.at_table id i y v w a me m may) h reuses = let f = found v z i
+      (get_or s.words i 0) y w m reuses in
       not_found id z v me.view h (subst (λ q. Found v (get_or s.words q 0)) f.0 f.1)
   not_reused t e z (machine.look id y c v a me has inside) h reuses = reuses
   not_reused t e z (machine.load_drafts id v a me) h reuses = reuses
@@ -76,10 +80,13 @@ module _ (k : Sizes) (s : World) (o : Joint k s) where
   not_reused t e z (machine.give_up id v a me now) h reuses = reuses
 
   -- who retires has seen the epoch above what it loaded, and the epoch is 2 ^ 60 at most
-  not_highest : (t : World) (e : Event) (v : View) → Steps s e t → get_elem? s.views e.seat ≡ some v → IsRetiring e.deed → v.loaded < 2 ^ 60
+  not_highest : (t : World) (e : Event) (v : View) → Steps s e t → get_elem? s.views e.seat ≡ some v → IsRetiring e.deed
+      → v.loaded < 2 ^ 60
   not_highest t e v (machine.at_table id i y u w a me m may) at retires =
-      let same : u ≡ v = some-injective u v (sym me.view ∙ at) in let past = raised u i (get_or s.words i 0) y w m retires in
-      let b = o.sound.pins.behind id u me.view in let low = o.sound.pins.low in subst (λ (x : View). x.loaded < 2 ^ 60) same (omega arith)
+      let same : u ≡ v = some-injective u v (sym me.view ∙ at) in
+      let past = raised u i (get_or s.words i 0) y w m retires in
+      let b = o.sound.pins.behind id u me.view in let low = o.sound.pins.low in
+      subst (λ (x : View). x.loaded < 2 ^ 60) same (omega arith)
   not_highest t e v (machine.look id y c u a me has inside) at retires = absurd retires
   not_highest t e v (machine.load_drafts id u a me) at retires = absurd retires
   not_highest t e v (machine.load_head id u a me pin) at retires = absurd retires
@@ -103,4 +110,5 @@ hold_law k s t es j z c opens runs has inside = let held = (after k s t es opens
     (held.view, held.seen, (held.epoch, held.pin, (held.safe z inside).1))
 
 pub highest_law : HighestLaw
-highest_law k s t u es e v opens runs step at retires = not_highest k t (after k s t es opens runs) u e v step at retires
+highest_law k s t u es e v opens runs step at retires = not_highest k t
+    (after k s t es opens runs) u e v step at retires

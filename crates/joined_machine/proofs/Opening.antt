@@ -20,7 +20,8 @@ use Rattle.joined_machine.proofs.Rows.{in_or_not, copied}
 
 module _ (k : Sizes) (s : World) (o : Opens k s) where
   -- a slot is live or free
-  slot : (z : ℕ) → z < k.slots → (get_or s.words (slot_at z) 0 ≡ slot_word Live) ⊎ (get_or s.words (slot_at z) 0 ≡ slot_word Free)
+  slot : (z : ℕ) → z < k.slots → (get_or s.words (slot_at z) 0 ≡ slot_word Live)
+      ⊎ (get_or s.words (slot_at z) 0 ≡ slot_word Free)
   slot z room = ⊎_elim (λ (h : In s.reached z). inl (o.live z h).1)
       (λ (n : In s.reached z → ⊥). inr (o.free z room n)) (in_or_not s.reached z)
 
@@ -41,7 +42,8 @@ module _ (k : Sizes) (s : World) (o : Opens k s) where
       low = let e = epoch in omega arith;
       pinned = λ j v at some_pin. let near = below s.views j v at in let many = o.seats in
           o.epoch_and_pins (pin_at j) (omega arith) ∙ ap pin_word (sym (o.views j v at).pin);
-      behind = λ j v at. let idle = o.views j v at in let n = idle.loaded in let m = idle.reached in (omega arith, omega arith);
+      behind = λ j v at. let idle = o.views j v at in let n = idle.loaded in let m = idle.reached in
+          (omega arith, omega arith);
       held = λ j v e at pin. absurd (no_pin j v e at pin);
       learnt = λ j i v u x e at at' noted pin. absurd (no_pin i u e at' pin);
     };
@@ -60,7 +62,8 @@ module _ (k : Sizes) (s : World) (o : Opens k s) where
 
   -- no seat has anything under way
   pub at_rest : (P : Work → Type 0) → P no_work → (j : ℕ) (a : Work) → Does s j a → P a
-  at_rest P h j a at = subst P (sym (copied (length s.views) no_work j a (ap (λ l. get_elem? l j) (sym o.works) ∙ at))) h
+  at_rest P h j a at = subst P (sym (copied (length s.views) no_work j a
+      (ap (λ l. get_elem? l j) (sym o.works) ∙ at))) h
 
   pub opens_joint : Joint k s
   opens_joint = record {
@@ -69,7 +72,8 @@ module _ (k : Sizes) (s : World) (o : Opens k s) where
     held = λ j a c at h. absurd (at_rest (λ b. Among b.commits c → ⊥) (λ n. n) j a at h);
     slots = λ j a z at h. absurd (at_rest (λ b. In (slots_of b.try) z → ⊥) (λ n. n) j a at h);
     apart = λ i j a b z at at' h h'. absurd (at_rest (λ d. In (slots_of d.try) z → ⊥) (λ n. n) i a at h);
-    late = λ i j a b v u c z e at sees l h at' sees' has inside pin. absurd (at_rest (λ d. IsLate d.try → ⊥) (λ n. n) i a at l);
+    late = λ i j a b v u c z e at sees l h at' sees' has inside pin. absurd
+        (at_rest (λ d. IsLate d.try → ⊥) (λ n. n) i a at l);
     named = let at : stamp_of (last_move s.log) ≡ stamp_of o.at = ap (λ l. stamp_of (last_move l)) o.book in
         let two : next_stamp s.log ≡ 2 = ap next_stamp o.book in let one = o.stamp in omega arith;
     known = λ j a c at h. absurd (at_rest (λ b. Among b.commits c → ⊥) (λ n. n) j a at h);

@@ -1,5 +1,6 @@
 -- Lists of works, of commits and of slots, and what a draw and a retire leave of a try.
-use Rattle.std.proofs.Common.{◌≡◌, ◌≢◌, ◌⊎◌, ℕ, zero, suc, ◌<◌, ◌≤◌, replicate, List, [], ◌∷◌, set, refl, sym, subst, inl, inr, ⊎_elim}
+use Rattle.std.proofs.Common.{◌≡◌, ◌≢◌, ◌⊎◌, ℕ, zero, suc, ◌<◌, ◌≤◌, replicate, List, [], ◌∷◌, set, refl, sym, subst}
+use Rattle.std.proofs.Common.{inl, inr, ⊎_elim}
 use mathlib.Core.Logic.{dite}
 use mathlib.Core.Option.{some, some-injective, some-ne-none}
 use native.Mathlib.Decide.{ℕ_discrete}
@@ -12,8 +13,10 @@ use Rattle.joined_machine.specs.Joined.{with_retired, with_drawn}
 
 -- what holds of the new element, and of each other one, holds of each
 pub each : {A : Type 0} (P : ℕ → A → Type 0) (l : List A) (id : ℕ) (a : A) → P id a
-    → ((j : ℕ) (b : A) → j ≢ id → get_elem? l j ≡ some b → P j b) → (j : ℕ) (b : A) → get_elem? (set l id a) j ≡ some b → P j b
-each P l id a new old j b e = ⊎_elim (λ (x : (j ≡ id) × (a ≡ b)). subst (λ (y : ℕ × _). P y.0 y.1) (λ i. (sym x.0 i, x.1 i)) new)
+    → ((j : ℕ) (b : A) → j ≢ id → get_elem? l j ≡ some b → P j b) → (j : ℕ) (b : A)
+    → get_elem? (set l id a) j ≡ some b → P j b
+each P l id a new old j b e = ⊎_elim (λ (x : (j ≡ id) × (a ≡ b)). subst (λ (y : ℕ × _). P y.0 y.1)
+    (λ i. (sym x.0 i, x.1 i)) new)
     (λ (x : (j ≢ id) × (get_elem? l j ≡ some b)). old j b x.0 x.1) (at_set l id j a b e)
 
 -- each element of a list of copies is the copy
@@ -29,7 +32,8 @@ in_or_not (x ∷ xs) z = dite (ℕ_discrete z x) (λ e. inl (inl e))
 
 pub in_minus : (xs ys : List ℕ) (z : ℕ) → In (minus xs ys) z → In xs z × (In ys z → ⊥)
 in_minus xs [] z h = (h, λ n. n)
-in_minus xs (y ∷ ys) z h = let a = left_of y z (minus xs ys) h in let b = in_minus xs ys z a.1 in (b.0, λ n. ⊎_elim a.0 b.1 n)
+in_minus xs (y ∷ ys) z h = let a = left_of y z (minus xs ys) h in let b = in_minus xs ys z a.1 in
+    (b.0, λ n. ⊎_elim a.0 b.1 n)
 
 pub gone : (t : Try) (i : ℕ) → IsLate t → In (slots_of (with_retired t i)) i → ⊥
 gone no_try i late h = late
@@ -52,7 +56,8 @@ late_drawn (under_way settled drawn) first end h = h
 late_drawn (ended l loaded) first end h = h
 
 -- a stamp of the try was drawn now, or before
-pub drawn_now : (t : Try) (first end q : ℕ) → IsDrawn (with_drawn t first end) q → ((first ≤ q) × (q < end)) ⊎ IsDrawn t q
+pub drawn_now : (t : Try) (first end q : ℕ) → IsDrawn (with_drawn t first end) q
+    → ((first ≤ q) × (q < end)) ⊎ IsDrawn t q
 drawn_now no_try first end q h = inr h
 drawn_now (under_way settled drawn) first end q h = h
 drawn_now (ended l loaded) first end q h = inr h

@@ -1,7 +1,10 @@
--- The claims table's own steps lead to each table of the machine, and to one that it opens with, for every number of readers and all slots:
+-- The claims table's own steps lead to each table of the machine, and to one that it opens with, for every number of
+-- readers and all slots:
 -- all seats are dealt, and then the first reader takes and settles the slots of the opening commit.
-use Rattle.std.proofs.Common.{◌≡◌, ◌≢◌, ℕ, zero, suc, ◌+◌, ◌<◌, ◌≤◌, List, [], ◌∷◌, ◌++◌, length, get_or, set, replicate, cond, refl}
-use Rattle.std.proofs.Common.{sym, ap, ◌∙◌, subst, inl, inr, ⊎_elim, arith, length-set, length-append, get_or-set_same, get_or-set_other}
+use Rattle.std.proofs.Common.{◌≡◌, ◌≢◌, ℕ, zero, suc, ◌+◌, ◌<◌, ◌≤◌, List, [], ◌∷◌, ◌++◌, length, get_or, set}
+use Rattle.std.proofs.Common.{replicate, cond, refl}
+use Rattle.std.proofs.Common.{sym, ap, ◌∙◌, subst, inl, inr, ⊎_elim, arith, length-set, length-append, get_or-set_same}
+use Rattle.std.proofs.Common.{get_or-set_other}
 use Rattle.std.proofs.Common.{set-set, eq-eqb}
 use Rattle.std.proofs.lemmas.List.{get_or_past, get_or-replicate, length-replicate}
 use mathlib.Core.Logic.{dite}
@@ -35,7 +38,8 @@ module _ (k : Sizes) where
 
   readers_length : (n : ℕ) → length (readers n) ≡ n
   readers_length zero = refl
-  readers_length (suc n) = let before = readers_length n in omega (arith, length-append (readers n) (reader k (suc n) ∷ []))
+  readers_length (suc n) = let before = readers_length n in
+      omega (arith, length-append (readers n) (reader k (suc n) ∷ []))
 
   reader_there : (n j : ℕ) → j < n → get_elem? (readers n) j ≡ some (reader k (suc j))
   reader_there zero j lt = absurd (omega arith)
@@ -82,7 +86,8 @@ module _ (k : Sizes) (some_reader : 0 < k.readers) (few : k.readers ≤ max_seat
         (λ ge. get_or_past ws j 0 (omega arith)) in
         record {
           words = ws;
-          reached = subst (Reached k ws) (sym (set_again (dealt_seats k k.readers) 1 (reader k 1) (reader_there k k.readers 0 some_reader)))
+          reached = subst (Reached k ws) (sym (set_again (dealt_seats k k.readers) 1 (reader k 1)
+              (reader_there k k.readers 0 some_reader)))
               (all_dealt k ws (table.opened ws (wide ∙ is) few zeros) k.readers (omega arith));
           long = wide ∙ is;
           low = λ i lt. zeros i;
@@ -95,20 +100,24 @@ module _ (k : Sizes) (some_reader : 0 < k.readers) (few : k.readers ≤ max_seat
   one_laid z zs done room out h =
       let ws = h.words in let i : ℕ = slot_at z in let v = first k done in let v' : View = with_taken v z in
       let mine : ℕ = slot_word (Taken 1) in
-      let vs : List View = seats k done in let long = h.long in let was : get_or ws i 0 ≡ slot_word Free = h.free z room out in
+      let vs : List View = seats k done in let long = h.long in
+      let was : get_or ws i 0 ≡ slot_word Free = h.free z room out in
       let there : get_elem? vs 1 ≡ some v = set_here (dealt_seats k k.readers) 1 v second in
       let took : Reached k (set ws i mine) (set vs 1 v') =
-      table.stepped ws vs 1 i mine v v' h.reached there (subst (λ x. Move v i x mine v') (sym was) (table.take z (omega arith) room)) in
+      table.stepped ws vs 1 i mine v v' h.reached there
+      (subst (λ x. Move v i x mine v') (sym was) (table.take z (omega arith) room)) in
       let ws' : List ℕ = set ws i mine in let vs' : List View = set vs 1 v' in
       let now : get_or ws' i 0 ≡ mine = get_or-set_same ws i mine 0 (omega arith) in
-      let there' : get_elem? vs' 1 ≡ some v' = set_here vs 1 v' (let l = length-set (dealt_seats k k.readers) 1 v in let two = second in
+      let there' : get_elem? vs' 1 ≡ some v' = set_here vs 1 v'
+      (let l = length-set (dealt_seats k k.readers) 1 v in let two = second in
       omega arith) in
       let settled : Reached k (set ws' i 1) (set vs' 1 (with_settled v' z)) =
       table.stepped ws' vs' 1 i 1 v' (with_settled v' z) took there' (subst
       (λ x. Move v' i x 1 (with_settled v' z)) (sym now) (table.settle z (inl refl))) in
       let none_left : with_settled v' z ≡ first k (z ∷ done) = ap
       (λ b. record v' { taken = cond b [] (z ∷ []); settled = z ∷ done }) (eq-eqb z z refl) in
-      let once : set vs' 1 (with_settled v' z) ≡ seats k (z ∷ done) = ap (set vs' 1) none_left ∙ set-set vs 1 v' (first k (z ∷ done))
+      let once : set vs' 1 (with_settled v' z)
+      ≡ seats k (z ∷ done) = ap (set vs' 1) none_left ∙ set-set vs 1 v' (first k (z ∷ done))
       ∙ set-set (dealt_seats k k.readers) 1 v (first k (z ∷ done)) in
       let wide : length ws' ≡ length ws = length-set ws i mine in
       let others : (j : ℕ) → j ≢ i → get_or (set ws' i 1) j 0 ≡ get_or ws j 0 =
@@ -122,7 +131,8 @@ module _ (k : Sizes) (some_reader : 0 < k.readers) (few : k.readers ≤ max_seat
             (λ e. ap (λ q. get_or (set ws' i 1) (slot_at q) 0) e ∙ get_or-set_same ws' i 1 0 (omega arith))
             (λ ne. others (slot_at y) (λ e. ne (omega arith)) ∙ h.live y (⊎_elim (λ (e : y ≡ z). absurd (ne e))
             (λ (g : In zs y). g) inside));
-        free = λ y near outside. others (slot_at y) (λ e. outside (inl (omega arith))) ∙ h.free y near (λ g. outside (inr g));
+        free = λ y near outside. others (slot_at y) (λ e. outside (inl (omega arith))) ∙ h.free y near
+            (λ g. outside (inr g));
       }
 
   -- a slot that is live already stays so
@@ -136,7 +146,8 @@ module _ (k : Sizes) (some_reader : 0 < k.readers) (few : k.readers ≤ max_seat
           reached = h.1.reached;
           long = h.1.long;
           low = h.1.low;
-          live = λ y inside. h.1.live y (⊎_elim (λ (e : y ≡ z). subst (In zs) (sym e) there) (λ (g : In zs y). g) inside);
+          live = λ y inside. h.1.live y (⊎_elim (λ (e : y ≡ z). subst (In zs) (sym e) there)
+              (λ (g : In zs y). g) inside);
           free = λ y near outside. h.1.free y near (λ g. outside (inr g));
         },
       ))
@@ -149,7 +160,15 @@ module _ (k : Sizes) (some_reader : 0 < k.readers) (few : k.readers ≤ max_seat
       (λ (x : (j ≢ 1) × (get_elem? (dealt_seats k k.readers) j ≡ some v)). idle_other j x.1)
       (at_set (dealt_seats k k.readers) 1 j (first k done) v at) where
         idle_first : IsIdle k 1 (first k done)
-        idle_first = record { sizes = refl; number = refl; pin = refl; taken = refl; loaded = refl; reached = refl; floor = refl }
+        idle_first = record {
+          sizes = refl;
+          number = refl;
+          pin = refl;
+          taken = refl;
+          loaded = refl;
+          reached = refl;
+          floor = refl;
+        }
 
         idle_other : (i : ℕ) → get_elem? (dealt_seats k k.readers) i ≡ some v → IsIdle k i v
         idle_other zero e = subst (IsIdle k 0) (some-injective (dealer k (k.readers + 1)) v e) record {
@@ -163,8 +182,17 @@ module _ (k : Sizes) (some_reader : 0 < k.readers) (few : k.readers ≤ max_seat
           floor = refl;
         }
         idle_other (suc i) e = let near = below (readers k k.readers) i v e in let many = readers_length k k.readers in
-            subst (IsIdle k (suc i)) (some-injective (reader k (suc i)) v (sym (reader_there k k.readers i (omega arith)) ∙ e))
-            record { sizes = refl; number = refl; pin = refl; taken = refl; loaded = refl; reached = refl; floor = refl }
+            subst (IsIdle k (suc i)) (some-injective (reader k (suc i)) v
+            (sym (reader_there k k.readers i (omega arith)) ∙ e))
+            record {
+              sizes = refl;
+              number = refl;
+              pin = refl;
+              taken = refl;
+              loaded = refl;
+              reached = refl;
+              floor = refl;
+            }
 
   -- the world of these slots, with seats that have nothing under way
   abbrev pub world_of : (zs done : List ℕ) → Laid k zs done → World
@@ -176,8 +204,10 @@ module _ (k : Sizes) (some_reader : 0 < k.readers) (few : k.readers ≤ max_seat
     works = replicate (length (seats k done)) no_work;
   }
 
-  pub opened : (zs done : List ℕ) → ((z : ℕ) → In zs z → z < k.slots) → (h : Laid k zs done) → Opens k (world_of zs done h)
-  opened zs done room h = let many : length (seats k done) ≡ k.readers + 1 = length-set (dealt_seats k k.readers) 1 (first k done) ∙
+  pub opened : (zs done : List ℕ) → ((z : ℕ) → In zs z → z < k.slots) → (h : Laid k zs done)
+      → Opens k (world_of zs done h)
+  opened zs done room h = let many : length (seats k done)
+      ≡ k.readers + 1 = length-set (dealt_seats k k.readers) 1 (first k done) ∙
       (let n = readers_length k k.readers in omega arith) in record {
         sized = few;
         long = h.long;
@@ -197,7 +227,8 @@ pub opening_law : OpeningLaw
 opening_law k zs some_reader few room = let h = laid k some_reader few zs room in
     (world_of k some_reader few zs h.0 h.1, opened k some_reader few zs h.0 room h.1, h.1.reached, refl)
 
-step_reached : (k : Sizes) (s t : World) (e : Event) → Reached k s.words s.views → Steps s e t → Reached k t.words t.views
+step_reached : (k : Sizes) (s t : World) (e : Event) → Reached k s.words s.views → Steps s e t
+    → Reached k t.words t.views
 step_reached k s t e r (machine.at_table id i y v w a me m may) = table.stepped s.words s.views id i y v w r me.view m
 step_reached k s t e r (machine.look id z c v a me has inside) = r
 step_reached k s t e r (machine.load_head id v a me pin) = r

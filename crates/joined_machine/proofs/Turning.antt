@@ -1,6 +1,9 @@
--- One turn of the machine: a publisher moves the head to a new commit, and the slot of the old one is retired, given and taken again.
-use Rattle.std.proofs.Common.{◌≡◌, ◌≢◌, ℕ, ◌+◌, ◌*◌, ◌<◌, Bool, true, false, cond, ◌==◌, List, [], ◌∷◌, ◌++◌, length, get_or, set, refl}
-use Rattle.std.proofs.Common.{sym, ap, ◌∙◌, subst, inl, inr, ⊎_elim, arith, length-set, get_or-set_same, get_or-set_other, eq-eqb, ne_eqb}
+-- One turn of the machine: a publisher moves the head to a new commit, and the slot of the old one is retired, given
+-- and taken again.
+use Rattle.std.proofs.Common.{◌≡◌, ◌≢◌, ℕ, ◌+◌, ◌*◌, ◌<◌, Bool, true, false, cond, ◌==◌, List, [], ◌∷◌, ◌++◌, length}
+use Rattle.std.proofs.Common.{get_or, set, refl}
+use Rattle.std.proofs.Common.{sym, ap, ◌∙◌, subst, inl, inr, ⊎_elim, arith, length-set, get_or-set_same}
+use Rattle.std.proofs.Common.{get_or-set_other, eq-eqb, ne_eqb}
 use Rattle.std.specs.Prelude.{Some}
 use mathlib.Core.Logic.{dite}
 use native.Mathlib.Decide.{ℕ_discrete}
@@ -13,7 +16,8 @@ use Rattle.head_word.specs.Books.{drafted, moved, empty_leaf, opening, opening_r
 use Rattle.reader_claims.specs.declared.words.Pin.TheVariants.{Absent, Stored}
 use Rattle.reader_claims.specs.declared.view.Sizes.{Sizes}
 use Rattle.reader_claims.specs.declared.view.View.{View}
-use Rattle.reader_claims.specs.Views.{dealer, IsOpen, with_epoch, with_pin, with_read, with_raise, with_taken, with_settled}
+use Rattle.reader_claims.specs.Views.{dealer, IsOpen, with_epoch, with_pin, with_read, with_raise, with_taken}
+use Rattle.reader_claims.specs.Views.{with_settled}
 use Rattle.reader_claims.specs.Views.{with_retired, with_given}
 use Rattle.reader_claims.specs.Machine as table
 use Rattle.reader_claims.specs.Machine.{Move}
@@ -30,7 +34,8 @@ then_one s t u [] e r h = (u, subst (λ w. Steps w e u) (sym r) h, refl)
 then_one s t u (d ∷ es) e r h = (r.0, r.1, then_one r.0 t u es e r.2 h)
 
 -- a step of the table that finds x, where x stands in the word
-acts : (s : World) (id i x y : ℕ) (v w : View) (a : Work) → get_or s.words i 0 ≡ x → Sits s id v a → (m : Move v i x y w) → May a.try m
+acts : (s : World) (id i x y : ℕ) (v w : View) (a : Work) → get_or s.words i 0 ≡ x → Sits s id v a
+    → (m : Move v i x y w) → May a.try m
     → Steps s (record { seat = id; deed = deed_of m }) (record (put s id (work_after a m)) {
       words = set s.words i y;
       views =
@@ -49,7 +54,13 @@ abbrev sizes : Sizes
 sizes = record { readers = 1; slots = 2 }
 
 abbrev world : List ℕ → View → List Entry → List ℕ → Work → World
-world ws v log reached a = record { words = ws; views = dealer sizes 2 ∷ v ∷ []; log = log; reached = reached; works = no_work ∷ a ∷ [] }
+world ws v log reached a = record {
+  words = ws;
+  views = dealer sizes 2 ∷ v ∷ [];
+  log = log;
+  reached = reached;
+  works = no_work ∷ a ∷ [];
+}
 
 -- the words by their places, after one was set
 abbrev after : (ℕ → ℕ) → ℕ → ℕ → ℕ → ℕ
@@ -67,7 +78,8 @@ set_words : (ws : List ℕ) (f : ℕ → ℕ) (i y : ℕ) → i < 2058 → Words
 set_words ws f i y room h = let long = h.long in record {
   long = length-set ws i y ∙ long;
   at = λ j lt. dite (ℕ_discrete j i)
-      (λ e. ap (λ q. get_or (set ws i y) q 0) e ∙ get_or-set_same ws i y 0 (omega arith) ∙ ap (λ b. cond b y (f j)) (sym (eq-eqb j i e)))
+      (λ e. ap (λ q. get_or (set ws i y) q 0) e ∙ get_or-set_same ws i y 0 (omega arith) ∙ ap (λ b. cond b y (f j))
+      (sym (eq-eqb j i e)))
       (λ ne. get_or-set_other ws i j y 0 ne ∙ h.at j lt ∙ ap (λ b. cond b y (f j)) (sym (ne_eqb j i ne)));
 }
 
@@ -153,7 +165,10 @@ module _ (laid : Laid sizes only only) where
   start = world laid.words v0 book only no_work
 
   start_words : Words laid.words f0
-  start_words = record { long = laid.long; at = λ i lt. dite (ℕ_discrete i 2056) (λ e. here i e) (λ ne. elsewhere i lt ne) } where
+  start_words = record {
+    long = laid.long;
+    at = λ i lt. dite (ℕ_discrete i 2056) (λ e. here i e) (λ ne. elsewhere i lt ne);
+  } where
     here : (i : ℕ) → i ≡ 2056 → get_or laid.words i 0 ≡ f0 i
     here i e = ap (λ q. get_or laid.words q 0) e ∙ laid.live 0 (inl refl) ∙ ap (λ b. cond b 1 0) (sym (eq-eqb i 2056 e))
 
@@ -179,7 +194,8 @@ module _ (laid : Laid sizes only only) where
     me = record { view = refl; work = refl }
 
     -- a step of the table
-    on : (i y : ℕ) (w : View) → i < 2058 → (m : Move v i (f i) y w) → May a.try m → Way (after f i y) w log reached (work_after a m)
+    on : (i y : ℕ) (w : View) → i < 2058 → (m : Move v i (f i) y w) → May a.try m
+        → Way (after f i y) w log reached (work_after a m)
     on i y w room m may = let d : Event = record { seat = 1; deed = deed_of m } in
         let next : World = world (set h.words i y) w log reached (work_after a m) in record {
           words = set h.words i y;
@@ -202,8 +218,10 @@ module _ (laid : Laid sizes only only) where
   begun : Way (after f1 0 0) v2 book only (trying [] [])
   begun =
       let loaded : Work = record { commits = seen; try = no_try } in
-      let h0 : Way f0 v0 book only no_work = record { words = laid.words; are = start_words; events = []; runs = refl } in
-      let h1 : Way f1 v1 book only no_work = on h0 8 1 v1 (omega arith) (table.store_pin 0 0 (omega arith) (omega arith)) (λ n. n) in
+      let h0 : Way f0 v0 book only no_work =
+      record { words = laid.words; are = start_words; events = []; runs = refl } in
+      let h1 : Way f1 v1 book only no_work = on h0 8 1 v1 (omega arith)
+      (table.store_pin 0 0 (omega arith) (omega arith)) (λ n. n) in
       let h2 : Way (after f1 0 0) v2 book only no_work = on h1 0 0 v2 (omega arith) (table.load_epoch 0) tt in
       let h3 : Way (after f1 0 0) v2 book only loaded =
       beside h2 book only loaded events.loads_head (machine.load_head 1 v2 no_work (me h2) (0, refl)) in
@@ -214,8 +232,10 @@ module _ (laid : Laid sizes only only) where
   published =
       let h1 : Way (after (after f1 0 0) 2057 4) (with_taken v2 1) book only (trying [] []) =
       on begun 2057 4 (with_taken v2 1) (omega arith) (table.take 1 (omega arith) (omega arith)) tt in
-      let h2 : Way f2 v3 book only (trying (1 ∷ []) []) = on h1 2057 1 v3 (omega arith) (table.settle 1 (inl refl)) tt in
-      let h3 : Way f2 v3 drafted_book only (trying (1 ∷ []) ((2, 3) ∷ [])) = beside h2 drafted_book only (trying (1 ∷ []) ((2, 3) ∷ []))
+      let h2 : Way f2 v3 book only (trying (1 ∷ []) []) = on h1 2057 1 v3 (omega arith)
+      (table.settle 1 (inl refl)) tt in
+      let h3 : Way f2 v3 drafted_book only (trying (1 ∷ []) ((2, 3) ∷ [])) = beside h2 drafted_book only
+      (trying (1 ∷ []) ((2, 3) ∷ []))
       (events.draws (empty_leaf ∷ [])) (machine.draw 1 (empty_leaf ∷ []) v3 (trying (1 ∷ []) []) (me h2)) in
       beside h3 moved_book (1 ∷ []) (left only false) (events.publishes new pull)
       (machine.publish 1 old new pull v3 (trying (1 ∷ []) ((2, 3) ∷ [])) (me h3) (record {
@@ -229,7 +249,8 @@ module _ (laid : Laid sizes only only) where
   retired : Way (after f3 8 0) (with_pin v4 Absent) moved_book (1 ∷ []) free
   retired =
       let w1 : View = with_epoch v3 0 in let w2 : View = with_raise w1 1 in
-      let h1 : Way (after f2 0 0) w1 moved_book (1 ∷ []) (left only true) = on published 0 0 w1 (omega arith) (table.load_epoch 0) tt in
+      let h1 : Way (after f2 0 0) w1 moved_book (1 ∷ []) (left only true) = on published 0 0 w1 (omega arith)
+      (table.load_epoch 0) tt in
       let h2 : Way (after (after f2 0 0) 0 1) w2 moved_book (1 ∷ []) (left only true) =
       on h1 0 1 w2 (omega arith) (table.raise 0 (omega arith) (omega arith) (omega arith)) tt in
       let h3 : Way f3 v4 moved_book (1 ∷ []) (left [] true) =
@@ -239,32 +260,40 @@ module _ (laid : Laid sizes only only) where
   -- It reads the epoch and the pin, gives the slot, pins again and begins another try
   given : Way (after (after f4 8 2) 0 1) v6 moved_book (1 ∷ []) again
   given =
-      let w1 : View = with_epoch (with_pin v4 Absent) 1 in let w2 : View = with_given v5 0 1 in let w3 : View = with_pin w2 (Stored 1) in
-      let h1 : Way (after (after f3 8 0) 0 1) w1 moved_book (1 ∷ []) free = on retired 0 1 w1 (omega arith) (table.load_epoch 1) tt in
+      let w1 : View = with_epoch (with_pin v4 Absent) 1 in let w2 : View = with_given v5 0 1 in
+      let w3 : View = with_pin w2 (Stored 1) in
+      let h1 : Way (after (after f3 8 0) 0 1) w1 moved_book (1 ∷ []) free = on retired 0 1 w1 (omega arith)
+      (table.load_epoch 1) tt in
       let h2 : Way (after (after (after f3 8 0) 0 1) 8 0) v5 moved_book (1 ∷ []) free =
       on h1 8 0 v5 (omega arith) (table.load_pin 1 0 (omega arith) (omega arith)) tt in
-      let h3 : Way f4 w2 moved_book (1 ∷ []) free = on h2 2056 0 w2 (omega arith) (table.give 0 1 (omega arith) open_now) tt in
+      let h3 : Way f4 w2 moved_book (1 ∷ []) free = on h2 2056 0 w2 (omega arith)
+      (table.give 0 1 (omega arith) open_now) tt in
       let h4 : Way (after f4 8 2) w3 moved_book (1 ∷ []) free =
       on h3 8 2 w3 (omega arith) (table.store_pin 0 1 (omega arith) (omega arith)) (λ n. n) in
-      let h5 : Way (after (after f4 8 2) 0 1) v6 moved_book (1 ∷ []) free = on h4 0 1 v6 (omega arith) (table.load_epoch 1) tt in
+      let h5 : Way (after (after f4 8 2) 0 1) v6 moved_book (1 ∷ []) free = on h4 0 1 v6 (omega arith)
+      (table.load_epoch 1) tt in
       beside h5 moved_book (1 ∷ []) again events.begins (machine.begin 1 v6 free (me h5) (1, refl) (λ n. n))
 
   turned : TurnLaw
-  turned = let h = given in let last : World = world (set h.words 2056 4) (with_taken v6 0) moved_book (1 ∷ []) again in (
-    sizes,
-    start,
-    now h,
-    last,
-    h.events,
-    record { seat = 1; deed = takes 0 },
-    0,
-    opened sizes (omega arith) (omega arith) only only (λ z inside. ⊎_elim (λ (e : z ≡ 0). omega arith) (λ (n : ⊥). absurd n) inside) laid,
-    laid.reached,
-    h.runs,
-    acts (now h) 1 2056 0 4 v6 (with_taken v6 0) again (h.are.at 2056 (omega arith)) (me h) (table.take 0 (omega arith) (omega arith)) tt,
-    inl refl,
-    refl,
-  )
+  turned = let h = given in let last : World = world (set h.words 2056 4) (with_taken v6 0) moved_book
+      (1 ∷ []) again in (
+        sizes,
+        start,
+        now h,
+        last,
+        h.events,
+        record { seat = 1; deed = takes 0 },
+        0,
+        opened sizes (omega arith) (omega arith) only only
+            (λ z inside. ⊎_elim (λ (e : z ≡ 0). omega arith) (λ (n : ⊥). absurd n) inside) laid,
+        laid.reached,
+        h.runs,
+        acts (now h) 1 2056 0 4 v6 (with_taken v6 0) again (h.are.at 2056 (omega arith)) (me h)
+            (table.take 0 (omega arith) (omega arith)) tt,
+        inl refl,
+        refl,
+      )
 
 pub turn_law : TurnLaw
-turn_law = turned (one_laid sizes (omega arith) (omega arith) 0 [] [] (omega arith) (λ h. h) (none_laid sizes (omega arith) (omega arith)))
+turn_law = turned (one_laid sizes (omega arith) (omega arith) 0 [] [] (omega arith) (λ h. h)
+    (none_laid sizes (omega arith) (omega arith)))

@@ -1,5 +1,6 @@
 -- What a seat of the joined machine does, as plain data.
--- An event is one step of one seat. A step on the claims table is one by which the calls of that table are specified, and `deed_of` says
+-- An event is one step of one seat. A step on the claims table is one by which the calls of that table are specified,
+-- and `deed_of` says
 -- which deed it is.
 use Rattle.std.specs.Prelude.{ℕ, List}
 use Rattle.group_history.specs.declared.changes.Change.{Change}

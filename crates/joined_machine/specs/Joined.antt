@@ -1,13 +1,20 @@
 -- The joined machine: which events may happen in a world, and what each changes.
--- A step on the claims table is a `Move` of that table, as it stands; a step on the book is a look, or adds one entry. Between the two
--- there are these orders. A reader loads the head only while it holds a pin, and looks only at slots that the loaded commit reaches. A
--- publisher holds a pin through its try. In the try it takes slots, draws stamps, settles, and exchanges the head from the commit that it
--- loaded. After a won exchange it loads the epoch as n, raises it from n, and retires at n + 1 what the old commit alone reaches. After a
--- lost one, or where it gives the try up, it retires in the same way what it settled, and withdraws what is still taken. At an epoch of 2 ^
+-- A step on the claims table is a `Move` of that table, as it stands; a step on the book is a look, or adds one entry.
+-- Between the two
+-- there are these orders. A reader loads the head only while it holds a pin, and looks only at slots that the loaded
+-- commit reaches. A
+-- publisher holds a pin through its try. In the try it takes slots, draws stamps, settles, and exchanges the head from
+-- the commit that it
+-- loaded. After a won exchange it loads the epoch as n, raises it from n, and retires at n + 1 what the old commit
+-- alone reaches. After a
+-- lost one, or where it gives the try up, it retires in the same way what it settled, and withdraws what is still
+-- taken. At an epoch of 2 ^
 -- 60, which is raised no further, it retires nothing.
--- There are no loops: any seat may do any next step, in any order, or none. Slots may be taken, settled and withdrawn, and stamps drawn, at
+-- There are no loops: any seat may do any next step, in any order, or none. Slots may be taken, settled and withdrawn,
+-- and stamps drawn, at
 -- any time; what is settled or drawn outside a try belongs to none.
-use Rattle.std.specs.Prelude.{◌≡◌, ◌≢◌, ℕ, ◌+◌, ◌<◌, ◌≤◌, ◌⊎◌, List, [], ◌∷◌, ◌++◌, true, false, Some, length, replicate}
+use Rattle.std.specs.Prelude.{◌≡◌, ◌≢◌, ℕ, ◌+◌, ◌<◌, ◌≤◌, ◌⊎◌, List, [], ◌∷◌, ◌++◌, true, false, Some, length}
+use Rattle.std.specs.Prelude.{replicate}
 use Rattle.std.specs.Prelude.{slice_index, slice_set}
 use mathlib.Core.Option.{some}
 use lib.ListN.{get_elem?}
@@ -26,13 +33,16 @@ use Rattle.reader_claims.specs.Words.{first_slot, slot_at, slot_word}
 use Rattle.reader_claims.specs.Lists.{In, without}
 use Rattle.reader_claims.specs.Machine as table
 use Rattle.reader_claims.specs.Machine.{Move}
-use Rattle.joined_machine.specs.Worlds.{Commit, Among, minus, Try, under_way, ended, IsTrying, slots_of, IsLate, IsDrawn}
+use Rattle.joined_machine.specs.Worlds.{Commit, Among, minus, Try, under_way, ended, IsTrying, slots_of, IsLate}
+use Rattle.joined_machine.specs.Worlds.{IsDrawn}
 use Rattle.joined_machine.specs.Worlds.{Work, no_work, World, Sits, HoldsPin, head, put}
-use Rattle.joined_machine.specs.Events.{Event, deed_of, looks, loads_head, loads_drafts, begins, draws, publishes, loses, gives_up}
+use Rattle.joined_machine.specs.Events.{Event, deed_of, looks, loads_head, loads_drafts, begins, draws, publishes}
+use Rattle.joined_machine.specs.Events.{loses, gives_up}
 
 -- ---- steps on the claims table
 
--- What is asked of such a step beside what the table asks. A seat keeps its pin through a try. It retires only what an ended try has left,
+-- What is asked of such a step beside what the table asks. A seat keeps its pin through a try. It retires only what an
+-- ended try has left,
 -- and only once it has loaded the epoch since the try ended
 abbrev pub May : {v : View} {i x y : ℕ} {w : View} → Try → Move v i x y w → Type 0
 May t (table.store_pin x e some_pin few) = IsTrying t → ⊥
@@ -78,7 +88,8 @@ with_drawn other first end = other
 
 -- after a draw that made the book this one
 abbrev pub drew : World → ℕ → Work → List Entry → World
-drew s id a log = record (put s id (record a { try = with_drawn a.try (next_stamp s.log) (next_stamp log) })) { log = log }
+drew s id a log = record (put s id (record a
+    { try = with_drawn a.try (next_stamp s.log) (next_stamp log) })) { log = log }
 
 -- What a seat needs to move the head from the commit `old` to `new`
 pub record MayPublish (s : World) (a : Work) (old new : Commit) : Type 0 where
@@ -109,7 +120,8 @@ moved_to s id a old new change = record (put s id (with_won a old new)) {
 -- ---- all events
 
 pub data Steps (s : World) : Event → World → Type 0 where
-  at_table : (id i y : ℕ) (v w : View) (a : Work) → Sits s id v a → (m : Move v i (slice_index s.words i) y w) → May a.try m
+  at_table : (id i y : ℕ) (v w : View) (a : Work) → Sits s id v a
+      → (m : Move v i (slice_index s.words i) y w) → May a.try m
       → Steps s (record { seat = id; deed = deed_of m })
       (record (put s id (work_after a m)) { words = slice_set s.words i y; views = slice_set s.views id w })
   look : (id z : ℕ) (c : Commit) (v : View) (a : Work) → Sits s id v a → Among a.commits c → In c.slots z
@@ -121,12 +133,14 @@ pub data Steps (s : World) : Event → World → Type 0 where
   begin : (id : ℕ) (v : View) (a : Work) → Sits s id v a → HoldsPin v → (IsTrying a.try → ⊥)
       → Steps s (record { seat = id; deed = begins }) (put s id (with_try a))
   draw : (id : ℕ) (contents : List (Node Child)) (v : View) (a : Work) → Sits s id v a
-      → Steps s (record { seat = id; deed = draws contents }) (drew s id a (s.log ++ drafted (Some id) (next_stamp s.log) contents ∷ []))
+      → Steps s (record { seat = id; deed = draws contents })
+      (drew s id a (s.log ++ drafted (Some id) (next_stamp s.log) contents ∷ []))
   publish : (id : ℕ) (old new : Commit) (change : Change) (v : View) (a : Work) → Sits s id v a → MayPublish s a old new
       → Steps s (record { seat = id; deed = publishes new change }) (moved_to s id a old new change)
   -- the head is at another commit than the one loaded
   lose : (id : ℕ) (old : Commit) (v : View) (a : Work) → Sits s id v a → IsTrying a.try
-      → Among a.commits old → last_move s.log ≢ old.at → Steps s (record { seat = id; deed = loses }) (put s id (with_lost a))
+      → Among a.commits old → last_move s.log ≢ old.at
+      → Steps s (record { seat = id; deed = loses }) (put s id (with_lost a))
   give_up : (id : ℕ) (v : View) (a : Work) → Sits s id v a → IsTrying a.try
       → Steps s (record { seat = id; deed = gives_up }) (put s id (with_lost a))
 
@@ -147,7 +161,8 @@ pub record IsIdle (k : Sizes) (j : ℕ) (v : View) : Type 0 where
   pub reached : v.reached ≡ 0
   pub floor : v.floor ≡ 0
 
--- The machine opens at epoch 0 with no pin. The slots that the head reaches are live and all others free. No seat has anything under way
+-- The machine opens at epoch 0 with no pin. The slots that the head reaches are live and all others free. No seat has
+-- anything under way
 pub record Opens (k : Sizes) (s : World) : Type 0 where
   pub sized : k.readers ≤ max_seats
   pub long : length s.words ≡ first_slot + k.slots

@@ -34,7 +34,8 @@ abbrev pub IsRetiring : Deed → Type 0
 IsRetiring (retires slot) = Unit {0}
 IsRetiring other = ⊥
 
--- No slot that the head reaches, or that a commit loaded under a pin still held reaches, is ever given, withdrawn or taken
+-- No slot that the head reaches, or that a commit loaded under a pin still held reaches, is ever given, withdrawn or
+-- taken
 abbrev pub JoinedLaw : Type 0
 JoinedLaw = (k : Sizes) (s t u : World) (es : List Event) (e : Event) (z : ℕ)
     → Opens k s → Runs s es t → Steps t e u → IsReached t z → Reuses e.deed z → ⊥
@@ -44,26 +45,33 @@ abbrev pub HeadLaw : Type 0
 HeadLaw = (k : Sizes) (s t : World) (es : List Event) (z : ℕ) → Opens k s → Runs s es t → In t.reached z
     → (z < k.slots) × (slice_index t.words (slot_at z) ≡ slot_word Live)
 
--- A seat has a commit only while it holds a pin, and holds each slot of it, as the claims table says it: live, or retired above the pin
+-- A seat has a commit only while it holds a pin, and holds each slot of it, as the claims table says it: live, or
+-- retired above the pin
 abbrev pub HoldLaw : Type 0
-HoldLaw = (k : Sizes) (s t : World) (es : List Event) (j z : ℕ) (c : Commit) → Opens k s → Runs s es t → IsLoaded t j c → In c.slots z
+HoldLaw = (k : Sizes) (s t : World) (es : List Event) (j z : ℕ) (c : Commit) → Opens k s → Runs s es t
+    → IsLoaded t j c → In c.slots z
     → (v : View) × (get_elem? t.views j ≡ some v) × Holds t.words v z
 
 -- A seat that loaded the epoch at its highest number retires nothing
 abbrev pub HighestLaw : Type 0
-HighestLaw = (k : Sizes) (s t u : World) (es : List Event) (e : Event) (v : View) → Opens k s → Runs s es t → Steps t e u
+HighestLaw = (k : Sizes) (s t u : World) (es : List Event) (e : Event) (v : View) → Opens k s
+    → Runs s es t → Steps t e u
     → get_elem? t.views e.seat ≡ some v → IsRetiring e.deed → v.loaded < 2 ^ 60
 
--- Where the claims table's own steps lead to a table, they lead to each that events make of it. So its laws hold in the joined machine
+-- Where the claims table's own steps lead to a table, they lead to each that events make of it. So its laws hold in the
+-- joined machine
 abbrev pub TableLaw : Type 0
-TableLaw = (k : Sizes) (s t : World) (es : List Event) → Reached k s.words s.views → Runs s es t → Reached k t.words t.views
+TableLaw = (k : Sizes) (s t : World) (es : List Event) → Reached k s.words s.views → Runs s es t
+    → Reached k t.words t.views
 
--- For any number of readers from 1 on, and whatever slots the opening commit reaches, the machine can open so that they lead to its table
+-- For any number of readers from 1 on, and whatever slots the opening commit reaches, the machine can open so that they
+-- lead to its table
 abbrev pub OpeningLaw : Type 0
 OpeningLaw = (k : Sizes) (zs : List ℕ) → 0 < k.readers → k.readers ≤ max_seats → ((z : ℕ) → In zs z → z < k.slots)
     → (s : World) × Opens k s × Reached k s.words s.views × (s.reached ≡ zs)
 
--- From such an opening there are events by which a slot that the opening commit reaches is dropped, retired, given, and taken again. So the
+-- From such an opening there are events by which a slot that the opening commit reaches is dropped, retired, given, and
+-- taken again. So the
 -- law does not hold for want of steps
 abbrev pub TurnLaw : Type 0
 TurnLaw = (k : Sizes) × (s t u : World) × (es : List Event) × (e : Event) × (z : ℕ)

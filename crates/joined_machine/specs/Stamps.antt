@@ -1,5 +1,6 @@
 -- The joined machine with the stamps of what lies in its slots, and of what commits look for there.
--- A seat places something only in a slot that it has taken, and settles only what it has filled. In a slot of the commit before it a new
+-- A seat places something only in a slot that it has taken, and settles only what it has filled. In a slot of the
+-- commit before it a new
 -- commit looks for what that one looked for, and in each other slot for what its publisher placed there.
 use Rattle.std.specs.Prelude.{◌≡◌, ℕ, List, [], ◌∷◌, Bool, true, false, cond, ◌==◌}
 use mathlib.Core.Option.{some}
@@ -63,11 +64,17 @@ after_deed s t seat deed = record s { world = t; filled = filled_after s deed; w
 
 -- after the seat placed something in the slot z, under the stamp q
 abbrev pub after_place : Stock → ℕ → ℕ → ℕ → Stock
-after_place s id z q = record s { lies = at s.lies z q; filled = at s.filled z true; mine = at s.mine id (at (s.mine id) z q) }
+after_place s id z q = record s {
+  lies = at s.lies z q;
+  filled = at s.filled z true;
+  mine = at s.mine id (at (s.mine id) z q);
+}
 
 pub data Goes (s : Stock) : Happening → Stock → Type 0 where
-  happen : (e : Event) (t : World) → Steps s.world e t → IsFilled s e.deed → Goes s (happens e) (after_deed s t e.seat e.deed)
-  place : (id z q : ℕ) (v : View) → get_elem? s.world.views id ≡ some v → In v.taken z → Goes s (places id z q) (after_place s id z q)
+  happen : (e : Event) (t : World) → Steps s.world e t → IsFilled s e.deed
+      → Goes s (happens e) (after_deed s t e.seat e.deed)
+  place : (id z q : ℕ) (v : View) → get_elem? s.world.views id ≡ some v → In v.taken z
+      → Goes s (places id z q) (after_place s id z q)
 
 abbrev pub GoesOn : Stock → List Happening → Stock → Type 0
 GoesOn s [] t = s ≡ t
@@ -78,7 +85,8 @@ pub record Begins (k : Sizes) (s : Stock) : Type 0 where
   pub opens : Opens k s.world
   pub right : (z : ℕ) → In s.world.reached z → s.lies z ≡ s.wanted (stamp_of (last_move s.world.log)) z
 
--- A reader never meets a foreign stamp: in each slot of a commit that a seat loaded under the pin that it still holds lies what the commit
+-- A reader never meets a foreign stamp: in each slot of a commit that a seat loaded under the pin that it still holds
+-- lies what the commit
 -- looks for
 abbrev pub StampLaw : Type 0
 StampLaw = (k : Sizes) (s t : Stock) (hs : List Happening) (j z : ℕ) (c : Commit)

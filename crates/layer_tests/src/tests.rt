@@ -7,5 +7,6 @@ mod reads;
 mod renames;
 mod scans;
 mod slots;
+mod texts;
 mod trees;
 mod writes;

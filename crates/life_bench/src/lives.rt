@@ -145,7 +145,8 @@ fn client_of<'g>(
     group: &'g Shared,
     seats: &mut Seats<ScriptMutators, Store>,
 ) -> Result<Player<'g>, Refusal>
-    requires { All (λ seat. (seat.mark.book ≡ group.now.shared.head) × (seat.slots.table ≡ group.now.shared.store.claims)) seats.old.free.items }
+    requires { All (λ seat. (seat.mark.book ≡ group.now.shared.head)
+        × (seat.slots.table ≡ group.now.shared.store.claims)) seats.old.free.items }
 {
     let Ok(id) = Uuid::parse_str(CLIENT) else {
         return Err(Refusal::BadShape);
@@ -163,7 +164,8 @@ fn live_in(
     seats: &mut Seats<ScriptMutators, Store>,
     keys: u64,
 ) -> io::Result<()>
-    requires { All (λ seat. (seat.mark.book ≡ group.now.shared.head) × (seat.slots.table ≡ group.now.shared.store.claims)) seats.old.free.items }
+    requires { All (λ seat. (seat.mark.book ≡ group.now.shared.head)
+        × (seat.slots.table ≡ group.now.shared.store.claims)) seats.old.free.items }
 {
     match client_of(group, seats) {
         Ok(mut client) => live_on(rt, group, &mut client, keys),

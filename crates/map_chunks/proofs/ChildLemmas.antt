@@ -24,28 +24,34 @@ use Rattle.map_chunks.specs.declared.looks.Step.TheVariants.{Found, Below}
 use Rattle.map_chunks.proofs.EndLemmas.{only_ref-child}
 
 pub got_here : {A : Type 0} (xs : List A) (i : ℕ) (x : A) → slice_get xs i ≡ Some x → Contains xs x
-got_here xs i x h = subst (Contains xs) (get_or_from_slice_get xs i x x h) (Contains-get_or xs i x (slice_get_within xs i x h))
+got_here xs i x h = subst (Contains xs) (get_or_from_slice_get xs i x x h)
+    (Contains-get_or xs i x (slice_get_within xs i x h))
 
-pub step_at : (places : Ref → Type 0) (c : Chunk Ref) (key : Bytes) (step : Step) → AreAll places (chunk_children c) → IsStep c key step → IsStepAt places step
+pub step_at : (places : Ref → Type 0) (c : Chunk Ref) (key : Bytes) (step : Step) → AreAll places (chunk_children c)
+    → IsStep c key step → IsStepAt places step
 step_at places c key (Found v) all i = tt
 step_at places (Leaf rows) key (Below at) all i = absurd i
 step_at places (Inner kids) key (Below at) all i = all at (got_here (values_of kids) i.0 at i.2)
 
-pub hint_at : (places : Ref → Type 0) (c : Chunk Ref) (key : Bytes) (asked : Option Bytes) (hint : Hint) → AreAll places (chunk_children c) → IsHint c key asked hint → IsHintAt places hint
+pub hint_at : (places : Ref → Type 0) (c : Chunk Ref) (key : Bytes) (asked : Option Bytes) (hint : Hint)
+    → AreAll places (chunk_children c) → IsHint c key asked hint → IsHintAt places hint
 hint_at places c key asked (Stands s) all i = tt
 hint_at places (Leaf rows) key asked (On at) all i = absurd i
 hint_at places (Inner kids) key asked (On at) all i = all at (got_here (values_of kids) i.0 at i.2)
 
-pub second_at : (places : Ref → Type 0) (c : Chunk Ref) (step : Second) → AreAll places (chunk_children c) → IsSecondStep c step → IsSecondAt places step
+pub second_at : (places : Ref → Type 0) (c : Chunk Ref) (step : Second) → AreAll places (chunk_children c)
+    → IsSecondStep c step → IsSecondAt places step
 second_at places c (second.Known key) all i = tt
 second_at places (Leaf rows) (second.First at next) all i = absurd i
 second_at places (Inner kids) (second.First at next) all i = all at (got_here (values_of kids) 0 at i.0)
 
-pub first_at : (places : Ref → Type 0) (c : Chunk Ref) (child : Option Ref) → AreAll places (chunk_children c) → IsFirst c child → IfAt places child
+pub first_at : (places : Ref → Type 0) (c : Chunk Ref) (child : Option Ref) → AreAll places (chunk_children c)
+    → IsFirst c child → IfAt places child
 first_at places c None all i = tt
 first_at places (Leaf rows) (Some at) all i = absurd (cc i)
 first_at places (Inner kids) (Some at) all i = all at (got_here (values_of kids) 0 at (sym i))
 
-pub only_at : (places : Ref → Type 0) (c : Chunk Ref) (child : Option Ref) → AreAll places (chunk_children c) → child ≡ only_ref c → IfAt places child
+pub only_at : (places : Ref → Type 0) (c : Chunk Ref) (child : Option Ref) → AreAll places (chunk_children c)
+    → child ≡ only_ref c → IfAt places child
 only_at places c None all i = tt
 only_at places c (Some at) all i = all at (only_ref-child c at (sym i))

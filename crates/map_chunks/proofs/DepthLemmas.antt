@@ -10,7 +10,8 @@ use Rattle.map_chunks.specs.Inside.Depths.{IsFirst, IsAbove}
 use Rattle.map_chunks.proofs.JoinLemmas.{split_of}
 use Rattle.map_chunks.proofs.OpenLemmas.{Opened, opened, spells_at, shows_by}
 
-pub above : (ns : Contents) (k : ℕ) (s : Segment) (c : Chunk Ref) (child : Option Ref) → segment_at ns k ≡ Some s → slice_get ns k ≡ Some (chunk_content c) → IsFirst c child → IsAbove ns k s child
+pub above : (ns : Contents) (k : ℕ) (s : Segment) (c : Chunk Ref) (child : Option Ref) → segment_at ns k ≡ Some s
+    → slice_get ns k ≡ Some (chunk_content c) → IsFirst c child → IsAbove ns k s child
 above ns k s c child h g i = by c (opened ns k s c h g) i
   where
     by : (c : Chunk Ref) → Opened ns k s c → IsFirst c child → IsAbove ns k s child

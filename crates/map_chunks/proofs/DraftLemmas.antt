@@ -15,9 +15,14 @@ pub below-more : (n m : ℕ) (ats : List Ref) → n ≤ m → AreBelow n ats →
 below-more n m ats le h at i = let lt = h at i in omega (arith, le, lt)
 
 -- a node behind those that are there
-pub ordered-more : (n : ℕ) (xs : List (Node Ref)) (x : Node Ref) → AreOrdered n xs → AreBelow (n + length xs) (children x) → AreOrdered n (xs ++ x ∷ [])
+pub ordered-more : (n : ℕ) (xs : List (Node Ref)) (x : Node Ref) → AreOrdered n xs
+    → AreBelow (n + length xs) (children x) → AreOrdered n (xs ++ x ∷ [])
 ordered-more n [] x h b = (subst (λ k. AreBelow k (children x)) (let e : n + 0 ≡ n = omega arith in e) b, tt)
-ordered-more n (y ∷ ys) x h b = (h.0, ordered-more (suc n) ys x h.1 (subst (λ k. AreBelow k (children x)) (let e : n + suc (length ys) ≡ suc n + length ys = omega arith in e) b))
+ordered-more n (y ∷ ys) x h b = (
+  h.0,
+  ordered-more (suc n) ys x h.1
+      (subst (λ k. AreBelow k (children x)) (let e : n + suc (length ys) ≡ suc n + length ys = omega arith in e) b),
+)
 
 pub ordered-take : (n k : ℕ) (xs : List (Node Ref)) → AreOrdered n xs → AreOrdered n (take k xs)
 ordered-take n zero [] h = tt
@@ -26,5 +31,8 @@ ordered-take n zero (x ∷ xs) h = tt
 ordered-take n (suc k) (x ∷ xs) h = (h.0, ordered-take (suc n) k xs h.1)
 
 -- the name of a node that was appended is below the next one's
-pub pushed-below : (old new : Drafted) (n : Node Ref) (at : Ref) → new ≡ record { first = old.first; nodes = old.nodes ++ n ∷ [] } → stamp_of at ≡ old.first + length old.nodes → stamp_of at < new.first + length new.nodes
-pushed-below old new n at o e = subst (λ (d : Drafted). stamp_of at < d.first + length d.nodes) (sym o) (omega (arith, e, length-append old.nodes (n ∷ [])))
+pub pushed-below : (old new : Drafted) (n : Node Ref) (at : Ref)
+    → new ≡ record { first = old.first; nodes = old.nodes ++ n ∷ [] } → stamp_of at ≡ old.first + length old.nodes
+    → stamp_of at < new.first + length new.nodes
+pushed-below old new n at o e = subst (λ (d : Drafted). stamp_of at < d.first + length d.nodes) (sym o)
+    (omega (arith, e, length-append old.nodes (n ∷ [])))

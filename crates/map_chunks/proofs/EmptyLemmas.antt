@@ -1,5 +1,6 @@
 -- Chunks without rows.
-use Rattle.std.proofs.Common.{◌≡◌, ◌<◌, ℕ, Bool, true, false, [], ◌∷◌, Option, Some, length, slice_get, refl, sym, ap, arith}
+use Rattle.std.proofs.Common.{◌≡◌, ◌<◌, ℕ, Bool, true, false, [], ◌∷◌, Option, Some, length, slice_get, refl, sym, ap}
+use Rattle.std.proofs.Common.{arith}
 use Rattle.std.proofs.lemmas.Bool.Decides.{nat_tests}
 use Rattle.std.specs.Prelude.{◌==◌, option_and_then}
 use Rattle.std.specs.FinMap as finite
@@ -24,18 +25,22 @@ not_none n l = by (n == 0) refl
     by true q = let e : n ≡ 0 = grind (arith, nat_tests) in absurd (omega (arith, e, l))
     by false q = refl
 
-pub some_rows : (e : Bytes × Option Rows) (es : Shows) (rs : Rows) → joined_rows (e ∷ es) ≡ Some rs → false ≡ (length rs == 0)
+pub some_rows : (e : Bytes × Option Rows) (es : Shows) (rs : Rows) → joined_rows (e ∷ es) ≡ Some rs
+    → false ≡ (length rs == 0)
 some_rows e es rs h = let b = back_begins e es rs h in not_none (length rs) (omega (arith, ap length b.whole))
 
 -- a placed chunk
-pub none_placed : (ns : Contents) (k : ℕ) (s : Segment) (c : Chunk Ref) → segment_at ns k ≡ Some s → slice_get ns k ≡ Some (chunk_content c) → has_none c ≡ (length s.rows == 0)
+pub none_placed : (ns : Contents) (k : ℕ) (s : Segment) (c : Chunk Ref) → segment_at ns k ≡ Some s
+    → slice_get ns k ≡ Some (chunk_content c) → has_none c ≡ (length s.rows == 0)
 none_placed ns k s c h g = by c (opened ns k s c h g)
   where
     by : (c : Chunk Ref) → Opened ns k s c → has_none c ≡ (length s.rows == 0)
     by (chunked.Leaf rows) o = ap (λ w. length w == 0) (sym o.is)
     by (chunked.Inner []) o = absurd (omega (arith, o.filled))
-    by (chunked.Inner (e ∷ es)) o = some_rows (e.0, rows_at ns o.depth (stamp_of e.1)) (shows_by (rows_at ns o.depth) es) s.rows o.rows
+    by (chunked.Inner (e ∷ es)) o = some_rows (e.0, rows_at ns o.depth (stamp_of e.1))
+        (shows_by (rows_at ns o.depth) es) s.rows o.rows
 
 -- a map of no rows
-pub none_of-map : (x : Option Rows) (m : Entries) → option_and_then map_of_rows x ≡ Some m → (length (rows_or x) == 0) ≡ (length (finite.entries m) == 0)
+pub none_of-map : (x : Option Rows) (m : Entries) → option_and_then map_of_rows x ≡ Some m
+    → (length (rows_or x) == 0) ≡ (length (finite.entries m) == 0)
 none_of-map x m h = ap (λ w. length w == 0) (sym (map_is x m h).rows)

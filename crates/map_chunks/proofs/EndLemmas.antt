@@ -1,5 +1,6 @@
 -- What chunks with one child each end in.
-use Rattle.std.proofs.Common.{◌≡◌, ◌≤◌, ℕ, false, [], ◌∷◌, ◌++◌, Option, Some, None, slice_get, append-nil, refl, sym, ap, ◌∙◌, subst, inr, arith}
+use Rattle.std.proofs.Common.{◌≡◌, ◌≤◌, ℕ, false, [], ◌∷◌, ◌++◌, Option, Some, None, slice_get, append-nil, refl, sym}
+use Rattle.std.proofs.Common.{ap, ◌∙◌, subst, inr, arith}
 use Rattle.std.specs.Prelude.{option_map}
 use mathlib.Core.List.{IsPrefix}
 use Rattle.std.specs.List.{Contains}
@@ -30,10 +31,12 @@ depth_of : (ns : Contents) (k : ℕ) (s : Segment) → segment_at ns k ≡ Some 
 depth_of ns k s h = ap (option_map (λ (t : Segment). t.depth)) h
 
 -- the segment of a chunk that is so deep
-segment_deep : (ns : Contents) (k d : ℕ) → chunk_depth ns k ≡ Some d → (s : Segment) × (segment_at ns k ≡ Some s) × (s.depth ≡ d)
+segment_deep : (ns : Contents) (k d : ℕ) → chunk_depth ns k ≡ Some d
+    → (s : Segment) × (segment_at ns k ≡ Some s) × (s.depth ≡ d)
 segment_deep ns k d h = by (segment_at ns k) refl h
   where
-    by : (o : Option Segment) → segment_at ns k ≡ o → option_map (λ (t : Segment). t.depth) o ≡ Some d → (s : Segment) × (segment_at ns k ≡ Some s) × (s.depth ≡ d)
+    by : (o : Option Segment) → segment_at ns k ≡ o → option_map (λ (t : Segment). t.depth) o ≡ Some d
+        → (s : Segment) × (segment_at ns k ≡ Some s) × (s.depth ≡ d)
     by None e h = absurd cc
     by (Some s) e h = (s, e, some_is h)
 
@@ -41,29 +44,34 @@ segment_deep ns k d h = by (segment_at ns k) refl h
 pub depth-at : (ns : Contents) (d k : ℕ) (rs : Rows) → rows_at ns d k ≡ Some rs → chunk_depth ns k ≡ Some d
 depth-at ns d k rs h = let f = spells_at ns d k rs h in depth_of ns k f.0.segment f.0.is ∙ ap (λ n. Some n) f.1
 
-pub only_is : (ns : Contents) (k : ℕ) (s : Segment) (c : Chunk Ref) → segment_at ns k ≡ Some s → slice_get ns k ≡ Some (chunk_content c) → chunk_rows ns k ≡ Some s.rows
+pub only_is : (ns : Contents) (k : ℕ) (s : Segment) (c : Chunk Ref) → segment_at ns k ≡ Some s
+    → slice_get ns k ≡ Some (chunk_content c) → chunk_rows ns k ≡ Some s.rows
     → IsOnlyChild ns k (Some s.rows) (only_ref c)
 only_is ns k s c h g r = by c g (opened ns k s c h g)
   where
     wide : (c : Chunk Ref) → slice_get ns k ≡ Some (chunk_content c) → only_ref c ≡ None → IsWideAt ns k
     wide c g o n e = subst (λ w. is_narrow w ≡ false) (some_is (sym g ∙ e)) (wide-content c o)
 
-    by : (c : Chunk Ref) → slice_get ns k ≡ Some (chunk_content c) → Opened ns k s c → IsOnlyChild ns k (Some s.rows) (only_ref c)
+    by : (c : Chunk Ref) → slice_get ns k ≡ Some (chunk_content c) → Opened ns k s c
+        → IsOnlyChild ns k (Some s.rows) (only_ref c)
     by (chunked.Leaf rows) g o = (r, wide (chunked.Leaf rows) g refl)
     by (chunked.Inner []) g o = (r, wide (chunked.Inner []) g refl)
     by (chunked.Inner (e ∷ [])) g o =
         let p = split_of (e.0, rows_at ns o.depth (stamp_of e.1)) [] s.rows o.rows in
         let nil : p.back ≡ [] = sym (some_is p.back_is) in (
           o.low.0,
-          chunk_rows-at ns o.depth (stamp_of e.1) p.front p.front_is ∙ ap (λ w. Some w) (sym (p.whole ∙ ap (λ w. p.front ++ w) nil ∙ append-nil p.front)),
+          chunk_rows-at ns o.depth (stamp_of e.1) p.front p.front_is ∙ ap (λ w. Some w)
+              (sym (p.whole ∙ ap (λ w. p.front ++ w) nil ∙ append-nil p.front)),
           (o.depth, depth-at ns o.depth (stamp_of e.1) p.front p.front_is, depth_of ns k s h ∙ ap (λ n. Some n) o.deep),
         )
     by (chunked.Inner (e ∷ f ∷ es)) g o = (r, wide (chunked.Inner (e ∷ f ∷ es)) g refl)
 
 -- DEPTHS
 
-pub depth-later : (old new : Contents) (k d : ℕ) → IsPrefix old new → chunk_depth old k ≡ Some d → chunk_depth new k ≡ Some d
-depth-later old new k d p h = let s = segment_deep old k d h in depth_of new k s.0 (segment-kept old new k s.0 p s.1) ∙ ap (λ n. Some n) s.2
+pub depth-later : (old new : Contents) (k d : ℕ) → IsPrefix old new → chunk_depth old k ≡ Some d
+    → chunk_depth new k ≡ Some d
+depth-later old new k d p h = let s = segment_deep old k d h in
+    depth_of new k s.0 (segment-kept old new k s.0 p s.1) ∙ ap (λ n. Some n) s.2
 
 pub no_deeper : (ns : Contents) (d n : ℕ) (at : Ref) → d ≤ n → IsNoDeeper ns d at → IsNoDeeper ns n at
 no_deeper ns d n at l h = (h.0, h.1, omega (arith, h.2))

@@ -1,10 +1,12 @@
 -- Children one after another, each with the rows that it shows.
-use Rattle.std.proofs.Common.{◌≡◌, ◌<◌, Bool, true, false, cond, List, [], ◌∷◌, ◌++◌, Option, Some, None, length, refl, sym, ap, ◌∙◌, subst, arith, append_assoc}
+use Rattle.std.proofs.Common.{◌≡◌, ◌<◌, Bool, true, false, cond, List, [], ◌∷◌, ◌++◌, Option, Some, None, length, refl}
+use Rattle.std.proofs.Common.{sym, ap, ◌∙◌, subst, arith, append_assoc}
 use Rattle.group_history.specs.Map.{Bytes}
 use Rattle.group_history.specs.Rows.{Rows}
 use Rattle.group_history.specs.Spelling.{begins_with, joined_one, joined_rows}
 use Rattle.map_chunks.specs.Search.{is_above}
-use Rattle.map_chunks.proofs.RowLemmas.{greater_less, AllBelow, AllAbove, AllAbove-less, AllBelow-upto, IsStrict, IsStrict-back, IsStrict-front, AllBelow-before}
+use Rattle.map_chunks.proofs.RowLemmas.{greater_less, AllBelow, AllAbove, AllAbove-less, AllBelow-upto, IsStrict}
+use Rattle.map_chunks.proofs.RowLemmas.{IsStrict-back, IsStrict-front, AllBelow-before}
 use Rattle.map_chunks.proofs.Texts.{same_text-is, same_text-itself}
 
 abbrev pub Shows : Type 0
@@ -36,7 +38,8 @@ none-appended (Some b) = refl
 
 pub joined-append : (es fs : Shows) → joined_rows (es ++ fs) ≡ appended (joined_rows es) (joined_rows fs)
 joined-append [] fs = none-appended (joined_rows fs)
-joined-append (e ∷ es) fs = ap (joined_one e.0 e.1) (joined-append es fs) ∙ one-appended e.0 e.1 (joined_rows es) (joined_rows fs)
+joined-append (e ∷ es) fs = ap (joined_one e.0 e.1) (joined-append es fs) ∙ one-appended e.0 e.1 (joined_rows es)
+    (joined_rows fs)
 
 pub some_is : {A : Type 0} {a b : A} → Some a ≡ Some b → a ≡ b
 some_is p = cc
@@ -66,7 +69,8 @@ pub record Split (e : Bytes × Option Rows) (es : Shows) (rs : Rows) : Type 0 wh
 pub split_of : (e : Bytes × Option Rows) (es : Shows) (rs : Rows) → joined_rows (e ∷ es) ≡ Some rs → Split e es rs
 split_of e es rs h = by e.1 refl (joined_rows es) refl h
   where
-    by : (x : Option Rows) → e.1 ≡ x → (y : Option Rows) → joined_rows es ≡ y → joined_one e.0 x y ≡ Some rs → Split e es rs
+    by : (x : Option Rows) → e.1 ≡ x → (y : Option Rows) → joined_rows es ≡ y
+        → joined_one e.0 x y ≡ Some rs → Split e es rs
     by None p y q g = absurd cc
     by (Some a) p None q g = absurd cc
     by (Some a) p (Some b) q g = to (begins_with e.0 a) refl g
@@ -117,7 +121,8 @@ pub record Way (key : Bytes) (ls : Shows) (k : Bytes) (x : Option Rows) (bs : Sh
   pub below : AllBelow key front
   pub above : AllAbove key back
 
-pub way : (key : Bytes) (ls : Shows) (k : Bytes) (x : Option Rows) (bs : Shows) (rs : Rows) → joined_rows (ls ++ (k, x) ∷ bs) ≡ Some rs → IsStrict rs
+pub way : (key : Bytes) (ls : Shows) (k : Bytes) (x : Option Rows) (bs : Shows) (rs : Rows)
+    → joined_rows (ls ++ (k, x) ∷ bs) ≡ Some rs → IsStrict rs
     → Place key ls k bs → Way key ls k x bs rs
 way key ls k x bs rs h o p =
     let g = halves (joined_rows ls) (joined_rows ((k, x) ∷ bs)) rs (sym (joined-append ls ((k, x) ∷ bs)) ∙ h) in
@@ -139,15 +144,18 @@ way key ls k x bs rs h o p =
       above = high bs s.back s.back_is p.next s.front o3;
     }
   where
-    low : (ls : Shows) (front : Rows) → joined_rows ls ≡ Some front → (0 < length ls → is_above k key ≡ false) → (here back : Rows) → begins_with k here ≡ true
+    low : (ls : Shows) (front : Rows) → joined_rows ls ≡ Some front → (0 < length ls → is_above k key ≡ false)
+        → (here back : Rows) → begins_with k here ≡ true
         → IsStrict (front ++ (here ++ back)) → AllBelow key front
     low [] front e u here back s o = subst (AllBelow key) (some_is e) tt
     low (a ∷ ls) front e u here back s o =
         let b = begins k here s in
-        let o4 : IsStrict (front ++ (k, b.value) ∷ (b.rest ++ back)) = subst (λ t. IsStrict (front ++ (t ++ back))) b.whole o in
+        let o4 : IsStrict (front ++ (k, b.value) ∷ (b.rest ++ back)) = subst
+        (λ t. IsStrict (front ++ (t ++ back))) b.whole o in
         AllBelow-upto k key front (u (omega arith)) (AllBelow-before front (k, b.value) (b.rest ++ back) o4)
 
-    high : (bs : Shows) (back : Rows) → joined_rows bs ≡ Some back → ((f : Bytes × Option Rows) (fs : Shows) → bs ≡ f ∷ fs → is_above f.0 key ≡ true) → (here : Rows)
+    high : (bs : Shows) (back : Rows) → joined_rows bs ≡ Some back
+        → ((f : Bytes × Option Rows) (fs : Shows) → bs ≡ f ∷ fs → is_above f.0 key ≡ true) → (here : Rows)
         → IsStrict (here ++ back) → AllAbove key back
     high [] back e n here o = subst (AllAbove key) (some_is e) tt
     high (f ∷ fs) back e n here o =

@@ -8,10 +8,15 @@ use Rattle.map_chunks.specs.Places.{AreAll, AreKept, Grows}
 
 -- WHAT GREW
 
-pub grows_on : {S : Type 0} (contents : S → Contents) (places : S → Ref → Type 0) (a b d : S) → Grows contents places a b → Grows contents places b d → Grows contents places a d
-grows_on contents places a b d g h = (prefix_trans (contents a) (contents b) (contents d) g.0 h.0, λ at p. h.1 at (g.1 at p))
+pub grows_on : {S : Type 0} (contents : S → Contents) (places : S → Ref → Type 0) (a b d : S)
+    → Grows contents places a b → Grows contents places b d → Grows contents places a d
+grows_on contents places a b d g h = (
+  prefix_trans (contents a) (contents b) (contents d) g.0 h.0,
+  λ at p. h.1 at (g.1 at p),
+)
 
-pub all_on : (places more : Ref → Type 0) (ats : List Ref) → ((at : Ref) → places at → more at) → AreAll places ats → AreAll more ats
+pub all_on : (places more : Ref → Type 0) (ats : List Ref) → ((at : Ref) → places at → more at) → AreAll places ats
+    → AreAll more ats
 all_on places more ats g all at i = g at (all at i)
 
 -- REFERENCES OF A CHANGED TREE
@@ -22,13 +27,16 @@ kept-none places old at i = absurd (no_element at i)
 pub kept-same : (places : Ref → Type 0) (old : List Ref) → AreKept places old old
 kept-same places old at i = inl i
 
-pub kept-grown : (places more : Ref → Type 0) (old new : List Ref) → ((at : Ref) → places at → more at) → AreKept places old new → AreKept more old new
+pub kept-grown : (places more : Ref → Type 0) (old new : List Ref) → ((at : Ref) → places at → more at)
+    → AreKept places old new → AreKept more old new
 kept-grown places more old new g h at i = elim (h at i) [ inl p ↦ inl p | inr q ↦ inr (g at q) ]
 
-pub kept-trans : (places : Ref → Type 0) (old mid new : List Ref) → AreKept places old mid → AreKept places mid new → AreKept places old new
+pub kept-trans : (places : Ref → Type 0) (old mid new : List Ref) → AreKept places old mid → AreKept places mid new
+    → AreKept places old new
 kept-trans places old mid new g h at i = elim (h at i) [ inl p ↦ g at p | inr q ↦ inr q ]
 
-pub kept-within : (places : Ref → Type 0) (old new more : List Ref) → ((at : Ref) → Contains new at → Contains more at) → AreKept places old more → AreKept places old new
+pub kept-within : (places : Ref → Type 0) (old new more : List Ref) → ((at : Ref) → Contains new at → Contains more at)
+    → AreKept places old more → AreKept places old new
 kept-within places old new more w h at i = h at (w at i)
 
 -- what stands in no chunk of the old ones may be looked for
@@ -36,5 +44,6 @@ pub kept-from_none : (places : Ref → Type 0) (old new : List Ref) → AreKept 
 kept-from_none places old new h at i = elim (h at i) [ inl p ↦ absurd (no_element at p) | inr q ↦ inr q ]
 
 -- where the old ones may be looked for, the new ones may
-pub all_kept : (places : Ref → Type 0) (old new : List Ref) → AreAll places old → AreKept places old new → AreAll places new
+pub all_kept : (places : Ref → Type 0) (old new : List Ref) → AreAll places old → AreKept places old new
+    → AreAll places new
 all_kept places old new all h at i = elim (h at i) [ inl p ↦ all at p | inr q ↦ q ]

@@ -8,16 +8,21 @@ use Rattle.std.specs.Cmp.Lexicographic.{slice_cmp}
 use Rattle.group_history.specs.Map.{Bytes}
 
 -- what stands above the prefix and doesn't begin with it has no key behind it that does
-pub past_prefix : (p k j : Bytes) → slice_cmp nat_cmp k p ≡ Greater → starts_with nat_eq k p ≡ false → slice_cmp nat_cmp k j ≡ Less → starts_with nat_eq j p ≡ false
+pub past_prefix : (p k j : Bytes) → slice_cmp nat_cmp k p ≡ Greater → starts_with nat_eq k p ≡ false
+    → slice_cmp nat_cmp k j ≡ Less → starts_with nat_eq j p ≡ false
 past_prefix [] k j g n l = absurd cc
 past_prefix (b ∷ p) [] j g n l = absurd cc
 past_prefix (b ∷ p) (a ∷ k) [] g n l = absurd cc
-past_prefix (b ∷ p) (a ∷ k) (c ∷ j) g n l = by (ltb a b) refl (a == b) refl (ltb a c) refl (a == c) refl (nat_eq b a) refl (nat_eq b c) refl g n l (past_prefix p k j)
+past_prefix (b ∷ p) (a ∷ k) (c ∷ j) g n l = by (ltb a b) refl (a == b) refl (ltb a c) refl (a == c) refl
+    (nat_eq b a) refl (nat_eq b c) refl g n l (past_prefix p k j)
   where
-    by : (u : Bool) → ltb a b ≡ u → (v : Bool) → (a == b) ≡ v → (w : Bool) → ltb a c ≡ w → (x : Bool) → (a == c) ≡ x → (y : Bool) → nat_eq b a ≡ y → (z : Bool) → nat_eq b c ≡ z
-        → ordering_then (cond u Less (cond v Equal Greater)) (slice_cmp nat_cmp k p) ≡ Greater → (y && starts_with nat_eq k p) ≡ false
+    by : (u : Bool) → ltb a b ≡ u → (v : Bool) → (a == b) ≡ v → (w : Bool) → ltb a c ≡ w → (x : Bool) → (a == c) ≡ x
+        → (y : Bool) → nat_eq b a ≡ y → (z : Bool) → nat_eq b c ≡ z
+        → ordering_then (cond u Less (cond v Equal Greater)) (slice_cmp nat_cmp k p) ≡ Greater
+        → (y && starts_with nat_eq k p) ≡ false
         → ordering_then (cond w Less (cond x Equal Greater)) (slice_cmp nat_cmp k j) ≡ Less
-        → (slice_cmp nat_cmp k p ≡ Greater → starts_with nat_eq k p ≡ false → slice_cmp nat_cmp k j ≡ Less → starts_with nat_eq j p ≡ false)
+        → (slice_cmp nat_cmp k p ≡ Greater → starts_with nat_eq k p ≡ false → slice_cmp nat_cmp k j ≡ Less
+        → starts_with nat_eq j p ≡ false)
         → (z && starts_with nat_eq j p) ≡ false
     by u hu v hv w hw x hx y hy false hz g n l ih = refl
     by true hu v hv w hw x hx y hy true hz g n l ih = absurd cc
@@ -37,7 +42,8 @@ below_prefix (b ∷ p) [] l = refl
 below_prefix (b ∷ p) (a ∷ k) l = by (ltb a b) refl (a == b) refl (nat_eq b a) refl l (below_prefix p k)
   where
     by : (u : Bool) → ltb a b ≡ u → (v : Bool) → (a == b) ≡ v → (y : Bool) → nat_eq b a ≡ y
-        → ordering_then (cond u Less (cond v Equal Greater)) (slice_cmp nat_cmp k p) ≡ Less → (slice_cmp nat_cmp k p ≡ Less → starts_with nat_eq k p ≡ false)
+        → ordering_then (cond u Less (cond v Equal Greater)) (slice_cmp nat_cmp k p) ≡ Less
+        → (slice_cmp nat_cmp k p ≡ Less → starts_with nat_eq k p ≡ false)
         → (y && starts_with nat_eq k p) ≡ false
     by u hu v hv false hy l ih = refl
     by true hu v hv true hy l ih = absurd (grind (arith, nat_tests))

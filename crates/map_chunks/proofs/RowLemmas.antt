@@ -1,5 +1,6 @@
 -- Rows in strict order of their keys, one part after another.
-use Rattle.std.proofs.Common.{◌≡◌, Bool, true, false, cond, ◌&&◌, T, List, [], ◌∷◌, ◌++◌, Option, Some, None, refl, sym, ap, ◌∙◌, subst, Ordering, Less, Equal, Greater, is_lt, is_gt, is_eq, nat_cmp}
+use Rattle.std.proofs.Common.{◌≡◌, Bool, true, false, cond, ◌&&◌, T, List, [], ◌∷◌, ◌++◌, Option, Some, None, refl, sym}
+use Rattle.std.proofs.Common.{ap, ◌∙◌, subst, Ordering, Less, Equal, Greater, is_lt, is_gt, is_eq, nat_cmp}
 use Rattle.std.specs.Ordering.{eq_by_cmp, ordering_reverse}
 use Rattle.std.specs.Cmp.Lexicographic.{slice_cmp, nat_list_cmp_total}
 use Rattle.std.proofs.lemmas.Cmp.{tied_itself}
@@ -129,20 +130,24 @@ pub find-above : (k : Bytes) (rs : Rows) → AllAbove k rs → find (slice_cmp n
 find-above k [] h = refl
 find-above k (r ∷ rs) h = ap (λ o. cond (is_eq o) (Some r.1) (find (slice_cmp nat_cmp) k rs)) h.0 ∙ find-above k rs h.1
 
-pub find-front : (k : Bytes) (a b : Rows) → AllAbove k b → find (slice_cmp nat_cmp) k (a ++ b) ≡ find (slice_cmp nat_cmp) k a
+pub find-front : (k : Bytes) (a b : Rows) → AllAbove k b
+    → find (slice_cmp nat_cmp) k (a ++ b) ≡ find (slice_cmp nat_cmp) k a
 find-front k [] b h = find-above k b h
 find-front k (r ∷ a) b h = ap (cond (eq_by_cmp (slice_cmp nat_cmp) k r.0) (Some r.1)) (find-front k a b h)
 
-pub find-back : (k : Bytes) (a b : Rows) → AllBelow k a → find (slice_cmp nat_cmp) k (a ++ b) ≡ find (slice_cmp nat_cmp) k b
+pub find-back : (k : Bytes) (a b : Rows) → AllBelow k a
+    → find (slice_cmp nat_cmp) k (a ++ b) ≡ find (slice_cmp nat_cmp) k b
 find-back k [] b h = refl
 find-back k (r ∷ a) b h =
-    ap (λ o. cond (is_eq o) (Some r.1) (find (slice_cmp nat_cmp) k (a ++ b))) (turned k r.0 ∙ ap ordering_reverse h.0) ∙ find-back k a b h.1
+    ap (λ o. cond (is_eq o) (Some r.1) (find (slice_cmp nat_cmp) k (a ++ b)))
+    (turned k r.0 ∙ ap ordering_reverse h.0) ∙ find-back k a b h.1
 
 pub put-above : (k v : Bytes) (b : Rows) → AllAbove k b → put (slice_cmp nat_cmp) k v b ≡ (k, v) ∷ b
 put-above k v [] h = refl
 put-above k v (s ∷ b) h = ap (λ o. by_order o ((k, v) ∷ s ∷ b) ((s.0, v) ∷ b) (s ∷ put (slice_cmp nat_cmp) k v b)) h.0
 
-pub put-front : (k v : Bytes) (a b : Rows) → AllAbove k b → put (slice_cmp nat_cmp) k v (a ++ b) ≡ put (slice_cmp nat_cmp) k v a ++ b
+pub put-front : (k v : Bytes) (a b : Rows) → AllAbove k b
+    → put (slice_cmp nat_cmp) k v (a ++ b) ≡ put (slice_cmp nat_cmp) k v a ++ b
 put-front k v [] b h = put-above k v b h
 put-front k v (s ∷ a) b h = by (cmp k s.0) (put-front k v a b h)
   where
@@ -153,21 +158,25 @@ put-front k v (s ∷ a) b h = by (cmp k s.0) (put-front k v a b h)
     by Equal ih = refl
     by Greater ih = ap (λ t. s ∷ t) ih
 
-pub put-back : (k v : Bytes) (a b : Rows) → AllBelow k a → put (slice_cmp nat_cmp) k v (a ++ b) ≡ a ++ put (slice_cmp nat_cmp) k v b
+pub put-back : (k v : Bytes) (a b : Rows) → AllBelow k a
+    → put (slice_cmp nat_cmp) k v (a ++ b) ≡ a ++ put (slice_cmp nat_cmp) k v b
 put-back k v [] b h = refl
 put-back k v (r ∷ a) b h =
-    ap (λ o. by_order o ((k, v) ∷ r ∷ (a ++ b)) ((r.0, v) ∷ (a ++ b)) (r ∷ put (slice_cmp nat_cmp) k v (a ++ b))) (turned k r.0 ∙ ap ordering_reverse h.0)
+    ap (λ o. by_order o ((k, v) ∷ r ∷ (a ++ b)) ((r.0, v) ∷ (a ++ b)) (r ∷ put (slice_cmp nat_cmp) k v (a ++ b)))
+    (turned k r.0 ∙ ap ordering_reverse h.0)
     ∙ ap (λ t. r ∷ t) (put-back k v a b h.1)
 
 -- the value of a row whose key it is
 pub put-at : (k v w : Bytes) (b : Rows) → put (slice_cmp nat_cmp) k v ((k, w) ∷ b) ≡ (k, v) ∷ b
-put-at k v w b = ap (λ o. by_order o ((k, v) ∷ (k, w) ∷ b) ((k, v) ∷ b) ((k, w) ∷ put (slice_cmp nat_cmp) k v b)) (is_itself k)
+put-at k v w b = ap (λ o. by_order o ((k, v) ∷ (k, w) ∷ b) ((k, v) ∷ b)
+    ((k, w) ∷ put (slice_cmp nat_cmp) k v b)) (is_itself k)
 
 -- the keys of rows rise where the rows are in order
 pub rises_strict : {A : Type 0} (es : List (Bytes × A)) → T (rises (keys_of es)) → T (is_sorted (slice_cmp nat_cmp) es)
 rises_strict {A} [] h = tt
 rises_strict {A} (e ∷ es) h = both _ _ (below e.0 es (first _ _ h)) (rises_strict es (second _ _ h))
   where
-    below : (k : Bytes) (fs : List (Bytes × A)) → T (is_below_all k (keys_of fs)) → T (below_all (slice_cmp nat_cmp) k fs)
+    below : (k : Bytes) (fs : List (Bytes × A)) → T (is_below_all k (keys_of fs))
+        → T (below_all (slice_cmp nat_cmp) k fs)
     below k [] h = tt
     below k (f ∷ fs) h = both _ _ (first _ _ h) (below k fs (second _ _ h))

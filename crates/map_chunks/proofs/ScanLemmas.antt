@@ -1,5 +1,8 @@
 -- A scan of rows that stand one part after another.
-use Rattle.std.proofs.Common.{◌≡◌, ◌<◌, ◌≤◌, ◌+◌, ℕ, zero, suc, Bool, true, false, cond, not, ◌&&◌, ◌||◌, nat_eq, nat_le, T, List, [], ◌∷◌, ◌++◌, Option, Some, None, length, max, take, get_or, slice_get, refl, sym, ap, ◌∙◌, subst, arith, append_assoc, filter, Ordering, Less, Equal, Greater, is_gt}
+use Rattle.std.proofs.Common.{◌≡◌, ◌<◌, ◌≤◌, ◌+◌, ℕ, zero, suc, Bool, true, false, cond, not, ◌&&◌, ◌||◌, nat_eq}
+use Rattle.std.proofs.Common.{nat_le, T, List, [], ◌∷◌, ◌++◌, Option, Some, None, length, max, take, get_or, slice_get}
+use Rattle.std.proofs.Common.{refl, sym, ap, ◌∙◌, subst, arith, append_assoc, filter, Ordering, Less, Equal, Greater}
+use Rattle.std.proofs.Common.{is_gt}
 use Rattle.std.proofs.lemmas.Bool.Decides.{nat_tests}
 use Rattle.std.proofs.lemmas.List.{append-nil, take-append-le}
 use Rattle.std.proofs.lemmas.List.Elements.{filter-append}
@@ -26,9 +29,11 @@ use Rattle.map_chunks.specs.Search.{is_above, IsPlace}
 use Rattle.map_chunks.specs.Shown.{rows_or, chunk_rows, IsTree, map_of_rows}
 use Rattle.map_chunks.specs.Scanning.{scanned, with_scanned, IsWithin, IsLow, is_past, is_full, is_over}
 use Rattle.map_chunks.specs.Inside.Scanning.{opened_rows, greater}
-use Rattle.map_chunks.proofs.RowLemmas.{cmp, AllBelow, AllAbove, IsStrict, IsStrict-back, IsStrict-front, strict, rises_strict}
+use Rattle.map_chunks.proofs.RowLemmas.{cmp, AllBelow, AllAbove, IsStrict, IsStrict-back, IsStrict-front, strict}
+use Rattle.map_chunks.proofs.RowLemmas.{rises_strict}
 use Rattle.map_chunks.proofs.JoinLemmas.{some_is, Split, split_of, begins, begins-with}
-use Rattle.map_chunks.proofs.OpenLemmas.{Known, known, tree_of, shows_of, placing, way_by, AllLow, Opened, opened, spells_rows, segment-kept, chunk_rows-at}
+use Rattle.map_chunks.proofs.OpenLemmas.{Known, known, tree_of, shows_of, placing, way_by, AllLow, Opened, opened}
+use Rattle.map_chunks.proofs.OpenLemmas.{spells_rows, segment-kept, chunk_rows-at}
 use Rattle.map_chunks.proofs.TreeLemmas.{map_is}
 use Rattle.map_chunks.proofs.PrefixLemmas.{past_prefix, below_prefix}
 use Rattle.map_chunks.proofs.Texts.{and-first, and-second}
@@ -46,12 +51,15 @@ limited-twice None xs ys = refl
 limited-twice (Some n) xs ys = take-twice n xs ys
 
 pub limited-within : {A : Type 0} (l : Option ℕ) (xs : List A) → limited l (limited l xs) ≡ limited l xs
-limited-within l xs = ap (limited l) (sym (append-nil (limited l xs))) ∙ limited-twice l xs [] ∙ ap (limited l) (append-nil xs)
+limited-within l xs = ap (limited l) (sym (append-nil (limited l xs))) ∙ limited-twice l xs [] ∙ ap
+    (limited l) (append-nil xs)
 
 -- what is full takes nothing more
-limited-full : {A : Type 0} (l : Option ℕ) (xs ys : List A) → is_full l (length xs) ≡ true → limited l xs ≡ xs → limited l (xs ++ ys) ≡ xs
+limited-full : {A : Type 0} (l : Option ℕ) (xs ys : List A) → is_full l (length xs) ≡ true → limited l xs ≡ xs
+    → limited l (xs ++ ys) ≡ xs
 limited-full None xs ys f e = absurd cc
-limited-full (Some n) xs ys f e = take-append-le n xs ys (let g : nat_le n (length xs) ≡ true = f in grind (arith, nat_tests)) ∙ e
+limited-full (Some n) xs ys f e = take-append-le n xs ys
+    (let g : nat_le n (length xs) ≡ true = f in grind (arith, nat_tests)) ∙ e
 
 take-short : {A : Type 0} (n : ℕ) (ys : List A) → length ys ≤ n → take n ys ≡ ys
 take-short zero [] h = refl
@@ -59,15 +67,18 @@ take-short zero (y ∷ ys) h = absurd (omega arith)
 take-short (suc n) [] h = refl
 take-short (suc n) (y ∷ ys) h = ap (λ w. y ∷ w) (take-short n ys (omega arith))
 
-take-room : {A : Type 0} (n : ℕ) (xs ys : List A) → length (take n xs) < n → length ys ≤ 1 → take n (xs ++ ys) ≡ take n xs ++ ys
+take-room : {A : Type 0} (n : ℕ) (xs ys : List A) → length (take n xs) < n → length ys ≤ 1
+    → take n (xs ++ ys) ≡ take n xs ++ ys
 take-room zero xs ys h l = absurd (omega arith)
 take-room (suc n) [] ys h l = take-short (suc n) ys (omega arith)
 take-room (suc n) (x ∷ xs) ys h l = ap (λ w. x ∷ w) (take-room n xs ys (omega arith) l)
 
 -- what isn't full takes one more
-limited-room : {A : Type 0} (l : Option ℕ) (xs ys : List A) → is_full l (length (limited l xs)) ≡ false → length ys ≤ 1 → limited l (xs ++ ys) ≡ limited l xs ++ ys
+limited-room : {A : Type 0} (l : Option ℕ) (xs ys : List A) → is_full l (length (limited l xs)) ≡ false → length ys ≤ 1
+    → limited l (xs ++ ys) ≡ limited l xs ++ ys
 limited-room None xs ys f l = refl
-limited-room (Some n) xs ys f l = take-room n xs ys (let g : nat_le n (length (take n xs)) ≡ false = f in grind (arith, nat_tests)) l
+limited-room (Some n) xs ys f l = take-room n xs ys
+    (let g : nat_le n (length (take n xs)) ≡ false = f in grind (arith, nat_tests)) l
 
 -- KEYS THAT ARE IN A SCAN
 
@@ -88,7 +99,8 @@ above-greater x y h = by (cmp x y) h
     by Greater h = refl
 
 low_by-prefix : (scan : Scan) (k : Bytes) → cmp k scan.prefix ≡ Less → is_in scan k ≡ false
-low_by-prefix scan k l = and-none (starts_with nat_eq k scan.prefix) (is_from scan.start k) (below_prefix scan.prefix k l)
+low_by-prefix scan k l = and-none (starts_with nat_eq k scan.prefix) (is_from scan.start k)
+    (below_prefix scan.prefix k l)
 
 pub low_any : (scan : Scan) (low : Bytes) → low ≡ scan.prefix → IsLow scan low
 low_any scan low e k l = low_by-prefix scan k (subst (λ w. cmp k w ≡ Less) e l)
@@ -103,7 +115,8 @@ start_at key k l = ap is_ge l
 pub start_after : (key : Bytes) → IsStart (After key) key
 start_after key k l = ap is_gt l
 
-pub low_from : (scan : Scan) (start : Start) (key low : Bytes) → scan.start ≡ start → IsStart start key → low ≡ greater key scan.prefix → IsLow scan low
+pub low_from : (scan : Scan) (start : Start) (key low : Bytes) → scan.start ≡ start → IsStart start key
+    → low ≡ greater key scan.prefix → IsLow scan low
 low_from scan start key low s i e k l = by (is_above key scan.prefix) e
   where
     by : (u : Bool) → low ≡ cond u key scan.prefix → is_in scan k ≡ false
@@ -111,7 +124,8 @@ low_from scan start key low s i e k l = by (is_above key scan.prefix) e
         (subst (λ z. is_from z k ≡ false) (sym s) (i k (subst (λ w. cmp k w ≡ Less) e l)))
     by false e = low_by-prefix scan k (subst (λ w. cmp k w ≡ Less) e l)
 
-none_more : (scan : Scan) (r : Bytes × Bytes) (rs : Rows) → is_in scan r.0 ≡ false → scanned scan (r ∷ rs) ≡ scanned scan rs
+none_more : (scan : Scan) (r : Bytes × Bytes) (rs : Rows) → is_in scan r.0 ≡ false
+    → scanned scan (r ∷ rs) ≡ scanned scan rs
 none_more scan r rs h = ap (λ u. cond u (r ∷ scanned scan rs) (scanned scan rs)) h
 
 none_below : (scan : Scan) (low : Bytes) (rs : Rows) → IsLow scan low → AllBelow low rs → scanned scan rs ≡ []
@@ -126,7 +140,8 @@ none_above scan k (r ∷ rs) p h =
     none_more scan r rs (and-none _ _ (past_prefix scan.prefix k r.0 g n h.0)) ∙ none_above scan k rs p h.1
 
 -- behind a key that is past the prefix nothing is in the scan
-none_past : (scan : Scan) (k : Bytes) (rs : Rows) → is_past scan k ≡ true → begins_with k rs ≡ true → IsStrict rs → scanned scan rs ≡ []
+none_past : (scan : Scan) (k : Bytes) (rs : Rows) → is_past scan k ≡ true → begins_with k rs ≡ true → IsStrict rs
+    → scanned scan rs ≡ []
 none_past scan k rs p s o =
     let b = begins k rs s in
     let o2 : IsStrict ((k, b.value) ∷ b.rest) = subst IsStrict b.whole o in
@@ -139,7 +154,8 @@ none_past scan k rs p s o =
 abbrev pub first_rows : {A : Type 0} → (Bytes × A → Option Rows) → List (Bytes × A) → ℕ → Rows
 first_rows g es i = rows_or (joined_rows (shows_of g (take i es)))
 
-front_is : {A : Type 0} (g : Bytes × A → Option Rows) (es : List (Bytes × A)) (i : ℕ) (rs : Rows) → joined_rows (shows_of g es) ≡ Some rs
+front_is : {A : Type 0} (g : Bytes × A → Option Rows) (es : List (Bytes × A)) (i : ℕ) (rs : Rows)
+    → joined_rows (shows_of g es) ≡ Some rs
     → joined_rows (shows_of g (take i es)) ≡ Some (first_rows g es i)
 front_is g [] zero rs h = refl
 front_is g [] (suc i) rs h = refl
@@ -147,7 +163,8 @@ front_is g (x ∷ es) zero rs h = refl
 front_is g (x ∷ es) (suc i) rs h =
     let s = split_of (x.0, g x) (shows_of g es) rs h in
     let e : joined_rows (shows_of g (x ∷ take i es)) ≡ Some (s.front ++ first_rows g es i) =
-    ap (λ w. joined_one x.0 w (joined_rows (shows_of g (take i es)))) s.front_is ∙ ap (joined_one x.0 (Some s.front)) (front_is g es i s.back s.back_is)
+    ap (λ w. joined_one x.0 w (joined_rows (shows_of g (take i es)))) s.front_is ∙ ap (joined_one x.0 (Some s.front))
+    (front_is g es i s.back s.back_is)
     ∙ ap (λ u. cond u (Some (s.front ++ first_rows g es i)) None) s.starts in
     e ∙ ap (λ w. Some w) (sym (ap rows_or e))
 
@@ -163,7 +180,8 @@ pub record Turn {A : Type 0} (g : Bytes × A → Option Rows) (es : List (Bytes 
   pub whole : rs ≡ first_rows g es i ++ (here ++ back)
   pub strict : IsStrict (here ++ back)
 
-pub turn : {A : Type 0} (g : Bytes × A → Option Rows) (es : List (Bytes × A)) (i : ℕ) (rs : Rows) → joined_rows (shows_of g es) ≡ Some rs → IsStrict rs → i < length es → Turn g es i rs
+pub turn : {A : Type 0} (g : Bytes × A → Option Rows) (es : List (Bytes × A)) (i : ℕ) (rs : Rows)
+    → joined_rows (shows_of g es) ≡ Some rs → IsStrict rs → i < length es → Turn g es i rs
 turn g [] i rs h o l = absurd (omega arith)
 turn g (x ∷ es) zero rs h o l =
     let s = split_of (x.0, g x) (shows_of g es) rs h in
@@ -174,7 +192,8 @@ turn g (x ∷ es) zero rs h o l =
       at = refl;
       here_is = s.front_is;
       starts = s.starts;
-      more = ap rows_or (ap (λ w. joined_one x.0 w (Some [])) s.front_is ∙ ap (λ u. cond u (Some (s.front ++ [])) None) s.starts) ∙ append-nil s.front;
+      more = ap rows_or (ap (λ w. joined_one x.0 w (Some [])) s.front_is ∙ ap
+          (λ u. cond u (Some (s.front ++ [])) None) s.starts) ∙ append-nil s.front;
       whole = s.whole;
       strict = subst IsStrict s.whole o;
     }
@@ -190,51 +209,70 @@ turn g (x ∷ es) (suc i) rs h o l =
       at = t.at;
       here_is = t.here_is;
       starts = t.starts;
-      more = b ∙ ap (λ w. s.front ++ w) t.more ∙ sym (append_assoc s.front (first_rows g es i) t.here) ∙ ap (λ w. w ++ t.here) (sym a);
-      whole = s.whole ∙ ap (λ w. s.front ++ w) t.whole ∙ sym (append_assoc s.front (first_rows g es i) (t.here ++ t.back)) ∙ ap (λ w. w ++ (t.here ++ t.back)) (sym a);
+      more = b ∙ ap (λ w. s.front ++ w) t.more ∙ sym (append_assoc s.front (first_rows g es i) t.here) ∙ ap
+          (λ w. w ++ t.here) (sym a);
+      whole = s.whole ∙ ap (λ w. s.front ++ w) t.whole ∙ sym
+          (append_assoc s.front (first_rows g es i) (t.here ++ t.back)) ∙ ap (λ w. w ++ (t.here ++ t.back)) (sym a);
       strict = t.strict;
     }
   where
-    longer : (j : ℕ) → (s : Split (x.0, g x) (shows_of g es) rs) → first_rows g (x ∷ es) (suc j) ≡ s.front ++ first_rows g es j
-    longer j s = ap rows_or (ap (λ w. joined_one x.0 w (joined_rows (shows_of g (take j es)))) s.front_is ∙ ap (joined_one x.0 (Some s.front)) (front_is g es j s.back s.back_is)
+    longer : (j : ℕ) → (s : Split (x.0, g x) (shows_of g es) rs)
+        → first_rows g (x ∷ es) (suc j) ≡ s.front ++ first_rows g es j
+    longer j s = ap rows_or (ap (λ w. joined_one x.0 w (joined_rows (shows_of g (take j es)))) s.front_is ∙ ap
+        (joined_one x.0 (Some s.front)) (front_is g es j s.back s.back_is)
         ∙ ap (λ u. cond u (Some (s.front ++ first_rows g es j)) None) s.starts)
 
-pub first_all : {A : Type 0} (g : Bytes × A → Option Rows) (es : List (Bytes × A)) (i : ℕ) (rs : Rows) → joined_rows (shows_of g es) ≡ Some rs → i ≡ length es → first_rows g es i ≡ rs
-first_all g es i rs h e = ap (λ n. rows_or (joined_rows (shows_of g (take n es)))) e ∙ ap (λ w. rows_or (joined_rows (shows_of g w))) (take-length es) ∙ ap rows_or h
+pub first_all : {A : Type 0} (g : Bytes × A → Option Rows) (es : List (Bytes × A)) (i : ℕ) (rs : Rows)
+    → joined_rows (shows_of g es) ≡ Some rs → i ≡ length es → first_rows g es i ≡ rs
+first_all g es i rs h e = ap (λ n. rows_or (joined_rows (shows_of g (take n es)))) e ∙ ap
+    (λ w. rows_or (joined_rows (shows_of g w))) (take-length es) ∙ ap rows_or h
 
 -- the entry at a place with those before it and those behind it
-cut_at : {A : Type 0} (es : List A) (i : ℕ) → i < length es → (before : List A) × (e : A) × (behind : List A) × (es ≡ before ++ e ∷ behind) × (length before ≡ i) × (take i es ≡ before)
+cut_at : {A : Type 0} (es : List A) (i : ℕ) → i < length es
+    → (before : List A) × (e : A) × (behind : List A) × (es ≡ before ++ e ∷ behind) × (length before ≡ i)
+    × (take i es ≡ before)
 cut_at [] i l = absurd (omega arith)
 cut_at (x ∷ es) zero l = ([], x, es, refl, refl, refl)
-cut_at (x ∷ es) (suc i) l = let c = cut_at es i (omega arith) in (x ∷ c.0, c.1, c.2, ap (λ w. x ∷ w) c.3, ap suc c.4, ap (λ w. x ∷ w) c.5)
+cut_at (x ∷ es) (suc i) l = let c = cut_at es i (omega arith) in
+    (x ∷ c.0, c.1, c.2, ap (λ w. x ∷ w) c.3, ap suc c.4, ap (λ w. x ∷ w) c.5)
 
 -- before the child to which the lowest key belongs nothing is in the scan
-pub none_before : {A : Type 0} (g : Bytes × A → Option Rows) (es : List (Bytes × A)) (i : ℕ) (rs : Rows) (scan : Scan) (low : Bytes) → joined_rows (shows_of g es) ≡ Some rs → IsStrict rs
+pub none_before : {A : Type 0} (g : Bytes × A → Option Rows) (es : List (Bytes × A)) (i : ℕ) (rs : Rows) (scan : Scan)
+    (low : Bytes) → joined_rows (shows_of g es) ≡ Some rs → IsStrict rs
     → IsLow scan low → IsPlace low (keys_of es) i → i < length es → scanned scan (first_rows g es i) ≡ []
 none_before g es i rs scan low h o z p l =
     let c = cut_at es i l in
     let q = placing low c.0 c.1.0 c.1.1 c.2 i c.4 (subst (λ w. IsPlace low (keys_of w) i) c.3 p) in
     let w = way_by g low c.0 c.1 c.2 rs (subst (λ w. joined_rows (shows_of g w) ≡ Some rs) c.3 h) o q in
-    ap (λ w. scanned scan (rows_or (joined_rows (shows_of g w)))) c.5 ∙ ap (λ w. scanned scan (rows_or w)) w.front_is ∙ none_below scan low w.front z w.below
+    ap (λ w. scanned scan (rows_or (joined_rows (shows_of g w)))) c.5 ∙ ap
+    (λ w. scanned scan (rows_or w)) w.front_is ∙ none_below scan low w.front z w.below
 
 -- THE TURNS OF A LOOP
 
 -- at the start nothing is taken
-pub begun : {A : Type 0} (g : Bytes × A → Option Rows) (es : List (Bytes × A)) (i : ℕ) (rs : Rows) (scan : Scan) (low : Bytes) (out : Rows) → joined_rows (shows_of g es) ≡ Some rs → IsStrict rs
-    → IsLow scan low → IsPlace low (keys_of es) i → i < length es → IsWithin scan out → out ≡ with_scanned scan out (first_rows g es i)
+pub begun : {A : Type 0} (g : Bytes × A → Option Rows) (es : List (Bytes × A)) (i : ℕ) (rs : Rows) (scan : Scan)
+    (low : Bytes) (out : Rows) → joined_rows (shows_of g es) ≡ Some rs → IsStrict rs
+    → IsLow scan low → IsPlace low (keys_of es) i → i < length es → IsWithin scan out
+    → out ≡ with_scanned scan out (first_rows g es i)
 begun g es i rs scan low out h o z p l w =
-    sym (ap (λ t. limited scan.limit (out ++ t)) (none_before g es i rs scan low h o z p l) ∙ ap (limited scan.limit) (append-nil out) ∙ w)
+    sym (ap (λ t. limited scan.limit (out ++ t)) (none_before g es i rs scan low h o z p l) ∙ ap (limited scan.limit)
+    (append-nil out) ∙ w)
 
 pub within : (scan : Scan) (out before rows : Rows) → out ≡ with_scanned scan before rows → IsWithin scan out
-within scan out before rows e = ap (limited scan.limit) e ∙ limited-within scan.limit (before ++ scanned scan rows) ∙ sym e
+within scan out before rows e = ap (limited scan.limit) e ∙ limited-within scan.limit
+    (before ++ scanned scan rows) ∙ sym e
 
-scanned-more : (scan : Scan) (before a b : Rows) → (before ++ scanned scan a) ++ scanned scan b ≡ before ++ scanned scan (a ++ b)
-scanned-more scan before a b = append_assoc before (scanned scan a) (scanned scan b) ∙ ap (λ w. before ++ w) (sym (filter-append (λ e. is_in scan e.0) a b))
+scanned-more : (scan : Scan) (before a b : Rows)
+    → (before ++ scanned scan a) ++ scanned scan b ≡ before ++ scanned scan (a ++ b)
+scanned-more scan before a b = append_assoc before (scanned scan a) (scanned scan b) ∙ ap (λ w. before ++ w)
+    (sym (filter-append (λ e. is_in scan e.0) a b))
 
 -- a part behind a part
-pub joined_scan : (scan : Scan) (before a b out new : Rows) → out ≡ with_scanned scan before a → new ≡ with_scanned scan out b → new ≡ with_scanned scan before (a ++ b)
+pub joined_scan : (scan : Scan) (before a b out new : Rows) → out ≡ with_scanned scan before a
+    → new ≡ with_scanned scan out b → new ≡ with_scanned scan before (a ++ b)
 joined_scan scan before a b out new e f =
-    f ∙ ap (λ w. limited scan.limit (w ++ scanned scan b)) e ∙ limited-twice scan.limit (before ++ scanned scan a) (scanned scan b) ∙ ap (limited scan.limit) (scanned-more scan before a b)
+    f ∙ ap (λ w. limited scan.limit (w ++ scanned scan b)) e ∙ limited-twice scan.limit (before ++ scanned scan a)
+    (scanned scan b) ∙ ap (limited scan.limit) (scanned-more scan before a b)
 
 or-first : (a b : Bool) → (a || b) ≡ false → a ≡ false
 or-first true b h = absurd cc
@@ -248,28 +286,38 @@ one_row scan r = by (is_in scan r.0)
     by false = omega arith
 
 -- a row behind a part, where there is room
-pub joined_row : (scan : Scan) (before a : Rows) (r : Bytes × Bytes) (out new : Rows) (k : Bytes) → out ≡ with_scanned scan before a → is_over scan (length out) k ≡ false
+pub joined_row : (scan : Scan) (before a : Rows) (r : Bytes × Bytes) (out new : Rows) (k : Bytes)
+    → out ≡ with_scanned scan before a → is_over scan (length out) k ≡ false
     → new ≡ out ++ scanned scan (r ∷ []) → new ≡ with_scanned scan before (a ++ r ∷ [])
 joined_row scan before a r out new k e v f =
-    let room : is_full scan.limit (length (limited scan.limit (before ++ scanned scan a))) ≡ false = subst (λ w. is_full scan.limit (length w) ≡ false) e (or-first _ _ v) in
-    f ∙ ap (λ w. w ++ scanned scan (r ∷ [])) e ∙ sym (limited-room scan.limit (before ++ scanned scan a) (scanned scan (r ∷ [])) room (one_row scan r))
+    let room : is_full scan.limit (length (limited scan.limit (before ++ scanned scan a)))
+    ≡ false = subst (λ w. is_full scan.limit (length w) ≡ false) e (or-first _ _ v) in
+    f ∙ ap (λ w. w ++ scanned scan (r ∷ [])) e ∙ sym
+    (limited-room scan.limit (before ++ scanned scan a) (scanned scan (r ∷ [])) room (one_row scan r))
     ∙ ap (limited scan.limit) (scanned-more scan before a (r ∷ []))
 
 -- what follows is not in the scan, or past its limit
-pub ended : (scan : Scan) (before a b out : Rows) (k : Bytes) → out ≡ with_scanned scan before a → is_over scan (length out) k ≡ true → begins_with k b ≡ true → IsStrict b
+pub ended : (scan : Scan) (before a b out : Rows) (k : Bytes) → out ≡ with_scanned scan before a
+    → is_over scan (length out) k ≡ true → begins_with k b ≡ true → IsStrict b
     → out ≡ with_scanned scan before (a ++ b)
 ended scan before a b out k e v s o = by (is_full scan.limit (length out)) refl v
   where
-    by : (u : Bool) → is_full scan.limit (length out) ≡ u → (u || is_past scan k) ≡ true → out ≡ with_scanned scan before (a ++ b)
+    by : (u : Bool) → is_full scan.limit (length out) ≡ u → (u || is_past scan k) ≡ true
+        → out ≡ with_scanned scan before (a ++ b)
     by true f v =
-        sym (limited-full scan.limit out (scanned scan b) f (within scan out before a e)) ∙ ap (λ w. limited scan.limit (w ++ scanned scan b)) e
-        ∙ limited-twice scan.limit (before ++ scanned scan a) (scanned scan b) ∙ ap (limited scan.limit) (scanned-more scan before a b)
+        sym (limited-full scan.limit out (scanned scan b) f (within scan out before a e)) ∙ ap
+        (λ w. limited scan.limit (w ++ scanned scan b)) e
+        ∙ limited-twice scan.limit (before ++ scanned scan a) (scanned scan b) ∙ ap (limited scan.limit)
+        (scanned-more scan before a b)
     by false f v =
-        e ∙ ap (limited scan.limit) (sym (append-nil (before ++ scanned scan a)) ∙ ap (λ w. (before ++ scanned scan a) ++ w) (sym (none_past scan k b v s o)) ∙ scanned-more scan before a b)
+        e ∙ ap (limited scan.limit) (sym (append-nil (before ++ scanned scan a)) ∙ ap
+        (λ w. (before ++ scanned scan a) ++ w) (sym (none_past scan k b v s o)) ∙ scanned-more scan before a b)
 
 -- the rest of a turn at which the scan is over
-pub turn_over : {A : Type 0} (g : Bytes × A → Option Rows) (es : List (Bytes × A)) (i : ℕ) (rs : Rows) (scan : Scan) (before out : Rows) (k : Bytes) → (t : Turn g es i rs)
-    → k ≡ t.entry.0 → out ≡ with_scanned scan before (first_rows g es i) → is_over scan (length out) k ≡ true → out ≡ with_scanned scan before rs
+pub turn_over : {A : Type 0} (g : Bytes × A → Option Rows) (es : List (Bytes × A)) (i : ℕ) (rs : Rows) (scan : Scan)
+    (before out : Rows) (k : Bytes) → (t : Turn g es i rs)
+    → k ≡ t.entry.0 → out ≡ with_scanned scan before (first_rows g es i) → is_over scan (length out) k ≡ true
+    → out ≡ with_scanned scan before rs
 turn_over g es i rs scan before out k t q e v =
     ended scan before (first_rows g es i) (t.here ++ t.back) out k e v
     (subst (λ w. begins_with w (t.here ++ t.back) ≡ true) (sym q) (longer t.entry.0 t.here t.back t.starts)) t.strict
@@ -287,17 +335,20 @@ alone r = Some (r ∷ [])
 
 pub alone-rows : (rows : Rows) → joined_rows (shows_of alone rows) ≡ Some rows
 alone-rows [] = refl
-alone-rows (r ∷ rows) = ap (joined_one r.0 (Some (r ∷ []))) (alone-rows rows) ∙ ap (λ u. cond u (Some (r ∷ rows)) None) (begins-with r.0 r.1 [])
+alone-rows (r ∷ rows) = ap (joined_one r.0 (Some (r ∷ []))) (alone-rows rows) ∙ ap (λ u. cond u (Some (r ∷ rows)) None)
+    (begins-with r.0 r.1 [])
 
 -- a key and a value side by side
-pub paired-at : {A : Type 0} (ks : List Bytes) (xs : List A) (i : ℕ) (k : Bytes) (x : A) (e : Bytes × A) → length xs ≡ length ks → i < length ks → k ≡ get_or ks i k → x ≡ get_or xs i x
+pub paired-at : {A : Type 0} (ks : List Bytes) (xs : List A) (i : ℕ) (k : Bytes) (x : A) (e : Bytes × A)
+    → length xs ≡ length ks → i < length ks → k ≡ get_or ks i k → x ≡ get_or xs i x
     → slice_get (paired ks xs) i ≡ Some e → (k, x) ≡ e
 paired-at [] xs i k x e l h p q s = absurd (omega arith)
 paired-at (j ∷ ks) [] i k x e l h p q s = absurd (omega arith)
 paired-at (j ∷ ks) (y ∷ xs) zero k x e l h p q s = cc
 paired-at (j ∷ ks) (y ∷ xs) (suc i) k x e l h p q s = paired-at ks xs i k x e (omega arith) (omega arith) p q s
 
-pub key_of-pair : {A : Type 0} (ks : List Bytes) (xs : List A) (i : ℕ) (k : Bytes) (e : Bytes × A) → i < length ks → k ≡ get_or ks i k → slice_get (paired ks xs) i ≡ Some e → k ≡ e.0
+pub key_of-pair : {A : Type 0} (ks : List Bytes) (xs : List A) (i : ℕ) (k : Bytes) (e : Bytes × A) → i < length ks
+    → k ≡ get_or ks i k → slice_get (paired ks xs) i ≡ Some e → k ≡ e.0
 key_of-pair [] xs i k e h p s = absurd (omega arith)
 key_of-pair (j ∷ ks) [] i k e h p s = absurd cc
 key_of-pair {A} (j ∷ ks) (y ∷ xs) zero k e h p s = p ∙ ap (λ (z : Bytes × A). z.0) (let q : (j, y) ≡ e = cc s in q)
@@ -305,32 +356,44 @@ key_of-pair (j ∷ ks) (y ∷ xs) (suc i) k e h p s = key_of-pair ks xs i k e (o
 
 -- THE TURNS, WITH KEYS AND ENTRIES APART
 
-pub pairs_begun : {A : Type 0} (g : Bytes × A → Option Rows) (ks : List Bytes) (xs : List A) (i : ℕ) (rs : Rows) (scan : Scan) (low : Bytes) (out : Rows) → length xs ≡ length ks
-    → joined_rows (shows_of g (paired ks xs)) ≡ Some rs → IsStrict rs → IsLow scan low → IsPlace low ks i → IsWithin scan out → out ≡ with_scanned scan out (first_rows g (paired ks xs) i)
+pub pairs_begun : {A : Type 0} (g : Bytes × A → Option Rows) (ks : List Bytes) (xs : List A) (i : ℕ) (rs : Rows)
+    (scan : Scan) (low : Bytes) (out : Rows) → length xs ≡ length ks
+    → joined_rows (shows_of g (paired ks xs)) ≡ Some rs → IsStrict rs → IsLow scan low → IsPlace low ks i
+    → IsWithin scan out → out ≡ with_scanned scan out (first_rows g (paired ks xs) i)
 pairs_begun g ks xs i rs scan low out l h o z p w =
-    begun g (paired ks xs) i rs scan low out h o z (subst (λ w. IsPlace low w i) (sym (keys_of-paired ks xs l)) p) (omega (arith, p.0, length-paired ks xs l)) w
+    begun g (paired ks xs) i rs scan low out h o z (subst (λ w. IsPlace low w i) (sym (keys_of-paired ks xs l)) p)
+    (omega (arith, p.0, length-paired ks xs l)) w
 
-pub pairs_turn : {A : Type 0} (g : Bytes × A → Option Rows) (ks : List Bytes) (xs : List A) (i : ℕ) (rs : Rows) → length xs ≡ length ks
+pub pairs_turn : {A : Type 0} (g : Bytes × A → Option Rows) (ks : List Bytes) (xs : List A) (i : ℕ) (rs : Rows)
+    → length xs ≡ length ks
     → joined_rows (shows_of g (paired ks xs)) ≡ Some rs → IsStrict rs → i < length ks → Turn g (paired ks xs) i rs
 pairs_turn g ks xs i rs l h o b = turn g (paired ks xs) i rs h o (omega (arith, length-paired ks xs l))
 
-pub pairs_over : {A : Type 0} (g : Bytes × A → Option Rows) (ks : List Bytes) (xs : List A) (i : ℕ) (rs : Rows) (scan : Scan) (before out : Rows) (k : Bytes) → length xs ≡ length ks
-    → joined_rows (shows_of g (paired ks xs)) ≡ Some rs → IsStrict rs → i < length ks → k ≡ get_or ks i k → out ≡ with_scanned scan before (first_rows g (paired ks xs) i)
+pub pairs_over : {A : Type 0} (g : Bytes × A → Option Rows) (ks : List Bytes) (xs : List A) (i : ℕ) (rs : Rows)
+    (scan : Scan) (before out : Rows) (k : Bytes) → length xs ≡ length ks
+    → joined_rows (shows_of g (paired ks xs)) ≡ Some rs → IsStrict rs → i < length ks → k ≡ get_or ks i k
+    → out ≡ with_scanned scan before (first_rows g (paired ks xs) i)
     → is_over scan (length out) k ≡ true → out ≡ with_scanned scan before rs
 pairs_over g ks xs i rs scan before out k l h o b q e v =
     let t = pairs_turn g ks xs i rs l h o b in
     turn_over g (paired ks xs) i rs scan before out k t (key_of-pair ks xs i k t.entry b q t.at) e v
 
-pub pairs_all : {A : Type 0} (g : Bytes × A → Option Rows) (ks : List Bytes) (xs : List A) (i : ℕ) (rs : Rows) (scan : Scan) (before out : Rows) → length xs ≡ length ks
-    → joined_rows (shows_of g (paired ks xs)) ≡ Some rs → i ≡ length ks → out ≡ with_scanned scan before (first_rows g (paired ks xs) i) → out ≡ with_scanned scan before rs
-pairs_all g ks xs i rs scan before out l h e q = q ∙ ap (with_scanned scan before) (first_all g (paired ks xs) i rs h (omega (arith, e, length-paired ks xs l)))
+pub pairs_all : {A : Type 0} (g : Bytes × A → Option Rows) (ks : List Bytes) (xs : List A) (i : ℕ) (rs : Rows)
+    (scan : Scan) (before out : Rows) → length xs ≡ length ks
+    → joined_rows (shows_of g (paired ks xs)) ≡ Some rs → i ≡ length ks
+    → out ≡ with_scanned scan before (first_rows g (paired ks xs) i) → out ≡ with_scanned scan before rs
+pairs_all g ks xs i rs scan before out l h e q = q ∙ ap (with_scanned scan before)
+    (first_all g (paired ks xs) i rs h (omega (arith, e, length-paired ks xs l)))
 
-one_more : {A : Type 0} (g : Bytes × A → Option Rows) (es : List (Bytes × A)) (i : ℕ) (rs : Rows) → (t : Turn g es i rs) → first_rows g es (i + 1) ≡ first_rows g es i ++ t.here
+one_more : {A : Type 0} (g : Bytes × A → Option Rows) (es : List (Bytes × A)) (i : ℕ) (rs : Rows) → (t : Turn g es i rs)
+    → first_rows g es (i + 1) ≡ first_rows g es i ++ t.here
 one_more g es i rs t = (let n : i + 1 ≡ suc i = omega arith in ap (first_rows g es) n) ∙ t.more
 
 -- a row more
-pub pairs_row : (ks vs : List Bytes) (i : ℕ) (scan : Scan) (before out new : Rows) (j k v : Bytes) → length vs ≡ length ks → IsStrict (paired ks vs) → i < length ks
-    → k ≡ get_or ks i k → v ≡ get_or vs i v → out ≡ with_scanned scan before (first_rows alone (paired ks vs) i) → is_over scan (length out) j ≡ false
+pub pairs_row : (ks vs : List Bytes) (i : ℕ) (scan : Scan) (before out new : Rows) (j k v : Bytes)
+    → length vs ≡ length ks → IsStrict (paired ks vs) → i < length ks
+    → k ≡ get_or ks i k → v ≡ get_or vs i v → out ≡ with_scanned scan before (first_rows alone (paired ks vs) i)
+    → is_over scan (length out) j ≡ false
     → new ≡ out ++ scanned scan ((k, v) ∷ []) → new ≡ with_scanned scan before (first_rows alone (paired ks vs) (i + 1))
 pairs_row ks vs i scan before out new j k v l o b p q e u f =
     let rows = paired ks vs in
@@ -338,26 +401,33 @@ pairs_row ks vs i scan before out new j k v l o b p q e u f =
     let same = paired-at ks vs i k v t.entry l b p q t.at in
     let here : (k, v) ∷ [] ≡ t.here = ap (λ w. w ∷ []) same ∙ some_is t.here_is in
     joined_row scan before (first_rows alone rows i) (k, v) out new j e u f
-    ∙ ap (λ w. with_scanned scan before (first_rows alone rows i ++ w)) here ∙ ap (with_scanned scan before) (sym (one_more alone rows i rows t))
+    ∙ ap (λ w. with_scanned scan before (first_rows alone rows i ++ w)) here ∙ ap (with_scanned scan before)
+    (sym (one_more alone rows i rows t))
 
 -- the rows of a child more
-pub pairs_child : {A : Type 0} (g : Bytes × A → Option Rows) (ks : List Bytes) (xs : List A) (i : ℕ) (rs : Rows) (scan : Scan) (before out new : Rows) → (t : Turn g (paired ks xs) i rs)
-    → out ≡ with_scanned scan before (first_rows g (paired ks xs) i) → new ≡ with_scanned scan out t.here → new ≡ with_scanned scan before (first_rows g (paired ks xs) (i + 1))
+pub pairs_child : {A : Type 0} (g : Bytes × A → Option Rows) (ks : List Bytes) (xs : List A) (i : ℕ) (rs : Rows)
+    (scan : Scan) (before out new : Rows) → (t : Turn g (paired ks xs) i rs)
+    → out ≡ with_scanned scan before (first_rows g (paired ks xs) i) → new ≡ with_scanned scan out t.here
+    → new ≡ with_scanned scan before (first_rows g (paired ks xs) (i + 1))
 pairs_child g ks xs i rs scan before out new t e f =
-    joined_scan scan before (first_rows g (paired ks xs) i) t.here out new e f ∙ ap (with_scanned scan before) (sym (one_more g (paired ks xs) i rs t))
+    joined_scan scan before (first_rows g (paired ks xs) i) t.here out new e f ∙ ap (with_scanned scan before)
+    (sym (one_more g (paired ks xs) i rs t))
 
 pub pairs_order : (ks vs : List Bytes) → length vs ≡ length ks → T (rises ks) → IsStrict (paired ks vs)
-pairs_order ks vs l o = strict (paired ks vs) (rises_strict (paired ks vs) (subst (λ w. T (rises w)) (sym (keys_of-paired ks vs l)) o))
+pairs_order ks vs l o = strict (paired ks vs)
+    (rises_strict (paired ks vs) (subst (λ w. T (rises w)) (sym (keys_of-paired ks vs l)) o))
 
 -- CHILDREN SHOWN ANOTHER WAY
 
 -- children that show rows show the same by what tells as much
-pub shown_as : {A : Type 0} (f g : Bytes × A → Option Rows) → ((e : Bytes × A) (v : Rows) → f e ≡ Some v → g e ≡ Some v) → (es : List (Bytes × A)) (rs : Rows)
+pub shown_as : {A : Type 0} (f g : Bytes × A → Option Rows) → ((e : Bytes × A) (v : Rows) → f e ≡ Some v → g e ≡ Some v)
+    → (es : List (Bytes × A)) (rs : Rows)
     → joined_rows (shows_of f es) ≡ Some rs → joined_rows (shows_of g es) ≡ Some rs
 shown_as f g t [] rs h = h
 shown_as f g t (e ∷ es) rs h =
     let s = split_of (e.0, f e) (shows_of f es) rs h in
-    ap (λ x. joined_one e.0 x (joined_rows (shows_of g es))) (t e s.front s.front_is) ∙ ap (joined_one e.0 (Some s.front)) (shown_as f g t es s.back s.back_is)
+    ap (λ x. joined_one e.0 x (joined_rows (shows_of g es))) (t e s.front s.front_is) ∙ ap
+    (joined_one e.0 (Some s.front)) (shown_as f g t es s.back s.back_is)
     ∙ ap (λ u. cond u (Some (s.front ++ s.back)) None) s.starts ∙ ap (λ w. Some w) (sym s.whole)
 
 -- what a placed child shows
@@ -379,7 +449,8 @@ top-low k (e ∷ es) h = let r = top-low k es h.1 in let l = h.0 in omega arith
 
 pub below_top : (es : List (Bytes × Ref)) (i : ℕ) (e : Bytes × Ref) → slice_get es i ≡ Some e → stamp_of e.1 < top es
 below_top [] i e h = absurd cc
-below_top (x ∷ es) zero e h = let p : x ≡ e = cc h in subst (λ (z : Bytes × Ref). stamp_of z.1 < max (stamp_of x.1 + 1) (top es)) p (omega arith)
+below_top (x ∷ es) zero e h = let p : x ≡ e = cc h in
+    subst (λ (z : Bytes × Ref). stamp_of z.1 < max (stamp_of x.1 + 1) (top es)) p (omega arith)
 below_top (x ∷ es) (suc i) e h = let r = below_top es i e h in omega arith
 
 -- the rows of a chunk that is shown are those of its stamp
@@ -387,7 +458,8 @@ pub record OpenedRows (ns : Contents) (k : ℕ) (rs : Rows) (c : Chunk Ref) : Ty
   pub rows_are : opened_rows ns c ≡ Some rs
   pub low : chunk_top c ≤ k
 
-pub opened_is : (ns : Contents) (k : ℕ) (rs : Rows) (c : Chunk Ref) → chunk_rows ns k ≡ Some rs → slice_get ns k ≡ Some (chunk_content c) → OpenedRows ns k rs c
+pub opened_is : (ns : Contents) (k : ℕ) (rs : Rows) (c : Chunk Ref) → chunk_rows ns k ≡ Some rs
+    → slice_get ns k ≡ Some (chunk_content c) → OpenedRows ns k rs c
 opened_is ns k rs c h g =
     let s = spells_rows ns k rs h in
     by c s.segment s.rows (opened ns k s.segment c s.is g)
@@ -395,21 +467,26 @@ opened_is ns k rs c h g =
     by : (c : Chunk Ref) (s : Segment) → s.rows ≡ rs → Opened ns k s c → OpenedRows ns k rs c
     by (chunked.Leaf rows) s r o = record { rows_are = ap (λ w. Some w) (sym o.is ∙ r); low = omega arith }
     by (chunked.Inner kids) s r o = record {
-      rows_are = shown_as (λ (e : Bytes × Ref). rows_at ns o.depth (stamp_of e.1)) (ref_rows ns) (λ e v q. chunk_rows-at ns o.depth (stamp_of e.1) v q) kids s.rows o.rows ∙ ap (λ w. Some w) r;
+      rows_are = shown_as (λ (e : Bytes × Ref). rows_at ns o.depth (stamp_of e.1)) (ref_rows ns)
+          (λ e v q. chunk_rows-at ns o.depth (stamp_of e.1) v q) kids s.rows o.rows ∙ ap (λ w. Some w) r;
       low = top-low k kids o.low;
     }
 
-pub chunk_rows-kept : (old new : Contents) (k : ℕ) (rs : Rows) → IsPrefix old new → chunk_rows old k ≡ Some rs → chunk_rows new k ≡ Some rs
+pub chunk_rows-kept : (old new : Contents) (k : ℕ) (rs : Rows) → IsPrefix old new → chunk_rows old k ≡ Some rs
+    → chunk_rows new k ≡ Some rs
 chunk_rows-kept old new k rs p h =
     let s = spells_rows old k rs h in
     ap (option_map (λ (z : Segment). z.rows)) (segment-kept old new k s.segment p s.is) ∙ ap (λ w. Some w) s.rows
 
 -- the children of a chunk in one turn
-pub refs_known : (ns : Contents) (ks : List Bytes) (xs : List Ref) → IsTree (joined_rows (shows_of (ref_rows ns) (paired ks xs))) → Known (joined_rows (shows_of (ref_rows ns) (paired ks xs)))
+pub refs_known : (ns : Contents) (ks : List Bytes) (xs : List Ref)
+    → IsTree (joined_rows (shows_of (ref_rows ns) (paired ks xs)))
+    → Known (joined_rows (shows_of (ref_rows ns) (paired ks xs)))
 refs_known ns ks xs h = known (joined_rows (shows_of (ref_rows ns) (paired ks xs))) h
 
 -- the child at a place
-pub value_of-pair : {A : Type 0} (ks : List Bytes) (xs : List A) (i : ℕ) (x : A) (e : Bytes × A) → length xs ≡ length ks → i < length ks → x ≡ get_or xs i x → slice_get (paired ks xs) i ≡ Some e → x ≡ e.1
+pub value_of-pair : {A : Type 0} (ks : List Bytes) (xs : List A) (i : ℕ) (x : A) (e : Bytes × A) → length xs ≡ length ks
+    → i < length ks → x ≡ get_or xs i x → slice_get (paired ks xs) i ≡ Some e → x ≡ e.1
 value_of-pair [] xs i x e l h p s = absurd (omega arith)
 value_of-pair (j ∷ ks) [] i x e l h p s = absurd cc
 value_of-pair {A} (j ∷ ks) (y ∷ xs) zero x e l h p s = p ∙ ap (λ (z : Bytes × A). z.1) (let q : (j, y) ≡ e = cc s in q)
@@ -422,12 +499,15 @@ pub record RefTurn (old new : Contents) (ks : List Bytes) (xs : List Ref) (i : �
   pub tree : IsTree (chunk_rows new (stamp_of at))
   pub low : stamp_of at < top (paired ks xs)
 
-pub ref_turn : (old new : Contents) (ks : List Bytes) (xs : List Ref) (i : ℕ) (at : Ref) → IsPrefix old new → length xs ≡ length ks
-    → (n : Known (joined_rows (shows_of (ref_rows old) (paired ks xs)))) → i < length ks → at ≡ get_or xs i at → RefTurn old new ks xs i n.rows at
+pub ref_turn : (old new : Contents) (ks : List Bytes) (xs : List Ref) (i : ℕ) (at : Ref) → IsPrefix old new
+    → length xs ≡ length ks
+    → (n : Known (joined_rows (shows_of (ref_rows old) (paired ks xs)))) → i < length ks → at ≡ get_or xs i at
+    → RefTurn old new ks xs i n.rows at
 ref_turn old new ks xs i at p l n b q =
     let t = pairs_turn (ref_rows old) ks xs i n.rows l n.is n.order b in
     let same = value_of-pair ks xs i at t.entry l b q t.at in
-    let r : chunk_rows new (stamp_of at) ≡ Some t.here = ap (λ w. chunk_rows new (stamp_of w)) same ∙ chunk_rows-kept old new (stamp_of t.entry.1) t.here p t.here_is in
+    let r : chunk_rows new (stamp_of at) ≡ Some t.here = ap
+    (λ w. chunk_rows new (stamp_of w)) same ∙ chunk_rows-kept old new (stamp_of t.entry.1) t.here p t.here_is in
     record {
       turn = t;
       rows_are = r;
@@ -444,7 +524,9 @@ got_any (x ∷ xs) (suc i) d e l = got_any xs i d e (omega arith)
 -- A WHOLE MAP
 
 -- a scan of a map's rows, where nothing was there
-pub scan_of-map : (x : Option Rows) (m : Entries) (scan : Scan) (out : Rows) → option_and_then map_of_rows x ≡ Some m → out ≡ [] → with_scanned scan out (rows_or x) ≡ rows_of scan m
+pub scan_of-map : (x : Option Rows) (m : Entries) (scan : Scan) (out : Rows) → option_and_then map_of_rows x ≡ Some m
+    → out ≡ [] → with_scanned scan out (rows_or x) ≡ rows_of scan m
 scan_of-map x m scan out h e =
     let f = map_is x m h in
-    ap (λ w. with_scanned scan w (rows_or x)) e ∙ ap (λ w. limited scan.limit (filter (λ e. is_in scan e.0) w)) (sym f.rows)
+    ap (λ w. with_scanned scan w (rows_or x)) e ∙ ap
+    (λ w. limited scan.limit (filter (λ e. is_in scan e.0) w)) (sym f.rows)

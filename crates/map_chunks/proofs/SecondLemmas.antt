@@ -1,5 +1,6 @@
 -- The second key of rows.
-use Rattle.std.proofs.Common.{◌≡◌, ◌<◌, ℕ, List, [], ◌∷◌, ◌++◌, Option, Some, true, slice_get, refl, sym, ap, ◌∙◌, subst, arith}
+use Rattle.std.proofs.Common.{◌≡◌, ◌<◌, ℕ, List, [], ◌∷◌, ◌++◌, Option, Some, true, slice_get, refl, sym, ap, ◌∙◌}
+use Rattle.std.proofs.Common.{subst, arith}
 use Rattle.std.specs.Prelude.{IsSome}
 use Rattle.std.specs.Option.{option_or}
 use Rattle.group_history.specs.declared.nodes.Chunk.{Chunk}
@@ -19,7 +20,8 @@ use Rattle.map_chunks.proofs.JoinLemmas.{Shows, Split, split_of, back_begins, so
 use Rattle.map_chunks.proofs.OpenLemmas.{Opened, opened, shows_by, chunk_rows-at}
 
 -- the second key of children's rows is that of the first child's, or else the first key of the child behind it
-pub second-joined : (e : Bytes × Option Rows) (es : Shows) (rs : Rows) → (s : Split e es rs) → option_or (second_key s.front) (slice_get (keys_of es) 0) ≡ second_key rs
+pub second-joined : (e : Bytes × Option Rows) (es : Shows) (rs : Rows) → (s : Split e es rs)
+    → option_or (second_key s.front) (slice_get (keys_of es) 0) ≡ second_key rs
 second-joined e es rs s = by s.front s.starts es s.back s.back_is ∙ ap second_key (sym s.whole)
   where
     by : (front : Rows) → begins_with e.0 front ≡ true → (es : Shows) (back : Rows) → joined_rows es ≡ Some back
@@ -33,7 +35,8 @@ keys-by : (f : ℕ → Option Rows) (kids : List (Bytes × Ref)) → keys_of (sh
 keys-by f [] = refl
 keys-by f (e ∷ es) = ap (λ w. e.0 ∷ w) (keys-by f es)
 
-pub leads_second : (ns : Contents) (k : ℕ) (s : Segment) (c : Chunk Ref) (step : Second) → segment_at ns k ≡ Some s → slice_get ns k ≡ Some (chunk_content c)
+pub leads_second : (ns : Contents) (k : ℕ) (s : Segment) (c : Chunk Ref) (step : Second) → segment_at ns k ≡ Some s
+    → slice_get ns k ≡ Some (chunk_content c)
     → IsSecondStep c step → LeadsToSecond ns k s.rows step
 leads_second ns k s c step h g i = by c (opened ns k s c h g) step i
   where
@@ -45,9 +48,12 @@ leads_second ns k s c step h g i = by c (opened ns k s c h g) step i
     by (Inner (e ∷ es)) z (First at v) i =
         let same : e.1 ≡ at = some_is i.0 in
         let p = split_of (e.0, rows_at ns z.depth (stamp_of e.1)) (shows_by (rows_at ns z.depth) es) s.rows z.rows in
-        let r : chunk_rows ns (stamp_of at) ≡ Some p.front = ap (λ w. chunk_rows ns (stamp_of w)) (sym same) ∙ chunk_rows-at ns z.depth (stamp_of e.1) p.front p.front_is in
-        let next : v ≡ slice_get (keys_of (shows_by (rows_at ns z.depth) es)) 0 = i.1 ∙ ap (λ w. slice_get w 0) (sym (keys-by (rows_at ns z.depth) es)) in (
+        let r : chunk_rows ns (stamp_of at) ≡ Some p.front = ap (λ w. chunk_rows ns (stamp_of w))
+        (sym same) ∙ chunk_rows-at ns z.depth (stamp_of e.1) p.front p.front_is in
+        let next : v ≡ slice_get (keys_of (shows_by (rows_at ns z.depth) es)) 0 = i.1 ∙ ap (λ w. slice_get w 0)
+        (sym (keys-by (rows_at ns z.depth) es)) in (
           subst (λ w. stamp_of w < k) same z.low.0,
           subst IsSome (sym r) refl,
-          ap (λ x. option_or (second_key (rows_or x)) v) r ∙ ap (option_or (second_key p.front)) next ∙ second-joined (e.0, rows_at ns z.depth (stamp_of e.1)) (shows_by (rows_at ns z.depth) es) s.rows p,
+          ap (λ x. option_or (second_key (rows_or x)) v) r ∙ ap (option_or (second_key p.front)) next ∙ second-joined
+              (e.0, rows_at ns z.depth (stamp_of e.1)) (shows_by (rows_at ns z.depth) es) s.rows p,
         )

@@ -17,23 +17,29 @@ use Rattle.map_chunks.specs.Inside.Seeking.{IsHint, Hints}
 use Rattle.map_chunks.specs.Shown.{chunk_rows, rows_or}
 use Rattle.map_chunks.specs.declared.looks.Hint.{Hint}
 use Rattle.map_chunks.specs.declared.looks.Hint.TheVariants.{Stands, On}
-use Rattle.map_chunks.proofs.OpenLemmas.{Opened, opened, spells_at, chunk_rows-at, entry_at, placing, way_by, find-way, tree_of, shows_by, AllLow, low_at}
+use Rattle.map_chunks.proofs.OpenLemmas.{Opened, opened, spells_at, chunk_rows-at, entry_at, placing, way_by, find-way}
+use Rattle.map_chunks.proofs.OpenLemmas.{tree_of, shows_by, AllLow, low_at}
 use Rattle.map_chunks.proofs.RowLemmas.{IsStrict}
 
-pub hints : (ns : Contents) (k : ℕ) (s : Segment) (c : Chunk Ref) (key : Bytes) (asked : Option Bytes) (hint : Hint) → segment_at ns k ≡ Some s → slice_get ns k ≡ Some (chunk_content c)
+pub hints : (ns : Contents) (k : ℕ) (s : Segment) (c : Chunk Ref) (key : Bytes) (asked : Option Bytes) (hint : Hint)
+    → segment_at ns k ≡ Some s → slice_get ns k ≡ Some (chunk_content c)
     → IsStrict s.rows → IsHint c key asked hint → Hints ns key asked k (Some s.depth) s.rows hint
 hints ns k s c key asked hint h g o i = by c (opened ns k s c h g) hint i
   where
-    by : (c : Chunk Ref) → Opened ns k s c → (hint : Hint) → IsHint c key asked hint → Hints ns key asked k (Some s.depth) s.rows hint
+    by : (c : Chunk Ref) → Opened ns k s c → (hint : Hint) → IsHint c key asked hint
+        → Hints ns key asked k (Some s.depth) s.rows hint
     by (Leaf rows) z (Stands v) i = (ap (λ n. Some n) z.depth, i ∙ ap (λ w. stands_in w key asked) (sym z.is))
     by (Leaf rows) z (On at) i = absurd i
     by (Inner kids) z (Stands v) i = absurd (omega (arith, z.filled))
     by (Inner kids) z (On at) i =
         let a = entry_at kids i.0 at i.2 in
-        let p = placing key a.before a.first at a.behind i.0 a.at (subst (λ w. IsPlace key (keys_of w) i.0) a.whole i.1) in
-        let j : joined_rows (map (λ (e : Bytes × Ref). (e.0, rows_at ns z.depth (stamp_of e.1))) (a.before ++ (a.first, at) ∷ a.behind)) ≡ Some s.rows =
+        let p = placing key a.before a.first at a.behind i.0 a.at
+        (subst (λ w. IsPlace key (keys_of w) i.0) a.whole i.1) in
+        let j : joined_rows (map (λ (e : Bytes × Ref). (e.0, rows_at ns z.depth (stamp_of e.1)))
+        (a.before ++ (a.first, at) ∷ a.behind)) ≡ Some s.rows =
         ap (λ w. joined_rows (shows_by (rows_at ns z.depth) w)) (sym a.whole) ∙ z.rows in
-        let w = way_by (λ (e : Bytes × Ref). rows_at ns z.depth (stamp_of e.1)) key a.before (a.first, at) a.behind s.rows j o p in
+        let w = way_by (λ (e : Bytes × Ref). rows_at ns z.depth (stamp_of e.1)) key a.before
+        (a.first, at) a.behind s.rows j o p in
         let r = chunk_rows-at ns z.depth (stamp_of at) w.here w.here_is in
         let f = spells_at ns z.depth (stamp_of at) w.here w.here_is in
         let deep : s.depth ≡ f.0.segment.depth + 1 = omega (arith, z.deep, f.1) in (

@@ -16,16 +16,20 @@ pub some_of : {A : Type 0} (o : Option A) → IsSome o → (x : A) × (o ≡ Som
 some_of None h = absurd cc
 some_of (Some x) h = (x, refl)
 
-pub nothing_there : (ns : List (Node Ref)) (k : ℕ) → IsSome (segment_at (map content_of ns) k) → slice_get ns k ≡ None → ⊥
+pub nothing_there : (ns : List (Node Ref)) (k : ℕ) → IsSome (segment_at (map content_of ns) k)
+    → slice_get ns k ≡ None → ⊥
 nothing_there ns k h e =
     let s = some_of (segment_at (map content_of ns) k) h in
     let c = segment-content (map content_of ns) k s.0 s.1 in
     let bad = sym c.2 ∙ slice_get-map content_of ns k ∙ ap (option_map content_of) e in
     cc bad
 
-pub commit_there : (ns : List (Node Ref)) (k : ℕ) (x : Commit Ref) → IsSome (segment_at (map content_of ns) k) → slice_get ns k ≡ Some (node.Commit x) → ⊥
+pub commit_there : (ns : List (Node Ref)) (k : ℕ) (x : Commit Ref) → IsSome (segment_at (map content_of ns) k)
+    → slice_get ns k ≡ Some (node.Commit x) → ⊥
 commit_there ns k x h e =
     let s = some_of (segment_at (map content_of ns) k) h in
     let c = segment-content (map content_of ns) k s.0 s.1 in
-    let bad : Some (node.Chunk c.0) ≡ Some (node.Commit (renamed_commit stamp_of x)) = sym c.2 ∙ slice_get-map content_of ns k ∙ ap (option_map content_of) e in
+    let bad : Some (node.Chunk c.0) ≡ Some
+    (node.Commit (renamed_commit stamp_of x)) = sym c.2 ∙ slice_get-map content_of ns k ∙ ap
+    (option_map content_of) e in
     cc bad

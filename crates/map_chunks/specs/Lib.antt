@@ -1,4 +1,5 @@
--- What a reader of the public clauses believes, in order of reading. Rows: what chunks and their pieces show, which chunks
+-- What a reader of the public clauses believes, in order of reading. Rows: what chunks and their pieces show, which
+-- chunks
 -- have more than one child, the nodes of a draft, and what they name once they are placed.
 pub mod Shown
 pub mod Wide
@@ -9,7 +10,8 @@ pub mod KeysSeen
 pub mod Keys
 pub mod Search
 pub mod Inserting
--- Reading below a placed chunk: how a key's value stands to another one, what a chunk ends in, its second key, and a scan.
+-- Reading below a placed chunk: how a key's value stands to another one, what a chunk ends in, its second key, and a
+-- scan.
 pub mod Writes
 pub mod Seeking
 pub mod Ends

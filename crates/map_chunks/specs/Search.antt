@@ -14,7 +14,8 @@ IsRank key keys n = (n ≤ length keys)
     × ((d : Bytes) → 0 < n → is_above (slice_index_or keys (n - 1) d) key ≡ false)
     × ((d : Bytes) → n < length keys → is_above (slice_index_or keys n d) key ≡ true)
 
--- the child at this place is the one to which the key belongs: the last one whose first key isn't above it, else the first
+-- the child at this place is the one to which the key belongs: the last one whose first key isn't above it, else the
+-- first
 abbrev pub IsPlace : Bytes → List Bytes → ℕ → Type 0
 IsPlace key keys i = (i < length keys)
     × ((d : Bytes) → 0 < i → is_above (slice_index_or keys i d) key ≡ false)
@@ -26,4 +27,5 @@ IsFound key keys i = (i < length keys) × ((d : Bytes) → is_eq (slice_cmp nat_
 
 -- the key stands nowhere, and so many are below it
 abbrev pub IsAbsent : Bytes → List Bytes → ℕ → Type 0
-IsAbsent key keys n = IsRank key keys n × ((d : Bytes) → 0 < n → is_eq (slice_cmp nat_cmp (slice_index_or keys (n - 1) d) key) ≡ false)
+IsAbsent key keys n = IsRank key keys n ×
+    ((d : Bytes) → 0 < n → is_eq (slice_cmp nat_cmp (slice_index_or keys (n - 1) d) key) ≡ false)

@@ -39,7 +39,8 @@ pub trait Chunks {
         requires known { IsSome (segment_at (contents self.old) (stamp_of at)) }
         requires place { places self.old at }
         ensures grown { Grows contents places self.old self.new }
-        ensures content { IfOk result (λ held. slice_get (contents self.new) (stamp_of at) ≡ Some (chunk_content (Self.Held.shown held))) }
+        ensures content { IfOk result (λ held. slice_get (contents self.new) (stamp_of at)
+            ≡ Some (chunk_content (Self.Held.shown held))) }
         ensures children { IfOk result (λ held. AreAll (places self.new) (chunk_children (Self.Held.shown held))) }
         ensures stopped { IfErr result stops };
 

@@ -3,7 +3,8 @@
 //! A draft's nodes have the stamps from its first one on, children before parents, so that they can be
 //! placed in their order. The references that a draft gives name stamps; a slot is not chosen yet, and
 //! each bears the slot 0.
-ghost use Rattle.std.specs.Prelude.{◌≡◌, ◌+◌, ◌⊎◌, ◌≤◌, ◌++◌, [], ◌∷◌, length, IfOk, IfErr, OnOk, OnErr, IfSome, IfNone, take, ◌<◌};
+ghost use Rattle.std.specs.Prelude.{◌≡◌, ◌+◌, ◌⊎◌, ◌≤◌, ◌++◌, [], ◌∷◌, length, IfOk, IfErr, OnOk, OnErr, IfSome};
+ghost use Rattle.std.specs.Prelude.{IfNone, take, ◌<◌};
 ghost use Rattle.group_history.specs.Naming.{children};
 ghost use Rattle.group_history.specs.Refs.{stamps, stamp_of, slot_of};
 ghost use Rattle.group_history.specs.declared.refusals.Refusal.TheVariants as refusal;
@@ -66,7 +67,8 @@ impl Draft {
         ensures stamp { IfOk result (λ at. (stamp_of at ≡ self.old.first + length self.old.nodes) × (slot_of at ≡ 0)) }
         ensures ok { OnOk result (self.new ≡ record { first = self.old.first; nodes = self.old.nodes ++ node ∷ [] }) }
         ensures err { OnErr result (self.new ≡ self.old) }
-        ensures why { IfErr result (λ e. (e ≡ refusal.NoMemory) ⊎ ((e ≡ refusal.Stamps) × (stamps ≤ self.old.first + length self.old.nodes))) }
+        ensures why { IfErr result (λ e. (e ≡ refusal.NoMemory)
+            ⊎ ((e ≡ refusal.Stamps) × (stamps ≤ self.old.first + length self.old.nodes))) }
     {
         let Some(stamp) = self.next() else {
             return Err(Refusal::Stamps);

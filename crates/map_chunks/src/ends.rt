@@ -32,7 +32,8 @@ fn only_child<C: Chunks>(chunks: &mut C, at: Ref) -> Result<Option<Ref>, Stop>
     requires place { C.places chunks.old at }
     ensures grown { Grows C.contents C.places chunks.old chunks.new }
     ensures place { IfOk result (IfAt (C.places chunks.new)) }
-    ensures child { IfOk result (IsOnlyChild (C.contents chunks.new) (stamp_of at) (chunk_rows (C.contents chunks.old) (stamp_of at))) }
+    ensures child { IfOk result (IsOnlyChild (C.contents chunks.new) (stamp_of at)
+        (chunk_rows (C.contents chunks.old) (stamp_of at))) }
     ensures stopped { IfErr result (λ s. (s ≡ NoMemory) ⊎ C.stops s) }
 {
     let held = chunks.show(at)?;
@@ -49,7 +50,8 @@ pub fn end_placed<C: Chunks>(chunks: &mut C, at: Ref) -> Result<Ref, Stop>
     ensures grown { Grows C.contents C.places chunks.old chunks.new }
     ensures place { IfOk result (C.places chunks.new) }
     ensures end { IfOk result (IsEnd (C.contents chunks.new) (chunk_rows (C.contents chunks.old) (stamp_of at))) }
-    ensures depth { (d : ℕ) → chunk_depth (C.contents chunks.old) (stamp_of at) ≡ Some d → IfOk result (IsNoDeeper (C.contents chunks.new) d) }
+    ensures depth { (d : ℕ) → chunk_depth (C.contents chunks.old) (stamp_of at) ≡ Some d
+        → IfOk result (IsNoDeeper (C.contents chunks.new) d) }
     ensures stopped { IfErr result (λ s. (s ≡ NoMemory) ⊎ C.stops s) }
 {
     match only_child(chunks, at)? {

@@ -1,5 +1,6 @@
 //! Keys and what stands under them, changed together.
-ghost use Rattle.std.specs.Prelude.{◌≡◌, ◌<◌, ◌≤◌, [], length, IfOk, OnOk, OnErr, Some, vec_items, vec_len, vec_capacity};
+ghost use Rattle.std.specs.Prelude.{◌≡◌, ◌<◌, ◌≤◌, [], length, IfOk, OnOk, OnErr, Some, vec_items, vec_len};
+ghost use Rattle.std.specs.Prelude.{vec_capacity};
 ghost use Rattle.std.specs.List.{insert, remove};
 ghost use Rattle.std.specs.Option.{option_map};
 ghost use Rattle.group_history.specs.Rows.{paired};
@@ -67,8 +68,10 @@ pub fn insert_entry<T: Drop>(
     requires room { (0 < keys.old.room) × (vec_len entries.old < vec_capacity entries.old) }
     requires spare_keys { spare.keys.items ≡ [] }
     requires spare_entries { spare.entries.items ≡ [] }
-    requires spare_room { 16 ≤ length keys.old.texts → (17 ≤ vec_capacity spare.keys) × (17 ≤ vec_capacity spare.entries) }
-    ensures { Parted (insert (paired keys.old.texts entries.old.items) place (key, entry)) keys.new.texts entries.new.items (option_map (λ u. (u.0.texts, u.1.items)) result) }
+    requires spare_room { 16 ≤ length keys.old.texts
+        → (17 ≤ vec_capacity spare.keys) × (17 ≤ vec_capacity spare.entries) }
+    ensures { Parted (insert (paired keys.old.texts entries.old.items) place (key, entry)) keys.new.texts
+        entries.new.items (option_map (λ u. (u.0.texts, u.1.items)) result) }
 {
     keys.insert(place, key);
     let _ = entries.insert(place, entry);
@@ -94,7 +97,8 @@ pub fn remove_entry<T: Drop>(
 ) -> Result<(), AllocError>
     requires pairs { length entries.old.items ≡ length keys.old.texts }
     requires within { place < length keys.old.texts }
-    ensures ok { OnOk result ((keys.new.texts ≡ remove keys.old.texts place) × (entries.new.items ≡ remove entries.old.items place)) }
+    ensures ok { OnOk result ((keys.new.texts ≡ remove keys.old.texts place)
+        × (entries.new.items ≡ remove entries.old.items place)) }
     ensures err { OnErr result ((keys.new.texts ≡ keys.old.texts) × (entries.new.items ≡ entries.old.items)) }
 {
     keys.make_room(alloc)?;

@@ -1,5 +1,6 @@
 //! The keys of a draft's chunk: shared with the chunk that it was copied from, until they change.
-ghost use Rattle.std.specs.Prelude.{◌≡◌, ◌<◌, ◌≤◌, ◌+◌, true, [], length, take, drop, IfOk, OnOk, slice_get, slice_set, vec_items, vec_len, vec_capacity};
+ghost use Rattle.std.specs.Prelude.{◌≡◌, ◌<◌, ◌≤◌, ◌+◌, true, [], length, take, drop, IfOk, OnOk, slice_get, slice_set};
+ghost use Rattle.std.specs.Prelude.{vec_items, vec_len, vec_capacity};
 ghost use Rattle.std.specs.List.{insert, remove};
 ghost use Rattle.std.specs.Arc.{arc_value};
 

@@ -42,7 +42,8 @@ fn look<C: Chunks>(chunks: &mut C, at: Ref, key: &str) -> Result<Step, Stop>
     requires place { C.places chunks.old at }
     ensures grown { Grows C.contents C.places chunks.old chunks.new }
     ensures place { IfOk result (IsStepAt (C.places chunks.new)) }
-    ensures step { IfOk result (Leads (C.contents chunks.new) key.now (stamp_of at) (rows_or (chunk_rows (C.contents chunks.old) (stamp_of at)))) }
+    ensures step { IfOk result (Leads (C.contents chunks.new) key.now (stamp_of at)
+        (rows_or (chunk_rows (C.contents chunks.old) (stamp_of at)))) }
     ensures stopped { IfErr result (λ s. (s ≡ NoMemory) ⊎ C.stops s) }
 {
     let held = chunks.show(at)?;
@@ -56,7 +57,8 @@ pub fn get_placed<C: Chunks>(chunks: &mut C, at: Ref, key: &str) -> Result<Optio
     requires known { IsTree (chunk_rows (C.contents chunks.old) (stamp_of at)) }
     requires place { C.places chunks.old at }
     ensures grown { Grows C.contents C.places chunks.old chunks.new }
-    ensures value { IfOk result (λ v. v ≡ finite.find (slice_cmp nat_cmp) key.now (rows_or (chunk_rows (C.contents chunks.old) (stamp_of at)))) }
+    ensures value { IfOk result (λ v. v ≡ finite.find (slice_cmp nat_cmp) key.now
+        (rows_or (chunk_rows (C.contents chunks.old) (stamp_of at)))) }
     ensures stopped { IfErr result (λ s. (s ≡ NoMemory) ⊎ C.stops s) }
 {
     match look(chunks, at, key)? {
@@ -79,7 +81,8 @@ fn first_child<C: Chunks>(chunks: &mut C, at: Ref) -> Result<Option<Ref>, Stop>
     requires place { C.places chunks.old at }
     ensures grown { Grows C.contents C.places chunks.old chunks.new }
     ensures place { IfOk result (IfAt (C.places chunks.new)) }
-    ensures child { (s : Segment) → segment_at (C.contents chunks.old) (stamp_of at) ≡ Some s → IfOk result (IsAbove (C.contents chunks.new) (stamp_of at) s) }
+    ensures child { (s : Segment) → segment_at (C.contents chunks.old) (stamp_of at) ≡ Some s
+        → IfOk result (IsAbove (C.contents chunks.new) (stamp_of at) s) }
     ensures stopped { IfErr result C.stops }
 {
     let held = chunks.show(at)?;
@@ -93,7 +96,8 @@ pub fn depth_placed<C: Chunks>(chunks: &mut C, at: Ref) -> Result<u64, Stop>
     requires known { IsSome (segment_at (C.contents chunks.old) (stamp_of at)) }
     requires place { C.places chunks.old at }
     ensures grown { Grows C.contents C.places chunks.old chunks.new }
-    ensures depth { (s : Segment) → segment_at (C.contents chunks.old) (stamp_of at) ≡ Some s → IfOk result (λ d. d ≡ s.depth) }
+    ensures depth { (s : Segment) → segment_at (C.contents chunks.old) (stamp_of at) ≡ Some s
+        → IfOk result (λ d. d ≡ s.depth) }
     ensures bound { IfOk result (λ d. d ≤ stamp_of at + 1) }
     ensures stopped { IfErr result C.stops }
 {

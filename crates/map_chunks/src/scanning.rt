@@ -120,7 +120,8 @@ pub fn scan_placed<C: Chunks>(
     requires low { IsLow scan.now low.now }
     requires within { IsWithin scan.now out.old.items }
     ensures grown { Grows C.contents C.places chunks.old chunks.new }
-    ensures rows { OnOk result (out.new.items ≡ with_scanned scan.now out.old.items (rows_or (chunk_rows (C.contents chunks.old) (stamp_of at)))) }
+    ensures rows { OnOk result (out.new.items
+        ≡ with_scanned scan.now out.old.items (rows_or (chunk_rows (C.contents chunks.old) (stamp_of at)))) }
     ensures stopped { IfErr result (λ s. (s ≡ NoMemory) ⊎ C.stops s) }
 {
     let held = chunks.show(at)?;
@@ -142,7 +143,8 @@ fn scan_chunk<C: Chunks>(
     requires low { IsLow scan.now low.now }
     requires within { IsWithin scan.now out.old.items }
     ensures grown { Grows C.contents C.places chunks.old chunks.new }
-    ensures rows { OnOk result (out.new.items ≡ with_scanned scan.now out.old.items (rows_or (opened_rows (C.contents chunks.old) chunk.now))) }
+    ensures rows { OnOk result (out.new.items
+        ≡ with_scanned scan.now out.old.items (rows_or (opened_rows (C.contents chunks.old) chunk.now))) }
     ensures stopped { IfErr result (λ s. (s ≡ NoMemory) ⊎ C.stops s) }
 {
     match chunk {
@@ -173,7 +175,9 @@ fn scan_children<C: Chunks>(
     requires low { IsLow scan.now low.now }
     requires within { IsWithin scan.now out.old.items }
     ensures grown { Grows C.contents C.places chunks.old chunks.new }
-    ensures rows { OnOk result (out.new.items ≡ with_scanned scan.now out.old.items (rows_or (children_rows (C.contents chunks.old) (paired firsts.now children.now)))) }
+    ensures rows { OnOk result (out.new.items
+        ≡ with_scanned scan.now out.old.items
+        (rows_or (children_rows (C.contents chunks.old) (paired firsts.now children.now)))) }
     ensures stopped { IfErr result (λ s. (s ≡ NoMemory) ⊎ C.stops s) }
 {
     if firsts.is_empty() {

@@ -38,7 +38,8 @@ fn look<C: Chunks>(chunks: &mut C, at: Ref) -> Result<Second, Stop>
     requires place { C.places chunks.old at }
     ensures grown { Grows C.contents C.places chunks.old chunks.new }
     ensures place { IfOk result (IsSecondAt (C.places chunks.new)) }
-    ensures step { IfOk result (LeadsToSecond (C.contents chunks.new) (stamp_of at) (rows_or (chunk_rows (C.contents chunks.old) (stamp_of at)))) }
+    ensures step { IfOk result (LeadsToSecond (C.contents chunks.new) (stamp_of at)
+        (rows_or (chunk_rows (C.contents chunks.old) (stamp_of at)))) }
     ensures stopped { IfErr result (λ s. (s ≡ NoMemory) ⊎ C.stops s) }
 {
     let held = chunks.show(at)?;

@@ -36,7 +36,9 @@ fn hint<C: Chunks>(chunks: &mut C, at: Ref, key: &str, asked: Option<&Json>) -> 
     requires place { C.places chunks.old at }
     ensures grown { Grows C.contents C.places chunks.old chunks.new }
     ensures place { IfOk result (IsHintAt (C.places chunks.new)) }
-    ensures hint { IfOk result (Hints (C.contents chunks.new) key.now (option_copied asked.entry) (stamp_of at) (chunk_depth (C.contents chunks.old) (stamp_of at)) (rows_or (chunk_rows (C.contents chunks.old) (stamp_of at)))) }
+    ensures hint { IfOk result (Hints (C.contents chunks.new) key.now (option_copied asked.entry) (stamp_of at)
+        (chunk_depth (C.contents chunks.old) (stamp_of at))
+        (rows_or (chunk_rows (C.contents chunks.old) (stamp_of at)))) }
     ensures stopped { IfErr result C.stops }
 {
     let held = chunks.show(at)?;
@@ -56,7 +58,8 @@ pub fn seek_placed<C: Chunks>(
     requires known { IsTree (chunk_rows (C.contents chunks.old) (stamp_of at)) }
     requires place { C.places chunks.old at }
     ensures grown { Grows C.contents C.places chunks.old chunks.new }
-    ensures standing { IfOk result (λ s. s.standing ≡ stands_in (rows_or (chunk_rows (C.contents chunks.old) (stamp_of at))) key.now (option_copied asked.entry)) }
+    ensures standing { IfOk result (λ s. s.standing
+        ≡ stands_in (rows_or (chunk_rows (C.contents chunks.old) (stamp_of at))) key.now (option_copied asked.entry)) }
     ensures depth { IfOk result (λ s. chunk_depth (C.contents chunks.old) (stamp_of at) ≡ Some s.depth) }
     ensures bound { IfOk result (λ s. s.depth ≤ stamp_of at + 1) }
     ensures stopped { IfErr result C.stops }

@@ -13,21 +13,27 @@ use Rattle.map_chunks.proofs.DraftLemmas.{below-more}
 use Rattle.map_nodes.specs.Inside.Freezing.{child_places, kids_places}
 use Rattle.map_nodes.specs.declared.nodes.Child.{Child}
 
-kid-among : (done rest : List Child) (kid : Child) (at : Ref) → Contains (child_places kid) at → Contains (kids_places (done ++ kid ∷ rest)) at
+kid-among : (done rest : List Child) (kid : Child) (at : Ref) → Contains (child_places kid) at
+    → Contains (kids_places (done ++ kid ∷ rest)) at
 kid-among [] rest kid at h = Contains-append_left (child_places kid) (kids_places rest) at h
-kid-among (k ∷ ks) rest kid at h = Contains-append_right (child_places k) (kids_places (ks ++ kid ∷ rest)) at (kid-among ks rest kid at h)
+kid-among (k ∷ ks) rest kid at h = Contains-append_right (child_places k) (kids_places (ks ++ kid ∷ rest)) at
+    (kid-among ks rest kid at h)
 
 -- one of the children, where more was drafted meanwhile
-pub kid-below : (n m : ℕ) (all done rest : List Child) (kid : Child) → all ≡ done ++ kid ∷ rest → n ≤ m → AreBelow n (kids_places all) → AreBelow m (child_places kid)
-kid-below n m all done rest kid e le h = below-more n m (child_places kid) le (λ at i. subst (λ ks. AreBelow n (kids_places ks)) e h at (kid-among done rest kid at i))
+pub kid-below : (n m : ℕ) (all done rest : List Child) (kid : Child) → all ≡ done ++ kid ∷ rest → n ≤ m
+    → AreBelow n (kids_places all) → AreBelow m (child_places kid)
+kid-below n m all done rest kid e le h = below-more n m (child_places kid) le
+    (λ at i. subst (λ ks. AreBelow n (kids_places ks)) e h at (kid-among done rest kid at i))
 
 -- one more name
-pub below-one : (n m : ℕ) (ats : List Ref) (at : Ref) → n ≤ m → AreBelow n ats → stamp_of at < m → AreBelow m (ats ++ at ∷ [])
+pub below-one : (n m : ℕ) (ats : List Ref) (at : Ref) → n ≤ m → AreBelow n ats → stamp_of at < m
+    → AreBelow m (ats ++ at ∷ [])
 below-one n m ats at le h lt r i = elim (Contains-append_cases ats (at ∷ []) r i) [
   | inl p ↦ below-more n m ats le h r p
   | inr p ↦ subst (λ w. stamp_of w < m) (only_one at r p) lt
 ]
 
 -- the names of an inner chunk's children
-pub inner-below : (n : ℕ) (keys : List Bytes) (ats : List Ref) (es : List (Bytes × Ref)) → length ats ≡ length keys → es ≡ paired keys ats → AreBelow n ats → AreBelow n (values_of es)
+pub inner-below : (n : ℕ) (keys : List Bytes) (ats : List Ref) (es : List (Bytes × Ref)) → length ats ≡ length keys
+    → es ≡ paired keys ats → AreBelow n ats → AreBelow n (values_of es)
 inner-below n keys ats es l e h = subst (AreBelow n) (sym (ap (λ w. values_of w) e ∙ values_of-paired keys ats l)) h

@@ -1,5 +1,6 @@
 -- Copies of placed chunks.
-use Rattle.std.proofs.Common.{◌≡◌, ◌<◌, ◌-◌, ℕ, suc, List, [], ◌∷◌, Some, length, map, slice_get, refl, sym, ap, ◌∙◌, subst, arith}
+use Rattle.std.proofs.Common.{◌≡◌, ◌<◌, ◌-◌, ℕ, suc, List, [], ◌∷◌, Some, length, map, slice_get, refl, sym, ap, ◌∙◌}
+use Rattle.std.proofs.Common.{subst, arith}
 use Rattle.group_history.specs.declared.nodes.Chunk.{Chunk}
 use Rattle.group_history.specs.declared.nodes.Chunk.TheVariants as chunked
 use Rattle.group_history.specs.declared.refs.Ref.{Ref}
@@ -29,7 +30,9 @@ length-placed : (rs : List Ref) → length (all_as_placed rs) ≡ length rs
 length-placed [] = refl
 length-placed (r ∷ rs) = ap suc (length-placed rs)
 
-placed_pieces : (below : ℕ) (kids : List (Bytes × Ref)) → kids_pieces below (paired (keys_of kids) (all_as_placed (values_of kids))) ≡ map (λ e. (e.0, chunk below e.1)) kids
+placed_pieces : (below : ℕ) (kids : List (Bytes × Ref))
+    → kids_pieces below (paired (keys_of kids) (all_as_placed (values_of kids)))
+    ≡ map (λ e. (e.0, chunk below e.1)) kids
 placed_pieces below [] = refl
 placed_pieces below (e ∷ es) = ap (λ w. (e.0, chunk below e.1) ∷ w) (placed_pieces below es)
 
@@ -37,8 +40,10 @@ pub placed_fresh : (rs : List Ref) → kids_fresh (all_as_placed rs) ≡ 0
 placed_fresh [] = refl
 placed_fresh (r ∷ rs) = omega (arith, placed_fresh rs)
 
-pub copied_inner : (depth : ℕ) (texts : List Bytes) (items : List Child) (kids : List (Bytes × Ref)) → texts ≡ keys_of kids → items ≡ all_as_placed (values_of kids) → 0 < depth → 0 < length kids
-    → AreKeys texts → (AreKeys texts) × ((0 < depth) × (0 < length texts) × (length items ≡ length texts) × AllKids (depth - 1) (paired texts items))
+pub copied_inner : (depth : ℕ) (texts : List Bytes) (items : List Child) (kids : List (Bytes × Ref))
+    → texts ≡ keys_of kids → items ≡ all_as_placed (values_of kids) → 0 < depth → 0 < length kids
+    → AreKeys texts → (AreKeys texts) × ((0 < depth) × (0 < length texts) × (length items ≡ length texts)
+    × AllKids (depth - 1) (paired texts items))
 copied_inner depth texts items kids e f d z a = (
   a,
   (
@@ -49,12 +54,15 @@ copied_inner depth texts items kids e f d z a = (
   ),
 )
 
-pub copied_pieces : (below : ℕ) (texts : List Bytes) (items : List Child) (kids : List (Bytes × Ref)) → texts ≡ keys_of kids → items ≡ all_as_placed (values_of kids)
+pub copied_pieces : (below : ℕ) (texts : List Bytes) (items : List Child) (kids : List (Bytes × Ref))
+    → texts ≡ keys_of kids → items ≡ all_as_placed (values_of kids)
     → kids_pieces below (paired texts items) ≡ map (λ e. (e.0, chunk below e.1)) kids
 copied_pieces below texts items kids e f =
-    ap (λ w. kids_pieces below (paired w items)) e ∙ ap (λ w. kids_pieces below (paired (keys_of kids) w)) f ∙ placed_pieces below kids
+    ap (λ w. kids_pieces below (paired w items)) e ∙ ap
+    (λ w. kids_pieces below (paired (keys_of kids) w)) f ∙ placed_pieces below kids
 
-inner_shown : (p : Contents) (below : ℕ) (kids : List (Bytes × Ref)) → pieces_shown p (map (λ e. (e.0, chunk below e.1)) kids) ≡ shows_by (rows_at p below) kids
+inner_shown : (p : Contents) (below : ℕ) (kids : List (Bytes × Ref))
+    → pieces_shown p (map (λ e. (e.0, chunk below e.1)) kids) ≡ shows_by (rows_at p below) kids
 inner_shown p below [] = refl
 inner_shown p below (e ∷ es) = ap (λ w. (e.0, rows_at p below (stamp_of e.1)) ∷ w) (inner_shown p below es)
 
@@ -63,16 +71,21 @@ pub record Copyable (p : Contents) (depth : ℕ) (rows : Rows) (c : Chunk Ref) :
   pub deep : MayBeDeep depth c
   pub rows_are : shown p (chunk_pieces depth c) ≡ Some rows
 
-pub copyable : (p : Contents) (depth k : ℕ) (rows : Rows) (c : Chunk Ref) → rows_at p depth k ≡ Some rows → slice_get p k ≡ Some (chunk_content c) → Copyable p depth rows c
+pub copyable : (p : Contents) (depth k : ℕ) (rows : Rows) (c : Chunk Ref) → rows_at p depth k ≡ Some rows
+    → slice_get p k ≡ Some (chunk_content c) → Copyable p depth rows c
 copyable p depth k rows c h g =
     let f = spells_at p depth k rows h in
     by c f.0.segment f.1 f.0.rows (opened p k f.0.segment c f.0.is g)
   where
     by : (c : Chunk Ref) (s : Segment) → s.depth ≡ depth → s.rows ≡ rows → Opened p k s c → Copyable p depth rows c
-    by (chunked.Leaf rs) s d r o = record { deep = sym d ∙ o.depth; rows_are = shown-rows p rs ∙ ap (λ w. Some w) (sym o.is ∙ r) }
+    by (chunked.Leaf rs) s d r o = record {
+      deep = sym d ∙ o.depth;
+      rows_are = shown-rows p rs ∙ ap (λ w. Some w) (sym o.is ∙ r);
+    }
     by (chunked.Inner kids) s d r o =
         let e : depth - 1 ≡ o.depth = omega (arith, d, o.deep) in
         record {
           deep = (omega (arith, d, o.deep), o.filled);
-          rows_are = ap (λ b. shown p (map (λ e. (e.0, chunk b e.1)) kids)) e ∙ ap joined_rows (inner_shown p o.depth kids) ∙ o.rows ∙ ap (λ w. Some w) r;
+          rows_are = ap (λ b. shown p (map (λ e. (e.0, chunk b e.1)) kids)) e ∙ ap joined_rows
+              (inner_shown p o.depth kids) ∙ o.rows ∙ ap (λ w. Some w) r;
         }

@@ -1,5 +1,6 @@
 -- What a draft's chunks with one child each end in.
-use Rattle.std.proofs.Common.{◌≡◌, ◌<◌, ◌≤◌, ◌+◌, ◌-◌, ℕ, zero, suc, List, [], ◌∷◌, ◌++◌, Option, Some, None, length, get_or, remove, append-nil, refl, sym, ap, ◌∙◌, subst, arith, inl, inr}
+use Rattle.std.proofs.Common.{◌≡◌, ◌<◌, ◌≤◌, ◌+◌, ◌-◌, ℕ, zero, suc, List, [], ◌∷◌, ◌++◌, Option, Some, None, length}
+use Rattle.std.proofs.Common.{get_or, remove, append-nil, refl, sym, ap, ◌∙◌, subst, arith, inl, inr}
 use Rattle.std.specs.Prelude.{IsSome}
 use Rattle.std.specs.List.{Contains}
 use Rattle.std.proofs.lemmas.List.Elements.{Contains-append_cases, Contains-append_left, Contains-append_right}
@@ -9,7 +10,8 @@ use Rattle.group_history.specs.Rows.{Rows, paired}
 use Rattle.group_history.specs.Refs.{stamp_of}
 use Rattle.group_history.specs.Spelling.{Contents, joined_rows}
 use Rattle.group_history.proofs.Lists.{one_here, only_one}
-use Rattle.map_nodes.specs.Inside.Ends.{part_ref, IsTaken, end_of_pieces, end_of, IsPartBelow, IsEndBelow, IsKidBelow, IfNoDeeper}
+use Rattle.map_nodes.specs.Inside.Ends.{part_ref, IsTaken, end_of_pieces, end_of, IsPartBelow, IsEndBelow, IsKidBelow}
+use Rattle.map_nodes.specs.Inside.Ends.{IfNoDeeper}
 use Rattle.map_chunks.specs.Ends.{IsNoDeeper}
 use Rattle.map_nodes.specs.Inside.Halves.{HasDepth}
 use Rattle.map_chunks.specs.Places.{AreKept, part_places, places_of}
@@ -58,7 +60,8 @@ both-pieces (p ∷ []) (q ∷ qs) rs a b = omega arith
 both-pieces (p ∷ q ∷ ps) qs rs a b = omega arith
 
 -- two children or more have two pieces or more
-many-pieces : (below : ℕ) (keys : List Bytes) (kids : List Child) → length kids ≡ length keys → 0 < length keys → (length kids ≡ 1 → ⊥) → AllKids below (paired keys kids)
+many-pieces : (below : ℕ) (keys : List Bytes) (kids : List Child) → length kids ≡ length keys → 0 < length keys
+    → (length kids ≡ 1 → ⊥) → AllKids below (paired keys kids)
     → 1 < length (kids_pieces below (paired keys kids))
 many-pieces below [] kids l z o h = absurd (omega arith)
 many-pieces below (k ∷ ks) [] l z o h = absurd (omega arith)
@@ -66,15 +69,19 @@ many-pieces below (k ∷ []) (x ∷ []) l z o h = absurd (o refl)
 many-pieces below (k ∷ []) (x ∷ y ∷ xs) l z o h = absurd (omega arith)
 many-pieces below (k ∷ j ∷ ks) (x ∷ []) l z o h = absurd (omega arith)
 many-pieces below (k ∷ j ∷ ks) (x ∷ y ∷ xs) l z o h =
-    both-pieces (child_pieces below k x) (child_pieces below j y) (kids_pieces below (paired ks xs)) (piece_of below k x h.0) (piece_of below j y h.1.0)
+    both-pieces (child_pieces below k x) (child_pieces below j y) (kids_pieces below (paired ks xs))
+    (piece_of below k x h.0) (piece_of below j y h.1.0)
 
 -- they have no end
-pub end-many : (below : ℕ) (keys : List Bytes) (kids : List Child) → length kids ≡ length keys → 0 < length keys → (length kids ≡ 1 → ⊥) → AllKids below (paired keys kids)
+pub end-many : (below : ℕ) (keys : List Bytes) (kids : List Child) → length kids ≡ length keys → 0 < length keys
+    → (length kids ≡ 1 → ⊥) → AllKids below (paired keys kids)
     → None ≡ end_of_pieces (kids_pieces below (paired keys kids))
-end-many below keys kids l z o h = two_pieces (kids_pieces below (paired keys kids)) (many-pieces below keys kids l z o h)
+end-many below keys kids l z o h = two_pieces (kids_pieces below (paired keys kids))
+    (many-pieces below keys kids l z o h)
 
 -- the end of one child
-pub end-one : (below : ℕ) (keys : List Bytes) (kids : List Child) (kid : Child) → length kids ≡ length keys → length kids ≡ 1 → kid ≡ get_or kids 0 kid
+pub end-one : (below : ℕ) (keys : List Bytes) (kids : List Child) (kid : Child) → length kids ≡ length keys
+    → length kids ≡ 1 → kid ≡ get_or kids 0 kid
     → end_of kid ≡ end_of_pieces (kids_pieces below (paired keys kids))
 end-one below [] kids kid l o g = absurd (omega arith)
 end-one below (k ∷ ks) [] kid l o g = absurd (omega arith)
@@ -87,7 +94,8 @@ end-one below (k ∷ []) (x ∷ []) kid l o g = ap end_of g ∙ by x
     by (Own n) = ap end_of_pieces (sym (append-nil n.value.pieces))
 
 -- the one child of a chunk has its pieces
-pub one-pieces : (below : ℕ) (keys : List Bytes) (kids : List Child) (n : Kid) (kid : Child) → length kids ≡ length keys → length kids ≡ 1 → kid ≡ get_or kids 0 kid → kid ≡ Own n
+pub one-pieces : (below : ℕ) (keys : List Bytes) (kids : List Child) (n : Kid) (kid : Child) → length kids ≡ length keys
+    → length kids ≡ 1 → kid ≡ get_or kids 0 kid → kid ≡ Own n
     → n.value.pieces ≡ kids_pieces below (paired keys kids)
 one-pieces below [] kids n kid l o g e = absurd (omega arith)
 one-pieces below (k ∷ ks) [] n kid l o g e = absurd (omega arith)
@@ -97,7 +105,8 @@ one-pieces below (k ∷ []) (x ∷ []) n kid l o g e =
     sym (append-nil n.value.pieces) ∙ ap (λ c. child_pieces below k c ++ []) (sym e ∙ g)
 
 -- what was taken from the one child of a chunk has the chunk's pieces
-pub taken-pieces : (below : ℕ) (keys : List Bytes) (kids : List Child) (kid : Child) (n : Seen) → length kids ≡ length keys → length kids ≡ 1 → kid ≡ get_or kids 0 kid → IsTaken kid n
+pub taken-pieces : (below : ℕ) (keys : List Bytes) (kids : List Child) (kid : Child) (n : Seen)
+    → length kids ≡ length keys → length kids ≡ 1 → kid ≡ get_or kids 0 kid → IsTaken kid n
     → n.pieces ≡ kids_pieces below (paired keys kids)
 taken-pieces below keys kids kid n l o g t = by kid refl t
   where
@@ -105,7 +114,8 @@ taken-pieces below keys kids kid n l o g t = by kid refl t
     by (Placed at) e t = absurd t
     by (Own m) e t = t.0 ∙ one-pieces below keys kids m kid l o g e
 
-pub other_left : {A : Type 0} (kids : List A) (i : ℕ) (kid : A) → i < length kids → length kids ≤ 2 → (length kids ≡ 1 → ⊥) → kid ≡ get_or kids (1 - i) kid → remove kids i ≡ kid ∷ []
+pub other_left : {A : Type 0} (kids : List A) (i : ℕ) (kid : A) → i < length kids → length kids ≤ 2
+    → (length kids ≡ 1 → ⊥) → kid ≡ get_or kids (1 - i) kid → remove kids i ≡ kid ∷ []
 other_left [] i kid w f o g = absurd (omega arith)
 other_left (x ∷ []) i kid w f o g = absurd (o refl)
 other_left (x ∷ y ∷ []) zero kid w f o g = ap (λ z. z ∷ []) (sym g)
@@ -114,11 +124,13 @@ other_left (x ∷ y ∷ []) (suc (suc i)) kid w f o g = absurd (omega arith)
 other_left (x ∷ y ∷ z ∷ kids) i kid w f o g = absurd (omega arith)
 
 -- what was taken from the last child shows what the child did
-pub heir_taken : (p q : Contents) (left : List Child) (kid : Child) (n : Seen) → IsPrefix p q → left ≡ kid ∷ [] → IsSome (one_shown p left) → IsTaken kid n
+pub heir_taken : (p q : Contents) (left : List Child) (kid : Child) (n : Seen) → IsPrefix p q → left ≡ kid ∷ []
+    → IsSome (one_shown p left) → IsTaken kid n
     → (shown q n.pieces ≡ one_shown p left) × IsWideChunk n × (n.fresh ≤ kids_fresh left + 1)
 heir_taken p q left kid n pre e s t = by kid e t
   where
-    by : (c : Child) → left ≡ c ∷ [] → IsTaken c n → (shown q n.pieces ≡ one_shown p left) × IsWideChunk n × (n.fresh ≤ kids_fresh left + 1)
+    by : (c : Child) → left ≡ c ∷ [] → IsTaken c n
+        → (shown q n.pieces ≡ one_shown p left) × IsWideChunk n × (n.fresh ≤ kids_fresh left + 1)
     by (Placed at) e t = absurd t
     by (Own m) e t =
         let r = some_of (one_shown p left) s in
@@ -128,7 +140,8 @@ heir_taken p q left kid n pre e s t = by kid e t
           omega (arith, t.2, ap kids_fresh e),
         )
 
-pub kept-start : (may : Ref → Type 0) (old more new : List Ref) → ((at : Ref) → Contains old at → Contains more at) → AreKept may old new → AreKept may more new
+pub kept-start : (may : Ref → Type 0) (old more new : List Ref) → ((at : Ref) → Contains old at → Contains more at)
+    → AreKept may old new → AreKept may more new
 kept-start may old more new w h at i = elim (h at i) [ inl p ↦ inl (w at p) | inr q ↦ inr q ]
 
 pieces-end : (ps : List Piece) (at : Ref) → end_of_pieces ps ≡ Some at → Contains (places_of ps) at
@@ -141,22 +154,27 @@ pieces-end (q ∷ []) at h = by q.1 h
 pieces-end (q ∷ r ∷ ps) at h = absurd (cc h)
 
 -- the placed chunk that a child ends in stands among its places
-pub kid-end : (kid : Child) (end : Ref) → end_of kid ≡ Some end → (at : Ref) → Contains (end ∷ []) at → Contains (child_places kid) at
+pub kid-end : (kid : Child) (end : Ref) → end_of kid ≡ Some end → (at : Ref) → Contains (end ∷ []) at
+    → Contains (child_places kid) at
 kid-end (Placed r) end h at i = let s : r ≡ end = cc h in subst (λ w. Contains (w ∷ []) at) (sym s) i
-kid-end (Own n) end h at i = subst (Contains (places_of n.value.pieces)) (only_one end at i) (pieces-end n.value.pieces end h)
+kid-end (Own n) end h at i = subst (Contains (places_of n.value.pieces)) (only_one end at i)
+    (pieces-end n.value.pieces end h)
 
-pub taken-places : (kid : Child) (n : Seen) → IsTaken kid n → (at : Ref) → Contains (places_of n.pieces) at → Contains (child_places kid) at
+pub taken-places : (kid : Child) (n : Seen) → IsTaken kid n → (at : Ref) → Contains (places_of n.pieces) at
+    → Contains (child_places kid) at
 taken-places (Placed r) n t at h = absurd t
 taken-places (Own m) n t at h = subst (λ ps. Contains (places_of ps) at) t.0 h
 
-pub kids-removed : (kids : List Child) (i : ℕ) (at : Ref) → Contains (kids_places (remove kids i)) at → Contains (kids_places kids) at
+pub kids-removed : (kids : List Child) (i : ℕ) (at : Ref) → Contains (kids_places (remove kids i)) at
+    → Contains (kids_places kids) at
 kids-removed [] zero at h = h
 kids-removed [] (suc i) at h = h
 kids-removed (k ∷ kids) zero at h = Contains-append_right (child_places k) (kids_places kids) at h
-kids-removed (k ∷ kids) (suc i) at h = elim (Contains-append_cases (child_places k) (kids_places (remove kids i)) at h) [
-  | inl p ↦ Contains-append_left (child_places k) (kids_places kids) at p
-  | inr q ↦ Contains-append_right (child_places k) (kids_places kids) at (kids-removed kids i at q)
-]
+kids-removed (k ∷ kids) (suc i) at h = elim
+    (Contains-append_cases (child_places k) (kids_places (remove kids i)) at h) [
+      | inl p ↦ Contains-append_left (child_places k) (kids_places kids) at p
+      | inr q ↦ Contains-append_right (child_places k) (kids_places kids) at (kids-removed kids i at q)
+    ]
 
 -- DEPTHS
 
@@ -165,9 +183,11 @@ rows-below depth [] = tt
 rows-below depth (r ∷ []) = tt
 rows-below depth (r ∷ s ∷ rows) = tt
 
-pub many-below : (depth below : ℕ) (keys : List Bytes) (kids : List Child) → length kids ≡ length keys → 0 < length keys → (length kids ≡ 1 → ⊥) → AllKids below (paired keys kids)
+pub many-below : (depth below : ℕ) (keys : List Bytes) (kids : List Child) → length kids ≡ length keys → 0 < length keys
+    → (length kids ≡ 1 → ⊥) → AllKids below (paired keys kids)
     → IsEndBelow depth (kids_pieces below (paired keys kids))
-many-below depth below keys kids l z o h = by (kids_pieces below (paired keys kids)) (many-pieces below keys kids l z o h)
+many-below depth below keys kids l z o h = by (kids_pieces below (paired keys kids))
+    (many-pieces below keys kids l z o h)
   where
     by : (ps : List Piece) → 1 < length ps → IsEndBelow depth ps
     by [] l = absurd (omega arith)
@@ -175,8 +195,10 @@ many-below depth below keys kids l z o h = by (kids_pieces below (paired keys ki
     by (p ∷ q ∷ ps) l = tt
 
 -- what is less deep than the one child is less deep than the chunk
-pub one-below : (depth : ℕ) (keys : List Bytes) (kids : List Child) (kid : Child) → length kids ≡ length keys → length kids ≡ 1 → kid ≡ get_or kids 0 kid → 0 < depth
-    → AllKids (depth - 1) (paired keys kids) → IsKidBelow kid → IsEndBelow depth (kids_pieces (depth - 1) (paired keys kids))
+pub one-below : (depth : ℕ) (keys : List Bytes) (kids : List Child) (kid : Child) → length kids ≡ length keys
+    → length kids ≡ 1 → kid ≡ get_or kids 0 kid → 0 < depth
+    → AllKids (depth - 1) (paired keys kids) → IsKidBelow kid
+    → IsEndBelow depth (kids_pieces (depth - 1) (paired keys kids))
 one-below depth [] kids kid l o g z h b = absurd (omega arith)
 one-below depth (k ∷ ks) [] kid l o g z h b = absurd (omega arith)
 one-below depth (k ∷ ks) (x ∷ y ∷ xs) kid l o g z h b = absurd (omega arith)
@@ -197,7 +219,8 @@ one-below depth (k ∷ []) (x ∷ []) kid l o g z h b = by x h.0 (subst IsKidBel
     by (Own n) h b = less n.value.depth n.value.pieces (omega (arith, h.0)) b
 
 -- what was taken from the one child of a chunk is less deep than the chunk
-pub taken-below : (below : ℕ) (keys : List Bytes) (kids : List Child) (kid : Child) (n : Seen) → length kids ≡ length keys → length kids ≡ 1 → kid ≡ get_or kids 0 kid
+pub taken-below : (below : ℕ) (keys : List Bytes) (kids : List Child) (kid : Child) (n : Seen)
+    → length kids ≡ length keys → length kids ≡ 1 → kid ≡ get_or kids 0 kid
     → AllKids below (paired keys kids) → IsTaken kid n → n.depth ≤ below
 taken-below below [] kids kid n l o g h t = absurd (omega arith)
 taken-below below (k ∷ ks) [] kid n l o g h t = absurd (omega arith)
@@ -210,29 +233,36 @@ taken-below below (k ∷ []) (x ∷ []) kid n l o g h t = by x h.0 (subst (λ c.
     by (Own m) h t = omega (arith, h.0, t.3)
 
 -- the placed chunk that a child ends in is no deeper than the child
-pub kid-deep : (p : Contents) (below : ℕ) (kid : Child) (at : Ref) → end_of kid ≡ Some at → IsKidBelow kid → HasDepth below kid → IsSome (child_rows p below kid) → IsNoDeeper p below at
+pub kid-deep : (p : Contents) (below : ℕ) (kid : Child) (at : Ref) → end_of kid ≡ Some at → IsKidBelow kid
+    → HasDepth below kid → IsSome (child_rows p below kid) → IsNoDeeper p below at
 kid-deep p below (Placed r) at e b h s =
     let v = some_of (child_rows p below (Placed r)) s in
     subst (IsNoDeeper p below) (some_is e) (below, depth-at p below (stamp_of r) v.0 v.1, omega arith)
 kid-deep p below (Own n) at e b h s = let v = some_of (shown p n.value.pieces) s in by n.value.pieces e b v.0 v.1
   where
-    by : (ps : List Piece) → end_of_pieces ps ≡ Some at → IsEndBelow n.value.depth ps → (rs : Rows) → shown p ps ≡ Some rs → IsNoDeeper p below at
+    by : (ps : List Piece) → end_of_pieces ps ≡ Some at → IsEndBelow n.value.depth ps → (rs : Rows)
+        → shown p ps ≡ Some rs → IsNoDeeper p below at
     by [] e b rs v = absurd (cc e)
     by (q ∷ []) e b rs v = part q.1 e b (let f = split_of (q.0, part_rows p q.0 q.1) [] rs v in (f.front, f.front_is))
       where
-        part : (x : Part) → part_ref x ≡ Some at → IsPartBelow n.value.depth x → (f : Rows) × (part_rows p q.0 x ≡ Some f) → IsNoDeeper p below at
+        part : (x : Part) → part_ref x ≡ Some at → IsPartBelow n.value.depth x
+            → (f : Rows) × (part_rows p q.0 x ≡ Some f) → IsNoDeeper p below at
         part (value w) e b f = absurd (cc e)
-        part (chunk d r) e b f = subst (IsNoDeeper p below) (some_is e) (d, depth-at p d (stamp_of r) f.0 f.1, omega (arith, h))
+        part (chunk d r) e b f = subst (IsNoDeeper p below) (some_is e)
+            (d, depth-at p d (stamp_of r) f.0 f.1, omega (arith, h))
     by (q ∷ r ∷ ps) e b rs v = absurd (cc e)
 
 -- what stands in a root's place is no deeper than the root
-pub low_placed : (p q : Contents) (below : ℕ) (left : List Child) (kid : Child) (end : Option Ref) (at : Ref) → left ≡ kid ∷ [] → IsFirstAt p below left
-    → (HasDepth below kid → IsSome (child_rows p below kid) → IfNoDeeper q below end) → end ≡ Some at → IsNoDeeper q (below + 1) at
+pub low_placed : (p q : Contents) (below : ℕ) (left : List Child) (kid : Child) (end : Option Ref) (at : Ref)
+    → left ≡ kid ∷ [] → IsFirstAt p below left
+    → (HasDepth below kid → IsSome (child_rows p below kid) → IfNoDeeper q below end) → end ≡ Some at
+    → IsNoDeeper q (below + 1) at
 low_placed p q below left kid end at l i f e =
     let k = subst (IsFirstAt p below) l i in
     no_deeper q below (below + 1) at (omega arith) (subst (IfNoDeeper q below) e (f k.0 k.1))
 
-pub low_taken : (p : Contents) (below : ℕ) (left : List Child) (kid : Child) (n : Seen) → left ≡ kid ∷ [] → IsFirstAt p below left → IsTaken kid n → n.depth ≤ below + 1
+pub low_taken : (p : Contents) (below : ℕ) (left : List Child) (kid : Child) (n : Seen) → left ≡ kid ∷ []
+    → IsFirstAt p below left → IsTaken kid n → n.depth ≤ below + 1
 low_taken p below left kid n l i t = by kid (subst (IsFirstAt p below) l i) t
   where
     by : (c : Child) → IsFirstAt p below (c ∷ []) → IsTaken c n → n.depth ≤ below + 1
@@ -240,22 +270,29 @@ low_taken p below left kid n l i t = by kid (subst (IsFirstAt p below) l i) t
     by (Own m) i t = omega (arith, i.0, t.3)
 
 -- each of the children is so deep, and shows rows
-pub first_at : (p : Contents) (below : ℕ) (keys : List Bytes) (kids : List Child) (i : ℕ) (rows : Rows) → length kids ≡ length keys → AllKids below (paired keys kids)
+pub first_at : (p : Contents) (below : ℕ) (keys : List Bytes) (kids : List Child) (i : ℕ) (rows : Rows)
+    → length kids ≡ length keys → AllKids below (paired keys kids)
     → shown p (kids_pieces below (paired keys kids)) ≡ Some rows → IsFirstAt p below (remove kids i)
 first_at p below keys kids i rows l h s = to keys kids i l h (sym (shown-kids p below (paired keys kids) h) ∙ s)
   where
-    one : (k : Bytes) (c : Child) → IsChild below k c → (rs : Rows) → child_rows p below c ≡ Some rs → HasDepth below c × IsSome (child_rows p below c)
+    one : (k : Bytes) (c : Child) → IsChild below k c → (rs : Rows) → child_rows p below c ≡ Some rs
+        → HasDepth below c × IsSome (child_rows p below c)
     one k (Placed at) h rs e = (tt, subst IsSome (sym e) refl)
     one k (Own n) h rs e = (h.0, subst IsSome (sym e) refl)
 
-    head : (ks : List Bytes) (xs : List Child) (rs : Rows) → length xs ≡ length ks → AllKids below (paired ks xs) → joined_rows (shows_of (kid_rows p below) (paired ks xs)) ≡ Some rs → IsFirstAt p below xs
+    head : (ks : List Bytes) (xs : List Child) (rs : Rows) → length xs ≡ length ks → AllKids below (paired ks xs)
+        → joined_rows (shows_of (kid_rows p below) (paired ks xs)) ≡ Some rs → IsFirstAt p below xs
     head ks [] rs l h j = tt
     head [] (x ∷ xs) rs l h j = absurd (omega arith)
-    head (k ∷ ks) (x ∷ xs) rs l h j = let f = split_of (k, child_rows p below x) (shows_of (kid_rows p below) (paired ks xs)) rs j in one k x h.0 f.front f.front_is
+    head (k ∷ ks) (x ∷ xs) rs l h j = let f = split_of (k, child_rows p below x)
+        (shows_of (kid_rows p below) (paired ks xs)) rs j in one k x h.0 f.front f.front_is
 
-    to : (ks : List Bytes) (xs : List Child) (i : ℕ) → length xs ≡ length ks → AllKids below (paired ks xs) → joined_rows (shows_of (kid_rows p below) (paired ks xs)) ≡ Some rows → IsFirstAt p below (remove xs i)
+    to : (ks : List Bytes) (xs : List Child) (i : ℕ) → length xs ≡ length ks → AllKids below (paired ks xs)
+        → joined_rows (shows_of (kid_rows p below) (paired ks xs)) ≡ Some rows → IsFirstAt p below (remove xs i)
     to ks [] zero l h j = tt
     to ks [] (suc i) l h j = tt
     to [] (x ∷ xs) i l h j = absurd (omega arith)
-    to (k ∷ ks) (x ∷ xs) zero l h j = let f = split_of (k, child_rows p below x) (shows_of (kid_rows p below) (paired ks xs)) rows j in head ks xs f.back (omega arith) h.1 f.back_is
-    to (k ∷ ks) (x ∷ xs) (suc i) l h j = let f = split_of (k, child_rows p below x) (shows_of (kid_rows p below) (paired ks xs)) rows j in one k x h.0 f.front f.front_is
+    to (k ∷ ks) (x ∷ xs) zero l h j = let f = split_of (k, child_rows p below x)
+        (shows_of (kid_rows p below) (paired ks xs)) rows j in head ks xs f.back (omega arith) h.1 f.back_is
+    to (k ∷ ks) (x ∷ xs) (suc i) l h j = let f = split_of (k, child_rows p below x)
+        (shows_of (kid_rows p below) (paired ks xs)) rows j in one k x h.0 f.front f.front_is

@@ -5,7 +5,8 @@ use Rattle.group_history.specs.declared.refs.Ref.{Ref}
 use Rattle.group_history.specs.Map.{Bytes}
 use Rattle.group_history.specs.Spelling.{Contents}
 use Rattle.map_nodes.specs.Nodes.{kids_fresh}
-use Rattle.map_nodes.specs.Inside.Removing.{left_rows, left_fresh, one_shown, gives_way, AreLeft, IsHeir, KeptBy, IsWideLeft}
+use Rattle.map_nodes.specs.Inside.Removing.{left_rows, left_fresh, one_shown, gives_way, AreLeft, IsHeir, KeptBy}
+use Rattle.map_nodes.specs.Inside.Removing.{IsWideLeft}
 use Rattle.map_nodes.specs.declared.nodes.Child.{Child}
 use Rattle.map_nodes.specs.declared.nodes.removing.Fate.{Fate}
 use Rattle.map_nodes.specs.declared.nodes.removing.Fate.TheVariants.{Leaves, Stays}
@@ -13,11 +14,13 @@ use Rattle.map_nodes.specs.declared.nodes.removing.Heir.{Heir}
 use Rattle.map_nodes.specs.declared.nodes.removing.Heir.TheVariants.{Placed, Own}
 use Rattle.map_chunks.proofs.JoinLemmas.{some_is}
 
-pub heir-rows : (q r : Contents) (ks kids : List Child) (depth : ℕ) (keys : List Bytes) (h : Heir) → IsHeir q r ks h → left_rows r depth keys kids (Some h) ≡ one_shown q ks
+pub heir-rows : (q r : Contents) (ks kids : List Child) (depth : ℕ) (keys : List Bytes) (h : Heir) → IsHeir q r ks h
+    → left_rows r depth keys kids (Some h) ≡ one_shown q ks
 heir-rows q r ks kids depth keys (Placed at) i = i.0
 heir-rows q r ks kids depth keys (Own n) i = i.0
 
-pub heir-fresh : (q r : Contents) (ks old new : List Child) (h : Heir) → IsHeir q r ks h → KeptBy old new h → kids_fresh ks ≤ kids_fresh old → left_fresh new (Some h) ≤ kids_fresh old + 1
+pub heir-fresh : (q r : Contents) (ks old new : List Child) (h : Heir) → IsHeir q r ks h → KeptBy old new h
+    → kids_fresh ks ≤ kids_fresh old → left_fresh new (Some h) ≤ kids_fresh old + 1
 heir-fresh q r ks old new (Placed at) i k f = omega (arith, ap kids_fresh k)
 heir-fresh q r ks old new (Own n) i k f = omega (arith, i.2, f)
 
@@ -29,6 +32,8 @@ pub heir-kept : (old new : List Child) (h : Heir) (at : Ref) → KeptBy old new 
 heir-kept old new h at k e = subst (KeptBy old new) (some_is e) k
 
 -- a root that gives way to nothing stays wide
-pub still_wide : (fate : Fate) (old new n : ℕ) → n ≡ old → gives_way fate n ≡ false → AreLeft fate old new → 1 < old → 1 < new
-still_wide Leaves old new n e g l more = let f : nat_le n 2 ≡ false = g in let h : 2 < n = grind (arith, nat_tests) in omega (arith, l, e, h)
+pub still_wide : (fate : Fate) (old new n : ℕ) → n ≡ old → gives_way fate n ≡ false → AreLeft fate old new
+    → 1 < old → 1 < new
+still_wide Leaves old new n e g l more = let f : nat_le n 2 ≡ false = g in let h : 2 < n = grind (arith, nat_tests) in
+    omega (arith, l, e, h)
 still_wide (Stays first) old new n e g l more = omega (arith, l, more)

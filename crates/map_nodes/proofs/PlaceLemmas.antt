@@ -16,25 +16,33 @@ use Rattle.map_nodes.specs.declared.nodes.Child.TheVariants.{Placed, Own}
 use Rattle.map_nodes.proofs.NamedLemmas.{kid-within, own-places}
 
 -- a child has what all children have
-pub kid_all : (may : Ref → Type 0) (kids : List Child) (i : ℕ) (c : Child) → i < length kids → c ≡ get_or kids i c → AreAll may (kids_places kids) → AreAll may (child_places c)
+pub kid_all : (may : Ref → Type 0) (kids : List Child) (i : ℕ) (c : Child) → i < length kids → c ≡ get_or kids i c
+    → AreAll may (kids_places kids) → AreAll may (child_places c)
 kid_all may kids i c l e all at h = all at (kid-within kids i c l e at h)
 
 pub placed_may : (may : Ref → Type 0) (c : Child) (at : Ref) → c ≡ Placed at → AreAll may (child_places c) → may at
 placed_may may c at e all = subst (λ (x : Child). AreAll may (child_places x)) e all at (one_here at)
 
-pub own_may : (may : Ref → Type 0) (c : Child) (n : Kid) → c ≡ Own n → AreAll may (child_places c) → AreAll may (places_of n.value.pieces)
+pub own_may : (may : Ref → Type 0) (c : Child) (n : Kid) → c ≡ Own n → AreAll may (child_places c)
+    → AreAll may (places_of n.value.pieces)
 own_may may c n e all = subst (λ (x : Child). AreAll may (child_places x)) e all
 
 -- the places of an inner chunk are its children's
-pub kids_may : (may : Ref → Type 0) (depth : ℕ) (keys : List Bytes) (body : Body) (kids : _) (pieces : List Piece) → body_pieces depth keys body ≡ pieces → body ≡ Inner kids → IsNode depth keys body
+pub kids_may : (may : Ref → Type 0) (depth : ℕ) (keys : List Bytes) (body : Body) (kids : _) (pieces : List Piece)
+    → body_pieces depth keys body ≡ pieces → body ≡ Inner kids → IsNode depth keys body
     → AreAll may (places_of pieces) → AreAll may (kids_places kids.items)
-kids_may may depth keys body kids pieces v e i all = let node : IsNode depth keys (Inner kids) = subst (IsNode depth keys) e i in subst (AreAll may) (own-places depth keys body kids pieces v e node.1.2) all
+kids_may may depth keys body kids pieces v e i all = let node : IsNode depth keys (Inner kids) = subst
+    (IsNode depth keys) e i in subst (AreAll may) (own-places depth keys body kids pieces v e node.1.2) all
 
-pub down_may : (may : Ref → Type 0) (depth : ℕ) (keys : List Bytes) (body : Body) (kids : _) (pieces : List Piece) (slice : List Bytes) (i : ℕ) (c : Child) → body_pieces depth keys body ≡ pieces → body ≡ Inner kids → IsNode depth keys body
-    → slice ≡ keys → i < length slice → c ≡ get_or kids.items i c → AreAll may (places_of pieces) → AreAll may (child_places c)
+pub down_may : (may : Ref → Type 0) (depth : ℕ) (keys : List Bytes) (body : Body) (kids : _) (pieces : List Piece)
+    (slice : List Bytes) (i : ℕ) (c : Child) → body_pieces depth keys body ≡ pieces → body ≡ Inner kids
+    → IsNode depth keys body
+    → slice ≡ keys → i < length slice → c ≡ get_or kids.items i c → AreAll may (places_of pieces)
+    → AreAll may (child_places c)
 down_may may depth keys body kids pieces slice i c v e n s l g all =
     let node : IsNode depth keys (Inner kids) = subst (IsNode depth keys) e n in
-    kid_all may kids.items i c (omega (arith, node.1.2, ap length s)) g (kids_may may depth keys body kids pieces v e n all)
+    kid_all may kids.items i c (omega (arith, node.1.2, ap length s)) g
+    (kids_may may depth keys body kids pieces v e n all)
 
 -- what a copy names was shown
 pub new_may : (may : Ref → Type 0) (new : List Ref) → AreKept may [] new → AreAll may new

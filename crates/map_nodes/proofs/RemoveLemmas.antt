@@ -1,5 +1,8 @@
 -- A key removed below a draft's chunk.
-use Rattle.std.proofs.Common.{◌≡◌, ◌<◌, ◌≤◌, ◌+◌, ◌-◌, ℕ, zero, suc, Bool, true, false, cond, not, T, List, [], ◌∷◌, ◌++◌, Option, Some, None, length, get_or, set, remove, slice_get, nat_le, length-set, length-append, refl, sym, ap, ◌∙◌, subst, arith, nat_cmp, Ordering, Less, Equal, Greater, is_eq}
+use Rattle.std.proofs.Common.{◌≡◌, ◌<◌, ◌≤◌, ◌+◌, ◌-◌, ℕ, zero, suc, Bool, true, false, cond, not, T, List, [], ◌∷◌}
+use Rattle.std.proofs.Common.{◌++◌, Option, Some, None, length, get_or, set, remove, slice_get, nat_le, length-set}
+use Rattle.std.proofs.Common.{length-append, refl, sym, ap, ◌∙◌, subst, arith, nat_cmp, Ordering, Less, Equal, Greater}
+use Rattle.std.proofs.Common.{is_eq}
 use Rattle.std.proofs.lemmas.Bool.Decides.{nat_tests}
 use Rattle.std.specs.Prelude.{option_and_then}
 use Rattle.std.specs.Ordering.{ordering_reverse, eq_by_cmp}
@@ -34,7 +37,8 @@ use Rattle.map_chunks.proofs.ListLemmas.{paired-remove, length-paired}
 use Rattle.map_nodes.proofs.NodeLemmas.{Down, kid_rows, child_at}
 use Rattle.map_chunks.proofs.OpenLemmas.{key_at, known, shows_of}
 use Rattle.map_nodes.proofs.PathLemmas.{first_key, lowered_pairs, length-lowered, rises_joined, child_requires}
-use Rattle.map_chunks.proofs.RowLemmas.{cmp, turned, same_key, is_itself, AllBelow, AllAbove, IsStrict, strict, sorted, rises_strict}
+use Rattle.map_chunks.proofs.RowLemmas.{cmp, turned, same_key, is_itself, AllBelow, AllAbove, IsStrict, strict, sorted}
+use Rattle.map_chunks.proofs.RowLemmas.{rises_strict}
 use Rattle.map_nodes.proofs.ScanLemmas.{kid_shown-at, kid_shown-kept}
 use Rattle.map_chunks.proofs.ScanLemmas.{got_any}
 use Rattle.map_chunks.proofs.SearchLemmas.{Found, found_in, Absent, absent_in}
@@ -45,14 +49,16 @@ use Rattle.map_chunks.proofs.TreeLemmas.{map_is, map_from}
 
 pub without-above : (k : Bytes) (b : Rows) → AllAbove k b → without k b ≡ b
 without-above k [] h = refl
-without-above k (r ∷ b) h = ap (λ o. cond (not (is_eq o)) (r ∷ without k b) (without k b)) h.0 ∙ ap (λ t. r ∷ t) (without-above k b h.1)
+without-above k (r ∷ b) h = ap (λ o. cond (not (is_eq o)) (r ∷ without k b) (without k b)) h.0 ∙ ap (λ t. r ∷ t)
+    (without-above k b h.1)
 
 pub without-front : (k : Bytes) (a b : Rows) → AllAbove k b → without k (a ++ b) ≡ without k a ++ b
 without-front k [] b h = without-above k b h
 without-front k (s ∷ a) b h = by (cmp k s.0) (without-front k a b h)
   where
     by : (o : Ordering) → without k (a ++ b) ≡ without k a ++ b
-        → cond (not (is_eq o)) (s ∷ without k (a ++ b)) (without k (a ++ b)) ≡ cond (not (is_eq o)) (s ∷ without k a) (without k a) ++ b
+        → cond (not (is_eq o)) (s ∷ without k (a ++ b)) (without k (a ++ b))
+        ≡ cond (not (is_eq o)) (s ∷ without k a) (without k a) ++ b
     by Less ih = ap (λ t. s ∷ t) ih
     by Equal ih = ih
     by Greater ih = ap (λ t. s ∷ t) ih
@@ -60,7 +66,8 @@ without-front k (s ∷ a) b h = by (cmp k s.0) (without-front k a b h)
 pub without-back : (k : Bytes) (a b : Rows) → AllBelow k a → without k (a ++ b) ≡ a ++ without k b
 without-back k [] b h = refl
 without-back k (r ∷ a) b h =
-    ap (λ o. cond (not (is_eq o)) (r ∷ without k (a ++ b)) (without k (a ++ b))) (turned k r.0 ∙ ap ordering_reverse h.0) ∙ ap (λ t. r ∷ t) (without-back k a b h.1)
+    ap (λ o. cond (not (is_eq o)) (r ∷ without k (a ++ b)) (without k (a ++ b)))
+    (turned k r.0 ∙ ap ordering_reverse h.0) ∙ ap (λ t. r ∷ t) (without-back k a b h.1)
 
 -- a row whose key it is
 pub without-at : (k v : Bytes) (b : Rows) → without k ((k, v) ∷ b) ≡ without k b
@@ -74,7 +81,8 @@ abbrev stays : Bytes → Bytes → Bool
 stays key k = not (eq_by_cmp (slice_cmp nat_cmp) key k)
 
 pub without-strict : (key : Bytes) (rows : Rows) → IsStrict rows → IsStrict (without key rows)
-without-strict key rows o = strict (without key rows) (is_sorted-where_key (slice_cmp nat_cmp) (stays key) rows (sorted rows o))
+without-strict key rows o = strict (without key rows)
+    (is_sorted-where_key (slice_cmp nat_cmp) (stays key) rows (sorted rows o))
 
 pub without-found : (key : Bytes) (rows : Rows) (i : ℕ) → (f : Found key rows i) → without key rows ≡ f.front ++ f.back
 without-found key rows i f =
@@ -83,7 +91,8 @@ without-found key rows i f =
 
 pub without-absent : (key : Bytes) (rows : Rows) (n : ℕ) → (f : Absent key rows n) → without key rows ≡ rows
 without-absent key rows n f =
-    ap (without key) f.whole ∙ without-back key f.front f.back f.below ∙ ap (λ w. f.front ++ w) (without-above key f.back f.above) ∙ sym f.whole
+    ap (without key) f.whole ∙ without-back key f.front f.back f.below ∙ ap (λ w. f.front ++ w)
+    (without-above key f.back f.above) ∙ sym f.whole
 
 -- MAPS
 
@@ -95,30 +104,39 @@ apart key q x = ap (λ o. cond (is_eq o) None x) (turned q key) ∙ by (cmp key 
     by Equal = refl
     by Greater = refl
 
-pub entries_removed : (m : Entries) (key : Bytes) → finite.entries (finite.remove m key) ≡ without key (finite.entries m)
+pub entries_removed : (m : Entries) (key : Bytes)
+    → finite.entries (finite.remove m key) ≡ without key (finite.entries m)
 entries_removed m key =
-    same_entries (slice_cmp nat_cmp) nat_list_cmp_total same_key (finite.entries (finite.remove m key)) (without key (finite.entries m)) (finite.entries_sorted (finite.remove m key))
+    same_entries (slice_cmp nat_cmp) nat_list_cmp_total same_key (finite.entries (finite.remove m key))
+    (without key (finite.entries m)) (finite.entries_sorted (finite.remove m key))
     (is_sorted-where_key (slice_cmp nat_cmp) (stays key) (finite.entries m) (finite.entries_sorted m))
-    (λ q. sym (finite.get-entries (finite.remove m key) q) ∙ finite.get-remove nat_list_cmp_total m key q ∙ ap (λ w. cond (is_eq (cmp q key)) None w) (finite.get-entries m q)
+    (λ q. sym (finite.get-entries (finite.remove m key) q) ∙ finite.get-remove nat_list_cmp_total m key q ∙ ap
+    (λ w. cond (is_eq (cmp q key)) None w) (finite.get-entries m q)
     ∙ apart key q (find (slice_cmp nat_cmp) q (finite.entries m))
-    ∙ sym (find-where_key (slice_cmp nat_cmp) (stays key) q (λ x e. ap (stays key) (sym (same_key q x e))) (finite.entries m)))
+    ∙ sym (find-where_key (slice_cmp nat_cmp) (stays key) q (λ x e. ap (stays key) (sym (same_key q x e)))
+    (finite.entries m)))
 
-pub map_removed : (x y : Option Rows) (m : Entries) (key : Bytes) → option_and_then map_of_rows x ≡ Some m → y ≡ Some (without key (rows_or x)) → option_and_then map_of_rows y ≡ Some (finite.remove m key)
+pub map_removed : (x y : Option Rows) (m : Entries) (key : Bytes) → option_and_then map_of_rows x ≡ Some m
+    → y ≡ Some (without key (rows_or x)) → option_and_then map_of_rows y ≡ Some (finite.remove m key)
 map_removed x y m key h e =
-    map_from y (finite.remove m key) (e ∙ ap (λ w. Some (without key w)) (sym (map_is x m h).rows) ∙ ap (λ w. Some w) (sym (entries_removed m key)))
+    map_from y (finite.remove m key) (e ∙ ap (λ w. Some (without key w)) (sym (map_is x m h).rows) ∙ ap (λ w. Some w)
+    (sym (entries_removed m key)))
 
 -- a key that isn't there is removed in vain
 pub removed_same : (m : Entries) (key : Bytes) → finite.get m key ≡ None → finite.remove m key ≡ m
-removed_same m key h = finite.same_map nat_list_cmp_total same_key (finite.remove m key) m (λ q. finite.get-remove nat_list_cmp_total m key q ∙ by q (cmp q key) refl)
+removed_same m key h = finite.same_map nat_list_cmp_total same_key (finite.remove m key) m
+    (λ q. finite.get-remove nat_list_cmp_total m key q ∙ by q (cmp q key) refl)
   where
-    by : (q : Bytes) (o : Ordering) → cmp q key ≡ o → cond (is_eq (slice_cmp nat_cmp q key)) None (finite.get m q) ≡ finite.get m q
+    by : (q : Bytes) (o : Ordering) → cmp q key ≡ o
+        → cond (is_eq (slice_cmp nat_cmp q key)) None (finite.get m q) ≡ finite.get m q
     by q Equal e = ap (λ o. cond (is_eq o) None (finite.get m q)) e ∙ sym h ∙ ap (finite.get m) (sym (same_key q key e))
     by q Less e = ap (λ o. cond (is_eq o) None (finite.get m q)) e
     by q Greater e = ap (λ o. cond (is_eq o) None (finite.get m q)) e
 
 -- LISTS
 
-pub remove-at : {A : Type 0} (before : List A) (e : A) (behind : List A) (i : ℕ) → length before ≡ i → remove (before ++ e ∷ behind) i ≡ before ++ behind
+pub remove-at : {A : Type 0} (before : List A) (e : A) (behind : List A) (i : ℕ) → length before ≡ i
+    → remove (before ++ e ∷ behind) i ≡ before ++ behind
 remove-at [] e behind zero l = refl
 remove-at [] e behind (suc i) l = absurd (omega arith)
 remove-at (b ∷ before) e behind zero l = absurd (omega arith)
@@ -135,7 +153,8 @@ fresh-removed [] (suc i) = omega arith
 fresh-removed (k ∷ kids) zero = omega arith
 fresh-removed (k ∷ kids) (suc i) = let r = fresh-removed kids i in omega arith
 
-pub fresh-set : (kids : List Child) (i : ℕ) (c x : Child) → slice_get kids i ≡ Some c → kids_fresh (set kids i x) + child_fresh c ≡ kids_fresh kids + child_fresh x
+pub fresh-set : (kids : List Child) (i : ℕ) (c x : Child) → slice_get kids i ≡ Some c
+    → kids_fresh (set kids i x) + child_fresh c ≡ kids_fresh kids + child_fresh x
 fresh-set [] i c x h = absurd cc
 fresh-set (k ∷ kids) zero c x h = let e : child_fresh k ≡ child_fresh c = ap child_fresh (some_is h) in omega arith
 fresh-set (k ∷ kids) (suc i) c x h = let r = fresh-set kids i c x h in omega arith
@@ -147,7 +166,8 @@ pub record LeafLeft (keys values : List Bytes) (rows : Rows) : Type 0 where
   pub order : AreKeys keys
   pub same : length values ≡ length keys
 
-pub leaf_removed : (keys values nk ne : List Bytes) (i : ℕ) (key : Bytes) → AreKeys keys → length values ≡ length keys → IsFound key keys i → nk ≡ remove keys i → ne ≡ remove values i
+pub leaf_removed : (keys values nk ne : List Bytes) (i : ℕ) (key : Bytes) → AreKeys keys → length values ≡ length keys
+    → IsFound key keys i → nk ≡ remove keys i → ne ≡ remove values i
     → LeafLeft nk ne (without key (paired keys values))
 leaf_removed keys values nk ne i key o l f ek ee =
     let r = found_in key keys values i o.1 l f in
@@ -155,23 +175,32 @@ leaf_removed keys values nk ne i key o l f ek ee =
     let le = length-removed values i (omega (arith, f.0, l)) in
     let same : length ne ≡ length nk = omega (arith, lk, le, ap length ek, ap length ee, l) in
     let pairs : paired nk ne ≡ without key (paired keys values) =
-    ap (λ ks. paired ks ne) ek ∙ ap (paired (remove keys i)) ee ∙ paired-remove keys values i l ∙ ap (λ w. remove w i) r.whole
+    ap (λ ks. paired ks ne) ek ∙ ap (paired (remove keys i)) ee ∙ paired-remove keys values i l ∙ ap
+    (λ w. remove w i) r.whole
     ∙ remove-at r.front (key, r.value) r.back i r.at ∙ sym (without-found key (paired keys values) i r) in
-    let s : IsStrict (paired keys values) = strict (paired keys values) (rises_strict (paired keys values) (subst (λ w. T (rises w)) (sym (keys_of-paired keys values l)) o.1)) in
+    let s : IsStrict (paired keys values) = strict (paired keys values)
+    (rises_strict (paired keys values) (subst (λ w. T (rises w)) (sym (keys_of-paired keys values l)) o.1)) in
     let ks : keys_of (without key (paired keys values)) ≡ nk = ap keys_of (sym pairs) ∙ keys_of-paired nk ne same in
     record {
       rows_are = pairs;
-      order = (omega (arith, lk, ap length ek, o.0), subst (λ w. T (rises w)) ks (strict_rises (without key (paired keys values)) (without-strict key (paired keys values) s)));
+      order = (
+        omega (arith, lk, ap length ek, o.0),
+        subst (λ w. T (rises w)) ks (strict_rises (without key (paired keys values))
+            (without-strict key (paired keys values) s)),
+      );
       same = same;
     }
 
-pub leaf_kept : (keys values : List Bytes) (n : ℕ) (key : Bytes) → AreKeys keys → length values ≡ length keys → IsAbsent key keys n → paired keys values ≡ without key (paired keys values)
-leaf_kept keys values n key o l a = sym (without-absent key (paired keys values) n (absent_in key keys values n o.1 l a))
+pub leaf_kept : (keys values : List Bytes) (n : ℕ) (key : Bytes) → AreKeys keys → length values ≡ length keys
+    → IsAbsent key keys n → paired keys values ≡ without key (paired keys values)
+leaf_kept keys values n key o l a = sym (without-absent key (paired keys values) n
+    (absent_in key keys values n o.1 l a))
 
 -- FATES
 
 -- a child whose one row has the key shows none without it
-pub leaves_none : (key first : Bytes) (here : Rows) → begins_with first here ≡ true → IsFate key first here Leaves → without key here ≡ []
+pub leaves_none : (key first : Bytes) (here : Rows) → begins_with first here ≡ true → IsFate key first here Leaves
+    → without key here ≡ []
 leaves_none key first here s f =
     let b = begins first here s in
     let w : here ≡ (key, b.value) ∷ b.rest = b.whole ∙ ap (λ k. (k, b.value) ∷ b.rest) f.0 in
@@ -183,20 +212,24 @@ leaves_none key first here s f =
     none (r ∷ rest) e = absurd cc
 
 -- a child that stays begins with its first key then
-pub begins_without : (key first : Bytes) (here : Rows) (other : Option Bytes) → begins_with first here ≡ true → IsStrict here → IsFate key first here (Stays other)
+pub begins_without : (key first : Bytes) (here : Rows) (other : Option Bytes) → begins_with first here ≡ true
+    → IsStrict here → IsFate key first here (Stays other)
     → begins_with (first_key first other) (without key here) ≡ true
 begins_without key first here None s o f =
     let b = begins first here s in
-    subst (λ w. begins_with first (without key w) ≡ true) (sym b.whole) (by (cmp key first) refl b.value (without key b.rest))
+    subst (λ w. begins_with first (without key w) ≡ true) (sym b.whole)
+    (by (cmp key first) refl b.value (without key b.rest))
   where
     no : same_text first key ≡ false → first ≡ key → ⊥
-    no g e = let t : same_text first key ≡ true = subst (λ k. same_text first k ≡ true) e (same_text-itself first) in differ (same_text first key) g t
+    no g e = let t : same_text first key ≡ true = subst (λ k. same_text first k ≡ true) e (same_text-itself first) in
+        differ (same_text first key) g t
       where
         differ : (u : Bool) → u ≡ false → u ≡ true → ⊥
         differ true p q = cc
         differ false p q = cc
 
-    by : (o : Ordering) → cmp key first ≡ o → (v : Bytes) (rest : Rows) → begins_with first (cond (not (is_eq o)) ((first, v) ∷ rest) rest) ≡ true
+    by : (o : Ordering) → cmp key first ≡ o → (v : Bytes) (rest : Rows)
+        → begins_with first (cond (not (is_eq o)) ((first, v) ∷ rest) rest) ≡ true
     by Less e v rest = begins-with first v rest
     by Equal e v rest = absurd (no f (sym (same_key key first e)))
     by Greater e v rest = begins-with first v rest
@@ -204,12 +237,14 @@ begins_without key first here (Some next) s o f =
     let b = begins first here s in
     let w : here ≡ (key, b.value) ∷ b.rest = b.whole ∙ ap (λ k. (k, b.value) ∷ b.rest) f.0 in
     let u : IsStrict ((key, b.value) ∷ b.rest) = subst IsStrict w o in
-    let e : without key here ≡ b.rest = ap (without key) w ∙ without-at key b.value b.rest ∙ without-above key b.rest u.0 in
+    let e : without key here ≡ b.rest = ap
+    (without key) w ∙ without-at key b.value b.rest ∙ without-above key b.rest u.0 in
     subst (λ z. begins_with next z ≡ true) (sym e) (second b.rest (ap second_key (sym w) ∙ f.1))
   where
     second : (rest : Rows) → second_key ((key, key) ∷ rest) ≡ Some next → begins_with next rest ≡ true
     second [] e = absurd cc
-    second (r ∷ rest) e = let k : r.0 ≡ next = some_is e in subst (λ z. begins_with z (r ∷ rest) ≡ true) k (same_text-itself r.0)
+    second (r ∷ rest) e = let k : r.0 ≡ next = some_is e in
+        subst (λ z. begins_with z (r ∷ rest) ≡ true) k (same_text-itself r.0)
 
 pub begins_some : (k : Bytes) (rows : Rows) → begins_with k rows ≡ true → 0 < length rows
 begins_some k [] h = absurd cc
@@ -219,100 +254,141 @@ begins_some k (r ∷ rows) h = omega arith
 
 -- an inner chunk that shows these rows
 pub record Left (q : Contents) (depth : ℕ) (keys : List Bytes) (kids : List Child) (rows : Rows) : Type 0 where
-  pub node : AreKeys keys × ((0 < depth) × (0 < length keys) × (length kids ≡ length keys) × AllKids (depth - 1) (paired keys kids))
+  pub node : AreKeys keys × ((0 < depth) × (0 < length keys) × (length kids ≡ length keys)
+      × AllKids (depth - 1) (paired keys kids))
   pub shown_is : shown q (kids_pieces (depth - 1) (paired keys kids)) ≡ Some rows
 
-left_by : (q : Contents) (depth : ℕ) (keys : List Bytes) (kids : List Child) (es : Kids) (rows : Rows) → paired keys kids ≡ es → length kids ≡ length keys → 0 < depth → 0 < length keys → length keys ≤ 16
-    → AllKids (depth - 1) es → joined_rows (shows_of (kid_rows q (depth - 1)) es) ≡ Some rows → shown q (kids_pieces (depth - 1) es) ≡ Some rows → IsStrict rows → Left q depth keys kids rows
+left_by : (q : Contents) (depth : ℕ) (keys : List Bytes) (kids : List Child) (es : Kids) (rows : Rows)
+    → paired keys kids ≡ es → length kids ≡ length keys → 0 < depth → 0 < length keys → length keys ≤ 16
+    → AllKids (depth - 1) es → joined_rows (shows_of (kid_rows q (depth - 1)) es) ≡ Some rows
+    → shown q (kids_pieces (depth - 1) es) ≡ Some rows → IsStrict rows → Left q depth keys kids rows
 left_by q depth keys kids es rows e l d z m all j s o =
     let ks : keys_of es ≡ keys = ap keys_of (sym e) ∙ keys_of-paired keys kids l in
     record {
-      node = ((m, subst (λ w. T (rises w)) ks (rises_joined q (depth - 1) es rows j o)), (d, z, l, subst (AllKids (depth - 1)) (sym e) all));
+      node = (
+        (m, subst (λ w. T (rises w)) ks (rises_joined q (depth - 1) es rows j o)),
+        (d, z, l, subst (AllKids (depth - 1)) (sym e) all),
+      );
       shown_is = ap (λ w. shown q (kids_pieces (depth - 1) w)) e ∙ s;
     }
 
 -- the child that shows nothing more has left
-pub child_gone : (p q : Contents) (depth : ℕ) (keys nk : List Bytes) (kids ne : List Child) (pieces : List Piece) (key : Bytes) (i : ℕ) (child : Child) → IsPrefix p q → length kids ≡ length keys
-    → length keys ≤ 16 → 0 < depth → (d : Down p depth keys kids pieces key i child) → without key d.way.here ≡ [] → 1 < length keys → i < length keys → nk ≡ remove keys i → ne ≡ remove kids i
+pub child_gone : (p q : Contents) (depth : ℕ) (keys nk : List Bytes) (kids ne : List Child) (pieces : List Piece)
+    (key : Bytes) (i : ℕ) (child : Child) → IsPrefix p q → length kids ≡ length keys
+    → length keys ≤ 16 → 0 < depth → (d : Down p depth keys kids pieces key i child) → without key d.way.here ≡ []
+    → 1 < length keys → i < length keys → nk ≡ remove keys i → ne ≡ remove kids i
     → Left q depth nk ne (without key d.rows)
 child_gone p q depth keys nk kids ne pieces key i child pre l m z d nil two within ek ee =
-    let ch = changed p q depth keys kids pieces key i child (without key) [] pre d (without-local key) tt (ap (λ w. Some w) (sym nil)) in
+    let ch = changed p q depth keys kids pieces key i child (without key) [] pre d (without-local key) tt
+    (ap (λ w. Some w) (sym nil)) in
     let lk = length-removed keys i within in
     let le = length-removed kids i (omega (arith, within, l)) in
     let pairs : paired nk ne ≡ d.before ++ ([] ++ d.behind) =
-    ap (λ ks. paired ks ne) ek ∙ ap (paired (remove keys i)) ee ∙ paired-remove keys kids i l ∙ ap (λ w. remove w i) d.whole ∙ remove-at d.before (d.first, child) d.behind i d.at in
-    left_by q depth nk ne (d.before ++ ([] ++ d.behind)) (without key d.rows) pairs (omega (arith, lk, le, ap length ek, ap length ee, l)) z (omega (arith, lk, ap length ek, two)) (omega (arith, lk, ap length ek, m))
+    ap (λ ks. paired ks ne) ek ∙ ap (paired (remove keys i)) ee ∙ paired-remove keys kids i l ∙ ap
+    (λ w. remove w i) d.whole ∙ remove-at d.before (d.first, child) d.behind i d.at in
+    left_by q depth nk ne (d.before ++ ([] ++ d.behind)) (without key d.rows) pairs
+    (omega (arith, lk, le, ap length ek, ap length ee, l)) z (omega (arith, lk, ap length ek, two))
+    (omega (arith, lk, ap length ek, m))
     ch.all ch.joined_is ch.shown_is (without-strict key d.rows d.order)
 
 -- what is known of the child's fate, in terms of the way to it
-pub fate_here : (p : Contents) (depth : ℕ) (keys : List Bytes) (kids : List Child) (pieces : List Piece) (key : Bytes) (i : ℕ) (child : Child) (fate : Fate) → length kids ≡ length keys
-    → (d : Down p depth keys kids pieces key i child) → IsFate key (get_or keys i []) (rows_or (kid_shown p child)) fate → IsFate key d.first d.way.here fate
+pub fate_here : (p : Contents) (depth : ℕ) (keys : List Bytes) (kids : List Child) (pieces : List Piece) (key : Bytes)
+    (i : ℕ) (child : Child) (fate : Fate) → length kids ≡ length keys
+    → (d : Down p depth keys kids pieces key i child) → IsFate key (get_or keys i []) (rows_or (kid_shown p child)) fate
+    → IsFate key d.first d.way.here fate
 fate_here p depth keys kids pieces key i child fate l d f =
-    let first : get_or keys i [] ≡ d.first = ap (λ z. get_or z i []) (sym (keys_of-paired keys kids l)) ∙ ap (λ z. get_or (keys_of z) i []) d.whole ∙ key_at d.before (d.first, child) d.behind i d.at in
+    let first : get_or keys i [] ≡ d.first = ap (λ z. get_or z i []) (sym (keys_of-paired keys kids l)) ∙ ap
+    (λ z. get_or (keys_of z) i []) d.whole ∙ key_at d.before (d.first, child) d.behind i d.at in
     let here = kid_shown-at p (depth - 1) child d.way.here d.way.here_is in
     subst (λ w. IsFate key w d.way.here fate) first (subst (λ x. IsFate key (get_or keys i []) (rows_or x) fate) here f)
 
 -- the child stays, without the key's row
-pub child_stays : (p q : Contents) (depth : ℕ) (keys nk : List Bytes) (kids ne : List Child) (pieces : List Piece) (key : Bytes) (i : ℕ) (child : Child) (other : Option Bytes) → IsPrefix p q
-    → length kids ≡ length keys → length keys ≤ 16 → 0 < depth → (d : Down p depth keys kids pieces key i child) → IsFate key d.first d.way.here (Stays other) → 0 < length keys
-    → nk ≡ lowered i other keys → ChildChanged q (depth - 1) i kids ne child (Some (without key (rows_or (child_rows p (depth - 1) child)))) → Left q depth nk ne (without key d.rows)
+pub child_stays : (p q : Contents) (depth : ℕ) (keys nk : List Bytes) (kids ne : List Child) (pieces : List Piece)
+    (key : Bytes) (i : ℕ) (child : Child) (other : Option Bytes) → IsPrefix p q
+    → length kids ≡ length keys → length keys ≤ 16 → 0 < depth → (d : Down p depth keys kids pieces key i child)
+    → IsFate key d.first d.way.here (Stays other) → 0 < length keys
+    → nk ≡ lowered i other keys → ChildChanged q (depth - 1) i kids ne child
+    (Some (without key (rows_or (child_rows p (depth - 1) child)))) → Left q depth nk ne (without key d.rows)
 child_stays p q depth keys nk kids ne pieces key i child other pre l m z d f some ek c =
     let below = depth - 1 in
     let n = c.0 in
     let k = first_key d.first other in
-    let rows : shown q n.value.pieces ≡ Some (without key d.way.here) = c.3 ∙ ap (λ z. Some (without key (rows_or z))) d.way.here_is in
+    let rows : shown q n.value.pieces ≡ Some (without key d.way.here) = c.3 ∙ ap
+    (λ z. Some (without key (rows_or z))) d.way.here_is in
     let b = begins_without key d.first d.way.here other d.way.starts d.way.strict f in
     let one = one_child q below k n (without key d.way.here) c.2 rows b in
-    let ch = changed p q depth keys kids pieces key i child (without key) ((k, Own n) ∷ []) pre d (without-local key) one.0 one.1 in
+    let ch = changed p q depth keys kids pieces key i child (without key) ((k, Own n) ∷ []) pre d
+    (without-local key) one.0 one.1 in
     let pairs : paired nk ne ≡ d.before ++ (((k, Own n) ∷ []) ++ d.behind) =
-    ap (λ ks. paired ks ne) ek ∙ ap (paired (lowered i other keys)) c.1 ∙ lowered_pairs keys kids i other (Own n) child d.before d.first d.behind l d.whole d.at in
+    ap (λ ks. paired ks ne) ek ∙ ap (paired (lowered i other keys)) c.1 ∙ lowered_pairs keys kids i other
+    (Own n) child d.before d.first d.behind l d.whole d.at in
     let lk = length-lowered i other keys in
     let le = ap length c.1 ∙ length-set kids i (Own n) in
-    left_by q depth nk ne (d.before ++ (((k, Own n) ∷ []) ++ d.behind)) (without key d.rows) pairs (omega (arith, lk, le, ap length ek, l)) z (omega (arith, lk, ap length ek, some)) (omega (arith, lk, ap length ek, m))
+    left_by q depth nk ne (d.before ++ (((k, Own n) ∷ []) ++ d.behind)) (without key d.rows) pairs
+    (omega (arith, lk, le, ap length ek, l)) z (omega (arith, lk, ap length ek, some))
+    (omega (arith, lk, ap length ek, m))
     ch.all ch.joined_is ch.shown_is (without-strict key d.rows d.order)
 
 -- the child can be entered
-pub can_remove : (p : Contents) (depth : ℕ) (keys : List Bytes) (kids : List Child) (pieces : List Piece) (key : Bytes) (i : ℕ) (child : Child) (other : Option Bytes)
-    → (d : Down p depth keys kids pieces key i child) → slice_get kids i ≡ Some child → IsFate key d.first d.way.here (Stays other) → (c : Child) → slice_get kids i ≡ Some c → CanRemove p (depth - 1) key c
+pub can_remove : (p : Contents) (depth : ℕ) (keys : List Bytes) (kids : List Child) (pieces : List Piece) (key : Bytes)
+    (i : ℕ) (child : Child) (other : Option Bytes)
+    → (d : Down p depth keys kids pieces key i child) → slice_get kids i ≡ Some child
+    → IsFate key d.first d.way.here (Stays other) → (c : Child) → slice_get kids i ≡ Some c
+    → CanRemove p (depth - 1) key c
 can_remove p depth keys kids pieces key i child other d g f c h =
     let r = child_requires p depth keys kids kids pieces key i child d g refl c h in
     let b = begins_without key d.first d.way.here other d.way.starts d.way.strict f in
-    let some = subst (λ z. 0 < length (without key (rows_or z))) (sym d.way.here_is) (begins_some (first_key d.first other) (without key d.way.here) b) in
+    let some = subst (λ z. 0 < length (without key (rows_or z))) (sym d.way.here_is)
+    (begins_some (first_key d.first other) (without key d.way.here) b) in
     (r.0, r.1, subst (λ x. 0 < length (without key (rows_or (child_rows p (depth - 1) x)))) (some_is (sym g ∙ h)) some)
 
-joined_some : {A : Type 0} (g : Bytes × A → Option Rows) (es : List (Bytes × A)) (rs : Rows) → joined_rows (shows_of g es) ≡ Some rs → 0 < length rs → 0 < length es
+joined_some : {A : Type 0} (g : Bytes × A → Option Rows) (es : List (Bytes × A)) (rs : Rows)
+    → joined_rows (shows_of g es) ≡ Some rs → 0 < length rs → 0 < length es
 joined_some g [] rs h l = let e : [] ≡ rs = some_is h in absurd (omega (arith, ap length e))
 joined_some g (e ∷ es) rs h l = omega arith
 
 -- the rows without the key's, where the child shows nothing more
-rest_rows : (p : Contents) (depth : ℕ) (keys : List Bytes) (kids : List Child) (pieces : List Piece) (key : Bytes) (i : ℕ) (child : Child)
-    → (d : Down p depth keys kids pieces key i child) → without key d.way.here ≡ [] → without key d.rows ≡ d.way.front ++ d.way.back
+rest_rows : (p : Contents) (depth : ℕ) (keys : List Bytes) (kids : List Child) (pieces : List Piece) (key : Bytes)
+    (i : ℕ) (child : Child)
+    → (d : Down p depth keys kids pieces key i child) → without key d.way.here ≡ []
+    → without key d.rows ≡ d.way.front ++ d.way.back
 rest_rows p depth keys kids pieces key i child d nil =
-    ap (without key) d.way.whole ∙ without-local key d.way.front d.way.here d.way.back d.way.below d.way.above ∙ ap (λ w. d.way.front ++ (w ++ d.way.back)) nil
+    ap (without key) d.way.whole ∙ without-local key d.way.front d.way.here d.way.back d.way.below d.way.above ∙ ap
+    (λ w. d.way.front ++ (w ++ d.way.back)) nil
 
 -- other children show what stays
-pub others : (p : Contents) (depth : ℕ) (keys : List Bytes) (kids : List Child) (pieces : List Piece) (key : Bytes) (i : ℕ) (child : Child) → length kids ≡ length keys
-    → (d : Down p depth keys kids pieces key i child) → without key d.way.here ≡ [] → 0 < length (without key d.rows) → 1 < length keys
+pub others : (p : Contents) (depth : ℕ) (keys : List Bytes) (kids : List Child) (pieces : List Piece) (key : Bytes)
+    (i : ℕ) (child : Child) → length kids ≡ length keys
+    → (d : Down p depth keys kids pieces key i child) → without key d.way.here ≡ [] → 0 < length (without key d.rows)
+    → 1 < length keys
 others p depth keys kids pieces key i child l d nil z =
     let r = rest_rows p depth keys kids pieces key i child d nil in
     let n = length-append d.way.front d.way.back in
     let m = length-append d.before ((d.first, child) ∷ d.behind) in
-    by d.way.front d.way.back d.way.front_is d.way.back_is (omega (arith, ap length r, z, n)) (omega (arith, ap length d.whole, m, length-paired keys kids l))
+    by d.way.front d.way.back d.way.front_is d.way.back_is (omega (arith, ap length r, z, n))
+    (omega (arith, ap length d.whole, m, length-paired keys kids l))
   where
-    by : (front back : Rows) → joined_rows (shows_of (kid_rows p (depth - 1)) d.before) ≡ Some front → joined_rows (shows_of (kid_rows p (depth - 1)) d.behind) ≡ Some back
+    by : (front back : Rows) → joined_rows (shows_of (kid_rows p (depth - 1)) d.before) ≡ Some front
+        → joined_rows (shows_of (kid_rows p (depth - 1)) d.behind) ≡ Some back
         → 0 < length front + length back → length keys ≡ length d.before + (length d.behind + 1) → 1 < length keys
-    by (r ∷ front) back f b s e = let u = joined_some (kid_rows p (depth - 1)) d.before (r ∷ front) f (omega arith) in omega arith
+    by (r ∷ front) back f b s e = let u = joined_some (kid_rows p (depth - 1)) d.before (r ∷ front) f
+        (omega arith) in omega arith
     by [] back f b s e = let u = joined_some (kid_rows p (depth - 1)) d.behind back b (omega arith) in omega arith
 
 -- one child left shows what stays
-pub last_shown : (p : Contents) (depth : ℕ) (keys : List Bytes) (kids : List Child) (pieces : List Piece) (key : Bytes) (i : ℕ) (child : Child) → length kids ≡ length keys → length kids ≤ 2
-    → (d : Down p depth keys kids pieces key i child) → without key d.way.here ≡ [] → one_shown p (remove kids i) ≡ Some (without key d.rows)
+pub last_shown : (p : Contents) (depth : ℕ) (keys : List Bytes) (kids : List Child) (pieces : List Piece) (key : Bytes)
+    (i : ℕ) (child : Child) → length kids ≡ length keys → length kids ≤ 2
+    → (d : Down p depth keys kids pieces key i child) → without key d.way.here ≡ []
+    → one_shown p (remove kids i) ≡ Some (without key d.rows)
 last_shown p depth keys kids pieces key i child l few d nil =
     let r = rest_rows p depth keys kids pieces key i child d nil in
     let left : remove kids i ≡ kids_in (d.before ++ d.behind) =
-    sym (kids_in-paired (remove keys i) (remove kids i) (same keys kids i l)) ∙ ap kids_in (paired-remove keys kids i l ∙ ap (λ w. remove w i) d.whole ∙ remove-at d.before (d.first, child) d.behind i d.at) in
+    sym (kids_in-paired (remove keys i) (remove kids i) (same keys kids i l)) ∙ ap kids_in
+    (paired-remove keys kids i l ∙ ap (λ w. remove w i) d.whole ∙ remove-at d.before
+    (d.first, child) d.behind i d.at) in
     let m = length-append d.before ((d.first, child) ∷ d.behind) in
-    ap (one_shown p) left ∙ by d.before d.behind d.way.front d.way.back d.way.front_is d.way.back_is (omega (arith, ap length d.whole, m, length-paired keys kids l, l)) ∙ ap (λ w. Some w) (sym r)
+    ap (one_shown p) left ∙ by d.before d.behind d.way.front d.way.back d.way.front_is d.way.back_is
+    (omega (arith, ap length d.whole, m, length-paired keys kids l, l)) ∙ ap (λ w. Some w) (sym r)
   where
     kids_in : Kids → List Child
     kids_in [] = []
@@ -324,7 +400,8 @@ last_shown p depth keys kids pieces key i child l few d nil =
     kids_in-paired (k ∷ ks) [] h = absurd (omega arith)
     kids_in-paired (k ∷ ks) (x ∷ xs) h = ap (λ w. x ∷ w) (kids_in-paired ks xs (omega arith))
 
-    same : (ks : List Bytes) (xs : List Child) (i : ℕ) → length xs ≡ length ks → length (remove xs i) ≡ length (remove ks i)
+    same : (ks : List Bytes) (xs : List Child) (i : ℕ) → length xs ≡ length ks
+        → length (remove xs i) ≡ length (remove ks i)
     same [] [] zero h = refl
     same [] [] (suc i) h = refl
     same [] (x ∷ xs) i h = absurd (omega arith)
@@ -332,47 +409,61 @@ last_shown p depth keys kids pieces key i child l few d nil =
     same (k ∷ ks) (x ∷ xs) zero h = omega arith
     same (k ∷ ks) (x ∷ xs) (suc i) h = omega (arith, same ks xs i (omega arith))
 
-    alone : (e : Bytes × Child) (rs : Rows) → joined_rows (shows_of (kid_rows p (depth - 1)) (e ∷ [])) ≡ Some rs → kid_shown p e.1 ≡ Some rs
+    alone : (e : Bytes × Child) (rs : Rows) → joined_rows (shows_of (kid_rows p (depth - 1)) (e ∷ [])) ≡ Some rs
+        → kid_shown p e.1 ≡ Some rs
     alone e rs h =
         let s = split_of (e.0, child_rows p (depth - 1) e.1) [] rs h in
         let nil : s.back ≡ [] = sym (some_is s.back_is) in
-        kid_shown-at p (depth - 1) e.1 s.front s.front_is ∙ ap (λ w. Some w) (sym (s.whole ∙ ap (λ w. s.front ++ w) nil ∙ append-nil s.front))
+        kid_shown-at p (depth - 1) e.1 s.front s.front_is ∙ ap (λ w. Some w)
+        (sym (s.whole ∙ ap (λ w. s.front ++ w) nil ∙ append-nil s.front))
 
-    by : (before behind : Kids) (front back : Rows) → joined_rows (shows_of (kid_rows p (depth - 1)) before) ≡ Some front → joined_rows (shows_of (kid_rows p (depth - 1)) behind) ≡ Some back
+    by : (before behind : Kids) (front back : Rows)
+        → joined_rows (shows_of (kid_rows p (depth - 1)) before) ≡ Some front
+        → joined_rows (shows_of (kid_rows p (depth - 1)) behind) ≡ Some back
         → length before + length behind ≤ 1 → one_shown p (kids_in (before ++ behind)) ≡ Some (front ++ back)
     by [] [] front back f b n = ap (λ w. Some w) (ap (λ w. w ++ []) (some_is f) ∙ ap (λ w. front ++ w) (some_is b))
     by [] (e ∷ []) front back f b n = alone e back b ∙ ap (λ w. Some (w ++ back)) (some_is f)
-    by (e ∷ []) [] front back f b n = alone e front f ∙ ap (λ w. Some w) (sym (append-nil front)) ∙ ap (λ w. Some (front ++ w)) (some_is b)
+    by (e ∷ []) [] front back f b n = alone e front f ∙ ap (λ w. Some w) (sym (append-nil front)) ∙ ap
+        (λ w. Some (front ++ w)) (some_is b)
     by [] (e ∷ g ∷ es) front back f b n = absurd (omega arith)
     by (e ∷ g ∷ es) behind front back f b n = absurd (omega arith)
     by (e ∷ []) (g ∷ es) front back f b n = absurd (omega arith)
 
 -- INNER CHUNKS
 
-pub has_others : (p : Contents) (depth : ℕ) (keys : List Bytes) (kids : List Child) (pieces : List Piece) (key : Bytes) (i : ℕ) (child : Child) (fate : Fate) → length kids ≡ length keys
-    → (d : Down p depth keys kids pieces key i child) → IsFate key d.first d.way.here fate → 0 < length (without key (rows_or (shown p pieces))) → HasOthers fate (length keys)
+pub has_others : (p : Contents) (depth : ℕ) (keys : List Bytes) (kids : List Child) (pieces : List Piece) (key : Bytes)
+    (i : ℕ) (child : Child) (fate : Fate) → length kids ≡ length keys
+    → (d : Down p depth keys kids pieces key i child) → IsFate key d.first d.way.here fate
+    → 0 < length (without key (rows_or (shown p pieces))) → HasOthers fate (length keys)
 has_others p depth keys kids pieces key i child Leaves l d f z =
-    others p depth keys kids pieces key i child l d (leaves_none key d.first d.way.here d.way.starts f) (subst (λ x. 0 < length (without key (rows_or x))) d.rows_is z)
+    others p depth keys kids pieces key i child l d (leaves_none key d.first d.way.here d.way.starts f)
+    (subst (λ x. 0 < length (without key (rows_or x))) d.rows_is z)
 has_others p depth keys kids pieces key i child (Stays other) l d f z = tt
 
 -- what an inner chunk shows once more is placed
-pub shown_later : (old new : Contents) (depth : ℕ) (keys : List Bytes) (body : Body) (kids : _) (pieces : List Piece) → IsPrefix old new → body_pieces depth keys body ≡ pieces → body ≡ Inner kids
+pub shown_later : (old new : Contents) (depth : ℕ) (keys : List Bytes) (body : Body) (kids : _) (pieces : List Piece)
+    → IsPrefix old new → body_pieces depth keys body ≡ pieces → body ≡ Inner kids
     → IsTree (shown old pieces) → shown new (body_pieces depth keys (Inner kids)) ≡ shown old pieces
 shown_later old new depth keys body kids pieces pre v e o =
     let n = known (shown old pieces) o in
     ap (shown new) (ap (body_pieces depth keys) (sym e) ∙ v) ∙ shown-kept old new pieces n.rows pre n.is ∙ sym n.is
 
 -- the fate of the child, once more is placed
-pub fate_later : (old new : Contents) (depth : ℕ) (keys slice : List Bytes) (kids : List Child) (pieces : List Piece) (key first : Bytes) (i : ℕ) (child : Child) (fate : Fate) → IsPrefix old new
-    → length kids ≡ length keys → slice ≡ keys → i < length slice → (d : Down old depth keys kids pieces key i child) → child ≡ get_or kids i child → first ≡ get_or slice i first
-    → IsFate key first (rows_or (kid_shown old child)) fate → (c : Child) → slice_get kids i ≡ Some c → IsFate key (get_or keys i []) (rows_or (kid_shown new c)) fate
+pub fate_later : (old new : Contents) (depth : ℕ) (keys slice : List Bytes) (kids : List Child) (pieces : List Piece)
+    (key first : Bytes) (i : ℕ) (child : Child) (fate : Fate) → IsPrefix old new
+    → length kids ≡ length keys → slice ≡ keys → i < length slice → (d : Down old depth keys kids pieces key i child)
+    → child ≡ get_or kids i child → first ≡ get_or slice i first
+    → IsFate key first (rows_or (kid_shown old child)) fate → (c : Child) → slice_get kids i ≡ Some c
+    → IsFate key (get_or keys i []) (rows_or (kid_shown new c)) fate
 fate_later old new depth keys slice kids pieces key first i child fate pre l s w d g e f c h =
     let here = kid_shown-at old (depth - 1) child d.way.here d.way.here_is in
     let there = kid_shown-kept old new child d.way.here pre here in
     let at : first ≡ get_or keys i [] = e ∙ got_any slice i first [] w ∙ ap (λ z. get_or z i []) s in
-    let same : child ≡ c = some_is (sym (child_at kids i (length kids) child refl (omega (arith, w, ap length s, l)) g) ∙ h) in
+    let same : child ≡ c = some_is (sym (child_at kids i (length kids) child refl
+    (omega (arith, w, ap length s, l)) g) ∙ h) in
     subst (λ x. IsFate key (get_or keys i []) (rows_or (kid_shown new x)) fate) same
-    (subst (λ x. IsFate key (get_or keys i []) (rows_or x) fate) (here ∙ sym there) (subst (λ k. IsFate key k (rows_or (kid_shown old child)) fate) at f))
+    (subst (λ x. IsFate key (get_or keys i []) (rows_or x) fate) (here ∙ sym there)
+    (subst (λ k. IsFate key k (rows_or (kid_shown old child)) fate) at f))
 
 -- fewer than two children stay
 pub gives_way-is : (fate : Fate) (n : ℕ) → gives_way fate n ≡ true → (fate ≡ Leaves) × (n ≤ 2)

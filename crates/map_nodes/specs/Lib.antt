@@ -1,4 +1,5 @@
--- What a reader of the public clauses believes, in order of reading: what the pieces of a draft's chunk are and what holds
+-- What a reader of the public clauses believes, in order of reading: what the pieces of a draft's chunk are and what
+-- holds
 -- of it, and what a root is once a key is removed.
 pub mod Nodes
 pub mod Removing

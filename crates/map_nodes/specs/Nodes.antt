@@ -43,7 +43,8 @@ AllKids below (e ∷ es) = IsChild below e.0 e.1 × AllKids below es
 
 abbrev pub IsBody : ℕ → List Bytes → Body → Type 0
 IsBody depth keys (Leaf values) = (depth ≡ 1) × (length values.items ≡ length keys)
-IsBody depth keys (Inner kids) = (0 < depth) × (0 < length keys) × (length kids.items ≡ length keys) × AllKids (depth - 1) (paired keys kids.items)
+IsBody depth keys (Inner kids) = (0 < depth) × (0 < length keys) × (length kids.items ≡ length keys)
+    × AllKids (depth - 1) (paired keys kids.items)
 
 -- at most 16 keys in strict order, each with a value or a child; each child is one level below, under its first key
 abbrev pub IsNode : ℕ → List Bytes → Body → Type 0

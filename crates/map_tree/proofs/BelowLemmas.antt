@@ -1,5 +1,6 @@
 -- What spells something has a stamp among those of the contents; so has what a tree names that spells a map.
-use Rattle.std.proofs.Common.{◌≡◌, ◌<◌, ◌≤◌, ◌+◌, ℕ, inl, inr, List, [], ◌∷◌, map, length, Option, Some, None, IsSome, refl, sym, subst, arith}
+use Rattle.std.proofs.Common.{◌≡◌, ◌<◌, ◌≤◌, ◌+◌, ℕ, inl, inr, List, [], ◌∷◌, map, length, Option, Some, None, IsSome}
+use Rattle.std.proofs.Common.{refl, sym, subst, arith}
 use Rattle.std.proofs.lemmas.List.{length-append, length-map}
 use Rattle.std.proofs.lemmas.List.Elements.{Contains-append_cases}
 use Rattle.group_history.specs.declared.nodes.Node.{Node}
@@ -9,7 +10,9 @@ use Rattle.group_history.specs.Map.{Bytes, Entries}
 use Rattle.group_history.specs.Naming.{content_of}
 use Rattle.group_history.specs.Refs.{stamp_of}
 use Rattle.group_history.specs.Rows.{Rows}
-use Rattle.group_history.specs.Spelling.{Contents, Spelled, Segment, Version, as_segment, as_version, spelled, spelled_by, segment_at, version_at, rows_at, rows_if, map_at, map_of, joined_one}
+use Rattle.group_history.specs.Spelling.{Contents, Spelled, Segment, Version, as_segment, as_version, spelled}
+use Rattle.group_history.specs.Spelling.{spelled_by, segment_at, version_at, rows_at, rows_if, map_at, map_of}
+use Rattle.group_history.specs.Spelling.{joined_one}
 use Rattle.group_history.proofs.Folding.{and_then-some, answer_within, length_folded}
 use Rattle.group_history.proofs.Lists.{only_one}
 use Rattle.map_chunks.specs.Drafts.{Drafted, AreBelow}
@@ -36,20 +39,25 @@ pub map-within : (ns : Contents) (k : ℕ) (m : Entries) → map_at ns k ≡ Som
 map-within ns k m h = let s = and_then-some (segment_at ns k) map_of m h in segment-within ns k s.0 s.1
 
 rows-within : (ns : Contents) (depth k : ℕ) (rows : Rows) → rows_at ns depth k ≡ Some rows → k < length ns
-rows-within ns depth k rows h = let s = and_then-some (segment_at ns k) (rows_if depth) rows h in segment-within ns k s.0 s.1
+rows-within ns depth k rows h = let s = and_then-some (segment_at ns k) (rows_if depth) rows h in
+    segment-within ns k s.0 s.1
 
 -- TREES THAT SPELL
 
-joined-first : (k : Bytes) (x y : Option Rows) (rows : Rows) → joined_one k x y ≡ Some rows → (front : Rows) × (back : Rows) × (x ≡ Some front) × (y ≡ Some back)
+joined-first : (k : Bytes) (x y : Option Rows) (rows : Rows) → joined_one k x y ≡ Some rows
+    → (front : Rows) × (back : Rows) × (x ≡ Some front) × (y ≡ Some back)
 joined-first k None y rows h = absurd cc
 joined-first k (Some rs) None rows h = absurd cc
 joined-first k (Some rs) (Some more) rows h = (rs, more, refl, refl)
 
-part-below : (ns : Contents) (key : Bytes) (p : Part) (rows : Rows) → part_rows ns key p ≡ Some rows → AreBelow (length ns) (part_places p)
+part-below : (ns : Contents) (key : Bytes) (p : Part) (rows : Rows) → part_rows ns key p ≡ Some rows
+    → AreBelow (length ns) (part_places p)
 part-below ns key (value v) rows h r i = below-none (length ns) r i
-part-below ns key (chunk depth at) rows h r i = subst (λ w. stamp_of w < length ns) (only_one at r i) (rows-within ns depth (stamp_of at) rows h)
+part-below ns key (chunk depth at) rows h r i = subst (λ w. stamp_of w < length ns) (only_one at r i)
+    (rows-within ns depth (stamp_of at) rows h)
 
-pieces-below : (ns : Contents) (ps : List Piece) (rows : Rows) → shown ns ps ≡ Some rows → AreBelow (length ns) (places_of ps)
+pieces-below : (ns : Contents) (ps : List Piece) (rows : Rows) → shown ns ps ≡ Some rows
+    → AreBelow (length ns) (places_of ps)
 pieces-below ns [] rows h at i = below-none (length ns) at i
 pieces-below ns (p ∷ ps) rows h at i =
     let j = joined-first p.0 (part_rows ns p.0 p.1) (shown ns ps) rows h in
@@ -59,25 +67,33 @@ pieces-below ns (p ∷ ps) rows h at i =
     ]
 
 root-below : (ns : Contents) (r : Root) (m : Entries) → root_map ns r ≡ Some m → AreBelow (length ns) (root_places r)
-root-below ns (Placed at) m h r i = subst (λ w. stamp_of w < length ns) (only_one at r i) (map-within ns (stamp_of at) m h)
-root-below ns (Own n) m h r i = let rows = and_then-some (shown ns n.pieces) map_of_rows m h in pieces-below ns n.pieces rows.0 rows.1 r i
+root-below ns (Placed at) m h r i = subst (λ w. stamp_of w < length ns) (only_one at r i)
+    (map-within ns (stamp_of at) m h)
+root-below ns (Own n) m h r i = let rows = and_then-some (shown ns n.pieces) map_of_rows m h in
+    pieces-below ns n.pieces rows.0 rows.1 r i
 
-pub tree-below : (ns : Contents) (t : Tree) (m : Entries) → tree_map ns t ≡ Some m → AreBelow (length ns) (tree_places t)
+pub tree-below : (ns : Contents) (t : Tree) (m : Entries) → tree_map ns t ≡ Some m
+    → AreBelow (length ns) (tree_places t)
 tree-below ns t m h = root-below ns t.root m h
 
 -- so it may be written down behind them
 pub length-with : (ns : Contents) (nodes : List (Node Ref)) → length (with_nodes ns nodes) ≡ length ns + length nodes
 length-with ns nodes = omega (arith, length-append ns (map content_of nodes), length-map nodes content_of)
 
-pub tree-behind : (ns : Contents) (d : Drafted) (t : Tree) (m : Entries) → length ns ≡ d.first → tree_map (with_nodes ns d.nodes) t ≡ Some m → AreBelow (d.first + length d.nodes) (tree_places t)
-tree-behind ns d t m l h = below-more (length (with_nodes ns d.nodes)) (d.first + length d.nodes) (tree_places t) (omega (arith, length-with ns d.nodes, l)) (tree-below (with_nodes ns d.nodes) t m h)
+pub tree-behind : (ns : Contents) (d : Drafted) (t : Tree) (m : Entries) → length ns ≡ d.first
+    → tree_map (with_nodes ns d.nodes) t ≡ Some m → AreBelow (d.first + length d.nodes) (tree_places t)
+tree-behind ns d t m l h = below-more (length (with_nodes ns d.nodes)) (d.first + length d.nodes) (tree_places t)
+    (omega (arith, length-with ns d.nodes, l)) (tree-below (with_nodes ns d.nodes) t m h)
 
-is-below : (n : ℕ) (ns : Contents) (t : Tree) (o : Option Entries) → tree_map ns t ≡ o → length ns ≤ n → IsSome o → AreBelow n (tree_places t)
+is-below : (n : ℕ) (ns : Contents) (t : Tree) (o : Option Entries) → tree_map ns t ≡ o → length ns ≤ n → IsSome o
+    → AreBelow n (tree_places t)
 is-below n ns t None e le h = absurd (cc h)
 is-below n ns t (Some m) e le h = below-more (length ns) n (tree_places t) le (tree-below ns t m e)
 
 -- a draft with no nodes yet, behind those of a vector
-pub tree-ready : (nodes : List (Node Ref)) (d : Drafted) (t : Tree) → d ≡ record { first = length nodes; nodes = [] } → IsSome (tree_map (map content_of nodes) t) → AreBelow (d.first + length d.nodes) (tree_places t)
+pub tree-ready : (nodes : List (Node Ref)) (d : Drafted) (t : Tree) → d ≡ record { first = length nodes; nodes = [] }
+    → IsSome (tree_map (map content_of nodes) t) → AreBelow (d.first + length d.nodes) (tree_places t)
 tree-ready nodes d t e h =
     subst (λ (x : Drafted). AreBelow (x.first + length x.nodes) (tree_places t)) (sym e)
-    (is-below (length nodes + 0) (map content_of nodes) t (tree_map (map content_of nodes) t) refl (omega (arith, length-map nodes content_of)) h)
+    (is-below (length nodes + 0) (map content_of nodes) t (tree_map (map content_of nodes) t) refl
+    (omega (arith, length-map nodes content_of)) h)

@@ -20,21 +20,25 @@ use Rattle.map_chunks.proofs.TreeLemmas.{map_at-rows}
 use Rattle.map_nodes.proofs.WideLemmas.{wide_grown}
 
 -- what stands at a stamp that spells a chunk is there for good
-pub wide_at-kept : (old new : Contents) (k : ℕ) (s : Segment) → IsPrefix old new → segment_at old k ≡ Some s → IsWideAt old k → IsWideAt new k
+pub wide_at-kept : (old new : Contents) (k : ℕ) (s : Segment) → IsPrefix old new → segment_at old k ≡ Some s
+    → IsWideAt old k → IsWideAt new k
 wide_at-kept old new k s p h w =
     let c = segment-content old k s h in wide_grown old new k (node.Chunk c.0) p c.2 w
 
 -- a root of a draft, or the placed one to which it gives way
-pub removed_map : (q : Contents) (n : Seen) (end : Option Ref) (x : Option Rows) (m : Entries) (key : Bytes) → option_and_then map_of_rows x ≡ Some m
+pub removed_map : (q : Contents) (n : Seen) (end : Option Ref) (x : Option Rows) (m : Entries) (key : Bytes)
+    → option_and_then map_of_rows x ≡ Some m
     → root_rows q n end ≡ Some (without key (rows_or x)) → root_map q (root_or end (Own n)) ≡ Some (finite.remove m key)
 removed_map q n None x m key h e = map_removed x (shown q n.pieces) m key h e
-removed_map q n (Some at) x m key h e = map_at-rows q (stamp_of at) ∙ map_removed x (chunk_rows q (stamp_of at)) m key h e
+removed_map q n (Some at) x m key h e = map_at-rows q (stamp_of at) ∙ map_removed x
+    (chunk_rows q (stamp_of at)) m key h e
 
 pub removed_wide : (q : Contents) (n : Seen) (end : Option Ref) → IsWideRoot q n end → IsWide q (root_or end (Own n))
 removed_wide q n None w = w
 removed_wide q n (Some at) w = w
 
-pub removed_depth : (q : Contents) (d : ℕ) (n : Seen) (end : Option Ref) → IsLowRoot q d n end → (e : ℕ) × (root_depth q (root_or end (Own n)) ≡ Some e) × (e ≤ d)
+pub removed_depth : (q : Contents) (d : ℕ) (n : Seen) (end : Option Ref) → IsLowRoot q d n end
+    → (e : ℕ) × (root_depth q (root_or end (Own n)) ≡ Some e) × (e ≤ d)
 removed_depth q d n None h = (n.depth, refl, h)
 removed_depth q d n (Some at) h = h
 

@@ -23,29 +23,37 @@ pub own_depth : (p : Contents) (r : Root) (n : Seen) (d : ℕ) → r ≡ Own n �
 own_depth p r n d e h = some_is (ap (root_depth p) (sym e) ∙ h)
 
 -- a placed root is as deep as its segment
-pub placed_depth : (old new : Contents) (r : Root) (at : Ref) (d : ℕ) (s : Segment) → r ≡ Placed at → IsPrefix old new → root_depth old r ≡ Some d → segment_at new (stamp_of at) ≡ Some s → s.depth ≡ d
+pub placed_depth : (old new : Contents) (r : Root) (at : Ref) (d : ℕ) (s : Segment) → r ≡ Placed at → IsPrefix old new
+    → root_depth old r ≡ Some d → segment_at new (stamp_of at) ≡ Some s → s.depth ≡ d
 placed_depth old new r at d s e p h g = by (segment_at old (stamp_of at)) refl (ap (root_depth old) (sym e) ∙ h)
   where
-    by : (o : Option Segment) → segment_at old (stamp_of at) ≡ o → option_map (λ (t : Segment). t.depth) o ≡ Some d → s.depth ≡ d
+    by : (o : Option Segment) → segment_at old (stamp_of at) ≡ o
+        → option_map (λ (t : Segment). t.depth) o ≡ Some d → s.depth ≡ d
     by None q h = absurd cc
-    by (Some t) q h = ap (λ (t : Segment). t.depth) (some_is (sym g ∙ segment-kept old new (stamp_of at) t p q)) ∙ some_is h
+    by (Some t) q h = ap (λ (t : Segment). t.depth)
+        (some_is (sym g ∙ segment-kept old new (stamp_of at) t p q)) ∙ some_is h
 
 -- the rows of a placed map that is so deep
-pub placed_rows : (p : Contents) (at : Ref) (m : Entries) (d : ℕ) → map_at p (stamp_of at) ≡ Some m → chunk_depth p (stamp_of at) ≡ Some d → rows_at p d (stamp_of at) ≡ Some (finite.entries m)
+pub placed_rows : (p : Contents) (at : Ref) (m : Entries) (d : ℕ) → map_at p (stamp_of at) ≡ Some m
+    → chunk_depth p (stamp_of at) ≡ Some d → rows_at p d (stamp_of at) ≡ Some (finite.entries m)
 placed_rows p at m d h e =
     let sp = placed_map p (stamp_of at) m h in
     let n = placed_depth p p (Placed at) at d sp.segment refl ([], append-nil p) e sp.is in
-    ap (λ k. rows_at p k (stamp_of at)) (sym n) ∙ rows_at-segment p (stamp_of at) sp.segment sp.is ∙ ap (λ w. Some w) sp.rows
+    ap (λ k. rows_at p k (stamp_of at)) (sym n) ∙ rows_at-segment p (stamp_of at) sp.segment sp.is ∙ ap
+    (λ w. Some w) sp.rows
 
-pub root_depth_kept : (old new : Contents) (r : Root) (d : ℕ) → IsPrefix old new → root_depth old r ≡ Some d → root_depth new r ≡ Some d
+pub root_depth_kept : (old new : Contents) (r : Root) (d : ℕ) → IsPrefix old new → root_depth old r ≡ Some d
+    → root_depth new r ≡ Some d
 root_depth_kept old new (Own n) d p h = h
 root_depth_kept old new (Placed at) d p h = by (segment_at old (stamp_of at)) refl h
   where
-    by : (o : Option Segment) → segment_at old (stamp_of at) ≡ o → option_map (λ (t : Segment). t.depth) o ≡ Some d → root_depth new (Placed at) ≡ Some d
+    by : (o : Option Segment) → segment_at old (stamp_of at) ≡ o → option_map (λ (t : Segment). t.depth) o ≡ Some d
+        → root_depth new (Placed at) ≡ Some d
     by None q h = absurd cc
     by (Some t) q h = ap (option_map (λ (t : Segment). t.depth)) (segment-kept old new (stamp_of at) t p q) ∙ h
 
-pub wide_root_grown : (old new : Contents) (r : Root) (m : Entries) → IsPrefix old new → root_map old r ≡ Some m → IsWide old r → IsWide new r
+pub wide_root_grown : (old new : Contents) (r : Root) (m : Entries) → IsPrefix old new → root_map old r ≡ Some m
+    → IsWide old r → IsWide new r
 wide_root_grown old new (Own n) m p h w = w
 wide_root_grown old new (Placed at) m p h w =
     let s = placed_map old (stamp_of at) m h in

@@ -70,7 +70,8 @@ impl Tree {
         requires places { AreAll (C.places chunks.old) (tree_places self.now) }
         requires map { IsSome (tree_map (C.contents chunks.old) self.now) }
         ensures grown { Grows C.contents C.places chunks.old chunks.new }
-        ensures value { (m : Entries) → tree_map (C.contents chunks.old) self.now ≡ Some m → IfOk result (λ v. v ≡ finite.get m key.now) }
+        ensures value { (m : Entries) → tree_map (C.contents chunks.old) self.now ≡ Some m
+            → IfOk result (λ v. v ≡ finite.get m key.now) }
         ensures stopped { IfErr result (λ s. (s ≡ NoMemory) ⊎ C.stops s) }
     {
         match &self.root {
@@ -84,7 +85,8 @@ impl Tree {
         requires places { AreAll (C.places chunks.old) (tree_places self.now) }
         requires map { IsSome (tree_map (C.contents chunks.old) self.now) }
         ensures grown { Grows C.contents C.places chunks.old chunks.new }
-        ensures value { (m : Entries) → tree_map (C.contents chunks.old) self.now ≡ Some m → IfOk result (λ v. v ≡ finite.contains_key m key.now) }
+        ensures value { (m : Entries) → tree_map (C.contents chunks.old) self.now ≡ Some m
+            → IfOk result (λ v. v ≡ finite.contains_key m key.now) }
         ensures stopped { IfErr result C.stops }
     {
         let sought = self.sought(chunks, key, None)?;
@@ -101,7 +103,8 @@ impl Tree {
         requires places { AreAll (C.places chunks.old) (tree_places self.now) }
         requires map { IsSome (tree_map (C.contents chunks.old) self.now) }
         ensures grown { Grows C.contents C.places chunks.old chunks.new }
-        ensures standing { (m : Entries) → tree_map (C.contents chunks.old) self.now ≡ Some m → IfOk result (λ s. s.standing ≡ standing (finite.get m key.now) (option_copied asked.entry)) }
+        ensures standing { (m : Entries) → tree_map (C.contents chunks.old) self.now ≡ Some m
+            → IfOk result (λ s. s.standing ≡ standing (finite.get m key.now) (option_copied asked.entry)) }
         ensures depth { IfOk result (λ s. tree_depth (C.contents chunks.old) self.now ≡ Some s.depth) }
         ensures stopped { IfErr result C.stops }
     {

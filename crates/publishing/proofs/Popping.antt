@@ -18,24 +18,29 @@ without_absent x (y ∷ ys) absent = elim (eqb_tells x y) [
 ]
 
 -- what is taken is the last slot and those before it
-last_first : (taken slots rest : List ℕ) (x : ℕ) → taken ≡ reverse slots → slots ≡ rest ++ x ∷ [] → taken ≡ x ∷ reverse rest
+last_first : (taken slots rest : List ℕ) (x : ℕ) → taken ≡ reverse slots → slots ≡ rest ++ x ∷ []
+    → taken ≡ x ∷ reverse rest
 last_first taken slots rest x is split = is ∙ (ap reverse split ∙ reverse-append rest (x ∷ []))
 
 without_first : (x : ℕ) (xs : List ℕ) → AreOnce (x ∷ xs) → without x (x ∷ xs) ≡ xs
-without_first x xs once = cond-true (x == x) (without x xs) (x ∷ without x xs) (eq-eqb x x refl) ∙ without_absent x xs once.0
+without_first x xs once = cond-true (x == x) (without x xs) (x ∷ without x xs)
+    (eq-eqb x x refl) ∙ without_absent x xs once.0
 
 -- when the last slot is taken no more, the others are
-popped : (v u : View) (slots rest : List ℕ) (x : ℕ) → slots ≡ rest ++ x ∷ [] → HasTaken v slots → u.taken ≡ without x v.taken → HasTaken u rest
+popped : (v u : View) (slots rest : List ℕ) (x : ℕ) → slots ≡ rest ++ x ∷ [] → HasTaken v slots
+    → u.taken ≡ without x v.taken → HasTaken u rest
 popped v u slots rest x split has is =
     let top = last_first v.taken slots rest x has.0 split in
     let once = subst AreOnce top has.1 in
     let left : u.taken ≡ reverse rest = is ∙ (ap (without x) top ∙ without_first x (reverse rest) once) in
     (left, subst AreOnce (sym left) once.1)
 
-pub withdrawn : (v u : View) (slots rest : List ℕ) (x : ℕ) → slots ≡ rest ++ x ∷ [] → HasTaken v slots → u ≡ with_withdrawn v x → HasTaken u rest
+pub withdrawn : (v u : View) (slots rest : List ℕ) (x : ℕ) → slots ≡ rest ++ x ∷ [] → HasTaken v slots
+    → u ≡ with_withdrawn v x → HasTaken u rest
 withdrawn v u slots rest x split has is = popped v u slots rest x split has (ap (λ (w : View). w.taken) is)
 
-pub settled : (v u : View) (slots rest : List ℕ) (x : ℕ) → slots ≡ rest ++ x ∷ [] → HasTaken v slots → u ≡ with_settled v x → HasTaken u rest
+pub settled : (v u : View) (slots rest : List ℕ) (x : ℕ) → slots ≡ rest ++ x ∷ [] → HasTaken v slots
+    → u ≡ with_settled v x → HasTaken u rest
 settled v u slots rest x split has is = popped v u slots rest x split has (ap (λ (w : View). w.taken) is)
 
 -- the last slot is one of them

@@ -6,7 +6,8 @@ pub if_ok_then : {A E : Type 0} {P Q : A → Type 0} (r : Result A E) → IfOk r
 if_ok_then (Ok a) p f = f a p
 if_ok_then (Err e) p f = tt
 
-pub if_ok_both : {A E : Type 0} {P Q R : A → Type 0} (r : Result A E) → IfOk r P → IfOk r Q → ((a : A) → P a → Q a → R a) → IfOk r R
+pub if_ok_both : {A E : Type 0} {P Q R : A → Type 0} (r : Result A E) → IfOk r P → IfOk r Q
+    → ((a : A) → P a → Q a → R a) → IfOk r R
 if_ok_both (Ok a) p q f = f a p q
 if_ok_both (Err e) p q f = tt
 

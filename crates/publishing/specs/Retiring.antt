@@ -1,4 +1,5 @@
--- What becomes of slots that were settled in vain, or that the head reaches no more. In each v is what the seat knew before, and u what it knows after it.
+-- What becomes of slots that were settled in vain, or that the head reaches no more. In each v is what the seat knew
+-- before, and u what it knows after it.
 use Rattle.std.specs.Prelude.{◌≡◌, ℕ, ◌<◌, ◌≤◌, ◌⊎◌, List, [], ◌∷◌, ◌++◌, map, reverse}
 use Rattle.group_history.specs.declared.refs.Ref.{Ref}
 use Rattle.group_history.specs.Refs.{slot_of}
@@ -8,7 +9,8 @@ use Rattle.chunk_slots.specs.Seats.{IsAtEnd, IsRaised}
 use Rattle.answered.specs.declared.trying.Published.{Published}
 use Rattle.answered.specs.declared.trying.Published.TheVariants as published
 
--- the slot of the reference was retired at r, or found not live; nothing was done where the table, which has so many slots, does not have it
+-- the slot of the reference was retired at r, or found not live; nothing was done where the table, which has so many
+-- slots, does not have it
 abbrev pub LetsGo : ℕ → ℕ → View → Ref → View → Type 0
 LetsGo slots r v at u = (slot_of at < slots → IsRetired v u (slot_of at) r) × (slots ≤ slot_of at → u ≡ v)
 
@@ -17,10 +19,12 @@ abbrev pub LetsAllGo : ℕ → ℕ → View → List Ref → View → Type 0
 LetsAllGo slots r v [] u = u ≡ v
 LetsAllGo slots r v (at ∷ ats) u = (w : View) × LetsGo slots r v at w × LetsAllGo slots r w ats u
 
--- The epoch was raised from the number that was loaded, and then the slots of these references were let go at the next number; at the last epoch none was. Where there are none, nothing was done
+-- The epoch was raised from the number that was loaded, and then the slots of these references were let go at the next
+-- number; at the last epoch none was. Where there are none, nothing was done
 abbrev pub Retires : ℕ → View → List Ref → View → Type 0
 Retires slots v [] u = u ≡ v
-Retires slots v (at ∷ ats) u = (w : View) × Raises v w × ((IsAtEnd w × (u ≡ w)) ⊎ ((r : ℕ) × IsRaised v w r × LetsAllGo slots r w (at ∷ ats) u))
+Retires slots v (at ∷ ats) u = (w : View) × Raises v w
+    × ((IsAtEnd w × (u ≡ w)) ⊎ ((r : ℕ) × IsRaised v w r × LetsAllGo slots r w (at ∷ ats) u))
 
 -- no slot was settled, and none retired
 abbrev pub SettlesNone : View → View → Type 0

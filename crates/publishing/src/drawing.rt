@@ -30,7 +30,8 @@ pub(crate) fn draw<M: Means>(
     ensures number { mark.new.seat ≡ mark.old.seat }
     ensures seen { IsPrefix mark.old.log mark.new.log }
     ensures own { own_moves mark.new ≡ own_moves mark.old }
-    ensures drawn { IfOk result (λ first. (log : List Entry) × IsPrefix mark.old.log log × (next_stamp log ≡ first) × (mark.new.log ≡ log ++ drafted mark.old.seat first (drafted_from from nodes.now) ∷ [])) }
+    ensures drawn { IfOk result (λ first. (log : List Entry) × IsPrefix mark.old.log log × (next_stamp log ≡ first)
+        × (mark.new.log ≡ log ++ drafted mark.old.seat first (drafted_from from nodes.now) ∷ [])) }
     ensures room { IfOk result (λ first. first + length nodes.now < stamps) }
     ensures moved { IfErr result (λ e. e ≡ refusal.Moved → others mark.old + max 1 tries ≤ others mark.new) }
     ensures stamps { IfErr result (λ e. e ≡ refusal.Stamps → stamps ≤ next_stamp mark.new.log + length nodes.now) }

@@ -42,7 +42,8 @@ pub fn publish_draft<M: Means, S: Slots<M>>(
     ensures home { S.home seat.new ≡ S.serves shared.now.store }
     ensures none { S.reused → (S.view seat.new).taken ≡ [] }
     ensures moves { S.reused → Moves (S.view seat.old) (S.view seat.new) }
-    ensures retired { S.reused → Retires (S.serves shared.now.store).sizes.slots (S.view seat.old) (unneeded result refs.now left.now) (S.view seat.new) }
+    ensures retired { S.reused → Retires (S.serves shared.now.store).sizes.slots (S.view seat.old)
+        (unneeded result refs.now left.now) (S.view seat.new) }
 {
     match publish_at(&shared.head, mark, base, new, change) {
         Ok(()) => {
@@ -63,7 +64,8 @@ pub fn abandon_draft<M: Means, S: Slots<M>>(shared: &Shared<M, S>, seat: &mut S:
     ensures home { S.home seat.new ≡ S.serves shared.now.store }
     ensures none { S.reused → (S.view seat.new).taken ≡ [] }
     ensures moves { S.reused → Moves (S.view seat.old) (S.view seat.new) }
-    ensures retired { S.reused → Retires (S.serves shared.now.store).sizes.slots (S.view seat.old) refs.now (S.view seat.new) }
+    ensures retired { S.reused → Retires (S.serves shared.now.store).sizes.slots (S.view seat.old) refs.now
+        (S.view seat.new) }
 {
     retire_all::<M, S>(&shared.store, seat, refs);
 }

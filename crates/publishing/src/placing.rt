@@ -1,5 +1,6 @@
 //! A draft's nodes in their slots.
-ghost use Rattle.std.specs.Prelude.{◌≡◌, ◌⊎◌, ◌+◌, ◌<◌, ◌≤◌, ◌++◌, ◌∷◌, [], max, true, IsSome, IfOk, IfErr, OnOk, OnErr, length};
+ghost use Rattle.std.specs.Prelude.{◌≡◌, ◌⊎◌, ◌+◌, ◌<◌, ◌≤◌, ◌++◌, ◌∷◌, [], max, true, IsSome, IfOk, IfErr, OnOk};
+ghost use Rattle.std.specs.Prelude.{OnErr, length};
 ghost use Rattle.std.specs.List.{All};
 ghost use mathlib.Core.List.{IsPrefix};
 ghost use Rattle.group_history.specs.Refs.{stamp_of, slot_of, stamps};
@@ -52,11 +53,13 @@ fn place_one<M: Means, S: Store<M>>(
     requires stamp { stamp < stamps }
     requires drawn { IsContent mark.now.log stamp node }
     ensures home { S.home seat.new ≡ S.serves store.now }
-    ensures placed { OnOk result ((at : Reference) × (refs.new.items ≡ refs.old.items ++ at ∷ []) × (stamp_of at ≡ stamp) × (S.reused → slot_of at ≡ slot)) }
+    ensures placed { OnOk result ((at : Reference) × (refs.new.items ≡ refs.old.items ++ at ∷ [])
+        × (stamp_of at ≡ stamp) × (S.reused → slot_of at ≡ slot)) }
     ensures settled { S.reused → OnOk result (S.view seat.new ≡ with_settled (S.view seat.old) slot) }
     ensures moves { S.reused → Moves (S.view seat.old) (S.view seat.new) }
     ensures same { OnErr result ((refs.new.items ≡ refs.old.items) × (seat.new ≡ seat.old)) }
-    ensures err { IfErr result (λ e. (e ≡ refusal.NoMemory) ⊎ ((S.reused × (e ≡ refusal.Busy)) ⊎ ((S.reused → ⊥) × (e ≡ refusal.Full)))) }
+    ensures err { IfErr result (λ e. (e ≡ refusal.NoMemory)
+        ⊎ ((S.reused × (e ≡ refusal.Busy)) ⊎ ((S.reused → ⊥) × (e ≡ refusal.Full)))) }
 {
     let at = store.place(alloc, seat, mark, slot, stamp, node, tries)?;
     refs.push(Ref::new(stamp, at))?;
@@ -89,7 +92,8 @@ fn place_next<M: Means, S: Store<M>>(
     ensures same { OnErr result (refs.new.items ≡ refs.old.items) }
     ensures settled { S.reused → KeepsSettled (S.view seat.old) refs.old.items (S.view seat.new) refs.new.items }
     ensures moves { S.reused → Moves (S.view seat.old) (S.view seat.new) }
-    ensures err { IfErr result (λ e. (e ≡ refusal.NoMemory) ⊎ ((S.reused × (e ≡ refusal.Busy)) ⊎ ((S.reused → ⊥) × (e ≡ refusal.Full)))) }
+    ensures err { IfErr result (λ e. (e ≡ refusal.NoMemory)
+        ⊎ ((S.reused × (e ≡ refusal.Busy)) ⊎ ((S.reused → ⊥) × (e ≡ refusal.Full)))) }
 {
     let slot = pop(slots);
     let placed = place_one::<M, S>(alloc, store, seat, mark, slot, stamp, node, refs, tries);
@@ -117,7 +121,8 @@ fn place_named<M: Means, S: Store<M>>(
     requires taken { S.reused → HasTaken (S.view seat.old) slots.old.items }
     requires book { mark.now.book ≡ S.book store.now }
     requires stamp { first + length refs.old.items < stamps }
-    requires drawn { IsContent mark.now.log (first + length refs.old.items) (renamed (placed_ref from refs.old.items) node) }
+    requires drawn { IsContent mark.now.log (first + length refs.old.items)
+        (renamed (placed_ref from refs.old.items) node) }
     ensures home { S.home seat.new ≡ S.serves store.now }
     ensures taken { S.reused → HasTaken (S.view seat.new) slots.new.items }
     ensures less { length slots.old.items ≡ length slots.new.items + 1 }
@@ -125,7 +130,8 @@ fn place_named<M: Means, S: Store<M>>(
     ensures same { OnErr result (refs.new.items ≡ refs.old.items) }
     ensures settled { S.reused → KeepsSettled (S.view seat.old) refs.old.items (S.view seat.new) refs.new.items }
     ensures moves { S.reused → Moves (S.view seat.old) (S.view seat.new) }
-    ensures err { IfErr result (λ e. (e ≡ refusal.NoMemory) ⊎ ((S.reused × (e ≡ refusal.Busy)) ⊎ ((S.reused → ⊥) × (e ≡ refusal.Full)))) }
+    ensures err { IfErr result (λ e. (e ≡ refusal.NoMemory)
+        ⊎ ((S.reused × (e ≡ refusal.Busy)) ⊎ ((S.reused → ⊥) × (e ≡ refusal.Full)))) }
 {
     let stamp = first + refs.len() as u64;
     let node = node.renamed(from, refs);
@@ -160,7 +166,8 @@ fn place_all<M: Means, S: Store<M>>(
     ensures taken { S.reused → HasTaken (S.view seat.new) slots.new.items }
     ensures settled { S.reused → SettlesAll (S.view seat.old) refs.new.items (S.view seat.new) }
     ensures moves { S.reused → Moves (S.view seat.old) (S.view seat.new) }
-    ensures err { IfErr result (λ e. (e ≡ refusal.NoMemory) ⊎ ((S.reused × (e ≡ refusal.Busy)) ⊎ ((S.reused → ⊥) × (e ≡ refusal.Full)))) }
+    ensures err { IfErr result (λ e. (e ≡ refusal.NoMemory)
+        ⊎ ((S.reused × (e ≡ refusal.Busy)) ⊎ ((S.reused → ⊥) × (e ≡ refusal.Full)))) }
 {
     for node in nodes {
         place_named::<M, S>(
@@ -176,7 +183,8 @@ fn give_up<M: Means, S: Slots<M>>(store: &S, seat: &mut S::Seat, slots: Vec<u32>
     requires taken { S.reused → HasTaken (S.view seat.old) slots.items }
     ensures home { S.home seat.new ≡ S.serves store.now }
     ensures none { S.reused → (S.view seat.new).taken ≡ [] }
-    ensures given { S.reused → (v : View) → SettlesAll v refs.items (S.view seat.old) → GivesUp (S.serves store.now).sizes.slots v (S.view seat.new) }
+    ensures given { S.reused → (v : View) → SettlesAll v refs.items (S.view seat.old)
+        → GivesUp (S.serves store.now).sizes.slots v (S.view seat.new) }
     ensures moves { S.reused → Moves (S.view seat.old) (S.view seat.new) }
 {
     withdraw_all::<M, S>(store, seat, slots);
@@ -205,9 +213,11 @@ fn place_drawn<M: Means, S: Store<M>>(
     ensures count { IfOk result (λ refs. length refs.items ≡ length draft.nodes) }
     ensures none { S.reused → (S.view seat.new).taken ≡ [] }
     ensures settled { S.reused → IfOk result (λ refs. SettlesAll (S.view seat.old) refs.items (S.view seat.new)) }
-    ensures given { S.reused → OnErr result (GivesUp (S.serves store.now).sizes.slots (S.view seat.old) (S.view seat.new)) }
+    ensures given { S.reused → OnErr result
+        (GivesUp (S.serves store.now).sizes.slots (S.view seat.old) (S.view seat.new)) }
     ensures moves { S.reused → Moves (S.view seat.old) (S.view seat.new) }
-    ensures err { IfErr result (λ e. (e ≡ refusal.NoMemory) ⊎ ((S.reused × (e ≡ refusal.Busy)) ⊎ ((S.reused → ⊥) × (e ≡ refusal.Full)))) }
+    ensures err { IfErr result (λ e. (e ≡ refusal.NoMemory)
+        ⊎ ((S.reused × (e ≡ refusal.Busy)) ⊎ ((S.reused → ⊥) × (e ≡ refusal.Full)))) }
 {
     let mut slots = slots;
     let mut refs = Vec::new(alloc);
@@ -251,11 +261,14 @@ fn place_taken<M: Means, S: Store<M>>(
     ensures home { S.home seat.new ≡ S.serves shared.now.store }
     ensures none { S.reused → (S.view seat.new).taken ≡ [] }
     ensures settled { S.reused → IfOk result (λ refs. SettlesAll (S.view seat.old) refs.items (S.view seat.new)) }
-    ensures given { S.reused → OnErr result (GivesUp (S.serves shared.now.store).sizes.slots (S.view seat.old) (S.view seat.new)) }
+    ensures given { S.reused → OnErr result
+        (GivesUp (S.serves shared.now.store).sizes.slots (S.view seat.old) (S.view seat.new)) }
     ensures moves { S.reused → Moves (S.view seat.old) (S.view seat.new) }
     ensures moved { IfErr result (λ e. e ≡ refusal.Moved → others mark.old + max 1 tries ≤ others mark.new) }
     ensures stamps { IfErr result (λ e. e ≡ refusal.Stamps → stamps ≤ next_stamp mark.new.log + length draft.nodes) }
-    ensures err { IfErr result (λ e. (e ≡ refusal.NoMemory) ⊎ ((e ≡ refusal.Moved) ⊎ ((e ≡ refusal.Stamps) ⊎ ((S.reused × (e ≡ refusal.Busy)) ⊎ ((S.reused → ⊥) × (e ≡ refusal.Full)))))) }
+    ensures err { IfErr result (λ e. (e ≡ refusal.NoMemory)
+        ⊎ ((e ≡ refusal.Moved) ⊎ ((e ≡ refusal.Stamps)
+        ⊎ ((S.reused × (e ≡ refusal.Busy)) ⊎ ((S.reused → ⊥) × (e ≡ refusal.Full)))))) }
 {
     match draw(&shared.head, mark, draft.first(), draft.nodes(), tries) {
         Ok(first) => {
@@ -305,15 +318,20 @@ pub fn place_draft<M: Means, S: Store<M>>(
     ensures placed { IfOk result (λ refs. IsPlaced (drawn mark.old.log) (drawn mark.new.log) draft refs.items) }
     ensures home { S.home seat.new ≡ S.serves shared.now.store }
     ensures none { S.reused → (S.view seat.new).taken ≡ [] }
-    ensures settled { S.reused → IfOk result (λ refs. All (λ at. In (S.view seat.new).settled (slot_of at)) refs.items) }
+    ensures settled { S.reused → IfOk result
+        (λ refs. All (λ at. In (S.view seat.new).settled (slot_of at)) refs.items) }
     ensures just { S.reused → IfOk result (λ refs. SettlesAll (S.view seat.old) refs.items (S.view seat.new)) }
-    ensures given { S.reused → OnErr result (GivesUp (S.serves shared.now.store).sizes.slots (S.view seat.old) (S.view seat.new)) }
+    ensures given { S.reused → OnErr result
+        (GivesUp (S.serves shared.now.store).sizes.slots (S.view seat.old) (S.view seat.new)) }
     ensures moves { S.reused → Moves (S.view seat.old) (S.view seat.new) }
     ensures want { IfErr result (λ e. is_want e ≡ true) }
     ensures moved { IfErr result (λ e. e ≡ refusal.Moved → others mark.old + max 1 tries ≤ others mark.new) }
     ensures stamps { IfErr result (λ e. e ≡ refusal.Stamps → stamps ≤ next_stamp mark.new.log + length draft.nodes) }
-    ensures full { S.reused → IfErr result (λ e. e ≡ refusal.Full → FoundNone (S.view seat.old) (S.view seat.new) (kind_end (S.serves shared.now.store).sizes kind)) }
-    ensures err { IfErr result (λ e. (e ≡ refusal.NoMemory) ⊎ ((e ≡ refusal.Moved) ⊎ ((e ≡ refusal.Stamps) ⊎ ((e ≡ refusal.Full) ⊎ (S.reused × (e ≡ refusal.Busy)))))) }
+    ensures full { S.reused → IfErr result
+        (λ e. e ≡ refusal.Full → FoundNone (S.view seat.old) (S.view seat.new)
+        (kind_end (S.serves shared.now.store).sizes kind)) }
+    ensures err { IfErr result (λ e. (e ≡ refusal.NoMemory)
+        ⊎ ((e ≡ refusal.Moved) ⊎ ((e ≡ refusal.Stamps) ⊎ ((e ≡ refusal.Full) ⊎ (S.reused × (e ≡ refusal.Busy)))))) }
 {
     let slots = take_all::<M, S>(alloc, &shared.store, seat, kind, draft.nodes().len())?;
     place_taken::<M, S>(alloc, shared, seat, mark, draft, slots, tries)

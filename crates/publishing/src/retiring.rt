@@ -15,7 +15,8 @@ fn retire_at<M: Means, S: Slots<M>>(store: &S, seat: &mut S::Seat, refs: &[Ref],
     ensures home { S.home seat.new ≡ S.serves store.now }
     ensures none { S.reused → (S.view seat.new).taken ≡ [] }
     ensures moves { S.reused → Moves (S.view seat.old) (S.view seat.new) }
-    ensures retired { S.reused → LetsAllGo (S.serves store.now).sizes.slots r (S.view seat.old) refs.now (S.view seat.new) }
+    ensures retired { S.reused → LetsAllGo (S.serves store.now).sizes.slots r (S.view seat.old) refs.now
+        (S.view seat.new) }
 {
     for at in refs {
         store.retire(seat, at.slot(), r);

@@ -56,7 +56,9 @@ fn take_next<M: Means, S: Store<M>>(
     ensures more { OnOk result (length slots.new.items ≡ length slots.old.items + 1) }
     ensures settled { S.reused → SettlesNone (S.view seat.old) (S.view seat.new) }
     ensures moves { S.reused → Moves (S.view seat.old) (S.view seat.new) }
-    ensures full { S.reused → IfErr result (λ e. e ≡ refusal.Full → FindsNone (S.view seat.old) (S.view seat.new) (kind_end (S.serves store.now).sizes kind)) }
+    ensures full { S.reused → IfErr result
+        (λ e. e ≡ refusal.Full → FindsNone (S.view seat.old) (S.view seat.new)
+        (kind_end (S.serves store.now).sizes kind)) }
     ensures err { IfErr result (λ e. (e ≡ refusal.NoMemory) ⊎ (e ≡ refusal.Full)) }
 {
     let Some(slot) = store.take_slot(seat, kind) else {
@@ -84,7 +86,9 @@ fn take_more<M: Means, S: Store<M>>(
     ensures more { OnOk result (length slots.new.items ≡ length slots.old.items + count) }
     ensures settled { S.reused → SettlesNone (S.view seat.old) (S.view seat.new) }
     ensures moves { S.reused → Moves (S.view seat.old) (S.view seat.new) }
-    ensures full { S.reused → IfErr result (λ e. e ≡ refusal.Full → FoundNone (S.view seat.old) (S.view seat.new) (kind_end (S.serves store.now).sizes kind)) }
+    ensures full { S.reused → IfErr result
+        (λ e. e ≡ refusal.Full → FoundNone (S.view seat.old) (S.view seat.new)
+        (kind_end (S.serves store.now).sizes kind)) }
     ensures err { IfErr result (λ e. (e ≡ refusal.NoMemory) ⊎ (e ≡ refusal.Full)) }
 {
     for held in 0..count {
@@ -110,7 +114,9 @@ pub(crate) fn take_all<M: Means, S: Store<M>>(
     ensures none { S.reused → OnErr result ((S.view seat.new).taken ≡ []) }
     ensures settled { S.reused → SettlesNone (S.view seat.old) (S.view seat.new) }
     ensures moves { S.reused → Moves (S.view seat.old) (S.view seat.new) }
-    ensures full { S.reused → IfErr result (λ e. e ≡ refusal.Full → FoundNone (S.view seat.old) (S.view seat.new) (kind_end (S.serves store.now).sizes kind)) }
+    ensures full { S.reused → IfErr result
+        (λ e. e ≡ refusal.Full → FoundNone (S.view seat.old) (S.view seat.new)
+        (kind_end (S.serves store.now).sizes kind)) }
     ensures err { IfErr result (λ e. (e ≡ refusal.NoMemory) ⊎ (e ≡ refusal.Full)) }
 {
     let mut slots = Vec::with_capacity(alloc, count)?;

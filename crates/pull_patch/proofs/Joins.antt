@@ -17,7 +17,8 @@ use Rattle.pull_patch.specs.Grammar.{Fields, pull_of, pull_response, fields_of}
 use Rattle.pull_patch.specs.Inside.Parts.{cookie_field, changes_field, patch_field, joined}
 
 -- what is right of the whole is right of the part that was refused
-pub Refuses-through : {A B : Type 0} (e : Refusal) (part : Result A Refusal) (whole : Result B Refusal) → ((r : Refusal) → part ≡ Err r → whole ≡ Err r) → Refuses e part → Refuses e whole
+pub Refuses-through : {A B : Type 0} (e : Refusal) (part : Result A Refusal) (whole : Result B Refusal)
+    → ((r : Refusal) → part ≡ Err r → whole ≡ Err r) → Refuses e part → Refuses e whole
 Refuses-through NoMemory part whole h p = tt
 Refuses-through e part whole h p = h e p
 
@@ -30,23 +31,28 @@ said o = ok_or o BadShape >>= λ f. ok_or (option_map response.Ok (pull_of f)) N
 abbrev part : {A B : Type 0} → (A → Option B) → Option A → Result (Option B) Refusal
 part f o = ok_or (option_map f o) BadShape
 
-first : (o : Option Data) (p : Option (List Entry)) (q : Option (List Edit)) (r : Refusal) → part cookie_of o ≡ Err r → said (shape o p q) ≡ Err r
+first : (o : Option Data) (p : Option (List Entry)) (q : Option (List Edit)) (r : Refusal) → part cookie_of o ≡ Err r
+    → said (shape o p q) ≡ Err r
 first None p q r h = cc
 first (Some c) p q r h = cc
 
-second : (o : Option Data) (p : Option (List Entry)) (q : Option (List Edit)) (r : Refusal) → part (each change_of) p ≡ Err r → said (shape o p q) ≡ Err r
+second : (o : Option Data) (p : Option (List Entry)) (q : Option (List Edit)) (r : Refusal)
+    → part (each change_of) p ≡ Err r → said (shape o p q) ≡ Err r
 second None None q r h = cc
 second (Some c) None q r h = cc
 second o (Some cs) q r h = cc
 
-third : (o : Option Data) (p : Option (List Entry)) (q : Option (List Edit)) (r : Refusal) → part (each operation_of) q ≡ Err r → said (shape o p q) ≡ Err r
+third : (o : Option Data) (p : Option (List Entry)) (q : Option (List Edit)) (r : Refusal)
+    → part (each operation_of) q ≡ Err r → said (shape o p q) ≡ Err r
 third None p None r h = cc
 third (Some c) None None r h = cc
 third (Some c) (Some cs) None r h = cc
 third o p (Some es) r h = cc
 
-whole : (o : Option Data) (p : Option (List Entry)) (q : Option (List Edit)) (c : Option Cookie) (cs : Option (List Confirmed)) (ops : Option (List Patch))
-    → part cookie_of o ≡ Ok c → part (each change_of) p ≡ Ok cs → part (each operation_of) q ≡ Ok ops → said (shape o p q) ≡ joined c cs ops
+whole : (o : Option Data) (p : Option (List Entry)) (q : Option (List Edit)) (c : Option Cookie)
+    (cs : Option (List Confirmed)) (ops : Option (List Patch))
+    → part cookie_of o ≡ Ok c → part (each change_of) p ≡ Ok cs → part (each operation_of) q ≡ Ok ops
+    → said (shape o p q) ≡ joined c cs ops
 unfolding pull_of
 whole None p q c cs ops x y z = absurd (cc)
 whole (Some d) None q c cs ops x y z = absurd (cc)
@@ -69,7 +75,8 @@ pub patch-refused : (d : Data) (r : Refusal) → patch_field d ≡ Err r → pul
 unfolding patch_field pull_response fields_of
 patch-refused d r h = third _ _ _ r h
 
-pub fields-joined : (d : Data) (c : Option Cookie) (cs : Option (List Confirmed)) (ops : Option (List Patch)) → cookie_field d ≡ Ok c → changes_field d ≡ Ok cs → patch_field d ≡ Ok ops → pull_response d ≡ joined c cs ops
+pub fields-joined : (d : Data) (c : Option Cookie) (cs : Option (List Confirmed)) (ops : Option (List Patch))
+    → cookie_field d ≡ Ok c → changes_field d ≡ Ok cs → patch_field d ≡ Ok ops → pull_response d ≡ joined c cs ops
 unfolding cookie_field changes_field patch_field pull_response fields_of
 fields-joined d c cs ops x y z = whole _ _ _ c cs ops x y z
 

@@ -5,3 +5,9 @@ pub mod Refusals
 pub mod Joins
 pub mod Unknown
 pub mod WholeNumbers
+pub mod Copies
+pub mod PlainNumbers
+pub mod CopiedTexts
+pub mod Turns
+pub mod Patches
+pub mod PlainResponses

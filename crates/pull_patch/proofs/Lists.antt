@@ -1,5 +1,6 @@
 -- The members of an array and of an object, as lists.
-use Rattle.std.proofs.Common.{◌≡◌, ℕ, List, [], ◌∷◌, map, Option, Some, None, option_map, Result, Ok, Err, refl, ap, ◌∙◌}
+use Rattle.std.proofs.Common.{◌≡◌, ℕ, List, [], ◌∷◌, map, Option, Some, None, option_map, Result, Ok, Err, refl, ap}
+use Rattle.std.proofs.Common.{◌∙◌}
 use Rattle.std.specs.Prelude.{ok_or}
 use Rattle.serde_json.specs.Data.{Num, Data, Members}
 use Rattle.serde_json.specs.View.{view, items_view}
@@ -24,9 +25,11 @@ pub patch_part-none : (vs : List Value) → each edit_of (map view vs) ≡ None 
 unfolding patch_part edits_of
 patch_part-none vs none = ap (λ ds. patch_or_shape (each edit_of ds)) (items_list-view vs) ∙ ap patch_or_shape none
 
-pub patch_part-ok : (vs : List Value) (es : List Edit) (o : Option (List Patch)) → each edit_of (map view vs) ≡ Some es → each operation_of es ≡ o → patch_part (items_view vs) ≡ Ok o
+pub patch_part-ok : (vs : List Value) (es : List Edit) (o : Option (List Patch)) → each edit_of (map view vs) ≡ Some es
+    → each operation_of es ≡ o → patch_part (items_view vs) ≡ Ok o
 unfolding patch_part edits_of
-patch_part-ok vs es o is ops = ap (λ ds. patch_or_shape (each edit_of ds)) (items_list-view vs) ∙ ap patch_or_shape is ∙ ap Ok ops
+patch_part-ok vs es o is ops = ap (λ ds. patch_or_shape (each edit_of ds))
+    (items_list-view vs) ∙ ap patch_or_shape is ∙ ap Ok ops
 
 abbrev changes_or_shape : Option (List Entry) → Result (Option (List Confirmed)) Refusal
 changes_or_shape o = ok_or (option_map (each change_of) o) BadShape
@@ -35,7 +38,8 @@ pub changes_part-none : (ms : Members) → each entry_of (members_list ms) ≡ N
 unfolding changes_part entries_of
 changes_part-none ms none = ap changes_or_shape none
 
-pub changes_part-ok : (ms : Members) (es : List Entry) (o : Option (List Confirmed)) → each entry_of (members_list ms) ≡ Some es → each change_of es ≡ o → changes_part ms ≡ Ok o
+pub changes_part-ok : (ms : Members) (es : List Entry) (o : Option (List Confirmed))
+    → each entry_of (members_list ms) ≡ Some es → each change_of es ≡ o → changes_part ms ≡ Ok o
 unfolding changes_part entries_of
 changes_part-ok ms es o is ids = ap changes_or_shape is ∙ ap Ok ids
 

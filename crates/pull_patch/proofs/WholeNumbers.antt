@@ -1,9 +1,12 @@
 -- NotWhole is told only where a number isn't whole.
-use Rattle.std.proofs.Common.{◌≡◌, ◌^◌, ℕ, List, [], ◌∷◌, Bool, true, false, cond, nat_le, Option, Some, None, option_map, option_and_then, Ok, Err, Ordering, Less, Equal, Greater, codes, refl, bytes_eq}
+use Rattle.std.proofs.Common.{◌≡◌, ◌^◌, ℕ, List, [], ◌∷◌, Bool, true, false, cond, nat_le, Option, Some, None}
+use Rattle.std.proofs.Common.{option_map, option_and_then, Ok, Err, Ordering, Less, Equal, Greater, codes, refl}
+use Rattle.std.proofs.Common.{bytes_eq}
 use Rattle.std.specs.Prelude.{⊤, ok_or}
 use Rattle.std.specs.Ordering.{match_ordering}
 use Rattle.serde_json.specs.Data as tree
-use Rattle.serde_json.specs.Data.{unsigned, negative, float, Data, null, boolean, string, array, object, Items, no_items, item, Members, no_members, member}
+use Rattle.serde_json.specs.Data.{unsigned, negative, float, Data, null, boolean, string, array, object, Items}
+use Rattle.serde_json.specs.Data.{no_items, item, Members, no_members, member}
 use Rattle.serde_json.specs.Find.{get, get_member, as_str, as_array, as_object}
 use Rattle.serde_json.specs.Written.{has_float, items_have_float, members_have_float, compact_text}
 use Rattle.group_history.specs.declared.cookies.Order.{Order}
@@ -15,9 +18,11 @@ use Rattle.group_history.specs.Answers.{◌>>=◌}
 use Rattle.group_history.specs.Cookies.{Cookie, plain_order_of, order_of, cookie_of}
 use Rattle.group_history.proofs.IdLemmas.{or_false}
 use Rattle.pull_patch.specs.Fields.{text_at, array_at, object_at, each, items_list, members_list, ◌>>-◌}
-use Rattle.pull_patch.specs.Operations.{Edit, put, del, clear, put_of, del_of, edit_named, edit_of, edits_of, operation_of}
+use Rattle.pull_patch.specs.Operations.{Edit, put, del, clear, put_of, del_of, edit_named, edit_of, edits_of}
+use Rattle.pull_patch.specs.Operations.{operation_of}
 use Rattle.pull_patch.specs.Changes.{Entry, entry, id_of, entry_of, entries_of, change_of}
-use Rattle.pull_patch.specs.Grammar.{is_plain_order, has_plain_order, is_cookie, cookie_at, fields_of, pull_of, pull_response, error_named, error_of, by_error, response_of}
+use Rattle.pull_patch.specs.Grammar.{is_plain_order, has_plain_order, is_cookie, cookie_at, fields_of, pull_of}
+use Rattle.pull_patch.specs.Grammar.{pull_response, error_named, error_of, by_error, response_of}
 use Rattle.pull_patch.specs.Laws.{OnlyNumbersAreNotWhole}
 use Rattle.pull_patch.proofs.Joins.{shape, said}
 use Rattle.pull_patch.specs.Inside.Parts.{joined}
@@ -119,7 +124,8 @@ order_found (object ms) p h = member_order (get_member (codes "order") ms) p (me
 -- a cookie of the right shape without a float is a cookie
 cookie_found : (d : Data) → is_cookie d ≡ true → has_float d ≡ false → Found (cookie_of d)
 unfolding cookie_of
-cookie_found d p h = rw h (map_found {B = Cookie} (λ (o : Order). record { text = compact_text d; order = o }) (order_of d) (order_found d p h))
+cookie_found d p h = rw h (map_found {B = Cookie} (λ (o : Order). record { text = compact_text d; order = o })
+    (order_of d) (order_found d p h))
 
 cookie_finds : (o : Option Data) → WholeAt o → Finds cookie_of (option_and_then cookie_at o)
 unfolding cookie_at
@@ -129,7 +135,8 @@ cookie_finds (Some d) h = elim (is_cookie d) as (λ b. is_cookie d ≡ b → Fin
   | false ↦ λ e. tt
 ] refl
 
-id_found : (name : List ℕ) (b : Bool) (n : ℕ) → Finds change_of (option_map (entry name) (cond b (Some (unsigned n)) None))
+id_found : (name : List ℕ) (b : Bool) (n : ℕ)
+    → Finds change_of (option_map (entry name) (cond b (Some (unsigned n)) None))
 unfolding change_of
 id_found name true n = tt
 id_found name false n = tt
@@ -145,7 +152,8 @@ entry_finds name (string s) h = tt
 entry_finds name (array ds) h = tt
 entry_finds name (object ms) h = tt
 
-put_finds : (key : Option (List ℕ)) (o : Option Data) → WholeAt o → Finds operation_of (option_and_then (λ key. option_map (put key) o) key)
+put_finds : (key : Option (List ℕ)) (o : Option Data) → WholeAt o
+    → Finds operation_of (option_and_then (λ key. option_map (put key) o) key)
 unfolding operation_of
 put_finds None o h = tt
 put_finds (Some key) None h = tt
@@ -160,17 +168,21 @@ clear_finds : Finds operation_of (Some clear)
 unfolding operation_of
 clear_finds = tt
 
-cond_finds : (b : Bool) (x y : Option Edit) → Finds operation_of x → Finds operation_of y → Finds operation_of (cond b x y)
+cond_finds : (b : Bool) (x y : Option Edit) → Finds operation_of x → Finds operation_of y
+    → Finds operation_of (cond b x y)
 cond_finds true x y p q = p
 cond_finds false x y p q = q
 
 named_finds : (name : List ℕ) (d : Data) → has_float d ≡ false → Finds operation_of (edit_named name d)
 unfolding put_of del_of
 named_finds name d h =
-    cond_finds (bytes_eq name (codes "put")) _ _ (put_finds (text_at (codes "key") d) (get (codes "value") d) (field_whole (codes "value") d h))
-    (cond_finds (bytes_eq name (codes "del")) _ _ (del_finds (text_at (codes "key") d)) (cond_finds (bytes_eq name (codes "clear")) _ _ clear_finds tt))
+    cond_finds (bytes_eq name (codes "put")) _ _
+    (put_finds (text_at (codes "key") d) (get (codes "value") d) (field_whole (codes "value") d h))
+    (cond_finds (bytes_eq name (codes "del")) _ _ (del_finds (text_at (codes "key") d))
+    (cond_finds (bytes_eq name (codes "clear")) _ _ clear_finds tt))
 
-then_finds : (o : Option (List ℕ)) (f : List ℕ → Option Edit) → ((name : List ℕ) → Finds operation_of (f name)) → Finds operation_of (option_and_then f o)
+then_finds : (o : Option (List ℕ)) (f : List ℕ → Option Edit) → ((name : List ℕ) → Finds operation_of (f name))
+    → Finds operation_of (option_and_then f o)
 then_finds None f h = tt
 then_finds (Some name) f h = h name
 
@@ -184,17 +196,20 @@ abbrev AllFind : {A B C : Type 0} → (A → Option B) → (B → Option C) → 
 AllFind g f [] = ⊤
 AllFind g f (x ∷ xs) = Finds f (g x) × AllFind g f xs
 
-both_found : {C : Type 0} (o : Option C) (p : Option (List C)) → Found o → Found p → Found (option_and_then (λ z. option_map (λ zs. z ∷ zs) p) o)
+both_found : {C : Type 0} (o : Option C) (p : Option (List C)) → Found o → Found p
+    → Found (option_and_then (λ z. option_map (λ zs. z ∷ zs) p) o)
 both_found None p h k = h
 both_found (Some z) None h k = k
 both_found (Some z) (Some zs) h k = tt
 
-next_finds : {B C : Type 0} (f : B → Option C) (o : Option B) (p : Option (List B)) → Finds f o → Finds (each f) p → Finds (each f) (option_and_then (λ y. option_map (λ ys. y ∷ ys) p) o)
+next_finds : {B C : Type 0} (f : B → Option C) (o : Option B) (p : Option (List B)) → Finds f o → Finds (each f) p
+    → Finds (each f) (option_and_then (λ y. option_map (λ ys. y ∷ ys) p) o)
 next_finds f None p h k = tt
 next_finds f (Some y) None h k = tt
 next_finds f (Some y) (Some ys) h k = both_found (f y) (each f ys) h k
 
-each_finds : {A B C : Type 0} (g : A → Option B) (f : B → Option C) (xs : List A) → AllFind g f xs → Finds (each f) (each g xs)
+each_finds : {A B C : Type 0} (g : A → Option B) (f : B → Option C) (xs : List A) → AllFind g f xs
+    → Finds (each f) (each g xs)
 each_finds g f [] h = tt
 each_finds g f (x ∷ xs) h = next_finds f (g x) (each g xs) h.0 (each_finds g f xs h.1)
 
@@ -220,25 +235,30 @@ patch_finds (Some ds) h = each_finds edit_of operation_of (items_list ds) (items
 
 -- ---- the response
 
-joined_found : (x : Option Cookie) (y : Option (List Confirmed)) (z : Option (List Patch)) → Found x → Found y → Found z → joined x y z ≡ Err NotWhole → ⊥
+joined_found : (x : Option Cookie) (y : Option (List Confirmed)) (z : Option (List Patch)) → Found x → Found y → Found z
+    → joined x y z ≡ Err NotWhole → ⊥
 joined_found None y z a b c e = a
 joined_found (Some x) None z a b c e = b
 joined_found (Some x) (Some y) None a b c e = c
 joined_found (Some x) (Some y) (Some z) a b c e = cc
 
-said_whole : (o : Option Data) (p : Option (List Entry)) (q : Option (List Edit)) → Finds cookie_of o → Finds (each change_of) p → Finds (each operation_of) q → said (shape o p q) ≡ Err NotWhole → ⊥
+said_whole : (o : Option Data) (p : Option (List Entry)) (q : Option (List Edit)) → Finds cookie_of o
+    → Finds (each change_of) p → Finds (each operation_of) q → said (shape o p q) ≡ Err NotWhole → ⊥
 unfolding pull_of
 said_whole None p q a b c e = cc
 said_whole (Some x) None q a b c e = cc
 said_whole (Some x) (Some y) None a b c e = cc
-said_whole (Some x) (Some y) (Some z) a b c e = joined_found (cookie_of x) (each change_of y) (each operation_of z) a b c e
+said_whole (Some x) (Some y) (Some z) a b c e = joined_found (cookie_of x) (each change_of y)
+    (each operation_of z) a b c e
 
 pull_whole : (d : Data) → has_float d ≡ false → pull_response d ≡ Err NotWhole → ⊥
 unfolding pull_response fields_of
 pull_whole d h e =
-    said_whole (get (codes "cookie") d >>- cookie_at) (object_at (codes "lastMutationIDChanges") d >>- entries_of) (array_at (codes "patch") d >>- edits_of)
+    said_whole (get (codes "cookie") d >>- cookie_at) (object_at (codes "lastMutationIDChanges") d >>- entries_of)
+    (array_at (codes "patch") d >>- edits_of)
     (cookie_finds (get (codes "cookie") d) (field_whole (codes "cookie") d h))
-    (changes_find (object_at (codes "lastMutationIDChanges") d) (at_object (get (codes "lastMutationIDChanges") d) (field_whole (codes "lastMutationIDChanges") d h)))
+    (changes_find (object_at (codes "lastMutationIDChanges") d)
+    (at_object (get (codes "lastMutationIDChanges") d) (field_whole (codes "lastMutationIDChanges") d h)))
     (patch_finds (array_at (codes "patch") d) (at_array (get (codes "patch") d) (field_whole (codes "patch") d h)))
     e
 
@@ -249,7 +269,8 @@ by_tests false false x y e = cc
 
 error_at : (o : Option (List ℕ)) (d : Data) → (ok_or o BadShape >>= λ name. error_named name d) ≡ Err NotWhole → ⊥
 error_at None d e = cc
-error_at (Some name) d e = by_tests (bytes_eq name (codes "ClientStateNotFound")) (bytes_eq name (codes "VersionNotSupported")) _ _ e
+error_at (Some name) d e = by_tests (bytes_eq name (codes "ClientStateNotFound"))
+    (bytes_eq name (codes "VersionNotSupported")) _ _ e
 
 error_whole : (x d : Data) → error_of x d ≡ Err NotWhole → ⊥
 unfolding error_of

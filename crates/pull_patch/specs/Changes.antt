@@ -1,6 +1,7 @@
 -- The confirmed ids of clients.
 -- Source: Replicache, Pull Endpoint Reference, "lastMutationIDChanges"; the limit of 2^52 is this project's own rule.
-use Rattle.std.specs.Prelude.{◌^◌, List, Bool, true, false, nat_le, Option, Some, None, option_map, option_and_then, if◌then◌else◌}
+use Rattle.std.specs.Prelude.{◌^◌, List, Bool, true, false, nat_le, Option, Some, None, option_map, option_and_then}
+use Rattle.std.specs.Prelude.{if◌then◌else◌}
 use Rattle.serde_json.specs.Data.{Num, unsigned, negative, float, Data, Members}
 use Rattle.serde_json.specs.Find.{as_number, as_u64}
 use Rattle.group_history.specs.declared.responses.Confirmed.{Confirmed}

@@ -1,7 +1,9 @@
 -- Which response bytes are.
--- Source: Replicache, Pull Endpoint Reference, "cookie", "lastMutationIDChanges", "patch" and "Errors" (pull version 1).
+-- Source: Replicache, Pull Endpoint Reference, "cookie", "lastMutationIDChanges", "patch" and "Errors" (pull version
+-- 1).
 -- Which refusal comes first, that numbers are whole and that all three fields are needed are this project's own rules.
-use Rattle.std.specs.Prelude.{◌≡◌, List, Bool, true, false, if◌then◌else◌, Option, Some, None, option_map, unwrap_or, ok_or, Result, Ok, Err, codes, bytes_eq}
+use Rattle.std.specs.Prelude.{◌≡◌, List, Bool, true, false, if◌then◌else◌, Option, Some, None, option_map, unwrap_or}
+use Rattle.std.specs.Prelude.{ok_or, Result, Ok, Err, codes, bytes_eq}
 use Rattle.serde_json.specs.Data.{Data, null, boolean, number, string, array, object}
 use Rattle.serde_json.specs.Find.{get, get_member, as_str}
 use Rattle.group_history.specs.declared.refusals.Refusal.{Refusal}
@@ -91,7 +93,8 @@ kind_of d = unwrap_or (option_map kind_named (text_at (codes "versionType") d)) 
 abbrev pub error_named : Bytes → Data → Result Response Refusal
 error_named name d =
     if bytes_eq name (codes "ClientStateNotFound") then Ok response.StateNotFound
-    else (if bytes_eq name (codes "VersionNotSupported") then Ok (response.VersionNotSupported (kind_of d)) else Err BadShape)
+    else (if bytes_eq name (codes "VersionNotSupported") then Ok
+    (response.VersionNotSupported (kind_of d)) else Err BadShape)
 
 -- the response d, whose field `error` is e: a text, and one of two
 unfoldable pub error_of : Data → Data → Result Response Refusal

@@ -23,8 +23,10 @@ pub record IsUnknownToOperations (name : Bytes) : Type 0 where
 
 -- a field of an unknown name, whatever it holds, changes nothing
 pub record UnknownFieldsDontCount : Type 0 where
-  pub of_response : (name : Bytes) (d : Data) (ms : Members) → IsUnknown name → response_of (object (put name d ms)) ≡ response_of (object ms)
-  pub of_operation : (name : Bytes) (d : Data) (ms : Members) → IsUnknownToOperations name → edit_of (object (put name d ms)) ≡ edit_of (object ms)
+  pub of_response : (name : Bytes) (d : Data) (ms : Members) → IsUnknown name
+      → response_of (object (put name d ms)) ≡ response_of (object ms)
+  pub of_operation : (name : Bytes) (d : Data) (ms : Members) → IsUnknownToOperations name
+      → edit_of (object (put name d ms)) ≡ edit_of (object ms)
 
 -- NotWhole is told only where some number isn't whole: a response of the right shape with whole numbers alone is read
 abbrev pub OnlyNumbersAreNotWhole : Type 0

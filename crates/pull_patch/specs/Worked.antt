@@ -14,7 +14,8 @@ use Rattle.pull_patch.specs.Grammar.{ReadsAs}
 
 -- a response whose cookie is the number n
 abbrev pub pulled : Bytes → ℕ → List Confirmed → List Patch → Result Response Refusal
-pulled text n changes patch = Ok (response.Ok (record { cookie = record { text = text; order = order.Number (pos n) }; changes = changes; patch = patch }))
+pulled text n changes patch = Ok (response.Ok
+    (record { cookie = record { text = text; order = order.Number (pos n) }; changes = changes; patch = patch }))
 
 pub record WorkedBodies : Type 0 where
   pub first_pull :
@@ -26,11 +27,14 @@ pub record WorkedBodies : Type 0 where
       ReadsAs (codes "{\"cookie\":1,\"lastMutationIDChanges\":{},\"patch\":[{\"op\":\"put\",\"key\":\"n\",\"value\":1.5}]}") (Err NotWhole)
   -- a field `error` makes an error response, whatever its value
   pub null_error : ReadsAs (codes "{\"error\":null,\"cookie\":1,\"lastMutationIDChanges\":{},\"patch\":[]}") (Err BadShape)
-  pub unknown_kind : ReadsAs (codes "{\"error\":\"VersionNotSupported\",\"versionType\":\"PUSH\"}") (Ok (response.VersionNotSupported kind.Unknown))
+  pub unknown_kind : ReadsAs (codes "{\"error\":\"VersionNotSupported\",\"versionType\":\"PUSH\"}")
+      (Ok (response.VersionNotSupported kind.Unknown))
   -- of two fields of one name the last counts
-  pub cookie_twice : ReadsAs (codes "{\"cookie\":1.5,\"cookie\":2,\"lastMutationIDChanges\":{},\"patch\":[]}") (pulled (codes "2") 2 [] [])
+  pub cookie_twice : ReadsAs (codes "{\"cookie\":1.5,\"cookie\":2,\"lastMutationIDChanges\":{},\"patch\":[]}")
+      (pulled (codes "2") 2 [] [])
   -- numbers of unknown fields aren't looked at
-  pub unknown_float : ReadsAs (codes "{\"x\":1.5,\"cookie\":2,\"lastMutationIDChanges\":{},\"patch\":[]}") (pulled (codes "2") 2 [] [])
+  pub unknown_float : ReadsAs (codes "{\"x\":1.5,\"cookie\":2,\"lastMutationIDChanges\":{},\"patch\":[]}")
+      (pulled (codes "2") 2 [] [])
   -- ids go up to 2^52
   pub greatest_id :
       ReadsAs (codes "{\"cookie\":2,\"lastMutationIDChanges\":{\"a\":4503599627370496},\"patch\":[]}")
@@ -38,7 +42,8 @@ pub record WorkedBodies : Type 0 where
   pub id_too_great : ReadsAs (codes "{\"cookie\":2,\"lastMutationIDChanges\":{\"a\":4503599627370497},\"patch\":[]}") (Err BadShape)
   -- an object is compared by its `order`, and its other fields are part of it
   pub object_cookie :
-      ReadsAs (codes "{\"cookie\":{\"order\":2,\"by\":4},\"lastMutationIDChanges\":{},\"patch\":[]}") (pulled (codes "{\"by\":4,\"order\":2}") 2 [] [])
+      ReadsAs (codes "{\"cookie\":{\"order\":2,\"by\":4},\"lastMutationIDChanges\":{},\"patch\":[]}")
+      (pulled (codes "{\"by\":4,\"order\":2}") 2 [] [])
   -- a put needs a value
   pub put_without_value : ReadsAs (codes "{\"cookie\":2,\"lastMutationIDChanges\":{},\"patch\":[{\"op\":\"put\",\"key\":\"n\"}]}") (Err BadShape)
   -- operations in order

@@ -13,6 +13,7 @@ mod changes;
 mod fields;
 mod laws;
 mod operations;
+mod plain;
 mod response;
 
 pub use group_history::{apply_patch, cookie_cmp};

@@ -10,6 +10,7 @@ ghost use Rattle.pull_patch.specs.Inside.Parts as parts;
 use crate::changes::read_changes;
 use crate::fields::{array_at, text_at};
 use crate::operations::read_patch;
+use crate::plain::{Stop, plain_response};
 use group_history::{Confirmed, Cookie, Patch, PullOk, Refusal, Response, VersionKind, read_value};
 use serde_json::Value;
 use std::alloc::Global;
@@ -20,7 +21,7 @@ fn is_plain_order(value: &Value) -> bool
     matches!(value, Value::Number(_) | Value::String(_))
 }
 
-fn is_cookie(value: &Value) -> bool
+pub(crate) fn is_cookie(value: &Value) -> bool
     ensures { result ≡ grammar.is_cookie (view value.now) }
 {
     match value {
@@ -84,7 +85,7 @@ fn pull_response(alloc: Global, value: &Value) -> Result<Response, Refusal>
 }
 
 // The response of three fields, if no number in them that counts isn't whole.
-fn joined(
+pub(crate) fn joined(
     cookie: Option<Cookie>,
     changes: Option<Vec<Confirmed>>,
     patch: Option<Vec<Patch>>,
@@ -160,6 +161,11 @@ fn response_of(alloc: Global, value: &Value) -> Result<Response, Refusal>
 pub fn read_response(alloc: Global, bytes: &[u8]) -> Result<Response, Refusal>
     ensures { Answers result (grammar.answer_to bytes.now) }
 {
+    match plain_response(alloc, bytes) {
+        Ok(response) => return Ok(response),
+        Err(Stop::NoMemory) => return Err(Refusal::NoMemory),
+        Err(Stop::NotPlain) => {}
+    }
     let value = read_value(alloc, bytes)?;
     response_of(alloc, &value)
 }

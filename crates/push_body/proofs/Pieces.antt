@@ -13,10 +13,12 @@ mutation_pieces m =
 
 abbrev pub push_pieces : Identity → List Mutation → List Bytes
 push_pieces i ms =
-    codes "{\"clientGroupID\":" ∷ quoted i.group ∷ codes ",\"mutations\":[" ∷ mutations_text ms ∷ codes "],\"profileID\":" ∷ quoted i.profile
+    codes "{\"clientGroupID\":" ∷ quoted i.group ∷ codes ",\"mutations\":[" ∷ mutations_text ms
+    ∷ codes "],\"profileID\":" ∷ quoted i.profile
     ∷ codes ",\"pushVersion\":1,\"schemaVersion\":" ∷ quoted i.schema ∷ codes "}" ∷ []
 
 abbrev pub pull_pieces : Identity → Cookie → List Bytes
 pull_pieces i c =
-    codes "{\"clientGroupID\":" ∷ quoted i.group ∷ codes ",\"cookie\":" ∷ c.text ∷ codes ",\"profileID\":" ∷ quoted i.profile
+    codes "{\"clientGroupID\":" ∷ quoted i.group ∷ codes ",\"cookie\":" ∷ c.text ∷ codes ",\"profileID\":"
+    ∷ quoted i.profile
     ∷ codes ",\"pullVersion\":1,\"schemaVersion\":" ∷ quoted i.schema ∷ codes "}" ∷ []

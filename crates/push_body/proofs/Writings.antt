@@ -10,7 +10,8 @@ unfolding print_from
 print-one t = append-nil (token_text t)
 
 -- a writer that was given one token has that token's text
-pub print-first : (old new : Written) (t : Token) → old.tokens ≡ [] → new.tokens ≡ old.tokens ++ t ∷ [] → print new.tokens ≡ token_text t
+pub print-first : (old new : Written) (t : Token) → old.tokens ≡ [] → new.tokens ≡ old.tokens ++ t ∷ []
+    → print new.tokens ≡ token_text t
 print-first old new t none one = ap print (one ∙ ap (λ ts. ts ++ t ∷ []) none) ∙ print-one t
 
 -- pieces that are appended one after another
@@ -22,4 +23,5 @@ fold-append start (p ∷ ps) = fold-append (start ++ p) ps ∙ append_assoc star
 pub join-push : {A : Type 0} (text : A → List ℕ) (first : A) (xs : List A) (x : A)
     → join_with_byte 44 (map text (first ∷ (xs ++ x ∷ []))) ≡ join_with_byte 44 (map text (first ∷ xs)) ++ 44 ∷ text x
 join-push text first [] x = refl
-join-push text first (y ∷ xs) x = ap (λ s. text first ++ 44 ∷ s) (join-push text y xs x) ∙ sym (append_assoc (text first) (44 ∷ join_with_byte 44 (map text (y ∷ xs))) (44 ∷ text x))
+join-push text first (y ∷ xs) x = ap (λ s. text first ++ 44 ∷ s) (join-push text y xs x) ∙ sym
+    (append_assoc (text first) (44 ∷ join_with_byte 44 (map text (y ∷ xs))) (44 ∷ text x))

@@ -1,4 +1,5 @@
--- The bodies of the two requests, byte for byte: compact JSON objects (RFC 8259), their fields in the order of their names.
+-- The bodies of the two requests, byte for byte: compact JSON objects (RFC 8259), their fields in the order of their
+-- names.
 -- Source: Replicache, Push Endpoint Reference and Pull Endpoint Reference, version 1.
 use Rattle.std.specs.Prelude.{List, [], ◌∷◌, map, codes, decimal}
 use Rattle.std.specs.List.{concat, join_with_byte}
@@ -26,11 +27,13 @@ mutations_text ms = join_with_byte 44 (map mutation_text ms)
 -- the body of a push of these mutations
 unfoldable pub push_text : Identity → List Mutation → Bytes
 push_text i ms =
-    concat (codes "{\"clientGroupID\":" ∷ quoted i.group ∷ codes ",\"mutations\":[" ∷ mutations_text ms ∷ codes "],\"profileID\":" ∷ quoted i.profile
+    concat (codes "{\"clientGroupID\":" ∷ quoted i.group ∷ codes ",\"mutations\":[" ∷ mutations_text ms
+    ∷ codes "],\"profileID\":" ∷ quoted i.profile
     ∷ codes ",\"pushVersion\":1,\"schemaVersion\":" ∷ quoted i.schema ∷ codes "}" ∷ [])
 
 -- the body of a pull from this cookie on; the cookie is compact JSON already
 unfoldable pub pull_text : Identity → Cookie → Bytes
 pull_text i c =
-    concat (codes "{\"clientGroupID\":" ∷ quoted i.group ∷ codes ",\"cookie\":" ∷ c.text ∷ codes ",\"profileID\":" ∷ quoted i.profile
+    concat (codes "{\"clientGroupID\":" ∷ quoted i.group ∷ codes ",\"cookie\":" ∷ c.text ∷ codes ",\"profileID\":"
+    ∷ quoted i.profile
     ∷ codes ",\"pullVersion\":1,\"schemaVersion\":" ∷ quoted i.schema ∷ codes "}" ∷ [])

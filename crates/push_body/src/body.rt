@@ -1,21 +1,22 @@
 //! A body as it grows: one buffer, to which pieces are appended.
 //!
-//! Contracts see a `Body` as the list of its bytes, and each method says which bytes it appends. A JSON
-//! text or number is written by a writer of its own, which fills its buffer ahead with zeros; so it
-//! writes to a small buffer that is used again, and never to the long one.
-ghost use Rattle.std.specs.Prelude.{◌≡◌, [], ◌++◌, IfOk, decimal};
+//! Contracts see a `Body` as the list of its bytes, and each method says which bytes it appends. What it
+//! has after an error is not told: a body that met one is let go.
+ghost use Rattle.std.specs.Prelude.{◌≡◌, [], ◌∷◌, ◌++◌, IfOk, OnOk, decimal};
 ghost use Rattle.json.specs.Print.{print};
+ghost use Rattle.json.specs.Token.{string};
 ghost use Rattle.push_body.specs.Bodies.{quoted};
 
+use crate::plain::is_plain;
+use itoa::Buffer;
 use json::Writer;
 use std::alloc::{AllocError, Global};
 use std::marker::Model;
 
 #[derive(Drop)]
 pub(crate) struct Body {
+    alloc: Global,
     bytes: Vec<u8>,
-    // Room for one token.
-    token: Vec<u8>,
 }
 
 impl Model for Body {
@@ -27,62 +28,43 @@ impl Model for Body {
 }
 
 impl Body {
-    pub(crate) fn new(alloc: Global) -> Body
-        ensures { result ≡ [] }
+    /// An empty body, with room for so many bytes at first.
+    pub(crate) fn new(alloc: Global, room: usize) -> Result<Body, AllocError>
+        ensures { IfOk result (λ b. b ≡ []) }
     {
-        Body {
-            bytes: Vec::new(alloc),
-            token: Vec::new(alloc),
-        }
+        let bytes = Vec::with_capacity(alloc, room)?;
+        Ok(Body { alloc, bytes })
     }
 
     /// Appends a piece as it stands.
-    pub(crate) fn raw(self, piece: &str) -> Result<Body, AllocError>
-        ensures { IfOk result (λ b. b ≡ self ++ piece.now) }
+    #[inline(always)]
+    pub(crate) fn raw(&mut self, piece: &str) -> Result<(), AllocError>
+        ensures { OnOk result (self.new ≡ self.old ++ piece.now) }
     {
-        let Body { mut bytes, token } = self;
-        bytes.extend_from_slice(piece.as_bytes())?;
-        Ok(Body { bytes, token })
+        self.bytes.extend_from_slice(piece.as_bytes())
     }
 
     /// Appends a text as JSON, in quotes and escaped.
-    pub(crate) fn text(self, text: &str) -> Result<Body, AllocError>
-        ensures { IfOk result (λ b. b ≡ self ++ quoted text.now) }
+    #[inline(always)]
+    pub(crate) fn text(&mut self, text: &str) -> Result<(), AllocError>
+        ensures { OnOk result (self.new ≡ self.old ++ quoted text.now) }
     {
-        let (bytes, mut writer) = self.split();
-        writer.string(text)?;
-        Body::join(bytes, writer)
+        if is_plain(text.as_bytes()) {
+            self.raw("\"")?;
+            self.raw(text)?;
+            return self.raw("\"");
+        }
+        let token = escaped(self.alloc, text)?;
+        self.bytes.extend_from_slice(&token)
     }
 
     /// Appends a number in decimal.
-    pub(crate) fn number(self, number: u64) -> Result<Body, AllocError>
-        ensures { IfOk result (λ b. b ≡ self ++ decimal number) }
+    #[inline(always)]
+    pub(crate) fn number(&mut self, number: u64) -> Result<(), AllocError>
+        ensures { OnOk result (self.new ≡ self.old ++ decimal number) }
     {
-        let (bytes, mut writer) = self.split();
-        writer.u64(number)?;
-        Body::join(bytes, writer)
-    }
-
-    /// The bytes, and a writer of one token.
-    fn split(self) -> (Vec<u8>, Writer)
-        ensures bytes { result.0.items ≡ self }
-        ensures before { result.1.before ≡ [] }
-        ensures tokens { result.1.tokens ≡ [] }
-    {
-        let Body { bytes, mut token } = self;
-        token.clear();
-        (bytes, Writer::new(token))
-    }
-
-    /// The bytes, and what was written after them.
-    fn join(bytes: Vec<u8>, writer: Writer) -> Result<Body, AllocError>
-        requires { writer.before ≡ [] }
-        ensures { IfOk result (λ b. b ≡ bytes.items ++ print writer.tokens) }
-    {
-        let token = writer.into_inner();
-        let mut bytes = bytes;
-        bytes.extend_from_slice(&token)?;
-        Ok(Body { bytes, token })
+        let mut digits = Buffer::new();
+        self.raw(digits.format(number))
     }
 
     pub(crate) fn into_bytes(self) -> Vec<u8>
@@ -90,4 +72,15 @@ impl Body {
     {
         self.bytes
     }
+}
+
+/// A text as JSON, written by a writer of its own, which fills its buffer ahead with zeros.
+#[cold]
+#[inline(never)]
+fn escaped(alloc: Global, text: &str) -> Result<Vec<u8>, AllocError>
+    ensures { IfOk result (λ v. v.items ≡ quoted text.now) }
+{
+    let mut writer = Writer::new(Vec::new(alloc));
+    writer.string(text)?;
+    Ok(writer.into_inner())
 }

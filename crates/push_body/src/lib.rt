@@ -7,6 +7,7 @@
 mod body;
 mod identities;
 mod laws;
+mod plain;
 mod pull;
 mod push;
 

@@ -1,5 +1,5 @@
 //! The body of a pull: the cookie that the client has.
-ghost use Rattle.std.specs.Prelude.{◌≡◌, IfOk, IsOkUnless};
+ghost use Rattle.std.specs.Prelude.{◌≡◌, ◌++◌, IfOk, OnOk, IsOkUnless};
 ghost use Rattle.group_history.specs.declared.refusals.Refusal.TheVariants as refusal;
 ghost use Rattle.push_body.specs.Bodies.{pull_text};
 
@@ -8,19 +8,29 @@ use crate::identities::Identity;
 use group_history::{Cookie, Refusal};
 use std::alloc::{AllocError, Global};
 
+/// Bytes of a request beside its cookie, with an identity of usual length.
+const BYTES_OF_REQUEST: usize = 256;
+
+fn pull_all(body: &mut Body, identity: &Identity, cookie: &Cookie) -> Result<(), AllocError>
+    ensures { OnOk result (body.new ≡ body.old ++ pull_text identity.now cookie.now) }
+{
+    body.raw(r#"{"clientGroupID":"#)?;
+    body.text(identity.group.as_str())?;
+    body.raw(r#","cookie":"#)?;
+    body.raw(cookie.text())?;
+    body.raw(r#","profileID":"#)?;
+    body.text(identity.profile.as_str())?;
+    body.raw(r#","pullVersion":1,"schemaVersion":"#)?;
+    body.text(identity.schema.as_str())?;
+    body.raw("}")
+}
+
 fn pull_body(alloc: Global, identity: &Identity, cookie: &Cookie) -> Result<Body, AllocError>
     ensures { IfOk result (λ b. b ≡ pull_text identity.now cookie.now) }
 {
-    Body::new(alloc)
-        .raw(r#"{"clientGroupID":"#)?
-        .text(identity.group.as_str())?
-        .raw(r#","cookie":"#)?
-        .raw(cookie.text())?
-        .raw(r#","profileID":"#)?
-        .text(identity.profile.as_str())?
-        .raw(r#","pullVersion":1,"schemaVersion":"#)?
-        .text(identity.schema.as_str())?
-        .raw("}")
+    let mut body = Body::new(alloc, BYTES_OF_REQUEST.saturating_add(cookie.text().len()))?;
+    pull_all(&mut body, identity, cookie)?;
+    Ok(body)
 }
 
 /// The body of a pull from a cookie on (Replicache, Pull Endpoint Reference, version 1).

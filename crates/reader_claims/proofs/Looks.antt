@@ -10,7 +10,8 @@ use Rattle.reader_claims.specs.Inside.Looked.{IfTook}
 pub takes_later : (v u t : View) (i : ℕ) → u.taken ≡ v.taken → Takes u t i → Takes v t i
 takes_later v u t i same h = ((λ inside. h.0 (subst (λ l. In l i) (sym same) inside)), h.1 ∙ ap (λ l. i ∷ l) same)
 
-pub took_further : (look : Look) (a end : ℕ) (v u t : View) → a ≤ end → u.taken ≡ v.taken → IfTook look a u t → IfTook look end v t
+pub took_further : (look : Look) (a end : ℕ) (v u t : View) → a ≤ end → u.taken ≡ v.taken → IfTook look a u t
+    → IfTook look end v t
 took_further (Took i) a end v u t near same h = let lt = h.0 in (omega arith, takes_later v u t i same h.1)
 took_further (Retired i) a end v u t near same h = let lt = h.0 in (omega arith, h.1 ∙ same)
 took_further Nothing a end v u t near same h = h ∙ same

@@ -27,18 +27,20 @@ loads_only v u e is up = subst (Raises v) (sym is) record {
 }
 
 -- it was loaded and then raised, won or lost
-pub loads_and_raises : (v u t : View) (e n : ℕ) → u ≡ with_epoch v e → v.reached ≤ e → t ≡ with_raise u n → u.reached ≤ n → Raises v t
-loads_and_raises v u t e n is up then further = let here : u.reached ≡ e = ap (λ (y : View). y.reached) is in subst (Raises v) (sym (then ∙ ap (λ y. with_raise y n) is)) record {
-  sizes = refl;
-  number = refl;
-  pin = keeps_promoted v.pin e;
-  stores = refl;
-  taken = refl;
-  settled = refl;
-  withdrawn = refl;
-  retired = refl;
-  passes = refl;
-  raises = (omega arith, omega arith);
-  reached = omega arith;
-  floor = refl;
-}
+pub loads_and_raises : (v u t : View) (e n : ℕ) → u ≡ with_epoch v e → v.reached ≤ e → t ≡ with_raise u n
+    → u.reached ≤ n → Raises v t
+loads_and_raises v u t e n is up then further = let here : u.reached ≡ e = ap (λ (y : View). y.reached) is in
+    subst (Raises v) (sym (then ∙ ap (λ y. with_raise y n) is)) record {
+      sizes = refl;
+      number = refl;
+      pin = keeps_promoted v.pin e;
+      stores = refl;
+      taken = refl;
+      settled = refl;
+      withdrawn = refl;
+      retired = refl;
+      passes = refl;
+      raises = (omega arith, omega arith);
+      reached = omega arith;
+      floor = refl;
+    }

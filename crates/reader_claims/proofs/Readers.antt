@@ -21,9 +21,12 @@ pub record Stays (z z' : TableId) (m n : Sat) (number : ℕ) : Type 0 where
   pub bare : n.1 ≡ []
   pub low : n.0.reached ≤ 2 ^ 60
 
-pub stays : (z z' : TableId) (m n : Sat) (number : ℕ) (w : View) → z' ≡ z → n ≡ (w, m.1) → w.sizes ≡ m.0.sizes → w.number ≡ m.0.number → w.reached ≤ 2 ^ 60 → (m.0.number ≡ number) × (0 < number) × (number ≤ max_seats) → m.1 ≡ [] → Stays z z' m n number
+pub stays : (z z' : TableId) (m n : Sat) (number : ℕ) (w : View) → z' ≡ z → n ≡ (w, m.1) → w.sizes ≡ m.0.sizes
+    → w.number ≡ m.0.number → w.reached ≤ 2 ^ 60 → (m.0.number ≡ number) × (0 < number) × (number ≤ max_seats)
+    → m.1 ≡ [] → Stays z z' m n number
 stays z z' m n number w there is sizes same low own bare = record {
-  table = let size : n.0.sizes ≡ m.0.sizes = ap (λ (x : Sat). x.0.sizes) is ∙ sizes in λ i. record { table = there i; sizes = size i };
+  table = let size : n.0.sizes ≡ m.0.sizes = ap (λ (x : Sat). x.0.sizes) is ∙ sizes in
+      λ i. record { table = there i; sizes = size i };
   own = (ap (λ (x : Sat). x.0.number) is ∙ same ∙ own.0, own.1, own.2);
   bare = ap (λ (x : Sat). x.1) is ∙ bare;
   low = subst (λ (x : Sat). x.0.reached ≤ 2 ^ 60) (sym is) low;
@@ -35,12 +38,15 @@ either_way x old P hit miss = dite (ℕ_discrete x old) hit miss
 
 -- the step of the machine, from the word p that is q
 pub went : (m n : Sat) (p q x y : ℕ) (w : View) → p ≡ q → (n ≡ (w, m.1)) × Move m.0 p x y w → Move m.0 q x y n.0
-went m n p q x y w at g = subst (λ (u : View). Move m.0 q x y u) (sym (ap (λ (s : Sat). s.0) g.0)) (subst (λ t. Move m.0 t x y w) at g.1)
+went m n p q x y w at g = subst (λ (u : View). Move m.0 q x y u) (sym (ap (λ (s : Sat). s.0) g.0))
+    (subst (λ t. Move m.0 t x y w) at g.1)
 
 -- the step of an exchange, won or lost
-pub left_move : (x old new i : ℕ) (v w : View) → (x ≡ old → Move v i x new w) → (x ≢ old → Move v i x x w) → Move v i x (left_by old new x) w
+pub left_move : (x old new i : ℕ) (v w : View) → (x ≡ old → Move v i x new w) → (x ≢ old → Move v i x x w)
+    → Move v i x (left_by old new x) w
 left_move x old new i v w won lost = dite (ℕ_discrete x old)
-    (λ e. subst (λ y. Move v i x y w) (sym (ap (λ b. cond b new x) (eq-eqb x old e))) (won e)) (λ ne. subst (λ y. Move v i x y w) (sym (ap (λ b. cond b new x) (ne_eqb x old ne))) (lost ne))
+    (λ e. subst (λ y. Move v i x y w) (sym (ap (λ b. cond b new x) (eq-eqb x old e))) (won e))
+    (λ ne. subst (λ y. Move v i x y w) (sym (ap (λ b. cond b new x) (ne_eqb x old ne))) (lost ne))
 
 pub but_retired : (v u : View) (i r : ℕ) → u ≡ with_retired v i r → IsButRetired v u
 but_retired v u i r is = subst (IsButRetired v) (sym is) refl

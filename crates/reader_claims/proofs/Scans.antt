@@ -1,5 +1,6 @@
 -- What a pass over the slots knows.
-use Rattle.std.proofs.Common.{◌≡◌, ℕ, ◌+◌, ◌≢◌, List, [], ◌∷◌, ◌++◌, refl, sym, ap, ap₂, ◌∙◌, subst, arith, append_assoc}
+use Rattle.std.proofs.Common.{◌≡◌, ℕ, ◌+◌, ◌≢◌, List, [], ◌∷◌, ◌++◌, refl, sym, ap, ap₂, ◌∙◌, subst, arith}
+use Rattle.std.proofs.Common.{append_assoc}
 use mathlib.Core.Logic.{dite}
 use native.Mathlib.Decide.{ℕ_discrete, dec_lt}
 use Rattle.reader_claims.specs.Words.{slot_word}
@@ -14,7 +15,11 @@ use Rattle.reader_claims.specs.declared.words.SlotState.TheVariants.{Free, Taken
 
 -- notes that stand together stay so when more are put in front
 together_later : (run f g notes : List Note) → g ≡ notes ++ f → StandTogether run f → StandTogether run g
-together_later run f g notes is h = (notes ++ h.0, h.1, is ∙ ap (λ l. notes ++ l) h.2 ∙ sym (append_assoc notes h.0 (run ++ h.1)))
+together_later run f g notes is h = (
+  notes ++ h.0,
+  h.1,
+  is ∙ ap (λ l. notes ++ l) h.2 ∙ sym (append_assoc notes h.0 (run ++ h.1)),
+)
 
 -- the newest notes stand together
 pub in_front : (run back f : List Note) → f ≡ run ++ back → StandTogether run f
@@ -30,11 +35,16 @@ pub read_later : (v u : View) → Later v u → ArePinsRead v → ArePinsRead u
 read_later v u l h = subst (λ (y : View). ArePinsRead y) (sym l.0) h
 
 pub shut_later : (i : ℕ) (v u : View) → Later v u → WhyShut i v → WhyShut i u
-shut_later i v u l (passes.taken j saw) = passes.taken j (together_later (found i (slot_word (Taken j)) ∷ []) v.notes u.notes l.1.0 l.1.1 saw)
-shut_later i v u l (passes.live saw) = passes.live (together_later (found i (slot_word Live) ∷ []) v.notes u.notes l.1.0 l.1.1 saw)
-shut_later i v u l (passes.closed r saw h) = passes.closed r (together_later (found i (retired_at r) ∷ []) v.notes u.notes l.1.0 l.1.1 saw) (closed_later r v u l h)
-shut_later i v u l (passes.give_lost r x ne run) = passes.give_lost r x ne (together_later (lost i (retired_at r) x ∷ (found i (retired_at r) ∷ [])) v.notes u.notes l.1.0 l.1.1 run)
-shut_later i v u l (passes.take_lost r x ne run) = passes.take_lost r x ne (together_later (found i x ∷ (gave i r ∷ (found i (retired_at r) ∷ []))) v.notes u.notes l.1.0 l.1.1 run)
+shut_later i v u l (passes.taken j saw) = passes.taken j
+    (together_later (found i (slot_word (Taken j)) ∷ []) v.notes u.notes l.1.0 l.1.1 saw)
+shut_later i v u l (passes.live saw) = passes.live
+    (together_later (found i (slot_word Live) ∷ []) v.notes u.notes l.1.0 l.1.1 saw)
+shut_later i v u l (passes.closed r saw h) = passes.closed r
+    (together_later (found i (retired_at r) ∷ []) v.notes u.notes l.1.0 l.1.1 saw) (closed_later r v u l h)
+shut_later i v u l (passes.give_lost r x ne run) = passes.give_lost r x ne
+    (together_later (lost i (retired_at r) x ∷ (found i (retired_at r) ∷ [])) v.notes u.notes l.1.0 l.1.1 run)
+shut_later i v u l (passes.take_lost r x ne run) = passes.take_lost r x ne
+    (together_later (found i x ∷ (gave i r ∷ (found i (retired_at r) ∷ []))) v.notes u.notes l.1.0 l.1.1 run)
 
 pub later_self : (v : View) → Later v v
 later_self v = (refl, ([], refl), omega arith)
@@ -56,77 +66,119 @@ later_later v u t a b = (
 )
 
 -- a slot that was found neither free nor retired
-shut_at_look : (i : ℕ) (v u : View) (state : SlotState) → u.notes ≡ found i (slot_word state) ∷ v.notes → slot_word state ≢ 0 → ((r : ℕ) → state ≡ Retired r → ⊥) → WhyShut i u
+shut_at_look : (i : ℕ) (v u : View) (state : SlotState) → u.notes ≡ found i (slot_word state) ∷ v.notes
+    → slot_word state ≢ 0 → ((r : ℕ) → state ≡ Retired r → ⊥) → WhyShut i u
 shut_at_look i v u Free is some_word not = absurd (some_word refl)
-shut_at_look i v u (Taken j) is some_word not = passes.taken j (in_front (found i (slot_word (Taken j)) ∷ []) v.notes u.notes is)
+shut_at_look i v u (Taken j) is some_word not = passes.taken j
+    (in_front (found i (slot_word (Taken j)) ∷ []) v.notes u.notes is)
 shut_at_look i v u Live is some_word not = passes.live (in_front (found i (slot_word Live) ∷ []) v.notes u.notes is)
 shut_at_look i v u (Retired r) is some_word not = absurd (not r refl)
 
-pub shut_at_once : (i w : ℕ) (v u : View) (state : SlotState) → u ≡ with_note v i 0 w → slot_word state ≡ w → w ≢ 0 → ((r : ℕ) → state ≡ Retired r → ⊥) → (u.taken ≡ v.taken) × WhyShut i u
+pub shut_at_once : (i w : ℕ) (v u : View) (state : SlotState) → u ≡ with_note v i 0 w → slot_word state ≡ w → w ≢ 0
+    → ((r : ℕ) → state ≡ Retired r → ⊥) → (u.taken ≡ v.taken) × WhyShut i u
 shut_at_once i w v u state is word some_word not = (
   ap (λ (y : View). y.taken) is,
-  shut_at_look i v u state (ap (λ (y : View). y.notes) is ∙ ap (λ q. found i q ∷ v.notes) (sym word)) (λ e. some_word (sym word ∙ e)) not,
+  shut_at_look i v u state (ap (λ (y : View). y.notes) is ∙ ap (λ q. found i q ∷ v.notes) (sym word))
+      (λ e. some_word (sym word ∙ e)) not,
 )
 
 -- it was found retired, and closed
-pub shut_as_closed : (i r w : ℕ) (v u : View) → u ≡ with_note v i 0 w → w ≡ retired_at r → IsClosed u r → (u.taken ≡ v.taken) × WhyShut i u
+pub shut_as_closed : (i r w : ℕ) (v u : View) → u ≡ with_note v i 0 w → w ≡ retired_at r → IsClosed u r
+    → (u.taken ≡ v.taken) × WhyShut i u
 shut_as_closed i r w v u is word h = (
   ap (λ (y : View). y.taken) is,
-  passes.closed r (in_front (found i (retired_at r) ∷ []) v.notes u.notes (ap (λ (y : View). y.notes) is ∙ ap (λ q. found i q ∷ v.notes) word)) h,
+  passes.closed r (in_front (found i (retired_at r) ∷ []) v.notes u.notes
+      (ap (λ (y : View). y.notes) is ∙ ap (λ q. found i q ∷ v.notes) word)) h,
 )
 
 -- the give was lost
-pub shut_at_give : (i r w x : ℕ) (v u t : View) → u ≡ with_note v i 0 w → w ≡ retired_at r → x ≢ retired_at r → t ≡ with_note u i (retired_at r) x → (t.taken ≡ v.taken) × WhyShut i t
-shut_at_give i r w x v u t first word ne second = let both : t ≡ with_note (with_note v i 0 w) i (retired_at r) x = second ∙ ap (λ y. with_note y i (retired_at r) x) first in (
-  ap (λ (y : View). y.taken) both,
-  passes.give_lost r x ne (in_front (lost i (retired_at r) x ∷ (found i (retired_at r) ∷ [])) v.notes t.notes (ap (λ (y : View). y.notes) both ∙ ap (λ q. lost i (retired_at r) x ∷ (found i q ∷ v.notes)) word)),
-)
+pub shut_at_give : (i r w x : ℕ) (v u t : View) → u ≡ with_note v i 0 w → w ≡ retired_at r → x ≢ retired_at r
+    → t ≡ with_note u i (retired_at r) x → (t.taken ≡ v.taken) × WhyShut i t
+shut_at_give i r w x v u t first word ne second = let both : t
+    ≡ with_note (with_note v i 0 w) i (retired_at r) x = second ∙ ap (λ y. with_note y i (retired_at r) x) first in (
+      ap (λ (y : View). y.taken) both,
+      passes.give_lost r x ne (in_front (lost i (retired_at r) x ∷ (found i (retired_at r) ∷ [])) v.notes t.notes
+          (ap (λ (y : View). y.notes) both ∙ ap (λ q. lost i (retired_at r) x ∷ (found i q ∷ v.notes)) word)),
+    )
 
 -- the take after the give was lost
-pub shut_after_give : (i r w x : ℕ) (v u t z : View) → u ≡ with_note v i 0 w → w ≡ retired_at r → t ≡ with_given u i r → x ≢ 0 → z ≡ with_note t i 0 x → (z.taken ≡ v.taken) × WhyShut i z
-shut_after_give i r w x v u t z first word second ne third = let all : z ≡ with_note (with_given (with_note v i 0 w) i r) i 0 x = third ∙ ap (λ y. with_note y i 0 x) (second ∙ ap (λ y. with_given y i r) first) in (
-  ap (λ (y : View). y.taken) all,
-  passes.take_lost r x ne (in_front (found i x ∷ (gave i r ∷ (found i (retired_at r) ∷ []))) v.notes z.notes (ap (λ (y : View). y.notes) all ∙ ap (λ q. found i x ∷ (gave i r ∷ (found i q ∷ v.notes))) word)),
-)
+pub shut_after_give : (i r w x : ℕ) (v u t z : View) → u ≡ with_note v i 0 w → w ≡ retired_at r → t ≡ with_given u i r
+    → x ≢ 0 → z ≡ with_note t i 0 x → (z.taken ≡ v.taken) × WhyShut i z
+shut_after_give i r w x v u t z first word second ne third = let all : z
+    ≡ with_note (with_given (with_note v i 0 w) i r) i 0 x = third ∙ ap (λ y. with_note y i 0 x)
+    (second ∙ ap (λ y. with_given y i r) first) in (
+      ap (λ (y : View). y.taken) all,
+      passes.take_lost r x ne (in_front (found i x ∷ (gave i r ∷ (found i (retired_at r) ∷ []))) v.notes z.notes
+          (ap (λ (y : View). y.notes) all ∙ ap (λ q. found i x ∷ (gave i r ∷ (found i q ∷ v.notes))) word)),
+    )
 
 pub later_tried : (w i : ℕ) (v u : View) → (w ≡ 0 → u ≡ with_taken v i) → (w ≢ 0 → u ≡ with_note v i 0 w) → Later v u
-later_tried w i v u won miss = dite (ℕ_discrete w 0) (λ e. later_taken v u i (won e)) (λ ne. later_note v u i 0 w (miss ne))
+later_tried w i v u won miss = dite (ℕ_discrete w 0) (λ e. later_taken v u i (won e))
+    (λ ne. later_note v u i 0 w (miss ne))
 
 pub all_later : (from end : ℕ) (v u : View) → Later v u → AreShut from end v → AreShut from end u
 all_later from end v u l h i over near = shut_later i v u l (h i over near)
 
 pub all_more : (from end : ℕ) (v u : View) → Later v u → AreShut from end v → WhyShut end u → AreShut from (end + 1) u
-all_more from end v u l h one i over near = dite (ℕ_discrete i end) (λ e. subst (λ j. WhyShut j u) (sym e) one) (λ ne. shut_later i v u l (h i over (omega arith)))
+all_more from end v u l h one i over near = dite (ℕ_discrete i end) (λ e. subst (λ j. WhyShut j u) (sym e) one)
+    (λ ne. shut_later i v u l (h i over (omega arith)))
 
 -- two ranges that meet
 pub all_joined : (from at end : ℕ) (v : View) → AreShut from at v → AreShut at end v → AreShut from end v
 all_joined from at end v a b i over near = dite (dec_lt i at) (λ lt. a i over lt) (λ ge. b i (omega arith) near)
 
 -- a reading of the epoch and the pins from v to u, and then steps on slots to t
-pub finds_none : (v u t : View) (end : ℕ) → u ≡ passed v u → ArePinsRead u → Later u t → AreShut 0 end t → FindsNone v t end
+pub finds_none : (v u t : View) (end : ℕ) → u ≡ passed v u → ArePinsRead u → Later u t → AreShut 0 end t
+    → FindsNone v t end
 finds_none v u t end is read l shut = record {
-  epoch = (ap (λ (y : View). y.passes) l.0 ∙ ap (λ (y : View). y.passes) is, ap (λ (y : View). y.loaded) l.0 ∙ ap (λ (y : View). y.loaded) is ∙ sym (ap (λ (y : View). y.reached) l.0));
+  epoch = (
+    ap (λ (y : View). y.passes) l.0 ∙ ap (λ (y : View). y.passes) is,
+    ap (λ (y : View). y.loaded) l.0 ∙ ap (λ (y : View). y.loaded) is ∙ sym (ap (λ (y : View). y.reached) l.0),
+  );
   pins = read_later u t l read;
   slots = shut;
 }
 
 -- a whole pass: the ordinary slots in two ranges, and then those to the end
-pub passed_over : (v u a b t : View) (begin ordinary end : ℕ) → u ≡ passed v u → ArePinsRead u → Later u a → Later a b → Later b t → AreShut begin ordinary a → AreShut 0 begin b → AreShut ordinary end t → FindsNone v t end
+pub passed_over : (v u a b t : View) (begin ordinary end : ℕ) → u ≡ passed v u → ArePinsRead u → Later u a → Later a b
+    → Later b t → AreShut begin ordinary a → AreShut 0 begin b → AreShut ordinary end t → FindsNone v t end
 passed_over v u a b t begin ordinary end is read l m n first second third =
     finds_none v u t end is read (later_later u b t (later_later u a b l m) n)
-    (all_joined 0 ordinary end t (all_later 0 ordinary b t n (all_joined 0 begin ordinary b second (all_later begin ordinary a b m first))) third)
+    (all_joined 0 ordinary end t (all_later 0 ordinary b t n
+    (all_joined 0 begin ordinary b second (all_later begin ordinary a b m first))) third)
 
 -- all ordinary slots were shut before the others were looked at
-pub passed_ordinary : (v u a b t : View) (begin ordinary : ℕ) → u ≡ passed v u → ArePinsRead u → Later u a → Later a b → Later b t → AreShut begin ordinary a → AreShut 0 begin b → FindsNone v t ordinary
+pub passed_ordinary : (v u a b t : View) (begin ordinary : ℕ) → u ≡ passed v u → ArePinsRead u → Later u a → Later a b
+    → Later b t → AreShut begin ordinary a → AreShut 0 begin b → FindsNone v t ordinary
 passed_ordinary v u a b t begin ordinary is read l m n first second =
-    finds_none v u t ordinary is read (later_later u b t (later_later u a b l m) n) (all_later 0 ordinary b t n (all_joined 0 begin ordinary b second (all_later begin ordinary a b m first)))
+    finds_none v u t ordinary is read (later_later u b t (later_later u a b l m) n)
+    (all_later 0 ordinary b t n (all_joined 0 begin ordinary b second (all_later begin ordinary a b m first)))
 
 -- a give after a reading of the pins
 pub given_passed : (v q u : View) (i r : ℕ) → q ≡ passed v q → u ≡ with_given q i r → u ≡ with_given (passed v u) i r
 given_passed v q u i r first second = second ∙ ap (λ y. with_given y i r) first
-    ∙ ap₂ (λ a b. with_given (record v { pin = promoted v.pin a; loaded = a; before = v.loaded; passes = v.passes + 1; reached = a; read = b; notes = [] }) i r) (ap (λ (y : View). y.reached) (sym second)) (ap (λ (y : View). y.read) (sym second))
+    ∙ ap₂ (λ a b. with_given (record v {
+      pin = promoted v.pin a;
+      loaded = a;
+      before = v.loaded;
+      passes = v.passes + 1;
+      reached = a;
+      read = b;
+      notes = [];
+    }) i r) (ap (λ (y : View). y.reached) (sym second))
+    (ap (λ (y : View). y.read) (sym second))
 
 -- the same of a give that was lost
-pub noted_passed : (v q u : View) (i old x : ℕ) → q ≡ passed v q → u ≡ with_note q i old x → u ≡ with_note (passed v u) i old x
+pub noted_passed : (v q u : View) (i old x : ℕ) → q ≡ passed v q → u ≡ with_note q i old x
+    → u ≡ with_note (passed v u) i old x
 noted_passed v q u i old x first second = second ∙ ap (λ y. with_note y i old x) first
-    ∙ ap₂ (λ a b. with_note (record v { pin = promoted v.pin a; loaded = a; before = v.loaded; passes = v.passes + 1; reached = a; read = b; notes = [] }) i old x) (ap (λ (y : View). y.reached) (sym second)) (ap (λ (y : View). y.read) (sym second))
+    ∙ ap₂ (λ a b. with_note (record v {
+      pin = promoted v.pin a;
+      loaded = a;
+      before = v.loaded;
+      passes = v.passes + 1;
+      reached = a;
+      read = b;
+      notes = [];
+    }) i old x) (ap (λ (y : View). y.reached) (sym second))
+    (ap (λ (y : View). y.read) (sym second))

@@ -1,4 +1,5 @@
--- What a count of a table tells: of the states in which the slots were found, and of the pins. Lists of them have the last one in front, so the number of a slot is how many stand behind it.
+-- What a count of a table tells: of the states in which the slots were found, and of the pins. Lists of them have the
+-- last one in front, so the number of a slot is how many stand behind it.
 use Rattle.std.specs.Prelude.{◌≡◌, ◌↔◌, ℕ, ◌+◌, List, [], ◌∷◌, length, min, nat_lt, if◌then◌else◌, Option, Some, None}
 use Rattle.reader_claims.specs.declared.counts.SlotCounts.{SlotCounts}
 use Rattle.reader_claims.specs.declared.view.Sizes.{Sizes}
@@ -12,11 +13,20 @@ use Rattle.reader_claims.specs.Words.{pin_at, pin_word, slot_at, slot_word}
 -- ---- the slots
 
 abbrev pub no_slots : SlotCounts
-no_slots = record { ordinary_free = 0; reserved_free = 0; live = 0; retired = 0; taken = 0; pinned_seats = 0; oldest_pin = None }
+no_slots = record {
+  ordinary_free = 0;
+  reserved_free = 0;
+  live = 0;
+  retired = 0;
+  taken = 0;
+  pinned_seats = 0;
+  oldest_pin = None;
+}
 
 -- the slot i more, which is in this state; those below the first reserved one are ordinary
 abbrev pub with_slot : ℕ → ℕ → SlotState → SlotCounts → SlotCounts
-with_slot reserved i Free c = if nat_lt i reserved then record c { ordinary_free = c.ordinary_free + 1 } else record c { reserved_free = c.reserved_free + 1 }
+with_slot reserved i Free c = if nat_lt i reserved then record c { ordinary_free = c.ordinary_free + 1 } else record c
+    { reserved_free = c.reserved_free + 1 }
 with_slot reserved i (Taken j) c = record c { taken = c.taken + 1 }
 with_slot reserved i Live c = record c { live = c.live + 1 }
 with_slot reserved i (Retired r) c = record c { retired = c.retired + 1 }
@@ -59,11 +69,13 @@ PinsFound found (pin ∷ pins) = found (pin_at (length pins + 1)) (pin_word pin)
 
 -- the numbers are those of n slots, which looks found in such states
 abbrev pub CountsSlots : (ℕ → ℕ → Type 0) → ℕ → ℕ → SlotCounts → Type 0
-CountsSlots found reserved n c = (states : List SlotState) × (length states ≡ n) × SlotsFound found states × (c ≡ slots_counted reserved states)
+CountsSlots found reserved n c = (states : List SlotState) × (length states ≡ n) × SlotsFound found states
+    × (c ≡ slots_counted reserved states)
 
 -- beside those of the slots, the numbers are those of n pins, which looks found so
 abbrev pub CountsPins : (ℕ → ℕ → Type 0) → ℕ → SlotCounts → SlotCounts → Type 0
-CountsPins found n slots c = (pins : List Pin) × (length pins ≡ n) × PinsFound found pins × (c ≡ pins_counted pins slots)
+CountsPins found n slots c = (pins : List Pin) × (length pins ≡ n) × PinsFound found pins
+    × (c ≡ pins_counted pins slots)
 
 -- the numbers are those of each slot and each pin of a table of this size, which looks found so
 pub record Counts (found : ℕ → ℕ → Type 0) (k : Sizes) (c : SlotCounts) : Type 0 where

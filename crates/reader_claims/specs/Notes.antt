@@ -2,7 +2,8 @@
 use Rattle.std.specs.Prelude.{◌≡◌, ℕ, List, ◌++◌, cond, ◌==◌, refl}
 use Rattle.std.specs.Coded.{Coded, code_by, coded×, coded_ℕ, coded_list}
 
--- An exchange was lost: the slot was sought at one word, and another one was there. Or the slot, which was retired at r, was given
+-- An exchange was lost: the slot was sought at one word, and another one was there. Or the slot, which was retired at
+-- r, was given
 pub data Note : Type 0 where
   lost : (slot sought there : ℕ) → Note
   gave : (slot r : ℕ) → Note
@@ -25,4 +26,5 @@ from_numbers-in_numbers (lost slot sought there) = refl
 from_numbers-in_numbers (gave slot r) = refl
 
 abbrev pub notes_code : Coded (List Note)
-notes_code = coded_list (code_by (ℕ × (ℕ × (ℕ × ℕ))) (coded× coded_ℕ (coded× coded_ℕ (coded× coded_ℕ coded_ℕ))) in_numbers from_numbers from_numbers-in_numbers)
+notes_code = coded_list (code_by (ℕ × (ℕ × (ℕ × ℕ)))
+    (coded× coded_ℕ (coded× coded_ℕ (coded× coded_ℕ coded_ℕ))) in_numbers from_numbers from_numbers-in_numbers)

@@ -1,4 +1,5 @@
--- What the calls tell: of a pin, of a raise, of one slot, and of a search among all slots. In each v is what the seat knew before the call, and u what it knows after it.
+-- What the calls tell: of a pin, of a raise, of one slot, and of a search among all slots. In each v is what the seat
+-- knew before the call, and u what it knows after it.
 use Rattle.std.specs.Prelude.{◌≡◌, ◌≢◌, ℕ, ◌+◌, ◌^◌, ◌<◌, ◌≤◌, ◌⊎◌, [], ◌∷◌}
 use Rattle.reader_claims.specs.declared.words.Pin.TheVariants.{Absent, Held}
 use Rattle.reader_claims.specs.declared.words.SlotState.TheVariants.{Free, Taken, Live, Retired}
@@ -11,11 +12,31 @@ use Rattle.reader_claims.specs.Views.{promoted, with_retired, with_given, with_n
 
 -- after a pin: the epoch was read as e, stored, and read as e again
 abbrev pub pinned : View → ℕ → View
-pinned v e = record v { pin = Held e; stores = v.stores + 1; loaded = e; before = e; passes = v.passes + 2; reached = e; read = []; notes = []; settled = [] }
+pinned v e = record v {
+  pin = Held e;
+  stores = v.stores + 1;
+  loaded = e;
+  before = e;
+  passes = v.passes + 2;
+  reached = e;
+  read = [];
+  notes = [];
+  settled = [];
+}
 
 -- after a pin that was taken away again: the epoch was read as a, stored, and then read as b
 abbrev pub unpinned : View → ℕ → ℕ → View
-unpinned v a b = record v { pin = Absent; stores = v.stores + 2; loaded = b; before = a; passes = v.passes + 2; reached = b; read = []; notes = []; settled = [] }
+unpinned v a b = record v {
+  pin = Absent;
+  stores = v.stores + 2;
+  loaded = b;
+  before = a;
+  passes = v.passes + 2;
+  reached = b;
+  read = [];
+  notes = [];
+  settled = [];
+}
 
 -- the pin is held at e, which both loads read
 abbrev pub IsPinned : View → View → ℕ → Type 0
@@ -25,7 +46,8 @@ IsPinned v u e = (u ≡ pinned v e) × (v.reached ≤ e) × (e ≤ 2 ^ 60)
 abbrev pub IsUnpinned : View → View → Type 0
 IsUnpinned v u = (u ≡ unpinned v u.before u.loaded) × (v.reached ≤ u.before) × (u.before < u.loaded)
 
--- A call that raises the epoch loads it, and raises it once at most. It leaves the pin and the slots, and what the seat has reached never falls
+-- A call that raises the epoch loads it, and raises it once at most. It leaves the pin and the slots, and what the seat
+-- has reached never falls
 pub record Raises (v u : View) : Type 0 where
   pub sizes : u.sizes ≡ v.sizes
   pub number : u.number ≡ v.number
@@ -50,7 +72,15 @@ IsButRetired v u = u ≡ record v { retired = u.retired; notes = u.notes }
 
 -- the epoch was read once, and then pins: but for that u is v
 abbrev pub passed : View → View → View
-passed v u = record v { pin = promoted v.pin u.reached; loaded = u.reached; before = v.loaded; passes = v.passes + 1; reached = u.reached; read = u.read; notes = [] }
+passed v u = record v {
+  pin = promoted v.pin u.reached;
+  loaded = u.reached;
+  before = v.loaded;
+  passes = v.passes + 1;
+  reached = u.reached;
+  read = u.read;
+  notes = [];
+}
 
 -- the pins were read, and the slot i was given at some r at which they left it open
 abbrev pub IsGiven : View → View → ℕ → Type 0
@@ -58,9 +88,11 @@ IsGiven v u i = (r : ℕ) × IsOpen u r × (u ≡ with_given (passed v u) i r)
 
 -- the pins were read, and nothing was given; where the seat tried to give the slot i, another one had changed it
 abbrev pub IsNotGiven : View → View → ℕ → Type 0
-IsNotGiven v u i = (u ≡ passed v u) ⊎ ((r x : ℕ) × (x ≢ slot_word (Retired r)) × (u ≡ with_note (passed v u) i (slot_word (Retired r)) x))
+IsNotGiven v u i = (u ≡ passed v u) ⊎ ((r x : ℕ) × (x ≢ slot_word (Retired r))
+    × (u ≡ with_note (passed v u) i (slot_word (Retired r)) x))
 
--- A call that looks at slots may take one and give some. It stores no pin, raises nothing, and settles, withdraws and retires no slot, so it shuts none by itself. What the seat has reached never falls
+-- A call that looks at slots may take one and give some. It stores no pin, raises nothing, and settles, withdraws and
+-- retires no slot, so it shuts none by itself. What the seat has reached never falls
 pub record Looks (v u : View) : Type 0 where
   pub sizes : u.sizes ≡ v.sizes
   pub number : u.number ≡ v.number
@@ -89,16 +121,19 @@ retired_at r = slot_word (Retired r)
 abbrev pub Saw : View → ℕ → ℕ → Type 0
 Saw v i w = StandTogether (found i w ∷ []) v.notes
 
--- Why the slot i could not be had. Notes have the newest in front, and between those that stand together the seat noted nothing else
+-- Why the slot i could not be had. Notes have the newest in front, and between those that stand together the seat noted
+-- nothing else
 pub data WhyShut (i : ℕ) (v : View) : Type 0 where
   taken : (j : ℕ) → Saw v i (slot_word (Taken j)) → WhyShut i v
   live : Saw v i (slot_word Live) → WhyShut i v
   -- it was retired, and may not be given
   closed : (r : ℕ) → Saw v i (retired_at r) → IsClosed v r → WhyShut i v
   -- it was retired, and when the seat was to give it another seat had changed it
-  give_lost : (r x : ℕ) → x ≢ retired_at r → StandTogether (lost i (retired_at r) x ∷ (found i (retired_at r) ∷ [])) v.notes → WhyShut i v
+  give_lost : (r x : ℕ) → x ≢ retired_at r
+      → StandTogether (lost i (retired_at r) x ∷ (found i (retired_at r) ∷ [])) v.notes → WhyShut i v
   -- it was retired, the seat gave it, and when the seat was to take it another seat had changed it
-  take_lost : (r x : ℕ) → x ≢ slot_word Free → StandTogether (found i x ∷ (gave i r ∷ (found i (retired_at r) ∷ []))) v.notes → WhyShut i v
+  take_lost : (r x : ℕ) → x ≢ slot_word Free
+      → StandTogether (found i x ∷ (gave i r ∷ (found i (retired_at r) ∷ []))) v.notes → WhyShut i v
 
 -- no slot of those from from and below end could be had
 abbrev pub AreShut : ℕ → ℕ → View → Type 0

@@ -9,11 +9,47 @@ use Rattle.reader_claims.specs.Notes.{lost, gave}
 
 -- the seat of the reader j, before its first step
 abbrev pub reader : Sizes → ℕ → View
-reader k j = record { sizes = k; number = j; next = 0; pin = Absent; stores = 0; loaded = 0; before = 0; passes = 0; reached = 0; raises = 0; read = []; taken = []; settled = []; withdrawn = []; retired = []; notes = []; floor = 0 }
+reader k j = record {
+  sizes = k;
+  number = j;
+  next = 0;
+  pin = Absent;
+  stores = 0;
+  loaded = 0;
+  before = 0;
+  passes = 0;
+  reached = 0;
+  raises = 0;
+  read = [];
+  taken = [];
+  settled = [];
+  withdrawn = [];
+  retired = [];
+  notes = [];
+  floor = 0;
+}
 
 -- the seat that makes those of the readers, with the number that the next one gets
 abbrev pub dealer : Sizes → ℕ → View
-dealer k n = record { sizes = k; number = 0; next = n; pin = Absent; stores = 0; loaded = 0; before = 0; passes = 0; reached = 0; raises = 0; read = []; taken = []; settled = []; withdrawn = []; retired = []; notes = []; floor = 0 }
+dealer k n = record {
+  sizes = k;
+  number = 0;
+  next = n;
+  pin = Absent;
+  stores = 0;
+  loaded = 0;
+  before = 0;
+  passes = 0;
+  reached = 0;
+  raises = 0;
+  read = [];
+  taken = [];
+  settled = [];
+  withdrawn = [];
+  retired = [];
+  notes = [];
+  floor = 0;
+}
 
 -- a stored pin becomes held where the epoch is read as its number
 abbrev pub promoted : Pin → ℕ → Pin
@@ -23,7 +59,15 @@ promoted (Held n) e = Held n
 
 -- the epoch was read as e
 abbrev pub with_epoch : View → ℕ → View
-with_epoch v e = record v { pin = promoted v.pin e; loaded = e; before = v.loaded; passes = v.passes + 1; reached = e; read = []; notes = [] }
+with_epoch v e = record v {
+  pin = promoted v.pin e;
+  loaded = e;
+  before = v.loaded;
+  passes = v.passes + 1;
+  reached = e;
+  read = [];  -- what was read before counts no more
+  notes = [];
+}
 
 -- the own pin was stored, or taken away
 abbrev pub with_pin : View → Pin → View

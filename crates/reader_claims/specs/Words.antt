@@ -1,5 +1,6 @@
 -- The words of the table: where each stands, and which number stands for a pin or a slot.
--- Words lie 8 bytes apart, so 8 words fill a cache line: the epoch and each pin have a line of their own. The layout is that of `max_seats` readers, however many there are.
+-- Words lie 8 bytes apart, so 8 words fill a cache line: the epoch and each pin have a line of their own. The layout is
+-- that of `max_seats` readers, however many there are.
 use Rattle.std.specs.Prelude.{ℕ, ◌+◌, ◌*◌, ◌-◌, ◌^◌, ◌<◌}
 use Rattle.group_history.specs.Refs.{max_seats}
 use Rattle.reader_claims.specs.declared.words.Pin.{Pin}

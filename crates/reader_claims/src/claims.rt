@@ -32,18 +32,21 @@
 //! words, so every step of every seat owes it, and the calls say which moves they made. What
 //! follows from it is the contract of [`claims_law`](crate::claims_law). What a seat knows is its
 //! view, and each call says how it changes.
-ghost use Rattle.std.specs.Prelude.{◌≡◌, ℕ, ◌+◌, ◌-◌, ◌^◌, ◌<◌, ◌≤◌, [], true, false, IfOk, IfErr, IfNone, IfSome, MatchResult, MatchOption, ◌∷◌};
+ghost use Rattle.std.specs.Prelude.{◌≡◌, ℕ, ◌+◌, ◌-◌, ◌^◌, ◌<◌, ◌≤◌, [], true, false, IfOk, IfErr, IfNone, IfSome};
+ghost use Rattle.std.specs.Prelude.{MatchResult, MatchOption, ◌∷◌};
 ghost use Rattle.group_history.specs.Refs.{max_slots, max_seats};
 ghost use Rattle.group_history.specs.declared.refusals.Refusal.TheVariants.{NoMemory};
 ghost use Rattle.reader_claims.specs.declared.words.Pin.TheVariants.{Absent};
 ghost use Rattle.reader_claims.specs.Lists.{In};
-ghost use Rattle.reader_claims.specs.Views.{IsOpen, IsClosed, with_epoch, with_pin, with_raise, with_settled, with_withdrawn};
+ghost use Rattle.reader_claims.specs.Views.{IsOpen, IsClosed, with_epoch, with_pin, with_raise, with_settled};
+ghost use Rattle.reader_claims.specs.Views.{with_withdrawn};
 ghost use Rattle.reader_claims.specs.Words.{epoch_at, pin_at, slot_at, slot_word};
 ghost use Rattle.reader_claims.specs.declared.words.SlotState.TheVariants.{Free, Taken, Live, Retired};
 ghost use Rattle.reader_claims.specs.Machine.{Move, Moves, left_by};
 ghost use Rattle.reader_claims.specs.Seats.{AreSeats, first_reserved, kind_end};
 ghost use Rattle.reader_claims.specs.Counts.{Counts, HasOldest, all_slots, whatever};
-ghost use Rattle.reader_claims.specs.Passes.{IsPinned, IsUnpinned, passed, IsRetired, IsButRetired, IsGiven, IsNotGiven, Takes, Looks, FindsNone};
+ghost use Rattle.reader_claims.specs.Passes.{IsPinned, IsUnpinned, passed, IsRetired, IsButRetired, IsGiven};
+ghost use Rattle.reader_claims.specs.Passes.{IsNotGiven, Takes, Looks, FindsNone};
 
 use crate::counts::{SlotCounts, count};
 use crate::plays::Deal;
@@ -196,7 +199,8 @@ impl Claims {
         ensures table { seat.new.table ≡ seat.old.table }
         ensures step { (x : ℕ) × Move seat.old.view epoch_at x (left_by n (n + 1) x) seat.new.view }
         ensures view { seat.new.view ≡ with_raise seat.old.view seat.new.view.reached }
-        ensures reached { (n < seat.new.view.reached) × (seat.old.view.reached ≤ seat.new.view.reached) × (seat.new.view.reached ≤ 2 ^ 60) }
+        ensures reached { (n < seat.new.view.reached) × (seat.old.view.reached ≤ seat.new.view.reached)
+            × (seat.new.view.reached ≤ 2 ^ 60) }
     {
         self.words.raise_epoch(&mut seat.reader, n);
     }

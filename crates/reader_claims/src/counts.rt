@@ -7,7 +7,8 @@
 //! table and knows of a word only that a look found it (`Looked`).
 ghost use Rattle.std.specs.Prelude.{◌≡◌, ℕ, ◌+◌, ◌-◌, ◌^◌, ◌<◌, ◌≤◌};
 ghost use Rattle.group_history.specs.Refs.{max_seats};
-ghost use Rattle.reader_claims.specs.Counts.{Counts, CountsSlots, CountsPins, HasOldest, all_slots, with_slot, with_pin};
+ghost use Rattle.reader_claims.specs.Counts.{Counts, CountsSlots, CountsPins, HasOldest, all_slots, with_slot};
+ghost use Rattle.reader_claims.specs.Counts.{with_pin};
 ghost use Rattle.reader_claims.specs.Words.{first_slot};
 ghost use Rattle.reader_claims.specs.Seats.{first_reserved};
 

@@ -1,5 +1,6 @@
 // What the rule of the table says, whatever the threads do.
-ghost use Rattle.reader_claims.specs.Laws.{HoldLaw, OpenLaw, GivenLaw, EpochLaw, HeldLaw, RetiredLaw, TakenLaw, TakerLaw, LearntLaw, LiveLaw, StepLaw, BareLaw};
+ghost use Rattle.reader_claims.specs.Laws.{HoldLaw, OpenLaw, GivenLaw, EpochLaw, HeldLaw, RetiredLaw, TakenLaw};
+ghost use Rattle.reader_claims.specs.Laws.{TakerLaw, LearntLaw, LiveLaw, StepLaw, BareLaw};
 
 /// What holds of every table that any list of steps of any seats leads to: no slot is given while a
 /// reader holds it, nor is a pin held below a number at which a slot was given; a taken slot is its

@@ -1,5 +1,6 @@
 // What is made of the single steps: a reading of the epoch and the pins, and the search for a slot.
-ghost use Rattle.std.specs.Prelude.{◌≡◌, ◌≢◌, ℕ, ◌+◌, ◌-◌, ◌^◌, ◌<◌, ◌≤◌, true, false, min, MatchOption, IfNone, IfSome, ◌∷◌};
+ghost use Rattle.std.specs.Prelude.{◌≡◌, ◌≢◌, ℕ, ◌+◌, ◌-◌, ◌^◌, ◌<◌, ◌≤◌, true, false, min, MatchOption, IfNone};
+ghost use Rattle.std.specs.Prelude.{IfSome, ◌∷◌};
 ghost use Rattle.reader_claims.specs.Words.{slot_word, pin_word};
 ghost use Rattle.reader_claims.specs.declared.words.Pin.TheVariants.{Stored};
 ghost use Rattle.reader_claims.specs.declared.words.SlotState.TheVariants.{Free, Retired};

@@ -7,7 +7,8 @@ ghost use Rattle.reader_claims.specs.declared.words.SlotState.TheVariants.{Free,
 ghost use Rattle.reader_claims.specs.Words.{epoch_at, pin_at, slot_at, slot_word, first_slot, IsSmall};
 ghost use Rattle.reader_claims.specs.Counts.{whatever};
 ghost use Rattle.reader_claims.specs.Lists.{In};
-ghost use Rattle.reader_claims.specs.Views.{IsOpen, with_epoch, with_pin, with_read, with_raise, with_taken, with_settled, with_withdrawn, with_retired, with_given, with_note};
+ghost use Rattle.reader_claims.specs.Views.{IsOpen, with_epoch, with_pin, with_read, with_raise, with_taken};
+ghost use Rattle.reader_claims.specs.Views.{with_settled, with_withdrawn, with_retired, with_given, with_note};
 ghost use Rattle.reader_claims.specs.Passes.{IsButRetired};
 ghost use Rattle.reader_claims.specs.Machine.{Move, left_by};
 
@@ -26,7 +27,8 @@ use std::alloc::Global;
 pub(crate) struct Words {
     pub(crate) table: Table<(), View, Sizes, Claimed, Global>,
     pub(crate) sizes: Sizes,
-    ghost sized: { (table.shared.key ≡ sizes) × (table.shared.table_id.words ≡ first_slot + sizes.slots) × (sizes.readers ≤ max_seats) },
+    ghost sized: { (table.shared.key ≡ sizes) × (table.shared.table_id.words ≡ first_slot + sizes.slots)
+        × (sizes.readers ≤ max_seats) },
 }
 
 // A seat at the table. Its epoch is at most 2 ^ 60, so that what is one above it fits a word.
@@ -113,7 +115,8 @@ impl Words {
         ensures table { reader_id reader.new ≡ reader_id reader.old }
         ensures won { result ≡ slot_word Free → view reader.new ≡ with_taken (view reader.old) slot }
         ensures fresh { result ≡ slot_word Free → In (view reader.old).taken slot → ⊥ }
-        ensures lost { result ≢ slot_word Free → view reader.new ≡ with_note (view reader.old) slot (slot_word Free) result }
+        ensures lost { result ≢ slot_word Free
+            → view reader.new ≡ with_note (view reader.old) slot (slot_word Free) result }
         ensures step { Move (view reader.old) (slot_at slot)
             result (left_by (slot_word Free) (slot_word (Taken (view reader.old).number)) result) (view reader.new) }
     {
@@ -157,7 +160,8 @@ impl Words {
         requires raised { (r ≡ (view reader.old).loaded + 1) × ((view reader.old).loaded < (view reader.old).reached) }
         ensures table { reader_id reader.new ≡ reader_id reader.old }
         ensures won { result ≡ slot_word Live → view reader.new ≡ with_retired (view reader.old) slot r }
-        ensures lost { result ≢ slot_word Live → view reader.new ≡ with_note (view reader.old) slot (slot_word Live) result }
+        ensures lost { result ≢ slot_word Live
+            → view reader.new ≡ with_note (view reader.old) slot (slot_word Live) result }
         ensures kept { IsButRetired (view reader.old) (view reader.new) }
         ensures step { Move (view reader.old) (slot_at slot)
             result (left_by (slot_word Live) (slot_word (Retired r)) result) (view reader.new) }
@@ -174,7 +178,8 @@ impl Words {
         requires open_at { IsOpen (view reader.old) r }
         ensures table { reader_id reader.new ≡ reader_id reader.old }
         ensures won { result ≡ slot_word (Retired r) → view reader.new ≡ with_given (view reader.old) slot r }
-        ensures lost { result ≢ slot_word (Retired r) → view reader.new ≡ with_note (view reader.old) slot (slot_word (Retired r)) result }
+        ensures lost { result ≢ slot_word (Retired r)
+            → view reader.new ≡ with_note (view reader.old) slot (slot_word (Retired r)) result }
         ensures step { Move (view reader.old) (slot_at slot)
             result (left_by (slot_word (Retired r)) (slot_word Free) result) (view reader.new) }
     {

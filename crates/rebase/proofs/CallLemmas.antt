@@ -1,5 +1,7 @@
 -- Calls of a client: how they are answered, and what a list of answered calls is where no other seat moves the head.
-use Rattle.std.proofs.Common.{◌≡◌, ◌≢◌, ℕ, suc, ◌+◌, ◌-◌, ◌<◌, ◌≤◌, ◌==◌, ◌⊎◌, inl, inr, Bool, true, false, cond, List, [], ◌∷◌, ◌++◌, length, map, filter, take, get_or, Option, Some, None, Result, Ok, Err, refl, sym, ap, subst, ◌∙◌, arith, length-append}
+use Rattle.std.proofs.Common.{◌≡◌, ◌≢◌, ℕ, suc, ◌+◌, ◌-◌, ◌<◌, ◌≤◌, ◌==◌, ◌⊎◌, inl, inr, Bool, true, false, cond, List}
+use Rattle.std.proofs.Common.{[], ◌∷◌, ◌++◌, length, map, filter, take, get_or, Option, Some, None, Result, Ok, Err}
+use Rattle.std.proofs.Common.{refl, sym, ap, subst, ◌∙◌, arith, length-append}
 use Rattle.std.proofs.lemmas.List.{append-nil, take_more}
 use Rattle.std.proofs.lemmas.List.Elements.{filter-append}
 use Rattle.std.specs.Prelude.{IfOk, IfErr, IsOkAnd, MatchResult}
@@ -23,13 +25,15 @@ use Rattle.head_word.specs.Marks.{Known, own, own_of}
 use Rattle.head_word.specs.Tallies.{key_of, mine}
 use Rattle.head_word.proofs.Books.{record_more}
 use Rattle.head_word.proofs.Counting.{mine_more}
-use Rattle.answered.specs.Answered.{IsPoint, IsAnswered, IsLeft, IsRefused, Answers, is_move, is_mute, is_want, moves_for, nothing, own_moves}
+use Rattle.answered.specs.Answered.{IsPoint, IsAnswered, IsLeft, IsRefused, Answers, is_move, is_mute, is_want}
+use Rattle.answered.specs.Answered.{moves_for, nothing, own_moves}
 use Rattle.answered.specs.Changes.{after_made, change_made, change_read}
 use Rattle.answered.proofs.AtOnce.{record_at}
 use Rattle.answered.proofs.Holding.{change_laws_hold}
 use Rattle.pull_patch.specs.Grammar.{answer_to}
 use Rattle.rebase.specs.Asking.{end_bytes_reply}
-use Rattle.rebase.specs.Calls.{AreAnswered, AreReplies, Caller, IsAlone, IsLater, IsReplyTo, asked_mutation, caller_after, change_of, ended_in, id_in, moves_of_others, reply_to}
+use Rattle.rebase.specs.Calls.{AreAnswered, AreReplies, Caller, IsAlone, IsLater, IsReplyTo, asked_mutation}
+use Rattle.rebase.specs.Calls.{caller_after, change_of, ended_in, id_in, moves_of_others, reply_to}
 use Rattle.rebase.specs.Queries.{IsMissed, told}
 use Rattle.rebase.specs.Replies.{Replied, reply_seen, ended, id}
 use Rattle.rebase.specs.declared.calls.Call.{Call}
@@ -60,7 +64,8 @@ moves_grow xs ys pre = omega (arith, moves_more xs pre.0, ap moves pre.1)
 record_same : (xs ys : List Entry) → IsPrefix xs ys → moves ys ≡ moves xs → record_of ys ≡ record_of xs
 record_same xs ys pre same =
     let none : moves pre.0 ≡ 0 = omega (arith, moves_more xs pre.0, ap moves pre.1, same) in
-    sym (ap record_of pre.1) ∙ (record_more xs pre.0 ∙ (ap (λ w. record_of xs ++ w) (record_still pre.0 none) ∙ append-nil (record_of xs)))
+    sym (ap record_of pre.1) ∙ (record_more xs pre.0 ∙
+    (ap (λ w. record_of xs ++ w) (record_still pre.0 none) ∙ append-nil (record_of xs)))
 
 -- a seat's own moves are no more than all moves
 own_within : (seat : Option ℕ) (es : List Entry) → length (filter is_move (own_of seat es)) ≤ moves es
@@ -68,9 +73,13 @@ own_within None es = omega arith
 own_within (Some j) [] = omega arith
 own_within (Some j) (e ∷ es) = by e (key_of e == suc j) (own_within (Some j) es)
   where
-    by : (e : Entry) (b : Bool) → length (filter is_move (mine (suc j) es)) ≤ moves es → length (filter is_move (cond b (e ∷ mine (suc j) es) (mine (suc j) es))) ≤ moves (e ∷ es)
-    by (v.Move m) true le = let k : length (filter is_move (mine (suc j) es)) ≤ length (filter is_move es) = le in let g : suc (length (filter is_move (mine (suc j) es))) ≤ suc (length (filter is_move es)) = omega (arith, k) in g
-    by (v.Move m) false le = let k : length (filter is_move (mine (suc j) es)) ≤ length (filter is_move es) = le in let g : length (filter is_move (mine (suc j) es)) ≤ suc (length (filter is_move es)) = omega (arith, k) in g
+    by : (e : Entry) (b : Bool) → length (filter is_move (mine (suc j) es)) ≤ moves es
+        → length (filter is_move (cond b (e ∷ mine (suc j) es) (mine (suc j) es))) ≤ moves (e ∷ es)
+    by (v.Move m) true le = let k : length (filter is_move (mine (suc j) es)) ≤ length (filter is_move es) = le in
+        let g : suc (length (filter is_move (mine (suc j) es)))
+        ≤ suc (length (filter is_move es)) = omega (arith, k) in g
+    by (v.Move m) false le = let k : length (filter is_move (mine (suc j) es)) ≤ length (filter is_move es) = le in
+        let g : length (filter is_move (mine (suc j) es)) ≤ suc (length (filter is_move es)) = omega (arith, k) in g
     by (v.Draft d) true le = le
     by (v.Draft d) false le = le
 
@@ -79,10 +88,15 @@ own_more None xs ys = refl
 own_more (Some j) xs ys = mine_more (suc j) xs ys
 
 -- the own moves of a later mark, by number
-own_moves_more : (old new : Known) → (pre : IsPrefix old.log new.log) → new.seat ≡ old.seat → length (own_moves new) ≡ length (own_moves old) + length (filter is_move (own_of old.seat pre.0))
+own_moves_more : (old new : Known) → (pre : IsPrefix old.log new.log) → new.seat ≡ old.seat
+    → length (own_moves new) ≡ length (own_moves old) + length (filter is_move (own_of old.seat pre.0))
 own_moves_more old new pre seat =
-    let all : own new ≡ own_of old.seat old.log ++ own_of old.seat pre.0 = ap (λ s. own_of s new.log) seat ∙ (ap (own_of old.seat) (sym pre.1) ∙ own_more old.seat old.log pre.0) in
-    ap (λ w. length (filter is_move w)) all ∙ (ap length (filter-append is_move (own_of old.seat old.log) (own_of old.seat pre.0)) ∙ length-append (filter is_move (own_of old.seat old.log)) (filter is_move (own_of old.seat pre.0)))
+    let all : own new ≡ own_of old.seat old.log
+    ++ own_of old.seat pre.0 = ap (λ s. own_of s new.log) seat ∙
+    (ap (own_of old.seat) (sym pre.1) ∙ own_more old.seat old.log pre.0) in
+    ap (λ w. length (filter is_move w)) all ∙
+    (ap length (filter-append is_move (own_of old.seat old.log) (own_of old.seat pre.0)) ∙ length-append
+    (filter is_move (own_of old.seat old.log)) (filter is_move (own_of old.seat pre.0)))
 
 -- other seats never move the head back
 pub others_grow : (old new : Known) → IsLater old new → moves_of_others old ≤ moves_of_others new
@@ -95,25 +109,31 @@ others_grow old new later =
     omega (arith, a, b, c, d, e)
 
 -- where no other seat moved the head, the moves that came are the seat's own
-alone_moves : (old new : Known) → IsLater old new → IsAlone old new → moves new.log + length (own_moves old) ≡ moves old.log + length (own_moves new)
+alone_moves : (old new : Known) → IsLater old new → IsAlone old new
+    → moves new.log + length (own_moves old) ≡ moves old.log + length (own_moves new)
 alone_moves old new later alone =
     let a = own_moves_more old new later.seen later.seat in
     let b = own_within old.seat later.seen.0 in
     let c = moves_more old.log later.seen.0 in
     let d = ap moves later.seen.1 in
     let e = own_within old.seat old.log in
-    let f : length (filter is_move new.log) - length (own_moves new) ≡ length (filter is_move old.log) - length (own_moves old) = alone in
+    let f : length (filter is_move new.log) - length (own_moves new)
+    ≡ length (filter is_move old.log) - length (own_moves old) = alone in
     omega (arith, a, b, c, d, e, f)
 
 -- CALLS
 
--- what one call is answered, where no other seat moved the head: the right reply at the record before it, or a refusal for want
+-- what one call is answered, where no other seat moved the head: the right reply at the record before it, or a refusal
+-- for want
 -- of something; and the record grew by the change that the reply stands for
-abbrev pub IsInTurn : Meanings → Known → Known → Result Replied Refusal → Option Change → (State → Result Replied Refusal) → Type 0
-IsInTurn means old new r change right = IsReplyTo r (right (after (record_of old.log))) × (after (record_of new.log) ≡ after_made (after (record_of old.log)) change)
+abbrev pub IsInTurn : Meanings → Known → Known → Result Replied Refusal → Option Change
+    → (State → Result Replied Refusal) → Type 0
+IsInTurn means old new r change right = IsReplyTo r (right (after (record_of old.log)))
+    × (after (record_of new.log) ≡ after_made (after (record_of old.log)) change)
 
 -- the records at a point, and behind it
-at_point : (means : Meanings) (old new : Known) (change : Option Change) (log : List Entry) → IsLater old new → IsAlone old new → IsPoint means old new change log
+at_point : (means : Meanings) (old new : Known) (change : Option Change) (log : List Entry) → IsLater old new
+    → IsAlone old new → IsPoint means old new change log
     → (record_of log ≡ record_of old.log) × (record_of new.log ≡ record_of old.log ++ with_change change [])
 at_point means old new change log later alone p =
     let mine = moves_for old.seat p.to change in
@@ -128,33 +148,46 @@ at_point means old new change log later alone p =
     let behind = record_same (log ++ mine) new.log p.until (omega (arith, a, b, c, d, e, f, g)) in
     (before, behind ∙ (record_at old.seat p.to change log ∙ ap (λ w. w ++ with_change change []) before))
   where
-    all_moves : (seat : Option ℕ) (to : Ref) (change : Option Change) → moves (moves_for seat to change) ≡ length (moves_for seat to change)
+    all_moves : (seat : Option ℕ) (to : Ref) (change : Option Change)
+        → moves (moves_for seat to change) ≡ length (moves_for seat to change)
     all_moves seat to None = refl
     all_moves seat to (Some c) = refl
 
 -- an answered call is in turn
-answered_in_turn : (means : Meanings) (old new : Known) (change : Option Change) (right : State → Result Replied Refusal) (r : Result Replied Refusal) → IsLater old new → IsAlone old new
-    → IsAnswered means old new change (λ s. right s ≡ r) → (right (after (record_of old.log)) ≡ r) × (after (record_of new.log) ≡ after_made (after (record_of old.log)) change)
+answered_in_turn : (means : Meanings) (old new : Known) (change : Option Change)
+    (right : State → Result Replied Refusal) (r : Result Replied Refusal) → IsLater old new → IsAlone old new
+    → IsAnswered means old new change (λ s. right s ≡ r)
+    → (right (after (record_of old.log)) ≡ r)
+    × (after (record_of new.log) ≡ after_made (after (record_of old.log)) change)
 answered_in_turn means old new change right r later alone is =
-    let at = at_point means old new change is.0 later alone is.1 in
-    (subst (λ w. right (after w) ≡ r) at.0 is.2, ap after at.1 ∙ (change_laws_hold means).made (record_of old.log) change)
+    let at = at_point means old new change is.0 later alone is.1 in (
+      subst (λ w. right (after w) ≡ r) at.0 is.2,
+      ap after at.1 ∙ (change_laws_hold means).made (record_of old.log) change,
+    )
 
 -- one that left the group alone left its record
-left_in_turn : (tries : ℕ) (old new : Known) (e : Refusal) → IsLater old new → IsAlone old new → IsLeft tries old new e → record_of new.log ≡ record_of old.log
+left_in_turn : (tries : ℕ) (old new : Known) (e : Refusal) → IsLater old new → IsAlone old new → IsLeft tries old new e
+    → record_of new.log ≡ record_of old.log
 left_in_turn tries old new e later alone is =
     let a = alone_moves old new later alone in
     let b = ap length is.0 in
     record_same old.log new.log later.seen (omega (arith, a, b))
 
-pub in_turn : (means : Meanings) (tries : ℕ) (old new : Known) (r : Result Replied Refusal) (change : Result Replied Refusal → Option Change) (right : State → Result Replied Refusal) → IsLater old new → IsAlone old new
+pub in_turn : (means : Meanings) (tries : ℕ) (old new : Known) (r : Result Replied Refusal)
+    (change : Result Replied Refusal → Option Change) (right : State → Result Replied Refusal) → IsLater old new
+    → IsAlone old new
     → Answers means tries old new r change right → IsInTurn means old new r (change r) right
-in_turn means tries old new (Ok x) change right later alone is = answered_in_turn means old new (change (Ok x)) right (Ok x) later alone is
-in_turn means tries old new (Err e) change right later alone is = by (change (Err e)) (is_mute e (change (Err e))) refl is
+in_turn means tries old new (Ok x) change right later alone is = answered_in_turn means old new (change (Ok x)) right
+    (Ok x) later alone is
+in_turn means tries old new (Err e) change right later alone is = by (change (Err e))
+    (is_mute e (change (Err e))) refl is
   where
-    by : (o : Option Change) (b : Bool) → is_mute e o ≡ b → IsRefused means tries old new b e o (λ s. right s ≡ Err e) → IsInTurn means old new (Err e) o right
+    by : (o : Option Change) (b : Bool) → is_mute e o ≡ b → IsRefused means tries old new b e o (λ s. right s ≡ Err e)
+        → IsInTurn means old new (Err e) o right
     by None true mute left = (inl mute, ap after (left_in_turn tries old new e later alone left))
     by (Some c) true mute left = absurd cc
-    by o false mute answered = let got = answered_in_turn means old new o right (Err e) later alone answered in (inr got.0, got.1)
+    by o false mute answered = let got = answered_in_turn means old new o right (Err e) later alone answered in
+        (inr got.0, got.1)
 
 -- LISTS OF CALLS
 
@@ -162,10 +195,16 @@ later_self : (m : Known) → IsLater m m
 later_self m = record { book = refl; seat = refl; seen = prefix_self m.log }
 
 pub later_trans : (old mid new : Known) → IsLater old mid → IsLater mid new → IsLater old new
-later_trans old mid new a b = record { book = b.book ∙ a.book; seat = b.seat ∙ a.seat; seen = prefix_trans old.log mid.log new.log a.seen b.seen }
+later_trans old mid new a b = record {
+  book = b.book ∙ a.book;
+  seat = b.seat ∙ a.seat;
+  seen = prefix_trans old.log mid.log new.log a.seen b.seen;
+}
 
 -- calls only add to what their caller has seen
-pub calls_later : (means : Meanings) (tries : ℕ) (c : Caller) (old : Known) (xs : List Call) (rs : List (Result Replied Refusal)) (new : Known) (end : Caller) → AreAnswered means tries c old xs rs new end → IsLater old new
+pub calls_later : (means : Meanings) (tries : ℕ) (c : Caller) (old : Known) (xs : List Call)
+    (rs : List (Result Replied Refusal)) (new : Known) (end : Caller) → AreAnswered means tries c old xs rs new end
+    → IsLater old new
 calls_later means tries c old [] [] new end all = subst (IsLater old) (sym all.0) (later_self old)
 calls_later means tries c old [] (r ∷ rs) new end all = absurd all
 calls_later means tries c old (x ∷ xs) [] new end all = absurd all
@@ -173,7 +212,8 @@ calls_later means tries c old (x ∷ xs) (r ∷ rs) new end all =
     later_trans old all.0 new all.1 (calls_later means tries (caller_after c r) all.0 xs rs new end all.3)
 
 -- Where no other seat moved the head between the first call and the last, none did so in any of them.
-pub alone_replies : (means : Meanings) (tries : ℕ) (c : Caller) (old : Known) (xs : List Call) (rs : List (Result Replied Refusal)) (new : Known) (end : Caller) → AreAnswered means tries c old xs rs new end
+pub alone_replies : (means : Meanings) (tries : ℕ) (c : Caller) (old : Known) (xs : List Call)
+    (rs : List (Result Replied Refusal)) (new : Known) (end : Caller) → AreAnswered means tries c old xs rs new end
     → IsAlone old new → AreReplies means c (after (record_of old.log)) xs rs (after (record_of new.log)) end
 alone_replies means tries c old [] [] new end all alone = (ap (λ (m : Known). after (record_of m.log)) all.0, all.1)
 alone_replies means tries c old [] (r ∷ rs) new end all alone = absurd all
@@ -186,14 +226,25 @@ alone_replies means tries c old (x ∷ xs) (r ∷ rs) new end all alone =
     let f : moves_of_others new ≡ moves_of_others old = alone in
     let first : moves_of_others mid ≡ moves_of_others old = omega (arith, a, b, f) in
     let last : moves_of_others new ≡ moves_of_others mid = omega (arith, a, b, f) in
-    let turn = in_turn means tries old mid r (change_of c x) (λ s. reply_to means c s x) all.1 first all.2 in
-    (turn.0, subst (λ s. AreReplies means (caller_after c r) s xs rs (after (record_of new.log)) end) turn.1 (alone_replies means tries (caller_after c r) mid xs rs new end all.3 last))
+    let turn = in_turn means tries old mid r (change_of c x) (λ s. reply_to means c s x) all.1 first all.2 in (
+      turn.0,
+      subst (λ s. AreReplies means (caller_after c r) s xs rs (after (record_of new.log)) end) turn.1
+          (alone_replies means tries (caller_after c r) mid xs rs new end all.3 last),
+    )
 
 -- one call more
-answered_more : (means : Meanings) (tries : ℕ) (c : Caller) (old mid new : Known) (xs : List Call) (rs : List (Result Replied Refusal)) (d : Caller) (x : Call) (r : Result Replied Refusal) → AreAnswered means tries c old xs rs mid d
-    → IsLater mid new → Answers means tries mid new r (change_of d x) (λ s. reply_to means d s x) → AreAnswered means tries c old (xs ++ x ∷ []) (rs ++ r ∷ []) new (caller_after d r)
-answered_more means tries c old mid new [] [] d x r all later is =
-    (new, subst (λ m. IsLater m new) all.0 later, subst (λ m. Answers means tries m new r (change_of c x) (λ s. reply_to means c s x)) all.0 (subst (λ e. Answers means tries mid new r (change_of e x) (λ s. reply_to means e s x)) all.1 is), (refl, ap (λ e. caller_after e r) all.1))
+answered_more : (means : Meanings) (tries : ℕ) (c : Caller) (old mid new : Known) (xs : List Call)
+    (rs : List (Result Replied Refusal)) (d : Caller) (x : Call) (r : Result Replied Refusal)
+    → AreAnswered means tries c old xs rs mid d
+    → IsLater mid new → Answers means tries mid new r (change_of d x) (λ s. reply_to means d s x)
+    → AreAnswered means tries c old (xs ++ x ∷ []) (rs ++ r ∷ []) new (caller_after d r)
+answered_more means tries c old mid new [] [] d x r all later is = (
+  new,
+  subst (λ m. IsLater m new) all.0 later,
+  subst (λ m. Answers means tries m new r (change_of c x) (λ s. reply_to means c s x)) all.0
+      (subst (λ e. Answers means tries mid new r (change_of e x) (λ s. reply_to means e s x)) all.1 is),
+  (refl, ap (λ e. caller_after e r) all.1),
+)
 answered_more means tries c old mid new [] (q ∷ rs) d x r all later is = absurd all
 answered_more means tries c old mid new (y ∷ xs) [] d x r all later is = absurd all
 answered_more means tries c old mid new (y ∷ xs) (q ∷ rs) d x r all later is =
@@ -204,15 +255,23 @@ map_more f [] x = refl
 map_more f (y ∷ xs) x = ap (λ w. f y ∷ w) (map_more f xs x)
 
 -- a turn of the loop over the calls
-pub turn : (means : Meanings) (tries : ℕ) (c d : Caller) (old mid new : Known) (all : List Call) (i : ℕ) (x : Call) (rs news : List (Result Reply Refusal)) (r : Result Reply Refusal) → i < length all → x ≡ get_or all i x
-    → AreAnswered means tries c old (take i all) (map (told reply_seen) rs) mid d → IsLater mid new → Answers means tries mid new (told reply_seen r) (change_of d x) (λ s. reply_to means d s x) → news ≡ rs ++ r ∷ []
-    → AreAnswered means tries c old (take (i + 1) all) (map (told reply_seen) news) new (caller_after d (told reply_seen r))
+pub turn : (means : Meanings) (tries : ℕ) (c d : Caller) (old mid new : Known) (all : List Call) (i : ℕ) (x : Call)
+    (rs news : List (Result Reply Refusal)) (r : Result Reply Refusal) → i < length all → x ≡ get_or all i x
+    → AreAnswered means tries c old (take i all) (map (told reply_seen) rs) mid d → IsLater mid new
+    → Answers means tries mid new (told reply_seen r) (change_of d x) (λ s. reply_to means d s x)
+    → news ≡ rs ++ r ∷ []
+    → AreAnswered means tries c old (take (i + 1) all) (map (told reply_seen) news) new
+    (caller_after d (told reply_seen r))
 turn means tries c d old mid new all i x rs news r l q h later is n =
-    let front : take (i + 1) all ≡ take i all ++ x ∷ [] = take_more all i x l ∙ ap (λ w. take i all ++ w ∷ []) (sym q) in
-    let back : map (told reply_seen) news ≡ map (told reply_seen) rs ++ told reply_seen r ∷ [] = ap (map (told reply_seen)) n ∙ map_more (told reply_seen) rs r in
+    let front : take (i + 1) all ≡ take i all ++ x
+    ∷ [] = take_more all i x l ∙ ap (λ w. take i all ++ w ∷ []) (sym q) in
+    let back : map (told reply_seen) news ≡ map (told reply_seen) rs ++ told reply_seen r
+    ∷ [] = ap (map (told reply_seen)) n ∙ map_more (told reply_seen) rs r in
     let end = caller_after d (told reply_seen r) in
     subst (λ w. AreAnswered means tries c old w (map (told reply_seen) news) new end) (sym front)
-    (subst (λ w. AreAnswered means tries c old (take i all ++ x ∷ []) w new end) (sym back) (answered_more means tries c old mid new (take i all) (map (told reply_seen) rs) d x (told reply_seen r) h later is))
+    (subst (λ w. AreAnswered means tries c old (take i all ++ x ∷ []) w new end) (sym back)
+    (answered_more means tries c old mid new (take i all) (map (told reply_seen) rs) d x
+    (told reply_seen r) h later is))
 
 -- REPLIES
 
@@ -220,31 +279,42 @@ told_refusal : {X Y : Type 0} (f : X → Y) (r : Result X Refusal) (e : Refusal)
 told_refusal f r e is = ap (told f) is
 
 -- an answer is told as it is
-pub answers_told : {X : Type 0} (f : X → Replied) (means : Meanings) (tries : ℕ) (old new : Known) (r : Result X Refusal) (change : Result X Refusal → Option Change) (right : State → Result X Refusal)
+pub answers_told : {X : Type 0} (f : X → Replied) (means : Meanings) (tries : ℕ) (old new : Known)
+    (r : Result X Refusal) (change : Result X Refusal → Option Change) (right : State → Result X Refusal)
     (shown : Result Replied Refusal → Option Change) (told_right : State → Result Replied Refusal)
-    → shown (told f r) ≡ change r → ((s : State) → told_right s ≡ told f (right s)) → Answers means tries old new r change right → Answers means tries old new (told f r) shown told_right
+    → shown (told f r) ≡ change r → ((s : State) → told_right s ≡ told f (right s))
+    → Answers means tries old new r change right → Answers means tries old new (told f r) shown told_right
 answers_told f means tries old new (Ok x) change right shown told_right same seen is =
-    subst (λ o. IsAnswered means old new o (λ s. told_right s ≡ Ok (f x))) (sym same) (is.0, is.1, seen (after (record_of is.0)) ∙ ap (told f) is.2)
+    subst (λ o. IsAnswered means old new o (λ s. told_right s ≡ Ok (f x))) (sym same)
+    (is.0, is.1, seen (after (record_of is.0)) ∙ ap (told f) is.2)
 answers_told f means tries old new (Err e) change right shown told_right same seen is =
-    subst (λ o. IsRefused means tries old new (is_mute e o) e o (λ s. told_right s ≡ Err e)) (sym same) (by (change (Err e)) (is_mute e (change (Err e))) is)
+    subst (λ o. IsRefused means tries old new (is_mute e o) e o (λ s. told_right s ≡ Err e)) (sym same)
+    (by (change (Err e)) (is_mute e (change (Err e))) is)
   where
-    by : (o : Option Change) (b : Bool) → IsRefused means tries old new b e o (λ s. right s ≡ Err e) → IsRefused means tries old new b e o (λ s. told_right s ≡ Err e)
+    by : (o : Option Change) (b : Bool) → IsRefused means tries old new b e o (λ s. right s ≡ Err e)
+        → IsRefused means tries old new b e o (λ s. told_right s ≡ Err e)
     by o true h = h
     by o false h = (h.0, h.1, seen (after (record_of h.0)) ∙ told_refusal f (right (after (record_of h.0))) e h.2)
 
 -- a reply that was made of an answer, as it is told
-pub mapped : {X : Type 0} (f : X → Reply) (shown : X → Replied) (r : Result X Refusal) (m : Result Reply Refusal) → ((x : X) → reply_seen (f x) ≡ shown x) → MatchResult r (λ x. IsOkAnd m (λ y. y ≡ f x)) (λ e. m ≡ Err e)
+pub mapped : {X : Type 0} (f : X → Reply) (shown : X → Replied) (r : Result X Refusal) (m : Result Reply Refusal)
+    → ((x : X) → reply_seen (f x) ≡ shown x) → MatchResult r (λ x. IsOkAnd m (λ y. y ≡ f x)) (λ e. m ≡ Err e)
     → told reply_seen m ≡ told shown r
 mapped f shown (Ok x) (Ok y) same is = ap (λ z. Ok (reply_seen z)) is ∙ ap Ok (same x)
 mapped f shown (Ok x) (Err e) same is = absurd is
 mapped f shown (Err e) m same is = ap (told reply_seen) is
 
 -- a call, by the one that it is
-call_told : {X : Type 0} (f : X → Replied) (means : Meanings) (tries : ℕ) (old new : Known) (c : Caller) (x y : Call) (r : Result X Refusal) (m : Result Replied Refusal) (change : Result X Refusal → Option Change) (right : State → Result X Refusal)
-    → x ≡ y → m ≡ told f r → change_of c y (told f r) ≡ change r → ((s : State) → reply_to means c s y ≡ told f (right s)) → Answers means tries old new r change right → Answers means tries old new m (change_of c x) (λ s. reply_to means c s x)
+call_told : {X : Type 0} (f : X → Replied) (means : Meanings) (tries : ℕ) (old new : Known) (c : Caller) (x y : Call)
+    (r : Result X Refusal) (m : Result Replied Refusal) (change : Result X Refusal → Option Change)
+    (right : State → Result X Refusal)
+    → x ≡ y → m ≡ told f r → change_of c y (told f r) ≡ change r
+    → ((s : State) → reply_to means c s y ≡ told f (right s)) → Answers means tries old new r change right
+    → Answers means tries old new m (change_of c x) (λ s. reply_to means c s x)
 call_told f means tries old new c x y r m change right is_call is_told same seen is =
     subst (λ z. Answers means tries old new m (change_of c z) (λ s. reply_to means c s z)) (sym is_call)
-    (subst (λ w. Answers means tries old new w (change_of c y) (λ s. reply_to means c s y)) (sym is_told) (answers_told f means tries old new r change right (change_of c y) (λ s. reply_to means c s y) same seen is))
+    (subst (λ w. Answers means tries old new w (change_of c y) (λ s. reply_to means c s y)) (sym is_told)
+    (answers_told f means tries old new r change right (change_of c y) (λ s. reply_to means c s y) same seen is))
 
 ended_shown : (r : Result Ended Refusal) → told ended_in (told ended r) ≡ r
 ended_shown (Ok e) = refl
@@ -255,27 +325,52 @@ id_shown (Ok n) = refl
 id_shown (Err e) = refl
 
 -- of a mutation
-pub mutated_told : (means : Meanings) (tries : ℕ) (old new : Known) (c : Caller) (x : Call) (m : Mutate) (r : Result ℕ Refusal) (reply : Result Replied Refusal) → x ≡ call.Mutate m → reply ≡ told id r
-    → Answers means tries old new r (change_made (asked_mutation c m)) (λ s. mutate_reply means s c.last (asked_mutation c m)) → Answers means tries old new reply (change_of c x) (λ s. reply_to means c s x)
+pub mutated_told : (means : Meanings) (tries : ℕ) (old new : Known) (c : Caller) (x : Call) (m : Mutate)
+    (r : Result ℕ Refusal) (reply : Result Replied Refusal) → x ≡ call.Mutate m → reply ≡ told id r
+    → Answers means tries old new r (change_made (asked_mutation c m))
+    (λ s. mutate_reply means s c.last (asked_mutation c m))
+    → Answers means tries old new reply (change_of c x) (λ s. reply_to means c s x)
 mutated_told means tries old new c x m r reply call_is told_is is =
-    call_told id means tries old new c x (call.Mutate m) r reply (change_made (asked_mutation c m)) (λ s. mutate_reply means s c.last (asked_mutation c m)) call_is told_is (ap (change_made (asked_mutation c m)) (id_shown r)) (λ s. refl) is
+    call_told id means tries old new c x (call.Mutate m) r reply (change_made (asked_mutation c m))
+    (λ s. mutate_reply means s c.last (asked_mutation c m)) call_is told_is
+    (ap (change_made (asked_mutation c m)) (id_shown r)) (λ s. refl) is
 
 -- of an end of a pull
-pub ended_told : (means : Meanings) (tries : ℕ) (old new : Known) (c : Caller) (x : Call) (ticket : Bor Ticket) (body : Bor Bytes) (r : Result Ended Refusal) (reply : Result Replied Refusal) → x ≡ call.EndPull ticket body → reply ≡ told ended r
-    → Answers means tries old new r (change_read ticket.now.cookie (answer_to body.now)) (λ s. end_bytes_reply s ticket.now.cookie.text body.now) → Answers means tries old new reply (change_of c x) (λ s. reply_to means c s x)
+pub ended_told : (means : Meanings) (tries : ℕ) (old new : Known) (c : Caller) (x : Call) (ticket : Bor Ticket)
+    (body : Bor Bytes) (r : Result Ended Refusal) (reply : Result Replied Refusal) → x ≡ call.EndPull ticket body
+    → reply ≡ told ended r
+    → Answers means tries old new r (change_read ticket.now.cookie (answer_to body.now))
+    (λ s. end_bytes_reply s ticket.now.cookie.text body.now)
+    → Answers means tries old new reply (change_of c x) (λ s. reply_to means c s x)
 ended_told means tries old new c x ticket body r reply call_is told_is is =
-    call_told ended means tries old new c x (call.EndPull ticket body) r reply (change_read ticket.now.cookie (answer_to body.now)) (λ s. end_bytes_reply s ticket.now.cookie.text body.now) call_is told_is
+    call_told ended means tries old new c x (call.EndPull ticket body) r reply
+    (change_read ticket.now.cookie (answer_to body.now))
+    (λ s. end_bytes_reply s ticket.now.cookie.text body.now) call_is told_is
     (ap (change_read ticket.now.cookie (answer_to body.now)) (ended_shown r)) (λ s. refl) is
 
-pub missing : (reused : Type 0) (e : Refusal) → (e ≡ refusal.NoMemory) ⊎ IsMissed reused e → (is_want e ≡ true) × (e ≢ refusal.Moved)
-missing reused e (inl none) = (ap is_want none, λ moved. let h : refusal.NoMemory ≡ refusal.Moved = sym none ∙ moved in cc h)
-missing reused e (inr (inl gone)) = (ap is_want gone, λ moved. let h : refusal.Gone ≡ refusal.Moved = sym gone ∙ moved in cc h)
-missing reused e (inr (inr busy)) = (ap is_want busy.1, λ moved. let h : refusal.Busy ≡ refusal.Moved = sym busy.1 ∙ moved in cc h)
+pub missing : (reused : Type 0) (e : Refusal) → (e ≡ refusal.NoMemory) ⊎ IsMissed reused e
+    → (is_want e ≡ true) × (e ≢ refusal.Moved)
+missing reused e (inl none) = (
+  ap is_want none,
+  λ moved. let h : refusal.NoMemory ≡ refusal.Moved = sym none ∙ moved in cc h,
+)
+missing reused e (inr (inl gone)) = (
+  ap is_want gone,
+  λ moved. let h : refusal.Gone ≡ refusal.Moved = sym gone ∙ moved in cc h,
+)
+missing reused e (inr (inr busy)) = (
+  ap is_want busy.1,
+  λ moved. let h : refusal.Busy ≡ refusal.Moved = sym busy.1 ∙ moved in cc h,
+)
 
 -- of one reading
-pub queried : (reused : Type 0) (means : Meanings) (tries : ℕ) (old new : Known) (log : List Entry) (r : Result Reply Refusal) (right : State → Result Replied Refusal) → IsPoint means old new None log
-    → IfOk r (λ x. right (after (record_of log)) ≡ Ok (reply_seen x)) → IfErr r (λ e. (e ≡ refusal.NoMemory) ⊎ IsMissed reused e) → Answers means tries old new (told reply_seen r) nothing right
+pub queried : (reused : Type 0) (means : Meanings) (tries : ℕ) (old new : Known) (log : List Entry)
+    (r : Result Reply Refusal) (right : State → Result Replied Refusal) → IsPoint means old new None log
+    → IfOk r (λ x. right (after (record_of log)) ≡ Ok (reply_seen x))
+    → IfErr r (λ e. (e ≡ refusal.NoMemory) ⊎ IsMissed reused e)
+    → Answers means tries old new (told reply_seen r) nothing right
 queried reused means tries old new log (Ok x) right p ok err = (log, p, ok)
 queried reused means tries old new log (Err e) right p ok err =
     let want = missing reused e err in
-    subst (λ b. IsRefused means tries old new b e None (λ s. right s ≡ Err e)) (sym want.0) (p.moves ∙ append-nil (own_moves old), λ moved. absurd (want.1 moved))
+    subst (λ b. IsRefused means tries old new b e None (λ s. right s ≡ Err e)) (sym want.0)
+    (p.moves ∙ append-nil (own_moves old), λ moved. absurd (want.1 moved))

@@ -12,7 +12,8 @@ some_in : (client : Bytes) (o : Option Version) (id : ℕ) → last_in client o 
 some_in client None id h = absurd (cc h)
 some_in client (Some v) id h = (v, refl)
 
-pub last_grown : (old new : List Entry) (stamp : ℕ) (client : Bytes) (id : ℕ) → IsPrefix old new → last_at (drawn old) stamp client ≡ Some id → last_at (drawn new) stamp client ≡ Some id
+pub last_grown : (old new : List Entry) (stamp : ℕ) (client : Bytes) (id : ℕ) → IsPrefix old new
+    → last_at (drawn old) stamp client ≡ Some id → last_at (drawn new) stamp client ≡ Some id
 last_grown old new stamp client id more was =
     let v = some_in client (version_at (drawn old) stamp) id was in
     ap (last_in client) (spelled-stays old new more stamp v.0 v.1) ∙ sym (ap (last_in client) v.1) ∙ was

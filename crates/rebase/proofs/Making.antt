@@ -1,5 +1,7 @@
 -- How a change is answered, and where it stands.
-use Rattle.std.proofs.Common.{◌≡◌, ◌⊎◌, inl, inr, ℕ, ◌+◌, ◌<◌, ◌^◌, max, fold, Bool, true, false, cond, List, [], ◌∷◌, ◌++◌, map, Option, Some, None, Result, Ok, Err, refl, sym, ap, subst, ◌∙◌, arith, append-nil}
+use Rattle.std.proofs.Common.{◌≡◌, ◌⊎◌, inl, inr, ℕ, ◌+◌, ◌<◌, ◌^◌, max, fold, Bool, true, false, cond, List, [], ◌∷◌}
+use Rattle.std.proofs.Common.{◌++◌, map, Option, Some, None, Result, Ok, Err, refl, sym, ap, subst, ◌∙◌, arith}
+use Rattle.std.proofs.Common.{append-nil}
 use Rattle.std.proofs.lemmas.List.Sums.{fold-append}
 use Rattle.std.specs.Prelude.{nat_eq, if◌then◌else◌}
 use mathlib.Core.List.{IsPrefix}
@@ -31,7 +33,8 @@ use Rattle.rebase.specs.Inside.Arriving.{IsArrived}
 use Rattle.rebase.specs.Inside.Proposing.{IsUnmade}
 
 -- a point stays one while more is seen, where the seat moves nothing
-pub point_later : (means : Meanings) (old mid new : Known) (log : List Entry) → IsPoint means old mid None log → IsPrefix mid.log new.log → own_moves new ≡ own_moves mid → IsPoint means old new None log
+pub point_later : (means : Meanings) (old mid new : Known) (log : List Entry) → IsPoint means old mid None log
+    → IsPrefix mid.log new.log → own_moves new ≡ own_moves mid → IsPoint means old new None log
 point_later means old mid new log p more same = record {
   to = p.to;
   since = p.since;
@@ -41,23 +44,30 @@ point_later means old mid new log p more same = record {
 }
 
 -- a refusal of what was proposed at a point is answered there
-pub unproposed : {X : Type 0} (means : Meanings) (tries : ℕ) (old new : Known) (e : Refusal) (change : Result X Refusal → Option Change) (right : State → Result X Refusal) (log : List Entry)
-    → IsPoint means old new None log → change (Err e) ≡ None → IsUnproposed change (right (after (record_of log))) e → Answers means tries old new (Err e) change right
+pub unproposed : {X : Type 0} (means : Meanings) (tries : ℕ) (old new : Known) (e : Refusal)
+    (change : Result X Refusal → Option Change) (right : State → Result X Refusal) (log : List Entry)
+    → IsPoint means old new None log → change (Err e) ≡ None → IsUnproposed change (right (after (record_of log))) e
+    → Answers means tries old new (Err e) change right
 unproposed means tries old new e change right log p none is =
-    subst (λ (o : Option Change). IsRefused means tries old new (mute o) e o (λ s. right s ≡ Err e)) (sym none) (by_want (is_want e) refl is.0)
+    subst (λ (o : Option Change). IsRefused means tries old new (mute o) e o (λ s. right s ≡ Err e)) (sym none)
+    (by_want (is_want e) refl is.0)
   where
     mute : Option Change → Bool
     mute None = is_want e
     mute (Some c) = false
 
-    by_want : (b : Bool) → is_want e ≡ b → ((is_want e ≡ true) ⊎ ((right (after (record_of log)) ≡ Err e) × (change (Err e) ≡ None))) → IsRefused means tries old new b e None (λ s. right s ≡ Err e)
+    by_want : (b : Bool) → is_want e ≡ b →
+        ((is_want e ≡ true) ⊎ ((right (after (record_of log)) ≡ Err e) × (change (Err e) ≡ None)))
+        → IsRefused means tries old new b e None (λ s. right s ≡ Err e)
     by_want true w h = (p.moves ∙ append-nil (own_moves old), λ moved. absurd (is.1 moved))
     by_want false w (inl h) = absurd (cc (sym w ∙ h))
     by_want false w (inr h) = (log, p, h.0)
 
 -- so is one for want of something
-pub wanting : {X : Type 0} (means : Meanings) (tries : ℕ) (old new : Known) (e : Refusal) (change : Result X Refusal → Option Change) (right : State → Result X Refusal)
-    → change (Err e) ≡ None → is_want e ≡ true → IsLeft tries old new e → Answers means tries old new (Err e) change right
+pub wanting : {X : Type 0} (means : Meanings) (tries : ℕ) (old new : Known) (e : Refusal)
+    (change : Result X Refusal → Option Change) (right : State → Result X Refusal)
+    → change (Err e) ≡ None → is_want e ≡ true → IsLeft tries old new e
+    → Answers means tries old new (Err e) change right
 wanting means tries old new e change right none want left =
     subst (λ (o : Option Change). IsRefused means tries old new (mute o) e o (λ s. right s ≡ Err e)) (sym none)
     (subst (λ (b : Bool). IsRefused means tries old new b e None (λ s. right s ≡ Err e)) (sym want) left)
@@ -67,10 +77,14 @@ wanting means tries old new e change right none want left =
     mute (Some c) = false
 
 -- a call that arrived, and made nothing
-pub unmade : {X : Type 0} (means : Meanings) (tries : ℕ) (old seen mid new : Known) (base : Ref) (first : ℕ) (e : Refusal) (change : Result X Refusal → Option Change) (right : State → Result X Refusal)
-    → IsArrived means old seen mid base first → change (Err e) ≡ None → IsUnmade change (right (after (record_of seen.log))) tries mid new e → Answers means tries old new (Err e) change right
+pub unmade : {X : Type 0} (means : Meanings) (tries : ℕ) (old seen mid new : Known) (base : Ref) (first : ℕ)
+    (e : Refusal) (change : Result X Refusal → Option Change) (right : State → Result X Refusal)
+    → IsArrived means old seen mid base first → change (Err e) ≡ None
+    → IsUnmade change (right (after (record_of seen.log))) tries mid new e
+    → Answers means tries old new (Err e) change right
 unmade means tries old seen mid new base first e change right a none (inl h) =
-    unproposed means tries old new e change right seen.log (subst (λ (m : Known). IsPoint means old m None seen.log) (sym h.1) a.point) none h.0
+    unproposed means tries old new e change right seen.log
+    (subst (λ (m : Known). IsPoint means old m None seen.log) (sym h.1) a.point) none h.0
 unmade means tries old seen mid new base first e change right a none (inr h) =
     wanting means tries old new e change right none h.0 (h.1.0 ∙ a.same, λ moved. omega (arith, h.1.1 moved, a.others))
 
@@ -83,12 +97,16 @@ fold_push n xs y = fold-append max n xs (y ∷ [])
 pub last_made : (s : State) (x : Mutation) → last_id s x.client + 1 ≡ x.id → last_id (after_mutate s x) x.client ≡ x.id
 last_made s x next =
     let n = confirmed_id s.confirmed x.client in let before = ids_of x.client s.pending in
-    let own : ids_of x.client (x ∷ []) ≡ x.id ∷ [] = ap (λ (b : Bool). map (λ (m : Mutation). m.id) (cond b (x ∷ []) [])) (same_text-itself x.client) in
-    ap (fold max n) (ids_of-append x.client s.pending (x ∷ []) ∙ ap (λ (is : List ℕ). before ++ is) own) ∙ fold_push n before x.id ∙ omega (arith, next)
+    let own : ids_of x.client (x ∷ []) ≡ x.id
+    ∷ [] = ap (λ (b : Bool). map (λ (m : Mutation). m.id) (cond b (x ∷ []) [])) (same_text-itself x.client) in
+    ap (fold max n) (ids_of-append x.client s.pending (x ∷ []) ∙ ap (λ (is : List ℕ). before ++ is) own) ∙ fold_push n
+    before x.id ∙ omega (arith, next)
 
 -- where it stands
-pub stands : (means : Meanings) (cs : Contents) (at : Ref) (s : State) (x : Mutation) (last : ℕ) → at.bits < 2 ^ 64 → IdsFollow s.confirmed s.pending → last_id s x.client ≡ last → x.id ≡ last + 1
-    → Spells means cs (stamp_of at) (after_mutate s x) → (last_at cs (stamp_of at) x.client ≡ Some x.id) × (x.id < 2 ^ 53)
+pub stands : (means : Meanings) (cs : Contents) (at : Ref) (s : State) (x : Mutation) (last : ℕ) → at.bits < 2 ^ 64
+    → IdsFollow s.confirmed s.pending → last_id s x.client ≡ last → x.id ≡ last + 1
+    → Spells means cs (stamp_of at) (after_mutate s x)
+    → (last_at cs (stamp_of at) x.client ≡ Some x.id) × (x.id < 2 ^ 53)
 stands means cs at s x last bits ids is next spells =
     let more : last_id s x.client + 1 ≡ x.id = omega (arith, is, next) in
     let made = last_made s x more in
@@ -99,13 +117,16 @@ stands means cs at s x last bits ids is next spells =
 -- WHAT IS ACCEPTED
 
 -- the reply at an open state, to a client whose last id is its own
-pub reply_next : (means : Meanings) (s : State) (x : Mutation) (last : ℕ) → s.closed ≡ false → last_id s x.client ≡ last → x.id ≡ last + 1
+pub reply_next : (means : Meanings) (s : State) (x : Mutation) (last : ℕ) → s.closed ≡ false → last_id s x.client ≡ last
+    → x.id ≡ last + 1
     → mutate_reply means s last x ≡ by_meaning (meaning_of means x (view_of means s)) x.id
 reply_next means s x last is_open is next =
     let same : nat_eq (last_id s x.client) last ≡ true = grind (arith, is) in
     ap (λ (b : Bool). if b then Err refusal.Closed else open_reply means s last x) is_open
-    ∙ ap (λ (b : Bool). if b then by_meaning (meaning_of means x (view_of means s)) (last + 1) else Err refusal.Stale) same
+    ∙ ap (λ (b : Bool). if b then by_meaning (meaning_of means x (view_of means s))
+    (last + 1) else Err refusal.Stale) same
     ∙ ap (by_meaning (meaning_of means x (view_of means s))) (sym next)
 
-pub accepted_next : (means : Meanings) (s : State) (x : Mutation) (last : ℕ) → last_id s x.client ≡ last → mutate_reply means s last x ≡ Ok x.id → x.reason ≡ Initial → IsAccepted means s (Mutated x)
+pub accepted_next : (means : Meanings) (s : State) (x : Mutation) (last : ℕ) → last_id s x.client ≡ last
+    → mutate_reply means s last x ≡ Ok x.id → x.reason ≡ Initial → IsAccepted means s (Mutated x)
 accepted_next means s x last is reply reason = (ap (λ (n : ℕ). mutate_reply means s n x) is ∙ reply, reason)

@@ -1,5 +1,6 @@
 -- What a watch has told: rows that are the same one by one are equal, and a root's rows stay.
-use Rattle.std.proofs.Common.{◌≡◌, ◌⊎◌, inl, inr, ℕ, ◌&&◌, Bool, true, false, List, Option, None, Some, Result, Ok, Err, IfOk, IfErr, if◌then◌else◌, refl, sym, ap, ◌∙◌, subst}
+use Rattle.std.proofs.Common.{◌≡◌, ◌⊎◌, inl, inr, ℕ, ◌&&◌, Bool, true, false, List, Option, None, Some, Result, Ok, Err}
+use Rattle.std.proofs.Common.{IfOk, IfErr, if◌then◌else◌, refl, sym, ap, ◌∙◌, subst}
 use Rattle.std.specs.Bool.{Decides}
 use Rattle.std.specs.Cmp.Lexicographic.{pointwise_decides, bytes_decides}
 use Rattle.std.proofs.lemmas.Bool.{and_from}
@@ -29,11 +30,14 @@ one_map : {m n : Entries} (o : Option Entries) → o ≡ Some m → o ≡ Some n
 one_map o was is = cc (was, is)
 
 -- what is read at a root by two who know one book is the same
-pub read_again : (mine theirs : List Entry) (root at : ℕ) (m n : Entries) → IsPrefix mine theirs ⊎ IsPrefix theirs mine → map_at (drawn mine) root ≡ Some m → map_at (drawn theirs) at ≡ Some n → root ≡ at → m ≡ n
+pub read_again : (mine theirs : List Entry) (root at : ℕ) (m n : Entries) → IsPrefix mine theirs ⊎ IsPrefix theirs mine
+    → map_at (drawn mine) root ≡ Some m → map_at (drawn theirs) at ≡ Some n → root ≡ at → m ≡ n
 read_again mine theirs root at m n (inl more) was is same =
-    one_map (map_at (drawn theirs) root) (map-grown (drawn mine) (drawn theirs) root m (drawn_begins mine theirs more) was) (ap (map_at (drawn theirs)) same ∙ is)
+    one_map (map_at (drawn theirs) root) (map-grown (drawn mine) (drawn theirs) root m
+    (drawn_begins mine theirs more) was) (ap (map_at (drawn theirs)) same ∙ is)
 read_again mine theirs root at m n (inr more) was is same =
-    one_map (map_at (drawn mine) root) was (ap (map_at (drawn mine)) same ∙ map-grown (drawn theirs) (drawn mine) at n (drawn_begins theirs mine more) is)
+    one_map (map_at (drawn mine) root) was
+    (ap (map_at (drawn mine)) same ∙ map-grown (drawn theirs) (drawn mine) at n (drawn_begins theirs mine more) is)
 
 both : (a b : Bool) → (a && b) ≡ true → (a ≡ true) × (b ≡ true)
 both true b h = (refl, h)
@@ -44,8 +48,11 @@ pair_is (a, b) (c, d) p q = ap (λ (z : Bytes). (z, b)) p ∙ ap (λ (z : Bytes)
 
 row_decides : (x y : Bytes × Bytes) → Decides (same_bytes x.0 y.0 && same_bytes x.1 y.1) (x ≡ y)
 row_decides x y = (
-  λ e. let h = both (same_bytes x.0 y.0) (same_bytes x.1 y.1) e in pair_is x y ((bytes_decides x.0 y.0).0 h.0) ((bytes_decides x.1 y.1).0 h.1),
-  λ e. and_from (same_bytes x.0 y.0) (same_bytes x.1 y.1) ((bytes_decides x.0 y.0).1 (ap (λ (r : Bytes × Bytes). r.0) e)) ((bytes_decides x.1 y.1).1 (ap (λ (r : Bytes × Bytes). r.1) e)),
+  λ e. let h = both (same_bytes x.0 y.0) (same_bytes x.1 y.1) e in
+      pair_is x y ((bytes_decides x.0 y.0).0 h.0) ((bytes_decides x.1 y.1).0 h.1),
+  λ e. and_from (same_bytes x.0 y.0) (same_bytes x.1 y.1)
+      ((bytes_decides x.0 y.0).1 (ap (λ (r : Bytes × Bytes). r.0) e))
+      ((bytes_decides x.1 y.1).1 (ap (λ (r : Bytes × Bytes). r.1) e)),
 )
 
 pub rows_decide : (xs ys : Rows) → Decides (same_rows xs ys) (xs ≡ ys)
@@ -54,7 +61,8 @@ rows_decide xs ys = pointwise_decides row_decides xs ys
 -- where the rows were told last, a poll answers so
 pub told_again : (last : Option Rows) (rows : Rows) → last ≡ Some rows → polled.Unchanged ≡ poll_reply last rows
 told_again last rows is =
-    sym (ap (λ (l : Option Rows). poll_reply l rows) is ∙ ap (λ (b : Bool). if b then polled.Unchanged else polled.New rows) ((rows_decide rows rows).1 refl))
+    sym (ap (λ (l : Option Rows). poll_reply l rows) is ∙ ap
+    (λ (b : Bool). if b then polled.Unchanged else polled.New rows) ((rows_decide rows rows).1 refl))
 
 -- and where a test says that they were told, they are those that were told last
 pub was_told-is : (last : Option Rows) (rows : Rows) → was_told last rows ≡ true → last ≡ Some rows
@@ -62,9 +70,13 @@ was_told-is None rows e = absurd cc
 was_told-is (Some last) rows e = ap Some ((rows_decide last rows).0 e)
 
 -- what is told of the rows at a point is right there
-pub polled_at : (reused : Type 0) (means : Meanings) (tries : ℕ) (old new : Known) (log : List Entry) (r : Result Polled Refusal) (right : State → Polled) → IsPoint means old new None log → IfOk r (λ polled. polled ≡ right (after (record_of log)))
-    → IfErr r (λ e. (e ≡ refusal.NoMemory) ⊎ IsMissed reused e) → Answers means tries old new r nothing (λ s. Ok (right s))
+pub polled_at : (reused : Type 0) (means : Meanings) (tries : ℕ) (old new : Known) (log : List Entry)
+    (r : Result Polled Refusal) (right : State → Polled) → IsPoint means old new None log
+    → IfOk r (λ polled. polled ≡ right (after (record_of log)))
+    → IfErr r (λ e. (e ≡ refusal.NoMemory) ⊎ IsMissed reused e)
+    → Answers means tries old new r nothing (λ s. Ok (right s))
 polled_at reused means tries old new log (Ok polled) right p ok err = (log, p, ap Ok (sym ok))
 polled_at reused means tries old new log (Err e) right p ok err =
     let want = missing reused e err in
-    subst (λ b. IsRefused means tries old new b e None (λ s. Ok (right s) ≡ Err e)) (sym want.0) (p.moves ∙ append-nil (own_moves old), λ moved. absurd (want.1 moved))
+    subst (λ b. IsRefused means tries old new b e None (λ s. Ok (right s) ≡ Err e)) (sym want.0)
+    (p.moves ∙ append-nil (own_moves old), λ moved. absurd (want.1 moved))

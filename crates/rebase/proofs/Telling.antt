@@ -1,5 +1,6 @@
 -- One answer told as another.
-use Rattle.std.proofs.Common.{◌≡◌, ℕ, ◌+◌, ◌<◌, ◌^◌, Bool, true, false, Option, Some, None, Result, Ok, Err, refl, sym, ap, subst, ◌∙◌}
+use Rattle.std.proofs.Common.{◌≡◌, ℕ, ◌+◌, ◌<◌, ◌^◌, Bool, true, false, Option, Some, None, Result, Ok, Err, refl, sym}
+use Rattle.std.proofs.Common.{ap, subst, ◌∙◌}
 use Rattle.std.specs.Prelude.{nat_eq, if◌then◌else◌, IfOk, IfSome, IsSome}
 use Rattle.group_history.specs.declared.changes.Change.{Change}
 use Rattle.group_history.specs.declared.changes.Change.TheVariants.{Mutated, Pulled}
@@ -30,17 +31,26 @@ use Rattle.rebase.specs.Inside.Changing.{ended_as, is_made}
 use Rattle.rebase.specs.Inside.Proposing.{HasLast, asked_reply, change_asked, is_applied}
 
 -- a value
-pub answers_as : {X Y : Type 0} (means : Meanings) (tries : ℕ) (old new : Known) (x : X) (y : Y) (change : Result X Refusal → Option Change) (other : Result Y Refusal → Option Change) (right : State → Result X Refusal) (so : State → Result Y Refusal)
-    → change (Ok x) ≡ other (Ok y) → ((s : State) → right s ≡ Ok x → so s ≡ Ok y) → Answers means tries old new (Ok x) change right → Answers means tries old new (Ok y) other so
-answers_as means tries old new x y change other right so same f is = (is.0, subst (λ (o : Option Change). IsPoint means old new o is.0) same is.1, f (after (record_of is.0)) is.2)
+pub answers_as : {X Y : Type 0} (means : Meanings) (tries : ℕ) (old new : Known) (x : X) (y : Y)
+    (change : Result X Refusal → Option Change) (other : Result Y Refusal → Option Change)
+    (right : State → Result X Refusal) (so : State → Result Y Refusal)
+    → change (Ok x) ≡ other (Ok y) → ((s : State) → right s ≡ Ok x → so s ≡ Ok y)
+    → Answers means tries old new (Ok x) change right → Answers means tries old new (Ok y) other so
+answers_as means tries old new x y change other right so same f is =
+    (is.0, subst (λ (o : Option Change). IsPoint means old new o is.0) same is.1, f (after (record_of is.0)) is.2)
 
-refused_as : (means : Meanings) (tries : ℕ) (old new : Known) (mute : Bool) (e : Refusal) (right so : State → Type 0) → ((s : State) → right s → so s) → IsRefused means tries old new mute e None right → IsRefused means tries old new mute e None so
+refused_as : (means : Meanings) (tries : ℕ) (old new : Known) (mute : Bool) (e : Refusal) (right so : State → Type 0)
+    → ((s : State) → right s → so s) → IsRefused means tries old new mute e None right
+    → IsRefused means tries old new mute e None so
 refused_as means tries old new true e right so f is = is
 refused_as means tries old new false e right so f is = (is.0, is.1, f (after (record_of is.0)) is.2)
 
 -- a refusal that stands for no change
-pub refuses_as : {X Y : Type 0} (means : Meanings) (tries : ℕ) (old new : Known) (e : Refusal) (change : Result X Refusal → Option Change) (other : Result Y Refusal → Option Change) (right : State → Result X Refusal) (so : State → Result Y Refusal)
-    → change (Err e) ≡ None → other (Err e) ≡ None → ((s : State) → right s ≡ Err e → so s ≡ Err e) → Answers means tries old new (Err e) change right → Answers means tries old new (Err e) other so
+pub refuses_as : {X Y : Type 0} (means : Meanings) (tries : ℕ) (old new : Known) (e : Refusal)
+    (change : Result X Refusal → Option Change) (other : Result Y Refusal → Option Change)
+    (right : State → Result X Refusal) (so : State → Result Y Refusal)
+    → change (Err e) ≡ None → other (Err e) ≡ None → ((s : State) → right s ≡ Err e → so s ≡ Err e)
+    → Answers means tries old new (Err e) change right → Answers means tries old new (Err e) other so
 refuses_as means tries old new e change other right so one two f is =
     subst (λ (o : Option Change). IsRefused means tries old new (mute o) e o (λ s. so s ≡ Err e)) (sym two)
     (refused_as means tries old new (is_want e) e (λ s. right s ≡ Err e) (λ s. so s ≡ Err e) f
@@ -71,58 +81,84 @@ by_told unknown id h = absurd (cc h)
 by_told (refuses code) id h = absurd (cc h)
 by_told (done m) id h = refl
 
-own_told : (b : Bool) (m : Meaning) (id : ℕ) → (let w : Result ℕ Refusal = if b then by_meaning m id else Err refusal.Stale in told (λ (n : ℕ). true) w) ≡ Ok true → (let w : Result ℕ Refusal = if b then by_meaning m id else Err refusal.Stale in w) ≡ Ok id
+own_told : (b : Bool) (m : Meaning) (id : ℕ)
+    → (let w : Result ℕ Refusal = if b then by_meaning m id else Err refusal.Stale in told (λ (n : ℕ). true) w)
+    ≡ Ok true → (let w : Result ℕ Refusal = if b then by_meaning m id else Err refusal.Stale in w) ≡ Ok id
 own_told true m id h = by_told m id h
 own_told false m id h = absurd (cc h)
 
-open_told : (b : Bool) (y : Result ℕ Refusal) (id : ℕ) → (told (λ (n : ℕ). true) y ≡ Ok true → y ≡ Ok id) → (let w : Result ℕ Refusal = if b then Err refusal.Closed else y in told (λ (n : ℕ). true) w) ≡ Ok true
+open_told : (b : Bool) (y : Result ℕ Refusal) (id : ℕ) → (told (λ (n : ℕ). true) y ≡ Ok true → y ≡ Ok id)
+    → (let w : Result ℕ Refusal = if b then Err refusal.Closed else y in told (λ (n : ℕ). true) w) ≡ Ok true
     → (let w : Result ℕ Refusal = if b then Err refusal.Closed else y in w) ≡ Ok id
 open_told true y id f h = absurd (cc h)
 open_told false y id f h = f h
 
 -- a mutation that is made has the next id
-pub told_mutated : (means : Meanings) (s : State) (last : ℕ) (x : Mutation) → asked_reply means s last (Mutated x) ≡ Ok true → mutate_reply means s last x ≡ Ok (last + 1)
-told_mutated means s last x h = open_told s.closed (open_reply means s last x) (last + 1) (own_told (nat_eq (last_id s x.client) last) (meaning_of means x (view_of means s)) (last + 1)) h
+pub told_mutated : (means : Meanings) (s : State) (last : ℕ) (x : Mutation)
+    → asked_reply means s last (Mutated x) ≡ Ok true → mutate_reply means s last x ≡ Ok (last + 1)
+told_mutated means s last x h = open_told s.closed (open_reply means s last x) (last + 1)
+    (own_told (nat_eq (last_id s x.client) last) (meaning_of means x (view_of means s)) (last + 1)) h
 
 told_all : (r : Result ℕ Refusal) → told (λ (n : ℕ). true) r ≡ Ok false → ⊥
 told_all (Ok n) h = cc h
 told_all (Err e) h = cc h
 
 -- it changes something
-pub never_same : (means : Meanings) (s : State) (last : ℕ) (x : Mutation) → asked_reply means s last (Mutated x) ≡ Ok false → ⊥
+pub never_same : (means : Meanings) (s : State) (last : ℕ) (x : Mutation)
+    → asked_reply means s last (Mutated x) ≡ Ok false → ⊥
 never_same means s last x h = told_all (mutate_reply means s last x) h
 
 -- WHAT IS MADE OF IT
 
 -- a mutation that is not refused is made
-pub next_there : (means : Meanings) (tries : ℕ) (old new : Known) (last : ℕ) (x : Mutation) (made : Result (Option Ref) Refusal) → Answers means tries old new (told is_made made) (change_asked (Mutated x)) (λ s. asked_reply means s last (Mutated x))
+pub next_there : (means : Meanings) (tries : ℕ) (old new : Known) (last : ℕ) (x : Mutation)
+    (made : Result (Option Ref) Refusal) → Answers means tries old new (told is_made made) (change_asked (Mutated x))
+    (λ s. asked_reply means s last (Mutated x))
     → IfOk made IsSome
 next_there means tries old new last x (Ok (Some at)) is = refl
 next_there means tries old new last x (Ok None) is = absurd (never_same means (after (record_of is.0)) last x is.2)
 next_there means tries old new last x (Err e) is = tt
 
 -- and answered by its id
-pub next_told : (means : Meanings) (tries : ℕ) (old new : Known) (last : ℕ) (x : Mutation) (made : Result (Option Ref) Refusal) → Answers means tries old new (told is_made made) (change_asked (Mutated x)) (λ s. asked_reply means s last (Mutated x))
+pub next_told : (means : Meanings) (tries : ℕ) (old new : Known) (last : ℕ) (x : Mutation)
+    (made : Result (Option Ref) Refusal) → Answers means tries old new (told is_made made) (change_asked (Mutated x))
+    (λ s. asked_reply means s last (Mutated x))
     → Answers means tries old new (told (λ at. last + 1) made) (change_made x) (λ s. mutate_reply means s last x)
 next_told means tries old new last x (Ok (Some at)) is =
-    answers_as means tries old new true (last + 1) (change_asked (Mutated x)) (change_made x) (λ s. asked_reply means s last (Mutated x)) (λ s. mutate_reply means s last x) refl (λ s h. told_mutated means s last x h) is
+    answers_as means tries old new true (last + 1) (change_asked (Mutated x)) (change_made x)
+    (λ s. asked_reply means s last (Mutated x)) (λ s. mutate_reply means s last x) refl
+    (λ s h. told_mutated means s last x h) is
 next_told means tries old new last x (Ok None) is = absurd (never_same means (after (record_of is.0)) last x is.2)
 next_told means tries old new last x (Err e) is =
-    refuses_as means tries old new e (change_asked (Mutated x)) (change_made x) (λ s. asked_reply means s last (Mutated x)) (λ s. mutate_reply means s last x) refl refl (λ s h. told_refused (λ (id : ℕ). true) (mutate_reply means s last x) e h) is
+    refuses_as means tries old new e (change_asked (Mutated x)) (change_made x)
+    (λ s. asked_reply means s last (Mutated x)) (λ s. mutate_reply means s last x) refl refl
+    (λ s h. told_refused (λ (id : ℕ). true) (mutate_reply means s last x) e h) is
 
 -- where it stands, its id is the last one of its client
-pub next_found : (cs : Contents) (client : Bytes) (last : ℕ) (x : Mutation) (made : Result (Option Ref) Refusal) → x.client ≡ client → x.id ≡ last + 1 → IfOk made (λ o. IfSome o (λ at. HasLast cs at (Mutated x)))
+pub next_found : (cs : Contents) (client : Bytes) (last : ℕ) (x : Mutation) (made : Result (Option Ref) Refusal)
+    → x.client ≡ client → x.id ≡ last + 1 → IfOk made (λ o. IfSome o (λ at. HasLast cs at (Mutated x)))
     → IfOk made (λ o. IfSome o (λ at. (last_at cs (stamp_of at) client ≡ Some (last + 1)) × (last + 1 < 2 ^ 53)))
-next_found cs client last x (Ok (Some at)) own next has = (subst (λ (w : Bytes). last_at cs (stamp_of at) w ≡ Some (last + 1)) own (has.0 ∙ ap Some next), subst (λ (n : ℕ). n < 2 ^ 53) next has.1)
+next_found cs client last x (Ok (Some at)) own next has = (
+  subst (λ (w : Bytes). last_at cs (stamp_of at) w ≡ Some (last + 1)) own (has.0 ∙ ap Some next),
+  subst (λ (n : ℕ). n < 2 ^ 53) next has.1,
+)
 next_found cs client last x (Ok None) own next has = tt
 next_found cs client last x (Err e) own next has = tt
 
 -- a pull is ended as its commit stands there or not
-pub pull_told : (means : Meanings) (tries : ℕ) (old new : Known) (last : ℕ) (t : Cookie) (r : Pull) (made : Result (Option Ref) Refusal) → Answers means tries old new (told is_made made) (change_asked (Pulled t r)) (λ s. asked_reply means s last (Pulled t r))
+pub pull_told : (means : Meanings) (tries : ℕ) (old new : Known) (last : ℕ) (t : Cookie) (r : Pull)
+    (made : Result (Option Ref) Refusal) → Answers means tries old new (told is_made made) (change_asked (Pulled t r))
+    (λ s. asked_reply means s last (Pulled t r))
     → Answers means tries old new (told ended_as made) (change_applied t r) (λ s. end_reply s t.text (response.Ok r))
 pull_told means tries old new last t r (Ok (Some at)) is =
-    answers_as means tries old new true ended.Applied (change_asked (Pulled t r)) (change_applied t r) (λ s. asked_reply means s last (Pulled t r)) (λ s. end_reply s t.text (response.Ok r)) refl (λ s h. told_applied (end_reply s t.text (response.Ok r)) h) is
+    answers_as means tries old new true ended.Applied (change_asked (Pulled t r)) (change_applied t r)
+    (λ s. asked_reply means s last (Pulled t r)) (λ s. end_reply s t.text (response.Ok r)) refl
+    (λ s h. told_applied (end_reply s t.text (response.Ok r)) h) is
 pull_told means tries old new last t r (Ok None) is =
-    answers_as means tries old new false ended.Same (change_asked (Pulled t r)) (change_applied t r) (λ s. asked_reply means s last (Pulled t r)) (λ s. end_reply s t.text (response.Ok r)) refl (λ s h. told_same (end_reply s t.text (response.Ok r)) h) is
+    answers_as means tries old new false ended.Same (change_asked (Pulled t r)) (change_applied t r)
+    (λ s. asked_reply means s last (Pulled t r)) (λ s. end_reply s t.text (response.Ok r)) refl
+    (λ s h. told_same (end_reply s t.text (response.Ok r)) h) is
 pull_told means tries old new last t r (Err e) is =
-    refuses_as means tries old new e (change_asked (Pulled t r)) (change_applied t r) (λ s. asked_reply means s last (Pulled t r)) (λ s. end_reply s t.text (response.Ok r)) refl refl (λ s h. told_refused is_applied (end_reply s t.text (response.Ok r)) e h) is
+    refuses_as means tries old new e (change_asked (Pulled t r)) (change_applied t r)
+    (λ s. asked_reply means s last (Pulled t r)) (λ s. end_reply s t.text (response.Ok r)) refl refl
+    (λ s h. told_refused is_applied (end_reply s t.text (response.Ok r)) e h) is

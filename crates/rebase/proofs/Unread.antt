@@ -1,5 +1,6 @@
 -- Bytes that are no response are refused for what they are, never for want of something.
-use Rattle.std.proofs.Common.{◌≡◌, ◌⊎◌, inl, inr, ℕ, Bool, false, Option, Some, None, Result, Ok, Err, refl, sym, ap, subst, ◌∙◌}
+use Rattle.std.proofs.Common.{◌≡◌, ◌⊎◌, inl, inr, ℕ, Bool, false, Option, Some, None, Result, Ok, Err, refl, sym, ap}
+use Rattle.std.proofs.Common.{subst, ◌∙◌}
 use Rattle.group_history.specs.declared.changes.Change.{Change}
 use Rattle.group_history.specs.declared.refusals.Refusal.{Refusal}
 use Rattle.group_history.specs.declared.refusals.Refusal.TheVariants as refusal
@@ -33,7 +34,8 @@ none_read ticket (Ok (response.VersionNotSupported kind)) = refl
 none_read ticket (Err e) = refl
 
 -- such bytes are refused rightly where the call began
-pub unread : (means : Meanings) (tries : ℕ) (m : Known) (ticket : Cookie) (body : Bytes) (e : Refusal) → IsOpened means m.log → Refuses e (answer_to body)
+pub unread : (means : Meanings) (tries : ℕ) (m : Known) (ticket : Cookie) (body : Bytes) (e : Refusal)
+    → IsOpened means m.log → Refuses e (answer_to body)
     → Answers means tries m m (Err e) (change_read ticket (answer_to body)) (λ s. end_bytes_reply s ticket.text body)
 unread means tries m ticket body e book is = by_cause (right_or e (answer_to body) is)
   where
@@ -41,12 +43,21 @@ unread means tries m ticket body e book is = by_cause (right_or e (answer_to bod
     mute None = is_want e
     mute (Some c) = false
 
-    by_cause : (e ≡ refusal.NoMemory) ⊎ (answer_to body ≡ Err e) → Answers means tries m m (Err e) (change_read ticket (answer_to body)) (λ s. end_bytes_reply s ticket.text body)
+    by_cause : (e ≡ refusal.NoMemory) ⊎ (answer_to body ≡ Err e)
+        → Answers means tries m m (Err e) (change_read ticket (answer_to body))
+        (λ s. end_bytes_reply s ticket.text body)
     by_cause (inl none) =
-        wanting means tries m m e (change_read ticket (answer_to body)) (λ s. end_bytes_reply s ticket.text body) (ap (λ w. change_read ticket (answer_to body) (Err w)) none ∙ none_read ticket (answer_to body)) (ap is_want none)
+        wanting means tries m m e (change_read ticket (answer_to body)) (λ s. end_bytes_reply s ticket.text body)
+        (ap (λ w. change_read ticket (answer_to body) (Err w)) none ∙ none_read ticket (answer_to body))
+        (ap is_want none)
         (refl, λ moved. absurd (cc (sym none ∙ moved)))
     by_cause (inr so) =
         let still : change_read ticket (answer_to body) (Err e) ≡ None = ap (λ a. change_read ticket a (Err e)) so in
-        subst (λ (o : Option Change). IsRefused means tries m m (mute o) e o (λ s. end_bytes_reply s ticket.text body ≡ Err e)) (sym still)
-        (subst (λ (b : Bool). IsRefused means tries m m b e None (λ s. end_bytes_reply s ticket.text body ≡ Err e)) (sym (refused_for (λ (w : Refusal). is_want w ≡ false) refl refl refl body e so))
-        (m.log, point_seen means m m (prefix_self m.log) book refl, ap (λ a. a >>= end_reply (after (record_of m.log)) ticket.text) so))
+        subst (λ (o : Option Change). IsRefused means tries m m (mute o) e o
+        (λ s. end_bytes_reply s ticket.text body ≡ Err e)) (sym still)
+        (subst (λ (b : Bool). IsRefused means tries m m b e None (λ s. end_bytes_reply s ticket.text body ≡ Err e))
+        (sym (refused_for (λ (w : Refusal). is_want w ≡ false) refl refl refl body e so)) (
+          m.log,
+          point_seen means m m (prefix_self m.log) book refl,
+          ap (λ a. a >>= end_reply (after (record_of m.log)) ticket.text) so,
+        ))

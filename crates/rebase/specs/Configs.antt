@@ -13,4 +13,5 @@ is_from_to least most n = nat_le least n && nat_le n most
 
 -- which of the numbers of slots and seats is out of range; the slots come first
 abbrev pub out_of_range : ℕ → ℕ → Option OutOfRange
-out_of_range slots seats = if is_from_to min_slots max_slots slots then (if is_from_to 1 max_seats seats then None else Some (Seats seats)) else Some (Slots slots)
+out_of_range slots seats = if is_from_to min_slots max_slots slots then
+    (if is_from_to 1 max_seats seats then None else Some (Seats seats)) else Some (Slots slots)

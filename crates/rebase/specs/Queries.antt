@@ -11,7 +11,8 @@ use Rattle.reader_claims.specs.declared.view.View.{View}
 use Rattle.reader_claims.specs.declared.words.Pin.TheVariants.{Held}
 use Rattle.rebase.specs.declared.tickets.Ticket.{Ticket}
 
--- a slot has no node of that stamp any more; or a slot or a pin is lost to others, which happens only where slots are used again
+-- a slot has no node of that stamp any more; or a slot or a pin is lost to others, which happens only where slots are
+-- used again
 abbrev pub IsMissed : Type 0 → Refusal → Type 0
 IsMissed reused e = (e ≡ Gone) ⊎ (reused × (e ≡ Busy))
 

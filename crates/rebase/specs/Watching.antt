@@ -28,7 +28,8 @@ abbrev pub same_rows : Rows → Rows → Bool
 same_rows = pointwise (λ x y. same_text x.0 y.0 && same_text x.1 y.1)
 
 pub same_rows-equiv : IsEquivalence same_rows
-same_rows-equiv = lists_equiv (and_equiv (on_equiv (λ (x : Bytes × Bytes). x.0) nat_list_eq_equiv) (on_equiv (λ (x : Bytes × Bytes). x.1) nat_list_eq_equiv))
+same_rows-equiv = lists_equiv (and_equiv (on_equiv (λ (x : Bytes × Bytes). x.0) nat_list_eq_equiv)
+    (on_equiv (λ (x : Bytes × Bytes). x.1) nat_list_eq_equiv))
 
 -- whether these rows were answered last
 abbrev pub was_told : Option Rows → Rows → Bool

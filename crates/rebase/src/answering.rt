@@ -14,7 +14,8 @@ ghost use Rattle.group_history.specs.State.{State};
 ghost use Rattle.head_word.specs.Books.{record_of};
 ghost use Rattle.chunk_slots.specs.Seats.{IsIdle};
 ghost use Rattle.answered.specs.Answered.{Answers, nothing};
-ghost use Rattle.rebase.specs.Calls.{Caller, IsAlone, AreAnswered, AreReplies, caller, change_of, is_query, last_after, reply_to};
+ghost use Rattle.rebase.specs.Calls.{Caller, IsAlone, AreAnswered, AreReplies, caller, change_of, is_query, last_after};
+ghost use Rattle.rebase.specs.Calls.{reply_to};
 ghost use Rattle.rebase.specs.Queries.{IsMissed, told};
 ghost use Rattle.rebase.specs.Replies.{reply_seen};
 
@@ -31,7 +32,8 @@ use transactions::ReadTx as CommitTx;
 // What a commit that is read answers.
 fn read_call<N: Nodes>(tx: &mut CommitTx<N>, call: Call<'_>) -> Result<Reply, Stop>
     requires query { is_query call ≡ true }
-    ensures value { (means : Meanings) (c : Caller) (s : State) → tx.old.version ≡ version_of means s → IfOk result (λ reply. reply_to means c s call.entry ≡ Ok (reply_seen reply)) }
+    ensures value { (means : Meanings) (c : Caller) (s : State) → tx.old.version ≡ version_of means s
+        → IfOk result (λ reply. reply_to means c s call.entry ≡ Ok (reply_seen reply)) }
     ensures stopped { IfErr result (λ stop. (stop ≡ Dry) ⊎ N.stops stop) }
 {
     match call {
@@ -55,7 +57,8 @@ fn ask<M: Mutators, S: Slots<M>>(
 ) -> Result<Reply, Refusal>
     requires query { is_query call ≡ true }
     requires book { at.now.book ≡ group.now.shared.head }
-    ensures value { (c : Caller) → IfOk result (λ reply. reply_to M.means c (after (record_of at.now.log)) call.entry ≡ Ok (reply_seen reply)) }
+    ensures value { (c : Caller) → IfOk result
+        (λ reply. reply_to M.means c (after (record_of at.now.log)) call.entry ≡ Ok (reply_seen reply)) }
     ensures err { IfErr result (λ e. (e ≡ NoMemory) ⊎ IsMissed S.reused e) }
 {
     let mut tx = at.open(group.alloc, &group.shared, tries);
@@ -69,11 +72,13 @@ where
     // Makes a call that one reading answers.
     fn query(&mut self, call: Call<'_>, tries: u32) -> Result<Reply, Refusal>
         requires { is_query call ≡ true }
-        ensures answer { Answers M.means tries self.old.mark self.new.mark (told reply_seen result) nothing (λ s. reply_to M.means (caller self.old.group.now.identity self.old.id self.old.last) s call.entry) }
+        ensures answer { Answers M.means tries self.old.mark self.new.mark (told reply_seen result) nothing
+            (λ s. reply_to M.means (caller self.old.group.now.identity self.old.id self.old.last) s call.entry) }
         ensures seen { IsPrefix self.old.mark.log self.new.mark.log }
         ensures idle { S.reused → IsIdle (S.view self.new.slots) }
         ensures seat { (self.new.mark.book ≡ self.old.mark.book) × (self.new.mark.seat ≡ self.old.mark.seat) }
-        ensures same { (self.new.group.now ≡ self.old.group.now) × (self.new.id ≡ self.old.id) × (self.new.last ≡ self.old.last) }
+        ensures same { (self.new.group.now ≡ self.old.group.now) × (self.new.id ≡ self.old.id)
+            × (self.new.last ≡ self.old.last) }
     {
         let at = self.point(tries)?;
         let reply = ask(self.group, &at, call, tries);
@@ -83,7 +88,9 @@ where
 
     /// Makes one call.
     pub fn make_call(&mut self, call: Call<'_>, tries: u32) -> Result<Reply, Refusal>
-        ensures answer { let c = caller self.old.group.now.identity self.old.id self.old.last in Answers M.means tries self.old.mark self.new.mark (told reply_seen result) (change_of c call.entry) (λ s. reply_to M.means c s call.entry) }
+        ensures answer { let c = caller self.old.group.now.identity self.old.id self.old.last in
+            Answers M.means tries self.old.mark self.new.mark (told reply_seen result) (change_of c call.entry)
+            (λ s. reply_to M.means c s call.entry) }
         ensures last { self.new.last ≡ last_after self.old.last (told reply_seen result) }
         ensures seen { IsPrefix self.old.mark.log self.new.mark.log }
         ensures idle { S.reused → IsIdle (S.view self.old.slots) → IsIdle (S.view self.new.slots) }
@@ -111,7 +118,9 @@ where
     )
         requires none { replies.old.items ≡ [] }
         requires room { length calls.now ≤ vec_capacity replies.old }
-        ensures answers { let c = caller self.old.group.now.identity self.old.id self.old.last in AreAnswered M.means tries c self.old.mark calls.now (map (told reply_seen) replies.new.items) self.new.mark (caller c.identity c.client self.new.last) }
+        ensures answers { let c = caller self.old.group.now.identity self.old.id self.old.last in
+            AreAnswered M.means tries c self.old.mark calls.now (map (told reply_seen) replies.new.items) self.new.mark
+            (caller c.identity c.client self.new.last) }
         ensures idle { S.reused → IsIdle (S.view self.old.slots) → IsIdle (S.view self.new.slots) }
         ensures seat { (self.new.mark.book ≡ self.old.mark.book) × (self.new.mark.seat ≡ self.old.mark.seat) }
         ensures same { (self.new.group.now ≡ self.old.group.now) × (self.new.id ≡ self.old.id) }
@@ -130,8 +139,13 @@ where
         calls: &[Call<'_>],
         tries: u32,
     ) -> Result<Vec<Result<Reply, Refusal>>, AllocError>
-        ensures answers { let c = caller self.old.group.now.identity self.old.id self.old.last in IfOk result (λ replies. AreAnswered M.means tries c self.old.mark calls.now (map (told reply_seen) replies.items) self.new.mark (caller c.identity c.client self.new.last)) }
-        ensures replies { let c = caller self.old.group.now.identity self.old.id self.old.last in IfOk result (λ replies. IsAlone self.old.mark self.new.mark → AreReplies M.means c (after (record_of self.old.mark.log)) calls.now (map (told reply_seen) replies.items) (after (record_of self.new.mark.log)) (caller c.identity c.client self.new.last)) }
+        ensures answers { let c = caller self.old.group.now.identity self.old.id self.old.last in
+            IfOk result (λ replies. AreAnswered M.means tries c self.old.mark calls.now
+            (map (told reply_seen) replies.items) self.new.mark (caller c.identity c.client self.new.last)) }
+        ensures replies { let c = caller self.old.group.now.identity self.old.id self.old.last in
+            IfOk result (λ replies. IsAlone self.old.mark self.new.mark
+            → AreReplies M.means c (after (record_of self.old.mark.log)) calls.now (map (told reply_seen) replies.items)
+            (after (record_of self.new.mark.log)) (caller c.identity c.client self.new.last)) }
         ensures err { OnErr result ((self.new.mark ≡ self.old.mark) × (self.new.last ≡ self.old.last)) }
         ensures idle { S.reused → IsIdle (S.view self.old.slots) → IsIdle (S.view self.new.slots) }
         ensures seat { (self.new.mark.book ≡ self.old.mark.book) × (self.new.mark.seat ≡ self.old.mark.seat) }

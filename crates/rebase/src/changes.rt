@@ -61,12 +61,14 @@ where
     // Makes a change, and answers the commit where it stands: none where there is nothing to change.
     fn change(&mut self, change: Change, tries: u32) -> Result<Option<Ref>, Refusal>
         requires next { AsksNext self.old.id self.old.last change }
-        ensures answer { Answers M.means tries self.old.mark self.new.mark (told is_made result) (change_asked change) (λ s. asked_reply M.means s self.old.last change) }
+        ensures answer { Answers M.means tries self.old.mark self.new.mark (told is_made result) (change_asked change)
+            (λ s. asked_reply M.means s self.old.last change) }
         ensures found { IfOk result (λ made. IfSome made (λ at. HasLast (drawn self.new.mark.log) at change)) }
         ensures idle { S.reused → IsIdle (S.view self.new.slots) }
         ensures seen { IsPrefix self.old.mark.log self.new.mark.log }
         ensures seat { (self.new.mark.book ≡ self.old.mark.book) × (self.new.mark.seat ≡ self.old.mark.seat) }
-        ensures same { (self.new.group.now ≡ self.old.group.now) × (self.new.id ≡ self.old.id) × (self.new.last ≡ self.old.last) }
+        ensures same { (self.new.group.now ≡ self.old.group.now) × (self.new.id ≡ self.old.id)
+            × (self.new.last ≡ self.old.last) }
     {
         let before = LastId {
             at: self.found,
@@ -87,7 +89,9 @@ where
     // Where the client's next mutation was made, its id is the client's last one, and is answered.
     fn keep_next(&mut self, made: Result<Option<Ref>, Refusal>) -> Result<u64, Refusal>
         requires made { IfOk made IsSome }
-        requires found { IfOk made (λ made. IfSome made (λ at. (last_at (drawn self.old.mark.log) (stamp_of at) self.old.id ≡ Some (self.old.last + 1)) × (self.old.last + 1 < 2 ^ 53))) }
+        requires found { IfOk made (λ made. IfSome made
+            (λ at. (last_at (drawn self.old.mark.log) (stamp_of at) self.old.id ≡ Some (self.old.last + 1))
+            × (self.old.last + 1 < 2 ^ 53))) }
         ensures id { result ≡ told (λ at. self.old.last + 1) made }
         ensures last { IfOk result (λ id. self.new.last ≡ id) }
         ensures left { IfErr result (λ _. self.new.last ≡ self.old.last) }
@@ -111,7 +115,9 @@ where
         time: u64,
         tries: u32,
     ) -> Result<u64, Refusal>
-        ensures answer { Answers M.means tries self.old.mark self.new.mark result (change_made (made self.old.id (self.old.last + 1) name.now args.now time)) (λ s. mutate_reply M.means s self.old.last (made self.old.id (self.old.last + 1) name.now args.now time)) }
+        ensures answer { Answers M.means tries self.old.mark self.new.mark result
+            (change_made (made self.old.id (self.old.last + 1) name.now args.now time))
+            (λ s. mutate_reply M.means s self.old.last (made self.old.id (self.old.last + 1) name.now args.now time)) }
         ensures last { IfOk result (λ id. (id ≡ self.old.last + 1) × (self.new.last ≡ id)) }
         ensures left { IfErr result (λ _. self.new.last ≡ self.old.last) }
         ensures idle { S.reused → IsIdle (S.view self.old.slots) → IsIdle (S.view self.new.slots) }
@@ -126,11 +132,13 @@ where
 
     // Ends a pull that brought no error.
     fn end_applied(&mut self, ticket: &Cookie, pull: PullOk, tries: u32) -> Result<Ended, Refusal>
-        ensures answer { Answers M.means tries self.old.mark self.new.mark result (change_applied ticket.now pull) (λ s. end_reply s ticket.now.text (response.Ok pull)) }
+        ensures answer { Answers M.means tries self.old.mark self.new.mark result (change_applied ticket.now pull)
+            (λ s. end_reply s ticket.now.text (response.Ok pull)) }
         ensures idle { S.reused → IsIdle (S.view self.old.slots) → IsIdle (S.view self.new.slots) }
         ensures seen { IsPrefix self.old.mark.log self.new.mark.log }
         ensures seat { (self.new.mark.book ≡ self.old.mark.book) × (self.new.mark.seat ≡ self.old.mark.seat) }
-        ensures same { (self.new.group.now ≡ self.old.group.now) × (self.new.id ≡ self.old.id) × (self.new.last ≡ self.old.last) }
+        ensures same { (self.new.group.now ≡ self.old.group.now) × (self.new.id ≡ self.old.id)
+            × (self.new.last ≡ self.old.last) }
     {
         let cookie = ticket.clone()?;
         ended_as(self.change(Change::Pulled(cookie, pull), tries))
@@ -138,11 +146,13 @@ where
 
     // Ends a pull whose server does not know the group: closes it.
     fn end_unknown(&mut self, tries: u32) -> Result<Ended, Refusal>
-        ensures answer { (ticket : Bytes) → Answers M.means tries self.old.mark self.new.mark result change_closing (λ s. end_reply s ticket response.StateNotFound) }
+        ensures answer { (ticket : Bytes) → Answers M.means tries self.old.mark self.new.mark result change_closing
+            (λ s. end_reply s ticket response.StateNotFound) }
         ensures idle { S.reused → IsIdle (S.view self.new.slots) }
         ensures seen { IsPrefix self.old.mark.log self.new.mark.log }
         ensures seat { (self.new.mark.book ≡ self.old.mark.book) × (self.new.mark.seat ≡ self.old.mark.seat) }
-        ensures same { (self.new.group.now ≡ self.old.group.now) × (self.new.id ≡ self.old.id) × (self.new.last ≡ self.old.last) }
+        ensures same { (self.new.group.now ≡ self.old.group.now) × (self.new.id ≡ self.old.id)
+            × (self.new.last ≡ self.old.last) }
     {
         match self.change(Change::Closed, tries) {
             Ok(_) => Err(Refusal::StateNotFound),
@@ -152,11 +162,13 @@ where
 
     // Ends a pull whose server does not support a version.
     fn end_unsupported(&mut self, kind: VersionKind, tries: u32) -> Result<Ended, Refusal>
-        ensures answer { (ticket : Bytes) → Answers M.means tries self.old.mark self.new.mark result nothing (λ s. end_reply s ticket (response.VersionNotSupported kind)) }
+        ensures answer { (ticket : Bytes) → Answers M.means tries self.old.mark self.new.mark result nothing
+            (λ s. end_reply s ticket (response.VersionNotSupported kind)) }
         ensures idle { S.reused → IsIdle (S.view self.new.slots) }
         ensures seen { IsPrefix self.old.mark.log self.new.mark.log }
         ensures seat { (self.new.mark.book ≡ self.old.mark.book) × (self.new.mark.seat ≡ self.old.mark.seat) }
-        ensures same { (self.new.group.now ≡ self.old.group.now) × (self.new.id ≡ self.old.id) × (self.new.last ≡ self.old.last) }
+        ensures same { (self.new.group.now ≡ self.old.group.now) × (self.new.id ≡ self.old.id)
+            × (self.new.last ≡ self.old.last) }
     {
         let at = self.begin(tries)?;
         let closed = closed_at(&self.group.shared, &self.mark, at, tries);
@@ -178,11 +190,14 @@ where
         body: &[u8],
         tries: u32,
     ) -> Result<Ended, Refusal>
-        ensures answer { Answers M.means tries self.old.mark self.new.mark result (change_read ticket.now.cookie (answer_to body.now)) (λ s. end_bytes_reply s ticket.now.cookie.text body.now) }
+        ensures answer { Answers M.means tries self.old.mark self.new.mark result
+            (change_read ticket.now.cookie (answer_to body.now))
+            (λ s. end_bytes_reply s ticket.now.cookie.text body.now) }
         ensures idle { S.reused → IsIdle (S.view self.old.slots) → IsIdle (S.view self.new.slots) }
         ensures seen { IsPrefix self.old.mark.log self.new.mark.log }
         ensures seat { (self.new.mark.book ≡ self.old.mark.book) × (self.new.mark.seat ≡ self.old.mark.seat) }
-        ensures same { (self.new.group.now ≡ self.old.group.now) × (self.new.id ≡ self.old.id) × (self.new.last ≡ self.old.last) }
+        ensures same { (self.new.group.now ≡ self.old.group.now) × (self.new.id ≡ self.old.id)
+            × (self.new.last ≡ self.old.last) }
     {
         self.mark.legal();
         let response = match read_response(self.group.alloc, body) {
@@ -204,7 +219,8 @@ where
         }
     }
 
-    /// Makes a mutation as `try_mutate` does, and begins anew where it was refused with `Moved`, `Busy` or `Gone`: so it may
+    /// Makes a mutation as `try_mutate` does, and begins anew where it was refused with `Moved`, `Busy` or `Gone`: so
+    /// it may
     /// wait for others.
     pub fn mutate<R: Wait>(
         &mut self,
@@ -213,7 +229,9 @@ where
         args: &Json,
         time: u64,
     ) -> Result<u64, Refusal>
-        ensures answer { Answers M.means 0 self.old.mark self.new.mark result (change_made (made self.old.id (self.old.last + 1) name.now args.now time)) (λ s. mutate_reply M.means s self.old.last (made self.old.id (self.old.last + 1) name.now args.now time)) }
+        ensures answer { Answers M.means 0 self.old.mark self.new.mark result
+            (change_made (made self.old.id (self.old.last + 1) name.now args.now time))
+            (λ s. mutate_reply M.means s self.old.last (made self.old.id (self.old.last + 1) name.now args.now time)) }
         ensures lasting { is_passing result ≡ false }
         ensures last { IfOk result (λ id. (id ≡ self.old.last + 1) × (self.new.last ≡ id)) }
         ensures left { IfErr result (λ _. self.new.last ≡ self.old.last) }
@@ -232,7 +250,8 @@ where
         unreachable!()
     }
 
-    /// Ends a pull as `try_end_pull` does, and begins anew where it was refused with `Moved`, `Busy` or `Gone`: so it may
+    /// Ends a pull as `try_end_pull` does, and begins anew where it was refused with `Moved`, `Busy` or `Gone`: so it
+    /// may
     /// wait for others.
     pub fn end_pull<R: Wait>(
         &mut self,
@@ -240,12 +259,15 @@ where
         ticket: &Ticket,
         body: &[u8],
     ) -> Result<Ended, Refusal>
-        ensures answer { Answers M.means 0 self.old.mark self.new.mark result (change_read ticket.now.cookie (answer_to body.now)) (λ s. end_bytes_reply s ticket.now.cookie.text body.now) }
+        ensures answer { Answers M.means 0 self.old.mark self.new.mark result
+            (change_read ticket.now.cookie (answer_to body.now))
+            (λ s. end_bytes_reply s ticket.now.cookie.text body.now) }
         ensures lasting { is_passing result ≡ false }
         ensures idle { S.reused → IsIdle (S.view self.old.slots) → IsIdle (S.view self.new.slots) }
         ensures seen { IsPrefix self.old.mark.log self.new.mark.log }
         ensures seat { (self.new.mark.book ≡ self.old.mark.book) × (self.new.mark.seat ≡ self.old.mark.seat) }
-        ensures same { (self.new.group.now ≡ self.old.group.now) × (self.new.id ≡ self.old.id) × (self.new.last ≡ self.old.last) }
+        ensures same { (self.new.group.now ≡ self.old.group.now) × (self.new.id ≡ self.old.id)
+            × (self.new.last ≡ self.old.last) }
     {
         for turn in rt.forever() {
             let _ = turn;

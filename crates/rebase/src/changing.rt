@@ -59,8 +59,11 @@ fn change_at<M: Mutators, S: Store<M>>(
     ensures home { S.home slots.new ≡ S.serves group.now.shared.store }
     ensures none { S.reused → (S.view slots.new).taken ≡ [] }
     ensures seen { IsPrefix mark.old.log mark.new.log }
-    ensures tried { (s : State) → IsBase M.means mark.old base s → IfOk result (EndsTry M.means mark.old mark.new base s before.id change.now) }
-    ensures err { (s : State) → IsBase M.means mark.old base s → IfErr result (IsUnmade (change_asked change.now) (asked_reply M.means s before.id change.now) tries mark.old mark.new) }
+    ensures tried { (s : State) → IsBase M.means mark.old base s
+        → IfOk result (EndsTry M.means mark.old mark.new base s before.id change.now) }
+    ensures err { (s : State) → IsBase M.means mark.old base s
+        → IfErr result (IsUnmade (change_asked change.now)
+        (asked_reply M.means s before.id change.now) tries mark.old mark.new) }
 {
     let proposal = match propose(group, mark, base, first, change, before, tries) {
         Ok(Some(proposal)) => proposal,
@@ -125,7 +128,8 @@ pub(crate) fn make_change<M: Mutators, S: Store<M>>(
     ensures home { S.home slots.new ≡ S.serves group.now.shared.store }
     ensures idle { S.reused → IsIdle (S.view slots.new) }
     ensures seen { IsPrefix mark.old.log mark.new.log }
-    ensures answer { Answers M.means tries mark.old mark.new (told is_made result) (change_asked change.now) (λ s. asked_reply M.means s before.id change.now) }
+    ensures answer { Answers M.means tries mark.old mark.new (told is_made result) (change_asked change.now)
+        (λ s. asked_reply M.means s before.id change.now) }
     ensures found { IfOk result (λ made. IfSome made (λ at. HasLast (drawn mark.new.log) at change.now)) }
 {
     for tried in 0..tries.max(1) {

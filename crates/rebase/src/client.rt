@@ -60,13 +60,15 @@ where
 {
     // Pins the seat, and looks where the head is.
     pub(crate) fn begin(&mut self, tries: u32) -> Result<Ref, Refusal>
-        ensures looked { IfOk result (λ at. IsPoint M.means self.old.mark self.new.mark None self.new.mark.log × IsBase M.means self.new.mark at (after (record_of self.new.mark.log))) }
+        ensures looked { IfOk result (λ at. IsPoint M.means self.old.mark self.new.mark None self.new.mark.log
+            × IsBase M.means self.new.mark at (after (record_of self.new.mark.log))) }
         ensures held { S.reused → IfOk result (λ _. IsHeld (S.view self.new.slots)) }
         ensures busy { IfErr result (λ e. (e ≡ Busy) × S.reused × (self.new.mark ≡ self.old.mark)) }
         ensures idle { S.reused → IfErr result (λ _. IsIdle (S.view self.new.slots)) }
         ensures seen { IsPrefix self.old.mark.log self.new.mark.log }
         ensures seat { (self.new.mark.book ≡ self.old.mark.book) × (self.new.mark.seat ≡ self.old.mark.seat) }
-        ensures same { (self.new.group.now ≡ self.old.group.now) × (self.new.id ≡ self.old.id) × (self.new.last ≡ self.old.last) }
+        ensures same { (self.new.group.now ≡ self.old.group.now) × (self.new.id ≡ self.old.id)
+            × (self.new.last ≡ self.old.last) }
     {
         begin(&self.group.shared, &mut self.slots, &mut self.mark, tries)
     }
@@ -75,21 +77,25 @@ where
     pub(crate) fn finish(&mut self)
         ensures mark { self.new.mark ≡ self.old.mark }
         ensures idle { S.reused → IsIdle (S.view self.new.slots) }
-        ensures same { (self.new.group.now ≡ self.old.group.now) × (self.new.id ≡ self.old.id) × (self.new.last ≡ self.old.last) }
+        ensures same { (self.new.group.now ≡ self.old.group.now) × (self.new.id ≡ self.old.id)
+            × (self.new.last ≡ self.old.last) }
     {
         self.group.shared.store.unpin(&mut self.slots);
     }
 
     // Finds the client's last id in the group.
     fn find(&mut self, tries: u32) -> Result<LastId, Refusal>
-        ensures answer { Answers M.means tries self.old.mark self.new.mark (told (λ found. found.id) result) nothing (λ s. Ok (last_id s self.old.id)) }
-        ensures found { IfOk result (λ found. last_at (drawn self.new.mark.log) (stamp_of found.at) self.old.id ≡ Some found.id) }
+        ensures answer { Answers M.means tries self.old.mark self.new.mark (told (λ found. found.id) result) nothing
+            (λ s. Ok (last_id s self.old.id)) }
+        ensures found { IfOk result (λ found. last_at (drawn self.new.mark.log) (stamp_of found.at) self.old.id
+            ≡ Some found.id) }
         ensures low { IfOk result (λ found. found.id < 2 ^ 53) }
         ensures missed { IfErr result (IsMissed S.reused) }
         ensures idle { S.reused → IsIdle (S.view self.new.slots) }
         ensures seen { IsPrefix self.old.mark.log self.new.mark.log }
         ensures seat { (self.new.mark.book ≡ self.old.mark.book) × (self.new.mark.seat ≡ self.old.mark.seat) }
-        ensures same { (self.new.group.now ≡ self.old.group.now) × (self.new.id ≡ self.old.id) × (self.new.last ≡ self.old.last) }
+        ensures same { (self.new.group.now ≡ self.old.group.now) × (self.new.id ≡ self.old.id)
+            × (self.new.last ≡ self.old.last) }
     {
         let before = LastId {
             at: self.found,
@@ -107,11 +113,13 @@ where
 
     /// The body of a push of all that is pending in the group.
     pub fn push_body(&mut self, tries: u32) -> Result<Vec<u8>, Refusal>
-        ensures answer { Answers M.means tries self.old.mark self.new.mark (told (λ body. body.items) result) nothing (λ s. Ok (push_text self.old.group.now.identity s.pending)) }
+        ensures answer { Answers M.means tries self.old.mark self.new.mark (told (λ body. body.items) result) nothing
+            (λ s. Ok (push_text self.old.group.now.identity s.pending)) }
         ensures idle { S.reused → IsIdle (S.view self.new.slots) }
         ensures seen { IsPrefix self.old.mark.log self.new.mark.log }
         ensures seat { (self.new.mark.book ≡ self.old.mark.book) × (self.new.mark.seat ≡ self.old.mark.seat) }
-        ensures same { (self.new.group.now ≡ self.old.group.now) × (self.new.id ≡ self.old.id) × (self.new.last ≡ self.old.last) }
+        ensures same { (self.new.group.now ≡ self.old.group.now) × (self.new.id ≡ self.old.id)
+            × (self.new.last ≡ self.old.last) }
     {
         let at = self.begin(tries)?;
         let pending = pending_at(self.group.alloc, &self.group.shared, &self.mark, at, tries);
@@ -121,11 +129,13 @@ where
 
     /// The body of a pull at the group's cookie, and the ticket with which it ends.
     pub fn begin_pull(&mut self, tries: u32) -> Result<Ticket, Refusal>
-        ensures answer { Answers M.means tries self.old.mark self.new.mark (told asked result) nothing (λ s. Ok (asked_at self.old.group.now.identity s)) }
+        ensures answer { Answers M.means tries self.old.mark self.new.mark (told asked result) nothing
+            (λ s. Ok (asked_at self.old.group.now.identity s)) }
         ensures idle { S.reused → IsIdle (S.view self.new.slots) }
         ensures seen { IsPrefix self.old.mark.log self.new.mark.log }
         ensures seat { (self.new.mark.book ≡ self.old.mark.book) × (self.new.mark.seat ≡ self.old.mark.seat) }
-        ensures same { (self.new.group.now ≡ self.old.group.now) × (self.new.id ≡ self.old.id) × (self.new.last ≡ self.old.last) }
+        ensures same { (self.new.group.now ≡ self.old.group.now) × (self.new.id ≡ self.old.id)
+            × (self.new.last ≡ self.old.last) }
     {
         let at = self.begin(tries)?;
         let cookie = cookie_at(&self.group.shared, &self.mark, at, tries);
@@ -135,7 +145,8 @@ where
 
     /// Finds the client's last id in the group, which is then its own. The remedy for `Stale`.
     pub fn refresh(&mut self, tries: u32) -> Result<u64, Refusal>
-        ensures answer { Answers M.means tries self.old.mark self.new.mark result nothing (λ s. Ok (last_id s self.old.id)) }
+        ensures answer { Answers M.means tries self.old.mark self.new.mark result nothing
+            (λ s. Ok (last_id s self.old.id)) }
         ensures last { IfOk result (λ id. self.new.last ≡ id) }
         ensures left { IfErr result (λ _. self.new.last ≡ self.old.last) }
         ensures missed { IfErr result (IsMissed S.reused) }
@@ -152,14 +163,16 @@ where
 
     // Pins the seat, and finds the commit at the head and its root. The pin is taken away where that is refused.
     pub(crate) fn point(&mut self, tries: u32) -> Result<Point<M>, Refusal>
-        ensures point { IfOk result (λ at. IsPoint M.means self.old.mark self.new.mark None at.log × (at.book ≡ self.new.mark.book)) }
+        ensures point { IfOk result (λ at. IsPoint M.means self.old.mark self.new.mark None at.log
+            × (at.book ≡ self.new.mark.book)) }
         ensures held { S.reused → IfOk result (λ _. IsHeld (S.view self.new.slots)) }
         ensures missed { IfErr result (IsMissed S.reused) }
         ensures left { IfErr result (λ _. own_moves self.new.mark ≡ own_moves self.old.mark) }
         ensures idle { S.reused → IfErr result (λ _. IsIdle (S.view self.new.slots)) }
         ensures seen { IsPrefix self.old.mark.log self.new.mark.log }
         ensures seat { (self.new.mark.book ≡ self.old.mark.book) × (self.new.mark.seat ≡ self.old.mark.seat) }
-        ensures same { (self.new.group.now ≡ self.old.group.now) × (self.new.id ≡ self.old.id) × (self.new.last ≡ self.old.last) }
+        ensures same { (self.new.group.now ≡ self.old.group.now) × (self.new.id ≡ self.old.id)
+            × (self.new.last ≡ self.old.last) }
     {
         let at = self.begin(tries)?;
         match root_at(&self.group.shared, &self.mark, at, tries) {
@@ -178,8 +191,10 @@ where
         ensures same_reference { IfOk result (λ tx. tx.client.ghost_name ≡ self.entry.ghost_name) }
         ensures point { IfOk result (λ tx. IsPoint M.means self.old.mark tx.client.now.mark None tx.at.log) }
         ensures held { S.reused → IfOk result (λ tx. IsHeld (S.view tx.client.now.slots)) }
-        ensures seat { IfOk result (λ tx. (tx.client.now.mark.book ≡ self.old.mark.book) × (tx.client.now.mark.seat ≡ self.old.mark.seat)) }
-        ensures same { IfOk result (λ tx. (tx.client.now.group.now ≡ self.old.group.now) × (tx.client.now.id ≡ self.old.id) × (tx.client.now.last ≡ self.old.last)) }
+        ensures seat { IfOk result (λ tx. (tx.client.now.mark.book ≡ self.old.mark.book)
+            × (tx.client.now.mark.seat ≡ self.old.mark.seat)) }
+        ensures same { IfOk result (λ tx. (tx.client.now.group.now ≡ self.old.group.now)
+            × (tx.client.now.id ≡ self.old.id) × (tx.client.now.last ≡ self.old.last)) }
         ensures missed { IfErr result (IsMissed S.reused) }
     {
         let at = self.point(tries)?;
@@ -219,7 +234,8 @@ where
         ensures seat { (self.new.mark.book ≡ self.old.mark.book) × (self.new.mark.seat ≡ self.old.mark.seat) }
         ensures moves { own_moves self.new.mark ≡ own_moves self.old.mark }
         ensures slots { S.view self.new.slots ≡ S.view self.old.slots }
-        ensures same { (self.new.group.now ≡ self.old.group.now) × (self.new.id ≡ self.old.id) × (self.new.last ≡ self.old.last) }
+        ensures same { (self.new.group.now ≡ self.old.group.now) × (self.new.id ≡ self.old.id)
+            × (self.new.last ≡ self.old.last) }
     {
         self.group.shared.head.learn(&mut self.mark, other);
     }
@@ -227,7 +243,8 @@ where
 
 // The ticket of a pull at a cookie.
 fn ticket_of(alloc: Global, identity: &Identity, cookie: Cookie) -> Result<Ticket, Refusal>
-    ensures ok { IfOk result (λ ticket. asked ticket ≡ record { cookie = cookie; body = pull_text identity.now cookie }) }
+    ensures ok { IfOk result (λ ticket. asked ticket
+        ≡ record { cookie = cookie; body = pull_text identity.now cookie }) }
     ensures err { IfErr result (λ e. e ≡ NoMemory) }
 {
     let body = pull_bytes(alloc, identity, &cookie)?;
@@ -257,10 +274,13 @@ where
         requires home { S.home seat.slots ≡ S.serves self.now.shared.store }
         ensures group { IfOk result (λ client. client.group.now ≡ self.now) }
         ensures id { IfOk result (λ client. client.id ≡ hyphenated_text lower id) }
-        ensures answer { IfOk result (λ client. IsAnswered M.means seat.mark client.mark None (λ s. last_id s client.id ≡ client.last)) }
+        ensures answer { IfOk result (λ client. IsAnswered M.means seat.mark client.mark None
+            (λ s. last_id s client.id ≡ client.last)) }
         ensures idle { S.reused → IfOk result (λ client. IsIdle (S.view client.slots)) }
-        ensures back { IfErr result (λ e. (e.0.mark.book ≡ self.now.shared.head) × (S.home e.0.slots ≡ S.serves self.now.shared.store)) }
-        ensures err { IfErr result (λ e. ((e.1 ≡ NoMemory) ⊎ IsMissed S.reused e.1) × IsLeft tries seat.mark e.0.mark e.1) }
+        ensures back { IfErr result (λ e. (e.0.mark.book ≡ self.now.shared.head)
+            × (S.home e.0.slots ≡ S.serves self.now.shared.store)) }
+        ensures err { IfErr result (λ e. ((e.1 ≡ NoMemory) ⊎ IsMissed S.reused e.1)
+            × IsLeft tries seat.mark e.0.mark e.1) }
     {
         let id = match client_id(self.alloc, &id) {
             Ok(id) => id,

@@ -37,7 +37,8 @@ where
     requires slots { (16 ≤ slots) × (slots ≤ max_slots) }
     requires seats { (1 ≤ seats) × (seats ≤ max_seats) }
     ensures count { IfOk result (λ made. length made.1.free.items ≡ seats) }
-    ensures seats { IfOk result (λ made. All (λ seat. (seat.mark.book ≡ made.0.head) × (S.home seat.slots ≡ S.serves made.0.store)) made.1.free.items) }
+    ensures seats { IfOk result (λ made. All
+        (λ seat. (seat.mark.book ≡ made.0.head) × (S.home seat.slots ≡ S.serves made.0.store)) made.1.free.items) }
     ensures err { IfErr result (λ e. (e ≡ refusal.NoMemory) ⊎ (S.reused × ((e ≡ refusal.Busy) ⊎ (e ≡ refusal.Full)))) }
 {
     let (store, claimed, head, marks) = S::open(alloc, parts, slots, seats)?;
@@ -58,8 +59,11 @@ where
     ) -> Result<(Group<M, S>, Seats<M, S>), Refusal>
         ensures identity { IfOk result (λ made. made.0.identity ≡ config.identity) }
         ensures count { IfOk result (λ made. length made.1.free.items ≡ config.seats) }
-        ensures seats { IfOk result (λ made. All (λ seat. (seat.mark.book ≡ made.0.shared.head) × (S.home seat.slots ≡ S.serves made.0.shared.store)) made.1.free.items) }
-        ensures err { IfErr result (λ e. (e ≡ refusal.NoMemory) ⊎ (S.reused × ((e ≡ refusal.Busy) ⊎ (e ≡ refusal.Full)))) }
+        ensures seats { IfOk result (λ made. All
+            (λ seat. (seat.mark.book ≡ made.0.shared.head) × (S.home seat.slots ≡ S.serves made.0.shared.store))
+            made.1.free.items) }
+        ensures err { IfErr result (λ e. (e ≡ refusal.NoMemory)
+            ⊎ (S.reused × ((e ≡ refusal.Busy) ⊎ (e ≡ refusal.Full)))) }
     {
         let (shared, seats) = open_shared::<M, S>(alloc, parts, config.slots(), config.seats())?;
         let identity = config.into_identity();
@@ -83,7 +87,8 @@ impl<M: Means> Group<M, Arena<M>> {
         ensures counts { Counts whatever self.now.shared.store.claims.sizes result }
         ensures all { all_slots result ≡ self.now.shared.store.claims.sizes.slots }
         ensures ordinary { result.ordinary_free ≤ first_reserved self.now.shared.store.claims.sizes }
-        ensures reserved { result.reserved_free ≤ self.now.shared.store.claims.sizes.slots - first_reserved self.now.shared.store.claims.sizes }
+        ensures reserved { result.reserved_free
+            ≤ self.now.shared.store.claims.sizes.slots - first_reserved self.now.shared.store.claims.sizes }
         ensures pins { result.pinned_seats ≤ self.now.shared.store.claims.sizes.readers }
         ensures oldest { HasOldest result }
     {

@@ -81,8 +81,11 @@ fn exchange<M: Means, S: Store<M>>(
     ensures none { S.reused → (S.view slots.new).taken ≡ [] }
     ensures seen { IsPrefix mark.old.log mark.new.log }
     ensures ends { IfOk result (Ends M.means mark.old mark.new base change.now) }
-    ensures retired { S.reused → IfOk result (λ published. RetiresWhatIsLeft (S.serves group.now.shared.store).sizes.slots (drawn mark.old.log) base new change.now refs.now (S.view slots.old) (S.view slots.new) published) }
-    ensures given { S.reused → OnErr result (Retires (S.serves group.now.shared.store).sizes.slots (S.view slots.old) refs.now (S.view slots.new)) }
+    ensures retired { S.reused → IfOk result
+        (λ published. RetiresWhatIsLeft (S.serves group.now.shared.store).sizes.slots
+        (drawn mark.old.log) base new change.now refs.now (S.view slots.old) (S.view slots.new) published) }
+    ensures given { S.reused → OnErr result
+        (Retires (S.serves group.now.shared.store).sizes.slots (S.view slots.old) refs.now (S.view slots.new)) }
     ensures err { IfErr result (λ e. (is_want e ≡ true) × (e ≢ Moved) × (mark.new ≡ mark.old)) }
 {
     match left_behind::<M, S>(group, mark, base, new, change, tries) {
@@ -120,13 +123,16 @@ pub(crate) fn move_head<M: Means, S: Store<M>>(
     requires number { IsSome mark.old.seat }
     requires home { S.home slots.old ≡ S.serves group.now.shared.store }
     requires none { S.reused → (S.view slots.old).taken ≡ [] }
-    requires leads { (s : State) × IsBase M.means mark.old base s × Leads M.means (drawn mark.old.log) s change.now proposal }
+    requires leads { (s : State) × IsBase M.means mark.old base s
+        × Leads M.means (drawn mark.old.log) s change.now proposal }
     ensures book { mark.new.book ≡ mark.old.book }
     ensures number { mark.new.seat ≡ mark.old.seat }
     ensures home { S.home slots.new ≡ S.serves group.now.shared.store }
     ensures none { S.reused → (S.view slots.new).taken ≡ [] }
     ensures seen { IsPrefix mark.old.log mark.new.log }
-    ensures won { (s : State) → IsBase M.means mark.old base s → IfOk result (λ new. IfSome new (λ at. IsWon M.means mark.old mark.new change.now s × Spells M.means (drawn mark.new.log) (stamp_of at) (after_change s change.now))) }
+    ensures won { (s : State) → IsBase M.means mark.old base s
+        → IfOk result (λ new. IfSome new (λ at. IsWon M.means mark.old mark.new change.now s
+        × Spells M.means (drawn mark.new.log) (stamp_of at) (after_change s change.now))) }
     ensures lost { IfOk result (λ new. IfNone new (IsLost mark.old mark.new base)) }
     ensures err { IfErr result (λ e. (is_want e ≡ true) × IsLeft tries mark.old mark.new e) }
 {

@@ -1,7 +1,8 @@
 //! What leads to a change, drafted at the state of a commit.
 //!
 //! Nothing is placed yet, and the head is not touched: a refusal has changed nothing.
-ghost use Rattle.std.specs.Prelude.{◌≡◌, ◌≢◌, ◌⊎◌, ◌+◌, ◌<◌, true, false, Err, Some, List, length, IfOk, IfErr, OnOk, ℕ};
+ghost use Rattle.std.specs.Prelude.{◌≡◌, ◌≢◌, ◌⊎◌, ◌+◌, ◌<◌, true, false, Err, Some, List, length, IfOk, IfErr, OnOk};
+ghost use Rattle.std.specs.Prelude.{ℕ};
 ghost use Rattle.group_history.specs.Ids.{IdsFollow};
 ghost use Rattle.group_history.specs.Mutating.{mutate_reply};
 ghost use Rattle.group_history.specs.Pulling.{after_pull};
@@ -48,8 +49,11 @@ fn check_next<M: Means, S: Slots<M>>(
     requires base { (s : State) × IsBase M.means mark.now base s × IdsFollow s.confirmed s.pending }
     requires open { (s : State) → IsBase M.means mark.now base s → s.closed ≡ false }
     requires before { last_at (drawn mark.now.log) (stamp_of before.at) mutation.now.client ≡ Some before.id }
-    ensures ok { (s : State) → IsBase M.means mark.now base s → OnOk result (last_id s mutation.now.client ≡ before.id) }
-    ensures err { (s : State) → IsBase M.means mark.now base s → IfErr result (λ e. IsMissed S.reused e ⊎ ((e ≡ refusal.Stale) × (mutate_reply M.means s before.id mutation.now ≡ Err refusal.Stale))) }
+    ensures ok { (s : State) → IsBase M.means mark.now base s
+        → OnOk result (last_id s mutation.now.client ≡ before.id) }
+    ensures err { (s : State) → IsBase M.means mark.now base s
+        → IfErr result (λ e. IsMissed S.reused e
+        ⊎ ((e ≡ refusal.Stale) × (mutate_reply M.means s before.id mutation.now ≡ Err refusal.Stale))) }
 {
     let last = last_known(shared, mark, base, &mutation.client, Some(before), tries)?;
     if last != before.id {
@@ -74,8 +78,11 @@ fn draft_mutation<'a, M: Mutators, S: Slots<M>>(
     requires own { (s : State) → IsBase M.means mark.now base s → last_id s mutation.now.client ≡ last }
     requires next { (mutation.now.id ≡ last + 1) × (mutation.now.reason ≡ Initial) }
     requires first { first ≡ next_stamp mark.now.log }
-    ensures proposed { (s : State) → IsBase M.means mark.now base s → IfOk result (λ p. Proposes M.means (drawn mark.now.log) s last (changed.Mutated mutation.now) (Some p)) }
-    ensures err { (s : State) → IsBase M.means mark.now base s → IfErr result (IsUnproposed (change_asked (changed.Mutated mutation.now)) (asked_reply M.means s last (changed.Mutated mutation.now))) }
+    ensures proposed { (s : State) → IsBase M.means mark.now base s
+        → IfOk result (λ p. Proposes M.means (drawn mark.now.log) s last (changed.Mutated mutation.now) (Some p)) }
+    ensures err { (s : State) → IsBase M.means mark.now base s
+        → IfErr result (IsUnproposed (change_asked (changed.Mutated mutation.now))
+        (asked_reply M.means s last (changed.Mutated mutation.now))) }
 {
     let nodes = StoreNodes::new(&group.shared, mark, tries);
     let tip = tip_at::<StoreNodes<'a, M, S>, Brand>(nodes, base)?;
@@ -111,8 +118,11 @@ fn propose_mutation<M: Mutators, S: Slots<M>>(
     requires open { (s : State) → IsBase M.means mark.now base s → s.closed ≡ false }
     requires asks { MayAsk (drawn mark.now.log) before (changed.Mutated mutation.now) }
     requires first { first ≡ next_stamp mark.now.log }
-    ensures proposed { (s : State) → IsBase M.means mark.now base s → IfOk result (λ p. Proposes M.means (drawn mark.now.log) s before.id (changed.Mutated mutation.now) (Some p)) }
-    ensures err { (s : State) → IsBase M.means mark.now base s → IfErr result (IsUnproposed (change_asked (changed.Mutated mutation.now)) (asked_reply M.means s before.id (changed.Mutated mutation.now))) }
+    ensures proposed { (s : State) → IsBase M.means mark.now base s
+        → IfOk result (λ p. Proposes M.means (drawn mark.now.log) s before.id (changed.Mutated mutation.now) (Some p)) }
+    ensures err { (s : State) → IsBase M.means mark.now base s
+        → IfErr result (IsUnproposed (change_asked (changed.Mutated mutation.now))
+        (asked_reply M.means s before.id (changed.Mutated mutation.now))) }
 {
     check_next(&group.shared, mark, base, mutation, before, tries)?;
     draft_mutation(group, mark, base, first, mutation, before.id, tries)
@@ -143,8 +153,11 @@ fn draft_pull<'a, M: Mutators, S: Slots<M>>(
     requires open { (s : State) → IsBase M.means mark.now base s → s.closed ≡ false }
     requires before { (s : State) → IsBase M.means mark.now base s → IsBaseOf (drawn mark.now.log) s before.now }
     requires first { first ≡ next_stamp mark.now.log }
-    ensures spelled { (s : State) → IsBase M.means mark.now base s → IfOk result (λ p. Spells M.means (with_nodes (drawn mark.now.log) p.draft.nodes) (stamp_of p.at) (after_pull s pull.now)) }
-    ensures kind { (s : State) → IsBase M.means mark.now base s → IfOk result (λ p. p.kind ≡ kind_left (after_pull s pull.now).pending) }
+    ensures spelled { (s : State) → IsBase M.means mark.now base s
+        → IfOk result (λ p. Spells M.means (with_nodes (drawn mark.now.log) p.draft.nodes) (stamp_of p.at)
+        (after_pull s pull.now)) }
+    ensures kind { (s : State) → IsBase M.means mark.now base s
+        → IfOk result (λ p. p.kind ≡ kind_left (after_pull s pull.now).pending) }
     ensures first { IfOk result (λ p. p.draft.first ≡ first) }
     ensures some { IfOk result (λ p. 0 < length p.draft.nodes) }
     ensures in_range { OnOk result (AreInRange pull.now.changes) }
@@ -185,8 +198,11 @@ fn propose_judged<M: Mutators, S: Slots<M>>(
     requires open { (s : State) → IsBase M.means mark.now base s → s.closed ≡ false }
     requires before { (s : State) → IsBase M.means mark.now base s → IsBaseOf (drawn mark.now.log) s before.now }
     requires first { first ≡ next_stamp mark.now.log }
-    ensures proposed { (s : State) (last : ℕ) → IsBase M.means mark.now base s → IfOk result (Proposes M.means (drawn mark.now.log) s last (changed.Pulled ticket.now pull.now)) }
-    ensures err { (s : State) (last : ℕ) → IsBase M.means mark.now base s → IfErr result (IsUnproposed (change_asked (changed.Pulled ticket.now pull.now)) (asked_reply M.means s last (changed.Pulled ticket.now pull.now))) }
+    ensures proposed { (s : State) (last : ℕ) → IsBase M.means mark.now base s
+        → IfOk result (Proposes M.means (drawn mark.now.log) s last (changed.Pulled ticket.now pull.now)) }
+    ensures err { (s : State) (last : ℕ) → IsBase M.means mark.now base s
+        → IfErr result (IsUnproposed (change_asked (changed.Pulled ticket.now pull.now))
+        (asked_reply M.means s last (changed.Pulled ticket.now pull.now))) }
 {
     match judged(before, ticket, pull) {
         Ok(Ended::Same) => {
@@ -216,8 +232,11 @@ fn propose_pull<'a, M: Mutators, S: Slots<M>>(
     requires base { (s : State) × IsBase M.means mark.now base s }
     requires open { (s : State) → IsBase M.means mark.now base s → s.closed ≡ false }
     requires first { first ≡ next_stamp mark.now.log }
-    ensures proposed { (s : State) (last : ℕ) → IsBase M.means mark.now base s → IfOk result (Proposes M.means (drawn mark.now.log) s last (changed.Pulled ticket.now pull.now)) }
-    ensures err { (s : State) (last : ℕ) → IsBase M.means mark.now base s → IfErr result (IsUnproposed (change_asked (changed.Pulled ticket.now pull.now)) (asked_reply M.means s last (changed.Pulled ticket.now pull.now))) }
+    ensures proposed { (s : State) (last : ℕ) → IsBase M.means mark.now base s
+        → IfOk result (Proposes M.means (drawn mark.now.log) s last (changed.Pulled ticket.now pull.now)) }
+    ensures err { (s : State) (last : ℕ) → IsBase M.means mark.now base s
+        → IfErr result (IsUnproposed (change_asked (changed.Pulled ticket.now pull.now))
+        (asked_reply M.means s last (changed.Pulled ticket.now pull.now))) }
 {
     let nodes = StoreNodes::new(&group.shared, mark, tries);
     let before = base_at::<StoreNodes<'a, M, S>, Brand>(nodes, base)?;
@@ -236,8 +255,10 @@ fn propose_closing<'a, M: Means, S: Slots<M>>(
     requires base { (s : State) × IsBase M.means mark.now base s }
     requires open { (s : State) → IsBase M.means mark.now base s → s.closed ≡ false }
     requires first { first ≡ next_stamp mark.now.log }
-    ensures proposed { (s : State) (last : ℕ) → IsBase M.means mark.now base s → IfOk result (Proposes M.means (drawn mark.now.log) s last changed.Closed) }
-    ensures err { (s : State) (last : ℕ) → IsBase M.means mark.now base s → IfErr result (IsUnproposed (change_asked changed.Closed) (asked_reply M.means s last changed.Closed)) }
+    ensures proposed { (s : State) (last : ℕ) → IsBase M.means mark.now base s
+        → IfOk result (Proposes M.means (drawn mark.now.log) s last changed.Closed) }
+    ensures err { (s : State) (last : ℕ) → IsBase M.means mark.now base s
+        → IfErr result (IsUnproposed (change_asked changed.Closed) (asked_reply M.means s last changed.Closed)) }
 {
     let nodes = StoreNodes::new(&group.shared, mark, tries);
     let tip = tip_at::<StoreNodes<'a, M, S>, Brand>(nodes, base)?;
@@ -262,8 +283,10 @@ fn propose_open<M: Mutators, S: Slots<M>>(
     requires open { (s : State) → IsBase M.means mark.now base s → s.closed ≡ false }
     requires asks { MayAsk (drawn mark.now.log) before change.now }
     requires first { first ≡ next_stamp mark.now.log }
-    ensures proposed { (s : State) → IsBase M.means mark.now base s → IfOk result (Proposes M.means (drawn mark.now.log) s before.id change.now) }
-    ensures err { (s : State) → IsBase M.means mark.now base s → IfErr result (IsUnproposed (change_asked change.now) (asked_reply M.means s before.id change.now)) }
+    ensures proposed { (s : State) → IsBase M.means mark.now base s
+        → IfOk result (Proposes M.means (drawn mark.now.log) s before.id change.now) }
+    ensures err { (s : State) → IsBase M.means mark.now base s
+        → IfErr result (IsUnproposed (change_asked change.now) (asked_reply M.means s before.id change.now)) }
 {
     match change {
         Change::Mutated(mutation) => {
@@ -293,8 +316,10 @@ pub(crate) fn propose<M: Mutators, S: Slots<M>>(
     requires base { (s : State) × IsBase M.means mark.now base s × IdsFollow s.confirmed s.pending }
     requires asks { MayAsk (drawn mark.now.log) before change.now }
     requires first { first ≡ next_stamp mark.now.log }
-    ensures proposed { (s : State) → IsBase M.means mark.now base s → IfOk result (Proposes M.means (drawn mark.now.log) s before.id change.now) }
-    ensures err { (s : State) → IsBase M.means mark.now base s → IfErr result (IsUnproposed (change_asked change.now) (asked_reply M.means s before.id change.now)) }
+    ensures proposed { (s : State) → IsBase M.means mark.now base s
+        → IfOk result (Proposes M.means (drawn mark.now.log) s before.id change.now) }
+    ensures err { (s : State) → IsBase M.means mark.now base s
+        → IfErr result (IsUnproposed (change_asked change.now) (asked_reply M.means s before.id change.now)) }
 {
     if closed_at(&group.shared, mark, base, tries)? {
         return Err(Refusal::Closed);

@@ -47,13 +47,15 @@ impl<M: Means> Model for Point<M> {
 
     ghost view = { λ p. p.mark };
 
-    ghost invariant = { λ p. Spells M.means (drawn p.mark.log) (stamp_of p.head) (after (record_of p.mark.log)) × (map_at (drawn p.mark.log) (stamp_of p.root) ≡ Some (view_of M.means (after (record_of p.mark.log)))) };
+    ghost invariant = { λ p. Spells M.means (drawn p.mark.log) (stamp_of p.head) (after (record_of p.mark.log))
+        × (map_at (drawn p.mark.log) (stamp_of p.root) ≡ Some (view_of M.means (after (record_of p.mark.log)))) };
 }
 
 impl<M: Means> Point<M> {
     pub(crate) fn new(mark: &Mark<M>, head: Ref, root: Ref) -> Point<M>
         requires head { Spells M.means (drawn mark.now.log) (stamp_of head) (after (record_of mark.now.log)) }
-        requires root { map_at (drawn mark.now.log) (stamp_of root) ≡ Some (view_of M.means (after (record_of mark.now.log))) }
+        requires root { map_at (drawn mark.now.log) (stamp_of root)
+            ≡ Some (view_of M.means (after (record_of mark.now.log))) }
         ensures { result ≡ known mark.now.book mark.now.log None }
     {
         Point {
@@ -65,7 +67,8 @@ impl<M: Means> Point<M> {
 
     // The root of the map there.
     pub(crate) fn root(&self) -> Ref
-        ensures { map_at (drawn self.now.log) (stamp_of result) ≡ Some (view_of M.means (after (record_of self.now.log))) }
+        ensures { map_at (drawn self.now.log) (stamp_of result)
+            ≡ Some (view_of M.means (after (record_of self.now.log))) }
     {
         self.root
     }
@@ -215,7 +218,8 @@ where
     pub fn close(self)
         ensures idle { S.reused → IsIdle (S.view self.exit.0.now.slots) }
         ensures mark { self.exit.0.now.mark ≡ self.entry.client.now.mark }
-        ensures same { (self.exit.0.now.group.now ≡ self.entry.client.now.group.now) × (self.exit.0.now.id ≡ self.entry.client.now.id) × (self.exit.0.now.last ≡ self.entry.client.now.last) }
+        ensures same { (self.exit.0.now.group.now ≡ self.entry.client.now.group.now)
+            × (self.exit.0.now.id ≡ self.entry.client.now.id) × (self.exit.0.now.last ≡ self.entry.client.now.last) }
     {
         let ReadTx {
             client,
@@ -233,7 +237,8 @@ where
     fn drop(self)
         ensures idle { S.reused → IsIdle (S.view self.exit.0.now.slots) }
         ensures mark { self.exit.0.now.mark ≡ self.entry.client.now.mark }
-        ensures same { (self.exit.0.now.group.now ≡ self.entry.client.now.group.now) × (self.exit.0.now.id ≡ self.entry.client.now.id) × (self.exit.0.now.last ≡ self.entry.client.now.last) }
+        ensures same { (self.exit.0.now.group.now ≡ self.entry.client.now.group.now)
+            × (self.exit.0.now.id ≡ self.entry.client.now.id) × (self.exit.0.now.last ≡ self.entry.client.now.last) }
     {
         let ReadTx {
             client,

@@ -2,7 +2,8 @@
 //!
 //! A group has as many seats as clients may use it at a time. A seat claims slots of the group's store, and
 //! bears a number of the group's book. One that is out of use has no pin and no taken slot.
-ghost use Rattle.std.specs.Prelude.{◌≡◌, ◌≢◌, ◌<◌, [], ◌∷◌, ◌++◌, List, length, IsSome, IfOk, IfErr, vec_capacity, vec_len};
+ghost use Rattle.std.specs.Prelude.{◌≡◌, ◌≢◌, ◌<◌, [], ◌∷◌, ◌++◌, List, length, IsSome, IfOk, IfErr, vec_capacity};
+ghost use Rattle.std.specs.Prelude.{vec_len};
 ghost use Rattle.std.specs.List.{All};
 ghost use Rattle.group_history.specs.declared.refusals.Refusal.TheVariants as refusal;
 ghost use Rattle.head_word.specs.Books.{opening, opening_ref};
@@ -46,10 +47,12 @@ pub(crate) fn seat_all<M: Means, S: Slots<M>>(
 where
     S::Seat: Drop,
     requires count { length claimed.items ≡ length marks.items }
-    requires seats { All (λ seat. (S.home seat ≡ S.serves store.now) × (S.reused → IsIdle (S.view seat))) claimed.items }
+    requires seats { All (λ seat. (S.home seat ≡ S.serves store.now)
+        × (S.reused → IsIdle (S.view seat))) claimed.items }
     requires marks { All (HasSeat head.now) marks.items }
     ensures count { IfOk result (λ all. length all.free.items ≡ length marks.items) }
-    ensures seats { IfOk result (λ all. All (λ seat. (seat.mark.book ≡ head.now) × (S.home seat.slots ≡ S.serves store.now)) all.free.items) }
+    ensures seats { IfOk result (λ all. All
+        (λ seat. (seat.mark.book ≡ head.now) × (S.home seat.slots ≡ S.serves store.now)) all.free.items) }
 {
     let _ = store;
     let _ = head;
@@ -73,7 +76,8 @@ where
         ensures room { IfOk result (λ _. vec_len self.new.free < vec_capacity self.new.free) }
         ensures capacity { vec_capacity self.new.free ≡ vec_capacity self.old.free }
         ensures taken { IfOk result (λ seat. self.old.free.items ≡ self.new.free.items ++ seat ∷ []) }
-        ensures none { IfErr result (λ e. (e ≡ refusal.NoSeat) × (self.old.free.items ≡ []) × (self.new.free.items ≡ [])) }
+        ensures none { IfErr result (λ e. (e ≡ refusal.NoSeat) × (self.old.free.items ≡ [])
+            × (self.new.free.items ≡ [])) }
     {
         let Some(seat) = self.free.pop() else {
             return Err(Refusal::NoSeat);

@@ -36,7 +36,8 @@ pub(crate) fn begin<M: Means, S: Slots<M>>(
     ensures number { mark.new.seat ≡ mark.old.seat }
     ensures home { S.home slots.new ≡ S.serves shared.now.store }
     ensures seen { IsPrefix mark.old.log mark.new.log }
-    ensures looked { IfOk result (λ at. IsPoint M.means mark.old mark.new None mark.new.log × IsBase M.means mark.new at (after (record_of mark.new.log))) }
+    ensures looked { IfOk result (λ at. IsPoint M.means mark.old mark.new None mark.new.log
+        × IsBase M.means mark.new at (after (record_of mark.new.log))) }
     ensures last { IfOk result (λ at. at ≡ last_move mark.new.log) }
     ensures own { own_moves mark.new ≡ own_moves mark.old }
     ensures others { others mark.old ≤ others mark.new }
@@ -86,12 +87,14 @@ pub(crate) fn find_last<M: Means, S: Slots<M>>(
     requires book { mark.old.book ≡ shared.now.head }
     requires home { S.home slots.old ≡ S.serves shared.now.store }
     requires none { S.reused → (S.view slots.old).taken ≡ [] }
-    requires before { (found : Found) → before ≡ Some found → last_at (drawn mark.old.log) (stamp_of found.at) client.now ≡ Some found.id }
+    requires before { (found : Found) → before ≡ Some found
+        → last_at (drawn mark.old.log) (stamp_of found.at) client.now ≡ Some found.id }
     ensures book { mark.new.book ≡ mark.old.book }
     ensures number { mark.new.seat ≡ mark.old.seat }
     ensures home { S.home slots.new ≡ S.serves shared.now.store }
     ensures seen { IsPrefix mark.old.log mark.new.log }
-    ensures answer { Answers M.means tries mark.old mark.new (told (λ found. found.id) result) nothing (λ s. Ok (last_id s client.now)) }
+    ensures answer { Answers M.means tries mark.old mark.new (told (λ found. found.id) result) nothing
+        (λ s. Ok (last_id s client.now)) }
     ensures found { IfOk result (λ found. last_at (drawn mark.new.log) (stamp_of found.at) client.now ≡ Some found.id) }
     ensures low { IfOk result (λ found. found.id < 2 ^ 53) }
     ensures missed { IfErr result (IsMissed S.reused) }

@@ -26,7 +26,8 @@ fn root_known<N: Nodes + Copy, K: Known>(nodes: N, at: Ref) -> Result<Ref, Stop>
     requires known { N.contents nodes ≡ K.known }
     requires version { IsSome (version_at K.known (stamp_of at)) }
     requires place { N.places nodes at }
-    ensures root { (v : Version) → version_at K.known (stamp_of at) ≡ Some v → IfOk result (λ root. map_at K.known (stamp_of root) ≡ Some v.read) }
+    ensures root { (v : Version) → version_at K.known (stamp_of at) ≡ Some v
+        → IfOk result (λ root. map_at K.known (stamp_of root) ≡ Some v.read) }
     ensures stopped { IfErr result N.stops }
 {
     let mut fixed = Fixed::<N, K>::new(nodes);
@@ -42,7 +43,8 @@ pub(crate) fn root_at<'a, M: Means, S: Slots<M>>(
 ) -> Result<Ref, Refusal>
     requires book { mark.now.book ≡ shared.now.head }
     requires spelled { (s : State) × IsBase M.means mark.now at s }
-    ensures root { (s : State) → IsBase M.means mark.now at s → IfOk result (λ root. map_at (drawn mark.now.log) (stamp_of root) ≡ Some (view_of M.means s)) }
+    ensures root { (s : State) → IsBase M.means mark.now at s
+        → IfOk result (λ root. map_at (drawn mark.now.log) (stamp_of root) ≡ Some (view_of M.means s)) }
     ensures err { IfErr result (IsMissed S.reused) }
 {
     let nodes = StoreNodes::new(shared, mark, tries);
@@ -109,7 +111,8 @@ pub(crate) fn last_known<M: Means, S: Slots<M>>(
 ) -> Result<u64, Refusal>
     requires book { mark.now.book ≡ shared.now.head }
     requires spelled { (s : State) × IsBase M.means mark.now at s × IdsFollow s.confirmed s.pending }
-    requires before { (found : Found) → before ≡ Some found → last_at (drawn mark.now.log) (stamp_of found.at) client.now ≡ Some found.id }
+    requires before { (found : Found) → before ≡ Some found
+        → last_at (drawn mark.now.log) (stamp_of found.at) client.now ≡ Some found.id }
     ensures id { (s : State) → IsBase M.means mark.now at s → IfOk result (λ id. id ≡ last_id s client.now) }
     ensures low { IfOk result (λ id. id < 2 ^ 53) }
     ensures err { IfErr result (IsMissed S.reused) }

@@ -14,7 +14,8 @@ ghost use Rattle.head_word.specs.Books.{record_of};
 ghost use Rattle.chunk_slots.specs.Seats.{IsIdle};
 ghost use Rattle.answered.specs.Answered.{Answers, nothing};
 ghost use Rattle.rebase.specs.Queries.{IsMissed};
-ghost use Rattle.rebase.specs.Watching.{Watched, poll_at, poll_reply, same_rows, same_rows-equiv, was_told, watch_after};
+ghost use Rattle.rebase.specs.Watching.{Watched, poll_at, poll_reply, same_rows, same_rows-equiv, was_told};
+ghost use Rattle.rebase.specs.Watching.{watch_after};
 
 use crate::client::Client;
 use crate::group::Group;
@@ -239,12 +240,14 @@ where
     /// watch is one of the client's group.
     pub fn poll(&mut self, watch: &mut Watch<M>, tries: u32) -> Result<Polled, Refusal>
         requires book { watch.old.book ≡ self.old.mark.book }
-        ensures answer { Answers M.means tries self.old.mark self.new.mark result nothing (λ s. Ok (poll_at M.means watch.old s)) }
+        ensures answer { Answers M.means tries self.old.mark self.new.mark result nothing
+            (λ s. Ok (poll_at M.means watch.old s)) }
         ensures kept { watch.new ≡ watch_after watch.old result }
         ensures idle { S.reused → IsIdle (S.view self.new.slots) }
         ensures seen { IsPrefix self.old.mark.log self.new.mark.log }
         ensures seat { (self.new.mark.book ≡ self.old.mark.book) × (self.new.mark.seat ≡ self.old.mark.seat) }
-        ensures same { (self.new.group.now ≡ self.old.group.now) × (self.new.id ≡ self.old.id) × (self.new.last ≡ self.old.last) }
+        ensures same { (self.new.group.now ≡ self.old.group.now) × (self.new.id ≡ self.old.id)
+            × (self.new.last ≡ self.old.last) }
     {
         let at = self.point(tries)?;
         let polled = watch.ask(self.group, &at, tries);

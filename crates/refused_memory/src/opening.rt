@@ -53,8 +53,10 @@ pub(crate) fn next_client<'g, S: Store<ScriptMutators>>(
 ) -> Result<Client<'g, ScriptMutators, S>, Refusal>
 where
     S::Seat: Drop,
-    requires { All (λ seat. (seat.mark.book ≡ group.now.shared.head) × (S.home seat.slots ≡ S.serves group.now.shared.store)) seats.old.free.items }
-    ensures seats { All (λ seat. (seat.mark.book ≡ group.now.shared.head) × (S.home seat.slots ≡ S.serves group.now.shared.store)) seats.new.free.items }
+    requires { All (λ seat. (seat.mark.book ≡ group.now.shared.head)
+        × (S.home seat.slots ≡ S.serves group.now.shared.store)) seats.old.free.items }
+    ensures seats { All (λ seat. (seat.mark.book ≡ group.now.shared.head)
+        × (S.home seat.slots ≡ S.serves group.now.shared.store)) seats.new.free.items }
     ensures room { IfOk result (λ _. vec_len seats.new.free < vec_capacity seats.new.free) }
 {
     let seat = seats.take()?;

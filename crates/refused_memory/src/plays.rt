@@ -92,7 +92,10 @@ fn told(rt: &HostRuntime, answer: Answer) -> Result<(), Failed> {
     told.map_err(Failed::from)
 }
 
-fn play_group<R: Wait + Sync, S: Counted>(it: &Turn<'_, '_, R>, parts: S::Parts) -> Result<(), Failed>
+fn play_group<R: Wait + Sync, S: Counted>(
+    it: &Turn<'_, '_, R>,
+    parts: S::Parts,
+) -> Result<(), Failed>
 where
     S::Seat: Drop,
     S::Parts: Drop,
@@ -113,7 +116,8 @@ fn play_first<R: Wait + Sync, S: Counted>(
 ) -> Result<(), Failed>
 where
     S::Seat: Drop,
-    requires { All (λ seat. (seat.mark.book ≡ group.now.shared.head) × (S.home seat.slots ≡ S.serves group.now.shared.store)) seats.old.free.items }
+    requires { All (λ seat. (seat.mark.book ≡ group.now.shared.head)
+        × (S.home seat.slots ≡ S.serves group.now.shared.store)) seats.old.free.items }
 {
     let mut a = next_client(group, seats, A)?;
     play_second(it, group, seats, &mut a)
@@ -128,7 +132,8 @@ fn play_second<R: Wait + Sync, S: Counted>(
 ) -> Result<(), Failed>
 where
     S::Seat: Drop,
-    requires { All (λ seat. (seat.mark.book ≡ group.now.shared.head) × (S.home seat.slots ≡ S.serves group.now.shared.store)) seats.old.free.items }
+    requires { All (λ seat. (seat.mark.book ≡ group.now.shared.head)
+        × (S.home seat.slots ≡ S.serves group.now.shared.store)) seats.old.free.items }
 {
     let mut b = next_client(group, seats, B)?;
     play_both(it, group, seats, a, &mut b)
@@ -143,7 +148,8 @@ fn play_both<R: Wait + Sync, S: Counted>(
 ) -> Result<(), Failed>
 where
     S::Seat: Drop,
-    requires { All (λ seat. (seat.mark.book ≡ group.now.shared.head) × (S.home seat.slots ≡ S.serves group.now.shared.store)) seats.old.free.items }
+    requires { All (λ seat. (seat.mark.book ≡ group.now.shared.head)
+        × (S.home seat.slots ≡ S.serves group.now.shared.store)) seats.old.free.items }
 {
     begin(it.rt.alloc(), a, b, it.given)?;
     tell_call(it, group, seats, a)?;
@@ -189,7 +195,8 @@ fn tell_call<R: Wait + Sync, S: Counted>(
 ) -> Result<(), Failed>
 where
     S::Seat: Drop,
-    requires { All (λ seat. (seat.mark.book ≡ group.now.shared.head) × (S.home seat.slots ≡ S.serves group.now.shared.store)) seats.old.free.items }
+    requires { All (λ seat. (seat.mark.book ≡ group.now.shared.head)
+        × (S.home seat.slots ≡ S.serves group.now.shared.store)) seats.old.free.items }
 {
     let ticket = a.begin_pull(TRIES)?;
     let answer = match it.line.call {

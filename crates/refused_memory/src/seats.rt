@@ -20,7 +20,8 @@ pub(crate) fn client<S: Store<ScriptMutators>>(
 ) -> Answer
 where
     S::Seat: Drop,
-    requires { All (λ seat. (seat.mark.book ≡ group.now.shared.head) × (S.home seat.slots ≡ S.serves group.now.shared.store)) seats.old.free.items }
+    requires { All (λ seat. (seat.mark.book ≡ group.now.shared.head)
+        × (S.home seat.slots ≡ S.serves group.now.shared.store)) seats.old.free.items }
 {
     let id = id_of(C)?;
     let seat = seats.take()?;
@@ -53,7 +54,8 @@ pub(crate) fn close<S: Store<ScriptMutators>>(
 ) -> Answer
 where
     S::Seat: Drop,
-    requires { All (λ seat. (seat.mark.book ≡ group.now.shared.head) × (S.home seat.slots ≡ S.serves group.now.shared.store)) seats.old.free.items }
+    requires { All (λ seat. (seat.mark.book ≡ group.now.shared.head)
+        × (S.home seat.slots ≡ S.serves group.now.shared.store)) seats.old.free.items }
 {
     let third = next_client(group, seats, C)?;
     begins(rt);

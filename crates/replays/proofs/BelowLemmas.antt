@@ -22,24 +22,33 @@ below-cons n at ats lt h r i = elim (Contains-append_cases (at ∷ []) ats r i) 
 ]
 
 -- the commit and its chain's snapshot
-chain-within : (ns : Contents) (tip : Tip) (v : Version) → HasTip ns tip v → AreBelow (length ns) (tip.commit ∷ tip.snapshot ∷ [])
+chain-within : (ns : Contents) (tip : Tip) (v : Version) → HasTip ns tip v
+    → AreBelow (length ns) (tip.commit ∷ tip.snapshot ∷ [])
 chain-within ns tip v h =
     let at = version-within ns (stamp_of tip.commit) v h.0 in
     let low = (begins ns (stamp_of tip.commit) v (stamp_of tip.snapshot) h.0 h.2).low in
-    below-cons (length ns) tip.commit (tip.snapshot ∷ []) at (below-cons (length ns) tip.snapshot [] (omega (arith, at, low)) (below-none (length ns)))
+    below-cons (length ns) tip.commit (tip.snapshot ∷ []) at
+    (below-cons (length ns) tip.snapshot [] (omega (arith, at, low)) (below-none (length ns)))
 
-length-behind : (cs : Contents) (d : Drafted) → length cs ≡ d.first → length (with_nodes cs d.nodes) ≡ d.first + length d.nodes
+length-behind : (cs : Contents) (d : Drafted) → length cs ≡ d.first
+    → length (with_nodes cs d.nodes) ≡ d.first + length d.nodes
 length-behind cs d l = omega (arith, length-with cs d.nodes, l)
 
 -- so may a commit over it be drafted
-pub chain-behind : (cs : Contents) (d : Drafted) (tip : Tip) (v : Version) → length cs ≡ d.first → HasTip (with_nodes cs d.nodes) tip v → AreBelow (d.first + length d.nodes) (tip.commit ∷ tip.snapshot ∷ [])
-chain-behind cs d tip v l h = subst (λ n. AreBelow n (tip.commit ∷ tip.snapshot ∷ [])) (length-behind cs d l) (chain-within (with_nodes cs d.nodes) tip v h)
+pub chain-behind : (cs : Contents) (d : Drafted) (tip : Tip) (v : Version) → length cs ≡ d.first
+    → HasTip (with_nodes cs d.nodes) tip v → AreBelow (d.first + length d.nodes) (tip.commit ∷ tip.snapshot ∷ [])
+chain-behind cs d tip v l h = subst (λ n. AreBelow n (tip.commit ∷ tip.snapshot ∷ [])) (length-behind cs d l)
+    (chain-within (with_nodes cs d.nodes) tip v h)
 
-pub tip-behind : (cs : Contents) (d : Drafted) (tip : Tip) (v : Version) → length cs ≡ d.first → HasTip (with_nodes cs d.nodes) tip v → AreBelow (d.first + length d.nodes) (tip.root ∷ tip.commit ∷ tip.snapshot ∷ [])
+pub tip-behind : (cs : Contents) (d : Drafted) (tip : Tip) (v : Version) → length cs ≡ d.first
+    → HasTip (with_nodes cs d.nodes) tip v
+    → AreBelow (d.first + length d.nodes) (tip.root ∷ tip.commit ∷ tip.snapshot ∷ [])
 tip-behind cs d tip v l h =
     let root = map-within (with_nodes cs d.nodes) (stamp_of tip.root) v.read h.1 in
-    below-cons (d.first + length d.nodes) tip.root (tip.commit ∷ tip.snapshot ∷ []) (omega (arith, root, length-behind cs d l)) (chain-behind cs d tip v l h)
+    below-cons (d.first + length d.nodes) tip.root (tip.commit ∷ tip.snapshot ∷ [])
+    (omega (arith, root, length-behind cs d l)) (chain-behind cs d tip v l h)
 
 -- the next name of a draft that grew is no lower
-pub drafts-grown : (old new : Drafted) → new.first ≡ old.first → IsPrefix old.nodes new.nodes → old.first + length old.nodes ≤ new.first + length new.nodes
+pub drafts-grown : (old new : Drafted) → new.first ≡ old.first → IsPrefix old.nodes new.nodes
+    → old.first + length old.nodes ≤ new.first + length new.nodes
 drafts-grown old new f p = omega (arith, f, length-append old.nodes p.0, ap length p.1)

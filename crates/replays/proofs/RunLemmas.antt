@@ -16,12 +16,14 @@ map-done unknown m h = absurd h
 map-done (refuses code) m h = absurd h
 map-done (done x) m h = cc
 
-pub map-unknown : (meaning : Meaning) (m : Entries) → RunsAs meaning ran.Unknown m → map_of meaning ≡ Err refusal.NoMutator
+pub map-unknown : (meaning : Meaning) (m : Entries) → RunsAs meaning ran.Unknown m
+    → map_of meaning ≡ Err refusal.NoMutator
 map-unknown unknown m h = refl
 map-unknown (refuses code) m h = absurd h
 map-unknown (done x) m h = absurd h
 
-pub map-refused : (meaning : Meaning) (m : Entries) (code : ℕ) → RunsAs meaning (ran.Refused code) m → map_of meaning ≡ Err (refusal.Refused code)
+pub map-refused : (meaning : Meaning) (m : Entries) (code : ℕ) → RunsAs meaning (ran.Refused code) m
+    → map_of meaning ≡ Err (refusal.Refused code)
 map-refused unknown m code h = absurd h
 map-refused (refuses c) m code h = cc
 map-refused (done x) m code h = absurd h
@@ -38,7 +40,8 @@ Refuses-is refusal.NoMemory right is = tt
 Refuses-is e right is = is
 
 -- what a change lacks may come in place of its answer
-pub wants : {X : Type 0} (e : Refusal) (right : Result X Refusal) → IsOfChange right → (e ≡ refusal.NoMemory) ⊎ (e ≡ refusal.Stamps) → RefusesOrStamps e right
+pub wants : {X : Type 0} (e : Refusal) (right : Result X Refusal) → IsOfChange right
+    → (e ≡ refusal.NoMemory) ⊎ (e ≡ refusal.Stamps) → RefusesOrStamps e right
 wants e right change (inl none) = inr (subst (λ (w : Refusal). Refuses w right) (sym none) tt)
 wants e right change (inr none) = inl (none, change)
 

@@ -8,7 +8,9 @@ use Rattle.replays.specs.declared.tips.Tip.{Tip}
 
 -- the commit spells the version, the root its map, and its chain begins at the snapshot
 abbrev pub HasTip : Contents → Tip → Version → Type 0
-HasTip contents tip v = (version_at contents (stamp_of tip.commit) ≡ Some v) × (map_at contents (stamp_of tip.root) ≡ Some v.read) × (snapshot_at contents (stamp_of tip.commit) ≡ Some (stamp_of tip.snapshot))
+HasTip contents tip v = (version_at contents (stamp_of tip.commit) ≡ Some v)
+    × (map_at contents (stamp_of tip.root) ≡ Some v.read)
+    × (snapshot_at contents (stamp_of tip.commit) ≡ Some (stamp_of tip.snapshot))
 
 -- the commit is one of the state, and the root the state's view
 abbrev pub IsTip : Meanings → Contents → Tip → State → Type 0

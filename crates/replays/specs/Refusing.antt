@@ -15,7 +15,8 @@ abbrev pub IsOfChange : {Y : Type 0} → Result Y Refusal → Type 0
 IsOfChange (Ok y) = Unit {0}
 IsOfChange (Err e) = e ≡ StateNotFound
 
--- want of memory may come in place of any answer, want of stamps in place of that of a change, every other refusal only where it is right
+-- want of memory may come in place of any answer, want of stamps in place of that of a change, every other refusal only
+-- where it is right
 abbrev pub RefusesOrStamps : {Y : Type 0} → Refusal → Result Y Refusal → Type 0
 RefusesOrStamps e right = ((e ≡ Stamps) × IsOfChange right) ⊎ Refuses e right
 

@@ -36,8 +36,12 @@ pub fn mutated<C: Chunks + Copy, K: Known, M: Mutators>(
     requires places { (at : Reference) → C.places chunks at }
     requires behind { draft.old.first ≡ length K.known }
     requires tip { (s : State) × IsTip M.means (with_nodes K.known draft.old.nodes) tip s }
-    ensures ok { (s : State) → IsTip M.means (with_nodes K.known draft.old.nodes) tip s → s.closed ≡ false → IfOk result (λ at. (by_meaning (meaning_of M.means mutation (view_of M.means s)) mutation.id ≡ Ok mutation.id) × Spells M.means (with_nodes K.known draft.new.nodes) (stamp_of at) (after_mutate s mutation)) }
-    ensures err { (s : State) → IsTip M.means (with_nodes K.known draft.old.nodes) tip s → IfErr result (λ e. RefusesFor C.stops e (by_meaning (meaning_of M.means mutation (view_of M.means s)) mutation.id)) }
+    ensures ok { (s : State) → IsTip M.means (with_nodes K.known draft.old.nodes) tip s → s.closed ≡ false
+        → IfOk result (λ at. (by_meaning (meaning_of M.means mutation (view_of M.means s)) mutation.id ≡ Ok mutation.id)
+        × Spells M.means (with_nodes K.known draft.new.nodes) (stamp_of at) (after_mutate s mutation)) }
+    ensures err { (s : State) → IsTip M.means (with_nodes K.known draft.old.nodes) tip s
+        → IfErr result (λ e. RefusesFor C.stops e
+        (by_meaning (meaning_of M.means mutation (view_of M.means s)) mutation.id)) }
     ensures some { IfOk result (λ _. 0 < length draft.new.nodes) }
     ensures first { draft.new.first ≡ draft.old.first }
 {
@@ -56,8 +60,10 @@ pub fn mutated<C: Chunks + Copy, K: Known, M: Mutators>(
 
 // The tree that a run left, if it was done; else why its mutation is refused.
 fn done(run: Run) -> Result<Tree, Refusal>
-    ensures ok { (contents : Contents) (meaning : Meaning) → HasRun contents meaning run → IfOk result (λ tree. (m : Entries) × (tree_map contents tree ≡ Some m) × (map_of meaning ≡ Ok m)) }
-    ensures err { (contents : Contents) (meaning : Meaning) → HasRun contents meaning run → IfErr result (λ e. map_of meaning ≡ Err e) }
+    ensures ok { (contents : Contents) (meaning : Meaning) → HasRun contents meaning run
+        → IfOk result (λ tree. (m : Entries) × (tree_map contents tree ≡ Some m) × (map_of meaning ≡ Ok m)) }
+    ensures err { (contents : Contents) (meaning : Meaning) → HasRun contents meaning run
+        → IfErr result (λ e. map_of meaning ≡ Err e) }
 {
     let Run { ran, tree } = run;
     match ran {
@@ -69,7 +75,8 @@ fn done(run: Run) -> Result<Tree, Refusal>
 
 // The tree that a run left, if it was done; else the root from which it began.
 fn kept(run: Run, root: Ref) -> Tree
-    ensures { (contents : Contents) (m : Entries) (meaning : Meaning) → map_at contents (stamp_of root) ≡ Some m → HasRun contents meaning run → tree_map contents result ≡ Some (left_by meaning m) }
+    ensures { (contents : Contents) (m : Entries) (meaning : Meaning) → map_at contents (stamp_of root) ≡ Some m
+        → HasRun contents meaning run → tree_map contents result ≡ Some (left_by meaning m) }
 {
     let Run { ran, tree } = run;
     match ran {
@@ -91,7 +98,9 @@ fn replay_one<C: Chunks + Copy, K: Known, M: Mutators>(
     requires places { (at : Reference) → C.places chunks at }
     requires behind { draft.old.first ≡ length K.known }
     requires tip { (s : State) × IsTip M.means (with_nodes K.known draft.old.nodes) tip s }
-    ensures tip { (s : State) → IsTip M.means (with_nodes K.known draft.old.nodes) tip s → s.closed ≡ false → IfOk result (λ after. IsTip M.means (with_nodes K.known draft.new.nodes) after (after_mutate s mutation.now)) }
+    ensures tip { (s : State) → IsTip M.means (with_nodes K.known draft.old.nodes) tip s → s.closed ≡ false
+        → IfOk result (λ after. IsTip M.means (with_nodes K.known draft.new.nodes) after
+        (after_mutate s mutation.now)) }
     ensures some { IfOk result (λ _. 0 < length draft.new.nodes) }
     ensures first { draft.new.first ≡ draft.old.first }
     ensures err { IfErr result (λ e. (e ≡ NoMemory) ⊎ (e ≡ Stamps) ⊎ StopsAs C.stops e) }
@@ -115,7 +124,8 @@ pub fn replayed<C: Chunks + Copy, K: Known, M: Mutators>(
     requires places { (at : Reference) → C.places chunks at }
     requires behind { draft.old.first ≡ length K.known }
     requires tip { (s : State) × IsTip M.means (with_nodes K.known draft.old.nodes) basis s × (s.closed ≡ false) }
-    ensures tip { (s : State) → IsTip M.means (with_nodes K.known draft.old.nodes) basis s → s.closed ≡ false → IfOk result (λ after. IsTip M.means (with_nodes K.known draft.new.nodes) after (with_more s pending.now)) }
+    ensures tip { (s : State) → IsTip M.means (with_nodes K.known draft.old.nodes) basis s → s.closed ≡ false
+        → IfOk result (λ after. IsTip M.means (with_nodes K.known draft.new.nodes) after (with_more s pending.now)) }
     ensures some { 0 < length draft.old.nodes → OnOk result (0 < length draft.new.nodes) }
     ensures first { draft.new.first ≡ draft.old.first }
     ensures err { IfErr result (λ e. (e ≡ NoMemory) ⊎ (e ≡ Stamps) ⊎ StopsAs C.stops e) }

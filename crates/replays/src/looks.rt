@@ -18,7 +18,8 @@ pub fn tip_at<N: Nodes + Copy, K: Known>(nodes: N, head: Ref) -> Result<Tip, Ref
     requires known { N.contents nodes ≡ K.known }
     requires place { N.places nodes head }
     requires version { IsSome (version_at K.known (stamp_of head)) }
-    ensures tip { (v : Version) → version_at K.known (stamp_of head) ≡ Some v → IfOk result (λ tip. HasTip K.known tip v) }
+    ensures tip { (v : Version) → version_at K.known (stamp_of head) ≡ Some v
+        → IfOk result (λ tip. HasTip K.known tip v) }
     ensures err { IfErr result (StopsAs N.stops) }
 {
     let mut fixed = Fixed::<N, K>::new(nodes);
@@ -35,7 +36,8 @@ pub fn base_at<N: Nodes + Copy, K: Known>(nodes: N, head: Ref) -> Result<Base, R
     requires known { N.contents nodes ≡ K.known }
     requires place { N.places nodes head }
     requires version { IsSome (version_at K.known (stamp_of head)) }
-    ensures base { (v : Version) → version_at K.known (stamp_of head) ≡ Some v → IfOk result (IsBaseOf K.known v.state) }
+    ensures base { (v : Version) → version_at K.known (stamp_of head) ≡ Some v
+        → IfOk result (IsBaseOf K.known v.state) }
     ensures err { IfErr result (λ e. (e ≡ NoMemory) ⊎ StopsAs N.stops e) }
 {
     let mut fixed = Fixed::<N, K>::new(nodes);
@@ -52,7 +54,8 @@ pub fn pending_at<N: Nodes + Copy, K: Known>(
     requires known { N.contents nodes ≡ K.known }
     requires place { N.places nodes head }
     requires version { IsSome (version_at K.known (stamp_of head)) }
-    ensures pending { (v : Version) → version_at K.known (stamp_of head) ≡ Some v → IfOk result (λ xs. xs.items ≡ v.state.pending) }
+    ensures pending { (v : Version) → version_at K.known (stamp_of head) ≡ Some v
+        → IfOk result (λ xs. xs.items ≡ v.state.pending) }
     ensures err { IfErr result (λ e. (e ≡ NoMemory) ⊎ StopsAs N.stops e) }
 {
     let mut fixed = Fixed::<N, K>::new(nodes);

@@ -21,7 +21,8 @@ use transactions::{Fixed, Known, Staged, WriteTx};
 
 // One operation.
 fn operate<C: Chunks>(view: &mut WriteTx<C>, op: &Patch) -> Result<(), Stop>
-    ensures ok { OnOk result (shown_map (C.contents view.new.chunks) view.new.tree ≡ patched_once (shown_map (C.contents view.old.chunks) view.old.tree) op.now) }
+    ensures ok { OnOk result (shown_map (C.contents view.new.chunks) view.new.tree
+        ≡ patched_once (shown_map (C.contents view.old.chunks) view.old.tree) op.now) }
     ensures stopped { IfErr result (λ s. (s ≡ stop.NoMemory) ⊎ C.stops s) }
 {
     match op {
@@ -47,7 +48,8 @@ fn patched_known<C: Chunks + Drop, K: Known>(
     requires known { C.contents chunks ≡ K.known }
     requires map { IsSome (map_at K.known (stamp_of root)) }
     requires place { C.places chunks root }
-    ensures map { (m : Entries) → map_at K.known (stamp_of root) ≡ Some m → IfOk result (λ tree. tree_map K.known tree ≡ Some (patched m patch.now)) }
+    ensures map { (m : Entries) → map_at K.known (stamp_of root) ≡ Some m
+        → IfOk result (λ tree. tree_map K.known tree ≡ Some (patched m patch.now)) }
     ensures err { IfErr result (λ e. (e ≡ NoMemory) ⊎ StopsAs C.stops e) }
 {
     let mut view = WriteTx::new(alloc, Fixed::<C, K>::new(chunks), Tree::at(root));
@@ -70,7 +72,8 @@ pub fn patched_map<'a, C: Chunks + Copy, K: Known>(
     requires places { (at : Reference) → C.places chunks at }
     requires behind { draft.now.first ≡ length K.known }
     requires map { IsSome (map_at (with_nodes K.known draft.now.nodes) (stamp_of root)) }
-    ensures map { (m : Entries) → map_at (with_nodes K.known draft.now.nodes) (stamp_of root) ≡ Some m → IfOk result (λ tree. tree_map (with_nodes K.known draft.now.nodes) tree ≡ Some (patched m patch.now)) }
+    ensures map { (m : Entries) → map_at (with_nodes K.known draft.now.nodes) (stamp_of root) ≡ Some m
+        → IfOk result (λ tree. tree_map (with_nodes K.known draft.now.nodes) tree ≡ Some (patched m patch.now)) }
     ensures err { IfErr result (λ e. (e ≡ NoMemory) ⊎ StopsAs C.stops e) }
 {
     let staged = Staged::<'a, C, K>::new(chunks, draft);

@@ -34,7 +34,8 @@ pub struct RebasedHead {
 
 /// How a pull ends that brought no error, by the state's cookie and confirmed ids.
 pub fn judged(base: &Base, ticket: &Cookie, pull: &PullOk) -> Result<Ended, Refusal>
-    ensures reply { (s : State) → s.cookie ≡ base.now.cookie → s.confirmed ≡ base.now.confirmed → result ≡ end_at s ticket.now.text pull.now }
+    ensures reply { (s : State) → s.cookie ≡ base.now.cookie → s.confirmed ≡ base.now.confirmed
+        → result ≡ end_at s ticket.now.text pull.now }
 {
     if base.cookie.text() != ticket.text() {
         return Err(Refusal::Overtaken);
@@ -71,7 +72,12 @@ fn add_patched<C: Chunks + Copy, K: Known>(
     requires places { (at : Reference) → C.places chunks at }
     requires behind { draft.old.first ≡ length K.known }
     requires map { IsSome (map_at (with_nodes K.known draft.old.nodes) (stamp_of root)) }
-    ensures tip { (m : Entries) → map_at (with_nodes K.known draft.old.nodes) (stamp_of root) ≡ Some m → IfOk result (λ tip. HasTip (with_nodes K.known draft.new.nodes) tip (record { state = pulled_state (patched m pull.now.patch) pull.now.cookie confirmed; read = patched m pull.now.patch })) }
+    ensures tip { (m : Entries) → map_at (with_nodes K.known draft.old.nodes) (stamp_of root) ≡ Some m
+        → IfOk result (λ tip. HasTip (with_nodes K.known draft.new.nodes) tip
+        (record {
+          state = pulled_state (patched m pull.now.patch) pull.now.cookie confirmed;
+          read = patched m pull.now.patch;
+        })) }
     ensures some { IfOk result (λ _. 0 < length draft.new.nodes) }
     ensures first { draft.new.first ≡ draft.old.first }
     ensures err { IfErr result (λ e. (e ≡ NoMemory) ⊎ (e ≡ Stamps) ⊎ StopsAs C.stops e) }
@@ -98,8 +104,12 @@ pub fn rebased<C: Chunks + Copy, K: Known, M: Mutators>(
     requires places { (at : Reference) → C.places chunks at }
     requires behind { draft.old.first ≡ length K.known }
     requires map { IsSome (map_at (with_nodes K.known draft.old.nodes) (stamp_of base.now.pulled)) }
-    ensures spelled { (s : State) → map_at (with_nodes K.known draft.old.nodes) (stamp_of base.now.pulled) ≡ Some s.pulled → s.confirmed ≡ base.now.confirmed → s.pending ≡ pending.now → s.closed ≡ false → IfOk result (λ made. Spells M.means (with_nodes K.known draft.new.nodes) (stamp_of made.commit) (after_pull s pull.now)) }
-    ensures left { (s : State) → s.confirmed ≡ base.now.confirmed → s.pending ≡ pending.now → IfOk result (λ made. made.left ≡ length (after_pull s pull.now).pending) }
+    ensures spelled { (s : State) → map_at (with_nodes K.known draft.old.nodes) (stamp_of base.now.pulled)
+        ≡ Some s.pulled → s.confirmed ≡ base.now.confirmed → s.pending ≡ pending.now → s.closed ≡ false
+        → IfOk result (λ made. Spells M.means (with_nodes K.known draft.new.nodes) (stamp_of made.commit)
+        (after_pull s pull.now)) }
+    ensures left { (s : State) → s.confirmed ≡ base.now.confirmed → s.pending ≡ pending.now
+        → IfOk result (λ made. made.left ≡ length (after_pull s pull.now).pending) }
     ensures in_range { AreInRange pull.now.changes }
     ensures some { IfOk result (λ _. 0 < length draft.new.nodes) }
     ensures first { draft.new.first ≡ draft.old.first }

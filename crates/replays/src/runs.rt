@@ -56,7 +56,8 @@ pub fn run_on<'a, C: Chunks + Copy, K: Known, M: Mutators>(
     requires places { (at : Reference) → C.places chunks at }
     requires behind { draft.now.first ≡ length K.known }
     requires map { IsSome (tree_map (with_nodes K.known draft.now.nodes) tree) }
-    ensures ran { (m : Entries) → tree_map (with_nodes K.known draft.now.nodes) tree ≡ Some m → IfOk result (λ run. HasRun (with_nodes K.known draft.now.nodes) (meaning_of M.means mutation.now m) run) }
+    ensures ran { (m : Entries) → tree_map (with_nodes K.known draft.now.nodes) tree ≡ Some m
+        → IfOk result (λ run. HasRun (with_nodes K.known draft.now.nodes) (meaning_of M.means mutation.now m) run) }
     ensures err { IfErr result (λ e. (e ≡ NoMemory) ⊎ StopsAs C.stops e) }
 {
     let staged = Staged::<'a, C, K>::new(chunks, draft);

@@ -38,7 +38,12 @@ pub struct Tip {
 // Drafts a commit over a basis, with the map of this root.
 fn add_over(draft: &mut Draft, basis: Tip, root: Ref, step: Step) -> Result<Tip, Refusal>
     requires below { AreBelow (draft.old.first + length draft.old.nodes) (root ∷ basis.commit ∷ basis.snapshot ∷ []) }
-    ensures spelled { (contents : Contents) (v : Version) (m : Entries) → length contents ≡ draft.old.first → version_at (with_nodes contents draft.old.nodes) (stamp_of basis.commit) ≡ Some v → snapshot_at (with_nodes contents draft.old.nodes) (stamp_of basis.commit) ≡ Some (stamp_of basis.snapshot) → v.state.closed ≡ false → map_at (with_nodes contents draft.old.nodes) (stamp_of root) ≡ Some m → IfOk result (λ tip. HasTip (with_nodes contents draft.new.nodes) tip (record { state = stepped v.state step; read = m })) }
+    ensures spelled { (contents : Contents) (v : Version) (m : Entries) → length contents ≡ draft.old.first
+        → version_at (with_nodes contents draft.old.nodes) (stamp_of basis.commit) ≡ Some v
+        → snapshot_at (with_nodes contents draft.old.nodes) (stamp_of basis.commit) ≡ Some (stamp_of basis.snapshot)
+        → v.state.closed ≡ false → map_at (with_nodes contents draft.old.nodes) (stamp_of root) ≡ Some m
+        → IfOk result (λ tip. HasTip (with_nodes contents draft.new.nodes) tip
+        (record { state = stepped v.state step; read = m })) }
     ensures first { draft.new.first ≡ draft.old.first }
     ensures grown { IsPrefix draft.old.nodes draft.new.nodes }
     ensures some { IfOk result (λ _. 0 < length draft.new.nodes) }
@@ -71,7 +76,12 @@ pub fn add_local(
 ) -> Result<Tip, Refusal>
     requires map { AreBelow (draft.old.first + length draft.old.nodes) (tree_places tree) }
     requires chain { AreBelow (draft.old.first + length draft.old.nodes) (basis.commit ∷ basis.snapshot ∷ []) }
-    ensures spelled { (contents : Contents) (v : Version) (m : Entries) → length contents ≡ draft.old.first → version_at (with_nodes contents draft.old.nodes) (stamp_of basis.commit) ≡ Some v → snapshot_at (with_nodes contents draft.old.nodes) (stamp_of basis.commit) ≡ Some (stamp_of basis.snapshot) → v.state.closed ≡ false → tree_map (with_nodes contents draft.old.nodes) tree ≡ Some m → IfOk result (λ tip. HasTip (with_nodes contents draft.new.nodes) tip (record { state = after_mutate v.state mutation; read = m })) }
+    ensures spelled { (contents : Contents) (v : Version) (m : Entries) → length contents ≡ draft.old.first
+        → version_at (with_nodes contents draft.old.nodes) (stamp_of basis.commit) ≡ Some v
+        → snapshot_at (with_nodes contents draft.old.nodes) (stamp_of basis.commit) ≡ Some (stamp_of basis.snapshot)
+        → v.state.closed ≡ false → tree_map (with_nodes contents draft.old.nodes) tree ≡ Some m
+        → IfOk result (λ tip. HasTip (with_nodes contents draft.new.nodes) tip
+        (record { state = after_mutate v.state mutation; read = m })) }
     ensures first { draft.new.first ≡ draft.old.first }
     ensures grown { IsPrefix draft.old.nodes draft.new.nodes }
     ensures some { IfOk result (λ _. 0 < length draft.new.nodes) }
@@ -84,8 +94,12 @@ pub fn add_local(
 
 /// Drafts a commit that closes the group. It has the map of its basis.
 pub fn add_closing(draft: &mut Draft, basis: Tip) -> Result<Ref, Refusal>
-    requires below { AreBelow (draft.old.first + length draft.old.nodes) (basis.root ∷ basis.commit ∷ basis.snapshot ∷ []) }
-    ensures spelled { (contents : Contents) (v : Version) → length contents ≡ draft.old.first → HasTip (with_nodes contents draft.old.nodes) basis v → v.state.closed ≡ false → IfOk result (λ at. version_at (with_nodes contents draft.new.nodes) (stamp_of at) ≡ Some (record { state = after_closing v.state; read = v.read })) }
+    requires below { AreBelow (draft.old.first + length draft.old.nodes)
+        (basis.root ∷ basis.commit ∷ basis.snapshot ∷ []) }
+    ensures spelled { (contents : Contents) (v : Version) → length contents ≡ draft.old.first
+        → HasTip (with_nodes contents draft.old.nodes) basis v → v.state.closed ≡ false
+        → IfOk result (λ at. version_at (with_nodes contents draft.new.nodes) (stamp_of at)
+        ≡ Some (record { state = after_closing v.state; read = v.read })) }
     ensures some { IfOk result (λ _. 0 < length draft.new.nodes) }
     ensures first { draft.new.first ≡ draft.old.first }
     ensures why { IfErr result (λ e. (e ≡ NoMemory) ⊎ (e ≡ Stamps)) }
@@ -103,7 +117,10 @@ pub fn add_snapshot(
     confirmed: ConfirmedIds,
 ) -> Result<Tip, Refusal>
     requires map { AreBelow (draft.old.first + length draft.old.nodes) (tree_places tree) }
-    ensures spelled { (contents : Contents) (m : Entries) → length contents ≡ draft.old.first → tree_map (with_nodes contents draft.old.nodes) tree ≡ Some m → IfOk result (λ tip. HasTip (with_nodes contents draft.new.nodes) tip (record { state = pulled_state m cookie confirmed; read = m })) }
+    ensures spelled { (contents : Contents) (m : Entries) → length contents ≡ draft.old.first
+        → tree_map (with_nodes contents draft.old.nodes) tree ≡ Some m
+        → IfOk result (λ tip. HasTip (with_nodes contents draft.new.nodes) tip
+        (record { state = pulled_state m cookie confirmed; read = m })) }
     ensures first { draft.new.first ≡ draft.old.first }
     ensures grown { IsPrefix draft.old.nodes draft.new.nodes }
     ensures some { IfOk result (λ _. 0 < length draft.new.nodes) }
@@ -129,7 +146,8 @@ fn empty_leaf(alloc: Global) -> Result<Leaf, AllocError>
 /// Drafts an empty leaf and the snapshot with which a group opens, from stamp 0 on.
 pub fn add_opening(alloc: Global, draft: &mut Draft) -> Result<Ref, Refusal>
     requires { draft.old ≡ record { first = 0; nodes = [] } }
-    ensures spelled { IfOk result (λ at. version_at (with_nodes [] draft.new.nodes) (stamp_of at) ≡ Some (record { state = opening; read = finite.empty })) }
+    ensures spelled { IfOk result (λ at. version_at (with_nodes [] draft.new.nodes) (stamp_of at)
+        ≡ Some (record { state = opening; read = finite.empty })) }
     ensures first { draft.new.first ≡ 0 }
     ensures err { IfErr result (λ e. e ≡ NoMemory) }
 {

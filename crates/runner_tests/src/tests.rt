@@ -76,7 +76,8 @@ impl Gate for Open {
     fn after(&self, _client: &str, _line: u64) {}
 }
 
-// A group of 64 slots has 48 ordinary ones. What was pulled has two of them, and each mutation takes two, so 23 find room.
+// A group of 64 slots has 48 ordinary ones. What was pulled has two of them, and each mutation takes two, so 23 find
+// room.
 const ROOM: u64 = 23;
 
 // What is done before two clients fill such a group. It ends with the phase of that.

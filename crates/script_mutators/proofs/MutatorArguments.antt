@@ -1,5 +1,6 @@
 -- What holds of the arguments of a mutator and of their parts.
-use Rattle.std.proofs.Common.{◌≡◌, ◌≢◌, ℕ, ◌≤◌, List, [], ◌∷◌, length, Bool, true, false, cond, ◌||◌, Some, None, Ok, Err, IfSome, refl, sym, ap, subst, arith, nat_le}
+use Rattle.std.proofs.Common.{◌≡◌, ◌≢◌, ℕ, ◌≤◌, List, [], ◌∷◌, length, Bool, true, false, cond, ◌||◌, Some, None, Ok}
+use Rattle.std.proofs.Common.{Err, IfSome, refl, sym, ap, subst, arith, nat_le}
 use Rattle.std.proofs.lemmas.Bool.{leb-true}
 use Rattle.serde_json.specs.Data.{Data, null, boolean, number, string, array, object, no_items, item, depth}
 use Rattle.serde_json.specs.View.{items_view}
@@ -10,7 +11,8 @@ use Rattle.group_history.specs.Map.{Bytes, Entries}
 use Rattle.group_history.specs.Json.{text_of}
 use Rattle.group_history.specs.Meaning.{Meaning}
 use Rattle.std.specs.Prelude.{Option}
-use Rattle.script_mutators.specs.Mutators.{wrong_arguments, needs, value_of, one_item, two_items, text_and_value, meaning_at_text}
+use Rattle.script_mutators.specs.Mutators.{wrong_arguments, needs, value_of, one_item, two_items, text_and_value}
+use Rattle.script_mutators.specs.Mutators.{meaning_at_text}
 use Rattle.script_mutators.specs.Inside.Mutators.{meaning_at}
 
 -- it nests at most 124 deep, and no number in it is a float
@@ -18,7 +20,8 @@ abbrev pub HasText : Data → Type 0
 HasText d = (depth d ≤ 124) × (has_float d ≡ false)
 
 -- by what the two tests on a value answer
-HasText-at : (shallow float : Bool) (d : Data) (text : List ℕ) → nat_le (depth d) 124 ≡ shallow → has_float d ≡ float → cond shallow (cond float (Err NotWhole) (Ok (compact_text d))) (Err NotJson) ≡ Ok text → HasText d
+HasText-at : (shallow float : Bool) (d : Data) (text : List ℕ) → nat_le (depth d) 124 ≡ shallow → has_float d ≡ float
+    → cond shallow (cond float (Err NotWhole) (Ok (compact_text d))) (Err NotJson) ≡ Ok text → HasText d
 HasText-at true false d text shallow whole is = (leb-true _ _ shallow, whole)
 HasText-at true true d text shallow float is = cc
 HasText-at false float d text deep e is = cc
@@ -63,10 +66,12 @@ HasText-part (array (item (object ms) (item v no_items))) h = tt
 HasText-part (array (item a (item v (item b ds)))) h = tt
 
 -- the value beside a key, where the arguments have a compact text
-pub HasText-value : (args : Data) (both : Bytes × Data) → HasText args → Some both ≡ text_and_value args → HasText both.1
+pub HasText-value : (args : Data) (both : Bytes × Data) → HasText args → Some both ≡ text_and_value args
+    → HasText both.1
 HasText-value args both h is = subst (λ o. IfSome o (λ both. HasText both.1)) (sym is) (HasText-part args h)
 
 -- at arguments that read as a value a mutator means what it means at the value
-pub meaning_at_text_read : (means : Option (Data → Entries → Meaning)) (args : Bytes) (d : Data) (m : Entries) → value_of args ≡ Some d → meaning_at_text means args m ≡ meaning_at means d m
+pub meaning_at_text_read : (means : Option (Data → Entries → Meaning)) (args : Bytes) (d : Data) (m : Entries)
+    → value_of args ≡ Some d → meaning_at_text means args m ≡ meaning_at means d m
 meaning_at_text_read None args d m is = refl
 meaning_at_text_read (Some means) args d m is = ap (λ o. needs wrong_arguments o (λ a. means a m)) is

@@ -1,5 +1,6 @@
 -- What the mutators of scripts mean. These are this project's own rules.
-use Rattle.std.specs.Prelude.{ℕ, ◌^◌, ℤ, pos, neg_ℤ, ◌+ℤ◌, int_le, int_lt, ◌&&◌, [], ◌++◌, codes, if◌then◌else◌, Option, Some, None, option_map, option_and_then}
+use Rattle.std.specs.Prelude.{ℕ, ◌^◌, ℤ, pos, neg_ℤ, ◌+ℤ◌, int_le, int_lt, ◌&&◌, [], ◌++◌, codes, if◌then◌else◌, Option}
+use Rattle.std.specs.Prelude.{Some, None, option_map, option_and_then}
 use Rattle.std.specs.Fmt.{signed_decimal}
 use Rattle.std.specs.FinMap as finite
 use Rattle.serde_json.specs.Data.{Data, string, Items, no_items, item}
@@ -57,7 +58,8 @@ text_alone args = option_and_then as_str (option_and_then one_item (as_array arg
 
 -- arguments that are a text and any value
 unfoldable pub text_and_value : Data → Option (Bytes × Data)
-text_and_value args = option_and_then (λ both. option_map (λ s. (s, both.1)) (as_str both.0)) (option_and_then two_items (as_array args))
+text_and_value args = option_and_then (λ both. option_map (λ s. (s, both.1)) (as_str both.0))
+    (option_and_then two_items (as_array args))
 
 -- arguments that are a text and a number
 unfoldable pub text_and_number : Data → Option (Bytes × ℤ)

@@ -3,7 +3,8 @@
 //! Each takes a JSON array as its arguments, and refuses with a code where they are wrong or where the
 //! value at the key doesn't suit. `tag` alone looks at the reason. What each means is a definition in
 //! `specs/Mutators`, and the clause `ran` of its function says that it is run as that, over any view.
-ghost use Rattle.std.specs.Prelude.{◌≡◌, ◌≤◌, ◌⊎◌, false, Some, IfOk, IfErr, OnOk, option_map, option_and_then, string_bytes};
+ghost use Rattle.std.specs.Prelude.{◌≡◌, ◌≤◌, ◌⊎◌, false, Some, IfOk, IfErr, OnOk, option_map, option_and_then};
+ghost use Rattle.std.specs.Prelude.{string_bytes};
 ghost use Rattle.std.specs.Fmt.{signed_decimal};
 ghost use Rattle.std.specs.FinMap as finite;
 ghost use Rattle.serde_json.specs.Data.{depth, string};
@@ -53,7 +54,9 @@ fn run_named<V: WriteView>(
 ) -> Result<Ran, Stop>
     requires shallow { depth (data_of args.now) ≤ 124 }
     requires whole { has_float (data_of args.now) ≡ false }
-    ensures ran { IfOk result (λ ran. RunsAs (meaning_at (spec.mutator_of name.now why) (data_of args.now) (V.contents view.old)) ran (V.contents view.new)) }
+    ensures ran { IfOk result (λ ran. RunsAs
+        (meaning_at (spec.mutator_of name.now why) (data_of args.now) (V.contents view.old)) ran
+        (V.contents view.new)) }
     ensures stopped { IfErr result (λ stop. (stop ≡ NoMemory) ⊎ V.stops stop) }
 {
     if name == "set" {
@@ -91,7 +94,8 @@ const OUT_OF_RANGE: u32 = 4;
 fn set<V: WriteView>(alloc: Global, args: &Value, view: &mut V) -> Result<Ran, Stop>
     requires shallow { depth (data_of args.now) ≤ 124 }
     requires whole { has_float (data_of args.now) ≡ false }
-    ensures ran { IfOk result (λ ran. RunsAs (spec.set_means (data_of args.now) (V.contents view.old)) ran (V.contents view.new)) }
+    ensures ran { IfOk result (λ ran. RunsAs (spec.set_means (data_of args.now) (V.contents view.old)) ran
+        (V.contents view.new)) }
     ensures stopped { IfErr result (λ stop. (stop ≡ NoMemory) ⊎ V.stops stop) }
 {
     let Some((key, value)) = text_and_value(args) else {
@@ -104,7 +108,8 @@ fn set<V: WriteView>(alloc: Global, args: &Value, view: &mut V) -> Result<Ran, S
 /// Raises the number at the key, which has to be there.
 #[tactic(auto, unfolding(crate::specs::Mutators::incr_means))]
 fn incr<V: WriteView>(alloc: Global, args: &Value, view: &mut V) -> Result<Ran, Stop>
-    ensures ran { IfOk result (λ ran. RunsAs (spec.incr_means (data_of args.now) (V.contents view.old)) ran (V.contents view.new)) }
+    ensures ran { IfOk result (λ ran. RunsAs (spec.incr_means (data_of args.now) (V.contents view.old)) ran
+        (V.contents view.new)) }
     ensures stopped { IfErr result (λ stop. (stop ≡ NoMemory) ⊎ V.stops stop) }
 {
     let Some((key, by)) = text_and_number(args) else {
@@ -125,7 +130,8 @@ fn incr<V: WriteView>(alloc: Global, args: &Value, view: &mut V) -> Result<Ran, 
 
 /// Puts a number at a key.
 fn put_number<V: WriteView>(alloc: Global, view: &mut V, key: &str, number: i64) -> Result<(), Stop>
-    ensures put { OnOk result (V.contents view.new ≡ finite.insert (V.contents view.old) key.now (signed_decimal number)) }
+    ensures put { OnOk result (V.contents view.new
+        ≡ finite.insert (V.contents view.old) key.now (signed_decimal number)) }
     ensures stopped { IfErr result (λ stop. (stop ≡ NoMemory) ⊎ V.stops stop) }
 {
     let number = decimal(alloc, number)?;
@@ -135,7 +141,8 @@ fn put_number<V: WriteView>(alloc: Global, view: &mut V, key: &str, number: i64)
 /// Takes the key away, which needn't be there.
 #[tactic(auto, unfolding(crate::specs::Mutators::del_means))]
 fn del<V: WriteView>(args: &Value, view: &mut V) -> Result<Ran, Stop>
-    ensures ran { IfOk result (λ ran. RunsAs (spec.del_means (data_of args.now) (V.contents view.old)) ran (V.contents view.new)) }
+    ensures ran { IfOk result (λ ran. RunsAs (spec.del_means (data_of args.now) (V.contents view.old)) ran
+        (V.contents view.new)) }
     ensures stopped { IfErr result (λ stop. (stop ≡ NoMemory) ⊎ V.stops stop) }
 {
     let Some(key) = text_alone(args) else {
@@ -148,7 +155,8 @@ fn del<V: WriteView>(args: &Value, view: &mut V) -> Result<Ran, Stop>
 /// Lets a text follow the text at the key.
 #[tactic(auto, unfolding(crate::specs::Mutators::append_means))]
 fn append<V: WriteView>(alloc: Global, args: &Value, view: &mut V) -> Result<Ran, Stop>
-    ensures ran { IfOk result (λ ran. RunsAs (spec.append_means (data_of args.now) (V.contents view.old)) ran (V.contents view.new)) }
+    ensures ran { IfOk result (λ ran. RunsAs (spec.append_means (data_of args.now) (V.contents view.old)) ran
+        (V.contents view.new)) }
     ensures stopped { IfErr result (λ stop. (stop ≡ NoMemory) ⊎ V.stops stop) }
 {
     let Some((key, added)) = text_and_text(args) else {
@@ -160,7 +168,8 @@ fn append<V: WriteView>(alloc: Global, args: &Value, view: &mut V) -> Result<Ran
 /// Lets the text of the reason follow the text at the key.
 #[tactic(auto, unfolding(crate::specs::Mutators::tag_means))]
 fn tag<V: WriteView>(alloc: Global, args: &Value, why: Reason, view: &mut V) -> Result<Ran, Stop>
-    ensures ran { IfOk result (λ ran. RunsAs (spec.tag_means why (data_of args.now) (V.contents view.old)) ran (V.contents view.new)) }
+    ensures ran { IfOk result (λ ran. RunsAs (spec.tag_means why (data_of args.now) (V.contents view.old)) ran
+        (V.contents view.new)) }
     ensures stopped { IfErr result (λ stop. (stop ≡ NoMemory) ⊎ V.stops stop) }
 {
     let Some(key) = text_alone(args) else {
@@ -181,7 +190,8 @@ fn reason_text(why: Reason) -> &'static str
 /// Lets a text follow the text at a key, the empty one where the key isn't there.
 #[tactic(auto, unfolding(crate::specs::Mutators::appended))]
 fn lengthen<V: WriteView>(alloc: Global, key: &str, added: &str, view: &mut V) -> Result<Ran, Stop>
-    ensures ran { IfOk result (λ ran. RunsAs (spec.appended key.now added.now (V.contents view.old)) ran (V.contents view.new)) }
+    ensures ran { IfOk result (λ ran. RunsAs (spec.appended key.now added.now (V.contents view.old)) ran
+        (V.contents view.new)) }
     ensures stopped { IfErr result (λ stop. (stop ≡ NoMemory) ⊎ V.stops stop) }
 {
     let there = view.get(key)?;

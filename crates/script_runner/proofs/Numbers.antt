@@ -18,7 +18,8 @@ pub some_digits : (t : List ℕ) → is_decimal t ≡ true → 0 < length t
 unfolding is_decimal
 some_digits t decimal = grind (arith, nat_tests)
 
-pub is_number-in : (low high : ℕ) (t : List ℕ) → is_decimal t ≡ true → low ≤ digits_value 10 t → digits_value 10 t ≤ high → is_number low high t ≡ true
+pub is_number-in : (low high : ℕ) (t : List ℕ) → is_decimal t ≡ true → low ≤ digits_value 10 t
+    → digits_value 10 t ≤ high → is_number low high t ≡ true
 unfolding is_number
 is_number-in low high t decimal above below = grind (arith, nat_tests)
 
@@ -30,7 +31,8 @@ pub is_number-above : (low high : ℕ) (t : List ℕ) → high < digits_value 10
 unfolding is_number
 is_number-above low high t above = grind (arith, nat_tests)
 
-pub is_number-unread : (low high : ℕ) (t : List ℕ) → is_decimal t ≡ true → high < 2 ^ 64 → ((0 < length t) × (digits_value 10 t < 2 ^ 64) → ⊥) → is_number low high t ≡ false
+pub is_number-unread : (low high : ℕ) (t : List ℕ) → is_decimal t ≡ true → high < 2 ^ 64
+    → ((0 < length t) × (digits_value 10 t < 2 ^ 64) → ⊥) → is_number low high t ≡ false
 is_number-unread low high t decimal fits never =
     elim (cases_lt (digits_value 10 t) (2 ^ 64)) [
       | inl small ↦ absurd (never (some_digits t decimal, small))

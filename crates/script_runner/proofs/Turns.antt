@@ -1,5 +1,6 @@
 -- What the clients of a phase print, one more line, one more client, one more phase.
-use Rattle.std.proofs.Common.{◌≡◌, ◌<◌, ◌+◌, ℕ, arith, Option, None, Some, Result, Ok, Err, IsOk, IfOk, List, [], ◌∷◌, ◌++◌, map, take, length, get_or, slice_index_or, refl, sym, ap, ◌∙◌, subst}
+use Rattle.std.proofs.Common.{◌≡◌, ◌<◌, ◌+◌, ℕ, arith, Option, None, Some, Result, Ok, Err, IsOk, IfOk, List, [], ◌∷◌}
+use Rattle.std.proofs.Common.{◌++◌, map, take, length, get_or, slice_index_or, refl, sym, ap, ◌∙◌, subst}
 use Rattle.std.proofs.lemmas.Bool.{false≢true}
 use Rattle.std.proofs.lemmas.List.{take_more, append_assoc, append-nil, get_or-map, length-map, map-append}
 use Rattle.std.proofs.lemmas.List.Elements.{All-push}
@@ -33,15 +34,18 @@ pub all_of : {A : Type 0} (P : A → Type 0) → ((x : A) → P x) → (xs : Lis
 all_of P every xs k d below = every (slice_index_or xs k d)
 
 -- a fact of each element, one element more
-pub all-more : {A : Type 0} (P : A → Type 0) (all : List A) (i : ℕ) (x : A) → i < length all → x ≡ get_or all i x → All P (take i all) → P x → All P (take (i + 1) all)
-all-more P all i x k q h p = subst (λ w. All P w) (ap (λ w. take i all ++ w ∷ []) q ∙ sym (take_more all i x k)) (All-push P (take i all) x h p)
+pub all-more : {A : Type 0} (P : A → Type 0) (all : List A) (i : ℕ) (x : A) → i < length all → x ≡ get_or all i x
+    → All P (take i all) → P x → All P (take (i + 1) all)
+all-more P all i x k q h p = subst (λ w. All P w) (ap (λ w. take i all ++ w ∷ []) q ∙ sym (take_more all i x k))
+    (All-push P (take i all) x h p)
 
 pub fused : {X Y Z : Type 0} (f : Y → Z) (g : X → Y) (xs : List X) → map f (map g xs) ≡ map (λ x. f (g x)) xs
 fused f g [] = refl
 fused f g (x ∷ xs) = ap (λ w. f (g x) ∷ w) (fused f g xs)
 
 -- two lists that have the same views, one element more
-pub mapped-more : {X Y Z : Type 0} (f : X → Z) (g : Y → Z) (xs new : List X) (x : X) (ys : List Y) (i : ℕ) (y : Y) → i < length ys → y ≡ get_or ys i y
+pub mapped-more : {X Y Z : Type 0} (f : X → Z) (g : Y → Z) (xs new : List X) (x : X) (ys : List Y) (i : ℕ) (y : Y)
+    → i < length ys → y ≡ get_or ys i y
     → map f xs ≡ map g (take i ys) → new ≡ xs ++ x ∷ [] → f x ≡ g y → map f new ≡ map g (take (i + 1) ys)
 mapped-more f g xs new x ys i y k q so is same =
     ap (map f) is ∙ map-append f xs (x ∷ []) ∙ ap (λ w. map f xs ++ w ∷ []) same ∙ ap (λ w. w ++ g y ∷ []) so
@@ -49,18 +53,23 @@ mapped-more f g xs new x ys i y k q so is same =
 
 -- TEXTS
 
-text_with : {C : Type 0} (ts : List (Turn C)) (t : Turn C) → concat (texts_of (ts ++ t ∷ [])) ≡ concat (texts_of ts) ++ printed_text t.printed
+text_with : {C : Type 0} (ts : List (Turn C)) (t : Turn C)
+    → concat (texts_of (ts ++ t ∷ [])) ≡ concat (texts_of ts) ++ printed_text t.printed
 text_with ts t =
-    ap concat (map-append (λ u. printed_text u.printed) ts (t ∷ [])) ∙ concat-append (texts_of ts) (printed_text t.printed ∷ []) ∙ ap (λ w. concat (texts_of ts) ++ w) (append-nil (printed_text t.printed))
+    ap concat (map-append (λ u. printed_text u.printed) ts (t ∷ [])) ∙ concat-append (texts_of ts)
+    (printed_text t.printed ∷ []) ∙ ap (λ w. concat (texts_of ts) ++ w) (append-nil (printed_text t.printed))
 
 -- a turn of the loop over the clients
-pub text-more : {C : Type 0} (all : List (Turn C)) (i : ℕ) (t : Turn C) (old new : Bytes) → i < length all → t ≡ get_or all i t → old ≡ concat (texts_of (take i all)) → new ≡ old ++ printed_text t.printed
+pub text-more : {C : Type 0} (all : List (Turn C)) (i : ℕ) (t : Turn C) (old new : Bytes) → i < length all
+    → t ≡ get_or all i t → old ≡ concat (texts_of (take i all)) → new ≡ old ++ printed_text t.printed
     → new ≡ concat (texts_of (take (i + 1) all))
 text-more all i t old new k q o n =
-    n ∙ ap (λ w. w ++ printed_text t.printed) o ∙ sym (text_with (take i all) t) ∙ ap (λ w. concat (texts_of w)) (ap (λ w. take i all ++ w ∷ []) q ∙ sym (take_more all i t k))
+    n ∙ ap (λ w. w ++ printed_text t.printed) o ∙ sym (text_with (take i all) t) ∙ ap (λ w. concat (texts_of w))
+    (ap (λ w. take i all ++ w ∷ []) q ∙ sym (take_more all i t k))
 
 -- known bytes that grow twice
-pub appends-twice : (a b c : Option (List ℕ)) (xs ys : List ℕ) → Appends a b xs → Appends b c ys → Appends a c (xs ++ ys)
+pub appends-twice : (a b c : Option (List ℕ)) (xs ys : List ℕ) → Appends a b xs → Appends b c ys
+    → Appends a c (xs ++ ys)
 appends-twice None b c xs ys h k = tt
 appends-twice (Some x) None c xs ys h k = absurd h
 appends-twice (Some x) (Some y) None xs ys h k = absurd k
@@ -75,15 +84,18 @@ appends-kept (Some x) (Some y) (Some z) xs h k = k ∙ h
 
 module _ (law : Rules) where
   -- one line more
-  told_more : (seen : List Known) (c mid end : Player) (ls : Lines) (text : Bytes) (l : ℕ × Command) (told : Bytes) → AreTold law seen c ls text mid
-      → MayPrint law seen mid l.1 told end → end.name ≡ mid.name → AreTold law seen c (ls ++ l ∷ []) (text ++ line_text l.0 mid.name told) end
+  told_more : (seen : List Known) (c mid end : Player) (ls : Lines) (text : Bytes) (l : ℕ × Command) (told : Bytes)
+      → AreTold law seen c ls text mid
+      → MayPrint law seen mid l.1 told end → end.name ≡ mid.name
+      → AreTold law seen c (ls ++ l ∷ []) (text ++ line_text l.0 mid.name told) end
   told_more seen c mid end [] text l told h may name = (
     told,
     end,
     [],
     subst (λ w. MayPrint law seen w l.1 told end) h.1 may,
     name ∙ ap (λ w. w.name) h.1,
-    ap (λ w. w ++ line_text l.0 mid.name told) h.0 ∙ ap (λ w. line_text l.0 w.name told) h.1 ∙ sym (append-nil (line_text l.0 c.name told)),
+    ap (λ w. w ++ line_text l.0 mid.name told) h.0 ∙ ap (λ w. line_text l.0 w.name told) h.1 ∙ sym
+        (append-nil (line_text l.0 c.name told)),
     (refl, refl),
   )
   told_more seen c mid end (d ∷ ls) text l told h may name = (
@@ -92,32 +104,55 @@ module _ (law : Rules) where
     h.2 ++ line_text l.0 mid.name told,
     h.3,
     h.4,
-    ap (λ w. w ++ line_text l.0 mid.name told) h.5 ∙ append_assoc (line_text d.0 c.name h.0) h.2 (line_text l.0 mid.name told),
+    ap (λ w. w ++ line_text l.0 mid.name told) h.5 ∙ append_assoc (line_text d.0 c.name h.0) h.2
+        (line_text l.0 mid.name told),
     told_more seen h.1 mid end ls h.2 l told h.6 may name,
   )
 
   -- a turn of the loop over the lines
-  pub line-more : (seen : List Known) (c mid end : Player) (all : List Line) (i : ℕ) (l : Line) (old new : Bytes) → i < length all → l ≡ get_or all i l
-      → AreTold law seen c (map line_said (take i all)) old mid → IsTold law seen mid (line_said l) old new end → AreTold law seen c (map line_said (take (i + 1) all)) new end
+  pub line-more : (seen : List Known) (c mid end : Player) (all : List Line) (i : ℕ) (l : Line) (old new : Bytes)
+      → i < length all → l ≡ get_or all i l
+      → AreTold law seen c (map line_said (take i all)) old mid → IsTold law seen mid (line_said l) old new end
+      → AreTold law seen c (map line_said (take (i + 1) all)) new end
   line-more seen c mid end all i l old new k q h a =
-      let front = ap (map line_said) (take_more all i l k ∙ ap (λ w. take i all ++ w ∷ []) (sym q)) ∙ map-append line_said (take i all) (l ∷ []) in
+      let front = ap (map line_said) (take_more all i l k ∙ ap (λ w. take i all ++ w ∷ []) (sym q)) ∙ map-append
+      line_said (take i all) (l ∷ []) in
       subst (λ w. AreTold law seen c w new end) (sym front)
-      (subst (λ w. AreTold law seen c (map line_said (take i all) ++ line_said l ∷ []) w end) (sym a.text) (told_more seen c mid end (map line_said (take i all)) old (line_said l) a.told h a.may a.name))
+      (subst (λ w. AreTold law seen c (map line_said (take i all) ++ line_said l ∷ []) w end) (sym a.text)
+      (told_more seen c mid end (map line_said (take i all)) old (line_said l) a.told h a.may a.name))
 
   -- one phase more
-  written_more : (before mid after : List Player) (ps : List (List Lines)) (text : Bytes) (p : List Lines) (texts : List Bytes) → AreWritten law before ps text mid → IsPhase law p mid texts after
+  written_more : (before mid after : List Player) (ps : List (List Lines)) (text : Bytes) (p : List Lines)
+      (texts : List Bytes) → AreWritten law before ps text mid → IsPhase law p mid texts after
       → AreWritten law before (ps ++ p ∷ []) (text ++ concat texts) after
-  written_more before mid after [] text p texts h a =
-      (texts, after, [], subst (λ w. IsPhase law p w texts after) h.1 a, ap (λ w. w ++ concat texts) h.0 ∙ sym (append-nil (concat texts)), (refl, refl))
-  written_more before mid after (q ∷ ps) text p texts h a =
-      (h.0, h.1, h.2 ++ concat texts, h.3, ap (λ w. w ++ concat texts) h.4 ∙ append_assoc (concat h.0) h.2 (concat texts), written_more h.1 mid after ps h.2 p texts h.5 a)
+  written_more before mid after [] text p texts h a = (
+    texts,
+    after,
+    [],
+    subst (λ w. IsPhase law p w texts after) h.1 a,
+    ap (λ w. w ++ concat texts) h.0 ∙ sym (append-nil (concat texts)),
+    (refl, refl),
+  )
+  written_more before mid after (q ∷ ps) text p texts h a = (
+    h.0,
+    h.1,
+    h.2 ++ concat texts,
+    h.3,
+    ap (λ w. w ++ concat texts) h.4 ∙ append_assoc (concat h.0) h.2
+        (concat texts),
+    written_more h.1 mid after ps h.2 p texts h.5 a,
+  )
 
   -- a turn of the loop over the phases
-  pub phase-more : (before mid after : List Player) (all : List Phase) (i : ℕ) (text : Bytes) (p : Phase) (texts : List Bytes) → i < length all → p ≡ get_or all i p
-      → AreWritten law before (map phase_said (take i all)) text mid → IsPhase law (phase_said p) mid texts after → AreWritten law before (map phase_said (take (i + 1) all)) (text ++ concat texts) after
+  pub phase-more : (before mid after : List Player) (all : List Phase) (i : ℕ) (text : Bytes) (p : Phase)
+      (texts : List Bytes) → i < length all → p ≡ get_or all i p
+      → AreWritten law before (map phase_said (take i all)) text mid → IsPhase law (phase_said p) mid texts after
+      → AreWritten law before (map phase_said (take (i + 1) all)) (text ++ concat texts) after
   phase-more before mid after all i text p texts k q h a =
-      let front = ap (map phase_said) (take_more all i p k ∙ ap (λ w. take i all ++ w ∷ []) (sym q)) ∙ map-append phase_said (take i all) (p ∷ []) in
-      subst (λ w. AreWritten law before w (text ++ concat texts) after) (sym front) (written_more before mid after (map phase_said (take i all)) text (phase_said p) texts h a)
+      let front = ap (map phase_said) (take_more all i p k ∙ ap (λ w. take i all ++ w ∷ []) (sym q)) ∙ map-append
+      phase_said (take i all) (p ∷ []) in
+      subst (λ w. AreWritten law before w (text ++ concat texts) after) (sym front)
+      (written_more before mid after (map phase_said (take i all)) text (phase_said p) texts h a)
 
 -- A PHASE
 
@@ -127,48 +162,89 @@ some_of [] i below = absurd (omega (below, arith))
 some_of (x ∷ xs) i below = x
 
 -- what was printed, where memory wasn't refused
-told_of : {E : Type 0} (P : Bytes → Type 0) (r : Result (Vec ℕ) E) → IsOk r → IfOk r (λ text. P text.items) → P (printed_text r)
+told_of : {E : Type 0} (P : Bytes → Type 0) (r : Result (Vec ℕ) E) → IsOk r → IfOk r (λ text. P text.items)
+    → P (printed_text r)
 told_of P (Ok text) is told = told
 told_of P (Err e) is told = absurd (false≢true is)
 
 module _ {C : Type 0} (stands : C → Standing) where
   -- all have seen the one group of which each client is
-  pub one_group : {Seen : Type 0} (seen_by : Seen → Known) (book : Book) (turns : List (Turn C)) (seen : List Seen) → map seen_by seen ≡ all_seen (players_of stands turns) → AreOf stands book turns
-      → (t : Turn C) → (stands t.client.caller).mark.book ≡ book → All (λ s. (seen_by s).book ≡ (stands t.client.caller).mark.book) seen
+  pub one_group : {Seen : Type 0} (seen_by : Seen → Known) (book : Book) (turns : List (Turn C)) (seen : List Seen)
+      → map seen_by seen ≡ all_seen (players_of stands turns) → AreOf stands book turns
+      → (t : Turn C) → (stands t.client.caller).mark.book ≡ book
+      → All (λ s. (seen_by s).book ≡ (stands t.client.caller).mark.book) seen
   one_group seen_by book turns seen is of_one t of_book k d below =
-      let views : map seen_by seen ≡ map (λ u. sight_of (stands u.client.caller)) turns = is ∙ fused (λ p. sight_of p.standing) (λ u. player_of stands u.client) turns in
-      let below_too : k < length turns = omega (below, ap length views, length-map seen seen_by, length-map turns (λ u. sight_of (stands u.client.caller)), arith) in
-      let seen_there = sym (get_or-map seen_by seen k d (seen_by d) below) ∙ ap (λ ss. get_or ss k (seen_by d)) views ∙ get_or-map (λ u. sight_of (stands u.client.caller)) turns k t (seen_by d) below_too in
+      let views : map seen_by seen ≡ map (λ u. sight_of (stands u.client.caller)) turns = is ∙ fused
+      (λ p. sight_of p.standing) (λ u. player_of stands u.client) turns in
+      let below_too : k < length turns = omega (
+        below,
+        ap length views,
+        length-map seen seen_by,
+        length-map turns (λ u. sight_of (stands u.client.caller)),
+        arith,
+      ) in
+      let seen_there = sym (get_or-map seen_by seen k d (seen_by d) below) ∙ ap
+      (λ ss. get_or ss k (seen_by d)) views ∙ get_or-map (λ u. sight_of (stands u.client.caller)) turns k t
+      (seen_by d) below_too in
       ap (λ s. s.book) seen_there ∙ of_one k t below_too ∙ sym of_book
 
   -- what is lent to a client in a phase is of its group
-  pub lent : {Seen : Type 0} (seen_by : Seen → Known) (turns : List (Turn C)) (seen : List Seen) (i : ℕ) (t : Turn C) (k : ℕ) (d : Seen) → map seen_by seen ≡ all_seen (players_of stands turns) → (book : Book) × AreOf stands book turns
-      → i < length turns → t ≡ slice_index_or turns i t → k < length seen → (seen_by (slice_index_or seen k d)).book ≡ (stands t.client.caller).mark.book
+  pub lent : {Seen : Type 0} (seen_by : Seen → Known) (turns : List (Turn C)) (seen : List Seen) (i : ℕ) (t : Turn C)
+      (k : ℕ) (d : Seen) → map seen_by seen ≡ all_seen (players_of stands turns)
+      → (book : Book) × AreOf stands book turns
+      → i < length turns → t ≡ slice_index_or turns i t → k < length seen
+      → (seen_by (slice_index_or seen k d)).book ≡ (stands t.client.caller).mark.book
   lent seen_by turns seen i t k d is one below at in_seen =
-      one_group seen_by one.0 turns seen is one.1 t (subst (λ u. (stands u.client.caller).mark.book ≡ one.0) (sym at) (one.1 i t below)) k d in_seen
+      one_group seen_by one.0 turns seen is one.1 t
+      (subst (λ u. (stands u.client.caller).mark.book ≡ one.0) (sym at) (one.1 i t below)) k d in_seen
 
   module _ (law : Rules) where
     -- a client's part of a phase, as it stands in the lists
-    pub part : (seen : List Known) (old new : List (Turn C)) (lines : List (Vec Line)) (i : ℕ) (d : Turn C) (own : Vec Line) → i < length old → i < length new → i < length lines
-        → IsTurn law stands seen (slice_index_or lines i own).items (slice_index_or old i d).client (slice_index_or new i d) → IsPrinted (slice_index_or new i d)
-        → (l : Lines) (b : Player) (t : Bytes) (a : Player) → AreTold law seen (slice_index_or (players_of stands old) i b) (slice_index_or (lines_said lines) i l) (slice_index_or (texts_of new) i t) (slice_index_or (players_of stands new) i a)
+    pub part : (seen : List Known) (old new : List (Turn C)) (lines : List (Vec Line)) (i : ℕ) (d : Turn C)
+        (own : Vec Line) → i < length old → i < length new → i < length lines
+        → IsTurn law stands seen (slice_index_or lines i own).items (slice_index_or old i d).client
+        (slice_index_or new i d) → IsPrinted (slice_index_or new i d)
+        → (l : Lines) (b : Player) (t : Bytes) (a : Player)
+        → AreTold law seen (slice_index_or (players_of stands old) i b) (slice_index_or (lines_said lines) i l)
+        (slice_index_or (texts_of new) i t) (slice_index_or (players_of stands new) i a)
     part seen old new lines i d own in_old in_new in_lines turn printed l b t a =
-        let before : slice_index_or (players_of stands old) i b ≡ player_of stands (slice_index_or old i d).client = get_or-map (λ u. player_of stands u.client) old i d b in_old in
-        let said : slice_index_or (lines_said lines) i l ≡ map line_said (slice_index_or lines i own).items = get_or-map (λ ls. map line_said ls.items) lines i own l in_lines in
-        let text : slice_index_or (texts_of new) i t ≡ printed_text (slice_index_or new i d).printed = get_or-map (λ u. printed_text u.printed) new i d t in_new in
-        let after : slice_index_or (players_of stands new) i a ≡ player_of stands (slice_index_or new i d).client = get_or-map (λ u. player_of stands u.client) new i d a in_new in
-        let told = told_of (λ w. AreTold law seen (player_of stands (slice_index_or old i d).client) (map line_said (slice_index_or lines i own).items) w (player_of stands (slice_index_or new i d).client)) (slice_index_or new i d).printed printed turn.told in
-        subst (λ w. AreTold law seen w (slice_index_or (lines_said lines) i l) (slice_index_or (texts_of new) i t) (slice_index_or (players_of stands new) i a)) (sym before)
-        (subst (λ w. AreTold law seen (player_of stands (slice_index_or old i d).client) w (slice_index_or (texts_of new) i t) (slice_index_or (players_of stands new) i a)) (sym said)
-        (subst (λ w. AreTold law seen (player_of stands (slice_index_or old i d).client) (map line_said (slice_index_or lines i own).items) w (slice_index_or (players_of stands new) i a)) (sym text)
-        (subst (λ w. AreTold law seen (player_of stands (slice_index_or old i d).client) (map line_said (slice_index_or lines i own).items) (printed_text (slice_index_or new i d).printed) w) (sym after) told)))
+        let before : slice_index_or (players_of stands old) i b
+        ≡ player_of stands (slice_index_or old i d).client = get_or-map
+        (λ u. player_of stands u.client) old i d b in_old in
+        let said : slice_index_or (lines_said lines) i l
+        ≡ map line_said (slice_index_or lines i own).items = get_or-map
+        (λ ls. map line_said ls.items) lines i own l in_lines in
+        let text : slice_index_or (texts_of new) i t
+        ≡ printed_text (slice_index_or new i d).printed = get_or-map
+        (λ u. printed_text u.printed) new i d t in_new in
+        let after : slice_index_or (players_of stands new) i a
+        ≡ player_of stands (slice_index_or new i d).client = get_or-map
+        (λ u. player_of stands u.client) new i d a in_new in
+        let told = told_of (λ w. AreTold law seen (player_of stands (slice_index_or old i d).client)
+        (map line_said (slice_index_or lines i own).items) w (player_of stands (slice_index_or new i d).client))
+        (slice_index_or new i d).printed printed turn.told in
+        subst (λ w. AreTold law seen w (slice_index_or (lines_said lines) i l) (slice_index_or (texts_of new) i t)
+        (slice_index_or (players_of stands new) i a)) (sym before)
+        (subst (λ w. AreTold law seen (player_of stands (slice_index_or old i d).client) w
+        (slice_index_or (texts_of new) i t) (slice_index_or (players_of stands new) i a)) (sym said)
+        (subst (λ w. AreTold law seen (player_of stands (slice_index_or old i d).client)
+        (map line_said (slice_index_or lines i own).items) w
+        (slice_index_or (players_of stands new) i a)) (sym text)
+        (subst (λ w. AreTold law seen (player_of stands (slice_index_or old i d).client)
+        (map line_said (slice_index_or lines i own).items) (printed_text (slice_index_or new i d).printed) w)
+        (sym after) told)))
 
     -- a phase, by each client's part of it
-    pub phase : (seen : List Known) (old new : List (Turn C)) (lines : List (Vec Line)) → seen ≡ all_seen (players_of stands old) → length new ≡ length old → length old ≡ length lines
-        → ((i : ℕ) (d : Turn C) (own : Vec Line) → i < length old → IsTurn law stands seen (slice_index_or lines i own).items (slice_index_or old i d).client (slice_index_or new i d)) → All IsPrinted new
+    pub phase : (seen : List Known) (old new : List (Turn C)) (lines : List (Vec Line))
+        → seen ≡ all_seen (players_of stands old) → length new ≡ length old → length old ≡ length lines
+        → ((i : ℕ) (d : Turn C) (own : Vec Line) → i < length old
+        → IsTurn law stands seen (slice_index_or lines i own).items (slice_index_or old i d).client
+        (slice_index_or new i d)) → All IsPrinted new
         → IsPhase law (lines_said lines) (players_of stands old) (texts_of new) (players_of stands new)
     phase seen old new lines is as_many enough turns printed =
-        let olds = length-map old (λ u. player_of stands u.client) in let news = length-map new (λ u. player_of stands u.client) in let texts = length-map new (λ u. printed_text u.printed) in
+        let olds = length-map old (λ u. player_of stands u.client) in
+        let news = length-map new (λ u. player_of stands u.client) in
+        let texts = length-map new (λ u. printed_text u.printed) in
         record {
           as_many_texts = texts ∙ as_many ∙ sym olds;
           as_many = news ∙ as_many ∙ sym olds;
@@ -177,13 +253,19 @@ module _ {C : Type 0} (stands : C → Standing) where
               let in_new : i < length new = omega (in_old, as_many, arith) in
               let in_lines : i < length lines = omega (in_old, enough, arith) in
               let d = some_of old i in_old in let own = some_of lines i in_lines in
-              subst (λ ss. AreTold law ss (slice_index_or (players_of stands old) i b) (slice_index_or (lines_said lines) i l) (slice_index_or (texts_of new) i t) (slice_index_or (players_of stands new) i a)) is
-              (part seen old new lines i d own in_old in_new in_lines (turns i d own in_old) (printed i d in_new) l b t a);
+              subst (λ ss. AreTold law ss (slice_index_or (players_of stands old) i b)
+              (slice_index_or (lines_said lines) i l) (slice_index_or (texts_of new) i t)
+              (slice_index_or (players_of stands new) i a)) is
+              (part seen old new lines i d own in_old in_new in_lines (turns i d own in_old)
+              (printed i d in_new) l b t a);
         }
 
     -- and they are of one group still
-    pub still_one : (seen : List Known) (old new : List (Turn C)) (lines : List (Vec Line)) → length new ≡ length old → length old ≡ length lines
-        → ((i : ℕ) (d : Turn C) (own : Vec Line) → i < length old → IsTurn law stands seen (slice_index_or lines i own).items (slice_index_or old i d).client (slice_index_or new i d))
+    pub still_one : (seen : List Known) (old new : List (Turn C)) (lines : List (Vec Line)) → length new ≡ length old
+        → length old ≡ length lines
+        → ((i : ℕ) (d : Turn C) (own : Vec Line) → i < length old
+        → IsTurn law stands seen (slice_index_or lines i own).items (slice_index_or old i d).client
+        (slice_index_or new i d))
         → (book : Book) → AreOf stands book old → AreOf stands book new
     still_one seen old new lines as_many enough turns book of_one i d below =
         let in_old : i < length old = omega (below, as_many, arith) in

@@ -1,5 +1,6 @@
 -- The watches of a client are of its group, and what a poll of one leaves.
-use Rattle.std.proofs.Common.{◌≡◌, ℕ, Bool, true, false, Option, Some, None, IfSome, Result, Ok, Err, OnOk, OnErr, cond, refl, sym, ap, ◌∙◌, subst}
+use Rattle.std.proofs.Common.{◌≡◌, ℕ, Bool, true, false, Option, Some, None, IfSome, Result, Ok, Err, OnOk, OnErr, cond}
+use Rattle.std.proofs.Common.{refl, sym, ap, ◌∙◌, subst}
 use Rattle.std.proofs.lemmas.List.{append-nil}
 use Rattle.std.specs.Cmp.Lexicographic.{slice_cmp, nat_list_cmp_total}
 use Rattle.std.specs.FinMap as finite
@@ -21,28 +22,37 @@ abbrev pub AreOf : Watches → Book → Type 0
 AreOf watches book = (name : Bytes) (watch : Watched) → finite.get watches name ≡ Some watch → watch.book ≡ book
 
 -- one more
-pub insert_of : (watches : Watches) (book : Book) (name : Bytes) (new : Watched) → AreOf watches book → new.book ≡ book → AreOf (finite.insert watches name new) book
-insert_of watches book name new old is q watch at = by (eq_by_cmp (slice_cmp nat_cmp) q name) (sym (finite.get-insert nat_list_cmp_total watches name new q) ∙ at)
+pub insert_of : (watches : Watches) (book : Book) (name : Bytes) (new : Watched) → AreOf watches book → new.book ≡ book
+    → AreOf (finite.insert watches name new) book
+insert_of watches book name new old is q watch at = by (eq_by_cmp (slice_cmp nat_cmp) q name)
+    (sym (finite.get-insert nat_list_cmp_total watches name new q) ∙ at)
   where
     by : (b : Bool) → cond b (Some new) (finite.get watches q) ≡ Some watch → watch.book ≡ book
     by true e = let same : new ≡ watch = cc e in ap (λ (w : Watched). w.book) (sym same) ∙ is
     by false e = old q watch e
 
 -- one less
-pub remove_of : (watches : Watches) (book : Book) (name : Bytes) → AreOf watches book → AreOf (finite.remove watches name) book
-remove_of watches book name old q watch at = by (eq_by_cmp (slice_cmp nat_cmp) q name) (sym (finite.get-remove nat_list_cmp_total watches name q) ∙ at)
+pub remove_of : (watches : Watches) (book : Book) (name : Bytes) → AreOf watches book
+    → AreOf (finite.remove watches name) book
+remove_of watches book name old q watch at = by (eq_by_cmp (slice_cmp nat_cmp) q name)
+    (sym (finite.get-remove nat_list_cmp_total watches name q) ∙ at)
   where
     by : (b : Bool) → cond b None (finite.get watches q) ≡ Some watch → watch.book ≡ book
     by true e = absurd (cc e)
     by false e = old q watch e
 
 -- A poll that was answered may be refused for want of memory: it made no change.
-pub refused_after : {X : Type 0} (means : Meanings) (tries : ℕ) (old new : Known) (x : X) (right : State → Result X Refusal) → Answers means tries old new (Ok x) nothing right → Answers means tries old new (Err refusal.NoMemory) nothing right
+pub refused_after : {X : Type 0} (means : Meanings) (tries : ℕ) (old new : Known) (x : X)
+    (right : State → Result X Refusal) → Answers means tries old new (Ok x) nothing right
+    → Answers means tries old new (Err refusal.NoMemory) nothing right
 refused_after means tries old new x right is = (is.1.moves ∙ append-nil (own_moves old), λ moved. absurd (cc moved))
 
 -- one more, where memory was not refused
-pub inserted_of : {X E : Type 0} (r : Result X E) (old new : Watches) (book : Book) (name : Bytes) (watch : Watched) → OnOk r (new ≡ finite.insert old name watch) → OnErr r (new ≡ old) → AreOf old book → watch.book ≡ book → AreOf new book
-inserted_of (Ok x) old new book name watch ok err of is = subst (λ (m : Watches). AreOf m book) (sym ok) (insert_of old book name watch of is)
+pub inserted_of : {X E : Type 0} (r : Result X E) (old new : Watches) (book : Book) (name : Bytes) (watch : Watched)
+    → OnOk r (new ≡ finite.insert old name watch) → OnErr r (new ≡ old) → AreOf old book → watch.book ≡ book
+    → AreOf new book
+inserted_of (Ok x) old new book name watch ok err of is = subst (λ (m : Watches). AreOf m book) (sym ok)
+    (insert_of old book name watch of is)
 inserted_of (Err e) old new book name watch ok err of is = subst (λ (m : Watches). AreOf m book) (sym err) of
 
 pub on_ok : {X E A B : Type 0} (r : Result X E) → (A → B) → OnOk r A → OnOk r B

@@ -24,7 +24,8 @@ use Rattle.script_mutators.specs.Mutators.{script_means}
 abbrev pub Watches : Type 0
 Watches = finite.FinMap (slice_cmp nat_cmp) Watched
 
--- A client: whose requests its group writes, its ID, its own last id, what it has seen of the group's book, and its watches.
+-- A client: whose requests its group writes, its ID, its own last id, what it has seen of the group's book, and its
+-- watches.
 pub record Standing : Type 0 where
   pub caller : Caller
   pub mark : Known
@@ -32,7 +33,10 @@ pub record Standing : Type 0 where
 
 -- it has a watch of this name, which has answered nothing yet; an earlier one is given up
 abbrev pub watching : Bytes → Scan → Standing → Standing
-watching name scan c = record c { watches = finite.insert (finite.remove c.watches name) name (record { book = c.mark.book; scan = scan; last = None }) }
+watching name scan c = record c {
+  watches = finite.insert (finite.remove c.watches name) name
+      (record { book = c.mark.book; scan = scan; last = None });
+}
 
 -- it has no watch of this name
 abbrev pub unwatched : Bytes → Standing → Standing
@@ -47,7 +51,8 @@ watches_after name watch watches (Err e) = watches
 abbrev pub sight_of : Standing → Known
 sight_of c = known c.mark.book c.mark.log None
 
--- The rules of a group: what its clients' calls and their polls may reply, and how a client stands then; and how a client
+-- The rules of a group: what its clients' calls and their polls may reply, and how a client stands then; and how a
+-- client
 -- stands that has learnt what another one had seen.
 pub record Rules : Type 1 where
   pub may_reply : Standing → Call → Result Replied Refusal → Standing → Type 0
@@ -61,15 +66,19 @@ tries_of (call.EndPull at bytes) = 0
 tries_of other = 1000000
 
 -- The call is answered rightly at a point of the group's record, and the client's last id is then as the reply says.
-pub record MayReply (before : Standing) (asked : Call) (reply : Result Replied Refusal) (after : Standing) : Type 0 where
-  pub answer : Answers script_means (tries_of asked) before.mark after.mark reply (change_of before.caller asked) (λ s. reply_to script_means before.caller s asked)
+pub record MayReply (before : Standing) (asked : Call) (reply : Result Replied Refusal)
+    (after : Standing) : Type 0 where
+  pub answer : Answers script_means (tries_of asked) before.mark after.mark reply (change_of before.caller asked)
+      (λ s. reply_to script_means before.caller s asked)
   pub caller : after.caller ≡ caller before.caller.identity before.caller.client (last_after before.caller.last reply)
   pub later : IsLater before.mark after.mark
   pub watches : after.watches ≡ before.watches
 
 -- The poll of a watch is answered rightly at a point of the group's record.
-pub record MayPoll (name : Bytes) (watch : Watched) (before : Standing) (reply : Result Polled Refusal) (after : Standing) : Type 0 where
-  pub answer : Answers script_means 1000000 before.mark after.mark reply nothing (λ s. Ok (poll_at script_means watch s))
+pub record MayPoll (name : Bytes) (watch : Watched) (before : Standing) (reply : Result Polled Refusal)
+    (after : Standing) : Type 0 where
+  pub answer : Answers script_means 1000000 before.mark after.mark reply nothing
+      (λ s. Ok (poll_at script_means watch s))
   pub caller : after.caller ≡ before.caller
   pub later : IsLater before.mark after.mark
   pub watches : after.watches ≡ watches_after name watch before.watches reply
@@ -87,10 +96,12 @@ abbrev pub shared_rules : Rules
 shared_rules = record { may_reply = MayReply; may_poll = MayPoll; learns = Learns }
 
 -- A client of a plain group, which is no group of a book: the call is answered rightly at some state.
-pub record MayReplyPlainly (before : Standing) (asked : Call) (reply : Result Replied Refusal) (after : Standing) : Type 0 where
+pub record MayReplyPlainly (before : Standing) (asked : Call) (reply : Result Replied Refusal)
+    (after : Standing) : Type 0 where
   pub identity : Identity
   pub at : State
-  pub answer : IsReplyTo reply (reply_to script_means (caller identity before.caller.client before.caller.last) at asked)
+  pub answer : IsReplyTo reply (reply_to script_means
+      (caller identity before.caller.client before.caller.last) at asked)
   pub caller : after.caller ≡ caller before.caller.identity before.caller.client (last_after before.caller.last reply)
   pub watches : after.watches ≡ before.watches
 
@@ -100,7 +111,8 @@ IsPolled (Ok polled) right = right ≡ polled
 IsPolled (Err e) right = is_want e ≡ true
 
 -- a poll too
-pub record MayPollPlainly (name : Bytes) (watch : Watched) (before : Standing) (reply : Result Polled Refusal) (after : Standing) : Type 0 where
+pub record MayPollPlainly (name : Bytes) (watch : Watched) (before : Standing) (reply : Result Polled Refusal)
+    (after : Standing) : Type 0 where
   pub at : State
   pub answer : IsPolled reply (poll_at script_means watch at)
   pub caller : after.caller ≡ before.caller
@@ -117,4 +129,8 @@ abbrev pub no_book : Book
 no_book = record { number = 0; log_name = 0; cells_name = 0 }
 
 abbrev pub plain_standing : Bytes → ℕ → Watches → Standing
-plain_standing id last watches = record { caller = caller (record { group = []; profile = []; schema = [] }) id last; mark = known no_book [] None; watches = watches }
+plain_standing id last watches = record {
+  caller = caller (record { group = []; profile = []; schema = [] }) id last;
+  mark = known no_book [] None;
+  watches = watches;
+}

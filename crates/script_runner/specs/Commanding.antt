@@ -1,5 +1,6 @@
 -- What the call of a command may print, and how it leaves its client.
-use Rattle.std.specs.Prelude.{ℕ, ◌≡◌, ◌<◌, ◌⊎◌, ⊤, codes, List, length, slice_index_or, Option, Some, None, Result, Ok, Err}
+use Rattle.std.specs.Prelude.{ℕ, ◌≡◌, ◌<◌, ◌⊎◌, ⊤, codes, List, length, slice_index_or, Option, Some, None, Result, Ok}
+use Rattle.std.specs.Prelude.{Err}
 use Rattle.std.specs.Cmp.Lexicographic.{slice_cmp}
 use Rattle.std.specs.FinMap as finite
 use Rattle.std.specs.Ordering.{nat_cmp}
@@ -54,23 +55,27 @@ abbrev pub AsksEnd : Ticket → Bytes → Call → Type 0
 AsksEnd kept body (call.EndPull at bytes) = (at.now ≡ kept) × (bytes.now ≡ body)
 AsksEnd kept body other = ⊥
 
--- What a begun pull prints, and the tickets that it leaves: there is one of its name only where the pull was begun, and memory
+-- What a begun pull prints, and the tickets that it leaves: there is one of its name only where the pull was begun, and
+-- memory
 -- wasn't refused for it.
 abbrev pub IsBegun : Tickets → Bytes → Result Replied Refusal → Bytes → Tickets → Type 0
 IsBegun tickets name (Ok (ticket asked)) text after =
-    ((text ≡ answer_text (Ok (ticket asked))) × (t : Ticket) × (t.cookie ≡ asked.cookie) × (after ≡ finite.insert tickets name t))
+    ((text ≡ answer_text (Ok (ticket asked))) × (t : Ticket) × (t.cookie ≡ asked.cookie)
+    × (after ≡ finite.insert tickets name t))
     ⊎ ((text ≡ refused_text NoMemory) × (after ≡ tickets))
 IsBegun tickets name answer text after = (text ≡ answer_text answer) × (after ≡ tickets)
 
 -- A watch is kept under a name; where memory is refused for it there is none of that name. Nothing is read.
 pub record MayWatch (name : Bytes) (scan : Scan) (before : Player) (text : Bytes) (after : Player) : Type 0 where
-  pub kept : ((text ≡ codes "watching") × (after.standing ≡ watching name scan before.standing)) ⊎ ((text ≡ refused_text NoMemory) × (after.standing ≡ unwatched name before.standing))
+  pub kept : ((text ≡ codes "watching") × (after.standing ≡ watching name scan before.standing))
+      ⊎ ((text ≡ refused_text NoMemory) × (after.standing ≡ unwatched name before.standing))
   pub tickets : after.tickets ≡ before.tickets
 
 -- By the rules of a group.
 module _ (law : Rules) where
   -- one call is made, and what is printed tells its answer
-  pub record HandsOn (asks : Call → Type 0) (print : Result Replied Refusal → Bytes) (before : Player) (text : Bytes) (after : Player) : Type 0 where
+  pub record HandsOn (asks : Call → Type 0) (print : Result Replied Refusal → Bytes) (before : Player) (text : Bytes)
+      (after : Player) : Type 0 where
     pub made : Call
     pub asked : asks made
     pub answer : Result Replied Refusal
@@ -91,7 +96,8 @@ module _ (law : Rules) where
 
   -- a client learns what the one at a place had seen
   pub record MayLearn (seen : List Known) (place : ℕ) (before : Player) (text : Bytes) (after : Player) : Type 0 where
-    pub learnt : (s : Known) → place < length seen → law.learns before.standing (slice_index_or seen place s) after.standing
+    pub learnt : (s : Known) → place < length seen
+        → law.learns before.standing (slice_index_or seen place s) after.standing
     pub printed : text ≡ codes "learnt"
     pub tickets : after.tickets ≡ before.tickets
 
@@ -111,9 +117,11 @@ module _ (law : Rules) where
   abbrev pub MayPrint : List Known → Player → Command → Bytes → Player → Type 0
   MayPrint seen before (command.Query q) text after = HandsOn (Asks q) answer_text before text after
   MayPrint seen before (command.Begin name) text after = MayBegin name before text after
-  MayPrint seen before (command.End name body) text after = MayEnd (finite.get before.tickets name) body before text after
+  MayPrint seen before (command.End name body) text after = MayEnd
+      (finite.get before.tickets name) body before text after
   MayPrint seen before (command.Mutate m) text after = HandsOn (AsksMutation m) answer_text before text after
   MayPrint seen before command.Refresh text after = HandsOn (λ c. c ≡ call.Refresh) refreshed_text before text after
   MayPrint seen before (command.Learn place) text after = MayLearn seen place before text after
   MayPrint seen before (command.Watch name scan) text after = MayWatch name scan before text after
-  MayPrint seen before (command.Poll name) text after = MayPoll name (finite.get before.standing.watches name) before text after
+  MayPrint seen before (command.Poll name) text after = MayPoll name
+      (finite.get before.standing.watches name) before text after

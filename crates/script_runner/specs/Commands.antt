@@ -1,6 +1,7 @@
 -- The lines from the first phase on: what each needs, each need with the fault of a line that doesn't meet it, and
 -- what it says. Where a line has several faults, the first need that isn't met tells.
-use Rattle.std.specs.Prelude.{codes, ℕ, zero, suc, ◌^◌, ◌-◌, Bool, ◌&&◌, ◌==◌, List, [], ◌∷◌, ◌++◌, length, replicate, Option, Some, None, is_some, is_none, unwrap_or, Result, Ok, Err, if◌then◌else◌}
+use Rattle.std.specs.Prelude.{codes, ℕ, zero, suc, ◌^◌, ◌-◌, Bool, ◌&&◌, ◌==◌, List, [], ◌∷◌, ◌++◌, length, replicate}
+use Rattle.std.specs.Prelude.{Option, Some, None, is_some, is_none, unwrap_or, Result, Ok, Err, if◌then◌else◌}
 use Rattle.std.specs.List.{list_any}
 use Rattle.std.specs.Str.Parse.{digits_value}
 use Rattle.group_history.specs.declared.scans.Scan.{Scan}
@@ -11,11 +12,14 @@ use Rattle.script_runner.specs.declared.script.Command.{Command}
 use Rattle.script_runner.specs.declared.script.Command.TheVariants as command
 use Rattle.script_runner.specs.declared.script.Query.TheVariants as query
 use Rattle.script_runner.specs.Context.{Context, Lines, place_of, meets}
-use Rattle.script_runner.specs.Words.{word, more, text, is_word, begins_with_word, is_ticket_name, is_client_name, is_number, is_start, is_limit, is_json, json_said, prefix_said, start_said, limit_said}
+use Rattle.script_runner.specs.Words.{word, more, text, is_word, begins_with_word, is_ticket_name, is_client_name}
+use Rattle.script_runner.specs.Words.{is_number, is_start, is_limit, is_json, json_said, prefix_said, start_said}
+use Rattle.script_runner.specs.Words.{limit_said}
 
 -- `phase`: in a new phase no client has a line
 unfoldable pub phase_line : Context → Option Bytes → Result Context ScriptFault
-phase_line c rest = meets ((is_none rest, fault.BadWords) ∷ []) (record c { phases = c.phases ++ replicate (length c.clients) [] ∷ [] })
+phase_line c rest = meets ((is_none rest, fault.BadWords) ∷ [])
+    (record c { phases = c.phases ++ replicate (length c.clients) [] ∷ [] })
 
 -- what a client's line says: what is said with it too, and its command
 abbrev pub Told : Type 0
@@ -34,11 +38,16 @@ unfoldable pub scan_words : Option Bytes → Result Scan ScriptFault
 scan_words rest =
     let after_prefix = text (more (text rest)) in
     let limit = text (more after_prefix) in
-    meets ((begins_with_word (text rest), fault.BadWords) ∷ (begins_with_word after_prefix, fault.BadWords) ∷ (is_word limit, fault.BadWords)
+    meets ((begins_with_word (text rest), fault.BadWords) ∷ (begins_with_word after_prefix, fault.BadWords)
+    ∷ (is_word limit, fault.BadWords)
     ∷ (is_start (word after_prefix), fault.BadWords)
     ∷ (is_limit limit, fault.BadNumber)
     ∷ [])
-    (record { prefix = prefix_said (word (text rest)); start = start_said (word after_prefix); limit = limit_said limit })
+    (record {
+      prefix = prefix_said (word (text rest));
+      start = start_said (word after_prefix);
+      limit = limit_said limit;
+    })
 
 -- what a line says that has a scan
 abbrev pub with_scan : (Scan → Context × Command) → Result Scan ScriptFault → Told
@@ -53,7 +62,9 @@ scan_line c rest = with_scan (λ scan. (c, command.Query (query.Scan scan))) (sc
 unfoldable pub watch_line : Context → ℕ → Option Bytes → Told
 watch_line c client rest =
     let name = word (text rest) in
-    if is_some rest && is_ticket_name name then with_scan (λ scan. (record c { watches = c.watches ++ (client, name) ∷ [] }, command.Watch name scan)) (scan_words (more (text rest)))
+    if is_some rest && is_ticket_name name then with_scan
+    (λ scan. (record c { watches = c.watches ++ (client, name) ∷ [] }, command.Watch name scan))
+    (scan_words (more (text rest)))
     else Err fault.BadWords
 
 -- `begin T`
@@ -70,7 +81,8 @@ is_made client name all = list_any (λ made. (made.0 == client) && same_text mad
 unfoldable pub end_line : Context → ℕ → Option Bytes → Told
 end_line c client rest =
     let ticket = word (text rest) in
-    meets ((is_some rest, fault.BadWords) ∷ (is_ticket_name ticket, fault.BadWords) ∷ (is_some (more (text rest)), fault.BadWords)
+    meets ((is_some rest, fault.BadWords) ∷ (is_ticket_name ticket, fault.BadWords)
+    ∷ (is_some (more (text rest)), fault.BadWords)
     ∷ (is_made client ticket c.tickets, fault.UnknownName)
     ∷ [])
     (c, command.End ticket (text (more (text rest))))
@@ -78,7 +90,8 @@ end_line c client rest =
 -- `poll W`
 unfoldable pub poll_line : Context → ℕ → Option Bytes → Told
 poll_line c client rest =
-    meets ((is_some rest, fault.BadWords) ∷ (is_ticket_name (text rest), fault.BadWords) ∷ (is_made client (text rest) c.watches, fault.UnknownName) ∷ [])
+    meets ((is_some rest, fault.BadWords) ∷ (is_ticket_name (text rest), fault.BadWords)
+    ∷ (is_made client (text rest) c.watches, fault.UnknownName) ∷ [])
     (c, command.Poll (text rest))
 
 -- `mutate TIME MUTATOR ARGS`
@@ -86,16 +99,24 @@ unfoldable pub mutate_line : Context → Option Bytes → Told
 mutate_line c rest =
     let after_time = text (more (text rest)) in
     let args = more after_time in
-    meets ((begins_with_word (text rest), fault.BadWords) ∷ (begins_with_word after_time, fault.BadWords) ∷ (is_some args, fault.BadWords)
+    meets ((begins_with_word (text rest), fault.BadWords) ∷ (begins_with_word after_time, fault.BadWords)
+    ∷ (is_some args, fault.BadWords)
     ∷ (is_number 0 (2 ^ 53 - 1) (word (text rest)), fault.BadNumber)
     ∷ (is_json (text args), fault.BadJson)
-    ∷ [])
-    (c, command.Mutate (record { time = digits_value 10 (word (text rest)); mutator = word after_time; args = json_said (text args) }))
+    ∷ []) (
+      c,
+      command.Mutate (record {
+        time = digits_value 10 (word (text rest));
+        mutator = word after_time;
+        args = json_said (text args);
+      }),
+    )
 
 -- `learn NAME`: from the client at this name's place
 unfoldable pub learn_line : Context → Option Bytes → Told
 learn_line c rest =
-    meets ((is_some rest, fault.BadWords) ∷ (is_client_name (text rest), fault.BadWords) ∷ (is_some (place_of (text rest) c.clients), fault.UnknownName) ∷ [])
+    meets ((is_some rest, fault.BadWords) ∷ (is_client_name (text rest), fault.BadWords)
+    ∷ (is_some (place_of (text rest) c.clients), fault.UnknownName) ∷ [])
     (c, command.Learn (unwrap_or (place_of (text rest) c.clients) 0))
 
 -- the commands that take no words

@@ -26,7 +26,16 @@ pub record Context : Type 0 where
 
 -- before the first line
 abbrev pub nothing_said : Context
-nothing_said = record { group = None; profile = None; schema = None; slots = None; clients = []; phases = []; tickets = []; watches = [] }
+nothing_said = record {
+  group = None;
+  profile = None;
+  schema = None;
+  slots = None;
+  clients = [];
+  phases = [];
+  tickets = [];
+  watches = [];
+}
 
 -- the place of a client, by its name
 unfoldable pub place_of : Bytes → List (Bytes × Bytes) → Option ℕ

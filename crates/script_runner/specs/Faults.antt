@@ -1,5 +1,6 @@
 -- What a script says, or which of its lines is the first faulty one, and what is wrong with it.
-use Rattle.std.specs.Prelude.{codes, ◌≡◌, ⊤, ℕ, ◌+◌, Bool, ◌||◌, ◌==◌, List, [], ◌∷◌, length, take, slice_index, Option, Some, None, Result, Ok, Err, if◌then◌else◌, count_by}
+use Rattle.std.specs.Prelude.{codes, ◌≡◌, ⊤, ℕ, ◌+◌, Bool, ◌||◌, ◌==◌, List, [], ◌∷◌, length, take, slice_index, Option}
+use Rattle.std.specs.Prelude.{Some, None, Result, Ok, Err, if◌then◌else◌, count_by}
 use Rattle.std.specs.List.{slice_split}
 use Rattle.std.specs.Result.{result_err}
 use Rattle.std.specs.Str.{is_utf8}
@@ -34,11 +35,13 @@ abbrev pub lines_of : Bytes → List Bytes
 lines_of bytes = slice_split (λ b. b == 10) bytes
 
 -- the fault of the line of this number, and where it has none, what is said with the lines after it too
-abbrev pub said_after : ℕ → (Context → Result Context (ℕ × ScriptFault)) → Result Context ScriptFault → Result Context (ℕ × ScriptFault)
+abbrev pub said_after : ℕ → (Context → Result Context (ℕ × ScriptFault)) → Result Context ScriptFault
+    → Result Context (ℕ × ScriptFault)
 said_after n next (Err f) = Err (n, f)
 said_after n next (Ok c) = next c
 
--- what is said with these lines too, the first of which has this number, or the number and the fault of the first faulty one
+-- what is said with these lines too, the first of which has this number, or the number and the fault of the first
+-- faulty one
 abbrev pub said_in : ℕ → Context → List Bytes → Result Context (ℕ × ScriptFault)
 said_in n c [] = Ok c
 said_in n c (l ∷ ls) = said_after n (λ d. said_in (n + 1) d ls) (said_with c n l)
@@ -47,10 +50,12 @@ said_in n c (l ∷ ls) = said_after n (λ d. said_in (n + 1) d ls) (said_with c 
 unfoldable pub line_of_bad_byte : Bytes → ℕ
 line_of_bad_byte bytes = count_by (λ b. b == 10) (take (utf8_valid_len bytes) bytes) + 1
 
--- What a script says, or the number of its first faulty line, counted from 1, and what is wrong with it. That a script is
+-- What a script says, or the number of its first faulty line, counted from 1, and what is wrong with it. That a script
+-- is
 -- no UTF-8 is told before any other fault.
 unfoldable pub script_said : Bytes → Result Context (ℕ × ScriptFault)
-script_said bytes = if is_utf8 bytes then said_in 1 nothing_said (lines_of bytes) else Err (line_of_bad_byte bytes, text.NotUtf8)
+script_said bytes = if is_utf8 bytes then said_in 1 nothing_said (lines_of bytes) else Err
+    (line_of_bad_byte bytes, text.NotUtf8)
 
 -- the first faulty line and its fault; none where the script is well formed
 unfoldable pub first_fault : Bytes → Option (ℕ × ScriptFault)

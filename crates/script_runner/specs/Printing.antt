@@ -1,5 +1,6 @@
 -- The printed texts of replies.
-use Rattle.std.specs.Prelude.{ℕ, Bool, true, false, List, [], ◌∷◌, ◌++◌, map, codes, decimal, Some, None, Result, Ok, Err}
+use Rattle.std.specs.Prelude.{ℕ, Bool, true, false, List, [], ◌∷◌, ◌++◌, map, codes, decimal, Some, None, Result, Ok}
+use Rattle.std.specs.Prelude.{Err}
 use Rattle.std.specs.List.{concat, join_with_byte}
 use Rattle.group_history.specs.declared.mutations.Mutation.{Mutation}
 use Rattle.group_history.specs.declared.refusals.Refusal.{Refusal}
@@ -19,7 +20,8 @@ row_text row = concat (codes "[" ∷ quoted row.0 ∷ codes "," ∷ row.1 ∷ co
 
 -- a pending mutation, as a JSON array of client ID, id and name
 unfoldable pub pending_row : Mutation → Bytes
-pending_row m = concat (codes "[" ∷ quoted m.client ∷ codes "," ∷ decimal m.id ∷ codes "," ∷ quoted m.name ∷ codes "]" ∷ [])
+pending_row m = concat (codes "[" ∷ quoted m.client ∷ codes "," ∷ decimal m.id ∷ codes "," ∷ quoted m.name
+    ∷ codes "]" ∷ [])
 
 -- a JSON array of texts that are JSON, with commas (44) between them
 abbrev pub array_text : List Bytes → Bytes

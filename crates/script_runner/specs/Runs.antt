@@ -25,11 +25,13 @@ identity_of group profile schema = record {
   schema = unwrap_or schema (codes "s1");
 }
 
--- a client of the group of this book before the first phase: it has the last id that the group has of it, no ticket and no watch
+-- a client of the group of this book before the first phase: it has the last id that the group has of it, no ticket and
+-- no watch
 pub record IsNew (identity : Identity) (book : Book) (p : Player) : Type 0 where
   pub writes : p.standing.caller.identity ≡ identity
   pub of_book : p.standing.mark.book ≡ book
-  pub last : (before : Known) × IsAnswered script_means before p.standing.mark None (λ s. last_id s p.standing.caller.client ≡ p.standing.caller.last)
+  pub last : (before : Known) × IsAnswered script_means before p.standing.mark None
+      (λ s. last_id s p.standing.caller.client ≡ p.standing.caller.last)
   pub tickets : p.tickets ≡ finite.empty
   pub watches : p.standing.watches ≡ finite.empty
 

@@ -1,5 +1,7 @@
 -- The words of a line, and which of them are names and numbers. Words are parted by one space.
-use Rattle.std.specs.Prelude.{codes, ℕ, ◌^◌, ◌-◌, Bool, ◌&&◌, ◌||◌, not, ◌==◌, nat_lt, nat_le, [], length, drop, slice_index, Option, Some, None, unwrap_or, is_some, Result, Ok, Err, is_ok, if◌then◌else◌}
+use Rattle.std.specs.Prelude.{codes, ℕ, ◌^◌, ◌-◌, Bool, ◌&&◌, ◌||◌, not, ◌==◌, nat_lt, nat_le, [], length, drop}
+use Rattle.std.specs.Prelude.{slice_index, Option, Some, None, unwrap_or, is_some, Result, Ok, Err, is_ok}
+use Rattle.std.specs.Prelude.{if◌then◌else◌}
 use Rattle.std.specs.Char.{is_ascii_alphabetic, is_ascii_alphanumeric}
 use Rattle.std.specs.List.{position_or_len, before_first, after_first, list_all, list_any}
 use Rattle.std.specs.Str.{all_ascii_digits}
@@ -17,7 +19,8 @@ word line = before_first (λ b. b == 32) line
 
 -- what follows the first space, where there is one
 unfoldable pub more : Bytes → Option Bytes
-more line = if nat_lt (position_or_len (λ b. b == 32) line) (length line) then Some (after_first (λ b. b == 32) line) else None
+more line = if nat_lt (position_or_len (λ b. b == 32) line) (length line) then Some
+    (after_first (λ b. b == 32) line) else None
 
 -- what follows, empty where nothing does
 unfoldable pub text : Option Bytes → Bytes
@@ -82,7 +85,8 @@ prefix_said t = if same_text t (codes "-") then [] else t
 
 -- the start of a scan: at the key after `=`, after the key behind `>`
 unfoldable pub start_said : Bytes → Start
-start_said t = if same_text t (codes "-") then Any else (if slice_index t 0 == 61 then At (drop 1 t) else After (drop 1 t))
+start_said t = if same_text t (codes "-") then Any else
+    (if slice_index t 0 == 61 then At (drop 1 t) else After (drop 1 t))
 
 -- the limit of a scan: `-` is none
 unfoldable pub limit_said : Bytes → Option ℕ

@@ -44,7 +44,8 @@ pub(crate) trait Caller {
 
     /// Polls the watch of a name, where there is one.
     fn poll<R: Wait>(&mut self, rt: &R, name: &Text) -> Option<Result<Polled, Refusal>>
-        ensures some { IfSome result (λ reply. IfSome (finite.get (stands self.old).watches name.now) (λ watch. law.may_poll name.now watch (stands self.old) reply (stands self.new))) }
+        ensures some { IfSome result (λ reply. IfSome (finite.get (stands self.old).watches name.now)
+            (λ watch. law.may_poll name.now watch (stands self.old) reply (stands self.new))) }
         ensures there { is_some result ≡ is_some (finite.get (stands self.old).watches name.now) }
         ensures none { IfNone result (stands self.new ≡ stands self.old) }
         ensures group { (stands self.new).mark.book ≡ (stands self.old).mark.book };

@@ -5,7 +5,8 @@ ghost use Rattle.std.specs.FinMap as finite;
 ghost use Rattle.rebase.specs.Queries.{asked, told};
 ghost use Rattle.rebase.specs.Replies.{reply_seen, ticket as replied_ticket};
 ghost use Rattle.rebase.specs.declared.calls.Call.TheVariants as call;
-ghost use Rattle.script_runner.specs.Commanding.{Asks, AsksEnd, AsksMutation, HandsOn, IsBegun, MayBegin, MayEnd, MayLearn, MayPoll, MayPrint, MayWatch};
+ghost use Rattle.script_runner.specs.Commanding.{Asks, AsksEnd, AsksMutation, HandsOn, IsBegun, MayBegin, MayEnd};
+ghost use Rattle.script_runner.specs.Commanding.{MayLearn, MayPoll, MayPrint, MayWatch};
 ghost use Rattle.script_runner.specs.Inside.Players.{player_of};
 ghost use Rattle.script_runner.specs.Printing.{answer_text, polled_text, refreshed_text, replied_text};
 ghost use Rattle.script_runner.specs.Inside.Printing.{reply_text};
@@ -30,7 +31,8 @@ pub(crate) struct Client<C: Drop> {
 
 impl<C: Caller + Drop> Client<C> {
     pub(crate) fn new(alloc: Global, name: &Text, caller: C) -> Result<Client<C>, AllocError>
-        ensures { IfOk result (λ client. player_of C.stands client ≡ record { name = name.now; standing = C.stands caller; tickets = finite.empty }) }
+        ensures { IfOk result (λ client. player_of C.stands client
+            ≡ record { name = name.now; standing = C.stands caller; tickets = finite.empty }) }
     {
         Ok(Client {
             alloc,
@@ -43,7 +45,8 @@ impl<C: Caller + Drop> Client<C> {
     /// Does a command. A refusal is a reply like any other. `seen` is what each client had seen when the phase began.
     pub(crate) fn call<R: Wait>(&mut self, rt: &R, seen: &[C::Seen], command: &Command) -> Reply
         requires { All (λ s. (C.seen_by s).book ≡ (C.stands self.old.caller).mark.book) seen.now }
-        ensures told { MayPrint C.law (map C.seen_by seen.now) (player_of C.stands self.old) command.now (reply_text result) (player_of C.stands self.new) }
+        ensures told { MayPrint C.law (map C.seen_by seen.now) (player_of C.stands self.old) command.now
+            (reply_text result) (player_of C.stands self.new) }
         ensures name { self.new.name ≡ self.old.name }
         ensures group { (C.stands self.new.caller).mark.book ≡ (C.stands self.old.caller).mark.book }
     {
@@ -60,7 +63,8 @@ impl<C: Caller + Drop> Client<C> {
     }
 
     fn query<R: Wait>(&mut self, rt: &R, query: &Query) -> Reply
-        ensures told { HandsOn C.law (Asks query.now) answer_text (player_of C.stands self.old) (reply_text result) (player_of C.stands self.new) }
+        ensures told { HandsOn C.law (Asks query.now) answer_text (player_of C.stands self.old) (reply_text result)
+            (player_of C.stands self.new) }
         ensures name { self.new.name ≡ self.old.name }
         ensures group { (C.stands self.new.caller).mark.book ≡ (C.stands self.old.caller).mark.book }
     {
@@ -69,7 +73,8 @@ impl<C: Caller + Drop> Client<C> {
 
     /// A ticket whose name was given before is replaced, and where this is refused there is none of that name.
     fn begin<R: Wait>(&mut self, rt: &R, name: &Text) -> Reply
-        ensures told { MayBegin C.law name.now (player_of C.stands self.old) (reply_text result) (player_of C.stands self.new) }
+        ensures told { MayBegin C.law name.now (player_of C.stands self.old) (reply_text result)
+            (player_of C.stands self.new) }
         ensures name { self.new.name ≡ self.old.name }
         ensures group { (C.stands self.new.caller).mark.book ≡ (C.stands self.old.caller).mark.book }
     {
@@ -82,7 +87,8 @@ impl<C: Caller + Drop> Client<C> {
 
     /// Keeps a ticket, and hands its body on.
     fn keep(&mut self, name: &Text, ticket: Ticket) -> Reply
-        ensures told { IsBegun self.old.tickets name.now (Ok (replied_ticket (asked ticket))) (reply_text result) self.new.tickets }
+        ensures told { IsBegun self.old.tickets name.now (Ok (replied_ticket (asked ticket)))
+            (reply_text result) self.new.tickets }
         ensures same { (self.new.name ≡ self.old.name) × (self.new.caller ≡ self.old.caller) }
     {
         let Ticket { body, cookie } = ticket;
@@ -100,7 +106,8 @@ impl<C: Caller + Drop> Client<C> {
     }
 
     fn end<R: Wait>(&mut self, rt: &R, name: &Text, body: &Text) -> Reply
-        ensures told { MayEnd C.law (finite.get self.old.tickets name.now) body.now (player_of C.stands self.old) (reply_text result) (player_of C.stands self.new) }
+        ensures told { MayEnd C.law (finite.get self.old.tickets name.now) body.now (player_of C.stands self.old)
+            (reply_text result) (player_of C.stands self.new) }
         ensures name { self.new.name ≡ self.old.name }
         ensures group { (C.stands self.new.caller).mark.book ≡ (C.stands self.old.caller).mark.book }
     {
@@ -116,7 +123,8 @@ impl<C: Caller + Drop> Client<C> {
     }
 
     fn mutate<R: Wait>(&mut self, rt: &R, call: &script::Call) -> Reply
-        ensures told { HandsOn C.law (AsksMutation call.now) answer_text (player_of C.stands self.old) (reply_text result) (player_of C.stands self.new) }
+        ensures told { HandsOn C.law (AsksMutation call.now) answer_text (player_of C.stands self.old)
+            (reply_text result) (player_of C.stands self.new) }
         ensures name { self.new.name ≡ self.old.name }
         ensures group { (C.stands self.new.caller).mark.book ≡ (C.stands self.old.caller).mark.book }
     {
@@ -129,7 +137,8 @@ impl<C: Caller + Drop> Client<C> {
     }
 
     fn refresh<R: Wait>(&mut self, rt: &R) -> Reply
-        ensures told { HandsOn C.law (λ c. c ≡ call.Refresh) refreshed_text (player_of C.stands self.old) (reply_text result) (player_of C.stands self.new) }
+        ensures told { HandsOn C.law (λ c. c ≡ call.Refresh) refreshed_text (player_of C.stands self.old)
+            (reply_text result) (player_of C.stands self.new) }
         ensures name { self.new.name ≡ self.old.name }
         ensures group { (C.stands self.new.caller).mark.book ≡ (C.stands self.old.caller).mark.book }
     {
@@ -144,7 +153,8 @@ impl<C: Caller + Drop> Client<C> {
 
     /// A watch whose name was given before is replaced, and where this is refused there is none of that name.
     fn watch(&mut self, name: &Text, scan: &Scan) -> Reply
-        ensures told { MayWatch name.now scan.now (player_of C.stands self.old) (reply_text result) (player_of C.stands self.new) }
+        ensures told { MayWatch name.now scan.now (player_of C.stands self.old) (reply_text result)
+            (player_of C.stands self.new) }
         ensures name { self.new.name ≡ self.old.name }
         ensures group { (C.stands self.new.caller).mark.book ≡ (C.stands self.old.caller).mark.book }
     {
@@ -155,7 +165,8 @@ impl<C: Caller + Drop> Client<C> {
     }
 
     fn poll<R: Wait>(&mut self, rt: &R, name: &Text) -> Reply
-        ensures told { MayPoll C.law name.now (finite.get (C.stands self.old.caller).watches name.now) (player_of C.stands self.old) (reply_text result) (player_of C.stands self.new) }
+        ensures told { MayPoll C.law name.now (finite.get (C.stands self.old.caller).watches name.now)
+            (player_of C.stands self.old) (reply_text result) (player_of C.stands self.new) }
         ensures name { self.new.name ≡ self.old.name }
         ensures group { (C.stands self.new.caller).mark.book ≡ (C.stands self.old.caller).mark.book }
     {
@@ -167,7 +178,8 @@ impl<C: Caller + Drop> Client<C> {
 
     fn learn(&mut self, seen: &[C::Seen], place: usize) -> Reply
         requires { All (λ s. (C.seen_by s).book ≡ (C.stands self.old.caller).mark.book) seen.now }
-        ensures told { MayLearn C.law (map C.seen_by seen.now) place (player_of C.stands self.old) (reply_text result) (player_of C.stands self.new) }
+        ensures told { MayLearn C.law (map C.seen_by seen.now) place (player_of C.stands self.old) (reply_text result)
+            (player_of C.stands self.new) }
         ensures name { self.new.name ≡ self.old.name }
         ensures group { (C.stands self.new.caller).mark.book ≡ (C.stands self.old.caller).mark.book }
     {

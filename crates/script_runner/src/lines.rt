@@ -2,7 +2,8 @@
 ghost use Rattle.std.specs.Prelude.{◌≡◌, IfOk, is_some, is_none};
 ghost use Rattle.std.specs.Option.{option_copied};
 ghost use Rattle.std.specs.Str.Parse.{digits_value};
-ghost use Rattle.script_runner.specs.Words.{word, more, text, is_word, begins_with_word, is_ticket_name, is_client_name, is_decimal, is_number};
+ghost use Rattle.script_runner.specs.Words.{word, more, text, is_word, begins_with_word, is_ticket_name};
+ghost use Rattle.script_runner.specs.Words.{is_client_name, is_decimal, is_number};
 ghost use Rattle.script_runner.specs.Inside.Faults.{Tests};
 ghost use Rattle.script_runner.specs.declared.faults.ScriptFault.TheVariants as script_fault;
 

@@ -71,7 +71,8 @@ impl Names {
 
     /// Adds one that a line of a client makes.
     pub(crate) fn add(&mut self, client: usize, name: &Text) -> Result<(), AllocError>
-        ensures { OnOk result (map made_said self.new.all.items ≡ map made_said self.old.all.items ++ (client, name.now) ∷ []) }
+        ensures { OnOk result (map made_said self.new.all.items
+            ≡ map made_said self.old.all.items ++ (client, name.now) ∷ []) }
     {
         self.note(client, name)?;
         let name = name.clone()?;

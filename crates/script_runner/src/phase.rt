@@ -34,7 +34,8 @@ impl<C: Caller + Drop> Client<C> {
         printed: &mut Vec<u8>,
     ) -> Result<(), AllocError>
         requires { All (λ s. (C.seen_by s).book ≡ (C.stands self.old.caller).mark.book) seen.now }
-        ensures told { OnOk result (IsTold C.law (map C.seen_by seen.now) (player_of C.stands self.old) (line_said line.now) printed.old.items printed.new.items (player_of C.stands self.new)) }
+        ensures told { OnOk result (IsTold C.law (map C.seen_by seen.now) (player_of C.stands self.old)
+            (line_said line.now) printed.old.items printed.new.items (player_of C.stands self.new)) }
         ensures group { (C.stands self.new.caller).mark.book ≡ (C.stands self.old.caller).mark.book }
     {
         gate.before(self.name.as_str(), line.number);
@@ -55,7 +56,8 @@ impl<C: Caller + Drop> Client<C> {
         lines: &[Line],
     ) -> Result<Vec<u8>, AllocError>
         requires { All (λ s. (C.seen_by s).book ≡ (C.stands self.old.caller).mark.book) seen.now }
-        ensures told { IfOk result (λ text. AreTold C.law (map C.seen_by seen.now) (player_of C.stands self.old) (map line_said lines.now) text.items (player_of C.stands self.new)) }
+        ensures told { IfOk result (λ text. AreTold C.law (map C.seen_by seen.now) (player_of C.stands self.old)
+            (map line_said lines.now) text.items (player_of C.stands self.new)) }
         ensures group { (C.stands self.new.caller).mark.book ≡ (C.stands self.old.caller).mark.book }
     {
         let mut printed = Vec::new(alloc);
@@ -118,7 +120,9 @@ pub(crate) fn run_phase<R: Threads + Wait + Sync, G: Gate, C: Caller + Send + Dr
 ) -> Result<(), AllocError>
     requires lines { length turns.old ≡ length lines.now }
     requires one { (b : Book) × AreOf C.stands b turns.old }
-    ensures phase { OnOk result (All IsPrinted turns.new → IsPhase C.law (lines_said lines.now) (players_of C.stands turns.old) (texts_of turns.new) (players_of C.stands turns.new)) }
+    ensures phase { OnOk result (All IsPrinted turns.new
+        → IsPhase C.law (lines_said lines.now) (players_of C.stands turns.old) (texts_of turns.new)
+        (players_of C.stands turns.new)) }
     ensures group { (b : Book) → AreOf C.stands b turns.old → AreOf C.stands b turns.new }
     ensures count { length turns.new ≡ length turns.old }
 {
@@ -134,7 +138,8 @@ pub(crate) fn run_phase<R: Threads + Wait + Sync, G: Gate, C: Caller + Send + Dr
         &|i, turn| -> ()
             requires place { i < length lines.now }
             requires one { All (λ s. (C.seen_by s).book ≡ (C.stands turn.now.client.caller).mark.book) seen.items }
-            ensures { (l : _) → IsTurn C.law C.stands (map C.seen_by seen.items) (slice_index_or lines.entry.now i l).items turn.entry.now.client turn.exit.now }
+            ensures { (l : _) → IsTurn C.law C.stands (map C.seen_by seen.items)
+                (slice_index_or lines.entry.now i l).items turn.entry.now.client turn.exit.now }
         { turn.play(rt, alloc, gate, &seen, &lines[i]) },
     );
     Ok(())

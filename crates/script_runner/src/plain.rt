@@ -10,7 +10,8 @@ ghost use Rattle.group_history.specs.Queries.{get_at};
 ghost use Rattle.group_history.specs.declared.refusals.Refusal.TheVariants.{NoMemory};
 ghost use Rattle.push_body.specs.Bodies.{push_text};
 ghost use Rattle.rebase.specs.Asking.{end_bytes_reply};
-ghost use Rattle.rebase.specs.Calls.{Caller as Asking, IsReplyTo, asked_mutation, caller, is_query, last_after, reply_to};
+ghost use Rattle.rebase.specs.Calls.{Caller as Asking, IsReplyTo, asked_mutation, caller, is_query, last_after};
+ghost use Rattle.rebase.specs.Calls.{reply_to};
 ghost use Rattle.rebase.specs.Queries.{asked, asked_at, told};
 ghost use Rattle.rebase.specs.Replies.{reply_seen};
 ghost use Rattle.rebase.specs.Watching.{poll_at, poll_reply, watch_after};
@@ -48,7 +49,8 @@ impl Plain {
 
     /// Makes one call of a client with this ID and this last id.
     fn make_call(&mut self, id: &Text, last: u64, call: Call<'_>) -> Result<Reply, Refusal>
-        ensures { IsReplyTo (told reply_seen result) (reply_to script_means (caller self.old.identity id.now last) self.old.group call.entry) }
+        ensures { IsReplyTo (told reply_seen result)
+            (reply_to script_means (caller self.old.identity id.now last) self.old.group call.entry) }
     {
         match call {
             Call::Refresh => Ok(Reply::Id(self.group.last(id))),
@@ -63,7 +65,8 @@ impl Plain {
     /// Makes a call that one reading answers.
     fn query(&self, call: Call<'_>) -> Result<Reply, Refusal>
         requires { is_query call ≡ true }
-        ensures ok { (c : Asking) → IfOk result (λ reply. reply_to script_means c self.now.group call.entry ≡ Ok (reply_seen reply)) }
+        ensures ok { (c : Asking) → IfOk result
+            (λ reply. reply_to script_means c self.now.group call.entry ≡ Ok (reply_seen reply)) }
         ensures err { IsOkUnless result NoMemory }
     {
         match call {
@@ -114,7 +117,8 @@ impl Plain {
     }
 
     fn mutate(&mut self, id: &Text, last: u64, m: Mutate<'_>) -> Result<u64, Refusal>
-        ensures { Answers result (mutate_reply script_means self.old.group last (asked_mutation (caller self.old.identity id.now last) m.entry)) }
+        ensures { Answers result (mutate_reply script_means self.old.group last
+            (asked_mutation (caller self.old.identity id.now last) m.entry)) }
     {
         self.group
             .mutate(&ScriptMutators, id, last, m.name, m.args, m.time)

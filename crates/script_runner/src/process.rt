@@ -5,7 +5,7 @@ ghost use Rattle.script_runner.specs.Inside.Runs.{status_of};
 
 use crate::faults::Fault;
 use crate::phase::Gate;
-use crate::runner::run;
+use crate::runner::run_owned;
 use std::io::{self, Read, Write};
 use std::sync::Wait;
 use std::thread::Threads;
@@ -58,7 +58,7 @@ pub fn program<R: AllocGlobal + Threads + Wait + Sync, I: Read, W: Write, E: Wri
         tell_unread(&error, err);
         return 3;
     }
-    match run(rt, &script, &Open, out) {
+    match run_owned(rt, script, &Open, out) {
         Ok(()) => 0,
         Err(fault) => {
             let _ = writeln!(err, "{fault}");

@@ -2,7 +2,8 @@
 ghost use Rattle.std.specs.Prelude.{◌≡◌, ◌++◌, map, decimal, IfOk, OnOk};
 ghost use Rattle.std.specs.List.{join_with_byte};
 ghost use Rattle.push_body.specs.Bodies.{quoted};
-ghost use Rattle.script_runner.specs.Printing.{row_text, pending_row, array_text, refusal_name, refusal_detail, line_text};
+ghost use Rattle.script_runner.specs.Printing.{row_text, pending_row, array_text, refusal_name, refusal_detail};
+ghost use Rattle.script_runner.specs.Printing.{line_text};
 ghost use Rattle.script_runner.specs.Inside.Printing.{reply_word, reply_detail, reply_text};
 
 use group_history::{Cookie, Ended, Json, Mutation, Refusal, Text};

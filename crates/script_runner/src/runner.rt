@@ -59,7 +59,8 @@ fn write_phase<R: Threads + Wait + Sync, G: Gate, C: Caller + Send + Drop, W: io
 ) -> Result<(), Fault>
     requires lines { length turns.old ≡ vec_len phase.now.lines }
     requires one { (b : Book) × AreOf C.stands b turns.old }
-    ensures phase { OnOk result (IsPhase C.law (phase_said phase.now) (players_of C.stands turns.old) (texts_of turns.new) (players_of C.stands turns.new)) }
+    ensures phase { OnOk result (IsPhase C.law (phase_said phase.now) (players_of C.stands turns.old)
+        (texts_of turns.new) (players_of C.stands turns.new)) }
     ensures text { OnOk result (Appends (W.contents out.old) (W.contents out.new) (concat (texts_of turns.new))) }
     ensures group { (b : Book) → AreOf C.stands b turns.old → AreOf C.stands b turns.new }
     ensures count { length turns.new ≡ length turns.old }
@@ -85,8 +86,11 @@ fn run_phases<R: Threads + Wait + Sync, G: Gate, C: Caller + Send + Drop, W: io:
 ) -> Result<(), Fault>
     requires lines { All (λ p. vec_len p.lines ≡ length turns.old) phases.now }
     requires one { (b : Book) × AreOf C.stands b turns.old }
-    ensures written { OnOk result ((text : _) × AreWritten C.law (players_of C.stands turns.old) (map phase_said phases.now) text (players_of C.stands turns.new) × Appends (W.contents out.old) (W.contents out.new) text) }
-    ensures want { IsWant result → HasWhole C.law (players_of C.stands turns.old) (map phase_said phases.now) (W.contents out.old) (W.contents out.new) }
+    ensures written { OnOk result ((text : _)
+        × AreWritten C.law (players_of C.stands turns.old) (map phase_said phases.now) text
+        (players_of C.stands turns.new) × Appends (W.contents out.old) (W.contents out.new) text) }
+    ensures want { IsWant result → HasWhole C.law (players_of C.stands turns.old) (map phase_said phases.now)
+        (W.contents out.old) (W.contents out.new) }
     ensures fault { IfErr result (λ e. IsOfScript e → ⊥) }
 {
     for phase in phases {
@@ -99,7 +103,8 @@ fn run_phases<R: Threads + Wait + Sync, G: Gate, C: Caller + Send + Drop, W: io:
 fn config_of(alloc: Global, header: &Header) -> Result<Config, AllocError>
     requires seats { vec_len header.now.clients ≤ max_seats }
     requires slots { IfSome header.now.slots (λ n. (16 ≤ n) × (n ≤ max_slots)) }
-    ensures identity { IfOk result (λ config. config.identity ≡ identity_of header.now.group header.now.profile header.now.schema) }
+    ensures identity { IfOk result (λ config. config.identity
+        ≡ identity_of header.now.group header.now.profile header.now.schema) }
     ensures seats { IfOk result (λ config. vec_len header.now.clients ≤ config.seats) }
 {
     let identity = header.identity(alloc)?;
@@ -115,9 +120,12 @@ fn config_of(alloc: Global, header: &Header) -> Result<Config, AllocError>
 fn open_group(alloc: Global, header: &Header) -> Result<(SharedGroup, SharedSeats), Fault>
     requires seats { vec_len header.now.clients ≤ max_seats }
     requires slots { IfSome header.now.slots (λ n. (16 ≤ n) × (n ≤ max_slots)) }
-    ensures identity { IfOk result (λ made. made.0.identity ≡ identity_of header.now.group header.now.profile header.now.schema) }
+    ensures identity { IfOk result (λ made. made.0.identity
+        ≡ identity_of header.now.group header.now.profile header.now.schema) }
     ensures free { IfOk result (λ made. vec_len header.now.clients ≤ length made.1.free.items) }
-    ensures seats { IfOk result (λ made. All (λ seat. (seat.mark.book ≡ made.0.shared.head) × (seat.slots.table ≡ made.0.shared.store.claims)) made.1.free.items) }
+    ensures seats { IfOk result (λ made. All
+        (λ seat. (seat.mark.book ≡ made.0.shared.head) × (seat.slots.table ≡ made.0.shared.store.claims))
+        made.1.free.items) }
     ensures fault { IfErr result (λ e. IsOfScript e → ⊥) }
 {
     let config = config_of(alloc, header)?;
@@ -129,7 +137,8 @@ fn open_group(alloc: Global, header: &Header) -> Result<(SharedGroup, SharedSeat
 
 /// A client before the first phase.
 fn turn_of<C: Caller + Drop>(alloc: Global, name: &Text, caller: C) -> Result<Turn<C>, AllocError>
-    ensures { IfOk result (λ turn. player_of C.stands turn.client ≡ record { name = name.now; standing = C.stands caller; tickets = finite.empty }) }
+    ensures { IfOk result (λ turn. player_of C.stands turn.client
+        ≡ record { name = name.now; standing = C.stands caller; tickets = finite.empty }) }
 {
     let client = Client::new(alloc, name, caller)?;
     Ok(Turn {
@@ -146,11 +155,14 @@ fn open_client<'g>(
     seats: &mut SharedSeats,
 ) -> Result<Turn<SharedClient<'g>>, AllocError>
     requires free { 1 ≤ length seats.old.free.items }
-    requires seats { All (λ seat. (seat.mark.book ≡ group.now.shared.head) × (seat.slots.table ≡ group.now.shared.store.claims)) seats.old.free.items }
+    requires seats { All (λ seat. (seat.mark.book ≡ group.now.shared.head)
+        × (seat.slots.table ≡ group.now.shared.store.claims)) seats.old.free.items }
     ensures left { IfOk result (λ _. length seats.old.free.items ≡ length seats.new.free.items + 1) }
-    ensures seats { IfOk result (λ _. All (λ seat. (seat.mark.book ≡ group.now.shared.head) × (seat.slots.table ≡ group.now.shared.store.claims)) seats.new.free.items) }
+    ensures seats { IfOk result (λ _. All (λ seat. (seat.mark.book ≡ group.now.shared.head)
+        × (seat.slots.table ≡ group.now.shared.store.claims)) seats.new.free.items) }
     ensures name { IfOk result (λ turn. (turn.client.name, turn.client.caller.client.id) ≡ client_said line.now) }
-    ensures new { IfOk result (λ turn. IsNew group.now.identity group.now.shared.head (player_of standing_of turn.client)) }
+    ensures new { IfOk result (λ turn. IsNew group.now.identity group.now.shared.head
+        (player_of standing_of turn.client)) }
 {
     let Ok(seat) = seats.take() else {
         unreachable!()
@@ -170,9 +182,12 @@ fn open_clients<'g>(
     seats: SharedSeats,
 ) -> Result<Vec<Turn<SharedClient<'g>>>, AllocError>
     requires free { length lines.now ≤ length seats.free.items }
-    requires seats { All (λ seat. (seat.mark.book ≡ group.now.shared.head) × (seat.slots.table ≡ group.now.shared.store.claims)) seats.free.items }
-    ensures lines { IfOk result (λ turns. map (λ t. (t.client.name, t.client.caller.client.id)) turns.items ≡ map client_said lines.now) }
-    ensures new { IfOk result (λ turns. All (λ t. IsNew group.now.identity group.now.shared.head (player_of standing_of t.client)) turns.items) }
+    requires seats { All (λ seat. (seat.mark.book ≡ group.now.shared.head)
+        × (seat.slots.table ≡ group.now.shared.store.claims)) seats.free.items }
+    ensures lines { IfOk result (λ turns. map (λ t. (t.client.name, t.client.caller.client.id)) turns.items
+        ≡ map client_said lines.now) }
+    ensures new { IfOk result (λ turns. All
+        (λ t. IsNew group.now.identity group.now.shared.head (player_of standing_of t.client)) turns.items) }
 {
     let mut seats = seats;
     let mut turns = Vec::with_capacity(alloc, lines.len())?;
@@ -194,11 +209,15 @@ fn run_in<R: Threads + Wait + Sync, G: Gate, W: io::Write>(
     out: &mut W,
 ) -> Result<(), Fault>
     requires checked { IsChecked script.now }
-    requires identity { group.now.identity ≡ identity_of script.now.header.group script.now.header.profile script.now.header.schema }
+    requires identity { group.now.identity
+        ≡ identity_of script.now.header.group script.now.header.profile script.now.header.schema }
     requires free { vec_len script.now.header.clients ≤ length seats.free.items }
-    requires seats { All (λ seat. (seat.mark.book ≡ group.now.shared.head) × (seat.slots.table ≡ group.now.shared.store.claims)) seats.free.items }
-    ensures written { (said : Context) → IsScript said script.now → OnOk result (HasRun said (W.contents out.old) (W.contents out.new)) }
-    ensures want { (said : Context) → IsScript said script.now → IsWant result → HasStopped said (W.contents out.old) (W.contents out.new) }
+    requires seats { All (λ seat. (seat.mark.book ≡ group.now.shared.head)
+        × (seat.slots.table ≡ group.now.shared.store.claims)) seats.free.items }
+    ensures written { (said : Context) → IsScript said script.now
+        → OnOk result (HasRun said (W.contents out.old) (W.contents out.new)) }
+    ensures want { (said : Context) → IsScript said script.now → IsWant result
+        → HasStopped said (W.contents out.old) (W.contents out.new) }
     ensures fault { IfErr result (λ e. IsOfScript e → ⊥) }
 {
     let mut turns = open_clients(alloc, &script.header.clients, group, seats)?;
@@ -213,8 +232,10 @@ fn run_shared<R: AllocGlobal + Threads + Wait + Sync, G: Gate, W: io::Write>(
     out: &mut W,
 ) -> Result<(), Fault>
     requires { IsChecked script.now }
-    ensures written { (said : Context) → IsScript said script.now → OnOk result (HasRun said (W.contents out.old) (W.contents out.new)) }
-    ensures want { (said : Context) → IsScript said script.now → IsWant result → HasStopped said (W.contents out.old) (W.contents out.new) }
+    ensures written { (said : Context) → IsScript said script.now
+        → OnOk result (HasRun said (W.contents out.old) (W.contents out.new)) }
+    ensures want { (said : Context) → IsScript said script.now → IsWant result
+        → HasStopped said (W.contents out.old) (W.contents out.new) }
     ensures fault { IfErr result (λ e. IsOfScript e → ⊥) }
 {
     let alloc = rt.alloc();
@@ -234,10 +255,28 @@ pub fn run<R: AllocGlobal + Threads + Wait + Sync, G: Gate, W: io::Write>(
 ) -> Result<(), Fault>
     ensures first { Checks (first_fault script.now) result }
     ensures nothing_written { IfErr result (λ e. IsOfScript e → W.contents out.new ≡ W.contents out.old) }
-    ensures written { OnOk result (IfOk (script_said script.now) (λ said. HasRun said (W.contents out.old) (W.contents out.new))) }
-    ensures want { IsWant result → Keeps (W.contents out.old) (W.contents out.new) ⊎ IfOk (script_said script.now) (λ said. HasStopped said (W.contents out.old) (W.contents out.new)) }
+    ensures written { OnOk result (IfOk (script_said script.now)
+        (λ said. HasRun said (W.contents out.old) (W.contents out.new))) }
+    ensures want { IsWant result → Keeps (W.contents out.old) (W.contents out.new)
+        ⊎ IfOk (script_said script.now) (λ said. HasStopped said (W.contents out.old) (W.contents out.new)) }
 {
     let checked = read_script(rt.alloc(), script)?;
+    run_shared(rt, &checked, gate, out)
+}
+
+/// The same of bytes that are let go once they were read.
+pub(crate) fn run_owned<R: AllocGlobal + Threads + Wait + Sync, G: Gate, W: io::Write>(
+    rt: &R,
+    script: Vec<u8>,
+    gate: &G,
+    out: &mut W,
+) -> Result<(), Fault>
+    ensures first { Checks (first_fault script.items) result }
+    ensures nothing_written { IfErr result (λ e. IsOfScript e → W.contents out.new ≡ W.contents out.old) }
+{
+    let read = read_script(rt.alloc(), &script);
+    drop(script);
+    let checked = read?;
     run_shared(rt, &checked, gate, out)
 }
 

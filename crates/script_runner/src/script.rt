@@ -13,8 +13,10 @@ ghost use Rattle.script_runner.specs.Commands.{bare_command, scan_words};
 ghost use Rattle.script_runner.specs.Inside.Commands.{scan_said};
 ghost use Rattle.script_runner.specs.Faults.{Checks, script_said, first_fault, said_in, lines_of, line_of_bad_byte};
 ghost use Rattle.script_runner.specs.Inside.Faults.{Tests, TestsLine, Reads};
-ghost use Rattle.script_runner.specs.Inside.Parsing.{client_said, line_said, phase_said, context_of, IsScript, IsChecked};
-ghost use Rattle.script_runner.specs.Words.{is_uuid, uuid_said, is_start, start_said, is_limit, limit_said, is_json, json_said};
+ghost use Rattle.script_runner.specs.Inside.Parsing.{client_said, line_said, phase_said, context_of, IsScript};
+ghost use Rattle.script_runner.specs.Inside.Parsing.{IsChecked};
+ghost use Rattle.script_runner.specs.Words.{is_uuid, uuid_said, is_start, start_said, is_limit, limit_said, is_json};
+ghost use Rattle.script_runner.specs.Words.{json_said};
 ghost use Rattle.script_runner.specs.declared.faults.ScriptFault.TheVariants as script_fault;
 ghost use Rattle.script_runner.specs.declared.faults.Fault.TheVariants as fault;
 
@@ -196,9 +198,12 @@ struct Parser {
 
 impl Parser {
     ghost use Rattle.script_runner.specs.Context.{nothing_said};
-    ghost use Rattle.script_runner.specs.Header.{group_line, profile_line, schema_line, slots_line, client_line, header_line};
+    ghost use Rattle.script_runner.specs.Header.{group_line, profile_line, schema_line, slots_line, client_line};
+    ghost use Rattle.script_runner.specs.Header.{header_line};
     ghost use Rattle.script_runner.specs.Inside.Header.{admitted};
-    ghost use Rattle.script_runner.specs.Commands.{phase_line, get_line, has_line, scan_line, begin_line, end_line, watch_line, poll_line, mutate_line, learn_line, bare_line, look_line, named_command, command_of, with_line, command_line};
+    ghost use Rattle.script_runner.specs.Commands.{phase_line, get_line, has_line, scan_line, begin_line, end_line};
+    ghost use Rattle.script_runner.specs.Commands.{watch_line, poll_line, mutate_line, learn_line, bare_line};
+    ghost use Rattle.script_runner.specs.Commands.{look_line, named_command, command_of, with_line, command_line};
     ghost use Rattle.script_runner.specs.Faults.{said_with, words_line};
     ghost use Rattle.script_runner.specs.Inside.Faults.{Follows, Tells};
 
@@ -603,7 +608,8 @@ impl Phase {
 
     /// Adds a line at the end of those of a client.
     fn keep(&mut self, client: usize, line: Line) -> Result<(), AllocError>
-        ensures { OnOk result (phase_said self.new ≡ changed_at client (λ lines. lines ++ line_said line ∷ []) (phase_said self.old)) }
+        ensures { OnOk result (phase_said self.new
+            ≡ changed_at client (λ lines. lines ++ line_said line ∷ []) (phase_said self.old)) }
     {
         let Some(lines) = self.lines.get_mut(client) else {
             drop(line);

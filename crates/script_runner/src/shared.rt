@@ -16,7 +16,9 @@ use std::alloc::Global;
 pub(crate) struct SharedClient<'g> {
     pub(crate) client: Client<'g, ScriptMutators, Arena<ScriptMutators>>,
     pub(crate) watches: TextMap<Watch<ScriptMutators>>,
-    ghost of_group: { (name : Bytes) (watch : Watched) → finite.get watches name ≡ Some watch → watch.book ≡ client.mark.book } by { Π_prop (λ name. Π_prop (λ watch. →_prop (Prim.hlevel (codes, Coded-set)))) },
+    ghost of_group: { (name : Bytes) (watch : Watched) → finite.get watches name ≡ Some watch
+        → watch.book ≡ client.mark.book } by { Π_prop
+            (λ name. Π_prop (λ watch. →_prop (Prim.hlevel (codes, Coded-set)))) },
 }
 
 impl<'g> SharedClient<'g> {

@@ -1,5 +1,6 @@
 -- The draft of a first pull, where it was placed.
-use Rattle.std.proofs.Common.{◌≡◌, ℕ, ◌≤◌, length, List, [], ◌∷◌, ◌++◌, Some, refl, ap, sym, ◌∙◌, subst, arith, length-append}
+use Rattle.std.proofs.Common.{◌≡◌, ℕ, ◌≤◌, length, List, [], ◌∷◌, ◌++◌, Some, refl, ap, sym, ◌∙◌, subst, arith}
+use Rattle.std.proofs.Common.{length-append}
 use Rattle.std.specs.Prelude.{option_and_then, option_map}
 use Rattle.std.specs.FinMap as finite
 use mathlib.Core.List.{IsPrefix}
@@ -33,13 +34,25 @@ leaf_there : (r : Ref) → segment_at (with_leaf r) 2 ≡ Some (record { depth =
 leaf_there r = refl
 
 -- behind the opening's contents the draft spells the state after the pull
-bare_spells : (r root : Ref) (cookie : Cookie) → stamp_of root ≡ 2 → Spells no_mutators (with_nodes (drawn (opening r)) (bare_draft cookie root).nodes) 3 (after_change opening_state (bare_pull cookie))
+bare_spells : (r root : Ref) (cookie : Cookie) → stamp_of root ≡ 2
+    → Spells no_mutators (with_nodes (drawn (opening r)) (bare_draft cookie root).nodes) 3
+    (after_change opening_state (bare_pull cookie))
 bare_spells r root cookie at_leaf =
-    let content : Node ℕ = node.Commit (record { root = stamp_of root; kind = Snapshot (record { cookie = cookie; confirmed = finite.empty }) }) in
+    let content : Node ℕ = node.Commit (record {
+      root = stamp_of root;
+      kind = Snapshot (record { cookie = cookie; confirmed = finite.empty });
+    }) in
     let cs = with_leaf r in
-    let map : map_in (spelled cs) (stamp_of root) ≡ Some finite.empty = ap (map_in (spelled cs)) at_leaf ∙ (ap (option_and_then map_of) (leaf_there r) ∙ ap Some empty_map) in
+    let map : map_in (spelled cs) (stamp_of root)
+    ≡ Some finite.empty = ap (map_in (spelled cs)) at_leaf ∙
+    (ap (option_and_then map_of) (leaf_there r) ∙ ap Some empty_map) in
     version-newest cs content
-    ∙ ap (λ o. option_and_then as_version (option_map (λ v. version v (length (spelled cs))) (option_and_then (λ m. Some (record { state = after_change (record opening_state { pulled = m }) (bare_pull cookie); read = m })) o))) map
+    ∙ ap (λ o. option_and_then as_version (option_map (λ v. version v (length (spelled cs)))
+    (option_and_then (λ m. Some (record {
+      state = after_change (record opening_state { pulled = m })
+          (bare_pull cookie);
+      read = m;
+    })) o))) map
 
 -- the contents with which every book begins
 begins : (log : List Entry) → StartsOpened log → (r : Ref) × IsPrefix (drawn (opening r)) (drawn log)
@@ -52,9 +65,13 @@ two_drawn log starts =
     let b = begins log starts in
     omega (arith, sym (ap length b.1.1) ∙ length-append (drawn (opening b.0)) b.1.0)
 
-pub bare_placed : (old new : List Entry) (cookie : Cookie) (draft : Drafted) (refs : List Ref) → PlacingLaws → StartsOpened old → (root : Ref) × (stamp_of root ≡ 2) × (draft ≡ bare_draft cookie root) → IsPlaced (drawn old) (drawn new) draft refs → PlacesBare new refs cookie
+pub bare_placed : (old new : List Entry) (cookie : Cookie) (draft : Drafted) (refs : List Ref) → PlacingLaws
+    → StartsOpened old → (root : Ref) × (stamp_of root ≡ 2) × (draft ≡ bare_draft cookie root)
+    → IsPlaced (drawn old) (drawn new) draft refs → PlacesBare new refs cookie
 bare_placed old new cookie draft refs laws starts is placed =
     let b = begins old starts in
     let d = bare_draft cookie is.0 in
     let placed' = subst (λ (d : Drafted). IsPlaced (drawn old) (drawn new) d refs) is.2 placed in
-    λ at third. laws.spelled (drawn old) (drawn new) d refs placed' (drawn (opening b.0)) b.1 refl at _ (subst (λ k. Spells no_mutators (with_nodes (drawn (opening b.0)) d.nodes) k (after_change opening_state (bare_pull cookie))) (sym third) (bare_spells b.0 is.0 cookie is.1))
+    λ at third. laws.spelled (drawn old) (drawn new) d refs placed' (drawn (opening b.0)) b.1 refl at _
+    (subst (λ k. Spells no_mutators (with_nodes (drawn (opening b.0)) d.nodes) k
+    (after_change opening_state (bare_pull cookie))) (sym third) (bare_spells b.0 is.0 cookie is.1))

@@ -12,15 +12,19 @@ use Rattle.head_word.proofs.Books.{drawn_more}
 use Rattle.shared_tests.specs.Trials.{HasLeaf}
 
 -- a node that was drafted alone is the content of its stamp
-pub node_drawn : (log log' : List Entry) (by : Option ℕ) (first : ℕ) (n : Node Child) (nodes : List (Node Child)) → nodes ≡ n ∷ [] → next_stamp log ≡ first
+pub node_drawn : (log log' : List Entry) (by : Option ℕ) (first : ℕ) (n : Node Child) (nodes : List (Node Child))
+    → nodes ≡ n ∷ [] → next_stamp log ≡ first
     → log' ≡ log ++ drafted by first nodes ∷ [] → slice_get (drawn log') first ≡ Some (drafted_content first n)
 node_drawn log log' by first n nodes one at is =
     let grown : drawn log' ≡ drawn log ++ drafted_content first n ∷ [] =
-    ap drawn is ∙ drawn_more log (drafted by first nodes ∷ []) ∙ ap (λ (ns : List (Node Child)). drawn log ++ drawn (drafted by first ns ∷ [])) one in
+    ap drawn is ∙ drawn_more log (drafted by first nodes ∷ []) ∙ ap
+    (λ (ns : List (Node Child)). drawn log ++ drawn (drafted by first ns ∷ [])) one in
     subst (λ w. slice_get w first ≡ Some (drafted_content first n)) (sym grown)
-    (subst (λ k. slice_get (drawn log ++ drafted_content first n ∷ []) k ≡ Some (drafted_content first n)) at (seam (drawn log) (drafted_content first n) []))
+    (subst (λ k. slice_get (drawn log ++ drafted_content first n ∷ []) k ≡ Some (drafted_content first n)) at
+    (seam (drawn log) (drafted_content first n) []))
 
-pub leaf_drawn : (log log' : List Entry) (by : Option ℕ) (first : ℕ) (nodes : List (Node Child)) → nodes ≡ empty_leaf ∷ [] → next_stamp log ≡ first
+pub leaf_drawn : (log log' : List Entry) (by : Option ℕ) (first : ℕ) (nodes : List (Node Child))
+    → nodes ≡ empty_leaf ∷ [] → next_stamp log ≡ first
     → log' ≡ log ++ drafted by first nodes ∷ [] → HasLeaf log' first
 leaf_drawn log log' by first nodes one at is = node_drawn log log' by first empty_leaf nodes one at is
 

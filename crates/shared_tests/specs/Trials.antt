@@ -1,4 +1,5 @@
--- What the tests try: a group without mutators, whose first pull brings a cookie and nothing else, and in which empty leaves are drafted.
+-- What the tests try: a group without mutators, whose first pull brings a cookie and nothing else, and in which empty
+-- leaves are drafted.
 use Rattle.std.specs.Prelude.{ℕ, ◌≡◌, List, [], ◌∷◌, Some, slice_get}
 use Rattle.std.specs.FinMap as finite
 use Rattle.group_history.specs.declared.changes.Change.{Change}
@@ -28,7 +29,10 @@ no_mutators name args why m = unknown
 
 -- the snapshot of an empty map under a cookie, over the leaf that `root` names
 abbrev pub bare : Cookie → Ref → Node Ref
-bare cookie root = node.Commit (record { root = root; kind = Snapshot (record { cookie = cookie; confirmed = finite.empty }) })
+bare cookie root = node.Commit (record {
+  root = root;
+  kind = Snapshot (record { cookie = cookie; confirmed = finite.empty });
+})
 
 abbrev pub bare_pull : Cookie → Change
 bare_pull cookie = Pulled null_cookie (record { cookie = cookie; changes = []; patch = [] })

@@ -1,5 +1,6 @@
 -- What is shown through a copy of known nodes.
-use Rattle.std.proofs.Common.{◌≡◌, ℕ, [], ◌∷◌, ◌++◌, length, take, drop, Some, slice_get, refl, sym, ap, ◌∙◌, subst, append-nil}
+use Rattle.std.proofs.Common.{◌≡◌, ℕ, [], ◌∷◌, ◌++◌, length, take, drop, Some, slice_get, refl, sym, ap, ◌∙◌, subst}
+use Rattle.std.proofs.Common.{append-nil}
 use Rattle.std.proofs.Math.Seq.{take-append_seam}
 use Rattle.std.proofs.lemmas.List.{take-append-drop}
 use Rattle.std.specs.Prelude.{IsSome}
@@ -18,41 +19,57 @@ use Rattle.commits.proofs.Spelled.{segment-grown, version-grown}
 use Rattle.commits.proofs.Chained.{get_stays}
 
 -- what lies at a stamp lies there in a longer list too
-same_content : (ns more : Contents) (k : ℕ) (n m : Node ℕ) → IsPrefix ns more → slice_get ns k ≡ Some n → slice_get more k ≡ Some m → slice_get ns k ≡ Some m
+same_content : (ns more : Contents) (k : ℕ) (n m : Node ℕ) → IsPrefix ns more → slice_get ns k ≡ Some n
+    → slice_get more k ≡ Some m → slice_get ns k ≡ Some m
 same_content ns more k n m p h g = h ∙ (sym (get_stays ns more k n p h) ∙ g)
 
 -- contents of which others are the beginning
 pub begins : (known old : Contents) → take (length known) old ≡ known → IsPrefix known old
-begins known old h = (drop (length known) old, ap (λ (w : Contents). w ++ drop (length known) old) (sym h) ∙ take-append-drop (length known) old)
+begins known old h = (
+  drop (length known) old,
+  ap (λ (w : Contents). w ++ drop (length known) old) (sym h) ∙ take-append-drop (length known) old,
+)
 
-pub begun_on : (known old new : Contents) → take (length known) old ≡ known → IsPrefix old new → take (length known) new ≡ known
-begun_on known old new h p = let b = prefix_trans known old new (begins known old h) p in ap (take (length known)) (sym b.1) ∙ take-append_seam known b.0
+pub begun_on : (known old new : Contents) → take (length known) old ≡ known → IsPrefix old new
+    → take (length known) new ≡ known
+begun_on known old new h p = let b = prefix_trans known old new (begins known old h) p in
+    ap (take (length known)) (sym b.1) ∙ take-append_seam known b.0
 
 pub begun_same : (known old : Contents) → old ≡ known → take (length known) old ≡ known
-begun_same known old e = begun_on known known old (ap (take (length known)) (sym (append-nil known)) ∙ take-append_seam known []) ([], append-nil known ∙ sym e)
+begun_same known old e = begun_on known known old
+    (ap (take (length known)) (sym (append-nil known)) ∙ take-append_seam known []) ([], append-nil known ∙ sym e)
 
-pub known_chunk : (known old new : Contents) (k : ℕ) (x : Chunk Ref) → take (length known) old ≡ known → IsPrefix old new → IsSome (segment_at known k) → slice_get new k ≡ Some (chunk_content x) → slice_get known k ≡ Some (chunk_content x)
+pub known_chunk : (known old new : Contents) (k : ℕ) (x : Chunk Ref) → take (length known) old ≡ known
+    → IsPrefix old new → IsSome (segment_at known k) → slice_get new k ≡ Some (chunk_content x)
+    → slice_get known k ≡ Some (chunk_content x)
 known_chunk known old new k x b p h g =
     let s = some_of (segment_at known k) h in
     let c = segment-content known k s.0 s.1 in
     same_content known new k _ (chunk_content x) (prefix_trans known old new (begins known old b) p) c.2 g
 
-pub known_commit : (known old new : Contents) (k : ℕ) (x : Commit Ref) → take (length known) old ≡ known → IsPrefix old new → IsSome (version_at known k) → slice_get new k ≡ Some (commit_content x) → slice_get known k ≡ Some (commit_content x)
+pub known_commit : (known old new : Contents) (k : ℕ) (x : Commit Ref) → take (length known) old ≡ known
+    → IsPrefix old new → IsSome (version_at known k) → slice_get new k ≡ Some (commit_content x)
+    → slice_get known k ≡ Some (commit_content x)
 known_commit known old new k x b p h g =
     let v = some_of (version_at known k) h in
     let c = version-content known k v.0 v.1 in
     same_content known new k _ (commit_content x) (prefix_trans known old new (begins known old b) p) c.2 g
 
-pub still_segment : (known old : Contents) (k : ℕ) → take (length known) old ≡ known → IsSome (segment_at known k) → IsSome (segment_at old k)
-still_segment known old k b h = let s = some_of (segment_at known k) h in subst IsSome (sym (segment-grown known old k s.0 (begins known old b) s.1)) refl
+pub still_segment : (known old : Contents) (k : ℕ) → take (length known) old ≡ known → IsSome (segment_at known k)
+    → IsSome (segment_at old k)
+still_segment known old k b h = let s = some_of (segment_at known k) h in
+    subst IsSome (sym (segment-grown known old k s.0 (begins known old b) s.1)) refl
 
-pub still_version : (known old : Contents) (k : ℕ) → take (length known) old ≡ known → IsSome (version_at known k) → IsSome (version_at old k)
-still_version known old k b h = let v = some_of (version_at known k) h in subst IsSome (sym (version-grown known old k v.0 (begins known old b) v.1)) refl
+pub still_version : (known old : Contents) (k : ℕ) → take (length known) old ≡ known → IsSome (version_at known k)
+    → IsSome (version_at old k)
+still_version known old k b h = let v = some_of (version_at known k) h in
+    subst IsSome (sym (version-grown known old k v.0 (begins known old b) v.1)) refl
 
 -- a reference alone
 pub one_may : (may : Ref → Type 0) (at : Ref) → may at → AreAll may (at ∷ [])
 one_may may at h r i = subst may (only_one at r i) h
 
 -- what is made of equal parts is equal, where a fact beside them holds in one way at most
-pub same_made : {A S : Type 0} (P : A → Type 0) (mk : (a : A) → P a → S) (one : (a : A) → IsProp (P a)) (a b : A) (p : P a) (q : P b) → b ≡ a → mk b q ≡ mk a p
+pub same_made : {A S : Type 0} (P : A → Type 0) (mk : (a : A) → P a → S) (one : (a : A) → IsProp (P a)) (a b : A)
+    (p : P a) (q : P b) → b ≡ a → mk b q ≡ mk a p
 same_made P mk one a b p q e = subst (λ z. (r : P z) → mk z r ≡ mk a p) (sym e) (λ r. ap (mk a) (one a r p)) q

@@ -11,7 +11,8 @@ some_version None h = absurd (cc h)
 some_version (Some v) h = refl
 
 -- the version stays
-pub version-same : (old new : Contents) (head root : ℕ) → IsPrefix old new → IsRead old head root → read_version new head ≡ read_version old head
+pub version-same : (old new : Contents) (head root : ℕ) → IsPrefix old new → IsRead old head root
+    → read_version new head ≡ read_version old head
 version-same old new head root p r = ap version_or (version-grown old new head (read_version old head) p r.version)
 
 -- and so does what is kept
@@ -24,7 +25,8 @@ read-kept old new head root p r =
     }
 
 -- a commit and its root that were just read
-pub read-opened : (old new : Contents) (head root : ℕ) → IsPrefix old new → IsSome (version_at old head) → ((v : Version) → version_at old head ≡ Some v → map_at new root ≡ Some v.read) → IsRead new head root
+pub read-opened : (old new : Contents) (head root : ℕ) → IsPrefix old new → IsSome (version_at old head)
+    → ((v : Version) → version_at old head ≡ Some v → map_at new root ≡ Some v.read) → IsRead new head root
 read-opened old new head root p h at =
     let v = read_version old head in
     let is = some_version (version_at old head) h in
@@ -32,11 +34,13 @@ read-opened old new head root p h at =
     let same : read_version new head ≡ v = ap version_or later in
     record { version = later ∙ ap Some (sym same); map = at v is ∙ ap (λ (w : Version). Some w.read) (sym same) }
 
-pub read-version : (old new : Contents) (head : ℕ) (v : Version) → IsPrefix old new → version_at old head ≡ Some v → read_version new head ≡ v
+pub read-version : (old new : Contents) (head : ℕ) (v : Version) → IsPrefix old new → version_at old head ≡ Some v
+    → read_version new head ≡ v
 read-version old new head v p h = ap version_or (version-grown old new head v p h)
 
 -- a commit and its root that are known
-pub read-is : (cs : Contents) (head root : ℕ) (v : Version) → version_at cs head ≡ Some v → map_at cs root ≡ Some v.read → IsRead cs head root
+pub read-is : (cs : Contents) (head root : ℕ) (v : Version) → version_at cs head ≡ Some v → map_at cs root ≡ Some v.read
+    → IsRead cs head root
 read-is cs head root v is at =
     let same : read_version cs head ≡ v = ap version_or is in
     record { version = is ∙ ap Some (sym same); map = at ∙ ap (λ (w : Version). Some w.read) (sym same) }

@@ -18,24 +18,33 @@ some_map None h = absurd (cc h)
 some_map (Some m) h = refl
 
 -- what is shown stays where more is known to be placed
-pub shown-kept : (old new : Contents) (t : Tree) → IsPrefix old new → IsSome (tree_map old t) → shown_map new t ≡ shown_map old t
+pub shown-kept : (old new : Contents) (t : Tree) → IsPrefix old new → IsSome (tree_map old t)
+    → shown_map new t ≡ shown_map old t
 shown-kept old new t p h = ap map_or (root_kept old new t.root (shown_map old t) p (some_map (tree_map old t) h))
 
 -- a change that is done
-pub shown-changed : {A E : Type 0} (r : Result A E) (old new : Contents) (t u : Tree) (f : Entries → Entries) → IsSome (tree_map old t)
-    → ((m : Entries) → tree_map old t ≡ Some m → OnOk r (tree_map new u ≡ Some (f m))) → OnOk r (shown_map new u ≡ f (shown_map old t))
+pub shown-changed : {A E : Type 0} (r : Result A E) (old new : Contents) (t u : Tree) (f : Entries → Entries)
+    → IsSome (tree_map old t)
+    → ((m : Entries) → tree_map old t ≡ Some m → OnOk r (tree_map new u ≡ Some (f m)))
+    → OnOk r (shown_map new u ≡ f (shown_map old t))
 shown-changed r old new t u f h g = on_ok r (g (shown_map old t) (some_map (tree_map old t) h)) (λ e. ap map_or e)
 
 -- a change that stops
-pub shown-stopped : {A E : Type 0} (r : Result A E) (old new : Contents) (t u : Tree) → IsPrefix old new → IsSome (tree_map old t) → OnErr r (u ≡ t) → OnErr r (shown_map new u ≡ shown_map old t)
+pub shown-stopped : {A E : Type 0} (r : Result A E) (old new : Contents) (t u : Tree) → IsPrefix old new
+    → IsSome (tree_map old t) → OnErr r (u ≡ t) → OnErr r (shown_map new u ≡ shown_map old t)
 shown-stopped r old new t u p h e = on_err r e (λ is. ap (λ (w : Tree). shown_map new w) is ∙ shown-kept old new t p h)
 
 -- in both cases a map is there
-pub shown-there : {A E : Type 0} (r : Result A E) (old new : Contents) (t u : Tree) (f : Entries → Entries) → IsPrefix old new → IsSome (tree_map old t)
-    → ((m : Entries) → tree_map old t ≡ Some m → OnOk r (tree_map new u ≡ Some (f m))) → OnErr r (u ≡ t) → IsSome (tree_map new u)
+pub shown-there : {A E : Type 0} (r : Result A E) (old new : Contents) (t u : Tree) (f : Entries → Entries)
+    → IsPrefix old new → IsSome (tree_map old t)
+    → ((m : Entries) → tree_map old t ≡ Some m → OnOk r (tree_map new u ≡ Some (f m))) → OnErr r (u ≡ t)
+    → IsSome (tree_map new u)
 shown-there r old new t u f p h g e =
-    either_way r (g (shown_map old t) (some_map (tree_map old t) h)) e (λ is. subst IsSome (sym is) refl) (λ is. subst (λ (w : Tree). IsSome (tree_map new w)) (sym is) (kept_there old new t.root p h))
+    either_way r (g (shown_map old t) (some_map (tree_map old t) h)) e (λ is. subst IsSome (sym is) refl)
+    (λ is. subst (λ (w : Tree). IsSome (tree_map new w)) (sym is) (kept_there old new t.root p h))
 
 -- what a changed tree names may be looked for, in both cases
-pub places-there : {A E : Type 0} (r : Result A E) (may : Ref → Type 0) (t u : Tree) → AreAll may (tree_places t) → OnOk r (AreKept may (tree_places t) (tree_places u)) → OnErr r (u ≡ t) → AreAll may (tree_places u)
-places-there r may t u all kept e = either_way r kept e (λ k. all_kept may (tree_places t) (tree_places u) all k) (λ is. subst (λ (w : Tree). AreAll may (tree_places w)) (sym is) all)
+pub places-there : {A E : Type 0} (r : Result A E) (may : Ref → Type 0) (t u : Tree) → AreAll may (tree_places t)
+    → OnOk r (AreKept may (tree_places t) (tree_places u)) → OnErr r (u ≡ t) → AreAll may (tree_places u)
+places-there r may t u all kept e = either_way r kept e (λ k. all_kept may (tree_places t) (tree_places u) all k)
+    (λ is. subst (λ (w : Tree). AreAll may (tree_places w)) (sym is) all)

@@ -1,7 +1,8 @@
 //! A commit that is read.
 //!
 //! The type's invariant is that the head's stamp spells a version and the root's stamp the map of it
-//! (`IsRead`), and that a node may be looked for at either. Contracts see the version, which no call changes, and what is known to be placed, which may
+//! (`IsRead`), and that a node may be looked for at either. Contracts see the version, which no call changes, and what
+//! is known to be placed, which may
 //! grow with each call, also with one that stops.
 ghost use Rattle.std.specs.Prelude.{◌≡◌, ◌⊎◌, ◌==◌, length, Some, IfOk, IfErr, IsSome};
 ghost use mathlib.Core.List.{IsPrefix};
@@ -38,11 +39,19 @@ impl<N: Nodes> Model for ReadTx<N> {
 
     ghost Value = { Read };
 
-    ghost coded = { Prim.hlevel (codes, finite.code {R = slice_cmp nat_cmp} (coded_list coded_ℕ) (coded_list coded_ℕ), finite.code {R = slice_cmp nat_cmp} (coded_list coded_ℕ) coded_ℕ) };
+    ghost coded = { Prim.hlevel (
+      codes,
+      finite.code {R = slice_cmp nat_cmp} (coded_list coded_ℕ) (coded_list coded_ℕ),
+      finite.code {R = slice_cmp nat_cmp} (coded_list coded_ℕ) coded_ℕ,
+    ) };
 
-    ghost view = { λ tx. record { contents = N.contents tx.nodes; version = read_version (N.contents tx.nodes) (stamp_of tx.head) } };
+    ghost view = { λ tx. record {
+      contents = N.contents tx.nodes;
+      version = read_version (N.contents tx.nodes) (stamp_of tx.head);
+    } };
 
-    ghost invariant = { λ tx. IsRead (N.contents tx.nodes) (stamp_of tx.head) (stamp_of tx.root) × N.places tx.nodes tx.head × N.places tx.nodes tx.root };
+    ghost invariant = { λ tx. IsRead (N.contents tx.nodes) (stamp_of tx.head) (stamp_of tx.root)
+        × N.places tx.nodes tx.head × N.places tx.nodes tx.root };
 }
 
 impl<N: Nodes> ReadTx<N> {
@@ -50,7 +59,8 @@ impl<N: Nodes> ReadTx<N> {
     pub fn open(alloc: Global, nodes: N, head: Ref) -> Result<ReadTx<N>, (N, Stop)>
         requires known { IsSome (version_at (N.contents nodes) (stamp_of head)) }
         requires place { N.places nodes head }
-        ensures version { (v : Version) → version_at (N.contents nodes) (stamp_of head) ≡ Some v → IfOk result (λ tx. tx.version ≡ v) }
+        ensures version { (v : Version) → version_at (N.contents nodes) (stamp_of head) ≡ Some v
+            → IfOk result (λ tx. tx.version ≡ v) }
         ensures grown { IfOk result (λ tx. IsPrefix (N.contents nodes) tx.contents) }
         ensures back { IfErr result (λ e. Grows N.contents N.places nodes e.0) }
         ensures stopped { IfErr result (λ e. N.stops e.1) }
@@ -69,7 +79,8 @@ impl<N: Nodes> ReadTx<N> {
 
     /// Reads a commit whose root is known. Looks at nothing.
     pub fn at(alloc: Global, nodes: N, head: Ref, root: Ref) -> ReadTx<N>
-        requires read { (v : Version) × (version_at (N.contents nodes) (stamp_of head) ≡ Some v) × (map_at (N.contents nodes) (stamp_of root) ≡ Some v.read) }
+        requires read { (v : Version) × (version_at (N.contents nodes) (stamp_of head) ≡ Some v)
+            × (map_at (N.contents nodes) (stamp_of root) ≡ Some v.read) }
         requires places { N.places nodes head × N.places nodes root }
         ensures version { (v : Version) → version_at (N.contents nodes) (stamp_of head) ≡ Some v → result.version ≡ v }
         ensures contents { result.contents ≡ N.contents nodes }

@@ -1,7 +1,8 @@
 //! A map that is written.
 //!
 //! The type's invariant is that the tree spells a map, given what is known to be placed, and that each
-//! chunk that it names may be looked for: this map is what the transaction shows. A look at a chunk may teach more of what is placed, which changes no map; a look
+//! chunk that it names may be looked for: this map is what the transaction shows. A look at a chunk may teach more of
+//! what is placed, which changes no map; a look
 //! and a call that stops leave the tree itself, so they make no chunk new.
 ghost use Rattle.std.specs.Prelude.{◌≡◌, ◌⊎◌, ◌+◌, ◌≤◌, ℕ, Some, None, IsSome, IfOk, IfErr, OnOk, OnErr};
 ghost use Rattle.std.specs.FinMap as finite;
@@ -73,8 +74,10 @@ impl<C: Chunks> WriteView for WriteTx<C> {
     ghost stops = { λ stop. (stop ≡ NoMemory) ⊎ C.stops stop };
 
     fn get(&mut self, key: &str) -> Result<Option<Json>, Stop>
-        ensures value { IfOk result (λ found. found ≡ finite.get (shown_map (C.contents self.old.chunks) self.old.tree) key.now) }
-        ensures kept { shown_map (C.contents self.new.chunks) self.new.tree ≡ shown_map (C.contents self.old.chunks) self.old.tree }
+        ensures value { IfOk result (λ found. found
+            ≡ finite.get (shown_map (C.contents self.old.chunks) self.old.tree) key.now) }
+        ensures kept { shown_map (C.contents self.new.chunks) self.new.tree
+            ≡ shown_map (C.contents self.old.chunks) self.old.tree }
         ensures tree { self.new.tree ≡ self.old.tree }
         ensures grown { Grows C.contents C.places self.old.chunks self.new.chunks }
         ensures stopped { IfErr result (λ stop. (stop ≡ NoMemory) ⊎ C.stops stop) }
@@ -83,8 +86,10 @@ impl<C: Chunks> WriteView for WriteTx<C> {
     }
 
     fn has(&mut self, key: &str) -> Result<bool, Stop>
-        ensures value { IfOk result (λ found. found ≡ finite.contains_key (shown_map (C.contents self.old.chunks) self.old.tree) key.now) }
-        ensures kept { shown_map (C.contents self.new.chunks) self.new.tree ≡ shown_map (C.contents self.old.chunks) self.old.tree }
+        ensures value { IfOk result (λ found. found
+            ≡ finite.contains_key (shown_map (C.contents self.old.chunks) self.old.tree) key.now) }
+        ensures kept { shown_map (C.contents self.new.chunks) self.new.tree
+            ≡ shown_map (C.contents self.old.chunks) self.old.tree }
         ensures tree { self.new.tree ≡ self.old.tree }
         ensures grown { Grows C.contents C.places self.old.chunks self.new.chunks }
         ensures stopped { IfErr result (λ stop. (stop ≡ NoMemory) ⊎ C.stops stop) }
@@ -93,8 +98,10 @@ impl<C: Chunks> WriteView for WriteTx<C> {
     }
 
     fn scan(&mut self, scan: &Scan) -> Result<Vec<(Text, Json)>, Stop>
-        ensures value { IfOk result (λ rows. rows.items ≡ rows_of scan.now (shown_map (C.contents self.old.chunks) self.old.tree)) }
-        ensures kept { shown_map (C.contents self.new.chunks) self.new.tree ≡ shown_map (C.contents self.old.chunks) self.old.tree }
+        ensures value { IfOk result (λ rows. rows.items
+            ≡ rows_of scan.now (shown_map (C.contents self.old.chunks) self.old.tree)) }
+        ensures kept { shown_map (C.contents self.new.chunks) self.new.tree
+            ≡ shown_map (C.contents self.old.chunks) self.old.tree }
         ensures tree { self.new.tree ≡ self.old.tree }
         ensures grown { Grows C.contents C.places self.old.chunks self.new.chunks }
         ensures stopped { IfErr result (λ stop. (stop ≡ NoMemory) ⊎ C.stops stop) }
@@ -103,15 +110,25 @@ impl<C: Chunks> WriteView for WriteTx<C> {
     }
 
     fn put(&mut self, key: &str, value: &Json) -> Result<(), Stop>
-        ensures ok { OnOk result (shown_map (C.contents self.new.chunks) self.new.tree ≡ finite.insert (shown_map (C.contents self.old.chunks) self.old.tree) key.now value.now) }
-        ensures err { OnErr result (shown_map (C.contents self.new.chunks) self.new.tree ≡ shown_map (C.contents self.old.chunks) self.old.tree) }
+        ensures ok { OnOk result (shown_map (C.contents self.new.chunks) self.new.tree
+            ≡ finite.insert (shown_map (C.contents self.old.chunks) self.old.tree) key.now value.now) }
+        ensures err { OnErr result (shown_map (C.contents self.new.chunks) self.new.tree
+            ≡ shown_map (C.contents self.old.chunks) self.old.tree) }
         ensures tree { OnErr result (self.new.tree ≡ self.old.tree) }
-        ensures same { finite.get (shown_map (C.contents self.old.chunks) self.old.tree) key.now ≡ Some value.now → OnOk result (self.new.tree ≡ self.old.tree) }
-        ensures few { (d : ℕ) → tree_depth (C.contents self.old.chunks) self.old.tree ≡ Some d → OnOk result (tree_fresh self.new.tree ≤ tree_fresh self.old.tree + d + d + 1) }
-        ensures replaced { (d : ℕ) → tree_depth (C.contents self.old.chunks) self.old.tree ≡ Some d → IsSome (finite.get (shown_map (C.contents self.old.chunks) self.old.tree) key.now) → OnOk result (tree_fresh self.new.tree ≤ tree_fresh self.old.tree + d) }
-        ensures deep { (d : ℕ) → tree_depth (C.contents self.old.chunks) self.old.tree ≡ Some d → OnOk result ((e : ℕ) × (tree_depth (C.contents self.new.chunks) self.new.tree ≡ Some e) × (d ≤ e) × (e ≤ d + 1)) }
-        ensures wide { HasWideRoot (C.contents self.old.chunks) self.old.tree → OnOk result (HasWideRoot (C.contents self.new.chunks) self.new.tree) }
-        ensures places { OnOk result (AreKept (C.places self.new.chunks) (tree_places self.old.tree) (tree_places self.new.tree)) }
+        ensures same { finite.get (shown_map (C.contents self.old.chunks) self.old.tree) key.now ≡ Some value.now
+            → OnOk result (self.new.tree ≡ self.old.tree) }
+        ensures few { (d : ℕ) → tree_depth (C.contents self.old.chunks) self.old.tree ≡ Some d
+            → OnOk result (tree_fresh self.new.tree ≤ tree_fresh self.old.tree + d + d + 1) }
+        ensures replaced { (d : ℕ) → tree_depth (C.contents self.old.chunks) self.old.tree ≡ Some d
+            → IsSome (finite.get (shown_map (C.contents self.old.chunks) self.old.tree) key.now)
+            → OnOk result (tree_fresh self.new.tree ≤ tree_fresh self.old.tree + d) }
+        ensures deep { (d : ℕ) → tree_depth (C.contents self.old.chunks) self.old.tree ≡ Some d
+            → OnOk result ((e : ℕ) × (tree_depth (C.contents self.new.chunks) self.new.tree ≡ Some e) × (d ≤ e)
+            × (e ≤ d + 1)) }
+        ensures wide { HasWideRoot (C.contents self.old.chunks) self.old.tree
+            → OnOk result (HasWideRoot (C.contents self.new.chunks) self.new.tree) }
+        ensures places { OnOk result (AreKept (C.places self.new.chunks) (tree_places self.old.tree)
+            (tree_places self.new.tree)) }
         ensures grown { Grows C.contents C.places self.old.chunks self.new.chunks }
         ensures stopped { IfErr result (λ stop. (stop ≡ NoMemory) ⊎ C.stops stop) }
     {
@@ -119,14 +136,21 @@ impl<C: Chunks> WriteView for WriteTx<C> {
     }
 
     fn del(&mut self, key: &str) -> Result<(), Stop>
-        ensures ok { OnOk result (shown_map (C.contents self.new.chunks) self.new.tree ≡ finite.remove (shown_map (C.contents self.old.chunks) self.old.tree) key.now) }
-        ensures err { OnErr result (shown_map (C.contents self.new.chunks) self.new.tree ≡ shown_map (C.contents self.old.chunks) self.old.tree) }
+        ensures ok { OnOk result (shown_map (C.contents self.new.chunks) self.new.tree
+            ≡ finite.remove (shown_map (C.contents self.old.chunks) self.old.tree) key.now) }
+        ensures err { OnErr result (shown_map (C.contents self.new.chunks) self.new.tree
+            ≡ shown_map (C.contents self.old.chunks) self.old.tree) }
         ensures tree { OnErr result (self.new.tree ≡ self.old.tree) }
-        ensures same { finite.get (shown_map (C.contents self.old.chunks) self.old.tree) key.now ≡ None → OnOk result (self.new.tree ≡ self.old.tree) }
-        ensures few { (d : ℕ) → tree_depth (C.contents self.old.chunks) self.old.tree ≡ Some d → OnOk result (tree_fresh self.new.tree ≤ tree_fresh self.old.tree + d) }
-        ensures deep { (d : ℕ) → tree_depth (C.contents self.old.chunks) self.old.tree ≡ Some d → OnOk result ((e : ℕ) × (tree_depth (C.contents self.new.chunks) self.new.tree ≡ Some e) × (e ≤ d)) }
-        ensures wide { HasWideRoot (C.contents self.old.chunks) self.old.tree → OnOk result (HasWideRoot (C.contents self.new.chunks) self.new.tree) }
-        ensures places { OnOk result (AreKept (C.places self.new.chunks) (tree_places self.old.tree) (tree_places self.new.tree)) }
+        ensures same { finite.get (shown_map (C.contents self.old.chunks) self.old.tree) key.now ≡ None
+            → OnOk result (self.new.tree ≡ self.old.tree) }
+        ensures few { (d : ℕ) → tree_depth (C.contents self.old.chunks) self.old.tree ≡ Some d
+            → OnOk result (tree_fresh self.new.tree ≤ tree_fresh self.old.tree + d) }
+        ensures deep { (d : ℕ) → tree_depth (C.contents self.old.chunks) self.old.tree ≡ Some d
+            → OnOk result ((e : ℕ) × (tree_depth (C.contents self.new.chunks) self.new.tree ≡ Some e) × (e ≤ d)) }
+        ensures wide { HasWideRoot (C.contents self.old.chunks) self.old.tree
+            → OnOk result (HasWideRoot (C.contents self.new.chunks) self.new.tree) }
+        ensures places { OnOk result (AreKept (C.places self.new.chunks) (tree_places self.old.tree)
+            (tree_places self.new.tree)) }
         ensures grown { Grows C.contents C.places self.old.chunks self.new.chunks }
         ensures stopped { IfErr result (λ stop. (stop ≡ NoMemory) ⊎ C.stops stop) }
     {

@@ -1,6 +1,7 @@
 //! Of the count of a group's slots: that it follows the rules, step by step.
 //!
-//! The steps are such that the rules leave each number no choice. A retired slot may be given and taken as well as a free
+//! The steps are such that the rules leave each number no choice. A retired slot may be given and taken as well as a
+//! free
 //! one, so while some are retired nothing is taken, but where a pin keeps them back or all of them are needed.
 ghost use Rattle.std.specs.Prelude.{◌≡◌};
 ghost use Rattle.std.specs.List.{All};
@@ -177,7 +178,8 @@ fn counted_in(
     group: &Shared,
     seats: &mut Seats<ScriptMutators, Store>,
 ) -> Result<Steps, Refusal>
-    requires { All (λ seat. (seat.mark.book ≡ group.now.shared.head) × (seat.slots.table ≡ group.now.shared.store.claims)) seats.old.free.items }
+    requires { All (λ seat. (seat.mark.book ≡ group.now.shared.head)
+        × (seat.slots.table ≡ group.now.shared.store.claims)) seats.old.free.items }
 {
     let mut players = players_of(alloc, group, seats, &[A, B])?;
     counted_of(alloc, group, players.as_mut_slice())

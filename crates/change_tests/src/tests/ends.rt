@@ -363,7 +363,8 @@ fn other_in_group<S: Store<ScriptMutators>>(
 ) -> Result<Option<usize>, Refusal>
 where
     S::Seat: Drop,
-    requires { All (λ seat. (seat.mark.book ≡ group.now.shared.head) × (S.home seat.slots ≡ S.serves group.now.shared.store)) seats.old.free.items }
+    requires { All (λ seat. (seat.mark.book ≡ group.now.shared.head)
+        × (S.home seat.slots ≡ S.serves group.now.shared.store)) seats.old.free.items }
 {
     let mut client = next_client(group, seats, A)?;
     other_since_null(alloc, &mut client, steps)
@@ -679,7 +680,8 @@ fn beside_in_group<S: Store<ScriptMutators>>(
 ) -> Result<Met, Refusal>
 where
     S::Seat: Drop,
-    requires { All (λ seat. (seat.mark.book ≡ group.now.shared.head) × (S.home seat.slots ≡ S.serves group.now.shared.store)) seats.old.free.items }
+    requires { All (λ seat. (seat.mark.book ≡ group.now.shared.head)
+        × (S.home seat.slots ≡ S.serves group.now.shared.store)) seats.old.free.items }
 {
     let mut players = players_of(alloc, group, seats, &[A, B])?;
     beside_a_reader(alloc, players.as_mut_slice())

@@ -114,7 +114,8 @@ fn counts_in_group<S: Store<ScriptMutators>>(
 ) -> Result<(usize, usize), Refusal>
 where
     S::Seat: Drop,
-    requires { All (λ seat. (seat.mark.book ≡ group.now.shared.head) × (S.home seat.slots ≡ S.serves group.now.shared.store)) seats.old.free.items }
+    requires { All (λ seat. (seat.mark.book ≡ group.now.shared.head)
+        × (S.home seat.slots ≡ S.serves group.now.shared.store)) seats.old.free.items }
 {
     let mut client = next_client(group, seats, A)?;
     counts_since_null(alloc, &mut client)

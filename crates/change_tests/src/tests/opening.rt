@@ -47,8 +47,10 @@ pub(super) fn next_client<'g, M: Means, S: Store<M>>(
 ) -> Result<Client<'g, M, S>, Refusal>
 where
     S::Seat: Drop,
-    requires { All (λ seat. (seat.mark.book ≡ group.now.shared.head) × (S.home seat.slots ≡ S.serves group.now.shared.store)) seats.old.free.items }
-    ensures seats { All (λ seat. (seat.mark.book ≡ group.now.shared.head) × (S.home seat.slots ≡ S.serves group.now.shared.store)) seats.new.free.items }
+    requires { All (λ seat. (seat.mark.book ≡ group.now.shared.head)
+        × (S.home seat.slots ≡ S.serves group.now.shared.store)) seats.old.free.items }
+    ensures seats { All (λ seat. (seat.mark.book ≡ group.now.shared.head)
+        × (S.home seat.slots ≡ S.serves group.now.shared.store)) seats.new.free.items }
     ensures room { IfOk result (λ _. vec_len seats.new.free < vec_capacity seats.new.free) }
     ensures group { IfOk result (λ client. client.mark.book ≡ group.now.shared.head) }
     ensures same { IfOk result (λ client. client.group.now ≡ group.now) }
@@ -79,7 +81,8 @@ pub(super) fn players_of<'g, S: Store<ScriptMutators>>(
 ) -> Result<Vec<Player<'g, S>>, Refusal>
 where
     S::Seat: Drop,
-    requires { All (λ seat. (seat.mark.book ≡ group.now.shared.head) × (S.home seat.slots ≡ S.serves group.now.shared.store)) seats.old.free.items }
+    requires { All (λ seat. (seat.mark.book ≡ group.now.shared.head)
+        × (S.home seat.slots ≡ S.serves group.now.shared.store)) seats.old.free.items }
 {
     let mut players = Vec::new(alloc);
     for id in ids {
@@ -99,7 +102,8 @@ pub(super) fn opened<S: Store<ScriptMutators> + Drop>(
 where
     S::Seat: Drop,
     S::Parts: Drop,
-    ensures { IfOk result (λ made. All (λ seat. (seat.mark.book ≡ made.0.shared.head) × (S.home seat.slots ≡ S.serves made.0.shared.store)) made.1.free.items) }
+    ensures { IfOk result (λ made. All (λ seat. (seat.mark.book ≡ made.0.shared.head)
+        × (S.home seat.slots ≡ S.serves made.0.shared.store)) made.1.free.items) }
 {
     let config = config_of(alloc, slots, clients)?;
     Group::<ScriptMutators, S>::open(alloc, config, ScriptMutators, parts)

@@ -109,7 +109,8 @@ fn closings_in<R: Threads + Sync, S: Store<ScriptMutators>>(
 ) -> Result<Closings, Refusal>
 where
     S::Seat: Drop,
-    requires { All (λ seat. (seat.mark.book ≡ group.now.shared.head) × (S.home seat.slots ≡ S.serves group.now.shared.store)) seats.old.free.items }
+    requires { All (λ seat. (seat.mark.book ≡ group.now.shared.head)
+        × (S.home seat.slots ≡ S.serves group.now.shared.store)) seats.old.free.items }
 {
     let mut players = players_of(alloc, group, seats, &[A, B, A, B])?;
     four_close(rt, players.as_mut_slice())
@@ -679,7 +680,8 @@ fn game_in<R: Threads + Sync, S: Store<ScriptMutators>>(
 ) -> Result<(), Refusal>
 where
     S::Seat: Drop,
-    requires { All (λ seat. (seat.mark.book ≡ group.now.shared.head) × (S.home seat.slots ≡ S.serves group.now.shared.store)) seats.old.free.items }
+    requires { All (λ seat. (seat.mark.book ≡ group.now.shared.head)
+        × (S.home seat.slots ≡ S.serves group.now.shared.store)) seats.old.free.items }
 {
     let mut players = players_of(alloc, group, seats, &[A, B])?;
     two_play(rt, alloc, players.as_mut_slice(), game)

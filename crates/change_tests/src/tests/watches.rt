@@ -159,7 +159,8 @@ fn other_step_in<S: Store<ScriptMutators>>(
 ) -> Result<Option<usize>, Refusal>
 where
     S::Seat: Drop,
-    requires { All (λ seat. (seat.mark.book ≡ group.now.shared.head) × (S.home seat.slots ≡ S.serves group.now.shared.store)) seats.old.free.items }
+    requires { All (λ seat. (seat.mark.book ≡ group.now.shared.head)
+        × (S.home seat.slots ≡ S.serves group.now.shared.store)) seats.old.free.items }
 {
     let mut client = next_client(group, seats, A)?;
     other_step_of(alloc, &mut client)
@@ -212,9 +213,11 @@ fn asks_for_another<S: Store<ScriptMutators>>(
 ) -> Option<Refusal>
 where
     S::Seat: Drop,
-    requires seats { All (λ seat. (seat.mark.book ≡ group.now.shared.head) × (S.home seat.slots ≡ S.serves group.now.shared.store)) seats.old.free.items }
+    requires seats { All (λ seat. (seat.mark.book ≡ group.now.shared.head)
+        × (S.home seat.slots ≡ S.serves group.now.shared.store)) seats.old.free.items }
     requires room { vec_len seats.old.free < vec_capacity seats.old.free }
-    ensures seats { All (λ seat. (seat.mark.book ≡ group.now.shared.head) × (S.home seat.slots ≡ S.serves group.now.shared.store)) seats.new.free.items }
+    ensures seats { All (λ seat. (seat.mark.book ≡ group.now.shared.head)
+        × (S.home seat.slots ≡ S.serves group.now.shared.store)) seats.new.free.items }
     ensures room { vec_len seats.new.free < vec_capacity seats.new.free }
 {
     let _ = group;
@@ -232,10 +235,12 @@ fn comes_back<S: Store<ScriptMutators>>(
 )
 where
     S::Seat: Drop,
-    requires seats { All (λ seat. (seat.mark.book ≡ group.now.shared.head) × (S.home seat.slots ≡ S.serves group.now.shared.store)) seats.old.free.items }
+    requires seats { All (λ seat. (seat.mark.book ≡ group.now.shared.head)
+        × (S.home seat.slots ≡ S.serves group.now.shared.store)) seats.old.free.items }
     requires room { vec_len seats.old.free < vec_capacity seats.old.free }
     requires client { client.group.now ≡ group.now }
-    ensures { All (λ seat. (seat.mark.book ≡ group.now.shared.head) × (S.home seat.slots ≡ S.serves group.now.shared.store)) seats.new.free.items }
+    ensures { All (λ seat. (seat.mark.book ≡ group.now.shared.head)
+        × (S.home seat.slots ≡ S.serves group.now.shared.store)) seats.new.free.items }
 {
     let _ = group;
     seats.back(client.close());
@@ -249,8 +254,10 @@ fn first_turn<S: Store<ScriptMutators>>(
 ) -> Result<(Result<u64, Refusal>, Option<Refusal>), Refusal>
 where
     S::Seat: Drop,
-    requires { All (λ seat. (seat.mark.book ≡ group.now.shared.head) × (S.home seat.slots ≡ S.serves group.now.shared.store)) seats.old.free.items }
-    ensures { All (λ seat. (seat.mark.book ≡ group.now.shared.head) × (S.home seat.slots ≡ S.serves group.now.shared.store)) seats.new.free.items }
+    requires { All (λ seat. (seat.mark.book ≡ group.now.shared.head)
+        × (S.home seat.slots ≡ S.serves group.now.shared.store)) seats.old.free.items }
+    ensures { All (λ seat. (seat.mark.book ≡ group.now.shared.head)
+        × (S.home seat.slots ≡ S.serves group.now.shared.store)) seats.new.free.items }
 {
     let mut client = next_client(group, seats, A)?;
     let made = sets(alloc, &mut client, r#"["k",1]"#);
@@ -267,7 +274,8 @@ fn next_turn<S: Store<ScriptMutators>>(
 ) -> Result<Result<u64, Refusal>, Refusal>
 where
     S::Seat: Drop,
-    requires { All (λ seat. (seat.mark.book ≡ group.now.shared.head) × (S.home seat.slots ≡ S.serves group.now.shared.store)) seats.old.free.items }
+    requires { All (λ seat. (seat.mark.book ≡ group.now.shared.head)
+        × (S.home seat.slots ≡ S.serves group.now.shared.store)) seats.old.free.items }
 {
     let mut client = next_client(group, seats, A)?;
     answered(sets(alloc, &mut client, r#"["k",1]"#))
@@ -280,7 +288,8 @@ fn takes_turns<S: Store<ScriptMutators>>(
 ) -> Result<Turns, Refusal>
 where
     S::Seat: Drop,
-    requires { All (λ seat. (seat.mark.book ≡ group.now.shared.head) × (S.home seat.slots ≡ S.serves group.now.shared.store)) seats.old.free.items }
+    requires { All (λ seat. (seat.mark.book ≡ group.now.shared.head)
+        × (S.home seat.slots ≡ S.serves group.now.shared.store)) seats.old.free.items }
 {
     let (first, second_seat) = first_turn(alloc, group, seats)?;
     let again = next_turn(alloc, group, seats)?;

@@ -18,4 +18,5 @@ IsReady claims s = (s.table ≡ claims) × IsIdle s.view
 -- the seat is of this table, with no pin, and has taken these two slots of it alone
 abbrev pub HasBoth : ClaimsId → ℕ → ℕ → Seated → Type 0
 HasBoth claims leaf commit s =
-    (s.table ≡ claims) × (s.view.pin ≡ Absent) × (s.view.taken ≡ commit ∷ leaf ∷ []) × (leaf ≢ commit) × (leaf < claims.sizes.slots) × (commit < claims.sizes.slots)
+    (s.table ≡ claims) × (s.view.pin ≡ Absent) × (s.view.taken ≡ commit ∷ leaf ∷ []) × (leaf ≢ commit)
+    × (leaf < claims.sizes.slots) × (commit < claims.sizes.slots)

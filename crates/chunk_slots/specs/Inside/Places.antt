@@ -13,7 +13,8 @@ IsOfBook book tag = tag.book ≡ book
 
 -- a place for each slot of the claims table, whose nodes' marks are of this book
 abbrev pub HasPlaces : ClaimsId → Book → List Known → Type 0
-HasPlaces claims book tags = All (IsOfBook book) tags × (length tags ≡ claims.sizes.slots) × (claims.sizes.slots ≤ max_slots)
+HasPlaces claims book tags = All (IsOfBook book) tags × (length tags ≡ claims.sizes.slots)
+    × (claims.sizes.slots ≤ max_slots)
 
 -- the slots that the seat has taken are of its table
 abbrev pub IsWithin : Seated → Type 0

@@ -9,7 +9,11 @@ use Rattle.chunk_slots.specs.declared.shown.Holds.TheVariants.{Claimed, Lent}
 
 -- what stands for nothing
 abbrev pub nothing : Content
-nothing = record { stamp = 0; node = node.Chunk (Leaf []); mark = record { book = record { number = 0; log_name = 0; cells_name = 0 }; log = []; seat = None } }
+nothing = record {
+  stamp = 0;
+  node = node.Chunk (Leaf []);
+  mark = record { book = record { number = 0; log_name = 0; cells_name = 0 }; log = []; seat = None };
+}
 
 abbrev pub filled : Option Content → Content
 filled None = nothing

@@ -1,5 +1,6 @@
 -- What one commit tells of its chain, which leads from a head by the bases to a snapshot.
-use Rattle.std.specs.Prelude.{◌≡◌, ℕ, Bool, true, false, List, [], ◌∷◌, if◌then◌else◌, slice_get, Some, None, Option, IsSome}
+use Rattle.std.specs.Prelude.{◌≡◌, ℕ, Bool, true, false, List, [], ◌∷◌, if◌then◌else◌, slice_get, Some, None, Option}
+use Rattle.std.specs.Prelude.{IsSome}
 use Rattle.group_history.specs.declared.nodes.Commit.{Commit}
 use Rattle.group_history.specs.declared.nodes.Kind.{Kind}
 use Rattle.group_history.specs.declared.nodes.Kind.TheVariants.{Snapshot, Over}
@@ -70,7 +71,8 @@ closes_group (Over o) = closes o.step
 abbrev pub top_of : Ref → Commit Ref → Top
 top_of at c = record { root = c.root; snapshot = snapshot_named at c.kind; closed = closes_group c.kind }
 
--- The id that a commit alone knows of a client: a snapshot the confirmed one, a local commit its mutation's, if that is the client's.
+-- The id that a commit alone knows of a client: a snapshot the confirmed one, a local commit its mutation's, if that is
+-- the client's.
 abbrev pub id_in : Bytes → Step → ℕ
 id_in client (Local x) = if same_text x.client client then x.id else 0
 id_in client Closed = 0
@@ -106,9 +108,11 @@ snapshot_content root s = record { root = root; kind = Snapshot s }
 
 -- a snapshot with all below it lies at a stamp
 abbrev pub IsSnapshotAt : Contents → ℕ → Type 0
-IsSnapshotAt ns k = IsSome (version_at ns k) × ((root : ℕ) × (s : Snapped) × (slice_get ns k ≡ Some (node.Commit (snapshot_content root s))))
+IsSnapshotAt ns k = IsSome (version_at ns k)
+    × ((root : ℕ) × (s : Snapped) × (slice_get ns k ≡ Some (node.Commit (snapshot_content root s))))
 
--- The snapshot of a state lies at a stamp: it has the state's cookie and confirmed ids, and its root spells the pulled map.
+-- The snapshot of a state lies at a stamp: it has the state's cookie and confirmed ids, and its root spells the pulled
+-- map.
 pub record IsBase (ns : Contents) (k : ℕ) (s : State) : Type 0 where
   pub root : ℕ
   pub content : Snapped

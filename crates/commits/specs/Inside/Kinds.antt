@@ -22,5 +22,8 @@ chunk_of (node.Commit c) = Leaf []
 
 -- the commit that a node is, or else a snapshot of nothing
 abbrev pub commit_of : Node Ref → Commit Ref
-commit_of (node.Chunk c) = record { root = nowhere; kind = Snapshot (record { cookie = null_cookie; confirmed = finite.empty }) }
+commit_of (node.Chunk c) = record {
+  root = nowhere;
+  kind = Snapshot (record { cookie = null_cookie; confirmed = finite.empty });
+}
 commit_of (node.Commit c) = c

@@ -49,4 +49,5 @@ pub record Adds (olds xs news : List Found) : Type 0 where
 
 -- Left has what stands in before and has no stamp of kept.
 abbrev pub Leaves : List Ref → List Ref → List Ref → Type 0
-Leaves before kept left = (r : Ref) → Contains left r ↔ (Contains before r × (Contains (stamps_of kept) (stamp_of r) → ⊥))
+Leaves before kept left = (r : Ref) → Contains left r ↔
+    (Contains before r × (Contains (stamps_of kept) (stamp_of r) → ⊥))

@@ -88,7 +88,8 @@ fn snapshot(alloc: Global, id: u64) -> Result<Snapshot, Refusal>
 
 fn with_snapshot(alloc: Global, nodes: VecNodes, id: u64, root: Ref) -> Result<VecNodes, Refusal>
     requires { stamp_of root < length nodes }
-    ensures { IfOk result (λ after. (s : Snapped) × (s.confirmed ≡ finite.insert finite.empty (97 ∷ []) id) × (after ≡ nodes ++ node.Commit (record { root = root; kind = kind.Snapshot s }) ∷ [])) }
+    ensures { IfOk result (λ after. (s : Snapped) × (s.confirmed ≡ finite.insert finite.empty (97 ∷ []) id)
+        × (after ≡ nodes ++ node.Commit (record { root = root; kind = kind.Snapshot s }) ∷ [])) }
 {
     let kind = Kind::Snapshot(snapshot(alloc, id)?);
     let after = with(alloc, nodes, Node::Commit(Commit { root, kind }))?;
@@ -113,7 +114,11 @@ fn with_over(
     step: Step,
 ) -> Result<VecNodes, Refusal>
     requires { (stamp_of basis < length nodes) × (stamp_of root < length nodes) × (3 < length nodes) }
-    ensures { IfOk result (λ after. (r : Reference) × (stamp_of r ≡ 3) × (after ≡ nodes ++ node.Commit (record { root = root; kind = kind.Over (record { basis = basis; snapshot = r; step = step }) }) ∷ [])) }
+    ensures { IfOk result (λ after. (r : Reference) × (stamp_of r ≡ 3)
+        × (after ≡ nodes ++ node.Commit (record {
+          root = root;
+          kind = kind.Over (record { basis = basis; snapshot = r; step = step });
+        }) ∷ [])) }
 {
     let snapshot = at(3);
     let over = Over {
@@ -138,7 +143,12 @@ fn with_local(
     root: Ref,
 ) -> Result<VecNodes, Refusal>
     requires { (stamp_of basis < length nodes) × (stamp_of root < length nodes) × (3 < length nodes) }
-    ensures { IfOk result (λ after. (x : Mutated) × (x.client ≡ made.entry.0.now) × (x.id ≡ made.entry.1) × (r : Reference) × (stamp_of r ≡ 3) × (after ≡ nodes ++ node.Commit (record { root = root; kind = kind.Over (record { basis = basis; snapshot = r; step = step.Local x }) }) ∷ [])) }
+    ensures { IfOk result (λ after. (x : Mutated) × (x.client ≡ made.entry.0.now) × (x.id ≡ made.entry.1)
+        × (r : Reference) × (stamp_of r ≡ 3) ×
+        (after ≡ nodes ++ node.Commit (record {
+          root = root;
+          kind = kind.Over (record { basis = basis; snapshot = r; step = step.Local x });
+        }) ∷ [])) }
 {
     let mutation = mutation(alloc, made.0, made.1)?;
     let after = with_over(alloc, nodes, basis, root, Step::Local(mutation))?;
@@ -147,7 +157,9 @@ fn with_local(
 
 /// A chunk with the key `a`, one with the key `b`, and one over both: the stamps 0, 1 and 2.
 pub(super) fn chunks(alloc: Global) -> Result<VecNodes, Refusal>
-    ensures { IfOk result (λ ns. (v w : Bytes) × (map content_of ns ≡ node.Chunk (chunk.Leaf ((97 ∷ [], v) ∷ [])) ∷ node.Chunk (chunk.Leaf ((98 ∷ [], w) ∷ [])) ∷ node.Chunk (chunk.Inner ((97 ∷ [], 0) ∷ (98 ∷ [], 1) ∷ [])) ∷ [])) }
+    ensures { IfOk result (λ ns. (v w : Bytes)
+        × (map content_of ns ≡ node.Chunk (chunk.Leaf ((97 ∷ [], v) ∷ [])) ∷ node.Chunk (chunk.Leaf ((98 ∷ [], w) ∷ []))
+        ∷ node.Chunk (chunk.Inner ((97 ∷ [], 0) ∷ (98 ∷ [], 1) ∷ [])) ∷ [])) }
 {
     let nodes = with(alloc, VecNodes::new(alloc), leaf(alloc, "a")?)?;
     let nodes = with(alloc, nodes, leaf(alloc, "b")?)?;
@@ -159,9 +171,13 @@ pub(super) fn chunks(alloc: Global) -> Result<VecNodes, Refusal>
 /// with the maps of `a`, of both, and of `b`; at 7 a snapshot that shares the chunk of `a`; at 8 a closing
 /// over the third local commit.
 pub(super) fn example(alloc: Global) -> Result<VecNodes, Refusal>
-    ensures versions { IfOk result (λ ns. let all = map content_of ns in IsSome (version_at all 3) × IsSome (version_at all 4) × IsSome (version_at all 5) × IsSome (version_at all 6) × IsSome (version_at all 7) × IsSome (version_at all 8)) }
-    ensures confirmed_ids { IfOk result (λ ns. (v : Version) → version_at (map content_of ns) 3 ≡ Some v → IdsFollow v.state.confirmed v.state.pending) }
-    ensures pending_ids { IfOk result (λ ns. (v : Version) → version_at (map content_of ns) 6 ≡ Some v → IdsFollow v.state.confirmed v.state.pending) }
+    ensures versions { IfOk result (λ ns. let all = map content_of ns in
+        IsSome (version_at all 3) × IsSome (version_at all 4) × IsSome (version_at all 5) × IsSome (version_at all 6)
+        × IsSome (version_at all 7) × IsSome (version_at all 8)) }
+    ensures confirmed_ids { IfOk result (λ ns. (v : Version) → version_at (map content_of ns) 3 ≡ Some v
+        → IdsFollow v.state.confirmed v.state.pending) }
+    ensures pending_ids { IfOk result (λ ns. (v : Version) → version_at (map content_of ns) 6 ≡ Some v
+        → IdsFollow v.state.confirmed v.state.pending) }
 {
     let nodes = chunks(alloc)?;
     let nodes = with_snapshot(alloc, nodes, 4, at(2))?;
@@ -271,7 +287,8 @@ fn a_state_is_told(rt: HostRuntime) -> Result<(), Refusal> {
 /// The last id of a client at a commit.
 fn last_id(alloc: Global, nodes: &VecNodes, head: Ref, client: &str) -> Result<u64, Refusal>
     requires head { IsSome (version_at (map content_of nodes.now) (stamp_of head)) }
-    requires ids { (v : Version) → version_at (map content_of nodes.now) (stamp_of head) ≡ Some v → IdsFollow v.state.confirmed v.state.pending }
+    requires ids { (v : Version) → version_at (map content_of nodes.now) (stamp_of head) ≡ Some v
+        → IdsFollow v.state.confirmed v.state.pending }
 {
     let mut shelf = nodes.shelf();
     let client = Text::new(alloc, client)?;

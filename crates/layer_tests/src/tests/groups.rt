@@ -176,7 +176,8 @@ fn with_keys(alloc: Global, pending: &[Mutation], count: u32) -> Result<(VecNode
     Ok((nodes, head))
 }
 
-/// How many nodes a pull that brings nothing new leaves behind in such a group, where the first of the keys is set, and how
+/// How many nodes a pull that brings nothing new leaves behind in such a group, where the first of the keys is set, and
+/// how
 /// many are shown until that is known.
 fn left_behind(alloc: Global, count: u32) -> Result<(usize, u64), Refusal> {
     let pending = [mutation(alloc, 1, "set", r#"["k01",0]"#)?];

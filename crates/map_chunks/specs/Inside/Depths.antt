@@ -15,7 +15,8 @@ IsFirst (Inner kids) child = child ≡ slice_get (values_of kids) 0
 -- a leaf is 1 deep, and an inner chunk one deeper than its first child, which was placed before it
 abbrev pub IsAbove : Contents → ℕ → Segment → Option Ref → Type 0
 IsAbove contents stamp s None = s.depth ≡ 1
-IsAbove contents stamp s (Some child) = (stamp_of child < stamp) × ((t : Segment) × (segment_at contents (stamp_of child) ≡ Some t) × (s.depth ≡ t.depth + 1))
+IsAbove contents stamp s (Some child) = (stamp_of child < stamp)
+    × ((t : Segment) × (segment_at contents (stamp_of child) ≡ Some t) × (s.depth ≡ t.depth + 1))
 
 -- a leaf without rows
 abbrev pub has_none : Chunk Ref → Bool

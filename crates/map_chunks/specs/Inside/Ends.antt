@@ -17,7 +17,8 @@ only_ref (Inner []) = None
 only_ref (Inner (e ∷ [])) = Some e.1
 only_ref (Inner (e ∷ f ∷ es)) = None
 
--- the chunk of the stamp is wide, or its only child was placed before it, one level below; what is wide, or the child, has these rows
+-- the chunk of the stamp is wide, or its only child was placed before it, one level below; what is wide, or the child,
+-- has these rows
 abbrev pub IsOnlyChild : Contents → ℕ → Option Rows → Option Ref → Type 0
 IsOnlyChild contents stamp rows None = (chunk_rows contents stamp ≡ rows) × IsWideAt contents stamp
 IsOnlyChild contents stamp rows (Some child) = (stamp_of child < stamp) × (chunk_rows contents (stamp_of child) ≡ rows)

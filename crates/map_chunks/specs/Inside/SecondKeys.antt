@@ -17,14 +17,16 @@ abbrev pub IsSecondStep : Chunk Ref → Second → Type 0
 IsSecondStep (Leaf rows) (Known key) = key ≡ second_key rows
 IsSecondStep (Leaf rows) (First at next) = ⊥
 IsSecondStep (Inner kids) (Known key) = length kids ≡ 0
-IsSecondStep (Inner kids) (First at next) = (slice_get (values_of kids) 0 ≡ Some at) × (next ≡ slice_get (keys_of kids) 1)
+IsSecondStep (Inner kids) (First at next) = (slice_get (values_of kids) 0 ≡ Some at)
+    × (next ≡ slice_get (keys_of kids) 1)
 
 -- the first child has the property
 abbrev pub IsSecondAt : (Ref → Type 0) → Second → Type 0
 IsSecondAt places (Known key) = Unit {0}
 IsSecondAt places (First at next) = places at
 
--- from the chunk of a stamp, with these rows: the second key is found, or is that of a chunk placed before it, or else the one given
+-- from the chunk of a stamp, with these rows: the second key is found, or is that of a chunk placed before it, or else
+-- the one given
 abbrev pub LeadsToSecond : Contents → ℕ → Rows → Second → Type 0
 LeadsToSecond contents stamp rows (Known key) = key ≡ second_key rows
 LeadsToSecond contents stamp rows (First at next) = (stamp_of at < stamp) × IsSome (chunk_rows contents (stamp_of at))

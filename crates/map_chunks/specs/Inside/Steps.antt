@@ -31,4 +31,5 @@ IsStepAt places (Below at) = places at
 abbrev pub Leads : Contents → Bytes → ℕ → Rows → Step → Type 0
 Leads contents key stamp rows (Found v) = v ≡ finite.find (slice_cmp nat_cmp) key rows
 Leads contents key stamp rows (Below at) = (stamp_of at < stamp) × IsTree (chunk_rows contents (stamp_of at))
-    × (finite.find (slice_cmp nat_cmp) key (rows_or (chunk_rows contents (stamp_of at))) ≡ finite.find (slice_cmp nat_cmp) key rows)
+    × (finite.find (slice_cmp nat_cmp) key (rows_or (chunk_rows contents (stamp_of at)))
+    ≡ finite.find (slice_cmp nat_cmp) key rows)

@@ -14,7 +14,8 @@ abbrev pub part_ref : Part → Option Ref
 part_ref (value v) = None
 part_ref (chunk depth at) = Some at
 
--- the placed chunk that is all there is below a draft's chunk, if this is so: then each chunk on the way to it has one child
+-- the placed chunk that is all there is below a draft's chunk, if this is so: then each chunk on the way to it has one
+-- child
 abbrev pub end_of_pieces : List Piece → Option Ref
 end_of_pieces [] = None
 end_of_pieces (q ∷ []) = part_ref q.1

@@ -1,4 +1,5 @@
--- A draft's chunks written down as nodes: what shows rows in the draft spells them once its nodes are placed, and each node names
+-- A draft's chunks written down as nodes: what shows rows in the draft spells them once its nodes are placed, and each
+-- node names
 -- its children by the draft's own names, or as the draft names what is placed.
 use Rattle.std.specs.Prelude.{◌≡◌, ℕ, List, [], ◌∷◌, ◌++◌, length, Some}
 use Rattle.group_history.specs.declared.nodes.Node.{Node}
@@ -20,15 +21,18 @@ IsDeep depth (Own n) = n.value.depth ≡ depth
 -- The rows that the child shows while the draft has the old nodes are spelled by the reference's stamp where it
 -- has the new ones. The draft's first stamp is given.
 abbrev pub IsFrozen : ℕ → List (Node Ref) → List (Node Ref) → Child → Ref → Type 0
-IsFrozen first old new child at = (contents : Contents) (depth : ℕ) (rows : Rows) → length contents ≡ first → IsDeep depth child
-    → child_rows (with_nodes contents old) depth child ≡ Some rows → rows_at (with_nodes contents new) depth (stamp_of at) ≡ Some rows
+IsFrozen first old new child at = (contents : Contents) (depth : ℕ) (rows : Rows) → length contents ≡ first
+    → IsDeep depth child
+    → child_rows (with_nodes contents old) depth child ≡ Some rows
+    → rows_at (with_nodes contents new) depth (stamp_of at) ≡ Some rows
 
 -- a reference for each child, in order
 abbrev pub AreFrozen : ℕ → List (Node Ref) → List (Node Ref) → List Child → List Ref → Type 0
 AreFrozen first old new [] [] = Unit {0}
 AreFrozen first old new [] (at ∷ ats) = ⊥
 AreFrozen first old new (child ∷ children) [] = ⊥
-AreFrozen first old new (child ∷ children) (at ∷ ats) = IsFrozen first old new child at × AreFrozen first old new children ats
+AreFrozen first old new (child ∷ children) (at ∷ ats) = IsFrozen first old new child at
+    × AreFrozen first old new children ats
 
 abbrev pub child_places : Child → List Ref
 child_places (Placed at) = at ∷ []

@@ -1,5 +1,6 @@
 -- The upper half of a chunk that was split, and where it is put.
-use Rattle.std.specs.Prelude.{◌≡◌, true, false, ℕ, ◌+◌, ◌-◌, ◌<◌, T, if◌then◌else◌, List, [], ◌∷◌, ◌++◌, length, replicate, slice_index_or, slice_set, Option, Some, None}
+use Rattle.std.specs.Prelude.{◌≡◌, true, false, ℕ, ◌+◌, ◌-◌, ◌<◌, T, if◌then◌else◌, List, [], ◌∷◌, ◌++◌, length}
+use Rattle.std.specs.Prelude.{replicate, slice_index_or, slice_set, Option, Some, None}
 use Rattle.std.specs.List.{insert}
 use Rattle.std.specs.Ordering.{nat_cmp, is_lt}
 use Rattle.std.specs.Cmp.Lexicographic.{slice_cmp}
@@ -21,7 +22,8 @@ half_pieces (Some h) = h.node.value.pieces
 -- it is so deep, and its first key is there so often
 abbrev pub IsHalf : ℕ → ℕ → Option Half → Type 0
 IsHalf copies depth None = Unit {0}
-IsHalf copies depth (Some h) = (h.node.value.depth ≡ depth) × ((first : Bytes) × HeadIs first h.node.value.pieces × (h.firsts.items ≡ replicate copies first))
+IsHalf copies depth (Some h) = (h.node.value.depth ≡ depth)
+    × ((first : Bytes) × HeadIs first h.node.value.pieces × (h.firsts.items ≡ replicate copies first))
 
 -- children with the upper half of the one at the place put behind it
 abbrev pub with_half : ℕ → Option Half → Kids → Kids
@@ -35,16 +37,21 @@ lowered place (Some key) keys = slice_set keys place key
 
 -- the copies are those of the ninth key that there is once a key is put before the place, where there were 16
 abbrev pub AreNinth : ℕ → List Bytes → ℕ → Bytes → List Bytes → Type 0
-AreNinth copies keys place key texts = length keys ≡ 16 → (k : Bytes) → (place ≡ 8 → k ≡ key) → texts ≡ replicate copies (slice_index_or (insert keys place k) 8 [])
+AreNinth copies keys place key texts = length keys ≡ 16 → (k : Bytes) → (place ≡ 8 → k ≡ key)
+    → texts ≡ replicate copies (slice_index_or (insert keys place k) 8 [])
 
 -- keys and children of an inner chunk, and the upper half of it, have these children between them
 abbrev pub Finished : ℕ → ℕ → Kids → List Bytes → List Child → Option Half → Type 0
-Finished depth copies es keys kids half = (kids_pieces (depth - 1) (paired keys kids) ++ half_pieces half ≡ kids_pieces (depth - 1) es)
-    × IsHalf copies depth half × (length kids ≡ length keys) × AreKeys keys × (0 < length keys) × AllKids (depth - 1) (paired keys kids)
+Finished depth copies es keys kids half =
+    (kids_pieces (depth - 1) (paired keys kids) ++ half_pieces half ≡ kids_pieces (depth - 1) es)
+    × IsHalf copies depth half × (length kids ≡ length keys) × AreKeys keys × (0 < length keys)
+    × AllKids (depth - 1) (paired keys kids)
 
 -- an own child, so deep, stands at the place of one, and shows with its upper half these rows
-abbrev pub ChildPut : Contents → ℕ → ℕ → ℕ → List Child → List Child → Option Half → (Option (List (Bytes × Bytes))) → Type 0
-ChildPut contents copies below place old new half rows = (n : Kid) × (new ≡ slice_set old place (Own n)) × (n.value.depth ≡ below) × (0 < length n.value.pieces)
+abbrev pub ChildPut : Contents → ℕ → ℕ → ℕ → List Child → List Child → Option Half
+    → (Option (List (Bytes × Bytes))) → Type 0
+ChildPut contents copies below place old new half rows = (n : Kid) × (new ≡ slice_set old place (Own n))
+    × (n.value.depth ≡ below) × (0 < length n.value.pieces)
     × (shown contents (n.value.pieces ++ half_pieces half) ≡ rows) × IsHalf copies below half
 
 -- the key where it is below the first one, else none

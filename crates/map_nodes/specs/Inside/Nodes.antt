@@ -20,5 +20,6 @@ child_rows contents below (Own n) = shown contents n.value.pieces
 
 -- an own child, so deep, stands at the place of this one, and shows these rows; so many chunks of it may be new
 abbrev pub ChildChanged : Contents → ℕ → ℕ → List Child → List Child → Child → Option Rows → Type 0
-ChildChanged contents below place old new child rows = (n : Kid) × (new ≡ slice_set old place (Own n)) × (n.value.depth ≡ below) × (shown contents n.value.pieces ≡ rows)
+ChildChanged contents below place old new child rows = (n : Kid) × (new ≡ slice_set old place (Own n))
+    × (n.value.depth ≡ below) × (shown contents n.value.pieces ≡ rows)
     × (n.value.fresh ≤ child_fresh child + below)

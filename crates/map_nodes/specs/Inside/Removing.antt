@@ -1,5 +1,6 @@
 -- A key removed below a draft's chunk.
-use Rattle.std.specs.Prelude.{◌≡◌, ◌+◌, ◌-◌, ◌<◌, ◌≤◌, ℕ, Bool, false, nat_le, List, [], ◌∷◌, length, Option, Some, None, IsSome}
+use Rattle.std.specs.Prelude.{◌≡◌, ◌+◌, ◌-◌, ◌<◌, ◌≤◌, ℕ, Bool, false, nat_le, List, [], ◌∷◌, length, Option, Some}
+use Rattle.std.specs.Prelude.{None, IsSome}
 use Rattle.group_history.specs.Map.{Bytes, same_text}
 use Rattle.group_history.specs.declared.refs.Ref.{Ref}
 use Rattle.group_history.specs.Refs.{stamp_of}
@@ -46,7 +47,8 @@ gives_way (Stays first) entries = false
 
 -- a child of this depth that shows rows in order, of which some stay
 abbrev pub CanRemove : Contents → ℕ → Bytes → Child → Type 0
-CanRemove contents below key c = IsTree (child_rows contents below c) × HasDepth below c × (0 < length (without key (rows_or (child_rows contents below c))))
+CanRemove contents below key c = IsTree (child_rows contents below c) × HasDepth below c
+    × (0 < length (without key (rows_or (child_rows contents below c))))
 
 -- what children show of which there is at most one
 abbrev pub one_shown : Contents → List Child → Option Rows
@@ -56,7 +58,8 @@ one_shown contents (c ∷ cs) = kid_shown contents c
 -- what stands in the place of a root with at most this one child: it shows what the child shows, and is wide
 abbrev pub IsHeir : Contents → Contents → List Child → Heir → Type 0
 IsHeir old new kids (heir.Placed at) = IsEnd new (one_shown old kids) at
-IsHeir old new kids (heir.Own n) = (shown new n.pieces ≡ one_shown old kids) × IsWideChunk n × (n.fresh ≤ kids_fresh kids + 1)
+IsHeir old new kids (heir.Own n) = (shown new n.pieces ≡ one_shown old kids) × IsWideChunk n
+    × (n.fresh ≤ kids_fresh kids + 1)
 
 -- a placed heir changes no child
 abbrev pub KeptBy : List Child → List Child → Heir → Type 0

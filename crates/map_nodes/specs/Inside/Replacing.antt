@@ -12,4 +12,5 @@ use Rattle.map_nodes.specs.declared.nodes.Child.{Child}
 
 -- a child of this depth that shows rows in order, among them one with the key
 abbrev pub CanReplace : Contents → ℕ → Bytes → Child → Type 0
-CanReplace contents below key c = IsTree (child_rows contents below c) × HasDepth below c × IsSome (find (slice_cmp nat_cmp) key (rows_or (child_rows contents below c)))
+CanReplace contents below key c = IsTree (child_rows contents below c) × HasDepth below c
+    × IsSome (find (slice_cmp nat_cmp) key (rows_or (child_rows contents below c)))

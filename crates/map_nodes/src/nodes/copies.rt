@@ -30,7 +30,8 @@ impl Node {
         requires known { IsSome (rows_at (C.contents chunks.old) depth (stamp_of at)) }
         ensures grown { Grows C.contents C.places chunks.old chunks.new }
         ensures depth { IfOk result (λ n. n.depth ≡ depth) }
-        ensures rows { IfOk result (λ n. shown (C.contents chunks.new) n.pieces ≡ rows_at (C.contents chunks.old) depth (stamp_of at)) }
+        ensures rows { IfOk result (λ n. shown (C.contents chunks.new) n.pieces
+            ≡ rows_at (C.contents chunks.old) depth (stamp_of at)) }
         ensures fresh { IfOk result (λ n. n.fresh ≡ 1) }
         ensures places { IfOk result (λ n. AreKept (C.places chunks.new) [] (places_of n.pieces)) }
         ensures wide { IsWideAt (C.contents chunks.new) (stamp_of at) → IfOk result IsWideChunk }

@@ -21,8 +21,11 @@ use std::alloc::Global;
 /// Refused for want of memory, or with Stamps where the nodes would have stamps from `STAMPS` on.
 pub fn frozen(alloc: Global, node: Node, draft: &mut Draft) -> Result<Ref, Refusal>
     requires below { AreBelow (draft.old.first + length draft.old.nodes) (places_of node.pieces) }
-    ensures spelled { (contents : Contents) (rows : Rows) → length contents ≡ draft.old.first → shown (with_nodes contents draft.old.nodes) node.pieces ≡ Some rows → IfOk result (λ root. rows_at (with_nodes contents draft.new.nodes) node.depth (stamp_of root) ≡ Some rows) }
-    ensures wide { (contents : Contents) → length contents ≡ draft.old.first → 1 < node.entries → IfOk result (λ root. IsWideAt (with_nodes contents draft.new.nodes) (stamp_of root)) }
+    ensures spelled { (contents : Contents) (rows : Rows) → length contents ≡ draft.old.first
+        → shown (with_nodes contents draft.old.nodes) node.pieces ≡ Some rows
+        → IfOk result (λ root. rows_at (with_nodes contents draft.new.nodes) node.depth (stamp_of root) ≡ Some rows) }
+    ensures wide { (contents : Contents) → length contents ≡ draft.old.first → 1 < node.entries
+        → IfOk result (λ root. IsWideAt (with_nodes contents draft.new.nodes) (stamp_of root)) }
     ensures named { OnOk result (AddsNamed draft.old.first (places_of node.pieces) draft.old.nodes draft.new.nodes) }
     ensures drafted { IfOk result (λ at. (draft.old.first ≤ stamp_of at) × (slot_of at ≡ 0)) }
     ensures below { IfOk result (λ at. stamp_of at < draft.new.first + length draft.new.nodes) }
@@ -30,7 +33,8 @@ pub fn frozen(alloc: Global, node: Node, draft: &mut Draft) -> Result<Ref, Refus
     ensures first { draft.new.first ≡ draft.old.first }
     ensures grown { IsPrefix draft.old.nodes draft.new.nodes }
     ensures err { OnErr result (draft.new ≡ draft.old) }
-    ensures why { IfErr result (λ e. (e ≡ refusal.NoMemory) ⊎ ((e ≡ refusal.Stamps) × (stamps < draft.old.first + length draft.old.nodes + node.fresh))) }
+    ensures why { IfErr result (λ e. (e ≡ refusal.NoMemory)
+        ⊎ ((e ≡ refusal.Stamps) × (stamps < draft.old.first + length draft.old.nodes + node.fresh))) }
 {
     let len = draft.len();
     match node.freeze(alloc, draft) {
@@ -50,16 +54,22 @@ impl Node {
     #[cycle(freezing)]
     fn freeze(self, alloc: Global, draft: &mut Draft) -> Result<Ref, Refusal>
         requires below { AreBelow (draft.old.first + length draft.old.nodes) (places_of self.pieces) }
-        ensures spelled { (contents : Contents) (rows : Rows) → length contents ≡ draft.old.first → shown (with_nodes contents draft.old.nodes) self.pieces ≡ Some rows → IfOk result (λ root. rows_at (with_nodes contents draft.new.nodes) self.depth (stamp_of root) ≡ Some rows) }
-        ensures wide { (contents : Contents) → length contents ≡ draft.old.first → 1 < self.entries → IfOk result (λ root. IsWideAt (with_nodes contents draft.new.nodes) (stamp_of root)) }
-        ensures named { OnOk result (AddsNamed draft.old.first (places_of self.pieces) draft.old.nodes draft.new.nodes) }
+        ensures spelled { (contents : Contents) (rows : Rows) → length contents ≡ draft.old.first
+            → shown (with_nodes contents draft.old.nodes) self.pieces ≡ Some rows
+            → IfOk result (λ root. rows_at (with_nodes contents draft.new.nodes) self.depth
+            (stamp_of root) ≡ Some rows) }
+        ensures wide { (contents : Contents) → length contents ≡ draft.old.first → 1 < self.entries
+            → IfOk result (λ root. IsWideAt (with_nodes contents draft.new.nodes) (stamp_of root)) }
+        ensures named { OnOk result (AddsNamed draft.old.first
+            (places_of self.pieces) draft.old.nodes draft.new.nodes) }
         ensures drafted { IfOk result (λ at. (draft.old.first ≤ stamp_of at) × (slot_of at ≡ 0)) }
         ensures below { IfOk result (λ at. stamp_of at < draft.new.first + length draft.new.nodes) }
         ensures count { OnOk result (length draft.new.nodes ≡ length draft.old.nodes + self.fresh) }
         ensures bound { OnErr result (length draft.new.nodes < length draft.old.nodes + self.fresh) }
         ensures first { draft.new.first ≡ draft.old.first }
         ensures grown { IsPrefix draft.old.nodes draft.new.nodes }
-        ensures why { IfErr result (λ e. (e ≡ refusal.NoMemory) ⊎ ((e ≡ refusal.Stamps) × (stamps ≤ draft.new.first + length draft.new.nodes))) }
+        ensures why { IfErr result (λ e. (e ≡ refusal.NoMemory)
+            ⊎ ((e ≡ refusal.Stamps) × (stamps ≤ draft.new.first + length draft.new.nodes))) }
     {
         let Node {
             depth: _,
@@ -84,7 +94,8 @@ impl Node {
 #[cycle(freezing)]
 fn freeze_kids(alloc: Global, kids: Vec<Child>, draft: &mut Draft) -> Result<Vec<Ref>, Refusal>
     requires below { AreBelow (draft.old.first + length draft.old.nodes) (kids_places kids.items) }
-    ensures frozen { IfOk result (λ ats. AreFrozen draft.old.first draft.old.nodes draft.new.nodes kids.items ats.items) }
+    ensures frozen { IfOk result (λ ats. AreFrozen draft.old.first draft.old.nodes draft.new.nodes
+        kids.items ats.items) }
     ensures named { OnOk result (AddsNamed draft.old.first (kids_places kids.items) draft.old.nodes draft.new.nodes) }
     ensures names { IfOk result (λ ats. AreNamed draft.old.first (kids_places kids.items) ats.items) }
     ensures below { IfOk result (λ ats. AreBelow (draft.new.first + length draft.new.nodes) ats.items) }
@@ -92,7 +103,8 @@ fn freeze_kids(alloc: Global, kids: Vec<Child>, draft: &mut Draft) -> Result<Vec
     ensures bound { OnErr result (length draft.new.nodes ≤ length draft.old.nodes + kids_fresh kids.items) }
     ensures first { draft.new.first ≡ draft.old.first }
     ensures grown { IsPrefix draft.old.nodes draft.new.nodes }
-    ensures why { IfErr result (λ e. (e ≡ refusal.NoMemory) ⊎ ((e ≡ refusal.Stamps) × (stamps ≤ draft.new.first + length draft.new.nodes))) }
+    ensures why { IfErr result (λ e. (e ≡ refusal.NoMemory)
+        ⊎ ((e ≡ refusal.Stamps) × (stamps ≤ draft.new.first + length draft.new.nodes))) }
 {
     let mut children = Vec::with_capacity(alloc, kids.len())?;
     for kid in kids {
@@ -113,7 +125,8 @@ fn freeze_kid(alloc: Global, kid: Child, draft: &mut Draft) -> Result<Ref, Refus
     ensures bound { OnErr result (length draft.new.nodes ≤ length draft.old.nodes + child_fresh kid) }
     ensures first { draft.new.first ≡ draft.old.first }
     ensures grown { IsPrefix draft.old.nodes draft.new.nodes }
-    ensures why { IfErr result (λ e. (e ≡ refusal.NoMemory) ⊎ ((e ≡ refusal.Stamps) × (stamps ≤ draft.new.first + length draft.new.nodes))) }
+    ensures why { IfErr result (λ e. (e ≡ refusal.NoMemory)
+        ⊎ ((e ≡ refusal.Stamps) × (stamps ≤ draft.new.first + length draft.new.nodes))) }
 {
     match kid {
         Child::Placed(at) => {

@@ -46,7 +46,8 @@ impl Node {
         requires known { IsSome (rows_at (C.contents chunks.old) depth (stamp_of at)) }
         ensures grown { Grows C.contents C.places chunks.old chunks.new }
         ensures depth { IfOk result (λ n. n.value.depth ≡ depth) }
-        ensures rows { IfOk result (λ n. shown (C.contents chunks.new) n.value.pieces ≡ rows_at (C.contents chunks.old) depth (stamp_of at)) }
+        ensures rows { IfOk result (λ n. shown (C.contents chunks.new) n.value.pieces
+            ≡ rows_at (C.contents chunks.old) depth (stamp_of at)) }
         ensures fresh { IfOk result (λ n. n.value.fresh ≡ 1) }
         ensures places { IfOk result (λ n. AreKept (C.places chunks.new) [] (places_of n.value.pieces)) }
         ensures stopped { IfErr result (λ s. (s ≡ NoMemory) ⊎ C.stops s) }

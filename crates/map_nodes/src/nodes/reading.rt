@@ -24,7 +24,8 @@ impl Node {
         requires places { AreAll (C.places chunks.old) (places_of self.now.pieces) }
         requires tree { IsTree (shown (C.contents chunks.old) self.now.pieces) }
         ensures grown { Grows C.contents C.places chunks.old chunks.new }
-        ensures value { IfOk result (λ v. v ≡ finite.find (slice_cmp nat_cmp) key.now (rows_or (shown (C.contents chunks.old) self.now.pieces))) }
+        ensures value { IfOk result (λ v. v ≡ finite.find (slice_cmp nat_cmp) key.now
+            (rows_or (shown (C.contents chunks.old) self.now.pieces))) }
         ensures stopped { IfErr result (λ s. (s ≡ NoMemory) ⊎ C.stops s) }
     {
         match &self.body {
@@ -49,7 +50,8 @@ impl Node {
         requires places { AreAll (C.places chunks.old) (places_of self.now.pieces) }
         requires tree { IsTree (shown (C.contents chunks.old) self.now.pieces) }
         ensures grown { Grows C.contents C.places chunks.old chunks.new }
-        ensures standing { IfOk result (λ s. s ≡ stands_in (rows_or (shown (C.contents chunks.old) self.now.pieces)) key.now (option_copied asked.entry)) }
+        ensures standing { IfOk result (λ s. s
+            ≡ stands_in (rows_or (shown (C.contents chunks.old) self.now.pieces)) key.now (option_copied asked.entry)) }
         ensures stopped { IfErr result C.stops }
     {
         match &self.body {
@@ -69,7 +71,8 @@ impl Node {
 
     /// Whether the chunk has no rows: then it is a leaf.
     pub fn is_empty(&self) -> bool
-        ensures { (contents : Contents) (rows : Rows) → shown contents self.now.pieces ≡ Some rows → result ≡ (length rows == 0) }
+        ensures { (contents : Contents) (rows : Rows) → shown contents self.now.pieces ≡ Some rows
+            → result ≡ (length rows == 0) }
     {
         self.keys.as_slice().is_empty()
     }

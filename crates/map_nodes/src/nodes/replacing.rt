@@ -1,5 +1,6 @@
 //! Values replaced below a draft's chunk.
-ghost use Rattle.std.specs.Prelude.{◌≡◌, ◌⊎◌, ◌+◌, ◌<◌, ◌≤◌, [], length, slice_get, Some, IfOk, IfErr, OnOk, OnErr, IsSome, vec_items};
+ghost use Rattle.std.specs.Prelude.{◌≡◌, ◌⊎◌, ◌+◌, ◌<◌, ◌≤◌, [], length, slice_get, Some, IfOk, IfErr, OnOk, OnErr};
+ghost use Rattle.std.specs.Prelude.{IsSome, vec_items};
 ghost use Rattle.std.specs.Ordering.{nat_cmp};
 ghost use Rattle.std.specs.Cmp.Lexicographic.{slice_cmp};
 ghost use Rattle.std.specs.FinMap as finite;
@@ -32,13 +33,17 @@ impl Node {
     ) -> Result<(), Stop>
         requires places { AreAll (C.places chunks.old) (places_of self.old.pieces) }
         requires tree { IsTree (shown (C.contents chunks.old) self.old.pieces) }
-        requires there { IsSome (finite.find (slice_cmp nat_cmp) key.now (rows_or (shown (C.contents chunks.old) self.old.pieces))) }
+        requires there { IsSome (finite.find (slice_cmp nat_cmp) key.now
+            (rows_or (shown (C.contents chunks.old) self.old.pieces))) }
         ensures grown { Grows C.contents C.places chunks.old chunks.new }
         ensures depth { self.new.depth ≡ self.old.depth }
         ensures entries { self.new.entries ≡ self.old.entries }
         ensures fresh { OnOk result (self.new.fresh < self.old.fresh + self.old.depth) }
-        ensures places { OnOk result (AreKept (C.places chunks.new) (places_of self.old.pieces) (places_of self.new.pieces)) }
-        ensures done { OnOk result (shown (C.contents chunks.new) self.new.pieces ≡ Some (finite.put (slice_cmp nat_cmp) key.now value (rows_or (shown (C.contents chunks.old) self.old.pieces)))) }
+        ensures places { OnOk result (AreKept (C.places chunks.new) (places_of self.old.pieces)
+            (places_of self.new.pieces)) }
+        ensures done { OnOk result (shown (C.contents chunks.new) self.new.pieces
+            ≡ Some (finite.put (slice_cmp nat_cmp) key.now value
+            (rows_or (shown (C.contents chunks.old) self.old.pieces)))) }
         ensures err { OnErr result (self.new ≡ self.old) }
         ensures stopped { IfErr result (λ s. (s ≡ NoMemory) ⊎ C.stops s) }
     {
@@ -70,10 +75,14 @@ fn replace_child<C: Chunks>(
 ) -> Result<(), Stop>
     requires places { AreAll (C.places chunks.old) (kids_places kids.old.items) }
     requires within { place < length kids.old.items }
-    requires tree { (c : Childs) → slice_get kids.old.items place ≡ Some c → CanReplace (C.contents chunks.old) below key.now c }
+    requires tree { (c : Childs) → slice_get kids.old.items place ≡ Some c
+        → CanReplace (C.contents chunks.old) below key.now c }
     ensures grown { Grows C.contents C.places chunks.old chunks.new }
-    ensures done { (c : Childs) → slice_get kids.old.items place ≡ Some c → OnOk result (ChildChanged (C.contents chunks.new) below place kids.old.items kids.new.items c (Some (finite.put (slice_cmp nat_cmp) key.now value (rows_or (child_rows (C.contents chunks.old) below c))))) }
-    ensures places { OnOk result (AreKept (C.places chunks.new) (kids_places kids.old.items) (kids_places kids.new.items)) }
+    ensures done { (c : Childs) → slice_get kids.old.items place ≡ Some c
+        → OnOk result (ChildChanged (C.contents chunks.new) below place kids.old.items kids.new.items c
+        (Some (finite.put (slice_cmp nat_cmp) key.now value (rows_or (child_rows (C.contents chunks.old) below c))))) }
+    ensures places { OnOk result (AreKept (C.places chunks.new) (kids_places kids.old.items)
+        (kids_places kids.new.items)) }
     ensures err { OnErr result (kids.new.items ≡ kids.old.items) }
     ensures stopped { IfErr result (λ s. (s ≡ NoMemory) ⊎ C.stops s) }
 {
@@ -101,7 +110,9 @@ fn replaced_copy<C: Chunks>(
     requires can { CanReplace (C.contents chunks.old) depth key.now (childs.Placed at) }
     ensures grown { Grows C.contents C.places chunks.old chunks.new }
     ensures depth { IfOk result (λ n. n.value.depth ≡ depth) }
-    ensures done { IfOk result (λ n. shown (C.contents chunks.new) n.value.pieces ≡ Some (finite.put (slice_cmp nat_cmp) key.now value (rows_or (rows_at (C.contents chunks.old) depth (stamp_of at))))) }
+    ensures done { IfOk result (λ n. shown (C.contents chunks.new) n.value.pieces
+        ≡ Some (finite.put (slice_cmp nat_cmp) key.now value
+        (rows_or (rows_at (C.contents chunks.old) depth (stamp_of at))))) }
     ensures fresh { IfOk result (λ n. n.value.fresh ≤ depth) }
     ensures places { IfOk result (λ n. AreKept (C.places chunks.new) [] (places_of n.value.pieces)) }
     ensures stopped { IfErr result (λ s. (s ≡ NoMemory) ⊎ C.stops s) }

@@ -30,7 +30,8 @@ impl Node {
         requires low { IsLow scan.now low.now }
         requires within { IsWithin scan.now out.old.items }
         ensures grown { Grows C.contents C.places chunks.old chunks.new }
-        ensures rows { OnOk result (out.new.items ≡ with_scanned scan.now out.old.items (rows_or (shown (C.contents chunks.old) self.now.pieces))) }
+        ensures rows { OnOk result (out.new.items
+            ≡ with_scanned scan.now out.old.items (rows_or (shown (C.contents chunks.old) self.now.pieces))) }
         ensures stopped { IfErr result (λ s. (s ≡ NoMemory) ⊎ C.stops s) }
     {
         match &self.body {
@@ -61,7 +62,9 @@ fn scan_kids<C: Chunks>(
     requires low { IsLow scan.now low.now }
     requires within { IsWithin scan.now out.old.items }
     ensures grown { Grows C.contents C.places chunks.old chunks.new }
-    ensures rows { OnOk result (out.new.items ≡ with_scanned scan.now out.old.items (rows_or (kids_shown (C.contents chunks.old) (paired firsts.now kids.now)))) }
+    ensures rows { OnOk result (out.new.items
+        ≡ with_scanned scan.now out.old.items
+        (rows_or (kids_shown (C.contents chunks.old) (paired firsts.now kids.now)))) }
     ensures stopped { IfErr result (λ s. (s ≡ NoMemory) ⊎ C.stops s) }
 {
     if firsts.is_empty() {
@@ -89,7 +92,8 @@ fn scan_kid<C: Chunks>(
     requires low { IsLow scan.now low.now }
     requires within { IsWithin scan.now out.old.items }
     ensures grown { Grows C.contents C.places chunks.old chunks.new }
-    ensures rows { OnOk result (out.new.items ≡ with_scanned scan.now out.old.items (rows_or (kid_shown (C.contents chunks.old) kid.now))) }
+    ensures rows { OnOk result (out.new.items
+        ≡ with_scanned scan.now out.old.items (rows_or (kid_shown (C.contents chunks.old) kid.now))) }
     ensures stopped { IfErr result (λ s. (s ≡ NoMemory) ⊎ C.stops s) }
 {
     match kid {

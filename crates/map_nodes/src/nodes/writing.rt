@@ -26,11 +26,15 @@ impl Node {
     ) -> Result<(), Stop>
         requires places { AreAll (C.places chunks.old) (places_of self.old.pieces) }
         requires tree { IsTree (shown (C.contents chunks.old) self.old.pieces) }
-        requires there { there ≡ true → IsSome (finite.find (slice_cmp nat_cmp) key.now (rows_or (shown (C.contents chunks.old) self.old.pieces))) }
+        requires there { there ≡ true → IsSome
+            (finite.find (slice_cmp nat_cmp) key.now (rows_or (shown (C.contents chunks.old) self.old.pieces))) }
         ensures grown { Grows C.contents C.places chunks.old chunks.new }
-        ensures done { OnOk result (shown (C.contents chunks.new) self.new.pieces ≡ Some (finite.put (slice_cmp nat_cmp) key.now value.now (rows_or (shown (C.contents chunks.old) self.old.pieces)))) }
+        ensures done { OnOk result (shown (C.contents chunks.new) self.new.pieces
+            ≡ Some (finite.put (slice_cmp nat_cmp) key.now value.now
+            (rows_or (shown (C.contents chunks.old) self.old.pieces)))) }
         ensures few { OnOk result (self.new.fresh ≤ self.old.fresh + 2 * self.old.depth) }
-        ensures places { OnOk result (AreKept (C.places chunks.new) (places_of self.old.pieces) (places_of self.new.pieces)) }
+        ensures places { OnOk result (AreKept (C.places chunks.new) (places_of self.old.pieces)
+            (places_of self.new.pieces)) }
         ensures replaced { there ≡ true → OnOk result (self.new.fresh < self.old.fresh + self.old.depth) }
         ensures deep { OnOk result ((self.old.depth ≤ self.new.depth) × (self.new.depth ≤ self.old.depth + 1)) }
         ensures wide { IsWideChunk self.old → OnOk result (IsWideChunk self.new) }

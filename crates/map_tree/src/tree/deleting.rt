@@ -1,12 +1,14 @@
 //! Keys removed from a map.
-ghost use Rattle.std.specs.Prelude.{◌≡◌, ◌⊎◌, ◌+◌, ◌≤◌, ◌==◌, [], ℕ, Some, None, IfOk, IfErr, OnOk, OnErr, IsSome, length};
+ghost use Rattle.std.specs.Prelude.{◌≡◌, ◌⊎◌, ◌+◌, ◌≤◌, ◌==◌, [], ℕ, Some, None, IfOk, IfErr, OnOk, OnErr, IsSome};
+ghost use Rattle.std.specs.Prelude.{length};
 ghost use Rattle.std.specs.FinMap as finite;
 ghost use Rattle.group_history.specs.Map.{Entries};
 ghost use Rattle.group_history.specs.Refs.{stamp_of};
 ghost use Rattle.group_history.specs.Spelling.{map_at};
 ghost use Rattle.group_history.specs.declared.mutators.Stop.TheVariants.{NoMemory};
 ghost use Rattle.map_chunks.specs.Places.{Grows, AreAll, AreKept};
-ghost use Rattle.map_tree.specs.Trees.{root_places, tree_places, root_map, root_depth, root_fresh, root_or, tree_map, tree_depth, tree_fresh, HasWideRoot, IsWide};
+ghost use Rattle.map_tree.specs.Trees.{root_places, tree_places, root_map, root_depth, root_fresh, root_or, tree_map};
+ghost use Rattle.map_tree.specs.Trees.{tree_depth, tree_fresh, HasWideRoot, IsWide};
 ghost use Rattle.map_chunks.specs.Seeking.{chunk_depth};
 ghost use Rattle.map_chunks.specs.Wide.{IsWideAt};
 
@@ -23,7 +25,8 @@ impl Tree {
         requires places { AreAll (C.places chunks.old) (tree_places self.now) }
         requires map { IsSome (tree_map (C.contents chunks.old) self.now) }
         ensures grown { Grows C.contents C.places chunks.old chunks.new }
-        ensures value { (m : Entries) → tree_map (C.contents chunks.old) self.now ≡ Some m → IfOk result (λ b. b ≡ (length (finite.entries m) == 0)) }
+        ensures value { (m : Entries) → tree_map (C.contents chunks.old) self.now ≡ Some m
+            → IfOk result (λ b. b ≡ (length (finite.entries m) == 0)) }
         ensures stopped { IfErr result C.stops }
     {
         match &self.root {
@@ -39,11 +42,16 @@ impl Tree {
         requires places { AreAll (C.places chunks.old) (tree_places self.old) }
         requires map { IsSome (tree_map (C.contents chunks.old) self.old) }
         ensures grown { Grows C.contents C.places chunks.old chunks.new }
-        ensures ok { (m : Entries) → tree_map (C.contents chunks.old) self.old ≡ Some m → OnOk result (tree_map (C.contents chunks.new) self.new ≡ Some (finite.remove m key.now)) }
-        ensures same { (m : Entries) → tree_map (C.contents chunks.old) self.old ≡ Some m → finite.get m key.now ≡ None → OnOk result (self.new ≡ self.old) }
-        ensures few { (d : ℕ) → tree_depth (C.contents chunks.old) self.old ≡ Some d → OnOk result (tree_fresh self.new ≤ tree_fresh self.old + d) }
-        ensures deep { (d : ℕ) → tree_depth (C.contents chunks.old) self.old ≡ Some d → OnOk result ((e : ℕ) × (tree_depth (C.contents chunks.new) self.new ≡ Some e) × (e ≤ d)) }
-        ensures wide { HasWideRoot (C.contents chunks.old) self.old → OnOk result (HasWideRoot (C.contents chunks.new) self.new) }
+        ensures ok { (m : Entries) → tree_map (C.contents chunks.old) self.old ≡ Some m
+            → OnOk result (tree_map (C.contents chunks.new) self.new ≡ Some (finite.remove m key.now)) }
+        ensures same { (m : Entries) → tree_map (C.contents chunks.old) self.old ≡ Some m → finite.get m key.now ≡ None
+            → OnOk result (self.new ≡ self.old) }
+        ensures few { (d : ℕ) → tree_depth (C.contents chunks.old) self.old ≡ Some d
+            → OnOk result (tree_fresh self.new ≤ tree_fresh self.old + d) }
+        ensures deep { (d : ℕ) → tree_depth (C.contents chunks.old) self.old ≡ Some d
+            → OnOk result ((e : ℕ) × (tree_depth (C.contents chunks.new) self.new ≡ Some e) × (e ≤ d)) }
+        ensures wide { HasWideRoot (C.contents chunks.old) self.old
+            → OnOk result (HasWideRoot (C.contents chunks.new) self.new) }
         ensures places { OnOk result (AreKept (C.places chunks.new) (tree_places self.old) (tree_places self.new)) }
         ensures err { OnErr result (self.new ≡ self.old) }
         ensures stopped { IfErr result (λ s. (s ≡ NoMemory) ⊎ C.stops s) }
@@ -67,10 +75,13 @@ impl Tree {
         requires map { IsSome (tree_map (C.contents chunks.old) self.old) }
         requires depth { tree_depth (C.contents chunks.old) self.old ≡ Some depth }
         ensures grown { Grows C.contents C.places chunks.old chunks.new }
-        ensures ok { (m : Entries) → tree_map (C.contents chunks.old) self.old ≡ Some m → OnOk result (tree_map (C.contents chunks.new) self.new ≡ Some (finite.remove m key.now)) }
-        ensures few { (d : ℕ) → tree_depth (C.contents chunks.old) self.old ≡ Some d → OnOk result (tree_fresh self.new ≤ tree_fresh self.old + d) }
+        ensures ok { (m : Entries) → tree_map (C.contents chunks.old) self.old ≡ Some m
+            → OnOk result (tree_map (C.contents chunks.new) self.new ≡ Some (finite.remove m key.now)) }
+        ensures few { (d : ℕ) → tree_depth (C.contents chunks.old) self.old ≡ Some d
+            → OnOk result (tree_fresh self.new ≤ tree_fresh self.old + d) }
         ensures deep { OnOk result ((e : ℕ) × (tree_depth (C.contents chunks.new) self.new ≡ Some e) × (e ≤ depth)) }
-        ensures wide { HasWideRoot (C.contents chunks.old) self.old → OnOk result (HasWideRoot (C.contents chunks.new) self.new) }
+        ensures wide { HasWideRoot (C.contents chunks.old) self.old
+            → OnOk result (HasWideRoot (C.contents chunks.new) self.new) }
         ensures places { OnOk result (AreKept (C.places chunks.new) (tree_places self.old) (tree_places self.new)) }
         ensures err { OnErr result (self.new ≡ self.old) }
         ensures stopped { IfErr result (λ s. (s ≡ NoMemory) ⊎ C.stops s) }
@@ -101,7 +112,8 @@ fn root_without<C: Chunks>(
     requires map { IsSome (map_at (C.contents chunks.old) (stamp_of at)) }
     requires depth { chunk_depth (C.contents chunks.old) (stamp_of at) ≡ Some depth }
     ensures grown { Grows C.contents C.places chunks.old chunks.new }
-    ensures ok { (m : Entries) → map_at (C.contents chunks.old) (stamp_of at) ≡ Some m → IfOk result (λ root. root_map (C.contents chunks.new) root ≡ Some (finite.remove m key.now)) }
+    ensures ok { (m : Entries) → map_at (C.contents chunks.old) (stamp_of at) ≡ Some m
+        → IfOk result (λ root. root_map (C.contents chunks.new) root ≡ Some (finite.remove m key.now)) }
     ensures few { IfOk result (λ root. root_fresh root ≤ depth) }
     ensures deep { IfOk result (λ root. (e : ℕ) × (root_depth (C.contents chunks.new) root ≡ Some e) × (e ≤ depth)) }
     ensures wide { IsWideAt (C.contents chunks.old) (stamp_of at) → IfOk result (IsWide (C.contents chunks.new)) }

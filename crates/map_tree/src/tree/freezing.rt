@@ -23,8 +23,13 @@ impl Tree {
     /// has stamps below the draft's next one, and so has the answer.
     pub fn freeze(self, alloc: Global, draft: &mut Draft) -> Result<Ref, Refusal>
         requires below { AreBelow (draft.old.first + length draft.old.nodes) (tree_places self) }
-        ensures spelled { (contents : Contents) (m : Entries) → length contents ≡ draft.old.first → tree_map (with_nodes contents draft.old.nodes) self ≡ Some m → IfOk result (λ root. map_at (with_nodes contents draft.new.nodes) (stamp_of root) ≡ Some m) }
-        ensures wide { (contents : Contents) (m : Entries) → length contents ≡ draft.old.first → tree_map (with_nodes contents draft.old.nodes) self ≡ Some m → HasWideRoot (with_nodes contents draft.old.nodes) self → IfOk result (λ root. IsWideAt (with_nodes contents draft.new.nodes) (stamp_of root)) }
+        ensures spelled { (contents : Contents) (m : Entries) → length contents ≡ draft.old.first
+            → tree_map (with_nodes contents draft.old.nodes) self ≡ Some m
+            → IfOk result (λ root. map_at (with_nodes contents draft.new.nodes) (stamp_of root) ≡ Some m) }
+        ensures wide { (contents : Contents) (m : Entries) → length contents ≡ draft.old.first
+            → tree_map (with_nodes contents draft.old.nodes) self ≡ Some m
+            → HasWideRoot (with_nodes contents draft.old.nodes) self
+            → IfOk result (λ root. IsWideAt (with_nodes contents draft.new.nodes) (stamp_of root)) }
         ensures shared { (at : Reference) → tree_root self ≡ Some at → (result ≡ Ok at) × (draft.new ≡ draft.old) }
         ensures named { OnOk result (AddsNamed draft.old.first (tree_places self) draft.old.nodes draft.new.nodes) }
         ensures name { IfOk result (IsNamed draft.old.first (tree_places self)) }
@@ -33,7 +38,8 @@ impl Tree {
         ensures first { draft.new.first ≡ draft.old.first }
         ensures grown { IsPrefix draft.old.nodes draft.new.nodes }
         ensures err { OnErr result (draft.new ≡ draft.old) }
-        ensures why { IfErr result (λ e. (e ≡ refusal.NoMemory) ⊎ ((e ≡ refusal.Stamps) × (stamps < draft.old.first + length draft.old.nodes + tree_fresh self))) }
+        ensures why { IfErr result (λ e. (e ≡ refusal.NoMemory)
+            ⊎ ((e ≡ refusal.Stamps) × (stamps < draft.old.first + length draft.old.nodes + tree_fresh self))) }
     {
         let Tree { root } = self;
         match root {

@@ -6,7 +6,8 @@ ghost use Rattle.group_history.specs.Refs.{stamp_of};
 ghost use Rattle.group_history.specs.Spelling.{map_at};
 ghost use Rattle.group_history.specs.declared.mutators.Stop.TheVariants.{NoMemory};
 ghost use Rattle.map_chunks.specs.Places.{Grows, AreAll, AreKept};
-ghost use Rattle.map_tree.specs.Trees.{root_places, tree_places, root_map, root_depth, root_fresh, tree_map, tree_depth, tree_fresh, HasWideRoot, IsWide};
+ghost use Rattle.map_tree.specs.Trees.{root_places, tree_places, root_map, root_depth, root_fresh, tree_map};
+ghost use Rattle.map_tree.specs.Trees.{tree_depth, tree_fresh, HasWideRoot, IsWide};
 ghost use Rattle.map_chunks.specs.Seeking.{chunk_depth};
 ghost use Rattle.map_chunks.specs.Wide.{IsWideAt};
 
@@ -30,13 +31,20 @@ impl Tree {
         requires places { AreAll (C.places chunks.old) (tree_places self.old) }
         requires map { IsSome (tree_map (C.contents chunks.old) self.old) }
         ensures grown { Grows C.contents C.places chunks.old chunks.new }
-        ensures ok { (m : Entries) → tree_map (C.contents chunks.old) self.old ≡ Some m → OnOk result (tree_map (C.contents chunks.new) self.new ≡ Some (finite.insert m key.now value.now)) }
-        ensures few { (d : ℕ) → tree_depth (C.contents chunks.old) self.old ≡ Some d → OnOk result (tree_fresh self.new ≤ tree_fresh self.old + d + d + 1) }
-        ensures replaced { (m : Entries) (d : ℕ) → tree_map (C.contents chunks.old) self.old ≡ Some m → tree_depth (C.contents chunks.old) self.old ≡ Some d → IsSome (finite.get m key.now) → OnOk result (tree_fresh self.new ≤ tree_fresh self.old + d) }
-        ensures deep { (d : ℕ) → tree_depth (C.contents chunks.old) self.old ≡ Some d → OnOk result ((e : ℕ) × (tree_depth (C.contents chunks.new) self.new ≡ Some e) × (d ≤ e) × (e ≤ d + 1)) }
-        ensures wide { HasWideRoot (C.contents chunks.old) self.old → OnOk result (HasWideRoot (C.contents chunks.new) self.new) }
+        ensures ok { (m : Entries) → tree_map (C.contents chunks.old) self.old ≡ Some m
+            → OnOk result (tree_map (C.contents chunks.new) self.new ≡ Some (finite.insert m key.now value.now)) }
+        ensures few { (d : ℕ) → tree_depth (C.contents chunks.old) self.old ≡ Some d
+            → OnOk result (tree_fresh self.new ≤ tree_fresh self.old + d + d + 1) }
+        ensures replaced { (m : Entries) (d : ℕ) → tree_map (C.contents chunks.old) self.old ≡ Some m
+            → tree_depth (C.contents chunks.old) self.old ≡ Some d → IsSome (finite.get m key.now)
+            → OnOk result (tree_fresh self.new ≤ tree_fresh self.old + d) }
+        ensures deep { (d : ℕ) → tree_depth (C.contents chunks.old) self.old ≡ Some d
+            → OnOk result ((e : ℕ) × (tree_depth (C.contents chunks.new) self.new ≡ Some e) × (d ≤ e) × (e ≤ d + 1)) }
+        ensures wide { HasWideRoot (C.contents chunks.old) self.old
+            → OnOk result (HasWideRoot (C.contents chunks.new) self.new) }
         ensures places { OnOk result (AreKept (C.places chunks.new) (tree_places self.old) (tree_places self.new)) }
-        ensures same { (m : Entries) → tree_map (C.contents chunks.old) self.old ≡ Some m → finite.get m key.now ≡ Some value.now → OnOk result (self.new ≡ self.old) }
+        ensures same { (m : Entries) → tree_map (C.contents chunks.old) self.old ≡ Some m
+            → finite.get m key.now ≡ Some value.now → OnOk result (self.new ≡ self.old) }
         ensures err { OnErr result (self.new ≡ self.old) }
         ensures stopped { IfErr result (λ s. (s ≡ NoMemory) ⊎ C.stops s) }
     {
@@ -62,13 +70,17 @@ impl Tree {
         requires places { AreAll (C.places chunks.old) (tree_places self.old) }
         requires map { IsSome (tree_map (C.contents chunks.old) self.old) }
         requires depth { tree_depth (C.contents chunks.old) self.old ≡ Some depth }
-        requires there { (m : Entries) → tree_map (C.contents chunks.old) self.old ≡ Some m → there ≡ is_some (finite.get m key.now) }
+        requires there { (m : Entries) → tree_map (C.contents chunks.old) self.old ≡ Some m
+            → there ≡ is_some (finite.get m key.now) }
         ensures grown { Grows C.contents C.places chunks.old chunks.new }
-        ensures ok { (m : Entries) → tree_map (C.contents chunks.old) self.old ≡ Some m → OnOk result (tree_map (C.contents chunks.new) self.new ≡ Some (finite.insert m key.now value.now)) }
+        ensures ok { (m : Entries) → tree_map (C.contents chunks.old) self.old ≡ Some m
+            → OnOk result (tree_map (C.contents chunks.new) self.new ≡ Some (finite.insert m key.now value.now)) }
         ensures few { OnOk result (tree_fresh self.new ≤ tree_fresh self.old + depth + depth + 1) }
         ensures replaced { there ≡ true → OnOk result (tree_fresh self.new ≤ tree_fresh self.old + depth) }
-        ensures deep { OnOk result ((e : ℕ) × (tree_depth (C.contents chunks.new) self.new ≡ Some e) × (depth ≤ e) × (e ≤ depth + 1)) }
-        ensures wide { HasWideRoot (C.contents chunks.old) self.old → OnOk result (HasWideRoot (C.contents chunks.new) self.new) }
+        ensures deep { OnOk result ((e : ℕ) × (tree_depth (C.contents chunks.new) self.new ≡ Some e) × (depth ≤ e)
+            × (e ≤ depth + 1)) }
+        ensures wide { HasWideRoot (C.contents chunks.old) self.old
+            → OnOk result (HasWideRoot (C.contents chunks.new) self.new) }
         ensures places { OnOk result (AreKept (C.places chunks.new) (tree_places self.old) (tree_places self.new)) }
         ensures err { OnErr result (self.new ≡ self.old) }
         ensures stopped { IfErr result (λ s. (s ≡ NoMemory) ⊎ C.stops s) }
@@ -97,12 +109,15 @@ fn root_with<C: Chunks>(
     requires place { C.places chunks.old at }
     requires map { IsSome (map_at (C.contents chunks.old) (stamp_of at)) }
     requires depth { chunk_depth (C.contents chunks.old) (stamp_of at) ≡ Some depth }
-    requires there { (m : Entries) → map_at (C.contents chunks.old) (stamp_of at) ≡ Some m → there ≡ is_some (finite.get m key.now) }
+    requires there { (m : Entries) → map_at (C.contents chunks.old) (stamp_of at) ≡ Some m
+        → there ≡ is_some (finite.get m key.now) }
     ensures grown { Grows C.contents C.places chunks.old chunks.new }
-    ensures ok { (m : Entries) → map_at (C.contents chunks.old) (stamp_of at) ≡ Some m → IfOk result (λ root. root_map (C.contents chunks.new) root ≡ Some (finite.insert m key.now value.now)) }
+    ensures ok { (m : Entries) → map_at (C.contents chunks.old) (stamp_of at) ≡ Some m
+        → IfOk result (λ root. root_map (C.contents chunks.new) root ≡ Some (finite.insert m key.now value.now)) }
     ensures few { IfOk result (λ root. root_fresh root ≤ depth + depth + 1) }
     ensures replaced { there ≡ true → IfOk result (λ root. root_fresh root ≤ depth) }
-    ensures deep { IfOk result (λ root. (e : ℕ) × (root_depth (C.contents chunks.new) root ≡ Some e) × (depth ≤ e) × (e ≤ depth + 1)) }
+    ensures deep { IfOk result (λ root. (e : ℕ) × (root_depth (C.contents chunks.new) root ≡ Some e) × (depth ≤ e)
+        × (e ≤ depth + 1)) }
     ensures wide { IsWideAt (C.contents chunks.old) (stamp_of at) → IfOk result (IsWide (C.contents chunks.new)) }
     ensures places { IfOk result (λ root. AreKept (C.places chunks.new) [] (root_places root)) }
     ensures stopped { IfErr result (λ s. (s ≡ NoMemory) ⊎ C.stops s) }

@@ -24,7 +24,8 @@ impl Tree {
         requires places { AreAll (C.places chunks.old) (tree_places self.now) }
         requires map { IsSome (tree_map (C.contents chunks.old) self.now) }
         ensures grown { Grows C.contents C.places chunks.old chunks.new }
-        ensures rows { (m : Entries) → tree_map (C.contents chunks.old) self.now ≡ Some m → IfOk result (λ rows. rows.items ≡ rows_of scan.now m) }
+        ensures rows { (m : Entries) → tree_map (C.contents chunks.old) self.now ≡ Some m
+            → IfOk result (λ rows. rows.items ≡ rows_of scan.now m) }
         ensures stopped { IfErr result (λ s. (s ≡ NoMemory) ⊎ C.stops s) }
     {
         let mut rows = Vec::new(alloc);
@@ -44,7 +45,8 @@ impl Tree {
         requires low { IsLow scan.now low.now }
         requires none { out.old.items ≡ [] }
         ensures grown { Grows C.contents C.places chunks.old chunks.new }
-        ensures rows { (m : Entries) → tree_map (C.contents chunks.old) self.now ≡ Some m → OnOk result (out.new.items ≡ rows_of scan.now m) }
+        ensures rows { (m : Entries) → tree_map (C.contents chunks.old) self.now ≡ Some m
+            → OnOk result (out.new.items ≡ rows_of scan.now m) }
         ensures stopped { IfErr result (λ s. (s ≡ NoMemory) ⊎ C.stops s) }
     {
         match &self.root {

@@ -11,12 +11,14 @@ use Rattle.publishing.specs.Retiring.{SettlesAll}
 
 -- in contents that begin so, the nodes have the stamps from `first` on
 abbrev pub AreDrawn : ℕ → ℕ → List (Node Ref) → Contents → Type 0
-AreDrawn from first nodes contents = (earlier : Contents) × (length earlier ≡ first) × IsPrefix (earlier ++ drawn_as from first nodes) contents
+AreDrawn from first nodes contents = (earlier : Contents) × (length earlier ≡ first)
+    × IsPrefix (earlier ++ drawn_as from first nodes) contents
 
 -- behind the old references stands one of this stamp
 abbrev pub AddsOne : ℕ → List Ref → List Ref → Type 0
 AddsOne stamp old new = (at : Ref) × (new ≡ old ++ at ∷ []) × (stamp_of at ≡ stamp)
 
--- whenever a seat that came to know v had settled just the old references, it had settled just the new ones when it came to know u
+-- whenever a seat that came to know v had settled just the old references, it had settled just the new ones when it
+-- came to know u
 abbrev pub KeepsSettled : View → List Ref → View → List Ref → Type 0
 KeepsSettled v old u new = (s : View) → SettlesAll s old v → SettlesAll s new u

@@ -41,11 +41,13 @@ unfoldable pub cookie_field : Data → Result (Option Cookie) Refusal
 cookie_field d = ok_or (option_map cookie_of (get (codes "cookie") d >>- cookie_at)) BadShape
 
 unfoldable pub changes_field : Data → Result (Option (List Confirmed)) Refusal
-changes_field d = ok_or (option_map (each change_of) (object_at (codes "lastMutationIDChanges") d >>- entries_of)) BadShape
+changes_field d = ok_or (option_map (each change_of)
+    (object_at (codes "lastMutationIDChanges") d >>- entries_of)) BadShape
 
 unfoldable pub patch_field : Data → Result (Option (List Patch)) Refusal
 patch_field d = ok_or (option_map (each operation_of) (array_at (codes "patch") d >>- edits_of)) BadShape
 
 -- the response of the three, where no number isn't whole
 abbrev pub joined : Option Cookie → Option (List Confirmed) → Option (List Patch) → Result Response Refusal
-joined c cs ops = ok_or (option_map response.Ok (c >>- λ c. cs >>- λ cs. ops >>- λ ops. Some (record { cookie = c; changes = cs; patch = ops }))) NotWhole
+joined c cs ops = ok_or (option_map response.Ok
+    (c >>- λ c. cs >>- λ cs. ops >>- λ ops. Some (record { cookie = c; changes = cs; patch = ops }))) NotWhole

@@ -1,4 +1,5 @@
--- What each kind of step tells its caller: of the step, the seat before, the number found (at a store, the number stored) and the seat after.
+-- What each kind of step tells its caller: of the step, the seat before, the number found (at a store, the number
+-- stored) and the seat after.
 use Rattle.std.specs.Prelude.{◌≡◌, ◌≢◌, ℕ, ◌+◌, ◌^◌, ◌≤◌, ◌<◌, max}
 use Rattle.atomic_table.specs.Table.{Me, Step}
 use Rattle.reader_claims.specs.declared.words.Pin.TheVariants.{Absent, Stored}
@@ -6,7 +7,8 @@ use Rattle.reader_claims.specs.declared.words.SlotState.TheVariants.{Free, Taken
 use Rattle.reader_claims.specs.declared.view.View.{View}
 use Rattle.reader_claims.specs.Words.{pin_at, slot_at, slot_word}
 use Rattle.reader_claims.specs.Lists.{In}
-use Rattle.reader_claims.specs.Views.{reader, dealer, with_epoch, with_pin, with_read, with_raise, with_taken, with_settled, with_withdrawn, with_retired, with_given, with_note}
+use Rattle.reader_claims.specs.Views.{reader, dealer, with_epoch, with_pin, with_read, with_raise, with_taken}
+use Rattle.reader_claims.specs.Views.{with_settled, with_withdrawn, with_retired, with_given, with_note}
 use Rattle.reader_claims.specs.Machine.{Move, left_by}
 
 abbrev pub Sat : Type 0
@@ -39,23 +41,33 @@ read st m r n = (j : ℕ) → st.word ≡ pin_at j → Goes st m r r n (with_rea
 
 -- won or lost, the epoch is then above the number that it was to be raised from
 abbrev pub raised : Play
-raised st m r n = (st.second ≡ st.first + 1) × Goes st m r (left_by st.first st.second r) n (with_raise m.0 (max r (st.first + 1))) × (m.0.reached ≤ r) × (r ≤ 2 ^ 60)
+raised st m r n = (st.second ≡ st.first + 1)
+    × Goes st m r (left_by st.first st.second r) n (with_raise m.0 (max r (st.first + 1)))
+    × (m.0.reached ≤ r) × (r ≤ 2 ^ 60)
 
 -- where it was won the seat did not have the slot before
 abbrev pub took : Play
 took st m r n = (st.first ≡ slot_word Free) × (st.second ≡ slot_word (Taken m.0.number))
-    × ((i : ℕ) → st.word ≡ slot_at i → (r ≡ st.first → Goes st m r st.second n (with_taken m.0 i) × (In m.0.taken i → ⊥)) × (r ≢ st.first → Goes st m r r n (with_note m.0 i st.first r)))
+    × ((i : ℕ) → st.word ≡ slot_at i → (r ≡ st.first
+    → Goes st m r st.second n (with_taken m.0 i) × (In m.0.taken i → ⊥))
+    × (r ≢ st.first → Goes st m r r n (with_note m.0 i st.first r)))
 
 abbrev pub settled : Play
-settled st m r n = (st.first ≡ slot_word (Taken m.0.number)) × (st.second ≡ slot_word Live) × (r ≡ st.first) × ((i : ℕ) → st.word ≡ slot_at i → Goes st m r st.second n (with_settled m.0 i))
+settled st m r n = (st.first ≡ slot_word (Taken m.0.number)) × (st.second ≡ slot_word Live) × (r ≡ st.first)
+    × ((i : ℕ) → st.word ≡ slot_at i → Goes st m r st.second n (with_settled m.0 i))
 
 abbrev pub withdrawn : Play
-withdrawn st m r n = (st.first ≡ slot_word (Taken m.0.number)) × (st.second ≡ slot_word Free) × (r ≡ st.first) × ((i : ℕ) → st.word ≡ slot_at i → Goes st m r st.second n (with_withdrawn m.0 i))
+withdrawn st m r n = (st.first ≡ slot_word (Taken m.0.number)) × (st.second ≡ slot_word Free) × (r ≡ st.first)
+    × ((i : ℕ) → st.word ≡ slot_at i → Goes st m r st.second n (with_withdrawn m.0 i))
 
 abbrev pub retired : Play
-retired st m r n = (st.first ≡ slot_word Live) × (st.second ≡ slot_word (Retired (m.0.loaded + 1))) × (m.0.loaded < m.0.reached)
-    × ((i : ℕ) → st.word ≡ slot_at i → (r ≡ st.first → Goes st m r st.second n (with_retired m.0 i (m.0.loaded + 1))) × (r ≢ st.first → Goes st m r r n (with_note m.0 i st.first r)))
+retired st m r n = (st.first ≡ slot_word Live) × (st.second ≡ slot_word (Retired (m.0.loaded + 1)))
+    × (m.0.loaded < m.0.reached)
+    × ((i : ℕ) → st.word ≡ slot_at i → (r ≡ st.first → Goes st m r st.second n (with_retired m.0 i (m.0.loaded + 1)))
+    × (r ≢ st.first → Goes st m r r n (with_note m.0 i st.first r)))
 
 abbrev pub gave : Play
 gave st m r n = (st.second ≡ slot_word Free)
-    × ((i e : ℕ) → st.word ≡ slot_at i → st.first ≡ slot_word (Retired e) → (r ≡ st.first → Goes st m r st.second n (with_given m.0 i e)) × (r ≢ st.first → Goes st m r r n (with_note m.0 i st.first r)))
+    × ((i e : ℕ) → st.word ≡ slot_at i → st.first ≡ slot_word (Retired e)
+    → (r ≡ st.first → Goes st m r st.second n (with_given m.0 i e))
+    × (r ≢ st.first → Goes st m r r n (with_note m.0 i st.first r)))

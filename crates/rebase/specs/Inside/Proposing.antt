@@ -1,5 +1,6 @@
 -- What is right to answer where a client asks for a change, and what leads from a state to the one after it.
-use Rattle.std.specs.Prelude.{ℕ, ◌≡◌, ◌⊎◌, ◌+◌, ◌<◌, ◌^◌, Bool, true, false, List, [], length, Option, Some, None, Result, Ok, Err}
+use Rattle.std.specs.Prelude.{ℕ, ◌≡◌, ◌⊎◌, ◌+◌, ◌<◌, ◌^◌, Bool, true, false, List, [], length, Option, Some, None}
+use Rattle.std.specs.Prelude.{Result, Ok, Err}
 use mathlib.Core.List.{IsPrefix}
 use Rattle.group_history.specs.declared.changes.Change.{Change}
 use Rattle.group_history.specs.declared.changes.Change.TheVariants.{Mutated, Pulled, Closed}
@@ -54,7 +55,8 @@ change_asked c (Err e) = None
 
 -- A client may ask for this: a mutation is its next one, and its last id was found at that commit.
 abbrev pub MayAsk : Contents → LastId → Change → Type 0
-MayAsk cs before (Mutated x) = (last_at cs (stamp_of before.at) x.client ≡ Some before.id) × (x.id ≡ before.id + 1) × (x.reason ≡ Initial)
+MayAsk cs before (Mutated x) = (last_at cs (stamp_of before.at) x.client ≡ Some before.id) × (x.id ≡ before.id + 1)
+    × (x.reason ≡ Initial)
 MayAsk cs before (Pulled ticket r) = Unit {0}
 MayAsk cs before Closed = Unit {0}
 
@@ -75,13 +77,15 @@ abbrev pub kind_left : List Mutation → Kind
 kind_left [] = kind.PullEnd
 kind_left xs = kind.Ordinary
 
--- The slots that a change may take: reserved ones at the end of a pull that leaves nothing pending, and where the group is closed.
+-- The slots that a change may take: reserved ones at the end of a pull that leaves nothing pending, and where the group
+-- is closed.
 abbrev pub kind_for : State → Change → Kind
 kind_for s (Mutated x) = kind.Ordinary
 kind_for s (Pulled ticket r) = kind_left (after_change s (Pulled ticket r)).pending
 kind_for s Closed = kind.PullEnd
 
--- The change is accepted at the state, and the draft, behind contents that were drawn, has a commit of the state after it.
+-- The change is accepted at the state, and the draft, behind contents that were drawn, has a commit of the state after
+-- it.
 pub record Leads (means : Meanings) (before : Contents) (s : State) (change : Change) (p : Proposal) : Type 0 where
   pub contents : Contents
   pub drawn : IsPrefix contents before
@@ -93,9 +97,12 @@ pub record Leads (means : Meanings) (before : Contents) (s : State) (change : Ch
 
 -- What is proposed at the state: what leads to the change, or nothing, where nothing is to be changed.
 abbrev pub Proposes : Meanings → Contents → State → ℕ → Change → Option Proposal → Type 0
-Proposes means before s last change (Some p) = (asked_reply means s last change ≡ Ok true) × Leads means before s change p
+Proposes means before s last change (Some p) = (asked_reply means s last change ≡ Ok true)
+    × Leads means before s change p
 Proposes means before s last change None = asked_reply means s last change ≡ Ok false
 
 -- Why nothing was made: nothing could be proposed, and nothing was done; or for want of something.
-abbrev pub IsUnmade : {X : Type 0} → (Result X Refusal → Option Change) → Result X Refusal → ℕ → Known → Known → Refusal → Type 0
-IsUnmade change right tries old new e = (IsUnproposed change right e × (new ≡ old)) ⊎ ((is_want e ≡ true) × IsLeft tries old new e)
+abbrev pub IsUnmade : {X : Type 0} → (Result X Refusal → Option Change) → Result X Refusal → ℕ → Known → Known
+    → Refusal → Type 0
+IsUnmade change right tries old new e = (IsUnproposed change right e × (new ≡ old))
+    ⊎ ((is_want e ≡ true) × IsLeft tries old new e)

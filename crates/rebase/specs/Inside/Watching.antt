@@ -15,4 +15,5 @@ rows_told (Some told) = Some told.rows
 -- the rows are those of the map that the root spells
 abbrev pub AreRead : Contents → Scan → Option Told → Type 0
 AreRead contents scan None = ⊤
-AreRead contents scan (Some told) = (m : Entries) × (map_at contents (stamp_of told.root) ≡ Some m) × (told.rows ≡ rows_of scan m)
+AreRead contents scan (Some told) = (m : Entries) × (map_at contents (stamp_of told.root) ≡ Some m)
+    × (told.rows ≡ rows_of scan m)

@@ -9,5 +9,6 @@ use Rattle.script_runner.specs.Context.{Context, place_of, meets}
 -- a client of a new name, where there is room for one
 abbrev pub admitted : Context → Bytes → Bytes → Result Context ScriptFault
 admitted c name id =
-    meets ((is_none (place_of name c.clients), fault.SaidTwice) ∷ (nat_lt (length c.clients) max_seats, fault.TooManyClients) ∷ [])
+    meets ((is_none (place_of name c.clients), fault.SaidTwice)
+    ∷ (nat_lt (length c.clients) max_seats, fault.TooManyClients) ∷ [])
     (record c { clients = c.clients ++ (name, id) ∷ [] })

@@ -62,4 +62,6 @@ pub record IsChecked (script : Script) : Type 0 where
   pub each_client : All (λ phase. vec_len phase.lines ≡ vec_len script.header.clients) script.phases.items
   pub seats : vec_len script.header.clients ≤ max_seats
   pub slots : IfSome script.header.slots (λ n. (16 ≤ n) × (n ≤ max_slots))
-  pub learnt : All (λ phase. All (λ lines. All (λ line. LearnsWithin (vec_len script.header.clients) line.command) lines.items) phase.lines.items) script.phases.items
+  pub learnt : All (λ phase. All (λ lines. All
+      (λ line. LearnsWithin (vec_len script.header.clients) line.command) lines.items) phase.lines.items)
+      script.phases.items

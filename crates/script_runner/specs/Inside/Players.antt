@@ -10,7 +10,11 @@ use Rattle.script_runner.specs.Commanding.{Player}
 
 -- a client of a shared group
 abbrev pub standing_of : SharedClient → Standing
-standing_of c = record { caller = caller c.client.group.now.identity c.client.id c.client.last; mark = c.client.mark; watches = c.watches }
+standing_of c = record {
+  caller = caller c.client.group.now.identity c.client.id c.client.last;
+  mark = c.client.mark;
+  watches = c.watches;
+}
 
 -- a client of a plain group
 abbrev pub standing_of_plain : PlainClient → Standing

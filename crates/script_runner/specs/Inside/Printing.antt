@@ -3,7 +3,8 @@ use Rattle.std.specs.Prelude.{[], ◌++◌, map, codes, decimal}
 use Rattle.group_history.specs.Map.{Bytes}
 use Rattle.script_runner.specs.declared.reply.Reply.{Reply}
 use Rattle.script_runner.specs.declared.reply.Reply.TheVariants as reply
-use Rattle.script_runner.specs.Printing.{array_text, bool_text, ended_text, pending_row, refusal_detail, refusal_name, row_text}
+use Rattle.script_runner.specs.Printing.{array_text, bool_text, ended_text, pending_row, refusal_detail, refusal_name}
+use Rattle.script_runner.specs.Printing.{row_text}
 
 -- the word that says which reply it is
 abbrev pub reply_word : Reply → Bytes

@@ -1,5 +1,6 @@
 -- A client's part of a phase, in the code.
-use Rattle.std.specs.Prelude.{ℕ, ◌≡◌, ◌<◌, List, [], ◌∷◌, ◌++◌, length, map, slice_index_or, Result, Ok, Err, IsOk, IfOk}
+use Rattle.std.specs.Prelude.{ℕ, ◌≡◌, ◌<◌, List, [], ◌∷◌, ◌++◌, length, map, slice_index_or, Result, Ok, Err, IsOk}
+use Rattle.std.specs.Prelude.{IfOk}
 use Rattle.std.specs.Global.{Vec}
 use Rattle.std.specs.List.{All}
 use Rattle.logbook.specs.Pages.{Book}
@@ -42,13 +43,16 @@ AreOf stands book turns = All (λ t. (stands t.client.caller).mark.book ≡ book
 
 module _ (law : Rules) where
   -- the printed text gained the line of output of one line
-  pub record IsTold (seen : List Known) (before : Player) (l : ℕ × Command) (old new : Bytes) (after : Player) : Type 0 where
+  pub record IsTold (seen : List Known) (before : Player) (l : ℕ × Command) (old new : Bytes)
+      (after : Player) : Type 0 where
     pub told : Bytes
     pub may : MayPrint law seen before l.1 told after
     pub name : after.name ≡ before.name
     pub text : new ≡ old ++ line_text l.0 before.name told
 
   -- a client's part of a phase, where memory wasn't refused
-  pub record IsTurn {C : Type 0} (stands : C → Standing) (seen : List Known) (lines : List Line) (before : Client C) (after : Turn C) : Type 0 where
-    pub told : IfOk after.printed (λ text. AreTold law seen (player_of stands before) (map line_said lines) text.items (player_of stands after.client))
+  pub record IsTurn {C : Type 0} (stands : C → Standing) (seen : List Known) (lines : List Line) (before : Client C)
+      (after : Turn C) : Type 0 where
+    pub told : IfOk after.printed (λ text. AreTold law seen (player_of stands before) (map line_said lines) text.items
+        (player_of stands after.client))
     pub group : (stands after.client.caller).mark.book ≡ (stands before.caller).mark.book

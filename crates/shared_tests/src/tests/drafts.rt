@@ -82,9 +82,11 @@ fn next_place<'a, S: Store<Nobody>>(
 ) -> Result<Place<'a, S>, Refusal>
 where
     S::Seat: Drop,
-    requires seats { All (λ seat. (S.home seat ≡ S.serves shared.now.store) × (S.reused → IsIdle (S.view seat))) seats.old.items }
+    requires seats { All (λ seat. (S.home seat ≡ S.serves shared.now.store) × (S.reused → IsIdle (S.view seat)))
+        seats.old.items }
     requires marks { All (HasSeat shared.now.head) marks.old.items }
-    ensures seats { All (λ seat. (S.home seat ≡ S.serves shared.now.store) × (S.reused → IsIdle (S.view seat))) seats.new.items }
+    ensures seats { All (λ seat. (S.home seat ≡ S.serves shared.now.store) × (S.reused → IsIdle (S.view seat)))
+        seats.new.items }
     ensures marks { All (HasSeat shared.now.head) marks.new.items }
 {
     let seat = seats.pop().ok_or(Refusal::NoSeat)?;
@@ -107,7 +109,8 @@ where
     // Places the draft of a first pull.
     fn places(&mut self, alloc: Global, cookie: &Cookie) -> Result<Vec<Ref>, Refusal>
         ensures spells { IfOk result (λ refs. PlacesBare self.new.mark.log refs.items cookie.now) }
-        ensures settled { S.reused → IfOk result (λ refs. All (λ at. In (S.view self.new.seat).settled (slot_of at)) refs.items) }
+        ensures settled { S.reused → IfOk result
+            (λ refs. All (λ at. In (S.view self.new.seat).settled (slot_of at)) refs.items) }
     {
         let draft = bare_draft(alloc, cookie)?;
         self.mark.legal();
@@ -269,7 +272,8 @@ fn pulled_by_two<S: Store<Nobody>>(
 ) -> Result<Pulls, Refusal>
 where
     S::Seat: Drop,
-    requires seats { All (λ seat. (S.home seat ≡ S.serves shared.now.store) × (S.reused → IsIdle (S.view seat))) seats.old.items }
+    requires seats { All (λ seat. (S.home seat ≡ S.serves shared.now.store) × (S.reused → IsIdle (S.view seat)))
+        seats.old.items }
     requires marks { All (HasSeat shared.now.head) marks.old.items }
 {
     let mut one = next_place(shared, seats, marks)?;
@@ -365,7 +369,8 @@ fn lost_by_two<S: Store<Nobody>>(
 ) -> Result<(bool, u32, u32), Refusal>
 where
     S::Seat: Drop,
-    requires seats { All (λ seat. (S.home seat ≡ S.serves shared.now.store) × (S.reused → IsIdle (S.view seat))) seats.old.items }
+    requires seats { All (λ seat. (S.home seat ≡ S.serves shared.now.store) × (S.reused → IsIdle (S.view seat)))
+        seats.old.items }
     requires marks { All (HasSeat shared.now.head) marks.old.items }
 {
     let mut one = next_place(shared, seats, marks)?;
@@ -412,7 +417,8 @@ fn crowd<S: Store<Nobody>>(
 ) -> Result<[Option<usize>; 4], Refusal>
 where
     S::Seat: Drop,
-    requires seats { All (λ seat. (S.home seat ≡ S.serves shared.now.store) × (S.reused → IsIdle (S.view seat))) seats.old.items }
+    requires seats { All (λ seat. (S.home seat ≡ S.serves shared.now.store) × (S.reused → IsIdle (S.view seat)))
+        seats.old.items }
     requires marks { All (HasSeat shared.now.head) marks.old.items }
 {
     let mut place = next_place(shared, seats, marks)?;

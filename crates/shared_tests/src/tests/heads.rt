@@ -102,8 +102,10 @@ pub(super) fn drafts(
     requires seat { IsSome mark.old.seat }
     ensures book { mark.new.book ≡ mark.old.book }
     ensures seat { mark.new.seat ≡ mark.old.seat }
-    ensures drawn { IfOk result (λ drew. IfOk drew (λ first. (first < stamps) × SpellsBare mark.new.log first cookie.now)) }
-    ensures content { IfOk result (λ drew. IfOk drew (λ first. IsContent mark.new.log first (bare cookie.now (record { bits = 7 })))) }
+    ensures drawn { IfOk result (λ drew. IfOk drew
+        (λ first. (first < stamps) × SpellsBare mark.new.log first cookie.now)) }
+    ensures content { IfOk result (λ drew. IfOk drew
+        (λ first. IsContent mark.new.log first (bare cookie.now (record { bits = 7 })))) }
 {
     let nodes = [bare_snapshot(alloc, cookie)?];
     mark.legal();

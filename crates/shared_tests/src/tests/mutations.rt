@@ -1,4 +1,5 @@
-//! Of mutations of a shared group, over both stores: that they are made, seen by others, and refused when they should be.
+//! Of mutations of a shared group, over both stores: that they are made, seen by others, and refused when they should
+//! be.
 ghost use Rattle.std.specs.Prelude.{◌≡◌, IfOk};
 ghost use Rattle.std.specs.List.{All};
 
@@ -42,8 +43,10 @@ fn next_client<'g, S: Store<Setter>>(
 ) -> Result<Client<'g, Setter, S>, Refusal>
 where
     S::Seat: Drop,
-    requires { All (λ seat. (seat.mark.book ≡ group.now.shared.head) × (S.home seat.slots ≡ S.serves group.now.shared.store)) seats.old.free.items }
-    ensures seats { All (λ seat. (seat.mark.book ≡ group.now.shared.head) × (S.home seat.slots ≡ S.serves group.now.shared.store)) seats.new.free.items }
+    requires { All (λ seat. (seat.mark.book ≡ group.now.shared.head)
+        × (S.home seat.slots ≡ S.serves group.now.shared.store)) seats.old.free.items }
+    ensures seats { All (λ seat. (seat.mark.book ≡ group.now.shared.head)
+        × (S.home seat.slots ≡ S.serves group.now.shared.store)) seats.new.free.items }
     ensures group { IfOk result (λ client. client.mark.book ≡ group.now.shared.head) }
 {
     let a = id(A)?;
@@ -189,7 +192,8 @@ fn made_by<S: Store<Setter>>(
 ) -> Result<Made, Refusal>
 where
     S::Seat: Drop,
-    requires { All (λ seat. (seat.mark.book ≡ group.now.shared.head) × (S.home seat.slots ≡ S.serves group.now.shared.store)) seats.old.free.items }
+    requires { All (λ seat. (seat.mark.book ≡ group.now.shared.head)
+        × (S.home seat.slots ≡ S.serves group.now.shared.store)) seats.old.free.items }
 {
     let mut a = next_client(group, seats)?;
     let mut c = next_client(group, seats)?;

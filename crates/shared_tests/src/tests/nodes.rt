@@ -42,7 +42,8 @@ fn next_place<'a, S: Store<Nobody>>(
 ) -> Result<Place<'a, S>, Refusal>
 where
     S::Seat: Drop,
-    requires seats { All (λ seat. (S.home seat ≡ S.serves shared.now.store) × (S.reused → IsIdle (S.view seat))) seats.old.items }
+    requires seats { All (λ seat. (S.home seat ≡ S.serves shared.now.store) × (S.reused → IsIdle (S.view seat)))
+        seats.old.items }
     requires marks { All (HasSeat shared.now.head) marks.old.items }
 {
     let seat = seats.pop().ok_or(Refusal::NoSeat)?;
@@ -103,7 +104,8 @@ where
     fn drafts(&mut self, alloc: Global, cookie: &Cookie) -> Result<u64, Refusal>
         ensures stamp { IfOk result (λ stamp. stamp < stamps) }
         ensures spells { IfOk result (λ stamp. SpellsBare self.new.mark.log stamp cookie.now) }
-        ensures content { IfOk result (λ stamp. IsContent self.new.mark.log stamp (bare cookie.now (record { bits = 7 }))) }
+        ensures content { IfOk result (λ stamp. IsContent self.new.mark.log stamp
+            (bare cookie.now (record { bits = 7 }))) }
     {
         match drafts(&self.shared.head, &mut self.mark, alloc, cookie)? {
             Ok(stamp) => Ok(stamp),
@@ -188,7 +190,8 @@ fn seen_by<S: Store<Nobody>>(
 ) -> Result<Seen, Refusal>
 where
     S::Seat: Drop,
-    requires seats { All (λ seat. (S.home seat ≡ S.serves shared.now.store) × (S.reused → IsIdle (S.view seat))) seats.old.items }
+    requires seats { All (λ seat. (S.home seat ≡ S.serves shared.now.store) × (S.reused → IsIdle (S.view seat)))
+        seats.old.items }
     requires marks { All (HasSeat shared.now.head) marks.old.items }
 {
     let mut place = next_place(shared, seats, marks)?;

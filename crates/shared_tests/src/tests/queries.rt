@@ -54,8 +54,10 @@ fn next_client<'g, S: Store<Nobody>>(
 ) -> Result<Client<'g, Nobody, S>, Refusal>
 where
     S::Seat: Drop,
-    requires { All (λ seat. (seat.mark.book ≡ group.now.shared.head) × (S.home seat.slots ≡ S.serves group.now.shared.store)) seats.old.free.items }
-    ensures seats { All (λ seat. (seat.mark.book ≡ group.now.shared.head) × (S.home seat.slots ≡ S.serves group.now.shared.store)) seats.new.free.items }
+    requires { All (λ seat. (seat.mark.book ≡ group.now.shared.head)
+        × (S.home seat.slots ≡ S.serves group.now.shared.store)) seats.old.free.items }
+    ensures seats { All (λ seat. (seat.mark.book ≡ group.now.shared.head)
+        × (S.home seat.slots ≡ S.serves group.now.shared.store)) seats.new.free.items }
     ensures group { IfOk result (λ client. client.mark.book ≡ group.now.shared.head) }
 {
     let seat = seats.take()?;
@@ -190,7 +192,8 @@ fn both<S: Store<Nobody>>(
 ) -> Result<(Answered, Answered, bool), Refusal>
 where
     S::Seat: Drop,
-    requires { All (λ seat. (seat.mark.book ≡ group.now.shared.head) × (S.home seat.slots ≡ S.serves group.now.shared.store)) seats.old.free.items }
+    requires { All (λ seat. (seat.mark.book ≡ group.now.shared.head)
+        × (S.home seat.slots ≡ S.serves group.now.shared.store)) seats.old.free.items }
 {
     let mut a = next_client(group, seats, A)?;
     let mut b = next_client(group, seats, B)?;

@@ -141,9 +141,11 @@ fn next_place<'a, S: Store<Nobody>>(
 where
     S::Seat: Drop,
     requires book { S.book store.now ≡ head.now }
-    requires seats { All (λ seat. (S.home seat ≡ S.serves store.now) × (S.reused → IsIdle (S.view seat))) seats.old.items }
+    requires seats { All (λ seat. (S.home seat ≡ S.serves store.now) × (S.reused → IsIdle (S.view seat)))
+        seats.old.items }
     requires marks { All (HasSeat head.now) marks.old.items }
-    ensures seats { All (λ seat. (S.home seat ≡ S.serves store.now) × (S.reused → IsIdle (S.view seat))) seats.new.items }
+    ensures seats { All (λ seat. (S.home seat ≡ S.serves store.now) × (S.reused → IsIdle (S.view seat)))
+        seats.new.items }
     ensures marks { All (HasSeat head.now) marks.new.items }
 {
     let seat = seats.pop().ok_or(Refusal::NoSeat)?;

@@ -62,8 +62,10 @@ fn next_player<'g, S: Store<ScriptMutators>>(
 ) -> Result<Player<'g, S>, Refusal>
 where
     S::Seat: Drop,
-    requires { All (λ seat. (seat.mark.book ≡ group.now.shared.head) × (S.home seat.slots ≡ S.serves group.now.shared.store)) seats.old.free.items }
-    ensures { All (λ seat. (seat.mark.book ≡ group.now.shared.head) × (S.home seat.slots ≡ S.serves group.now.shared.store)) seats.new.free.items }
+    requires { All (λ seat. (seat.mark.book ≡ group.now.shared.head)
+        × (S.home seat.slots ≡ S.serves group.now.shared.store)) seats.old.free.items }
+    ensures { All (λ seat. (seat.mark.book ≡ group.now.shared.head)
+        × (S.home seat.slots ≡ S.serves group.now.shared.store)) seats.new.free.items }
 {
     let id = id(text)?;
     let seat = seats.take()?;
@@ -82,7 +84,8 @@ pub(super) fn players_of<'g, S: Store<ScriptMutators>>(
 ) -> Result<Vec<Player<'g, S>>, Refusal>
 where
     S::Seat: Drop,
-    requires { All (λ seat. (seat.mark.book ≡ group.now.shared.head) × (S.home seat.slots ≡ S.serves group.now.shared.store)) seats.old.free.items }
+    requires { All (λ seat. (seat.mark.book ≡ group.now.shared.head)
+        × (S.home seat.slots ≡ S.serves group.now.shared.store)) seats.old.free.items }
 {
     let mut players = Vec::new(alloc);
     for id in ids {
@@ -101,7 +104,8 @@ pub(super) fn opened<S: Store<ScriptMutators> + Drop>(
 where
     S::Seat: Drop,
     S::Parts: Drop,
-    ensures { IfOk result (λ made. All (λ seat. (seat.mark.book ≡ made.0.shared.head) × (S.home seat.slots ≡ S.serves made.0.shared.store)) made.1.free.items) }
+    ensures { IfOk result (λ made. All (λ seat. (seat.mark.book ≡ made.0.shared.head)
+        × (S.home seat.slots ≡ S.serves made.0.shared.store)) made.1.free.items) }
 {
     let config = config_of(alloc, slots, clients)?;
     Group::<ScriptMutators, S>::open(alloc, config, ScriptMutators, parts)

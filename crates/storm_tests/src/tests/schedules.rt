@@ -1,4 +1,5 @@
-//! Of two threads whose steps fall as a gate says: one of them comes to a certain step, lets the other one go, and waits
+//! Of two threads whose steps fall as a gate says: one of them comes to a certain step, lets the other one go, and
+//! waits
 //! until that one is done.
 ghost use Rattle.std.specs.Prelude.{◌≡◌};
 ghost use Rattle.std.specs.List.{All};
@@ -43,7 +44,8 @@ struct Moment {
     side: Side,
 }
 
-// The moments at which a gate holds a thread: those whose number, counted from the first, is a multiple of `every`, and so
+// The moments at which a gate holds a thread: those whose number, counted from the first, is a multiple of `every`, and
+// so
 // often.
 #[derive(Drop)]
 struct Holds {
@@ -236,7 +238,8 @@ where
     Ok((turns.holds.rounds, None))
 }
 
-// The client whose mutations lose. When it is done, or is refused something, the other need not wait for it any more; so
+// The client whose mutations lose. When it is done, or is refused something, the other need not wait for it any more;
+// so
 // it is with each client of a thread.
 fn loses<S: Store<ScriptMutators>>(
     alloc: Global,
@@ -301,7 +304,8 @@ fn losing_in<R: Threads + Sync, S: Store<ScriptMutators>>(
 ) -> Result<(Run, Pulls, Run), Refusal>
 where
     S::Seat: Drop,
-    requires { All (λ seat. (seat.mark.book ≡ group.now.shared.head) × (S.home seat.slots ≡ S.serves group.now.shared.store)) seats.old.free.items }
+    requires { All (λ seat. (seat.mark.book ≡ group.now.shared.head)
+        × (S.home seat.slots ≡ S.serves group.now.shared.store)) seats.old.free.items }
 {
     let mut players = players_of(alloc, group, seats, &[A, B])?;
     losing_of(rt, alloc, players.as_mut_slice(), turns)
@@ -457,7 +461,8 @@ fn reading_in<R: Threads + Sync, S: Store<ScriptMutators>>(
 ) -> Result<(Seen, Run), Refusal>
 where
     S::Seat: Drop,
-    requires { All (λ seat. (seat.mark.book ≡ group.now.shared.head) × (S.home seat.slots ≡ S.serves group.now.shared.store)) seats.old.free.items }
+    requires { All (λ seat. (seat.mark.book ≡ group.now.shared.head)
+        × (S.home seat.slots ≡ S.serves group.now.shared.store)) seats.old.free.items }
 {
     let mut players = players_of(alloc, group, seats, &[A, B])?;
     reading_of(rt, alloc, players.as_mut_slice(), turns)
@@ -653,7 +658,8 @@ fn relay_in<R: Threads + Sync, S: Store<ScriptMutators>>(
 ) -> Result<(Seen, Run), Refusal>
 where
     S::Seat: Drop,
-    requires { All (λ seat. (seat.mark.book ≡ group.now.shared.head) × (S.home seat.slots ≡ S.serves group.now.shared.store)) seats.old.free.items }
+    requires { All (λ seat. (seat.mark.book ≡ group.now.shared.head)
+        × (S.home seat.slots ≡ S.serves group.now.shared.store)) seats.old.free.items }
 {
     let mut players = players_of(alloc, group, seats, &[A, B, C])?;
     relay_of(rt, alloc, players.as_mut_slice(), relay)
@@ -700,7 +706,8 @@ fn relayed<R: Threads + Sync>(rt: &R, alloc: Global) -> Result<(Seen, Run), Refu
     relay_in_new::<R, Gated<Arena<ScriptMutators>, &Relay>>(rt, alloc, ((), &relay), &relay)
 }
 
-// C's second pull is at the head, and has not raised the epoch yet, when B's pull begins. B has pinned the epoch of then
+// C's second pull is at the head, and has not raised the epoch yet, when B's pull begins. B has pinned the epoch of
+// then
 // when C raises it. A reader that comes now pins the raised one, and reads C's commit. So B may not retire that by the
 // epoch that it pinned: the reader would not keep its two slots.
 #[test]

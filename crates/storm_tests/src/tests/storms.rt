@@ -1,7 +1,8 @@
 //! Of five threads in a group with few slots. Four clients mutate as fast as they can, and the fifth has a server count
 //! what is pending and pulls what it counted.
 //!
-//! Slots come back by the pulls alone. So the storm ends only if none is lost for good, if none that a reader still needs
+//! Slots come back by the pulls alone. So the storm ends only if none is lost for good, if none that a reader still
+//! needs
 //! is used again, and if nobody is kept away for ever; and the server's count is right only if each mutation is pending
 //! until it is confirmed, and then no more.
 ghost use Rattle.std.specs.Prelude.{◌≡◌};
@@ -523,7 +524,8 @@ fn storm_in<R: Threads + Sync, S: Store<ScriptMutators>>(
 ) -> Result<Storm, Refusal>
 where
     S::Seat: Drop,
-    requires { All (λ seat. (seat.mark.book ≡ group.now.shared.head) × (S.home seat.slots ≡ S.serves group.now.shared.store)) seats.old.free.items }
+    requires { All (λ seat. (seat.mark.book ≡ group.now.shared.head)
+        × (S.home seat.slots ≡ S.serves group.now.shared.store)) seats.old.free.items }
 {
     let mut players = players_of(alloc, group, seats, &[E, A, B, C, D])?;
     storm_of(rt, alloc, players.as_mut_slice())
@@ -542,7 +544,8 @@ where
     storm_in(rt, alloc, &group, &mut seats)
 }
 
-// Full is answered often, since the slots are few. Busy is not: it says that a hundred steps were lost in a row. None is
+// Full is answered often, since the slots are few. Busy is not: it says that a hundred steps were lost in a row. None
+// is
 // ever Gone, since each call looks at what it pins.
 fn is_through(storm: &Storm) -> bool {
     let answers = &storm.answers;

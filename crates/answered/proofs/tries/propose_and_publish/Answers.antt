@@ -12,7 +12,8 @@ publish_proposal-requires-clause-right g c =
     let seen = c.look-base.new.mark in
     let s : State = after (record_of seen.log) in
     let spelled = c.look-base.ensures.base in
-    let made = subst (IsProposed (λ draft m. g.P.Proposes.leads at draft seen.log c.look-base.result m) (g.P.Proposes.change at) (g.P.Proposes.right at s)) c.in-Change.is (c.in-Ok.ensures.ok s spelled) in
+    let made = subst (IsProposed (λ draft m. g.P.Proposes.leads at draft seen.log c.look-base.result m)
+    (g.P.Proposes.change at) (g.P.Proposes.right at s)) c.in-Change.is (c.in-Ok.ensures.ok s spelled) in
     (s, spelled, made.0)
 
 pub returns-in-Change-clause-answer : goal.returns-in-Change-clause-answer
@@ -20,10 +21,13 @@ returns-in-Change-clause-answer g c =
     let p = g.P.Proposes in
     let look = c.look-base.ensures in
     let done = c.publish_proposal in
-    some_since g.M.Means.means c.args.tries c.args.mark.now c.look-base.new.mark done.new.mark done.result (p.change c.args.proposer.now) (p.right c.args.proposer.now) look.seen look.seat look.own look.others done.ensures.answer
+    some_since g.M.Means.means c.args.tries c.args.mark.now c.look-base.new.mark done.new.mark done.result
+    (p.change c.args.proposer.now) (p.right c.args.proposer.now) look.seen look.seat look.own look.others
+    done.ensures.answer
 
 pub returns-in-Change-clause-lost : goal.returns-in-Change-clause-lost
 returns-in-Change-clause-lost g c =
     let look = c.look-base.ensures in
     let done = c.publish_proposal in
-    none_since c.args.mark.now c.look-base.new.mark done.new.mark c.look-base.result done.result done.ensures.seen done.ensures.number look.own look.others look.last done.ensures.lost
+    none_since c.args.mark.now c.look-base.new.mark done.new.mark c.look-base.result done.result done.ensures.seen
+    done.ensures.number look.own look.others look.last done.ensures.lost

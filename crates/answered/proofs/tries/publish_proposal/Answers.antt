@@ -14,7 +14,8 @@ returns-in-Won-clause-answer g c =
     let right = c.requires.right in
     let ends = Ends means old new c.args.base made.change in
     let won = subst ends c.in-Won.is (subst (λ r. IfOk r ends) c.in-Ok.is c.publish-published.ensures.ok) in
-    replied_won means c.args.tries old new made.reply (p.change c.args.proposer.now) (p.right c.args.proposer.now) made.change right.0 right.2 c.requires.change (won right.0 right.1)
+    replied_won means c.args.tries old new made.reply (p.change c.args.proposer.now)
+    (p.right c.args.proposer.now) made.change right.0 right.2 c.requires.change (won right.0 right.1)
 
 pub returns-in-Lost-clause-lost : goal.returns-in-Lost-clause-lost
 returns-in-Lost-clause-lost g c =

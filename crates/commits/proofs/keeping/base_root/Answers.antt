@@ -16,18 +16,24 @@ show_root-requires-clause-known g c = c.in_ok-snapshot.ensures.lies.0
 pub returns-clause-map : goal.returns-clause-map
 returns-clause-map g c =
     let m = g.N.Chunks.contents in let k = c.in_ok-root.ensures.content in
-    let v = some_version (m c.snapshot_of.new.nodes) (stamp_of c.in_ok-snapshot.snapshot) c.in_ok-snapshot.ensures.lies.0 in
+    let v = some_version (m c.snapshot_of.new.nodes)
+    (stamp_of c.in_ok-snapshot.snapshot) c.in_ok-snapshot.ensures.lies.0 in
     subst (λ (r : Ref). IsSome (map_at (m c.show_root.new.nodes) (stamp_of r))) (sym k.2)
-    (subst (λ (o : Option Entries). IsSome o) (sym (root_read (m c.snapshot_of.new.nodes) (m c.show_root.new.nodes) (stamp_of c.in_ok-snapshot.snapshot) k.0 v.0 v.1 c.show_root.ensures.grown.0 k.1.1)) refl)
+    (subst (λ (o : Option Entries). IsSome o)
+    (sym (root_read (m c.snapshot_of.new.nodes) (m c.show_root.new.nodes)
+    (stamp_of c.in_ok-snapshot.snapshot) k.0 v.0 v.1 c.show_root.ensures.grown.0 k.1.1)) refl)
 
 pub returns-clause-reached : goal.returns-clause-reached
 returns-clause-reached g c =
     let m = g.N.Chunks.contents in let k = c.in_ok-root.ensures.content in
-    let r = reaches_stays (m c.snapshot_of.new.nodes) (m c.show_root.new.nodes) (stamp_of c.args.head) (stamp_of c.in_ok-snapshot.snapshot) c.show_root.ensures.grown.0 c.in_ok-snapshot.ensures.reached in
+    let r = reaches_stays (m c.snapshot_of.new.nodes) (m c.show_root.new.nodes) (stamp_of c.args.head)
+    (stamp_of c.in_ok-snapshot.snapshot) c.show_root.ensures.grown.0 c.in_ok-snapshot.ensures.reached in
     subst (λ (r : Ref). Reaches (m c.show_root.new.nodes) (stamp_of c.args.head) (stamp_of r)) (sym k.2)
     (root_reached (m c.show_root.new.nodes) (stamp_of c.args.head) (stamp_of c.in_ok-snapshot.snapshot) k.0 r k.1.1)
 
 pub returns-clause-place : goal.returns-clause-place
 returns-clause-place g c =
     let k = c.in_ok-root.ensures.content in
-    subst (g.N.Chunks.places c.show_root.new.nodes) (sym k.2) (root_may (g.N.Chunks.places c.show_root.new.nodes) (g.N.Chunks.contents c.show_root.new.nodes) (stamp_of c.in_ok-snapshot.snapshot) k.0 k.1)
+    subst (g.N.Chunks.places c.show_root.new.nodes) (sym k.2)
+    (root_may (g.N.Chunks.places c.show_root.new.nodes) (g.N.Chunks.contents c.show_root.new.nodes)
+    (stamp_of c.in_ok-snapshot.snapshot) k.0 k.1)

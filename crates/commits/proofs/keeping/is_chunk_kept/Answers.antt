@@ -12,27 +12,38 @@ pub returns-in_default-clause-kept : goal.returns-in_default-clause-kept
 returns-in_default-clause-kept g c =
     let m = g.C.Chunks.contents in let k = c.in_ok-key.ensures.content in
     let none : c.in_ok-key.field-0 ≡ None = none_from c.in_ok-key.field-0 c.in_default.not-Some in
-    let e = kept_empty (m c.args.chunks.now) (m c.show_first_key.new.chunks) (stamp_of c.args.root) (stamp_of c.args.at) k.0 c.requires.root c.requires.chunk c.show_first_key.ensures.grown.0 k.1 (subst (IsFirst (keys_in k.0)) none k.2) in (
-      λ t. e.0 (sym c.stamp.ensures.stamp ∙ (eqb-true c.stamp.result c.stamp-in_default.result t ∙ c.stamp-in_default.ensures.stamp)),
-      λ r. eq-eqb c.stamp.result c.stamp-in_default.result (c.stamp.ensures.stamp ∙ (e.1 r ∙ sym c.stamp-in_default.ensures.stamp)),
+    let e = kept_empty (m c.args.chunks.now) (m c.show_first_key.new.chunks) (stamp_of c.args.root)
+    (stamp_of c.args.at) k.0 c.requires.root c.requires.chunk c.show_first_key.ensures.grown.0 k.1
+    (subst (IsFirst (keys_in k.0)) none k.2) in (
+      λ t. e.0 (sym c.stamp.ensures.stamp ∙ (eqb-true c.stamp.result c.stamp-in_default.result t ∙
+          c.stamp-in_default.ensures.stamp)),
+      λ r. eq-eqb c.stamp.result c.stamp-in_default.result
+          (c.stamp.ensures.stamp ∙ (e.1 r ∙ sym c.stamp-in_default.ensures.stamp)),
     )
 
 pub meets-requires-clause-root : goal.meets-requires-clause-root
-meets-requires-clause-root g c = let m = g.C.Chunks.contents in map_some_stays (m c.args.chunks.now) (m c.show_first_key.new.chunks) (stamp_of c.args.root) c.show_first_key.ensures.grown.0 c.requires.root
+meets-requires-clause-root g c = let m = g.C.Chunks.contents in
+    map_some_stays (m c.args.chunks.now) (m c.show_first_key.new.chunks)
+    (stamp_of c.args.root) c.show_first_key.ensures.grown.0 c.requires.root
 
 pub meets-requires-clause-key : goal.meets-requires-clause-key
 meets-requires-clause-key g c =
     let m = g.C.Chunks.contents in let k = c.in_ok-key.ensures.content in
     subst (λ (n : ℕ). HasKey (m c.show_first_key.new.chunks) n c.in-Some.key) (sym c.stamp-2.ensures.stamp)
-    (kept_key (m c.args.chunks.now) (m c.show_first_key.new.chunks) (stamp_of c.args.at) k.0 c.in-Some.key c.requires.chunk c.show_first_key.ensures.grown.0 k.1 (subst (IsFirst (keys_in k.0)) c.in-Some.is k.2))
+    (kept_key (m c.args.chunks.now) (m c.show_first_key.new.chunks)
+    (stamp_of c.args.at) k.0 c.in-Some.key c.requires.chunk c.show_first_key.ensures.grown.0 k.1
+    (subst (IsFirst (keys_in k.0)) c.in-Some.is k.2))
 
 pub returns-clause-kept : goal.returns-clause-kept
 returns-clause-kept g c =
     let m = g.C.Chunks.contents in
     let root = stamp_of c.args.root in let at = stamp_of c.args.at in
     let middle = m c.show_first_key.new.chunks in
-    let met = subst (λ (n : ℕ). IsTrue c.in_ok-met.met ↔ Reaches middle root n) c.stamp-2.ensures.stamp c.in_ok-met.ensures.met in
-    let both = kept_grown middle (m c.meets.new.chunks) root at (map_some_stays (m c.args.chunks.now) middle root c.show_first_key.ensures.grown.0 c.requires.root) c.meets.ensures.grown.0 in
+    let met = subst (λ (n : ℕ). IsTrue c.in_ok-met.met ↔ Reaches middle root n) c.stamp-2.ensures.stamp
+    c.in_ok-met.ensures.met in
+    let both = kept_grown middle (m c.meets.new.chunks) root at
+    (map_some_stays (m c.args.chunks.now) middle root c.show_first_key.ensures.grown.0 c.requires.root)
+    c.meets.ensures.grown.0 in
     (λ t. both.0 (met.0 t), λ r. met.1 (both.1 r))
 
 pub meets-requires-clause-place : goal.meets-requires-clause-place

@@ -11,8 +11,16 @@ pub returns-in-Commit-clause-kept : goal.returns-in-Commit-clause-kept
 returns-in-Commit-clause-kept g c =
     let m = g.N.Chunks.contents c.args.nodes.now in
     let o = map_ordered m (stamp_of c.args.root) c.requires.root in
-    let v = subst (IsSpelled m) c.in-Commit.is c.requires.found in
-    (λ t. absurd (cc t), λ r. absurd (commit_unreached m (stamp_of c.args.root) (stamp_of c.in-Commit.field-0) o.0 v.0 o.1 v.1 (subst (λ (f : Found). Reaches m (stamp_of c.args.root) (stamp_in f)) c.in-Commit.is r)))
+    let v = subst (IsSpelled m) c.in-Commit.is c.requires.found in (
+      λ t. absurd (cc t),
+      λ r. absurd (commit_unreached m (stamp_of c.args.root)
+          (stamp_of c.in-Commit.field-0) o.0 v.0 o.1 v.1
+          (subst (λ (f : Found). Reaches m (stamp_of c.args.root) (stamp_in f)) c.in-Commit.is r)),
+    )
 
 pub is_chunk_kept-requires-clause-places : goal.is_chunk_kept-requires-clause-places
-is_chunk_kept-requires-clause-places g c = (c.requires.places.0, subst (λ (f : Found). g.N.Chunks.places c.args.nodes.now (ref_in f)) c.in-Chunk.is c.requires.places.1)
+is_chunk_kept-requires-clause-places g c = (
+  c.requires.places.0,
+  subst (λ (f : Found). g.N.Chunks.places c.args.nodes.now (ref_in f)) c.in-Chunk.is
+      c.requires.places.1,
+)

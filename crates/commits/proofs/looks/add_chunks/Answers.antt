@@ -16,4 +16,5 @@ loop-root-preserved c =
     let longer : map as_chunk (take (i + 1) rs) ≡ map as_chunk (take i rs) ++ found.Chunk (get_or rs i none) ∷ [] =
     ap (map as_chunk) (take_more rs i none low) ∙ map-append as_chunk (take i rs) (get_or rs i none ∷ []) in
     subst (λ (w : List Found). Adds c.args.frontier.now w c.add.new.self) (sym longer)
-    (adds_more c.args.frontier.now c.loop-root.frontier c.add.new.self (map as_chunk (take i rs)) (found.Chunk (get_or rs i none) ∷ []) c.loop-root.invariant c.in_ok-add.ensures)
+    (adds_more c.args.frontier.now c.loop-root.frontier c.add.new.self (map as_chunk (take i rs))
+    (found.Chunk (get_or rs i none) ∷ []) c.loop-root.invariant c.in_ok-add.ensures)

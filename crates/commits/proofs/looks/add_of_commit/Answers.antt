@@ -7,4 +7,6 @@ use Rattle.commits.proofs.looks.add_of_commit.Goals as goal
 
 pub returns : goal.returns
 returns c =
-    on_ok_weaker c.add_named.result (λ h. adds_more c.args.frontier.now c.add.new.self c.add_named.new.frontier (found.Chunk c.args.commit.now.root ∷ []) (map found.Commit (commits_named c.args.commit.now.kind)) c.in_ok-add.ensures h) c.add_named.ensures
+    on_ok_weaker c.add_named.result (λ h. adds_more c.args.frontier.now c.add.new.self c.add_named.new.frontier
+    (found.Chunk c.args.commit.now.root ∷ [])
+    (map found.Commit (commits_named c.args.commit.now.kind)) c.in_ok-add.ensures h) c.add_named.ensures

@@ -13,7 +13,10 @@ pub returns-clause-added : goal.returns-clause-added
 returns-clause-added g c =
     let shown = g.N.Held.ShowsChunk.shown c.in_ok-held.held in (
       node.Chunk shown,
-      subst (λ ns. AreAll (g.N.Chunks.places ns) (chunk_children shown)) (sym c.leave.ensures) c.in_ok-held.ensures.children,
-      subst (λ (w : Contents). slice_get w (stamp_of c.args.at) ≡ Some (content_of (node.Chunk shown))) (sym (ap g.N.Chunks.contents c.leave.ensures)) c.in_ok-held.ensures.content,
-      subst (λ (w : Chunk Ref). Adds c.args.frontier.now (found_in (node.Chunk w)) c.add_of_chunk-added.new.frontier) c.chunk.ensures c.in_ok-added.ensures,
+      subst (λ ns. AreAll (g.N.Chunks.places ns) (chunk_children shown))
+          (sym c.leave.ensures) c.in_ok-held.ensures.children,
+      subst (λ (w : Contents). slice_get w (stamp_of c.args.at) ≡ Some (content_of (node.Chunk shown)))
+          (sym (ap g.N.Chunks.contents c.leave.ensures)) c.in_ok-held.ensures.content,
+      subst (λ (w : Chunk Ref). Adds c.args.frontier.now (found_in (node.Chunk w)) c.add_of_chunk-added.new.frontier)
+          c.chunk.ensures c.in_ok-added.ensures,
     )

@@ -13,7 +13,10 @@ pub returns-clause-added : goal.returns-clause-added
 returns-clause-added g c =
     let shown = g.N.HeldCommit.ShowsCommit.shown c.in_ok-held.held in (
       node.Commit shown,
-      subst (λ ns. AreAll (g.N.Chunks.places ns) (commit_children shown)) (sym c.leave_commit.ensures) c.in_ok-held.ensures.children,
-      subst (λ (w : Contents). slice_get w (stamp_of c.args.at) ≡ Some (content_of (node.Commit shown))) (sym (ap g.N.Chunks.contents c.leave_commit.ensures)) c.in_ok-held.ensures.content,
-      subst (λ (w : Commit Ref). Adds c.args.frontier.now (found_in (node.Commit w)) c.add_of_commit-added.new.frontier) c.commit.ensures c.in_ok-added.ensures,
+      subst (λ ns. AreAll (g.N.Chunks.places ns) (commit_children shown))
+          (sym c.leave_commit.ensures) c.in_ok-held.ensures.children,
+      subst (λ (w : Contents). slice_get w (stamp_of c.args.at) ≡ Some (content_of (node.Commit shown)))
+          (sym (ap g.N.Chunks.contents c.leave_commit.ensures)) c.in_ok-held.ensures.content,
+      subst (λ (w : Commit Ref). Adds c.args.frontier.now (found_in (node.Commit w)) c.add_of_commit-added.new.frontier)
+          c.commit.ensures c.in_ok-added.ensures,
     )

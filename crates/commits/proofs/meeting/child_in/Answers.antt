@@ -9,7 +9,9 @@ use Rattle.commits.proofs.meeting.child_in.Goals as goal
 pub returns-in-Inner : goal.returns-in-Inner
 returns-in-Inner c =
     let kids = c.in-Inner.inner in
-    let keys : c.as_slice.result.now ≡ keys_of kids = cc (c.as_slice.ensures.keys, c.deref.ensures, c.firsts.ensures.keys) in
+    let keys : c.as_slice.result.now ≡ keys_of kids = cc
+    (c.as_slice.ensures.keys, c.deref.ensures, c.firsts.ensures.keys) in
     let whole : paired c.as_slice.result.now c.children.result.now ≡ kids =
-    ap (λ (w : List Bytes). paired w c.children.result.now) keys ∙ (ap (λ (w : List Ref). paired (keys_of kids) w) c.children.ensures ∙ paired-parts kids) in
+    ap (λ (w : List Bytes). paired w c.children.result.now) keys ∙
+    (ap (λ (w : List Ref). paired (keys_of kids) w) c.children.ensures ∙ paired-parts kids) in
     c.chosen.ensures ∙ (ap (choose c.args.key.now) whole ∙ ap (child_for c.args.key.now) (sym c.in-Inner.is))

@@ -4,7 +4,8 @@ use Rattle.commits.proofs.Descending.{IsMeeting}
 use Rattle.commits.proofs.meeting.meets.Given as goal
 
 abbrev pub invariant-loop-chunks : goal.invariant-loop-chunks
-invariant-loop-chunks g l = IsMeeting (g.C.Chunks.contents l.initial.chunks) (g.C.Chunks.contents l.chunks) l.key (stamp_of l.initial.at) (stamp_of l.at) l.stamp
+invariant-loop-chunks g l = IsMeeting (g.C.Chunks.contents l.initial.chunks) (g.C.Chunks.contents l.chunks) l.key
+    (stamp_of l.initial.at) (stamp_of l.at) l.stamp
     × g.C.Chunks.places l.chunks l.at × Grows g.C.Chunks.contents g.C.Chunks.places l.initial.chunks l.chunks
 
 abbrev pub decreases-loop-chunks : goal.decreases-loop-chunks

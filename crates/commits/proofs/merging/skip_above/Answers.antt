@@ -9,7 +9,8 @@ pub loop-place-preserved : goal.loop-place-preserved
 loop-place-preserved c =
     let i = c.loop-place.invariant in
     let here = stamp_at c.args.kept.now c.loop-place.place (record { bits = 0 }) c.loop-place-test.true in
-    let now : c.args.stamp < slice_index (stamps_of c.args.kept.now) c.loop-place.place = omega (arith, here, c.stamp.ensures.stamp, c.if-stamp.true) in
+    let now : c.args.stamp < slice_index (stamps_of c.args.kept.now) c.loop-place.place = omega
+    (arith, here, c.stamp.ensures.stamp, c.if-stamp.true) in
     record {
       after = omega (arith, i.after);
       within = omega (arith, c.loop-place-test.true);

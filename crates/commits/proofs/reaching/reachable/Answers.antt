@@ -9,7 +9,8 @@ use Rattle.commits.specs.declared.founds.Found.TheVariants as found
 use Rattle.commits.specs.Inside.Reach.{Adds}
 use Rattle.commits.proofs.Chained.{some_version}
 use Rattle.commits.proofs.Reached.{spelled_grown}
-use Rattle.commits.proofs.Listing.{IsListing, bound, listing_begins, listing_grown, listing_step, listing_skip, listing_falls, skip_falls, listing_ends}
+use Rattle.commits.proofs.Listing.{IsListing, bound, listing_begins, listing_grown, listing_step, listing_skip}
+use Rattle.commits.proofs.Listing.{listing_falls, skip_falls, listing_ends}
 use Rattle.commits.proofs.reaching.reachable.Goals as goal
 
 pub loop-at-init : goal.loop-at-init
@@ -17,22 +18,32 @@ loop-at-init g c =
     let m = g.N.Chunks.contents c.args.nodes.now in
     let v = some_version m (stamp_of c.args.head) c.requires.head in
     let may = g.N.Chunks.places c.args.nodes.now in
-    let adds = subst (λ (w : List Found). Adds w (found.Commit c.args.head ∷ []) c.add.new.self) c.new-frontier.ensures c.in_ok-add.ensures in
-    subst (λ (w : List Ref). IsListing may may m m c.args.head (stamp_of c.args.root) w c.add.new.self) (sym c.new-listed.ensures.items)
-    (listing_begins may m c.args.head (stamp_of c.args.root) v.0 c.add.new.self v.1 c.requires.root adds (prefix_self m) c.requires.places.0)
+    let adds = subst (λ (w : List Found). Adds w (found.Commit c.args.head ∷ []) c.add.new.self) c.new-frontier.ensures
+    c.in_ok-add.ensures in
+    subst (λ (w : List Ref). IsListing may may m m c.args.head (stamp_of c.args.root) w c.add.new.self)
+    (sym c.new-listed.ensures.items)
+    (listing_begins may m c.args.head (stamp_of c.args.root) v.0 c.add.new.self v.1 c.requires.root adds
+    (prefix_self m) c.requires.places.0)
 
 pub visit-requires-clause-found : goal.visit-requires-clause-found
 visit-requires-clause-found g c =
-    (c.loop-at.invariant.ahead c.in-Some.at (subst (λ (w : List Found). Contains w c.in-Some.at) (sym c.in-Some.ensures.some) (Contains-append_right c.pop.new.self (c.in-Some.at ∷ []) c.in-Some.at (one_here c.in-Some.at)))).1
+    (c.loop-at.invariant.ahead c.in-Some.at
+    (subst (λ (w : List Found). Contains w c.in-Some.at) (sym c.in-Some.ensures.some)
+    (Contains-append_right c.pop.new.self (c.in-Some.at ∷ []) c.in-Some.at (one_here c.in-Some.at)))).1
 
 pub loop-at-smaller : goal.loop-at-smaller
 loop-at-smaller g c =
     let m = g.N.Chunks.contents in
-    let spelled = (c.loop-at.invariant.ahead c.in-Some.at (subst (λ (w : List Found). Contains w c.in-Some.at) (sym c.in-Some.ensures.some) (Contains-append_right c.pop.new.self (c.in-Some.at ∷ []) c.in-Some.at (one_here c.in-Some.at)))).1 in
+    let spelled = (c.loop-at.invariant.ahead c.in-Some.at
+    (subst (λ (w : List Found). Contains w c.in-Some.at) (sym c.in-Some.ensures.some)
+    (Contains-append_right c.pop.new.self (c.in-Some.at ∷ []) c.in-Some.at (one_here c.in-Some.at)))).1 in
     elim c.in_ok-visit.ensures.visited [
-      | inl p ↦ subst (λ (w : List Found). bound w < bound c.loop-at.frontier) (sym p.1) (skip_falls c.in-Some.at c.loop-at.frontier c.pop.new.self c.in-Some.ensures.some c.in-Some.ensures.greatest)
-      | inr q ↦ listing_falls (m c.visit.new.nodes) c.in-Some.at q.0 c.loop-at.frontier c.pop.new.self c.visit.new.frontier
-          (spelled_grown (m c.loop-at.nodes) (m c.visit.new.nodes) c.in-Some.at c.visit.ensures.grown.0 spelled) c.in-Some.ensures.some c.in-Some.ensures.greatest q.3 q.4
+      | inl p ↦ subst (λ (w : List Found). bound w < bound c.loop-at.frontier) (sym p.1)
+          (skip_falls c.in-Some.at c.loop-at.frontier c.pop.new.self c.in-Some.ensures.some c.in-Some.ensures.greatest)
+      | inr q ↦ listing_falls (m c.visit.new.nodes) c.in-Some.at q.0 c.loop-at.frontier c.pop.new.self
+          c.visit.new.frontier
+          (spelled_grown (m c.loop-at.nodes) (m c.visit.new.nodes) c.in-Some.at c.visit.ensures.grown.0 spelled)
+          c.in-Some.ensures.some c.in-Some.ensures.greatest q.3 q.4
     ]
 
 pub loop-at-preserved : goal.loop-at-preserved
@@ -40,24 +51,32 @@ loop-at-preserved g c =
     let m = g.N.Chunks.contents in
     let was = g.N.Chunks.places c.args.nodes.now in let may = g.N.Chunks.places c.visit.new.nodes in
     let first = m c.args.nodes.now in let two = m c.visit.new.nodes in let root = stamp_of c.args.root in
-    let now = listing_grown was (g.N.Chunks.places c.loop-at.nodes) may first (m c.loop-at.nodes) two c.args.head root c.loop-at.listed.items c.loop-at.frontier c.loop-at.invariant c.visit.ensures.grown.0 c.visit.ensures.grown.1 in
+    let now = listing_grown was (g.N.Chunks.places c.loop-at.nodes) may first
+    (m c.loop-at.nodes) two c.args.head root c.loop-at.listed.items c.loop-at.frontier c.loop-at.invariant
+    c.visit.ensures.grown.0 c.visit.ensures.grown.1 in
     elim c.in_ok-visit.ensures.visited [
       | inl p ↦ subst (λ (w : List Ref). IsListing was may first two c.args.head root w c.visit.new.frontier) (sym p.2)
           (subst (λ (w : List Found). IsListing was may first two c.args.head root c.loop-at.listed.items w) (sym p.1)
-          (listing_skip was may first two c.args.head root c.in-Some.at c.loop-at.listed.items c.loop-at.frontier c.pop.new.self now c.in-Some.ensures.some p.0))
+          (listing_skip was may first two c.args.head root c.in-Some.at c.loop-at.listed.items c.loop-at.frontier
+          c.pop.new.self now c.in-Some.ensures.some p.0))
       | inr q ↦ subst (λ (w : List Ref). IsListing was may first two c.args.head root w c.visit.new.frontier) (sym q.5)
-          (listing_step was may first two c.args.head root c.in-Some.at q.0 c.loop-at.listed.items c.loop-at.frontier c.pop.new.self c.visit.new.frontier now c.in-Some.ensures.some c.in-Some.ensures.greatest q.1 q.2 q.3 q.4)
+          (listing_step was may first two c.args.head root c.in-Some.at q.0 c.loop-at.listed.items c.loop-at.frontier
+          c.pop.new.self c.visit.new.frontier now c.in-Some.ensures.some c.in-Some.ensures.greatest q.1 q.2 q.3 q.4)
     ]
 
 pub returns-clause-exact : goal.returns-clause-exact
 returns-clause-exact g c =
     let m = g.N.Chunks.contents in
     let was = g.N.Chunks.places c.args.nodes.now in let may = g.N.Chunks.places c.loop-at.nodes in
-    listing_ends was may (m c.args.nodes.now) (m c.loop-at.nodes) c.args.head (stamp_of c.args.root) c.loop-at.listed.items
-    (subst (λ (w : List Found). IsListing was may (m c.args.nodes.now) (m c.loop-at.nodes) c.args.head (stamp_of c.args.root) c.loop-at.listed.items w) c.in_default.ensures.none c.loop-at.invariant)
+    listing_ends was may (m c.args.nodes.now) (m c.loop-at.nodes) c.args.head
+    (stamp_of c.args.root) c.loop-at.listed.items
+    (subst (λ (w : List Found). IsListing was may (m c.args.nodes.now) (m c.loop-at.nodes) c.args.head
+    (stamp_of c.args.root) c.loop-at.listed.items w) c.in_default.ensures.none c.loop-at.invariant)
 
 pub visit-requires-clause-places : goal.visit-requires-clause-places
 visit-requires-clause-places g c = (
   c.loop-at.invariant.wider c.args.root c.requires.places.1,
-  c.loop-at.invariant.places_ahead c.in-Some.at (subst (λ (w : List Found). Contains w c.in-Some.at) (sym c.in-Some.ensures.some) (Contains-append_right c.pop.new.self (c.in-Some.at ∷ []) c.in-Some.at (one_here c.in-Some.at))),
+  c.loop-at.invariant.places_ahead c.in-Some.at
+      (subst (λ (w : List Found). Contains w c.in-Some.at) (sym c.in-Some.ensures.some)
+      (Contains-append_right c.pop.new.self (c.in-Some.at ∷ []) c.in-Some.at (one_here c.in-Some.at))),
 )

@@ -7,16 +7,20 @@ use Rattle.commits.proofs.Rooted.{map_some_stays, kept_grown}
 use Rattle.commits.proofs.reaching.visit.Goals as goal
 
 pub look-requires-clause-found : goal.look-requires-clause-found
-look-requires-clause-found g c = let m = g.N.Chunks.contents in spelled_grown (m c.args.nodes.now) (m c.is_kept.new.nodes) c.args.at c.is_kept.ensures.grown.0 c.requires.found
+look-requires-clause-found g c = let m = g.N.Chunks.contents in
+    spelled_grown (m c.args.nodes.now) (m c.is_kept.new.nodes) c.args.at c.is_kept.ensures.grown.0 c.requires.found
 
 pub returns-clause-visited : goal.returns-clause-visited
 returns-clause-visited g c =
     let m = g.N.Chunks.contents in let a = c.in_ok-look.ensures.added in
     let root = stamp_of c.args.root in let at = stamp_in c.args.at in
-    let both = kept_grown (m c.is_kept.new.nodes) (m c.look.new.nodes) root at (map_some_stays (m c.args.nodes.now) (m c.is_kept.new.nodes) root c.is_kept.ensures.grown.0 c.requires.root) c.look.ensures.grown.0 in
+    let both = kept_grown (m c.is_kept.new.nodes) (m c.look.new.nodes) root at
+    (map_some_stays (m c.args.nodes.now) (m c.is_kept.new.nodes) root c.is_kept.ensures.grown.0 c.requires.root)
+    c.look.ensures.grown.0 in
     inr (
       a.0,
-      (λ r. let t : c.in_ok-is_kept.field-0 ≡ true = c.in_ok-is_kept.ensures.kept.1 (both.1 r) in let x : false ≡ true = sym c.if-branch.false ∙ t in cc x),
+      (λ r. let t : c.in_ok-is_kept.field-0 ≡ true = c.in_ok-is_kept.ensures.kept.1 (both.1 r) in
+          let x : false ≡ true = sym c.if-branch.false ∙ t in cc x),
       a.1,
       a.2,
       a.3,

@@ -5,4 +5,6 @@ use Rattle.commits.proofs.states.cookie_of.Goals as goal
 pub returns-clause-cookie : goal.returns-clause-cookie
 returns-clause-cookie g c v h =
     let m = g.N.Chunks.contents in let k = c.in_ok-cookie.ensures.content in
-    base_cookie (m c.snapshot_of.new.nodes) (m c.show_cookie.new.nodes) (stamp_of c.in_ok-snapshot.snapshot) k.0 v.state c.in_ok-cookie.cookie (c.in_ok-snapshot.ensures.state v h) c.show_cookie.ensures.grown.0 k.1 k.2
+    base_cookie (m c.snapshot_of.new.nodes) (m c.show_cookie.new.nodes)
+    (stamp_of c.in_ok-snapshot.snapshot) k.0 v.state c.in_ok-cookie.cookie
+    (c.in_ok-snapshot.ensures.state v h) c.show_cookie.ensures.grown.0 k.1 k.2

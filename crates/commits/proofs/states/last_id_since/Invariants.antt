@@ -7,7 +7,8 @@ use Rattle.commits.proofs.Chained.{IsSearch, ahead}
 use Rattle.commits.proofs.states.last_id_since.Given as goal
 
 abbrev pub invariant-loop-next : goal.invariant-loop-next
-invariant-loop-next g l = (v : Version) × (version_at (g.N.Chunks.contents l.initial.nodes) (stamp_of l.fn.head) ≡ Some v)
+invariant-loop-next g l = (v : Version) ×
+    (version_at (g.N.Chunks.contents l.initial.nodes) (stamp_of l.fn.head) ≡ Some v)
     × IsSearch (g.N.Chunks.contents l.nodes) l.client (last_id v.state l.client) l.next
     × Grows g.N.Chunks.contents g.N.Chunks.places l.initial.nodes l.nodes × IfAt (g.N.Chunks.places l.nodes) l.next
 

@@ -29,4 +29,6 @@ returns-clause-state g c v h =
 pub returns-clause-place : goal.returns-clause-place
 returns-clause-place g c =
     let k = c.in_ok-top.ensures.content in
-    subst (λ (t : Top). g.N.Chunks.places c.show_top.new.nodes t.snapshot) (sym k.2) (snapshot_may (g.N.Chunks.places c.show_top.new.nodes) (g.N.Chunks.contents c.show_top.new.nodes) c.args.head (stamp_of c.args.head) k.0 (c.show_top.ensures.grown.1 c.args.head c.requires.place) k.1)
+    subst (λ (t : Top). g.N.Chunks.places c.show_top.new.nodes t.snapshot) (sym k.2)
+    (snapshot_may (g.N.Chunks.places c.show_top.new.nodes) (g.N.Chunks.contents c.show_top.new.nodes) c.args.head
+    (stamp_of c.args.head) k.0 (c.show_top.ensures.grown.1 c.args.head c.requires.place) k.1)

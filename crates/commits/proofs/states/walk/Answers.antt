@@ -9,31 +9,42 @@ use Rattle.commits.proofs.states.walk.Goals as goal
 
 pub loop-pending-init : goal.loop-pending-init
 loop-pending-init g c =
-    let m = g.N.Chunks.contents c.args.nodes.now in
-    (subst (λ (w : List Mutation). IsDescent m m (stamp_of c.args.head) (stamp_of c.args.head) w) (sym c.new-pending.ensures.items) (descent_begins m (stamp_of c.args.head) c.requires.known (prefix_self m)), c.requires.place, (prefix_self m, λ r h. h))
+    let m = g.N.Chunks.contents c.args.nodes.now in (
+      subst (λ (w : List Mutation). IsDescent m m (stamp_of c.args.head) (stamp_of c.args.head) w)
+          (sym c.new-pending.ensures.items) (descent_begins m (stamp_of c.args.head) c.requires.known (prefix_self m)),
+      c.requires.place,
+      (prefix_self m, λ r h. h),
+    )
 
 pub loop-pending-smaller : goal.loop-pending-smaller
 loop-pending-smaller g c =
     let m = g.N.Chunks.contents in let k = c.in_ok-link.ensures.content in
-    (descent_step (m c.args.nodes.now) (m c.loop-pending.nodes) (m c.show_link.new.nodes) (stamp_of c.args.head) (stamp_of c.loop-pending.at) c.loop-pending.pending.items k.0 c.in-Some.link
+    (descent_step (m c.args.nodes.now) (m c.loop-pending.nodes) (m c.show_link.new.nodes) (stamp_of c.args.head)
+    (stamp_of c.loop-pending.at) c.loop-pending.pending.items k.0 c.in-Some.link
     c.loop-pending.invariant.0 c.show_link.ensures.grown.0 k.1.1 (sym k.2 ∙ c.in-Some.is)).0
 
 pub loop-pending-preserved : goal.loop-pending-preserved
 loop-pending-preserved g c =
     let m = g.N.Chunks.contents in let k = c.in_ok-link.ensures.content in
-    let d = descent_step (m c.args.nodes.now) (m c.loop-pending.nodes) (m c.show_link.new.nodes) (stamp_of c.args.head) (stamp_of c.loop-pending.at) c.loop-pending.pending.items k.0 c.in-Some.link
+    let d = descent_step (m c.args.nodes.now) (m c.loop-pending.nodes) (m c.show_link.new.nodes) (stamp_of c.args.head)
+    (stamp_of c.loop-pending.at) c.loop-pending.pending.items k.0 c.in-Some.link
     c.loop-pending.invariant.0 c.show_link.ensures.grown.0 k.1.1 (sym k.2 ∙ c.in-Some.is) in
     let may = g.N.Chunks.places c.show_link.new.nodes in (
-      subst (λ (w : List Mutation). IsDescent (m c.args.nodes.now) (m c.show_link.new.nodes) (stamp_of c.args.head) (stamp_of c.in-Some.link.basis) w) (sym c.in_ok-add.ensures) d.1,
-      link_may may (m c.show_link.new.nodes) (stamp_of c.loop-pending.at) k.0 c.in-Some.link k.1 (sym k.2 ∙ c.in-Some.is),
-      grows_on m g.N.Chunks.places c.args.nodes.now c.loop-pending.nodes c.show_link.new.nodes c.loop-pending.invariant.2 c.show_link.ensures.grown,
+      subst (λ (w : List Mutation). IsDescent (m c.args.nodes.now) (m c.show_link.new.nodes) (stamp_of c.args.head)
+          (stamp_of c.in-Some.link.basis) w) (sym c.in_ok-add.ensures) d.1,
+      link_may may (m c.show_link.new.nodes) (stamp_of c.loop-pending.at) k.0 c.in-Some.link k.1
+          (sym k.2 ∙ c.in-Some.is),
+      grows_on m g.N.Chunks.places c.args.nodes.now c.loop-pending.nodes c.show_link.new.nodes
+          c.loop-pending.invariant.2 c.show_link.ensures.grown,
     )
 
 pub returns-clause-pending : goal.returns-clause-pending
 returns-clause-pending g c v h =
     let m = g.N.Chunks.contents in let k = c.in_ok-link.ensures.content in
     c.reverse.ensures.items
-    ∙ descent_ends (m c.args.nodes.now) (m c.loop-pending.nodes) (m c.show_link.new.nodes) (stamp_of c.args.head) (stamp_of c.loop-pending.at) c.loop-pending.pending.items k.0 c.loop-pending.invariant.0 c.show_link.ensures.grown.0 k.1.1
+    ∙ descent_ends (m c.args.nodes.now) (m c.loop-pending.nodes) (m c.show_link.new.nodes) (stamp_of c.args.head)
+    (stamp_of c.loop-pending.at) c.loop-pending.pending.items k.0 c.loop-pending.invariant.0
+    c.show_link.ensures.grown.0 k.1.1
     (no_link k.0 (sym k.2 ∙ none_from c.in_ok-link.field-0 c.in_default.not-Some)) v h
 
 pub show_link-requires-clause-place : goal.show_link-requires-clause-place

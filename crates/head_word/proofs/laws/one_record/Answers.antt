@@ -11,7 +11,8 @@ returns-clause-books g c =
     let all = c.learn.new.self.log in
     let one_log = ap (λ s. s.log) c.again-both.ensures ∙ ap (λ (m : Known). m.log) c.one.view_is in
     let one = subst (λ (w : List Entry). IsPrefix w all) one_log c.learn.ensures.2 in
-    let other = subst (λ (w : List Entry). IsPrefix w all) (ap (λ (m : Known). m.log) c.other.view_is) c.learn.ensures.3 in
+    let other = subst (λ (w : List Entry). IsPrefix w all)
+    (ap (λ (m : Known). m.log) c.other.view_is) c.learn.ensures.3 in
     prefix_one c.args.one.now.log c.args.other.now.log all one other
 
 pub returns-clause-records : goal.returns-clause-records
@@ -19,5 +20,6 @@ returns-clause-records g c =
     let all = c.learn.new.self.log in
     let one_log = ap (λ s. s.log) c.again-both.ensures ∙ ap (λ (m : Known). m.log) c.one.view_is in
     let one = subst (λ (w : List Entry). IsPrefix w all) one_log c.learn.ensures.2 in
-    let other = subst (λ (w : List Entry). IsPrefix w all) (ap (λ (m : Known). m.log) c.other.view_is) c.learn.ensures.3 in
+    let other = subst (λ (w : List Entry). IsPrefix w all)
+    (ap (λ (m : Known). m.log) c.other.view_is) c.learn.ensures.3 in
     records_one c.args.one.now.log c.args.other.now.log all one other

@@ -20,11 +20,13 @@ returns-clause-child g c =
     let at = segment-kept p q k s.segment c.show.ensures.grown.0 s.is in
     let r = chunk_rows-kept p q k n.0 c.show.ensures.grown.0 n.1 ∙ ap (λ w. Some w) (sym s.rows) in
     let l = only_is q k s.segment _ at c.in_ok-held.ensures.content r in
-    subst (λ ns. IsOnlyChild ns k (chunk_rows p k) c.only_of-child.result) (sym (ap g.C.Chunks.contents c.leave.ensures))
+    subst (λ ns. IsOnlyChild ns k (chunk_rows p k) c.only_of-child.result)
+    (sym (ap g.C.Chunks.contents c.leave.ensures))
     (subst (λ rs. IsOnlyChild q k rs c.only_of-child.result) (ap (λ w. Some w) s.rows ∙ sym n.1)
     (subst (IsOnlyChild q k (Some s.segment.rows)) (ap only_ref (sym c.chunk.ensures) ∙ sym c.only_of-child.ensures) l))
 
 pub returns-clause-place : goal.returns-clause-place
 returns-clause-place g c =
     subst (λ ns. IfAt (g.C.Chunks.places ns) c.only_of-child.result) (sym c.leave.ensures)
-    (only_at (g.C.Chunks.places c.show.new.self) _ c.only_of-child.result c.in_ok-held.ensures.children (c.only_of-child.ensures ∙ ap only_ref c.chunk.ensures))
+    (only_at (g.C.Chunks.places c.show.new.self) _ c.only_of-child.result c.in_ok-held.ensures.children
+    (c.only_of-child.ensures ∙ ap only_ref c.chunk.ensures))

@@ -10,7 +10,9 @@ loop-left-init g c = (
 )
 
 pub returns-clause-left : goal.returns-clause-left
-returns-clause-left g c = cut_front c.loop-left.left.items (reverse c.loop-left.right.items) c.args.left.now.items 8 c.loop-left.invariant.0 (omega arith)
+returns-clause-left g c = cut_front c.loop-left.left.items
+    (reverse c.loop-left.right.items) c.args.left.now.items 8 c.loop-left.invariant.0 (omega arith)
 
 pub returns-clause-right : goal.returns-clause-right
-returns-clause-right g c = c.reverse.ensures.items ∙ cut_back c.loop-left.left.items (reverse c.loop-left.right.items) c.args.left.now.items 8 c.loop-left.invariant.0 (omega arith)
+returns-clause-right g c = c.reverse.ensures.items ∙ cut_back c.loop-left.left.items
+    (reverse c.loop-left.right.items) c.args.left.now.items 8 c.loop-left.invariant.0 (omega arith)

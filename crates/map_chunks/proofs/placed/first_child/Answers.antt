@@ -12,7 +12,8 @@ use Rattle.map_chunks.proofs.placed.first_child.Goals as goal
 pub returns-clause-child : goal.returns-clause-child
 returns-clause-child g c s h =
     let k = stamp_of c.args.at in
-    let at = segment-kept (g.C.Chunks.contents c.args.chunks.now) (g.C.Chunks.contents c.show.new.self) k s c.show.ensures.grown.0 h in
+    let at = segment-kept (g.C.Chunks.contents c.args.chunks.now)
+    (g.C.Chunks.contents c.show.new.self) k s c.show.ensures.grown.0 h in
     subst (λ ns. IsAbove ns k s c.first_of-child.result) (sym (ap g.C.Chunks.contents c.leave.ensures))
     (above (g.C.Chunks.contents c.show.new.self) k s _ c.first_of-child.result at c.in_ok-held.ensures.content
     (subst (λ (ch : Chunk Ref). IsFirst ch c.first_of-child.result) c.chunk.ensures c.first_of-child.ensures))
@@ -20,4 +21,5 @@ returns-clause-child g c s h =
 pub returns-clause-place : goal.returns-clause-place
 returns-clause-place g c =
     subst (λ ns. IfAt (g.C.Chunks.places ns) c.first_of-child.result) (sym c.leave.ensures)
-    (first_at (g.C.Chunks.places c.show.new.self) _ c.first_of-child.result c.in_ok-held.ensures.children (subst (λ (ch : Chunk Ref). IsFirst ch c.first_of-child.result) c.chunk.ensures c.first_of-child.ensures))
+    (first_at (g.C.Chunks.places c.show.new.self) _ c.first_of-child.result c.in_ok-held.ensures.children
+    (subst (λ (ch : Chunk Ref). IsFirst ch c.first_of-child.result) c.chunk.ensures c.first_of-child.ensures))

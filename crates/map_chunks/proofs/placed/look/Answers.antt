@@ -16,13 +16,18 @@ returns-clause-step g c =
     let key = c.args.key.now in
     let n = known (chunk_rows (g.C.Chunks.contents c.args.chunks.now) k) c.requires.known in
     let s = spells_rows (g.C.Chunks.contents c.args.chunks.now) k n.rows n.is in
-    let at = segment-kept (g.C.Chunks.contents c.args.chunks.now) (g.C.Chunks.contents c.show.new.self) k s.segment c.show.ensures.grown.0 s.is in
-    let l = leads (g.C.Chunks.contents c.show.new.self) k s.segment _ key c.in_ok-step.field-0 at c.in_ok-held.ensures.content (subst IsStrict (sym s.rows) n.order)
+    let at = segment-kept (g.C.Chunks.contents c.args.chunks.now)
+    (g.C.Chunks.contents c.show.new.self) k s.segment c.show.ensures.grown.0 s.is in
+    let l = leads (g.C.Chunks.contents c.show.new.self) k s.segment _ key c.in_ok-step.field-0 at
+    c.in_ok-held.ensures.content (subst IsStrict (sym s.rows) n.order)
     (subst (λ (ch : Chunk Ref). IsStep ch key c.in_ok-step.field-0) c.chunk.ensures c.in_ok-step.ensures) in
-    subst (λ rs. Leads (g.C.Chunks.contents c.leave.new.self) key k rs c.in_ok-step.field-0) (s.rows ∙ ap rows_or (sym n.is))
+    subst (λ rs. Leads (g.C.Chunks.contents c.leave.new.self) key k rs c.in_ok-step.field-0)
+    (s.rows ∙ ap rows_or (sym n.is))
     (subst (λ ns. Leads ns key k s.segment.rows c.in_ok-step.field-0) (sym (ap g.C.Chunks.contents c.leave.ensures)) l)
 
 pub returns-clause-place : goal.returns-clause-place
 returns-clause-place g c =
     subst (λ ns. IsStepAt (g.C.Chunks.places ns) c.in_ok-step.field-0) (sym c.leave.ensures)
-    (step_at (g.C.Chunks.places c.show.new.self) _ c.args.key.now c.in_ok-step.field-0 c.in_ok-held.ensures.children (subst (λ (ch : Chunk Ref). IsStep ch c.args.key.now c.in_ok-step.field-0) c.chunk.ensures c.in_ok-step.ensures))
+    (step_at (g.C.Chunks.places c.show.new.self) _ c.args.key.now c.in_ok-step.field-0 c.in_ok-held.ensures.children
+    (subst (λ (ch : Chunk Ref). IsStep ch c.args.key.now c.in_ok-step.field-0) c.chunk.ensures
+    c.in_ok-step.ensures))

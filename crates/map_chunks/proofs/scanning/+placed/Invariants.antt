@@ -19,5 +19,6 @@ abbrev pub invariant-scan_children-loop-place : goal.invariant-scan_children-loo
 invariant-scan_children-loop-place g l =
     record {
       grown : Grows g.C.Chunks.contents g.C.Chunks.places l.fn.chunks l.chunks;
-      rows : l.out.items ≡ with_scanned l.scan l.fn.out.items (first_rows (ref_rows (g.C.Chunks.contents l.fn.chunks)) (paired l.firsts l.children) l.place);
+      rows : l.out.items ≡ with_scanned l.scan l.fn.out.items
+          (first_rows (ref_rows (g.C.Chunks.contents l.fn.chunks)) (paired l.firsts l.children) l.place);
     }

@@ -8,5 +8,6 @@ returns-then-rank-eq0 c = (
   c.requires.filled,
   λ d l. absurd (omega arith),
   second_above c.args.key.now c.args.keys.now c.requires.order
-      (λ d l. subst (λ n. is_above (slice_index_or c.args.keys.now n d) c.args.key.now ≡ true) c.if-rank-eq0.true (c.rank-rank.ensures.2 d (omega arith))),
+      (λ d l. subst (λ n. is_above (slice_index_or c.args.keys.now n d) c.args.key.now ≡ true) c.if-rank-eq0.true
+      (c.rank-rank.ensures.2 d (omega arith))),
 )

@@ -7,12 +7,16 @@ pub returns-in_ok-clone-in-Ok : goal.returns-in_ok-clone-in-Ok
 returns-in_ok-clone-in-Ok c =
     let key = c.args.key.now in
     let rows = paired c.args.keys.now c.args.values.now in
-    let f = found_in key c.args.keys.now c.args.values.now c.in-Ok.place c.requires.order c.requires.values c.in-Ok.ensures.found in
-    let v = indexed c.args.values.now c.in-Ok.place c.index-values-place.result f.value (value-found key c.args.keys.now c.args.values.now c.in-Ok.place c.requires.values f) c.index-values-place.is in
+    let f = found_in key c.args.keys.now c.args.values.now c.in-Ok.place c.requires.order c.requires.values
+    c.in-Ok.ensures.found in
+    let v = indexed c.args.values.now c.in-Ok.place c.index-values-place.result f.value
+    (value-found key c.args.keys.now c.args.values.now c.in-Ok.place c.requires.values f) c.index-values-place.is in
     ap (λ w. Some w) (c.in_ok-clone-in-Ok.ensures.cases ∙ v) ∙ sym (find-found key rows c.in-Ok.place f)
 
 pub returns-in-Err : goal.returns-in-Err
 returns-in-Err c =
     let key = c.args.key.now in
     let rows = paired c.args.keys.now c.args.values.now in
-    sym (find-absent key rows c.in-Err.field-0 (absent_in key c.args.keys.now c.args.values.now c.in-Err.field-0 c.requires.order c.requires.values c.in-Err.ensures.absent))
+    sym (find-absent key rows c.in-Err.field-0
+    (absent_in key c.args.keys.now c.args.values.now c.in-Err.field-0 c.requires.order c.requires.values
+    c.in-Err.ensures.absent))

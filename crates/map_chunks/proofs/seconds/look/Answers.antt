@@ -21,10 +21,13 @@ returns-clause-step g c =
     let at = segment-kept p q k s.segment c.show.ensures.grown.0 s.is in
     let l = leads_second q k s.segment _ c.in_ok-step.field-0 at c.in_ok-held.ensures.content
     (subst (λ (ch : Chunk Ref). IsSecondStep ch c.in_ok-step.field-0) c.chunk.ensures c.in_ok-step.ensures) in
-    subst (λ rs. LeadsToSecond (g.C.Chunks.contents c.leave.new.self) k rs c.in_ok-step.field-0) (s.rows ∙ ap rows_or (sym n.1))
-    (subst (λ ns. LeadsToSecond ns k s.segment.rows c.in_ok-step.field-0) (sym (ap g.C.Chunks.contents c.leave.ensures)) l)
+    subst (λ rs. LeadsToSecond (g.C.Chunks.contents c.leave.new.self) k rs c.in_ok-step.field-0)
+    (s.rows ∙ ap rows_or (sym n.1))
+    (subst (λ ns. LeadsToSecond ns k s.segment.rows c.in_ok-step.field-0)
+    (sym (ap g.C.Chunks.contents c.leave.ensures)) l)
 
 pub returns-clause-place : goal.returns-clause-place
 returns-clause-place g c =
     subst (λ ns. IsSecondAt (g.C.Chunks.places ns) c.in_ok-step.field-0) (sym c.leave.ensures)
-    (second_at (g.C.Chunks.places c.show.new.self) _ c.in_ok-step.field-0 c.in_ok-held.ensures.children (subst (λ (ch : Chunk Ref). IsSecondStep ch c.in_ok-step.field-0) c.chunk.ensures c.in_ok-step.ensures))
+    (second_at (g.C.Chunks.places c.show.new.self) _ c.in_ok-step.field-0 c.in_ok-held.ensures.children
+    (subst (λ (ch : Chunk Ref). IsSecondStep ch c.in_ok-step.field-0) c.chunk.ensures c.in_ok-step.ensures))

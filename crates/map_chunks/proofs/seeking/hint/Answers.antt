@@ -29,12 +29,15 @@ returns-clause-hint g c =
     (subst (λ (ch : Chunk Ref). IsHint ch key asked hint) c.chunk.ensures c.hint_of-hint.ensures) in
     let depth : Some s.segment.depth ≡ chunk_depth p k = ap (option_map (λ (t : Segment). t.depth)) (sym s.is) in
     subst (λ d. Hints (g.C.Chunks.contents c.leave.new.self) key asked k d (rows_or (chunk_rows p k)) hint) depth
-    (subst (λ rs. Hints (g.C.Chunks.contents c.leave.new.self) key asked k (Some s.segment.depth) rs hint) (s.rows ∙ ap rows_or (sym n.is))
-    (subst (λ ns. Hints ns key asked k (Some s.segment.depth) s.segment.rows hint) (sym (ap g.C.Chunks.contents c.leave.ensures)) l))
+    (subst (λ rs. Hints (g.C.Chunks.contents c.leave.new.self) key asked k (Some s.segment.depth) rs hint)
+    (s.rows ∙ ap rows_or (sym n.is))
+    (subst (λ ns. Hints ns key asked k (Some s.segment.depth) s.segment.rows hint)
+    (sym (ap g.C.Chunks.contents c.leave.ensures)) l))
 
 pub returns-clause-place : goal.returns-clause-place
 returns-clause-place g c =
     let hint = c.hint_of-hint.result in
     let asked = option_copied c.args.asked in
     subst (λ ns. IsHintAt (g.C.Chunks.places ns) hint) (sym c.leave.ensures)
-    (hint_at (g.C.Chunks.places c.show.new.self) _ c.args.key.now asked hint c.in_ok-held.ensures.children (subst (λ (ch : Chunk Ref). IsHint ch c.args.key.now asked hint) c.chunk.ensures c.hint_of-hint.ensures))
+    (hint_at (g.C.Chunks.places c.show.new.self) _ c.args.key.now asked hint c.in_ok-held.ensures.children
+    (subst (λ (ch : Chunk Ref). IsHint ch c.args.key.now asked hint) c.chunk.ensures c.hint_of-hint.ensures))

@@ -20,17 +20,24 @@ returns-in-Leaf c =
     let values : c.values.result.now ≡ values_of rows = c.values.ensures in
     subst (λ (ch : Chunk Ref). IsHint ch key asked (Stands c.standing_at-standing.result)) (sym c.in-Leaf.is)
     (c.standing_at-standing.ensures ∙ ap (λ w. stands_in (paired w c.values.result.now) key asked) keys
-    ∙ ap (λ w. stands_in (paired (keys_of rows) w) key asked) values ∙ ap (λ w. stands_in w key asked) (paired-parts rows))
+    ∙ ap (λ w. stands_in (paired (keys_of rows) w) key asked) values ∙ ap (λ w. stands_in w key asked)
+    (paired-parts rows))
 
 pub returns-else-is_empty : goal.returns-else-is_empty
 returns-else-is_empty c =
     let key = c.args.key.now in
     let kids = c.in-Inner.inner in
-    let keys : c.as_slice-in-Inner.result.now ≡ keys_of kids = c.as_slice-in-Inner.ensures.keys ∙ c.deref-in-Inner.ensures ∙ c.firsts.ensures.keys in
+    let keys : c.as_slice-in-Inner.result.now
+    ≡ keys_of kids = c.as_slice-in-Inner.ensures.keys ∙ c.deref-in-Inner.ensures ∙ c.firsts.ensures.keys in
     let children : c.children-children.result.now ≡ values_of kids = c.children-children.ensures in
     let place = c.place_of-place.result in
     let at = slice_index_or c.children-children.result.now place (record { bits = 0 }) in
     let p : IsPlace key (keys_of kids) place = subst (λ w. IsPlace key w place) keys c.place_of-place.ensures in
-    let l : place < length c.children-children.result.now = omega (arith, p.0, length-keys_of kids, length-values_of kids, ap length children) in
-    subst (λ (ch : Chunk Ref). IsHint ch key (option_copied c.args.asked) (On at)) (sym c.in-Inner.is)
-    (place, p, subst (λ w. slice_get w place ≡ Some at) children (got c.children-children.result.now place (record { bits = 0 }) l))
+    let l : place < length c.children-children.result.now = omega
+    (arith, p.0, length-keys_of kids, length-values_of kids, ap length children) in
+    subst (λ (ch : Chunk Ref). IsHint ch key (option_copied c.args.asked) (On at)) (sym c.in-Inner.is) (
+      place,
+      p,
+      subst (λ w. slice_get w place ≡ Some at) children
+          (got c.children-children.result.now place (record { bits = 0 }) l),
+    )

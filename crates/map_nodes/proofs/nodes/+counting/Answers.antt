@@ -5,7 +5,9 @@ use Rattle.map_nodes.proofs.nodes.+counting.Goals as goal
 
 pub counting::new_of_kids-new_of_kid-requires : goal.counting::new_of_kids-new_of_kid-requires
 counting::new_of_kids-new_of_kid-requires t c =
-    let high : child_height c.kid-item.result ≤ kids_height c.args.kids.now = high-at c.args.kids.now c.loop-kid.kid-index c.kid-item.result c.loop-kid-test.true c.kid-item.is in
+    let high : child_height c.kid-item.result
+    ≤ kids_height c.args.kids.now = high-at c.args.kids.now c.loop-kid.kid-index c.kid-item.result
+    c.loop-kid-test.true c.kid-item.is in
     (omega (arith, high, c.decreases), tt)
 
 pub counting::new_of_kids-loop-kid-preserved : goal.counting::new_of_kids-loop-kid-preserved

@@ -1,4 +1,5 @@
-use Rattle.std.proofs.Common.{refl, ◌<◌, [], ◌∷◌, ◌++◌, append_assoc, ◌≡◌, ◌∙◌, ◌≤◌, ◌+◌, ◌-◌, ap, sym, subst, arith, length, IfOk, OnOk, Some, inl}
+use Rattle.std.proofs.Common.{refl, ◌<◌, [], ◌∷◌, ◌++◌, append_assoc, ◌≡◌, ◌∙◌, ◌≤◌, ◌+◌, ◌-◌, ap, sym, subst, arith}
+use Rattle.std.proofs.Common.{length, IfOk, OnOk, Some, inl}
 use Rattle.group_history.specs.declared.nodes.Chunk.TheVariants as chunked
 use Rattle.group_history.specs.declared.nodes.Node.TheVariants as node
 use Rattle.group_history.specs.Naming.{content_of}
@@ -17,13 +18,16 @@ use Rattle.map_chunks.proofs.JoinLemmas.{some_is}
 use Rattle.map_chunks.proofs.OpenLemmas.{shows_by}
 use Rattle.map_nodes.proofs.NodeLemmas.{shown-rows, shown-kids}
 use Rattle.map_nodes.proofs.WideLemmas.{pushed_at, wide_node, wide_inner}
-use Rattle.map_nodes.proofs.FreezeLemmas.{if_ok, err_so, own_frozen, leaf_pushed, inner_pushed, all-spelled, frozen-length, frozen-sooner, all-later, all-one, fresh-one, fresh-within, high-within}
+use Rattle.map_nodes.proofs.FreezeLemmas.{if_ok, err_so, own_frozen, leaf_pushed, inner_pushed, all-spelled}
+use Rattle.map_nodes.proofs.FreezeLemmas.{frozen-length, frozen-sooner, all-later, all-one, fresh-one, fresh-within}
+use Rattle.map_nodes.proofs.FreezeLemmas.{high-within}
 use Rattle.std.specs.List.{Contains}
 use Rattle.map_chunks.proofs.AnswerLemmas.{on_ok}
 use Rattle.map_chunks.specs.Drafts.{AreBelow}
 use Rattle.map_chunks.proofs.DraftLemmas.{pushed-below}
 use Rattle.map_nodes.proofs.BelowLemmas.{kid-below, below-one, inner-below}
-use Rattle.map_nodes.proofs.NamedLemmas.{adds-none, adds-one, kid-added, kid-named, places-kids, inner-named, drafted-named}
+use Rattle.map_nodes.proofs.NamedLemmas.{adds-none, adds-one, kid-added, kid-named, places-kids, inner-named}
+use Rattle.map_nodes.proofs.NamedLemmas.{drafted-named}
 use Rattle.map_nodes.proofs.nodes.+freezing.Goals as goal
 use Rattle.map_chunks.proofs.ListLemmas.{length-paired}
 
@@ -34,22 +38,31 @@ Node::freeze-returns-in-Leaf-clause-spelled t c contents rows l h =
     let texts = c.self.inside.keys.texts in
     let inv : IsNode depth texts (Leaf c.in-Leaf.values) = subst (IsNode depth texts) c.in-Leaf.is c.self.invariant in
     let pieces = ap (body_pieces depth texts) (sym c.in-Leaf.is) ∙ ap (λ (s : Seen). s.pieces) c.self.view_is in
-    let same : paired texts c.in-Leaf.values.items ≡ rows = some_is (sym (shown-rows p (paired texts c.in-Leaf.values.items)) ∙ ap (shown p) pieces ∙ h) in
-    let leaf : c.new-leaf.result ≡ paired texts c.in-Leaf.values.items = c.new-leaf.ensures ∙ ap (λ w. paired w c.in-Leaf.values.items) c.in_ok-keys.ensures in
+    let same : paired texts c.in-Leaf.values.items
+    ≡ rows = some_is (sym (shown-rows p (paired texts c.in-Leaf.values.items)) ∙ ap (shown p) pieces ∙ h) in
+    let leaf : c.new-leaf.result ≡ paired texts c.in-Leaf.values.items = c.new-leaf.ensures ∙ ap
+    (λ w. paired w c.in-Leaf.values.items) c.in_ok-keys.ensures in
     if_ok c.push.result c.push.ensures.stamp c.push.ensures.ok (λ at k o.
-    leaf_pushed contents c.args.draft.now.first c.args.draft.now.nodes c.push.new.self.nodes c.new-leaf.result rows c.args.self.depth at l (ap (λ d. d.nodes) o) k.0
-    (omega (arith, ap length leaf, length-paired texts c.in-Leaf.values.items inv.1.1, inv.0.0)) (sym (ap (λ (s : Seen). s.depth) c.self.view_is) ∙ inv.1.0) (leaf ∙ same))
+    leaf_pushed contents c.args.draft.now.first c.args.draft.now.nodes c.push.new.self.nodes c.new-leaf.result rows
+    c.args.self.depth at l (ap (λ d. d.nodes) o) k.0
+    (omega (arith, ap length leaf, length-paired texts c.in-Leaf.values.items inv.1.1, inv.0.0))
+    (sym (ap (λ (s : Seen). s.depth) c.self.view_is) ∙ inv.1.0) (leaf ∙ same))
 
 pub Node::freeze-freeze_kids-requires : goal.Node::freeze-freeze_kids-requires
 Node::freeze-freeze_kids-requires t c =
-    let high : body_height (Inner c.in-Inner.kids) ≡ c.args.self.height = ap body_height (sym c.in-Inner.is) ∙ ap (λ (s : Seen). s.height) c.self.view_is in
+    let high : body_height (Inner c.in-Inner.kids)
+    ≡ c.args.self.height = ap body_height (sym c.in-Inner.is) ∙ ap (λ (s : Seen). s.height) c.self.view_is in
     let depth = c.self.inside.depth in
     let texts = c.self.inside.keys.texts in
     let kids = c.in-Inner.kids.items in
     let inv : IsNode depth texts (Inner c.in-Inner.kids) = subst (IsNode depth texts) c.in-Inner.is c.self.invariant in
     let pieces = ap (body_pieces depth texts) (sym c.in-Inner.is) ∙ ap (λ (s : Seen). s.pieces) c.self.view_is in
-    let places : places_of c.args.self.pieces ≡ kids_places kids = ap places_of (sym pieces) ∙ places-kids (depth - 1) texts kids inv.1.2 in
-    (omega (arith, high, c.decreases), subst (AreBelow (c.args.draft.now.first + length c.args.draft.now.nodes)) places c.requires.below)
+    let places : places_of c.args.self.pieces
+    ≡ kids_places kids = ap places_of (sym pieces) ∙ places-kids (depth - 1) texts kids inv.1.2 in (
+      omega (arith, high, c.decreases),
+      subst
+          (AreBelow (c.args.draft.now.first + length c.args.draft.now.nodes)) places c.requires.below,
+    )
 
 pub Node::freeze-push-requires-in-Inner : goal.Node::freeze-push-requires-in-Inner
 Node::freeze-push-requires-in-Inner t c =
@@ -58,17 +71,23 @@ Node::freeze-push-requires-in-Inner t c =
     let kids = c.in-Inner.kids.items in
     let ats = c.in_ok-children-in-Inner.children.items in
     let inv : IsNode depth texts (Inner c.in-Inner.kids) = subst (IsNode depth texts) c.in-Inner.is c.self.invariant in
-    let inner : c.new-inner.result ≡ paired texts ats = c.new-inner.ensures ∙ ap (λ w. paired w ats) c.in_ok-keys.ensures in
-    let long : length ats ≡ length texts = frozen-length _ _ _ kids ats c.in_ok-children-in-Inner.ensures.frozen ∙ inv.1.2 in
+    let inner : c.new-inner.result ≡ paired texts ats = c.new-inner.ensures ∙ ap
+    (λ w. paired w ats) c.in_ok-keys.ensures in
+    let long : length ats ≡ length texts = frozen-length _ _ _ kids ats
+    c.in_ok-children-in-Inner.ensures.frozen ∙ inv.1.2 in
     let drafted = c.freeze_kids.new.draft in
-    record { children = inner-below (drafted.first + length drafted.nodes) texts ats c.new-inner.result long inner c.in_ok-children-in-Inner.ensures.below }
+    record {
+      children = inner-below (drafted.first + length drafted.nodes) texts ats c.new-inner.result long inner
+          c.in_ok-children-in-Inner.ensures.below;
+    }
 
 pub Node::freeze-new-inner-requires-clause-children : goal.Node::freeze-new-inner-requires-clause-children
 Node::freeze-new-inner-requires-clause-children t c =
     let depth = c.self.inside.depth in
     let texts = c.self.inside.keys.texts in
     let inv : IsNode depth texts (Inner c.in-Inner.kids) = subst (IsNode depth texts) c.in-Inner.is c.self.invariant in
-    frozen-length _ _ _ c.in-Inner.kids.items c.in_ok-children-in-Inner.children.items c.in_ok-children-in-Inner.ensures.frozen ∙ inv.1.2 ∙ ap length (sym c.in_ok-keys.ensures)
+    frozen-length _ _ _ c.in-Inner.kids.items c.in_ok-children-in-Inner.children.items
+    c.in_ok-children-in-Inner.ensures.frozen ∙ inv.1.2 ∙ ap length (sym c.in_ok-keys.ensures)
 
 pub Node::freeze-returns-in-Inner-clause-spelled : goal.Node::freeze-returns-in-Inner-clause-spelled
 Node::freeze-returns-in-Inner-clause-spelled t c contents rows l h =
@@ -80,44 +99,69 @@ Node::freeze-returns-in-Inner-clause-spelled t c contents rows l h =
     let inv : IsNode depth texts (Inner c.in-Inner.kids) = subst (IsNode depth texts) c.in-Inner.is c.self.invariant in
     let pieces = ap (body_pieces depth texts) (sym c.in-Inner.is) ∙ ap (λ (s : Seen). s.pieces) c.self.view_is in
     let shows = sym (shown-kids p (depth - 1) (paired texts kids) inv.1.3) ∙ ap (shown p) pieces ∙ h in
-    let spelt = all-spelled contents c.args.draft.now.first c.args.draft.now.nodes c.freeze_kids.new.draft.nodes (depth - 1) texts kids ats rows l c.in_ok-children-in-Inner.ensures.frozen inv.1.3 shows in
-    let inner : c.new-inner.result ≡ paired texts ats = c.new-inner.ensures ∙ ap (λ w. paired w ats) c.in_ok-keys.ensures in
-    let long : length ats ≡ length texts = frozen-length _ _ _ kids ats c.in_ok-children-in-Inner.ensures.frozen ∙ inv.1.2 in
+    let spelt = all-spelled contents c.args.draft.now.first c.args.draft.now.nodes c.freeze_kids.new.draft.nodes
+    (depth - 1) texts kids ats rows l c.in_ok-children-in-Inner.ensures.frozen inv.1.3 shows in
+    let inner : c.new-inner.result ≡ paired texts ats = c.new-inner.ensures ∙ ap
+    (λ w. paired w ats) c.in_ok-keys.ensures in
+    let long : length ats ≡ length texts = frozen-length _ _ _ kids ats
+    c.in_ok-children-in-Inner.ensures.frozen ∙ inv.1.2 in
     let size : length c.new-inner.result ≡ length texts = ap length inner ∙ length-paired texts ats long in
     let here = ap (λ (s : Seen). s.depth) c.self.view_is in
     if_ok c.push-in-Inner.result c.push-in-Inner.ensures.stamp c.push-in-Inner.ensures.ok (λ at k o.
-    inner_pushed contents c.args.draft.now.first c.freeze_kids.new.draft.nodes c.push-in-Inner.new.self.nodes c.new-inner.result rows (depth - 1) c.args.self.depth at l (ap (λ d. d.nodes) o)
-    (k.0 ∙ ap (λ n. n + length c.freeze_kids.new.draft.nodes) c.freeze_kids.ensures.first) (omega (arith, size, inv.1.1)) (omega (arith, size, inv.0.0)) (omega (arith, here, inv.1.0))
-    (ap (λ w. joined_rows (shows_by (rows_at (with_nodes contents c.freeze_kids.new.draft.nodes) (depth - 1)) w)) inner ∙ spelt))
+    inner_pushed contents c.args.draft.now.first c.freeze_kids.new.draft.nodes c.push-in-Inner.new.self.nodes
+    c.new-inner.result rows (depth - 1) c.args.self.depth at l (ap (λ d. d.nodes) o)
+    (k.0 ∙ ap (λ n. n + length c.freeze_kids.new.draft.nodes) c.freeze_kids.ensures.first)
+    (omega (arith, size, inv.1.1)) (omega (arith, size, inv.0.0)) (omega (arith, here, inv.1.0))
+    (ap (λ w. joined_rows (shows_by (rows_at (with_nodes contents c.freeze_kids.new.draft.nodes) (depth - 1))
+    w)) inner ∙ spelt))
 
 pub freezing::freeze_kid-returns-in-Own-clause-frozen : goal.freezing::freeze_kid-returns-in-Own-clause-frozen
 freezing::freeze_kid-returns-in-Own-clause-frozen t c =
-    subst (λ (k : Child). IfOk c.freeze.result (IsFrozen c.args.draft.now.first c.args.draft.now.nodes c.freeze.new.draft.nodes k)) (sym c.in-Own.is)
-    (own_frozen c.freeze.result c.args.draft.now.first c.args.draft.now.nodes c.freeze.new.draft.nodes c.in-Own.node (subst (λ (s : Seen). (contents : Contents) (rows : Rows) → length contents ≡ c.args.draft.now.first → shown (with_nodes contents c.args.draft.now.nodes) s.pieces ≡ Some rows → IfOk c.freeze.result (λ root. rows_at (with_nodes contents c.freeze.new.draft.nodes) s.depth (stamp_of root) ≡ Some rows)) c.into_inner.ensures c.freeze.ensures.spelled))
+    subst (λ (k : Child). IfOk c.freeze.result
+    (IsFrozen c.args.draft.now.first c.args.draft.now.nodes c.freeze.new.draft.nodes k)) (sym c.in-Own.is)
+    (own_frozen c.freeze.result c.args.draft.now.first c.args.draft.now.nodes c.freeze.new.draft.nodes c.in-Own.node
+    (subst (λ (s : Seen). (contents : Contents) (rows : Rows) → length contents ≡ c.args.draft.now.first
+    → shown (with_nodes contents c.args.draft.now.nodes) s.pieces ≡ Some rows
+    → IfOk c.freeze.result (λ root. rows_at (with_nodes contents c.freeze.new.draft.nodes) s.depth (stamp_of root)
+    ≡ Some rows)) c.into_inner.ensures c.freeze.ensures.spelled))
 
 pub freezing::freeze_kids-freeze_kid-requires : goal.freezing::freeze_kids-freeze_kid-requires
 freezing::freeze_kids-freeze_kid-requires t c =
-    let w : c.args.kids.items ≡ c.loop-kid.yielded ++ (c.in-Some.kid ∷ into_iter_items c.next.new.self) = c.loop-kid.invariant.whole ∙ ap (λ w. c.loop-kid.yielded ++ w) c.in-Some.ensures.steps.0 in
+    let w : c.args.kids.items ≡ c.loop-kid.yielded
+    ++ (c.in-Some.kid ∷ into_iter_items c.next.new.self) = c.loop-kid.invariant.whole ∙ ap
+    (λ w. c.loop-kid.yielded ++ w) c.in-Some.ensures.steps.0 in
     let high : child_height c.in-Some.kid ≤ kids_height c.args.kids.items =
-    subst (λ w. child_height c.in-Some.kid ≤ kids_height w) (sym w) (high-within c.loop-kid.yielded c.in-Some.kid (into_iter_items c.next.new.self)) in
-    let more : c.args.draft.now.first + length c.args.draft.now.nodes ≤ c.loop-kid.draft.first + length c.loop-kid.draft.nodes = omega (arith, c.loop-kid.invariant.first, c.loop-kid.invariant.count) in (
+    subst (λ w. child_height c.in-Some.kid ≤ kids_height w) (sym w)
+    (high-within c.loop-kid.yielded c.in-Some.kid (into_iter_items c.next.new.self)) in
+    let more : c.args.draft.now.first + length c.args.draft.now.nodes
+    ≤ c.loop-kid.draft.first + length c.loop-kid.draft.nodes = omega
+    (arith, c.loop-kid.invariant.first, c.loop-kid.invariant.count) in (
       omega (arith, high, c.decreases),
-      kid-below (c.args.draft.now.first + length c.args.draft.now.nodes) (c.loop-kid.draft.first + length c.loop-kid.draft.nodes) c.args.kids.items c.loop-kid.yielded (into_iter_items c.next.new.self) c.in-Some.kid w more c.requires.below,
+      kid-below (c.args.draft.now.first + length c.args.draft.now.nodes)
+          (c.loop-kid.draft.first + length c.loop-kid.draft.nodes) c.args.kids.items c.loop-kid.yielded
+          (into_iter_items c.next.new.self) c.in-Some.kid w more c.requires.below,
     )
 
 pub freezing::freeze_kids-returns-in_err-at-clause-bound : goal.freezing::freeze_kids-returns-in_err-at-clause-bound
 freezing::freeze_kids-returns-in_err-at-clause-bound t c =
-    let w : c.args.kids.items ≡ c.loop-kid.yielded ++ (c.in-Some.kid ∷ into_iter_items c.next.new.self) = c.loop-kid.invariant.whole ∙ ap (λ w. c.loop-kid.yielded ++ w) c.in-Some.ensures.steps.0 in
+    let w : c.args.kids.items ≡ c.loop-kid.yielded
+    ++ (c.in-Some.kid ∷ into_iter_items c.next.new.self) = c.loop-kid.invariant.whole ∙ ap
+    (λ w. c.loop-kid.yielded ++ w) c.in-Some.ensures.steps.0 in
     let most : kids_fresh c.loop-kid.yielded + child_fresh c.in-Some.kid ≤ kids_fresh c.args.kids.items =
-    subst (λ w. kids_fresh c.loop-kid.yielded + child_fresh c.in-Some.kid ≤ kids_fresh w) (sym w) (fresh-within c.loop-kid.yielded c.in-Some.kid (into_iter_items c.next.new.self)) in
+    subst (λ w. kids_fresh c.loop-kid.yielded + child_fresh c.in-Some.kid ≤ kids_fresh w) (sym w)
+    (fresh-within c.loop-kid.yielded c.in-Some.kid (into_iter_items c.next.new.self)) in
     err_so c.from_residual-in_err-at.result (omega (arith, most, c.loop-kid.invariant.count, c.in_err-at.ensures.bound))
 
 pub freezing::freeze_kids-returns-in_err-push-clause-bound : goal.freezing::freeze_kids-returns-in_err-push-clause-bound
 freezing::freeze_kids-returns-in_err-push-clause-bound t c =
-    let w : c.args.kids.items ≡ c.loop-kid.yielded ++ (c.in-Some.kid ∷ into_iter_items c.next.new.self) = c.loop-kid.invariant.whole ∙ ap (λ w. c.loop-kid.yielded ++ w) c.in-Some.ensures.steps.0 in
+    let w : c.args.kids.items ≡ c.loop-kid.yielded
+    ++ (c.in-Some.kid ∷ into_iter_items c.next.new.self) = c.loop-kid.invariant.whole ∙ ap
+    (λ w. c.loop-kid.yielded ++ w) c.in-Some.ensures.steps.0 in
     let most : kids_fresh c.loop-kid.yielded + child_fresh c.in-Some.kid ≤ kids_fresh c.args.kids.items =
-    subst (λ w. kids_fresh c.loop-kid.yielded + child_fresh c.in-Some.kid ≤ kids_fresh w) (sym w) (fresh-within c.loop-kid.yielded c.in-Some.kid (into_iter_items c.next.new.self)) in
-    err_so c.from_residual-in_err-push.result (omega (arith, most, c.loop-kid.invariant.count, c.in_ok-at.ensures.count))
+    subst (λ w. kids_fresh c.loop-kid.yielded + child_fresh c.in-Some.kid ≤ kids_fresh w) (sym w)
+    (fresh-within c.loop-kid.yielded c.in-Some.kid (into_iter_items c.next.new.self)) in
+    err_so c.from_residual-in_err-push.result
+    (omega (arith, most, c.loop-kid.invariant.count, c.in_ok-at.ensures.count))
 
 pub freezing::freeze_kids-loop-kid-preserved : goal.freezing::freeze_kids-loop-kid-preserved
 freezing::freeze_kids-loop-kid-preserved t c =
@@ -127,8 +171,11 @@ freezing::freeze_kids-loop-kid-preserved t c =
     let new = c.freeze_kid.new.draft.nodes in
     let done = c.loop-kid.yielded in
     let kid = c.in-Some.kid in
-    let w : c.args.kids.items ≡ c.loop-kid.yielded ++ (c.in-Some.kid ∷ into_iter_items c.next.new.self) = c.loop-kid.invariant.whole ∙ ap (λ w. c.loop-kid.yielded ++ w) c.in-Some.ensures.steps.0 in
-    let this : IsFrozen first mid new kid c.in_ok-at.at = subst (λ n. IsFrozen n mid new kid c.in_ok-at.at) c.loop-kid.invariant.first c.in_ok-at.ensures.frozen in
+    let w : c.args.kids.items ≡ c.loop-kid.yielded
+    ++ (c.in-Some.kid ∷ into_iter_items c.next.new.self) = c.loop-kid.invariant.whole ∙ ap
+    (λ w. c.loop-kid.yielded ++ w) c.in-Some.ensures.steps.0 in
+    let this : IsFrozen first mid new kid c.in_ok-at.at = subst
+    (λ n. IsFrozen n mid new kid c.in_ok-at.at) c.loop-kid.invariant.first c.in_ok-at.ensures.frozen in
     record {
       can = tt;
       finite = tt;
@@ -137,13 +184,21 @@ freezing::freeze_kids-loop-kid-preserved t c =
       grown = prefix_trans old mid new c.loop-kid.invariant.grown c.freeze_kid.ensures.grown;
       count = omega (arith, fresh-one done kid, c.loop-kid.invariant.count, c.in_ok-at.ensures.count);
       frozen = subst (λ ats. AreFrozen first old new (done ++ kid ∷ []) ats) (sym c.in_ok-push.ensures.items)
-          (all-one first old new done c.loop-kid.children.items kid c.in_ok-at.at (all-later first old mid new done c.loop-kid.children.items c.freeze_kid.ensures.grown c.loop-kid.invariant.frozen)
+          (all-one first old new done c.loop-kid.children.items kid c.in_ok-at.at
+          (all-later first old mid new done c.loop-kid.children.items c.freeze_kid.ensures.grown
+          c.loop-kid.invariant.frozen)
           (frozen-sooner first old mid new kid c.in_ok-at.at c.loop-kid.invariant.grown this));
-      named = kid-added first done kid old mid new c.loop-kid.invariant.named (subst (λ n. AddsNamed n (child_places kid) mid new) c.loop-kid.invariant.first c.in_ok-at.ensures.named);
+      named = kid-added first done kid old mid new c.loop-kid.invariant.named
+          (subst (λ n. AddsNamed n (child_places kid) mid new) c.loop-kid.invariant.first c.in_ok-at.ensures.named);
       below = subst (AreBelow (c.freeze_kid.new.draft.first + length new)) (sym c.in_ok-push.ensures.items)
-          (below-one (c.loop-kid.draft.first + length mid) (c.freeze_kid.new.draft.first + length new) c.loop-kid.children.items c.in_ok-at.at (omega (arith, c.freeze_kid.ensures.first, c.in_ok-at.ensures.count)) c.loop-kid.invariant.below c.in_ok-at.ensures.below);
+          (below-one (c.loop-kid.draft.first + length mid)
+          (c.freeze_kid.new.draft.first + length new) c.loop-kid.children.items c.in_ok-at.at
+          (omega (arith, c.freeze_kid.ensures.first, c.in_ok-at.ensures.count)) c.loop-kid.invariant.below
+          c.in_ok-at.ensures.below);
       names = subst (AreNamed first (kids_places (done ++ kid ∷ []))) (sym c.in_ok-push.ensures.items)
-          (kid-named first done kid c.loop-kid.children.items c.in_ok-at.at c.loop-kid.invariant.names (subst (λ n. IsNamed n (child_places kid) c.in_ok-at.at) c.loop-kid.invariant.first c.in_ok-at.ensures.name));
+          (kid-named first done kid c.loop-kid.children.items c.in_ok-at.at c.loop-kid.invariant.names
+          (subst (λ n. IsNamed n (child_places kid) c.in_ok-at.at) c.loop-kid.invariant.first
+          c.in_ok-at.ensures.name));
     }
 
 pub Node::freeze-returns-in-Leaf-clause-wide : goal.Node::freeze-returns-in-Leaf-clause-wide
@@ -151,7 +206,8 @@ Node::freeze-returns-in-Leaf-clause-wide t c contents l h =
     let x = node.Chunk (chunked.Leaf c.new-leaf.result) in
     if_ok c.push.result c.push.ensures.stamp c.push.ensures.ok (λ at k o.
     wide_node (with_nodes contents c.push.new.self.nodes) (stamp_of at) (content_of x)
-    (pushed_at contents c.args.draft.now.first c.args.draft.now.nodes c.push.new.self.nodes x at l (ap (λ d. d.nodes) o) k.0) refl)
+    (pushed_at contents c.args.draft.now.first c.args.draft.now.nodes c.push.new.self.nodes x at l
+    (ap (λ d. d.nodes) o) k.0) refl)
 
 pub Node::freeze-returns-in-Inner-clause-wide : goal.Node::freeze-returns-in-Inner-clause-wide
 Node::freeze-returns-in-Inner-clause-wide t c contents l h =
@@ -160,25 +216,32 @@ Node::freeze-returns-in-Inner-clause-wide t c contents l h =
     let kids = c.in-Inner.kids.items in
     let ats = c.in_ok-children-in-Inner.children.items in
     let inv : IsNode depth texts (Inner c.in-Inner.kids) = subst (IsNode depth texts) c.in-Inner.is c.self.invariant in
-    let inner : c.new-inner.result ≡ paired texts ats = c.new-inner.ensures ∙ ap (λ w. paired w ats) c.in_ok-keys.ensures in
-    let long : length ats ≡ length texts = frozen-length _ _ _ kids ats c.in_ok-children-in-Inner.ensures.frozen ∙ inv.1.2 in
+    let inner : c.new-inner.result ≡ paired texts ats = c.new-inner.ensures ∙ ap
+    (λ w. paired w ats) c.in_ok-keys.ensures in
+    let long : length ats ≡ length texts = frozen-length _ _ _ kids ats
+    c.in_ok-children-in-Inner.ensures.frozen ∙ inv.1.2 in
     let size : length c.new-inner.result ≡ length texts = ap length inner ∙ length-paired texts ats long in
     let more : 1 < length c.new-inner.result = omega (arith, size, ap (λ (s : Seen). s.entries) c.self.view_is, h) in
     let x = node.Chunk (chunked.Inner c.new-inner.result) in
     if_ok c.push-in-Inner.result c.push-in-Inner.ensures.stamp c.push-in-Inner.ensures.ok (λ at k o.
     wide_node (with_nodes contents c.push-in-Inner.new.self.nodes) (stamp_of at) (content_of x)
-    (pushed_at contents c.args.draft.now.first c.freeze_kids.new.draft.nodes c.push-in-Inner.new.self.nodes x at l (ap (λ d. d.nodes) o)
-    (k.0 ∙ ap (λ n. n + length c.freeze_kids.new.draft.nodes) c.freeze_kids.ensures.first)) (wide_inner c.new-inner.result more))
+    (pushed_at contents c.args.draft.now.first c.freeze_kids.new.draft.nodes c.push-in-Inner.new.self.nodes x at l
+    (ap (λ d. d.nodes) o)
+    (k.0 ∙ ap (λ n. n + length c.freeze_kids.new.draft.nodes) c.freeze_kids.ensures.first))
+    (wide_inner c.new-inner.result more))
 
 pub Node::freeze-returns-in-Leaf-clause-named : goal.Node::freeze-returns-in-Leaf-clause-named
 Node::freeze-returns-in-Leaf-clause-named t c =
     let old = c.args.draft.now.nodes in
     on_ok c.push.result c.push.ensures.ok (λ o.
-    adds-one c.args.draft.now.first (places_of c.args.self.pieces) old old c.push.new.self.nodes (node.Chunk (chunked.Leaf c.new-leaf.result)) (adds-none c.args.draft.now.first (places_of c.args.self.pieces) old)
+    adds-one c.args.draft.now.first (places_of c.args.self.pieces) old old c.push.new.self.nodes
+    (node.Chunk (chunked.Leaf c.new-leaf.result))
+    (adds-none c.args.draft.now.first (places_of c.args.self.pieces) old)
     (λ at h. absurd (no_element at h)) (ap (λ d. d.nodes) o))
 
 pub Node::freeze-returns-in-Leaf-clause-drafted : goal.Node::freeze-returns-in-Leaf-clause-drafted
-Node::freeze-returns-in-Leaf-clause-drafted t c = if_ok c.push.result c.push.ensures.stamp c.push.ensures.ok (λ at k o. (omega (arith, k.0), k.1))
+Node::freeze-returns-in-Leaf-clause-drafted t c = if_ok c.push.result c.push.ensures.stamp c.push.ensures.ok
+    (λ at k o. (omega (arith, k.0), k.1))
 
 pub Node::freeze-returns-in-Inner-clause-named : goal.Node::freeze-returns-in-Inner-clause-named
 Node::freeze-returns-in-Inner-clause-named t c =
@@ -191,39 +254,56 @@ Node::freeze-returns-in-Inner-clause-named t c =
     let ats = c.in_ok-children-in-Inner.children.items in
     let inv : IsNode depth texts (Inner c.in-Inner.kids) = subst (IsNode depth texts) c.in-Inner.is c.self.invariant in
     let pieces = ap (body_pieces depth texts) (sym c.in-Inner.is) ∙ ap (λ (s : Seen). s.pieces) c.self.view_is in
-    let places : places_of c.args.self.pieces ≡ kids_places kids = ap places_of (sym pieces) ∙ places-kids (depth - 1) texts kids inv.1.2 in
-    let inner : c.new-inner.result ≡ paired texts ats = c.new-inner.ensures ∙ ap (λ w. paired w ats) c.in_ok-keys.ensures in
-    let long : length ats ≡ length texts = frozen-length _ _ _ kids ats c.in_ok-children-in-Inner.ensures.frozen ∙ inv.1.2 in
+    let places : places_of c.args.self.pieces
+    ≡ kids_places kids = ap places_of (sym pieces) ∙ places-kids (depth - 1) texts kids inv.1.2 in
+    let inner : c.new-inner.result ≡ paired texts ats = c.new-inner.ensures ∙ ap
+    (λ w. paired w ats) c.in_ok-keys.ensures in
+    let long : length ats ≡ length texts = frozen-length _ _ _ kids ats
+    c.in_ok-children-in-Inner.ensures.frozen ∙ inv.1.2 in
     on_ok c.push-in-Inner.result c.push-in-Inner.ensures.ok (λ o.
     subst (λ w. AddsNamed first w old c.push-in-Inner.new.self.nodes) (sym places)
-    (adds-one first (kids_places kids) old mid c.push-in-Inner.new.self.nodes (node.Chunk (chunked.Inner c.new-inner.result)) c.in_ok-children-in-Inner.ensures.named
-    (inner-named first (kids_places kids) texts ats c.new-inner.result long inner c.in_ok-children-in-Inner.ensures.names) (ap (λ d. d.nodes) o)))
+    (adds-one first (kids_places kids) old mid c.push-in-Inner.new.self.nodes
+    (node.Chunk (chunked.Inner c.new-inner.result)) c.in_ok-children-in-Inner.ensures.named
+    (inner-named first (kids_places kids) texts ats c.new-inner.result long inner
+    c.in_ok-children-in-Inner.ensures.names) (ap (λ d. d.nodes) o)))
 
 pub Node::freeze-returns-in-Inner-clause-drafted : goal.Node::freeze-returns-in-Inner-clause-drafted
 Node::freeze-returns-in-Inner-clause-drafted t c =
-    if_ok c.push-in-Inner.result c.push-in-Inner.ensures.stamp c.push-in-Inner.ensures.ok (λ at k o. (omega (arith, k.0, c.freeze_kids.ensures.first), k.1))
+    if_ok c.push-in-Inner.result c.push-in-Inner.ensures.stamp c.push-in-Inner.ensures.ok
+    (λ at k o. (omega (arith, k.0, c.freeze_kids.ensures.first), k.1))
 
 pub freezing::freeze_kid-returns-in-Placed-clause-named : goal.freezing::freeze_kid-returns-in-Placed-clause-named
-freezing::freeze_kid-returns-in-Placed-clause-named t c = adds-none c.args.draft.now.first (child_places c.args.kid) c.args.draft.now.nodes
+freezing::freeze_kid-returns-in-Placed-clause-named t c = adds-none c.args.draft.now.first
+    (child_places c.args.kid) c.args.draft.now.nodes
 
 pub freezing::freeze_kid-returns-in-Placed-clause-name : goal.freezing::freeze_kid-returns-in-Placed-clause-name
-freezing::freeze_kid-returns-in-Placed-clause-name t c = inl (subst (λ (k : Child). Contains (child_places k) c.in-Placed.at) (sym c.in-Placed.is) (one_here c.in-Placed.at))
+freezing::freeze_kid-returns-in-Placed-clause-name t c = inl
+    (subst (λ (k : Child). Contains (child_places k) c.in-Placed.at) (sym c.in-Placed.is) (one_here c.in-Placed.at))
 
 pub freezing::freeze_kid-returns-in-Own-clause-named : goal.freezing::freeze_kid-returns-in-Own-clause-named
 freezing::freeze_kid-returns-in-Own-clause-named t c =
-    subst (λ (k : Child). OnOk c.freeze.result (AddsNamed c.args.draft.now.first (child_places k) c.args.draft.now.nodes c.freeze.new.draft.nodes)) (sym c.in-Own.is)
-    (subst (λ (s : Seen). OnOk c.freeze.result (AddsNamed c.args.draft.now.first (places_of s.pieces) c.args.draft.now.nodes c.freeze.new.draft.nodes)) c.into_inner.ensures c.freeze.ensures.named)
+    subst (λ (k : Child). OnOk c.freeze.result
+    (AddsNamed c.args.draft.now.first (child_places k) c.args.draft.now.nodes c.freeze.new.draft.nodes))
+    (sym c.in-Own.is)
+    (subst (λ (s : Seen). OnOk c.freeze.result
+    (AddsNamed c.args.draft.now.first (places_of s.pieces) c.args.draft.now.nodes c.freeze.new.draft.nodes))
+    c.into_inner.ensures c.freeze.ensures.named)
 
 pub freezing::freeze_kid-returns-in-Own-clause-name : goal.freezing::freeze_kid-returns-in-Own-clause-name
-freezing::freeze_kid-returns-in-Own-clause-name t c = drafted-named c.args.draft.now.first (child_places c.args.kid) c.freeze.result c.freeze.ensures.drafted
+freezing::freeze_kid-returns-in-Own-clause-name t c = drafted-named c.args.draft.now.first
+    (child_places c.args.kid) c.freeze.result c.freeze.ensures.drafted
 
 pub Node::freeze-returns-in-Leaf-clause-below : goal.Node::freeze-returns-in-Leaf-clause-below
 Node::freeze-returns-in-Leaf-clause-below t c =
-    if_ok c.push.result c.push.ensures.stamp c.push.ensures.ok (λ at k o. pushed-below c.args.draft.now c.push.new.self (node.Chunk (chunked.Leaf c.new-leaf.result)) at o k.0)
+    if_ok c.push.result c.push.ensures.stamp c.push.ensures.ok
+    (λ at k o. pushed-below c.args.draft.now c.push.new.self (node.Chunk (chunked.Leaf c.new-leaf.result)) at o k.0)
 
 pub Node::freeze-returns-in-Inner-clause-below : goal.Node::freeze-returns-in-Inner-clause-below
 Node::freeze-returns-in-Inner-clause-below t c =
-    if_ok c.push-in-Inner.result c.push-in-Inner.ensures.stamp c.push-in-Inner.ensures.ok (λ at k o. pushed-below c.freeze_kids.new.draft c.push-in-Inner.new.self (node.Chunk (chunked.Inner c.new-inner.result)) at o k.0)
+    if_ok c.push-in-Inner.result c.push-in-Inner.ensures.stamp c.push-in-Inner.ensures.ok
+    (λ at k o. pushed-below c.freeze_kids.new.draft c.push-in-Inner.new.self
+    (node.Chunk (chunked.Inner c.new-inner.result)) at o k.0)
 
 pub freezing::freeze_kid-returns-in-Placed-clause-below : goal.freezing::freeze_kid-returns-in-Placed-clause-below
-freezing::freeze_kid-returns-in-Placed-clause-below t c = c.requires.below c.in-Placed.at (subst (λ (k : Child). Contains (child_places k) c.in-Placed.at) (sym c.in-Placed.is) (one_here c.in-Placed.at))
+freezing::freeze_kid-returns-in-Placed-clause-below t c = c.requires.below c.in-Placed.at
+    (subst (λ (k : Child). Contains (child_places k) c.in-Placed.at) (sym c.in-Placed.is) (one_here c.in-Placed.at))

@@ -23,7 +23,8 @@ scanning::scan_kids-loop-place-init g t c =
     let n = known (kids_shown p (paired c.args.firsts.now c.args.kids.now)) r.1.1.0 in
     record {
       grown = (([], append-nil p), λ at h. h);
-      rows = pairs_begun (shown_kid p) c.args.firsts.now c.args.kids.now c.place_of-place.result n.rows c.args.scan.now c.args.low.now c.args.out.now.items r.1.0 n.is n.order
+      rows = pairs_begun (shown_kid p) c.args.firsts.now c.args.kids.now c.place_of-place.result n.rows c.args.scan.now
+          c.args.low.now c.args.out.now.items r.1.0 n.is n.order
           r.1.1.1.0 c.place_of-place.ensures r.1.1.1.1;
     }
 
@@ -33,16 +34,20 @@ scanning::scan_kids-returns-then-is_over-clause-rows g t c =
     let r = c.requires.1.1.1.1.1 in
     let n = known (kids_shown p (paired c.args.firsts.now c.args.kids.now)) r.1.1.0 in
     let e : is_over c.args.scan.now (length c.loop-place.out.items) c.index-firsts-place.result ≡ true =
-    ap (λ n. is_over c.args.scan.now n c.index-firsts-place.result) (sym (c.len.ensures ∙ c.loop-place.out.ok.0)) ∙ sym c.is_over.ensures ∙ c.if-is_over.true in
-    pairs_over (shown_kid p) c.args.firsts.now c.args.kids.now c.loop-place.place n.rows c.args.scan.now c.args.out.now.items c.loop-place.out.items c.index-firsts-place.result r.1.0
+    ap (λ n. is_over c.args.scan.now n c.index-firsts-place.result)
+    (sym (c.len.ensures ∙ c.loop-place.out.ok.0)) ∙ sym c.is_over.ensures ∙ c.if-is_over.true in
+    pairs_over (shown_kid p) c.args.firsts.now c.args.kids.now c.loop-place.place n.rows c.args.scan.now
+    c.args.out.now.items c.loop-place.out.items c.index-firsts-place.result r.1.0
     n.is n.order c.loop-place-test.true c.index-firsts-place.is c.loop-place.invariant.rows e
     ∙ ap (λ w. with_scanned c.args.scan.now c.args.out.now.items (rows_or w)) (sym n.is)
 
 pub scanning::scan_kids-returns-then-is_over-clause-grown : goal.scanning::scan_kids-returns-then-is_over-clause-grown
 scanning::scan_kids-returns-then-is_over-clause-grown g t c = c.loop-place.invariant.grown
 
-pub scanning::scan_kids-returns-in_err-scan_kid-clause-grown : goal.scanning::scan_kids-returns-in_err-scan_kid-clause-grown
-scanning::scan_kids-returns-in_err-scan_kid-clause-grown g t c = grows_on g.C.Chunks.contents g.C.Chunks.places c.args.chunks.now c.loop-place.chunks c.scan_kid.new.chunks c.loop-place.invariant.grown c.scan_kid.ensures.grown
+pub scanning::scan_kids-returns-in_err-scan_kid-clause-grown :
+    goal.scanning::scan_kids-returns-in_err-scan_kid-clause-grown
+scanning::scan_kids-returns-in_err-scan_kid-clause-grown g t c = grows_on g.C.Chunks.contents g.C.Chunks.places
+    c.args.chunks.now c.loop-place.chunks c.scan_kid.new.chunks c.loop-place.invariant.grown c.scan_kid.ensures.grown
 
 pub scanning::scan_kids-returns-clause-grown : goal.scanning::scan_kids-returns-clause-grown
 scanning::scan_kids-returns-clause-grown g t c = c.loop-place.invariant.grown
@@ -52,24 +57,50 @@ scanning::scan_kids-scan_kid-requires g t c κs ws =
     let p = g.C.Chunks.contents c.args.chunks.now in
     let r = c.requires.1.1.1.1.1 in
     let n = known (kids_shown p (paired c.args.firsts.now c.args.kids.now)) r.1.1.0 in
-    let u = kid_turn p (g.C.Chunks.contents c.loop-place.chunks) c.args.firsts.now c.args.kids.now c.loop-place.place c.index-kids-place.result c.loop-place.invariant.grown.0 r.1.0 n
+    let u = kid_turn p (g.C.Chunks.contents c.loop-place.chunks) c.args.firsts.now c.args.kids.now c.loop-place.place
+    c.index-kids-place.result c.loop-place.invariant.grown.0 r.1.0 n
     c.loop-place-test.true c.index-kids-place.is in
-    let high = kid_height c.args.kids.now c.loop-place.place c.index-kids-place.result (omega (arith, r.1.0, c.loop-place-test.true)) c.index-kids-place.is in
-    let may = all_on (g.C.Chunks.places c.args.chunks.now) (g.C.Chunks.places c.loop-place.chunks) _ c.loop-place.invariant.grown.1
-    (kid_all (g.C.Chunks.places c.args.chunks.now) c.args.kids.now c.loop-place.place c.index-kids-place.result (omega (arith, r.1.0, c.loop-place-test.true)) c.index-kids-place.is c.requires.1.1.1.1.0) in
-    (omega (arith, high, c.requires.1.0), (ws.0, (ws.1, (may, (u.tree, (r.1.1.1.0, within c.args.scan.now c.loop-place.out.items c.args.out.now.items _ c.loop-place.invariant.rows))))))
+    let high = kid_height c.args.kids.now c.loop-place.place c.index-kids-place.result
+    (omega (arith, r.1.0, c.loop-place-test.true)) c.index-kids-place.is in
+    let may = all_on (g.C.Chunks.places c.args.chunks.now)
+    (g.C.Chunks.places c.loop-place.chunks) _ c.loop-place.invariant.grown.1
+    (kid_all (g.C.Chunks.places c.args.chunks.now) c.args.kids.now c.loop-place.place c.index-kids-place.result
+    (omega (arith, r.1.0, c.loop-place-test.true)) c.index-kids-place.is c.requires.1.1.1.1.0) in (
+      omega (arith, high, c.requires.1.0),
+      (
+        ws.0,
+        (
+          ws.1,
+          (
+            may,
+            (
+              u.tree,
+              (
+                r.1.1.1.0,
+                within c.args.scan.now c.loop-place.out.items c.args.out.now.items _
+                    c.loop-place.invariant.rows,
+              ),
+            ),
+          ),
+        ),
+      ),
+    )
 
 pub scanning::scan_kids-loop-place-preserved : goal.scanning::scan_kids-loop-place-preserved
 scanning::scan_kids-loop-place-preserved g t c =
     let p = g.C.Chunks.contents c.args.chunks.now in
     let r = c.requires.1.1.1.1.1 in
     let n = known (kids_shown p (paired c.args.firsts.now c.args.kids.now)) r.1.1.0 in
-    let u = kid_turn p (g.C.Chunks.contents c.loop-place.chunks) c.args.firsts.now c.args.kids.now c.loop-place.place c.index-kids-place.result c.loop-place.invariant.grown.0 r.1.0 n
+    let u = kid_turn p (g.C.Chunks.contents c.loop-place.chunks) c.args.firsts.now c.args.kids.now c.loop-place.place
+    c.index-kids-place.result c.loop-place.invariant.grown.0 r.1.0 n
     c.loop-place-test.true c.index-kids-place.is in
     record {
-      grown = grows_on g.C.Chunks.contents g.C.Chunks.places c.args.chunks.now c.loop-place.chunks c.scan_kid.new.chunks c.loop-place.invariant.grown c.scan_kid.ensures.grown;
-      rows = pairs_child (shown_kid p) c.args.firsts.now c.args.kids.now c.loop-place.place n.rows c.args.scan.now c.args.out.now.items c.loop-place.out.items c.scan_kid.new.out.items
-          u.turn c.loop-place.invariant.rows (c.in_ok-scan_kid.ensures.rows ∙ ap (λ w. with_scanned c.args.scan.now c.loop-place.out.items (rows_or w)) u.rows_are);
+      grown = grows_on g.C.Chunks.contents g.C.Chunks.places c.args.chunks.now c.loop-place.chunks c.scan_kid.new.chunks
+          c.loop-place.invariant.grown c.scan_kid.ensures.grown;
+      rows = pairs_child (shown_kid p) c.args.firsts.now c.args.kids.now c.loop-place.place n.rows c.args.scan.now
+          c.args.out.now.items c.loop-place.out.items c.scan_kid.new.out.items
+          u.turn c.loop-place.invariant.rows (c.in_ok-scan_kid.ensures.rows ∙ ap
+          (λ w. with_scanned c.args.scan.now c.loop-place.out.items (rows_or w)) u.rows_are);
     }
 
 pub scanning::scan_kids-returns-clause-rows : goal.scanning::scan_kids-returns-clause-rows
@@ -77,43 +108,61 @@ scanning::scan_kids-returns-clause-rows g t c =
     let p = g.C.Chunks.contents c.args.chunks.now in
     let r = c.requires.1.1.1.1.1 in
     let n = known (kids_shown p (paired c.args.firsts.now c.args.kids.now)) r.1.1.0 in
-    pairs_all (shown_kid p) c.args.firsts.now c.args.kids.now c.loop-place.place n.rows c.args.scan.now c.args.out.now.items c.loop-place.out.items r.1.0 n.is
+    pairs_all (shown_kid p) c.args.firsts.now c.args.kids.now c.loop-place.place n.rows c.args.scan.now
+    c.args.out.now.items c.loop-place.out.items r.1.0 n.is
     (omega (arith, c.place_of-place.ensures.0)) c.loop-place.invariant.rows
     ∙ ap (λ w. with_scanned c.args.scan.now c.args.out.now.items (rows_or w)) (sym n.is)
 
 pub Node::scan-returns-in-Leaf-clause-rows : goal.Node::scan-returns-in-Leaf-clause-rows
 Node::scan-returns-in-Leaf-clause-rows g t c =
     let p = g.C.Chunks.contents c.args.chunks.now in
-    let pieces = ap (body_pieces c.self.inside.depth c.self.inside.keys.texts) (sym c.in-Leaf.is) ∙ ap (λ (s : Seen). s.pieces) c.self.view_is in
+    let pieces = ap (body_pieces c.self.inside.depth c.self.inside.keys.texts) (sym c.in-Leaf.is) ∙ ap
+    (λ (s : Seen). s.pieces) c.self.view_is in
     c.in_ok-scan_rows-in-Leaf.ensures
     ∙ ap (λ w. with_scanned c.args.scan.now c.args.out.now.items (paired w c.deref.result.now)) c.as_slice.ensures
-    ∙ ap (λ w. with_scanned c.args.scan.now c.args.out.now.items (paired c.self.inside.keys.texts w)) c.deref.ensures.value
-    ∙ ap (λ w. with_scanned c.args.scan.now c.args.out.now.items (rows_or w)) (sym (ap (shown p) (sym pieces) ∙ shown-rows p (paired c.self.inside.keys.texts c.in-Leaf.values.items)))
+    ∙ ap (λ w. with_scanned c.args.scan.now c.args.out.now.items (paired c.self.inside.keys.texts w))
+    c.deref.ensures.value
+    ∙ ap (λ w. with_scanned c.args.scan.now c.args.out.now.items (rows_or w))
+    (sym (ap (shown p) (sym pieces) ∙ shown-rows p (paired c.self.inside.keys.texts c.in-Leaf.values.items)))
 
 pub Node::scan-scan_kids-requires : goal.Node::scan-scan_kids-requires
 Node::scan-scan_kids-requires g t c κs ws =
     let p = g.C.Chunks.contents c.args.chunks.now in
     let r = c.requires.1.1.1.1.1 in
     let n = known (shown p c.args.self.now.pieces) r.0 in
-    let i : IsNode c.self.inside.depth c.self.inside.keys.texts (Inner c.in-Inner.kids) = subst (IsNode c.self.inside.depth c.self.inside.keys.texts) c.in-Inner.is c.self.invariant in
-    let k = kids_shown-is p c.self.inside.depth c.self.inside.keys.texts c.self.inside.body c.in-Inner.kids c.args.self.now.pieces n.rows (ap (λ (s : Seen). s.pieces) c.self.view_is) c.in-Inner.is c.self.invariant n.is in
-    let high : body_height (Inner c.in-Inner.kids) ≡ c.args.self.now.height = ap body_height (sym c.in-Inner.is) ∙ ap (λ (s : Seen). s.height) c.self.view_is in
-    let pairs : kids_shown p (paired c.as_slice-in-Inner.result.now c.deref-in-Inner.result.now) ≡ kids_shown p (paired c.self.inside.keys.texts c.in-Inner.kids.items) =
-    ap (λ w. kids_shown p (paired w c.deref-in-Inner.result.now)) c.as_slice-in-Inner.ensures ∙ ap (λ w. kids_shown p (paired c.self.inside.keys.texts w)) c.deref-in-Inner.ensures.value in
-    let tops : kids_height c.deref-in-Inner.result.now ≡ kids_height c.in-Inner.kids.items = ap kids_height c.deref-in-Inner.ensures.value in (
+    let i : IsNode c.self.inside.depth c.self.inside.keys.texts (Inner c.in-Inner.kids) = subst
+    (IsNode c.self.inside.depth c.self.inside.keys.texts) c.in-Inner.is c.self.invariant in
+    let k = kids_shown-is p c.self.inside.depth c.self.inside.keys.texts c.self.inside.body c.in-Inner.kids
+    c.args.self.now.pieces n.rows (ap (λ (s : Seen). s.pieces) c.self.view_is) c.in-Inner.is
+    c.self.invariant n.is in
+    let high : body_height (Inner c.in-Inner.kids)
+    ≡ c.args.self.now.height = ap body_height (sym c.in-Inner.is) ∙ ap (λ (s : Seen). s.height) c.self.view_is in
+    let pairs : kids_shown p (paired c.as_slice-in-Inner.result.now c.deref-in-Inner.result.now)
+    ≡ kids_shown p (paired c.self.inside.keys.texts c.in-Inner.kids.items) =
+    ap (λ w. kids_shown p (paired w c.deref-in-Inner.result.now)) c.as_slice-in-Inner.ensures ∙ ap
+    (λ w. kids_shown p (paired c.self.inside.keys.texts w)) c.deref-in-Inner.ensures.value in
+    let tops : kids_height c.deref-in-Inner.result.now
+    ≡ kids_height c.in-Inner.kids.items = ap kids_height c.deref-in-Inner.ensures.value in (
       omega (arith, tops, high, c.requires.1.0),
       (
         ws.0,
         (
           ws.1,
           (
-            subst (λ ks. AreAll (g.C.Chunks.places c.args.chunks.now) (kids_places ks)) (sym c.deref-in-Inner.ensures.value)
-                (kids_may (g.C.Chunks.places c.args.chunks.now) c.self.inside.depth c.self.inside.keys.texts c.self.inside.body c.in-Inner.kids c.args.self.now.pieces (ap (λ (s : Seen). s.pieces) c.self.view_is) c.in-Inner.is c.self.invariant c.requires.1.1.1.1.0),
+            subst (λ ks. AreAll (g.C.Chunks.places c.args.chunks.now) (kids_places ks))
+                (sym c.deref-in-Inner.ensures.value)
+                (kids_may (g.C.Chunks.places c.args.chunks.now) c.self.inside.depth c.self.inside.keys.texts
+                c.self.inside.body c.in-Inner.kids c.args.self.now.pieces
+                (ap (λ (s : Seen). s.pieces) c.self.view_is) c.in-Inner.is c.self.invariant c.requires.1.1.1.1.0),
             (
               subst (λ w. T (rises w)) (sym c.as_slice-in-Inner.ensures) i.0.1,
               (
                 omega (arith, i.1.2, ap length c.as_slice-in-Inner.ensures, ap length c.deref-in-Inner.ensures.value),
-                (tree_of (kids_shown p (paired c.as_slice-in-Inner.result.now c.deref-in-Inner.result.now)) n.rows (pairs ∙ k) n.order, r.1),
+                (
+                  tree_of (kids_shown p (paired c.as_slice-in-Inner.result.now c.deref-in-Inner.result.now)) n.rows
+                      (pairs ∙ k) n.order,
+                  r.1,
+                ),
               ),
             ),
           ),
@@ -126,8 +175,13 @@ Node::scan-returns-in-Inner-clause-rows g t c =
     let p = g.C.Chunks.contents c.args.chunks.now in
     let r = c.requires.1.1.1.1.1 in
     let n = known (shown p c.args.self.now.pieces) r.0 in
-    let k = kids_shown-is p c.self.inside.depth c.self.inside.keys.texts c.self.inside.body c.in-Inner.kids c.args.self.now.pieces n.rows (ap (λ (s : Seen). s.pieces) c.self.view_is) c.in-Inner.is c.self.invariant n.is in
-    let pairs : kids_shown p (paired c.as_slice-in-Inner.result.now c.deref-in-Inner.result.now) ≡ kids_shown p (paired c.self.inside.keys.texts c.in-Inner.kids.items) =
-    ap (λ w. kids_shown p (paired w c.deref-in-Inner.result.now)) c.as_slice-in-Inner.ensures ∙ ap (λ w. kids_shown p (paired c.self.inside.keys.texts w)) c.deref-in-Inner.ensures.value in
-    subst (λ w. OnOk c.scan_kids.result (c.scan_kids.new.out.items ≡ with_scanned c.args.scan.now c.args.out.now.items (rows_or w)))
+    let k = kids_shown-is p c.self.inside.depth c.self.inside.keys.texts c.self.inside.body c.in-Inner.kids
+    c.args.self.now.pieces n.rows (ap (λ (s : Seen). s.pieces) c.self.view_is) c.in-Inner.is
+    c.self.invariant n.is in
+    let pairs : kids_shown p (paired c.as_slice-in-Inner.result.now c.deref-in-Inner.result.now)
+    ≡ kids_shown p (paired c.self.inside.keys.texts c.in-Inner.kids.items) =
+    ap (λ w. kids_shown p (paired w c.deref-in-Inner.result.now)) c.as_slice-in-Inner.ensures ∙ ap
+    (λ w. kids_shown p (paired c.self.inside.keys.texts w)) c.deref-in-Inner.ensures.value in
+    subst (λ w. OnOk c.scan_kids.result (c.scan_kids.new.out.items
+    ≡ with_scanned c.args.scan.now c.args.out.now.items (rows_or w)))
     (pairs ∙ k ∙ sym n.is) c.scan_kids.ensures.rows

@@ -20,5 +20,6 @@ abbrev pub invariant-scanning::scan_kids-loop-place : goal.invariant-scanning::s
 invariant-scanning::scan_kids-loop-place g l =
     record {
       grown : Grows g.C.Chunks.contents g.C.Chunks.places l.fn.chunks l.chunks;
-      rows : l.out.items ≡ with_scanned l.scan l.fn.out.items (first_rows (shown_kid (g.C.Chunks.contents l.fn.chunks)) (paired l.firsts l.kids) l.place);
+      rows : l.out.items ≡ with_scanned l.scan l.fn.out.items
+          (first_rows (shown_kid (g.C.Chunks.contents l.fn.chunks)) (paired l.firsts l.kids) l.place);
     }

@@ -1,4 +1,5 @@
-use Rattle.std.proofs.Common.{◌≡◌, ◌+◌, ◌*◌, ◌-◌, ◌++◌, [], ◌<◌, ◌≤◌, IfOk, ℕ, Option, None, arith, length, sym, ap, subst, ◌∙◌, Some, get_or, length-set, slice_get, nat_cmp, T, refl, set-set}
+use Rattle.std.proofs.Common.{◌≡◌, ◌+◌, ◌*◌, ◌-◌, ◌++◌, [], ◌<◌, ◌≤◌, IfOk, ℕ, Option, None, arith, length, sym, ap}
+use Rattle.std.proofs.Common.{subst, ◌∙◌, Some, get_or, length-set, slice_get, nat_cmp, T, refl, set-set}
 use Rattle.std.specs.Prelude.{IsSome}
 use Rattle.std.specs.Box.{with_value}
 use Rattle.std.specs.Cmp.Lexicographic.{slice_cmp}
@@ -9,8 +10,10 @@ use Rattle.group_history.specs.Spelling.{rows_at}
 use Rattle.map_nodes.specs.Inside.Counts.{half_fresh, HasKept}
 use Rattle.map_chunks.specs.Places.{AreAll, AreKept, places_of}
 use Rattle.map_nodes.specs.Inside.Freezing.{child_places, kids_places}
-use Rattle.map_nodes.specs.Inside.Halves.{half_pieces, IsHalf, IsLower, AreNinth, HasDepth, ChildPut, with_half, lowered}
-use Rattle.map_nodes.specs.Nodes.{AllKids, IsNode, body_pieces, body_fresh, body_height, kids_pieces, child_fresh, kids_fresh}
+use Rattle.map_nodes.specs.Inside.Halves.{half_pieces, IsHalf, IsLower, AreNinth, HasDepth, ChildPut, with_half}
+use Rattle.map_nodes.specs.Inside.Halves.{lowered}
+use Rattle.map_nodes.specs.Nodes.{AllKids, IsNode, body_pieces, body_fresh, body_height, kids_pieces, child_fresh}
+use Rattle.map_nodes.specs.Nodes.{kids_fresh}
 use Rattle.map_nodes.specs.Inside.Nodes.{Kid, child_rows}
 use Rattle.map_nodes.specs.Inside.Ready.{IsReady}
 use Rattle.map_chunks.specs.Search.{IsPlace}
@@ -29,7 +32,8 @@ use Rattle.map_nodes.proofs.NodeLemmas.{inner_same, shown-rows, child_at, writte
 use Rattle.map_chunks.proofs.OpenLemmas.{known, tree_of}
 use Rattle.map_nodes.proofs.ReplaceLemmas.{leaf_rows}
 use Rattle.map_nodes.proofs.UnputLemmas.{unput_anyhow, unput_split}
-use Rattle.map_nodes.proofs.PathLemmas.{put_path, filled_pairs, filled_kids, length-pairs, node_at, child_requires, if_ok, indexed_child, done_at, length-lowered, ninth_lowered}
+use Rattle.map_nodes.proofs.PathLemmas.{put_path, filled_pairs, filled_kids, length-pairs, node_at, child_requires}
+use Rattle.map_nodes.proofs.PathLemmas.{if_ok, indexed_child, done_at, length-lowered, ninth_lowered}
 use Rattle.map_nodes.proofs.PlaceLemmas.{kid_all, kids_may, own_may, placed_may, new_may}
 use Rattle.map_nodes.proofs.nodes.+put.Goals as goal
 
@@ -38,7 +42,9 @@ putting::paths::put_inner-put_child-requires g t c κs within =
     let p = g.C.Chunks.contents c.args.chunks.now in
     let at : Child = Placed (record { bits = 0 }) in
     let i = c.place_of-place.result in
-    let x = node_at p c.args.depth c.args.keys.now.texts (Inner c.args.kids.now) c.args.kids.now (body_pieces c.args.depth c.args.keys.now.texts (Inner c.args.kids.now)) c.as_slice.result.now c.args.key.now i at
+    let x = node_at p c.args.depth c.args.keys.now.texts (Inner c.args.kids.now) c.args.kids.now
+    (body_pieces c.args.depth c.args.keys.now.texts (Inner c.args.kids.now)) c.as_slice.result.now
+    c.args.key.now i at
     refl refl c.requires.node c.as_slice.ensures
     (subst (λ k. IsPlace k c.as_slice.result.now i) c.as_str.ensures c.place_of-place.ensures) c.requires.tree in (
       omega (arith, x.2.1.0, c.decreases),
@@ -47,14 +53,21 @@ putting::paths::put_inner-put_child-requires g t c κs within =
         (
           within.1,
           (
-            subst (λ ks. AreAll (g.C.Chunks.places c.args.chunks.now) (kids_places ks)) (sym c.reserve.ensures.items) (kids_may (g.C.Chunks.places c.args.chunks.now) c.args.depth c.args.keys.now.texts (Inner c.args.kids.now) c.args.kids.now (body_pieces c.args.depth c.args.keys.now.texts (Inner c.args.kids.now)) refl refl c.requires.node c.requires.places),
+            subst (λ ks. AreAll (g.C.Chunks.places c.args.chunks.now) (kids_places ks)) (sym c.reserve.ensures.items)
+                (kids_may (g.C.Chunks.places c.args.chunks.now) c.args.depth c.args.keys.now.texts
+                (Inner c.args.kids.now) c.args.kids.now
+                (body_pieces c.args.depth c.args.keys.now.texts (Inner c.args.kids.now)) refl refl c.requires.node
+                c.requires.places),
             (
               omega (arith, x.3.0, x.2.1.2, ap length c.reserve.ensures.items),
               (
-                subst (λ w. IsPlace c.args.key.now w i) c.as_slice.ensures (subst (λ k. IsPlace k c.as_slice.result.now i) c.as_str.ensures c.place_of-place.ensures),
+                subst (λ w. IsPlace c.args.key.now w i) c.as_slice.ensures
+                    (subst (λ k. IsPlace k c.as_slice.result.now i) c.as_str.ensures c.place_of-place.ensures),
                 (
                   omega (arith, x.2.1.0, c.requires.copies),
-                  child_requires p c.args.depth c.args.keys.now.texts c.args.kids.now.items c.reserve.new.self.items (body_pieces c.args.depth c.args.keys.now.texts (Inner c.args.kids.now)) c.args.key.now i (get_or c.args.kids.now.items i at) x.0 x.1 c.reserve.ensures.items,
+                  child_requires p c.args.depth c.args.keys.now.texts c.args.kids.now.items c.reserve.new.self.items
+                      (body_pieces c.args.depth c.args.keys.now.texts (Inner c.args.kids.now)) c.args.key.now i
+                      (get_or c.args.kids.now.items i at) x.0 x.1 c.reserve.ensures.items,
                 ),
               ),
             ),
@@ -68,7 +81,9 @@ putting::paths::put_inner-finish-requires-clause-pairs g t c =
     let p = g.C.Chunks.contents c.args.chunks.now in
     let at : Child = Placed (record { bits = 0 }) in
     let i = c.place_of-place.result in
-    let x = node_at p c.args.depth c.args.keys.now.texts (Inner c.args.kids.now) c.args.kids.now (body_pieces c.args.depth c.args.keys.now.texts (Inner c.args.kids.now)) c.as_slice.result.now c.args.key.now i at
+    let x = node_at p c.args.depth c.args.keys.now.texts (Inner c.args.kids.now) c.args.kids.now
+    (body_pieces c.args.depth c.args.keys.now.texts (Inner c.args.kids.now)) c.as_slice.result.now
+    c.args.key.now i at
     refl refl c.requires.node c.as_slice.ensures
     (subst (λ k. IsPlace k c.as_slice.result.now i) c.as_str.ensures c.place_of-place.ensures) c.requires.tree in
     let q = g.C.Chunks.contents c.put_child.new.chunks in
@@ -76,20 +91,28 @@ putting::paths::put_inner-finish-requires-clause-pairs g t c =
     let keys = c.args.keys.now.texts in
     let kids = c.args.kids.now.items in
     let kk : c.reserve.new.self.items ≡ kids = c.reserve.ensures.items in
-    let done = subst (λ ks. ChildPut q (c.args.copies + 1) (c.args.depth - 1) i ks c.put_child.new.kids.items c.in_ok-ready.half
-    (Some (finite.put (slice_cmp nat_cmp) c.args.key.now c.args.value.now (rows_or (child_rows p (c.args.depth - 1) child))))) kk
+    let done = subst (λ ks. ChildPut q (c.args.copies + 1)
+    (c.args.depth - 1) i ks c.put_child.new.kids.items c.in_ok-ready.half
+    (Some (finite.put (slice_cmp nat_cmp) c.args.key.now c.args.value.now
+    (rows_or (child_rows p (c.args.depth - 1) child))))) kk
     (c.in_ok-ready.ensures.done child (ap (λ w. slice_get w i) kk ∙ x.1)) in
     let low = c.lower_first.ensures.texts ∙ ap (lowered i c.in_ok-ready.ready.lower) c.put_child.ensures.texts in
-    let u = put_path p q c.args.depth c.args.copies keys kids c.put_child.new.kids.items (body_pieces c.args.depth c.args.keys.now.texts (Inner c.args.kids.now)) c.args.key.now c.args.value.now i child c.in_ok-ready.ready.lower
+    let u = put_path p q c.args.depth c.args.copies keys kids c.put_child.new.kids.items
+    (body_pieces c.args.depth c.args.keys.now.texts (Inner c.args.kids.now)) c.args.key.now c.args.value.now i child
+    c.in_ok-ready.ready.lower
     c.in_ok-ready.half c.put_child.ensures.grown.0 x.2.1.2 x.0 c.in_ok-ready.ensures.lower done in
-    ap length done.1 ∙ length-set kids i (Own done.0) ∙ x.2.1.2 ∙ sym (ap length low ∙ length-lowered i c.in_ok-ready.ready.lower keys)
+    ap length done.1 ∙ length-set kids i (Own done.0) ∙ x.2.1.2 ∙ sym
+    (ap length low ∙ length-lowered i c.in_ok-ready.ready.lower keys)
 
-pub putting::paths::put_inner-finish-requires-clause-keys_room : goal.putting::paths::put_inner-finish-requires-clause-keys_room
+pub putting::paths::put_inner-finish-requires-clause-keys_room :
+    goal.putting::paths::put_inner-finish-requires-clause-keys_room
 putting::paths::put_inner-finish-requires-clause-keys_room g t c =
     let p = g.C.Chunks.contents c.args.chunks.now in
     let at : Child = Placed (record { bits = 0 }) in
     let i = c.place_of-place.result in
-    let x = node_at p c.args.depth c.args.keys.now.texts (Inner c.args.kids.now) c.args.kids.now (body_pieces c.args.depth c.args.keys.now.texts (Inner c.args.kids.now)) c.as_slice.result.now c.args.key.now i at
+    let x = node_at p c.args.depth c.args.keys.now.texts (Inner c.args.kids.now) c.args.kids.now
+    (body_pieces c.args.depth c.args.keys.now.texts (Inner c.args.kids.now)) c.as_slice.result.now
+    c.args.key.now i at
     refl refl c.requires.node c.as_slice.ensures
     (subst (λ k. IsPlace k c.as_slice.result.now i) c.as_str.ensures c.place_of-place.ensures) c.requires.tree in
     let q = g.C.Chunks.contents c.put_child.new.chunks in
@@ -97,20 +120,27 @@ putting::paths::put_inner-finish-requires-clause-keys_room g t c =
     let keys = c.args.keys.now.texts in
     let kids = c.args.kids.now.items in
     let kk : c.reserve.new.self.items ≡ kids = c.reserve.ensures.items in
-    let done = subst (λ ks. ChildPut q (c.args.copies + 1) (c.args.depth - 1) i ks c.put_child.new.kids.items c.in_ok-ready.half
-    (Some (finite.put (slice_cmp nat_cmp) c.args.key.now c.args.value.now (rows_or (child_rows p (c.args.depth - 1) child))))) kk
+    let done = subst (λ ks. ChildPut q (c.args.copies + 1)
+    (c.args.depth - 1) i ks c.put_child.new.kids.items c.in_ok-ready.half
+    (Some (finite.put (slice_cmp nat_cmp) c.args.key.now c.args.value.now
+    (rows_or (child_rows p (c.args.depth - 1) child))))) kk
     (c.in_ok-ready.ensures.done child (ap (λ w. slice_get w i) kk ∙ x.1)) in
     let low = c.lower_first.ensures.texts ∙ ap (lowered i c.in_ok-ready.ready.lower) c.put_child.ensures.texts in
-    let u = put_path p q c.args.depth c.args.copies keys kids c.put_child.new.kids.items (body_pieces c.args.depth c.args.keys.now.texts (Inner c.args.kids.now)) c.args.key.now c.args.value.now i child c.in_ok-ready.ready.lower
+    let u = put_path p q c.args.depth c.args.copies keys kids c.put_child.new.kids.items
+    (body_pieces c.args.depth c.args.keys.now.texts (Inner c.args.kids.now)) c.args.key.now c.args.value.now i child
+    c.in_ok-ready.ready.lower
     c.in_ok-ready.half c.put_child.ensures.grown.0 x.2.1.2 x.0 c.in_ok-ready.ensures.lower done in
     λ some. omega (arith, c.lower_first.ensures.room, (c.in_ok-ready.ensures.ready some).0)
 
-pub putting::paths::put_inner-finish-requires-clause-kids_room : goal.putting::paths::put_inner-finish-requires-clause-kids_room
+pub putting::paths::put_inner-finish-requires-clause-kids_room :
+    goal.putting::paths::put_inner-finish-requires-clause-kids_room
 putting::paths::put_inner-finish-requires-clause-kids_room g t c =
     let p = g.C.Chunks.contents c.args.chunks.now in
     let at : Child = Placed (record { bits = 0 }) in
     let i = c.place_of-place.result in
-    let x = node_at p c.args.depth c.args.keys.now.texts (Inner c.args.kids.now) c.args.kids.now (body_pieces c.args.depth c.args.keys.now.texts (Inner c.args.kids.now)) c.as_slice.result.now c.args.key.now i at
+    let x = node_at p c.args.depth c.args.keys.now.texts (Inner c.args.kids.now) c.args.kids.now
+    (body_pieces c.args.depth c.args.keys.now.texts (Inner c.args.kids.now)) c.as_slice.result.now
+    c.args.key.now i at
     refl refl c.requires.node c.as_slice.ensures
     (subst (λ k. IsPlace k c.as_slice.result.now i) c.as_str.ensures c.place_of-place.ensures) c.requires.tree in
     let q = g.C.Chunks.contents c.put_child.new.chunks in
@@ -118,21 +148,34 @@ putting::paths::put_inner-finish-requires-clause-kids_room g t c =
     let keys = c.args.keys.now.texts in
     let kids = c.args.kids.now.items in
     let kk : c.reserve.new.self.items ≡ kids = c.reserve.ensures.items in
-    let done = subst (λ ks. ChildPut q (c.args.copies + 1) (c.args.depth - 1) i ks c.put_child.new.kids.items c.in_ok-ready.half
-    (Some (finite.put (slice_cmp nat_cmp) c.args.key.now c.args.value.now (rows_or (child_rows p (c.args.depth - 1) child))))) kk
+    let done = subst (λ ks. ChildPut q (c.args.copies + 1)
+    (c.args.depth - 1) i ks c.put_child.new.kids.items c.in_ok-ready.half
+    (Some (finite.put (slice_cmp nat_cmp) c.args.key.now c.args.value.now
+    (rows_or (child_rows p (c.args.depth - 1) child))))) kk
     (c.in_ok-ready.ensures.done child (ap (λ w. slice_get w i) kk ∙ x.1)) in
     let low = c.lower_first.ensures.texts ∙ ap (lowered i c.in_ok-ready.ready.lower) c.put_child.ensures.texts in
-    let u = put_path p q c.args.depth c.args.copies keys kids c.put_child.new.kids.items (body_pieces c.args.depth c.args.keys.now.texts (Inner c.args.kids.now)) c.args.key.now c.args.value.now i child c.in_ok-ready.ready.lower
+    let u = put_path p q c.args.depth c.args.copies keys kids c.put_child.new.kids.items
+    (body_pieces c.args.depth c.args.keys.now.texts (Inner c.args.kids.now)) c.args.key.now c.args.value.now i child
+    c.in_ok-ready.ready.lower
     c.in_ok-ready.half c.put_child.ensures.grown.0 x.2.1.2 x.0 c.in_ok-ready.ensures.lower done in
     let n = ap length done.1 ∙ length-set kids i (Own done.0) ∙ sym (ap length kk) in
-    omega (arith, n, c.put_child.ensures.kept, c.in_ok-reserve.ensures.ok, c.put_child.new.kids.ok.0, c.reserve.new.self.ok.0)
+    omega (
+      arith,
+      n,
+      c.put_child.ensures.kept,
+      c.in_ok-reserve.ensures.ok,
+      c.put_child.new.kids.ok.0,
+      c.reserve.new.self.ok.0,
+    )
 
 pub putting::paths::put_inner-finish-requires-clause-half : goal.putting::paths::put_inner-finish-requires-clause-half
 putting::paths::put_inner-finish-requires-clause-half g t c =
     let p = g.C.Chunks.contents c.args.chunks.now in
     let at : Child = Placed (record { bits = 0 }) in
     let i = c.place_of-place.result in
-    let x = node_at p c.args.depth c.args.keys.now.texts (Inner c.args.kids.now) c.args.kids.now (body_pieces c.args.depth c.args.keys.now.texts (Inner c.args.kids.now)) c.as_slice.result.now c.args.key.now i at
+    let x = node_at p c.args.depth c.args.keys.now.texts (Inner c.args.kids.now) c.args.kids.now
+    (body_pieces c.args.depth c.args.keys.now.texts (Inner c.args.kids.now)) c.as_slice.result.now
+    c.args.key.now i at
     refl refl c.requires.node c.as_slice.ensures
     (subst (λ k. IsPlace k c.as_slice.result.now i) c.as_str.ensures c.place_of-place.ensures) c.requires.tree in
     let q = g.C.Chunks.contents c.put_child.new.chunks in
@@ -140,20 +183,27 @@ putting::paths::put_inner-finish-requires-clause-half g t c =
     let keys = c.args.keys.now.texts in
     let kids = c.args.kids.now.items in
     let kk : c.reserve.new.self.items ≡ kids = c.reserve.ensures.items in
-    let done = subst (λ ks. ChildPut q (c.args.copies + 1) (c.args.depth - 1) i ks c.put_child.new.kids.items c.in_ok-ready.half
-    (Some (finite.put (slice_cmp nat_cmp) c.args.key.now c.args.value.now (rows_or (child_rows p (c.args.depth - 1) child))))) kk
+    let done = subst (λ ks. ChildPut q (c.args.copies + 1)
+    (c.args.depth - 1) i ks c.put_child.new.kids.items c.in_ok-ready.half
+    (Some (finite.put (slice_cmp nat_cmp) c.args.key.now c.args.value.now
+    (rows_or (child_rows p (c.args.depth - 1) child))))) kk
     (c.in_ok-ready.ensures.done child (ap (λ w. slice_get w i) kk ∙ x.1)) in
     let low = c.lower_first.ensures.texts ∙ ap (lowered i c.in_ok-ready.ready.lower) c.put_child.ensures.texts in
-    let u = put_path p q c.args.depth c.args.copies keys kids c.put_child.new.kids.items (body_pieces c.args.depth c.args.keys.now.texts (Inner c.args.kids.now)) c.args.key.now c.args.value.now i child c.in_ok-ready.ready.lower
+    let u = put_path p q c.args.depth c.args.copies keys kids c.put_child.new.kids.items
+    (body_pieces c.args.depth c.args.keys.now.texts (Inner c.args.kids.now)) c.args.key.now c.args.value.now i child
+    c.in_ok-ready.ready.lower
     c.in_ok-ready.half c.put_child.ensures.grown.0 x.2.1.2 x.0 c.in_ok-ready.ensures.lower done in
     done.5
 
-pub putting::paths::put_inner-finish-requires-clause-firsts : goal.putting::paths::put_inner-finish-requires-clause-firsts
+pub putting::paths::put_inner-finish-requires-clause-firsts :
+    goal.putting::paths::put_inner-finish-requires-clause-firsts
 putting::paths::put_inner-finish-requires-clause-firsts g t c =
     let p = g.C.Chunks.contents c.args.chunks.now in
     let at : Child = Placed (record { bits = 0 }) in
     let i = c.place_of-place.result in
-    let x = node_at p c.args.depth c.args.keys.now.texts (Inner c.args.kids.now) c.args.kids.now (body_pieces c.args.depth c.args.keys.now.texts (Inner c.args.kids.now)) c.as_slice.result.now c.args.key.now i at
+    let x = node_at p c.args.depth c.args.keys.now.texts (Inner c.args.kids.now) c.args.kids.now
+    (body_pieces c.args.depth c.args.keys.now.texts (Inner c.args.kids.now)) c.as_slice.result.now
+    c.args.key.now i at
     refl refl c.requires.node c.as_slice.ensures
     (subst (λ k. IsPlace k c.as_slice.result.now i) c.as_str.ensures c.place_of-place.ensures) c.requires.tree in
     let q = g.C.Chunks.contents c.put_child.new.chunks in
@@ -161,21 +211,28 @@ putting::paths::put_inner-finish-requires-clause-firsts g t c =
     let keys = c.args.keys.now.texts in
     let kids = c.args.kids.now.items in
     let kk : c.reserve.new.self.items ≡ kids = c.reserve.ensures.items in
-    let done = subst (λ ks. ChildPut q (c.args.copies + 1) (c.args.depth - 1) i ks c.put_child.new.kids.items c.in_ok-ready.half
-    (Some (finite.put (slice_cmp nat_cmp) c.args.key.now c.args.value.now (rows_or (child_rows p (c.args.depth - 1) child))))) kk
+    let done = subst (λ ks. ChildPut q (c.args.copies + 1)
+    (c.args.depth - 1) i ks c.put_child.new.kids.items c.in_ok-ready.half
+    (Some (finite.put (slice_cmp nat_cmp) c.args.key.now c.args.value.now
+    (rows_or (child_rows p (c.args.depth - 1) child))))) kk
     (c.in_ok-ready.ensures.done child (ap (λ w. slice_get w i) kk ∙ x.1)) in
     let low = c.lower_first.ensures.texts ∙ ap (lowered i c.in_ok-ready.ready.lower) c.put_child.ensures.texts in
-    let u = put_path p q c.args.depth c.args.copies keys kids c.put_child.new.kids.items (body_pieces c.args.depth c.args.keys.now.texts (Inner c.args.kids.now)) c.args.key.now c.args.value.now i child c.in_ok-ready.ready.lower
+    let u = put_path p q c.args.depth c.args.copies keys kids c.put_child.new.kids.items
+    (body_pieces c.args.depth c.args.keys.now.texts (Inner c.args.kids.now)) c.args.key.now c.args.value.now i child
+    c.in_ok-ready.ready.lower
     c.in_ok-ready.half c.put_child.ensures.grown.0 x.2.1.2 x.0 c.in_ok-ready.ensures.lower done in
     λ some key z. subst (λ ks. AreNinth c.args.copies ks (i + 1) key c.in_ok-ready.ready.room.firsts.items) (sym low)
-    (ninth_lowered c.args.copies keys i c.args.key.now c.in_ok-ready.ready.lower c.in_ok-ready.ready.room.firsts.items x.3 c.in_ok-ready.ensures.lower (c.in_ok-ready.ensures.ready some).1 key z)
+    (ninth_lowered c.args.copies keys i c.args.key.now c.in_ok-ready.ready.lower c.in_ok-ready.ready.room.firsts.items
+    x.3 c.in_ok-ready.ensures.lower (c.in_ok-ready.ensures.ready some).1 key z)
 
 pub putting::paths::put_inner-finish-requires-clause-kids : goal.putting::paths::put_inner-finish-requires-clause-kids
 putting::paths::put_inner-finish-requires-clause-kids g t c =
     let p = g.C.Chunks.contents c.args.chunks.now in
     let at : Child = Placed (record { bits = 0 }) in
     let i = c.place_of-place.result in
-    let x = node_at p c.args.depth c.args.keys.now.texts (Inner c.args.kids.now) c.args.kids.now (body_pieces c.args.depth c.args.keys.now.texts (Inner c.args.kids.now)) c.as_slice.result.now c.args.key.now i at
+    let x = node_at p c.args.depth c.args.keys.now.texts (Inner c.args.kids.now) c.args.kids.now
+    (body_pieces c.args.depth c.args.keys.now.texts (Inner c.args.kids.now)) c.as_slice.result.now
+    c.args.key.now i at
     refl refl c.requires.node c.as_slice.ensures
     (subst (λ k. IsPlace k c.as_slice.result.now i) c.as_str.ensures c.place_of-place.ensures) c.requires.tree in
     let q = g.C.Chunks.contents c.put_child.new.chunks in
@@ -183,20 +240,27 @@ putting::paths::put_inner-finish-requires-clause-kids g t c =
     let keys = c.args.keys.now.texts in
     let kids = c.args.kids.now.items in
     let kk : c.reserve.new.self.items ≡ kids = c.reserve.ensures.items in
-    let done = subst (λ ks. ChildPut q (c.args.copies + 1) (c.args.depth - 1) i ks c.put_child.new.kids.items c.in_ok-ready.half
-    (Some (finite.put (slice_cmp nat_cmp) c.args.key.now c.args.value.now (rows_or (child_rows p (c.args.depth - 1) child))))) kk
+    let done = subst (λ ks. ChildPut q (c.args.copies + 1)
+    (c.args.depth - 1) i ks c.put_child.new.kids.items c.in_ok-ready.half
+    (Some (finite.put (slice_cmp nat_cmp) c.args.key.now c.args.value.now
+    (rows_or (child_rows p (c.args.depth - 1) child))))) kk
     (c.in_ok-ready.ensures.done child (ap (λ w. slice_get w i) kk ∙ x.1)) in
     let low = c.lower_first.ensures.texts ∙ ap (lowered i c.in_ok-ready.ready.lower) c.put_child.ensures.texts in
-    let u = put_path p q c.args.depth c.args.copies keys kids c.put_child.new.kids.items (body_pieces c.args.depth c.args.keys.now.texts (Inner c.args.kids.now)) c.args.key.now c.args.value.now i child c.in_ok-ready.ready.lower
+    let u = put_path p q c.args.depth c.args.copies keys kids c.put_child.new.kids.items
+    (body_pieces c.args.depth c.args.keys.now.texts (Inner c.args.kids.now)) c.args.key.now c.args.value.now i child
+    c.in_ok-ready.ready.lower
     c.in_ok-ready.half c.put_child.ensures.grown.0 x.2.1.2 x.0 c.in_ok-ready.ensures.lower done in
-    subst (λ ks. AllKids (c.args.depth - 1) (with_half i c.in_ok-ready.half (paired ks c.put_child.new.kids.items))) (sym low) u.all
+    subst (λ ks. AllKids (c.args.depth - 1)
+    (with_half i c.in_ok-ready.half (paired ks c.put_child.new.kids.items))) (sym low) u.all
 
 pub putting::paths::put_inner-finish-requires-clause-order : goal.putting::paths::put_inner-finish-requires-clause-order
 putting::paths::put_inner-finish-requires-clause-order g t c =
     let p = g.C.Chunks.contents c.args.chunks.now in
     let at : Child = Placed (record { bits = 0 }) in
     let i = c.place_of-place.result in
-    let x = node_at p c.args.depth c.args.keys.now.texts (Inner c.args.kids.now) c.args.kids.now (body_pieces c.args.depth c.args.keys.now.texts (Inner c.args.kids.now)) c.as_slice.result.now c.args.key.now i at
+    let x = node_at p c.args.depth c.args.keys.now.texts (Inner c.args.kids.now) c.args.kids.now
+    (body_pieces c.args.depth c.args.keys.now.texts (Inner c.args.kids.now)) c.as_slice.result.now
+    c.args.key.now i at
     refl refl c.requires.node c.as_slice.ensures
     (subst (λ k. IsPlace k c.as_slice.result.now i) c.as_str.ensures c.place_of-place.ensures) c.requires.tree in
     let q = g.C.Chunks.contents c.put_child.new.chunks in
@@ -204,20 +268,27 @@ putting::paths::put_inner-finish-requires-clause-order g t c =
     let keys = c.args.keys.now.texts in
     let kids = c.args.kids.now.items in
     let kk : c.reserve.new.self.items ≡ kids = c.reserve.ensures.items in
-    let done = subst (λ ks. ChildPut q (c.args.copies + 1) (c.args.depth - 1) i ks c.put_child.new.kids.items c.in_ok-ready.half
-    (Some (finite.put (slice_cmp nat_cmp) c.args.key.now c.args.value.now (rows_or (child_rows p (c.args.depth - 1) child))))) kk
+    let done = subst (λ ks. ChildPut q (c.args.copies + 1)
+    (c.args.depth - 1) i ks c.put_child.new.kids.items c.in_ok-ready.half
+    (Some (finite.put (slice_cmp nat_cmp) c.args.key.now c.args.value.now
+    (rows_or (child_rows p (c.args.depth - 1) child))))) kk
     (c.in_ok-ready.ensures.done child (ap (λ w. slice_get w i) kk ∙ x.1)) in
     let low = c.lower_first.ensures.texts ∙ ap (lowered i c.in_ok-ready.ready.lower) c.put_child.ensures.texts in
-    let u = put_path p q c.args.depth c.args.copies keys kids c.put_child.new.kids.items (body_pieces c.args.depth c.args.keys.now.texts (Inner c.args.kids.now)) c.args.key.now c.args.value.now i child c.in_ok-ready.ready.lower
+    let u = put_path p q c.args.depth c.args.copies keys kids c.put_child.new.kids.items
+    (body_pieces c.args.depth c.args.keys.now.texts (Inner c.args.kids.now)) c.args.key.now c.args.value.now i child
+    c.in_ok-ready.ready.lower
     c.in_ok-ready.half c.put_child.ensures.grown.0 x.2.1.2 x.0 c.in_ok-ready.ensures.lower done in
-    subst (λ ks. T (rises (keys_of (with_half i c.in_ok-ready.half (paired ks c.put_child.new.kids.items))))) (sym low) u.order
+    subst (λ ks. T (rises (keys_of (with_half i c.in_ok-ready.half (paired ks c.put_child.new.kids.items)))))
+    (sym low) u.order
 
 pub putting::paths::put_inner-returns-clause-done : goal.putting::paths::put_inner-returns-clause-done
 putting::paths::put_inner-returns-clause-done g t c =
     let p = g.C.Chunks.contents c.args.chunks.now in
     let at : Child = Placed (record { bits = 0 }) in
     let i = c.place_of-place.result in
-    let x = node_at p c.args.depth c.args.keys.now.texts (Inner c.args.kids.now) c.args.kids.now (body_pieces c.args.depth c.args.keys.now.texts (Inner c.args.kids.now)) c.as_slice.result.now c.args.key.now i at
+    let x = node_at p c.args.depth c.args.keys.now.texts (Inner c.args.kids.now) c.args.kids.now
+    (body_pieces c.args.depth c.args.keys.now.texts (Inner c.args.kids.now)) c.as_slice.result.now
+    c.args.key.now i at
     refl refl c.requires.node c.as_slice.ensures
     (subst (λ k. IsPlace k c.as_slice.result.now i) c.as_str.ensures c.place_of-place.ensures) c.requires.tree in
     let q = g.C.Chunks.contents c.put_child.new.chunks in
@@ -225,19 +296,28 @@ putting::paths::put_inner-returns-clause-done g t c =
     let keys = c.args.keys.now.texts in
     let kids = c.args.kids.now.items in
     let kk : c.reserve.new.self.items ≡ kids = c.reserve.ensures.items in
-    let done = subst (λ ks. ChildPut q (c.args.copies + 1) (c.args.depth - 1) i ks c.put_child.new.kids.items c.in_ok-ready.half
-    (Some (finite.put (slice_cmp nat_cmp) c.args.key.now c.args.value.now (rows_or (child_rows p (c.args.depth - 1) child))))) kk
+    let done = subst (λ ks. ChildPut q (c.args.copies + 1)
+    (c.args.depth - 1) i ks c.put_child.new.kids.items c.in_ok-ready.half
+    (Some (finite.put (slice_cmp nat_cmp) c.args.key.now c.args.value.now
+    (rows_or (child_rows p (c.args.depth - 1) child))))) kk
     (c.in_ok-ready.ensures.done child (ap (λ w. slice_get w i) kk ∙ x.1)) in
     let low = c.lower_first.ensures.texts ∙ ap (lowered i c.in_ok-ready.ready.lower) c.put_child.ensures.texts in
-    let u = put_path p q c.args.depth c.args.copies keys kids c.put_child.new.kids.items (body_pieces c.args.depth c.args.keys.now.texts (Inner c.args.kids.now)) c.args.key.now c.args.value.now i child c.in_ok-ready.ready.lower
+    let u = put_path p q c.args.depth c.args.copies keys kids c.put_child.new.kids.items
+    (body_pieces c.args.depth c.args.keys.now.texts (Inner c.args.kids.now)) c.args.key.now c.args.value.now i child
+    c.in_ok-ready.ready.lower
     c.in_ok-ready.half c.put_child.ensures.grown.0 x.2.1.2 x.0 c.in_ok-ready.ensures.lower done in
-    done_at q (c.args.depth - 1) (with_half i c.in_ok-ready.half (paired (lowered i c.in_ok-ready.ready.lower keys) c.put_child.new.kids.items)) (shown p (body_pieces c.args.depth c.args.keys.now.texts (Inner c.args.kids.now))) x.0.rows c.args.key.now c.args.value.now _ x.0.rows_is
-    (c.finish.ensures.shape.0 ∙ ap (λ ks. kids_pieces (c.args.depth - 1) (with_half i c.in_ok-ready.half (paired ks c.put_child.new.kids.items))) low) u.shown_is
+    done_at q (c.args.depth - 1) (with_half i c.in_ok-ready.half
+    (paired (lowered i c.in_ok-ready.ready.lower keys) c.put_child.new.kids.items))
+    (shown p (body_pieces c.args.depth c.args.keys.now.texts (Inner c.args.kids.now))) x.0.rows c.args.key.now
+    c.args.value.now _ x.0.rows_is
+    (c.finish.ensures.shape.0 ∙ ap (λ ks. kids_pieces (c.args.depth - 1)
+    (with_half i c.in_ok-ready.half (paired ks c.put_child.new.kids.items))) low) u.shown_is
 
 pub putting::paths::put_inner-returns-clause-filled : goal.putting::paths::put_inner-returns-clause-filled
 putting::paths::put_inner-returns-clause-filled g t c =
     filled_kids (c.args.depth - 1) (paired c.finish.new.keys.texts c.finish.new.kids.items)
-    (length-pairs c.finish.new.keys.texts c.finish.new.kids.items c.finish.ensures.shape.2 c.finish.ensures.shape.4) c.finish.ensures.shape.5
+    (length-pairs c.finish.new.keys.texts c.finish.new.kids.items c.finish.ensures.shape.2 c.finish.ensures.shape.4)
+    c.finish.ensures.shape.5
 
 pub putting::paths::put_child-put_below-requires : goal.putting::paths::put_child-put_below-requires
 putting::paths::put_child-put_below-requires g t c κs within =
@@ -245,17 +325,25 @@ putting::paths::put_child-put_below-requires g t c κs within =
     let p = g.C.Chunks.contents c.args.chunks.now in
     let kids = c.args.kids.now.items in
     let child = c.index_mut.result.now in
-    let r = c.requires.tree child (child_at kids c.args.place (length kids) child refl c.requires.within c.index_mut.ensures.value) in
+    let r = c.requires.tree child (child_at kids c.args.place
+    (length kids) child refl c.requires.within c.index_mut.ensures.value) in
     let v = c.deref_mut.ensures.value in
-    let d : c.deref_mut.result.now.depth ≡ c.args.below = ap (λ (s : Seen). s.depth) v ∙ subst (HasDepth c.args.below) c.in-Own.is r.1 in (
+    let d : c.deref_mut.result.now.depth ≡ c.args.below = ap (λ (s : Seen). s.depth) v ∙ subst
+    (HasDepth c.args.below) c.in-Own.is r.1 in (
       omega (arith, d, c.decreases),
       (
         within.0,
         (
           within.1,
           (
-            subst (λ (s : Seen). AreAll may (places_of s.pieces)) (sym v) (own_may may child c.in-Own.node c.in-Own.is (kid_all may kids c.args.place child c.requires.within c.index_mut.ensures.value c.requires.places)),
-            (subst (λ (s : Seen). IsTree (shown p s.pieces)) (sym v) (subst (λ x. IsTree (child_rows p c.args.below x)) c.in-Own.is r.0), (c.requires.place, omega (arith, d, c.requires.copies))),
+            subst (λ (s : Seen). AreAll may (places_of s.pieces)) (sym v)
+                (own_may may child c.in-Own.node c.in-Own.is
+                (kid_all may kids c.args.place child c.requires.within c.index_mut.ensures.value c.requires.places)),
+            (
+              subst (λ (s : Seen). IsTree (shown p s.pieces)) (sym v)
+                  (subst (λ x. IsTree (child_rows p c.args.below x)) c.in-Own.is r.0),
+              (c.requires.place, omega (arith, d, c.requires.copies)),
+            ),
           ),
         ),
       ),
@@ -266,35 +354,46 @@ putting::paths::put_child-returns-in-Own-clause-done g t c x h =
     let p = g.C.Chunks.contents c.args.chunks.now in
     let kids = c.args.kids.now.items in
     let child = c.index_mut.result.now in
-    let r = c.requires.tree child (child_at kids c.args.place (length kids) child refl c.requires.within c.index_mut.ensures.value) in
+    let r = c.requires.tree child (child_at kids c.args.place
+    (length kids) child refl c.requires.within c.index_mut.ensures.value) in
     let n : Kid = with_value c.in-Own.node c.put_below.new.self in
     let v = c.deref_mut.ensures.value in
-    let d : c.deref_mut.result.now.depth ≡ c.args.below = ap (λ (s : Seen). s.depth) v ∙ subst (HasDepth c.args.below) c.in-Own.is r.1 in
-    let e : x ≡ Own c.in-Own.node = indexed_child kids c.args.place child x c.requires.within c.index_mut.ensures.value h ∙ c.in-Own.is in
+    let d : c.deref_mut.result.now.depth ≡ c.args.below = ap (λ (s : Seen). s.depth) v ∙ subst
+    (HasDepth c.args.below) c.in-Own.is r.1 in
+    let e : x ≡ Own c.in-Own.node = indexed_child kids c.args.place child x c.requires.within c.index_mut.ensures.value
+    h ∙ c.in-Own.is in
     if_ok c.put_below.result c.put_below.ensures.done c.put_below.ensures.half c.put_below.ensures.filled
     (λ put done half filled. (
       n,
       refl,
       c.put_below.ensures.depth ∙ d,
       filled,
-      done ∙ ap (λ (m : Seen). Some (finite.put (slice_cmp nat_cmp) c.args.key.now c.args.value.now (rows_or (shown p m.pieces)))) v
-          ∙ ap (λ y. Some (finite.put (slice_cmp nat_cmp) c.args.key.now c.args.value.now (rows_or (child_rows p c.args.below y)))) (sym e),
+      done ∙ ap (λ (m : Seen). Some (finite.put (slice_cmp nat_cmp) c.args.key.now c.args.value.now
+          (rows_or (shown p m.pieces)))) v
+          ∙ ap (λ y. Some (finite.put (slice_cmp nat_cmp) c.args.key.now c.args.value.now
+          (rows_or (child_rows p c.args.below y)))) (sym e),
       subst (λ w. IsHalf (c.args.copies + 1) w put.1) d half,
     ))
 
-pub putting::paths::put_child-copied_child-requires-clause-place : goal.putting::paths::put_child-copied_child-requires-clause-place
+pub putting::paths::put_child-copied_child-requires-clause-place :
+    goal.putting::paths::put_child-copied_child-requires-clause-place
 putting::paths::put_child-copied_child-requires-clause-place g t c =
     let may = g.C.Chunks.places c.args.chunks.now in
     let child = c.index_mut.result.now in
-    placed_may may child c.in-Placed.at c.in-Placed.is (kid_all may c.args.kids.now.items c.args.place child c.requires.within c.index_mut.ensures.value c.requires.places)
+    placed_may may child c.in-Placed.at c.in-Placed.is
+    (kid_all may c.args.kids.now.items c.args.place child c.requires.within c.index_mut.ensures.value
+    c.requires.places)
 
-pub putting::paths::put_child-copied_child-requires-clause-known : goal.putting::paths::put_child-copied_child-requires-clause-known
+pub putting::paths::put_child-copied_child-requires-clause-known :
+    goal.putting::paths::put_child-copied_child-requires-clause-known
 putting::paths::put_child-copied_child-requires-clause-known g t c =
     let p = g.C.Chunks.contents c.args.chunks.now in
     let kids = c.args.kids.now.items in
     let child = c.index_mut.result.now in
-    let r = c.requires.tree child (child_at kids c.args.place (length kids) child refl c.requires.within c.index_mut.ensures.value) in
-    let k = known (rows_at p c.args.below (stamp_of c.in-Placed.at)) (subst (λ x. IsTree (child_rows p c.args.below x)) c.in-Placed.is r.0) in
+    let r = c.requires.tree child (child_at kids c.args.place
+    (length kids) child refl c.requires.within c.index_mut.ensures.value) in
+    let k = known (rows_at p c.args.below (stamp_of c.in-Placed.at))
+    (subst (λ x. IsTree (child_rows p c.args.below x)) c.in-Placed.is r.0) in
     subst IsSome (sym k.is) refl
 
 pub putting::paths::put_child-put_below-requires-in-Placed : goal.putting::paths::put_child-put_below-requires-in-Placed
@@ -302,20 +401,25 @@ putting::paths::put_child-put_below-requires-in-Placed g t c κs within =
     let p = g.C.Chunks.contents c.args.chunks.now in
     let kids = c.args.kids.now.items in
     let child = c.index_mut.result.now in
-    let r = c.requires.tree child (child_at kids c.args.place (length kids) child refl c.requires.within c.index_mut.ensures.value) in
+    let r = c.requires.tree child (child_at kids c.args.place
+    (length kids) child refl c.requires.within c.index_mut.ensures.value) in
     let q = g.C.Chunks.contents c.copied_child.new.chunks in
     let v = c.deref_mut-in-Placed.ensures.value in
-    let d : c.deref_mut-in-Placed.result.now.depth ≡ c.args.below = ap (λ (s : Seen). s.depth) v ∙ c.in_ok-node-in-Placed.ensures.depth in (
+    let d : c.deref_mut-in-Placed.result.now.depth
+    ≡ c.args.below = ap (λ (s : Seen). s.depth) v ∙ c.in_ok-node-in-Placed.ensures.depth in (
       omega (arith, d, c.decreases),
       (
         within.0,
         (
           within.1,
           (
-            subst (λ (s : Seen). AreAll (g.C.Chunks.places c.copied_child.new.chunks) (places_of s.pieces)) (sym v) (new_may (g.C.Chunks.places c.copied_child.new.chunks) (places_of c.in_ok-node-in-Placed.node.value.pieces) c.in_ok-node-in-Placed.ensures.places),
+            subst (λ (s : Seen). AreAll (g.C.Chunks.places c.copied_child.new.chunks) (places_of s.pieces)) (sym v)
+                (new_may (g.C.Chunks.places c.copied_child.new.chunks)
+                (places_of c.in_ok-node-in-Placed.node.value.pieces) c.in_ok-node-in-Placed.ensures.places),
             (
               subst (λ (s : Seen). IsTree (shown q s.pieces)) (sym v)
-                  (subst IsTree (sym c.in_ok-node-in-Placed.ensures.rows) (subst (λ x. IsTree (child_rows p c.args.below x)) c.in-Placed.is r.0)),
+                  (subst IsTree (sym c.in_ok-node-in-Placed.ensures.rows)
+                  (subst (λ x. IsTree (child_rows p c.args.below x)) c.in-Placed.is r.0)),
               (c.requires.place, omega (arith, d, c.requires.copies)),
             ),
           ),
@@ -323,7 +427,8 @@ putting::paths::put_child-put_below-requires-in-Placed g t c κs within =
       ),
     )
 
-pub putting::paths::put_child-returns-in-Placed-clause-done : goal.putting::paths::put_child-returns-in-Placed-clause-done
+pub putting::paths::put_child-returns-in-Placed-clause-done :
+    goal.putting::paths::put_child-returns-in-Placed-clause-done
 putting::paths::put_child-returns-in-Placed-clause-done g t c x h =
     let p = g.C.Chunks.contents c.args.chunks.now in
     let kids = c.args.kids.now.items in
@@ -331,42 +436,53 @@ putting::paths::put_child-returns-in-Placed-clause-done g t c x h =
     let n : Kid = with_value c.in_ok-node-in-Placed.node c.put_below-in-Placed.new.self in
     let v = c.deref_mut-in-Placed.ensures.value in
     let half = c.in_ok-put-in-Placed.put.1 in
-    let e : x ≡ Placed c.in-Placed.at = indexed_child kids c.args.place child x c.requires.within c.index_mut.ensures.value h ∙ c.in-Placed.is in
+    let e : x ≡ Placed c.in-Placed.at = indexed_child kids c.args.place child x c.requires.within
+    c.index_mut.ensures.value h ∙ c.in-Placed.is in
     let q = g.C.Chunks.contents c.copied_child.new.chunks in
-    let d : c.deref_mut-in-Placed.result.now.depth ≡ c.args.below = ap (λ (s : Seen). s.depth) v ∙ c.in_ok-node-in-Placed.ensures.depth in (
+    let d : c.deref_mut-in-Placed.result.now.depth
+    ≡ c.args.below = ap (λ (s : Seen). s.depth) v ∙ c.in_ok-node-in-Placed.ensures.depth in (
       n,
       set-set kids c.args.place (Placed c.in-Placed.at) (Own n),
       c.put_below-in-Placed.ensures.depth ∙ d,
       c.in_ok-put-in-Placed.ensures.filled,
       c.in_ok-put-in-Placed.ensures.done
           ∙ ap (λ z. Some (finite.put (slice_cmp nat_cmp) c.args.key.now c.args.value.now (rows_or z)))
-          (ap (λ (s : Seen). shown q s.pieces) v ∙ c.in_ok-node-in-Placed.ensures.rows ∙ ap (child_rows p c.args.below) (sym e)),
+          (ap (λ (s : Seen). shown q s.pieces) v ∙ c.in_ok-node-in-Placed.ensures.rows ∙ ap
+          (child_rows p c.args.below) (sym e)),
       subst (λ w. IsHalf (c.args.copies + 1) w half) d c.in_ok-put-in-Placed.ensures.half,
     )
 
 pub putting::paths::put_inner-returns-clause-fresh : goal.putting::paths::put_inner-returns-clause-fresh
 putting::paths::put_inner-returns-clause-fresh g t c =
-    let n = inner_counts c.args.depth c.args.keys.now.texts (Inner c.args.kids.now) c.args.kids.now refl c.requires.node in
+    let n = inner_counts c.args.depth c.args.keys.now.texts
+    (Inner c.args.kids.now) c.args.kids.now refl c.requires.node in
     omega (arith, c.finish.ensures.fresh, c.in_ok-ready.ensures.fresh, ap kids_fresh c.reserve.ensures.items, n.0)
 
 pub putting::paths::put_inner-returns-clause-entries : goal.putting::paths::put_inner-returns-clause-entries
 putting::paths::put_inner-returns-clause-entries g t c =
     let keys = c.args.keys.now.texts in
     let i = c.place_of-place.result in
-    let low = ap length (c.lower_first.ensures.texts ∙ ap (lowered i c.in_ok-ready.ready.lower) c.put_child.ensures.texts) ∙ length-lowered i c.in_ok-ready.ready.lower keys in
+    let low = ap length (c.lower_first.ensures.texts ∙ ap
+    (lowered i c.in_ok-ready.ready.lower) c.put_child.ensures.texts) ∙ length-lowered i
+    c.in_ok-ready.ready.lower keys in
     subst (λ n. HasKept n (length c.finish.new.keys.texts) c.finish.result) low c.finish.ensures.entries
 
 pub putting::paths::put_child-returns-in-Own-clause-fresh : goal.putting::paths::put_child-returns-in-Own-clause-fresh
 putting::paths::put_child-returns-in-Own-clause-fresh g t c =
     let kids = c.args.kids.now.items in
     let child = c.index_mut.result.now in
-    let r = c.requires.tree child (child_at kids c.args.place (length kids) child refl c.requires.within c.index_mut.ensures.value) in
+    let r = c.requires.tree child (child_at kids c.args.place
+    (length kids) child refl c.requires.within c.index_mut.ensures.value) in
     let v = c.deref_mut.ensures.value in
-    let d : c.deref_mut.result.now.depth ≡ c.args.below = ap (λ (s : Seen). s.depth) v ∙ subst (HasDepth c.args.below) c.in-Own.is r.1 in
-    let f = fresh-set kids c.args.place child (Own (with_value c.in-Own.node c.put_below.new.self)) c.requires.within c.index_mut.ensures.value in
-    if_ok_so c.put_below.result c.put_below.ensures.fresh (λ put fresh. omega (arith, fresh, f, d, ap (λ (s : Seen). s.fresh) v, ap child_fresh c.in-Own.is))
+    let d : c.deref_mut.result.now.depth ≡ c.args.below = ap (λ (s : Seen). s.depth) v ∙ subst
+    (HasDepth c.args.below) c.in-Own.is r.1 in
+    let f = fresh-set kids c.args.place child
+    (Own (with_value c.in-Own.node c.put_below.new.self)) c.requires.within c.index_mut.ensures.value in
+    if_ok_so c.put_below.result c.put_below.ensures.fresh
+    (λ put fresh. omega (arith, fresh, f, d, ap (λ (s : Seen). s.fresh) v, ap child_fresh c.in-Own.is))
 
-pub putting::paths::put_child-returns-in-Placed-clause-fresh : goal.putting::paths::put_child-returns-in-Placed-clause-fresh
+pub putting::paths::put_child-returns-in-Placed-clause-fresh :
+    goal.putting::paths::put_child-returns-in-Placed-clause-fresh
 putting::paths::put_child-returns-in-Placed-clause-fresh g t c =
     let kids = c.args.kids.now.items in
     let child = c.index_mut.result.now in
@@ -374,12 +490,23 @@ putting::paths::put_child-returns-in-Placed-clause-fresh g t c =
     let v = c.deref_mut-in-Placed.ensures.value in
     let f = fresh-set kids c.args.place child (Own n) c.requires.within c.index_mut.ensures.value in
     let twice = ap kids_fresh (set-set kids c.args.place (Placed c.in-Placed.at) (Own n)) in
-    omega (arith, c.in_ok-put-in-Placed.ensures.fresh, f, twice, ap (λ (s : Seen). s.depth) v, ap (λ (s : Seen). s.fresh) v, c.in_ok-node-in-Placed.ensures.depth, c.in_ok-node-in-Placed.ensures.fresh, ap child_fresh c.in-Placed.is)
+    omega (
+      arith,
+      c.in_ok-put-in-Placed.ensures.fresh,
+      f,
+      twice,
+      ap (λ (s : Seen). s.depth) v,
+      ap (λ (s : Seen). s.fresh) v,
+      c.in_ok-node-in-Placed.ensures.depth,
+      c.in_ok-node-in-Placed.ensures.fresh,
+      ap child_fresh c.in-Placed.is,
+    )
 
 pub putting::paths::put_child-returns-in-Own-clause-err : goal.putting::paths::put_child-returns-in-Own-clause-err
 putting::paths::put_child-returns-in-Own-clause-err g t c =
     on_err c.put_below.result c.put_below.ensures.err
-    (λ e. written_back c.args.kids.now.items c.args.place c.index_mut.result.now c.in-Own.node c.put_below.new.self c.index_mut.ensures.value c.in-Own.is (e ∙ c.deref_mut.ensures.value))
+    (λ e. written_back c.args.kids.now.items c.args.place c.index_mut.result.now c.in-Own.node c.put_below.new.self
+    c.index_mut.ensures.value c.in-Own.is (e ∙ c.deref_mut.ensures.value))
 
 pub Node::put_below-put_ready-requires : goal.Node::put_below-put_ready-requires
 Node::put_below-put_ready-requires g t c κs within =
@@ -395,8 +522,17 @@ Node::put_below-put_ready-requires g t c κs within =
         (
           within.1,
           (
-            subst (λ (s : Seen). AreAll (g.C.Chunks.places c.put.new.chunks) (places_of s.pieces)) (sym e) (all_on (g.C.Chunks.places c.args.chunks.now) (g.C.Chunks.places c.put.new.chunks) _ c.put.ensures.grown.1 c.requires.places),
-            (subst (λ (s : Seen). IsTree (shown q s.pieces)) (sym e) (tree_of (shown q c.args.self.now.pieces) n.rows here n.order), (subst (λ ks. IsPlace c.args.key.now ks c.args.place) (sym c.lower_key.ensures.texts) c.requires.place, omega (arith, d, c.requires.copies))),
+            subst (λ (s : Seen). AreAll (g.C.Chunks.places c.put.new.chunks) (places_of s.pieces)) (sym e)
+                (all_on (g.C.Chunks.places c.args.chunks.now)
+                (g.C.Chunks.places c.put.new.chunks) _ c.put.ensures.grown.1 c.requires.places),
+            (
+              subst (λ (s : Seen). IsTree (shown q s.pieces)) (sym e)
+                  (tree_of (shown q c.args.self.now.pieces) n.rows here n.order),
+              (
+                subst (λ ks. IsPlace c.args.key.now ks c.args.place) (sym c.lower_key.ensures.texts) c.requires.place,
+                omega (arith, d, c.requires.copies),
+              ),
+            ),
           ),
         ),
       ),
@@ -411,8 +547,11 @@ pub putting::paths::put_inner-returns-clause-whole : goal.putting::paths::put_in
 putting::paths::put_inner-returns-clause-whole g t c m =
     let keys = c.args.keys.now.texts in
     let i = c.place_of-place.result in
-    let low = ap length (c.lower_first.ensures.texts ∙ ap (lowered i c.in_ok-ready.ready.lower) c.put_child.ensures.texts) ∙ length-lowered i c.in_ok-ready.ready.lower keys in
-    whole_kept (length keys) (length c.finish.new.keys.texts) c.finish.result (subst (λ n. HasKept n (length c.finish.new.keys.texts) c.finish.result) low c.finish.ensures.entries)
+    let low = ap length (c.lower_first.ensures.texts ∙ ap
+    (lowered i c.in_ok-ready.ready.lower) c.put_child.ensures.texts) ∙ length-lowered i
+    c.in_ok-ready.ready.lower keys in
+    whole_kept (length keys) (length c.finish.new.keys.texts) c.finish.result
+    (subst (λ n. HasKept n (length c.finish.new.keys.texts) c.finish.result) low c.finish.ensures.entries)
     (λ full. c.finish.ensures.whole (c.in_ok-ready.ensures.whole m full))
 
 -- REFERENCES
@@ -422,7 +561,9 @@ putting::paths::put_inner-returns-clause-places g t c =
     let p = g.C.Chunks.contents c.args.chunks.now in
     let at : Child = Placed (record { bits = 0 }) in
     let i = c.place_of-place.result in
-    let x = node_at p c.args.depth c.args.keys.now.texts (Inner c.args.kids.now) c.args.kids.now (body_pieces c.args.depth c.args.keys.now.texts (Inner c.args.kids.now)) c.as_slice.result.now c.args.key.now i at
+    let x = node_at p c.args.depth c.args.keys.now.texts (Inner c.args.kids.now) c.args.kids.now
+    (body_pieces c.args.depth c.args.keys.now.texts (Inner c.args.kids.now)) c.as_slice.result.now
+    c.args.key.now i at
     refl refl c.requires.node c.as_slice.ensures
     (subst (λ k. IsPlace k c.as_slice.result.now i) c.as_str.ensures c.place_of-place.ensures) c.requires.tree in
     let q = g.C.Chunks.contents c.put_child.new.chunks in
@@ -431,16 +572,24 @@ putting::paths::put_inner-returns-clause-places g t c =
     let keys = c.args.keys.now.texts in
     let kids = c.args.kids.now.items in
     let kk : c.reserve.new.self.items ≡ kids = c.reserve.ensures.items in
-    let done = subst (λ ks. ChildPut q (c.args.copies + 1) (c.args.depth - 1) i ks c.put_child.new.kids.items c.in_ok-ready.half
-    (Some (finite.put (slice_cmp nat_cmp) c.args.key.now c.args.value.now (rows_or (child_rows p (c.args.depth - 1) child))))) kk
+    let done = subst (λ ks. ChildPut q (c.args.copies + 1)
+    (c.args.depth - 1) i ks c.put_child.new.kids.items c.in_ok-ready.half
+    (Some (finite.put (slice_cmp nat_cmp) c.args.key.now c.args.value.now
+    (rows_or (child_rows p (c.args.depth - 1) child))))) kk
     (c.in_ok-ready.ensures.done child (ap (λ w. slice_get w i) kk ∙ x.1)) in
     let low = c.lower_first.ensures.texts ∙ ap (lowered i c.in_ok-ready.ready.lower) c.put_child.ensures.texts in
     let n : length c.put_child.new.kids.items ≡ length c.lower_first.new.keys.texts =
-    ap length done.1 ∙ length-set kids i (Own done.0) ∙ x.2.1.2 ∙ sym (ap length low ∙ length-lowered i c.in_ok-ready.ready.lower keys) in
-    let here : kids_places c.reserve.new.self.items ≡ places_of (body_pieces c.args.depth c.args.keys.now.texts (Inner c.args.kids.now)) =
-    ap kids_places kk ∙ sym (own-places c.args.depth keys (Inner c.args.kids.now) c.args.kids.now (body_pieces c.args.depth c.args.keys.now.texts (Inner c.args.kids.now)) refl refl x.2.1.2) in
-    kept-finished at_q (places_of (body_pieces c.args.depth c.args.keys.now.texts (Inner c.args.kids.now))) (c.args.depth - 1) i c.in_ok-ready.half c.lower_first.new.keys.texts c.put_child.new.kids.items _ n c.finish.ensures.shape.0
-    (subst (λ w. AreKept at_q w (kids_places c.put_child.new.kids.items ++ places_of (half_pieces c.in_ok-ready.half))) here c.in_ok-ready.ensures.places)
+    ap length done.1 ∙ length-set kids i (Own done.0) ∙ x.2.1.2 ∙ sym
+    (ap length low ∙ length-lowered i c.in_ok-ready.ready.lower keys) in
+    let here : kids_places c.reserve.new.self.items
+    ≡ places_of (body_pieces c.args.depth c.args.keys.now.texts (Inner c.args.kids.now)) =
+    ap kids_places kk ∙ sym (own-places c.args.depth keys (Inner c.args.kids.now) c.args.kids.now
+    (body_pieces c.args.depth c.args.keys.now.texts (Inner c.args.kids.now)) refl refl x.2.1.2) in
+    kept-finished at_q (places_of (body_pieces c.args.depth c.args.keys.now.texts (Inner c.args.kids.now)))
+    (c.args.depth - 1) i c.in_ok-ready.half c.lower_first.new.keys.texts c.put_child.new.kids.items _ n
+    c.finish.ensures.shape.0
+    (subst (λ w. AreKept at_q w (kids_places c.put_child.new.kids.items ++ places_of (half_pieces c.in_ok-ready.half)))
+    here c.in_ok-ready.ensures.places)
 
 pub putting::paths::put_child-returns-in-Own-clause-places : goal.putting::paths::put_child-returns-in-Own-clause-places
 putting::paths::put_child-returns-in-Own-clause-places g t c =
@@ -450,10 +599,13 @@ putting::paths::put_child-returns-in-Own-clause-places g t c =
     let n : Kid = with_value c.in-Own.node c.put_below.new.self in
     if_ok_so c.put_below.result c.put_below.ensures.places
     (λ put kept. kept-kid at_q kids c.args.place child n (half_pieces put.1) c.requires.within c.index_mut.ensures.value
-    (subst (λ (x : Child). AreKept at_q (child_places x) (places_of (c.put_below.new.self.pieces ++ half_pieces put.1))) (sym c.in-Own.is)
-    (subst (λ (s : Seen). AreKept at_q (places_of s.pieces) (places_of (c.put_below.new.self.pieces ++ half_pieces put.1))) c.deref_mut.ensures.value kept)))
+    (subst (λ (x : Child). AreKept at_q (child_places x) (places_of (c.put_below.new.self.pieces ++ half_pieces put.1)))
+    (sym c.in-Own.is)
+    (subst (λ (s : Seen). AreKept at_q (places_of s.pieces)
+    (places_of (c.put_below.new.self.pieces ++ half_pieces put.1))) c.deref_mut.ensures.value kept)))
 
-pub putting::paths::put_child-returns-in-Placed-clause-places : goal.putting::paths::put_child-returns-in-Placed-clause-places
+pub putting::paths::put_child-returns-in-Placed-clause-places :
+    goal.putting::paths::put_child-returns-in-Placed-clause-places
 putting::paths::put_child-returns-in-Placed-clause-places g t c =
     let kids = c.args.kids.now.items in
     let child = c.index_mut.result.now in
@@ -461,93 +613,160 @@ putting::paths::put_child-returns-in-Placed-clause-places g t c =
     let at_q = g.C.Chunks.places c.put_below-in-Placed.new.chunks in
     let n : Kid = with_value c.in_ok-node-in-Placed.node c.put_below-in-Placed.new.self in
     let half = half_pieces c.in_ok-put-in-Placed.put.1 in
-    let copied = kept-grown at_p at_q [] (places_of c.in_ok-node-in-Placed.node.value.pieces) c.put_below-in-Placed.ensures.grown.1 c.in_ok-node-in-Placed.ensures.places in
-    let put = subst (λ (s : Seen). AreKept at_q (places_of s.pieces) (places_of (c.put_below-in-Placed.new.self.pieces ++ half))) c.deref_mut-in-Placed.ensures.value c.in_ok-put-in-Placed.ensures.places in
-    let all = kept-trans at_q [] (places_of c.in_ok-node-in-Placed.node.value.pieces) (places_of (c.put_below-in-Placed.new.self.pieces ++ half)) copied put in
-    subst (λ ks. AreKept at_q (kids_places kids) (kids_places ks ++ places_of half)) (sym (set-set kids c.args.place (Placed c.in-Placed.at) (Own n)))
-    (kept-kid at_q kids c.args.place child n half c.requires.within c.index_mut.ensures.value (kept-from_none at_q (child_places child) (places_of (c.put_below-in-Placed.new.self.pieces ++ half)) all))
+    let copied = kept-grown at_p at_q [] (places_of c.in_ok-node-in-Placed.node.value.pieces)
+    c.put_below-in-Placed.ensures.grown.1 c.in_ok-node-in-Placed.ensures.places in
+    let put = subst (λ (s : Seen). AreKept at_q (places_of s.pieces)
+    (places_of (c.put_below-in-Placed.new.self.pieces ++ half))) c.deref_mut-in-Placed.ensures.value
+    c.in_ok-put-in-Placed.ensures.places in
+    let all = kept-trans at_q [] (places_of c.in_ok-node-in-Placed.node.value.pieces)
+    (places_of (c.put_below-in-Placed.new.self.pieces ++ half)) copied put in
+    subst (λ ks. AreKept at_q (kids_places kids) (kids_places ks ++ places_of half))
+    (sym (set-set kids c.args.place (Placed c.in-Placed.at) (Own n)))
+    (kept-kid at_q kids c.args.place child n half c.requires.within c.index_mut.ensures.value
+    (kept-from_none at_q (child_places child) (places_of (c.put_below-in-Placed.new.self.pieces ++ half)) all))
 
 pub putting::paths::put_inner-returns-clause-node : goal.putting::paths::put_inner-returns-clause-node
-putting::paths::put_inner-returns-clause-node g t c = let s = c.finish.ensures.shape in (s.3, (c.requires.node.1.0, s.4, s.2, s.5))
+putting::paths::put_inner-returns-clause-node g t c = let s = c.finish.ensures.shape in
+    (s.3, (c.requires.node.1.0, s.4, s.2, s.5))
 
 -- a chunk's own, by its body
 
 pub Node::put-returns-in-Leaf-clause-filled : goal.Node::put-returns-in-Leaf-clause-filled
 Node::put-returns-in-Leaf-clause-filled g t c =
-    on_ok c.put_leaf.result c.put_leaf.ensures.leaf (λ leaf. filled_pairs c.put_leaf.new.keys.texts c.put_leaf.new.values.items leaf.1 leaf.2)
+    on_ok c.put_leaf.result c.put_leaf.ensures.leaf
+    (λ leaf. filled_pairs c.put_leaf.new.keys.texts c.put_leaf.new.values.items leaf.1 leaf.2)
 
 pub Node::put-returns-in-Leaf-clause-done : goal.Node::put-returns-in-Leaf-clause-done
 Node::put-returns-in-Leaf-clause-done g t c =
     let p = g.C.Chunks.contents c.args.chunks.now in
     if_ok_so c.put_leaf.result c.put_leaf.ensures.rows (λ half rows. ap (shown p) rows
-    ∙ shown-rows p (finite.put (slice_cmp nat_cmp) c.args.key.now c.args.value.now (paired c.self.inside.keys.texts c.in-Leaf.values.items))
+    ∙ shown-rows p (finite.put (slice_cmp nat_cmp) c.args.key.now c.args.value.now
+    (paired c.self.inside.keys.texts c.in-Leaf.values.items))
     ∙ ap (λ z. Some (finite.put (slice_cmp nat_cmp) c.args.key.now c.args.value.now (rows_or z)))
-    (sym (leaf_rows p c.self.inside.depth c.self.inside.keys.texts c.self.inside.body c.in-Leaf.values c.args.self.now.pieces (ap (λ (s : Seen). s.pieces) c.self.view_is) c.in-Leaf.is)))
+    (sym (leaf_rows p c.self.inside.depth c.self.inside.keys.texts c.self.inside.body c.in-Leaf.values
+    c.args.self.now.pieces (ap (λ (s : Seen). s.pieces) c.self.view_is) c.in-Leaf.is)))
 
 pub Node::put-returns-in-Leaf-clause-half : goal.Node::put-returns-in-Leaf-clause-half
 Node::put-returns-in-Leaf-clause-half g t c =
-    let n = leaf_counts c.self.inside.depth c.self.inside.keys.texts c.self.inside.body c.in-Leaf.values c.in-Leaf.is c.self.invariant in
-    subst (λ d. IfOk c.put_leaf.result (IsHalf c.args.copies d)) (sym n.0 ∙ ap (λ (s : Seen). s.depth) c.self.view_is) c.put_leaf.ensures.half
+    let n = leaf_counts c.self.inside.depth c.self.inside.keys.texts c.self.inside.body c.in-Leaf.values c.in-Leaf.is
+    c.self.invariant in
+    subst (λ d. IfOk c.put_leaf.result (IsHalf c.args.copies d))
+    (sym n.0 ∙ ap (λ (s : Seen). s.depth) c.self.view_is) c.put_leaf.ensures.half
 
 pub Node::put-returns-in-Leaf-clause-fresh : goal.Node::put-returns-in-Leaf-clause-fresh
 Node::put-returns-in-Leaf-clause-fresh g t c =
-    let n = leaf_counts c.self.inside.depth c.self.inside.keys.texts c.self.inside.body c.in-Leaf.values c.in-Leaf.is c.self.invariant in
-    if_ok_so c.put_leaf.result c.put_leaf.ensures.fresh (λ half fresh. omega (arith, fresh, n.0, n.1, ap (λ (s : Seen). s.depth) c.self.view_is, ap (λ (s : Seen). s.fresh) c.self.view_is))
+    let n = leaf_counts c.self.inside.depth c.self.inside.keys.texts c.self.inside.body c.in-Leaf.values c.in-Leaf.is
+    c.self.invariant in
+    if_ok_so c.put_leaf.result c.put_leaf.ensures.fresh
+    (λ half fresh. omega (
+      arith,
+      fresh,
+      n.0,
+      n.1,
+      ap (λ (s : Seen). s.depth) c.self.view_is,
+      ap (λ (s : Seen). s.fresh) c.self.view_is,
+    ))
 
 pub Node::put-returns-in-Leaf-clause-entries : goal.Node::put-returns-in-Leaf-clause-entries
 Node::put-returns-in-Leaf-clause-entries g t c =
-    subst (λ n. IfOk c.put_leaf.result (HasKept n (length c.put_leaf.new.keys.texts))) (ap (λ (s : Seen). s.entries) c.self.view_is) c.put_leaf.ensures.entries
+    subst (λ n. IfOk c.put_leaf.result (HasKept n (length c.put_leaf.new.keys.texts)))
+    (ap (λ (s : Seen). s.entries) c.self.view_is) c.put_leaf.ensures.entries
 
 pub Node::put-returns-in-Leaf-clause-places : goal.Node::put-returns-in-Leaf-clause-places
 Node::put-returns-in-Leaf-clause-places g t c =
     let at_p = g.C.Chunks.places c.args.chunks.now in
     let old = places_of c.args.self.now.pieces in
-    let rows = finite.put (slice_cmp nat_cmp) c.args.key.now c.args.value.now (paired c.self.inside.keys.texts c.in-Leaf.values.items) in
-    if_ok_so c.put_leaf.result c.put_leaf.ensures.rows (λ half is. subst (λ ps. AreKept at_p old (places_of ps)) (sym is) (subst (AreKept at_p old) (sym (places-rows rows)) (kept-none at_p old)))
+    let rows = finite.put (slice_cmp nat_cmp) c.args.key.now c.args.value.now
+    (paired c.self.inside.keys.texts c.in-Leaf.values.items) in
+    if_ok_so c.put_leaf.result c.put_leaf.ensures.rows
+    (λ half is. subst (λ ps. AreKept at_p old (places_of ps)) (sym is)
+    (subst (AreKept at_p old) (sym (places-rows rows)) (kept-none at_p old)))
 
 pub Node::put-returns-in-Leaf-clause-unput : goal.Node::put-returns-in-Leaf-clause-unput
-Node::put-returns-in-Leaf-clause-unput g t c = unput_anyhow g.C.Chunks.stops c.args.may_split c.put_leaf.result c.put_leaf.ensures.unput
+Node::put-returns-in-Leaf-clause-unput g t c = unput_anyhow g.C.Chunks.stops c.args.may_split c.put_leaf.result
+    c.put_leaf.ensures.unput
 
 pub Node::put-put_inner-requires : goal.Node::put-put_inner-requires
 Node::put-put_inner-requires g t c κs within =
     let p = g.C.Chunks.contents c.args.chunks.now in
-    let inner : IsNode c.self.inside.depth c.self.inside.keys.texts (Inner c.in-Inner.kids) = subst (IsNode c.self.inside.depth c.self.inside.keys.texts) c.in-Inner.is c.self.invariant in
+    let inner : IsNode c.self.inside.depth c.self.inside.keys.texts (Inner c.in-Inner.kids) = subst
+    (IsNode c.self.inside.depth c.self.inside.keys.texts) c.in-Inner.is c.self.invariant in
     let here = ap (λ (s : Seen). s.depth) c.self.view_is in
-    let view = ap (body_pieces c.self.inside.depth c.self.inside.keys.texts) (sym c.in-Inner.is) ∙ ap (λ (s : Seen). s.pieces) c.self.view_is in
-    let may = g.C.Chunks.places c.args.chunks.now in
-    (omega (arith, here, c.decreases), (within.0, (within.1, (subst (λ ps. AreAll may (places_of ps)) (sym view) c.requires.places, (inner, (subst (λ ps. IsTree (shown p ps)) (sym view) c.requires.tree, omega (arith, here, c.requires.copies)))))))
+    let view = ap (body_pieces c.self.inside.depth c.self.inside.keys.texts) (sym c.in-Inner.is) ∙ ap
+    (λ (s : Seen). s.pieces) c.self.view_is in
+    let may = g.C.Chunks.places c.args.chunks.now in (
+      omega (arith, here, c.decreases),
+      (
+        within.0,
+        (
+          within.1,
+          (
+            subst (λ ps. AreAll may (places_of ps)) (sym view) c.requires.places,
+            (
+              inner,
+              (
+                subst (λ ps. IsTree (shown p ps)) (sym view) c.requires.tree,
+                omega (arith, here, c.requires.copies),
+              ),
+            ),
+          ),
+        ),
+      ),
+    )
 
 pub Node::put-returns-in-Inner-clause-done : goal.Node::put-returns-in-Inner-clause-done
 Node::put-returns-in-Inner-clause-done g t c =
     let p = g.C.Chunks.contents c.args.chunks.now in
-    let view = ap (body_pieces c.self.inside.depth c.self.inside.keys.texts) (sym c.in-Inner.is) ∙ ap (λ (s : Seen). s.pieces) c.self.view_is in
-    if_ok_so c.put_inner.result c.put_inner.ensures.done (λ half done. done ∙ ap (λ ps. Some (finite.put (slice_cmp nat_cmp) c.args.key.now c.args.value.now (rows_or (shown p ps)))) view)
+    let view = ap (body_pieces c.self.inside.depth c.self.inside.keys.texts) (sym c.in-Inner.is) ∙ ap
+    (λ (s : Seen). s.pieces) c.self.view_is in
+    if_ok_so c.put_inner.result c.put_inner.ensures.done
+    (λ half done. done ∙ ap (λ ps. Some (finite.put (slice_cmp nat_cmp) c.args.key.now c.args.value.now
+    (rows_or (shown p ps)))) view)
 
 pub Node::put-returns-in-Inner-clause-half : goal.Node::put-returns-in-Inner-clause-half
-Node::put-returns-in-Inner-clause-half g t c = subst (λ d. IfOk c.put_inner.result (IsHalf c.args.copies d)) (ap (λ (s : Seen). s.depth) c.self.view_is) c.put_inner.ensures.half
+Node::put-returns-in-Inner-clause-half g t c = subst (λ d. IfOk c.put_inner.result (IsHalf c.args.copies d))
+    (ap (λ (s : Seen). s.depth) c.self.view_is) c.put_inner.ensures.half
 
 pub Node::put-returns-in-Inner-clause-places : goal.Node::put-returns-in-Inner-clause-places
 Node::put-returns-in-Inner-clause-places g t c =
     let at_q = g.C.Chunks.places c.put_inner.new.chunks in
-    let view = ap (body_pieces c.self.inside.depth c.self.inside.keys.texts) (sym c.in-Inner.is) ∙ ap (λ (s : Seen). s.pieces) c.self.view_is in
+    let view = ap (body_pieces c.self.inside.depth c.self.inside.keys.texts) (sym c.in-Inner.is) ∙ ap
+    (λ (s : Seen). s.pieces) c.self.view_is in
     let new = body_pieces c.self.inside.depth c.put_inner.new.keys.texts (Inner c.put_inner.new.kids) in
-    subst (λ ps. IfOk c.put_inner.result (λ half. AreKept at_q (places_of ps) (places_of (new ++ half_pieces half)))) view c.put_inner.ensures.places
+    subst (λ ps. IfOk c.put_inner.result (λ half. AreKept at_q (places_of ps) (places_of (new ++ half_pieces half))))
+    view c.put_inner.ensures.places
 
 pub Node::put-returns-in-Inner-clause-fresh : goal.Node::put-returns-in-Inner-clause-fresh
 Node::put-returns-in-Inner-clause-fresh g t c =
-    let n = inner_counts c.self.inside.depth c.self.inside.keys.texts c.self.inside.body c.in-Inner.kids c.in-Inner.is c.self.invariant in
-    if_ok_so c.put_inner.result c.put_inner.ensures.fresh (λ half fresh. omega (arith, fresh, n.1, ap (λ (s : Seen). s.depth) c.self.view_is, ap (λ (s : Seen). s.fresh) c.self.view_is))
+    let n = inner_counts c.self.inside.depth c.self.inside.keys.texts c.self.inside.body c.in-Inner.kids c.in-Inner.is
+    c.self.invariant in
+    if_ok_so c.put_inner.result c.put_inner.ensures.fresh
+    (λ half fresh. omega (
+      arith,
+      fresh,
+      n.1,
+      ap (λ (s : Seen). s.depth) c.self.view_is,
+      ap (λ (s : Seen). s.fresh) c.self.view_is,
+    ))
 
 pub Node::put-returns-in-Inner-clause-entries : goal.Node::put-returns-in-Inner-clause-entries
 Node::put-returns-in-Inner-clause-entries g t c =
-    subst (λ n. IfOk c.put_inner.result (HasKept n (length c.put_inner.new.keys.texts))) (ap (λ (s : Seen). s.entries) c.self.view_is) c.put_inner.ensures.entries
+    subst (λ n. IfOk c.put_inner.result (HasKept n (length c.put_inner.new.keys.texts)))
+    (ap (λ (s : Seen). s.entries) c.self.view_is) c.put_inner.ensures.entries
 
 pub Node::put-returns-in-Inner-clause-err : goal.Node::put-returns-in-Inner-clause-err
 Node::put-returns-in-Inner-clause-err g t c =
     let depth = c.self.inside.depth in
-    let seen : Body → Seen = λ b. record { depth = depth; entries = length c.self.inside.keys.texts; pieces = body_pieces depth c.self.inside.keys.texts b; height = body_height b; fresh = body_fresh b } in
+    let seen : Body → Seen = λ b. record {
+      depth = depth;
+      entries = length c.self.inside.keys.texts;
+      pieces = body_pieces depth c.self.inside.keys.texts b;
+      height = body_height b;
+      fresh = body_fresh b;
+    } in
     on_err c.put_inner.result c.put_inner.ensures.err
-    (λ e. inner_same depth c.put_inner.new.keys.texts c.self.inside.keys.texts c.put_inner.new.kids.items c.in-Inner.kids.items e.0 e.1 ∙ ap seen (sym c.in-Inner.is) ∙ c.self.view_is)
+    (λ e. inner_same depth c.put_inner.new.keys.texts c.self.inside.keys.texts c.put_inner.new.kids.items
+    c.in-Inner.kids.items e.0 e.1 ∙ ap seen (sym c.in-Inner.is) ∙ c.self.view_is)
 
 pub Node::put_below-returns-clause-done : goal.Node::put_below-returns-clause-done
 Node::put_below-returns-clause-done g t c =
@@ -557,34 +776,47 @@ Node::put_below-returns-clause-done g t c =
     let e = c.in-Err-Full.ensures.err in
     let here = shown-kept p q c.args.self.now.pieces n.rows c.put.ensures.grown.0 n.is in
     if_ok_so c.put_ready.result c.put_ready.ensures.done
-    (λ r done. done ∙ ap (λ z. Some (finite.put (slice_cmp nat_cmp) c.args.key.now c.args.value.now (rows_or z))) (ap (λ (s : Seen). shown q s.pieces) e ∙ here ∙ sym n.is))
+    (λ r done. done ∙ ap (λ z. Some (finite.put (slice_cmp nat_cmp) c.args.key.now c.args.value.now (rows_or z)))
+    (ap (λ (s : Seen). shown q s.pieces) e ∙ here ∙ sym n.is))
 
 pub Node::put_below-returns-clause-half : goal.Node::put_below-returns-clause-half
-Node::put_below-returns-clause-half g t c = subst (λ (s : Seen). IfOk c.put_ready.result (λ r. IsHalf (c.args.copies + 1) s.depth r.1)) c.in-Err-Full.ensures.err c.put_ready.ensures.half
+Node::put_below-returns-clause-half g t c = subst
+    (λ (s : Seen). IfOk c.put_ready.result (λ r. IsHalf (c.args.copies + 1) s.depth r.1)) c.in-Err-Full.ensures.err
+    c.put_ready.ensures.half
 
 pub Node::put_below-returns-clause-places : goal.Node::put_below-returns-clause-places
 Node::put_below-returns-clause-places g t c =
     let at_q = g.C.Chunks.places c.put_ready.new.chunks in
-    subst (λ (s : Seen). IfOk c.put_ready.result (λ r. AreKept at_q (places_of s.pieces) (places_of (c.put_ready.new.self.pieces ++ half_pieces r.1)))) c.in-Err-Full.ensures.err c.put_ready.ensures.places
+    subst (λ (s : Seen). IfOk c.put_ready.result
+    (λ r. AreKept at_q (places_of s.pieces) (places_of (c.put_ready.new.self.pieces ++ half_pieces r.1))))
+    c.in-Err-Full.ensures.err c.put_ready.ensures.places
 
 pub Node::put_below-returns-clause-fresh : goal.Node::put_below-returns-clause-fresh
 Node::put_below-returns-clause-fresh g t c =
-    subst (λ (s : Seen). IfOk c.put_ready.result (λ r. c.put_ready.new.self.fresh + half_fresh r.1 < s.fresh + 2 * s.depth)) c.in-Err-Full.ensures.err c.put_ready.ensures.fresh
+    subst (λ (s : Seen). IfOk c.put_ready.result
+    (λ r. c.put_ready.new.self.fresh + half_fresh r.1 < s.fresh + 2 * s.depth)) c.in-Err-Full.ensures.err
+    c.put_ready.ensures.fresh
 
 pub Node::put_below-returns-clause-lowers : goal.Node::put_below-returns-clause-lowers
-Node::put_below-returns-clause-lowers g t c = if_ok_so c.put_ready.result c.put_ready.ensures.ready (λ r ready some. ready.0)
+Node::put_below-returns-clause-lowers g t c = if_ok_so c.put_ready.result c.put_ready.ensures.ready
+    (λ r ready some. ready.0)
 
 pub Node::put_below-returns-clause-lower : goal.Node::put_below-returns-clause-lower
 Node::put_below-returns-clause-lower g t c =
-    if_ok_so c.put_ready.result c.put_ready.ensures.lower (λ r is. subst (IsLower c.args.key.now (get_or c.args.keys.now.texts c.args.place [])) (sym is) c.in_ok-lower.ensures.lower)
+    if_ok_so c.put_ready.result c.put_ready.ensures.lower
+    (λ r is. subst (IsLower c.args.key.now (get_or c.args.keys.now.texts c.args.place []))
+    (sym is) c.in_ok-lower.ensures.lower)
 
 pub Node::put_below-returns-clause-ready : goal.Node::put_below-returns-clause-ready
 Node::put_below-returns-clause-ready g t c =
     if_ok_so c.put_ready.result c.put_ready.ensures.ready
-    (λ r ready some. subst (λ ks. IsReady c.args.copies ks c.put_ready.new.keys.room c.args.place c.args.key.now r.0.room) c.lower_key.ensures.texts ready)
+    (λ r ready some. subst (λ ks. IsReady c.args.copies ks c.put_ready.new.keys.room c.args.place c.args.key.now
+    r.0.room) c.lower_key.ensures.texts ready)
 
 pub Node::put_below-returns-clause-err : goal.Node::put_below-returns-clause-err
-Node::put_below-returns-clause-err g t c = on_err c.put_ready.result c.put_ready.ensures.err (λ same. same ∙ c.in-Err-Full.ensures.err)
+Node::put_below-returns-clause-err g t c = on_err c.put_ready.result c.put_ready.ensures.err
+    (λ same. same ∙ c.in-Err-Full.ensures.err)
 
 pub Node::put_below-returns-clause-unput : goal.Node::put_below-returns-clause-unput
-Node::put_below-returns-clause-unput g t c = unput_split g.C.Chunks.stops c.args.may_split c.put_ready.result c.put_ready.ensures.unput
+Node::put_below-returns-clause-unput g t c = unput_split g.C.Chunks.stops c.args.may_split c.put_ready.result
+    c.put_ready.ensures.unput

@@ -1,4 +1,5 @@
-use Rattle.std.proofs.Common.{◌≡◌, ◌<◌, ◌-◌, ◌∙◌, Some, OnOk, ap, sym, subst, arith, refl, length, get_or, set-set, remove, []}
+use Rattle.std.proofs.Common.{◌≡◌, ◌<◌, ◌-◌, ◌∙◌, Some, OnOk, ap, sym, subst, arith, refl, length, get_or, set-set}
+use Rattle.std.proofs.Common.{remove, []}
 use Rattle.std.specs.Prelude.{IsSome}
 use Rattle.std.specs.Box.{with_value}
 use Rattle.std.proofs.lemmas.List.{append-nil}
@@ -19,13 +20,15 @@ use Rattle.map_nodes.specs.declared.nodes.Child.{Child}
 use Rattle.map_nodes.specs.declared.nodes.Child.TheVariants.{Placed, Own}
 use Rattle.map_chunks.proofs.AnswerLemmas.{both_ok, on_err, on_ok}
 use Rattle.map_nodes.proofs.EndLemmas.{kids-removed}
-use Rattle.map_chunks.proofs.KeptLemmas.{all_on, kept-none, kept-same, kept-grown, kept-trans, kept-within, kept-from_none}
+use Rattle.map_chunks.proofs.KeptLemmas.{all_on, kept-none, kept-same, kept-grown, kept-trans, kept-within}
+use Rattle.map_chunks.proofs.KeptLemmas.{kept-from_none}
 use Rattle.map_nodes.proofs.NamedLemmas.{kept-child, own-places, places-kids, places-rows}
 use Rattle.map_nodes.proofs.NodeLemmas.{shown-rows, child_at, node_down, written_back}
 use Rattle.map_chunks.proofs.OpenLemmas.{known}
 use Rattle.map_nodes.proofs.PathLemmas.{node_at, indexed_child}
 use Rattle.map_nodes.proofs.ReplaceLemmas.{leaf_rows}
-use Rattle.map_nodes.proofs.RemoveLemmas.{child_gone, child_stays, can_remove, fate_here, fate_later, fresh-removed, fresh-set, has_others, leaves_none, shown_later}
+use Rattle.map_nodes.proofs.RemoveLemmas.{child_gone, child_stays, can_remove, fate_here, fate_later, fresh-removed}
+use Rattle.map_nodes.proofs.RemoveLemmas.{fresh-set, has_others, leaves_none, shown_later}
 use Rattle.map_nodes.proofs.ScanLemmas.{kid_shown-at}
 use Rattle.map_nodes.proofs.PlaceLemmas.{down_may, kid_all, kids_may, own_may, placed_may, new_may}
 use Rattle.map_nodes.proofs.nodes.+removing.Goals as goal
@@ -33,20 +36,28 @@ use Rattle.map_nodes.proofs.nodes.+removing.Goals as goal
 pub Node::remove-returns-in-Leaf-clause-done : goal.Node::remove-returns-in-Leaf-clause-done
 Node::remove-returns-in-Leaf-clause-done g t c =
     let p = g.C.Chunks.contents c.args.chunks.now in
-    ap (λ w. shown p (row_pieces w)) c.in_ok-remove_row-in-Leaf.ensures.rows ∙ shown-rows p (without c.args.key.now (paired c.self.inside.keys.texts c.in-Leaf.values.items))
+    ap (λ w. shown p (row_pieces w)) c.in_ok-remove_row-in-Leaf.ensures.rows ∙ shown-rows p
+    (without c.args.key.now (paired c.self.inside.keys.texts c.in-Leaf.values.items))
     ∙ ap (λ z. Some (without c.args.key.now (rows_or z)))
-    (sym (leaf_rows p c.self.inside.depth c.self.inside.keys.texts c.self.inside.body c.in-Leaf.values c.args.self.now.pieces (ap (λ (s : Seen). s.pieces) c.self.view_is) c.in-Leaf.is))
+    (sym (leaf_rows p c.self.inside.depth c.self.inside.keys.texts c.self.inside.body c.in-Leaf.values
+    c.args.self.now.pieces (ap (λ (s : Seen). s.pieces) c.self.view_is) c.in-Leaf.is))
 
 pub Node::remove-fate_of-requires-clause-places : goal.Node::remove-fate_of-requires-clause-places
 Node::remove-fate_of-requires-clause-places g t c =
-    down_may (g.C.Chunks.places c.args.chunks.now) c.self.inside.depth c.self.inside.keys.texts c.self.inside.body c.in-Inner.kids c.args.self.now.pieces c.as_slice-texts.result.now
-    c.place_of-place.result c.index.result.now (ap (λ (s : Seen). s.pieces) c.self.view_is) c.in-Inner.is c.self.invariant c.as_slice-texts.ensures c.place_of-place.ensures.0 c.index.ensures c.requires.1.1.1.1.0
+    down_may (g.C.Chunks.places c.args.chunks.now) c.self.inside.depth c.self.inside.keys.texts c.self.inside.body
+    c.in-Inner.kids c.args.self.now.pieces c.as_slice-texts.result.now
+    c.place_of-place.result c.index.result.now
+    (ap (λ (s : Seen). s.pieces) c.self.view_is) c.in-Inner.is c.self.invariant c.as_slice-texts.ensures
+    c.place_of-place.ensures.0 c.index.ensures c.requires.1.1.1.1.0
 
 pub Node::remove-fate_of-requires-clause-tree : goal.Node::remove-fate_of-requires-clause-tree
 Node::remove-fate_of-requires-clause-tree g t c =
     let p = g.C.Chunks.contents c.args.chunks.now in
-    let d = node_down p c.self.inside.depth c.self.inside.keys.texts c.self.inside.body c.in-Inner.kids c.args.self.now.pieces c.as_slice-texts.result.now c.args.key.now
-    c.place_of-place.result c.index.result.now (ap (λ (s : Seen). s.pieces) c.self.view_is) c.in-Inner.is c.self.invariant c.as_slice-texts.ensures c.place_of-place.ensures c.index.ensures c.requires.1.1.1.1.1.0 in
+    let d = node_down p c.self.inside.depth c.self.inside.keys.texts c.self.inside.body c.in-Inner.kids
+    c.args.self.now.pieces c.as_slice-texts.result.now c.args.key.now
+    c.place_of-place.result c.index.result.now
+    (ap (λ (s : Seen). s.pieces) c.self.view_is) c.in-Inner.is c.self.invariant c.as_slice-texts.ensures
+    c.place_of-place.ensures c.index.ensures c.requires.1.1.1.1.1.0 in
     subst IsSome (sym (kid_shown-at p (c.self.inside.depth - 1) c.index.result.now d.way.here d.way.here_is)) refl
 
 pub Node::remove-remove_at-requires : goal.Node::remove-remove_at-requires
@@ -64,9 +75,13 @@ Node::remove-remove_at-requires g t c κs within =
     let r = c.requires.1.1.1.1.1 in
     let node : IsNode depth keys (Inner kids) = subst (IsNode depth keys) c.in-Inner.is c.self.invariant in
     let view = ap (λ (s : Seen). s.pieces) c.self.view_is in
-    let d = node_down p depth keys c.self.inside.body kids pieces c.as_slice-texts.result.now key i child view c.in-Inner.is c.self.invariant c.as_slice-texts.ensures c.place_of-place.ensures c.index.ensures r.0 in
-    let now = fate_later p p depth keys c.as_slice-texts.result.now kids.items pieces key c.index-texts-place.result i child fate ([], append-nil p) node.1.2 c.as_slice-texts.ensures c.place_of-place.ensures.0 d
-    c.index.ensures c.index-texts-place.is c.in_ok-fate-in-Inner.ensures.fate child (child_at kids.items i (length keys) child node.1.2 (omega (arith, c.place_of-place.ensures.0, ap length c.as_slice-texts.ensures)) c.index.ensures) in
+    let d = node_down p depth keys c.self.inside.body kids pieces c.as_slice-texts.result.now key i child view
+    c.in-Inner.is c.self.invariant c.as_slice-texts.ensures c.place_of-place.ensures c.index.ensures r.0 in
+    let now = fate_later p p depth keys c.as_slice-texts.result.now kids.items pieces key c.index-texts-place.result i
+    child fate ([], append-nil p) node.1.2 c.as_slice-texts.ensures c.place_of-place.ensures.0 d
+    c.index.ensures c.index-texts-place.is c.in_ok-fate-in-Inner.ensures.fate child
+    (child_at kids.items i (length keys) child node.1.2
+    (omega (arith, c.place_of-place.ensures.0, ap length c.as_slice-texts.ensures)) c.index.ensures) in
     let f = fate_here p depth keys kids.items pieces key i child fate node.1.2 d now in
     let here = ap (λ (s : Seen). s.depth) c.self.view_is in (
       omega (arith, here, c.requires.1.0),
@@ -75,16 +90,23 @@ Node::remove-remove_at-requires g t c κs within =
         (
           within.1,
           (
-            all_on (g.C.Chunks.places c.args.chunks.now) (g.C.Chunks.places c.fate_of.new.chunks) _ c.fate_of.ensures.grown.1 (kids_may (g.C.Chunks.places c.args.chunks.now) depth keys c.self.inside.body kids pieces view c.in-Inner.is c.self.invariant c.requires.1.1.1.1.0),
+            all_on (g.C.Chunks.places c.args.chunks.now)
+                (g.C.Chunks.places c.fate_of.new.chunks) _ c.fate_of.ensures.grown.1
+                (kids_may (g.C.Chunks.places c.args.chunks.now) depth keys c.self.inside.body kids pieces view
+                c.in-Inner.is c.self.invariant c.requires.1.1.1.1.0),
             (
               node,
               (
-                subst IsTree (sym (shown_later p q depth keys c.self.inside.body kids pieces c.fate_of.ensures.grown.0 view c.in-Inner.is r.0)) r.0,
+                subst IsTree (sym (shown_later p q depth keys c.self.inside.body kids pieces c.fate_of.ensures.grown.0
+                    view c.in-Inner.is r.0)) r.0,
                 (
                   subst (λ w. IsPlace key w i) c.as_slice-texts.ensures c.place_of-place.ensures,
                   (
-                    fate_later p q depth keys c.as_slice-texts.result.now kids.items pieces key c.index-texts-place.result i child fate c.fate_of.ensures.grown.0 node.1.2 c.as_slice-texts.ensures
-                        c.place_of-place.ensures.0 d c.index.ensures c.index-texts-place.is c.in_ok-fate-in-Inner.ensures.fate,
+                    fate_later p q depth keys c.as_slice-texts.result.now kids.items pieces key
+                        c.index-texts-place.result i child fate c.fate_of.ensures.grown.0 node.1.2
+                        c.as_slice-texts.ensures
+                        c.place_of-place.ensures.0 d c.index.ensures c.index-texts-place.is
+                        c.in_ok-fate-in-Inner.ensures.fate,
                     has_others p depth keys kids.items pieces key i child fate node.1.2 d f r.1,
                   ),
                 ),
@@ -99,13 +121,17 @@ pub Node::remove-returns-in-Inner-clause-done : goal.Node::remove-returns-in-Inn
 Node::remove-returns-in-Inner-clause-done g t c =
     let p = g.C.Chunks.contents c.args.chunks.now in
     let q = g.C.Chunks.contents c.fate_of.new.chunks in
-    let s = shown_later p q c.self.inside.depth c.self.inside.keys.texts c.self.inside.body c.in-Inner.kids c.args.self.now.pieces c.fate_of.ensures.grown.0 (ap (λ (s : Seen). s.pieces) c.self.view_is) c.in-Inner.is
+    let s = shown_later p q c.self.inside.depth c.self.inside.keys.texts c.self.inside.body c.in-Inner.kids
+    c.args.self.now.pieces c.fate_of.ensures.grown.0 (ap (λ (s : Seen). s.pieces) c.self.view_is) c.in-Inner.is
     c.requires.1.1.1.1.1.0 in
     subst
-    (λ x. OnOk c.remove_at.result (shown (g.C.Chunks.contents c.remove_at.new.chunks) (kids_pieces (c.self.inside.depth - 1) (paired c.remove_at.new.keys.texts c.remove_at.new.kids.items)) ≡ Some (without c.args.key.now (rows_or x))))
+    (λ x. OnOk c.remove_at.result (shown (g.C.Chunks.contents c.remove_at.new.chunks)
+    (kids_pieces (c.self.inside.depth - 1) (paired c.remove_at.new.keys.texts c.remove_at.new.kids.items))
+    ≡ Some (without c.args.key.now (rows_or x))))
     s c.remove_at.ensures.done
 
-pub removing::paths::remove_at-returns-in-Leaves-clause-node : goal.removing::paths::remove_at-returns-in-Leaves-clause-node
+pub removing::paths::remove_at-returns-in-Leaves-clause-node :
+    goal.removing::paths::remove_at-returns-in-Leaves-clause-node
 removing::paths::remove_at-returns-in-Leaves-clause-node g t c =
     let p = g.C.Chunks.contents c.args.chunks.now in
     let r = c.requires.1.1.1.1.1 in
@@ -118,11 +144,16 @@ removing::paths::remove_at-returns-in-Leaves-clause-node g t c =
     let child = get_or kids.items i at in
     let pieces = body_pieces depth keys (Inner kids) in
     let x = node_at p depth keys (Inner kids) kids pieces keys key i at refl refl r.0 refl r.1.1.0 r.1.0 in
-    let f = subst (IsFate key x.0.first x.0.way.here) c.in-Leaves.is (fate_here p depth keys kids.items pieces key i child c.args.fate r.0.1.2 x.0 (r.1.1.1.0 child x.1)) in
-    (child_gone p p depth keys c.remove_entry.new.keys.texts kids.items c.remove_entry.new.entries.items pieces key i child ([], append-nil p) r.0.1.2 r.0.0.0 r.0.1.0 x.0
-    (leaves_none key x.0.first x.0.way.here x.0.way.starts f) (subst (λ e. HasOthers e (length keys)) c.in-Leaves.is r.1.1.1.1) r.1.1.0.0 c.in_ok-remove_entry-in-Leaves.ensures.ok.0 c.in_ok-remove_entry-in-Leaves.ensures.ok.1).node
+    let f = subst (IsFate key x.0.first x.0.way.here) c.in-Leaves.is
+    (fate_here p depth keys kids.items pieces key i child c.args.fate r.0.1.2 x.0 (r.1.1.1.0 child x.1)) in
+    (child_gone p p depth keys c.remove_entry.new.keys.texts kids.items c.remove_entry.new.entries.items pieces key i
+    child ([], append-nil p) r.0.1.2 r.0.0.0 r.0.1.0 x.0
+    (leaves_none key x.0.first x.0.way.here x.0.way.starts f)
+    (subst (λ e. HasOthers e (length keys)) c.in-Leaves.is r.1.1.1.1) r.1.1.0.0
+    c.in_ok-remove_entry-in-Leaves.ensures.ok.0 c.in_ok-remove_entry-in-Leaves.ensures.ok.1).node
 
-pub removing::paths::remove_at-returns-in-Leaves-clause-done : goal.removing::paths::remove_at-returns-in-Leaves-clause-done
+pub removing::paths::remove_at-returns-in-Leaves-clause-done :
+    goal.removing::paths::remove_at-returns-in-Leaves-clause-done
 removing::paths::remove_at-returns-in-Leaves-clause-done g t c =
     let p = g.C.Chunks.contents c.args.chunks.now in
     let r = c.requires.1.1.1.1.1 in
@@ -135,15 +166,25 @@ removing::paths::remove_at-returns-in-Leaves-clause-done g t c =
     let child = get_or kids.items i at in
     let pieces = body_pieces depth keys (Inner kids) in
     let x = node_at p depth keys (Inner kids) kids pieces keys key i at refl refl r.0 refl r.1.1.0 r.1.0 in
-    let f = subst (IsFate key x.0.first x.0.way.here) c.in-Leaves.is (fate_here p depth keys kids.items pieces key i child c.args.fate r.0.1.2 x.0 (r.1.1.1.0 child x.1)) in
-    (child_gone p p depth keys c.remove_entry.new.keys.texts kids.items c.remove_entry.new.entries.items pieces key i child ([], append-nil p) r.0.1.2 r.0.0.0 r.0.1.0 x.0
-    (leaves_none key x.0.first x.0.way.here x.0.way.starts f) (subst (λ e. HasOthers e (length keys)) c.in-Leaves.is r.1.1.1.1) r.1.1.0.0 c.in_ok-remove_entry-in-Leaves.ensures.ok.0 c.in_ok-remove_entry-in-Leaves.ensures.ok.1).shown_is
+    let f = subst (IsFate key x.0.first x.0.way.here) c.in-Leaves.is
+    (fate_here p depth keys kids.items pieces key i child c.args.fate r.0.1.2 x.0 (r.1.1.1.0 child x.1)) in
+    (child_gone p p depth keys c.remove_entry.new.keys.texts kids.items c.remove_entry.new.entries.items pieces key i
+    child ([], append-nil p) r.0.1.2 r.0.0.0 r.0.1.0 x.0
+    (leaves_none key x.0.first x.0.way.here x.0.way.starts f)
+    (subst (λ e. HasOthers e (length keys)) c.in-Leaves.is r.1.1.1.1) r.1.1.0.0
+    c.in_ok-remove_entry-in-Leaves.ensures.ok.0 c.in_ok-remove_entry-in-Leaves.ensures.ok.1).shown_is
     ∙ ap (λ z. Some (without key (rows_or z))) (sym x.0.rows_is)
 
-pub removing::paths::remove_at-returns-in-Leaves-clause-few : goal.removing::paths::remove_at-returns-in-Leaves-clause-few
+pub removing::paths::remove_at-returns-in-Leaves-clause-few :
+    goal.removing::paths::remove_at-returns-in-Leaves-clause-few
 removing::paths::remove_at-returns-in-Leaves-clause-few g t c =
     let r = c.requires.1.1.1.1.1 in
-    omega (arith, fresh-removed c.args.kids.now.items c.args.place, ap kids_fresh c.in_ok-remove_entry-in-Leaves.ensures.ok.1, r.0.1.0)
+    omega (
+      arith,
+      fresh-removed c.args.kids.now.items c.args.place,
+      ap kids_fresh c.in_ok-remove_entry-in-Leaves.ensures.ok.1,
+      r.0.1.0,
+    )
 
 pub removing::paths::remove_at-remove_child-requires : goal.removing::paths::remove_at-remove_child-requires
 removing::paths::remove_at-remove_child-requires g t c κs within =
@@ -158,12 +199,27 @@ removing::paths::remove_at-remove_child-requires g t c κs within =
     let child = get_or kids.items i at in
     let pieces = body_pieces depth keys (Inner kids) in
     let x = node_at p depth keys (Inner kids) kids pieces keys key i at refl refl r.0 refl r.1.1.0 r.1.0 in
-    let f = subst (IsFate key x.0.first x.0.way.here) c.in-Stays.is (fate_here p depth keys kids.items pieces key i child c.args.fate r.0.1.2 x.0 (r.1.1.1.0 child x.1)) in (
+    let f = subst (IsFate key x.0.first x.0.way.here) c.in-Stays.is
+    (fate_here p depth keys kids.items pieces key i child c.args.fate r.0.1.2 x.0 (r.1.1.1.0 child x.1)) in (
       omega (arith, r.0.1.0, c.requires.1.0),
-      (within.0, (within.1, (c.requires.1.1.1.1.0, (omega (arith, r.1.1.0.0, r.0.1.2), can_remove p depth keys kids.items pieces key i child c.in-Stays.first x.0 x.1 f)))),
+      (
+        within.0,
+        (
+          within.1,
+          (
+            c.requires.1.1.1.1.0,
+            (
+              omega (arith, r.1.1.0.0, r.0.1.2),
+              can_remove p depth keys kids.items pieces key i child
+                  c.in-Stays.first x.0 x.1 f,
+            ),
+          ),
+        ),
+      ),
     )
 
-pub removing::paths::remove_at-returns-in-Stays-clause-node : goal.removing::paths::remove_at-returns-in-Stays-clause-node
+pub removing::paths::remove_at-returns-in-Stays-clause-node :
+    goal.removing::paths::remove_at-returns-in-Stays-clause-node
 removing::paths::remove_at-returns-in-Stays-clause-node g t c =
     let p = g.C.Chunks.contents c.args.chunks.now in
     let q = g.C.Chunks.contents c.remove_child.new.chunks in
@@ -177,11 +233,15 @@ removing::paths::remove_at-returns-in-Stays-clause-node g t c =
     let child = get_or kids.items i at in
     let pieces = body_pieces depth keys (Inner kids) in
     let x = node_at p depth keys (Inner kids) kids pieces keys key i at refl refl r.0 refl r.1.1.0 r.1.0 in
-    let f = subst (IsFate key x.0.first x.0.way.here) c.in-Stays.is (fate_here p depth keys kids.items pieces key i child c.args.fate r.0.1.2 x.0 (r.1.1.1.0 child x.1)) in
-    (child_stays p q depth keys c.set_first.new.keys.texts kids.items c.remove_child.new.kids.items pieces key i child c.in-Stays.first c.remove_child.ensures.grown.0 r.0.1.2 r.0.0.0 r.0.1.0 x.0 f r.0.1.1
-    (c.set_first.ensures ∙ ap (lowered i c.in-Stays.first) c.make_ready.ensures.texts) (c.in_ok-remove_child-in-Stays.ensures.done child x.1)).node
+    let f = subst (IsFate key x.0.first x.0.way.here) c.in-Stays.is
+    (fate_here p depth keys kids.items pieces key i child c.args.fate r.0.1.2 x.0 (r.1.1.1.0 child x.1)) in
+    (child_stays p q depth keys c.set_first.new.keys.texts kids.items c.remove_child.new.kids.items pieces key i child
+    c.in-Stays.first c.remove_child.ensures.grown.0 r.0.1.2 r.0.0.0 r.0.1.0 x.0 f r.0.1.1
+    (c.set_first.ensures ∙ ap (lowered i c.in-Stays.first) c.make_ready.ensures.texts)
+    (c.in_ok-remove_child-in-Stays.ensures.done child x.1)).node
 
-pub removing::paths::remove_at-returns-in-Stays-clause-done : goal.removing::paths::remove_at-returns-in-Stays-clause-done
+pub removing::paths::remove_at-returns-in-Stays-clause-done :
+    goal.removing::paths::remove_at-returns-in-Stays-clause-done
 removing::paths::remove_at-returns-in-Stays-clause-done g t c =
     let p = g.C.Chunks.contents c.args.chunks.now in
     let q = g.C.Chunks.contents c.remove_child.new.chunks in
@@ -195,9 +255,12 @@ removing::paths::remove_at-returns-in-Stays-clause-done g t c =
     let child = get_or kids.items i at in
     let pieces = body_pieces depth keys (Inner kids) in
     let x = node_at p depth keys (Inner kids) kids pieces keys key i at refl refl r.0 refl r.1.1.0 r.1.0 in
-    let f = subst (IsFate key x.0.first x.0.way.here) c.in-Stays.is (fate_here p depth keys kids.items pieces key i child c.args.fate r.0.1.2 x.0 (r.1.1.1.0 child x.1)) in
-    (child_stays p q depth keys c.set_first.new.keys.texts kids.items c.remove_child.new.kids.items pieces key i child c.in-Stays.first c.remove_child.ensures.grown.0 r.0.1.2 r.0.0.0 r.0.1.0 x.0 f r.0.1.1
-    (c.set_first.ensures ∙ ap (lowered i c.in-Stays.first) c.make_ready.ensures.texts) (c.in_ok-remove_child-in-Stays.ensures.done child x.1)).shown_is
+    let f = subst (IsFate key x.0.first x.0.way.here) c.in-Stays.is
+    (fate_here p depth keys kids.items pieces key i child c.args.fate r.0.1.2 x.0 (r.1.1.1.0 child x.1)) in
+    (child_stays p q depth keys c.set_first.new.keys.texts kids.items c.remove_child.new.kids.items pieces key i child
+    c.in-Stays.first c.remove_child.ensures.grown.0 r.0.1.2 r.0.0.0 r.0.1.0 x.0 f r.0.1.1
+    (c.set_first.ensures ∙ ap (lowered i c.in-Stays.first) c.make_ready.ensures.texts)
+    (c.in_ok-remove_child-in-Stays.ensures.done child x.1)).shown_is
     ∙ ap (λ z. Some (without key (rows_or z))) (sym x.0.rows_is)
 
 pub removing::paths::remove_at-returns-in-Stays-clause-few : goal.removing::paths::remove_at-returns-in-Stays-clause-few
@@ -209,7 +272,8 @@ removing::paths::remove_at-returns-in-Stays-clause-few g t c =
     let i = c.args.place in
     let at : Child = Placed (record { bits = 0 }) in
     let child = get_or kids.items i at in
-    let x = node_at p c.args.depth keys (Inner kids) kids (body_pieces c.args.depth keys (Inner kids)) keys c.args.key.now i at refl refl r.0 refl r.1.1.0 r.1.0 in
+    let x = node_at p c.args.depth keys (Inner kids) kids
+    (body_pieces c.args.depth keys (Inner kids)) keys c.args.key.now i at refl refl r.0 refl r.1.1.0 r.1.0 in
     let n = c.in_ok-remove_child-in-Stays.ensures.done child x.1 in
     omega (arith, fresh-set kids.items i child (Own n.0) x.1, ap kids_fresh n.1, n.4, r.0.1.0)
 
@@ -221,14 +285,17 @@ removing::paths::remove_child-remove-requires g t c κs within =
     let child = c.index_mut.result.now in
     let r = c.requires.1.1.1.1.1 in
     let v = c.deref_mut.ensures.value in
-    let can = subst (CanRemove p c.args.below c.args.key.now) c.in-Own.is (r.1 child (child_at kids c.args.place (length kids) child refl r.0 c.index_mut.ensures.value)) in (
+    let can = subst (CanRemove p c.args.below c.args.key.now) c.in-Own.is
+    (r.1 child (child_at kids c.args.place (length kids) child refl r.0 c.index_mut.ensures.value)) in (
       omega (arith, ap (λ (s : Seen). s.depth) v, can.1, c.requires.1.0),
       (
         within.0,
         (
           within.1,
           (
-            subst (λ (s : Seen). AreAll may (places_of s.pieces)) (sym v) (own_may may child c.in-Own.node c.in-Own.is (kid_all may kids c.args.place child r.0 c.index_mut.ensures.value c.requires.1.1.1.1.0)),
+            subst (λ (s : Seen). AreAll may (places_of s.pieces)) (sym v)
+                (own_may may child c.in-Own.node c.in-Own.is
+                (kid_all may kids c.args.place child r.0 c.index_mut.ensures.value c.requires.1.1.1.1.0)),
             (
               subst (λ (s : Seen). IsTree (shown p s.pieces)) (sym v) can.0,
               subst (λ (s : Seen). 0 < length (without c.args.key.now (rows_or (shown p s.pieces)))) (sym v) can.2,
@@ -238,47 +305,58 @@ removing::paths::remove_child-remove-requires g t c κs within =
       ),
     )
 
-pub removing::paths::remove_child-returns-in-Own-clause-done : goal.removing::paths::remove_child-returns-in-Own-clause-done
+pub removing::paths::remove_child-returns-in-Own-clause-done :
+    goal.removing::paths::remove_child-returns-in-Own-clause-done
 removing::paths::remove_child-returns-in-Own-clause-done g t c x h =
     let p = g.C.Chunks.contents c.args.chunks.now in
     let kids = c.args.kids.now.items in
     let child = c.index_mut.result.now in
     let r = c.requires.1.1.1.1.1 in
     let v = c.deref_mut.ensures.value in
-    let can = subst (CanRemove p c.args.below c.args.key.now) c.in-Own.is (r.1 child (child_at kids c.args.place (length kids) child refl r.0 c.index_mut.ensures.value)) in
+    let can = subst (CanRemove p c.args.below c.args.key.now) c.in-Own.is
+    (r.1 child (child_at kids c.args.place (length kids) child refl r.0 c.index_mut.ensures.value)) in
     let n : Kid = with_value c.in-Own.node c.remove.new.self in
-    let e : x ≡ Own c.in-Own.node = indexed_child kids c.args.place child x r.0 c.index_mut.ensures.value h ∙ c.in-Own.is in
+    let e : x ≡ Own c.in-Own.node = indexed_child kids c.args.place child x r.0 c.index_mut.ensures.value h
+    ∙ c.in-Own.is in
     both_ok c.remove.result c.remove.ensures.done c.remove.ensures.few (λ s f. (
       n,
       refl,
       c.remove.ensures.depth ∙ ap (λ (s : Seen). s.depth) v ∙ can.1,
-      s ∙ ap (λ (m : Seen). Some (without c.args.key.now (rows_or (shown p m.pieces)))) v ∙ ap (λ y. Some (without c.args.key.now (rows_or (child_rows p c.args.below y)))) (sym e),
+      s ∙ ap (λ (m : Seen). Some (without c.args.key.now (rows_or (shown p m.pieces)))) v ∙ ap
+          (λ y. Some (without c.args.key.now (rows_or (child_rows p c.args.below y)))) (sym e),
       omega (arith, f, can.1, ap (λ (s : Seen). s.depth) v, ap (λ (s : Seen). s.fresh) v, ap child_fresh e),
     ))
 
-pub removing::paths::remove_child-copied_child-requires-clause-place : goal.removing::paths::remove_child-copied_child-requires-clause-place
+pub removing::paths::remove_child-copied_child-requires-clause-place :
+    goal.removing::paths::remove_child-copied_child-requires-clause-place
 removing::paths::remove_child-copied_child-requires-clause-place g t c =
     let may = g.C.Chunks.places c.args.chunks.now in
     let child = c.index_mut.result.now in
-    placed_may may child c.in-Placed.at c.in-Placed.is (kid_all may c.args.kids.now.items c.args.place child c.requires.1.1.1.1.1.0 c.index_mut.ensures.value c.requires.1.1.1.1.0)
+    placed_may may child c.in-Placed.at c.in-Placed.is
+    (kid_all may c.args.kids.now.items c.args.place child c.requires.1.1.1.1.1.0 c.index_mut.ensures.value
+    c.requires.1.1.1.1.0)
 
-pub removing::paths::remove_child-copied_child-requires-clause-known : goal.removing::paths::remove_child-copied_child-requires-clause-known
+pub removing::paths::remove_child-copied_child-requires-clause-known :
+    goal.removing::paths::remove_child-copied_child-requires-clause-known
 removing::paths::remove_child-copied_child-requires-clause-known g t c =
     let p = g.C.Chunks.contents c.args.chunks.now in
     let kids = c.args.kids.now.items in
     let child = c.index_mut.result.now in
     let r = c.requires.1.1.1.1.1 in
-    let can = subst (CanRemove p c.args.below c.args.key.now) c.in-Placed.is (r.1 child (child_at kids c.args.place (length kids) child refl r.0 c.index_mut.ensures.value)) in
+    let can = subst (CanRemove p c.args.below c.args.key.now) c.in-Placed.is
+    (r.1 child (child_at kids c.args.place (length kids) child refl r.0 c.index_mut.ensures.value)) in
     let k = known (rows_at p c.args.below (stamp_of c.in-Placed.at)) can.0 in
     subst IsSome (sym k.is) refl
 
-pub removing::paths::remove_child-remove-requires-in-Placed : goal.removing::paths::remove_child-remove-requires-in-Placed
+pub removing::paths::remove_child-remove-requires-in-Placed :
+    goal.removing::paths::remove_child-remove-requires-in-Placed
 removing::paths::remove_child-remove-requires-in-Placed g t c κs within =
     let p = g.C.Chunks.contents c.args.chunks.now in
     let kids = c.args.kids.now.items in
     let child = c.index_mut.result.now in
     let r = c.requires.1.1.1.1.1 in
-    let can = subst (CanRemove p c.args.below c.args.key.now) c.in-Placed.is (r.1 child (child_at kids c.args.place (length kids) child refl r.0 c.index_mut.ensures.value)) in
+    let can = subst (CanRemove p c.args.below c.args.key.now) c.in-Placed.is
+    (r.1 child (child_at kids c.args.place (length kids) child refl r.0 c.index_mut.ensures.value)) in
     let q = g.C.Chunks.contents c.copied_child.new.chunks in
     let v = c.deref_mut-in-Placed.ensures.value in (
       omega (arith, ap (λ (s : Seen). s.depth) v, c.in_ok-node-in-Placed.ensures.depth, c.requires.1.0),
@@ -287,18 +365,23 @@ removing::paths::remove_child-remove-requires-in-Placed g t c κs within =
         (
           within.1,
           (
-            subst (λ (s : Seen). AreAll (g.C.Chunks.places c.copied_child.new.chunks) (places_of s.pieces)) (sym v) (new_may (g.C.Chunks.places c.copied_child.new.chunks) (places_of c.in_ok-node-in-Placed.node.value.pieces) c.in_ok-node-in-Placed.ensures.places),
+            subst (λ (s : Seen). AreAll (g.C.Chunks.places c.copied_child.new.chunks) (places_of s.pieces)) (sym v)
+                (new_may (g.C.Chunks.places c.copied_child.new.chunks)
+                (places_of c.in_ok-node-in-Placed.node.value.pieces) c.in_ok-node-in-Placed.ensures.places),
             (
-              subst (λ (s : Seen). IsTree (shown q s.pieces)) (sym v) (subst IsTree (sym c.in_ok-node-in-Placed.ensures.rows) can.0),
+              subst (λ (s : Seen). IsTree (shown q s.pieces)) (sym v)
+                  (subst IsTree (sym c.in_ok-node-in-Placed.ensures.rows) can.0),
               subst (λ (s : Seen). 0 < length (without c.args.key.now (rows_or (shown q s.pieces)))) (sym v)
-                  (subst (λ z. 0 < length (without c.args.key.now (rows_or z))) (sym c.in_ok-node-in-Placed.ensures.rows) can.2),
+                  (subst (λ z. 0 < length (without c.args.key.now (rows_or z)))
+                  (sym c.in_ok-node-in-Placed.ensures.rows) can.2),
             ),
           ),
         ),
       ),
     )
 
-pub removing::paths::remove_child-returns-in-Placed-clause-done : goal.removing::paths::remove_child-returns-in-Placed-clause-done
+pub removing::paths::remove_child-returns-in-Placed-clause-done :
+    goal.removing::paths::remove_child-returns-in-Placed-clause-done
 removing::paths::remove_child-returns-in-Placed-clause-done g t c x h =
     let p = g.C.Chunks.contents c.args.chunks.now in
     let kids = c.args.kids.now.items in
@@ -307,23 +390,36 @@ removing::paths::remove_child-returns-in-Placed-clause-done g t c x h =
     let n : Kid = with_value c.in_ok-node-in-Placed.node c.remove-in-Placed.new.self in
     let q = g.C.Chunks.contents c.copied_child.new.chunks in
     let v = c.deref_mut-in-Placed.ensures.value in
-    let e : x ≡ Placed c.in-Placed.at = indexed_child kids c.args.place child x r.0 c.index_mut.ensures.value h ∙ c.in-Placed.is in (
+    let e : x ≡ Placed c.in-Placed.at = indexed_child kids c.args.place child x r.0 c.index_mut.ensures.value h ∙
+    c.in-Placed.is in (
       n,
       set-set kids c.args.place (Placed c.in-Placed.at) (Own n),
       c.remove-in-Placed.ensures.depth ∙ ap (λ (s : Seen). s.depth) v ∙ c.in_ok-node-in-Placed.ensures.depth,
       c.in_ok-remove-in-Placed.ensures.done
-          ∙ ap (λ z. Some (without c.args.key.now (rows_or z))) (ap (λ (s : Seen). shown q s.pieces) v ∙ c.in_ok-node-in-Placed.ensures.rows ∙ ap (child_rows p c.args.below) (sym e)),
-      omega (arith, c.in_ok-remove-in-Placed.ensures.few, ap (λ (s : Seen). s.depth) v, ap (λ (s : Seen). s.fresh) v, c.in_ok-node-in-Placed.ensures.fresh, c.in_ok-node-in-Placed.ensures.depth),
+          ∙ ap (λ z. Some (without c.args.key.now (rows_or z)))
+          (ap (λ (s : Seen). shown q s.pieces) v ∙ c.in_ok-node-in-Placed.ensures.rows ∙ ap
+          (child_rows p c.args.below) (sym e)),
+      omega (
+        arith,
+        c.in_ok-remove-in-Placed.ensures.few,
+        ap (λ (s : Seen). s.depth) v,
+        ap (λ (s : Seen). s.fresh) v,
+        c.in_ok-node-in-Placed.ensures.fresh,
+        c.in_ok-node-in-Placed.ensures.depth,
+      ),
     )
 
-pub removing::paths::remove_child-returns-in-Own-clause-err : goal.removing::paths::remove_child-returns-in-Own-clause-err
+pub removing::paths::remove_child-returns-in-Own-clause-err :
+    goal.removing::paths::remove_child-returns-in-Own-clause-err
 removing::paths::remove_child-returns-in-Own-clause-err g t c =
     on_err c.remove.result c.remove.ensures.err
-    (λ e. written_back c.args.kids.now.items c.args.place c.index_mut.result.now c.in-Own.node c.remove.new.self c.index_mut.ensures.value c.in-Own.is (e ∙ c.deref_mut.ensures.value))
+    (λ e. written_back c.args.kids.now.items c.args.place c.index_mut.result.now c.in-Own.node c.remove.new.self
+    c.index_mut.ensures.value c.in-Own.is (e ∙ c.deref_mut.ensures.value))
 
 -- REFERENCES
 
-pub removing::paths::remove_child-returns-in-Own-clause-places : goal.removing::paths::remove_child-returns-in-Own-clause-places
+pub removing::paths::remove_child-returns-in-Own-clause-places :
+    goal.removing::paths::remove_child-returns-in-Own-clause-places
 removing::paths::remove_child-returns-in-Own-clause-places g t c =
     let kids = c.args.kids.now.items in
     let child = c.index_mut.result.now in
@@ -332,9 +428,11 @@ removing::paths::remove_child-returns-in-Own-clause-places g t c =
     on_ok c.remove.result c.remove.ensures.places
     (λ kept. kept-child at_q kids c.args.place child n c.requires.1.1.1.1.1.0 c.index_mut.ensures.value
     (subst (λ (x : Child). AreKept at_q (child_places x) (places_of c.remove.new.self.pieces)) (sym c.in-Own.is)
-    (subst (λ (s : Seen). AreKept at_q (places_of s.pieces) (places_of c.remove.new.self.pieces)) c.deref_mut.ensures.value kept)))
+    (subst (λ (s : Seen). AreKept at_q (places_of s.pieces) (places_of c.remove.new.self.pieces))
+    c.deref_mut.ensures.value kept)))
 
-pub removing::paths::remove_child-returns-in-Placed-clause-places : goal.removing::paths::remove_child-returns-in-Placed-clause-places
+pub removing::paths::remove_child-returns-in-Placed-clause-places :
+    goal.removing::paths::remove_child-returns-in-Placed-clause-places
 removing::paths::remove_child-returns-in-Placed-clause-places g t c =
     let kids = c.args.kids.now.items in
     let child = c.index_mut.result.now in
@@ -344,22 +442,28 @@ removing::paths::remove_child-returns-in-Placed-clause-places g t c =
     let mid = places_of c.in_ok-node-in-Placed.node.value.pieces in
     let new = places_of c.remove-in-Placed.new.self.pieces in
     let copied = kept-grown at_p at_q [] mid c.remove-in-Placed.ensures.grown.1 c.in_ok-node-in-Placed.ensures.places in
-    let left = subst (λ (s : Seen). AreKept at_q (places_of s.pieces) new) c.deref_mut-in-Placed.ensures.value c.in_ok-remove-in-Placed.ensures.places in
-    subst (λ ks. AreKept at_q (kids_places kids) (kids_places ks)) (sym (set-set kids c.args.place (Placed c.in-Placed.at) (Own n)))
-    (kept-child at_q kids c.args.place child n c.requires.1.1.1.1.1.0 c.index_mut.ensures.value (kept-from_none at_q (child_places child) new (kept-trans at_q [] mid new copied left)))
+    let left = subst (λ (s : Seen). AreKept at_q (places_of s.pieces) new) c.deref_mut-in-Placed.ensures.value
+    c.in_ok-remove-in-Placed.ensures.places in
+    subst (λ ks. AreKept at_q (kids_places kids) (kids_places ks))
+    (sym (set-set kids c.args.place (Placed c.in-Placed.at) (Own n)))
+    (kept-child at_q kids c.args.place child n c.requires.1.1.1.1.1.0 c.index_mut.ensures.value
+    (kept-from_none at_q (child_places child) new (kept-trans at_q [] mid new copied left)))
 
-pub removing::paths::remove_at-returns-in-Leaves-clause-places : goal.removing::paths::remove_at-returns-in-Leaves-clause-places
+pub removing::paths::remove_at-returns-in-Leaves-clause-places :
+    goal.removing::paths::remove_at-returns-in-Leaves-clause-places
 removing::paths::remove_at-returns-in-Leaves-clause-places g t c =
     let at_p = g.C.Chunks.places c.args.chunks.now in
     let kids = c.args.kids.now.items in
     subst (λ ks. AreKept at_p (kids_places kids) (kids_places ks)) (sym c.in_ok-remove_entry-in-Leaves.ensures.ok.1)
-    (kept-within at_p (kids_places kids) (kids_places (remove kids c.args.place)) (kids_places kids) (kids-removed kids c.args.place) (kept-same at_p (kids_places kids)))
+    (kept-within at_p (kids_places kids) (kids_places (remove kids c.args.place)) (kids_places kids)
+    (kids-removed kids c.args.place) (kept-same at_p (kids_places kids)))
 
 pub Node::remove-returns-in-Leaf-clause-places : goal.Node::remove-returns-in-Leaf-clause-places
 Node::remove-returns-in-Leaf-clause-places g t c =
     let at_p = g.C.Chunks.places c.args.chunks.now in
     let old = places_of c.args.self.now.pieces in
-    subst (AreKept at_p old) (sym (places-rows (paired c.remove_row.new.keys.texts c.remove_row.new.values.items))) (kept-none at_p old)
+    subst (AreKept at_p old) (sym (places-rows (paired c.remove_row.new.keys.texts c.remove_row.new.values.items)))
+    (kept-none at_p old)
 
 pub Node::remove-returns-in-Inner-clause-places : goal.Node::remove-returns-in-Inner-clause-places
 Node::remove-returns-in-Inner-clause-places g t c =
@@ -367,7 +471,10 @@ Node::remove-returns-in-Inner-clause-places g t c =
     let depth = c.self.inside.depth in
     let keys = c.self.inside.keys.texts in
     let node : IsNode depth keys (Inner c.in-Inner.kids) = subst (IsNode depth keys) c.in-Inner.is c.self.invariant in
-    let old = own-places depth keys c.self.inside.body c.in-Inner.kids c.args.self.now.pieces (ap (λ (s : Seen). s.pieces) c.self.view_is) c.in-Inner.is node.1.2 in
-    let new = places-kids (depth - 1) c.remove_at.new.keys.texts c.remove_at.new.kids.items c.remove_at.ensures.node.1.2 in
+    let old = own-places depth keys c.self.inside.body c.in-Inner.kids c.args.self.now.pieces
+    (ap (λ (s : Seen). s.pieces) c.self.view_is) c.in-Inner.is node.1.2 in
+    let new = places-kids (depth - 1) c.remove_at.new.keys.texts c.remove_at.new.kids.items
+    c.remove_at.ensures.node.1.2 in
     on_ok c.remove_at.result c.remove_at.ensures.places
-    (λ kept. subst (AreKept at_q (places_of c.args.self.now.pieces)) (sym new) (subst (λ w. AreKept at_q w (kids_places c.remove_at.new.kids.items)) (sym old) kept))
+    (λ kept. subst (AreKept at_q (places_of c.args.self.now.pieces)) (sym new)
+    (subst (λ w. AreKept at_q w (kids_places c.remove_at.new.kids.items)) (sym old) kept))

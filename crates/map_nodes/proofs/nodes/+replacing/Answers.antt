@@ -1,4 +1,5 @@
-use Rattle.std.proofs.Common.{length-set, set, [], ◌≡◌, ◌-◌, refl, length, get_or, arith, sym, ap, subst, ◌∙◌, Some, nat_cmp, set-set}
+use Rattle.std.proofs.Common.{length-set, set, [], ◌≡◌, ◌-◌, refl, length, get_or, arith, sym, ap, subst, ◌∙◌, Some}
+use Rattle.std.proofs.Common.{nat_cmp, set-set}
 use Rattle.std.specs.Prelude.{IsSome}
 use Rattle.std.specs.Box.{with_value}
 use Rattle.std.specs.Cmp.Lexicographic.{slice_cmp}
@@ -29,33 +30,45 @@ use Rattle.map_nodes.proofs.nodes.+replacing.Goals as goal
 
 pub Node::replace-returns-in_default-clause-done : goal.Node::replace-returns-in_default-clause-done
 Node::replace-returns-in_default-clause-done g t c =
-    absurd (leaf_has (g.C.Chunks.contents c.args.chunks.now) c.self.inside.depth c.self.inside.keys.texts c.self.inside.body c.in-Leaf.values c.args.self.now.pieces
-    c.as_slice.result.now c.args.key.now c.in_default.field-0 (ap (λ (s : Seen). s.pieces) c.self.view_is) c.in-Leaf.is c.self.invariant c.as_slice.ensures c.requires.1.1.1.1.1.1 c.in_default.ensures.absent)
+    absurd (leaf_has (g.C.Chunks.contents c.args.chunks.now) c.self.inside.depth c.self.inside.keys.texts
+    c.self.inside.body c.in-Leaf.values c.args.self.now.pieces
+    c.as_slice.result.now c.args.key.now c.in_default.field-0
+    (ap (λ (s : Seen). s.pieces) c.self.view_is) c.in-Leaf.is c.self.invariant c.as_slice.ensures
+    c.requires.1.1.1.1.1.1 c.in_default.ensures.absent)
 
 pub Node::replace-returns-in-Leaf-clause-done : goal.Node::replace-returns-in-Leaf-clause-done
 Node::replace-returns-in-Leaf-clause-done g t c =
-    leaf_replaced (g.C.Chunks.contents c.args.chunks.now) c.self.inside.depth c.self.inside.keys.texts c.self.inside.body c.in-Leaf.values c.args.self.now.pieces
-    c.as_slice.result.now c.args.key.now c.args.value c.in-Ok.place (ap (λ (s : Seen). s.pieces) c.self.view_is) c.in-Leaf.is c.self.invariant c.as_slice.ensures c.in-Ok.ensures.found
+    leaf_replaced (g.C.Chunks.contents c.args.chunks.now) c.self.inside.depth c.self.inside.keys.texts
+    c.self.inside.body c.in-Leaf.values c.args.self.now.pieces
+    c.as_slice.result.now c.args.key.now c.args.value c.in-Ok.place
+    (ap (λ (s : Seen). s.pieces) c.self.view_is) c.in-Leaf.is c.self.invariant c.as_slice.ensures
+    c.in-Ok.ensures.found
 
 pub Node::replace-returns-in_default-clause-fresh : goal.Node::replace-returns-in_default-clause-fresh
 Node::replace-returns-in_default-clause-fresh g t c =
-    let n = leaf_counts c.self.inside.depth c.self.inside.keys.texts c.self.inside.body c.in-Leaf.values c.in-Leaf.is c.self.invariant in
+    let n = leaf_counts c.self.inside.depth c.self.inside.keys.texts c.self.inside.body c.in-Leaf.values c.in-Leaf.is
+    c.self.invariant in
     omega (arith, n.0, n.1, ap (λ (s : Seen). s.depth) c.self.view_is, ap (λ (s : Seen). s.fresh) c.self.view_is)
 
 pub Node::replace-returns-in-Leaf-clause-fresh : goal.Node::replace-returns-in-Leaf-clause-fresh
 Node::replace-returns-in-Leaf-clause-fresh g t c =
-    let n = leaf_counts c.self.inside.depth c.self.inside.keys.texts c.self.inside.body c.in-Leaf.values c.in-Leaf.is c.self.invariant in
+    let n = leaf_counts c.self.inside.depth c.self.inside.keys.texts c.self.inside.body c.in-Leaf.values c.in-Leaf.is
+    c.self.invariant in
     omega (arith, n.0, n.1, ap (λ (s : Seen). s.depth) c.self.view_is, ap (λ (s : Seen). s.fresh) c.self.view_is)
 
 pub Node::replace-returns-in_default-clause-places : goal.Node::replace-returns-in_default-clause-places
 Node::replace-returns-in_default-clause-places g t c =
     let at_p = g.C.Chunks.places c.args.chunks.now in
-    subst (AreKept at_p (places_of c.args.self.now.pieces)) (sym (places-rows (paired c.self.inside.keys.texts c.in-Leaf.values.items))) (kept-none at_p (places_of c.args.self.now.pieces))
+    subst (AreKept at_p (places_of c.args.self.now.pieces))
+    (sym (places-rows (paired c.self.inside.keys.texts c.in-Leaf.values.items)))
+    (kept-none at_p (places_of c.args.self.now.pieces))
 
 pub Node::replace-returns-in-Leaf-clause-places : goal.Node::replace-returns-in-Leaf-clause-places
 Node::replace-returns-in-Leaf-clause-places g t c =
     let at_p = g.C.Chunks.places c.args.chunks.now in
-    subst (AreKept at_p (places_of c.args.self.now.pieces)) (sym (places-rows (paired c.self.inside.keys.texts (set c.in-Leaf.values.items c.in-Ok.place c.args.value)))) (kept-none at_p (places_of c.args.self.now.pieces))
+    subst (AreKept at_p (places_of c.args.self.now.pieces))
+    (sym (places-rows (paired c.self.inside.keys.texts (set c.in-Leaf.values.items c.in-Ok.place c.args.value))))
+    (kept-none at_p (places_of c.args.self.now.pieces))
 
 pub replacing::replace_child-replace-requires : goal.replacing::replace_child-replace-requires
 replacing::replace_child-replace-requires g t c κs within =
@@ -64,17 +77,23 @@ replacing::replace_child-replace-requires g t c κs within =
     let kids = c.args.kids.now.items in
     let child = c.index_mut.result.now in
     let v = c.deref_mut.ensures.value in
-    let can = subst (CanReplace p c.args.below c.args.key.now) c.in-Own.is (c.requires.1.1.1.1.1.1 child (child_at kids c.args.place (length kids) child refl c.requires.1.1.1.1.1.0 c.index_mut.ensures.value)) in (
+    let can = subst (CanReplace p c.args.below c.args.key.now) c.in-Own.is
+    (c.requires.1.1.1.1.1.1 child (child_at kids c.args.place
+    (length kids) child refl c.requires.1.1.1.1.1.0 c.index_mut.ensures.value)) in (
       omega (arith, ap (λ (s : Seen). s.depth) v, can.1, c.requires.1.0),
       (
         within.0,
         (
           within.1,
           (
-            subst (λ (s : Seen). AreAll may (places_of s.pieces)) (sym v) (own_may may child c.in-Own.node c.in-Own.is (kid_all may kids c.args.place child c.requires.1.1.1.1.1.0 c.index_mut.ensures.value c.requires.1.1.1.1.0)),
+            subst (λ (s : Seen). AreAll may (places_of s.pieces)) (sym v)
+                (own_may may child c.in-Own.node c.in-Own.is
+                (kid_all may kids c.args.place child c.requires.1.1.1.1.1.0 c.index_mut.ensures.value
+                c.requires.1.1.1.1.0)),
             (
               subst (λ (s : Seen). IsTree (shown p s.pieces)) (sym v) can.0,
-              subst (λ (s : Seen). IsSome (finite.find (slice_cmp nat_cmp) c.args.key.now (rows_or (shown p s.pieces)))) (sym v) can.2,
+              subst (λ (s : Seen). IsSome (finite.find (slice_cmp nat_cmp) c.args.key.now
+                  (rows_or (shown p s.pieces)))) (sym v) can.2,
             ),
           ),
         ),
@@ -87,21 +106,28 @@ replacing::replace_child-returns-in-Own-clause-done g t c x h =
     let kids = c.args.kids.now.items in
     let child = c.index_mut.result.now in
     let v = c.deref_mut.ensures.value in
-    let can = subst (CanReplace p c.args.below c.args.key.now) c.in-Own.is (c.requires.1.1.1.1.1.1 child (child_at kids c.args.place (length kids) child refl c.requires.1.1.1.1.1.0 c.index_mut.ensures.value)) in
+    let can = subst (CanReplace p c.args.below c.args.key.now) c.in-Own.is
+    (c.requires.1.1.1.1.1.1 child (child_at kids c.args.place
+    (length kids) child refl c.requires.1.1.1.1.1.0 c.index_mut.ensures.value)) in
     let n : Kid = with_value c.in-Own.node c.replace.new.self in
-    let e : x ≡ Own c.in-Own.node = indexed_child kids c.args.place child x c.requires.1.1.1.1.1.0 c.index_mut.ensures.value h ∙ c.in-Own.is in
+    let e : x ≡ Own c.in-Own.node = indexed_child kids c.args.place child x c.requires.1.1.1.1.1.0
+    c.index_mut.ensures.value h ∙ c.in-Own.is in
     both_ok c.replace.result c.replace.ensures.done c.replace.ensures.fresh (λ s f. (
       n,
       refl,
       c.replace.ensures.depth ∙ ap (λ (s : Seen). s.depth) v ∙ can.1,
-      s ∙ ap (λ (m : Seen). Some (finite.put (slice_cmp nat_cmp) c.args.key.now c.args.value (rows_or (shown p m.pieces)))) v ∙ ap (λ y. Some (finite.put (slice_cmp nat_cmp) c.args.key.now c.args.value (rows_or (child_rows p c.args.below y)))) (sym e),
+      s ∙ ap (λ (m : Seen). Some (finite.put (slice_cmp nat_cmp) c.args.key.now c.args.value
+          (rows_or (shown p m.pieces)))) v ∙ ap
+          (λ y. Some (finite.put (slice_cmp nat_cmp) c.args.key.now c.args.value
+          (rows_or (child_rows p c.args.below y)))) (sym e),
       omega (arith, f, can.1, ap (λ (s : Seen). s.depth) v, ap (λ (s : Seen). s.fresh) v, ap child_fresh e),
     ))
 
 pub replacing::replace_child-returns-in-Own-clause-err : goal.replacing::replace_child-returns-in-Own-clause-err
 replacing::replace_child-returns-in-Own-clause-err g t c =
     on_err c.replace.result c.replace.ensures.err
-    (λ e. written_back c.args.kids.now.items c.args.place c.index_mut.result.now c.in-Own.node c.replace.new.self c.index_mut.ensures.value c.in-Own.is (e ∙ c.deref_mut.ensures.value))
+    (λ e. written_back c.args.kids.now.items c.args.place c.index_mut.result.now c.in-Own.node c.replace.new.self
+    c.index_mut.ensures.value c.in-Own.is (e ∙ c.deref_mut.ensures.value))
 
 pub replacing::replace_child-returns-in-Own-clause-places : goal.replacing::replace_child-returns-in-Own-clause-places
 replacing::replace_child-returns-in-Own-clause-places g t c =
@@ -112,7 +138,8 @@ replacing::replace_child-returns-in-Own-clause-places g t c =
     on_ok c.replace.result c.replace.ensures.places
     (λ kept. kept-child at_q kids c.args.place child n c.requires.1.1.1.1.1.0 c.index_mut.ensures.value
     (subst (λ (x : Child). AreKept at_q (child_places x) (places_of c.replace.new.self.pieces)) (sym c.in-Own.is)
-    (subst (λ (s : Seen). AreKept at_q (places_of s.pieces) (places_of c.replace.new.self.pieces)) c.deref_mut.ensures.value kept)))
+    (subst (λ (s : Seen). AreKept at_q (places_of s.pieces) (places_of c.replace.new.self.pieces))
+    c.deref_mut.ensures.value kept)))
 
 pub Node::replace-replace_child-requires : goal.Node::replace-replace_child-requires
 Node::replace-replace_child-requires g t c κs within =
@@ -123,7 +150,8 @@ Node::replace-replace_child-requires g t c κs within =
     let pieces = c.args.self.now.pieces in
     let i = c.place_of-place.result in
     let at : Child = Placed (record { bits = 0 }) in
-    let x = node_at p depth keys c.self.inside.body kids pieces c.as_slice-in-Inner.result.now c.args.key.now i at (ap (λ (s : Seen). s.pieces) c.self.view_is) c.in-Inner.is c.self.invariant
+    let x = node_at p depth keys c.self.inside.body kids pieces c.as_slice-in-Inner.result.now c.args.key.now i at
+    (ap (λ (s : Seen). s.pieces) c.self.view_is) c.in-Inner.is c.self.invariant
     c.as_slice-in-Inner.ensures c.place_of-place.ensures c.requires.1.1.1.1.1.0 in
     let child = get_or kids.items i at in (
       omega (arith, x.2.1.0, ap (λ (s : Seen). s.depth) c.self.view_is, c.requires.1.0),
@@ -132,8 +160,13 @@ Node::replace-replace_child-requires g t c κs within =
         (
           within.1,
           (
-            kids_may (g.C.Chunks.places c.args.chunks.now) depth keys c.self.inside.body kids pieces (ap (λ (s : Seen). s.pieces) c.self.view_is) c.in-Inner.is c.self.invariant c.requires.1.1.1.1.0,
-            (omega (arith, x.3.0, x.2.1.2), can_replace p depth keys kids.items pieces c.args.key.now i child x.0 x.1 c.requires.1.1.1.1.1.1),
+            kids_may (g.C.Chunks.places c.args.chunks.now) depth keys c.self.inside.body kids pieces
+                (ap (λ (s : Seen). s.pieces) c.self.view_is) c.in-Inner.is c.self.invariant c.requires.1.1.1.1.0,
+            (
+              omega (arith, x.3.0, x.2.1.2),
+              can_replace p depth keys kids.items pieces c.args.key.now i child x.0 x.1
+                  c.requires.1.1.1.1.1.1,
+            ),
           ),
         ),
       ),
@@ -148,14 +181,25 @@ Node::replace-invariant_of-self-in-Inner g t c =
     let pieces = c.args.self.now.pieces in
     let i = c.place_of-place.result in
     let at : Child = Placed (record { bits = 0 }) in
-    let x = node_at p depth keys c.self.inside.body kids pieces c.as_slice-in-Inner.result.now c.args.key.now i at (ap (λ (s : Seen). s.pieces) c.self.view_is) c.in-Inner.is c.self.invariant
+    let x = node_at p depth keys c.self.inside.body kids pieces c.as_slice-in-Inner.result.now c.args.key.now i at
+    (ap (λ (s : Seen). s.pieces) c.self.view_is) c.in-Inner.is c.self.invariant
     c.as_slice-in-Inner.ensures c.place_of-place.ensures c.requires.1.1.1.1.1.0 in
     let child = get_or kids.items i at in
     let q = g.C.Chunks.contents c.replace_child.new.chunks in
     let done = c.replace_child.ensures.done child x.1 in
     either_way c.replace_child.result done c.replace_child.ensures.err
-    (λ s. (child_replaced p q depth keys c.self.inside.body kids c.replace_child.new.kids.items pieces c.args.key.now c.args.value i child c.replace_child.ensures.grown.0 c.in-Inner.is c.self.invariant x.0 c.requires.1.1.1.1.1.1 s).node)
-    (λ e. (x.2.0, (x.2.1.0, x.2.1.1, ap length e ∙ x.2.1.2, subst (λ es. AllKids (depth - 1) (paired keys es)) (sym e) x.2.1.3)))
+    (λ s. (child_replaced p q depth keys c.self.inside.body kids c.replace_child.new.kids.items pieces c.args.key.now
+    c.args.value i child c.replace_child.ensures.grown.0 c.in-Inner.is c.self.invariant x.0
+    c.requires.1.1.1.1.1.1 s).node)
+    (λ e. (
+      x.2.0,
+      (
+        x.2.1.0,
+        x.2.1.1,
+        ap length e ∙ x.2.1.2,
+        subst (λ es. AllKids (depth - 1) (paired keys es)) (sym e) x.2.1.3,
+      ),
+    ))
 
 pub Node::replace-returns-in-Inner-clause-done : goal.Node::replace-returns-in-Inner-clause-done
 Node::replace-returns-in-Inner-clause-done g t c =
@@ -166,12 +210,16 @@ Node::replace-returns-in-Inner-clause-done g t c =
     let pieces = c.args.self.now.pieces in
     let i = c.place_of-place.result in
     let at : Child = Placed (record { bits = 0 }) in
-    let x = node_at p depth keys c.self.inside.body kids pieces c.as_slice-in-Inner.result.now c.args.key.now i at (ap (λ (s : Seen). s.pieces) c.self.view_is) c.in-Inner.is c.self.invariant
+    let x = node_at p depth keys c.self.inside.body kids pieces c.as_slice-in-Inner.result.now c.args.key.now i at
+    (ap (λ (s : Seen). s.pieces) c.self.view_is) c.in-Inner.is c.self.invariant
     c.as_slice-in-Inner.ensures c.place_of-place.ensures c.requires.1.1.1.1.1.0 in
     let child = get_or kids.items i at in
     let q = g.C.Chunks.contents c.replace_child.new.chunks in
     let done = c.replace_child.ensures.done child x.1 in
-    on_ok c.replace_child.result done (λ s. (child_replaced p q depth keys c.self.inside.body kids c.replace_child.new.kids.items pieces c.args.key.now c.args.value i child c.replace_child.ensures.grown.0 c.in-Inner.is c.self.invariant x.0 c.requires.1.1.1.1.1.1 s).shown_is)
+    on_ok c.replace_child.result done (λ s.
+    (child_replaced p q depth keys c.self.inside.body kids c.replace_child.new.kids.items pieces c.args.key.now
+    c.args.value i child c.replace_child.ensures.grown.0 c.in-Inner.is c.self.invariant x.0
+    c.requires.1.1.1.1.1.1 s).shown_is)
 
 pub Node::replace-returns-in-Inner-clause-fresh : goal.Node::replace-returns-in-Inner-clause-fresh
 Node::replace-returns-in-Inner-clause-fresh g t c =
@@ -182,14 +230,24 @@ Node::replace-returns-in-Inner-clause-fresh g t c =
     let pieces = c.args.self.now.pieces in
     let i = c.place_of-place.result in
     let at : Child = Placed (record { bits = 0 }) in
-    let x = node_at p depth keys c.self.inside.body kids pieces c.as_slice-in-Inner.result.now c.args.key.now i at (ap (λ (s : Seen). s.pieces) c.self.view_is) c.in-Inner.is c.self.invariant
+    let x = node_at p depth keys c.self.inside.body kids pieces c.as_slice-in-Inner.result.now c.args.key.now i at
+    (ap (λ (s : Seen). s.pieces) c.self.view_is) c.in-Inner.is c.self.invariant
     c.as_slice-in-Inner.ensures c.place_of-place.ensures c.requires.1.1.1.1.1.0 in
     let child = get_or kids.items i at in
     let q = g.C.Chunks.contents c.replace_child.new.chunks in
     let done = c.replace_child.ensures.done child x.1 in
     let n = inner_counts depth keys c.self.inside.body kids c.in-Inner.is c.self.invariant in
     on_ok c.replace_child.result done (λ s.
-    omega (arith, fresh-set kids.items i child (Own s.0) x.1, ap kids_fresh s.1, s.4, n.0, n.1, ap (λ (s : Seen). s.depth) c.self.view_is, ap (λ (s : Seen). s.fresh) c.self.view_is))
+    omega (
+      arith,
+      fresh-set kids.items i child (Own s.0) x.1,
+      ap kids_fresh s.1,
+      s.4,
+      n.0,
+      n.1,
+      ap (λ (s : Seen). s.depth) c.self.view_is,
+      ap (λ (s : Seen). s.fresh) c.self.view_is,
+    ))
 
 pub Node::replace-returns-in-Inner-clause-places : goal.Node::replace-returns-in-Inner-clause-places
 Node::replace-returns-in-Inner-clause-places g t c =
@@ -200,22 +258,34 @@ Node::replace-returns-in-Inner-clause-places g t c =
     let pieces = c.args.self.now.pieces in
     let i = c.place_of-place.result in
     let at : Child = Placed (record { bits = 0 }) in
-    let x = node_at p depth keys c.self.inside.body kids pieces c.as_slice-in-Inner.result.now c.args.key.now i at (ap (λ (s : Seen). s.pieces) c.self.view_is) c.in-Inner.is c.self.invariant
+    let x = node_at p depth keys c.self.inside.body kids pieces c.as_slice-in-Inner.result.now c.args.key.now i at
+    (ap (λ (s : Seen). s.pieces) c.self.view_is) c.in-Inner.is c.self.invariant
     c.as_slice-in-Inner.ensures c.place_of-place.ensures c.requires.1.1.1.1.1.0 in
     let child = get_or kids.items i at in
     let at_q = g.C.Chunks.places c.replace_child.new.chunks in
     let done = c.replace_child.ensures.done child x.1 in
-    let old = own-places depth keys c.self.inside.body kids pieces (ap (λ (s : Seen). s.pieces) c.self.view_is) c.in-Inner.is x.2.1.2 in
+    let old = own-places depth keys c.self.inside.body kids pieces
+    (ap (λ (s : Seen). s.pieces) c.self.view_is) c.in-Inner.is x.2.1.2 in
     both_ok c.replace_child.result done c.replace_child.ensures.places (λ s kept.
-    subst (AreKept at_q (places_of pieces)) (sym (places-kids (depth - 1) keys c.replace_child.new.kids.items (ap length s.1 ∙ length-set kids.items i (Own s.0) ∙ x.2.1.2)))
+    subst (AreKept at_q (places_of pieces))
+    (sym (places-kids (depth - 1) keys c.replace_child.new.kids.items
+    (ap length s.1 ∙ length-set kids.items i (Own s.0) ∙ x.2.1.2)))
     (subst (λ w. AreKept at_q w (kids_places c.replace_child.new.kids.items)) (sym old) kept))
 
 pub Node::replace-returns-in-Inner-clause-err : goal.Node::replace-returns-in-Inner-clause-err
 Node::replace-returns-in-Inner-clause-err g t c =
     let depth = c.self.inside.depth in
     let keys = c.self.inside.keys.texts in
-    let seen : Body → Seen = λ b. record { depth = depth; entries = length keys; pieces = body_pieces depth keys b; height = body_height b; fresh = body_fresh b } in
-    on_err c.replace_child.result c.replace_child.ensures.err (λ e. inner_same depth keys keys c.replace_child.new.kids.items c.in-Inner.kids.items refl e ∙ ap seen (sym c.in-Inner.is) ∙ c.self.view_is)
+    let seen : Body → Seen = λ b. record {
+      depth = depth;
+      entries = length keys;
+      pieces = body_pieces depth keys b;
+      height = body_height b;
+      fresh = body_fresh b;
+    } in
+    on_err c.replace_child.result c.replace_child.ensures.err
+    (λ e. inner_same depth keys keys c.replace_child.new.kids.items c.in-Inner.kids.items refl e ∙ ap seen
+    (sym c.in-Inner.is) ∙ c.self.view_is)
 
 pub replacing::replace_child-replaced_copy-requires : goal.replacing::replace_child-replaced_copy-requires
 replacing::replace_child-replaced_copy-requires g t c κs within =
@@ -223,35 +293,56 @@ replacing::replace_child-replaced_copy-requires g t c κs within =
     let kids = c.args.kids.now.items in
     let child = c.index_mut.result.now in
     let r = c.requires.1.1.1.1.1 in
-    let can = subst (CanReplace p c.args.below c.args.key.now) c.in-Placed.is (r.1 child (child_at kids c.args.place (length kids) child refl r.0 c.index_mut.ensures.value)) in
-    let may = g.C.Chunks.places c.args.chunks.now in
-    (omega (arith, c.requires.1.0), (within.0, (within.1, (placed_may may child c.in-Placed.at c.in-Placed.is (kid_all may kids c.args.place child r.0 c.index_mut.ensures.value c.requires.1.1.1.1.0), can))))
+    let can = subst (CanReplace p c.args.below c.args.key.now) c.in-Placed.is
+    (r.1 child (child_at kids c.args.place (length kids) child refl r.0 c.index_mut.ensures.value)) in
+    let may = g.C.Chunks.places c.args.chunks.now in (
+      omega (arith, c.requires.1.0),
+      (
+        within.0,
+        (
+          within.1,
+          (
+            placed_may may child c.in-Placed.at c.in-Placed.is
+                (kid_all may kids c.args.place child r.0 c.index_mut.ensures.value c.requires.1.1.1.1.0),
+            can,
+          ),
+        ),
+      ),
+    )
 
 pub replacing::replace_child-returns-in-Placed-clause-done : goal.replacing::replace_child-returns-in-Placed-clause-done
 replacing::replace_child-returns-in-Placed-clause-done g t c x h =
     let p = g.C.Chunks.contents c.args.chunks.now in
     let kids = c.args.kids.now.items in
     let n = c.in_ok-node-in-Placed.node in
-    let e : x ≡ Placed c.in-Placed.at = indexed_child kids c.args.place c.index_mut.result.now x c.requires.1.1.1.1.1.0 c.index_mut.ensures.value h ∙ c.in-Placed.is in (
+    let e : x ≡ Placed c.in-Placed.at = indexed_child kids c.args.place c.index_mut.result.now x c.requires.1.1.1.1.1.0
+    c.index_mut.ensures.value h ∙ c.in-Placed.is in (
       n,
       set-set kids c.args.place (Placed c.in-Placed.at) (Own n),
       c.in_ok-node-in-Placed.ensures.depth,
-      c.in_ok-node-in-Placed.ensures.done ∙ ap (λ y. Some (finite.put (slice_cmp nat_cmp) c.args.key.now c.args.value (rows_or (child_rows p c.args.below y)))) (sym e),
+      c.in_ok-node-in-Placed.ensures.done ∙ ap
+          (λ y. Some (finite.put (slice_cmp nat_cmp) c.args.key.now c.args.value
+          (rows_or (child_rows p c.args.below y)))) (sym e),
       omega (arith, c.in_ok-node-in-Placed.ensures.fresh),
     )
 
-pub replacing::replace_child-returns-in-Placed-clause-places : goal.replacing::replace_child-returns-in-Placed-clause-places
+pub replacing::replace_child-returns-in-Placed-clause-places :
+    goal.replacing::replace_child-returns-in-Placed-clause-places
 replacing::replace_child-returns-in-Placed-clause-places g t c =
     let kids = c.args.kids.now.items in
     let child = c.index_mut.result.now in
     let at_q = g.C.Chunks.places c.replaced_copy.new.chunks in
     let n = c.in_ok-node-in-Placed.node in
-    subst (λ ks. AreKept at_q (kids_places kids) (kids_places ks)) (sym (set-set kids c.args.place (Placed c.in-Placed.at) (Own n)))
-    (kept-child at_q kids c.args.place child n c.requires.1.1.1.1.1.0 c.index_mut.ensures.value (kept-from_none at_q (child_places child) (places_of n.value.pieces) c.in_ok-node-in-Placed.ensures.places))
+    subst (λ ks. AreKept at_q (kids_places kids) (kids_places ks))
+    (sym (set-set kids c.args.place (Placed c.in-Placed.at) (Own n)))
+    (kept-child at_q kids c.args.place child n c.requires.1.1.1.1.1.0 c.index_mut.ensures.value
+    (kept-from_none at_q (child_places child) (places_of n.value.pieces) c.in_ok-node-in-Placed.ensures.places))
 
-pub replacing::replaced_copy-copied_child-requires-clause-known : goal.replacing::replaced_copy-copied_child-requires-clause-known
+pub replacing::replaced_copy-copied_child-requires-clause-known :
+    goal.replacing::replaced_copy-copied_child-requires-clause-known
 replacing::replaced_copy-copied_child-requires-clause-known g t c =
-    let k = known (rows_at (g.C.Chunks.contents c.args.chunks.now) c.args.depth (stamp_of c.args.at)) c.requires.1.1.1.1.1.0 in
+    let k = known (rows_at (g.C.Chunks.contents c.args.chunks.now) c.args.depth (stamp_of c.args.at))
+    c.requires.1.1.1.1.1.0 in
     subst IsSome (sym k.is) refl
 
 pub replacing::replaced_copy-replace-requires : goal.replacing::replaced_copy-replace-requires
@@ -265,11 +356,16 @@ replacing::replaced_copy-replace-requires g t c κs within =
         (
           within.1,
           (
-            subst (λ (s : Seen). AreAll (g.C.Chunks.places c.copied_child.new.chunks) (places_of s.pieces)) (sym v) (new_may (g.C.Chunks.places c.copied_child.new.chunks) (places_of c.in_ok-node.node.value.pieces) c.in_ok-node.ensures.places),
+            subst (λ (s : Seen). AreAll (g.C.Chunks.places c.copied_child.new.chunks) (places_of s.pieces)) (sym v)
+                (new_may (g.C.Chunks.places c.copied_child.new.chunks)
+                (places_of c.in_ok-node.node.value.pieces) c.in_ok-node.ensures.places),
             (
-              subst (λ (s : Seen). IsTree (shown q s.pieces)) (sym v) (subst IsTree (sym c.in_ok-node.ensures.rows) can.0),
-              subst (λ (s : Seen). IsSome (finite.find (slice_cmp nat_cmp) c.args.key.now (rows_or (shown q s.pieces)))) (sym v)
-                  (subst (λ z. IsSome (finite.find (slice_cmp nat_cmp) c.args.key.now (rows_or z))) (sym c.in_ok-node.ensures.rows) can.2),
+              subst (λ (s : Seen). IsTree (shown q s.pieces)) (sym v)
+                  (subst IsTree (sym c.in_ok-node.ensures.rows) can.0),
+              subst (λ (s : Seen). IsSome (finite.find (slice_cmp nat_cmp) c.args.key.now
+                  (rows_or (shown q s.pieces)))) (sym v)
+                  (subst (λ z. IsSome (finite.find (slice_cmp nat_cmp) c.args.key.now (rows_or z)))
+                  (sym c.in_ok-node.ensures.rows) can.2),
             ),
           ),
         ),
@@ -277,18 +373,27 @@ replacing::replaced_copy-replace-requires g t c κs within =
     )
 
 pub replacing::replaced_copy-returns-clause-depth : goal.replacing::replaced_copy-returns-clause-depth
-replacing::replaced_copy-returns-clause-depth g t c = c.replace.ensures.depth ∙ ap (λ (s : Seen). s.depth) c.deref_mut.ensures.value ∙ c.in_ok-node.ensures.depth
+replacing::replaced_copy-returns-clause-depth g t c = c.replace.ensures.depth ∙ ap
+    (λ (s : Seen). s.depth) c.deref_mut.ensures.value ∙ c.in_ok-node.ensures.depth
 
 pub replacing::replaced_copy-returns-clause-done : goal.replacing::replaced_copy-returns-clause-done
 replacing::replaced_copy-returns-clause-done g t c =
     let q = g.C.Chunks.contents c.copied_child.new.chunks in
     c.in_ok-replace.ensures.done
-    ∙ ap (λ z. Some (finite.put (slice_cmp nat_cmp) c.args.key.now c.args.value (rows_or z))) (ap (λ (s : Seen). shown q s.pieces) c.deref_mut.ensures.value ∙ c.in_ok-node.ensures.rows)
+    ∙ ap (λ z. Some (finite.put (slice_cmp nat_cmp) c.args.key.now c.args.value (rows_or z)))
+    (ap (λ (s : Seen). shown q s.pieces) c.deref_mut.ensures.value ∙ c.in_ok-node.ensures.rows)
 
 pub replacing::replaced_copy-returns-clause-fresh : goal.replacing::replaced_copy-returns-clause-fresh
 replacing::replaced_copy-returns-clause-fresh g t c =
     let v = c.deref_mut.ensures.value in
-    omega (arith, c.in_ok-replace.ensures.fresh, ap (λ (s : Seen). s.depth) v, ap (λ (s : Seen). s.fresh) v, c.in_ok-node.ensures.fresh, c.in_ok-node.ensures.depth)
+    omega (
+      arith,
+      c.in_ok-replace.ensures.fresh,
+      ap (λ (s : Seen). s.depth) v,
+      ap (λ (s : Seen). s.fresh) v,
+      c.in_ok-node.ensures.fresh,
+      c.in_ok-node.ensures.depth,
+    )
 
 pub replacing::replaced_copy-returns-clause-places : goal.replacing::replaced_copy-returns-clause-places
 replacing::replaced_copy-returns-clause-places g t c =
@@ -297,4 +402,5 @@ replacing::replaced_copy-returns-clause-places g t c =
     let mid = places_of c.in_ok-node.node.value.pieces in
     let new = places_of c.replace.new.self.pieces in
     kept-trans at_q [] mid new (kept-grown at_p at_q [] mid c.replace.ensures.grown.1 c.in_ok-node.ensures.places)
-    (subst (λ (s : Seen). AreKept at_q (places_of s.pieces) new) c.deref_mut.ensures.value c.in_ok-replace.ensures.places)
+    (subst (λ (s : Seen). AreKept at_q (places_of s.pieces) new) c.deref_mut.ensures.value
+    c.in_ok-replace.ensures.places)

@@ -12,27 +12,39 @@ pub Node::narrowed-taken-requires : goal.Node::narrowed-taken-requires
 Node::narrowed-taken-requires t c =
     let keys = c.self.inside.keys.texts in
     let kids = c.in-Inner.kids.items in
-    let i : IsNode c.self.inside.depth keys (Inner c.in-Inner.kids) = subst (IsNode c.self.inside.depth keys) c.in-Inner.is c.self.invariant in
+    let i : IsNode c.self.inside.depth keys (Inner c.in-Inner.kids) = subst
+    (IsNode c.self.inside.depth keys) c.in-Inner.is c.self.invariant in
     let one : length kids ≡ 1 = omega (arith, c.len.ensures, c.if-len-ne1.false, c.in-Inner.kids.ok.0) in
-    let pieces : kids_pieces (c.self.inside.depth - 1) (paired keys kids) ≡ c.args.self.pieces = ap (body_pieces c.self.inside.depth keys) (sym c.in-Inner.is) ∙ ap (λ (s : Seen). s.pieces) c.self.view_is in
-    let high : body_height (Inner c.in-Inner.kids) ≡ c.args.self.height = ap body_height (sym c.in-Inner.is) ∙ ap (λ (s : Seen). s.height) c.self.view_is in
-    let h = kid_height kids 0 c.swap_remove.result (omega (arith, one)) c.swap_remove.ensures.value in
-    (omega (arith, h, high, c.decreases), end-one (c.self.inside.depth - 1) keys kids c.swap_remove.result i.1.2 one c.swap_remove.ensures.value ∙ ap end_of_pieces pieces ∙ c.requires)
+    let pieces : kids_pieces (c.self.inside.depth - 1) (paired keys kids)
+    ≡ c.args.self.pieces = ap (body_pieces c.self.inside.depth keys) (sym c.in-Inner.is) ∙ ap
+    (λ (s : Seen). s.pieces) c.self.view_is in
+    let high : body_height (Inner c.in-Inner.kids)
+    ≡ c.args.self.height = ap body_height (sym c.in-Inner.is) ∙ ap (λ (s : Seen). s.height) c.self.view_is in
+    let h = kid_height kids 0 c.swap_remove.result (omega (arith, one)) c.swap_remove.ensures.value in (
+      omega (arith, h, high, c.decreases),
+      end-one
+          (c.self.inside.depth - 1) keys kids c.swap_remove.result i.1.2 one c.swap_remove.ensures.value ∙ ap
+          end_of_pieces pieces ∙ c.requires,
+    )
 
 pub Node::narrowed-returns-in-Inner-clause-pieces : goal.Node::narrowed-returns-in-Inner-clause-pieces
 Node::narrowed-returns-in-Inner-clause-pieces t c =
     let keys = c.self.inside.keys.texts in
     let kids = c.in-Inner.kids.items in
-    let i : IsNode c.self.inside.depth keys (Inner c.in-Inner.kids) = subst (IsNode c.self.inside.depth keys) c.in-Inner.is c.self.invariant in
+    let i : IsNode c.self.inside.depth keys (Inner c.in-Inner.kids) = subst
+    (IsNode c.self.inside.depth keys) c.in-Inner.is c.self.invariant in
     let one : length kids ≡ 1 = omega (arith, c.len.ensures, c.if-len-ne1.false, c.in-Inner.kids.ok.0) in
-    taken-pieces (c.self.inside.depth - 1) keys kids c.swap_remove.result c.taken.result i.1.2 one c.swap_remove.ensures.value c.taken.ensures
+    taken-pieces (c.self.inside.depth - 1) keys kids c.swap_remove.result c.taken.result i.1.2 one
+    c.swap_remove.ensures.value c.taken.ensures
     ∙ ap (body_pieces c.self.inside.depth keys) (sym c.in-Inner.is) ∙ ap (λ (s : Seen). s.pieces) c.self.view_is
 
 pub Node::narrowed-returns-in-Inner-clause-depth : goal.Node::narrowed-returns-in-Inner-clause-depth
 Node::narrowed-returns-in-Inner-clause-depth t c =
     let keys = c.self.inside.keys.texts in
     let kids = c.in-Inner.kids.items in
-    let i : IsNode c.self.inside.depth keys (Inner c.in-Inner.kids) = subst (IsNode c.self.inside.depth keys) c.in-Inner.is c.self.invariant in
+    let i : IsNode c.self.inside.depth keys (Inner c.in-Inner.kids) = subst
+    (IsNode c.self.inside.depth keys) c.in-Inner.is c.self.invariant in
     let one : length kids ≡ 1 = omega (arith, c.len.ensures, c.if-len-ne1.false, c.in-Inner.kids.ok.0) in
-    let less = taken-below (c.self.inside.depth - 1) keys kids c.swap_remove.result c.taken.result i.1.2 one c.swap_remove.ensures.value i.1.3 c.taken.ensures in
+    let less = taken-below (c.self.inside.depth - 1) keys kids c.swap_remove.result c.taken.result i.1.2 one
+    c.swap_remove.ensures.value i.1.3 c.taken.ensures in
     omega (arith, less, ap (λ (s : Seen). s.depth) c.self.view_is)

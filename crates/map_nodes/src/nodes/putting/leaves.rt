@@ -1,5 +1,6 @@
 //! A new row in a leaf.
-ghost use Rattle.std.specs.Prelude.{◌≡◌, ◌<◌, ◌≤◌, ◌++◌, [], false, length, replicate, None, IfOk, IfErr, OnOk, OnErr, IsSome, vec_items, vec_len, vec_capacity};
+ghost use Rattle.std.specs.Prelude.{◌≡◌, ◌<◌, ◌≤◌, ◌++◌, [], false, length, replicate, None, IfOk, IfErr, OnOk, OnErr};
+ghost use Rattle.std.specs.Prelude.{IsSome, vec_items, vec_len, vec_capacity};
 ghost use Rattle.std.specs.Ordering.{nat_cmp};
 ghost use Rattle.std.specs.Cmp.Lexicographic.{slice_cmp};
 ghost use Rattle.std.specs.FinMap as finite;
@@ -62,9 +63,11 @@ pub(crate) fn put_leaf(
 ) -> Result<Option<Half>, Unput>
     requires keys { AreKeys keys.old.texts }
     requires pairs { length values.old.items ≡ length keys.old.texts }
-    ensures rows { IfOk result (λ half. row_pieces (paired keys.new.texts values.new.items) ++ half_pieces half ≡ row_pieces (finite.put (slice_cmp nat_cmp) key.now value.now (paired keys.old.texts values.old.items))) }
+    ensures rows { IfOk result (λ half. row_pieces (paired keys.new.texts values.new.items) ++ half_pieces half
+        ≡ row_pieces (finite.put (slice_cmp nat_cmp) key.now value.now (paired keys.old.texts values.old.items))) }
     ensures half { IfOk result (IsHalf copies 1) }
-    ensures leaf { OnOk result (AreKeys keys.new.texts × (length values.new.items ≡ length keys.new.texts) × (0 < length keys.new.texts)) }
+    ensures leaf { OnOk result (AreKeys keys.new.texts × (length values.new.items ≡ length keys.new.texts)
+        × (0 < length keys.new.texts)) }
     ensures fresh { IfOk result (λ half. half_fresh half ≤ 1) }
     ensures entries { IfOk result (HasKept (length keys.old.texts) (length keys.new.texts)) }
     ensures whole { may_split ≡ false → IfOk result (λ half. half ≡ None) }
@@ -89,9 +92,11 @@ fn put_row(
 ) -> Result<Option<Half>, AllocError>
     requires keys { AreKeys keys.old.texts }
     requires pairs { length values.old.items ≡ length keys.old.texts }
-    ensures rows { IfOk result (λ half. row_pieces (paired keys.new.texts values.new.items) ++ half_pieces half ≡ row_pieces (finite.put (slice_cmp nat_cmp) key.now value (paired keys.old.texts values.old.items))) }
+    ensures rows { IfOk result (λ half. row_pieces (paired keys.new.texts values.new.items) ++ half_pieces half
+        ≡ row_pieces (finite.put (slice_cmp nat_cmp) key.now value (paired keys.old.texts values.old.items))) }
     ensures half { IfOk result (IsHalf copies 1) }
-    ensures leaf { IfOk result (λ half. AreKeys keys.new.texts × (length values.new.items ≡ length keys.new.texts) × (0 < length keys.new.texts)) }
+    ensures leaf { IfOk result (λ half. AreKeys keys.new.texts × (length values.new.items ≡ length keys.new.texts)
+        × (0 < length keys.new.texts)) }
     ensures fresh { IfOk result (λ half. half_fresh half ≤ 1) }
     ensures entries { IfOk result (HasKept (length keys.old.texts) (length keys.new.texts)) }
     ensures err { OnErr result ((keys.new.texts ≡ keys.old.texts) × (values.new.items ≡ values.old.items)) }
@@ -118,9 +123,11 @@ fn insert_row(
     requires keys { AreKeys keys.old.texts }
     requires pairs { length values.old.items ≡ length keys.old.texts }
     requires absent { IsAbsent key.now keys.old.texts place }
-    ensures rows { IfOk result (λ half. row_pieces (paired keys.new.texts values.new.items) ++ half_pieces half ≡ row_pieces (finite.put (slice_cmp nat_cmp) key.now value (paired keys.old.texts values.old.items))) }
+    ensures rows { IfOk result (λ half. row_pieces (paired keys.new.texts values.new.items) ++ half_pieces half
+        ≡ row_pieces (finite.put (slice_cmp nat_cmp) key.now value (paired keys.old.texts values.old.items))) }
     ensures half { IfOk result (IsHalf copies 1) }
-    ensures leaf { IfOk result (λ half. AreKeys keys.new.texts × (length values.new.items ≡ length keys.new.texts) × (0 < length keys.new.texts)) }
+    ensures leaf { IfOk result (λ half. AreKeys keys.new.texts × (length values.new.items ≡ length keys.new.texts)
+        × (0 < length keys.new.texts)) }
     ensures fresh { IfOk result (λ half. half_fresh half ≤ 1) }
     ensures entries { IfOk result (HasKept (length keys.old.texts) (length keys.new.texts)) }
     ensures err { OnErr result ((keys.new.texts ≡ keys.old.texts) × (values.new.items ≡ values.old.items)) }
@@ -147,11 +154,14 @@ fn settle_row(
     requires room { (0 < keys.old.room) × (vec_len values.old < vec_capacity values.old) }
     requires firsts { AreNinth copies keys.old.texts place key room.firsts.items }
     requires empty { (room.spare.keys.items ≡ []) × (room.spare.entries.items ≡ []) }
-    requires spare { 16 ≤ length keys.old.texts → (17 ≤ vec_capacity room.spare.keys) × (17 ≤ vec_capacity room.spare.entries) }
+    requires spare { 16 ≤ length keys.old.texts
+        → (17 ≤ vec_capacity room.spare.keys) × (17 ≤ vec_capacity room.spare.entries) }
     requires home { 16 ≤ length keys.old.texts → IsSome room.home }
-    ensures rows { row_pieces (paired keys.new.texts values.new.items) ++ half_pieces result ≡ row_pieces (finite.put (slice_cmp nat_cmp) key value (paired keys.old.texts values.old.items)) }
+    ensures rows { row_pieces (paired keys.new.texts values.new.items) ++ half_pieces result
+        ≡ row_pieces (finite.put (slice_cmp nat_cmp) key value (paired keys.old.texts values.old.items)) }
     ensures half { IsHalf copies 1 result }
-    ensures leaf { AreKeys keys.new.texts × (length values.new.items ≡ length keys.new.texts) × (0 < length keys.new.texts) }
+    ensures leaf { AreKeys keys.new.texts × (length values.new.items ≡ length keys.new.texts)
+        × (0 < length keys.new.texts) }
     ensures fresh { half_fresh result ≤ 1 }
     ensures entries { HasKept (length keys.old.texts) (length keys.new.texts) result }
 {

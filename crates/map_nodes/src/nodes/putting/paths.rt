@@ -1,5 +1,7 @@
 //! A put on its way down.
-ghost use Rattle.std.specs.Prelude.{◌≡◌, ◌<◌, ◌≤◌, ◌+◌, ◌*◌, ◌^◌, ◌++◌, [], false, true, length, slice_get, slice_index_or, Some, None, IsSome, IfOk, IfErr, OnOk, OnErr, vec_items, vec_len, vec_capacity};
+ghost use Rattle.std.specs.Prelude.{◌≡◌, ◌<◌, ◌≤◌, ◌+◌, ◌*◌, ◌^◌, ◌++◌, [], false, true, length, slice_get};
+ghost use Rattle.std.specs.Prelude.{slice_index_or, Some, None, IsSome, IfOk, IfErr, OnOk, OnErr, vec_items, vec_len};
+ghost use Rattle.std.specs.Prelude.{vec_capacity};
 ghost use Rattle.std.specs.Ordering.{nat_cmp};
 ghost use Rattle.std.specs.Cmp.Lexicographic.{slice_cmp};
 ghost use Rattle.std.specs.FinMap as finite;
@@ -41,16 +43,23 @@ fn put_inner<C: Chunks>(
     copies: usize,
     may_split: bool,
 ) -> Result<Option<Half>, Unput>
-    requires places { AreAll (C.places chunks.old) (places_of (body_pieces depth keys.old.texts (body.Inner kids.old))) }
+    requires places { AreAll (C.places chunks.old)
+        (places_of (body_pieces depth keys.old.texts (body.Inner kids.old))) }
     requires node { IsNode depth keys.old.texts (body.Inner kids.old) }
     requires tree { IsTree (shown (C.contents chunks.old) (body_pieces depth keys.old.texts (body.Inner kids.old))) }
     requires copies { copies + depth < 2 ^ 64 }
     ensures grown { Grows C.contents C.places chunks.old chunks.new }
     ensures node { IsNode depth keys.new.texts (body.Inner kids.new) }
-    ensures done { IfOk result (λ half. shown (C.contents chunks.new) (body_pieces depth keys.new.texts (body.Inner kids.new) ++ half_pieces half) ≡ Some (finite.put (slice_cmp nat_cmp) key.now value.now (rows_or (shown (C.contents chunks.old) (body_pieces depth keys.old.texts (body.Inner kids.old)))))) }
+    ensures done { IfOk result (λ half. shown (C.contents chunks.new)
+        (body_pieces depth keys.new.texts (body.Inner kids.new) ++ half_pieces half)
+        ≡ Some (finite.put (slice_cmp nat_cmp) key.now value.now
+        (rows_or (shown (C.contents chunks.old) (body_pieces depth keys.old.texts (body.Inner kids.old)))))) }
     ensures half { IfOk result (IsHalf copies depth) }
-    ensures places { IfOk result (λ half. AreKept (C.places chunks.new) (places_of (body_pieces depth keys.old.texts (body.Inner kids.old))) (places_of (body_pieces depth keys.new.texts (body.Inner kids.new) ++ half_pieces half))) }
-    ensures fresh { IfOk result (λ half. body_fresh (body.Inner kids.new) + half_fresh half < body_fresh (body.Inner kids.old) + 2 * depth) }
+    ensures places { IfOk result (λ half. AreKept (C.places chunks.new)
+        (places_of (body_pieces depth keys.old.texts (body.Inner kids.old)))
+        (places_of (body_pieces depth keys.new.texts (body.Inner kids.new) ++ half_pieces half))) }
+    ensures fresh { IfOk result (λ half. body_fresh (body.Inner kids.new) + half_fresh half
+        < body_fresh (body.Inner kids.old) + 2 * depth) }
     ensures entries { IfOk result (HasKept (length keys.old.texts) (length keys.new.texts)) }
     ensures filled { OnOk result (0 < length (body_pieces depth keys.new.texts (body.Inner kids.new))) }
     ensures whole { may_split ≡ false → IfOk result (λ half. half ≡ None) }
@@ -92,11 +101,17 @@ fn put_child<C: Chunks>(
     requires within { place < length kids.old.items }
     requires place { IsPlace key.now keys.old.texts place }
     requires copies { copies + 1 + below < 2 ^ 64 }
-    requires tree { (c : Childs) → slice_get kids.old.items place ≡ Some c → IsTree (child_rows (C.contents chunks.old) below c) × HasDepth below c }
+    requires tree { (c : Childs) → slice_get kids.old.items place ≡ Some c
+        → IsTree (child_rows (C.contents chunks.old) below c) × HasDepth below c }
     ensures grown { Grows C.contents C.places chunks.old chunks.new }
-    ensures done { (c : Childs) → slice_get kids.old.items place ≡ Some c → IfOk result (λ r. ChildPut (C.contents chunks.new) (copies + 1) below place kids.old.items kids.new.items r.1 (Some (finite.put (slice_cmp nat_cmp) key.now value.now (rows_or (child_rows (C.contents chunks.old) below c))))) }
-    ensures fresh { IfOk result (λ r. kids_fresh kids.new.items + half_fresh r.1 ≤ kids_fresh kids.old.items + 2 * below) }
-    ensures places { IfOk result (λ r. AreKept (C.places chunks.new) (kids_places kids.old.items) (kids_places kids.new.items ++ places_of (half_pieces r.1))) }
+    ensures done { (c : Childs) → slice_get kids.old.items place ≡ Some c
+        → IfOk result (λ r. ChildPut (C.contents chunks.new) (copies + 1) below place kids.old.items kids.new.items r.1
+        (Some (finite.put (slice_cmp nat_cmp) key.now value.now
+        (rows_or (child_rows (C.contents chunks.old) below c))))) }
+    ensures fresh { IfOk result (λ r. kids_fresh kids.new.items + half_fresh r.1
+        ≤ kids_fresh kids.old.items + 2 * below) }
+    ensures places { IfOk result (λ r. AreKept (C.places chunks.new) (kids_places kids.old.items)
+        (kids_places kids.new.items ++ places_of (half_pieces r.1))) }
     ensures kept { vec_capacity kids.new ≡ vec_capacity kids.old }
     ensures texts { keys.new.texts ≡ keys.old.texts }
     ensures lowers { IfOk result (λ r. IsSome r.0.lower → 0 < keys.new.room) }
@@ -141,15 +156,19 @@ impl Node {
         requires copies { copies + 1 + self.old.depth < 2 ^ 64 }
         ensures grown { Grows C.contents C.places chunks.old chunks.new }
         ensures depth { self.new.depth ≡ self.old.depth }
-        ensures done { IfOk result (λ r. shown (C.contents chunks.new) (self.new.pieces ++ half_pieces r.1) ≡ Some (finite.put (slice_cmp nat_cmp) key.now value.now (rows_or (shown (C.contents chunks.old) self.old.pieces)))) }
+        ensures done { IfOk result (λ r. shown (C.contents chunks.new) (self.new.pieces ++ half_pieces r.1)
+            ≡ Some (finite.put (slice_cmp nat_cmp) key.now value.now
+            (rows_or (shown (C.contents chunks.old) self.old.pieces)))) }
         ensures half { IfOk result (λ r. IsHalf (copies + 1) self.old.depth r.1) }
-        ensures places { IfOk result (λ r. AreKept (C.places chunks.new) (places_of self.old.pieces) (places_of (self.new.pieces ++ half_pieces r.1))) }
+        ensures places { IfOk result (λ r. AreKept (C.places chunks.new) (places_of self.old.pieces)
+            (places_of (self.new.pieces ++ half_pieces r.1))) }
         ensures fresh { IfOk result (λ r. self.new.fresh + half_fresh r.1 < self.old.fresh + 2 * self.old.depth) }
         ensures filled { OnOk result (0 < length self.new.pieces) }
         ensures texts { keys.new.texts ≡ keys.old.texts }
         ensures lowers { IfOk result (λ r. IsSome r.0.lower → 0 < keys.new.room) }
         ensures lower { IfOk result (λ r. IsLower key.now (slice_index_or keys.old.texts place []) r.0.lower) }
-        ensures ready { IfOk result (λ r. IsSome r.1 → IsReady copies keys.old.texts keys.new.room place key.now r.0.room) }
+        ensures ready { IfOk result (λ r. IsSome r.1
+            → IsReady copies keys.old.texts keys.new.room place key.now r.0.room) }
         ensures spare { IfOk result (λ r. (r.0.room.spare.keys.items ≡ []) × (r.0.room.spare.entries.items ≡ [])) }
         ensures whole { may_split ≡ false → 16 ≤ length keys.old.texts → IfOk result (λ r. r.1 ≡ None) }
         ensures err { OnErr result (self.new ≡ self.old) }
@@ -186,9 +205,12 @@ impl Node {
         requires copies { copies + 1 + self.old.depth < 2 ^ 64 }
         ensures grown { Grows C.contents C.places chunks.old chunks.new }
         ensures depth { self.new.depth ≡ self.old.depth }
-        ensures done { IfOk result (λ r. shown (C.contents chunks.new) (self.new.pieces ++ half_pieces r.1) ≡ Some (finite.put (slice_cmp nat_cmp) key.now value.now (rows_or (shown (C.contents chunks.old) self.old.pieces)))) }
+        ensures done { IfOk result (λ r. shown (C.contents chunks.new) (self.new.pieces ++ half_pieces r.1)
+            ≡ Some (finite.put (slice_cmp nat_cmp) key.now value.now
+            (rows_or (shown (C.contents chunks.old) self.old.pieces)))) }
         ensures half { IfOk result (λ r. IsHalf (copies + 1) self.old.depth r.1) }
-        ensures places { IfOk result (λ r. AreKept (C.places chunks.new) (places_of self.old.pieces) (places_of (self.new.pieces ++ half_pieces r.1))) }
+        ensures places { IfOk result (λ r. AreKept (C.places chunks.new) (places_of self.old.pieces)
+            (places_of (self.new.pieces ++ half_pieces r.1))) }
         ensures fresh { IfOk result (λ r. self.new.fresh + half_fresh r.1 < self.old.fresh + 2 * self.old.depth) }
         ensures filled { OnOk result (0 < length self.new.pieces) }
         ensures texts { keys.new.texts ≡ keys.old.texts }
@@ -220,9 +242,12 @@ impl Node {
         requires copies { copies + self.old.depth < 2 ^ 64 }
         ensures grown { Grows C.contents C.places chunks.old chunks.new }
         ensures depth { self.new.depth ≡ self.old.depth }
-        ensures done { IfOk result (λ half. shown (C.contents chunks.new) (self.new.pieces ++ half_pieces half) ≡ Some (finite.put (slice_cmp nat_cmp) key.now value.now (rows_or (shown (C.contents chunks.old) self.old.pieces)))) }
+        ensures done { IfOk result (λ half. shown (C.contents chunks.new) (self.new.pieces ++ half_pieces half)
+            ≡ Some (finite.put (slice_cmp nat_cmp) key.now value.now
+            (rows_or (shown (C.contents chunks.old) self.old.pieces)))) }
         ensures half { IfOk result (IsHalf copies self.old.depth) }
-        ensures places { IfOk result (λ half. AreKept (C.places chunks.new) (places_of self.old.pieces) (places_of (self.new.pieces ++ half_pieces half))) }
+        ensures places { IfOk result (λ half. AreKept (C.places chunks.new) (places_of self.old.pieces)
+            (places_of (self.new.pieces ++ half_pieces half))) }
         ensures fresh { IfOk result (λ half. self.new.fresh + half_fresh half < self.old.fresh + 2 * self.old.depth) }
         ensures entries { IfOk result (HasKept self.old.entries self.new.entries) }
         ensures filled { OnOk result (0 < length self.new.pieces) }

@@ -1,5 +1,6 @@
 //! A put in a whole map: where its root is split, a new root stands above both halves.
-ghost use Rattle.std.specs.Prelude.{◌≡◌, ◌⊎◌, ◌<◌, ◌≤◌, ◌+◌, ◌*◌, ◌^◌, ◌++◌, [], length, Some, IsSome, IfOk, IfErr, OnOk, OnErr, T, vec_items, vec_len, vec_capacity};
+ghost use Rattle.std.specs.Prelude.{◌≡◌, ◌⊎◌, ◌<◌, ◌≤◌, ◌+◌, ◌*◌, ◌^◌, ◌++◌, [], length, Some, IsSome, IfOk, IfErr};
+ghost use Rattle.std.specs.Prelude.{OnOk, OnErr, T, vec_items, vec_len, vec_capacity};
 ghost use Rattle.std.specs.Ordering.{nat_cmp};
 ghost use Rattle.std.specs.Cmp.Lexicographic.{slice_cmp};
 ghost use Rattle.std.specs.FinMap as finite;
@@ -47,7 +48,8 @@ struct Above {
 fn take_above(alloc: Global, keys: &[Text], key: &Text) -> Result<Above, AllocError>
     ensures first { IfOk result (λ a. 16 ≤ length keys.now → a.first ≡ Some (least key.now keys.now)) }
     ensures empty { IfOk result (λ a. (a.spare.keys.items ≡ []) × (a.spare.entries.items ≡ [])) }
-    ensures spare { IfOk result (λ a. 16 ≤ length keys.now → (17 ≤ vec_capacity a.spare.keys) × (17 ≤ vec_capacity a.spare.entries)) }
+    ensures spare { IfOk result (λ a. 16 ≤ length keys.now
+        → (17 ≤ vec_capacity a.spare.keys) × (17 ≤ vec_capacity a.spare.entries)) }
     ensures home { IfOk result (λ a. 16 ≤ length keys.now → IsSome a.home) }
 {
     let first = least_key(keys, key)?;
@@ -102,9 +104,12 @@ impl Node {
         requires places { AreAll (C.places chunks.old) (places_of self.old.pieces) }
         requires tree { IsTree (shown (C.contents chunks.old) self.old.pieces) }
         ensures grown { Grows C.contents C.places chunks.old chunks.new }
-        ensures done { OnOk result (shown (C.contents chunks.new) self.new.pieces ≡ Some (finite.put (slice_cmp nat_cmp) key.now value.now (rows_or (shown (C.contents chunks.old) self.old.pieces)))) }
+        ensures done { OnOk result (shown (C.contents chunks.new) self.new.pieces
+            ≡ Some (finite.put (slice_cmp nat_cmp) key.now value.now
+            (rows_or (shown (C.contents chunks.old) self.old.pieces)))) }
         ensures few { OnOk result (self.new.fresh ≤ self.old.fresh + 2 * self.old.depth) }
-        ensures places { OnOk result (AreKept (C.places chunks.new) (places_of self.old.pieces) (places_of self.new.pieces)) }
+        ensures places { OnOk result (AreKept (C.places chunks.new) (places_of self.old.pieces)
+            (places_of self.new.pieces)) }
         ensures deep { OnOk result ((self.old.depth ≤ self.new.depth) × (self.new.depth ≤ self.old.depth + 1)) }
         ensures wide { IsWideChunk self.old → OnOk result (IsWideChunk self.new) }
         ensures err { OnErr result (self.new ≡ self.old) }
@@ -133,9 +138,12 @@ impl Node {
         requires tree { IsTree (shown (C.contents chunks.old) self.old.pieces) }
         requires depth { self.old.depth + 1 < 2 ^ 64 }
         ensures grown { Grows C.contents C.places chunks.old chunks.new }
-        ensures done { OnOk result (shown (C.contents chunks.new) self.new.pieces ≡ Some (finite.put (slice_cmp nat_cmp) key.now value.now (rows_or (shown (C.contents chunks.old) self.old.pieces)))) }
+        ensures done { OnOk result (shown (C.contents chunks.new) self.new.pieces
+            ≡ Some (finite.put (slice_cmp nat_cmp) key.now value.now
+            (rows_or (shown (C.contents chunks.old) self.old.pieces)))) }
         ensures few { OnOk result (self.new.fresh ≤ self.old.fresh + 2 * self.old.depth) }
-        ensures places { OnOk result (AreKept (C.places chunks.new) (places_of self.old.pieces) (places_of self.new.pieces)) }
+        ensures places { OnOk result (AreKept (C.places chunks.new) (places_of self.old.pieces)
+            (places_of self.new.pieces)) }
         ensures deep { OnOk result ((self.old.depth ≤ self.new.depth) × (self.new.depth ≤ self.old.depth + 1)) }
         ensures wide { IsWideChunk self.old → OnOk result (IsWideChunk self.new) }
         ensures err { OnErr result (self.new ≡ self.old) }
@@ -163,9 +171,12 @@ impl Node {
         requires depth { self.old.depth + 1 < 2 ^ 64 }
         ensures grown { Grows C.contents C.places chunks.old chunks.new }
         ensures depth { self.new.depth ≡ self.old.depth }
-        ensures done { IfOk result (λ half. shown (C.contents chunks.new) (self.new.pieces ++ half_pieces half) ≡ Some (finite.put (slice_cmp nat_cmp) key.now value.now (rows_or (shown (C.contents chunks.old) self.old.pieces)))) }
+        ensures done { IfOk result (λ half. shown (C.contents chunks.new) (self.new.pieces ++ half_pieces half)
+            ≡ Some (finite.put (slice_cmp nat_cmp) key.now value.now
+            (rows_or (shown (C.contents chunks.old) self.old.pieces)))) }
         ensures half { IfOk result (IsHalf 1 self.old.depth) }
-        ensures places { IfOk result (λ half. AreKept (C.places chunks.new) (places_of self.old.pieces) (places_of (self.new.pieces ++ half_pieces half))) }
+        ensures places { IfOk result (λ half. AreKept (C.places chunks.new) (places_of self.old.pieces)
+            (places_of (self.new.pieces ++ half_pieces half))) }
         ensures fresh { IfOk result (λ half. self.new.fresh + half_fresh half < self.old.fresh + 2 * self.old.depth) }
         ensures entries { IfOk result (HasKept self.old.entries self.new.entries) }
         ensures filled { OnOk result (0 < length self.new.pieces) }

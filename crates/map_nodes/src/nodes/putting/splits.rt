@@ -27,7 +27,8 @@ pub(crate) fn take_half_room<T: Drop>(
 ) -> Result<HalfRoom<T>, AllocError>
     ensures firsts { IfOk result (λ r. AreNinth copies keys.now place key.now r.firsts.items) }
     ensures empty { IfOk result (λ r. (r.spare.keys.items ≡ []) × (r.spare.entries.items ≡ [])) }
-    ensures spare { IfOk result (λ r. 16 ≤ length keys.now → (17 ≤ vec_capacity r.spare.keys) × (17 ≤ vec_capacity r.spare.entries)) }
+    ensures spare { IfOk result (λ r. 16 ≤ length keys.now
+        → (17 ≤ vec_capacity r.spare.keys) × (17 ≤ vec_capacity r.spare.entries)) }
     ensures home { IfOk result (λ r. 16 ≤ length keys.now → IsSome r.home) }
 {
     let firsts = ninth_copies(alloc, keys, place, key, copies)?;

@@ -1,5 +1,6 @@
 //! A removal on its way down.
-ghost use Rattle.std.specs.Prelude.{◌≡◌, ◌⊎◌, ◌<◌, ◌≤◌, ◌+◌, [], length, slice_get, slice_index_or, Some, IsSome, IfOk, IfErr, OnOk, OnErr, vec_items};
+ghost use Rattle.std.specs.Prelude.{◌≡◌, ◌⊎◌, ◌<◌, ◌≤◌, ◌+◌, [], length, slice_get, slice_index_or, Some, IsSome, IfOk};
+ghost use Rattle.std.specs.Prelude.{IfErr, OnOk, OnErr, vec_items};
 ghost use Rattle.group_history.specs.Rows.{AreKeys, paired};
 ghost use Rattle.group_history.specs.declared.mutators.Stop.TheVariants.{NoMemory};
 ghost use Rattle.map_nodes.specs.Inside.Halves.{lowered};
@@ -34,7 +35,8 @@ pub(super) fn remove_row(
 ) -> Result<(), AllocError>
     requires keys { AreKeys keys.old.texts }
     requires pairs { length values.old.items ≡ length keys.old.texts }
-    ensures rows { OnOk result (paired keys.new.texts values.new.items ≡ without key.now (paired keys.old.texts values.old.items)) }
+    ensures rows { OnOk result (paired keys.new.texts values.new.items
+        ≡ without key.now (paired keys.old.texts values.old.items)) }
     ensures keys { AreKeys keys.new.texts }
     ensures pairs { length values.new.items ≡ length keys.new.texts }
     ensures err { OnErr result ((keys.new.texts ≡ keys.old.texts) × (values.new.items ≡ values.old.items)) }
@@ -78,10 +80,14 @@ fn remove_child<C: Chunks>(
 ) -> Result<(), Stop>
     requires places { AreAll (C.places chunks.old) (kids_places kids.old.items) }
     requires within { place < length kids.old.items }
-    requires tree { (c : Childs) → slice_get kids.old.items place ≡ Some c → CanRemove (C.contents chunks.old) below key.now c }
+    requires tree { (c : Childs) → slice_get kids.old.items place ≡ Some c
+        → CanRemove (C.contents chunks.old) below key.now c }
     ensures grown { Grows C.contents C.places chunks.old chunks.new }
-    ensures done { (c : Childs) → slice_get kids.old.items place ≡ Some c → OnOk result (ChildChanged (C.contents chunks.new) below place kids.old.items kids.new.items c (Some (without key.now (rows_or (child_rows (C.contents chunks.old) below c))))) }
-    ensures places { OnOk result (AreKept (C.places chunks.new) (kids_places kids.old.items) (kids_places kids.new.items)) }
+    ensures done { (c : Childs) → slice_get kids.old.items place ≡ Some c
+        → OnOk result (ChildChanged (C.contents chunks.new) below place kids.old.items kids.new.items c
+        (Some (without key.now (rows_or (child_rows (C.contents chunks.old) below c))))) }
+    ensures places { OnOk result (AreKept (C.places chunks.new) (kids_places kids.old.items)
+        (kids_places kids.new.items)) }
     ensures err { OnErr result (kids.new.items ≡ kids.old.items) }
     ensures stopped { IfErr result (λ s. (s ≡ NoMemory) ⊎ C.stops s) }
 {
@@ -112,13 +118,17 @@ pub(super) fn remove_at<C: Chunks>(
     requires node { IsNode depth keys.old.texts (body.Inner kids.old) }
     requires tree { IsTree (shown (C.contents chunks.old) (body_pieces depth keys.old.texts (body.Inner kids.old))) }
     requires place { IsPlace key.now keys.old.texts place }
-    requires fate { (c : Childs) → slice_get kids.old.items place ≡ Some c → IsFate key.now (slice_index_or keys.old.texts place []) (rows_or (kid_shown (C.contents chunks.old) c)) fate }
+    requires fate { (c : Childs) → slice_get kids.old.items place ≡ Some c
+        → IsFate key.now (slice_index_or keys.old.texts place []) (rows_or (kid_shown (C.contents chunks.old) c)) fate }
     requires others { HasOthers fate (length keys.old.texts) }
     ensures grown { Grows C.contents C.places chunks.old chunks.new }
     ensures node { IsNode depth keys.new.texts (body.Inner kids.new) }
-    ensures done { OnOk result (shown (C.contents chunks.new) (body_pieces depth keys.new.texts (body.Inner kids.new)) ≡ Some (without key.now (rows_or (shown (C.contents chunks.old) (body_pieces depth keys.old.texts (body.Inner kids.old)))))) }
+    ensures done { OnOk result (shown (C.contents chunks.new) (body_pieces depth keys.new.texts (body.Inner kids.new))
+        ≡ Some (without key.now (rows_or (shown (C.contents chunks.old)
+        (body_pieces depth keys.old.texts (body.Inner kids.old)))))) }
     ensures few { OnOk result (body_fresh (body.Inner kids.new) + 1 ≤ body_fresh (body.Inner kids.old) + depth) }
-    ensures places { OnOk result (AreKept (C.places chunks.new) (kids_places kids.old.items) (kids_places kids.new.items)) }
+    ensures places { OnOk result (AreKept (C.places chunks.new) (kids_places kids.old.items)
+        (kids_places kids.new.items)) }
     ensures left { OnOk result (AreLeft fate (length keys.old.texts) (length keys.new.texts)) }
     ensures err { OnErr result ((keys.new.texts ≡ keys.old.texts) × (kids.new.items ≡ kids.old.items)) }
     ensures stopped { IfErr result (λ s. (s ≡ NoMemory) ⊎ C.stops s) }
@@ -146,8 +156,10 @@ impl Node {
         requires more { 0 < length (without key.now (rows_or (shown (C.contents chunks.old) self.old.pieces))) }
         ensures grown { Grows C.contents C.places chunks.old chunks.new }
         ensures depth { self.new.depth ≡ self.old.depth }
-        ensures done { OnOk result (shown (C.contents chunks.new) self.new.pieces ≡ Some (without key.now (rows_or (shown (C.contents chunks.old) self.old.pieces)))) }
-        ensures places { OnOk result (AreKept (C.places chunks.new) (places_of self.old.pieces) (places_of self.new.pieces)) }
+        ensures done { OnOk result (shown (C.contents chunks.new) self.new.pieces
+            ≡ Some (without key.now (rows_or (shown (C.contents chunks.old) self.old.pieces)))) }
+        ensures places { OnOk result (AreKept (C.places chunks.new) (places_of self.old.pieces)
+            (places_of self.new.pieces)) }
         ensures few { OnOk result (self.new.fresh + 1 ≤ self.old.fresh + self.old.depth) }
         ensures err { OnErr result (self.new ≡ self.old) }
         ensures stopped { IfErr result (λ s. (s ≡ NoMemory) ⊎ C.stops s) }

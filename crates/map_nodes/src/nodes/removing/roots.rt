@@ -1,5 +1,6 @@
 //! A removal in a whole map: a root with fewer than two children gives way to what its last child ends in.
-ghost use Rattle.std.specs.Prelude.{◌≡◌, ◌⊎◌, ◌<◌, ◌≤◌, ◌+◌, ℕ, [], length, slice_get, slice_index_or, None, Some, IsSome, IfOk, IfErr, OnOk, OnErr, vec_items};
+ghost use Rattle.std.specs.Prelude.{◌≡◌, ◌⊎◌, ◌<◌, ◌≤◌, ◌+◌, ℕ, [], length, slice_get, slice_index_or, None, Some};
+ghost use Rattle.std.specs.Prelude.{IsSome, IfOk, IfErr, OnOk, OnErr, vec_items};
 ghost use Rattle.std.specs.List.{remove};
 ghost use Rattle.group_history.specs.declared.mutators.Stop.TheVariants.{NoMemory};
 ghost use Rattle.map_nodes.specs.Inside.Ends as ends;
@@ -14,7 +15,9 @@ ghost use Rattle.map_nodes.specs.declared.nodes.removing.Heir.TheVariants as hei
 ghost use Rattle.group_history.specs.declared.refs.Ref.{Ref as Reference};
 ghost use Rattle.map_nodes.specs.Inside.Removing as removals;
 ghost use Rattle.map_nodes.specs.Removing.{root_left, without, root_rows, IsWideRoot, IsLowRoot};
-ghost use Rattle.map_nodes.specs.Inside.Removing.{end_places, heir_places, left_fresh, left_places, left_rows, one_shown, IsFate, IsHeir, KeptBy, IsWideLeft, IsFirstAt, IsLowHeir, IfLowHeir};
+ghost use Rattle.map_nodes.specs.Inside.Removing.{end_places, heir_places, left_fresh, left_places, left_rows};
+ghost use Rattle.map_nodes.specs.Inside.Removing.{one_shown, IsFate, IsHeir, KeptBy, IsWideLeft, IsFirstAt, IsLowHeir};
+ghost use Rattle.map_nodes.specs.Inside.Removing.{IfLowHeir};
 ghost use Rattle.map_nodes.specs.Inside.Halves.{HasDepth};
 ghost use Rattle.map_nodes.specs.Inside.Scanning.{kid_shown};
 ghost use Rattle.map_chunks.specs.Search.{IsPlace};
@@ -114,7 +117,8 @@ fn kid_end<C: Chunks>(kid: &Child, chunks: &mut C) -> Result<Option<Ref>, Stop>
     ensures grown { Grows C.contents C.places chunks.old chunks.new }
     ensures places { IfOk result (λ end. AreKept (C.places chunks.new) (child_places kid.now) (end_places end)) }
     ensures end { IfOk result (IsKidEnd (C.contents chunks.new) (kid_shown (C.contents chunks.old) kid.now) kid.now) }
-    ensures depth { (below : ℕ) → HasDepth below kid.now → IsSome (child_rows (C.contents chunks.old) below kid.now) → IfOk result (IfNoDeeper (C.contents chunks.new) below) }
+    ensures depth { (below : ℕ) → HasDepth below kid.now → IsSome (child_rows (C.contents chunks.old) below kid.now)
+        → IfOk result (IfNoDeeper (C.contents chunks.new) below) }
     ensures stopped { IfErr result (λ s. (s ≡ NoMemory) ⊎ C.stops s) }
 {
     match end_of(kid) {
@@ -149,8 +153,10 @@ fn heir<C: Chunks>(
     requires tree { IsSome (one_shown (C.contents chunks.old) (remove kids.old.items place)) }
     ensures grown { Grows C.contents C.places chunks.old chunks.new }
     ensures heir { IfOk result (IsHeir (C.contents chunks.old) (C.contents chunks.new) (remove kids.old.items place)) }
-    ensures deep { (below : ℕ) → IsFirstAt (C.contents chunks.old) below (remove kids.old.items place) → IfOk result (IsLowHeir (C.contents chunks.new) (below + 1)) }
-    ensures places { IfOk result (λ heir. AreKept (C.places chunks.new) (kids_places kids.old.items) (heir_places heir)) }
+    ensures deep { (below : ℕ) → IsFirstAt (C.contents chunks.old) below (remove kids.old.items place)
+        → IfOk result (IsLowHeir (C.contents chunks.new) (below + 1)) }
+    ensures places { IfOk result (λ heir. AreKept (C.places chunks.new) (kids_places kids.old.items)
+        (heir_places heir)) }
     ensures kept { IfOk result (KeptBy kids.old.items kids.new.items) }
     ensures err { OnErr result (kids.new.items ≡ kids.old.items) }
     ensures stopped { IfErr result (λ s. (s ≡ NoMemory) ⊎ C.stops s) }
@@ -180,12 +186,16 @@ fn remove_inner<C: Chunks>(
     requires tree { IsTree (shown (C.contents chunks.old) (body_pieces depth keys.old.texts (body.Inner kids.old))) }
     ensures grown { Grows C.contents C.places chunks.old chunks.new }
     ensures node { IfOk result (λ heir. heir ≡ None → IsNode depth keys.new.texts (body.Inner kids.new)) }
-    ensures done { IfOk result (λ heir. left_rows (C.contents chunks.new) depth keys.new.texts kids.new.items heir ≡ Some (without key.now (rows_or (shown (C.contents chunks.old) (body_pieces depth keys.old.texts (body.Inner kids.old)))))) }
+    ensures done { IfOk result (λ heir. left_rows (C.contents chunks.new) depth keys.new.texts kids.new.items heir
+        ≡ Some (without key.now (rows_or (shown (C.contents chunks.old)
+        (body_pieces depth keys.old.texts (body.Inner kids.old)))))) }
     ensures few { IfOk result (λ heir. left_fresh kids.new.items heir ≤ kids_fresh kids.old.items + depth) }
     ensures deep { IfOk result (IfLowHeir (C.contents chunks.new) depth) }
     ensures wide { IfOk result (IsWideLeft (C.contents chunks.new) (length keys.old.texts) (length keys.new.texts)) }
-    ensures places { IfOk result (λ heir. AreKept (C.places chunks.new) (kids_places kids.old.items) (left_places kids.new.items heir)) }
-    ensures kept { IfOk result (λ heir. (at : Reference) → heir ≡ Some (heirs.Placed at) → (keys.new.texts ≡ keys.old.texts) × (kids.new.items ≡ kids.old.items)) }
+    ensures places { IfOk result (λ heir. AreKept (C.places chunks.new) (kids_places kids.old.items)
+        (left_places kids.new.items heir)) }
+    ensures kept { IfOk result (λ heir. (at : Reference) → heir ≡ Some (heirs.Placed at)
+        → (keys.new.texts ≡ keys.old.texts) × (kids.new.items ≡ kids.old.items)) }
     ensures err { OnErr result ((keys.new.texts ≡ keys.old.texts) × (kids.new.items ≡ kids.old.items)) }
     ensures stopped { IfErr result (λ s. (s ≡ NoMemory) ⊎ C.stops s) }
 {
@@ -210,15 +220,20 @@ fn remove_fated<C: Chunks>(
     requires node { IsNode depth keys.old.texts (body.Inner kids.old) }
     requires tree { IsTree (shown (C.contents chunks.old) (body_pieces depth keys.old.texts (body.Inner kids.old))) }
     requires place { IsPlace key.now keys.old.texts place }
-    requires fate { (c : Childs) → slice_get kids.old.items place ≡ Some c → IsFate key.now (slice_index_or keys.old.texts place []) (rows_or (kid_shown (C.contents chunks.old) c)) fate }
+    requires fate { (c : Childs) → slice_get kids.old.items place ≡ Some c
+        → IsFate key.now (slice_index_or keys.old.texts place []) (rows_or (kid_shown (C.contents chunks.old) c)) fate }
     ensures grown { Grows C.contents C.places chunks.old chunks.new }
     ensures node { IfOk result (λ heir. heir ≡ None → IsNode depth keys.new.texts (body.Inner kids.new)) }
-    ensures done { IfOk result (λ heir. left_rows (C.contents chunks.new) depth keys.new.texts kids.new.items heir ≡ Some (without key.now (rows_or (shown (C.contents chunks.old) (body_pieces depth keys.old.texts (body.Inner kids.old)))))) }
+    ensures done { IfOk result (λ heir. left_rows (C.contents chunks.new) depth keys.new.texts kids.new.items heir
+        ≡ Some (without key.now (rows_or (shown (C.contents chunks.old)
+        (body_pieces depth keys.old.texts (body.Inner kids.old)))))) }
     ensures few { IfOk result (λ heir. left_fresh kids.new.items heir ≤ kids_fresh kids.old.items + depth) }
     ensures deep { IfOk result (IfLowHeir (C.contents chunks.new) depth) }
     ensures wide { IfOk result (IsWideLeft (C.contents chunks.new) (length keys.old.texts) (length keys.new.texts)) }
-    ensures places { IfOk result (λ heir. AreKept (C.places chunks.new) (kids_places kids.old.items) (left_places kids.new.items heir)) }
-    ensures kept { IfOk result (λ heir. (at : Reference) → heir ≡ Some (heirs.Placed at) → (keys.new.texts ≡ keys.old.texts) × (kids.new.items ≡ kids.old.items)) }
+    ensures places { IfOk result (λ heir. AreKept (C.places chunks.new) (kids_places kids.old.items)
+        (left_places kids.new.items heir)) }
+    ensures kept { IfOk result (λ heir. (at : Reference) → heir ≡ Some (heirs.Placed at)
+        → (keys.new.texts ≡ keys.old.texts) × (kids.new.items ≡ kids.old.items)) }
     ensures err { OnErr result ((keys.new.texts ≡ keys.old.texts) × (kids.new.items ≡ kids.old.items)) }
     ensures stopped { IfErr result (λ s. (s ≡ NoMemory) ⊎ C.stops s) }
 {
@@ -243,8 +258,10 @@ impl Node {
         requires places { AreAll (C.places chunks.old) (places_of self.old.pieces) }
         requires tree { IsTree (shown (C.contents chunks.old) self.old.pieces) }
         ensures grown { Grows C.contents C.places chunks.old chunks.new }
-        ensures done { IfOk result (λ root. root_rows (C.contents chunks.new) self.new root ≡ Some (without key.now (rows_or (shown (C.contents chunks.old) self.old.pieces)))) }
-        ensures places { IfOk result (λ root. AreKept (C.places chunks.new) (places_of self.old.pieces) (root_left self.new root)) }
+        ensures done { IfOk result (λ root. root_rows (C.contents chunks.new) self.new root
+            ≡ Some (without key.now (rows_or (shown (C.contents chunks.old) self.old.pieces)))) }
+        ensures places { IfOk result (λ root. AreKept (C.places chunks.new) (places_of self.old.pieces)
+            (root_left self.new root)) }
         ensures few { OnOk result (self.new.fresh + 1 ≤ self.old.fresh + self.old.depth) }
         ensures deep { IfOk result (IsLowRoot (C.contents chunks.new) self.old.depth self.new) }
         ensures wide { IsWideChunk self.old → IfOk result (IsWideRoot (C.contents chunks.new) self.new) }

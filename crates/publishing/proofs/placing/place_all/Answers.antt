@@ -1,4 +1,5 @@
-use Rattle.std.proofs.Common.{◌≡◌, ◌∷◌, ◌++◌, [], length, refl, ap, sym, subst, ◌∙◌, arith, rules, append_assoc, length-append}
+use Rattle.std.proofs.Common.{◌≡◌, ◌∷◌, ◌++◌, [], length, refl, ap, sym, subst, ◌∙◌, arith, rules, append_assoc}
+use Rattle.std.proofs.Common.{length-append}
 use Rattle.std.specs.Vec.Iter.{into_iter_items}
 use Rattle.head_word.specs.Books.{drawn}
 use Rattle.reader_claims.specs.Machine.{still}
@@ -30,8 +31,10 @@ place_named-requires-clause-drawn g c κs within =
     let is = c.loop-node.invariant in
     let rest = into_iter_items c.next.new.self in
     let node = c.in-Some.node in
-    let whole : c.args.nodes.items ≡ c.loop-node.yielded ++ (node ∷ rest) = is.whole ∙ ap (λ w. c.loop-node.yielded ++ w) c.in-Some.ensures.steps.0 in
-    turn_drawn c.args.from c.args.first c.args.nodes.items c.loop-node.yielded node rest c.loop-node.refs.items (drawn c.args.mark.now.log) whole is.placed c.requires.order is.stamps c.requires.drawn
+    let whole : c.args.nodes.items ≡ c.loop-node.yielded
+    ++ (node ∷ rest) = is.whole ∙ ap (λ w. c.loop-node.yielded ++ w) c.in-Some.ensures.steps.0 in
+    turn_drawn c.args.from c.args.first c.args.nodes.items c.loop-node.yielded node rest c.loop-node.refs.items
+    (drawn c.args.mark.now.log) whole is.placed c.requires.order is.stamps c.requires.drawn
 
 pub loop-node-preserved : goal.loop-node-preserved
 loop-node-preserved g c =
@@ -44,7 +47,8 @@ loop-node-preserved g c =
     let first = g.S.Slots.view c.args.seat.now in
     let v = g.S.Slots.view c.loop-node.seat in
     let u = g.S.Slots.view c.place_named.new.seat in
-    let whole : c.args.nodes.items ≡ c.loop-node.yielded ++ (node ∷ rest) = is.whole ∙ ap (λ w. c.loop-node.yielded ++ w) c.in-Some.ensures.steps.0 in
+    let whole : c.args.nodes.items ≡ c.loop-node.yielded
+    ++ (node ∷ rest) = is.whole ∙ ap (λ w. c.loop-node.yielded ++ w) c.in-Some.ensures.steps.0 in
     let at = ok.placed.0 in
     let one = length-append c.loop-node.yielded (node ∷ []) in
     record {
@@ -62,4 +66,5 @@ loop-node-preserved g c =
 
 pub returns-in_err-place_named-clause-moves : goal.returns-in_err-place_named-clause-moves
 returns-in_err-place_named-clause-moves g c =
-    let view = g.S.Slots.view in λ r. moves_moves (view c.args.seat.now) (view c.loop-node.seat) (view c.place_named.new.seat) (c.loop-node.invariant.moves r) (c.place_named.ensures.moves r)
+    let view = g.S.Slots.view in λ r. moves_moves (view c.args.seat.now) (view c.loop-node.seat)
+    (view c.place_named.new.seat) (c.loop-node.invariant.moves r) (c.place_named.ensures.moves r)

@@ -11,7 +11,8 @@ place_drawn-requires-clause-drawn g c κs within =
     let first = c.in-Ok.first in
     let d = c.in-Ok.ensures.drawn in
     let is : c.draw.new.mark.log ≡ d.0 ++ drafted seat first (drafted_from draft.first draft.nodes) ∷ [] =
-    d.3 ∙ (ap (λ k. d.0 ++ drafted seat first (drafted_from k c.nodes.result.now) ∷ []) c.first.ensures ∙ ap (λ ns. d.0 ++ drafted seat first (drafted_from draft.first ns) ∷ []) c.nodes.ensures.nodes) in
+    d.3 ∙ (ap (λ k. d.0 ++ drafted seat first (drafted_from k c.nodes.result.now) ∷ []) c.first.ensures ∙ ap
+    (λ ns. d.0 ++ drafted seat first (drafted_from draft.first ns) ∷ []) c.nodes.ensures.nodes) in
     are_drawn d.0 c.draw.new.mark.log seat draft.first first draft.nodes d.2 is
 
 pub returns-in-Ok-clause-placed : goal.returns-in-Ok-clause-placed
@@ -21,5 +22,8 @@ returns-in-Ok-clause-placed g c =
     let first = c.in-Ok.first in
     let d = c.in-Ok.ensures.drawn in
     let is : c.draw.new.mark.log ≡ d.0 ++ drafted seat first (drafted_from draft.first draft.nodes) ∷ [] =
-    d.3 ∙ (ap (λ k. d.0 ++ drafted seat first (drafted_from k c.nodes.result.now) ∷ []) c.first.ensures ∙ ap (λ ns. d.0 ++ drafted seat first (drafted_from draft.first ns) ∷ []) c.nodes.ensures.nodes) in
-    if_ok_both c.place_drawn.result c.place_drawn.ensures.stamps c.place_drawn.ensures.count (λ refs are count. are_placed c.args.mark.now.log d.0 c.draw.new.mark.log seat draft first refs.items d.1 d.2 is are count)
+    d.3 ∙ (ap (λ k. d.0 ++ drafted seat first (drafted_from k c.nodes.result.now) ∷ []) c.first.ensures ∙ ap
+    (λ ns. d.0 ++ drafted seat first (drafted_from draft.first ns) ∷ []) c.nodes.ensures.nodes) in
+    if_ok_both c.place_drawn.result c.place_drawn.ensures.stamps c.place_drawn.ensures.count
+    (λ refs are count. are_placed c.args.mark.now.log d.0 c.draw.new.mark.log seat draft first refs.items d.1
+    d.2 is are count)

@@ -7,4 +7,5 @@ returns-then-is_empty-clause-moves g c = λ r. still (g.S.Slots.view c.args.seat
 
 pub returns-in-Some-clause-moves : goal.returns-in-Some-clause-moves
 returns-in-Some-clause-moves g c =
-    let view = g.S.Slots.view in λ r. moves_moves (view c.args.seat.now) (view c.raise.new.seat) (view c.retire_at.new.seat) (c.raise.ensures.moves r) (c.retire_at.ensures.moves r)
+    let view = g.S.Slots.view in λ r. moves_moves (view c.args.seat.now) (view c.raise.new.seat)
+    (view c.retire_at.new.seat) (c.raise.ensures.moves r) (c.retire_at.ensures.moves r)

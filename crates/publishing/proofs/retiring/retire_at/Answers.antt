@@ -32,11 +32,15 @@ loop-at-preserved g c =
     let ats = c.args.refs.now in
     let i = c.loop-at.at-index in
     let at = slice_index_or ats i (record { bits = 0 }) in
-    let go : S.reused → LetsGo slots c.args.r v at u = λ r. subst (λ k. (k < slots → IsRetired v u k c.args.r) × (slots ≤ k → u ≡ v)) c.slot.ensures.slot (done.retired r, done.outside r) in
+    let go : S.reused → LetsGo slots c.args.r v at u = λ r. subst
+    (λ k. (k < slots → IsRetired v u k c.args.r) × (slots ≤ k → u ≡ v)) c.slot.ensures.slot
+    (done.retired r, done.outside r) in
     record {
       home = done.seat;
       raised = λ r. subst (λ (w : View). MayRetire w c.args.r) (sym (done.kept r)) (is.raised r);
       none = λ r. subst (λ (w : View). w.taken ≡ []) (sym (done.kept r)) (is.none r);
       moves = λ r. moves_moves first v u (is.moves r) (done.moves r);
-      retired = λ r. subst (λ (w : List Ref). LetsAllGo slots c.args.r first w u) (sym (take_more ats i (record { bits = 0 }) c.loop-at-test.true)) (one_more slots c.args.r first v u (take i ats) at (is.retired r) (go r));
+      retired = λ r. subst (λ (w : List Ref). LetsAllGo slots c.args.r first w u)
+          (sym (take_more ats i (record { bits = 0 }) c.loop-at-test.true))
+          (one_more slots c.args.r first v u (take i ats) at (is.retired r) (go r));
     }

@@ -12,5 +12,6 @@ invariant-loop-at g l =
       raised : S.reused → MayRetire (S.view l.seat) l.r;
       none : S.reused → (S.view l.seat).taken ≡ [];
       moves : S.reused → Moves (S.view l.fn.seat) (S.view l.seat);
-      retired : S.reused → LetsAllGo (S.serves l.store).sizes.slots l.r (S.view l.fn.seat) (take l.at-index l.refs) (S.view l.seat);
+      retired : S.reused → LetsAllGo (S.serves l.store).sizes.slots l.r (S.view l.fn.seat) (take l.at-index l.refs)
+          (S.view l.seat);
     }

@@ -35,7 +35,8 @@ loop-held-preserved g c =
 
 pub returns-in_err-take_next-clause-moves : goal.returns-in_err-take_next-clause-moves
 returns-in_err-take_next-clause-moves g c =
-    let view = g.S.Slots.view in λ r. moves_moves (view c.args.seat.now) (view c.loop-held.seat) (view c.take_next.new.seat) (c.loop-held.invariant.moves r) (c.take_next.ensures.moves r)
+    let view = g.S.Slots.view in λ r. moves_moves (view c.args.seat.now) (view c.loop-held.seat)
+    (view c.take_next.new.seat) (c.loop-held.invariant.moves r) (c.take_next.ensures.moves r)
 
 pub returns-in_err-take_next-clause-full : goal.returns-in_err-take_next-clause-full
 returns-in_err-take_next-clause-full g c = λ r.

@@ -12,8 +12,10 @@ returns-then-is_err-clause-taken g c = λ r.
     let slots = c.args.slots.now.items in
     let x = c.in-Some.slot in
     let kept : c.push.new.self.items ≡ slots = search rules in
-    subst (HasTaken w) (sym kept) (withdrawn u w (slots ++ x ∷ []) slots x refl (pushed v u slots x (c.requires.taken r) (c.in-Some.ensures.taken r).1) (c.withdraw.ensures.view r))
+    subst (HasTaken w) (sym kept) (withdrawn u w (slots ++ x ∷ []) slots x refl
+    (pushed v u slots x (c.requires.taken r) (c.in-Some.ensures.taken r).1) (c.withdraw.ensures.view r))
 
 pub returns-then-is_err-clause-moves : goal.returns-then-is_err-clause-moves
 returns-then-is_err-clause-moves g c = λ r.
-    moves_moves (g.S.Slots.view c.args.seat.now) (g.S.Slots.view c.take_slot.new.seat) (g.S.Slots.view c.withdraw.new.seat) (c.take_slot.ensures.moves r) (c.withdraw.ensures.moves r)
+    moves_moves (g.S.Slots.view c.args.seat.now) (g.S.Slots.view c.take_slot.new.seat)
+    (g.S.Slots.view c.withdraw.new.seat) (c.take_slot.ensures.moves r) (c.withdraw.ensures.moves r)

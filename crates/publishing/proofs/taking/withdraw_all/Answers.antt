@@ -7,7 +7,12 @@ use Rattle.publishing.proofs.Popping.{withdrawn}
 use Rattle.publishing.proofs.taking.withdraw_all.Goals as goal
 
 pub loop-slot-init : goal.loop-slot-init
-loop-slot-init g c = record { home = c.requires.home; taken = c.requires.taken; settled = λ r. (refl, refl); moves = λ r. still (g.S.Slots.view c.args.seat.now) }
+loop-slot-init g c = record {
+  home = c.requires.home;
+  taken = c.requires.taken;
+  settled = λ r. (refl, refl);
+  moves = λ r. still (g.S.Slots.view c.args.seat.now);
+}
 
 pub loop-slot-preserved : goal.loop-slot-preserved
 loop-slot-preserved g c =
@@ -18,7 +23,9 @@ loop-slot-preserved g c =
     let u = S.view c.withdraw.new.seat in
     record {
       home = done.seat;
-      taken = λ r. withdrawn v u c.loop-slot.slots.items c.pop.new.self.items c.in-Some.slot c.in-Some.ensures.items (is.taken r) (done.view r);
-      settled = λ r. settles_none (S.view c.args.seat.now) v u (is.settled r) (ap (λ (w : View). w.settled) (done.view r), ap (λ (w : View). w.retired) (done.view r));
+      taken = λ r. withdrawn v u c.loop-slot.slots.items c.pop.new.self.items c.in-Some.slot c.in-Some.ensures.items
+          (is.taken r) (done.view r);
+      settled = λ r. settles_none (S.view c.args.seat.now) v u (is.settled r)
+          (ap (λ (w : View). w.settled) (done.view r), ap (λ (w : View). w.retired) (done.view r));
       moves = λ r. moves_moves (S.view c.args.seat.now) v u (is.moves r) (done.moves r);
     }

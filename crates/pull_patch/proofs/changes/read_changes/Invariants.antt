@@ -8,5 +8,6 @@ use Rattle.pull_patch.proofs.changes.read_changes.Given as goal
 
 abbrev pub invariant-loop-name : goal.invariant-loop-name
 invariant-loop-name l =
-    (done : List Entry) × Gave entry_of (members_list (members_view l.initial.name-iterator)) done (members_list (members_view l.name-iterator))
+    (done : List Entry) × Gave entry_of (members_list (members_view l.initial.name-iterator)) done
+    (members_list (members_view l.name-iterator))
     × Gathered change_of done l.whole l.changes.items × AreInRange l.changes.items

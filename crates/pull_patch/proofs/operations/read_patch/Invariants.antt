@@ -8,4 +8,5 @@ use Rattle.pull_patch.proofs.operations.read_patch.Given as goal
 abbrev pub invariant-loop-item : goal.invariant-loop-item
 invariant-loop-item l =
     (done : List Edit) × Gave edit_of (map view l.item-items) done (map view (drop l.item-index l.item-items))
-    × Gathered operation_of done l.whole l.patch.items × (items_depth (items_view (drop l.item-index l.item-items)) ≤ 125)
+    × Gathered operation_of done l.whole l.patch.items
+    × (items_depth (items_view (drop l.item-index l.item-items)) ≤ 125)

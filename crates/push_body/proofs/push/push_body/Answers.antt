@@ -10,6 +10,19 @@ unfolding push_text
 returns c =
     IfOk-weaker c.raw-5.result _ _
     (λ b e. e
-    ∙ rw (c.in_ok-text-3.ensures, c.in_ok-raw-3.ensures, c.in_ok-text-2.ensures, c.in_ok-raw-2.ensures, c.in_ok-with_mutations.ensures, c.in_ok-body.ensures, c.in_ok-text.ensures, c.in_ok-raw.ensures, c.new.ensures, c.as_str.ensures, c.as_str-2.ensures, c.as_str-3.ensures)
+    ∙ rw (
+      c.in_ok-text-3.ensures,
+      c.in_ok-raw-3.ensures,
+      c.in_ok-text-2.ensures,
+      c.in_ok-raw-2.ensures,
+      c.in_ok-with_mutations.ensures,
+      c.in_ok-body.ensures,
+      c.in_ok-text.ensures,
+      c.in_ok-raw.ensures,
+      c.new.ensures,
+      c.as_str.ensures,
+      c.as_str-2.ensures,
+      c.as_str-3.ensures,
+    )
     (fold-append [] (push_pieces c.args.identity.now c.args.pending.now)))
     c.raw-5.ensures

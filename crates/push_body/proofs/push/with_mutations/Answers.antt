@@ -10,11 +10,16 @@ loop-mutation-preserved c =
     let first = l.invariant.first in
     let xs = c.in-Some.rest.now in
     let x = c.mutation-item.result in
-    let front : take (l.mutation-index + 1) xs ≡ take l.mutation-index xs ++ x ∷ [] = take_more xs l.mutation-index x (omega arith) ∙ ap (λ y. take l.mutation-index xs ++ y ∷ []) (sym c.mutation-item.is) in
+    let front : take (l.mutation-index + 1) xs
+    ≡ take l.mutation-index xs ++ x ∷ [] = take_more xs l.mutation-index x (omega arith) ∙ ap
+    (λ y. take l.mutation-index xs ++ y ∷ []) (sym c.mutation-item.is) in
     let before = mutations_text (first ∷ take l.mutation-index xs) in
-    let more : mutations_text (first ∷ take (l.mutation-index + 1) xs) ≡ before ++ 44 ∷ mutation_text x = ap (λ ms. mutations_text (first ∷ ms)) front ∙ join-push mutation_text first (take l.mutation-index xs) x in
+    let more : mutations_text (first ∷ take (l.mutation-index + 1) xs)
+    ≡ before ++ 44 ∷ mutation_text x = ap (λ ms. mutations_text (first ∷ ms)) front ∙ join-push mutation_text first
+    (take l.mutation-index xs) x in
     record {
       first = first;
       all = l.invariant.all;
-      written = c.in_ok-body-2.ensures ∙ rw (c.in_ok-raw.ensures, l.invariant.written, more) (append_assoc (c.args.body ++ before) _ _ ∙ append_assoc c.args.body before _);
+      written = c.in_ok-body-2.ensures ∙ rw (c.in_ok-raw.ensures, l.invariant.written, more)
+          (append_assoc (c.args.body ++ before) _ _ ∙ append_assoc c.args.body before _);
     }

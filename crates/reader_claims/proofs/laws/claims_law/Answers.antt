@@ -1,4 +1,5 @@
-use Rattle.reader_claims.proofs.Lawful.{hold_law, learnt_law, open_law, given_law, held_law, retired_law, taken_law, taker_law, epoch_law, live_law, step_law}
+use Rattle.reader_claims.proofs.Lawful.{hold_law, learnt_law, open_law, given_law, held_law, retired_law, taken_law}
+use Rattle.reader_claims.proofs.Lawful.{taker_law, epoch_law, live_law, step_law}
 use Rattle.reader_claims.proofs.Bare.{bare_law}
 use Rattle.reader_claims.proofs.laws.claims_law.Goals as goal
 

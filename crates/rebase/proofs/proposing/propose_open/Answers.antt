@@ -8,16 +8,24 @@ use Rattle.rebase.proofs.proposing.propose_open.Goals as goal
 
 pub returns-in-Pulled-clause-proposed : goal.returns-in-Pulled-clause-proposed
 returns-in-Pulled-clause-proposed g c s is =
-    subst (λ (w : Change). IfOk c.propose_pull.result (Proposes g.M.Means.means (drawn c.args.mark.now.log) s c.args.before.id w)) (sym c.in-Pulled.is) (c.propose_pull.ensures.proposed s c.args.before.id is)
+    subst (λ (w : Change). IfOk c.propose_pull.result
+    (Proposes g.M.Means.means (drawn c.args.mark.now.log) s c.args.before.id w)) (sym c.in-Pulled.is)
+    (c.propose_pull.ensures.proposed s c.args.before.id is)
 
 pub returns-in-Pulled-clause-err : goal.returns-in-Pulled-clause-err
 returns-in-Pulled-clause-err g c s is =
-    subst (λ (w : Change). IfErr c.propose_pull.result (IsUnproposed (change_asked w) (asked_reply g.M.Means.means s c.args.before.id w))) (sym c.in-Pulled.is) (c.propose_pull.ensures.err s c.args.before.id is)
+    subst (λ (w : Change). IfErr c.propose_pull.result
+    (IsUnproposed (change_asked w) (asked_reply g.M.Means.means s c.args.before.id w))) (sym c.in-Pulled.is)
+    (c.propose_pull.ensures.err s c.args.before.id is)
 
 pub returns-in-Closed-clause-proposed : goal.returns-in-Closed-clause-proposed
 returns-in-Closed-clause-proposed g c s is =
-    subst (λ (w : Change). IfOk c.propose_closing.result (Proposes g.M.Means.means (drawn c.args.mark.now.log) s c.args.before.id w)) (sym c.in-Closed.is) (c.propose_closing.ensures.proposed s c.args.before.id is)
+    subst (λ (w : Change). IfOk c.propose_closing.result
+    (Proposes g.M.Means.means (drawn c.args.mark.now.log) s c.args.before.id w)) (sym c.in-Closed.is)
+    (c.propose_closing.ensures.proposed s c.args.before.id is)
 
 pub returns-in-Closed-clause-err : goal.returns-in-Closed-clause-err
 returns-in-Closed-clause-err g c s is =
-    subst (λ (w : Change). IfErr c.propose_closing.result (IsUnproposed (change_asked w) (asked_reply g.M.Means.means s c.args.before.id w))) (sym c.in-Closed.is) (c.propose_closing.ensures.err s c.args.before.id is)
+    subst (λ (w : Change). IfErr c.propose_closing.result
+    (IsUnproposed (change_asked w) (asked_reply g.M.Means.means s c.args.before.id w))) (sym c.in-Closed.is)
+    (c.propose_closing.ensures.err s c.args.before.id is)

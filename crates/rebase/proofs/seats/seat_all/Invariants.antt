@@ -6,7 +6,8 @@ use Rattle.rebase.proofs.seats.seat_all.Given as goal
 
 abbrev pub invariant-loop-mark : goal.invariant-loop-mark
 invariant-loop-mark g l = record {
-  claimed : All (λ seat. (g.S.Slots.home seat ≡ g.S.Slots.serves l.store) × (g.S.Slots.reused → IsIdle (g.S.Slots.view seat))) l.claimed.items;
+  claimed : All (λ seat. (g.S.Slots.home seat ≡ g.S.Slots.serves l.store)
+      × (g.S.Slots.reused → IsIdle (g.S.Slots.view seat))) l.claimed.items;
   marks : All (HasSeat l.head) l.marks.items;
   same : length l.claimed.items ≡ length l.marks.items;
   free : All (λ seat. (seat.mark.book ≡ l.head) × (g.S.Slots.home seat.slots ≡ g.S.Slots.serves l.store)) l.free.items;

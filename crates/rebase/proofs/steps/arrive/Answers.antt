@@ -12,14 +12,16 @@ use Rattle.rebase.proofs.steps.arrive.Goals as goal
 
 pub returns-clause-arrived : goal.returns-clause-arrived
 returns-clause-arrived g c =
-    let means = g.M.Means.means in let old = c.args.mark.now in let seen = c.begin.new.mark in let new = c.next-first.new.mark in
+    let means = g.M.Means.means in let old = c.args.mark.now in let seen = c.begin.new.mark in
+    let new = c.next-first.new.mark in
     let more = c.next-first.ensures.seen in let b = c.in_ok-at.ensures in
     let same : own_moves new ≡ own_moves seen = ap (filter is_move) c.next-first.ensures.own in (
       seen,
       record {
         point = point_later means old seen new seen.log b.looked.0 more same;
         last = b.last;
-        spelled = spelled-stays seen.log new.log more (stamp_of c.in_ok-at.at) (version_of means (after (record_of seen.log))) b.looked.1;
+        spelled = spelled-stays seen.log new.log more (stamp_of c.in_ok-at.at)
+            (version_of means (after (record_of seen.log))) b.looked.1;
         ids = (record_laws_hold means).ids_follow (record_of seen.log) c.legal.ensures.0.legal;
         drawn = c.next-first.ensures.next;
         seat = c.begin.ensures.number;
@@ -27,6 +29,11 @@ returns-clause-arrived g c =
         own = c.begin.ensures.own;
         same = same ∙ c.begin.ensures.own;
         before = c.begin.ensures.others;
-        others = omega (arith, c.begin.ensures.others, prefix_length seen.log new.log more, ap length c.next-first.ensures.own);
+        others = omega (
+          arith,
+          c.begin.ensures.others,
+          prefix_length seen.log new.log more,
+          ap length c.next-first.ensures.own,
+        );
       },
     )

@@ -24,7 +24,8 @@ returns-clause-tip g c s h is_open =
     let is : shape c.in_ok-mutation_kept.mutation_kept (left_by meaning m) ≡ version_of means (after_mutate s x) =
     ap (λ (y : Mutation). shape y (left_by meaning m)) same ∙ ap (shape x) (sym (view-mutated means s x)) in
     subst (λ (v : Version). HasTip new c.in_ok-after.after v) is
-    (c.in_ok-after.ensures.spelled known (version_of means s) (left_by meaning m) (sym c.requires.behind) h.0 h.2 is_open left)
+    (c.in_ok-after.ensures.spelled known (version_of means s) (left_by meaning m)
+    (sym c.requires.behind) h.0 h.2 is_open left)
 
 pub run_on-requires-clause-map : goal.run_on-requires-clause-map
 run_on-requires-clause-map g c κs below =
@@ -35,10 +36,12 @@ pub add_local-requires-clause-map : goal.add_local-requires-clause-map
 add_local-requires-clause-map g c =
     let means = g.M.Means.means in let known = g.K.Known.known in let m = view_of means c.requires.tip.0 in
     let old = with_nodes known c.args.draft.now.nodes in let meaning = meaning_of means c.args.mutation.now m in
-    let left = c.kept.ensures old m meaning c.requires.tip.1.1 (c.in_ok-run.ensures.ran m (c.at.ensures.map old ∙ c.requires.tip.1.1)) in
+    let left = c.kept.ensures old m meaning c.requires.tip.1.1
+    (c.in_ok-run.ensures.ran m (c.at.ensures.map old ∙ c.requires.tip.1.1)) in
     tree-behind known c.args.draft.now c.kept.result (left_by meaning m) (sym c.requires.behind) left
 
 pub add_local-requires-clause-chain : goal.add_local-requires-clause-chain
 add_local-requires-clause-chain g c =
     let known = g.K.Known.known in
-    chain-behind known c.args.draft.now c.args.tip (version_of g.M.Means.means c.requires.tip.0) (sym c.requires.behind) c.requires.tip.1
+    chain-behind known c.args.draft.now c.args.tip (version_of g.M.Means.means c.requires.tip.0)
+    (sym c.requires.behind) c.requires.tip.1

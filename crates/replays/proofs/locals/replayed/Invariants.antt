@@ -10,5 +10,6 @@ abbrev pub invariant-loop-mutation : goal.invariant-loop-mutation
 invariant-loop-mutation g l =
     let means = g.M.Means.means in
     (l.draft.first ≡ l.initial.draft.first)
-    × ((s : State) → IsTip means (with_nodes g.K.Known.known l.initial.draft.nodes) l.initial.tip s → s.closed ≡ false → IsTip means (with_nodes g.K.Known.known l.draft.nodes) l.tip (with_more s (take l.mutation-index l.pending)))
+    × ((s : State) → IsTip means (with_nodes g.K.Known.known l.initial.draft.nodes) l.initial.tip s → s.closed ≡ false
+    → IsTip means (with_nodes g.K.Known.known l.draft.nodes) l.tip (with_more s (take l.mutation-index l.pending)))
     × (0 < length l.initial.draft.nodes → 0 < length l.draft.nodes)

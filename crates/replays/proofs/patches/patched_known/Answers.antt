@@ -9,10 +9,12 @@ use Rattle.replays.proofs.patches.patched_known.Goals as goal
 pub loop-op-init : goal.loop-op-init
 loop-op-init g c =
     let known = g.K.Known.known in
-    ap (λ (m : Entries). patched m c.args.patch.now) (ap (λ (t : Tree). shown_map known t) c.new-view.ensures.tree ∙ ap map_or (c.at.ensures.map known))
+    ap (λ (m : Entries). patched m c.args.patch.now)
+    (ap (λ (t : Tree). shown_map known t) c.new-view.ensures.tree ∙ ap map_or (c.at.ensures.map known))
 
 pub loop-op-preserved : goal.loop-op-preserved
 loop-op-preserved g c =
     let ops = c.args.patch.now in let k = c.loop-op.op-index in let m = shown_map g.K.Known.known c.loop-op.view.tree in
-    let step = at_drop_more (patched m) ops k c.op-item.result c.loop-op-test.true ∙ ap (λ (op : Patch). patched (patched_once m op) (drop (k + 1) ops)) (sym c.op-item.is) in
+    let step = at_drop_more (patched m) ops k c.op-item.result c.loop-op-test.true ∙ ap
+    (λ (op : Patch). patched (patched_once m op) (drop (k + 1) ops)) (sym c.op-item.is) in
     ap (λ (n : Entries). patched n (drop (k + 1) ops)) c.in_ok-operate.ensures.ok ∙ (sym step ∙ c.loop-op.invariant)

@@ -12,7 +12,8 @@ use Rattle.replays.proofs.pulls.rebased.Goals as goal
 
 pub replayed-requires-clause-tip : goal.replayed-requires-clause-tip
 replayed-requires-clause-tip g c κs below =
-    let known = g.K.Known.known in let there = map_at (with_nodes known c.args.draft.now.nodes) (stamp_of c.args.base.now.pulled) in
+    let known = g.K.Known.known in let there = map_at (with_nodes known c.args.draft.now.nodes)
+    (stamp_of c.args.base.now.pulled) in
     let pull = c.args.pull.now in
     let s : State = pulled_state (patched (map_or there) pull.patch) pull.cookie c.in_ok-confirmed.confirmed in
     (s, c.in_ok-snapshot.ensures.tip (map_or there) (some_map there c.requires.map), refl)
@@ -23,6 +24,9 @@ returns-clause-spelled g c s h confirmed pending is_open =
     let base : State = pulled_state (patched s.pulled pull.patch) pull.cookie c.in_ok-confirmed.confirmed in
     let tip = c.in_ok-tip.ensures.tip base (c.in_ok-snapshot.ensures.tip s.pulled h) refl in
     let whole =
-    pull_parts s pull pull.cookie c.in_ok-confirmed.confirmed c.args.base.now.confirmed pull.patch c.changes.result.now c.deref.result.now c.args.pending.now refl refl
-    c.in_ok-confirmed.ensures c.changes.ensures.changes confirmed (c.deref.ensures.value ∙ (c.in_ok-left.ensures ∙ ap (λ ids. left_pending ids c.args.pending.now) c.as_map.ensures)) (sym pending) is_open in
+    pull_parts s pull pull.cookie c.in_ok-confirmed.confirmed c.args.base.now.confirmed pull.patch c.changes.result.now
+    c.deref.result.now c.args.pending.now refl refl
+    c.in_ok-confirmed.ensures c.changes.ensures.changes confirmed
+    (c.deref.ensures.value ∙ (c.in_ok-left.ensures ∙ ap
+    (λ ids. left_pending ids c.args.pending.now) c.as_map.ensures)) (sym pending) is_open in
     tip.0 ∙ ap (λ (w : State). Some (version_of means w)) whole

@@ -13,9 +13,12 @@ returns-clause-ran g c =
     let m = shown_map known c.run.new.view.tree in (
       m,
       c.into_parts-tree.ensures.map,
-      subst (λ (t : Tree). RunsAs (means x.name x.args x.reason (shown_map known t)) c.in_ok-ran.ran m) c.new-view.ensures.tree
-          (subst (λ (name : Bytes). RunsAs (means name x.args x.reason (shown_map known c.new-view.result.tree)) c.in_ok-ran.ran m) c.as_str-name.ensures c.in_ok-ran.ensures.ran),
+      subst (λ (t : Tree). RunsAs (means x.name x.args x.reason (shown_map known t)) c.in_ok-ran.ran m)
+          c.new-view.ensures.tree
+          (subst (λ (name : Bytes). RunsAs (means name x.args x.reason (shown_map known c.new-view.result.tree))
+          c.in_ok-ran.ran m) c.as_str-name.ensures c.in_ok-ran.ensures.ran),
     )
 
 pub new-view-requires-clause-places : goal.new-view-requires-clause-places
-new-view-requires-clause-places g c = subst (λ chunks. AreAll (g.C.Chunks.places chunks) (tree_places c.args.tree)) (sym c.new.ensures) c.requires.places
+new-view-requires-clause-places g c = subst (λ chunks. AreAll (g.C.Chunks.places chunks) (tree_places c.args.tree))
+    (sym c.new.ensures) c.requires.places

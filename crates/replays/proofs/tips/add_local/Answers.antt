@@ -12,11 +12,16 @@ returns-clause-spelled c contents v m l b s is_open h =
     let old = with_nodes contents c.args.draft.now.nodes in let mid = with_nodes contents c.freeze.new.draft.nodes in
     let grown = nodes-grown contents c.args.draft.now.nodes c.freeze.new.draft.nodes c.freeze.ensures.grown in
     let at = stamp_of c.args.basis.commit in
-    c.in_ok-tip.ensures.spelled contents v m (l ∙ sym c.freeze.ensures.first) (version-grown old mid at v grown b) (snapshot-grown old mid at (stamp_of c.args.basis.snapshot) grown s) is_open (c.in_ok-root.ensures.spelled contents m l h)
+    c.in_ok-tip.ensures.spelled contents v m (l ∙ sym c.freeze.ensures.first) (version-grown old mid at v grown b)
+    (snapshot-grown old mid at (stamp_of c.args.basis.snapshot) grown s) is_open
+    (c.in_ok-root.ensures.spelled contents m l h)
 
 pub add_over-requires : goal.add_over-requires
 add_over-requires c =
     let old = c.args.draft.now in let new = c.freeze.new.draft in
     let chain = c.args.basis.commit ∷ c.args.basis.snapshot ∷ [] in
     let more = drafts-grown old new c.freeze.ensures.first c.freeze.ensures.grown in
-    record { below = below-cons (new.first + length new.nodes) c.in_ok-root.root chain c.in_ok-root.ensures.below (below-more (old.first + length old.nodes) (new.first + length new.nodes) chain more c.requires.chain) }
+    record {
+      below = below-cons (new.first + length new.nodes) c.in_ok-root.root chain c.in_ok-root.ensures.below
+          (below-more (old.first + length old.nodes) (new.first + length new.nodes) chain more c.requires.chain);
+    }

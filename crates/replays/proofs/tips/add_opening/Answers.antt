@@ -12,10 +12,15 @@ pub returns-clause-spelled : goal.returns-clause-spelled
 returns-clause-spelled c =
     let leaf = node.Chunk (Leaf c.in_ok-empty_leaf.field-0) in
     let one = c.push.new.self.nodes in
-    opening_tip one c.push-2.new.self.nodes leaf c.in_ok-root.root c.in_ok-head.head c.in_ok-cookie.cookie c.in_ok-confirmed.confirmed
-    (ap (λ (d : Drafted). d.nodes) c.in_ok-root.ensures.ok ∙ ap (λ (d : Drafted). d.nodes ++ leaf ∷ []) c.requires) (ap (λ (rows : Rows). node.Chunk (Leaf rows)) c.in_ok-empty_leaf.ensures)
-    (c.in_ok-root.ensures.stamp.0 ∙ ap (λ (d : Drafted). d.first + length d.nodes) c.requires) (ap (λ (d : Drafted). d.nodes) c.in_ok-head.ensures.ok)
-    (c.in_ok-head.ensures.stamp.0 ∙ ap (λ (k : ℕ). k + length one) (ap (λ (d : Drafted). d.first) c.in_ok-root.ensures.ok ∙ ap (λ (d : Drafted). d.first) c.requires)) c.in_ok-cookie.ensures (c.in_ok-confirmed.ensures ∙ c.new.ensures)
+    opening_tip one c.push-2.new.self.nodes leaf c.in_ok-root.root c.in_ok-head.head c.in_ok-cookie.cookie
+    c.in_ok-confirmed.confirmed
+    (ap (λ (d : Drafted). d.nodes) c.in_ok-root.ensures.ok ∙ ap (λ (d : Drafted). d.nodes ++ leaf ∷ []) c.requires)
+    (ap (λ (rows : Rows). node.Chunk (Leaf rows)) c.in_ok-empty_leaf.ensures)
+    (c.in_ok-root.ensures.stamp.0 ∙ ap (λ (d : Drafted). d.first + length d.nodes) c.requires)
+    (ap (λ (d : Drafted). d.nodes) c.in_ok-head.ensures.ok)
+    (c.in_ok-head.ensures.stamp.0 ∙ ap (λ (k : ℕ). k + length one)
+    (ap (λ (d : Drafted). d.first) c.in_ok-root.ensures.ok ∙ ap (λ (d : Drafted). d.first) c.requires))
+    c.in_ok-cookie.ensures (c.in_ok-confirmed.ensures ∙ c.new.ensures)
 
 pub push-requires : goal.push-requires
 push-requires c = record { children = below-none (c.args.draft.now.first + length c.args.draft.now.nodes) }
@@ -23,5 +28,9 @@ push-requires c = record { children = below-none (c.args.draft.now.first + lengt
 pub push-requires-2 : goal.push-requires-2
 push-requires-2 c =
     let old = c.args.draft.now in let new = c.push.new.self in
-    let root = pushed-below old new (node.Chunk (Leaf c.in_ok-empty_leaf.field-0)) c.in_ok-root.root c.in_ok-root.ensures.ok c.in_ok-root.ensures.stamp.0 in
-    record { children = below-cons (new.first + length new.nodes) c.in_ok-root.root [] root (below-none (new.first + length new.nodes)) }
+    let root = pushed-below old new (node.Chunk (Leaf c.in_ok-empty_leaf.field-0)) c.in_ok-root.root
+    c.in_ok-root.ensures.ok c.in_ok-root.ensures.stamp.0 in
+    record {
+      children = below-cons (new.first + length new.nodes) c.in_ok-root.root [] root
+          (below-none (new.first + length new.nodes));
+    }

@@ -10,5 +10,6 @@ use Rattle.script_runner.proofs.lines.is_decimal.Goals as goal
 pub returns-then-not-is_empty : goal.returns-then-not-is_empty
 unfolding is_decimal
 returns-then-not-is_empty c =
-    let all = all_from_yields_List is_ascii_digit _ _ c.all.result c.all.ensures.ran (YieldsList-from_slice c.args.text.now cc) (λ x b q k. search (rules, tests)) ∙ all_digits c.args.text.now in
+    let all = all_from_yields_List is_ascii_digit _ _ c.all.result c.all.ensures.ran
+    (YieldsList-from_slice c.args.text.now cc) (λ x b q k. search (rules, tests)) ∙ all_digits c.args.text.now in
     grind (arith, nat_tests)

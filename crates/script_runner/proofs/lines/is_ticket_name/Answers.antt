@@ -9,5 +9,6 @@ use Rattle.script_runner.proofs.lines.is_ticket_name.Goals as goal
 pub returns-then-bytes-le-LONGEST_NAME : goal.returns-then-bytes-le-LONGEST_NAME
 unfolding is_ticket_name
 returns-then-bytes-le-LONGEST_NAME c =
-    let all = all_from_yields_List is_ascii_alphanumeric _ _ c.all.result c.all.ensures.ran (YieldsList-from_slice c.args.text.now cc) (λ x b q k. search (rules, tests)) in
+    let all = all_from_yields_List is_ascii_alphanumeric _ _ c.all.result c.all.ensures.ran
+    (YieldsList-from_slice c.args.text.now cc) (λ x b q k. search (rules, tests)) in
     grind (arith, nat_tests)

@@ -2,7 +2,8 @@ use Rattle.std.proofs.Common.{arith, refl, ◌≡◌, true}
 use Rattle.std.proofs.lemmas.Str.Parse.{parse_digits}
 use Rattle.script_runner.specs.Words.{is_decimal}
 use Rattle.script_runner.proofs.Numbers.{own, digits, is_number-in, is_number-below, is_number-above, is_number-unread}
-use Rattle.script_runner.proofs.lines.number.Goals.{then-number-low-via-then-number-low, then-number-low-via-else-number-low+then-high-number}
+use Rattle.script_runner.proofs.lines.number.Goals.{then-number-low-via-then-number-low}
+use Rattle.script_runner.proofs.lines.number.Goals.{then-number-low-via-else-number-low+then-high-number}
 use Rattle.script_runner.proofs.lines.number.Goals as goal
 
 pub returns-in_default-clause-form : goal.returns-in_default-clause-form
@@ -21,7 +22,8 @@ returns-then-number-low-clause-form c =
     let is = (rw c.in-Ok.is at read).1 in
     elim c.then-number-low.branch [
       | then-number-low-via-then-number-low b ↦ (is_number-below c.args.low c.args.high w (omega arith), refl)
-      | then-number-low-via-else-number-low+then-high-number b ↦ (is_number-above c.args.low c.args.high w (omega arith), refl)
+      | then-number-low-via-else-number-low+then-high-number b ↦
+          (is_number-above c.args.low c.args.high w (omega arith), refl)
     ]
 
 pub returns-clause-form : goal.returns-clause-form

@@ -8,11 +8,13 @@ use Rattle.script_runner.proofs.phase.seen_of.Goals as goal
 pub loop-turn-preserved : goal.loop-turn-preserved
 loop-turn-preserved g c =
     let l = c.loop-turn in
-    mapped-more g.C.Caller.seen_by (λ t. sight_of (g.C.Caller.stands t.client.caller)) l.seen.items c.push.new.self.items c.seen.result c.args.turns.now l.turn-index c.turn-item.result
+    mapped-more g.C.Caller.seen_by (λ t. sight_of (g.C.Caller.stands t.client.caller)) l.seen.items
+    c.push.new.self.items c.seen.result c.args.turns.now l.turn-index c.turn-item.result
     c.loop-turn-test.true c.turn-item.is l.invariant c.in_ok-push.ensures.items c.seen.ensures
 
 pub returns : goal.returns
 returns g c =
     let l = c.loop-turn in let stands = g.C.Caller.stands in
-    l.invariant ∙ ap (map (λ t. sight_of (stands t.client.caller))) (take_all l.turn-index c.args.turns.now c.loop-turn-test.false)
+    l.invariant ∙ ap (map (λ t. sight_of (stands t.client.caller)))
+    (take_all l.turn-index c.args.turns.now c.loop-turn-test.false)
     ∙ sym (fused (λ p. sight_of p.standing) (λ t. player_of stands t.client) c.args.turns.now)

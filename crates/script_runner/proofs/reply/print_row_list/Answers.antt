@@ -12,11 +12,15 @@ loop-row-preserved c =
     let first = l.invariant.first in
     let xs = c.in-Some.rest.now in
     let x = c.row-item.result in
-    let front : take (l.row-index + 1) xs ≡ take l.row-index xs ++ x ∷ [] = take_more xs l.row-index x (omega arith) ∙ ap (λ y. take l.row-index xs ++ y ∷ []) (sym c.row-item.is) in
+    let front : take (l.row-index + 1) xs ≡ take l.row-index xs ++ x
+    ∷ [] = take_more xs l.row-index x (omega arith) ∙ ap (λ y. take l.row-index xs ++ y ∷ []) (sym c.row-item.is) in
     let before = join_with_byte 44 (map row_text (first ∷ take l.row-index xs)) in
-    let more : join_with_byte 44 (map row_text (first ∷ take (l.row-index + 1) xs)) ≡ before ++ 44 ∷ row_text x = ap (λ ms. join_with_byte 44 (map row_text (first ∷ ms))) front ∙ join-push row_text first (take l.row-index xs) x in
+    let more : join_with_byte 44 (map row_text (first ∷ take (l.row-index + 1) xs))
+    ≡ before ++ 44 ∷ row_text x = ap (λ ms. join_with_byte 44 (map row_text (first ∷ ms))) front ∙ join-push
+    row_text first (take l.row-index xs) x in
     record {
       first = first;
       all = l.invariant.all;
-      written = more_joined _ before _ _ _ (row_text x) l.invariant.written c.in_ok-push.ensures.items c.in_ok-print_row-2.ensures ∙ ap (λ s. c.args.out.now.items ++ s) (sym more);
+      written = more_joined _ before _ _ _ (row_text x) l.invariant.written c.in_ok-push.ensures.items
+          c.in_ok-print_row-2.ensures ∙ ap (λ s. c.args.out.now.items ++ s) (sym more);
     }

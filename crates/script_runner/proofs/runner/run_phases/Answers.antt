@@ -12,20 +12,26 @@ use Rattle.script_runner.proofs.runner.run_phases.Goals as goal
 
 pub loop-phase-preserved : goal.loop-phase-preserved
 loop-phase-preserved g c =
-    let l = c.loop-phase in let so_far = l.invariant.written in let new = c.write_phase.new.turns in let stands = g.C.Caller.stands in
+    let l = c.loop-phase in let so_far = l.invariant.written in let new = c.write_phase.new.turns in
+    let stands = g.C.Caller.stands in
     record {
       written = (
         so_far.0 ++ concat (texts_of new),
-        phase-more g.C.Caller.law (players_of stands c.args.turns.now) (players_of stands l.turns) (players_of stands new) c.args.phases.now l.phase-index so_far.0 c.phase-item.result (texts_of new) c.loop-phase-test.true
+        phase-more g.C.Caller.law (players_of stands c.args.turns.now) (players_of stands l.turns)
+            (players_of stands new) c.args.phases.now l.phase-index so_far.0 c.phase-item.result
+            (texts_of new) c.loop-phase-test.true
             c.phase-item.is so_far.1 c.in_ok-write_phase.ensures.phase,
-        appends-twice (g.W.Write.contents c.args.out.now) (g.W.Write.contents l.out) (g.W.Write.contents c.write_phase.new.out) so_far.0 (concat (texts_of new)) so_far.2 c.in_ok-write_phase.ensures.text,
+        appends-twice (g.W.Write.contents c.args.out.now) (g.W.Write.contents l.out)
+            (g.W.Write.contents c.write_phase.new.out) so_far.0
+            (concat (texts_of new)) so_far.2 c.in_ok-write_phase.ensures.text,
       );
       len = c.write_phase.ensures.count ∙ l.invariant.len;
       one = λ b all. c.write_phase.ensures.group b (l.invariant.one b all);
     }
 
 pub write_phase-requires-clause-one : goal.write_phase-requires-clause-one
-write_phase-requires-clause-one g c b m = (c.requires.one.0, c.loop-phase.invariant.one c.requires.one.0 c.requires.one.1)
+write_phase-requires-clause-one g c b m =
+    (c.requires.one.0, c.loop-phase.invariant.one c.requires.one.0 c.requires.one.1)
 
 pub returns-in_err-write_phase-clause-want : goal.returns-in_err-write_phase-clause-want
 returns-in_err-write_phase-clause-want g c want =
@@ -35,6 +41,8 @@ returns-in_err-write_phase-clause-want g c want =
       l.phase-index,
       so_far.0,
       players_of stands l.turns,
-      subst (λ w. AreWritten g.C.Caller.law (players_of stands c.args.turns.now) w so_far.0 (players_of stands l.turns)) (sym (take-map phase_said l.phase-index c.args.phases.now)) so_far.1,
-      appends-kept (g.W.Write.contents c.args.out.now) (g.W.Write.contents l.out) (g.W.Write.contents c.write_phase.new.out) so_far.0 so_far.2 (c.in_err-write_phase.ensures.want lacked),
+      subst (λ w. AreWritten g.C.Caller.law (players_of stands c.args.turns.now) w so_far.0 (players_of stands l.turns))
+          (sym (take-map phase_said l.phase-index c.args.phases.now)) so_far.1,
+      appends-kept (g.W.Write.contents c.args.out.now) (g.W.Write.contents l.out)
+          (g.W.Write.contents c.write_phase.new.out) so_far.0 so_far.2 (c.in_err-write_phase.ensures.want lacked),
     )

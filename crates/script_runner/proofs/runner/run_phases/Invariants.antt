@@ -10,7 +10,9 @@ use Rattle.script_runner.proofs.runner.run_phases.Given as goal
 abbrev pub invariant-loop-phase : goal.invariant-loop-phase
 invariant-loop-phase g l =
     let stands = g.C.Caller.stands in record {
-      written : (text : _) × AreWritten g.C.Caller.law (players_of stands l.fn.turns) (map phase_said (take l.phase-index l.phases)) text (players_of stands l.turns) × Appends (g.W.Write.contents l.fn.out) (g.W.Write.contents l.out) text;
+      written : (text : _) × AreWritten g.C.Caller.law (players_of stands l.fn.turns)
+          (map phase_said (take l.phase-index l.phases)) text (players_of stands l.turns)
+          × Appends (g.W.Write.contents l.fn.out) (g.W.Write.contents l.out) text;
       len : length l.turns ≡ length l.fn.turns;
       one : (b : Book) → AreOf stands b l.fn.turns → AreOf stands b l.turns;
     }

@@ -7,7 +7,10 @@ pub loop-turn-preserved : goal.loop-turn-preserved
 loop-turn-preserved g c =
     let l = c.loop-turn in
     record {
-      text = text-more c.args.turns.now l.turn-index c.turn-item.result l.text.items c.extend_from_slice.new.self.items c.loop-turn-test.true c.turn-item.is l.invariant.text
-          (c.in_ok-extend_from_slice-in-Ok.ensures.items ∙ ap (λ w. l.text.items ++ w) (c.deref.ensures.value ∙ sym (ap printed_text c.in-Ok.is)));
-      all = all-more IsPrinted c.args.turns.now l.turn-index c.turn-item.result c.loop-turn-test.true c.turn-item.is l.invariant.all (subst IsOk (sym c.in-Ok.is) refl);
+      text = text-more c.args.turns.now l.turn-index c.turn-item.result l.text.items c.extend_from_slice.new.self.items
+          c.loop-turn-test.true c.turn-item.is l.invariant.text
+          (c.in_ok-extend_from_slice-in-Ok.ensures.items ∙ ap (λ w. l.text.items ++ w)
+          (c.deref.ensures.value ∙ sym (ap printed_text c.in-Ok.is)));
+      all = all-more IsPrinted c.args.turns.now l.turn-index c.turn-item.result c.loop-turn-test.true c.turn-item.is
+          l.invariant.all (subst IsOk (sym c.in-Ok.is) refl);
     }

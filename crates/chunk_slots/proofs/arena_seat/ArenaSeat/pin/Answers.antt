@@ -32,15 +32,18 @@ returns-else-try_pin-2-clause-moves c = moves_moves _ _ _ c.loop.invariant.moves
 
 pub returns-then-try_pin-clause-pin : goal.returns-then-try_pin-clause-pin
 returns-then-try_pin-clause-pin c =
-    let i = c.loop.invariant in let rose = i.rose in let held = c.if-try_pin.ensures.pinned refl in let at = c.loop.auto.counter in
+    let i = c.loop.invariant in let rose = i.rose in let held = c.if-try_pin.ensures.pinned refl in
+    let at = c.loop.auto.counter in
     held_at_last c.args.self.now.view c.loop.self.view c.try_pin.new.self.view held.0 i.kept (omega arith) held.1
 
 pub returns-then-try_pin-2-clause-pin : goal.returns-then-try_pin-2-clause-pin
 returns-then-try_pin-2-clause-pin c =
-    let i = c.loop.invariant in let rose = i.rose in let held = c.if-try_pin-2.ensures.pinned refl in let at = c.loop.auto.counter in
+    let i = c.loop.invariant in let rose = i.rose in let held = c.if-try_pin-2.ensures.pinned refl in
+    let at = c.loop.auto.counter in
     held_at_last c.args.self.now.view c.loop.self.view c.try_pin-2.new.self.view held.0 i.kept (omega arith) held.1
 
 pub returns-else-try_pin-2-clause-pin : goal.returns-else-try_pin-2-clause-pin
 returns-else-try_pin-2-clause-pin c =
     let i = c.loop.invariant in let lost = c.if-try_pin-2.ensures.raised refl in let at = c.loop.auto.counter in
-    lost_at_last c.args.self.now.view c.loop.self.view c.try_pin-2.new.self.view c.args.tries c.loop.counter i.kept at c.loop-test.false i.rose lost
+    lost_at_last c.args.self.now.view c.loop.self.view c.try_pin-2.new.self.view c.args.tries c.loop.counter i.kept at
+    c.loop-test.false i.rose lost

@@ -16,5 +16,6 @@ returns-clause-content g c =
     let agrees = subst (λ i. IsSome (slice_get (drawn mine) i) → IsContent mine i shown.node) same c.agrees.ensures in
     let at = agrees (chunk_known (drawn mine) k c.requires.known) in
     if_ok _ _ c.hold_chunk.result
-    (λ held is. chunk_content_of (drawn mine) k held.shown.node held.kind (subst (λ n. slice_get (drawn mine) k ≡ Some (content_of n)) (sym (ap (λ (w : Content). w.node) is)) at))
+    (λ held is. chunk_content_of (drawn mine) k held.shown.node held.kind
+    (subst (λ n. slice_get (drawn mine) k ≡ Some (content_of n)) (sym (ap (λ (w : Content). w.node) is)) at))
     c.hold_chunk.ensures.held

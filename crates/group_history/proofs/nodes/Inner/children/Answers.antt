@@ -5,4 +5,6 @@ use Rattle.group_history.proofs.Pairs.{values_of-paired}
 use Rattle.group_history.proofs.nodes.Inner.children.Goals as goal
 
 pub returns : goal.returns
-returns g c = c.deref.ensures.value ∙ (sym (values_of-paired (arc_value c.self.inside.firsts) c.self.inside.children.items c.self.invariant.1) ∙ ap (λ w. values_of w) c.self.view_is)
+returns g c = c.deref.ensures.value ∙ (sym
+    (values_of-paired (arc_value c.self.inside.firsts) c.self.inside.children.items c.self.invariant.1) ∙ ap
+    (λ w. values_of w) c.self.view_is)

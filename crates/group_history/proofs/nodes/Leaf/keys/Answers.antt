@@ -5,4 +5,6 @@ use Rattle.group_history.proofs.Pairs.{keys_of-paired}
 use Rattle.group_history.proofs.nodes.Leaf.keys.Goals as goal
 
 pub returns-clause-keys : goal.returns-clause-keys
-returns-clause-keys c = sym (keys_of-paired (arc_value c.self.inside.keys) c.self.inside.values.items c.self.invariant.1) ∙ ap (λ (w : Rows). keys_of w) c.self.view_is
+returns-clause-keys c = sym (keys_of-paired
+    (arc_value c.self.inside.keys) c.self.inside.values.items c.self.invariant.1) ∙ ap
+    (λ (w : Rows). keys_of w) c.self.view_is

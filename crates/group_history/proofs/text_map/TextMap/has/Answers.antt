@@ -5,4 +5,5 @@ use Rattle.group_history.proofs.TextMaps.{get-at}
 use Rattle.group_history.proofs.text_map.TextMap.has.Goals as goal
 
 pub returns : goal.returns
-returns g c = c.contains_key.ensures ∙ ap is_some (sym (get-at c.self.inside.tree.entries c.args.key.now) ∙ ap (λ m. map.get m c.args.key.now) c.self.view_is)
+returns g c = c.contains_key.ensures ∙ ap is_some
+    (sym (get-at c.self.inside.tree.entries c.args.key.now) ∙ ap (λ m. map.get m c.args.key.now) c.self.view_is)

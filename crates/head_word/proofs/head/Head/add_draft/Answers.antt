@@ -1,4 +1,5 @@
-use Rattle.std.proofs.Common.{◌≡◌, ◌+◌, ◌≤◌, ◌++◌, [], ◌∷◌, sym, ◌∙◌, ap, subst, Some, Option, suc, ℕ, Bool, if◌then◌else◌, MatchBool, nat_eq}
+use Rattle.std.proofs.Common.{◌≡◌, ◌+◌, ◌≤◌, ◌++◌, [], ◌∷◌, sym, ◌∙◌, ap, subst, Some, Option, suc, ℕ, Bool}
+use Rattle.std.proofs.Common.{if◌then◌else◌, MatchBool, nat_eq}
 use Rattle.group_history.specs.Refs.{stamps}
 use Rattle.head_word.specs.declared.entry.Entry.{Entry}
 use Rattle.head_word.specs.declared.mark.Seat.{Seat}
@@ -18,7 +19,8 @@ compare_exchange-found-requires g c =
     let offer = c.offered-offer.ensures in
     let pen = c.no_pen-pen.ensures in
     let asked = c.requires.asked in
-    let book = ap (λ (m : Known). m.book) c.mark.view_is ∙ (c.requires.book ∙ (sym c.self.view_is ∙ sym (ap (λ w. w.book) words))) in
+    let book = ap (λ (m : Known). m.book) c.mark.view_is ∙
+    (c.requires.book ∙ (sym c.self.view_is ∙ sym (ap (λ w. w.book) words))) in
     let seat_is : c.mark.inside.seat ≡ Some c.in-Some.seat = sym c.take.ensures.value ∙ c.in-Some.is in
     let seated = sym (ap (λ (m : Known). m.seat) c.mark.view_is) ∙ ap number_of seat_is in
     let ask_is = offer.1 ∙ (asked.1 ∙ ap (λ (s : Option ℕ). drafted s c.args.first asked.0) seated) in
@@ -29,7 +31,9 @@ compare_exchange-found-requires g c =
       book,
       pen.0 ∙ book,
       offer.0 ∙ sits.names_are,
-      rw (ap (λ w. w.key) words, pen.1, ask_is, offer.3, sym asked.2) (draft_moves g.M.Means.means c.mark.inside.seen.log (Some c.in-Some.seat.number) asked.0 c.args.first c.mark.invariant.0.1 after room),
+      rw (ap (λ w. w.key) words, pen.1, ask_is, offer.3, sym asked.2)
+          (draft_moves g.M.Means.means c.mark.inside.seen.log
+          (Some c.in-Some.seat.number) asked.0 c.args.first c.mark.invariant.0.1 after room),
     )
 
 pub returns-clause-own : goal.returns-clause-own
@@ -42,16 +46,29 @@ returns-clause-own g c =
     let won : Bool = nat_eq c.compare_exchange-found.result c.args.first in
     let seat_is : c.mark.inside.seat ≡ Some c.in-Some.seat = sym c.take.ensures.value ∙ c.in-Some.is in
     let seated = sym (ap (λ (m : Known). m.seat) c.mark.view_is) ∙ ap number_of seat_is in
-    let key : key_of ask ≡ suc number = ap key_of (asked.1 ∙ ap (λ (s : Option ℕ). drafted s c.args.first asked.0) seated) in
+    let key : key_of ask ≡ suc number = ap key_of
+    (asked.1 ∙ ap (λ (s : Option ℕ). drafted s c.args.first asked.0) seated) in
     let sits = subst (Sits c.mark.inside.seen.names log) seat_is c.mark.invariant.1 in
     let offer = c.offered-offer.ensures in
     let step = c.compare_exchange-found.ensures in
     let gain = c.into_gain.ensures in
     let a = c.into_gain.result.answer in
-    let told = c.regained.ensures.3 ∙ count_told c.into_gain.result.about ask c.in-Some.seat.tally.count (gain.1 ∙ (step.4 ∙ offer.2)) in
-    let t : Taken = record { ask = ask; expected = c.args.first; new = c.args.first + c.args.count; found = c.compare_exchange-found.result; before = log; after = log'; answer = c.compare_exchange-found.new.offer.state } in
+    let told = c.regained.ensures.3 ∙ count_told c.into_gain.result.about ask c.in-Some.seat.tally.count
+    (gain.1 ∙ (step.4 ∙ offer.2)) in
+    let t : Taken = record {
+      ask = ask;
+      expected = c.args.first;
+      new = c.args.first + c.args.count;
+      found = c.compare_exchange-found.result;
+      before = log;
+      after = log';
+      answer = c.compare_exchange-found.new.offer.state;
+    } in
     let own' : mine (suc number) log' ≡ mine (suc number) log ++ (if won then ask ∷ [] else []) =
-    own_added drafts_say g.M.Means.means (suc number) c.in-Some.seat.tally.count t a won key sits.count_is told gain.2 step.6
-    (subst (λ (e : Entry). MatchBool won (Adds drafts_say g.M.Means.means (record t { ask = e })) (Misses drafts_say (record t { ask = e }))) offer.1 step.7.outcome) in
-    let placed = subst (λ (s : Option Seat). mine (suc number) log' ≡ own_of (number_of s) log ++ (if won then ask ∷ [] else [])) (sym seat_is) own' in
+    own_added drafts_say g.M.Means.means (suc number) c.in-Some.seat.tally.count t a won key sits.count_is
+    told gain.2 step.6
+    (subst (λ (e : Entry). MatchBool won (Adds drafts_say g.M.Means.means (record t { ask = e }))
+    (Misses drafts_say (record t { ask = e }))) offer.1 step.7.outcome) in
+    let placed = subst (λ (s : Option Seat). mine (suc number) log'
+    ≡ own_of (number_of s) log ++ (if won then ask ∷ [] else [])) (sym seat_is) own' in
     subst (λ (m : Known). mine (suc number) log' ≡ own m ++ (if won then ask ∷ [] else [])) c.mark.view_is placed

@@ -13,5 +13,6 @@ compare_exchange-requires g c =
       book,
       pen.0 ∙ book,
       offer.0 ∙ c.requires.tally.0,
-      rw (ap (λ w. w.key) words, pen.1, offer.1, offer.3, c.bits-bits.ensures) (opens_moves g.M.Means.means c.args.seen.now.log (moved None nowhere None) c.args.to refl c.requires.stamp),
+      rw (ap (λ w. w.key) words, pen.1, offer.1, offer.3, c.bits-bits.ensures)
+          (opens_moves g.M.Means.means c.args.seen.now.log (moved None nowhere None) c.args.to refl c.requires.stamp),
     )

@@ -21,14 +21,16 @@ pub returns-else-add_draft-clause-moved : goal.returns-else-add_draft-clause-mov
 returns-else-add_draft-clause-moved g c =
     let looked = c.next-first.ensures in
     let lost = c.if-add_draft.ensures in
-    let more = drew_more c.next-first.new.mark.log c.add_draft.new.mark.log lost.seen (λ e. lost.added (e ∙ sym looked.next)) in
+    let more = drew_more c.next-first.new.mark.log c.add_draft.new.mark.log lost.seen
+    (λ e. lost.added (e ∙ sym looked.next)) in
     λ _. omega (arith, more, prefix_length c.args.mark.now.log c.next-first.new.mark.log looked.seen)
 
 pub returns-else-add_draft-clause-others : goal.returns-else-add_draft-clause-others
 returns-else-add_draft-clause-others g c = λ is.
     let looked = c.next-first.ensures in
     let lost = c.if-add_draft.ensures in
-    others_rise c.args.mark.now c.add_draft.new.mark (returns-else-add_draft-clause-moved g c is) (lost.own ∙ (append-nil (own c.next-first.new.mark) ∙ looked.own))
+    others_rise c.args.mark.now c.add_draft.new.mark (returns-else-add_draft-clause-moved g c is)
+    (lost.own ∙ (append-nil (own c.next-first.new.mark) ∙ looked.own))
 
 pub returns-then-add_draft-clause-nothing : goal.returns-then-add_draft-clause-nothing
 returns-then-add_draft-clause-nothing g c = search rules

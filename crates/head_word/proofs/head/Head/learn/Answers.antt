@@ -18,20 +18,27 @@ load-requires g c =
     let offer = c.offered-offer.ensures in
     let both = c.learn-2.ensures in
     let book = both.0 ∙ (ap (λ (m : Known). m.book) c.mark.view_is ∙ (c.requires.book ∙ sym c.self.view_is)) in
-    let sits = subst (Sits c.mark.inside.seen.names c.mark.inside.seen.log) (sym c.take.ensures.value ∙ c.in-Some.is) c.mark.invariant.1 in (
+    let sits = subst (Sits c.mark.inside.seen.names c.mark.inside.seen.log)
+    (sym c.take.ensures.value ∙ c.in-Some.is) c.mark.invariant.1 in (
       ap (λ w. w.tracked) words,
       book,
       offer.0 ∙ (sits.names_are ∙ sym both.1),
-      rw (ap (λ w. w.key) words, offer.1, offer.3) (head_counted g.M.Means.means c.learn-2.new.self.log (moved (Some c.in-Some.seat.number) nowhere None) (starts_from c.mark.inside.seen.log c.learn-2.new.self.log both.2 c.mark.invariant.0.1)),
+      rw (ap (λ w. w.key) words, offer.1, offer.3)
+          (head_counted g.M.Means.means c.learn-2.new.self.log (moved (Some c.in-Some.seat.number) nowhere None)
+          (starts_from c.mark.inside.seen.log c.learn-2.new.self.log both.2 c.mark.invariant.0.1)),
     )
 
 pub returns-clause-seen : goal.returns-clause-seen
 returns-clause-seen g c =
-    subst (λ (m : Known). IsPrefix m.log c.load.new.seen.log) c.mark.view_is (prefix_trans c.mark.inside.seen.log c.learn-2.new.self.log c.load.new.seen.log c.learn-2.ensures.2 c.load.ensures.5)
+    subst (λ (m : Known). IsPrefix m.log c.load.new.seen.log) c.mark.view_is
+    (prefix_trans c.mark.inside.seen.log c.learn-2.new.self.log c.load.new.seen.log c.learn-2.ensures.2
+    c.load.ensures.5)
 
 pub returns-clause-other : goal.returns-clause-other
 returns-clause-other g c =
-    subst (λ (m : Known). IsPrefix m.log c.load.new.seen.log) c.other.view_is (prefix_trans c.other.inside.seen.log c.learn-2.new.self.log c.load.new.seen.log c.learn-2.ensures.3 c.load.ensures.5)
+    subst (λ (m : Known). IsPrefix m.log c.load.new.seen.log) c.other.view_is
+    (prefix_trans c.other.inside.seen.log c.learn-2.new.self.log c.load.new.seen.log c.learn-2.ensures.3
+    c.load.ensures.5)
 
 pub returns-clause-own : goal.returns-clause-own
 returns-clause-own g c =
@@ -44,8 +51,11 @@ returns-clause-own g c =
     let load = c.load.ensures in
     let gain = c.into_gain.ensures in
     let tally = c.regained.ensures in
-    let told = tally.3 ∙ count_told c.into_gain.result.about (moved (Some number) nowhere None) c.in-Some.seat.tally.count (gain.1 ∙ (load.4 ∙ offer.2)) in
-    let counted = subst (λ (e : Entry). c.load.new.offer.state ≡ Some (answer (count (key_of e) log') (count (key_of e) log'))) offer.1 load.6.1.counted in
+    let told = tally.3 ∙ count_told c.into_gain.result.about
+    (moved (Some number) nowhere None) c.in-Some.seat.tally.count (gain.1 ∙ (load.4 ∙ offer.2)) in
+    let counted = subst (λ (e : Entry). c.load.new.offer.state
+    ≡ Some (answer (count (key_of e) log') (count (key_of e) log'))) offer.1 load.6.1.counted in
     let pre = prefix_trans log c.learn-2.new.self.log log' c.learn-2.ensures.2 load.5 in
-    own_same (suc number) c.in-Some.seat.tally.count log log' pre sits.count_is c.into_gain.result.answer (count (suc number) log') (sym gain.2 ∙ counted) told
+    own_same (suc number) c.in-Some.seat.tally.count log log' pre sits.count_is c.into_gain.result.answer
+    (count (suc number) log') (sym gain.2 ∙ counted) told
     ∙ (sym (ap (λ (s : Option Seat). own_of (number_of s) log) seat_is) ∙ ap own c.mark.view_is)

@@ -14,11 +14,15 @@ pub load-next-requires : goal.load-next-requires
 load-next-requires g c =
     let words = c.self.invariant.1 in
     let offer = c.offered-offer.ensures in
-    let sits = subst (Sits c.mark.inside.seen.names c.mark.inside.seen.log) (sym c.take.ensures.value ∙ c.in-Some.is) c.mark.invariant.1 in (
+    let sits = subst (Sits c.mark.inside.seen.names c.mark.inside.seen.log)
+    (sym c.take.ensures.value ∙ c.in-Some.is) c.mark.invariant.1 in (
       ap (λ w. w.tracked) words,
-      ap (λ (m : Known). m.book) c.mark.view_is ∙ (c.requires.book ∙ (sym c.self.view_is ∙ sym (ap (λ w. w.book) words))),
+      ap (λ (m : Known). m.book) c.mark.view_is ∙
+          (c.requires.book ∙ (sym c.self.view_is ∙ sym (ap (λ w. w.book) words))),
       offer.0 ∙ sits.names_are,
-      rw (ap (λ w. w.key) words, offer.1, offer.3) (drafts_counted g.M.Means.means c.mark.inside.seen.log (moved (Some c.in-Some.seat.number) nowhere None) c.mark.invariant.0.1),
+      rw (ap (λ w. w.key) words, offer.1, offer.3)
+          (drafts_counted g.M.Means.means c.mark.inside.seen.log
+          (moved (Some c.in-Some.seat.number) nowhere None) c.mark.invariant.0.1),
     )
 
 pub returns-clause-own : goal.returns-clause-own
@@ -32,7 +36,10 @@ returns-clause-own g c =
     let load = c.load-next.ensures in
     let gain = c.into_gain.ensures in
     let tally = c.regained.ensures in
-    let told = tally.3 ∙ count_told c.into_gain.result.about (moved (Some number) nowhere None) c.in-Some.seat.tally.count (gain.1 ∙ (load.4 ∙ offer.2)) in
-    let counted = subst (λ (e : Entry). c.load-next.new.offer.state ≡ Some (answer (count (key_of e) log') (count (key_of e) log'))) offer.1 load.6.1.counted in
-    own_same (suc number) c.in-Some.seat.tally.count log log' load.5 sits.count_is c.into_gain.result.answer (count (suc number) log') (sym gain.2 ∙ counted) told
+    let told = tally.3 ∙ count_told c.into_gain.result.about
+    (moved (Some number) nowhere None) c.in-Some.seat.tally.count (gain.1 ∙ (load.4 ∙ offer.2)) in
+    let counted = subst (λ (e : Entry). c.load-next.new.offer.state
+    ≡ Some (answer (count (key_of e) log') (count (key_of e) log'))) offer.1 load.6.1.counted in
+    own_same (suc number) c.in-Some.seat.tally.count log log' load.5 sits.count_is c.into_gain.result.answer
+    (count (suc number) log') (sym gain.2 ∙ counted) told
     ∙ (sym (ap (λ (s : Option Seat). own_of (number_of s) log) seat_is) ∙ ap own c.mark.view_is)

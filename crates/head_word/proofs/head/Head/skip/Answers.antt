@@ -9,18 +9,24 @@ use Rattle.group_history.proofs.Lists.{prefix_length}
 
 pub add_draft-requires-clause-asked : goal.add_draft-requires-clause-asked
 add_draft-requires-clause-asked g c =
-    let leaves = replicate c.args.count empty_leaf in
-    (leaves, ap (λ (s : Option ℕ). drafted s c.next-first.result leaves) c.seat.ensures, length-replicate c.args.count empty_leaf, leaves_after (next_stamp c.next-first.new.mark.log) 0 c.args.count)
+    let leaves = replicate c.args.count empty_leaf in (
+      leaves,
+      ap (λ (s : Option ℕ). drafted s c.next-first.result leaves) c.seat.ensures,
+      length-replicate c.args.count empty_leaf,
+      leaves_after (next_stamp c.next-first.new.mark.log) 0 c.args.count,
+    )
 
 pub returns-else-add_draft-clause-moved : goal.returns-else-add_draft-clause-moved
 returns-else-add_draft-clause-moved g c =
     let looked = c.next-first.ensures in
     let lost = c.if-add_draft.ensures in
-    let more = drew_more c.next-first.new.mark.log c.add_draft.new.mark.log lost.seen (λ e. lost.added (e ∙ sym looked.next)) in
+    let more = drew_more c.next-first.new.mark.log c.add_draft.new.mark.log lost.seen
+    (λ e. lost.added (e ∙ sym looked.next)) in
     λ _. omega (arith, more, prefix_length c.args.mark.now.log c.next-first.new.mark.log looked.seen)
 
 pub returns-else-add_draft-clause-others : goal.returns-else-add_draft-clause-others
 returns-else-add_draft-clause-others g c = λ is.
     let looked = c.next-first.ensures in
     let lost = c.if-add_draft.ensures in
-    others_rise c.args.mark.now c.add_draft.new.mark (returns-else-add_draft-clause-moved g c is) (lost.own ∙ (append-nil (own c.next-first.new.mark) ∙ looked.own))
+    others_rise c.args.mark.now c.add_draft.new.mark (returns-else-add_draft-clause-moved g c is)
+    (lost.own ∙ (append-nil (own c.next-first.new.mark) ∙ looked.own))

@@ -7,4 +7,7 @@ pub push-requires : goal.push-requires
 push-requires c =
     let n = length c.args.nodes in
     let room = subst (λ (k : ℕ). AreBelow k (children c.args.node)) (let e : n ≡ n + 0 = omega arith in e) c.requires in
-    record { children = subst (λ (d : Drafted). AreBelow (d.first + length d.nodes) (children c.args.node)) (sym c.draft-draft.ensures) room }
+    record {
+      children = subst (λ (d : Drafted). AreBelow (d.first + length d.nodes) (children c.args.node))
+          (sym c.draft-draft.ensures) room;
+    }

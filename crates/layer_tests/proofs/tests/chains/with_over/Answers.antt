@@ -8,4 +8,5 @@ with-requires c =
     let n = length c.args.nodes in
     let first = c.at-snapshot.result in
     let low = subst (λ k. k < n) (sym c.at-snapshot.ensures) c.requires.2 in
-    below-cons n c.args.root (c.args.basis ∷ first ∷ []) c.requires.1 (below-cons n c.args.basis (first ∷ []) c.requires.0 (below-cons n first [] low (below-none n)))
+    below-cons n c.args.root (c.args.basis ∷ first ∷ []) c.requires.1
+    (below-cons n c.args.basis (first ∷ []) c.requires.0 (below-cons n first [] low (below-none n)))

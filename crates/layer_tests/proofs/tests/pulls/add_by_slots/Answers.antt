@@ -11,9 +11,15 @@ use Rattle.layer_tests.proofs.tests.pulls.add_by_slots.Goals as goal
 
 pub returns : goal.returns
 returns c =
-    let nodes = c.args.nodes.now in let shown = c.by_slots-slots.result.shelf.nodes.now in let contents = map content_of shown in
+    let nodes = c.args.nodes.now in let shown = c.by_slots-slots.result.shelf.nodes.now in
+    let contents = map content_of shown in
     let v = some_of (version_at (map content_of nodes) (stamp_of c.args.head)) c.requires in
-    let base = c.in_ok-base.ensures.base v.0 (ap (λ (ns : List (Node Ref)). version_at (map content_of ns) (stamp_of c.args.head)) c.by_slots-slots.ensures ∙ v.1) in
-    let there = ap (λ (w : Contents). map_at w (stamp_of c.in_ok-base.base.pulled)) (bare contents c.draft-draft.result _ c.draft-draft.ensures) ∙ base.2 in
+    let base = c.in_ok-base.ensures.base v.0
+    (ap (λ (ns : List (Node Ref)). version_at (map content_of ns) (stamp_of c.args.head))
+    c.by_slots-slots.ensures ∙ v.1) in
+    let there = ap (λ (w : Contents). map_at w (stamp_of c.in_ok-base.base.pulled))
+    (bare contents c.draft-draft.result _ c.draft-draft.ensures) ∙ base.2 in
     let s : State = state v.0.state.pulled v.0.state.cookie c.in_ok-base.base.confirmed c.args.pending.now false in
-    placed shown nodes c.rebased.new.draft.nodes c.append.new.self (stamp_of c.in_ok-made.made.commit) _ c.by_slots-slots.ensures c.in_ok-append.ensures.ok (c.in_ok-made.ensures.spelled s there refl refl refl)
+    placed shown nodes c.rebased.new.draft.nodes c.append.new.self
+    (stamp_of c.in_ok-made.made.commit) _ c.by_slots-slots.ensures c.in_ok-append.ensures.ok
+    (c.in_ok-made.ensures.spelled s there refl refl refl)

@@ -12,4 +12,7 @@ freeze-requires c =
     let old = map content_of c.args.chunks.now.shelf.nodes.now in
     let m = some_of (map_at old (stamp_of c.args.root)) c.requires.known in
     let put = c.in_ok-put.ensures.ok m.0 (c.at-tree.ensures.map old ∙ m.1) in
-    record { below = tree-ready c.put.new.chunks.shelf.nodes.now c.draft-draft.result c.put.new.self c.draft-draft.ensures (subst IsSome (sym put) refl) }
+    record {
+      below = tree-ready c.put.new.chunks.shelf.nodes.now c.draft-draft.result c.put.new.self
+          c.draft-draft.ensures (subst IsSome (sym put) refl);
+    }

@@ -6,6 +6,8 @@ use Rattle.map_chunks.proofs.drafts.Draft.push.Goals as goal
 
 pub invariant_of-self-2 : goal.invariant_of-self-2
 invariant_of-self-2 c = (
-    let room = subst (λ (d : Drafted). AreBelow (d.first + length d.nodes) (children c.args.node)) (sym c.self.view_is) c.requires.children in
-    subst (AreOrdered c.self.inside.first) (sym c.in_ok-push.ensures.items) (ordered-more c.self.inside.first c.self.inside.nodes.items c.args.node c.self.invariant room)
+    let room = subst (λ (d : Drafted). AreBelow (d.first + length d.nodes) (children c.args.node))
+    (sym c.self.view_is) c.requires.children in
+    subst (AreOrdered c.self.inside.first) (sym c.in_ok-push.ensures.items)
+    (ordered-more c.self.inside.first c.self.inside.nodes.items c.args.node c.self.invariant room)
     )

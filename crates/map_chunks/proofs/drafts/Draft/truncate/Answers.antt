@@ -4,4 +4,5 @@ use Rattle.map_chunks.proofs.DraftLemmas.{ordered-take}
 use Rattle.map_chunks.proofs.drafts.Draft.truncate.Goals as goal
 
 pub invariant_of-self : goal.invariant_of-self
-invariant_of-self c = subst (AreOrdered c.self.inside.first) (sym c.truncate.ensures.items) (ordered-take c.self.inside.first c.args.len c.self.inside.nodes.items c.self.invariant)
+invariant_of-self c = subst (AreOrdered c.self.inside.first) (sym c.truncate.ensures.items)
+    (ordered-take c.self.inside.first c.args.len c.self.inside.nodes.items c.self.invariant)

@@ -7,8 +7,12 @@ use Rattle.map_chunks.proofs.shelf.ShelfChunks.show.Goals as goal
 
 pub returns-in-None-clause-stopped : goal.returns-in-None-clause-stopped
 returns-in-None-clause-stopped c =
-    nothing_there c.args.self.now.nodes.now (stamp_of c.args.at) c.requires.known (ap (slice_get c.args.self.now.nodes.now) (sym c.stamp.ensures.stamp) ∙ (sym c.at.ensures ∙ ap option_copied c.in-None.is))
+    nothing_there c.args.self.now.nodes.now (stamp_of c.args.at) c.requires.known
+    (ap (slice_get c.args.self.now.nodes.now) (sym c.stamp.ensures.stamp) ∙
+    (sym c.at.ensures ∙ ap option_copied c.in-None.is))
 
 pub returns-in-Some-Commit-clause-stopped : goal.returns-in-Some-Commit-clause-stopped
 returns-in-Some-Commit-clause-stopped c =
-    commit_there c.args.self.now.nodes.now (stamp_of c.args.at) c.in-Some-Commit.field-0-0 c.requires.known (ap (slice_get c.args.self.now.nodes.now) (sym c.stamp.ensures.stamp) ∙ (sym c.at.ensures ∙ (ap option_copied c.in-Some-Commit.is ∙ ap (λ n. Some n) c.in-Some-Commit.field-0-is)))
+    commit_there c.args.self.now.nodes.now (stamp_of c.args.at) c.in-Some-Commit.field-0-0 c.requires.known
+    (ap (slice_get c.args.self.now.nodes.now) (sym c.stamp.ensures.stamp) ∙
+    (sym c.at.ensures ∙ (ap option_copied c.in-Some-Commit.is ∙ ap (λ n. Some n) c.in-Some-Commit.field-0-is)))

@@ -14,27 +14,41 @@ use Rattle.map_nodes.proofs.nodes.Node.+get.Goals as goal
 pub get_placed-requires-clause-known : goal.get_placed-requires-clause-known
 get_placed-requires-clause-known g t c =
     let p = g.C.Chunks.contents c.args.chunks.now in
-    let d = node_down p c.self.inside.depth c.self.inside.keys.texts c.self.inside.body c.in-Inner.kids c.args.self.now.pieces c.as_slice-in-Inner.result.now c.args.key.now
-    c.place_of-place.result c.index.result.now (ap (λ (s : Seen). s.pieces) c.self.view_is) c.in-Inner.is c.self.invariant c.as_slice-in-Inner.ensures c.place_of-place.ensures c.index.ensures c.requires.1.1.1.1.1 in
-    tree_of (chunk_rows p (stamp_of c.in-Placed.at)) d.way.here (down_placed p _ _ _ _ _ _ _ c.in-Placed.at d c.in-Placed.is) d.way.strict
+    let d = node_down p c.self.inside.depth c.self.inside.keys.texts c.self.inside.body c.in-Inner.kids
+    c.args.self.now.pieces c.as_slice-in-Inner.result.now c.args.key.now
+    c.place_of-place.result c.index.result.now
+    (ap (λ (s : Seen). s.pieces) c.self.view_is) c.in-Inner.is c.self.invariant c.as_slice-in-Inner.ensures
+    c.place_of-place.ensures c.index.ensures c.requires.1.1.1.1.1 in
+    tree_of (chunk_rows p (stamp_of c.in-Placed.at)) d.way.here
+    (down_placed p _ _ _ _ _ _ _ c.in-Placed.at d c.in-Placed.is) d.way.strict
 
 pub get_placed-requires-clause-place : goal.get_placed-requires-clause-place
 get_placed-requires-clause-place g t c =
     placed_may (g.C.Chunks.places c.args.chunks.now) c.index.result.now c.in-Placed.at c.in-Placed.is
-    (down_may (g.C.Chunks.places c.args.chunks.now) c.self.inside.depth c.self.inside.keys.texts c.self.inside.body c.in-Inner.kids c.args.self.now.pieces c.as_slice-in-Inner.result.now
-    c.place_of-place.result c.index.result.now (ap (λ (s : Seen). s.pieces) c.self.view_is) c.in-Inner.is c.self.invariant c.as_slice-in-Inner.ensures c.place_of-place.ensures.0 c.index.ensures c.requires.1.1.1.1.0)
+    (down_may (g.C.Chunks.places c.args.chunks.now) c.self.inside.depth c.self.inside.keys.texts c.self.inside.body
+    c.in-Inner.kids c.args.self.now.pieces c.as_slice-in-Inner.result.now
+    c.place_of-place.result c.index.result.now
+    (ap (λ (s : Seen). s.pieces) c.self.view_is) c.in-Inner.is c.self.invariant c.as_slice-in-Inner.ensures
+    c.place_of-place.ensures.0 c.index.ensures c.requires.1.1.1.1.0)
 
 pub get-requires : goal.get-requires
 get-requires g t c κs within =
     let p = g.C.Chunks.contents c.args.chunks.now in
-    let d = node_down p c.self.inside.depth c.self.inside.keys.texts c.self.inside.body c.in-Inner.kids c.args.self.now.pieces c.as_slice-in-Inner.result.now c.args.key.now
-    c.place_of-place.result c.index.result.now (ap (λ (s : Seen). s.pieces) c.self.view_is) c.in-Inner.is c.self.invariant c.as_slice-in-Inner.ensures c.place_of-place.ensures c.index.ensures c.requires.1.1.1.1.1 in
+    let d = node_down p c.self.inside.depth c.self.inside.keys.texts c.self.inside.body c.in-Inner.kids
+    c.args.self.now.pieces c.as_slice-in-Inner.result.now c.args.key.now
+    c.place_of-place.result c.index.result.now
+    (ap (λ (s : Seen). s.pieces) c.self.view_is) c.in-Inner.is c.self.invariant c.as_slice-in-Inner.ensures
+    c.place_of-place.ensures c.index.ensures c.requires.1.1.1.1.1 in
     let o = down_own p _ _ _ _ _ _ _ c.in-Own.node d c.in-Own.is in
-    let z = inner_depth c.self.inside.depth c.self.inside.keys.texts c.self.inside.body c.in-Inner.kids c.in-Inner.is c.self.invariant in
+    let z = inner_depth c.self.inside.depth c.self.inside.keys.texts c.self.inside.body c.in-Inner.kids c.in-Inner.is
+    c.self.invariant in
     let here = ap (λ (s : Seen). s.depth) c.self.view_is in
     let all =
-    down_may (g.C.Chunks.places c.args.chunks.now) c.self.inside.depth c.self.inside.keys.texts c.self.inside.body c.in-Inner.kids c.args.self.now.pieces c.as_slice-in-Inner.result.now
-    c.place_of-place.result c.index.result.now (ap (λ (s : Seen). s.pieces) c.self.view_is) c.in-Inner.is c.self.invariant c.as_slice-in-Inner.ensures c.place_of-place.ensures.0 c.index.ensures c.requires.1.1.1.1.0 in
+    down_may (g.C.Chunks.places c.args.chunks.now) c.self.inside.depth c.self.inside.keys.texts c.self.inside.body
+    c.in-Inner.kids c.args.self.now.pieces c.as_slice-in-Inner.result.now
+    c.place_of-place.result c.index.result.now
+    (ap (λ (s : Seen). s.pieces) c.self.view_is) c.in-Inner.is c.self.invariant c.as_slice-in-Inner.ensures
+    c.place_of-place.ensures.0 c.index.ensures c.requires.1.1.1.1.0 in
     let v = c.deref-in-Own.ensures in (
       omega (arith, ap (λ (s : Seen). s.depth) v, o.1, z, here, c.requires.1.0),
       (
@@ -42,8 +56,10 @@ get-requires g t c κs within =
         (
           within.1,
           (
-            subst (λ (s : Seen). AreAll (g.C.Chunks.places c.args.chunks.now) (places_of s.pieces)) (sym v) (own_may (g.C.Chunks.places c.args.chunks.now) c.index.result.now c.in-Own.node c.in-Own.is all),
-            subst (λ (s : Seen). IsTree (shown p s.pieces)) (sym v) (tree_of (shown p c.in-Own.node.value.pieces) d.way.here o.0 d.way.strict),
+            subst (λ (s : Seen). AreAll (g.C.Chunks.places c.args.chunks.now) (places_of s.pieces)) (sym v)
+                (own_may (g.C.Chunks.places c.args.chunks.now) c.index.result.now c.in-Own.node c.in-Own.is all),
+            subst (λ (s : Seen). IsTree (shown p s.pieces)) (sym v)
+                (tree_of (shown p c.in-Own.node.value.pieces) d.way.here o.0 d.way.strict),
           ),
         ),
       ),
@@ -53,23 +69,35 @@ pub returns-in_ok-value_at-in-Leaf-clause-value : goal.returns-in_ok-value_at-in
 returns-in_ok-value_at-in-Leaf-clause-value g t c =
     let p = g.C.Chunks.contents c.args.chunks.now in
     let key = c.args.key.now in
-    let pieces = ap (body_pieces c.self.inside.depth c.self.inside.keys.texts) (sym c.in-Leaf.is) ∙ ap (λ (s : Seen). s.pieces) c.self.view_is in
+    let pieces = ap (body_pieces c.self.inside.depth c.self.inside.keys.texts) (sym c.in-Leaf.is) ∙ ap
+    (λ (s : Seen). s.pieces) c.self.view_is in
     c.in_ok-value_at-in-Leaf.ensures
     ∙ ap (λ w. finite.find (slice_cmp nat_cmp) key (paired w c.deref.result.now)) c.as_slice.ensures
     ∙ ap (λ w. finite.find (slice_cmp nat_cmp) key (paired c.self.inside.keys.texts w)) c.deref.ensures.value
-    ∙ ap (λ w. finite.find (slice_cmp nat_cmp) key (rows_or w)) (sym (ap (shown p) (sym pieces) ∙ shown-rows p (paired c.self.inside.keys.texts c.in-Leaf.values.items)))
+    ∙ ap (λ w. finite.find (slice_cmp nat_cmp) key (rows_or w))
+    (sym (ap (shown p) (sym pieces) ∙ shown-rows p (paired c.self.inside.keys.texts c.in-Leaf.values.items)))
 
 pub returns-in-Placed-clause-value : goal.returns-in-Placed-clause-value
 returns-in-Placed-clause-value g t c =
     let p = g.C.Chunks.contents c.args.chunks.now in
-    let d = node_down p c.self.inside.depth c.self.inside.keys.texts c.self.inside.body c.in-Inner.kids c.args.self.now.pieces c.as_slice-in-Inner.result.now c.args.key.now
-    c.place_of-place.result c.index.result.now (ap (λ (s : Seen). s.pieces) c.self.view_is) c.in-Inner.is c.self.invariant c.as_slice-in-Inner.ensures c.place_of-place.ensures c.index.ensures c.requires.1.1.1.1.1 in
-    subst (λ x. IfOk c.get_placed.result (λ v. v ≡ x)) (down-find p _ _ _ _ _ _ _ _ d (down_placed p _ _ _ _ _ _ _ c.in-Placed.at d c.in-Placed.is)) c.get_placed.ensures.value
+    let d = node_down p c.self.inside.depth c.self.inside.keys.texts c.self.inside.body c.in-Inner.kids
+    c.args.self.now.pieces c.as_slice-in-Inner.result.now c.args.key.now
+    c.place_of-place.result c.index.result.now
+    (ap (λ (s : Seen). s.pieces) c.self.view_is) c.in-Inner.is c.self.invariant c.as_slice-in-Inner.ensures
+    c.place_of-place.ensures c.index.ensures c.requires.1.1.1.1.1 in
+    subst (λ x. IfOk c.get_placed.result (λ v. v ≡ x))
+    (down-find p _ _ _ _ _ _ _ _ d (down_placed p _ _ _ _ _ _ _ c.in-Placed.at d c.in-Placed.is))
+    c.get_placed.ensures.value
 
 pub returns-in-Own-clause-value : goal.returns-in-Own-clause-value
 returns-in-Own-clause-value g t c =
     let p = g.C.Chunks.contents c.args.chunks.now in
-    let d = node_down p c.self.inside.depth c.self.inside.keys.texts c.self.inside.body c.in-Inner.kids c.args.self.now.pieces c.as_slice-in-Inner.result.now c.args.key.now
-    c.place_of-place.result c.index.result.now (ap (λ (s : Seen). s.pieces) c.self.view_is) c.in-Inner.is c.self.invariant c.as_slice-in-Inner.ensures c.place_of-place.ensures c.index.ensures c.requires.1.1.1.1.1 in
+    let d = node_down p c.self.inside.depth c.self.inside.keys.texts c.self.inside.body c.in-Inner.kids
+    c.args.self.now.pieces c.as_slice-in-Inner.result.now c.args.key.now
+    c.place_of-place.result c.index.result.now
+    (ap (λ (s : Seen). s.pieces) c.self.view_is) c.in-Inner.is c.self.invariant c.as_slice-in-Inner.ensures
+    c.place_of-place.ensures c.index.ensures c.requires.1.1.1.1.1 in
     let o = down_own p _ _ _ _ _ _ _ c.in-Own.node d c.in-Own.is in
-    subst (λ x. IfOk c.get.result (λ v. v ≡ x)) (down-find p _ _ _ _ _ _ _ _ d (ap (λ (s : Seen). shown p s.pieces) c.deref-in-Own.ensures ∙ o.0)) c.get.ensures.value
+    subst (λ x. IfOk c.get.result (λ v. v ≡ x))
+    (down-find p _ _ _ _ _ _ _ _ d (ap (λ (s : Seen). shown p s.pieces) c.deref-in-Own.ensures ∙ o.0))
+    c.get.ensures.value

@@ -11,33 +11,48 @@ pub returns-then-len-ne1-clause-end : goal.returns-then-len-ne1-clause-end
 returns-then-len-ne1-clause-end t c =
     let keys = c.self.inside.keys.texts in
     let kids = c.in-Inner.kids.items in
-    let i : IsNode c.self.inside.depth keys (Inner c.in-Inner.kids) = subst (IsNode c.self.inside.depth keys) c.in-Inner.is c.self.invariant in
-    let pieces : kids_pieces (c.self.inside.depth - 1) (paired keys kids) ≡ c.args.self.now.pieces = ap (body_pieces c.self.inside.depth keys) (sym c.in-Inner.is) ∙ ap (λ (s : Seen). s.pieces) c.self.view_is in
-    end-many (c.self.inside.depth - 1) keys kids i.1.2 i.1.1 (λ e. c.if-len-ne1.true (let q : c.len.result ≡ 1 = omega (arith, c.len.ensures, e, c.in-Inner.kids.ok.0) in q)) i.1.3
+    let i : IsNode c.self.inside.depth keys (Inner c.in-Inner.kids) = subst
+    (IsNode c.self.inside.depth keys) c.in-Inner.is c.self.invariant in
+    let pieces : kids_pieces (c.self.inside.depth - 1) (paired keys kids)
+    ≡ c.args.self.now.pieces = ap (body_pieces c.self.inside.depth keys) (sym c.in-Inner.is) ∙ ap
+    (λ (s : Seen). s.pieces) c.self.view_is in
+    end-many (c.self.inside.depth - 1) keys kids i.1.2 i.1.1
+    (λ e. c.if-len-ne1.true (let q : c.len.result
+    ≡ 1 = omega (arith, c.len.ensures, e, c.in-Inner.kids.ok.0) in q)) i.1.3
     ∙ ap end_of_pieces pieces
 
 pub returns-in-Leaf-clause-end : goal.returns-in-Leaf-clause-end
 returns-in-Leaf-clause-end t c =
     end-rows (paired c.self.inside.keys.texts c.in-Leaf.field-0.items)
-    ∙ ap end_of_pieces (ap (body_pieces c.self.inside.depth c.self.inside.keys.texts) (sym c.in-Leaf.is) ∙ ap (λ (s : Seen). s.pieces) c.self.view_is)
+    ∙ ap end_of_pieces (ap (body_pieces c.self.inside.depth c.self.inside.keys.texts) (sym c.in-Leaf.is) ∙ ap
+    (λ (s : Seen). s.pieces) c.self.view_is)
 
 pub returns-in-Placed-clause-end : goal.returns-in-Placed-clause-end
 returns-in-Placed-clause-end t c =
     let keys = c.self.inside.keys.texts in
     let kids = c.in-Inner.kids.items in
-    let i : IsNode c.self.inside.depth keys (Inner c.in-Inner.kids) = subst (IsNode c.self.inside.depth keys) c.in-Inner.is c.self.invariant in
+    let i : IsNode c.self.inside.depth keys (Inner c.in-Inner.kids) = subst
+    (IsNode c.self.inside.depth keys) c.in-Inner.is c.self.invariant in
     let one : length kids ≡ 1 = omega (arith, c.len.ensures, c.if-len-ne1.false, c.in-Inner.kids.ok.0) in
-    let pieces : kids_pieces (c.self.inside.depth - 1) (paired keys kids) ≡ c.args.self.now.pieces = ap (body_pieces c.self.inside.depth keys) (sym c.in-Inner.is) ∙ ap (λ (s : Seen). s.pieces) c.self.view_is in
-    sym (ap end_of c.in-Placed.is) ∙ end-one (c.self.inside.depth - 1) keys kids c.index.result.now i.1.2 one c.index.ensures ∙ ap end_of_pieces pieces
+    let pieces : kids_pieces (c.self.inside.depth - 1) (paired keys kids)
+    ≡ c.args.self.now.pieces = ap (body_pieces c.self.inside.depth keys) (sym c.in-Inner.is) ∙ ap
+    (λ (s : Seen). s.pieces) c.self.view_is in
+    sym (ap end_of c.in-Placed.is) ∙ end-one
+    (c.self.inside.depth - 1) keys kids c.index.result.now i.1.2 one c.index.ensures ∙ ap end_of_pieces pieces
 
 pub returns-in-Own-clause-end : goal.returns-in-Own-clause-end
 returns-in-Own-clause-end t c =
     let keys = c.self.inside.keys.texts in
     let kids = c.in-Inner.kids.items in
-    let i : IsNode c.self.inside.depth keys (Inner c.in-Inner.kids) = subst (IsNode c.self.inside.depth keys) c.in-Inner.is c.self.invariant in
+    let i : IsNode c.self.inside.depth keys (Inner c.in-Inner.kids) = subst
+    (IsNode c.self.inside.depth keys) c.in-Inner.is c.self.invariant in
     let one : length kids ≡ 1 = omega (arith, c.len.ensures, c.if-len-ne1.false, c.in-Inner.kids.ok.0) in
-    let pieces : kids_pieces (c.self.inside.depth - 1) (paired keys kids) ≡ c.args.self.now.pieces = ap (body_pieces c.self.inside.depth keys) (sym c.in-Inner.is) ∙ ap (λ (s : Seen). s.pieces) c.self.view_is in
-    c.placed_end.ensures.end ∙ ap (λ (s : Seen). end_of_pieces s.pieces) c.deref.ensures ∙ sym (ap end_of c.in-Own.is) ∙ end-one (c.self.inside.depth - 1) keys kids c.index.result.now i.1.2 one c.index.ensures ∙ ap end_of_pieces pieces
+    let pieces : kids_pieces (c.self.inside.depth - 1) (paired keys kids)
+    ≡ c.args.self.now.pieces = ap (body_pieces c.self.inside.depth keys) (sym c.in-Inner.is) ∙ ap
+    (λ (s : Seen). s.pieces) c.self.view_is in
+    c.placed_end.ensures.end ∙ ap (λ (s : Seen). end_of_pieces s.pieces) c.deref.ensures ∙ sym
+    (ap end_of c.in-Own.is) ∙ end-one (c.self.inside.depth - 1) keys kids c.index.result.now i.1.2 one
+    c.index.ensures ∙ ap end_of_pieces pieces
 
 pub returns-in-Leaf-clause-below : goal.returns-in-Leaf-clause-below
 returns-in-Leaf-clause-below t c =
@@ -55,7 +70,9 @@ returns-then-len-ne1-clause-below t c =
     let i : IsNode depth keys (Inner c.in-Inner.kids) = subst (IsNode depth keys) c.in-Inner.is c.self.invariant in
     subst (λ (s : Seen). IsEndBelow s.depth s.pieces) c.self.view_is
     (subst (λ b. IsEndBelow depth (body_pieces depth keys b)) (sym c.in-Inner.is)
-    (many-below depth (depth - 1) keys kids i.1.2 i.1.1 (λ e. c.if-len-ne1.true (let q : c.len.result ≡ 1 = omega (arith, c.len.ensures, e, c.in-Inner.kids.ok.0) in q)) i.1.3))
+    (many-below depth (depth - 1) keys kids i.1.2 i.1.1
+    (λ e. c.if-len-ne1.true (let q : c.len.result
+    ≡ 1 = omega (arith, c.len.ensures, e, c.in-Inner.kids.ok.0) in q)) i.1.3))
 
 pub returns-in-Placed-clause-below : goal.returns-in-Placed-clause-below
 returns-in-Placed-clause-below t c =
@@ -66,7 +83,8 @@ returns-in-Placed-clause-below t c =
     let one : length kids ≡ 1 = omega (arith, c.len.ensures, c.if-len-ne1.false, c.in-Inner.kids.ok.0) in
     subst (λ (s : Seen). IsEndBelow s.depth s.pieces) c.self.view_is
     (subst (λ b. IsEndBelow depth (body_pieces depth keys b)) (sym c.in-Inner.is)
-    (one-below depth keys kids c.index.result.now i.1.2 one c.index.ensures i.1.0 i.1.3 (subst IsKidBelow (sym c.in-Placed.is) tt)))
+    (one-below depth keys kids c.index.result.now i.1.2 one c.index.ensures i.1.0 i.1.3
+    (subst IsKidBelow (sym c.in-Placed.is) tt)))
 
 pub returns-in-Own-clause-below : goal.returns-in-Own-clause-below
 returns-in-Own-clause-below t c =
@@ -78,4 +96,5 @@ returns-in-Own-clause-below t c =
     subst (λ (s : Seen). IsEndBelow s.depth s.pieces) c.self.view_is
     (subst (λ b. IsEndBelow depth (body_pieces depth keys b)) (sym c.in-Inner.is)
     (one-below depth keys kids c.index.result.now i.1.2 one c.index.ensures i.1.0 i.1.3
-    (subst IsKidBelow (sym c.in-Own.is) (subst (λ (s : Seen). IsEndBelow s.depth s.pieces) c.deref.ensures c.placed_end.ensures.below))))
+    (subst IsKidBelow (sym c.in-Own.is) (subst
+    (λ (s : Seen). IsEndBelow s.depth s.pieces) c.deref.ensures c.placed_end.ensures.below))))

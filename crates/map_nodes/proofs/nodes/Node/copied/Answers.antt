@@ -17,30 +17,43 @@ use Rattle.map_nodes.proofs.nodes.Node.copied.Goals as goal
 
 pub of_chunk-node-requires : goal.of_chunk-node-requires
 of_chunk-node-requires g c =
-    let s = some_of (rows_at (g.C.Chunks.contents c.args.chunks.now) c.args.depth (stamp_of c.args.at)) c.requires.known in
-    let r = rows-kept (g.C.Chunks.contents c.args.chunks.now) (g.C.Chunks.contents c.show.new.self) c.args.depth (stamp_of c.args.at) s.0 c.show.ensures.grown.0 s.1 in
-    let k = copyable (g.C.Chunks.contents c.show.new.self) c.args.depth (stamp_of c.args.at) s.0 _ r c.in_ok-held.ensures.content in
+    let s = some_of (rows_at (g.C.Chunks.contents c.args.chunks.now) c.args.depth (stamp_of c.args.at))
+    c.requires.known in
+    let r = rows-kept (g.C.Chunks.contents c.args.chunks.now) (g.C.Chunks.contents c.show.new.self) c.args.depth
+    (stamp_of c.args.at) s.0 c.show.ensures.grown.0 s.1 in
+    let k = copyable (g.C.Chunks.contents c.show.new.self) c.args.depth
+    (stamp_of c.args.at) s.0 _ r c.in_ok-held.ensures.content in
     subst (λ (ch : Chunk Ref). MayBeDeep c.args.depth ch) (sym c.chunk.ensures) k.deep
 
 pub returns-clause-rows : goal.returns-clause-rows
 returns-clause-rows g c =
-    let s = some_of (rows_at (g.C.Chunks.contents c.args.chunks.now) c.args.depth (stamp_of c.args.at)) c.requires.known in
-    let r = rows-kept (g.C.Chunks.contents c.args.chunks.now) (g.C.Chunks.contents c.show.new.self) c.args.depth (stamp_of c.args.at) s.0 c.show.ensures.grown.0 s.1 in
-    let k = copyable (g.C.Chunks.contents c.show.new.self) c.args.depth (stamp_of c.args.at) s.0 _ r c.in_ok-held.ensures.content in
+    let s = some_of (rows_at (g.C.Chunks.contents c.args.chunks.now) c.args.depth (stamp_of c.args.at))
+    c.requires.known in
+    let r = rows-kept (g.C.Chunks.contents c.args.chunks.now) (g.C.Chunks.contents c.show.new.self) c.args.depth
+    (stamp_of c.args.at) s.0 c.show.ensures.grown.0 s.1 in
+    let k = copyable (g.C.Chunks.contents c.show.new.self) c.args.depth
+    (stamp_of c.args.at) s.0 _ r c.in_ok-held.ensures.content in
     ap (λ p. shown p c.in_ok-node.field-0.pieces) (ap g.C.Chunks.contents c.leave.ensures)
-    ∙ ap (shown (g.C.Chunks.contents c.show.new.self)) (c.in_ok-node.ensures.1 ∙ ap (chunk_pieces c.args.depth) c.chunk.ensures)
+    ∙ ap (shown (g.C.Chunks.contents c.show.new.self))
+    (c.in_ok-node.ensures.1 ∙ ap (chunk_pieces c.args.depth) c.chunk.ensures)
     ∙ k.rows_are ∙ sym s.1
 
 pub returns-clause-wide : goal.returns-clause-wide
 returns-clause-wide g c w =
     let p = g.C.Chunks.contents c.show.new.self in
-    let s = some_of (rows_at (g.C.Chunks.contents c.args.chunks.now) c.args.depth (stamp_of c.args.at)) c.requires.known in
-    let r = rows-kept (g.C.Chunks.contents c.args.chunks.now) p c.args.depth (stamp_of c.args.at) s.0 c.show.ensures.grown.0 s.1 in
+    let s = some_of (rows_at (g.C.Chunks.contents c.args.chunks.now) c.args.depth (stamp_of c.args.at))
+    c.requires.known in
+    let r = rows-kept (g.C.Chunks.contents c.args.chunks.now) p c.args.depth
+    (stamp_of c.args.at) s.0 c.show.ensures.grown.0 s.1 in
     let k = copyable p c.args.depth (stamp_of c.args.at) s.0 _ r c.in_ok-held.ensures.content in
-    let is = subst (λ (ch : Chunk Ref). IsCopy c.args.depth ch c.in_ok-node.field-0) c.chunk.ensures c.in_ok-node.ensures in
-    wide-copy p (stamp_of c.args.at) c.args.depth _ c.in_ok-node.field-0 c.in_ok-held.ensures.content k.deep is.0 is.3 (subst (λ q. IsWideAt q (stamp_of c.args.at)) (ap g.C.Chunks.contents c.leave.ensures) w)
+    let is = subst (λ (ch : Chunk Ref). IsCopy c.args.depth ch c.in_ok-node.field-0) c.chunk.ensures
+    c.in_ok-node.ensures in
+    wide-copy p (stamp_of c.args.at) c.args.depth _ c.in_ok-node.field-0 c.in_ok-held.ensures.content k.deep is.0 is.3
+    (subst (λ q. IsWideAt q (stamp_of c.args.at)) (ap g.C.Chunks.contents c.leave.ensures) w)
 
 pub returns-clause-places : goal.returns-clause-places
 returns-clause-places g c at h =
     inr (subst (λ ns. g.C.Chunks.places ns at) (sym c.leave.ensures) (c.in_ok-held.ensures.children at
-    (copy-places c.args.depth (g.C.Held.ShowsChunk.shown c.in_ok-held.held) at (subst (λ ps. Contains (places_of ps) at) (c.in_ok-node.ensures.1 ∙ ap (chunk_pieces c.args.depth) c.chunk.ensures) h))))
+    (copy-places c.args.depth (g.C.Held.ShowsChunk.shown c.in_ok-held.held) at
+    (subst (λ ps. Contains (places_of ps) at)
+    (c.in_ok-node.ensures.1 ∙ ap (chunk_pieces c.args.depth) c.chunk.ensures) h))))

@@ -5,4 +5,5 @@ use Rattle.map_nodes.proofs.nodes.Node.copied_child.Goals as goal
 
 pub returns-clause-places : goal.returns-clause-places
 returns-clause-places g c =
-    subst (λ (s : Seen). AreKept (g.C.Chunks.places c.copied.new.chunks) [] (places_of s.pieces)) (sym c.in_ok-boxed.ensures) c.in_ok-node.ensures.places
+    subst (λ (s : Seen). AreKept (g.C.Chunks.places c.copied.new.chunks) [] (places_of s.pieces))
+    (sym c.in_ok-boxed.ensures) c.in_ok-node.ensures.places

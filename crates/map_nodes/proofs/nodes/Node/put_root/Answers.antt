@@ -13,7 +13,9 @@ use Rattle.map_nodes.proofs.nodes.Node.put_root.Goals as goal
 
 pub put_split-requires-clause-places : goal.put_split-requires-clause-places
 put_split-requires-clause-places g c =
-    subst (λ (s : Seen). AreAll (g.C.Chunks.places c.put.new.chunks) (places_of s.pieces)) (sym c.in-Err-Full.ensures.err) (all_on (g.C.Chunks.places c.args.chunks.now) (g.C.Chunks.places c.put.new.chunks) _ c.put.ensures.grown.1 c.requires.places)
+    subst (λ (s : Seen). AreAll (g.C.Chunks.places c.put.new.chunks) (places_of s.pieces))
+    (sym c.in-Err-Full.ensures.err) (all_on (g.C.Chunks.places c.args.chunks.now)
+    (g.C.Chunks.places c.put.new.chunks) _ c.put.ensures.grown.1 c.requires.places)
 
 pub put_split-requires-clause-tree : goal.put_split-requires-clause-tree
 put_split-requires-clause-tree g c =
@@ -21,7 +23,8 @@ put_split-requires-clause-tree g c =
     let q = g.C.Chunks.contents c.put.new.chunks in
     let n = known (shown p c.args.self.now.pieces) c.requires.tree in
     let here = shown-kept p q c.args.self.now.pieces n.rows c.put.ensures.grown.0 n.is in
-    subst (λ (s : Seen). IsTree (shown q s.pieces)) (sym c.in-Err-Full.ensures.err) (tree_of (shown q c.args.self.now.pieces) n.rows here n.order)
+    subst (λ (s : Seen). IsTree (shown q s.pieces)) (sym c.in-Err-Full.ensures.err)
+    (tree_of (shown q c.args.self.now.pieces) n.rows here n.order)
 
 pub returns-in-Err-Full-clause-done : goal.returns-in-Err-Full-clause-done
 returns-in-Err-Full-clause-done g c =
@@ -30,14 +33,17 @@ returns-in-Err-Full-clause-done g c =
     let n = known (shown p c.args.self.now.pieces) c.requires.tree in
     let here = shown-kept p q c.args.self.now.pieces n.rows c.put.ensures.grown.0 n.is in
     on_ok c.put_split.result c.put_split.ensures.done
-    (λ done. done ∙ ap (λ z. Some (finite.put (slice_cmp nat_cmp) c.args.key.now c.args.value.now (rows_or z))) (ap (λ (s : Seen). shown q s.pieces) c.in-Err-Full.ensures.err ∙ here ∙ sym n.is))
+    (λ done. done ∙ ap (λ z. Some (finite.put (slice_cmp nat_cmp) c.args.key.now c.args.value.now (rows_or z)))
+    (ap (λ (s : Seen). shown q s.pieces) c.in-Err-Full.ensures.err ∙ here ∙ sym n.is))
 
 pub returns-in-Ok-clause-places : goal.returns-in-Ok-clause-places
 returns-in-Ok-clause-places g c =
-    kept-front (g.C.Chunks.places c.put.new.chunks) (places_of c.args.self.now.pieces) c.put.new.self.pieces (half_pieces c.in-Ok.field-0) c.in-Ok.ensures.places
+    kept-front (g.C.Chunks.places c.put.new.chunks) (places_of c.args.self.now.pieces) c.put.new.self.pieces
+    (half_pieces c.in-Ok.field-0) c.in-Ok.ensures.places
 
 pub returns-in-Err-Full-clause-places : goal.returns-in-Err-Full-clause-places
 returns-in-Err-Full-clause-places g c =
     let at_q = g.C.Chunks.places c.put_split.new.chunks in
     on_ok c.put_split.result c.put_split.ensures.places
-    (λ kept. subst (λ (s : Seen). AreKept at_q (places_of s.pieces) (places_of c.put_split.new.self.pieces)) c.in-Err-Full.ensures.err kept)
+    (λ kept. subst (λ (s : Seen). AreKept at_q (places_of s.pieces) (places_of c.put_split.new.self.pieces))
+    c.in-Err-Full.ensures.err kept)

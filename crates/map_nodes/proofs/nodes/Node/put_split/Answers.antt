@@ -14,7 +14,8 @@ use Rattle.map_nodes.proofs.nodes.Node.put_split.Goals as goal
 
 pub rise-requires-clause-half : goal.rise-requires-clause-half
 rise-requires-clause-half g c =
-    subst (λ n. IsHalf 1 n (Some c.in-Some.half)) (sym c.put_anyway.ensures.depth) (subst (IsHalf 1 c.args.self.now.depth) c.in-Some.is c.in_ok-half.ensures.half)
+    subst (λ n. IsHalf 1 n (Some c.in-Some.half)) (sym c.put_anyway.ensures.depth)
+    (subst (IsHalf 1 c.args.self.now.depth) c.in-Some.is c.in_ok-half.ensures.half)
 
 pub rise-requires-clause-first : goal.rise-requires-clause-first
 rise-requires-clause-first g c =
@@ -25,56 +26,78 @@ rise-requires-clause-first g c =
     let rows = finite.put (slice_cmp nat_cmp) key c.args.value.now n.rows in
     let upper = c.in-Some.half.node.value.pieces in
     let e : shown q (c.put_anyway.new.self.pieces ++ upper) ≡ Some rows =
-    ap (λ h. shown q (c.put_anyway.new.self.pieces ++ half_pieces h)) (sym c.in-Some.is) ∙ c.in_ok-half.ensures.done ∙ ap (λ z. Some (finite.put (slice_cmp nat_cmp) key c.args.value.now (rows_or z))) n.is in
-    let hf : IsHalf 1 c.args.self.now.depth (Some c.in-Some.half) = subst (IsHalf 1 c.args.self.now.depth) c.in-Some.is c.in_ok-half.ensures.half in
-    let b = begins_least p c.self.inside.depth c.self.inside.keys.texts c.self.inside.body n.rows key c.args.value.now c.self.invariant (ap (shown p) (ap (λ (s : Seen). s.pieces) c.self.view_is) ∙ n.is) in
-    let kept : HasKept c.args.self.now.entries c.put_anyway.new.self.entries (Some c.in-Some.half) = subst (HasKept c.args.self.now.entries c.put_anyway.new.self.entries) c.in-Some.is c.in_ok-half.ensures.entries in
-    let full : 16 ≤ length c.as_slice.result.now = omega (arith, kept.0, ap (λ (s : Seen). s.entries) c.self.view_is, ap length c.as_slice.ensures) in
+    ap (λ h. shown q (c.put_anyway.new.self.pieces ++ half_pieces h))
+    (sym c.in-Some.is) ∙ c.in_ok-half.ensures.done ∙ ap
+    (λ z. Some (finite.put (slice_cmp nat_cmp) key c.args.value.now (rows_or z))) n.is in
+    let hf : IsHalf 1 c.args.self.now.depth (Some c.in-Some.half) = subst
+    (IsHalf 1 c.args.self.now.depth) c.in-Some.is c.in_ok-half.ensures.half in
+    let b = begins_least p c.self.inside.depth c.self.inside.keys.texts c.self.inside.body n.rows key c.args.value.now
+    c.self.invariant (ap (shown p) (ap (λ (s : Seen). s.pieces) c.self.view_is) ∙ n.is) in
+    let kept : HasKept c.args.self.now.entries c.put_anyway.new.self.entries (Some c.in-Some.half) = subst
+    (HasKept c.args.self.now.entries c.put_anyway.new.self.entries) c.in-Some.is c.in_ok-half.ensures.entries in
+    let full : 16 ≤ length c.as_slice.result.now = omega
+    (arith, kept.0, ap (λ (s : Seen). s.entries) c.self.view_is, ap length c.as_slice.ensures) in
     let first = least key c.self.inside.keys.texts in
-    let f : c.in_ok-above.above.first ≡ Some first = c.in_ok-above.ensures.first full ∙ ap (λ ks. Some (least key ks)) c.as_slice.ensures in
-    let t = two q first hf.1.0 c.put_anyway.new.self.pieces upper rows e (put-strict key c.args.value.now n.rows n.order) b c.in_ok-half.ensures.filled hf.1.1 in
+    let f : c.in_ok-above.above.first ≡ Some first = c.in_ok-above.ensures.first full ∙ ap
+    (λ ks. Some (least key ks)) c.as_slice.ensures in
+    let t = two q first hf.1.0 c.put_anyway.new.self.pieces upper rows e
+    (put-strict key c.args.value.now n.rows n.order) b c.in_ok-half.ensures.filled hf.1.1 in
     subst (λ o. HeadsBoth o c.put_anyway.new.self.pieces upper) (sym f) (t.head, t.order)
 
 pub rise-requires-clause-keys : goal.rise-requires-clause-keys
 rise-requires-clause-keys g c =
-    let kept : HasKept c.args.self.now.entries c.put_anyway.new.self.entries (Some c.in-Some.half) = subst (HasKept c.args.self.now.entries c.put_anyway.new.self.entries) c.in-Some.is c.in_ok-half.ensures.entries in
-    let full : 16 ≤ length c.as_slice.result.now = omega (arith, kept.0, ap (λ (s : Seen). s.entries) c.self.view_is, ap length c.as_slice.ensures) in
+    let kept : HasKept c.args.self.now.entries c.put_anyway.new.self.entries (Some c.in-Some.half) = subst
+    (HasKept c.args.self.now.entries c.put_anyway.new.self.entries) c.in-Some.is c.in_ok-half.ensures.entries in
+    let full : 16 ≤ length c.as_slice.result.now = omega
+    (arith, kept.0, ap (λ (s : Seen). s.entries) c.self.view_is, ap length c.as_slice.ensures) in
     (c.in_ok-above.ensures.empty.0, (c.in_ok-above.ensures.spare full).0)
 
 pub rise-requires-clause-kids : goal.rise-requires-clause-kids
 rise-requires-clause-kids g c =
-    let kept : HasKept c.args.self.now.entries c.put_anyway.new.self.entries (Some c.in-Some.half) = subst (HasKept c.args.self.now.entries c.put_anyway.new.self.entries) c.in-Some.is c.in_ok-half.ensures.entries in
-    let full : 16 ≤ length c.as_slice.result.now = omega (arith, kept.0, ap (λ (s : Seen). s.entries) c.self.view_is, ap length c.as_slice.ensures) in
+    let kept : HasKept c.args.self.now.entries c.put_anyway.new.self.entries (Some c.in-Some.half) = subst
+    (HasKept c.args.self.now.entries c.put_anyway.new.self.entries) c.in-Some.is c.in_ok-half.ensures.entries in
+    let full : 16 ≤ length c.as_slice.result.now = omega
+    (arith, kept.0, ap (λ (s : Seen). s.entries) c.self.view_is, ap length c.as_slice.ensures) in
     (c.in_ok-above.ensures.empty.1, (c.in_ok-above.ensures.spare full).1)
 
 pub rise-requires-clause-home : goal.rise-requires-clause-home
 rise-requires-clause-home g c =
-    let kept : HasKept c.args.self.now.entries c.put_anyway.new.self.entries (Some c.in-Some.half) = subst (HasKept c.args.self.now.entries c.put_anyway.new.self.entries) c.in-Some.is c.in_ok-half.ensures.entries in
-    let full : 16 ≤ length c.as_slice.result.now = omega (arith, kept.0, ap (λ (s : Seen). s.entries) c.self.view_is, ap length c.as_slice.ensures) in
+    let kept : HasKept c.args.self.now.entries c.put_anyway.new.self.entries (Some c.in-Some.half) = subst
+    (HasKept c.args.self.now.entries c.put_anyway.new.self.entries) c.in-Some.is c.in_ok-half.ensures.entries in
+    let full : 16 ≤ length c.as_slice.result.now = omega
+    (arith, kept.0, ap (λ (s : Seen). s.entries) c.self.view_is, ap length c.as_slice.ensures) in
     c.in_ok-above.ensures.home full
 
 pub returns-in_default-clause-wide : goal.returns-in_default-clause-wide
-returns-in_default-clause-wide g c w = wide_kept c.args.self.now c.put_anyway.new.self c.in_ok-half.field-0 c.in_default.is c.put_anyway.ensures.depth c.in_ok-half.ensures.entries w
+returns-in_default-clause-wide g c w = wide_kept c.args.self.now c.put_anyway.new.self c.in_ok-half.field-0
+    c.in_default.is c.put_anyway.ensures.depth c.in_ok-half.ensures.entries w
 
 pub returns-clause-done : goal.returns-clause-done
 returns-clause-done g c =
     let q = g.C.Chunks.contents c.put_anyway.new.chunks in
-    ap (shown q) (c.rise.ensures.pieces ∙ ap (λ h. c.put_anyway.new.self.pieces ++ half_pieces h) (sym c.in-Some.is)) ∙ c.in_ok-half.ensures.done
+    ap (shown q) (c.rise.ensures.pieces ∙ ap (λ h. c.put_anyway.new.self.pieces ++ half_pieces h) (sym c.in-Some.is)) ∙
+    c.in_ok-half.ensures.done
 
 pub returns-clause-few : goal.returns-clause-few
 returns-clause-few g c = omega (arith, c.rise.ensures.fresh, c.in_ok-half.ensures.fresh, ap half_fresh c.in-Some.is)
 
 pub returns-clause-deep : goal.returns-clause-deep
-returns-clause-deep g c = (omega (arith, c.rise.ensures.depth, c.put_anyway.ensures.depth), omega (arith, c.rise.ensures.depth, c.put_anyway.ensures.depth))
+returns-clause-deep g c = (
+  omega (arith, c.rise.ensures.depth, c.put_anyway.ensures.depth),
+  omega (arith, c.rise.ensures.depth, c.put_anyway.ensures.depth),
+)
 
 pub returns-clause-wide : goal.returns-clause-wide
 returns-clause-wide g c w = inr (omega (arith, c.rise.ensures.entries))
 
 pub returns-in_default-clause-places : goal.returns-in_default-clause-places
 returns-in_default-clause-places g c =
-    kept-front (g.C.Chunks.places c.put_anyway.new.chunks) (places_of c.args.self.now.pieces) c.put_anyway.new.self.pieces (half_pieces c.in_ok-half.field-0) c.in_ok-half.ensures.places
+    kept-front (g.C.Chunks.places c.put_anyway.new.chunks)
+    (places_of c.args.self.now.pieces) c.put_anyway.new.self.pieces
+    (half_pieces c.in_ok-half.field-0) c.in_ok-half.ensures.places
 
 pub returns-clause-places : goal.returns-clause-places
 returns-clause-places g c =
     subst (λ ps. AreKept (g.C.Chunks.places c.put_anyway.new.chunks) (places_of c.args.self.now.pieces) (places_of ps))
-    (sym (c.rise.ensures.pieces ∙ ap (λ h. c.put_anyway.new.self.pieces ++ half_pieces h) (sym c.in-Some.is))) c.in_ok-half.ensures.places
+    (sym (c.rise.ensures.pieces ∙ ap (λ h. c.put_anyway.new.self.pieces ++ half_pieces h) (sym c.in-Some.is)))
+    c.in_ok-half.ensures.places

@@ -17,22 +17,28 @@ use Rattle.map_nodes.proofs.nodes.Node.remove_root.Goals as goal
 pub returns-in-Leaf-clause-done : goal.returns-in-Leaf-clause-done
 returns-in-Leaf-clause-done g c =
     let p = g.C.Chunks.contents c.args.chunks.now in
-    ap (λ w. shown p (row_pieces w)) c.in_ok-remove_row-in-Leaf.ensures.rows ∙ shown-rows p (without c.args.key.now (paired c.self.inside.keys.texts c.in-Leaf.values.items))
+    ap (λ w. shown p (row_pieces w)) c.in_ok-remove_row-in-Leaf.ensures.rows ∙ shown-rows p
+    (without c.args.key.now (paired c.self.inside.keys.texts c.in-Leaf.values.items))
     ∙ ap (λ z. Some (without c.args.key.now (rows_or z)))
-    (sym (leaf_rows p c.self.inside.depth c.self.inside.keys.texts c.self.inside.body c.in-Leaf.values c.args.self.now.pieces (ap (λ (s : Seen). s.pieces) c.self.view_is) c.in-Leaf.is))
+    (sym (leaf_rows p c.self.inside.depth c.self.inside.keys.texts c.self.inside.body c.in-Leaf.values
+    c.args.self.now.pieces (ap (λ (s : Seen). s.pieces) c.self.view_is) c.in-Leaf.is))
 
 pub returns-in-Leaf-clause-places : goal.returns-in-Leaf-clause-places
 returns-in-Leaf-clause-places g c =
     let at_p = g.C.Chunks.places c.args.chunks.now in
     let old = places_of c.args.self.now.pieces in
-    subst (AreKept at_p old) (sym (places-rows (paired c.remove_row.new.keys.texts c.remove_row.new.values.items))) (kept-none at_p old)
+    subst (AreKept at_p old) (sym (places-rows (paired c.remove_row.new.keys.texts c.remove_row.new.values.items)))
+    (kept-none at_p old)
 
 pub remove_inner-requires-clause-places : goal.remove_inner-requires-clause-places
 remove_inner-requires-clause-places g c =
-    kids_may (g.C.Chunks.places c.args.chunks.now) c.self.inside.depth c.self.inside.keys.texts c.self.inside.body c.in-Inner.kids c.args.self.now.pieces (ap (λ (s : Seen). s.pieces) c.self.view_is) c.in-Inner.is c.self.invariant c.requires.places
+    kids_may (g.C.Chunks.places c.args.chunks.now) c.self.inside.depth c.self.inside.keys.texts c.self.inside.body
+    c.in-Inner.kids c.args.self.now.pieces
+    (ap (λ (s : Seen). s.pieces) c.self.view_is) c.in-Inner.is c.self.invariant c.requires.places
 
 pub remove_inner-requires-clause-node : goal.remove_inner-requires-clause-node
-remove_inner-requires-clause-node g c = subst (IsNode c.self.inside.depth c.self.inside.keys.texts) c.in-Inner.is c.self.invariant
+remove_inner-requires-clause-node g c = subst
+    (IsNode c.self.inside.depth c.self.inside.keys.texts) c.in-Inner.is c.self.invariant
 
 pub remove_inner-requires-clause-tree : goal.remove_inner-requires-clause-tree
 remove_inner-requires-clause-tree g c =
@@ -46,27 +52,41 @@ pub returns-in-None-clause-places : goal.returns-in-None-clause-places
 returns-in-None-clause-places g c =
     let at_q = g.C.Chunks.places c.remove_inner.new.chunks in
     let keys = c.self.inside.keys.texts in
-    let node : IsNode c.self.inside.depth keys (Inner c.in-Inner.kids) = subst (IsNode c.self.inside.depth keys) c.in-Inner.is c.self.invariant in
-    let old = own-places c.self.inside.depth keys c.self.inside.body c.in-Inner.kids c.args.self.now.pieces (ap (λ (s : Seen). s.pieces) c.self.view_is) c.in-Inner.is node.1.2 in
-    let left = subst (λ o. AreKept at_q (kids_places c.in-Inner.kids.items) (left_places c.remove_inner.new.kids.items o)) c.in-None.is c.in_ok-remove_inner-in-Inner.ensures.places in
-    let new = places-kids (c.self.inside.depth - 1) c.remove_inner.new.keys.texts c.remove_inner.new.kids.items (c.in_ok-remove_inner-in-Inner.ensures.node c.in-None.is).1.2 in
-    subst (AreKept at_q (places_of c.args.self.now.pieces)) (sym new) (subst (λ w. AreKept at_q w (kids_places c.remove_inner.new.kids.items)) (sym old) left)
+    let node : IsNode c.self.inside.depth keys (Inner c.in-Inner.kids) = subst
+    (IsNode c.self.inside.depth keys) c.in-Inner.is c.self.invariant in
+    let old = own-places c.self.inside.depth keys c.self.inside.body c.in-Inner.kids c.args.self.now.pieces
+    (ap (λ (s : Seen). s.pieces) c.self.view_is) c.in-Inner.is node.1.2 in
+    let left = subst (λ o. AreKept at_q (kids_places c.in-Inner.kids.items)
+    (left_places c.remove_inner.new.kids.items o)) c.in-None.is c.in_ok-remove_inner-in-Inner.ensures.places in
+    let new = places-kids (c.self.inside.depth - 1) c.remove_inner.new.keys.texts c.remove_inner.new.kids.items
+    (c.in_ok-remove_inner-in-Inner.ensures.node c.in-None.is).1.2 in
+    subst (AreKept at_q (places_of c.args.self.now.pieces)) (sym new)
+    (subst (λ w. AreKept at_q w (kids_places c.remove_inner.new.kids.items)) (sym old) left)
 
 pub returns-in-Some-Placed-clause-places : goal.returns-in-Some-Placed-clause-places
 returns-in-Some-Placed-clause-places g c =
     let at_q = g.C.Chunks.places c.remove_inner.new.chunks in
     let keys = c.self.inside.keys.texts in
-    let node : IsNode c.self.inside.depth keys (Inner c.in-Inner.kids) = subst (IsNode c.self.inside.depth keys) c.in-Inner.is c.self.invariant in
-    let old = own-places c.self.inside.depth keys c.self.inside.body c.in-Inner.kids c.args.self.now.pieces (ap (λ (s : Seen). s.pieces) c.self.view_is) c.in-Inner.is node.1.2 in
-    let left = subst (λ o. AreKept at_q (kids_places c.in-Inner.kids.items) (left_places c.remove_inner.new.kids.items o)) (c.in-Some-Placed.is ∙ ap (λ h. Some h) c.in-Some-Placed.field-0-is) c.in_ok-remove_inner-in-Inner.ensures.places in
+    let node : IsNode c.self.inside.depth keys (Inner c.in-Inner.kids) = subst
+    (IsNode c.self.inside.depth keys) c.in-Inner.is c.self.invariant in
+    let old = own-places c.self.inside.depth keys c.self.inside.body c.in-Inner.kids c.args.self.now.pieces
+    (ap (λ (s : Seen). s.pieces) c.self.view_is) c.in-Inner.is node.1.2 in
+    let left = subst (λ o. AreKept at_q (kids_places c.in-Inner.kids.items)
+    (left_places c.remove_inner.new.kids.items o))
+    (c.in-Some-Placed.is ∙ ap (λ h. Some h) c.in-Some-Placed.field-0-is)
+    c.in_ok-remove_inner-in-Inner.ensures.places in
     subst (λ w. AreKept at_q w (c.in-Some-Placed.at ∷ [])) (sym old) left
 
 pub returns-in-Some-Own-clause-places : goal.returns-in-Some-Own-clause-places
 returns-in-Some-Own-clause-places g c =
     let at_q = g.C.Chunks.places c.remove_inner.new.chunks in
     let keys = c.self.inside.keys.texts in
-    let node : IsNode c.self.inside.depth keys (Inner c.in-Inner.kids) = subst (IsNode c.self.inside.depth keys) c.in-Inner.is c.self.invariant in
-    let old = own-places c.self.inside.depth keys c.self.inside.body c.in-Inner.kids c.args.self.now.pieces (ap (λ (s : Seen). s.pieces) c.self.view_is) c.in-Inner.is node.1.2 in
-    let left = subst (λ o. AreKept at_q (kids_places c.in-Inner.kids.items) (left_places c.remove_inner.new.kids.items o)) (c.in-Some-Own.is ∙ ap (λ h. Some h) c.in-Some-Own.field-0-is) c.in_ok-remove_inner-in-Inner.ensures.places in
+    let node : IsNode c.self.inside.depth keys (Inner c.in-Inner.kids) = subst
+    (IsNode c.self.inside.depth keys) c.in-Inner.is c.self.invariant in
+    let old = own-places c.self.inside.depth keys c.self.inside.body c.in-Inner.kids c.args.self.now.pieces
+    (ap (λ (s : Seen). s.pieces) c.self.view_is) c.in-Inner.is node.1.2 in
+    let left = subst (λ o. AreKept at_q (kids_places c.in-Inner.kids.items)
+    (left_places c.remove_inner.new.kids.items o))
+    (c.in-Some-Own.is ∙ ap (λ h. Some h) c.in-Some-Own.field-0-is) c.in_ok-remove_inner-in-Inner.ensures.places in
     subst (λ (s : Seen). AreKept at_q (places_of c.args.self.now.pieces) (places_of s.pieces)) (sym c.node.view_is)
     (subst (λ w. AreKept at_q w (places_of c.in-Some-Own.node.pieces)) (sym old) left)

@@ -14,10 +14,12 @@ pub unwrap-requires : goal.unwrap-requires
 unwrap-requires c = heads_some c.args.above.first c.args.self.now.pieces c.args.half.node.value.pieces c.requires.first
 
 pub root_above-requires-clause-depth : goal.root_above-requires-clause-depth
-root_above-requires-clause-depth c = omega (arith, ap (λ (s : Seen). s.depth) (c.housed-lower.ensures ∙ c.replace.ensures.value), c.requires.depth)
+root_above-requires-clause-depth c = omega
+    (arith, ap (λ (s : Seen). s.depth) (c.housed-lower.ensures ∙ c.replace.ensures.value), c.requires.depth)
 
 pub root_above-requires-clause-half : goal.root_above-requires-clause-half
-root_above-requires-clause-half c = subst (λ (s : Seen). IsHalf 1 s.depth (Some c.args.half)) (sym (c.housed-lower.ensures ∙ c.replace.ensures.value)) c.requires.half
+root_above-requires-clause-half c = subst (λ (s : Seen). IsHalf 1 s.depth (Some c.args.half))
+    (sym (c.housed-lower.ensures ∙ c.replace.ensures.value)) c.requires.half
 
 pub root_above-requires-clause-head : goal.root_above-requires-clause-head
 root_above-requires-clause-head c =
@@ -25,4 +27,5 @@ root_above-requires-clause-head c =
     (subst (λ o. HeadsBoth o c.args.self.now.pieces c.args.half.node.value.pieces) c.unwrap.ensures c.requires.first).0
 
 pub root_above-requires-clause-order : goal.root_above-requires-clause-order
-root_above-requires-clause-order c = (subst (λ o. HeadsBoth o c.args.self.now.pieces c.args.half.node.value.pieces) c.unwrap.ensures c.requires.first).1
+root_above-requires-clause-order c = (subst
+    (λ o. HeadsBoth o c.args.self.now.pieces c.args.half.node.value.pieces) c.unwrap.ensures c.requires.first).1

@@ -7,7 +7,9 @@ pub returns-then-there-clause-few : goal.returns-then-there-clause-few
 returns-then-there-clause-few g c = on_ok c.replace.result c.replace.ensures.fresh (λ s. omega (arith, s))
 
 pub returns-then-there-clause-deep : goal.returns-then-there-clause-deep
-returns-then-there-clause-deep g c = ok_all c.replace.result (deep_same c.args.self.now.depth c.replace.new.self.depth c.replace.ensures.depth)
+returns-then-there-clause-deep g c = ok_all c.replace.result
+    (deep_same c.args.self.now.depth c.replace.new.self.depth c.replace.ensures.depth)
 
 pub returns-then-there-clause-wide : goal.returns-then-there-clause-wide
-returns-then-there-clause-wide g c w = ok_all c.replace.result (wide_same c.args.self.now c.replace.new.self c.replace.ensures.depth c.replace.ensures.entries w)
+returns-then-there-clause-wide g c w = ok_all c.replace.result
+    (wide_same c.args.self.now c.replace.new.self c.replace.ensures.depth c.replace.ensures.entries w)

@@ -14,19 +14,24 @@ use Rattle.map_chunks.proofs.KeptLemmas.{all_on}
 use Rattle.map_tree.proofs.tree.Tree.del.Goals as goal
 
 pub remove-requires-clause-map : goal.remove-requires-clause-map
-remove-requires-clause-map g c = kept_there (g.C.Chunks.contents c.args.chunks.now) (g.C.Chunks.contents c.sought.new.chunks) c.args.self.now.root c.sought.ensures.grown.0 c.requires.map
+remove-requires-clause-map g c = kept_there (g.C.Chunks.contents c.args.chunks.now)
+    (g.C.Chunks.contents c.sought.new.chunks) c.args.self.now.root c.sought.ensures.grown.0 c.requires.map
 
 pub remove-requires-clause-depth : goal.remove-requires-clause-depth
 remove-requires-clause-depth g c =
-    root_depth_kept (g.C.Chunks.contents c.args.chunks.now) (g.C.Chunks.contents c.sought.new.chunks) c.args.self.now.root c.in_ok-sought.sought.depth c.sought.ensures.grown.0 c.in_ok-sought.ensures.depth
+    root_depth_kept (g.C.Chunks.contents c.args.chunks.now)
+    (g.C.Chunks.contents c.sought.new.chunks) c.args.self.now.root c.in_ok-sought.sought.depth
+    c.sought.ensures.grown.0 c.in_ok-sought.ensures.depth
 
 pub returns-then-is_there-clause-ok : goal.returns-then-is_there-clause-ok
 returns-then-is_there-clause-ok g c m h =
-    c.remove.ensures.ok m (root_kept (g.C.Chunks.contents c.args.chunks.now) (g.C.Chunks.contents c.sought.new.chunks) c.args.self.now.root m c.sought.ensures.grown.0 h)
+    c.remove.ensures.ok m (root_kept (g.C.Chunks.contents c.args.chunks.now)
+    (g.C.Chunks.contents c.sought.new.chunks) c.args.self.now.root m c.sought.ensures.grown.0 h)
 
 pub returns-then-is_there-clause-few : goal.returns-then-is_there-clause-few
 returns-then-is_there-clause-few g c d e =
-    c.remove.ensures.few d (root_depth_kept (g.C.Chunks.contents c.args.chunks.now) (g.C.Chunks.contents c.sought.new.chunks) c.args.self.now.root d c.sought.ensures.grown.0 e)
+    c.remove.ensures.few d (root_depth_kept (g.C.Chunks.contents c.args.chunks.now)
+    (g.C.Chunks.contents c.sought.new.chunks) c.args.self.now.root d c.sought.ensures.grown.0 e)
 
 pub returns-then-is_there-clause-deep : goal.returns-then-is_there-clause-deep
 returns-then-is_there-clause-deep g c d t =
@@ -34,24 +39,33 @@ returns-then-is_there-clause-deep g c d t =
     on_ok c.remove.result c.remove.ensures.deep (λ n. (n.0, n.1, omega (arith, n.2, e)))
 
 pub returns-clause-deep : goal.returns-clause-deep
-returns-clause-deep g c d t =
-    (d, root_depth_kept (g.C.Chunks.contents c.args.chunks.now) (g.C.Chunks.contents c.sought.new.chunks) c.args.self.now.root d c.sought.ensures.grown.0 t, omega arith)
+returns-clause-deep g c d t = (
+  d,
+  root_depth_kept (g.C.Chunks.contents c.args.chunks.now)
+      (g.C.Chunks.contents c.sought.new.chunks) c.args.self.now.root d c.sought.ensures.grown.0 t,
+  omega arith,
+)
 
 pub returns-then-is_there-clause-wide : goal.returns-then-is_there-clause-wide
 returns-then-is_there-clause-wide g c w =
     let s = some_of (tree_map (g.C.Chunks.contents c.args.chunks.now) c.args.self.now) c.requires.map in
-    c.remove.ensures.wide (wide_root_grown (g.C.Chunks.contents c.args.chunks.now) (g.C.Chunks.contents c.sought.new.chunks) c.args.self.now.root s.0 c.sought.ensures.grown.0 s.1 w)
+    c.remove.ensures.wide (wide_root_grown (g.C.Chunks.contents c.args.chunks.now)
+    (g.C.Chunks.contents c.sought.new.chunks) c.args.self.now.root s.0 c.sought.ensures.grown.0 s.1 w)
 
 pub returns-clause-ok : goal.returns-clause-ok
 returns-clause-ok g c m h =
-    root_kept (g.C.Chunks.contents c.args.chunks.now) (g.C.Chunks.contents c.sought.new.chunks) c.args.self.now.root m c.sought.ensures.grown.0 h
+    root_kept (g.C.Chunks.contents c.args.chunks.now)
+    (g.C.Chunks.contents c.sought.new.chunks) c.args.self.now.root m c.sought.ensures.grown.0 h
     ∙ ap (λ w. Some w) (sym (removed_same m c.args.key.now (not_there c.is_there.result (finite.get m c.args.key.now)
-    (c.is_there.ensures ∙ ap is_there (c.in_ok-sought.ensures.standing m h) ∙ there_is (finite.get m c.args.key.now) None) c.if-is_there.false)))
+    (c.is_there.ensures ∙ ap is_there (c.in_ok-sought.ensures.standing m h) ∙ there_is
+    (finite.get m c.args.key.now) None) c.if-is_there.false)))
 
 pub returns-clause-wide : goal.returns-clause-wide
 returns-clause-wide g c w =
     let s = some_of (tree_map (g.C.Chunks.contents c.args.chunks.now) c.args.self.now) c.requires.map in
-    wide_root_grown (g.C.Chunks.contents c.args.chunks.now) (g.C.Chunks.contents c.sought.new.chunks) c.args.self.now.root s.0 c.sought.ensures.grown.0 s.1 w
+    wide_root_grown (g.C.Chunks.contents c.args.chunks.now)
+    (g.C.Chunks.contents c.sought.new.chunks) c.args.self.now.root s.0 c.sought.ensures.grown.0 s.1 w
 
 pub remove-requires-clause-places : goal.remove-requires-clause-places
-remove-requires-clause-places g c = all_on (g.C.Chunks.places c.args.chunks.now) (g.C.Chunks.places c.sought.new.chunks) _ c.sought.ensures.grown.1 c.requires.places
+remove-requires-clause-places g c = all_on (g.C.Chunks.places c.args.chunks.now)
+    (g.C.Chunks.places c.sought.new.chunks) _ c.sought.ensures.grown.1 c.requires.places

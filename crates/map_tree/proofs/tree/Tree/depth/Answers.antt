@@ -21,10 +21,13 @@ returns-in-Placed-clause-depth g c =
     let s = some_of (tree_map p c.args.self.now) c.requires.map in
     let sp = placed_map p (stamp_of c.in-Placed.at) s.0 (ap (root_map p) (sym c.in-Placed.is) ∙ s.1) in
     depth_is c.depth_placed.result (root_depth p c.args.self.now.root) sp.segment.depth
-    (ap (root_depth p) c.in-Placed.is ∙ ap (option_map (λ (s : Segment). s.depth)) sp.is) (c.depth_placed.ensures.depth sp.segment sp.is)
+    (ap (root_depth p) c.in-Placed.is ∙ ap (option_map (λ (s : Segment). s.depth)) sp.is)
+    (c.depth_placed.ensures.depth sp.segment sp.is)
 
 pub returns-in-Own-clause-depth : goal.returns-in-Own-clause-depth
-returns-in-Own-clause-depth g c = ap (root_depth (g.C.Chunks.contents c.args.chunks.now)) c.in-Own.is ∙ ap (λ n. Some n) (sym c.depth.ensures)
+returns-in-Own-clause-depth g c = ap (root_depth (g.C.Chunks.contents c.args.chunks.now)) c.in-Own.is ∙ ap (λ n. Some n)
+    (sym c.depth.ensures)
 
 pub depth_placed-requires-clause-place : goal.depth_placed-requires-clause-place
-depth_placed-requires-clause-place g c = placed_may (g.C.Chunks.places c.args.chunks.now) c.args.self.now.root c.in-Placed.at c.in-Placed.is c.requires.places
+depth_placed-requires-clause-place g c = placed_may
+    (g.C.Chunks.places c.args.chunks.now) c.args.self.now.root c.in-Placed.at c.in-Placed.is c.requires.places

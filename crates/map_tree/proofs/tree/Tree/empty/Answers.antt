@@ -5,7 +5,8 @@ use Rattle.map_chunks.proofs.TreeLemmas.{map_of_nothing}
 use Rattle.map_tree.proofs.tree.Tree.empty.Goals as goal
 
 pub returns-clause-map : goal.returns-clause-map
-returns-clause-map c contents = ap (λ ps. option_and_then map_of_rows (shown contents ps)) c.empty.ensures.pieces ∙ map_of_nothing
+returns-clause-map c contents = ap (λ ps. option_and_then map_of_rows (shown contents ps)) c.empty.ensures.pieces
+    ∙ map_of_nothing
 
 pub returns-clause-depth : goal.returns-clause-depth
 returns-clause-depth c contents = ap (λ n. Some n) c.empty.ensures.depth

@@ -14,11 +14,14 @@ use Rattle.map_tree.proofs.tree.Tree.freeze.Goals as goal
 
 pub returns-in-Own-clause-spelled : goal.returns-in-Own-clause-spelled
 returns-in-Own-clause-spelled c contents m l h =
-    map_frozen c.frozen.result (with_nodes contents c.args.draft.now.nodes) (with_nodes contents c.frozen.new.draft.nodes) c.in-Own.node m
-    (ap (root_map (with_nodes contents c.args.draft.now.nodes)) (sym c.in-Own.is) ∙ h) (λ rows e. c.frozen.ensures.spelled contents rows l e)
+    map_frozen c.frozen.result (with_nodes contents c.args.draft.now.nodes)
+    (with_nodes contents c.frozen.new.draft.nodes) c.in-Own.node m
+    (ap (root_map (with_nodes contents c.args.draft.now.nodes)) (sym c.in-Own.is) ∙ h)
+    (λ rows e. c.frozen.ensures.spelled contents rows l e)
 
 pub returns-in-Placed-clause-wide : goal.returns-in-Placed-clause-wide
-returns-in-Placed-clause-wide c contents m l h w = subst (IsWide (with_nodes contents c.args.draft.now.nodes)) c.in-Placed.is w
+returns-in-Placed-clause-wide c contents m l h w = subst
+    (IsWide (with_nodes contents c.args.draft.now.nodes)) c.in-Placed.is w
 
 pub returns-in-Placed-clause-shared : goal.returns-in-Placed-clause-shared
 returns-in-Placed-clause-shared c at h = (ap Ok (some_is (ap placed_root (sym c.in-Placed.is) ∙ h)), refl)
@@ -28,8 +31,10 @@ returns-in-Placed-clause-count c = omega (arith, ap root_fresh c.in-Placed.is)
 
 pub returns-in-Own-clause-wide : goal.returns-in-Own-clause-wide
 returns-in-Own-clause-wide c contents m l h w =
-    wide_frozen c.frozen.result (with_nodes contents c.args.draft.now.nodes) (with_nodes contents c.frozen.new.draft.nodes) c.in-Own.node m
-    (ap (root_map (with_nodes contents c.args.draft.now.nodes)) (sym c.in-Own.is) ∙ h) (subst (IsWide (with_nodes contents c.args.draft.now.nodes)) c.in-Own.is w)
+    wide_frozen c.frozen.result (with_nodes contents c.args.draft.now.nodes)
+    (with_nodes contents c.frozen.new.draft.nodes) c.in-Own.node m
+    (ap (root_map (with_nodes contents c.args.draft.now.nodes)) (sym c.in-Own.is) ∙ h)
+    (subst (IsWide (with_nodes contents c.args.draft.now.nodes)) c.in-Own.is w)
     (λ rows e. c.frozen.ensures.spelled contents rows l e) (λ n. c.frozen.ensures.wide contents l n)
 
 pub returns-in-Own-clause-shared : goal.returns-in-Own-clause-shared
@@ -37,28 +42,38 @@ returns-in-Own-clause-shared c at h = let e = ap placed_root (sym c.in-Own.is) �
 
 pub returns-in-Own-clause-count : goal.returns-in-Own-clause-count
 returns-in-Own-clause-count c =
-    subst (λ n. OnOk c.frozen.result (length c.frozen.new.draft.nodes ≡ length c.args.draft.now.nodes + n)) (ap root_fresh (sym c.in-Own.is)) c.frozen.ensures.count
+    subst (λ n. OnOk c.frozen.result (length c.frozen.new.draft.nodes ≡ length c.args.draft.now.nodes + n))
+    (ap root_fresh (sym c.in-Own.is)) c.frozen.ensures.count
 
 pub returns-in-Own-clause-why : goal.returns-in-Own-clause-why
 returns-in-Own-clause-why c =
-    subst (λ n. IfErr c.frozen.result (λ e. (e ≡ refusal.NoMemory) ⊎ ((e ≡ refusal.Stamps) × (stamps < c.args.draft.now.first + length c.args.draft.now.nodes + n))))
+    subst (λ n. IfErr c.frozen.result (λ e. (e ≡ refusal.NoMemory)
+    ⊎ ((e ≡ refusal.Stamps) × (stamps < c.args.draft.now.first + length c.args.draft.now.nodes + n))))
     (ap root_fresh (sym c.in-Own.is)) c.frozen.ensures.why
 
 pub returns-in-Placed-clause-named : goal.returns-in-Placed-clause-named
 returns-in-Placed-clause-named c = adds-none c.args.draft.now.first (tree_places c.args.self) c.args.draft.now.nodes
 
 pub returns-in-Placed-clause-name : goal.returns-in-Placed-clause-name
-returns-in-Placed-clause-name c = inl (subst (λ r. Contains (root_places r) c.in-Placed.at) (sym c.in-Placed.is) (one_here c.in-Placed.at))
+returns-in-Placed-clause-name c = inl (subst (λ r. Contains (root_places r) c.in-Placed.at) (sym c.in-Placed.is)
+    (one_here c.in-Placed.at))
 
 pub returns-in-Own-clause-named : goal.returns-in-Own-clause-named
 returns-in-Own-clause-named c =
-    subst (λ r. OnOk c.frozen.result (AddsNamed c.args.draft.now.first (root_places r) c.args.draft.now.nodes c.frozen.new.draft.nodes)) (sym c.in-Own.is) c.frozen.ensures.named
+    subst (λ r. OnOk c.frozen.result (AddsNamed c.args.draft.now.first
+    (root_places r) c.args.draft.now.nodes c.frozen.new.draft.nodes)) (sym c.in-Own.is) c.frozen.ensures.named
 
 pub returns-in-Own-clause-name : goal.returns-in-Own-clause-name
-returns-in-Own-clause-name c = drafted-named c.args.draft.now.first (tree_places c.args.self) c.frozen.result c.frozen.ensures.drafted
+returns-in-Own-clause-name c = drafted-named c.args.draft.now.first
+    (tree_places c.args.self) c.frozen.result c.frozen.ensures.drafted
 
 pub returns-in-Placed-clause-below : goal.returns-in-Placed-clause-below
-returns-in-Placed-clause-below c = c.requires.below c.in-Placed.at (subst (λ r. Contains (root_places r) c.in-Placed.at) (sym c.in-Placed.is) (one_here c.in-Placed.at))
+returns-in-Placed-clause-below c = c.requires.below c.in-Placed.at
+    (subst (λ r. Contains (root_places r) c.in-Placed.at) (sym c.in-Placed.is) (one_here c.in-Placed.at))
 
 pub frozen-requires : goal.frozen-requires
-frozen-requires c = record { below = subst (λ r. AreBelow (c.args.draft.now.first + length c.args.draft.now.nodes) (root_places r)) c.in-Own.is c.requires.below }
+frozen-requires c = record {
+  below = subst
+      (λ r. AreBelow (c.args.draft.now.first + length c.args.draft.now.nodes) (root_places r)) c.in-Own.is
+      c.requires.below;
+}

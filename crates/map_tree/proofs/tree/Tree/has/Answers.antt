@@ -5,4 +5,5 @@ use Rattle.map_tree.proofs.SeekLemmas.{there_is}
 use Rattle.map_tree.proofs.tree.Tree.has.Goals as goal
 
 pub returns-clause-value : goal.returns-clause-value
-returns-clause-value g c m h = c.is_there.ensures ∙ ap is_there (c.in_ok-sought.ensures.standing m h) ∙ there_is (finite.get m c.args.key.now) None
+returns-clause-value g c m h = c.is_there.ensures ∙ ap is_there (c.in_ok-sought.ensures.standing m h) ∙ there_is
+    (finite.get m c.args.key.now) None

@@ -15,21 +15,26 @@ is_empty_placed-requires-clause-known g c =
     let p = g.C.Chunks.contents c.args.chunks.now in
     let k = stamp_of c.in-Placed.at in
     let s = some_of (tree_map p c.args.self.now) c.requires.map in
-    let e : option_and_then map_of_rows (chunk_rows p k) ≡ Some s.0 = sym (map_at-rows p k) ∙ ap (root_map p) (sym c.in-Placed.is) ∙ s.1 in
+    let e : option_and_then map_of_rows (chunk_rows p k)
+    ≡ Some s.0 = sym (map_at-rows p k) ∙ ap (root_map p) (sym c.in-Placed.is) ∙ s.1 in
     subst IsSome (sym (map_is (chunk_rows p k) s.0 e).is) refl
 
 pub returns-in-Placed-clause-value : goal.returns-in-Placed-clause-value
 returns-in-Placed-clause-value g c m h =
     let p = g.C.Chunks.contents c.args.chunks.now in
     let k = stamp_of c.in-Placed.at in
-    let e : option_and_then map_of_rows (chunk_rows p k) ≡ Some m = sym (map_at-rows p k) ∙ ap (root_map p) (sym c.in-Placed.is) ∙ h in
-    subst (λ x. IfOk c.is_empty_placed.result (λ b. b ≡ x)) (none_of-map (chunk_rows p k) m e) c.is_empty_placed.ensures.value
+    let e : option_and_then map_of_rows (chunk_rows p k)
+    ≡ Some m = sym (map_at-rows p k) ∙ ap (root_map p) (sym c.in-Placed.is) ∙ h in
+    subst (λ x. IfOk c.is_empty_placed.result (λ b. b ≡ x))
+    (none_of-map (chunk_rows p k) m e) c.is_empty_placed.ensures.value
 
 pub returns-in-Own-clause-value : goal.returns-in-Own-clause-value
 returns-in-Own-clause-value g c m h =
     let p = g.C.Chunks.contents c.args.chunks.now in
-    let e : option_and_then map_of_rows (shown p c.in-Own.node.pieces) ≡ Some m = ap (root_map p) (sym c.in-Own.is) ∙ h in
+    let e : option_and_then map_of_rows (shown p c.in-Own.node.pieces)
+    ≡ Some m = ap (root_map p) (sym c.in-Own.is) ∙ h in
     c.is_empty.ensures p (finite.entries m) (map_is (shown p c.in-Own.node.pieces) m e).is
 
 pub is_empty_placed-requires-clause-place : goal.is_empty_placed-requires-clause-place
-is_empty_placed-requires-clause-place g c = placed_may (g.C.Chunks.places c.args.chunks.now) c.args.self.now.root c.in-Placed.at c.in-Placed.is c.requires.places
+is_empty_placed-requires-clause-place g c = placed_may
+    (g.C.Chunks.places c.args.chunks.now) c.args.self.now.root c.in-Placed.at c.in-Placed.is c.requires.places

@@ -17,18 +17,27 @@ returns-in-Own-clause-ok g c m h =
     let p = g.C.Chunks.contents c.args.chunks.now in
     let q = g.C.Chunks.contents c.remove_root.new.chunks in
     ap (root_map q) c.give_way.ensures
-    ∙ removed_map q c.remove_root.new.self c.in_ok-end-in-Own.end (shown p c.in-Own.node.pieces) m c.args.key.now (ap (root_map p) (sym c.in-Own.is) ∙ h) c.in_ok-end-in-Own.ensures.done
+    ∙ removed_map q c.remove_root.new.self c.in_ok-end-in-Own.end (shown p c.in-Own.node.pieces) m c.args.key.now
+    (ap (root_map p) (sym c.in-Own.is) ∙ h) c.in_ok-end-in-Own.ensures.done
 
 pub returns-in-Own-clause-few : goal.returns-in-Own-clause-few
 returns-in-Own-clause-few g c d t =
     let e = own_depth (g.C.Chunks.contents c.args.chunks.now) c.args.self.now.root c.in-Own.node d c.in-Own.is t in
-    omega (arith, c.in_ok-end-in-Own.ensures.few, removed_fresh c.remove_root.new.self c.in_ok-end-in-Own.end, ap root_fresh c.give_way.ensures, ap root_fresh c.in-Own.is, e)
+    omega (
+      arith,
+      c.in_ok-end-in-Own.ensures.few,
+      removed_fresh c.remove_root.new.self c.in_ok-end-in-Own.end,
+      ap root_fresh c.give_way.ensures,
+      ap root_fresh c.in-Own.is,
+      e,
+    )
 
 pub returns-in-Own-clause-deep : goal.returns-in-Own-clause-deep
 returns-in-Own-clause-deep g c =
     let q = g.C.Chunks.contents c.remove_root.new.chunks in
     let n = c.remove_root.new.self in
-    let top = own_depth (g.C.Chunks.contents c.args.chunks.now) c.args.self.now.root c.in-Own.node c.args.depth c.in-Own.is c.requires.depth in
+    let top = own_depth (g.C.Chunks.contents c.args.chunks.now) c.args.self.now.root c.in-Own.node c.args.depth
+    c.in-Own.is c.requires.depth in
     subst (λ (r : Root). (e : ℕ) × (root_depth q r ≡ Some e) × (e ≤ c.args.depth)) (sym c.give_way.ensures)
     (subst (λ d. (e : ℕ) × (root_depth q (root_or c.in_ok-end-in-Own.end (Own n)) ≡ Some e) × (e ≤ d)) top
     (removed_depth q c.in-Own.node.depth n c.in_ok-end-in-Own.end c.in_ok-end-in-Own.ensures.deep))
@@ -37,37 +46,48 @@ pub returns-in-Own-clause-wide : goal.returns-in-Own-clause-wide
 returns-in-Own-clause-wide g c w =
     let q = g.C.Chunks.contents c.remove_root.new.chunks in
     subst (IsWide q) (sym c.give_way.ensures)
-    (removed_wide q c.remove_root.new.self c.in_ok-end-in-Own.end (c.in_ok-end-in-Own.ensures.wide (subst (IsWide (g.C.Chunks.contents c.args.chunks.now)) c.in-Own.is w)))
+    (removed_wide q c.remove_root.new.self c.in_ok-end-in-Own.end
+    (c.in_ok-end-in-Own.ensures.wide (subst (IsWide (g.C.Chunks.contents c.args.chunks.now)) c.in-Own.is w)))
 
 pub returns-in-Own-clause-places : goal.returns-in-Own-clause-places
 returns-in-Own-clause-places g c =
     let at_q = g.C.Chunks.places c.remove_root.new.chunks in
     let n = c.remove_root.new.self in
     subst (λ (r : Root). AreKept at_q (tree_places c.args.self.now) (root_places r)) (sym c.give_way.ensures)
-    (subst (λ (r : Root). AreKept at_q (root_places r) (root_places (root_or c.in_ok-end-in-Own.end (Own n)))) (sym c.in-Own.is)
-    (subst (AreKept at_q (places_of c.in-Own.node.pieces)) (removed_places n c.in_ok-end-in-Own.end) c.in_ok-end-in-Own.ensures.places))
+    (subst (λ (r : Root). AreKept at_q (root_places r) (root_places (root_or c.in_ok-end-in-Own.end (Own n))))
+    (sym c.in-Own.is)
+    (subst (AreKept at_q (places_of c.in-Own.node.pieces))
+    (removed_places n c.in_ok-end-in-Own.end) c.in_ok-end-in-Own.ensures.places))
 
 pub root_without-requires-clause-map : goal.root_without-requires-clause-map
-root_without-requires-clause-map g c = subst (λ r. IsSome (root_map (g.C.Chunks.contents c.args.chunks.now) r)) c.in-Placed.is c.requires.map
+root_without-requires-clause-map g c = subst
+    (λ r. IsSome (root_map (g.C.Chunks.contents c.args.chunks.now) r)) c.in-Placed.is c.requires.map
 
 pub root_without-requires-clause-depth : goal.root_without-requires-clause-depth
-root_without-requires-clause-depth g c = subst (λ r. root_depth (g.C.Chunks.contents c.args.chunks.now) r ≡ Some c.args.depth) c.in-Placed.is c.requires.depth
+root_without-requires-clause-depth g c = subst
+    (λ r. root_depth (g.C.Chunks.contents c.args.chunks.now) r ≡ Some c.args.depth) c.in-Placed.is c.requires.depth
 
 pub returns-in-Placed-clause-ok : goal.returns-in-Placed-clause-ok
-returns-in-Placed-clause-ok g c m h = c.in_ok-self-in-Placed.ensures.ok m (ap (root_map (g.C.Chunks.contents c.args.chunks.now)) (sym c.in-Placed.is) ∙ h)
+returns-in-Placed-clause-ok g c m h = c.in_ok-self-in-Placed.ensures.ok m
+    (ap (root_map (g.C.Chunks.contents c.args.chunks.now)) (sym c.in-Placed.is) ∙ h)
 
 pub returns-in-Placed-clause-few : goal.returns-in-Placed-clause-few
-returns-in-Placed-clause-few g c d t = omega (arith, c.in_ok-self-in-Placed.ensures.few, some_is (sym c.requires.depth ∙ t))
+returns-in-Placed-clause-few g c d t = omega
+    (arith, c.in_ok-self-in-Placed.ensures.few, some_is (sym c.requires.depth ∙ t))
 
 pub returns-in-Placed-clause-wide : goal.returns-in-Placed-clause-wide
-returns-in-Placed-clause-wide g c w = c.in_ok-self-in-Placed.ensures.wide (subst (IsWide (g.C.Chunks.contents c.args.chunks.now)) c.in-Placed.is w)
+returns-in-Placed-clause-wide g c w = c.in_ok-self-in-Placed.ensures.wide
+    (subst (IsWide (g.C.Chunks.contents c.args.chunks.now)) c.in-Placed.is w)
 
 pub returns-in-Placed-clause-places : goal.returns-in-Placed-clause-places
 returns-in-Placed-clause-places g c =
-    kept-from_none (g.C.Chunks.places c.root_without.new.chunks) (tree_places c.args.self.now) _ c.in_ok-self-in-Placed.ensures.places
+    kept-from_none (g.C.Chunks.places c.root_without.new.chunks)
+    (tree_places c.args.self.now) _ c.in_ok-self-in-Placed.ensures.places
 
 pub remove_root-requires-clause-places : goal.remove_root-requires-clause-places
-remove_root-requires-clause-places g c = own_may (g.C.Chunks.places c.args.chunks.now) c.args.self.now.root c.in-Own.node c.in-Own.is c.requires.places
+remove_root-requires-clause-places g c = own_may
+    (g.C.Chunks.places c.args.chunks.now) c.args.self.now.root c.in-Own.node c.in-Own.is c.requires.places
 
 pub root_without-requires-clause-place : goal.root_without-requires-clause-place
-root_without-requires-clause-place g c = placed_may (g.C.Chunks.places c.args.chunks.now) c.args.self.now.root c.in-Placed.at c.in-Placed.is c.requires.places
+root_without-requires-clause-place g c = placed_may
+    (g.C.Chunks.places c.args.chunks.now) c.args.self.now.root c.in-Placed.at c.in-Placed.is c.requires.places

@@ -12,17 +12,25 @@ pub returns-in-Placed-clause-rows : goal.returns-in-Placed-clause-rows
 returns-in-Placed-clause-rows g c m h =
     let p = g.C.Chunks.contents c.args.chunks.now in
     let k = stamp_of c.in-Placed.at in
-    let e : option_and_then map_of_rows (chunk_rows p k) ≡ Some m = sym (map_at-rows p k) ∙ ap (root_map p) (sym c.in-Placed.is) ∙ h in
-    subst (λ x. OnOk c.scan_placed.result (c.scan_placed.new.out.items ≡ x)) (scan_of-map (chunk_rows p k) m c.args.scan.now c.args.out.now.items e c.requires.none) c.scan_placed.ensures.rows
+    let e : option_and_then map_of_rows (chunk_rows p k)
+    ≡ Some m = sym (map_at-rows p k) ∙ ap (root_map p) (sym c.in-Placed.is) ∙ h in
+    subst (λ x. OnOk c.scan_placed.result (c.scan_placed.new.out.items ≡ x))
+    (scan_of-map (chunk_rows p k) m c.args.scan.now c.args.out.now.items e c.requires.none)
+    c.scan_placed.ensures.rows
 
 pub returns-in-Own-clause-rows : goal.returns-in-Own-clause-rows
 returns-in-Own-clause-rows g c m h =
     let p = g.C.Chunks.contents c.args.chunks.now in
-    let e : option_and_then map_of_rows (shown p c.in-Own.node.pieces) ≡ Some m = ap (root_map p) (sym c.in-Own.is) ∙ h in
-    subst (λ x. OnOk c.scan.result (c.scan.new.out.items ≡ x)) (scan_of-map (shown p c.in-Own.node.pieces) m c.args.scan.now c.args.out.now.items e c.requires.none) c.scan.ensures.rows
+    let e : option_and_then map_of_rows (shown p c.in-Own.node.pieces)
+    ≡ Some m = ap (root_map p) (sym c.in-Own.is) ∙ h in
+    subst (λ x. OnOk c.scan.result (c.scan.new.out.items ≡ x))
+    (scan_of-map (shown p c.in-Own.node.pieces) m c.args.scan.now c.args.out.now.items e c.requires.none)
+    c.scan.ensures.rows
 
 pub scan_placed-requires-clause-place : goal.scan_placed-requires-clause-place
-scan_placed-requires-clause-place g c = placed_may (g.C.Chunks.places c.args.chunks.now) c.args.self.now.root c.in-Placed.at c.in-Placed.is c.requires.places
+scan_placed-requires-clause-place g c = placed_may
+    (g.C.Chunks.places c.args.chunks.now) c.args.self.now.root c.in-Placed.at c.in-Placed.is c.requires.places
 
 pub scan-requires-clause-places : goal.scan-requires-clause-places
-scan-requires-clause-places g c = own_may (g.C.Chunks.places c.args.chunks.now) c.args.self.now.root c.in-Own.node c.in-Own.is c.requires.places
+scan-requires-clause-places g c = own_may
+    (g.C.Chunks.places c.args.chunks.now) c.args.self.now.root c.in-Own.node c.in-Own.is c.requires.places

@@ -13,23 +13,32 @@ pub returns-in-Placed-clause-standing : goal.returns-in-Placed-clause-standing
 returns-in-Placed-clause-standing g c m h =
     let p = g.C.Chunks.contents c.args.chunks.now in
     let k = stamp_of c.in-Placed.at in
-    let e : option_and_then map_of_rows (chunk_rows p k) ≡ Some m = sym (map_at-rows p k) ∙ ap (root_map p) (sym c.in-Placed.is) ∙ h in
-    if_ok_so c.seek_placed.result c.seek_placed.ensures.standing (λ s f. f ∙ ap (λ x. standing x (option_copied c.args.asked)) (value_of_map (chunk_rows p k) m c.args.key.now e))
+    let e : option_and_then map_of_rows (chunk_rows p k)
+    ≡ Some m = sym (map_at-rows p k) ∙ ap (root_map p) (sym c.in-Placed.is) ∙ h in
+    if_ok_so c.seek_placed.result c.seek_placed.ensures.standing
+    (λ s f. f ∙ ap (λ x. standing x (option_copied c.args.asked))
+    (value_of_map (chunk_rows p k) m c.args.key.now e))
 
 pub returns-in-Placed-clause-depth : goal.returns-in-Placed-clause-depth
-returns-in-Placed-clause-depth g c = if_ok_so c.seek_placed.result c.seek_placed.ensures.depth (λ s f. ap (root_depth (g.C.Chunks.contents c.args.chunks.now)) c.in-Placed.is ∙ f)
+returns-in-Placed-clause-depth g c = if_ok_so c.seek_placed.result c.seek_placed.ensures.depth
+    (λ s f. ap (root_depth (g.C.Chunks.contents c.args.chunks.now)) c.in-Placed.is ∙ f)
 
 pub returns-in_ok-standing-in-Own-clause-standing : goal.returns-in_ok-standing-in-Own-clause-standing
 returns-in_ok-standing-in-Own-clause-standing g c m h =
     let p = g.C.Chunks.contents c.args.chunks.now in
-    let e : option_and_then map_of_rows (shown p c.in-Own.node.pieces) ≡ Some m = ap (root_map p) (sym c.in-Own.is) ∙ h in
-    c.in_ok-standing-in-Own.ensures.standing ∙ ap (λ x. standing x (option_copied c.args.asked)) (value_of_map (shown p c.in-Own.node.pieces) m c.args.key.now e)
+    let e : option_and_then map_of_rows (shown p c.in-Own.node.pieces)
+    ≡ Some m = ap (root_map p) (sym c.in-Own.is) ∙ h in
+    c.in_ok-standing-in-Own.ensures.standing ∙ ap (λ x. standing x (option_copied c.args.asked))
+    (value_of_map (shown p c.in-Own.node.pieces) m c.args.key.now e)
 
 pub returns-in_ok-standing-in-Own-clause-depth : goal.returns-in_ok-standing-in-Own-clause-depth
-returns-in_ok-standing-in-Own-clause-depth g c = ap (root_depth (g.C.Chunks.contents c.args.chunks.now)) c.in-Own.is ∙ ap (λ n. Some n) (sym c.depth.ensures)
+returns-in_ok-standing-in-Own-clause-depth g c = ap
+    (root_depth (g.C.Chunks.contents c.args.chunks.now)) c.in-Own.is ∙ ap (λ n. Some n) (sym c.depth.ensures)
 
 pub seek_placed-requires-clause-place : goal.seek_placed-requires-clause-place
-seek_placed-requires-clause-place g c = placed_may (g.C.Chunks.places c.args.chunks.now) c.args.self.now.root c.in-Placed.at c.in-Placed.is c.requires.places
+seek_placed-requires-clause-place g c = placed_may
+    (g.C.Chunks.places c.args.chunks.now) c.args.self.now.root c.in-Placed.at c.in-Placed.is c.requires.places
 
 pub standing-requires-clause-places : goal.standing-requires-clause-places
-standing-requires-clause-places g c = own_may (g.C.Chunks.places c.args.chunks.now) c.args.self.now.root c.in-Own.node c.in-Own.is c.requires.places
+standing-requires-clause-places g c = own_may
+    (g.C.Chunks.places c.args.chunks.now) c.args.self.now.root c.in-Own.node c.in-Own.is c.requires.places

@@ -23,49 +23,62 @@ pub write-requires-clause-there : goal.write-requires-clause-there
 write-requires-clause-there g c z =
     let p = g.C.Chunks.contents c.args.chunks.now in
     let s = some_of (tree_map p c.args.self.now) c.requires.map in
-    found_there (shown p c.in-Own.node.pieces) s.0 c.args.key.now (finite.get s.0 c.args.key.now) c.args.there (map_is (shown p c.in-Own.node.pieces) s.0 (ap (root_map p) (sym c.in-Own.is) ∙ s.1)).is refl
+    found_there (shown p c.in-Own.node.pieces) s.0 c.args.key.now (finite.get s.0 c.args.key.now) c.args.there
+    (map_is (shown p c.in-Own.node.pieces) s.0 (ap (root_map p) (sym c.in-Own.is) ∙ s.1)).is refl
     (c.requires.there s.0 s.1) z
 
 pub returns-in-Own-clause-ok : goal.returns-in-Own-clause-ok
 returns-in-Own-clause-ok g c m h =
     let p = g.C.Chunks.contents c.args.chunks.now in
     on_ok c.write.result c.write.ensures.done
-    (λ e. put_map (shown p c.in-Own.node.pieces) (shown (g.C.Chunks.contents c.write.new.chunks) c.write.new.self.pieces) m c.args.key.now c.args.value.now (ap (root_map p) (sym c.in-Own.is) ∙ h) e)
+    (λ e. put_map (shown p c.in-Own.node.pieces)
+    (shown (g.C.Chunks.contents c.write.new.chunks) c.write.new.self.pieces) m c.args.key.now c.args.value.now
+    (ap (root_map p) (sym c.in-Own.is) ∙ h) e)
 
 pub returns-in-Own-clause-few : goal.returns-in-Own-clause-few
 returns-in-Own-clause-few g c =
-    let e = own_depth (g.C.Chunks.contents c.args.chunks.now) c.args.self.now.root c.in-Own.node c.args.depth c.in-Own.is c.requires.depth in
+    let e = own_depth (g.C.Chunks.contents c.args.chunks.now) c.args.self.now.root c.in-Own.node c.args.depth
+    c.in-Own.is c.requires.depth in
     on_ok c.write.result c.write.ensures.few (λ n. omega (arith, n, e, ap root_fresh c.in-Own.is))
 
 pub returns-in-Own-clause-replaced : goal.returns-in-Own-clause-replaced
 returns-in-Own-clause-replaced g c there =
-    let e = own_depth (g.C.Chunks.contents c.args.chunks.now) c.args.self.now.root c.in-Own.node c.args.depth c.in-Own.is c.requires.depth in
+    let e = own_depth (g.C.Chunks.contents c.args.chunks.now) c.args.self.now.root c.in-Own.node c.args.depth
+    c.in-Own.is c.requires.depth in
     on_ok c.write.result (c.write.ensures.replaced there) (λ n. omega (arith, n, e, ap root_fresh c.in-Own.is))
 
 pub returns-in-Own-clause-deep : goal.returns-in-Own-clause-deep
 returns-in-Own-clause-deep g c =
-    let e = own_depth (g.C.Chunks.contents c.args.chunks.now) c.args.self.now.root c.in-Own.node c.args.depth c.in-Own.is c.requires.depth in
-    on_ok c.write.result c.write.ensures.deep (λ n. (c.write.new.self.depth, refl, omega (arith, n.0, e), omega (arith, n.1, e)))
+    let e = own_depth (g.C.Chunks.contents c.args.chunks.now) c.args.self.now.root c.in-Own.node c.args.depth
+    c.in-Own.is c.requires.depth in
+    on_ok c.write.result c.write.ensures.deep
+    (λ n. (c.write.new.self.depth, refl, omega (arith, n.0, e), omega (arith, n.1, e)))
 
 pub returns-in-Own-clause-wide : goal.returns-in-Own-clause-wide
-returns-in-Own-clause-wide g c w = c.write.ensures.wide (subst (IsWide (g.C.Chunks.contents c.args.chunks.now)) c.in-Own.is w)
+returns-in-Own-clause-wide g c w = c.write.ensures.wide
+    (subst (IsWide (g.C.Chunks.contents c.args.chunks.now)) c.in-Own.is w)
 
 pub returns-in-Own-clause-places : goal.returns-in-Own-clause-places
 returns-in-Own-clause-places g c =
     on_ok c.write.result c.write.ensures.places
-    (λ kept. subst (λ r. AreKept (g.C.Chunks.places c.write.new.chunks) (root_places r) (places_of c.write.new.self.pieces)) (sym c.in-Own.is) kept)
+    (λ kept. subst (λ r. AreKept (g.C.Chunks.places c.write.new.chunks) (root_places r)
+    (places_of c.write.new.self.pieces)) (sym c.in-Own.is) kept)
 
 pub root_with-requires-clause-map : goal.root_with-requires-clause-map
-root_with-requires-clause-map g c = subst (λ r. IsSome (root_map (g.C.Chunks.contents c.args.chunks.now) r)) c.in-Placed.is c.requires.map
+root_with-requires-clause-map g c = subst
+    (λ r. IsSome (root_map (g.C.Chunks.contents c.args.chunks.now) r)) c.in-Placed.is c.requires.map
 
 pub root_with-requires-clause-depth : goal.root_with-requires-clause-depth
-root_with-requires-clause-depth g c = subst (λ r. root_depth (g.C.Chunks.contents c.args.chunks.now) r ≡ Some c.args.depth) c.in-Placed.is c.requires.depth
+root_with-requires-clause-depth g c = subst
+    (λ r. root_depth (g.C.Chunks.contents c.args.chunks.now) r ≡ Some c.args.depth) c.in-Placed.is c.requires.depth
 
 pub root_with-requires-clause-there : goal.root_with-requires-clause-there
-root_with-requires-clause-there g c m h = c.requires.there m (ap (root_map (g.C.Chunks.contents c.args.chunks.now)) c.in-Placed.is ∙ h)
+root_with-requires-clause-there g c m h = c.requires.there m
+    (ap (root_map (g.C.Chunks.contents c.args.chunks.now)) c.in-Placed.is ∙ h)
 
 pub returns-in-Placed-clause-ok : goal.returns-in-Placed-clause-ok
-returns-in-Placed-clause-ok g c m h = c.in_ok-root-in-Placed.ensures.ok m (ap (root_map (g.C.Chunks.contents c.args.chunks.now)) (sym c.in-Placed.is) ∙ h)
+returns-in-Placed-clause-ok g c m h = c.in_ok-root-in-Placed.ensures.ok m
+    (ap (root_map (g.C.Chunks.contents c.args.chunks.now)) (sym c.in-Placed.is) ∙ h)
 
 pub returns-in-Placed-clause-few : goal.returns-in-Placed-clause-few
 returns-in-Placed-clause-few g c = omega (arith, c.in_ok-root-in-Placed.ensures.few)
@@ -77,14 +90,18 @@ pub returns-in-Placed-clause-deep : goal.returns-in-Placed-clause-deep
 returns-in-Placed-clause-deep g c = c.in_ok-root-in-Placed.ensures.deep
 
 pub returns-in-Placed-clause-wide : goal.returns-in-Placed-clause-wide
-returns-in-Placed-clause-wide g c w = c.in_ok-root-in-Placed.ensures.wide (subst (IsWide (g.C.Chunks.contents c.args.chunks.now)) c.in-Placed.is w)
+returns-in-Placed-clause-wide g c w = c.in_ok-root-in-Placed.ensures.wide
+    (subst (IsWide (g.C.Chunks.contents c.args.chunks.now)) c.in-Placed.is w)
 
 pub returns-in-Placed-clause-places : goal.returns-in-Placed-clause-places
 returns-in-Placed-clause-places g c =
-    kept-from_none (g.C.Chunks.places c.root_with.new.chunks) (tree_places c.args.self.now) (root_places c.in_ok-root-in-Placed.root) c.in_ok-root-in-Placed.ensures.places
+    kept-from_none (g.C.Chunks.places c.root_with.new.chunks) (tree_places c.args.self.now)
+    (root_places c.in_ok-root-in-Placed.root) c.in_ok-root-in-Placed.ensures.places
 
 pub write-requires-clause-places : goal.write-requires-clause-places
-write-requires-clause-places g c = own_may (g.C.Chunks.places c.args.chunks.now) c.args.self.now.root c.in-Own.node c.in-Own.is c.requires.places
+write-requires-clause-places g c = own_may
+    (g.C.Chunks.places c.args.chunks.now) c.args.self.now.root c.in-Own.node c.in-Own.is c.requires.places
 
 pub root_with-requires-clause-place : goal.root_with-requires-clause-place
-root_with-requires-clause-place g c = placed_may (g.C.Chunks.places c.args.chunks.now) c.args.self.now.root c.in-Placed.at c.in-Placed.is c.requires.places
+root_with-requires-clause-place g c = placed_may
+    (g.C.Chunks.places c.args.chunks.now) c.args.self.now.root c.in-Placed.at c.in-Placed.is c.requires.places

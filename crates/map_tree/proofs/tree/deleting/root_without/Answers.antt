@@ -8,7 +8,8 @@ use Rattle.map_nodes.specs.Removing.{root_left}
 use Rattle.map_chunks.specs.Shown.{shown}
 use Rattle.map_tree.specs.declared.tree.Root.{Root}
 use Rattle.map_tree.specs.declared.tree.Root.TheVariants.{Own}
-use Rattle.map_tree.proofs.DeleteLemmas.{removed_map, removed_depth, removed_fresh, removed_places, removed_wide, wide_at-kept}
+use Rattle.map_tree.proofs.DeleteLemmas.{removed_map, removed_depth, removed_fresh, removed_places, removed_wide}
+use Rattle.map_tree.proofs.DeleteLemmas.{wide_at-kept}
 use Rattle.map_chunks.proofs.KeptLemmas.{kept-grown, kept-trans}
 use Rattle.map_tree.proofs.RootCounts.{placed_rows}
 use Rattle.map_chunks.proofs.Shelves.{some_of}
@@ -27,26 +28,37 @@ pub remove_root-requires-clause-tree : goal.remove_root-requires-clause-tree
 remove_root-requires-clause-tree g c =
     let p = g.C.Chunks.contents c.args.chunks.now in
     let s = some_of (map_at p (stamp_of c.args.at)) c.requires.map in
-    entries_tree (shown (g.C.Chunks.contents c.copied.new.chunks) c.in_ok-node.node.pieces) s.0 (c.in_ok-node.ensures.rows ∙ placed_rows p c.args.at s.0 c.args.depth s.1 c.requires.depth)
+    entries_tree (shown (g.C.Chunks.contents c.copied.new.chunks) c.in_ok-node.node.pieces) s.0
+    (c.in_ok-node.ensures.rows ∙ placed_rows p c.args.at s.0 c.args.depth s.1 c.requires.depth)
 
 pub returns-clause-ok : goal.returns-clause-ok
 returns-clause-ok g c m h =
     let q = g.C.Chunks.contents c.remove_root.new.chunks in
     let x = shown (g.C.Chunks.contents c.copied.new.chunks) c.in_ok-node.node.pieces in
     ap (root_map q) c.give_way.ensures
-    ∙ removed_map q c.remove_root.new.self c.in_ok-end.end x m c.args.key.now (map_from x m (c.in_ok-node.ensures.rows ∙ placed_rows (g.C.Chunks.contents c.args.chunks.now) c.args.at m c.args.depth h c.requires.depth))
+    ∙ removed_map q c.remove_root.new.self c.in_ok-end.end x m c.args.key.now
+    (map_from x m (c.in_ok-node.ensures.rows ∙ placed_rows
+    (g.C.Chunks.contents c.args.chunks.now) c.args.at m c.args.depth h c.requires.depth))
     c.in_ok-end.ensures.done
 
 pub returns-clause-few : goal.returns-clause-few
 returns-clause-few g c =
-    omega (arith, c.in_ok-end.ensures.few, removed_fresh c.remove_root.new.self c.in_ok-end.end, ap root_fresh c.give_way.ensures, c.in_ok-node.ensures.fresh, c.in_ok-node.ensures.depth)
+    omega (
+      arith,
+      c.in_ok-end.ensures.few,
+      removed_fresh c.remove_root.new.self c.in_ok-end.end,
+      ap root_fresh c.give_way.ensures,
+      c.in_ok-node.ensures.fresh,
+      c.in_ok-node.ensures.depth,
+    )
 
 pub returns-clause-deep : goal.returns-clause-deep
 returns-clause-deep g c =
     let q = g.C.Chunks.contents c.remove_root.new.chunks in
     let n = c.remove_root.new.self in
     subst (λ (r : Root). (e : ℕ) × (root_depth q r ≡ Some e) × (e ≤ c.args.depth)) (sym c.give_way.ensures)
-    (subst (λ d. (e : ℕ) × (root_depth q (root_or c.in_ok-end.end (Own n)) ≡ Some e) × (e ≤ d)) c.in_ok-node.ensures.depth
+    (subst (λ d. (e : ℕ) × (root_depth q (root_or c.in_ok-end.end (Own n)) ≡ Some e) × (e ≤ d))
+    c.in_ok-node.ensures.depth
     (removed_depth q c.in_ok-node.node.depth n c.in_ok-end.end c.in_ok-end.ensures.deep))
 
 pub returns-clause-wide : goal.returns-clause-wide
@@ -56,8 +68,11 @@ returns-clause-wide g c w =
     let k = stamp_of c.args.at in
     let s = some_of (map_at p k) c.requires.map in
     let sp = placed_map p k s.0 s.1 in
-    let later = wide_at-kept p (g.C.Chunks.contents c.copied.new.chunks) k sp.segment c.copied.ensures.grown.0 sp.is w in
-    subst (IsWide q) (sym c.give_way.ensures) (removed_wide q c.remove_root.new.self c.in_ok-end.end (c.in_ok-end.ensures.wide (c.in_ok-node.ensures.wide later)))
+    let later = wide_at-kept p (g.C.Chunks.contents c.copied.new.chunks) k sp.segment
+    c.copied.ensures.grown.0 sp.is w in
+    subst (IsWide q) (sym c.give_way.ensures)
+    (removed_wide q c.remove_root.new.self c.in_ok-end.end
+    (c.in_ok-end.ensures.wide (c.in_ok-node.ensures.wide later)))
 
 pub returns-clause-places : goal.returns-clause-places
 returns-clause-places g c =
@@ -67,7 +82,10 @@ returns-clause-places g c =
     let n = c.remove_root.new.self in
     subst (λ (r : Root). AreKept at_q [] (root_places r)) (sym c.give_way.ensures)
     (subst (AreKept at_q []) (removed_places n c.in_ok-end.end)
-    (kept-trans at_q [] mid (root_left n c.in_ok-end.end) (kept-grown at_p at_q [] mid c.remove_root.ensures.grown.1 c.in_ok-node.ensures.places) c.in_ok-end.ensures.places))
+    (kept-trans at_q [] mid (root_left n c.in_ok-end.end)
+    (kept-grown at_p at_q [] mid c.remove_root.ensures.grown.1 c.in_ok-node.ensures.places)
+    c.in_ok-end.ensures.places))
 
 pub remove_root-requires-clause-places : goal.remove_root-requires-clause-places
-remove_root-requires-clause-places g c = new_may (g.C.Chunks.places c.copied.new.chunks) (places_of c.in_ok-node.node.pieces) c.in_ok-node.ensures.places
+remove_root-requires-clause-places g c = new_may (g.C.Chunks.places c.copied.new.chunks)
+    (places_of c.in_ok-node.node.pieces) c.in_ok-node.ensures.places

@@ -23,30 +23,45 @@ pub write-requires-clause-tree : goal.write-requires-clause-tree
 write-requires-clause-tree g c =
     let p = g.C.Chunks.contents c.args.chunks.now in
     let s = some_of (map_at p (stamp_of c.args.at)) c.requires.map in
-    entries_tree (shown (g.C.Chunks.contents c.copied.new.chunks) c.in_ok-node.node.pieces) s.0 (c.in_ok-node.ensures.rows ∙ placed_rows p c.args.at s.0 c.args.depth s.1 c.requires.depth)
+    entries_tree (shown (g.C.Chunks.contents c.copied.new.chunks) c.in_ok-node.node.pieces) s.0
+    (c.in_ok-node.ensures.rows ∙ placed_rows p c.args.at s.0 c.args.depth s.1 c.requires.depth)
 
 pub write-requires-clause-there : goal.write-requires-clause-there
 write-requires-clause-there g c z =
     let p = g.C.Chunks.contents c.args.chunks.now in
     let s = some_of (map_at p (stamp_of c.args.at)) c.requires.map in
-    found_there (shown (g.C.Chunks.contents c.copied.new.chunks) c.in_ok-node.node.pieces) s.0 c.args.key.now (finite.get s.0 c.args.key.now) c.args.there
-    (c.in_ok-node.ensures.rows ∙ placed_rows p c.args.at s.0 c.args.depth s.1 c.requires.depth) refl (c.requires.there s.0 s.1) z
+    found_there (shown (g.C.Chunks.contents c.copied.new.chunks) c.in_ok-node.node.pieces) s.0 c.args.key.now
+    (finite.get s.0 c.args.key.now) c.args.there
+    (c.in_ok-node.ensures.rows ∙ placed_rows p c.args.at s.0 c.args.depth s.1 c.requires.depth) refl
+    (c.requires.there s.0 s.1) z
 
 pub returns-clause-ok : goal.returns-clause-ok
 returns-clause-ok g c m h =
-    put_copied (shown (g.C.Chunks.contents c.copied.new.chunks) c.in_ok-node.node.pieces) (shown (g.C.Chunks.contents c.write.new.chunks) c.write.new.self.pieces) m c.args.key.now c.args.value.now
-    (c.in_ok-node.ensures.rows ∙ placed_rows (g.C.Chunks.contents c.args.chunks.now) c.args.at m c.args.depth h c.requires.depth) c.in_ok-write.ensures.done
+    put_copied (shown (g.C.Chunks.contents c.copied.new.chunks) c.in_ok-node.node.pieces)
+    (shown (g.C.Chunks.contents c.write.new.chunks) c.write.new.self.pieces) m c.args.key.now c.args.value.now
+    (c.in_ok-node.ensures.rows ∙ placed_rows
+    (g.C.Chunks.contents c.args.chunks.now) c.args.at m c.args.depth h c.requires.depth) c.in_ok-write.ensures.done
 
 pub returns-clause-few : goal.returns-clause-few
-returns-clause-few g c = omega (arith, c.in_ok-write.ensures.few, c.in_ok-node.ensures.fresh, c.in_ok-node.ensures.depth)
+returns-clause-few g c = omega (
+  arith,
+  c.in_ok-write.ensures.few,
+  c.in_ok-node.ensures.fresh,
+  c.in_ok-node.ensures.depth,
+)
 
 pub returns-clause-replaced : goal.returns-clause-replaced
-returns-clause-replaced g c there = omega (arith, c.in_ok-write.ensures.replaced there, c.in_ok-node.ensures.fresh, c.in_ok-node.ensures.depth)
+returns-clause-replaced g c there = omega
+    (arith, c.in_ok-write.ensures.replaced there, c.in_ok-node.ensures.fresh, c.in_ok-node.ensures.depth)
 
 pub returns-clause-deep : goal.returns-clause-deep
 returns-clause-deep g c =
-    let n = c.in_ok-write.ensures.deep in
-    (c.write.new.self.depth, refl, omega (arith, n.0, c.in_ok-node.ensures.depth), omega (arith, n.1, c.in_ok-node.ensures.depth))
+    let n = c.in_ok-write.ensures.deep in (
+      c.write.new.self.depth,
+      refl,
+      omega (arith, n.0, c.in_ok-node.ensures.depth),
+      omega (arith, n.1, c.in_ok-node.ensures.depth),
+    )
 
 pub returns-clause-wide : goal.returns-clause-wide
 returns-clause-wide g c w =
@@ -54,14 +69,17 @@ returns-clause-wide g c w =
     let k = stamp_of c.args.at in
     let s = some_of (map_at p k) c.requires.map in
     let sp = placed_map p k s.0 s.1 in
-    c.in_ok-write.ensures.wide (c.in_ok-node.ensures.wide (wide_at-kept p (g.C.Chunks.contents c.copied.new.chunks) k sp.segment c.copied.ensures.grown.0 sp.is w))
+    c.in_ok-write.ensures.wide (c.in_ok-node.ensures.wide
+    (wide_at-kept p (g.C.Chunks.contents c.copied.new.chunks) k sp.segment c.copied.ensures.grown.0 sp.is w))
 
 pub returns-clause-places : goal.returns-clause-places
 returns-clause-places g c =
     let at_p = g.C.Chunks.places c.copied.new.chunks in
     let at_q = g.C.Chunks.places c.write.new.chunks in
     let mid = places_of c.in_ok-node.node.pieces in
-    kept-trans at_q [] mid (places_of c.write.new.self.pieces) (kept-grown at_p at_q [] mid c.write.ensures.grown.1 c.in_ok-node.ensures.places) c.in_ok-write.ensures.places
+    kept-trans at_q [] mid (places_of c.write.new.self.pieces)
+    (kept-grown at_p at_q [] mid c.write.ensures.grown.1 c.in_ok-node.ensures.places) c.in_ok-write.ensures.places
 
 pub write-requires-clause-places : goal.write-requires-clause-places
-write-requires-clause-places g c = new_may (g.C.Chunks.places c.copied.new.chunks) (places_of c.in_ok-node.node.pieces) c.in_ok-node.ensures.places
+write-requires-clause-places g c = new_may (g.C.Chunks.places c.copied.new.chunks)
+    (places_of c.in_ok-node.node.pieces) c.in_ok-node.ensures.places

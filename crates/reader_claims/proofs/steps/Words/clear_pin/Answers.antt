@@ -10,11 +10,18 @@ pub store-requires : goal.store-requires
 store-requires c = (search rules, omega arith, clears_as _ _ _ _ _ (omega arith) (omega arith) (omega arith))
 
 pub invariant_of-reader : goal.invariant_of-reader
-invariant_of-reader c = let was = c.args.reader.now in let did = c.store.ensures.2 in let t = stays was.seat.table_id _ was.seat.me c.store.new.seat.me was.number _ c.store.ensures.0 did.1.0 refl refl was.low was.own was.bare in record { own = t.own; bare = t.bare; low = t.low }
+invariant_of-reader c = let was = c.args.reader.now in let did = c.store.ensures.2 in
+    let t = stays was.seat.table_id _ was.seat.me c.store.new.seat.me was.number _ c.store.ensures.0 did.1.0 refl refl
+    was.low was.own was.bare in record { own = t.own; bare = t.bare; low = t.low }
 
 pub returns-clause-table : goal.returns-clause-table
-returns-clause-table c = let was = c.args.reader.now in let did = c.store.ensures.2 in (stays was.seat.table_id _ was.seat.me c.store.new.seat.me was.number _ c.store.ensures.0 did.1.0 refl refl was.low was.own was.bare).table
+returns-clause-table c = let was = c.args.reader.now in let did = c.store.ensures.2 in
+    (stays was.seat.table_id _ was.seat.me c.store.new.seat.me was.number _ c.store.ensures.0 did.1.0 refl refl was.low
+    was.own was.bare).table
 
 pub returns-clause-step : goal.returns-clause-step
-returns-clause-step c = let was = c.args.reader.now in let did = c.store.ensures.2 in
-    (did.0, went was.seat.me c.store.new.seat.me c.place.result (pin_at was.seat.me.0.number) did.0 0 (with_pin was.seat.me.0 Absent) (omega arith) did.1)
+returns-clause-step c = let was = c.args.reader.now in let did = c.store.ensures.2 in (
+  did.0,
+  went was.seat.me c.store.new.seat.me c.place.result (pin_at was.seat.me.0.number) did.0 0
+      (with_pin was.seat.me.0 Absent) (omega arith) did.1,
+)

@@ -4,7 +4,11 @@ use Rattle.reader_claims.proofs.Moving.{moves_moves}
 use Rattle.reader_claims.proofs.steps.Words.find.Goals as goal
 
 pub returns-in-Retired-clause-moves : goal.returns-in-Retired-clause-moves
-returns-in-Retired-clause-moves c = let v : View = view c.args.reader.now in let u : View = view c.quick_round.new.reader in let t : View = view c.pass-in-Retired.new.reader in moves_moves v u t c.quick_round.ensures.moves c.pass-in-Retired.ensures.moves
+returns-in-Retired-clause-moves c = let v : View = view c.args.reader.now in
+    let u : View = view c.quick_round.new.reader in let t : View = view c.pass-in-Retired.new.reader in
+    moves_moves v u t c.quick_round.ensures.moves c.pass-in-Retired.ensures.moves
 
 pub returns-in-Nothing-clause-moves : goal.returns-in-Nothing-clause-moves
-returns-in-Nothing-clause-moves c = let v : View = view c.args.reader.now in let u : View = view c.quick_round.new.reader in let t : View = view c.pass-in-Nothing.new.reader in moves_moves v u t c.quick_round.ensures.moves c.pass-in-Nothing.ensures.moves
+returns-in-Nothing-clause-moves c = let v : View = view c.args.reader.now in
+    let u : View = view c.quick_round.new.reader in let t : View = view c.pass-in-Nothing.new.reader in
+    moves_moves v u t c.quick_round.ensures.moves c.pass-in-Nothing.ensures.moves

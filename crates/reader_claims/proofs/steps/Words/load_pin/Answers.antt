@@ -6,17 +6,27 @@ use Rattle.reader_claims.proofs.Readers.{stays, went}
 use Rattle.reader_claims.proofs.steps.Words.load_pin.Goals as goal
 
 pub load-requires : goal.load-requires
-load-requires c = (search rules, omega arith, reads_at _ _ _ _ c.args.other _ c.place.ensures (omega arith) (omega arith))
+load-requires c = (
+  search rules,
+  omega arith,
+  reads_at _ _ _ _ c.args.other _ c.place.ensures (omega arith) (omega arith),
+)
 
 pub invariant_of-reader : goal.invariant_of-reader
-invariant_of-reader c = let was = c.args.reader.now in let did = c.load.ensures.2 c.args.other c.place.ensures in let t = stays was.seat.table_id _ was.seat.me c.load.new.seat.me was.number _ c.load.ensures.0 did.0 refl refl was.low was.own was.bare in record { own = t.own; bare = t.bare; low = t.low }
+invariant_of-reader c = let was = c.args.reader.now in let did = c.load.ensures.2 c.args.other c.place.ensures in
+    let t = stays was.seat.table_id _ was.seat.me c.load.new.seat.me was.number _ c.load.ensures.0 did.0 refl refl
+    was.low was.own was.bare in record { own = t.own; bare = t.bare; low = t.low }
 
 pub returns-clause-table : goal.returns-clause-table
-returns-clause-table c = let was = c.args.reader.now in let did = c.load.ensures.2 c.args.other c.place.ensures in (stays was.seat.table_id _ was.seat.me c.load.new.seat.me was.number _ c.load.ensures.0 did.0 refl refl was.low was.own was.bare).table
+returns-clause-table c = let was = c.args.reader.now in let did = c.load.ensures.2 c.args.other c.place.ensures in
+    (stays was.seat.table_id _ was.seat.me c.load.new.seat.me was.number _ c.load.ensures.0 did.0 refl refl was.low
+    was.own was.bare).table
 
 pub returns-clause-view : goal.returns-clause-view
 returns-clause-view c = ap (λ m. m.0) (c.load.ensures.2 c.args.other c.place.ensures).0
 
 pub returns-clause-step : goal.returns-clause-step
 returns-clause-step c = let was = c.args.reader.now in
-    went was.seat.me c.load.new.seat.me c.place.result (pin_at c.args.other) c.load.result c.load.result (with_read was.seat.me.0 c.args.other c.load.result) c.place.ensures (c.load.ensures.2 c.args.other c.place.ensures)
+    went was.seat.me c.load.new.seat.me c.place.result (pin_at c.args.other) c.load.result c.load.result
+    (with_read was.seat.me.0 c.args.other c.load.result) c.place.ensures
+    (c.load.ensures.2 c.args.other c.place.ensures)

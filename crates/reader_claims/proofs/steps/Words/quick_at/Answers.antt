@@ -12,10 +12,12 @@ pub returns-in-Taken-clause-later : goal.returns-in-Taken-clause-later
 returns-in-Taken-clause-later c = later_self _
 
 pub returns-else-take-eq-FREE-clause-later : goal.returns-else-take-eq-FREE-clause-later
-returns-else-take-eq-FREE-clause-later c = let v : View = view c.args.reader.now in let u : View = view c.take.new.reader in later_tried c.take.result _ v u c.take.ensures.won c.take.ensures.lost
+returns-else-take-eq-FREE-clause-later c = let v : View = view c.args.reader.now in
+    let u : View = view c.take.new.reader in later_tried c.take.result _ v u c.take.ensures.won c.take.ensures.lost
 
 pub returns-then-take-eq-FREE-clause-later : goal.returns-then-take-eq-FREE-clause-later
-returns-then-take-eq-FREE-clause-later c = let v : View = view c.args.reader.now in let u : View = view c.take.new.reader in later_tried c.take.result _ v u c.take.ensures.won c.take.ensures.lost
+returns-then-take-eq-FREE-clause-later c = let v : View = view c.args.reader.now in
+    let u : View = view c.take.new.reader in later_tried c.take.result _ v u c.take.ensures.won c.take.ensures.lost
 
 pub returns-in-Retired-clause-moves : goal.returns-in-Retired-clause-moves
 returns-in-Retired-clause-moves c = machine.still _
@@ -24,7 +26,9 @@ pub returns-in-Taken-clause-moves : goal.returns-in-Taken-clause-moves
 returns-in-Taken-clause-moves c = machine.still _
 
 pub returns-then-take-eq-FREE-clause-moves : goal.returns-then-take-eq-FREE-clause-moves
-returns-then-take-eq-FREE-clause-moves c = let v : View = view c.args.reader.now in let u : View = view c.take.new.reader in one_move v u _ _ _ c.take.ensures.step
+returns-then-take-eq-FREE-clause-moves c = let v : View = view c.args.reader.now in
+    let u : View = view c.take.new.reader in one_move v u _ _ _ c.take.ensures.step
 
 pub returns-else-take-eq-FREE-clause-moves : goal.returns-else-take-eq-FREE-clause-moves
-returns-else-take-eq-FREE-clause-moves c = let v : View = view c.args.reader.now in let u : View = view c.take.new.reader in one_move v u _ _ _ c.take.ensures.step
+returns-else-take-eq-FREE-clause-moves c = let v : View = view c.args.reader.now in
+    let u : View = view c.take.new.reader in one_move v u _ _ _ c.take.ensures.step

@@ -7,10 +7,14 @@ use Rattle.reader_claims.proofs.Moving.{moves_moves}
 use Rattle.reader_claims.proofs.steps.Words.quick_few.Goals as goal
 
 pub returns-clause-later : goal.returns-clause-later
-returns-clause-later c = let v : View = view c.args.reader.now in let u : View = view c.quick-look.new.reader in let t : View = view c.probe.new.reader in later_later v u t c.quick-look.ensures.later c.probe.ensures.later
+returns-clause-later c = let v : View = view c.args.reader.now in let u : View = view c.quick-look.new.reader in
+    let t : View = view c.probe.new.reader in later_later v u t c.quick-look.ensures.later c.probe.ensures.later
 
 pub returns-clause-taken : goal.returns-clause-taken
-returns-clause-taken c = let v : View = view c.args.reader.now in let u : View = view c.quick-look.new.reader in let t : View = view c.probe.new.reader in took_further _ _ _ v u t (search rules) c.in-Nothing.ensures.taken c.probe.ensures.taken
+returns-clause-taken c = let v : View = view c.args.reader.now in let u : View = view c.quick-look.new.reader in
+    let t : View = view c.probe.new.reader in
+    took_further _ _ _ v u t (search rules) c.in-Nothing.ensures.taken c.probe.ensures.taken
 
 pub returns-clause-moves : goal.returns-clause-moves
-returns-clause-moves c = let v : View = view c.args.reader.now in let u : View = view c.quick-look.new.reader in let t : View = view c.probe.new.reader in moves_moves v u t c.quick-look.ensures.moves c.probe.ensures.moves
+returns-clause-moves c = let v : View = view c.args.reader.now in let u : View = view c.quick-look.new.reader in
+    let t : View = view c.probe.new.reader in moves_moves v u t c.quick-look.ensures.moves c.probe.ensures.moves

@@ -9,31 +9,52 @@ use Rattle.reader_claims.specs.Passes.{IsButRetired}
 use Rattle.reader_claims.proofs.steps.Words.retire.Goals as goal
 
 pub compare_exchange-requires : goal.compare_exchange-requires
-compare_exchange-requires c = (search rules, omega arith, retires_at _ _ _ _ c.args.slot c.args.r _ _ c.place.ensures (search rules) (search rules) (search rules) c.word-retired.ensures)
+compare_exchange-requires c = (
+  search rules,
+  omega arith,
+  retires_at _ _ _ _ c.args.slot c.args.r _ _ c.place.ensures (search rules) (search rules)
+      (search rules) c.word-retired.ensures,
+)
 
 pub invariant_of-reader : goal.invariant_of-reader
-invariant_of-reader c = let was = c.args.reader.now in let did = c.compare_exchange.ensures.2.3 c.args.slot c.place.ensures in
-    let t = either_way c.compare_exchange.result 1 (Stays was.seat.table_id c.compare_exchange.new.seat.table_id was.seat.me c.compare_exchange.new.seat.me was.number)
-    (λ e. stays _ _ _ _ _ _ c.compare_exchange.ensures.0 (did.0 e).0 refl refl was.low was.own was.bare) (λ ne. stays _ _ _ _ _ _ c.compare_exchange.ensures.0 (did.1 ne).0 refl refl was.low was.own was.bare) in
+invariant_of-reader c = let was = c.args.reader.now in
+    let did = c.compare_exchange.ensures.2.3 c.args.slot c.place.ensures in
+    let t = either_way c.compare_exchange.result 1
+    (Stays was.seat.table_id c.compare_exchange.new.seat.table_id was.seat.me
+    c.compare_exchange.new.seat.me was.number)
+    (λ e. stays _ _ _ _ _ _ c.compare_exchange.ensures.0 (did.0 e).0 refl refl was.low was.own was.bare)
+    (λ ne. stays _ _ _ _ _ _ c.compare_exchange.ensures.0 (did.1 ne).0 refl refl was.low was.own was.bare) in
     record { own = t.own; bare = t.bare; low = t.low }
 
 pub returns-clause-table : goal.returns-clause-table
-returns-clause-table c = let was = c.args.reader.now in let did = c.compare_exchange.ensures.2.3 c.args.slot c.place.ensures in
-    (either_way c.compare_exchange.result 1 (Stays was.seat.table_id c.compare_exchange.new.seat.table_id was.seat.me c.compare_exchange.new.seat.me was.number)
-    (λ e. stays _ _ _ _ _ _ c.compare_exchange.ensures.0 (did.0 e).0 refl refl was.low was.own was.bare) (λ ne. stays _ _ _ _ _ _ c.compare_exchange.ensures.0 (did.1 ne).0 refl refl was.low was.own was.bare)).table
+returns-clause-table c = let was = c.args.reader.now in
+    let did = c.compare_exchange.ensures.2.3 c.args.slot c.place.ensures in
+    (either_way c.compare_exchange.result 1
+    (Stays was.seat.table_id c.compare_exchange.new.seat.table_id was.seat.me
+    c.compare_exchange.new.seat.me was.number)
+    (λ e. stays _ _ _ _ _ _ c.compare_exchange.ensures.0 (did.0 e).0 refl refl was.low was.own was.bare)
+    (λ ne. stays _ _ _ _ _ _ c.compare_exchange.ensures.0 (did.1 ne).0 refl refl was.low was.own was.bare)).table
 
 pub returns-clause-won : goal.returns-clause-won
-returns-clause-won c = λ e. ap (λ s. s.0) ((c.compare_exchange.ensures.2.3 c.args.slot c.place.ensures).0 e).0 ∙ ap (with_retired c.args.reader.now.seat.me.0 c.args.slot) (sym c.requires.raised.0)
+returns-clause-won c = λ e. ap (λ s. s.0) ((c.compare_exchange.ensures.2.3 c.args.slot c.place.ensures).0 e).0 ∙ ap
+    (with_retired c.args.reader.now.seat.me.0 c.args.slot) (sym c.requires.raised.0)
 
 pub returns-clause-lost : goal.returns-clause-lost
 returns-clause-lost c = λ ne. ap (λ s. s.0) ((c.compare_exchange.ensures.2.3 c.args.slot c.place.ensures).1 ne).0
 
 pub returns-clause-step : goal.returns-clause-step
-returns-clause-step c = let m = c.args.reader.now.seat.me in let n = c.compare_exchange.new.seat.me in let x = c.compare_exchange.result in let slot = c.args.slot in let did = c.compare_exchange.ensures.2.3 slot c.place.ensures in
+returns-clause-step c = let m = c.args.reader.now.seat.me in let n = c.compare_exchange.new.seat.me in
+    let x = c.compare_exchange.result in let slot = c.args.slot in
+    let did = c.compare_exchange.ensures.2.3 slot c.place.ensures in
     left_move x 1 (slot_word (Retired c.args.r)) (slot_at slot) m.0 n.0
-    (λ e. subst (λ y. Move m.0 (slot_at slot) x y n.0) c.word-retired.ensures (went m n c.place.result (slot_at slot) x c.word-retired.result (with_retired m.0 slot (m.0.loaded + 1)) c.place.ensures (did.0 e)))
+    (λ e. subst (λ y. Move m.0 (slot_at slot) x y n.0) c.word-retired.ensures
+    (went m n c.place.result (slot_at slot) x c.word-retired.result
+    (with_retired m.0 slot (m.0.loaded + 1)) c.place.ensures (did.0 e)))
     (λ ne. went m n c.place.result (slot_at slot) x x (with_note m.0 slot 1 x) c.place.ensures (did.1 ne))
 
 pub returns-clause-kept : goal.returns-clause-kept
-returns-clause-kept c = let m = c.args.reader.now.seat.me in let n = c.compare_exchange.new.seat.me in let x = c.compare_exchange.result in let slot = c.args.slot in let did = c.compare_exchange.ensures.2.3 slot c.place.ensures in
-    either_way x 1 (IsButRetired m.0 n.0) (λ e. but_retired m.0 n.0 slot (m.0.loaded + 1) (ap (λ s. s.0) (did.0 e).0)) (λ ne. but_noted m.0 n.0 slot 1 x (ap (λ s. s.0) (did.1 ne).0))
+returns-clause-kept c = let m = c.args.reader.now.seat.me in let n = c.compare_exchange.new.seat.me in
+    let x = c.compare_exchange.result in let slot = c.args.slot in
+    let did = c.compare_exchange.ensures.2.3 slot c.place.ensures in
+    either_way x 1 (IsButRetired m.0 n.0) (λ e. but_retired m.0 n.0 slot (m.0.loaded + 1) (ap (λ s. s.0) (did.0 e).0))
+    (λ ne. but_noted m.0 n.0 slot 1 x (ap (λ s. s.0) (did.1 ne).0))

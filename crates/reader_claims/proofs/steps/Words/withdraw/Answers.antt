@@ -8,17 +8,33 @@ use Rattle.reader_claims.proofs.Readers.{stays, went}
 use Rattle.reader_claims.proofs.steps.Words.withdraw.Goals as goal
 
 pub compare_exchange-requires : goal.compare_exchange-requires
-compare_exchange-requires c = (search rules, omega arith, withdraws_at _ _ _ _ c.args.slot _ _ c.place.ensures (search rules) (c.word-mine.ensures ∙ ap (λ j. slot_word (Taken j)) (sym c.args.reader.now.own.0)))
+compare_exchange-requires c = (
+  search rules,
+  omega arith,
+  withdraws_at _ _ _ _ c.args.slot _ _ c.place.ensures (search rules)
+      (c.word-mine.ensures ∙ ap (λ j. slot_word (Taken j)) (sym c.args.reader.now.own.0)),
+)
 
 pub invariant_of-reader : goal.invariant_of-reader
-invariant_of-reader c = let was = c.args.reader.now in let did = c.compare_exchange.ensures.2.3 c.args.slot c.place.ensures in let t = stays was.seat.table_id _ was.seat.me c.compare_exchange.new.seat.me was.number _ c.compare_exchange.ensures.0 did.0 refl refl was.low was.own was.bare in record { own = t.own; bare = t.bare; low = t.low }
+invariant_of-reader c = let was = c.args.reader.now in
+    let did = c.compare_exchange.ensures.2.3 c.args.slot c.place.ensures in
+    let t = stays was.seat.table_id _ was.seat.me c.compare_exchange.new.seat.me was.number _
+    c.compare_exchange.ensures.0 did.0 refl refl was.low was.own was.bare in
+    record { own = t.own; bare = t.bare; low = t.low }
 
 pub returns-clause-table : goal.returns-clause-table
-returns-clause-table c = let was = c.args.reader.now in let did = c.compare_exchange.ensures.2.3 c.args.slot c.place.ensures in (stays was.seat.table_id _ was.seat.me c.compare_exchange.new.seat.me was.number _ c.compare_exchange.ensures.0 did.0 refl refl was.low was.own was.bare).table
+returns-clause-table c = let was = c.args.reader.now in
+    let did = c.compare_exchange.ensures.2.3 c.args.slot c.place.ensures in
+    (stays was.seat.table_id _ was.seat.me c.compare_exchange.new.seat.me was.number _ c.compare_exchange.ensures.0
+    did.0 refl refl was.low was.own was.bare).table
 
 pub returns-clause-view : goal.returns-clause-view
 returns-clause-view c = ap (λ m. m.0) (c.compare_exchange.ensures.2.3 c.args.slot c.place.ensures).0
 
 pub returns-clause-step : goal.returns-clause-step
-returns-clause-step c = let m = c.args.reader.now.seat.me in let n = c.compare_exchange.new.seat.me in let x = c.compare_exchange.result in
-    subst (λ y. Move m.0 (slot_at c.args.slot) y 0 n.0) (c.compare_exchange.ensures.2.2 ∙ c.compare_exchange.ensures.2.0) (went m n c.place.result (slot_at c.args.slot) x 0 (with_withdrawn m.0 c.args.slot) c.place.ensures (c.compare_exchange.ensures.2.3 c.args.slot c.place.ensures))
+returns-clause-step c = let m = c.args.reader.now.seat.me in let n = c.compare_exchange.new.seat.me in
+    let x = c.compare_exchange.result in
+    subst (λ y. Move m.0 (slot_at c.args.slot) y 0 n.0)
+    (c.compare_exchange.ensures.2.2 ∙ c.compare_exchange.ensures.2.0)
+    (went m n c.place.result (slot_at c.args.slot) x 0 (with_withdrawn m.0 c.args.slot) c.place.ensures
+    (c.compare_exchange.ensures.2.3 c.args.slot c.place.ensures))

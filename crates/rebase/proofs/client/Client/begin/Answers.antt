@@ -4,4 +4,5 @@ use Rattle.rebase.proofs.client.Client.begin.Goals as goal
 
 pub invariant_of-self-clause-at : goal.invariant_of-self-clause-at
 invariant_of-self-clause-at g c =
-    let client = c.args.self.now in last_grown client.mark.log c.begin.new.mark.log (stamp_of client.found) client.id client.last c.begin.ensures.seen client.at
+    let client = c.args.self.now in last_grown client.mark.log c.begin.new.mark.log
+    (stamp_of client.found) client.id client.last c.begin.ensures.seen client.at

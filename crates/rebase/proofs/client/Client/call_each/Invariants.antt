@@ -8,7 +8,9 @@ use Rattle.rebase.proofs.client.Client.call_each.Given as goal
 abbrev pub invariant-loop-call : goal.invariant-loop-call
 invariant-loop-call g l =
     let old = l.fn.self in let identity = old.group.now.identity in record {
-      answered : AreAnswered g.M.Means.means l.tries (caller identity old.id old.last) old.mark (take l.call-index l.calls) (map (told reply_seen) l.replies.items) l.self.mark (caller identity old.id l.self.last);
+      answered : AreAnswered g.M.Means.means l.tries (caller identity old.id old.last) old.mark
+          (take l.call-index l.calls) (map (told reply_seen) l.replies.items) l.self.mark
+          (caller identity old.id l.self.last);
       later : IsLater old.mark l.self.mark;
       same : (l.self.group.now ≡ old.group.now) × (l.self.id ≡ old.id);
       idle : g.S.Slots.reused → IsIdle (g.S.Slots.view old.slots) → IsIdle (g.S.Slots.view l.self.slots);

@@ -12,4 +12,5 @@ make_change-made-requires-clause-asks g c κs within =
 
 pub invariant_of-self-clause-at : goal.invariant_of-self-clause-at
 invariant_of-self-clause-at g c =
-    let client = c.args.self.now in last_grown client.mark.log c.make_change-made.new.mark.log (stamp_of client.found) client.id client.last c.make_change-made.ensures.seen client.at
+    let client = c.args.self.now in last_grown client.mark.log c.make_change-made.new.mark.log
+    (stamp_of client.found) client.id client.last c.make_change-made.ensures.seen client.at

@@ -15,7 +15,11 @@ use Rattle.rebase.proofs.client.Client.end_applied.Goals as goal
 
 pub returns-clause-answer : goal.returns-clause-answer
 returns-clause-answer g c =
-    let means = g.M.Means.means in let old = c.args.self.now.mark in let new = c.change.new.self.mark in let t = c.args.ticket.now in let r = c.args.pull in let last = c.args.self.now.last in
+    let means = g.M.Means.means in let old = c.args.self.now.mark in let new = c.change.new.self.mark in
+    let t = c.args.ticket.now in let r = c.args.pull in let last = c.args.self.now.last in
     let clone : c.in_ok-cookie.cookie ≡ t = search rules in
-    let made = subst (λ (k : Cookie). Answers means c.args.tries old new (told is_made c.change.result) (change_asked (Pulled k r)) (λ s. asked_reply means s last (Pulled k r))) clone c.change.ensures.answer in
-    subst (λ (w : Result Ended Refusal). Answers means c.args.tries old new w (change_applied t r) (λ s. end_reply s t.text (response.Ok r))) (sym c.ended_as.ensures) (pull_told means c.args.tries old new last t r c.change.result made)
+    let made = subst (λ (k : Cookie). Answers means c.args.tries old new (told is_made c.change.result)
+    (change_asked (Pulled k r)) (λ s. asked_reply means s last (Pulled k r))) clone c.change.ensures.answer in
+    subst (λ (w : Result Ended Refusal). Answers means c.args.tries old new w (change_applied t r)
+    (λ s. end_reply s t.text (response.Ok r))) (sym c.ended_as.ensures)
+    (pull_told means c.args.tries old new last t r c.change.result made)

@@ -12,18 +12,25 @@ use Rattle.rebase.proofs.Unread.{unread}
 use Rattle.rebase.proofs.client.Client.try_end_pull.Goals as goal
 
 pub returns-in-Err-clause-answer : goal.returns-in-Err-clause-answer
-returns-in-Err-clause-answer g c = unread g.M.Means.means c.args.tries c.args.self.now.mark c.args.ticket.now.cookie c.args.body.now c.in-Err.e c.legal.ensures c.in-Err.ensures
+returns-in-Err-clause-answer g c = unread g.M.Means.means c.args.tries c.args.self.now.mark c.args.ticket.now.cookie
+    c.args.body.now c.in-Err.e c.legal.ensures c.in-Err.ensures
 
 pub returns-in-StateNotFound-clause-answer : goal.returns-in-StateNotFound-clause-answer
 returns-in-StateNotFound-clause-answer g c =
     let k = c.args.ticket.now.cookie in
     let read : answer_to c.args.body.now ≡ Ok response.StateNotFound = c.in-Ok.ensures ∙ ap Ok c.in-StateNotFound.is in
-    subst (λ (a : Result Response Refusal). Answers g.M.Means.means c.args.tries c.args.self.now.mark c.end_unknown.new.self.mark c.end_unknown.result (λ (reply : Result Ended Refusal). change_read k a reply) (λ s. a >>= end_reply s k.text))
+    subst (λ (a : Result Response Refusal). Answers g.M.Means.means c.args.tries c.args.self.now.mark
+    c.end_unknown.new.self.mark c.end_unknown.result (λ (reply : Result Ended Refusal). change_read k a reply)
+    (λ s. a >>= end_reply s k.text))
     (sym read) (c.end_unknown.ensures.answer k.text)
 
 pub returns-in-VersionNotSupported-clause-answer : goal.returns-in-VersionNotSupported-clause-answer
 returns-in-VersionNotSupported-clause-answer g c =
     let k = c.args.ticket.now.cookie in
-    let read : answer_to c.args.body.now ≡ Ok (response.VersionNotSupported c.in-VersionNotSupported.kind) = c.in-Ok.ensures ∙ ap Ok c.in-VersionNotSupported.is in
-    subst (λ (a : Result Response Refusal). Answers g.M.Means.means c.args.tries c.args.self.now.mark c.end_unsupported.new.self.mark c.end_unsupported.result (λ (reply : Result Ended Refusal). change_read k a reply) (λ s. a >>= end_reply s k.text))
+    let read : answer_to c.args.body.now ≡ Ok
+    (response.VersionNotSupported c.in-VersionNotSupported.kind) = c.in-Ok.ensures ∙ ap Ok
+    c.in-VersionNotSupported.is in
+    subst (λ (a : Result Response Refusal). Answers g.M.Means.means c.args.tries c.args.self.now.mark
+    c.end_unsupported.new.self.mark c.end_unsupported.result
+    (λ (reply : Result Ended Refusal). change_read k a reply) (λ s. a >>= end_reply s k.text))
     (sym read) (c.end_unsupported.ensures.answer k.text)

@@ -6,4 +6,5 @@ use Rattle.rebase.proofs.watching.Watch.ask.Goals as goal
 
 pub returns-then-has_read-clause-value : goal.returns-then-has_read-clause-value
 returns-then-has_read-clause-value g c =
-    let w = c.args.self.now in told_again w.last (rows_at g.M.Means.means (after (record_of c.args.at.now.log)) w.scan) (c.has_read.ensures c.if-has_read.true)
+    let w = c.args.self.now in told_again w.last (rows_at g.M.Means.means (after (record_of c.args.at.now.log)) w.scan)
+    (c.has_read.ensures c.if-has_read.true)

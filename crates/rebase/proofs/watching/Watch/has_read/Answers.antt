@@ -15,6 +15,10 @@ pub returns-in-Some : goal.returns-in-Some
 returns-in-Some g c same =
     let means = g.M.Means.means in let own = c.self.inside in let at = c.args.at.now in let told = c.in-Some.told in
     let read = subst (AreRead (drawn own.mark.log) own.scan) c.in-Some.is c.self.invariant in
-    let stamps = sym c.stamp.ensures.stamp ∙ eqb-true c.stamp.result c.stamp-in-Some.result same ∙ c.stamp-in-Some.ensures.stamp in
-    let one = read_again own.mark.log at.log (stamp_of told.root) (stamp_of c.root.result) read.0 (view_of means (after (record_of at.log))) c.begins_or_follows.ensures read.1 c.root.ensures stamps in
-    sym (ap (λ (w : Watched). w.last) c.self.view_is) ∙ ap rows_told c.in-Some.is ∙ ap Some (read.2 ∙ ap (rows_of own.scan) one) ∙ ap (λ (w : Watched). Some (rows_at means (after (record_of at.log)) w.scan)) c.self.view_is
+    let stamps = sym c.stamp.ensures.stamp ∙ eqb-true c.stamp.result c.stamp-in-Some.result same ∙
+    c.stamp-in-Some.ensures.stamp in
+    let one = read_again own.mark.log at.log (stamp_of told.root) (stamp_of c.root.result) read.0
+    (view_of means (after (record_of at.log))) c.begins_or_follows.ensures read.1 c.root.ensures stamps in
+    sym (ap (λ (w : Watched). w.last) c.self.view_is) ∙ ap rows_told c.in-Some.is ∙ ap Some
+    (read.2 ∙ ap (rows_of own.scan) one) ∙ ap
+    (λ (w : Watched). Some (rows_at means (after (record_of at.log)) w.scan)) c.self.view_is

@@ -5,5 +5,6 @@ use Rattle.rebase.proofs.watching.Watch.tell.Goals as goal
 
 pub returns-then-has_told-clause-kept : goal.returns-then-has_told-clause-kept
 returns-then-has_told-clause-kept g c =
-    let old : Watched = c.args.self.now in let last = was_told-is old.last c.args.rows (sym c.has_told.ensures ∙ c.if-has_told.true) in
+    let old : Watched = c.args.self.now in
+    let last = was_told-is old.last c.args.rows (sym c.has_told.ensures ∙ c.if-has_told.true) in
     c.keep.ensures ∙ ap (λ (l : Option Rows). record old { last = l }) (sym last)

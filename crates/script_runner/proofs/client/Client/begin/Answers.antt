@@ -9,10 +9,14 @@ use Rattle.script_runner.proofs.client.Client.begin.Goals as goal
 
 pub returns-in-Ok-Ticket-clause-told : goal.returns-in-Ok-Ticket-clause-told
 returns-in-Ok-Ticket-clause-told g c =
-    let stands = g.C.Caller.stands in let may = g.C.Caller.law.may_reply in let answer = Ok (ticket (asked c.in-Ok-Ticket.ticket)) in
+    let stands = g.C.Caller.stands in let may = g.C.Caller.law.may_reply in
+    let answer = Ok (ticket (asked c.in-Ok-Ticket.ticket)) in
     record {
       answer = answer;
-      may = subst (λ w. may (stands c.args.self.now.caller) call.BeginPull answer (stands w)) (sym c.keep.ensures.same.1)
-          (subst (λ r. may (stands c.args.self.now.caller) call.BeginPull (told reply_seen (Ok r)) (stands c.call.new.self)) c.in-Ok-Ticket.field-0-is c.in-Ok-Ticket.ensures.reply);
-      begun = subst (λ tickets. IsBegun tickets c.args.name.now answer (reply_text c.keep.result) c.keep.new.self.tickets) c.remove.ensures c.keep.ensures.told;
+      may = subst (λ w. may (stands c.args.self.now.caller) call.BeginPull answer (stands w))
+          (sym c.keep.ensures.same.1)
+          (subst (λ r. may (stands c.args.self.now.caller) call.BeginPull (told reply_seen (Ok r))
+          (stands c.call.new.self)) c.in-Ok-Ticket.field-0-is c.in-Ok-Ticket.ensures.reply);
+      begun = subst (λ tickets. IsBegun tickets c.args.name.now answer
+          (reply_text c.keep.result) c.keep.new.self.tickets) c.remove.ensures c.keep.ensures.told;
     }

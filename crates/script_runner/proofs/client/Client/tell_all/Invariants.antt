@@ -7,6 +7,7 @@ use Rattle.script_runner.proofs.client.Client.tell_all.Given as goal
 abbrev pub invariant-loop-line : goal.invariant-loop-line
 invariant-loop-line g l =
     let stands = g.C.Caller.stands in record {
-      told : AreTold g.C.Caller.law (map g.C.Caller.seen_by l.seen) (player_of stands l.fn.self) (map line_said (take l.line-index l.lines)) l.printed.items (player_of stands l.self);
+      told : AreTold g.C.Caller.law (map g.C.Caller.seen_by l.seen) (player_of stands l.fn.self)
+          (map line_said (take l.line-index l.lines)) l.printed.items (player_of stands l.self);
       group : (stands l.self.caller).mark.book ≡ (stands l.fn.self.caller).mark.book;
     }

@@ -10,6 +10,8 @@ use Rattle.script_runner.proofs.names.Names.has_among_all.Goals as goal
 pub returns : goal.returns
 unfolding is_made
 returns c =
-    let found = any_from_yields_List (λ made. (made.client == c.args.client) && same_text made.name c.args.name.now) _ _ c.any.result c.any.ensures.ran
+    let found = any_from_yields_List (λ made. (made.client == c.args.client) && same_text made.name c.args.name.now) _ _
+    c.any.result c.any.ensures.ran
     (YieldsList-from_slice c.args.self.now.all.items cc) (λ x b q k. search (rules, tests)) in
-    found ∙ sym (list_any-map (λ made. (made.0 == c.args.client) && same_text made.1 c.args.name.now) made_said c.args.self.now.all.items)
+    found ∙ sym (list_any-map (λ made. (made.0 == c.args.client) && same_text made.1 c.args.name.now) made_said
+    c.args.self.now.all.items)

@@ -10,9 +10,11 @@ use Rattle.rebase.specs.declared.calls.Reply.{Reply}
 use Rattle.script_runner.proofs.plain.Plain.make_call.Goals as goal
 
 -- the right reply, or want of memory
-read_so : (r : Result Reply Refusal) (right : Result Replied Refusal) → IfOk r (λ x. right ≡ Ok (reply_seen x)) → IfErr r (λ e. e ≡ refusal.NoMemory) → IsReplyTo (told reply_seen r) right
+read_so : (r : Result Reply Refusal) (right : Result Replied Refusal) → IfOk r (λ x. right ≡ Ok (reply_seen x))
+    → IfErr r (λ e. e ≡ refusal.NoMemory) → IsReplyTo (told reply_seen r) right
 read_so (Ok x) right ok err = ok
 read_so (Err e) right ok err = inl (ap is_want err)
 
 pub returns-in_default : goal.returns-in_default
-returns-in_default c = read_so c.query.result _ (c.query.ensures.ok (caller c.args.self.now.identity c.args.id.now c.args.last)) c.query.ensures.err
+returns-in_default c = read_so c.query.result _
+    (c.query.ensures.ok (caller c.args.self.now.identity c.args.id.now c.args.last)) c.query.ensures.err

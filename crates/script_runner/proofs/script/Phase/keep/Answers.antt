@@ -10,7 +10,9 @@ returns c =
     let line = c.args.line in
     let lines = c.in-Some.lines.now in
     let more = ap (map line_said) c.in_ok-push.ensures.items ∙ map-append line_said lines.items (line ∷ []) in
-    map_set-changed_at (λ lines. map line_said lines.items) (λ lines. lines ++ line_said line ∷ []) c.args.self.now.lines.items c.args.client lines c.push.new.self c.in-Some.ensures.value more
+    map_set-changed_at (λ lines. map line_said lines.items)
+    (λ lines. lines ++ line_said line ∷ []) c.args.self.now.lines.items c.args.client lines c.push.new.self
+    c.in-Some.ensures.value more
 
 pub returns-in_default : goal.returns-in_default
 returns-in_default c =
@@ -18,4 +20,5 @@ returns-in_default c =
     let none = λ (within : c.args.client < vec_len lines). false≢true (c.in_default.ensures.variant.1 within) in
     let past : vec_len lines ≤ c.args.client = omega (arith, none) in
     let many = length-map lines.items (λ lines. map line_said lines.items) in
-    sym (changed_at-past (λ lines. lines ++ line_said c.args.line ∷ []) (phase_said c.args.self.now) c.args.client (omega (arith, past, many, lines.ok.0)))
+    sym (changed_at-past (λ lines. lines ++ line_said c.args.line ∷ []) (phase_said c.args.self.now) c.args.client
+    (omega (arith, past, many, lines.ok.0)))

@@ -5,8 +5,12 @@ use Rattle.shared_tests.proofs.tests.heads.drafts.Goals as goal
 
 pub returns-clause-drawn : goal.returns-clause-drawn
 returns-clause-drawn c =
-    bare_drawn c.draft.result c.args.mark.now.log c.draft.new.mark.log c.args.mark.now.seat c.args.cookie.now (record { bits = 7 }) (drafted_from 2 (c.in_ok-bare_snapshot.field-0 ∷ [])) c.legal.ensures.1 refl (ap (λ n. drafted_from 2 (n ∷ [])) c.in_ok-bare_snapshot.ensures) c.draft.ensures.drawn c.draft.ensures.room
+    bare_drawn c.draft.result c.args.mark.now.log c.draft.new.mark.log c.args.mark.now.seat c.args.cookie.now
+    (record { bits = 7 }) (drafted_from 2 (c.in_ok-bare_snapshot.field-0 ∷ [])) c.legal.ensures.1 refl
+    (ap (λ n. drafted_from 2 (n ∷ [])) c.in_ok-bare_snapshot.ensures) c.draft.ensures.drawn c.draft.ensures.room
 
 pub returns-clause-content : goal.returns-clause-content
 returns-clause-content c =
-    bare_content c.draft.result c.args.mark.now.log c.draft.new.mark.log c.args.mark.now.seat c.args.cookie.now (record { bits = 7 }) (drafted_from 2 (c.in_ok-bare_snapshot.field-0 ∷ [])) (ap (λ n. drafted_from 2 (n ∷ [])) c.in_ok-bare_snapshot.ensures) c.draft.ensures.drawn
+    bare_content c.draft.result c.args.mark.now.log c.draft.new.mark.log c.args.mark.now.seat c.args.cookie.now
+    (record { bits = 7 }) (drafted_from 2 (c.in_ok-bare_snapshot.field-0 ∷ []))
+    (ap (λ n. drafted_from 2 (n ∷ [])) c.in_ok-bare_snapshot.ensures) c.draft.ensures.drawn

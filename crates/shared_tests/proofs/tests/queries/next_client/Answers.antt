@@ -4,12 +4,21 @@ use Rattle.shared_tests.proofs.tests.queries.next_client.Goals as goal
 
 pub returns-in_err-id-clause-seats : goal.returns-in_err-id-clause-seats
 returns-in_err-id-clause-seats g c =
-    (popped (λ seat. (seat.mark.book ≡ c.args.group.now.shared.head) × (g.S.Slots.home seat.slots ≡ g.S.Slots.serves c.args.group.now.shared.store)) c.args.seats.now.free.items c.take.new.self.free.items (Some c.in_ok-seat.seat) c.in_ok-seat.seat c.in_ok-seat.ensures.taken refl c.requires).0
+    (popped (λ seat. (seat.mark.book ≡ c.args.group.now.shared.head)
+    × (g.S.Slots.home seat.slots ≡ g.S.Slots.serves c.args.group.now.shared.store)) c.args.seats.now.free.items
+    c.take.new.self.free.items (Some c.in_ok-seat.seat) c.in_ok-seat.seat c.in_ok-seat.ensures.taken
+    refl c.requires).0
 
 pub returns-in-Ok-clause-seats : goal.returns-in-Ok-clause-seats
 returns-in-Ok-clause-seats g c =
-    (popped (λ seat. (seat.mark.book ≡ c.args.group.now.shared.head) × (g.S.Slots.home seat.slots ≡ g.S.Slots.serves c.args.group.now.shared.store)) c.args.seats.now.free.items c.take.new.self.free.items (Some c.in_ok-seat.seat) c.in_ok-seat.seat c.in_ok-seat.ensures.taken refl c.requires).0
+    (popped (λ seat. (seat.mark.book ≡ c.args.group.now.shared.head)
+    × (g.S.Slots.home seat.slots ≡ g.S.Slots.serves c.args.group.now.shared.store)) c.args.seats.now.free.items
+    c.take.new.self.free.items (Some c.in_ok-seat.seat) c.in_ok-seat.seat c.in_ok-seat.ensures.taken
+    refl c.requires).0
 
 pub returns-clause-seats : goal.returns-clause-seats
 returns-clause-seats g c =
-    (popped (λ seat. (seat.mark.book ≡ c.args.group.now.shared.head) × (g.S.Slots.home seat.slots ≡ g.S.Slots.serves c.args.group.now.shared.store)) c.args.seats.now.free.items c.take.new.self.free.items (Some c.in_ok-seat.seat) c.in_ok-seat.seat c.in_ok-seat.ensures.taken refl c.requires).0
+    (popped (λ seat. (seat.mark.book ≡ c.args.group.now.shared.head)
+    × (g.S.Slots.home seat.slots ≡ g.S.Slots.serves c.args.group.now.shared.store)) c.args.seats.now.free.items
+    c.take.new.self.free.items (Some c.in_ok-seat.seat) c.in_ok-seat.seat c.in_ok-seat.ensures.taken
+    refl c.requires).0

@@ -9,5 +9,6 @@ use Rattle.shared_tests.proofs.tests.slots.draws.Goals as goal
 pub returns-in-Ok-clause-drawn : goal.returns-in-Ok-clause-drawn
 returns-in-Ok-clause-drawn c =
     let drew = c.in-Ok.ensures.drawn in
-    leaf_drawn drew.0 c.draft.new.mark.log c.args.mark.now.seat c.in-Ok.first (drafted_from 2 (node.Chunk (Leaf c.in_ok-empty.field-0) ∷ []))
+    leaf_drawn drew.0 c.draft.new.mark.log c.args.mark.now.seat c.in-Ok.first
+    (drafted_from 2 (node.Chunk (Leaf c.in_ok-empty.field-0) ∷ []))
     (ap (λ (rows : Rows). drafted_from 2 (node.Chunk (Leaf rows) ∷ [])) c.in_ok-empty.ensures) drew.2 drew.3

@@ -4,8 +4,14 @@ use Rattle.storm_tests.proofs.tests.opening.next_player.Goals as goal
 
 pub returns-in-Ok : goal.returns-in-Ok
 returns-in-Ok g c =
-    (popped (λ seat. (seat.mark.book ≡ c.args.group.now.shared.head) × (g.S.Slots.home seat.slots ≡ g.S.Slots.serves c.args.group.now.shared.store)) c.args.seats.now.free.items c.take.new.self.free.items (Some c.in_ok-seat.seat) c.in_ok-seat.seat c.in_ok-seat.ensures.taken refl c.requires).0
+    (popped (λ seat. (seat.mark.book ≡ c.args.group.now.shared.head)
+    × (g.S.Slots.home seat.slots ≡ g.S.Slots.serves c.args.group.now.shared.store)) c.args.seats.now.free.items
+    c.take.new.self.free.items (Some c.in_ok-seat.seat) c.in_ok-seat.seat c.in_ok-seat.ensures.taken
+    refl c.requires).0
 
 pub returns : goal.returns
 returns g c =
-    (popped (λ seat. (seat.mark.book ≡ c.args.group.now.shared.head) × (g.S.Slots.home seat.slots ≡ g.S.Slots.serves c.args.group.now.shared.store)) c.args.seats.now.free.items c.take.new.self.free.items (Some c.in_ok-seat.seat) c.in_ok-seat.seat c.in_ok-seat.ensures.taken refl c.requires).0
+    (popped (λ seat. (seat.mark.book ≡ c.args.group.now.shared.head)
+    × (g.S.Slots.home seat.slots ≡ g.S.Slots.serves c.args.group.now.shared.store)) c.args.seats.now.free.items
+    c.take.new.self.free.items (Some c.in_ok-seat.seat) c.in_ok-seat.seat c.in_ok-seat.ensures.taken
+    refl c.requires).0

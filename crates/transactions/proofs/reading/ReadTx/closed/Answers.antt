@@ -7,10 +7,15 @@ use Rattle.transactions.proofs.reading.ReadTx.closed.Goals as goal
 pub invariant_of-self : goal.invariant_of-self
 invariant_of-self g c =
     let m = g.N.Chunks.contents in let t = c.self.inside in
-    let on = c.closed_of.ensures.grown.1 in
-    (read-kept (m t.nodes) (m c.closed_of.new.nodes) (stamp_of t.head) (stamp_of t.root) c.closed_of.ensures.grown.0 c.self.invariant.0, on t.head c.self.invariant.1, on t.root c.self.invariant.2)
+    let on = c.closed_of.ensures.grown.1 in (
+      read-kept (m t.nodes) (m c.closed_of.new.nodes) (stamp_of t.head)
+          (stamp_of t.root) c.closed_of.ensures.grown.0 c.self.invariant.0,
+      on t.head c.self.invariant.1,
+      on t.root c.self.invariant.2,
+    )
 
 pub returns-clause-same : goal.returns-clause-same
 returns-clause-same g c =
     let m = g.N.Chunks.contents in let t = c.self.inside in
-    version-same (m t.nodes) (m c.closed_of.new.nodes) (stamp_of t.head) (stamp_of t.root) c.closed_of.ensures.grown.0 c.self.invariant.0 ∙ ap (λ (r : Read). r.version) c.self.view_is
+    version-same (m t.nodes) (m c.closed_of.new.nodes) (stamp_of t.head)
+    (stamp_of t.root) c.closed_of.ensures.grown.0 c.self.invariant.0 ∙ ap (λ (r : Read). r.version) c.self.view_is

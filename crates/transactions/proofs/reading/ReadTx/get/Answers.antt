@@ -9,13 +9,19 @@ use Rattle.transactions.proofs.reading.ReadTx.get.Goals as goal
 pub invariant_of-self : goal.invariant_of-self
 invariant_of-self g c =
     let m = g.N.Chunks.contents in let t = c.self.inside in
-    let on = c.get.ensures.grown.1 in
-    (read-kept (m t.nodes) (m c.get.new.chunks) (stamp_of t.head) (stamp_of t.root) c.get.ensures.grown.0 c.self.invariant.0, on t.head c.self.invariant.1, on t.root c.self.invariant.2)
+    let on = c.get.ensures.grown.1 in (
+      read-kept (m t.nodes) (m c.get.new.chunks) (stamp_of t.head)
+          (stamp_of t.root) c.get.ensures.grown.0 c.self.invariant.0,
+      on t.head c.self.invariant.1,
+      on t.root c.self.invariant.2,
+    )
 
 pub returns-clause-same : goal.returns-clause-same
 returns-clause-same g c =
     let m = g.N.Chunks.contents in let t = c.self.inside in
-    version-same (m t.nodes) (m c.get.new.chunks) (stamp_of t.head) (stamp_of t.root) c.get.ensures.grown.0 c.self.invariant.0 ∙ ap (λ (r : Read). r.version) c.self.view_is
+    version-same (m t.nodes) (m c.get.new.chunks) (stamp_of t.head)
+    (stamp_of t.root) c.get.ensures.grown.0 c.self.invariant.0 ∙ ap (λ (r : Read). r.version) c.self.view_is
 
 pub get-requires-clause-places : goal.get-requires-clause-places
-get-requires-clause-places g c = let may = g.N.Chunks.places c.self.inside.nodes in subst (AreAll may) (sym c.at.ensures.places) (one_may may c.self.inside.root c.self.invariant.2)
+get-requires-clause-places g c = let may = g.N.Chunks.places c.self.inside.nodes in
+    subst (AreAll may) (sym c.at.ensures.places) (one_may may c.self.inside.root c.self.invariant.2)

@@ -9,17 +9,27 @@ use Rattle.transactions.proofs.writing.WriteTxWriteView.put.Goals as goal
 pub invariant_of-self : goal.invariant_of-self
 invariant_of-self g c =
     let p = g.C.Chunks.contents in let t = c.args.self.now in
-    record { spells = shown-there c.put.result (p t.chunks) (p c.put.new.chunks) t.tree c.put.new.self (λ (m : Entries). finite.insert m c.args.key.now c.args.value.now) c.put.ensures.grown.0 t.spells c.put.ensures.ok c.put.ensures.err; placed = places-there c.put.result (g.C.Chunks.places c.put.new.chunks) t.tree c.put.new.self (all_on (g.C.Chunks.places t.chunks) (g.C.Chunks.places c.put.new.chunks) _ c.put.ensures.grown.1 t.placed) c.put.ensures.places c.put.ensures.err }
+    record {
+      spells = shown-there c.put.result (p t.chunks) (p c.put.new.chunks) t.tree c.put.new.self
+          (λ (m : Entries). finite.insert m c.args.key.now c.args.value.now) c.put.ensures.grown.0 t.spells
+          c.put.ensures.ok c.put.ensures.err;
+      placed = places-there c.put.result
+          (g.C.Chunks.places c.put.new.chunks) t.tree c.put.new.self
+          (all_on (g.C.Chunks.places t.chunks) (g.C.Chunks.places c.put.new.chunks) _ c.put.ensures.grown.1 t.placed)
+          c.put.ensures.places c.put.ensures.err;
+    }
 
 pub returns-clause-ok : goal.returns-clause-ok
 returns-clause-ok g c =
     let p = g.C.Chunks.contents in let t = c.args.self.now in
-    shown-changed c.put.result (p t.chunks) (p c.put.new.chunks) t.tree c.put.new.self (λ (m : Entries). finite.insert m c.args.key.now c.args.value.now) t.spells c.put.ensures.ok
+    shown-changed c.put.result (p t.chunks) (p c.put.new.chunks) t.tree c.put.new.self
+    (λ (m : Entries). finite.insert m c.args.key.now c.args.value.now) t.spells c.put.ensures.ok
 
 pub returns-clause-err : goal.returns-clause-err
 returns-clause-err g c =
     let p = g.C.Chunks.contents in let t = c.args.self.now in
-    shown-stopped c.put.result (p t.chunks) (p c.put.new.chunks) t.tree c.put.new.self c.put.ensures.grown.0 t.spells c.put.ensures.err
+    shown-stopped c.put.result (p t.chunks)
+    (p c.put.new.chunks) t.tree c.put.new.self c.put.ensures.grown.0 t.spells c.put.ensures.err
 
 pub returns-clause-same : goal.returns-clause-same
 returns-clause-same g c h =

@@ -5,8 +5,14 @@ use Rattle.transactions.proofs.writing.WriteTxWriteView.scan.Goals as goal
 
 pub invariant_of-self : goal.invariant_of-self
 invariant_of-self g c =
-    let m = g.C.Chunks.contents in let t = c.args.self.now in record { spells = kept_there (m t.chunks) (m c.scan.new.chunks) t.tree.root c.scan.ensures.grown.0 t.spells; placed = all_on (g.C.Chunks.places t.chunks) (g.C.Chunks.places c.scan.new.chunks) _ c.scan.ensures.grown.1 t.placed }
+    let m = g.C.Chunks.contents in let t = c.args.self.now in
+    record {
+      spells = kept_there (m t.chunks) (m c.scan.new.chunks) t.tree.root c.scan.ensures.grown.0 t.spells;
+      placed = all_on (g.C.Chunks.places t.chunks)
+          (g.C.Chunks.places c.scan.new.chunks) _ c.scan.ensures.grown.1 t.placed;
+    }
 
 pub returns-clause-kept : goal.returns-clause-kept
 returns-clause-kept g c =
-    let m = g.C.Chunks.contents in let t = c.args.self.now in shown-kept (m t.chunks) (m c.scan.new.chunks) t.tree c.scan.ensures.grown.0 t.spells
+    let m = g.C.Chunks.contents in let t = c.args.self.now in
+    shown-kept (m t.chunks) (m c.scan.new.chunks) t.tree c.scan.ensures.grown.0 t.spells

@@ -12,29 +12,39 @@ pub settle_row-requires-clause-keys : goal.settle_row-requires-clause-keys
 settle_row-requires-clause-keys c = subst AreKeys (sym c.make_room.ensures.keys) c.requires.keys
 
 pub settle_row-requires-clause-pairs : goal.settle_row-requires-clause-pairs
-settle_row-requires-clause-pairs c = ap length c.make_room.ensures.entries ∙ c.requires.pairs ∙ sym (ap length c.make_room.ensures.keys)
+settle_row-requires-clause-pairs c = ap length c.make_room.ensures.entries ∙ c.requires.pairs ∙ sym
+    (ap length c.make_room.ensures.keys)
 
 pub settle_row-requires-clause-absent : goal.settle_row-requires-clause-absent
 settle_row-requires-clause-absent c =
-    subst (λ ks. IsAbsent c.in_ok-text.text ks c.args.place) (sym c.make_room.ensures.keys) (subst (λ k. IsAbsent k c.args.keys.now.texts c.args.place) (sym c.in_ok-text.ensures.cases) c.requires.absent)
+    subst (λ ks. IsAbsent c.in_ok-text.text ks c.args.place) (sym c.make_room.ensures.keys)
+    (subst (λ k. IsAbsent k c.args.keys.now.texts c.args.place) (sym c.in_ok-text.ensures.cases) c.requires.absent)
 
 pub settle_row-requires-clause-firsts : goal.settle_row-requires-clause-firsts
 settle_row-requires-clause-firsts c =
-    subst (λ ks. AreNinth c.args.copies ks c.args.place c.in_ok-text.text c.in_ok-room.room.firsts.items) (c.as_slice.ensures ∙ sym c.make_room.ensures.keys)
-    (subst (λ k. AreNinth c.args.copies c.as_slice.result.now c.args.place k c.in_ok-room.room.firsts.items) (sym c.in_ok-text.ensures.cases) c.in_ok-room.ensures.firsts)
+    subst (λ ks. AreNinth c.args.copies ks c.args.place c.in_ok-text.text c.in_ok-room.room.firsts.items)
+    (c.as_slice.ensures ∙ sym c.make_room.ensures.keys)
+    (subst (λ k. AreNinth c.args.copies c.as_slice.result.now c.args.place k c.in_ok-room.room.firsts.items)
+    (sym c.in_ok-text.ensures.cases) c.in_ok-room.ensures.firsts)
 
 pub settle_row-requires-clause-spare : goal.settle_row-requires-clause-spare
-settle_row-requires-clause-spare c full = c.in_ok-room.ensures.spare (subst (λ ks. 16 ≤ length ks) (c.make_room.ensures.keys ∙ sym c.as_slice.ensures) full)
+settle_row-requires-clause-spare c full = c.in_ok-room.ensures.spare
+    (subst (λ ks. 16 ≤ length ks) (c.make_room.ensures.keys ∙ sym c.as_slice.ensures) full)
 
 pub settle_row-requires-clause-home : goal.settle_row-requires-clause-home
-settle_row-requires-clause-home c full = c.in_ok-room.ensures.home (subst (λ ks. 16 ≤ length ks) (c.make_room.ensures.keys ∙ sym c.as_slice.ensures) full)
+settle_row-requires-clause-home c full = c.in_ok-room.ensures.home
+    (subst (λ ks. 16 ≤ length ks) (c.make_room.ensures.keys ∙ sym c.as_slice.ensures) full)
 
 pub returns-clause-rows : goal.returns-clause-rows
 returns-clause-rows c =
     c.settle_row.ensures.rows
-    ∙ ap (λ k. row_pieces (put (slice_cmp nat_cmp) k c.args.value (paired c.make_room.new.keys.texts c.make_room.new.entries.items))) c.in_ok-text.ensures.cases
-    ∙ ap (λ ks. row_pieces (put (slice_cmp nat_cmp) c.args.key.now c.args.value (paired ks c.make_room.new.entries.items))) c.make_room.ensures.keys
-    ∙ ap (λ vs. row_pieces (put (slice_cmp nat_cmp) c.args.key.now c.args.value (paired c.args.keys.now.texts vs))) c.make_room.ensures.entries
+    ∙ ap (λ k. row_pieces (put (slice_cmp nat_cmp) k c.args.value
+    (paired c.make_room.new.keys.texts c.make_room.new.entries.items))) c.in_ok-text.ensures.cases
+    ∙ ap (λ ks. row_pieces (put (slice_cmp nat_cmp) c.args.key.now c.args.value
+    (paired ks c.make_room.new.entries.items))) c.make_room.ensures.keys
+    ∙ ap (λ vs. row_pieces (put (slice_cmp nat_cmp) c.args.key.now c.args.value (paired c.args.keys.now.texts vs)))
+    c.make_room.ensures.entries
 
 pub returns-clause-entries : goal.returns-clause-entries
-returns-clause-entries c = subst (λ n. HasKept n (length c.settle_row.new.keys.texts) c.settle_row.result) (ap length c.make_room.ensures.keys) c.settle_row.ensures.entries
+returns-clause-entries c = subst (λ n. HasKept n (length c.settle_row.new.keys.texts) c.settle_row.result)
+    (ap length c.make_room.ensures.keys) c.settle_row.ensures.entries

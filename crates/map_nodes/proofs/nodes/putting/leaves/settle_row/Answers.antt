@@ -1,4 +1,5 @@
-use Rattle.std.proofs.Common.{◌∙◌, ◌++◌, arith, [], ap, sym, subst, length, insert, Some, None, append-nil, get_or, refl, nat_cmp}
+use Rattle.std.proofs.Common.{◌∙◌, ◌++◌, arith, [], ap, sym, subst, length, insert, Some, None, append-nil, get_or}
+use Rattle.std.proofs.Common.{refl, nat_cmp}
 use Rattle.std.specs.Cmp.Lexicographic.{slice_cmp}
 use Rattle.std.specs.FinMap.{put}
 use Rattle.group_history.specs.Rows.{paired}
@@ -12,78 +13,116 @@ pub returns-in_default-clause-rows : goal.returns-in_default-clause-rows
 returns-in_default-clause-rows c =
     let keys = c.args.keys.now.texts in
     let values = c.args.values.now.items in
-    let h = parted_put keys values c.args.place c.args.key c.args.value c.insert_entry.new.keys.texts c.insert_entry.new.entries.items None c.requires.keys.1 c.requires.pairs c.requires.absent c.in_default.ensures in
-    append-nil (row_pieces (paired c.insert_entry.new.keys.texts c.insert_entry.new.entries.items)) ∙ ap row_pieces h.0.0
+    let h = parted_put keys values c.args.place c.args.key c.args.value c.insert_entry.new.keys.texts
+    c.insert_entry.new.entries.items None c.requires.keys.1 c.requires.pairs c.requires.absent
+    c.in_default.ensures in
+    append-nil (row_pieces (paired c.insert_entry.new.keys.texts c.insert_entry.new.entries.items)) ∙ ap
+    row_pieces h.0.0
 
 pub returns-in_default-clause-leaf : goal.returns-in_default-clause-leaf
 returns-in_default-clause-leaf c =
     let keys = c.args.keys.now.texts in
     let values = c.args.values.now.items in
-    let h = parted_put keys values c.args.place c.args.key c.args.value c.insert_entry.new.keys.texts c.insert_entry.new.entries.items None c.requires.keys.1 c.requires.pairs c.requires.absent c.in_default.ensures in
-    leaf_whole keys values c.insert_entry.new.keys.texts c.insert_entry.new.entries.items c.args.place c.args.key c.args.value c.requires.keys.1 c.requires.pairs c.requires.absent h
+    let h = parted_put keys values c.args.place c.args.key c.args.value c.insert_entry.new.keys.texts
+    c.insert_entry.new.entries.items None c.requires.keys.1 c.requires.pairs c.requires.absent
+    c.in_default.ensures in
+    leaf_whole keys values c.insert_entry.new.keys.texts c.insert_entry.new.entries.items c.args.place c.args.key
+    c.args.value c.requires.keys.1 c.requires.pairs c.requires.absent h
 
 pub returns-in_default-clause-entries : goal.returns-in_default-clause-entries
 returns-in_default-clause-entries c =
     let keys = c.args.keys.now.texts in
     let values = c.args.values.now.items in
-    let h = parted_put keys values c.args.place c.args.key c.args.value c.insert_entry.new.keys.texts c.insert_entry.new.entries.items None c.requires.keys.1 c.requires.pairs c.requires.absent c.in_default.ensures in
-    kept_alone (put (slice_cmp nat_cmp) c.args.key c.args.value (paired keys values)) c.insert_entry.new.keys.texts c.insert_entry.new.entries.items (length keys) h
+    let h = parted_put keys values c.args.place c.args.key c.args.value c.insert_entry.new.keys.texts
+    c.insert_entry.new.entries.items None c.requires.keys.1 c.requires.pairs c.requires.absent
+    c.in_default.ensures in
+    kept_alone (put (slice_cmp nat_cmp) c.args.key c.args.value (paired keys values)) c.insert_entry.new.keys.texts
+    c.insert_entry.new.entries.items (length keys) h
     (rows_put keys values c.args.place c.args.key c.args.value c.requires.keys.1 c.requires.pairs c.requires.absent)
 
 pub invariant_of-upper : goal.invariant_of-upper
 invariant_of-upper c =
     let keys = c.args.keys.now.texts in
     let values = c.args.values.now.items in
-    let h = parted_put keys values c.args.place c.args.key c.args.value c.insert_entry.new.keys.texts c.insert_entry.new.entries.items
-    (Some (c.in-Some.upper_keys.texts, c.in-Some.upper.items)) c.requires.keys.1 c.requires.pairs c.requires.absent c.in-Some.ensures in
-    let b = leaf_halves keys values c.insert_entry.new.keys.texts c.insert_entry.new.entries.items c.in-Some.upper_keys.texts c.in-Some.upper.items c.args.place c.args.key c.args.value c.requires.keys.1 c.requires.pairs c.requires.absent h in
+    let h = parted_put keys values c.args.place c.args.key c.args.value c.insert_entry.new.keys.texts
+    c.insert_entry.new.entries.items
+    (Some (c.in-Some.upper_keys.texts, c.in-Some.upper.items)) c.requires.keys.1 c.requires.pairs c.requires.absent
+    c.in-Some.ensures in
+    let b = leaf_halves keys values c.insert_entry.new.keys.texts c.insert_entry.new.entries.items
+    c.in-Some.upper_keys.texts c.in-Some.upper.items c.args.place c.args.key c.args.value c.requires.keys.1
+    c.requires.pairs c.requires.absent h in
     (b.right.0, (refl, b.right.1))
 
 pub housed-requires : goal.housed-requires
 housed-requires c =
     let keys = c.args.keys.now.texts in
     let values = c.args.values.now.items in
-    let h = parted_put keys values c.args.place c.args.key c.args.value c.insert_entry.new.keys.texts c.insert_entry.new.entries.items
-    (Some (c.in-Some.upper_keys.texts, c.in-Some.upper.items)) c.requires.keys.1 c.requires.pairs c.requires.absent c.in-Some.ensures in
-    let b = leaf_halves keys values c.insert_entry.new.keys.texts c.insert_entry.new.entries.items c.in-Some.upper_keys.texts c.in-Some.upper.items c.args.place c.args.key c.args.value c.requires.keys.1 c.requires.pairs c.requires.absent h in
+    let h = parted_put keys values c.args.place c.args.key c.args.value c.insert_entry.new.keys.texts
+    c.insert_entry.new.entries.items
+    (Some (c.in-Some.upper_keys.texts, c.in-Some.upper.items)) c.requires.keys.1 c.requires.pairs c.requires.absent
+    c.in-Some.ensures in
+    let b = leaf_halves keys values c.insert_entry.new.keys.texts c.insert_entry.new.entries.items
+    c.in-Some.upper_keys.texts c.in-Some.upper.items c.args.place c.args.key c.args.value c.requires.keys.1
+    c.requires.pairs c.requires.absent h in
     c.requires.home (omega (arith, b.full))
 
 pub returns-clause-rows : goal.returns-clause-rows
 returns-clause-rows c =
     let keys = c.args.keys.now.texts in
     let values = c.args.values.now.items in
-    let h = parted_put keys values c.args.place c.args.key c.args.value c.insert_entry.new.keys.texts c.insert_entry.new.entries.items
-    (Some (c.in-Some.upper_keys.texts, c.in-Some.upper.items)) c.requires.keys.1 c.requires.pairs c.requires.absent c.in-Some.ensures in
-    let b = leaf_halves keys values c.insert_entry.new.keys.texts c.insert_entry.new.entries.items c.in-Some.upper_keys.texts c.in-Some.upper.items c.args.place c.args.key c.args.value c.requires.keys.1 c.requires.pairs c.requires.absent h in
-    ap (λ (s : Seen). row_pieces (paired c.insert_entry.new.keys.texts c.insert_entry.new.entries.items) ++ s.pieces) c.housed.ensures ∙ b.pieces
+    let h = parted_put keys values c.args.place c.args.key c.args.value c.insert_entry.new.keys.texts
+    c.insert_entry.new.entries.items
+    (Some (c.in-Some.upper_keys.texts, c.in-Some.upper.items)) c.requires.keys.1 c.requires.pairs c.requires.absent
+    c.in-Some.ensures in
+    let b = leaf_halves keys values c.insert_entry.new.keys.texts c.insert_entry.new.entries.items
+    c.in-Some.upper_keys.texts c.in-Some.upper.items c.args.place c.args.key c.args.value c.requires.keys.1
+    c.requires.pairs c.requires.absent h in
+    ap (λ (s : Seen). row_pieces (paired c.insert_entry.new.keys.texts c.insert_entry.new.entries.items) ++ s.pieces)
+    c.housed.ensures ∙ b.pieces
 
 pub returns-clause-half : goal.returns-clause-half
 returns-clause-half c =
     let keys = c.args.keys.now.texts in
     let values = c.args.values.now.items in
-    let h = parted_put keys values c.args.place c.args.key c.args.value c.insert_entry.new.keys.texts c.insert_entry.new.entries.items
-    (Some (c.in-Some.upper_keys.texts, c.in-Some.upper.items)) c.requires.keys.1 c.requires.pairs c.requires.absent c.in-Some.ensures in
-    let b = leaf_halves keys values c.insert_entry.new.keys.texts c.insert_entry.new.entries.items c.in-Some.upper_keys.texts c.in-Some.upper.items c.args.place c.args.key c.args.value c.requires.keys.1 c.requires.pairs c.requires.absent h in
+    let h = parted_put keys values c.args.place c.args.key c.args.value c.insert_entry.new.keys.texts
+    c.insert_entry.new.entries.items
+    (Some (c.in-Some.upper_keys.texts, c.in-Some.upper.items)) c.requires.keys.1 c.requires.pairs c.requires.absent
+    c.in-Some.ensures in
+    let b = leaf_halves keys values c.insert_entry.new.keys.texts c.insert_entry.new.entries.items
+    c.in-Some.upper_keys.texts c.in-Some.upper.items c.args.place c.args.key c.args.value c.requires.keys.1
+    c.requires.pairs c.requires.absent h in
     let ninth = get_or (insert keys c.args.place c.args.key) 8 [] in (
       ap (λ (s : Seen). s.depth) c.housed.ensures,
-      (ninth, subst (λ (s : Seen). HeadIs ninth s.pieces) (sym c.housed.ensures) b.first, c.requires.firsts b.full c.args.key (λ e. refl)),
+      (
+        ninth,
+        subst (λ (s : Seen). HeadIs ninth s.pieces) (sym c.housed.ensures) b.first,
+        c.requires.firsts b.full c.args.key (λ e. refl),
+      ),
     )
 
 pub returns-clause-leaf : goal.returns-clause-leaf
 returns-clause-leaf c =
     let keys = c.args.keys.now.texts in
     let values = c.args.values.now.items in
-    let h = parted_put keys values c.args.place c.args.key c.args.value c.insert_entry.new.keys.texts c.insert_entry.new.entries.items
-    (Some (c.in-Some.upper_keys.texts, c.in-Some.upper.items)) c.requires.keys.1 c.requires.pairs c.requires.absent c.in-Some.ensures in
-    let b = leaf_halves keys values c.insert_entry.new.keys.texts c.insert_entry.new.entries.items c.in-Some.upper_keys.texts c.in-Some.upper.items c.args.place c.args.key c.args.value c.requires.keys.1 c.requires.pairs c.requires.absent h in
+    let h = parted_put keys values c.args.place c.args.key c.args.value c.insert_entry.new.keys.texts
+    c.insert_entry.new.entries.items
+    (Some (c.in-Some.upper_keys.texts, c.in-Some.upper.items)) c.requires.keys.1 c.requires.pairs c.requires.absent
+    c.in-Some.ensures in
+    let b = leaf_halves keys values c.insert_entry.new.keys.texts c.insert_entry.new.entries.items
+    c.in-Some.upper_keys.texts c.in-Some.upper.items c.args.place c.args.key c.args.value c.requires.keys.1
+    c.requires.pairs c.requires.absent h in
     b.left
 
 pub returns-clause-entries : goal.returns-clause-entries
 returns-clause-entries c =
     let keys = c.args.keys.now.texts in
     let values = c.args.values.now.items in
-    let h = parted_put keys values c.args.place c.args.key c.args.value c.insert_entry.new.keys.texts c.insert_entry.new.entries.items
-    (Some (c.in-Some.upper_keys.texts, c.in-Some.upper.items)) c.requires.keys.1 c.requires.pairs c.requires.absent c.in-Some.ensures in
-    let k = kept_halves (put (slice_cmp nat_cmp) c.args.key c.args.value (paired keys values)) c.insert_entry.new.keys.texts c.insert_entry.new.entries.items c.in-Some.upper_keys.texts c.in-Some.upper.items (length keys) h
+    let h = parted_put keys values c.args.place c.args.key c.args.value c.insert_entry.new.keys.texts
+    c.insert_entry.new.entries.items
+    (Some (c.in-Some.upper_keys.texts, c.in-Some.upper.items)) c.requires.keys.1 c.requires.pairs c.requires.absent
+    c.in-Some.ensures in
+    let k = kept_halves (put (slice_cmp nat_cmp) c.args.key c.args.value (paired keys values))
+    c.insert_entry.new.keys.texts c.insert_entry.new.entries.items c.in-Some.upper_keys.texts
+    c.in-Some.upper.items (length keys) h
     (rows_put keys values c.args.place c.args.key c.args.value c.requires.keys.1 c.requires.pairs c.requires.absent) in
     (k.0, k.1, ap (λ (s : Seen). s.entries) c.housed.ensures ∙ k.2)

@@ -1,4 +1,5 @@
-use Rattle.std.proofs.Common.{◌≡◌, ◌∙◌, ◌++◌, ◌<◌, ◌+◌, ◌-◌, [], ap, sym, subst, arith, length, insert, Some, None, get_or, refl}
+use Rattle.std.proofs.Common.{◌≡◌, ◌∙◌, ◌++◌, ◌<◌, ◌+◌, ◌-◌, [], ap, sym, subst, arith, length, insert, Some, None}
+use Rattle.std.proofs.Common.{get_or, refl}
 use Rattle.std.specs.Prelude.{IsSome}
 use Rattle.group_history.specs.Rows.{paired, keys_of}
 use Rattle.map_nodes.specs.Inside.Halves.{with_half, IsHalf}
@@ -7,7 +8,8 @@ use Rattle.map_nodes.specs.Nodes.{Kids, HeadIs, kids_pieces}
 use Rattle.map_chunks.specs.Shown.{Seen}
 use Rattle.map_nodes.specs.declared.nodes.Child.TheVariants.{Own}
 use Rattle.map_nodes.specs.Inside.Counts.{half_fresh}
-use Rattle.map_nodes.proofs.CountLemmas.{entries_fresh, fresh-alone, fresh-halves, fresh-with_half, kept_alone, kept_halves}
+use Rattle.map_nodes.proofs.CountLemmas.{entries_fresh, fresh-alone, fresh-halves, fresh-with_half, kept_alone}
+use Rattle.map_nodes.proofs.CountLemmas.{kept_halves}
 use Rattle.map_nodes.proofs.KidLemmas.{finished_alone, kid_halves, putting, chosen_are}
 use Rattle.map_chunks.proofs.ListLemmas.{length-paired}
 use Rattle.map_nodes.proofs.nodes.putting.middles.finish.Goals as goal
@@ -19,31 +21,47 @@ returns-in_default-clause-shape c =
     let es : Kids = with_half c.args.place c.args.half (paired keys kids) in
     let e : es ≡ paired keys kids = ap (λ h. with_half c.args.place h (paired keys kids)) c.in_default.is in
     let n = ap length e ∙ length-paired keys kids c.requires.pairs in
-    finished_alone c.args.depth c.args.copies es keys kids (sym e, c.requires.pairs) c.requires.kids c.requires.order (omega (arith, n, c.requires.few)) (omega (arith, n, c.requires.within))
+    finished_alone c.args.depth c.args.copies es keys kids (sym e, c.requires.pairs) c.requires.kids c.requires.order
+    (omega (arith, n, c.requires.few)) (omega (arith, n, c.requires.within))
 
 pub returns-in_default-insert_entry-clause-shape : goal.returns-in_default-insert_entry-clause-shape
 returns-in_default-insert_entry-clause-shape c =
     let keys = c.args.keys.now.texts in
     let kids = c.args.kids.now.items in
     let es : Kids = with_half c.args.place c.args.half (paired keys kids) in
-    let hf : IsHalf (c.args.copies + 1) (c.args.depth - 1) (Some c.in-Some.half) = subst (IsHalf (c.args.copies + 1) (c.args.depth - 1)) c.in-Some.is c.requires.half in
-    let p = putting keys kids c.args.place c.args.copies (c.args.depth - 1) c.in-Some.half c.in-Some-pop.first c.pop.new.self.items c.requires.pairs c.requires.within hf c.in-Some-pop.ensures.items in
-    let back : with_half c.args.place (Some c.in-Some.half) (paired keys kids) ≡ es = ap (λ h. with_half c.args.place h (paired keys kids)) (sym c.in-Some.is) in
-    let q : insert (paired keys kids) (c.args.place + 1) (c.in-Some-pop.first, Own c.in-Some.half.node) ≡ es = p.es_is ∙ back in
-    let h = subst (λ (w : Kids). Parted w c.insert_entry.new.keys.texts c.insert_entry.new.entries.items None) q c.in_default-insert_entry.ensures in
-    finished_alone c.args.depth c.args.copies es c.insert_entry.new.keys.texts c.insert_entry.new.entries.items h.0 c.requires.kids c.requires.order h.1 (subst (λ w. 0 < length w) back p.filled)
+    let hf : IsHalf (c.args.copies + 1) (c.args.depth - 1) (Some c.in-Some.half) = subst
+    (IsHalf (c.args.copies + 1) (c.args.depth - 1)) c.in-Some.is c.requires.half in
+    let p = putting keys kids c.args.place c.args.copies
+    (c.args.depth - 1) c.in-Some.half c.in-Some-pop.first c.pop.new.self.items c.requires.pairs c.requires.within hf
+    c.in-Some-pop.ensures.items in
+    let back : with_half c.args.place (Some c.in-Some.half) (paired keys kids)
+    ≡ es = ap (λ h. with_half c.args.place h (paired keys kids)) (sym c.in-Some.is) in
+    let q : insert (paired keys kids) (c.args.place + 1) (c.in-Some-pop.first, Own c.in-Some.half.node)
+    ≡ es = p.es_is ∙ back in
+    let h = subst (λ (w : Kids). Parted w c.insert_entry.new.keys.texts c.insert_entry.new.entries.items None) q
+    c.in_default-insert_entry.ensures in
+    finished_alone c.args.depth c.args.copies es c.insert_entry.new.keys.texts c.insert_entry.new.entries.items h.0
+    c.requires.kids c.requires.order h.1 (subst (λ w. 0 < length w) back p.filled)
 
 pub invariant_of-upper : goal.invariant_of-upper
 invariant_of-upper c =
     let keys = c.args.keys.now.texts in
     let kids = c.args.kids.now.items in
     let es : Kids = with_half c.args.place c.args.half (paired keys kids) in
-    let hf : IsHalf (c.args.copies + 1) (c.args.depth - 1) (Some c.in-Some.half) = subst (IsHalf (c.args.copies + 1) (c.args.depth - 1)) c.in-Some.is c.requires.half in
-    let p = putting keys kids c.args.place c.args.copies (c.args.depth - 1) c.in-Some.half c.in-Some-pop.first c.pop.new.self.items c.requires.pairs c.requires.within hf c.in-Some-pop.ensures.items in
-    let back : with_half c.args.place (Some c.in-Some.half) (paired keys kids) ≡ es = ap (λ h. with_half c.args.place h (paired keys kids)) (sym c.in-Some.is) in
-    let q : insert (paired keys kids) (c.args.place + 1) (c.in-Some-pop.first, Own c.in-Some.half.node) ≡ es = p.es_is ∙ back in
-    let h = subst (λ (w : Kids). Parted w c.insert_entry.new.keys.texts c.insert_entry.new.entries.items (Some (c.in-Some-insert_entry.upper_keys.texts, c.in-Some-insert_entry.upper.items))) q c.in-Some-insert_entry.ensures in
-    let b = kid_halves (c.args.depth - 1) es c.insert_entry.new.keys.texts c.insert_entry.new.entries.items c.in-Some-insert_entry.upper_keys.texts c.in-Some-insert_entry.upper.items h c.requires.kids c.requires.order in
+    let hf : IsHalf (c.args.copies + 1) (c.args.depth - 1) (Some c.in-Some.half) = subst
+    (IsHalf (c.args.copies + 1) (c.args.depth - 1)) c.in-Some.is c.requires.half in
+    let p = putting keys kids c.args.place c.args.copies
+    (c.args.depth - 1) c.in-Some.half c.in-Some-pop.first c.pop.new.self.items c.requires.pairs c.requires.within hf
+    c.in-Some-pop.ensures.items in
+    let back : with_half c.args.place (Some c.in-Some.half) (paired keys kids)
+    ≡ es = ap (λ h. with_half c.args.place h (paired keys kids)) (sym c.in-Some.is) in
+    let q : insert (paired keys kids) (c.args.place + 1) (c.in-Some-pop.first, Own c.in-Some.half.node)
+    ≡ es = p.es_is ∙ back in
+    let h = subst (λ (w : Kids). Parted w c.insert_entry.new.keys.texts c.insert_entry.new.entries.items
+    (Some (c.in-Some-insert_entry.upper_keys.texts, c.in-Some-insert_entry.upper.items))) q
+    c.in-Some-insert_entry.ensures in
+    let b = kid_halves (c.args.depth - 1) es c.insert_entry.new.keys.texts c.insert_entry.new.entries.items
+    c.in-Some-insert_entry.upper_keys.texts c.in-Some-insert_entry.upper.items h c.requires.kids c.requires.order in
     (b.right.1, (c.requires.above, b.right.2, b.right.0, b.right.3))
 
 pub returns-clause-shape : goal.returns-clause-shape
@@ -51,22 +69,37 @@ returns-clause-shape c =
     let keys = c.args.keys.now.texts in
     let kids = c.args.kids.now.items in
     let es : Kids = with_half c.args.place c.args.half (paired keys kids) in
-    let hf : IsHalf (c.args.copies + 1) (c.args.depth - 1) (Some c.in-Some.half) = subst (IsHalf (c.args.copies + 1) (c.args.depth - 1)) c.in-Some.is c.requires.half in
-    let p = putting keys kids c.args.place c.args.copies (c.args.depth - 1) c.in-Some.half c.in-Some-pop.first c.pop.new.self.items c.requires.pairs c.requires.within hf c.in-Some-pop.ensures.items in
-    let back : with_half c.args.place (Some c.in-Some.half) (paired keys kids) ≡ es = ap (λ h. with_half c.args.place h (paired keys kids)) (sym c.in-Some.is) in
-    let q : insert (paired keys kids) (c.args.place + 1) (c.in-Some-pop.first, Own c.in-Some.half.node) ≡ es = p.es_is ∙ back in
-    let h = subst (λ (w : Kids). Parted w c.insert_entry.new.keys.texts c.insert_entry.new.entries.items (Some (c.in-Some-insert_entry.upper_keys.texts, c.in-Some-insert_entry.upper.items))) q c.in-Some-insert_entry.ensures in
-    let b = kid_halves (c.args.depth - 1) es c.insert_entry.new.keys.texts c.insert_entry.new.entries.items c.in-Some-insert_entry.upper_keys.texts c.in-Some-insert_entry.upper.items h c.requires.kids c.requires.order in
-    let n : get_or (keys_of es) 8 [] ≡ get_or (insert keys (c.args.place + 1) c.in-Some-pop.first) 8 [] = ap (λ w. get_or (keys_of w) 8 []) (sym back) ∙ p.ninth in
+    let hf : IsHalf (c.args.copies + 1) (c.args.depth - 1) (Some c.in-Some.half) = subst
+    (IsHalf (c.args.copies + 1) (c.args.depth - 1)) c.in-Some.is c.requires.half in
+    let p = putting keys kids c.args.place c.args.copies
+    (c.args.depth - 1) c.in-Some.half c.in-Some-pop.first c.pop.new.self.items c.requires.pairs c.requires.within hf
+    c.in-Some-pop.ensures.items in
+    let back : with_half c.args.place (Some c.in-Some.half) (paired keys kids)
+    ≡ es = ap (λ h. with_half c.args.place h (paired keys kids)) (sym c.in-Some.is) in
+    let q : insert (paired keys kids) (c.args.place + 1) (c.in-Some-pop.first, Own c.in-Some.half.node)
+    ≡ es = p.es_is ∙ back in
+    let h = subst (λ (w : Kids). Parted w c.insert_entry.new.keys.texts c.insert_entry.new.entries.items
+    (Some (c.in-Some-insert_entry.upper_keys.texts, c.in-Some-insert_entry.upper.items))) q
+    c.in-Some-insert_entry.ensures in
+    let b = kid_halves (c.args.depth - 1) es c.insert_entry.new.keys.texts c.insert_entry.new.entries.items
+    c.in-Some-insert_entry.upper_keys.texts c.in-Some-insert_entry.upper.items h c.requires.kids c.requires.order in
+    let n : get_or (keys_of es) 8 [] ≡ get_or (insert keys (c.args.place + 1) c.in-Some-pop.first) 8 [] = ap
+    (λ w. get_or (keys_of w) 8 []) (sym back) ∙ p.ninth in
     let full : length keys ≡ 16 = omega (arith, h.2, p.whole, ap length back) in (
-      ap (λ (s : Seen). kids_pieces (c.args.depth - 1) (paired c.insert_entry.new.keys.texts c.insert_entry.new.entries.items) ++ s.pieces) c.housed.ensures ∙ b.pieces,
+      ap (λ (s : Seen). kids_pieces (c.args.depth - 1)
+          (paired c.insert_entry.new.keys.texts c.insert_entry.new.entries.items) ++ s.pieces)
+          c.housed.ensures ∙ b.pieces,
       (
         ap (λ (s : Seen). s.depth) c.housed.ensures,
         (
           get_or (keys_of es) 8 [],
           subst (λ (s : Seen). HeadIs (get_or (keys_of es) 8 []) s.pieces) (sym c.housed.ensures) b.head,
-          chosen_are c.args.place c.args.copies c.in-Some-pop.first (get_or (keys_of es) 8 []) (get_or (insert keys (c.args.place + 1) c.in-Some-pop.first) 8 []) c.pop.new.self.items c.args.room.firsts.items c.chosen.result.items
-              n p.given_are p.at_eight c.chosen.ensures.at c.chosen.ensures.other (λ z. c.requires.firsts (subst IsSome (sym c.in-Some.is) refl) c.in-Some-pop.first z full c.in-Some-pop.first (λ y. refl)),
+          chosen_are c.args.place c.args.copies c.in-Some-pop.first (get_or (keys_of es) 8 [])
+              (get_or (insert keys (c.args.place + 1) c.in-Some-pop.first) 8 []) c.pop.new.self.items
+              c.args.room.firsts.items c.chosen.result.items
+              n p.given_are p.at_eight c.chosen.ensures.at c.chosen.ensures.other
+              (λ z. c.requires.firsts (subst IsSome (sym c.in-Some.is) refl) c.in-Some-pop.first z full
+              c.in-Some-pop.first (λ y. refl)),
         ),
       ),
       b.left.0,
@@ -80,11 +113,17 @@ returns-in_default-insert_entry-clause-fresh c =
     let keys = c.args.keys.now.texts in
     let kids = c.args.kids.now.items in
     let es : Kids = with_half c.args.place c.args.half (paired keys kids) in
-    let hf : IsHalf (c.args.copies + 1) (c.args.depth - 1) (Some c.in-Some.half) = subst (IsHalf (c.args.copies + 1) (c.args.depth - 1)) c.in-Some.is c.requires.half in
-    let p = putting keys kids c.args.place c.args.copies (c.args.depth - 1) c.in-Some.half c.in-Some-pop.first c.pop.new.self.items c.requires.pairs c.requires.within hf c.in-Some-pop.ensures.items in
-    let back : with_half c.args.place (Some c.in-Some.half) (paired keys kids) ≡ es = ap (λ h. with_half c.args.place h (paired keys kids)) (sym c.in-Some.is) in
-    let q : insert (paired keys kids) (c.args.place + 1) (c.in-Some-pop.first, Own c.in-Some.half.node) ≡ es = p.es_is ∙ back in
-    let h = subst (λ (w : Kids). Parted w c.insert_entry.new.keys.texts c.insert_entry.new.entries.items None) q c.in_default-insert_entry.ensures in
+    let hf : IsHalf (c.args.copies + 1) (c.args.depth - 1) (Some c.in-Some.half) = subst
+    (IsHalf (c.args.copies + 1) (c.args.depth - 1)) c.in-Some.is c.requires.half in
+    let p = putting keys kids c.args.place c.args.copies
+    (c.args.depth - 1) c.in-Some.half c.in-Some-pop.first c.pop.new.self.items c.requires.pairs c.requires.within hf
+    c.in-Some-pop.ensures.items in
+    let back : with_half c.args.place (Some c.in-Some.half) (paired keys kids)
+    ≡ es = ap (λ h. with_half c.args.place h (paired keys kids)) (sym c.in-Some.is) in
+    let q : insert (paired keys kids) (c.args.place + 1) (c.in-Some-pop.first, Own c.in-Some.half.node)
+    ≡ es = p.es_is ∙ back in
+    let h = subst (λ (w : Kids). Parted w c.insert_entry.new.keys.texts c.insert_entry.new.entries.items None) q
+    c.in_default-insert_entry.ensures in
     let m = fresh-with_half keys kids c.args.place c.in-Some.half c.requires.pairs c.requires.within in
     let n = fresh-alone es c.insert_entry.new.keys.texts c.insert_entry.new.entries.items h in
     omega (arith, m, n, ap entries_fresh back, ap half_fresh c.in-Some.is)
@@ -94,13 +133,21 @@ returns-clause-fresh c =
     let keys = c.args.keys.now.texts in
     let kids = c.args.kids.now.items in
     let es : Kids = with_half c.args.place c.args.half (paired keys kids) in
-    let hf : IsHalf (c.args.copies + 1) (c.args.depth - 1) (Some c.in-Some.half) = subst (IsHalf (c.args.copies + 1) (c.args.depth - 1)) c.in-Some.is c.requires.half in
-    let p = putting keys kids c.args.place c.args.copies (c.args.depth - 1) c.in-Some.half c.in-Some-pop.first c.pop.new.self.items c.requires.pairs c.requires.within hf c.in-Some-pop.ensures.items in
-    let back : with_half c.args.place (Some c.in-Some.half) (paired keys kids) ≡ es = ap (λ h. with_half c.args.place h (paired keys kids)) (sym c.in-Some.is) in
-    let q : insert (paired keys kids) (c.args.place + 1) (c.in-Some-pop.first, Own c.in-Some.half.node) ≡ es = p.es_is ∙ back in
-    let h = subst (λ (w : Kids). Parted w c.insert_entry.new.keys.texts c.insert_entry.new.entries.items (Some (c.in-Some-insert_entry.upper_keys.texts, c.in-Some-insert_entry.upper.items))) q c.in-Some-insert_entry.ensures in
+    let hf : IsHalf (c.args.copies + 1) (c.args.depth - 1) (Some c.in-Some.half) = subst
+    (IsHalf (c.args.copies + 1) (c.args.depth - 1)) c.in-Some.is c.requires.half in
+    let p = putting keys kids c.args.place c.args.copies
+    (c.args.depth - 1) c.in-Some.half c.in-Some-pop.first c.pop.new.self.items c.requires.pairs c.requires.within hf
+    c.in-Some-pop.ensures.items in
+    let back : with_half c.args.place (Some c.in-Some.half) (paired keys kids)
+    ≡ es = ap (λ h. with_half c.args.place h (paired keys kids)) (sym c.in-Some.is) in
+    let q : insert (paired keys kids) (c.args.place + 1) (c.in-Some-pop.first, Own c.in-Some.half.node)
+    ≡ es = p.es_is ∙ back in
+    let h = subst (λ (w : Kids). Parted w c.insert_entry.new.keys.texts c.insert_entry.new.entries.items
+    (Some (c.in-Some-insert_entry.upper_keys.texts, c.in-Some-insert_entry.upper.items))) q
+    c.in-Some-insert_entry.ensures in
     let m = fresh-with_half keys kids c.args.place c.in-Some.half c.requires.pairs c.requires.within in
-    let n = fresh-halves es c.insert_entry.new.keys.texts c.insert_entry.new.entries.items c.in-Some-insert_entry.upper_keys.texts c.in-Some-insert_entry.upper.items h in
+    let n = fresh-halves es c.insert_entry.new.keys.texts c.insert_entry.new.entries.items
+    c.in-Some-insert_entry.upper_keys.texts c.in-Some-insert_entry.upper.items h in
     omega (arith, m, n, ap entries_fresh back, ap half_fresh c.in-Some.is, ap (λ (s : Seen). s.fresh) c.housed.ensures)
 
 pub returns-in_default-insert_entry-clause-entries : goal.returns-in_default-insert_entry-clause-entries
@@ -108,24 +155,40 @@ returns-in_default-insert_entry-clause-entries c =
     let keys = c.args.keys.now.texts in
     let kids = c.args.kids.now.items in
     let es : Kids = with_half c.args.place c.args.half (paired keys kids) in
-    let hf : IsHalf (c.args.copies + 1) (c.args.depth - 1) (Some c.in-Some.half) = subst (IsHalf (c.args.copies + 1) (c.args.depth - 1)) c.in-Some.is c.requires.half in
-    let p = putting keys kids c.args.place c.args.copies (c.args.depth - 1) c.in-Some.half c.in-Some-pop.first c.pop.new.self.items c.requires.pairs c.requires.within hf c.in-Some-pop.ensures.items in
-    let back : with_half c.args.place (Some c.in-Some.half) (paired keys kids) ≡ es = ap (λ h. with_half c.args.place h (paired keys kids)) (sym c.in-Some.is) in
-    let q : insert (paired keys kids) (c.args.place + 1) (c.in-Some-pop.first, Own c.in-Some.half.node) ≡ es = p.es_is ∙ back in
-    let h = subst (λ (w : Kids). Parted w c.insert_entry.new.keys.texts c.insert_entry.new.entries.items None) q c.in_default-insert_entry.ensures in
-    kept_alone es c.insert_entry.new.keys.texts c.insert_entry.new.entries.items (length keys) h (sym (ap length back) ∙ p.whole)
+    let hf : IsHalf (c.args.copies + 1) (c.args.depth - 1) (Some c.in-Some.half) = subst
+    (IsHalf (c.args.copies + 1) (c.args.depth - 1)) c.in-Some.is c.requires.half in
+    let p = putting keys kids c.args.place c.args.copies
+    (c.args.depth - 1) c.in-Some.half c.in-Some-pop.first c.pop.new.self.items c.requires.pairs c.requires.within hf
+    c.in-Some-pop.ensures.items in
+    let back : with_half c.args.place (Some c.in-Some.half) (paired keys kids)
+    ≡ es = ap (λ h. with_half c.args.place h (paired keys kids)) (sym c.in-Some.is) in
+    let q : insert (paired keys kids) (c.args.place + 1) (c.in-Some-pop.first, Own c.in-Some.half.node)
+    ≡ es = p.es_is ∙ back in
+    let h = subst (λ (w : Kids). Parted w c.insert_entry.new.keys.texts c.insert_entry.new.entries.items None) q
+    c.in_default-insert_entry.ensures in
+    kept_alone es c.insert_entry.new.keys.texts c.insert_entry.new.entries.items (length keys) h
+    (sym (ap length back) ∙ p.whole)
 
 pub returns-clause-entries : goal.returns-clause-entries
 returns-clause-entries c =
     let keys = c.args.keys.now.texts in
     let kids = c.args.kids.now.items in
     let es : Kids = with_half c.args.place c.args.half (paired keys kids) in
-    let hf : IsHalf (c.args.copies + 1) (c.args.depth - 1) (Some c.in-Some.half) = subst (IsHalf (c.args.copies + 1) (c.args.depth - 1)) c.in-Some.is c.requires.half in
-    let p = putting keys kids c.args.place c.args.copies (c.args.depth - 1) c.in-Some.half c.in-Some-pop.first c.pop.new.self.items c.requires.pairs c.requires.within hf c.in-Some-pop.ensures.items in
-    let back : with_half c.args.place (Some c.in-Some.half) (paired keys kids) ≡ es = ap (λ h. with_half c.args.place h (paired keys kids)) (sym c.in-Some.is) in
-    let q : insert (paired keys kids) (c.args.place + 1) (c.in-Some-pop.first, Own c.in-Some.half.node) ≡ es = p.es_is ∙ back in
-    let h = subst (λ (w : Kids). Parted w c.insert_entry.new.keys.texts c.insert_entry.new.entries.items (Some (c.in-Some-insert_entry.upper_keys.texts, c.in-Some-insert_entry.upper.items))) q c.in-Some-insert_entry.ensures in
-    let k = kept_halves es c.insert_entry.new.keys.texts c.insert_entry.new.entries.items c.in-Some-insert_entry.upper_keys.texts c.in-Some-insert_entry.upper.items (length keys) h (sym (ap length back) ∙ p.whole) in
+    let hf : IsHalf (c.args.copies + 1) (c.args.depth - 1) (Some c.in-Some.half) = subst
+    (IsHalf (c.args.copies + 1) (c.args.depth - 1)) c.in-Some.is c.requires.half in
+    let p = putting keys kids c.args.place c.args.copies
+    (c.args.depth - 1) c.in-Some.half c.in-Some-pop.first c.pop.new.self.items c.requires.pairs c.requires.within hf
+    c.in-Some-pop.ensures.items in
+    let back : with_half c.args.place (Some c.in-Some.half) (paired keys kids)
+    ≡ es = ap (λ h. with_half c.args.place h (paired keys kids)) (sym c.in-Some.is) in
+    let q : insert (paired keys kids) (c.args.place + 1) (c.in-Some-pop.first, Own c.in-Some.half.node)
+    ≡ es = p.es_is ∙ back in
+    let h = subst (λ (w : Kids). Parted w c.insert_entry.new.keys.texts c.insert_entry.new.entries.items
+    (Some (c.in-Some-insert_entry.upper_keys.texts, c.in-Some-insert_entry.upper.items))) q
+    c.in-Some-insert_entry.ensures in
+    let k = kept_halves es c.insert_entry.new.keys.texts c.insert_entry.new.entries.items
+    c.in-Some-insert_entry.upper_keys.texts c.in-Some-insert_entry.upper.items (length keys) h
+    (sym (ap length back) ∙ p.whole) in
     (k.0, k.1, ap (λ (s : Seen). s.entries) c.housed.ensures ∙ k.2)
 
 pub housed-requires : goal.housed-requires
@@ -133,9 +196,16 @@ housed-requires c =
     let keys = c.args.keys.now.texts in
     let kids = c.args.kids.now.items in
     let es : Kids = with_half c.args.place c.args.half (paired keys kids) in
-    let hf : IsHalf (c.args.copies + 1) (c.args.depth - 1) (Some c.in-Some.half) = subst (IsHalf (c.args.copies + 1) (c.args.depth - 1)) c.in-Some.is c.requires.half in
-    let p = putting keys kids c.args.place c.args.copies (c.args.depth - 1) c.in-Some.half c.in-Some-pop.first c.pop.new.self.items c.requires.pairs c.requires.within hf c.in-Some-pop.ensures.items in
-    let back : with_half c.args.place (Some c.in-Some.half) (paired keys kids) ≡ es = ap (λ h. with_half c.args.place h (paired keys kids)) (sym c.in-Some.is) in
-    let q : insert (paired keys kids) (c.args.place + 1) (c.in-Some-pop.first, Own c.in-Some.half.node) ≡ es = p.es_is ∙ back in
-    let h = subst (λ (w : Kids). Parted w c.insert_entry.new.keys.texts c.insert_entry.new.entries.items (Some (c.in-Some-insert_entry.upper_keys.texts, c.in-Some-insert_entry.upper.items))) q c.in-Some-insert_entry.ensures in
+    let hf : IsHalf (c.args.copies + 1) (c.args.depth - 1) (Some c.in-Some.half) = subst
+    (IsHalf (c.args.copies + 1) (c.args.depth - 1)) c.in-Some.is c.requires.half in
+    let p = putting keys kids c.args.place c.args.copies
+    (c.args.depth - 1) c.in-Some.half c.in-Some-pop.first c.pop.new.self.items c.requires.pairs c.requires.within hf
+    c.in-Some-pop.ensures.items in
+    let back : with_half c.args.place (Some c.in-Some.half) (paired keys kids)
+    ≡ es = ap (λ h. with_half c.args.place h (paired keys kids)) (sym c.in-Some.is) in
+    let q : insert (paired keys kids) (c.args.place + 1) (c.in-Some-pop.first, Own c.in-Some.half.node)
+    ≡ es = p.es_is ∙ back in
+    let h = subst (λ (w : Kids). Parted w c.insert_entry.new.keys.texts c.insert_entry.new.entries.items
+    (Some (c.in-Some-insert_entry.upper_keys.texts, c.in-Some-insert_entry.upper.items))) q
+    c.in-Some-insert_entry.ensures in
     c.requires.home (subst IsSome (sym c.in-Some.is) refl) (omega (arith, h.2, p.whole, ap length back))

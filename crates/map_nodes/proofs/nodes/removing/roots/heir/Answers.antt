@@ -12,8 +12,11 @@ pub returns-in-None-clause-heir : goal.returns-in-None-clause-heir
 returns-in-None-clause-heir g c =
     let kids = c.args.kids.now.items in
     let left = other_left kids c.args.place c.swap_remove.result c.requires.within c.requires.few
-    (λ e. c.if-len-eq1.false (let q : c.len.result ≡ 1 = omega (arith, c.len.ensures, e, c.args.kids.now.ok.0) in q)) c.swap_remove.ensures.value in
-    heir_taken (g.C.Chunks.contents c.args.chunks.now) (g.C.Chunks.contents c.kid_end.new.chunks) _ c.swap_remove.result c.taken.result c.kid_end.ensures.grown.0 left c.requires.tree c.taken.ensures
+    (λ e. c.if-len-eq1.false (let q : c.len.result ≡ 1 = omega (arith, c.len.ensures, e, c.args.kids.now.ok.0) in q))
+    c.swap_remove.ensures.value in
+    heir_taken (g.C.Chunks.contents c.args.chunks.now)
+    (g.C.Chunks.contents c.kid_end.new.chunks) _ c.swap_remove.result c.taken.result c.kid_end.ensures.grown.0 left
+    c.requires.tree c.taken.ensures
 
 two : {A : Type 0} (kids : List A) (i : ℕ) → i < length kids → (length kids ≡ 1 → ⊥) → 1 - i < length kids
 two [] i w o = absurd (omega arith)
@@ -24,17 +27,24 @@ pub returns-in-Some-clause-places : goal.returns-in-Some-clause-places
 returns-in-Some-clause-places g c =
     let at_q = g.C.Chunks.places c.kid_end.new.chunks in
     let kids = c.args.kids.now.items in
-    let within : 1 - c.args.place < length kids = two kids c.args.place c.requires.within (λ e. c.if-len-eq1.false (let q : c.len.result ≡ 1 = omega (arith, c.len.ensures, e, c.args.kids.now.ok.0) in q)) in
-    kept-start at_q (child_places c.index.result.now) (kids_places kids) (c.in-Some.at ∷ []) (kid-within kids (1 - c.args.place) c.index.result.now within c.index.ensures)
+    let within : 1 - c.args.place < length kids = two kids c.args.place c.requires.within
+    (λ e. c.if-len-eq1.false (let q : c.len.result
+    ≡ 1 = omega (arith, c.len.ensures, e, c.args.kids.now.ok.0) in q)) in
+    kept-start at_q (child_places c.index.result.now) (kids_places kids) (c.in-Some.at ∷ [])
+    (kid-within kids (1 - c.args.place) c.index.result.now within c.index.ensures)
     (subst (λ e. AreKept at_q (child_places c.index.result.now) (end_places e)) c.in-Some.is c.in_ok-at.ensures.places)
 
 pub returns-in-None-clause-places : goal.returns-in-None-clause-places
 returns-in-None-clause-places g c =
     let at_q = g.C.Chunks.places c.kid_end.new.chunks in
     let kids = c.args.kids.now.items in
-    let within : 1 - c.args.place < length kids = two kids c.args.place c.requires.within (λ e. c.if-len-eq1.false (let q : c.len.result ≡ 1 = omega (arith, c.len.ensures, e, c.args.kids.now.ok.0) in q)) in
-    kept-start at_q (child_places c.swap_remove.result) (kids_places kids) (places_of c.taken.result.pieces) (kid-within kids (1 - c.args.place) c.swap_remove.result within c.swap_remove.ensures.value)
-    (kept-within at_q (child_places c.swap_remove.result) (places_of c.taken.result.pieces) (child_places c.swap_remove.result) (taken-places c.swap_remove.result c.taken.result c.taken.ensures)
+    let within : 1 - c.args.place < length kids = two kids c.args.place c.requires.within
+    (λ e. c.if-len-eq1.false (let q : c.len.result
+    ≡ 1 = omega (arith, c.len.ensures, e, c.args.kids.now.ok.0) in q)) in
+    kept-start at_q (child_places c.swap_remove.result) (kids_places kids) (places_of c.taken.result.pieces)
+    (kid-within kids (1 - c.args.place) c.swap_remove.result within c.swap_remove.ensures.value)
+    (kept-within at_q (child_places c.swap_remove.result) (places_of c.taken.result.pieces)
+    (child_places c.swap_remove.result) (taken-places c.swap_remove.result c.taken.result c.taken.ensures)
     (kept-same at_q (child_places c.swap_remove.result)))
 
 pub returns-then-len-eq1-clause-places : goal.returns-then-len-eq1-clause-places
@@ -46,19 +56,26 @@ returns-then-len-eq1-clause-places g c =
 pub kid_end-requires-clause-places : goal.kid_end-requires-clause-places
 kid_end-requires-clause-places g c =
     let kids = c.args.kids.now.items in
-    let within : 1 - c.args.place < length kids = two kids c.args.place c.requires.within (λ e. c.if-len-eq1.false (let q : c.len.result ≡ 1 = omega (arith, c.len.ensures, e, c.args.kids.now.ok.0) in q)) in
-    kid_all (g.C.Chunks.places c.args.chunks.now) kids (1 - c.args.place) c.index.result.now within c.index.ensures c.requires.places
+    let within : 1 - c.args.place < length kids = two kids c.args.place c.requires.within
+    (λ e. c.if-len-eq1.false (let q : c.len.result
+    ≡ 1 = omega (arith, c.len.ensures, e, c.args.kids.now.ok.0) in q)) in
+    kid_all (g.C.Chunks.places c.args.chunks.now) kids
+    (1 - c.args.place) c.index.result.now within c.index.ensures c.requires.places
 
 pub returns-in-Some-clause-deep : goal.returns-in-Some-clause-deep
 returns-in-Some-clause-deep g c below h =
     let kids = c.args.kids.now.items in
     let left = other_left kids c.args.place c.index.result.now c.requires.within c.requires.few
-    (λ e. c.if-len-eq1.false (let q : c.len.result ≡ 1 = omega (arith, c.len.ensures, e, c.args.kids.now.ok.0) in q)) c.index.ensures in
-    low_placed (g.C.Chunks.contents c.args.chunks.now) (g.C.Chunks.contents c.kid_end.new.chunks) below _ c.index.result.now _ c.in-Some.at left h (c.in_ok-at.ensures.depth below) c.in-Some.is
+    (λ e. c.if-len-eq1.false (let q : c.len.result ≡ 1 = omega (arith, c.len.ensures, e, c.args.kids.now.ok.0) in q))
+    c.index.ensures in
+    low_placed (g.C.Chunks.contents c.args.chunks.now)
+    (g.C.Chunks.contents c.kid_end.new.chunks) below _ c.index.result.now _ c.in-Some.at left h
+    (c.in_ok-at.ensures.depth below) c.in-Some.is
 
 pub returns-in-None-clause-deep : goal.returns-in-None-clause-deep
 returns-in-None-clause-deep g c below h =
     let kids = c.args.kids.now.items in
     let left = other_left kids c.args.place c.swap_remove.result c.requires.within c.requires.few
-    (λ e. c.if-len-eq1.false (let q : c.len.result ≡ 1 = omega (arith, c.len.ensures, e, c.args.kids.now.ok.0) in q)) c.swap_remove.ensures.value in
+    (λ e. c.if-len-eq1.false (let q : c.len.result ≡ 1 = omega (arith, c.len.ensures, e, c.args.kids.now.ok.0) in q))
+    c.swap_remove.ensures.value in
     low_taken (g.C.Chunks.contents c.args.chunks.now) below _ c.swap_remove.result c.taken.result left h c.taken.ensures

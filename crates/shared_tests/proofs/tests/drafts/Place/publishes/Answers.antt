@@ -12,5 +12,7 @@ publish_draft-requires-clause-follows g c κs within =
     let log = c.args.self.now.mark.log in
     let cookie = c.args.cookie.now in
     let new = c.place_of-new.result in
-    let spells = subst (λ (at : Ref). SpellsBare log (stamp_of at) cookie) (sym c.place_of-new.ensures) (c.requires.spells c.new.result c.new.ensures.stamp) in
-    subst (λ (w : Change). Follows no_mutators (drawn log) c.args.base new w) (sym c.in_ok-change.ensures.change) (bare_follows log cookie c.args.base new c.legal.ensures.1 c.requires.base c.in_ok-change.ensures.above spells)
+    let spells = subst (λ (at : Ref). SpellsBare log (stamp_of at) cookie) (sym c.place_of-new.ensures)
+    (c.requires.spells c.new.result c.new.ensures.stamp) in
+    subst (λ (w : Change). Follows no_mutators (drawn log) c.args.base new w) (sym c.in_ok-change.ensures.change)
+    (bare_follows log cookie c.args.base new c.legal.ensures.1 c.requires.base c.in_ok-change.ensures.above spells)

@@ -12,4 +12,5 @@ returns g c =
     let log = c.draws.new.mark.log in
     let same = sym (ap (λ (m : Known). m.log) c.puts.ensures.mark) in
     subst (λ w. IsSome (segment_at (drawn w) (stamp_of c.new.result))) same
-    (subst (λ k. IsSome (segment_at (drawn log) k)) (sym c.new.ensures.stamp) (leaf_spelled log c.in_ok-stamp.stamp c.in_ok-stamp.ensures.drawn))
+    (subst (λ k. IsSome (segment_at (drawn log) k)) (sym c.new.ensures.stamp)
+    (leaf_spelled log c.in_ok-stamp.stamp c.in_ok-stamp.ensures.drawn))

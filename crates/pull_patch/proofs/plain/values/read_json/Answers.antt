@@ -1,0 +1,26 @@
+use Rattle.std.proofs.Common.{◌≡◌, ◌∙◌, sym, ap, subst, true, Ok, IsUtf8}
+use Rattle.group_history.specs.Json.{json_text}
+use Rattle.pull_patch.specs.Inside.Plain.{ReadsText}
+use Rattle.pull_patch.proofs.CopiedTexts.{ReadsText-plain, json_text-plain, ReadsText-read}
+use Rattle.pull_patch.proofs.plain.values.read_json.Goals as goal
+
+pub returns-in-Ok-clause-read : goal.returns-in-Ok-clause-read
+returns-in-Ok-clause-read c =
+    ReadsText-read c.args.reader.now c.copy_text.new.reader c.copy_text.new.text.items c.in-Ok.json c.in_ok-plain.plain
+    c.in_ok-plain.ensures.copied
+    (ap json_text (sym c.deref.ensures.value) ∙ c.in-Ok.ensures)
+
+pub of_compact-requires : goal.of_compact-requires
+of_compact-requires c =
+    let is : c.in-Ok-from_utf8.compact.now
+    ≡ c.copy_text.new.text.items = c.in-Ok-from_utf8.ensures.cases.0 ∙ c.deref-2.ensures.value in
+    rw is (json_text-plain c.args.reader.now c.copy_text.new.reader c.copy_text.new.text.items c.in_ok-plain.plain
+    c.in_ok-plain.ensures.copied c.if-not-plain.false c.in_ok-plain.ensures.utf8)
+
+pub returns-in_ok-of_compact-in-Ok-from_utf8-clause-read : goal.returns-in_ok-of_compact-in-Ok-from_utf8-clause-read
+returns-in_ok-of_compact-in-Ok-from_utf8-clause-read c =
+    let is : c.in-Ok-from_utf8.compact.now
+    ≡ c.copy_text.new.text.items = c.in-Ok-from_utf8.ensures.cases.0 ∙ c.deref-2.ensures.value in
+    rw (c.in_ok-of_compact-in-Ok-from_utf8.ensures, is)
+    (ReadsText-plain c.args.reader.now c.copy_text.new.reader c.copy_text.new.text.items c.in_ok-plain.plain
+    c.in_ok-plain.ensures.copied c.if-not-plain.false)

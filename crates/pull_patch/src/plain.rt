@@ -1,0 +1,169 @@
+//! Bodies that are read from token to token, with no tree of the whole: the usual ones.
+//!
+//! A response without an error that has its three fields, and in them whole numbers alone, is plain. A put's
+//! value is copied from its tokens; it is the compact text where the names in it ascend and its numbers are
+//! digits of an u64, and only where it isn't, this one value is read as a tree. Whatever else a body may be
+//! is left to the reader of whole trees, and so are all refusals but for want of memory.
+ghost use Rattle.std.specs.Prelude.{◌≡◌, ◌<◌, length, OnOk, IfOk, Ok};
+ghost use Rattle.serde_json.specs.Data.{Members, object};
+ghost use Rattle.serde_json.specs.View.{view};
+ghost use Rattle.group_history.specs.Pull.{AreInRange};
+ghost use Rattle.pull_patch.specs.Grammar as grammar;
+ghost use Rattle.pull_patch.specs.Inside.Plain.{IsCookie, AreChanges, ReadsCookie, ReadsChanges, ReadsPart, ReadsParts};
+ghost use Rattle.pull_patch.specs.Inside.Plain.{ArePartsOf, ReadsBody};
+
+mod copies;
+mod puts;
+mod stops;
+mod values;
+
+use crate::changes::read_changes;
+use crate::response::{is_cookie, joined};
+use group_history::{Confirmed, Cookie, Patch, Refusal, Response, nests_within};
+use json::{Reader, Scratch, Token};
+use puts::read_patch;
+use serde_json::Value;
+use std::alloc::Global;
+pub(crate) use stops::Stop;
+use values::read_tree;
+
+// What was found in a response so far.
+#[derive(Drop)]
+struct Parts {
+    cookie: Option<Cookie>,
+    changes: Option<Vec<Confirmed>>,
+    patch: Option<Vec<Patch>>,
+}
+
+fn cookie_of(alloc: Global, value: &Value) -> Result<Cookie, Stop>
+    ensures { IfOk result (λ c. IsCookie (view value.now) c) }
+{
+    if !is_cookie(value) || !nests_within(value, 126) {
+        return Err(Stop::NotPlain);
+    }
+    match Cookie::of(alloc, value)? {
+        Some(cookie) => Ok(cookie),
+        None => Err(Stop::NotPlain),
+    }
+}
+
+fn changes_of(alloc: Global, value: &Value) -> Result<Vec<Confirmed>, Stop>
+    ensures read { IfOk result (λ v. AreChanges (view value.now) v.items) }
+    ensures in_range { IfOk result (λ v. AreInRange v.items) }
+{
+    let Some(members) = value.as_object() else {
+        return Err(Stop::NotPlain);
+    };
+    match read_changes(alloc, members) {
+        Ok(Some(changes)) => Ok(changes),
+        Err(Refusal::NoMemory) => Err(Stop::NoMemory),
+        _ => Err(Stop::NotPlain),
+    }
+}
+
+fn read_cookie(alloc: Global, reader: &mut Reader<'_>, copy: &mut Vec<u8>) -> Result<Cookie, Stop>
+    ensures read { IfOk result (λ c. ReadsCookie reader.old c reader.new) }
+    ensures shorter { OnOk result (length reader.new < length reader.old) }
+{
+    let value = read_tree(alloc, reader, 126, copy)?;
+    cookie_of(alloc, &value)
+}
+
+fn read_changes_field(
+    alloc: Global,
+    reader: &mut Reader<'_>,
+    copy: &mut Vec<u8>,
+) -> Result<Vec<Confirmed>, Stop>
+    ensures read { IfOk result (λ v. ReadsChanges reader.old v.items reader.new) }
+    ensures shorter { OnOk result (length reader.new < length reader.old) }
+{
+    let value = read_tree(alloc, reader, 126, copy)?;
+    changes_of(alloc, &value)
+}
+
+// The value of a field of this name. Of two fields of one name the last counts.
+fn read_part(
+    alloc: Global,
+    name: &str,
+    reader: &mut Reader<'_>,
+    parts: &mut Parts,
+    copy: &mut Vec<u8>,
+) -> Result<(), Stop>
+    ensures read { OnOk result (ReadsPart reader.old name.now parts.old parts.new reader.new) }
+    ensures shorter { OnOk result (length reader.new < length reader.old) }
+{
+    if name == "patch" {
+        parts.patch = Some(read_patch(alloc, reader, copy)?);
+        return Ok(());
+    }
+    if name == "cookie" {
+        parts.cookie = Some(read_cookie(alloc, reader, copy)?);
+        return Ok(());
+    }
+    if name == "lastMutationIDChanges" {
+        parts.changes = Some(read_changes_field(alloc, reader, copy)?);
+        return Ok(());
+    }
+    if name == "error" {
+        return Err(Stop::NotPlain);
+    }
+    drop(read_tree(alloc, reader, 126, copy)?);
+    Ok(())
+}
+
+fn read_parts(alloc: Global, reader: &mut Reader<'_>, copy: &mut Vec<u8>) -> Result<Parts, Stop>
+    ensures { IfOk result (λ p. ReadsParts reader.old p reader.new) }
+{
+    let mut parts = Parts {
+        cookie: None,
+        changes: None,
+        patch: None,
+    };
+    'parts: while let Some(name) = reader.next_key()? {
+        read_part(alloc, name, reader, &mut parts, copy)?;
+    }
+    Ok(parts)
+}
+
+// The response of three parts.
+fn response_of(parts: Parts) -> Result<Response, Stop>
+    requires { (ms : Members) × ArePartsOf parts ms }
+    ensures { IfOk result (λ r. (ms : Members) → ArePartsOf parts ms → grammar.response_of (object ms) ≡ Ok r) }
+{
+    let Parts {
+        cookie,
+        changes,
+        patch,
+    } = parts;
+    match joined(cookie, changes, patch) {
+        Ok(response) => Ok(response),
+        Err(_missing) => Err(Stop::NotPlain),
+    }
+}
+
+// The response that the tokens are, down to the last.
+fn read_body(alloc: Global, reader: &mut Reader<'_>) -> Result<Response, Stop>
+    ensures { IfOk result (λ r. ReadsBody reader.old r) }
+{
+    let Some(Token::BeginObject) = reader.next() else {
+        return Err(Stop::NotPlain);
+    };
+    let mut copy = Vec::new(alloc);
+    let parts = read_parts(alloc, reader, &mut copy)?;
+    match reader.next() {
+        Some(_) => Err(Stop::NotPlain),
+        None => response_of(parts),
+    }
+}
+
+/// The response that a plain body is.
+pub(crate) fn plain_response(alloc: Global, bytes: &[u8]) -> Result<Response, Stop>
+    ensures { IfOk result (λ r. grammar.answer_to bytes.now ≡ Ok r) }
+{
+    let Ok(body) = str::from_utf8(bytes) else {
+        return Err(Stop::NotPlain);
+    };
+    let mut scratch = Scratch::new(alloc);
+    let mut reader = Reader::new(body, &mut scratch)?;
+    read_body(alloc, &mut reader)
+}

@@ -1,0 +1,138 @@
+//! Values that are copied from token to token, with no tree in between.
+ghost use Rattle.std.specs.Prelude.{◌≡◌, ◌<◌, [], length, IsTrue, OnOk, IfOk};
+ghost use Rattle.std.specs.Ordering.{is_lt, nat_cmp};
+ghost use Rattle.std.specs.Cmp.Lexicographic.{slice_cmp};
+ghost use Rattle.std.specs.Str.{IsUtf8};
+ghost use Rattle.json.specs.Json.{value, items, members};
+ghost use Rattle.pull_patch.specs.Inside.Copies.{IsPlainNumber, CopiesValue, CopiesItems, CopiesMembers, CopiesText};
+
+use super::stops::Stop;
+use json::{Reader, Token, Writer};
+use std::alloc::Global;
+use std::cmp::Ordering;
+use std::mem::replace;
+
+// Whether a number's text is the one that is written for it: the digits of an u64, with no 0 before others.
+fn is_plain_number(text: &str) -> bool
+    ensures { IsTrue result → IsPlainNumber text.now }
+{
+    if text == "0" {
+        return true;
+    }
+    let bytes = text.as_bytes();
+    if bytes.is_empty() || bytes[0] < b'1' {
+        return false;
+    }
+    match u64::from_str_radix(text, 10) {
+        Ok(_) => true,
+        Err(_) => false,
+    }
+}
+
+fn is_before(last: &str, name: &str) -> bool
+    ensures { result ≡ is_lt (slice_cmp nat_cmp last.now name.now) }
+{
+    matches!(last.cmp(name), Ordering::Less)
+}
+
+// The tokens of the next value are written again. Told is whether its text is then the compact one.
+#[cycle(copy)]
+pub(crate) fn copy_value(
+    reader: &mut Reader<'_>,
+    depth: usize,
+    out: &mut Writer,
+) -> Result<bool, Stop>
+    ensures copied { IfOk result (λ plain. CopiesValue plain
+        (value depth reader.old) reader.new out.old.tokens out.new.tokens) }
+    ensures shorter { OnOk result (length reader.new < length reader.old) }
+    ensures before { out.new.before ≡ out.old.before }
+{
+    let token = reader.next().ok_or(Stop::NotPlain)?;
+    match token {
+        Token::String(text) => {
+            out.string(text)?;
+            Ok(true)
+        }
+        Token::Number(text) => {
+            out.number(text)?;
+            Ok(is_plain_number(text))
+        }
+        Token::Bool(b) => {
+            out.boolean(b)?;
+            Ok(true)
+        }
+        Token::Null => {
+            out.null()?;
+            Ok(true)
+        }
+        Token::EndObject | Token::EndArray | Token::Key(_) | Token::Bad => Err(Stop::NotPlain),
+        Token::BeginArray => {
+            if depth == 0 {
+                return Err(Stop::NotPlain);
+            }
+            out.begin_array()?;
+            copy_items(reader, depth - 1, out)
+        }
+        Token::BeginObject => {
+            if depth == 0 {
+                return Err(Stop::NotPlain);
+            }
+            out.begin_object()?;
+            copy_members(reader, depth - 1, out)
+        }
+    }
+}
+
+#[cycle(copy)]
+fn copy_items(reader: &mut Reader<'_>, depth: usize, out: &mut Writer) -> Result<bool, Stop>
+    ensures copied { IfOk result (λ plain. CopiesItems plain
+        (items (value depth) (length reader.old) reader.old) reader.new out.old.tokens out.new.tokens) }
+    ensures shorter { OnOk result (length reader.new < length reader.old) }
+    ensures before { out.new.before ≡ out.old.before }
+{
+    let mut plain = true;
+    'items: while !reader.take_end_array() {
+        let item = copy_value(reader, depth, out)?;
+        plain = plain & item;
+    }
+    out.end_array()?;
+    Ok(plain)
+}
+
+#[cycle(copy)]
+fn copy_members<'a>(reader: &mut Reader<'a>, depth: usize, out: &mut Writer) -> Result<bool, Stop>
+    ensures copied { IfOk result (λ plain. CopiesMembers plain
+        (members (value depth) (length reader.old) reader.old) reader.new out.old.tokens out.new.tokens) }
+    ensures shorter { OnOk result (length reader.new < length reader.old) }
+    ensures before { out.new.before ≡ out.old.before }
+{
+    let mut plain = true;
+    let mut last = "";
+    'members: while let Some(name) = reader.next_key()? {
+        out.key(name)?;
+        let member = copy_value(reader, depth, out)?;
+        plain = plain & member & is_before(last, name);
+        last = name;
+    }
+    out.end_object()?;
+    Ok(plain)
+}
+
+// The text of the next value, in place of what `text` holds.
+pub(crate) fn copy_text(
+    alloc: Global,
+    reader: &mut Reader<'_>,
+    depth: usize,
+    text: &mut Vec<u8>,
+) -> Result<bool, Stop>
+    ensures copied { IfOk result (λ plain. CopiesText plain (value depth reader.old) reader.new text.new.items) }
+    ensures shorter { OnOk result (length reader.new < length reader.old) }
+    ensures utf8 { OnOk result (IsUtf8 text.new.items) }
+{
+    let mut buffer = replace(text, Vec::new(alloc));
+    buffer.clear();
+    let mut out = Writer::new(buffer);
+    let plain = copy_value(reader, depth, &mut out)?;
+    *text = out.into_inner();
+    Ok(plain)
+}

@@ -1,0 +1,131 @@
+//! The operations of a patch, one at a time.
+ghost use Rattle.std.specs.Prelude.{◌≡◌, ◌<◌, length, OnOk, IfOk};
+ghost use Rattle.serde_json.specs.Data.{Members, object};
+ghost use Rattle.pull_patch.specs.Inside.Plain.{ReadsField, ReadsFields, IsFoundIn, IsOperation, ReadsOperation};
+ghost use Rattle.pull_patch.specs.Inside.Plain.{ReadsOperations, ReadsPatch};
+
+use super::stops::Stop;
+use super::values::{read_json, read_text, read_tree};
+use group_history::{Json, Patch, Text};
+use json::{Reader, Token};
+use std::alloc::Global;
+
+// What was found in an operation so far.
+#[derive(Drop)]
+struct Found<'a> {
+    op: Option<&'a str>,
+    key: Option<&'a str>,
+    value: Option<Json>,
+}
+
+// The value of a field of this name. Of two fields of one name the last counts.
+fn read_field<'a>(
+    alloc: Global,
+    name: &str,
+    reader: &mut Reader<'a>,
+    found: &mut Found<'a>,
+    copy: &mut Vec<u8>,
+) -> Result<(), Stop>
+    ensures read { OnOk result (ReadsField reader.old name.now found.old found.new reader.new) }
+    ensures shorter { OnOk result (length reader.new < length reader.old) }
+{
+    if name == "op" {
+        found.op = Some(read_text(reader)?);
+        return Ok(());
+    }
+    if name == "key" {
+        found.key = Some(read_text(reader)?);
+        return Ok(());
+    }
+    if name == "value" {
+        found.value = Some(read_json(alloc, reader, copy)?);
+        return Ok(());
+    }
+    drop(read_tree(alloc, reader, 124, copy)?);
+    Ok(())
+}
+
+fn read_fields<'a>(
+    alloc: Global,
+    reader: &mut Reader<'a>,
+    copy: &mut Vec<u8>,
+) -> Result<Found<'a>, Stop>
+    ensures read { IfOk result (λ f. ReadsFields reader.old f reader.new) }
+    ensures shorter { OnOk result (length reader.new < length reader.old) }
+{
+    let mut found = Found {
+        op: None,
+        key: None,
+        value: None,
+    };
+    'fields: while let Some(name) = reader.next_key()? {
+        read_field(alloc, name, reader, &mut found, copy)?;
+    }
+    Ok(found)
+}
+
+fn operation_of(alloc: Global, found: Found<'_>) -> Result<Patch, Stop>
+    ensures { IfOk result (λ p. (ms : Members) → IsFoundIn found.entry ms → IsOperation (object ms) p) }
+{
+    let Some(op) = found.op else {
+        return Err(Stop::NotPlain);
+    };
+    if op == "clear" {
+        return Ok(Patch::Clear);
+    }
+    let Some(key) = found.key else {
+        return Err(Stop::NotPlain);
+    };
+    if op == "del" {
+        return Ok(Patch::Del(Text::new(alloc, key)?));
+    }
+    if op == "put" {
+        let Some(value) = found.value else {
+            return Err(Stop::NotPlain);
+        };
+        return Ok(Patch::Put(Text::new(alloc, key)?, value));
+    }
+    Err(Stop::NotPlain)
+}
+
+fn read_operation(alloc: Global, reader: &mut Reader<'_>, copy: &mut Vec<u8>) -> Result<Patch, Stop>
+    ensures read { IfOk result (λ p. ReadsOperation reader.old p reader.new) }
+    ensures shorter { OnOk result (length reader.new < length reader.old) }
+{
+    let Some(Token::BeginObject) = reader.next() else {
+        return Err(Stop::NotPlain);
+    };
+    let found = read_fields(alloc, reader, copy)?;
+    operation_of(alloc, found)
+}
+
+fn read_operations(
+    alloc: Global,
+    reader: &mut Reader<'_>,
+    copy: &mut Vec<u8>,
+) -> Result<Vec<Patch>, Stop>
+    ensures read { IfOk result (λ v. ReadsOperations reader.old v.items reader.new) }
+    ensures shorter { OnOk result (length reader.new < length reader.old) }
+{
+    let mut patch = Vec::new(alloc);
+    'operations: while !reader.take_end_array() {
+        let operation = read_operation(alloc, reader, copy)?;
+        patch.push(operation)?;
+    }
+    Ok(patch)
+}
+
+/// The operations of a patch. What `copy` holds is overwritten.
+pub(crate) fn read_patch(
+    alloc: Global,
+    reader: &mut Reader<'_>,
+    copy: &mut Vec<u8>,
+) -> Result<Vec<Patch>, Stop>
+    ensures read { IfOk result (λ v. ReadsPatch reader.old v.items reader.new) }
+    ensures shorter { OnOk result (length reader.new < length reader.old) }
+{
+    let Some(Token::BeginArray) = reader.next() else {
+        return Err(Stop::NotPlain);
+    };
+    read_operations(alloc, reader, copy)
+}
