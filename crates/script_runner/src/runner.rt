@@ -273,6 +273,10 @@ pub(crate) fn run_owned<R: AllocGlobal + Threads + Wait + Sync, G: Gate, W: io::
 ) -> Result<(), Fault>
     ensures first { Checks (first_fault script.items) result }
     ensures nothing_written { IfErr result (λ e. IsOfScript e → W.contents out.new ≡ W.contents out.old) }
+    ensures written { OnOk result (IfOk (script_said script.items)
+        (λ said. HasRun said (W.contents out.old) (W.contents out.new))) }
+    ensures want { IsWant result → Keeps (W.contents out.old) (W.contents out.new)
+        ⊎ IfOk (script_said script.items) (λ said. HasStopped said (W.contents out.old) (W.contents out.new)) }
 {
     let read = read_script(rt.alloc(), &script);
     drop(script);
