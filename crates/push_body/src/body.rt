@@ -2,20 +2,16 @@
 //!
 //! Contracts see a `Body` as the list of its bytes, and each method says which bytes it appends. What it
 //! has after an error is not told: a body that met one is let go.
-ghost use Rattle.std.specs.Prelude.{◌≡◌, [], ◌∷◌, ◌++◌, IfOk, OnOk, decimal};
-ghost use Rattle.json.specs.Print.{print};
-ghost use Rattle.json.specs.Token.{string};
+ghost use Rattle.std.specs.Prelude.{◌≡◌, [], ◌++◌, IfOk, OnOk, decimal};
 ghost use Rattle.push_body.specs.Bodies.{quoted};
 
-use crate::plain::is_plain;
+use crate::quoted::push_quoted;
 use itoa::Buffer;
-use json::Writer;
 use std::alloc::{AllocError, Global};
 use std::marker::Model;
 
 #[derive(Drop)]
 pub(crate) struct Body {
-    alloc: Global,
     bytes: Vec<u8>,
 }
 
@@ -33,7 +29,7 @@ impl Body {
         ensures { IfOk result (λ b. b ≡ []) }
     {
         let bytes = Vec::with_capacity(alloc, room)?;
-        Ok(Body { alloc, bytes })
+        Ok(Body { bytes })
     }
 
     /// Appends a piece as it stands.
@@ -49,13 +45,7 @@ impl Body {
     pub(crate) fn text(&mut self, text: &str) -> Result<(), AllocError>
         ensures { OnOk result (self.new ≡ self.old ++ quoted text.now) }
     {
-        if is_plain(text.as_bytes()) {
-            self.raw("\"")?;
-            self.raw(text)?;
-            return self.raw("\"");
-        }
-        let token = escaped(self.alloc, text)?;
-        self.bytes.extend_from_slice(&token)
+        push_quoted(&mut self.bytes, text)
     }
 
     /// Appends a number in decimal.
@@ -72,15 +62,4 @@ impl Body {
     {
         self.bytes
     }
-}
-
-/// A text as JSON, written by a writer of its own, which fills its buffer ahead with zeros.
-#[cold]
-#[inline(never)]
-fn escaped(alloc: Global, text: &str) -> Result<Vec<u8>, AllocError>
-    ensures { IfOk result (λ v. v.items ≡ quoted text.now) }
-{
-    let mut writer = Writer::new(Vec::new(alloc));
-    writer.string(text)?;
-    Ok(writer.into_inner())
 }

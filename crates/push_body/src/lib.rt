@@ -10,8 +10,10 @@ mod laws;
 mod plain;
 mod pull;
 mod push;
+mod quoted;
 
 pub use identities::Identity;
 pub use laws::bodies_read_back;
 pub use pull::pull_bytes;
 pub use push::push_bytes;
+pub use quoted::push_quoted;

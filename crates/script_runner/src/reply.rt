@@ -1,5 +1,5 @@
 //! What a call of a client replies, and how that is printed. The texts are those of `specs/Printing`.
-ghost use Rattle.std.specs.Prelude.{◌≡◌, ◌++◌, map, decimal, IfOk, OnOk};
+ghost use Rattle.std.specs.Prelude.{◌≡◌, ◌++◌, map, decimal, OnOk};
 ghost use Rattle.std.specs.List.{join_with_byte};
 ghost use Rattle.push_body.specs.Bodies.{quoted};
 ghost use Rattle.script_runner.specs.Printing.{row_text, pending_row, array_text, refusal_name, refusal_detail};
@@ -7,9 +7,9 @@ ghost use Rattle.script_runner.specs.Printing.{line_text};
 ghost use Rattle.script_runner.specs.Inside.Printing.{reply_word, reply_detail, reply_text};
 
 use group_history::{Cookie, Ended, Json, Mutation, Refusal, Text};
-use json::Writer;
+use push_body::push_quoted;
 use rebase::Rows;
-use std::alloc::{AllocError, Global};
+use std::alloc::AllocError;
 
 /// The reply to a line.
 #[derive(Drop)]
@@ -106,21 +106,12 @@ fn print_number(out: &mut Vec<u8>, word: &str, number: u64) -> Result<(), AllocE
     out.extend_from_slice(text.as_bytes())
 }
 
-/// The compact JSON text of a text.
-fn quoted(alloc: Global, text: &str) -> Result<Vec<u8>, AllocError>
-    ensures { IfOk result (λ v. v.items ≡ quoted text.now) }
-{
-    let mut writer = Writer::new(Vec::new(alloc));
-    writer.string(text)?;
-    Ok(writer.into_inner())
-}
-
 /// Appends a word, and a text as compact JSON behind it.
 fn print_quoted(out: &mut Vec<u8>, word: &str, text: &str) -> Result<(), AllocError>
     ensures { OnOk result (out.new.items ≡ out.old.items ++ word.now ++ quoted text.now) }
 {
-    let text = quoted(out.allocator().clone()?, text)?;
-    said(out, word, &text)
+    out.extend_from_slice(word.as_bytes())?;
+    push_quoted(out, text)
 }
 
 /// Appends a row of a scan, as a JSON array of its key and value.

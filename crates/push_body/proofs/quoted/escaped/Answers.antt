@@ -1,7 +1,7 @@
 use Rattle.std.proofs.Common.{rules, ◌≡◌, ℕ, List, [], ◌++◌, ap₂, ◌∙◌}
 use Rattle.json.specs.Token.{string}
 use Rattle.push_body.proofs.Writings.{print-first}
-use Rattle.push_body.proofs.body.escaped.Goals as goal
+use Rattle.push_body.proofs.quoted.escaped.Goals as goal
 
 pub returns : goal.returns
 returns c =
