@@ -15,7 +15,7 @@ use Rattle.rebase.specs.declared.calls.Call.TheVariants as call
 use Rattle.rebase.specs.declared.tickets.Ticket.{Ticket}
 use Rattle.rebase.specs.declared.watching.Polled.{Polled}
 use Rattle.rebase.specs.Watching.{Watched}
-use Rattle.script_runner.specs.declared.script.Call.{Call as Mutation}
+use Rattle.script_runner.specs.declared.script.MutatorCall.{MutatorCall}
 use Rattle.script_runner.specs.declared.script.Command.{Command}
 use Rattle.script_runner.specs.declared.script.Command.TheVariants as command
 use Rattle.script_runner.specs.declared.script.Query.{Query}
@@ -46,7 +46,7 @@ Asks query.Push call.PushBody = ⊤
 Asks q other = ⊥
 
 -- the call that a mutation is
-abbrev pub AsksMutation : Mutation → Call → Type 0
+abbrev pub AsksMutation : MutatorCall → Call → Type 0
 AsksMutation m (call.Mutate n) = (n.name.now ≡ m.mutator) × (n.args.now ≡ m.args) × (n.time ≡ m.time)
 AsksMutation m other = ⊥
 

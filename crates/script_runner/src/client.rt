@@ -12,16 +12,16 @@ ghost use Rattle.script_runner.specs.Printing.{answer_text, polled_text, refresh
 ghost use Rattle.script_runner.specs.Inside.Printing.{reply_text};
 
 use crate::callers::Caller;
-use crate::reply::Reply;
+use crate::reply::Printed;
 use crate::script::{self, Command, Query};
 use group_history::{Refusal, Scan, Text, TextMap};
-use rebase::{Call, Mutate, Polled, Reply as Answer, Ticket};
+use rebase::{Call, Mutate, Polled, Reply, Ticket};
 use std::alloc::{AllocError, Global};
 use std::sync::Wait;
 
 /// A client of a script.
 #[derive(Drop)]
-pub(crate) struct Client<C: Drop> {
+pub(crate) struct ScriptClient<C: Drop> {
     alloc: Global,
     pub(crate) name: Text,
     pub(crate) caller: C,
@@ -29,12 +29,12 @@ pub(crate) struct Client<C: Drop> {
     tickets: TextMap<Ticket>,
 }
 
-impl<C: Caller + Drop> Client<C> {
-    pub(crate) fn new(alloc: Global, name: &Text, caller: C) -> Result<Client<C>, AllocError>
+impl<C: Caller + Drop> ScriptClient<C> {
+    pub(crate) fn new(alloc: Global, name: &Text, caller: C) -> Result<ScriptClient<C>, AllocError>
         ensures { IfOk result (λ client. player_of C.stands client
             ≡ record { name = name.now; standing = C.stands caller; tickets = finite.empty }) }
     {
-        Ok(Client {
+        Ok(ScriptClient {
             alloc,
             name: name.clone()?,
             caller,
@@ -43,7 +43,7 @@ impl<C: Caller + Drop> Client<C> {
     }
 
     /// Does a command. A refusal is a reply like any other. `seen` is what each client had seen when the phase began.
-    pub(crate) fn call<R: Wait>(&mut self, rt: &R, seen: &[C::Seen], command: &Command) -> Reply
+    pub(crate) fn call<R: Wait>(&mut self, rt: &R, seen: &[C::Seen], command: &Command) -> Printed
         requires { All (λ s. (C.seen_by s).book ≡ (C.stands self.old.caller).mark.book) seen.now }
         ensures told { MayPrint C.law (map C.seen_by seen.now) (player_of C.stands self.old) command.now
             (reply_text result) (player_of C.stands self.new) }
@@ -62,7 +62,7 @@ impl<C: Caller + Drop> Client<C> {
         }
     }
 
-    fn query<R: Wait>(&mut self, rt: &R, query: &Query) -> Reply
+    fn query<R: Wait>(&mut self, rt: &R, query: &Query) -> Printed
         ensures told { HandsOn C.law (Asks query.now) answer_text (player_of C.stands self.old) (reply_text result)
             (player_of C.stands self.new) }
         ensures name { self.new.name ≡ self.old.name }
@@ -72,7 +72,7 @@ impl<C: Caller + Drop> Client<C> {
     }
 
     /// A ticket whose name was given before is replaced, and where this is refused there is none of that name.
-    fn begin<R: Wait>(&mut self, rt: &R, name: &Text) -> Reply
+    fn begin<R: Wait>(&mut self, rt: &R, name: &Text) -> Printed
         ensures told { MayBegin C.law name.now (player_of C.stands self.old) (reply_text result)
             (player_of C.stands self.new) }
         ensures name { self.new.name ≡ self.old.name }
@@ -80,13 +80,13 @@ impl<C: Caller + Drop> Client<C> {
     {
         self.tickets.remove(name);
         match self.caller.call(rt, Call::BeginPull) {
-            Ok(Answer::Ticket(ticket)) => self.keep(name, ticket),
+            Ok(Reply::Ticket(ticket)) => self.keep(name, ticket),
             answer => reply_of(answer),
         }
     }
 
     /// Keeps a ticket, and hands its body on.
-    fn keep(&mut self, name: &Text, ticket: Ticket) -> Reply
+    fn keep(&mut self, name: &Text, ticket: Ticket) -> Printed
         ensures told { IsBegun self.old.tickets name.now (Ok (replied_ticket (asked ticket)))
             (reply_text result) self.new.tickets }
         ensures same { (self.new.name ≡ self.old.name) × (self.new.caller ≡ self.old.caller) }
@@ -97,15 +97,15 @@ impl<C: Caller + Drop> Client<C> {
             cookie,
         };
         let Ok(name) = name.clone() else {
-            return Reply::Refused(Refusal::NoMemory);
+            return Printed::Refused(Refusal::NoMemory);
         };
         match self.tickets.insert(name, kept) {
-            Ok(()) => Reply::Pull(body),
-            Err(_) => Reply::Refused(Refusal::NoMemory),
+            Ok(()) => Printed::Pull(body),
+            Err(_) => Printed::Refused(Refusal::NoMemory),
         }
     }
 
-    fn end<R: Wait>(&mut self, rt: &R, name: &Text, body: &Text) -> Reply
+    fn end<R: Wait>(&mut self, rt: &R, name: &Text, body: &Text) -> Printed
         ensures told { MayEnd C.law (finite.get self.old.tickets name.now) body.now (player_of C.stands self.old)
             (reply_text result) (player_of C.stands self.new) }
         ensures name { self.new.name ≡ self.old.name }
@@ -118,11 +118,11 @@ impl<C: Caller + Drop> Client<C> {
                         .call(rt, Call::EndPull(ticket, body.as_str().as_bytes())),
                 )
             }
-            None => Reply::NoTicket,
+            None => Printed::NoTicket,
         }
     }
 
-    fn mutate<R: Wait>(&mut self, rt: &R, call: &script::Call) -> Reply
+    fn mutate<R: Wait>(&mut self, rt: &R, call: &script::MutatorCall) -> Printed
         ensures told { HandsOn C.law (AsksMutation call.now) answer_text (player_of C.stands self.old)
             (reply_text result) (player_of C.stands self.new) }
         ensures name { self.new.name ≡ self.old.name }
@@ -136,35 +136,35 @@ impl<C: Caller + Drop> Client<C> {
         reply_of(self.caller.call(rt, Call::Mutate(asked)))
     }
 
-    fn refresh<R: Wait>(&mut self, rt: &R) -> Reply
+    fn refresh<R: Wait>(&mut self, rt: &R) -> Printed
         ensures told { HandsOn C.law (λ c. c ≡ call.Refresh) refreshed_text (player_of C.stands self.old)
             (reply_text result) (player_of C.stands self.new) }
         ensures name { self.new.name ≡ self.old.name }
         ensures group { (C.stands self.new.caller).mark.book ≡ (C.stands self.old.caller).mark.book }
     {
         let answer = self.caller.call(rt, Call::Refresh);
-        if let Ok(Answer::Id(id)) = &answer {
+        if let Ok(Reply::Id(id)) = &answer {
             let id = *id;
             drop(answer);
-            return Reply::Last(id);
+            return Printed::Last(id);
         }
         reply_of(answer)
     }
 
     /// A watch whose name was given before is replaced, and where this is refused there is none of that name.
-    fn watch(&mut self, name: &Text, scan: &Scan) -> Reply
+    fn watch(&mut self, name: &Text, scan: &Scan) -> Printed
         ensures told { MayWatch name.now scan.now (player_of C.stands self.old) (reply_text result)
             (player_of C.stands self.new) }
         ensures name { self.new.name ≡ self.old.name }
         ensures group { (C.stands self.new.caller).mark.book ≡ (C.stands self.old.caller).mark.book }
     {
         match self.caller.watch(name, scan) {
-            Ok(()) => Reply::Watching,
-            Err(_) => Reply::Refused(Refusal::NoMemory),
+            Ok(()) => Printed::Watching,
+            Err(_) => Printed::Refused(Refusal::NoMemory),
         }
     }
 
-    fn poll<R: Wait>(&mut self, rt: &R, name: &Text) -> Reply
+    fn poll<R: Wait>(&mut self, rt: &R, name: &Text) -> Printed
         ensures told { MayPoll C.law name.now (finite.get (C.stands self.old.caller).watches name.now)
             (player_of C.stands self.old) (reply_text result) (player_of C.stands self.new) }
         ensures name { self.new.name ≡ self.old.name }
@@ -172,11 +172,11 @@ impl<C: Caller + Drop> Client<C> {
     {
         match self.caller.poll(rt, name) {
             Some(polled) => polled_of(polled),
-            None => Reply::NoWatch,
+            None => Printed::NoWatch,
         }
     }
 
-    fn learn(&mut self, seen: &[C::Seen], place: usize) -> Reply
+    fn learn(&mut self, seen: &[C::Seen], place: usize) -> Printed
         requires { All (λ s. (C.seen_by s).book ≡ (C.stands self.old.caller).mark.book) seen.now }
         ensures told { MayLearn C.law (map C.seen_by seen.now) place (player_of C.stands self.old) (reply_text result)
             (player_of C.stands self.new) }
@@ -186,18 +186,18 @@ impl<C: Caller + Drop> Client<C> {
         if let Some(other) = seen.get(place) {
             self.caller.learn(other);
         }
-        Reply::Learnt
+        Printed::Learnt
     }
 }
 
 /// The reply of a line that polls.
-fn polled_of(polled: Result<Polled, Refusal>) -> Reply
+fn polled_of(polled: Result<Polled, Refusal>) -> Printed
     ensures { reply_text result ≡ polled_text polled }
 {
     match polled {
-        Ok(Polled::New(rows)) => Reply::New(rows),
-        Ok(Polled::Unchanged) => Reply::Unchanged,
-        Err(refusal) => Reply::Refused(refusal),
+        Ok(Polled::New(rows)) => Printed::New(rows),
+        Ok(Polled::Unchanged) => Printed::Unchanged,
+        Err(refusal) => Printed::Refused(refusal),
     }
 }
 
@@ -218,28 +218,28 @@ fn call_of(query: &Query) -> Call<'_>
 }
 
 /// The reply of a line that hands on what the group answered.
-fn reply_of(answer: Result<Answer, Refusal>) -> Reply
+fn reply_of(answer: Result<Reply, Refusal>) -> Printed
     ensures { reply_text result ≡ answer_text (told reply_seen answer) }
 {
     match answer {
         Ok(answer) => handed_on(answer),
-        Err(refusal) => Reply::Refused(refusal),
+        Err(refusal) => Printed::Refused(refusal),
     }
 }
 
-fn handed_on(answer: Answer) -> Reply
+fn handed_on(answer: Reply) -> Printed
     ensures { reply_text result ≡ replied_text (reply_seen answer) }
 {
     match answer {
-        Answer::Value(Some(value)) => Reply::Value(value),
-        Answer::Value(None) => Reply::Nothing,
-        Answer::Is(is) => Reply::Is(is),
-        Answer::Rows(rows) => Reply::Rows(rows),
-        Answer::Pending(pending) => Reply::Pending(pending),
-        Answer::Cookie(cookie) => Reply::Cookie(cookie),
-        Answer::Id(id) => Reply::Id(id),
-        Answer::Body(body) => Reply::Push(body),
-        Answer::Ticket(ticket) => Reply::Pull(ticket.body),
-        Answer::Ended(ended) => Reply::Ended(ended),
+        Reply::Value(Some(value)) => Printed::Value(value),
+        Reply::Value(None) => Printed::Nothing,
+        Reply::Is(is) => Printed::Is(is),
+        Reply::Rows(rows) => Printed::Rows(rows),
+        Reply::Pending(pending) => Printed::Pending(pending),
+        Reply::Cookie(cookie) => Printed::Cookie(cookie),
+        Reply::Id(id) => Printed::Id(id),
+        Reply::Body(body) => Printed::Push(body),
+        Reply::Ticket(ticket) => Printed::Pull(ticket.body),
+        Reply::Ended(ended) => Printed::Ended(ended),
     }
 }

@@ -8,7 +8,7 @@ ghost use Rattle.script_runner.specs.Inside.Parsing.{line_said};
 ghost use Rattle.script_runner.specs.Inside.Turns.{AreOf, IsPrinted, IsTold, IsTurn, lines_said, texts_of};
 
 use crate::callers::Caller;
-use crate::client::Client;
+use crate::client::ScriptClient;
 use crate::reply::print_line;
 use crate::script::Line;
 use std::alloc::{AllocError, Global};
@@ -23,7 +23,7 @@ pub trait Gate: Sync {
     fn after(&self, client: &str, line: u64);
 }
 
-impl<C: Caller + Drop> Client<C> {
+impl<C: Caller + Drop> ScriptClient<C> {
     /// Does the command of a line, between the questions to the gate, and appends what is printed of it.
     fn tell<R: Wait, G: Gate>(
         &mut self,
@@ -71,7 +71,7 @@ impl<C: Caller + Drop> Client<C> {
 /// A client, and what is printed of its part of a phase.
 #[derive(Drop)]
 pub(crate) struct Turn<C: Drop> {
-    pub(crate) client: Client<C>,
+    pub(crate) client: ScriptClient<C>,
     pub(crate) printed: Result<Vec<u8>, AllocError>,
 }
 

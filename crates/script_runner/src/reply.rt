@@ -11,9 +11,9 @@ use push_body::push_quoted;
 use rebase::Rows;
 use std::alloc::AllocError;
 
-/// The reply to a line.
+/// What is printed of the reply to a line.
 #[derive(Drop)]
-pub(crate) enum Reply {
+pub(crate) enum Printed {
     Value(Json),
     Nothing,
     Is(bool),
@@ -36,7 +36,7 @@ pub(crate) enum Reply {
     Refused(Refusal),
 }
 
-impl Reply {
+impl Printed {
     /// Appends the printed text: the word that says which reply it is, and behind it what it tells.
     pub(crate) fn print(&self, out: &mut Vec<u8>) -> Result<(), AllocError>
         ensures { OnOk result (out.new.items ≡ out.old.items ++ reply_text self.now) }
@@ -49,26 +49,26 @@ impl Reply {
         ensures { result.now ≡ reply_word self.now }
     {
         match self {
-            Reply::Value(_) => "value ",
-            Reply::Nothing => "none",
-            Reply::Is(true) => "yes",
-            Reply::Is(false) => "no",
-            Reply::Rows(_) => "rows ",
-            Reply::Pending(_) => "pending ",
-            Reply::Cookie(_) => "cookie ",
-            Reply::Push(_) => "push ",
-            Reply::Pull(_) => "pull ",
-            Reply::Ended(Ended::Applied) => "applied",
-            Reply::Ended(Ended::Same) => "same",
-            Reply::NoTicket => "no ticket",
-            Reply::Watching => "watching",
-            Reply::New(_) => "new ",
-            Reply::Unchanged => "unchanged",
-            Reply::NoWatch => "no watch",
-            Reply::Id(_) => "id ",
-            Reply::Last(_) => "last ",
-            Reply::Learnt => "learnt",
-            Reply::Refused(_) => "refused ",
+            Printed::Value(_) => "value ",
+            Printed::Nothing => "none",
+            Printed::Is(true) => "yes",
+            Printed::Is(false) => "no",
+            Printed::Rows(_) => "rows ",
+            Printed::Pending(_) => "pending ",
+            Printed::Cookie(_) => "cookie ",
+            Printed::Push(_) => "push ",
+            Printed::Pull(_) => "pull ",
+            Printed::Ended(Ended::Applied) => "applied",
+            Printed::Ended(Ended::Same) => "same",
+            Printed::NoTicket => "no ticket",
+            Printed::Watching => "watching",
+            Printed::New(_) => "new ",
+            Printed::Unchanged => "unchanged",
+            Printed::NoWatch => "no watch",
+            Printed::Id(_) => "id ",
+            Printed::Last(_) => "last ",
+            Printed::Learnt => "learnt",
+            Printed::Refused(_) => "refused ",
         }
     }
 
@@ -76,18 +76,20 @@ impl Reply {
         ensures { OnOk result (out.new.items ≡ out.old.items ++ reply_detail self.now) }
     {
         match self {
-            Reply::Value(json) => out.extend_from_slice(json.text().as_bytes()),
-            Reply::Rows(rows) => print_rows(rows, out),
-            Reply::New(rows) => print_rows(rows.as_slice(), out),
-            Reply::Pending(pending) => print_pending(pending, out),
-            Reply::Cookie(cookie) => out.extend_from_slice(cookie.text().as_bytes()),
-            Reply::Push(body) | Reply::Pull(body) => out.extend_from_slice(body),
-            Reply::Id(id) | Reply::Last(id) => print_number(out, "", *id),
-            Reply::Refused(refusal) => print_refusal(*refusal, out),
-            Reply::Nothing | Reply::Is(_) | Reply::Ended(_) | Reply::NoTicket | Reply::Learnt => Ok(
-                (),
-            ),
-            Reply::Watching | Reply::Unchanged | Reply::NoWatch => Ok(()),
+            Printed::Value(json) => out.extend_from_slice(json.text().as_bytes()),
+            Printed::Rows(rows) => print_rows(rows, out),
+            Printed::New(rows) => print_rows(rows.as_slice(), out),
+            Printed::Pending(pending) => print_pending(pending, out),
+            Printed::Cookie(cookie) => out.extend_from_slice(cookie.text().as_bytes()),
+            Printed::Push(body) | Printed::Pull(body) => out.extend_from_slice(body),
+            Printed::Id(id) | Printed::Last(id) => print_number(out, "", *id),
+            Printed::Refused(refusal) => print_refusal(*refusal, out),
+            Printed::Nothing
+            | Printed::Is(_)
+            | Printed::Ended(_)
+            | Printed::NoTicket
+            | Printed::Learnt => Ok(()),
+            Printed::Watching | Printed::Unchanged | Printed::NoWatch => Ok(()),
         }
     }
 }
@@ -229,7 +231,7 @@ pub(crate) fn print_line(
     out: &mut Vec<u8>,
     number: u64,
     name: &str,
-    reply: &Reply,
+    reply: &Printed,
 ) -> Result<(), AllocError>
     ensures { OnOk result (out.new.items ≡ out.old.items ++ line_text number name.now (reply_text reply.now)) }
 {

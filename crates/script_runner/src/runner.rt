@@ -14,7 +14,7 @@ ghost use Rattle.script_runner.specs.Inside.Players.{player_of, players_of, stan
 ghost use Rattle.script_runner.specs.Inside.Turns.{AreOf, IsPrinted, texts_of};
 
 use crate::callers::{Caller, TRIES};
-use crate::client::Client;
+use crate::client::ScriptClient;
 use crate::faults::Fault;
 use crate::phase::{Gate, Turn, run_phase};
 use crate::plain::{Plain, PlainClient};
@@ -140,7 +140,7 @@ fn turn_of<C: Caller + Drop>(alloc: Global, name: &Text, caller: C) -> Result<Tu
     ensures { IfOk result (λ turn. player_of C.stands turn.client
         ≡ record { name = name.now; standing = C.stands caller; tickets = finite.empty }) }
 {
-    let client = Client::new(alloc, name, caller)?;
+    let client = ScriptClient::new(alloc, name, caller)?;
     Ok(Turn {
         client,
         printed: Ok(Vec::new(alloc)),

@@ -75,7 +75,7 @@ pub(crate) enum Command {
     Begin(Text),
     /// End the pull of the ticket of this name, with this body.
     End(Text, Text),
-    Mutate(Call),
+    Mutate(MutatorCall),
     /// Read the client's last id anew.
     Refresh,
     /// Learn what another client has seen, the one at this place.
@@ -88,7 +88,7 @@ pub(crate) enum Command {
 
 /// A call of a mutator.
 #[derive(Drop)]
-pub(crate) struct Call {
+pub(crate) struct MutatorCall {
     /// In milliseconds, below 2^53.
     pub(crate) time: u64,
     pub(crate) mutator: Text,
@@ -523,7 +523,7 @@ impl Parser {
         let time = number(time, 0, LATEST_TIME)?;
         let args = json(self.alloc, args)?;
         let mutator = Text::new(self.alloc, mutator)?;
-        Ok(Command::Mutate(Call {
+        Ok(Command::Mutate(MutatorCall {
             time,
             mutator,
             args,

@@ -2,7 +2,7 @@
 use Rattle.std.specs.Prelude.{List, map}
 use Rattle.rebase.specs.Calls.{caller}
 use Rattle.script_runner.specs.declared.shared.SharedClient.{SharedClient}
-use Rattle.script_runner.specs.declared.client.Client.{Client}
+use Rattle.script_runner.specs.declared.client.ScriptClient.{ScriptClient}
 use Rattle.script_runner.specs.declared.phase.Turn.{Turn}
 use Rattle.script_runner.specs.declared.plain.PlainClient.{PlainClient}
 use Rattle.script_runner.specs.Callers.{Standing, plain_standing}
@@ -20,7 +20,7 @@ standing_of c = record {
 abbrev pub standing_of_plain : PlainClient → Standing
 standing_of_plain c = plain_standing c.id c.last c.watches
 
-abbrev pub player_of : {C : Type 0} → (C → Standing) → Client C → Player
+abbrev pub player_of : {C : Type 0} → (C → Standing) → ScriptClient C → Player
 player_of stands c = record { name = c.name; standing = stands c.caller; tickets = c.tickets }
 
 abbrev pub players_of : {C : Type 0} → (C → Standing) → List (Turn C) → List Player

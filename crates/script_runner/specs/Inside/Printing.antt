@@ -1,13 +1,13 @@
 -- A reply of the code, as it is printed: a word, and what it tells.
 use Rattle.std.specs.Prelude.{[], ◌++◌, map, codes, decimal}
 use Rattle.group_history.specs.Map.{Bytes}
-use Rattle.script_runner.specs.declared.reply.Reply.{Reply}
-use Rattle.script_runner.specs.declared.reply.Reply.TheVariants as reply
+use Rattle.script_runner.specs.declared.reply.Printed.{Printed}
+use Rattle.script_runner.specs.declared.reply.Printed.TheVariants as reply
 use Rattle.script_runner.specs.Printing.{array_text, bool_text, ended_text, pending_row, refusal_detail, refusal_name}
 use Rattle.script_runner.specs.Printing.{row_text}
 
 -- the word that says which reply it is
-abbrev pub reply_word : Reply → Bytes
+abbrev pub reply_word : Printed → Bytes
 reply_word (reply.Value json) = codes "value "
 reply_word reply.Nothing = codes "none"
 reply_word (reply.Is is) = bool_text is
@@ -28,7 +28,7 @@ reply_word reply.Learnt = codes "learnt"
 reply_word (reply.Refused e) = codes "refused "
 
 -- what it tells
-abbrev pub reply_detail : Reply → Bytes
+abbrev pub reply_detail : Printed → Bytes
 reply_detail (reply.Value json) = json
 reply_detail (reply.Rows rs) = array_text (map row_text rs.items)
 reply_detail (reply.New rs) = array_text (map row_text rs)
@@ -42,5 +42,5 @@ reply_detail (reply.Refused e) = refusal_name e ++ refusal_detail e
 reply_detail r = []
 
 -- a reply
-abbrev pub reply_text : Reply → Bytes
+abbrev pub reply_text : Printed → Bytes
 reply_text said = reply_word said ++ reply_detail said

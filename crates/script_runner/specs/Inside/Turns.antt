@@ -9,7 +9,7 @@ use Rattle.group_history.specs.Map.{Bytes}
 use Rattle.head_word.specs.Marks.{Known}
 use Rattle.rebase.specs.Replies.{Replied}
 use Rattle.rebase.specs.declared.calls.Call.{Call}
-use Rattle.script_runner.specs.declared.client.Client.{Client}
+use Rattle.script_runner.specs.declared.client.ScriptClient.{ScriptClient}
 use Rattle.script_runner.specs.declared.phase.Turn.{Turn}
 use Rattle.script_runner.specs.declared.script.Line.{Line}
 use Rattle.script_runner.specs.declared.script.Command.{Command}
@@ -51,7 +51,7 @@ module _ (law : Rules) where
     pub text : new ≡ old ++ line_text l.0 before.name told
 
   -- a client's part of a phase, where memory wasn't refused
-  pub record IsTurn {C : Type 0} (stands : C → Standing) (seen : List Known) (lines : List Line) (before : Client C)
+  pub record IsTurn {C : Type 0} (stands : C → Standing) (seen : List Known) (lines : List Line) (before : ScriptClient C)
       (after : Turn C) : Type 0 where
     pub told : IfOk after.printed (λ text. AreTold law seen (player_of stands before) (map line_said lines) text.items
         (player_of stands after.client))

@@ -5,7 +5,7 @@ use Rattle.rebase.specs.Replies.{reply_seen, ticket}
 use Rattle.rebase.specs.declared.calls.Call.TheVariants as call
 use Rattle.script_runner.specs.Commanding.{IsBegun}
 use Rattle.script_runner.specs.Inside.Printing.{reply_text}
-use Rattle.script_runner.proofs.client.Client.begin.Goals as goal
+use Rattle.script_runner.proofs.client.ScriptClient.begin.Goals as goal
 
 pub returns-in-Ok-Ticket-clause-told : goal.returns-in-Ok-Ticket-clause-told
 returns-in-Ok-Ticket-clause-told g c =

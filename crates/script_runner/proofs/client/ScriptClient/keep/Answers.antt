@@ -1,7 +1,7 @@
 use Rattle.std.proofs.Common.{inl, refl, ap, ◌∙◌}
 use Rattle.std.specs.FinMap as finite
 use Rattle.rebase.specs.declared.tickets.Ticket.{Ticket}
-use Rattle.script_runner.proofs.client.Client.keep.Goals as goal
+use Rattle.script_runner.proofs.client.ScriptClient.keep.Goals as goal
 
 pub returns-in-Ok-insert-clause-told : goal.returns-in-Ok-insert-clause-told
 returns-in-Ok-insert-clause-told g c =

@@ -2,7 +2,7 @@ use Rattle.std.proofs.Common.{◌≡◌, map, take}
 use Rattle.script_runner.specs.Phases.{AreTold}
 use Rattle.script_runner.specs.Inside.Parsing.{line_said}
 use Rattle.script_runner.specs.Inside.Players.{player_of}
-use Rattle.script_runner.proofs.client.Client.tell_all.Given as goal
+use Rattle.script_runner.proofs.client.ScriptClient.tell_all.Given as goal
 
 abbrev pub invariant-loop-line : goal.invariant-loop-line
 invariant-loop-line g l =

@@ -1,7 +1,7 @@
 use Rattle.std.proofs.Common.{◌∙◌, sym, map}
 use Rattle.script_runner.specs.Inside.Players.{player_of}
 use Rattle.script_runner.proofs.Turns.{line-more}
-use Rattle.script_runner.proofs.client.Client.tell_all.Goals as goal
+use Rattle.script_runner.proofs.client.ScriptClient.tell_all.Goals as goal
 
 pub loop-line-preserved : goal.loop-line-preserved
 loop-line-preserved g c =
