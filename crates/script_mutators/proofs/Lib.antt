@@ -1,1 +1,4 @@
+pub mod Cuts
+pub mod Digits
 pub mod MutatorArguments
+pub mod PlainTexts

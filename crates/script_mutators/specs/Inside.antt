@@ -1,2 +1,3 @@
--- Words that only private clauses of this crate use: what a mutator means once its arguments are read.
+-- Words that only private clauses of this crate use: which value arguments are, and what a mutator means at them.
+pub mod Arguments
 pub mod Mutators

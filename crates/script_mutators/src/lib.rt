@@ -4,6 +4,9 @@
 //! `WriteView`. The runner of scripts uses them, and so do the tests of groups.
 #![tactic(auto)]
 
+mod arguments;
 mod mutators;
+mod plain;
+mod values;
 
 pub use mutators::ScriptMutators;

@@ -3,22 +3,23 @@
 //! Each takes a JSON array as its arguments, and refuses with a code where they are wrong or where the
 //! value at the key doesn't suit. `tag` alone looks at the reason. What each means is a definition in
 //! `specs/Mutators`, and the clause `ran` of its function says that it is run as that, over any view.
-ghost use Rattle.std.specs.Prelude.{◌≡◌, ◌≤◌, ◌⊎◌, false, Some, IfOk, IfErr, OnOk, option_map, option_and_then};
-ghost use Rattle.std.specs.Prelude.{string_bytes};
+ghost use Rattle.std.specs.Prelude.{◌≡◌, ◌≤◌, ◌⊎◌, false, Some, IfOk, IfErr, OnOk};
 ghost use Rattle.std.specs.Fmt.{signed_decimal};
 ghost use Rattle.std.specs.FinMap as finite;
-ghost use Rattle.serde_json.specs.Data.{depth, string};
-ghost use Rattle.serde_json.specs.Find.{as_str};
-ghost use Rattle.serde_json.specs.View.{view as data_of};
-ghost use Rattle.serde_json.specs.Written.{has_float, compact_text};
+ghost use Rattle.serde_json.specs.Data.{depth};
+ghost use Rattle.serde_json.specs.Written.{has_float};
 ghost use Rattle.group_history.specs.Ran.{RunsAs};
 ghost use Rattle.group_history.specs.declared.mutators.Stop.TheVariants.{NoMemory};
 ghost use Rattle.script_mutators.specs.Mutators as spec;
+ghost use Rattle.script_mutators.specs.Inside.Arguments.{args_value};
 ghost use Rattle.script_mutators.specs.Inside.Mutators.{meaning_at};
 
-use group_history::{Json, Means, Mutators, Ran, Reason, Refusal, Stop, WriteView};
-use serde_json::Value;
-use std::alloc::{AllocError, Global};
+use crate::arguments::{
+    Args, args_of, json_of, text_alone, text_and_number, text_and_text, text_and_value,
+};
+use crate::values::{decimal, number_in, quoted, text_there};
+use group_history::{Json, Means, Mutators, Ran, Reason, Stop, WriteView};
+use std::alloc::Global;
 
 /// The mutators of scripts. Any name but theirs is unknown.
 #[derive(Clone, Copy, Debug)]
@@ -38,7 +39,7 @@ impl Mutators for ScriptMutators {
         why: Reason,
         view: &mut V,
     ) -> Result<Ran, Stop> {
-        let args = value_of(alloc, args)?;
+        let args = args_of(alloc, args)?;
         run_named(alloc, name, &args, why, view)
     }
 }
@@ -48,14 +49,14 @@ impl Mutators for ScriptMutators {
 fn run_named<V: WriteView>(
     alloc: Global,
     name: &str,
-    args: &Value,
+    args: &Args<'_>,
     why: Reason,
     view: &mut V,
 ) -> Result<Ran, Stop>
-    requires shallow { depth (data_of args.now) ≤ 124 }
-    requires whole { has_float (data_of args.now) ≡ false }
+    requires shallow { depth (args_value args.now) ≤ 124 }
+    requires whole { has_float (args_value args.now) ≡ false }
     ensures ran { IfOk result (λ ran. RunsAs
-        (meaning_at (spec.mutator_of name.now why) (data_of args.now) (V.contents view.old)) ran
+        (meaning_at (spec.mutator_of name.now why) (args_value args.now) (V.contents view.old)) ran
         (V.contents view.new)) }
     ensures stopped { IfErr result (λ stop. (stop ≡ NoMemory) ⊎ V.stops stop) }
 {
@@ -91,24 +92,24 @@ const OUT_OF_RANGE: u32 = 4;
 
 /// Puts the value at the key.
 #[tactic(auto, unfolding(crate::specs::Mutators::set_means))]
-fn set<V: WriteView>(alloc: Global, args: &Value, view: &mut V) -> Result<Ran, Stop>
-    requires shallow { depth (data_of args.now) ≤ 124 }
-    requires whole { has_float (data_of args.now) ≡ false }
-    ensures ran { IfOk result (λ ran. RunsAs (spec.set_means (data_of args.now) (V.contents view.old)) ran
+fn set<V: WriteView>(alloc: Global, args: &Args<'_>, view: &mut V) -> Result<Ran, Stop>
+    requires shallow { depth (args_value args.now) ≤ 124 }
+    requires whole { has_float (args_value args.now) ≡ false }
+    ensures ran { IfOk result (λ ran. RunsAs (spec.set_means (args_value args.now) (V.contents view.old)) ran
         (V.contents view.new)) }
     ensures stopped { IfErr result (λ stop. (stop ≡ NoMemory) ⊎ V.stops stop) }
 {
     let Some((key, value)) = text_and_value(args) else {
         return Ok(Ran::Refused(WRONG_ARGUMENTS));
     };
-    view.put(key, &Json::of_whole(alloc, value)?)?;
+    view.put(key, &json_of(alloc, value)?)?;
     Ok(Ran::Done)
 }
 
 /// Raises the number at the key, which has to be there.
 #[tactic(auto, unfolding(crate::specs::Mutators::incr_means))]
-fn incr<V: WriteView>(alloc: Global, args: &Value, view: &mut V) -> Result<Ran, Stop>
-    ensures ran { IfOk result (λ ran. RunsAs (spec.incr_means (data_of args.now) (V.contents view.old)) ran
+fn incr<V: WriteView>(alloc: Global, args: &Args<'_>, view: &mut V) -> Result<Ran, Stop>
+    ensures ran { IfOk result (λ ran. RunsAs (spec.incr_means (args_value args.now) (V.contents view.old)) ran
         (V.contents view.new)) }
     ensures stopped { IfErr result (λ stop. (stop ≡ NoMemory) ⊎ V.stops stop) }
 {
@@ -118,7 +119,7 @@ fn incr<V: WriteView>(alloc: Global, args: &Value, view: &mut V) -> Result<Ran, 
     let Some(there) = view.get(key)? else {
         return Ok(Ran::Refused(KEY_NOT_THERE));
     };
-    let Some(number) = number_in(alloc, there)? else {
+    let Some(number) = number_in(alloc, &there)? else {
         return Ok(Ran::Refused(OTHER_KIND));
     };
     let Some(sum) = sum_of(number, by) else {
@@ -140,8 +141,8 @@ fn put_number<V: WriteView>(alloc: Global, view: &mut V, key: &str, number: i64)
 
 /// Takes the key away, which needn't be there.
 #[tactic(auto, unfolding(crate::specs::Mutators::del_means))]
-fn del<V: WriteView>(args: &Value, view: &mut V) -> Result<Ran, Stop>
-    ensures ran { IfOk result (λ ran. RunsAs (spec.del_means (data_of args.now) (V.contents view.old)) ran
+fn del<V: WriteView>(args: &Args<'_>, view: &mut V) -> Result<Ran, Stop>
+    ensures ran { IfOk result (λ ran. RunsAs (spec.del_means (args_value args.now) (V.contents view.old)) ran
         (V.contents view.new)) }
     ensures stopped { IfErr result (λ stop. (stop ≡ NoMemory) ⊎ V.stops stop) }
 {
@@ -154,8 +155,8 @@ fn del<V: WriteView>(args: &Value, view: &mut V) -> Result<Ran, Stop>
 
 /// Lets a text follow the text at the key.
 #[tactic(auto, unfolding(crate::specs::Mutators::append_means))]
-fn append<V: WriteView>(alloc: Global, args: &Value, view: &mut V) -> Result<Ran, Stop>
-    ensures ran { IfOk result (λ ran. RunsAs (spec.append_means (data_of args.now) (V.contents view.old)) ran
+fn append<V: WriteView>(alloc: Global, args: &Args<'_>, view: &mut V) -> Result<Ran, Stop>
+    ensures ran { IfOk result (λ ran. RunsAs (spec.append_means (args_value args.now) (V.contents view.old)) ran
         (V.contents view.new)) }
     ensures stopped { IfErr result (λ stop. (stop ≡ NoMemory) ⊎ V.stops stop) }
 {
@@ -167,8 +168,8 @@ fn append<V: WriteView>(alloc: Global, args: &Value, view: &mut V) -> Result<Ran
 
 /// Lets the text of the reason follow the text at the key.
 #[tactic(auto, unfolding(crate::specs::Mutators::tag_means))]
-fn tag<V: WriteView>(alloc: Global, args: &Value, why: Reason, view: &mut V) -> Result<Ran, Stop>
-    ensures ran { IfOk result (λ ran. RunsAs (spec.tag_means why (data_of args.now) (V.contents view.old)) ran
+fn tag<V: WriteView>(alloc: Global, args: &Args<'_>, why: Reason, view: &mut V) -> Result<Ran, Stop>
+    ensures ran { IfOk result (λ ran. RunsAs (spec.tag_means why (args_value args.now) (V.contents view.old)) ran
         (V.contents view.new)) }
     ensures stopped { IfErr result (λ stop. (stop ≡ NoMemory) ⊎ V.stops stop) }
 {
@@ -215,116 +216,10 @@ fn followed(alloc: Global, there: Option<Json>, added: &str) -> Result<Option<Js
     Ok(Some(quoted(alloc, text)?))
 }
 
-/// Arguments that are one text.
-#[tactic(auto, using(crate::proofs::MutatorArguments::one_item_other), unfolding(crate::specs::Mutators::text_alone))]
-fn text_alone(args: &Value) -> Option<&str>
-    ensures { option_map (λ s. s.now) result ≡ spec.text_alone (data_of args.now) }
-{
-    let items = args.as_array()?;
-    if items.len() != 1 {
-        return None;
-    }
-    items[0].as_str()
-}
-
-/// Arguments that are a text and any value.
-#[tactic(auto, using(crate::proofs::MutatorArguments::two_items_other), unfolding(crate::specs::Mutators::text_and_value))]
-fn text_and_value(args: &Value) -> Option<(&str, &Value)>
-    ensures { option_map (λ both. (both.0.now, data_of both.1.now)) result ≡ spec.text_and_value (data_of args.now) }
-{
-    let items = args.as_array()?;
-    if items.len() != 2 {
-        return None;
-    }
-    Some((items[0].as_str()?, &items[1]))
-}
-
-/// Arguments that are a text and a number.
-#[tactic(auto, unfolding(crate::specs::Mutators::text_and_number))]
-fn text_and_number(args: &Value) -> Option<(&str, i64)>
-    ensures { option_map (λ both. (both.0.now, both.1)) result ≡ spec.text_and_number (data_of args.now) }
-{
-    let (text, value) = text_and_value(args)?;
-    Some((text, value.as_i64()?))
-}
-
-/// Arguments that are two texts.
-#[tactic(auto, unfolding(crate::specs::Mutators::text_and_text))]
-fn text_and_text(args: &Value) -> Option<(&str, &str)>
-    ensures { option_map (λ both. (both.0.now, both.1.now)) result ≡ spec.text_and_text (data_of args.now) }
-{
-    let (text, value) = text_and_value(args)?;
-    Some((text, value.as_str()?))
-}
-
-/// The value that a JSON text is.
-fn value_of(alloc: Global, json: &Json) -> Result<Value, Stop>
-    ensures value { IfOk result (λ v. spec.value_of json.now ≡ Some (data_of v)) }
-    ensures shallow { IfOk result (λ v. depth (data_of v) ≤ 124) }
-    ensures whole { IfOk result (λ v. has_float (data_of v) ≡ false) }
-    ensures stopped { IfErr result (λ stop. stop ≡ NoMemory) }
-{
-    match json.value(alloc) {
-        Ok(value) => Ok(value),
-        Err(refusal) => {
-            let is_memory = refusal == Refusal::NoMemory;
-            prove!(is_memory);
-            Err(Stop::NoMemory)
-        }
-    }
-}
-
-/// The number that a JSON text is, where it is one from -2^63 to 2^63 - 1.
-fn number_in(alloc: Global, json: Json) -> Result<Option<i64>, Stop>
-    ensures ok { IfOk result (λ number. number ≡ option_and_then spec.number_of (spec.value_of json)) }
-    ensures stopped { IfErr result (λ stop. stop ≡ NoMemory) }
-{
-    let value = value_of(alloc, &json)?;
-    Ok(value.as_i64())
-}
-
-/// A copy of the text that is there, the empty one where nothing is; `None` where it is no text.
-#[tactic(auto, unfolding(crate::specs::Mutators::text_there))]
-fn text_there(alloc: Global, there: Option<Json>) -> Result<Option<String>, Stop>
-    ensures ok { IfOk result (λ text. option_map string_bytes text ≡ spec.text_there there) }
-    ensures stopped { IfErr result (λ stop. stop ≡ NoMemory) }
-{
-    let Some(there) = there else {
-        return Ok(Some(String::new(alloc)));
-    };
-    text_in(alloc, there)
-}
-
-/// A copy of the text that a JSON text is, where it is one.
-fn text_in(alloc: Global, json: Json) -> Result<Option<String>, Stop>
-    ensures ok { IfOk result (λ text. option_map string_bytes text ≡ option_and_then as_str (spec.value_of json)) }
-    ensures stopped { IfErr result (λ stop. stop ≡ NoMemory) }
-{
-    let value = value_of(alloc, &json)?;
-    match value.as_str() {
-        Some(text) => Ok(Some(String::from_str(alloc, text)?)),
-        None => Ok(None),
-    }
-}
-
 /// The sum, where it is from -2^63 to 2^63 - 1.
 #[tactic(auto, unfolding(crate::specs::Mutators::sum_of))]
 fn sum_of(number: i64, by: i64) -> Option<i64>
     ensures { result ≡ spec.sum_of number by }
 {
     number.checked_add(by)
-}
-
-/// The JSON text of a number.
-fn decimal(alloc: Global, number: i64) -> Result<Json, AllocError>
-    ensures { IfOk result (λ json. json ≡ signed_decimal number) }
-{
-    Json::of_whole(alloc, &Value::from(number))
-}
-
-/// The JSON text of a text.
-fn quoted(alloc: Global, text: String) -> Result<Json, AllocError>
-    ensures { IfOk result (λ json. json ≡ compact_text (string (string_bytes text))) }
-{
-    Json::of_whole(alloc, &Value::String(text))
 }
