@@ -12,9 +12,15 @@ use std::marker::Model;
 use std::sync::Arc;
 
 /// Each client's confirmed id. A clone shares them.
-#[derive(Drop)]
 pub struct ConfirmedIds {
     shared: Arc<TextMap<u64>>,
+}
+
+impl Drop for ConfirmedIds {
+    fn drop(self) {
+        let ConfirmedIds { shared } = self;
+        drop(shared);
+    }
 }
 
 impl Model for ConfirmedIds {

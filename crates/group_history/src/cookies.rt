@@ -21,11 +21,20 @@ use std::cmp::Ordering;
 use std::marker::Model;
 
 /// What a cookie is compared by: null is below every number, and every number below every text.
-#[derive(Clone, Drop)]
+#[derive(Clone)]
 pub enum Order {
     Null,
     Number(i128),
     Text(Text),
+}
+
+impl Drop for Order {
+    fn drop(self) {
+        match self {
+            Order::Null | Order::Number(_) => {}
+            Order::Text(text) => drop(text),
+        }
+    }
 }
 
 impl PartialEq for Order {
@@ -75,10 +84,18 @@ impl Ord for Order {
 }
 
 /// A cookie. It may nest 126 deep, since it stands in a body that nests 127, so it is no `Json`.
-#[derive(Clone, Drop)]
+#[derive(Clone)]
 pub struct Cookie {
     text: Text,
     order: Order,
+}
+
+impl Drop for Cookie {
+    fn drop(self) {
+        let Cookie { text, order } = self;
+        drop(text);
+        drop(order);
+    }
 }
 
 impl Model for Cookie {

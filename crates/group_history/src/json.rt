@@ -23,9 +23,15 @@ use std::marker::Model;
 
 /// The compact text of a JSON value with whole numbers alone, nested at most 124 deep. A clone copies
 /// no bytes.
-#[derive(Drop)]
 pub struct Json {
     compact: Text,
+}
+
+impl Drop for Json {
+    fn drop(self) {
+        let Json { compact } = self;
+        drop(compact);
+    }
 }
 
 impl Model for Json {

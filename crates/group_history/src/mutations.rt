@@ -18,7 +18,7 @@ pub enum Reason {
 
 /// A mutation that a client made and the server has not confirmed. Its fields are those of the Push
 /// Endpoint Reference, version 1, and the reason with which it is replayed, which no request shows.
-#[derive(Clone, Drop)]
+#[derive(Clone)]
 pub struct Mutation {
     /// The client's ID.
     pub client: Text,
@@ -31,6 +31,22 @@ pub struct Mutation {
     pub timestamp: u64,
     /// Initial until a pull is applied under it.
     pub reason: Reason,
+}
+
+impl Drop for Mutation {
+    fn drop(self) {
+        let Mutation {
+            client,
+            id: _,
+            name,
+            args,
+            timestamp: _,
+            reason: _,
+        } = self;
+        drop(client);
+        drop(name);
+        drop(args);
+    }
 }
 
 impl Mutation {

@@ -15,9 +15,15 @@ use std::marker::Model;
 use std::sync::Arc;
 
 /// The keys of a chunk: at most 16, in strict order of their bytes.
-#[derive(Drop)]
 pub struct Keys {
     texts: Vec<Text>,
+}
+
+impl Drop for Keys {
+    fn drop(self) {
+        let Keys { texts } = self;
+        drop(texts);
+    }
 }
 
 impl Model for Keys {

@@ -42,12 +42,19 @@ impl Eq for Patch {
 }
 
 /// Up to which id a client's mutations are confirmed (Pull Endpoint Reference, "lastMutationIDChanges").
-#[derive(Clone, Drop)]
+#[derive(Clone)]
 pub struct Confirmed {
     /// The client's ID.
     pub client: Text,
     /// From 0 to 2^52.
     pub id: u64,
+}
+
+impl Drop for Confirmed {
+    fn drop(self) {
+        let Confirmed { client, id: _ } = self;
+        drop(client);
+    }
 }
 
 impl PartialEq for Confirmed {
@@ -65,11 +72,23 @@ impl Eq for Confirmed {
 }
 
 /// A response without an error. Each of its ids is from 0 to 2^52.
-#[derive(Drop)]
 pub struct PullOk {
     cookie: Cookie,
     changes: Vec<Confirmed>,
     patch: Vec<Patch>,
+}
+
+impl Drop for PullOk {
+    fn drop(self) {
+        let PullOk {
+            cookie,
+            changes,
+            patch,
+        } = self;
+        drop(cookie);
+        drop(changes);
+        drop(patch);
+    }
 }
 
 impl Model for PullOk {

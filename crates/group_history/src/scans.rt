@@ -5,7 +5,6 @@ use crate::texts::Text;
 use std::alloc::AllocError;
 
 /// Where a scan begins.
-#[derive(Drop)]
 pub enum Start {
     /// At the first key.
     Any,
@@ -15,13 +14,33 @@ pub enum Start {
     After(Text),
 }
 
+impl Drop for Start {
+    fn drop(self) {
+        match self {
+            Start::Any => {}
+            Start::At(key) | Start::After(key) => drop(key),
+        }
+    }
+}
+
 /// A scan: the keys that begin with the prefix, from the start on, in the order of their bytes, and of
 /// these the first `limit` where there is one.
-#[derive(Drop)]
 pub struct Scan {
     pub prefix: Text,
     pub start: Start,
     pub limit: Option<u64>,
+}
+
+impl Drop for Scan {
+    fn drop(self) {
+        let Scan {
+            prefix,
+            start,
+            limit: _,
+        } = self;
+        drop(prefix);
+        drop(start);
+    }
 }
 
 impl Clone for Start {

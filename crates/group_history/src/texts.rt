@@ -1,12 +1,11 @@
-//! A text that is shared and never changes: the key of a map, a client's name, a mutator's name.
+//! A text that never changes and is cheap to clone: the key of a map, a client's name, a mutator's name.
 //!
 //! Contracts see a `Text` as the list of its UTF-8 bytes, so two texts are equal where their bytes are,
 //! and they are ordered by their bytes. How a text is kept goes by its length alone: a short one lies in the
 //! `Text`, a middling one in one shared block, and a long one is a shared `String`.
 ghost use Rattle.std.specs.Prelude.{◌≡◌, ◌≤◌, length, Some, IfOk, nat_eq, string_bytes};
 ghost use Rattle.std.specs.Cmp as laws;
-ghost use Rattle.std.specs.Cmp.Lexicographic.{slice_cmp, pointwise, nat_list_eq_equiv, nat_list_cmp_total, texts_ties};
-ghost use Rattle.std.specs.Cmp.Lexicographic.{texts_po};
+ghost use Rattle.std.specs.Cmp.Lexicographic.{slice_cmp, pointwise, nat_list_eq_equiv, nat_list_cmp_total, texts_ties, texts_po};
 ghost use Rattle.std.specs.Ordering.{nat_cmp};
 ghost use Rattle.std.proofs.Common.{refl};
 
@@ -103,7 +102,7 @@ impl Text {
 }
 
 impl Drop for Text {
-    #[inline(always)]
+    #[inline]
     fn drop(self) {
         let Text { kept } = self;
         match kept {

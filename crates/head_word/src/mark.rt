@@ -23,9 +23,15 @@ pub struct Seat {
 }
 
 /// What a mark has seen, without a seat. It has no bytes, so a store keeps one beside each node.
-#[derive(Drop)]
 pub struct Sight<M: Means> {
     seen: Seen<Entry, Answer, Law<M>>,
+}
+
+impl<M: Means> Drop for Sight<M> {
+    fn drop(self) {
+        let Sight { seen } = self;
+        drop(seen);
+    }
 }
 
 impl<M: Means> Model for Sight<M> {
@@ -55,10 +61,17 @@ impl<M: Means> Sight<M> {
 }
 
 /// A beginning of the book that was seen, and a seat, where the mark has one.
-#[derive(Drop)]
 pub struct Mark<M: Means> {
     pub(crate) seen: Seen<Entry, Answer, Law<M>>,
     pub(crate) seat: Option<Seat>,
+}
+
+impl<M: Means> Drop for Mark<M> {
+    fn drop(self) {
+        let Mark { seen, seat } = self;
+        drop(seen);
+        drop(seat);
+    }
 }
 
 impl<M: Means> Model for Mark<M> {

@@ -3,7 +3,7 @@ ghost use Rattle.std.specs.Prelude.{◌≡◌, ◌≤◌, ◌<◌, length, take,
 
 use std::str;
 
-/// The first `len` bytes are the text; the others are zero.
+/// The first `len` bytes are the text. What the others are is seen by no clause.
 #[derive(Clone, Copy)]
 pub(super) struct Packed<const N: usize> {
     len: u8,
