@@ -561,6 +561,7 @@ fn is_through(storm: &Storm) -> bool {
 #[test]
 fn five_threads_get_through_with_few_slots(rt: HostRuntime) -> Result<(), Refusal> {
     let storm = storm_in_new::<HostRuntime, Arena<ScriptMutators>>(&rt, rt.alloc(), ())?;
-    assert!(rt; is_through(&storm), "{storm:?}");
+    let _ = println!(rt; "{storm:?}");
+    assert!(rt; is_through(&storm), "the storm did not get through");
     Ok(())
 }
