@@ -57,7 +57,7 @@ where
 {
     let name = Text::new(alloc, name)?;
     let args = Json::read(alloc, args.as_bytes())?;
-    Ok(Told::Id(client.try_mutate(&name, &args, 1000, tries)?))
+    client.try_mutate(&name, &args, 1000, tries).map(Told::Id)
 }
 
 pub(super) fn ends<S: Store<ScriptMutators>>(
@@ -253,7 +253,9 @@ where
 {
     let before = sees_again(client, all)?;
     let answer = tells(alloc, client, old, asks);
-    Ok((answer, sees_same(client, &before, all)?))
+    let same = sees_same(client, &before, all);
+    drop(before);
+    Ok((answer, same?))
 }
 
 // The same, once more where memory was refused and all is as it was.
