@@ -3,9 +3,7 @@ use Rattle.std.proofs.Common.{◌≡◌, ℕ, suc, ◌≤◌, List, [], Bool, tr
 use Rattle.std.proofs.Common.{Err, max, refl, sym, ap, ap₂, ◌∙◌, arith, append-nil, IsUtf8}
 use Rattle.std.specs.Str.{is_utf8}
 use Rattle.json.specs.Token.{Token}
-use Rattle.json.specs.Json as json
 use Rattle.json.specs.Json.{Json, value}
-use Rattle.json.specs.Lex.{tokens}
 use Rattle.json.specs.Print.{print}
 use Rattle.json.specs.Tree as json_tree
 use Rattle.json.specs.Tree.{json_tokens}
@@ -23,7 +21,7 @@ use Rattle.group_history.specs.Cookies.{whole_text}
 use Rattle.group_history.specs.Json.{reading, or_not_json, text_of, json_text}
 use Rattle.group_history.proofs.Readings.{json_text-compact}
 use Rattle.pull_patch.specs.Inside.Copies.{IsPlain, CopiesText}
-use Rattle.pull_patch.specs.Inside.Plain.{ReadsValue, ReadsText}
+use Rattle.pull_patch.specs.Inside.Plain.{ReadsValue, ReadsText, PassesValue}
 
 mutual
   depth-outline : (d : Data) → json_tree.depth (outline d) ≡ depth d
@@ -76,6 +74,11 @@ json_text-plain old new text b c e utf8 =
     (arith, value-depth 124 old new c.what c.reads, depth-outline p.tree, ap json_tree.depth p.same) in
     json_text-compact p.tree text utf8 (read-copied 124 old new text b c (omega arith) ∙ p.reads)
     (compact_if_plain c.what text p c.printed) shallow p.whole
+
+pub PassesValue-plain : (depth_most : ℕ) (old new : List Token) (text : List ℕ) (b : Bool)
+    → CopiesText b (value depth_most old) new text → b ≡ true → PassesValue depth_most old new
+PassesValue-plain depth_most old new text b c e = let p = c.is_plain e in
+    record { tree = p.tree; reads = ReadsValue-copied depth_most old new text b c p.tree p.reads }
 
 -- ---- a value that was read by itself
 

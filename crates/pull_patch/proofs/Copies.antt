@@ -11,9 +11,8 @@ use Rattle.json.specs.Json.{Json, Items, no_items, item, Members, no_members, me
 use Rattle.json.specs.Tree.{json_tokens, items_tokens, members_tokens}
 use Rattle.serde_json.specs.Data as data_of
 use Rattle.serde_json.specs.Data.{Data, put}
-use Rattle.serde_json.specs.Read.{of_json, of_items, of_members}
-use Rattle.serde_json.specs.Written.{outline, items_outline, members_outline, has_float, items_have_float}
-use Rattle.serde_json.specs.Written.{members_have_float}
+use Rattle.serde_json.specs.Read.{of_items, of_members}
+use Rattle.serde_json.specs.Written.{outline, members_outline, has_float, items_have_float, members_have_float}
 use Rattle.pull_patch.specs.Inside.Copies.{IsPlainNumber, IsPlain, ItemsArePlain, MembersArePlain}
 
 -- ---- items

@@ -1,7 +1,6 @@
 -- Operations that are found one after another.
-use Rattle.std.proofs.Common.{◌≡◌, ◌≢◌, ℕ, List, [], ◌∷◌, ◌++◌, Bool, true, false, cond, Bor, Option, Some, None}
-use Rattle.std.proofs.Common.{option_map, option_and_then, codes, bytes_eq, true≢false, refl, sym, ap, ◌∙◌, subst}
-use Rattle.std.proofs.Common.{IfSome}
+use Rattle.std.proofs.Common.{◌≡◌, ◌≢◌, ℕ, List, [], ◌∷◌, ◌++◌, true, false, Bor, Option, Some, None, option_map}
+use Rattle.std.proofs.Common.{option_and_then, codes, bytes_eq, true≢false, refl, sym, ap, ◌∙◌, subst, IfSome}
 use Rattle.std.proofs.lemmas.Slice.Eq.{bytes_eq-Decides}
 use Rattle.json.specs.Token.{Token}
 use Rattle.json.specs.Json.{parse_map}

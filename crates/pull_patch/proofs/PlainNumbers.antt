@@ -1,14 +1,17 @@
 -- Digits that are written as they stand.
-use Rattle.std.proofs.Common.{◌≡◌, ℕ, ◌^◌, ◌<◌, ◌≤◌, List, [], ◌∷◌, length, get_or, Bool, true, false, Ok, refl, sym}
-use Rattle.std.proofs.Common.{ap, ◌∙◌, arith, decimal, slice_index, drop, cond, ◌==◌}
+use Rattle.std.proofs.Common.{◌≡◌, ℕ, zero, suc, pos, negsuc, ◌^◌, ◌<◌, ◌≤◌, List, [], ◌∷◌, length, get_or, refl, sym}
+use Rattle.std.proofs.Common.{ap, ◌∙◌, subst, arith, decimal, slice_index}
 use Rattle.std.proofs.lemmas.Fmt.{decimal-digits_value}
 use Rattle.std.proofs.lemmas.Str.Parse.{numerals_by_value, tells_digits}
 use Rattle.std.proofs.lemmas.Bool.{ne_eqb}
 use Rattle.std.specs.Fmt.{digits}
-use Rattle.std.specs.Str.Parse.{IsNumeral, digits_value, without_leading_plus}
-use Rattle.serde_json.specs.Data.{unsigned}
+use Rattle.std.specs.Prelude.{neg_ℤ, FitsSigned}
+use Rattle.std.specs.Int.{w64}
+use Rattle.std.specs.Str.Parse.{IsNumeral, digits_value, signed_digits_value, without_leading_plus}
+use Rattle.std.specs.Str.Parse.{without_leading_sign}
+use Rattle.serde_json.specs.Data.{unsigned, negative}
 use Rattle.serde_json.specs.Read.{number_of}
-use Rattle.serde_json.proofs.Numbers.{number_of-decimal}
+use Rattle.serde_json.proofs.Numbers.{number_of-decimal, number_of-negative}
 use Rattle.pull_patch.specs.Inside.Copies.{IsPlainNumber}
 
 pub IsPlainNumber-zero : IsPlainNumber (48 ∷ [])
@@ -34,3 +37,40 @@ pub IsPlainNumber-digits : (s : List ℕ) → 49 ≤ slice_index s 0
     → IsNumeral 10 (without_leading_plus s) × (digits_value 10 (without_leading_plus s) < 2 ^ 64) → IsPlainNumber s
 IsPlainNumber-digits s first h = let k = rw (no_plus s first) at h in
     digits_as_written s k.0 k.1 (λ zero. absurd (omega arith))
+
+-- ---- below zero
+
+first_of : (ds : List ℕ) → decimal 0 ≡ ds → get_or ds 0 0 ≡ 48
+unfolding digits
+first_of ds e = ap (λ (xs : List ℕ). get_or xs 0 0) (sym e)
+
+minus_at : (n : ℕ) (ds : List ℕ) → decimal n ≡ ds → 49 ≤ get_or ds 0 0 → FitsSigned w64 (neg_ℤ (pos n))
+    → IsPlainNumber (45 ∷ ds)
+minus_at zero ds e first fits = absurd (omega (arith, first_of ds e))
+minus_at (suc m) ds e first fits =
+    let same : 45 ∷ decimal (suc m) ≡ 45 ∷ ds = ap (λ (xs : List ℕ). 45 ∷ xs) e in
+    record {
+      num = negative (negsuc m);
+      reads = ap number_of (sym same) ∙ number_of-negative m (omega arith);
+      same = same;
+      whole = refl;
+    }
+
+least : (n : ℕ) → FitsSigned w64 (neg_ℤ (pos n)) → n < 2 ^ 64
+least zero fits = omega arith
+least (suc m) fits = omega arith
+
+minus_digits : (ds : List ℕ) → 49 ≤ get_or ds 0 0 → IsNumeral 10 ds → FitsSigned w64 (neg_ℤ (pos (digits_value 10 ds)))
+    → IsPlainNumber (45 ∷ ds)
+minus_digits ds first h fits =
+    minus_at (digits_value 10 ds) ds (decimal-digits_value (numerals_by_value _ tells_digits) ds h.1 h.0
+    (λ zero. absurd (omega arith)) (least _ fits)) first fits
+
+-- a minus, and a first digit from 1 on
+pub IsPlainNumber-minus : (s : List ℕ) → slice_index s 0 ≡ 45 → 49 ≤ slice_index s 1
+    → IsNumeral 10 (without_leading_sign s) × FitsSigned w64 (signed_digits_value 10 s) → IsPlainNumber s
+IsPlainNumber-minus [] minus first h = absurd (omega arith)
+IsPlainNumber-minus (x ∷ ds) minus first h =
+    let k = subst (λ (y : ℕ). IsNumeral 10 (without_leading_sign (y ∷ ds))
+    × FitsSigned w64 (signed_digits_value 10 (y ∷ ds))) minus h in
+    subst (λ (y : ℕ). IsPlainNumber (y ∷ ds)) (sym minus) (minus_digits ds first k.0 k.1)

@@ -1,27 +1,26 @@
 -- Responses whose three fields are found one after another.
-use Rattle.std.proofs.Common.{◌≡◌, ◌≢◌, ◌≤◌, ℕ, List, [], Bool, true, false, cond, Option, Some, None, option_map}
-use Rattle.std.proofs.Common.{option_and_then, Ok, Err, codes, bytes_eq, Vec, Global, IsUtf8, refl, sym, ap, ◌∙◌, subst}
-use Rattle.std.proofs.Common.{IfSome}
+use Rattle.std.proofs.Common.{◌≡◌, ◌≢◌, ℕ, List, true, false, Option, Some, None, option_map, Ok, codes, bytes_eq, Vec}
+use Rattle.std.proofs.Common.{Global, IsUtf8, refl, sym, ap, ◌∙◌, subst, IfSome}
 use Rattle.std.specs.Prelude.{ok_or}
 use Rattle.json.specs.Json.{value}
 use Rattle.json.specs.Lex.{tokens}
 use Rattle.serde_json.specs.Data.{Data, array, object, Items, Members, put}
 use Rattle.serde_json.specs.Find.{get_member, as_object, as_array}
 use Rattle.serde_json.proofs.Views.{get_member-put, get_member-put_other}
-use Rattle.group_history.specs.declared.refusals.Refusal.TheVariants.{BadShape, NotWhole}
+use Rattle.group_history.specs.declared.refusals.Refusal.TheVariants.{BadShape}
 use Rattle.group_history.specs.declared.responses.Confirmed.{Confirmed}
 use Rattle.group_history.specs.declared.responses.Patch.{Patch}
 use Rattle.group_history.specs.declared.responses.Response.{Response}
 use Rattle.group_history.specs.declared.responses.Response.TheVariants as response
 use Rattle.group_history.specs.Answers.{◌>>=◌}
-use Rattle.group_history.specs.Cookies.{Cookie, cookie_of}
-use Rattle.group_history.specs.Pull.{AreInRange, Pull}
+use Rattle.group_history.specs.Cookies.{Cookie}
+use Rattle.group_history.specs.Pull.{AreInRange}
 use Rattle.pull_patch.specs.declared.plain.Parts.{Parts}
 use Rattle.pull_patch.specs.Changes.{Entry, entries_of, change_of}
 use Rattle.pull_patch.specs.Fields.{each, ◌>>-◌}
 use Rattle.pull_patch.specs.Grammar.{is_cookie, cookie_at, fields_of, pull_of, pull_response, by_error, response_of}
 use Rattle.pull_patch.specs.Grammar.{answer_to}
-use Rattle.pull_patch.specs.Operations.{Edit, edits_of, operation_of}
+use Rattle.pull_patch.specs.Operations.{edits_of}
 use Rattle.pull_patch.specs.Inside.Parts.{changes_part, joined}
 use Rattle.pull_patch.specs.Inside.Plain.{ArePatch, IsCookie, AreChanges, HasCookie, HasChanges, HasPatch, ArePartsOf}
 use Rattle.pull_patch.specs.Inside.Plain.{ReadsBody}

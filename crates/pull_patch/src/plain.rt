@@ -1,16 +1,16 @@
 //! Bodies that are read from token to token, with no tree of the whole: the usual ones.
 //!
 //! A response without an error that has its three fields, and in them whole numbers alone, is plain. A put's
-//! value is copied from its tokens; it is the compact text where the names in it ascend and its numbers are
-//! digits of an u64, and only where it isn't, this one value is read as a tree. Whatever else a body may be
-//! is left to the reader of whole trees, and so are all refusals but for want of memory.
+//! value is written again from its tokens. That is its compact text where the names in it ascend; only where they
+//! don't, this one value is read as a tree. Whatever else a body may be is left to the reader of whole trees, and so
+//! are all refusals but for want of memory.
 ghost use Rattle.std.specs.Prelude.{◌≡◌, ◌<◌, length, OnOk, IfOk, Ok};
 ghost use Rattle.serde_json.specs.Data.{Members, object};
 ghost use Rattle.serde_json.specs.View.{view};
 ghost use Rattle.group_history.specs.Pull.{AreInRange};
 ghost use Rattle.pull_patch.specs.Grammar as grammar;
-ghost use Rattle.pull_patch.specs.Inside.Plain.{IsCookie, AreChanges, ReadsCookie, ReadsChanges, ReadsPart, ReadsParts};
-ghost use Rattle.pull_patch.specs.Inside.Plain.{ArePartsOf, ReadsBody};
+ghost use Rattle.pull_patch.specs.Inside.Plain.{IsCookie, AreChanges, ReadsCookie, ReadsChanges, ReadsBody};
+ghost use Rattle.pull_patch.specs.Inside.Plain.{ReadsPart, ReadsParts, ArePartsOf};
 
 mod copies;
 mod puts;
@@ -25,7 +25,7 @@ use puts::read_patch;
 use serde_json::Value;
 use std::alloc::Global;
 pub(crate) use stops::Stop;
-use values::read_tree;
+use values::{pass_value, read_tree};
 
 // What was found in a response so far.
 #[derive(Drop)]
@@ -69,7 +69,7 @@ fn read_cookie(alloc: Global, reader: &mut Reader<'_>, copy: &mut Vec<u8>) -> Re
     cookie_of(alloc, &value)
 }
 
-fn read_changes_field(
+fn read_confirmed(
     alloc: Global,
     reader: &mut Reader<'_>,
     copy: &mut Vec<u8>,
@@ -81,7 +81,17 @@ fn read_changes_field(
     changes_of(alloc, &value)
 }
 
-// The value of a field of this name. Of two fields of one name the last counts.
+// Whether a field of this name was found. A second one makes a body not plain, so that cookies and ids are read once.
+fn has_part(parts: &Parts, name: &str) -> bool {
+    match name {
+        "cookie" => parts.cookie.is_some(),
+        "lastMutationIDChanges" => parts.changes.is_some(),
+        "patch" => parts.patch.is_some(),
+        _ => false,
+    }
+}
+
+// The value of a field of this name.
 fn read_part(
     alloc: Global,
     name: &str,
@@ -92,6 +102,9 @@ fn read_part(
     ensures read { OnOk result (ReadsPart reader.old name.now parts.old parts.new reader.new) }
     ensures shorter { OnOk result (length reader.new < length reader.old) }
 {
+    if has_part(parts, name) {
+        return Err(Stop::NotPlain);
+    }
     if name == "patch" {
         parts.patch = Some(read_patch(alloc, reader, copy)?);
         return Ok(());
@@ -101,14 +114,13 @@ fn read_part(
         return Ok(());
     }
     if name == "lastMutationIDChanges" {
-        parts.changes = Some(read_changes_field(alloc, reader, copy)?);
+        parts.changes = Some(read_confirmed(alloc, reader, copy)?);
         return Ok(());
     }
     if name == "error" {
         return Err(Stop::NotPlain);
     }
-    drop(read_tree(alloc, reader, 126, copy)?);
-    Ok(())
+    pass_value(alloc, reader, 126, copy)
 }
 
 fn read_parts(alloc: Global, reader: &mut Reader<'_>, copy: &mut Vec<u8>) -> Result<Parts, Stop>

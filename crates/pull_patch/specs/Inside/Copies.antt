@@ -1,7 +1,7 @@
 -- Words for values that are copied from token to token.
 use Rattle.std.specs.Prelude.{◌≡◌, ℕ, List, ◌++◌, Bool, true, false, Option, Some}
 use Rattle.json.specs.Token.{Token}
-use Rattle.json.specs.Json.{Json, Items, Members, value}
+use Rattle.json.specs.Json.{Json, Items, Members}
 use Rattle.json.specs.Lex.{tokens}
 use Rattle.json.specs.Print.{print}
 use Rattle.json.specs.Tree.{json_tokens, items_tokens, members_tokens}
@@ -9,8 +9,8 @@ use Rattle.serde_json.specs.Data as data_of
 use Rattle.serde_json.specs.Data.{Num}
 use Rattle.serde_json.specs.Find.{is_float}
 use Rattle.serde_json.specs.Read.{number_of, of_json, of_items, of_members}
-use Rattle.serde_json.specs.Written.{number_text, outline, items_outline, members_outline, has_float, items_have_float}
-use Rattle.serde_json.specs.Written.{members_have_float}
+use Rattle.serde_json.specs.Written.{number_text, outline, items_outline, members_outline}
+use Rattle.serde_json.specs.Written.{has_float, items_have_float, members_have_float}
 
 -- a number's text is the one that is written for it
 pub record IsPlainNumber (s : List ℕ) : Type 0 where
@@ -39,32 +39,29 @@ pub record MembersArePlain (ms : Members) : Type 0 where
   pub whole : members_have_float tree ≡ false
 
 -- what the grammar read was written behind what stood there, and is plain where `plain` says so
-pub record CopiesValue (plain : Bool) (read : Option (Json × List Token))
-    (rest before after : List Token) : Type 0 where
+pub record CopiesValue (plain : Bool) (read : Option (Json × List Token)) (rest old new : List Token) : Type 0 where
   pub what : Json
   pub reads : read ≡ Some (what, rest)
-  pub written : after ≡ before ++ json_tokens what
+  pub written : new ≡ old ++ json_tokens what
   pub is_plain : plain ≡ true → IsPlain what
 
-pub record CopiesItems (plain : Bool) (read : Option (Items × List Token))
-    (rest before after : List Token) : Type 0 where
+pub record CopiesItems (plain : Bool) (read : Option (Items × List Token)) (rest old new : List Token) : Type 0 where
   pub what : Items
   pub reads : read ≡ Some (what, rest)
-  pub written : after ≡ before ++ items_tokens what
+  pub written : new ≡ old ++ items_tokens what
   pub is_plain : plain ≡ true → ItemsArePlain what
 
 pub record CopiesMembers (plain : Bool) (read : Option (Members × List Token))
-    (rest before after : List Token) : Type 0 where
+    (rest old new : List Token) : Type 0 where
   pub what : Members
   pub reads : read ≡ Some (what, rest)
-  pub written : after ≡ before ++ members_tokens what
+  pub written : new ≡ old ++ members_tokens what
   pub is_plain : plain ≡ true → MembersArePlain what
 
 -- the text of the next value
-pub record CopiesText (plain : Bool) (read : Option (Json × List Token)) (rest : List Token)
-    (text : List ℕ) : Type 0 where
+pub record CopiesText (plain : Bool) (read : Option (Json × List Token)) (rest : List Token) (s : List ℕ) : Type 0 where
   pub what : Json
   pub reads : read ≡ Some (what, rest)
-  pub printed : text ≡ print (json_tokens what)
-  pub reads_back : tokens text ≡ json_tokens what
+  pub printed : s ≡ print (json_tokens what)
+  pub reads_back : tokens s ≡ json_tokens what
   pub is_plain : plain ≡ true → IsPlain what

@@ -1,5 +1,5 @@
 -- Words for bodies that are read from token to token.
-use Rattle.std.specs.Prelude.{◌≡◌, ℕ, List, [], length, Option, Some, None, codes, IfSome, Ok}
+use Rattle.std.specs.Prelude.{◌≡◌, ℕ, List, [], length, Some, None, codes, IfSome, Ok}
 use Rattle.json.specs.Token.{Token}
 use Rattle.json.specs.Json.{value, items, members}
 use Rattle.serde_json.specs.Data.{Data, string, array, object, Items, Members, no_members, put}
@@ -28,6 +28,11 @@ ReadsItems depth old ds new = converted of_items (items (value depth) (length ol
 abbrev pub ReadsMembers : ℕ → List Token → Members → List Token → Type 0
 ReadsMembers depth old ms new = converted (λ xs. of_members xs no_members) (members (value depth) (length old) old)
     ≡ Some (ms, new)
+
+-- some value is read
+pub record PassesValue (depth : ℕ) (old new : List Token) : Type 0 where
+  pub tree : Data
+  pub reads : ReadsValue depth old tree new
 
 -- a value with whole numbers alone, and its compact text
 pub record ReadsText (old : List Token) (text : Bytes) (new : List Token) : Type 0 where

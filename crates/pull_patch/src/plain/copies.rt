@@ -1,10 +1,11 @@
 //! Values that are copied from token to token, with no tree in between.
-ghost use Rattle.std.specs.Prelude.{◌≡◌, ◌<◌, [], length, IsTrue, OnOk, IfOk};
+ghost use Rattle.std.specs.Prelude.{◌≡◌, ◌<◌, [], length, slice_index, IsTrue, OnOk, IfOk};
 ghost use Rattle.std.specs.Ordering.{is_lt, nat_cmp};
 ghost use Rattle.std.specs.Cmp.Lexicographic.{slice_cmp};
 ghost use Rattle.std.specs.Str.{IsUtf8};
 ghost use Rattle.json.specs.Json.{value, items, members};
-ghost use Rattle.pull_patch.specs.Inside.Copies.{IsPlainNumber, CopiesValue, CopiesItems, CopiesMembers, CopiesText};
+ghost use Rattle.pull_patch.specs.Inside.Copies.{IsPlainNumber, CopiesValue, CopiesItems, CopiesMembers};
+ghost use Rattle.pull_patch.specs.Inside.Copies.{CopiesText};
 
 use super::stops::Stop;
 use json::{Reader, Token, Writer};
@@ -12,7 +13,8 @@ use std::alloc::Global;
 use std::cmp::Ordering;
 use std::mem::replace;
 
-// Whether a number's text is the one that is written for it: the digits of an u64, with no 0 before others.
+// Whether a number's text is the one that is written for it: digits that fit 64 bits, or a minus and such digits, with
+// no 0 before other digits.
 fn is_plain_number(text: &str) -> bool
     ensures { IsTrue result → IsPlainNumber text.now }
 {
@@ -20,10 +22,27 @@ fn is_plain_number(text: &str) -> bool
         return true;
     }
     let bytes = text.as_bytes();
+    if bytes.len() > 1 && bytes[0] == b'-' {
+        return is_plain_below_zero(text);
+    }
     if bytes.is_empty() || bytes[0] < b'1' {
         return false;
     }
     match u64::from_str_radix(text, 10) {
+        Ok(_) => true,
+        Err(_) => false,
+    }
+}
+
+fn is_plain_below_zero(text: &str) -> bool
+    requires { slice_index text.now 0 ≡ 45 }
+    ensures { IsTrue result → IsPlainNumber text.now }
+{
+    let bytes = text.as_bytes();
+    if bytes.len() < 2 || bytes[1] < b'1' {
+        return false;
+    }
+    match i64::from_str_radix(text, 10) {
         Ok(_) => true,
         Err(_) => false,
     }
@@ -35,7 +54,7 @@ fn is_before(last: &str, name: &str) -> bool
     matches!(last.cmp(name), Ordering::Less)
 }
 
-// The tokens of the next value are written again. Told is whether its text is then the compact one.
+// The tokens of the next value are written again. Told is whether the text of them is its compact text.
 #[cycle(copy)]
 pub(crate) fn copy_value(
     reader: &mut Reader<'_>,

@@ -1,11 +1,11 @@
 //! The operations of a patch, one at a time.
-ghost use Rattle.std.specs.Prelude.{◌≡◌, ◌<◌, length, OnOk, IfOk};
+ghost use Rattle.std.specs.Prelude.{◌≡◌, ◌<◌, length, codes, OnOk, IfOk, IfSome};
 ghost use Rattle.serde_json.specs.Data.{Members, object};
 ghost use Rattle.pull_patch.specs.Inside.Plain.{ReadsField, ReadsFields, IsFoundIn, IsOperation, ReadsOperation};
-ghost use Rattle.pull_patch.specs.Inside.Plain.{ReadsOperations, ReadsPatch};
+ghost use Rattle.pull_patch.specs.Inside.Plain.{ReadsOperations, ReadsPatch, IsText};
 
 use super::stops::Stop;
-use super::values::{read_json, read_text, read_tree};
+use super::values::{pass_value, read_json, read_text};
 use group_history::{Json, Patch, Text};
 use json::{Reader, Token};
 use std::alloc::Global;
@@ -41,8 +41,7 @@ fn read_field<'a>(
         found.value = Some(read_json(alloc, reader, copy)?);
         return Ok(());
     }
-    drop(read_tree(alloc, reader, 124, copy)?);
-    Ok(())
+    pass_value(alloc, reader, 124, copy)
 }
 
 fn read_fields<'a>(
@@ -64,28 +63,36 @@ fn read_fields<'a>(
     Ok(found)
 }
 
+// An operation without a value.
+fn bare_operation(alloc: Global, op: &str, key: Option<&str>) -> Result<Patch, Stop>
+    ensures { IfOk result (λ p. (ms : Members) → IsText (codes "op") ms op.now
+        → IfSome key.entry (λ s. IsText (codes "key") ms s.now) → IsOperation (object ms) p) }
+{
+    if op == "clear" {
+        return Ok(Patch::Clear);
+    }
+    let Some(key) = key else {
+        return Err(Stop::NotPlain);
+    };
+    if op == "del" {
+        return Ok(Patch::Del(Text::new(alloc, key)?));
+    }
+    Err(Stop::NotPlain)
+}
+
 fn operation_of(alloc: Global, found: Found<'_>) -> Result<Patch, Stop>
     ensures { IfOk result (λ p. (ms : Members) → IsFoundIn found.entry ms → IsOperation (object ms) p) }
 {
     let Some(op) = found.op else {
         return Err(Stop::NotPlain);
     };
-    if op == "clear" {
-        return Ok(Patch::Clear);
+    if op != "put" {
+        return bare_operation(alloc, op, found.key);
     }
-    let Some(key) = found.key else {
-        return Err(Stop::NotPlain);
-    };
-    if op == "del" {
-        return Ok(Patch::Del(Text::new(alloc, key)?));
+    match (found.key, found.value) {
+        (Some(key), Some(value)) => Ok(Patch::Put(Text::new(alloc, key)?, value)),
+        _ => Err(Stop::NotPlain),
     }
-    if op == "put" {
-        let Some(value) = found.value else {
-            return Err(Stop::NotPlain);
-        };
-        return Ok(Patch::Put(Text::new(alloc, key)?, value));
-    }
-    Err(Stop::NotPlain)
 }
 
 fn read_operation(alloc: Global, reader: &mut Reader<'_>, copy: &mut Vec<u8>) -> Result<Patch, Stop>

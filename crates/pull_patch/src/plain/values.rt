@@ -2,7 +2,7 @@
 ghost use Rattle.std.specs.Prelude.{◌≡◌, ◌<◌, ◌≤◌, ℕ, length, OnOk, IfOk};
 ghost use Rattle.serde_json.specs.Data.{string};
 ghost use Rattle.serde_json.specs.View.{view};
-ghost use Rattle.pull_patch.specs.Inside.Plain.{ReadsValue, ReadsText};
+ghost use Rattle.pull_patch.specs.Inside.Plain.{ReadsValue, ReadsText, PassesValue};
 
 use super::copies::copy_text;
 use super::stops::Stop;
@@ -68,4 +68,21 @@ pub(crate) fn read_tree(
         Ok(value) => Ok(value),
         Err(refusal) => Err(stop_of(refusal)),
     }
+}
+
+/// Passes over the next value, where it is plain. What `copy` holds is overwritten.
+pub(crate) fn pass_value(
+    alloc: Global,
+    reader: &mut Reader<'_>,
+    depth: usize,
+    copy: &mut Vec<u8>,
+) -> Result<(), Stop>
+    ensures read { OnOk result (PassesValue depth reader.old reader.new) }
+    ensures shorter { OnOk result (length reader.new < length reader.old) }
+{
+    let plain = copy_text(alloc, reader, depth, copy)?;
+    if !plain {
+        return Err(Stop::NotPlain);
+    }
+    Ok(())
 }

@@ -1,4 +1,4 @@
-use Rattle.std.proofs.Common.{◌∙◌, sym}
+use Rattle.std.proofs.Common.{sym}
 use Rattle.serde_json.specs.View.{view, members_view}
 use Rattle.pull_patch.proofs.PlainResponses.{AreChanges-part}
 use Rattle.pull_patch.proofs.plain.changes_of.Goals as goal

@@ -1,6 +1,5 @@
 use Rattle.std.proofs.Common.{◌∙◌, sym}
 use Rattle.serde_json.specs.View.{view}
-use Rattle.group_history.proofs.Readings.{not-false}
 use Rattle.pull_patch.proofs.PlainResponses.{cookie_at-some}
 use Rattle.pull_patch.proofs.plain.cookie_of.Goals as goal
 

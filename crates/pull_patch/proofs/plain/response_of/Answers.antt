@@ -1,4 +1,4 @@
-use Rattle.std.proofs.Common.{◌∙◌, sym}
+use Rattle.std.proofs.Common.{sym}
 use Rattle.pull_patch.proofs.PlainResponses.{in_range_if, joined_parts}
 use Rattle.pull_patch.proofs.plain.response_of.Goals as goal
 

@@ -1,22 +1,18 @@
-use Rattle.std.proofs.Common.{◌≡◌, ◌-◌, ◌<◌, ◌≤◌, ℕ, List, [], ◌∷◌, ◌++◌, ◌&&◌, Bool, true, length, Some, None, Less}
-use Rattle.std.proofs.Common.{refl, sym, ap, ap₂, ◌∙◌, arith, rules, append_assoc, append-nil}
+use Rattle.std.proofs.Common.{◌≡◌, ◌-◌, ◌<◌, [], ◌∷◌, ◌++◌, length, Some, None, refl, sym, ap, ◌∙◌, arith, rules}
+use Rattle.std.proofs.Common.{append_assoc, append-nil}
 use Rattle.std.proofs.lemmas.Result.{IfOk-weaker}
-use Rattle.std.specs.Ordering.{is_lt, nat_cmp}
-use Rattle.std.specs.Cmp.Lexicographic.{slice_cmp}
 use Rattle.json.specs.Token.{Token}
-use Rattle.json.specs.Json.{Json, Items, no_items, Members, no_members, array, object, parse_map, after_end_array}
-use Rattle.json.specs.Json.{read_key, items, members, value}
+use Rattle.json.specs.Json.{Json, no_items, no_members, array, object, parse_map, after_end_array, read_key, value}
 use Rattle.json.specs.Reads.{token_of}
 use Rattle.json.specs.Tree.{items_tokens, members_tokens}
 use Rattle.json.proofs.Grammar.{value_is, value-begin_array, value-begin_object, read_key-shorter, items_end}
 use Rattle.json.proofs.Grammar.{items_more, members_end, members_more}
-use Rattle.pull_patch.proofs.Copies.{items_joined, items_front, items_joined-none, items_front-closed, AllPlain}
+use Rattle.pull_patch.proofs.Copies.{items_joined, items_front, items_joined-none, items_front-closed}
 use Rattle.pull_patch.proofs.Copies.{ItemsArePlain-all, IsPlain-array, members_joined, members_front}
-use Rattle.pull_patch.proofs.Copies.{members_joined-none, members_front-closed, PlainUpTo, PlainUpTo-none}
-use Rattle.pull_patch.proofs.Copies.{MembersArePlain-all, IsPlain-object, IsPlain-string, IsPlain-number}
-use Rattle.pull_patch.proofs.Copies.{IsPlain-boolean, IsPlain-null, items_unjoined, items_turn, items_written}
-use Rattle.pull_patch.proofs.Copies.{items_plain, item_pushed, members_unjoined, members_turn, members_written}
-use Rattle.pull_patch.proofs.Copies.{members_plain, member_pushed}
+use Rattle.pull_patch.proofs.Copies.{members_joined-none, members_front-closed, PlainUpTo-none, MembersArePlain-all}
+use Rattle.pull_patch.proofs.Copies.{IsPlain-object, IsPlain-string, IsPlain-number, IsPlain-boolean, IsPlain-null}
+use Rattle.pull_patch.proofs.Copies.{items_unjoined, items_turn, items_written, items_plain, item_pushed}
+use Rattle.pull_patch.proofs.Copies.{members_unjoined, members_turn, members_written, members_plain, member_pushed}
 use Rattle.pull_patch.proofs.plain.copies.+copy.Goals as goal
 
 pub copy_value-returns-in_ok-string-in-String-clause-copied :

@@ -1,4 +1,4 @@
-use Rattle.std.proofs.Common.{◌≡◌, ℕ, ◌+◌, ◌*◌, ◌≤◌, ◌++◌, Bool, true, length}
+use Rattle.std.proofs.Common.{◌≡◌, ℕ, ◌+◌, ◌*◌, ◌≤◌, ◌++◌, true, length}
 use denote.Shadow.{shadow}
 use denote.Text.{Utf8}
 use Rattle.json.specs.Json.{Items, Members, items, members, value, parse_map}

@@ -1,4 +1,4 @@
-use Rattle.std.proofs.Common.{List, ℕ, [], ◌∷◌, ◌∙◌, subst, sym, ap, rules, slice_index, ◌≤◌}
+use Rattle.std.proofs.Common.{List, ℕ, [], ◌∷◌, ◌∙◌, subst, sym, slice_index, ◌≤◌}
 use Rattle.std.proofs.lemmas.Slice.Eq.{bytes_eq-Decides}
 use Rattle.pull_patch.specs.Inside.Copies.{IsPlainNumber}
 use Rattle.pull_patch.proofs.PlainNumbers.{IsPlainNumber-zero, IsPlainNumber-digits}

@@ -1,6 +1,6 @@
 use Rattle.std.proofs.Common.{◌∙◌, sym}
 use Rattle.serde_json.specs.Data.{string}
-use Rattle.serde_json.specs.View.{view}
+use Rattle.std.proofs.lemmas.Result.{on_ok_weaker}
 use Rattle.pull_patch.proofs.Patches.{found_op, found_key, found_value, found_other}
 use Rattle.pull_patch.proofs.plain.puts.read_field.Goals as goal
 
@@ -30,11 +30,10 @@ returns-then-eq-3-clause-read c =
     }
 
 pub returns-clause-read : goal.returns-clause-read
-returns-clause-read c = record {
-  tree = view c.in_ok-read_tree.field-0;
-  reads = c.in_ok-read_tree.ensures.read;
-  found = λ ms h.
-      found_other c.args.found.now (view c.in_ok-read_tree.field-0) c.args.name.now ms
-      (sym c.eq.ensures ∙ c.if-eq.false) (sym c.eq-2.ensures ∙ c.if-eq-2.false)
-      (sym c.eq-3.ensures ∙ c.if-eq-3.false) h;
-}
+returns-clause-read c =
+    on_ok_weaker c.pass_value.result (λ done. record {
+      tree = done.tree;
+      reads = done.reads;
+      found = λ ms h. found_other c.args.found.now done.tree c.args.name.now ms (sym c.eq.ensures ∙ c.if-eq.false)
+          (sym c.eq-2.ensures ∙ c.if-eq-2.false) (sym c.eq-3.ensures ∙ c.if-eq-3.false) h;
+    }) c.pass_value.ensures.read

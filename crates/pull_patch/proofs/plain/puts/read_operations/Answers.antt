@@ -1,4 +1,4 @@
-use Rattle.std.proofs.Common.{◌≡◌, ◌-◌, ◌<◌, [], ◌∷◌, ◌++◌, length, Some, None, refl, sym, ap, ◌∙◌, subst, arith, rules}
+use Rattle.std.proofs.Common.{◌≡◌, ◌-◌, ◌<◌, length, Some, None, sym, ap, ◌∙◌, subst, arith}
 use Rattle.json.specs.Json.{after_end_array, value, parse_map}
 use Rattle.serde_json.specs.Data.{no_items}
 use Rattle.pull_patch.specs.Inside.Plain.{ArePatch}

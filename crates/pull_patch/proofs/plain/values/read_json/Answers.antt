@@ -1,6 +1,5 @@
-use Rattle.std.proofs.Common.{◌≡◌, ◌∙◌, sym, ap, subst, true, Ok, IsUtf8}
+use Rattle.std.proofs.Common.{◌≡◌, ◌∙◌, sym, ap}
 use Rattle.group_history.specs.Json.{json_text}
-use Rattle.pull_patch.specs.Inside.Plain.{ReadsText}
 use Rattle.pull_patch.proofs.CopiedTexts.{ReadsText-plain, json_text-plain, ReadsText-read}
 use Rattle.pull_patch.proofs.plain.values.read_json.Goals as goal
 

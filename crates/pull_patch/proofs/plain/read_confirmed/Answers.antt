@@ -1,6 +1,6 @@
 use Rattle.std.proofs.Common.{Result, Ok, Err, IfOk}
 use Rattle.serde_json.specs.View.{view}
-use Rattle.pull_patch.proofs.plain.read_changes_field.Goals as goal
+use Rattle.pull_patch.proofs.plain.read_confirmed.Goals as goal
 
 both : {X Y : Type 0} (r : Result X Y) (P Q R : X → Type 0) → ((x : X) → P x → Q x → R x) → IfOk r P
     → IfOk r Q → IfOk r R
