@@ -59,8 +59,9 @@ where
         × (S.home seat.slots ≡ S.serves group.now.shared.store)) seats.new.free.items }
     ensures room { IfOk result (λ _. vec_len seats.new.free < vec_capacity seats.new.free) }
 {
+    let id = id_of(text)?;
     let seat = seats.take()?;
-    match group.client(seat, id_of(text)?, 9) {
+    match group.client(seat, id, 9) {
         Ok(client) => Ok(client),
         Err((_, e)) => Err(e),
     }

@@ -15,9 +15,9 @@ use std::alloc::Global;
 use std::sync::Arc;
 
 // What a mark draws stamps for.
-fn empty_leaf(alloc: Global) -> Result<Node<Ref>, Refusal> {
+fn empty_leaf(alloc: Global) -> Result<Leaf, Refusal> {
     let keys = Arc::new(alloc, Keys::new(Vec::new(alloc)))?;
-    Ok(Node::Chunk(Chunk::Leaf(Leaf::new(keys, Vec::new(alloc)))))
+    Ok(Leaf::new(keys, Vec::new(alloc)))
 }
 
 // Takes a slot, and retires it.
@@ -70,13 +70,14 @@ fn claims<S: Counted>(store: &S, seat: &mut S::Seat, at: Ref) -> bool
 }
 
 // A copy of the mark is learnt from, and stamps are drawn.
-fn draws(head: &Head<ScriptMutators>, mark: &mut Mark<ScriptMutators>, node: &[Node<Ref>]) -> bool
+fn draws(head: &Head<ScriptMutators>, mark: &mut Mark<ScriptMutators>, leaf: Leaf) -> bool
     requires book { mark.old.book ≡ head.now }
     requires seat { IsSome mark.old.seat }
 {
     let copy = mark.copy();
     head.learn(mark, &copy);
-    head.draft(mark, 2, node).is_ok()
+    let nodes = [Node::<Ref>::Chunk(Chunk::Leaf(leaf))];
+    head.draft(mark, 2, &nodes).is_ok()
 }
 
 // Makes each step of the last seat and mark.
@@ -86,7 +87,7 @@ fn step_all<S: Counted>(
     head: &Head<ScriptMutators>,
     seat: &mut S::Seat,
     mark: &mut Mark<ScriptMutators>,
-    node: &[Node<Ref>],
+    leaf: Leaf,
 ) -> bool
     requires home { S.home seat.old ≡ S.serves store.now }
     requires book { mark.old.book ≡ head.now }
@@ -94,9 +95,10 @@ fn step_all<S: Counted>(
 {
     begins(rt);
     let at = head.load(mark);
-    let stepped = claims(store, seat, at) && draws(head, mark, node);
+    let claimed = claims(store, seat, at);
+    let drew = draws(head, mark, leaf);
     ends(rt);
-    stepped
+    claimed && drew
 }
 
 /// Opens a store, and makes each step once.
@@ -105,11 +107,11 @@ where
     S::Seat: Drop,
     S::Parts: Drop,
 {
-    let node = [empty_leaf(rt.alloc())?];
+    let leaf = empty_leaf(rt.alloc())?;
     let (store, mut seats, head, mut marks) = S::open(rt.alloc(), parts, SLOTS, SEATS)?;
     let (Some(mut seat), Some(mut mark)) = (seats.pop(), marks.pop()) else {
         return Err(Refusal::NoSeat);
     };
-    let stepped = step_all(rt, &store, &head, &mut seat, &mut mark, &node);
+    let stepped = step_all(rt, &store, &head, &mut seat, &mut mark, leaf);
     Ok(Reply::Is(stepped))
 }
