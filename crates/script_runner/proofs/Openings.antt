@@ -27,6 +27,12 @@ pub if_ok : {X E A : Type 0} (r : Result X E) → A → IfOk r (λ _. A)
 if_ok (Ok x) a = a
 if_ok (Err e) a = tt
 
+-- what holds of the player that a turn's client is said to be
+pub if_player : {C E : Type 0} (stands : C → Standing) (r : Result (Turn C) E) (P : Player → Type 0) (p : Player)
+    → IfOk r (λ turn. player_of stands turn.client ≡ p) → P p → IfOk r (λ turn. P (player_of stands turn.client))
+if_player stands (Ok turn) P p is holds = subst P (sym is) holds
+if_player stands (Err e) P p is holds = tt
+
 module _ {C : Type 0} (turns : List (Turn C)) (stands : C → Standing) (book : Book) (script : Script)
     (named : map (λ t. (t.client.name, (stands t.client.caller).caller.client)) turns
     ≡ map client_said script.header.clients.items) where

@@ -1,5 +1,5 @@
 //! Runs a script: its phases one after the other, on clients of one group.
-ghost use Rattle.std.specs.Prelude.{◌≡◌, ◌≤◌, ◌+◌, ◌⊎◌, IfErr, IfOk, IfSome, OnOk, length, map, vec_len};
+ghost use Rattle.std.specs.Prelude.{◌≡◌, ◌≤◌, ◌+◌, ◌⊎◌, IfErr, IfOk, IfSome, Ok, OnOk, length, map, vec_len};
 ghost use Rattle.std.specs.FinMap as finite;
 ghost use Rattle.std.specs.Io.KnownBytes.{Appends, Keeps};
 ghost use Rattle.std.specs.List.{All, concat};
@@ -264,6 +264,17 @@ pub fn run<R: AllocGlobal + Threads + Wait + Sync, G: Gate, W: io::Write>(
     run_shared(rt, &checked, gate, out)
 }
 
+/// The script that the bytes are, which are let go.
+fn read_owned(alloc: Global, bytes: Vec<u8>) -> Result<Script, Fault>
+    ensures first { Checks (first_fault bytes.items) result }
+    ensures said { IfOk result (λ script. (said : Context) × (script_said bytes.items ≡ Ok said) × IsScript said script) }
+    ensures checked { IfOk result (λ script. IsChecked script) }
+{
+    let read = read_script(alloc, &bytes);
+    drop(bytes);
+    read
+}
+
 /// The same of bytes that are let go once they were read.
 pub(crate) fn run_owned<R: AllocGlobal + Threads + Wait + Sync, G: Gate, W: io::Write>(
     rt: &R,
@@ -278,9 +289,7 @@ pub(crate) fn run_owned<R: AllocGlobal + Threads + Wait + Sync, G: Gate, W: io::
     ensures want { IsWant result → Keeps (W.contents out.old) (W.contents out.new)
         ⊎ IfOk (script_said script.items) (λ said. HasStopped said (W.contents out.old) (W.contents out.new)) }
 {
-    let read = read_script(rt.alloc(), &script);
-    drop(script);
-    let checked = read?;
+    let checked = read_owned(rt.alloc(), script)?;
     run_shared(rt, &checked, gate, out)
 }
 

@@ -641,34 +641,26 @@ where
     of_b
 }
 
-// Plays the game, once the first pull is begun, and keeps what is answered.
-fn plays<R: Threads + Sync, S: Store<ScriptMutators>>(
-    rt: &R,
-    alloc: Global,
-    a: &mut Player<'_, S>,
-    b: &mut Player<'_, S>,
-    first: &Ticket,
-    game: &mut Game,
-) -> Result<(), Refusal>
-where
-    S::Seat: Drop,
-{
-    both_make(rt, alloc, a, b, first, &mut game.by_a, &mut game.by_b)?;
-    makes_all(alloc, &mut a.client, first, &mut game.last)
-}
-
-fn two_play<R: Threads + Sync, S: Store<ScriptMutators>>(
+// The game with the answers.
+fn played<R: Threads + Sync, S: Store<ScriptMutators>>(
     rt: &R,
     alloc: Global,
     players: &mut [Player<'_, S>],
-    game: &mut Game,
-) -> Result<(), Refusal>
+    drawn: Game,
+) -> Result<Game, Refusal>
 where
     S::Seat: Drop,
 {
+    let Game {
+        mut by_a,
+        mut by_b,
+        mut last,
+    } = drawn;
     let (a, b) = two_of(players)?;
     let first = a.client.begin_pull(TRIES)?;
-    plays(rt, alloc, a, b, &first, game)
+    both_make(rt, alloc, a, b, &first, &mut by_a, &mut by_b)?;
+    makes_all(alloc, &mut a.client, &first, &mut last)?;
+    Ok(Game { by_a, by_b, last })
 }
 
 fn game_in<R: Threads + Sync, S: Store<ScriptMutators>>(
@@ -676,29 +668,29 @@ fn game_in<R: Threads + Sync, S: Store<ScriptMutators>>(
     alloc: Global,
     group: &Group<ScriptMutators, S>,
     seats: &mut Seats<ScriptMutators, S>,
-    game: &mut Game,
-) -> Result<(), Refusal>
+    drawn: Game,
+) -> Result<Game, Refusal>
 where
     S::Seat: Drop,
     requires { All (λ seat. (seat.mark.book ≡ group.now.shared.head)
         × (S.home seat.slots ≡ S.serves group.now.shared.store)) seats.old.free.items }
 {
     let mut players = players_of(alloc, group, seats, &[A, B])?;
-    two_play(rt, alloc, players.as_mut_slice(), game)
+    played(rt, alloc, players.as_mut_slice(), drawn)
 }
 
 fn game_in_new<R: Threads + Sync, S: Store<ScriptMutators> + Drop>(
     rt: &R,
     alloc: Global,
     parts: S::Parts,
-    game: &mut Game,
-) -> Result<(), Refusal>
+    drawn: Game,
+) -> Result<Game, Refusal>
 where
     S::Seat: Drop,
     S::Parts: Drop,
 {
     let (group, mut seats) = opened::<S>(alloc, parts, 256, 2)?;
-    game_in(rt, alloc, &group, &mut seats, game)
+    game_in(rt, alloc, &group, &mut seats, drawn)
 }
 
 const ROUNDS: u32 = 100;
@@ -717,8 +709,7 @@ where
         number: 0x2545_f491_4f6c_dd1d,
     };
     for round in 0..ROUNDS {
-        let mut game = dice.draws_game();
-        game_in_new::<R, S>(rt, alloc, parts, &mut game)?;
+        let game = game_in_new::<R, S>(rt, alloc, parts, dice.draws_game())?;
         if order_of(alloc, &game)?.is_none() {
             return Ok(round);
         }
