@@ -3,11 +3,12 @@ use Rattle.std.proofs.Common.{◌≡◌, ℕ, ◌<◌, ◌≤◌, List, length, 
 use Rattle.std.proofs.Math.ListN.{get_or-map}
 use Rattle.std.proofs.lemmas.List.{length-map}
 use Rattle.std.proofs.lemmas.List.Elements.{All-weaker}
+use Rattle.std.proofs.lemmas.List.FromFn.{length-map-range_with_len}
 use Rattle.group_history.specs.Refs.{max_seats}
 use Rattle.script_runner.specs.declared.script.Phase.{Phase}
 use Rattle.script_runner.specs.declared.script.Parser.{Parser}
 use Rattle.script_runner.specs.Context.{Lines}
-use Rattle.script_runner.specs.Inside.Parsing.{client_said, line_said, phase_said, context_of, LearnsWithin, IsChecked}
+use Rattle.script_runner.specs.Inside.Parsing.{client_said, lines_at, phase_said, context_of, IsChecked}
 use Rattle.script_runner.proofs.CheckedLemmas.{Sound, LearnWithin}
 
 -- what holds of each view holds of each value's view
@@ -15,29 +16,19 @@ All-of_map : {X Y : Type 0} (P : Y → Type 0) (f : X → Y) (xs : List X) → A
 All-of_map P f xs all = λ k d below. subst P (get_or-map f xs k d)
     (all k (f d) (subst (λ (n : ℕ). k < n) (sym (length-map xs f)) below))
 
--- the lines of a phase
-phase_learns : (n : ℕ) (phase : Phase) → All (LearnWithin n) (phase_said phase)
-    → All (λ lines. All (λ line. LearnsWithin n line.command) lines.items) phase.lines.items
-phase_learns n phase all =
-    All-weaker _ _ (λ lines known. All-of_map (λ line. LearnsWithin n line.1) line_said lines.items known)
-    phase.lines.items
-    (All-of_map (LearnWithin n) (λ lines. map line_said lines.items) phase.lines.items all)
-
 pub IsChecked-from : (p : Parser) → Sound (context_of p) → IsChecked (record { header = p.header; phases = p.phases })
 IsChecked-from p sound =
     let clients = p.header.clients in
     let many : length (map client_said clients.items)
     ≡ vec_len clients = length-map clients.items client_said ∙ sym clients.ok.0 in
     record {
-      each_client = All-weaker _ _ (λ phase is. phase.lines.ok.0 ∙ sym
-          (length-map phase.lines.items (λ lines. map line_said lines.items)) ∙ is ∙ many) p.phases.items
+      each_client = All-weaker _ _ (λ phase is. sym
+          (length-map-range_with_len (lines_at phase.parts.items) 0 phase.clients) ∙ is ∙ many) p.phases.items
           (All-of_map (λ (phase : List Lines). length phase ≡ length (map client_said clients.items)) phase_said
           p.phases.items sound.each_client);
       seats = subst (λ (n : ℕ). n ≤ max_seats) many sound.seats;
       slots = sound.slots;
-      learnt = subst (λ (n : ℕ). All (λ phase. All
-          (λ lines. All (λ line. LearnsWithin n line.command) lines.items) phase.lines.items) p.phases.items) many
-          (All-weaker _ _ (phase_learns (length (map client_said clients.items))) p.phases.items
+      learnt = subst (λ (n : ℕ). All (λ phase. All (LearnWithin n) (phase_said phase)) p.phases.items) many
           (All-of_map (All (LearnWithin (length (map client_said clients.items)))) phase_said
-          p.phases.items sound.learnt));
+          p.phases.items sound.learnt);
     }

@@ -1,6 +1,7 @@
 pub mod Lists
 pub mod Joining
 pub mod Changes
+pub mod Parts
 pub mod Needs
 pub mod CheckedLemmas
 pub mod CheckedScripts

@@ -43,9 +43,9 @@ module _ {C : Type 0} (turns : List (Turn C)) (stands : C → Standing) (book : 
 
   -- so each phase has lines for each
   pub enough : (slice : List (Turn C)) (phases : List Phase) → slice ≡ turns → phases ≡ script.phases.items
-      → IsChecked script → All (λ p. vec_len p.lines ≡ length slice) phases
+      → IsChecked script → All (λ p. p.clients ≡ length slice) phases
   enough slice phases is so checked k d below =
-      (subst (λ ps. All (λ p. vec_len p.lines ≡ vec_len script.header.clients) ps) (sym so) checked.each_client) k d
+      (subst (λ ps. All (λ p. p.clients ≡ vec_len script.header.clients) ps) (sym so) checked.each_client) k d
       below ∙ script.header.clients.ok.0 ∙ sym as_many ∙ sym (ap length is)
 
   module _ (identity : Identity) (new : All (λ t. IsNew identity book (player_of stands t.client)) turns) where

@@ -5,6 +5,7 @@ use Rattle.std.proofs.lemmas.Bool.{false≢true}
 use Rattle.std.proofs.lemmas.List.{take_more, append_assoc, append-nil, get_or-map, length-map, map-append}
 use Rattle.std.proofs.lemmas.List.Elements.{All-push}
 use Rattle.std.proofs.lemmas.List.Folds.{concat-append}
+use Rattle.std.proofs.lemmas.List.FromFn.{get_or-map-range_with_len}
 use Rattle.std.specs.Global.{Vec}
 use Rattle.std.specs.Io.KnownBytes.{Appends, Keeps}
 use Rattle.std.specs.List.{All, concat}
@@ -23,9 +24,9 @@ use Rattle.script_runner.specs.Commanding.{MayPrint, Player}
 use Rattle.script_runner.specs.Context.{Lines}
 use Rattle.script_runner.specs.Phases.{AreTold, AreWritten, IsPhase, all_seen}
 use Rattle.script_runner.specs.Printing.{line_text}
-use Rattle.script_runner.specs.Inside.Parsing.{line_said, phase_said}
+use Rattle.script_runner.specs.Inside.Parsing.{line_said, lines_at, phase_said}
 use Rattle.script_runner.specs.Inside.Players.{player_of, players_of}
-use Rattle.script_runner.specs.Inside.Turns.{AreOf, IsPrinted, IsTold, IsTurn, lines_said, printed_text, texts_of}
+use Rattle.script_runner.specs.Inside.Turns.{AreOf, IsPrinted, IsTold, IsTurn, printed_text, texts_of}
 
 -- LISTS
 
@@ -200,20 +201,20 @@ module _ {C : Type 0} (stands : C → Standing) where
 
   module _ (law : Rules) where
     -- a client's part of a phase, as it stands in the lists
-    pub part : (seen : List Known) (old new : List (Turn C)) (lines : List (Vec Line)) (i : ℕ) (d : Turn C)
-        (own : Vec Line) → i < length old → i < length new → i < length lines
-        → IsTurn law stands seen (slice_index_or lines i own).items (slice_index_or old i d).client
+    pub part : (seen : List Known) (old new : List (Turn C)) (p : Phase) (i : ℕ) (d : Turn C)
+        → i < length old → i < length new → i < p.clients
+        → IsTurn law stands seen (lines_at p.parts.items i) (slice_index_or old i d).client
         (slice_index_or new i d) → IsPrinted (slice_index_or new i d)
         → (l : Lines) (b : Player) (t : Bytes) (a : Player)
-        → AreTold law seen (slice_index_or (players_of stands old) i b) (slice_index_or (lines_said lines) i l)
+        → AreTold law seen (slice_index_or (players_of stands old) i b) (slice_index_or (phase_said p) i l)
         (slice_index_or (texts_of new) i t) (slice_index_or (players_of stands new) i a)
-    part seen old new lines i d own in_old in_new in_lines turn printed l b t a =
+    part seen old new p i d in_old in_new in_lines turn printed l b t a =
         let before : slice_index_or (players_of stands old) i b
         ≡ player_of stands (slice_index_or old i d).client = get_or-map
         (λ u. player_of stands u.client) old i d b in_old in
-        let said : slice_index_or (lines_said lines) i l
-        ≡ map line_said (slice_index_or lines i own).items = get_or-map
-        (λ ls. map line_said ls.items) lines i own l in_lines in
+        let said : slice_index_or (phase_said p) i l
+        ≡ lines_at p.parts.items i = get_or-map-range_with_len
+        (lines_at p.parts.items) 0 p.clients i i l in_lines (omega arith) in
         let text : slice_index_or (texts_of new) i t
         ≡ printed_text (slice_index_or new i d).printed = get_or-map
         (λ u. printed_text u.printed) new i d t in_new in
@@ -221,27 +222,27 @@ module _ {C : Type 0} (stands : C → Standing) where
         ≡ player_of stands (slice_index_or new i d).client = get_or-map
         (λ u. player_of stands u.client) new i d a in_new in
         let told = told_of (λ w. AreTold law seen (player_of stands (slice_index_or old i d).client)
-        (map line_said (slice_index_or lines i own).items) w (player_of stands (slice_index_or new i d).client))
+        (lines_at p.parts.items i) w (player_of stands (slice_index_or new i d).client))
         (slice_index_or new i d).printed printed turn.told in
-        subst (λ w. AreTold law seen w (slice_index_or (lines_said lines) i l) (slice_index_or (texts_of new) i t)
+        subst (λ w. AreTold law seen w (slice_index_or (phase_said p) i l) (slice_index_or (texts_of new) i t)
         (slice_index_or (players_of stands new) i a)) (sym before)
         (subst (λ w. AreTold law seen (player_of stands (slice_index_or old i d).client) w
         (slice_index_or (texts_of new) i t) (slice_index_or (players_of stands new) i a)) (sym said)
         (subst (λ w. AreTold law seen (player_of stands (slice_index_or old i d).client)
-        (map line_said (slice_index_or lines i own).items) w
+        (lines_at p.parts.items i) w
         (slice_index_or (players_of stands new) i a)) (sym text)
         (subst (λ w. AreTold law seen (player_of stands (slice_index_or old i d).client)
-        (map line_said (slice_index_or lines i own).items) (printed_text (slice_index_or new i d).printed) w)
+        (lines_at p.parts.items i) (printed_text (slice_index_or new i d).printed) w)
         (sym after) told)))
 
     -- a phase, by each client's part of it
-    pub phase : (seen : List Known) (old new : List (Turn C)) (lines : List (Vec Line))
-        → seen ≡ all_seen (players_of stands old) → length new ≡ length old → length old ≡ length lines
-        → ((i : ℕ) (d : Turn C) (own : Vec Line) → i < length old
-        → IsTurn law stands seen (slice_index_or lines i own).items (slice_index_or old i d).client
+    pub phase : (seen : List Known) (old new : List (Turn C)) (p : Phase)
+        → seen ≡ all_seen (players_of stands old) → length new ≡ length old → length old ≡ p.clients
+        → ((i : ℕ) (d : Turn C) → i < length old
+        → IsTurn law stands seen (lines_at p.parts.items i) (slice_index_or old i d).client
         (slice_index_or new i d)) → All IsPrinted new
-        → IsPhase law (lines_said lines) (players_of stands old) (texts_of new) (players_of stands new)
-    phase seen old new lines is as_many enough turns printed =
+        → IsPhase law (phase_said p) (players_of stands old) (texts_of new) (players_of stands new)
+    phase seen old new p is as_many enough turns printed =
         let olds = length-map old (λ u. player_of stands u.client) in
         let news = length-map new (λ u. player_of stands u.client) in
         let texts = length-map new (λ u. printed_text u.printed) in
@@ -251,22 +252,21 @@ module _ {C : Type 0} (stands : C → Standing) where
           each = λ i l b t a below.
               let in_old : i < length old = omega (below, olds, arith) in
               let in_new : i < length new = omega (in_old, as_many, arith) in
-              let in_lines : i < length lines = omega (in_old, enough, arith) in
-              let d = some_of old i in_old in let own = some_of lines i in_lines in
+              let in_lines : i < p.clients = omega (in_old, enough, arith) in
+              let d = some_of old i in_old in
               subst (λ ss. AreTold law ss (slice_index_or (players_of stands old) i b)
-              (slice_index_or (lines_said lines) i l) (slice_index_or (texts_of new) i t)
+              (slice_index_or (phase_said p) i l) (slice_index_or (texts_of new) i t)
               (slice_index_or (players_of stands new) i a)) is
-              (part seen old new lines i d own in_old in_new in_lines (turns i d own in_old)
+              (part seen old new p i d in_old in_new in_lines (turns i d in_old)
               (printed i d in_new) l b t a);
         }
 
     -- and they are of one group still
-    pub still_one : (seen : List Known) (old new : List (Turn C)) (lines : List (Vec Line)) → length new ≡ length old
-        → length old ≡ length lines
-        → ((i : ℕ) (d : Turn C) (own : Vec Line) → i < length old
-        → IsTurn law stands seen (slice_index_or lines i own).items (slice_index_or old i d).client
+    pub still_one : (seen : List Known) (old new : List (Turn C)) (p : Phase) → length new ≡ length old
+        → ((i : ℕ) (d : Turn C) → i < length old
+        → IsTurn law stands seen (lines_at p.parts.items i) (slice_index_or old i d).client
         (slice_index_or new i d))
         → (book : Book) → AreOf stands book old → AreOf stands book new
-    still_one seen old new lines as_many enough turns book of_one i d below =
+    still_one seen old new p as_many turns book of_one i d below =
         let in_old : i < length old = omega (below, as_many, arith) in
-        (turns i d (some_of lines i (omega (in_old, enough, arith))) in_old).group ∙ of_one i d in_old
+        (turns i d in_old).group ∙ of_one i d in_old

@@ -1,16 +1,16 @@
 //! A phase: each client with lines makes its calls on a thread of its own.
-ghost use Rattle.std.specs.Prelude.{◌≡◌, ◌<◌, IfOk, OnOk, length, map, slice_index_or};
+ghost use Rattle.std.specs.Prelude.{◌≡◌, ◌<◌, IfOk, OnOk, length, map};
 ghost use Rattle.std.specs.List.{All};
 ghost use Rattle.logbook.specs.Pages.{Book};
 ghost use Rattle.script_runner.specs.Phases.{AreTold, IsPhase, all_seen};
 ghost use Rattle.script_runner.specs.Inside.Players.{player_of, players_of};
-ghost use Rattle.script_runner.specs.Inside.Parsing.{line_said};
-ghost use Rattle.script_runner.specs.Inside.Turns.{AreOf, IsPrinted, IsTold, IsTurn, lines_said, texts_of};
+ghost use Rattle.script_runner.specs.Inside.Parsing.{line_said, lines_at, phase_said};
+ghost use Rattle.script_runner.specs.Inside.Turns.{AreOf, IsPrinted, IsTold, IsTurn, texts_of};
 
 use crate::callers::Caller;
 use crate::client::ScriptClient;
 use crate::reply::print_line;
-use crate::script::Line;
+use crate::script::{Line, Phase};
 use std::alloc::{AllocError, Global};
 use std::sync::Wait;
 use std::thread::{self, Threads};
@@ -85,7 +85,7 @@ impl<C: Caller + Drop> Turn<C> {
         lines: &[Line],
     )
         requires { All (λ s. (C.seen_by s).book ≡ (C.stands self.old.client.caller).mark.book) seen.now }
-        ensures { IsTurn C.law C.stands (map C.seen_by seen.now) lines.now self.old.client self.new }
+        ensures { IsTurn C.law C.stands (map C.seen_by seen.now) (map line_said lines.now) self.old.client self.new }
     {
         self.printed = self.client.tell_all(rt, alloc, gate, seen, lines);
     }
@@ -103,10 +103,9 @@ fn seen_of<C: Caller + Drop>(alloc: Global, turns: &[Turn<C>]) -> Result<Vec<C::
 }
 
 /// How many threads serve so many clients: one each where two have lines, and else the one that is there.
-fn threads_for(clients: usize, lines: &[Vec<Line>]) -> usize
+fn threads_for(clients: usize, busy: usize) -> usize
     ensures { 0 < clients → 0 < result }
 {
-    let busy = lines.iter().filter(|own| !own.is_empty()).count();
     if busy < 2 { 1 } else { clients }
 }
 
@@ -116,12 +115,12 @@ pub(crate) fn run_phase<R: Threads + Wait + Sync, G: Gate, C: Caller + Send + Dr
     alloc: Global,
     gate: &G,
     turns: &mut [Turn<C>],
-    lines: &[Vec<Line>],
+    phase: &Phase,
 ) -> Result<(), AllocError>
-    requires lines { length turns.old ≡ length lines.now }
+    requires lines { length turns.old ≡ phase.now.clients }
     requires one { (b : Book) × AreOf C.stands b turns.old }
     ensures phase { OnOk result (All IsPrinted turns.new
-        → IsPhase C.law (lines_said lines.now) (players_of C.stands turns.old) (texts_of turns.new)
+        → IsPhase C.law (phase_said phase.now) (players_of C.stands turns.old) (texts_of turns.new)
         (players_of C.stands turns.new)) }
     ensures group { (b : Book) → AreOf C.stands b turns.old → AreOf C.stands b turns.new }
     ensures count { length turns.new ≡ length turns.old }
@@ -130,17 +129,16 @@ pub(crate) fn run_phase<R: Threads + Wait + Sync, G: Gate, C: Caller + Send + Dr
         return Ok(());
     }
     let seen = seen_of(alloc, turns)?;
-    let count = threads_for(turns.len(), lines);
+    let count = threads_for(turns.len(), phase.busy());
     thread::for_each_mut(
         rt,
         turns,
         count,
         &|i, turn| -> ()
-            requires place { i < length lines.now }
             requires one { All (λ s. (C.seen_by s).book ≡ (C.stands turn.now.client.caller).mark.book) seen.items }
-            ensures { (l : _) → IsTurn C.law C.stands (map C.seen_by seen.items)
-                (slice_index_or lines.entry.now i l).items turn.entry.now.client turn.exit.now }
-        { turn.play(rt, alloc, gate, &seen, &lines[i]) },
+            ensures { IsTurn C.law C.stands (map C.seen_by seen.items)
+                (lines_at phase.entry.now.parts.items i) turn.entry.now.client turn.exit.now }
+        { turn.play(rt, alloc, gate, &seen, phase.lines_of(i)) },
     );
     Ok(())
 }

@@ -57,7 +57,7 @@ fn write_phase<R: Threads + Wait + Sync, G: Gate, C: Caller + Send + Drop, W: io
     phase: &Phase,
     out: &mut W,
 ) -> Result<(), Fault>
-    requires lines { length turns.old ≡ vec_len phase.now.lines }
+    requires lines { length turns.old ≡ phase.now.clients }
     requires one { (b : Book) × AreOf C.stands b turns.old }
     ensures phase { OnOk result (IsPhase C.law (phase_said phase.now) (players_of C.stands turns.old)
         (texts_of turns.new) (players_of C.stands turns.new)) }
@@ -67,7 +67,7 @@ fn write_phase<R: Threads + Wait + Sync, G: Gate, C: Caller + Send + Drop, W: io
     ensures want { IsWant result → Keeps (W.contents out.old) (W.contents out.new) }
     ensures fault { IfErr result (λ e. IsOfScript e → ⊥) }
 {
-    run_phase(rt, alloc, gate, turns, &phase.lines)?;
+    run_phase(rt, alloc, gate, turns, phase)?;
     let text = text_of(alloc, turns)?;
     if out.write_all(&text).is_err() {
         return Err(Fault::Write);
@@ -84,7 +84,7 @@ fn run_phases<R: Threads + Wait + Sync, G: Gate, C: Caller + Send + Drop, W: io:
     phases: &[Phase],
     out: &mut W,
 ) -> Result<(), Fault>
-    requires lines { All (λ p. vec_len p.lines ≡ length turns.old) phases.now }
+    requires lines { All (λ p. p.clients ≡ length turns.old) phases.now }
     requires one { (b : Book) × AreOf C.stands b turns.old }
     ensures written { OnOk result ((text : _)
         × AreWritten C.law (players_of C.stands turns.old) (map phase_said phases.now) text

@@ -3,7 +3,8 @@
 //! `Parser` takes the lines one after the other and keeps what they say. No line is looked at twice as text.
 //! Each function that takes a piece of a line says, by the definition of that piece, what the lines have said after
 //! it, or which fault the piece has.
-ghost use Rattle.std.specs.Prelude.{◌≡◌, codes, [], ◌∷◌, ◌++◌, map, replicate, unwrap_or, is_none, IfOk, OnOk, Some};
+ghost use Rattle.std.specs.Prelude.{◌≡◌, ◌==◌, codes, [], ◌∷◌, ◌++◌, map, replicate, position, vec_len};
+ghost use Rattle.std.specs.Prelude.{unwrap_or, is_none, IfOk, OnOk, None, Some};
 ghost use Rattle.std.specs.Option.{option_copied};
 ghost use Rattle.std.specs.Result.{result_err};
 ghost use Rattle.std.specs.Str.Lossy.{utf8_valid_len};
@@ -13,7 +14,7 @@ ghost use Rattle.script_runner.specs.Commands.{bare_command, scan_words};
 ghost use Rattle.script_runner.specs.Inside.Commands.{scan_said};
 ghost use Rattle.script_runner.specs.Faults.{Checks, script_said, first_fault, said_in, lines_of, line_of_bad_byte};
 ghost use Rattle.script_runner.specs.Inside.Faults.{Tests, TestsLine, Reads};
-ghost use Rattle.script_runner.specs.Inside.Parsing.{client_said, line_said, phase_said, context_of, IsScript};
+ghost use Rattle.script_runner.specs.Inside.Parsing.{client_said, line_said, lines_at, phase_said, context_of, IsScript};
 ghost use Rattle.script_runner.specs.Inside.Parsing.{IsChecked};
 ghost use Rattle.script_runner.specs.Words.{is_uuid, uuid_said, is_start, start_said, is_limit, limit_said, is_json};
 ghost use Rattle.script_runner.specs.Words.{json_said};
@@ -103,10 +104,21 @@ pub(crate) struct Line {
     pub(crate) command: Command,
 }
 
-/// A phase: the lines of each client, in the order of the `client` lines.
+/// The lines of one client in a phase.
+#[derive(Drop)]
+pub(crate) struct Part {
+    /// Its place among the `client` lines.
+    client: usize,
+    lines: Vec<Line>,
+}
+
+/// A phase: the parts of the clients that have lines in it, in the order of their first lines. A client without a part
+/// has no line.
 #[derive(Drop)]
 pub(crate) struct Phase {
-    pub(crate) lines: Vec<Vec<Line>>,
+    /// How many clients the script has.
+    clients: usize,
+    parts: Vec<Part>,
 }
 
 /// A script, checked whole.
@@ -257,7 +269,7 @@ impl Parser {
             (context_of self.new) result }
     {
         no_words(rest)?;
-        let phase = Phase::new(self.alloc, self.header.clients.len())?;
+        let phase = Phase::new(self.alloc, self.header.clients.len());
         self.phases.push(phase)?;
         Ok(())
     }
@@ -379,7 +391,7 @@ impl Parser {
             drop(line);
             return Ok(());
         };
-        phase.keep(client, line)?;
+        phase.keep(self.alloc, client, line)?;
         Ok(())
     }
 
@@ -596,26 +608,60 @@ impl Phase {
     ghost use Rattle.script_runner.specs.Commands.{changed_at};
 
     /// A phase of no lines yet, of so many clients.
-    fn new(alloc: Global, clients: usize) -> Result<Phase, AllocError>
-        ensures { IfOk result (λ phase. phase_said phase ≡ replicate clients []) }
+    fn new(alloc: Global, clients: usize) -> Phase
+        ensures { phase_said result ≡ replicate clients [] }
     {
-        let mut lines = Vec::new(alloc);
-        for _client in 0..clients {
-            lines.push(Vec::new(alloc))?;
+        Phase {
+            clients,
+            parts: Vec::new(alloc),
         }
-        Ok(Phase { lines })
+    }
+
+    /// How many clients have lines.
+    pub(crate) fn busy(&self) -> usize
+        ensures { result ≡ vec_len self.now.parts }
+    {
+        self.parts.len()
+    }
+
+    /// Where the part of a client is.
+    fn part_of(&self, client: usize) -> Option<usize>
+        ensures { result ≡ position (λ part. part.client == client) self.now.parts.items }
+    {
+        self.parts.iter().position(|part| part.client == client)
+    }
+
+    /// The lines of the client at a place.
+    pub(crate) fn lines_of(&self, client: usize) -> &[Line]
+        ensures { map line_said result.now ≡ lines_at self.now.parts.items client }
+    {
+        match self.part_of(client) {
+            Some(place) => &self.parts[place].lines,
+            None => &[],
+        }
     }
 
     /// Adds a line at the end of those of a client.
-    fn keep(&mut self, client: usize, line: Line) -> Result<(), AllocError>
+    fn keep(&mut self, alloc: Global, client: usize, line: Line) -> Result<(), AllocError>
         ensures { OnOk result (phase_said self.new
             ≡ changed_at client (λ lines. lines ++ line_said line ∷ []) (phase_said self.old)) }
     {
-        let Some(lines) = self.lines.get_mut(client) else {
-            drop(line);
-            return Ok(());
+        let Some(place) = self.part_of(client) else {
+            return self.keep_first(alloc, client, line);
         };
+        self.parts[place].lines.push(line)?;
+        Ok(())
+    }
+
+    /// Adds the first line of a client.
+    fn keep_first(&mut self, alloc: Global, client: usize, line: Line) -> Result<(), AllocError>
+        requires { position (λ part. part.client == client) self.old.parts.items ≡ None }
+        ensures { OnOk result (phase_said self.new
+            ≡ changed_at client (λ lines. lines ++ line_said line ∷ []) (phase_said self.old)) }
+    {
+        let mut lines = Vec::with_capacity(alloc, 1)?;
         lines.push(line)?;
+        self.parts.push(Part { client, lines })?;
         Ok(())
     }
 }

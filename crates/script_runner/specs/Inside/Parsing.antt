@@ -1,5 +1,6 @@
 -- What a parser has read.
-use Rattle.std.specs.Prelude.{◌≡◌, ⊤, ℕ, ◌<◌, ◌≤◌, List, map, All, IfSome, vec_len}
+use Rattle.std.specs.Prelude.{◌≡◌, ⊤, ℕ, ◌<◌, ◌≤◌, ◌==◌, List, [], ◌∷◌, map, All, IfSome, vec_len, if◌then◌else◌}
+use Rattle.std.specs.List.{range_with_len}
 use Rattle.uuid.specs.Text.{hyphenated_text, lower}
 use Rattle.group_history.specs.Map.{Bytes}
 use Rattle.group_history.specs.Refs.{max_slots, max_seats}
@@ -8,6 +9,7 @@ use Rattle.script_runner.specs.declared.script.Command.{Command}
 use Rattle.script_runner.specs.declared.script.Command.TheVariants as command
 use Rattle.script_runner.specs.declared.script.Line.{Line}
 use Rattle.script_runner.specs.declared.names.Made.{Made}
+use Rattle.script_runner.specs.declared.script.Part.{Part}
 use Rattle.script_runner.specs.declared.script.Phase.{Phase}
 use Rattle.script_runner.specs.declared.script.Script.{Script}
 use Rattle.script_runner.specs.declared.script.Parser.{Parser}
@@ -21,9 +23,14 @@ client_said client = (client.name, hyphenated_text lower client.id)
 abbrev pub line_said : Line → ℕ × Command
 line_said line = (line.number, line.command)
 
+-- what the lines of the client at a place have said; of a client without a part there are none
+abbrev pub lines_at : List Part → ℕ → Lines
+lines_at [] client = []
+lines_at (p ∷ ps) client = if p.client == client then map line_said p.lines.items else lines_at ps client
+
 -- what the lines of a phase have said, client by client
 abbrev pub phase_said : Phase → List Lines
-phase_said phase = map (λ lines. map line_said lines.items) phase.lines.items
+phase_said phase = map (lines_at phase.parts.items) (range_with_len 0 phase.clients)
 
 -- what a line has said that makes a ticket or a watch: the place of its client, and the name
 abbrev pub made_said : Made → ℕ × Bytes
@@ -59,9 +66,8 @@ LearnsWithin n k = ⊤
 -- what holds of a script that was checked
 pub record IsChecked (script : Script) : Type 0 where
   -- a phase has the lines of each client
-  pub each_client : All (λ phase. vec_len phase.lines ≡ vec_len script.header.clients) script.phases.items
+  pub each_client : All (λ phase. phase.clients ≡ vec_len script.header.clients) script.phases.items
   pub seats : vec_len script.header.clients ≤ max_seats
   pub slots : IfSome script.header.slots (λ n. (16 ≤ n) × (n ≤ max_slots))
   pub learnt : All (λ phase. All (λ lines. All
-      (λ line. LearnsWithin (vec_len script.header.clients) line.command) lines.items) phase.lines.items)
-      script.phases.items
+      (λ line. LearnsWithin (vec_len script.header.clients) line.1) lines) (phase_said phase)) script.phases.items

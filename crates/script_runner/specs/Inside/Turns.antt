@@ -11,14 +11,12 @@ use Rattle.rebase.specs.Replies.{Replied}
 use Rattle.rebase.specs.declared.calls.Call.{Call}
 use Rattle.script_runner.specs.declared.client.ScriptClient.{ScriptClient}
 use Rattle.script_runner.specs.declared.phase.Turn.{Turn}
-use Rattle.script_runner.specs.declared.script.Line.{Line}
 use Rattle.script_runner.specs.declared.script.Command.{Command}
 use Rattle.script_runner.specs.Callers.{Rules, Standing}
 use Rattle.script_runner.specs.Commanding.{MayPrint, Player}
 use Rattle.script_runner.specs.Context.{Lines}
 use Rattle.script_runner.specs.Phases.{AreTold}
 use Rattle.script_runner.specs.Printing.{line_text}
-use Rattle.script_runner.specs.Inside.Parsing.{line_said}
 use Rattle.script_runner.specs.Inside.Players.{player_of}
 
 -- what was printed of a client's part, where memory wasn't refused
@@ -32,10 +30,6 @@ IsPrinted turn = IsOk turn.printed
 
 abbrev pub texts_of : {C : Type 0} → List (Turn C) → List Bytes
 texts_of turns = map (λ t. printed_text t.printed) turns
-
--- the lines of each client
-abbrev pub lines_said : List (Vec Line) → List Lines
-lines_said lines = map (λ own. map line_said own.items) lines
 
 -- all clients are of one group
 abbrev pub AreOf : {C : Type 0} → (C → Standing) → Book → List (Turn C) → Type 0
@@ -51,8 +45,8 @@ module _ (law : Rules) where
     pub text : new ≡ old ++ line_text l.0 before.name told
 
   -- a client's part of a phase, where memory wasn't refused
-  pub record IsTurn {C : Type 0} (stands : C → Standing) (seen : List Known) (lines : List Line) (before : ScriptClient C)
+  pub record IsTurn {C : Type 0} (stands : C → Standing) (seen : List Known) (lines : Lines) (before : ScriptClient C)
       (after : Turn C) : Type 0 where
-    pub told : IfOk after.printed (λ text. AreTold law seen (player_of stands before) (map line_said lines) text.items
+    pub told : IfOk after.printed (λ text. AreTold law seen (player_of stands before) lines text.items
         (player_of stands after.client))
     pub group : (stands after.client.caller).mark.book ≡ (stands before.caller).mark.book

@@ -1,37 +1,32 @@
-use Rattle.std.proofs.Common.{arith, rules, ◌≡◌, ℕ, ◌<◌, ◌∙◌, sym, subst, length, map, slice_index_or}
-use Rattle.std.specs.Global.{Vec}
+use Rattle.std.proofs.Common.{rules, ◌≡◌, ℕ, ◌<◌, subst, length, map, slice_index_or}
 use Rattle.script_runner.specs.declared.phase.Turn.{Turn}
-use Rattle.script_runner.specs.declared.script.Line.{Line}
+use Rattle.script_runner.specs.Inside.Parsing.{lines_at}
 use Rattle.script_runner.specs.Inside.Turns.{IsTurn}
 use Rattle.script_runner.proofs.Turns.{lent, phase, still_one}
 use Rattle.script_runner.proofs.phase.run_phase.Goals as goal
 
 pub for_each_mut-requires-clause-accepts : goal.for_each_mut-requires-clause-accepts
 for_each_mut-requires-clause-accepts g c b m i p below is = (
-  omega (arith, below, c.requires.lines),
-  (
-    λ k d in_seen. lent g.C.Caller.stands g.C.Caller.seen_by c.args.turns.now c.in_ok-seen.seen.items i p.now k d
-        c.in_ok-seen.ensures c.requires.one below is in_seen,
-    (search rules, search rules, search rules, search rules),
-  ),
+  λ k d in_seen. lent g.C.Caller.stands g.C.Caller.seen_by c.args.turns.now c.in_ok-seen.seen.items i p.now k d
+      c.in_ok-seen.ensures c.requires.one below is in_seen,
+  (search rules, search rules, search rules, search rules),
 )
 
 pub returns : goal.returns
 returns g c =
     let stands = g.C.Caller.stands in let law = g.C.Caller.law in
-    let old = c.args.turns.now in let new = c.for_each_mut.new.s in let lines = c.args.lines.now in
+    let old = c.args.turns.now in let new = c.for_each_mut.new.s in let said = c.args.phase.now in
     let seen = map g.C.Caller.seen_by c.in_ok-seen.seen.items in
-    let turns : (i : ℕ) (d : Turn _) (own : Vec Line) → i < length old
-    → IsTurn law stands seen (slice_index_or lines i own).items (slice_index_or old i d).client
-    (slice_index_or new i d) = λ i d own below.
+    let turns : (i : ℕ) (d : Turn _) → i < length old
+    → IsTurn law stands seen (lines_at said.parts.items i) (slice_index_or old i d).client
+    (slice_index_or new i d) = λ i d below.
     let w = (c.for_each_mut.ensures i d below).1 in
-    subst (λ x. IsTurn law stands seen (slice_index_or lines i own).items x.client
+    subst (λ x. IsTurn law stands seen (lines_at said.parts.items i) x.client
     (slice_index_or new i d)) w.argument_is
-    (subst (λ y. IsTurn law stands seen (slice_index_or lines i own).items w.argument.now.client y) w.left
-    (w.call own)) in
+    (subst (λ y. IsTurn law stands seen (lines_at said.parts.items i) w.argument.now.client y) w.left w.call) in
     record {
-      phase = λ printed. phase stands law seen old new lines c.in_ok-seen.ensures c.for_each_mut.auto.s
+      phase = λ printed. phase stands law seen old new said c.in_ok-seen.ensures c.for_each_mut.auto.s
           c.requires.lines turns printed;
-      group = still_one stands law seen old new lines c.for_each_mut.auto.s c.requires.lines turns;
+      group = still_one stands law seen old new said c.for_each_mut.auto.s turns;
       count = c.for_each_mut.auto.s;
     }
