@@ -5,7 +5,6 @@ use Rattle.std.proofs.lemmas.List.{length-map}
 use Rattle.std.proofs.lemmas.List.Elements.{All-weaker}
 use Rattle.std.proofs.lemmas.List.FromFn.{length-map-range_with_len}
 use Rattle.group_history.specs.Refs.{max_seats}
-use Rattle.script_runner.specs.declared.script.Phase.{Phase}
 use Rattle.script_runner.specs.declared.script.Parser.{Parser}
 use Rattle.script_runner.specs.Context.{Lines}
 use Rattle.script_runner.specs.Inside.Parsing.{client_said, lines_at, phase_said, context_of, IsChecked}

@@ -9,7 +9,6 @@ use Rattle.std.specs.List.{list_any, position, position_from, range_with_len}
 use Rattle.script_runner.specs.declared.script.Part.{Part}
 use Rattle.script_runner.specs.declared.script.Command.{Command}
 use Rattle.script_runner.specs.Commands.{changed_at}
-use Rattle.script_runner.specs.Context.{Lines}
 use Rattle.script_runner.specs.Inside.Parsing.{line_said, lines_at}
 
 -- PLACES

@@ -293,6 +293,18 @@ pub(crate) fn run_owned<R: AllocGlobal + Threads + Wait + Sync, G: Gate, W: io::
     run_shared(rt, &checked, gate, out)
 }
 
+/// A client of a plain group.
+fn plain_client<'g>(
+    alloc: Global,
+    line: &ClientLine,
+    group: &'g Mutex<Plain>,
+) -> Result<Turn<PlainClient<'g>>, AllocError>
+    ensures { IfOk result (λ turn. turn.client.name ≡ line.now.name) }
+{
+    let id = uuid_text(alloc, line.id)?;
+    turn_of(alloc, &line.name, PlainClient::new(alloc, group, id))
+}
+
 /// Clients of a plain group, in the order of their lines.
 fn plain_clients<'g>(
     alloc: Global,
@@ -303,8 +315,8 @@ fn plain_clients<'g>(
 {
     let mut turns = Vec::with_capacity(alloc, lines.len())?;
     for line in lines {
-        let client = PlainClient::new(alloc, group, uuid_text(alloc, line.id)?);
-        turns.push(turn_of(alloc, &line.name, client)?)?;
+        let turn = plain_client(alloc, line, group)?;
+        turns.push(turn)?;
     }
     Ok(turns)
 }

@@ -1,4 +1,4 @@
-use Rattle.std.proofs.Common.{rules, ◌≡◌, ℕ, ◌<◌, subst, length, map, slice_index_or}
+use Rattle.std.proofs.Common.{rules, ℕ, ◌<◌, subst, length, map, slice_index_or}
 use Rattle.script_runner.specs.declared.phase.Turn.{Turn}
 use Rattle.script_runner.specs.Inside.Parsing.{lines_at}
 use Rattle.script_runner.specs.Inside.Turns.{IsTurn}
