@@ -10,43 +10,72 @@ mod filled;
 mod groups;
 mod job;
 mod numbers;
+mod pauses;
+mod readers;
 
 use job::{Job, Kind};
 use std::alloc::Global;
 use std::io::{Read, Write};
 use std::process::ExitCode;
-use std::time::CpuClock;
+use std::thread::Threads;
+use std::time::{Clock, CpuClock};
 
-fn job_of(line: &str) -> Option<Job> {
-    let (name, numbers) = line.split_once(' ')?;
+fn numbers_of(numbers: &str) -> Option<(u64, u64)> {
     let (keys, pending) = numbers.split_once(' ')?;
-    Some(Job {
-        kind: Kind::named(name)?,
-        keys: keys.parse::<u64>().ok()?,
-        pending: pending.parse::<u64>().ok()?,
-    })
+    Some((keys.parse::<u64>().ok()?, pending.parse::<u64>().ok()?))
 }
 
-fn run_line<K: CpuClock, W: Write>(
+fn run_job<K: CpuClock, W: Write>(
     clock: &K,
     alloc: Global,
     out: &mut W,
-    line: &str,
+    name: &str,
+    job: Job,
 ) -> anyhow::Result<()> {
-    let Some(job) = job_of(line) else {
-        return Ok(());
-    };
-    let (keys, pending) = (job.keys, job.pending);
-    let Some((name, _)) = line.split_once(' ') else {
-        return Ok(());
-    };
     let time = groups::run(clock, alloc, job)?;
+    let (keys, pending) = (job.keys, job.pending);
     writeln!(out, "{name}\tgroup\t{keys}\t{pending}\t{time}\tns")?;
     Ok(())
 }
 
-fn program<K: CpuClock, I: Read, W: Write>(
-    clock: &K,
+fn run_readers<R: Threads + Clock + Sync, W: Write>(
+    rt: &R,
+    alloc: Global,
+    out: &mut W,
+    keys: u64,
+    every: u64,
+) -> anyhow::Result<()> {
+    let told = readers::run(rt, alloc, keys, every)?;
+    let (gets, mutations, pause) = (told.gets, told.mutations, told.pause);
+    writeln!(out, "readers_gets\tgroup\t{keys}\t{every}\t{gets}\ta second")?;
+    writeln!(out, "readers_mutations\tgroup\t{keys}\t{every}\t{mutations}\ta second")?;
+    writeln!(out, "readers_pause_999\tgroup\t{keys}\t{every}\t{pause}\tns")?;
+    Ok(())
+}
+
+fn run_line<R: Threads + Clock + CpuClock + Sync, W: Write>(
+    rt: &R,
+    alloc: Global,
+    out: &mut W,
+    line: &str,
+) -> anyhow::Result<()> {
+    let Some((name, numbers)) = line.split_once(' ') else {
+        return Ok(());
+    };
+    let Some((keys, pending)) = numbers_of(numbers) else {
+        return Ok(());
+    };
+    if name == "readers" {
+        return run_readers(rt, alloc, out, keys, pending);
+    }
+    match Kind::named(name) {
+        Some(kind) => run_job(rt, alloc, out, name, Job { kind, keys, pending }),
+        None => Ok(()),
+    }
+}
+
+fn program<R: Threads + Clock + CpuClock + Sync, I: Read, W: Write>(
+    rt: &R,
     alloc: Global,
     input: &mut I,
     out: &mut W,
@@ -54,7 +83,7 @@ fn program<K: CpuClock, I: Read, W: Write>(
     let mut text = Vec::new(alloc);
     input.read_to_end(&mut text)?;
     for line in str::from_utf8(&text)?.lines() {
-        run_line(clock, alloc, out, line)?;
+        run_line(rt, alloc, out, line)?;
     }
     Ok(())
 }
