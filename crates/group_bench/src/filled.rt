@@ -49,7 +49,11 @@ impl<'g> Filled<'g> {
             let from = part.wrapping_mul(PART);
             let count = keys.saturating_sub(from).min(PART);
             let counters = part == 0;
-            self.pull(Puts { from, count, counters })?;
+            self.pull(Puts {
+                from,
+                count,
+                counters,
+            })?;
         }
         self.keys = keys;
         Ok(())

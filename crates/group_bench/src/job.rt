@@ -69,10 +69,7 @@ fn each(time: Duration, operations: u64) -> u64 {
 }
 
 fn since<K: CpuClock>(clock: &K, start: Duration, operations: u64) -> anyhow::Result<u64> {
-    Ok(each(
-        clock.thread_cpu_time()?.saturating_sub(start),
-        operations,
-    ))
+    Ok(each(clock.thread_cpu_time()?.saturating_sub(start), operations))
 }
 
 impl Job {
@@ -177,11 +174,7 @@ fn mutate_once<K: CpuClock>(
     Ok(time)
 }
 
-fn mutations<K: CpuClock>(
-    clock: &K,
-    filled: &mut Filled<'_>,
-    pending: u64,
-) -> anyhow::Result<u64> {
+fn mutations<K: CpuClock>(clock: &K, filled: &mut Filled<'_>, pending: u64) -> anyhow::Result<u64> {
     let args = many_args(filled.alloc, 3, MUTATIONS)?;
     let mut best = u64::MAX;
     for _ in 0..15 {
@@ -219,7 +212,12 @@ fn rebases<K: CpuClock>(clock: &K, filled: &mut Filled<'_>, pending: u64) -> any
     Ok(best)
 }
 
-fn write_row(out: &mut Vec<u8>, token: Vec<u8>, key: &str, value: &Json) -> anyhow::Result<Vec<u8>> {
+fn write_row(
+    out: &mut Vec<u8>,
+    token: Vec<u8>,
+    key: &str,
+    value: &Json,
+) -> anyhow::Result<Vec<u8>> {
     let mut writer = Writer::new(token);
     writer.string(key)?;
     let token = writer.into_inner();
@@ -298,10 +296,7 @@ fn pushes<K: CpuClock>(clock: &K, filled: &mut Filled<'_>, pending: u64) -> anyh
 
 fn reads<K: CpuClock>(clock: &K, filled: &mut Filled<'_>) -> anyhow::Result<u64> {
     let count = filled.keys;
-    let body = filled.response(Puts {
-        count,
-        ..NOTHING
-    })?;
+    let body = filled.response(Puts { count, ..NOTHING })?;
     let mut best = u64::MAX;
     for _ in 0..15 {
         let start = clock.thread_cpu_time()?;

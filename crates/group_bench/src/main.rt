@@ -1,8 +1,9 @@
 //! Times the calls of a group.
 //!
 //! Each line of standard input is a job, a number of keys and a number of pending mutations, parted by spaces. Printed
-//! are the job, the variant, both numbers, what was measured and its unit, parted by tabs. On empty input the names of
-//! the jobs are printed.
+//! are the job, the variant, both numbers, what was measured and its unit, parted by tabs. `readers` takes how many
+//! mutations there are to a pull in place of the pending ones, and prints three lines. On empty input the names of the
+//! jobs are printed.
 #![tactic(auto)]
 
 mod bodies;
@@ -47,9 +48,18 @@ fn run_readers<R: Threads + Clock + Sync, W: Write>(
 ) -> anyhow::Result<()> {
     let told = readers::run(rt, alloc, keys, every)?;
     let (gets, mutations, pause) = (told.gets, told.mutations, told.pause);
-    writeln!(out, "readers_gets\tgroup\t{keys}\t{every}\t{gets}\ta second")?;
-    writeln!(out, "readers_mutations\tgroup\t{keys}\t{every}\t{mutations}\ta second")?;
-    writeln!(out, "readers_pause_999\tgroup\t{keys}\t{every}\t{pause}\tns")?;
+    writeln!(
+        out,
+        "readers_gets\tgroup\t{keys}\t{every}\t{gets}\ta second"
+    )?;
+    writeln!(
+        out,
+        "readers_mutations\tgroup\t{keys}\t{every}\t{mutations}\ta second"
+    )?;
+    writeln!(
+        out,
+        "readers_pause_999\tgroup\t{keys}\t{every}\t{pause}\tns"
+    )?;
     Ok(())
 }
 
@@ -69,9 +79,38 @@ fn run_line<R: Threads + Clock + CpuClock + Sync, W: Write>(
         return run_readers(rt, alloc, out, keys, pending);
     }
     match Kind::named(name) {
-        Some(kind) => run_job(rt, alloc, out, name, Job { kind, keys, pending }),
+        Some(kind) => run_job(
+            rt,
+            alloc,
+            out,
+            name,
+            Job {
+                kind,
+                keys,
+                pending,
+            },
+        ),
         None => Ok(()),
     }
+}
+
+const NAMES: [&str; 9] = [
+    "get",
+    "get_in_one",
+    "mutate",
+    "pull",
+    "rebase",
+    "scan",
+    "push",
+    "read",
+    "readers",
+];
+
+fn print_names<W: Write>(out: &mut W) -> anyhow::Result<()> {
+    for name in NAMES {
+        writeln!(out, "{name}")?;
+    }
+    Ok(())
 }
 
 fn program<R: Threads + Clock + CpuClock + Sync, I: Read, W: Write>(
@@ -82,6 +121,9 @@ fn program<R: Threads + Clock + CpuClock + Sync, I: Read, W: Write>(
 ) -> anyhow::Result<()> {
     let mut text = Vec::new(alloc);
     input.read_to_end(&mut text)?;
+    if text.is_empty() {
+        return print_names(out);
+    }
     for line in str::from_utf8(&text)?.lines() {
         run_line(rt, alloc, out, line)?;
     }

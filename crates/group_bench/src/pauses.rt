@@ -10,7 +10,9 @@ fn place(nanoseconds: u64) -> usize {
         return nanoseconds as usize;
     }
     let power = 63u32.saturating_sub(nanoseconds.leading_zeros());
-    let eighths = nanoseconds.checked_shr(power.saturating_sub(3)).unwrap_or(8);
+    let eighths = nanoseconds
+        .checked_shr(power.saturating_sub(3))
+        .unwrap_or(8);
     let place = u64::from(power)
         .saturating_mul(8)
         .saturating_add(eighths)

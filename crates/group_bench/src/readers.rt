@@ -148,7 +148,9 @@ fn writes_and_ends<K: Clock>(
 }
 
 // What two threads were told, where neither was refused.
-fn both<A: Drop, B: Drop>(told: (Result<A, Refusal>, Result<B, Refusal>)) -> Result<(A, B), Refusal> {
+fn both<A: Drop, B: Drop>(
+    told: (Result<A, Refusal>, Result<B, Refusal>),
+) -> Result<(A, B), Refusal> {
     let (a, b) = told;
     Ok((a?, b?))
 }
@@ -207,7 +209,25 @@ fn four_run<R: Threads + Clock + Sync>(
     Ok((pauses, made))
 }
 
-// Clients on the next seats, that read.
+// A client on the next seat, that reads.
+fn reader_of<'g>(
+    alloc: Global,
+    group: &'g Shared,
+    seats: &mut Seats<ScriptMutators, Store>,
+    id: &str,
+) -> Result<Reader<'g>, Refusal>
+    requires { All (λ seat. (seat.mark.book ≡ group.now.shared.head)
+        × (seat.slots.table ≡ group.now.shared.store.claims)) seats.old.free.items }
+    ensures { All (λ seat. (seat.mark.book ≡ group.now.shared.head)
+        × (seat.slots.table ≡ group.now.shared.store.claims)) seats.new.free.items }
+{
+    let client = client_of(group, seats, id)?;
+    Ok(Reader {
+        client,
+        out: Vec::new(alloc),
+    })
+}
+
 fn readers_of<'g>(
     alloc: Global,
     group: &'g Shared,
@@ -217,13 +237,9 @@ fn readers_of<'g>(
         × (seat.slots.table ≡ group.now.shared.store.claims)) seats.old.free.items }
 {
     let mut readers = Vec::new(alloc);
-    for id in [A, B, C] {
-        let client = client_of(group, seats, id)?;
-        readers.push(Reader {
-            client,
-            out: Vec::new(alloc),
-        })?;
-    }
+    readers.push(reader_of(alloc, group, seats, A)?)?;
+    readers.push(reader_of(alloc, group, seats, B)?)?;
+    readers.push(reader_of(alloc, group, seats, C)?)?;
     Ok(readers)
 }
 
