@@ -1,9 +1,9 @@
 //! A group in a lock: the pulled map and the view, each a `BTreeMap`, and what is pending as a list.
 //!
 //! A pull puts its patch into the pulled map, clones that, and runs what stays pending on the clone. Left out: a
-//! mutator that fails after it has put something isn't undone, a client's last ID is the caller's to know, cookies with
-//! a field `order`, closing, and names that come twice in a response. Nobody reads while a pull is applied; the response
-//! is read before the lock is taken, and the old view is dropped after it.
+//! mutator that fails after it has put something isn't undone, a client's last ID is the caller's to know, that another
+//! pull overtook this one, cookies with a field `order`, closing, and names that come twice in a response. Nobody reads
+//! while a pull is applied; the response is read before the lock is taken, and the old view is dropped after it.
 use baselines::wire::{push_body, write_row, Change, Cookie, Response};
 use baselines::{run, Args, Group, Identity, Mutation, Refusal, Text, View};
 use std::cmp::Ordering;
