@@ -11,7 +11,7 @@ use Rattle.group_history.specs.Naming.{drafted_content}
 use Rattle.group_history.specs.Spelling.{Version, version_at}
 use Rattle.group_history.proofs.Spellings.{version-stays}
 use Rattle.group_history.proofs.Lists.{get_more}
-use Rattle.head_word.specs.declared.entry.Draft.{Draft}
+use Rattle.head_word.specs.declared.entry.DraftEntry.{DraftEntry}
 use Rattle.head_word.specs.declared.entry.Entry.{Entry}
 use Rattle.head_word.specs.declared.entry.Entry.TheVariants as v
 use Rattle.head_word.specs.Books.{drafted_contents, drawn, numbered, record_of}
@@ -52,7 +52,7 @@ get_back (x ∷ xs) ys k = ap (slice_get (x ∷ xs ++ ys))
 
 -- by places from the book's front: with n stamps drawn before these entries, a draft's node at place p is n stamps
 -- further back
-drafted_at : (n : ℕ) (log : List Entry) → numbered n log ≡ true → (at : ℕ) (d : Draft) → IsDraftAt log at d → (p : ℕ)
+drafted_at : (n : ℕ) (log : List Entry) → numbered n log ≡ true → (at : ℕ) (d : DraftEntry) → IsDraftAt log at d → (p : ℕ)
     → p < length d.contents
     → (k : ℕ) × (d.first + p ≡ n + k) × (k < length (drawn log))
     × (slice_get (drawn log) k ≡ option_map (drafted_content d.first) (slice_get d.contents p))
@@ -62,12 +62,12 @@ drafted_at n (v.Draft e ∷ es) h zero d is p lt =
     let first : e.first ≡ n = eqb-true e.first n (both (e.first == n) (numbered (n + length e.contents) es) h).0 in
     let dc = drafted_contents d.first d.contents in
     let long = length-drafted d.first d.contents in
-    subst (λ (w : Draft). (k : ℕ) × (d.first + p ≡ n + k)
+    subst (λ (w : DraftEntry). (k : ℕ) × (d.first + p ≡ n + k)
     × (k < length (drafted_contents w.first w.contents ++ drawn es))
     × (slice_get (drafted_contents w.first w.contents ++ drawn es) k
     ≡ option_map (drafted_content d.first) (slice_get d.contents p))) (sym same) (
       p,
-      omega (arith, first, ap (λ (w : Draft). w.first) same),
+      omega (arith, first, ap (λ (w : DraftEntry). w.first) same),
       omega (arith, lt, long, length-append dc (drawn es)),
       get_front dc (drawn es) p (omega (arith, lt, long)) ∙ slice_get-map (drafted_content d.first) d.contents p,
     )
@@ -85,7 +85,7 @@ drafted_at n (v.Move m ∷ es) h zero d is p lt = absurd cc
 drafted_at n (v.Move m ∷ es) h (suc at) d is p lt = drafted_at n es h at d is p lt
 
 -- stamps of drafts behind n stamps are n or more
-drawn_behind : (n : ℕ) (log : List Entry) → numbered n log ≡ true → (at : ℕ) (d : Draft)
+drawn_behind : (n : ℕ) (log : List Entry) → numbered n log ≡ true → (at : ℕ) (d : DraftEntry)
     → IsDraftAt log at d → n ≤ d.first
 drawn_behind n [] h at d is = absurd cc
 drawn_behind n (v.Draft e ∷ es) h zero d is =
@@ -93,7 +93,7 @@ drawn_behind n (v.Draft e ∷ es) h zero d is =
     omega (
       arith,
       eqb-true e.first n (both (e.first == n) (numbered (n + length e.contents) es) h).0,
-      ap (λ (w : Draft). w.first) same,
+      ap (λ (w : DraftEntry). w.first) same,
     )
 drawn_behind n (v.Draft e ∷ es) h (suc at) d is = omega (
   arith,
@@ -104,7 +104,7 @@ drawn_behind n (v.Move m ∷ es) h zero d is = absurd cc
 drawn_behind n (v.Move m ∷ es) h (suc at) d is = drawn_behind n es h at d is
 
 -- a draft before another ends before the other's first stamp
-apart : (n : ℕ) (log : List Entry) → numbered n log ≡ true → (at bt : ℕ) (d e : Draft) → IsDraftAt log at d
+apart : (n : ℕ) (log : List Entry) → numbered n log ≡ true → (at bt : ℕ) (d e : DraftEntry) → IsDraftAt log at d
     → IsDraftAt log bt e → at < bt → d.first + length d.contents ≤ e.first
 apart n [] h at bt d e is ie lt = absurd cc
 apart n (x ∷ es) h at zero d e is ie lt = absurd (omega (arith, lt))
@@ -115,8 +115,8 @@ apart n (v.Draft x ∷ es) h zero (suc bt) d e is ie lt =
       arith,
       drawn_behind (n + length x.contents) es parts.1 bt e ie,
       eqb-true x.first n parts.0,
-      ap (λ (w : Draft). w.first) same,
-      ap (λ (w : Draft). length w.contents) same,
+      ap (λ (w : DraftEntry). w.first) same,
+      ap (λ (w : DraftEntry). length w.contents) same,
     )
 apart n (v.Draft x ∷ es) h (suc at) (suc bt) d e is ie lt = apart (n + length x.contents) es
     (both (x.first == n) (numbered (n + length x.contents) es) h).1 at bt d e is ie (omega (arith, lt))
@@ -135,7 +135,7 @@ ordered (suc a) (suc b) = elim (ordered a b) [
   ]
 ]
 
-once : (log : List Entry) → numbered 0 log ≡ true → (at bt : ℕ) (d e : Draft) → IsDraftAt log at d → IsDraftAt log bt e
+once : (log : List Entry) → numbered 0 log ≡ true → (at bt : ℕ) (d e : DraftEntry) → IsDraftAt log at d → IsDraftAt log bt e
     → (p q : ℕ) → p < length d.contents → q < length e.contents → d.first + p ≡ e.first + q → (at ≡ bt) × (p ≡ q)
 once log h at bt d e is ie p q lp lq same = elim (ordered at bt) [
   | inl lt ↦ absurd (omega (arith, apart 0 log h at bt d e is ie lt, lp, same))
@@ -143,7 +143,7 @@ once log h at bt d e is ie p q lp lq same = elim (ordered at bt) [
     | inl one ↦
         let whole : Some (v.Draft d) ≡ Some (v.Draft e) = sym is ∙ (ap (slice_get log) one ∙ ie) in
         let de : d ≡ e = cc whole in
-        (one, omega (arith, same, ap (λ (w : Draft). w.first) de))
+        (one, omega (arith, same, ap (λ (w : DraftEntry). w.first) de))
     | inr gt ↦ absurd (omega (arith, apart 0 log h bt at e d ie is gt, lq, same))
   ]
 ]

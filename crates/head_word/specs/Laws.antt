@@ -5,13 +5,13 @@ use Rattle.group_history.specs.declared.nodes.Node.{Node}
 use Rattle.group_history.specs.Meaning.{Meanings}
 use Rattle.group_history.specs.Naming.{drafted_content}
 use Rattle.group_history.specs.Spelling.{Version, version_at}
-use Rattle.head_word.specs.declared.entry.Draft.{Draft}
+use Rattle.head_word.specs.declared.entry.DraftEntry.{DraftEntry}
 use Rattle.head_word.specs.declared.entry.Entry.{Entry}
 use Rattle.head_word.specs.declared.entry.Entry.TheVariants as v
 use Rattle.head_word.specs.Books.{drawn, IsOpened, record_of}
 
 -- the draft stands in the book at this place
-abbrev pub IsDraftAt : List Entry → ℕ → Draft → Type 0
+abbrev pub IsDraftAt : List Entry → ℕ → DraftEntry → Type 0
 IsDraftAt log place d = slice_get log place ≡ Some (v.Draft d)
 
 -- Laws of books, for mutators of any meaning.
@@ -23,11 +23,11 @@ pub record BookLaws (means : Meanings) : Type 0 where
   pub version_stays : (xs ys : List Entry) → IsPrefix xs ys → (stamp : ℕ) (w : Version)
       → version_at (drawn xs) stamp ≡ Some w → version_at (drawn ys) stamp ≡ Some w
   -- a draft's node at place p is the content of its first stamp plus p
-  pub content_drafted : (log : List Entry) → IsOpened means log → (at : ℕ) (d : Draft) → IsDraftAt log at d → (p : ℕ)
+  pub content_drafted : (log : List Entry) → IsOpened means log → (at : ℕ) (d : DraftEntry) → IsDraftAt log at d → (p : ℕ)
       → p < length d.contents
       → slice_get (drawn log) (d.first + p) ≡ option_map (drafted_content d.first) (slice_get d.contents p)
   -- a stamp names one draft of the book, and one node of it
-  pub drafted_once : (log : List Entry) → IsOpened means log → (at bt : ℕ) (d e : Draft) → IsDraftAt log at d
+  pub drafted_once : (log : List Entry) → IsOpened means log → (at bt : ℕ) (d e : DraftEntry) → IsDraftAt log at d
       → IsDraftAt log bt e
       → (p q : ℕ) → p < length d.contents → q < length e.contents → d.first + p ≡ e.first + q → (at ≡ bt) × (p ≡ q)
   -- of the records of two beginnings of one book one begins the other

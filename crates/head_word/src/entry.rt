@@ -4,7 +4,7 @@ use std::collections::LinkedList;
 
 /// Contents that drew the stamps from `first` on, and by which seat.
 #[derive(Drop)]
-pub struct Draft {
+pub struct DraftEntry {
     pub by: Option<u64>,
     pub first: u64,
     pub contents: LinkedList<Node<Child>>,
@@ -12,7 +12,7 @@ pub struct Draft {
 
 /// A move of the head to a commit, and by which seat. The opening move alone has no change.
 #[derive(Drop)]
-pub struct Move {
+pub struct MoveEntry {
     pub by: Option<u64>,
     pub to: Ref,
     pub change: Option<Change>,
@@ -21,8 +21,8 @@ pub struct Move {
 /// An entry of the book.
 #[derive(Drop)]
 pub enum Entry {
-    Draft(Draft),
-    Move(Move),
+    Draft(DraftEntry),
+    Move(MoveEntry),
 }
 
 /// How many entries a seat had added before a step, and after it.

@@ -14,7 +14,7 @@ mod skip;
 mod steps;
 mod tally;
 
-pub use entry::{Draft, Entry, Move};
+pub use entry::{DraftEntry, Entry, MoveEntry};
 pub use group_history::Ref;
 pub use head::Head;
 pub use laws::{book_laws, one_record};

@@ -11,16 +11,16 @@ use Rattle.group_history.proofs.Lists.{only_one}
 use Rattle.map_chunks.specs.Drafts.{AreBelow}
 use Rattle.map_chunks.proofs.DraftLemmas.{below-more}
 use Rattle.map_nodes.specs.Inside.Freezing.{child_places, kids_places}
-use Rattle.map_nodes.specs.declared.nodes.Child.{Child}
+use Rattle.map_nodes.specs.declared.nodes.OwnChild.{OwnChild}
 
-kid-among : (done rest : List Child) (kid : Child) (at : Ref) → Contains (child_places kid) at
+kid-among : (done rest : List OwnChild) (kid : OwnChild) (at : Ref) → Contains (child_places kid) at
     → Contains (kids_places (done ++ kid ∷ rest)) at
 kid-among [] rest kid at h = Contains-append_left (child_places kid) (kids_places rest) at h
 kid-among (k ∷ ks) rest kid at h = Contains-append_right (child_places k) (kids_places (ks ++ kid ∷ rest)) at
     (kid-among ks rest kid at h)
 
 -- one of the children, where more was drafted meanwhile
-pub kid-below : (n m : ℕ) (all done rest : List Child) (kid : Child) → all ≡ done ++ kid ∷ rest → n ≤ m
+pub kid-below : (n m : ℕ) (all done rest : List OwnChild) (kid : OwnChild) → all ≡ done ++ kid ∷ rest → n ≤ m
     → AreBelow n (kids_places all) → AreBelow m (child_places kid)
 kid-below n m all done rest kid e le h = below-more n m (child_places kid) le
     (λ at i. subst (λ ks. AreBelow n (kids_places ks)) e h at (kid-among done rest kid at i))

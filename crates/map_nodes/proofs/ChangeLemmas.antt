@@ -15,8 +15,8 @@ use Rattle.group_history.proofs.Pairs.{keys_of-paired}
 use Rattle.map_chunks.specs.Shown.{Part, value, chunk, Piece, part_rows, shown}
 use Rattle.map_nodes.specs.Nodes.{Kids, kids_pieces, HeadIs, AllKids}
 use Rattle.map_nodes.specs.Inside.Nodes.{Kid, child_rows}
-use Rattle.map_nodes.specs.declared.nodes.Child.{Child}
-use Rattle.map_nodes.specs.declared.nodes.Child.TheVariants.{Placed, Own}
+use Rattle.map_nodes.specs.declared.nodes.OwnChild.{OwnChild}
+use Rattle.map_nodes.specs.declared.nodes.OwnChild.TheVariants.{Placed, Own}
 use Rattle.map_chunks.proofs.RowLemmas.{cmp, AllBelow, AllAbove, AllAbove-less, IsStrict, find-above, put-front}
 use Rattle.map_chunks.proofs.RowLemmas.{put-back, put-at}
 use Rattle.map_chunks.proofs.JoinLemmas.{Shows, appended, joined-append, split_of, begins, back_begins, begins-with}
@@ -46,7 +46,7 @@ shown-kept old new (q ∷ ps) rs p h =
     joined-kept q.0 (part_rows old q.0 q.1) (part_rows new q.0 q.1) (pieces_shown old ps) (pieces_shown new ps) rs h
     (λ r e. part-kept old new q.0 q.1 r p e) (λ r e. shown-kept old new ps r p e)
 
-child-kept : (old new : Contents) (below : ℕ) (c : Child) (rs : Rows) → IsPrefix old new
+child-kept : (old new : Contents) (below : ℕ) (c : OwnChild) (rs : Rows) → IsPrefix old new
     → child_rows old below c ≡ Some rs → child_rows new below c ≡ Some rs
 child-kept old new below (Placed at) rs p h = rows-kept old new below (stamp_of at) rs p h
 child-kept old new below (Own n) rs p h = shown-kept old new n.value.pieces rs p h
@@ -80,8 +80,8 @@ pub record Changed (p : Contents) (below : ℕ) (kids : Kids) (rows : Rows) : Ty
   pub joined_is : joined_rows (shows_of (kid_rows p below) kids) ≡ Some rows
   pub shown_is : shown p (kids_pieces below kids) ≡ Some rows
 
-pub changed : (old new : Contents) (depth : ℕ) (keys : List Bytes) (kids : List Child) (pieces : List Piece)
-    (key : Bytes) (i : ℕ) (child : Child) (op : Rows → Rows) (news : Kids)
+pub changed : (old new : Contents) (depth : ℕ) (keys : List Bytes) (kids : List OwnChild) (pieces : List Piece)
+    (key : Bytes) (i : ℕ) (child : OwnChild) (op : Rows → Rows) (news : Kids)
     → IsPrefix old new → (d : Down old depth keys kids pieces key i child) → IsLocal key op → AllKids (depth - 1) news
     → joined_rows (shows_of (kid_rows new (depth - 1)) news) ≡ Some (op d.way.here)
     → Changed new (depth - 1) (d.before ++ (news ++ d.behind)) (op d.rows)

@@ -12,13 +12,13 @@ use Rattle.group_history.specs.Spelling.{Contents, Segment, rows_at, joined_rows
 use Rattle.map_nodes.specs.Inside.Copies.{MayBeDeep, chunk_pieces}
 use Rattle.map_nodes.specs.Nodes.{AllKids, kids_pieces, kids_fresh}
 use Rattle.map_chunks.specs.Shown.{chunk, shown}
-use Rattle.map_nodes.specs.declared.nodes.Child.{Child}
-use Rattle.map_nodes.specs.declared.nodes.Child.TheVariants.{Placed}
+use Rattle.map_nodes.specs.declared.nodes.OwnChild.{OwnChild}
+use Rattle.map_nodes.specs.declared.nodes.OwnChild.TheVariants.{Placed}
 use Rattle.map_nodes.proofs.NodeLemmas.{shown-rows, pieces_shown}
 use Rattle.map_chunks.proofs.OpenLemmas.{Opened, opened, spells_at, shows_by}
 use Rattle.map_chunks.proofs.SearchLemmas.{length-keys_of, length-values_of}
 
-abbrev pub all_as_placed : List Ref → List Child
+abbrev pub all_as_placed : List Ref → List OwnChild
 all_as_placed rs = map (λ at. Placed at) rs
 
 all_placed : (below : ℕ) (ks : List Bytes) (rs : List Ref) → AllKids below (paired ks (all_as_placed rs))
@@ -40,7 +40,7 @@ pub placed_fresh : (rs : List Ref) → kids_fresh (all_as_placed rs) ≡ 0
 placed_fresh [] = refl
 placed_fresh (r ∷ rs) = omega (arith, placed_fresh rs)
 
-pub copied_inner : (depth : ℕ) (texts : List Bytes) (items : List Child) (kids : List (Bytes × Ref))
+pub copied_inner : (depth : ℕ) (texts : List Bytes) (items : List OwnChild) (kids : List (Bytes × Ref))
     → texts ≡ keys_of kids → items ≡ all_as_placed (values_of kids) → 0 < depth → 0 < length kids
     → AreKeys texts → (AreKeys texts) × ((0 < depth) × (0 < length texts) × (length items ≡ length texts)
     × AllKids (depth - 1) (paired texts items))
@@ -54,7 +54,7 @@ copied_inner depth texts items kids e f d z a = (
   ),
 )
 
-pub copied_pieces : (below : ℕ) (texts : List Bytes) (items : List Child) (kids : List (Bytes × Ref))
+pub copied_pieces : (below : ℕ) (texts : List Bytes) (items : List OwnChild) (kids : List (Bytes × Ref))
     → texts ≡ keys_of kids → items ≡ all_as_placed (values_of kids)
     → kids_pieces below (paired texts items) ≡ map (λ e. (e.0, chunk below e.1)) kids
 copied_pieces below texts items kids e f =

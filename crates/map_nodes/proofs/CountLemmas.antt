@@ -15,8 +15,8 @@ use Rattle.map_chunks.specs.Search.{IsAbsent}
 use Rattle.map_chunks.specs.Shown.{Seen}
 use Rattle.map_nodes.specs.declared.nodes.Body.{Body}
 use Rattle.map_nodes.specs.declared.nodes.Body.TheVariants.{Leaf, Inner}
-use Rattle.map_nodes.specs.declared.nodes.Child.{Child}
-use Rattle.map_nodes.specs.declared.nodes.Child.TheVariants.{Own}
+use Rattle.map_nodes.specs.declared.nodes.OwnChild.{OwnChild}
+use Rattle.map_nodes.specs.declared.nodes.OwnChild.TheVariants.{Own}
 use Rattle.map_nodes.specs.declared.nodes.putting.Half.{Half}
 use Rattle.map_nodes.proofs.LeafLemmas.{leaf_put}
 use Rattle.map_chunks.proofs.ListLemmas.{length-inserted, length-paired}
@@ -24,7 +24,7 @@ use Rattle.map_chunks.specs.Wide.{IsWideChunk}
 
 -- CHILDREN
 
-pub fresh-set : (kids : List Child) (i : ℕ) (c y : Child) → i < length kids → c ≡ get_or kids i c
+pub fresh-set : (kids : List OwnChild) (i : ℕ) (c y : OwnChild) → i < length kids → c ≡ get_or kids i c
     → kids_fresh (set kids i y) + child_fresh c ≡ kids_fresh kids + child_fresh y
 fresh-set [] i c y l e = absurd (omega arith)
 fresh-set (k ∷ ks) zero c y l e = let f : child_fresh c ≡ child_fresh k = ap child_fresh e in omega (arith, f)
@@ -38,21 +38,21 @@ fresh-append : (xs ys : Kids) → entries_fresh (xs ++ ys) ≡ entries_fresh xs 
 fresh-append [] ys = omega arith
 fresh-append (x ∷ xs) ys = let r = fresh-append xs ys in omega (arith, r)
 
-pub fresh-inserted : (es : Kids) (i : ℕ) (e : Bytes × Child) → i ≤ length es
+pub fresh-inserted : (es : Kids) (i : ℕ) (e : Bytes × OwnChild) → i ≤ length es
     → entries_fresh (insert es i e) ≡ entries_fresh es + child_fresh e.1
 fresh-inserted es zero e l = omega arith
 fresh-inserted [] (suc i) e l = absurd (omega arith)
 fresh-inserted (x ∷ xs) (suc i) e l = let r = fresh-inserted xs i e (omega arith) in omega (arith, r)
 
-pub fresh-pairs : (es : Kids) (keys : List Bytes) (kids : List Child) → ArePairs es keys kids
+pub fresh-pairs : (es : Kids) (keys : List Bytes) (kids : List OwnChild) → ArePairs es keys kids
     → kids_fresh kids ≡ entries_fresh es
 fresh-pairs es keys kids p = ap kids_fresh (sym (values_of-paired keys kids p.1)) ∙ ap entries_fresh p.0
 
-pub fresh-alone : (es : Kids) (nk : List Bytes) (ne : List Child) → Parted es nk ne None
+pub fresh-alone : (es : Kids) (nk : List Bytes) (ne : List OwnChild) → Parted es nk ne None
     → kids_fresh ne ≡ entries_fresh es
 fresh-alone es nk ne h = fresh-pairs es nk ne h.0
 
-pub fresh-halves : (es : Kids) (nk : List Bytes) (ne : List Child) (k2 : List Bytes) (e2 : List Child)
+pub fresh-halves : (es : Kids) (nk : List Bytes) (ne : List OwnChild) (k2 : List Bytes) (e2 : List OwnChild)
     → Parted es nk ne (Some (k2, e2)) → kids_fresh ne + kids_fresh e2 ≡ entries_fresh es
 fresh-halves es nk ne k2 e2 h =
     let a = fresh-pairs (take 8 es) nk ne h.0 in
@@ -62,7 +62,7 @@ fresh-halves es nk ne k2 e2 h =
     omega (arith, a, b, c, d)
 
 -- the children among which an upper half is put
-pub fresh-with_half : (keys : List Bytes) (kids : List Child) (place : ℕ) (half : Half) → length kids ≡ length keys
+pub fresh-with_half : (keys : List Bytes) (kids : List OwnChild) (place : ℕ) (half : Half) → length kids ≡ length keys
     → place < length keys
     → entries_fresh (with_half place (Some half) (paired keys kids)) ≡ kids_fresh kids + half.node.value.fresh
 fresh-with_half keys kids place half l w =
@@ -134,17 +134,17 @@ deep_same old new e = (omega arith, omega arith)
 
 -- COUNTED
 
-pub fresh-take : (kids : List Child) (i : ℕ) (c : Child) → i < length kids → c ≡ get_or kids i c
+pub fresh-take : (kids : List OwnChild) (i : ℕ) (c : OwnChild) → i < length kids → c ≡ get_or kids i c
     → kids_fresh (take (i + 1) kids) ≡ kids_fresh (take i kids) + child_fresh c
 fresh-take kids i c l e = ap (λ n. kids_fresh (take n kids)) (let s : i + 1 ≡ suc i = omega arith in s) ∙ go kids i l e
   where
-    go : (kids : List Child) (i : ℕ) → i < length kids → c ≡ get_or kids i c
+    go : (kids : List OwnChild) (i : ℕ) → i < length kids → c ≡ get_or kids i c
         → kids_fresh (take (suc i) kids) ≡ kids_fresh (take i kids) + child_fresh c
     go [] i l e = absurd (omega arith)
     go (k ∷ ks) zero l e = let f : child_fresh c ≡ child_fresh k = ap child_fresh e in omega (arith, f)
     go (k ∷ ks) (suc i) l e = let r = go ks i (omega arith) e in omega (arith, r)
 
-pub high-at : (kids : List Child) (i : ℕ) (c : Child) → i < length kids → c ≡ get_or kids i c
+pub high-at : (kids : List OwnChild) (i : ℕ) (c : OwnChild) → i < length kids → c ≡ get_or kids i c
     → child_height c ≤ kids_height kids
 high-at [] i c l e = absurd (omega arith)
 high-at (k ∷ ks) zero c l e = let f : child_height c ≡ child_height k = ap child_height e in omega (arith, f)

@@ -8,7 +8,7 @@ use Rattle.map_nodes.specs.Nodes.{body_pieces, IsNode}
 use Rattle.map_chunks.specs.Shown.{Piece, shown}
 use Rattle.map_nodes.specs.declared.nodes.Body.{Body}
 use Rattle.map_nodes.specs.declared.nodes.Body.TheVariants.{Leaf, Inner}
-use Rattle.map_nodes.specs.declared.nodes.Child.{Child}
+use Rattle.map_nodes.specs.declared.nodes.OwnChild.{OwnChild}
 use Rattle.map_chunks.proofs.JoinLemmas.{some_is}
 use Rattle.map_chunks.proofs.ListLemmas.{length-paired}
 use Rattle.map_nodes.proofs.NodeLemmas.{kid_rows, shown-rows, shown-kids}
@@ -27,7 +27,7 @@ none_own p depth keys (Inner kids) pieces rows v i h =
     sym (not_none (length keys) i.1.1) ∙ by keys kids.items i.1.2 i.1.1
     (sym (shown-kids p (depth - 1) (paired keys kids.items) i.1.3) ∙ ap (shown p) v ∙ h)
   where
-    by : (ks : List Bytes) (xs : List Child) → length xs ≡ length ks → 0 < length ks
+    by : (ks : List Bytes) (xs : List OwnChild) → length xs ≡ length ks → 0 < length ks
         → joined_rows (shows_of (kid_rows p (depth - 1)) (paired ks xs)) ≡ Some rows → false ≡ (length rows == 0)
     by [] xs l z j = absurd (omega arith)
     by (k ∷ ks) [] l z j = absurd (omega arith)

@@ -21,8 +21,8 @@ use Rattle.map_nodes.specs.Nodes.{child_pieces, kids_pieces, row_pieces, HeadIs,
 use Rattle.map_nodes.specs.Inside.Nodes.{Kid, child_rows}
 use Rattle.map_chunks.specs.Shown.{Part, value, chunk, Piece, Seen, part_rows, shown}
 use Rattle.map_chunks.specs.Wide.{IsWideChunk}
-use Rattle.map_nodes.specs.declared.nodes.Child.{Child}
-use Rattle.map_nodes.specs.declared.nodes.Child.TheVariants.{Placed, Own}
+use Rattle.map_nodes.specs.declared.nodes.OwnChild.{OwnChild}
+use Rattle.map_nodes.specs.declared.nodes.OwnChild.TheVariants.{Placed, Own}
 use mathlib.Core.List.{IsPrefix}
 use Rattle.map_nodes.proofs.ChangeLemmas.{shown-kept}
 use Rattle.map_chunks.proofs.Shelves.{some_of}
@@ -40,7 +40,7 @@ end-rows (r ∷ []) = refl
 end-rows (r ∷ s ∷ rows) = refl
 
 -- a child has a piece
-piece_of : (below : ℕ) (k : Bytes) (c : Child) → IsChild below k c → 0 < length (child_pieces below k c)
+piece_of : (below : ℕ) (k : Bytes) (c : OwnChild) → IsChild below k c → 0 < length (child_pieces below k c)
 piece_of below k (Placed at) h = omega arith
 piece_of below k (Own n) h = some n.value.pieces h.1
   where
@@ -60,7 +60,7 @@ both-pieces (p ∷ []) (q ∷ qs) rs a b = omega arith
 both-pieces (p ∷ q ∷ ps) qs rs a b = omega arith
 
 -- two children or more have two pieces or more
-many-pieces : (below : ℕ) (keys : List Bytes) (kids : List Child) → length kids ≡ length keys → 0 < length keys
+many-pieces : (below : ℕ) (keys : List Bytes) (kids : List OwnChild) → length kids ≡ length keys → 0 < length keys
     → (length kids ≡ 1 → ⊥) → AllKids below (paired keys kids)
     → 1 < length (kids_pieces below (paired keys kids))
 many-pieces below [] kids l z o h = absurd (omega arith)
@@ -73,14 +73,14 @@ many-pieces below (k ∷ j ∷ ks) (x ∷ y ∷ xs) l z o h =
     (piece_of below k x h.0) (piece_of below j y h.1.0)
 
 -- they have no end
-pub end-many : (below : ℕ) (keys : List Bytes) (kids : List Child) → length kids ≡ length keys → 0 < length keys
+pub end-many : (below : ℕ) (keys : List Bytes) (kids : List OwnChild) → length kids ≡ length keys → 0 < length keys
     → (length kids ≡ 1 → ⊥) → AllKids below (paired keys kids)
     → None ≡ end_of_pieces (kids_pieces below (paired keys kids))
 end-many below keys kids l z o h = two_pieces (kids_pieces below (paired keys kids))
     (many-pieces below keys kids l z o h)
 
 -- the end of one child
-pub end-one : (below : ℕ) (keys : List Bytes) (kids : List Child) (kid : Child) → length kids ≡ length keys
+pub end-one : (below : ℕ) (keys : List Bytes) (kids : List OwnChild) (kid : OwnChild) → length kids ≡ length keys
     → length kids ≡ 1 → kid ≡ get_or kids 0 kid
     → end_of kid ≡ end_of_pieces (kids_pieces below (paired keys kids))
 end-one below [] kids kid l o g = absurd (omega arith)
@@ -89,12 +89,12 @@ end-one below (k ∷ ks) (x ∷ y ∷ xs) kid l o g = absurd (omega arith)
 end-one below (k ∷ j ∷ ks) (x ∷ []) kid l o g = absurd (omega arith)
 end-one below (k ∷ []) (x ∷ []) kid l o g = ap end_of g ∙ by x
   where
-    by : (c : Child) → end_of c ≡ end_of_pieces (child_pieces below k c ++ [])
+    by : (c : OwnChild) → end_of c ≡ end_of_pieces (child_pieces below k c ++ [])
     by (Placed at) = refl
     by (Own n) = ap end_of_pieces (sym (append-nil n.value.pieces))
 
 -- the one child of a chunk has its pieces
-pub one-pieces : (below : ℕ) (keys : List Bytes) (kids : List Child) (n : Kid) (kid : Child) → length kids ≡ length keys
+pub one-pieces : (below : ℕ) (keys : List Bytes) (kids : List OwnChild) (n : Kid) (kid : OwnChild) → length kids ≡ length keys
     → length kids ≡ 1 → kid ≡ get_or kids 0 kid → kid ≡ Own n
     → n.value.pieces ≡ kids_pieces below (paired keys kids)
 one-pieces below [] kids n kid l o g e = absurd (omega arith)
@@ -105,12 +105,12 @@ one-pieces below (k ∷ []) (x ∷ []) n kid l o g e =
     sym (append-nil n.value.pieces) ∙ ap (λ c. child_pieces below k c ++ []) (sym e ∙ g)
 
 -- what was taken from the one child of a chunk has the chunk's pieces
-pub taken-pieces : (below : ℕ) (keys : List Bytes) (kids : List Child) (kid : Child) (n : Seen)
+pub taken-pieces : (below : ℕ) (keys : List Bytes) (kids : List OwnChild) (kid : OwnChild) (n : Seen)
     → length kids ≡ length keys → length kids ≡ 1 → kid ≡ get_or kids 0 kid → IsTaken kid n
     → n.pieces ≡ kids_pieces below (paired keys kids)
 taken-pieces below keys kids kid n l o g t = by kid refl t
   where
-    by : (c : Child) → kid ≡ c → IsTaken c n → n.pieces ≡ kids_pieces below (paired keys kids)
+    by : (c : OwnChild) → kid ≡ c → IsTaken c n → n.pieces ≡ kids_pieces below (paired keys kids)
     by (Placed at) e t = absurd t
     by (Own m) e t = t.0 ∙ one-pieces below keys kids m kid l o g e
 
@@ -124,12 +124,12 @@ other_left (x ∷ y ∷ []) (suc (suc i)) kid w f o g = absurd (omega arith)
 other_left (x ∷ y ∷ z ∷ kids) i kid w f o g = absurd (omega arith)
 
 -- what was taken from the last child shows what the child did
-pub heir_taken : (p q : Contents) (left : List Child) (kid : Child) (n : Seen) → IsPrefix p q → left ≡ kid ∷ []
+pub heir_taken : (p q : Contents) (left : List OwnChild) (kid : OwnChild) (n : Seen) → IsPrefix p q → left ≡ kid ∷ []
     → IsSome (one_shown p left) → IsTaken kid n
     → (shown q n.pieces ≡ one_shown p left) × IsWideChunk n × (n.fresh ≤ kids_fresh left + 1)
 heir_taken p q left kid n pre e s t = by kid e t
   where
-    by : (c : Child) → left ≡ c ∷ [] → IsTaken c n
+    by : (c : OwnChild) → left ≡ c ∷ [] → IsTaken c n
         → (shown q n.pieces ≡ one_shown p left) × IsWideChunk n × (n.fresh ≤ kids_fresh left + 1)
     by (Placed at) e t = absurd t
     by (Own m) e t =
@@ -154,18 +154,18 @@ pieces-end (q ∷ []) at h = by q.1 h
 pieces-end (q ∷ r ∷ ps) at h = absurd (cc h)
 
 -- the placed chunk that a child ends in stands among its places
-pub kid-end : (kid : Child) (end : Ref) → end_of kid ≡ Some end → (at : Ref) → Contains (end ∷ []) at
+pub kid-end : (kid : OwnChild) (end : Ref) → end_of kid ≡ Some end → (at : Ref) → Contains (end ∷ []) at
     → Contains (child_places kid) at
 kid-end (Placed r) end h at i = let s : r ≡ end = cc h in subst (λ w. Contains (w ∷ []) at) (sym s) i
 kid-end (Own n) end h at i = subst (Contains (places_of n.value.pieces)) (only_one end at i)
     (pieces-end n.value.pieces end h)
 
-pub taken-places : (kid : Child) (n : Seen) → IsTaken kid n → (at : Ref) → Contains (places_of n.pieces) at
+pub taken-places : (kid : OwnChild) (n : Seen) → IsTaken kid n → (at : Ref) → Contains (places_of n.pieces) at
     → Contains (child_places kid) at
 taken-places (Placed r) n t at h = absurd t
 taken-places (Own m) n t at h = subst (λ ps. Contains (places_of ps) at) t.0 h
 
-pub kids-removed : (kids : List Child) (i : ℕ) (at : Ref) → Contains (kids_places (remove kids i)) at
+pub kids-removed : (kids : List OwnChild) (i : ℕ) (at : Ref) → Contains (kids_places (remove kids i)) at
     → Contains (kids_places kids) at
 kids-removed [] zero at h = h
 kids-removed [] (suc i) at h = h
@@ -183,7 +183,7 @@ rows-below depth [] = tt
 rows-below depth (r ∷ []) = tt
 rows-below depth (r ∷ s ∷ rows) = tt
 
-pub many-below : (depth below : ℕ) (keys : List Bytes) (kids : List Child) → length kids ≡ length keys → 0 < length keys
+pub many-below : (depth below : ℕ) (keys : List Bytes) (kids : List OwnChild) → length kids ≡ length keys → 0 < length keys
     → (length kids ≡ 1 → ⊥) → AllKids below (paired keys kids)
     → IsEndBelow depth (kids_pieces below (paired keys kids))
 many-below depth below keys kids l z o h = by (kids_pieces below (paired keys kids))
@@ -195,7 +195,7 @@ many-below depth below keys kids l z o h = by (kids_pieces below (paired keys ki
     by (p ∷ q ∷ ps) l = tt
 
 -- what is less deep than the one child is less deep than the chunk
-pub one-below : (depth : ℕ) (keys : List Bytes) (kids : List Child) (kid : Child) → length kids ≡ length keys
+pub one-below : (depth : ℕ) (keys : List Bytes) (kids : List OwnChild) (kid : OwnChild) → length kids ≡ length keys
     → length kids ≡ 1 → kid ≡ get_or kids 0 kid → 0 < depth
     → AllKids (depth - 1) (paired keys kids) → IsKidBelow kid
     → IsEndBelow depth (kids_pieces (depth - 1) (paired keys kids))
@@ -214,12 +214,12 @@ one-below depth (k ∷ []) (x ∷ []) kid l o g z h b = by x h.0 (subst IsKidBel
         part (chunk e at) i = omega arith
     less d (p ∷ q ∷ ps) n i = tt
 
-    by : (c : Child) → IsChild (depth - 1) k c → IsKidBelow c → IsEndBelow depth (child_pieces (depth - 1) k c ++ [])
+    by : (c : OwnChild) → IsChild (depth - 1) k c → IsKidBelow c → IsEndBelow depth (child_pieces (depth - 1) k c ++ [])
     by (Placed at) h b = omega arith
     by (Own n) h b = less n.value.depth n.value.pieces (omega (arith, h.0)) b
 
 -- what was taken from the one child of a chunk is less deep than the chunk
-pub taken-below : (below : ℕ) (keys : List Bytes) (kids : List Child) (kid : Child) (n : Seen)
+pub taken-below : (below : ℕ) (keys : List Bytes) (kids : List OwnChild) (kid : OwnChild) (n : Seen)
     → length kids ≡ length keys → length kids ≡ 1 → kid ≡ get_or kids 0 kid
     → AllKids below (paired keys kids) → IsTaken kid n → n.depth ≤ below
 taken-below below [] kids kid n l o g h t = absurd (omega arith)
@@ -228,12 +228,12 @@ taken-below below (k ∷ ks) (x ∷ y ∷ xs) kid n l o g h t = absurd (omega ar
 taken-below below (k ∷ j ∷ ks) (x ∷ []) kid n l o g h t = absurd (omega arith)
 taken-below below (k ∷ []) (x ∷ []) kid n l o g h t = by x h.0 (subst (λ c. IsTaken c n) g t)
   where
-    by : (c : Child) → IsChild below k c → IsTaken c n → n.depth ≤ below
+    by : (c : OwnChild) → IsChild below k c → IsTaken c n → n.depth ≤ below
     by (Placed at) h t = absurd t
     by (Own m) h t = omega (arith, h.0, t.3)
 
 -- the placed chunk that a child ends in is no deeper than the child
-pub kid-deep : (p : Contents) (below : ℕ) (kid : Child) (at : Ref) → end_of kid ≡ Some at → IsKidBelow kid
+pub kid-deep : (p : Contents) (below : ℕ) (kid : OwnChild) (at : Ref) → end_of kid ≡ Some at → IsKidBelow kid
     → HasDepth below kid → IsSome (child_rows p below kid) → IsNoDeeper p below at
 kid-deep p below (Placed r) at e b h s =
     let v = some_of (child_rows p below (Placed r)) s in
@@ -253,7 +253,7 @@ kid-deep p below (Own n) at e b h s = let v = some_of (shown p n.value.pieces) s
     by (q ∷ r ∷ ps) e b rs v = absurd (cc e)
 
 -- what stands in a root's place is no deeper than the root
-pub low_placed : (p q : Contents) (below : ℕ) (left : List Child) (kid : Child) (end : Option Ref) (at : Ref)
+pub low_placed : (p q : Contents) (below : ℕ) (left : List OwnChild) (kid : OwnChild) (end : Option Ref) (at : Ref)
     → left ≡ kid ∷ [] → IsFirstAt p below left
     → (HasDepth below kid → IsSome (child_rows p below kid) → IfNoDeeper q below end) → end ≡ Some at
     → IsNoDeeper q (below + 1) at
@@ -261,33 +261,33 @@ low_placed p q below left kid end at l i f e =
     let k = subst (IsFirstAt p below) l i in
     no_deeper q below (below + 1) at (omega arith) (subst (IfNoDeeper q below) e (f k.0 k.1))
 
-pub low_taken : (p : Contents) (below : ℕ) (left : List Child) (kid : Child) (n : Seen) → left ≡ kid ∷ []
+pub low_taken : (p : Contents) (below : ℕ) (left : List OwnChild) (kid : OwnChild) (n : Seen) → left ≡ kid ∷ []
     → IsFirstAt p below left → IsTaken kid n → n.depth ≤ below + 1
 low_taken p below left kid n l i t = by kid (subst (IsFirstAt p below) l i) t
   where
-    by : (c : Child) → IsFirstAt p below (c ∷ []) → IsTaken c n → n.depth ≤ below + 1
+    by : (c : OwnChild) → IsFirstAt p below (c ∷ []) → IsTaken c n → n.depth ≤ below + 1
     by (Placed at) i t = absurd t
     by (Own m) i t = omega (arith, i.0, t.3)
 
 -- each of the children is so deep, and shows rows
-pub first_at : (p : Contents) (below : ℕ) (keys : List Bytes) (kids : List Child) (i : ℕ) (rows : Rows)
+pub first_at : (p : Contents) (below : ℕ) (keys : List Bytes) (kids : List OwnChild) (i : ℕ) (rows : Rows)
     → length kids ≡ length keys → AllKids below (paired keys kids)
     → shown p (kids_pieces below (paired keys kids)) ≡ Some rows → IsFirstAt p below (remove kids i)
 first_at p below keys kids i rows l h s = to keys kids i l h (sym (shown-kids p below (paired keys kids) h) ∙ s)
   where
-    one : (k : Bytes) (c : Child) → IsChild below k c → (rs : Rows) → child_rows p below c ≡ Some rs
+    one : (k : Bytes) (c : OwnChild) → IsChild below k c → (rs : Rows) → child_rows p below c ≡ Some rs
         → HasDepth below c × IsSome (child_rows p below c)
     one k (Placed at) h rs e = (tt, subst IsSome (sym e) refl)
     one k (Own n) h rs e = (h.0, subst IsSome (sym e) refl)
 
-    head : (ks : List Bytes) (xs : List Child) (rs : Rows) → length xs ≡ length ks → AllKids below (paired ks xs)
+    head : (ks : List Bytes) (xs : List OwnChild) (rs : Rows) → length xs ≡ length ks → AllKids below (paired ks xs)
         → joined_rows (shows_of (kid_rows p below) (paired ks xs)) ≡ Some rs → IsFirstAt p below xs
     head ks [] rs l h j = tt
     head [] (x ∷ xs) rs l h j = absurd (omega arith)
     head (k ∷ ks) (x ∷ xs) rs l h j = let f = split_of (k, child_rows p below x)
         (shows_of (kid_rows p below) (paired ks xs)) rs j in one k x h.0 f.front f.front_is
 
-    to : (ks : List Bytes) (xs : List Child) (i : ℕ) → length xs ≡ length ks → AllKids below (paired ks xs)
+    to : (ks : List Bytes) (xs : List OwnChild) (i : ℕ) → length xs ≡ length ks → AllKids below (paired ks xs)
         → joined_rows (shows_of (kid_rows p below) (paired ks xs)) ≡ Some rows → IsFirstAt p below (remove xs i)
     to ks [] zero l h j = tt
     to ks [] (suc i) l h j = tt

@@ -27,8 +27,8 @@ use Rattle.map_nodes.specs.Inside.Freezing.{IsDeep, IsFrozen, AreFrozen}
 use Rattle.map_nodes.specs.Nodes.{IsChild, AllKids, child_fresh, kids_fresh, child_height, kids_height}
 use Rattle.map_nodes.specs.Inside.Nodes.{Kid, child_rows}
 use Rattle.map_chunks.specs.Shown.{Seen, shown, chunk_rows, map_of_rows}
-use Rattle.map_nodes.specs.declared.nodes.Child.{Child}
-use Rattle.map_nodes.specs.declared.nodes.Child.TheVariants.{Placed, Own}
+use Rattle.map_nodes.specs.declared.nodes.OwnChild.{OwnChild}
+use Rattle.map_nodes.specs.declared.nodes.OwnChild.TheVariants.{Placed, Own}
 use Rattle.map_nodes.proofs.ChangeLemmas.{shown-kept}
 use Rattle.map_chunks.proofs.JoinLemmas.{split_of}
 use Rattle.map_nodes.proofs.NodeLemmas.{kid_rows}
@@ -53,24 +53,24 @@ nodes-grown contents old new p = (map content_of p.0, sym (nodes-more contents o
 
 -- CHILDREN
 
-child-stays : (old new : Contents) (depth : ℕ) (child : Child) (rows : Rows) → IsPrefix old new
+child-stays : (old new : Contents) (depth : ℕ) (child : OwnChild) (rows : Rows) → IsPrefix old new
     → child_rows old depth child ≡ Some rows → child_rows new depth child ≡ Some rows
 child-stays old new depth (Placed at) rows p h = rows-kept old new depth (stamp_of at) rows p h
 child-stays old new depth (Own n) rows p h = shown-kept old new n.value.pieces rows p h
 
-pub frozen-later : (first : ℕ) (old mid new : List (Node Ref)) (child : Child) (at : Ref) → IsPrefix mid new
+pub frozen-later : (first : ℕ) (old mid new : List (Node Ref)) (child : OwnChild) (at : Ref) → IsPrefix mid new
     → IsFrozen first old mid child at → IsFrozen first old new child at
 frozen-later first old mid new child at p f contents depth rows l d h =
     rows-kept (with_nodes contents mid) (with_nodes contents new) depth (stamp_of at) rows
     (nodes-grown contents mid new p) (f contents depth rows l d h)
 
-pub frozen-sooner : (first : ℕ) (old mid new : List (Node Ref)) (child : Child) (at : Ref) → IsPrefix old mid
+pub frozen-sooner : (first : ℕ) (old mid new : List (Node Ref)) (child : OwnChild) (at : Ref) → IsPrefix old mid
     → IsFrozen first mid new child at → IsFrozen first old new child at
 frozen-sooner first old mid new child at p f contents depth rows l d h =
     f contents depth rows l d (child-stays (with_nodes contents old) (with_nodes contents mid) depth child rows
     (nodes-grown contents old mid p) h)
 
-pub all-later : (first : ℕ) (old mid new : List (Node Ref)) (children : List Child) (ats : List Ref) → IsPrefix mid new
+pub all-later : (first : ℕ) (old mid new : List (Node Ref)) (children : List OwnChild) (ats : List Ref) → IsPrefix mid new
     → AreFrozen first old mid children ats → AreFrozen first old new children ats
 all-later first old mid new [] [] p f = f
 all-later first old mid new [] (at ∷ ats) p f = absurd f
@@ -78,7 +78,7 @@ all-later first old mid new (child ∷ children) [] p f = absurd f
 all-later first old mid new (child ∷ children) (at ∷ ats) p f =
     (frozen-later first old mid new child at p f.0, all-later first old mid new children ats p f.1)
 
-pub all-one : (first : ℕ) (old new : List (Node Ref)) (children : List Child) (ats : List Ref) (child : Child)
+pub all-one : (first : ℕ) (old new : List (Node Ref)) (children : List OwnChild) (ats : List Ref) (child : OwnChild)
     (at : Ref) → AreFrozen first old new children ats → IsFrozen first old new child at
     → AreFrozen first old new (children ++ child ∷ []) (ats ++ at ∷ [])
 all-one first old new [] [] child at f g = (g, tt)
@@ -86,20 +86,20 @@ all-one first old new [] (b ∷ ats) child at f g = absurd f
 all-one first old new (c ∷ children) [] child at f g = absurd f
 all-one first old new (c ∷ children) (b ∷ ats) child at f g = (f.0, all-one first old new children ats child at f.1 g)
 
-pub frozen-length : (first : ℕ) (old new : List (Node Ref)) (children : List Child) (ats : List Ref)
+pub frozen-length : (first : ℕ) (old new : List (Node Ref)) (children : List OwnChild) (ats : List Ref)
     → AreFrozen first old new children ats → length ats ≡ length children
 frozen-length first old new [] [] f = refl
 frozen-length first old new [] (at ∷ ats) f = absurd f
 frozen-length first old new (child ∷ children) [] f = absurd f
 frozen-length first old new (child ∷ children) (at ∷ ats) f = ap suc (frozen-length first old new children ats f.1)
 
-deep_of : (depth : ℕ) (k : Bytes) (child : Child) → IsChild depth k child → IsDeep depth child
+deep_of : (depth : ℕ) (k : Bytes) (child : OwnChild) → IsChild depth k child → IsDeep depth child
 deep_of depth k (Placed at) h = tt
 deep_of depth k (Own n) h = h.0
 
 -- the children's names spell what the children show
 pub all-spelled : (contents : Contents) (first : ℕ) (old new : List (Node Ref)) (depth : ℕ) (keys : List Bytes)
-    (children : List Child) (ats : List Ref) (rows : Rows) → length contents ≡ first
+    (children : List OwnChild) (ats : List Ref) (rows : Rows) → length contents ≡ first
     → AreFrozen first old new children ats → AllKids depth (paired keys children)
     → joined_rows (shows_of (kid_rows (with_nodes contents old) depth) (paired keys children)) ≡ Some rows
     → joined_rows (shows_by (rows_at (with_nodes contents new) depth) (paired keys ats)) ≡ Some rows
@@ -116,16 +116,16 @@ all-spelled contents first old new depth (k ∷ keys) (child ∷ children) (at �
     f.1 a.1 s.back_is)
     ∙ ap (λ u. cond u (Some (s.front ++ s.back)) None) s.starts ∙ ap (λ w. Some w) (sym s.whole)
 
-pub fresh-one : (xs : List Child) (x : Child) → kids_fresh (xs ++ x ∷ []) ≡ kids_fresh xs + child_fresh x
+pub fresh-one : (xs : List OwnChild) (x : OwnChild) → kids_fresh (xs ++ x ∷ []) ≡ kids_fresh xs + child_fresh x
 fresh-one [] x = omega arith
 fresh-one (y ∷ xs) x = let r = fresh-one xs x in omega arith
 
-pub fresh-within : (xs : List Child) (x : Child) (ys : List Child)
+pub fresh-within : (xs : List OwnChild) (x : OwnChild) (ys : List OwnChild)
     → kids_fresh xs + child_fresh x ≤ kids_fresh (xs ++ x ∷ ys)
 fresh-within [] x ys = omega arith
 fresh-within (y ∷ xs) x ys = let r = fresh-within xs x ys in omega arith
 
-pub high-within : (xs : List Child) (x : Child) (ys : List Child) → child_height x ≤ kids_height (xs ++ x ∷ ys)
+pub high-within : (xs : List OwnChild) (x : OwnChild) (ys : List OwnChild) → child_height x ≤ kids_height (xs ++ x ∷ ys)
 high-within [] x ys = omega arith
 high-within (y ∷ xs) x ys = let r = high-within xs x ys in omega arith
 

@@ -12,8 +12,8 @@ use Rattle.map_nodes.specs.Inside.Halves.{IsHalf, with_half, Finished}
 use Rattle.map_chunks.specs.Inserting.{ArePairs, Parted}
 use Rattle.map_nodes.specs.Nodes.{Kids, child_pieces, kids_pieces, HeadIs, IsChild, AllKids}
 use Rattle.map_chunks.specs.Shown.{Piece}
-use Rattle.map_nodes.specs.declared.nodes.Child.{Child}
-use Rattle.map_nodes.specs.declared.nodes.Child.TheVariants.{Placed, Own}
+use Rattle.map_nodes.specs.declared.nodes.OwnChild.{OwnChild}
+use Rattle.map_nodes.specs.declared.nodes.OwnChild.TheVariants.{Placed, Own}
 use Rattle.map_nodes.specs.declared.nodes.putting.Half.{Half}
 use Rattle.map_chunks.proofs.ListLemmas.{paired-insert, length-inserted, length-paired}
 use Rattle.map_chunks.proofs.RowLemmas.{both, first, second}
@@ -54,7 +54,7 @@ pub head_kids : (below : ℕ) (n : ℕ) (es : Kids) → n < length es → AllKid
 head_kids below n [] l h = absurd (omega arith)
 head_kids below zero (e ∷ es) l h = by e.1 h.0
   where
-    by : (c : Child) → IsChild below e.0 c → HeadIs e.0 (child_pieces below e.0 c ++ kids_pieces below es)
+    by : (c : OwnChild) → IsChild below e.0 c → HeadIs e.0 (child_pieces below e.0 c ++ kids_pieces below es)
     by (Placed at) i = refl
     by (Own m) i = HeadIs-more e.0 m.value.pieces (kids_pieces below es) i.1
 head_kids below (suc n) (e ∷ es) l h = head_kids below n es (omega arith) h.1
@@ -88,7 +88,7 @@ repeated n f x xs e = go n xs (subst (λ m. replicate m f ≡ xs ++ x ∷ []) (l
         (r.0, ap (λ w. w ∷ ys) (sym (ap (head f) e)) ∙ ap (λ w. f ∷ w) r.1)
 
 -- keys and children that are such children
-pub kids_good : (below : ℕ) (es : Kids) (nk : List Bytes) (ne : List Child) → ArePairs es nk ne → AllKids below es
+pub kids_good : (below : ℕ) (es : Kids) (nk : List Bytes) (ne : List OwnChild) → ArePairs es nk ne → AllKids below es
     → T (rises (keys_of es)) → length es ≤ 16 → 0 < length es
     → (length ne ≡ length nk) × AreKeys nk × (0 < length nk) × AllKids below (paired nk ne)
 kids_good below es nk ne p a o l z =
@@ -99,21 +99,21 @@ kids_good below es nk ne p a o l z =
       subst (AllKids below) (sym p.0) a,
     )
 
-pub finished_alone : (depth copies : ℕ) (es : Kids) (nk : List Bytes) (ne : List Child) → ArePairs es nk ne
+pub finished_alone : (depth copies : ℕ) (es : Kids) (nk : List Bytes) (ne : List OwnChild) → ArePairs es nk ne
     → AllKids (depth - 1) es → T (rises (keys_of es)) → length es ≤ 16 → 0 < length es
     → Finished depth copies es nk ne None
 finished_alone depth copies es nk ne p a o l z =
     let g = kids_good (depth - 1) es nk ne p a o l z in
     (append-nil (kids_pieces (depth - 1) (paired nk ne)) ∙ ap (kids_pieces (depth - 1)) p.0, tt, g.0, g.1, g.2, g.3)
 
-pub record KidHalves (below : ℕ) (es : Kids) (nk : List Bytes) (ne : List Child) (k2 : List Bytes)
-    (e2 : List Child) : Type 0 where
+pub record KidHalves (below : ℕ) (es : Kids) (nk : List Bytes) (ne : List OwnChild) (k2 : List Bytes)
+    (e2 : List OwnChild) : Type 0 where
   pub pieces : kids_pieces below (paired nk ne) ++ kids_pieces below (paired k2 e2) ≡ kids_pieces below es
   pub left : (length ne ≡ length nk) × AreKeys nk × (0 < length nk) × AllKids below (paired nk ne)
   pub right : (length e2 ≡ length k2) × AreKeys k2 × (0 < length k2) × AllKids below (paired k2 e2)
   pub head : HeadIs (get_or (keys_of es) 8 []) (kids_pieces below (paired k2 e2))
 
-pub kid_halves : (below : ℕ) (es : Kids) (nk : List Bytes) (ne : List Child) (k2 : List Bytes) (e2 : List Child)
+pub kid_halves : (below : ℕ) (es : Kids) (nk : List Bytes) (ne : List OwnChild) (k2 : List Bytes) (e2 : List OwnChild)
     → Parted es nk ne (Some (k2, e2)) → AllKids below es → T (rises (keys_of es))
     → KidHalves below es nk ne k2 e2
 kid_halves below es nk ne k2 e2 h a o =
@@ -135,7 +135,7 @@ kid_halves below es nk ne k2 e2 h a o =
     }
 
 -- the half that is put, and its first key
-pub record Putting (keys : List Bytes) (kids : List Child) (place copies : ℕ) (half : Half) (key : Bytes)
+pub record Putting (keys : List Bytes) (kids : List OwnChild) (place copies : ℕ) (half : Half) (key : Bytes)
     (given : List Bytes) : Type 0 where
   pub es_is : insert (paired keys kids) (place + 1) (key, Own half.node)
       ≡ with_half place (Some half) (paired keys kids)
@@ -146,7 +146,7 @@ pub record Putting (keys : List Bytes) (kids : List Child) (place copies : ℕ) 
   pub at_eight : place ≡ 7 → get_or (insert keys (place + 1) key) 8 [] ≡ key
   pub whole : length (with_half place (Some half) (paired keys kids)) ≡ length keys + 1
 
-pub putting : (keys : List Bytes) (kids : List Child) (place copies below : ℕ) (half : Half) (key : Bytes)
+pub putting : (keys : List Bytes) (kids : List OwnChild) (place copies below : ℕ) (half : Half) (key : Bytes)
     (given : List Bytes) → length kids ≡ length keys → place < length keys
     → IsHalf (copies + 1) below (Some half) → half.firsts.items ≡ given ++ key ∷ []
     → Putting keys kids place copies half key given

@@ -25,8 +25,8 @@ use Rattle.map_nodes.specs.declared.nodes.Body.{Body}
 use Rattle.map_nodes.specs.declared.nodes.Body.TheVariants as inner
 use Rattle.map_nodes.specs.declared.nodes.putting.Half.{Half}
 use Rattle.map_chunks.specs.Shown.{Piece, chunk}
-use Rattle.map_nodes.specs.declared.nodes.Child.{Child}
-use Rattle.map_nodes.specs.declared.nodes.Child.TheVariants.{Placed, Own}
+use Rattle.map_nodes.specs.declared.nodes.OwnChild.{OwnChild}
+use Rattle.map_nodes.specs.declared.nodes.OwnChild.TheVariants.{Placed, Own}
 
 -- MORE PLACES
 
@@ -73,20 +73,20 @@ adds-within first places more old new w a = (a.0, a.1, have-within first places 
 
 -- CHILDREN
 
-kids-one : (xs : List Child) (x : Child) → kids_places (xs ++ x ∷ []) ≡ kids_places xs ++ child_places x
+kids-one : (xs : List OwnChild) (x : OwnChild) → kids_places (xs ++ x ∷ []) ≡ kids_places xs ++ child_places x
 kids-one [] x = append-nil (child_places x)
 kids-one (y ∷ xs) x = ap (λ w. child_places y ++ w) (kids-one xs x) ∙ sym
     (append_assoc (child_places y) (kids_places xs) (child_places x))
 
-front-within : (xs : List Child) (x : Child) → Within (kids_places xs) (kids_places (xs ++ x ∷ []))
+front-within : (xs : List OwnChild) (x : OwnChild) → Within (kids_places xs) (kids_places (xs ++ x ∷ []))
 front-within xs x at h = subst (λ w. Contains w at) (sym (kids-one xs x))
     (Contains-append_left (kids_places xs) (child_places x) at h)
 
-back-within : (xs : List Child) (x : Child) → Within (child_places x) (kids_places (xs ++ x ∷ []))
+back-within : (xs : List OwnChild) (x : OwnChild) → Within (child_places x) (kids_places (xs ++ x ∷ []))
 back-within xs x at h = subst (λ w. Contains w at) (sym (kids-one xs x))
     (Contains-append_right (kids_places xs) (child_places x) at h)
 
-pub kid-added : (first : ℕ) (done : List Child) (kid : Child) (old mid new : List (Node Ref))
+pub kid-added : (first : ℕ) (done : List OwnChild) (kid : OwnChild) (old mid new : List (Node Ref))
     → AddsNamed first (kids_places done) old mid → AddsNamed first (child_places kid) mid new
     → AddsNamed first (kids_places (done ++ kid ∷ [])) old new
 kid-added first done kid old mid new a b =
@@ -94,7 +94,7 @@ kid-added first done kid old mid new a b =
     adds-both first all old mid new (adds-within first (kids_places done) all old mid (front-within done kid) a)
     (adds-within first (child_places kid) all mid new (back-within done kid) b)
 
-pub kid-named : (first : ℕ) (done : List Child) (kid : Child) (ats : List Ref) (at : Ref)
+pub kid-named : (first : ℕ) (done : List OwnChild) (kid : OwnChild) (ats : List Ref) (at : Ref)
     → AreNamed first (kids_places done) ats → IsNamed first (child_places kid) at
     → AreNamed first (kids_places (done ++ kid ∷ [])) (ats ++ at ∷ [])
 kid-named first done kid ats at a n r h =
@@ -110,7 +110,7 @@ places-joined [] ys = refl
 places-joined (x ∷ xs) ys = ap (λ w. part_places x.1 ++ w) (places-joined xs ys) ∙ sym
     (append_assoc (part_places x.1) (places_of xs) (places_of ys))
 
-pub places-kids : (below : ℕ) (keys : List Bytes) (kids : List Child) → length kids ≡ length keys
+pub places-kids : (below : ℕ) (keys : List Bytes) (kids : List OwnChild) → length kids ≡ length keys
     → places_of (kids_pieces below (paired keys kids)) ≡ kids_places kids
 places-kids below [] [] l = refl
 places-kids below [] (k ∷ kids) l = absurd (cc l)
@@ -137,15 +137,15 @@ places-rows [] = refl
 places-rows (r ∷ rows) = places-rows rows
 
 -- a child's places are among those of all children
-pub kid-within : (kids : List Child) (i : ℕ) (c : Child) → i < length kids → c ≡ get_or kids i c → (at : Ref)
+pub kid-within : (kids : List OwnChild) (i : ℕ) (c : OwnChild) → i < length kids → c ≡ get_or kids i c → (at : Ref)
     → Contains (child_places c) at → Contains (kids_places kids) at
 kid-within [] i c l e at h = absurd (omega arith)
 kid-within (k ∷ kids) zero c l e at h = Contains-append_left (child_places k) (kids_places kids) at
-    (subst (λ (w : Child). Contains (child_places w) at) e h)
+    (subst (λ (w : OwnChild). Contains (child_places w) at) e h)
 kid-within (k ∷ kids) (suc i) c l e at h = Contains-append_right (child_places k) (kids_places kids) at
     (kid-within kids i c (omega arith) e at h)
 
-kids-set : (kids : List Child) (i : ℕ) (y : Child) (at : Ref) → Contains (kids_places (set kids i y)) at
+kids-set : (kids : List OwnChild) (i : ℕ) (y : OwnChild) (at : Ref) → Contains (kids_places (set kids i y)) at
     → Contains (kids_places kids) at ⊎ Contains (child_places y) at
 kids-set [] i y at h = inl h
 kids-set (k ∷ kids) zero y at h = elim (Contains-append_cases (child_places y) (kids_places kids) at h) [
@@ -159,7 +159,7 @@ kids-set (k ∷ kids) (suc i) y at h = elim (Contains-append_cases (child_places
 ]
 
 -- a child changed in its place, with what else came of it
-pub kept-kid : (may : Ref → Type 0) (kids : List Child) (i : ℕ) (c : Child) (n : Kid) (pieces : List Piece)
+pub kept-kid : (may : Ref → Type 0) (kids : List OwnChild) (i : ℕ) (c : OwnChild) (n : Kid) (pieces : List Piece)
     → i < length kids → c ≡ get_or kids i c
     → AreKept may (child_places c) (places_of (n.value.pieces ++ pieces))
     → AreKept may (kids_places kids) (kids_places (set kids i (Own n)) ++ places_of pieces)
@@ -178,11 +178,11 @@ kept-kid may kids i c n pieces l e h at t = elim
     below (inl a) = inl (kid-within kids i c l e at a)
     below (inr b) = inr b
 
-child-pieces : (below : ℕ) (k : Bytes) (c : Child) → places_of (child_pieces below k c) ≡ child_places c
+child-pieces : (below : ℕ) (k : Bytes) (c : OwnChild) → places_of (child_pieces below k c) ≡ child_places c
 child-pieces below k (Placed at) = refl
 child-pieces below k (Own n) = refl
 
-in-front : (below : ℕ) (es : Kids) (e : Bytes × Child) (at : Ref) → Contains (places_of (kids_pieces below (e ∷ es))) at
+in-front : (below : ℕ) (es : Kids) (e : Bytes × OwnChild) (at : Ref) → Contains (places_of (kids_pieces below (e ∷ es))) at
     → Contains (places_of (kids_pieces below es)) at ⊎ Contains (child_places e.1) at
 in-front below es e at h =
     elim (Contains-append_cases (places_of (child_pieces below e.0 e.1)) (places_of (kids_pieces below es)) at
@@ -191,7 +191,7 @@ in-front below es e at h =
       | inr q ↦ inl q
     ]
 
-entries-inserted : (below : ℕ) (es : Kids) (n : ℕ) (e : Bytes × Child) (at : Ref)
+entries-inserted : (below : ℕ) (es : Kids) (n : ℕ) (e : Bytes × OwnChild) (at : Ref)
     → Contains (places_of (kids_pieces below (insert es n e))) at
     → Contains (places_of (kids_pieces below es)) at ⊎ Contains (child_places e.1) at
 entries-inserted below es zero e at h = in-front below es e at h
@@ -213,7 +213,7 @@ entries-inserted below (x ∷ es) (suc n) e at h =
     ]
 
 -- children with the upper half of one put behind it
-pub half-places : (below i : ℕ) (half : Option Half) (keys : List Bytes) (kids : List Child) → length kids ≡ length keys
+pub half-places : (below i : ℕ) (half : Option Half) (keys : List Bytes) (kids : List OwnChild) → length kids ≡ length keys
     → (at : Ref) → Contains (places_of (kids_pieces below (with_half i half (paired keys kids)))) at
     → Contains (kids_places kids ++ places_of (half_pieces half)) at
 half-places below i None keys kids l at h = Contains-append_left (kids_places kids) [] at
@@ -236,7 +236,7 @@ copy-places depth (Inner kids) at h = subst (λ w. Contains w at) (all kids) h
     all (e ∷ es) = ap (λ w. e.1 ∷ w) (all es)
 
 -- the same child without what else came of it
-pub kept-child : (may : Ref → Type 0) (kids : List Child) (i : ℕ) (c : Child) (n : Kid) → i < length kids
+pub kept-child : (may : Ref → Type 0) (kids : List OwnChild) (i : ℕ) (c : OwnChild) (n : Kid) → i < length kids
     → c ≡ get_or kids i c
     → AreKept may (child_places c) (places_of n.value.pieces)
     → AreKept may (kids_places kids) (kids_places (set kids i (Own n)))
@@ -252,7 +252,7 @@ kept-front may old a b h at i = h at (subst (λ w. Contains w at) (sym (places-j
 
 -- pieces that are those of children, with an upper half among them
 pub kept-finished : (may : Ref → Type 0) (old : List Ref) (below i : ℕ) (half : Option Half) (keys : List Bytes)
-    (kids : List Child) (ps : List Piece) → length kids ≡ length keys
+    (kids : List OwnChild) (ps : List Piece) → length kids ≡ length keys
     → ps ≡ kids_pieces below (with_half i half (paired keys kids))
     → AreKept may old (kids_places kids ++ places_of (half_pieces half)) → AreKept may old (places_of ps)
 kept-finished may old below i half keys kids ps l e h at t = h at

@@ -18,8 +18,8 @@ use Rattle.map_nodes.specs.Nodes.{HeadIs, IsChild, AllKids, IsNode}
 use Rattle.map_nodes.specs.Inside.Nodes.{Kid, child_rows}
 use Rattle.map_nodes.specs.declared.nodes.Body.{Body}
 use Rattle.map_nodes.specs.declared.nodes.Body.TheVariants.{Inner}
-use Rattle.map_nodes.specs.declared.nodes.Child.{Child}
-use Rattle.map_nodes.specs.declared.nodes.Child.TheVariants.{Placed, Own}
+use Rattle.map_nodes.specs.declared.nodes.OwnChild.{OwnChild}
+use Rattle.map_nodes.specs.declared.nodes.OwnChild.TheVariants.{Placed, Own}
 use Rattle.map_chunks.proofs.RowLemmas.{IsStrict}
 use Rattle.map_chunks.proofs.JoinLemmas.{Shows, appended, joined-append, back_begins, begins-with, Way}
 use Rattle.map_chunks.proofs.OpenLemmas.{known, entry_at, Placing, placing, shows_of, way_by, find-way, chunk_rows-at}
@@ -42,7 +42,7 @@ shown-rows p (r ∷ rows) = ap (joined_one r.0 (Some (r ∷ []))) (shown-rows p 
     (λ u. cond u (Some (r ∷ rows)) None) (begins-with r.0 r.1 [])
 
 -- what an entry shows
-abbrev pub kid_rows : Contents → ℕ → Bytes × Child → Option Rows
+abbrev pub kid_rows : Contents → ℕ → Bytes × OwnChild → Option Rows
 kid_rows p below e = child_rows p below e.1
 
 pub headed : (p : Contents) (k : Bytes) (ps : List Piece) (rs : Rows) → HeadIs k ps → shown p ps ≡ Some rs
@@ -68,7 +68,7 @@ pub shown-kids : (p : Contents) (below : ℕ) (es : Kids) → AllKids below es
 shown-kids p below [] h = refl
 shown-kids p below (e ∷ es) h = by e.1 h.0 (shown-kids p below es h.1)
   where
-    by : (c : Child) → IsChild below e.0 c
+    by : (c : OwnChild) → IsChild below e.0 c
         → shown p (kids_pieces below es) ≡ joined_rows (shows_of (kid_rows p below) es)
         → shown p (child_pieces below e.0 c ++ kids_pieces below es)
         ≡ joined_one e.0 (child_rows p below c) (joined_rows (shows_of (kid_rows p below) es))
@@ -77,14 +77,14 @@ shown-kids p below (e ∷ es) h = by e.1 h.0 (shown-kids p below es h.1)
         (appended (shown p n.value.pieces)) ih ∙ one_of p e.0 n.value.pieces
         (joined_rows (shows_of (kid_rows p below) es)) h.1
 
-pub AllKids-split : (below : ℕ) (before : Kids) (e : Bytes × Child) (behind : Kids)
+pub AllKids-split : (below : ℕ) (before : Kids) (e : Bytes × OwnChild) (behind : Kids)
     → AllKids below (before ++ e ∷ behind) → AllKids below before × IsChild below e.0 e.1 × AllKids below behind
 AllKids-split below [] e behind h = (tt, h.0, h.1)
 AllKids-split below (b ∷ before) e behind h = let r = AllKids-split below before e behind h.1 in ((h.0, r.0), r.1, r.2)
 
 -- the child to which a key belongs, and the way to it
-pub record Down (p : Contents) (depth : ℕ) (keys : List Bytes) (kids : List Child) (pieces : List Piece) (key : Bytes)
-    (i : ℕ) (child : Child) : Type 0 where
+pub record Down (p : Contents) (depth : ℕ) (keys : List Bytes) (kids : List OwnChild) (pieces : List Piece) (key : Bytes)
+    (i : ℕ) (child : OwnChild) : Type 0 where
   pub before : Kids
   pub first : Bytes
   pub behind : Kids
@@ -98,8 +98,8 @@ pub record Down (p : Contents) (depth : ℕ) (keys : List Bytes) (kids : List Ch
   pub all : AllKids (depth - 1) before × IsChild (depth - 1) first child × AllKids (depth - 1) behind
   pub place : Placing key before first behind
 
-pub down : (p : Contents) (depth : ℕ) (keys : List Bytes) (kids : List Child) (pieces : List Piece) (key : Bytes)
-    (i : ℕ) (child : Child)
+pub down : (p : Contents) (depth : ℕ) (keys : List Bytes) (kids : List OwnChild) (pieces : List Piece) (key : Bytes)
+    (i : ℕ) (child : OwnChild)
     → length kids ≡ length keys → AllKids (depth - 1) (paired keys kids)
     → pieces ≡ kids_pieces (depth - 1) (paired keys kids) → IsPlace key keys i → slice_get kids i ≡ Some child
     → IsTree (shown p pieces) → Down p depth keys kids pieces key i child
@@ -129,19 +129,19 @@ down p depth keys kids pieces key i child l h e q g o =
     }
 
 -- an own child that is written as it was
-pub written_back : (kids : List Child) (i : ℕ) (child : Child) (n : Kid) (s : Seen) → child ≡ get_or kids i child
+pub written_back : (kids : List OwnChild) (i : ℕ) (child : OwnChild) (n : Kid) (s : Seen) → child ≡ get_or kids i child
     → child ≡ Own n → s ≡ n.value → set kids i (Own (with_value n s)) ≡ kids
 written_back kids i child n s g o e = ap (λ w. set kids i (Own (with_value n w))) e ∙ ap (set kids i)
     (sym o ∙ g) ∙ set-get_or kids i child
 
 -- what a child is that was indexed
-pub child_at : (kids : List Child) (i n : ℕ) (c : Child) → length kids ≡ n → i < n → c ≡ get_or kids i c
+pub child_at : (kids : List OwnChild) (i n : ℕ) (c : OwnChild) → length kids ≡ n → i < n → c ≡ get_or kids i c
     → slice_get kids i ≡ Some c
 child_at kids i n c l h e = got kids i c (omega arith) ∙ ap (λ w. Some w) (sym e)
 
 -- the same of an inner node
 pub node_down : (p : Contents) (depth : ℕ) (keys : List Bytes) (body : Body) (kids : _) (pieces : List Piece)
-    (slice : List Bytes) (key : Bytes) (i : ℕ) (child : Child)
+    (slice : List Bytes) (key : Bytes) (i : ℕ) (child : OwnChild)
     → body_pieces depth keys body ≡ pieces → body ≡ Inner kids → IsNode depth keys body → slice ≡ keys
     → IsPlace key slice i → child ≡ get_or kids.items i child
     → IsTree (shown p pieces) → Down p depth keys kids.items pieces key i child
@@ -157,14 +157,14 @@ inner_depth depth keys body kids e inv = let h : IsNode depth keys (Inner kids) 
     (IsNode depth keys) e inv in h.1.0
 
 -- a child that is placed, and one that is own
-pub down_placed : (p : Contents) (depth : ℕ) (keys : List Bytes) (kids : List Child) (pieces : List Piece) (key : Bytes)
-    (i : ℕ) (child : Child) (at : Ref)
+pub down_placed : (p : Contents) (depth : ℕ) (keys : List Bytes) (kids : List OwnChild) (pieces : List Piece) (key : Bytes)
+    (i : ℕ) (child : OwnChild) (at : Ref)
     → (d : Down p depth keys kids pieces key i child) → child ≡ Placed at → chunk_rows p (stamp_of at) ≡ Some d.way.here
 down_placed p depth keys kids pieces key i child at d e = chunk_rows-at p (depth - 1) (stamp_of at) d.way.here
     (ap (child_rows p (depth - 1)) (sym e) ∙ d.way.here_is)
 
-pub down_own : (p : Contents) (depth : ℕ) (keys : List Bytes) (kids : List Child) (pieces : List Piece) (key : Bytes)
-    (i : ℕ) (child : Child) (n : Kid)
+pub down_own : (p : Contents) (depth : ℕ) (keys : List Bytes) (kids : List OwnChild) (pieces : List Piece) (key : Bytes)
+    (i : ℕ) (child : OwnChild) (n : Kid)
     → (d : Down p depth keys kids pieces key i child) → child ≡ Own n
     → (shown p n.value.pieces ≡ Some d.way.here) × (n.value.depth ≡ depth - 1) × HeadIs d.first n.value.pieces
 down_own p depth keys kids pieces key i child n d e =
@@ -172,8 +172,8 @@ down_own p depth keys kids pieces key i child n d e =
     (ap (child_rows p (depth - 1)) (sym e) ∙ d.way.here_is, c.0, c.1)
 
 -- the key's value is that below the child
-pub down-find : (p : Contents) (depth : ℕ) (keys : List Bytes) (kids : List Child) (pieces : List Piece) (key : Bytes)
-    (i : ℕ) (child : Child) (x : Option Rows)
+pub down-find : (p : Contents) (depth : ℕ) (keys : List Bytes) (kids : List OwnChild) (pieces : List Piece) (key : Bytes)
+    (i : ℕ) (child : OwnChild) (x : Option Rows)
     → (d : Down p depth keys kids pieces key i child) → x ≡ Some d.way.here
     → find (slice_cmp nat_cmp) key (rows_or x) ≡ find (slice_cmp nat_cmp) key (rows_or (shown p pieces))
 down-find p depth keys kids pieces key i child x d e =
@@ -181,7 +181,7 @@ down-find p depth keys kids pieces key i child x d e =
     (λ w. find (slice_cmp nat_cmp) key (rows_or w)) (sym d.rows_is)
 
 -- an inner chunk as clauses see it, by its keys and children
-abbrev pub inner_seen : ℕ → List Bytes → List Child → Seen
+abbrev pub inner_seen : ℕ → List Bytes → List OwnChild → Seen
 inner_seen depth keys kids =
     record {
       depth = depth;
@@ -191,6 +191,6 @@ inner_seen depth keys kids =
       fresh = kids_fresh kids + 1;
     }
 
-pub inner_same : (depth : ℕ) (keys2 keys : List Bytes) (kids2 kids : List Child) → keys2 ≡ keys → kids2 ≡ kids
+pub inner_same : (depth : ℕ) (keys2 keys : List Bytes) (kids2 kids : List OwnChild) → keys2 ≡ keys → kids2 ≡ kids
     → inner_seen depth keys2 kids2 ≡ inner_seen depth keys kids
 inner_same depth keys2 keys kids2 kids k e = ap (λ ks. inner_seen depth ks kids2) k ∙ ap (inner_seen depth keys) e

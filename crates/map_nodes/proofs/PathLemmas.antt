@@ -20,8 +20,8 @@ use Rattle.map_chunks.specs.Search.{is_above, IsPlace}
 use Rattle.map_chunks.specs.Shown.{Piece, part_rows, shown, rows_or, IsTree}
 use Rattle.map_nodes.specs.declared.nodes.Body.{Body}
 use Rattle.map_nodes.specs.declared.nodes.Body.TheVariants.{Inner}
-use Rattle.map_nodes.specs.declared.nodes.Child.{Child}
-use Rattle.map_nodes.specs.declared.nodes.Child.TheVariants.{Placed, Own}
+use Rattle.map_nodes.specs.declared.nodes.OwnChild.{OwnChild}
+use Rattle.map_nodes.specs.declared.nodes.OwnChild.TheVariants.{Placed, Own}
 use Rattle.map_nodes.specs.declared.nodes.putting.Half.{Half}
 use Rattle.map_chunks.proofs.RowLemmas.{cmp, greater_less, both, is_less, IsStrict, AllAbove, AllAbove-back}
 use Rattle.map_chunks.proofs.RowLemmas.{IsStrict-back}
@@ -149,7 +149,7 @@ paired-both (j ∷ ks) [] (suc i) k y = refl
 paired-both (j ∷ ks) (x ∷ xs) zero k y = refl
 paired-both (j ∷ ks) (x ∷ xs) (suc i) k y = ap (λ w. (j, x) ∷ w) (paired-both ks xs i k y)
 
-pub lowered_pairs : (keys : List Bytes) (kids : List Child) (i : ℕ) (lower : Option Bytes) (y c : Child) (before : Kids)
+pub lowered_pairs : (keys : List Bytes) (kids : List OwnChild) (i : ℕ) (lower : Option Bytes) (y c : OwnChild) (before : Kids)
     (first : Bytes) (behind : Kids) → length kids ≡ length keys
     → paired keys kids ≡ before ++ (first, c) ∷ behind → length before ≡ i
     → paired (lowered i lower keys) (set kids i y) ≡ before ++ (first_key first lower, y) ∷ behind
@@ -157,7 +157,7 @@ lowered_pairs keys kids i None y c before first behind l w a = replaced keys kid
 lowered_pairs keys kids i (Some k) y c before first behind l w a =
     paired-both keys kids i k y ∙ ap (λ z. set z i (k, y)) w ∙ set-at before (first, c) behind i (k, y) a
 
-with_half-is : (i : ℕ) (half : Option Half) (before : Kids) (e : Bytes × Child) (behind : Kids) → length before ≡ i
+with_half-is : (i : ℕ) (half : Option Half) (before : Kids) (e : Bytes × OwnChild) (behind : Kids) → length before ≡ i
     → with_half i half (before ++ e ∷ behind) ≡ before ++ ((e ∷ half_kids half) ++ behind)
 with_half-is i None before e behind l = refl
 with_half-is i (Some h) before e behind l = insert_behind before e behind i (get_or h.firsts.items 0 [], Own h.node) l
@@ -168,8 +168,8 @@ pub record Put (q : Contents) (below : ℕ) (es : Kids) (rows : Rows) : Type 0 w
   pub order : T (rises (keys_of es))
   pub shown_is : shown q (kids_pieces below es) ≡ Some rows
 
-pub put_path : (p q : Contents) (depth copies : ℕ) (keys : List Bytes) (kids new : List Child) (pieces : List Piece)
-    (key v : Bytes) (i : ℕ) (child : Child) (lower : Option Bytes) (half : Option Half)
+pub put_path : (p q : Contents) (depth copies : ℕ) (keys : List Bytes) (kids new : List OwnChild) (pieces : List Piece)
+    (key v : Bytes) (i : ℕ) (child : OwnChild) (lower : Option Bytes) (half : Option Half)
     → IsPrefix p q → length kids ≡ length keys → (d : Down p depth keys kids pieces key i child)
     → IsLower key (get_or keys i []) lower
     → ChildPut q (copies + 1) (depth - 1) i kids new half
@@ -249,7 +249,7 @@ filled_kids below (e ∷ es) l h = by e.1 h.0
     some k [] qs h = absurd h
     some k (p ∷ ps) qs h = omega arith
 
-    by : (c : Child) → IsChild below e.0 c → 0 < length (child_pieces below e.0 c ++ kids_pieces below es)
+    by : (c : OwnChild) → IsChild below e.0 c → 0 < length (child_pieces below e.0 c ++ kids_pieces below es)
     by (Placed at) i = omega arith
     by (Own m) i = some e.0 m.value.pieces (kids_pieces below es) i.1
 
@@ -258,7 +258,7 @@ filled_pairs [] vs l z = z
 filled_pairs (k ∷ ks) [] l z = absurd (omega arith)
 filled_pairs (k ∷ ks) (v ∷ vs) l z = omega arith
 
-pub length-pairs : (keys : List Bytes) (kids : List Child) → length kids ≡ length keys → 0 < length keys
+pub length-pairs : (keys : List Bytes) (kids : List OwnChild) → length kids ≡ length keys → 0 < length keys
     → 0 < length (paired keys kids)
 length-pairs [] kids l z = z
 length-pairs (k ∷ ks) [] l z = absurd (omega arith)
@@ -266,7 +266,7 @@ length-pairs (k ∷ ks) (x ∷ xs) l z = omega arith
 
 -- the child at a place of an inner chunk
 pub node_at : (p : Contents) (depth : ℕ) (keys : List Bytes) (body : Body) (kids : _) (pieces : List Piece)
-    (slice : List Bytes) (key : Bytes) (i : ℕ) (d : Child)
+    (slice : List Bytes) (key : Bytes) (i : ℕ) (d : OwnChild)
     → body_pieces depth keys body ≡ pieces → body ≡ Inner kids → IsNode depth keys body → slice ≡ keys
     → IsPlace key slice i
     → IsTree (shown p pieces) → (x : Down p depth keys kids.items pieces key i (get_or kids.items i d))
@@ -282,13 +282,13 @@ node_at p depth keys body kids pieces slice key i d v e inv s q o =
       r,
     )
 
-has_depth : (below : ℕ) (first : Bytes) (c : Child) → IsChild below first c → HasDepth below c
+has_depth : (below : ℕ) (first : Bytes) (c : OwnChild) → IsChild below first c → HasDepth below c
 has_depth below first (Placed at) h = tt
 has_depth below first (Own n) h = h.0
 
-pub child_requires : (p : Contents) (depth : ℕ) (keys : List Bytes) (kids kids2 : List Child) (pieces : List Piece)
-    (key : Bytes) (i : ℕ) (child : Child)
-    → (d : Down p depth keys kids pieces key i child) → slice_get kids i ≡ Some child → kids2 ≡ kids → (c : Child)
+pub child_requires : (p : Contents) (depth : ℕ) (keys : List Bytes) (kids kids2 : List OwnChild) (pieces : List Piece)
+    (key : Bytes) (i : ℕ) (child : OwnChild)
+    → (d : Down p depth keys kids pieces key i child) → slice_get kids i ≡ Some child → kids2 ≡ kids → (c : OwnChild)
     → slice_get kids2 i ≡ Some c
     → IsTree (child_rows p (depth - 1) c) × HasDepth (depth - 1) c
 child_requires p depth keys kids kids2 pieces key i child d g e c h =
@@ -304,7 +304,7 @@ pub if_ok : {A E F : Type 0} {P Q S : A → Type 0} (r : Result A E) → IfOk r 
 if_ok (Ok x) p q f g = g x p q f
 if_ok (Err e) p q f g = tt
 
-pub indexed_child : (kids : List Child) (i : ℕ) (child c : Child) → i < length kids → child ≡ get_or kids i child
+pub indexed_child : (kids : List OwnChild) (i : ℕ) (child c : OwnChild) → i < length kids → child ≡ get_or kids i child
     → slice_get kids i ≡ Some c → c ≡ child
 indexed_child kids i child c l e h = some_is (sym h ∙ got kids i child l) ∙ sym e
 

@@ -11,21 +11,21 @@ use Rattle.map_nodes.specs.Nodes.{IsNode, body_pieces}
 use Rattle.map_nodes.specs.Inside.Nodes.{Kid}
 use Rattle.map_nodes.specs.declared.nodes.Body.{Body}
 use Rattle.map_nodes.specs.declared.nodes.Body.TheVariants.{Inner}
-use Rattle.map_nodes.specs.declared.nodes.Child.{Child}
-use Rattle.map_nodes.specs.declared.nodes.Child.TheVariants.{Placed, Own}
+use Rattle.map_nodes.specs.declared.nodes.OwnChild.{OwnChild}
+use Rattle.map_nodes.specs.declared.nodes.OwnChild.TheVariants.{Placed, Own}
 use Rattle.map_nodes.proofs.NamedLemmas.{kid-within, own-places}
 
 -- a child has what all children have
-pub kid_all : (may : Ref → Type 0) (kids : List Child) (i : ℕ) (c : Child) → i < length kids → c ≡ get_or kids i c
+pub kid_all : (may : Ref → Type 0) (kids : List OwnChild) (i : ℕ) (c : OwnChild) → i < length kids → c ≡ get_or kids i c
     → AreAll may (kids_places kids) → AreAll may (child_places c)
 kid_all may kids i c l e all at h = all at (kid-within kids i c l e at h)
 
-pub placed_may : (may : Ref → Type 0) (c : Child) (at : Ref) → c ≡ Placed at → AreAll may (child_places c) → may at
-placed_may may c at e all = subst (λ (x : Child). AreAll may (child_places x)) e all at (one_here at)
+pub placed_may : (may : Ref → Type 0) (c : OwnChild) (at : Ref) → c ≡ Placed at → AreAll may (child_places c) → may at
+placed_may may c at e all = subst (λ (x : OwnChild). AreAll may (child_places x)) e all at (one_here at)
 
-pub own_may : (may : Ref → Type 0) (c : Child) (n : Kid) → c ≡ Own n → AreAll may (child_places c)
+pub own_may : (may : Ref → Type 0) (c : OwnChild) (n : Kid) → c ≡ Own n → AreAll may (child_places c)
     → AreAll may (places_of n.value.pieces)
-own_may may c n e all = subst (λ (x : Child). AreAll may (child_places x)) e all
+own_may may c n e all = subst (λ (x : OwnChild). AreAll may (child_places x)) e all
 
 -- the places of an inner chunk are its children's
 pub kids_may : (may : Ref → Type 0) (depth : ℕ) (keys : List Bytes) (body : Body) (kids : _) (pieces : List Piece)
@@ -35,7 +35,7 @@ kids_may may depth keys body kids pieces v e i all = let node : IsNode depth key
     (IsNode depth keys) e i in subst (AreAll may) (own-places depth keys body kids pieces v e node.1.2) all
 
 pub down_may : (may : Ref → Type 0) (depth : ℕ) (keys : List Bytes) (body : Body) (kids : _) (pieces : List Piece)
-    (slice : List Bytes) (i : ℕ) (c : Child) → body_pieces depth keys body ≡ pieces → body ≡ Inner kids
+    (slice : List Bytes) (i : ℕ) (c : OwnChild) → body_pieces depth keys body ≡ pieces → body ≡ Inner kids
     → IsNode depth keys body
     → slice ≡ keys → i < length slice → c ≡ get_or kids.items i c → AreAll may (places_of pieces)
     → AreAll may (child_places c)

@@ -26,8 +26,8 @@ use Rattle.map_chunks.specs.SecondKeys.{second_key}
 use Rattle.map_chunks.specs.Shown.{Piece, shown, rows_or, IsTree, map_of_rows}
 use Rattle.map_nodes.specs.declared.nodes.Body.{Body}
 use Rattle.map_nodes.specs.declared.nodes.Body.TheVariants.{Inner}
-use Rattle.map_nodes.specs.declared.nodes.Child.{Child}
-use Rattle.map_nodes.specs.declared.nodes.Child.TheVariants.{Own}
+use Rattle.map_nodes.specs.declared.nodes.OwnChild.{OwnChild}
+use Rattle.map_nodes.specs.declared.nodes.OwnChild.TheVariants.{Own}
 use Rattle.map_nodes.specs.declared.nodes.removing.Fate.{Fate}
 use Rattle.map_nodes.specs.declared.nodes.removing.Fate.TheVariants.{Leaves, Stays}
 use Rattle.map_nodes.proofs.ChangeLemmas.{IsLocal, changed, one_child, shown-kept}
@@ -147,13 +147,13 @@ length-removed [] i l = absurd (omega arith)
 length-removed (x ∷ xs) zero l = omega arith
 length-removed (x ∷ xs) (suc i) l = omega (arith, length-removed xs i (omega arith))
 
-pub fresh-removed : (kids : List Child) (i : ℕ) → kids_fresh (remove kids i) ≤ kids_fresh kids
+pub fresh-removed : (kids : List OwnChild) (i : ℕ) → kids_fresh (remove kids i) ≤ kids_fresh kids
 fresh-removed [] zero = omega arith
 fresh-removed [] (suc i) = omega arith
 fresh-removed (k ∷ kids) zero = omega arith
 fresh-removed (k ∷ kids) (suc i) = let r = fresh-removed kids i in omega arith
 
-pub fresh-set : (kids : List Child) (i : ℕ) (c x : Child) → slice_get kids i ≡ Some c
+pub fresh-set : (kids : List OwnChild) (i : ℕ) (c x : OwnChild) → slice_get kids i ≡ Some c
     → kids_fresh (set kids i x) + child_fresh c ≡ kids_fresh kids + child_fresh x
 fresh-set [] i c x h = absurd cc
 fresh-set (k ∷ kids) zero c x h = let e : child_fresh k ≡ child_fresh c = ap child_fresh (some_is h) in omega arith
@@ -253,12 +253,12 @@ begins_some k (r ∷ rows) h = omega arith
 -- CHILDREN
 
 -- an inner chunk that shows these rows
-pub record Left (q : Contents) (depth : ℕ) (keys : List Bytes) (kids : List Child) (rows : Rows) : Type 0 where
+pub record Left (q : Contents) (depth : ℕ) (keys : List Bytes) (kids : List OwnChild) (rows : Rows) : Type 0 where
   pub node : AreKeys keys × ((0 < depth) × (0 < length keys) × (length kids ≡ length keys)
       × AllKids (depth - 1) (paired keys kids))
   pub shown_is : shown q (kids_pieces (depth - 1) (paired keys kids)) ≡ Some rows
 
-left_by : (q : Contents) (depth : ℕ) (keys : List Bytes) (kids : List Child) (es : Kids) (rows : Rows)
+left_by : (q : Contents) (depth : ℕ) (keys : List Bytes) (kids : List OwnChild) (es : Kids) (rows : Rows)
     → paired keys kids ≡ es → length kids ≡ length keys → 0 < depth → 0 < length keys → length keys ≤ 16
     → AllKids (depth - 1) es → joined_rows (shows_of (kid_rows q (depth - 1)) es) ≡ Some rows
     → shown q (kids_pieces (depth - 1) es) ≡ Some rows → IsStrict rows → Left q depth keys kids rows
@@ -273,8 +273,8 @@ left_by q depth keys kids es rows e l d z m all j s o =
     }
 
 -- the child that shows nothing more has left
-pub child_gone : (p q : Contents) (depth : ℕ) (keys nk : List Bytes) (kids ne : List Child) (pieces : List Piece)
-    (key : Bytes) (i : ℕ) (child : Child) → IsPrefix p q → length kids ≡ length keys
+pub child_gone : (p q : Contents) (depth : ℕ) (keys nk : List Bytes) (kids ne : List OwnChild) (pieces : List Piece)
+    (key : Bytes) (i : ℕ) (child : OwnChild) → IsPrefix p q → length kids ≡ length keys
     → length keys ≤ 16 → 0 < depth → (d : Down p depth keys kids pieces key i child) → without key d.way.here ≡ []
     → 1 < length keys → i < length keys → nk ≡ remove keys i → ne ≡ remove kids i
     → Left q depth nk ne (without key d.rows)
@@ -292,8 +292,8 @@ child_gone p q depth keys nk kids ne pieces key i child pre l m z d nil two with
     ch.all ch.joined_is ch.shown_is (without-strict key d.rows d.order)
 
 -- what is known of the child's fate, in terms of the way to it
-pub fate_here : (p : Contents) (depth : ℕ) (keys : List Bytes) (kids : List Child) (pieces : List Piece) (key : Bytes)
-    (i : ℕ) (child : Child) (fate : Fate) → length kids ≡ length keys
+pub fate_here : (p : Contents) (depth : ℕ) (keys : List Bytes) (kids : List OwnChild) (pieces : List Piece) (key : Bytes)
+    (i : ℕ) (child : OwnChild) (fate : Fate) → length kids ≡ length keys
     → (d : Down p depth keys kids pieces key i child) → IsFate key (get_or keys i []) (rows_or (kid_shown p child)) fate
     → IsFate key d.first d.way.here fate
 fate_here p depth keys kids pieces key i child fate l d f =
@@ -303,8 +303,8 @@ fate_here p depth keys kids pieces key i child fate l d f =
     subst (λ w. IsFate key w d.way.here fate) first (subst (λ x. IsFate key (get_or keys i []) (rows_or x) fate) here f)
 
 -- the child stays, without the key's row
-pub child_stays : (p q : Contents) (depth : ℕ) (keys nk : List Bytes) (kids ne : List Child) (pieces : List Piece)
-    (key : Bytes) (i : ℕ) (child : Child) (other : Option Bytes) → IsPrefix p q
+pub child_stays : (p q : Contents) (depth : ℕ) (keys nk : List Bytes) (kids ne : List OwnChild) (pieces : List Piece)
+    (key : Bytes) (i : ℕ) (child : OwnChild) (other : Option Bytes) → IsPrefix p q
     → length kids ≡ length keys → length keys ≤ 16 → 0 < depth → (d : Down p depth keys kids pieces key i child)
     → IsFate key d.first d.way.here (Stays other) → 0 < length keys
     → nk ≡ lowered i other keys → ChildChanged q (depth - 1) i kids ne child
@@ -330,10 +330,10 @@ child_stays p q depth keys nk kids ne pieces key i child other pre l m z d f som
     ch.all ch.joined_is ch.shown_is (without-strict key d.rows d.order)
 
 -- the child can be entered
-pub can_remove : (p : Contents) (depth : ℕ) (keys : List Bytes) (kids : List Child) (pieces : List Piece) (key : Bytes)
-    (i : ℕ) (child : Child) (other : Option Bytes)
+pub can_remove : (p : Contents) (depth : ℕ) (keys : List Bytes) (kids : List OwnChild) (pieces : List Piece) (key : Bytes)
+    (i : ℕ) (child : OwnChild) (other : Option Bytes)
     → (d : Down p depth keys kids pieces key i child) → slice_get kids i ≡ Some child
-    → IsFate key d.first d.way.here (Stays other) → (c : Child) → slice_get kids i ≡ Some c
+    → IsFate key d.first d.way.here (Stays other) → (c : OwnChild) → slice_get kids i ≡ Some c
     → CanRemove p (depth - 1) key c
 can_remove p depth keys kids pieces key i child other d g f c h =
     let r = child_requires p depth keys kids kids pieces key i child d g refl c h in
@@ -348,8 +348,8 @@ joined_some g [] rs h l = let e : [] ≡ rs = some_is h in absurd (omega (arith,
 joined_some g (e ∷ es) rs h l = omega arith
 
 -- the rows without the key's, where the child shows nothing more
-rest_rows : (p : Contents) (depth : ℕ) (keys : List Bytes) (kids : List Child) (pieces : List Piece) (key : Bytes)
-    (i : ℕ) (child : Child)
+rest_rows : (p : Contents) (depth : ℕ) (keys : List Bytes) (kids : List OwnChild) (pieces : List Piece) (key : Bytes)
+    (i : ℕ) (child : OwnChild)
     → (d : Down p depth keys kids pieces key i child) → without key d.way.here ≡ []
     → without key d.rows ≡ d.way.front ++ d.way.back
 rest_rows p depth keys kids pieces key i child d nil =
@@ -357,8 +357,8 @@ rest_rows p depth keys kids pieces key i child d nil =
     (λ w. d.way.front ++ (w ++ d.way.back)) nil
 
 -- other children show what stays
-pub others : (p : Contents) (depth : ℕ) (keys : List Bytes) (kids : List Child) (pieces : List Piece) (key : Bytes)
-    (i : ℕ) (child : Child) → length kids ≡ length keys
+pub others : (p : Contents) (depth : ℕ) (keys : List Bytes) (kids : List OwnChild) (pieces : List Piece) (key : Bytes)
+    (i : ℕ) (child : OwnChild) → length kids ≡ length keys
     → (d : Down p depth keys kids pieces key i child) → without key d.way.here ≡ [] → 0 < length (without key d.rows)
     → 1 < length keys
 others p depth keys kids pieces key i child l d nil z =
@@ -376,8 +376,8 @@ others p depth keys kids pieces key i child l d nil z =
     by [] back f b s e = let u = joined_some (kid_rows p (depth - 1)) d.behind back b (omega arith) in omega arith
 
 -- one child left shows what stays
-pub last_shown : (p : Contents) (depth : ℕ) (keys : List Bytes) (kids : List Child) (pieces : List Piece) (key : Bytes)
-    (i : ℕ) (child : Child) → length kids ≡ length keys → length kids ≤ 2
+pub last_shown : (p : Contents) (depth : ℕ) (keys : List Bytes) (kids : List OwnChild) (pieces : List Piece) (key : Bytes)
+    (i : ℕ) (child : OwnChild) → length kids ≡ length keys → length kids ≤ 2
     → (d : Down p depth keys kids pieces key i child) → without key d.way.here ≡ []
     → one_shown p (remove kids i) ≡ Some (without key d.rows)
 last_shown p depth keys kids pieces key i child l few d nil =
@@ -390,17 +390,17 @@ last_shown p depth keys kids pieces key i child l few d nil =
     ap (one_shown p) left ∙ by d.before d.behind d.way.front d.way.back d.way.front_is d.way.back_is
     (omega (arith, ap length d.whole, m, length-paired keys kids l, l)) ∙ ap (λ w. Some w) (sym r)
   where
-    kids_in : Kids → List Child
+    kids_in : Kids → List OwnChild
     kids_in [] = []
     kids_in (e ∷ es) = e.1 ∷ kids_in es
 
-    kids_in-paired : (ks : List Bytes) (xs : List Child) → length xs ≡ length ks → kids_in (paired ks xs) ≡ xs
+    kids_in-paired : (ks : List Bytes) (xs : List OwnChild) → length xs ≡ length ks → kids_in (paired ks xs) ≡ xs
     kids_in-paired [] [] h = refl
     kids_in-paired [] (x ∷ xs) h = absurd (omega arith)
     kids_in-paired (k ∷ ks) [] h = absurd (omega arith)
     kids_in-paired (k ∷ ks) (x ∷ xs) h = ap (λ w. x ∷ w) (kids_in-paired ks xs (omega arith))
 
-    same : (ks : List Bytes) (xs : List Child) (i : ℕ) → length xs ≡ length ks
+    same : (ks : List Bytes) (xs : List OwnChild) (i : ℕ) → length xs ≡ length ks
         → length (remove xs i) ≡ length (remove ks i)
     same [] [] zero h = refl
     same [] [] (suc i) h = refl
@@ -409,7 +409,7 @@ last_shown p depth keys kids pieces key i child l few d nil =
     same (k ∷ ks) (x ∷ xs) zero h = omega arith
     same (k ∷ ks) (x ∷ xs) (suc i) h = omega (arith, same ks xs i (omega arith))
 
-    alone : (e : Bytes × Child) (rs : Rows) → joined_rows (shows_of (kid_rows p (depth - 1)) (e ∷ [])) ≡ Some rs
+    alone : (e : Bytes × OwnChild) (rs : Rows) → joined_rows (shows_of (kid_rows p (depth - 1)) (e ∷ [])) ≡ Some rs
         → kid_shown p e.1 ≡ Some rs
     alone e rs h =
         let s = split_of (e.0, child_rows p (depth - 1) e.1) [] rs h in
@@ -431,8 +431,8 @@ last_shown p depth keys kids pieces key i child l few d nil =
 
 -- INNER CHUNKS
 
-pub has_others : (p : Contents) (depth : ℕ) (keys : List Bytes) (kids : List Child) (pieces : List Piece) (key : Bytes)
-    (i : ℕ) (child : Child) (fate : Fate) → length kids ≡ length keys
+pub has_others : (p : Contents) (depth : ℕ) (keys : List Bytes) (kids : List OwnChild) (pieces : List Piece) (key : Bytes)
+    (i : ℕ) (child : OwnChild) (fate : Fate) → length kids ≡ length keys
     → (d : Down p depth keys kids pieces key i child) → IsFate key d.first d.way.here fate
     → 0 < length (without key (rows_or (shown p pieces))) → HasOthers fate (length keys)
 has_others p depth keys kids pieces key i child Leaves l d f z =
@@ -449,11 +449,11 @@ shown_later old new depth keys body kids pieces pre v e o =
     ap (shown new) (ap (body_pieces depth keys) (sym e) ∙ v) ∙ shown-kept old new pieces n.rows pre n.is ∙ sym n.is
 
 -- the fate of the child, once more is placed
-pub fate_later : (old new : Contents) (depth : ℕ) (keys slice : List Bytes) (kids : List Child) (pieces : List Piece)
-    (key first : Bytes) (i : ℕ) (child : Child) (fate : Fate) → IsPrefix old new
+pub fate_later : (old new : Contents) (depth : ℕ) (keys slice : List Bytes) (kids : List OwnChild) (pieces : List Piece)
+    (key first : Bytes) (i : ℕ) (child : OwnChild) (fate : Fate) → IsPrefix old new
     → length kids ≡ length keys → slice ≡ keys → i < length slice → (d : Down old depth keys kids pieces key i child)
     → child ≡ get_or kids i child → first ≡ get_or slice i first
-    → IsFate key first (rows_or (kid_shown old child)) fate → (c : Child) → slice_get kids i ≡ Some c
+    → IsFate key first (rows_or (kid_shown old child)) fate → (c : OwnChild) → slice_get kids i ≡ Some c
     → IsFate key (get_or keys i []) (rows_or (kid_shown new c)) fate
 fate_later old new depth keys slice kids pieces key first i child fate pre l s w d g e f c h =
     let here = kid_shown-at old (depth - 1) child d.way.here d.way.here_is in

@@ -15,8 +15,8 @@ use Rattle.map_nodes.specs.Nodes.{Kids, kids_pieces, row_pieces, body_pieces, Is
 use Rattle.map_nodes.specs.Inside.Nodes.{Kid, ChildChanged, child_rows}
 use Rattle.map_nodes.specs.declared.nodes.Body.{Body}
 use Rattle.map_nodes.specs.declared.nodes.Body.TheVariants.{Leaf, Inner}
-use Rattle.map_nodes.specs.declared.nodes.Child.{Child}
-use Rattle.map_nodes.specs.declared.nodes.Child.TheVariants.{Own}
+use Rattle.map_nodes.specs.declared.nodes.OwnChild.{OwnChild}
+use Rattle.map_nodes.specs.declared.nodes.OwnChild.TheVariants.{Own}
 use Rattle.map_nodes.proofs.ChangeLemmas.{changed, one_child, put-local, put-begins, there_above, none_there, put-found}
 use Rattle.map_nodes.proofs.ChangeLemmas.{replaced}
 use Rattle.map_chunks.proofs.JoinLemmas.{some_is}
@@ -63,7 +63,7 @@ leaf_has p depth keys body values pieces slice key n w e inv s there a =
     (leaf_rows p depth keys body values pieces w e) ∙ find-absent key (paired keys values.items) n r)
 
 -- an inner node with another child at a place
-pub inner_with : (depth : ℕ) (keys : List Bytes) (body : Body) (kids : _) (i : ℕ) (y : Child) (es : Kids)
+pub inner_with : (depth : ℕ) (keys : List Bytes) (body : Body) (kids : _) (i : ℕ) (y : OwnChild) (es : Kids)
     → body ≡ Inner kids → IsNode depth keys body
     → paired keys (set kids.items i y) ≡ es → AllKids (depth - 1) es
     → (AreKeys keys) × ((0 < depth) × (0 < length keys) × (length (set kids.items i y) ≡ length keys)
@@ -78,8 +78,8 @@ inner_lengths depth keys body kids e inv = let h : IsNode depth keys (Inner kids
     (IsNode depth keys) e inv in h.1.2
 
 -- the key is below the child
-pub there_below : (p : Contents) (depth : ℕ) (keys : List Bytes) (kids : List Child) (pieces : List Piece) (key : Bytes)
-    (i : ℕ) (child : Child)
+pub there_below : (p : Contents) (depth : ℕ) (keys : List Bytes) (kids : List OwnChild) (pieces : List Piece) (key : Bytes)
+    (i : ℕ) (child : OwnChild)
     → (d : Down p depth keys kids pieces key i child) → IsSome (find (slice_cmp nat_cmp) key (rows_or (shown p pieces)))
     → IsSome (find (slice_cmp nat_cmp) key d.way.here)
 there_below p depth keys kids pieces key i child d t =
@@ -91,8 +91,8 @@ pub record Replaced (new : Contents) (below : ℕ) (es : Kids) (rows : Option Ro
   pub all : AllKids below es
   pub shown_is : shown new (kids_pieces below es) ≡ rows
 
-pub kid_replaced : (old new : Contents) (depth : ℕ) (keys : List Bytes) (kids : List Child) (pieces : List Piece)
-    (key v : Bytes) (i : ℕ) (child : Child) (n : Kid) (x : Option Rows)
+pub kid_replaced : (old new : Contents) (depth : ℕ) (keys : List Bytes) (kids : List OwnChild) (pieces : List Piece)
+    (key v : Bytes) (i : ℕ) (child : OwnChild) (n : Kid) (x : Option Rows)
     → IsPrefix old new → (d : Down old depth keys kids pieces key i child)
     → IsSome (find (slice_cmp nat_cmp) key (rows_or (shown old pieces))) → x ≡ Some d.way.here
     → n.value.depth ≡ depth - 1 → shown new n.value.pieces ≡ Some (put (slice_cmp nat_cmp) key v (rows_or x))
@@ -113,11 +113,11 @@ kid_replaced old new depth keys kids pieces key v i child n x p d t e b s =
           (sym d.rows_is);
     }
 
-pub can_replace : (p : Contents) (depth : ℕ) (keys : List Bytes) (kids : List Child) (pieces : List Piece) (key : Bytes)
-    (i : ℕ) (child : Child)
+pub can_replace : (p : Contents) (depth : ℕ) (keys : List Bytes) (kids : List OwnChild) (pieces : List Piece) (key : Bytes)
+    (i : ℕ) (child : OwnChild)
     → (d : Down p depth keys kids pieces key i child) → slice_get kids i ≡ Some child
     → IsSome (find (slice_cmp nat_cmp) key (rows_or (shown p pieces)))
-    → (c : Child) → slice_get kids i ≡ Some c → CanReplace p (depth - 1) key c
+    → (c : OwnChild) → slice_get kids i ≡ Some c → CanReplace p (depth - 1) key c
 can_replace p depth keys kids pieces key i child d g t c h =
     let r = child_requires p depth keys kids kids pieces key i child d g refl c h in
     let here = ap (child_rows p (depth - 1)) (some_is (sym h ∙ g)) ∙ d.way.here_is in (
@@ -128,14 +128,14 @@ can_replace p depth keys kids pieces key i child d g t c h =
     )
 
 -- an inner node whose child is changed so
-pub record ChildReplaced (new : Contents) (depth : ℕ) (keys : List Bytes) (kids ne : List Child)
+pub record ChildReplaced (new : Contents) (depth : ℕ) (keys : List Bytes) (kids ne : List OwnChild)
     (rows : Option Rows) : Type 0 where
   pub node : AreKeys keys × ((0 < depth) × (0 < length keys) × (length ne ≡ length keys)
       × AllKids (depth - 1) (paired keys ne))
   pub shown_is : shown new (kids_pieces (depth - 1) (paired keys ne)) ≡ rows
 
-pub child_replaced : (old new : Contents) (depth : ℕ) (keys : List Bytes) (body : Body) (kids : _) (ne : List Child)
-    (pieces : List Piece) (key v : Bytes) (i : ℕ) (child : Child)
+pub child_replaced : (old new : Contents) (depth : ℕ) (keys : List Bytes) (body : Body) (kids : _) (ne : List OwnChild)
+    (pieces : List Piece) (key v : Bytes) (i : ℕ) (child : OwnChild)
     → IsPrefix old new → body ≡ Inner kids → IsNode depth keys body
     → (d : Down old depth keys kids.items pieces key i child)
     → IsSome (find (slice_cmp nat_cmp) key (rows_or (shown old pieces)))

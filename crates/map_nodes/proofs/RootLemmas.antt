@@ -13,8 +13,8 @@ use Rattle.map_chunks.specs.Search.{is_above}
 use Rattle.map_chunks.specs.Shown.{Piece, part_rows, shown}
 use Rattle.map_nodes.specs.declared.nodes.Body.{Body}
 use Rattle.map_nodes.specs.declared.nodes.Body.TheVariants.{Leaf, Inner}
-use Rattle.map_nodes.specs.declared.nodes.Child.{Child}
-use Rattle.map_nodes.specs.declared.nodes.Child.TheVariants.{Own}
+use Rattle.map_nodes.specs.declared.nodes.OwnChild.{OwnChild}
+use Rattle.map_nodes.specs.declared.nodes.OwnChild.TheVariants.{Own}
 use Rattle.map_nodes.specs.declared.nodes.putting.Half.{Half}
 use Rattle.map_nodes.proofs.ChangeLemmas.{head_from}
 use Rattle.map_chunks.proofs.JoinLemmas.{back_begins, halves, begins-with}
@@ -33,7 +33,7 @@ head_body depth k ks (Leaf values) h = by values.items h.1.1
     by (v ∷ vs) l = refl
 head_body depth k ks (Inner kids) h = by kids.items h.1.2 h.1.3
   where
-    by : (cs : List Child) → length cs ≡ length (k ∷ ks) → AllKids (depth - 1) (paired (k ∷ ks) cs)
+    by : (cs : List OwnChild) → length cs ≡ length (k ∷ ks) → AllKids (depth - 1) (paired (k ∷ ks) cs)
         → HeadIs k (kids_pieces (depth - 1) (paired (k ∷ ks) cs))
     by [] l a = absurd (omega arith)
     by (c ∷ cs) l a = head_kids (depth - 1) 0 ((k, c) ∷ paired ks cs) (omega arith) a
@@ -92,12 +92,12 @@ two q first k (x ∷ lower) (y ∷ upper) rows e o b l h =
 
 -- what the new root is
 pub record Root (depth : ℕ) (first second : Bytes) (lower : Kid) (half : Half) (keys : List Bytes)
-    (kids : List Child) : Type 0 where
+    (kids : List OwnChild) : Type 0 where
   pub node : AreKeys keys × ((0 < depth + 1) × (0 < length keys) × (length kids ≡ length keys)
       × AllKids ((depth + 1) - 1) (paired keys kids))
   pub pieces : kids_pieces ((depth + 1) - 1) (paired keys kids) ≡ lower.value.pieces ++ half.node.value.pieces
 
-pub root : (first second : Bytes) (lower : Kid) (half : Half) (keys given : List Bytes) (kids : List Child)
+pub root : (first second : Bytes) (lower : Kid) (half : Half) (keys given : List Bytes) (kids : List OwnChild)
     → HeadIs first lower.value.pieces → IsHalf 1 lower.value.depth (Some half) → AreInOrder first half.node.value.pieces
     → half.firsts.items ≡ given ++ second ∷ [] → keys ≡ first ∷ second ∷ [] → kids ≡ Own lower ∷ Own half.node ∷ []
     → Root lower.value.depth first second lower half keys kids

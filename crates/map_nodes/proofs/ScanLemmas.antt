@@ -9,8 +9,8 @@ use mathlib.Core.List.{IsPrefix}
 use Rattle.map_chunks.specs.Shown.{IsTree, Piece, shown}
 use Rattle.map_nodes.specs.Nodes.{kids_pieces, body_pieces, IsNode, child_height, kids_height}
 use Rattle.map_nodes.specs.Inside.Nodes.{child_rows}
-use Rattle.map_nodes.specs.declared.nodes.Child.{Child}
-use Rattle.map_nodes.specs.declared.nodes.Child.TheVariants.{Placed, Own}
+use Rattle.map_nodes.specs.declared.nodes.OwnChild.{OwnChild}
+use Rattle.map_nodes.specs.declared.nodes.OwnChild.TheVariants.{Placed, Own}
 use Rattle.map_nodes.specs.declared.nodes.Body.{Body}
 use Rattle.map_nodes.specs.declared.nodes.Body.TheVariants.{Inner}
 use Rattle.map_nodes.proofs.NodeLemmas.{kid_rows, shown-kids}
@@ -23,15 +23,15 @@ use Rattle.map_chunks.proofs.ScanLemmas.{Turn, chunk_rows-kept, pairs_turn, show
 -- CHILDREN OF A DRAFT'S CHUNK
 
 -- what a child of a draft's chunk shows
-abbrev pub shown_kid : Contents → Bytes × Child → Option Rows
+abbrev pub shown_kid : Contents → Bytes × OwnChild → Option Rows
 shown_kid contents e = kid_shown contents e.1
 
-pub kid_shown-kept : (old new : Contents) (kid : Child) (rs : Rows) → IsPrefix old new → kid_shown old kid ≡ Some rs
+pub kid_shown-kept : (old new : Contents) (kid : OwnChild) (rs : Rows) → IsPrefix old new → kid_shown old kid ≡ Some rs
     → kid_shown new kid ≡ Some rs
 kid_shown-kept old new (Placed at) rs p h = chunk_rows-kept old new (stamp_of at) rs p h
 kid_shown-kept old new (Own n) rs p h = shown-kept old new n.value.pieces rs p h
 
-pub kid_shown-at : (p : Contents) (below : ℕ) (kid : Child) (rs : Rows) → child_rows p below kid ≡ Some rs
+pub kid_shown-at : (p : Contents) (below : ℕ) (kid : OwnChild) (rs : Rows) → child_rows p below kid ≡ Some rs
     → kid_shown p kid ≡ Some rs
 kid_shown-at p below (Placed at) rs h = chunk_rows-at p below (stamp_of at) rs h
 kid_shown-at p below (Own n) rs h = h
@@ -47,13 +47,13 @@ kids_shown-is p depth keys body kids pieces rs v e inv h =
     (paired keys kids.items) rs (sym (shown-kids p (depth - 1) (paired keys kids.items) i.1.3) ∙ s)
 
 -- a child at its turn, when more may be placed
-pub record KidTurn (old new : Contents) (ks : List Bytes) (xs : List Child) (i : ℕ) (rs : Rows)
-    (kid : Child) : Type 0 where
+pub record KidTurn (old new : Contents) (ks : List Bytes) (xs : List OwnChild) (i : ℕ) (rs : Rows)
+    (kid : OwnChild) : Type 0 where
   pub turn : Turn (shown_kid old) (paired ks xs) i rs
   pub rows_are : kid_shown new kid ≡ Some turn.here
   pub tree : IsTree (kid_shown new kid)
 
-pub kid_turn : (old new : Contents) (ks : List Bytes) (xs : List Child) (i : ℕ) (kid : Child) → IsPrefix old new
+pub kid_turn : (old new : Contents) (ks : List Bytes) (xs : List OwnChild) (i : ℕ) (kid : OwnChild) → IsPrefix old new
     → length xs ≡ length ks
     → (n : Known (joined_rows (shows_of (shown_kid old) (paired ks xs)))) → i < length ks → kid ≡ get_or xs i kid
     → KidTurn old new ks xs i n.rows kid
@@ -69,7 +69,7 @@ kid_turn old new ks xs i kid p l n b q =
           (IsStrict-front t.here t.back t.strict);
     }
 
-pub kid_height : (kids : List Child) (i : ℕ) (kid : Child) → i < length kids → kid ≡ get_or kids i kid
+pub kid_height : (kids : List OwnChild) (i : ℕ) (kid : OwnChild) → i < length kids → kid ≡ get_or kids i kid
     → child_height kid ≤ kids_height kids
 kid_height [] i kid l q = absurd (omega arith)
 kid_height (k ∷ kids) zero kid l q = subst (λ w. child_height w ≤ max (child_height k) (kids_height kids))

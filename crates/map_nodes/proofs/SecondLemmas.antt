@@ -8,7 +8,7 @@ use Rattle.group_history.specs.Spelling.{Contents}
 use Rattle.group_history.proofs.Pairs.{keys_of-paired}
 use Rattle.map_nodes.specs.Inside.Scanning.{kid_shown, kids_shown}
 use Rattle.map_chunks.specs.SecondKeys.{second_key}
-use Rattle.map_nodes.specs.declared.nodes.Child.{Child}
+use Rattle.map_nodes.specs.declared.nodes.OwnChild.{OwnChild}
 use Rattle.map_chunks.proofs.JoinLemmas.{split_of}
 use Rattle.map_chunks.proofs.OpenLemmas.{shows_of}
 use Rattle.map_nodes.proofs.ScanLemmas.{shown_kid}
@@ -19,12 +19,12 @@ keys-shown g [] = refl
 keys-shown g (e ∷ es) = ap (λ w. e.0 ∷ w) (keys-shown g es)
 
 -- the first child of a draft's chunk
-pub record FirstKid (p : Contents) (keys : List Bytes) (kid : Child) (rows : Rows) : Type 0 where
+pub record FirstKid (p : Contents) (keys : List Bytes) (kid : OwnChild) (rows : Rows) : Type 0 where
   pub front : Rows
   pub shown_is : kid_shown p kid ≡ Some front
   pub second_is : option_or (second_key front) (slice_get keys 1) ≡ second_key rows
 
-pub first_kid : (p : Contents) (keys : List Bytes) (kids : List Child) (kid : Child) (rows : Rows)
+pub first_kid : (p : Contents) (keys : List Bytes) (kids : List OwnChild) (kid : OwnChild) (rows : Rows)
     → length kids ≡ length keys → 0 < length keys → kid ≡ get_or kids 0 kid
     → kids_shown p (paired keys kids) ≡ Some rows → FirstKid p keys kid rows
 first_kid p [] kids kid rows l z g h = absurd (omega arith)

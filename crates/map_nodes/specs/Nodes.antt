@@ -3,17 +3,17 @@ use Rattle.std.specs.Prelude.{ℕ, ◌+◌, ◌-◌, ◌<◌, max, List, [], ◌
 use Rattle.group_history.specs.Map.{Bytes}
 use Rattle.group_history.specs.Rows.{Rows, AreKeys, paired}
 use Rattle.map_chunks.specs.Shown.{value, chunk, Piece}
-use Rattle.map_nodes.specs.declared.nodes.Child.{Child}
-use Rattle.map_nodes.specs.declared.nodes.Child.TheVariants.{Placed, Own}
+use Rattle.map_nodes.specs.declared.nodes.OwnChild.{OwnChild}
+use Rattle.map_nodes.specs.declared.nodes.OwnChild.TheVariants.{Placed, Own}
 use Rattle.map_nodes.specs.declared.nodes.Body.{Body}
 use Rattle.map_nodes.specs.declared.nodes.Body.TheVariants.{Leaf, Inner}
 
 -- children, each under its first key
 abbrev pub Kids : Type 0
-Kids = List (Bytes × Child)
+Kids = List (Bytes × OwnChild)
 
 -- a child's pieces, where the children are so deep
-abbrev pub child_pieces : ℕ → Bytes → Child → List Piece
+abbrev pub child_pieces : ℕ → Bytes → OwnChild → List Piece
 child_pieces below first (Placed at) = (first, chunk below at) ∷ []
 child_pieces below first (Own n) = n.value.pieces
 
@@ -33,7 +33,7 @@ abbrev pub HeadIs : Bytes → List Piece → Type 0
 HeadIs k [] = ⊥
 HeadIs k (q ∷ qs) = q.0 ≡ k
 
-abbrev pub IsChild : ℕ → Bytes → Child → Type 0
+abbrev pub IsChild : ℕ → Bytes → OwnChild → Type 0
 IsChild below first (Placed at) = Unit {0}
 IsChild below first (Own n) = (n.value.depth ≡ below) × HeadIs first n.value.pieces
 
@@ -51,11 +51,11 @@ abbrev pub IsNode : ℕ → List Bytes → Body → Type 0
 IsNode depth keys body = AreKeys keys × IsBody depth keys body
 
 -- how deep own chunks are nested in it
-abbrev pub child_height : Child → ℕ
+abbrev pub child_height : OwnChild → ℕ
 child_height (Placed at) = 1
 child_height (Own n) = n.value.height + 1
 
-abbrev pub kids_height : List Child → ℕ
+abbrev pub kids_height : List OwnChild → ℕ
 kids_height [] = 0
 kids_height (k ∷ ks) = max (child_height k) (kids_height ks)
 
@@ -64,11 +64,11 @@ body_height (Leaf values) = 1
 body_height (Inner kids) = kids_height kids.items + 2
 
 -- how many own chunks it is
-abbrev pub child_fresh : Child → ℕ
+abbrev pub child_fresh : OwnChild → ℕ
 child_fresh (Placed at) = 0
 child_fresh (Own n) = n.value.fresh
 
-abbrev pub kids_fresh : List Child → ℕ
+abbrev pub kids_fresh : List OwnChild → ℕ
 kids_fresh [] = 0
 kids_fresh (k ∷ ks) = child_fresh k + kids_fresh ks
 

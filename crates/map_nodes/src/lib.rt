@@ -1,10 +1,10 @@
 //! The chunks that a draft owns: read, changed in place, and written down as nodes.
 //!
-//! `Node` is such a chunk with all that it owns below it; chunks that were placed stand in it as
+//! `OwnNode` is such a chunk with all that it owns below it; chunks that were placed stand in it as
 //! references, and are copied before they change. Each call asks that what the chunk shows is in order,
 //! and says what it shows afterwards.
 #![tactic(auto)]
 
 mod nodes;
 
-pub use nodes::{Node, frozen, room_for};
+pub use nodes::{OwnNode, frozen, room_for};

@@ -24,7 +24,7 @@ use std::marker::Model;
 /// A chunk that a draft owns. A leaf is 1 deep.
 #[cycle(node)]
 #[derive(Drop)]
-pub struct Node {
+pub struct OwnNode {
     depth: u64,
     keys: NodeKeys,
     body: Body,
@@ -34,17 +34,17 @@ pub struct Node {
 #[derive(Drop)]
 enum Body {
     Leaf(Vec<Json>),
-    Inner(Vec<Child>),
+    Inner(Vec<OwnChild>),
 }
 
 #[cycle(node)]
 #[derive(Drop)]
-enum Child {
+enum OwnChild {
     Placed(Ref),
-    Own(Box<Node>),
+    Own(Box<OwnNode>),
 }
 
-impl Model for Node {
+impl Model for OwnNode {
     ghost use Rattle.map_chunks.specs.Shown.{Seen};
 
     ghost Value = { Seen };

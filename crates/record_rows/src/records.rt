@@ -3,7 +3,7 @@
 use crate::requests::incremented;
 use crate::rows::failed;
 use group_history::{
-    Change, MAX_SLOTS, Ref, Refusal, Reply, STAMPS, Text, record_laws, worked_examples,
+    Change, ChangeReply, MAX_SLOTS, Ref, Refusal, STAMPS, Text, record_laws, worked_examples,
 };
 use std::alloc::Global;
 use std::io;
@@ -16,9 +16,9 @@ fn mutated(alloc: Global) -> Result<Change, Refusal> {
 
 fn tell_reply(rt: &HostRuntime, change: &Change) -> io::Result<()> {
     match change.reply() {
-        Reply::Id(id) => println!(rt; "reply: id {id}"),
-        Reply::Ended(_) => println!(rt; "reply: an end of a pull"),
-        Reply::StateNotFound => println!(rt; "reply: StateNotFound"),
+        ChangeReply::Id(id) => println!(rt; "reply: id {id}"),
+        ChangeReply::Ended(_) => println!(rt; "reply: an end of a pull"),
+        ChangeReply::StateNotFound => println!(rt; "reply: StateNotFound"),
     }
 }
 

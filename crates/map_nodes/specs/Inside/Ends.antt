@@ -5,8 +5,8 @@ use Rattle.group_history.specs.Rows.{Rows}
 use Rattle.group_history.specs.Spelling.{Contents}
 use Rattle.map_chunks.specs.Shown.{Part, value, chunk, Piece, Seen}
 use Rattle.map_chunks.specs.Wide.{IsWideChunk}
-use Rattle.map_nodes.specs.declared.nodes.Child.{Child}
-use Rattle.map_nodes.specs.declared.nodes.Child.TheVariants.{Placed, Own}
+use Rattle.map_nodes.specs.declared.nodes.OwnChild.{OwnChild}
+use Rattle.map_nodes.specs.declared.nodes.OwnChild.TheVariants.{Placed, Own}
 use Rattle.map_chunks.specs.Ends.{IsEnd, IsNoDeeper}
 
 -- the placed chunk of a piece
@@ -21,17 +21,17 @@ end_of_pieces [] = None
 end_of_pieces (q ∷ []) = part_ref q.1
 end_of_pieces (q ∷ r ∷ qs) = None
 
-abbrev pub end_of : Child → Option Ref
+abbrev pub end_of : OwnChild → Option Ref
 end_of (Placed at) = Some at
 end_of (Own n) = end_of_pieces n.value.pieces
 
 -- a child with these rows ends in a placed chunk, or in one of the draft's own
-abbrev pub IsKidEnd : Contents → Option Rows → Child → Option Ref → Type 0
+abbrev pub IsKidEnd : Contents → Option Rows → OwnChild → Option Ref → Type 0
 IsKidEnd contents rows kid None = end_of kid ≡ None
 IsKidEnd contents rows kid (Some at) = IsEnd contents rows at
 
 -- what a draft's own child ends in: it shows the same, is wide, and is no deeper
-abbrev pub IsTaken : Child → Seen → Type 0
+abbrev pub IsTaken : OwnChild → Seen → Type 0
 IsTaken (Placed at) n = ⊥
 IsTaken (Own m) n = (n.pieces ≡ m.value.pieces) × IsWideChunk n × (n.fresh ≤ m.value.fresh) × (n.depth ≤ m.value.depth)
 
@@ -45,7 +45,7 @@ IsEndBelow depth [] = Unit {0}
 IsEndBelow depth (q ∷ []) = IsPartBelow depth q.1
 IsEndBelow depth (q ∷ r ∷ qs) = Unit {0}
 
-abbrev pub IsKidBelow : Child → Type 0
+abbrev pub IsKidBelow : OwnChild → Type 0
 IsKidBelow (Placed at) = Unit {0}
 IsKidBelow (Own n) = IsEndBelow n.value.depth n.value.pieces
 

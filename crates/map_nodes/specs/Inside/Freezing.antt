@@ -9,35 +9,35 @@ use Rattle.group_history.specs.Refs.{stamp_of}
 use Rattle.group_history.specs.Rows.{Rows}
 use Rattle.group_history.specs.Spelling.{Contents, rows_at}
 use Rattle.map_nodes.specs.Inside.Nodes.{child_rows}
-use Rattle.map_nodes.specs.declared.nodes.Child.{Child}
-use Rattle.map_nodes.specs.declared.nodes.Child.TheVariants.{Placed, Own}
+use Rattle.map_nodes.specs.declared.nodes.OwnChild.{OwnChild}
+use Rattle.map_nodes.specs.declared.nodes.OwnChild.TheVariants.{Placed, Own}
 use Rattle.map_chunks.specs.Places.{places_of, with_nodes}
 
 -- an own child is so deep
-abbrev pub IsDeep : ℕ → Child → Type 0
+abbrev pub IsDeep : ℕ → OwnChild → Type 0
 IsDeep depth (Placed at) = Unit {0}
 IsDeep depth (Own n) = n.value.depth ≡ depth
 
 -- The rows that the child shows while the draft has the old nodes are spelled by the reference's stamp where it
 -- has the new ones. The draft's first stamp is given.
-abbrev pub IsFrozen : ℕ → List (Node Ref) → List (Node Ref) → Child → Ref → Type 0
+abbrev pub IsFrozen : ℕ → List (Node Ref) → List (Node Ref) → OwnChild → Ref → Type 0
 IsFrozen first old new child at = (contents : Contents) (depth : ℕ) (rows : Rows) → length contents ≡ first
     → IsDeep depth child
     → child_rows (with_nodes contents old) depth child ≡ Some rows
     → rows_at (with_nodes contents new) depth (stamp_of at) ≡ Some rows
 
 -- a reference for each child, in order
-abbrev pub AreFrozen : ℕ → List (Node Ref) → List (Node Ref) → List Child → List Ref → Type 0
+abbrev pub AreFrozen : ℕ → List (Node Ref) → List (Node Ref) → List OwnChild → List Ref → Type 0
 AreFrozen first old new [] [] = Unit {0}
 AreFrozen first old new [] (at ∷ ats) = ⊥
 AreFrozen first old new (child ∷ children) [] = ⊥
 AreFrozen first old new (child ∷ children) (at ∷ ats) = IsFrozen first old new child at
     × AreFrozen first old new children ats
 
-abbrev pub child_places : Child → List Ref
+abbrev pub child_places : OwnChild → List Ref
 child_places (Placed at) = at ∷ []
 child_places (Own n) = places_of n.value.pieces
 
-abbrev pub kids_places : List Child → List Ref
+abbrev pub kids_places : List OwnChild → List Ref
 kids_places [] = []
 kids_places (k ∷ ks) = child_places k ++ kids_places ks

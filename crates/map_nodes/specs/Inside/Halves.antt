@@ -11,8 +11,8 @@ use Rattle.map_chunks.specs.Search.{is_above}
 use Rattle.map_chunks.specs.Shown.{Piece, shown}
 use Rattle.map_nodes.specs.Nodes.{Kids, HeadIs, AllKids, kids_pieces}
 use Rattle.map_nodes.specs.Inside.Nodes.{Kid}
-use Rattle.map_nodes.specs.declared.nodes.Child.{Child}
-use Rattle.map_nodes.specs.declared.nodes.Child.TheVariants.{Placed, Own}
+use Rattle.map_nodes.specs.declared.nodes.OwnChild.{OwnChild}
+use Rattle.map_nodes.specs.declared.nodes.OwnChild.TheVariants.{Placed, Own}
 use Rattle.map_nodes.specs.declared.nodes.putting.Half.{Half}
 
 abbrev pub half_pieces : Option Half → List Piece
@@ -41,14 +41,14 @@ AreNinth copies keys place key texts = length keys ≡ 16 → (k : Bytes) → (p
     → texts ≡ replicate copies (slice_index_or (insert keys place k) 8 [])
 
 -- keys and children of an inner chunk, and the upper half of it, have these children between them
-abbrev pub Finished : ℕ → ℕ → Kids → List Bytes → List Child → Option Half → Type 0
+abbrev pub Finished : ℕ → ℕ → Kids → List Bytes → List OwnChild → Option Half → Type 0
 Finished depth copies es keys kids half =
     (kids_pieces (depth - 1) (paired keys kids) ++ half_pieces half ≡ kids_pieces (depth - 1) es)
     × IsHalf copies depth half × (length kids ≡ length keys) × AreKeys keys × (0 < length keys)
     × AllKids (depth - 1) (paired keys kids)
 
 -- an own child, so deep, stands at the place of one, and shows with its upper half these rows
-abbrev pub ChildPut : Contents → ℕ → ℕ → ℕ → List Child → List Child → Option Half
+abbrev pub ChildPut : Contents → ℕ → ℕ → ℕ → List OwnChild → List OwnChild → Option Half
     → (Option (List (Bytes × Bytes))) → Type 0
 ChildPut contents copies below place old new half rows = (n : Kid) × (new ≡ slice_set old place (Own n))
     × (n.value.depth ≡ below) × (0 < length n.value.pieces)
@@ -60,7 +60,7 @@ IsLower key first None = is_above first key ≡ false
 IsLower key first (Some k) = (k ≡ key) × (is_above first key ≡ true)
 
 -- an own child is so deep
-abbrev pub HasDepth : ℕ → Child → Type 0
+abbrev pub HasDepth : ℕ → OwnChild → Type 0
 HasDepth below (Placed at) = Unit {0}
 HasDepth below (Own n) = n.value.depth ≡ below
 

@@ -5,8 +5,8 @@ use Rattle.group_history.specs.Refs.{stamp_of}
 use Rattle.group_history.specs.Rows.{Rows}
 use Rattle.group_history.specs.Spelling.{Contents, rows_at}
 use Rattle.map_chunks.specs.Shown.{Seen, shown}
-use Rattle.map_nodes.specs.declared.nodes.Child.{Child}
-use Rattle.map_nodes.specs.declared.nodes.Child.TheVariants.{Placed, Own}
+use Rattle.map_nodes.specs.declared.nodes.OwnChild.{OwnChild}
+use Rattle.map_nodes.specs.declared.nodes.OwnChild.TheVariants.{Placed, Own}
 use Rattle.map_nodes.specs.Nodes.{child_fresh}
 
 -- an own chunk where it is a child
@@ -14,12 +14,12 @@ abbrev pub Kid : Type 0
 Kid = Box Seen Global
 
 -- the rows that a child shows
-abbrev pub child_rows : Contents → ℕ → Child → Option Rows
+abbrev pub child_rows : Contents → ℕ → OwnChild → Option Rows
 child_rows contents below (Placed at) = rows_at contents below (stamp_of at)
 child_rows contents below (Own n) = shown contents n.value.pieces
 
 -- an own child, so deep, stands at the place of this one, and shows these rows; so many chunks of it may be new
-abbrev pub ChildChanged : Contents → ℕ → ℕ → List Child → List Child → Child → Option Rows → Type 0
+abbrev pub ChildChanged : Contents → ℕ → ℕ → List OwnChild → List OwnChild → OwnChild → Option Rows → Type 0
 ChildChanged contents below place old new child rows = (n : Kid) × (new ≡ slice_set old place (Own n))
     × (n.value.depth ≡ below) × (shown contents n.value.pieces ≡ rows)
     × (n.value.fresh ≤ child_fresh child + below)

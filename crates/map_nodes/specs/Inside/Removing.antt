@@ -15,7 +15,7 @@ use Rattle.map_nodes.specs.Inside.Nodes.{child_rows}
 use Rattle.map_nodes.specs.Inside.Scanning.{kid_shown}
 use Rattle.map_chunks.specs.SecondKeys.{second_key}
 use Rattle.map_chunks.specs.Shown.{shown, chunk_rows, rows_or, IsTree}
-use Rattle.map_nodes.specs.declared.nodes.Child.{Child}
+use Rattle.map_nodes.specs.declared.nodes.OwnChild.{OwnChild}
 use Rattle.map_nodes.specs.declared.nodes.removing.Fate.{Fate}
 use Rattle.map_nodes.specs.declared.nodes.removing.Fate.TheVariants.{Leaves, Stays}
 use Rattle.map_nodes.specs.declared.nodes.removing.Heir.{Heir}
@@ -46,23 +46,23 @@ gives_way Leaves entries = nat_le entries 2
 gives_way (Stays first) entries = false
 
 -- a child of this depth that shows rows in order, of which some stay
-abbrev pub CanRemove : Contents → ℕ → Bytes → Child → Type 0
+abbrev pub CanRemove : Contents → ℕ → Bytes → OwnChild → Type 0
 CanRemove contents below key c = IsTree (child_rows contents below c) × HasDepth below c
     × (0 < length (without key (rows_or (child_rows contents below c))))
 
 -- what children show of which there is at most one
-abbrev pub one_shown : Contents → List Child → Option Rows
+abbrev pub one_shown : Contents → List OwnChild → Option Rows
 one_shown contents [] = Some []
 one_shown contents (c ∷ cs) = kid_shown contents c
 
 -- what stands in the place of a root with at most this one child: it shows what the child shows, and is wide
-abbrev pub IsHeir : Contents → Contents → List Child → Heir → Type 0
+abbrev pub IsHeir : Contents → Contents → List OwnChild → Heir → Type 0
 IsHeir old new kids (heir.Placed at) = IsEnd new (one_shown old kids) at
 IsHeir old new kids (heir.Own n) = (shown new n.pieces ≡ one_shown old kids) × IsWideChunk n
     × (n.fresh ≤ kids_fresh kids + 1)
 
 -- a placed heir changes no child
-abbrev pub KeptBy : List Child → List Child → Heir → Type 0
+abbrev pub KeptBy : List OwnChild → List OwnChild → Heir → Type 0
 KeptBy old new (heir.Placed at) = new ≡ old
 KeptBy old new (heir.Own n) = Unit {0}
 
@@ -72,13 +72,13 @@ heir_places (heir.Placed at) = at ∷ []
 heir_places (heir.Own n) = places_of n.pieces
 
 -- what an inner root shows once a key is removed: what its heir shows, if it has one, else its children
-abbrev pub left_rows : Contents → ℕ → List Bytes → List Child → Option Heir → Option Rows
+abbrev pub left_rows : Contents → ℕ → List Bytes → List OwnChild → Option Heir → Option Rows
 left_rows contents depth keys kids None = shown contents (kids_pieces (depth - 1) (paired keys kids))
 left_rows contents depth keys kids (Some (heir.Placed at)) = chunk_rows contents (stamp_of at)
 left_rows contents depth keys kids (Some (heir.Own n)) = shown contents n.pieces
 
 -- how many own chunks it is then
-abbrev pub left_fresh : List Child → Option Heir → ℕ
+abbrev pub left_fresh : List OwnChild → Option Heir → ℕ
 left_fresh kids None = kids_fresh kids + 1
 left_fresh kids (Some (heir.Placed at)) = kids_fresh kids + 1
 left_fresh kids (Some (heir.Own n)) = n.fresh
@@ -90,7 +90,7 @@ IsWideLeft contents old new (Some (heir.Placed at)) = IsWideAt contents (stamp_o
 IsWideLeft contents old new (Some (heir.Own n)) = IsWideChunk n
 
 -- the placed chunks that are named then
-abbrev pub left_places : List Child → Option Heir → List Ref
+abbrev pub left_places : List OwnChild → Option Heir → List Ref
 left_places kids None = kids_places kids
 left_places kids (Some h) = heir_places h
 
@@ -100,7 +100,7 @@ end_places None = []
 end_places (Some at) = at ∷ []
 
 -- the first child, if there is one, is so deep, and shows rows
-abbrev pub IsFirstAt : Contents → ℕ → List Child → Type 0
+abbrev pub IsFirstAt : Contents → ℕ → List OwnChild → Type 0
 IsFirstAt contents below [] = Unit {0}
 IsFirstAt contents below (c ∷ cs) = HasDepth below c × IsSome (child_rows contents below c)
 

@@ -8,9 +8,9 @@ use Rattle.group_history.specs.Spelling.{Contents}
 use Rattle.map_nodes.specs.Inside.Halves.{HasDepth}
 use Rattle.map_nodes.specs.Inside.Nodes.{child_rows}
 use Rattle.map_chunks.specs.Shown.{rows_or, IsTree}
-use Rattle.map_nodes.specs.declared.nodes.Child.{Child}
+use Rattle.map_nodes.specs.declared.nodes.OwnChild.{OwnChild}
 
 -- a child of this depth that shows rows in order, among them one with the key
-abbrev pub CanReplace : Contents → ℕ → Bytes → Child → Type 0
+abbrev pub CanReplace : Contents → ℕ → Bytes → OwnChild → Type 0
 CanReplace contents below key c = IsTree (child_rows contents below c) × HasDepth below c
     × IsSome (find (slice_cmp nat_cmp) key (rows_or (child_rows contents below c)))

@@ -5,14 +5,14 @@ use Rattle.group_history.specs.Refs.{stamp_of}
 use Rattle.group_history.specs.Rows.{Rows}
 use Rattle.group_history.specs.Spelling.{Contents, joined_rows}
 use Rattle.map_chunks.specs.Shown.{chunk_rows, shown}
-use Rattle.map_nodes.specs.declared.nodes.Child.{Child}
-use Rattle.map_nodes.specs.declared.nodes.Child.TheVariants.{Placed, Own}
+use Rattle.map_nodes.specs.declared.nodes.OwnChild.{OwnChild}
+use Rattle.map_nodes.specs.declared.nodes.OwnChild.TheVariants.{Placed, Own}
 
 -- the rows of a child of a draft's chunk, however deep it is
-abbrev pub kid_shown : Contents → Child → Option Rows
+abbrev pub kid_shown : Contents → OwnChild → Option Rows
 kid_shown contents (Placed at) = chunk_rows contents (stamp_of at)
 kid_shown contents (Own n) = shown contents n.value.pieces
 
 -- the rows of the children of a draft's chunk
-abbrev pub kids_shown : Contents → List (Bytes × Child) → Option Rows
+abbrev pub kids_shown : Contents → List (Bytes × OwnChild) → Option Rows
 kids_shown contents kids = joined_rows (map (λ e. (e.0, kid_shown contents e.1)) kids)

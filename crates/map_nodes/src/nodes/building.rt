@@ -1,18 +1,18 @@
 //! New chunks of a draft.
 ghost use Rattle.std.specs.Prelude.{◌≡◌, []};
 
-use super::{Body, Node};
+use super::{Body, OwnNode};
 use map_chunks::keys::NodeKeys;
 use std::alloc::Global;
 
-impl Node {
+impl OwnNode {
     /// An empty leaf.
-    pub fn empty(alloc: Global) -> Node
+    pub fn empty(alloc: Global) -> OwnNode
         ensures depth { result.depth ≡ 1 }
         ensures pieces { result.pieces ≡ [] }
         ensures fresh { result.fresh ≡ 1 }
     {
-        Node {
+        OwnNode {
             depth: 1,
             keys: NodeKeys::own(Vec::new(alloc)),
             body: Body::Leaf(Vec::new(alloc)),

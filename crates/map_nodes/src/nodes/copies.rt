@@ -8,15 +8,15 @@ ghost use Rattle.map_nodes.specs.Inside.Copies.{MayBeDeep, IsCopy};
 ghost use Rattle.map_chunks.specs.Places.{Grows, AreKept, places_of};
 ghost use Rattle.map_chunks.specs.Shown.{shown};
 ghost use Rattle.map_chunks.specs.Wide.{IsWideAt, IsWideChunk};
-ghost use Rattle.map_nodes.specs.declared.nodes.Child.TheVariants.{Placed};
+ghost use Rattle.map_nodes.specs.declared.nodes.OwnChild.TheVariants.{Placed};
 
-use super::{Body, Child, Node};
+use super::{Body, OwnChild, OwnNode};
 use group_history::{Chunk, Json, Ref, Stop};
 use map_chunks::keys::{NodeKeys, ROOM};
 use map_chunks::{Chunks, ShowsChunk};
 use std::alloc::{AllocError, Global};
 
-impl Node {
+impl OwnNode {
     /// A copy of the placed chunk, which is so deep, with room for so many entries. Stops for want
     /// of memory, or as the store does.
     pub fn copied<C: Chunks>(
@@ -25,7 +25,7 @@ impl Node {
         at: Ref,
         depth: u64,
         room: usize,
-    ) -> Result<Node, Stop>
+    ) -> Result<OwnNode, Stop>
         requires place { C.places chunks.old at }
         requires known { IsSome (rows_at (C.contents chunks.old) depth (stamp_of at)) }
         ensures grown { Grows C.contents C.places chunks.old chunks.new }
@@ -38,7 +38,7 @@ impl Node {
         ensures stopped { IfErr result (λ s. (s ≡ NoMemory) ⊎ C.stops s) }
     {
         let held = chunks.show(at)?;
-        let node = Node::of_chunk(alloc, held.chunk(), depth, room);
+        let node = OwnNode::of_chunk(alloc, held.chunk(), depth, room);
         chunks.leave(held);
         Ok(node?)
     }
@@ -48,7 +48,7 @@ impl Node {
         chunk: &Chunk<Ref>,
         depth: u64,
         room: usize,
-    ) -> Result<Node, AllocError>
+    ) -> Result<OwnNode, AllocError>
         requires { MayBeDeep depth chunk.now }
         ensures { IfOk result (IsCopy depth chunk.now) }
     {
@@ -56,12 +56,12 @@ impl Node {
             Chunk::Leaf(leaf) => {
                 let keys = NodeKeys::shared(leaf.keys().clone()?);
                 let body = Body::Leaf(copied_values(alloc, leaf.values(), room)?);
-                Ok(Node { depth, keys, body })
+                Ok(OwnNode { depth, keys, body })
             }
             Chunk::Inner(inner) => {
                 let keys = NodeKeys::shared(inner.firsts().clone()?);
                 let body = Body::Inner(placed_children(alloc, inner.children(), room)?);
-                Ok(Node { depth, keys, body })
+                Ok(OwnNode { depth, keys, body })
             }
         }
     }
@@ -84,12 +84,16 @@ fn copied_values(alloc: Global, values: &[Json], room: usize) -> Result<Vec<Json
     Ok(copy)
 }
 
-fn placed_children(alloc: Global, children: &[Ref], room: usize) -> Result<Vec<Child>, AllocError>
+fn placed_children(
+    alloc: Global,
+    children: &[Ref],
+    room: usize,
+) -> Result<Vec<OwnChild>, AllocError>
     ensures { IfOk result (λ copy. copy.items ≡ map (λ at. Placed at) children.now) }
 {
     let mut copy = Vec::with_capacity(alloc, children.len().max(room))?;
     for at in children {
-        copy.push(Child::Placed(*at))?;
+        copy.push(OwnChild::Placed(*at))?;
     }
     Ok(copy)
 }

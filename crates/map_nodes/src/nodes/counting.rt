@@ -2,9 +2,9 @@
 ghost use Rattle.std.specs.Prelude.{◌≡◌, ◌-◌, ◌^◌, min};
 ghost use Rattle.map_nodes.specs.Nodes.{child_fresh, kids_fresh};
 
-use super::{Body, Child, Node};
+use super::{Body, OwnChild, OwnNode};
 
-impl Node {
+impl OwnNode {
     /// How many own chunks there are, from this one down. No machine has so many that the count stops at
     /// the largest number.
     #[cycle(counting)]
@@ -19,7 +19,7 @@ impl Node {
 }
 
 #[cycle(counting)]
-fn new_of_kids(kids: &[Child]) -> u64
+fn new_of_kids(kids: &[OwnChild]) -> u64
     ensures { result ≡ min (kids_fresh kids.now) (2 ^ 64 - 1) }
 {
     let mut count = 0u64;
@@ -30,11 +30,11 @@ fn new_of_kids(kids: &[Child]) -> u64
 }
 
 #[cycle(counting)]
-fn new_of_kid(kid: &Child) -> u64
+fn new_of_kid(kid: &OwnChild) -> u64
     ensures { result ≡ min (child_fresh kid.now) (2 ^ 64 - 1) }
 {
     match kid {
-        Child::Placed(_) => 0,
-        Child::Own(node) => node.new_chunks(),
+        OwnChild::Placed(_) => 0,
+        OwnChild::Own(node) => node.new_chunks(),
     }
 }

@@ -12,14 +12,14 @@ ghost use Rattle.map_nodes.specs.Nodes.{child_fresh, kids_fresh};
 ghost use Rattle.map_chunks.specs.Shown.{shown};
 ghost use Rattle.map_chunks.specs.Wide.{IsWideAt};
 
-use super::{Body, Child, Node};
+use super::{Body, OwnChild, OwnNode};
 use group_history::{Chunk, Inner, Leaf, Ref, Refusal};
 use map_chunks::Draft;
 use std::alloc::Global;
 
 /// Appends the chunk and those that it owns to the draft, all or none, and answers its root's name.
 /// Refused for want of memory, or with Stamps where the nodes would have stamps from `STAMPS` on.
-pub fn frozen(alloc: Global, node: Node, draft: &mut Draft) -> Result<Ref, Refusal>
+pub fn frozen(alloc: Global, node: OwnNode, draft: &mut Draft) -> Result<Ref, Refusal>
     requires below { AreBelow (draft.old.first + length draft.old.nodes) (places_of node.pieces) }
     ensures spelled { (contents : Contents) (rows : Rows) → length contents ≡ draft.old.first
         → shown (with_nodes contents draft.old.nodes) node.pieces ≡ Some rows
@@ -48,7 +48,7 @@ pub fn frozen(alloc: Global, node: Node, draft: &mut Draft) -> Result<Ref, Refus
     }
 }
 
-impl Node {
+impl OwnNode {
     /// Appends the chunk to the draft, behind its own children, and answers its name. Placed children
     /// keep their names. A refusal leaves what was appended so far.
     #[cycle(freezing)]
@@ -71,7 +71,7 @@ impl Node {
         ensures why { IfErr result (λ e. (e ≡ refusal.NoMemory)
             ⊎ ((e ≡ refusal.Stamps) × (stamps ≤ draft.new.first + length draft.new.nodes))) }
     {
-        let Node {
+        let OwnNode {
             depth: _,
             keys,
             body,
@@ -92,7 +92,7 @@ impl Node {
 }
 
 #[cycle(freezing)]
-fn freeze_kids(alloc: Global, kids: Vec<Child>, draft: &mut Draft) -> Result<Vec<Ref>, Refusal>
+fn freeze_kids(alloc: Global, kids: Vec<OwnChild>, draft: &mut Draft) -> Result<Vec<Ref>, Refusal>
     requires below { AreBelow (draft.old.first + length draft.old.nodes) (kids_places kids.items) }
     ensures frozen { IfOk result (λ ats. AreFrozen draft.old.first draft.old.nodes draft.new.nodes
         kids.items ats.items) }
@@ -115,7 +115,7 @@ fn freeze_kids(alloc: Global, kids: Vec<Child>, draft: &mut Draft) -> Result<Vec
 }
 
 #[cycle(freezing)]
-fn freeze_kid(alloc: Global, kid: Child, draft: &mut Draft) -> Result<Ref, Refusal>
+fn freeze_kid(alloc: Global, kid: OwnChild, draft: &mut Draft) -> Result<Ref, Refusal>
     requires below { AreBelow (draft.old.first + length draft.old.nodes) (child_places kid) }
     ensures frozen { IfOk result (IsFrozen draft.old.first draft.old.nodes draft.new.nodes kid) }
     ensures named { OnOk result (AddsNamed draft.old.first (child_places kid) draft.old.nodes draft.new.nodes) }
@@ -129,10 +129,10 @@ fn freeze_kid(alloc: Global, kid: Child, draft: &mut Draft) -> Result<Ref, Refus
         ⊎ ((e ≡ refusal.Stamps) × (stamps ≤ draft.new.first + length draft.new.nodes))) }
 {
     match kid {
-        Child::Placed(at) => {
+        OwnChild::Placed(at) => {
             return Ok(at);
         }
-        Child::Own(node) => {
+        OwnChild::Own(node) => {
             return Box::into_inner(node).freeze(alloc, draft);
         }
     }

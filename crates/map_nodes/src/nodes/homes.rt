@@ -6,25 +6,25 @@ ghost use Rattle.group_history.specs.declared.mutators.Stop.TheVariants.{NoMemor
 ghost use Rattle.map_chunks.specs.Places.{Grows, AreKept, places_of};
 ghost use Rattle.map_chunks.specs.Shown.{shown};
 
-use super::Node;
+use super::OwnNode;
 use group_history::{Ref, Stop};
 use map_chunks::Chunks;
 use map_chunks::entries::MOST;
 use std::alloc::{AllocError, Global};
 
 /// Room for another chunk as a child, where one with so many entries may be split.
-pub(crate) fn take_home(alloc: Global, len: usize) -> Result<Option<Box<Node>>, AllocError>
+pub(crate) fn take_home(alloc: Global, len: usize) -> Result<Option<Box<OwnNode>>, AllocError>
     ensures { IfOk result (λ home. 16 ≤ len → IsSome home) }
 {
     if len < MOST {
         return Ok(None);
     }
-    let home = Box::new(alloc, Node::empty(alloc))?;
+    let home = Box::new(alloc, OwnNode::empty(alloc))?;
     Ok(Some(home))
 }
 
 /// Puts a chunk into the room that was taken for it.
-pub(crate) fn housed(home: Option<Box<Node>>, node: Node) -> Box<Node>
+pub(crate) fn housed(home: Option<Box<OwnNode>>, node: OwnNode) -> Box<OwnNode>
     requires { IsSome home }
     ensures { result.value ≡ node }
 {
@@ -33,7 +33,7 @@ pub(crate) fn housed(home: Option<Box<Node>>, node: Node) -> Box<Node>
     home
 }
 
-impl Node {
+impl OwnNode {
     /// A copy of the placed chunk, which is so deep, as a child, with room for so many entries.
     pub(crate) fn copied_child<C: Chunks>(
         alloc: Global,
@@ -41,7 +41,7 @@ impl Node {
         at: Ref,
         depth: u64,
         room: usize,
-    ) -> Result<Box<Node>, Stop>
+    ) -> Result<Box<OwnNode>, Stop>
         requires place { C.places chunks.old at }
         requires known { IsSome (rows_at (C.contents chunks.old) depth (stamp_of at)) }
         ensures grown { Grows C.contents C.places chunks.old chunks.new }
@@ -52,12 +52,12 @@ impl Node {
         ensures places { IfOk result (λ n. AreKept (C.places chunks.new) [] (places_of n.value.pieces)) }
         ensures stopped { IfErr result (λ s. (s ≡ NoMemory) ⊎ C.stops s) }
     {
-        let node = Node::copied(alloc, chunks, at, depth, room)?;
+        let node = OwnNode::copied(alloc, chunks, at, depth, room)?;
         Ok(boxed(alloc, node)?)
     }
 }
 
-fn boxed(alloc: Global, node: Node) -> Result<Box<Node>, AllocError>
+fn boxed(alloc: Global, node: OwnNode) -> Result<Box<OwnNode>, AllocError>
     ensures { IfOk result (λ b. b.value ≡ node) }
 {
     let home = Box::new(alloc, node)?;

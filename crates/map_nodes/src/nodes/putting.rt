@@ -16,7 +16,7 @@ mod paths;
 mod roots;
 mod splits;
 
-use super::Node;
+use super::OwnNode;
 use group_history::{Stop, Text};
 use std::alloc::AllocError;
 
@@ -24,7 +24,7 @@ use std::alloc::AllocError;
 #[derive(Drop)]
 pub(crate) struct Half {
     pub(crate) firsts: Vec<Text>,
-    pub(crate) node: Box<Node>,
+    pub(crate) node: Box<OwnNode>,
 }
 
 /// Why a row isn't put.

@@ -10,7 +10,7 @@ ghost use Rattle.map_chunks.specs.Places.{Grows, AreAll, places_of};
 ghost use Rattle.map_chunks.specs.Seeking.{stands_in};
 ghost use Rattle.map_chunks.specs.Shown.{shown, IsTree, rows_or};
 
-use super::{Body, Child, Node};
+use super::{Body, OwnChild, OwnNode};
 use group_history::{Json, Stop};
 use map_chunks::Chunks;
 use map_chunks::looks::Standing;
@@ -18,7 +18,7 @@ use map_chunks::placed::get_placed;
 use map_chunks::search::{place_of, standing_at, value_at};
 use map_chunks::seeking::seek_placed;
 
-impl Node {
+impl OwnNode {
     /// The value at a key, if it is there. Stops for want of memory, or as the store does.
     pub fn get<C: Chunks>(&self, chunks: &mut C, key: &str) -> Result<Option<Json>, Stop>
         requires places { AreAll (C.places chunks.old) (places_of self.now.pieces) }
@@ -33,8 +33,8 @@ impl Node {
             Body::Inner(kids) => {
                 let place = place_of(self.keys.as_slice(), key);
                 match &kids[place] {
-                    Child::Placed(at) => get_placed(chunks, *at, key),
-                    Child::Own(node) => node.get(chunks, key),
+                    OwnChild::Placed(at) => get_placed(chunks, *at, key),
+                    OwnChild::Own(node) => node.get(chunks, key),
                 }
             }
         }
@@ -59,11 +59,11 @@ impl Node {
             Body::Inner(kids) => {
                 let place = place_of(self.keys.as_slice(), key);
                 match &kids[place] {
-                    Child::Placed(at) => {
+                    OwnChild::Placed(at) => {
                         let sought = seek_placed(chunks, *at, key, asked)?;
                         Ok(sought.standing)
                     }
-                    Child::Own(node) => node.standing(chunks, key, asked),
+                    OwnChild::Own(node) => node.standing(chunks, key, asked),
                 }
             }
         }

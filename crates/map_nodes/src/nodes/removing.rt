@@ -9,7 +9,7 @@ mod fates;
 mod paths;
 mod roots;
 
-use super::Node;
+use super::OwnNode;
 use group_history::{Ref, Text};
 
 /// What becomes of the child to which a key belongs, once the key is removed.
@@ -25,5 +25,5 @@ enum Fate {
 #[derive(Drop)]
 enum Heir {
     Placed(Ref),
-    Own(Node),
+    Own(OwnNode),
 }

@@ -12,16 +12,16 @@ ghost use Rattle.map_nodes.specs.Inside.Replacing.{CanReplace};
 ghost use Rattle.map_chunks.specs.Places.{Grows, AreAll, AreKept, places_of};
 ghost use Rattle.map_nodes.specs.Inside.Freezing.{kids_places};
 ghost use Rattle.map_chunks.specs.Shown.{shown, IsTree, rows_or};
-ghost use Rattle.map_nodes.specs.declared.nodes.Child.{Child as Childs};
-ghost use Rattle.map_nodes.specs.declared.nodes.Child.TheVariants as childs;
+ghost use Rattle.map_nodes.specs.declared.nodes.OwnChild.{OwnChild as Childs};
+ghost use Rattle.map_nodes.specs.declared.nodes.OwnChild.TheVariants as childs;
 
-use super::{Body, Child, Node};
+use super::{Body, OwnChild, OwnNode};
 use group_history::{Json, Ref, Stop};
 use map_chunks::Chunks;
 use map_chunks::search::{place_of, search};
 use std::alloc::Global;
 
-impl Node {
+impl OwnNode {
     /// Puts a value at a key that is there.
     #[cycle(replacing)]
     pub(crate) fn replace<C: Chunks>(
@@ -65,7 +65,7 @@ impl Node {
 
 #[cycle(replacing)]
 fn replace_child<C: Chunks>(
-    kids: &mut Vec<Child>,
+    kids: &mut Vec<OwnChild>,
     place: usize,
     below: u64,
     alloc: Global,
@@ -87,10 +87,10 @@ fn replace_child<C: Chunks>(
     ensures stopped { IfErr result (λ s. (s ≡ NoMemory) ⊎ C.stops s) }
 {
     match &mut kids[place] {
-        Child::Own(node) => return node.replace(alloc, chunks, key, value),
-        Child::Placed(at) => {
+        OwnChild::Own(node) => return node.replace(alloc, chunks, key, value),
+        OwnChild::Placed(at) => {
             let node = replaced_copy(alloc, chunks, *at, below, key, value)?;
-            kids[place] = Child::Own(node);
+            kids[place] = OwnChild::Own(node);
             return Ok(());
         }
     }
@@ -105,7 +105,7 @@ fn replaced_copy<C: Chunks>(
     depth: u64,
     key: &str,
     value: Json,
-) -> Result<Box<Node>, Stop>
+) -> Result<Box<OwnNode>, Stop>
     requires place { C.places chunks.old at }
     requires can { CanReplace (C.contents chunks.old) depth key.now (childs.Placed at) }
     ensures grown { Grows C.contents C.places chunks.old chunks.new }
@@ -117,7 +117,7 @@ fn replaced_copy<C: Chunks>(
     ensures places { IfOk result (λ n. AreKept (C.places chunks.new) [] (places_of n.value.pieces)) }
     ensures stopped { IfErr result (λ s. (s ≡ NoMemory) ⊎ C.stops s) }
 {
-    let mut node = Node::copied_child(alloc, chunks, at, depth, 0)?;
+    let mut node = OwnNode::copied_child(alloc, chunks, at, depth, 0)?;
     node.replace(alloc, chunks, key, value)?;
     Ok(node)
 }

@@ -8,13 +8,13 @@ ghost use Rattle.map_chunks.specs.Shown.{shown, IsTree, rows_or};
 ghost use Rattle.map_chunks.specs.Scanning.{with_scanned, IsWithin, IsLow};
 ghost use Rattle.map_nodes.specs.Inside.Scanning.{kid_shown, kids_shown};
 
-use super::{Body, Child, Node};
+use super::{Body, OwnChild, OwnNode};
 use group_history::{Json, Scan, Stop, Text};
 use map_chunks::Chunks;
 use map_chunks::scanning::{is_over, scan_placed, scan_rows};
 use map_chunks::search::place_of;
 
-impl Node {
+impl OwnNode {
     /// Appends the scan's rows of the chunk, and ends at the limit of all that is there. Stops for want of
     /// memory, or as the store does; what was appended by then stays.
     #[cycle(own)]
@@ -50,7 +50,7 @@ impl Node {
 fn scan_kids<C: Chunks>(
     chunks: &mut C,
     firsts: &[Text],
-    kids: &[Child],
+    kids: &[OwnChild],
     scan: &Scan,
     low: &str,
     out: &mut Vec<(Text, Json)>,
@@ -82,7 +82,7 @@ fn scan_kids<C: Chunks>(
 #[cycle(own)]
 fn scan_kid<C: Chunks>(
     chunks: &mut C,
-    kid: &Child,
+    kid: &OwnChild,
     scan: &Scan,
     low: &str,
     out: &mut Vec<(Text, Json)>,
@@ -97,7 +97,7 @@ fn scan_kid<C: Chunks>(
     ensures stopped { IfErr result (λ s. (s ≡ NoMemory) ⊎ C.stops s) }
 {
     match kid {
-        Child::Placed(at) => scan_placed(chunks, *at, scan, low, out),
-        Child::Own(node) => node.scan(chunks, scan, low, out),
+        OwnChild::Placed(at) => scan_placed(chunks, *at, scan, low, out),
+        OwnChild::Own(node) => node.scan(chunks, scan, low, out),
     }
 }

@@ -8,12 +8,12 @@ ghost use Rattle.map_chunks.specs.Places.{Grows, AreAll, AreKept, places_of};
 ghost use Rattle.map_chunks.specs.Shown.{shown, IsTree, rows_or};
 ghost use Rattle.map_chunks.specs.Wide.{IsWideChunk};
 
-use super::Node;
+use super::OwnNode;
 use group_history::{Json, Stop, Text};
 use map_chunks::Chunks;
 use std::alloc::Global;
 
-impl Node {
+impl OwnNode {
     /// Puts a row in the map whose root the chunk is; `there` says whether its key is there.
     /// Stops for want of memory, or as the store does, and the chunk is as it was then.
     pub fn write<C: Chunks>(

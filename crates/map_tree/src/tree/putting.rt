@@ -14,7 +14,7 @@ ghost use Rattle.map_chunks.specs.Wide.{IsWideAt};
 use super::{Root, Tree};
 use group_history::{Json, Ref, Stop};
 use map_chunks::Chunks;
-use map_nodes::{Node, room_for};
+use map_nodes::{OwnNode, room_for};
 use std::alloc::Global;
 
 impl Tree {
@@ -122,7 +122,7 @@ fn root_with<C: Chunks>(
     ensures places { IfOk result (λ root. AreKept (C.places chunks.new) [] (root_places root)) }
     ensures stopped { IfErr result (λ s. (s ≡ NoMemory) ⊎ C.stops s) }
 {
-    let mut node = Node::copied(alloc, chunks, at, depth, room_for(there))?;
+    let mut node = OwnNode::copied(alloc, chunks, at, depth, room_for(there))?;
     node.write(alloc, chunks, key, value, there)?;
     Ok(Root::Own(node))
 }

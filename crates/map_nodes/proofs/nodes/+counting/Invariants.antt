@@ -2,8 +2,8 @@ use Rattle.std.proofs.Common.{◌≡◌, ◌+◌, ◌-◌, ◌^◌, min, take}
 use Rattle.map_nodes.specs.Nodes.{kids_fresh, child_height, kids_height}
 use Rattle.map_nodes.proofs.nodes.+counting.Given as goal
 
-abbrev pub decreases-Node::new_chunks : goal.decreases-Node::new_chunks
-decreases-Node::new_chunks l = l.self.now.height
+abbrev pub decreases-OwnNode::new_chunks : goal.decreases-OwnNode::new_chunks
+decreases-OwnNode::new_chunks l = l.self.now.height
 
 abbrev pub decreases-counting::new_of_kids : goal.decreases-counting::new_of_kids
 decreases-counting::new_of_kids l = kids_height l.kids.now + 1

@@ -13,7 +13,7 @@ use Rattle.map_nodes.specs.Inside.Freezing.{IsFrozen, AreFrozen, child_places, k
 use Rattle.map_nodes.specs.Nodes.{body_pieces, body_height, child_height, child_fresh, kids_fresh, kids_height, IsNode}
 use Rattle.map_chunks.specs.Shown.{Seen, shown}
 use Rattle.map_nodes.specs.declared.nodes.Body.TheVariants.{Leaf, Inner}
-use Rattle.map_nodes.specs.declared.nodes.Child.{Child}
+use Rattle.map_nodes.specs.declared.nodes.OwnChild.{OwnChild}
 use Rattle.map_chunks.proofs.JoinLemmas.{some_is}
 use Rattle.map_chunks.proofs.OpenLemmas.{shows_by}
 use Rattle.map_nodes.proofs.NodeLemmas.{shown-rows, shown-kids}
@@ -31,8 +31,8 @@ use Rattle.map_nodes.proofs.NamedLemmas.{drafted-named}
 use Rattle.map_nodes.proofs.nodes.+freezing.Goals as goal
 use Rattle.map_chunks.proofs.ListLemmas.{length-paired}
 
-pub Node::freeze-returns-in-Leaf-clause-spelled : goal.Node::freeze-returns-in-Leaf-clause-spelled
-Node::freeze-returns-in-Leaf-clause-spelled t c contents rows l h =
+pub OwnNode::freeze-returns-in-Leaf-clause-spelled : goal.OwnNode::freeze-returns-in-Leaf-clause-spelled
+OwnNode::freeze-returns-in-Leaf-clause-spelled t c contents rows l h =
     let p = with_nodes contents c.args.draft.now.nodes in
     let depth = c.self.inside.depth in
     let texts = c.self.inside.keys.texts in
@@ -48,8 +48,8 @@ Node::freeze-returns-in-Leaf-clause-spelled t c contents rows l h =
     (omega (arith, ap length leaf, length-paired texts c.in-Leaf.values.items inv.1.1, inv.0.0))
     (sym (ap (λ (s : Seen). s.depth) c.self.view_is) ∙ inv.1.0) (leaf ∙ same))
 
-pub Node::freeze-freeze_kids-requires : goal.Node::freeze-freeze_kids-requires
-Node::freeze-freeze_kids-requires t c =
+pub OwnNode::freeze-freeze_kids-requires : goal.OwnNode::freeze-freeze_kids-requires
+OwnNode::freeze-freeze_kids-requires t c =
     let high : body_height (Inner c.in-Inner.kids)
     ≡ c.args.self.height = ap body_height (sym c.in-Inner.is) ∙ ap (λ (s : Seen). s.height) c.self.view_is in
     let depth = c.self.inside.depth in
@@ -64,8 +64,8 @@ Node::freeze-freeze_kids-requires t c =
           (AreBelow (c.args.draft.now.first + length c.args.draft.now.nodes)) places c.requires.below,
     )
 
-pub Node::freeze-push-requires-in-Inner : goal.Node::freeze-push-requires-in-Inner
-Node::freeze-push-requires-in-Inner t c =
+pub OwnNode::freeze-push-requires-in-Inner : goal.OwnNode::freeze-push-requires-in-Inner
+OwnNode::freeze-push-requires-in-Inner t c =
     let depth = c.self.inside.depth in
     let texts = c.self.inside.keys.texts in
     let kids = c.in-Inner.kids.items in
@@ -81,16 +81,16 @@ Node::freeze-push-requires-in-Inner t c =
           c.in_ok-children-in-Inner.ensures.below;
     }
 
-pub Node::freeze-new-inner-requires-clause-children : goal.Node::freeze-new-inner-requires-clause-children
-Node::freeze-new-inner-requires-clause-children t c =
+pub OwnNode::freeze-new-inner-requires-clause-children : goal.OwnNode::freeze-new-inner-requires-clause-children
+OwnNode::freeze-new-inner-requires-clause-children t c =
     let depth = c.self.inside.depth in
     let texts = c.self.inside.keys.texts in
     let inv : IsNode depth texts (Inner c.in-Inner.kids) = subst (IsNode depth texts) c.in-Inner.is c.self.invariant in
     frozen-length _ _ _ c.in-Inner.kids.items c.in_ok-children-in-Inner.children.items
     c.in_ok-children-in-Inner.ensures.frozen ∙ inv.1.2 ∙ ap length (sym c.in_ok-keys.ensures)
 
-pub Node::freeze-returns-in-Inner-clause-spelled : goal.Node::freeze-returns-in-Inner-clause-spelled
-Node::freeze-returns-in-Inner-clause-spelled t c contents rows l h =
+pub OwnNode::freeze-returns-in-Inner-clause-spelled : goal.OwnNode::freeze-returns-in-Inner-clause-spelled
+OwnNode::freeze-returns-in-Inner-clause-spelled t c contents rows l h =
     let p = with_nodes contents c.args.draft.now.nodes in
     let depth = c.self.inside.depth in
     let texts = c.self.inside.keys.texts in
@@ -117,7 +117,7 @@ Node::freeze-returns-in-Inner-clause-spelled t c contents rows l h =
 
 pub freezing::freeze_kid-returns-in-Own-clause-frozen : goal.freezing::freeze_kid-returns-in-Own-clause-frozen
 freezing::freeze_kid-returns-in-Own-clause-frozen t c =
-    subst (λ (k : Child). IfOk c.freeze.result
+    subst (λ (k : OwnChild). IfOk c.freeze.result
     (IsFrozen c.args.draft.now.first c.args.draft.now.nodes c.freeze.new.draft.nodes k)) (sym c.in-Own.is)
     (own_frozen c.freeze.result c.args.draft.now.first c.args.draft.now.nodes c.freeze.new.draft.nodes c.in-Own.node
     (subst (λ (s : Seen). (contents : Contents) (rows : Rows) → length contents ≡ c.args.draft.now.first
@@ -201,16 +201,16 @@ freezing::freeze_kids-loop-kid-preserved t c =
           c.in_ok-at.ensures.name));
     }
 
-pub Node::freeze-returns-in-Leaf-clause-wide : goal.Node::freeze-returns-in-Leaf-clause-wide
-Node::freeze-returns-in-Leaf-clause-wide t c contents l h =
+pub OwnNode::freeze-returns-in-Leaf-clause-wide : goal.OwnNode::freeze-returns-in-Leaf-clause-wide
+OwnNode::freeze-returns-in-Leaf-clause-wide t c contents l h =
     let x = node.Chunk (chunked.Leaf c.new-leaf.result) in
     if_ok c.push.result c.push.ensures.stamp c.push.ensures.ok (λ at k o.
     wide_node (with_nodes contents c.push.new.self.nodes) (stamp_of at) (content_of x)
     (pushed_at contents c.args.draft.now.first c.args.draft.now.nodes c.push.new.self.nodes x at l
     (ap (λ d. d.nodes) o) k.0) refl)
 
-pub Node::freeze-returns-in-Inner-clause-wide : goal.Node::freeze-returns-in-Inner-clause-wide
-Node::freeze-returns-in-Inner-clause-wide t c contents l h =
+pub OwnNode::freeze-returns-in-Inner-clause-wide : goal.OwnNode::freeze-returns-in-Inner-clause-wide
+OwnNode::freeze-returns-in-Inner-clause-wide t c contents l h =
     let depth = c.self.inside.depth in
     let texts = c.self.inside.keys.texts in
     let kids = c.in-Inner.kids.items in
@@ -230,8 +230,8 @@ Node::freeze-returns-in-Inner-clause-wide t c contents l h =
     (k.0 ∙ ap (λ n. n + length c.freeze_kids.new.draft.nodes) c.freeze_kids.ensures.first))
     (wide_inner c.new-inner.result more))
 
-pub Node::freeze-returns-in-Leaf-clause-named : goal.Node::freeze-returns-in-Leaf-clause-named
-Node::freeze-returns-in-Leaf-clause-named t c =
+pub OwnNode::freeze-returns-in-Leaf-clause-named : goal.OwnNode::freeze-returns-in-Leaf-clause-named
+OwnNode::freeze-returns-in-Leaf-clause-named t c =
     let old = c.args.draft.now.nodes in
     on_ok c.push.result c.push.ensures.ok (λ o.
     adds-one c.args.draft.now.first (places_of c.args.self.pieces) old old c.push.new.self.nodes
@@ -239,12 +239,12 @@ Node::freeze-returns-in-Leaf-clause-named t c =
     (adds-none c.args.draft.now.first (places_of c.args.self.pieces) old)
     (λ at h. absurd (no_element at h)) (ap (λ d. d.nodes) o))
 
-pub Node::freeze-returns-in-Leaf-clause-drafted : goal.Node::freeze-returns-in-Leaf-clause-drafted
-Node::freeze-returns-in-Leaf-clause-drafted t c = if_ok c.push.result c.push.ensures.stamp c.push.ensures.ok
+pub OwnNode::freeze-returns-in-Leaf-clause-drafted : goal.OwnNode::freeze-returns-in-Leaf-clause-drafted
+OwnNode::freeze-returns-in-Leaf-clause-drafted t c = if_ok c.push.result c.push.ensures.stamp c.push.ensures.ok
     (λ at k o. (omega (arith, k.0), k.1))
 
-pub Node::freeze-returns-in-Inner-clause-named : goal.Node::freeze-returns-in-Inner-clause-named
-Node::freeze-returns-in-Inner-clause-named t c =
+pub OwnNode::freeze-returns-in-Inner-clause-named : goal.OwnNode::freeze-returns-in-Inner-clause-named
+OwnNode::freeze-returns-in-Inner-clause-named t c =
     let first = c.args.draft.now.first in
     let old = c.args.draft.now.nodes in
     let mid = c.freeze_kids.new.draft.nodes in
@@ -267,8 +267,8 @@ Node::freeze-returns-in-Inner-clause-named t c =
     (inner-named first (kids_places kids) texts ats c.new-inner.result long inner
     c.in_ok-children-in-Inner.ensures.names) (ap (λ d. d.nodes) o)))
 
-pub Node::freeze-returns-in-Inner-clause-drafted : goal.Node::freeze-returns-in-Inner-clause-drafted
-Node::freeze-returns-in-Inner-clause-drafted t c =
+pub OwnNode::freeze-returns-in-Inner-clause-drafted : goal.OwnNode::freeze-returns-in-Inner-clause-drafted
+OwnNode::freeze-returns-in-Inner-clause-drafted t c =
     if_ok c.push-in-Inner.result c.push-in-Inner.ensures.stamp c.push-in-Inner.ensures.ok
     (λ at k o. (omega (arith, k.0, c.freeze_kids.ensures.first), k.1))
 
@@ -278,11 +278,11 @@ freezing::freeze_kid-returns-in-Placed-clause-named t c = adds-none c.args.draft
 
 pub freezing::freeze_kid-returns-in-Placed-clause-name : goal.freezing::freeze_kid-returns-in-Placed-clause-name
 freezing::freeze_kid-returns-in-Placed-clause-name t c = inl
-    (subst (λ (k : Child). Contains (child_places k) c.in-Placed.at) (sym c.in-Placed.is) (one_here c.in-Placed.at))
+    (subst (λ (k : OwnChild). Contains (child_places k) c.in-Placed.at) (sym c.in-Placed.is) (one_here c.in-Placed.at))
 
 pub freezing::freeze_kid-returns-in-Own-clause-named : goal.freezing::freeze_kid-returns-in-Own-clause-named
 freezing::freeze_kid-returns-in-Own-clause-named t c =
-    subst (λ (k : Child). OnOk c.freeze.result
+    subst (λ (k : OwnChild). OnOk c.freeze.result
     (AddsNamed c.args.draft.now.first (child_places k) c.args.draft.now.nodes c.freeze.new.draft.nodes))
     (sym c.in-Own.is)
     (subst (λ (s : Seen). OnOk c.freeze.result
@@ -293,17 +293,17 @@ pub freezing::freeze_kid-returns-in-Own-clause-name : goal.freezing::freeze_kid-
 freezing::freeze_kid-returns-in-Own-clause-name t c = drafted-named c.args.draft.now.first
     (child_places c.args.kid) c.freeze.result c.freeze.ensures.drafted
 
-pub Node::freeze-returns-in-Leaf-clause-below : goal.Node::freeze-returns-in-Leaf-clause-below
-Node::freeze-returns-in-Leaf-clause-below t c =
+pub OwnNode::freeze-returns-in-Leaf-clause-below : goal.OwnNode::freeze-returns-in-Leaf-clause-below
+OwnNode::freeze-returns-in-Leaf-clause-below t c =
     if_ok c.push.result c.push.ensures.stamp c.push.ensures.ok
     (λ at k o. pushed-below c.args.draft.now c.push.new.self (node.Chunk (chunked.Leaf c.new-leaf.result)) at o k.0)
 
-pub Node::freeze-returns-in-Inner-clause-below : goal.Node::freeze-returns-in-Inner-clause-below
-Node::freeze-returns-in-Inner-clause-below t c =
+pub OwnNode::freeze-returns-in-Inner-clause-below : goal.OwnNode::freeze-returns-in-Inner-clause-below
+OwnNode::freeze-returns-in-Inner-clause-below t c =
     if_ok c.push-in-Inner.result c.push-in-Inner.ensures.stamp c.push-in-Inner.ensures.ok
     (λ at k o. pushed-below c.freeze_kids.new.draft c.push-in-Inner.new.self
     (node.Chunk (chunked.Inner c.new-inner.result)) at o k.0)
 
 pub freezing::freeze_kid-returns-in-Placed-clause-below : goal.freezing::freeze_kid-returns-in-Placed-clause-below
 freezing::freeze_kid-returns-in-Placed-clause-below t c = c.requires.below c.in-Placed.at
-    (subst (λ (k : Child). Contains (child_places k) c.in-Placed.at) (sym c.in-Placed.is) (one_here c.in-Placed.at))
+    (subst (λ (k : OwnChild). Contains (child_places k) c.in-Placed.at) (sym c.in-Placed.is) (one_here c.in-Placed.at))

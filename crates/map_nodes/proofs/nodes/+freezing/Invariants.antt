@@ -7,8 +7,8 @@ use Rattle.map_chunks.specs.Places.{AreNamed, AddsNamed}
 use Rattle.map_nodes.specs.Nodes.{kids_fresh, child_height, kids_height}
 use Rattle.map_nodes.proofs.nodes.+freezing.Given as goal
 
-abbrev pub decreases-Node::freeze : goal.decreases-Node::freeze
-decreases-Node::freeze l = l.self.height
+abbrev pub decreases-OwnNode::freeze : goal.decreases-OwnNode::freeze
+decreases-OwnNode::freeze l = l.self.height
 
 abbrev pub decreases-freezing::freeze_kids : goal.decreases-freezing::freeze_kids
 decreases-freezing::freeze_kids l = kids_height l.kids.items + 1

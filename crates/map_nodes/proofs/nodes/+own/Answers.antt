@@ -113,8 +113,8 @@ scanning::scan_kids-returns-clause-rows g t c =
     (omega (arith, c.place_of-place.ensures.0)) c.loop-place.invariant.rows
     ∙ ap (λ w. with_scanned c.args.scan.now c.args.out.now.items (rows_or w)) (sym n.is)
 
-pub Node::scan-returns-in-Leaf-clause-rows : goal.Node::scan-returns-in-Leaf-clause-rows
-Node::scan-returns-in-Leaf-clause-rows g t c =
+pub OwnNode::scan-returns-in-Leaf-clause-rows : goal.OwnNode::scan-returns-in-Leaf-clause-rows
+OwnNode::scan-returns-in-Leaf-clause-rows g t c =
     let p = g.C.Chunks.contents c.args.chunks.now in
     let pieces = ap (body_pieces c.self.inside.depth c.self.inside.keys.texts) (sym c.in-Leaf.is) ∙ ap
     (λ (s : Seen). s.pieces) c.self.view_is in
@@ -125,8 +125,8 @@ Node::scan-returns-in-Leaf-clause-rows g t c =
     ∙ ap (λ w. with_scanned c.args.scan.now c.args.out.now.items (rows_or w))
     (sym (ap (shown p) (sym pieces) ∙ shown-rows p (paired c.self.inside.keys.texts c.in-Leaf.values.items)))
 
-pub Node::scan-scan_kids-requires : goal.Node::scan-scan_kids-requires
-Node::scan-scan_kids-requires g t c κs ws =
+pub OwnNode::scan-scan_kids-requires : goal.OwnNode::scan-scan_kids-requires
+OwnNode::scan-scan_kids-requires g t c κs ws =
     let p = g.C.Chunks.contents c.args.chunks.now in
     let r = c.requires.1.1.1.1.1 in
     let n = known (shown p c.args.self.now.pieces) r.0 in
@@ -170,8 +170,8 @@ Node::scan-scan_kids-requires g t c κs ws =
       ),
     )
 
-pub Node::scan-returns-in-Inner-clause-rows : goal.Node::scan-returns-in-Inner-clause-rows
-Node::scan-returns-in-Inner-clause-rows g t c =
+pub OwnNode::scan-returns-in-Inner-clause-rows : goal.OwnNode::scan-returns-in-Inner-clause-rows
+OwnNode::scan-returns-in-Inner-clause-rows g t c =
     let p = g.C.Chunks.contents c.args.chunks.now in
     let r = c.requires.1.1.1.1.1 in
     let n = known (shown p c.args.self.now.pieces) r.0 in

@@ -7,8 +7,8 @@ use Rattle.map_chunks.proofs.ScanLemmas.{first_rows}
 use Rattle.map_nodes.proofs.ScanLemmas.{shown_kid}
 use Rattle.map_nodes.proofs.nodes.+own.Given as goal
 
-abbrev pub decreases-Node::scan : goal.decreases-Node::scan
-decreases-Node::scan g l = l.self.now.height
+abbrev pub decreases-OwnNode::scan : goal.decreases-OwnNode::scan
+decreases-OwnNode::scan g l = l.self.now.height
 
 abbrev pub decreases-scanning::scan_kids : goal.decreases-scanning::scan_kids
 decreases-scanning::scan_kids g l = kids_height l.kids.now + 1

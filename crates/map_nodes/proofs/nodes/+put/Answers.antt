@@ -20,9 +20,9 @@ use Rattle.map_chunks.specs.Search.{IsPlace}
 use Rattle.map_chunks.specs.Shown.{Seen, shown, rows_or, IsTree}
 use Rattle.map_nodes.specs.declared.nodes.Body.{Body}
 use Rattle.map_nodes.specs.declared.nodes.Body.TheVariants.{Inner}
-use Rattle.map_nodes.specs.declared.nodes.Child.{Child}
+use Rattle.map_nodes.specs.declared.nodes.OwnChild.{OwnChild}
 use Rattle.map_nodes.specs.declared.nodes.putting.Half.{Half}
-use Rattle.map_nodes.specs.declared.nodes.Child.TheVariants.{Placed, Own}
+use Rattle.map_nodes.specs.declared.nodes.OwnChild.TheVariants.{Placed, Own}
 use Rattle.map_chunks.proofs.AnswerLemmas.{if_ok_so, on_err, on_ok}
 use Rattle.map_nodes.proofs.CountLemmas.{fresh-set, leaf_counts, inner_counts}
 use Rattle.map_nodes.proofs.ChangeLemmas.{shown-kept}
@@ -40,7 +40,7 @@ use Rattle.map_nodes.proofs.nodes.+put.Goals as goal
 pub putting::paths::put_inner-put_child-requires : goal.putting::paths::put_inner-put_child-requires
 putting::paths::put_inner-put_child-requires g t c κs within =
     let p = g.C.Chunks.contents c.args.chunks.now in
-    let at : Child = Placed (record { bits = 0 }) in
+    let at : OwnChild = Placed (record { bits = 0 }) in
     let i = c.place_of-place.result in
     let x = node_at p c.args.depth c.args.keys.now.texts (Inner c.args.kids.now) c.args.kids.now
     (body_pieces c.args.depth c.args.keys.now.texts (Inner c.args.kids.now)) c.as_slice.result.now
@@ -79,7 +79,7 @@ putting::paths::put_inner-put_child-requires g t c κs within =
 pub putting::paths::put_inner-finish-requires-clause-pairs : goal.putting::paths::put_inner-finish-requires-clause-pairs
 putting::paths::put_inner-finish-requires-clause-pairs g t c =
     let p = g.C.Chunks.contents c.args.chunks.now in
-    let at : Child = Placed (record { bits = 0 }) in
+    let at : OwnChild = Placed (record { bits = 0 }) in
     let i = c.place_of-place.result in
     let x = node_at p c.args.depth c.args.keys.now.texts (Inner c.args.kids.now) c.args.kids.now
     (body_pieces c.args.depth c.args.keys.now.texts (Inner c.args.kids.now)) c.as_slice.result.now
@@ -108,7 +108,7 @@ pub putting::paths::put_inner-finish-requires-clause-keys_room :
     goal.putting::paths::put_inner-finish-requires-clause-keys_room
 putting::paths::put_inner-finish-requires-clause-keys_room g t c =
     let p = g.C.Chunks.contents c.args.chunks.now in
-    let at : Child = Placed (record { bits = 0 }) in
+    let at : OwnChild = Placed (record { bits = 0 }) in
     let i = c.place_of-place.result in
     let x = node_at p c.args.depth c.args.keys.now.texts (Inner c.args.kids.now) c.args.kids.now
     (body_pieces c.args.depth c.args.keys.now.texts (Inner c.args.kids.now)) c.as_slice.result.now
@@ -136,7 +136,7 @@ pub putting::paths::put_inner-finish-requires-clause-kids_room :
     goal.putting::paths::put_inner-finish-requires-clause-kids_room
 putting::paths::put_inner-finish-requires-clause-kids_room g t c =
     let p = g.C.Chunks.contents c.args.chunks.now in
-    let at : Child = Placed (record { bits = 0 }) in
+    let at : OwnChild = Placed (record { bits = 0 }) in
     let i = c.place_of-place.result in
     let x = node_at p c.args.depth c.args.keys.now.texts (Inner c.args.kids.now) c.args.kids.now
     (body_pieces c.args.depth c.args.keys.now.texts (Inner c.args.kids.now)) c.as_slice.result.now
@@ -171,7 +171,7 @@ putting::paths::put_inner-finish-requires-clause-kids_room g t c =
 pub putting::paths::put_inner-finish-requires-clause-half : goal.putting::paths::put_inner-finish-requires-clause-half
 putting::paths::put_inner-finish-requires-clause-half g t c =
     let p = g.C.Chunks.contents c.args.chunks.now in
-    let at : Child = Placed (record { bits = 0 }) in
+    let at : OwnChild = Placed (record { bits = 0 }) in
     let i = c.place_of-place.result in
     let x = node_at p c.args.depth c.args.keys.now.texts (Inner c.args.kids.now) c.args.kids.now
     (body_pieces c.args.depth c.args.keys.now.texts (Inner c.args.kids.now)) c.as_slice.result.now
@@ -199,7 +199,7 @@ pub putting::paths::put_inner-finish-requires-clause-firsts :
     goal.putting::paths::put_inner-finish-requires-clause-firsts
 putting::paths::put_inner-finish-requires-clause-firsts g t c =
     let p = g.C.Chunks.contents c.args.chunks.now in
-    let at : Child = Placed (record { bits = 0 }) in
+    let at : OwnChild = Placed (record { bits = 0 }) in
     let i = c.place_of-place.result in
     let x = node_at p c.args.depth c.args.keys.now.texts (Inner c.args.kids.now) c.args.kids.now
     (body_pieces c.args.depth c.args.keys.now.texts (Inner c.args.kids.now)) c.as_slice.result.now
@@ -228,7 +228,7 @@ putting::paths::put_inner-finish-requires-clause-firsts g t c =
 pub putting::paths::put_inner-finish-requires-clause-kids : goal.putting::paths::put_inner-finish-requires-clause-kids
 putting::paths::put_inner-finish-requires-clause-kids g t c =
     let p = g.C.Chunks.contents c.args.chunks.now in
-    let at : Child = Placed (record { bits = 0 }) in
+    let at : OwnChild = Placed (record { bits = 0 }) in
     let i = c.place_of-place.result in
     let x = node_at p c.args.depth c.args.keys.now.texts (Inner c.args.kids.now) c.args.kids.now
     (body_pieces c.args.depth c.args.keys.now.texts (Inner c.args.kids.now)) c.as_slice.result.now
@@ -256,7 +256,7 @@ putting::paths::put_inner-finish-requires-clause-kids g t c =
 pub putting::paths::put_inner-finish-requires-clause-order : goal.putting::paths::put_inner-finish-requires-clause-order
 putting::paths::put_inner-finish-requires-clause-order g t c =
     let p = g.C.Chunks.contents c.args.chunks.now in
-    let at : Child = Placed (record { bits = 0 }) in
+    let at : OwnChild = Placed (record { bits = 0 }) in
     let i = c.place_of-place.result in
     let x = node_at p c.args.depth c.args.keys.now.texts (Inner c.args.kids.now) c.args.kids.now
     (body_pieces c.args.depth c.args.keys.now.texts (Inner c.args.kids.now)) c.as_slice.result.now
@@ -284,7 +284,7 @@ putting::paths::put_inner-finish-requires-clause-order g t c =
 pub putting::paths::put_inner-returns-clause-done : goal.putting::paths::put_inner-returns-clause-done
 putting::paths::put_inner-returns-clause-done g t c =
     let p = g.C.Chunks.contents c.args.chunks.now in
-    let at : Child = Placed (record { bits = 0 }) in
+    let at : OwnChild = Placed (record { bits = 0 }) in
     let i = c.place_of-place.result in
     let x = node_at p c.args.depth c.args.keys.now.texts (Inner c.args.kids.now) c.args.kids.now
     (body_pieces c.args.depth c.args.keys.now.texts (Inner c.args.kids.now)) c.as_slice.result.now
@@ -508,8 +508,8 @@ putting::paths::put_child-returns-in-Own-clause-err g t c =
     (λ e. written_back c.args.kids.now.items c.args.place c.index_mut.result.now c.in-Own.node c.put_below.new.self
     c.index_mut.ensures.value c.in-Own.is (e ∙ c.deref_mut.ensures.value))
 
-pub Node::put_below-put_ready-requires : goal.Node::put_below-put_ready-requires
-Node::put_below-put_ready-requires g t c κs within =
+pub OwnNode::put_below-put_ready-requires : goal.OwnNode::put_below-put_ready-requires
+OwnNode::put_below-put_ready-requires g t c κs within =
     let p = g.C.Chunks.contents c.args.chunks.now in
     let q = g.C.Chunks.contents c.put.new.chunks in
     let n = known (shown p c.args.self.now.pieces) c.requires.tree in
@@ -559,7 +559,7 @@ putting::paths::put_inner-returns-clause-whole g t c m =
 pub putting::paths::put_inner-returns-clause-places : goal.putting::paths::put_inner-returns-clause-places
 putting::paths::put_inner-returns-clause-places g t c =
     let p = g.C.Chunks.contents c.args.chunks.now in
-    let at : Child = Placed (record { bits = 0 }) in
+    let at : OwnChild = Placed (record { bits = 0 }) in
     let i = c.place_of-place.result in
     let x = node_at p c.args.depth c.args.keys.now.texts (Inner c.args.kids.now) c.args.kids.now
     (body_pieces c.args.depth c.args.keys.now.texts (Inner c.args.kids.now)) c.as_slice.result.now
@@ -599,7 +599,7 @@ putting::paths::put_child-returns-in-Own-clause-places g t c =
     let n : Kid = with_value c.in-Own.node c.put_below.new.self in
     if_ok_so c.put_below.result c.put_below.ensures.places
     (λ put kept. kept-kid at_q kids c.args.place child n (half_pieces put.1) c.requires.within c.index_mut.ensures.value
-    (subst (λ (x : Child). AreKept at_q (child_places x) (places_of (c.put_below.new.self.pieces ++ half_pieces put.1)))
+    (subst (λ (x : OwnChild). AreKept at_q (child_places x) (places_of (c.put_below.new.self.pieces ++ half_pieces put.1)))
     (sym c.in-Own.is)
     (subst (λ (s : Seen). AreKept at_q (places_of s.pieces)
     (places_of (c.put_below.new.self.pieces ++ half_pieces put.1))) c.deref_mut.ensures.value kept)))
@@ -631,13 +631,13 @@ putting::paths::put_inner-returns-clause-node g t c = let s = c.finish.ensures.s
 
 -- a chunk's own, by its body
 
-pub Node::put-returns-in-Leaf-clause-filled : goal.Node::put-returns-in-Leaf-clause-filled
-Node::put-returns-in-Leaf-clause-filled g t c =
+pub OwnNode::put-returns-in-Leaf-clause-filled : goal.OwnNode::put-returns-in-Leaf-clause-filled
+OwnNode::put-returns-in-Leaf-clause-filled g t c =
     on_ok c.put_leaf.result c.put_leaf.ensures.leaf
     (λ leaf. filled_pairs c.put_leaf.new.keys.texts c.put_leaf.new.values.items leaf.1 leaf.2)
 
-pub Node::put-returns-in-Leaf-clause-done : goal.Node::put-returns-in-Leaf-clause-done
-Node::put-returns-in-Leaf-clause-done g t c =
+pub OwnNode::put-returns-in-Leaf-clause-done : goal.OwnNode::put-returns-in-Leaf-clause-done
+OwnNode::put-returns-in-Leaf-clause-done g t c =
     let p = g.C.Chunks.contents c.args.chunks.now in
     if_ok_so c.put_leaf.result c.put_leaf.ensures.rows (λ half rows. ap (shown p) rows
     ∙ shown-rows p (finite.put (slice_cmp nat_cmp) c.args.key.now c.args.value.now
@@ -646,15 +646,15 @@ Node::put-returns-in-Leaf-clause-done g t c =
     (sym (leaf_rows p c.self.inside.depth c.self.inside.keys.texts c.self.inside.body c.in-Leaf.values
     c.args.self.now.pieces (ap (λ (s : Seen). s.pieces) c.self.view_is) c.in-Leaf.is)))
 
-pub Node::put-returns-in-Leaf-clause-half : goal.Node::put-returns-in-Leaf-clause-half
-Node::put-returns-in-Leaf-clause-half g t c =
+pub OwnNode::put-returns-in-Leaf-clause-half : goal.OwnNode::put-returns-in-Leaf-clause-half
+OwnNode::put-returns-in-Leaf-clause-half g t c =
     let n = leaf_counts c.self.inside.depth c.self.inside.keys.texts c.self.inside.body c.in-Leaf.values c.in-Leaf.is
     c.self.invariant in
     subst (λ d. IfOk c.put_leaf.result (IsHalf c.args.copies d))
     (sym n.0 ∙ ap (λ (s : Seen). s.depth) c.self.view_is) c.put_leaf.ensures.half
 
-pub Node::put-returns-in-Leaf-clause-fresh : goal.Node::put-returns-in-Leaf-clause-fresh
-Node::put-returns-in-Leaf-clause-fresh g t c =
+pub OwnNode::put-returns-in-Leaf-clause-fresh : goal.OwnNode::put-returns-in-Leaf-clause-fresh
+OwnNode::put-returns-in-Leaf-clause-fresh g t c =
     let n = leaf_counts c.self.inside.depth c.self.inside.keys.texts c.self.inside.body c.in-Leaf.values c.in-Leaf.is
     c.self.invariant in
     if_ok_so c.put_leaf.result c.put_leaf.ensures.fresh
@@ -667,13 +667,13 @@ Node::put-returns-in-Leaf-clause-fresh g t c =
       ap (λ (s : Seen). s.fresh) c.self.view_is,
     ))
 
-pub Node::put-returns-in-Leaf-clause-entries : goal.Node::put-returns-in-Leaf-clause-entries
-Node::put-returns-in-Leaf-clause-entries g t c =
+pub OwnNode::put-returns-in-Leaf-clause-entries : goal.OwnNode::put-returns-in-Leaf-clause-entries
+OwnNode::put-returns-in-Leaf-clause-entries g t c =
     subst (λ n. IfOk c.put_leaf.result (HasKept n (length c.put_leaf.new.keys.texts)))
     (ap (λ (s : Seen). s.entries) c.self.view_is) c.put_leaf.ensures.entries
 
-pub Node::put-returns-in-Leaf-clause-places : goal.Node::put-returns-in-Leaf-clause-places
-Node::put-returns-in-Leaf-clause-places g t c =
+pub OwnNode::put-returns-in-Leaf-clause-places : goal.OwnNode::put-returns-in-Leaf-clause-places
+OwnNode::put-returns-in-Leaf-clause-places g t c =
     let at_p = g.C.Chunks.places c.args.chunks.now in
     let old = places_of c.args.self.now.pieces in
     let rows = finite.put (slice_cmp nat_cmp) c.args.key.now c.args.value.now
@@ -682,12 +682,12 @@ Node::put-returns-in-Leaf-clause-places g t c =
     (λ half is. subst (λ ps. AreKept at_p old (places_of ps)) (sym is)
     (subst (AreKept at_p old) (sym (places-rows rows)) (kept-none at_p old)))
 
-pub Node::put-returns-in-Leaf-clause-unput : goal.Node::put-returns-in-Leaf-clause-unput
-Node::put-returns-in-Leaf-clause-unput g t c = unput_anyhow g.C.Chunks.stops c.args.may_split c.put_leaf.result
+pub OwnNode::put-returns-in-Leaf-clause-unput : goal.OwnNode::put-returns-in-Leaf-clause-unput
+OwnNode::put-returns-in-Leaf-clause-unput g t c = unput_anyhow g.C.Chunks.stops c.args.may_split c.put_leaf.result
     c.put_leaf.ensures.unput
 
-pub Node::put-put_inner-requires : goal.Node::put-put_inner-requires
-Node::put-put_inner-requires g t c κs within =
+pub OwnNode::put-put_inner-requires : goal.OwnNode::put-put_inner-requires
+OwnNode::put-put_inner-requires g t c κs within =
     let p = g.C.Chunks.contents c.args.chunks.now in
     let inner : IsNode c.self.inside.depth c.self.inside.keys.texts (Inner c.in-Inner.kids) = subst
     (IsNode c.self.inside.depth c.self.inside.keys.texts) c.in-Inner.is c.self.invariant in
@@ -714,8 +714,8 @@ Node::put-put_inner-requires g t c κs within =
       ),
     )
 
-pub Node::put-returns-in-Inner-clause-done : goal.Node::put-returns-in-Inner-clause-done
-Node::put-returns-in-Inner-clause-done g t c =
+pub OwnNode::put-returns-in-Inner-clause-done : goal.OwnNode::put-returns-in-Inner-clause-done
+OwnNode::put-returns-in-Inner-clause-done g t c =
     let p = g.C.Chunks.contents c.args.chunks.now in
     let view = ap (body_pieces c.self.inside.depth c.self.inside.keys.texts) (sym c.in-Inner.is) ∙ ap
     (λ (s : Seen). s.pieces) c.self.view_is in
@@ -723,12 +723,12 @@ Node::put-returns-in-Inner-clause-done g t c =
     (λ half done. done ∙ ap (λ ps. Some (finite.put (slice_cmp nat_cmp) c.args.key.now c.args.value.now
     (rows_or (shown p ps)))) view)
 
-pub Node::put-returns-in-Inner-clause-half : goal.Node::put-returns-in-Inner-clause-half
-Node::put-returns-in-Inner-clause-half g t c = subst (λ d. IfOk c.put_inner.result (IsHalf c.args.copies d))
+pub OwnNode::put-returns-in-Inner-clause-half : goal.OwnNode::put-returns-in-Inner-clause-half
+OwnNode::put-returns-in-Inner-clause-half g t c = subst (λ d. IfOk c.put_inner.result (IsHalf c.args.copies d))
     (ap (λ (s : Seen). s.depth) c.self.view_is) c.put_inner.ensures.half
 
-pub Node::put-returns-in-Inner-clause-places : goal.Node::put-returns-in-Inner-clause-places
-Node::put-returns-in-Inner-clause-places g t c =
+pub OwnNode::put-returns-in-Inner-clause-places : goal.OwnNode::put-returns-in-Inner-clause-places
+OwnNode::put-returns-in-Inner-clause-places g t c =
     let at_q = g.C.Chunks.places c.put_inner.new.chunks in
     let view = ap (body_pieces c.self.inside.depth c.self.inside.keys.texts) (sym c.in-Inner.is) ∙ ap
     (λ (s : Seen). s.pieces) c.self.view_is in
@@ -736,8 +736,8 @@ Node::put-returns-in-Inner-clause-places g t c =
     subst (λ ps. IfOk c.put_inner.result (λ half. AreKept at_q (places_of ps) (places_of (new ++ half_pieces half))))
     view c.put_inner.ensures.places
 
-pub Node::put-returns-in-Inner-clause-fresh : goal.Node::put-returns-in-Inner-clause-fresh
-Node::put-returns-in-Inner-clause-fresh g t c =
+pub OwnNode::put-returns-in-Inner-clause-fresh : goal.OwnNode::put-returns-in-Inner-clause-fresh
+OwnNode::put-returns-in-Inner-clause-fresh g t c =
     let n = inner_counts c.self.inside.depth c.self.inside.keys.texts c.self.inside.body c.in-Inner.kids c.in-Inner.is
     c.self.invariant in
     if_ok_so c.put_inner.result c.put_inner.ensures.fresh
@@ -749,13 +749,13 @@ Node::put-returns-in-Inner-clause-fresh g t c =
       ap (λ (s : Seen). s.fresh) c.self.view_is,
     ))
 
-pub Node::put-returns-in-Inner-clause-entries : goal.Node::put-returns-in-Inner-clause-entries
-Node::put-returns-in-Inner-clause-entries g t c =
+pub OwnNode::put-returns-in-Inner-clause-entries : goal.OwnNode::put-returns-in-Inner-clause-entries
+OwnNode::put-returns-in-Inner-clause-entries g t c =
     subst (λ n. IfOk c.put_inner.result (HasKept n (length c.put_inner.new.keys.texts)))
     (ap (λ (s : Seen). s.entries) c.self.view_is) c.put_inner.ensures.entries
 
-pub Node::put-returns-in-Inner-clause-err : goal.Node::put-returns-in-Inner-clause-err
-Node::put-returns-in-Inner-clause-err g t c =
+pub OwnNode::put-returns-in-Inner-clause-err : goal.OwnNode::put-returns-in-Inner-clause-err
+OwnNode::put-returns-in-Inner-clause-err g t c =
     let depth = c.self.inside.depth in
     let seen : Body → Seen = λ b. record {
       depth = depth;
@@ -768,8 +768,8 @@ Node::put-returns-in-Inner-clause-err g t c =
     (λ e. inner_same depth c.put_inner.new.keys.texts c.self.inside.keys.texts c.put_inner.new.kids.items
     c.in-Inner.kids.items e.0 e.1 ∙ ap seen (sym c.in-Inner.is) ∙ c.self.view_is)
 
-pub Node::put_below-returns-clause-done : goal.Node::put_below-returns-clause-done
-Node::put_below-returns-clause-done g t c =
+pub OwnNode::put_below-returns-clause-done : goal.OwnNode::put_below-returns-clause-done
+OwnNode::put_below-returns-clause-done g t c =
     let p = g.C.Chunks.contents c.args.chunks.now in
     let q = g.C.Chunks.contents c.put.new.chunks in
     let n = known (shown p c.args.self.now.pieces) c.requires.tree in
@@ -779,44 +779,44 @@ Node::put_below-returns-clause-done g t c =
     (λ r done. done ∙ ap (λ z. Some (finite.put (slice_cmp nat_cmp) c.args.key.now c.args.value.now (rows_or z)))
     (ap (λ (s : Seen). shown q s.pieces) e ∙ here ∙ sym n.is))
 
-pub Node::put_below-returns-clause-half : goal.Node::put_below-returns-clause-half
-Node::put_below-returns-clause-half g t c = subst
+pub OwnNode::put_below-returns-clause-half : goal.OwnNode::put_below-returns-clause-half
+OwnNode::put_below-returns-clause-half g t c = subst
     (λ (s : Seen). IfOk c.put_ready.result (λ r. IsHalf (c.args.copies + 1) s.depth r.1)) c.in-Err-Full.ensures.err
     c.put_ready.ensures.half
 
-pub Node::put_below-returns-clause-places : goal.Node::put_below-returns-clause-places
-Node::put_below-returns-clause-places g t c =
+pub OwnNode::put_below-returns-clause-places : goal.OwnNode::put_below-returns-clause-places
+OwnNode::put_below-returns-clause-places g t c =
     let at_q = g.C.Chunks.places c.put_ready.new.chunks in
     subst (λ (s : Seen). IfOk c.put_ready.result
     (λ r. AreKept at_q (places_of s.pieces) (places_of (c.put_ready.new.self.pieces ++ half_pieces r.1))))
     c.in-Err-Full.ensures.err c.put_ready.ensures.places
 
-pub Node::put_below-returns-clause-fresh : goal.Node::put_below-returns-clause-fresh
-Node::put_below-returns-clause-fresh g t c =
+pub OwnNode::put_below-returns-clause-fresh : goal.OwnNode::put_below-returns-clause-fresh
+OwnNode::put_below-returns-clause-fresh g t c =
     subst (λ (s : Seen). IfOk c.put_ready.result
     (λ r. c.put_ready.new.self.fresh + half_fresh r.1 < s.fresh + 2 * s.depth)) c.in-Err-Full.ensures.err
     c.put_ready.ensures.fresh
 
-pub Node::put_below-returns-clause-lowers : goal.Node::put_below-returns-clause-lowers
-Node::put_below-returns-clause-lowers g t c = if_ok_so c.put_ready.result c.put_ready.ensures.ready
+pub OwnNode::put_below-returns-clause-lowers : goal.OwnNode::put_below-returns-clause-lowers
+OwnNode::put_below-returns-clause-lowers g t c = if_ok_so c.put_ready.result c.put_ready.ensures.ready
     (λ r ready some. ready.0)
 
-pub Node::put_below-returns-clause-lower : goal.Node::put_below-returns-clause-lower
-Node::put_below-returns-clause-lower g t c =
+pub OwnNode::put_below-returns-clause-lower : goal.OwnNode::put_below-returns-clause-lower
+OwnNode::put_below-returns-clause-lower g t c =
     if_ok_so c.put_ready.result c.put_ready.ensures.lower
     (λ r is. subst (IsLower c.args.key.now (get_or c.args.keys.now.texts c.args.place []))
     (sym is) c.in_ok-lower.ensures.lower)
 
-pub Node::put_below-returns-clause-ready : goal.Node::put_below-returns-clause-ready
-Node::put_below-returns-clause-ready g t c =
+pub OwnNode::put_below-returns-clause-ready : goal.OwnNode::put_below-returns-clause-ready
+OwnNode::put_below-returns-clause-ready g t c =
     if_ok_so c.put_ready.result c.put_ready.ensures.ready
     (λ r ready some. subst (λ ks. IsReady c.args.copies ks c.put_ready.new.keys.room c.args.place c.args.key.now
     r.0.room) c.lower_key.ensures.texts ready)
 
-pub Node::put_below-returns-clause-err : goal.Node::put_below-returns-clause-err
-Node::put_below-returns-clause-err g t c = on_err c.put_ready.result c.put_ready.ensures.err
+pub OwnNode::put_below-returns-clause-err : goal.OwnNode::put_below-returns-clause-err
+OwnNode::put_below-returns-clause-err g t c = on_err c.put_ready.result c.put_ready.ensures.err
     (λ same. same ∙ c.in-Err-Full.ensures.err)
 
-pub Node::put_below-returns-clause-unput : goal.Node::put_below-returns-clause-unput
-Node::put_below-returns-clause-unput g t c = unput_split g.C.Chunks.stops c.args.may_split c.put_ready.result
+pub OwnNode::put_below-returns-clause-unput : goal.OwnNode::put_below-returns-clause-unput
+OwnNode::put_below-returns-clause-unput g t c = unput_split g.C.Chunks.stops c.args.may_split c.put_ready.result
     c.put_ready.ensures.unput

@@ -16,8 +16,8 @@ use Rattle.map_nodes.specs.Inside.Removing.{IsFate, HasOthers, CanRemove}
 use Rattle.map_chunks.specs.Search.{IsPlace}
 use Rattle.map_chunks.specs.Shown.{Seen, shown, rows_or, IsTree}
 use Rattle.map_nodes.specs.declared.nodes.Body.TheVariants.{Inner}
-use Rattle.map_nodes.specs.declared.nodes.Child.{Child}
-use Rattle.map_nodes.specs.declared.nodes.Child.TheVariants.{Placed, Own}
+use Rattle.map_nodes.specs.declared.nodes.OwnChild.{OwnChild}
+use Rattle.map_nodes.specs.declared.nodes.OwnChild.TheVariants.{Placed, Own}
 use Rattle.map_chunks.proofs.AnswerLemmas.{both_ok, on_err, on_ok}
 use Rattle.map_nodes.proofs.EndLemmas.{kids-removed}
 use Rattle.map_chunks.proofs.KeptLemmas.{all_on, kept-none, kept-same, kept-grown, kept-trans, kept-within}
@@ -33,8 +33,8 @@ use Rattle.map_nodes.proofs.ScanLemmas.{kid_shown-at}
 use Rattle.map_nodes.proofs.PlaceLemmas.{down_may, kid_all, kids_may, own_may, placed_may, new_may}
 use Rattle.map_nodes.proofs.nodes.+removing.Goals as goal
 
-pub Node::remove-returns-in-Leaf-clause-done : goal.Node::remove-returns-in-Leaf-clause-done
-Node::remove-returns-in-Leaf-clause-done g t c =
+pub OwnNode::remove-returns-in-Leaf-clause-done : goal.OwnNode::remove-returns-in-Leaf-clause-done
+OwnNode::remove-returns-in-Leaf-clause-done g t c =
     let p = g.C.Chunks.contents c.args.chunks.now in
     ap (λ w. shown p (row_pieces w)) c.in_ok-remove_row-in-Leaf.ensures.rows ∙ shown-rows p
     (without c.args.key.now (paired c.self.inside.keys.texts c.in-Leaf.values.items))
@@ -42,16 +42,16 @@ Node::remove-returns-in-Leaf-clause-done g t c =
     (sym (leaf_rows p c.self.inside.depth c.self.inside.keys.texts c.self.inside.body c.in-Leaf.values
     c.args.self.now.pieces (ap (λ (s : Seen). s.pieces) c.self.view_is) c.in-Leaf.is))
 
-pub Node::remove-fate_of-requires-clause-places : goal.Node::remove-fate_of-requires-clause-places
-Node::remove-fate_of-requires-clause-places g t c =
+pub OwnNode::remove-fate_of-requires-clause-places : goal.OwnNode::remove-fate_of-requires-clause-places
+OwnNode::remove-fate_of-requires-clause-places g t c =
     down_may (g.C.Chunks.places c.args.chunks.now) c.self.inside.depth c.self.inside.keys.texts c.self.inside.body
     c.in-Inner.kids c.args.self.now.pieces c.as_slice-texts.result.now
     c.place_of-place.result c.index.result.now
     (ap (λ (s : Seen). s.pieces) c.self.view_is) c.in-Inner.is c.self.invariant c.as_slice-texts.ensures
     c.place_of-place.ensures.0 c.index.ensures c.requires.1.1.1.1.0
 
-pub Node::remove-fate_of-requires-clause-tree : goal.Node::remove-fate_of-requires-clause-tree
-Node::remove-fate_of-requires-clause-tree g t c =
+pub OwnNode::remove-fate_of-requires-clause-tree : goal.OwnNode::remove-fate_of-requires-clause-tree
+OwnNode::remove-fate_of-requires-clause-tree g t c =
     let p = g.C.Chunks.contents c.args.chunks.now in
     let d = node_down p c.self.inside.depth c.self.inside.keys.texts c.self.inside.body c.in-Inner.kids
     c.args.self.now.pieces c.as_slice-texts.result.now c.args.key.now
@@ -60,8 +60,8 @@ Node::remove-fate_of-requires-clause-tree g t c =
     c.place_of-place.ensures c.index.ensures c.requires.1.1.1.1.1.0 in
     subst IsSome (sym (kid_shown-at p (c.self.inside.depth - 1) c.index.result.now d.way.here d.way.here_is)) refl
 
-pub Node::remove-remove_at-requires : goal.Node::remove-remove_at-requires
-Node::remove-remove_at-requires g t c κs within =
+pub OwnNode::remove-remove_at-requires : goal.OwnNode::remove-remove_at-requires
+OwnNode::remove-remove_at-requires g t c κs within =
     let p = g.C.Chunks.contents c.args.chunks.now in
     let q = g.C.Chunks.contents c.fate_of.new.chunks in
     let depth = c.self.inside.depth in
@@ -117,8 +117,8 @@ Node::remove-remove_at-requires g t c κs within =
       ),
     )
 
-pub Node::remove-returns-in-Inner-clause-done : goal.Node::remove-returns-in-Inner-clause-done
-Node::remove-returns-in-Inner-clause-done g t c =
+pub OwnNode::remove-returns-in-Inner-clause-done : goal.OwnNode::remove-returns-in-Inner-clause-done
+OwnNode::remove-returns-in-Inner-clause-done g t c =
     let p = g.C.Chunks.contents c.args.chunks.now in
     let q = g.C.Chunks.contents c.fate_of.new.chunks in
     let s = shown_later p q c.self.inside.depth c.self.inside.keys.texts c.self.inside.body c.in-Inner.kids
@@ -140,7 +140,7 @@ removing::paths::remove_at-returns-in-Leaves-clause-node g t c =
     let kids = c.args.kids.now in
     let key = c.args.key.now in
     let i = c.args.place in
-    let at : Child = Placed (record { bits = 0 }) in
+    let at : OwnChild = Placed (record { bits = 0 }) in
     let child = get_or kids.items i at in
     let pieces = body_pieces depth keys (Inner kids) in
     let x = node_at p depth keys (Inner kids) kids pieces keys key i at refl refl r.0 refl r.1.1.0 r.1.0 in
@@ -162,7 +162,7 @@ removing::paths::remove_at-returns-in-Leaves-clause-done g t c =
     let kids = c.args.kids.now in
     let key = c.args.key.now in
     let i = c.args.place in
-    let at : Child = Placed (record { bits = 0 }) in
+    let at : OwnChild = Placed (record { bits = 0 }) in
     let child = get_or kids.items i at in
     let pieces = body_pieces depth keys (Inner kids) in
     let x = node_at p depth keys (Inner kids) kids pieces keys key i at refl refl r.0 refl r.1.1.0 r.1.0 in
@@ -195,7 +195,7 @@ removing::paths::remove_at-remove_child-requires g t c κs within =
     let kids = c.args.kids.now in
     let key = c.args.key.now in
     let i = c.args.place in
-    let at : Child = Placed (record { bits = 0 }) in
+    let at : OwnChild = Placed (record { bits = 0 }) in
     let child = get_or kids.items i at in
     let pieces = body_pieces depth keys (Inner kids) in
     let x = node_at p depth keys (Inner kids) kids pieces keys key i at refl refl r.0 refl r.1.1.0 r.1.0 in
@@ -229,7 +229,7 @@ removing::paths::remove_at-returns-in-Stays-clause-node g t c =
     let kids = c.args.kids.now in
     let key = c.args.key.now in
     let i = c.args.place in
-    let at : Child = Placed (record { bits = 0 }) in
+    let at : OwnChild = Placed (record { bits = 0 }) in
     let child = get_or kids.items i at in
     let pieces = body_pieces depth keys (Inner kids) in
     let x = node_at p depth keys (Inner kids) kids pieces keys key i at refl refl r.0 refl r.1.1.0 r.1.0 in
@@ -251,7 +251,7 @@ removing::paths::remove_at-returns-in-Stays-clause-done g t c =
     let kids = c.args.kids.now in
     let key = c.args.key.now in
     let i = c.args.place in
-    let at : Child = Placed (record { bits = 0 }) in
+    let at : OwnChild = Placed (record { bits = 0 }) in
     let child = get_or kids.items i at in
     let pieces = body_pieces depth keys (Inner kids) in
     let x = node_at p depth keys (Inner kids) kids pieces keys key i at refl refl r.0 refl r.1.1.0 r.1.0 in
@@ -270,7 +270,7 @@ removing::paths::remove_at-returns-in-Stays-clause-few g t c =
     let keys = c.args.keys.now.texts in
     let kids = c.args.kids.now in
     let i = c.args.place in
-    let at : Child = Placed (record { bits = 0 }) in
+    let at : OwnChild = Placed (record { bits = 0 }) in
     let child = get_or kids.items i at in
     let x = node_at p c.args.depth keys (Inner kids) kids
     (body_pieces c.args.depth keys (Inner kids)) keys c.args.key.now i at refl refl r.0 refl r.1.1.0 r.1.0 in
@@ -427,7 +427,7 @@ removing::paths::remove_child-returns-in-Own-clause-places g t c =
     let n : Kid = with_value c.in-Own.node c.remove.new.self in
     on_ok c.remove.result c.remove.ensures.places
     (λ kept. kept-child at_q kids c.args.place child n c.requires.1.1.1.1.1.0 c.index_mut.ensures.value
-    (subst (λ (x : Child). AreKept at_q (child_places x) (places_of c.remove.new.self.pieces)) (sym c.in-Own.is)
+    (subst (λ (x : OwnChild). AreKept at_q (child_places x) (places_of c.remove.new.self.pieces)) (sym c.in-Own.is)
     (subst (λ (s : Seen). AreKept at_q (places_of s.pieces) (places_of c.remove.new.self.pieces))
     c.deref_mut.ensures.value kept)))
 
@@ -458,15 +458,15 @@ removing::paths::remove_at-returns-in-Leaves-clause-places g t c =
     (kept-within at_p (kids_places kids) (kids_places (remove kids c.args.place)) (kids_places kids)
     (kids-removed kids c.args.place) (kept-same at_p (kids_places kids)))
 
-pub Node::remove-returns-in-Leaf-clause-places : goal.Node::remove-returns-in-Leaf-clause-places
-Node::remove-returns-in-Leaf-clause-places g t c =
+pub OwnNode::remove-returns-in-Leaf-clause-places : goal.OwnNode::remove-returns-in-Leaf-clause-places
+OwnNode::remove-returns-in-Leaf-clause-places g t c =
     let at_p = g.C.Chunks.places c.args.chunks.now in
     let old = places_of c.args.self.now.pieces in
     subst (AreKept at_p old) (sym (places-rows (paired c.remove_row.new.keys.texts c.remove_row.new.values.items)))
     (kept-none at_p old)
 
-pub Node::remove-returns-in-Inner-clause-places : goal.Node::remove-returns-in-Inner-clause-places
-Node::remove-returns-in-Inner-clause-places g t c =
+pub OwnNode::remove-returns-in-Inner-clause-places : goal.OwnNode::remove-returns-in-Inner-clause-places
+OwnNode::remove-returns-in-Inner-clause-places g t c =
     let at_q = g.C.Chunks.places c.remove_at.new.chunks in
     let depth = c.self.inside.depth in
     let keys = c.self.inside.keys.texts in

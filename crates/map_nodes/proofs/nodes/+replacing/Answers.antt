@@ -14,8 +14,8 @@ use Rattle.map_nodes.specs.Inside.Nodes.{Kid, child_rows}
 use Rattle.map_nodes.specs.Inside.Replacing.{CanReplace}
 use Rattle.map_chunks.specs.Shown.{Seen, IsTree, rows_or, shown}
 use Rattle.map_nodes.specs.declared.nodes.Body.{Body}
-use Rattle.map_nodes.specs.declared.nodes.Child.{Child}
-use Rattle.map_nodes.specs.declared.nodes.Child.TheVariants.{Placed, Own}
+use Rattle.map_nodes.specs.declared.nodes.OwnChild.{OwnChild}
+use Rattle.map_nodes.specs.declared.nodes.OwnChild.TheVariants.{Placed, Own}
 use Rattle.map_chunks.proofs.AnswerLemmas.{both_ok, on_ok, on_err, either_way}
 use Rattle.map_nodes.proofs.CountLemmas.{leaf_counts, inner_counts}
 use Rattle.map_chunks.proofs.KeptLemmas.{kept-none, kept-grown, kept-trans, kept-from_none}
@@ -28,43 +28,43 @@ use Rattle.map_nodes.proofs.ReplaceLemmas.{leaf_replaced, leaf_has, can_replace,
 use Rattle.map_nodes.proofs.PlaceLemmas.{kid_all, kids_may, own_may, placed_may, new_may}
 use Rattle.map_nodes.proofs.nodes.+replacing.Goals as goal
 
-pub Node::replace-returns-in_default-clause-done : goal.Node::replace-returns-in_default-clause-done
-Node::replace-returns-in_default-clause-done g t c =
+pub OwnNode::replace-returns-in_default-clause-done : goal.OwnNode::replace-returns-in_default-clause-done
+OwnNode::replace-returns-in_default-clause-done g t c =
     absurd (leaf_has (g.C.Chunks.contents c.args.chunks.now) c.self.inside.depth c.self.inside.keys.texts
     c.self.inside.body c.in-Leaf.values c.args.self.now.pieces
     c.as_slice.result.now c.args.key.now c.in_default.field-0
     (ap (λ (s : Seen). s.pieces) c.self.view_is) c.in-Leaf.is c.self.invariant c.as_slice.ensures
     c.requires.1.1.1.1.1.1 c.in_default.ensures.absent)
 
-pub Node::replace-returns-in-Leaf-clause-done : goal.Node::replace-returns-in-Leaf-clause-done
-Node::replace-returns-in-Leaf-clause-done g t c =
+pub OwnNode::replace-returns-in-Leaf-clause-done : goal.OwnNode::replace-returns-in-Leaf-clause-done
+OwnNode::replace-returns-in-Leaf-clause-done g t c =
     leaf_replaced (g.C.Chunks.contents c.args.chunks.now) c.self.inside.depth c.self.inside.keys.texts
     c.self.inside.body c.in-Leaf.values c.args.self.now.pieces
     c.as_slice.result.now c.args.key.now c.args.value c.in-Ok.place
     (ap (λ (s : Seen). s.pieces) c.self.view_is) c.in-Leaf.is c.self.invariant c.as_slice.ensures
     c.in-Ok.ensures.found
 
-pub Node::replace-returns-in_default-clause-fresh : goal.Node::replace-returns-in_default-clause-fresh
-Node::replace-returns-in_default-clause-fresh g t c =
+pub OwnNode::replace-returns-in_default-clause-fresh : goal.OwnNode::replace-returns-in_default-clause-fresh
+OwnNode::replace-returns-in_default-clause-fresh g t c =
     let n = leaf_counts c.self.inside.depth c.self.inside.keys.texts c.self.inside.body c.in-Leaf.values c.in-Leaf.is
     c.self.invariant in
     omega (arith, n.0, n.1, ap (λ (s : Seen). s.depth) c.self.view_is, ap (λ (s : Seen). s.fresh) c.self.view_is)
 
-pub Node::replace-returns-in-Leaf-clause-fresh : goal.Node::replace-returns-in-Leaf-clause-fresh
-Node::replace-returns-in-Leaf-clause-fresh g t c =
+pub OwnNode::replace-returns-in-Leaf-clause-fresh : goal.OwnNode::replace-returns-in-Leaf-clause-fresh
+OwnNode::replace-returns-in-Leaf-clause-fresh g t c =
     let n = leaf_counts c.self.inside.depth c.self.inside.keys.texts c.self.inside.body c.in-Leaf.values c.in-Leaf.is
     c.self.invariant in
     omega (arith, n.0, n.1, ap (λ (s : Seen). s.depth) c.self.view_is, ap (λ (s : Seen). s.fresh) c.self.view_is)
 
-pub Node::replace-returns-in_default-clause-places : goal.Node::replace-returns-in_default-clause-places
-Node::replace-returns-in_default-clause-places g t c =
+pub OwnNode::replace-returns-in_default-clause-places : goal.OwnNode::replace-returns-in_default-clause-places
+OwnNode::replace-returns-in_default-clause-places g t c =
     let at_p = g.C.Chunks.places c.args.chunks.now in
     subst (AreKept at_p (places_of c.args.self.now.pieces))
     (sym (places-rows (paired c.self.inside.keys.texts c.in-Leaf.values.items)))
     (kept-none at_p (places_of c.args.self.now.pieces))
 
-pub Node::replace-returns-in-Leaf-clause-places : goal.Node::replace-returns-in-Leaf-clause-places
-Node::replace-returns-in-Leaf-clause-places g t c =
+pub OwnNode::replace-returns-in-Leaf-clause-places : goal.OwnNode::replace-returns-in-Leaf-clause-places
+OwnNode::replace-returns-in-Leaf-clause-places g t c =
     let at_p = g.C.Chunks.places c.args.chunks.now in
     subst (AreKept at_p (places_of c.args.self.now.pieces))
     (sym (places-rows (paired c.self.inside.keys.texts (set c.in-Leaf.values.items c.in-Ok.place c.args.value))))
@@ -137,19 +137,19 @@ replacing::replace_child-returns-in-Own-clause-places g t c =
     let n : Kid = with_value c.in-Own.node c.replace.new.self in
     on_ok c.replace.result c.replace.ensures.places
     (λ kept. kept-child at_q kids c.args.place child n c.requires.1.1.1.1.1.0 c.index_mut.ensures.value
-    (subst (λ (x : Child). AreKept at_q (child_places x) (places_of c.replace.new.self.pieces)) (sym c.in-Own.is)
+    (subst (λ (x : OwnChild). AreKept at_q (child_places x) (places_of c.replace.new.self.pieces)) (sym c.in-Own.is)
     (subst (λ (s : Seen). AreKept at_q (places_of s.pieces) (places_of c.replace.new.self.pieces))
     c.deref_mut.ensures.value kept)))
 
-pub Node::replace-replace_child-requires : goal.Node::replace-replace_child-requires
-Node::replace-replace_child-requires g t c κs within =
+pub OwnNode::replace-replace_child-requires : goal.OwnNode::replace-replace_child-requires
+OwnNode::replace-replace_child-requires g t c κs within =
     let p = g.C.Chunks.contents c.args.chunks.now in
     let depth = c.self.inside.depth in
     let keys = c.self.inside.keys.texts in
     let kids = c.in-Inner.kids in
     let pieces = c.args.self.now.pieces in
     let i = c.place_of-place.result in
-    let at : Child = Placed (record { bits = 0 }) in
+    let at : OwnChild = Placed (record { bits = 0 }) in
     let x = node_at p depth keys c.self.inside.body kids pieces c.as_slice-in-Inner.result.now c.args.key.now i at
     (ap (λ (s : Seen). s.pieces) c.self.view_is) c.in-Inner.is c.self.invariant
     c.as_slice-in-Inner.ensures c.place_of-place.ensures c.requires.1.1.1.1.1.0 in
@@ -172,15 +172,15 @@ Node::replace-replace_child-requires g t c κs within =
       ),
     )
 
-pub Node::replace-invariant_of-self-in-Inner : goal.Node::replace-invariant_of-self-in-Inner
-Node::replace-invariant_of-self-in-Inner g t c =
+pub OwnNode::replace-invariant_of-self-in-Inner : goal.OwnNode::replace-invariant_of-self-in-Inner
+OwnNode::replace-invariant_of-self-in-Inner g t c =
     let p = g.C.Chunks.contents c.args.chunks.now in
     let depth = c.self.inside.depth in
     let keys = c.self.inside.keys.texts in
     let kids = c.in-Inner.kids in
     let pieces = c.args.self.now.pieces in
     let i = c.place_of-place.result in
-    let at : Child = Placed (record { bits = 0 }) in
+    let at : OwnChild = Placed (record { bits = 0 }) in
     let x = node_at p depth keys c.self.inside.body kids pieces c.as_slice-in-Inner.result.now c.args.key.now i at
     (ap (λ (s : Seen). s.pieces) c.self.view_is) c.in-Inner.is c.self.invariant
     c.as_slice-in-Inner.ensures c.place_of-place.ensures c.requires.1.1.1.1.1.0 in
@@ -201,15 +201,15 @@ Node::replace-invariant_of-self-in-Inner g t c =
       ),
     ))
 
-pub Node::replace-returns-in-Inner-clause-done : goal.Node::replace-returns-in-Inner-clause-done
-Node::replace-returns-in-Inner-clause-done g t c =
+pub OwnNode::replace-returns-in-Inner-clause-done : goal.OwnNode::replace-returns-in-Inner-clause-done
+OwnNode::replace-returns-in-Inner-clause-done g t c =
     let p = g.C.Chunks.contents c.args.chunks.now in
     let depth = c.self.inside.depth in
     let keys = c.self.inside.keys.texts in
     let kids = c.in-Inner.kids in
     let pieces = c.args.self.now.pieces in
     let i = c.place_of-place.result in
-    let at : Child = Placed (record { bits = 0 }) in
+    let at : OwnChild = Placed (record { bits = 0 }) in
     let x = node_at p depth keys c.self.inside.body kids pieces c.as_slice-in-Inner.result.now c.args.key.now i at
     (ap (λ (s : Seen). s.pieces) c.self.view_is) c.in-Inner.is c.self.invariant
     c.as_slice-in-Inner.ensures c.place_of-place.ensures c.requires.1.1.1.1.1.0 in
@@ -221,15 +221,15 @@ Node::replace-returns-in-Inner-clause-done g t c =
     c.args.value i child c.replace_child.ensures.grown.0 c.in-Inner.is c.self.invariant x.0
     c.requires.1.1.1.1.1.1 s).shown_is)
 
-pub Node::replace-returns-in-Inner-clause-fresh : goal.Node::replace-returns-in-Inner-clause-fresh
-Node::replace-returns-in-Inner-clause-fresh g t c =
+pub OwnNode::replace-returns-in-Inner-clause-fresh : goal.OwnNode::replace-returns-in-Inner-clause-fresh
+OwnNode::replace-returns-in-Inner-clause-fresh g t c =
     let p = g.C.Chunks.contents c.args.chunks.now in
     let depth = c.self.inside.depth in
     let keys = c.self.inside.keys.texts in
     let kids = c.in-Inner.kids in
     let pieces = c.args.self.now.pieces in
     let i = c.place_of-place.result in
-    let at : Child = Placed (record { bits = 0 }) in
+    let at : OwnChild = Placed (record { bits = 0 }) in
     let x = node_at p depth keys c.self.inside.body kids pieces c.as_slice-in-Inner.result.now c.args.key.now i at
     (ap (λ (s : Seen). s.pieces) c.self.view_is) c.in-Inner.is c.self.invariant
     c.as_slice-in-Inner.ensures c.place_of-place.ensures c.requires.1.1.1.1.1.0 in
@@ -249,15 +249,15 @@ Node::replace-returns-in-Inner-clause-fresh g t c =
       ap (λ (s : Seen). s.fresh) c.self.view_is,
     ))
 
-pub Node::replace-returns-in-Inner-clause-places : goal.Node::replace-returns-in-Inner-clause-places
-Node::replace-returns-in-Inner-clause-places g t c =
+pub OwnNode::replace-returns-in-Inner-clause-places : goal.OwnNode::replace-returns-in-Inner-clause-places
+OwnNode::replace-returns-in-Inner-clause-places g t c =
     let p = g.C.Chunks.contents c.args.chunks.now in
     let depth = c.self.inside.depth in
     let keys = c.self.inside.keys.texts in
     let kids = c.in-Inner.kids in
     let pieces = c.args.self.now.pieces in
     let i = c.place_of-place.result in
-    let at : Child = Placed (record { bits = 0 }) in
+    let at : OwnChild = Placed (record { bits = 0 }) in
     let x = node_at p depth keys c.self.inside.body kids pieces c.as_slice-in-Inner.result.now c.args.key.now i at
     (ap (λ (s : Seen). s.pieces) c.self.view_is) c.in-Inner.is c.self.invariant
     c.as_slice-in-Inner.ensures c.place_of-place.ensures c.requires.1.1.1.1.1.0 in
@@ -272,8 +272,8 @@ Node::replace-returns-in-Inner-clause-places g t c =
     (ap length s.1 ∙ length-set kids.items i (Own s.0) ∙ x.2.1.2)))
     (subst (λ w. AreKept at_q w (kids_places c.replace_child.new.kids.items)) (sym old) kept))
 
-pub Node::replace-returns-in-Inner-clause-err : goal.Node::replace-returns-in-Inner-clause-err
-Node::replace-returns-in-Inner-clause-err g t c =
+pub OwnNode::replace-returns-in-Inner-clause-err : goal.OwnNode::replace-returns-in-Inner-clause-err
+OwnNode::replace-returns-in-Inner-clause-err g t c =
     let depth = c.self.inside.depth in
     let keys = c.self.inside.keys.texts in
     let seen : Body → Seen = λ b. record {

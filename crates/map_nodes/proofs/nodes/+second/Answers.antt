@@ -13,8 +13,8 @@ use Rattle.map_chunks.proofs.Shelves.{some_of}
 use Rattle.map_nodes.proofs.PlaceLemmas.{kid_all, kids_may}
 use Rattle.map_nodes.proofs.nodes.+second.Goals as goal
 
-pub Node::second-kid_second-requires : goal.Node::second-kid_second-requires
-Node::second-kid_second-requires g t c κs within =
+pub OwnNode::second-kid_second-requires : goal.OwnNode::second-kid_second-requires
+OwnNode::second-kid_second-requires g t c κs within =
     let p = g.C.Chunks.contents c.args.chunks.now in
     let n = some_of (shown p c.args.self.now.pieces) c.requires.tree in
     let i : IsNode c.self.inside.depth c.self.inside.keys.texts (Inner c.in-Inner.kids) = subst
@@ -33,8 +33,8 @@ Node::second-kid_second-requires g t c κs within =
     (ap (λ (s : Seen). s.pieces) c.self.view_is) c.in-Inner.is c.self.invariant c.requires.places) in
     (omega (arith, h, high, c.decreases), (within.0, (within.1, (may, subst IsSome (sym f.shown_is) refl))))
 
-pub Node::second-returns-in-Leaf-clause-key : goal.Node::second-returns-in-Leaf-clause-key
-Node::second-returns-in-Leaf-clause-key g t c =
+pub OwnNode::second-returns-in-Leaf-clause-key : goal.OwnNode::second-returns-in-Leaf-clause-key
+OwnNode::second-returns-in-Leaf-clause-key g t c =
     let p = g.C.Chunks.contents c.args.chunks.now in
     let keys = c.self.inside.keys.texts in
     let i : IsNode c.self.inside.depth keys (Leaf c.in-Leaf.field-0) = subst
@@ -45,8 +45,8 @@ Node::second-returns-in-Leaf-clause-key g t c =
     (leaf_rows p c.self.inside.depth keys c.self.inside.body c.in-Leaf.field-0 c.args.self.now.pieces
     (ap (λ (s : Seen). s.pieces) c.self.view_is) c.in-Leaf.is))
 
-pub Node::second-returns-in_ok-key-in-Inner-clause-key : goal.Node::second-returns-in_ok-key-in-Inner-clause-key
-Node::second-returns-in_ok-key-in-Inner-clause-key g t c =
+pub OwnNode::second-returns-in_ok-key-in-Inner-clause-key : goal.OwnNode::second-returns-in_ok-key-in-Inner-clause-key
+OwnNode::second-returns-in_ok-key-in-Inner-clause-key g t c =
     let p = g.C.Chunks.contents c.args.chunks.now in
     let n = some_of (shown p c.args.self.now.pieces) c.requires.tree in
     let i : IsNode c.self.inside.depth c.self.inside.keys.texts (Inner c.in-Inner.kids) = subst

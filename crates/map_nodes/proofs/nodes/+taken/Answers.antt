@@ -8,8 +8,8 @@ use Rattle.map_nodes.proofs.EndLemmas.{end-one, taken-pieces, taken-below}
 use Rattle.map_nodes.proofs.ScanLemmas.{kid_height}
 use Rattle.map_nodes.proofs.nodes.+taken.Goals as goal
 
-pub Node::narrowed-taken-requires : goal.Node::narrowed-taken-requires
-Node::narrowed-taken-requires t c =
+pub OwnNode::narrowed-taken-requires : goal.OwnNode::narrowed-taken-requires
+OwnNode::narrowed-taken-requires t c =
     let keys = c.self.inside.keys.texts in
     let kids = c.in-Inner.kids.items in
     let i : IsNode c.self.inside.depth keys (Inner c.in-Inner.kids) = subst
@@ -27,8 +27,8 @@ Node::narrowed-taken-requires t c =
           end_of_pieces pieces ∙ c.requires,
     )
 
-pub Node::narrowed-returns-in-Inner-clause-pieces : goal.Node::narrowed-returns-in-Inner-clause-pieces
-Node::narrowed-returns-in-Inner-clause-pieces t c =
+pub OwnNode::narrowed-returns-in-Inner-clause-pieces : goal.OwnNode::narrowed-returns-in-Inner-clause-pieces
+OwnNode::narrowed-returns-in-Inner-clause-pieces t c =
     let keys = c.self.inside.keys.texts in
     let kids = c.in-Inner.kids.items in
     let i : IsNode c.self.inside.depth keys (Inner c.in-Inner.kids) = subst
@@ -38,8 +38,8 @@ Node::narrowed-returns-in-Inner-clause-pieces t c =
     c.swap_remove.ensures.value c.taken.ensures
     ∙ ap (body_pieces c.self.inside.depth keys) (sym c.in-Inner.is) ∙ ap (λ (s : Seen). s.pieces) c.self.view_is
 
-pub Node::narrowed-returns-in-Inner-clause-depth : goal.Node::narrowed-returns-in-Inner-clause-depth
-Node::narrowed-returns-in-Inner-clause-depth t c =
+pub OwnNode::narrowed-returns-in-Inner-clause-depth : goal.OwnNode::narrowed-returns-in-Inner-clause-depth
+OwnNode::narrowed-returns-in-Inner-clause-depth t c =
     let keys = c.self.inside.keys.texts in
     let kids = c.in-Inner.kids.items in
     let i : IsNode c.self.inside.depth keys (Inner c.in-Inner.kids) = subst

@@ -5,7 +5,7 @@ ghost use Rattle.map_chunks.specs.Search.{IsPlace};
 ghost use Rattle.map_nodes.specs.Inside.Halves.{IsLower};
 ghost use Rattle.map_nodes.specs.Inside.Ready.{IsReady};
 
-use super::super::Child;
+use super::super::OwnChild;
 use super::splits::{HalfRoom, take_half_room};
 use group_history::Text;
 use map_chunks::entries::Spare;
@@ -16,7 +16,7 @@ use std::alloc::{AllocError, Global};
 #[derive(Drop)]
 pub(crate) struct Ready {
     pub(crate) lower: Option<Text>,
-    pub(crate) room: HalfRoom<Child>,
+    pub(crate) room: HalfRoom<OwnChild>,
 }
 
 impl Ready {

@@ -12,7 +12,7 @@ ghost use Rattle.map_nodes.specs.Inside.Counts.{half_fresh, HasKept};
 ghost use Rattle.map_nodes.specs.Inside.Unput.{IsUnput};
 
 use super::super::homes::housed;
-use super::super::{Body, Node};
+use super::super::{Body, OwnNode};
 use super::splits::{HalfRoom, take_half_room};
 use super::{Half, Unput};
 use group_history::{Json, Text};
@@ -173,7 +173,7 @@ fn settle_row(
     let Some((upper_keys, upper)) = insert_entry(keys, values, place, key, value, spare) else {
         return None;
     };
-    let upper = Node {
+    let upper = OwnNode {
         depth: 1,
         keys: upper_keys,
         body: Body::Leaf(upper),

@@ -8,7 +8,7 @@ ghost use Rattle.map_nodes.specs.Inside.Halves.{IsHalf, AreNinth, with_half, low
 ghost use Rattle.map_nodes.specs.Inside.Counts.{half_fresh, HasKept};
 
 use super::super::homes::housed;
-use super::super::{Body, Child, Node};
+use super::super::{Body, OwnChild, OwnNode};
 use super::Half;
 use super::splits::HalfRoom;
 use group_history::Text;
@@ -30,10 +30,10 @@ pub(crate) fn lower_first(keys: &mut NodeKeys, place: usize, lower: Option<Text>
 /// Puts the upper half of the child at the place behind it, and splits the children where they are 17 then.
 pub(crate) fn finish(
     keys: &mut NodeKeys,
-    kids: &mut Vec<Child>,
+    kids: &mut Vec<OwnChild>,
     place: usize,
     depth: u64,
-    room: HalfRoom<Child>,
+    room: HalfRoom<OwnChild>,
     half: Option<Half>,
     copies: usize,
 ) -> Option<Half>
@@ -79,12 +79,12 @@ pub(crate) fn finish(
         kids,
         place + 1,
         first,
-        Child::Own(node),
+        OwnChild::Own(node),
         spare,
     ) else {
         return None;
     };
-    let upper = Node {
+    let upper = OwnNode {
         depth,
         keys: upper_keys,
         body: Body::Inner(upper),

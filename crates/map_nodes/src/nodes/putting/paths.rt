@@ -16,9 +16,9 @@ ghost use Rattle.map_nodes.specs.Inside.Ready.{IsReady};
 ghost use Rattle.map_nodes.specs.Inside.Counts.{half_fresh, HasKept};
 ghost use Rattle.map_nodes.specs.Inside.Unput.{IsUnput};
 ghost use Rattle.map_nodes.specs.declared.nodes.Body.TheVariants as body;
-ghost use Rattle.map_nodes.specs.declared.nodes.Child.{Child as Childs};
+ghost use Rattle.map_nodes.specs.declared.nodes.OwnChild.{OwnChild as Childs};
 
-use super::super::{Body, Child, Node};
+use super::super::{Body, OwnChild, OwnNode};
 use super::below::{Ready, lower_key};
 use super::leaves::put_leaf;
 use super::middles::{finish, lower_first};
@@ -34,7 +34,7 @@ use std::alloc::Global;
 #[cycle(put)]
 fn put_inner<C: Chunks>(
     keys: &mut NodeKeys,
-    kids: &mut Vec<Child>,
+    kids: &mut Vec<OwnChild>,
     depth: u64,
     alloc: Global,
     chunks: &mut C,
@@ -87,7 +87,7 @@ fn put_inner<C: Chunks>(
 #[cycle(put)]
 fn put_child<C: Chunks>(
     keys: &mut NodeKeys,
-    kids: &mut Vec<Child>,
+    kids: &mut Vec<OwnChild>,
     place: usize,
     below: u64,
     alloc: Global,
@@ -123,19 +123,19 @@ fn put_child<C: Chunks>(
     ensures unput { IfErr result (IsUnput C.stops may_split) }
 {
     match &mut kids[place] {
-        Child::Own(node) => return node.put_below(
+        OwnChild::Own(node) => return node.put_below(
             keys, place, alloc, chunks, key, value, copies, may_split,
         ),
-        Child::Placed(at) => {
-            let mut node = Node::copied_child(alloc, chunks, *at, below, ROOM)?;
+        OwnChild::Placed(at) => {
+            let mut node = OwnNode::copied_child(alloc, chunks, *at, below, ROOM)?;
             let put = node.put_below(keys, place, alloc, chunks, key, value, copies, may_split)?;
-            kids[place] = Child::Own(node);
+            kids[place] = OwnChild::Own(node);
             return Ok(put);
         }
     }
 }
 
-impl Node {
+impl OwnNode {
     // Puts a row in a child of a chunk with these keys. What an upper half of the child needs is taken only
     // where the row can't be put without one.
     #[cycle(put)]

@@ -13,7 +13,7 @@ ghost use Rattle.map_nodes.specs.Inside.Counts.{half_fresh, HasKept};
 ghost use Rattle.map_chunks.specs.Wide.{IsWideChunk};
 
 use super::super::homes::{housed, take_home};
-use super::super::{Body, Child, Node};
+use super::super::{Body, OwnChild, OwnNode};
 use super::{Half, Unput};
 use group_history::{Json, Stop, Text};
 use map_chunks::Chunks;
@@ -40,8 +40,8 @@ fn least_key(keys: &[Text], key: &Text) -> Result<Option<Text>, AllocError>
 #[derive(Drop)]
 struct Above {
     first: Option<Text>,
-    spare: Spare<Child>,
-    home: Option<Box<Node>>,
+    spare: Spare<OwnChild>,
+    home: Option<Box<OwnNode>>,
 }
 
 // All of it, where the chunk with these keys may be split.
@@ -59,7 +59,7 @@ fn take_above(alloc: Global, keys: &[Text], key: &Text) -> Result<Above, AllocEr
 }
 
 // A root above both halves, made in the room that was taken for it.
-fn root_above(lower: Box<Node>, half: Half, first: Text, room: Spare<Child>) -> Node
+fn root_above(lower: Box<OwnNode>, half: Half, first: Text, room: Spare<OwnChild>) -> OwnNode
     requires depth { lower.value.depth + 1 < 2 ^ 64 }
     requires head { HeadIs first lower.value.pieces }
     requires half { IsHalf 1 lower.value.depth (Some half) }
@@ -82,16 +82,16 @@ fn root_above(lower: Box<Node>, half: Half, first: Text, room: Spare<Child>) -> 
     } = room;
     let _ = keys.push(first);
     let _ = keys.push(second);
-    let _ = kids.push(Child::Own(lower));
-    let _ = kids.push(Child::Own(node));
-    Node {
+    let _ = kids.push(OwnChild::Own(lower));
+    let _ = kids.push(OwnChild::Own(node));
+    OwnNode {
         depth,
         keys: NodeKeys::own(keys),
         body: Body::Inner(kids),
     }
 }
 
-impl Node {
+impl OwnNode {
     /// Puts a row in the map whose root the chunk is. Only where it can't be put otherwise, the root is
     /// split.
     pub(crate) fn put_root<C: Chunks>(
@@ -204,7 +204,7 @@ impl Node {
         ensures entries { self.new.entries ≡ 2 }
     {
         let Above { first, spare, home } = above;
-        let lower = housed(home, mem::replace(self, Node::empty(alloc)));
+        let lower = housed(home, mem::replace(self, OwnNode::empty(alloc)));
         *self = root_above(lower, half, first.unwrap(), spare);
     }
 }

@@ -2,7 +2,7 @@
 ghost use Rattle.std.specs.Prelude.{◌≡◌, ◌≤◌, [], length, IfOk, IsSome, vec_capacity};
 ghost use Rattle.map_nodes.specs.Inside.Halves.{AreNinth};
 
-use super::super::Node;
+use super::super::OwnNode;
 use super::super::homes::take_home;
 use super::leaves::ninth_copies;
 use group_history::Text;
@@ -14,7 +14,7 @@ use std::alloc::{AllocError, Global};
 pub(crate) struct HalfRoom<T> {
     pub(crate) firsts: Vec<Text>,
     pub(crate) spare: Spare<T>,
-    pub(crate) home: Option<Box<Node>>,
+    pub(crate) home: Option<Box<OwnNode>>,
 }
 
 /// Room for the upper half, where the key is put before the place.

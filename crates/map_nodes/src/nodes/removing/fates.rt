@@ -8,14 +8,14 @@ ghost use Rattle.map_nodes.specs.Inside.Freezing.{child_places};
 ghost use Rattle.map_chunks.specs.SecondKeys.{second_key};
 ghost use Rattle.map_chunks.specs.Shown.{shown, rows_or};
 
-use super::super::{Body, Child, Node};
+use super::super::{Body, OwnChild, OwnNode};
 use super::Fate;
 use group_history::{Stop, Text};
 use map_chunks::Chunks;
 use map_chunks::keys::second_of;
 use map_chunks::seconds::second_placed;
 
-impl Node {
+impl OwnNode {
     // The second key of the chunk's rows, if there are two.
     #[cycle(second)]
     fn second<C: Chunks>(&self, chunks: &mut C) -> Result<Option<Text>, Stop>
@@ -37,7 +37,7 @@ impl Node {
 }
 
 #[cycle(second)]
-fn kid_second<C: Chunks>(kid: &Child, chunks: &mut C) -> Result<Option<Text>, Stop>
+fn kid_second<C: Chunks>(kid: &OwnChild, chunks: &mut C) -> Result<Option<Text>, Stop>
     requires places { AreAll (C.places chunks.old) (child_places kid.now) }
     requires tree { IsSome (kid_shown (C.contents chunks.old) kid.now) }
     ensures grown { Grows C.contents C.places chunks.old chunks.new }
@@ -45,8 +45,8 @@ fn kid_second<C: Chunks>(kid: &Child, chunks: &mut C) -> Result<Option<Text>, St
     ensures stopped { IfErr result (λ s. (s ≡ NoMemory) ⊎ C.stops s) }
 {
     match kid {
-        Child::Placed(at) => second_placed(chunks, *at),
-        Child::Own(node) => node.second(chunks),
+        OwnChild::Placed(at) => second_placed(chunks, *at),
+        OwnChild::Own(node) => node.second(chunks),
     }
 }
 
@@ -54,7 +54,7 @@ fn kid_second<C: Chunks>(kid: &Child, chunks: &mut C) -> Result<Option<Text>, St
 pub(super) fn fate_of<C: Chunks>(
     chunks: &mut C,
     first: &Text,
-    kid: &Child,
+    kid: &OwnChild,
     key: &str,
 ) -> Result<Fate, Stop>
     requires places { AreAll (C.places chunks.old) (child_places kid.now) }

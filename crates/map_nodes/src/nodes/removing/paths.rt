@@ -14,9 +14,9 @@ ghost use Rattle.map_nodes.specs.Inside.Freezing.{kids_places};
 ghost use Rattle.map_chunks.specs.Search.{IsPlace};
 ghost use Rattle.map_chunks.specs.Shown.{shown, IsTree, rows_or};
 ghost use Rattle.map_nodes.specs.declared.nodes.Body.TheVariants as body;
-ghost use Rattle.map_nodes.specs.declared.nodes.Child.{Child as Childs};
+ghost use Rattle.map_nodes.specs.declared.nodes.OwnChild.{OwnChild as Childs};
 
-use super::super::{Body, Child, Node};
+use super::super::{Body, OwnChild, OwnNode};
 use super::Fate;
 use super::fates::fate_of;
 use group_history::{Json, Stop, Text};
@@ -71,7 +71,7 @@ fn set_first(keys: &mut NodeKeys, place: usize, first: Option<Text>)
 
 #[cycle(removing)]
 fn remove_child<C: Chunks>(
-    kids: &mut Vec<Child>,
+    kids: &mut Vec<OwnChild>,
     place: usize,
     below: u64,
     alloc: Global,
@@ -92,11 +92,11 @@ fn remove_child<C: Chunks>(
     ensures stopped { IfErr result (λ s. (s ≡ NoMemory) ⊎ C.stops s) }
 {
     match &mut kids[place] {
-        Child::Own(node) => return node.remove(alloc, chunks, key),
-        Child::Placed(at) => {
-            let mut node = Node::copied_child(alloc, chunks, *at, below, 0)?;
+        OwnChild::Own(node) => return node.remove(alloc, chunks, key),
+        OwnChild::Placed(at) => {
+            let mut node = OwnNode::copied_child(alloc, chunks, *at, below, 0)?;
             node.remove(alloc, chunks, key)?;
-            kids[place] = Child::Own(node);
+            kids[place] = OwnChild::Own(node);
             return Ok(());
         }
     }
@@ -106,7 +106,7 @@ fn remove_child<C: Chunks>(
 #[cycle(removing)]
 pub(super) fn remove_at<C: Chunks>(
     keys: &mut NodeKeys,
-    kids: &mut Vec<Child>,
+    kids: &mut Vec<OwnChild>,
     depth: u64,
     place: usize,
     fate: Fate,
@@ -147,7 +147,7 @@ pub(super) fn remove_at<C: Chunks>(
     }
 }
 
-impl Node {
+impl OwnNode {
     // Removes a key, if it is there. Other rows stay below the chunk.
     #[cycle(removing)]
     fn remove<C: Chunks>(&mut self, alloc: Global, chunks: &mut C, key: &str) -> Result<(), Stop>

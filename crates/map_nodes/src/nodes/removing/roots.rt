@@ -22,9 +22,9 @@ ghost use Rattle.map_nodes.specs.Inside.Halves.{HasDepth};
 ghost use Rattle.map_nodes.specs.Inside.Scanning.{kid_shown};
 ghost use Rattle.map_chunks.specs.Search.{IsPlace};
 ghost use Rattle.map_chunks.specs.Shown.{shown, IsTree, rows_or};
-ghost use Rattle.map_nodes.specs.declared.nodes.Child.{Child as Childs};
+ghost use Rattle.map_nodes.specs.declared.nodes.OwnChild.{OwnChild as Childs};
 
-use super::super::{Body, Child, Node};
+use super::super::{Body, OwnChild, OwnNode};
 use super::fates::fate_of;
 use super::paths::{remove_at, remove_row};
 use super::{Fate, Heir};
@@ -35,7 +35,7 @@ use map_chunks::keys::NodeKeys;
 use map_chunks::search::place_of;
 use std::alloc::Global;
 
-impl Node {
+impl OwnNode {
     // The placed chunk that is all there is below the chunk, if this is so.
     fn placed_end(&self) -> Option<Ref>
         ensures end { result ≡ end_of_pieces self.now.pieces }
@@ -48,8 +48,8 @@ impl Node {
                     return None;
                 }
                 match &kids[0] {
-                    Child::Placed(at) => Some(*at),
-                    Child::Own(node) => node.placed_end(),
+                    OwnChild::Placed(at) => Some(*at),
+                    OwnChild::Own(node) => node.placed_end(),
                 }
             }
         }
@@ -57,17 +57,17 @@ impl Node {
 
     // The chunk itself, or the first below it that is a leaf or has two children.
     #[cycle(taken)]
-    fn narrowed(self, alloc: Global) -> Node
+    fn narrowed(self, alloc: Global) -> OwnNode
         requires { end_of_pieces self.pieces ≡ None }
         ensures pieces { result.pieces ≡ self.pieces }
         ensures wide { IsWideChunk result }
         ensures fresh { result.fresh ≤ self.fresh }
         ensures depth { result.depth ≤ self.depth }
     {
-        let Node { depth, keys, body } = self;
+        let OwnNode { depth, keys, body } = self;
         match body {
             Body::Leaf(values) => {
-                return Node {
+                return OwnNode {
                     depth,
                     keys,
                     body: Body::Leaf(values),
@@ -75,7 +75,7 @@ impl Node {
             }
             Body::Inner(kids) => {
                 if kids.len() != 1 {
-                    return Node {
+                    return OwnNode {
                         depth,
                         keys,
                         body: Body::Inner(kids),
@@ -90,28 +90,28 @@ impl Node {
 
 // What a child ends in that ends in one of the draft's own.
 #[cycle(taken)]
-fn taken(kid: Child, alloc: Global) -> Node
+fn taken(kid: OwnChild, alloc: Global) -> OwnNode
     requires { ends.end_of kid ≡ None }
     ensures { IsTaken kid result }
 {
     match kid {
-        Child::Own(node) => return Box::into_inner(node).narrowed(alloc),
-        Child::Placed(_) => return Node::empty(alloc),
+        OwnChild::Own(node) => return Box::into_inner(node).narrowed(alloc),
+        OwnChild::Placed(_) => return OwnNode::empty(alloc),
     }
 }
 
-fn end_of(kid: &Child) -> Option<Ref>
+fn end_of(kid: &OwnChild) -> Option<Ref>
     ensures end { result ≡ ends.end_of kid.now }
     ensures below { IsKidBelow kid.now }
 {
     match kid {
-        Child::Placed(at) => Some(*at),
-        Child::Own(node) => node.placed_end(),
+        OwnChild::Placed(at) => Some(*at),
+        OwnChild::Own(node) => node.placed_end(),
     }
 }
 
 // The placed chunk that a child ends in, if it ends in none of the draft's own.
-fn kid_end<C: Chunks>(kid: &Child, chunks: &mut C) -> Result<Option<Ref>, Stop>
+fn kid_end<C: Chunks>(kid: &OwnChild, chunks: &mut C) -> Result<Option<Ref>, Stop>
     requires places { AreAll (C.places chunks.old) (child_places kid.now) }
     requires tree { IsSome (kid_shown (C.contents chunks.old) kid.now) }
     ensures grown { Grows C.contents C.places chunks.old chunks.new }
@@ -142,7 +142,7 @@ fn gives_way(fate: &Fate, entries: usize) -> bool
 
 // What stands in the root's place, once the child at the place has left it.
 fn heir<C: Chunks>(
-    kids: &mut Vec<Child>,
+    kids: &mut Vec<OwnChild>,
     place: usize,
     alloc: Global,
     chunks: &mut C,
@@ -162,7 +162,7 @@ fn heir<C: Chunks>(
     ensures stopped { IfErr result (λ s. (s ≡ NoMemory) ⊎ C.stops s) }
 {
     if kids.len() == 1 {
-        return Ok(Heir::Own(Node::empty(alloc)));
+        return Ok(Heir::Own(OwnNode::empty(alloc)));
     }
     let other = 1 - place;
     match kid_end(&kids[other], chunks)? {
@@ -175,7 +175,7 @@ fn heir<C: Chunks>(
 // children would stay.
 fn remove_inner<C: Chunks>(
     keys: &mut NodeKeys,
-    kids: &mut Vec<Child>,
+    kids: &mut Vec<OwnChild>,
     depth: u64,
     alloc: Global,
     chunks: &mut C,
@@ -208,7 +208,7 @@ fn remove_inner<C: Chunks>(
 // Removes a key below the child at the place, whose fate is known.
 fn remove_fated<C: Chunks>(
     keys: &mut NodeKeys,
-    kids: &mut Vec<Child>,
+    kids: &mut Vec<OwnChild>,
     depth: u64,
     place: usize,
     fate: Fate,
@@ -245,7 +245,7 @@ fn remove_fated<C: Chunks>(
     Ok(None)
 }
 
-impl Node {
+impl OwnNode {
     /// Removes a key, if it is there, from the map whose root the chunk is. Answers a placed chunk where
     /// that is the root from now on. Stops for want of memory, or as the store does, and the chunk is as it
     /// was then.

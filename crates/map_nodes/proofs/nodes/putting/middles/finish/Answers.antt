@@ -6,7 +6,7 @@ use Rattle.map_nodes.specs.Inside.Halves.{with_half, IsHalf}
 use Rattle.map_chunks.specs.Inserting.{Parted}
 use Rattle.map_nodes.specs.Nodes.{Kids, HeadIs, kids_pieces}
 use Rattle.map_chunks.specs.Shown.{Seen}
-use Rattle.map_nodes.specs.declared.nodes.Child.TheVariants.{Own}
+use Rattle.map_nodes.specs.declared.nodes.OwnChild.TheVariants.{Own}
 use Rattle.map_nodes.specs.Inside.Counts.{half_fresh}
 use Rattle.map_nodes.proofs.CountLemmas.{entries_fresh, fresh-alone, fresh-halves, fresh-with_half, kept_alone}
 use Rattle.map_nodes.proofs.CountLemmas.{kept_halves}

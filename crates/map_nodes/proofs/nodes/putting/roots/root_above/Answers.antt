@@ -1,7 +1,7 @@
 use Rattle.std.proofs.Common.{◌≡◌, ◌∙◌, ◌<◌, ◌+◌, ◌-◌, ◌++◌, [], ◌∷◌, ap, sym, subst, arith, length, is_ok}
 use Rattle.map_nodes.specs.Nodes.{AllKids}
 use Rattle.map_chunks.specs.Shown.{Seen}
-use Rattle.map_nodes.specs.declared.nodes.Child.TheVariants.{Own}
+use Rattle.map_nodes.specs.declared.nodes.OwnChild.TheVariants.{Own}
 use Rattle.group_history.specs.Rows.{paired, AreKeys}
 use Rattle.map_chunks.proofs.ListLemmas.{succeeded}
 use Rattle.map_nodes.proofs.RootLemmas.{root}

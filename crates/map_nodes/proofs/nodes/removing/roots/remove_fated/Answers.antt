@@ -5,8 +5,8 @@ use Rattle.map_nodes.specs.Removing.{without}
 use Rattle.map_nodes.specs.Inside.Removing.{IsFate, IsLowHeir}
 use Rattle.map_chunks.specs.Shown.{shown, rows_or}
 use Rattle.map_nodes.specs.declared.nodes.Body.TheVariants.{Inner}
-use Rattle.map_nodes.specs.declared.nodes.Child.{Child}
-use Rattle.map_nodes.specs.declared.nodes.Child.TheVariants.{Placed}
+use Rattle.map_nodes.specs.declared.nodes.OwnChild.{OwnChild}
+use Rattle.map_nodes.specs.declared.nodes.OwnChild.TheVariants.{Placed}
 use Rattle.map_nodes.proofs.EndLemmas.{first_at}
 use Rattle.map_nodes.proofs.HeirLemmas.{heir-rows, heir-fresh, heir-wide, heir-kept, still_wide}
 use Rattle.map_nodes.proofs.PathLemmas.{node_at}
@@ -22,7 +22,7 @@ heir-requires-clause-tree g c =
     let kids = c.args.kids.now in
     let key = c.args.key.now in
     let i = c.args.place in
-    let at : Child = Placed (record { bits = 0 }) in
+    let at : OwnChild = Placed (record { bits = 0 }) in
     let child = get_or kids.items i at in
     let pieces = body_pieces depth keys (Inner kids) in
     let x = node_at p depth keys (Inner kids) kids pieces keys key i at refl refl c.requires.node refl c.requires.place
@@ -43,7 +43,7 @@ returns-then-gives_way-clause-done g c =
     let kids = c.args.kids.now in
     let key = c.args.key.now in
     let i = c.args.place in
-    let at : Child = Placed (record { bits = 0 }) in
+    let at : OwnChild = Placed (record { bits = 0 }) in
     let child = get_or kids.items i at in
     let pieces = body_pieces depth keys (Inner kids) in
     let x = node_at p depth keys (Inner kids) kids pieces keys key i at refl refl c.requires.node refl c.requires.place

@@ -5,7 +5,7 @@ use Rattle.map_nodes.specs.Nodes.{body_pieces, kids_pieces, IsNode}
 use Rattle.map_chunks.specs.Shown.{Seen}
 use Rattle.map_nodes.specs.declared.nodes.Body.TheVariants.{Inner}
 use Rattle.map_nodes.proofs.EndLemmas.{end-many, end-one, end-rows, many-below, one-below, rows-below}
-use Rattle.map_nodes.proofs.nodes.Node.+placed_end.Goals as goal
+use Rattle.map_nodes.proofs.nodes.OwnNode.+placed_end.Goals as goal
 
 pub returns-then-len-ne1-clause-end : goal.returns-then-len-ne1-clause-end
 returns-then-len-ne1-clause-end t c =

@@ -10,7 +10,7 @@ use Rattle.map_nodes.proofs.LeafLemmas.{put-strict}
 use Rattle.map_nodes.proofs.NamedLemmas.{kept-front}
 use Rattle.map_chunks.proofs.OpenLemmas.{known}
 use Rattle.map_nodes.proofs.RootLemmas.{two, begins_least}
-use Rattle.map_nodes.proofs.nodes.Node.put_split.Goals as goal
+use Rattle.map_nodes.proofs.nodes.OwnNode.put_split.Goals as goal
 
 pub rise-requires-clause-half : goal.rise-requires-clause-half
 rise-requires-clause-half g c =

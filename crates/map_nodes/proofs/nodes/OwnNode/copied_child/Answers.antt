@@ -1,7 +1,7 @@
 use Rattle.std.proofs.Common.{sym, subst, []}
 use Rattle.map_chunks.specs.Places.{AreKept, places_of}
 use Rattle.map_chunks.specs.Shown.{Seen}
-use Rattle.map_nodes.proofs.nodes.Node.copied_child.Goals as goal
+use Rattle.map_nodes.proofs.nodes.OwnNode.copied_child.Goals as goal
 
 pub returns-clause-places : goal.returns-clause-places
 returns-clause-places g c =

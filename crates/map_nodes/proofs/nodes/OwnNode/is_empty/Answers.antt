@@ -2,7 +2,7 @@ use Rattle.std.proofs.Common.{ap, ◌∙◌, length}
 use Rattle.std.specs.Prelude.{◌==◌}
 use Rattle.map_chunks.specs.Shown.{Seen}
 use Rattle.map_nodes.proofs.EmptyLemmas.{none_own}
-use Rattle.map_nodes.proofs.nodes.Node.is_empty.Goals as goal
+use Rattle.map_nodes.proofs.nodes.OwnNode.is_empty.Goals as goal
 
 pub returns : goal.returns
 returns c contents rows h =

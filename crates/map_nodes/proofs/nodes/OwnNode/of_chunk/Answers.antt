@@ -5,7 +5,7 @@ use Rattle.map_nodes.specs.Inside.Copies.{MayBeDeep, chunk_pieces, chunk_entries
 use Rattle.map_nodes.specs.Nodes.{row_pieces, kids_fresh}
 use Rattle.map_nodes.proofs.CopyLemmas.{all_as_placed, copied_inner, copied_pieces, placed_fresh}
 use Rattle.map_chunks.proofs.SearchLemmas.{length-keys_of}
-use Rattle.map_nodes.proofs.nodes.Node.of_chunk.Goals as goal
+use Rattle.map_nodes.proofs.nodes.OwnNode.of_chunk.Goals as goal
 
 pub invariant_of-result-in-Inner : goal.invariant_of-result-in-Inner
 invariant_of-result-in-Inner c =

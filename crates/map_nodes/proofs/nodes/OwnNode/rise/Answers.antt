@@ -4,7 +4,7 @@ use Rattle.group_history.specs.Map.{Bytes}
 use Rattle.map_nodes.specs.Inside.Halves.{HeadsBoth, IsHalf}
 use Rattle.map_nodes.specs.Nodes.{HeadIs}
 use Rattle.map_chunks.specs.Shown.{Piece, Seen}
-use Rattle.map_nodes.proofs.nodes.Node.rise.Goals as goal
+use Rattle.map_nodes.proofs.nodes.OwnNode.rise.Goals as goal
 
 heads_some : (o : Option Bytes) (lower upper : List Piece) → HeadsBoth o lower upper → IsSome o
 heads_some None lower upper h = absurd h

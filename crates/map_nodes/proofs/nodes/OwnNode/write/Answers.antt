@@ -1,7 +1,7 @@
 use Rattle.std.proofs.Common.{arith}
 use Rattle.map_chunks.proofs.AnswerLemmas.{on_ok}
 use Rattle.map_nodes.proofs.CountLemmas.{ok_all, deep_same, wide_same}
-use Rattle.map_nodes.proofs.nodes.Node.write.Goals as goal
+use Rattle.map_nodes.proofs.nodes.OwnNode.write.Goals as goal
 
 pub returns-then-there-clause-few : goal.returns-then-there-clause-few
 returns-then-there-clause-few g c = on_ok c.replace.result c.replace.ensures.fresh (λ s. omega (arith, s))

@@ -9,7 +9,7 @@ use Rattle.map_nodes.proofs.ChangeLemmas.{shown-kept}
 use Rattle.map_nodes.proofs.NamedLemmas.{kept-front}
 use Rattle.map_chunks.proofs.OpenLemmas.{known, tree_of}
 use Rattle.map_chunks.proofs.KeptLemmas.{all_on}
-use Rattle.map_nodes.proofs.nodes.Node.put_root.Goals as goal
+use Rattle.map_nodes.proofs.nodes.OwnNode.put_root.Goals as goal
 
 pub put_split-requires-clause-places : goal.put_split-requires-clause-places
 put_split-requires-clause-places g c =

@@ -12,7 +12,7 @@ use Rattle.map_nodes.proofs.NamedLemmas.{own-places, places-kids, places-rows}
 use Rattle.map_nodes.proofs.NodeLemmas.{shown-rows}
 use Rattle.map_nodes.proofs.ReplaceLemmas.{leaf_rows}
 use Rattle.map_nodes.proofs.PlaceLemmas.{kids_may}
-use Rattle.map_nodes.proofs.nodes.Node.remove_root.Goals as goal
+use Rattle.map_nodes.proofs.nodes.OwnNode.remove_root.Goals as goal
 
 pub returns-in-Leaf-clause-done : goal.returns-in-Leaf-clause-done
 returns-in-Leaf-clause-done g c =

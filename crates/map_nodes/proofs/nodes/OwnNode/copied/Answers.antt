@@ -13,7 +13,7 @@ use Rattle.map_nodes.proofs.NamedLemmas.{copy-places}
 use Rattle.map_chunks.proofs.OpenLemmas.{rows-kept}
 use Rattle.map_chunks.proofs.Shelves.{some_of}
 use Rattle.map_nodes.proofs.WideLemmas.{wide-copy}
-use Rattle.map_nodes.proofs.nodes.Node.copied.Goals as goal
+use Rattle.map_nodes.proofs.nodes.OwnNode.copied.Goals as goal
 
 pub of_chunk-node-requires : goal.of_chunk-node-requires
 of_chunk-node-requires g c =
