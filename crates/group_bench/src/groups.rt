@@ -13,7 +13,8 @@ use std::alloc::Global;
 use std::time::CpuClock;
 use uuid::Uuid;
 
-/// Slots for so many keys, of which a chunk may hold only two, and for so many pending mutations before and after a pull.
+/// Slots for so many keys, of which a chunk may hold only two, and for so many pending mutations before and after a
+/// pull.
 fn slots_for(keys: u64, pending: u64) -> u32 {
     let slots = (keys / 2)
         .saturating_add(pending.saturating_mul(16))

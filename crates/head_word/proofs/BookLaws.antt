@@ -52,7 +52,8 @@ get_back (x ∷ xs) ys k = ap (slice_get (x ∷ xs ++ ys))
 
 -- by places from the book's front: with n stamps drawn before these entries, a draft's node at place p is n stamps
 -- further back
-drafted_at : (n : ℕ) (log : List Entry) → numbered n log ≡ true → (at : ℕ) (d : DraftEntry) → IsDraftAt log at d → (p : ℕ)
+drafted_at : (n : ℕ) (log : List Entry) → numbered n log ≡ true → (at : ℕ) (d : DraftEntry) → IsDraftAt log at d
+    → (p : ℕ)
     → p < length d.contents
     → (k : ℕ) × (d.first + p ≡ n + k) × (k < length (drawn log))
     × (slice_get (drawn log) k ≡ option_map (drafted_content d.first) (slice_get d.contents p))
@@ -135,7 +136,8 @@ ordered (suc a) (suc b) = elim (ordered a b) [
   ]
 ]
 
-once : (log : List Entry) → numbered 0 log ≡ true → (at bt : ℕ) (d e : DraftEntry) → IsDraftAt log at d → IsDraftAt log bt e
+once : (log : List Entry) → numbered 0 log ≡ true → (at bt : ℕ) (d e : DraftEntry) → IsDraftAt log at d
+    → IsDraftAt log bt e
     → (p q : ℕ) → p < length d.contents → q < length e.contents → d.first + p ≡ e.first + q → (at ≡ bt) × (p ≡ q)
 once log h at bt d e is ie p q lp lq same = elim (ordered at bt) [
   | inl lt ↦ absurd (omega (arith, apart 0 log h at bt d e is ie lt, lp, same))

@@ -23,7 +23,8 @@ pub record BookLaws (means : Meanings) : Type 0 where
   pub version_stays : (xs ys : List Entry) → IsPrefix xs ys → (stamp : ℕ) (w : Version)
       → version_at (drawn xs) stamp ≡ Some w → version_at (drawn ys) stamp ≡ Some w
   -- a draft's node at place p is the content of its first stamp plus p
-  pub content_drafted : (log : List Entry) → IsOpened means log → (at : ℕ) (d : DraftEntry) → IsDraftAt log at d → (p : ℕ)
+  pub content_drafted : (log : List Entry) → IsOpened means log → (at : ℕ) (d : DraftEntry) → IsDraftAt log at d
+      → (p : ℕ)
       → p < length d.contents
       → slice_get (drawn log) (d.first + p) ≡ option_map (drafted_content d.first) (slice_get d.contents p)
   -- a stamp names one draft of the book, and one node of it

@@ -94,7 +94,8 @@ end-one below (k ∷ []) (x ∷ []) kid l o g = ap end_of g ∙ by x
     by (Own n) = ap end_of_pieces (sym (append-nil n.value.pieces))
 
 -- the one child of a chunk has its pieces
-pub one-pieces : (below : ℕ) (keys : List Bytes) (kids : List OwnChild) (n : Kid) (kid : OwnChild) → length kids ≡ length keys
+pub one-pieces : (below : ℕ) (keys : List Bytes) (kids : List OwnChild) (n : Kid) (kid : OwnChild)
+    → length kids ≡ length keys
     → length kids ≡ 1 → kid ≡ get_or kids 0 kid → kid ≡ Own n
     → n.value.pieces ≡ kids_pieces below (paired keys kids)
 one-pieces below [] kids n kid l o g e = absurd (omega arith)
@@ -183,7 +184,8 @@ rows-below depth [] = tt
 rows-below depth (r ∷ []) = tt
 rows-below depth (r ∷ s ∷ rows) = tt
 
-pub many-below : (depth below : ℕ) (keys : List Bytes) (kids : List OwnChild) → length kids ≡ length keys → 0 < length keys
+pub many-below : (depth below : ℕ) (keys : List Bytes) (kids : List OwnChild) → length kids ≡ length keys
+    → 0 < length keys
     → (length kids ≡ 1 → ⊥) → AllKids below (paired keys kids)
     → IsEndBelow depth (kids_pieces below (paired keys kids))
 many-below depth below keys kids l z o h = by (kids_pieces below (paired keys kids))

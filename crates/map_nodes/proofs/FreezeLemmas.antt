@@ -70,7 +70,8 @@ frozen-sooner first old mid new child at p f contents depth rows l d h =
     f contents depth rows l d (child-stays (with_nodes contents old) (with_nodes contents mid) depth child rows
     (nodes-grown contents old mid p) h)
 
-pub all-later : (first : ℕ) (old mid new : List (Node Ref)) (children : List OwnChild) (ats : List Ref) → IsPrefix mid new
+pub all-later : (first : ℕ) (old mid new : List (Node Ref)) (children : List OwnChild) (ats : List Ref)
+    → IsPrefix mid new
     → AreFrozen first old mid children ats → AreFrozen first old new children ats
 all-later first old mid new [] [] p f = f
 all-later first old mid new [] (at ∷ ats) p f = absurd f

@@ -28,7 +28,8 @@ pub heir-wide : (q r : Contents) (ks : List OwnChild) (m n : ℕ) (h : Heir) →
 heir-wide q r ks m n (Placed at) i = i.1
 heir-wide q r ks m n (Own x) i = i.1
 
-pub heir-kept : (old new : List OwnChild) (h : Heir) (at : Ref) → KeptBy old new h → Some h ≡ Some (Placed at) → new ≡ old
+pub heir-kept : (old new : List OwnChild) (h : Heir) (at : Ref) → KeptBy old new h → Some h ≡ Some (Placed at)
+    → new ≡ old
 heir-kept old new h at k e = subst (KeptBy old new) (some_is e) k
 
 -- a root that gives way to nothing stays wide

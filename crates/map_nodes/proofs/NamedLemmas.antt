@@ -182,7 +182,8 @@ child-pieces : (below : ℕ) (k : Bytes) (c : OwnChild) → places_of (child_pie
 child-pieces below k (Placed at) = refl
 child-pieces below k (Own n) = refl
 
-in-front : (below : ℕ) (es : Kids) (e : Bytes × OwnChild) (at : Ref) → Contains (places_of (kids_pieces below (e ∷ es))) at
+in-front : (below : ℕ) (es : Kids) (e : Bytes × OwnChild) (at : Ref)
+    → Contains (places_of (kids_pieces below (e ∷ es))) at
     → Contains (places_of (kids_pieces below es)) at ⊎ Contains (child_places e.1) at
 in-front below es e at h =
     elim (Contains-append_cases (places_of (child_pieces below e.0 e.1)) (places_of (kids_pieces below es)) at
@@ -213,7 +214,8 @@ entries-inserted below (x ∷ es) (suc n) e at h =
     ]
 
 -- children with the upper half of one put behind it
-pub half-places : (below i : ℕ) (half : Option Half) (keys : List Bytes) (kids : List OwnChild) → length kids ≡ length keys
+pub half-places : (below i : ℕ) (half : Option Half) (keys : List Bytes) (kids : List OwnChild)
+    → length kids ≡ length keys
     → (at : Ref) → Contains (places_of (kids_pieces below (with_half i half (paired keys kids)))) at
     → Contains (kids_places kids ++ places_of (half_pieces half)) at
 half-places below i None keys kids l at h = Contains-append_left (kids_places kids) [] at

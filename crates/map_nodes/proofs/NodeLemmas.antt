@@ -83,7 +83,8 @@ AllKids-split below [] e behind h = (tt, h.0, h.1)
 AllKids-split below (b ∷ before) e behind h = let r = AllKids-split below before e behind h.1 in ((h.0, r.0), r.1, r.2)
 
 -- the child to which a key belongs, and the way to it
-pub record Down (p : Contents) (depth : ℕ) (keys : List Bytes) (kids : List OwnChild) (pieces : List Piece) (key : Bytes)
+pub record Down (p : Contents) (depth : ℕ) (keys : List Bytes) (kids : List OwnChild) (pieces : List Piece)
+    (key : Bytes)
     (i : ℕ) (child : OwnChild) : Type 0 where
   pub before : Kids
   pub first : Bytes
@@ -157,7 +158,8 @@ inner_depth depth keys body kids e inv = let h : IsNode depth keys (Inner kids) 
     (IsNode depth keys) e inv in h.1.0
 
 -- a child that is placed, and one that is own
-pub down_placed : (p : Contents) (depth : ℕ) (keys : List Bytes) (kids : List OwnChild) (pieces : List Piece) (key : Bytes)
+pub down_placed : (p : Contents) (depth : ℕ) (keys : List Bytes) (kids : List OwnChild) (pieces : List Piece)
+    (key : Bytes)
     (i : ℕ) (child : OwnChild) (at : Ref)
     → (d : Down p depth keys kids pieces key i child) → child ≡ Placed at → chunk_rows p (stamp_of at) ≡ Some d.way.here
 down_placed p depth keys kids pieces key i child at d e = chunk_rows-at p (depth - 1) (stamp_of at) d.way.here
@@ -172,7 +174,8 @@ down_own p depth keys kids pieces key i child n d e =
     (ap (child_rows p (depth - 1)) (sym e) ∙ d.way.here_is, c.0, c.1)
 
 -- the key's value is that below the child
-pub down-find : (p : Contents) (depth : ℕ) (keys : List Bytes) (kids : List OwnChild) (pieces : List Piece) (key : Bytes)
+pub down-find : (p : Contents) (depth : ℕ) (keys : List Bytes) (kids : List OwnChild) (pieces : List Piece)
+    (key : Bytes)
     (i : ℕ) (child : OwnChild) (x : Option Rows)
     → (d : Down p depth keys kids pieces key i child) → x ≡ Some d.way.here
     → find (slice_cmp nat_cmp) key (rows_or x) ≡ find (slice_cmp nat_cmp) key (rows_or (shown p pieces))

@@ -149,7 +149,8 @@ paired-both (j ∷ ks) [] (suc i) k y = refl
 paired-both (j ∷ ks) (x ∷ xs) zero k y = refl
 paired-both (j ∷ ks) (x ∷ xs) (suc i) k y = ap (λ w. (j, x) ∷ w) (paired-both ks xs i k y)
 
-pub lowered_pairs : (keys : List Bytes) (kids : List OwnChild) (i : ℕ) (lower : Option Bytes) (y c : OwnChild) (before : Kids)
+pub lowered_pairs : (keys : List Bytes) (kids : List OwnChild) (i : ℕ) (lower : Option Bytes) (y c : OwnChild)
+    (before : Kids)
     (first : Bytes) (behind : Kids) → length kids ≡ length keys
     → paired keys kids ≡ before ++ (first, c) ∷ behind → length before ≡ i
     → paired (lowered i lower keys) (set kids i y) ≡ before ++ (first_key first lower, y) ∷ behind

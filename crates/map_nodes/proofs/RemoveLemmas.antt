@@ -292,7 +292,8 @@ child_gone p q depth keys nk kids ne pieces key i child pre l m z d nil two with
     ch.all ch.joined_is ch.shown_is (without-strict key d.rows d.order)
 
 -- what is known of the child's fate, in terms of the way to it
-pub fate_here : (p : Contents) (depth : ℕ) (keys : List Bytes) (kids : List OwnChild) (pieces : List Piece) (key : Bytes)
+pub fate_here : (p : Contents) (depth : ℕ) (keys : List Bytes) (kids : List OwnChild) (pieces : List Piece)
+    (key : Bytes)
     (i : ℕ) (child : OwnChild) (fate : Fate) → length kids ≡ length keys
     → (d : Down p depth keys kids pieces key i child) → IsFate key (get_or keys i []) (rows_or (kid_shown p child)) fate
     → IsFate key d.first d.way.here fate
@@ -330,7 +331,8 @@ child_stays p q depth keys nk kids ne pieces key i child other pre l m z d f som
     ch.all ch.joined_is ch.shown_is (without-strict key d.rows d.order)
 
 -- the child can be entered
-pub can_remove : (p : Contents) (depth : ℕ) (keys : List Bytes) (kids : List OwnChild) (pieces : List Piece) (key : Bytes)
+pub can_remove : (p : Contents) (depth : ℕ) (keys : List Bytes) (kids : List OwnChild) (pieces : List Piece)
+    (key : Bytes)
     (i : ℕ) (child : OwnChild) (other : Option Bytes)
     → (d : Down p depth keys kids pieces key i child) → slice_get kids i ≡ Some child
     → IsFate key d.first d.way.here (Stays other) → (c : OwnChild) → slice_get kids i ≡ Some c
@@ -376,7 +378,8 @@ others p depth keys kids pieces key i child l d nil z =
     by [] back f b s e = let u = joined_some (kid_rows p (depth - 1)) d.behind back b (omega arith) in omega arith
 
 -- one child left shows what stays
-pub last_shown : (p : Contents) (depth : ℕ) (keys : List Bytes) (kids : List OwnChild) (pieces : List Piece) (key : Bytes)
+pub last_shown : (p : Contents) (depth : ℕ) (keys : List Bytes) (kids : List OwnChild) (pieces : List Piece)
+    (key : Bytes)
     (i : ℕ) (child : OwnChild) → length kids ≡ length keys → length kids ≤ 2
     → (d : Down p depth keys kids pieces key i child) → without key d.way.here ≡ []
     → one_shown p (remove kids i) ≡ Some (without key d.rows)
@@ -431,7 +434,8 @@ last_shown p depth keys kids pieces key i child l few d nil =
 
 -- INNER CHUNKS
 
-pub has_others : (p : Contents) (depth : ℕ) (keys : List Bytes) (kids : List OwnChild) (pieces : List Piece) (key : Bytes)
+pub has_others : (p : Contents) (depth : ℕ) (keys : List Bytes) (kids : List OwnChild) (pieces : List Piece)
+    (key : Bytes)
     (i : ℕ) (child : OwnChild) (fate : Fate) → length kids ≡ length keys
     → (d : Down p depth keys kids pieces key i child) → IsFate key d.first d.way.here fate
     → 0 < length (without key (rows_or (shown p pieces))) → HasOthers fate (length keys)

@@ -78,7 +78,8 @@ inner_lengths depth keys body kids e inv = let h : IsNode depth keys (Inner kids
     (IsNode depth keys) e inv in h.1.2
 
 -- the key is below the child
-pub there_below : (p : Contents) (depth : ℕ) (keys : List Bytes) (kids : List OwnChild) (pieces : List Piece) (key : Bytes)
+pub there_below : (p : Contents) (depth : ℕ) (keys : List Bytes) (kids : List OwnChild) (pieces : List Piece)
+    (key : Bytes)
     (i : ℕ) (child : OwnChild)
     → (d : Down p depth keys kids pieces key i child) → IsSome (find (slice_cmp nat_cmp) key (rows_or (shown p pieces)))
     → IsSome (find (slice_cmp nat_cmp) key d.way.here)
@@ -113,7 +114,8 @@ kid_replaced old new depth keys kids pieces key v i child n x p d t e b s =
           (sym d.rows_is);
     }
 
-pub can_replace : (p : Contents) (depth : ℕ) (keys : List Bytes) (kids : List OwnChild) (pieces : List Piece) (key : Bytes)
+pub can_replace : (p : Contents) (depth : ℕ) (keys : List Bytes) (kids : List OwnChild) (pieces : List Piece)
+    (key : Bytes)
     (i : ℕ) (child : OwnChild)
     → (d : Down p depth keys kids pieces key i child) → slice_get kids i ≡ Some child
     → IsSome (find (slice_cmp nat_cmp) key (rows_or (shown p pieces)))

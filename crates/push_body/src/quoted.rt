@@ -8,8 +8,8 @@ use crate::plain::is_plain;
 use json::Writer;
 use std::alloc::{AllocError, Global};
 
-/// Appends a text as JSON, in quotes and escaped (RFC 8259, section 7). A text without a quote, a backslash or a control
-/// character is copied as it stands. What the buffer has after an error is not told.
+/// Appends a text as JSON, in quotes and escaped (RFC 8259, section 7). A text without a quote, a backslash or a
+/// control character is copied as it stands. What the buffer has after an error is not told.
 #[inline(always)]
 pub fn push_quoted(out: &mut Vec<u8>, text: &str) -> Result<(), AllocError>
     ensures { OnOk result (out.new.items ≡ out.old.items ++ quoted text.now) }

@@ -1,7 +1,7 @@
 -- The lines of each client by the parts of a phase, and with a line more.
 use Rattle.std.proofs.Common.{◌≡◌, ◌≢◌, ◌<◌, ◌+◌, ◌==◌, ◌∙◌, ℕ, zero, suc, Bool, true, false, ◌||◌, List, [], ◌∷◌, ◌++◌}
-use Rattle.std.proofs.Common.{Option, None, Some, is_some, cond, length, map, set, get_or, replicate, refl, sym, ap, subst}
-use Rattle.std.proofs.Common.{arith}
+use Rattle.std.proofs.Common.{Option, None, Some, is_some, cond, length, map, set, get_or, replicate, refl, sym, ap}
+use Rattle.std.proofs.Common.{subst, arith}
 use Rattle.std.proofs.lemmas.Bool.{false≢true, ne_eqb, eq-eqb, eqb-true}
 use Rattle.std.proofs.lemmas.Iterator.Adapters.{position_from-zero}
 use Rattle.std.proofs.lemmas.List.Quantifiers.{position-Some}
@@ -125,7 +125,8 @@ found_at : (ps : List Part) (c k : ℕ) (was : Part) → k < length ps → was �
     → map line_said was.lines.items ≡ lines_at ps c
 found_at [] c k was within at found before = absurd (omega (arith, within))
 found_at (p ∷ ps) c zero was within at found before =
-    subst (λ (q : Part). map line_said was.lines.items ≡ cond (q.client == c) (map line_said q.lines.items) (lines_at ps c))
+    subst (λ (q : Part). map line_said was.lines.items
+    ≡ cond (q.client == c) (map line_said q.lines.items) (lines_at ps c))
     at (rw found)
 found_at (p ∷ ps) c (suc k) was within at found before = rw (before 0 (omega arith))
     (found_at ps c k was (omega (arith, within)) at found (λ j below. before (suc j) (omega (arith, below))))

@@ -267,7 +267,8 @@ pub fn run<R: AllocGlobal + Threads + Wait + Sync, G: Gate, W: io::Write>(
 /// The script that the bytes are, which are let go.
 fn read_owned(alloc: Global, bytes: Vec<u8>) -> Result<Script, Fault>
     ensures first { Checks (first_fault bytes.items) result }
-    ensures said { IfOk result (λ script. (said : Context) × (script_said bytes.items ≡ Ok said) × IsScript said script) }
+    ensures said { IfOk result (λ script. (said : Context) × (script_said bytes.items ≡ Ok said)
+        × IsScript said script) }
     ensures checked { IfOk result (λ script. IsChecked script) }
 {
     let read = read_script(alloc, &bytes);

@@ -599,7 +599,8 @@ putting::paths::put_child-returns-in-Own-clause-places g t c =
     let n : Kid = with_value c.in-Own.node c.put_below.new.self in
     if_ok_so c.put_below.result c.put_below.ensures.places
     (λ put kept. kept-kid at_q kids c.args.place child n (half_pieces put.1) c.requires.within c.index_mut.ensures.value
-    (subst (λ (x : OwnChild). AreKept at_q (child_places x) (places_of (c.put_below.new.self.pieces ++ half_pieces put.1)))
+    (subst (λ (x : OwnChild). AreKept at_q (child_places x)
+    (places_of (c.put_below.new.self.pieces ++ half_pieces put.1)))
     (sym c.in-Own.is)
     (subst (λ (s : Seen). AreKept at_q (places_of s.pieces)
     (places_of (c.put_below.new.self.pieces ++ half_pieces put.1))) c.deref_mut.ensures.value kept)))

@@ -13,4 +13,5 @@ returns c =
     ap (λ (ps : List Part). map (lines_at ps) (range_with_len 0 phase.clients)) c.in_ok-push-2.ensures.items
     ∙ with_first phase.parts.items (record { client = c.args.client; lines = c.push.new.self }) (line_said line)
     phase.clients c.requires
-    (ap (map line_said) (c.in_ok-push.ensures.items ∙ ap (λ (ls : List Line). ls ++ line ∷ []) c.in_ok-lines.ensures.items))
+    (ap (map line_said)
+    (c.in_ok-push.ensures.items ∙ ap (λ (ls : List Line). ls ++ line ∷ []) c.in_ok-lines.ensures.items))
