@@ -4,7 +4,7 @@
 //! value is written again from its tokens. That is its compact text where the names in it ascend; only where they
 //! don't, this one value is read as a tree. Whatever else a body may be is left to the reader of whole trees, and so
 //! are all refusals but for want of memory.
-ghost use Rattle.std.specs.Prelude.{◌≡◌, ◌<◌, length, OnOk, IfOk, Ok};
+ghost use Rattle.std.specs.Prelude.{◌≡◌, ◌<◌, length, codes, bytes_eq, false, OnOk, IfOk, Ok};
 ghost use Rattle.serde_json.specs.Data.{Members, object};
 ghost use Rattle.serde_json.specs.View.{view};
 ghost use Rattle.group_history.specs.Pull.{AreInRange};
@@ -91,6 +91,32 @@ fn has_part(parts: &Parts, name: &str) -> bool {
     }
 }
 
+// The value of a field of this name that is no patch.
+fn read_small_part(
+    alloc: Global,
+    name: &str,
+    reader: &mut Reader<'_>,
+    parts: &mut Parts,
+    copy: &mut Vec<u8>,
+) -> Result<(), Stop>
+    requires other { bytes_eq name.now (codes "patch") ≡ false }
+    ensures read { OnOk result (ReadsPart reader.old name.now parts.old parts.new reader.new) }
+    ensures shorter { OnOk result (length reader.new < length reader.old) }
+{
+    if name == "cookie" {
+        parts.cookie = Some(read_cookie(alloc, reader, copy)?);
+        return Ok(());
+    }
+    if name == "lastMutationIDChanges" {
+        parts.changes = Some(read_confirmed(alloc, reader, copy)?);
+        return Ok(());
+    }
+    if name == "error" {
+        return Err(Stop::NotPlain);
+    }
+    pass_value(alloc, reader, 126, copy)
+}
+
 // The value of a field of this name.
 fn read_part(
     alloc: Global,
@@ -109,18 +135,7 @@ fn read_part(
         parts.patch = Some(read_patch(alloc, reader, copy)?);
         return Ok(());
     }
-    if name == "cookie" {
-        parts.cookie = Some(read_cookie(alloc, reader, copy)?);
-        return Ok(());
-    }
-    if name == "lastMutationIDChanges" {
-        parts.changes = Some(read_confirmed(alloc, reader, copy)?);
-        return Ok(());
-    }
-    if name == "error" {
-        return Err(Stop::NotPlain);
-    }
-    pass_value(alloc, reader, 126, copy)
+    read_small_part(alloc, name, reader, parts, copy)
 }
 
 fn read_parts(alloc: Global, reader: &mut Reader<'_>, copy: &mut Vec<u8>) -> Result<Parts, Stop>

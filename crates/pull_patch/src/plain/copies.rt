@@ -1,9 +1,10 @@
 //! Values that are copied from token to token, with no tree in between.
-ghost use Rattle.std.specs.Prelude.{◌≡◌, ◌<◌, [], length, slice_index, IsTrue, OnOk, IfOk};
+ghost use Rattle.std.specs.Prelude.{◌≡◌, ◌<◌, [], ◌∷◌, length, slice_index, IsTrue, OnOk, IfOk};
 ghost use Rattle.std.specs.Ordering.{is_lt, nat_cmp};
 ghost use Rattle.std.specs.Cmp.Lexicographic.{slice_cmp};
 ghost use Rattle.std.specs.Str.{IsUtf8};
 ghost use Rattle.json.specs.Json.{value, items, members};
+ghost use Rattle.json.specs.Token.{begin_array, begin_object};
 ghost use Rattle.pull_patch.specs.Inside.Copies.{IsPlainNumber, CopiesValue, CopiesItems, CopiesMembers};
 ghost use Rattle.pull_patch.specs.Inside.Copies.{CopiesText};
 
@@ -85,21 +86,39 @@ pub(crate) fn copy_value(
             Ok(true)
         }
         Token::EndObject | Token::EndArray | Token::Key(_) | Token::Bad => Err(Stop::NotPlain),
-        Token::BeginArray => {
-            if depth == 0 {
-                return Err(Stop::NotPlain);
-            }
-            out.begin_array()?;
-            copy_items(reader, depth - 1, out)
-        }
-        Token::BeginObject => {
-            if depth == 0 {
-                return Err(Stop::NotPlain);
-            }
-            out.begin_object()?;
-            copy_members(reader, depth - 1, out)
-        }
+        Token::BeginArray => copy_array(reader, depth, out),
+        Token::BeginObject => copy_object(reader, depth, out),
     }
+}
+
+// An array behind its opening bracket.
+#[cycle(copy)]
+fn copy_array(reader: &mut Reader<'_>, depth: usize, out: &mut Writer) -> Result<bool, Stop>
+    ensures copied { IfOk result (λ plain. CopiesValue plain
+        (value depth (begin_array ∷ reader.old)) reader.new out.old.tokens out.new.tokens) }
+    ensures shorter { OnOk result (length reader.new < length reader.old) }
+    ensures before { out.new.before ≡ out.old.before }
+{
+    if depth == 0 {
+        return Err(Stop::NotPlain);
+    }
+    out.begin_array()?;
+    copy_items(reader, depth - 1, out)
+}
+
+// An object behind its opening brace.
+#[cycle(copy)]
+fn copy_object(reader: &mut Reader<'_>, depth: usize, out: &mut Writer) -> Result<bool, Stop>
+    ensures copied { IfOk result (λ plain. CopiesValue plain
+        (value depth (begin_object ∷ reader.old)) reader.new out.old.tokens out.new.tokens) }
+    ensures shorter { OnOk result (length reader.new < length reader.old) }
+    ensures before { out.new.before ≡ out.old.before }
+{
+    if depth == 0 {
+        return Err(Stop::NotPlain);
+    }
+    out.begin_object()?;
+    copy_members(reader, depth - 1, out)
 }
 
 #[cycle(copy)]

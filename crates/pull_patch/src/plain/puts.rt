@@ -1,5 +1,5 @@
 //! The operations of a patch, one at a time.
-ghost use Rattle.std.specs.Prelude.{◌≡◌, ◌<◌, length, codes, OnOk, IfOk, IfSome};
+ghost use Rattle.std.specs.Prelude.{◌≡◌, ◌<◌, length, codes, bytes_eq, false, OnOk, IfOk, IfSome};
 ghost use Rattle.serde_json.specs.Data.{Members, object};
 ghost use Rattle.pull_patch.specs.Inside.Plain.{ReadsField, ReadsFields, IsFoundIn, IsOperation, ReadsOperation};
 ghost use Rattle.pull_patch.specs.Inside.Plain.{ReadsOperations, ReadsPatch, IsText};
@@ -18,14 +18,15 @@ struct Found<'a> {
     value: Option<Json>,
 }
 
-// The value of a field of this name. Of two fields of one name the last counts.
-fn read_field<'a>(
+// The text of a field of this name.
+fn read_text_field<'a>(
     alloc: Global,
     name: &str,
     reader: &mut Reader<'a>,
     found: &mut Found<'a>,
     copy: &mut Vec<u8>,
 ) -> Result<(), Stop>
+    requires other { bytes_eq name.now (codes "value") ≡ false }
     ensures read { OnOk result (ReadsField reader.old name.now found.old found.new reader.new) }
     ensures shorter { OnOk result (length reader.new < length reader.old) }
 {
@@ -37,11 +38,25 @@ fn read_field<'a>(
         found.key = Some(read_text(reader)?);
         return Ok(());
     }
+    pass_value(alloc, reader, 124, copy)
+}
+
+// The value of a field of this name. Of two fields of one name the last counts.
+fn read_field<'a>(
+    alloc: Global,
+    name: &str,
+    reader: &mut Reader<'a>,
+    found: &mut Found<'a>,
+    copy: &mut Vec<u8>,
+) -> Result<(), Stop>
+    ensures read { OnOk result (ReadsField reader.old name.now found.old found.new reader.new) }
+    ensures shorter { OnOk result (length reader.new < length reader.old) }
+{
     if name == "value" {
         found.value = Some(read_json(alloc, reader, copy)?);
         return Ok(());
     }
-    pass_value(alloc, reader, 124, copy)
+    read_text_field(alloc, name, reader, found, copy)
 }
 
 fn read_fields<'a>(

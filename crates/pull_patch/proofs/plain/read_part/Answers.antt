@@ -1,7 +1,6 @@
 use Rattle.std.proofs.Common.{◌∙◌, sym}
 use Rattle.serde_json.specs.Data.{array}
-use Rattle.std.proofs.lemmas.Result.{on_ok_weaker}
-use Rattle.pull_patch.proofs.PlainResponses.{parts_patch, parts_cookie, parts_changes, parts_other}
+use Rattle.pull_patch.proofs.PlainResponses.{parts_patch}
 use Rattle.pull_patch.proofs.plain.read_part.Goals as goal
 
 pub returns-then-eq-clause-read : goal.returns-then-eq-clause-read
@@ -12,32 +11,3 @@ returns-then-eq-clause-read c =
       parts = λ ms h. parts_patch c.args.parts.now c.in_ok-read_patch.field-0 done.tree c.args.name.now ms
           (sym c.eq.ensures ∙ c.if-eq.true) done.say h;
     }
-
-pub returns-then-eq-2-clause-read : goal.returns-then-eq-2-clause-read
-returns-then-eq-2-clause-read c =
-    let done = c.in_ok-read_cookie.ensures.read in record {
-      tree = done.tree;
-      reads = done.reads;
-      parts = λ ms h. parts_cookie c.args.parts.now c.in_ok-read_cookie.field-0 done.tree c.args.name.now ms
-          (sym c.eq-2.ensures ∙ c.if-eq-2.true) done.is h;
-    }
-
-pub returns-then-eq-3-clause-read : goal.returns-then-eq-3-clause-read
-returns-then-eq-3-clause-read c =
-    let done = c.in_ok-read_confirmed.ensures.read in record {
-      tree = done.tree;
-      reads = done.reads;
-      parts = λ ms h. parts_changes c.args.parts.now c.in_ok-read_confirmed.field-0 done.tree c.args.name.now ms
-          (sym c.eq-3.ensures ∙ c.if-eq-3.true) done.are done.in_range h;
-    }
-
-pub returns-clause-read : goal.returns-clause-read
-returns-clause-read c =
-    on_ok_weaker c.pass_value.result (λ done. record {
-      tree = done.tree;
-      reads = done.reads;
-      parts = λ ms h.
-          parts_other c.args.parts.now done.tree c.args.name.now ms (sym c.eq.ensures ∙ c.if-eq.false)
-          (sym c.eq-4.ensures ∙ c.if-eq-4.false) (sym c.eq-2.ensures ∙ c.if-eq-2.false)
-          (sym c.eq-3.ensures ∙ c.if-eq-3.false) h;
-    }) c.pass_value.ensures.read

@@ -67,12 +67,31 @@ copy_value-returns-in_ok-null-in-Null-clause-copied t c =
       is_plain = λ e. IsPlain-null;
     }
 
-pub copy_value-returns-in_ok-begin_array-in-BeginArray-clause-copied :
-    goal.copy_value-returns-in_ok-begin_array-in-BeginArray-clause-copied
-copy_value-returns-in_ok-begin_array-in-BeginArray-clause-copied t c =
+pub copy_value-returns-in-BeginArray-clause-copied : goal.copy_value-returns-in-BeginArray-clause-copied
+copy_value-returns-in-BeginArray-clause-copied t c =
     let first : c.args.reader.now ≡ token_of c.in_ok-token.token ∷ c.next.new.self = grind arith in
-    let opened = ap (value c.args.depth) (first ∙ ap (λ k. token_of k ∷ c.next.new.self) c.in-BeginArray.is) ∙
-    value-begin_array c.args.depth c.next.new.self (omega arith) in
+    let opened = first ∙ ap (λ k. token_of k ∷ c.next.new.self) c.in-BeginArray.is in
+    IfOk-weaker c.copy_array.result _ _ (λ plain done. record {
+      what = done.what;
+      reads = ap (value c.args.depth) opened ∙ done.reads;
+      written = done.written;
+      is_plain = done.is_plain;
+    }) c.copy_array.ensures.copied
+
+pub copy_value-returns-in-BeginObject-clause-copied : goal.copy_value-returns-in-BeginObject-clause-copied
+copy_value-returns-in-BeginObject-clause-copied t c =
+    let first : c.args.reader.now ≡ token_of c.in_ok-token.token ∷ c.next.new.self = grind arith in
+    let opened = first ∙ ap (λ k. token_of k ∷ c.next.new.self) c.in-BeginObject.is in
+    IfOk-weaker c.copy_object.result _ _ (λ plain done. record {
+      what = done.what;
+      reads = ap (value c.args.depth) opened ∙ done.reads;
+      written = done.written;
+      is_plain = done.is_plain;
+    }) c.copy_object.ensures.copied
+
+pub copy_array-returns-clause-copied : goal.copy_array-returns-clause-copied
+copy_array-returns-clause-copied t c =
+    let opened = value-begin_array c.args.depth c.args.reader.now (omega arith) in
     let put : c.begin_array.new.self.tokens ≡ c.args.out.now.tokens ++ Token.begin_array ∷ [] = search rules in
     IfOk-weaker c.copy_items.result _ _ (λ plain done. record {
       what = Json.array done.what;
@@ -82,12 +101,9 @@ copy_value-returns-in_ok-begin_array-in-BeginArray-clause-copied t c =
       is_plain = λ e. IsPlain-array done.what (done.is_plain e);
     }) c.copy_items.ensures.copied
 
-pub copy_value-returns-in_ok-begin_object-in-BeginObject-clause-copied :
-    goal.copy_value-returns-in_ok-begin_object-in-BeginObject-clause-copied
-copy_value-returns-in_ok-begin_object-in-BeginObject-clause-copied t c =
-    let first : c.args.reader.now ≡ token_of c.in_ok-token.token ∷ c.next.new.self = grind arith in
-    let opened = ap (value c.args.depth) (first ∙ ap (λ k. token_of k ∷ c.next.new.self) c.in-BeginObject.is) ∙
-    value-begin_object c.args.depth c.next.new.self (omega arith) in
+pub copy_object-returns-clause-copied : goal.copy_object-returns-clause-copied
+copy_object-returns-clause-copied t c =
+    let opened = value-begin_object c.args.depth c.args.reader.now (omega arith) in
     let put : c.begin_object.new.self.tokens ≡ c.args.out.now.tokens ++ Token.begin_object ∷ [] = search rules in
     IfOk-weaker c.copy_members.result _ _ (λ plain done. record {
       what = Json.object done.what;

@@ -6,13 +6,19 @@ use Rattle.pull_patch.proofs.Copies.{items_joined, items_front, AllPlain, member
 use Rattle.pull_patch.proofs.plain.copies.+copy.Given as goal
 
 abbrev pub decreases-copy_value : goal.decreases-copy_value
-decreases-copy_value l = 2 * l.depth
+decreases-copy_value l = 3 * l.depth + 1
+
+abbrev pub decreases-copy_array : goal.decreases-copy_array
+decreases-copy_array l = 3 * l.depth
+
+abbrev pub decreases-copy_object : goal.decreases-copy_object
+decreases-copy_object l = 3 * l.depth
 
 abbrev pub decreases-copy_items : goal.decreases-copy_items
-decreases-copy_items l = 2 * l.depth + 1
+decreases-copy_items l = 3 * l.depth + 2
 
 abbrev pub decreases-copy_members : goal.decreases-copy_members
-decreases-copy_members l = 2 * l.depth + 1
+decreases-copy_members l = 3 * l.depth + 2
 
 abbrev pub invariant-copy_items-items : goal.invariant-copy_items-items
 invariant-copy_items-items l =

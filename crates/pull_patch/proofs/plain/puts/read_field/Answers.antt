@@ -1,39 +1,12 @@
 use Rattle.std.proofs.Common.{◌∙◌, sym}
-use Rattle.serde_json.specs.Data.{string}
-use Rattle.std.proofs.lemmas.Result.{on_ok_weaker}
-use Rattle.pull_patch.proofs.Patches.{found_op, found_key, found_value, found_other}
+use Rattle.pull_patch.proofs.Patches.{found_value}
 use Rattle.pull_patch.proofs.plain.puts.read_field.Goals as goal
 
 pub returns-then-eq-clause-read : goal.returns-then-eq-clause-read
-returns-then-eq-clause-read c = record {
-  tree = string c.in_ok-read_text.field-0.now;
-  reads = c.in_ok-read_text.ensures.read 124;
-  found = λ ms h. found_op c.args.found.now c.in_ok-read_text.field-0 c.args.name.now ms
-      (sym c.eq.ensures ∙ c.if-eq.true) h;
-}
-
-pub returns-then-eq-2-clause-read : goal.returns-then-eq-2-clause-read
-returns-then-eq-2-clause-read c = record {
-  tree = string c.in_ok-read_text-2.field-0.now;
-  reads = c.in_ok-read_text-2.ensures.read 124;
-  found = λ ms h. found_key c.args.found.now c.in_ok-read_text-2.field-0 c.args.name.now ms
-      (sym c.eq-2.ensures ∙ c.if-eq-2.true) h;
-}
-
-pub returns-then-eq-3-clause-read : goal.returns-then-eq-3-clause-read
-returns-then-eq-3-clause-read c =
+returns-then-eq-clause-read c =
     let done = c.in_ok-read_json.ensures.read in record {
       tree = done.tree;
       reads = done.reads;
       found = λ ms h. found_value c.args.found.now c.in_ok-read_json.field-0 done.tree c.args.name.now ms
-          (sym c.eq-3.ensures ∙ c.if-eq-3.true) done.whole h;
+          (sym c.eq.ensures ∙ c.if-eq.true) done.whole h;
     }
-
-pub returns-clause-read : goal.returns-clause-read
-returns-clause-read c =
-    on_ok_weaker c.pass_value.result (λ done. record {
-      tree = done.tree;
-      reads = done.reads;
-      found = λ ms h. found_other c.args.found.now done.tree c.args.name.now ms (sym c.eq.ensures ∙ c.if-eq.false)
-          (sym c.eq-2.ensures ∙ c.if-eq-2.false) (sym c.eq-3.ensures ∙ c.if-eq-3.false) h;
-    }) c.pass_value.ensures.read
