@@ -8,6 +8,7 @@ use Rattle.commits.specs.Reach.{Reaches}
 use Rattle.commits.proofs.Chained.{some_version, root_read}
 use Rattle.commits.proofs.Reached.{reaches_stays}
 use Rattle.commits.proofs.Rooted.{root_reached, root_may}
+use Rattle.map_chunks.proofs.KeptLemmas.{grows_on}
 use Rattle.commits.proofs.keeping.base_root.Goals as goal
 
 pub show_root-requires-clause-known : goal.show_root-requires-clause-known
@@ -37,3 +38,11 @@ returns-clause-place g c =
     subst (g.N.Chunks.places c.show_root.new.nodes) (sym k.2)
     (root_may (g.N.Chunks.places c.show_root.new.nodes) (g.N.Chunks.contents c.show_root.new.nodes)
     (stamp_of c.in_ok-snapshot.snapshot) k.0 k.1)
+
+pub returns-clause-grown : goal.returns-clause-grown
+returns-clause-grown g c =
+    grows_on g.N.Chunks.contents g.N.Chunks.places _ _ _ c.snapshot_of.ensures.grown c.show_root.ensures.grown
+
+pub returns-in_err-root-clause-grown : goal.returns-in_err-root-clause-grown
+returns-in_err-root-clause-grown g c =
+    grows_on g.N.Chunks.contents g.N.Chunks.places _ _ _ c.snapshot_of.ensures.grown c.show_root.ensures.grown

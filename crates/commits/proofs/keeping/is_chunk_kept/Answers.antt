@@ -6,6 +6,7 @@ use Rattle.commits.specs.Reach.{Reaches}
 use Rattle.commits.specs.Inside.Meeting.{keys_in, IsFirst, HasKey}
 use Rattle.commits.proofs.Chained.{none_from}
 use Rattle.commits.proofs.Rooted.{map_some_stays, kept_grown, kept_empty, kept_key}
+use Rattle.map_chunks.proofs.KeptLemmas.{grows_on}
 use Rattle.commits.proofs.keeping.is_chunk_kept.Goals as goal
 
 pub returns-in_default-clause-kept : goal.returns-in_default-clause-kept
@@ -48,3 +49,13 @@ returns-clause-kept g c =
 
 pub meets-requires-clause-place : goal.meets-requires-clause-place
 meets-requires-clause-place g c = c.show_first_key.ensures.grown.1 c.args.root c.requires.places.0
+
+pub returns-clause-grown : goal.returns-clause-grown
+returns-clause-grown g c =
+    grows_on g.C.Chunks.contents g.C.Chunks.places _ _ _
+    c.show_first_key.ensures.grown c.meets.ensures.grown
+
+pub returns-in_err-met-clause-grown : goal.returns-in_err-met-clause-grown
+returns-in_err-met-clause-grown g c =
+    grows_on g.C.Chunks.contents g.C.Chunks.places _ _ _
+    c.show_first_key.ensures.grown c.meets.ensures.grown

@@ -61,3 +61,13 @@ returns-clause-met g c =
 
 pub show_child-requires-clause-place : goal.show_child-requires-clause-place
 show_child-requires-clause-place g c = c.loop-chunks.invariant.1
+
+pub returns-in_default-clause-grown : goal.returns-in_default-clause-grown
+returns-in_default-clause-grown g c =
+    grows_on g.C.Chunks.contents g.C.Chunks.places _ _ _
+    c.loop-chunks.invariant.2 c.show_child.ensures.grown
+
+pub returns-in_err-child-clause-grown : goal.returns-in_err-child-clause-grown
+returns-in_err-child-clause-grown g c =
+    grows_on g.C.Chunks.contents g.C.Chunks.places _ _ _
+    c.loop-chunks.invariant.2 c.show_child.ensures.grown

@@ -2,6 +2,7 @@ use Rattle.std.proofs.Common.{subst}
 use Rattle.group_history.specs.Refs.{stamp_of}
 use Rattle.commits.proofs.Chained.{base_whole}
 use Rattle.commits.proofs.Rooted.{root_may, base_named}
+use Rattle.map_chunks.proofs.KeptLemmas.{grows_on}
 use Rattle.commits.proofs.states.base_of.Goals as goal
 
 pub returns-clause-state : goal.returns-clause-state
@@ -17,3 +18,13 @@ returns-clause-place g c =
     subst (g.N.Chunks.places c.show_base.new.nodes) (base_named k.0 c.in_ok-base.base k.2)
     (root_may (g.N.Chunks.places c.show_base.new.nodes) (g.N.Chunks.contents c.show_base.new.nodes)
     (stamp_of c.in_ok-snapshot.snapshot) k.0 k.1)
+
+pub returns-clause-grown : goal.returns-clause-grown
+returns-clause-grown g c =
+    grows_on g.N.Chunks.contents g.N.Chunks.places _ _ _
+    c.snapshot_of.ensures.grown c.show_base.ensures.grown
+
+pub returns-in_err-base-clause-grown : goal.returns-in_err-base-clause-grown
+returns-in_err-base-clause-grown g c =
+    grows_on g.N.Chunks.contents g.N.Chunks.places _ _ _
+    c.snapshot_of.ensures.grown c.show_base.ensures.grown

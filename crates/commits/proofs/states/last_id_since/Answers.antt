@@ -72,3 +72,13 @@ loop-next-preserved g c =
 pub show_own_id-requires-clause-place : goal.show_own_id-requires-clause-place
 show_own_id-requires-clause-place g c = subst
     (IfAt (g.N.Chunks.places c.loop-next.nodes)) c.in-Some.is c.loop-next.invariant.4
+
+pub returns-then-own-gt0-clause-grown : goal.returns-then-own-gt0-clause-grown
+returns-then-own-gt0-clause-grown g c =
+    grows_on g.N.Chunks.contents g.N.Chunks.places _ _ _
+    c.loop-next.invariant.3 c.show_own_id.ensures.grown
+
+pub returns-in_err-own-clause-grown : goal.returns-in_err-own-clause-grown
+returns-in_err-own-clause-grown g c =
+    grows_on g.N.Chunks.contents g.N.Chunks.places _ _ _
+    c.loop-next.invariant.3 c.show_own_id.ensures.grown

@@ -2,6 +2,7 @@ use Rattle.group_history.specs.Refs.{stamp_of}
 use Rattle.group_history.proofs.Lists.{prefix_trans}
 use Rattle.commits.proofs.Spelled.{version-grown}
 use Rattle.commits.proofs.Chained.{version_stays}
+use Rattle.map_chunks.proofs.KeptLemmas.{grows_on}
 use Rattle.commits.proofs.states.state_of.Goals as goal
 
 pub walk-requires-clause-known : goal.walk-requires-clause-known
@@ -52,3 +53,18 @@ walk-requires-clause-place g c = c.closed_of.ensures.grown.1 c.args.head c.requi
 pub base_of-requires-clause-place : goal.base_of-requires-clause-place
 base_of-requires-clause-place g c = c.walk.ensures.grown.1 c.args.head
     (c.closed_of.ensures.grown.1 c.args.head c.requires.place)
+
+pub returns-clause-grown : goal.returns-clause-grown
+returns-clause-grown g c =
+    grows_on g.N.Chunks.contents g.N.Chunks.places _ _ _
+    (grows_on g.N.Chunks.contents g.N.Chunks.places _ _ _ c.closed_of.ensures.grown c.walk.ensures.grown) c.base_of.ensures.grown
+
+pub returns-in_err-pending-clause-grown : goal.returns-in_err-pending-clause-grown
+returns-in_err-pending-clause-grown g c =
+    grows_on g.N.Chunks.contents g.N.Chunks.places _ _ _
+    c.closed_of.ensures.grown c.walk.ensures.grown
+
+pub returns-in_err-cookie-clause-grown : goal.returns-in_err-cookie-clause-grown
+returns-in_err-cookie-clause-grown g c =
+    grows_on g.N.Chunks.contents g.N.Chunks.places _ _ _
+    (grows_on g.N.Chunks.contents g.N.Chunks.places _ _ _ c.closed_of.ensures.grown c.walk.ensures.grown) c.base_of.ensures.grown

@@ -49,3 +49,18 @@ returns-clause-pending g c v h =
 
 pub show_link-requires-clause-place : goal.show_link-requires-clause-place
 show_link-requires-clause-place g c = c.loop-pending.invariant.1
+
+pub returns-clause-grown : goal.returns-clause-grown
+returns-clause-grown g c =
+    grows_on g.N.Chunks.contents g.N.Chunks.places _ _ _
+    c.loop-pending.invariant.2 c.show_link.ensures.grown
+
+pub returns-in_err-link-clause-grown : goal.returns-in_err-link-clause-grown
+returns-in_err-link-clause-grown g c =
+    grows_on g.N.Chunks.contents g.N.Chunks.places _ _ _
+    c.loop-pending.invariant.2 c.show_link.ensures.grown
+
+pub returns-in_err-add-clause-grown : goal.returns-in_err-add-clause-grown
+returns-in_err-add-clause-grown g c =
+    grows_on g.N.Chunks.contents g.N.Chunks.places _ _ _
+    c.loop-pending.invariant.2 c.show_link.ensures.grown
