@@ -14,6 +14,8 @@ pub mod SearchLemmas
 pub mod SecondLemmas
 pub mod SeekLemmas
 pub mod Shelves
+pub mod SpanLemmas
+pub mod TakenLemmas
 pub mod Texts
 pub mod TreeLemmas
 pub mod DraftLemmas

@@ -1,11 +1,9 @@
 -- A scan of rows that stand one part after another.
 use Rattle.std.proofs.Common.{◌≡◌, ◌<◌, ◌≤◌, ◌+◌, ℕ, zero, suc, Bool, true, false, cond, not, ◌&&◌, ◌||◌, nat_eq}
-use Rattle.std.proofs.Common.{nat_le, T, List, [], ◌∷◌, ◌++◌, Option, Some, None, length, max, take, get_or, slice_get}
+use Rattle.std.proofs.Common.{T, List, [], ◌∷◌, ◌++◌, Option, Some, None, length, max, take, get_or, slice_get}
 use Rattle.std.proofs.Common.{refl, sym, ap, ◌∙◌, subst, arith, append_assoc, filter, Ordering, Less, Equal, Greater}
 use Rattle.std.proofs.Common.{is_gt}
-use Rattle.std.proofs.lemmas.Bool.Decides.{nat_tests}
-use Rattle.std.proofs.lemmas.List.{append-nil, take-append-le}
-use Rattle.std.proofs.lemmas.List.Elements.{filter-append}
+use Rattle.std.proofs.lemmas.List.{append-nil}
 use Rattle.std.proofs.Math.Seq.{take-length}
 use Rattle.std.specs.List.{starts_with}
 use Rattle.std.specs.Ordering.{is_ge}
@@ -27,7 +25,7 @@ use Rattle.std.specs.Prelude.{option_map, option_and_then}
 use mathlib.Core.List.{IsPrefix}
 use Rattle.map_chunks.specs.Search.{is_above, IsPlace}
 use Rattle.map_chunks.specs.Shown.{rows_or, chunk_rows, IsTree, map_of_rows}
-use Rattle.map_chunks.specs.Scanning.{scanned, with_scanned, IsWithin, IsLow, is_past, is_full, is_over}
+use Rattle.map_chunks.specs.Scanning.{scanned, taken, Took, IsLow, is_past, is_full, is_over}
 use Rattle.map_chunks.specs.Inside.Scanning.{opened_rows, greater}
 use Rattle.map_chunks.proofs.RowLemmas.{cmp, AllBelow, AllAbove, IsStrict, IsStrict-back, IsStrict-front, strict}
 use Rattle.map_chunks.proofs.RowLemmas.{rises_strict}
@@ -38,47 +36,7 @@ use Rattle.map_chunks.proofs.TreeLemmas.{map_is}
 use Rattle.map_chunks.proofs.PrefixLemmas.{past_prefix, below_prefix}
 use Rattle.map_chunks.proofs.Texts.{and-first, and-second}
 use Rattle.map_chunks.proofs.ListLemmas.{length-paired}
-
--- LIMITS
-
-take-twice : {A : Type 0} (n : ℕ) (xs ys : List A) → take n (take n xs ++ ys) ≡ take n (xs ++ ys)
-take-twice zero xs ys = refl
-take-twice (suc n) [] ys = refl
-take-twice (suc n) (x ∷ xs) ys = ap (λ w. x ∷ w) (take-twice n xs ys)
-
-pub limited-twice : {A : Type 0} (l : Option ℕ) (xs ys : List A) → limited l (limited l xs ++ ys) ≡ limited l (xs ++ ys)
-limited-twice None xs ys = refl
-limited-twice (Some n) xs ys = take-twice n xs ys
-
-pub limited-within : {A : Type 0} (l : Option ℕ) (xs : List A) → limited l (limited l xs) ≡ limited l xs
-limited-within l xs = ap (limited l) (sym (append-nil (limited l xs))) ∙ limited-twice l xs [] ∙ ap
-    (limited l) (append-nil xs)
-
--- what is full takes nothing more
-limited-full : {A : Type 0} (l : Option ℕ) (xs ys : List A) → is_full l (length xs) ≡ true → limited l xs ≡ xs
-    → limited l (xs ++ ys) ≡ xs
-limited-full None xs ys f e = absurd cc
-limited-full (Some n) xs ys f e = take-append-le n xs ys
-    (let g : nat_le n (length xs) ≡ true = f in grind (arith, nat_tests)) ∙ e
-
-take-short : {A : Type 0} (n : ℕ) (ys : List A) → length ys ≤ n → take n ys ≡ ys
-take-short zero [] h = refl
-take-short zero (y ∷ ys) h = absurd (omega arith)
-take-short (suc n) [] h = refl
-take-short (suc n) (y ∷ ys) h = ap (λ w. y ∷ w) (take-short n ys (omega arith))
-
-take-room : {A : Type 0} (n : ℕ) (xs ys : List A) → length (take n xs) < n → length ys ≤ 1
-    → take n (xs ++ ys) ≡ take n xs ++ ys
-take-room zero xs ys h l = absurd (omega arith)
-take-room (suc n) [] ys h l = take-short (suc n) ys (omega arith)
-take-room (suc n) (x ∷ xs) ys h l = ap (λ w. x ∷ w) (take-room n xs ys (omega arith) l)
-
--- what isn't full takes one more
-limited-room : {A : Type 0} (l : Option ℕ) (xs ys : List A) → is_full l (length (limited l xs)) ≡ false → length ys ≤ 1
-    → limited l (xs ++ ys) ≡ limited l xs ++ ys
-limited-room None xs ys f l = refl
-limited-room (Some n) xs ys f l = take-room n xs ys
-    (let g : nat_le n (length (take n xs)) ≡ false = f in grind (arith, nat_tests)) l
+use Rattle.map_chunks.proofs.TakenLemmas.{limited-nil, limited-full, took_none, took_part}
 
 -- KEYS THAT ARE IN A SCAN
 
@@ -250,78 +208,40 @@ none_before g es i rs scan low h o z p l =
 -- THE TURNS OF A LOOP
 
 -- at the start nothing is taken
-pub begun : {A : Type 0} (g : Bytes × A → Option Rows) (es : List (Bytes × A)) (i : ℕ) (rs : Rows) (scan : Scan)
-    (low : Bytes) (out : Rows) → joined_rows (shows_of g es) ≡ Some rs → IsStrict rs
-    → IsLow scan low → IsPlace low (keys_of es) i → i < length es → IsWithin scan out
-    → out ≡ with_scanned scan out (first_rows g es i)
-begun g es i rs scan low out h o z p l w =
-    sym (ap (λ t. limited scan.limit (out ++ t)) (none_before g es i rs scan low h o z p l) ∙ ap (limited scan.limit)
-    (append-nil out) ∙ w)
+begun : {A : Type 0} (g : Bytes × A → Option Rows) (es : List (Bytes × A)) (i : ℕ) (rs : Rows) (scan : Scan)
+    (low : Bytes) (room : Option ℕ) → joined_rows (shows_of g es) ≡ Some rs → IsStrict rs
+    → IsLow scan low → IsPlace low (keys_of es) i → i < length es → taken scan room (first_rows g es i) ≡ []
+begun g es i rs scan low room h o z p l =
+    ap (limited room) (none_before g es i rs scan low h o z p l) ∙ limited-nil room
 
-pub within : (scan : Scan) (out before rows : Rows) → out ≡ with_scanned scan before rows → IsWithin scan out
-within scan out before rows e = ap (limited scan.limit) e ∙ limited-within scan.limit
-    (before ++ scanned scan rows) ∙ sym e
-
-scanned-more : (scan : Scan) (before a b : Rows)
-    → (before ++ scanned scan a) ++ scanned scan b ≡ before ++ scanned scan (a ++ b)
-scanned-more scan before a b = append_assoc before (scanned scan a) (scanned scan b) ∙ ap (λ w. before ++ w)
-    (sym (filter-append (λ e. is_in scan e.0) a b))
-
--- a part behind a part
-pub joined_scan : (scan : Scan) (before a b out new : Rows) → out ≡ with_scanned scan before a
-    → new ≡ with_scanned scan out b → new ≡ with_scanned scan before (a ++ b)
-joined_scan scan before a b out new e f =
-    f ∙ ap (λ w. limited scan.limit (w ++ scanned scan b)) e ∙ limited-twice scan.limit (before ++ scanned scan a)
-    (scanned scan b) ∙ ap (limited scan.limit) (scanned-more scan before a b)
+-- what follows is not in the scan, or there is no room for it
+over_none : (scan : Scan) (room : Option ℕ) (b : Rows) (k : Bytes) → is_over scan room k ≡ true
+    → begins_with k b ≡ true → IsStrict b → taken scan room b ≡ []
+over_none scan room b k v s o = by (is_full room) refl v
+  where
+    by : (u : Bool) → is_full room ≡ u → (u || is_past scan k) ≡ true → taken scan room b ≡ []
+    by true f v = limited-full room (scanned scan b) f
+    by false f v = ap (limited room) (none_past scan k b v s o) ∙ limited-nil room
 
 or-first : (a b : Bool) → (a || b) ≡ false → a ≡ false
 or-first true b h = absurd cc
 or-first false b h = refl
 
-one_row : (scan : Scan) (r : Bytes × Bytes) → length (scanned scan (r ∷ [])) ≤ 1
-one_row scan r = by (is_in scan r.0)
-  where
-    by : (u : Bool) → length (cond u (r ∷ []) []) ≤ 1
-    by true = omega arith
-    by false = omega arith
-
--- a row behind a part, where there is room
-pub joined_row : (scan : Scan) (before a : Rows) (r : Bytes × Bytes) (out new : Rows) (k : Bytes)
-    → out ≡ with_scanned scan before a → is_over scan (length out) k ≡ false
-    → new ≡ out ++ scanned scan (r ∷ []) → new ≡ with_scanned scan before (a ++ r ∷ [])
-joined_row scan before a r out new k e v f =
-    let room : is_full scan.limit (length (limited scan.limit (before ++ scanned scan a)))
-    ≡ false = subst (λ w. is_full scan.limit (length w) ≡ false) e (or-first _ _ v) in
-    f ∙ ap (λ w. w ++ scanned scan (r ∷ [])) e ∙ sym
-    (limited-room scan.limit (before ++ scanned scan a) (scanned scan (r ∷ [])) room (one_row scan r))
-    ∙ ap (limited scan.limit) (scanned-more scan before a (r ∷ []))
-
--- what follows is not in the scan, or past its limit
-pub ended : (scan : Scan) (before a b out : Rows) (k : Bytes) → out ≡ with_scanned scan before a
-    → is_over scan (length out) k ≡ true → begins_with k b ≡ true → IsStrict b
-    → out ≡ with_scanned scan before (a ++ b)
-ended scan before a b out k e v s o = by (is_full scan.limit (length out)) refl v
-  where
-    by : (u : Bool) → is_full scan.limit (length out) ≡ u → (u || is_past scan k) ≡ true
-        → out ≡ with_scanned scan before (a ++ b)
-    by true f v =
-        sym (limited-full scan.limit out (scanned scan b) f (within scan out before a e)) ∙ ap
-        (λ w. limited scan.limit (w ++ scanned scan b)) e
-        ∙ limited-twice scan.limit (before ++ scanned scan a) (scanned scan b) ∙ ap (limited scan.limit)
-        (scanned-more scan before a b)
-    by false f v =
-        e ∙ ap (limited scan.limit) (sym (append-nil (before ++ scanned scan a)) ∙ ap
-        (λ w. (before ++ scanned scan a) ++ w) (sym (none_past scan k b v s o)) ∙ scanned-more scan before a b)
+-- where the scan isn't over there is room
+pub room_for : (scan : Scan) (room : Option ℕ) (k : Bytes) → is_over scan room k ≡ false → is_full room ≡ false
+room_for scan room k v = or-first (is_full room) (is_past scan k) v
 
 -- the rest of a turn at which the scan is over
-pub turn_over : {A : Type 0} (g : Bytes × A → Option Rows) (es : List (Bytes × A)) (i : ℕ) (rs : Rows) (scan : Scan)
-    (before out : Rows) (k : Bytes) → (t : Turn g es i rs)
-    → k ≡ t.entry.0 → out ≡ with_scanned scan before (first_rows g es i) → is_over scan (length out) k ≡ true
-    → out ≡ with_scanned scan before rs
-turn_over g es i rs scan before out k t q e v =
-    ended scan before (first_rows g es i) (t.here ++ t.back) out k e v
-    (subst (λ w. begins_with w (t.here ++ t.back) ≡ true) (sym q) (longer t.entry.0 t.here t.back t.starts)) t.strict
-    ∙ ap (with_scanned scan before) (sym t.whole)
+turn_over : {A : Type 0} (g : Bytes × A → Option Rows) (es : List (Bytes × A)) (i : ℕ) (rs : Rows) (scan : Scan)
+    {S : Type 0} (has : S → Rows → Type 0) (old new : S) (room after : Option ℕ) (k : Bytes) → (t : Turn g es i rs)
+    → k ≡ t.entry.0 → Took has old new room after (taken scan room (first_rows g es i)) → is_over scan after k ≡ true
+    → Took has old new room after (taken scan room rs)
+turn_over g es i rs scan has old new room after k t q e v =
+    subst (λ w. Took has old new room after (taken scan room w)) (sym t.whole)
+    (took_part has old new new scan room after after (first_rows g es i) (t.here ++ t.back) e
+    (took_none has new after (taken scan after (t.here ++ t.back))
+    (over_none scan after (t.here ++ t.back) k v
+    (subst (λ w. begins_with w (t.here ++ t.back) ≡ true) (sym q) (longer t.entry.0 t.here t.back t.starts)) t.strict)))
   where
     longer : (k : Bytes) (a b : Rows) → begins_with k a ≡ true → begins_with k (a ++ b) ≡ true
     longer k [] b h = absurd cc
@@ -357,12 +277,13 @@ key_of-pair (j ∷ ks) (y ∷ xs) (suc i) k e h p s = key_of-pair ks xs i k e (o
 -- THE TURNS, WITH KEYS AND ENTRIES APART
 
 pub pairs_begun : {A : Type 0} (g : Bytes × A → Option Rows) (ks : List Bytes) (xs : List A) (i : ℕ) (rs : Rows)
-    (scan : Scan) (low : Bytes) (out : Rows) → length xs ≡ length ks
-    → joined_rows (shows_of g (paired ks xs)) ≡ Some rs → IsStrict rs → IsLow scan low → IsPlace low ks i
-    → IsWithin scan out → out ≡ with_scanned scan out (first_rows g (paired ks xs) i)
-pairs_begun g ks xs i rs scan low out l h o z p w =
-    begun g (paired ks xs) i rs scan low out h o z (subst (λ w. IsPlace low w i) (sym (keys_of-paired ks xs l)) p)
-    (omega (arith, p.0, length-paired ks xs l)) w
+    (scan : Scan) (low : Bytes) {S : Type 0} (has : S → Rows → Type 0) (s : S) (room : Option ℕ)
+    → length xs ≡ length ks → joined_rows (shows_of g (paired ks xs)) ≡ Some rs → IsStrict rs → IsLow scan low
+    → IsPlace low ks i → Took has s s room room (taken scan room (first_rows g (paired ks xs) i))
+pairs_begun g ks xs i rs scan low has s room l h o z p =
+    took_none has s room (taken scan room (first_rows g (paired ks xs) i))
+    (begun g (paired ks xs) i rs scan low room h o z (subst (λ w. IsPlace low w i) (sym (keys_of-paired ks xs l)) p)
+    (omega (arith, p.0, length-paired ks xs l)))
 
 pub pairs_turn : {A : Type 0} (g : Bytes × A → Option Rows) (ks : List Bytes) (xs : List A) (i : ℕ) (rs : Rows)
     → length xs ≡ length ks
@@ -370,52 +291,69 @@ pub pairs_turn : {A : Type 0} (g : Bytes × A → Option Rows) (ks : List Bytes)
 pairs_turn g ks xs i rs l h o b = turn g (paired ks xs) i rs h o (omega (arith, length-paired ks xs l))
 
 pub pairs_over : {A : Type 0} (g : Bytes × A → Option Rows) (ks : List Bytes) (xs : List A) (i : ℕ) (rs : Rows)
-    (scan : Scan) (before out : Rows) (k : Bytes) → length xs ≡ length ks
-    → joined_rows (shows_of g (paired ks xs)) ≡ Some rs → IsStrict rs → i < length ks → k ≡ get_or ks i k
-    → out ≡ with_scanned scan before (first_rows g (paired ks xs) i)
-    → is_over scan (length out) k ≡ true → out ≡ with_scanned scan before rs
-pairs_over g ks xs i rs scan before out k l h o b q e v =
+    (scan : Scan) {S : Type 0} (has : S → Rows → Type 0) (old new : S) (room after : Option ℕ) (k : Bytes)
+    → length xs ≡ length ks → joined_rows (shows_of g (paired ks xs)) ≡ Some rs → IsStrict rs → i < length ks
+    → k ≡ get_or ks i k → Took has old new room after (taken scan room (first_rows g (paired ks xs) i))
+    → is_over scan after k ≡ true → Took has old new room after (taken scan room rs)
+pairs_over g ks xs i rs scan has old new room after k l h o b q e v =
     let t = pairs_turn g ks xs i rs l h o b in
-    turn_over g (paired ks xs) i rs scan before out k t (key_of-pair ks xs i k t.entry b q t.at) e v
+    turn_over g (paired ks xs) i rs scan has old new room after k t (key_of-pair ks xs i k t.entry b q t.at) e v
 
 pub pairs_all : {A : Type 0} (g : Bytes × A → Option Rows) (ks : List Bytes) (xs : List A) (i : ℕ) (rs : Rows)
-    (scan : Scan) (before out : Rows) → length xs ≡ length ks
-    → joined_rows (shows_of g (paired ks xs)) ≡ Some rs → i ≡ length ks
-    → out ≡ with_scanned scan before (first_rows g (paired ks xs) i) → out ≡ with_scanned scan before rs
-pairs_all g ks xs i rs scan before out l h e q = q ∙ ap (with_scanned scan before)
-    (first_all g (paired ks xs) i rs h (omega (arith, e, length-paired ks xs l)))
+    → length xs ≡ length ks → joined_rows (shows_of g (paired ks xs)) ≡ Some rs → i ≡ length ks
+    → first_rows g (paired ks xs) i ≡ rs
+pairs_all g ks xs i rs l h e = first_all g (paired ks xs) i rs h (omega (arith, e, length-paired ks xs l))
 
 one_more : {A : Type 0} (g : Bytes × A → Option Rows) (es : List (Bytes × A)) (i : ℕ) (rs : Rows) → (t : Turn g es i rs)
     → first_rows g es (i + 1) ≡ first_rows g es i ++ t.here
 one_more g es i rs t = (let n : i + 1 ≡ suc i = omega arith in ap (first_rows g es) n) ∙ t.more
 
+-- the rows of a child more
+pub pairs_child : {A : Type 0} (g : Bytes × A → Option Rows) (ks : List Bytes) (xs : List A) (i : ℕ) (rs : Rows)
+    (scan : Scan) {S : Type 0} (has : S → Rows → Type 0) (old mid new : S) (room between after : Option ℕ)
+    → (t : Turn g (paired ks xs) i rs)
+    → Took has old mid room between (taken scan room (first_rows g (paired ks xs) i))
+    → Took has mid new between after (taken scan between t.here)
+    → Took has old new room after (taken scan room (first_rows g (paired ks xs) (i + 1)))
+pairs_child g ks xs i rs scan has old mid new room between after t p q =
+    subst (λ w. Took has old new room after (taken scan room w)) (sym (one_more g (paired ks xs) i rs t))
+    (took_part has old mid new scan room between after (first_rows g (paired ks xs) i) t.here p q)
+
 -- a row more
-pub pairs_row : (ks vs : List Bytes) (i : ℕ) (scan : Scan) (before out new : Rows) (j k v : Bytes)
-    → length vs ≡ length ks → IsStrict (paired ks vs) → i < length ks
-    → k ≡ get_or ks i k → v ≡ get_or vs i v → out ≡ with_scanned scan before (first_rows alone (paired ks vs) i)
-    → is_over scan (length out) j ≡ false
-    → new ≡ out ++ scanned scan ((k, v) ∷ []) → new ≡ with_scanned scan before (first_rows alone (paired ks vs) (i + 1))
-pairs_row ks vs i scan before out new j k v l o b p q e u f =
+pub pairs_row : (ks vs : List Bytes) (i : ℕ) (scan : Scan) {S : Type 0} (has : S → Rows → Type 0) (old mid new : S)
+    (room between after : Option ℕ) (k v : Bytes) → length vs ≡ length ks → IsStrict (paired ks vs) → i < length ks
+    → k ≡ get_or ks i k → v ≡ get_or vs i v
+    → Took has old mid room between (taken scan room (first_rows alone (paired ks vs) i))
+    → Took has mid new between after (taken scan between ((k, v) ∷ []))
+    → Took has old new room after (taken scan room (first_rows alone (paired ks vs) (i + 1)))
+pairs_row ks vs i scan has old mid new room between after k v l o b p q e f =
     let rows = paired ks vs in
     let t = pairs_turn alone ks vs i rows l (alone-rows rows) o b in
     let same = paired-at ks vs i k v t.entry l b p q t.at in
     let here : (k, v) ∷ [] ≡ t.here = ap (λ w. w ∷ []) same ∙ some_is t.here_is in
-    joined_row scan before (first_rows alone rows i) (k, v) out new j e u f
-    ∙ ap (λ w. with_scanned scan before (first_rows alone rows i ++ w)) here ∙ ap (with_scanned scan before)
-    (sym (one_more alone rows i rows t))
-
--- the rows of a child more
-pub pairs_child : {A : Type 0} (g : Bytes × A → Option Rows) (ks : List Bytes) (xs : List A) (i : ℕ) (rs : Rows)
-    (scan : Scan) (before out new : Rows) → (t : Turn g (paired ks xs) i rs)
-    → out ≡ with_scanned scan before (first_rows g (paired ks xs) i) → new ≡ with_scanned scan out t.here
-    → new ≡ with_scanned scan before (first_rows g (paired ks xs) (i + 1))
-pairs_child g ks xs i rs scan before out new t e f =
-    joined_scan scan before (first_rows g (paired ks xs) i) t.here out new e f ∙ ap (with_scanned scan before)
-    (sym (one_more g (paired ks xs) i rs t))
+    pairs_child alone ks vs i rows scan has old mid new room between after t e
+    (subst (λ w. Took has mid new between after (taken scan between w)) here f)
 
 pub pairs_order : (ks vs : List Bytes) → length vs ≡ length ks → T (rises ks) → IsStrict (paired ks vs)
 pairs_order ks vs l o = strict (paired ks vs)
     (rises_strict (paired ks vs) (subst (λ w. T (rises w)) (sym (keys_of-paired ks vs l)) o))
+
+-- the rows before a place
+alone_first : (rows : Rows) (i : ℕ) → first_rows alone rows i ≡ take i rows
+alone_first rows i = ap rows_or (alone-rows (take i rows))
+
+pub rows_begun : (rows : Rows) (i : ℕ) (scan : Scan) {S : Type 0} (has : S → Rows → Type 0) (s : S) (room : Option ℕ)
+    → scanned scan (take i rows) ≡ [] → Took has s s room room (taken scan room (first_rows alone rows i))
+rows_begun rows i scan has s room n = took_none has s room (taken scan room (first_rows alone rows i))
+    (ap (taken scan room) (alone_first rows i) ∙ ap (limited room) n ∙ limited-nil room)
+
+-- before the place to which the lowest key belongs no row is in the scan
+pub rows_before : (ks vs : List Bytes) (i : ℕ) (scan : Scan) (low : Bytes) → length vs ≡ length ks → T (rises ks)
+    → IsLow scan low → IsPlace low ks i → scanned scan (take i (paired ks vs)) ≡ []
+rows_before ks vs i scan low l o z p =
+    ap (scanned scan) (sym (alone_first (paired ks vs) i))
+    ∙ none_before alone (paired ks vs) i (paired ks vs) scan low (alone-rows (paired ks vs)) (pairs_order ks vs l o) z
+    (subst (λ w. IsPlace low w i) (sym (keys_of-paired ks vs l)) p) (omega (arith, p.0, length-paired ks vs l))
 
 -- CHILDREN SHOWN ANOTHER WAY
 
@@ -523,10 +461,9 @@ got_any (x ∷ xs) (suc i) d e l = got_any xs i d e (omega arith)
 
 -- A WHOLE MAP
 
--- a scan of a map's rows, where nothing was there
-pub scan_of-map : (x : Option Rows) (m : Entries) (scan : Scan) (out : Rows) → option_and_then map_of_rows x ≡ Some m
-    → out ≡ [] → with_scanned scan out (rows_or x) ≡ rows_of scan m
-scan_of-map x m scan out h e =
+-- a scan of a map's rows
+pub scan_of-map : (x : Option Rows) (m : Entries) (scan : Scan) → option_and_then map_of_rows x ≡ Some m
+    → taken scan scan.limit (rows_or x) ≡ rows_of scan m
+scan_of-map x m scan h =
     let f = map_is x m h in
-    ap (λ w. with_scanned scan w (rows_or x)) e ∙ ap
-    (λ w. limited scan.limit (filter (λ e. is_in scan e.0) w)) (sym f.rows)
+    ap (λ w. limited scan.limit (filter (λ e. is_in scan e.0) w)) (sym f.rows)

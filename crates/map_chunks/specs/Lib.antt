@@ -10,12 +10,13 @@ pub mod KeysSeen
 pub mod Keys
 pub mod Search
 pub mod Inserting
--- Reading below a placed chunk: how a key's value stands to another one, what a chunk ends in, its second key, and a
--- scan.
+-- Reading below a placed chunk: how a key's value stands to another one, what a chunk ends in, its second key, what
+-- takes the rows of a scan, and a scan.
 pub mod Writes
 pub mod Seeking
 pub mod Ends
 pub mod SecondKeys
+pub mod Sinks
 pub mod Scanning
 -- Words that only private clauses use.
 pub mod Inside

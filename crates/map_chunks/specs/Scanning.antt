@@ -1,5 +1,5 @@
 -- A scan of rows that stand one part after another.
-use Rattle.std.specs.Prelude.{◌≡◌, ℕ, Bool, false, not, nat_eq, nat_le, ◌++◌, ◌&&◌, ◌||◌, filter, Option, Some, None}
+use Rattle.std.specs.Prelude.{◌≡◌, ◌-◌, ℕ, Bool, false, not, nat_eq, ◌&&◌, ◌||◌, length, filter, Option, Some, None}
 use Rattle.std.specs.List.{starts_with}
 use Rattle.std.specs.Ordering.{nat_cmp}
 use Rattle.std.specs.Cmp.Lexicographic.{slice_cmp}
@@ -9,18 +9,26 @@ use Rattle.group_history.specs.Map.{Bytes}
 use Rattle.group_history.specs.Rows.{Rows}
 use Rattle.group_history.specs.Scans.{is_in, limited}
 use Rattle.map_chunks.specs.Search.{is_above}
+use Rattle.map_chunks.specs.Sinks.{HasMore}
 
 -- the rows that the scan has, before its limit is looked at
 abbrev pub scanned : Scan → Rows → Rows
 scanned scan rows = filter (λ e. is_in scan e.0) rows
 
--- what is there already, and behind it what the scan has of the rows, up to its limit
-abbrev pub with_scanned : Scan → Rows → Rows → Rows
-with_scanned scan before rows = limited scan.limit (before ++ scanned scan rows)
+-- of the rows that the scan has, as many as there is room for
+abbrev pub taken : Scan → Option ℕ → Rows → Rows
+taken scan room rows = limited room (scanned scan rows)
 
--- no more than the limit
-abbrev pub IsWithin : Scan → Rows → Type 0
-IsWithin scan rows = limited scan.limit rows ≡ rows
+-- the room that is left where so many rows were taken
+abbrev pub left : Option ℕ → ℕ → Option ℕ
+left None n = None
+left (Some room) n = Some (room - n)
+
+-- the sink has these rows more, and there is room for as many fewer
+pub record Took {S : Type 0} (has : S → Rows → Type 0) (old new : S) (before after : Option ℕ)
+    (more : Rows) : Type 0 where
+  pub rows : HasMore has old new more
+  pub room : after ≡ left before (length more)
 
 -- no key below this one is in the scan
 abbrev pub IsLow : Scan → Bytes → Type 0
@@ -30,11 +38,11 @@ IsLow scan low = (k : Bytes) → slice_cmp nat_cmp k low ≡ Less → is_in scan
 abbrev pub is_past : Scan → Bytes → Bool
 is_past scan key = is_above key scan.prefix && not (starts_with nat_eq key scan.prefix)
 
--- so many are as many as the limit allows
-abbrev pub is_full : Option ℕ → ℕ → Bool
-is_full None taken = false
-is_full (Some limit) taken = nat_le limit taken
+-- there is room for none
+abbrev pub is_full : Option ℕ → Bool
+is_full None = false
+is_full (Some room) = nat_eq room 0
 
--- nothing from this key on is taken, where so many are there already
-abbrev pub is_over : Scan → ℕ → Bytes → Bool
-is_over scan taken key = is_full scan.limit taken || is_past scan key
+-- nothing from this key on is taken, where there is so much room
+abbrev pub is_over : Scan → Option ℕ → Bytes → Bool
+is_over scan room key = is_full room || is_past scan key

@@ -4,7 +4,8 @@
 //! before it. It never changes once it is placed. `Chunks` shows placed chunks by stamp; `VecChunks` keeps
 //! them in a vector, behind which a `Draft` has the nodes that are placed next. The modules below go down
 //! from a placed chunk: `placed` to a key's value, `seeking` to how that value stands to another one,
-//! `scanning` along the leaves, `seconds` to the second key, and `ends` past chunks with one child.
+//! `scanning` along the leaves, whose rows go into what `sinks` is about, `seconds` to the second key, and
+//! `ends` past chunks with one child.
 //! `keys`, `entries` and `search` are what a changed chunk's keys need, whoever owns the chunk.
 #![tactic(auto)]
 
@@ -20,7 +21,9 @@ pub mod search;
 pub mod seconds;
 pub mod seeking;
 mod shelf;
+mod sinks;
 
 pub use chunks::{Chunks, ShowsChunk};
 pub use drafts::Draft;
 pub use shelf::{Lent, Shelf, VecChunks};
+pub use sinks::TakesRows;

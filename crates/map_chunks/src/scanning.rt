@@ -2,21 +2,25 @@
 //!
 //! A scan goes down once to the lowest key that it may have, and from there along the leaves. It ends at
 //! its limit, or at a key behind which none begins with the prefix. A chunk is shown while the chunks
-//! below it are scanned, so at most as many are shown at a time as the map is deep.
-ghost use Rattle.std.specs.Prelude.{◌≡◌, ◌⊎◌, length, T, ◌∷◌, [], ◌++◌, IfErr, OnOk};
+//! below it are scanned, so at most as many are shown at a time as the map is deep. Each row goes to a
+//! sink by reference. The keys that are in a scan stand together: so where the first and the last key of a
+//! leaf are in it, no other of its keys is looked at.
+ghost use Rattle.std.specs.Prelude.{◌≡◌, ◌⊎◌, ◌<◌, ◌≤◌, length, T, true, false, take, drop, ◌∷◌, [], IfErr, IfOk};
 ghost use Rattle.group_history.specs.Naming.{chunk_children};
 ghost use Rattle.group_history.specs.Refs.{stamp_of};
-ghost use Rattle.group_history.specs.Rows.{rises, paired};
+ghost use Rattle.group_history.specs.Rows.{Rows, rises, paired};
+ghost use Rattle.group_history.specs.Scans.{limited};
 ghost use Rattle.group_history.specs.declared.mutators.Stop.TheVariants.{NoMemory};
 ghost use Rattle.map_chunks.specs.Places.{Grows, AreAll};
 ghost use Rattle.map_chunks.specs.Shown.{chunk_rows, IsTree, rows_or};
 ghost use Rattle.map_chunks.specs.Scanning as scans;
-ghost use Rattle.map_chunks.specs.Scanning.{with_scanned, scanned, IsWithin, IsLow};
+ghost use Rattle.map_chunks.specs.Scanning.{scanned, taken, left, Took, IsLow};
 ghost use Rattle.map_chunks.specs.Inside.Scanning as inside;
-ghost use Rattle.map_chunks.specs.Inside.Scanning.{children_rows, opened_rows};
+ghost use Rattle.map_chunks.specs.Inside.Scanning.{children_rows, opened_rows, CanTake, AreIn};
 
 use crate::chunks::{Chunks, ShowsChunk};
 use crate::search::place_of;
+use crate::sinks::TakesRows;
 use group_history::{Chunk, Json, Ref, Scan, Start, Stop, Text};
 use std::alloc::AllocError;
 
@@ -37,19 +41,19 @@ fn greater<'a>(x: &'a Text, y: &'a Text) -> &'a Text
     if x.cmp(y).is_gt() { x } else { y }
 }
 
-/// Whether nothing from this key on is taken, where so many are there already.
-pub fn is_over(scan: &Scan, taken: usize, key: &Text) -> bool
-    ensures { result ≡ scans.is_over scan.now taken key.now }
+/// Whether nothing from this key on is taken, where there is so much room.
+pub fn is_over(scan: &Scan, room: Option<u64>, key: &Text) -> bool
+    ensures { result ≡ scans.is_over scan.now room key.now }
 {
-    is_full(scan.limit, taken) || is_past(scan, key)
+    is_full(room) || is_past(scan, key)
 }
 
-fn is_full(limit: Option<u64>, taken: usize) -> bool
-    ensures { result ≡ scans.is_full limit taken }
+fn is_full(room: Option<u64>) -> bool
+    ensures { result ≡ scans.is_full room }
 {
-    match limit {
+    match room {
         None => false,
-        Some(limit) => limit <= taken as u64,
+        Some(room) => room == 0,
     }
 }
 
@@ -61,133 +65,215 @@ fn is_past(scan: &Scan, key: &Text) -> bool
     !key.as_bytes().starts_with(prefix.as_bytes()) && key.cmp(prefix).is_gt()
 }
 
+// The room that is left where so many rows were taken.
+fn lessened(room: Option<u64>, taken: usize) -> Option<u64>
+    requires { CanTake room taken }
+    ensures { result ≡ left room taken }
+{
+    match room {
+        None => None,
+        Some(room) => Some(room - taken as u64),
+    }
+}
+
+// How many of so many rows there is room for.
+fn fitting(room: Option<u64>, rows: usize) -> usize
+    ensures few { result ≤ rows }
+    ensures room { CanTake room result }
+    ensures all { (xs : Rows) → length xs ≡ rows → limited room xs ≡ take result xs }
+{
+    match room {
+        None => rows,
+        Some(room) => {
+            if room < rows as u64 {
+                return room as usize;
+            }
+            return rows;
+        }
+    }
+}
+
 // Takes the row, if its key is in the scan.
-fn take_row(
+fn take_row<S: TakesRows>(
     scan: &Scan,
     key: &Text,
     value: &Json,
-    out: &mut Vec<(Text, Json)>,
-) -> Result<(), AllocError>
-    ensures { OnOk result (out.new.items ≡ out.old.items ++ scanned scan.now ((key.now, value.now) ∷ [])) }
+    room: Option<u64>,
+    sink: &mut S,
+) -> Result<Option<u64>, AllocError>
+    requires { scans.is_full room ≡ false }
+    ensures { IfOk result (λ after. Took S.has sink.old sink.new room after
+        (taken scan.now room ((key.now, value.now) ∷ []))) }
 {
     if !scan.has(key) {
-        return Ok(());
+        return Ok(room);
     }
-    let key = key.clone()?;
-    let value = value.clone()?;
-    out.push((key, value))?;
-    Ok(())
+    sink.take(key, value)?;
+    Ok(lessened(room, 1))
 }
 
-/// Appends the scan's rows of a leaf, from the key `low` on, and ends at the limit of all that is there.
-pub fn scan_rows(
+// Takes the scan's rows of a leaf from a place on, each by its key.
+fn take_rows<S: TakesRows>(
+    keys: &[Text],
+    values: &[Json],
+    first: usize,
+    scan: &Scan,
+    room: Option<u64>,
+    sink: &mut S,
+) -> Result<Option<u64>, AllocError>
+    requires order { T (rises keys.now) }
+    requires values { length values.now ≡ length keys.now }
+    requires first { first < length keys.now }
+    requires none { scanned scan.now (take first (paired keys.now values.now)) ≡ [] }
+    ensures { IfOk result (λ after. Took S.has sink.old sink.new room after
+        (taken scan.now room (paired keys.now values.now))) }
+{
+    let mut left = room;
+    for place in first..keys.len() {
+        if is_over(scan, left, &keys[place]) {
+            return Ok(left);
+        }
+        left = take_row(scan, &keys[place], &values[place], left, sink)?;
+    }
+    Ok(left)
+}
+
+// Takes as many rows as there is room for.
+fn take_all<S: TakesRows>(
+    keys: &[Text],
+    values: &[Json],
+    room: Option<u64>,
+    sink: &mut S,
+) -> Result<Option<u64>, AllocError>
+    requires { length values.now ≡ length keys.now }
+    ensures { IfOk result (λ after. Took S.has sink.old sink.new room after
+        (limited room (paired keys.now values.now))) }
+{
+    let end = fitting(room, keys.len());
+    for place in 0..end {
+        sink.take(&keys[place], &values[place])?;
+    }
+    Ok(lessened(room, end))
+}
+
+// Whether the scan has the first key from this place on, and the last one: then it has each between them.
+fn has_ends(scan: &Scan, keys: &[Text], first: usize) -> bool
+    requires order { T (rises keys.now) }
+    requires first { first < length keys.now }
+    ensures { result ≡ true → AreIn scan.now (drop first keys.now) }
+{
+    scan.has(&keys[first]) && scan.has(&keys[keys.len() - 1])
+}
+
+/// Takes the scan's rows of a leaf, of whose keys none below `low` is in the scan, and answers the room
+/// that is left.
+pub fn scan_rows<S: TakesRows>(
     keys: &[Text],
     values: &[Json],
     scan: &Scan,
     low: &str,
-    out: &mut Vec<(Text, Json)>,
-) -> Result<(), AllocError>
+    room: Option<u64>,
+    sink: &mut S,
+) -> Result<Option<u64>, AllocError>
     requires order { T (rises keys.now) }
     requires values { length values.now ≡ length keys.now }
     requires low { IsLow scan.now low.now }
-    requires within { IsWithin scan.now out.old.items }
-    ensures { OnOk result (out.new.items ≡ with_scanned scan.now out.old.items (paired keys.now values.now)) }
+    ensures { IfOk result (λ after. Took S.has sink.old sink.new room after
+        (taken scan.now room (paired keys.now values.now))) }
 {
     if keys.is_empty() {
-        return Ok(());
+        return Ok(room);
     }
-    for place in place_of(keys, low)..keys.len() {
-        if is_over(scan, out.len(), &keys[place]) {
-            return Ok(());
-        }
-        take_row(scan, &keys[place], &values[place], out)?;
+    let first = place_of(keys, low);
+    if has_ends(scan, keys, first) {
+        return take_all(&keys[first..], &values[first..], room, sink);
     }
-    Ok(())
+    take_rows(keys, values, first, scan, room, sink)
 }
 
-/// Appends the scan's rows of the chunk, and ends at the limit of all that is there. Stops for want of
-/// memory, or as the store does; what was appended by then stays.
+/// Takes the scan's rows of the chunk, and answers the room that is left. Stops for want of memory, or as
+/// the store does; what was taken by then stays with the sink.
 #[cycle(placed)]
-pub fn scan_placed<C: Chunks>(
+pub fn scan_placed<C: Chunks, S: TakesRows>(
     chunks: &mut C,
     at: Ref,
     scan: &Scan,
     low: &str,
-    out: &mut Vec<(Text, Json)>,
-) -> Result<(), Stop>
+    room: Option<u64>,
+    sink: &mut S,
+) -> Result<Option<u64>, Stop>
     requires place { C.places chunks.old at }
     requires tree { IsTree (chunk_rows (C.contents chunks.old) (stamp_of at)) }
     requires low { IsLow scan.now low.now }
-    requires within { IsWithin scan.now out.old.items }
     ensures grown { Grows C.contents C.places chunks.old chunks.new }
-    ensures rows { OnOk result (out.new.items
-        ≡ with_scanned scan.now out.old.items (rows_or (chunk_rows (C.contents chunks.old) (stamp_of at)))) }
+    ensures rows { IfOk result (λ after. Took S.has sink.old sink.new room after
+        (taken scan.now room (rows_or (chunk_rows (C.contents chunks.old) (stamp_of at))))) }
     ensures stopped { IfErr result (λ s. (s ≡ NoMemory) ⊎ C.stops s) }
 {
     let held = chunks.show(at)?;
-    let answer = scan_chunk(chunks, held.chunk(), scan, low, out);
+    let answer = scan_chunk(chunks, held.chunk(), scan, low, room, sink);
     chunks.leave(held);
     answer
 }
 
 #[cycle(placed)]
-fn scan_chunk<C: Chunks>(
+fn scan_chunk<C: Chunks, S: TakesRows>(
     chunks: &mut C,
     chunk: &Chunk<Ref>,
     scan: &Scan,
     low: &str,
-    out: &mut Vec<(Text, Json)>,
-) -> Result<(), Stop>
+    room: Option<u64>,
+    sink: &mut S,
+) -> Result<Option<u64>, Stop>
     requires places { AreAll (C.places chunks.old) (chunk_children chunk.now) }
     requires tree { IsTree (opened_rows (C.contents chunks.old) chunk.now) }
     requires low { IsLow scan.now low.now }
-    requires within { IsWithin scan.now out.old.items }
     ensures grown { Grows C.contents C.places chunks.old chunks.new }
-    ensures rows { OnOk result (out.new.items
-        ≡ with_scanned scan.now out.old.items (rows_or (opened_rows (C.contents chunks.old) chunk.now))) }
+    ensures rows { IfOk result (λ after. Took S.has sink.old sink.new room after
+        (taken scan.now room (rows_or (opened_rows (C.contents chunks.old) chunk.now)))) }
     ensures stopped { IfErr result (λ s. (s ≡ NoMemory) ⊎ C.stops s) }
 {
     match chunk {
         Chunk::Leaf(leaf) => {
-            scan_rows(leaf.keys().as_slice(), leaf.values(), scan, low, out)?;
-            return Ok(());
+            let left = scan_rows(leaf.keys().as_slice(), leaf.values(), scan, low, room, sink)?;
+            return Ok(left);
         }
         Chunk::Inner(inner) => {
             let firsts = inner.firsts().as_slice();
-            return scan_children(chunks, firsts, inner.children(), scan, low, out);
+            return scan_children(chunks, firsts, inner.children(), scan, low, room, sink);
         }
     }
 }
 
 #[cycle(placed)]
-fn scan_children<C: Chunks>(
+fn scan_children<C: Chunks, S: TakesRows>(
     chunks: &mut C,
     firsts: &[Text],
     children: &[Ref],
     scan: &Scan,
     low: &str,
-    out: &mut Vec<(Text, Json)>,
-) -> Result<(), Stop>
+    room: Option<u64>,
+    sink: &mut S,
+) -> Result<Option<u64>, Stop>
     requires places { AreAll (C.places chunks.old) children.now }
     requires order { T (rises firsts.now) }
     requires children { length children.now ≡ length firsts.now }
     requires tree { IsTree (children_rows (C.contents chunks.old) (paired firsts.now children.now)) }
     requires low { IsLow scan.now low.now }
-    requires within { IsWithin scan.now out.old.items }
     ensures grown { Grows C.contents C.places chunks.old chunks.new }
-    ensures rows { OnOk result (out.new.items
-        ≡ with_scanned scan.now out.old.items
-        (rows_or (children_rows (C.contents chunks.old) (paired firsts.now children.now)))) }
+    ensures rows { IfOk result (λ after. Took S.has sink.old sink.new room after
+        (taken scan.now room (rows_or (children_rows (C.contents chunks.old) (paired firsts.now children.now))))) }
     ensures stopped { IfErr result (λ s. (s ≡ NoMemory) ⊎ C.stops s) }
 {
     if firsts.is_empty() {
-        return Ok(());
+        return Ok(room);
     }
+    let mut left = room;
     for place in place_of(firsts, low)..firsts.len() {
-        if is_over(scan, out.len(), &firsts[place]) {
-            return Ok(());
+        if is_over(scan, left, &firsts[place]) {
+            return Ok(left);
         }
-        scan_placed(chunks, children[place], scan, low, out)?;
+        left = scan_placed(chunks, children[place], scan, low, left, sink)?;
     }
-    Ok(())
+    Ok(left)
 }

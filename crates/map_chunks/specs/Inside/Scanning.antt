@@ -1,5 +1,7 @@
 -- A scan along placed chunks, and the lowest key that it may have.
-use Rattle.std.specs.Prelude.{List, map, Option, Some, if◌then◌else◌}
+use Rattle.std.specs.Prelude.{◌≡◌, ◌≤◌, ℕ, true, List, [], ◌∷◌, map, Option, Some, None, if◌then◌else◌}
+use Rattle.group_history.specs.declared.scans.Scan.{Scan}
+use Rattle.group_history.specs.Scans.{is_in}
 use Rattle.group_history.specs.declared.nodes.Chunk.{Chunk}
 use Rattle.group_history.specs.declared.nodes.Chunk.TheVariants.{Leaf, Inner}
 use Rattle.group_history.specs.declared.refs.Ref.{Ref}
@@ -22,3 +24,13 @@ children_rows contents children = joined_rows (map (λ e. (e.0, chunk_rows conte
 abbrev pub opened_rows : Contents → Chunk Ref → Option Rows
 opened_rows contents (Leaf rows) = Some rows
 opened_rows contents (Inner children) = children_rows contents children
+
+-- there is room for so many
+abbrev pub CanTake : Option ℕ → ℕ → Type 0
+CanTake None n = Unit {0}
+CanTake (Some room) n = n ≤ room
+
+-- each of these keys is in the scan
+abbrev pub AreIn : Scan → List Bytes → Type 0
+AreIn scan [] = Unit {0}
+AreIn scan (k ∷ ks) = (is_in scan k ≡ true) × AreIn scan ks

@@ -1,4 +1,4 @@
-use Rattle.std.proofs.Common.{[], ◌≡◌, ◌∙◌, ap, sym, subst, arith, length, true, slice_index_or, OnOk}
+use Rattle.std.proofs.Common.{[], ◌≡◌, ◌∙◌, ap, sym, subst, arith, length, slice_index_or, IfOk}
 use Rattle.std.proofs.lemmas.List.{append-nil}
 use Rattle.group_history.specs.declared.nodes.Chunk.{Chunk}
 use Rattle.group_history.specs.declared.refs.Ref.{Ref}
@@ -9,45 +9,44 @@ use Rattle.std.proofs.lemmas.List.Elements.{Contains-get_or}
 use Rattle.group_history.specs.Naming.{chunk_children}
 use Rattle.map_chunks.specs.Places.{AreAll}
 use Rattle.map_chunks.proofs.KeptLemmas.{grows_on}
-use Rattle.map_chunks.specs.Scanning.{is_over, with_scanned}
+use Rattle.map_chunks.specs.Scanning.{Took, taken}
 use Rattle.map_chunks.specs.Inside.Scanning.{opened_rows, children_rows}
 use Rattle.map_chunks.specs.Shown.{IsTree, rows_or, chunk_rows}
 use Rattle.map_chunks.proofs.OpenLemmas.{known, tree_of}
 use Rattle.map_chunks.proofs.SearchLemmas.{length-keys_of, length-values_of}
 use Rattle.map_chunks.proofs.ScanLemmas.{got_any, ref_rows, refs_known, ref_turn, top, chunk_top, pairs_begun}
-use Rattle.map_chunks.proofs.ScanLemmas.{pairs_over, pairs_child, pairs_all, within, opened_is, chunk_rows-kept}
+use Rattle.map_chunks.proofs.ScanLemmas.{pairs_over, pairs_child, pairs_all, opened_is, chunk_rows-kept}
 use Rattle.map_chunks.proofs.scanning.+placed.Goals as goal
 
 pub scan_children-loop-place-init : goal.scan_children-loop-place-init
 scan_children-loop-place-init g t c =
     let p = g.C.Chunks.contents c.args.chunks.now in
-    let r = c.requires.1.1.1.1.1 in
+    let r = c.requires.1.1.1.1.1.1 in
     let n = refs_known p c.args.firsts.now c.args.children.now r.1.1.0 in
     record {
       grown = (([], append-nil p), λ at h. h);
       rows = pairs_begun (ref_rows p) c.args.firsts.now c.args.children.now c.place_of-place.result n.rows
-          c.args.scan.now c.args.low.now c.args.out.now.items r.1.0 n.is n.order
-          r.1.1.1.0 c.place_of-place.ensures r.1.1.1.1;
+          c.args.scan.now c.args.low.now g.S.TakesRows.has c.args.sink.now c.args.room r.1.0 n.is n.order r.1.1.1
+          c.place_of-place.ensures;
     }
 
 pub scan_children-returns-then-is_over-clause-rows : goal.scan_children-returns-then-is_over-clause-rows
 scan_children-returns-then-is_over-clause-rows g t c =
     let p = g.C.Chunks.contents c.args.chunks.now in
-    let r = c.requires.1.1.1.1.1 in
+    let r = c.requires.1.1.1.1.1.1 in
     let n = refs_known p c.args.firsts.now c.args.children.now r.1.1.0 in
-    let e : is_over c.args.scan.now (length c.loop-place.out.items) c.index-firsts-place.result ≡ true =
-    ap (λ n. is_over c.args.scan.now n c.index-firsts-place.result)
-    (sym (c.len.ensures ∙ c.loop-place.out.ok.0)) ∙ sym c.is_over.ensures ∙ c.if-is_over.true in
-    pairs_over (ref_rows p) c.args.firsts.now c.args.children.now c.loop-place.place n.rows c.args.scan.now
-    c.args.out.now.items c.loop-place.out.items c.index-firsts-place.result r.1.0
-    n.is n.order c.loop-place-test.true c.index-firsts-place.is c.loop-place.invariant.rows e
-    ∙ ap (λ w. with_scanned c.args.scan.now c.args.out.now.items (rows_or w)) (sym n.is)
+    subst (λ w. Took g.S.TakesRows.has c.args.sink.now c.loop-place.sink c.args.room c.loop-place.left
+    (taken c.args.scan.now c.args.room (rows_or w))) (sym n.is)
+    (pairs_over (ref_rows p) c.args.firsts.now c.args.children.now c.loop-place.place n.rows c.args.scan.now
+    g.S.TakesRows.has c.args.sink.now c.loop-place.sink c.args.room c.loop-place.left c.index-firsts-place.result r.1.0
+    n.is n.order c.loop-place-test.true c.index-firsts-place.is c.loop-place.invariant.rows
+    (sym c.is_over.ensures ∙ c.if-is_over.true))
 
 pub scan_children-returns-then-is_over-clause-grown : goal.scan_children-returns-then-is_over-clause-grown
 scan_children-returns-then-is_over-clause-grown g t c = c.loop-place.invariant.grown
 
-pub scan_children-returns-in_err-scan_placed-clause-grown : goal.scan_children-returns-in_err-scan_placed-clause-grown
-scan_children-returns-in_err-scan_placed-clause-grown g t c = grows_on g.C.Chunks.contents g.C.Chunks.places
+pub scan_children-returns-in_err-left-clause-grown : goal.scan_children-returns-in_err-left-clause-grown
+scan_children-returns-in_err-left-clause-grown g t c = grows_on g.C.Chunks.contents g.C.Chunks.places
     c.args.chunks.now c.loop-place.chunks c.scan_placed.new.chunks c.loop-place.invariant.grown
     c.scan_placed.ensures.grown
 
@@ -57,7 +56,7 @@ scan_children-returns-clause-grown g t c = c.loop-place.invariant.grown
 pub scan_children-scan_placed-requires : goal.scan_children-scan_placed-requires
 scan_children-scan_placed-requires g t c κs ws =
     let p = g.C.Chunks.contents c.args.chunks.now in
-    let r = c.requires.1.1.1.1.1 in
+    let r = c.requires.1.1.1.1.1.1 in
     let n = refs_known p c.args.firsts.now c.args.children.now r.1.1.0 in
     let at = slice_index_or c.args.children.now c.loop-place.place (record { bits = 0 }) in
     let u = ref_turn p (g.C.Chunks.contents c.loop-place.chunks) c.args.firsts.now c.args.children.now
@@ -65,20 +64,20 @@ scan_children-scan_placed-requires g t c κs ws =
     (got_any c.args.children.now c.loop-place.place (record { bits = 0 }) at
     (omega (arith, r.1.0, c.loop-place-test.true))) in
     let place = c.loop-place.invariant.grown.1 at
-    (c.requires.1.1.1.1.0 at (Contains-get_or c.args.children.now c.loop-place.place (record { bits = 0 })
+    (c.requires.1.1.1.1.1.0 at (Contains-get_or c.args.children.now c.loop-place.place (record { bits = 0 })
     (omega (arith, r.1.0, c.loop-place-test.true)))) in (
       omega (arith, u.low, c.requires.1.0),
       (
         ws.0,
         (
-          ws.1,
+          ws.1.0,
           (
-            place,
+            ws.1.1,
             (
-              u.tree,
+              place,
               (
-                r.1.1.1.0,
-                within c.args.scan.now c.loop-place.out.items c.args.out.now.items _ c.loop-place.invariant.rows,
+                u.tree,
+                r.1.1.1,
               ),
             ),
           ),
@@ -89,7 +88,7 @@ scan_children-scan_placed-requires g t c κs ws =
 pub scan_children-loop-place-preserved : goal.scan_children-loop-place-preserved
 scan_children-loop-place-preserved g t c =
     let p = g.C.Chunks.contents c.args.chunks.now in
-    let r = c.requires.1.1.1.1.1 in
+    let r = c.requires.1.1.1.1.1.1 in
     let n = refs_known p c.args.firsts.now c.args.children.now r.1.1.0 in
     let at = slice_index_or c.args.children.now c.loop-place.place (record { bits = 0 }) in
     let u = ref_turn p (g.C.Chunks.contents c.loop-place.chunks) c.args.firsts.now c.args.children.now
@@ -100,20 +99,22 @@ scan_children-loop-place-preserved g t c =
       grown = grows_on g.C.Chunks.contents g.C.Chunks.places c.args.chunks.now c.loop-place.chunks
           c.scan_placed.new.chunks c.loop-place.invariant.grown c.scan_placed.ensures.grown;
       rows = pairs_child (ref_rows p) c.args.firsts.now c.args.children.now c.loop-place.place n.rows c.args.scan.now
-          c.args.out.now.items c.loop-place.out.items c.scan_placed.new.out.items
-          u.turn c.loop-place.invariant.rows (c.in_ok-scan_placed.ensures.rows ∙ ap
-          (λ w. with_scanned c.args.scan.now c.loop-place.out.items (rows_or w)) u.rows_are);
+          g.S.TakesRows.has c.args.sink.now c.loop-place.sink c.scan_placed.new.sink c.args.room c.loop-place.left
+          c.in_ok-left.left u.turn c.loop-place.invariant.rows
+          (subst (λ w. Took g.S.TakesRows.has c.loop-place.sink c.scan_placed.new.sink c.loop-place.left
+          c.in_ok-left.left (taken c.args.scan.now c.loop-place.left (rows_or w))) u.rows_are
+          c.in_ok-left.ensures.rows);
     }
 
 pub scan_children-returns-clause-rows : goal.scan_children-returns-clause-rows
 scan_children-returns-clause-rows g t c =
     let p = g.C.Chunks.contents c.args.chunks.now in
-    let r = c.requires.1.1.1.1.1 in
+    let r = c.requires.1.1.1.1.1.1 in
     let n = refs_known p c.args.firsts.now c.args.children.now r.1.1.0 in
-    pairs_all (ref_rows p) c.args.firsts.now c.args.children.now c.loop-place.place n.rows c.args.scan.now
-    c.args.out.now.items c.loop-place.out.items r.1.0 n.is
-    (omega (arith, c.place_of-place.ensures.0)) c.loop-place.invariant.rows
-    ∙ ap (λ w. with_scanned c.args.scan.now c.args.out.now.items (rows_or w)) (sym n.is)
+    subst (λ w. Took g.S.TakesRows.has c.args.sink.now c.loop-place.sink c.args.room c.loop-place.left
+    (taken c.args.scan.now c.args.room w))
+    (pairs_all (ref_rows p) c.args.firsts.now c.args.children.now c.loop-place.place n.rows r.1.0 n.is
+    (omega (arith, c.place_of-place.ensures.0)) ∙ ap rows_or (sym n.is)) c.loop-place.invariant.rows
 
 pub scan_chunk-returns-in-Leaf-clause-rows : goal.scan_chunk-returns-in-Leaf-clause-rows
 scan_chunk-returns-in-Leaf-clause-rows g t c =
@@ -121,17 +122,16 @@ scan_chunk-returns-in-Leaf-clause-rows g t c =
     let rows : Rows = c.in-Leaf.leaf in
     let keys : c.as_slice.result.now ≡ keys_of rows = c.as_slice.ensures.keys ∙ c.deref.ensures ∙ c.keys.ensures.keys in
     let values : c.values.result.now ≡ values_of rows = c.values.ensures in
-    c.in_ok-scan_rows-in-Leaf.ensures
-    ∙ ap (λ w. with_scanned c.args.scan.now c.args.out.now.items (paired w c.values.result.now)) keys
-    ∙ ap (λ w. with_scanned c.args.scan.now c.args.out.now.items (paired (keys_of rows) w)) values
-    ∙ ap (with_scanned c.args.scan.now c.args.out.now.items) (paired-parts rows)
-    ∙ ap (λ (ch : Chunk Ref). with_scanned c.args.scan.now c.args.out.now.items (rows_or (opened_rows p ch)))
-    (sym c.in-Leaf.is)
+    subst (λ w. Took g.S.TakesRows.has c.args.sink.now c.scan_rows.new.sink c.args.room c.in_ok-left-in-Leaf.left
+    (taken c.args.scan.now c.args.room w))
+    (ap (λ w. paired w c.values.result.now) keys ∙ ap (λ w. paired (keys_of rows) w) values ∙ paired-parts rows
+    ∙ ap (λ (ch : Chunk Ref). rows_or (opened_rows p ch)) (sym c.in-Leaf.is))
+    c.in_ok-left-in-Leaf.ensures
 
 pub scan_chunk-scan_children-requires : goal.scan_chunk-scan_children-requires
 scan_chunk-scan_children-requires g t c κs ws =
     let p = g.C.Chunks.contents c.args.chunks.now in
-    let r = c.requires.1.1.1.1.1 in
+    let r = c.requires.1.1.1.1.1.1 in
     let kids = c.in-Inner.inner in
     let keys : c.as_slice-firsts.result.now
     ≡ keys_of kids = c.as_slice-firsts.ensures.keys ∙ c.deref-in-Inner.ensures ∙ c.firsts.ensures.keys in
@@ -145,19 +145,22 @@ scan_chunk-scan_children-requires g t c κs ws =
       (
         ws.0,
         (
-          ws.1,
+          ws.1.0,
           (
-            subst (AreAll (g.C.Chunks.places c.args.chunks.now)) (sym children)
-                (subst (λ (ch : Chunk Ref). AreAll (g.C.Chunks.places c.args.chunks.now) (chunk_children ch))
-                c.in-Inner.is c.requires.1.1.1.1.0),
+            ws.1.1,
             (
-              c.as_slice-firsts.ensures.order.1,
+              subst (AreAll (g.C.Chunks.places c.args.chunks.now)) (sym children)
+                  (subst (λ (ch : Chunk Ref). AreAll (g.C.Chunks.places c.args.chunks.now) (chunk_children ch))
+                  c.in-Inner.is c.requires.1.1.1.1.1.0),
               (
-                omega (arith, ap length keys, ap length children, length-keys_of kids, length-values_of kids),
+                c.as_slice-firsts.ensures.order.1,
                 (
-                  subst (λ w. IsTree (children_rows p w)) (sym pairs)
-                      (subst (λ (ch : Chunk Ref). IsTree (opened_rows p ch)) c.in-Inner.is r.0),
-                  r.1,
+                  omega (arith, ap length keys, ap length children, length-keys_of kids, length-values_of kids),
+                  (
+                    subst (λ w. IsTree (children_rows p w)) (sym pairs)
+                        (subst (λ (ch : Chunk Ref). IsTree (opened_rows p ch)) c.in-Inner.is r.0),
+                    r.1,
+                  ),
                 ),
               ),
             ),
@@ -176,8 +179,9 @@ scan_chunk-returns-in-Inner-clause-rows g t c =
     let pairs : paired c.as_slice-firsts.result.now c.children.result.now
     ≡ kids = ap (λ w. paired w c.children.result.now) keys ∙ ap
     (λ w. paired (keys_of kids) w) children ∙ paired-parts kids in
-    subst (λ w. OnOk c.scan_children.result
-    (c.scan_children.new.out.items ≡ with_scanned c.args.scan.now c.args.out.now.items (rows_or w)))
+    subst (λ w. IfOk c.scan_children.result
+    (λ after. Took g.S.TakesRows.has c.args.sink.now c.scan_children.new.sink c.args.room after
+    (taken c.args.scan.now c.args.room (rows_or w))))
     (ap (children_rows p) pairs ∙ ap (λ (ch : Chunk Ref). opened_rows p ch) (sym c.in-Inner.is))
     c.scan_children.ensures.rows
 
@@ -185,7 +189,7 @@ pub scan_placed-scan_chunk-answer-requires : goal.scan_placed-scan_chunk-answer-
 scan_placed-scan_chunk-answer-requires g t c κs ws =
     let p = g.C.Chunks.contents c.args.chunks.now in
     let q = g.C.Chunks.contents c.show.new.self in
-    let r = c.requires.1.1.1.1.1 in
+    let r = c.requires.1.1.1.1.1.1 in
     let n = known (chunk_rows p (stamp_of c.args.at)) r.0 in
     let o = opened_is q (stamp_of c.args.at) n.rows _
     (chunk_rows-kept p q (stamp_of c.args.at) n.rows c.show.ensures.grown.0 n.is) c.in_ok-held.ensures.content in
@@ -194,14 +198,17 @@ scan_placed-scan_chunk-answer-requires g t c κs ws =
       (
         ws.0,
         (
-          ws.1,
+          ws.1.0,
           (
-            subst (λ (ch : Chunk Ref). AreAll (g.C.Chunks.places c.show.new.self) (chunk_children ch))
-                (sym c.chunk.ensures) c.in_ok-held.ensures.children,
+            ws.1.1,
             (
-              subst (λ (ch : Chunk Ref). IsTree (opened_rows q ch)) (sym c.chunk.ensures)
-                  (tree_of (opened_rows q _) n.rows o.rows_are n.order),
-              r.1,
+              subst (λ (ch : Chunk Ref). AreAll (g.C.Chunks.places c.show.new.self) (chunk_children ch))
+                  (sym c.chunk.ensures) c.in_ok-held.ensures.children,
+              (
+                subst (λ (ch : Chunk Ref). IsTree (opened_rows q ch)) (sym c.chunk.ensures)
+                    (tree_of (opened_rows q _) n.rows o.rows_are n.order),
+                r.1,
+              ),
             ),
           ),
         ),
@@ -212,10 +219,11 @@ pub scan_placed-returns-clause-rows : goal.scan_placed-returns-clause-rows
 scan_placed-returns-clause-rows g t c =
     let p = g.C.Chunks.contents c.args.chunks.now in
     let q = g.C.Chunks.contents c.show.new.self in
-    let r = c.requires.1.1.1.1.1 in
+    let r = c.requires.1.1.1.1.1.1 in
     let n = known (chunk_rows p (stamp_of c.args.at)) r.0 in
     let o = opened_is q (stamp_of c.args.at) n.rows _
     (chunk_rows-kept p q (stamp_of c.args.at) n.rows c.show.ensures.grown.0 n.is) c.in_ok-held.ensures.content in
-    subst (λ w. OnOk c.scan_chunk-answer.result
-    (c.scan_chunk-answer.new.out.items ≡ with_scanned c.args.scan.now c.args.out.now.items (rows_or w)))
+    subst (λ w. IfOk c.scan_chunk-answer.result
+    (λ after. Took g.S.TakesRows.has c.args.sink.now c.scan_chunk-answer.new.sink c.args.room after
+    (taken c.args.scan.now c.args.room (rows_or w))))
     (ap (λ (ch : Chunk Ref). opened_rows q ch) c.chunk.ensures ∙ o.rows_are ∙ sym n.is) c.scan_chunk-answer.ensures.rows

@@ -1,8 +1,8 @@
-use Rattle.std.proofs.Common.{◌≡◌, ◌+◌, ◌*◌}
+use Rattle.std.proofs.Common.{◌+◌, ◌*◌}
 use Rattle.group_history.specs.Refs.{stamp_of}
 use Rattle.group_history.specs.Rows.{paired}
 use Rattle.map_chunks.specs.Places.{Grows}
-use Rattle.map_chunks.specs.Scanning.{with_scanned}
+use Rattle.map_chunks.specs.Scanning.{Took, taken}
 use Rattle.map_chunks.proofs.ScanLemmas.{first_rows, ref_rows, top, chunk_top}
 use Rattle.map_chunks.proofs.scanning.+placed.Given as goal
 
@@ -19,6 +19,6 @@ abbrev pub invariant-scan_children-loop-place : goal.invariant-scan_children-loo
 invariant-scan_children-loop-place g l =
     record {
       grown : Grows g.C.Chunks.contents g.C.Chunks.places l.fn.chunks l.chunks;
-      rows : l.out.items ≡ with_scanned l.scan l.fn.out.items
-          (first_rows (ref_rows (g.C.Chunks.contents l.fn.chunks)) (paired l.firsts l.children) l.place);
+      rows : Took g.S.TakesRows.has l.fn.sink l.sink l.fn.room l.left (taken l.scan l.fn.room
+          (first_rows (ref_rows (g.C.Chunks.contents l.fn.chunks)) (paired l.firsts l.children) l.place));
     }
