@@ -1,17 +1,17 @@
-use Rattle.std.proofs.Common.{[], ◌≡◌, ◌∙◌, ap, sym, subst, arith, length, true, OnOk, T}
+use Rattle.std.proofs.Common.{[], ◌≡◌, ◌∙◌, ap, sym, subst, arith, length, IfOk, T}
 use Rattle.std.proofs.lemmas.List.{append-nil}
 use Rattle.group_history.specs.Rows.{paired, rises}
 use Rattle.map_nodes.specs.Nodes.{body_pieces, body_height, kids_height, IsNode}
 use Rattle.map_chunks.specs.Places.{AreAll}
 use Rattle.map_nodes.specs.Inside.Freezing.{kids_places}
-use Rattle.map_chunks.specs.Scanning.{is_over, with_scanned}
+use Rattle.map_chunks.specs.Scanning.{Took, taken}
 use Rattle.map_nodes.specs.Inside.Scanning.{kids_shown}
 use Rattle.map_chunks.specs.Shown.{Seen, rows_or, shown}
 use Rattle.map_nodes.specs.declared.nodes.Body.TheVariants.{Inner}
 use Rattle.map_nodes.proofs.NodeLemmas.{shown-rows}
 use Rattle.map_chunks.proofs.OpenLemmas.{known, tree_of}
 use Rattle.map_nodes.proofs.ScanLemmas.{shown_kid, kids_shown-is, kid_turn, kid_height}
-use Rattle.map_chunks.proofs.ScanLemmas.{pairs_begun, pairs_over, pairs_child, pairs_all, within}
+use Rattle.map_chunks.proofs.ScanLemmas.{pairs_begun, pairs_over, pairs_child, pairs_all}
 use Rattle.map_chunks.proofs.KeptLemmas.{all_on, grows_on}
 use Rattle.map_nodes.proofs.PlaceLemmas.{kid_all, kids_may}
 use Rattle.map_nodes.proofs.nodes.+own.Goals as goal
@@ -19,34 +19,33 @@ use Rattle.map_nodes.proofs.nodes.+own.Goals as goal
 pub scanning::scan_kids-loop-place-init : goal.scanning::scan_kids-loop-place-init
 scanning::scan_kids-loop-place-init g t c =
     let p = g.C.Chunks.contents c.args.chunks.now in
-    let r = c.requires.1.1.1.1.1 in
+    let r = c.requires.1.1.1.1.1.1 in
     let n = known (kids_shown p (paired c.args.firsts.now c.args.kids.now)) r.1.1.0 in
     record {
       grown = (([], append-nil p), λ at h. h);
       rows = pairs_begun (shown_kid p) c.args.firsts.now c.args.kids.now c.place_of-place.result n.rows c.args.scan.now
-          c.args.low.now c.args.out.now.items r.1.0 n.is n.order
-          r.1.1.1.0 c.place_of-place.ensures r.1.1.1.1;
+          c.args.low.now g.S.TakesRows.has c.args.sink.now c.args.room r.1.0 n.is n.order r.1.1.1
+          c.place_of-place.ensures;
     }
 
 pub scanning::scan_kids-returns-then-is_over-clause-rows : goal.scanning::scan_kids-returns-then-is_over-clause-rows
 scanning::scan_kids-returns-then-is_over-clause-rows g t c =
     let p = g.C.Chunks.contents c.args.chunks.now in
-    let r = c.requires.1.1.1.1.1 in
+    let r = c.requires.1.1.1.1.1.1 in
     let n = known (kids_shown p (paired c.args.firsts.now c.args.kids.now)) r.1.1.0 in
-    let e : is_over c.args.scan.now (length c.loop-place.out.items) c.index-firsts-place.result ≡ true =
-    ap (λ n. is_over c.args.scan.now n c.index-firsts-place.result)
-    (sym (c.len.ensures ∙ c.loop-place.out.ok.0)) ∙ sym c.is_over.ensures ∙ c.if-is_over.true in
-    pairs_over (shown_kid p) c.args.firsts.now c.args.kids.now c.loop-place.place n.rows c.args.scan.now
-    c.args.out.now.items c.loop-place.out.items c.index-firsts-place.result r.1.0
-    n.is n.order c.loop-place-test.true c.index-firsts-place.is c.loop-place.invariant.rows e
-    ∙ ap (λ w. with_scanned c.args.scan.now c.args.out.now.items (rows_or w)) (sym n.is)
+    subst (λ w. Took g.S.TakesRows.has c.args.sink.now c.loop-place.sink c.args.room c.loop-place.left
+    (taken c.args.scan.now c.args.room (rows_or w))) (sym n.is)
+    (pairs_over (shown_kid p) c.args.firsts.now c.args.kids.now c.loop-place.place n.rows c.args.scan.now
+    g.S.TakesRows.has c.args.sink.now c.loop-place.sink c.args.room c.loop-place.left c.index-firsts-place.result r.1.0
+    n.is n.order c.loop-place-test.true c.index-firsts-place.is c.loop-place.invariant.rows
+    (sym c.is_over.ensures ∙ c.if-is_over.true))
 
 pub scanning::scan_kids-returns-then-is_over-clause-grown : goal.scanning::scan_kids-returns-then-is_over-clause-grown
 scanning::scan_kids-returns-then-is_over-clause-grown g t c = c.loop-place.invariant.grown
 
-pub scanning::scan_kids-returns-in_err-scan_kid-clause-grown :
-    goal.scanning::scan_kids-returns-in_err-scan_kid-clause-grown
-scanning::scan_kids-returns-in_err-scan_kid-clause-grown g t c = grows_on g.C.Chunks.contents g.C.Chunks.places
+pub scanning::scan_kids-returns-in_err-left-clause-grown :
+    goal.scanning::scan_kids-returns-in_err-left-clause-grown
+scanning::scan_kids-returns-in_err-left-clause-grown g t c = grows_on g.C.Chunks.contents g.C.Chunks.places
     c.args.chunks.now c.loop-place.chunks c.scan_kid.new.chunks c.loop-place.invariant.grown c.scan_kid.ensures.grown
 
 pub scanning::scan_kids-returns-clause-grown : goal.scanning::scan_kids-returns-clause-grown
@@ -55,7 +54,7 @@ scanning::scan_kids-returns-clause-grown g t c = c.loop-place.invariant.grown
 pub scanning::scan_kids-scan_kid-requires : goal.scanning::scan_kids-scan_kid-requires
 scanning::scan_kids-scan_kid-requires g t c κs ws =
     let p = g.C.Chunks.contents c.args.chunks.now in
-    let r = c.requires.1.1.1.1.1 in
+    let r = c.requires.1.1.1.1.1.1 in
     let n = known (kids_shown p (paired c.args.firsts.now c.args.kids.now)) r.1.1.0 in
     let u = kid_turn p (g.C.Chunks.contents c.loop-place.chunks) c.args.firsts.now c.args.kids.now c.loop-place.place
     c.index-kids-place.result c.loop-place.invariant.grown.0 r.1.0 n
@@ -65,31 +64,15 @@ scanning::scan_kids-scan_kid-requires g t c κs ws =
     let may = all_on (g.C.Chunks.places c.args.chunks.now)
     (g.C.Chunks.places c.loop-place.chunks) _ c.loop-place.invariant.grown.1
     (kid_all (g.C.Chunks.places c.args.chunks.now) c.args.kids.now c.loop-place.place c.index-kids-place.result
-    (omega (arith, r.1.0, c.loop-place-test.true)) c.index-kids-place.is c.requires.1.1.1.1.0) in (
+    (omega (arith, r.1.0, c.loop-place-test.true)) c.index-kids-place.is c.requires.1.1.1.1.1.0) in (
       omega (arith, high, c.requires.1.0),
-      (
-        ws.0,
-        (
-          ws.1,
-          (
-            may,
-            (
-              u.tree,
-              (
-                r.1.1.1.0,
-                within c.args.scan.now c.loop-place.out.items c.args.out.now.items _
-                    c.loop-place.invariant.rows,
-              ),
-            ),
-          ),
-        ),
-      ),
+      (ws.0, (ws.1.0, (ws.1.1, (may, (u.tree, r.1.1.1))))),
     )
 
 pub scanning::scan_kids-loop-place-preserved : goal.scanning::scan_kids-loop-place-preserved
 scanning::scan_kids-loop-place-preserved g t c =
     let p = g.C.Chunks.contents c.args.chunks.now in
-    let r = c.requires.1.1.1.1.1 in
+    let r = c.requires.1.1.1.1.1.1 in
     let n = known (kids_shown p (paired c.args.firsts.now c.args.kids.now)) r.1.1.0 in
     let u = kid_turn p (g.C.Chunks.contents c.loop-place.chunks) c.args.firsts.now c.args.kids.now c.loop-place.place
     c.index-kids-place.result c.loop-place.invariant.grown.0 r.1.0 n
@@ -98,37 +81,40 @@ scanning::scan_kids-loop-place-preserved g t c =
       grown = grows_on g.C.Chunks.contents g.C.Chunks.places c.args.chunks.now c.loop-place.chunks c.scan_kid.new.chunks
           c.loop-place.invariant.grown c.scan_kid.ensures.grown;
       rows = pairs_child (shown_kid p) c.args.firsts.now c.args.kids.now c.loop-place.place n.rows c.args.scan.now
-          c.args.out.now.items c.loop-place.out.items c.scan_kid.new.out.items
-          u.turn c.loop-place.invariant.rows (c.in_ok-scan_kid.ensures.rows ∙ ap
-          (λ w. with_scanned c.args.scan.now c.loop-place.out.items (rows_or w)) u.rows_are);
+          g.S.TakesRows.has c.args.sink.now c.loop-place.sink c.scan_kid.new.sink c.args.room c.loop-place.left
+          c.in_ok-left.left u.turn c.loop-place.invariant.rows
+          (subst (λ w. Took g.S.TakesRows.has c.loop-place.sink c.scan_kid.new.sink c.loop-place.left
+          c.in_ok-left.left (taken c.args.scan.now c.loop-place.left (rows_or w))) u.rows_are
+          c.in_ok-left.ensures.rows);
     }
 
 pub scanning::scan_kids-returns-clause-rows : goal.scanning::scan_kids-returns-clause-rows
 scanning::scan_kids-returns-clause-rows g t c =
     let p = g.C.Chunks.contents c.args.chunks.now in
-    let r = c.requires.1.1.1.1.1 in
+    let r = c.requires.1.1.1.1.1.1 in
     let n = known (kids_shown p (paired c.args.firsts.now c.args.kids.now)) r.1.1.0 in
-    pairs_all (shown_kid p) c.args.firsts.now c.args.kids.now c.loop-place.place n.rows c.args.scan.now
-    c.args.out.now.items c.loop-place.out.items r.1.0 n.is
-    (omega (arith, c.place_of-place.ensures.0)) c.loop-place.invariant.rows
-    ∙ ap (λ w. with_scanned c.args.scan.now c.args.out.now.items (rows_or w)) (sym n.is)
+    subst (λ w. Took g.S.TakesRows.has c.args.sink.now c.loop-place.sink c.args.room c.loop-place.left
+    (taken c.args.scan.now c.args.room w))
+    (pairs_all (shown_kid p) c.args.firsts.now c.args.kids.now c.loop-place.place n.rows r.1.0 n.is
+    (omega (arith, c.place_of-place.ensures.0)) ∙ ap rows_or (sym n.is)) c.loop-place.invariant.rows
 
 pub OwnNode::scan-returns-in-Leaf-clause-rows : goal.OwnNode::scan-returns-in-Leaf-clause-rows
 OwnNode::scan-returns-in-Leaf-clause-rows g t c =
     let p = g.C.Chunks.contents c.args.chunks.now in
     let pieces = ap (body_pieces c.self.inside.depth c.self.inside.keys.texts) (sym c.in-Leaf.is) ∙ ap
     (λ (s : Seen). s.pieces) c.self.view_is in
-    c.in_ok-scan_rows-in-Leaf.ensures
-    ∙ ap (λ w. with_scanned c.args.scan.now c.args.out.now.items (paired w c.deref.result.now)) c.as_slice.ensures
-    ∙ ap (λ w. with_scanned c.args.scan.now c.args.out.now.items (paired c.self.inside.keys.texts w))
-    c.deref.ensures.value
-    ∙ ap (λ w. with_scanned c.args.scan.now c.args.out.now.items (rows_or w))
-    (sym (ap (shown p) (sym pieces) ∙ shown-rows p (paired c.self.inside.keys.texts c.in-Leaf.values.items)))
+    subst (λ w. Took g.S.TakesRows.has c.args.sink.now c.scan_rows.new.sink c.args.room c.in_ok-left-in-Leaf.left
+    (taken c.args.scan.now c.args.room w))
+    (ap (λ w. paired w c.deref.result.now) c.as_slice.ensures
+    ∙ ap (λ w. paired c.self.inside.keys.texts w) c.deref.ensures.value
+    ∙ ap rows_or
+    (sym (ap (shown p) (sym pieces) ∙ shown-rows p (paired c.self.inside.keys.texts c.in-Leaf.values.items))))
+    c.in_ok-left-in-Leaf.ensures
 
 pub OwnNode::scan-scan_kids-requires : goal.OwnNode::scan-scan_kids-requires
 OwnNode::scan-scan_kids-requires g t c κs ws =
     let p = g.C.Chunks.contents c.args.chunks.now in
-    let r = c.requires.1.1.1.1.1 in
+    let r = c.requires.1.1.1.1.1.1 in
     let n = known (shown p c.args.self.now.pieces) r.0 in
     let i : IsNode c.self.inside.depth c.self.inside.keys.texts (Inner c.in-Inner.kids) = subst
     (IsNode c.self.inside.depth c.self.inside.keys.texts) c.in-Inner.is c.self.invariant in
@@ -147,13 +133,15 @@ OwnNode::scan-scan_kids-requires g t c κs ws =
       (
         ws.0,
         (
-          ws.1,
+          ws.1.0,
+          (
+          ws.1.1,
           (
             subst (λ ks. AreAll (g.C.Chunks.places c.args.chunks.now) (kids_places ks))
                 (sym c.deref-in-Inner.ensures.value)
                 (kids_may (g.C.Chunks.places c.args.chunks.now) c.self.inside.depth c.self.inside.keys.texts
                 c.self.inside.body c.in-Inner.kids c.args.self.now.pieces
-                (ap (λ (s : Seen). s.pieces) c.self.view_is) c.in-Inner.is c.self.invariant c.requires.1.1.1.1.0),
+                (ap (λ (s : Seen). s.pieces) c.self.view_is) c.in-Inner.is c.self.invariant c.requires.1.1.1.1.1.0),
             (
               subst (λ w. T (rises w)) (sym c.as_slice-in-Inner.ensures) i.0.1,
               (
@@ -166,6 +154,7 @@ OwnNode::scan-scan_kids-requires g t c κs ws =
               ),
             ),
           ),
+          ),
         ),
       ),
     )
@@ -173,7 +162,7 @@ OwnNode::scan-scan_kids-requires g t c κs ws =
 pub OwnNode::scan-returns-in-Inner-clause-rows : goal.OwnNode::scan-returns-in-Inner-clause-rows
 OwnNode::scan-returns-in-Inner-clause-rows g t c =
     let p = g.C.Chunks.contents c.args.chunks.now in
-    let r = c.requires.1.1.1.1.1 in
+    let r = c.requires.1.1.1.1.1.1 in
     let n = known (shown p c.args.self.now.pieces) r.0 in
     let k = kids_shown-is p c.self.inside.depth c.self.inside.keys.texts c.self.inside.body c.in-Inner.kids
     c.args.self.now.pieces n.rows (ap (λ (s : Seen). s.pieces) c.self.view_is) c.in-Inner.is
@@ -182,6 +171,7 @@ OwnNode::scan-returns-in-Inner-clause-rows g t c =
     ≡ kids_shown p (paired c.self.inside.keys.texts c.in-Inner.kids.items) =
     ap (λ w. kids_shown p (paired w c.deref-in-Inner.result.now)) c.as_slice-in-Inner.ensures ∙ ap
     (λ w. kids_shown p (paired c.self.inside.keys.texts w)) c.deref-in-Inner.ensures.value in
-    subst (λ w. OnOk c.scan_kids.result (c.scan_kids.new.out.items
-    ≡ with_scanned c.args.scan.now c.args.out.now.items (rows_or w)))
+    subst (λ w. IfOk c.scan_kids.result
+    (λ after. Took g.S.TakesRows.has c.args.sink.now c.scan_kids.new.sink c.args.room after
+    (taken c.args.scan.now c.args.room (rows_or w))))
     (pairs ∙ k ∙ sym n.is) c.scan_kids.ensures.rows

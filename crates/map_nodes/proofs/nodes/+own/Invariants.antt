@@ -1,8 +1,8 @@
-use Rattle.std.proofs.Common.{◌≡◌, ◌+◌}
+use Rattle.std.proofs.Common.{◌+◌}
 use Rattle.map_chunks.specs.Places.{Grows}
 use Rattle.group_history.specs.Rows.{paired}
 use Rattle.map_nodes.specs.Nodes.{child_height, kids_height}
-use Rattle.map_chunks.specs.Scanning.{with_scanned}
+use Rattle.map_chunks.specs.Scanning.{Took, taken}
 use Rattle.map_chunks.proofs.ScanLemmas.{first_rows}
 use Rattle.map_nodes.proofs.ScanLemmas.{shown_kid}
 use Rattle.map_nodes.proofs.nodes.+own.Given as goal
@@ -20,6 +20,6 @@ abbrev pub invariant-scanning::scan_kids-loop-place : goal.invariant-scanning::s
 invariant-scanning::scan_kids-loop-place g l =
     record {
       grown : Grows g.C.Chunks.contents g.C.Chunks.places l.fn.chunks l.chunks;
-      rows : l.out.items ≡ with_scanned l.scan l.fn.out.items
-          (first_rows (shown_kid (g.C.Chunks.contents l.fn.chunks)) (paired l.firsts l.kids) l.place);
+      rows : Took g.S.TakesRows.has l.fn.sink l.sink l.fn.room l.left (taken l.scan l.fn.room
+          (first_rows (shown_kid (g.C.Chunks.contents l.fn.chunks)) (paired l.firsts l.kids) l.place));
     }
