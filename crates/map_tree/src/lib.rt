@@ -6,5 +6,5 @@
 
 mod tree;
 
-pub use map_chunks::{Chunks, Draft, Lent, Shelf, ShowsChunk, VecChunks};
+pub use map_chunks::{Chunks, Draft, Lent, Shelf, ShowsChunk, TakesRows, VecChunks};
 pub use tree::Tree;

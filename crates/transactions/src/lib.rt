@@ -11,6 +11,7 @@ mod staged;
 mod writing;
 
 pub use fixed::{Fixed, Known};
+pub use map_tree::TakesRows;
 pub use reading::ReadTx;
 pub use staged::{HeldStaged, Staged};
 pub use writing::WriteTx;

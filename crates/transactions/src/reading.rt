@@ -4,18 +4,19 @@
 //! (`IsRead`), and that a node may be looked for at either. Contracts see the version, which no call changes, and what
 //! is known to be placed, which may
 //! grow with each call, also with one that stops.
-ghost use Rattle.std.specs.Prelude.{◌≡◌, ◌⊎◌, ◌==◌, length, Some, IfOk, IfErr, IsSome};
+ghost use Rattle.std.specs.Prelude.{◌≡◌, ◌⊎◌, ◌==◌, length, Some, IfOk, IfErr, OnOk, IsSome};
 ghost use mathlib.Core.List.{IsPrefix};
 ghost use Rattle.std.specs.FinMap as finite;
 ghost use Rattle.group_history.specs.Refs.{stamp_of};
 ghost use Rattle.group_history.specs.Scans.{rows_of};
 ghost use Rattle.group_history.specs.Spelling.{Version, map_at, version_at};
 ghost use Rattle.map_chunks.specs.Places.{Grows};
+ghost use Rattle.map_chunks.specs.Sinks.{HasMore};
 ghost use Rattle.group_history.specs.declared.mutators.Stop.TheVariants.{NoMemory};
 
 use commits::{Nodes, closed_of, cookie_of, read_root, walk};
 use group_history::{Cookie, Json, Mutation, Ref, Scan, Stop, Text};
-use map_tree::Tree;
+use map_tree::{TakesRows, Tree};
 use std::alloc::Global;
 use std::marker::Model;
 
@@ -121,6 +122,17 @@ impl<N: Nodes> ReadTx<N> {
         ensures stopped { IfErr result (λ stop. (stop ≡ NoMemory) ⊎ N.stops stop) }
     {
         Tree::at(self.root).scan(self.alloc, &mut self.nodes, scan)
+    }
+
+    /// Gives the pairs that the scan asks for to the sink, in the order of their keys, each by reference.
+    /// Where it stops, the sink may have some of them.
+    pub fn scan_into<S: TakesRows>(&mut self, scan: &Scan, sink: &mut S) -> Result<(), Stop>
+        ensures rows { OnOk result (HasMore S.has sink.old sink.new (rows_of scan.now self.old.version.read)) }
+        ensures same { self.new.version ≡ self.old.version }
+        ensures grown { IsPrefix self.old.contents self.new.contents }
+        ensures stopped { IfErr result (λ stop. (stop ≡ NoMemory) ⊎ N.stops stop) }
+    {
+        Tree::at(self.root).scan_into(&mut self.nodes, scan, sink)
     }
 
     /// Whether no key is there. Takes no memory.

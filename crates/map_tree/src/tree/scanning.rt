@@ -1,15 +1,15 @@
 //! Scans of a map.
-ghost use Rattle.std.specs.Prelude.{◌≡◌, ◌⊎◌, [], Some, IfOk, IfErr, OnOk, IsSome};
+ghost use Rattle.std.specs.Prelude.{◌≡◌, ◌⊎◌, Some, IfOk, IfErr, OnOk, IsSome};
 ghost use Rattle.group_history.specs.Map.{Entries};
 ghost use Rattle.group_history.specs.Scans.{rows_of};
 ghost use Rattle.group_history.specs.declared.mutators.Stop.TheVariants.{NoMemory};
-ghost use Rattle.map_chunks.specs.Scanning.{IsWithin, IsLow};
+ghost use Rattle.map_chunks.specs.Sinks.{HasMore};
 ghost use Rattle.map_chunks.specs.Places.{Grows, AreAll};
 ghost use Rattle.map_tree.specs.Trees.{tree_places, tree_map};
 
 use super::{Root, Tree};
 use group_history::{Json, Scan, Stop, Text};
-use map_chunks::Chunks;
+use map_chunks::{Chunks, TakesRows};
 use map_chunks::scanning::{lowest, scan_placed};
 use std::alloc::Global;
 
@@ -29,29 +29,36 @@ impl Tree {
         ensures stopped { IfErr result (λ s. (s ≡ NoMemory) ⊎ C.stops s) }
     {
         let mut rows = Vec::new(alloc);
-        self.scan_into(chunks, scan, lowest(scan).as_str(), &mut rows)?;
+        self.scan_into(chunks, scan, &mut rows)?;
         Ok(rows)
     }
 
-    fn scan_into<C: Chunks>(
+    /// Gives the pairs that the scan asks for to the sink, in the order of their keys. No pair is copied.
+    /// Stops for want of memory, which only the sink takes, or as the store does; the sink may then have some
+    /// of the pairs.
+    pub fn scan_into<C: Chunks, S: TakesRows>(
         &self,
         chunks: &mut C,
         scan: &Scan,
-        low: &str,
-        out: &mut Vec<(Text, Json)>,
+        sink: &mut S,
     ) -> Result<(), Stop>
         requires places { AreAll (C.places chunks.old) (tree_places self.now) }
-        requires tree { IsSome (tree_map (C.contents chunks.old) self.now) }
-        requires low { IsLow scan.now low.now }
-        requires none { out.old.items ≡ [] }
+        requires map { IsSome (tree_map (C.contents chunks.old) self.now) }
         ensures grown { Grows C.contents C.places chunks.old chunks.new }
         ensures rows { (m : Entries) → tree_map (C.contents chunks.old) self.now ≡ Some m
-            → OnOk result (out.new.items ≡ rows_of scan.now m) }
+            → OnOk result (HasMore S.has sink.old sink.new (rows_of scan.now m)) }
         ensures stopped { IfErr result (λ s. (s ≡ NoMemory) ⊎ C.stops s) }
     {
+        let low = lowest(scan).as_str();
         match &self.root {
-            Root::Placed(at) => scan_placed(chunks, *at, scan, low, out),
-            Root::Own(node) => node.scan(chunks, scan, low, out),
+            Root::Placed(at) => {
+                scan_placed(chunks, *at, scan, low, scan.limit, sink)?;
+                return Ok(());
+            }
+            Root::Own(node) => {
+                node.scan(chunks, scan, low, scan.limit, sink)?;
+                return Ok(());
+            }
         }
     }
 }
