@@ -66,7 +66,8 @@ fn is_chunk_kept<C: Chunks>(chunks: &mut C, root: Ref, at: Ref) -> Result<bool, 
     Ok(met)
 }
 
-/// Whether the root of a map reaches a node that was found.
+/// Whether the root of a map reaches a node that was found. What is reached has no greater stamp, so that a newer
+/// node isn't looked at.
 pub fn is_kept<N: Nodes>(nodes: &mut N, root: Ref, at: Found) -> Result<bool, Stop>
     requires root { IsSome (map_at (N.contents nodes.old) (stamp_of root)) }
     requires places { N.places nodes.old root × N.places nodes.old (ref_in at) }
@@ -75,7 +76,9 @@ pub fn is_kept<N: Nodes>(nodes: &mut N, root: Ref, at: Found) -> Result<bool, St
     ensures kept { IfOk result (λ kept. IsTrue kept ↔ Reaches (N.contents nodes.new) (stamp_of root) (stamp_in at)) }
     ensures stopped { IfErr result (λ stop. (stop ≡ NoMemory) ⊎ N.stops stop) }
 {
+    let newest = root.stamp();
     match at {
+        Found::Chunk(at) if at.stamp() > newest => Ok(false),
         Found::Chunk(at) => is_chunk_kept(nodes, root, at),
         Found::Commit(_) => Ok(false),
     }

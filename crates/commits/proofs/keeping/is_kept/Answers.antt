@@ -1,9 +1,9 @@
-use Rattle.std.proofs.Common.{subst}
+use Rattle.std.proofs.Common.{arith, subst}
 use Rattle.group_history.specs.Refs.{stamp_of}
 use Rattle.commits.specs.declared.founds.Found.{Found}
 use Rattle.commits.specs.Reach.{Reaches}
 use Rattle.commits.specs.Inside.Reach.{IsSpelled, ref_in, stamp_in}
-use Rattle.commits.proofs.Descending.{map_ordered}
+use Rattle.commits.proofs.Descending.{map_ordered, reach_low}
 use Rattle.commits.proofs.Rooted.{commit_unreached}
 use Rattle.commits.proofs.keeping.is_kept.Goals as goal
 
@@ -21,6 +21,16 @@ returns-in-Commit-clause-kept g c =
 pub is_chunk_kept-requires-clause-places : goal.is_chunk_kept-requires-clause-places
 is_chunk_kept-requires-clause-places g c = (
   c.requires.places.0,
-  subst (λ (f : Found). g.N.Chunks.places c.args.nodes.now (ref_in f)) c.in-Chunk.is
+  subst (λ (f : Found). g.N.Chunks.places c.args.nodes.now (ref_in f)) c.in-Chunk-2.is
       c.requires.places.1,
 )
+
+pub returns-in-Chunk-clause-kept : goal.returns-in-Chunk-clause-kept
+returns-in-Chunk-clause-kept g c =
+    let m = g.N.Chunks.contents c.args.nodes.now in
+    let o = map_ordered m (stamp_of c.args.root) c.requires.root in (
+      λ t. absurd (cc t),
+      λ r. (let low = reach_low m (stamp_of c.args.root) (stamp_of c.in-Chunk.at) o.0 o.1
+          (subst (λ (f : Found). Reaches m (stamp_of c.args.root) (stamp_in f)) c.in-Chunk.is r) in
+          absurd (omega (arith, low, c.if-stamp-newest.true, c.stamp.ensures.stamp, c.stamp-newest.ensures.stamp))),
+    )
