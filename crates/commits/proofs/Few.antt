@@ -1,5 +1,5 @@
 -- How much is pending at a commit, and how large ids are there.
-use Rattle.std.proofs.Common.{◌≡◌, ℕ, zero, suc, ◌+◌, ◌<◌, ◌≤◌, ◌^◌, List, [], ◌∷◌, length, Some, ap, arith}
+use Rattle.std.proofs.Common.{◌≡◌, ℕ, zero, suc, ◌+◌, ◌<◌, ◌≤◌, ◌^◌, [], ◌∷◌, length, Some, ap, arith}
 use Rattle.std.proofs.Common.{length-append}
 use Rattle.group_history.specs.declared.nodes.Kind.{Kind}
 use Rattle.group_history.specs.declared.nodes.Kind.TheVariants.{Snapshot, Over}

@@ -1,5 +1,5 @@
 -- Lists of what was found, by stamp.
-use Rattle.std.proofs.Common.{◌≡◌, ℕ, inl, inr, List, [], ◌∷◌, ◌++◌, map, refl, ap, sym, subst, ◌∙◌}
+use Rattle.std.proofs.Common.{◌≡◌, ℕ, ◌⊎◌, inl, inr, List, [], ◌∷◌, ◌++◌, map, refl, ap, sym, subst, ◌∙◌}
 use Rattle.std.specs.List.{Contains}
 use Rattle.std.specs.Ordering.{nat_cmp, match_ordering}
 use Rattle.std.specs.BTreeMap.{insert_entry}
@@ -8,7 +8,7 @@ use Rattle.std.specs.declared.cmp.Ordering.TheVariants.{Less, Equal, Greater}
 use Rattle.std.proofs.lemmas.List.Elements.{Contains-append_cases, Contains-append_left, Contains-append_right}
 use Rattle.std.proofs.lemmas.Map.Lookups.{exact_unsigned}
 use Rattle.commits.specs.declared.founds.Found.{Found}
-use Rattle.commits.specs.Inside.Reach.{stamp_in, AreKeyed, HasStamp, Adds}
+use Rattle.commits.specs.Inside.Reach.{stamp_in, AreKeyed, HasStamp, Walked, Adds}
 use Rattle.group_history.proofs.Lists.{only_one, cons_cases, no_element, one_here, first_here, later_here, map_to}
 
 keyed_first : (e : ℕ × Found) (es : List (ℕ × Found)) → AreKeyed (e ∷ es) → e.0 ≡ stamp_in e.1
@@ -22,15 +22,21 @@ stamps_twice : (es : List (ℕ × Found)) → map (λ (e : ℕ × Found). stamp_
 stamps_twice [] = refl
 stamps_twice (e ∷ es) = ap (λ w. stamp_in e.1 ∷ w) (stamps_twice es)
 
+-- news are olds and xs, one for each stamp
+pub record Joins (olds xs news : List Found) : Type 0 where
+  pub from : (f : Found) → Contains news f → Contains olds f ⊎ Contains xs f
+  pub kept : (f : Found) → Contains olds f → HasStamp news (stamp_in f)
+  pub added : (f : Found) → Contains xs f → HasStamp news (stamp_in f)
+
 pub inserted : (es : List (ℕ × Found)) (f : Found) → AreKeyed es
-    → Adds (map (λ (e : ℕ × Found). e.1) es) (f ∷ [])
+    → Joins (map (λ (e : ℕ × Found). e.1) es) (f ∷ [])
     (map (λ (e : ℕ × Found). e.1) (insert_entry nat_cmp es (stamp_in f) f))
 inserted [] f keyed = record { from = λ g h. inr h; kept = λ g h. absurd (no_element g h); added = λ g h. (g, h, refl) }
 inserted (e ∷ es) f keyed =
     let vs : List Found = map (λ (e : ℕ × Found). e.1) es in
     let k : ℕ = stamp_in f in
     let P : Ordering → Type 0 = λ r. nat_cmp k e.0 ≡ r
-    → Adds (e.1 ∷ vs) (f ∷ []) (map (λ (e : ℕ × Found). e.1)
+    → Joins (e.1 ∷ vs) (f ∷ []) (map (λ (e : ℕ × Found). e.1)
     (match_ordering r ((k, f) ∷ e ∷ es) ((e.0, f) ∷ es) (e ∷ insert_entry nat_cmp es k f))) in
     let all : (r : Ordering) → P r = λ r. elim r as P [
       | Less ↦ λ i. record {
@@ -92,15 +98,42 @@ keyed_last [] e keyed = (refl, keyed_first e [] keyed)
 keyed_last (d ∷ es) e keyed = let r = keyed_last es e (keyed_rest d (es ++ e ∷ []) keyed) in
     (cons_both (keyed_first d (es ++ e ∷ []) keyed) r.0, r.1)
 
-pub adds_more : (a b d xs ys : List Found) → Adds a xs b → Adds b ys d → Adds a (xs ++ ys) d
+-- what is known to be met is left out
+pub adds_none : (a : Walked) (f : Found) → Contains a.met (stamp_in f) → Adds a (f ∷ []) a
+adds_none a f has = record {
+  from = λ g h. inl h;
+  kept = λ g h. (g, h, refl);
+  added = λ g h. inr (subst (λ (w : Found). Contains a.met (stamp_in w)) (only_one f g h) has);
+  met = λ x h. inr h;
+}
+
+-- what isn't is added and noted
+pub adds_one : (a b : Walked) (f : Found) → Joins a.ahead (f ∷ []) b.ahead
+    → ((x : ℕ) → Contains b.met x → (x ≡ stamp_in f) ⊎ Contains a.met x) → Adds a (f ∷ []) b
+adds_one a b f joins noted =
+    let own = joins.added f (one_here f) in
+    record {
+      from = joins.from;
+      kept = joins.kept;
+      added = λ g h. inl (joins.added g h);
+      met = λ x h. elim (noted x h) [ inl e ↦ inl (own.0, own.1, own.2 ∙ sym e) | inr k ↦ inr k ];
+    }
+
+pub adds_more : (a b d : Walked) (xs ys : List Found) → Adds a xs b → Adds b ys d → Adds a (xs ++ ys) d
 adds_more a b d xs ys p q =
-    let on : (g : Found) → HasStamp b (stamp_in g)
-    → HasStamp d (stamp_in g) = λ g h. (let r = q.kept h.0 h.1 in (r.0, r.1, r.2 ∙ h.2)) in
+    let on : (x : ℕ) → HasStamp b.ahead x
+    → HasStamp d.ahead x = λ x h. (let r = q.kept h.0 h.1 in (r.0, r.1, r.2 ∙ h.2)) in
+    let either : (x : ℕ) → HasStamp b.ahead x ⊎ Contains a.met x
+    → HasStamp d.ahead x ⊎ Contains a.met x = λ x h. elim h [ inl i ↦ inl (on x i) | inr j ↦ inr j ] in
     record {
       from = λ g h. elim (q.from g h) [
         | inl i ↦ elim (p.from g i) [ inl j ↦ inl j | inr j ↦ inr (Contains-append_left xs ys g j) ]
         | inr i ↦ inr (Contains-append_right xs ys g i)
       ];
-      kept = λ g h. on g (p.kept g h);
-      added = λ g h. elim (Contains-append_cases xs ys g h) [ inl i ↦ on g (p.added g i) | inr i ↦ q.added g i ];
+      kept = λ g h. on (stamp_in g) (p.kept g h);
+      added = λ g h. elim (Contains-append_cases xs ys g h) [
+        | inl i ↦ either (stamp_in g) (p.added g i)
+        | inr i ↦ elim (q.added g i) [ inl j ↦ inl j | inr j ↦ either (stamp_in g) (p.met (stamp_in g) j) ]
+      ];
+      met = λ x h. elim (q.met x h) [ inl i ↦ inl i | inr j ↦ either x (p.met x j) ];
     }

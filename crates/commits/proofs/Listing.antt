@@ -16,7 +16,7 @@ use Rattle.map_chunks.specs.Places.{AreAll}
 use Rattle.commits.specs.declared.founds.Found.{Found}
 use Rattle.commits.specs.declared.founds.Found.TheVariants as found
 use Rattle.commits.specs.Reach.{Reaches, itself, through, Falls, stamps_of}
-use Rattle.commits.specs.Inside.Reach.{AreFound, ref_in, stamp_in, found_in, IsSpelled, HasStamp, Adds}
+use Rattle.commits.specs.Inside.Reach.{AreFound, ref_in, stamp_in, found_in, IsSpelled, HasStamp, Walked, Adds}
 use Rattle.std.specs.Prelude.{IsSome}
 use Rattle.commits.proofs.Descending.{map_ordered}
 use Rattle.commits.proofs.Rooted.{map_some_stays, kept_grown}
@@ -32,17 +32,18 @@ Has ns root out frontier x = (Contains (stamps_of out) x ⊎ HasStamp frontier x
 -- While a head's reach is listed, but for what a root keeps: out is listed, and the frontier is still to be looked at.
 -- Together with the root they have the children of all in out.
 pub record IsListing (was may : Ref → Type 0) (first ns : Contents) (head : Ref) (root : ℕ) (out : List Ref)
-    (frontier : List Found) : Type 0 where
+    (walk : Walked) : Type 0 where
   pub listed : (r : Ref) → Contains out r → Reaches ns (stamp_of head) (stamp_of r)
   pub apart : (r : Ref) → Contains out r → Reaches ns root (stamp_of r) → ⊥
-  pub ahead : (f : Found) → Contains frontier f → Reaches ns (stamp_of head) (stamp_in f) × IsSpelled ns f
-  pub begun : Has ns root out frontier (stamp_of head)
+  pub ahead : (f : Found) → Contains walk.ahead f → Reaches ns (stamp_of head) (stamp_in f) × IsSpelled ns f
+  pub begun : Has ns root out walk.ahead (stamp_of head)
   pub whole : (r : Ref) → Contains out r → (n : Node ℕ) × (slice_get ns (stamp_of r) ≡ Some n)
-      × ((c : ℕ) → Contains (children n) c → Has ns root out frontier c)
+      × ((c : ℕ) → Contains (children n) c → Has ns root out walk.ahead c)
   pub places : AreAll may out
-  pub places_ahead : AreFound may frontier
+  pub places_ahead : AreFound may walk.ahead
   pub falls : Falls (stamps_of out)
-  pub above : (r : Ref) (f : Found) → Contains out r → Contains frontier f → stamp_in f < stamp_of r
+  pub above : (r : Ref) (f : Found) → Contains out r → Contains walk.ahead f → stamp_in f < stamp_of r
+  pub met : (x : ℕ) → Contains walk.met x → Has ns root out walk.ahead x
   pub rooted : IsSome (map_at ns root)
   pub grown : IsPrefix first ns
   pub wider : (r : Ref) → was r → may r
@@ -75,12 +76,12 @@ falls_append (z ∷ xs) x f low = (
 )
 
 pub listing_grown : (was may wide : Ref → Type 0) (first ns more : Contents) (head : Ref) (root : ℕ) (out : List Ref)
-    (keys : List Found) → IsListing was may first ns head root out keys → IsPrefix ns more
+    (walk : Walked) → IsListing was may first ns head root out walk → IsPrefix ns more
     → ((r : Ref) → may r → wide r)
-    → IsListing was wide first more head root out keys
-listing_grown was may wide first ns more head root out keys is pre on =
-    let moved : (c : ℕ) → Has ns root out keys c
-    → Has more root out keys c = λ c h. elim h
+    → IsListing was wide first more head root out walk
+listing_grown was may wide first ns more head root out walk is pre on =
+    let moved : (c : ℕ) → Has ns root out walk.ahead c
+    → Has more root out walk.ahead c = λ c h. elim h
     [ inl p ↦ inl p | inr q ↦ inr (reaches_stays ns more root c pre q) ] in
     record {
       listed = λ r h. reaches_stays ns more (stamp_of head) (stamp_of r) pre (is.listed r h);
@@ -94,30 +95,40 @@ listing_grown was may wide first ns more head root out keys is pre on =
       places_ahead = λ f h. on (ref_in f) (is.places_ahead f h);
       falls = is.falls;
       above = is.above;
+      met = λ x h. moved x (is.met x h);
       rooted = map_some_stays ns more root pre is.rooted;
       grown = prefix_trans first ns more is.grown pre;
       wider = λ r h. on r (is.wider r h);
     }
 
-pub listing_begins : (may : Ref → Type 0) (first : Contents) (head : Ref) (root : ℕ) (v : Version) (keys : List Found)
-    → version_at first (stamp_of head) ≡ Some v → IsSome (map_at first root) → Adds [] (found.Commit head ∷ []) keys
+pub listing_begins : (may : Ref → Type 0) (first : Contents) (head : Ref) (root : ℕ) (v : Version) (start walk : Walked)
+    → version_at first (stamp_of head) ≡ Some v → IsSome (map_at first root) → start.ahead ≡ []
+    → ((x : ℕ) → Contains start.met x → x ≡ root) → Adds start (found.Commit head ∷ []) walk
     → IsPrefix first first → may head
-    → IsListing may may first first head root [] keys
-listing_begins may first head root v keys s o adds pre here =
-    let is : (f : Found) → Contains keys f
-    → found.Commit head ≡ f = λ f h. elim
-    (adds.from f h) [ inl p ↦ absurd (no_element f p) | inr q ↦ only_one (found.Commit head) f q ] in
+    → IsListing may may first first head root [] walk
+listing_begins may first head root v start walk s o none only adds pre here =
+    let is : (f : Found) → Contains walk.ahead f
+    → found.Commit head ≡ f = λ f h. elim (adds.from f h) [
+      | inl p ↦ absurd (no_element f (subst (λ (w : List Found). Contains w f) none p))
+      | inr q ↦ only_one (found.Commit head) f q
+    ] in
+    let either : (x : ℕ) → HasStamp walk.ahead x ⊎ Contains start.met x
+    → Has first root [] walk.ahead x = λ x h. elim h [
+      | inl p ↦ inl (inr p)
+      | inr q ↦ inr (subst (λ (w : ℕ). Reaches first root w) (sym (only x q)) (itself root))
+    ] in
     record {
       listed = λ r h. absurd (no_element r h);
       apart = λ r h k. no_element r h;
       ahead = λ f h. subst (λ (g : Found). Reaches first (stamp_of head) (stamp_in g) × IsSpelled first g) (is f h)
           (itself (stamp_of head), (v, s));
-      begun = inl (inr (adds.added (found.Commit head) (one_here (found.Commit head))));
+      begun = either (stamp_of head) (adds.added (found.Commit head) (one_here (found.Commit head)));
       whole = λ r h. absurd (no_element r h);
       places = λ r h. absurd (no_element r h);
       places_ahead = λ f h. subst (λ (g : Found). may (ref_in g)) (is f h) here;
       falls = tt;
       above = λ r f h i. absurd (no_element r h);
+      met = λ x h. either x (adds.met x h);
       rooted = o;
       grown = pre;
       wider = λ r h. h;
@@ -125,16 +136,16 @@ listing_begins may first head root v keys s o adds pre here =
 
 -- One step: the greatest of the frontier is listed, and its children join the frontier.
 pub listing_step : (was may : Ref → Type 0) (first ns : Contents) (head : Ref) (root : ℕ) (at : Found) (n : Node Ref)
-    (out : List Ref) (keys rest news : List Found)
-    → IsListing was may first ns head root out keys → keys ≡ rest ++ at ∷ []
-    → ((f : Found) → Contains rest f → stamp_in f < stamp_in at)
+    (out : List Ref) (keys rest news : Walked)
+    → IsListing was may first ns head root out keys → keys.ahead ≡ rest.ahead ++ at ∷ [] → rest.met ≡ keys.met
+    → ((f : Found) → Contains rest.ahead f → stamp_in f < stamp_in at)
     → (Reaches ns root (stamp_in at) → ⊥) → AreAll may (children n) → slice_get ns (stamp_in at) ≡ Some (content_of n)
     → Adds rest (found_in n) news → IsListing was may first ns head root (out ++ ref_in at ∷ []) news
-listing_step was may first ns head root at n out keys rest news is cut low free shown lies adds =
-    let in_rest : (f : Found) → Contains rest f
-    → Contains keys f = λ f h. subst (λ ks. Contains ks f) (sym cut) (Contains-append_left rest (at ∷ []) f h) in
-    let at_keys : Contains keys at = subst (λ ks. Contains ks at) (sym cut)
-    (Contains-append_right rest (at ∷ []) at (one_here at)) in
+listing_step was may first ns head root at n out keys rest news is cut same low free shown lies adds =
+    let in_rest : (f : Found) → Contains rest.ahead f
+    → Contains keys.ahead f = λ f h. subst (λ ks. Contains ks f) (sym cut) (Contains-append_left rest.ahead (at ∷ []) f h) in
+    let at_keys : Contains keys.ahead at = subst (λ ks. Contains ks at) (sym cut)
+    (Contains-append_right rest.ahead (at ∷ []) at (one_here at)) in
     let now = (is.ahead at at_keys).0 in
     let spelled = (is.ahead at at_keys).1 in
     let stamps : stamps_of (out ++ ref_in at ∷ [])
@@ -148,17 +159,22 @@ listing_step was may first ns head root at n out keys rest news is cut low free 
     let listed_at : Contains (stamps_of (out ++ ref_in at ∷ [])) (stamp_in at) = subst
     (λ (w : List ℕ). Contains w (stamp_in at)) (sym stamps)
     (Contains-append_right (stamps_of out) (stamp_in at ∷ []) (stamp_in at) (one_here (stamp_in at))) in
-    let moved : (c : ℕ) → Has ns root out keys c → Has ns root (out ++ ref_in at ∷ []) news c = λ c h. elim h [
+    let moved : (c : ℕ) → Has ns root out keys.ahead c → Has ns root (out ++ ref_in at ∷ []) news.ahead c = λ c h. elim h [
       | inr k ↦ inr k
       | inl g ↦ inl (elim g [
         | inl p ↦ inl (subst (λ (w : List ℕ). Contains w c) (sym stamps)
             (Contains-append_left (stamps_of out) (stamp_in at ∷ []) c p))
-        | inr q ↦ elim (Contains-append_cases rest (at ∷ []) q.0 (subst (λ ks. Contains ks q.0) cut q.1)) [
+        | inr q ↦ elim (Contains-append_cases rest.ahead (at ∷ []) q.0 (subst (λ ks. Contains ks q.0) cut q.1)) [
           | inl i ↦ (let k = adds.kept q.0 i in inr (k.0, k.1, k.2 ∙ q.2))
           | inr j ↦ inl (subst (λ (w : ℕ). Contains (stamps_of (out ++ ref_in at ∷ [])) w)
               (ap stamp_in (only_one at q.0 j) ∙ q.2) listed_at)
         ]
       ])
+    ] in
+    let either : (x : ℕ) → HasStamp news.ahead x ⊎ Contains rest.met x
+    → Has ns root (out ++ ref_in at ∷ []) news.ahead x = λ x h. elim h [
+      | inl p ↦ inl (inr p)
+      | inr q ↦ moved x (is.met x (subst (λ (w : List ℕ). Contains w x) same q))
     ] in
     record {
       listed = λ r h. elim (Contains-append_cases out (ref_in at ∷ []) r h) [
@@ -185,8 +201,8 @@ listing_step was may first ns head root at n out keys rest news is cut low free 
           content_of n,
           subst (λ (w : Ref). slice_get ns (stamp_of w) ≡ Some (content_of n)) (only_one (ref_in at) r q) lies,
           λ c i. (let f = map_from stamp_in (found_in n) c
-              (subst (λ (w : List ℕ). Contains w c) (sym (found_stamps n)) i) in let k = adds.added f.0 f.1 in
-              inl (inr (k.0, k.1, k.2 ∙ f.2))),
+              (subst (λ (w : List ℕ). Contains w c) (sym (found_stamps n)) i) in
+              either c (subst (λ (w : ℕ). HasStamp news.ahead w ⊎ Contains rest.met w) f.2 (adds.added f.0 f.1))),
         )
       ];
       places = λ r h. elim (Contains-append_cases out (ref_in at ∷ []) r h) [
@@ -210,6 +226,7 @@ listing_step was may first ns head root at n out keys rest news is cut low free 
         | inr q ↦ subst (λ (w : Ref). stamp_in f < stamp_of w) (only_one (ref_in at) r q)
             (elim (adds.from f i) [ inl j ↦ low f j | inr j ↦ lower f j ])
       ];
+      met = λ x h. either x (adds.met x h);
       rooted = is.rooted;
       grown = is.grown;
       wider = is.wider;
@@ -217,17 +234,18 @@ listing_step was may first ns head root at n out keys rest news is cut low free 
 
 -- What the root keeps is passed over.
 pub listing_skip : (was may : Ref → Type 0) (first ns : Contents) (head : Ref) (root : ℕ) (at : Found) (out : List Ref)
-    (keys rest : List Found)
-    → IsListing was may first ns head root out keys → keys ≡ rest ++ at ∷ [] → Reaches ns root (stamp_in at)
+    (keys rest : Walked)
+    → IsListing was may first ns head root out keys → keys.ahead ≡ rest.ahead ++ at ∷ [] → rest.met ≡ keys.met
+    → Reaches ns root (stamp_in at)
     → IsListing was may first ns head root out rest
-listing_skip was may first ns head root at out keys rest is cut kept =
-    let in_rest : (f : Found) → Contains rest f
-    → Contains keys f = λ f h. subst (λ ks. Contains ks f) (sym cut) (Contains-append_left rest (at ∷ []) f h) in
-    let moved : (c : ℕ) → Has ns root out keys c → Has ns root out rest c = λ c h. elim h [
+listing_skip was may first ns head root at out keys rest is cut same kept =
+    let in_rest : (f : Found) → Contains rest.ahead f
+    → Contains keys.ahead f = λ f h. subst (λ ks. Contains ks f) (sym cut) (Contains-append_left rest.ahead (at ∷ []) f h) in
+    let moved : (c : ℕ) → Has ns root out keys.ahead c → Has ns root out rest.ahead c = λ c h. elim h [
       | inr k ↦ inr k
       | inl g ↦ elim g [
         | inl p ↦ inl (inl p)
-        | inr q ↦ elim (Contains-append_cases rest (at ∷ []) q.0 (subst (λ ks. Contains ks q.0) cut q.1)) [
+        | inr q ↦ elim (Contains-append_cases rest.ahead (at ∷ []) q.0 (subst (λ ks. Contains ks q.0) cut q.1)) [
           | inl i ↦ inl (inr (q.0, i, q.2))
           | inr j ↦ inr (subst (λ (w : ℕ). Reaches ns root w) (ap stamp_in (only_one at q.0 j) ∙ q.2) kept)
         ]
@@ -243,24 +261,25 @@ listing_skip was may first ns head root at out keys rest is cut kept =
       places_ahead = λ f h. is.places_ahead f (in_rest f h);
       falls = is.falls;
       above = λ r f h i. is.above r f h (in_rest f i);
+      met = λ x h. moved x (is.met x (subst (λ (w : List ℕ). Contains w x) same h));
       rooted = is.rooted;
       grown = is.grown;
       wider = is.wider;
     }
 
 -- the frontier falls
-pub listing_falls : (ns : Contents) (at : Found) (n : Node Ref) (keys rest news : List Found) → IsSpelled ns at
-    → keys ≡ rest ++ at ∷ [] → ((f : Found) → Contains rest f → stamp_in f < stamp_in at)
-    → slice_get ns (stamp_in at) ≡ Some (content_of n) → Adds rest (found_in n) news → bound news < bound keys
+pub listing_falls : (ns : Contents) (at : Found) (n : Node Ref) (keys rest news : Walked) → IsSpelled ns at
+    → keys.ahead ≡ rest.ahead ++ at ∷ [] → ((f : Found) → Contains rest.ahead f → stamp_in f < stamp_in at)
+    → slice_get ns (stamp_in at) ≡ Some (content_of n) → Adds rest (found_in n) news → bound news.ahead < bound keys.ahead
 listing_falls ns at n keys rest news spelled cut low lies adds =
-    let at_keys : Contains keys at = subst (λ ks. Contains ks at) (sym cut)
-    (Contains-append_right rest (at ∷ []) at (one_here at)) in
+    let at_keys : Contains keys.ahead at = subst (λ ks. Contains ks at) (sym cut)
+    (Contains-append_right rest.ahead (at ∷ []) at (one_here at)) in
     let lower : (f : Found) → Contains (found_in n) f
     → stamp_in f < stamp_in at = λ f h. (child_there ns (stamp_in at) (stamp_in f) (content_of n)
     (there_found ns at spelled) lies
     (subst (λ (w : List ℕ). Contains w (stamp_in f)) (found_stamps n) (map_to stamp_in (found_in n) f h))).0 in
-    let top = bound_all news (stamp_in at) (λ f h. elim (adds.from f h) [ inl p ↦ low f p | inr q ↦ lower f q ]) in
-    omega (arith, top, below_bound keys at at_keys)
+    let top = bound_all news.ahead (stamp_in at) (λ f h. elim (adds.from f h) [ inl p ↦ low f p | inr q ↦ lower f q ]) in
+    omega (arith, top, below_bound keys.ahead at at_keys)
 
 pub skip_falls : (at : Found) (keys rest : List Found) → keys ≡ rest ++ at ∷ []
     → ((f : Found) → Contains rest f → stamp_in f < stamp_in at) → bound rest < bound keys
@@ -275,12 +294,17 @@ there_reached ns _ _ t (through a c b n is child rest) = there_reached ns c b (c
 
 -- With nothing ahead, just what is reached and not kept is listed.
 pub listing_ends : (was may : Ref → Type 0) (first ns : Contents) (head : Ref) (root : ℕ) (out : List Ref)
-    → IsListing was may first ns head root out []
+    (walk : Walked) → IsListing was may first ns head root out walk → walk.ahead ≡ []
     → (x : ℕ) → Contains (stamps_of out) x ↔ (Reaches ns (stamp_of head) x × (Reaches ns root x → ⊥))
-listing_ends was may first ns head root out is x =
-    let only : (c : ℕ) → Has ns root out [] c
-    → Contains (stamps_of out) c ⊎ Reaches ns root c = λ c h. elim h
-    [ inr k ↦ inr k | inl g ↦ elim g [ inl p ↦ inl p | inr q ↦ absurd (no_element q.0 q.1) ] ] in
+listing_ends was may first ns head root out walk is none x =
+    let only : (c : ℕ) → Has ns root out walk.ahead c
+    → Contains (stamps_of out) c ⊎ Reaches ns root c = λ c h. elim h [
+      | inr k ↦ inr k
+      | inl g ↦ elim g [
+        | inl p ↦ inl p
+        | inr q ↦ absurd (no_element q.0 (subst (λ (w : List Found). Contains w q.0) none q.1))
+      ]
+    ] in
     let o = map_ordered ns root is.rooted in
     let step : (y : ℕ) → Contains (stamps_of out) y ⊎ Reaches ns root y
     → (n : Node ℕ) × (slice_get ns y ≡ Some n)

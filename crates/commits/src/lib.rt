@@ -14,6 +14,7 @@ mod keeping;
 mod looks;
 mod meeting;
 mod merging;
+mod met;
 mod nodes;
 mod reaching;
 mod shelves;

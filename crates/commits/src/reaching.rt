@@ -73,7 +73,7 @@ fn reachable<N: Nodes>(alloc: Global, nodes: &mut N, head: Ref, root: Ref) -> Re
     ensures stopped { IfErr result (λ stop. (stop ≡ NoMemory) ⊎ N.stops stop) }
 {
     let mut listed = Vec::new(alloc);
-    let mut frontier = Frontier::new(alloc);
+    let mut frontier = Frontier::new(alloc, root.stamp())?;
     frontier.add(Found::Commit(head))?;
     while let Some(at) = frontier.pop() {
         visit(nodes, root, &mut frontier, &mut listed, at)?;

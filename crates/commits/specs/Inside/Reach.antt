@@ -41,11 +41,17 @@ AreKeyed es = map (λ e. e.0) es ≡ map (λ e. stamp_in e.1) es
 abbrev pub HasStamp : List Found → ℕ → Type 0
 HasStamp fs x = (f : Found) × Contains fs f × (stamp_in f ≡ x)
 
--- News are olds and xs, one for each stamp.
-pub record Adds (olds xs news : List Found) : Type 0 where
-  pub from : (f : Found) → Contains news f → Contains olds f ⊎ Contains xs f
-  pub kept : (f : Found) → Contains olds f → HasStamp news (stamp_in f)
-  pub added : (f : Found) → Contains xs f → HasStamp news (stamp_in f)
+-- What a walk still has to look at, and some of the stamps that it has met.
+pub record Walked : Type 0 where
+  pub ahead : List Found
+  pub met : List ℕ
+
+-- One step further xs are ahead too, but for what was met before. What is ahead has one node for each stamp.
+pub record Adds (olds : Walked) (xs : List Found) (news : Walked) : Type 0 where
+  pub from : (f : Found) → Contains news.ahead f → Contains olds.ahead f ⊎ Contains xs f
+  pub kept : (f : Found) → Contains olds.ahead f → HasStamp news.ahead (stamp_in f)
+  pub added : (f : Found) → Contains xs f → HasStamp news.ahead (stamp_in f) ⊎ Contains olds.met (stamp_in f)
+  pub met : (x : ℕ) → Contains news.met x → HasStamp news.ahead x ⊎ Contains olds.met x
 
 -- Left has what stands in before and has no stamp of kept.
 abbrev pub Leaves : List Ref → List Ref → List Ref → Type 0

@@ -1,12 +1,11 @@
-use Rattle.std.proofs.Common.{◌<◌, inl, inr, List, [], ◌∷◌, sym, subst}
+use Rattle.std.proofs.Common.{◌≡◌, ℕ, ◌<◌, inl, inr, List, [], ◌∷◌, sym, subst, ◌∙◌}
 use Rattle.std.specs.List.{Contains}
 use Rattle.std.proofs.lemmas.List.Elements.{Contains-append_right}
 use Rattle.group_history.specs.declared.refs.Ref.{Ref}
 use Rattle.group_history.specs.Refs.{stamp_of}
 use Rattle.group_history.proofs.Lists.{one_here, prefix_self}
 use Rattle.commits.specs.declared.founds.Found.{Found}
-use Rattle.commits.specs.declared.founds.Found.TheVariants as found
-use Rattle.commits.specs.Inside.Reach.{Adds}
+use Rattle.commits.specs.Inside.Reach.{Walked}
 use Rattle.commits.proofs.Chained.{some_version}
 use Rattle.commits.proofs.Reached.{spelled_grown}
 use Rattle.commits.proofs.Listing.{IsListing, bound, listing_begins, listing_grown, listing_step, listing_skip}
@@ -18,28 +17,28 @@ loop-at-init g c =
     let m = g.N.Chunks.contents c.args.nodes.now in
     let v = some_version m (stamp_of c.args.head) c.requires.head in
     let may = g.N.Chunks.places c.args.nodes.now in
-    let adds = subst (λ (w : List Found). Adds w (found.Commit c.args.head ∷ []) c.add.new.self) c.new-frontier.ensures
-    c.in_ok-add.ensures in
+    let only : (x : ℕ) → Contains c.in_ok-frontier.frontier.met x → x ≡ stamp_of c.args.root =
+    λ x h. c.in_ok-frontier.ensures.met x h ∙ c.stamp.ensures.stamp in
     subst (λ (w : List Ref). IsListing may may m m c.args.head (stamp_of c.args.root) w c.add.new.self)
     (sym c.new-listed.ensures.items)
-    (listing_begins may m c.args.head (stamp_of c.args.root) v.0 c.add.new.self v.1 c.requires.root adds
-    (prefix_self m) c.requires.places.0)
+    (listing_begins may m c.args.head (stamp_of c.args.root) v.0 c.in_ok-frontier.frontier c.add.new.self v.1
+    c.requires.root c.in_ok-frontier.ensures.ahead only c.in_ok-add.ensures (prefix_self m) c.requires.places.0)
 
 pub visit-requires-clause-found : goal.visit-requires-clause-found
 visit-requires-clause-found g c =
     (c.loop-at.invariant.ahead c.in-Some.at
     (subst (λ (w : List Found). Contains w c.in-Some.at) (sym c.in-Some.ensures.some)
-    (Contains-append_right c.pop.new.self (c.in-Some.at ∷ []) c.in-Some.at (one_here c.in-Some.at)))).1
+    (Contains-append_right c.pop.new.self.ahead (c.in-Some.at ∷ []) c.in-Some.at (one_here c.in-Some.at)))).1
 
 pub loop-at-smaller : goal.loop-at-smaller
 loop-at-smaller g c =
     let m = g.N.Chunks.contents in
     let spelled = (c.loop-at.invariant.ahead c.in-Some.at
     (subst (λ (w : List Found). Contains w c.in-Some.at) (sym c.in-Some.ensures.some)
-    (Contains-append_right c.pop.new.self (c.in-Some.at ∷ []) c.in-Some.at (one_here c.in-Some.at)))).1 in
+    (Contains-append_right c.pop.new.self.ahead (c.in-Some.at ∷ []) c.in-Some.at (one_here c.in-Some.at)))).1 in
     elim c.in_ok-visit.ensures.visited [
-      | inl p ↦ subst (λ (w : List Found). bound w < bound c.loop-at.frontier) (sym p.1)
-          (skip_falls c.in-Some.at c.loop-at.frontier c.pop.new.self c.in-Some.ensures.some c.in-Some.ensures.greatest)
+      | inl p ↦ subst (λ (w : Walked). bound w.ahead < bound c.loop-at.frontier.ahead) (sym p.1)
+          (skip_falls c.in-Some.at c.loop-at.frontier.ahead c.pop.new.self.ahead c.in-Some.ensures.some c.in-Some.ensures.greatest)
       | inr q ↦ listing_falls (m c.visit.new.nodes) c.in-Some.at q.0 c.loop-at.frontier c.pop.new.self
           c.visit.new.frontier
           (spelled_grown (m c.loop-at.nodes) (m c.visit.new.nodes) c.in-Some.at c.visit.ensures.grown.0 spelled)
@@ -56,12 +55,12 @@ loop-at-preserved g c =
     c.visit.ensures.grown.0 c.visit.ensures.grown.1 in
     elim c.in_ok-visit.ensures.visited [
       | inl p ↦ subst (λ (w : List Ref). IsListing was may first two c.args.head root w c.visit.new.frontier) (sym p.2)
-          (subst (λ (w : List Found). IsListing was may first two c.args.head root c.loop-at.listed.items w) (sym p.1)
+          (subst (λ (w : Walked). IsListing was may first two c.args.head root c.loop-at.listed.items w) (sym p.1)
           (listing_skip was may first two c.args.head root c.in-Some.at c.loop-at.listed.items c.loop-at.frontier
-          c.pop.new.self now c.in-Some.ensures.some p.0))
+          c.pop.new.self now c.in-Some.ensures.some c.pop.ensures.met p.0))
       | inr q ↦ subst (λ (w : List Ref). IsListing was may first two c.args.head root w c.visit.new.frontier) (sym q.5)
           (listing_step was may first two c.args.head root c.in-Some.at q.0 c.loop-at.listed.items c.loop-at.frontier
-          c.pop.new.self c.visit.new.frontier now c.in-Some.ensures.some c.in-Some.ensures.greatest q.1 q.2 q.3 q.4)
+          c.pop.new.self c.visit.new.frontier now c.in-Some.ensures.some c.pop.ensures.met c.in-Some.ensures.greatest q.1 q.2 q.3 q.4)
     ]
 
 pub returns-clause-exact : goal.returns-clause-exact
@@ -70,13 +69,12 @@ returns-clause-exact g c =
     let was = g.N.Chunks.places c.args.nodes.now in let may = g.N.Chunks.places c.loop-at.nodes in
     listing_ends was may (m c.args.nodes.now) (m c.loop-at.nodes) c.args.head
     (stamp_of c.args.root) c.loop-at.listed.items
-    (subst (λ (w : List Found). IsListing was may (m c.args.nodes.now) (m c.loop-at.nodes) c.args.head
-    (stamp_of c.args.root) c.loop-at.listed.items w) c.in_default.ensures.none c.loop-at.invariant)
+    c.loop-at.frontier c.loop-at.invariant c.in_default.ensures.none
 
 pub visit-requires-clause-places : goal.visit-requires-clause-places
 visit-requires-clause-places g c = (
   c.loop-at.invariant.wider c.args.root c.requires.places.1,
   c.loop-at.invariant.places_ahead c.in-Some.at
       (subst (λ (w : List Found). Contains w c.in-Some.at) (sym c.in-Some.ensures.some)
-      (Contains-append_right c.pop.new.self (c.in-Some.at ∷ []) c.in-Some.at (one_here c.in-Some.at))),
+      (Contains-append_right c.pop.new.self.ahead (c.in-Some.at ∷ []) c.in-Some.at (one_here c.in-Some.at))),
 )

@@ -8,4 +8,4 @@ invariant-loop-at g l = IsListing (g.N.Chunks.places l.initial.nodes) (g.N.Chunk
     (stamp_of l.root) l.listed.items l.frontier
 
 abbrev pub decreases-loop-at : goal.decreases-loop-at
-decreases-loop-at g l = bound l.frontier
+decreases-loop-at g l = bound l.frontier.ahead
