@@ -1,4 +1,5 @@
 pub mod Writings
 pub mod Pieces
+pub mod Growing
 pub mod Compact
 pub mod Sent

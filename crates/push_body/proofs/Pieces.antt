@@ -17,6 +17,14 @@ push_pieces i ms =
     ∷ codes "],\"profileID\":" ∷ quoted i.profile
     ∷ codes ",\"pushVersion\":1,\"schemaVersion\":" ∷ quoted i.schema ∷ codes "}" ∷ []
 
+abbrev pub head_pieces : Identity → List Bytes
+head_pieces i = codes "{\"clientGroupID\":" ∷ quoted i.group ∷ codes ",\"mutations\":[" ∷ []
+
+abbrev pub tail_pieces : Identity → List Bytes
+tail_pieces i =
+    codes "],\"profileID\":" ∷ quoted i.profile ∷ codes ",\"pushVersion\":1,\"schemaVersion\":"
+    ∷ quoted i.schema ∷ codes "}" ∷ []
+
 abbrev pub pull_pieces : Identity → Cookie → List Bytes
 pull_pieces i c =
     codes "{\"clientGroupID\":" ∷ quoted i.group ∷ codes ",\"cookie\":" ∷ c.text ∷ codes ",\"profileID\":"

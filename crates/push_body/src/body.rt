@@ -32,6 +32,14 @@ impl Body {
         Ok(Body { bytes })
     }
 
+    /// Makes room for so many bytes more.
+    #[inline(always)]
+    pub(crate) fn reserve(&mut self, room: usize) -> Result<(), AllocError>
+        ensures { self.new ≡ self.old }
+    {
+        self.bytes.reserve(room)
+    }
+
     /// Appends a piece as it stands.
     #[inline(always)]
     pub(crate) fn raw(&mut self, piece: &str) -> Result<(), AllocError>

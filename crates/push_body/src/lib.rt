@@ -11,9 +11,11 @@ mod plain;
 mod pull;
 mod push;
 mod quoted;
+mod writer;
 
 pub use identities::Identity;
 pub use laws::bodies_read_back;
 pub use pull::pull_bytes;
 pub use push::push_bytes;
 pub use quoted::push_quoted;
+pub use writer::PushWriter;

@@ -3,7 +3,7 @@ use Rattle.std.proofs.lemmas.Result.{on_ok_weaker}
 use Rattle.push_body.specs.Bodies.{mutation_text}
 use Rattle.push_body.proofs.Pieces.{mutation_pieces}
 use Rattle.push_body.proofs.Writings.{fold-append}
-use Rattle.push_body.proofs.push.push_mutation.Goals as goal
+use Rattle.push_body.proofs.writer.push_mutation.Goals as goal
 
 pub returns : goal.returns
 unfolding mutation_text
