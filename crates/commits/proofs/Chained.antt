@@ -95,7 +95,7 @@ stepped_pending : (s : State) (step : Step) → (stepped s step).pending ≡ s.p
 stepped_pending s (Local x) = refl
 stepped_pending s Closed = sym (append-nil s.pending)
 
-reverse_listed : {A : Type 0} (o : Option A) → reverse (listed o) ≡ listed o
+pub reverse_listed : {A : Type 0} (o : Option A) → reverse (listed o) ≡ listed o
 reverse_listed None = refl
 reverse_listed (Some x) = refl
 

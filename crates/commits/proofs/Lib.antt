@@ -2,6 +2,7 @@ pub mod Spelled
 pub mod Snapshots
 pub mod LastIds
 pub mod Chained
+pub mod Rising
 pub mod Few
 pub mod Findings
 pub mod Reached

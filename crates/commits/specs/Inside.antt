@@ -2,6 +2,7 @@
 -- chunk
 -- is met by a key of it, and of which kind a node is.
 pub mod Chains
+pub mod Handing
 pub mod Reach
 pub mod Meeting
 pub mod Kinds

@@ -189,6 +189,21 @@ pub fn show_root<N: Nodes>(nodes: &mut N, at: Ref) -> Result<Ref, Stop>
     Ok(root)
 }
 
+/// The commit before a commit; none for a snapshot.
+pub fn show_basis<N: Nodes>(nodes: &mut N, at: Ref) -> Result<Option<Ref>, Stop>
+    requires known { IsSome (version_at (N.contents nodes.old) (stamp_of at)) }
+    requires place { N.places nodes.old at }
+    ensures grown { Grows N.contents N.places nodes.old nodes.new }
+    ensures content { IfOk result (λ basis. (c : Committed Reference)
+        × IsShownAt (N.places nodes.new) (N.contents nodes.new) (stamp_of at) c × (basis ≡ basis_of c)) }
+    ensures stopped { IfErr result N.stops }
+{
+    let held = nodes.show_commit(at)?;
+    let basis = basis_in(held.commit());
+    nodes.leave_commit(held);
+    Ok(basis)
+}
+
 /// The id that a commit alone knows of a client, and the commit before it.
 pub fn show_own_id<N: Nodes>(nodes: &mut N, at: Ref, client: &Text) -> Result<OwnId, Stop>
     requires known { IsSome (version_at (N.contents nodes.old) (stamp_of at)) }

@@ -10,6 +10,7 @@
 mod chains;
 mod founds;
 mod frontiers;
+mod handing;
 mod keeping;
 mod looks;
 mod meeting;
@@ -22,6 +23,7 @@ mod states;
 mod stores;
 
 pub use chains::{Base, Top};
+pub use handing::{TakesMutations, hand_pending};
 pub use joined_machine::joined_law;
 pub use map_chunks::VecChunks as VecNodes;
 pub use nodes::{Nodes, ShowsCommit};
