@@ -11,6 +11,7 @@ use Rattle.map_tree.proofs.SeekLemmas.{there_is}
 use Rattle.map_chunks.proofs.Shelves.{some_of}
 use Rattle.map_tree.proofs.WriteLemmas.{kept_there, root_kept}
 use Rattle.map_chunks.proofs.KeptLemmas.{all_on}
+use Rattle.map_chunks.proofs.KeptLemmas.{grows_on}
 use Rattle.map_tree.proofs.tree.Tree.del.Goals as goal
 
 pub remove-requires-clause-map : goal.remove-requires-clause-map
@@ -69,3 +70,8 @@ returns-clause-wide g c w =
 pub remove-requires-clause-places : goal.remove-requires-clause-places
 remove-requires-clause-places g c = all_on (g.C.Chunks.places c.args.chunks.now)
     (g.C.Chunks.places c.sought.new.chunks) _ c.sought.ensures.grown.1 c.requires.places
+
+pub returns-then-is_there-clause-grown : goal.returns-then-is_there-clause-grown
+returns-then-is_there-clause-grown g c =
+    grows_on g.C.Chunks.contents g.C.Chunks.places _ _ _
+    c.sought.ensures.grown c.remove.ensures.grown

@@ -9,6 +9,7 @@ use Rattle.map_chunks.proofs.KeptLemmas.{all_on, kept-same}
 use Rattle.map_tree.proofs.SeekLemmas.{there_is, same_found}
 use Rattle.map_chunks.proofs.Shelves.{some_of}
 use Rattle.map_tree.proofs.WriteLemmas.{put_same, kept_there, root_kept}
+use Rattle.map_chunks.proofs.KeptLemmas.{grows_on}
 use Rattle.map_tree.proofs.tree.Tree.put.Goals as goal
 
 pub returns-then-is_same-clause-ok : goal.returns-then-is_same-clause-ok
@@ -97,3 +98,8 @@ returns-clause-wide g c w =
 pub write-requires-clause-places : goal.write-requires-clause-places
 write-requires-clause-places g c = all_on (g.C.Chunks.places c.args.chunks.now)
     (g.C.Chunks.places c.sought.new.chunks) _ c.sought.ensures.grown.1 c.requires.places
+
+pub returns-clause-grown : goal.returns-clause-grown
+returns-clause-grown g c =
+    grows_on g.C.Chunks.contents g.C.Chunks.places _ _ _
+    c.sought.ensures.grown c.write.ensures.grown

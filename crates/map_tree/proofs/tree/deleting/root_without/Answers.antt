@@ -16,6 +16,7 @@ use Rattle.map_chunks.proofs.Shelves.{some_of}
 use Rattle.map_chunks.proofs.TreeLemmas.{map_from}
 use Rattle.map_tree.proofs.WriteLemmas.{placed_map, entries_tree}
 use Rattle.map_nodes.proofs.PlaceLemmas.{new_may}
+use Rattle.map_chunks.proofs.KeptLemmas.{grows_on}
 use Rattle.map_tree.proofs.tree.deleting.root_without.Goals as goal
 
 pub copied-requires-clause-known : goal.copied-requires-clause-known
@@ -89,3 +90,13 @@ returns-clause-places g c =
 pub remove_root-requires-clause-places : goal.remove_root-requires-clause-places
 remove_root-requires-clause-places g c = new_may (g.C.Chunks.places c.copied.new.chunks)
     (places_of c.in_ok-node.node.pieces) c.in_ok-node.ensures.places
+
+pub returns-clause-grown : goal.returns-clause-grown
+returns-clause-grown g c =
+    grows_on g.C.Chunks.contents g.C.Chunks.places _ _ _
+    c.copied.ensures.grown c.remove_root.ensures.grown
+
+pub returns-in_err-end-clause-grown : goal.returns-in_err-end-clause-grown
+returns-in_err-end-clause-grown g c =
+    grows_on g.C.Chunks.contents g.C.Chunks.places _ _ _
+    c.copied.ensures.grown c.remove_root.ensures.grown

@@ -11,6 +11,7 @@ use Rattle.map_tree.proofs.RootCounts.{placed_rows}
 use Rattle.map_chunks.proofs.Shelves.{some_of}
 use Rattle.map_tree.proofs.WriteLemmas.{placed_map, found_there, entries_tree, put_copied}
 use Rattle.map_nodes.proofs.PlaceLemmas.{new_may}
+use Rattle.map_chunks.proofs.KeptLemmas.{grows_on}
 use Rattle.map_tree.proofs.tree.putting.root_with.Goals as goal
 
 pub copied-requires-clause-known : goal.copied-requires-clause-known
@@ -83,3 +84,13 @@ returns-clause-places g c =
 pub write-requires-clause-places : goal.write-requires-clause-places
 write-requires-clause-places g c = new_may (g.C.Chunks.places c.copied.new.chunks)
     (places_of c.in_ok-node.node.pieces) c.in_ok-node.ensures.places
+
+pub returns-clause-grown : goal.returns-clause-grown
+returns-clause-grown g c =
+    grows_on g.C.Chunks.contents g.C.Chunks.places _ _ _
+    c.copied.ensures.grown c.write.ensures.grown
+
+pub returns-in_err-write-clause-grown : goal.returns-in_err-write-clause-grown
+returns-in_err-write-clause-grown g c =
+    grows_on g.C.Chunks.contents g.C.Chunks.places _ _ _
+    c.copied.ensures.grown c.write.ensures.grown
