@@ -3,5 +3,6 @@ mod counts;
 mod ends;
 mod lists;
 mod opening;
+mod sinks;
 mod storms;
 mod watches;

@@ -2,8 +2,8 @@
 use crate::bodies::{Puts, item};
 use crate::filled::{Filled, NOTHING, TRIES, many_args};
 use crate::numbers::Numbers;
+use crate::written::Written;
 use group_history::{Json, Refusal, Scan, Start, Text};
-use json::Writer;
 use pull_patch::read_response;
 use std::alloc::Global;
 use std::time::{CpuClock, Duration};
@@ -212,62 +212,29 @@ fn rebases<K: CpuClock>(clock: &K, filled: &mut Filled<'_>, pending: u64) -> any
     Ok(best)
 }
 
-fn write_row(
-    out: &mut Vec<u8>,
-    token: Vec<u8>,
-    key: &str,
-    value: &Json,
-) -> anyhow::Result<Vec<u8>> {
-    let mut writer = Writer::new(token);
-    writer.string(key)?;
-    let token = writer.into_inner();
-    out.push(b'[')?;
-    out.extend_from_slice(&token)?;
-    out.push(b',')?;
-    out.extend_from_slice(value.text().as_bytes())?;
-    out.push(b']')?;
-    Ok(token)
-}
-
-fn write_rows(rows: &[(Text, Json)], out: &mut Vec<u8>, token: Vec<u8>) -> anyhow::Result<Vec<u8>> {
-    let mut token = token;
-    out.clear();
-    out.push(b'[')?;
-    for (key, value) in rows {
-        if out.len() > 1 {
-            out.push(b',')?;
-        }
-        token.clear();
-        token = write_row(out, token, key.as_str(), value)?;
-    }
-    out.push(b']')?;
-    Ok(token)
-}
-
-fn scan_one(filled: &mut Filled<'_>, scan: &Scan) -> Result<Vec<(Text, Json)>, Refusal> {
+fn scan_one(filled: &mut Filled<'_>, scan: &Scan, written: &mut Written) -> Result<(), Refusal> {
+    written.begin()?;
     let tx = filled.client.read(TRIES)?;
-    let rows = tx.scan(scan);
+    let done = tx.scan_into(scan, written);
     tx.close();
-    rows
+    done?;
+    written.end()?;
+    Ok(())
 }
 
 fn scan_each(filled: &mut Filled<'_>, turns: u64) -> anyhow::Result<()> {
     let alloc = filled.alloc;
     let mut numbers = Numbers::new(21);
-    let mut out = Vec::new(alloc);
-    let mut token = Vec::new(alloc);
+    let mut written = Written::new(alloc);
     for _ in 0..turns {
         let number = numbers.below(filled.keys / ROWS);
         let prefix = Text::from_string(format!(in alloc; "item/{number:06}")?)?;
-        let rows = scan_one(
-            filled,
-            &Scan {
-                prefix,
-                start: Start::Any,
-                limit: Some(ROWS),
-            },
-        )?;
-        token = write_rows(&rows, &mut out, token)?;
+        let scan = Scan {
+            prefix,
+            start: Start::Any,
+            limit: Some(ROWS),
+        };
+        scan_one(filled, &scan, &mut written)?;
     }
     Ok(())
 }

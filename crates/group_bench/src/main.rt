@@ -13,6 +13,7 @@ mod job;
 mod numbers;
 mod pauses;
 mod readers;
+mod written;
 
 use job::{Job, Kind};
 use std::alloc::Global;

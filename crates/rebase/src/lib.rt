@@ -31,4 +31,5 @@ pub use reader_claims::SlotCounts;
 pub use reading::{Point, ReadTx};
 pub use seats::{Seat, Seats};
 pub use tickets::Ticket;
+pub use transactions::TakesRows;
 pub use watching::{Polled, Rows, Watch};

@@ -1,5 +1,5 @@
 //! One commit, read as often as its reader likes.
-ghost use Rattle.std.specs.Prelude.{◌≡◌, ◌⊎◌, Some, None, IfOk, IfErr};
+ghost use Rattle.std.specs.Prelude.{◌≡◌, ◌⊎◌, Some, None, IfOk, IfErr, OnOk};
 ghost use mathlib.Core.List.{IsPrefix};
 ghost use Rattle.group_history.specs.declared.refusals.Refusal.TheVariants.{NoMemory};
 ghost use Rattle.group_history.specs.Queries.{get_at, has_at, rows_at, is_empty_at};
@@ -9,6 +9,7 @@ ghost use Rattle.group_history.specs.Spelling.{Spells, map_at, version_of};
 ghost use Rattle.group_history.specs.State.{view_of};
 ghost use Rattle.head_word.specs.Books.{drawn, record_of};
 ghost use Rattle.head_word.specs.Marks.{known};
+ghost use Rattle.map_chunks.specs.Sinks.{HasMore};
 ghost use Rattle.chunk_slots.specs.Seats.{IsIdle};
 ghost use Rattle.rebase.specs.Queries.{IsMissed};
 
@@ -20,7 +21,7 @@ use group_history::{Cookie, Json, Means, Mutation, Ref, Refusal, Scan, Text};
 use head_word::{Mark, one_record};
 use std::alloc::Global;
 use std::marker::Model;
-use transactions::ReadTx as CommitTx;
+use transactions::{ReadTx as CommitTx, TakesRows};
 
 /// A commit, the root of its map, and a mark by which its state is that of the mark's record.
 #[derive(Drop)]
@@ -173,6 +174,18 @@ where
         ensures err { IfErr result (λ e. (e ≡ NoMemory) ⊎ IsMissed S.reused e) }
     {
         self.at.scan(self.client.group, scan, self.tries)
+    }
+
+    /// Gives the pairs that the scan asks for to the sink, in the order of their keys, each by reference. After
+    /// an `Err` the sink may have some of them.
+    pub fn scan_into<T: TakesRows>(&self, scan: &Scan, sink: &mut T) -> Result<(), Refusal>
+        ensures rows { OnOk result (HasMore T.has sink.old sink.new
+            (rows_at M.means (after (record_of self.now.at.log)) scan.now)) }
+        ensures err { IfErr result (λ e. (e ≡ NoMemory) ⊎ IsMissed S.reused e) }
+    {
+        let group = self.client.group;
+        let mut tx = self.at.open(group.alloc, &group.shared, self.tries);
+        Ok(tx.scan_into(scan, sink)?)
     }
 
     /// Whether no key is there. Takes no memory.

@@ -8,20 +8,26 @@ ghost use Rattle.map_tree.specs.Trees.{tree_map, tree_places};
 
 use super::maps::{grown, placed};
 use group_history::{Json, Ref, Refusal, Scan, Start, Text};
-use map_tree::{Chunks, Draft, Shelf, Tree, VecChunks};
-use std::alloc::Global;
+use map_tree::{Chunks, Draft, Shelf, TakesRows, Tree, VecChunks};
+use std::alloc::{AllocError, Global};
 use std::marker::Brand;
 use std::prelude::*;
 use transactions::{Known, Staged};
 
-/// The numbers of the keys, one after another.
-fn told(alloc: Global, rows: &[(Text, Json)]) -> Result<String, Refusal> {
-    let mut told = String::new(alloc);
-    for (key, _) in rows {
-        told.push_str(key.as_str().trim_start_matches('k'))?;
-        told.push(' ')?;
+/// The numbers of the keys of rows, one after another.
+#[derive(Drop)]
+struct Told {
+    text: String,
+}
+
+impl TakesRows for Told {
+    ghost has = { λ told rows. Unit {0} };
+
+    fn take(&mut self, key: &Text, _value: &Json) -> Result<(), AllocError> {
+        self.text.push_str(key.as_str().trim_start_matches('k'))?;
+        self.text.push(' ')?;
+        Ok(())
     }
-    Ok(told)
 }
 
 /// What a scan of a map tells.
@@ -34,8 +40,11 @@ fn scanned<C: Chunks>(
     requires map { IsSome (tree_map (C.contents chunks.old) tree.now) }
     requires places { AreAll (C.places chunks.old) (tree_places tree.now) }
 {
-    let rows = tree.scan(alloc, chunks, scan)?;
-    told(alloc, &rows)
+    let mut told = Told {
+        text: String::new(alloc),
+    };
+    tree.scan_into(chunks, scan, &mut told)?;
+    Ok(told.text)
 }
 
 /// The scan in the map of k01 to k18.

@@ -10,9 +10,9 @@ ghost use Rattle.map_nodes.specs.Inside.Scanning.{kid_shown, kids_shown};
 
 use super::{Body, OwnChild, OwnNode};
 use group_history::{Scan, Stop, Text};
-use map_chunks::{Chunks, TakesRows};
 use map_chunks::scanning::{is_over, scan_placed, scan_rows};
 use map_chunks::search::place_of;
+use map_chunks::{Chunks, TakesRows};
 
 impl OwnNode {
     /// Takes the scan's rows of the chunk, and answers the room that is left. Stops for want of memory, or as

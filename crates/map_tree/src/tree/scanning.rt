@@ -9,8 +9,8 @@ ghost use Rattle.map_tree.specs.Trees.{tree_places, tree_map};
 
 use super::{Root, Tree};
 use group_history::{Json, Scan, Stop, Text};
-use map_chunks::{Chunks, TakesRows};
 use map_chunks::scanning::{lowest, scan_placed};
+use map_chunks::{Chunks, TakesRows};
 use std::alloc::Global;
 
 impl Tree {

@@ -135,25 +135,25 @@ OwnNode::scan-scan_kids-requires g t c κs ws =
         (
           ws.1.0,
           (
-          ws.1.1,
-          (
-            subst (λ ks. AreAll (g.C.Chunks.places c.args.chunks.now) (kids_places ks))
-                (sym c.deref-in-Inner.ensures.value)
-                (kids_may (g.C.Chunks.places c.args.chunks.now) c.self.inside.depth c.self.inside.keys.texts
-                c.self.inside.body c.in-Inner.kids c.args.self.now.pieces
-                (ap (λ (s : Seen). s.pieces) c.self.view_is) c.in-Inner.is c.self.invariant c.requires.1.1.1.1.1.0),
+            ws.1.1,
             (
-              subst (λ w. T (rises w)) (sym c.as_slice-in-Inner.ensures) i.0.1,
+              subst (λ ks. AreAll (g.C.Chunks.places c.args.chunks.now) (kids_places ks))
+                  (sym c.deref-in-Inner.ensures.value)
+                  (kids_may (g.C.Chunks.places c.args.chunks.now) c.self.inside.depth c.self.inside.keys.texts
+                  c.self.inside.body c.in-Inner.kids c.args.self.now.pieces
+                  (ap (λ (s : Seen). s.pieces) c.self.view_is) c.in-Inner.is c.self.invariant c.requires.1.1.1.1.1.0),
               (
-                omega (arith, i.1.2, ap length c.as_slice-in-Inner.ensures, ap length c.deref-in-Inner.ensures.value),
+                subst (λ w. T (rises w)) (sym c.as_slice-in-Inner.ensures) i.0.1,
                 (
-                  tree_of (kids_shown p (paired c.as_slice-in-Inner.result.now c.deref-in-Inner.result.now)) n.rows
-                      (pairs ∙ k) n.order,
-                  r.1,
+                  omega (arith, i.1.2, ap length c.as_slice-in-Inner.ensures, ap length c.deref-in-Inner.ensures.value),
+                  (
+                    tree_of (kids_shown p (paired c.as_slice-in-Inner.result.now c.deref-in-Inner.result.now)) n.rows
+                        (pairs ∙ k) n.order,
+                    r.1,
+                  ),
                 ),
               ),
             ),
-          ),
           ),
         ),
       ),
