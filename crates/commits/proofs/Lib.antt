@@ -13,3 +13,4 @@ pub mod Marked
 pub mod Choosing
 pub mod Descending
 pub mod Rooted
+pub mod Narrowing

@@ -6,12 +6,14 @@ ghost use Rattle.group_history.specs.declared.nodes.Chunk.{Chunk as Chunked};
 ghost use Rattle.group_history.specs.declared.refs.Ref.{Ref as Reference};
 ghost use Rattle.group_history.specs.declared.mutators.Stop.TheVariants.{NoMemory};
 ghost use Rattle.map_chunks.specs.Places.{Grows};
+ghost use Rattle.commits.specs.Inside.Gaps.{HasGap};
 ghost use Rattle.commits.specs.Inside.Meeting.{keys_in, IsFirst, LiesChunk};
 ghost use Rattle.commits.specs.Reach.{Reaches};
 ghost use Rattle.commits.specs.Inside.Reach.{IsSpelled, ref_in, stamp_in};
 
 use crate::chains::show_root;
 use crate::founds::Found;
+use crate::gaps::Gap;
 use crate::meeting::meets;
 use crate::nodes::Nodes;
 use crate::states::snapshot_of;
@@ -66,10 +68,11 @@ fn is_chunk_kept<C: Chunks>(chunks: &mut C, root: Ref, at: Ref) -> Result<bool, 
     Ok(met)
 }
 
-/// Whether the root of a map reaches a node that was found. What is reached has no greater stamp, so that a newer
-/// node isn't looked at.
-pub fn is_kept<N: Nodes>(nodes: &mut N, root: Ref, at: Found) -> Result<bool, Stop>
+/// Whether the root of a map reaches a node that was found. What is reached has no greater stamp, and none in the gap,
+/// so that such a node isn't looked at.
+pub fn is_kept<N: Nodes>(nodes: &mut N, root: Ref, gap: Gap, at: Found) -> Result<bool, Stop>
     requires root { IsSome (map_at (N.contents nodes.old) (stamp_of root)) }
+    requires gap { HasGap (N.contents nodes.old) (stamp_of root) gap }
     requires places { N.places nodes.old root × N.places nodes.old (ref_in at) }
     requires found { IsSpelled (N.contents nodes.old) at }
     ensures grown { Grows N.contents N.places nodes.old nodes.new }
@@ -79,6 +82,7 @@ pub fn is_kept<N: Nodes>(nodes: &mut N, root: Ref, at: Found) -> Result<bool, St
     let newest = root.stamp();
     match at {
         Found::Chunk(at) if at.stamp() > newest => Ok(false),
+        Found::Chunk(at) if gap.has(at) => Ok(false),
         Found::Chunk(at) => is_chunk_kept(nodes, root, at),
         Found::Commit(_) => Ok(false),
     }

@@ -10,6 +10,7 @@
 mod chains;
 mod founds;
 mod frontiers;
+mod gaps;
 mod handing;
 mod keeping;
 mod looks;

@@ -12,10 +12,12 @@ ghost use Rattle.group_history.specs.declared.refs.Ref.{Ref as Reference};
 ghost use Rattle.group_history.specs.declared.mutators.Stop.TheVariants.{NoMemory};
 ghost use Rattle.map_chunks.specs.Places.{Grows, AreAll};
 ghost use Rattle.commits.specs.Reach.{Reaches, IsDropped, Falls, stamps_of};
+ghost use Rattle.commits.specs.Inside.Gaps.{HasGap};
 ghost use Rattle.commits.specs.Inside.Reach.{Adds, IsSpelled, found_in, stamp_in, ref_in};
 
 use crate::founds::Found;
 use crate::frontiers::Frontier;
+use crate::gaps::{Gap, gap_below};
 use crate::keeping::{base_root, is_kept};
 use crate::looks::look;
 use crate::merging::{add, without};
@@ -36,11 +38,13 @@ fn ref_in(found: Found) -> Ref
 fn visit<N: Nodes>(
     nodes: &mut N,
     root: Ref,
+    gap: Gap,
     frontier: &mut Frontier,
     listed: &mut Vec<Ref>,
     at: Found,
 ) -> Result<(), Stop>
     requires root { IsSome (map_at (N.contents nodes.old) (stamp_of root)) }
+    requires gap { HasGap (N.contents nodes.old) (stamp_of root) gap }
     requires places { N.places nodes.old root × N.places nodes.old (ref_in at) }
     requires found { IsSpelled (N.contents nodes.old) at }
     ensures grown { Grows N.contents N.places nodes.old nodes.new }
@@ -52,7 +56,7 @@ fn visit<N: Nodes>(
         × Adds frontier.old (found_in n) frontier.new × (listed.new.items ≡ listed.old.items ++ ref_in at ∷ []))) }
     ensures stopped { IfErr result (λ stop. (stop ≡ NoMemory) ⊎ N.stops stop) }
 {
-    if is_kept(nodes, root, at)? {
+    if is_kept(nodes, root, gap, at)? {
         return Ok(());
     }
     look(nodes, frontier, at)?;
@@ -61,9 +65,16 @@ fn visit<N: Nodes>(
 }
 
 /// All that a commit reaches and the root of a map doesn't, by falling stamps.
-fn reachable<N: Nodes>(alloc: Global, nodes: &mut N, head: Ref, root: Ref) -> Result<Vec<Ref>, Stop>
+fn reachable<N: Nodes>(
+    alloc: Global,
+    nodes: &mut N,
+    head: Ref,
+    root: Ref,
+    gap: Gap,
+) -> Result<Vec<Ref>, Stop>
     requires head { IsSome (version_at (N.contents nodes.old) (stamp_of head)) }
     requires places { N.places nodes.old head × N.places nodes.old root }
+    requires gap { HasGap (N.contents nodes.old) (stamp_of root) gap }
     requires root { IsSome (map_at (N.contents nodes.old) (stamp_of root)) }
     ensures grown { Grows N.contents N.places nodes.old nodes.new }
     ensures exact { IfOk result (λ xs. (x : ℕ)
@@ -76,7 +87,7 @@ fn reachable<N: Nodes>(alloc: Global, nodes: &mut N, head: Ref, root: Ref) -> Re
     let mut frontier = Frontier::new(alloc, root.stamp())?;
     frontier.add(Found::Commit(head))?;
     while let Some(at) = frontier.pop() {
-        visit(nodes, root, &mut frontier, &mut listed, at)?;
+        visit(nodes, root, gap, &mut frontier, &mut listed, at)?;
     }
     Ok(listed)
 }
@@ -98,8 +109,9 @@ pub fn dropped<N: Nodes>(alloc: Global, nodes: &mut N, old: Ref, new: Ref) -> Re
     ensures stopped { IfErr result (λ stop. (stop ≡ NoMemory) ⊎ N.stops stop) }
 {
     let root = base_root(nodes, new)?;
-    let kept = reachable(alloc, nodes, new, root)?;
-    let before = reachable(alloc, nodes, old, root)?;
+    let gap = gap_below(nodes, root, old.stamp())?;
+    let kept = reachable(alloc, nodes, new, root, gap)?;
+    let before = reachable(alloc, nodes, old, root, gap)?;
     let left = without(alloc, &before, &kept)?;
     Ok(left)
 }

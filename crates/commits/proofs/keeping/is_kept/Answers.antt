@@ -1,4 +1,4 @@
-use Rattle.std.proofs.Common.{arith, subst}
+use Rattle.std.proofs.Common.{inl, inr, arith, subst}
 use Rattle.group_history.specs.Refs.{stamp_of}
 use Rattle.commits.specs.declared.founds.Found.{Found}
 use Rattle.commits.specs.Reach.{Reaches}
@@ -21,7 +21,7 @@ returns-in-Commit-clause-kept g c =
 pub is_chunk_kept-requires-clause-places : goal.is_chunk_kept-requires-clause-places
 is_chunk_kept-requires-clause-places g c = (
   c.requires.places.0,
-  subst (λ (f : Found). g.N.Chunks.places c.args.nodes.now (ref_in f)) c.in-Chunk-2.is
+  subst (λ (f : Found). g.N.Chunks.places c.args.nodes.now (ref_in f)) c.in-Chunk-3.is
       c.requires.places.1,
 )
 
@@ -33,4 +33,16 @@ returns-in-Chunk-clause-kept g c =
       λ r. (let low = reach_low m (stamp_of c.args.root) (stamp_of c.in-Chunk.at) o.0 o.1
           (subst (λ (f : Found). Reaches m (stamp_of c.args.root) (stamp_in f)) c.in-Chunk.is r) in
           absurd (omega (arith, low, c.if-stamp-newest.true, c.stamp.ensures.stamp, c.stamp-newest.ensures.stamp))),
+    )
+
+pub returns-in-Chunk-2-clause-kept : goal.returns-in-Chunk-2-clause-kept
+returns-in-Chunk-2-clause-kept g c =
+    let m = g.N.Chunks.contents c.args.nodes.now in
+    let inside = c.has.ensures c.if-has.true in (
+      λ t. absurd (cc t),
+      λ r. elim (c.requires.gap (stamp_of c.in-Chunk-2.at)
+          (subst (λ (f : Found). Reaches m (stamp_of c.args.root) (stamp_in f)) c.in-Chunk-2.is r)) [
+            | inl l ↦ absurd (omega (arith, l, inside.0))
+            | inr h ↦ absurd (omega (arith, h, inside.1))
+          ],
     )

@@ -8,6 +8,7 @@ use Rattle.commits.specs.declared.founds.Found.{Found}
 use Rattle.commits.specs.Inside.Reach.{Walked}
 use Rattle.commits.proofs.Chained.{some_version}
 use Rattle.commits.proofs.Reached.{spelled_grown}
+use Rattle.commits.proofs.Rooted.{kept_grown}
 use Rattle.commits.proofs.Listing.{IsListing, bound, listing_begins, listing_grown, listing_step, listing_skip}
 use Rattle.commits.proofs.Listing.{listing_falls, skip_falls, listing_ends}
 use Rattle.commits.proofs.reaching.reachable.Goals as goal
@@ -78,3 +79,9 @@ visit-requires-clause-places g c = (
       (subst (λ (w : List Found). Contains w c.in-Some.at) (sym c.in-Some.ensures.some)
       (Contains-append_right c.pop.new.self.ahead (c.in-Some.at ∷ []) c.in-Some.at (one_here c.in-Some.at))),
 )
+
+pub visit-requires-clause-gap : goal.visit-requires-clause-gap
+visit-requires-clause-gap g c x r =
+    let m = g.N.Chunks.contents in
+    c.requires.gap x ((kept_grown (m c.args.nodes.now) (m c.loop-at.nodes) (stamp_of c.args.root) x c.requires.root
+    c.loop-at.invariant.grown).1 r)
