@@ -10,7 +10,8 @@ use Rattle.push_body.proofs.Pieces.{head_pieces, tail_pieces}
 use Rattle.push_body.proofs.Writings.{join-push}
 
 -- a push is its head, its mutations and its tail
-pub push-parts : (i : Identity) (ms : List Mutation) → (head_text i ++ mutations_text ms) ++ tail_text i ≡ push_text i ms
+pub push-parts : (i : Identity) (ms : List Mutation)
+    → (head_text i ++ mutations_text ms) ++ tail_text i ≡ push_text i ms
 unfolding push_text head_text tail_text
 push-parts i ms =
     append_assoc (head_text i) (mutations_text ms) (tail_text i)
