@@ -61,8 +61,11 @@ linked : (kind : Kind Ref) (basis : Ref) → basis_named kind ≡ Some basis
     → (o : Option Mutation) × (added_in kind ≡ o)
     × (link_named kind ≡ Some (let l : Link = record { added = o; basis = basis } in l))
 linked (Snapshot s) basis is = absurd (cc is)
-linked (Over o) basis is = let e : o.basis ≡ basis = cc is in
-    (added_by o.step, refl, ap (λ (b : Ref). Some (let l : Link = record { added = added_by o.step; basis = b } in l)) e)
+linked (Over o) basis is = let e : o.basis ≡ basis = cc is in (
+  added_by o.step,
+  refl,
+  ap (λ (b : Ref). Some (let l : Link = record { added = added_by o.step; basis = b } in l)) e,
+)
 
 -- one commit down
 pub stair_step : (p q : Ref → Type 0) (first ns more : Contents) (head : ℕ) (at : Ref) (chain : List Ref)
