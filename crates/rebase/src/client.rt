@@ -20,16 +20,17 @@ ghost use Rattle.commits.specs.LastIds.{last_at};
 ghost use Rattle.uuid.specs.Text.{hyphenated_text, lower};
 
 use crate::group::Group;
+use crate::pushing::body_at;
 use crate::reading::{Point, ReadTx};
 use crate::seats::Seat;
 use crate::steps::{begin, find_last};
 use crate::tickets::Ticket;
-use crate::views::{cookie_at, pending_at, root_at};
+use crate::views::{cookie_at, root_at};
 use chunk_slots::Slots;
 use commits::LastId;
 use group_history::{Cookie, Means, Ref, Refusal, Text};
 use head_word::Mark;
-use push_body::{Identity, pull_bytes, push_bytes};
+use push_body::{Identity, pull_bytes};
 use std::alloc::{AllocError, Global};
 use uuid::Uuid;
 
@@ -122,9 +123,17 @@ where
             × (self.new.last ≡ self.old.last) }
     {
         let at = self.begin(tries)?;
-        let pending = pending_at(self.group.alloc, &self.group.shared, &self.mark, at, tries);
+        let group = self.group;
+        let body = body_at(
+            group.alloc,
+            &group.shared,
+            &self.mark,
+            at,
+            &group.identity,
+            tries,
+        );
         self.finish();
-        push_bytes(self.group.alloc, &self.group.identity, &pending?)
+        body
     }
 
     /// The body of a pull at the group's cookie, and the ticket with which it ends.

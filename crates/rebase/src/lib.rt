@@ -16,6 +16,7 @@ mod config;
 mod group;
 mod moving;
 mod proposing;
+mod pushing;
 mod reading;
 mod seats;
 mod steps;

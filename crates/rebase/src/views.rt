@@ -13,12 +13,9 @@ ghost use Rattle.answered.specs.Trying.{IsBase};
 ghost use Rattle.rebase.specs.Queries.{IsMissed};
 
 use chunk_slots::Slots;
-use commits::{
-    LastId, Nodes, Shared, StoreNodes, closed_of, cookie_of, last_id_since, read_root, walk,
-};
-use group_history::{Cookie, Means, Mutation, Ref, Refusal, Stop, Text};
+use commits::{LastId, Nodes, Shared, StoreNodes, closed_of, cookie_of, last_id_since, read_root};
+use group_history::{Cookie, Means, Ref, Refusal, Stop, Text};
 use head_word::Mark;
-use std::alloc::Global;
 use std::marker::Brand;
 use transactions::{Fixed, Known};
 
@@ -49,23 +46,6 @@ pub(crate) fn root_at<'a, M: Means, S: Slots<M>>(
 {
     let nodes = StoreNodes::new(shared, mark, tries);
     Ok(root_known::<StoreNodes<'a, M, S>, Brand>(nodes, at)?)
-}
-
-/// The mutations that are not confirmed at a commit, the oldest first.
-pub(crate) fn pending_at<M: Means, S: Slots<M>>(
-    alloc: Global,
-    shared: &Shared<M, S>,
-    mark: &Mark<M>,
-    at: Ref,
-    tries: u32,
-) -> Result<Vec<Mutation>, Refusal>
-    requires book { mark.now.book ≡ shared.now.head }
-    requires spelled { (s : State) × IsBase M.means mark.now at s }
-    ensures pending { (s : State) → IsBase M.means mark.now at s → IfOk result (λ xs. xs.items ≡ s.pending) }
-    ensures err { IfErr result (λ e. (e ≡ NoMemory) ⊎ IsMissed S.reused e) }
-{
-    let mut nodes = StoreNodes::new(shared, mark, tries);
-    Ok(walk(alloc, &mut nodes, at)?)
 }
 
 /// The cookie of a commit's state.
