@@ -18,13 +18,14 @@ ghost use Rattle.group_history.specs.declared.refs.Ref.{Ref as Reference};
 ghost use Rattle.map_chunks.specs.Drafts.{AreBelow};
 
 use commits::{
-    CommitState, VecNodes, closed_of, cookie_of, dropped, last_id_of, read_root, state_of, walk,
+    CommitState, TakesMutations, VecNodes, closed_of, cookie_of, dropped, hand_pending, last_id_of,
+    read_root, state_of, walk,
 };
 use group_history::{
     Chunk, Commit, ConfirmedIds, Cookie, Inner, Json, Keys, Kind, Leaf, Mutation, Node, Over, Ref,
     Refusal, Snapshot, Step, Text, TextMap,
 };
-use std::alloc::Global;
+use std::alloc::{AllocError, Global};
 use std::prelude::*;
 use std::sync::Arc;
 
@@ -201,6 +202,40 @@ fn walked_ids(alloc: Global, nodes: &VecNodes, head: Ref) -> Result<u64, Refusal
     Ok(ids)
 }
 
+/// The ids that it took, as the digits of a number.
+#[derive(Drop)]
+struct Taken {
+    ids: u64,
+}
+
+impl TakesMutations for Taken {
+    ghost has = { λ taken xs. Unit {0} };
+
+    fn take(&mut self, mutation: &Mutation) -> Result<(), AllocError> {
+        self.ids = self.ids.wrapping_mul(10).wrapping_add(mutation.id);
+        Ok(())
+    }
+}
+
+/// The ids that are handed over, behind a 9 that was there before.
+fn handed_ids(alloc: Global, nodes: &VecNodes, head: Ref) -> Result<u64, Refusal>
+    requires { IsSome (version_at (map content_of nodes.now) (stamp_of head)) }
+{
+    let mut shelf = nodes.shelf();
+    let mut taken = Taken { ids: 9 };
+    hand_pending(alloc, &mut shelf, head, &mut taken)?;
+    Ok(taken.ids)
+}
+
+/// Those of the third local commit, of the next snapshot, and of the closing.
+fn handed(alloc: Global) -> Result<(u64, u64, u64), Refusal> {
+    let nodes = example(alloc)?;
+    let third = handed_ids(alloc, &nodes, at(6))?;
+    let next = handed_ids(alloc, &nodes, at(7))?;
+    let closing = handed_ids(alloc, &nodes, at(8))?;
+    Ok((third, next, closing))
+}
+
 fn third_walked(alloc: Global) -> Result<u64, Refusal> {
     let nodes = example(alloc)?;
     walked_ids(alloc, &nodes, at(6))
@@ -220,6 +255,12 @@ fn closing_walked(alloc: Global) -> Result<u64, Refusal> {
 fn the_oldest_stands_first(rt: HostRuntime) -> Result<(), Refusal> {
     assert_eq!(rt; third_walked(rt.alloc())?, 516);
     assert_eq!(rt; closing_walked(rt.alloc())?, 516);
+    Ok(())
+}
+
+#[test]
+fn the_oldest_is_handed_over_first(rt: HostRuntime) -> Result<(), Refusal> {
+    assert_eq!(rt; handed(rt.alloc())?, (9516, 9, 9516));
     Ok(())
 }
 
