@@ -20,11 +20,13 @@ impl Written {
     /// Begins anew.
     pub(crate) fn begin(&mut self) -> Result<(), AllocError> {
         self.out.clear();
-        self.out.push(b'[')
+        self.out.push(b'[')?;
+        Ok(())
     }
 
     pub(crate) fn end(&mut self) -> Result<(), AllocError> {
-        self.out.push(b']')
+        self.out.push(b']')?;
+        Ok(())
     }
 }
 
@@ -36,7 +38,8 @@ fn is_plain(text: &[u8]) -> bool {
 fn write_escaped(out: &mut Vec<u8>, text: &str) -> Result<(), AllocError> {
     let mut writer = Writer::new(Vec::new(*out.allocator()));
     writer.string(text)?;
-    out.extend_from_slice(&writer.into_inner())
+    out.extend_from_slice(&writer.into_inner())?;
+    Ok(())
 }
 
 fn write_text(out: &mut Vec<u8>, text: &str) -> Result<(), AllocError> {
@@ -45,7 +48,8 @@ fn write_text(out: &mut Vec<u8>, text: &str) -> Result<(), AllocError> {
     }
     out.push(b'"')?;
     out.extend_from_slice(text.as_bytes())?;
-    out.push(b'"')
+    out.push(b'"')?;
+    Ok(())
 }
 
 fn write_row(out: &mut Vec<u8>, key: &str, value: &str) -> Result<(), AllocError> {
@@ -56,7 +60,8 @@ fn write_row(out: &mut Vec<u8>, key: &str, value: &str) -> Result<(), AllocError
     write_text(out, key)?;
     out.push(b',')?;
     out.extend_from_slice(value.as_bytes())?;
-    out.push(b']')
+    out.push(b']')?;
+    Ok(())
 }
 
 impl TakesRows for Written {
