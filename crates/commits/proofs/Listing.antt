@@ -143,7 +143,8 @@ pub listing_step : (was may : Ref → Type 0) (first ns : Contents) (head : Ref)
     → Adds rest (found_in n) news → IsListing was may first ns head root (out ++ ref_in at ∷ []) news
 listing_step was may first ns head root at n out keys rest news is cut same low free shown lies adds =
     let in_rest : (f : Found) → Contains rest.ahead f
-    → Contains keys.ahead f = λ f h. subst (λ ks. Contains ks f) (sym cut) (Contains-append_left rest.ahead (at ∷ []) f h) in
+    → Contains keys.ahead f = λ f h. subst (λ ks. Contains ks f) (sym cut) (Contains-append_left rest.ahead
+    (at ∷ []) f h) in
     let at_keys : Contains keys.ahead at = subst (λ ks. Contains ks at) (sym cut)
     (Contains-append_right rest.ahead (at ∷ []) at (one_here at)) in
     let now = (is.ahead at at_keys).0 in
@@ -159,7 +160,8 @@ listing_step was may first ns head root at n out keys rest news is cut same low 
     let listed_at : Contains (stamps_of (out ++ ref_in at ∷ [])) (stamp_in at) = subst
     (λ (w : List ℕ). Contains w (stamp_in at)) (sym stamps)
     (Contains-append_right (stamps_of out) (stamp_in at ∷ []) (stamp_in at) (one_here (stamp_in at))) in
-    let moved : (c : ℕ) → Has ns root out keys.ahead c → Has ns root (out ++ ref_in at ∷ []) news.ahead c = λ c h. elim h [
+    let moved : (c : ℕ) → Has ns root out keys.ahead c → Has ns root
+    (out ++ ref_in at ∷ []) news.ahead c = λ c h. elim h [
       | inr k ↦ inr k
       | inl g ↦ inl (elim g [
         | inl p ↦ inl (subst (λ (w : List ℕ). Contains w c) (sym stamps)
@@ -240,7 +242,8 @@ pub listing_skip : (was may : Ref → Type 0) (first ns : Contents) (head : Ref)
     → IsListing was may first ns head root out rest
 listing_skip was may first ns head root at out keys rest is cut same kept =
     let in_rest : (f : Found) → Contains rest.ahead f
-    → Contains keys.ahead f = λ f h. subst (λ ks. Contains ks f) (sym cut) (Contains-append_left rest.ahead (at ∷ []) f h) in
+    → Contains keys.ahead f = λ f h. subst (λ ks. Contains ks f) (sym cut) (Contains-append_left rest.ahead
+    (at ∷ []) f h) in
     let moved : (c : ℕ) → Has ns root out keys.ahead c → Has ns root out rest.ahead c = λ c h. elim h [
       | inr k ↦ inr k
       | inl g ↦ elim g [
@@ -270,7 +273,8 @@ listing_skip was may first ns head root at out keys rest is cut same kept =
 -- the frontier falls
 pub listing_falls : (ns : Contents) (at : Found) (n : Node Ref) (keys rest news : Walked) → IsSpelled ns at
     → keys.ahead ≡ rest.ahead ++ at ∷ [] → ((f : Found) → Contains rest.ahead f → stamp_in f < stamp_in at)
-    → slice_get ns (stamp_in at) ≡ Some (content_of n) → Adds rest (found_in n) news → bound news.ahead < bound keys.ahead
+    → slice_get ns (stamp_in at) ≡ Some (content_of n) → Adds rest (found_in n) news
+    → bound news.ahead < bound keys.ahead
 listing_falls ns at n keys rest news spelled cut low lies adds =
     let at_keys : Contains keys.ahead at = subst (λ ks. Contains ks at) (sym cut)
     (Contains-append_right rest.ahead (at ∷ []) at (one_here at)) in
@@ -278,7 +282,8 @@ listing_falls ns at n keys rest news spelled cut low lies adds =
     → stamp_in f < stamp_in at = λ f h. (child_there ns (stamp_in at) (stamp_in f) (content_of n)
     (there_found ns at spelled) lies
     (subst (λ (w : List ℕ). Contains w (stamp_in f)) (found_stamps n) (map_to stamp_in (found_in n) f h))).0 in
-    let top = bound_all news.ahead (stamp_in at) (λ f h. elim (adds.from f h) [ inl p ↦ low f p | inr q ↦ lower f q ]) in
+    let top = bound_all news.ahead (stamp_in at) (λ f h.
+    elim (adds.from f h) [ inl p ↦ low f p | inr q ↦ lower f q ]) in
     omega (arith, top, below_bound keys.ahead at at_keys)
 
 pub skip_falls : (at : Found) (keys rest : List Found) → keys ≡ rest ++ at ∷ []

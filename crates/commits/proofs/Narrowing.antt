@@ -83,7 +83,8 @@ below_chunk ns _ _ limit low rows c t here above lies tops more (through a k b n
 
 module _ (first ns more : Contents) (root at low limit next : ℕ) (c : Chunk Ref) (t : Tops)
     (is : IsNarrowed first ns root at low limit) (above : limit < at) (pre : IsPrefix ns more)
-    (lies : LiesChunk more at c) (tops : IsTops (chunk_children c) t) (raised : low ≤ next) (second : t.second ≤ next) where
+    (lies : LiesChunk more at c) (tops : IsTops (chunk_children c) t) (raised : low ≤ next)
+    (second : t.second ≤ next) where
   narrowed : (x : ℕ) → Reaches more root x
       → ((x ≤ next) ⊎ (limit < x)) ⊎ ((r : Ref) × (t.top ≡ Some r) × Reaches more (stamp_of r) x)
   narrowed x r =
@@ -103,7 +104,8 @@ module _ (first ns more : Contents) (root at low limit next : ℕ) (c : Chunk Re
       (map_to stamp_of (chunk_children c) top (tops.one top e)) in
       let down = reaches_child more at at (stamp_of top) (content_of (node.Chunk c)) (itself at) lies child in
       let s = chunk_reaches more at (stamp_of top) is.rows here down in (
-        (child_there more at (stamp_of top) (content_of (node.Chunk c)) (there_segment more at is.rows here) lies child).0,
+        (child_there more at (stamp_of top) (content_of (node.Chunk c))
+            (there_segment more at is.rows here) lies child).0,
         record {
           rooted = map_some_stays ns more root pre is.rooted;
           rows = s.0;

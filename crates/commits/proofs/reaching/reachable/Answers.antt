@@ -39,7 +39,8 @@ loop-at-smaller g c =
     (Contains-append_right c.pop.new.self.ahead (c.in-Some.at ∷ []) c.in-Some.at (one_here c.in-Some.at)))).1 in
     elim c.in_ok-visit.ensures.visited [
       | inl p ↦ subst (λ (w : Walked). bound w.ahead < bound c.loop-at.frontier.ahead) (sym p.1)
-          (skip_falls c.in-Some.at c.loop-at.frontier.ahead c.pop.new.self.ahead c.in-Some.ensures.some c.in-Some.ensures.greatest)
+          (skip_falls c.in-Some.at c.loop-at.frontier.ahead c.pop.new.self.ahead c.in-Some.ensures.some
+          c.in-Some.ensures.greatest)
       | inr q ↦ listing_falls (m c.visit.new.nodes) c.in-Some.at q.0 c.loop-at.frontier c.pop.new.self
           c.visit.new.frontier
           (spelled_grown (m c.loop-at.nodes) (m c.visit.new.nodes) c.in-Some.at c.visit.ensures.grown.0 spelled)
@@ -61,7 +62,8 @@ loop-at-preserved g c =
           c.pop.new.self now c.in-Some.ensures.some c.pop.ensures.met p.0))
       | inr q ↦ subst (λ (w : List Ref). IsListing was may first two c.args.head root w c.visit.new.frontier) (sym q.5)
           (listing_step was may first two c.args.head root c.in-Some.at q.0 c.loop-at.listed.items c.loop-at.frontier
-          c.pop.new.self c.visit.new.frontier now c.in-Some.ensures.some c.pop.ensures.met c.in-Some.ensures.greatest q.1 q.2 q.3 q.4)
+          c.pop.new.self c.visit.new.frontier now c.in-Some.ensures.some c.pop.ensures.met c.in-Some.ensures.greatest
+          q.1 q.2 q.3 q.4)
     ]
 
 pub returns-clause-exact : goal.returns-clause-exact

@@ -57,7 +57,8 @@ base_of-requires-clause-place g c = c.walk.ensures.grown.1 c.args.head
 pub returns-clause-grown : goal.returns-clause-grown
 returns-clause-grown g c =
     grows_on g.N.Chunks.contents g.N.Chunks.places _ _ _
-    (grows_on g.N.Chunks.contents g.N.Chunks.places _ _ _ c.closed_of.ensures.grown c.walk.ensures.grown) c.base_of.ensures.grown
+    (grows_on g.N.Chunks.contents g.N.Chunks.places _ _ _ c.closed_of.ensures.grown c.walk.ensures.grown)
+    c.base_of.ensures.grown
 
 pub returns-in_err-pending-clause-grown : goal.returns-in_err-pending-clause-grown
 returns-in_err-pending-clause-grown g c =
@@ -67,4 +68,5 @@ returns-in_err-pending-clause-grown g c =
 pub returns-in_err-cookie-clause-grown : goal.returns-in_err-cookie-clause-grown
 returns-in_err-cookie-clause-grown g c =
     grows_on g.N.Chunks.contents g.N.Chunks.places _ _ _
-    (grows_on g.N.Chunks.contents g.N.Chunks.places _ _ _ c.closed_of.ensures.grown c.walk.ensures.grown) c.base_of.ensures.grown
+    (grows_on g.N.Chunks.contents g.N.Chunks.places _ _ _ c.closed_of.ensures.grown c.walk.ensures.grown)
+    c.base_of.ensures.grown

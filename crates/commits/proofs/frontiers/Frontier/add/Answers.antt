@@ -22,7 +22,10 @@ returns c =
     (stamp_in c.args.found) c.args.found = c.in_ok-insert.ensures.entries ∙ ap
     (λ (k : ℕ). insert_entry nat_cmp es k c.args.found) c.stamp_in-stamp.ensures in
     let before : Walked = record { ahead = map (λ (e : ℕ × Found). e.1) es; met = c.self.inside.met } in
-    let after : Walked = record { ahead = map (λ (e : ℕ × Found). e.1) c.insert.new.self.entries; met = c.note.new.self } in
+    let after : Walked = record {
+      ahead = map (λ (e : ℕ × Found). e.1) c.insert.new.self.entries;
+      met = c.note.new.self;
+    } in
     let joins : Joins before.ahead (c.args.found ∷ []) after.ahead =
     subst (λ (w : List (ℕ × Found)). Joins before.ahead (c.args.found ∷ []) (map (λ (e : ℕ × Found). e.1) w)) (sym is)
     (inserted es c.args.found c.self.invariant) in
