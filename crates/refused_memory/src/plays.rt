@@ -13,7 +13,7 @@ use crate::seats;
 use crate::steps::make_steps;
 use crate::then::tell_then;
 use chunk_slots::{Append, Arena, Store};
-use group_history::Refusal;
+use group_history::{Refusal, Scan};
 use rebase::{Client, Group, Reply, Seats, Ticket};
 use script_mutators::ScriptMutators;
 use std::alloc::Global;
@@ -208,6 +208,21 @@ where
     told(it.rt, answer)
 }
 
+// A call that is given a scan to watch.
+fn try_scanned<R: Wait + Sync, S: Store<ScriptMutators>>(
+    it: &Turn<'_, '_, R>,
+    a: &mut Client<'_, ScriptMutators, S>,
+    scan: Scan,
+) -> Answer
+where
+    S::Seat: Drop,
+{
+    match it.line.call {
+        "poll" => poll(it.rt, a, scan),
+        _ => seats::learn(it.rt, a, scan),
+    }
+}
+
 fn try_call<R: Wait + Sync, S: Store<ScriptMutators>>(
     it: &Turn<'_, '_, R>,
     a: &mut Client<'_, ScriptMutators, S>,
@@ -218,8 +233,7 @@ where
 {
     match it.line.call {
         "nothing" => Ok(Reply::Is(false)),
-        "poll" => poll(it.rt, a, it.given.all.clone()?),
-        "learn" => seats::learn(it.rt, a, it.given.all.clone()?),
+        "poll" | "learn" => try_scanned(it, a, it.given.all.clone()?),
         "mutate" => mutate(it.rt, it.on, a, it.given),
         "end_pull" => end_pull(it.rt, it.on, a, ticket),
         _ => try_named(it, a, ticket),

@@ -1,5 +1,5 @@
 //! The steps of a seat at its store, and of a mark at its head, one after the other. They take no memory.
-ghost use Rattle.std.specs.Prelude.{◌≡◌, IsSome};
+ghost use Rattle.std.specs.Prelude.{◌≡◌, IsSome, IfOk};
 
 use crate::answers::Answer;
 use crate::counts::Counted;
@@ -101,6 +101,25 @@ fn step_all<S: Counted>(
     claimed && drew
 }
 
+// A store, its head, and one of its seats and marks.
+fn open_one<S: Counted>(
+    rt: &HostRuntime,
+    parts: S::Parts,
+) -> Result<(S, S::Seat, Head<ScriptMutators>, Mark<ScriptMutators>), Refusal>
+where
+    S::Seat: Drop,
+    S::Parts: Drop,
+    ensures home { IfOk result (λ made. S.home made.1 ≡ S.serves made.0) }
+    ensures book { IfOk result (λ made. made.3.book ≡ made.2) }
+    ensures seat { IfOk result (λ made. IsSome made.3.seat) }
+{
+    let (store, mut seats, head, mut marks) = S::open(rt.alloc(), parts, SLOTS, SEATS)?;
+    let (Some(seat), Some(mark)) = (seats.pop(), marks.pop()) else {
+        return Err(Refusal::NoSeat);
+    };
+    Ok((store, seat, head, mark))
+}
+
 /// Opens a store, and makes each step once.
 pub(crate) fn make_steps<S: Counted>(rt: &HostRuntime, parts: S::Parts) -> Answer
 where
@@ -108,10 +127,7 @@ where
     S::Parts: Drop,
 {
     let leaf = empty_leaf(rt.alloc())?;
-    let (store, mut seats, head, mut marks) = S::open(rt.alloc(), parts, SLOTS, SEATS)?;
-    let (Some(mut seat), Some(mut mark)) = (seats.pop(), marks.pop()) else {
-        return Err(Refusal::NoSeat);
-    };
+    let (store, mut seat, head, mut mark) = open_one::<S>(rt, parts)?;
     let stepped = step_all(rt, &store, &head, &mut seat, &mut mark, leaf);
     Ok(Reply::Is(stepped))
 }
