@@ -92,6 +92,29 @@ fn reachable<N: Nodes>(
     Ok(listed)
 }
 
+/// What both walks pass over: what a root keeps, and a gap in it.
+#[derive(Clone, Copy)]
+struct Part {
+    root: Ref,
+    gap: Gap,
+}
+
+// The new head's pulled map, with a gap up to the old head.
+fn kept_part<N: Nodes>(nodes: &mut N, old: Ref, new: Ref) -> Result<Part, Stop>
+    requires known { IsSome (version_at (N.contents nodes.old) (stamp_of new)) }
+    requires place { N.places nodes.old new }
+    ensures grown { Grows N.contents N.places nodes.old nodes.new }
+    ensures map { IfOk result (λ part. IsSome (map_at (N.contents nodes.new) (stamp_of part.root))) }
+    ensures reached { IfOk result (λ part. Reaches (N.contents nodes.new) (stamp_of new) (stamp_of part.root)) }
+    ensures place { IfOk result (λ part. N.places nodes.new part.root) }
+    ensures gap { IfOk result (λ part. HasGap (N.contents nodes.new) (stamp_of part.root) part.gap) }
+    ensures stopped { IfErr result N.stops }
+{
+    let root = base_root(nodes, new)?;
+    let gap = gap_below(nodes, root, old.stamp())?;
+    Ok(Part { root, gap })
+}
+
 /// What the old head reaches and the new one doesn't: the nodes that a change of the head from `old` to
 /// `new` leaves behind, by falling stamps, each once.
 ///
@@ -108,10 +131,9 @@ pub fn dropped<N: Nodes>(alloc: Global, nodes: &mut N, old: Ref, new: Ref) -> Re
     ensures places { IfOk result (λ xs. AreAll (N.places nodes.new) xs.items) }
     ensures stopped { IfErr result (λ stop. (stop ≡ NoMemory) ⊎ N.stops stop) }
 {
-    let root = base_root(nodes, new)?;
-    let gap = gap_below(nodes, root, old.stamp())?;
-    let kept = reachable(alloc, nodes, new, root, gap)?;
-    let before = reachable(alloc, nodes, old, root, gap)?;
+    let part = kept_part(nodes, old, new)?;
+    let kept = reachable(alloc, nodes, new, part.root, part.gap)?;
+    let before = reachable(alloc, nodes, old, part.root, part.gap)?;
     let left = without(alloc, &before, &kept)?;
     Ok(left)
 }
