@@ -173,7 +173,8 @@ module _ (k : Sizes) (s : Stock) (o : Stamped k s) where
         tried = λ j z d does n inside. each (λ q d'. IsTrying d'.try → In (slots_of d'.try) z
             → s.lies z ≡ s.mine q z) s.world.works id (work_after a m)
             (λ n' h. ⊎_elim (λ (g : IsTrying a.try × In (slots_of a.try) z). o.tried id z a me.work g.0 g.1)
-            (λ (g : In v.taken z × (s.filled z ≡ true)). o.full id z v me.view g.0 g.1) (tried_before s a z m filled n' h))
+            (λ (g : In v.taken z × (s.filled z ≡ true)). o.full id z v me.view g.0 g.1)
+            (tried_before s a z m filled n' h))
             (λ q d' ne at n' h. o.tried q z d' at n' h) j d does n inside;
       }
 

@@ -315,7 +315,10 @@ IsUtf8-pull_text i c h cookie =
             cookie,
             (
               ascii _ refl,
-              (IsUtf8-quoted i.profile h.profile, (ascii _ refl, (IsUtf8-quoted i.schema h.schema, (ascii _ refl, tt)))),
+              (
+                IsUtf8-quoted i.profile h.profile,
+                (ascii _ refl, (IsUtf8-quoted i.schema h.schema, (ascii _ refl, tt))),
+              ),
             ),
           ),
         ),

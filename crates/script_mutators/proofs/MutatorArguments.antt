@@ -32,16 +32,16 @@ unfolding text_of
 HasText-text_of d text is = HasText-at _ _ d text refl refl is
 
 -- where the arguments are of another number
-pub one_item_other : (vs : List Value) → length vs ≢ 1 → one_item (items_view vs) ≡ None
-one_item_other [] other = refl
-one_item_other (a ∷ []) other = absurd (other refl)
-one_item_other (a ∷ b ∷ vs) other = refl
+pub no_one_item : (vs : List Value) → length vs ≢ 1 → one_item (items_view vs) ≡ None
+no_one_item [] other = refl
+no_one_item (a ∷ []) other = absurd (other refl)
+no_one_item (a ∷ b ∷ vs) other = refl
 
-pub two_items_other : (vs : List Value) → length vs ≢ 2 → two_items (items_view vs) ≡ None
-two_items_other [] other = refl
-two_items_other (a ∷ []) other = refl
-two_items_other (a ∷ b ∷ []) other = absurd (other refl)
-two_items_other (a ∷ b ∷ v ∷ vs) other = refl
+pub no_two_items : (vs : List Value) → length vs ≢ 2 → two_items (items_view vs) ≡ None
+no_two_items [] other = refl
+no_two_items (a ∷ []) other = refl
+no_two_items (a ∷ b ∷ []) other = absurd (other refl)
+no_two_items (a ∷ b ∷ v ∷ vs) other = refl
 
 left_of_or : (b : Bool) → (b || false) ≡ false → b ≡ false
 left_of_or true h = h
@@ -71,7 +71,7 @@ pub HasText-value : (args : Data) (both : Bytes × Data) → HasText args → So
 HasText-value args both h is = subst (λ o. IfSome o (λ both. HasText both.1)) (sym is) (HasText-part args h)
 
 -- at arguments that read as a value a mutator means what it means at the value
-pub meaning_at_text_read : (means : Option (Data → Entries → Meaning)) (args : Bytes) (d : Data) (m : Entries)
+pub means_read : (means : Option (Data → Entries → Meaning)) (args : Bytes) (d : Data) (m : Entries)
     → value_of args ≡ Some d → meaning_at_text means args m ≡ meaning_at means d m
-meaning_at_text_read None args d m is = refl
-meaning_at_text_read (Some means) args d m is = ap (λ o. needs wrong_arguments o (λ a. means a m)) is
+means_read None args d m is = refl
+means_read (Some means) args d m is = ap (λ o. needs wrong_arguments o (λ a. means a m)) is

@@ -94,7 +94,7 @@ pub(crate) fn text_alone<'a>(args: &'a Args<'_>) -> Option<&'a str>
 }
 
 /// The one text that a value is as arguments.
-#[tactic(auto, using(crate::proofs::MutatorArguments::one_item_other), unfolding(crate::specs::Mutators::text_alone))]
+#[tactic(auto, using(crate::proofs::MutatorArguments::no_one_item), unfolding(crate::specs::Mutators::text_alone))]
 fn one_text(args: &Value) -> Option<&str>
     ensures { option_map (λ s. s.now) result ≡ spec.text_alone (data_of args.now) }
 {
@@ -122,7 +122,7 @@ pub(crate) fn text_and_value<'a>(args: &'a Args<'_>) -> Option<(&'a str, Part<'a
 }
 
 /// The text and the other value that a value is as arguments.
-#[tactic(auto, using(crate::proofs::MutatorArguments::two_items_other), unfolding(crate::specs::Mutators::text_and_value))]
+#[tactic(auto, using(crate::proofs::MutatorArguments::no_two_items), unfolding(crate::specs::Mutators::text_and_value))]
 fn text_and_other(args: &Value) -> Option<(&str, &Value)>
     ensures { option_map (λ both. (both.0.now, data_of both.1.now)) result ≡ spec.text_and_value (data_of args.now) }
 {

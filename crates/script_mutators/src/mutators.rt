@@ -30,7 +30,7 @@ impl Means for ScriptMutators {
 }
 
 impl Mutators for ScriptMutators {
-    #[tactic(auto, using(crate::proofs::MutatorArguments::meaning_at_text_read), unfolding(crate::specs::Mutators::script_means))]
+    #[tactic(auto, using(crate::proofs::MutatorArguments::means_read), unfolding(crate::specs::Mutators::script_means))]
     fn run<V: WriteView>(
         &self,
         alloc: Global,

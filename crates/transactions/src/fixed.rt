@@ -27,7 +27,7 @@ impl Known for Brand {
 pub struct Fixed<C: Chunks, K: Known> {
     chunks: C,
     of: PhantomData<K>,
-    ghost begun: { take (length K.known) (C.contents chunks) ≡ K.known } by { Prim.hlevel (codes, ids_coded, Coded-set) },
+    ghost has: { take (length K.known) (C.contents chunks) ≡ K.known } by { Prim.hlevel (codes, ids_coded, Coded-set) },
 }
 
 impl<C: Chunks, K: Known> Fixed<C, K> {

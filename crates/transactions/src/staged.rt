@@ -38,7 +38,7 @@ pub struct Staged<'a, C: Chunks, K: Known> {
     chunks: Fixed<C, K>,
     draft: &'a Draft,
     ghost behind: { draft.now.first ≡ length K.known },
-    ghost everywhere: { (at : Reference) → C.places chunks.chunks at } by { Π_prop (λ at. C.places_prop chunks.chunks at) },
+    ghost everywhere: { (at : Reference) → C.places chunks.chunks at } by { Π_prop (C.places_prop chunks.chunks) },
 }
 
 impl<'a, C: Chunks, K: Known> Staged<'a, C, K> {

@@ -24,7 +24,7 @@ pub struct WriteTx<C: Chunks> {
     chunks: C,
     tree: Tree,
     ghost spells: { IsSome (tree_map (C.contents chunks) tree) },
-    ghost placed: { AreAll (C.places chunks) (tree_places tree) } by { all_prop (C.places chunks) (tree_places tree) (C.places_prop chunks) },
+    ghost placed: { AreAll (C.places chunks) (tree_places tree) } by { all_prop _ _ (C.places_prop chunks) },
 }
 
 impl<C: Chunks> WriteTx<C> {

@@ -5,12 +5,12 @@ use Rattle.transactions.proofs.fixed.FixedNodes.show_commit.Goals as goal
 
 pub show_commit-requires-clause-known : goal.show_commit-requires-clause-known
 show_commit-requires-clause-known g c = still_version _ (g.N.Chunks.contents c.args.self.now.chunks)
-    (stamp_of c.args.at) c.args.self.now.begun c.requires.known
+    (stamp_of c.args.at) c.args.self.now.has c.requires.known
 
 pub invariant_of-self : goal.invariant_of-self
 invariant_of-self g c = record {
-  begun = begun_on _ (g.N.Chunks.contents c.args.self.now.chunks)
-      (g.N.Chunks.contents c.show_commit.new.self) c.args.self.now.begun c.show_commit.ensures.grown.0;
+  has = begun_on _ (g.N.Chunks.contents c.args.self.now.chunks)
+      (g.N.Chunks.contents c.show_commit.new.self) c.args.self.now.has c.show_commit.ensures.grown.0;
 }
 
 pub returns-clause-content : goal.returns-clause-content
@@ -18,4 +18,4 @@ returns-clause-content g c =
     if_ok_so c.show_commit.result c.show_commit.ensures.content
     (λ held lies. known_commit _ (g.N.Chunks.contents c.args.self.now.chunks)
     (g.N.Chunks.contents c.show_commit.new.self)
-    (stamp_of c.args.at) _ c.args.self.now.begun c.show_commit.ensures.grown.0 c.requires.known lies)
+    (stamp_of c.args.at) _ c.args.self.now.has c.show_commit.ensures.grown.0 c.requires.known lies)
