@@ -65,6 +65,24 @@ impl Body {
         self.raw(digits.format(number))
     }
 
+    /// Appends a piece as it stands, and a text as JSON.
+    #[inline(always)]
+    pub(crate) fn text_field(&mut self, head: &str, text: &str) -> Result<(), AllocError>
+        ensures { OnOk result (self.new ≡ (self.old ++ head.now) ++ quoted text.now) }
+    {
+        self.raw(head)?;
+        self.text(text)
+    }
+
+    /// Appends a piece as it stands, and a number in decimal.
+    #[inline(always)]
+    pub(crate) fn number_field(&mut self, head: &str, number: u64) -> Result<(), AllocError>
+        ensures { OnOk result (self.new ≡ (self.old ++ head.now) ++ decimal number) }
+    {
+        self.raw(head)?;
+        self.number(number)
+    }
+
     pub(crate) fn into_bytes(self) -> Vec<u8>
         ensures { result.items ≡ self }
     {

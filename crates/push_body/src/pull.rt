@@ -14,14 +14,14 @@ const BYTES_OF_REQUEST: usize = 256;
 fn pull_all(body: &mut Body, identity: &Identity, cookie: &Cookie) -> Result<(), AllocError>
     ensures { OnOk result (body.new ≡ body.old ++ pull_text identity.now cookie.now) }
 {
-    body.raw(r#"{"clientGroupID":"#)?;
-    body.text(identity.group.as_str())?;
+    body.text_field(r#"{"clientGroupID":"#, identity.group.as_str())?;
     body.raw(r#","cookie":"#)?;
     body.raw(cookie.text())?;
-    body.raw(r#","profileID":"#)?;
-    body.text(identity.profile.as_str())?;
-    body.raw(r#","pullVersion":1,"schemaVersion":"#)?;
-    body.text(identity.schema.as_str())?;
+    body.text_field(r#","profileID":"#, identity.profile.as_str())?;
+    body.text_field(
+        r#","pullVersion":1,"schemaVersion":"#,
+        identity.schema.as_str(),
+    )?;
     body.raw("}")
 }
 

@@ -80,8 +80,7 @@ fn room_for(mutation: &Mutation) -> usize {
 fn push_head(body: &mut Body, identity: &Identity) -> Result<(), AllocError>
     ensures { OnOk result (body.new ≡ body.old ++ head_text identity.now) }
 {
-    body.raw(r#"{"clientGroupID":"#)?;
-    body.text(identity.group.as_str())?;
+    body.text_field(r#"{"clientGroupID":"#, identity.group.as_str())?;
     body.raw(r#","mutations":["#)
 }
 
@@ -97,23 +96,20 @@ fn push_mutation(body: &mut Body, mutation: &Mutation) -> Result<(), AllocError>
 {
     body.raw(r#"{"args":"#)?;
     body.raw(mutation.args.text())?;
-    body.raw(r#","clientID":"#)?;
-    body.text(mutation.client.as_str())?;
-    body.raw(r#","id":"#)?;
-    body.number(mutation.id)?;
-    body.raw(r#","name":"#)?;
-    body.text(mutation.name.as_str())?;
-    body.raw(r#","timestamp":"#)?;
-    body.number(mutation.timestamp)?;
+    body.text_field(r#","clientID":"#, mutation.client.as_str())?;
+    body.number_field(r#","id":"#, mutation.id)?;
+    body.text_field(r#","name":"#, mutation.name.as_str())?;
+    body.number_field(r#","timestamp":"#, mutation.timestamp)?;
     body.raw("}")
 }
 
 fn push_tail(body: &mut Body, identity: &Identity) -> Result<(), AllocError>
     ensures { OnOk result (body.new ≡ body.old ++ tail_text identity.now) }
 {
-    body.raw(r#"],"profileID":"#)?;
-    body.text(identity.profile.as_str())?;
-    body.raw(r#","pushVersion":1,"schemaVersion":"#)?;
-    body.text(identity.schema.as_str())?;
+    body.text_field(r#"],"profileID":"#, identity.profile.as_str())?;
+    body.text_field(
+        r#","pushVersion":1,"schemaVersion":"#,
+        identity.schema.as_str(),
+    )?;
     body.raw("}")
 }

@@ -8,7 +8,11 @@ use Rattle.push_body.proofs.writer.push_head.Goals as goal
 pub returns : goal.returns
 unfolding head_text
 returns c =
-    on_ok_weaker c.raw-2.result
-    (λ e. e ∙ rw (c.in_ok-text.ensures, c.in_ok-raw.ensures, c.as_str.ensures)
+    on_ok_weaker c.raw.result
+    (λ e. e
+    ∙ rw (
+      c.in_ok-text_field.ensures,
+      c.as_str.ensures,
+    )
     (fold-append c.args.body.now (head_pieces c.args.identity.now)))
-    c.raw-2.ensures
+    c.raw.ensures

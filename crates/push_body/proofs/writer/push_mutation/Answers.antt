@@ -8,17 +8,13 @@ use Rattle.push_body.proofs.writer.push_mutation.Goals as goal
 pub returns : goal.returns
 unfolding mutation_text
 returns c =
-    on_ok_weaker c.raw-7.result
+    on_ok_weaker c.raw-3.result
     (λ e. e
     ∙ rw (
-      c.in_ok-number-2.ensures,
-      c.in_ok-raw-6.ensures,
-      c.in_ok-text-2.ensures,
-      c.in_ok-raw-5.ensures,
-      c.in_ok-number.ensures,
-      c.in_ok-raw-4.ensures,
-      c.in_ok-text.ensures,
-      c.in_ok-raw-3.ensures,
+      c.in_ok-number_field-2.ensures,
+      c.in_ok-text_field-2.ensures,
+      c.in_ok-number_field.ensures,
+      c.in_ok-text_field.ensures,
       c.in_ok-raw-2.ensures,
       c.in_ok-raw.ensures,
       c.text.ensures,
@@ -26,4 +22,4 @@ returns c =
       c.as_str-2.ensures,
     )
     (fold-append c.args.body.now (mutation_pieces c.args.mutation.now)))
-    c.raw-7.ensures
+    c.raw-3.ensures

@@ -8,15 +8,13 @@ use Rattle.push_body.proofs.writer.push_tail.Goals as goal
 pub returns : goal.returns
 unfolding tail_text
 returns c =
-    on_ok_weaker c.raw-3.result
+    on_ok_weaker c.raw.result
     (λ e. e
     ∙ rw (
-      c.in_ok-text-2.ensures,
-      c.in_ok-raw-2.ensures,
-      c.in_ok-text.ensures,
-      c.in_ok-raw.ensures,
+      c.in_ok-text_field-2.ensures,
+      c.in_ok-text_field.ensures,
       c.as_str.ensures,
       c.as_str-2.ensures,
     )
     (fold-append c.args.body.now (tail_pieces c.args.identity.now)))
-    c.raw-3.ensures
+    c.raw.ensures
