@@ -187,10 +187,10 @@ impl<R: Wait + Sync + Drop, M: Means> Store<M> for Append<R, M> {
         _slots: u32,
         seats: u32,
     ) -> Result<(Self, Vec<NoClaims>, Head<M>, Vec<Mark<M>>), Refusal> {
+        let claims = no_claims(alloc, seats)?;
         let (head, marks) = Head::open(alloc, seats, 1)?;
         let store = Append::with_opening(alloc, parts, first(&marks))?;
-        let seats = no_claims(alloc, seats)?;
-        Ok((store, seats, head, marks))
+        Ok((store, claims, head, marks))
     }
 
     fn place(
