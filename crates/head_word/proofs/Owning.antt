@@ -32,6 +32,12 @@ own_same k n log log' pre sits a m is told =
     let is' : a ≡ answer (count k log') m = cc is in
     mine_same k log log' pre (sym (ap (λ (b : Answer). b.before) is') ∙ (told ∙ sits))
 
+-- one entry more
+pub one_more : (old mid new : List Entry) (e e' : Entry) → new ≡ mid ++ e ∷ [] → mid ≡ old → e ≡ e'
+    → new ≡ old ++ e' ∷ []
+one_more old mid new e e' adds same is =
+    adds ∙ (ap (λ (es : List Entry). es ++ e ∷ []) same ∙ ap (λ (x : Entry). old ++ x ∷ []) is)
+
 alone : (k : ℕ) (ask : Entry) → key_of ask ≡ k → mine k (ask ∷ []) ≡ ask ∷ []
 alone k ask key = rw (eq-eqb (key_of ask) k key) refl
 
