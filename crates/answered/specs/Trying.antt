@@ -1,5 +1,5 @@
 -- One try of a call that makes a change: what is proposed at the head, and how its publishing ends.
-use Rattle.std.specs.Prelude.{◌≡◌, ◌≢◌, ◌⊎◌, true, List, Option, Some, None, Result, Ok, Err}
+use Rattle.std.specs.Prelude.{◌≡◌, ◌≢◌, ◌⊎◌, true, List, Option, Some, None, Result, Err}
 use Rattle.group_history.specs.declared.changes.Change.{Change}
 use Rattle.group_history.specs.declared.refs.Ref.{Ref}
 use Rattle.group_history.specs.declared.refusals.Refusal.{Refusal}
@@ -12,8 +12,6 @@ use Rattle.group_history.specs.State.{State}
 use Rattle.head_word.specs.declared.entry.Entry.{Entry}
 use Rattle.head_word.specs.Books.{drawn, last_move, record_of}
 use Rattle.head_word.specs.Marks.{Known}
-use Rattle.answered.specs.declared.trying.Proposed.{Proposed}
-use Rattle.answered.specs.declared.trying.Proposed.TheVariants as proposed
 use Rattle.answered.specs.declared.trying.Published.{Published}
 use Rattle.answered.specs.declared.trying.Published.TheVariants as published
 use Rattle.answered.specs.Answered.{IsPoint, own_moves, is_want}
@@ -36,17 +34,7 @@ abbrev pub Ends : Meanings → Known → Known → Ref → Change → Published 
 Ends means old new base change published.Won = (s : State) → IsBase means old base s → IsWon means old new change s
 Ends means old new base change published.Lost = IsLost old new base
 
--- What was proposed is right: a reply that stands for no change, or a change with the reply that stands for it, and a
--- draft
--- that leads to it.
-abbrev pub IsProposed : {X D : Type 0} → (D → Change → Type 0) → (Result X Refusal → Option Change) → Result X Refusal
-    → Proposed X D → Type 0
-IsProposed leads change right (proposed.Reply x) = (right ≡ Ok x) × (change (Ok x) ≡ None)
-IsProposed leads change right (proposed.Change p) = (right ≡ p.reply) × (change p.reply ≡ Some p.change)
-    × leads p.draft p.change
-
--- A refusal of what was proposed is for want of something, or it is the right reply and stands for no change. No change
--- of
--- others is to blame: nothing was published yet.
+-- A refusal before anything was published is for want of something, or it is the right reply and stands for no change.
+-- No change of others is to blame.
 abbrev pub IsUnproposed : {X : Type 0} → (Result X Refusal → Option Change) → Result X Refusal → Refusal → Type 0
 IsUnproposed change right e = ((is_want e ≡ true) ⊎ ((right ≡ Err e) × (change (Err e) ≡ None))) × (e ≢ refusal.Moved)

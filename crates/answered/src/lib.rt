@@ -6,16 +6,13 @@
 //! call of a shared group has it as its clause.
 //!
 //! `points` has the two steps that such a call is made of, a look at the head and a move of it, with the
-//! points that they have. `trying` says what a change is made by, and `tries` makes it: at the head that the
-//! caller finds, and anew where others moved it first.
+//! points that they have, and `trying` how one try of a move ended.
 #![tactic(auto)]
 
 mod laws;
 mod points;
-mod tries;
 mod trying;
 
 pub use laws::{answered_examples, at_once, change_laws};
 pub use points::{look, publish_at};
-pub use tries::{change_once, try_change};
-pub use trying::{Proposal, Proposed, Proposes, Published};
+pub use trying::Published;
