@@ -16,7 +16,7 @@ use Rattle.chunk_slots.specs.Contents.{IsContent}
 use Rattle.chunk_slots.specs.Inside.Openings.{Knows}
 
 -- each mark of a new book knows just what it opens with
-pub seated_know : (book : Book) (log : List Entry) (n : ℕ) → All (Knows book log) (seated book log n)
+seated_know : (book : Book) (log : List Entry) (n : ℕ) → All (Knows book log) (seated book log n)
 seated_know book log zero = All-nil (Knows book log)
 seated_know book log (suc n) = All-push (Knows book log) (seated book log n) (known book log (Some n))
     (seated_know book log n) (refl, refl)
@@ -28,11 +28,11 @@ length_seated book log (suc n) = length_push (seated book log n) (known book log
     (length_seated book log n) ∙ omega arith
 
 -- the leaf is the content of the stamp 0, and the snapshot that of the stamp 1
-pub leaf_opens : (log : List Entry) (at : Ref) (node : Node Ref) → log ≡ opening at
+leaf_opens : (log : List Entry) (at : Ref) (node : Node Ref) → log ≡ opening at
     → content_of node ≡ drafted_content 0 empty_leaf → IsContent log 0 node
 leaf_opens log at node is same = ap (λ l. slice_get (drawn l) 0) is ∙ ap Some (sym same)
 
-pub commit_opens : (log : List Entry) (at : Ref) (node : Node Ref) → log ≡ opening at
+commit_opens : (log : List Entry) (at : Ref) (node : Node Ref) → log ≡ opening at
     → content_of node ≡ drafted_content 0 opening_snapshot → IsContent log 1 node
 commit_opens log at node is same = ap (λ l. slice_get (drawn l) 1) is ∙ ap Some (sym same)
 

@@ -42,7 +42,7 @@ withdrawn_within s t slot h same is = (
 )
 
 -- the seats of a new store, the last of which has placed what it opens with
-pub all_ready : (claims z : ClaimsId) (rest all : List Seated) (opener : Seated) → z ≡ claims
+all_ready : (claims z : ClaimsId) (rest all : List Seated) (opener : Seated) → z ≡ claims
     → All (IsReady claims) rest → all ≡ rest ++ opener ∷ [] → IsReady z opener
     → All (λ s. (s.table ≡ z) × (⊤ → IsIdle s.view)) all
 all_ready claims z rest all opener same ready is last =
@@ -51,12 +51,12 @@ all_ready claims z rest all opener same ready is last =
     (All-weaker (IsReady claims) P (λ s h. (h.0 ∙ sym same, λ _. h.1)) rest ready) (last.0, λ _. last.1))
 
 -- what a seat has taken that had nothing and takes twice
-pub two_taken : (v u w : View) (a b : ℕ) → v.taken ≡ [] → Takes v u a → Takes u w b → w.taken ≡ b ∷ a ∷ []
+two_taken : (v u w : View) (a b : ℕ) → v.taken ≡ [] → Takes v u a → Takes u w b → w.taken ≡ b ∷ a ∷ []
 two_taken v u w a b none first second = second.1 ∙ ap (λ (ks : List ℕ). b ∷ ks)
     (first.1 ∙ ap (λ (ks : List ℕ). a ∷ ks) none)
 
 -- the seats of a new table without the last one, and that one
-pub last_ready : (claims : ClaimsId) (all rest : List Seated) (last : Option Seated) (opener : Seated)
+last_ready : (claims : ClaimsId) (all rest : List Seated) (last : Option Seated) (opener : Seated)
     → All (IsReady claims) all → all ≡ rest ++ option_to_list last → last ≡ Some opener
     → All (IsReady claims) rest × IsReady claims opener
 last_ready claims all rest last opener ready is one =

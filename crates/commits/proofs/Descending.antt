@@ -259,7 +259,7 @@ paired_append xs ys i x y h = paired_end (take i xs) (take i ys) x y
     (length-take i xs ∙ (ap (min i) (sym h) ∙ sym (length-take i ys)))
 
 -- a child that is chosen is one of the children
-pub chosen_in : (k : Bytes) (kids : List (Bytes × Ref)) (r : Ref) → choose k kids ≡ Some r → Contains (values_of kids) r
+chosen_in : (k : Bytes) (kids : List (Bytes × Ref)) (r : Ref) → choose k kids ≡ Some r → Contains (values_of kids) r
 chosen_in k [] r h = absurd (cc h)
 chosen_in k (e ∷ es) r h = by (choose k es) refl (is_gt (slice_cmp nat_cmp e.0 k)) h (λ c. chosen_in k es r c)
   where

@@ -40,11 +40,11 @@ few_below zero ns k v l h = absurd (omega arith)
 few_below (suc n) ns k v l h = let c = version-content ns k v h in
     few_at ns k v c.0.kind (commit-made ns k c.0 v c.2 h).3 (λ j w lt g. few_below n ns j w (omega (arith, l, lt)) g)
 
-pub pending-few : (ns : Contents) (k : ℕ) (v : Version) → version_at ns k ≡ Some v → length v.state.pending ≤ k
+pending-few : (ns : Contents) (k : ℕ) (v : Version) → version_at ns k ≡ Some v → length v.state.pending ≤ k
 pending-few ns k v h = few_below (suc k) ns k v (omega arith) h
 
 -- a stamp is below their number
-pub stamp-low : (r : Ref) → r.bits < 2 ^ 64 → stamp_of r < stamps
+stamp-low : (r : Ref) → r.bits < 2 ^ 64 → stamp_of r < stamps
 stamp-low r h = omega (arith, h)
 
 -- so a client's last id at a commit is far from the last number

@@ -99,7 +99,7 @@ keyed_last (d ∷ es) e keyed = let r = keyed_last es e (keyed_rest d (es ++ e �
     (cons_both (keyed_first d (es ++ e ∷ []) keyed) r.0, r.1)
 
 -- what is known to be met is left out
-pub adds_none : (a : Walked) (f : Found) → Contains a.met (stamp_in f) → Adds a (f ∷ []) a
+adds_none : (a : Walked) (f : Found) → Contains a.met (stamp_in f) → Adds a (f ∷ []) a
 adds_none a f has = record {
   from = λ g h. inl h;
   kept = λ g h. (g, h, refl);

@@ -20,7 +20,7 @@ element xs j low = (j, low, get_or_default xs j (slice_index xs j) 0 low)
 pub found_at : (xs : List ℕ) (x : ℕ) → Contains xs x → (j : ℕ) × (j < length xs) × (slice_index xs j ≡ x)
 found_at xs x h = (h.0, h.1, get_or_default xs h.0 0 x h.1 ∙ h.2)
 
-pub falls_at : (xs : List ℕ) (i j : ℕ) → Falls xs → i < j → j < length xs → slice_index xs j < slice_index xs i
+falls_at : (xs : List ℕ) (i j : ℕ) → Falls xs → i < j → j < length xs → slice_index xs j < slice_index xs i
 falls_at [] i j f l low = absurd (let n : j < 0 = low in omega arith)
 falls_at (x ∷ xs) i zero f l low = absurd (omega arith)
 falls_at (x ∷ xs) zero (suc j) f l low = f.0 (slice_index xs j) (element xs j (omega (arith, low)))
@@ -78,7 +78,7 @@ pub record IsMerge (before kept left : List Ref) (i place : ℕ) : Type 0 where
   pub leaves : Leaves (take i before) kept left
   pub falls : Falls (stamps_of left)
 
-pub same_length : (rs : List Ref) → length (stamps_of rs) ≡ length rs
+same_length : (rs : List Ref) → length (stamps_of rs) ≡ length rs
 same_length [] = refl
 same_length (r ∷ rs) = ap suc (same_length rs)
 

@@ -53,7 +53,7 @@ abbrev pub bound : List Found → ℕ
 bound [] = 0
 bound (f ∷ fs) = max (suc (stamp_in f)) (bound fs)
 
-pub below_bound : (fs : List Found) (f : Found) → Contains fs f → stamp_in f < bound fs
+below_bound : (fs : List Found) (f : Found) → Contains fs f → stamp_in f < bound fs
 below_bound [] f h = absurd (no_element f h)
 below_bound (g ∷ fs) f h = elim (cons_cases g fs f h) [
   | inl e ↦ (let l : stamp_in f ≡ stamp_in g = ap stamp_in (sym e) in grind (arith, l))
@@ -61,7 +61,7 @@ below_bound (g ∷ fs) f h = elim (cons_cases g fs f h) [
       (arith, below_bound fs f q)
 ]
 
-pub bound_all : (fs : List Found) (n : ℕ) → ((f : Found) → Contains fs f → stamp_in f < n) → bound fs ≤ n
+bound_all : (fs : List Found) (n : ℕ) → ((f : Found) → Contains fs f → stamp_in f < n) → bound fs ≤ n
 bound_all [] n h = omega arith
 bound_all (f ∷ fs) n h =
     let one : stamp_in f < n = h f (first_here f fs) in

@@ -25,14 +25,14 @@ use Rattle.commits.proofs.Reached.{there_segment, reaches_stays, reaches_back, r
 use Rattle.commits.proofs.Reached.{child_there}
 use Rattle.commits.proofs.Rooted.{chunk_reaches, map_some_stays}
 
-pub tops_none : (t : Tops) → t.top ≡ None → IsTops [] t
+tops_none : (t : Tops) → t.top ≡ None → IsTops [] t
 tops_none t none = record {
   one = λ r e. absurd (let x : None ≡ Some r = sym none ∙ e in cc x);
   others = λ r h. absurd (no_element r h);
 }
 
 -- one more: it is the one that is told, or else stands among the others, as the one that was told before does
-pub tops_more : (rs : List Ref) (t u : Tops) (at : Ref) → IsTops rs t → (u.top ≡ Some at) ⊎ (u.top ≡ t.top)
+tops_more : (rs : List Ref) (t u : Tops) (at : Ref) → IsTops rs t → (u.top ≡ Some at) ⊎ (u.top ≡ t.top)
     → t.second ≤ u.second → ((r : Ref) → t.top ≡ Some r → (u.top ≡ Some r) ⊎ (stamp_of r ≤ u.second))
     → (u.top ≡ Some at) ⊎ (stamp_of at ≤ u.second) → IsTops (rs ++ at ∷ []) u
 tops_more rs t u at is which more before now = record {

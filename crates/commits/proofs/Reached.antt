@@ -40,7 +40,7 @@ there_segment ns k s h = (segment s, spelled_segment ns k s h)
 pub there_version : (ns : Contents) (k : ℕ) (v : Version) → version_at ns k ≡ Some v → IsThere ns k
 there_version ns k v h = let w = spelled_version ns k v h in (version v w.0, w.1)
 
-pub root_segment : (ns : Contents) (k : ℕ) (m : Entries) → map_at ns k ≡ Some m
+root_segment : (ns : Contents) (k : ℕ) (m : Entries) → map_at ns k ≡ Some m
     → (s : Segment) × (segment_at ns k ≡ Some s)
 root_segment ns k m h = let s = and_then-some (segment_at ns k) map_of m h in (s.0, s.1)
 

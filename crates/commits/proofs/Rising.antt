@@ -123,7 +123,7 @@ pub lowest : (p : Ref → Type 0) (ns : Contents) (chain rest : List Ref) (at : 
 lowest p ns chain rest at ms is h = subst (λ (w : List Ref). AddUp p ns w ms)
     (ap reverse is ∙ reverse-append rest (at ∷ [])) h
 
-pub rise_ends : (has : List Mutation → Type 0) (p : Ref → Type 0) (ns : Contents) (chain : List Ref)
+rise_ends : (has : List Mutation → Type 0) (p : Ref → Type 0) (ns : Contents) (chain : List Ref)
     (all : List Mutation) → chain ≡ [] → IsRise has p ns chain all → has all
 rise_ends has p ns chain all none r =
     let left : r.1 ≡ [] = subst (λ (w : List Ref). AddUp p ns (reverse w) r.1) none r.3 in

@@ -40,7 +40,7 @@ leaf_rows ns k rows s h is =
     let same : o.0 ≡ s = cc (o.2) in
     ap (λ (x : Segment). x.rows) (sym same) ∙ (sized-some _ 1 rows o.0 o.1).1
 
-pub first_has : (ns : Contents) (k : ℕ) (s : Segment) (c : Chunk Ref) (key : Bytes) → segment_at ns k ≡ Some s
+first_has : (ns : Contents) (k : ℕ) (s : Segment) (c : Chunk Ref) (key : Bytes) → segment_at ns k ≡ Some s
     → LiesChunk ns k c → IsFirst (keys_in c) (Some key) → HasKey ns k key
 first_has ns k s (Leaf rows) key h lies f = (
   s,
@@ -85,7 +85,7 @@ pub commit_unreached : (ns : Contents) (a b : ℕ) (s : Segment) (v : Version) �
 commit_unreached ns a b s v h e r = let t = chunk_reaches ns a b s h r in not_both ns b t.0 v t.1 e
 
 -- a chunk without rows is reached by itself alone
-pub reach_empty : (ns : Contents) (a b : ℕ) (s t : Segment) → segment_at ns a ≡ Some s → segment_at ns b ≡ Some t
+reach_empty : (ns : Contents) (a b : ℕ) (s t : Segment) → segment_at ns a ≡ Some s → segment_at ns b ≡ Some t
     → t.rows ≡ [] → Reaches ns a b → a ≡ b
 reach_empty ns _ _ s t h e none (itself a) = refl
 reach_empty ns _ _ s t h e none (through a c b n is child rest) =
@@ -101,7 +101,7 @@ reach_empty ns _ _ s t h e none (through a c b n is child rest) =
         let u = ((inner-at ns a kids s is h).2 c i).1 in
         child_filled ns a kids s t c is h i (ap (segment_at ns) (below u.0 u.1) ∙ e) none
 
-pub empty_only : (ns : Contents) (root k : ℕ) (r s : Segment) (c : Chunk Ref) → segment_at ns root ≡ Some r
+empty_only : (ns : Contents) (root k : ℕ) (r s : Segment) (c : Chunk Ref) → segment_at ns root ≡ Some r
     → segment_at ns k ≡ Some s → LiesChunk ns k c → IsFirst (keys_in c) None → (k ≡ root) ↔ Reaches ns root k
 empty_only ns root k r s (Leaf rows) g h lies f = (
   λ e. subst (λ (w : ℕ). Reaches ns root w) (sym e) (itself root),

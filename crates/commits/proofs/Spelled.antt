@@ -214,7 +214,7 @@ if_some : {A : Type 0} {P : Type 0} (b : Bool) (x y : A) → (if b then Some x e
 if_some true x y h f = (f refl, cc h)
 if_some false x y h f = absurd (cc h)
 
-pub rows_if-some : (d : ℕ) (s : Segment) (rows : Rows) → rows_if d s ≡ Some rows → (s.depth ≡ d) × (s.rows ≡ rows)
+rows_if-some : (d : ℕ) (s : Segment) (rows : Rows) → rows_if d s ≡ Some rows → (s.depth ≡ d) × (s.rows ≡ rows)
 rows_if-some d s rows h = if_some (s.depth == d) s.rows rows h (λ e. eqb-true s.depth d e)
 
 pub joined_one-some : (k : Bytes) (o more : Option Rows) (rows : Rows) → joined_one k o more ≡ Some rows

@@ -28,7 +28,7 @@ pub seam : {A : Type 0} (xs : List A) (x : A) (ys : List A) → slice_get (xs ++
 seam [] x ys = refl
 seam (y ∷ xs) x ys = seam xs x ys
 
-pub split_at : {A : Type 0} (xs : List A) (k : ℕ) (x : A) → slice_get xs k ≡ Some x
+split_at : {A : Type 0} (xs : List A) (k : ℕ) (x : A) → slice_get xs k ≡ Some x
     → (pre : List A) × (post : List A) × (xs ≡ pre ++ x ∷ post) × (length pre ≡ k)
 split_at [] k x h = absurd cc
 split_at (y ∷ xs) zero x h = ([], xs, ap (λ w. w ∷ xs) (let e : y ≡ x = cc h in e), refl)

@@ -26,7 +26,7 @@ greatest-Follows n (x ∷ xs) f =
     let next : max n x ≡ n + 1 = omega (arith, f.0) in
     ap (λ k. fold max k xs) next ∙ greatest-Follows (n + 1) xs f.1 ∙ omega arith
 
-pub length-ids_of : (client : Bytes) (xs : List Mutation) → length (ids_of client xs) ≤ length xs
+length-ids_of : (client : Bytes) (xs : List Mutation) → length (ids_of client xs) ≤ length xs
 length-ids_of client [] = omega arith
 length-ids_of client (x ∷ xs) =
     let rest : length (ids_of client xs) ≤ length xs = length-ids_of client xs in
@@ -49,7 +49,7 @@ above m n (x ∷ xs) f h =
     rw (lt-ltb m x (omega (arith, f.0))) (ap (λ ys. x ∷ ys) (above m (n + 1) xs f.1 (omega arith)))
 
 -- those above m follow m
-pub Follows-above : (m n : ℕ) (xs : List ℕ) → Follows n xs → n ≤ m → Follows m (filter (λ i. nat_lt m i) xs)
+Follows-above : (m n : ℕ) (xs : List ℕ) → Follows n xs → n ≤ m → Follows m (filter (λ i. nat_lt m i) xs)
 Follows-above m n [] f h = tt
 Follows-above m n (x ∷ xs) f h =
     elim (nat_lt m x) as (λ b. nat_lt m x ≡ b

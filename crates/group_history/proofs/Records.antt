@@ -5,7 +5,7 @@ use Rattle.group_history.specs.Meaning.{Meanings}
 use Rattle.group_history.specs.State.{State, opening}
 use Rattle.group_history.specs.Record.{after_change, after_all, AllAccepted, IsAccepted, after, IsLegal}
 
-pub after_all-append : (s : State) (cs ds : List Change) → after_all s (cs ++ ds) ≡ after_all (after_all s cs) ds
+after_all-append : (s : State) (cs ds : List Change) → after_all s (cs ++ ds) ≡ after_all (after_all s cs) ds
 after_all-append s [] ds = refl
 after_all-append s (c ∷ cs) ds = after_all-append (after_change s c) cs ds
 

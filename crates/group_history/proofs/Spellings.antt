@@ -49,7 +49,7 @@ content-within (n ∷ ns) zero h = (n, refl)
 content-within (n ∷ ns) (suc k) h = content-within ns k (omega arith)
 
 -- a stamp that spells something has a content, and is what this spells
-pub spelled-content : (ns : Contents) (k : ℕ) (x : Spelled) → answer (spelled ns) k ≡ Some x
+spelled-content : (ns : Contents) (k : ℕ) (x : Spelled) → answer (spelled ns) k ≡ Some x
     → (n : Node ℕ) × (pre : Contents) × (slice_get ns k ≡ Some n) × (spelled_by (spelled pre) n ≡ Some x)
     × ((c : ℕ) (y : Spelled) → answer (spelled pre) c ≡ Some y → (c < k) × (answer (spelled ns) c ≡ Some y))
 spelled-content ns k x h =

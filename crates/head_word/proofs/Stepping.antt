@@ -41,7 +41,7 @@ use Rattle.head_word.proofs.Books.{drawn_more, moved_more, record_more, length-d
 use Rattle.head_word.proofs.Books.{drafted_ordered, spells_more, starts_more, next_more}
 use Rattle.head_word.proofs.Counting.{count_more, count_other, count_starts}
 
-pub book_draft : (means : Meanings) (log : List Entry) (by : Option ℕ) (contents : List (Node Child)) → IsBook means log
+book_draft : (means : Meanings) (log : List Entry) (by : Option ℕ) (contents : List (Node Child)) → IsBook means log
     → AreAfter (next_stamp log) 0 contents → next_stamp log + length contents ≤ stamps
     → IsBook means (log ++ drafted by (next_stamp log) contents ∷ [])
 book_draft means log by contents b before room =
@@ -66,7 +66,7 @@ book_draft means log by contents b before room =
           (after (record_of log)) b.spelled);
     }
 
-pub book_move : (means : Meanings) (log : List Entry) (by : Option ℕ) (to : Ref) (change : Change) → IsBook means log
+book_move : (means : Meanings) (log : List Entry) (by : Option ℕ) (to : Ref) (change : Change) → IsBook means log
     → IsAccepted means (after (record_of log)) change
     → Spells means (drawn log) (stamp_of to) (after_change (after (record_of log)) change)
     → IsBook means (log ++ moved by to (Some change) ∷ [])
@@ -96,7 +96,7 @@ spells_from means v log stamp s pre h = subst (λ (w : List Entry). Spells means
     (spells_more means v pre.0 stamp s h)
 
 -- the states that one stamp spells are one
-pub spells_once : (means : Meanings) (contents : Contents) (stamp : ℕ) (s t : State) → Spells means contents stamp s
+spells_once : (means : Meanings) (contents : Contents) (stamp : ℕ) (s t : State) → Spells means contents stamp s
     → Spells means contents stamp t → s ≡ t
 spells_once means contents stamp s t p q =
     let e : Some (version_of means s) ≡ Some (version_of means t) = sym p ∙ q in
@@ -127,7 +127,7 @@ no_commit means log s starts h =
     not_both (answer_at (spelled (drawn log)) 0) leaf (version_of means s) here h
 
 -- so the head word of an opened book isn't 0
-pub head_some : (means : Meanings) (log : List Entry) (h : ℕ) → IsOpened means log → h ≡ (last_move log).bits
+head_some : (means : Meanings) (log : List Entry) (h : ℕ) → IsOpened means log → h ≡ (last_move log).bits
     → (h == 0) ≡ false
 head_some means log h opened is = elim (eqb_tells h 0) [
   | inl zero_is ↦ absurd (no_commit means log (after (record_of log)) opened.1
@@ -140,7 +140,7 @@ abbrev pub shown : List Entry → List Entry
 shown log = log
 
 -- what was opened stays so, and its words are what they say
-pub fits_opened : (means : Meanings) (v log : List Entry) (h d : ℕ) → IsPrefix v log → StartsOpened v
+fits_opened : (means : Meanings) (v log : List Entry) (h d : ℕ) → IsPrefix v log → StartsOpened v
     → Fits means h d log → FitsOpened means h d log
 fits_opened means v log h d pre starts (inl is) = is
 fits_opened means v log h d pre starts (inr un) = let s : StartsOpened [] = subst StartsOpened un.empty
@@ -407,7 +407,7 @@ move_moves means v by base to change starts follows cs log kept pre away =
       move_goes means v log by base to change kept.head kept.drafts pre follows fits (kept.head == base.bits) refl,
     )
 
-pub opening_counts : (r : Ref) (k : ℕ) → k ≢ 0 → count k (opening r) ≡ 0
+opening_counts : (r : Ref) (k : ℕ) → k ≢ 0 → count k (opening r) ≡ 0
 opening_counts r k other = elim (eqb_tells 0 k) [
   | inl is ↦ absurd (other (sym is.1))
   | inr not ↦ rw not.0 refl

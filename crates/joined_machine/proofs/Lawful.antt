@@ -32,7 +32,7 @@ step_joint k s t e o (machine.publish id old new change v a me may) = publish_ke
 step_joint k s t e o (machine.lose id old v a me now has ne) = end_kept k s o id v a me
 step_joint k s t e o (machine.give_up id v a me now) = end_kept k s o id v a me
 
-pub runs_joint : (k : Sizes) (s t : World) (es : List Event) → Joint k s → Runs s es t → Joint k t
+runs_joint : (k : Sizes) (s t : World) (es : List Event) → Joint k s → Runs s es t → Joint k t
 runs_joint k s t [] o r = subst (Joint k) r o
 runs_joint k s t (e ∷ es) o r = runs_joint k r.0 t es (step_joint k s r.0 e o r.1) r.2
 

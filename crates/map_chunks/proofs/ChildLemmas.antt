@@ -23,7 +23,7 @@ use Rattle.map_chunks.specs.declared.looks.Step.{Step}
 use Rattle.map_chunks.specs.declared.looks.Step.TheVariants.{Found, Below}
 use Rattle.map_chunks.proofs.EndLemmas.{only_ref-child}
 
-pub got_here : {A : Type 0} (xs : List A) (i : ℕ) (x : A) → slice_get xs i ≡ Some x → Contains xs x
+got_here : {A : Type 0} (xs : List A) (i : ℕ) (x : A) → slice_get xs i ≡ Some x → Contains xs x
 got_here xs i x h = subst (Contains xs) (get_or_from_slice_get xs i x x h)
     (Contains-get_or xs i x (slice_get_within xs i x h))
 

@@ -23,7 +23,7 @@ cut_back {A = A} a b xs n e l = go a n l ∙ ap (drop n) e
     go (x ∷ a) zero l = absurd (omega arith)
     go (x ∷ a) (suc n) l = go a n (omega arith)
 
-pub paired-take : {A : Type 0} (n : ℕ) (ks : List Bytes) (xs : List A)
+paired-take : {A : Type 0} (n : ℕ) (ks : List Bytes) (xs : List A)
     → paired (take n ks) (take n xs) ≡ take n (paired ks xs)
 paired-take zero ks xs = refl
 paired-take (suc n) [] xs = refl

@@ -284,7 +284,7 @@ placing {A} key before first x behind i l p = record {
 abbrev pub shows_of : {A : Type 0} → (Bytes × A → Option Rows) → List (Bytes × A) → Shows
 shows_of g es = map (λ e. (e.0, g e)) es
 
-pub placed_by : {A : Type 0} (g : Bytes × A → Option Rows) (key : Bytes) (before : List (Bytes × A)) (first : Bytes)
+placed_by : {A : Type 0} (g : Bytes × A → Option Rows) (key : Bytes) (before : List (Bytes × A)) (first : Bytes)
     (behind : List (Bytes × A))
     → Placing key before first behind → Place key (shows_of g before) first (shows_of g behind)
 placed_by {A} g key before first behind p = record {

@@ -46,7 +46,7 @@ pub is_less : (o : Ordering) → o ≡ Less → T (is_lt o)
 is_less o p = subst (λ r. T (is_lt r)) (sym p) tt
 
 -- x is below y, and y isn't above z
-pub less_upto : (x y z : Bytes) → cmp x y ≡ Less → is_gt (cmp y z) ≡ false → cmp x z ≡ Less
+less_upto : (x y z : Bytes) → cmp x y ≡ Less → is_gt (cmp y z) ≡ false → cmp x z ≡ Less
 less_upto x y z p q = by (cmp y z) refl q
   where
     by : (o : Ordering) → cmp y z ≡ o → is_gt o ≡ false → cmp x z ≡ Less

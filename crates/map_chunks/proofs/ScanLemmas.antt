@@ -180,7 +180,7 @@ turn g (x ∷ es) (suc i) rs h o l =
         (joined_one x.0 (Some s.front)) (front_is g es j s.back s.back_is)
         ∙ ap (λ u. cond u (Some (s.front ++ first_rows g es j)) None) s.starts)
 
-pub first_all : {A : Type 0} (g : Bytes × A → Option Rows) (es : List (Bytes × A)) (i : ℕ) (rs : Rows)
+first_all : {A : Type 0} (g : Bytes × A → Option Rows) (es : List (Bytes × A)) (i : ℕ) (rs : Rows)
     → joined_rows (shows_of g es) ≡ Some rs → i ≡ length es → first_rows g es i ≡ rs
 first_all g es i rs h e = ap (λ n. rows_or (joined_rows (shows_of g (take n es)))) e ∙ ap
     (λ w. rows_or (joined_rows (shows_of g w))) (take-length es) ∙ ap rows_or h
@@ -195,7 +195,7 @@ cut_at (x ∷ es) (suc i) l = let c = cut_at es i (omega arith) in
     (x ∷ c.0, c.1, c.2, ap (λ w. x ∷ w) c.3, ap suc c.4, ap (λ w. x ∷ w) c.5)
 
 -- before the child to which the lowest key belongs nothing is in the scan
-pub none_before : {A : Type 0} (g : Bytes × A → Option Rows) (es : List (Bytes × A)) (i : ℕ) (rs : Rows) (scan : Scan)
+none_before : {A : Type 0} (g : Bytes × A → Option Rows) (es : List (Bytes × A)) (i : ℕ) (rs : Rows) (scan : Scan)
     (low : Bytes) → joined_rows (shows_of g es) ≡ Some rs → IsStrict rs
     → IsLow scan low → IsPlace low (keys_of es) i → i < length es → scanned scan (first_rows g es i) ≡ []
 none_before g es i rs scan low h o z p l =
@@ -259,7 +259,7 @@ alone-rows (r ∷ rows) = ap (joined_one r.0 (Some (r ∷ []))) (alone-rows rows
     (begins-with r.0 r.1 [])
 
 -- a key and a value side by side
-pub paired-at : {A : Type 0} (ks : List Bytes) (xs : List A) (i : ℕ) (k : Bytes) (x : A) (e : Bytes × A)
+paired-at : {A : Type 0} (ks : List Bytes) (xs : List A) (i : ℕ) (k : Bytes) (x : A) (e : Bytes × A)
     → length xs ≡ length ks → i < length ks → k ≡ get_or ks i k → x ≡ get_or xs i x
     → slice_get (paired ks xs) i ≡ Some e → (k, x) ≡ e
 paired-at [] xs i k x e l h p q s = absurd (omega arith)
@@ -267,7 +267,7 @@ paired-at (j ∷ ks) [] i k x e l h p q s = absurd (omega arith)
 paired-at (j ∷ ks) (y ∷ xs) zero k x e l h p q s = cc
 paired-at (j ∷ ks) (y ∷ xs) (suc i) k x e l h p q s = paired-at ks xs i k x e (omega arith) (omega arith) p q s
 
-pub key_of-pair : {A : Type 0} (ks : List Bytes) (xs : List A) (i : ℕ) (k : Bytes) (e : Bytes × A) → i < length ks
+key_of-pair : {A : Type 0} (ks : List Bytes) (xs : List A) (i : ℕ) (k : Bytes) (e : Bytes × A) → i < length ks
     → k ≡ get_or ks i k → slice_get (paired ks xs) i ≡ Some e → k ≡ e.0
 key_of-pair [] xs i k e h p s = absurd (omega arith)
 key_of-pair (j ∷ ks) [] i k e h p s = absurd cc
@@ -385,7 +385,7 @@ top-low : (k : ℕ) (kids : List (Bytes × Ref)) → AllLow k kids → top kids 
 top-low k [] h = omega arith
 top-low k (e ∷ es) h = let r = top-low k es h.1 in let l = h.0 in omega arith
 
-pub below_top : (es : List (Bytes × Ref)) (i : ℕ) (e : Bytes × Ref) → slice_get es i ≡ Some e → stamp_of e.1 < top es
+below_top : (es : List (Bytes × Ref)) (i : ℕ) (e : Bytes × Ref) → slice_get es i ≡ Some e → stamp_of e.1 < top es
 below_top [] i e h = absurd cc
 below_top (x ∷ es) zero e h = let p : x ≡ e = cc h in
     subst (λ (z : Bytes × Ref). stamp_of z.1 < max (stamp_of x.1 + 1) (top es)) p (omega arith)

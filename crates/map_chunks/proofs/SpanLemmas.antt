@@ -98,7 +98,7 @@ spans scan (k ∷ j ∷ ks) (suc i) a b o l e f p q =
     (f ∙ ap (λ m. get_or (k ∷ j ∷ ks) m b) n) p q
 
 -- rows whose keys are in the scan
-pub all_in : (scan : Scan) (ks vs : List Bytes) → length vs ≡ length ks → AreIn scan ks
+all_in : (scan : Scan) (ks vs : List Bytes) → length vs ≡ length ks → AreIn scan ks
     → scanned scan (paired ks vs) ≡ paired ks vs
 all_in scan [] vs l h = refl
 all_in scan (k ∷ ks) [] l h = absurd (omega arith)

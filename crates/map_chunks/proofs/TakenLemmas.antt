@@ -22,7 +22,7 @@ take-more (suc n) (x ∷ xs) ys =
     ap (λ w. x ∷ w) (ap (λ m. take n xs ++ take m ys) e ∙ take-more n xs ys)
 
 -- what is taken of a part, and behind it what there is still room for
-pub limited-more : {A : Type 0} (room : Option ℕ) (xs ys : List A)
+limited-more : {A : Type 0} (room : Option ℕ) (xs ys : List A)
     → limited room xs ++ limited (left room (length (limited room xs))) ys ≡ limited room (xs ++ ys)
 limited-more None xs ys = refl
 limited-more (Some n) xs ys = take-more n xs ys
@@ -36,12 +36,12 @@ limited-full None ys f = absurd cc
 limited-full (Some zero) ys f = refl
 limited-full (Some (suc n)) ys f = absurd (let g : nat_eq (suc n) 0 ≡ true = f in grind (arith, nat_tests))
 
-pub limited-one : {A : Type 0} (room : Option ℕ) (y : A) → is_full room ≡ false → limited room (y ∷ []) ≡ y ∷ []
+limited-one : {A : Type 0} (room : Option ℕ) (y : A) → is_full room ≡ false → limited room (y ∷ []) ≡ y ∷ []
 limited-one None y f = refl
 limited-one (Some zero) y f = absurd (let g : nat_eq 0 0 ≡ false = f in grind (arith, nat_tests))
 limited-one (Some (suc n)) y f = ap (λ w. y ∷ w) (take-nil n)
 
-pub can_one : (room : Option ℕ) → is_full room ≡ false → CanTake room 1
+can_one : (room : Option ℕ) → is_full room ≡ false → CanTake room 1
 can_one None f = tt
 can_one (Some n) f = let g : nat_eq n 0 ≡ false = f in grind (arith, nat_tests)
 
@@ -68,7 +68,7 @@ took_none has s room rows e = subst (Took has s s room room) (sym e) (record {
   room = left-none room;
 })
 
-pub took_more : {S : Type 0} (has : S → Rows → Type 0) (old mid new : S) (room between after : Option ℕ) (xs ys : Rows)
+took_more : {S : Type 0} (has : S → Rows → Type 0) (old mid new : S) (room between after : Option ℕ) (xs ys : Rows)
     → Took has old mid room between xs → Took has mid new between after ys → Took has old new room after (xs ++ ys)
 took_more has old mid new room between after xs ys p q = record {
   rows = λ zs h. subst (has new) (append_assoc zs xs ys) (q.rows (zs ++ xs) (p.rows zs h));
@@ -76,7 +76,7 @@ took_more has old mid new room between after xs ys p q = record {
       (sym (length-append xs ys));
 }
 
-pub taken-more : (scan : Scan) (room : Option ℕ) (a b : Rows)
+taken-more : (scan : Scan) (room : Option ℕ) (a b : Rows)
     → taken scan room a ++ taken scan (left room (length (taken scan room a))) b ≡ taken scan room (a ++ b)
 taken-more scan room a b = limited-more room (scanned scan a) (scanned scan b) ∙ ap (limited room)
     (sym (filter-append (λ e. is_in scan e.0) a b))

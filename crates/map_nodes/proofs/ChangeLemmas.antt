@@ -51,7 +51,7 @@ child-kept : (old new : Contents) (below : ℕ) (c : OwnChild) (rs : Rows) → I
 child-kept old new below (Placed at) rs p h = rows-kept old new below (stamp_of at) rs p h
 child-kept old new below (Own n) rs p h = shown-kept old new n.value.pieces rs p h
 
-pub kids-kept : (old new : Contents) (below : ℕ) (es : Kids) (rs : Rows) → IsPrefix old new
+kids-kept : (old new : Contents) (below : ℕ) (es : Kids) (rs : Rows) → IsPrefix old new
     → joined_rows (shows_of (kid_rows old below) es) ≡ Some rs
     → joined_rows (shows_of (kid_rows new below) es) ≡ Some rs
 kids-kept old new below [] rs p h = h
@@ -67,7 +67,7 @@ IsLocal key op = (a x b : Rows) → AllBelow key a → AllAbove key b → op (a 
 pub put-local : (key v : Bytes) → IsLocal key (put (slice_cmp nat_cmp) key v)
 put-local key v a x b l u = put-back key v a (x ++ b) l ∙ ap (λ w. a ++ w) (put-front key v x b u)
 
-pub AllKids-join : (below : ℕ) (ls bs : Kids) → AllKids below ls → AllKids below bs → AllKids below (ls ++ bs)
+AllKids-join : (below : ℕ) (ls bs : Kids) → AllKids below ls → AllKids below bs → AllKids below (ls ++ bs)
 AllKids-join below [] bs g h = h
 AllKids-join below (a ∷ ls) bs g h = (g.0, AllKids-join below ls bs g.1 h)
 
@@ -135,7 +135,7 @@ one_child p below k n rs d e h = (
   ap (λ x. joined_one k x (Some [])) e ∙ ap (λ u. cond u (Some (rs ++ [])) None) h ∙ ap (λ w. Some w) (append-nil rs),
 )
 
-pub paired-set : {A : Type 0} (ks : List Bytes) (xs : List A) (i : ℕ) (y : A)
+paired-set : {A : Type 0} (ks : List Bytes) (xs : List A) (i : ℕ) (y : A)
     → paired ks (set xs i y) ≡ set (paired ks xs) i (get_or ks i [], y)
 paired-set [] xs i y = refl
 paired-set (k ∷ ks) [] i y = refl

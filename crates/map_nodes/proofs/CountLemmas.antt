@@ -38,13 +38,13 @@ fresh-append : (xs ys : Kids) → entries_fresh (xs ++ ys) ≡ entries_fresh xs 
 fresh-append [] ys = omega arith
 fresh-append (x ∷ xs) ys = let r = fresh-append xs ys in omega (arith, r)
 
-pub fresh-inserted : (es : Kids) (i : ℕ) (e : Bytes × OwnChild) → i ≤ length es
+fresh-inserted : (es : Kids) (i : ℕ) (e : Bytes × OwnChild) → i ≤ length es
     → entries_fresh (insert es i e) ≡ entries_fresh es + child_fresh e.1
 fresh-inserted es zero e l = omega arith
 fresh-inserted [] (suc i) e l = absurd (omega arith)
 fresh-inserted (x ∷ xs) (suc i) e l = let r = fresh-inserted xs i e (omega arith) in omega (arith, r)
 
-pub fresh-pairs : (es : Kids) (keys : List Bytes) (kids : List OwnChild) → ArePairs es keys kids
+fresh-pairs : (es : Kids) (keys : List Bytes) (kids : List OwnChild) → ArePairs es keys kids
     → kids_fresh kids ≡ entries_fresh es
 fresh-pairs es keys kids p = ap kids_fresh (sym (values_of-paired keys kids p.1)) ∙ ap entries_fresh p.0
 

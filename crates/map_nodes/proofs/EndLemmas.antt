@@ -94,7 +94,7 @@ end-one below (k ∷ []) (x ∷ []) kid l o g = ap end_of g ∙ by x
     by (Own n) = ap end_of_pieces (sym (append-nil n.value.pieces))
 
 -- the one child of a chunk has its pieces
-pub one-pieces : (below : ℕ) (keys : List Bytes) (kids : List OwnChild) (n : Kid) (kid : OwnChild)
+one-pieces : (below : ℕ) (keys : List Bytes) (kids : List OwnChild) (n : Kid) (kid : OwnChild)
     → length kids ≡ length keys
     → length kids ≡ 1 → kid ≡ get_or kids 0 kid → kid ≡ Own n
     → n.value.pieces ≡ kids_pieces below (paired keys kids)

@@ -58,7 +58,7 @@ child-stays : (old new : Contents) (depth : ℕ) (child : OwnChild) (rows : Rows
 child-stays old new depth (Placed at) rows p h = rows-kept old new depth (stamp_of at) rows p h
 child-stays old new depth (Own n) rows p h = shown-kept old new n.value.pieces rows p h
 
-pub frozen-later : (first : ℕ) (old mid new : List (Node Ref)) (child : OwnChild) (at : Ref) → IsPrefix mid new
+frozen-later : (first : ℕ) (old mid new : List (Node Ref)) (child : OwnChild) (at : Ref) → IsPrefix mid new
     → IsFrozen first old mid child at → IsFrozen first old new child at
 frozen-later first old mid new child at p f contents depth rows l d h =
     rows-kept (with_nodes contents mid) (with_nodes contents new) depth (stamp_of at) rows
@@ -145,7 +145,7 @@ pushed ns c s h =
     ∙ ap (λ o. option_and_then as_segment (joined o)) (seam done new []) ∙ ap
     (λ o. option_and_then as_segment (option_map segment o)) h
 
-pub node_pushed : (contents : Contents) (first : ℕ) (nodes new : List (Node Ref)) (c : Chunk Ref) (s : Segment)
+node_pushed : (contents : Contents) (first : ℕ) (nodes new : List (Node Ref)) (c : Chunk Ref) (s : Segment)
     (at : Ref) → length contents ≡ first → new ≡ nodes ++ node.Chunk c ∷ []
     → stamp_of at ≡ first + length nodes → chunk_in (spelled (with_nodes contents nodes)) (renamed_chunk stamp_of c)
     ≡ Some s → rows_at (with_nodes contents new) s.depth (stamp_of at) ≡ Some s.rows

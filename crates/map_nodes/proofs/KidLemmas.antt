@@ -19,7 +19,7 @@ use Rattle.map_chunks.proofs.ListLemmas.{paired-insert, length-inserted, length-
 use Rattle.map_chunks.proofs.RowLemmas.{both, first, second}
 use Rattle.map_chunks.proofs.SearchLemmas.{length-keys_of}
 
-pub kids_pieces-append : (below : ℕ) (xs ys : Kids)
+kids_pieces-append : (below : ℕ) (xs ys : Kids)
     → kids_pieces below (xs ++ ys) ≡ kids_pieces below xs ++ kids_pieces below ys
 kids_pieces-append below [] ys = refl
 kids_pieces-append below (x ∷ xs) ys = ap (λ w. child_pieces below x.0 x.1 ++ w) (kids_pieces-append below xs ys) ∙ sym
@@ -88,7 +88,7 @@ repeated n f x xs e = go n xs (subst (λ m. replicate m f ≡ xs ++ x ∷ []) (l
         (r.0, ap (λ w. w ∷ ys) (sym (ap (head f) e)) ∙ ap (λ w. f ∷ w) r.1)
 
 -- keys and children that are such children
-pub kids_good : (below : ℕ) (es : Kids) (nk : List Bytes) (ne : List OwnChild) → ArePairs es nk ne → AllKids below es
+kids_good : (below : ℕ) (es : Kids) (nk : List Bytes) (ne : List OwnChild) → ArePairs es nk ne → AllKids below es
     → T (rises (keys_of es)) → length es ≤ 16 → 0 < length es
     → (length ne ≡ length nk) × AreKeys nk × (0 < length nk) × AllKids below (paired nk ne)
 kids_good below es nk ne p a o l z =

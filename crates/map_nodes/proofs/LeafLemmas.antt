@@ -51,7 +51,7 @@ leaf_put keys values i key v o l a =
     }
 
 -- keys and values that are rows in order
-pub leaf_keys : (rows : Rows) (ks vs : List Bytes) → IsStrict rows → ArePairs rows ks vs → length rows ≤ 16
+leaf_keys : (rows : Rows) (ks vs : List Bytes) → IsStrict rows → ArePairs rows ks vs → length rows ≤ 16
     → 0 < length rows → AreKeys ks × (length vs ≡ length ks) × (0 < length ks)
 leaf_keys rows ks vs o a f z =
     let k = sym (keys_of-paired ks vs a.1) ∙ ap keys_of a.0 in (
@@ -60,16 +60,16 @@ leaf_keys rows ks vs o a f z =
       omega (arith, ap length k, length-keys_of rows),
     )
 
-pub row_pieces-append : (xs ys : Rows) → row_pieces (xs ++ ys) ≡ row_pieces xs ++ row_pieces ys
+row_pieces-append : (xs ys : Rows) → row_pieces (xs ++ ys) ≡ row_pieces xs ++ row_pieces ys
 row_pieces-append [] ys = refl
 row_pieces-append (r ∷ rs) ys = ap (λ w. (r.0, value r.1) ∷ w) (row_pieces-append rs ys)
 
 -- the pieces of both halves
-pub both_pieces : (rows a b : Rows) → a ≡ take 8 rows → b ≡ drop 8 rows → row_pieces a ++ row_pieces b ≡ row_pieces rows
+both_pieces : (rows a b : Rows) → a ≡ take 8 rows → b ≡ drop 8 rows → row_pieces a ++ row_pieces b ≡ row_pieces rows
 both_pieces rows a b e f = sym (row_pieces-append a b) ∙ ap (λ w. row_pieces (w ++ b)) e ∙ ap
     (λ w. row_pieces (take 8 rows ++ w)) f ∙ ap row_pieces (take-append-drop 8 rows)
 
-pub head_drop : (n : ℕ) (rows : Rows) → n < length rows → HeadIs (get_or (keys_of rows) n []) (row_pieces (drop n rows))
+head_drop : (n : ℕ) (rows : Rows) → n < length rows → HeadIs (get_or (keys_of rows) n []) (row_pieces (drop n rows))
 head_drop n [] l = absurd (omega arith)
 head_drop zero (r ∷ rs) l = refl
 head_drop (suc n) (r ∷ rs) l = head_drop n rs (omega arith)

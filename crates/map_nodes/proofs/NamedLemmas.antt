@@ -214,7 +214,7 @@ entries-inserted below (x ∷ es) (suc n) e at h =
     ]
 
 -- children with the upper half of one put behind it
-pub half-places : (below i : ℕ) (half : Option Half) (keys : List Bytes) (kids : List OwnChild)
+half-places : (below i : ℕ) (half : Option Half) (keys : List Bytes) (kids : List OwnChild)
     → length kids ≡ length keys
     → (at : Ref) → Contains (places_of (kids_pieces below (with_half i half (paired keys kids)))) at
     → Contains (kids_places kids ++ places_of (half_pieces half)) at

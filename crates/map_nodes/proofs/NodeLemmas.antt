@@ -77,7 +77,7 @@ shown-kids p below (e ∷ es) h = by e.1 h.0 (shown-kids p below es h.1)
         (appended (shown p n.value.pieces)) ih ∙ one_of p e.0 n.value.pieces
         (joined_rows (shows_of (kid_rows p below) es)) h.1
 
-pub AllKids-split : (below : ℕ) (before : Kids) (e : Bytes × OwnChild) (behind : Kids)
+AllKids-split : (below : ℕ) (before : Kids) (e : Bytes × OwnChild) (behind : Kids)
     → AllKids below (before ++ e ∷ behind) → AllKids below before × IsChild below e.0 e.1 × AllKids below behind
 AllKids-split below [] e behind h = (tt, h.0, h.1)
 AllKids-split below (b ∷ before) e behind h = let r = AllKids-split below before e behind h.1 in ((h.0, r.0), r.1, r.2)

@@ -54,7 +54,7 @@ half_first copies below h i =
     (sym (ap (λ z. get_or z 0 []) (i.1.2 ∙ ap (λ n. replicate n i.1.0) s))) i.1.1
 
 -- the child and its upper half show its rows
-pub child_news : (q : Contents) (below copies : ℕ) (k : Bytes) (n : Kid) (half : Option Half) (rs : Rows)
+child_news : (q : Contents) (below copies : ℕ) (k : Bytes) (n : Kid) (half : Option Half) (rs : Rows)
     → n.value.depth ≡ below → 0 < length n.value.pieces
     → shown q (n.value.pieces ++ half_pieces half) ≡ Some rs → IsHalf (copies + 1) below half → begins_with k rs ≡ true
     → AllKids below ((k, Own n) ∷ half_kids half)

@@ -47,12 +47,12 @@ use Rattle.map_chunks.proofs.TreeLemmas.{map_is, map_from}
 
 -- ROWS
 
-pub without-above : (k : Bytes) (b : Rows) → AllAbove k b → without k b ≡ b
+without-above : (k : Bytes) (b : Rows) → AllAbove k b → without k b ≡ b
 without-above k [] h = refl
 without-above k (r ∷ b) h = ap (λ o. cond (not (is_eq o)) (r ∷ without k b) (without k b)) h.0 ∙ ap (λ t. r ∷ t)
     (without-above k b h.1)
 
-pub without-front : (k : Bytes) (a b : Rows) → AllAbove k b → without k (a ++ b) ≡ without k a ++ b
+without-front : (k : Bytes) (a b : Rows) → AllAbove k b → without k (a ++ b) ≡ without k a ++ b
 without-front k [] b h = without-above k b h
 without-front k (s ∷ a) b h = by (cmp k s.0) (without-front k a b h)
   where
@@ -63,33 +63,33 @@ without-front k (s ∷ a) b h = by (cmp k s.0) (without-front k a b h)
     by Equal ih = ih
     by Greater ih = ap (λ t. s ∷ t) ih
 
-pub without-back : (k : Bytes) (a b : Rows) → AllBelow k a → without k (a ++ b) ≡ a ++ without k b
+without-back : (k : Bytes) (a b : Rows) → AllBelow k a → without k (a ++ b) ≡ a ++ without k b
 without-back k [] b h = refl
 without-back k (r ∷ a) b h =
     ap (λ o. cond (not (is_eq o)) (r ∷ without k (a ++ b)) (without k (a ++ b)))
     (turned k r.0 ∙ ap ordering_reverse h.0) ∙ ap (λ t. r ∷ t) (without-back k a b h.1)
 
 -- a row whose key it is
-pub without-at : (k v : Bytes) (b : Rows) → without k ((k, v) ∷ b) ≡ without k b
+without-at : (k v : Bytes) (b : Rows) → without k ((k, v) ∷ b) ≡ without k b
 without-at k v b = ap (λ o. cond (not (is_eq o)) ((k, v) ∷ without k b) (without k b)) (is_itself k)
 
-pub without-local : (key : Bytes) → IsLocal key (without key)
+without-local : (key : Bytes) → IsLocal key (without key)
 without-local key a x b l u = without-back key a (x ++ b) l ∙ ap (λ w. a ++ w) (without-front key x b u)
 
 -- whether a row stays
 abbrev stays : Bytes → Bytes → Bool
 stays key k = not (eq_by_cmp (slice_cmp nat_cmp) key k)
 
-pub without-strict : (key : Bytes) (rows : Rows) → IsStrict rows → IsStrict (without key rows)
+without-strict : (key : Bytes) (rows : Rows) → IsStrict rows → IsStrict (without key rows)
 without-strict key rows o = strict (without key rows)
     (is_sorted-where_key (slice_cmp nat_cmp) (stays key) rows (sorted rows o))
 
-pub without-found : (key : Bytes) (rows : Rows) (i : ℕ) → (f : Found key rows i) → without key rows ≡ f.front ++ f.back
+without-found : (key : Bytes) (rows : Rows) (i : ℕ) → (f : Found key rows i) → without key rows ≡ f.front ++ f.back
 without-found key rows i f =
     ap (without key) f.whole ∙ without-back key f.front ((key, f.value) ∷ f.back) f.below
     ∙ ap (λ w. f.front ++ w) (without-at key f.value f.back ∙ without-above key f.back f.above)
 
-pub without-absent : (key : Bytes) (rows : Rows) (n : ℕ) → (f : Absent key rows n) → without key rows ≡ rows
+without-absent : (key : Bytes) (rows : Rows) (n : ℕ) → (f : Absent key rows n) → without key rows ≡ rows
 without-absent key rows n f =
     ap (without key) f.whole ∙ without-back key f.front f.back f.below ∙ ap (λ w. f.front ++ w)
     (without-above key f.back f.above) ∙ sym f.whole
@@ -104,7 +104,7 @@ apart key q x = ap (λ o. cond (is_eq o) None x) (turned q key) ∙ by (cmp key 
     by Equal = refl
     by Greater = refl
 
-pub entries_removed : (m : Entries) (key : Bytes)
+entries_removed : (m : Entries) (key : Bytes)
     → finite.entries (finite.remove m key) ≡ without key (finite.entries m)
 entries_removed m key =
     same_entries (slice_cmp nat_cmp) nat_list_cmp_total same_key (finite.entries (finite.remove m key))
@@ -135,14 +135,14 @@ removed_same m key h = finite.same_map nat_list_cmp_total same_key (finite.remov
 
 -- LISTS
 
-pub remove-at : {A : Type 0} (before : List A) (e : A) (behind : List A) (i : ℕ) → length before ≡ i
+remove-at : {A : Type 0} (before : List A) (e : A) (behind : List A) (i : ℕ) → length before ≡ i
     → remove (before ++ e ∷ behind) i ≡ before ++ behind
 remove-at [] e behind zero l = refl
 remove-at [] e behind (suc i) l = absurd (omega arith)
 remove-at (b ∷ before) e behind zero l = absurd (omega arith)
 remove-at (b ∷ before) e behind (suc i) l = ap (λ w. b ∷ w) (remove-at before e behind i (omega arith))
 
-pub length-removed : {A : Type 0} (xs : List A) (i : ℕ) → i < length xs → length (remove xs i) + 1 ≡ length xs
+length-removed : {A : Type 0} (xs : List A) (i : ℕ) → i < length xs → length (remove xs i) + 1 ≡ length xs
 length-removed [] i l = absurd (omega arith)
 length-removed (x ∷ xs) zero l = omega arith
 length-removed (x ∷ xs) (suc i) l = omega (arith, length-removed xs i (omega arith))
@@ -212,7 +212,7 @@ leaves_none key first here s f =
     none (r ∷ rest) e = absurd cc
 
 -- a child that stays begins with its first key then
-pub begins_without : (key first : Bytes) (here : Rows) (other : Option Bytes) → begins_with first here ≡ true
+begins_without : (key first : Bytes) (here : Rows) (other : Option Bytes) → begins_with first here ≡ true
     → IsStrict here → IsFate key first here (Stays other)
     → begins_with (first_key first other) (without key here) ≡ true
 begins_without key first here None s o f =
@@ -246,7 +246,7 @@ begins_without key first here (Some next) s o f =
     second (r ∷ rest) e = let k : r.0 ≡ next = some_is e in
         subst (λ z. begins_with z (r ∷ rest) ≡ true) k (same_text-itself r.0)
 
-pub begins_some : (k : Bytes) (rows : Rows) → begins_with k rows ≡ true → 0 < length rows
+begins_some : (k : Bytes) (rows : Rows) → begins_with k rows ≡ true → 0 < length rows
 begins_some k [] h = absurd cc
 begins_some k (r ∷ rows) h = omega arith
 

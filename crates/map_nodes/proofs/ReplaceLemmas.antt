@@ -63,7 +63,7 @@ leaf_has p depth keys body values pieces slice key n w e inv s there a =
     (leaf_rows p depth keys body values pieces w e) ∙ find-absent key (paired keys values.items) n r)
 
 -- an inner node with another child at a place
-pub inner_with : (depth : ℕ) (keys : List Bytes) (body : Body) (kids : _) (i : ℕ) (y : OwnChild) (es : Kids)
+inner_with : (depth : ℕ) (keys : List Bytes) (body : Body) (kids : _) (i : ℕ) (y : OwnChild) (es : Kids)
     → body ≡ Inner kids → IsNode depth keys body
     → paired keys (set kids.items i y) ≡ es → AllKids (depth - 1) es
     → (AreKeys keys) × ((0 < depth) × (0 < length keys) × (length (set kids.items i y) ≡ length keys)
@@ -72,13 +72,13 @@ inner_with depth keys body kids i y es e inv s a =
     let h : IsNode depth keys (Inner kids) = subst (IsNode depth keys) e inv in
     (h.0, (h.1.0, h.1.1, length-set kids.items i y ∙ h.1.2, subst (AllKids (depth - 1)) (sym s) a))
 
-pub inner_lengths : (depth : ℕ) (keys : List Bytes) (body : Body) (kids : _) → body ≡ Inner kids
+inner_lengths : (depth : ℕ) (keys : List Bytes) (body : Body) (kids : _) → body ≡ Inner kids
     → IsNode depth keys body → length kids.items ≡ length keys
 inner_lengths depth keys body kids e inv = let h : IsNode depth keys (Inner kids) = subst
     (IsNode depth keys) e inv in h.1.2
 
 -- the key is below the child
-pub there_below : (p : Contents) (depth : ℕ) (keys : List Bytes) (kids : List OwnChild) (pieces : List Piece)
+there_below : (p : Contents) (depth : ℕ) (keys : List Bytes) (kids : List OwnChild) (pieces : List Piece)
     (key : Bytes)
     (i : ℕ) (child : OwnChild)
     → (d : Down p depth keys kids pieces key i child) → IsSome (find (slice_cmp nat_cmp) key (rows_or (shown p pieces)))
@@ -92,7 +92,7 @@ pub record Replaced (new : Contents) (below : ℕ) (es : Kids) (rows : Option Ro
   pub all : AllKids below es
   pub shown_is : shown new (kids_pieces below es) ≡ rows
 
-pub kid_replaced : (old new : Contents) (depth : ℕ) (keys : List Bytes) (kids : List OwnChild) (pieces : List Piece)
+kid_replaced : (old new : Contents) (depth : ℕ) (keys : List Bytes) (kids : List OwnChild) (pieces : List Piece)
     (key v : Bytes) (i : ℕ) (child : OwnChild) (n : Kid) (x : Option Rows)
     → IsPrefix old new → (d : Down old depth keys kids pieces key i child)
     → IsSome (find (slice_cmp nat_cmp) key (rows_or (shown old pieces))) → x ≡ Some d.way.here

@@ -29,7 +29,7 @@ use Rattle.map_tree.specs.declared.tree.Tree.{Tree}
 answered-within : (ns : Contents) (k : ℕ) (x : Spelled) → answer (spelled ns) k ≡ Some x → k < length ns
 answered-within ns k x h = omega (arith, answer_within (spelled ns) k x h, length_folded spelled_by [] ns)
 
-pub segment-within : (ns : Contents) (k : ℕ) (s : Segment) → segment_at ns k ≡ Some s → k < length ns
+segment-within : (ns : Contents) (k : ℕ) (s : Segment) → segment_at ns k ≡ Some s → k < length ns
 segment-within ns k s h = let m = and_then-some (answer (spelled ns) k) as_segment s h in answered-within ns k m.0 m.1
 
 pub version-within : (ns : Contents) (k : ℕ) (v : Version) → version_at ns k ≡ Some v → k < length ns
@@ -72,7 +72,7 @@ root-below ns (Placed at) m h r i = subst (λ w. stamp_of w < length ns) (only_o
 root-below ns (Own n) m h r i = let rows = and_then-some (shown ns n.pieces) map_of_rows m h in
     pieces-below ns n.pieces rows.0 rows.1 r i
 
-pub tree-below : (ns : Contents) (t : Tree) (m : Entries) → tree_map ns t ≡ Some m
+tree-below : (ns : Contents) (t : Tree) (m : Entries) → tree_map ns t ≡ Some m
     → AreBelow (length ns) (tree_places t)
 tree-below ns t m h = root-below ns t.root m h
 

@@ -23,7 +23,7 @@ pub own_depth : (p : Contents) (r : Root) (n : Seen) (d : ℕ) → r ≡ Own n �
 own_depth p r n d e h = some_is (ap (root_depth p) (sym e) ∙ h)
 
 -- a placed root is as deep as its segment
-pub placed_depth : (old new : Contents) (r : Root) (at : Ref) (d : ℕ) (s : Segment) → r ≡ Placed at → IsPrefix old new
+placed_depth : (old new : Contents) (r : Root) (at : Ref) (d : ℕ) (s : Segment) → r ≡ Placed at → IsPrefix old new
     → root_depth old r ≡ Some d → segment_at new (stamp_of at) ≡ Some s → s.depth ≡ d
 placed_depth old new r at d s e p h g = by (segment_at old (stamp_of at)) refl (ap (root_depth old) (sym e) ∙ h)
   where

@@ -48,7 +48,7 @@ node_drawn from first n = renamed-renamed (child_from from) (child_stamp first) 
     (λ at. child_stamp first (child_from from at)) (restamped from first) n (λ at h. stamp_drawn from first at)
 
 -- what a draft adds to the contents of the book
-pub drafted-drawn : (from first : ℕ) (nodes : List (Node Ref))
+drafted-drawn : (from first : ℕ) (nodes : List (Node Ref))
     → drafted_contents first (drafted_from from nodes) ≡ drawn_as from first nodes
 drafted-drawn from first [] = refl
 drafted-drawn from first (n ∷ ns) = ap (λ c. c ∷ drafted_contents first (drafted_from from ns))
@@ -96,7 +96,7 @@ are_placed old log new seat draft first refs seen next is are count = record {
 
 -- REFERENCES
 
-pub from_at : (first : ℕ) (refs : List Ref) (k : ℕ) (d : Ref) → AreFrom first refs → k < length refs
+from_at : (first : ℕ) (refs : List Ref) (k : ℕ) (d : Ref) → AreFrom first refs → k < length refs
     → stamp_of (slice_index_or refs k d) ≡ first + k
 from_at first [] k d are low = absurd (omega (arith, low))
 from_at first (r ∷ refs) zero d are low = omega (arith, are.0)

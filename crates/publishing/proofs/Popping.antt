@@ -48,11 +48,11 @@ pub top_in : (v : View) (slots rest : List ℕ) (x : ℕ) → slots ≡ rest ++ 
 top_in v slots rest x split has = subst (λ t. In t x) (sym (last_first v.taken slots rest x has.0 split)) (inl refl)
 
 -- nothing is taken yet
-pub none_taken : (v : View) → v.taken ≡ [] → HasTaken v []
+none_taken : (v : View) → v.taken ≡ [] → HasTaken v []
 none_taken v none = (none, subst AreOnce (sym none) tt)
 
 -- nothing is taken any more
-pub all_gone : (v : View) (slots : List ℕ) → slots ≡ [] → HasTaken v slots → v.taken ≡ []
+all_gone : (v : View) (slots : List ℕ) → slots ≡ [] → HasTaken v slots → v.taken ≡ []
 all_gone v slots none has = has.0 ∙ ap reverse none
 
 -- one more was taken
@@ -63,5 +63,5 @@ pushed v u slots x has takes = (
 )
 
 -- what was taken is what it was
-pub same_taken : (v u : View) (slots : List ℕ) → HasTaken v slots → u.taken ≡ v.taken → HasTaken u slots
+same_taken : (v u : View) (slots : List ℕ) → HasTaken v slots → u.taken ≡ v.taken → HasTaken u slots
 same_taken v u slots has same = (same ∙ has.0, subst AreOnce (sym same) has.1)

@@ -122,7 +122,7 @@ tree_in true None d e = absurd (cc)
 tree_in true (Some x) d e = cc
 tree_in false o d e = absurd (cc)
 
-pub read-reading : (text : List ℕ) (d : Data) → reading text ≡ Ok d → read text ≡ Some d
+read-reading : (text : List ℕ) (d : Data) → reading text ≡ Ok d → read text ≡ Some d
 unfolding reading
 read-reading text d e = tree_in (is_utf8 text) (read text) d e
 

@@ -30,7 +30,7 @@ abbrev pub items_front : Items → List Token
 items_front no_items = []
 items_front (item j js) = json_tokens j ++ items_front js
 
-pub items_joined-push : (js : Items) (j : Json) (more : Items)
+items_joined-push : (js : Items) (j : Json) (more : Items)
     → items_joined js (item j more) ≡ items_joined (item_pushed js j) more
 items_joined-push no_items j more = refl
 items_joined-push (item x js) j more = ap (item x) (items_joined-push js j more)
@@ -39,7 +39,7 @@ pub items_joined-none : (js : Items) → items_joined js no_items ≡ js
 items_joined-none no_items = refl
 items_joined-none (item x js) = ap (item x) (items_joined-none js)
 
-pub items_front-push : (js : Items) (j : Json) → items_front (item_pushed js j) ≡ items_front js ++ json_tokens j
+items_front-push : (js : Items) (j : Json) → items_front (item_pushed js j) ≡ items_front js ++ json_tokens j
 items_front-push no_items j = append-none (json_tokens j) where
   append-none : (ts : List Token) → ts ++ [] ≡ ts
   append-none [] = refl
@@ -56,7 +56,7 @@ abbrev pub AllPlain : Items → Type 0
 AllPlain no_items = ⊤
 AllPlain (item j js) = IsPlain j × AllPlain js
 
-pub AllPlain-push : (js : Items) (j : Json) → AllPlain js → IsPlain j → AllPlain (item_pushed js j)
+AllPlain-push : (js : Items) (j : Json) → AllPlain js → IsPlain j → AllPlain (item_pushed js j)
 AllPlain-push no_items j h k = (k, tt)
 AllPlain-push (item x js) j h k = (h.0, AllPlain-push js j h.1 k)
 
@@ -98,7 +98,7 @@ abbrev pub members_front : Members → List Token
 members_front no_members = []
 members_front (member k j ms) = Token.key k ∷ (json_tokens j ++ members_front ms)
 
-pub members_joined-push : (ms : Members) (k : List ℕ) (j : Json) (more : Members)
+members_joined-push : (ms : Members) (k : List ℕ) (j : Json) (more : Members)
     → members_joined ms (member k j more) ≡ members_joined (member_pushed ms k j) more
 members_joined-push no_members k j more = refl
 members_joined-push (member l x ms) k j more = ap (member l x) (members_joined-push ms k j more)
@@ -107,7 +107,7 @@ pub members_joined-none : (ms : Members) → members_joined ms no_members ≡ ms
 members_joined-none no_members = refl
 members_joined-none (member l x ms) = ap (member l x) (members_joined-none ms)
 
-pub members_front-push : (ms : Members) (k : List ℕ) (j : Json)
+members_front-push : (ms : Members) (k : List ℕ) (j : Json)
     → members_front (member_pushed ms k j) ≡ members_front ms ++ Token.key k ∷ json_tokens j
 members_front-push no_members k j = ap (λ ts. Token.key k ∷ ts) (append-none (json_tokens j)) where
   append-none : (ts : List Token) → ts ++ [] ≡ ts
@@ -128,7 +128,7 @@ abbrev pub IsAfter : List ℕ → data_of.Members → Type 0
 IsAfter k data_of.no_members = ⊤
 IsAfter k (data_of.member l d ms) = (slice_cmp nat_cmp k l ≡ Greater) × IsAfter k ms
 
-abbrev pub put_last : data_of.Members → List ℕ → Data → data_of.Members
+abbrev put_last : data_of.Members → List ℕ → Data → data_of.Members
 put_last data_of.no_members k d = data_of.member k d data_of.no_members
 put_last (data_of.member l e ms) k d = data_of.member l e (put_last ms k d)
 
@@ -174,7 +174,7 @@ PlainUpTo-none = record {
   after = λ k h. tt;
 }
 
-pub PlainUpTo-push : (last k : List ℕ) (done : Members) (j : Json) → PlainUpTo last done → IsPlain j
+PlainUpTo-push : (last k : List ℕ) (done : Members) (j : Json) → PlainUpTo last done → IsPlain j
     → slice_cmp nat_cmp last k ≡ Less → PlainUpTo k (member_pushed done k j)
 PlainUpTo-push last k done j h p less =
     let ascends = put-after h.tree k p.tree (h.after k less) in record {

@@ -25,7 +25,7 @@ member_below k no_members n h = tt
 member_below k (member l e ms) n h = below_at _ n (get_member k ms) (Some e) (get_member k ms)
     (member_below k ms n (omega arith)) (omega arith) (member_below k ms n (omega arith))
 
-pub field_below : (k : List ℕ) (d : Data) (n : ℕ) → depth d ≤ n + 1 → Below n (get k d)
+field_below : (k : List ℕ) (d : Data) (n : ℕ) → depth d ≤ n + 1 → Below n (get k d)
 field_below k null n h = tt
 field_below k (boolean b) n h = tt
 field_below k (number x) n h = tt

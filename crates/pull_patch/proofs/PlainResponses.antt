@@ -142,7 +142,7 @@ AreChanges-part d ms cs is e =
 
 -- ---- the whole
 
-pub joined_response : (ms : Members) (c : Cookie) (cs : List Confirmed) (ps : List Patch)
+joined_response : (ms : Members) (c : Cookie) (cs : List Confirmed) (ps : List Patch)
     → get_member (codes "error") ms ≡ None → HasCookie ms c → HasChanges ms cs → HasPatch ms ps
     → response_of (object ms) ≡ Ok (response.Ok (record { cookie = c; changes = cs; patch = ps }))
 unfolding response_of pull_response fields_of pull_of

@@ -58,7 +58,7 @@ one_within r i (Taken j) c few within = kept_within r i c within
 one_within r i Live c few within = kept_within r i c within
 one_within r i (Retired e) c few within = kept_within r i c within
 
-pub all_within : (r : ℕ) (states : List SlotState) → FreeWithin r (length states) (slots_counted r states)
+all_within : (r : ℕ) (states : List SlotState) → FreeWithin r (length states) (slots_counted r states)
 all_within r [] = (omega arith, omega arith)
 all_within r (s ∷ states) = let c : SlotCounts = slots_counted r states in let all = all_counted r states in
     subst (λ m. FreeWithin r m (with_slot r (length states) s c)) (next (length states))
@@ -119,7 +119,7 @@ one_pin n Absent c d h = more_within n c d h
 one_pin n (Stored e) c d h = pin_within n e c d h
 one_pin n (Held e) c d h = pin_within n e c d h
 
-pub all_pins : (pins : List Pin) (c : SlotCounts) → NoPins c → PinsWithin (length pins) c (pins_counted pins c)
+all_pins : (pins : List Pin) (c : SlotCounts) → NoPins c → PinsWithin (length pins) c (pins_counted pins c)
 all_pins [] c bare = record {
   ordinary_free = refl;
   reserved_free = refl;

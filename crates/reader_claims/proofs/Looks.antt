@@ -7,7 +7,7 @@ use Rattle.reader_claims.specs.Lists.{In}
 use Rattle.reader_claims.specs.Passes.{Takes}
 use Rattle.reader_claims.specs.Inside.Looked.{IfTook}
 
-pub takes_later : (v u t : View) (i : ℕ) → u.taken ≡ v.taken → Takes u t i → Takes v t i
+takes_later : (v u t : View) (i : ℕ) → u.taken ≡ v.taken → Takes u t i → Takes v t i
 takes_later v u t i same h = ((λ inside. h.0 (subst (λ l. In l i) (sym same) inside)), h.1 ∙ ap (λ l. i ∷ l) same)
 
 pub took_further : (look : Look) (a end : ℕ) (v u t : View) → a ≤ end → u.taken ≡ v.taken → IfTook look a u t

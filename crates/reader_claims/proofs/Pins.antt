@@ -12,7 +12,7 @@ use Rattle.reader_claims.specs.declared.view.View.{View}
 abbrev pub OpenTo : ℕ → View → ℕ → Type 0
 OpenTo n v r = (r ≤ v.reached) × ((j : ℕ) → 0 < j → j ≤ n → (w : ℕ) × Noted v.read j w × ((w ≡ 0) ⊎ (r < w)))
 
-pub more_noted : (v u : View) (n w i x : ℕ) → u ≡ with_read v n w → Noted v.read i x → Noted u.read i x
+more_noted : (v u : View) (n w i x : ℕ) → u ≡ with_read v n w → Noted v.read i x → Noted u.read i x
 more_noted v u n w i x is h = subst (λ y. Noted y.read i x) (sym is) (suc h.0, h.1)
 
 -- after the pin of the seat n + 1 was read as w

@@ -6,7 +6,7 @@ use Rattle.reader_claims.specs.Seats.{KeepsPin}
 use Rattle.reader_claims.specs.Views.{promoted, with_epoch, with_raise}
 use Rattle.reader_claims.specs.Passes.{Raises}
 
-pub keeps_promoted : (p : Pin) (e : ℕ) → KeepsPin p (promoted p e)
+keeps_promoted : (p : Pin) (e : ℕ) → KeepsPin p (promoted p e)
 keeps_promoted p e = record { held = λ n is. ap (λ q. promoted q e) is; absent = λ is. ap (λ q. promoted q e) is }
 
 -- the epoch was only loaded

@@ -31,10 +31,10 @@ open_later r v u l h = subst (λ (y : View). IsOpen y r) (sym l.0) h
 pub closed_later : (r : ℕ) (v u : View) → Later v u → IsClosed v r → IsClosed u r
 closed_later r v u l h = subst (λ (y : View). IsClosed y r) (sym l.0) h
 
-pub read_later : (v u : View) → Later v u → ArePinsRead v → ArePinsRead u
+read_later : (v u : View) → Later v u → ArePinsRead v → ArePinsRead u
 read_later v u l h = subst (λ (y : View). ArePinsRead y) (sym l.0) h
 
-pub shut_later : (i : ℕ) (v u : View) → Later v u → WhyShut i v → WhyShut i u
+shut_later : (i : ℕ) (v u : View) → Later v u → WhyShut i v → WhyShut i u
 shut_later i v u l (passes.taken j saw) = passes.taken j
     (together_later (found i (slot_word (Taken j)) ∷ []) v.notes u.notes l.1.0 l.1.1 saw)
 shut_later i v u l (passes.live saw) = passes.live
@@ -49,7 +49,7 @@ shut_later i v u l (passes.take_lost r x ne run) = passes.take_lost r x ne
 pub later_self : (v : View) → Later v v
 later_self v = (refl, ([], refl), omega arith)
 
-pub later_taken : (v u : View) (i : ℕ) → u ≡ with_taken v i → Later v u
+later_taken : (v u : View) (i : ℕ) → u ≡ with_taken v i → Later v u
 later_taken v u i is = subst (Later v) (sym is) (refl, ([], refl), omega arith)
 
 pub later_note : (v u : View) (i old w : ℕ) → u ≡ with_note v i old w → Later v u
@@ -116,7 +116,7 @@ pub later_tried : (w i : ℕ) (v u : View) → (w ≡ 0 → u ≡ with_taken v i
 later_tried w i v u won miss = dite (ℕ_discrete w 0) (λ e. later_taken v u i (won e))
     (λ ne. later_note v u i 0 w (miss ne))
 
-pub all_later : (from end : ℕ) (v u : View) → Later v u → AreShut from end v → AreShut from end u
+all_later : (from end : ℕ) (v u : View) → Later v u → AreShut from end v → AreShut from end u
 all_later from end v u l h i over near = shut_later i v u l (h i over near)
 
 pub all_more : (from end : ℕ) (v u : View) → Later v u → AreShut from end v → WhyShut end u → AreShut from (end + 1) u
@@ -124,11 +124,11 @@ all_more from end v u l h one i over near = dite (ℕ_discrete i end) (λ e. sub
     (λ ne. shut_later i v u l (h i over (omega arith)))
 
 -- two ranges that meet
-pub all_joined : (from at end : ℕ) (v : View) → AreShut from at v → AreShut at end v → AreShut from end v
+all_joined : (from at end : ℕ) (v : View) → AreShut from at v → AreShut at end v → AreShut from end v
 all_joined from at end v a b i over near = dite (dec_lt i at) (λ lt. a i over lt) (λ ge. b i (omega arith) near)
 
 -- a reading of the epoch and the pins from v to u, and then steps on slots to t
-pub finds_none : (v u t : View) (end : ℕ) → u ≡ passed v u → ArePinsRead u → Later u t → AreShut 0 end t
+finds_none : (v u t : View) (end : ℕ) → u ≡ passed v u → ArePinsRead u → Later u t → AreShut 0 end t
     → FindsNone v t end
 finds_none v u t end is read l shut = record {
   epoch = (

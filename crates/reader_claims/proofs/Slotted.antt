@@ -28,7 +28,7 @@ left_of x z (y ∷ ys) h = dite (ℕ_discrete x y)
     (ne_eqb x y ne) h in
     ⊎_elim (λ (q : z ≡ y). ((λ r. ne (sym r ∙ q)), inl q)) (λ g'. let t = left_of x z ys g' in (t.0, inr t.1)) g)
 
-pub still_in : (x z : ℕ) (ys : List ℕ) → z ≢ x → In ys z → In (without x ys) z
+still_in : (x z : ℕ) (ys : List ℕ) → z ≢ x → In ys z → In (without x ys) z
 still_in x z [] n h = absurd h
 still_in x z (y ∷ ys) n h = dite (ℕ_discrete x y)
     (λ e. subst (λ b. In (cond b (without x ys) (y ∷ without x ys)) z) (sym (eq-eqb x y e))

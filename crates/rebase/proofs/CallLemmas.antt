@@ -99,7 +99,7 @@ own_moves_more old new pre seat =
     (filter is_move (own_of old.seat old.log)) (filter is_move (own_of old.seat pre.0)))
 
 -- other seats never move the head back
-pub others_grow : (old new : Known) → IsLater old new → moves_of_others old ≤ moves_of_others new
+others_grow : (old new : Known) → IsLater old new → moves_of_others old ≤ moves_of_others new
 others_grow old new later =
     let a = own_moves_more old new later.seen later.seat in
     let b = own_within old.seat later.seen.0 in
@@ -173,7 +173,7 @@ left_in_turn tries old new e later alone is =
     let b = ap length is.0 in
     record_same old.log new.log later.seen (omega (arith, a, b))
 
-pub in_turn : (means : Meanings) (tries : ℕ) (old new : Known) (r : Result Replied Refusal)
+in_turn : (means : Meanings) (tries : ℕ) (old new : Known) (r : Result Replied Refusal)
     (change : Result Replied Refusal → Option Change) (right : State → Result Replied Refusal) → IsLater old new
     → IsAlone old new
     → Answers means tries old new r change right → IsInTurn means old new r (change r) right
@@ -202,7 +202,7 @@ later_trans old mid new a b = record {
 }
 
 -- calls only add to what their caller has seen
-pub calls_later : (means : Meanings) (tries : ℕ) (c : Caller) (old : Known) (xs : List Call)
+calls_later : (means : Meanings) (tries : ℕ) (c : Caller) (old : Known) (xs : List Call)
     (rs : List (Result Replied Refusal)) (new : Known) (end : Caller) → AreAnswered means tries c old xs rs new end
     → IsLater old new
 calls_later means tries c old [] [] new end all = subst (IsLater old) (sym all.0) (later_self old)
@@ -279,7 +279,7 @@ told_refusal : {X Y : Type 0} (f : X → Y) (r : Result X Refusal) (e : Refusal)
 told_refusal f r e is = ap (told f) is
 
 -- an answer is told as it is
-pub answers_told : {X : Type 0} (f : X → Replied) (means : Meanings) (tries : ℕ) (old new : Known)
+answers_told : {X : Type 0} (f : X → Replied) (means : Meanings) (tries : ℕ) (old new : Known)
     (r : Result X Refusal) (change : Result X Refusal → Option Change) (right : State → Result X Refusal)
     (shown : Result Replied Refusal → Option Change) (told_right : State → Result Replied Refusal)
     → shown (told f r) ≡ change r → ((s : State) → told_right s ≡ told f (right s))

@@ -23,7 +23,7 @@ passing_wants X refusal.Gone is = refl
 passing_wants X e is = absurd (cc is)
 
 -- where it passes, the seat did not move the head
-pub left_alone : {X : Type 0} (means : Meanings) (tries : ℕ) (old new : Known) (reply : Result X Refusal)
+left_alone : {X : Type 0} (means : Meanings) (tries : ℕ) (old new : Known) (reply : Result X Refusal)
     (change : Result X Refusal → Option Change) (right : State → Result X Refusal)
     → is_passing reply ≡ true → ((e : Refusal) → is_passing {X = X} (Err e) ≡ true → change (Err e) ≡ None)
     → Answers means tries old new reply change right → own_moves new ≡ own_moves old
@@ -60,7 +60,7 @@ begun_anew {X = X} means tries more old mid new (Err e) change right pre seat sa
     (λ s. right s ≡ Err e) pre seat same lasts is
 
 -- an end of a pull that passes stands for no change
-pub passing_read : (ticket : Cookie) (a : Result Response Refusal) (e : Refusal) → is_passing {X = Ended} (Err e) ≡ true
+passing_read : (ticket : Cookie) (a : Result Response Refusal) (e : Refusal) → is_passing {X = Ended} (Err e) ≡ true
     → change_read ticket a (Err e) ≡ None
 passing_read ticket (Ok (response.Ok r)) e is = refl
 passing_read ticket (Ok response.StateNotFound) refusal.Moved is = refl

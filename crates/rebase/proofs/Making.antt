@@ -44,7 +44,7 @@ point_later means old mid new log p more same = record {
 }
 
 -- a refusal of what was proposed at a point is answered there
-pub unproposed : {X : Type 0} (means : Meanings) (tries : ℕ) (old new : Known) (e : Refusal)
+unproposed : {X : Type 0} (means : Meanings) (tries : ℕ) (old new : Known) (e : Refusal)
     (change : Result X Refusal → Option Change) (right : State → Result X Refusal) (log : List Entry)
     → IsPoint means old new None log → change (Err e) ≡ None → IsUnproposed change (right (after (record_of log))) e
     → Answers means tries old new (Err e) change right
@@ -94,7 +94,7 @@ fold_push : (n : ℕ) (xs : List ℕ) (y : ℕ) → fold max n (xs ++ y ∷ []) 
 fold_push n xs y = fold-append max n xs (y ∷ [])
 
 -- the next mutation of a client is its last
-pub last_made : (s : State) (x : Mutation) → last_id s x.client + 1 ≡ x.id → last_id (after_mutate s x) x.client ≡ x.id
+last_made : (s : State) (x : Mutation) → last_id s x.client + 1 ≡ x.id → last_id (after_mutate s x) x.client ≡ x.id
 last_made s x next =
     let n = confirmed_id s.confirmed x.client in let before = ids_of x.client s.pending in
     let own : ids_of x.client (x ∷ []) ≡ x.id

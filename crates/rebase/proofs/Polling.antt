@@ -55,7 +55,7 @@ row_decides x y = (
       ((bytes_decides x.1 y.1).1 (ap (λ (r : Bytes × Bytes). r.1) e)),
 )
 
-pub rows_decide : (xs ys : Rows) → Decides (same_rows xs ys) (xs ≡ ys)
+rows_decide : (xs ys : Rows) → Decides (same_rows xs ys) (xs ≡ ys)
 rows_decide xs ys = pointwise_decides row_decides xs ys
 
 -- where the rows were told last, a poll answers so

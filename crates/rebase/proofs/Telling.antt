@@ -31,7 +31,7 @@ use Rattle.rebase.specs.Inside.Changing.{ended_as, is_made}
 use Rattle.rebase.specs.Inside.Proposing.{HasLast, asked_reply, change_asked, is_applied}
 
 -- a value
-pub answers_as : {X Y : Type 0} (means : Meanings) (tries : ℕ) (old new : Known) (x : X) (y : Y)
+answers_as : {X Y : Type 0} (means : Meanings) (tries : ℕ) (old new : Known) (x : X) (y : Y)
     (change : Result X Refusal → Option Change) (other : Result Y Refusal → Option Change)
     (right : State → Result X Refusal) (so : State → Result Y Refusal)
     → change (Ok x) ≡ other (Ok y) → ((s : State) → right s ≡ Ok x → so s ≡ Ok y)
@@ -46,7 +46,7 @@ refused_as means tries old new true e right so f is = is
 refused_as means tries old new false e right so f is = (is.0, is.1, f (after (record_of is.0)) is.2)
 
 -- a refusal that stands for no change
-pub refuses_as : {X Y : Type 0} (means : Meanings) (tries : ℕ) (old new : Known) (e : Refusal)
+refuses_as : {X Y : Type 0} (means : Meanings) (tries : ℕ) (old new : Known) (e : Refusal)
     (change : Result X Refusal → Option Change) (other : Result Y Refusal → Option Change)
     (right : State → Result X Refusal) (so : State → Result Y Refusal)
     → change (Err e) ≡ None → other (Err e) ≡ None → ((s : State) → right s ≡ Err e → so s ≡ Err e)
@@ -62,16 +62,16 @@ refuses_as means tries old new e change other right so one two f is =
 
 -- WHAT WAS TOLD
 
-pub told_refused : {X Y : Type 0} (f : X → Y) (r : Result X Refusal) (e : Refusal) → told f r ≡ Err e → r ≡ Err e
+told_refused : {X Y : Type 0} (f : X → Y) (r : Result X Refusal) (e : Refusal) → told f r ≡ Err e → r ≡ Err e
 told_refused f (Ok x) e h = absurd (cc h)
 told_refused f (Err w) e h = let same : w ≡ e = cc h in ap Err same
 
-pub told_applied : (r : Result Ended Refusal) → told is_applied r ≡ Ok true → r ≡ Ok ended.Applied
+told_applied : (r : Result Ended Refusal) → told is_applied r ≡ Ok true → r ≡ Ok ended.Applied
 told_applied (Ok ended.Applied) h = refl
 told_applied (Ok ended.Same) h = absurd (cc h)
 told_applied (Err e) h = absurd (cc h)
 
-pub told_same : (r : Result Ended Refusal) → told is_applied r ≡ Ok false → r ≡ Ok ended.Same
+told_same : (r : Result Ended Refusal) → told is_applied r ≡ Ok false → r ≡ Ok ended.Same
 told_same (Ok ended.Applied) h = absurd (cc h)
 told_same (Ok ended.Same) h = refl
 told_same (Err e) h = absurd (cc h)
@@ -94,7 +94,7 @@ open_told true y id f h = absurd (cc h)
 open_told false y id f h = f h
 
 -- a mutation that is made has the next id
-pub told_mutated : (means : Meanings) (s : State) (last : ℕ) (x : Mutation)
+told_mutated : (means : Meanings) (s : State) (last : ℕ) (x : Mutation)
     → asked_reply means s last (Mutated x) ≡ Ok true → mutate_reply means s last x ≡ Ok (last + 1)
 told_mutated means s last x h = open_told s.closed (open_reply means s last x) (last + 1)
     (own_told (nat_eq (last_id s x.client) last) (meaning_of means x (view_of means s)) (last + 1)) h
@@ -104,7 +104,7 @@ told_all (Ok n) h = cc h
 told_all (Err e) h = cc h
 
 -- it changes something
-pub never_same : (means : Meanings) (s : State) (last : ℕ) (x : Mutation)
+never_same : (means : Meanings) (s : State) (last : ℕ) (x : Mutation)
     → asked_reply means s last (Mutated x) ≡ Ok false → ⊥
 never_same means s last x h = told_all (mutate_reply means s last x) h
 

@@ -66,7 +66,7 @@ told_own true n last y e h = grind (arith, e)
 told_own false n last y e h = absurd (cc h)
 
 -- a client whose mutation is accepted has its own last id
-pub own_last : (means : Meanings) (s : State) (last : ℕ) (x : Mutation) → asked_reply means s last (Mutated x) ≡ Ok true
+own_last : (means : Meanings) (s : State) (last : ℕ) (x : Mutation) → asked_reply means s last (Mutated x) ≡ Ok true
     → last_id s x.client ≡ last
 own_last means s last x h = told_own (nat_eq (last_id s x.client) last) (last_id s x.client) last
     (by_meaning (meaning_of means x (view_of means s)) (last + 1)) refl

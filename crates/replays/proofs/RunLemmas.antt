@@ -16,13 +16,13 @@ map-done unknown m h = absurd h
 map-done (refuses code) m h = absurd h
 map-done (done x) m h = cc
 
-pub map-unknown : (meaning : Meaning) (m : Entries) → RunsAs meaning ran.Unknown m
+map-unknown : (meaning : Meaning) (m : Entries) → RunsAs meaning ran.Unknown m
     → map_of meaning ≡ Err refusal.NoMutator
 map-unknown unknown m h = refl
 map-unknown (refuses code) m h = absurd h
 map-unknown (done x) m h = absurd h
 
-pub map-refused : (meaning : Meaning) (m : Entries) (code : ℕ) → RunsAs meaning (ran.Refused code) m
+map-refused : (meaning : Meaning) (m : Entries) (code : ℕ) → RunsAs meaning (ran.Refused code) m
     → map_of meaning ≡ Err (refusal.Refused code)
 map-refused unknown m code h = absurd h
 map-refused (refuses c) m code h = cc

@@ -81,7 +81,7 @@ written-whole text z same low = record {
   back = back-whole z (omega arith);
 }
 
-pub number_of-whole : (z : ℤ) → mag z < 2 ^ 63 → number_of (whole z) ≡ Some z
+number_of-whole : (z : ℤ) → mag z < 2 ^ 63 → number_of (whole z) ≡ Some z
 number_of-whole (pos n) h = rw (lt-ltb n (2 ^ 63) h) refl
 number_of-whole (negsuc n) h = refl
 

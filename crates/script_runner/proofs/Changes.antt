@@ -12,7 +12,7 @@ map_set-changed_at f change (y ∷ ys) (suc i) x w at is = ap (λ zs. f y ∷ zs
     (map_set-changed_at f change ys i x w at is)
 
 -- past the end nothing is changed
-pub changed_at-past : {X : Type 0} (change : X → X) (xs : List X) (i : ℕ) → length xs ≤ i → changed_at i change xs ≡ xs
+changed_at-past : {X : Type 0} (change : X → X) (xs : List X) (i : ℕ) → length xs ≤ i → changed_at i change xs ≡ xs
 changed_at-past change [] i past = refl
 changed_at-past change (x ∷ xs) zero past = absurd (omega arith)
 changed_at-past change (x ∷ xs) (suc i) past = ap (λ ys. x ∷ ys) (changed_at-past change xs i (omega arith))

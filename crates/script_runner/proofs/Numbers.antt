@@ -14,7 +14,7 @@ pub digits : (t : List ℕ) → is_decimal t ≡ true → all_ascii_digits t ≡
 unfolding is_decimal
 digits t decimal = (and_parts _ _ decimal).1
 
-pub some_digits : (t : List ℕ) → is_decimal t ≡ true → 0 < length t
+some_digits : (t : List ℕ) → is_decimal t ≡ true → 0 < length t
 unfolding is_decimal
 some_digits t decimal = grind (arith, nat_tests)
 

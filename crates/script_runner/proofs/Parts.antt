@@ -27,7 +27,7 @@ alike_past f g c alike a (suc n) past =
     ∙ ap (λ xs. f a ∷ xs) (alike_past f g c alike (a + 1) n (omega (arith, past)))
 
 -- and is changed there
-pub changed_from : {X : Type 0} (f g : ℕ → X) (change : X → X) (c : ℕ) → ((i : ℕ) → i ≢ c → g i ≡ f i)
+changed_from : {X : Type 0} (f g : ℕ → X) (change : X → X) (c : ℕ) → ((i : ℕ) → i ≢ c → g i ≡ f i)
     → g c ≡ change (f c) → (a n k : ℕ) → a + k ≡ c
     → map g (range_with_len a n) ≡ changed_at k change (map f (range_with_len a n))
 changed_from f g change c alike there a zero k is = refl

@@ -88,7 +88,7 @@ unfolding first_fault
 first_fault-said bytes said is = ap result_err is
 
 -- a fault says nothing of the value
-pub Checks-as : (X Y : Type 0) (first : Option (ℕ × ScriptFault)) (e : Fault) → Checks {X = X} first (Err e)
+Checks-as : (X Y : Type 0) (first : Option (ℕ × ScriptFault)) (e : Fault) → Checks {X = X} first (Err e)
     → Checks {X = Y} first (Err e)
 Checks-as X Y first (fault.Script l t) h = h
 Checks-as X Y first fault.NoMemory h = h

@@ -31,7 +31,7 @@ use Rattle.script_runner.specs.Inside.Turns.{AreOf, IsPrinted, IsTold, IsTurn, p
 -- LISTS
 
 -- what holds of every value holds of each element
-pub all_of : {A : Type 0} (P : A → Type 0) → ((x : A) → P x) → (xs : List A) → All P xs
+all_of : {A : Type 0} (P : A → Type 0) → ((x : A) → P x) → (xs : List A) → All P xs
 all_of P every xs k d below = every (slice_index_or xs k d)
 
 -- a fact of each element, one element more

@@ -22,7 +22,7 @@ abbrev pub AreOf : Watches → Book → Type 0
 AreOf watches book = (name : Bytes) (watch : Watched) → finite.get watches name ≡ Some watch → watch.book ≡ book
 
 -- one more
-pub insert_of : (watches : Watches) (book : Book) (name : Bytes) (new : Watched) → AreOf watches book → new.book ≡ book
+insert_of : (watches : Watches) (book : Book) (name : Bytes) (new : Watched) → AreOf watches book → new.book ≡ book
     → AreOf (finite.insert watches name new) book
 insert_of watches book name new old is q watch at = by (eq_by_cmp (slice_cmp nat_cmp) q name)
     (sym (finite.get-insert nat_list_cmp_total watches name new q) ∙ at)
@@ -42,7 +42,7 @@ remove_of watches book name old q watch at = by (eq_by_cmp (slice_cmp nat_cmp) q
     by false e = old q watch e
 
 -- A poll that was answered may be refused for want of memory: it made no change.
-pub refused_after : {X : Type 0} (means : Meanings) (tries : ℕ) (old new : Known) (x : X)
+refused_after : {X : Type 0} (means : Meanings) (tries : ℕ) (old new : Known) (x : X)
     (right : State → Result X Refusal) → Answers means tries old new (Ok x) nothing right
     → Answers means tries old new (Err refusal.NoMemory) nothing right
 refused_after means tries old new x right is = (is.1.moves ∙ append-nil (own_moves old), λ moved. absurd (cc moved))

@@ -70,7 +70,7 @@ bare_spells log by cookie root starts at_leaf =
     (sym (drawn_more log (e ∷ []))) made
 
 -- a cookie above null is accepted at the opening
-pub bare_accepted : (cookie : Cookie) → order_cmp cookie.order order.Null ≡ Greater
+bare_accepted : (cookie : Cookie) → order_cmp cookie.order order.Null ≡ Greater
     → IsAccepted no_mutators opening_state (bare_pull cookie)
 bare_accepted cookie above = (
   ap (λ o. by_order o opening_state (record { cookie = cookie; changes = []; patch = [] }))

@@ -35,7 +35,7 @@ pub begun_on : (known old new : Contents) → take (length known) old ≡ known 
 begun_on known old new h p = let b = prefix_trans known old new (begins known old h) p in
     ap (take (length known)) (sym b.1) ∙ take-append_seam known b.0
 
-pub begun_same : (known old : Contents) → old ≡ known → take (length known) old ≡ known
+begun_same : (known old : Contents) → old ≡ known → take (length known) old ≡ known
 begun_same known old e = begun_on known known old
     (ap (take (length known)) (sym (append-nil known)) ∙ take-append_seam known []) ([], append-nil known ∙ sym e)
 
