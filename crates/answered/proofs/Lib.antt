@@ -2,4 +2,4 @@ pub mod AtOnce
 pub mod Moving
 pub mod Losing
 pub mod Holding
-pub mod Worked
+mod Worked

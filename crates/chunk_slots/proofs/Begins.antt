@@ -27,15 +27,6 @@ length_seated book log zero = refl
 length_seated book log (suc n) = length_push (seated book log n) (known book log (Some n)) ∙ ap (λ k. k + 1)
     (length_seated book log n) ∙ omega arith
 
--- the leaf is the content of the stamp 0, and the snapshot that of the stamp 1
-leaf_opens : (log : List Entry) (at : Ref) (node : Node Ref) → log ≡ opening at
-    → content_of node ≡ drafted_content 0 empty_leaf → IsContent log 0 node
-leaf_opens log at node is same = ap (λ l. slice_get (drawn l) 0) is ∙ ap Some (sym same)
-
-commit_opens : (log : List Entry) (at : Ref) (node : Node Ref) → log ≡ opening at
-    → content_of node ≡ drafted_content 0 opening_snapshot → IsContent log 1 node
-commit_opens log at node is same = ap (λ l. slice_get (drawn l) 1) is ∙ ap Some (sym same)
-
 -- of two slots nothing is left without both
 pub none_left : (a b : ℕ) → a ≢ b → without b (without a (b ∷ a ∷ [])) ≡ []
 none_left a b two =

@@ -40,25 +40,3 @@ withdrawn_within s t slot h same is = (
   (λ k m. subst (λ (z : ClaimsId). k < z.sizes.slots) (sym same)
       (h.1 k (left_of slot k s.view.taken (subst (λ (v : View). In v.taken k) is m)).1)),
 )
-
--- the seats of a new store, the last of which has placed what it opens with
-all_ready : (claims z : ClaimsId) (rest all : List Seated) (opener : Seated) → z ≡ claims
-    → All (IsReady claims) rest → all ≡ rest ++ opener ∷ [] → IsReady z opener
-    → All (λ s. (s.table ≡ z) × (⊤ → IsIdle s.view)) all
-all_ready claims z rest all opener same ready is last =
-    let P : Seated → Type 0 = λ s. (s.table ≡ z) × (⊤ → IsIdle s.view) in
-    subst (All P) (sym is) (All-push P rest opener
-    (All-weaker (IsReady claims) P (λ s h. (h.0 ∙ sym same, λ _. h.1)) rest ready) (last.0, λ _. last.1))
-
--- what a seat has taken that had nothing and takes twice
-two_taken : (v u w : View) (a b : ℕ) → v.taken ≡ [] → Takes v u a → Takes u w b → w.taken ≡ b ∷ a ∷ []
-two_taken v u w a b none first second = second.1 ∙ ap (λ (ks : List ℕ). b ∷ ks)
-    (first.1 ∙ ap (λ (ks : List ℕ). a ∷ ks) none)
-
--- the seats of a new table without the last one, and that one
-last_ready : (claims : ClaimsId) (all rest : List Seated) (last : Option Seated) (opener : Seated)
-    → All (IsReady claims) all → all ≡ rest ++ option_to_list last → last ≡ Some opener
-    → All (IsReady claims) rest × IsReady claims opener
-last_ready claims all rest last opener ready is one =
-    let popped = All-pop (IsReady claims) all rest last is ready in
-    (popped.0, subst (λ (o : Option Seated). IfSome o (IsReady claims)) one popped.1)

@@ -1,4 +1,4 @@
-pub mod Claiming
+mod Claiming
 pub mod Begins
-pub mod Pinning
-pub mod Numbering
+mod Pinning
+mod Numbering

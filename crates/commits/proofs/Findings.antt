@@ -98,15 +98,6 @@ keyed_last [] e keyed = (refl, keyed_first e [] keyed)
 keyed_last (d ∷ es) e keyed = let r = keyed_last es e (keyed_rest d (es ++ e ∷ []) keyed) in
     (cons_both (keyed_first d (es ++ e ∷ []) keyed) r.0, r.1)
 
--- what is known to be met is left out
-adds_none : (a : Walked) (f : Found) → Contains a.met (stamp_in f) → Adds a (f ∷ []) a
-adds_none a f has = record {
-  from = λ g h. inl h;
-  kept = λ g h. (g, h, refl);
-  added = λ g h. inr (subst (λ (w : Found). Contains a.met (stamp_in w)) (only_one f g h) has);
-  met = λ x h. inr h;
-}
-
 -- what isn't is added and noted
 pub adds_one : (a b : Walked) (f : Found) → Joins a.ahead (f ∷ []) b.ahead
     → ((x : ℕ) → Contains b.met x → (x ≡ stamp_in f) ⊎ Contains a.met x) → Adds a (f ∷ []) b

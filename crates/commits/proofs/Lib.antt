@@ -1,16 +1,16 @@
 pub mod Spelled
 pub mod Snapshots
-pub mod LastIds
+mod LastIds
 pub mod Chained
-pub mod Rising
+mod Rising
 pub mod Few
-pub mod Findings
-pub mod Reached
-pub mod Listing
-pub mod Leaving
-pub mod Lent
-pub mod Marked
-pub mod Choosing
-pub mod Descending
-pub mod Rooted
-pub mod Narrowing
+mod Findings
+mod Reached
+mod Listing
+mod Leaving
+mod Lent
+mod Marked
+mod Choosing
+mod Descending
+mod Rooted
+mod Narrowing

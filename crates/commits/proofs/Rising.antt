@@ -122,9 +122,3 @@ pub lowest : (p : Ref → Type 0) (ns : Contents) (chain rest : List Ref) (at : 
     → chain ≡ rest ++ at ∷ [] → AddUp p ns (reverse chain) ms → AddUp p ns (at ∷ reverse rest) ms
 lowest p ns chain rest at ms is h = subst (λ (w : List Ref). AddUp p ns w ms)
     (ap reverse is ∙ reverse-append rest (at ∷ [])) h
-
-rise_ends : (has : List Mutation → Type 0) (p : Ref → Type 0) (ns : Contents) (chain : List Ref)
-    (all : List Mutation) → chain ≡ [] → IsRise has p ns chain all → has all
-rise_ends has p ns chain all none r =
-    let left : r.1 ≡ [] = subst (λ (w : List Ref). AddUp p ns (reverse w) r.1) none r.3 in
-    subst has (sym (append-nil r.0) ∙ ap (λ (w : List Mutation). r.0 ++ w) (sym left) ∙ r.4) r.2

@@ -5,8 +5,8 @@ pub mod Records
 pub mod IdLemmas
 pub mod Readings
 pub mod RecordLaws
-pub mod Worked
+mod Worked
 pub mod Pairs
 pub mod Folding
 pub mod Spellings
-pub mod InPlace
+mod InPlace

@@ -1,8 +1,8 @@
-pub mod Beginnings
+mod Beginnings
 pub mod Books
 pub mod Counting
-pub mod Trading
-pub mod Crosses
-pub mod Owning
+mod Trading
+mod Crosses
+mod Owning
 pub mod Stepping
 pub mod BookLaws

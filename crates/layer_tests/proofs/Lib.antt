@@ -1,1 +1,1 @@
-pub mod PlacedLemmas
+mod PlacedLemmas

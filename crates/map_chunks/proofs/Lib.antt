@@ -1,21 +1,21 @@
 pub mod AnswerLemmas
-pub mod ChildLemmas
-pub mod DepthLemmas
+mod ChildLemmas
+mod DepthLemmas
 pub mod EmptyLemmas
 pub mod EndLemmas
 pub mod JoinLemmas
 pub mod KeptLemmas
 pub mod ListLemmas
 pub mod OpenLemmas
-pub mod PrefixLemmas
+mod PrefixLemmas
 pub mod RowLemmas
 pub mod ScanLemmas
 pub mod SearchLemmas
 pub mod SecondLemmas
-pub mod SeekLemmas
+mod SeekLemmas
 pub mod Shelves
-pub mod SpanLemmas
-pub mod TakenLemmas
+mod SpanLemmas
+mod TakenLemmas
 pub mod Texts
 pub mod TreeLemmas
 pub mod DraftLemmas

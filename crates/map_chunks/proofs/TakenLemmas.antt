@@ -36,15 +36,6 @@ limited-full None ys f = absurd cc
 limited-full (Some zero) ys f = refl
 limited-full (Some (suc n)) ys f = absurd (let g : nat_eq (suc n) 0 ≡ true = f in grind (arith, nat_tests))
 
-limited-one : {A : Type 0} (room : Option ℕ) (y : A) → is_full room ≡ false → limited room (y ∷ []) ≡ y ∷ []
-limited-one None y f = refl
-limited-one (Some zero) y f = absurd (let g : nat_eq 0 0 ≡ false = f in grind (arith, nat_tests))
-limited-one (Some (suc n)) y f = ap (λ w. y ∷ w) (take-nil n)
-
-can_one : (room : Option ℕ) → is_full room ≡ false → CanTake room 1
-can_one None f = tt
-can_one (Some n) f = let g : nat_eq n 0 ≡ false = f in grind (arith, nat_tests)
-
 pub take-all : {A : Type 0} (n : ℕ) (xs : List A) → length xs ≤ n → take n xs ≡ xs
 take-all zero [] h = refl
 take-all zero (x ∷ xs) h = absurd (omega arith)

@@ -1,21 +1,21 @@
 pub mod ChangeLemmas
-pub mod CopyLemmas
-pub mod CountLemmas
-pub mod EmptyLemmas
-pub mod EndLemmas
+mod CopyLemmas
+mod CountLemmas
+mod EmptyLemmas
+mod EndLemmas
 pub mod FreezeLemmas
-pub mod HeirLemmas
-pub mod KidLemmas
-pub mod LeafLemmas
+mod HeirLemmas
+mod KidLemmas
+mod LeafLemmas
 pub mod NamedLemmas
-pub mod NodeLemmas
-pub mod PathLemmas
+mod NodeLemmas
+mod PathLemmas
 pub mod PlaceLemmas
 pub mod RemoveLemmas
-pub mod ReplaceLemmas
-pub mod RootLemmas
-pub mod ScanLemmas
-pub mod SecondLemmas
-pub mod UnputLemmas
+mod ReplaceLemmas
+mod RootLemmas
+mod ScanLemmas
+mod SecondLemmas
+mod UnputLemmas
 pub mod WideLemmas
-pub mod BelowLemmas
+mod BelowLemmas

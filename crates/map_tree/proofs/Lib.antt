@@ -1,6 +1,6 @@
-pub mod DeleteLemmas
-pub mod PlaceLemmas
-pub mod RootCounts
-pub mod SeekLemmas
+mod DeleteLemmas
+mod PlaceLemmas
+mod RootCounts
+mod SeekLemmas
 pub mod WriteLemmas
 pub mod BelowLemmas

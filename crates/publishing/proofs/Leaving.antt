@@ -19,23 +19,9 @@ one_more slots r v w u (a ∷ ats) at all go = (all.0, all.1, one_more slots r a
 last_of : (ats : List Ref) (at : Ref) → map slot_of (reverse (ats ++ at ∷ [])) ≡ slot_of at ∷ map slot_of (reverse ats)
 last_of ats at = ap (map slot_of) (reverse-append ats (at ∷ []))
 
--- one more is settled
-settles_more : (v w u : View) (ats : List Ref) (at : Ref) → SettlesAll v ats w → u.settled ≡ slot_of at ∷ w.settled
-    → u.retired ≡ w.retired → SettlesAll v (ats ++ at ∷ []) u
-settles_more v w u ats at all one same = (
-  one ∙ (ap (λ s. slot_of at ∷ s) all.0 ∙ sym (ap (λ s. s ++ v.settled) (last_of ats at))),
-  same ∙ all.1,
-)
-
 -- nothing is settled before or behind
 pub settles_none : (v w u : View) → SettlesNone v w → SettlesNone w u → SettlesNone v u
 settles_none v w u a b = (b.0 ∙ a.0, b.1 ∙ a.1)
-
-settles_behind : (v w u : View) (ats : List Ref) → SettlesNone v w → SettlesAll w ats u → SettlesAll v ats u
-settles_behind v w u ats a b = (b.0 ∙ ap (λ s. map slot_of (reverse ats) ++ s) a.0, b.1 ∙ a.1)
-
-settles_before : (v w u : View) (ats : List Ref) → SettlesAll v ats w → SettlesNone w u → SettlesAll v ats u
-settles_before v w u ats a b = (b.0 ∙ a.0, b.1 ∙ a.1)
 
 in_front : (xs ys : List ℕ) (x : ℕ) → In xs x → In (xs ++ ys) x
 in_front [] ys x h = absurd h

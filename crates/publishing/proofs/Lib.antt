@@ -1,6 +1,6 @@
 pub mod Results
-pub mod Renaming
-pub mod Numbers
+mod Renaming
+mod Numbers
 pub mod Carrying
-pub mod Popping
-pub mod Leaving
+mod Popping
+mod Leaving

@@ -47,21 +47,9 @@ settled v u slots rest x split has is = popped v u slots rest x split has (ap (�
 pub top_in : (v : View) (slots rest : List ℕ) (x : ℕ) → slots ≡ rest ++ x ∷ [] → HasTaken v slots → In v.taken x
 top_in v slots rest x split has = subst (λ t. In t x) (sym (last_first v.taken slots rest x has.0 split)) (inl refl)
 
--- nothing is taken yet
-none_taken : (v : View) → v.taken ≡ [] → HasTaken v []
-none_taken v none = (none, subst AreOnce (sym none) tt)
-
--- nothing is taken any more
-all_gone : (v : View) (slots : List ℕ) → slots ≡ [] → HasTaken v slots → v.taken ≡ []
-all_gone v slots none has = has.0 ∙ ap reverse none
-
 -- one more was taken
 pub pushed : (v u : View) (slots : List ℕ) (x : ℕ) → HasTaken v slots → Takes v u x → HasTaken u (slots ++ x ∷ [])
 pushed v u slots x has takes = (
   takes.1 ∙ (ap (λ w. x ∷ w) has.0 ∙ sym (reverse-append slots (x ∷ []))),
   subst AreOnce (sym takes.1) (takes.0, has.1),
 )
-
--- what was taken is what it was
-same_taken : (v u : View) (slots : List ℕ) → HasTaken v slots → u.taken ≡ v.taken → HasTaken u slots
-same_taken v u slots has same = (same ∙ has.0, subst AreOnce (sym same) has.1)

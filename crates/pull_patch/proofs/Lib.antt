@@ -1,13 +1,13 @@
-pub mod Eaches
-pub mod Depths
-pub mod Lists
+mod Eaches
+mod Depths
+mod Lists
 pub mod Refusals
-pub mod Joins
-pub mod Unknown
-pub mod WholeNumbers
-pub mod Copies
-pub mod PlainNumbers
-pub mod CopiedTexts
-pub mod Turns
-pub mod Patches
-pub mod PlainResponses
+mod Joins
+mod Unknown
+mod WholeNumbers
+mod Copies
+mod PlainNumbers
+mod CopiedTexts
+mod Turns
+mod Patches
+mod PlainResponses

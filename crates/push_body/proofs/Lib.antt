@@ -1,5 +1,5 @@
 pub mod Writings
-pub mod Pieces
-pub mod Growing
-pub mod Compact
-pub mod Sent
+mod Pieces
+mod Growing
+mod Compact
+mod Sent

@@ -2,13 +2,13 @@ pub mod Sound
 pub mod Keeps
 pub mod Slotted
 pub mod Reaching
-pub mod Readers
-pub mod Pins
-pub mod Scans
-pub mod Looks
-pub mod Options
-pub mod Lawful
+mod Readers
+mod Pins
+mod Scans
+mod Looks
+mod Options
+mod Lawful
 pub mod Moving
-pub mod Bare
+mod Bare
 pub mod Raising
-pub mod Counting
+mod Counting

@@ -24,15 +24,6 @@ use Rattle.answered.specs.Trying.{IsUnproposed}
 use Rattle.rebase.specs.Queries.{told}
 use Rattle.rebase.specs.Inside.Proposing.{asked_reply, change_asked, closing_reply, is_applied, kind_left}
 
--- at a closed group
-closed_asked : (means : Meanings) (s : State) (last : ℕ) (c : Change) → s.closed ≡ true
-    → asked_reply means s last c ≡ Err refusal.Closed
-closed_asked means s last (Mutated x) is = ap (told (λ id. true))
-    (ap (λ (b : Bool). if b then Err refusal.Closed else open_reply means s last x) is)
-closed_asked means s last (Pulled t r) is = ap (told is_applied)
-    (ap (λ (b : Bool). if b then Err refusal.Closed else end_at s t.text r) is)
-closed_asked means s last Closed is = ap closing_reply is
-
 -- at an open one
 end_open : (s : State) (ticket : Bytes) (r : Pull) → s.closed ≡ false
     → end_reply s ticket (response.Ok r) ≡ end_at s ticket r
@@ -66,11 +57,3 @@ judged_so means s last ticket change r e is judged asks = (
 )
 
 -- WHAT MAY BE TAKEN
-
-kind_none : (xs : List Mutation) (n : ℕ) → n ≡ length xs → n ≡ 0 → kind.PullEnd ≡ kind_left xs
-kind_none [] n is none = refl
-kind_none (x ∷ xs) n is none = absurd (cc (sym none ∙ is))
-
-kind_some : (xs : List Mutation) (n : ℕ) → n ≡ length xs → n ≢ 0 → kind.Ordinary ≡ kind_left xs
-kind_some [] n is some = absurd (some is)
-kind_some (x ∷ xs) n is some = refl

@@ -1,11 +1,11 @@
 pub mod CallLemmas
-pub mod Drafting
-pub mod Ending
-pub mod Finding
-pub mod Lasting
-pub mod Making
+mod Drafting
+mod Ending
+mod Finding
+mod Lasting
+mod Making
 pub mod Seating
-pub mod Telling
-pub mod Trying
-pub mod Unread
-pub mod Polling
+mod Telling
+mod Trying
+mod Unread
+mod Polling

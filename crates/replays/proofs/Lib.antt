@@ -1,4 +1,4 @@
-pub mod NewestLemmas
-pub mod StateLemmas
-pub mod RunLemmas
+mod NewestLemmas
+mod StateLemmas
+mod RunLemmas
 pub mod BelowLemmas

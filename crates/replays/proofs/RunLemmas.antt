@@ -16,18 +16,6 @@ map-done unknown m h = absurd h
 map-done (refuses code) m h = absurd h
 map-done (done x) m h = cc
 
-map-unknown : (meaning : Meaning) (m : Entries) → RunsAs meaning ran.Unknown m
-    → map_of meaning ≡ Err refusal.NoMutator
-map-unknown unknown m h = refl
-map-unknown (refuses code) m h = absurd h
-map-unknown (done x) m h = absurd h
-
-map-refused : (meaning : Meaning) (m : Entries) (code : ℕ) → RunsAs meaning (ran.Refused code) m
-    → map_of meaning ≡ Err (refusal.Refused code)
-map-refused unknown m code h = absurd h
-map-refused (refuses c) m code h = cc
-map-refused (done x) m code h = absurd h
-
 -- the map that a mutation leaves is what its meaning leaves
 pub left-done : (meaning : Meaning) (m n : Entries) → map_of meaning ≡ Ok n → n ≡ left_by meaning m
 left-done unknown m n h = cc

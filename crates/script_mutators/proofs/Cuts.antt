@@ -15,10 +15,6 @@ cut_at (x ∷ xs) (suc i) byte inside is =
     let next : suc i + 1 ≡ suc (i + 1) = omega arith in
     rw next (ap (λ s. x ∷ s) (cut_at xs i byte (omega arith) is))
 
--- behind the first byte
-cut_first : (text : List ℕ) (byte : ℕ) → 0 < length text → get_or text 0 0 ≡ byte → text ≡ byte ∷ drop 1 text
-cut_first text byte inside is = cut_at text 0 byte inside is
-
 -- behind two bytes
 cut_two : (text : List ℕ) (a b : ℕ) → 1 < length text → get_or text 0 0 ≡ a → get_or text 1 0 ≡ b
     → text ≡ a ∷ b ∷ drop 2 text

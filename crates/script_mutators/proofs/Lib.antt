@@ -1,4 +1,4 @@
-pub mod Cuts
-pub mod Digits
-pub mod MutatorArguments
-pub mod PlainTexts
+mod Cuts
+mod Digits
+mod MutatorArguments
+mod PlainTexts

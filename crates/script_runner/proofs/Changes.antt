@@ -11,12 +11,6 @@ map_set-changed_at f change (y ∷ ys) zero x w at is = ap (λ z. z ∷ map f ys
 map_set-changed_at f change (y ∷ ys) (suc i) x w at is = ap (λ zs. f y ∷ zs)
     (map_set-changed_at f change ys i x w at is)
 
--- past the end nothing is changed
-changed_at-past : {X : Type 0} (change : X → X) (xs : List X) (i : ℕ) → length xs ≤ i → changed_at i change xs ≡ xs
-changed_at-past change [] i past = refl
-changed_at-past change (x ∷ xs) zero past = absurd (omega arith)
-changed_at-past change (x ∷ xs) (suc i) past = ap (λ ys. x ∷ ys) (changed_at-past change xs i (omega arith))
-
 pub length-changed_at : {X : Type 0} (change : X → X) (i : ℕ) (xs : List X)
     → length (changed_at i change xs) ≡ length xs
 length-changed_at change i [] = refl

@@ -1,12 +1,12 @@
-pub mod Lists
-pub mod Joining
-pub mod Changes
-pub mod Parts
-pub mod Needs
-pub mod CheckedLemmas
-pub mod CheckedScripts
-pub mod Numbers
-pub mod Scripts
-pub mod Turns
-pub mod Openings
-pub mod Watches
+mod Lists
+mod Joining
+mod Changes
+mod Parts
+mod Needs
+mod CheckedLemmas
+mod CheckedScripts
+mod Numbers
+mod Scripts
+mod Turns
+mod Openings
+mod Watches

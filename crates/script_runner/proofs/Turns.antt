@@ -30,10 +30,6 @@ use Rattle.script_runner.specs.Inside.Turns.{AreOf, IsPrinted, IsTold, IsTurn, p
 
 -- LISTS
 
--- what holds of every value holds of each element
-all_of : {A : Type 0} (P : A → Type 0) → ((x : A) → P x) → (xs : List A) → All P xs
-all_of P every xs k d below = every (slice_index_or xs k d)
-
 -- a fact of each element, one element more
 pub all-more : {A : Type 0} (P : A → Type 0) (all : List A) (i : ℕ) (x : A) → i < length all → x ≡ get_or all i x
     → All P (take i all) → P x → All P (take (i + 1) all)

@@ -41,12 +41,6 @@ remove_of watches book name old q watch at = by (eq_by_cmp (slice_cmp nat_cmp) q
     by true e = absurd (cc e)
     by false e = old q watch e
 
--- A poll that was answered may be refused for want of memory: it made no change.
-refused_after : {X : Type 0} (means : Meanings) (tries : ℕ) (old new : Known) (x : X)
-    (right : State → Result X Refusal) → Answers means tries old new (Ok x) nothing right
-    → Answers means tries old new (Err refusal.NoMemory) nothing right
-refused_after means tries old new x right is = (is.1.moves ∙ append-nil (own_moves old), λ moved. absurd (cc moved))
-
 -- one more, where memory was not refused
 pub inserted_of : {X E : Type 0} (r : Result X E) (old new : Watches) (book : Book) (name : Bytes) (watch : Watched)
     → OnOk r (new ≡ finite.insert old name watch) → OnErr r (new ≡ old) → AreOf old book → watch.book ≡ book

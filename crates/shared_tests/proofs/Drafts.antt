@@ -60,11 +60,6 @@ begins log starts =
     let begun = starts_with log starts in
     (begun.0, (drawn begun.1.0, sym (drawn_more (opening begun.0) begun.1.0) ∙ ap drawn begun.1.1))
 
-two_drawn : (log : List Entry) → StartsOpened log → 2 ≤ next_stamp log
-two_drawn log starts =
-    let b = begins log starts in
-    omega (arith, sym (ap length b.1.1) ∙ length-append (drawn (opening b.0)) b.1.0)
-
 pub bare_placed : (old new : List Entry) (cookie : Cookie) (draft : Drafted) (refs : List Ref) → PlacingLaws
     → StartsOpened old → (root : Ref) × (stamp_of root ≡ 2) × (draft ≡ bare_draft cookie root)
     → IsPlaced (drawn old) (drawn new) draft refs → PlacesBare new refs cookie

@@ -1,3 +1,3 @@
-pub mod FirstPulls
-pub mod Leaves
-pub mod Drafts
+mod FirstPulls
+mod Leaves
+mod Drafts

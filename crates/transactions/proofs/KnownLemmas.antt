@@ -35,10 +35,6 @@ pub begun_on : (known old new : Contents) → take (length known) old ≡ known 
 begun_on known old new h p = let b = prefix_trans known old new (begins known old h) p in
     ap (take (length known)) (sym b.1) ∙ take-append_seam known b.0
 
-begun_same : (known old : Contents) → old ≡ known → take (length known) old ≡ known
-begun_same known old e = begun_on known known old
-    (ap (take (length known)) (sym (append-nil known)) ∙ take-append_seam known []) ([], append-nil known ∙ sym e)
-
 pub known_chunk : (known old new : Contents) (k : ℕ) (x : Chunk Ref) → take (length known) old ≡ known
     → IsPrefix old new → IsSome (segment_at known k) → slice_get new k ≡ Some (chunk_content x)
     → slice_get known k ≡ Some (chunk_content x)

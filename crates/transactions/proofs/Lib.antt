@@ -1,4 +1,4 @@
 pub mod WriteLemmas
-pub mod ReadLemmas
-pub mod KnownLemmas
-pub mod StagedLemmas
+mod ReadLemmas
+mod KnownLemmas
+mod StagedLemmas
