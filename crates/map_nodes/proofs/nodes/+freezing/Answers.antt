@@ -25,7 +25,7 @@ use Rattle.std.specs.List.{Contains}
 use Rattle.map_chunks.proofs.AnswerLemmas.{on_ok}
 use Rattle.map_chunks.specs.Drafts.{AreBelow}
 use Rattle.map_chunks.proofs.DraftLemmas.{pushed-below}
-use Rattle.map_nodes.proofs.BelowLemmas.{kid-below, below-one, inner-below}
+use Rattle.map_nodes.proofs.BelowLemmas.{kid-below, below-one, inner-below, pushed-grown}
 use Rattle.map_nodes.proofs.NamedLemmas.{adds-none, adds-one, kid-added, kid-named, places-kids, inner-named}
 use Rattle.map_nodes.proofs.NamedLemmas.{drafted-named}
 use Rattle.map_nodes.proofs.nodes.+freezing.Goals as goal
@@ -307,3 +307,24 @@ OwnNode::freeze-returns-in-Inner-clause-below t c =
 pub freezing::freeze_kid-returns-in-Placed-clause-below : goal.freezing::freeze_kid-returns-in-Placed-clause-below
 freezing::freeze_kid-returns-in-Placed-clause-below t c = c.requires.below c.in-Placed.at
     (subst (λ (k : OwnChild). Contains (child_places k) c.in-Placed.at) (sym c.in-Placed.is) (one_here c.in-Placed.at))
+
+pub OwnNode::freeze-returns-in-Leaf-clause-grown : goal.OwnNode::freeze-returns-in-Leaf-clause-grown
+OwnNode::freeze-returns-in-Leaf-clause-grown t c =
+    pushed-grown c.args.draft.now c.push.new.self _ c.push.result c.push.ensures.ok c.push.ensures.err
+
+pub OwnNode::freeze-returns-in-Inner-clause-grown : goal.OwnNode::freeze-returns-in-Inner-clause-grown
+OwnNode::freeze-returns-in-Inner-clause-grown t c =
+    let mid = c.freeze_kids.new.draft in
+    prefix_trans c.args.draft.now.nodes mid.nodes c.push-in-Inner.new.self.nodes c.freeze_kids.ensures.grown
+    (pushed-grown mid c.push-in-Inner.new.self _ c.push-in-Inner.result c.push-in-Inner.ensures.ok
+    c.push-in-Inner.ensures.err)
+
+pub freezing::freeze_kids-returns-in_err-at-clause-grown : goal.freezing::freeze_kids-returns-in_err-at-clause-grown
+freezing::freeze_kids-returns-in_err-at-clause-grown t c =
+    prefix_trans c.args.draft.now.nodes c.loop-kid.draft.nodes c.freeze_kid.new.draft.nodes
+    c.loop-kid.invariant.grown c.freeze_kid.ensures.grown
+
+pub freezing::freeze_kids-returns-in_err-push-clause-grown : goal.freezing::freeze_kids-returns-in_err-push-clause-grown
+freezing::freeze_kids-returns-in_err-push-clause-grown t c =
+    prefix_trans c.args.draft.now.nodes c.loop-kid.draft.nodes c.freeze_kid.new.draft.nodes
+    c.loop-kid.invariant.grown c.freeze_kid.ensures.grown

@@ -26,7 +26,7 @@ use Rattle.map_nodes.specs.declared.nodes.OwnChild.TheVariants.{Placed, Own}
 use Rattle.map_chunks.proofs.AnswerLemmas.{if_ok_so, on_err, on_ok}
 use Rattle.map_nodes.proofs.CountLemmas.{fresh-set, leaf_counts, inner_counts}
 use Rattle.map_nodes.proofs.ChangeLemmas.{shown-kept}
-use Rattle.map_chunks.proofs.KeptLemmas.{all_on, kept-none, kept-grown, kept-trans, kept-from_none}
+use Rattle.map_chunks.proofs.KeptLemmas.{all_on, grows_on, kept-none, kept-grown, kept-trans, kept-from_none}
 use Rattle.map_nodes.proofs.NamedLemmas.{kept-kid, kept-finished, own-places, places-rows}
 use Rattle.map_nodes.proofs.NodeLemmas.{inner_same, shown-rows, child_at, written_back}
 use Rattle.map_chunks.proofs.OpenLemmas.{known, tree_of}
@@ -821,3 +821,21 @@ OwnNode::put_below-returns-clause-err g t c = on_err c.put_ready.result c.put_re
 pub OwnNode::put_below-returns-clause-unput : goal.OwnNode::put_below-returns-clause-unput
 OwnNode::put_below-returns-clause-unput g t c = unput_split g.C.Chunks.stops c.args.may_split c.put_ready.result
     c.put_ready.ensures.unput
+
+-- WHAT GREW
+
+pub putting::paths::put_child-returns-in-Placed-clause-grown :
+    goal.putting::paths::put_child-returns-in-Placed-clause-grown
+putting::paths::put_child-returns-in-Placed-clause-grown g t c =
+    grows_on g.C.Chunks.contents g.C.Chunks.places _ _ _ c.copied_child.ensures.grown
+    c.put_below-in-Placed.ensures.grown
+
+pub putting::paths::put_child-returns-in_err-put-in-Placed-clause-grown :
+    goal.putting::paths::put_child-returns-in_err-put-in-Placed-clause-grown
+putting::paths::put_child-returns-in_err-put-in-Placed-clause-grown g t c =
+    grows_on g.C.Chunks.contents g.C.Chunks.places _ _ _ c.copied_child.ensures.grown
+    c.put_below-in-Placed.ensures.grown
+
+pub OwnNode::put_below-returns-clause-grown : goal.OwnNode::put_below-returns-clause-grown
+OwnNode::put_below-returns-clause-grown g t c =
+    grows_on g.C.Chunks.contents g.C.Chunks.places _ _ _ c.put.ensures.grown c.put_ready.ensures.grown

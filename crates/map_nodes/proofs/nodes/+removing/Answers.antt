@@ -20,7 +20,7 @@ use Rattle.map_nodes.specs.declared.nodes.OwnChild.{OwnChild}
 use Rattle.map_nodes.specs.declared.nodes.OwnChild.TheVariants.{Placed, Own}
 use Rattle.map_chunks.proofs.AnswerLemmas.{both_ok, on_err, on_ok}
 use Rattle.map_nodes.proofs.EndLemmas.{kids-removed}
-use Rattle.map_chunks.proofs.KeptLemmas.{all_on, kept-none, kept-same, kept-grown, kept-trans, kept-within}
+use Rattle.map_chunks.proofs.KeptLemmas.{all_on, grows_on, kept-none, kept-same, kept-grown, kept-trans, kept-within}
 use Rattle.map_chunks.proofs.KeptLemmas.{kept-from_none}
 use Rattle.map_nodes.proofs.NamedLemmas.{kept-child, own-places, places-kids, places-rows}
 use Rattle.map_nodes.proofs.NodeLemmas.{shown-rows, child_at, node_down, written_back}
@@ -478,3 +478,21 @@ OwnNode::remove-returns-in-Inner-clause-places g t c =
     on_ok c.remove_at.result c.remove_at.ensures.places
     (λ kept. subst (AreKept at_q (places_of c.args.self.now.pieces)) (sym new)
     (subst (λ w. AreKept at_q w (kids_places c.remove_at.new.kids.items)) (sym old) kept))
+
+-- WHAT GREW
+
+pub OwnNode::remove-returns-in-Inner-clause-grown : goal.OwnNode::remove-returns-in-Inner-clause-grown
+OwnNode::remove-returns-in-Inner-clause-grown g t c =
+    grows_on g.C.Chunks.contents g.C.Chunks.places _ _ _ c.fate_of.ensures.grown c.remove_at.ensures.grown
+
+pub removing::paths::remove_child-returns-in-Placed-clause-grown :
+    goal.removing::paths::remove_child-returns-in-Placed-clause-grown
+removing::paths::remove_child-returns-in-Placed-clause-grown g t c =
+    grows_on g.C.Chunks.contents g.C.Chunks.places _ _ _ c.copied_child.ensures.grown
+    c.remove-in-Placed.ensures.grown
+
+pub removing::paths::remove_child-returns-in_err-remove-in-Placed-clause-grown :
+    goal.removing::paths::remove_child-returns-in_err-remove-in-Placed-clause-grown
+removing::paths::remove_child-returns-in_err-remove-in-Placed-clause-grown g t c =
+    grows_on g.C.Chunks.contents g.C.Chunks.places _ _ _ c.copied_child.ensures.grown
+    c.remove-in-Placed.ensures.grown

@@ -8,7 +8,7 @@ use Rattle.map_chunks.proofs.AnswerLemmas.{on_ok}
 use Rattle.map_nodes.proofs.ChangeLemmas.{shown-kept}
 use Rattle.map_nodes.proofs.NamedLemmas.{kept-front}
 use Rattle.map_chunks.proofs.OpenLemmas.{known, tree_of}
-use Rattle.map_chunks.proofs.KeptLemmas.{all_on}
+use Rattle.map_chunks.proofs.KeptLemmas.{all_on, grows_on}
 use Rattle.map_nodes.proofs.nodes.OwnNode.put_root.Goals as goal
 
 pub put_split-requires-clause-places : goal.put_split-requires-clause-places
@@ -47,3 +47,7 @@ returns-in-Err-Full-clause-places g c =
     on_ok c.put_split.result c.put_split.ensures.places
     (λ kept. subst (λ (s : Seen). AreKept at_q (places_of s.pieces) (places_of c.put_split.new.self.pieces))
     c.in-Err-Full.ensures.err kept)
+
+pub returns-in-Err-Full-clause-grown : goal.returns-in-Err-Full-clause-grown
+returns-in-Err-Full-clause-grown g c =
+    grows_on g.C.Chunks.contents g.C.Chunks.places _ _ _ c.put.ensures.grown c.put_split.ensures.grown
