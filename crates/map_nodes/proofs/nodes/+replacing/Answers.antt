@@ -18,7 +18,7 @@ use Rattle.map_nodes.specs.declared.nodes.OwnChild.{OwnChild}
 use Rattle.map_nodes.specs.declared.nodes.OwnChild.TheVariants.{Placed, Own}
 use Rattle.map_chunks.proofs.AnswerLemmas.{both_ok, on_ok, on_err, either_way}
 use Rattle.map_nodes.proofs.CountLemmas.{leaf_counts, inner_counts}
-use Rattle.map_chunks.proofs.KeptLemmas.{kept-none, kept-grown, kept-trans, kept-from_none}
+use Rattle.map_chunks.proofs.KeptLemmas.{grows_on, kept-none, kept-grown, kept-trans, kept-from_none}
 use Rattle.map_nodes.proofs.NamedLemmas.{kept-child, own-places, places-kids, places-rows}
 use Rattle.map_nodes.proofs.NodeLemmas.{child_at, inner_same, written_back}
 use Rattle.map_chunks.proofs.OpenLemmas.{known}
@@ -404,3 +404,12 @@ replacing::replaced_copy-returns-clause-places g t c =
     kept-trans at_q [] mid new (kept-grown at_p at_q [] mid c.replace.ensures.grown.1 c.in_ok-node.ensures.places)
     (subst (λ (s : Seen). AreKept at_q (places_of s.pieces) new) c.deref_mut.ensures.value
     c.in_ok-replace.ensures.places)
+
+pub replacing::replaced_copy-returns-clause-grown : goal.replacing::replaced_copy-returns-clause-grown
+replacing::replaced_copy-returns-clause-grown g t c =
+    grows_on g.C.Chunks.contents g.C.Chunks.places _ _ _ c.copied_child.ensures.grown c.replace.ensures.grown
+
+pub replacing::replaced_copy-returns-in_err-replace-clause-grown :
+    goal.replacing::replaced_copy-returns-in_err-replace-clause-grown
+replacing::replaced_copy-returns-in_err-replace-clause-grown g t c =
+    grows_on g.C.Chunks.contents g.C.Chunks.places _ _ _ c.copied_child.ensures.grown c.replace.ensures.grown

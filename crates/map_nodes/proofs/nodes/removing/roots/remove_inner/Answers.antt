@@ -8,7 +8,7 @@ use Rattle.map_chunks.proofs.AnswerLemmas.{if_ok_so}
 use Rattle.map_nodes.proofs.NodeLemmas.{node_down}
 use Rattle.map_nodes.proofs.RemoveLemmas.{fate_later, shown_later}
 use Rattle.map_nodes.proofs.ScanLemmas.{kid_shown-at}
-use Rattle.map_chunks.proofs.KeptLemmas.{all_on}
+use Rattle.map_chunks.proofs.KeptLemmas.{all_on, grows_on}
 use Rattle.map_nodes.proofs.PlaceLemmas.{kid_all}
 use Rattle.map_nodes.proofs.nodes.removing.roots.remove_inner.Goals as goal
 
@@ -75,3 +75,7 @@ returns-clause-done g c =
     (body_pieces depth keys (Inner kids)) c.fate_of.ensures.grown.0 refl refl c.requires.tree in
     if_ok_so c.remove_fated.result c.remove_fated.ensures.done
     (λ heir done. done ∙ ap (λ z. Some (without c.args.key.now (rows_or z))) later)
+
+pub returns-clause-grown : goal.returns-clause-grown
+returns-clause-grown g c =
+    grows_on g.C.Chunks.contents g.C.Chunks.places _ _ _ c.fate_of.ensures.grown c.remove_fated.ensures.grown
