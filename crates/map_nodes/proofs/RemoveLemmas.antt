@@ -16,12 +16,12 @@ use Rattle.group_history.specs.Rows.{Rows, keys_of, paired, AreKeys, rises}
 use Rattle.group_history.specs.Spelling.{Contents, begins_with, joined_rows}
 use Rattle.group_history.proofs.Pairs.{keys_of-paired}
 use Rattle.map_nodes.specs.Inside.Halves.{lowered}
-use Rattle.map_nodes.specs.Nodes.{Kids, kids_pieces, body_pieces, AllKids, child_fresh, kids_fresh}
+use Rattle.map_nodes.specs.Nodes.{IsNode, Kids, kids_pieces, body_pieces, AllKids, child_fresh, kids_fresh}
 use Rattle.map_nodes.specs.Inside.Nodes.{ChildChanged, child_rows}
 use Rattle.map_nodes.specs.Removing.{without}
 use Rattle.map_nodes.specs.Inside.Removing.{IsFate, HasOthers, gives_way, CanRemove, one_shown}
 use Rattle.map_nodes.specs.Inside.Scanning.{kid_shown}
-use Rattle.map_chunks.specs.Search.{IsFound, IsAbsent}
+use Rattle.map_chunks.specs.Search.{IsFound, IsAbsent, IsPlace}
 use Rattle.map_chunks.specs.SecondKeys.{second_key}
 use Rattle.map_chunks.specs.Shown.{Piece, shown, rows_or, IsTree, map_of_rows}
 use Rattle.map_nodes.specs.declared.nodes.Body.{Body}
@@ -36,7 +36,7 @@ use Rattle.map_nodes.proofs.LeafLemmas.{strict_rises}
 use Rattle.map_chunks.proofs.ListLemmas.{paired-remove, length-paired}
 use Rattle.map_nodes.proofs.NodeLemmas.{Down, kid_rows, child_at}
 use Rattle.map_chunks.proofs.OpenLemmas.{key_at, known, shows_of}
-use Rattle.map_nodes.proofs.PathLemmas.{first_key, lowered_pairs, length-lowered, rises_joined, child_requires}
+use Rattle.map_nodes.proofs.PathLemmas.{node_at, first_key, lowered_pairs, length-lowered, rises_joined, child_requires}
 use Rattle.map_chunks.proofs.RowLemmas.{cmp, turned, same_key, is_itself, AllBelow, AllAbove, IsStrict, strict, sorted}
 use Rattle.map_chunks.proofs.RowLemmas.{rises_strict}
 use Rattle.map_nodes.proofs.ScanLemmas.{kid_shown-at, kid_shown-kept}
@@ -473,3 +473,77 @@ fate_later old new depth keys slice kids pieces key first i child fate pre l s w
 pub gives_way-is : (fate : Fate) (n : ℕ) → gives_way fate n ≡ true → (fate ≡ Leaves) × (n ≤ 2)
 gives_way-is Leaves n h = (refl, (let g : nat_le n 2 ≡ true = h in grind (arith, nat_tests)))
 gives_way-is (Stays other) n h = absurd cc
+
+-- A CHILD OF A CHUNK, WHOSE FATE IS KNOWN
+
+-- it shows nothing more, and leaves
+pub gone_at : (p : Contents) (depth : ℕ) (keys nk : List Bytes) (kids : _) (ne : List OwnChild) (key : Bytes) (i : ℕ)
+    (at : OwnChild) (fate : Fate) → IsNode depth keys (Inner kids) → IsTree (shown p (body_pieces depth keys (Inner kids)))
+    → IsPlace key keys i → ((c : OwnChild) → slice_get kids.items i ≡ Some c
+    → IsFate key (get_or keys i []) (rows_or (kid_shown p c)) fate) → HasOthers fate (length keys) → fate ≡ Leaves
+    → nk ≡ remove keys i → ne ≡ remove kids.items i
+    → Left p depth nk ne (without key (rows_or (shown p (body_pieces depth keys (Inner kids)))))
+gone_at p depth keys nk kids ne key i at fate n t o f others e ek ee =
+    let pieces = body_pieces depth keys (Inner kids) in
+    let x = node_at p depth keys (Inner kids) kids pieces keys key i at refl refl n refl o t in
+    by x.0 x.1
+  where
+    by : Down p depth keys kids.items (body_pieces depth keys (Inner kids)) key i (get_or kids.items i at)
+        → slice_get kids.items i ≡ Some (get_or kids.items i at)
+        → Left p depth nk ne (without key (rows_or (shown p (body_pieces depth keys (Inner kids)))))
+    by d g =
+        let pieces = body_pieces depth keys (Inner kids) in
+        let child = get_or kids.items i at in
+        let h = subst (IsFate key d.first d.way.here) e
+        (fate_here p depth keys kids.items pieces key i child fate n.1.2 d (f child g)) in
+        subst (λ w. Left p depth nk ne (without key w)) (sym (ap rows_or d.rows_is))
+        (child_gone p p depth keys nk kids.items ne pieces key i child ([], append-nil p) n.1.2 n.0.0 n.1.0 d
+        (leaves_none key d.first d.way.here d.way.starts h) (subst (λ w. HasOthers w (length keys)) e others) o.0 ek ee)
+
+-- it stays, without the key's row
+pub stays_at : (p q : Contents) (depth : ℕ) (keys nk : List Bytes) (kids : _) (ne : List OwnChild) (key : Bytes)
+    (i : ℕ) (at : OwnChild) (fate : Fate) (other : Option Bytes) → IsPrefix p q → IsNode depth keys (Inner kids)
+    → IsTree (shown p (body_pieces depth keys (Inner kids))) → IsPlace key keys i
+    → ((c : OwnChild) → slice_get kids.items i ≡ Some c
+    → IsFate key (get_or keys i []) (rows_or (kid_shown p c)) fate) → fate ≡ Stays other → nk ≡ lowered i other keys
+    → ((c : OwnChild) → slice_get kids.items i ≡ Some c → ChildChanged q (depth - 1) i kids.items ne c
+    (Some (without key (rows_or (child_rows p (depth - 1) c)))))
+    → Left q depth nk ne (without key (rows_or (shown p (body_pieces depth keys (Inner kids)))))
+stays_at p q depth keys nk kids ne key i at fate other pre n t o f e ek done =
+    let pieces = body_pieces depth keys (Inner kids) in
+    let x = node_at p depth keys (Inner kids) kids pieces keys key i at refl refl n refl o t in
+    by x.0 x.1
+  where
+    by : Down p depth keys kids.items (body_pieces depth keys (Inner kids)) key i (get_or kids.items i at)
+        → slice_get kids.items i ≡ Some (get_or kids.items i at)
+        → Left q depth nk ne (without key (rows_or (shown p (body_pieces depth keys (Inner kids)))))
+    by d g =
+        let pieces = body_pieces depth keys (Inner kids) in
+        let child = get_or kids.items i at in
+        let h = subst (IsFate key d.first d.way.here) e
+        (fate_here p depth keys kids.items pieces key i child fate n.1.2 d (f child g)) in
+        subst (λ w. Left q depth nk ne (without key w)) (sym (ap rows_or d.rows_is))
+        (child_stays p q depth keys nk kids.items ne pieces key i child other pre n.1.2 n.0.0 n.1.0 d h n.1.1 ek
+        (done child g))
+
+-- it can be entered
+pub can_at : (p : Contents) (depth : ℕ) (keys : List Bytes) (kids : _) (key : Bytes) (i : ℕ) (at : OwnChild)
+    (fate : Fate) (other : Option Bytes) → IsNode depth keys (Inner kids)
+    → IsTree (shown p (body_pieces depth keys (Inner kids))) → IsPlace key keys i
+    → ((c : OwnChild) → slice_get kids.items i ≡ Some c
+    → IsFate key (get_or keys i []) (rows_or (kid_shown p c)) fate) → fate ≡ Stays other → (c : OwnChild)
+    → slice_get kids.items i ≡ Some c → CanRemove p (depth - 1) key c
+can_at p depth keys kids key i at fate other n t o f e =
+    let pieces = body_pieces depth keys (Inner kids) in
+    let x = node_at p depth keys (Inner kids) kids pieces keys key i at refl refl n refl o t in
+    by x.0 x.1
+  where
+    by : Down p depth keys kids.items (body_pieces depth keys (Inner kids)) key i (get_or kids.items i at)
+        → slice_get kids.items i ≡ Some (get_or kids.items i at) → (c : OwnChild)
+        → slice_get kids.items i ≡ Some c → CanRemove p (depth - 1) key c
+    by d g =
+        let pieces = body_pieces depth keys (Inner kids) in
+        let child = get_or kids.items i at in
+        let h = subst (IsFate key d.first d.way.here) e
+        (fate_here p depth keys kids.items pieces key i child fate n.1.2 d (f child g)) in
+        can_remove p depth keys kids.items pieces key i child other d g h

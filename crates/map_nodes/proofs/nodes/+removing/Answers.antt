@@ -27,8 +27,8 @@ use Rattle.map_nodes.proofs.NodeLemmas.{shown-rows, child_at, node_down, written
 use Rattle.map_chunks.proofs.OpenLemmas.{known}
 use Rattle.map_nodes.proofs.PathLemmas.{node_at, indexed_child}
 use Rattle.map_nodes.proofs.ReplaceLemmas.{leaf_rows}
-use Rattle.map_nodes.proofs.RemoveLemmas.{child_gone, child_stays, can_remove, fate_here, fate_later, fresh-removed}
-use Rattle.map_nodes.proofs.RemoveLemmas.{fresh-set, has_others, leaves_none, shown_later}
+use Rattle.map_nodes.proofs.RemoveLemmas.{can_at, fate_here, fate_later, fresh-removed, gone_at, stays_at}
+use Rattle.map_nodes.proofs.RemoveLemmas.{fresh-set, has_others, shown_later}
 use Rattle.map_nodes.proofs.ScanLemmas.{kid_shown-at}
 use Rattle.map_nodes.proofs.PlaceLemmas.{down_may, kid_all, kids_may, own_may, placed_may, new_may}
 use Rattle.map_nodes.proofs.nodes.+removing.Goals as goal
@@ -133,47 +133,20 @@ OwnNode::remove-returns-in-Inner-clause-done g t c =
 pub removing::paths::remove_at-returns-in-Leaves-clause-node :
     goal.removing::paths::remove_at-returns-in-Leaves-clause-node
 removing::paths::remove_at-returns-in-Leaves-clause-node g t c =
-    let p = g.C.Chunks.contents c.args.chunks.now in
     let r = c.requires.1.1.1.1.1 in
-    let depth = c.args.depth in
-    let keys = c.args.keys.now.texts in
-    let kids = c.args.kids.now in
-    let key = c.args.key.now in
-    let i = c.args.place in
-    let at : OwnChild = Placed (record { bits = 0 }) in
-    let child = get_or kids.items i at in
-    let pieces = body_pieces depth keys (Inner kids) in
-    let x = node_at p depth keys (Inner kids) kids pieces keys key i at refl refl r.0 refl r.1.1.0 r.1.0 in
-    let f = subst (IsFate key x.0.first x.0.way.here) c.in-Leaves.is
-    (fate_here p depth keys kids.items pieces key i child c.args.fate r.0.1.2 x.0 (r.1.1.1.0 child x.1)) in
-    (child_gone p p depth keys c.remove_entry.new.keys.texts kids.items c.remove_entry.new.entries.items pieces key i
-    child ([], append-nil p) r.0.1.2 r.0.0.0 r.0.1.0 x.0
-    (leaves_none key x.0.first x.0.way.here x.0.way.starts f)
-    (subst (λ e. HasOthers e (length keys)) c.in-Leaves.is r.1.1.1.1) r.1.1.0.0
-    c.in_ok-remove_entry-in-Leaves.ensures.ok.0 c.in_ok-remove_entry-in-Leaves.ensures.ok.1).node
+    (gone_at (g.C.Chunks.contents c.args.chunks.now) c.args.depth c.args.keys.now.texts c.remove_entry.new.keys.texts
+    c.args.kids.now c.remove_entry.new.entries.items c.args.key.now c.args.place (Placed (record { bits = 0 }))
+    c.args.fate r.0 r.1.0 r.1.1.0 r.1.1.1.0 r.1.1.1.1 c.in-Leaves.is c.in_ok-remove_entry-in-Leaves.ensures.ok.0
+    c.in_ok-remove_entry-in-Leaves.ensures.ok.1).node
 
 pub removing::paths::remove_at-returns-in-Leaves-clause-done :
     goal.removing::paths::remove_at-returns-in-Leaves-clause-done
 removing::paths::remove_at-returns-in-Leaves-clause-done g t c =
-    let p = g.C.Chunks.contents c.args.chunks.now in
     let r = c.requires.1.1.1.1.1 in
-    let depth = c.args.depth in
-    let keys = c.args.keys.now.texts in
-    let kids = c.args.kids.now in
-    let key = c.args.key.now in
-    let i = c.args.place in
-    let at : OwnChild = Placed (record { bits = 0 }) in
-    let child = get_or kids.items i at in
-    let pieces = body_pieces depth keys (Inner kids) in
-    let x = node_at p depth keys (Inner kids) kids pieces keys key i at refl refl r.0 refl r.1.1.0 r.1.0 in
-    let f = subst (IsFate key x.0.first x.0.way.here) c.in-Leaves.is
-    (fate_here p depth keys kids.items pieces key i child c.args.fate r.0.1.2 x.0 (r.1.1.1.0 child x.1)) in
-    (child_gone p p depth keys c.remove_entry.new.keys.texts kids.items c.remove_entry.new.entries.items pieces key i
-    child ([], append-nil p) r.0.1.2 r.0.0.0 r.0.1.0 x.0
-    (leaves_none key x.0.first x.0.way.here x.0.way.starts f)
-    (subst (λ e. HasOthers e (length keys)) c.in-Leaves.is r.1.1.1.1) r.1.1.0.0
-    c.in_ok-remove_entry-in-Leaves.ensures.ok.0 c.in_ok-remove_entry-in-Leaves.ensures.ok.1).shown_is
-    ∙ ap (λ z. Some (without key (rows_or z))) (sym x.0.rows_is)
+    (gone_at (g.C.Chunks.contents c.args.chunks.now) c.args.depth c.args.keys.now.texts c.remove_entry.new.keys.texts
+    c.args.kids.now c.remove_entry.new.entries.items c.args.key.now c.args.place (Placed (record { bits = 0 }))
+    c.args.fate r.0 r.1.0 r.1.1.0 r.1.1.1.0 r.1.1.1.1 c.in-Leaves.is c.in_ok-remove_entry-in-Leaves.ensures.ok.0
+    c.in_ok-remove_entry-in-Leaves.ensures.ok.1).shown_is
 
 pub removing::paths::remove_at-returns-in-Leaves-clause-few :
     goal.removing::paths::remove_at-returns-in-Leaves-clause-few
@@ -188,19 +161,7 @@ removing::paths::remove_at-returns-in-Leaves-clause-few g t c =
 
 pub removing::paths::remove_at-remove_child-requires : goal.removing::paths::remove_at-remove_child-requires
 removing::paths::remove_at-remove_child-requires g t c κs within =
-    let p = g.C.Chunks.contents c.args.chunks.now in
-    let r = c.requires.1.1.1.1.1 in
-    let depth = c.args.depth in
-    let keys = c.args.keys.now.texts in
-    let kids = c.args.kids.now in
-    let key = c.args.key.now in
-    let i = c.args.place in
-    let at : OwnChild = Placed (record { bits = 0 }) in
-    let child = get_or kids.items i at in
-    let pieces = body_pieces depth keys (Inner kids) in
-    let x = node_at p depth keys (Inner kids) kids pieces keys key i at refl refl r.0 refl r.1.1.0 r.1.0 in
-    let f = subst (IsFate key x.0.first x.0.way.here) c.in-Stays.is
-    (fate_here p depth keys kids.items pieces key i child c.args.fate r.0.1.2 x.0 (r.1.1.1.0 child x.1)) in (
+    let r = c.requires.1.1.1.1.1 in (
       omega (arith, r.0.1.0, c.requires.1.0),
       (
         within.0,
@@ -210,8 +171,9 @@ removing::paths::remove_at-remove_child-requires g t c κs within =
             c.requires.1.1.1.1.0,
             (
               omega (arith, r.1.1.0.0, r.0.1.2),
-              can_remove p depth keys kids.items pieces key i child
-                  c.in-Stays.first x.0 x.1 f,
+              can_at (g.C.Chunks.contents c.args.chunks.now) c.args.depth c.args.keys.now.texts c.args.kids.now
+                  c.args.key.now c.args.place (Placed (record { bits = 0 })) c.args.fate c.in-Stays.first r.0 r.1.0
+                  r.1.1.0 r.1.1.1.0 c.in-Stays.is,
             ),
           ),
         ),
@@ -221,47 +183,24 @@ removing::paths::remove_at-remove_child-requires g t c κs within =
 pub removing::paths::remove_at-returns-in-Stays-clause-node :
     goal.removing::paths::remove_at-returns-in-Stays-clause-node
 removing::paths::remove_at-returns-in-Stays-clause-node g t c =
-    let p = g.C.Chunks.contents c.args.chunks.now in
-    let q = g.C.Chunks.contents c.remove_child.new.chunks in
     let r = c.requires.1.1.1.1.1 in
-    let depth = c.args.depth in
-    let keys = c.args.keys.now.texts in
-    let kids = c.args.kids.now in
-    let key = c.args.key.now in
-    let i = c.args.place in
-    let at : OwnChild = Placed (record { bits = 0 }) in
-    let child = get_or kids.items i at in
-    let pieces = body_pieces depth keys (Inner kids) in
-    let x = node_at p depth keys (Inner kids) kids pieces keys key i at refl refl r.0 refl r.1.1.0 r.1.0 in
-    let f = subst (IsFate key x.0.first x.0.way.here) c.in-Stays.is
-    (fate_here p depth keys kids.items pieces key i child c.args.fate r.0.1.2 x.0 (r.1.1.1.0 child x.1)) in
-    (child_stays p q depth keys c.set_first.new.keys.texts kids.items c.remove_child.new.kids.items pieces key i child
-    c.in-Stays.first c.remove_child.ensures.grown.0 r.0.1.2 r.0.0.0 r.0.1.0 x.0 f r.0.1.1
-    (c.set_first.ensures ∙ ap (lowered i c.in-Stays.first) c.make_ready.ensures.texts)
-    (c.in_ok-remove_child-in-Stays.ensures.done child x.1)).node
+    (stays_at (g.C.Chunks.contents c.args.chunks.now) (g.C.Chunks.contents c.remove_child.new.chunks) c.args.depth
+    c.args.keys.now.texts c.set_first.new.keys.texts c.args.kids.now c.remove_child.new.kids.items c.args.key.now
+    c.args.place (Placed (record { bits = 0 })) c.args.fate c.in-Stays.first c.remove_child.ensures.grown.0
+    r.0 r.1.0 r.1.1.0 r.1.1.1.0 c.in-Stays.is
+    (c.set_first.ensures ∙ ap (lowered c.args.place c.in-Stays.first) c.make_ready.ensures.texts)
+    c.in_ok-remove_child-in-Stays.ensures.done).node
 
 pub removing::paths::remove_at-returns-in-Stays-clause-done :
     goal.removing::paths::remove_at-returns-in-Stays-clause-done
 removing::paths::remove_at-returns-in-Stays-clause-done g t c =
-    let p = g.C.Chunks.contents c.args.chunks.now in
-    let q = g.C.Chunks.contents c.remove_child.new.chunks in
     let r = c.requires.1.1.1.1.1 in
-    let depth = c.args.depth in
-    let keys = c.args.keys.now.texts in
-    let kids = c.args.kids.now in
-    let key = c.args.key.now in
-    let i = c.args.place in
-    let at : OwnChild = Placed (record { bits = 0 }) in
-    let child = get_or kids.items i at in
-    let pieces = body_pieces depth keys (Inner kids) in
-    let x = node_at p depth keys (Inner kids) kids pieces keys key i at refl refl r.0 refl r.1.1.0 r.1.0 in
-    let f = subst (IsFate key x.0.first x.0.way.here) c.in-Stays.is
-    (fate_here p depth keys kids.items pieces key i child c.args.fate r.0.1.2 x.0 (r.1.1.1.0 child x.1)) in
-    (child_stays p q depth keys c.set_first.new.keys.texts kids.items c.remove_child.new.kids.items pieces key i child
-    c.in-Stays.first c.remove_child.ensures.grown.0 r.0.1.2 r.0.0.0 r.0.1.0 x.0 f r.0.1.1
-    (c.set_first.ensures ∙ ap (lowered i c.in-Stays.first) c.make_ready.ensures.texts)
-    (c.in_ok-remove_child-in-Stays.ensures.done child x.1)).shown_is
-    ∙ ap (λ z. Some (without key (rows_or z))) (sym x.0.rows_is)
+    (stays_at (g.C.Chunks.contents c.args.chunks.now) (g.C.Chunks.contents c.remove_child.new.chunks) c.args.depth
+    c.args.keys.now.texts c.set_first.new.keys.texts c.args.kids.now c.remove_child.new.kids.items c.args.key.now
+    c.args.place (Placed (record { bits = 0 })) c.args.fate c.in-Stays.first c.remove_child.ensures.grown.0
+    r.0 r.1.0 r.1.1.0 r.1.1.1.0 c.in-Stays.is
+    (c.set_first.ensures ∙ ap (lowered c.args.place c.in-Stays.first) c.make_ready.ensures.texts)
+    c.in_ok-remove_child-in-Stays.ensures.done).shown_is
 
 pub removing::paths::remove_at-returns-in-Stays-clause-few : goal.removing::paths::remove_at-returns-in-Stays-clause-few
 removing::paths::remove_at-returns-in-Stays-clause-few g t c =
