@@ -34,7 +34,7 @@ use Rattle.map_nodes.proofs.ChangeLemmas.{IsLocal, changed, one_child, shown-kep
 use Rattle.map_chunks.proofs.JoinLemmas.{begins, begins-with, split_of, some_is}
 use Rattle.map_nodes.proofs.LeafLemmas.{strict_rises}
 use Rattle.map_chunks.proofs.ListLemmas.{paired-remove, length-paired}
-use Rattle.map_nodes.proofs.NodeLemmas.{Down, kid_rows, child_at}
+use Rattle.map_nodes.proofs.NodeLemmas.{Down, kid_rows, child_at, node_down}
 use Rattle.map_chunks.proofs.OpenLemmas.{key_at, known, shows_of}
 use Rattle.map_nodes.proofs.PathLemmas.{node_at, first_key, lowered_pairs, length-lowered, rises_joined, child_requires}
 use Rattle.map_chunks.proofs.RowLemmas.{cmp, turned, same_key, is_itself, AllBelow, AllAbove, IsStrict, strict, sorted}
@@ -547,3 +547,26 @@ can_at p depth keys kids key i at fate other n t o f e =
         let h = subst (IsFate key d.first d.way.here) e
         (fate_here p depth keys kids.items pieces key i child fate n.1.2 d (f child g)) in
         can_remove p depth keys kids.items pieces key i child other d g h
+
+-- what is known of it, once more is placed
+pub fate_down : (p q : Contents) (depth : ℕ) (keys slice : List Bytes) (body : Body) (kids : _) (pieces : List Piece)
+    (key first : Bytes) (i : ℕ) (child : OwnChild) (fate : Fate) → IsPrefix p q → body_pieces depth keys body ≡ pieces
+    → body ≡ Inner kids → IsNode depth keys body → slice ≡ keys → IsPlace key slice i
+    → child ≡ get_or kids.items i child → first ≡ get_or slice i first → IsTree (shown p pieces)
+    → IsFate key first (rows_or (kid_shown p child)) fate → 0 < length (without key (rows_or (shown p pieces)))
+    → ((c : OwnChild) → slice_get kids.items i ≡ Some c
+    → IsFate key (get_or keys i []) (rows_or (kid_shown q c)) fate) × HasOthers fate (length keys)
+fate_down p q depth keys slice body kids pieces key first i child fate pre v e inv s o g h t f more =
+    by (node_down p depth keys body kids pieces slice key i child v e inv s o g t) (subst (IsNode depth keys) e inv)
+  where
+    by : Down p depth keys kids.items pieces key i child → IsNode depth keys (Inner kids)
+        → ((c : OwnChild) → slice_get kids.items i ≡ Some c
+        → IsFate key (get_or keys i []) (rows_or (kid_shown q c)) fate) × HasOthers fate (length keys)
+    by d n =
+        let now = fate_later p p depth keys slice kids.items pieces key first i child fate ([], append-nil p) n.1.2 s o.0
+        d g h f child
+        (child_at kids.items i (length keys) child n.1.2 (omega (arith, o.0, ap length s)) g) in (
+          fate_later p q depth keys slice kids.items pieces key first i child fate pre n.1.2 s o.0 d g h f,
+          has_others p depth keys kids.items pieces key i child fate n.1.2 d
+              (fate_here p depth keys kids.items pieces key i child fate n.1.2 d now) more,
+        )

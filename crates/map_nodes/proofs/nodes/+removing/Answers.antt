@@ -27,8 +27,8 @@ use Rattle.map_nodes.proofs.NodeLemmas.{shown-rows, child_at, node_down, written
 use Rattle.map_chunks.proofs.OpenLemmas.{known}
 use Rattle.map_nodes.proofs.PathLemmas.{node_at, indexed_child}
 use Rattle.map_nodes.proofs.ReplaceLemmas.{leaf_rows}
-use Rattle.map_nodes.proofs.RemoveLemmas.{can_at, fate_here, fate_later, fresh-removed, gone_at, stays_at}
-use Rattle.map_nodes.proofs.RemoveLemmas.{fresh-set, has_others, shown_later}
+use Rattle.map_nodes.proofs.RemoveLemmas.{can_at, fate_down, fresh-removed, gone_at, stays_at}
+use Rattle.map_nodes.proofs.RemoveLemmas.{fresh-set, shown_later}
 use Rattle.map_nodes.proofs.ScanLemmas.{kid_shown-at}
 use Rattle.map_nodes.proofs.PlaceLemmas.{down_may, kid_all, kids_may, own_may, placed_may, new_may}
 use Rattle.map_nodes.proofs.nodes.+removing.Goals as goal
@@ -68,22 +68,13 @@ OwnNode::remove-remove_at-requires g t c κs within =
     let keys = c.self.inside.keys.texts in
     let kids = c.in-Inner.kids in
     let pieces = c.args.self.now.pieces in
-    let key = c.args.key.now in
-    let i = c.place_of-place.result in
-    let child = c.index.result.now in
-    let fate = c.in_ok-fate-in-Inner.fate in
     let r = c.requires.1.1.1.1.1 in
-    let node : IsNode depth keys (Inner kids) = subst (IsNode depth keys) c.in-Inner.is c.self.invariant in
     let view = ap (λ (s : Seen). s.pieces) c.self.view_is in
-    let d = node_down p depth keys c.self.inside.body kids pieces c.as_slice-texts.result.now key i child view
-    c.in-Inner.is c.self.invariant c.as_slice-texts.ensures c.place_of-place.ensures c.index.ensures r.0 in
-    let now = fate_later p p depth keys c.as_slice-texts.result.now kids.items pieces key c.index-texts-place.result i
-    child fate ([], append-nil p) node.1.2 c.as_slice-texts.ensures c.place_of-place.ensures.0 d
-    c.index.ensures c.index-texts-place.is c.in_ok-fate-in-Inner.ensures.fate child
-    (child_at kids.items i (length keys) child node.1.2
-    (omega (arith, c.place_of-place.ensures.0, ap length c.as_slice-texts.ensures)) c.index.ensures) in
-    let f = fate_here p depth keys kids.items pieces key i child fate node.1.2 d now in
-    let here = ap (λ (s : Seen). s.depth) c.self.view_is in (
+    let here = ap (λ (s : Seen). s.depth) c.self.view_is in
+    let known = fate_down p q depth keys c.as_slice-texts.result.now c.self.inside.body kids pieces c.args.key.now
+    c.index-texts-place.result c.place_of-place.result c.index.result.now c.in_ok-fate-in-Inner.fate
+    c.fate_of.ensures.grown.0 view c.in-Inner.is c.self.invariant c.as_slice-texts.ensures c.place_of-place.ensures
+    c.index.ensures c.index-texts-place.is r.0 c.in_ok-fate-in-Inner.ensures.fate r.1 in (
       omega (arith, here, c.requires.1.0),
       (
         within.0,
@@ -95,20 +86,14 @@ OwnNode::remove-remove_at-requires g t c κs within =
                 (kids_may (g.C.Chunks.places c.args.chunks.now) depth keys c.self.inside.body kids pieces view
                 c.in-Inner.is c.self.invariant c.requires.1.1.1.1.0),
             (
-              node,
+              subst (IsNode depth keys) c.in-Inner.is c.self.invariant,
               (
                 subst IsTree (sym (shown_later p q depth keys c.self.inside.body kids pieces c.fate_of.ensures.grown.0
                     view c.in-Inner.is r.0)) r.0,
                 (
-                  subst (λ w. IsPlace key w i) c.as_slice-texts.ensures c.place_of-place.ensures,
-                  (
-                    fate_later p q depth keys c.as_slice-texts.result.now kids.items pieces key
-                        c.index-texts-place.result i child fate c.fate_of.ensures.grown.0 node.1.2
-                        c.as_slice-texts.ensures
-                        c.place_of-place.ensures.0 d c.index.ensures c.index-texts-place.is
-                        c.in_ok-fate-in-Inner.ensures.fate,
-                    has_others p depth keys kids.items pieces key i child fate node.1.2 d f r.1,
-                  ),
+                  subst (λ w. IsPlace c.args.key.now w c.place_of-place.result) c.as_slice-texts.ensures
+                      c.place_of-place.ensures,
+                  (known.0, known.1),
                 ),
               ),
             ),
