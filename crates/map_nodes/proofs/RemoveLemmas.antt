@@ -41,7 +41,7 @@ use Rattle.map_chunks.proofs.RowLemmas.{cmp, turned, same_key, is_itself, AllBel
 use Rattle.map_chunks.proofs.RowLemmas.{rises_strict}
 use Rattle.map_nodes.proofs.ScanLemmas.{kid_shown-at, kid_shown-kept}
 use Rattle.map_chunks.proofs.ScanLemmas.{got_any}
-use Rattle.map_chunks.proofs.SearchLemmas.{Found, found_in, Absent, absent_in}
+use Rattle.map_chunks.proofs.SearchLemmas.{Found, found_in, Absent, absent_in, got}
 use Rattle.map_chunks.proofs.Texts.{same_text-itself}
 use Rattle.map_chunks.proofs.TreeLemmas.{map_is, map_from}
 
@@ -570,3 +570,13 @@ fate_down p q depth keys slice body kids pieces key first i child fate pre v e i
           has_others p depth keys kids.items pieces key i child fate n.1.2 d
               (fate_here p depth keys kids.items pieces key i child fate n.1.2 d now) more,
         )
+
+-- few new chunks, where the child stays
+pub stays_few : (q : Contents) (depth : ℕ) (kids ne : List OwnChild) (i : ℕ) (at : OwnChild)
+    (rows : OwnChild → Option Rows) → i < length kids → 0 < depth → ((c : OwnChild) → slice_get kids i ≡ Some c
+    → ChildChanged q (depth - 1) i kids ne c (rows c)) → kids_fresh ne + 1 ≤ kids_fresh kids + depth
+stays_few q depth kids ne i at rows w z done = by (get_or kids i at) (got kids i at w) (done (get_or kids i at) (got kids i at w))
+  where
+    by : (child : OwnChild) → slice_get kids i ≡ Some child → ChildChanged q (depth - 1) i kids ne child (rows child)
+        → kids_fresh ne + 1 ≤ kids_fresh kids + depth
+    by child g n = omega (arith, fresh-set kids i child (Own n.0) g, ap kids_fresh n.1, n.4, z)

@@ -1,18 +1,17 @@
-use Rattle.std.proofs.Common.{◌≡◌, ◌<◌, ◌-◌, ◌∙◌, Some, OnOk, ap, sym, subst, arith, refl, length, get_or, set-set}
+use Rattle.std.proofs.Common.{◌≡◌, ◌<◌, ◌-◌, ◌∙◌, Some, OnOk, ap, sym, subst, arith, refl, length, set-set}
 use Rattle.std.proofs.Common.{remove, []}
 use Rattle.std.specs.Prelude.{IsSome}
 use Rattle.std.specs.Box.{with_value}
-use Rattle.std.proofs.lemmas.List.{append-nil}
 use Rattle.group_history.specs.Refs.{stamp_of}
 use Rattle.group_history.specs.Rows.{paired}
 use Rattle.group_history.specs.Spelling.{rows_at}
 use Rattle.map_chunks.specs.Places.{AreAll, AreKept, places_of}
 use Rattle.map_nodes.specs.Inside.Freezing.{child_places, kids_places}
 use Rattle.map_nodes.specs.Inside.Halves.{lowered}
-use Rattle.map_nodes.specs.Nodes.{body_pieces, child_fresh, kids_fresh, kids_pieces, row_pieces, IsNode}
+use Rattle.map_nodes.specs.Nodes.{child_fresh, kids_fresh, kids_pieces, row_pieces, IsNode}
 use Rattle.map_nodes.specs.Inside.Nodes.{Kid, child_rows}
 use Rattle.map_nodes.specs.Removing.{without}
-use Rattle.map_nodes.specs.Inside.Removing.{IsFate, HasOthers, CanRemove}
+use Rattle.map_nodes.specs.Inside.Removing.{CanRemove}
 use Rattle.map_chunks.specs.Search.{IsPlace}
 use Rattle.map_chunks.specs.Shown.{Seen, shown, rows_or, IsTree}
 use Rattle.map_nodes.specs.declared.nodes.Body.TheVariants.{Inner}
@@ -25,10 +24,10 @@ use Rattle.map_chunks.proofs.KeptLemmas.{kept-from_none}
 use Rattle.map_nodes.proofs.NamedLemmas.{kept-child, own-places, places-kids, places-rows}
 use Rattle.map_nodes.proofs.NodeLemmas.{shown-rows, child_at, node_down, written_back}
 use Rattle.map_chunks.proofs.OpenLemmas.{known}
-use Rattle.map_nodes.proofs.PathLemmas.{node_at, indexed_child}
+use Rattle.map_nodes.proofs.PathLemmas.{indexed_child}
 use Rattle.map_nodes.proofs.ReplaceLemmas.{leaf_rows}
-use Rattle.map_nodes.proofs.RemoveLemmas.{can_at, fate_down, fresh-removed, gone_at, stays_at}
-use Rattle.map_nodes.proofs.RemoveLemmas.{fresh-set, shown_later}
+use Rattle.map_nodes.proofs.RemoveLemmas.{can_at, fate_down, fresh-removed, gone_at, stays_at, stays_few}
+use Rattle.map_nodes.proofs.RemoveLemmas.{shown_later}
 use Rattle.map_nodes.proofs.ScanLemmas.{kid_shown-at}
 use Rattle.map_nodes.proofs.PlaceLemmas.{down_may, kid_all, kids_may, own_may, placed_may, new_may}
 use Rattle.map_nodes.proofs.nodes.+removing.Goals as goal
@@ -189,17 +188,13 @@ removing::paths::remove_at-returns-in-Stays-clause-done g t c =
 
 pub removing::paths::remove_at-returns-in-Stays-clause-few : goal.removing::paths::remove_at-returns-in-Stays-clause-few
 removing::paths::remove_at-returns-in-Stays-clause-few g t c =
-    let p = g.C.Chunks.contents c.args.chunks.now in
     let r = c.requires.1.1.1.1.1 in
-    let keys = c.args.keys.now.texts in
-    let kids = c.args.kids.now in
-    let i = c.args.place in
-    let at : OwnChild = Placed (record { bits = 0 }) in
-    let child = get_or kids.items i at in
-    let x = node_at p c.args.depth keys (Inner kids) kids
-    (body_pieces c.args.depth keys (Inner kids)) keys c.args.key.now i at refl refl r.0 refl r.1.1.0 r.1.0 in
-    let n = c.in_ok-remove_child-in-Stays.ensures.done child x.1 in
-    omega (arith, fresh-set kids.items i child (Own n.0) x.1, ap kids_fresh n.1, n.4, r.0.1.0)
+    let below = c.args.depth - 1 in
+    let fact = stays_few (g.C.Chunks.contents c.remove_child.new.chunks) c.args.depth c.args.kids.now.items
+    c.remove_child.new.kids.items c.args.place (Placed (record { bits = 0 }))
+    (λ x. Some (without c.args.key.now (rows_or (child_rows (g.C.Chunks.contents c.args.chunks.now) below x))))
+    (omega (arith, r.1.1.0.0, r.0.1.2)) r.0.1.0 c.in_ok-remove_child-in-Stays.ensures.done in
+    omega (arith, fact)
 
 pub removing::paths::remove_child-remove-requires : goal.removing::paths::remove_child-remove-requires
 removing::paths::remove_child-remove-requires g t c κs within =
