@@ -478,8 +478,9 @@ gives_way-is (Stays other) n h = absurd cc
 
 -- it shows nothing more, and leaves
 pub gone_at : (p : Contents) (depth : ℕ) (keys nk : List Bytes) (kids : _) (ne : List OwnChild) (key : Bytes) (i : ℕ)
-    (at : OwnChild) (fate : Fate) → IsNode depth keys (Inner kids) → IsTree (shown p (body_pieces depth keys (Inner kids)))
-    → IsPlace key keys i → ((c : OwnChild) → slice_get kids.items i ≡ Some c
+    (at : OwnChild) (fate : Fate) → IsNode depth keys (Inner kids)
+    → IsTree (shown p (body_pieces depth keys (Inner kids))) → IsPlace key keys i
+    → ((c : OwnChild) → slice_get kids.items i ≡ Some c
     → IsFate key (get_or keys i []) (rows_or (kid_shown p c)) fate) → HasOthers fate (length keys) → fate ≡ Leaves
     → nk ≡ remove keys i → ne ≡ remove kids.items i
     → Left p depth nk ne (without key (rows_or (shown p (body_pieces depth keys (Inner kids)))))
@@ -563,8 +564,8 @@ fate_down p q depth keys slice body kids pieces key first i child fate pre v e i
         → ((c : OwnChild) → slice_get kids.items i ≡ Some c
         → IsFate key (get_or keys i []) (rows_or (kid_shown q c)) fate) × HasOthers fate (length keys)
     by d n =
-        let now = fate_later p p depth keys slice kids.items pieces key first i child fate ([], append-nil p) n.1.2 s o.0
-        d g h f child
+        let now = fate_later p p depth keys slice kids.items pieces key first i child fate ([], append-nil p) n.1.2 s
+        o.0 d g h f child
         (child_at kids.items i (length keys) child n.1.2 (omega (arith, o.0, ap length s)) g) in (
           fate_later p q depth keys slice kids.items pieces key first i child fate pre n.1.2 s o.0 d g h f,
           has_others p depth keys kids.items pieces key i child fate n.1.2 d
@@ -575,7 +576,10 @@ fate_down p q depth keys slice body kids pieces key first i child fate pre v e i
 pub stays_few : (q : Contents) (depth : ℕ) (kids ne : List OwnChild) (i : ℕ) (at : OwnChild)
     (rows : OwnChild → Option Rows) → i < length kids → 0 < depth → ((c : OwnChild) → slice_get kids i ≡ Some c
     → ChildChanged q (depth - 1) i kids ne c (rows c)) → kids_fresh ne + 1 ≤ kids_fresh kids + depth
-stays_few q depth kids ne i at rows w z done = by (get_or kids i at) (got kids i at w) (done (get_or kids i at) (got kids i at w))
+stays_few q depth kids ne i at rows w z done =
+    let child = get_or kids i at in
+    let g = got kids i at w in
+    by child g (done child g)
   where
     by : (child : OwnChild) → slice_get kids i ≡ Some child → ChildChanged q (depth - 1) i kids ne child (rows child)
         → kids_fresh ne + 1 ≤ kids_fresh kids + depth
