@@ -64,3 +64,15 @@ returns-clause-gap g c =
 
 pub show_tops-requires-clause-place : goal.show_tops-requires-clause-place
 show_tops-requires-clause-place g c = c.loop-chunks.invariant.1
+
+pub returns-in_err-tops-clause-grown : goal.returns-in_err-tops-clause-grown
+returns-in_err-tops-clause-grown g c =
+    grows_on g.C.Chunks.contents g.C.Chunks.places _ _ _ c.loop-chunks.invariant.2 c.show_tops.ensures.grown
+
+pub returns-in_default-clause-grown : goal.returns-in_default-clause-grown
+returns-in_default-clause-grown g c =
+    grows_on g.C.Chunks.contents g.C.Chunks.places _ _ _ c.loop-chunks.invariant.2 c.show_tops.ensures.grown
+
+pub returns-clause-grown : goal.returns-clause-grown
+returns-clause-grown g c =
+    c.loop-chunks.invariant.2

@@ -48,3 +48,19 @@ returns-clause-chain g c v h =
     (m c.show_basis.new.nodes) (stamp_of c.args.head) c.loop-chain.at c.loop-chain.chain.items k.0
     c.loop-chain.invariant.0 grown.0 grown.1 k.1.1
     (sym k.2 ∙ none_from c.in_ok-basis.field-0 c.in_default.not-Some) v h
+
+pub returns-in_err-basis-clause-grown : goal.returns-in_err-basis-clause-grown
+returns-in_err-basis-clause-grown g c =
+    grows_on g.N.Chunks.contents g.N.Chunks.places _ _ _ c.loop-chain.invariant.2 c.show_basis.ensures.grown
+
+pub returns-in_err-keep-clause-grown : goal.returns-in_err-keep-clause-grown
+returns-in_err-keep-clause-grown g c =
+    grows_on g.N.Chunks.contents g.N.Chunks.places _ _ _ c.loop-chain.invariant.2 c.show_basis.ensures.grown
+
+pub returns-clause-grown : goal.returns-clause-grown
+returns-clause-grown g c =
+    grows_on g.N.Chunks.contents g.N.Chunks.places _ _ _ c.loop-chain.invariant.2 c.show_basis.ensures.grown
+
+pub show_basis-requires-clause-place : goal.show_basis-requires-clause-place
+show_basis-requires-clause-place g c =
+    c.loop-chain.invariant.1

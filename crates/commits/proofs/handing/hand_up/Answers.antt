@@ -23,3 +23,23 @@ loop-at-preserved g c =
         append_assoc r.0 (listed w.0) w.1 ∙ ap (λ (u : List Mutation). r.0 ++ u) (sym w.6) ∙ r.4,
       ),
     )
+
+pub returns-in_err-hand_one-clause-grown : goal.returns-in_err-hand_one-clause-grown
+returns-in_err-hand_one-clause-grown g c =
+    grows_on g.N.Chunks.contents g.N.Chunks.places _ _ _ c.loop-at.invariant.1 c.hand_one.ensures.grown
+
+pub returns-clause-grown : goal.returns-clause-grown
+returns-clause-grown g c =
+    c.loop-at.invariant.1
+
+pub hand_one-requires-clause-known : goal.hand_one-requires-clause-known
+hand_one-requires-clause-known g c =
+    let i = c.loop-at.invariant.0 in
+    (lowest (g.N.Chunks.places c.loop-at.nodes) (g.N.Chunks.contents c.loop-at.nodes) c.loop-at.chain.items
+    c.pop.new.self.items c.in-Some.at i.0 c.in-Some.ensures.items i.1).3
+
+pub hand_one-requires-clause-place : goal.hand_one-requires-clause-place
+hand_one-requires-clause-place g c =
+    let i = c.loop-at.invariant.0 in
+    (lowest (g.N.Chunks.places c.loop-at.nodes) (g.N.Chunks.contents c.loop-at.nodes) c.loop-at.chain.items
+    c.pop.new.self.items c.in-Some.at i.0 c.in-Some.ensures.items i.1).2

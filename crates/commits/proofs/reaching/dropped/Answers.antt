@@ -1,12 +1,14 @@
-use Rattle.std.proofs.Common.{List, subst}
+use Rattle.std.proofs.Common.{List, subst, sym}
 use Rattle.group_history.specs.declared.refs.Ref.{Ref}
 use Rattle.group_history.specs.Refs.{stamp_of}
 use Rattle.group_history.proofs.Lists.{prefix_trans}
+use Rattle.commits.specs.Reach.{Falls, stamps_of}
 use Rattle.commits.specs.Inside.Reach.{Leaves}
 use Rattle.commits.proofs.Chained.{some_version, version_stays}
 use Rattle.commits.proofs.Reached.{there_version, reaches_stays, reaches_back}
 use Rattle.commits.proofs.Rooted.{map_some_stays, kept_grown, reaches_on}
 use Rattle.commits.proofs.Leaving.{leaves_stamps}
+use Rattle.map_chunks.proofs.KeptLemmas.{grows_on}
 use Rattle.commits.proofs.reaching.dropped.Goals as goal
 
 pub reachable-requires-clause-head : goal.reachable-requires-clause-head
@@ -83,3 +85,39 @@ reachable-requires-2-clause-places g c = (
   c.reachable.ensures.grown.1 c.args.old (c.kept_part.ensures.grown.1 c.args.old c.requires.places.0),
   c.reachable.ensures.grown.1 c.in_ok-part.part.root c.in_ok-part.ensures.place,
 )
+
+pub returns-in_err-kept-clause-grown : goal.returns-in_err-kept-clause-grown
+returns-in_err-kept-clause-grown g c =
+    grows_on g.N.Chunks.contents g.N.Chunks.places _ _ _ c.kept_part.ensures.grown c.reachable.ensures.grown
+
+pub returns-in_err-before-clause-grown : goal.returns-in_err-before-clause-grown
+returns-in_err-before-clause-grown g c =
+    grows_on g.N.Chunks.contents g.N.Chunks.places _ _ _ c.kept_part.ensures.grown
+    (grows_on g.N.Chunks.contents g.N.Chunks.places _ _ _ c.reachable.ensures.grown c.reachable-2.ensures.grown)
+
+pub returns-in_err-left-clause-grown : goal.returns-in_err-left-clause-grown
+returns-in_err-left-clause-grown g c =
+    grows_on g.N.Chunks.contents g.N.Chunks.places _ _ _ c.kept_part.ensures.grown
+    (grows_on g.N.Chunks.contents g.N.Chunks.places _ _ _ c.reachable.ensures.grown c.reachable-2.ensures.grown)
+
+pub returns-clause-grown : goal.returns-clause-grown
+returns-clause-grown g c =
+    grows_on g.N.Chunks.contents g.N.Chunks.places _ _ _ c.kept_part.ensures.grown
+    (grows_on g.N.Chunks.contents g.N.Chunks.places _ _ _ c.reachable.ensures.grown c.reachable-2.ensures.grown)
+
+pub without-requires-clause-before : goal.without-requires-clause-before
+without-requires-clause-before g c =
+    subst (λ (w : List Ref). Falls (stamps_of w)) (sym c.deref.ensures.value) c.in_ok-before.ensures.once
+
+pub without-requires-clause-kept : goal.without-requires-clause-kept
+without-requires-clause-kept g c =
+    subst (λ (w : List Ref). Falls (stamps_of w)) (sym c.deref-2.ensures.value) c.in_ok-kept.ensures.once
+
+pub reachable-requires-clause-gap : goal.reachable-requires-clause-gap
+reachable-requires-clause-gap g c = c.in_ok-part.ensures.gap
+
+pub reachable-requires-clause-root : goal.reachable-requires-clause-root
+reachable-requires-clause-root g c = c.in_ok-part.ensures.map
+
+pub returns-clause-once : goal.returns-clause-once
+returns-clause-once g c = c.in_ok-left.ensures.once

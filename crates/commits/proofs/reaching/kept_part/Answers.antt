@@ -1,6 +1,7 @@
 use Rattle.group_history.specs.Refs.{stamp_of}
 use Rattle.commits.proofs.Reached.{reaches_stays}
 use Rattle.commits.proofs.Rooted.{map_some_stays}
+use Rattle.map_chunks.proofs.KeptLemmas.{grows_on}
 use Rattle.commits.proofs.reaching.kept_part.Goals as goal
 
 pub gap_below-requires-clause-root : goal.gap_below-requires-clause-root
@@ -21,3 +22,11 @@ returns-clause-reached g c =
 
 pub returns-clause-place : goal.returns-clause-place
 returns-clause-place g c = c.gap_below.ensures.grown.1 c.in_ok-root.root c.in_ok-root.ensures.place
+
+pub returns-in_err-gap-clause-grown : goal.returns-in_err-gap-clause-grown
+returns-in_err-gap-clause-grown g c =
+    grows_on g.N.Chunks.contents g.N.Chunks.places _ _ _ c.base_root.ensures.grown c.gap_below.ensures.grown
+
+pub returns-clause-grown : goal.returns-clause-grown
+returns-clause-grown g c =
+    grows_on g.N.Chunks.contents g.N.Chunks.places _ _ _ c.base_root.ensures.grown c.gap_below.ensures.grown

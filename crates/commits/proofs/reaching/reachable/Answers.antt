@@ -11,6 +11,7 @@ use Rattle.commits.proofs.Reached.{spelled_grown}
 use Rattle.commits.proofs.Rooted.{kept_grown}
 use Rattle.commits.proofs.Listing.{IsListing, bound, listing_begins, listing_grown, listing_step, listing_skip}
 use Rattle.commits.proofs.Listing.{listing_falls, skip_falls, listing_ends}
+use Rattle.map_chunks.proofs.KeptLemmas.{grows_on}
 use Rattle.commits.proofs.reaching.reachable.Goals as goal
 
 pub loop-at-init : goal.loop-at-init
@@ -87,3 +88,24 @@ visit-requires-clause-gap g c x r =
     let m = g.N.Chunks.contents in
     c.requires.gap x ((kept_grown (m c.args.nodes.now) (m c.loop-at.nodes) (stamp_of c.args.root) x c.requires.root
     c.loop-at.invariant.grown).1 r)
+
+pub returns-in_err-visit-clause-grown : goal.returns-in_err-visit-clause-grown
+returns-in_err-visit-clause-grown g c =
+    grows_on g.N.Chunks.contents g.N.Chunks.places _ _ _
+    (c.loop-at.invariant.grown, c.loop-at.invariant.wider) c.visit.ensures.grown
+
+pub returns-clause-grown : goal.returns-clause-grown
+returns-clause-grown g c =
+    (c.loop-at.invariant.grown, c.loop-at.invariant.wider)
+
+pub returns-clause-once : goal.returns-clause-once
+returns-clause-once g c =
+    c.loop-at.invariant.falls
+
+pub returns-clause-places : goal.returns-clause-places
+returns-clause-places g c =
+    c.loop-at.invariant.places
+
+pub visit-requires-clause-root : goal.visit-requires-clause-root
+visit-requires-clause-root g c =
+    c.loop-at.invariant.rooted

@@ -1,9 +1,10 @@
-use Rattle.std.proofs.Common.{◌≡◌, inr, true, false, [], ◌∷◌, ◌++◌, ap, sym, ◌∙◌}
+use Rattle.std.proofs.Common.{◌≡◌, inl, inr, refl, true, false, [], ◌∷◌, ◌++◌, ap, sym, ◌∙◌}
 use Rattle.group_history.specs.declared.refs.Ref.{Ref}
 use Rattle.group_history.specs.Refs.{stamp_of}
 use Rattle.commits.specs.Inside.Reach.{ref_in, stamp_in}
 use Rattle.commits.proofs.Reached.{spelled_grown}
 use Rattle.commits.proofs.Rooted.{map_some_stays, kept_grown}
+use Rattle.map_chunks.proofs.KeptLemmas.{grows_on}
 use Rattle.commits.proofs.reaching.visit.Goals as goal
 
 pub look-requires-clause-found : goal.look-requires-clause-found
@@ -29,3 +30,18 @@ returns-clause-visited g c =
 
 pub look-requires-clause-place : goal.look-requires-clause-place
 look-requires-clause-place g c = c.is_kept.ensures.grown.1 (ref_in c.args.at) c.requires.places.1
+
+pub returns-in_err-look-clause-grown : goal.returns-in_err-look-clause-grown
+returns-in_err-look-clause-grown g c =
+    grows_on g.N.Chunks.contents g.N.Chunks.places _ _ _ c.is_kept.ensures.grown c.look.ensures.grown
+
+pub returns-in_err-add-clause-grown : goal.returns-in_err-add-clause-grown
+returns-in_err-add-clause-grown g c =
+    grows_on g.N.Chunks.contents g.N.Chunks.places _ _ _ c.is_kept.ensures.grown c.look.ensures.grown
+
+pub returns-clause-grown : goal.returns-clause-grown
+returns-clause-grown g c =
+    grows_on g.N.Chunks.contents g.N.Chunks.places _ _ _ c.is_kept.ensures.grown c.look.ensures.grown
+
+pub returns-then-branch-clause-visited : goal.returns-then-branch-clause-visited
+returns-then-branch-clause-visited g c = inl (c.in_ok-is_kept.ensures.kept.0 c.if-branch.true, refl, refl)
