@@ -1,5 +1,6 @@
 -- What a commit names has stamps below the commit's own.
-use Rattle.std.proofs.Common.{◌≡◌, ◌<◌, ◌≤◌, ◌+◌, ℕ, inl, inr, List, [], ◌∷◌, length, ap, subst, arith}
+use Rattle.std.proofs.Common.{◌≡◌, ◌<◌, ◌≤◌, ◌+◌, ℕ, inl, inr, List, [], ◌∷◌, ◌++◌, length, ap, sym, subst, arith}
+use Rattle.std.proofs.Common.{◌∙◌}
 use mathlib.Core.List.{IsPrefix}
 use Rattle.std.proofs.lemmas.List.{length-append}
 use Rattle.std.proofs.lemmas.List.Elements.{Contains-append_cases}
@@ -52,3 +53,7 @@ tip-behind cs d tip v l h =
 pub drafts-grown : (old new : Drafted) → new.first ≡ old.first → IsPrefix old.nodes new.nodes
     → old.first + length old.nodes ≤ new.first + length new.nodes
 drafts-grown old new f p = omega (arith, f, length-append old.nodes p.0, ap length p.1)
+
+-- what one was pushed on begins with it, and isn't empty
+pub pushed_on : {A : Type 0} (xs ys : List A) (y : A) → ys ≡ xs ++ y ∷ [] → IsPrefix xs ys × (0 < length ys)
+pushed_on xs ys y is = ((y ∷ [], sym is), omega (arith, ap length is ∙ length-append xs (y ∷ [])))

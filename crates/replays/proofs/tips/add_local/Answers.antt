@@ -5,6 +5,7 @@ use Rattle.map_nodes.proofs.FreezeLemmas.{nodes-grown}
 use Rattle.commits.proofs.Spelled.{version-grown, snapshot-grown}
 use Rattle.map_chunks.proofs.DraftLemmas.{below-more}
 use Rattle.replays.proofs.BelowLemmas.{below-cons, drafts-grown}
+use Rattle.group_history.proofs.Lists.{prefix_trans}
 use Rattle.replays.proofs.tips.add_local.Goals as goal
 
 pub returns-clause-spelled : goal.returns-clause-spelled
@@ -25,3 +26,11 @@ add_over-requires c =
       below = below-cons (new.first + length new.nodes) c.in_ok-root.root chain c.in_ok-root.ensures.below
           (below-more (old.first + length old.nodes) (new.first + length new.nodes) chain more c.requires.chain);
     }
+
+pub returns-clause-grown : goal.returns-clause-grown
+returns-clause-grown c =
+    prefix_trans _ _ _ c.freeze.ensures.grown c.add_over.ensures.grown
+
+pub returns-in_err-tip-clause-grown : goal.returns-in_err-tip-clause-grown
+returns-in_err-tip-clause-grown c =
+    prefix_trans _ _ _ c.freeze.ensures.grown c.add_over.ensures.grown

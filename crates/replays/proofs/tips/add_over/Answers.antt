@@ -1,6 +1,9 @@
-use Rattle.std.proofs.Common.{ap}
+use Rattle.std.proofs.Common.{ap, sym, subst}
 use Rattle.map_chunks.specs.Drafts.{Drafted}
 use Rattle.replays.proofs.NewestLemmas.{over_tip}
+use mathlib.Core.List.{IsPrefix}
+use Rattle.group_history.proofs.Lists.{prefix_self}
+use Rattle.replays.proofs.BelowLemmas.{pushed_on}
 use Rattle.replays.proofs.tips.add_over.Goals as goal
 
 pub returns-clause-spelled : goal.returns-clause-spelled
@@ -11,3 +14,18 @@ returns-clause-spelled c contents v m l b s is_open h =
 
 pub push-requires : goal.push-requires
 push-requires c = record { children = c.requires.below }
+
+pub returns-clause-grown : goal.returns-clause-grown
+returns-clause-grown c =
+    (pushed_on c.args.draft.now.nodes c.push.new.self.nodes _
+    (ap (λ (d : Drafted). d.nodes) c.in_ok-commit.ensures.ok)).0
+
+pub returns-clause-some : goal.returns-clause-some
+returns-clause-some c =
+    (pushed_on c.args.draft.now.nodes c.push.new.self.nodes _
+    (ap (λ (d : Drafted). d.nodes) c.in_ok-commit.ensures.ok)).1
+
+pub returns-in_err-commit-clause-grown : goal.returns-in_err-commit-clause-grown
+returns-in_err-commit-clause-grown c =
+    subst (λ (d : Drafted). IsPrefix c.args.draft.now.nodes d.nodes) (sym c.in_err-commit.ensures.err)
+    (prefix_self c.args.draft.now.nodes)

@@ -1,8 +1,11 @@
-use Rattle.std.proofs.Common.{◌+◌, [], length, ap, ◌∙◌, sym}
+use Rattle.std.proofs.Common.{◌+◌, [], length, ap, ◌∙◌, sym, subst}
 use Rattle.map_chunks.specs.Drafts.{Drafted}
 use Rattle.replays.proofs.NewestLemmas.{snapshot_tip}
 use Rattle.map_chunks.proofs.DraftLemmas.{below-none}
 use Rattle.replays.proofs.BelowLemmas.{below-cons}
+use mathlib.Core.List.{IsPrefix}
+use Rattle.group_history.proofs.Lists.{prefix_trans}
+use Rattle.replays.proofs.BelowLemmas.{pushed_on}
 use Rattle.replays.proofs.tips.add_snapshot.Goals as goal
 
 pub returns-clause-spelled : goal.returns-clause-spelled
@@ -19,3 +22,18 @@ push-requires c =
       children = below-cons (new.first + length new.nodes) c.in_ok-root.root [] c.in_ok-root.ensures.below
           (below-none (new.first + length new.nodes));
     }
+
+pub returns-clause-grown : goal.returns-clause-grown
+returns-clause-grown c =
+    prefix_trans _ _ _ c.freeze.ensures.grown (pushed_on c.freeze.new.draft.nodes c.push.new.self.nodes _
+    (ap (λ (d : Drafted). d.nodes) c.in_ok-commit.ensures.ok)).0
+
+pub returns-clause-some : goal.returns-clause-some
+returns-clause-some c =
+    (pushed_on c.freeze.new.draft.nodes c.push.new.self.nodes _
+    (ap (λ (d : Drafted). d.nodes) c.in_ok-commit.ensures.ok)).1
+
+pub returns-in_err-commit-clause-grown : goal.returns-in_err-commit-clause-grown
+returns-in_err-commit-clause-grown c =
+    subst (λ (d : Drafted). IsPrefix c.args.draft.now.nodes d.nodes) (sym c.in_err-commit.ensures.err)
+    c.freeze.ensures.grown
