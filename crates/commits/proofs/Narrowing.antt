@@ -25,6 +25,22 @@ use Rattle.commits.proofs.Reached.{there_segment, reaches_stays, reaches_back, r
 use Rattle.commits.proofs.Reached.{child_there}
 use Rattle.commits.proofs.Rooted.{chunk_reaches, map_some_stays}
 
+-- one more: it is the one that is told, or else stands among the others, as the one that was told before does
+pub tops_more : (rs : List Ref) (t u : Tops) (at : Ref) → IsTops rs t → (u.top ≡ Some at) ⊎ (u.top ≡ t.top)
+    → t.second ≤ u.second → ((r : Ref) → t.top ≡ Some r → (u.top ≡ Some r) ⊎ (stamp_of r ≤ u.second))
+    → (u.top ≡ Some at) ⊎ (stamp_of at ≤ u.second) → IsTops (rs ++ at ∷ []) u
+tops_more rs t u at is which more before now = record {
+  one = λ r e. elim which [
+    | inl p ↦ (let same : at ≡ r = (let x : Some at ≡ Some r = sym p ∙ e in cc x) in
+        subst (Contains (rs ++ at ∷ [])) same (Contains-append_right rs (at ∷ []) at (one_here at)))
+    | inr p ↦ Contains-append_left rs (at ∷ []) r (is.one r (sym p ∙ e))
+  ];
+  others = λ r h. elim (Contains-append_cases rs (at ∷ []) r h) [
+    | inl p ↦ elim (is.others r p) [ inl e ↦ before r e | inr l ↦ inr (omega (arith, l, more)) ]
+    | inr q ↦ subst (λ (w : Ref). (u.top ≡ Some w) ⊎ (stamp_of w ≤ u.second)) (only_one at r q) now
+  ];
+}
+
 -- While a descent goes down from a root: what the root reaches is no newer than what was passed, or above the limit,
 -- or the chunk at hand reaches it.
 pub record IsNarrowed (first ns : Contents) (root at low limit : ℕ) : Type 0 where
