@@ -1,5 +1,6 @@
 -- A call that is begun anew where others were in its way.
 use Rattle.std.proofs.Common.{◌≡◌, ℕ, Bool, true, false, Option, Some, None, Result, Ok, Err, refl, sym, ap, subst, ◌∙◌}
+use Rattle.std.specs.Prelude.{IfErr}
 use mathlib.Core.List.{IsPrefix}
 use Rattle.group_history.specs.declared.changes.Change.{Change}
 use Rattle.group_history.specs.declared.refusals.Refusal.{Refusal}
@@ -22,6 +23,22 @@ passing_wants X refusal.Busy is = refl
 passing_wants X refusal.Gone is = refl
 passing_wants X e is = absurd (cc is)
 
+-- where it passes, the seat did not move the head
+pub left_alone : {X : Type 0} (means : Meanings) (tries : ℕ) (old new : Known) (reply : Result X Refusal)
+    (change : Result X Refusal → Option Change) (right : State → Result X Refusal)
+    → is_passing reply ≡ true → ((e : Refusal) → is_passing {X = X} (Err e) ≡ true → change (Err e) ≡ None)
+    → Answers means tries old new reply change right → own_moves new ≡ own_moves old
+left_alone means tries old new (Ok x) change right passes none is = absurd (cc passes)
+left_alone {X = X} means tries old new (Err e) change right passes none is =
+    let told = subst (λ (o : Option Change). IsRefused means tries old new (mute o) e o (λ s. right s ≡ Err e))
+    (none e passes) is in
+    (subst (λ (b : Bool). IsRefused means tries old new b e None (λ s. right s ≡ Err e))
+    (passing_wants X e passes) told).0
+  where
+    mute : Option Change → Bool
+    mute None = is_want e
+    mute (Some c) = false
+
 refused_anew : (X : Type 0) (means : Meanings) (tries more : ℕ) (old mid new : Known) (mute : Bool) (e : Refusal)
     (change : Option Change) (right : State → Type 0) → IsPrefix old.log mid.log → mid.seat ≡ old.seat
     → own_moves mid ≡ own_moves old
@@ -42,3 +59,20 @@ begun_anew means tries more old mid new (Ok x) change right pre seat same lasts 
 begun_anew {X = X} means tries more old mid new (Err e) change right pre seat same lasts is =
     refused_anew X means tries more old mid new (is_mute e (change (Err e))) e (change (Err e))
     (λ s. right s ≡ Err e) pre seat same lasts is
+
+-- an end of a pull that passes stands for no change
+pub passing_read : (ticket : Cookie) (a : Result Response Refusal) (e : Refusal) → is_passing {X = Ended} (Err e) ≡ true
+    → change_read ticket a (Err e) ≡ None
+passing_read ticket (Ok (response.Ok r)) e is = refl
+passing_read ticket (Ok response.StateNotFound) refusal.Moved is = refl
+passing_read ticket (Ok response.StateNotFound) refusal.Busy is = refl
+passing_read ticket (Ok response.StateNotFound) refusal.Gone is = refl
+passing_read ticket (Ok response.StateNotFound) e is = absurd (cc is)
+passing_read ticket (Ok (response.VersionNotSupported kind)) e is = refl
+passing_read ticket (Err w) e is = refl
+
+-- a reply that passes is a refusal
+pub passing_err : {X : Type 0} (reply : Result X Refusal) (P : Type 0) → is_passing reply ≡ true
+    → IfErr reply (λ _. P) → P
+passing_err (Ok x) P passes h = absurd (cc passes)
+passing_err (Err e) P passes h = h

@@ -1,5 +1,6 @@
 -- How a try of a change is answered.
-use Rattle.std.proofs.Common.{◌≡◌, ℕ, ◌+◌, ◌<◌, ◌^◌, Bool, true, false, List, Some, None, Result, Ok, Err, refl, sym}
+use Rattle.std.proofs.Common.{◌≡◌, ℕ, ◌+◌, ◌<◌, ◌≤◌, ◌^◌, Bool, true, false, List, Option, Some, None, Result, Ok, Err}
+use Rattle.std.proofs.Common.{refl, sym}
 use Rattle.std.proofs.Common.{ap, subst, ◌∙◌, arith}
 use Rattle.std.specs.Prelude.{nat_eq, if◌then◌else◌, IfOk, IfErr}
 use mathlib.Core.List.{IsPrefix}
@@ -20,10 +21,10 @@ use Rattle.group_history.specs.State.{State, last_id, view_of}
 use Rattle.group_history.proofs.Lists.{prefix_trans}
 use Rattle.head_word.specs.declared.entry.Entry.{Entry}
 use Rattle.head_word.specs.Books.{drawn, record_of}
-use Rattle.head_word.specs.Marks.{Known}
+use Rattle.head_word.specs.Marks.{Known, others}
 use Rattle.commits.specs.LastIds.{last_at}
 use Rattle.commits.specs.declared.states.LastId.{LastId}
-use Rattle.answered.specs.Answered.{IsPoint}
+use Rattle.answered.specs.Answered.{Answers, IsPoint, IsRefused, is_mute, own_moves}
 use Rattle.answered.proofs.Losing.{lost_to_others, point_since}
 use Rattle.rebase.specs.Queries.{told}
 use Rattle.rebase.specs.Inside.Arriving.{IsArrived}
@@ -109,3 +110,24 @@ try_answered means tries old seen mid new base first last c (Ok tried.Lost) a pr
 try_answered means tries old seen mid new base first last c
     (Err e) a pre seat more number is err = unmade means tries old seen mid new base first e (change_asked c)
     (λ (s : State). asked_reply means s last c) a refl err
+
+-- THE LATER PART OF A CALL
+
+refused_since : (means : Meanings) (tries : ℕ) (old mid new : Known) (mute : Bool) (e : Refusal)
+    (change : Option Change) (right : State → Type 0) → IsPrefix old.log mid.log → mid.seat ≡ old.seat
+    → own_moves mid ≡ own_moves old → others old ≤ others mid
+    → IsRefused means tries mid new mute e change right → IsRefused means tries old new mute e change right
+refused_since means tries old mid new true e change right pre seat same more is =
+    (is.0 ∙ same, λ moved. omega (arith, is.1 moved, more))
+refused_since means tries old mid new false e change right pre seat same more is =
+    (is.0, point_since means old mid new change is.0 pre seat same is.1, is.2)
+
+-- a call that is answered in its later part is answered, where the seat did not move the head in the earlier part
+pub answers_since : {X : Type 0} (means : Meanings) (tries : ℕ) (old mid new : Known) (reply : Result X Refusal)
+    (change : Result X Refusal → Option Change) (right : State → Result X Refusal)
+    → IsPrefix old.log mid.log → mid.seat ≡ old.seat → own_moves mid ≡ own_moves old → others old ≤ others mid
+    → Answers means tries mid new reply change right → Answers means tries old new reply change right
+answers_since means tries old mid new (Ok x) change right pre seat same more is =
+    (is.0, point_since means old mid new (change (Ok x)) is.0 pre seat same is.1, is.2)
+answers_since means tries old mid new (Err e) change right pre seat same more is = refused_since means tries old mid new
+    (is_mute e (change (Err e))) e (change (Err e)) (λ s. right s ≡ Err e) pre seat same more is

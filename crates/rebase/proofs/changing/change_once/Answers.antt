@@ -1,3 +1,4 @@
+use Rattle.group_history.proofs.Lists.{prefix_trans}
 use Rattle.group_history.specs.Record.{after}
 use Rattle.head_word.specs.Books.{record_of}
 use Rattle.rebase.proofs.Trying.{may_ask_grown, try_answered}
@@ -14,3 +15,6 @@ returns-clause-answer g c =
     try_answered means c.args.tries c.args.mark.now a.0 c.arrive.new.mark c.change_at-tried.new.mark c.in_ok-base.base
     c.in_ok-base.first c.args.before.id c.args.change.now c.change_at-tried.result a.1
     c.arrive.ensures.seen c.arrive.ensures.number e.seen e.number (e.tried s a.1.spelled) (e.err s a.1.spelled)
+
+pub returns-clause-seen : goal.returns-clause-seen
+returns-clause-seen g c = prefix_trans _ _ _ c.arrive.ensures.seen c.change_at-tried.ensures.seen

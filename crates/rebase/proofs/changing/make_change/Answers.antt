@@ -1,7 +1,9 @@
-use Rattle.rebase.proofs.Trying.{may_ask_grown}
+use Rattle.rebase.proofs.Trying.{answers_since, may_ask_grown}
 use Rattle.group_history.proofs.Lists.{prefix_trans}
-use Rattle.std.proofs.Common.{arith, Ok, Some, None, subst}
+use Rattle.std.proofs.Common.{arith, Ok, Err, Some, None, subst, ◌∙◌}
+use Rattle.std.proofs.lemmas.Result.{err_from_is_err_and}
 use Rattle.answered.proofs.Losing.{point_since}
+use Rattle.rebase.specs.Inside.Proposing.{asked_reply, change_asked}
 use Rattle.rebase.specs.declared.changing.Tried.{Tried}
 use Rattle.rebase.specs.Inside.Changing.{AnswersTry}
 use Rattle.rebase.proofs.changing.make_change.Goals as goal
@@ -48,4 +50,27 @@ returns-in-Same-clause-answer g c =
       point_since g.M.Means.means c.args.mark.now c.loop-tried.mark c.change_once.new.mark None
           is.0 v.2 v.1 v.3 is.1,
       is.2,
+    )
+
+pub returns-in_err-at-clause-answer : goal.returns-in_err-at-clause-answer
+returns-in_err-at-clause-answer g c =
+    let v = c.loop-tried.invariant in
+    let p = err_from_is_err_and c.from_residual.result c.from_residual.ensures.1 in
+    rw (p.1, p.2) (answers_since g.M.Means.means c.args.tries c.args.mark.now c.loop-tried.mark c.change_once.new.mark
+    (Err _) (change_asked c.args.change.now) (λ s. asked_reply g.M.Means.means s c.args.before.id c.args.change.now)
+    v.2 v.1 v.3 (omega (arith, v.4)) c.in_err-at.ensures.answer)
+
+pub loop-tried-preserved : goal.loop-tried-preserved
+loop-tried-preserved g c =
+    let v = c.loop-tried.invariant in let e = c.change_once.ensures in
+    let lost = subst (λ (t : Tried). AnswersTry g.M.Means.means c.args.tries c.loop-tried.mark c.change_once.new.mark
+    c.args.before.id c.args.change.now (Ok t)) c.in-Lost.is c.in_ok-at.ensures.answer in (
+      e.book ∙ v.0,
+      e.number ∙ v.1,
+      prefix_trans _ _ _ v.2 e.seen,
+      lost.0 ∙ v.3,
+      omega (arith, lost.1, v.4),
+      e.home,
+      λ r. (e.idle r).1,
+      λ _. e.idle,
     )

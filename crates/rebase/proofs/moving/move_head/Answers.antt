@@ -1,4 +1,5 @@
 use Rattle.std.proofs.Common.{◌≡◌, Some, sym, subst, ap, ◌∙◌}
+use Rattle.group_history.proofs.Lists.{prefix_trans}
 use Rattle.group_history.specs.declared.refs.Ref.{Ref}
 use Rattle.group_history.specs.Naming.{placed_ref}
 use Rattle.group_history.specs.Record.{after_change}
@@ -7,6 +8,7 @@ use Rattle.group_history.specs.Spelling.{version_of, Spells}
 use Rattle.group_history.specs.State.{State}
 use Rattle.head_word.specs.Books.{drawn}
 use Rattle.head_word.proofs.BookLaws.{spelled-stays}
+use Rattle.answered.specs.Answered.{own_moves}
 use Rattle.answered.specs.Trying.{Ends}
 use Rattle.answered.proofs.Losing.{point_since}
 use Rattle.publishing.proofs.Carrying.{placed-spelled}
@@ -61,3 +63,23 @@ returns-in-Ok-Won-clause-won g c s is =
       subst (λ (t : State). Spells means (drawn new.log) (stamp_of c.place_of-new.result)
           (after_change t change)) same later,
     )
+
+pub returns-in-Ok-Won-clause-seen : goal.returns-in-Ok-Won-clause-seen
+returns-in-Ok-Won-clause-seen g c = prefix_trans _ _ _ c.place_draft.ensures.seen c.exchange.ensures.seen
+
+pub returns-in-Ok-Lost-clause-seen : goal.returns-in-Ok-Lost-clause-seen
+returns-in-Ok-Lost-clause-seen g c = prefix_trans _ _ _ c.place_draft.ensures.seen c.exchange.ensures.seen
+
+pub returns-clause-seen : goal.returns-clause-seen
+returns-clause-seen g c = prefix_trans _ _ _ c.place_draft.ensures.seen c.exchange.ensures.seen
+
+pub returns-in-Ok-Lost-clause-lost : goal.returns-in-Ok-Lost-clause-lost
+returns-in-Ok-Lost-clause-lost g c =
+    let ends = subst (Ends g.M.Means.means c.place_draft.new.mark c.exchange.new.mark c.args.base c.args.change.now)
+    c.in-Ok-Lost.field-0-is c.in-Ok-Lost.ensures.ends in
+    (ends.0 ∙ c.place_draft.ensures.own, ends.1)
+
+pub returns-clause-err : goal.returns-clause-err
+returns-clause-err g c =
+    let is = c.in-Err.ensures.err in
+    (is.0, (ap own_moves is.2 ∙ c.place_draft.ensures.own, λ moved. absurd (is.1 moved)))
