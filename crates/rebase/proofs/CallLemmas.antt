@@ -305,7 +305,7 @@ mapped f shown (Ok x) (Err e) same is = absurd is
 mapped f shown (Err e) m same is = ap (told reply_seen) is
 
 -- a call, by the one that it is
-call_told : {X : Type 0} (f : X → Replied) (means : Meanings) (tries : ℕ) (old new : Known) (c : Caller) (x y : Call)
+pub call_told : {X : Type 0} (f : X → Replied) (means : Meanings) (tries : ℕ) (old new : Known) (c : Caller) (x y : Call)
     (r : Result X Refusal) (m : Result Replied Refusal) (change : Result X Refusal → Option Change)
     (right : State → Result X Refusal)
     → x ≡ y → m ≡ told f r → change_of c y (told f r) ≡ change r
@@ -315,6 +315,23 @@ call_told f means tries old new c x y r m change right is_call is_told same seen
     subst (λ z. Answers means tries old new m (change_of c z) (λ s. reply_to means c s z)) (sym is_call)
     (subst (λ w. Answers means tries old new w (change_of c y) (λ s. reply_to means c s y)) (sym is_told)
     (answers_told f means tries old new r change right (change_of c y) (λ s. reply_to means c s y) same seen is))
+
+told_twice : {X Y Z : Type 0} (f : Y → Z) (g : X → Y) (r : Result X Refusal)
+    → told (λ x. f (g x)) r ≡ told f (told g r)
+told_twice f g (Ok x) = refl
+told_twice f g (Err e) = refl
+
+-- of a query, whose answer is made a reply
+pub query_told : {X Y : Type 0} (f : X → Reply) (g : X → Y) (shown : Y → Replied) (means : Meanings) (tries : ℕ)
+    (old new : Known) (c : Caller) (x y : Call) (r : Result X Refusal) (m : Result Reply Refusal) (right : State → Y)
+    → x ≡ y → ((z : X) → reply_seen (f z) ≡ shown (g z))
+    → MatchResult r (λ z. IsOkAnd m (λ w. w ≡ f z)) (λ e. m ≡ Err e)
+    → change_of c y (told shown (told g r)) ≡ None → ((s : State) → reply_to means c s y ≡ Ok (shown (right s)))
+    → Answers means tries old new (told g r) nothing (λ s. Ok (right s))
+    → Answers means tries old new (told reply_seen m) (change_of c x) (λ s. reply_to means c s x)
+query_told f g shown means tries old new c x y r m right is_call same is_told none seen is =
+    call_told shown means tries old new c x y (told g r) (told reply_seen m) nothing (λ s. Ok (right s)) is_call
+    (mapped f (λ z. shown (g z)) r m same is_told ∙ told_twice shown g r) none seen is
 
 ended_shown : (r : Result Ended Refusal) → told ended_in (told ended r) ≡ r
 ended_shown (Ok e) = refl

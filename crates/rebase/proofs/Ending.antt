@@ -1,12 +1,10 @@
 -- How an end of a pull is answered.
-use Rattle.std.proofs.Common.{◌≡◌, ◌≢◌, inr, ℕ, Bool, true, false, List, [], ◌∷◌, length, Result, Ok, Err, refl, sym}
+use Rattle.std.proofs.Common.{◌≡◌, ◌≢◌, inr, ℕ, Bool, true, false, Result, Ok, Err, refl, sym}
 use Rattle.std.proofs.Common.{ap, subst, ◌∙◌}
 use Rattle.std.specs.Prelude.{if◌then◌else◌}
 use Rattle.std.specs.declared.cmp.Ordering.{Ordering}
 use Rattle.std.specs.declared.cmp.Ordering.TheVariants.{Less, Equal, Greater}
 use Rattle.group_history.specs.declared.changes.Change.{Change}
-use Rattle.group_history.specs.declared.changes.Change.TheVariants.{Mutated, Pulled, Closed}
-use Rattle.group_history.specs.declared.mutations.Mutation.{Mutation}
 use Rattle.group_history.specs.declared.refusals.Refusal.{Refusal}
 use Rattle.group_history.specs.declared.refusals.Refusal.TheVariants as refusal
 use Rattle.group_history.specs.declared.responses.Ended.{Ended}
@@ -15,14 +13,12 @@ use Rattle.group_history.specs.declared.responses.Response.TheVariants as respon
 use Rattle.group_history.specs.Cookies.{order_cmp}
 use Rattle.group_history.specs.Map.{Bytes, same_text}
 use Rattle.group_history.specs.Meaning.{Meanings}
-use Rattle.group_history.specs.Mutating.{open_reply}
 use Rattle.group_history.specs.Pull.{Pull}
 use Rattle.group_history.specs.Pulling.{by_order, end_at, end_reply, goes_back, says_nothing}
 use Rattle.group_history.specs.State.{State}
-use Rattle.reader_claims.specs.declared.slot.Kind.TheVariants as kind
 use Rattle.answered.specs.Trying.{IsUnproposed}
 use Rattle.rebase.specs.Queries.{told}
-use Rattle.rebase.specs.Inside.Proposing.{asked_reply, change_asked, closing_reply, is_applied, kind_left}
+use Rattle.rebase.specs.Inside.Proposing.{asked_reply, change_asked, is_applied}
 
 -- at an open one
 end_open : (s : State) (ticket : Bytes) (r : Pull) → s.closed ≡ false
