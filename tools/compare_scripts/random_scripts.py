@@ -196,7 +196,8 @@ class Scripts:
     def body(self):
         if self.chance(0.05):
             return self.pick(ODD_BODIES)
-        patch = ",".join(self.operation() for _ in range(self.pick((0, 50, 400) if self.is_wide else (0, 0, 1, 2, 5, 20))))
+        lengths = (0, 50, 400) if self.is_wide else (0, 0, 1, 2, 5, 20)
+        patch = ",".join(self.operation() for _ in range(self.pick(lengths)))
         fields = [
             f'"cookie":{self.cookie()}',
             f'"lastMutationIDChanges":{{{",".join(self.change() for _ in range(self.pick((0, 0, 0, 1, 2))))}}}',

@@ -2,8 +2,8 @@
 //!
 //! Readers take no lock; those who change wait for each other at one. Texts are shared, so that a copied node of a map
 //! copies counts alone. Left out: a mutator that fails after it has put something isn't undone, a client's last ID is
-//! the caller's to know, that another pull overtook this one, cookies with a field `order`, closing, and names that come
-//! twice in a response.
+//! the caller's to know, that another pull overtook this one, cookies with a field `order`, closing, and names that
+//! come twice in a response.
 use arc_swap::ArcSwap;
 use baselines::wire::{push_body, write_row, Change, Cookie, Response};
 use baselines::{run, Args, Group, Identity, Mutation, Refusal, Text, View};
