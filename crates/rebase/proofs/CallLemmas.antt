@@ -305,8 +305,8 @@ mapped f shown (Ok x) (Err e) same is = absurd is
 mapped f shown (Err e) m same is = ap (told reply_seen) is
 
 -- a call, by the one that it is
-pub call_told : {X : Type 0} (f : X → Replied) (means : Meanings) (tries : ℕ) (old new : Known) (c : Caller) (x y : Call)
-    (r : Result X Refusal) (m : Result Replied Refusal) (change : Result X Refusal → Option Change)
+pub call_told : {X : Type 0} (f : X → Replied) (means : Meanings) (tries : ℕ) (old new : Known) (c : Caller)
+    (x y : Call) (r : Result X Refusal) (m : Result Replied Refusal) (change : Result X Refusal → Option Change)
     (right : State → Result X Refusal)
     → x ≡ y → m ≡ told f r → change_of c y (told f r) ≡ change r
     → ((s : State) → reply_to means c s y ≡ told f (right s)) → Answers means tries old new r change right
