@@ -24,7 +24,9 @@ impl<'a> Nodes for Shelf<'a> {
 
     fn show_commit(&mut self, at: Ref) -> Result<LentCommit<'a>, Stop> {
         match self.nodes.at(at.stamp()) {
-            Some(Node::Commit(commit)) => Ok(LentCommit { commit }),
+            Some(Node::Commit(commit)) => Ok(LentCommit {
+                commit: commit.as_commit(),
+            }),
             Some(Node::Chunk(_)) => Err(Stop::Gone),
             None => Err(Stop::Gone),
         }

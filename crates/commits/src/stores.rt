@@ -77,7 +77,7 @@ impl<'a, M: Means> ShowsCommit for HeldCommit<'a, M> {
 
     fn commit(&self) -> &Commit<Ref> {
         match self.shown.value() {
-            Node::Commit(commit) => commit,
+            Node::Commit(commit) => commit.as_commit(),
             Node::Chunk(_) => unreachable!(),
         }
     }

@@ -33,7 +33,9 @@ pub use json::{Json, is_whole, nests_within, read_value};
 pub use laws::{record_laws, worked_examples};
 pub use mutations::{Mutation, Reason};
 pub use mutators::{Means, Mutators, Ran, Stop, WriteView};
-pub use nodes::{Child, Chunk, Commit, Inner, Keys, Kind, Leaf, Node, Over, Snapshot, Step};
+pub use nodes::{
+    BoxedCommit, Child, Chunk, Commit, Inner, Keys, Kind, Leaf, Node, Over, Snapshot, Step,
+};
 pub use plain::PlainGroup;
 pub use refs::{MAX_SEATS, MAX_SLOTS, Ref, STAMP_BITS, STAMPS};
 pub use refusals::Refusal;

@@ -2,7 +2,7 @@
 //!
 //! A node names its children by an `R`: by their `Ref`s where it lies in a slot, by places while it is
 //! drafted. What nodes spell together is in `specs/Spelling.antt`.
-ghost use Rattle.std.specs.Prelude.{◌≡◌, ◌≤◌, length};
+ghost use Rattle.std.specs.Prelude.{◌≡◌, ◌≤◌, IfOk, length, take};
 ghost use Rattle.std.specs.Arc.{arc_value};
 
 use crate::confirmed::ConfirmedIds;
@@ -11,31 +11,37 @@ use crate::json::Json;
 use crate::mutations::Mutation;
 use crate::refs::Ref;
 use crate::texts::Text;
+use std::alloc::{AllocError, Global};
 use std::marker::Model;
 use std::sync::Arc;
 
-/// The keys of a chunk: at most 16, in strict order of their bytes.
+/// How many keys a chunk has at most.
+const MOST: usize = 16;
+
+/// The keys of a chunk: at most 16, in strict order of their bytes. They lie in the value itself, behind their
+/// number, and the places behind them hold empty texts.
 pub struct Keys {
-    texts: Vec<Text>,
+    len: usize,
+    texts: [Text; MOST],
 }
 
 impl Drop for Keys {
     fn drop(self) {
-        let Keys { texts } = self;
+        let Keys { len: _, texts } = self;
         drop(texts);
     }
 }
 
 impl Model for Keys {
-    ghost use Rattle.std.specs.Prelude.{List};
+    ghost use Rattle.std.specs.Prelude.{◌≤◌, List, take};
     ghost use Rattle.group_history.specs.Map.{Bytes};
     ghost use Rattle.group_history.specs.Rows.{AreKeys};
 
     ghost Value = { List Bytes };
 
-    ghost view = { λ k. k.texts.items };
+    ghost view = { λ k. take k.len k.texts };
 
-    ghost invariant = { λ k. AreKeys k.texts.items };
+    ghost invariant = { λ k. (k.len ≤ 16) × AreKeys (take k.len k.texts) };
 }
 
 impl Keys {
@@ -45,15 +51,28 @@ impl Keys {
         requires { AreKeys texts.items }
         ensures { result ≡ texts.items }
     {
-        Keys { texts }
+        let mut given = texts;
+        let len = given.len();
+        let mut texts: [Text; MOST] = Default::default();
+        move_in(&mut texts, &mut given);
+        Keys { len, texts }
     }
 
     pub fn as_slice(&self) -> &[Text]
         ensures keys { result.now ≡ self.now }
         ensures order { AreKeys result.now }
     {
-        &self.texts
+        &self.texts[..self.len]
     }
+}
+
+/// Moves the texts to the first places, for what stands there.
+fn move_in(places: &mut [Text], texts: &mut [Text])
+    requires { length texts.old ≤ length places.old }
+    ensures front { take (length texts.old) places.new ≡ texts.old }
+    ensures len { length places.new ≡ length places.old }
+{
+    places[..texts.len()].swap_with_slice(texts);
 }
 
 /// A leaf of a map: at most 16 keys, and a value for each. Its keys may be shared with other leaves.
@@ -207,11 +226,46 @@ pub struct Commit<R> {
     pub kind: Kind<R>,
 }
 
+/// A commit behind a pointer: so a node takes no more room than a chunk needs, 48 bytes.
+#[derive(Drop)]
+pub struct BoxedCommit<R> {
+    pub(crate) inner: Box<Commit<R>>,
+}
+
+impl<R> Model for BoxedCommit<R> {
+    ghost use Rattle.std.specs.Coded.{codes};
+    ghost use Rattle.group_history.specs.State.{ids_coded};
+    ghost use Rattle.group_history.specs.declared.nodes.Commit.{Commit as Committed};
+
+    ghost Value = { Committed R };
+
+    ghost coded = { Prim.hlevel (codes, ids_coded) };
+
+    ghost view = { λ boxed. boxed.inner.value };
+}
+
+impl<R> BoxedCommit<R> {
+    pub fn new(alloc: Global, commit: Commit<R>) -> Result<BoxedCommit<R>, AllocError>
+    where
+        R: Drop,
+        ensures { IfOk result (λ boxed. boxed ≡ commit) }
+    {
+        let inner = Box::new(alloc, commit)?;
+        Ok(BoxedCommit { inner })
+    }
+
+    pub fn as_commit(&self) -> &Commit<R>
+        ensures { result.now ≡ self.now }
+    {
+        &self.inner
+    }
+}
+
 /// What lies in a slot, or is drafted to lie there.
 #[derive(Drop)]
 pub enum Node<R> {
     Chunk(Chunk<R>),
-    Commit(Commit<R>),
+    Commit(BoxedCommit<R>),
 }
 
 /// How a drafted node names a child.

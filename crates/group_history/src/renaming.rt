@@ -5,7 +5,7 @@
 ghost use Rattle.std.specs.Prelude.{◌≡◌, map};
 ghost use Rattle.group_history.specs.Naming.{placed_ref, renamed, renamed_chunk, renamed_commit, renamed_kind};
 
-use crate::nodes::{Chunk, Commit, Inner, Kind, Node, Over};
+use crate::nodes::{BoxedCommit, Chunk, Commit, Inner, Kind, Node};
 use crate::refs::Ref;
 
 impl Node<Ref> {
@@ -57,24 +57,29 @@ fn renamed_chunk(chunk: Chunk<Ref>, from: u64, refs: &[Ref]) -> Chunk<Ref>
     }
 }
 
-fn renamed_kind(kind: Kind<Ref>, from: u64, refs: &[Ref]) -> Kind<Ref>
-    ensures { result ≡ renamed_kind (placed_ref from refs.now) kind }
+fn rename_kind(kind: &mut Kind<Ref>, from: u64, refs: &[Ref])
+    ensures { kind.new ≡ renamed_kind (placed_ref from refs.now) kind.old }
 {
     match kind {
-        Kind::Snapshot(snapshot) => Kind::Snapshot(snapshot),
-        Kind::Over(over) => Kind::Over(Over {
-            basis: renamed_ref(over.basis, from, refs),
-            snapshot: renamed_ref(over.snapshot, from, refs),
-            step: over.step,
-        }),
+        Kind::Snapshot(_) => {}
+        Kind::Over(over) => {
+            over.basis = renamed_ref(over.basis, from, refs);
+            over.snapshot = renamed_ref(over.snapshot, from, refs);
+        }
     }
 }
 
-fn renamed_commit(commit: Commit<Ref>, from: u64, refs: &[Ref]) -> Commit<Ref>
+fn rename_commit(commit: &mut Commit<Ref>, from: u64, refs: &[Ref])
+    ensures { commit.new ≡ renamed_commit (placed_ref from refs.now) commit.old }
+{
+    commit.root = renamed_ref(commit.root, from, refs);
+    rename_kind(&mut commit.kind, from, refs);
+}
+
+fn renamed_commit(commit: BoxedCommit<Ref>, from: u64, refs: &[Ref]) -> BoxedCommit<Ref>
     ensures { result ≡ renamed_commit (placed_ref from refs.now) commit }
 {
-    Commit {
-        root: renamed_ref(commit.root, from, refs),
-        kind: renamed_kind(commit.kind, from, refs),
-    }
+    let mut commit = commit;
+    rename_commit(&mut commit.inner, from, refs);
+    commit
 }

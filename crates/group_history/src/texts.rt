@@ -3,7 +3,7 @@
 //! Contracts see a `Text` as the list of its UTF-8 bytes, so two texts are equal where their bytes are,
 //! and they are ordered by their bytes. How a text is kept goes by its length alone: a short one lies in the
 //! `Text`, a middling one in one shared block, and a long one is a shared `String`.
-ghost use Rattle.std.specs.Prelude.{◌≡◌, ◌≤◌, length, Some, IfOk, nat_eq, string_bytes};
+ghost use Rattle.std.specs.Prelude.{◌≡◌, ◌≤◌, [], length, Some, IfOk, nat_eq, string_bytes};
 ghost use Rattle.std.specs.Cmp as laws;
 ghost use Rattle.std.specs.Cmp.Lexicographic.{slice_cmp, pointwise, texts_ties, texts_po};
 ghost use Rattle.std.specs.Cmp.Lexicographic.{nat_list_eq_equiv, nat_list_cmp_total};
@@ -98,6 +98,17 @@ impl Text {
             Kept::Short(short) => short.as_str(),
             Kept::Middling(middling) => middling.as_str(),
             Kept::Long(long) => long.as_str(),
+        }
+    }
+}
+
+/// The empty text. Takes no memory.
+impl Default for Text {
+    ghost is_default = { λ t. t ≡ [] };
+
+    fn default() -> Text {
+        Text {
+            kept: Kept::Short(Packed::new("")),
         }
     }
 }

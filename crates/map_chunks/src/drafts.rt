@@ -5,12 +5,13 @@
 //! each bears the slot 0.
 ghost use Rattle.std.specs.Prelude.{◌≡◌, ◌+◌, ◌⊎◌, ◌≤◌, ◌++◌, [], ◌∷◌, length, IfOk, IfErr, OnOk, OnErr, IfSome};
 ghost use Rattle.std.specs.Prelude.{IfNone, take, ◌<◌};
-ghost use Rattle.group_history.specs.Naming.{children};
+ghost use Rattle.group_history.specs.Naming.{children, commit_children};
 ghost use Rattle.group_history.specs.Refs.{stamps, stamp_of, slot_of};
+ghost use Rattle.group_history.specs.declared.nodes.Node.TheVariants as node;
 ghost use Rattle.group_history.specs.declared.refusals.Refusal.TheVariants as refusal;
 ghost use Rattle.map_chunks.specs.Drafts.{AreBelow, AreOrdered};
 
-use group_history::{Node, Ref, Refusal, STAMPS};
+use group_history::{BoxedCommit, Commit, Node, Ref, Refusal, STAMPS};
 use std::alloc::Global;
 use std::marker::Model;
 
@@ -75,6 +76,23 @@ impl Draft {
         };
         self.nodes.push(node)?;
         Ok(Ref::new(stamp, 0))
+    }
+
+    /// Appends a commit, as `push` does.
+    pub fn push_commit(&mut self, commit: Commit<Ref>) -> Result<Ref, Refusal>
+        requires children { AreBelow (self.old.first + length self.old.nodes) (commit_children commit) }
+        ensures stamp { IfOk result (λ at. (stamp_of at ≡ self.old.first + length self.old.nodes) × (slot_of at ≡ 0)) }
+        ensures ok { OnOk result (self.new ≡ record {
+          first = self.old.first;
+          nodes = self.old.nodes
+              ++ node.Commit commit ∷ [];
+        }) }
+        ensures err { OnErr result (self.new ≡ self.old) }
+        ensures why { IfErr result (λ e. (e ≡ refusal.NoMemory)
+            ⊎ ((e ≡ refusal.Stamps) × (stamps ≤ self.old.first + length self.old.nodes))) }
+    {
+        let commit = BoxedCommit::new(*self.nodes.allocator(), commit)?;
+        self.push(Node::Commit(commit))
     }
 
     /// Forgets the nodes from the place `len` on.

@@ -55,10 +55,10 @@ fn add_over(draft: &mut Draft, basis: Tip, root: Ref, step: Step) -> Result<Tip,
         snapshot,
         step,
     };
-    let commit = draft.push(Node::Commit(Commit {
+    let commit = draft.push_commit(Commit {
         root,
         kind: Kind::Over(over),
-    }))?;
+    })?;
     Ok(Tip {
         commit,
         snapshot,
@@ -128,7 +128,7 @@ pub fn add_snapshot(
 {
     let root = tree.freeze(alloc, draft)?;
     let kind = Kind::Snapshot(Snapshot { cookie, confirmed });
-    let commit = draft.push(Node::Commit(Commit { root, kind }))?;
+    let commit = draft.push_commit(Commit { root, kind })?;
     Ok(Tip {
         commit,
         snapshot: commit,
@@ -155,6 +155,6 @@ pub fn add_opening(alloc: Global, draft: &mut Draft) -> Result<Ref, Refusal>
     let cookie = Cookie::null(alloc)?;
     let confirmed = ConfirmedIds::new(alloc, TextMap::new(alloc))?;
     let kind = Kind::Snapshot(Snapshot { cookie, confirmed });
-    let head = draft.push(Node::Commit(Commit { root, kind }))?;
+    let head = draft.push_commit(Commit { root, kind })?;
     Ok(head)
 }

@@ -22,8 +22,8 @@ use commits::{
     read_root, state_of, walk,
 };
 use group_history::{
-    Chunk, Commit, ConfirmedIds, Cookie, Inner, Json, Keys, Kind, Leaf, Mutation, Node, Over, Ref,
-    Refusal, Snapshot, Step, Text, TextMap,
+    BoxedCommit, Chunk, Commit, ConfirmedIds, Cookie, Inner, Json, Keys, Kind, Leaf, Mutation,
+    Node, Over, Ref, Refusal, Snapshot, Step, Text, TextMap,
 };
 use std::alloc::{AllocError, Global};
 use std::prelude::*;
@@ -93,7 +93,8 @@ fn with_snapshot(alloc: Global, nodes: VecNodes, id: u64, root: Ref) -> Result<V
         × (after ≡ nodes ++ node.Commit (record { root = root; kind = kind.Snapshot s }) ∷ [])) }
 {
     let kind = Kind::Snapshot(snapshot(alloc, id)?);
-    let after = with(alloc, nodes, Node::Commit(Commit { root, kind }))?;
+    let commit = BoxedCommit::new(alloc, Commit { root, kind })?;
+    let after = with(alloc, nodes, Node::Commit(commit))?;
     Ok(after)
 }
 
@@ -127,10 +128,8 @@ fn with_over(
         snapshot,
         step,
     };
-    let commit = Commit {
-        root,
-        kind: Kind::Over(over),
-    };
+    let kind = Kind::Over(over);
+    let commit = BoxedCommit::new(alloc, Commit { root, kind })?;
     let after = with(alloc, nodes, Node::Commit(commit))?;
     Ok(after)
 }

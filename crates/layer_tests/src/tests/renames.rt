@@ -1,6 +1,6 @@
 //! Drafted nodes whose children are named as they were placed.
 use super::chains::{at, inner};
-use group_history::{Chunk, Commit, Kind, Node, Over, Ref, Refusal, Step};
+use group_history::{BoxedCommit, Chunk, Commit, Kind, Node, Over, Ref, Refusal, Step};
 use std::alloc::Global;
 use std::prelude::*;
 
@@ -24,24 +24,28 @@ fn chunk_is_renamed(alloc: Global) -> Result<bool, Refusal> {
 }
 
 /// A closing over the placed commit 0, with the drafted root 1 and the drafted snapshot 2.
-fn closing() -> Node<Ref> {
+fn closing(alloc: Global) -> Result<Node<Ref>, Refusal> {
     let over = Over {
         basis: at(0),
         snapshot: at(2),
         step: Step::Closed,
     };
-    Node::Commit(Commit {
+    let commit = Commit {
         root: at(1),
         kind: Kind::Over(over),
-    })
+    };
+    Ok(Node::Commit(BoxedCommit::new(alloc, commit)?))
 }
 
 fn names(node: &Node<Ref>) -> Option<[Ref; 3]> {
     match node {
-        Node::Commit(commit) => match &commit.kind {
-            Kind::Over(over) => Some([commit.root, over.basis, over.snapshot]),
-            Kind::Snapshot(_) => None,
-        },
+        Node::Commit(commit) => {
+            let commit = commit.as_commit();
+            match &commit.kind {
+                Kind::Over(over) => Some([commit.root, over.basis, over.snapshot]),
+                Kind::Snapshot(_) => None,
+            }
+        }
         Node::Chunk(_) => None,
     }
 }
@@ -50,7 +54,7 @@ fn names(node: &Node<Ref>) -> Option<[Ref; 3]> {
 fn drafted_children_are_renamed(rt: HostRuntime) -> Result<(), Refusal> {
     assert!(rt; chunk_is_renamed(rt.alloc())?);
     assert_eq!(rt;
-        names(&closing().renamed(1, &placed())),
+        names(&closing(rt.alloc())?.renamed(1, &placed())),
         Some([Ref::new(50, 7), at(0), Ref::new(51, 8)])
     );
     Ok(())

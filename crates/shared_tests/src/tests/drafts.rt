@@ -14,7 +14,8 @@ use answered::Published;
 use chunk_slots::{Append, Arena, Store};
 use commits::{Shared, StoreNodes, read_root};
 use group_history::{
-    Chunk, Commit, ConfirmedIds, Cookie, Kind as Kinds, Node, Ref, Refusal, Snapshot, Stop, TextMap,
+    BoxedCommit, Chunk, Commit, ConfirmedIds, Cookie, Kind as Kinds, Node, Ref, Refusal, Snapshot,
+    Stop, TextMap,
 };
 use head_word::Mark;
 use map_chunks::Draft;
@@ -26,13 +27,14 @@ use std::alloc::Global;
 fn bare_over(alloc: Global, cookie: &Cookie, root: Ref) -> Result<Node<Ref>, Refusal>
     ensures { IfOk result (λ node. node ≡ bare cookie.now root) }
 {
-    Ok(Node::Commit(Commit {
+    let commit = Commit {
         root,
         kind: Kinds::Snapshot(Snapshot {
             cookie: cookie.clone()?,
             confirmed: ConfirmedIds::new(alloc, TextMap::new(alloc))?,
         }),
-    }))
+    };
+    Ok(Node::Commit(BoxedCommit::new(alloc, commit)?))
 }
 
 // The draft of a first pull that brings this cookie alone.

@@ -10,8 +10,8 @@ ghost use Rattle.chunk_slots.specs.Contents.{IsContent};
 ghost use Rattle.shared_tests.specs.Trials.{bare, bare_pull, SpellsBare};
 
 use group_history::{
-    Change, Commit, ConfirmedIds, Cookie, Kind, Means, Node, PullOk, Ref, Refusal, STAMPS,
-    Snapshot, TextMap, cookie_cmp, nests_within, read_value,
+    BoxedCommit, Change, Commit, ConfirmedIds, Cookie, Kind, Means, Node, PullOk, Ref, Refusal,
+    STAMPS, Snapshot, TextMap, cookie_cmp, nests_within, read_value,
 };
 use head_word::{Head, Lost, Mark, Moved, book_laws, one_record};
 use serde_json::Value;
@@ -82,13 +82,14 @@ pub(super) fn first_cookie(alloc: Global) -> Result<Cookie, Refusal> {
 pub(super) fn bare_snapshot(alloc: Global, cookie: &Cookie) -> Result<Node<Ref>, Refusal>
     ensures { IfOk result (λ node. node ≡ bare cookie.now (record { bits = 7 })) }
 {
-    Ok(Node::Commit(Commit {
+    let commit = Commit {
         root: Ref::new(0, 7),
         kind: Kind::Snapshot(Snapshot {
             cookie: cookie.clone()?,
             confirmed: ConfirmedIds::new(alloc, TextMap::new(alloc))?,
         }),
-    }))
+    };
+    Ok(Node::Commit(BoxedCommit::new(alloc, commit)?))
 }
 
 // Drafts the snapshot of a pull that brings this cookie alone.

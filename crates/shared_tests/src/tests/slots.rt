@@ -22,6 +22,9 @@ use std::thread::{Threads, join};
 
 const _: () = prove!(size_of::<Counted<Option<Placed<Nobody>>>>() == 32);
 
+// A commit lies behind a pointer, so that a node is as small as a chunk.
+const _: () = prove!(size_of::<Node<Ref>>() == 48);
+
 pub(super) fn empty(alloc: Global) -> Result<Leaf, Refusal>
     ensures { IfOk result (λ leaf. leaf ≡ []) }
 {
@@ -79,17 +82,19 @@ fn shows<S: Store<Nobody>>(store: &S, slot: u32, stamp: u64) -> Result<bool, Mis
     Ok(is_leaf)
 }
 
+fn snapshot_root(commit: &Commit<Ref>) -> Option<Ref> {
+    match &commit.kind {
+        Kinds::Snapshot(_) => Some(commit.root),
+        Kinds::Over(_) => None,
+    }
+}
+
 // The root of the snapshot that is shown.
 fn shows_root<S: Store<Nobody>>(store: &S, at: Ref) -> Result<Option<Ref>, Missed> {
     let shown = store.show(at.slot(), at.stamp(), 100)?;
     let root = match shown.value() {
-        Node::Commit(
-            Commit {
-                root,
-                kind: Kinds::Snapshot(_),
-            },
-        ) => Some(*root),
-        _ => None,
+        Node::Commit(commit) => snapshot_root(commit.as_commit()),
+        Node::Chunk(_) => None,
     };
     shown.leave();
     Ok(root)

@@ -12,7 +12,7 @@ pub returns-clause-spelled : goal.returns-clause-spelled
 returns-clause-spelled c =
     let leaf = node.Chunk (Leaf c.in_ok-empty_leaf.field-0) in
     let one = c.push.new.self.nodes in
-    opening_tip one c.push-2.new.self.nodes leaf c.in_ok-root.root c.in_ok-head.head c.in_ok-cookie.cookie
+    opening_tip one c.push_commit.new.self.nodes leaf c.in_ok-root.root c.in_ok-head.head c.in_ok-cookie.cookie
     c.in_ok-confirmed.confirmed
     (ap (λ (d : Drafted). d.nodes) c.in_ok-root.ensures.ok ∙ ap (λ (d : Drafted). d.nodes ++ leaf ∷ []) c.requires)
     (ap (λ (rows : Rows). node.Chunk (Leaf rows)) c.in_ok-empty_leaf.ensures)
@@ -25,8 +25,8 @@ returns-clause-spelled c =
 pub push-requires : goal.push-requires
 push-requires c = record { children = below-none (c.args.draft.now.first + length c.args.draft.now.nodes) }
 
-pub push-requires-2 : goal.push-requires-2
-push-requires-2 c =
+pub push_commit-requires : goal.push_commit-requires
+push_commit-requires c =
     let old = c.args.draft.now in let new = c.push.new.self in
     let root = pushed-below old new (node.Chunk (Leaf c.in_ok-empty_leaf.field-0)) c.in_ok-root.root
     c.in_ok-root.ensures.ok c.in_ok-root.ensures.stamp.0 in

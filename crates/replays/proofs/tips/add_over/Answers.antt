@@ -8,21 +8,21 @@ use Rattle.replays.proofs.tips.add_over.Goals as goal
 
 pub returns-clause-spelled : goal.returns-clause-spelled
 returns-clause-spelled c contents v m l b s is_open h =
-    over_tip contents c.args.draft.now.nodes c.push.new.self.nodes c.args.draft.now.first c.args.basis c.args.root
-    c.in_ok-commit.commit c.args.step v m l
+    over_tip contents c.args.draft.now.nodes c.push_commit.new.self.nodes c.args.draft.now.first c.args.basis
+    c.args.root c.in_ok-commit.commit c.args.step v m l
     (ap (λ (d : Drafted). d.nodes) c.in_ok-commit.ensures.ok) c.in_ok-commit.ensures.stamp.0 b s is_open h
 
-pub push-requires : goal.push-requires
-push-requires c = record { children = c.requires.below }
+pub push_commit-requires : goal.push_commit-requires
+push_commit-requires c = record { children = c.requires.below }
 
 pub returns-clause-grown : goal.returns-clause-grown
 returns-clause-grown c =
-    (pushed_on c.args.draft.now.nodes c.push.new.self.nodes _
+    (pushed_on c.args.draft.now.nodes c.push_commit.new.self.nodes _
     (ap (λ (d : Drafted). d.nodes) c.in_ok-commit.ensures.ok)).0
 
 pub returns-clause-some : goal.returns-clause-some
 returns-clause-some c =
-    (pushed_on c.args.draft.now.nodes c.push.new.self.nodes _
+    (pushed_on c.args.draft.now.nodes c.push_commit.new.self.nodes _
     (ap (λ (d : Drafted). d.nodes) c.in_ok-commit.ensures.ok)).1
 
 pub returns-in_err-commit-clause-grown : goal.returns-in_err-commit-clause-grown

@@ -10,13 +10,13 @@ use Rattle.replays.proofs.tips.add_snapshot.Goals as goal
 
 pub returns-clause-spelled : goal.returns-clause-spelled
 returns-clause-spelled c contents m l h =
-    snapshot_tip contents c.freeze.new.draft.nodes c.push.new.self.nodes c.freeze.new.draft.first c.in_ok-root.root
-    c.in_ok-commit.commit c.args.cookie c.args.confirmed m (l ∙ sym c.freeze.ensures.first)
+    snapshot_tip contents c.freeze.new.draft.nodes c.push_commit.new.self.nodes c.freeze.new.draft.first
+    c.in_ok-root.root c.in_ok-commit.commit c.args.cookie c.args.confirmed m (l ∙ sym c.freeze.ensures.first)
     (ap (λ (d : Drafted). d.nodes) c.in_ok-commit.ensures.ok) c.in_ok-commit.ensures.stamp.0
     (c.in_ok-root.ensures.spelled contents m l h)
 
-pub push-requires : goal.push-requires
-push-requires c =
+pub push_commit-requires : goal.push_commit-requires
+push_commit-requires c =
     let new = c.freeze.new.draft in
     record {
       children = below-cons (new.first + length new.nodes) c.in_ok-root.root [] c.in_ok-root.ensures.below
@@ -25,12 +25,12 @@ push-requires c =
 
 pub returns-clause-grown : goal.returns-clause-grown
 returns-clause-grown c =
-    prefix_trans _ _ _ c.freeze.ensures.grown (pushed_on c.freeze.new.draft.nodes c.push.new.self.nodes _
+    prefix_trans _ _ _ c.freeze.ensures.grown (pushed_on c.freeze.new.draft.nodes c.push_commit.new.self.nodes _
     (ap (λ (d : Drafted). d.nodes) c.in_ok-commit.ensures.ok)).0
 
 pub returns-clause-some : goal.returns-clause-some
 returns-clause-some c =
-    (pushed_on c.freeze.new.draft.nodes c.push.new.self.nodes _
+    (pushed_on c.freeze.new.draft.nodes c.push_commit.new.self.nodes _
     (ap (λ (d : Drafted). d.nodes) c.in_ok-commit.ensures.ok)).1
 
 pub returns-in_err-commit-clause-grown : goal.returns-in_err-commit-clause-grown
