@@ -1,6 +1,7 @@
 -- What a watch has told: rows that are the same one by one are equal, and a root's rows stay.
 use Rattle.std.proofs.Common.{◌≡◌, ◌⊎◌, inl, inr, ℕ, ◌&&◌, Bool, true, false, List, Option, None, Some, Result, Ok, Err}
 use Rattle.std.proofs.Common.{IfOk, IfErr, if◌then◌else◌, refl, sym, ap, ◌∙◌, subst}
+use Rattle.std.specs.Prelude.{IfNone, IfSome}
 use Rattle.std.specs.Bool.{Decides}
 use Rattle.std.specs.Cmp.Lexicographic.{pointwise_decides, bytes_decides}
 use Rattle.std.proofs.lemmas.Bool.{and_from}
@@ -20,7 +21,7 @@ use Rattle.head_word.specs.Marks.{Known}
 use Rattle.head_word.proofs.BookLaws.{drawn_begins}
 use Rattle.commits.proofs.Spelled.{map-grown}
 use Rattle.answered.specs.Answered.{Answers, IsPoint, IsRefused, nothing, own_moves}
-use Rattle.rebase.specs.Queries.{IsMissed}
+use Rattle.rebase.specs.Queries.{IsMissed, gave}
 use Rattle.rebase.proofs.CallLemmas.{missing}
 use Rattle.rebase.specs.declared.watching.Polled.{Polled}
 use Rattle.rebase.specs.declared.watching.Polled.TheVariants as polled
@@ -45,6 +46,10 @@ both false b h = absurd cc
 
 pair_is : (x y : Bytes × Bytes) → x.0 ≡ y.0 → x.1 ≡ y.1 → x ≡ y
 pair_is (a, b) (c, d) p q = ap (λ (z : Bytes). (z, b)) p ∙ ap (λ (z : Bytes). (c, z)) q
+
+-- rows with the same key and the same value are equal
+pub same_row : (x y : Bytes × Bytes) → same_bytes x.0 y.0 ≡ true → same_bytes x.1 y.1 ≡ true → x ≡ y
+same_row x y key value = pair_is x y ((bytes_decides x.0 y.0).0 key) ((bytes_decides x.1 y.1).0 value)
 
 row_decides : (x y : Bytes × Bytes) → Decides (same_bytes x.0 y.0 && same_bytes x.1 y.1) (x ≡ y)
 row_decides x y = (
@@ -77,6 +82,39 @@ pub polled_at : (reused : Type 0) (means : Meanings) (tries : ℕ) (old new : Kn
     → Answers means tries old new r nothing (λ s. Ok (right s))
 polled_at reused means tries old new log (Ok polled) right p ok err = (log, p, ap Ok (sym ok))
 polled_at reused means tries old new log (Err e) right p ok err =
+    let want = missing reused e err in
+    subst (λ b. IsRefused means tries old new b e None (λ s. Ok (right s) ≡ Err e)) (sym want.0)
+    (p.moves ∙ append-nil (own_moves old), λ moved. absurd (want.1 moved))
+
+-- what holds of what there is, and where there is none
+pub if_some : {A : Type 0} {P Q : A → Type 0} (o : Option A) → ((x : A) → P x → Q x) → IfSome o P → IfSome o Q
+if_some None f h = h
+if_some (Some x) f h = f x h
+
+pub if_none : {A P Q : Type 0} (o : Option A) → (P → Q) → IfNone o P → IfNone o Q
+if_none None f h = f h
+if_none (Some x) f h = h
+
+pub none_of : {A P : Type 0} (o : Option A) → o ≡ None → IfNone o P → P
+none_of None is h = h
+none_of (Some x) is h = absurd (cc is)
+
+-- a call that was refused before it looked has made no change
+pub missed_at : {X : Type 0} (reused : Type 0) (means : Meanings) (tries : ℕ) (old new : Known) (e : Refusal)
+    (right : State → X) → IsMissed reused e → own_moves new ≡ own_moves old
+    → Answers means tries old new (Err e) nothing (λ s. Ok (right s))
+missed_at reused means tries old new e right missed left =
+    let want = missing reused e (inr missed) in
+    subst (λ b. IsRefused means tries old new b e None (λ s. Ok (right s) ≡ Err e)) (sym want.0)
+    (left, λ moved. absurd (want.1 moved))
+
+-- what a sink got at a point is right there
+pub given_at : {X : Type 0} (reused : Type 0) (means : Meanings) (tries : ℕ) (old new : Known) (log : List Entry)
+    (r : Result X Refusal) (right : State → Rows) → IsPoint means old new None log
+    → IfErr r (λ e. (e ≡ refusal.NoMemory) ⊎ IsMissed reused e)
+    → Answers means tries old new (gave (right (after (record_of log))) r) nothing (λ s. Ok (right s))
+given_at reused means tries old new log (Ok done) right p err = (log, p, refl)
+given_at reused means tries old new log (Err e) right p err =
     let want = missing reused e err in
     subst (λ b. IsRefused means tries old new b e None (λ s. Ok (right s) ≡ Err e)) (sym want.0)
     (p.moves ∙ append-nil (own_moves old), λ moved. absurd (want.1 moved))

@@ -2,6 +2,7 @@
 use Rattle.std.specs.Prelude.{ℕ, ◌≡◌, ◌⊎◌, Result, Ok, Err}
 use Rattle.group_history.specs.Cookies.{Cookie}
 use Rattle.group_history.specs.Map.{Bytes}
+use Rattle.group_history.specs.Rows.{Rows}
 use Rattle.group_history.specs.State.{State}
 use Rattle.group_history.specs.declared.refusals.Refusal.{Refusal}
 use Rattle.group_history.specs.declared.refusals.Refusal.TheVariants.{Busy, Gone}
@@ -24,6 +25,11 @@ IsHeld v = (e : ℕ) × (v.pin ≡ Held e)
 abbrev pub told : {X Y : Type 0} → (X → Y) → Result X Refusal → Result Y Refusal
 told f (Ok x) = Ok (f x)
 told f (Err e) = Err e
+
+-- what a reply tells that gave these rows to a sink
+abbrev pub gave : {X : Type 0} → Rows → Result X Refusal → Result Rows Refusal
+gave rows (Ok done) = Ok rows
+gave rows (Err e) = Err e
 
 -- what a pull asks for: all that came after this cookie, by a request with this body
 pub record Asked : Type 0 where

@@ -5,17 +5,20 @@
 ghost use Rattle.std.specs.Prelude.{◌≡◌, ◌⊎◌, ◌+◌, ◌<◌, ◌^◌, [], Ok, Some, None, IsSome, IfOk, IfErr, OnOk};
 ghost use mathlib.Core.List.{IsPrefix};
 ghost use Rattle.group_history.specs.declared.refusals.Refusal.TheVariants.{NoMemory, Busy};
+ghost use Rattle.group_history.specs.Queries.{rows_at};
 ghost use Rattle.group_history.specs.Record.{after};
 ghost use Rattle.group_history.specs.Refs.{stamp_of};
+ghost use Rattle.group_history.specs.Rows.{Rows};
 ghost use Rattle.group_history.specs.State.{last_id};
 ghost use Rattle.head_word.specs.Books.{drawn, record_of};
 ghost use Rattle.head_word.specs.Marks.{known};
 ghost use Rattle.reader_claims.specs.declared.words.Pin.TheVariants.{Absent};
+ghost use Rattle.map_chunks.specs.Sinks.{HasMore};
 ghost use Rattle.chunk_slots.specs.Seats.{IsIdle};
 ghost use Rattle.push_body.specs.Bodies.{pull_text, push_text};
 ghost use Rattle.answered.specs.Answered.{Answers, IsAnswered, IsLeft, IsPoint, own_moves, nothing};
 ghost use Rattle.answered.specs.Trying.{IsBase};
-ghost use Rattle.rebase.specs.Queries.{IsHeld, IsMissed, asked, asked_at, told};
+ghost use Rattle.rebase.specs.Queries.{IsHeld, IsMissed, asked, asked_at, gave, told};
 ghost use Rattle.commits.specs.LastIds.{last_at};
 ghost use Rattle.uuid.specs.Text.{hyphenated_text, lower};
 
@@ -28,10 +31,11 @@ use crate::tickets::Ticket;
 use crate::views::{cookie_at, root_at};
 use chunk_slots::Slots;
 use commits::LastId;
-use group_history::{Cookie, Means, Ref, Refusal, Text};
+use group_history::{Cookie, Means, Ref, Refusal, Scan, Text};
 use head_word::Mark;
 use push_body::{Identity, pull_bytes};
 use std::alloc::{AllocError, Global};
+use transactions::TakesRows;
 use uuid::Uuid;
 
 /// A client: its seat at the group, its ID, and its own last id.
@@ -208,6 +212,33 @@ where
     {
         let at = self.point(tries)?;
         Ok(ReadTx::new(self, at, tries))
+    }
+
+    /// Gives the pairs that the scan asks for to the sink, in the order of their keys, each by reference. After
+    /// an `Err` the sink may have some of them.
+    pub fn scan_into<T: TakesRows>(
+        &mut self,
+        scan: &Scan,
+        sink: &mut T,
+        tries: u32,
+    ) -> Result<(), Refusal>
+        ensures answer { (rows : Rows) × Answers M.means tries self.old.mark self.new.mark (gave rows result) nothing
+            (λ s. Ok (rows_at M.means s scan.now)) × OnOk result (HasMore T.has sink.old sink.new rows) }
+        ensures err { IfErr result (λ e. (e ≡ NoMemory) ⊎ IsMissed S.reused e) }
+        ensures idle { S.reused → IsIdle (S.view self.new.slots) }
+        ensures seen { IsPrefix self.old.mark.log self.new.mark.log }
+        ensures seat { (self.new.mark.book ≡ self.old.mark.book) × (self.new.mark.seat ≡ self.old.mark.seat) }
+        ensures same { (self.new.group.now ≡ self.old.group.now) × (self.new.id ≡ self.old.id)
+            × (self.new.last ≡ self.old.last) }
+    {
+        match self.point(tries) {
+            Ok(at) => {
+                let given = at.scan_into(self.group, scan, tries, sink);
+                self.finish();
+                given
+            }
+            Err(e) => Err(e),
+        }
     }
 
     /// Gives the client up, and hands its seat back. Takes no memory.

@@ -8,6 +8,7 @@
 #![tactic(auto)]
 
 mod answering;
+mod beside;
 mod calls;
 mod changes;
 mod changing;

@@ -104,6 +104,23 @@ impl<M: Means> Point<M> {
         Ok(tx.scan(scan)?)
     }
 
+    // Gives the rows of a scan there to a sink.
+    pub(crate) fn scan_into<S: Slots<M>, T: TakesRows>(
+        &self,
+        group: &Group<M, S>,
+        scan: &Scan,
+        tries: u32,
+        sink: &mut T,
+    ) -> Result<(), Refusal>
+        requires { self.now.book ≡ group.now.shared.head }
+        ensures rows { OnOk result (HasMore T.has sink.old sink.new
+            (rows_at M.means (after (record_of self.now.log)) scan.now)) }
+        ensures err { IfErr result (λ e. (e ≡ NoMemory) ⊎ IsMissed S.reused e) }
+    {
+        let mut tx = self.open(group.alloc, &group.shared, tries);
+        Ok(tx.scan_into(scan, sink)?)
+    }
+
     // Its commit, to be read.
     pub(crate) fn open<'a, S: Slots<M>>(
         &'a self,
@@ -183,9 +200,7 @@ where
             (rows_at M.means (after (record_of self.now.at.log)) scan.now)) }
         ensures err { IfErr result (λ e. (e ≡ NoMemory) ⊎ IsMissed S.reused e) }
     {
-        let group = self.client.group;
-        let mut tx = self.at.open(group.alloc, &group.shared, self.tries);
-        Ok(tx.scan_into(scan, sink)?)
+        self.at.scan_into(self.client.group, scan, self.tries, sink)
     }
 
     /// Whether no key is there. Takes no memory.

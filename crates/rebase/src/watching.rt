@@ -4,7 +4,7 @@
 //! spells never changes, so at a commit of the same root the rows are the same, and none is read. Its type
 //! keeps that the rows are those of the root (`AreRead`), in what was seen of the book when they were read; of that and
 //! what a client has seen one begins the other.
-ghost use Rattle.std.specs.Prelude.{◌≡◌, ◌⊎◌, Some, None, Ok, true, IfOk, IfErr};
+ghost use Rattle.std.specs.Prelude.{◌≡◌, ◌⊎◌, Some, None, Ok, true, IfOk, IfErr, IfNone, IfSome};
 ghost use Rattle.std.specs.Cmp as laws;
 ghost use mathlib.Core.List.{IsPrefix};
 ghost use Rattle.group_history.specs.declared.refusals.Refusal.TheVariants.{NoMemory};
@@ -17,6 +17,7 @@ ghost use Rattle.rebase.specs.Queries.{IsMissed};
 ghost use Rattle.rebase.specs.Watching.{Watched, poll_at, poll_reply, same_rows, same_rows-equiv, was_told};
 ghost use Rattle.rebase.specs.Watching.{watch_after};
 
+use crate::beside::{Before, Beside};
 use crate::client::Client;
 use crate::group::Group;
 use crate::reading::Point;
@@ -24,7 +25,7 @@ use chunk_slots::Slots;
 use group_history::{Json, Means, Ref, Refusal, Scan, Text};
 use head_word::Mark;
 use std::alloc::{AllocError, Global};
-use std::marker::Model;
+use std::marker::{Brand, Model};
 use std::sync::Arc;
 
 /// Rows that were answered, in the order of their keys. They are shared: a clone copies none.
@@ -103,6 +104,27 @@ fn copy_of(last: &Option<Told>) -> Result<Option<Told>, AllocError>
         })),
         None => Ok(None),
     }
+}
+
+// The rows of a scan there, if they are others than those of before, which `B` names.
+fn others_than<B: Before, M: Means, S: Slots<M>>(
+    before: &[(Text, Json)],
+    group: &Group<M, S>,
+    at: &Point<M>,
+    scan: &Scan,
+    tries: u32,
+) -> Result<Option<Vec<(Text, Json)>>, Refusal>
+    requires before { before.now ≡ B.rows }
+    requires group { at.now.book ≡ group.now.shared.head }
+    ensures some { IfOk result (λ found. IfSome found (λ rows. rows.items
+        ≡ rows_at M.means (after (record_of at.now.log)) scan.now)) }
+    ensures same { IfOk result (λ found. IfNone found
+        (before.now ≡ rows_at M.means (after (record_of at.now.log)) scan.now)) }
+    ensures err { IfErr result (λ e. (e ≡ NoMemory) ⊎ IsMissed S.reused e) }
+{
+    let mut beside = Beside::<'_, B>::new(group.alloc, before);
+    at.scan_into(group, scan, tries, &mut beside)?;
+    Ok(beside.into_others()?)
 }
 
 /// A scan that is polled. It may be polled by any client of its group.
@@ -188,6 +210,38 @@ impl<M: Means> Watch<M> {
         Ok(Polled::New(rows))
     }
 
+    // Stays as it is, at a point where the rows are those that were told last.
+    fn stay(&mut self, at: &Point<M>)
+        requires book { self.old.book ≡ at.now.book }
+        requires rows { self.old.last ≡ Some (rows_at M.means (after (record_of at.now.log)) self.old.scan) }
+        ensures { self.new ≡ self.old }
+    {
+        if let Some(told) = self.last.take() {
+            self.keep(at, told.rows);
+        }
+    }
+
+    // The rows there, if they are others than those that were told last, or the first ones.
+    fn others<S: Slots<M>>(
+        &self,
+        group: &Group<M, S>,
+        at: &Point<M>,
+        tries: u32,
+    ) -> Result<Option<Vec<(Text, Json)>>, Refusal>
+        requires group { at.now.book ≡ group.now.shared.head }
+        ensures some { IfOk result (λ found. IfSome found (λ rows. rows.items
+            ≡ rows_at M.means (after (record_of at.now.log)) self.now.scan)) }
+        ensures same { IfOk result (λ found. IfNone found
+            (self.now.last ≡ Some (rows_at M.means (after (record_of at.now.log)) self.now.scan))) }
+        ensures err { IfErr result (λ e. (e ≡ NoMemory) ⊎ IsMissed S.reused e) }
+    {
+        let Some(told) = &self.last else {
+            let rows = at.scan(group, &self.scan, tries)?;
+            return Ok(Some(rows));
+        };
+        others_than::<Brand, M, S>(told.rows.as_slice(), group, at, &self.scan, tries)
+    }
+
     // Asks at a point. Where it is refused the watch is as it was.
     fn ask<S: Slots<M>>(
         &mut self,
@@ -205,7 +259,10 @@ impl<M: Means> Watch<M> {
         if self.has_read(at) {
             return Ok(Polled::Unchanged);
         }
-        let rows = at.scan(group, &self.scan, tries)?;
+        let Some(rows) = self.others(group, at, tries)? else {
+            self.stay(at);
+            return Ok(Polled::Unchanged);
+        };
         Ok(self.tell(at, Rows::new(group.alloc, rows)?)?)
     }
 }

@@ -177,6 +177,27 @@ where
     is_new(polled)
 }
 
+/// Polls a watch that was polled before, once a row has another value.
+pub(crate) fn poll_again<S: Store<ScriptMutators>>(
+    rt: &HostRuntime,
+    client: &mut Client<'_, ScriptMutators, S>,
+    scan: Scan,
+    given: &Given,
+) -> Answer
+where
+    S::Seat: Drop,
+{
+    let mut watch = client.watch(scan);
+    drop(client.poll(&mut watch, TRIES));
+    let it = given.incr();
+    drop(client.try_mutate(it.name, it.args, it.time, TRIES));
+    begins(rt);
+    let polled = client.poll(&mut watch, TRIES);
+    ends(rt);
+    drop(watch);
+    is_new(polled)
+}
+
 fn is_new(polled: Result<Polled, Refusal>) -> Answer {
     let is_new = matches!(polled, Ok(Polled::New(_)));
     polled.map(|_| Reply::Is(is_new))

@@ -4,7 +4,7 @@ ghost use Rattle.std.specs.List.{All};
 
 use crate::alone::play_alone;
 use crate::answers::{Answer, Failed, tell};
-use crate::calls::{ask, end_pull, make, make_list, mutate, named, poll};
+use crate::calls::{ask, end_pull, make, make_list, mutate, named, poll, poll_again};
 use crate::counts::Counted;
 use crate::given::{Given, TRIES, first};
 use crate::lines::{self, Line};
@@ -219,6 +219,7 @@ where
 {
     match it.line.call {
         "poll" => poll(it.rt, a, scan),
+        "poll_again" => poll_again(it.rt, a, scan, it.given),
         _ => seats::learn(it.rt, a, scan),
     }
 }
@@ -233,7 +234,7 @@ where
 {
     match it.line.call {
         "nothing" => Ok(Reply::Is(false)),
-        "poll" | "learn" => try_scanned(it, a, it.given.all.clone()?),
+        "poll" | "poll_again" | "learn" => try_scanned(it, a, it.given.all.clone()?),
         "mutate" => mutate(it.rt, it.on, a, it.given),
         "end_pull" => end_pull(it.rt, it.on, a, ticket),
         _ => try_named(it, a, ticket),

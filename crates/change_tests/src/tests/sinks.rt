@@ -80,6 +80,7 @@ where
     let answer = tells_both(&tx, &first, &second, &mut told);
     tx.close();
     answer?;
+    client.scan_into(&second, &mut told, 9)?;
     Ok(told.text)
 }
 
@@ -112,13 +113,13 @@ where
 #[test]
 fn gives_rows_to_a_sink_in_an_arena(rt: HostRuntime) -> Result<(), Refusal> {
     let told = told_in_new::<Arena<ScriptMutators>>(rt.alloc(), ())?;
-    assert_eq!(rt; told.as_str(), "a1=1 a2=2 a1=1 ");
+    assert_eq!(rt; told.as_str(), "a1=1 a2=2 a1=1 a1=1 ");
     Ok(())
 }
 
 #[test]
 fn gives_rows_to_a_sink_in_a_vector(rt: HostRuntime) -> Result<(), Refusal> {
     let told = told_in_new::<Append<&HostRuntime, ScriptMutators>>(rt.alloc(), &rt)?;
-    assert_eq!(rt; told.as_str(), "a1=1 a2=2 a1=1 ");
+    assert_eq!(rt; told.as_str(), "a1=1 a2=2 a1=1 a1=1 ");
     Ok(())
 }

@@ -47,11 +47,30 @@ const CONFIRMED: &str =
 const SAME_AGAIN: &str =
     r#"{"cookie":2,"lastMutationIDChanges":{},"patch":[{"op":"put","key":"a1","value":2}]}"#;
 
-static STEPS: [(Does, Tells); 4] = [
+const ONE_MORE: &str =
+    r#"{"cookie":3,"lastMutationIDChanges":{},"patch":[{"op":"put","key":"a2","value":5}]}"#;
+
+const ELSEWHERE: &str =
+    r#"{"cookie":4,"lastMutationIDChanges":{},"patch":[{"op":"put","key":"b","value":7}]}"#;
+
+const ANOTHER_SECOND: &str =
+    r#"{"cookie":5,"lastMutationIDChanges":{},"patch":[{"op":"put","key":"a2","value":6}]}"#;
+
+const ONE_LESS: &str =
+    r#"{"cookie":6,"lastMutationIDChanges":{},"patch":[{"op":"del","key":"a2"}]}"#;
+
+const NONE: &str = r#"{"cookie":7,"lastMutationIDChanges":{},"patch":[{"op":"clear"}]}"#;
+
+static STEPS: [(Does, Tells); 9] = [
     (Does::Set, Tells::New(1, Some(1))),
     (Does::Set, Tells::Unchanged),
     (Does::Pull(CONFIRMED), Tells::New(1, Some(2))),
     (Does::Pull(SAME_AGAIN), Tells::Unchanged),
+    (Does::Pull(ONE_MORE), Tells::New(2, Some(2))),
+    (Does::Pull(ELSEWHERE), Tells::Unchanged),
+    (Does::Pull(ANOTHER_SECOND), Tells::New(2, Some(2))),
+    (Does::Pull(ONE_LESS), Tells::New(1, Some(2))),
+    (Does::Pull(NONE), Tells::New(0, None)),
 ];
 
 fn makes_step<S: Store<ScriptMutators>>(
