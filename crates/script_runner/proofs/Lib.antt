@@ -1,12 +1,5 @@
-mod Lists
 mod Joining
-mod Changes
-mod Parts
-mod Needs
-mod CheckedLemmas
-mod CheckedScripts
-mod Numbers
-mod Scripts
 mod Turns
 mod Openings
 mod Watches
+mod Replying

@@ -8,16 +8,16 @@ use Rattle.std.specs.List.{All}
 use Rattle.logbook.specs.Pages.{Book}
 use Rattle.group_history.specs.Map.{Bytes}
 use Rattle.push_body.specs.declared.identities.Identity.{Identity}
-use Rattle.script_runner.specs.declared.faults.Fault.{Fault}
+use Rattle.script_parser.specs.declared.faults.Fault.{Fault}
 use Rattle.script_runner.specs.declared.phase.Turn.{Turn}
-use Rattle.script_runner.specs.declared.script.Phase.{Phase}
-use Rattle.script_runner.specs.declared.script.Script.{Script}
+use Rattle.script_parser.specs.declared.script.Phase.{Phase}
+use Rattle.script_parser.specs.declared.script.Script.{Script}
 use Rattle.script_runner.specs.Callers.{shared_rules, Standing}
 use Rattle.script_runner.specs.Commanding.{Player}
-use Rattle.script_runner.specs.Context.{Context}
+use Rattle.script_parser.specs.Context.{Context}
 use Rattle.script_runner.specs.Phases.{AreWritten, HasWhole}
 use Rattle.script_runner.specs.Runs.{AreNew, HasRun, HasStopped, IsNew, IsWant, identity_of}
-use Rattle.script_runner.specs.Inside.Parsing.{IsChecked, IsScript, client_said, phase_said}
+use Rattle.script_parser.specs.Scripts.{IsChecked, IsScript, client_said, phase_said}
 use Rattle.script_runner.specs.Inside.Players.{player_of, players_of}
 use Rattle.script_runner.specs.Inside.Turns.{AreOf}
 use Rattle.script_runner.proofs.Turns.{fused}

@@ -16,15 +16,15 @@ use Rattle.head_word.specs.Marks.{Known}
 use Rattle.rebase.specs.Replies.{Replied}
 use Rattle.rebase.specs.declared.calls.Call.{Call}
 use Rattle.script_runner.specs.declared.phase.Turn.{Turn}
-use Rattle.script_runner.specs.declared.script.Command.{Command}
-use Rattle.script_runner.specs.declared.script.Line.{Line}
-use Rattle.script_runner.specs.declared.script.Phase.{Phase}
+use Rattle.script_parser.specs.declared.script.Command.{Command}
+use Rattle.script_parser.specs.declared.script.Line.{Line}
+use Rattle.script_parser.specs.declared.script.Phase.{Phase}
 use Rattle.script_runner.specs.Callers.{Rules, Standing, sight_of}
 use Rattle.script_runner.specs.Commanding.{MayPrint, Player}
-use Rattle.script_runner.specs.Context.{Lines}
+use Rattle.script_parser.specs.Context.{Lines}
 use Rattle.script_runner.specs.Phases.{AreTold, AreWritten, IsPhase, all_seen}
 use Rattle.script_runner.specs.Printing.{line_text}
-use Rattle.script_runner.specs.Inside.Parsing.{line_said, lines_at, phase_said}
+use Rattle.script_parser.specs.Scripts.{line_said, lines_at, phase_said}
 use Rattle.script_runner.specs.Inside.Players.{player_of, players_of}
 use Rattle.script_runner.specs.Inside.Turns.{AreOf, IsPrinted, IsTold, IsTurn, printed_text, texts_of}
 

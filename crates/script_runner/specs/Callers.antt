@@ -8,12 +8,13 @@ use Rattle.logbook.specs.Pages.{Book}
 use Rattle.group_history.specs.declared.refusals.Refusal.{Refusal}
 use Rattle.group_history.specs.declared.scans.Scan.{Scan}
 use Rattle.group_history.specs.Map.{Bytes}
+use Rattle.group_history.specs.Rows.{Rows}
 use Rattle.group_history.specs.State.{State}
 use Rattle.head_word.specs.Marks.{Known, known}
 use Rattle.push_body.specs.declared.identities.Identity.{Identity}
 use Rattle.answered.specs.Answered.{Answers, is_want, nothing, own_moves}
 use Rattle.rebase.specs.Calls.{Caller, IsLater, IsReplyTo, caller, change_of, last_after, reply_to}
-use Rattle.rebase.specs.Replies.{Replied}
+use Rattle.rebase.specs.Replies.{Replied, rows}
 use Rattle.rebase.specs.declared.calls.Call.{Call}
 use Rattle.rebase.specs.declared.calls.Call.TheVariants as call
 use Rattle.rebase.specs.declared.watching.Polled.{Polled}
@@ -46,6 +47,11 @@ unwatched name c = record c { watches = finite.remove c.watches name }
 abbrev pub watches_after : Bytes → Watched → Watches → Result Polled Refusal → Watches
 watches_after name watch watches (Ok polled) = finite.insert watches name (watch_after watch (Ok polled))
 watches_after name watch watches (Err e) = watches
+
+-- the reply of a scan whose rows were listed
+abbrev pub listed : {X : Type 0} → Rows → Result X Refusal → Result Replied Refusal
+listed rs (Ok list) = Ok (rows rs)
+listed rs (Err e) = Err e
 
 -- what others learn from a client: what it has seen
 abbrev pub sight_of : Standing → Known

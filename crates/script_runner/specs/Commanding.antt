@@ -15,11 +15,11 @@ use Rattle.rebase.specs.declared.calls.Call.TheVariants as call
 use Rattle.rebase.specs.declared.tickets.Ticket.{Ticket}
 use Rattle.rebase.specs.declared.watching.Polled.{Polled}
 use Rattle.rebase.specs.Watching.{Watched}
-use Rattle.script_runner.specs.declared.script.MutatorCall.{MutatorCall}
-use Rattle.script_runner.specs.declared.script.Command.{Command}
-use Rattle.script_runner.specs.declared.script.Command.TheVariants as command
-use Rattle.script_runner.specs.declared.script.Query.{Query}
-use Rattle.script_runner.specs.declared.script.Query.TheVariants as query
+use Rattle.script_parser.specs.declared.script.MutatorCall.{MutatorCall}
+use Rattle.script_parser.specs.declared.script.Command.{Command}
+use Rattle.script_parser.specs.declared.script.Command.TheVariants as command
+use Rattle.script_parser.specs.declared.script.Query.{Query}
+use Rattle.script_parser.specs.declared.script.Query.TheVariants as query
 use Rattle.script_runner.specs.Callers.{Rules, Standing, unwatched, watching}
 use Rattle.script_runner.specs.Printing.{answer_text, polled_text, refreshed_text, refused_text}
 

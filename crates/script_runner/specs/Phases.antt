@@ -9,7 +9,7 @@ use Rattle.rebase.specs.Replies.{Replied}
 use Rattle.rebase.specs.declared.calls.Call.{Call}
 use Rattle.script_runner.specs.Callers.{Rules, sight_of}
 use Rattle.script_runner.specs.Commanding.{MayPrint, Player}
-use Rattle.script_runner.specs.Context.{Lines}
+use Rattle.script_parser.specs.Context.{Lines}
 use Rattle.script_runner.specs.Printing.{line_text}
 
 -- what each client has seen

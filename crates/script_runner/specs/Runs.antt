@@ -9,11 +9,11 @@ use Rattle.group_history.specs.State.{last_id}
 use Rattle.head_word.specs.Marks.{Known}
 use Rattle.push_body.specs.declared.identities.Identity.{Identity}
 use Rattle.answered.specs.Answered.{IsAnswered}
-use Rattle.script_runner.specs.declared.faults.Fault.{Fault}
-use Rattle.script_runner.specs.declared.faults.Fault.TheVariants as fault
+use Rattle.script_parser.specs.declared.faults.Fault.{Fault}
+use Rattle.script_parser.specs.declared.faults.Fault.TheVariants as fault
 use Rattle.script_runner.specs.Callers.{shared_rules}
 use Rattle.script_runner.specs.Commanding.{Player}
-use Rattle.script_runner.specs.Context.{Context}
+use Rattle.script_parser.specs.Context.{Context}
 use Rattle.script_mutators.specs.Mutators.{script_means}
 use Rattle.script_runner.specs.Phases.{AreWritten, HasWhole}
 

@@ -1,19 +1,24 @@
 //! Who makes the calls of a script: a client of a group.
-ghost use Rattle.std.specs.Prelude.{◌≡◌, Result, Some, IfNone, IfSome, OnErr, OnOk, codes, is_some};
+ghost use Rattle.std.specs.Prelude.{◌≡◌, Result, Some, IfNone, IfOk, IfSome, OnErr, OnOk, codes, is_some, map};
 ghost use Rattle.std.specs.FinMap as finite;
+ghost use Rattle.std.specs.List.{join_with_byte};
+ghost use Rattle.group_history.specs.Rows.{Rows};
 ghost use Rattle.head_word.specs.Marks.{Known};
 ghost use Rattle.rebase.specs.Queries.{told};
 ghost use Rattle.rebase.specs.Replies.{reply_seen};
 ghost use Rattle.rebase.specs.Watching.{Watched};
-ghost use Rattle.script_runner.specs.Callers.{MayPoll, Rules, Standing, sight_of, unwatched, watching};
+ghost use Rattle.rebase.specs.declared.calls.Call.TheVariants as call;
+ghost use Rattle.script_runner.specs.Callers.{MayPoll, Rules, Standing, listed, sight_of, unwatched, watching};
+ghost use Rattle.script_runner.specs.Printing.{row_text};
 ghost use Rattle.script_runner.specs.Inside.Players.{standing_of};
 
+use crate::rows::RowList;
 use crate::shared::SharedClient;
 use group_history::{Refusal, Scan, Text, TextMap};
 use head_word::Mark;
 use rebase::{Call, Polled, Reply, Watch};
 use script_mutators::ScriptMutators;
-use std::alloc::AllocError;
+use std::alloc::{AllocError, Global};
 use std::sync::Wait;
 
 /// How often a call tries that doesn't wait.
@@ -35,6 +40,12 @@ pub(crate) trait Caller {
     /// Makes one call. A change may wait for others.
     fn call<R: Wait>(&mut self, rt: &R, call: Call<'_>) -> Result<Reply, Refusal>
         ensures reply { law.may_reply (stands self.old) call.entry (told reply_seen result) (stands self.new) }
+        ensures group { (stands self.new).mark.book ≡ (stands self.old).mark.book };
+
+    /// Makes a scan, and answers what is printed of its rows.
+    fn scan<R: Wait>(&mut self, rt: &R, alloc: Global, scan: &Scan) -> Result<RowList, Refusal>
+        ensures reply { (rows : Rows) × law.may_reply (stands self.old) (call.Scan scan.entry) (listed rows result)
+            (stands self.new) × IfOk result (λ list. list.text.items ≡ join_with_byte 44 (map row_text rows)) }
         ensures group { (stands self.new).mark.book ≡ (stands self.old).mark.book };
 
     /// Keeps a watch of a scan under a name. An earlier one of that name is given up first.
@@ -99,11 +110,23 @@ impl<'g> Caller for SharedClient<'g> {
 
     fn call<R: Wait>(&mut self, rt: &R, call: Call<'_>) -> Result<Reply, Refusal> {
         match call {
-            Call::Mutate(m) => Ok(Reply::Id(self.client.mutate(rt, m.name, m.args, m.time)?)),
-            Call::EndPull(ticket, body) => {
-                Ok(Reply::Ended(self.client.end_pull(rt, ticket, body)?))
-            }
+            Call::Mutate(m) => self
+                .client
+                .mutate(rt, m.name, m.args, m.time)
+                .map(Reply::Id),
+            Call::EndPull(ticket, body) => self.client.end_pull(rt, ticket, body).map(Reply::Ended),
             call => self.client.make_call(call, TRIES),
+        }
+    }
+
+    fn scan<R: Wait>(&mut self, _rt: &R, alloc: Global, scan: &Scan) -> Result<RowList, Refusal> {
+        let mut list = RowList::new(alloc);
+        match self.client.scan_into(scan, &mut list, TRIES) {
+            Ok(()) => Ok(list),
+            Err(e) => {
+                drop(list);
+                Err(e)
+            }
         }
     }
 

@@ -13,9 +13,9 @@ ghost use Rattle.script_runner.specs.Inside.Printing.{reply_text};
 
 use crate::callers::Caller;
 use crate::reply::Printed;
-use crate::script::{self, Command, Query};
 use group_history::{Refusal, Scan, Text, TextMap};
 use rebase::{Call, Mutate, Polled, Reply, Ticket};
+use script_parser::{Command, MutatorCall, Query};
 use std::alloc::{AllocError, Global};
 use std::sync::Wait;
 
@@ -68,7 +68,22 @@ impl<C: Caller + Drop> ScriptClient<C> {
         ensures name { self.new.name ≡ self.old.name }
         ensures group { (C.stands self.new.caller).mark.book ≡ (C.stands self.old.caller).mark.book }
     {
-        reply_of(self.caller.call(rt, call_of(query)))
+        match query {
+            Query::Scan(scan) => self.scan(rt, scan),
+            query => reply_of(self.caller.call(rt, call_of(query))),
+        }
+    }
+
+    fn scan<R: Wait>(&mut self, rt: &R, scan: &Scan) -> Printed
+        ensures told { HandsOn C.law (λ c. c ≡ call.Scan scan.entry) answer_text (player_of C.stands self.old)
+            (reply_text result) (player_of C.stands self.new) }
+        ensures name { self.new.name ≡ self.old.name }
+        ensures group { (C.stands self.new.caller).mark.book ≡ (C.stands self.old.caller).mark.book }
+    {
+        match self.caller.scan(rt, self.alloc, scan) {
+            Ok(list) => Printed::Listed(list),
+            Err(refusal) => Printed::Refused(refusal),
+        }
     }
 
     /// A ticket whose name was given before is replaced, and where this is refused there is none of that name.
@@ -122,7 +137,7 @@ impl<C: Caller + Drop> ScriptClient<C> {
         }
     }
 
-    fn mutate<R: Wait>(&mut self, rt: &R, call: &script::MutatorCall) -> Printed
+    fn mutate<R: Wait>(&mut self, rt: &R, call: &MutatorCall) -> Printed
         ensures told { HandsOn C.law (AsksMutation call.now) answer_text (player_of C.stands self.old)
             (reply_text result) (player_of C.stands self.new) }
         ensures name { self.new.name ≡ self.old.name }

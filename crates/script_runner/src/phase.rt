@@ -2,15 +2,15 @@
 ghost use Rattle.std.specs.Prelude.{◌≡◌, ◌<◌, IfOk, OnOk, length, map};
 ghost use Rattle.std.specs.List.{All};
 ghost use Rattle.logbook.specs.Pages.{Book};
+ghost use Rattle.script_parser.specs.Scripts.{line_said, lines_at, phase_said};
 ghost use Rattle.script_runner.specs.Phases.{AreTold, IsPhase, all_seen};
 ghost use Rattle.script_runner.specs.Inside.Players.{player_of, players_of};
-ghost use Rattle.script_runner.specs.Inside.Parsing.{line_said, lines_at, phase_said};
 ghost use Rattle.script_runner.specs.Inside.Turns.{AreOf, IsPrinted, IsTold, IsTurn, texts_of};
 
 use crate::callers::Caller;
 use crate::client::ScriptClient;
 use crate::reply::print_line;
-use crate::script::{Line, Phase};
+use script_parser::{Line, Phase};
 use std::alloc::{AllocError, Global};
 use std::sync::Wait;
 use std::thread::{self, Threads};

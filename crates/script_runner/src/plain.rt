@@ -2,11 +2,12 @@
 //!
 //! It keeps its view as one map, which a pull computes anew. It says by the shortest code what a group is; its clients
 //! take turns at it.
-ghost use Rattle.std.specs.Prelude.{◌≡◌, true, Ok, Some, IfOk, IfErr, OnErr, IsOkUnless};
+ghost use Rattle.std.specs.Prelude.{◌≡◌, true, map, Ok, Some, IfOk, IfErr, OnErr, IsOkUnless};
 ghost use Rattle.std.specs.FinMap as finite;
+ghost use Rattle.std.specs.List.{join_with_byte};
 ghost use Rattle.group_history.specs.Answers.{Answers};
 ghost use Rattle.group_history.specs.Mutating.{mutate_reply};
-ghost use Rattle.group_history.specs.Queries.{get_at};
+ghost use Rattle.group_history.specs.Queries.{get_at, rows_at};
 ghost use Rattle.group_history.specs.declared.refusals.Refusal.TheVariants.{NoMemory};
 ghost use Rattle.push_body.specs.Bodies.{push_text};
 ghost use Rattle.rebase.specs.Asking.{end_bytes_reply};
@@ -17,9 +18,11 @@ ghost use Rattle.rebase.specs.Replies.{reply_seen};
 ghost use Rattle.rebase.specs.Watching.{poll_at, poll_reply, watch_after};
 ghost use Rattle.script_mutators.specs.Mutators.{script_means};
 ghost use Rattle.script_runner.specs.Callers.{IsPolled, MayPollPlainly};
+ghost use Rattle.script_runner.specs.Printing.{row_text};
 ghost use Rattle.script_runner.specs.Inside.Players.{standing_of_plain};
 
 use crate::callers::{Caller, keep_watch};
+use crate::rows::RowList;
 use group_history::{Ended, Json, Mutation, PlainGroup, Refusal, Scan, Text, TextMap};
 use pull_patch::read_response;
 use push_body::{Identity, pull_bytes, push_bytes};
@@ -79,6 +82,16 @@ impl Plain {
             Call::Cookie => Ok(Reply::Cookie(self.group.cookie().clone()?)),
             _ => unreachable!(),
         }
+    }
+
+    /// The rows of a scan, listed.
+    fn list(&self, alloc: Global, scan: &Scan) -> Result<RowList, Refusal>
+        ensures ok { IfOk result (λ list. list.text.items
+            ≡ join_with_byte 44 (map row_text (rows_at script_means self.now.group scan.now))) }
+        ensures err { IsOkUnless result NoMemory }
+    {
+        let rows = self.group.scan(scan)?;
+        Ok(RowList::of(alloc, &rows)?)
     }
 
     fn get(&self, key: &Text) -> Result<Option<Json>, AllocError>
@@ -251,6 +264,10 @@ impl<'g> Caller for PlainClient<'g> {
         let reply = self.group.lock(rt).make_call(&self.id, self.last, call);
         self.last = last_after(self.last, &reply);
         reply
+    }
+
+    fn scan<R: Wait>(&mut self, rt: &R, alloc: Global, scan: &Scan) -> Result<RowList, Refusal> {
+        self.group.lock(rt).list(alloc, scan)
     }
 
     fn watch(&mut self, name: &Text, scan: &Scan) -> Result<(), AllocError> {

@@ -1,11 +1,11 @@
 //! The program over any reader and writers.
 ghost use Rattle.std.specs.Prelude.{◌≡◌, ◌⊎◌, true, None, IfSome, is_some};
-ghost use Rattle.script_runner.specs.Faults.{first_fault};
+ghost use Rattle.script_parser.specs.Faults.{first_fault};
 ghost use Rattle.script_runner.specs.Inside.Runs.{status_of};
 
-use crate::faults::Fault;
 use crate::phase::Gate;
 use crate::runner::run_owned;
+use script_parser::Fault;
 use std::io::{self, Read, Write};
 use std::sync::Wait;
 use std::thread::Threads;

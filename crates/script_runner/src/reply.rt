@@ -4,8 +4,9 @@ ghost use Rattle.std.specs.List.{join_with_byte};
 ghost use Rattle.push_body.specs.Bodies.{quoted};
 ghost use Rattle.script_runner.specs.Printing.{row_text, pending_row, array_text, refusal_name, refusal_detail};
 ghost use Rattle.script_runner.specs.Printing.{line_text};
-ghost use Rattle.script_runner.specs.Inside.Printing.{reply_word, reply_detail, reply_text};
+ghost use Rattle.script_runner.specs.Inside.Printing.{enclosed, reply_word, reply_detail, reply_text};
 
+use crate::rows::RowList;
 use group_history::{Cookie, Ended, Json, Mutation, Refusal, Text};
 use push_body::push_quoted;
 use rebase::Rows;
@@ -18,6 +19,8 @@ pub(crate) enum Printed {
     Nothing,
     Is(bool),
     Rows(Vec<(Text, Json)>),
+    /// The rows of a scan, written as they were read.
+    Listed(RowList),
     /// The pending mutations, the oldest first.
     Pending(Vec<Mutation>),
     Cookie(Cookie),
@@ -53,7 +56,7 @@ impl Printed {
             Printed::Nothing => "none",
             Printed::Is(true) => "yes",
             Printed::Is(false) => "no",
-            Printed::Rows(_) => "rows ",
+            Printed::Rows(_) | Printed::Listed(_) => "rows ",
             Printed::Pending(_) => "pending ",
             Printed::Cookie(_) => "cookie ",
             Printed::Push(_) => "push ",
@@ -78,6 +81,7 @@ impl Printed {
         match self {
             Printed::Value(json) => out.extend_from_slice(json.text().as_bytes()),
             Printed::Rows(rows) => print_rows(rows, out),
+            Printed::Listed(list) => print_list(list, out),
             Printed::New(rows) => print_rows(rows.as_slice(), out),
             Printed::Pending(pending) => print_pending(pending, out),
             Printed::Cookie(cookie) => out.extend_from_slice(cookie.text().as_bytes()),
@@ -118,26 +122,25 @@ fn print_quoted(out: &mut Vec<u8>, word: &str, text: &str) -> Result<(), AllocEr
 
 /// Appends a row of a scan, as a JSON array of its key and value.
 #[tactic(auto, unfolding(crate::specs::Printing::row_text))]
-fn print_row(row: &(Text, Json), out: &mut Vec<u8>) -> Result<(), AllocError>
-    ensures { OnOk result (out.new.items ≡ out.old.items ++ row_text row.now) }
+pub(crate) fn print_row(key: &Text, value: &Json, out: &mut Vec<u8>) -> Result<(), AllocError>
+    ensures { OnOk result (out.new.items ≡ out.old.items ++ row_text (key.now, value.now)) }
 {
-    let (key, value) = row;
     print_quoted(out, "[", key.as_str())?;
     said(out, ",", value.text().as_bytes())?;
     said(out, "]", &[])
 }
 
 /// Appends rows with commas between them.
-fn print_row_list(rows: &[(Text, Json)], out: &mut Vec<u8>) -> Result<(), AllocError>
+pub(crate) fn print_row_list(rows: &[(Text, Json)], out: &mut Vec<u8>) -> Result<(), AllocError>
     ensures { OnOk result (out.new.items ≡ out.old.items ++ join_with_byte 44 (map row_text rows.now)) }
 {
     let Some((first, rest)) = rows.split_first() else {
         return Ok(());
     };
-    print_row(first, out)?;
+    print_row(&first.0, &first.1, out)?;
     for row in rest {
         out.push(b',')?;
-        print_row(row, out)?;
+        print_row(&row.0, &row.1, out)?;
     }
     Ok(())
 }
@@ -147,6 +150,13 @@ fn print_rows(rows: &[(Text, Json)], out: &mut Vec<u8>) -> Result<(), AllocError
 {
     said(out, "[", &[])?;
     print_row_list(rows, out)?;
+    said(out, "]", &[])
+}
+
+fn print_list(list: &RowList, out: &mut Vec<u8>) -> Result<(), AllocError>
+    ensures { OnOk result (out.new.items ≡ out.old.items ++ enclosed list.now.text.items) }
+{
+    said(out, "[", &list.text)?;
     said(out, "]", &[])
 }
 

@@ -1,10 +1,27 @@
 -- A reply of the code, as it is printed: a word, and what it tells.
-use Rattle.std.specs.Prelude.{[], ◌++◌, map, codes, decimal}
+use Rattle.std.specs.Prelude.{◌≡◌, Bool, true, false, [], ◌∷◌, ◌++◌, map, codes, decimal}
+use Rattle.std.specs.List.{concat, join_with_byte}
 use Rattle.group_history.specs.Map.{Bytes}
+use Rattle.group_history.specs.Rows.{Rows}
 use Rattle.script_runner.specs.declared.reply.Printed.{Printed}
 use Rattle.script_runner.specs.declared.reply.Printed.TheVariants as reply
+use Rattle.script_runner.specs.declared.rows.RowList.{RowList}
 use Rattle.script_runner.specs.Printing.{array_text, bool_text, ended_text, pending_row, refusal_detail, refusal_name}
 use Rattle.script_runner.specs.Printing.{row_text}
+
+-- texts with commas between them, as a JSON array
+abbrev pub enclosed : Bytes → Bytes
+enclosed joined = concat (codes "[" ∷ joined ∷ codes "]" ∷ [])
+
+-- whether there are no rows
+abbrev pub are_none : Rows → Bool
+are_none [] = true
+are_none (r ∷ rs) = false
+
+-- these rows are listed
+pub record HasRows (list : RowList) (rows : Rows) : Type 0 where
+  pub text : list.text.items ≡ join_with_byte 44 (map row_text rows)
+  pub empty : list.is_empty ≡ are_none rows
 
 -- the word that says which reply it is
 abbrev pub reply_word : Printed → Bytes
@@ -12,6 +29,7 @@ reply_word (reply.Value json) = codes "value "
 reply_word reply.Nothing = codes "none"
 reply_word (reply.Is is) = bool_text is
 reply_word (reply.Rows rs) = codes "rows "
+reply_word (reply.Listed list) = codes "rows "
 reply_word (reply.Pending ms) = codes "pending "
 reply_word (reply.Cookie c) = codes "cookie "
 reply_word (reply.Push bytes) = codes "push "
@@ -31,6 +49,7 @@ reply_word (reply.Refused e) = codes "refused "
 abbrev pub reply_detail : Printed → Bytes
 reply_detail (reply.Value json) = json
 reply_detail (reply.Rows rs) = array_text (map row_text rs.items)
+reply_detail (reply.Listed list) = enclosed list.text.items
 reply_detail (reply.New rs) = array_text (map row_text rs)
 reply_detail (reply.Pending ms) = array_text (map pending_row ms.items)
 reply_detail (reply.Cookie c) = c.text

@@ -1,7 +1,7 @@
 -- How a process ends.
 use Rattle.std.specs.Prelude.{ℕ}
-use Rattle.script_runner.specs.declared.faults.Fault.{Fault}
-use Rattle.script_runner.specs.declared.faults.Fault.TheVariants as fault
+use Rattle.script_parser.specs.declared.faults.Fault.{Fault}
+use Rattle.script_parser.specs.declared.faults.Fault.TheVariants as fault
 
 -- the status of a process that ends with the fault
 abbrev pub status_of : Fault → ℕ

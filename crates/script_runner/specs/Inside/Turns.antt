@@ -11,10 +11,10 @@ use Rattle.rebase.specs.Replies.{Replied}
 use Rattle.rebase.specs.declared.calls.Call.{Call}
 use Rattle.script_runner.specs.declared.client.ScriptClient.{ScriptClient}
 use Rattle.script_runner.specs.declared.phase.Turn.{Turn}
-use Rattle.script_runner.specs.declared.script.Command.{Command}
+use Rattle.script_parser.specs.declared.script.Command.{Command}
 use Rattle.script_runner.specs.Callers.{Rules, Standing}
 use Rattle.script_runner.specs.Commanding.{MayPrint, Player}
-use Rattle.script_runner.specs.Context.{Lines}
+use Rattle.script_parser.specs.Context.{Lines}
 use Rattle.script_runner.specs.Phases.{AreTold}
 use Rattle.script_runner.specs.Printing.{line_text}
 use Rattle.script_runner.specs.Inside.Players.{player_of}

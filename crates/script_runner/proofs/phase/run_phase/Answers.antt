@@ -1,6 +1,6 @@
 use Rattle.std.proofs.Common.{rules, ℕ, ◌<◌, subst, length, map, slice_index_or}
 use Rattle.script_runner.specs.declared.phase.Turn.{Turn}
-use Rattle.script_runner.specs.Inside.Parsing.{lines_at}
+use Rattle.script_parser.specs.Scripts.{lines_at}
 use Rattle.script_runner.specs.Inside.Turns.{IsTurn}
 use Rattle.script_runner.proofs.Turns.{lent, phase, still_one}
 use Rattle.script_runner.proofs.phase.run_phase.Goals as goal

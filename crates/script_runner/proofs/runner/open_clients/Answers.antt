@@ -2,7 +2,7 @@ use Rattle.std.proofs.Common.{arith, sym, subst}
 use Rattle.std.proofs.lemmas.List.Elements.{All-push}
 use Rattle.std.specs.List.{All}
 use Rattle.script_runner.specs.Runs.{IsNew}
-use Rattle.script_runner.specs.Inside.Parsing.{client_said}
+use Rattle.script_parser.specs.Scripts.{client_said}
 use Rattle.script_runner.specs.Inside.Players.{player_of, standing_of}
 use Rattle.script_runner.proofs.Turns.{mapped-more}
 use Rattle.script_runner.proofs.runner.open_clients.Goals as goal

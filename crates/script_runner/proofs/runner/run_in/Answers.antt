@@ -1,6 +1,6 @@
 use Rattle.std.proofs.Common.{ap, ◌∙◌, map}
 use Rattle.script_runner.proofs.Openings.{enough, has_run, has_stopped, of_one}
-use Rattle.script_runner.specs.Inside.Parsing.{client_said}
+use Rattle.script_parser.specs.Scripts.{client_said}
 use Rattle.script_runner.specs.Inside.Players.{standing_of}
 use Rattle.script_runner.proofs.runner.run_in.Goals as goal
 

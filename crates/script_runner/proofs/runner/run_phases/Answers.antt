@@ -4,7 +4,7 @@ use Rattle.std.proofs.lemmas.Result.{err_from_is_err_and}
 use Rattle.std.specs.List.{concat}
 use Rattle.script_runner.specs.Phases.{AreWritten}
 use Rattle.script_runner.specs.Runs.{IsWant}
-use Rattle.script_runner.specs.Inside.Parsing.{phase_said}
+use Rattle.script_parser.specs.Scripts.{phase_said}
 use Rattle.script_runner.specs.Inside.Players.{players_of}
 use Rattle.script_runner.specs.Inside.Turns.{texts_of}
 use Rattle.script_runner.proofs.Turns.{appends-kept, appends-twice, phase-more}

@@ -2,7 +2,7 @@ use Rattle.std.proofs.Common.{◌≡◌, length, map, take}
 use Rattle.std.specs.Io.KnownBytes.{Appends}
 use Rattle.logbook.specs.Pages.{Book}
 use Rattle.script_runner.specs.Phases.{AreWritten}
-use Rattle.script_runner.specs.Inside.Parsing.{phase_said}
+use Rattle.script_parser.specs.Scripts.{phase_said}
 use Rattle.script_runner.specs.Inside.Players.{players_of}
 use Rattle.script_runner.specs.Inside.Turns.{AreOf}
 use Rattle.script_runner.proofs.runner.run_phases.Given as goal

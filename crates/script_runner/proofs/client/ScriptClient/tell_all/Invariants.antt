@@ -1,6 +1,6 @@
 use Rattle.std.proofs.Common.{◌≡◌, map, take}
 use Rattle.script_runner.specs.Phases.{AreTold}
-use Rattle.script_runner.specs.Inside.Parsing.{line_said}
+use Rattle.script_parser.specs.Scripts.{line_said}
 use Rattle.script_runner.specs.Inside.Players.{player_of}
 use Rattle.script_runner.proofs.client.ScriptClient.tell_all.Given as goal
 

@@ -1,0 +1,6 @@
+-- Words that only private clauses of this crate use: what a parser has read, parts of lines, and how an answer of the
+-- parser stands to the right one.
+pub mod Parsing
+pub mod Header
+pub mod Commands
+pub mod Faults

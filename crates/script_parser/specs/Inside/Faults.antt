@@ -1,0 +1,45 @@
+-- How an answer of the parser on a line stands to the right one.
+use Rattle.std.specs.Prelude.{◌≡◌, ⊤, ℕ, Bool, true, false, Result, Ok, Err}
+use Rattle.script_parser.specs.declared.faults.ScriptFault.{ScriptFault}
+use Rattle.script_parser.specs.declared.faults.LineFault.{LineFault}
+use Rattle.script_parser.specs.declared.faults.LineFault.TheVariants as line
+use Rattle.script_parser.specs.declared.faults.Fault.{Fault}
+use Rattle.script_parser.specs.declared.faults.Fault.TheVariants as fault
+use Rattle.script_parser.specs.declared.script.Command.{Command}
+use Rattle.script_parser.specs.Context.{Context}
+
+-- the fault of the script, where a line of this number has this fault
+abbrev pub fault_at : ℕ → LineFault → Fault
+fault_at n (line.Script t) = fault.Script n t
+fault_at n line.NoMemory = fault.NoMemory
+
+-- The answer where a test decides: the value where it holds, and else this fault.
+abbrev pub Tests : {X : Type 0} → Bool → ScriptFault → Result X ScriptFault → Type 0
+Tests holds f (Ok x) = holds ≡ true
+Tests holds f (Err e) = (holds ≡ false) × (e ≡ f)
+
+-- the same, and want of memory may come in place of any answer
+abbrev pub TestsLine : {X : Type 0} → Bool → ScriptFault → Result X LineFault → Type 0
+TestsLine holds f (Ok x) = holds ≡ true
+TestsLine holds f (Err (line.Script e)) = (holds ≡ false) × (e ≡ f)
+TestsLine holds f (Err line.NoMemory) = ⊤
+
+-- The answer where needs decide: the value that is said where all are met, and else the fault of the first that isn't.
+-- Want of memory may come in place of any answer.
+abbrev pub Reads : {X : Type 0} → Result X ScriptFault → Result X LineFault → Type 0
+Reads right (Ok x) = right ≡ Ok x
+Reads right (Err (line.Script f)) = right ≡ Err f
+Reads right (Err line.NoMemory) = ⊤
+
+-- The call's answer on a line: Ok where the line is right, and this is then said; else the line's fault. Want of
+-- memory may come in place of any answer.
+abbrev pub Follows : {X : Type 0} → Result Context ScriptFault → Context → Result X LineFault → Type 0
+Follows right c (Ok x) = right ≡ Ok c
+Follows right c (Err (line.Script f)) = right ≡ Err f
+Follows right c (Err line.NoMemory) = ⊤
+
+-- The same of a client's line: Ok with its command.
+abbrev pub Tells : Result (Context × Command) ScriptFault → Context → Result Command LineFault → Type 0
+Tells right c (Ok k) = right ≡ Ok (c, k)
+Tells right c (Err (line.Script f)) = right ≡ Err f
+Tells right c (Err line.NoMemory) = ⊤

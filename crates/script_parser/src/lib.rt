@@ -1,0 +1,15 @@
+//! The language of scripts: a script is checked whole, and made values.
+//!
+//! `read_script` cuts a script into lines and makes values of them (a `Header`, and phases of `Command`s); where it is
+//! faulty, the first faulty line is told. What a script says, and which fault is the first, is in `specs/`.
+#![tactic(auto)]
+
+mod faults;
+mod lines;
+mod names;
+mod script;
+
+pub use faults::{Fault, ScriptFault};
+pub use script::{
+    ClientLine, Command, Header, Line, MutatorCall, Phase, Query, Script, read_script, uuid_text,
+};

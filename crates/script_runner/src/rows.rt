@@ -1,0 +1,74 @@
+//! Rows of a scan, written as they are read.
+ghost use Rattle.std.specs.Prelude.{◌≡◌, ◌++◌, ◌∷◌, [], false, true, map, IfOk, OnOk};
+ghost use Rattle.std.specs.List.{join_with_byte};
+ghost use Rattle.script_runner.specs.Printing.{row_text};
+ghost use Rattle.script_runner.specs.Inside.Printing.{HasRows};
+
+use crate::reply::{print_row, print_row_list};
+use group_history::{Json, Text};
+use rebase::TakesRows;
+use std::alloc::{AllocError, Global};
+
+/// The printed texts of rows, with commas between them.
+#[derive(Drop)]
+pub(crate) struct RowList {
+    pub(crate) text: Vec<u8>,
+    is_empty: bool,
+}
+
+impl RowList {
+    pub(crate) fn new(alloc: Global) -> RowList
+        ensures { HasRows result [] }
+    {
+        RowList {
+            text: Vec::new(alloc),
+            is_empty: true,
+        }
+    }
+
+    /// The list of these rows.
+    pub(crate) fn of(alloc: Global, rows: &[(Text, Json)]) -> Result<RowList, AllocError>
+        ensures { IfOk result (λ list. list.text.items ≡ join_with_byte 44 (map row_text rows.now)) }
+    {
+        let mut text = Vec::new(alloc);
+        print_row_list(rows, &mut text)?;
+        Ok(RowList {
+            text,
+            is_empty: rows.is_empty(),
+        })
+    }
+
+    /// Parts the row that comes from those before it.
+    fn part(&mut self) -> Result<(), AllocError>
+        ensures first { self.old.is_empty ≡ true → OnOk result (self.new.text.items ≡ self.old.text.items) }
+        ensures next { self.old.is_empty ≡ false → OnOk result (self.new.text.items ≡ self.old.text.items ++ 44 ∷ []) }
+    {
+        if self.is_empty {
+            return Ok(());
+        }
+        self.text.push(b',')?;
+        Ok(())
+    }
+
+    /// Adds a row.
+    fn add(&mut self, key: &Text, value: &Json) -> Result<(), AllocError>
+        ensures empty { OnOk result (self.new.is_empty ≡ false) }
+        ensures first { self.old.is_empty ≡ true
+            → OnOk result (self.new.text.items ≡ self.old.text.items ++ row_text (key.now, value.now)) }
+        ensures next { self.old.is_empty ≡ false
+            → OnOk result (self.new.text.items ≡ self.old.text.items ++ 44 ∷ row_text (key.now, value.now)) }
+    {
+        self.part()?;
+        print_row(key, value, &mut self.text)?;
+        self.is_empty = false;
+        Ok(())
+    }
+}
+
+impl TakesRows for RowList {
+    ghost has = { HasRows };
+
+    fn take(&mut self, key: &Text, value: &Json) -> Result<(), AllocError> {
+        self.add(key, value)
+    }
+}
