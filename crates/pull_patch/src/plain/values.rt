@@ -1,5 +1,5 @@
 //! Single values of a body.
-ghost use Rattle.std.specs.Prelude.{◌≡◌, ◌<◌, ◌≤◌, ℕ, length, OnOk, IfOk};
+ghost use Rattle.std.specs.Prelude.{◌≡◌, ◌<◌, ◌≤◌, ℕ, length, OnOk, IfOk, IsUtf8};
 ghost use Rattle.serde_json.specs.Data.{string};
 ghost use Rattle.serde_json.specs.View.{view};
 ghost use Rattle.pull_patch.specs.Inside.Plain.{ReadsValue, ReadsText, PassesValue};
@@ -29,6 +29,14 @@ fn stop_of(refusal: Refusal) -> Stop {
     }
 }
 
+// The text that the bytes are, without a look at them.
+fn text_of(bytes: &[u8]) -> &str
+    requires { IsUtf8 bytes.now }
+    ensures { result.now ≡ bytes.now }
+{
+    unsafe { str::from_utf8_unchecked(bytes) }
+}
+
 /// The compact text of the next value. Only where it isn't the text of its tokens as they stand, the
 /// value is read as a tree. What `copy` holds is overwritten.
 pub(crate) fn read_json(
@@ -46,10 +54,7 @@ pub(crate) fn read_json(
             Err(refusal) => Err(stop_of(refusal)),
         };
     }
-    match str::from_utf8(copy) {
-        Ok(compact) => Ok(Json::of_compact(alloc, compact)?),
-        Err(_) => Err(Stop::NotPlain),
-    }
+    Ok(Json::of_compact(alloc, text_of(copy))?)
 }
 
 /// The next value as a tree. What `copy` holds is overwritten.

@@ -11,15 +11,13 @@ returns-in-Ok-clause-read c =
 
 pub of_compact-requires : goal.of_compact-requires
 of_compact-requires c =
-    let is : c.in-Ok-from_utf8.compact.now
-    ≡ c.copy_text.new.text.items = c.in-Ok-from_utf8.ensures.cases.0 ∙ c.deref-2.ensures.value in
+    let is : c.text_of.result.now ≡ c.copy_text.new.text.items = c.text_of.ensures ∙ c.deref-2.ensures.value in
     rw is (json_text-plain c.args.reader.now c.copy_text.new.reader c.copy_text.new.text.items c.in_ok-plain.plain
     c.in_ok-plain.ensures.copied c.if-not-plain.false c.in_ok-plain.ensures.utf8)
 
-pub returns-in_ok-of_compact-in-Ok-from_utf8-clause-read : goal.returns-in_ok-of_compact-in-Ok-from_utf8-clause-read
-returns-in_ok-of_compact-in-Ok-from_utf8-clause-read c =
-    let is : c.in-Ok-from_utf8.compact.now
-    ≡ c.copy_text.new.text.items = c.in-Ok-from_utf8.ensures.cases.0 ∙ c.deref-2.ensures.value in
-    rw (c.in_ok-of_compact-in-Ok-from_utf8.ensures, is)
+pub returns-clause-read : goal.returns-clause-read
+returns-clause-read c =
+    let is : c.text_of.result.now ≡ c.copy_text.new.text.items = c.text_of.ensures ∙ c.deref-2.ensures.value in
+    rw (c.in_ok-of_compact.ensures, is)
     (ReadsText-plain c.args.reader.now c.copy_text.new.reader c.copy_text.new.text.items c.in_ok-plain.plain
     c.in_ok-plain.ensures.copied c.if-not-plain.false)
