@@ -66,6 +66,12 @@ is_query call.Pending = true
 is_query call.Cookie = true
 is_query other = false
 
+-- what changes nothing in the group
+abbrev pub is_reading : Call → Bool
+is_reading (call.Mutate m) = false
+is_reading (call.EndPull at bytes) = false
+is_reading other = true
+
 -- the id that was replied
 abbrev pub id_in : Replied → ℕ
 id_in (id n) = n

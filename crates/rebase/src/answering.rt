@@ -15,7 +15,7 @@ ghost use Rattle.head_word.specs.Books.{record_of};
 ghost use Rattle.chunk_slots.specs.Seats.{IsIdle};
 ghost use Rattle.answered.specs.Answered.{Answers, nothing};
 ghost use Rattle.rebase.specs.Calls.{Caller, IsAlone, AreAnswered, AreReplies, caller, change_of, is_query, last_after};
-ghost use Rattle.rebase.specs.Calls.{reply_to};
+ghost use Rattle.rebase.specs.Calls.{is_reading, reply_to};
 ghost use Rattle.rebase.specs.Queries.{IsMissed, told};
 ghost use Rattle.rebase.specs.Replies.{reply_seen};
 
@@ -74,6 +74,7 @@ where
         requires { is_query call ≡ true }
         ensures answer { Answers M.means tries self.old.mark self.new.mark (told reply_seen result) nothing
             (λ s. reply_to M.means (caller self.old.group.now.identity self.old.id self.old.last) s call.entry) }
+        ensures err { IfErr result (λ e. (e ≡ NoMemory) ⊎ IsMissed S.reused e) }
         ensures seen { IsPrefix self.old.mark.log self.new.mark.log }
         ensures idle { S.reused → IsIdle (S.view self.new.slots) }
         ensures seat { (self.new.mark.book ≡ self.old.mark.book) × (self.new.mark.seat ≡ self.old.mark.seat) }
@@ -91,6 +92,7 @@ where
         ensures answer { let c = caller self.old.group.now.identity self.old.id self.old.last in
             Answers M.means tries self.old.mark self.new.mark (told reply_seen result) (change_of c call.entry)
             (λ s. reply_to M.means c s call.entry) }
+        ensures err { is_reading call.entry ≡ true → IfErr result (λ e. (e ≡ NoMemory) ⊎ IsMissed S.reused e) }
         ensures last { self.new.last ≡ last_after self.old.last (told reply_seen result) }
         ensures seen { IsPrefix self.old.mark.log self.new.mark.log }
         ensures idle { S.reused → IsIdle (S.view self.old.slots) → IsIdle (S.view self.new.slots) }

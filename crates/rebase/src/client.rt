@@ -120,6 +120,7 @@ where
     pub fn push_body(&mut self, tries: u32) -> Result<Vec<u8>, Refusal>
         ensures answer { Answers M.means tries self.old.mark self.new.mark (told (λ body. body.items) result) nothing
             (λ s. Ok (push_text self.old.group.now.identity s.pending)) }
+        ensures err { IfErr result (λ e. (e ≡ NoMemory) ⊎ IsMissed S.reused e) }
         ensures idle { S.reused → IsIdle (S.view self.new.slots) }
         ensures seen { IsPrefix self.old.mark.log self.new.mark.log }
         ensures seat { (self.new.mark.book ≡ self.old.mark.book) × (self.new.mark.seat ≡ self.old.mark.seat) }
@@ -144,6 +145,7 @@ where
     pub fn begin_pull(&mut self, tries: u32) -> Result<Ticket, Refusal>
         ensures answer { Answers M.means tries self.old.mark self.new.mark (told asked result) nothing
             (λ s. Ok (asked_at self.old.group.now.identity s)) }
+        ensures err { IfErr result (λ e. (e ≡ NoMemory) ⊎ IsMissed S.reused e) }
         ensures idle { S.reused → IsIdle (S.view self.new.slots) }
         ensures seen { IsPrefix self.old.mark.log self.new.mark.log }
         ensures seat { (self.new.mark.book ≡ self.old.mark.book) × (self.new.mark.seat ≡ self.old.mark.seat) }

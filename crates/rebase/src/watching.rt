@@ -299,6 +299,7 @@ where
         requires book { watch.old.book ≡ self.old.mark.book }
         ensures answer { Answers M.means tries self.old.mark self.new.mark result nothing
             (λ s. Ok (poll_at M.means watch.old s)) }
+        ensures err { IfErr result (λ e. (e ≡ NoMemory) ⊎ IsMissed S.reused e) }
         ensures kept { watch.new ≡ watch_after watch.old result }
         ensures idle { S.reused → IsIdle (S.view self.new.slots) }
         ensures seen { IsPrefix self.old.mark.log self.new.mark.log }
