@@ -1,18 +1,13 @@
 -- What a book knows when it is opened.
 use Rattle.std.proofs.Common.{◌≡◌, ◌≢◌, ℕ, ◌+◌, ◌<◌, ◌≤◌, zero, suc, length, arith, List, [], ◌∷◌, ap, subst, sym, ◌∙◌}
-use Rattle.std.proofs.Common.{refl, Some, slice_get, cond, eq-eqb, ne_eqb}
+use Rattle.std.proofs.Common.{refl, Some, cond, eq-eqb, ne_eqb}
 use Rattle.std.specs.List.{All}
 use Rattle.std.proofs.lemmas.List.{length_push}
 use Rattle.std.proofs.lemmas.List.Elements.{All-nil, All-push}
 use Rattle.logbook.specs.Pages.{Book}
-use Rattle.group_history.specs.declared.nodes.Node.{Node}
-use Rattle.group_history.specs.declared.refs.Ref.{Ref}
-use Rattle.group_history.specs.Naming.{content_of, drafted_content}
 use Rattle.head_word.specs.declared.entry.Entry.{Entry}
-use Rattle.head_word.specs.Books.{drawn, opening, empty_leaf, opening_snapshot}
 use Rattle.head_word.specs.Marks.{Known, known, seated}
 use Rattle.reader_claims.specs.Lists.{without}
-use Rattle.chunk_slots.specs.Contents.{IsContent}
 use Rattle.chunk_slots.specs.Inside.Openings.{Knows}
 
 -- each mark of a new book knows just what it opens with

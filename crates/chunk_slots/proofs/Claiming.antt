@@ -1,20 +1,13 @@
 -- Steps of a seat of the claims table, and the slots that it has taken.
-use Rattle.std.proofs.Common.{◌≡◌, ℕ, ◌<◌, List, [], ◌∷◌, ◌++◌, ap, subst, sym, ◌∙◌}
-use Rattle.std.specs.Bool.{⊤}
-use Rattle.std.specs.Prelude.{Option, Some, IfSome, option_to_list}
-use Rattle.std.specs.List.{All}
-use Rattle.std.proofs.lemmas.List.Elements.{All-push, All-pop, All-weaker}
+use Rattle.std.proofs.Common.{◌≡◌, ℕ, ◌<◌, ap, subst, sym, ◌∙◌}
 use Rattle.reader_claims.specs.declared.view.View.{View}
 use Rattle.reader_claims.specs.Lists.{In}
 use Rattle.reader_claims.specs.Machine.{Move, Moves}
-use Rattle.reader_claims.specs.Passes.{Takes}
 use Rattle.reader_claims.specs.Seats.{ClaimsId, Seated}
 use Rattle.reader_claims.specs.Views.{with_settled, with_withdrawn}
 use Rattle.reader_claims.proofs.Moving.{one_move, then_move}
 use Rattle.reader_claims.proofs.Slotted.{left_of}
 use Rattle.chunk_slots.specs.Inside.Places.{IsWithin}
-use Rattle.chunk_slots.specs.Inside.Openings.{IsReady}
-use Rattle.chunk_slots.specs.Seats.{IsIdle}
 
 -- one step, and two, of a seat under either of its names
 pub one_from : (s t : Seated) (w : View) (i x y : ℕ) → s ≡ t → Move s.view i x y w → Moves t.view w

@@ -195,7 +195,6 @@ impl<R: Wait + Sync + Drop, M: Means> Store<M> for Append<R, M> {
 
     fn place(
         &self,
-        alloc: Global,
         _seat: &mut NoClaims,
         mark: &Mark<M>,
         _slot: u32,
@@ -203,7 +202,6 @@ impl<R: Wait + Sync + Drop, M: Means> Store<M> for Append<R, M> {
         node: Node<Ref>,
         _tries: u32,
     ) -> Result<u32, Refusal> {
-        let node = Box::new(alloc, node)?;
         let Ok(at) = self.nodes.push(&self.rt, Placed::new(stamp, node, mark)) else {
             return Err(Refusal::NoMemory);
         };

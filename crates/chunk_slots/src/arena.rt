@@ -222,7 +222,6 @@ impl<M: Means> Store<M> for Arena<M> {
 
     fn place(
         &self,
-        alloc: Global,
         seat: &mut ArenaSeat,
         mark: &Mark<M>,
         slot: u32,
@@ -231,7 +230,6 @@ impl<M: Means> Store<M> for Arena<M> {
         tries: u32,
     ) -> Result<u32, Refusal> {
         seat.within(slot);
-        let node = Box::new(alloc, node)?;
         Ok(self.fill(slot, Placed::new(stamp, node, mark), tries)?)
     }
 

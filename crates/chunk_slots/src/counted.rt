@@ -32,8 +32,8 @@ use counted_slot::{Claim, Counted, MOST_READERS, ONE_READER, PRESENT, TAKEN};
 use group_history::Means;
 use head_word::Mark;
 
-/// A slot has 32 bytes: 8 of the word, 8 that say whether there is a node, and 16 of a node: its stamp,
-/// and a pointer to it.
+/// A slot has 72 bytes: 8 of the word, 8 that say whether there is a node, and 56 of the node: its stamp, and the node
+/// in place.
 pub(crate) type Slot<M> = Counted<Option<Placed<M>>>;
 
 fn state_of(word: u64) -> u64

@@ -147,7 +147,6 @@ where
 
     fn place(
         &self,
-        alloc: Global,
         seat: &mut GatedSeat<S::Seat>,
         mark: &Mark<M>,
         slot: u32,
@@ -158,7 +157,7 @@ where
         self.gate.before(seat.number, Step::Place);
         let placed = self
             .store
-            .place(alloc, &mut seat.seat, mark, slot, stamp, node, tries);
+            .place(&mut seat.seat, mark, slot, stamp, node, tries);
         self.gate.after(seat.number, Step::Place);
         placed
     }

@@ -48,7 +48,7 @@ pub(crate) fn placed_leaf<M: Means>(alloc: Global, mark: &Mark<M>) -> Result<Pla
     ensures book { IfOk result (λ placed. placed.mark.book ≡ mark.now.book) }
     ensures err { IfErr result (λ e. e ≡ NoMemory) }
 {
-    let node = Box::new(alloc, empty_leaf(alloc)?)?;
+    let node = empty_leaf(alloc)?;
     Ok(Placed::new(0, node, mark))
 }
 
@@ -63,7 +63,7 @@ pub(crate) fn placed_snapshot<M: Means>(
     ensures book { IfOk result (λ placed. placed.mark.book ≡ mark.now.book) }
     ensures err { IfErr result (λ e. e ≡ NoMemory) }
 {
-    let node = Box::new(alloc, opening_snapshot(alloc, leaf)?)?;
+    let node = opening_snapshot(alloc, leaf)?;
     Ok(Placed::new(1, node, mark))
 }
 

@@ -8,11 +8,11 @@ use head_word::{Mark, Sight};
 use std::marker::Model;
 
 /// A node under its stamp, and what a mark has seen whose book has the draft that drew the stamp for it.
-/// It has 16 bytes: the stamp and a pointer. What the mark has seen has none.
+/// It has 56 bytes: the stamp, and the node in place. What the mark has seen has none.
 #[derive(Drop)]
 pub struct Placed<M: Means> {
     stamp: u64,
-    node: Box<Node<Ref>>,
+    node: Node<Ref>,
     seen: Sight<M>,
 }
 
@@ -26,9 +26,9 @@ impl<M: Means> Model for Placed<M> {
 
     ghost coded = { Prim.hlevel (codes, ids_coded, entry.the_row.coded) };
 
-    ghost view = { λ p. record { stamp = p.stamp; node = p.node.value; mark = p.seen } };
+    ghost view = { λ p. record { stamp = p.stamp; node = p.node; mark = p.seen } };
 
-    ghost invariant = { λ p. IsContent p.seen.log p.stamp p.node.value };
+    ghost invariant = { λ p. IsContent p.seen.log p.stamp p.node };
 }
 
 impl<M: Means> Fits for Placed<M> {
@@ -38,10 +38,10 @@ impl<M: Means> Fits for Placed<M> {
 }
 
 impl<M: Means> Placed<M> {
-    pub(crate) fn new(stamp: u64, node: Box<Node<Ref>>, mark: &Mark<M>) -> Placed<M>
-        requires { IsContent mark.now.log stamp node.value }
+    pub(crate) fn new(stamp: u64, node: Node<Ref>, mark: &Mark<M>) -> Placed<M>
+        requires { IsContent mark.now.log stamp node }
         ensures stamp { result.stamp ≡ stamp }
-        ensures node { result.node ≡ node.value }
+        ensures node { result.node ≡ node }
         ensures log { result.mark.log ≡ mark.now.log }
         ensures book { result.mark.book ≡ mark.now.book }
     {

@@ -148,7 +148,6 @@ pub trait Store<M: Means>: Slots<M> {
     /// children are placed before their parents.
     fn place(
         &self,
-        alloc: Global,
         seat: &mut Self::Seat,
         mark: &Mark<M>,
         slot: u32,
@@ -162,8 +161,8 @@ pub trait Store<M: Means>: Slots<M> {
         requires drawn { IsContent mark.now.log stamp node }
         ensures seat { seat.new ≡ seat.old }
         ensures slot { IfOk result (λ at. (at < max_slots) × (Self.reused → at ≡ slot)) }
-        ensures err { IfErr result (λ e. (e ≡ refusal.NoMemory)
-            ⊎ ((Self.reused × (e ≡ refusal.Busy)) ⊎ ((Self.reused → ⊥) × (e ≡ refusal.Full)))) };
+        ensures err { IfErr result (λ e. (Self.reused × (e ≡ refusal.Busy))
+            ⊎ ((Self.reused → ⊥) × ((e ≡ refusal.NoMemory) ⊎ (e ≡ refusal.Full)))) };
 
     /// Takes a slot to place a node in. A reserved one is taken only where no ordinary one was free or
     /// could be given, but for those that other seats were quicker to take. `None` comes after a whole

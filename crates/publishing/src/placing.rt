@@ -37,7 +37,6 @@ use std::alloc::Global;
 // Places a node in a taken slot, and settles the slot. Where it is refused, the seat and the references stay as
 // they are.
 fn place_one<M: Means, S: Store<M>>(
-    alloc: Global,
     store: &S,
     seat: &mut S::Seat,
     mark: &Mark<M>,
@@ -61,7 +60,7 @@ fn place_one<M: Means, S: Store<M>>(
     ensures err { IfErr result (λ e. (e ≡ refusal.NoMemory)
         ⊎ ((S.reused × (e ≡ refusal.Busy)) ⊎ ((S.reused → ⊥) × (e ≡ refusal.Full)))) }
 {
-    let at = store.place(alloc, seat, mark, slot, stamp, node, tries)?;
+    let at = store.place(seat, mark, slot, stamp, node, tries)?;
     refs.push(Ref::new(stamp, at))?;
     store.settle(seat, slot);
     Ok(())
@@ -69,7 +68,6 @@ fn place_one<M: Means, S: Store<M>>(
 
 // Places a node in the slot that was taken last. Where it is refused, that slot is withdrawn.
 fn place_next<M: Means, S: Store<M>>(
-    alloc: Global,
     store: &S,
     seat: &mut S::Seat,
     mark: &Mark<M>,
@@ -96,7 +94,7 @@ fn place_next<M: Means, S: Store<M>>(
         ⊎ ((S.reused × (e ≡ refusal.Busy)) ⊎ ((S.reused → ⊥) × (e ≡ refusal.Full)))) }
 {
     let slot = pop(slots);
-    let placed = place_one::<M, S>(alloc, store, seat, mark, slot, stamp, node, refs, tries);
+    let placed = place_one::<M, S>(store, seat, mark, slot, stamp, node, refs, tries);
     if placed.is_err() {
         store.withdraw(seat, slot);
     }
@@ -105,7 +103,6 @@ fn place_next<M: Means, S: Store<M>>(
 
 // Names a node's children as they were placed, and places it under its stamp.
 fn place_named<M: Means, S: Store<M>>(
-    alloc: Global,
     store: &S,
     seat: &mut S::Seat,
     mark: &Mark<M>,
@@ -135,12 +132,11 @@ fn place_named<M: Means, S: Store<M>>(
 {
     let stamp = first + refs.len() as u64;
     let node = node.renamed(from, refs);
-    place_next::<M, S>(alloc, store, seat, mark, stamp, node, slots, refs, tries)
+    place_next::<M, S>(store, seat, mark, stamp, node, slots, refs, tries)
 }
 
 // Places the nodes, each in the slot that was taken last.
 fn place_all<M: Means, S: Store<M>>(
-    alloc: Global,
     store: &S,
     seat: &mut S::Seat,
     mark: &Mark<M>,
@@ -170,9 +166,7 @@ fn place_all<M: Means, S: Store<M>>(
         ⊎ ((S.reused × (e ≡ refusal.Busy)) ⊎ ((S.reused → ⊥) × (e ≡ refusal.Full)))) }
 {
     for node in nodes {
-        place_named::<M, S>(
-            alloc, store, seat, mark, from, first, node, slots, refs, tries,
-        )?;
+        place_named::<M, S>(store, seat, mark, from, first, node, slots, refs, tries)?;
     }
     Ok(())
 }
@@ -224,7 +218,7 @@ fn place_drawn<M: Means, S: Store<M>>(
     let from = draft.first();
     let nodes = draft.into_nodes();
     match place_all::<M, S>(
-        alloc, store, seat, mark, from, first, nodes, &mut slots, &mut refs, tries,
+        store, seat, mark, from, first, nodes, &mut slots, &mut refs, tries,
     ) {
         Ok(()) => {
             return Ok(refs);

@@ -56,20 +56,14 @@ where
     S::Seat: Drop,
 {
     // Places a node that was drafted in a slot that is taken, and gives back one in which it can't.
-    fn fills(
-        &mut self,
-        alloc: Global,
-        slot: u32,
-        stamp: u64,
-        node: Node<Ref>,
-    ) -> Result<u32, Refusal>
+    fn fills(&mut self, slot: u32, stamp: u64, node: Node<Ref>) -> Result<u32, Refusal>
         requires taken { S.reused → In (S.view self.old.seat).taken slot }
         requires drawn { IsContent self.old.mark.log stamp node }
         ensures mark { self.new.mark ≡ self.old.mark }
         ensures slot { IfOk result (λ at. at < max_slots) }
     {
         let store = &self.shared.store;
-        let placed = store.place(alloc, &mut self.seat, &self.mark, slot, stamp, node, 3);
+        let placed = store.place(&mut self.seat, &self.mark, slot, stamp, node, 3);
         if placed.is_ok() {
             store.settle(&mut self.seat, slot);
         } else {
@@ -79,13 +73,13 @@ where
     }
 
     // Places a node that was drafted in a slot that it takes.
-    fn puts(&mut self, alloc: Global, stamp: u64, node: Node<Ref>) -> Result<u32, Refusal>
+    fn puts(&mut self, stamp: u64, node: Node<Ref>) -> Result<u32, Refusal>
         requires { IsContent self.old.mark.log stamp node }
         ensures mark { self.new.mark ≡ self.old.mark }
         ensures slot { IfOk result (λ slot. slot < max_slots) }
     {
         match self.shared.store.take_slot(&mut self.seat, Kind::Ordinary) {
-            Some(slot) => self.fills(alloc, slot, stamp, node),
+            Some(slot) => self.fills(slot, stamp, node),
             None => Err(Refusal::Full),
         }
     }
@@ -96,7 +90,7 @@ where
     {
         let stamp = draws(&self.shared.head, &mut self.mark, alloc)?;
         let leaf = empty(alloc)?;
-        let slot = self.puts(alloc, stamp, Node::Chunk(Chunk::Leaf(leaf)))?;
+        let slot = self.puts(stamp, Node::Chunk(Chunk::Leaf(leaf)))?;
         Ok(Ref::new(stamp, slot))
     }
 
@@ -121,7 +115,7 @@ where
         ensures stamp { IfOk result (λ at. stamp_of at ≡ stamp) }
     {
         let snapshot = bare_snapshot(alloc, cookie)?;
-        let slot = self.puts(alloc, stamp, snapshot)?;
+        let slot = self.puts(stamp, snapshot)?;
         Ok(Ref::new(stamp, slot))
     }
 

@@ -68,7 +68,7 @@ fn places<S: Store<Nobody>>(
     ensures seat { seat.new ≡ seat.old }
 {
     let node = Node::<Ref>::Chunk(Chunk::Leaf(empty(alloc)?));
-    store.place(alloc, seat, mark, slot, stamp, node, 3)
+    store.place(seat, mark, slot, stamp, node, 3)
 }
 
 // Whether an empty leaf, or else something else, is shown.
