@@ -12,7 +12,7 @@ use Rattle.group_history.specs.declared.refs.Ref.{Ref}
 use Rattle.group_history.specs.Refs.{stamp_of}
 use Rattle.group_history.specs.Naming.{children, chunk_children, content_of}
 use Rattle.group_history.specs.Spelling.{Contents, Segment, segment_at, map_at}
-use Rattle.group_history.proofs.Lists.{only_one, no_element, one_here, prefix_trans, map_from, map_to}
+use Rattle.group_history.proofs.Lists.{only_one, one_here, prefix_trans, map_from, map_to}
 use Rattle.commits.specs.declared.founds.Found.TheVariants as found
 use Rattle.commits.specs.declared.gaps.Tops.{Tops}
 use Rattle.commits.specs.Reach.{Reaches, itself, through}

@@ -1,6 +1,6 @@
 -- A chain that is gone down, its references kept, and then up, each commit handed over.
 use Rattle.std.proofs.Common.{◌≡◌, ◌<◌, ℕ, List, [], ◌∷◌, ◌++◌, reverse, Option, Some, None, refl, sym, ap}
-use Rattle.std.proofs.Common.{◌∙◌, subst, append-nil}
+use Rattle.std.proofs.Common.{◌∙◌, subst}
 use Rattle.std.specs.Prelude.{IsSome}
 use mathlib.Core.List.{IsPrefix, reverse-append}
 use Rattle.group_history.specs.declared.nodes.Commit.{Commit}

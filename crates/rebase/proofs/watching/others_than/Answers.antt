@@ -1,8 +1,4 @@
-use Rattle.std.proofs.Common.{◌≡◌, [], sym, ◌∙◌}
-use Rattle.group_history.specs.Queries.{rows_at}
-use Rattle.group_history.specs.Record.{after}
-use Rattle.head_word.specs.Books.{record_of}
-use Rattle.rebase.specs.Inside.Watching.{taken_rows}
+use Rattle.std.proofs.Common.{[], sym, ◌∙◌}
 use Rattle.rebase.proofs.Polling.{if_none, if_some}
 use Rattle.rebase.proofs.watching.others_than.Goals as goal
 
