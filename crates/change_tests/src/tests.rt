@@ -1,4 +1,5 @@
 //! What no contract says: that calls succeed, and what threads meet.
+mod configs;
 mod counts;
 mod ends;
 mod lists;

@@ -2,11 +2,9 @@
 mod chains;
 mod groups;
 mod maps;
-mod pulls;
 mod reads;
 mod renames;
 mod scans;
-mod slots;
 mod texts;
 mod trees;
 mod writes;

@@ -10,7 +10,7 @@ use Rattle.group_history.specs.declared.nodes.Node.{Node}
 use Rattle.group_history.specs.declared.nodes.Node.TheVariants as node
 use Rattle.group_history.specs.declared.refs.Ref.{Ref}
 use Rattle.group_history.specs.Cookies.{Cookie, null_cookie}
-use Rattle.group_history.specs.Meaning.{Meanings, done, unknown}
+use Rattle.group_history.specs.Meaning.{Meanings, unknown}
 use Rattle.group_history.specs.Record.{after_change}
 use Rattle.group_history.specs.State.{opening}
 use Rattle.head_word.specs.declared.entry.Entry.{Entry}
@@ -19,10 +19,6 @@ use Rattle.group_history.specs.Naming.{drafted_content, placed_ref}
 use Rattle.group_history.specs.Refs.{stamp_of}
 use Rattle.map_chunks.specs.Drafts.{Drafted}
 use Rattle.head_word.specs.Books.{drawn, empty_leaf}
-
--- each mutation sets the key that is its name to its arguments
-abbrev pub sets : Meanings
-sets name args why m = done (finite.insert m name args)
 
 abbrev pub no_mutators : Meanings
 no_mutators name args why m = unknown

@@ -16,7 +16,7 @@ pub(super) const A: &str = "00000000-0000-4000-8000-00000000000a";
 
 pub(super) const B: &str = "00000000-0000-4000-8000-00000000000b";
 
-fn identity(alloc: Global) -> Result<Identity, Refusal> {
+pub(super) fn identity(alloc: Global) -> Result<Identity, Refusal> {
     Ok(Identity {
         group: Text::new(alloc, GROUP)?,
         profile: Text::new(alloc, "p1")?,

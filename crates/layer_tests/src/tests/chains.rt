@@ -156,7 +156,7 @@ fn with_local(
 }
 
 /// A chunk with the key `a`, one with the key `b`, and one over both: the stamps 0, 1 and 2.
-pub(super) fn chunks(alloc: Global) -> Result<VecNodes, Refusal>
+fn chunks(alloc: Global) -> Result<VecNodes, Refusal>
     ensures { IfOk result (λ ns. (v w : Bytes)
         × (map content_of ns ≡ node.Chunk (chunk.Leaf ((97 ∷ [], v) ∷ [])) ∷ node.Chunk (chunk.Leaf ((98 ∷ [], w) ∷ []))
         ∷ node.Chunk (chunk.Inner ((97 ∷ [], 0) ∷ (98 ∷ [], 1) ∷ [])) ∷ [])) }

@@ -6,9 +6,8 @@ ghost use Rattle.group_history.specs.Refs.{stamp_of};
 ghost use Rattle.group_history.specs.Spelling.{map_at, version_at};
 
 use super::chains::{at, example};
-use super::pulls::mutation;
 use commits::{LentCommit, Nodes, VecNodes, cookie_of, dropped};
-use group_history::{Mutation, PullOk, Ref, Refusal, Response, Stop};
+use group_history::{Json, Mutation, PullOk, Ref, Refusal, Response, Stop, Text};
 use map_tree::{Chunks, Lent, Shelf};
 use pull_patch::read_response;
 use replays::{add_opening, base_at, rebased};
@@ -174,6 +173,14 @@ fn with_keys(alloc: Global, pending: &[Mutation], count: u32) -> Result<(VecNode
     let (mut nodes, opening) = opened(alloc)?;
     let head = add_rebased(alloc, &mut nodes, opening, pending, &pull)?;
     Ok((nodes, head))
+}
+
+/// A mutation of `a` with this id.
+fn mutation(alloc: Global, id: u64, name: &str, args: &str) -> Result<Mutation, Refusal> {
+    let client = Text::new(alloc, "a")?;
+    let name = Text::new(alloc, name)?;
+    let args = Json::read(alloc, args.as_bytes())?;
+    Ok(Mutation::new(&client, id, &name, &args, 0)?)
 }
 
 /// How many nodes a pull that brings nothing new leaves behind in such a group, where the first of the keys is set, and

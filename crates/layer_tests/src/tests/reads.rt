@@ -11,11 +11,7 @@ use std::prelude::*;
 use transactions::ReadTx;
 
 /// Opens a commit; a commit that can't be shown is an error.
-pub(super) fn opened<N: Nodes + Drop>(
-    alloc: Global,
-    nodes: N,
-    head: Ref,
-) -> Result<ReadTx<N>, Refusal>
+fn opened<N: Nodes + Drop>(alloc: Global, nodes: N, head: Ref) -> Result<ReadTx<N>, Refusal>
     requires known { IsSome (version_at (N.contents nodes) (stamp_of head)) }
     requires place { N.places nodes head }
 {
@@ -26,7 +22,7 @@ pub(super) fn opened<N: Nodes + Drop>(
 }
 
 /// A scan of all.
-pub(super) fn scan_all(alloc: Global) -> Result<Scan, Refusal> {
+fn scan_all(alloc: Global) -> Result<Scan, Refusal> {
     Ok(Scan {
         prefix: Text::new(alloc, "")?,
         start: Start::Any,
@@ -44,19 +40,19 @@ fn is_b(rows: &[(Text, Json)]) -> bool {
 /// What a commit answers of its map: whether it has `a`, whether 1 is at `b`, whether `b` is its only key, and whether
 /// it has none.
 #[derive(Clone, Copy)]
-pub(super) struct InMap {
-    pub(super) has_a: bool,
-    pub(super) one_at_b: bool,
-    pub(super) only_b: bool,
-    pub(super) empty: bool,
+struct InMap {
+    has_a: bool,
+    one_at_b: bool,
+    only_b: bool,
+    empty: bool,
 }
 
 /// The same; how many mutations are pending; and whether its cookie is null.
 #[derive(Clone, Copy)]
-pub(super) struct Answers {
-    pub(super) map: InMap,
-    pub(super) pending: usize,
-    pub(super) null: bool,
+struct Answers {
+    map: InMap,
+    pending: usize,
+    null: bool,
 }
 
 fn one_at_b<N: Nodes>(tx: &mut ReadTx<N>) -> Result<bool, Refusal> {
@@ -101,7 +97,7 @@ fn answered<N: Nodes>(alloc: Global, tx: &mut ReadTx<N>) -> Result<Answers, Refu
     })
 }
 
-pub(super) fn seen<N: Nodes + Drop>(alloc: Global, nodes: N, head: Ref) -> Result<Answers, Refusal>
+fn seen<N: Nodes + Drop>(alloc: Global, nodes: N, head: Ref) -> Result<Answers, Refusal>
     requires known { IsSome (version_at (N.contents nodes) (stamp_of head)) }
     requires place { N.places nodes head }
 {

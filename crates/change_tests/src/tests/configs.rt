@@ -1,5 +1,5 @@
 //! How groups may be laid out.
-use super::queries::identity;
+use super::opening::identity;
 use group_history::Refusal;
 use rebase::{Config, OutOfRange};
 use std::alloc::Global;
