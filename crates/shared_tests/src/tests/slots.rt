@@ -20,7 +20,7 @@ use std::mem::size_of;
 use std::sync::{Arc, Wait};
 use std::thread::{Threads, join};
 
-const _: () = prove!(size_of::<Counted<Option<Placed<Nobody>>>>() == 32);
+const _: () = prove!(size_of::<Counted<Option<Placed<Nobody>>>>() == 72);
 
 // A commit lies behind a pointer, so that a node is as small as a chunk.
 const _: () = prove!(size_of::<Node<Ref>>() == 48);
