@@ -2,7 +2,7 @@
 use group_history::Ref;
 
 /// A node that a shown one names, by its kind.
-#[derive(Clone, Copy, Debug, PartialEq, Eq)]
+#[derive(Clone, Copy)]
 pub enum Found {
     Chunk(Ref),
     Commit(Ref),

@@ -177,7 +177,7 @@ pub fn cookie_of<N: Nodes>(nodes: &mut N, head: Ref) -> Result<Cookie, Stop>
 }
 
 /// A client's last id, and a commit at which it was found.
-#[derive(Clone, Copy, Debug)]
+#[derive(Clone, Copy)]
 pub struct LastId {
     pub at: Ref,
     pub id: u64,

@@ -25,7 +25,6 @@ pub mod Spelling
 pub mod Answers
 pub mod Ran
 pub mod Stops
-pub mod Sameness
 pub mod Orders
 pub mod TextMap
 -- Words that only private clauses of this crate use.

@@ -3,10 +3,9 @@
 //! A cookie is null, a number, a text, or an object whose field `order` is a number or a text. It is
 //! kept as its compact text, and beside it what it is compared by, so that no comparison reads the text
 //! again. The type's invariant says that the two belong together: reading the text gives this very cookie.
-ghost use Rattle.std.specs.Prelude.{◌≡◌, ◌≤◌, Some, IfOk, nat_eq};
+ghost use Rattle.std.specs.Prelude.{◌≡◌, ◌≤◌, Some, IfOk};
 ghost use Rattle.std.proofs.Common.{refl};
 ghost use Rattle.std.specs.Cmp as laws;
-ghost use Rattle.std.specs.Cmp.Lexicographic.{pointwise, nat_list_eq_equiv};
 ghost use Rattle.std.specs.Ordering.{eq_by_cmp};
 ghost use Rattle.serde_json.specs.Data.{depth};
 ghost use Rattle.serde_json.specs.View.{view};
@@ -107,21 +106,6 @@ impl Model for Cookie {
     ghost view = { λ c. record { text = c.text; order = c.order } };
 
     ghost invariant = { λ c. cookie_at c.text ≡ Some (record { text = c.text; order = c.order }) };
-}
-
-/// Two cookies are equal where their texts are.
-impl PartialEq for Cookie {
-    ghost eq = { λ x y. pointwise nat_eq x.text y.text };
-
-    ghost laws = { laws.partial_equiv_from_equiv (laws.on_equiv (λ (c : Cookie). c.text) nat_list_eq_equiv) };
-
-    fn eq(&self, other: &Self) -> bool {
-        self.text() == other.text()
-    }
-}
-
-impl Eq for Cookie {
-    ghost laws = { laws.on_equiv (λ (c : Cookie). c.text) nat_list_eq_equiv };
 }
 
 fn plain_order_of(alloc: Global, value: &Value) -> Result<Option<Order>, AllocError>

@@ -1,18 +1,14 @@
 //! What a pull's response says, and how its end is answered.
 ghost use Rattle.std.specs.Prelude.{◌≡◌};
-ghost use Rattle.std.specs.Cmp as laws;
-ghost use Rattle.group_history.specs.Sameness.{same_confirmed, same_confirmed-equiv, same_patch, same_patch-equiv};
-ghost use Rattle.group_history.specs.Sameness.{same_pull, same_pull-equiv};
 
 use crate::cookies::Cookie;
 use crate::json::Json;
 use crate::texts::Text;
-use std::alloc::AllocError;
 use std::fmt;
 use std::marker::Model;
 
 /// One operation on the pulled map (Pull Endpoint Reference, "patch").
-#[derive(Clone, Drop)]
+#[derive(Drop)]
 pub enum Patch {
     /// The key has the value.
     Put(Text, Json),
@@ -22,27 +18,7 @@ pub enum Patch {
     Clear,
 }
 
-impl PartialEq for Patch {
-    ghost eq = { same_patch };
-
-    ghost laws = { laws.partial_equiv_from_equiv same_patch-equiv };
-
-    fn eq(&self, other: &Self) -> bool {
-        match (self, other) {
-            (Patch::Put(key, value), Patch::Put(k, v)) => key == k && value == v,
-            (Patch::Del(key), Patch::Del(k)) => key == k,
-            (Patch::Clear, Patch::Clear) => true,
-            _ => false,
-        }
-    }
-}
-
-impl Eq for Patch {
-    ghost laws = { same_patch-equiv };
-}
-
 /// Up to which id a client's mutations are confirmed (Pull Endpoint Reference, "lastMutationIDChanges").
-#[derive(Clone)]
 pub struct Confirmed {
     /// The client's ID.
     pub client: Text,
@@ -55,20 +31,6 @@ impl Drop for Confirmed {
         let Confirmed { client, id: _ } = self;
         drop(client);
     }
-}
-
-impl PartialEq for Confirmed {
-    ghost eq = { same_confirmed };
-
-    ghost laws = { laws.partial_equiv_from_equiv same_confirmed-equiv };
-
-    fn eq(&self, other: &Self) -> bool {
-        self.client == other.client && self.id == other.id
-    }
-}
-
-impl Eq for Confirmed {
-    ghost laws = { same_confirmed-equiv };
 }
 
 /// A response without an error. Each of its ids is from 0 to 2^52.
@@ -135,35 +97,6 @@ impl PullOk {
     }
 }
 
-impl Clone for PullOk {
-    ghost is_clone = { λ p copy. copy ≡ p };
-
-    fn clone(&self) -> Result<PullOk, AllocError> {
-        let cookie = self.cookie.clone()?;
-        let changes = self.changes.clone()?;
-        let patch = self.patch.clone()?;
-        Ok(PullOk {
-            cookie,
-            changes,
-            patch,
-        })
-    }
-}
-
-impl PartialEq for PullOk {
-    ghost eq = { same_pull };
-
-    ghost laws = { laws.partial_equiv_from_equiv same_pull-equiv };
-
-    fn eq(&self, other: &Self) -> bool {
-        self.cookie == other.cookie && self.changes == other.changes && self.patch == other.patch
-    }
-}
-
-impl Eq for PullOk {
-    ghost laws = { same_pull-equiv };
-}
-
 /// Which version the server doesn't support.
 #[derive(Clone, Copy, Debug, PartialEq, Eq)]
 pub enum VersionKind {
@@ -191,7 +124,7 @@ impl fmt::Display for VersionKind {
 }
 
 /// A response to a pull (Pull Endpoint Reference, version 1).
-#[derive(PartialEq, Eq, Drop)]
+#[derive(Drop)]
 pub enum Response {
     Ok(PullOk),
     /// The server doesn't know the client group, which is closed by this.

@@ -2,7 +2,7 @@
 use group_history::Text;
 
 /// What every request of a client group bears. Any text serves: it is escaped as a JSON text.
-#[derive(Clone, Debug, PartialEq, Drop)]
+#[derive(Clone, Drop)]
 pub struct Identity {
     /// The client group's ID.
     pub group: Text,

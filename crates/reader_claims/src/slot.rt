@@ -4,7 +4,7 @@ ghost use Rattle.std.specs.Prelude.{◌≡◌, ℕ};
 use std::marker::Model;
 
 /// A slot of the table, by its number from 0 on.
-#[derive(Clone, Copy, Debug, PartialEq, Eq)]
+#[derive(Clone, Copy, PartialEq, Eq)]
 pub struct Slot {
     number: u32,
 }
@@ -34,7 +34,7 @@ impl Slot {
 
 /// Which slots a call looks at: the ordinary ones, or the reserved ones too, which are the last
 /// quarter of all.
-#[derive(Clone, Copy, Debug, PartialEq, Eq)]
+#[derive(Clone, Copy)]
 pub enum Kind {
     Ordinary,
     PullEnd,

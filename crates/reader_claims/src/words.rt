@@ -5,7 +5,7 @@ ghost use Rattle.std.specs.Prelude.{◌≡◌, ◌≤◌, ◌<◌, ◌^◌};
 use group_history::MAX_SEATS;
 
 /// A reader's pin, as its own seat knows it. Another seat reads a held pin as stored.
-#[derive(Clone, Copy, Debug, PartialEq, Eq)]
+#[derive(Clone, Copy)]
 pub enum Pin {
     Absent,
     /// Stored at an epoch that was not read again since.
@@ -15,7 +15,7 @@ pub enum Pin {
 }
 
 /// What a slot's word says.
-#[derive(Clone, Copy, Debug, PartialEq, Eq)]
+#[derive(Clone, Copy)]
 pub enum SlotState {
     Free,
     /// By the reader of this number.

@@ -26,7 +26,7 @@ use std::cmp::Ordering;
 use transactions::Known;
 
 /// What a pull leads to: the commit of the state after it, and how many mutations stay pending there.
-#[derive(Clone, Copy, Debug)]
+#[derive(Clone, Copy)]
 pub struct RebasedHead {
     pub commit: Ref,
     pub left: usize,

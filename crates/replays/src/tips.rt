@@ -28,7 +28,7 @@ use std::sync::Arc;
 
 /// The newest commit of a chain, the snapshot at which the chain begins, and the root of the map that
 /// queries read at the commit.
-#[derive(Clone, Copy, Debug)]
+#[derive(Clone, Copy)]
 pub struct Tip {
     pub commit: Ref,
     pub snapshot: Ref,

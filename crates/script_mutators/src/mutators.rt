@@ -22,7 +22,7 @@ use group_history::{Json, Means, Mutators, Ran, Reason, Stop, WriteView};
 use std::alloc::Global;
 
 /// The mutators of scripts. Any name but theirs is unknown.
-#[derive(Clone, Copy, Debug)]
+#[derive(Clone, Copy)]
 pub struct ScriptMutators;
 
 impl Means for ScriptMutators {
