@@ -1,4 +1,5 @@
 mod NewestLemmas
 mod StateLemmas
+mod ReplayLemmas
 mod RunLemmas
 pub mod BelowLemmas

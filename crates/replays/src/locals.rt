@@ -1,23 +1,24 @@
 //! Local commits: a new mutation, and pending ones that are replayed.
-ghost use Rattle.std.specs.Prelude.{◌≡◌, ◌⊎◌, ◌<◌, false, length, Some, Ok, Err, IsSome, IfOk, IfErr, OnOk};
+ghost use Rattle.std.specs.Prelude.{◌≡◌, ◌⊎◌, ◌<◌, false, length, Some, Ok, Err, IfOk, IfErr, IfSome, OnOk};
+ghost use mathlib.Core.List.{IsPrefix};
 ghost use Rattle.group_history.specs.Map.{Entries};
 ghost use Rattle.group_history.specs.Meaning.{Meaning, left_by, meaning_of};
 ghost use Rattle.group_history.specs.Mutating.{after_mutate, by_meaning, map_of};
 ghost use Rattle.group_history.specs.Refs.{stamp_of};
-ghost use Rattle.group_history.specs.Spelling.{Contents, map_at, Spells};
-ghost use Rattle.group_history.specs.State.{State, view_of};
+ghost use Rattle.group_history.specs.Spelling.{Contents, Version, map_at, Spells};
+ghost use Rattle.group_history.specs.State.{State, view_of, replayed as map_after};
 ghost use Rattle.group_history.specs.declared.refs.Ref.{Ref as Reference};
 ghost use Rattle.group_history.specs.declared.refusals.Refusal.TheVariants.{NoMemory, Stamps};
 ghost use Rattle.map_chunks.specs.Places.{with_nodes};
 ghost use Rattle.map_tree.specs.Trees.{tree_map};
-ghost use Rattle.replays.specs.Chaining.{IsTip};
+ghost use Rattle.replays.specs.Chaining.{HasTip, IsTip};
 ghost use Rattle.replays.specs.Inside.Pending.{with_more};
 ghost use Rattle.replays.specs.Inside.Running.{HasRun};
 ghost use Rattle.replays.specs.Refusing.{RefusesFor, StopsAs};
 
 use crate::runs::{Run, run_on};
-use crate::tips::{Tip, add_local};
-use group_history::{Mutation, Mutators, Ran, Ref, Refusal};
+use crate::tips::{Tip, add_local, add_over};
+use group_history::{Mutation, Mutators, Ran, Ref, Refusal, Step};
 use map_tree::{Chunks, Draft, Tree};
 use std::alloc::Global;
 use transactions::Known;
@@ -111,8 +112,8 @@ fn replay_one<C: Chunks + Copy, K: Known, M: Mutators>(
     Ok(after)
 }
 
-/// Drafts a commit for each of the mutations, in order.
-pub fn replayed<C: Chunks + Copy, K: Known, M: Mutators>(
+// A commit for each of the mutations, in order, of which each has its own map.
+fn replay_each<C: Chunks + Copy, K: Known, M: Mutators>(
     alloc: Global,
     chunks: C,
     draft: &mut Draft,
@@ -135,4 +136,108 @@ pub fn replayed<C: Chunks + Copy, K: Known, M: Mutators>(
         tip = replay_one::<C, K, M>(alloc, chunks, draft, tip, mutators, mutation)?;
     }
     Ok(tip)
+}
+
+// The map that the mutations leave, run in order on the map of a root; none where a mutator of them isn't done.
+fn run_all<C: Chunks + Copy, K: Known, M: Mutators>(
+    alloc: Global,
+    chunks: C,
+    draft: &Draft,
+    root: Ref,
+    mutators: &M,
+    pending: &[Mutation],
+) -> Result<Option<Tree>, Refusal>
+    requires known { C.contents chunks ≡ K.known }
+    requires places { (at : Reference) → C.places chunks at }
+    requires behind { draft.now.first ≡ length K.known }
+    requires map { (m : Entries) × (map_at (with_nodes K.known draft.now.nodes) (stamp_of root) ≡ Some m) }
+    ensures left { (m : Entries) → map_at (with_nodes K.known draft.now.nodes) (stamp_of root) ≡ Some m
+        → IfOk result (λ found. IfSome found (λ tree. tree_map (with_nodes K.known draft.now.nodes) tree
+        ≡ Some (map_after M.means m pending.now))) }
+    ensures err { IfErr result (λ e. (e ≡ NoMemory) ⊎ StopsAs C.stops e) }
+{
+    let mut tree = Tree::at(root);
+    for mutation in pending {
+        let run = run_on::<C, K, M>(alloc, chunks, draft, tree, mutators, mutation)?;
+        let Ok(left) = done(run) else {
+            return Ok(None);
+        };
+        tree = left;
+    }
+    Ok(Some(tree))
+}
+
+// A commit for each of the mutations, in order, all with the map of the basis: no head is at any of them.
+fn add_unread<K: Known>(draft: &mut Draft, basis: Tip, before: &[Mutation]) -> Result<Tip, Refusal>
+    requires behind { draft.old.first ≡ length K.known }
+    requires tip { (v : Version) × HasTip (with_nodes K.known draft.old.nodes) basis v × (v.state.closed ≡ false) }
+    ensures tip { (v : Version) → HasTip (with_nodes K.known draft.old.nodes) basis v → v.state.closed ≡ false
+        → IfOk result (λ after. HasTip (with_nodes K.known draft.new.nodes) after
+        (record { state = with_more v.state before.now; read = v.read })) }
+    ensures grown { IsPrefix draft.old.nodes draft.new.nodes }
+    ensures first { draft.new.first ≡ draft.old.first }
+    ensures why { IfErr result (λ e. (e ≡ NoMemory) ⊎ (e ≡ Stamps)) }
+{
+    let mut tip = basis;
+    for mutation in before {
+        let mutation = mutation.clone()?;
+        tip = add_over(draft, tip, tip.root, Step::Local(mutation))?;
+    }
+    Ok(tip)
+}
+
+// Drafts what a tree has new, and a commit for each of the mutations, in order, of which the last has its map.
+fn add_all<K: Known>(
+    alloc: Global,
+    draft: &mut Draft,
+    tree: Tree,
+    basis: Tip,
+    before: &[Mutation],
+    last: &Mutation,
+) -> Result<Tip, Refusal>
+    requires behind { draft.old.first ≡ length K.known }
+    requires tip { (v : Version) × HasTip (with_nodes K.known draft.old.nodes) basis v × (v.state.closed ≡ false) }
+    requires map { (m : Entries) × (tree_map (with_nodes K.known draft.old.nodes) tree ≡ Some m) }
+    ensures tip { (v : Version) (m : Entries) → HasTip (with_nodes K.known draft.old.nodes) basis v
+        → v.state.closed ≡ false → tree_map (with_nodes K.known draft.old.nodes) tree ≡ Some m
+        → IfOk result (λ after. HasTip (with_nodes K.known draft.new.nodes) after
+        (record { state = after_mutate (with_more v.state before.now) last.now; read = m })) }
+    ensures some { IfOk result (λ _. 0 < length draft.new.nodes) }
+    ensures first { draft.new.first ≡ draft.old.first }
+    ensures why { IfErr result (λ e. (e ≡ NoMemory) ⊎ (e ≡ Stamps)) }
+{
+    let root = tree.freeze(alloc, draft)?;
+    let tip = add_unread::<K>(draft, basis, before)?;
+    let mutation = last.clone()?;
+    add_over(draft, tip, root, Step::Local(mutation))
+}
+
+/// Drafts a commit for each of the mutations, in order. Where each mutator is done they are run on one tree, and
+/// the last commit alone has its map: queries read at heads, and no other of these commits is one. Else each has its
+/// own, so that what a refusing mutator wrote goes with its tree.
+pub fn replayed<C: Chunks + Copy, K: Known, M: Mutators>(
+    alloc: Global,
+    chunks: C,
+    draft: &mut Draft,
+    basis: Tip,
+    mutators: &M,
+    pending: &[Mutation],
+) -> Result<Tip, Refusal>
+    requires known { C.contents chunks ≡ K.known }
+    requires places { (at : Reference) → C.places chunks at }
+    requires behind { draft.old.first ≡ length K.known }
+    requires tip { (s : State) × IsTip M.means (with_nodes K.known draft.old.nodes) basis s × (s.closed ≡ false) }
+    ensures tip { (s : State) → IsTip M.means (with_nodes K.known draft.old.nodes) basis s → s.closed ≡ false
+        → IfOk result (λ after. IsTip M.means (with_nodes K.known draft.new.nodes) after (with_more s pending.now)) }
+    ensures some { 0 < length draft.old.nodes → OnOk result (0 < length draft.new.nodes) }
+    ensures first { draft.new.first ≡ draft.old.first }
+    ensures err { IfErr result (λ e. (e ≡ NoMemory) ⊎ (e ≡ Stamps) ⊎ StopsAs C.stops e) }
+{
+    let Some((last, before)) = pending.split_last() else {
+        return Ok(basis);
+    };
+    match run_all::<C, K, M>(alloc, chunks, draft, basis.root, mutators, pending)? {
+        Some(tree) => add_all::<K>(alloc, draft, tree, basis, before, last),
+        None => replay_each::<C, K, M>(alloc, chunks, draft, basis, mutators, pending),
+    }
 }

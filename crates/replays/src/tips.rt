@@ -35,8 +35,8 @@ pub struct Tip {
     pub root: Ref,
 }
 
-// Drafts a commit over a basis, with the map of this root.
-fn add_over(draft: &mut Draft, basis: Tip, root: Ref, step: Step) -> Result<Tip, Refusal>
+/// Drafts a commit over a basis, with the map of this root.
+pub(crate) fn add_over(draft: &mut Draft, basis: Tip, root: Ref, step: Step) -> Result<Tip, Refusal>
     requires below { AreBelow (draft.old.first + length draft.old.nodes) (root ∷ basis.commit ∷ basis.snapshot ∷ []) }
     ensures spelled { (contents : Contents) (v : Version) (m : Entries) → length contents ≡ draft.old.first
         → version_at (with_nodes contents draft.old.nodes) (stamp_of basis.commit) ≡ Some v

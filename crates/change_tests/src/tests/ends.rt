@@ -399,44 +399,45 @@ const FIRST: &str =
 const SECOND: &str =
     r#"{"cookie":2,"lastMutationIDChanges":{},"patch":[{"op":"put","key":"n","value":0}]}"#;
 
-// Two slots are taken by what was pulled, and two by each mutation. An end of a pull that leaves five pending takes
-// twelve more, and with that all the ordinary ones are taken; six more mutations need those that it let go.
-static FIVE_PENDING: [Step; 7] = [
+// Two slots are taken by what was pulled, and two by each mutation. An end of a pull that leaves six pending takes
+// eight more: those of a snapshot, of a commit for each mutation, and of the chunk that all of them leave. Seven more
+// mutations need what it let go.
+static SIX_PENDING: [Step; 7] = [
     (1, Asks::End(FIRST), APPLIED),
-    (5, Asks::Incr, Ok(Told::Id(5))),
+    (6, Asks::Incr, Ok(Told::Id(6))),
     (1, Asks::End(SECOND), APPLIED),
-    (1, Asks::Get("n"), Ok(Told::Value(Some(5)))),
-    (6, Asks::Incr, Ok(Told::Id(11))),
+    (1, Asks::Get("n"), Ok(Told::Value(Some(6)))),
+    (7, Asks::Incr, Ok(Told::Id(13))),
     (1, Asks::Incr, Err(Refusal::Full)),
-    (1, Asks::Get("n"), Ok(Told::Value(Some(11)))),
+    (1, Asks::Get("n"), Ok(Told::Value(Some(13)))),
 ];
 
 #[test]
-fn five_mutations_are_replayed_in_ordinary_slots(rt: HostRuntime) -> Result<(), Refusal> {
-    let other = other_in_new::<Arena<ScriptMutators>>(rt.alloc(), (), &FIVE_PENDING)?;
+fn six_mutations_are_replayed_in_ordinary_slots(rt: HostRuntime) -> Result<(), Refusal> {
+    let other = other_in_new::<Arena<ScriptMutators>>(rt.alloc(), (), &SIX_PENDING)?;
     assert_eq!(rt; other, None);
     Ok(())
 }
 
-// A's six mutations are confirmed.
-const SIX_CONFIRMED: &str =
-    r#"{"cookie":2,"lastMutationIDChanges":{"00000000-0000-4000-8000-00000000000a":6},"patch":[{"op":"put","key":"n","value":7}]}"#;
+// A's seven mutations are confirmed.
+const SEVEN_CONFIRMED: &str =
+    r#"{"cookie":2,"lastMutationIDChanges":{"00000000-0000-4000-8000-00000000000a":7},"patch":[{"op":"put","key":"n","value":8}]}"#;
 
-// An end that leaves six pending would take fourteen slots, of which ten are free. Reserved ones are no help, but for
+// An end that leaves seven pending would take nine slots, of which eight are free. Reserved ones are no help, but for
 // an end that leaves nothing pending.
-static SIX_PENDING: [Step; 7] = [
+static SEVEN_PENDING: [Step; 7] = [
     (1, Asks::End(FIRST), APPLIED),
-    (6, Asks::Incr, Ok(Told::Id(6))),
+    (7, Asks::Incr, Ok(Told::Id(7))),
     (1, Asks::End(SECOND), Err(Refusal::Full)),
-    (1, Asks::Get("n"), Ok(Told::Value(Some(6)))),
-    (1, Asks::End(SIX_CONFIRMED), APPLIED),
     (1, Asks::Get("n"), Ok(Told::Value(Some(7)))),
-    (1, Asks::Incr, Ok(Told::Id(7))),
+    (1, Asks::End(SEVEN_CONFIRMED), APPLIED),
+    (1, Asks::Get("n"), Ok(Told::Value(Some(8)))),
+    (1, Asks::Incr, Ok(Told::Id(8))),
 ];
 
 #[test]
-fn six_mutations_are_not_replayed_in_reserved_slots(rt: HostRuntime) -> Result<(), Refusal> {
-    let other = other_in_new::<Arena<ScriptMutators>>(rt.alloc(), (), &SIX_PENDING)?;
+fn seven_mutations_are_not_replayed_in_reserved_slots(rt: HostRuntime) -> Result<(), Refusal> {
+    let other = other_in_new::<Arena<ScriptMutators>>(rt.alloc(), (), &SEVEN_PENDING)?;
     assert_eq!(rt; other, None);
     Ok(())
 }

@@ -3,7 +3,7 @@ use Rattle.group_history.specs.State.{State}
 use Rattle.replays.specs.Chaining.{IsTip}
 use Rattle.replays.specs.Inside.Pending.{with_more}
 use Rattle.map_chunks.specs.Places.{with_nodes}
-use Rattle.replays.proofs.locals.replayed.Given as goal
+use Rattle.replays.proofs.locals.replay_each.Given as goal
 
 -- the tip is of the state with so many of the mutations
 abbrev pub invariant-loop-mutation : goal.invariant-loop-mutation

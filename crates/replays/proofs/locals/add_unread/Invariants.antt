@@ -1,0 +1,16 @@
+use Rattle.std.proofs.Common.{◌≡◌, false, take}
+use mathlib.Core.List.{IsPrefix}
+use Rattle.group_history.specs.Spelling.{Version}
+use Rattle.map_chunks.specs.Places.{with_nodes}
+use Rattle.replays.specs.Chaining.{HasTip}
+use Rattle.replays.specs.Inside.Pending.{with_more}
+use Rattle.replays.proofs.locals.add_unread.Given as goal
+
+-- the tip is of the state with so many of the mutations, and has the map of the basis
+abbrev pub invariant-loop-mutation : goal.invariant-loop-mutation
+invariant-loop-mutation g l =
+    let known = g.K.Known.known in
+    (l.draft.first ≡ l.initial.draft.first) × IsPrefix l.initial.draft.nodes l.draft.nodes
+    × ((v : Version) → HasTip (with_nodes known l.initial.draft.nodes) l.initial.tip v → v.state.closed ≡ false
+    → HasTip (with_nodes known l.draft.nodes) l.tip
+    (record { state = with_more v.state (take l.mutation-index l.before); read = v.read }))
