@@ -1,5 +1,5 @@
 //! Local commits: a new mutation, and pending ones that are replayed.
-ghost use Rattle.std.specs.Prelude.{◌≡◌, ◌⊎◌, ◌<◌, false, length, Some, Ok, Err, IfOk, IfErr, IfSome, OnOk};
+ghost use Rattle.std.specs.Prelude.{◌≡◌, ◌⊎◌, ◌<◌, ◌≤◌, false, length, Some, Ok, Err, IfOk, IfErr, IfSome, OnOk};
 ghost use mathlib.Core.List.{IsPrefix};
 ghost use Rattle.group_history.specs.Map.{Entries};
 ghost use Rattle.group_history.specs.Meaning.{Meaning, left_by, meaning_of};
@@ -112,32 +112,6 @@ fn replay_one<C: Chunks + Copy, K: Known, M: Mutators>(
     Ok(after)
 }
 
-// A commit for each of the mutations, in order, of which each has its own map.
-fn replay_each<C: Chunks + Copy, K: Known, M: Mutators>(
-    alloc: Global,
-    chunks: C,
-    draft: &mut Draft,
-    basis: Tip,
-    mutators: &M,
-    pending: &[Mutation],
-) -> Result<Tip, Refusal>
-    requires known { C.contents chunks ≡ K.known }
-    requires places { (at : Reference) → C.places chunks at }
-    requires behind { draft.old.first ≡ length K.known }
-    requires tip { (s : State) × IsTip M.means (with_nodes K.known draft.old.nodes) basis s × (s.closed ≡ false) }
-    ensures tip { (s : State) → IsTip M.means (with_nodes K.known draft.old.nodes) basis s → s.closed ≡ false
-        → IfOk result (λ after. IsTip M.means (with_nodes K.known draft.new.nodes) after (with_more s pending.now)) }
-    ensures some { 0 < length draft.old.nodes → OnOk result (0 < length draft.new.nodes) }
-    ensures first { draft.new.first ≡ draft.old.first }
-    ensures err { IfErr result (λ e. (e ≡ NoMemory) ⊎ (e ≡ Stamps) ⊎ StopsAs C.stops e) }
-{
-    let mut tip = basis;
-    for mutation in pending {
-        tip = replay_one::<C, K, M>(alloc, chunks, draft, tip, mutators, mutation)?;
-    }
-    Ok(tip)
-}
-
 // The map that the mutations leave, run in order on the map of a root; none where a mutator of them isn't done.
 fn run_all<C: Chunks + Copy, K: Known, M: Mutators>(
     alloc: Global,
@@ -212,9 +186,37 @@ fn add_all<K: Known>(
     add_over(draft, tip, root, Step::Local(mutation))
 }
 
-/// Drafts a commit for each of the mutations, in order. Where each mutator is done they are run on one tree, and
-/// the last commit alone has its map: queries read at heads, and no other of these commits is one. Else each has its
-/// own, so that what a refusing mutator wrote goes with its tree.
+// The halves of at least two mutations, one after the other.
+#[cycle(replaying)]
+fn replay_halves<C: Chunks + Copy, K: Known, M: Mutators>(
+    alloc: Global,
+    chunks: C,
+    draft: &mut Draft,
+    basis: Tip,
+    mutators: &M,
+    pending: &[Mutation],
+) -> Result<Tip, Refusal>
+    requires known { C.contents chunks ≡ K.known }
+    requires places { (at : Reference) → C.places chunks at }
+    requires behind { draft.old.first ≡ length K.known }
+    requires tip { (s : State) × IsTip M.means (with_nodes K.known draft.old.nodes) basis s × (s.closed ≡ false) }
+    requires two { 2 ≤ length pending.now }
+    ensures tip { (s : State) → IsTip M.means (with_nodes K.known draft.old.nodes) basis s → s.closed ≡ false
+        → IfOk result (λ after. IsTip M.means (with_nodes K.known draft.new.nodes) after (with_more s pending.now)) }
+    ensures some { 0 < length draft.old.nodes → OnOk result (0 < length draft.new.nodes) }
+    ensures first { draft.new.first ≡ draft.old.first }
+    ensures err { IfErr result (λ e. (e ≡ NoMemory) ⊎ (e ≡ Stamps) ⊎ StopsAs C.stops e) }
+{
+    let (front, back) = pending.split_at(pending.len() / 2);
+    let middle = replayed::<C, K, M>(alloc, chunks, draft, basis, mutators, front)?;
+    replayed::<C, K, M>(alloc, chunks, draft, middle, mutators, back)
+}
+
+/// Drafts a commit for each of the mutations, in order. They are run on one tree, and the last commit alone has its
+/// map: queries read at heads, and no other of these commits is one. What a mutator that isn't done wrote would stay
+/// in that tree. So where one is among them, the halves are replayed one after the other in this way, down to one
+/// mutation on a tree of its own.
+#[cycle(replaying)]
 pub fn replayed<C: Chunks + Copy, K: Known, M: Mutators>(
     alloc: Global,
     chunks: C,
@@ -236,8 +238,11 @@ pub fn replayed<C: Chunks + Copy, K: Known, M: Mutators>(
     let Some((last, before)) = pending.split_last() else {
         return Ok(basis);
     };
-    match run_all::<C, K, M>(alloc, chunks, draft, basis.root, mutators, pending)? {
-        Some(tree) => add_all::<K>(alloc, draft, tree, basis, before, last),
-        None => replay_each::<C, K, M>(alloc, chunks, draft, basis, mutators, pending),
+    if let Some(tree) = run_all::<C, K, M>(alloc, chunks, draft, basis.root, mutators, pending)? {
+        return add_all::<K>(alloc, draft, tree, basis, before, last);
     }
+    if before.is_empty() {
+        return replay_one::<C, K, M>(alloc, chunks, draft, basis, mutators, last);
+    }
+    replay_halves::<C, K, M>(alloc, chunks, draft, basis, mutators, pending)
 }

@@ -15,7 +15,7 @@ const STORIES: [&str; 8] = [
     "closed",
 ];
 
-const ROWS: [&str; 38] = [
+const ROWS: [&str; 39] = [
     "first_pull",
     "empty",
     "counted_lines",
@@ -28,6 +28,7 @@ const ROWS: [&str; 38] = [
     "rebased",
     "reasons",
     "cleared",
+    "refused_replays",
     "overtaken",
     "same",
     "cookies",

@@ -1,20 +1,31 @@
 use Rattle.std.proofs.Common.{◌≡◌, Option, Some, IfOk, refl, subst}
 use Rattle.std.specs.Prelude.{IfSome}
 use Rattle.group_history.specs.Spelling.{Version, version_of}
-use Rattle.group_history.specs.State.{replayed, view_of}
+use Rattle.group_history.specs.State.{State, replayed, view_of}
 use Rattle.map_chunks.specs.Places.{with_nodes}
 use Rattle.map_tree.specs.Trees.{tree_map}
 use Rattle.map_tree.specs.declared.tree.Tree.{Tree}
-use Rattle.replays.specs.Chaining.{HasTip}
+use Rattle.replays.specs.Chaining.{HasTip, IsTip}
+use Rattle.replays.specs.Inside.Pending.{with_more}
 use Rattle.replays.specs.declared.tips.Tip.{Tip}
-use Rattle.replays.proofs.ReplayLemmas.{version_last}
-use Rattle.replays.proofs.locals.replayed.Goals as goal
+use Rattle.replays.proofs.ReplayLemmas.{version_last, with_halves}
+use Rattle.replays.proofs.locals.+replaying.Goals as goal
 
-pub run_all-requires-clause-map : goal.run_all-requires-clause-map
-run_all-requires-clause-map g c κs within = (view_of g.M.Means.means c.requires.tip.0, c.requires.tip.1.1)
+pub replay_halves-replayed-requires-2-clause-tip : goal.replay_halves-replayed-requires-2-clause-tip
+replay_halves-replayed-requires-2-clause-tip g n c κs below =
+    let t = c.requires.tip in
+    (with_more t.0 c.split_at.result.0.now, c.in_ok-middle.ensures.tip t.0 t.1 t.2, t.2)
 
-pub add_all-requires-clause-map : goal.add_all-requires-clause-map
-add_all-requires-clause-map g c =
+pub replay_halves-returns-clause-tip : goal.replay_halves-returns-clause-tip
+replay_halves-returns-clause-tip g n c s h is_open =
+    let front = c.split_at.result.0.now in
+    subst (λ (w : State). IfOk c.replayed-2.result (λ (after : Tip).
+    IsTip g.M.Means.means (with_nodes g.K.Known.known c.replayed-2.new.draft.nodes) after w))
+    (with_halves s c.args.pending.now front c.split_at.result.1.now c.split_at.ensures.by_index.0)
+    (c.replayed-2.ensures.tip (with_more s front) (c.in_ok-middle.ensures.tip s h is_open) is_open)
+
+pub replayed-add_all-requires-clause-map : goal.replayed-add_all-requires-clause-map
+replayed-add_all-requires-clause-map g n c =
     let means = g.M.Means.means in let t = c.requires.tip in let m = view_of means t.0 in
     let contents = with_nodes g.K.Known.known c.args.draft.now.nodes in
     let all = replayed means m c.args.pending.now in (
@@ -23,8 +34,8 @@ add_all-requires-clause-map g c =
           (c.in_ok-tree.ensures.left m t.1.1),
     )
 
-pub returns-in-Some-2-clause-tip : goal.returns-in-Some-2-clause-tip
-returns-in-Some-2-clause-tip g c s h is_open =
+pub replayed-returns-in-Some-2-clause-tip : goal.replayed-returns-in-Some-2-clause-tip
+replayed-returns-in-Some-2-clause-tip g n c s h is_open =
     let means = g.M.Means.means in let m = view_of means s in let known = g.K.Known.known in
     let contents = with_nodes known c.args.draft.now.nodes in let xs = c.args.pending.now in
     let all = replayed means m xs in
