@@ -118,20 +118,3 @@ pub(crate) fn order(alloc: Global, cookies: &str) -> Result<String, Refusal> {
     };
     Ok(String::from_str(alloc, sign)?)
 }
-
-fn word_for(alloc: Global, first: &Response, second: &str) -> Result<&'static str, Refusal> {
-    let second = read_response(alloc, second.as_bytes())?;
-    Ok(if *first == second { "same" } else { "other" })
-}
-
-fn word_between(alloc: Global, first: &str, second: &str) -> Result<&'static str, Refusal> {
-    let first = read_response(alloc, first.as_bytes())?;
-    word_for(alloc, &first, second)
-}
-
-/// Whether the body before the bar says the same as the one after it.
-pub(crate) fn sameness(alloc: Global, bodies: &str) -> Result<String, Refusal> {
-    let (first, second) = bodies.split_once(" | ").unwrap_or((bodies, ""));
-    let word = word_between(alloc, first, second)?;
-    Ok(String::from_str(alloc, word)?)
-}

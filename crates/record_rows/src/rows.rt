@@ -8,16 +8,14 @@ use std::{fs, io};
 #[derive(Clone, Copy)]
 pub(crate) enum Kind {
     Responses,
-    Pairs,
     Texts,
     Cookies,
     Orders,
     Requests,
 }
 
-pub(crate) const KINDS: [Kind; 6] = [
+pub(crate) const KINDS: [Kind; 5] = [
     Kind::Responses,
-    Kind::Pairs,
     Kind::Texts,
     Kind::Cookies,
     Kind::Orders,
@@ -28,7 +26,6 @@ impl Kind {
     fn file(self) -> &'static str {
         match self {
             Kind::Responses => "responses",
-            Kind::Pairs => "pairs",
             Kind::Texts => "texts",
             Kind::Cookies => "cookies",
             Kind::Orders => "orders",
@@ -39,7 +36,6 @@ impl Kind {
     fn answer(self, alloc: Global, input: &str) -> Result<String, Refusal> {
         match self {
             Kind::Responses => answers::response(alloc, input.as_bytes()),
-            Kind::Pairs => answers::sameness(alloc, input),
             Kind::Texts => answers::text(alloc, input.as_bytes()),
             Kind::Cookies => answers::cookie(alloc, input),
             Kind::Orders => answers::order(alloc, input),
