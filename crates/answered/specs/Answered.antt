@@ -1,10 +1,8 @@
 -- When a call of a client is answered rightly, whatever others do at the same time.
 --
 -- A call takes effect at one point between its beginning and its end: this is linearizability, said of the book of a
--- group.
--- The book's record up to the point gives the state there, and the reply is the right one at this state. A change that
--- the
--- call made stands directly behind the point, and the call made no other. This project's own words.
+-- group. The book's record up to the point gives the state there, and the reply is the right one at this state. A
+-- change that the call made stands directly behind the point, and the call made no other. This project's own words.
 use Rattle.std.specs.Prelude.{ℕ, ◌≡◌, ◌+◌, ◌≤◌, Bool, true, false, List, [], ◌∷◌, ◌++◌, filter, Option, Some, None}
 use Rattle.std.specs.Prelude.{Result, Ok, Err, max}
 use mathlib.Core.List.{IsPrefix}
@@ -35,10 +33,8 @@ moves_for seat to None = []
 moves_for seat to (Some c) = moved seat to (Some c) ∷ []
 
 -- A call that began when its caller knew `old` of the book, and ended when it knew `new`, has a point where the book
--- was `log`:
--- not before the call, and not after it. The change, where it made one, stands directly behind the point, as a move of
--- the
--- caller's seat, and is accepted there. In the whole call the seat moved the head by this change alone.
+-- was `log`: not before the call, and not after it. The change, where it made one, stands directly behind the point, as
+-- a move of the caller's seat, and is accepted there. In the whole call the seat moved the head by this change alone.
 pub record IsPoint (means : Meanings) (old new : Known) (change : Option Change) (log : List Entry) : Type 0 where
   pub to : Ref
   pub since : IsPrefix old.log log
@@ -68,8 +64,7 @@ is_mute e None = is_want e
 is_mute e (Some c) = false
 
 -- The seat did not move the head; and where the call says that others did so first, they added as many entries as it
--- was
--- to try, and one at least.
+-- was to try, and one at least.
 abbrev pub IsLeft : ℕ → Known → Known → Refusal → Type 0
 IsLeft tries old new e = (own_moves new ≡ own_moves old) × (e ≡ refusal.Moved → others old + max 1 tries ≤ others new)
 
@@ -79,8 +74,7 @@ IsRefused means tries old new true e change right = IsLeft tries old new e
 IsRefused means tries old new false e change right = IsAnswered means old new change right
 
 -- What a call answers, by the change that each reply stands for, and by the right reply at each state. A refusal may
--- stand
--- for a change too: that the server does not know the group closes it.
+-- stand for a change too: that the server does not know the group closes it.
 abbrev pub Answers : {X : Type 0} → Meanings → ℕ → Known → Known → Result X Refusal → (Result X Refusal → Option Change)
     → (State → Result X Refusal) → Type 0
 Answers means tries old new (Ok x) change right = IsAnswered means old new (change (Ok x)) (λ s. right s ≡ Ok x)

@@ -50,8 +50,7 @@ abbrev pub raised : List Entry
 raised = begun ++ theirs five ∷ ours raise ∷ []
 
 -- The right replies to three calls: what the number is; to raise it, as the first mutation of its client; and to end a
--- pull
--- whose response says that the server does not know the group.
+-- pull whose response says that the server does not know the group.
 abbrev pub number_at : State → Result (Option Bytes) Refusal
 number_at s = Ok (get_at trial s (codes "n"))
 

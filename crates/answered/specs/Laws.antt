@@ -19,8 +19,7 @@ use Rattle.answered.specs.Answered.{IsPoint, own_moves}
 use Rattle.answered.specs.Changes.{change_made, change_ended, after_made}
 
 -- For a caller beside whom nobody moves the head: where its record grew in the call by the call's own change at most,
--- the
--- call's point is the record before it.
+-- the call's point is the record before it.
 abbrev pub IsAtOnce : Meanings → Type 0
 IsAtOnce means = (old new : Known) (change : Option Change) (log : List Entry) → IsPoint means old new change log
     → record_of new.log ≡ record_of old.log ++ with_change change [] → record_of log ≡ record_of old.log
@@ -28,8 +27,7 @@ IsAtOnce means = (old new : Known) (change : Option Change) (log : List Entry) �
 -- Laws of points, and of the changes that replies stand for.
 pub record ChangeLaws (means : Meanings) : Type 0 where
   -- The record before the call begins the record at its point. This one, with the change behind it where there is one,
-  -- begins
-  -- the record after the call.
+  -- begins the record after the call.
   pub record_before : (old new : Known) (change : Option Change) (log : List Entry) → IsPoint means old new change log
       → IsPrefix (record_of old.log) (record_of log)
   pub record_after : (old new : Known) (change : Option Change) (log : List Entry) → IsPoint means old new change log

@@ -1,10 +1,8 @@
 //! A store that asks a gate around its calls, for tests of schedules.
 //!
 //! What threads meet depends on how their steps fall, and a test that only starts threads sees few of the ways. A gate
-//! is
-//! told of each step of a store before it and after it, and of the seat that makes it. It may let the step go on at
-//! once,
-//! count it, or hold the seat's thread until another one has done what the test is about.
+//! is told of each step of a store before it and after it, and of the seat that makes it. It may let the step go on at
+//! once, count it, or hold the seat's thread until another one has done what the test is about.
 //!
 //! The steps are the calls that change what is claimed, or that place a node. To open the store and to show a node is
 //! not asked for: nobody else has the store yet, and a reader changes nothing but a count.

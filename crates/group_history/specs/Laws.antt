@@ -50,8 +50,7 @@ IsAmong x (y ∷ ys) = (rebased y ≡ rebased x) ⊎ IsAmong x ys
 -- Laws of the record, for mutators of any meaning.
 pub record RecordLaws (means : Meanings) : Type 0 where
   -- At every state the ids of a client's mutations that are accepted from there on rise strictly, and begin above its
-  -- last
-  -- id, so above all that was confirmed of it.
+  -- last id, so above all that was confirmed of it.
   pub ids_rise : (s : State) (cs : List Change) → AllAccepted means s cs → (client : Bytes)
       → IsStrictlySortedBy nat_cmp (last_id s client ∷ ids_made client cs)
   pub last_above_confirmed : (s : State) (client : Bytes) → confirmed_id s.confirmed client ≤ last_id s client
@@ -74,8 +73,7 @@ pub record RecordLaws (means : Meanings) : Type 0 where
   -- each beginning of a legal record is legal
   pub beginning_legal : (cs ds : List Change) → IsLegal means (cs ++ ds) → IsLegal means cs
   -- after a legal record each client's pending ids are the numbers that follow its confirmed id, which is at most 2^52;
-  -- so a
-  -- client's next id fits 64 bits
+  -- so a client's next id fits 64 bits
   pub ids_follow : (cs : List Change) → IsLegal means cs → IdsFollow (after cs).confirmed (after cs).pending
   pub ids_fit : (cs : List Change) → IsLegal means cs → (client : Bytes)
       → last_id (after cs) client ≤ 2 ^ 52 + length cs

@@ -20,8 +20,7 @@ reply_of (Pulled ticket r) = reply.Ended ended.Applied
 reply_of Closed = reply.StateNotFound
 
 -- The change is accepted at the state, with its own reply. A mutation is made for the first time, and its client has
--- the
--- state's last id as its own. A group that is open is closed by any response that says so.
+-- the state's last id as its own. A group that is open is closed by any response that says so.
 abbrev pub IsAccepted : Meanings → State → Change → Type 0
 IsAccepted means s (Mutated x) = (mutate_reply means s (last_id s x.client) x ≡ Ok x.id) × (x.reason ≡ Initial)
 IsAccepted means s (Pulled ticket r) = (end_reply s ticket.text (response.Ok r) ≡ Ok ended.Applied)

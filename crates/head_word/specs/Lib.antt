@@ -1,6 +1,5 @@
 -- What a reader of the public clauses believes, in order of reading: the book and what is true of it; who added which
--- of
--- its entries; what a caller knows of it; the laws of books; and the rule that the two shared words keep.
+-- of its entries; what a caller knows of it; the laws of books; and the rule that the two shared words keep.
 pub mod Books
 pub mod Tallies
 pub mod Marks

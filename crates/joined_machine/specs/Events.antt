@@ -1,7 +1,5 @@
--- What a seat of the joined machine does, as plain data.
--- An event is one step of one seat. A step on the claims table is one by which the calls of that table are specified,
--- and `deed_of` says
--- which deed it is.
+-- What a seat of the joined machine does, as plain data. An event is one step of one seat. A step on the claims table
+-- is one by which the calls of that table are specified, and `deed_of` says which deed it is.
 use Rattle.std.specs.Prelude.{ℕ, List}
 use Rattle.group_history.specs.declared.changes.Change.{Change}
 use Rattle.group_history.specs.declared.nodes.Node.{Node}

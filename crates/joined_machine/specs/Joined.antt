@@ -1,18 +1,12 @@
--- The joined machine: which events may happen in a world, and what each changes.
--- A step on the claims table is a `Move` of that table, as it stands; a step on the book is a look, or adds one entry.
--- Between the two
--- there are these orders. A reader loads the head only while it holds a pin, and looks only at slots that the loaded
--- commit reaches. A
+-- The joined machine: which events may happen in a world, and what each changes. A step on the claims table is a `Move`
+-- of that table, as it stands; a step on the book is a look, or adds one entry. Between the two there are these orders.
+-- A reader loads the head only while it holds a pin, and looks only at slots that the loaded commit reaches. A
 -- publisher holds a pin through its try. In the try it takes slots, draws stamps, settles, and exchanges the head from
--- the commit that it
--- loaded. After a won exchange it loads the epoch as n, raises it from n, and retires at n + 1 what the old commit
--- alone reaches. After a
--- lost one, or where it gives the try up, it retires in the same way what it settled, and withdraws what is still
--- taken. At an epoch of 2 ^
--- 60, which is raised no further, it retires nothing.
+-- the commit that it loaded. After a won exchange it loads the epoch as n, raises it from n, and retires at n + 1 what
+-- the old commit alone reaches. After a lost one, or where it gives the try up, it retires in the same way what it
+-- settled, and withdraws what is still taken. At an epoch of 2 ^ 60, which is raised no further, it retires nothing.
 -- There are no loops: any seat may do any next step, in any order, or none. Slots may be taken, settled and withdrawn,
--- and stamps drawn, at
--- any time; what is settled or drawn outside a try belongs to none.
+-- and stamps drawn, at any time; what is settled or drawn outside a try belongs to none.
 use Rattle.std.specs.Prelude.{◌≡◌, ◌≢◌, ℕ, ◌+◌, ◌<◌, ◌≤◌, ◌⊎◌, List, [], ◌∷◌, ◌++◌, true, false, Some, length}
 use Rattle.std.specs.Prelude.{replicate}
 use Rattle.std.specs.Prelude.{slice_index, slice_set}
@@ -42,8 +36,7 @@ use Rattle.joined_machine.specs.Events.{loses, gives_up}
 -- ---- steps on the claims table
 
 -- What is asked of such a step beside what the table asks. A seat keeps its pin through a try. It retires only what an
--- ended try has left,
--- and only once it has loaded the epoch since the try ended
+-- ended try has left, and only once it has loaded the epoch since the try ended
 abbrev pub May : {v : View} {i x y : ℕ} {w : View} → Try → Move v i x y w → Type 0
 May t (table.store_pin x e some_pin few) = IsTrying t → ⊥
 May t (table.clear_pin x some_pin few) = IsTrying t → ⊥

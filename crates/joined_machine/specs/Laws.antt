@@ -71,8 +71,7 @@ OpeningLaw = (k : Sizes) (zs : List ℕ) → 0 < k.readers → k.readers ≤ max
     → (s : World) × Opens k s × Reached k s.words s.views × (s.reached ≡ zs)
 
 -- From such an opening there are events by which a slot that the opening commit reaches is dropped, retired, given, and
--- taken again. So the
--- law does not hold for want of steps
+-- taken again. So the law does not hold for want of steps
 abbrev pub TurnLaw : Type 0
 TurnLaw = (k : Sizes) × (s t u : World) × (es : List Event) × (e : Event) × (z : ℕ)
     × Opens k s × Reached k s.words s.views × Runs s es t × Steps t e u × In s.reached z × (e.deed ≡ takes z)

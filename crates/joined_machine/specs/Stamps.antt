@@ -1,7 +1,6 @@
--- The joined machine with the stamps of what lies in its slots, and of what commits look for there.
--- A seat places something only in a slot that it has taken, and settles only what it has filled. In a slot of the
--- commit before it a new
--- commit looks for what that one looked for, and in each other slot for what its publisher placed there.
+-- The joined machine with the stamps of what lies in its slots, and of what commits look for there. A seat places
+-- something only in a slot that it has taken, and settles only what it has filled. In a slot of the commit before it a
+-- new commit looks for what that one looked for, and in each other slot for what its publisher placed there.
 use Rattle.std.specs.Prelude.{◌≡◌, ℕ, List, [], ◌∷◌, Bool, true, false, cond, ◌==◌}
 use mathlib.Core.Option.{some}
 use lib.ListN.{get_elem?}
@@ -86,8 +85,7 @@ pub record Begins (k : Sizes) (s : Stock) : Type 0 where
   pub right : (z : ℕ) → In s.world.reached z → s.lies z ≡ s.wanted (stamp_of (last_move s.world.log)) z
 
 -- A reader never meets a foreign stamp: in each slot of a commit that a seat loaded under the pin that it still holds
--- lies what the commit
--- looks for
+-- lies what the commit looks for
 abbrev pub StampLaw : Type 0
 StampLaw = (k : Sizes) (s t : Stock) (hs : List Happening) (j z : ℕ) (c : Commit)
     → Begins k s → GoesOn s hs t → IsLoaded t.world j c → In c.slots z → t.lies z ≡ t.wanted (stamp_of c.at) z

@@ -1,7 +1,6 @@
 -- What the joined machine has at any moment: the claims table, the book of the head, and what each seat has under way.
 -- A commit is here its reference and the slots that it reaches; there are no values in slots. The head word is where
--- the book's last move
--- went, and the draft word the first stamp that the book has not drawn.
+-- the book's last move went, and the draft word the first stamp that the book has not drawn.
 use Rattle.std.specs.Prelude.{◌≡◌, ℕ, ◌<◌, ◌≤◌, ◌⊎◌, List, [], ◌∷◌, Bool, true, slice_set}
 use mathlib.Core.Option.{some}
 use lib.ListN.{get_elem?}

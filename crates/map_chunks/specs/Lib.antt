@@ -1,6 +1,5 @@
 -- What a reader of the public clauses believes, in order of reading. Rows: what chunks and their pieces show, which
--- chunks
--- have more than one child, the nodes of a draft, and what they name once they are placed.
+-- chunks have more than one child, the nodes of a draft, and what they name once they are placed.
 pub mod Shown
 pub mod Wide
 pub mod Drafts

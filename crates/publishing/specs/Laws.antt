@@ -13,8 +13,7 @@ use Rattle.publishing.specs.Placed.{IsPlaced}
 
 pub record PlacingLaws : Type 0 where
   -- What a draft spells under its own numbers, behind the contents on which it was built, it spells under the stamps
-  -- that it
-  -- drew, behind any longer contents.
+  -- that it drew, behind any longer contents.
   pub carried : (cs ds : Contents) (nodes : List (Node Ref)) → IsPrefix cs ds → (at : Ref) (v : Version)
       → version_at (with_nodes cs nodes) (stamp_of at) ≡ Some v
       → version_at (ds ++ drawn_as (length cs) (length ds) nodes) (restamped (length cs) (length ds) at) ≡ Some v

@@ -7,8 +7,7 @@ use Rattle.group_history.specs.Refs.{stamp_of}
 use Rattle.group_history.specs.Spelling.{Contents}
 
 -- The stamp that a number becomes, where a draft's nodes, which are numbered from `from` on, drew the stamps from
--- `first` on. A lower number
--- is a stamp that was drawn before, and stays
+-- `first` on. A lower number is a stamp that was drawn before, and stays
 abbrev pub stamped : ℕ → ℕ → ℕ → ℕ
 stamped from first k = cond (nat_lt k from) k (first + (k - from))
 

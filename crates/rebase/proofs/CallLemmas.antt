@@ -124,8 +124,7 @@ alone_moves old new later alone =
 -- CALLS
 
 -- what one call is answered, where no other seat moved the head: the right reply at the record before it, or a refusal
--- for want
--- of something; and the record grew by the change that the reply stands for
+-- for want of something; and the record grew by the change that the reply stands for
 abbrev pub IsInTurn : Meanings → Known → Known → Result Replied Refusal → Option Change
     → (State → Result Replied Refusal) → Type 0
 IsInTurn means old new r change right = IsReplyTo r (right (after (record_of old.log)))

@@ -1,6 +1,5 @@
 -- The calls of a client: what is right to reply to each, the change that a reply stands for, and when a list of calls
--- is
--- answered as a group of one thread answers it. What a refused call leaves is this project's own rule.
+-- is answered as a group of one thread answers it. What a refused call leaves is this project's own rule.
 use Rattle.std.specs.Prelude.{ℕ, ◌≡◌, ◌⊎◌, ◌+◌, ◌-◌, Bool, true, false, List, [], ◌∷◌, length, filter, Option, None}
 use Rattle.std.specs.Prelude.{Result, Ok, Err}
 use mathlib.Core.List.{IsPrefix}
@@ -103,8 +102,7 @@ pub record IsLater (old new : Known) : Type 0 where
   pub seen : IsPrefix old.log new.log
 
 -- Each call of the list is answered rightly at a point of its own, whatever others do meanwhile. It begins with what
--- the
--- client had seen at the end of the call before, so its point is not before that of the other one.
+-- the client had seen at the end of the call before, so its point is not before that of the other one.
 abbrev pub AreAnswered : Meanings → ℕ → Caller → Known → List Call → List (Result Replied Refusal) → Known
     → Caller → Type 0
 AreAnswered means tries c old [] [] new end = (new ≡ old) × (end ≡ c)
@@ -128,8 +126,7 @@ IsReplyTo (Ok x) right = right ≡ Ok x
 IsReplyTo (Err e) right = (is_want e ≡ true) ⊎ (right ≡ Err e)
 
 -- Each call of the list is answered rightly at the state that the calls before it left, by a client whose last id is
--- the one
--- that they left; the last call leaves the state and the client at the end.
+-- the one that they left; the last call leaves the state and the client at the end.
 abbrev pub AreReplies : Meanings → Caller → State → List Call → List (Result Replied Refusal) → State → Caller → Type 0
 AreReplies means c s [] [] at end = (at ≡ s) × (end ≡ c)
 AreReplies means c s [] (r ∷ rs) at end = ⊥

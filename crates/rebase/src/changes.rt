@@ -220,8 +220,7 @@ where
     }
 
     /// Makes a mutation as `try_mutate` does, and begins anew where it was refused with `Moved`, `Busy` or `Gone`: so
-    /// it may
-    /// wait for others.
+    /// it may wait for others.
     pub fn mutate<R: Wait>(
         &mut self,
         rt: &R,
@@ -251,8 +250,7 @@ where
     }
 
     /// Ends a pull as `try_end_pull` does, and begins anew where it was refused with `Moved`, `Busy` or `Gone`: so it
-    /// may
-    /// wait for others.
+    /// may wait for others.
     pub fn end_pull<R: Wait>(
         &mut self,
         rt: &R,

@@ -51,8 +51,7 @@ unfoldable pub line_of_bad_byte : Bytes → ℕ
 line_of_bad_byte bytes = count_by (λ b. b == 10) (take (utf8_valid_len bytes) bytes) + 1
 
 -- What a script says, or the number of its first faulty line, counted from 1, and what is wrong with it. That a script
--- is
--- no UTF-8 is told before any other fault.
+-- is no UTF-8 is told before any other fault.
 unfoldable pub script_said : Bytes → Result Context (ℕ × ScriptFault)
 script_said bytes = if is_utf8 bytes then said_in 1 nothing_said (lines_of bytes) else Err
     (line_of_bad_byte bytes, text.NotUtf8)

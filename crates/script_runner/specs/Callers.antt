@@ -58,8 +58,7 @@ abbrev pub sight_of : Standing → Known
 sight_of c = known c.mark.book c.mark.log None
 
 -- The rules of a group: what its clients' calls and their polls may reply, and how a client stands then; and how a
--- client
--- stands that has learnt what another one had seen.
+-- client stands that has learnt what another one had seen.
 pub record Rules : Type 1 where
   pub may_reply : Standing → Call → Result Replied Refusal → Standing → Type 0
   pub may_poll : Bytes → Watched → Standing → Result Polled Refusal → Standing → Type 0

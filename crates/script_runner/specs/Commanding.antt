@@ -56,8 +56,7 @@ AsksEnd kept body (call.EndPull at bytes) = (at.now ≡ kept) × (bytes.now ≡ 
 AsksEnd kept body other = ⊥
 
 -- What a begun pull prints, and the tickets that it leaves: there is one of its name only where the pull was begun, and
--- memory
--- wasn't refused for it.
+-- memory wasn't refused for it.
 abbrev pub IsBegun : Tickets → Bytes → Result Replied Refusal → Bytes → Tickets → Type 0
 IsBegun tickets name (Ok (ticket asked)) text after =
     ((text ≡ answer_text (Ok (ticket asked))) × (t : Ticket) × (t.cookie ≡ asked.cookie)

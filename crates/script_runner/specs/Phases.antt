@@ -18,8 +18,7 @@ all_seen players = map (λ p. sight_of p.standing) players
 
 module _ (law : Rules) where
   -- The text has a line of output for each line, in order, with what its command may print on the client that the lines
-  -- before
-  -- left; the last one leaves the client at the end. `seen` is what each client had seen when the phase began.
+  -- before left; the last one leaves the client at the end. `seen` is what each client had seen when the phase began.
   abbrev pub AreTold : List Known → Player → Lines → Bytes → Player → Type 0
   AreTold seen before [] text end = (text ≡ []) × (end ≡ before)
   AreTold seen before (l ∷ ls) text end =
@@ -37,8 +36,7 @@ module _ (law : Rules) where
         (slice_index_or after i a)
 
   -- The text is what the phases print, one after the other, each from where the one before left the clients; of each
-  -- phase what
-  -- its clients print, in their order.
+  -- phase what its clients print, in their order.
   abbrev pub AreWritten : List Player → List (List Lines) → Bytes → List Player → Type 0
   AreWritten before [] text after = (text ≡ []) × (after ≡ before)
   AreWritten before (p ∷ ps) text after =

@@ -1,9 +1,8 @@
 //! A commit that is read.
 //!
-//! The type's invariant is that the head's stamp spells a version and the root's stamp the map of it
-//! (`IsRead`), and that a node may be looked for at either. Contracts see the version, which no call changes, and what
-//! is known to be placed, which may
-//! grow with each call, also with one that stops.
+//! The type's invariant is that the head's stamp spells a version and the root's stamp the map of it (`IsRead`), and
+//! that a node may be looked for at either. Contracts see the version, which no call changes, and what is known to be
+//! placed, which may grow with each call, also with one that stops.
 ghost use Rattle.std.specs.Prelude.{◌≡◌, ◌⊎◌, ◌==◌, length, Some, IfOk, IfErr, OnOk, IsSome};
 ghost use mathlib.Core.List.{IsPrefix};
 ghost use Rattle.std.specs.FinMap as finite;

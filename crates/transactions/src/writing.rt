@@ -1,9 +1,8 @@
 //! A map that is written.
 //!
-//! The type's invariant is that the tree spells a map, given what is known to be placed, and that each
-//! chunk that it names may be looked for: this map is what the transaction shows. A look at a chunk may teach more of
-//! what is placed, which changes no map; a look
-//! and a call that stops leave the tree itself, so they make no chunk new.
+//! The type's invariant is that the tree spells a map, given what is known to be placed, and that each chunk that it
+//! names may be looked for: this map is what the transaction shows. A look at a chunk may teach more of what is placed,
+//! which changes no map; a look and a call that stops leave the tree itself, so they make no chunk new.
 ghost use Rattle.std.specs.Prelude.{◌≡◌, ◌⊎◌, ◌+◌, ◌≤◌, ℕ, Some, None, IsSome, IfOk, IfErr, OnOk, OnErr};
 ghost use Rattle.std.specs.FinMap as finite;
 ghost use Rattle.group_history.specs.Scans.{rows_of};

@@ -1,8 +1,7 @@
 //! Of the count of a group's slots: that it follows the rules, step by step.
 //!
 //! The steps are such that the rules leave each number no choice. A retired slot may be given and taken as well as a
-//! free
-//! one, so while some are retired nothing is taken, but where a pin keeps them back or all of them are needed.
+//! free one, so while some are retired nothing is taken, but where a pin keeps them back or all of them are needed.
 ghost use Rattle.std.specs.Prelude.{◌≡◌};
 ghost use Rattle.std.specs.List.{All};
 

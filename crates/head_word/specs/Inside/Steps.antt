@@ -24,8 +24,7 @@ pub record Taken : Type 0 where
   pub answer : Option Answer
 
 -- What the step tells, by its seat's view before it, the number found, and the view after it. A view has what was seen
--- of
--- the book, a pen and an answer; the pens and the answer of the view before play no part.
+-- of the book, a pen and an answer; the pens and the answer of the view before play no part.
 abbrev pub tells : (Taken → Type 0) → Step Entry → View Entry Answer → ℕ → View Entry Answer → Type 0
 tells told step (before, (pen, asked)) found (after, (left, answer)) = told (record {
   ask = step.ask;

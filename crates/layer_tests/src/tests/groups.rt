@@ -184,8 +184,7 @@ fn mutation(alloc: Global, id: u64, name: &str, args: &str) -> Result<Mutation, 
 }
 
 /// How many nodes a pull that brings nothing new leaves behind in such a group, where the first of the keys is set, and
-/// how
-/// many are shown until that is known.
+/// how many are shown until that is known.
 fn left_behind(alloc: Global, count: u32) -> Result<(usize, u64), Refusal> {
     let pending = [mutation(alloc, 1, "set", r#"["k01",0]"#)?];
     let pull = pulled(

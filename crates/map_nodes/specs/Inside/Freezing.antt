@@ -1,6 +1,5 @@
 -- A draft's chunks written down as nodes: what shows rows in the draft spells them once its nodes are placed, and each
--- node names
--- its children by the draft's own names, or as the draft names what is placed.
+-- node names its children by the draft's own names, or as the draft names what is placed.
 use Rattle.std.specs.Prelude.{◌≡◌, ℕ, List, [], ◌∷◌, ◌++◌, length, Some}
 use Rattle.group_history.specs.declared.nodes.Node.{Node}
 use Rattle.group_history.specs.declared.refs.Ref.{Ref}

@@ -11,8 +11,7 @@ use Rattle.answered.specs.Answered.{IsPoint, own_moves}
 use Rattle.answered.specs.Trying.{IsBase}
 
 -- When the call began, `old` was known; when it looked, `seen`, and since then `new`. The head was at `base` then,
--- which is a
--- commit of the state there, and all stamps below `first` are drawn by now.
+-- which is a commit of the state there, and all stamps below `first` are drawn by now.
 pub record IsArrived (means : Meanings) (old seen new : Known) (base : Ref) (first : ℕ) : Type 0 where
   pub point : IsPoint means old new None seen.log
   pub last : base ≡ last_move seen.log

@@ -1,6 +1,5 @@
 //! Of two threads whose steps fall as a gate says: one of them comes to a certain step, lets the other one go, and
-//! waits
-//! until that one is done.
+//! waits until that one is done.
 ghost use Rattle.std.specs.Prelude.{◌≡◌};
 ghost use Rattle.std.specs.List.{All};
 
@@ -45,8 +44,7 @@ struct Moment {
 }
 
 // The moments at which a gate holds a thread: those whose number, counted from the first, is a multiple of `every`, and
-// so
-// often.
+// so often.
 #[derive(Drop)]
 struct Holds {
     moment: Moment,
@@ -239,8 +237,7 @@ where
 }
 
 // The client whose mutations lose. When it is done, or is refused something, the other need not wait for it any more;
-// so
-// it is with each client of a thread.
+// so it is with each client of a thread.
 fn loses<S: Store<ScriptMutators>>(
     alloc: Global,
     player: &mut Player<'_, S>,
@@ -707,9 +704,8 @@ fn relayed<R: Threads + Sync>(rt: &R, alloc: Global) -> Result<(Seen, Run), Refu
 }
 
 // C's second pull is at the head, and has not raised the epoch yet, when B's pull begins. B has pinned the epoch of
-// then
-// when C raises it. A reader that comes now pins the raised one, and reads C's commit. So B may not retire that by the
-// epoch that it pinned: the reader would not keep its two slots.
+// then when C raises it. A reader that comes now pins the raised one, and reads C's commit. So B may not retire that by
+// the epoch that it pinned: the reader would not keep its two slots.
 #[test]
 fn a_reader_keeps_what_is_dropped_at_a_later_epoch(rt: HostRuntime) -> Result<(), Refusal> {
     let told = relayed(&rt, rt.alloc())?;

@@ -2,9 +2,8 @@
 //! what is pending and pulls what it counted.
 //!
 //! Slots come back by the pulls alone. So the storm ends only if none is lost for good, if none that a reader still
-//! needs
-//! is used again, and if nobody is kept away for ever; and the server's count is right only if each mutation is pending
-//! until it is confirmed, and then no more.
+//! needs is used again, and if nobody is kept away for ever; and the server's count is right only if each mutation is
+//! pending until it is confirmed, and then no more.
 ghost use Rattle.std.specs.Prelude.{◌≡◌};
 ghost use Rattle.std.specs.List.{All};
 
@@ -545,8 +544,7 @@ where
 }
 
 // Full is answered often, since the slots are few. Busy is not: it says that a hundred steps were lost in a row. None
-// is
-// ever Gone, since each call looks at what it pins.
+// is ever Gone, since each call looks at what it pins.
 fn is_through(storm: &Storm) -> bool {
     let answers = &storm.answers;
     answers.gone == 0
