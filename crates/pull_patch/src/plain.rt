@@ -16,6 +16,7 @@ mod copies;
 mod puts;
 mod stops;
 mod values;
+mod words;
 
 use crate::changes::read_changes;
 use crate::response::{is_cookie, joined};

@@ -9,9 +9,9 @@ ghost use Rattle.pull_patch.specs.Inside.Copies.{IsPlainNumber, CopiesValue, Cop
 ghost use Rattle.pull_patch.specs.Inside.Copies.{CopiesText};
 
 use super::stops::Stop;
+use super::words::{is_before, is_word};
 use json::{Reader, Token, Writer};
 use std::alloc::Global;
-use std::cmp::Ordering;
 use std::mem::replace;
 
 // Whether a number's text is the one that is written for it: digits that fit 64 bits, or a minus and such digits, with
@@ -19,7 +19,7 @@ use std::mem::replace;
 fn is_plain_number(text: &str) -> bool
     ensures { IsTrue result → IsPlainNumber text.now }
 {
-    if text == "0" {
+    if is_word(text, b"0") {
         return true;
     }
     let bytes = text.as_bytes();
@@ -47,12 +47,6 @@ fn is_plain_below_zero(text: &str) -> bool
         Ok(_) => true,
         Err(_) => false,
     }
-}
-
-fn is_before(last: &str, name: &str) -> bool
-    ensures { result ≡ is_lt (slice_cmp nat_cmp last.now name.now) }
-{
-    matches!(last.cmp(name), Ordering::Less)
 }
 
 // The tokens of the next value are written again. Told is whether the text of them is its compact text.

@@ -6,6 +6,7 @@ ghost use Rattle.pull_patch.specs.Inside.Plain.{ReadsOperations, ReadsPatch, IsT
 
 use super::stops::Stop;
 use super::values::{pass_value, read_json, read_text};
+use super::words::is_word;
 use group_history::{Json, Patch, Text};
 use json::{Reader, Token};
 use std::alloc::Global;
@@ -30,11 +31,11 @@ fn read_text_field<'a>(
     ensures read { OnOk result (ReadsField reader.old name.now found.old found.new reader.new) }
     ensures shorter { OnOk result (length reader.new < length reader.old) }
 {
-    if name == "op" {
+    if is_word(name, b"op") {
         found.op = Some(read_text(reader)?);
         return Ok(());
     }
-    if name == "key" {
+    if is_word(name, b"key") {
         found.key = Some(read_text(reader)?);
         return Ok(());
     }
@@ -52,7 +53,7 @@ fn read_field<'a>(
     ensures read { OnOk result (ReadsField reader.old name.now found.old found.new reader.new) }
     ensures shorter { OnOk result (length reader.new < length reader.old) }
 {
-    if name == "value" {
+    if is_word(name, b"value") {
         found.value = Some(read_json(alloc, reader, copy)?);
         return Ok(());
     }
@@ -83,13 +84,13 @@ fn bare_operation(alloc: Global, op: &str, key: Option<&str>) -> Result<Patch, S
     ensures { IfOk result (λ p. (ms : Members) → IsText (codes "op") ms op.now
         → IfSome key.entry (λ s. IsText (codes "key") ms s.now) → IsOperation (object ms) p) }
 {
-    if op == "clear" {
+    if is_word(op, b"clear") {
         return Ok(Patch::Clear);
     }
     let Some(key) = key else {
         return Err(Stop::NotPlain);
     };
-    if op == "del" {
+    if is_word(op, b"del") {
         return Ok(Patch::Del(Text::new(alloc, key)?));
     }
     Err(Stop::NotPlain)
@@ -101,7 +102,7 @@ fn operation_of(alloc: Global, found: Found<'_>) -> Result<Patch, Stop>
     let Some(op) = found.op else {
         return Err(Stop::NotPlain);
     };
-    if op != "put" {
+    if !is_word(op, b"put") {
         return bare_operation(alloc, op, found.key);
     }
     match (found.key, found.value) {

@@ -4,9 +4,9 @@ use Rattle.pull_patch.specs.Inside.Copies.{IsPlainNumber}
 use Rattle.pull_patch.proofs.PlainNumbers.{IsPlainNumber-zero, IsPlainNumber-digits}
 use Rattle.pull_patch.proofs.plain.copies.is_plain_number.Goals as goal
 
-pub returns-then-eq : goal.returns-then-eq
-returns-then-eq c _ = subst IsPlainNumber
-    (sym ((bytes_eq-Decides c.args.text.now (48 ∷ [])).0 (sym c.eq.ensures ∙ c.if-eq.true))) IsPlainNumber-zero
+pub returns-then-is_word : goal.returns-then-is_word
+returns-then-is_word c _ = subst IsPlainNumber
+    (sym ((bytes_eq-Decides c.args.text.now (48 ∷ [])).0 (sym c.is_word.ensures ∙ c.if-is_word.true))) IsPlainNumber-zero
 
 pub returns-in-Ok : goal.returns-in-Ok
 returns-in-Ok c _ =
