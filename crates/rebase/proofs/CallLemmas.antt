@@ -32,7 +32,7 @@ use Rattle.answered.proofs.AtOnce.{record_at}
 use Rattle.answered.proofs.Holding.{change_laws_hold}
 use Rattle.pull_patch.specs.Grammar.{answer_to}
 use Rattle.rebase.specs.Asking.{end_bytes_reply}
-use Rattle.rebase.specs.Calls.{AreAnswered, AreReplies, Caller, IsAlone, IsLater, IsReplyTo, asked_mutation}
+use Rattle.rebase.specs.Calls.{AreAnswered, AreReplies, Caller, IsAlone, IsLater, IsReplyTo, MayRefuse, asked_mutation}
 use Rattle.rebase.specs.Calls.{caller_after, change_of, ended_in, id_in, moves_of_others, reply_to}
 use Rattle.rebase.specs.Queries.{IsMissed, told}
 use Rattle.rebase.specs.Replies.{Replied, reply_seen, ended, id}
@@ -201,25 +201,27 @@ later_trans old mid new a b = record {
 }
 
 -- calls only add to what their caller has seen
-calls_later : (means : Meanings) (tries : ℕ) (c : Caller) (old : Known) (xs : List Call)
-    (rs : List (Result Replied Refusal)) (new : Known) (end : Caller) → AreAnswered means tries c old xs rs new end
-    → IsLater old new
-calls_later means tries c old [] [] new end all = subst (IsLater old) (sym all.0) (later_self old)
-calls_later means tries c old [] (r ∷ rs) new end all = absurd all
-calls_later means tries c old (x ∷ xs) [] new end all = absurd all
-calls_later means tries c old (x ∷ xs) (r ∷ rs) new end all =
-    later_trans old all.0 new all.1 (calls_later means tries (caller_after c r) all.0 xs rs new end all.3)
+calls_later : (means : Meanings) (reused : Type 0) (tries : ℕ) (c : Caller) (old : Known) (xs : List Call)
+    (rs : List (Result Replied Refusal)) (new : Known) (end : Caller)
+    → AreAnswered means reused tries c old xs rs new end → IsLater old new
+calls_later means reused tries c old [] [] new end all = subst (IsLater old) (sym all.0) (later_self old)
+calls_later means reused tries c old [] (r ∷ rs) new end all = absurd all
+calls_later means reused tries c old (x ∷ xs) [] new end all = absurd all
+calls_later means reused tries c old (x ∷ xs) (r ∷ rs) new end all =
+    later_trans old all.0 new all.1 (calls_later means reused tries (caller_after c r) all.0 xs rs new end all.4)
 
 -- Where no other seat moved the head between the first call and the last, none did so in any of them.
-pub alone_replies : (means : Meanings) (tries : ℕ) (c : Caller) (old : Known) (xs : List Call)
-    (rs : List (Result Replied Refusal)) (new : Known) (end : Caller) → AreAnswered means tries c old xs rs new end
+pub alone_replies : (means : Meanings) (reused : Type 0) (tries : ℕ) (c : Caller) (old : Known) (xs : List Call)
+    (rs : List (Result Replied Refusal)) (new : Known) (end : Caller)
+    → AreAnswered means reused tries c old xs rs new end
     → IsAlone old new → AreReplies means c (after (record_of old.log)) xs rs (after (record_of new.log)) end
-alone_replies means tries c old [] [] new end all alone = (ap (λ (m : Known). after (record_of m.log)) all.0, all.1)
-alone_replies means tries c old [] (r ∷ rs) new end all alone = absurd all
-alone_replies means tries c old (x ∷ xs) [] new end all alone = absurd all
-alone_replies means tries c old (x ∷ xs) (r ∷ rs) new end all alone =
+alone_replies means reused tries c old [] [] new end all alone =
+    (ap (λ (m : Known). after (record_of m.log)) all.0, all.1)
+alone_replies means reused tries c old [] (r ∷ rs) new end all alone = absurd all
+alone_replies means reused tries c old (x ∷ xs) [] new end all alone = absurd all
+alone_replies means reused tries c old (x ∷ xs) (r ∷ rs) new end all alone =
     let mid = all.0 in
-    let rest = calls_later means tries (caller_after c r) mid xs rs new end all.3 in
+    let rest = calls_later means reused tries (caller_after c r) mid xs rs new end all.4 in
     let a = others_grow old mid all.1 in
     let b = others_grow mid new rest in
     let f : moves_of_others new ≡ moves_of_others old = alone in
@@ -228,51 +230,64 @@ alone_replies means tries c old (x ∷ xs) (r ∷ rs) new end all alone =
     let turn = in_turn means tries old mid r (change_of c x) (λ s. reply_to means c s x) all.1 first all.2 in (
       turn.0,
       subst (λ s. AreReplies means (caller_after c r) s xs rs (after (record_of new.log)) end) turn.1
-          (alone_replies means tries (caller_after c r) mid xs rs new end all.3 last),
+          (alone_replies means reused tries (caller_after c r) mid xs rs new end all.4 last),
     )
 
 -- one call more
-answered_more : (means : Meanings) (tries : ℕ) (c : Caller) (old mid new : Known) (xs : List Call)
+answered_more : (means : Meanings) (reused : Type 0) (tries : ℕ) (c : Caller) (old mid new : Known) (xs : List Call)
     (rs : List (Result Replied Refusal)) (d : Caller) (x : Call) (r : Result Replied Refusal)
-    → AreAnswered means tries c old xs rs mid d
+    → AreAnswered means reused tries c old xs rs mid d
     → IsLater mid new → Answers means tries mid new r (change_of d x) (λ s. reply_to means d s x)
-    → AreAnswered means tries c old (xs ++ x ∷ []) (rs ++ r ∷ []) new (caller_after d r)
-answered_more means tries c old mid new [] [] d x r all later is = (
+    → MayRefuse reused x r
+    → AreAnswered means reused tries c old (xs ++ x ∷ []) (rs ++ r ∷ []) new (caller_after d r)
+answered_more means reused tries c old mid new [] [] d x r all later is why = (
   new,
   subst (λ m. IsLater m new) all.0 later,
   subst (λ m. Answers means tries m new r (change_of c x) (λ s. reply_to means c s x)) all.0
       (subst (λ e. Answers means tries mid new r (change_of e x) (λ s. reply_to means e s x)) all.1 is),
+  why,
   (refl, ap (λ e. caller_after e r) all.1),
 )
-answered_more means tries c old mid new [] (q ∷ rs) d x r all later is = absurd all
-answered_more means tries c old mid new (y ∷ xs) [] d x r all later is = absurd all
-answered_more means tries c old mid new (y ∷ xs) (q ∷ rs) d x r all later is =
-    (all.0, all.1, all.2, answered_more means tries (caller_after c q) all.0 mid new xs rs d x r all.3 later is)
+answered_more means reused tries c old mid new [] (q ∷ rs) d x r all later is why = absurd all
+answered_more means reused tries c old mid new (y ∷ xs) [] d x r all later is why = absurd all
+answered_more means reused tries c old mid new (y ∷ xs) (q ∷ rs) d x r all later is why = (
+  all.0,
+  all.1,
+  all.2,
+  all.3,
+  answered_more means reused tries (caller_after c q) all.0 mid new xs rs d x r all.4 later is why,
+)
 
 map_more : {A B : Type 0} (f : A → B) (xs : List A) (x : A) → map f (xs ++ x ∷ []) ≡ map f xs ++ f x ∷ []
 map_more f [] x = refl
 map_more f (y ∷ xs) x = ap (λ w. f y ∷ w) (map_more f xs x)
 
 -- a turn of the loop over the calls
-pub turn : (means : Meanings) (tries : ℕ) (c d : Caller) (old mid new : Known) (all : List Call) (i : ℕ) (x : Call)
-    (rs news : List (Result Reply Refusal)) (r : Result Reply Refusal) → i < length all → x ≡ get_or all i x
-    → AreAnswered means tries c old (take i all) (map (told reply_seen) rs) mid d → IsLater mid new
+pub turn : (means : Meanings) (reused : Type 0) (tries : ℕ) (c d : Caller) (old mid new : Known) (all : List Call)
+    (i : ℕ) (x : Call) (rs news : List (Result Reply Refusal)) (r : Result Reply Refusal) → i < length all → x ≡ get_or all i x
+    → AreAnswered means reused tries c old (take i all) (map (told reply_seen) rs) mid d → IsLater mid new
     → Answers means tries mid new (told reply_seen r) (change_of d x) (λ s. reply_to means d s x)
-    → news ≡ rs ++ r ∷ []
-    → AreAnswered means tries c old (take (i + 1) all) (map (told reply_seen) news) new
+    → MayRefuse reused x (told reply_seen r) → news ≡ rs ++ r ∷ []
+    → AreAnswered means reused tries c old (take (i + 1) all) (map (told reply_seen) news) new
     (caller_after d (told reply_seen r))
-turn means tries c d old mid new all i x rs news r l q h later is n =
+turn means reused tries c d old mid new all i x rs news r l q h later is why n =
     let front : take (i + 1) all ≡ take i all ++ x
     ∷ [] = take_more all i x l ∙ ap (λ w. take i all ++ w ∷ []) (sym q) in
     let back : map (told reply_seen) news ≡ map (told reply_seen) rs ++ told reply_seen r
     ∷ [] = ap (map (told reply_seen)) n ∙ map_more (told reply_seen) rs r in
     let end = caller_after d (told reply_seen r) in
-    subst (λ w. AreAnswered means tries c old w (map (told reply_seen) news) new end) (sym front)
-    (subst (λ w. AreAnswered means tries c old (take i all ++ x ∷ []) w new end) (sym back)
-    (answered_more means tries c old mid new (take i all) (map (told reply_seen) rs) d x
-    (told reply_seen r) h later is))
+    subst (λ w. AreAnswered means reused tries c old w (map (told reply_seen) news) new end) (sym front)
+    (subst (λ w. AreAnswered means reused tries c old (take i all ++ x ∷ []) w new end) (sym back)
+    (answered_more means reused tries c old mid new (take i all) (map (told reply_seen) rs) d x
+    (told reply_seen r) h later is why))
 
 -- REPLIES
+
+-- why a call is refused, as it is told
+pub why_told : {X Y : Type 0} (f : X → Y) (why : Refusal → Type 0) (r : Result X Refusal) → IfErr r why
+    → IfErr (told f r) why
+why_told f why (Ok x) is = is
+why_told f why (Err e) is = is
 
 told_refusal : {X Y : Type 0} (f : X → Y) (r : Result X Refusal) (e : Refusal) → r ≡ Err e → told f r ≡ Err e
 told_refusal f r e is = ap (told f) is

@@ -1,11 +1,12 @@
 -- The calls of a client: what is right to reply to each, the change that a reply stands for, and when a list of calls
 -- is answered as a group of one thread answers it. What a refused call leaves is this project's own rule.
 use Rattle.std.specs.Prelude.{ℕ, ◌≡◌, ◌⊎◌, ◌+◌, ◌-◌, Bool, true, false, List, [], ◌∷◌, length, filter, Option, None}
-use Rattle.std.specs.Prelude.{Result, Ok, Err}
+use Rattle.std.specs.Prelude.{Result, Ok, Err, IfErr}
 use mathlib.Core.List.{IsPrefix}
 use Rattle.group_history.specs.declared.changes.Change.{Change}
 use Rattle.group_history.specs.declared.mutations.Mutation.{Mutation}
 use Rattle.group_history.specs.declared.refusals.Refusal.{Refusal}
+use Rattle.group_history.specs.declared.refusals.Refusal.TheVariants.{NoMemory}
 use Rattle.group_history.specs.declared.responses.Ended.{Ended}
 use Rattle.group_history.specs.declared.responses.Ended.TheVariants as ended_as
 use Rattle.group_history.specs.Map.{Bytes}
@@ -20,7 +21,7 @@ use Rattle.push_body.specs.declared.identities.Identity.{Identity}
 use Rattle.answered.specs.Answered.{Answers, is_move, is_want, own_moves}
 use Rattle.answered.specs.Changes.{change_made, change_read, after_made}
 use Rattle.rebase.specs.Asking.{end_bytes_reply}
-use Rattle.rebase.specs.Queries.{asked_at, told}
+use Rattle.rebase.specs.Queries.{IsMissed, asked_at, told}
 use Rattle.rebase.specs.Replies.{Replied, value, yes_or_no, rows, pending, cookie, id, body, ticket, ended}
 use Rattle.rebase.specs.declared.calls.Call.{Call}
 use Rattle.rebase.specs.declared.calls.Call.TheVariants as call
@@ -101,16 +102,21 @@ pub record IsLater (old new : Known) : Type 0 where
   pub seat : new.seat ≡ old.seat
   pub seen : IsPrefix old.log new.log
 
+-- What changes nothing in the group is refused for want of memory, or where a slot or a pin is lost to others, and for
+-- nothing else.
+abbrev pub MayRefuse : Type 0 → Call → Result Replied Refusal → Type 0
+MayRefuse reused x r = is_reading x ≡ true → IfErr r (λ e. (e ≡ NoMemory) ⊎ IsMissed reused e)
+
 -- Each call of the list is answered rightly at a point of its own, whatever others do meanwhile. It begins with what
 -- the client had seen at the end of the call before, so its point is not before that of the other one.
-abbrev pub AreAnswered : Meanings → ℕ → Caller → Known → List Call → List (Result Replied Refusal) → Known
+abbrev pub AreAnswered : Meanings → Type 0 → ℕ → Caller → Known → List Call → List (Result Replied Refusal) → Known
     → Caller → Type 0
-AreAnswered means tries c old [] [] new end = (new ≡ old) × (end ≡ c)
-AreAnswered means tries c old [] (r ∷ rs) new end = ⊥
-AreAnswered means tries c old (x ∷ xs) [] new end = ⊥
-AreAnswered means tries c old (x ∷ xs) (r ∷ rs) new end =
+AreAnswered means reused tries c old [] [] new end = (new ≡ old) × (end ≡ c)
+AreAnswered means reused tries c old [] (r ∷ rs) new end = ⊥
+AreAnswered means reused tries c old (x ∷ xs) [] new end = ⊥
+AreAnswered means reused tries c old (x ∷ xs) (r ∷ rs) new end =
     (mid : Known) × IsLater old mid × Answers means tries old mid r (change_of c x) (λ s. reply_to means c s x)
-    × AreAnswered means tries (caller_after c r) mid xs rs new end
+    × MayRefuse reused x r × AreAnswered means reused tries (caller_after c r) mid xs rs new end
 
 -- how often other seats have moved the head
 abbrev pub moves_of_others : Known → ℕ

@@ -121,8 +121,8 @@ where
         requires none { replies.old.items ≡ [] }
         requires room { length calls.now ≤ vec_capacity replies.old }
         ensures answers { let c = caller self.old.group.now.identity self.old.id self.old.last in
-            AreAnswered M.means tries c self.old.mark calls.now (map (told reply_seen) replies.new.items) self.new.mark
-            (caller c.identity c.client self.new.last) }
+            AreAnswered M.means S.reused tries c self.old.mark calls.now (map (told reply_seen) replies.new.items)
+            self.new.mark (caller c.identity c.client self.new.last) }
         ensures idle { S.reused → IsIdle (S.view self.old.slots) → IsIdle (S.view self.new.slots) }
         ensures seat { (self.new.mark.book ≡ self.old.mark.book) × (self.new.mark.seat ≡ self.old.mark.seat) }
         ensures same { (self.new.group.now ≡ self.old.group.now) × (self.new.id ≡ self.old.id) }
@@ -142,7 +142,7 @@ where
         tries: u32,
     ) -> Result<Vec<Result<Reply, Refusal>>, AllocError>
         ensures answers { let c = caller self.old.group.now.identity self.old.id self.old.last in
-            IfOk result (λ replies. AreAnswered M.means tries c self.old.mark calls.now
+            IfOk result (λ replies. AreAnswered M.means S.reused tries c self.old.mark calls.now
             (map (told reply_seen) replies.items) self.new.mark (caller c.identity c.client self.new.last)) }
         ensures replies { let c = caller self.old.group.now.identity self.old.id self.old.last in
             IfOk result (λ replies. IsAlone self.old.mark self.new.mark

@@ -8,6 +8,6 @@ use Rattle.rebase.proofs.client.Client.call_all.Goals as goal
 pub returns-clause-replies : goal.returns-clause-replies
 returns-clause-replies g c alone =
     let old = c.args.self.now in let new = c.call_each.new.self in let identity = old.group.now.identity in
-    alone_replies g.M.Means.means c.args.tries (caller identity old.id old.last) old.mark c.args.calls.now
-    (map (told reply_seen) c.call_each.new.replies.items) new.mark
+    alone_replies g.M.Means.means g.S.Slots.reused c.args.tries (caller identity old.id old.last) old.mark
+    c.args.calls.now (map (told reply_seen) c.call_each.new.replies.items) new.mark
     (caller identity old.id new.last) c.call_each.ensures.answers alone

@@ -8,7 +8,7 @@ use Rattle.rebase.proofs.client.Client.call_each.Given as goal
 abbrev pub invariant-loop-call : goal.invariant-loop-call
 invariant-loop-call g l =
     let old = l.fn.self in let identity = old.group.now.identity in record {
-      answered : AreAnswered g.M.Means.means l.tries (caller identity old.id old.last) old.mark
+      answered : AreAnswered g.M.Means.means g.S.Slots.reused l.tries (caller identity old.id old.last) old.mark
           (take l.call-index l.calls) (map (told reply_seen) l.replies.items) l.self.mark
           (caller identity old.id l.self.last);
       later : IsLater old.mark l.self.mark;
