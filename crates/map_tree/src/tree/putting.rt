@@ -17,6 +17,13 @@ use map_chunks::Chunks;
 use map_nodes::{OwnNode, room_for};
 use std::alloc::Global;
 
+// What is known of the way to a key: how deep the tree is, and whether the key is there.
+#[derive(Clone, Copy)]
+struct Way {
+    depth: u64,
+    there: bool,
+}
+
 impl Tree {
     /// Puts a value at a key. New are only the chunks on the way to it and those that a split adds, and
     /// none where the value is there already; placed chunks are copied first. Where it stops, the map is
@@ -52,33 +59,34 @@ impl Tree {
         if sought.standing.is_same() {
             return Ok(());
         }
-        let there = sought.standing.is_there();
-        self.write(alloc, chunks, key, value, sought.depth, there)
+        let way = Way {
+            depth: sought.depth,
+            there: sought.standing.is_there(),
+        };
+        self.write(alloc, chunks, key, value, way)
     }
 
-    // Puts a value at a key on a path of chunks that are the tree's own from then on. The tree is so deep;
-    // `there` says whether the key is there.
+    // Puts a value at a key on a path of chunks that are the tree's own from then on.
     fn write<C: Chunks>(
         &mut self,
         alloc: Global,
         chunks: &mut C,
         key: &str,
         value: &Json,
-        depth: u64,
-        there: bool,
+        way: Way,
     ) -> Result<(), Stop>
         requires places { AreAll (C.places chunks.old) (tree_places self.old) }
         requires map { IsSome (tree_map (C.contents chunks.old) self.old) }
-        requires depth { tree_depth (C.contents chunks.old) self.old ≡ Some depth }
+        requires depth { tree_depth (C.contents chunks.old) self.old ≡ Some way.depth }
         requires there { (m : Entries) → tree_map (C.contents chunks.old) self.old ≡ Some m
-            → there ≡ is_some (finite.get m key.now) }
+            → way.there ≡ is_some (finite.get m key.now) }
         ensures grown { Grows C.contents C.places chunks.old chunks.new }
         ensures ok { (m : Entries) → tree_map (C.contents chunks.old) self.old ≡ Some m
             → OnOk result (tree_map (C.contents chunks.new) self.new ≡ Some (finite.insert m key.now value.now)) }
-        ensures few { OnOk result (tree_fresh self.new ≤ tree_fresh self.old + depth + depth + 1) }
-        ensures replaced { there ≡ true → OnOk result (tree_fresh self.new ≤ tree_fresh self.old + depth) }
-        ensures deep { OnOk result ((e : ℕ) × (tree_depth (C.contents chunks.new) self.new ≡ Some e) × (depth ≤ e)
-            × (e ≤ depth + 1)) }
+        ensures few { OnOk result (tree_fresh self.new ≤ tree_fresh self.old + way.depth + way.depth + 1) }
+        ensures replaced { way.there ≡ true → OnOk result (tree_fresh self.new ≤ tree_fresh self.old + way.depth) }
+        ensures deep { OnOk result ((e : ℕ) × (tree_depth (C.contents chunks.new) self.new ≡ Some e) × (way.depth ≤ e)
+            × (e ≤ way.depth + 1)) }
         ensures wide { HasWideRoot (C.contents chunks.old) self.old
             → OnOk result (HasWideRoot (C.contents chunks.new) self.new) }
         ensures places { OnOk result (AreKept (C.places chunks.new) (tree_places self.old) (tree_places self.new)) }
@@ -86,9 +94,9 @@ impl Tree {
         ensures stopped { IfErr result (λ s. (s ≡ NoMemory) ⊎ C.stops s) }
     {
         match &mut self.root {
-            Root::Own(node) => return node.write(alloc, chunks, key, value, there),
+            Root::Own(node) => return node.write(alloc, chunks, key, value, way.there),
             Root::Placed(at) => {
-                let root = root_with(alloc, chunks, *at, depth, key, value, there)?;
+                let root = root_with(alloc, chunks, *at, key, value, way)?;
                 self.root = root;
                 return Ok(());
             }
@@ -96,33 +104,32 @@ impl Tree {
     }
 }
 
-// The root of a map with a value put at a key, where its root was placed and so deep.
+// The root of a map with a value put at a key, where its root was placed.
 fn root_with<C: Chunks>(
     alloc: Global,
     chunks: &mut C,
     at: Ref,
-    depth: u64,
     key: &str,
     value: &Json,
-    there: bool,
+    way: Way,
 ) -> Result<Root, Stop>
     requires place { C.places chunks.old at }
     requires map { IsSome (map_at (C.contents chunks.old) (stamp_of at)) }
-    requires depth { chunk_depth (C.contents chunks.old) (stamp_of at) ≡ Some depth }
+    requires depth { chunk_depth (C.contents chunks.old) (stamp_of at) ≡ Some way.depth }
     requires there { (m : Entries) → map_at (C.contents chunks.old) (stamp_of at) ≡ Some m
-        → there ≡ is_some (finite.get m key.now) }
+        → way.there ≡ is_some (finite.get m key.now) }
     ensures grown { Grows C.contents C.places chunks.old chunks.new }
     ensures ok { (m : Entries) → map_at (C.contents chunks.old) (stamp_of at) ≡ Some m
         → IfOk result (λ root. root_map (C.contents chunks.new) root ≡ Some (finite.insert m key.now value.now)) }
-    ensures few { IfOk result (λ root. root_fresh root ≤ depth + depth + 1) }
-    ensures replaced { there ≡ true → IfOk result (λ root. root_fresh root ≤ depth) }
-    ensures deep { IfOk result (λ root. (e : ℕ) × (root_depth (C.contents chunks.new) root ≡ Some e) × (depth ≤ e)
-        × (e ≤ depth + 1)) }
+    ensures few { IfOk result (λ root. root_fresh root ≤ way.depth + way.depth + 1) }
+    ensures replaced { way.there ≡ true → IfOk result (λ root. root_fresh root ≤ way.depth) }
+    ensures deep { IfOk result (λ root. (e : ℕ) × (root_depth (C.contents chunks.new) root ≡ Some e) × (way.depth ≤ e)
+        × (e ≤ way.depth + 1)) }
     ensures wide { IsWideAt (C.contents chunks.old) (stamp_of at) → IfOk result (IsWide (C.contents chunks.new)) }
     ensures places { IfOk result (λ root. AreKept (C.places chunks.new) [] (root_places root)) }
     ensures stopped { IfErr result (λ s. (s ≡ NoMemory) ⊎ C.stops s) }
 {
-    let mut node = OwnNode::copied(alloc, chunks, at, depth, room_for(there))?;
-    node.write(alloc, chunks, key, value, there)?;
+    let mut node = OwnNode::copied(alloc, chunks, at, way.depth, room_for(way.there))?;
+    node.write(alloc, chunks, key, value, way.there)?;
     Ok(Root::Own(node))
 }

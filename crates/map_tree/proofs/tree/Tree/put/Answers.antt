@@ -63,7 +63,7 @@ write-requires-clause-there g c m h =
     let s = some_of (tree_map p0 c.args.self.now) c.requires.map in
     let e : s.0 ≡ m = some_is (sym (root_kept p0
     (g.C.Chunks.contents c.sought.new.chunks) c.args.self.now.root s.0 c.sought.ensures.grown.0 s.1) ∙ h) in
-    c.is_there-there.ensures ∙ ap is_there (c.in_ok-sought.ensures.standing m (s.1 ∙ ap (λ w. Some w) e)) ∙ there_is
+    c.is_there.ensures ∙ ap is_there (c.in_ok-sought.ensures.standing m (s.1 ∙ ap (λ w. Some w) e)) ∙ there_is
     (finite.get m c.args.key.now) (Some c.args.value.now)
 
 pub returns-clause-ok : goal.returns-clause-ok
@@ -78,8 +78,8 @@ returns-clause-few g c d t = let e = some_is (sym c.in_ok-sought.ensures.depth �
 pub returns-clause-replaced : goal.returns-clause-replaced
 returns-clause-replaced g c m d h t f =
     let e = some_is (sym c.in_ok-sought.ensures.depth ∙ t) in
-    let there = was_there (finite.get m c.args.key.now) (finite.get m c.args.key.now) c.is_there-there.result refl
-    (c.is_there-there.ensures ∙ ap is_there (c.in_ok-sought.ensures.standing m h) ∙ there_is
+    let there = was_there (finite.get m c.args.key.now) (finite.get m c.args.key.now) c.is_there.result refl
+    (c.is_there.ensures ∙ ap is_there (c.in_ok-sought.ensures.standing m h) ∙ there_is
     (finite.get m c.args.key.now) (Some c.args.value.now)) f in
     on_ok c.write.result (c.write.ensures.replaced there) (λ n. omega (arith, n, e))
 

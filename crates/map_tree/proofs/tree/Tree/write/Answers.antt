@@ -23,7 +23,7 @@ pub write-requires-clause-there : goal.write-requires-clause-there
 write-requires-clause-there g c z =
     let p = g.C.Chunks.contents c.args.chunks.now in
     let s = some_of (tree_map p c.args.self.now) c.requires.map in
-    found_there (shown p c.in-Own.node.pieces) s.0 c.args.key.now (finite.get s.0 c.args.key.now) c.args.there
+    found_there (shown p c.in-Own.node.pieces) s.0 c.args.key.now (finite.get s.0 c.args.key.now) c.args.way.there
     (map_is (shown p c.in-Own.node.pieces) s.0 (ap (root_map p) (sym c.in-Own.is) ∙ s.1)).is refl
     (c.requires.there s.0 s.1) z
 
@@ -37,19 +37,19 @@ returns-in-Own-clause-ok g c m h =
 
 pub returns-in-Own-clause-few : goal.returns-in-Own-clause-few
 returns-in-Own-clause-few g c =
-    let e = own_depth (g.C.Chunks.contents c.args.chunks.now) c.args.self.now.root c.in-Own.node c.args.depth
+    let e = own_depth (g.C.Chunks.contents c.args.chunks.now) c.args.self.now.root c.in-Own.node c.args.way.depth
     c.in-Own.is c.requires.depth in
     on_ok c.write.result c.write.ensures.few (λ n. omega (arith, n, e, ap root_fresh c.in-Own.is))
 
 pub returns-in-Own-clause-replaced : goal.returns-in-Own-clause-replaced
 returns-in-Own-clause-replaced g c there =
-    let e = own_depth (g.C.Chunks.contents c.args.chunks.now) c.args.self.now.root c.in-Own.node c.args.depth
+    let e = own_depth (g.C.Chunks.contents c.args.chunks.now) c.args.self.now.root c.in-Own.node c.args.way.depth
     c.in-Own.is c.requires.depth in
     on_ok c.write.result (c.write.ensures.replaced there) (λ n. omega (arith, n, e, ap root_fresh c.in-Own.is))
 
 pub returns-in-Own-clause-deep : goal.returns-in-Own-clause-deep
 returns-in-Own-clause-deep g c =
-    let e = own_depth (g.C.Chunks.contents c.args.chunks.now) c.args.self.now.root c.in-Own.node c.args.depth
+    let e = own_depth (g.C.Chunks.contents c.args.chunks.now) c.args.self.now.root c.in-Own.node c.args.way.depth
     c.in-Own.is c.requires.depth in
     on_ok c.write.result c.write.ensures.deep
     (λ n. (c.write.new.self.depth, refl, omega (arith, n.0, e), omega (arith, n.1, e)))
@@ -70,7 +70,7 @@ root_with-requires-clause-map g c = subst
 
 pub root_with-requires-clause-depth : goal.root_with-requires-clause-depth
 root_with-requires-clause-depth g c = subst
-    (λ r. root_depth (g.C.Chunks.contents c.args.chunks.now) r ≡ Some c.args.depth) c.in-Placed.is c.requires.depth
+    (λ r. root_depth (g.C.Chunks.contents c.args.chunks.now) r ≡ Some c.args.way.depth) c.in-Placed.is c.requires.depth
 
 pub root_with-requires-clause-there : goal.root_with-requires-clause-there
 root_with-requires-clause-there g c m h = c.requires.there m

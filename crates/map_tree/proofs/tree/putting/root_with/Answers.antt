@@ -18,22 +18,22 @@ pub copied-requires-clause-known : goal.copied-requires-clause-known
 copied-requires-clause-known g c =
     let p = g.C.Chunks.contents c.args.chunks.now in
     let s = some_of (map_at p (stamp_of c.args.at)) c.requires.map in
-    subst IsSome (sym (placed_rows p c.args.at s.0 c.args.depth s.1 c.requires.depth)) refl
+    subst IsSome (sym (placed_rows p c.args.at s.0 c.args.way.depth s.1 c.requires.depth)) refl
 
 pub write-requires-clause-tree : goal.write-requires-clause-tree
 write-requires-clause-tree g c =
     let p = g.C.Chunks.contents c.args.chunks.now in
     let s = some_of (map_at p (stamp_of c.args.at)) c.requires.map in
     entries_tree (shown (g.C.Chunks.contents c.copied.new.chunks) c.in_ok-node.node.pieces) s.0
-    (c.in_ok-node.ensures.rows ∙ placed_rows p c.args.at s.0 c.args.depth s.1 c.requires.depth)
+    (c.in_ok-node.ensures.rows ∙ placed_rows p c.args.at s.0 c.args.way.depth s.1 c.requires.depth)
 
 pub write-requires-clause-there : goal.write-requires-clause-there
 write-requires-clause-there g c z =
     let p = g.C.Chunks.contents c.args.chunks.now in
     let s = some_of (map_at p (stamp_of c.args.at)) c.requires.map in
     found_there (shown (g.C.Chunks.contents c.copied.new.chunks) c.in_ok-node.node.pieces) s.0 c.args.key.now
-    (finite.get s.0 c.args.key.now) c.args.there
-    (c.in_ok-node.ensures.rows ∙ placed_rows p c.args.at s.0 c.args.depth s.1 c.requires.depth) refl
+    (finite.get s.0 c.args.key.now) c.args.way.there
+    (c.in_ok-node.ensures.rows ∙ placed_rows p c.args.at s.0 c.args.way.depth s.1 c.requires.depth) refl
     (c.requires.there s.0 s.1) z
 
 pub returns-clause-ok : goal.returns-clause-ok
@@ -41,7 +41,7 @@ returns-clause-ok g c m h =
     put_copied (shown (g.C.Chunks.contents c.copied.new.chunks) c.in_ok-node.node.pieces)
     (shown (g.C.Chunks.contents c.write.new.chunks) c.write.new.self.pieces) m c.args.key.now c.args.value.now
     (c.in_ok-node.ensures.rows ∙ placed_rows
-    (g.C.Chunks.contents c.args.chunks.now) c.args.at m c.args.depth h c.requires.depth) c.in_ok-write.ensures.done
+    (g.C.Chunks.contents c.args.chunks.now) c.args.at m c.args.way.depth h c.requires.depth) c.in_ok-write.ensures.done
 
 pub returns-clause-few : goal.returns-clause-few
 returns-clause-few g c = omega (
