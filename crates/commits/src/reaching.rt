@@ -10,6 +10,7 @@ ghost use Rattle.group_history.specs.Naming.{children, content_of};
 ghost use Rattle.group_history.specs.declared.nodes.Node.{Node as Noded};
 ghost use Rattle.group_history.specs.declared.refs.Ref.{Ref as Reference};
 ghost use Rattle.group_history.specs.declared.mutators.Stop.TheVariants.{NoMemory};
+ghost use Rattle.commits.specs.declared.founds.Found.TheVariants as found;
 ghost use Rattle.map_chunks.specs.Places.{Grows, AreAll};
 ghost use Rattle.commits.specs.Reach.{Reaches, IsDropped, Falls, stamps_of};
 ghost use Rattle.commits.specs.Inside.Gaps.{HasGap};
@@ -23,7 +24,7 @@ use crate::looks::look;
 use crate::merging::{add, without};
 use crate::nodes::Nodes;
 use group_history::{Ref, Stop};
-use std::alloc::Global;
+use std::alloc::{AllocError, Global};
 
 fn ref_in(found: Found) -> Ref
     ensures { result ≡ ref_in found }
@@ -64,6 +65,16 @@ fn visit<N: Nodes>(
     Ok(())
 }
 
+// A walk that looks at a commit first, and knows of a root alone that it was met.
+fn begun(alloc: Global, head: Ref, root: Ref) -> Result<Frontier, AllocError>
+    ensures { IfOk result (λ frontier. Adds (record { ahead = []; met = stamp_of root ∷ [] })
+        (found.Commit head ∷ []) frontier) }
+{
+    let mut frontier = Frontier::new(alloc, root.stamp())?;
+    frontier.add(Found::Commit(head))?;
+    Ok(frontier)
+}
+
 /// All that a commit reaches and the root of a map doesn't, by falling stamps.
 fn reachable<N: Nodes>(
     alloc: Global,
@@ -83,9 +94,8 @@ fn reachable<N: Nodes>(
     ensures places { IfOk result (λ xs. AreAll (N.places nodes.new) xs.items) }
     ensures stopped { IfErr result (λ stop. (stop ≡ NoMemory) ⊎ N.stops stop) }
 {
+    let mut frontier = begun(alloc, head, root)?;
     let mut listed = Vec::new(alloc);
-    let mut frontier = Frontier::new(alloc, root.stamp())?;
-    frontier.add(Found::Commit(head))?;
     while let Some(at) = frontier.pop() {
         visit(nodes, root, gap, &mut frontier, &mut listed, at)?;
     }

@@ -13,6 +13,7 @@ ghost use Rattle.map_tree.specs.Trees.{tree_map};
 ghost use Rattle.transactions.specs.Maps.{shown_map};
 ghost use Rattle.replays.specs.Refusing.{StopsAs};
 
+use crate::runs::tree_of;
 use group_history::{Patch, Ref, Refusal, Stop, WriteView};
 use map_tree::{Chunks, Draft, Tree};
 use std::alloc::Global;
@@ -39,6 +40,18 @@ fn operate<C: Chunks>(view: &mut WriteTx<C>, op: &Patch) -> Result<(), Stop>
     }
 }
 
+// The operations, in order.
+fn operate_all<C: Chunks>(view: &mut WriteTx<C>, patch: &[Patch]) -> Result<(), Stop>
+    ensures ok { OnOk result (shown_map (C.contents view.new.chunks) view.new.tree
+        ≡ patched (shown_map (C.contents view.old.chunks) view.old.tree) patch.now) }
+    ensures stopped { IfErr result (λ s. (s ≡ stop.NoMemory) ⊎ C.stops s) }
+{
+    for op in patch {
+        operate(view, op)?;
+    }
+    Ok(())
+}
+
 fn patched_known<C: Chunks + Drop, K: Known>(
     alloc: Global,
     chunks: C,
@@ -53,11 +66,8 @@ fn patched_known<C: Chunks + Drop, K: Known>(
     ensures err { IfErr result (λ e. (e ≡ NoMemory) ⊎ StopsAs C.stops e) }
 {
     let mut view = WriteTx::new(alloc, Fixed::<C, K>::new(chunks), Tree::at(root));
-    for op in patch {
-        operate(&mut view, op)?;
-    }
-    let (_, tree) = view.into_parts();
-    Ok(tree)
+    operate_all(&mut view, patch)?;
+    Ok(tree_of(view))
 }
 
 /// The map of a root after a patch's operations, in order. An empty patch keeps the root itself.

@@ -1,14 +1,16 @@
 //! The end of a pull.
-ghost use Rattle.std.specs.Prelude.{◌≡◌, ◌⊎◌, ◌<◌, false, length, Some, IsSome, IfOk, IfErr};
+ghost use Rattle.std.specs.Prelude.{◌≡◌, ◌⊎◌, ◌+◌, ◌<◌, false, length, Some, IsSome, IfOk, IfErr};
 ghost use Rattle.group_history.specs.Map.{Entries, patched};
 ghost use Rattle.group_history.specs.Pull.{AreInRange};
-ghost use Rattle.group_history.specs.Pulling.{end_at, after_pull};
+ghost use Rattle.group_history.specs.Pulling.{end_at, after_pull, left_pending, overwritten};
 ghost use Rattle.group_history.specs.Refs.{stamp_of};
-ghost use Rattle.group_history.specs.Spelling.{map_at, Spells};
+ghost use Rattle.group_history.specs.Spelling.{Contents, map_at, Spells};
 ghost use Rattle.group_history.specs.State.{State, pulled_state};
 ghost use Rattle.group_history.specs.declared.refs.Ref.{Ref as Reference};
 ghost use Rattle.group_history.specs.declared.refusals.Refusal.TheVariants.{NoMemory, Stamps};
+ghost use Rattle.map_chunks.specs.Drafts.{AreBelow};
 ghost use Rattle.map_chunks.specs.Places.{with_nodes};
+ghost use Rattle.map_tree.specs.Trees.{tree_map, tree_places};
 ghost use Rattle.replays.specs.Chaining.{HasTip};
 ghost use Rattle.replays.specs.Refusing.{StopsAs};
 
@@ -20,8 +22,8 @@ use group_history::{
     ConfirmedIds, Cookie, Ended, Mutation, Mutators, PullOk, Ref, Refusal, cookie_cmp,
     is_going_back, is_saying_nothing, keep_unconfirmed,
 };
-use map_tree::{Chunks, Draft};
-use std::alloc::Global;
+use map_tree::{Chunks, Draft, Tree};
+use std::alloc::{AllocError, Global};
 use std::cmp::Ordering;
 use transactions::Known;
 
@@ -59,6 +61,27 @@ pub fn judged(base: &Base, ticket: &Cookie, pull: &PullOk) -> Result<Ended, Refu
     }
 }
 
+// Drafts what a tree has new, and the snapshot of its map under the response's cookie.
+fn add_answered(
+    alloc: Global,
+    draft: &mut Draft,
+    tree: Tree,
+    pull: &PullOk,
+    confirmed: ConfirmedIds,
+) -> Result<Tip, Refusal>
+    requires map { AreBelow (draft.old.first + length draft.old.nodes) (tree_places tree) }
+    ensures tip { (contents : Contents) (m : Entries) → length contents ≡ draft.old.first
+        → tree_map (with_nodes contents draft.old.nodes) tree ≡ Some m
+        → IfOk result (λ tip. HasTip (with_nodes contents draft.new.nodes) tip
+        (record { state = pulled_state m pull.now.cookie confirmed; read = m })) }
+    ensures some { IfOk result (λ _. 0 < length draft.new.nodes) }
+    ensures first { draft.new.first ≡ draft.old.first }
+    ensures why { IfErr result (λ e. (e ≡ NoMemory) ⊎ (e ≡ Stamps)) }
+{
+    let cookie = pull.cookie().clone()?;
+    add_snapshot(alloc, draft, tree, cookie, confirmed)
+}
+
 // Drafts the snapshot after a pull: the patched map, under the response's cookie and the ids confirmed then.
 fn add_patched<C: Chunks + Copy, K: Known>(
     alloc: Global,
@@ -83,9 +106,25 @@ fn add_patched<C: Chunks + Copy, K: Known>(
     ensures err { IfErr result (λ e. (e ≡ NoMemory) ⊎ (e ≡ Stamps) ⊎ StopsAs C.stops e) }
 {
     let tree = patched_map::<C, K>(alloc, chunks, draft, root, pull.patch())?;
-    let cookie = pull.cookie().clone()?;
-    let tip = add_snapshot(alloc, draft, tree, cookie, confirmed)?;
+    let tip = add_answered(alloc, draft, tree, pull, confirmed)?;
     Ok(tip)
+}
+
+// The ids that are confirmed after a pull, and the mutations that stay pending then.
+fn after_changes(
+    alloc: Global,
+    base: &Base,
+    pending: &[Mutation],
+    pull: &PullOk,
+) -> Result<(ConfirmedIds, Vec<Mutation>), AllocError>
+    ensures confirmed { IfOk result (λ found. found.0 ≡ overwritten base.now.confirmed pull.now.changes) }
+    ensures left { IfOk result (λ found. found.1.items
+        ≡ left_pending (overwritten base.now.confirmed pull.now.changes) pending.now) }
+    ensures in_range { AreInRange pull.now.changes }
+{
+    let confirmed = base.confirmed.overwritten(alloc, pull.changes())?;
+    let left = keep_unconfirmed(alloc, confirmed.as_map(), pending)?;
+    Ok((confirmed, left))
 }
 
 /// Drafts the commits of the state after a pull: a snapshot of the patched map, and on it the mutations
@@ -115,8 +154,7 @@ pub fn rebased<C: Chunks + Copy, K: Known, M: Mutators>(
     ensures first { draft.new.first ≡ draft.old.first }
     ensures err { IfErr result (λ e. (e ≡ NoMemory) ⊎ (e ≡ Stamps) ⊎ StopsAs C.stops e) }
 {
-    let confirmed = base.confirmed.overwritten(alloc, pull.changes())?;
-    let left = keep_unconfirmed(alloc, confirmed.as_map(), pending)?;
+    let (confirmed, left) = after_changes(alloc, base, pending, pull)?;
     let snapshot = add_patched::<C, K>(alloc, chunks, draft, base.pulled, pull, confirmed)?;
     let tip = replayed::<C, K, M>(alloc, chunks, draft, snapshot, mutators, &left)?;
     Ok(RebasedHead {

@@ -1,5 +1,7 @@
 //! A run of a mutator on a tree over nodes that are placed or drafted.
 ghost use Rattle.std.specs.Prelude.{◌≡◌, ◌⊎◌, Some, IsSome, IfOk, IfErr, length};
+ghost use Rattle.group_history.specs.declared.mutators.Stop.TheVariants as stop;
+ghost use Rattle.group_history.specs.Ran.{RunsAs};
 ghost use Rattle.group_history.specs.declared.refs.Ref.{Ref as Reference};
 ghost use Rattle.group_history.specs.declared.refusals.Refusal.TheVariants.{NoMemory};
 ghost use Rattle.group_history.specs.Map.{Entries};
@@ -10,7 +12,7 @@ ghost use Rattle.transactions.specs.Maps.{shown_map};
 ghost use Rattle.replays.specs.Inside.Running.{HasRun};
 ghost use Rattle.replays.specs.Refusing.{StopsAs};
 
-use group_history::{Mutation, Mutators, Ran, Refusal};
+use group_history::{Mutation, Mutators, Ran, Refusal, Stop, WriteView};
 use map_tree::{Chunks, Draft, Tree};
 use std::alloc::Global;
 use std::marker::Brand;
@@ -21,6 +23,29 @@ use transactions::{Fixed, Known, Staged, WriteTx};
 pub struct Run {
     pub ran: Ran,
     pub tree: Tree,
+}
+
+/// The tree of the map that a transaction shows at its end.
+pub(crate) fn tree_of<C: Chunks + Drop>(view: WriteTx<C>) -> Tree
+    ensures { tree_map (C.contents view.chunks) result ≡ Some (shown_map (C.contents view.chunks) view.tree) }
+{
+    let (_, tree) = view.into_parts();
+    tree
+}
+
+// Runs a mutation's mutator over a view, for the mutation's reason.
+fn run_over<V: WriteView, M: Mutators>(
+    alloc: Global,
+    mutators: &M,
+    mutation: &Mutation,
+    view: &mut V,
+) -> Result<Ran, Stop>
+    ensures ran { IfOk result (λ ran. RunsAs (meaning_of M.means mutation.now (V.contents view.old)) ran
+        (V.contents view.new)) }
+    ensures stopped { IfErr result (λ s. (s ≡ stop.NoMemory) ⊎ V.stops s) }
+{
+    let name = mutation.name.as_str();
+    mutators.run(alloc, name, &mutation.args, mutation.reason, view)
 }
 
 fn run_known<C: Chunks + Drop, K: Known, M: Mutators>(
@@ -37,9 +62,8 @@ fn run_known<C: Chunks + Drop, K: Known, M: Mutators>(
     ensures err { IfErr result (λ e. (e ≡ NoMemory) ⊎ StopsAs C.stops e) }
 {
     let mut view = WriteTx::new(alloc, Fixed::<C, K>::new(chunks), tree);
-    let name = mutation.name.as_str();
-    let ran = mutators.run(alloc, name, &mutation.args, mutation.reason, &mut view)?;
-    let (_, tree) = view.into_parts();
+    let ran = run_over(alloc, mutators, mutation, &mut view)?;
+    let tree = tree_of(view);
     Ok(Run { ran, tree })
 }
 

@@ -1,9 +1,9 @@
-use Rattle.std.proofs.Common.{◌≡◌, ℕ, ◌<◌, inl, inr, List, [], ◌∷◌, sym, subst, ◌∙◌}
+use Rattle.std.proofs.Common.{◌≡◌, ℕ, ◌<◌, inl, inr, List, [], ◌∷◌, refl, sym, subst, ◌∙◌}
 use Rattle.std.specs.List.{Contains}
 use Rattle.std.proofs.lemmas.List.Elements.{Contains-append_right}
 use Rattle.group_history.specs.declared.refs.Ref.{Ref}
 use Rattle.group_history.specs.Refs.{stamp_of}
-use Rattle.group_history.proofs.Lists.{one_here, prefix_self}
+use Rattle.group_history.proofs.Lists.{one_here, only_one, prefix_self}
 use Rattle.commits.specs.declared.founds.Found.{Found}
 use Rattle.commits.specs.Inside.Reach.{Walked}
 use Rattle.commits.proofs.Chained.{some_version}
@@ -17,14 +17,13 @@ use Rattle.commits.proofs.reaching.reachable.Goals as goal
 pub loop-at-init : goal.loop-at-init
 loop-at-init g c =
     let m = g.N.Chunks.contents c.args.nodes.now in
+    let root = stamp_of c.args.root in
     let v = some_version m (stamp_of c.args.head) c.requires.head in
     let may = g.N.Chunks.places c.args.nodes.now in
-    let only : (x : ℕ) → Contains c.in_ok-frontier.frontier.met x → x ≡ stamp_of c.args.root =
-    λ x h. c.in_ok-frontier.ensures.met x h ∙ c.stamp.ensures.stamp in
-    subst (λ (w : List Ref). IsListing may may m m c.args.head (stamp_of c.args.root) w c.add.new.self)
+    subst (λ (w : List Ref). IsListing may may m m c.args.head root w c.in_ok-frontier.frontier)
     (sym c.new-listed.ensures.items)
-    (listing_begins may m c.args.head (stamp_of c.args.root) v.0 c.in_ok-frontier.frontier c.add.new.self v.1
-    c.requires.root c.in_ok-frontier.ensures.ahead only c.in_ok-add.ensures (prefix_self m) c.requires.places.0)
+    (listing_begins may m c.args.head root v.0 (record { ahead = []; met = root ∷ [] }) c.in_ok-frontier.frontier v.1
+    c.requires.root refl (λ x h. sym (only_one root x h)) c.in_ok-frontier.ensures (prefix_self m) c.requires.places.0)
 
 pub visit-requires-clause-found : goal.visit-requires-clause-found
 visit-requires-clause-found g c =

@@ -1,20 +1,11 @@
-use Rattle.std.proofs.Common.{◌+◌, drop, sym, ap, ◌∙◌}
-use Rattle.std.proofs.lemmas.List.{at_drop_more}
-use Rattle.group_history.specs.declared.responses.Patch.{Patch}
-use Rattle.group_history.specs.Map.{Entries, patched, patched_once}
+use Rattle.std.proofs.Common.{Some, ap, sym, ◌∙◌}
+use Rattle.group_history.specs.Map.{Entries, patched}
 use Rattle.map_tree.specs.declared.tree.Tree.{Tree}
 use Rattle.transactions.specs.Maps.{map_or, shown_map}
 use Rattle.replays.proofs.patches.patched_known.Goals as goal
 
-pub loop-op-init : goal.loop-op-init
-loop-op-init g c =
-    let known = g.K.Known.known in
-    ap (λ (m : Entries). patched m c.args.patch.now)
-    (ap (λ (t : Tree). shown_map known t) c.new-view.ensures.tree ∙ ap map_or (c.at.ensures.map known))
-
-pub loop-op-preserved : goal.loop-op-preserved
-loop-op-preserved g c =
-    let ops = c.args.patch.now in let k = c.loop-op.op-index in let m = shown_map g.K.Known.known c.loop-op.view.tree in
-    let step = at_drop_more (patched m) ops k c.op-item.result c.loop-op-test.true ∙ ap
-    (λ (op : Patch). patched (patched_once m op) (drop (k + 1) ops)) (sym c.op-item.is) in
-    ap (λ (n : Entries). patched n (drop (k + 1) ops)) c.in_ok-operate.ensures.ok ∙ (sym step ∙ c.loop-op.invariant)
+pub returns-clause-map : goal.returns-clause-map
+returns-clause-map g c m h =
+    let known = g.K.Known.known in let ops = c.args.patch.now in
+    c.tree_of.ensures ∙ ap Some (c.in_ok-operate_all.ensures.ok ∙ ap (λ (n : Entries). patched n ops)
+    (ap (λ (t : Tree). shown_map known t) c.new-view.ensures.tree ∙ ap map_or (c.at.ensures.map known ∙ h)))

@@ -1,5 +1,4 @@
-use Rattle.std.proofs.Common.{◌≡◌, List, rules, sym, subst}
-use Rattle.group_history.specs.Cookies.{Cookie}
+use Rattle.std.proofs.Common.{List, sym, subst}
 use Rattle.group_history.specs.Map.{patched}
 use Rattle.group_history.specs.State.{pulled_state}
 use Rattle.group_history.specs.declared.responses.Patch.{Patch}
@@ -14,16 +13,14 @@ use Rattle.replays.proofs.pulls.add_patched.Goals as goal
 pub returns-clause-tip : goal.returns-clause-tip
 returns-clause-tip g c m h =
     let known = g.K.Known.known in let pull = c.args.pull.now in
-    let P : List Patch → Cookie → Type 0 = λ ops cookie. HasTip
-    (with_nodes known c.add_snapshot.new.draft.nodes) c.in_ok-tip.tip
-    (record { state = pulled_state (patched m ops) cookie c.args.confirmed; read = patched m ops }) in
-    let cookie : c.in_ok-cookie.cookie ≡ pull.cookie = search rules in
-    subst (λ ops. P ops pull.cookie) c.patch.ensures (subst (P c.patch.result.now) cookie
-    (c.in_ok-tip.ensures.spelled known (patched m c.patch.result.now) (sym c.requires.behind)
-    (c.in_ok-tree.ensures.map m h)))
+    let P : List Patch → Type 0 = λ ops. HasTip
+    (with_nodes known c.add_answered.new.draft.nodes) c.in_ok-tip.tip
+    (record { state = pulled_state (patched m ops) pull.cookie c.args.confirmed; read = patched m ops }) in
+    subst P c.patch.ensures (c.in_ok-tip.ensures.tip known (patched m c.patch.result.now) (sym c.requires.behind)
+    (c.in_ok-tree.ensures.map m h))
 
-pub add_snapshot-requires : goal.add_snapshot-requires
-add_snapshot-requires g c =
+pub add_answered-requires : goal.add_answered-requires
+add_answered-requires g c =
     let known = g.K.Known.known in
     let m = some_of (map_at (with_nodes known c.args.draft.now.nodes) (stamp_of c.args.root)) c.requires.map in
     record {

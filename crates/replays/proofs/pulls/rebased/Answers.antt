@@ -24,9 +24,8 @@ returns-clause-spelled g c s h confirmed pending is_open =
     let base : State = pulled_state (patched s.pulled pull.patch) pull.cookie c.in_ok-confirmed.confirmed in
     let tip = c.in_ok-tip.ensures.tip base (c.in_ok-snapshot.ensures.tip s.pulled h) refl in
     let whole =
-    pull_parts s pull pull.cookie c.in_ok-confirmed.confirmed c.args.base.now.confirmed pull.patch c.changes.result.now
-    c.deref.result.now c.args.pending.now refl refl
-    c.in_ok-confirmed.ensures c.changes.ensures.changes confirmed
-    (c.deref.ensures.value ∙ (c.in_ok-left.ensures ∙ ap
-    (λ ids. left_pending ids c.args.pending.now) c.as_map.ensures)) (sym pending) is_open in
+    pull_parts s pull pull.cookie c.in_ok-confirmed.confirmed c.args.base.now.confirmed pull.patch pull.changes
+    c.deref.result.now c.args.pending.now refl refl c.in_ok-confirmed.ensures.confirmed refl confirmed
+    (c.deref.ensures.value ∙ (c.in_ok-confirmed.ensures.left ∙ ap
+    (λ ids. left_pending ids c.args.pending.now) (sym c.in_ok-confirmed.ensures.confirmed))) (sym pending) is_open in
     tip.0 ∙ ap (λ (w : State). Some (version_of means w)) whole
