@@ -24,6 +24,13 @@ use crate::sinks::TakesRows;
 use group_history::{Chunk, Json, Ref, Scan, Start, Stop, Text};
 use std::alloc::AllocError;
 
+// Children of a chunk, and their first keys.
+#[derive(Clone, Copy)]
+struct Below<'a> {
+    firsts: &'a [Text],
+    children: &'a [Ref],
+}
+
 /// A key below which the scan has none.
 pub fn lowest(scan: &Scan) -> &Text
     ensures { IsLow scan.now result.now }
@@ -239,8 +246,11 @@ fn scan_chunk<C: Chunks, S: TakesRows>(
             return Ok(left);
         }
         Chunk::Inner(inner) => {
-            let firsts = inner.firsts().as_slice();
-            return scan_children(chunks, firsts, inner.children(), scan, low, room, sink);
+            let below = Below {
+                firsts: inner.firsts().as_slice(),
+                children: inner.children(),
+            };
+            return scan_children(chunks, below, scan, low, room, sink);
         }
     }
 }
@@ -248,32 +258,32 @@ fn scan_chunk<C: Chunks, S: TakesRows>(
 #[cycle(placed)]
 fn scan_children<C: Chunks, S: TakesRows>(
     chunks: &mut C,
-    firsts: &[Text],
-    children: &[Ref],
+    below: Below<'_>,
     scan: &Scan,
     low: &str,
     room: Option<u64>,
     sink: &mut S,
 ) -> Result<Option<u64>, Stop>
-    requires places { AreAll (C.places chunks.old) children.now }
-    requires order { T (rises firsts.now) }
-    requires children { length children.now ≡ length firsts.now }
-    requires tree { IsTree (children_rows (C.contents chunks.old) (paired firsts.now children.now)) }
+    requires places { AreAll (C.places chunks.old) below.children.now }
+    requires order { T (rises below.firsts.now) }
+    requires children { length below.children.now ≡ length below.firsts.now }
+    requires tree { IsTree (children_rows (C.contents chunks.old) (paired below.firsts.now below.children.now)) }
     requires low { IsLow scan.now low.now }
     ensures grown { Grows C.contents C.places chunks.old chunks.new }
     ensures rows { IfOk result (λ after. Took S.has sink.old sink.new room after
-        (taken scan.now room (rows_or (children_rows (C.contents chunks.old) (paired firsts.now children.now))))) }
+        (taken scan.now room (rows_or (children_rows (C.contents chunks.old)
+        (paired below.entry.firsts.now below.entry.children.now))))) }
     ensures stopped { IfErr result (λ s. (s ≡ NoMemory) ⊎ C.stops s) }
 {
-    if firsts.is_empty() {
+    if below.firsts.is_empty() {
         return Ok(room);
     }
     let mut left = room;
-    for place in place_of(firsts, low)..firsts.len() {
-        if is_over(scan, left, &firsts[place]) {
+    for place in place_of(below.firsts, low)..below.firsts.len() {
+        if is_over(scan, left, &below.firsts[place]) {
             return Ok(left);
         }
-        left = scan_placed(chunks, children[place], scan, low, left, sink)?;
+        left = scan_placed(chunks, below.children[place], scan, low, left, sink)?;
     }
     Ok(left)
 }

@@ -14,6 +14,13 @@ use map_chunks::scanning::{is_over, scan_placed, scan_rows};
 use map_chunks::search::place_of;
 use map_chunks::{Chunks, TakesRows};
 
+// Children of a chunk, and their first keys.
+#[derive(Clone, Copy)]
+struct Below<'a> {
+    firsts: &'a [Text],
+    kids: &'a [OwnChild],
+}
+
 impl OwnNode {
     /// Takes the scan's rows of the chunk, and answers the room that is left. Stops for want of memory, or as
     /// the store does; what was taken by then stays with the sink.
@@ -40,7 +47,11 @@ impl OwnNode {
                 return Ok(left);
             }
             Body::Inner(kids) => {
-                return scan_kids(chunks, self.keys.as_slice(), kids, scan, low, room, sink);
+                let below = Below {
+                    firsts: self.keys.as_slice(),
+                    kids,
+                };
+                return scan_kids(chunks, below, scan, low, room, sink);
             }
         }
     }
@@ -49,32 +60,32 @@ impl OwnNode {
 #[cycle(own)]
 fn scan_kids<C: Chunks, S: TakesRows>(
     chunks: &mut C,
-    firsts: &[Text],
-    kids: &[OwnChild],
+    below: Below<'_>,
     scan: &Scan,
     low: &str,
     room: Option<u64>,
     sink: &mut S,
 ) -> Result<Option<u64>, Stop>
-    requires places { AreAll (C.places chunks.old) (kids_places kids.now) }
-    requires order { T (rises firsts.now) }
-    requires kids { length kids.now ≡ length firsts.now }
-    requires tree { IsTree (kids_shown (C.contents chunks.old) (paired firsts.now kids.now)) }
+    requires places { AreAll (C.places chunks.old) (kids_places below.kids.now) }
+    requires order { T (rises below.firsts.now) }
+    requires kids { length below.kids.now ≡ length below.firsts.now }
+    requires tree { IsTree (kids_shown (C.contents chunks.old) (paired below.firsts.now below.kids.now)) }
     requires low { IsLow scan.now low.now }
     ensures grown { Grows C.contents C.places chunks.old chunks.new }
     ensures rows { IfOk result (λ after. Took S.has sink.old sink.new room after
-        (taken scan.now room (rows_or (kids_shown (C.contents chunks.old) (paired firsts.now kids.now))))) }
+        (taken scan.now room (rows_or (kids_shown (C.contents chunks.old)
+        (paired below.entry.firsts.now below.entry.kids.now))))) }
     ensures stopped { IfErr result (λ s. (s ≡ NoMemory) ⊎ C.stops s) }
 {
-    if firsts.is_empty() {
+    if below.firsts.is_empty() {
         return Ok(room);
     }
     let mut left = room;
-    for place in place_of(firsts, low)..firsts.len() {
-        if is_over(scan, left, &firsts[place]) {
+    for place in place_of(below.firsts, low)..below.firsts.len() {
+        if is_over(scan, left, &below.firsts[place]) {
             return Ok(left);
         }
-        left = scan_kid(chunks, &kids[place], scan, low, left, sink)?;
+        left = scan_kid(chunks, &below.kids[place], scan, low, left, sink)?;
     }
     Ok(left)
 }

@@ -1,4 +1,4 @@
-use Rattle.std.proofs.Common.{[], ◌≡◌, ◌∙◌, ap, sym, subst, arith, length, slice_index_or, IfOk}
+use Rattle.std.proofs.Common.{[], true, ◌≡◌, ◌∙◌, ap, sym, subst, arith, length, slice_index_or, IfOk}
 use Rattle.std.proofs.lemmas.List.{append-nil}
 use Rattle.group_history.specs.declared.nodes.Chunk.{Chunk}
 use Rattle.group_history.specs.declared.refs.Ref.{Ref}
@@ -9,7 +9,7 @@ use Rattle.std.proofs.lemmas.List.Elements.{Contains-get_or}
 use Rattle.group_history.specs.Naming.{chunk_children}
 use Rattle.map_chunks.specs.Places.{AreAll}
 use Rattle.map_chunks.proofs.KeptLemmas.{grows_on}
-use Rattle.map_chunks.specs.Scanning.{Took, taken}
+use Rattle.map_chunks.specs.Scanning.{Took, taken, is_over}
 use Rattle.map_chunks.specs.Inside.Scanning.{opened_rows, children_rows}
 use Rattle.map_chunks.specs.Shown.{IsTree, rows_or, chunk_rows}
 use Rattle.map_chunks.proofs.OpenLemmas.{known, tree_of}
@@ -22,10 +22,10 @@ pub scan_children-loop-place-init : goal.scan_children-loop-place-init
 scan_children-loop-place-init g t c =
     let p = g.C.Chunks.contents c.args.chunks.now in
     let r = c.requires.1.1.1.1.1.1 in
-    let n = refs_known p c.args.firsts.now c.args.children.now r.1.1.0 in
+    let n = refs_known p c.args.below.firsts.now c.args.below.children.now r.1.1.0 in
     record {
       grown = (([], append-nil p), λ at h. h);
-      rows = pairs_begun (ref_rows p) c.args.firsts.now c.args.children.now c.place_of-place.result n.rows
+      rows = pairs_begun (ref_rows p) c.args.below.firsts.now c.args.below.children.now c.place_of-place.result n.rows
           c.args.scan.now c.args.low.now g.S.TakesRows.has c.args.sink.now c.args.room r.1.0 n.is n.order r.1.1.1
           c.place_of-place.ensures;
     }
@@ -34,13 +34,14 @@ pub scan_children-returns-then-is_over-clause-rows : goal.scan_children-returns-
 scan_children-returns-then-is_over-clause-rows g t c =
     let p = g.C.Chunks.contents c.args.chunks.now in
     let r = c.requires.1.1.1.1.1.1 in
-    let n = refs_known p c.args.firsts.now c.args.children.now r.1.1.0 in
+    let n = refs_known p c.args.below.firsts.now c.args.below.children.now r.1.1.0 in
     subst (λ w. Took g.S.TakesRows.has c.args.sink.now c.loop-place.sink c.args.room c.loop-place.left
     (taken c.args.scan.now c.args.room (rows_or w))) (sym n.is)
-    (pairs_over (ref_rows p) c.args.firsts.now c.args.children.now c.loop-place.place n.rows c.args.scan.now
-    g.S.TakesRows.has c.args.sink.now c.loop-place.sink c.args.room c.loop-place.left c.index-firsts-place.result r.1.0
-    n.is n.order c.loop-place-test.true c.index-firsts-place.is c.loop-place.invariant.rows
-    (sym c.is_over.ensures ∙ c.if-is_over.true))
+    (pairs_over (ref_rows p) c.args.below.firsts.now c.args.below.children.now c.loop-place.place n.rows c.args.scan.now
+    g.S.TakesRows.has c.args.sink.now c.loop-place.sink c.args.room c.loop-place.left c.index-below-place.result r.1.0
+    n.is n.order c.loop-place-test.true c.index-below-place.is c.loop-place.invariant.rows
+    (subst (λ w. is_over c.args.scan.now c.loop-place.left w ≡ true) (sym c.index-below-place.is)
+    (sym c.is_over.ensures ∙ c.if-is_over.true)))
 
 pub scan_children-returns-then-is_over-clause-grown : goal.scan_children-returns-then-is_over-clause-grown
 scan_children-returns-then-is_over-clause-grown g t c = c.loop-place.invariant.grown
@@ -57,14 +58,14 @@ pub scan_children-scan_placed-requires : goal.scan_children-scan_placed-requires
 scan_children-scan_placed-requires g t c κs ws =
     let p = g.C.Chunks.contents c.args.chunks.now in
     let r = c.requires.1.1.1.1.1.1 in
-    let n = refs_known p c.args.firsts.now c.args.children.now r.1.1.0 in
-    let at = slice_index_or c.args.children.now c.loop-place.place (record { bits = 0 }) in
-    let u = ref_turn p (g.C.Chunks.contents c.loop-place.chunks) c.args.firsts.now c.args.children.now
+    let n = refs_known p c.args.below.firsts.now c.args.below.children.now r.1.1.0 in
+    let at = slice_index_or c.args.below.children.now c.loop-place.place (record { bits = 0 }) in
+    let u = ref_turn p (g.C.Chunks.contents c.loop-place.chunks) c.args.below.firsts.now c.args.below.children.now
     c.loop-place.place at c.loop-place.invariant.grown.0 r.1.0 n c.loop-place-test.true
-    (got_any c.args.children.now c.loop-place.place (record { bits = 0 }) at
+    (got_any c.args.below.children.now c.loop-place.place (record { bits = 0 }) at
     (omega (arith, r.1.0, c.loop-place-test.true))) in
     let place = c.loop-place.invariant.grown.1 at
-    (c.requires.1.1.1.1.1.0 at (Contains-get_or c.args.children.now c.loop-place.place (record { bits = 0 })
+    (c.requires.1.1.1.1.1.0 at (Contains-get_or c.args.below.children.now c.loop-place.place (record { bits = 0 })
     (omega (arith, r.1.0, c.loop-place-test.true)))) in (
       omega (arith, u.low, c.requires.1.0),
       (
@@ -89,16 +90,16 @@ pub scan_children-loop-place-preserved : goal.scan_children-loop-place-preserved
 scan_children-loop-place-preserved g t c =
     let p = g.C.Chunks.contents c.args.chunks.now in
     let r = c.requires.1.1.1.1.1.1 in
-    let n = refs_known p c.args.firsts.now c.args.children.now r.1.1.0 in
-    let at = slice_index_or c.args.children.now c.loop-place.place (record { bits = 0 }) in
-    let u = ref_turn p (g.C.Chunks.contents c.loop-place.chunks) c.args.firsts.now c.args.children.now
+    let n = refs_known p c.args.below.firsts.now c.args.below.children.now r.1.1.0 in
+    let at = slice_index_or c.args.below.children.now c.loop-place.place (record { bits = 0 }) in
+    let u = ref_turn p (g.C.Chunks.contents c.loop-place.chunks) c.args.below.firsts.now c.args.below.children.now
     c.loop-place.place at c.loop-place.invariant.grown.0 r.1.0 n c.loop-place-test.true
-    (got_any c.args.children.now c.loop-place.place (record { bits = 0 }) at
+    (got_any c.args.below.children.now c.loop-place.place (record { bits = 0 }) at
     (omega (arith, r.1.0, c.loop-place-test.true))) in
     record {
       grown = grows_on g.C.Chunks.contents g.C.Chunks.places c.args.chunks.now c.loop-place.chunks
           c.scan_placed.new.chunks c.loop-place.invariant.grown c.scan_placed.ensures.grown;
-      rows = pairs_child (ref_rows p) c.args.firsts.now c.args.children.now c.loop-place.place n.rows c.args.scan.now
+      rows = pairs_child (ref_rows p) c.args.below.firsts.now c.args.below.children.now c.loop-place.place n.rows c.args.scan.now
           g.S.TakesRows.has c.args.sink.now c.loop-place.sink c.scan_placed.new.sink c.args.room c.loop-place.left
           c.in_ok-left.left u.turn c.loop-place.invariant.rows
           (subst (λ w. Took g.S.TakesRows.has c.loop-place.sink c.scan_placed.new.sink c.loop-place.left
@@ -110,10 +111,10 @@ pub scan_children-returns-clause-rows : goal.scan_children-returns-clause-rows
 scan_children-returns-clause-rows g t c =
     let p = g.C.Chunks.contents c.args.chunks.now in
     let r = c.requires.1.1.1.1.1.1 in
-    let n = refs_known p c.args.firsts.now c.args.children.now r.1.1.0 in
+    let n = refs_known p c.args.below.firsts.now c.args.below.children.now r.1.1.0 in
     subst (λ w. Took g.S.TakesRows.has c.args.sink.now c.loop-place.sink c.args.room c.loop-place.left
     (taken c.args.scan.now c.args.room w))
-    (pairs_all (ref_rows p) c.args.firsts.now c.args.children.now c.loop-place.place n.rows r.1.0 n.is
+    (pairs_all (ref_rows p) c.args.below.firsts.now c.args.below.children.now c.loop-place.place n.rows r.1.0 n.is
     (omega (arith, c.place_of-place.ensures.0)) ∙ ap rows_or (sym n.is)) c.loop-place.invariant.rows
 
 pub scan_chunk-returns-in-Leaf-clause-rows : goal.scan_chunk-returns-in-Leaf-clause-rows
@@ -133,13 +134,13 @@ scan_chunk-scan_children-requires g t c κs ws =
     let p = g.C.Chunks.contents c.args.chunks.now in
     let r = c.requires.1.1.1.1.1.1 in
     let kids = c.in-Inner.inner in
-    let keys : c.as_slice-firsts.result.now
-    ≡ keys_of kids = c.as_slice-firsts.ensures.keys ∙ c.deref-in-Inner.ensures ∙ c.firsts.ensures.keys in
+    let keys : c.as_slice-in-Inner.result.now
+    ≡ keys_of kids = c.as_slice-in-Inner.ensures.keys ∙ c.deref-in-Inner.ensures ∙ c.firsts.ensures.keys in
     let children : c.children.result.now ≡ values_of kids = c.children.ensures in
-    let pairs : paired c.as_slice-firsts.result.now c.children.result.now
+    let pairs : paired c.as_slice-in-Inner.result.now c.children.result.now
     ≡ kids = ap (λ w. paired w c.children.result.now) keys ∙ ap
     (λ w. paired (keys_of kids) w) children ∙ paired-parts kids in
-    let tops : top (paired c.as_slice-firsts.result.now c.children.result.now)
+    let tops : top (paired c.as_slice-in-Inner.result.now c.children.result.now)
     ≡ chunk_top c.args.chunk.now = ap top pairs ∙ ap chunk_top (sym c.in-Inner.is) in (
       omega (arith, tops, c.requires.1.0),
       (
@@ -153,7 +154,7 @@ scan_chunk-scan_children-requires g t c κs ws =
                   (subst (λ (ch : Chunk Ref). AreAll (g.C.Chunks.places c.args.chunks.now) (chunk_children ch))
                   c.in-Inner.is c.requires.1.1.1.1.1.0),
               (
-                c.as_slice-firsts.ensures.order.1,
+                c.as_slice-in-Inner.ensures.order.1,
                 (
                   omega (arith, ap length keys, ap length children, length-keys_of kids, length-values_of kids),
                   (
@@ -173,10 +174,10 @@ pub scan_chunk-returns-in-Inner-clause-rows : goal.scan_chunk-returns-in-Inner-c
 scan_chunk-returns-in-Inner-clause-rows g t c =
     let p = g.C.Chunks.contents c.args.chunks.now in
     let kids = c.in-Inner.inner in
-    let keys : c.as_slice-firsts.result.now
-    ≡ keys_of kids = c.as_slice-firsts.ensures.keys ∙ c.deref-in-Inner.ensures ∙ c.firsts.ensures.keys in
+    let keys : c.as_slice-in-Inner.result.now
+    ≡ keys_of kids = c.as_slice-in-Inner.ensures.keys ∙ c.deref-in-Inner.ensures ∙ c.firsts.ensures.keys in
     let children : c.children.result.now ≡ values_of kids = c.children.ensures in
-    let pairs : paired c.as_slice-firsts.result.now c.children.result.now
+    let pairs : paired c.as_slice-in-Inner.result.now c.children.result.now
     ≡ kids = ap (λ w. paired w c.children.result.now) keys ∙ ap
     (λ w. paired (keys_of kids) w) children ∙ paired-parts kids in
     subst (λ w. IfOk c.scan_children.result

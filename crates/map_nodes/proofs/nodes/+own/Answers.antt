@@ -1,17 +1,17 @@
-use Rattle.std.proofs.Common.{[], ◌≡◌, ◌∙◌, ap, sym, subst, arith, length, IfOk, T}
+use Rattle.std.proofs.Common.{[], true, ◌≡◌, ◌∙◌, ap, sym, subst, arith, length, slice_index_or, IfOk, T}
 use Rattle.std.proofs.lemmas.List.{append-nil}
 use Rattle.group_history.specs.Rows.{paired, rises}
 use Rattle.map_nodes.specs.Nodes.{body_pieces, body_height, kids_height, IsNode}
 use Rattle.map_chunks.specs.Places.{AreAll}
 use Rattle.map_nodes.specs.Inside.Freezing.{kids_places}
-use Rattle.map_chunks.specs.Scanning.{Took, taken}
+use Rattle.map_chunks.specs.Scanning.{Took, taken, is_over}
 use Rattle.map_nodes.specs.Inside.Scanning.{kids_shown}
 use Rattle.map_chunks.specs.Shown.{Seen, rows_or, shown}
 use Rattle.map_nodes.specs.declared.nodes.Body.TheVariants.{Inner}
 use Rattle.map_nodes.proofs.NodeLemmas.{shown-rows}
 use Rattle.map_chunks.proofs.OpenLemmas.{known, tree_of}
 use Rattle.map_nodes.proofs.ScanLemmas.{shown_kid, kids_shown-is, kid_turn, kid_height}
-use Rattle.map_chunks.proofs.ScanLemmas.{pairs_begun, pairs_over, pairs_child, pairs_all}
+use Rattle.map_chunks.proofs.ScanLemmas.{got_any, pairs_begun, pairs_over, pairs_child, pairs_all}
 use Rattle.map_chunks.proofs.KeptLemmas.{all_on, grows_on}
 use Rattle.map_nodes.proofs.PlaceLemmas.{kid_all, kids_may}
 use Rattle.map_nodes.proofs.nodes.+own.Goals as goal
@@ -20,10 +20,10 @@ pub scanning::scan_kids-loop-place-init : goal.scanning::scan_kids-loop-place-in
 scanning::scan_kids-loop-place-init g t c =
     let p = g.C.Chunks.contents c.args.chunks.now in
     let r = c.requires.1.1.1.1.1.1 in
-    let n = known (kids_shown p (paired c.args.firsts.now c.args.kids.now)) r.1.1.0 in
+    let n = known (kids_shown p (paired c.args.below.firsts.now c.args.below.kids.now)) r.1.1.0 in
     record {
       grown = (([], append-nil p), λ at h. h);
-      rows = pairs_begun (shown_kid p) c.args.firsts.now c.args.kids.now c.place_of-place.result n.rows c.args.scan.now
+      rows = pairs_begun (shown_kid p) c.args.below.firsts.now c.args.below.kids.now c.place_of-place.result n.rows c.args.scan.now
           c.args.low.now g.S.TakesRows.has c.args.sink.now c.args.room r.1.0 n.is n.order r.1.1.1
           c.place_of-place.ensures;
     }
@@ -32,13 +32,14 @@ pub scanning::scan_kids-returns-then-is_over-clause-rows : goal.scanning::scan_k
 scanning::scan_kids-returns-then-is_over-clause-rows g t c =
     let p = g.C.Chunks.contents c.args.chunks.now in
     let r = c.requires.1.1.1.1.1.1 in
-    let n = known (kids_shown p (paired c.args.firsts.now c.args.kids.now)) r.1.1.0 in
+    let n = known (kids_shown p (paired c.args.below.firsts.now c.args.below.kids.now)) r.1.1.0 in
     subst (λ w. Took g.S.TakesRows.has c.args.sink.now c.loop-place.sink c.args.room c.loop-place.left
     (taken c.args.scan.now c.args.room (rows_or w))) (sym n.is)
-    (pairs_over (shown_kid p) c.args.firsts.now c.args.kids.now c.loop-place.place n.rows c.args.scan.now
-    g.S.TakesRows.has c.args.sink.now c.loop-place.sink c.args.room c.loop-place.left c.index-firsts-place.result r.1.0
-    n.is n.order c.loop-place-test.true c.index-firsts-place.is c.loop-place.invariant.rows
-    (sym c.is_over.ensures ∙ c.if-is_over.true))
+    (pairs_over (shown_kid p) c.args.below.firsts.now c.args.below.kids.now c.loop-place.place n.rows c.args.scan.now
+    g.S.TakesRows.has c.args.sink.now c.loop-place.sink c.args.room c.loop-place.left c.index-below-place.result r.1.0
+    n.is n.order c.loop-place-test.true c.index-below-place.is c.loop-place.invariant.rows
+    (subst (λ w. is_over c.args.scan.now c.loop-place.left w ≡ true) (sym c.index-below-place.is)
+    (sym c.is_over.ensures ∙ c.if-is_over.true)))
 
 pub scanning::scan_kids-returns-then-is_over-clause-grown : goal.scanning::scan_kids-returns-then-is_over-clause-grown
 scanning::scan_kids-returns-then-is_over-clause-grown g t c = c.loop-place.invariant.grown
@@ -55,16 +56,20 @@ pub scanning::scan_kids-scan_kid-requires : goal.scanning::scan_kids-scan_kid-re
 scanning::scan_kids-scan_kid-requires g t c κs ws =
     let p = g.C.Chunks.contents c.args.chunks.now in
     let r = c.requires.1.1.1.1.1.1 in
-    let n = known (kids_shown p (paired c.args.firsts.now c.args.kids.now)) r.1.1.0 in
-    let u = kid_turn p (g.C.Chunks.contents c.loop-place.chunks) c.args.firsts.now c.args.kids.now c.loop-place.place
-    c.index-kids-place.result c.loop-place.invariant.grown.0 r.1.0 n
-    c.loop-place-test.true c.index-kids-place.is in
-    let high = kid_height c.args.kids.now c.loop-place.place c.index-kids-place.result
-    (omega (arith, r.1.0, c.loop-place-test.true)) c.index-kids-place.is in
+    let n = known (kids_shown p (paired c.args.below.firsts.now c.args.below.kids.now)) r.1.1.0 in
+    let other = c.index-below-place-in-loop-place.result in
+    let kid = slice_index_or c.args.below.kids.now c.loop-place.place other in
+    let here = got_any c.args.below.kids.now c.loop-place.place other kid
+    (omega (arith, r.1.0, c.loop-place-test.true)) in
+    let u = kid_turn p (g.C.Chunks.contents c.loop-place.chunks) c.args.below.firsts.now c.args.below.kids.now c.loop-place.place
+    kid c.loop-place.invariant.grown.0 r.1.0 n
+    c.loop-place-test.true here in
+    let high = kid_height c.args.below.kids.now c.loop-place.place kid
+    (omega (arith, r.1.0, c.loop-place-test.true)) here in
     let may = all_on (g.C.Chunks.places c.args.chunks.now)
     (g.C.Chunks.places c.loop-place.chunks) _ c.loop-place.invariant.grown.1
-    (kid_all (g.C.Chunks.places c.args.chunks.now) c.args.kids.now c.loop-place.place c.index-kids-place.result
-    (omega (arith, r.1.0, c.loop-place-test.true)) c.index-kids-place.is c.requires.1.1.1.1.1.0) in (
+    (kid_all (g.C.Chunks.places c.args.chunks.now) c.args.below.kids.now c.loop-place.place kid
+    (omega (arith, r.1.0, c.loop-place-test.true)) here c.requires.1.1.1.1.1.0) in (
       omega (arith, high, c.requires.1.0),
       (ws.0, (ws.1.0, (ws.1.1, (may, (u.tree, r.1.1.1))))),
     )
@@ -73,14 +78,18 @@ pub scanning::scan_kids-loop-place-preserved : goal.scanning::scan_kids-loop-pla
 scanning::scan_kids-loop-place-preserved g t c =
     let p = g.C.Chunks.contents c.args.chunks.now in
     let r = c.requires.1.1.1.1.1.1 in
-    let n = known (kids_shown p (paired c.args.firsts.now c.args.kids.now)) r.1.1.0 in
-    let u = kid_turn p (g.C.Chunks.contents c.loop-place.chunks) c.args.firsts.now c.args.kids.now c.loop-place.place
-    c.index-kids-place.result c.loop-place.invariant.grown.0 r.1.0 n
-    c.loop-place-test.true c.index-kids-place.is in
+    let n = known (kids_shown p (paired c.args.below.firsts.now c.args.below.kids.now)) r.1.1.0 in
+    let other = c.index-below-place-in-loop-place.result in
+    let kid = slice_index_or c.args.below.kids.now c.loop-place.place other in
+    let here = got_any c.args.below.kids.now c.loop-place.place other kid
+    (omega (arith, r.1.0, c.loop-place-test.true)) in
+    let u = kid_turn p (g.C.Chunks.contents c.loop-place.chunks) c.args.below.firsts.now c.args.below.kids.now c.loop-place.place
+    kid c.loop-place.invariant.grown.0 r.1.0 n
+    c.loop-place-test.true here in
     record {
       grown = grows_on g.C.Chunks.contents g.C.Chunks.places c.args.chunks.now c.loop-place.chunks c.scan_kid.new.chunks
           c.loop-place.invariant.grown c.scan_kid.ensures.grown;
-      rows = pairs_child (shown_kid p) c.args.firsts.now c.args.kids.now c.loop-place.place n.rows c.args.scan.now
+      rows = pairs_child (shown_kid p) c.args.below.firsts.now c.args.below.kids.now c.loop-place.place n.rows c.args.scan.now
           g.S.TakesRows.has c.args.sink.now c.loop-place.sink c.scan_kid.new.sink c.args.room c.loop-place.left
           c.in_ok-left.left u.turn c.loop-place.invariant.rows
           (subst (λ w. Took g.S.TakesRows.has c.loop-place.sink c.scan_kid.new.sink c.loop-place.left
@@ -92,10 +101,10 @@ pub scanning::scan_kids-returns-clause-rows : goal.scanning::scan_kids-returns-c
 scanning::scan_kids-returns-clause-rows g t c =
     let p = g.C.Chunks.contents c.args.chunks.now in
     let r = c.requires.1.1.1.1.1.1 in
-    let n = known (kids_shown p (paired c.args.firsts.now c.args.kids.now)) r.1.1.0 in
+    let n = known (kids_shown p (paired c.args.below.firsts.now c.args.below.kids.now)) r.1.1.0 in
     subst (λ w. Took g.S.TakesRows.has c.args.sink.now c.loop-place.sink c.args.room c.loop-place.left
     (taken c.args.scan.now c.args.room w))
-    (pairs_all (shown_kid p) c.args.firsts.now c.args.kids.now c.loop-place.place n.rows r.1.0 n.is
+    (pairs_all (shown_kid p) c.args.below.firsts.now c.args.below.kids.now c.loop-place.place n.rows r.1.0 n.is
     (omega (arith, c.place_of-place.ensures.0)) ∙ ap rows_or (sym n.is)) c.loop-place.invariant.rows
 
 pub OwnNode::scan-returns-in-Leaf-clause-rows : goal.OwnNode::scan-returns-in-Leaf-clause-rows

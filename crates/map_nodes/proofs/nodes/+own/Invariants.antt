@@ -11,7 +11,7 @@ abbrev pub decreases-OwnNode::scan : goal.decreases-OwnNode::scan
 decreases-OwnNode::scan g l = l.self.now.height
 
 abbrev pub decreases-scanning::scan_kids : goal.decreases-scanning::scan_kids
-decreases-scanning::scan_kids g l = kids_height l.kids.now + 1
+decreases-scanning::scan_kids g l = kids_height l.below.kids.now + 1
 
 abbrev pub decreases-scanning::scan_kid : goal.decreases-scanning::scan_kid
 decreases-scanning::scan_kid g l = child_height l.kid.now
@@ -21,5 +21,5 @@ invariant-scanning::scan_kids-loop-place g l =
     record {
       grown : Grows g.C.Chunks.contents g.C.Chunks.places l.fn.chunks l.chunks;
       rows : Took g.S.TakesRows.has l.fn.sink l.sink l.fn.room l.left (taken l.scan l.fn.room
-          (first_rows (shown_kid (g.C.Chunks.contents l.fn.chunks)) (paired l.firsts l.kids) l.place));
+          (first_rows (shown_kid (g.C.Chunks.contents l.fn.chunks)) (paired l.below.firsts.now l.below.kids.now) l.place));
     }
