@@ -99,12 +99,12 @@ kids_good below es nk ne p a o l z =
       subst (AllKids below) (sym p.0) a,
     )
 
-pub finished_alone : (depth copies : ℕ) (es : Kids) (nk : List Bytes) (ne : List OwnChild) → ArePairs es nk ne
+pub finished_alone : (depth : ℕ) (es : Kids) (nk : List Bytes) (ne : List OwnChild) → ArePairs es nk ne
     → AllKids (depth - 1) es → T (rises (keys_of es)) → length es ≤ 16 → 0 < length es
-    → Finished depth copies es nk ne None
-finished_alone depth copies es nk ne p a o l z =
+    → Finished depth es nk ne None
+finished_alone depth es nk ne p a o l z =
     let g = kids_good (depth - 1) es nk ne p a o l z in
-    (append-nil (kids_pieces (depth - 1) (paired nk ne)) ∙ ap (kids_pieces (depth - 1)) p.0, tt, g.0, g.1, g.2, g.3)
+    (append-nil (kids_pieces (depth - 1) (paired nk ne)) ∙ ap (kids_pieces (depth - 1)) p.0, g.0, g.1, g.2, g.3)
 
 pub record KidHalves (below : ℕ) (es : Kids) (nk : List Bytes) (ne : List OwnChild) (k2 : List Bytes)
     (e2 : List OwnChild) : Type 0 where

@@ -41,10 +41,10 @@ AreNinth copies keys place key texts = length keys ≡ 16 → (k : Bytes) → (p
     → texts ≡ replicate copies (slice_index_or (insert keys place k) 8 [])
 
 -- keys and children of an inner chunk, and the upper half of it, have these children between them
-abbrev pub Finished : ℕ → ℕ → Kids → List Bytes → List OwnChild → Option Half → Type 0
-Finished depth copies es keys kids half =
+abbrev pub Finished : ℕ → Kids → List Bytes → List OwnChild → Option Half → Type 0
+Finished depth es keys kids half =
     (kids_pieces (depth - 1) (paired keys kids) ++ half_pieces half ≡ kids_pieces (depth - 1) es)
-    × IsHalf copies depth half × (length kids ≡ length keys) × AreKeys keys × (0 < length keys)
+    × (length kids ≡ length keys) × AreKeys keys × (0 < length keys)
     × AllKids (depth - 1) (paired keys kids)
 
 -- an own child, so deep, stands at the place of one, and shows with its upper half these rows

@@ -1,13 +1,32 @@
--- What a chunk needs before the upper half of a child is put in it.
-use Rattle.std.specs.Prelude.{ℕ, ◌+◌, ◌<◌, ◌≤◌, List, IsSome, length, vec_capacity}
+-- What a chunk needs before it is split, and before the upper half of a child is put in it.
+use Rattle.std.specs.Prelude.{◌≡◌, ℕ, ◌+◌, ◌-◌, ◌<◌, ◌≤◌, T, List, [], Option, IsSome, length, vec_capacity}
 use Rattle.group_history.specs.Map.{Bytes}
-use Rattle.map_nodes.specs.Inside.Halves.{AreNinth}
+use Rattle.group_history.specs.Rows.{rises, keys_of, paired}
+use Rattle.map_nodes.specs.Nodes.{AllKids}
+use Rattle.map_nodes.specs.Inside.Halves.{AreNinth, IsHalf, with_half}
 use Rattle.map_nodes.specs.declared.nodes.OwnChild.{OwnChild}
+use Rattle.map_nodes.specs.declared.nodes.putting.Half.{Half}
 use Rattle.map_nodes.specs.declared.nodes.putting.splits.HalfRoom.{HalfRoom}
+
+-- room for the upper half of a chunk with so many entries, where it is full
+pub record HasRoom {A : Type 0} (entries : ℕ) (room : HalfRoom A) : Type 0 where
+  pub empty : (room.spare.keys.items ≡ []) × (room.spare.entries.items ≡ [])
+  pub spare : 16 ≤ entries → (17 ≤ vec_capacity room.spare.keys) × (17 ≤ vec_capacity room.spare.entries)
+  pub home : 16 ≤ entries → IsSome room.home
 
 -- Its keys have room, and where it is full there is room for an upper half of its own, with so many copies of that
 -- half's first key.
 abbrev pub IsReady : ℕ → List Bytes → ℕ → ℕ → Bytes → HalfRoom OwnChild → Type 0
-IsReady copies keys free place key half = (0 < free) × AreNinth copies keys (place + 1) key half.firsts.items
-    × (16 ≤ length keys → (17 ≤ vec_capacity half.spare.keys) × (17 ≤ vec_capacity half.spare.entries))
-    × (16 ≤ length keys → IsSome half.home)
+IsReady copies keys free place key room = (0 < free) × AreNinth copies keys (place + 1) key room.firsts.items
+    × HasRoom (length keys) room
+
+-- an inner chunk, so deep, with these keys and children, in which the upper half of the child at the place fits
+-- behind it: there is a copy of the half's first key
+pub record Fits (depth place : ℕ) (keys : List Bytes) (kids : List OwnChild) (half : Option Half) : Type 0 where
+  pub above : 0 < depth
+  pub pairs : length kids ≡ length keys
+  pub few : length keys ≤ 16
+  pub within : place < length keys
+  pub split : (copies : ℕ) × IsHalf (copies + 1) (depth - 1) half
+  pub all : AllKids (depth - 1) (with_half place half (paired keys kids))
+  pub order : T (rises (keys_of (with_half place half (paired keys kids))))

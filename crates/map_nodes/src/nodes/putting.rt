@@ -17,8 +17,19 @@ mod roots;
 mod splits;
 
 use super::OwnNode;
-use group_history::{Stop, Text};
-use std::alloc::AllocError;
+use group_history::{Json, Stop, Text};
+use std::alloc::{AllocError, Global};
+
+/// A row to put in a chunk: how many copies of an upper half's first key are wanted, and whether the chunk
+/// may be split.
+#[derive(Clone, Copy)]
+pub(crate) struct Put<'a> {
+    pub(crate) alloc: Global,
+    pub(crate) key: &'a Text,
+    pub(crate) value: &'a Json,
+    pub(crate) copies: usize,
+    pub(crate) may_split: bool,
+}
 
 /// The upper half of a chunk that was split, and copies of its first key.
 #[derive(Drop)]

@@ -15,7 +15,7 @@ use Rattle.map_nodes.specs.Inside.Halves.{lowered}
 use Rattle.map_nodes.specs.Nodes.{AllKids, IsNode, body_pieces, body_fresh, body_height, kids_pieces, child_fresh}
 use Rattle.map_nodes.specs.Nodes.{kids_fresh}
 use Rattle.map_nodes.specs.Inside.Nodes.{Kid, child_rows}
-use Rattle.map_nodes.specs.Inside.Ready.{IsReady}
+use Rattle.map_nodes.specs.Inside.Ready.{HasRoom, IsReady}
 use Rattle.map_chunks.specs.Search.{IsPlace}
 use Rattle.map_chunks.specs.Shown.{Seen, shown, rows_or, IsTree}
 use Rattle.map_nodes.specs.declared.nodes.Body.{Body}
@@ -44,7 +44,7 @@ putting::paths::put_inner-put_child-requires g t c κs within =
     let i = c.place_of-place.result in
     let x = node_at p c.args.depth c.args.keys.now.texts (Inner c.args.kids.now) c.args.kids.now
     (body_pieces c.args.depth c.args.keys.now.texts (Inner c.args.kids.now)) c.as_slice.result.now
-    c.args.key.now i at
+    c.args.put.key.now i at
     refl refl c.requires.node c.as_slice.ensures
     (subst (λ k. IsPlace k c.as_slice.result.now i) c.as_str.ensures c.place_of-place.ensures) c.requires.tree in (
       omega (arith, x.2.1.0, c.decreases),
@@ -61,12 +61,12 @@ putting::paths::put_inner-put_child-requires g t c κs within =
             (
               omega (arith, x.3.0, x.2.1.2, ap length c.reserve.ensures.items),
               (
-                subst (λ w. IsPlace c.args.key.now w i) c.as_slice.ensures
+                subst (λ w. IsPlace c.args.put.key.now w i) c.as_slice.ensures
                     (subst (λ k. IsPlace k c.as_slice.result.now i) c.as_str.ensures c.place_of-place.ensures),
                 (
                   omega (arith, x.2.1.0, c.requires.copies),
                   child_requires p c.args.depth c.args.keys.now.texts c.args.kids.now.items c.reserve.new.self.items
-                      (body_pieces c.args.depth c.args.keys.now.texts (Inner c.args.kids.now)) c.args.key.now i
+                      (body_pieces c.args.depth c.args.keys.now.texts (Inner c.args.kids.now)) c.args.put.key.now i
                       (get_or c.args.kids.now.items i at) x.0 x.1 c.reserve.ensures.items,
                 ),
               ),
@@ -76,14 +76,14 @@ putting::paths::put_inner-put_child-requires g t c κs within =
       ),
     )
 
-pub putting::paths::put_inner-finish-requires-clause-pairs : goal.putting::paths::put_inner-finish-requires-clause-pairs
-putting::paths::put_inner-finish-requires-clause-pairs g t c =
+pub putting::paths::put_inner-finish-requires-clause-fits : goal.putting::paths::put_inner-finish-requires-clause-fits
+putting::paths::put_inner-finish-requires-clause-fits g t c =
     let p = g.C.Chunks.contents c.args.chunks.now in
     let at : OwnChild = Placed (record { bits = 0 }) in
     let i = c.place_of-place.result in
     let x = node_at p c.args.depth c.args.keys.now.texts (Inner c.args.kids.now) c.args.kids.now
     (body_pieces c.args.depth c.args.keys.now.texts (Inner c.args.kids.now)) c.as_slice.result.now
-    c.args.key.now i at
+    c.args.put.key.now i at
     refl refl c.requires.node c.as_slice.ensures
     (subst (λ k. IsPlace k c.as_slice.result.now i) c.as_str.ensures c.place_of-place.ensures) c.requires.tree in
     let q = g.C.Chunks.contents c.put_child.new.chunks in
@@ -91,46 +91,34 @@ putting::paths::put_inner-finish-requires-clause-pairs g t c =
     let keys = c.args.keys.now.texts in
     let kids = c.args.kids.now.items in
     let kk : c.reserve.new.self.items ≡ kids = c.reserve.ensures.items in
-    let done = subst (λ ks. ChildPut q (c.args.copies + 1)
+    let done = subst (λ ks. ChildPut q (c.args.put.copies + 1)
     (c.args.depth - 1) i ks c.put_child.new.kids.items c.in_ok-ready.half
-    (Some (finite.put (slice_cmp nat_cmp) c.args.key.now c.args.value.now
+    (Some (finite.put (slice_cmp nat_cmp) c.args.put.key.now c.args.put.value.now
     (rows_or (child_rows p (c.args.depth - 1) child))))) kk
     (c.in_ok-ready.ensures.done child (ap (λ w. slice_get w i) kk ∙ x.1)) in
     let low = c.lower_first.ensures.texts ∙ ap (lowered i c.in_ok-ready.ready.lower) c.put_child.ensures.texts in
-    let u = put_path p q c.args.depth c.args.copies keys kids c.put_child.new.kids.items
-    (body_pieces c.args.depth c.args.keys.now.texts (Inner c.args.kids.now)) c.args.key.now c.args.value.now i child
-    c.in_ok-ready.ready.lower
+    let u = put_path p q c.args.depth c.args.put.copies keys kids c.put_child.new.kids.items
+    (body_pieces c.args.depth c.args.keys.now.texts (Inner c.args.kids.now)) c.args.put.key.now c.args.put.value.now i
+    child c.in_ok-ready.ready.lower
     c.in_ok-ready.half c.put_child.ensures.grown.0 x.2.1.2 x.0 c.in_ok-ready.ensures.lower done in
-    ap length done.1 ∙ length-set kids i (Own done.0) ∙ x.2.1.2 ∙ sym
-    (ap length low ∙ length-lowered i c.in_ok-ready.ready.lower keys)
+    let n : length c.lower_first.new.keys.texts ≡ length keys =
+    ap length low ∙ length-lowered i c.in_ok-ready.ready.lower keys in
+    record {
+      above = c.requires.node.1.0;
+      pairs = ap length done.1 ∙ length-set kids i (Own done.0) ∙ x.2.1.2 ∙ sym n;
+      few = omega (arith, n, c.requires.node.0.0);
+      within = omega (arith, n, x.3.0);
+      split = (c.args.put.copies, done.5);
+      all = subst (λ ks. AllKids (c.args.depth - 1)
+          (with_half i c.in_ok-ready.half (paired ks c.put_child.new.kids.items))) (sym low) u.all;
+      order = subst (λ ks. T (rises (keys_of (with_half i c.in_ok-ready.half (paired ks c.put_child.new.kids.items)))))
+          (sym low) u.order;
+    }
 
 pub putting::paths::put_inner-finish-requires-clause-keys_room :
     goal.putting::paths::put_inner-finish-requires-clause-keys_room
-putting::paths::put_inner-finish-requires-clause-keys_room g t c =
-    let p = g.C.Chunks.contents c.args.chunks.now in
-    let at : OwnChild = Placed (record { bits = 0 }) in
-    let i = c.place_of-place.result in
-    let x = node_at p c.args.depth c.args.keys.now.texts (Inner c.args.kids.now) c.args.kids.now
-    (body_pieces c.args.depth c.args.keys.now.texts (Inner c.args.kids.now)) c.as_slice.result.now
-    c.args.key.now i at
-    refl refl c.requires.node c.as_slice.ensures
-    (subst (λ k. IsPlace k c.as_slice.result.now i) c.as_str.ensures c.place_of-place.ensures) c.requires.tree in
-    let q = g.C.Chunks.contents c.put_child.new.chunks in
-    let child = get_or c.args.kids.now.items i at in
-    let keys = c.args.keys.now.texts in
-    let kids = c.args.kids.now.items in
-    let kk : c.reserve.new.self.items ≡ kids = c.reserve.ensures.items in
-    let done = subst (λ ks. ChildPut q (c.args.copies + 1)
-    (c.args.depth - 1) i ks c.put_child.new.kids.items c.in_ok-ready.half
-    (Some (finite.put (slice_cmp nat_cmp) c.args.key.now c.args.value.now
-    (rows_or (child_rows p (c.args.depth - 1) child))))) kk
-    (c.in_ok-ready.ensures.done child (ap (λ w. slice_get w i) kk ∙ x.1)) in
-    let low = c.lower_first.ensures.texts ∙ ap (lowered i c.in_ok-ready.ready.lower) c.put_child.ensures.texts in
-    let u = put_path p q c.args.depth c.args.copies keys kids c.put_child.new.kids.items
-    (body_pieces c.args.depth c.args.keys.now.texts (Inner c.args.kids.now)) c.args.key.now c.args.value.now i child
-    c.in_ok-ready.ready.lower
-    c.in_ok-ready.half c.put_child.ensures.grown.0 x.2.1.2 x.0 c.in_ok-ready.ensures.lower done in
-    λ some. omega (arith, c.lower_first.ensures.room, (c.in_ok-ready.ensures.ready some).0)
+putting::paths::put_inner-finish-requires-clause-keys_room g t c some =
+    omega (arith, c.lower_first.ensures.room, (c.in_ok-ready.ensures.ready some).0)
 
 pub putting::paths::put_inner-finish-requires-clause-kids_room :
     goal.putting::paths::put_inner-finish-requires-clause-kids_room
@@ -140,7 +128,7 @@ putting::paths::put_inner-finish-requires-clause-kids_room g t c =
     let i = c.place_of-place.result in
     let x = node_at p c.args.depth c.args.keys.now.texts (Inner c.args.kids.now) c.args.kids.now
     (body_pieces c.args.depth c.args.keys.now.texts (Inner c.args.kids.now)) c.as_slice.result.now
-    c.args.key.now i at
+    c.args.put.key.now i at
     refl refl c.requires.node c.as_slice.ensures
     (subst (λ k. IsPlace k c.as_slice.result.now i) c.as_str.ensures c.place_of-place.ensures) c.requires.tree in
     let q = g.C.Chunks.contents c.put_child.new.chunks in
@@ -148,16 +136,12 @@ putting::paths::put_inner-finish-requires-clause-kids_room g t c =
     let keys = c.args.keys.now.texts in
     let kids = c.args.kids.now.items in
     let kk : c.reserve.new.self.items ≡ kids = c.reserve.ensures.items in
-    let done = subst (λ ks. ChildPut q (c.args.copies + 1)
+    let done = subst (λ ks. ChildPut q (c.args.put.copies + 1)
     (c.args.depth - 1) i ks c.put_child.new.kids.items c.in_ok-ready.half
-    (Some (finite.put (slice_cmp nat_cmp) c.args.key.now c.args.value.now
+    (Some (finite.put (slice_cmp nat_cmp) c.args.put.key.now c.args.put.value.now
     (rows_or (child_rows p (c.args.depth - 1) child))))) kk
     (c.in_ok-ready.ensures.done child (ap (λ w. slice_get w i) kk ∙ x.1)) in
     let low = c.lower_first.ensures.texts ∙ ap (lowered i c.in_ok-ready.ready.lower) c.put_child.ensures.texts in
-    let u = put_path p q c.args.depth c.args.copies keys kids c.put_child.new.kids.items
-    (body_pieces c.args.depth c.args.keys.now.texts (Inner c.args.kids.now)) c.args.key.now c.args.value.now i child
-    c.in_ok-ready.ready.lower
-    c.in_ok-ready.half c.put_child.ensures.grown.0 x.2.1.2 x.0 c.in_ok-ready.ensures.lower done in
     let n = ap length done.1 ∙ length-set kids i (Own done.0) ∙ sym (ap length kk) in
     omega (
       arith,
@@ -168,118 +152,13 @@ putting::paths::put_inner-finish-requires-clause-kids_room g t c =
       c.reserve.new.self.ok.0,
     )
 
-pub putting::paths::put_inner-finish-requires-clause-half : goal.putting::paths::put_inner-finish-requires-clause-half
-putting::paths::put_inner-finish-requires-clause-half g t c =
-    let p = g.C.Chunks.contents c.args.chunks.now in
-    let at : OwnChild = Placed (record { bits = 0 }) in
-    let i = c.place_of-place.result in
-    let x = node_at p c.args.depth c.args.keys.now.texts (Inner c.args.kids.now) c.args.kids.now
-    (body_pieces c.args.depth c.args.keys.now.texts (Inner c.args.kids.now)) c.as_slice.result.now
-    c.args.key.now i at
-    refl refl c.requires.node c.as_slice.ensures
-    (subst (λ k. IsPlace k c.as_slice.result.now i) c.as_str.ensures c.place_of-place.ensures) c.requires.tree in
-    let q = g.C.Chunks.contents c.put_child.new.chunks in
-    let child = get_or c.args.kids.now.items i at in
-    let keys = c.args.keys.now.texts in
-    let kids = c.args.kids.now.items in
-    let kk : c.reserve.new.self.items ≡ kids = c.reserve.ensures.items in
-    let done = subst (λ ks. ChildPut q (c.args.copies + 1)
-    (c.args.depth - 1) i ks c.put_child.new.kids.items c.in_ok-ready.half
-    (Some (finite.put (slice_cmp nat_cmp) c.args.key.now c.args.value.now
-    (rows_or (child_rows p (c.args.depth - 1) child))))) kk
-    (c.in_ok-ready.ensures.done child (ap (λ w. slice_get w i) kk ∙ x.1)) in
-    let low = c.lower_first.ensures.texts ∙ ap (lowered i c.in_ok-ready.ready.lower) c.put_child.ensures.texts in
-    let u = put_path p q c.args.depth c.args.copies keys kids c.put_child.new.kids.items
-    (body_pieces c.args.depth c.args.keys.now.texts (Inner c.args.kids.now)) c.args.key.now c.args.value.now i child
-    c.in_ok-ready.ready.lower
-    c.in_ok-ready.half c.put_child.ensures.grown.0 x.2.1.2 x.0 c.in_ok-ready.ensures.lower done in
-    done.5
-
-pub putting::paths::put_inner-finish-requires-clause-firsts :
-    goal.putting::paths::put_inner-finish-requires-clause-firsts
-putting::paths::put_inner-finish-requires-clause-firsts g t c =
-    let p = g.C.Chunks.contents c.args.chunks.now in
-    let at : OwnChild = Placed (record { bits = 0 }) in
-    let i = c.place_of-place.result in
-    let x = node_at p c.args.depth c.args.keys.now.texts (Inner c.args.kids.now) c.args.kids.now
-    (body_pieces c.args.depth c.args.keys.now.texts (Inner c.args.kids.now)) c.as_slice.result.now
-    c.args.key.now i at
-    refl refl c.requires.node c.as_slice.ensures
-    (subst (λ k. IsPlace k c.as_slice.result.now i) c.as_str.ensures c.place_of-place.ensures) c.requires.tree in
-    let q = g.C.Chunks.contents c.put_child.new.chunks in
-    let child = get_or c.args.kids.now.items i at in
-    let keys = c.args.keys.now.texts in
-    let kids = c.args.kids.now.items in
-    let kk : c.reserve.new.self.items ≡ kids = c.reserve.ensures.items in
-    let done = subst (λ ks. ChildPut q (c.args.copies + 1)
-    (c.args.depth - 1) i ks c.put_child.new.kids.items c.in_ok-ready.half
-    (Some (finite.put (slice_cmp nat_cmp) c.args.key.now c.args.value.now
-    (rows_or (child_rows p (c.args.depth - 1) child))))) kk
-    (c.in_ok-ready.ensures.done child (ap (λ w. slice_get w i) kk ∙ x.1)) in
-    let low = c.lower_first.ensures.texts ∙ ap (lowered i c.in_ok-ready.ready.lower) c.put_child.ensures.texts in
-    let u = put_path p q c.args.depth c.args.copies keys kids c.put_child.new.kids.items
-    (body_pieces c.args.depth c.args.keys.now.texts (Inner c.args.kids.now)) c.args.key.now c.args.value.now i child
-    c.in_ok-ready.ready.lower
-    c.in_ok-ready.half c.put_child.ensures.grown.0 x.2.1.2 x.0 c.in_ok-ready.ensures.lower done in
-    λ some key z. subst (λ ks. AreNinth c.args.copies ks (i + 1) key c.in_ok-ready.ready.room.firsts.items) (sym low)
-    (ninth_lowered c.args.copies keys i c.args.key.now c.in_ok-ready.ready.lower c.in_ok-ready.ready.room.firsts.items
-    x.3 c.in_ok-ready.ensures.lower (c.in_ok-ready.ensures.ready some).1 key z)
-
-pub putting::paths::put_inner-finish-requires-clause-kids : goal.putting::paths::put_inner-finish-requires-clause-kids
-putting::paths::put_inner-finish-requires-clause-kids g t c =
-    let p = g.C.Chunks.contents c.args.chunks.now in
-    let at : OwnChild = Placed (record { bits = 0 }) in
-    let i = c.place_of-place.result in
-    let x = node_at p c.args.depth c.args.keys.now.texts (Inner c.args.kids.now) c.args.kids.now
-    (body_pieces c.args.depth c.args.keys.now.texts (Inner c.args.kids.now)) c.as_slice.result.now
-    c.args.key.now i at
-    refl refl c.requires.node c.as_slice.ensures
-    (subst (λ k. IsPlace k c.as_slice.result.now i) c.as_str.ensures c.place_of-place.ensures) c.requires.tree in
-    let q = g.C.Chunks.contents c.put_child.new.chunks in
-    let child = get_or c.args.kids.now.items i at in
-    let keys = c.args.keys.now.texts in
-    let kids = c.args.kids.now.items in
-    let kk : c.reserve.new.self.items ≡ kids = c.reserve.ensures.items in
-    let done = subst (λ ks. ChildPut q (c.args.copies + 1)
-    (c.args.depth - 1) i ks c.put_child.new.kids.items c.in_ok-ready.half
-    (Some (finite.put (slice_cmp nat_cmp) c.args.key.now c.args.value.now
-    (rows_or (child_rows p (c.args.depth - 1) child))))) kk
-    (c.in_ok-ready.ensures.done child (ap (λ w. slice_get w i) kk ∙ x.1)) in
-    let low = c.lower_first.ensures.texts ∙ ap (lowered i c.in_ok-ready.ready.lower) c.put_child.ensures.texts in
-    let u = put_path p q c.args.depth c.args.copies keys kids c.put_child.new.kids.items
-    (body_pieces c.args.depth c.args.keys.now.texts (Inner c.args.kids.now)) c.args.key.now c.args.value.now i child
-    c.in_ok-ready.ready.lower
-    c.in_ok-ready.half c.put_child.ensures.grown.0 x.2.1.2 x.0 c.in_ok-ready.ensures.lower done in
-    subst (λ ks. AllKids (c.args.depth - 1)
-    (with_half i c.in_ok-ready.half (paired ks c.put_child.new.kids.items))) (sym low) u.all
-
-pub putting::paths::put_inner-finish-requires-clause-order : goal.putting::paths::put_inner-finish-requires-clause-order
-putting::paths::put_inner-finish-requires-clause-order g t c =
-    let p = g.C.Chunks.contents c.args.chunks.now in
-    let at : OwnChild = Placed (record { bits = 0 }) in
-    let i = c.place_of-place.result in
-    let x = node_at p c.args.depth c.args.keys.now.texts (Inner c.args.kids.now) c.args.kids.now
-    (body_pieces c.args.depth c.args.keys.now.texts (Inner c.args.kids.now)) c.as_slice.result.now
-    c.args.key.now i at
-    refl refl c.requires.node c.as_slice.ensures
-    (subst (λ k. IsPlace k c.as_slice.result.now i) c.as_str.ensures c.place_of-place.ensures) c.requires.tree in
-    let q = g.C.Chunks.contents c.put_child.new.chunks in
-    let child = get_or c.args.kids.now.items i at in
-    let keys = c.args.keys.now.texts in
-    let kids = c.args.kids.now.items in
-    let kk : c.reserve.new.self.items ≡ kids = c.reserve.ensures.items in
-    let done = subst (λ ks. ChildPut q (c.args.copies + 1)
-    (c.args.depth - 1) i ks c.put_child.new.kids.items c.in_ok-ready.half
-    (Some (finite.put (slice_cmp nat_cmp) c.args.key.now c.args.value.now
-    (rows_or (child_rows p (c.args.depth - 1) child))))) kk
-    (c.in_ok-ready.ensures.done child (ap (λ w. slice_get w i) kk ∙ x.1)) in
-    let low = c.lower_first.ensures.texts ∙ ap (lowered i c.in_ok-ready.ready.lower) c.put_child.ensures.texts in
-    let u = put_path p q c.args.depth c.args.copies keys kids c.put_child.new.kids.items
-    (body_pieces c.args.depth c.args.keys.now.texts (Inner c.args.kids.now)) c.args.key.now c.args.value.now i child
-    c.in_ok-ready.ready.lower
-    c.in_ok-ready.half c.put_child.ensures.grown.0 x.2.1.2 x.0 c.in_ok-ready.ensures.lower done in
-    subst (λ ks. T (rises (keys_of (with_half i c.in_ok-ready.half (paired ks c.put_child.new.kids.items)))))
-    (sym low) u.order
+pub putting::paths::put_inner-finish-requires-clause-room : goal.putting::paths::put_inner-finish-requires-clause-room
+putting::paths::put_inner-finish-requires-clause-room g t c some =
+    let low = c.lower_first.ensures.texts ∙ ap (lowered c.place_of-place.result c.in_ok-ready.ready.lower)
+    c.put_child.ensures.texts in
+    subst (λ n. HasRoom n c.in_ok-ready.ready.room)
+    (sym (ap length low ∙ length-lowered c.place_of-place.result c.in_ok-ready.ready.lower c.args.keys.now.texts))
+    (c.in_ok-ready.ensures.ready some).2
 
 pub putting::paths::put_inner-returns-clause-done : goal.putting::paths::put_inner-returns-clause-done
 putting::paths::put_inner-returns-clause-done g t c =
@@ -288,7 +167,7 @@ putting::paths::put_inner-returns-clause-done g t c =
     let i = c.place_of-place.result in
     let x = node_at p c.args.depth c.args.keys.now.texts (Inner c.args.kids.now) c.args.kids.now
     (body_pieces c.args.depth c.args.keys.now.texts (Inner c.args.kids.now)) c.as_slice.result.now
-    c.args.key.now i at
+    c.args.put.key.now i at
     refl refl c.requires.node c.as_slice.ensures
     (subst (λ k. IsPlace k c.as_slice.result.now i) c.as_str.ensures c.place_of-place.ensures) c.requires.tree in
     let q = g.C.Chunks.contents c.put_child.new.chunks in
@@ -296,28 +175,55 @@ putting::paths::put_inner-returns-clause-done g t c =
     let keys = c.args.keys.now.texts in
     let kids = c.args.kids.now.items in
     let kk : c.reserve.new.self.items ≡ kids = c.reserve.ensures.items in
-    let done = subst (λ ks. ChildPut q (c.args.copies + 1)
+    let done = subst (λ ks. ChildPut q (c.args.put.copies + 1)
     (c.args.depth - 1) i ks c.put_child.new.kids.items c.in_ok-ready.half
-    (Some (finite.put (slice_cmp nat_cmp) c.args.key.now c.args.value.now
+    (Some (finite.put (slice_cmp nat_cmp) c.args.put.key.now c.args.put.value.now
     (rows_or (child_rows p (c.args.depth - 1) child))))) kk
     (c.in_ok-ready.ensures.done child (ap (λ w. slice_get w i) kk ∙ x.1)) in
     let low = c.lower_first.ensures.texts ∙ ap (lowered i c.in_ok-ready.ready.lower) c.put_child.ensures.texts in
-    let u = put_path p q c.args.depth c.args.copies keys kids c.put_child.new.kids.items
-    (body_pieces c.args.depth c.args.keys.now.texts (Inner c.args.kids.now)) c.args.key.now c.args.value.now i child
-    c.in_ok-ready.ready.lower
+    let u = put_path p q c.args.depth c.args.put.copies keys kids c.put_child.new.kids.items
+    (body_pieces c.args.depth c.args.keys.now.texts (Inner c.args.kids.now)) c.args.put.key.now c.args.put.value.now i
+    child c.in_ok-ready.ready.lower
     c.in_ok-ready.half c.put_child.ensures.grown.0 x.2.1.2 x.0 c.in_ok-ready.ensures.lower done in
     done_at q (c.args.depth - 1) (with_half i c.in_ok-ready.half
     (paired (lowered i c.in_ok-ready.ready.lower keys) c.put_child.new.kids.items))
-    (shown p (body_pieces c.args.depth c.args.keys.now.texts (Inner c.args.kids.now))) x.0.rows c.args.key.now
-    c.args.value.now _ x.0.rows_is
+    (shown p (body_pieces c.args.depth c.args.keys.now.texts (Inner c.args.kids.now))) x.0.rows c.args.put.key.now
+    c.args.put.value.now _ x.0.rows_is
     (c.finish.ensures.shape.0 ∙ ap (λ ks. kids_pieces (c.args.depth - 1)
     (with_half i c.in_ok-ready.half (paired ks c.put_child.new.kids.items))) low) u.shown_is
+
+pub putting::paths::put_inner-returns-clause-half : goal.putting::paths::put_inner-returns-clause-half
+putting::paths::put_inner-returns-clause-half g t c =
+    let p = g.C.Chunks.contents c.args.chunks.now in
+    let at : OwnChild = Placed (record { bits = 0 }) in
+    let i = c.place_of-place.result in
+    let x = node_at p c.args.depth c.args.keys.now.texts (Inner c.args.kids.now) c.args.kids.now
+    (body_pieces c.args.depth c.args.keys.now.texts (Inner c.args.kids.now)) c.as_slice.result.now
+    c.args.put.key.now i at
+    refl refl c.requires.node c.as_slice.ensures
+    (subst (λ k. IsPlace k c.as_slice.result.now i) c.as_str.ensures c.place_of-place.ensures) c.requires.tree in
+    let q = g.C.Chunks.contents c.put_child.new.chunks in
+    let child = get_or c.args.kids.now.items i at in
+    let keys = c.args.keys.now.texts in
+    let kids = c.args.kids.now.items in
+    let kk : c.reserve.new.self.items ≡ kids = c.reserve.ensures.items in
+    let done = subst (λ ks. ChildPut q (c.args.put.copies + 1)
+    (c.args.depth - 1) i ks c.put_child.new.kids.items c.in_ok-ready.half
+    (Some (finite.put (slice_cmp nat_cmp) c.args.put.key.now c.args.put.value.now
+    (rows_or (child_rows p (c.args.depth - 1) child))))) kk
+    (c.in_ok-ready.ensures.done child (ap (λ w. slice_get w i) kk ∙ x.1)) in
+    let low = c.lower_first.ensures.texts ∙ ap (lowered i c.in_ok-ready.ready.lower) c.put_child.ensures.texts in
+    c.finish.ensures.half c.args.put.copies done.5
+    (λ some key z. subst (λ ks. AreNinth c.args.put.copies ks (i + 1) key c.in_ok-ready.ready.room.firsts.items)
+    (sym low)
+    (ninth_lowered c.args.put.copies keys i c.args.put.key.now c.in_ok-ready.ready.lower
+    c.in_ok-ready.ready.room.firsts.items x.3 c.in_ok-ready.ensures.lower (c.in_ok-ready.ensures.ready some).1 key z))
 
 pub putting::paths::put_inner-returns-clause-filled : goal.putting::paths::put_inner-returns-clause-filled
 putting::paths::put_inner-returns-clause-filled g t c =
     filled_kids (c.args.depth - 1) (paired c.finish.new.keys.texts c.finish.new.kids.items)
-    (length-pairs c.finish.new.keys.texts c.finish.new.kids.items c.finish.ensures.shape.2 c.finish.ensures.shape.4)
-    c.finish.ensures.shape.5
+    (length-pairs c.finish.new.keys.texts c.finish.new.kids.items c.finish.ensures.shape.1 c.finish.ensures.shape.3)
+    c.finish.ensures.shape.4
 
 pub putting::paths::put_child-put_below-requires : goal.putting::paths::put_child-put_below-requires
 putting::paths::put_child-put_below-requires g t c κs within =
@@ -368,11 +274,11 @@ putting::paths::put_child-returns-in-Own-clause-done g t c x h =
       refl,
       c.put_below.ensures.depth ∙ d,
       filled,
-      done ∙ ap (λ (m : Seen). Some (finite.put (slice_cmp nat_cmp) c.args.key.now c.args.value.now
+      done ∙ ap (λ (m : Seen). Some (finite.put (slice_cmp nat_cmp) c.args.put.key.now c.args.put.value.now
           (rows_or (shown p m.pieces)))) v
-          ∙ ap (λ y. Some (finite.put (slice_cmp nat_cmp) c.args.key.now c.args.value.now
+          ∙ ap (λ y. Some (finite.put (slice_cmp nat_cmp) c.args.put.key.now c.args.put.value.now
           (rows_or (child_rows p c.args.below y)))) (sym e),
-      subst (λ w. IsHalf (c.args.copies + 1) w put.1) d half,
+      subst (λ w. IsHalf (c.args.put.copies + 1) w put.1) d half,
     ))
 
 pub putting::paths::put_child-copied_child-requires-clause-place :
@@ -435,7 +341,7 @@ putting::paths::put_child-returns-in-Placed-clause-done g t c x h =
     let child = c.index_mut.result.now in
     let n : Kid = with_value c.in_ok-node-in-Placed.node c.put_below-in-Placed.new.self in
     let v = c.deref_mut-in-Placed.ensures.value in
-    let half = c.in_ok-put-in-Placed.put.1 in
+    let half = c.in_ok-answer-in-Placed.answer.1 in
     let e : x ≡ Placed c.in-Placed.at = indexed_child kids c.args.place child x c.requires.within
     c.index_mut.ensures.value h ∙ c.in-Placed.is in
     let q = g.C.Chunks.contents c.copied_child.new.chunks in
@@ -444,12 +350,12 @@ putting::paths::put_child-returns-in-Placed-clause-done g t c x h =
       n,
       set-set kids c.args.place (Placed c.in-Placed.at) (Own n),
       c.put_below-in-Placed.ensures.depth ∙ d,
-      c.in_ok-put-in-Placed.ensures.filled,
-      c.in_ok-put-in-Placed.ensures.done
-          ∙ ap (λ z. Some (finite.put (slice_cmp nat_cmp) c.args.key.now c.args.value.now (rows_or z)))
+      c.in_ok-answer-in-Placed.ensures.filled,
+      c.in_ok-answer-in-Placed.ensures.done
+          ∙ ap (λ z. Some (finite.put (slice_cmp nat_cmp) c.args.put.key.now c.args.put.value.now (rows_or z)))
           (ap (λ (s : Seen). shown q s.pieces) v ∙ c.in_ok-node-in-Placed.ensures.rows ∙ ap
           (child_rows p c.args.below) (sym e)),
-      subst (λ w. IsHalf (c.args.copies + 1) w half) d c.in_ok-put-in-Placed.ensures.half,
+      subst (λ w. IsHalf (c.args.put.copies + 1) w half) d c.in_ok-answer-in-Placed.ensures.half,
     )
 
 pub putting::paths::put_inner-returns-clause-fresh : goal.putting::paths::put_inner-returns-clause-fresh
@@ -492,7 +398,7 @@ putting::paths::put_child-returns-in-Placed-clause-fresh g t c =
     let twice = ap kids_fresh (set-set kids c.args.place (Placed c.in-Placed.at) (Own n)) in
     omega (
       arith,
-      c.in_ok-put-in-Placed.ensures.fresh,
+      c.in_ok-answer-in-Placed.ensures.fresh,
       f,
       twice,
       ap (λ (s : Seen). s.depth) v,
@@ -529,7 +435,8 @@ OwnNode::put_below-put_ready-requires g t c κs within =
               subst (λ (s : Seen). IsTree (shown q s.pieces)) (sym e)
                   (tree_of (shown q c.args.self.now.pieces) n.rows here n.order),
               (
-                subst (λ ks. IsPlace c.args.key.now ks c.args.place) (sym c.lower_key.ensures.texts) c.requires.place,
+                subst (λ ks. IsPlace c.args.put.key.now ks c.args.place) (sym c.lower_key.ensures.texts)
+                    c.requires.place,
                 omega (arith, d, c.requires.copies),
               ),
             ),
@@ -563,7 +470,7 @@ putting::paths::put_inner-returns-clause-places g t c =
     let i = c.place_of-place.result in
     let x = node_at p c.args.depth c.args.keys.now.texts (Inner c.args.kids.now) c.args.kids.now
     (body_pieces c.args.depth c.args.keys.now.texts (Inner c.args.kids.now)) c.as_slice.result.now
-    c.args.key.now i at
+    c.args.put.key.now i at
     refl refl c.requires.node c.as_slice.ensures
     (subst (λ k. IsPlace k c.as_slice.result.now i) c.as_str.ensures c.place_of-place.ensures) c.requires.tree in
     let q = g.C.Chunks.contents c.put_child.new.chunks in
@@ -572,9 +479,9 @@ putting::paths::put_inner-returns-clause-places g t c =
     let keys = c.args.keys.now.texts in
     let kids = c.args.kids.now.items in
     let kk : c.reserve.new.self.items ≡ kids = c.reserve.ensures.items in
-    let done = subst (λ ks. ChildPut q (c.args.copies + 1)
+    let done = subst (λ ks. ChildPut q (c.args.put.copies + 1)
     (c.args.depth - 1) i ks c.put_child.new.kids.items c.in_ok-ready.half
-    (Some (finite.put (slice_cmp nat_cmp) c.args.key.now c.args.value.now
+    (Some (finite.put (slice_cmp nat_cmp) c.args.put.key.now c.args.put.value.now
     (rows_or (child_rows p (c.args.depth - 1) child))))) kk
     (c.in_ok-ready.ensures.done child (ap (λ w. slice_get w i) kk ∙ x.1)) in
     let low = c.lower_first.ensures.texts ∙ ap (lowered i c.in_ok-ready.ready.lower) c.put_child.ensures.texts in
@@ -613,12 +520,12 @@ putting::paths::put_child-returns-in-Placed-clause-places g t c =
     let at_p = g.C.Chunks.places c.copied_child.new.chunks in
     let at_q = g.C.Chunks.places c.put_below-in-Placed.new.chunks in
     let n : Kid = with_value c.in_ok-node-in-Placed.node c.put_below-in-Placed.new.self in
-    let half = half_pieces c.in_ok-put-in-Placed.put.1 in
+    let half = half_pieces c.in_ok-answer-in-Placed.answer.1 in
     let copied = kept-grown at_p at_q [] (places_of c.in_ok-node-in-Placed.node.value.pieces)
     c.put_below-in-Placed.ensures.grown.1 c.in_ok-node-in-Placed.ensures.places in
     let put = subst (λ (s : Seen). AreKept at_q (places_of s.pieces)
     (places_of (c.put_below-in-Placed.new.self.pieces ++ half))) c.deref_mut-in-Placed.ensures.value
-    c.in_ok-put-in-Placed.ensures.places in
+    c.in_ok-answer-in-Placed.ensures.places in
     let all = kept-trans at_q [] (places_of c.in_ok-node-in-Placed.node.value.pieces)
     (places_of (c.put_below-in-Placed.new.self.pieces ++ half)) copied put in
     subst (λ ks. AreKept at_q (kids_places kids) (kids_places ks ++ places_of half))
@@ -628,7 +535,7 @@ putting::paths::put_child-returns-in-Placed-clause-places g t c =
 
 pub putting::paths::put_inner-returns-clause-node : goal.putting::paths::put_inner-returns-clause-node
 putting::paths::put_inner-returns-clause-node g t c = let s = c.finish.ensures.shape in
-    (s.3, (c.requires.node.1.0, s.4, s.2, s.5))
+    (s.2, (c.requires.node.1.0, s.3, s.1, s.4))
 
 -- a chunk's own, by its body
 
@@ -641,9 +548,9 @@ pub OwnNode::put-returns-in-Leaf-clause-done : goal.OwnNode::put-returns-in-Leaf
 OwnNode::put-returns-in-Leaf-clause-done g t c =
     let p = g.C.Chunks.contents c.args.chunks.now in
     if_ok_so c.put_leaf.result c.put_leaf.ensures.rows (λ half rows. ap (shown p) rows
-    ∙ shown-rows p (finite.put (slice_cmp nat_cmp) c.args.key.now c.args.value.now
+    ∙ shown-rows p (finite.put (slice_cmp nat_cmp) c.args.put.key.now c.args.put.value.now
     (paired c.self.inside.keys.texts c.in-Leaf.values.items))
-    ∙ ap (λ z. Some (finite.put (slice_cmp nat_cmp) c.args.key.now c.args.value.now (rows_or z)))
+    ∙ ap (λ z. Some (finite.put (slice_cmp nat_cmp) c.args.put.key.now c.args.put.value.now (rows_or z)))
     (sym (leaf_rows p c.self.inside.depth c.self.inside.keys.texts c.self.inside.body c.in-Leaf.values
     c.args.self.now.pieces (ap (λ (s : Seen). s.pieces) c.self.view_is) c.in-Leaf.is)))
 
@@ -651,7 +558,7 @@ pub OwnNode::put-returns-in-Leaf-clause-half : goal.OwnNode::put-returns-in-Leaf
 OwnNode::put-returns-in-Leaf-clause-half g t c =
     let n = leaf_counts c.self.inside.depth c.self.inside.keys.texts c.self.inside.body c.in-Leaf.values c.in-Leaf.is
     c.self.invariant in
-    subst (λ d. IfOk c.put_leaf.result (IsHalf c.args.copies d))
+    subst (λ d. IfOk c.put_leaf.result (IsHalf c.args.put.copies d))
     (sym n.0 ∙ ap (λ (s : Seen). s.depth) c.self.view_is) c.put_leaf.ensures.half
 
 pub OwnNode::put-returns-in-Leaf-clause-fresh : goal.OwnNode::put-returns-in-Leaf-clause-fresh
@@ -677,14 +584,14 @@ pub OwnNode::put-returns-in-Leaf-clause-places : goal.OwnNode::put-returns-in-Le
 OwnNode::put-returns-in-Leaf-clause-places g t c =
     let at_p = g.C.Chunks.places c.args.chunks.now in
     let old = places_of c.args.self.now.pieces in
-    let rows = finite.put (slice_cmp nat_cmp) c.args.key.now c.args.value.now
+    let rows = finite.put (slice_cmp nat_cmp) c.args.put.key.now c.args.put.value.now
     (paired c.self.inside.keys.texts c.in-Leaf.values.items) in
     if_ok_so c.put_leaf.result c.put_leaf.ensures.rows
     (λ half is. subst (λ ps. AreKept at_p old (places_of ps)) (sym is)
     (subst (AreKept at_p old) (sym (places-rows rows)) (kept-none at_p old)))
 
 pub OwnNode::put-returns-in-Leaf-clause-unput : goal.OwnNode::put-returns-in-Leaf-clause-unput
-OwnNode::put-returns-in-Leaf-clause-unput g t c = unput_anyhow g.C.Chunks.stops c.args.may_split c.put_leaf.result
+OwnNode::put-returns-in-Leaf-clause-unput g t c = unput_anyhow g.C.Chunks.stops c.args.put.may_split c.put_leaf.result
     c.put_leaf.ensures.unput
 
 pub OwnNode::put-put_inner-requires : goal.OwnNode::put-put_inner-requires
@@ -721,11 +628,11 @@ OwnNode::put-returns-in-Inner-clause-done g t c =
     let view = ap (body_pieces c.self.inside.depth c.self.inside.keys.texts) (sym c.in-Inner.is) ∙ ap
     (λ (s : Seen). s.pieces) c.self.view_is in
     if_ok_so c.put_inner.result c.put_inner.ensures.done
-    (λ half done. done ∙ ap (λ ps. Some (finite.put (slice_cmp nat_cmp) c.args.key.now c.args.value.now
+    (λ half done. done ∙ ap (λ ps. Some (finite.put (slice_cmp nat_cmp) c.args.put.key.now c.args.put.value.now
     (rows_or (shown p ps)))) view)
 
 pub OwnNode::put-returns-in-Inner-clause-half : goal.OwnNode::put-returns-in-Inner-clause-half
-OwnNode::put-returns-in-Inner-clause-half g t c = subst (λ d. IfOk c.put_inner.result (IsHalf c.args.copies d))
+OwnNode::put-returns-in-Inner-clause-half g t c = subst (λ d. IfOk c.put_inner.result (IsHalf c.args.put.copies d))
     (ap (λ (s : Seen). s.depth) c.self.view_is) c.put_inner.ensures.half
 
 pub OwnNode::put-returns-in-Inner-clause-places : goal.OwnNode::put-returns-in-Inner-clause-places
@@ -777,12 +684,13 @@ OwnNode::put_below-returns-clause-done g t c =
     let e = c.in-Err-Full.ensures.err in
     let here = shown-kept p q c.args.self.now.pieces n.rows c.put.ensures.grown.0 n.is in
     if_ok_so c.put_ready.result c.put_ready.ensures.done
-    (λ r done. done ∙ ap (λ z. Some (finite.put (slice_cmp nat_cmp) c.args.key.now c.args.value.now (rows_or z)))
+    (λ r done. done ∙ ap (λ z. Some (finite.put (slice_cmp nat_cmp) c.args.put.key.now c.args.put.value.now
+    (rows_or z)))
     (ap (λ (s : Seen). shown q s.pieces) e ∙ here ∙ sym n.is))
 
 pub OwnNode::put_below-returns-clause-half : goal.OwnNode::put_below-returns-clause-half
 OwnNode::put_below-returns-clause-half g t c = subst
-    (λ (s : Seen). IfOk c.put_ready.result (λ r. IsHalf (c.args.copies + 1) s.depth r.1)) c.in-Err-Full.ensures.err
+    (λ (s : Seen). IfOk c.put_ready.result (λ r. IsHalf (c.args.put.copies + 1) s.depth r.1)) c.in-Err-Full.ensures.err
     c.put_ready.ensures.half
 
 pub OwnNode::put_below-returns-clause-places : goal.OwnNode::put_below-returns-clause-places
@@ -805,13 +713,13 @@ OwnNode::put_below-returns-clause-lowers g t c = if_ok_so c.put_ready.result c.p
 pub OwnNode::put_below-returns-clause-lower : goal.OwnNode::put_below-returns-clause-lower
 OwnNode::put_below-returns-clause-lower g t c =
     if_ok_so c.put_ready.result c.put_ready.ensures.lower
-    (λ r is. subst (IsLower c.args.key.now (get_or c.args.keys.now.texts c.args.place []))
+    (λ r is. subst (IsLower c.args.put.key.now (get_or c.args.keys.now.texts c.args.place []))
     (sym is) c.in_ok-lower.ensures.lower)
 
 pub OwnNode::put_below-returns-clause-ready : goal.OwnNode::put_below-returns-clause-ready
 OwnNode::put_below-returns-clause-ready g t c =
     if_ok_so c.put_ready.result c.put_ready.ensures.ready
-    (λ r ready some. subst (λ ks. IsReady c.args.copies ks c.put_ready.new.keys.room c.args.place c.args.key.now
+    (λ r ready some. subst (λ ks. IsReady c.args.put.copies ks c.put_ready.new.keys.room c.args.place c.args.put.key.now
     r.0.room) c.lower_key.ensures.texts ready)
 
 pub OwnNode::put_below-returns-clause-err : goal.OwnNode::put_below-returns-clause-err
@@ -819,7 +727,7 @@ OwnNode::put_below-returns-clause-err g t c = on_err c.put_ready.result c.put_re
     (λ same. same ∙ c.in-Err-Full.ensures.err)
 
 pub OwnNode::put_below-returns-clause-unput : goal.OwnNode::put_below-returns-clause-unput
-OwnNode::put_below-returns-clause-unput g t c = unput_split g.C.Chunks.stops c.args.may_split c.put_ready.result
+OwnNode::put_below-returns-clause-unput g t c = unput_split g.C.Chunks.stops c.args.put.may_split c.put_ready.result
     c.put_ready.ensures.unput
 
 -- WHAT GREW
@@ -830,9 +738,9 @@ putting::paths::put_child-returns-in-Placed-clause-grown g t c =
     grows_on g.C.Chunks.contents g.C.Chunks.places _ _ _ c.copied_child.ensures.grown
     c.put_below-in-Placed.ensures.grown
 
-pub putting::paths::put_child-returns-in_err-put-in-Placed-clause-grown :
-    goal.putting::paths::put_child-returns-in_err-put-in-Placed-clause-grown
-putting::paths::put_child-returns-in_err-put-in-Placed-clause-grown g t c =
+pub putting::paths::put_child-returns-in_err-answer-in-Placed-clause-grown :
+    goal.putting::paths::put_child-returns-in_err-answer-in-Placed-clause-grown
+putting::paths::put_child-returns-in_err-answer-in-Placed-clause-grown g t c =
     grows_on g.C.Chunks.contents g.C.Chunks.places _ _ _ c.copied_child.ensures.grown
     c.put_below-in-Placed.ensures.grown
 

@@ -1,6 +1,6 @@
 //! A new row in a leaf.
-ghost use Rattle.std.specs.Prelude.{◌≡◌, ◌<◌, ◌≤◌, ◌++◌, [], false, length, replicate, None, IfOk, IfErr, OnOk, OnErr};
-ghost use Rattle.std.specs.Prelude.{IsSome, vec_items, vec_len, vec_capacity};
+ghost use Rattle.std.specs.Prelude.{◌≡◌, ℕ, ◌<◌, ◌≤◌, ◌++◌, false, length, replicate, None, IfOk, IfErr, OnOk, OnErr};
+ghost use Rattle.std.specs.Prelude.{vec_items, vec_len, vec_capacity};
 ghost use Rattle.std.specs.Ordering.{nat_cmp};
 ghost use Rattle.std.specs.Cmp.Lexicographic.{slice_cmp};
 ghost use Rattle.std.specs.FinMap as finite;
@@ -9,12 +9,13 @@ ghost use Rattle.map_nodes.specs.Nodes.{row_pieces};
 ghost use Rattle.map_chunks.specs.Search.{IsAbsent};
 ghost use Rattle.map_nodes.specs.Inside.Halves.{half_pieces, IsHalf, AreNinth};
 ghost use Rattle.map_nodes.specs.Inside.Counts.{half_fresh, HasKept};
+ghost use Rattle.map_nodes.specs.Inside.Ready.{HasRoom};
 ghost use Rattle.map_nodes.specs.Inside.Unput.{IsUnput};
 
 use super::super::homes::housed;
 use super::super::{Body, OwnNode};
 use super::splits::{HalfRoom, take_half_room};
-use super::{Half, Unput};
+use super::{Half, Put, Unput};
 use group_history::{Json, Text};
 use map_chunks::entries::{MOST, insert_entry, make_room};
 use map_chunks::keys::NodeKeys;
@@ -55,58 +56,54 @@ pub(crate) fn ninth_copies(
 pub(crate) fn put_leaf(
     keys: &mut NodeKeys,
     values: &mut Vec<Json>,
-    alloc: Global,
-    key: &Text,
-    value: &Json,
-    copies: usize,
-    may_split: bool,
+    put: Put<'_>,
 ) -> Result<Option<Half>, Unput>
     requires keys { AreKeys keys.old.texts }
     requires pairs { length values.old.items ≡ length keys.old.texts }
     ensures rows { IfOk result (λ half. row_pieces (paired keys.new.texts values.new.items) ++ half_pieces half
-        ≡ row_pieces (finite.put (slice_cmp nat_cmp) key.now value.now (paired keys.old.texts values.old.items))) }
-    ensures half { IfOk result (IsHalf copies 1) }
+        ≡ row_pieces (finite.put (slice_cmp nat_cmp) put.entry.key.now put.entry.value.now
+        (paired keys.old.texts values.old.items))) }
+    ensures half { IfOk result (IsHalf put.entry.copies 1) }
     ensures leaf { OnOk result (AreKeys keys.new.texts × (length values.new.items ≡ length keys.new.texts)
         × (0 < length keys.new.texts)) }
     ensures fresh { IfOk result (λ half. half_fresh half ≤ 1) }
     ensures entries { IfOk result (HasKept (length keys.old.texts) (length keys.new.texts)) }
-    ensures whole { may_split ≡ false → IfOk result (λ half. half ≡ None) }
+    ensures whole { put.entry.may_split ≡ false → IfOk result (λ half. half ≡ None) }
     ensures err { OnErr result ((keys.new.texts ≡ keys.old.texts) × (values.new.items ≡ values.old.items)) }
-    ensures unput { IfErr result (IsUnput (λ _. ⊥) may_split) }
+    ensures unput { IfErr result (IsUnput (λ _. ⊥) put.entry.may_split) }
 {
-    if !may_split && keys.as_slice().len() >= MOST {
+    if !put.may_split && keys.as_slice().len() >= MOST {
         return Err(Unput::Full);
     }
-    let value = value.clone()?;
-    Ok(put_row(keys, values, alloc, key, value, copies)?)
+    let value = put.value.clone()?;
+    Ok(put_row(keys, values, put, value)?)
 }
 
 // Puts a row in a leaf's.
 fn put_row(
     keys: &mut NodeKeys,
     values: &mut Vec<Json>,
-    alloc: Global,
-    key: &Text,
+    put: Put<'_>,
     value: Json,
-    copies: usize,
 ) -> Result<Option<Half>, AllocError>
     requires keys { AreKeys keys.old.texts }
     requires pairs { length values.old.items ≡ length keys.old.texts }
     ensures rows { IfOk result (λ half. row_pieces (paired keys.new.texts values.new.items) ++ half_pieces half
-        ≡ row_pieces (finite.put (slice_cmp nat_cmp) key.now value (paired keys.old.texts values.old.items))) }
-    ensures half { IfOk result (IsHalf copies 1) }
+        ≡ row_pieces (finite.put (slice_cmp nat_cmp) put.entry.key.now value
+        (paired keys.old.texts values.old.items))) }
+    ensures half { IfOk result (IsHalf put.entry.copies 1) }
     ensures leaf { IfOk result (λ half. AreKeys keys.new.texts × (length values.new.items ≡ length keys.new.texts)
         × (0 < length keys.new.texts)) }
     ensures fresh { IfOk result (λ half. half_fresh half ≤ 1) }
     ensures entries { IfOk result (HasKept (length keys.old.texts) (length keys.new.texts)) }
     ensures err { OnErr result ((keys.new.texts ≡ keys.old.texts) × (values.new.items ≡ values.old.items)) }
 {
-    match search(keys.as_slice(), key.as_str()) {
+    match search(keys.as_slice(), put.key.as_str()) {
         Ok(place) => {
             values[place] = value;
             return Ok(None);
         }
-        Err(place) => return insert_row(keys, values, place, alloc, key, value, copies),
+        Err(place) => return insert_row(keys, values, place, put, value),
     }
 }
 
@@ -115,27 +112,26 @@ fn insert_row(
     keys: &mut NodeKeys,
     values: &mut Vec<Json>,
     place: usize,
-    alloc: Global,
-    key: &Text,
+    put: Put<'_>,
     value: Json,
-    copies: usize,
 ) -> Result<Option<Half>, AllocError>
     requires keys { AreKeys keys.old.texts }
     requires pairs { length values.old.items ≡ length keys.old.texts }
-    requires absent { IsAbsent key.now keys.old.texts place }
+    requires absent { IsAbsent put.key.now keys.old.texts place }
     ensures rows { IfOk result (λ half. row_pieces (paired keys.new.texts values.new.items) ++ half_pieces half
-        ≡ row_pieces (finite.put (slice_cmp nat_cmp) key.now value (paired keys.old.texts values.old.items))) }
-    ensures half { IfOk result (IsHalf copies 1) }
+        ≡ row_pieces (finite.put (slice_cmp nat_cmp) put.entry.key.now value
+        (paired keys.old.texts values.old.items))) }
+    ensures half { IfOk result (IsHalf put.entry.copies 1) }
     ensures leaf { IfOk result (λ half. AreKeys keys.new.texts × (length values.new.items ≡ length keys.new.texts)
         × (0 < length keys.new.texts)) }
     ensures fresh { IfOk result (λ half. half_fresh half ≤ 1) }
     ensures entries { IfOk result (HasKept (length keys.old.texts) (length keys.new.texts)) }
     ensures err { OnErr result ((keys.new.texts ≡ keys.old.texts) × (values.new.items ≡ values.old.items)) }
 {
-    let room = take_half_room(alloc, keys.as_slice(), place, key, copies)?;
-    let text = key.clone()?;
-    make_room(keys, values, alloc)?;
-    Ok(settle_row(keys, values, place, text, value, room, copies))
+    let room = take_half_room(put.alloc, keys.as_slice(), place, put.key, put.copies)?;
+    let key = put.key.clone()?;
+    make_room(keys, values, put.alloc)?;
+    Ok(settle_row(keys, values, place, (key, value), room))
 }
 
 // Puts a row in the room made for it, and splits the rows where they are 17 then.
@@ -143,23 +139,18 @@ fn settle_row(
     keys: &mut NodeKeys,
     values: &mut Vec<Json>,
     place: usize,
-    key: Text,
-    value: Json,
+    row: (Text, Json),
     room: HalfRoom<Json>,
-    copies: usize,
 ) -> Option<Half>
     requires keys { AreKeys keys.old.texts }
     requires pairs { length values.old.items ≡ length keys.old.texts }
-    requires absent { IsAbsent key keys.old.texts place }
+    requires absent { IsAbsent row.0 keys.old.texts place }
     requires room { (0 < keys.old.room) × (vec_len values.old < vec_capacity values.old) }
-    requires firsts { AreNinth copies keys.old.texts place key room.firsts.items }
-    requires empty { (room.spare.keys.items ≡ []) × (room.spare.entries.items ≡ []) }
-    requires spare { 16 ≤ length keys.old.texts
-        → (17 ≤ vec_capacity room.spare.keys) × (17 ≤ vec_capacity room.spare.entries) }
-    requires home { 16 ≤ length keys.old.texts → IsSome room.home }
+    requires spare { HasRoom (length keys.old.texts) room }
     ensures rows { row_pieces (paired keys.new.texts values.new.items) ++ half_pieces result
-        ≡ row_pieces (finite.put (slice_cmp nat_cmp) key value (paired keys.old.texts values.old.items)) }
-    ensures half { IsHalf copies 1 result }
+        ≡ row_pieces (finite.put (slice_cmp nat_cmp) row.0 row.1 (paired keys.old.texts values.old.items)) }
+    ensures half { (copies : ℕ) → AreNinth copies keys.old.texts place row.0 room.firsts.items
+        → IsHalf copies 1 result }
     ensures leaf { AreKeys keys.new.texts × (length values.new.items ≡ length keys.new.texts)
         × (0 < length keys.new.texts) }
     ensures fresh { half_fresh result ≤ 1 }
@@ -170,6 +161,7 @@ fn settle_row(
         spare,
         home,
     } = room;
+    let (key, value) = row;
     let Some((upper_keys, upper)) = insert_entry(keys, values, place, key, value, spare) else {
         return None;
     };

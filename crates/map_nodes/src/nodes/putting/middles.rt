@@ -1,11 +1,12 @@
 //! A new child in an inner chunk.
-ghost use Rattle.std.specs.Prelude.{◌≡◌, ◌<◌, ◌≤◌, ◌+◌, ◌-◌, [], length, T, Some, None, IsSome, vec_items, vec_len};
+ghost use Rattle.std.specs.Prelude.{◌≡◌, ℕ, ◌<◌, ◌≤◌, ◌+◌, ◌-◌, length, Some, None, IsSome, vec_items, vec_len};
 ghost use Rattle.std.specs.Prelude.{vec_capacity};
 ghost use Rattle.group_history.specs.Map.{Bytes};
-ghost use Rattle.group_history.specs.Rows.{rises, keys_of, paired};
-ghost use Rattle.map_nodes.specs.Nodes.{AllKids, kids_fresh};
+ghost use Rattle.group_history.specs.Rows.{paired};
+ghost use Rattle.map_nodes.specs.Nodes.{kids_fresh};
 ghost use Rattle.map_nodes.specs.Inside.Halves.{IsHalf, AreNinth, with_half, lowered, Finished};
 ghost use Rattle.map_nodes.specs.Inside.Counts.{half_fresh, HasKept};
+ghost use Rattle.map_nodes.specs.Inside.Ready.{HasRoom, Fits};
 
 use super::super::homes::housed;
 use super::super::{Body, OwnChild, OwnNode};
@@ -35,26 +36,16 @@ pub(crate) fn finish(
     depth: u64,
     room: HalfRoom<OwnChild>,
     half: Option<Half>,
-    copies: usize,
 ) -> Option<Half>
-    requires pairs { length kids.old.items ≡ length keys.old.texts }
-    requires few { length keys.old.texts ≤ 16 }
-    requires within { place < length keys.old.texts }
-    requires above { 0 < depth }
+    requires fits { Fits depth place keys.old.texts kids.old.items half }
     requires kids_room { vec_len kids.old < vec_capacity kids.old }
     requires keys_room { IsSome half → 0 < keys.old.room }
-    requires spare_keys { room.spare.keys.items ≡ [] }
-    requires spare_entries { room.spare.entries.items ≡ [] }
-    requires spare_room { IsSome half → 16 ≤ length keys.old.texts
-        → (17 ≤ vec_capacity room.spare.keys) × (17 ≤ vec_capacity room.spare.entries) }
-    requires home { IsSome half → 16 ≤ length keys.old.texts → IsSome room.home }
-    requires half { IsHalf (copies + 1) (depth - 1) half }
-    requires firsts { IsSome half → (key : Bytes) → (place + 1 ≡ 8 → ⊥)
-        → AreNinth copies keys.old.texts (place + 1) key room.firsts.items }
-    requires kids { AllKids (depth - 1) (with_half place half (paired keys.old.texts kids.old.items)) }
-    requires order { T (rises (keys_of (with_half place half (paired keys.old.texts kids.old.items)))) }
-    ensures shape { Finished depth copies (with_half place half (paired keys.old.texts kids.old.items)) keys.new.texts
+    requires room { IsSome half → HasRoom (length keys.old.texts) room }
+    ensures shape { Finished depth (with_half place half (paired keys.old.texts kids.old.items)) keys.new.texts
         kids.new.items result }
+    ensures half { (copies : ℕ) → IsHalf (copies + 1) (depth - 1) half
+        → (IsSome half → (key : Bytes) → (place + 1 ≡ 8 → ⊥)
+        → AreNinth copies keys.old.texts (place + 1) key room.firsts.items) → IsHalf copies depth result }
     ensures fresh { kids_fresh kids.new.items + half_fresh result ≤ kids_fresh kids.old.items + half_fresh half + 1 }
     ensures entries { HasKept (length keys.old.texts) (length keys.new.texts) result }
     ensures whole { half ≡ None → result ≡ None }

@@ -22,13 +22,12 @@ use super::super::{Body, OwnChild, OwnNode};
 use super::below::{Ready, lower_key};
 use super::leaves::put_leaf;
 use super::middles::{finish, lower_first};
-use super::{Half, Unput};
-use group_history::{Json, Text};
+use super::{Half, Put, Unput};
+use group_history::Text;
 use map_chunks::Chunks;
 use map_chunks::entries::MOST;
 use map_chunks::keys::{NodeKeys, ROOM};
 use map_chunks::search::place_of;
-use std::alloc::Global;
 
 // Puts a row below a chunk with these keys and children, and splits them where they are 17 then.
 #[cycle(put)]
@@ -36,25 +35,21 @@ fn put_inner<C: Chunks>(
     keys: &mut NodeKeys,
     kids: &mut Vec<OwnChild>,
     depth: u64,
-    alloc: Global,
     chunks: &mut C,
-    key: &Text,
-    value: &Json,
-    copies: usize,
-    may_split: bool,
+    put: Put<'_>,
 ) -> Result<Option<Half>, Unput>
     requires places { AreAll (C.places chunks.old)
         (places_of (body_pieces depth keys.old.texts (body.Inner kids.old))) }
     requires node { IsNode depth keys.old.texts (body.Inner kids.old) }
     requires tree { IsTree (shown (C.contents chunks.old) (body_pieces depth keys.old.texts (body.Inner kids.old))) }
-    requires copies { copies + depth < 2 ^ 64 }
+    requires copies { put.copies + depth < 2 ^ 64 }
     ensures grown { Grows C.contents C.places chunks.old chunks.new }
     ensures node { IsNode depth keys.new.texts (body.Inner kids.new) }
     ensures done { IfOk result (λ half. shown (C.contents chunks.new)
         (body_pieces depth keys.new.texts (body.Inner kids.new) ++ half_pieces half)
-        ≡ Some (finite.put (slice_cmp nat_cmp) key.now value.now
+        ≡ Some (finite.put (slice_cmp nat_cmp) put.entry.key.now put.entry.value.now
         (rows_or (shown (C.contents chunks.old) (body_pieces depth keys.old.texts (body.Inner kids.old)))))) }
-    ensures half { IfOk result (IsHalf copies depth) }
+    ensures half { IfOk result (IsHalf put.entry.copies depth) }
     ensures places { IfOk result (λ half. AreKept (C.places chunks.new)
         (places_of (body_pieces depth keys.old.texts (body.Inner kids.old)))
         (places_of (body_pieces depth keys.new.texts (body.Inner kids.new) ++ half_pieces half))) }
@@ -62,26 +57,15 @@ fn put_inner<C: Chunks>(
         < body_fresh (body.Inner kids.old) + 2 * depth) }
     ensures entries { IfOk result (HasKept (length keys.old.texts) (length keys.new.texts)) }
     ensures filled { OnOk result (0 < length (body_pieces depth keys.new.texts (body.Inner kids.new))) }
-    ensures whole { may_split ≡ false → IfOk result (λ half. half ≡ None) }
+    ensures whole { put.entry.may_split ≡ false → IfOk result (λ half. half ≡ None) }
     ensures err { OnErr result ((keys.new.texts ≡ keys.old.texts) × (kids.new.items ≡ kids.old.items)) }
-    ensures unput { IfErr result (IsUnput C.stops may_split) }
+    ensures unput { IfErr result (IsUnput C.stops put.entry.may_split) }
 {
-    let place = place_of(keys.as_slice(), key.as_str());
+    let place = place_of(keys.as_slice(), put.key.as_str());
     kids.reserve(1)?;
-    let (ready, half) = put_child(
-        keys,
-        kids,
-        place,
-        depth - 1,
-        alloc,
-        chunks,
-        key,
-        value,
-        copies,
-        may_split,
-    )?;
+    let (ready, half) = put_child(keys, kids, place, depth - 1, chunks, put)?;
     lower_first(keys, place, ready.lower);
-    Ok(finish(keys, kids, place, depth, ready.room, half, copies))
+    Ok(finish(keys, kids, place, depth, ready.room, half))
 }
 
 #[cycle(put)]
@@ -90,23 +74,19 @@ fn put_child<C: Chunks>(
     kids: &mut Vec<OwnChild>,
     place: usize,
     below: u64,
-    alloc: Global,
     chunks: &mut C,
-    key: &Text,
-    value: &Json,
-    copies: usize,
-    may_split: bool,
+    put: Put<'_>,
 ) -> Result<(Ready, Option<Half>), Unput>
     requires places { AreAll (C.places chunks.old) (kids_places kids.old.items) }
     requires within { place < length kids.old.items }
-    requires place { IsPlace key.now keys.old.texts place }
-    requires copies { copies + 1 + below < 2 ^ 64 }
+    requires place { IsPlace put.key.now keys.old.texts place }
+    requires copies { put.copies + 1 + below < 2 ^ 64 }
     requires tree { (c : Childs) → slice_get kids.old.items place ≡ Some c
         → IsTree (child_rows (C.contents chunks.old) below c) × HasDepth below c }
     ensures grown { Grows C.contents C.places chunks.old chunks.new }
     ensures done { (c : Childs) → slice_get kids.old.items place ≡ Some c
-        → IfOk result (λ r. ChildPut (C.contents chunks.new) (copies + 1) below place kids.old.items kids.new.items r.1
-        (Some (finite.put (slice_cmp nat_cmp) key.now value.now
+        → IfOk result (λ r. ChildPut (C.contents chunks.new) (put.entry.copies + 1) below place kids.old.items
+        kids.new.items r.1 (Some (finite.put (slice_cmp nat_cmp) put.entry.key.now put.entry.value.now
         (rows_or (child_rows (C.contents chunks.old) below c))))) }
     ensures fresh { IfOk result (λ r. kids_fresh kids.new.items + half_fresh r.1
         ≤ kids_fresh kids.old.items + 2 * below) }
@@ -115,22 +95,21 @@ fn put_child<C: Chunks>(
     ensures kept { vec_capacity kids.new ≡ vec_capacity kids.old }
     ensures texts { keys.new.texts ≡ keys.old.texts }
     ensures lowers { IfOk result (λ r. IsSome r.0.lower → 0 < keys.new.room) }
-    ensures lower { IfOk result (λ r. IsLower key.now (slice_index_or keys.old.texts place []) r.0.lower) }
-    ensures ready { IfOk result (λ r. IsSome r.1 → IsReady copies keys.old.texts keys.new.room place key.now r.0.room) }
+    ensures lower { IfOk result (λ r. IsLower put.entry.key.now (slice_index_or keys.old.texts place []) r.0.lower) }
+    ensures ready { IfOk result (λ r. IsSome r.1
+        → IsReady put.entry.copies keys.old.texts keys.new.room place put.entry.key.now r.0.room) }
     ensures spare { IfOk result (λ r. (r.0.room.spare.keys.items ≡ []) × (r.0.room.spare.entries.items ≡ [])) }
-    ensures whole { may_split ≡ false → 16 ≤ length keys.old.texts → IfOk result (λ r. r.1 ≡ None) }
+    ensures whole { put.entry.may_split ≡ false → 16 ≤ length keys.old.texts → IfOk result (λ r. r.1 ≡ None) }
     ensures err { OnErr result (kids.new.items ≡ kids.old.items) }
-    ensures unput { IfErr result (IsUnput C.stops may_split) }
+    ensures unput { IfErr result (IsUnput C.stops put.entry.may_split) }
 {
     match &mut kids[place] {
-        OwnChild::Own(node) => return node.put_below(
-            keys, place, alloc, chunks, key, value, copies, may_split,
-        ),
+        OwnChild::Own(node) => return node.put_below(keys, place, chunks, put),
         OwnChild::Placed(at) => {
-            let mut node = OwnNode::copied_child(alloc, chunks, *at, below, ROOM)?;
-            let put = node.put_below(keys, place, alloc, chunks, key, value, copies, may_split)?;
+            let mut node = OwnNode::copied_child(put.alloc, chunks, *at, below, ROOM)?;
+            let answer = node.put_below(keys, place, chunks, put)?;
             kids[place] = OwnChild::Own(node);
-            return Ok(put);
+            return Ok(answer);
         }
     }
 }
@@ -143,47 +122,49 @@ impl OwnNode {
         &mut self,
         keys: &mut NodeKeys,
         place: usize,
-        alloc: Global,
         chunks: &mut C,
-        key: &Text,
-        value: &Json,
-        copies: usize,
-        may_split: bool,
+        put: Put<'_>,
     ) -> Result<(Ready, Option<Half>), Unput>
         requires places { AreAll (C.places chunks.old) (places_of self.old.pieces) }
         requires tree { IsTree (shown (C.contents chunks.old) self.old.pieces) }
-        requires place { IsPlace key.now keys.old.texts place }
-        requires copies { copies + 1 + self.old.depth < 2 ^ 64 }
+        requires place { IsPlace put.key.now keys.old.texts place }
+        requires copies { put.copies + 1 + self.old.depth < 2 ^ 64 }
         ensures grown { Grows C.contents C.places chunks.old chunks.new }
         ensures depth { self.new.depth ≡ self.old.depth }
         ensures done { IfOk result (λ r. shown (C.contents chunks.new) (self.new.pieces ++ half_pieces r.1)
-            ≡ Some (finite.put (slice_cmp nat_cmp) key.now value.now
+            ≡ Some (finite.put (slice_cmp nat_cmp) put.entry.key.now put.entry.value.now
             (rows_or (shown (C.contents chunks.old) self.old.pieces)))) }
-        ensures half { IfOk result (λ r. IsHalf (copies + 1) self.old.depth r.1) }
+        ensures half { IfOk result (λ r. IsHalf (put.entry.copies + 1) self.old.depth r.1) }
         ensures places { IfOk result (λ r. AreKept (C.places chunks.new) (places_of self.old.pieces)
             (places_of (self.new.pieces ++ half_pieces r.1))) }
         ensures fresh { IfOk result (λ r. self.new.fresh + half_fresh r.1 < self.old.fresh + 2 * self.old.depth) }
         ensures filled { OnOk result (0 < length self.new.pieces) }
         ensures texts { keys.new.texts ≡ keys.old.texts }
         ensures lowers { IfOk result (λ r. IsSome r.0.lower → 0 < keys.new.room) }
-        ensures lower { IfOk result (λ r. IsLower key.now (slice_index_or keys.old.texts place []) r.0.lower) }
+        ensures lower { IfOk result (λ r. IsLower put.entry.key.now (slice_index_or keys.old.texts place [])
+            r.0.lower) }
         ensures ready { IfOk result (λ r. IsSome r.1
-            → IsReady copies keys.old.texts keys.new.room place key.now r.0.room) }
+            → IsReady put.entry.copies keys.old.texts keys.new.room place put.entry.key.now r.0.room) }
         ensures spare { IfOk result (λ r. (r.0.room.spare.keys.items ≡ []) × (r.0.room.spare.entries.items ≡ [])) }
-        ensures whole { may_split ≡ false → 16 ≤ length keys.old.texts → IfOk result (λ r. r.1 ≡ None) }
+        ensures whole { put.entry.may_split ≡ false → 16 ≤ length keys.old.texts → IfOk result (λ r. r.1 ≡ None) }
         ensures err { OnErr result (self.new ≡ self.old) }
-        ensures unput { IfErr result (IsUnput C.stops may_split) }
+        ensures unput { IfErr result (IsUnput C.stops put.entry.may_split) }
     {
-        let lower = lower_key(keys, alloc, place, key)?;
-        match self.put(alloc, chunks, key, value, copies + 1, false) {
-            Ok(half) => return Ok((Ready::of_whole(alloc, lower), half)),
+        let lower = lower_key(keys, put.alloc, place, put.key)?;
+        let whole = Put {
+            copies: put.copies + 1,
+            may_split: false,
+            ..put
+        };
+        match self.put(chunks, whole) {
+            Ok(half) => return Ok((Ready::of_whole(put.alloc, lower), half)),
             Err(Unput::Full) => {}
             Err(stopped) => return Err(stopped),
         }
-        if !may_split && keys.as_slice().len() >= MOST {
+        if !put.may_split && keys.as_slice().len() >= MOST {
             return Err(Unput::Full);
         }
-        self.put_ready(keys, place, alloc, chunks, key, value, copies, lower)
+        self.put_ready(keys, place, chunks, put, lower)
     }
 
     // Puts a row in a child of a chunk with these keys, once what an upper half of the child needs is taken.
@@ -192,36 +173,39 @@ impl OwnNode {
         &mut self,
         keys: &mut NodeKeys,
         place: usize,
-        alloc: Global,
         chunks: &mut C,
-        key: &Text,
-        value: &Json,
-        copies: usize,
+        put: Put<'_>,
         lower: Option<Text>,
     ) -> Result<(Ready, Option<Half>), Unput>
         requires places { AreAll (C.places chunks.old) (places_of self.old.pieces) }
         requires tree { IsTree (shown (C.contents chunks.old) self.old.pieces) }
-        requires place { IsPlace key.now keys.old.texts place }
-        requires copies { copies + 1 + self.old.depth < 2 ^ 64 }
+        requires place { IsPlace put.key.now keys.old.texts place }
+        requires copies { put.copies + 1 + self.old.depth < 2 ^ 64 }
         ensures grown { Grows C.contents C.places chunks.old chunks.new }
         ensures depth { self.new.depth ≡ self.old.depth }
         ensures done { IfOk result (λ r. shown (C.contents chunks.new) (self.new.pieces ++ half_pieces r.1)
-            ≡ Some (finite.put (slice_cmp nat_cmp) key.now value.now
+            ≡ Some (finite.put (slice_cmp nat_cmp) put.entry.key.now put.entry.value.now
             (rows_or (shown (C.contents chunks.old) self.old.pieces)))) }
-        ensures half { IfOk result (λ r. IsHalf (copies + 1) self.old.depth r.1) }
+        ensures half { IfOk result (λ r. IsHalf (put.entry.copies + 1) self.old.depth r.1) }
         ensures places { IfOk result (λ r. AreKept (C.places chunks.new) (places_of self.old.pieces)
             (places_of (self.new.pieces ++ half_pieces r.1))) }
         ensures fresh { IfOk result (λ r. self.new.fresh + half_fresh r.1 < self.old.fresh + 2 * self.old.depth) }
         ensures filled { OnOk result (0 < length self.new.pieces) }
         ensures texts { keys.new.texts ≡ keys.old.texts }
         ensures lower { IfOk result (λ r. r.0.lower ≡ lower) }
-        ensures ready { IfOk result (λ r. IsReady copies keys.old.texts keys.new.room place key.now r.0.room) }
+        ensures ready { IfOk result (λ r. IsReady put.entry.copies keys.old.texts keys.new.room place put.entry.key.now
+            r.0.room) }
         ensures spare { IfOk result (λ r. (r.0.room.spare.keys.items ≡ []) × (r.0.room.spare.entries.items ≡ [])) }
         ensures err { OnErr result (self.new ≡ self.old) }
         ensures unput { IfErr result (IsUnput C.stops true) }
     {
-        let ready = Ready::of_split(keys, alloc, place, key, lower, copies)?;
-        let half = self.put(alloc, chunks, key, value, copies + 1, true)?;
+        let ready = Ready::of_split(keys, put.alloc, place, put.key, lower, put.copies)?;
+        let split = Put {
+            copies: put.copies + 1,
+            may_split: true,
+            ..put
+        };
+        let half = self.put(chunks, split)?;
         Ok((ready, half))
     }
 
@@ -230,47 +214,33 @@ impl OwnNode {
     #[cycle(put)]
     pub(crate) fn put<C: Chunks>(
         &mut self,
-        alloc: Global,
         chunks: &mut C,
-        key: &Text,
-        value: &Json,
-        copies: usize,
-        may_split: bool,
+        put: Put<'_>,
     ) -> Result<Option<Half>, Unput>
         requires places { AreAll (C.places chunks.old) (places_of self.old.pieces) }
         requires tree { IsTree (shown (C.contents chunks.old) self.old.pieces) }
-        requires copies { copies + self.old.depth < 2 ^ 64 }
+        requires copies { put.copies + self.old.depth < 2 ^ 64 }
         ensures grown { Grows C.contents C.places chunks.old chunks.new }
         ensures depth { self.new.depth ≡ self.old.depth }
         ensures done { IfOk result (λ half. shown (C.contents chunks.new) (self.new.pieces ++ half_pieces half)
-            ≡ Some (finite.put (slice_cmp nat_cmp) key.now value.now
+            ≡ Some (finite.put (slice_cmp nat_cmp) put.entry.key.now put.entry.value.now
             (rows_or (shown (C.contents chunks.old) self.old.pieces)))) }
-        ensures half { IfOk result (IsHalf copies self.old.depth) }
+        ensures half { IfOk result (IsHalf put.entry.copies self.old.depth) }
         ensures places { IfOk result (λ half. AreKept (C.places chunks.new) (places_of self.old.pieces)
             (places_of (self.new.pieces ++ half_pieces half))) }
         ensures fresh { IfOk result (λ half. self.new.fresh + half_fresh half < self.old.fresh + 2 * self.old.depth) }
         ensures entries { IfOk result (HasKept self.old.entries self.new.entries) }
         ensures filled { OnOk result (0 < length self.new.pieces) }
-        ensures whole { may_split ≡ false → IfOk result (λ half. half ≡ None) }
+        ensures whole { put.entry.may_split ≡ false → IfOk result (λ half. half ≡ None) }
         ensures err { OnErr result (self.new ≡ self.old) }
-        ensures unput { IfErr result (IsUnput C.stops may_split) }
+        ensures unput { IfErr result (IsUnput C.stops put.entry.may_split) }
     {
         match &mut self.body {
             Body::Leaf(values) => {
-                return put_leaf(&mut self.keys, values, alloc, key, value, copies, may_split);
+                return put_leaf(&mut self.keys, values, put);
             }
             Body::Inner(kids) => {
-                return put_inner(
-                    &mut self.keys,
-                    kids,
-                    self.depth,
-                    alloc,
-                    chunks,
-                    key,
-                    value,
-                    copies,
-                    may_split,
-                );
+                return put_inner(&mut self.keys, kids, self.depth, chunks, put);
             }
         }
     }

@@ -14,7 +14,7 @@ ghost use Rattle.map_chunks.specs.Wide.{IsWideChunk};
 
 use super::super::homes::{housed, take_home};
 use super::super::{Body, OwnChild, OwnNode};
-use super::{Half, Unput};
+use super::{Half, Put, Unput};
 use group_history::{Json, Stop, Text};
 use map_chunks::Chunks;
 use map_chunks::entries::{MOST, Spare, take_spare};
@@ -119,7 +119,14 @@ impl OwnNode {
         if self.depth == u64::MAX {
             return Err(Stop::NoMemory);
         }
-        match self.put(alloc, chunks, key, value, 1, false) {
+        let put = Put {
+            alloc,
+            key,
+            value,
+            copies: 1,
+            may_split: false,
+        };
+        match self.put(chunks, put) {
             Ok(_) => return Ok(()),
             Err(Unput::Full) => return self.put_split(alloc, chunks, key, value),
             Err(Unput::Stopped(stop)) => return Err(stop),
@@ -183,7 +190,14 @@ impl OwnNode {
         ensures err { OnErr result (self.new ≡ self.old) }
         ensures stopped { IfErr result (λ s. (s ≡ NoMemory) ⊎ C.stops s) }
     {
-        match self.put(alloc, chunks, key, value, 1, true) {
+        let put = Put {
+            alloc,
+            key,
+            value,
+            copies: 1,
+            may_split: true,
+        };
+        match self.put(chunks, put) {
             Ok(half) => return Ok(half),
             Err(Unput::Stopped(stop)) => return Err(stop),
             Err(Unput::Full) => unreachable!(),

@@ -1,6 +1,7 @@
 //! What the upper half of a chunk needs, taken before anything changes.
-ghost use Rattle.std.specs.Prelude.{◌≡◌, ◌≤◌, [], length, IfOk, IsSome, vec_capacity};
+ghost use Rattle.std.specs.Prelude.{length, IfOk};
 ghost use Rattle.map_nodes.specs.Inside.Halves.{AreNinth};
+ghost use Rattle.map_nodes.specs.Inside.Ready.{HasRoom};
 
 use super::super::OwnNode;
 use super::super::homes::take_home;
@@ -26,10 +27,7 @@ pub(crate) fn take_half_room<T: Drop>(
     copies: usize,
 ) -> Result<HalfRoom<T>, AllocError>
     ensures firsts { IfOk result (λ r. AreNinth copies keys.now place key.now r.firsts.items) }
-    ensures empty { IfOk result (λ r. (r.spare.keys.items ≡ []) × (r.spare.entries.items ≡ [])) }
-    ensures spare { IfOk result (λ r. 16 ≤ length keys.now
-        → (17 ≤ vec_capacity r.spare.keys) × (17 ≤ vec_capacity r.spare.entries)) }
-    ensures home { IfOk result (λ r. 16 ≤ length keys.now → IsSome r.home) }
+    ensures room { IfOk result (HasRoom (length keys.now)) }
 {
     let firsts = ninth_copies(alloc, keys, place, key, copies)?;
     let spare = take_spare(alloc, keys.len())?;

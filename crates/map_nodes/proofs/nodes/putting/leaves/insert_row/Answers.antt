@@ -1,9 +1,10 @@
-use Rattle.std.proofs.Common.{◌≤◌, ◌∙◌, ap, sym, subst, length, nat_cmp}
+use Rattle.std.proofs.Common.{◌∙◌, ap, sym, subst, length, nat_cmp}
 use Rattle.std.specs.Cmp.Lexicographic.{slice_cmp}
 use Rattle.std.specs.FinMap.{put}
 use Rattle.group_history.specs.Rows.{AreKeys, paired}
 use Rattle.map_nodes.specs.Inside.Counts.{HasKept}
 use Rattle.map_nodes.specs.Inside.Halves.{AreNinth}
+use Rattle.map_nodes.specs.Inside.Ready.{HasRoom}
 use Rattle.map_nodes.specs.Nodes.{row_pieces}
 use Rattle.map_chunks.specs.Search.{IsAbsent}
 use Rattle.map_nodes.proofs.nodes.putting.leaves.insert_row.Goals as goal
@@ -17,34 +18,32 @@ settle_row-requires-clause-pairs c = ap length c.make_room.ensures.entries ∙ c
 
 pub settle_row-requires-clause-absent : goal.settle_row-requires-clause-absent
 settle_row-requires-clause-absent c =
-    subst (λ ks. IsAbsent c.in_ok-text.text ks c.args.place) (sym c.make_room.ensures.keys)
-    (subst (λ k. IsAbsent k c.args.keys.now.texts c.args.place) (sym c.in_ok-text.ensures.cases) c.requires.absent)
-
-pub settle_row-requires-clause-firsts : goal.settle_row-requires-clause-firsts
-settle_row-requires-clause-firsts c =
-    subst (λ ks. AreNinth c.args.copies ks c.args.place c.in_ok-text.text c.in_ok-room.room.firsts.items)
-    (c.as_slice.ensures ∙ sym c.make_room.ensures.keys)
-    (subst (λ k. AreNinth c.args.copies c.as_slice.result.now c.args.place k c.in_ok-room.room.firsts.items)
-    (sym c.in_ok-text.ensures.cases) c.in_ok-room.ensures.firsts)
+    subst (λ ks. IsAbsent c.in_ok-key.key ks c.args.place) (sym c.make_room.ensures.keys)
+    (subst (λ k. IsAbsent k c.args.keys.now.texts c.args.place) (sym c.in_ok-key.ensures.cases) c.requires.absent)
 
 pub settle_row-requires-clause-spare : goal.settle_row-requires-clause-spare
-settle_row-requires-clause-spare c full = c.in_ok-room.ensures.spare
-    (subst (λ ks. 16 ≤ length ks) (c.make_room.ensures.keys ∙ sym c.as_slice.ensures) full)
-
-pub settle_row-requires-clause-home : goal.settle_row-requires-clause-home
-settle_row-requires-clause-home c full = c.in_ok-room.ensures.home
-    (subst (λ ks. 16 ≤ length ks) (c.make_room.ensures.keys ∙ sym c.as_slice.ensures) full)
+settle_row-requires-clause-spare c =
+    subst (λ n. HasRoom n c.in_ok-room.room) (ap length (c.as_slice.ensures ∙ sym c.make_room.ensures.keys))
+    c.in_ok-room.ensures.room
 
 pub returns-clause-rows : goal.returns-clause-rows
 returns-clause-rows c =
     c.settle_row.ensures.rows
     ∙ ap (λ k. row_pieces (put (slice_cmp nat_cmp) k c.args.value
-    (paired c.make_room.new.keys.texts c.make_room.new.entries.items))) c.in_ok-text.ensures.cases
-    ∙ ap (λ ks. row_pieces (put (slice_cmp nat_cmp) c.args.key.now c.args.value
+    (paired c.make_room.new.keys.texts c.make_room.new.entries.items))) c.in_ok-key.ensures.cases
+    ∙ ap (λ ks. row_pieces (put (slice_cmp nat_cmp) c.args.put.key.now c.args.value
     (paired ks c.make_room.new.entries.items))) c.make_room.ensures.keys
-    ∙ ap (λ vs. row_pieces (put (slice_cmp nat_cmp) c.args.key.now c.args.value (paired c.args.keys.now.texts vs)))
+    ∙ ap (λ vs. row_pieces (put (slice_cmp nat_cmp) c.args.put.key.now c.args.value (paired c.args.keys.now.texts vs)))
     c.make_room.ensures.entries
 
 pub returns-clause-entries : goal.returns-clause-entries
 returns-clause-entries c = subst (λ n. HasKept n (length c.settle_row.new.keys.texts) c.settle_row.result)
     (ap length c.make_room.ensures.keys) c.settle_row.ensures.entries
+
+pub returns-clause-half : goal.returns-clause-half
+returns-clause-half c =
+    c.settle_row.ensures.half c.args.put.copies
+    (subst (λ ks. AreNinth c.args.put.copies ks c.args.place c.in_ok-key.key c.in_ok-room.room.firsts.items)
+    (c.as_slice.ensures ∙ sym c.make_room.ensures.keys)
+    (subst (λ k. AreNinth c.args.put.copies c.as_slice.result.now c.args.place k c.in_ok-room.room.firsts.items)
+    (sym c.in_ok-key.ensures.cases) c.in_ok-room.ensures.firsts))

@@ -8,5 +8,5 @@ use Rattle.map_nodes.proofs.nodes.putting.leaves.put_leaf.Goals as goal
 pub returns-clause-rows : goal.returns-clause-rows
 returns-clause-rows c =
     c.in_ok-put_row.ensures.rows ∙ ap (λ v. row_pieces
-    (put (slice_cmp nat_cmp) c.args.key.now v (paired c.args.keys.now.texts c.args.values.now.items)))
+    (put (slice_cmp nat_cmp) c.args.put.key.now v (paired c.args.keys.now.texts c.args.values.now.items)))
     c.in_ok-value.ensures.cases

@@ -13,7 +13,7 @@ pub returns-in_default-clause-rows : goal.returns-in_default-clause-rows
 returns-in_default-clause-rows c =
     let keys = c.args.keys.now.texts in
     let values = c.args.values.now.items in
-    let h = parted_put keys values c.args.place c.args.key c.args.value c.insert_entry.new.keys.texts
+    let h = parted_put keys values c.args.place c.args.row.0 c.args.row.1 c.insert_entry.new.keys.texts
     c.insert_entry.new.entries.items None c.requires.keys.1 c.requires.pairs c.requires.absent
     c.in_default.ensures in
     append-nil (row_pieces (paired c.insert_entry.new.keys.texts c.insert_entry.new.entries.items)) ∙ ap
@@ -23,33 +23,33 @@ pub returns-in_default-clause-leaf : goal.returns-in_default-clause-leaf
 returns-in_default-clause-leaf c =
     let keys = c.args.keys.now.texts in
     let values = c.args.values.now.items in
-    let h = parted_put keys values c.args.place c.args.key c.args.value c.insert_entry.new.keys.texts
+    let h = parted_put keys values c.args.place c.args.row.0 c.args.row.1 c.insert_entry.new.keys.texts
     c.insert_entry.new.entries.items None c.requires.keys.1 c.requires.pairs c.requires.absent
     c.in_default.ensures in
-    leaf_whole keys values c.insert_entry.new.keys.texts c.insert_entry.new.entries.items c.args.place c.args.key
-    c.args.value c.requires.keys.1 c.requires.pairs c.requires.absent h
+    leaf_whole keys values c.insert_entry.new.keys.texts c.insert_entry.new.entries.items c.args.place c.args.row.0
+    c.args.row.1 c.requires.keys.1 c.requires.pairs c.requires.absent h
 
 pub returns-in_default-clause-entries : goal.returns-in_default-clause-entries
 returns-in_default-clause-entries c =
     let keys = c.args.keys.now.texts in
     let values = c.args.values.now.items in
-    let h = parted_put keys values c.args.place c.args.key c.args.value c.insert_entry.new.keys.texts
+    let h = parted_put keys values c.args.place c.args.row.0 c.args.row.1 c.insert_entry.new.keys.texts
     c.insert_entry.new.entries.items None c.requires.keys.1 c.requires.pairs c.requires.absent
     c.in_default.ensures in
-    kept_alone (put (slice_cmp nat_cmp) c.args.key c.args.value (paired keys values)) c.insert_entry.new.keys.texts
+    kept_alone (put (slice_cmp nat_cmp) c.args.row.0 c.args.row.1 (paired keys values)) c.insert_entry.new.keys.texts
     c.insert_entry.new.entries.items (length keys) h
-    (rows_put keys values c.args.place c.args.key c.args.value c.requires.keys.1 c.requires.pairs c.requires.absent)
+    (rows_put keys values c.args.place c.args.row.0 c.args.row.1 c.requires.keys.1 c.requires.pairs c.requires.absent)
 
 pub invariant_of-upper : goal.invariant_of-upper
 invariant_of-upper c =
     let keys = c.args.keys.now.texts in
     let values = c.args.values.now.items in
-    let h = parted_put keys values c.args.place c.args.key c.args.value c.insert_entry.new.keys.texts
+    let h = parted_put keys values c.args.place c.args.row.0 c.args.row.1 c.insert_entry.new.keys.texts
     c.insert_entry.new.entries.items
     (Some (c.in-Some.upper_keys.texts, c.in-Some.upper.items)) c.requires.keys.1 c.requires.pairs c.requires.absent
     c.in-Some.ensures in
     let b = leaf_halves keys values c.insert_entry.new.keys.texts c.insert_entry.new.entries.items
-    c.in-Some.upper_keys.texts c.in-Some.upper.items c.args.place c.args.key c.args.value c.requires.keys.1
+    c.in-Some.upper_keys.texts c.in-Some.upper.items c.args.place c.args.row.0 c.args.row.1 c.requires.keys.1
     c.requires.pairs c.requires.absent h in
     (b.right.0, (refl, b.right.1))
 
@@ -57,46 +57,46 @@ pub housed-requires : goal.housed-requires
 housed-requires c =
     let keys = c.args.keys.now.texts in
     let values = c.args.values.now.items in
-    let h = parted_put keys values c.args.place c.args.key c.args.value c.insert_entry.new.keys.texts
+    let h = parted_put keys values c.args.place c.args.row.0 c.args.row.1 c.insert_entry.new.keys.texts
     c.insert_entry.new.entries.items
     (Some (c.in-Some.upper_keys.texts, c.in-Some.upper.items)) c.requires.keys.1 c.requires.pairs c.requires.absent
     c.in-Some.ensures in
     let b = leaf_halves keys values c.insert_entry.new.keys.texts c.insert_entry.new.entries.items
-    c.in-Some.upper_keys.texts c.in-Some.upper.items c.args.place c.args.key c.args.value c.requires.keys.1
+    c.in-Some.upper_keys.texts c.in-Some.upper.items c.args.place c.args.row.0 c.args.row.1 c.requires.keys.1
     c.requires.pairs c.requires.absent h in
-    c.requires.home (omega (arith, b.full))
+    c.requires.spare.home (omega (arith, b.full))
 
 pub returns-clause-rows : goal.returns-clause-rows
 returns-clause-rows c =
     let keys = c.args.keys.now.texts in
     let values = c.args.values.now.items in
-    let h = parted_put keys values c.args.place c.args.key c.args.value c.insert_entry.new.keys.texts
+    let h = parted_put keys values c.args.place c.args.row.0 c.args.row.1 c.insert_entry.new.keys.texts
     c.insert_entry.new.entries.items
     (Some (c.in-Some.upper_keys.texts, c.in-Some.upper.items)) c.requires.keys.1 c.requires.pairs c.requires.absent
     c.in-Some.ensures in
     let b = leaf_halves keys values c.insert_entry.new.keys.texts c.insert_entry.new.entries.items
-    c.in-Some.upper_keys.texts c.in-Some.upper.items c.args.place c.args.key c.args.value c.requires.keys.1
+    c.in-Some.upper_keys.texts c.in-Some.upper.items c.args.place c.args.row.0 c.args.row.1 c.requires.keys.1
     c.requires.pairs c.requires.absent h in
     ap (λ (s : Seen). row_pieces (paired c.insert_entry.new.keys.texts c.insert_entry.new.entries.items) ++ s.pieces)
     c.housed.ensures ∙ b.pieces
 
 pub returns-clause-half : goal.returns-clause-half
-returns-clause-half c =
+returns-clause-half c copies firsts =
     let keys = c.args.keys.now.texts in
     let values = c.args.values.now.items in
-    let h = parted_put keys values c.args.place c.args.key c.args.value c.insert_entry.new.keys.texts
+    let h = parted_put keys values c.args.place c.args.row.0 c.args.row.1 c.insert_entry.new.keys.texts
     c.insert_entry.new.entries.items
     (Some (c.in-Some.upper_keys.texts, c.in-Some.upper.items)) c.requires.keys.1 c.requires.pairs c.requires.absent
     c.in-Some.ensures in
     let b = leaf_halves keys values c.insert_entry.new.keys.texts c.insert_entry.new.entries.items
-    c.in-Some.upper_keys.texts c.in-Some.upper.items c.args.place c.args.key c.args.value c.requires.keys.1
+    c.in-Some.upper_keys.texts c.in-Some.upper.items c.args.place c.args.row.0 c.args.row.1 c.requires.keys.1
     c.requires.pairs c.requires.absent h in
-    let ninth = get_or (insert keys c.args.place c.args.key) 8 [] in (
+    let ninth = get_or (insert keys c.args.place c.args.row.0) 8 [] in (
       ap (λ (s : Seen). s.depth) c.housed.ensures,
       (
         ninth,
         subst (λ (s : Seen). HeadIs ninth s.pieces) (sym c.housed.ensures) b.first,
-        c.requires.firsts b.full c.args.key (λ e. refl),
+        firsts b.full c.args.row.0 (λ e. refl),
       ),
     )
 
@@ -104,12 +104,12 @@ pub returns-clause-leaf : goal.returns-clause-leaf
 returns-clause-leaf c =
     let keys = c.args.keys.now.texts in
     let values = c.args.values.now.items in
-    let h = parted_put keys values c.args.place c.args.key c.args.value c.insert_entry.new.keys.texts
+    let h = parted_put keys values c.args.place c.args.row.0 c.args.row.1 c.insert_entry.new.keys.texts
     c.insert_entry.new.entries.items
     (Some (c.in-Some.upper_keys.texts, c.in-Some.upper.items)) c.requires.keys.1 c.requires.pairs c.requires.absent
     c.in-Some.ensures in
     let b = leaf_halves keys values c.insert_entry.new.keys.texts c.insert_entry.new.entries.items
-    c.in-Some.upper_keys.texts c.in-Some.upper.items c.args.place c.args.key c.args.value c.requires.keys.1
+    c.in-Some.upper_keys.texts c.in-Some.upper.items c.args.place c.args.row.0 c.args.row.1 c.requires.keys.1
     c.requires.pairs c.requires.absent h in
     b.left
 
@@ -117,12 +117,22 @@ pub returns-clause-entries : goal.returns-clause-entries
 returns-clause-entries c =
     let keys = c.args.keys.now.texts in
     let values = c.args.values.now.items in
-    let h = parted_put keys values c.args.place c.args.key c.args.value c.insert_entry.new.keys.texts
+    let h = parted_put keys values c.args.place c.args.row.0 c.args.row.1 c.insert_entry.new.keys.texts
     c.insert_entry.new.entries.items
     (Some (c.in-Some.upper_keys.texts, c.in-Some.upper.items)) c.requires.keys.1 c.requires.pairs c.requires.absent
     c.in-Some.ensures in
-    let k = kept_halves (put (slice_cmp nat_cmp) c.args.key c.args.value (paired keys values))
+    let k = kept_halves (put (slice_cmp nat_cmp) c.args.row.0 c.args.row.1 (paired keys values))
     c.insert_entry.new.keys.texts c.insert_entry.new.entries.items c.in-Some.upper_keys.texts
     c.in-Some.upper.items (length keys) h
-    (rows_put keys values c.args.place c.args.key c.args.value c.requires.keys.1 c.requires.pairs c.requires.absent) in
+    (rows_put keys values c.args.place c.args.row.0 c.args.row.1 c.requires.keys.1 c.requires.pairs
+    c.requires.absent) in
     (k.0, k.1, ap (λ (s : Seen). s.entries) c.housed.ensures ∙ k.2)
+
+pub insert_entry-requires-clause-spare_keys : goal.insert_entry-requires-clause-spare_keys
+insert_entry-requires-clause-spare_keys c = c.requires.spare.empty.0
+
+pub insert_entry-requires-clause-spare_entries : goal.insert_entry-requires-clause-spare_entries
+insert_entry-requires-clause-spare_entries c = c.requires.spare.empty.1
+
+pub insert_entry-requires-clause-spare_room : goal.insert_entry-requires-clause-spare_room
+insert_entry-requires-clause-spare_room c full = c.requires.spare.spare full

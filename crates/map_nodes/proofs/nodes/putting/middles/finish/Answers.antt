@@ -20,39 +20,39 @@ returns-in_default-clause-shape c =
     let kids = c.args.kids.now.items in
     let es : Kids = with_half c.args.place c.args.half (paired keys kids) in
     let e : es ≡ paired keys kids = ap (λ h. with_half c.args.place h (paired keys kids)) c.in_default.is in
-    let n = ap length e ∙ length-paired keys kids c.requires.pairs in
-    finished_alone c.args.depth c.args.copies es keys kids (sym e, c.requires.pairs) c.requires.kids c.requires.order
-    (omega (arith, n, c.requires.few)) (omega (arith, n, c.requires.within))
+    let n = ap length e ∙ length-paired keys kids c.requires.fits.pairs in
+    finished_alone c.args.depth es keys kids (sym e, c.requires.fits.pairs) c.requires.fits.all c.requires.fits.order
+    (omega (arith, n, c.requires.fits.few)) (omega (arith, n, c.requires.fits.within))
 
 pub returns-in_default-insert_entry-clause-shape : goal.returns-in_default-insert_entry-clause-shape
 returns-in_default-insert_entry-clause-shape c =
     let keys = c.args.keys.now.texts in
     let kids = c.args.kids.now.items in
     let es : Kids = with_half c.args.place c.args.half (paired keys kids) in
-    let hf : IsHalf (c.args.copies + 1) (c.args.depth - 1) (Some c.in-Some.half) = subst
-    (IsHalf (c.args.copies + 1) (c.args.depth - 1)) c.in-Some.is c.requires.half in
-    let p = putting keys kids c.args.place c.args.copies
-    (c.args.depth - 1) c.in-Some.half c.in-Some-pop.first c.pop.new.self.items c.requires.pairs c.requires.within hf
-    c.in-Some-pop.ensures.items in
+    let hf : IsHalf (c.requires.fits.split.0 + 1) (c.args.depth - 1) (Some c.in-Some.half) = subst
+    (IsHalf (c.requires.fits.split.0 + 1) (c.args.depth - 1)) c.in-Some.is c.requires.fits.split.1 in
+    let p = putting keys kids c.args.place c.requires.fits.split.0
+    (c.args.depth - 1) c.in-Some.half c.in-Some-pop.first c.pop.new.self.items c.requires.fits.pairs
+    c.requires.fits.within hf c.in-Some-pop.ensures.items in
     let back : with_half c.args.place (Some c.in-Some.half) (paired keys kids)
     ≡ es = ap (λ h. with_half c.args.place h (paired keys kids)) (sym c.in-Some.is) in
     let q : insert (paired keys kids) (c.args.place + 1) (c.in-Some-pop.first, Own c.in-Some.half.node)
     ≡ es = p.es_is ∙ back in
     let h = subst (λ (w : Kids). Parted w c.insert_entry.new.keys.texts c.insert_entry.new.entries.items None) q
     c.in_default-insert_entry.ensures in
-    finished_alone c.args.depth c.args.copies es c.insert_entry.new.keys.texts c.insert_entry.new.entries.items h.0
-    c.requires.kids c.requires.order h.1 (subst (λ w. 0 < length w) back p.filled)
+    finished_alone c.args.depth es c.insert_entry.new.keys.texts c.insert_entry.new.entries.items h.0
+    c.requires.fits.all c.requires.fits.order h.1 (subst (λ w. 0 < length w) back p.filled)
 
 pub invariant_of-upper : goal.invariant_of-upper
 invariant_of-upper c =
     let keys = c.args.keys.now.texts in
     let kids = c.args.kids.now.items in
     let es : Kids = with_half c.args.place c.args.half (paired keys kids) in
-    let hf : IsHalf (c.args.copies + 1) (c.args.depth - 1) (Some c.in-Some.half) = subst
-    (IsHalf (c.args.copies + 1) (c.args.depth - 1)) c.in-Some.is c.requires.half in
-    let p = putting keys kids c.args.place c.args.copies
-    (c.args.depth - 1) c.in-Some.half c.in-Some-pop.first c.pop.new.self.items c.requires.pairs c.requires.within hf
-    c.in-Some-pop.ensures.items in
+    let hf : IsHalf (c.requires.fits.split.0 + 1) (c.args.depth - 1) (Some c.in-Some.half) = subst
+    (IsHalf (c.requires.fits.split.0 + 1) (c.args.depth - 1)) c.in-Some.is c.requires.fits.split.1 in
+    let p = putting keys kids c.args.place c.requires.fits.split.0
+    (c.args.depth - 1) c.in-Some.half c.in-Some-pop.first c.pop.new.self.items c.requires.fits.pairs
+    c.requires.fits.within hf c.in-Some-pop.ensures.items in
     let back : with_half c.args.place (Some c.in-Some.half) (paired keys kids)
     ≡ es = ap (λ h. with_half c.args.place h (paired keys kids)) (sym c.in-Some.is) in
     let q : insert (paired keys kids) (c.args.place + 1) (c.in-Some-pop.first, Own c.in-Some.half.node)
@@ -61,19 +61,20 @@ invariant_of-upper c =
     (Some (c.in-Some-insert_entry.upper_keys.texts, c.in-Some-insert_entry.upper.items))) q
     c.in-Some-insert_entry.ensures in
     let b = kid_halves (c.args.depth - 1) es c.insert_entry.new.keys.texts c.insert_entry.new.entries.items
-    c.in-Some-insert_entry.upper_keys.texts c.in-Some-insert_entry.upper.items h c.requires.kids c.requires.order in
-    (b.right.1, (c.requires.above, b.right.2, b.right.0, b.right.3))
+    c.in-Some-insert_entry.upper_keys.texts c.in-Some-insert_entry.upper.items h c.requires.fits.all
+    c.requires.fits.order in
+    (b.right.1, (c.requires.fits.above, b.right.2, b.right.0, b.right.3))
 
 pub returns-clause-shape : goal.returns-clause-shape
 returns-clause-shape c =
     let keys = c.args.keys.now.texts in
     let kids = c.args.kids.now.items in
     let es : Kids = with_half c.args.place c.args.half (paired keys kids) in
-    let hf : IsHalf (c.args.copies + 1) (c.args.depth - 1) (Some c.in-Some.half) = subst
-    (IsHalf (c.args.copies + 1) (c.args.depth - 1)) c.in-Some.is c.requires.half in
-    let p = putting keys kids c.args.place c.args.copies
-    (c.args.depth - 1) c.in-Some.half c.in-Some-pop.first c.pop.new.self.items c.requires.pairs c.requires.within hf
-    c.in-Some-pop.ensures.items in
+    let hf : IsHalf (c.requires.fits.split.0 + 1) (c.args.depth - 1) (Some c.in-Some.half) = subst
+    (IsHalf (c.requires.fits.split.0 + 1) (c.args.depth - 1)) c.in-Some.is c.requires.fits.split.1 in
+    let p = putting keys kids c.args.place c.requires.fits.split.0
+    (c.args.depth - 1) c.in-Some.half c.in-Some-pop.first c.pop.new.self.items c.requires.fits.pairs
+    c.requires.fits.within hf c.in-Some-pop.ensures.items in
     let back : with_half c.args.place (Some c.in-Some.half) (paired keys kids)
     ≡ es = ap (λ h. with_half c.args.place h (paired keys kids)) (sym c.in-Some.is) in
     let q : insert (paired keys kids) (c.args.place + 1) (c.in-Some-pop.first, Own c.in-Some.half.node)
@@ -82,30 +83,51 @@ returns-clause-shape c =
     (Some (c.in-Some-insert_entry.upper_keys.texts, c.in-Some-insert_entry.upper.items))) q
     c.in-Some-insert_entry.ensures in
     let b = kid_halves (c.args.depth - 1) es c.insert_entry.new.keys.texts c.insert_entry.new.entries.items
-    c.in-Some-insert_entry.upper_keys.texts c.in-Some-insert_entry.upper.items h c.requires.kids c.requires.order in
-    let n : get_or (keys_of es) 8 [] ≡ get_or (insert keys (c.args.place + 1) c.in-Some-pop.first) 8 [] = ap
-    (λ w. get_or (keys_of w) 8 []) (sym back) ∙ p.ninth in
-    let full : length keys ≡ 16 = omega (arith, h.2, p.whole, ap length back) in (
+    c.in-Some-insert_entry.upper_keys.texts c.in-Some-insert_entry.upper.items h c.requires.fits.all
+    c.requires.fits.order in (
       ap (λ (s : Seen). kids_pieces (c.args.depth - 1)
           (paired c.insert_entry.new.keys.texts c.insert_entry.new.entries.items) ++ s.pieces)
           c.housed.ensures ∙ b.pieces,
-      (
-        ap (λ (s : Seen). s.depth) c.housed.ensures,
-        (
-          get_or (keys_of es) 8 [],
-          subst (λ (s : Seen). HeadIs (get_or (keys_of es) 8 []) s.pieces) (sym c.housed.ensures) b.head,
-          chosen_are c.args.place c.args.copies c.in-Some-pop.first (get_or (keys_of es) 8 [])
-              (get_or (insert keys (c.args.place + 1) c.in-Some-pop.first) 8 []) c.pop.new.self.items
-              c.args.room.firsts.items c.chosen.result.items
-              n p.given_are p.at_eight c.chosen.ensures.at c.chosen.ensures.other
-              (λ z. c.requires.firsts (subst IsSome (sym c.in-Some.is) refl) c.in-Some-pop.first z full
-              c.in-Some-pop.first (λ y. refl)),
-        ),
-      ),
       b.left.0,
       b.left.1,
       b.left.2,
       b.left.3,
+    )
+
+pub returns-clause-half : goal.returns-clause-half
+returns-clause-half c copies is firsts =
+    let keys = c.args.keys.now.texts in
+    let kids = c.args.kids.now.items in
+    let es : Kids = with_half c.args.place c.args.half (paired keys kids) in
+    let hf : IsHalf (copies + 1) (c.args.depth - 1) (Some c.in-Some.half) = subst
+    (IsHalf (copies + 1) (c.args.depth - 1)) c.in-Some.is is in
+    let p = putting keys kids c.args.place copies
+    (c.args.depth - 1) c.in-Some.half c.in-Some-pop.first c.pop.new.self.items c.requires.fits.pairs
+    c.requires.fits.within hf c.in-Some-pop.ensures.items in
+    let back : with_half c.args.place (Some c.in-Some.half) (paired keys kids)
+    ≡ es = ap (λ h. with_half c.args.place h (paired keys kids)) (sym c.in-Some.is) in
+    let q : insert (paired keys kids) (c.args.place + 1) (c.in-Some-pop.first, Own c.in-Some.half.node)
+    ≡ es = p.es_is ∙ back in
+    let h = subst (λ (w : Kids). Parted w c.insert_entry.new.keys.texts c.insert_entry.new.entries.items
+    (Some (c.in-Some-insert_entry.upper_keys.texts, c.in-Some-insert_entry.upper.items))) q
+    c.in-Some-insert_entry.ensures in
+    let b = kid_halves (c.args.depth - 1) es c.insert_entry.new.keys.texts c.insert_entry.new.entries.items
+    c.in-Some-insert_entry.upper_keys.texts c.in-Some-insert_entry.upper.items h c.requires.fits.all
+    c.requires.fits.order in
+    let n : get_or (keys_of es) 8 [] ≡ get_or (insert keys (c.args.place + 1) c.in-Some-pop.first) 8 [] = ap
+    (λ w. get_or (keys_of w) 8 []) (sym back) ∙ p.ninth in
+    let full : length keys ≡ 16 = omega (arith, h.2, p.whole, ap length back) in (
+      ap (λ (s : Seen). s.depth) c.housed.ensures,
+      (
+        get_or (keys_of es) 8 [],
+        subst (λ (s : Seen). HeadIs (get_or (keys_of es) 8 []) s.pieces) (sym c.housed.ensures) b.head,
+        chosen_are c.args.place copies c.in-Some-pop.first (get_or (keys_of es) 8 [])
+            (get_or (insert keys (c.args.place + 1) c.in-Some-pop.first) 8 []) c.pop.new.self.items
+            c.args.room.firsts.items c.chosen.result.items
+            n p.given_are p.at_eight c.chosen.ensures.at c.chosen.ensures.other
+            (λ z. firsts (subst IsSome (sym c.in-Some.is) refl) c.in-Some-pop.first z full
+            c.in-Some-pop.first (λ y. refl)),
+      ),
     )
 
 pub returns-in_default-insert_entry-clause-fresh : goal.returns-in_default-insert_entry-clause-fresh
@@ -113,18 +135,18 @@ returns-in_default-insert_entry-clause-fresh c =
     let keys = c.args.keys.now.texts in
     let kids = c.args.kids.now.items in
     let es : Kids = with_half c.args.place c.args.half (paired keys kids) in
-    let hf : IsHalf (c.args.copies + 1) (c.args.depth - 1) (Some c.in-Some.half) = subst
-    (IsHalf (c.args.copies + 1) (c.args.depth - 1)) c.in-Some.is c.requires.half in
-    let p = putting keys kids c.args.place c.args.copies
-    (c.args.depth - 1) c.in-Some.half c.in-Some-pop.first c.pop.new.self.items c.requires.pairs c.requires.within hf
-    c.in-Some-pop.ensures.items in
+    let hf : IsHalf (c.requires.fits.split.0 + 1) (c.args.depth - 1) (Some c.in-Some.half) = subst
+    (IsHalf (c.requires.fits.split.0 + 1) (c.args.depth - 1)) c.in-Some.is c.requires.fits.split.1 in
+    let p = putting keys kids c.args.place c.requires.fits.split.0
+    (c.args.depth - 1) c.in-Some.half c.in-Some-pop.first c.pop.new.self.items c.requires.fits.pairs
+    c.requires.fits.within hf c.in-Some-pop.ensures.items in
     let back : with_half c.args.place (Some c.in-Some.half) (paired keys kids)
     ≡ es = ap (λ h. with_half c.args.place h (paired keys kids)) (sym c.in-Some.is) in
     let q : insert (paired keys kids) (c.args.place + 1) (c.in-Some-pop.first, Own c.in-Some.half.node)
     ≡ es = p.es_is ∙ back in
     let h = subst (λ (w : Kids). Parted w c.insert_entry.new.keys.texts c.insert_entry.new.entries.items None) q
     c.in_default-insert_entry.ensures in
-    let m = fresh-with_half keys kids c.args.place c.in-Some.half c.requires.pairs c.requires.within in
+    let m = fresh-with_half keys kids c.args.place c.in-Some.half c.requires.fits.pairs c.requires.fits.within in
     let n = fresh-alone es c.insert_entry.new.keys.texts c.insert_entry.new.entries.items h in
     omega (arith, m, n, ap entries_fresh back, ap half_fresh c.in-Some.is)
 
@@ -133,11 +155,11 @@ returns-clause-fresh c =
     let keys = c.args.keys.now.texts in
     let kids = c.args.kids.now.items in
     let es : Kids = with_half c.args.place c.args.half (paired keys kids) in
-    let hf : IsHalf (c.args.copies + 1) (c.args.depth - 1) (Some c.in-Some.half) = subst
-    (IsHalf (c.args.copies + 1) (c.args.depth - 1)) c.in-Some.is c.requires.half in
-    let p = putting keys kids c.args.place c.args.copies
-    (c.args.depth - 1) c.in-Some.half c.in-Some-pop.first c.pop.new.self.items c.requires.pairs c.requires.within hf
-    c.in-Some-pop.ensures.items in
+    let hf : IsHalf (c.requires.fits.split.0 + 1) (c.args.depth - 1) (Some c.in-Some.half) = subst
+    (IsHalf (c.requires.fits.split.0 + 1) (c.args.depth - 1)) c.in-Some.is c.requires.fits.split.1 in
+    let p = putting keys kids c.args.place c.requires.fits.split.0
+    (c.args.depth - 1) c.in-Some.half c.in-Some-pop.first c.pop.new.self.items c.requires.fits.pairs
+    c.requires.fits.within hf c.in-Some-pop.ensures.items in
     let back : with_half c.args.place (Some c.in-Some.half) (paired keys kids)
     ≡ es = ap (λ h. with_half c.args.place h (paired keys kids)) (sym c.in-Some.is) in
     let q : insert (paired keys kids) (c.args.place + 1) (c.in-Some-pop.first, Own c.in-Some.half.node)
@@ -145,7 +167,7 @@ returns-clause-fresh c =
     let h = subst (λ (w : Kids). Parted w c.insert_entry.new.keys.texts c.insert_entry.new.entries.items
     (Some (c.in-Some-insert_entry.upper_keys.texts, c.in-Some-insert_entry.upper.items))) q
     c.in-Some-insert_entry.ensures in
-    let m = fresh-with_half keys kids c.args.place c.in-Some.half c.requires.pairs c.requires.within in
+    let m = fresh-with_half keys kids c.args.place c.in-Some.half c.requires.fits.pairs c.requires.fits.within in
     let n = fresh-halves es c.insert_entry.new.keys.texts c.insert_entry.new.entries.items
     c.in-Some-insert_entry.upper_keys.texts c.in-Some-insert_entry.upper.items h in
     omega (arith, m, n, ap entries_fresh back, ap half_fresh c.in-Some.is, ap (λ (s : Seen). s.fresh) c.housed.ensures)
@@ -155,11 +177,11 @@ returns-in_default-insert_entry-clause-entries c =
     let keys = c.args.keys.now.texts in
     let kids = c.args.kids.now.items in
     let es : Kids = with_half c.args.place c.args.half (paired keys kids) in
-    let hf : IsHalf (c.args.copies + 1) (c.args.depth - 1) (Some c.in-Some.half) = subst
-    (IsHalf (c.args.copies + 1) (c.args.depth - 1)) c.in-Some.is c.requires.half in
-    let p = putting keys kids c.args.place c.args.copies
-    (c.args.depth - 1) c.in-Some.half c.in-Some-pop.first c.pop.new.self.items c.requires.pairs c.requires.within hf
-    c.in-Some-pop.ensures.items in
+    let hf : IsHalf (c.requires.fits.split.0 + 1) (c.args.depth - 1) (Some c.in-Some.half) = subst
+    (IsHalf (c.requires.fits.split.0 + 1) (c.args.depth - 1)) c.in-Some.is c.requires.fits.split.1 in
+    let p = putting keys kids c.args.place c.requires.fits.split.0
+    (c.args.depth - 1) c.in-Some.half c.in-Some-pop.first c.pop.new.self.items c.requires.fits.pairs
+    c.requires.fits.within hf c.in-Some-pop.ensures.items in
     let back : with_half c.args.place (Some c.in-Some.half) (paired keys kids)
     ≡ es = ap (λ h. with_half c.args.place h (paired keys kids)) (sym c.in-Some.is) in
     let q : insert (paired keys kids) (c.args.place + 1) (c.in-Some-pop.first, Own c.in-Some.half.node)
@@ -174,11 +196,11 @@ returns-clause-entries c =
     let keys = c.args.keys.now.texts in
     let kids = c.args.kids.now.items in
     let es : Kids = with_half c.args.place c.args.half (paired keys kids) in
-    let hf : IsHalf (c.args.copies + 1) (c.args.depth - 1) (Some c.in-Some.half) = subst
-    (IsHalf (c.args.copies + 1) (c.args.depth - 1)) c.in-Some.is c.requires.half in
-    let p = putting keys kids c.args.place c.args.copies
-    (c.args.depth - 1) c.in-Some.half c.in-Some-pop.first c.pop.new.self.items c.requires.pairs c.requires.within hf
-    c.in-Some-pop.ensures.items in
+    let hf : IsHalf (c.requires.fits.split.0 + 1) (c.args.depth - 1) (Some c.in-Some.half) = subst
+    (IsHalf (c.requires.fits.split.0 + 1) (c.args.depth - 1)) c.in-Some.is c.requires.fits.split.1 in
+    let p = putting keys kids c.args.place c.requires.fits.split.0
+    (c.args.depth - 1) c.in-Some.half c.in-Some-pop.first c.pop.new.self.items c.requires.fits.pairs
+    c.requires.fits.within hf c.in-Some-pop.ensures.items in
     let back : with_half c.args.place (Some c.in-Some.half) (paired keys kids)
     ≡ es = ap (λ h. with_half c.args.place h (paired keys kids)) (sym c.in-Some.is) in
     let q : insert (paired keys kids) (c.args.place + 1) (c.in-Some-pop.first, Own c.in-Some.half.node)
@@ -196,11 +218,11 @@ housed-requires c =
     let keys = c.args.keys.now.texts in
     let kids = c.args.kids.now.items in
     let es : Kids = with_half c.args.place c.args.half (paired keys kids) in
-    let hf : IsHalf (c.args.copies + 1) (c.args.depth - 1) (Some c.in-Some.half) = subst
-    (IsHalf (c.args.copies + 1) (c.args.depth - 1)) c.in-Some.is c.requires.half in
-    let p = putting keys kids c.args.place c.args.copies
-    (c.args.depth - 1) c.in-Some.half c.in-Some-pop.first c.pop.new.self.items c.requires.pairs c.requires.within hf
-    c.in-Some-pop.ensures.items in
+    let hf : IsHalf (c.requires.fits.split.0 + 1) (c.args.depth - 1) (Some c.in-Some.half) = subst
+    (IsHalf (c.requires.fits.split.0 + 1) (c.args.depth - 1)) c.in-Some.is c.requires.fits.split.1 in
+    let p = putting keys kids c.args.place c.requires.fits.split.0
+    (c.args.depth - 1) c.in-Some.half c.in-Some-pop.first c.pop.new.self.items c.requires.fits.pairs
+    c.requires.fits.within hf c.in-Some-pop.ensures.items in
     let back : with_half c.args.place (Some c.in-Some.half) (paired keys kids)
     ≡ es = ap (λ h. with_half c.args.place h (paired keys kids)) (sym c.in-Some.is) in
     let q : insert (paired keys kids) (c.args.place + 1) (c.in-Some-pop.first, Own c.in-Some.half.node)
@@ -208,4 +230,26 @@ housed-requires c =
     let h = subst (λ (w : Kids). Parted w c.insert_entry.new.keys.texts c.insert_entry.new.entries.items
     (Some (c.in-Some-insert_entry.upper_keys.texts, c.in-Some-insert_entry.upper.items))) q
     c.in-Some-insert_entry.ensures in
-    c.requires.home (subst IsSome (sym c.in-Some.is) refl) (omega (arith, h.2, p.whole, ap length back))
+    (c.requires.room (subst IsSome (sym c.in-Some.is) refl)).home (omega (arith, h.2, p.whole, ap length back))
+
+pub insert_entry-requires-clause-pairs : goal.insert_entry-requires-clause-pairs
+insert_entry-requires-clause-pairs c = c.requires.fits.pairs
+
+pub insert_entry-requires-clause-few : goal.insert_entry-requires-clause-few
+insert_entry-requires-clause-few c = c.requires.fits.few
+
+pub insert_entry-requires-clause-within : goal.insert_entry-requires-clause-within
+insert_entry-requires-clause-within c = omega (arith, c.requires.fits.within)
+
+pub insert_entry-requires-clause-room : goal.insert_entry-requires-clause-room
+insert_entry-requires-clause-room c =
+    (c.requires.keys_room (subst IsSome (sym c.in-Some.is) refl), c.requires.kids_room)
+
+pub insert_entry-requires-clause-spare_keys : goal.insert_entry-requires-clause-spare_keys
+insert_entry-requires-clause-spare_keys c = (c.requires.room (subst IsSome (sym c.in-Some.is) refl)).empty.0
+
+pub insert_entry-requires-clause-spare_entries : goal.insert_entry-requires-clause-spare_entries
+insert_entry-requires-clause-spare_entries c = (c.requires.room (subst IsSome (sym c.in-Some.is) refl)).empty.1
+
+pub insert_entry-requires-clause-spare_room : goal.insert_entry-requires-clause-spare_room
+insert_entry-requires-clause-spare_room c = (c.requires.room (subst IsSome (sym c.in-Some.is) refl)).spare
