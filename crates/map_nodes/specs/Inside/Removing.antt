@@ -1,6 +1,8 @@
 -- A key removed below a draft's chunk.
 use Rattle.std.specs.Prelude.{◌≡◌, ◌+◌, ◌-◌, ◌<◌, ◌≤◌, ℕ, Bool, false, nat_le, List, [], ◌∷◌, length, Option, Some}
-use Rattle.std.specs.Prelude.{None, IsSome}
+use Rattle.std.specs.Prelude.{None, IsSome, slice_get, slice_index_or}
+use Rattle.std.specs.declared.alloc.Global.{Global}
+use Rattle.std.specs.declared.vec.Vec.{Vec}
 use Rattle.group_history.specs.Map.{Bytes, same_text}
 use Rattle.group_history.specs.declared.refs.Ref.{Ref}
 use Rattle.group_history.specs.Refs.{stamp_of}
@@ -10,11 +12,13 @@ use Rattle.map_chunks.specs.Ends.{IsEnd, IsNoDeeper}
 use Rattle.map_nodes.specs.Inside.Freezing.{kids_places}
 use Rattle.map_chunks.specs.Places.{places_of}
 use Rattle.map_nodes.specs.Inside.Halves.{HasDepth}
-use Rattle.map_nodes.specs.Nodes.{kids_fresh, kids_pieces}
+use Rattle.map_nodes.specs.Nodes.{kids_fresh, kids_pieces, body_pieces, IsNode}
 use Rattle.map_nodes.specs.Inside.Nodes.{child_rows}
 use Rattle.map_nodes.specs.Inside.Scanning.{kid_shown}
+use Rattle.map_chunks.specs.Search.{IsPlace}
 use Rattle.map_chunks.specs.SecondKeys.{second_key}
 use Rattle.map_chunks.specs.Shown.{shown, chunk_rows, rows_or, IsTree}
+use Rattle.map_nodes.specs.declared.nodes.Body.TheVariants.{Inner}
 use Rattle.map_nodes.specs.declared.nodes.OwnChild.{OwnChild}
 use Rattle.map_nodes.specs.declared.nodes.removing.Fate.{Fate}
 use Rattle.map_nodes.specs.declared.nodes.removing.Fate.TheVariants.{Leaves, Stays}
@@ -49,6 +53,16 @@ gives_way (Stays first) entries = false
 abbrev pub CanRemove : Contents → ℕ → Bytes → OwnChild → Type 0
 CanRemove contents below key c = IsTree (child_rows contents below c) × HasDepth below c
     × (0 < length (without key (rows_or (child_rows contents below c))))
+
+-- a chunk with these keys and children shows rows in order, and the key belongs to the child at this place, which has
+-- this fate
+pub record CanRemoveAt (contents : Contents) (depth : ℕ) (keys : List Bytes) (kids : Vec OwnChild Global) (key : Bytes)
+    (at : ℕ) (what : Fate) : Type 0 where
+  pub node : IsNode depth keys (Inner kids)
+  pub tree : IsTree (shown contents (body_pieces depth keys (Inner kids)))
+  pub place : IsPlace key keys at
+  pub fate : (c : OwnChild) → slice_get kids.items at ≡ Some c
+      → IsFate key (slice_index_or keys at []) (rows_or (kid_shown contents c)) what
 
 -- what children show of which there is at most one
 abbrev pub one_shown : Contents → List OwnChild → Option Rows

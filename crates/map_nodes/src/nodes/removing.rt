@@ -21,6 +21,14 @@ enum Fate {
     Stays(Option<Text>),
 }
 
+/// What is done at an inner chunk: the key, the place of the child to which it belongs, and this child's fate.
+#[derive(Drop)]
+struct Removal<'a> {
+    key: &'a str,
+    place: usize,
+    fate: Fate,
+}
+
 /// What stands in the place of a root with fewer than two children.
 #[derive(Drop)]
 enum Heir {

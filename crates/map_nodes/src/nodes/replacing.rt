@@ -21,6 +21,13 @@ use map_chunks::Chunks;
 use map_chunks::search::{place_of, search};
 use std::alloc::Global;
 
+// A value, and the key that has it from now on.
+#[derive(Drop)]
+struct Replacement<'a> {
+    key: &'a str,
+    value: Json,
+}
+
 impl OwnNode {
     /// Puts a value at a key that is there.
     #[cycle(replacing)]
@@ -57,7 +64,14 @@ impl OwnNode {
             }
             Body::Inner(kids) => {
                 let place = place_of(self.keys.as_slice(), key);
-                return replace_child(kids, place, self.depth - 1, alloc, chunks, key, value);
+                return replace_child(
+                    kids,
+                    place,
+                    self.depth - 1,
+                    alloc,
+                    chunks,
+                    Replacement { key, value },
+                );
             }
         }
     }
@@ -70,22 +84,23 @@ fn replace_child<C: Chunks>(
     below: u64,
     alloc: Global,
     chunks: &mut C,
-    key: &str,
-    value: Json,
+    to: Replacement<'_>,
 ) -> Result<(), Stop>
     requires places { AreAll (C.places chunks.old) (kids_places kids.old.items) }
     requires within { place < length kids.old.items }
     requires tree { (c : Childs) → slice_get kids.old.items place ≡ Some c
-        → CanReplace (C.contents chunks.old) below key.now c }
+        → CanReplace (C.contents chunks.old) below to.key.now c }
     ensures grown { Grows C.contents C.places chunks.old chunks.new }
     ensures done { (c : Childs) → slice_get kids.old.items place ≡ Some c
         → OnOk result (ChildChanged (C.contents chunks.new) below place kids.old.items kids.new.items c
-        (Some (finite.put (slice_cmp nat_cmp) key.now value (rows_or (child_rows (C.contents chunks.old) below c))))) }
+        (Some (finite.put (slice_cmp nat_cmp) to.entry.key.now to.entry.value
+        (rows_or (child_rows (C.contents chunks.old) below c))))) }
     ensures places { OnOk result (AreKept (C.places chunks.new) (kids_places kids.old.items)
         (kids_places kids.new.items)) }
     ensures err { OnErr result (kids.new.items ≡ kids.old.items) }
     ensures stopped { IfErr result (λ s. (s ≡ NoMemory) ⊎ C.stops s) }
 {
+    let Replacement { key, value } = to;
     match &mut kids[place] {
         OwnChild::Own(node) => return node.replace(alloc, chunks, key, value),
         OwnChild::Placed(at) => {

@@ -85,16 +85,15 @@ OwnNode::remove-remove_at-requires g t c κs within =
                 (kids_may (g.C.Chunks.places c.args.chunks.now) depth keys c.self.inside.body kids pieces view
                 c.in-Inner.is c.self.invariant c.requires.1.1.1.1.0),
             (
-              subst (IsNode depth keys) c.in-Inner.is c.self.invariant,
-              (
-                subst IsTree (sym (shown_later p q depth keys c.self.inside.body kids pieces c.fate_of.ensures.grown.0
-                    view c.in-Inner.is r.0)) r.0,
-                (
-                  subst (λ w. IsPlace c.args.key.now w c.place_of-place.result) c.as_slice-texts.ensures
-                      c.place_of-place.ensures,
-                  (known.0, known.1),
-                ),
-              ),
+              record {
+                node = subst (IsNode depth keys) c.in-Inner.is c.self.invariant;
+                tree = subst IsTree (sym (shown_later p q depth keys c.self.inside.body kids pieces
+                    c.fate_of.ensures.grown.0 view c.in-Inner.is r.0)) r.0;
+                place = subst (λ w. IsPlace c.args.key.now w c.place_of-place.result) c.as_slice-texts.ensures
+                    c.place_of-place.ensures;
+                fate = known.0;
+              },
+              known.1,
             ),
           ),
         ),
@@ -117,47 +116,51 @@ OwnNode::remove-returns-in-Inner-clause-done g t c =
 pub removing::paths::remove_at-returns-in-Leaves-clause-node :
     goal.removing::paths::remove_at-returns-in-Leaves-clause-node
 removing::paths::remove_at-returns-in-Leaves-clause-node g t c =
-    let r = c.requires.1.1.1.1.1 in
+    let can = c.requires.can in
+    let way = c.args.removal in
     (gone_at (g.C.Chunks.contents c.args.chunks.now) c.args.depth c.args.keys.now.texts c.remove_entry.new.keys.texts
-    c.args.kids.now c.remove_entry.new.entries.items c.args.key.now c.args.place (Placed (record { bits = 0 }))
-    c.args.fate r.0 r.1.0 r.1.1.0 r.1.1.1.0 r.1.1.1.1 c.in-Leaves.is c.in_ok-remove_entry-in-Leaves.ensures.ok.0
-    c.in_ok-remove_entry-in-Leaves.ensures.ok.1).node
+    c.args.kids.now c.remove_entry.new.entries.items way.key.now way.place (Placed (record { bits = 0 }))
+    way.fate can.node can.tree can.place can.fate c.requires.others c.in-Leaves.is
+    c.in_ok-remove_entry-in-Leaves.ensures.ok.0 c.in_ok-remove_entry-in-Leaves.ensures.ok.1).node
 
 pub removing::paths::remove_at-returns-in-Leaves-clause-done :
     goal.removing::paths::remove_at-returns-in-Leaves-clause-done
 removing::paths::remove_at-returns-in-Leaves-clause-done g t c =
-    let r = c.requires.1.1.1.1.1 in
+    let can = c.requires.can in
+    let way = c.args.removal in
     (gone_at (g.C.Chunks.contents c.args.chunks.now) c.args.depth c.args.keys.now.texts c.remove_entry.new.keys.texts
-    c.args.kids.now c.remove_entry.new.entries.items c.args.key.now c.args.place (Placed (record { bits = 0 }))
-    c.args.fate r.0 r.1.0 r.1.1.0 r.1.1.1.0 r.1.1.1.1 c.in-Leaves.is c.in_ok-remove_entry-in-Leaves.ensures.ok.0
-    c.in_ok-remove_entry-in-Leaves.ensures.ok.1).shown_is
+    c.args.kids.now c.remove_entry.new.entries.items way.key.now way.place (Placed (record { bits = 0 }))
+    way.fate can.node can.tree can.place can.fate c.requires.others c.in-Leaves.is
+    c.in_ok-remove_entry-in-Leaves.ensures.ok.0 c.in_ok-remove_entry-in-Leaves.ensures.ok.1).shown_is
 
 pub removing::paths::remove_at-returns-in-Leaves-clause-few :
     goal.removing::paths::remove_at-returns-in-Leaves-clause-few
 removing::paths::remove_at-returns-in-Leaves-clause-few g t c =
-    let r = c.requires.1.1.1.1.1 in
+    let can = c.requires.can in
+    let way = c.args.removal in
     omega (
       arith,
-      fresh-removed c.args.kids.now.items c.args.place,
+      fresh-removed c.args.kids.now.items way.place,
       ap kids_fresh c.in_ok-remove_entry-in-Leaves.ensures.ok.1,
-      r.0.1.0,
+      can.node.1.0,
     )
 
 pub removing::paths::remove_at-remove_child-requires : goal.removing::paths::remove_at-remove_child-requires
 removing::paths::remove_at-remove_child-requires g t c κs within =
-    let r = c.requires.1.1.1.1.1 in (
-      omega (arith, r.0.1.0, c.requires.1.0),
+    let can = c.requires.can in
+    let way = c.args.removal in (
+      omega (arith, can.node.1.0, c.decreases),
       (
         within.0,
         (
           within.1,
           (
-            c.requires.1.1.1.1.0,
+            c.requires.places,
             (
-              omega (arith, r.1.1.0.0, r.0.1.2),
+              omega (arith, can.place.0, can.node.1.2),
               can_at (g.C.Chunks.contents c.args.chunks.now) c.args.depth c.args.keys.now.texts c.args.kids.now
-                  c.args.key.now c.args.place (Placed (record { bits = 0 })) c.args.fate c.in-Stays.first r.0 r.1.0
-                  r.1.1.0 r.1.1.1.0 c.in-Stays.is,
+                  way.key.now way.place (Placed (record { bits = 0 })) way.fate c.in-Stays.first can.node can.tree
+                  can.place can.fate c.in-Stays.is,
             ),
           ),
         ),
@@ -167,33 +170,36 @@ removing::paths::remove_at-remove_child-requires g t c κs within =
 pub removing::paths::remove_at-returns-in-Stays-clause-node :
     goal.removing::paths::remove_at-returns-in-Stays-clause-node
 removing::paths::remove_at-returns-in-Stays-clause-node g t c =
-    let r = c.requires.1.1.1.1.1 in
+    let can = c.requires.can in
+    let way = c.args.removal in
     (stays_at (g.C.Chunks.contents c.args.chunks.now) (g.C.Chunks.contents c.remove_child.new.chunks) c.args.depth
-    c.args.keys.now.texts c.set_first.new.keys.texts c.args.kids.now c.remove_child.new.kids.items c.args.key.now
-    c.args.place (Placed (record { bits = 0 })) c.args.fate c.in-Stays.first c.remove_child.ensures.grown.0
-    r.0 r.1.0 r.1.1.0 r.1.1.1.0 c.in-Stays.is
-    (c.set_first.ensures ∙ ap (lowered c.args.place c.in-Stays.first) c.make_ready.ensures.texts)
+    c.args.keys.now.texts c.set_first.new.keys.texts c.args.kids.now c.remove_child.new.kids.items way.key.now
+    way.place (Placed (record { bits = 0 })) way.fate c.in-Stays.first c.remove_child.ensures.grown.0
+    can.node can.tree can.place can.fate c.in-Stays.is
+    (c.set_first.ensures ∙ ap (lowered way.place c.in-Stays.first) c.make_ready.ensures.texts)
     c.in_ok-remove_child-in-Stays.ensures.done).node
 
 pub removing::paths::remove_at-returns-in-Stays-clause-done :
     goal.removing::paths::remove_at-returns-in-Stays-clause-done
 removing::paths::remove_at-returns-in-Stays-clause-done g t c =
-    let r = c.requires.1.1.1.1.1 in
+    let can = c.requires.can in
+    let way = c.args.removal in
     (stays_at (g.C.Chunks.contents c.args.chunks.now) (g.C.Chunks.contents c.remove_child.new.chunks) c.args.depth
-    c.args.keys.now.texts c.set_first.new.keys.texts c.args.kids.now c.remove_child.new.kids.items c.args.key.now
-    c.args.place (Placed (record { bits = 0 })) c.args.fate c.in-Stays.first c.remove_child.ensures.grown.0
-    r.0 r.1.0 r.1.1.0 r.1.1.1.0 c.in-Stays.is
-    (c.set_first.ensures ∙ ap (lowered c.args.place c.in-Stays.first) c.make_ready.ensures.texts)
+    c.args.keys.now.texts c.set_first.new.keys.texts c.args.kids.now c.remove_child.new.kids.items way.key.now
+    way.place (Placed (record { bits = 0 })) way.fate c.in-Stays.first c.remove_child.ensures.grown.0
+    can.node can.tree can.place can.fate c.in-Stays.is
+    (c.set_first.ensures ∙ ap (lowered way.place c.in-Stays.first) c.make_ready.ensures.texts)
     c.in_ok-remove_child-in-Stays.ensures.done).shown_is
 
 pub removing::paths::remove_at-returns-in-Stays-clause-few : goal.removing::paths::remove_at-returns-in-Stays-clause-few
 removing::paths::remove_at-returns-in-Stays-clause-few g t c =
-    let r = c.requires.1.1.1.1.1 in
+    let can = c.requires.can in
+    let way = c.args.removal in
     let below = c.args.depth - 1 in
     let fact = stays_few (g.C.Chunks.contents c.remove_child.new.chunks) c.args.depth c.args.kids.now.items
-    c.remove_child.new.kids.items c.args.place (Placed (record { bits = 0 }))
-    (λ x. Some (without c.args.key.now (rows_or (child_rows (g.C.Chunks.contents c.args.chunks.now) below x))))
-    (omega (arith, r.1.1.0.0, r.0.1.2)) r.0.1.0 c.in_ok-remove_child-in-Stays.ensures.done in
+    c.remove_child.new.kids.items way.place (Placed (record { bits = 0 }))
+    (λ x. Some (without way.key.now (rows_or (child_rows (g.C.Chunks.contents c.args.chunks.now) below x))))
+    (omega (arith, can.place.0, can.node.1.2)) can.node.1.0 c.in_ok-remove_child-in-Stays.ensures.done in
     omega (arith, fact)
 
 pub removing::paths::remove_child-remove-requires : goal.removing::paths::remove_child-remove-requires
@@ -371,11 +377,12 @@ removing::paths::remove_child-returns-in-Placed-clause-places g t c =
 pub removing::paths::remove_at-returns-in-Leaves-clause-places :
     goal.removing::paths::remove_at-returns-in-Leaves-clause-places
 removing::paths::remove_at-returns-in-Leaves-clause-places g t c =
+    let way = c.args.removal in
     let at_p = g.C.Chunks.places c.args.chunks.now in
     let kids = c.args.kids.now.items in
     subst (λ ks. AreKept at_p (kids_places kids) (kids_places ks)) (sym c.in_ok-remove_entry-in-Leaves.ensures.ok.1)
-    (kept-within at_p (kids_places kids) (kids_places (remove kids c.args.place)) (kids_places kids)
-    (kids-removed kids c.args.place) (kept-same at_p (kids_places kids)))
+    (kept-within at_p (kids_places kids) (kids_places (remove kids way.place)) (kids_places kids)
+    (kids-removed kids way.place) (kept-same at_p (kids_places kids)))
 
 pub OwnNode::remove-returns-in-Leaf-clause-places : goal.OwnNode::remove-returns-in-Leaf-clause-places
 OwnNode::remove-returns-in-Leaf-clause-places g t c =

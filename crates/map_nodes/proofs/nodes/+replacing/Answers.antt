@@ -77,10 +77,11 @@ replacing::replace_child-replace-requires g t c κs within =
     let kids = c.args.kids.now.items in
     let child = c.index_mut.result.now in
     let v = c.deref_mut.ensures.value in
-    let can = subst (CanReplace p c.args.below c.args.key.now) c.in-Own.is
-    (c.requires.1.1.1.1.1.1 child (child_at kids c.args.place
-    (length kids) child refl c.requires.1.1.1.1.1.0 c.index_mut.ensures.value)) in (
-      omega (arith, ap (λ (s : Seen). s.depth) v, can.1, c.requires.1.0),
+    let can = subst (CanReplace p c.args.below c.args.to.key.now) c.in-Own.is
+    (c.requires.tree child (child_at kids c.args.place
+    (length kids) child refl c.requires.within
+    c.index_mut.ensures.value)) in (
+      omega (arith, ap (λ (s : Seen). s.depth) v, can.1, c.decreases),
       (
         within.0,
         (
@@ -88,11 +89,11 @@ replacing::replace_child-replace-requires g t c κs within =
           (
             subst (λ (s : Seen). AreAll may (places_of s.pieces)) (sym v)
                 (own_may may child c.in-Own.node c.in-Own.is
-                (kid_all may kids c.args.place child c.requires.1.1.1.1.1.0 c.index_mut.ensures.value
-                c.requires.1.1.1.1.0)),
+                (kid_all may kids c.args.place child c.requires.within c.index_mut.ensures.value
+                c.requires.places)),
             (
               subst (λ (s : Seen). IsTree (shown p s.pieces)) (sym v) can.0,
-              subst (λ (s : Seen). IsSome (finite.find (slice_cmp nat_cmp) c.args.key.now
+              subst (λ (s : Seen). IsSome (finite.find (slice_cmp nat_cmp) c.args.to.key.now
                   (rows_or (shown p s.pieces)))) (sym v) can.2,
             ),
           ),
@@ -106,19 +107,20 @@ replacing::replace_child-returns-in-Own-clause-done g t c x h =
     let kids = c.args.kids.now.items in
     let child = c.index_mut.result.now in
     let v = c.deref_mut.ensures.value in
-    let can = subst (CanReplace p c.args.below c.args.key.now) c.in-Own.is
-    (c.requires.1.1.1.1.1.1 child (child_at kids c.args.place
-    (length kids) child refl c.requires.1.1.1.1.1.0 c.index_mut.ensures.value)) in
+    let can = subst (CanReplace p c.args.below c.args.to.key.now) c.in-Own.is
+    (c.requires.tree child (child_at kids c.args.place
+    (length kids) child refl c.requires.within
+    c.index_mut.ensures.value)) in
     let n : Kid = with_value c.in-Own.node c.replace.new.self in
-    let e : x ≡ Own c.in-Own.node = indexed_child kids c.args.place child x c.requires.1.1.1.1.1.0
+    let e : x ≡ Own c.in-Own.node = indexed_child kids c.args.place child x c.requires.within
     c.index_mut.ensures.value h ∙ c.in-Own.is in
     both_ok c.replace.result c.replace.ensures.done c.replace.ensures.fresh (λ s f. (
       n,
       refl,
       c.replace.ensures.depth ∙ ap (λ (s : Seen). s.depth) v ∙ can.1,
-      s ∙ ap (λ (m : Seen). Some (finite.put (slice_cmp nat_cmp) c.args.key.now c.args.value
+      s ∙ ap (λ (m : Seen). Some (finite.put (slice_cmp nat_cmp) c.args.to.key.now c.args.to.value
           (rows_or (shown p m.pieces)))) v ∙ ap
-          (λ y. Some (finite.put (slice_cmp nat_cmp) c.args.key.now c.args.value
+          (λ y. Some (finite.put (slice_cmp nat_cmp) c.args.to.key.now c.args.to.value
           (rows_or (child_rows p c.args.below y)))) (sym e),
       omega (arith, f, can.1, ap (λ (s : Seen). s.depth) v, ap (λ (s : Seen). s.fresh) v, ap child_fresh e),
     ))
@@ -136,7 +138,7 @@ replacing::replace_child-returns-in-Own-clause-places g t c =
     let at_q = g.C.Chunks.places c.replace.new.chunks in
     let n : Kid = with_value c.in-Own.node c.replace.new.self in
     on_ok c.replace.result c.replace.ensures.places
-    (λ kept. kept-child at_q kids c.args.place child n c.requires.1.1.1.1.1.0 c.index_mut.ensures.value
+    (λ kept. kept-child at_q kids c.args.place child n c.requires.within c.index_mut.ensures.value
     (subst (λ (x : OwnChild). AreKept at_q (child_places x) (places_of c.replace.new.self.pieces)) (sym c.in-Own.is)
     (subst (λ (s : Seen). AreKept at_q (places_of s.pieces) (places_of c.replace.new.self.pieces))
     c.deref_mut.ensures.value kept)))
@@ -292,18 +294,18 @@ replacing::replace_child-replaced_copy-requires g t c κs within =
     let p = g.C.Chunks.contents c.args.chunks.now in
     let kids = c.args.kids.now.items in
     let child = c.index_mut.result.now in
-    let r = c.requires.1.1.1.1.1 in
-    let can = subst (CanReplace p c.args.below c.args.key.now) c.in-Placed.is
-    (r.1 child (child_at kids c.args.place (length kids) child refl r.0 c.index_mut.ensures.value)) in
+    let can = subst (CanReplace p c.args.below c.args.to.key.now) c.in-Placed.is
+    (c.requires.tree child (child_at kids c.args.place (length kids) child refl c.requires.within
+    c.index_mut.ensures.value)) in
     let may = g.C.Chunks.places c.args.chunks.now in (
-      omega (arith, c.requires.1.0),
+      omega (arith, c.decreases),
       (
         within.0,
         (
           within.1,
           (
             placed_may may child c.in-Placed.at c.in-Placed.is
-                (kid_all may kids c.args.place child r.0 c.index_mut.ensures.value c.requires.1.1.1.1.0),
+                (kid_all may kids c.args.place child c.requires.within c.index_mut.ensures.value c.requires.places),
             can,
           ),
         ),
@@ -315,13 +317,13 @@ replacing::replace_child-returns-in-Placed-clause-done g t c x h =
     let p = g.C.Chunks.contents c.args.chunks.now in
     let kids = c.args.kids.now.items in
     let n = c.in_ok-node-in-Placed.node in
-    let e : x ≡ Placed c.in-Placed.at = indexed_child kids c.args.place c.index_mut.result.now x c.requires.1.1.1.1.1.0
+    let e : x ≡ Placed c.in-Placed.at = indexed_child kids c.args.place c.index_mut.result.now x c.requires.within
     c.index_mut.ensures.value h ∙ c.in-Placed.is in (
       n,
       set-set kids c.args.place (Placed c.in-Placed.at) (Own n),
       c.in_ok-node-in-Placed.ensures.depth,
       c.in_ok-node-in-Placed.ensures.done ∙ ap
-          (λ y. Some (finite.put (slice_cmp nat_cmp) c.args.key.now c.args.value
+          (λ y. Some (finite.put (slice_cmp nat_cmp) c.args.to.key.now c.args.to.value
           (rows_or (child_rows p c.args.below y)))) (sym e),
       omega (arith, c.in_ok-node-in-Placed.ensures.fresh),
     )
@@ -335,7 +337,7 @@ replacing::replace_child-returns-in-Placed-clause-places g t c =
     let n = c.in_ok-node-in-Placed.node in
     subst (λ ks. AreKept at_q (kids_places kids) (kids_places ks))
     (sym (set-set kids c.args.place (Placed c.in-Placed.at) (Own n)))
-    (kept-child at_q kids c.args.place child n c.requires.1.1.1.1.1.0 c.index_mut.ensures.value
+    (kept-child at_q kids c.args.place child n c.requires.within c.index_mut.ensures.value
     (kept-from_none at_q (child_places child) (places_of n.value.pieces) c.in_ok-node-in-Placed.ensures.places))
 
 pub replacing::replaced_copy-copied_child-requires-clause-known :

@@ -1,5 +1,5 @@
 //! A removal on its way down.
-ghost use Rattle.std.specs.Prelude.{◌≡◌, ◌⊎◌, ◌<◌, ◌≤◌, ◌+◌, [], length, slice_get, slice_index_or, Some, IsSome, IfOk};
+ghost use Rattle.std.specs.Prelude.{◌≡◌, ◌⊎◌, ◌<◌, ◌≤◌, ◌+◌, length, slice_get, Some, IsSome, IfOk};
 ghost use Rattle.std.specs.Prelude.{IfErr, OnOk, OnErr, vec_items};
 ghost use Rattle.group_history.specs.Rows.{AreKeys, paired};
 ghost use Rattle.group_history.specs.declared.mutators.Stop.TheVariants.{NoMemory};
@@ -7,18 +7,16 @@ ghost use Rattle.map_nodes.specs.Inside.Halves.{lowered};
 ghost use Rattle.map_nodes.specs.Nodes.{IsNode, body_pieces, body_fresh};
 ghost use Rattle.map_nodes.specs.Inside.Nodes.{ChildChanged, child_rows};
 ghost use Rattle.map_nodes.specs.Removing.{without};
-ghost use Rattle.map_nodes.specs.Inside.Removing.{IsFate, HasOthers, AreLeft, CanRemove};
-ghost use Rattle.map_nodes.specs.Inside.Scanning.{kid_shown};
+ghost use Rattle.map_nodes.specs.Inside.Removing.{HasOthers, AreLeft, CanRemove, CanRemoveAt};
 ghost use Rattle.map_chunks.specs.Places.{Grows, AreAll, AreKept, places_of};
 ghost use Rattle.map_nodes.specs.Inside.Freezing.{kids_places};
-ghost use Rattle.map_chunks.specs.Search.{IsPlace};
 ghost use Rattle.map_chunks.specs.Shown.{shown, IsTree, rows_or};
 ghost use Rattle.map_nodes.specs.declared.nodes.Body.TheVariants as body;
 ghost use Rattle.map_nodes.specs.declared.nodes.OwnChild.{OwnChild as Childs};
 
 use super::super::{Body, OwnChild, OwnNode};
-use super::Fate;
 use super::fates::fate_of;
+use super::{Fate, Removal};
 use group_history::{Json, Stop, Text};
 use map_chunks::Chunks;
 use map_chunks::entries::remove_entry;
@@ -108,31 +106,27 @@ pub(super) fn remove_at<C: Chunks>(
     keys: &mut NodeKeys,
     kids: &mut Vec<OwnChild>,
     depth: u64,
-    place: usize,
-    fate: Fate,
     alloc: Global,
     chunks: &mut C,
-    key: &str,
+    removal: Removal<'_>,
 ) -> Result<(), Stop>
     requires places { AreAll (C.places chunks.old) (kids_places kids.old.items) }
-    requires node { IsNode depth keys.old.texts (body.Inner kids.old) }
-    requires tree { IsTree (shown (C.contents chunks.old) (body_pieces depth keys.old.texts (body.Inner kids.old))) }
-    requires place { IsPlace key.now keys.old.texts place }
-    requires fate { (c : Childs) → slice_get kids.old.items place ≡ Some c
-        → IsFate key.now (slice_index_or keys.old.texts place []) (rows_or (kid_shown (C.contents chunks.old) c)) fate }
-    requires others { HasOthers fate (length keys.old.texts) }
+    requires can { CanRemoveAt (C.contents chunks.old) depth keys.old.texts kids.old removal.key.now removal.place
+        removal.fate }
+    requires others { HasOthers removal.fate (length keys.old.texts) }
     ensures grown { Grows C.contents C.places chunks.old chunks.new }
     ensures node { IsNode depth keys.new.texts (body.Inner kids.new) }
     ensures done { OnOk result (shown (C.contents chunks.new) (body_pieces depth keys.new.texts (body.Inner kids.new))
-        ≡ Some (without key.now (rows_or (shown (C.contents chunks.old)
+        ≡ Some (without removal.entry.key.now (rows_or (shown (C.contents chunks.old)
         (body_pieces depth keys.old.texts (body.Inner kids.old)))))) }
     ensures few { OnOk result (body_fresh (body.Inner kids.new) + 1 ≤ body_fresh (body.Inner kids.old) + depth) }
     ensures places { OnOk result (AreKept (C.places chunks.new) (kids_places kids.old.items)
         (kids_places kids.new.items)) }
-    ensures left { OnOk result (AreLeft fate (length keys.old.texts) (length keys.new.texts)) }
+    ensures left { OnOk result (AreLeft removal.entry.fate (length keys.old.texts) (length keys.new.texts)) }
     ensures err { OnErr result ((keys.new.texts ≡ keys.old.texts) × (kids.new.items ≡ kids.old.items)) }
     ensures stopped { IfErr result (λ s. (s ≡ NoMemory) ⊎ C.stops s) }
 {
+    let Removal { key, place, fate } = removal;
     match fate {
         Fate::Leaves => {
             remove_entry(keys, kids, alloc, place)?;
@@ -177,11 +171,9 @@ impl OwnNode {
                     &mut self.keys,
                     kids,
                     self.depth,
-                    place,
-                    fate,
                     alloc,
                     chunks,
-                    key,
+                    Removal { key, place, fate },
                 );
             }
         }

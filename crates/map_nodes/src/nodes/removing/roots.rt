@@ -1,7 +1,8 @@
 //! A removal in a whole map: a root with fewer than two children gives way to what its last child ends in.
-ghost use Rattle.std.specs.Prelude.{◌≡◌, ◌⊎◌, ◌<◌, ◌≤◌, ◌+◌, ℕ, [], length, slice_get, slice_index_or, None, Some};
+ghost use Rattle.std.specs.Prelude.{◌≡◌, ◌⊎◌, ◌<◌, ◌≤◌, ◌+◌, ℕ, length, None, Some};
 ghost use Rattle.std.specs.Prelude.{IsSome, IfOk, IfErr, OnOk, OnErr, vec_items};
 ghost use Rattle.std.specs.List.{remove};
+ghost use Rattle.group_history.specs.Rows.{AreKeys, paired};
 ghost use Rattle.group_history.specs.declared.mutators.Stop.TheVariants.{NoMemory};
 ghost use Rattle.map_nodes.specs.Inside.Ends as ends;
 ghost use Rattle.map_nodes.specs.Inside.Ends.{end_of_pieces, IsEndBelow, IsKidBelow, IsKidEnd, IsTaken, IfNoDeeper};
@@ -16,19 +17,17 @@ ghost use Rattle.group_history.specs.declared.refs.Ref.{Ref as Reference};
 ghost use Rattle.map_nodes.specs.Inside.Removing as removals;
 ghost use Rattle.map_nodes.specs.Removing.{root_left, without, root_rows, IsWideRoot, IsLowRoot};
 ghost use Rattle.map_nodes.specs.Inside.Removing.{end_places, heir_places, left_fresh, left_places, left_rows};
-ghost use Rattle.map_nodes.specs.Inside.Removing.{one_shown, IsFate, IsHeir, KeptBy, IsWideLeft, IsFirstAt, IsLowHeir};
-ghost use Rattle.map_nodes.specs.Inside.Removing.{IfLowHeir};
+ghost use Rattle.map_nodes.specs.Inside.Removing.{one_shown, CanRemoveAt, IsHeir, KeptBy, IsWideLeft, IsFirstAt};
+ghost use Rattle.map_nodes.specs.Inside.Removing.{IsLowHeir, IfLowHeir};
 ghost use Rattle.map_nodes.specs.Inside.Halves.{HasDepth};
 ghost use Rattle.map_nodes.specs.Inside.Scanning.{kid_shown};
-ghost use Rattle.map_chunks.specs.Search.{IsPlace};
 ghost use Rattle.map_chunks.specs.Shown.{shown, IsTree, rows_or};
-ghost use Rattle.map_nodes.specs.declared.nodes.OwnChild.{OwnChild as Childs};
 
 use super::super::{Body, OwnChild, OwnNode};
 use super::fates::fate_of;
 use super::paths::{remove_at, remove_row};
-use super::{Fate, Heir};
-use group_history::{Ref, Stop};
+use super::{Fate, Heir, Removal};
+use group_history::{Json, Ref, Stop};
 use map_chunks::Chunks;
 use map_chunks::ends::end_placed;
 use map_chunks::keys::NodeKeys;
@@ -202,7 +201,14 @@ fn remove_inner<C: Chunks>(
     let texts = keys.as_slice();
     let place = place_of(texts, key);
     let fate = fate_of(chunks, &texts[place], &kids[place], key)?;
-    remove_fated(keys, kids, depth, place, fate, alloc, chunks, key)
+    remove_fated(
+        keys,
+        kids,
+        depth,
+        alloc,
+        chunks,
+        Removal { key, place, fate },
+    )
 }
 
 // Removes a key below the child at the place, whose fate is known.
@@ -210,22 +216,17 @@ fn remove_fated<C: Chunks>(
     keys: &mut NodeKeys,
     kids: &mut Vec<OwnChild>,
     depth: u64,
-    place: usize,
-    fate: Fate,
     alloc: Global,
     chunks: &mut C,
-    key: &str,
+    removal: Removal<'_>,
 ) -> Result<Option<Heir>, Stop>
     requires places { AreAll (C.places chunks.old) (kids_places kids.old.items) }
-    requires node { IsNode depth keys.old.texts (body.Inner kids.old) }
-    requires tree { IsTree (shown (C.contents chunks.old) (body_pieces depth keys.old.texts (body.Inner kids.old))) }
-    requires place { IsPlace key.now keys.old.texts place }
-    requires fate { (c : Childs) → slice_get kids.old.items place ≡ Some c
-        → IsFate key.now (slice_index_or keys.old.texts place []) (rows_or (kid_shown (C.contents chunks.old) c)) fate }
+    requires can { CanRemoveAt (C.contents chunks.old) depth keys.old.texts kids.old removal.key.now removal.place
+        removal.fate }
     ensures grown { Grows C.contents C.places chunks.old chunks.new }
     ensures node { IfOk result (λ heir. heir ≡ None → IsNode depth keys.new.texts (body.Inner kids.new)) }
     ensures done { IfOk result (λ heir. left_rows (C.contents chunks.new) depth keys.new.texts kids.new.items heir
-        ≡ Some (without key.now (rows_or (shown (C.contents chunks.old)
+        ≡ Some (without removal.entry.key.now (rows_or (shown (C.contents chunks.old)
         (body_pieces depth keys.old.texts (body.Inner kids.old)))))) }
     ensures few { IfOk result (λ heir. left_fresh kids.new.items heir ≤ kids_fresh kids.old.items + depth) }
     ensures deep { IfOk result (IfLowHeir (C.contents chunks.new) depth) }
@@ -237,11 +238,32 @@ fn remove_fated<C: Chunks>(
     ensures err { OnErr result ((keys.new.texts ≡ keys.old.texts) × (kids.new.items ≡ kids.old.items)) }
     ensures stopped { IfErr result (λ s. (s ≡ NoMemory) ⊎ C.stops s) }
 {
-    if gives_way(&fate, kids.len()) {
-        let heir = heir(kids, place, alloc, chunks)?;
+    if gives_way(&removal.fate, kids.len()) {
+        let heir = heir(kids, removal.place, alloc, chunks)?;
         return Ok(Some(heir));
     }
-    remove_at(keys, kids, depth, place, fate, alloc, chunks, key)?;
+    remove_at(keys, kids, depth, alloc, chunks, removal)?;
+    Ok(None)
+}
+
+// Removes a row of a root that is a leaf. It stays the root.
+fn remove_in_root(
+    keys: &mut NodeKeys,
+    values: &mut Vec<Json>,
+    alloc: Global,
+    key: &str,
+) -> Result<Option<Ref>, Stop>
+    requires keys { AreKeys keys.old.texts }
+    requires pairs { length values.old.items ≡ length keys.old.texts }
+    ensures root { IfOk result (λ root. root ≡ None) }
+    ensures rows { IfOk result (λ root. (root ≡ None) × (paired keys.new.texts values.new.items
+        ≡ without key.now (paired keys.old.texts values.old.items))) }
+    ensures keys { AreKeys keys.new.texts }
+    ensures pairs { length values.new.items ≡ length keys.new.texts }
+    ensures err { OnErr result ((keys.new.texts ≡ keys.old.texts) × (values.new.items ≡ values.old.items)) }
+    ensures stopped { IfErr result (λ s. s ≡ NoMemory) }
+{
+    remove_row(keys, values, alloc, key)?;
     Ok(None)
 }
 
@@ -270,8 +292,7 @@ impl OwnNode {
     {
         match &mut self.body {
             Body::Leaf(values) => {
-                remove_row(&mut self.keys, values, alloc, key)?;
-                return Ok(None);
+                return remove_in_root(&mut self.keys, values, alloc, key);
             }
             Body::Inner(kids) => {
                 match remove_inner(&mut self.keys, kids, self.depth, alloc, chunks, key)? {

@@ -1,12 +1,13 @@
-use Rattle.std.proofs.Common.{◌∙◌, ◌-◌, [], ◌∷◌, Some, ap, sym, subst}
+use Rattle.std.proofs.Common.{◌∙◌, ◌-◌, [], ◌∷◌, length, Some, ap, sym, subst}
 use Rattle.group_history.specs.Rows.{paired}
 use Rattle.map_chunks.specs.Places.{AreKept, places_of}
 use Rattle.map_nodes.specs.Inside.Freezing.{kids_places}
 use Rattle.map_nodes.specs.Nodes.{body_pieces, row_pieces, IsNode}
-use Rattle.map_nodes.specs.Removing.{without}
+use Rattle.map_nodes.specs.Removing.{root_left, root_rows, without}
 use Rattle.map_nodes.specs.Inside.Removing.{left_places}
 use Rattle.map_chunks.specs.Shown.{Seen, shown, rows_or, IsTree}
 use Rattle.map_nodes.specs.declared.nodes.Body.TheVariants.{Inner}
+use Rattle.map_chunks.proofs.AnswerLemmas.{if_ok_so}
 use Rattle.map_chunks.proofs.KeptLemmas.{kept-none}
 use Rattle.map_nodes.proofs.NamedLemmas.{own-places, places-kids, places-rows}
 use Rattle.map_nodes.proofs.NodeLemmas.{shown-rows}
@@ -17,18 +18,38 @@ use Rattle.map_nodes.proofs.nodes.OwnNode.remove_root.Goals as goal
 pub returns-in-Leaf-clause-done : goal.returns-in-Leaf-clause-done
 returns-in-Leaf-clause-done g c =
     let p = g.C.Chunks.contents c.args.chunks.now in
-    ap (λ w. shown p (row_pieces w)) c.in_ok-remove_row-in-Leaf.ensures.rows ∙ shown-rows p
+    let keys = c.remove_in_root.new.keys.texts in
+    let rows = paired keys c.remove_in_root.new.values.items in
+    let seen : Seen = record {
+      depth = c.self.inside.depth;
+      entries = length keys;
+      pieces = row_pieces rows;
+      height = 1;
+      fresh = 1;
+    } in
+    if_ok_so c.remove_in_root.result c.remove_in_root.ensures.rows (λ root left.
+    ap (root_rows p seen) left.0 ∙ ap (λ w. shown p (row_pieces w)) left.1 ∙ shown-rows p
     (without c.args.key.now (paired c.self.inside.keys.texts c.in-Leaf.values.items))
     ∙ ap (λ z. Some (without c.args.key.now (rows_or z)))
     (sym (leaf_rows p c.self.inside.depth c.self.inside.keys.texts c.self.inside.body c.in-Leaf.values
-    c.args.self.now.pieces (ap (λ (s : Seen). s.pieces) c.self.view_is) c.in-Leaf.is))
+    c.args.self.now.pieces (ap (λ (s : Seen). s.pieces) c.self.view_is) c.in-Leaf.is)))
 
 pub returns-in-Leaf-clause-places : goal.returns-in-Leaf-clause-places
 returns-in-Leaf-clause-places g c =
     let at_p = g.C.Chunks.places c.args.chunks.now in
     let old = places_of c.args.self.now.pieces in
-    subst (AreKept at_p old) (sym (places-rows (paired c.remove_row.new.keys.texts c.remove_row.new.values.items)))
-    (kept-none at_p old)
+    let keys = c.remove_in_root.new.keys.texts in
+    let rows = paired keys c.remove_in_root.new.values.items in
+    let seen : Seen = record {
+      depth = c.self.inside.depth;
+      entries = length keys;
+      pieces = row_pieces rows;
+      height = 1;
+      fresh = 1;
+    } in
+    if_ok_so c.remove_in_root.result c.remove_in_root.ensures.rows (λ root left.
+    subst (λ r. AreKept at_p old (root_left seen r)) (sym left.0)
+    (subst (AreKept at_p old) (sym (places-rows rows)) (kept-none at_p old)))
 
 pub remove_inner-requires-clause-places : goal.remove_inner-requires-clause-places
 remove_inner-requires-clause-places g c =

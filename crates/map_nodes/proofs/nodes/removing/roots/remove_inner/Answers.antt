@@ -2,6 +2,7 @@ use Rattle.std.proofs.Common.{arith, length, ◌≡◌, ◌∙◌, ◌-◌, ap, 
 use Rattle.std.specs.Prelude.{IsSome}
 use Rattle.map_nodes.specs.Nodes.{body_pieces, IsNode}
 use Rattle.map_nodes.specs.Removing.{without}
+use Rattle.map_chunks.specs.Search.{IsPlace}
 use Rattle.map_chunks.specs.Shown.{rows_or, IsTree}
 use Rattle.map_nodes.specs.declared.nodes.Body.TheVariants.{Inner}
 use Rattle.map_chunks.proofs.AnswerLemmas.{if_ok_so}
@@ -32,18 +33,8 @@ fate_of-requires-clause-tree g c =
     c.place_of-place.ensures c.index.ensures c.requires.tree in
     subst IsSome (sym (kid_shown-at p (c.args.depth - 1) c.index.result.now d.way.here d.way.here_is)) refl
 
-pub remove_fated-requires-clause-tree : goal.remove_fated-requires-clause-tree
-remove_fated-requires-clause-tree g c =
-    let p = g.C.Chunks.contents c.args.chunks.now in
-    let q = g.C.Chunks.contents c.fate_of.new.chunks in
-    subst IsTree
-    (sym (shown_later p q c.args.depth c.args.keys.now.texts (Inner c.args.kids.now) c.args.kids.now
-    (body_pieces c.args.depth c.args.keys.now.texts (Inner c.args.kids.now)) c.fate_of.ensures.grown.0 refl refl
-    c.requires.tree))
-    c.requires.tree
-
-pub remove_fated-requires-clause-fate : goal.remove_fated-requires-clause-fate
-remove_fated-requires-clause-fate g c =
+pub remove_fated-requires-clause-can : goal.remove_fated-requires-clause-can
+remove_fated-requires-clause-can g c =
     let p = g.C.Chunks.contents c.args.chunks.now in
     let q = g.C.Chunks.contents c.fate_of.new.chunks in
     let depth = c.args.depth in
@@ -58,11 +49,16 @@ remove_fated-requires-clause-fate g c =
     (body_pieces c.args.depth c.args.keys.now.texts (Inner c.args.kids.now)) c.as_slice-texts.result.now key i
     c.index.result.now view refl c.requires.node c.as_slice-texts.ensures c.place_of-place.ensures
     c.index.ensures c.requires.tree in
-    let known_fate = fate_later p q depth keys c.as_slice-texts.result.now kids.items
-    (body_pieces c.args.depth c.args.keys.now.texts (Inner c.args.kids.now)) key c.index-texts-place.result i
-    c.index.result.now fate c.fate_of.ensures.grown.0 node.1.2 c.as_slice-texts.ensures
-    c.place_of-place.ensures.0 d c.index.ensures c.index-texts-place.is c.in_ok-fate.ensures.fate in
-    known_fate
+    record {
+      node = node;
+      tree = subst IsTree (sym (shown_later p q depth keys (Inner kids) kids (body_pieces depth keys (Inner kids))
+          c.fate_of.ensures.grown.0 refl refl c.requires.tree)) c.requires.tree;
+      place = subst (λ w. IsPlace key w i) c.as_slice-texts.ensures c.place_of-place.ensures;
+      fate = fate_later p q depth keys c.as_slice-texts.result.now kids.items
+          (body_pieces c.args.depth c.args.keys.now.texts (Inner c.args.kids.now)) key c.index-texts-place.result i
+          c.index.result.now fate c.fate_of.ensures.grown.0 node.1.2 c.as_slice-texts.ensures
+          c.place_of-place.ensures.0 d c.index.ensures c.index-texts-place.is c.in_ok-fate.ensures.fate;
+    }
 
 pub returns-clause-done : goal.returns-clause-done
 returns-clause-done g c =
