@@ -99,9 +99,9 @@ scan_children-loop-place-preserved g t c =
     record {
       grown = grows_on g.C.Chunks.contents g.C.Chunks.places c.args.chunks.now c.loop-place.chunks
           c.scan_placed.new.chunks c.loop-place.invariant.grown c.scan_placed.ensures.grown;
-      rows = pairs_child (ref_rows p) c.args.below.firsts.now c.args.below.children.now c.loop-place.place n.rows c.args.scan.now
-          g.S.TakesRows.has c.args.sink.now c.loop-place.sink c.scan_placed.new.sink c.args.room c.loop-place.left
-          c.in_ok-left.left u.turn c.loop-place.invariant.rows
+      rows = pairs_child (ref_rows p) c.args.below.firsts.now c.args.below.children.now c.loop-place.place n.rows
+          c.args.scan.now g.S.TakesRows.has c.args.sink.now c.loop-place.sink c.scan_placed.new.sink c.args.room
+          c.loop-place.left c.in_ok-left.left u.turn c.loop-place.invariant.rows
           (subst (λ w. Took g.S.TakesRows.has c.loop-place.sink c.scan_placed.new.sink c.loop-place.left
           c.in_ok-left.left (taken c.args.scan.now c.loop-place.left (rows_or w))) u.rows_are
           c.in_ok-left.ensures.rows);

@@ -20,5 +20,6 @@ invariant-scan_children-loop-place g l =
     record {
       grown : Grows g.C.Chunks.contents g.C.Chunks.places l.fn.chunks l.chunks;
       rows : Took g.S.TakesRows.has l.fn.sink l.sink l.fn.room l.left (taken l.scan l.fn.room
-          (first_rows (ref_rows (g.C.Chunks.contents l.fn.chunks)) (paired l.below.firsts.now l.below.children.now) l.place));
+          (first_rows (ref_rows (g.C.Chunks.contents l.fn.chunks)) (paired l.below.firsts.now l.below.children.now)
+          l.place));
     }

@@ -23,8 +23,8 @@ scanning::scan_kids-loop-place-init g t c =
     let n = known (kids_shown p (paired c.args.below.firsts.now c.args.below.kids.now)) r.1.1.0 in
     record {
       grown = (([], append-nil p), λ at h. h);
-      rows = pairs_begun (shown_kid p) c.args.below.firsts.now c.args.below.kids.now c.place_of-place.result n.rows c.args.scan.now
-          c.args.low.now g.S.TakesRows.has c.args.sink.now c.args.room r.1.0 n.is n.order r.1.1.1
+      rows = pairs_begun (shown_kid p) c.args.below.firsts.now c.args.below.kids.now c.place_of-place.result n.rows
+          c.args.scan.now c.args.low.now g.S.TakesRows.has c.args.sink.now c.args.room r.1.0 n.is n.order r.1.1.1
           c.place_of-place.ensures;
     }
 
@@ -61,9 +61,8 @@ scanning::scan_kids-scan_kid-requires g t c κs ws =
     let kid = slice_index_or c.args.below.kids.now c.loop-place.place other in
     let here = got_any c.args.below.kids.now c.loop-place.place other kid
     (omega (arith, r.1.0, c.loop-place-test.true)) in
-    let u = kid_turn p (g.C.Chunks.contents c.loop-place.chunks) c.args.below.firsts.now c.args.below.kids.now c.loop-place.place
-    kid c.loop-place.invariant.grown.0 r.1.0 n
-    c.loop-place-test.true here in
+    let u = kid_turn p (g.C.Chunks.contents c.loop-place.chunks) c.args.below.firsts.now c.args.below.kids.now
+    c.loop-place.place kid c.loop-place.invariant.grown.0 r.1.0 n c.loop-place-test.true here in
     let high = kid_height c.args.below.kids.now c.loop-place.place kid
     (omega (arith, r.1.0, c.loop-place-test.true)) here in
     let may = all_on (g.C.Chunks.places c.args.chunks.now)
@@ -83,15 +82,14 @@ scanning::scan_kids-loop-place-preserved g t c =
     let kid = slice_index_or c.args.below.kids.now c.loop-place.place other in
     let here = got_any c.args.below.kids.now c.loop-place.place other kid
     (omega (arith, r.1.0, c.loop-place-test.true)) in
-    let u = kid_turn p (g.C.Chunks.contents c.loop-place.chunks) c.args.below.firsts.now c.args.below.kids.now c.loop-place.place
-    kid c.loop-place.invariant.grown.0 r.1.0 n
-    c.loop-place-test.true here in
+    let u = kid_turn p (g.C.Chunks.contents c.loop-place.chunks) c.args.below.firsts.now c.args.below.kids.now
+    c.loop-place.place kid c.loop-place.invariant.grown.0 r.1.0 n c.loop-place-test.true here in
     record {
       grown = grows_on g.C.Chunks.contents g.C.Chunks.places c.args.chunks.now c.loop-place.chunks c.scan_kid.new.chunks
           c.loop-place.invariant.grown c.scan_kid.ensures.grown;
-      rows = pairs_child (shown_kid p) c.args.below.firsts.now c.args.below.kids.now c.loop-place.place n.rows c.args.scan.now
-          g.S.TakesRows.has c.args.sink.now c.loop-place.sink c.scan_kid.new.sink c.args.room c.loop-place.left
-          c.in_ok-left.left u.turn c.loop-place.invariant.rows
+      rows = pairs_child (shown_kid p) c.args.below.firsts.now c.args.below.kids.now c.loop-place.place n.rows
+          c.args.scan.now g.S.TakesRows.has c.args.sink.now c.loop-place.sink c.scan_kid.new.sink c.args.room
+          c.loop-place.left c.in_ok-left.left u.turn c.loop-place.invariant.rows
           (subst (λ w. Took g.S.TakesRows.has c.loop-place.sink c.scan_kid.new.sink c.loop-place.left
           c.in_ok-left.left (taken c.args.scan.now c.loop-place.left (rows_or w))) u.rows_are
           c.in_ok-left.ensures.rows);

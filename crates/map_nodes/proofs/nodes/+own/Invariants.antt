@@ -21,5 +21,6 @@ invariant-scanning::scan_kids-loop-place g l =
     record {
       grown : Grows g.C.Chunks.contents g.C.Chunks.places l.fn.chunks l.chunks;
       rows : Took g.S.TakesRows.has l.fn.sink l.sink l.fn.room l.left (taken l.scan l.fn.room
-          (first_rows (shown_kid (g.C.Chunks.contents l.fn.chunks)) (paired l.below.firsts.now l.below.kids.now) l.place));
+          (first_rows (shown_kid (g.C.Chunks.contents l.fn.chunks)) (paired l.below.firsts.now l.below.kids.now)
+          l.place));
     }
