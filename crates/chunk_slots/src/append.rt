@@ -79,6 +79,21 @@ fn no_claims(alloc: Global, seats: u32) -> Result<Vec<NoClaims>, Refusal>
     Ok(all)
 }
 
+// Appends a node of the vector's book.
+fn push_one<R: Wait, M: Means>(
+    rt: &R,
+    nodes: &Boxcar<Placed<M>, Global, InBook>,
+    placed: Placed<M>,
+) -> Result<(), Refusal>
+    requires tag { numbers placed.mark.book ≡ nodes.now.tag }
+    ensures err { IfErr result (λ e. e ≡ NoMemory) }
+{
+    let Ok(_) = nodes.push(rt, placed) else {
+        return Err(Refusal::NoMemory);
+    };
+    Ok(())
+}
+
 // The opening's nodes are the first two.
 fn push_opening<R: Wait, M: Means>(
     alloc: Global,
@@ -90,13 +105,8 @@ fn push_opening<R: Wait, M: Means>(
     requires log { (at : Reference) × (mark.now.log ≡ opening at) }
     ensures err { IfErr result (λ e. e ≡ NoMemory) }
 {
-    let Ok(_) = nodes.push(rt, placed_leaf(alloc, mark)?) else {
-        return Err(Refusal::NoMemory);
-    };
-    let Ok(_) = nodes.push(rt, placed_snapshot(alloc, 0, mark)?) else {
-        return Err(Refusal::NoMemory);
-    };
-    Ok(())
+    push_one(rt, nodes, placed_leaf(alloc, mark)?)?;
+    push_one(rt, nodes, placed_snapshot(alloc, 0, mark)?)
 }
 
 impl<R, M: Means> Append<R, M> {
