@@ -3,7 +3,8 @@
 //! Each takes a JSON array as its arguments, and refuses with a code where they are wrong or where the
 //! value at the key doesn't suit. `tag` alone looks at the reason. What each means is a definition in
 //! `specs/Mutators`, and the clause `ran` of its function says that it is run as that, over any view.
-ghost use Rattle.std.specs.Prelude.{◌≡◌, ◌≤◌, ◌⊎◌, false, Some, IfOk, IfErr, OnOk};
+ghost use Rattle.std.specs.Prelude.{◌≡◌, ◌≤◌, ◌⊎◌, false, codes, Some, IfOk, IfErr, OnOk};
+ghost use Rattle.group_history.specs.Map.{same_text};
 ghost use Rattle.std.specs.Fmt.{signed_decimal};
 ghost use Rattle.std.specs.FinMap as finite;
 ghost use Rattle.serde_json.specs.Data.{depth};
@@ -66,6 +67,27 @@ fn run_named<V: WriteView>(
     if name == "incr" {
         return incr(alloc, args, view);
     }
+    run_other(alloc, name, args, why, view)
+}
+
+// The same for a name that is neither `set` nor `incr`.
+#[tactic(auto, unfolding(crate::specs::Mutators::mutator_of))]
+fn run_other<V: WriteView>(
+    alloc: Global,
+    name: &str,
+    args: &Args<'_>,
+    why: Reason,
+    view: &mut V,
+) -> Result<Ran, Stop>
+    requires shallow { depth (args_value args.now) ≤ 124 }
+    requires whole { has_float (args_value args.now) ≡ false }
+    requires set { same_text name.now (codes "set") ≡ false }
+    requires incr { same_text name.now (codes "incr") ≡ false }
+    ensures ran { IfOk result (λ ran. RunsAs
+        (meaning_at (spec.mutator_of name.now why) (args_value args.now) (V.contents view.old)) ran
+        (V.contents view.new)) }
+    ensures stopped { IfErr result (λ stop. (stop ≡ NoMemory) ⊎ V.stops stop) }
+{
     if name == "del" {
         return del(args, view);
     }
