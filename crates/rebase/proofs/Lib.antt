@@ -9,3 +9,4 @@ mod Telling
 mod Trying
 mod Unread
 mod Polling
+mod Rooting

@@ -9,7 +9,8 @@ ghost use Rattle.group_history.specs.Queries.{rows_at};
 ghost use Rattle.group_history.specs.Record.{after};
 ghost use Rattle.group_history.specs.Refs.{stamp_of};
 ghost use Rattle.group_history.specs.Rows.{Rows};
-ghost use Rattle.group_history.specs.State.{last_id};
+ghost use Rattle.group_history.specs.Spelling.{map_at};
+ghost use Rattle.group_history.specs.State.{last_id, view_of};
 ghost use Rattle.head_word.specs.Books.{drawn, record_of};
 ghost use Rattle.head_word.specs.Marks.{known};
 ghost use Rattle.reader_claims.specs.declared.words.Pin.TheVariants.{Absent};
@@ -18,6 +19,8 @@ ghost use Rattle.chunk_slots.specs.Seats.{IsIdle};
 ghost use Rattle.push_body.specs.Bodies.{pull_text, push_text};
 ghost use Rattle.answered.specs.Answered.{Answers, IsAnswered, IsLeft, IsPoint, own_moves, nothing};
 ghost use Rattle.answered.specs.Trying.{IsBase};
+ghost use Rattle.rebase.specs.declared.views.Rooted.{Rooted as Root};
+ghost use Rattle.rebase.specs.Inside.Rooting.{IsRooted, maps};
 ghost use Rattle.rebase.specs.Queries.{IsHeld, IsMissed, asked, asked_at, gave, told};
 ghost use Rattle.commits.specs.LastIds.{last_at};
 ghost use Rattle.uuid.specs.Text.{hyphenated_text, lower};
@@ -28,7 +31,7 @@ use crate::reading::{Point, ReadTx};
 use crate::seats::Seat;
 use crate::steps::{begin, find_last};
 use crate::tickets::Ticket;
-use crate::views::{cookie_at, root_at};
+use crate::views::{Rooted, cookie_at, root_at};
 use chunk_slots::Slots;
 use commits::LastId;
 use group_history::{Cookie, Means, Ref, Refusal, Scan, Text};
@@ -51,12 +54,15 @@ where
     pub(crate) last: u64,
     // Where the last id was found.
     pub(crate) found: Ref,
+    // What was read last.
+    pub(crate) latest: Option<Rooted>,
     ghost book: { mark.book ≡ group.now.shared.head },
     ghost number: { IsSome mark.seat },
     ghost home: { S.home slots ≡ S.serves group.now.shared.store },
     ghost none: { S.reused → (S.view slots).taken ≡ [] },
     ghost at: { last_at (drawn mark.log) (stamp_of found) id ≡ Some last },
     ghost low: { last < 2 ^ 53 },
+    ghost rooted: { (r : Root) → latest ≡ Some r → IsRooted (drawn mark.log) r } by { Prim.hlevel maps },
 }
 
 impl<'g, M: Means, S: Slots<M>> Client<'g, M, S>
@@ -176,6 +182,19 @@ where
         Ok(found.id)
     }
 
+    // The root of the map at the commit of the head, which is looked at unless it is what was read last.
+    fn root_of(&self, at: Ref, tries: u32) -> Result<Ref, Refusal>
+        requires { IsBase M.means self.now.mark at (after (record_of self.now.mark.log)) }
+        ensures root { IfOk result (λ root. map_at (drawn self.now.mark.log) (stamp_of root)
+            ≡ Some (view_of M.means (after (record_of self.now.mark.log)))) }
+        ensures missed { IfErr result (IsMissed S.reused) }
+    {
+        match &self.latest {
+            Some(latest) if latest.commit == at => Ok(latest.root),
+            _ => root_at(&self.group.shared, &self.mark, at, tries),
+        }
+    }
+
     // Pins the seat, and finds the commit at the head and its root. The pin is taken away where that is refused.
     pub(crate) fn point(&mut self, tries: u32) -> Result<Point<M>, Refusal>
         ensures point { IfOk result (λ at. IsPoint M.means self.old.mark self.new.mark None at.log
@@ -190,8 +209,9 @@ where
             × (self.new.last ≡ self.old.last) }
     {
         let at = self.begin(tries)?;
-        match root_at(&self.group.shared, &self.mark, at, tries) {
+        match self.root_of(at, tries) {
             Ok(root) => {
+                self.latest = Some(Rooted { commit: at, root });
                 return Ok(Point::new(&self.mark, at, root));
             }
             Err(e) => {
@@ -257,6 +277,7 @@ where
             id: _,
             last: _,
             found: _,
+            latest: _,
         } = client;
         Seat { slots, mark }
     }
@@ -341,6 +362,7 @@ where
                     id,
                     last: found.id,
                     found: found.at,
+                    latest: None,
                 });
             }
             Err(e) => {

@@ -19,6 +19,13 @@ use head_word::Mark;
 use std::marker::Brand;
 use transactions::{Fixed, Known};
 
+/// A commit, and the root of the map that queries read at it.
+#[derive(Clone, Copy)]
+pub(crate) struct Rooted {
+    pub(crate) commit: Ref,
+    pub(crate) root: Ref,
+}
+
 fn root_known<N: Nodes + Copy, K: Known>(nodes: N, at: Ref) -> Result<Ref, Stop>
     requires known { N.contents nodes ≡ K.known }
     requires version { IsSome (version_at K.known (stamp_of at)) }

@@ -3,6 +3,7 @@ use Rattle.head_word.specs.Books.{drawn}
 use Rattle.commits.specs.declared.states.LastId.{LastId}
 use Rattle.rebase.proofs.Finding.{last_grown}
 use Rattle.rebase.proofs.Trying.{may_ask_next}
+use Rattle.rebase.proofs.Rooting.{roots_stay}
 use Rattle.rebase.proofs.client.Client.change.Goals as goal
 
 pub make_change-made-requires-clause-asks : goal.make_change-made-requires-clause-asks
@@ -14,3 +15,8 @@ pub invariant_of-self-clause-at : goal.invariant_of-self-clause-at
 invariant_of-self-clause-at g c =
     let client = c.args.self.now in last_grown client.mark.log c.make_change-made.new.mark.log
     (stamp_of client.found) client.id client.last c.make_change-made.ensures.seen client.at
+
+pub invariant_of-self-clause-rooted : goal.invariant_of-self-clause-rooted
+invariant_of-self-clause-rooted g c =
+    let client = c.args.self.now in
+    roots_stay client.mark.log c.make_change-made.new.mark.log client.latest c.make_change-made.ensures.seen client.rooted
