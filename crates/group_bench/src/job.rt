@@ -144,18 +144,29 @@ fn asked(alloc: Global, keys: u64, count: u64) -> Result<Vec<Text>, Refusal> {
     Ok(asked)
 }
 
+// The same keys each time, by one reading each or by one for all.
+fn get_once<K: CpuClock>(
+    clock: &K,
+    filled: &mut Filled<'_>,
+    keys: &[Text],
+    out: &mut Vec<u8>,
+    in_one: bool,
+) -> anyhow::Result<u64> {
+    let start = clock.thread_cpu_time()?;
+    if in_one {
+        get_each_in_one(filled, keys, out)?;
+    } else {
+        get_each(filled, keys, out)?;
+    }
+    since(clock, start, GETS)
+}
+
 fn gets<K: CpuClock>(clock: &K, filled: &mut Filled<'_>, in_one: bool) -> anyhow::Result<u64> {
     let keys = asked(filled.alloc, filled.keys, GETS)?;
     let mut out = Vec::new(filled.alloc);
     let mut best = u64::MAX;
     for _ in 0..7 {
-        let start = clock.thread_cpu_time()?;
-        if in_one {
-            get_each_in_one(filled, &keys, &mut out)?;
-        } else {
-            get_each(filled, &keys, &mut out)?;
-        }
-        best = best.min(since(clock, start, GETS)?);
+        best = best.min(get_once(clock, filled, &keys, &mut out, in_one)?);
     }
     Ok(best)
 }
@@ -195,19 +206,22 @@ fn pull<K: CpuClock>(clock: &K, filled: &mut Filled<'_>) -> anyhow::Result<u64> 
     since(clock, start, 1)
 }
 
-fn rebases<K: CpuClock>(clock: &K, filled: &mut Filled<'_>, pending: u64) -> anyhow::Result<u64> {
-    filled.add(pending)?;
-    let one = Puts {
+fn rebase_once<K: CpuClock>(clock: &K, filled: &mut Filled<'_>) -> anyhow::Result<u64> {
+    let body = filled.response_of_none(Puts {
         from: 7,
         count: 1,
         counters: false,
-    };
+    })?;
+    let start = clock.thread_cpu_time()?;
+    filled.end(&body)?;
+    since(clock, start, 1)
+}
+
+fn rebases<K: CpuClock>(clock: &K, filled: &mut Filled<'_>, pending: u64) -> anyhow::Result<u64> {
+    filled.add(pending)?;
     let mut best = u64::MAX;
     for _ in 0..7 {
-        let body = filled.response_of_none(one)?;
-        let start = clock.thread_cpu_time()?;
-        filled.end(&body)?;
-        best = best.min(since(clock, start, 1)?);
+        best = best.min(rebase_once(clock, filled)?);
     }
     Ok(best)
 }
@@ -261,15 +275,19 @@ fn pushes<K: CpuClock>(clock: &K, filled: &mut Filled<'_>, pending: u64) -> anyh
     Ok(best)
 }
 
+fn read_once<K: CpuClock>(clock: &K, alloc: Global, body: &[u8]) -> anyhow::Result<u64> {
+    let start = clock.thread_cpu_time()?;
+    let response = read_response(alloc, body)?;
+    drop(response);
+    since(clock, start, 1)
+}
+
 fn reads<K: CpuClock>(clock: &K, filled: &mut Filled<'_>) -> anyhow::Result<u64> {
     let count = filled.keys;
     let body = filled.response(Puts { count, ..NOTHING })?;
     let mut best = u64::MAX;
     for _ in 0..15 {
-        let start = clock.thread_cpu_time()?;
-        let response = read_response(filled.alloc, &body)?;
-        drop(response);
-        best = best.min(since(clock, start, 1)?);
+        best = best.min(read_once(clock, filled.alloc, &body)?);
     }
     Ok(best)
 }

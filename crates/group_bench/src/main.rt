@@ -16,6 +16,7 @@ mod readers;
 mod written;
 
 use job::{Job, Kind};
+use readers::Measured;
 use std::alloc::Global;
 use std::io::{Read, Write};
 use std::process::ExitCode;
@@ -27,6 +28,25 @@ fn numbers_of(numbers: &str) -> Option<(u64, u64)> {
     Some((keys.parse::<u64>().ok()?, pending.parse::<u64>().ok()?))
 }
 
+// What was measured of a job, and its unit.
+#[derive(Clone, Copy)]
+struct Figure<'a> {
+    name: &'a str,
+    value: u64,
+    unit: &'a str,
+}
+
+fn print_figure<W: Write>(
+    out: &mut W,
+    figure: Figure<'_>,
+    keys: u64,
+    pending: u64,
+) -> anyhow::Result<()> {
+    let (name, value, unit) = (figure.name, figure.value, figure.unit);
+    writeln!(out, "{name}\tgroup\t{keys}\t{pending}\t{value}\t{unit}")?;
+    Ok(())
+}
+
 fn run_job<K: CpuClock, W: Write>(
     clock: &K,
     alloc: Global,
@@ -34,10 +54,31 @@ fn run_job<K: CpuClock, W: Write>(
     name: &str,
     job: Job,
 ) -> anyhow::Result<()> {
-    let time = groups::run(clock, alloc, job)?;
-    let (keys, pending) = (job.keys, job.pending);
-    writeln!(out, "{name}\tgroup\t{keys}\t{pending}\t{time}\tns")?;
-    Ok(())
+    let value = groups::run(clock, alloc, job)?;
+    let unit = "ns";
+    print_figure(out, Figure { name, value, unit }, job.keys, job.pending)
+}
+
+// What three readers and a writer did.
+fn figures_of(told: Measured) -> [Figure<'static>; 3] {
+    let rate = "a second";
+    [
+        Figure {
+            name: "readers_gets",
+            value: told.gets,
+            unit: rate,
+        },
+        Figure {
+            name: "readers_mutations",
+            value: told.mutations,
+            unit: rate,
+        },
+        Figure {
+            name: "readers_pause_999",
+            value: told.pause,
+            unit: "ns",
+        },
+    ]
 }
 
 fn run_readers<R: Threads + Clock + Sync, W: Write>(
@@ -48,19 +89,9 @@ fn run_readers<R: Threads + Clock + Sync, W: Write>(
     every: u64,
 ) -> anyhow::Result<()> {
     let told = readers::run(rt, alloc, keys, every)?;
-    let (gets, mutations, pause) = (told.gets, told.mutations, told.pause);
-    writeln!(
-        out,
-        "readers_gets\tgroup\t{keys}\t{every}\t{gets}\ta second"
-    )?;
-    writeln!(
-        out,
-        "readers_mutations\tgroup\t{keys}\t{every}\t{mutations}\ta second"
-    )?;
-    writeln!(
-        out,
-        "readers_pause_999\tgroup\t{keys}\t{every}\t{pause}\tns"
-    )?;
+    for figure in figures_of(told) {
+        print_figure(out, figure, keys, every)?;
+    }
     Ok(())
 }
 
@@ -114,6 +145,18 @@ fn print_names<W: Write>(out: &mut W) -> anyhow::Result<()> {
     Ok(())
 }
 
+fn run_lines<R: Threads + Clock + CpuClock + Sync, W: Write>(
+    rt: &R,
+    alloc: Global,
+    out: &mut W,
+    text: &str,
+) -> anyhow::Result<()> {
+    for line in text.lines() {
+        run_line(rt, alloc, out, line)?;
+    }
+    Ok(())
+}
+
 fn program<R: Threads + Clock + CpuClock + Sync, I: Read, W: Write>(
     rt: &R,
     alloc: Global,
@@ -125,10 +168,7 @@ fn program<R: Threads + Clock + CpuClock + Sync, I: Read, W: Write>(
     if text.is_empty() {
         return print_names(out);
     }
-    for line in str::from_utf8(&text)?.lines() {
-        run_line(rt, alloc, out, line)?;
-    }
-    Ok(())
+    run_lines(rt, alloc, out, str::from_utf8(&text)?)
 }
 
 fn main(rt: HostRuntime) -> ExitCode {

@@ -179,6 +179,16 @@ fn two_ask<R: Threads + Clock + Sync>(
     Ok(pauses)
 }
 
+// The pauses of all three readers beside what the writer did, where nobody was refused.
+fn all_told(
+    two: Result<Pauses, Refusal>,
+    third: (Result<Pauses, Refusal>, Result<u64, Refusal>),
+) -> Result<(Pauses, u64), Refusal> {
+    let (mut pauses, made) = both((two, third.1))?;
+    pauses.add_all(&third.0?);
+    Ok((pauses, made))
+}
+
 // The pauses of three readers, and how often the writer mutated.
 fn four_run<R: Threads + Clock + Sync>(
     rt: &R,
@@ -192,7 +202,7 @@ fn four_run<R: Threads + Clock + Sync>(
     let Some((third, two)) = readers.split_first_mut() else {
         return Err(Refusal::NoSeat);
     };
-    let told = join(
+    let (two, third) = join(
         rt,
         || two_ask(rt, alloc, two, keys, &stop),
         || {
@@ -203,29 +213,25 @@ fn four_run<R: Threads + Clock + Sync>(
             )
         },
     );
-    let (pauses, (more, made)) = told;
-    let (mut pauses, made) = both((pauses, made))?;
-    pauses.add_all(&more?);
-    Ok((pauses, made))
+    all_told(two, third)
 }
 
-// A client on the next seat, that reads.
-fn reader_of<'g>(
+// One reader more: a client on the next seat.
+fn add_reader<'g>(
     alloc: Global,
     group: &'g Shared,
     seats: &mut Seats<ScriptMutators, Store>,
+    readers: &mut Vec<Reader<'g>>,
     id: &str,
-) -> Result<Reader<'g>, Refusal>
+) -> Result<(), Refusal>
     requires { All (λ seat. (seat.mark.book ≡ group.now.shared.head)
         × (seat.slots.table ≡ group.now.shared.store.claims)) seats.old.free.items }
     ensures { All (λ seat. (seat.mark.book ≡ group.now.shared.head)
         × (seat.slots.table ≡ group.now.shared.store.claims)) seats.new.free.items }
 {
     let client = client_of(group, seats, id)?;
-    Ok(Reader {
-        client,
-        out: Vec::new(alloc),
-    })
+    let out = Vec::new(alloc);
+    Ok(readers.push(Reader { client, out })?)
 }
 
 fn readers_of<'g>(
@@ -237,9 +243,9 @@ fn readers_of<'g>(
         × (seat.slots.table ≡ group.now.shared.store.claims)) seats.old.free.items }
 {
     let mut readers = Vec::new(alloc);
-    readers.push(reader_of(alloc, group, seats, A)?)?;
-    readers.push(reader_of(alloc, group, seats, B)?)?;
-    readers.push(reader_of(alloc, group, seats, C)?)?;
+    add_reader(alloc, group, seats, &mut readers, A)?;
+    add_reader(alloc, group, seats, &mut readers, B)?;
+    add_reader(alloc, group, seats, &mut readers, C)?;
     Ok(readers)
 }
 
