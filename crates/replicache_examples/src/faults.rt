@@ -38,14 +38,24 @@ fn is_told_of<R: AllocGlobal + Threads + Wait + Sync>(
     }
 }
 
-fn tell_blocks<R: AllocGlobal + Threads + Wait + Sync>(rt: &HostRuntime, on: &R) -> io::Result<()> {
-    let blocks = fs::read_to_string(rt, "faults/faults")?;
+// How many of the blocks are as told.
+fn count_told<R: AllocGlobal + Threads + Wait + Sync>(
+    rt: &HostRuntime,
+    on: &R,
+    blocks: &str,
+) -> io::Result<u64> {
     let mut as_told = 0u64;
-    for block in blocks.as_str().split("\n% ").skip(1) {
+    for block in blocks.split("\n% ").skip(1) {
         if is_told_of(rt, on, block)? {
             as_told = as_told.saturating_add(1);
         }
     }
+    Ok(as_told)
+}
+
+fn tell_blocks<R: AllocGlobal + Threads + Wait + Sync>(rt: &HostRuntime, on: &R) -> io::Result<()> {
+    let blocks = fs::read_to_string(rt, "faults/faults")?;
+    let as_told = count_told(rt, on, blocks.as_str())?;
     println!(rt; "faults: {as_told} as told")
 }
 

@@ -50,11 +50,17 @@ fn names(node: &Node<Ref>) -> Option<[Ref; 3]> {
     }
 }
 
+/// What the closing names once the drafted nodes are placed.
+fn names_once_placed(alloc: Global) -> Result<Option<[Ref; 3]>, Refusal> {
+    let node = closing(alloc)?.renamed(1, &placed());
+    Ok(names(&node))
+}
+
 #[test]
 fn drafted_children_are_renamed(rt: HostRuntime) -> Result<(), Refusal> {
     assert!(rt; chunk_is_renamed(rt.alloc())?);
     assert_eq!(rt;
-        names(&closing(rt.alloc())?.renamed(1, &placed())),
+        names_once_placed(rt.alloc())?,
         Some([Ref::new(50, 7), at(0), Ref::new(51, 8)])
     );
     Ok(())

@@ -114,7 +114,7 @@ fn both_answer(alloc: Global, scan: &Scan, want: &str) -> Result<bool, Refusal> 
 /// A prefix, from where, how many rows at most, and the numbers of the keys.
 struct Case(&'static str, From, Option<u64>, &'static str);
 
-const FROM_ANY: [Case; 6] = [
+static FROM_ANY: [Case; 6] = [
     Case("k0", From::Any, None, "01 02 03 04 05 06 07 08 09 "),
     Case("", From::Any, Some(0), ""),
     Case("", From::Any, Some(1), "01 "),
@@ -123,7 +123,7 @@ const FROM_ANY: [Case; 6] = [
     Case("k2", From::Any, None, ""),
 ];
 
-const FROM_A_KEY: [Case; 7] = [
+static FROM_A_KEY: [Case; 7] = [
     Case("", From::At("k07"), Some(3), "07 08 09 "),
     Case("", From::At("k075"), Some(2), "08 09 "),
     Case("", From::After("k08"), Some(1), "09 "),

@@ -42,27 +42,49 @@ fn reads(text: &Text, bytes: &[u8]) -> bool {
     text.as_str().as_bytes() == bytes
 }
 
+/// Whether a text that holds a copy of the sample answers its bytes, and equals this one.
+fn held_is_equal(text: &Text, sample: &String) -> Result<bool, AllocError> {
+    let held = Text::from_string(sample.clone()?)?;
+    Ok(reads(&held, sample.as_bytes()) && *text == held)
+}
+
+/// Whether a text of the sample answers its bytes, and one that holds a copy of it is the same.
+fn both_answer_bytes(alloc: Global, sample: &String) -> Result<bool, AllocError> {
+    let text = Text::new(alloc, sample.as_str())?;
+    Ok(reads(&text, sample.as_bytes()) && held_is_equal(&text, sample)?)
+}
+
 #[test]
 fn texts_answer_their_bytes(rt: HostRuntime) -> Result<(), Refusal> {
     for sample in samples(rt.alloc())? {
-        let text = Text::new(rt.alloc(), sample.as_str())?;
-        assert!(rt; reads(&text, sample.as_bytes()));
-        let held = Text::from_string(sample.clone()?)?;
-        assert!(rt; reads(&held, sample.as_bytes()));
-        assert!(rt; text == held);
+        assert!(rt; both_answer_bytes(rt.alloc(), &sample)?);
     }
     Ok(())
+}
+
+/// A clone of a text of the sample. The text is dropped first.
+fn clone_of_dropped(alloc: Global, sample: &str) -> Result<Text, AllocError> {
+    let text = Text::new(alloc, sample)?;
+    let copy = text.clone()?;
+    drop(text);
+    Ok(copy)
+}
+
+fn equals_its_clone(text: &Text) -> Result<bool, AllocError> {
+    let again = text.clone()?;
+    Ok(again == *text)
+}
+
+/// Whether the clone of a text that is dropped answers the sample's bytes, and equals a clone of its own.
+fn clone_stays(alloc: Global, sample: &str) -> Result<bool, AllocError> {
+    let copy = clone_of_dropped(alloc, sample)?;
+    Ok(reads(&copy, sample.as_bytes()) && equals_its_clone(&copy)?)
 }
 
 #[test]
 fn clones_of_texts_are_equal(rt: HostRuntime) -> Result<(), Refusal> {
     for sample in samples(rt.alloc())? {
-        let text = Text::new(rt.alloc(), sample.as_str())?;
-        let copy = text.clone()?;
-        drop(text);
-        assert!(rt; reads(&copy, sample.as_bytes()));
-        let again = copy.clone()?;
-        assert!(rt; again == copy);
+        assert!(rt; clone_stays(rt.alloc(), sample.as_str())?);
     }
     Ok(())
 }
@@ -85,12 +107,17 @@ fn texts_are_ordered_by_their_bytes(rt: HostRuntime) -> Result<(), Refusal> {
     Ok(())
 }
 
+/// Whether a text of the sample is printed as the sample.
+fn is_printed(alloc: Global, sample: &str) -> Result<bool, AllocError> {
+    let text = Text::new(alloc, sample)?;
+    let printed = format!(in alloc; "{text}")?;
+    Ok(printed.as_str() == sample)
+}
+
 #[test]
 fn texts_are_printed_as_they_are(rt: HostRuntime) -> Result<(), Refusal> {
     for sample in samples(rt.alloc())? {
-        let text = Text::new(rt.alloc(), sample.as_str())?;
-        let printed = format!(in rt.alloc(); "{text}")?;
-        assert!(rt; printed.as_str() == sample.as_str());
+        assert!(rt; is_printed(rt.alloc(), sample.as_str())?);
     }
     Ok(())
 }

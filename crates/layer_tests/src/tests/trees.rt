@@ -125,7 +125,20 @@ fn scans(alloc: Global, scan: &Scan, keys: &str) -> Result<bool, Refusal> {
     let nodes = VecChunks::new(alloc);
     let mut chunks = nodes.shelf();
     let tree = grown(alloc, &mut chunks, 2, 17)?;
-    let rows = tree.scan(alloc, &mut chunks, scan)?;
+    finds(alloc, &mut chunks, &tree, scan, keys)
+}
+
+/// Whether a scan of a map has these keys.
+fn finds(
+    alloc: Global,
+    chunks: &mut Shelf<'_>,
+    tree: &Tree,
+    scan: &Scan,
+    keys: &str,
+) -> Result<bool, Refusal>
+    requires { IsSome (tree_map (map content_of chunks.old.nodes.now) tree.now) }
+{
+    let rows = tree.scan(alloc, chunks, scan)?;
     are_keys(alloc, &rows, keys)
 }
 
@@ -351,9 +364,30 @@ fn removed_staged<'a, C: Chunks + Copy, K: Known>(
     requires map { IsSome (map_at (with_nodes K.known draft.now.nodes) (stamp_of root)) }
 {
     let mut staged = Staged::<'a, C, K>::new(chunks, draft);
-    let fresh = new_after_del::<Staged<'a, C, K>>(alloc, &mut staged, root, key.as_str())?;
-    let has = Tree::at(root).has::<Staged<'a, C, K>>(&mut staged, "k01")?;
+    removed_in::<Staged<'a, C, K>>(alloc, &mut staged, root, key.as_str())
+}
+
+/// The same of a placed map.
+fn removed_in<C: Chunks>(
+    alloc: Global,
+    chunks: &mut C,
+    root: Ref,
+    key: &str,
+) -> Result<(u64, bool), Refusal>
+    requires known { IsSome (map_at (C.contents chunks.old) (stamp_of root)) }
+    requires place { C.places chunks.old root }
+{
+    let fresh = new_after_del(alloc, chunks, root, key)?;
+    let has = has_first(chunks, root)?;
     Ok((fresh, has))
+}
+
+/// Whether a placed map has the first key.
+fn has_first<C: Chunks>(chunks: &mut C, root: Ref) -> Result<bool, Refusal>
+    requires known { IsSome (map_at (C.contents chunks.old) (stamp_of root)) }
+    requires place { C.places chunks.old root }
+{
+    Ok(Tree::at(root).has(chunks, "k01")?)
 }
 
 const REMOVED: [(&str, u64); 5] = [("k00", 0), ("k18", 0), ("k01", 2), ("k09", 2), ("k17", 2)];

@@ -160,8 +160,15 @@ where
         requires { stamp_of base ≡ 1 }
     {
         let cookie = first_cookie(alloc)?;
-        let refs = self.places(alloc, &cookie)?;
-        let ended = self.publishes(alloc, base, &cookie, &refs)?;
+        self.pulls_to(alloc, base, &cookie)
+    }
+
+    // Makes the first pull, which brings this cookie.
+    fn pulls_to(&mut self, alloc: Global, base: Ref, cookie: &Cookie) -> Result<Pulled, Refusal>
+        requires { stamp_of base ≡ 1 }
+    {
+        let refs = self.places(alloc, cookie)?;
+        let ended = self.publishes(alloc, base, cookie, &refs)?;
         Ok(Pulled {
             ended,
             leaf: place_of(Ref::new(2, 0), 2, &refs),
@@ -214,6 +221,15 @@ where
         }
     }
 
+    // Makes the first pull. Answers where the opening commit is, over which it was made.
+    fn pulls_first(&mut self, alloc: Global) -> Result<Ref, Refusal>
+        ensures { IfOk result (λ at. stamp_of at ≡ 1) }
+    {
+        let base = self.opening()?;
+        self.pulls(alloc, base)?;
+        Ok(base)
+    }
+
     fn pins(&mut self) -> bool {
         self.shared.store.pin(&mut self.seat, 100).is_ok()
     }
@@ -244,6 +260,22 @@ struct Pulls {
     root: Result<Ref, Stop>,
 }
 
+// How a pull by each of two seats ended, one after the other, both over the opening commit.
+fn both_pull<S: Store<Nobody>>(
+    one: &mut Place<'_, S>,
+    two: &mut Place<'_, S>,
+    alloc: Global,
+    base: Ref,
+) -> Result<(Pulled, Pulled), Refusal>
+where
+    S::Seat: Drop,
+    requires { stamp_of base ≡ 1 }
+{
+    let first = one.pulls(alloc, base)?;
+    let second = two.pulls(alloc, base)?;
+    Ok((first, second))
+}
+
 fn pulls_of<S: Store<Nobody>>(
     one: &mut Place<'_, S>,
     two: &mut Place<'_, S>,
@@ -254,8 +286,7 @@ where
 {
     let base = one.opening()?;
     let others = two.places_leaves(alloc, 0)?;
-    let won = one.pulls(alloc, base)?;
-    let lost = two.pulls(alloc, base)?;
+    let (won, lost) = both_pull(one, two, alloc, base)?;
     let (head, root) = root_at_head(two);
     Ok(Pulls {
         others,
@@ -354,8 +385,7 @@ fn lost_beside<S: Store<Nobody>>(
 where
     S::Seat: Drop,
 {
-    let base = one.opening()?;
-    one.pulls(alloc, base)?;
+    let base = one.pulls_first(alloc)?;
     let pinned = one.pins();
     let beside = lost_of(two, alloc, base, 10)?;
     one.unpins();
@@ -410,7 +440,47 @@ fn unless_full(placed: Result<usize, Refusal>) -> Result<Option<usize>, Refusal>
     }
 }
 
+// Drafts of eleven leaves and of ten, which are given up.
+fn abandon_two<S: Store<Nobody>>(
+    place: &mut Place<'_, S>,
+    alloc: Global,
+) -> Result<[Option<usize>; 2], Refusal>
+where
+    S::Seat: Drop,
+{
+    Ok([
+        unless_full(place.abandons_leaves(alloc, 10))?,
+        unless_full(place.abandons_leaves(alloc, 9))?,
+    ])
+}
+
+// Drafts of ten leaves and of one.
+fn place_two<S: Store<Nobody>>(
+    place: &mut Place<'_, S>,
+    alloc: Global,
+) -> Result<[Option<usize>; 2], Refusal>
+where
+    S::Seat: Drop,
+{
+    Ok([
+        unless_full(place.places_leaves(alloc, 9))?,
+        unless_full(place.places_leaves(alloc, 0))?,
+    ])
+}
+
 // Drafts of eleven leaves and of ten, which are given up, and of ten and of one.
+fn crowd_of<S: Store<Nobody>>(
+    place: &mut Place<'_, S>,
+    alloc: Global,
+) -> Result<[Option<usize>; 4], Refusal>
+where
+    S::Seat: Drop,
+{
+    let [eleven, ten] = abandon_two(place, alloc)?;
+    let [again, one] = place_two(place, alloc)?;
+    Ok([eleven, ten, again, one])
+}
+
 fn crowd<S: Store<Nobody>>(
     shared: &Shared<Nobody, S>,
     seats: &mut Vec<S::Seat>,
@@ -424,12 +494,7 @@ where
     requires marks { All (HasSeat shared.now.head) marks.old.items }
 {
     let mut place = next_place(shared, seats, marks)?;
-    Ok([
-        unless_full(place.abandons_leaves(alloc, 10))?,
-        unless_full(place.abandons_leaves(alloc, 9))?,
-        unless_full(place.places_leaves(alloc, 9))?,
-        unless_full(place.places_leaves(alloc, 0))?,
-    ])
+    crowd_of(&mut place, alloc)
 }
 
 fn crowd_in_new<S: Store<Nobody> + Drop>(

@@ -163,6 +163,28 @@ where
     })
 }
 
+// Places for the next two seats.
+fn two_places<'a, S: Store<Nobody>>(
+    store: &'a S,
+    head: &'a Head<Nobody>,
+    seats: &mut Vec<S::Seat>,
+    marks: &mut Vec<Mark<Nobody>>,
+) -> Result<(Place<'a, S>, Place<'a, S>), Refusal>
+where
+    S::Seat: Drop,
+    requires book { S.book store.now ≡ head.now }
+    requires seats { All (λ seat. (S.home seat ≡ S.serves store.now) × (S.reused → IsIdle (S.view seat)))
+        seats.old.items }
+    requires marks { All (HasSeat head.now) marks.old.items }
+    ensures seats { All (λ seat. (S.home seat ≡ S.serves store.now) × (S.reused → IsIdle (S.view seat)))
+        seats.new.items }
+    ensures marks { All (HasSeat head.now) marks.new.items }
+{
+    let one = next_place(store, head, seats, marks)?;
+    let two = next_place(store, head, seats, marks)?;
+    Ok((one, two))
+}
+
 impl<S: Store<Nobody>> Place<'_, S>
 where
     S::Seat: Drop,
@@ -242,6 +264,23 @@ where
     })
 }
 
+fn opened_by_one<S: Store<Nobody>>(
+    store: &S,
+    head: &Head<Nobody>,
+    seats: &mut Vec<S::Seat>,
+    marks: &mut Vec<Mark<Nobody>>,
+) -> Result<Option<Opening>, Refusal>
+where
+    S::Seat: Drop,
+    requires book { S.book store.now ≡ head.now }
+    requires seats { All (λ seat. (S.home seat ≡ S.serves store.now) × (S.reused → IsIdle (S.view seat)))
+        seats.old.items }
+    requires marks { All (HasSeat head.now) marks.old.items }
+{
+    let mut place = next_place(store, head, seats, marks)?;
+    Ok(look_around(&mut place))
+}
+
 fn opened_in_new<S: Store<Nobody> + Drop>(
     alloc: Global,
     parts: S::Parts,
@@ -250,8 +289,7 @@ where
     S::Seat: Drop,
 {
     let (store, mut seats, head, mut marks) = S::open(alloc, parts, 16, 2)?;
-    let mut place = next_place(&store, &head, &mut seats, &mut marks)?;
-    Ok(look_around(&mut place))
+    opened_by_one(&store, &head, &mut seats, &mut marks)
 }
 
 const SHOWN_AT_FIRST: [Result<bool, Missed>; 6] = [
@@ -316,13 +354,30 @@ where
     })
 }
 
+fn life_by_one<S: Store<Nobody>>(
+    store: &S,
+    head: &Head<Nobody>,
+    seats: &mut Vec<S::Seat>,
+    marks: &mut Vec<Mark<Nobody>>,
+    alloc: Global,
+) -> Result<Life, Refusal>
+where
+    S::Seat: Drop,
+    requires book { S.book store.now ≡ head.now }
+    requires seats { All (λ seat. (S.home seat ≡ S.serves store.now) × (S.reused → IsIdle (S.view seat)))
+        seats.old.items }
+    requires marks { All (HasSeat head.now) marks.old.items }
+{
+    let mut place = next_place(store, head, seats, marks)?;
+    life_of(&mut place, alloc)
+}
+
 fn life_in_new<S: Store<Nobody> + Drop>(alloc: Global, parts: S::Parts) -> Result<Life, Refusal>
 where
     S::Seat: Drop,
 {
     let (store, mut seats, head, mut marks) = S::open(alloc, parts, 16, 1)?;
-    let mut place = next_place(&store, &head, &mut seats, &mut marks)?;
-    life_of(&mut place, alloc)
+    life_by_one(&store, &head, &mut seats, &mut marks, alloc)
 }
 
 #[test]
@@ -352,17 +407,35 @@ struct Reuse {
     new: Result<bool, Missed>,
 }
 
-fn reuse_of(place: &mut Place<'_, Arena<Nobody>>, alloc: Global) -> Result<Reuse, Refusal> {
-    let (slot, first) = place.puts(alloc)?;
+// Retires the slot under a reader: what a place there answers, and whether the reader's node is still shown.
+fn retires_under_reader<S: Store<Nobody>>(
+    place: &mut Place<'_, S>,
+    alloc: Global,
+    slot: u32,
+    stamp: u64,
+) -> Result<(Option<Refusal>, Result<bool, Missed>), Refusal>
+where
+    S::Seat: Drop,
+{
     let store = place.store;
-    let Ok(held) = store.show(slot, first, 1) else {
+    let Ok(held) = store.show(slot, stamp, 1) else {
         return Err(Refusal::Gone);
     };
     place.retires(slot);
     let lost = place.puts(alloc).err();
-    let still = shows(store, slot, first);
+    let still = shows(store, slot, stamp);
     held.leave();
+    Ok((lost, still))
+}
+
+fn reuse_of<S: Store<Nobody>>(place: &mut Place<'_, S>, alloc: Global) -> Result<Reuse, Refusal>
+where
+    S::Seat: Drop,
+{
+    let (slot, first) = place.puts(alloc)?;
+    let (lost, still) = retires_under_reader(place, alloc, slot, first)?;
     let (again, second) = place.puts(alloc)?;
+    let store = place.store;
     Ok(Reuse {
         lost,
         still,
@@ -372,10 +445,27 @@ fn reuse_of(place: &mut Place<'_, Arena<Nobody>>, alloc: Global) -> Result<Reuse
     })
 }
 
+fn reuse_by_one<S: Store<Nobody>>(
+    store: &S,
+    head: &Head<Nobody>,
+    seats: &mut Vec<S::Seat>,
+    marks: &mut Vec<Mark<Nobody>>,
+    alloc: Global,
+) -> Result<Reuse, Refusal>
+where
+    S::Seat: Drop,
+    requires book { S.book store.now ≡ head.now }
+    requires seats { All (λ seat. (S.home seat ≡ S.serves store.now) × (S.reused → IsIdle (S.view seat)))
+        seats.old.items }
+    requires marks { All (HasSeat head.now) marks.old.items }
+{
+    let mut place = next_place(store, head, seats, marks)?;
+    reuse_of(&mut place, alloc)
+}
+
 fn reuse_in_new(alloc: Global) -> Result<Reuse, Refusal> {
     let (store, mut seats, head, mut marks) = Arena::<Nobody>::open(alloc, (), 16, 1)?;
-    let mut place = next_place(&store, &head, &mut seats, &mut marks)?;
-    reuse_of(&mut place, alloc)
+    reuse_by_one(&store, &head, &mut seats, &mut marks, alloc)
 }
 
 #[test]
@@ -400,11 +490,14 @@ struct Waiting {
     reserved: u32,
 }
 
-fn waiting_of(
-    one: &mut Place<'_, Arena<Nobody>>,
-    two: &mut Place<'_, Arena<Nobody>>,
+fn waiting_of<S: Store<Nobody>>(
+    one: &mut Place<'_, S>,
+    two: &mut Place<'_, S>,
     alloc: Global,
-) -> Result<Waiting, Refusal> {
+) -> Result<Waiting, Refusal>
+where
+    S::Seat: Drop,
+{
     let (slot, stamp) = one.puts(alloc)?;
     let taken = one.takes(Kind::Ordinary);
     let pinned = two.pins();
@@ -423,11 +516,27 @@ fn waiting_of(
     })
 }
 
+fn waiting_by_two<S: Store<Nobody>>(
+    store: &S,
+    head: &Head<Nobody>,
+    seats: &mut Vec<S::Seat>,
+    marks: &mut Vec<Mark<Nobody>>,
+    alloc: Global,
+) -> Result<Waiting, Refusal>
+where
+    S::Seat: Drop,
+    requires book { S.book store.now ≡ head.now }
+    requires seats { All (λ seat. (S.home seat ≡ S.serves store.now) × (S.reused → IsIdle (S.view seat)))
+        seats.old.items }
+    requires marks { All (HasSeat head.now) marks.old.items }
+{
+    let (mut one, mut two) = two_places(store, head, seats, marks)?;
+    waiting_of(&mut one, &mut two, alloc)
+}
+
 fn waiting_in_new(alloc: Global) -> Result<Waiting, Refusal> {
     let (store, mut seats, head, mut marks) = Arena::<Nobody>::open(alloc, (), 16, 2)?;
-    let mut one = next_place(&store, &head, &mut seats, &mut marks)?;
-    let mut two = next_place(&store, &head, &mut seats, &mut marks)?;
-    waiting_of(&mut one, &mut two, alloc)
+    waiting_by_two(&store, &head, &mut seats, &mut marks, alloc)
 }
 
 #[test]
@@ -440,7 +549,10 @@ fn a_retired_node_waits_for_the_readers_pin(rt: HostRuntime) -> Result<(), Refus
 }
 
 // How many nodes it placed and was then shown, and how many it was not.
-fn storms(mut place: Place<'_, Arena<Nobody>>, alloc: Global) -> (u32, u32) {
+fn storms<S: Store<Nobody>>(mut place: Place<'_, S>, alloc: Global) -> (u32, u32)
+where
+    S::Seat: Drop,
+{
     let mut good = 0u32;
     let mut bad = 0u32;
     for _ in 0..1_000 {
@@ -457,34 +569,65 @@ fn storms(mut place: Place<'_, Arena<Nobody>>, alloc: Global) -> (u32, u32) {
     (good, bad)
 }
 
-fn two_storm<R: Threads + Sync>(
+// The least number that one of two threads was shown, and how many they were not shown in all.
+fn two_storm<R: Threads + Sync, S: Store<Nobody>>(
     rt: &R,
     alloc: Global,
-    a: Place<'_, Arena<Nobody>>,
-    b: Place<'_, Arena<Nobody>>,
-) -> (u32, u32) {
+    (a, b): (Place<'_, S>, Place<'_, S>),
+) -> (u32, u32)
+where
+    S::Seat: Drop,
+{
     let (a, b) = join(rt, || storms(a, alloc), || storms(b, alloc));
     (a.0.min(b.0), a.1.wrapping_add(b.1))
 }
 
 // The least number that one of four threads was shown, and how many they were not shown in all.
-fn four_storm<R: Threads + Sync>(rt: &R, alloc: Global) -> Result<(u32, u32), Refusal> {
-    let (store, mut seats, head, mut marks) = Arena::<Nobody>::open(alloc, (), 16, 4)?;
-    let a = next_place(&store, &head, &mut seats, &mut marks)?;
-    let b = next_place(&store, &head, &mut seats, &mut marks)?;
-    let c = next_place(&store, &head, &mut seats, &mut marks)?;
-    let d = next_place(&store, &head, &mut seats, &mut marks)?;
+fn four_storm<R: Threads + Sync, S: Store<Nobody>>(
+    rt: &R,
+    alloc: Global,
+    left: (Place<'_, S>, Place<'_, S>),
+    right: (Place<'_, S>, Place<'_, S>),
+) -> (u32, u32)
+where
+    S::Seat: Drop,
+{
     let (one, two) = join(
         rt,
-        || two_storm(rt, alloc, a, b),
-        || two_storm(rt, alloc, c, d),
+        || two_storm(rt, alloc, left),
+        || two_storm(rt, alloc, right),
     );
-    Ok((one.0.min(two.0), one.1.wrapping_add(two.1)))
+    (one.0.min(two.0), one.1.wrapping_add(two.1))
+}
+
+fn storm_by_four<R: Threads + Sync, S: Store<Nobody>>(
+    rt: &R,
+    store: &S,
+    head: &Head<Nobody>,
+    seats: &mut Vec<S::Seat>,
+    marks: &mut Vec<Mark<Nobody>>,
+    alloc: Global,
+) -> Result<(u32, u32), Refusal>
+where
+    S::Seat: Drop,
+    requires book { S.book store.now ≡ head.now }
+    requires seats { All (λ seat. (S.home seat ≡ S.serves store.now) × (S.reused → IsIdle (S.view seat)))
+        seats.old.items }
+    requires marks { All (HasSeat head.now) marks.old.items }
+{
+    let left = two_places(store, head, seats, marks)?;
+    let right = two_places(store, head, seats, marks)?;
+    Ok(four_storm(rt, alloc, left, right))
+}
+
+fn storm_in_new<R: Threads + Sync>(rt: &R, alloc: Global) -> Result<(u32, u32), Refusal> {
+    let (store, mut seats, head, mut marks) = Arena::<Nobody>::open(alloc, (), 16, 4)?;
+    storm_by_four(rt, &store, &head, &mut seats, &mut marks, alloc)
 }
 
 #[test]
 fn four_threads_share_the_slots(rt: HostRuntime) -> Result<(), Refusal> {
-    let (good, bad) = four_storm(&rt, rt.alloc())?;
+    let (good, bad) = storm_in_new(&rt, rt.alloc())?;
     assert!(rt; good > 0 && bad == 0);
     Ok(())
 }
