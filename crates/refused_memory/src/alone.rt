@@ -14,6 +14,7 @@ use rebase::{Config, Reply};
 use script_mutators::ScriptMutators;
 use std::alloc::Global;
 use std::cmp::Ordering;
+use std::io;
 
 /// Makes the call of this line, and tells what it answered.
 pub(crate) fn play_alone(rt: &HostRuntime, given: &Given, line: Line<'_>) -> Result<(), Failed> {
@@ -28,11 +29,15 @@ fn play_plain(
     line: Line<'_>,
 ) -> Result<(), Failed> {
     plain::begin(rt.alloc(), group, given)?;
-    tell(rt, &try_plain(rt, group, given, line.call))?;
+    tell_call(rt, group, given, line.call)?;
     if line.then {
         tell_plain(rt, group, given)?;
     }
     Ok(())
+}
+
+fn tell_call(rt: &HostRuntime, group: &mut Plain, given: &Given, name: &str) -> io::Result<()> {
+    tell(rt, &try_plain(rt, group, given, name))
 }
 
 fn try_plain(rt: &HostRuntime, group: &mut Plain, given: &Given, name: &str) -> Answer {

@@ -48,8 +48,25 @@ pub(crate) fn named<'a>(ticket: &'a Ticket, given: &'a Given, name: &str) -> Opt
     }
 }
 
-/// Makes a call.
-pub(crate) fn make<S: Store<ScriptMutators>>(
+/// Makes the call in a list, asks it of a reader, or else makes it alone.
+pub(crate) fn make_as<S: Store<ScriptMutators>>(
+    rt: &HostRuntime,
+    client: &mut Client<'_, ScriptMutators, S>,
+    call: Call<'_>,
+    how: &str,
+) -> Answer
+where
+    S::Seat: Drop,
+{
+    match how {
+        "list" => make_list(rt, client, call),
+        "read" => ask(rt, client, call),
+        _ => make(rt, client, call),
+    }
+}
+
+// Makes a call.
+fn make<S: Store<ScriptMutators>>(
     rt: &HostRuntime,
     client: &mut Client<'_, ScriptMutators, S>,
     call: Call<'_>,
@@ -63,8 +80,8 @@ where
     answer
 }
 
-/// Makes the call three times, in a list.
-pub(crate) fn make_list<S: Store<ScriptMutators>>(
+// Makes the call three times, in a list.
+fn make_list<S: Store<ScriptMutators>>(
     rt: &HostRuntime,
     client: &mut Client<'_, ScriptMutators, S>,
     call: Call<'_>,
@@ -102,8 +119,8 @@ fn no_refusal(replies: &[Answer]) -> Answer {
     Ok(Reply::Is(true))
 }
 
-/// Opens a reader, and asks it.
-pub(crate) fn ask<S: Store<ScriptMutators>>(
+// Opens a reader, and asks it.
+fn ask<S: Store<ScriptMutators>>(
     rt: &HostRuntime,
     client: &mut Client<'_, ScriptMutators, S>,
     query: Call<'_>,

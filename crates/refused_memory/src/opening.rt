@@ -38,6 +38,21 @@ pub(crate) fn config(alloc: Global) -> Result<Config, Refusal> {
     }
 }
 
+/// A new group, and its seats.
+pub(crate) fn new_group<S: Store<ScriptMutators> + Drop>(
+    alloc: Global,
+    parts: S::Parts,
+) -> Result<(Group<ScriptMutators, S>, Seats<ScriptMutators, S>), Refusal>
+where
+    S::Seat: Drop,
+    S::Parts: Drop,
+    ensures { IfOk result (λ made. All (λ seat. (seat.mark.book ≡ made.0.shared.head)
+        × (S.home seat.slots ≡ S.serves made.0.shared.store)) made.1.free.items) }
+{
+    let config = config(alloc)?;
+    Group::<ScriptMutators, S>::open(alloc, config, ScriptMutators, parts)
+}
+
 pub(crate) fn id_of(text: &str) -> Result<Uuid, Refusal> {
     match Uuid::parse_str(text) {
         Ok(id) => Ok(id),

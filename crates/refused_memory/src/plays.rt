@@ -4,16 +4,16 @@ ghost use Rattle.std.specs.List.{All};
 
 use crate::alone::play_alone;
 use crate::answers::{Answer, Failed, tell};
-use crate::calls::{ask, end_pull, make, make_list, mutate, named, poll, poll_again};
+use crate::calls::{end_pull, make_as, mutate, named, poll, poll_again};
 use crate::counts::Counted;
 use crate::given::{Given, TRIES, first};
 use crate::lines::{self, Line};
-use crate::opening::{A, B, config, next_client, open};
+use crate::opening::{A, B, new_group, next_client, open};
 use crate::seats;
 use crate::steps::make_steps;
 use crate::then::tell_then;
 use chunk_slots::{Append, Arena, Store};
-use group_history::{Refusal, Scan};
+use group_history::Refusal;
 use rebase::{Client, Group, Reply, Seats, Ticket};
 use script_mutators::ScriptMutators;
 use std::alloc::Global;
@@ -100,12 +100,8 @@ where
     S::Seat: Drop,
     S::Parts: Drop,
 {
-    let alloc = it.rt.alloc();
-    let config = config(alloc)?;
-    match Group::<ScriptMutators, S>::open(alloc, config, ScriptMutators, parts) {
-        Ok((group, mut seats)) => play_first(it, &group, &mut seats),
-        Err(e) => Err(Failed::Refused(e)),
-    }
+    let (group, mut seats) = new_group::<S>(it.rt.alloc(), parts)?;
+    play_first(it, &group, &mut seats)
 }
 
 // With the first client.
@@ -199,24 +195,45 @@ where
         × (S.home seat.slots ≡ S.serves group.now.shared.store)) seats.old.free.items }
 {
     let ticket = a.begin_pull(TRIES)?;
-    let answer = match it.line.call {
-        "client" => seats::client(it.rt, group, seats),
-        "close" => seats::close(it.rt, group, seats),
-        _ => try_call(it, a, &ticket),
-    };
+    let answer = try_line(it, group, seats, a, &ticket);
     drop(ticket);
     told(it.rt, answer)
 }
 
+// No call, or one for the group's seats, or one of the first client.
+fn try_line<R: Wait + Sync, S: Counted>(
+    it: &Turn<'_, '_, R>,
+    group: &Group<ScriptMutators, S>,
+    seats: &mut Seats<ScriptMutators, S>,
+    a: &mut Client<'_, ScriptMutators, S>,
+    ticket: &Ticket,
+) -> Answer
+where
+    S::Seat: Drop,
+    requires { All (λ seat. (seat.mark.book ≡ group.now.shared.head)
+        × (S.home seat.slots ≡ S.serves group.now.shared.store)) seats.old.free.items }
+{
+    match it.line.call {
+        "nothing" => Ok(Reply::Is(false)),
+        "client" => seats::client(it.rt, group, seats),
+        "close" => seats::close(it.rt, group, seats),
+        _ => try_call(it, a, ticket),
+    }
+}
+
+fn is_scanned(name: &str) -> bool {
+    matches!(name, "poll" | "poll_again" | "learn")
+}
+
 // A call that is given a scan to watch.
-fn try_scanned<R: Wait + Sync, S: Store<ScriptMutators>>(
+fn try_scanned<R, S: Store<ScriptMutators>>(
     it: &Turn<'_, '_, R>,
     a: &mut Client<'_, ScriptMutators, S>,
-    scan: Scan,
 ) -> Answer
 where
     S::Seat: Drop,
 {
+    let scan = it.given.all.clone()?;
     match it.line.call {
         "poll" => poll(it.rt, a, scan),
         "poll_again" => poll_again(it.rt, a, scan, it.given),
@@ -233,8 +250,7 @@ where
     S::Seat: Drop,
 {
     match it.line.call {
-        "nothing" => Ok(Reply::Is(false)),
-        "poll" | "poll_again" | "learn" => try_scanned(it, a, it.given.all.clone()?),
+        name if is_scanned(name) => try_scanned(it, a),
         "mutate" => mutate(it.rt, it.on, a, it.given),
         "end_pull" => end_pull(it.rt, it.on, a, ticket),
         _ => try_named(it, a, ticket),
@@ -242,7 +258,7 @@ where
 }
 
 // A call by its name alone, in a list of such calls, or asked of a reading.
-fn try_named<R: Wait + Sync, S: Store<ScriptMutators>>(
+fn try_named<R, S: Store<ScriptMutators>>(
     it: &Turn<'_, '_, R>,
     a: &mut Client<'_, ScriptMutators, S>,
     ticket: &Ticket,
@@ -252,13 +268,9 @@ where
 {
     let name = it.line.call;
     let (how, name) = name.split_once(' ').unwrap_or(("once", name));
-    let Some(call) = named(ticket, it.given, name) else {
-        return Err(Refusal::BadShape);
-    };
-    match how {
-        "list" => make_list(it.rt, a, call),
-        "read" => ask(it.rt, a, call),
-        _ => make(it.rt, a, call),
+    match named(ticket, it.given, name) {
+        Some(call) => make_as(it.rt, a, call, how),
+        None => Err(Refusal::BadShape),
     }
 }
 

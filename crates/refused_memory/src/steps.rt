@@ -114,7 +114,7 @@ where
     ensures seat { IfOk result (λ made. IsSome made.3.seat) }
 {
     let (store, mut seats, head, mut marks) = S::open(rt.alloc(), parts, SLOTS, SEATS)?;
-    let (Some(seat), Some(mark)) = (seats.pop(), marks.pop()) else {
+    let Some((seat, mark)) = seats.pop().zip(marks.pop()) else {
         return Err(Refusal::NoSeat);
     };
     Ok((store, seat, head, mark))

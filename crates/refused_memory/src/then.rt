@@ -21,19 +21,44 @@ where
     S::Seat: Drop,
 {
     let (scan, mutate) = (Call::Scan(&given.all), given.mutate());
-    for call in &[
+    let calls = [
         Call::Pending,
         Call::Cookie,
         scan,
         Call::PushBody,
         mutate,
         Call::Refresh,
-    ] {
-        tell_reply(rt, a, *call)?;
-    }
-    let (more, refusal) = fill(b, given);
-    println!(rt; "{more} more mutations, and then {refusal:?}")?;
+    ];
+    tell_replies(rt, a, &calls)?;
+    tell_room(rt, b, given)?;
     tell_last(rt, b)
+}
+
+fn tell_replies<S: Store<ScriptMutators>>(
+    rt: &HostRuntime,
+    client: &mut Client<'_, ScriptMutators, S>,
+    calls: &[Call<'_>],
+) -> io::Result<()>
+where
+    S::Seat: Drop,
+{
+    for call in calls {
+        tell_reply(rt, client, *call)?;
+    }
+    Ok(())
+}
+
+// For how many more mutations there is room.
+fn tell_room<S: Store<ScriptMutators>>(
+    rt: &HostRuntime,
+    client: &mut Client<'_, ScriptMutators, S>,
+    given: &Given,
+) -> io::Result<()>
+where
+    S::Seat: Drop,
+{
+    let (more, refusal) = fill(client, given);
+    println!(rt; "{more} more mutations, and then {refusal:?}")
 }
 
 fn tell_last<S: Store<ScriptMutators>>(

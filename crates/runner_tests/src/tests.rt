@@ -1,7 +1,9 @@
 //! What no contract says: that the clients of a phase run at the same time, and what they meet where the slots are few.
 use script_runner::{Fault, Gate, run};
-use std::alloc::{AllocError, Global};
+use std::alloc::{AllocError, AllocGlobal, Global};
+use std::sync::Wait;
 use std::sync::atomic::{AtomicBool, AtomicU64, Ordering};
+use std::thread::Threads;
 
 // How often a client looks for the other one. A turn is one load of an atomic word.
 const TURNS: u64 = 1_000_000_000;
@@ -57,13 +59,32 @@ A get n
 B get n
 ";
 
+// What a run of the script writes.
+fn output_of<R: AllocGlobal + Threads + Wait + Sync, G: Gate>(
+    rt: &R,
+    script: &str,
+    gate: &G,
+) -> Result<Vec<u8>, Fault> {
+    let mut out = Vec::new(rt.alloc());
+    run(rt, script.as_bytes(), gate, &mut out)?;
+    Ok(out)
+}
+
+// Whether both clients, which are to meet at the gate, get nothing at `n`.
+fn both_get_none<R: AllocGlobal + Threads + Wait + Sync>(
+    rt: &R,
+    gate: &Meeting,
+) -> Result<bool, Fault> {
+    let out = output_of(rt, TWO_CALLS, gate)?;
+    Ok(out.as_slice() == "4 A none\n5 B none\n".as_bytes())
+}
+
 #[test]
 fn clients_of_a_phase_meet(rt: HostRuntime) -> Result<(), Fault> {
     let gate = Meeting::new();
-    let mut out = Vec::new(rt.alloc());
-    run(&rt, TWO_CALLS.as_bytes(), &gate, &mut out)?;
+    let are_none = both_get_none(&rt, &gate)?;
     assert_eq!(rt; gate.missed.load(Ordering::SeqCst), 0);
-    assert!(rt; out.as_slice() == "4 A none\n5 B none\n".as_bytes());
+    assert!(rt; are_none);
     Ok(())
 }
 
@@ -132,6 +153,11 @@ impl Replies {
             self.others = self.others.wrapping_add(1);
         }
     }
+
+    // Whether each of the hundred mutations had its id, or found no room.
+    fn are_ids_or_full(self) -> bool {
+        self.others == 0 && self.ids.wrapping_add(self.full) == 100
+    }
 }
 
 // What the client of this name was replied in the phase of the mutations, the lines from 8 to 207.
@@ -152,25 +178,50 @@ fn replies_to(name: &str, out: &str) -> Replies {
     replies
 }
 
-#[test]
-fn clients_of_a_phase_fill_few_slots(rt: HostRuntime) -> Result<(), Fault> {
-    let script = few_slots(rt.alloc())?;
-    let mut out = Vec::new(rt.alloc());
-    run(&rt, script.as_bytes(), &Open, &mut out)?;
-    let out = str::from_utf8(&out).unwrap_or("");
+// What both clients were replied, and whether A reads at the end as many as they had ids.
+#[derive(Clone, Copy, Debug)]
+struct Filled {
+    a: Replies,
+    b: Replies,
+    is_read: bool,
+}
+
+impl Filled {
+    fn are_ids_or_full(self) -> bool {
+        self.a.are_ids_or_full() && self.b.are_ids_or_full()
+    }
+
+    fn ids(self) -> u64 {
+        self.a.ids.wrapping_add(self.b.ids)
+    }
+}
+
+// Whether the last lines are those in which A has learnt what B saw, and reads so many.
+fn ends_with_sum(alloc: Global, out: &str, ids: u64) -> Result<bool, AllocError> {
+    let last = format!(in alloc; "\n209 A learnt\n210 A value {ids}\n")?;
+    Ok(out.ends_with(last.as_str()))
+}
+
+fn filled_of(alloc: Global, out: &[u8]) -> Result<Filled, AllocError> {
+    let out = str::from_utf8(out).unwrap_or("");
     let a = replies_to("A ", out);
     let b = replies_to("B ", out);
-    assert!(rt;
-        a.others == 0 && a.ids.wrapping_add(a.full) == 100,
-        "A {a:?}"
-    );
-    assert!(rt;
-        b.others == 0 && b.ids.wrapping_add(b.full) == 100,
-        "B {b:?}"
-    );
-    let ids = a.ids.wrapping_add(b.ids);
-    assert!(rt; ids <= ROOM, "A {a:?}, B {b:?}");
-    let last = format!(in rt.alloc(); "\n209 A learnt\n210 A value {ids}\n")?;
-    assert!(rt; out.ends_with(last.as_str()), "{ids} ids");
+    let is_read = ends_with_sum(alloc, out, a.ids.wrapping_add(b.ids))?;
+    Ok(Filled { a, b, is_read })
+}
+
+// What is told where two clients fill few slots.
+fn few_slots_filled<R: AllocGlobal + Threads + Wait + Sync>(rt: &R) -> Result<Filled, Fault> {
+    let script = few_slots(rt.alloc())?;
+    let out = output_of(rt, script.as_str(), &Open)?;
+    Ok(filled_of(rt.alloc(), &out)?)
+}
+
+#[test]
+fn clients_of_a_phase_fill_few_slots(rt: HostRuntime) -> Result<(), Fault> {
+    let filled = few_slots_filled(&rt)?;
+    assert!(rt; filled.are_ids_or_full(), "{filled:?}");
+    assert!(rt; filled.ids() <= ROOM, "{filled:?}");
+    assert!(rt; filled.is_read, "{filled:?}");
     Ok(())
 }
