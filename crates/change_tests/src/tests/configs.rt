@@ -40,14 +40,20 @@ fn groups_have_their_limits(rt: HostRuntime) -> Result<(), Refusal> {
     Ok(())
 }
 
+// What is out of range, and the text that tells it.
+const LIMITS: [(OutOfRange, &str); 2] = [
+    (
+        OutOfRange::Slots(16_777_217),
+        "a group has 16 to 16777216 slots, not 16777217",
+    ),
+    (OutOfRange::Seats(0), "a group has 1 to 256 seats, not 0"),
+];
+
 #[test]
 fn a_limit_is_told(rt: HostRuntime) -> Result<(), Refusal> {
-    let slots = format!(in rt.alloc(); "{}", OutOfRange::Slots(16_777_217))?;
-    assert_eq!(rt;
-        slots.as_str(),
-        "a group has 16 to 16777216 slots, not 16777217"
-    );
-    let seats = format!(in rt.alloc(); "{}", OutOfRange::Seats(0))?;
-    assert_eq!(rt; seats.as_str(), "a group has 1 to 256 seats, not 0");
+    for (limit, text) in &LIMITS {
+        let told = format!(in rt.alloc(); "{limit}")?;
+        assert_eq!(rt; told.as_str(), *text);
+    }
     Ok(())
 }

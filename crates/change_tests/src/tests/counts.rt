@@ -152,6 +152,10 @@ fn when_full(
 
 type Steps = ([SlotCounts; 2], [SlotCounts; 4], [SlotCounts; 2]);
 
+fn wanted() -> Steps {
+    (wanted_before(), wanted_beside(), wanted_full())
+}
+
 fn counted_by(
     alloc: Global,
     group: &Shared,
@@ -191,9 +195,7 @@ fn counted(alloc: Global) -> Result<Steps, Refusal> {
 
 #[test]
 fn counts_follow_the_rules(rt: HostRuntime) -> Result<(), Refusal> {
-    let (before, beside, full) = counted(rt.alloc())?;
-    assert_eq!(rt; before, wanted_before());
-    assert_eq!(rt; beside, wanted_beside());
-    assert_eq!(rt; full, wanted_full());
+    let counts = counted(rt.alloc())?;
+    assert_eq!(rt; counts, wanted());
     Ok(())
 }

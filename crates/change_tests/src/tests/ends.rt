@@ -283,6 +283,25 @@ fn is_change(answer: Answer) -> bool {
     )
 }
 
+// Whether the last of a step's calls is answered as it should be, and changes nothing that it should not.
+fn is_last_right<S: Store<ScriptMutators>>(
+    alloc: Global,
+    client: &mut Client<'_, ScriptMutators, S>,
+    old: &Ticket,
+    step: Step,
+    all: &Scan,
+) -> Result<bool, Refusal>
+where
+    S::Seat: Drop,
+{
+    let (times, asks, want) = step;
+    let mut last = (want, true);
+    for _ in 0..times {
+        last = calls_again(alloc, client, old, asks, all)?;
+    }
+    Ok(last.0 == want && last.1 != is_change(want))
+}
+
 // Whether a step is answered as it should be, and changes nothing that it should not.
 fn is_right<S: Store<ScriptMutators>>(
     alloc: Global,
@@ -298,11 +317,7 @@ where
     if times == 0 {
         return Ok(answered(tells(alloc, client, old, asks))? == want);
     }
-    let mut last = (want, true);
-    for _ in 0..times {
-        last = calls_again(alloc, client, old, asks, all)?;
-    }
-    Ok(last.0 == want && last.1 != is_change(want))
+    is_last_right(alloc, client, old, step, all)
 }
 
 fn all_rows(alloc: Global) -> Result<Scan, Refusal> {
@@ -609,6 +624,32 @@ static AFTER_A_READER: [Step; 2] = [
     (1, Asks::Get("n"), Ok(Told::Value(Some(21)))),
 ];
 
+fn reads_five<S: Store<ScriptMutators>>(
+    tx: &ReadTx<'_, '_, ScriptMutators, S>,
+) -> Result<bool, Refusal>
+where
+    S::Seat: Drop,
+{
+    let read = answered(number_at(tx, "n"))?;
+    Ok(read == Ok(Told::Value(Some(5))))
+}
+
+// Whether the reader reads it, and these steps are then answered as they should be.
+fn reads_five_before<S: Store<ScriptMutators>>(
+    alloc: Global,
+    tx: &ReadTx<'_, '_, ScriptMutators, S>,
+    client: &mut Client<'_, ScriptMutators, S>,
+    old: &Ticket,
+    steps: &[Step],
+) -> Result<bool, Refusal>
+where
+    S::Seat: Drop,
+{
+    let is_same = reads_five(tx)?;
+    let other = other_answer(alloc, client, old, steps)?;
+    Ok(is_same && other.is_none())
+}
+
 // Whether the reader reads the same number before the steps, between them and after them, which are answered as they
 // should be.
 fn reads_the_same<S: Store<ScriptMutators>>(
@@ -620,15 +661,12 @@ fn reads_the_same<S: Store<ScriptMutators>>(
 where
     S::Seat: Drop,
 {
-    let five = Ok(Told::Value(Some(5)));
     for steps in [&BESIDE_A_READER[..], &PULLED_BESIDE_IT[..]] {
-        let read = answered(number_at(tx, "n"))?;
-        let other = other_answer(alloc, client, old, steps)?;
-        if read != five || other.is_some() {
+        if !reads_five_before(alloc, tx, client, old, steps)? {
             return Ok(false);
         }
     }
-    Ok(answered(number_at(tx, "n"))? == five)
+    reads_five(tx)
 }
 
 fn meets_a_reader<S: Store<ScriptMutators>>(

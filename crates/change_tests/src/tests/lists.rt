@@ -34,6 +34,25 @@ where
     Ok(client.call_all(alloc, &calls, 1)?)
 }
 
+fn made_at<S: Store<ScriptMutators>>(
+    alloc: Global,
+    client: &mut Client<'_, ScriptMutators, S>,
+    ticket: &Ticket,
+    key: &Text,
+) -> Result<Vec<Result<Reply, Refusal>>, Refusal>
+where
+    S::Seat: Drop,
+{
+    let name = Text::new(alloc, "set")?;
+    let args = Json::read(alloc, br#"["k",1]"#)?;
+    let set = Mutate {
+        name: &name,
+        args: &args,
+        time: 1000,
+    };
+    replies_to(alloc, client, ticket, key, set)
+}
+
 fn made_by<S: Store<ScriptMutators>>(
     alloc: Global,
     client: &mut Client<'_, ScriptMutators, S>,
@@ -43,14 +62,7 @@ where
     S::Seat: Drop,
 {
     let k = Text::new(alloc, "k")?;
-    let name = Text::new(alloc, "set")?;
-    let args = Json::read(alloc, br#"["k",1]"#)?;
-    let set = Mutate {
-        name: &name,
-        args: &args,
-        time: 1000,
-    };
-    replies_to(alloc, client, ticket, &k, set)
+    made_at(alloc, client, ticket, &k)
 }
 
 fn is_right(number: usize, reply: &Result<Reply, Refusal>) -> bool {

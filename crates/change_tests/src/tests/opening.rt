@@ -72,6 +72,25 @@ where
     pub(super) client: Client<'g, ScriptMutators, S>,
 }
 
+// Adds a client of this ID, on the next seat.
+fn add_player<'g, S: Store<ScriptMutators>>(
+    group: &'g Group<ScriptMutators, S>,
+    seats: &mut Seats<ScriptMutators, S>,
+    text: &str,
+    players: &mut Vec<Player<'g, S>>,
+) -> Result<(), Refusal>
+where
+    S::Seat: Drop,
+    requires { All (λ seat. (seat.mark.book ≡ group.now.shared.head)
+        × (S.home seat.slots ≡ S.serves group.now.shared.store)) seats.old.free.items }
+    ensures { All (λ seat. (seat.mark.book ≡ group.now.shared.head)
+        × (S.home seat.slots ≡ S.serves group.now.shared.store)) seats.new.free.items }
+{
+    let client = next_client(group, seats, text)?;
+    players.push(Player { client })?;
+    Ok(())
+}
+
 // Clients of these IDs on the next seats.
 pub(super) fn players_of<'g, S: Store<ScriptMutators>>(
     alloc: Global,
@@ -86,8 +105,7 @@ where
 {
     let mut players = Vec::new(alloc);
     for id in ids {
-        let client = next_client(group, seats, id)?;
-        players.push(Player { client })?;
+        add_player(group, seats, id, &mut players)?;
     }
     Ok(players)
 }

@@ -36,6 +36,19 @@ fn scan_of(alloc: Global, prefix: &str, limit: Option<u64>) -> Result<Scan, Refu
     })
 }
 
+// Two scans, one behind the other.
+#[derive(Drop)]
+struct Scans {
+    first: Scan,
+    second: Scan,
+}
+
+fn scans_of(alloc: Global) -> Result<Scans, Refusal> {
+    let first = scan_of(alloc, "a", None)?;
+    let second = scan_of(alloc, "", Some(1))?;
+    Ok(Scans { first, second })
+}
+
 fn sets_rows<S: Store<ScriptMutators>>(
     alloc: Global,
     client: &mut Client<'_, ScriptMutators, S>,
@@ -49,18 +62,49 @@ where
     Ok(())
 }
 
-// What a sink tells of two scans, one behind the other.
+// Tells a sink of both scans.
 fn tells_both<S: Store<ScriptMutators>>(
     tx: &ReadTx<'_, '_, ScriptMutators, S>,
-    first: &Scan,
-    second: &Scan,
+    scans: &Scans,
     told: &mut Told,
 ) -> Result<(), Refusal>
 where
     S::Seat: Drop,
 {
-    tx.scan_into(first, told)?;
-    tx.scan_into(second, told)
+    tx.scan_into(&scans.first, told)?;
+    tx.scan_into(&scans.second, told)
+}
+
+// The same, by a reader that is opened for it.
+fn opens_and_tells<S: Store<ScriptMutators>>(
+    client: &mut Client<'_, ScriptMutators, S>,
+    scans: &Scans,
+    told: &mut Told,
+) -> Result<(), Refusal>
+where
+    S::Seat: Drop,
+{
+    let tx = client.read(9)?;
+    let answer = tells_both(&tx, scans, told);
+    tx.close();
+    answer
+}
+
+// What a sink is told of a reader's scans, and once more of the second one, which the client makes.
+fn told_by<S: Store<ScriptMutators>>(
+    alloc: Global,
+    client: &mut Client<'_, ScriptMutators, S>,
+    scans: &Scans,
+) -> Result<String, Refusal>
+where
+    S::Seat: Drop,
+{
+    let mut told = Told {
+        text: String::new(alloc),
+    };
+    opens_and_tells(client, scans, &mut told)?;
+    client.scan_into(&scans.second, &mut told, 9)?;
+    Ok(told.text)
 }
 
 fn told_of<S: Store<ScriptMutators>>(
@@ -71,17 +115,8 @@ where
     S::Seat: Drop,
 {
     sets_rows(alloc, client)?;
-    let first = scan_of(alloc, "a", None)?;
-    let second = scan_of(alloc, "", Some(1))?;
-    let mut told = Told {
-        text: String::new(alloc),
-    };
-    let tx = client.read(9)?;
-    let answer = tells_both(&tx, &first, &second, &mut told);
-    tx.close();
-    answer?;
-    client.scan_into(&second, &mut told, 9)?;
-    Ok(told.text)
+    let scans = scans_of(alloc)?;
+    told_by(alloc, client, &scans)
 }
 
 fn told_in<S: Store<ScriptMutators>>(

@@ -619,29 +619,66 @@ impl Dice {
     }
 }
 
+// The game with what both were answered.
 fn both_make<R: Threads + Sync, S: Store<ScriptMutators>>(
     rt: &R,
     alloc: Global,
     a: &mut Player<'_, S>,
     b: &mut Player<'_, S>,
     first: &Ticket,
-    by_a: &mut [Step],
-    by_b: &mut [Step],
-) -> Result<(), Refusal>
+    drawn: Game,
+) -> Result<Game, Refusal>
 where
     S::Seat: Drop,
 {
+    let Game {
+        mut by_a,
+        mut by_b,
+        last,
+    } = drawn;
     let come = AtomicU64::new(0);
     let (of_a, of_b) = join(
         rt,
-        || makes_beside(alloc, a, first, by_a, &come),
-        || makes_beside(alloc, b, first, by_b, &come),
+        || makes_beside(alloc, a, first, &mut by_a, &come),
+        || makes_beside(alloc, b, first, &mut by_b, &come),
     );
     of_a?;
-    of_b
+    of_b?;
+    Ok(Game { by_a, by_b, last })
 }
 
-// The game with the answers.
+// The game with all answers.
+fn played_since<R: Threads + Sync, S: Store<ScriptMutators>>(
+    rt: &R,
+    alloc: Global,
+    a: &mut Player<'_, S>,
+    b: &mut Player<'_, S>,
+    first: &Ticket,
+    drawn: Game,
+) -> Result<Game, Refusal>
+where
+    S::Seat: Drop,
+{
+    let mut game = both_make(rt, alloc, a, b, first, drawn)?;
+    makes_all(alloc, &mut a.client, first, &mut game.last)?;
+    Ok(game)
+}
+
+// The same, once A has begun the first pull of both.
+fn played_by<R: Threads + Sync, S: Store<ScriptMutators>>(
+    rt: &R,
+    alloc: Global,
+    a: &mut Player<'_, S>,
+    b: &mut Player<'_, S>,
+    drawn: Game,
+) -> Result<Game, Refusal>
+where
+    S::Seat: Drop,
+{
+    let first = a.client.begin_pull(TRIES)?;
+    played_since(rt, alloc, a, b, &first, drawn)
+}
+
 fn played<R: Threads + Sync, S: Store<ScriptMutators>>(
     rt: &R,
     alloc: Global,
@@ -651,16 +688,8 @@ fn played<R: Threads + Sync, S: Store<ScriptMutators>>(
 where
     S::Seat: Drop,
 {
-    let Game {
-        mut by_a,
-        mut by_b,
-        mut last,
-    } = drawn;
     let (a, b) = two_of(players)?;
-    let first = a.client.begin_pull(TRIES)?;
-    both_make(rt, alloc, a, b, &first, &mut by_a, &mut by_b)?;
-    makes_all(alloc, &mut a.client, &first, &mut last)?;
-    Ok(Game { by_a, by_b, last })
+    played_by(rt, alloc, a, b, drawn)
 }
 
 fn game_in<R: Threads + Sync, S: Store<ScriptMutators>>(

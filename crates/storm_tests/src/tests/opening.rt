@@ -75,6 +75,25 @@ where
     }
 }
 
+// Adds a client of this ID, on the next seat.
+fn add_player<'g, S: Store<ScriptMutators>>(
+    group: &'g Group<ScriptMutators, S>,
+    seats: &mut Seats<ScriptMutators, S>,
+    text: &str,
+    players: &mut Vec<Player<'g, S>>,
+) -> Result<(), Refusal>
+where
+    S::Seat: Drop,
+    requires { All (λ seat. (seat.mark.book ≡ group.now.shared.head)
+        × (S.home seat.slots ≡ S.serves group.now.shared.store)) seats.old.free.items }
+    ensures { All (λ seat. (seat.mark.book ≡ group.now.shared.head)
+        × (S.home seat.slots ≡ S.serves group.now.shared.store)) seats.new.free.items }
+{
+    let player = next_player(group, seats, text)?;
+    players.push(player)?;
+    Ok(())
+}
+
 // Clients of these IDs on the next seats. The first one has the seat that a gate knows as 0.
 pub(super) fn players_of<'g, S: Store<ScriptMutators>>(
     alloc: Global,
@@ -89,7 +108,7 @@ where
 {
     let mut players = Vec::new(alloc);
     for id in ids {
-        players.push(next_player(group, seats, id)?)?;
+        add_player(group, seats, id, &mut players)?;
     }
     Ok(players)
 }

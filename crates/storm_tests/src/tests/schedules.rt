@@ -277,6 +277,21 @@ where
     both(join(rt, || loses(alloc, a, turns), || applies(alloc, b, turns)))
 }
 
+fn lose_and_fill<R: Threads + Sync, S: Store<ScriptMutators>>(
+    rt: &R,
+    alloc: Global,
+    a: &mut Player<'_, S>,
+    b: &mut Player<'_, S>,
+    turns: &Turns,
+) -> Result<(Run, Pulls, Run), Refusal>
+where
+    S::Seat: Drop,
+{
+    let (lost, pulled) = both_lose(rt, alloc, a, b, turns)?;
+    let filled = fills(alloc, &mut a.client)?;
+    Ok((lost, pulled, filled))
+}
+
 // What A meets whose mutations lose, what B meets, and what A meets alone.
 fn losing_of<R: Threads + Sync, S: Store<ScriptMutators>>(
     rt: &R,
@@ -288,8 +303,7 @@ where
     S::Seat: Drop,
 {
     let (a, b) = two_of(players)?;
-    let (lost, pulled) = both_lose(rt, alloc, a, b, turns)?;
-    Ok((lost, pulled, fills(alloc, &mut a.client)?))
+    lose_and_fill(rt, alloc, a, b, turns)
 }
 
 fn losing_in<R: Threads + Sync, S: Store<ScriptMutators>>(
@@ -628,6 +642,21 @@ where
     both(join(rt, || leads(a, c, relay), || follows(alloc, b, relay)))
 }
 
+fn pull_and_relay<R: Threads + Sync, S: Store<ScriptMutators>>(
+    rt: &R,
+    alloc: Global,
+    a: &mut Player<'_, S>,
+    b: &mut Player<'_, S>,
+    c: &mut Player<'_, S>,
+    relay: &Relay,
+) -> Result<(Seen, Run), Refusal>
+where
+    S::Seat: Drop,
+{
+    pulls(&mut c.client, N_IS_5)?;
+    all_relay(rt, alloc, a, b, c, relay)
+}
+
 // What A's reader reads, and what B meets beside it. C is the first publisher.
 fn relay_of<R: Threads + Sync, S: Store<ScriptMutators>>(
     rt: &R,
@@ -642,8 +671,7 @@ where
         return Err(Refusal::NoSeat);
     };
     let (b, c) = two_of(others)?;
-    pulls(&mut c.client, N_IS_5)?;
-    all_relay(rt, alloc, a, b, c, relay)
+    pull_and_relay(rt, alloc, a, b, c, relay)
 }
 
 fn relay_in<R: Threads + Sync, S: Store<ScriptMutators>>(

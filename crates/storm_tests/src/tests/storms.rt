@@ -185,15 +185,19 @@ struct Server {
 }
 
 impl Server {
-    fn counts(&mut self, mutation: &Value) -> Option<()> {
-        let client = mutation.get("clientID")?.as_str()?;
-        let id = mutation.get("id")?.as_u64()?;
+    fn counts_id(&mut self, client: &str, id: u64) -> Option<()> {
         let place = MUTATING.iter().position(|known| *known == client)?;
         if id > self.greatest[place] {
             self.greatest[place] = id;
             self.n = self.n.wrapping_add(1);
         }
         Some(())
+    }
+
+    fn counts(&mut self, mutation: &Value) -> Option<()> {
+        let client = mutation.get("clientID")?.as_str()?;
+        let id = mutation.get("id")?.as_u64()?;
+        self.counts_id(client, id)
     }
 
     fn counts_each(&mut self, push: &Value) -> Result<(), Refusal> {
