@@ -23,7 +23,6 @@ impl Ready {
     /// Where the child isn't split.
     pub(crate) fn of_whole(alloc: Global, lower: Option<Text>) -> Ready
         ensures lower { result.lower ≡ lower }
-        ensures spare { (result.room.spare.keys.items ≡ []) × (result.room.spare.entries.items ≡ []) }
     {
         let spare = Spare {
             keys: Vec::new(alloc),
@@ -49,7 +48,6 @@ impl Ready {
         requires place { IsPlace key.now keys.old.texts place }
         ensures texts { keys.new.texts ≡ keys.old.texts }
         ensures lower { IfOk result (λ r. r.lower ≡ lower) }
-        ensures spare { IfOk result (λ r. (r.room.spare.keys.items ≡ []) × (r.room.spare.entries.items ≡ [])) }
         ensures ready { IfOk result (λ r. IsReady copies keys.old.texts keys.new.room place key.now r.room) }
     {
         let room = take_half_room(alloc, keys.as_slice(), place + 1, key, copies)?;

@@ -98,7 +98,6 @@ fn put_child<C: Chunks>(
     ensures lower { IfOk result (λ r. IsLower put.entry.key.now (slice_index_or keys.old.texts place []) r.0.lower) }
     ensures ready { IfOk result (λ r. IsSome r.1
         → IsReady put.entry.copies keys.old.texts keys.new.room place put.entry.key.now r.0.room) }
-    ensures spare { IfOk result (λ r. (r.0.room.spare.keys.items ≡ []) × (r.0.room.spare.entries.items ≡ [])) }
     ensures whole { put.entry.may_split ≡ false → 16 ≤ length keys.old.texts → IfOk result (λ r. r.1 ≡ None) }
     ensures err { OnErr result (kids.new.items ≡ kids.old.items) }
     ensures unput { IfErr result (IsUnput C.stops put.entry.may_split) }
@@ -145,7 +144,6 @@ impl OwnNode {
             r.0.lower) }
         ensures ready { IfOk result (λ r. IsSome r.1
             → IsReady put.entry.copies keys.old.texts keys.new.room place put.entry.key.now r.0.room) }
-        ensures spare { IfOk result (λ r. (r.0.room.spare.keys.items ≡ []) × (r.0.room.spare.entries.items ≡ [])) }
         ensures whole { put.entry.may_split ≡ false → 16 ≤ length keys.old.texts → IfOk result (λ r. r.1 ≡ None) }
         ensures err { OnErr result (self.new ≡ self.old) }
         ensures unput { IfErr result (IsUnput C.stops put.entry.may_split) }
@@ -195,7 +193,6 @@ impl OwnNode {
         ensures lower { IfOk result (λ r. r.0.lower ≡ lower) }
         ensures ready { IfOk result (λ r. IsReady put.entry.copies keys.old.texts keys.new.room place put.entry.key.now
             r.0.room) }
-        ensures spare { IfOk result (λ r. (r.0.room.spare.keys.items ≡ []) × (r.0.room.spare.entries.items ≡ [])) }
         ensures err { OnErr result (self.new ≡ self.old) }
         ensures unput { IfErr result (IsUnput C.stops true) }
     {
