@@ -1,5 +1,5 @@
 -- The root of a map, known by the commit at which queries read it.
-use Rattle.std.specs.Prelude.{ℕ, ◌≡◌, Option, Some, None, IsSome}
+use Rattle.std.specs.Prelude.{◌≡◌, Option, Some, None, IsSome}
 use Rattle.std.specs.Coded.{Coded, codes, coded_list, coded_ℕ}
 use Rattle.std.specs.FinMap as finite
 use Rattle.group_history.specs.Map.{Entries}
