@@ -10,6 +10,7 @@ use crate::cookies::Cookie;
 use crate::json::Json;
 use crate::mutations::Mutation;
 use crate::refs::Ref;
+use crate::renaming::{renamed_chunk, renamed_commit};
 use crate::texts::Text;
 use std::alloc::{AllocError, Global};
 use std::marker::Model;
@@ -262,10 +263,34 @@ impl<R> BoxedCommit<R> {
 }
 
 /// What lies in a slot, or is drafted to lie there.
-#[derive(Drop)]
 pub enum Node<R> {
     Chunk(Chunk<R>),
     Commit(BoxedCommit<R>),
+}
+
+impl<R: Drop> Drop for Node<R> {
+    fn drop(self) {
+        match self {
+            Node::Chunk(chunk) => drop(chunk),
+            Node::Commit(commit) => drop(commit),
+        }
+    }
+}
+
+impl Node<Ref> {
+    ghost use Rattle.group_history.specs.Naming.{placed_ref, renamed};
+
+    /// The node with each child that has a stamp of at least `from` named anew: by the reference that
+    /// stands at the place `stamp - from` of `refs`, where there is one. The others keep their names.
+    /// Takes no memory.
+    pub fn renamed(self, from: u64, refs: &[Ref]) -> Node<Ref>
+        ensures { result ≡ renamed (placed_ref from refs.now) self }
+    {
+        match self {
+            Node::Chunk(chunk) => Node::Chunk(renamed_chunk(chunk, from, refs)),
+            Node::Commit(commit) => Node::Commit(renamed_commit(commit, from, refs)),
+        }
+    }
 }
 
 /// How a drafted node names a child.

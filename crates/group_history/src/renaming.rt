@@ -1,26 +1,12 @@
-//! Nodes that were drafted, with their children named as they were placed.
+//! The parts of nodes that were drafted, with their children named as they were placed.
 //!
 //! A draft's nodes have numbers for stamps, from a first one on; when they are placed, each gets a
 //! reference of its own, and its parents must name it by that.
 ghost use Rattle.std.specs.Prelude.{◌≡◌, map};
-ghost use Rattle.group_history.specs.Naming.{placed_ref, renamed, renamed_chunk, renamed_commit, renamed_kind};
+ghost use Rattle.group_history.specs.Naming.{placed_ref, renamed_chunk, renamed_commit, renamed_kind};
 
-use crate::nodes::{BoxedCommit, Chunk, Commit, Inner, Kind, Node};
+use crate::nodes::{BoxedCommit, Chunk, Commit, Inner, Kind};
 use crate::refs::Ref;
-
-impl Node<Ref> {
-    /// The node with each child that has a stamp of at least `from` named anew: by the reference that
-    /// stands at the place `stamp - from` of `refs`, where there is one. The others keep their names.
-    /// Takes no memory.
-    pub fn renamed(self, from: u64, refs: &[Ref]) -> Node<Ref>
-        ensures { result ≡ renamed (placed_ref from refs.now) self }
-    {
-        match self {
-            Node::Chunk(chunk) => Node::Chunk(renamed_chunk(chunk, from, refs)),
-            Node::Commit(commit) => Node::Commit(renamed_commit(commit, from, refs)),
-        }
-    }
-}
 
 // The reference of a child.
 fn renamed_ref(at: Ref, from: u64, refs: &[Ref]) -> Ref
@@ -45,7 +31,7 @@ fn rename_all(mut children: Vec<Ref>, from: u64, refs: &[Ref]) -> Vec<Ref>
     children
 }
 
-fn renamed_chunk(chunk: Chunk<Ref>, from: u64, refs: &[Ref]) -> Chunk<Ref>
+pub(crate) fn renamed_chunk(chunk: Chunk<Ref>, from: u64, refs: &[Ref]) -> Chunk<Ref>
     ensures { result ≡ renamed_chunk (placed_ref from refs.now) chunk }
 {
     match chunk {
@@ -76,7 +62,7 @@ fn rename_commit(commit: &mut Commit<Ref>, from: u64, refs: &[Ref])
     rename_kind(&mut commit.kind, from, refs);
 }
 
-fn renamed_commit(commit: BoxedCommit<Ref>, from: u64, refs: &[Ref]) -> BoxedCommit<Ref>
+pub(crate) fn renamed_commit(commit: BoxedCommit<Ref>, from: u64, refs: &[Ref]) -> BoxedCommit<Ref>
     ensures { result ≡ renamed_commit (placed_ref from refs.now) commit }
 {
     let mut commit = commit;
