@@ -1,4 +1,4 @@
-//! What the server would send, as `crates/group_bench` has it.
+//! What the server would send, as the program of this bench has it.
 use std::fmt::Write;
 
 pub const COUNTERS: u64 = 1_000;

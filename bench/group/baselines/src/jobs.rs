@@ -1,4 +1,4 @@
-//! The jobs of one thread, as `crates/group_bench` has them.
+//! The jobs of one thread, as the program of this bench has them.
 use crate::bodies::{body, item, CLIENT, COUNTERS};
 use crate::numbers::Numbers;
 use crate::wire::read_response;

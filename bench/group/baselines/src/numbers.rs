@@ -1,4 +1,4 @@
-//! Numbers that look random, the same ones at each run, and as `crates/group_bench` has them.
+//! Numbers that look random, the same ones at each run, and as the program of this bench has them.
 
 pub struct Numbers(u64);
 
