@@ -14,13 +14,13 @@ def shim_in(room):
     return shim
 
 
-def run(program, given, shim, number, between_marks=False):
-    """The ended process: `number` counts from 1, or is `all`. `None` refuses none."""
+def run(program, given, shim, number, between_marks=False, folder=None):
+    """The ended process, run in that folder: `number` counts from 1, or is `all`. `None` refuses none."""
     told = {} if number is None else {"LD_PRELOAD": str(shim), "REFUSED_ALLOCATION": str(number)}
     if between_marks:
         told["BETWEEN_MARKS"] = "1"
     return subprocess.run(
-        [program], input=given, capture_output=True, check=False, env={**os.environ, **told}, timeout=120
+        [program], input=given, capture_output=True, check=False, env={**os.environ, **told}, timeout=120, cwd=folder
     )
 
 

@@ -1,4 +1,4 @@
-use Rattle.std.proofs.Common.{arith, ap, ◌∙◌}
+use Rattle.std.proofs.Common.{arith, ap, rules, ◌∙◌}
 use Rattle.reader_claims.specs.Counts.{all_slots}
 use Rattle.reader_claims.specs.Seats.{first_reserved}
 use Rattle.reader_claims.proofs.Counting.{all_counted, slot_more}
@@ -14,3 +14,6 @@ loop-slot-preserved g c =
     (first_reserved c.args.sizes) c.loop-slot.slot c.place.result c.look_at-word.result c.of_word.result
     c.loop-slot.counts c.add_slot.new.self
     c.loop-slot.invariant c.place.ensures c.look_at-word.ensures c.of_word.ensures.word c.add_slot.ensures
+
+pub returns : goal.returns
+returns g c = search rules

@@ -1,4 +1,4 @@
-use Rattle.std.proofs.Common.{subst}
+use Rattle.std.proofs.Common.{subst, rules}
 use Rattle.reader_claims.specs.Passes.{Raises}
 use Rattle.reader_claims.specs.Seats.{Seated}
 use Rattle.reader_claims.proofs.Raising.{loads_only, loads_and_raises}
@@ -23,3 +23,6 @@ pub returns-clause-kept : goal.returns-clause-kept
 returns-clause-kept c = subst (λ (s : Seated). Raises s.view c.raise.new.seat.view) c.self.view_is
     (loads_and_raises c.self.inside.seat.view c.epoch-n.new.seat.view c.raise.new.seat.view _ _ c.epoch-n.ensures.view
     c.epoch-n.ensures.bound.0 c.raise.ensures.view c.raise.ensures.reached.1)
+
+pub returns-clause-raised : goal.returns-clause-raised
+returns-clause-raised c = search rules

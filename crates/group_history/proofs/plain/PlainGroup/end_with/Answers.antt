@@ -6,3 +6,9 @@ returns-then-is_going_back-clause-answer g c = search rules
 
 pub returns-in-Less-clause-answer : goal.returns-in-Less-clause-answer
 returns-in-Less-clause-answer g c = search rules
+
+pub returns-after-is_saying_nothing-clause-answer : goal.returns-after-is_saying_nothing-clause-answer
+returns-after-is_saying_nothing-clause-answer g c = search rules
+
+pub returns-in_ok-apply-in-Greater-clause-answer : goal.returns-in_ok-apply-in-Greater-clause-answer
+returns-in_ok-apply-in-Greater-clause-answer g c = search rules

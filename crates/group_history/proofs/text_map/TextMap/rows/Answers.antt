@@ -1,4 +1,4 @@
-use Rattle.std.proofs.Common.{◌≡◌, ◌++◌, ◌∙◌, List, ℕ, filter, sym, ap, append-nil, Some}
+use Rattle.std.proofs.Common.{◌≡◌, ◌++◌, ◌∙◌, List, ℕ, filter, sym, ap, append-nil, Some, rules}
 use Rattle.std.specs.FinMap as map
 use Rattle.group_history.specs.Scans.{is_in, limited}
 use Rattle.group_history.proofs.TextMaps.{entries-from_entries}
@@ -22,3 +22,6 @@ returns g c =
       | in_default w ↦ ap (λ v. v.items) w.rows-is ∙ all ∙ ap (λ o. limited o (chosen (map.entries c.args.self.now)))
           (sym w.in_default.is)
     ]
+
+pub loop-key-preserved : goal.loop-key-preserved
+loop-key-preserved g c = search rules

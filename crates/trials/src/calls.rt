@@ -1,0 +1,83 @@
+//! Calls, made of commands.
+use crate::rows::Way;
+use group_history::{Text, TextMap};
+use hex::FromHexError;
+use rebase::{Call, Mutate, Ticket};
+use script_parser::{Command, MutatorCall, Query};
+use std::alloc::{AllocError, Global};
+
+/// What a call is made with: the runtime, what may wait, and whether the call is marked.
+#[derive(Drop)]
+pub(crate) struct Turn<'a, R> {
+    pub(crate) rt: &'a HostRuntime,
+    pub(crate) on: &'a R,
+    pub(crate) is_marked: bool,
+}
+
+fn query_call(query: &Query) -> Call<'_> {
+    match query {
+        Query::Get(key) => Call::Get(key),
+        Query::Has(key) => Call::Has(key),
+        Query::Scan(scan) => Call::Scan(scan),
+        Query::Empty => Call::IsEmpty,
+        Query::Closed => Call::Closed,
+        Query::Pending => Call::Pending,
+        Query::Cookie => Call::Cookie,
+        Query::Push => Call::PushBody,
+    }
+}
+
+fn mutate_of(call: &MutatorCall) -> Mutate<'_> {
+    Mutate {
+        name: &call.mutator,
+        args: &call.args,
+        time: call.time,
+    }
+}
+
+/// The call that a command is, where it is one. `body` is that of its response.
+pub(crate) fn call_of<'a>(
+    tickets: &'a TextMap<Ticket>,
+    command: &'a Command,
+    body: &'a [u8],
+) -> Option<Call<'a>> {
+    match command {
+        Command::Query(query) => Some(query_call(query)),
+        Command::Mutate(call) => Some(Call::Mutate(mutate_of(call))),
+        Command::End(name, _) => Some(Call::EndPull(tickets.get(name)?, body)),
+        Command::Refresh => Some(Call::Refresh),
+        Command::Begin(_) => Some(Call::BeginPull),
+        _ => None,
+    }
+}
+
+/// The bytes that hexadecimal digits tell; none where they are no such digits.
+fn bytes_of(alloc: Global, digits: &str) -> Result<Vec<u8>, AllocError> {
+    match hex::decode(alloc, digits) {
+        Ok(bytes) => Ok(bytes),
+        Err(FromHexError::OutOfMemory) => Err(AllocError),
+        Err(_) => Ok(Vec::new(alloc)),
+    }
+}
+
+/// The body of the response that a command has: as it is written, or of these bytes.
+pub(crate) fn body_of(
+    alloc: Global,
+    command: &Command,
+    way: Way<'_>,
+) -> Result<Vec<u8>, AllocError> {
+    match (command, way.bytes) {
+        (_, Some(digits)) => bytes_of(alloc, digits),
+        (Command::End(_, body), None) => Vec::from_slice(alloc, body.as_str().as_bytes()),
+        _ => Ok(Vec::new(alloc)),
+    }
+}
+
+/// Keeps the ticket of a pull that is begun.
+pub(crate) fn keep_ticket(
+    tickets: &mut TextMap<Ticket>,
+    name: &Text,
+    ticket: Ticket,
+) -> Result<(), AllocError> {
+    tickets.insert(name.clone()?, ticket)
+}

@@ -1,0 +1,571 @@
+//! A trial over a store that threads may share: a group, its clients, and its readers.
+ghost use Rattle.std.specs.Prelude.{◌≡◌, ◌<◌, IfOk, vec_capacity, vec_len};
+ghost use Rattle.std.specs.List.{All};
+
+use crate::calls::Turn;
+use crate::counts::Counted;
+use crate::failed::Failed;
+use crate::parts::{say_store, say_text};
+use crate::players::{Player, Spare};
+use crate::readers::Readers;
+use crate::replies::{say, say_refusal};
+use crate::rows::{Deed, ONCE, Way};
+use crate::sheet::{Asked, Entry, Trial, is_played};
+use crate::tally::Tally;
+use crate::trial::Host;
+use chunk_slots::Store;
+use group_history::Refusal;
+use rebase::{Client, Config, Group, Seats};
+use script_mutators::ScriptMutators;
+use script_parser::{ClientLine, Command, Header};
+use std::alloc::{AllocError, Global};
+use std::sync::Wait;
+use uuid::Uuid;
+
+/// How many readers a group may open.
+const READERS: u32 = 4;
+
+/// A client of this ID on the next seat.
+fn next_client<'g, S: Store<ScriptMutators>>(
+    group: &'g Group<ScriptMutators, S>,
+    seats: &mut Seats<ScriptMutators, S>,
+    id: Uuid,
+) -> Result<Client<'g, ScriptMutators, S>, Refusal>
+where
+    S::Seat: Drop,
+    requires { All (λ seat. (seat.mark.book ≡ group.now.shared.head)
+        × (S.home seat.slots ≡ S.serves group.now.shared.store)) seats.old.free.items }
+    ensures seats { All (λ seat. (seat.mark.book ≡ group.now.shared.head)
+        × (S.home seat.slots ≡ S.serves group.now.shared.store)) seats.new.free.items }
+    ensures room { IfOk result (λ _. vec_len seats.new.free < vec_capacity seats.new.free) }
+    ensures group { IfOk result (λ client. client.group.now ≡ group.now) }
+{
+    let seat = seats.take()?;
+    match group.client(seat, id, ONCE.tries) {
+        Ok(client) => Ok(client),
+        Err((_, e)) => Err(e),
+    }
+}
+
+/// A player of this ID on the next two seats.
+fn next_player<'g, S: Store<ScriptMutators>>(
+    alloc: Global,
+    group: &'g Group<ScriptMutators, S>,
+    seats: &mut Seats<ScriptMutators, S>,
+    id: Uuid,
+) -> Result<Player<'g, S>, Refusal>
+where
+    S::Seat: Drop,
+    requires { All (λ seat. (seat.mark.book ≡ group.now.shared.head)
+        × (S.home seat.slots ≡ S.serves group.now.shared.store)) seats.old.free.items }
+    ensures { All (λ seat. (seat.mark.book ≡ group.now.shared.head)
+        × (S.home seat.slots ≡ S.serves group.now.shared.store)) seats.new.free.items }
+{
+    let client = next_client(group, seats, id)?;
+    let looker = next_client(group, seats, id)?;
+    Ok(Player::new(alloc, group, id, client, looker))
+}
+
+fn add_player<'g, S: Store<ScriptMutators>>(
+    alloc: Global,
+    group: &'g Group<ScriptMutators, S>,
+    seats: &mut Seats<ScriptMutators, S>,
+    id: Uuid,
+    players: &mut Vec<Option<Player<'g, S>>>,
+) -> Result<(), Refusal>
+where
+    S::Seat: Drop,
+    requires { All (λ seat. (seat.mark.book ≡ group.now.shared.head)
+        × (S.home seat.slots ≡ S.serves group.now.shared.store)) seats.old.free.items }
+    ensures { All (λ seat. (seat.mark.book ≡ group.now.shared.head)
+        × (S.home seat.slots ≡ S.serves group.now.shared.store)) seats.new.free.items }
+{
+    let player = next_player(alloc, group, seats, id)?;
+    players.push(Some(player))?;
+    Ok(())
+}
+
+fn players_of<'g, S: Store<ScriptMutators>>(
+    alloc: Global,
+    group: &'g Group<ScriptMutators, S>,
+    seats: &mut Seats<ScriptMutators, S>,
+    lines: &[ClientLine],
+) -> Result<Vec<Option<Player<'g, S>>>, Refusal>
+where
+    S::Seat: Drop,
+    requires { All (λ seat. (seat.mark.book ≡ group.now.shared.head)
+        × (S.home seat.slots ≡ S.serves group.now.shared.store)) seats.old.free.items }
+    ensures { All (λ seat. (seat.mark.book ≡ group.now.shared.head)
+        × (S.home seat.slots ≡ S.serves group.now.shared.store)) seats.new.free.items }
+{
+    let mut players = Vec::new(alloc);
+    for line in lines {
+        add_player(alloc, group, seats, line.id, &mut players)?;
+    }
+    Ok(players)
+}
+
+fn add_reader<'g, S: Store<ScriptMutators>>(
+    group: &'g Group<ScriptMutators, S>,
+    seats: &mut Seats<ScriptMutators, S>,
+    readers: &mut Vec<Client<'g, ScriptMutators, S>>,
+) -> Result<(), Refusal>
+where
+    S::Seat: Drop,
+    requires { All (λ seat. (seat.mark.book ≡ group.now.shared.head)
+        × (S.home seat.slots ≡ S.serves group.now.shared.store)) seats.old.free.items }
+    ensures seats { All (λ seat. (seat.mark.book ≡ group.now.shared.head)
+        × (S.home seat.slots ≡ S.serves group.now.shared.store)) seats.new.free.items }
+    ensures room { IfOk result (λ _. vec_len seats.new.free < vec_capacity seats.new.free) }
+{
+    let client = next_client(group, seats, Uuid::nil())?;
+    readers.push(client)?;
+    Ok(())
+}
+
+fn readers_of<'g, S: Store<ScriptMutators>>(
+    alloc: Global,
+    group: &'g Group<ScriptMutators, S>,
+    seats: &mut Seats<ScriptMutators, S>,
+) -> Result<Vec<Client<'g, ScriptMutators, S>>, Refusal>
+where
+    S::Seat: Drop,
+    requires { All (λ seat. (seat.mark.book ≡ group.now.shared.head)
+        × (S.home seat.slots ≡ S.serves group.now.shared.store)) seats.old.free.items }
+    ensures { All (λ seat. (seat.mark.book ≡ group.now.shared.head)
+        × (S.home seat.slots ≡ S.serves group.now.shared.store)) seats.new.free.items }
+{
+    let mut readers = Vec::new(alloc);
+    for _ in 1..READERS {
+        add_reader(group, seats, &mut readers)?;
+    }
+    Ok(readers)
+}
+
+/// What a trial is played with: its group, what another store is made of, and the group's seats and clients.
+#[derive(Drop)]
+struct Stage<'g, S: Store<ScriptMutators>>
+where
+    S::Seat: Drop,
+    S::Parts: Drop,
+{
+    trial: Trial<'g>,
+    group: &'g Group<ScriptMutators, S>,
+    parts: S::Parts,
+    spare: Spare<S>,
+    players: Vec<Option<Player<'g, S>>>,
+}
+
+/// The clients of a trial's group, and those that may read.
+fn cast_of<'g, S: Store<ScriptMutators>>(
+    alloc: Global,
+    trial: Trial<'g>,
+    group: &'g Group<ScriptMutators, S>,
+    seats: Seats<ScriptMutators, S>,
+    parts: S::Parts,
+) -> Result<(Stage<'g, S>, Vec<Client<'g, ScriptMutators, S>>), Refusal>
+where
+    S::Seat: Drop,
+    S::Parts: Drop,
+    requires { All (λ seat. (seat.mark.book ≡ group.now.shared.head)
+        × (S.home seat.slots ≡ S.serves group.now.shared.store)) seats.free.items }
+{
+    let mut seats = seats;
+    let players = players_of(alloc, group, &mut seats, &trial.header.clients)?;
+    let mut readers = readers_of(alloc, group, &mut seats)?;
+    add_reader(group, &mut seats, &mut readers)?;
+    let stage = Stage {
+        trial,
+        group,
+        parts,
+        spare: Spare::new(seats),
+        players,
+    };
+    Ok((stage, readers))
+}
+
+/// A part of a trial that is played in one group.
+#[derive(Clone, Copy)]
+struct Part<'a> {
+    trial: Trial<'a>,
+    entries: &'a [Entry<'a>],
+}
+
+/// How many slots a header's group has, and as many seats as its clients, their lookers and readers take.
+fn layout_of(header: &Header) -> Option<(u32, u32)> {
+    let slots = u32::try_from(header.slots_or_default()).ok()?;
+    let clients = u32::try_from(header.clients.len()).ok()?;
+    Some((slots, clients.saturating_mul(2).saturating_add(READERS)))
+}
+
+fn config_of(alloc: Global, header: &Header) -> Result<Config, Refusal> {
+    let Some((slots, seats)) = layout_of(header) else {
+        return Err(Refusal::NoSeat);
+    };
+    match Config::new(header.identity(alloc)?, slots, seats) {
+        Ok(config) => Ok(config),
+        Err(_) => Err(Refusal::NoSeat),
+    }
+}
+
+/// The place of the client of a list, and its commands.
+fn commands_in<'a>(
+    alloc: Global,
+    entries: &[Entry<'a>],
+) -> Result<(usize, Vec<&'a Command>), AllocError> {
+    let mut place = 0;
+    let mut commands = Vec::new(alloc);
+    for entry in entries {
+        if let Some(asked) = entry.asked {
+            place = asked.place;
+            commands.push(asked.command)?;
+        }
+    }
+    Ok((place, commands))
+}
+
+impl<'g, S: Counted> Stage<'g, S>
+where
+    S::Seat: Drop,
+    S::Parts: Copy + Drop,
+{
+    /// A client does a command, and appends the reply; and where its looker sees another group than it should, that.
+    fn calls<R: Wait>(
+        &mut self,
+        it: &Turn<'_, R>,
+        asked: Asked<'_>,
+        way: Way<'_>,
+        out: &mut Vec<u8>,
+    ) -> Result<(), Refusal> {
+        match self.players.get_mut(asked.place) {
+            Some(Some(player)) => player.tries(it, asked.command, way, out),
+            _ => Ok(say(out, &["no client"])?),
+        }
+    }
+
+    /// The client of this place is closed, and comes back on its seat.
+    fn comes_back<R>(
+        &mut self,
+        it: &Turn<'_, R>,
+        place: usize,
+        out: &mut Vec<u8>,
+    ) -> Result<(), AllocError> {
+        if place >= self.players.len() {
+            return say(out, &["no client"]);
+        }
+        let Some(player) = self.players[place].take() else {
+            return say(out, &["no client"]);
+        };
+        match player.comes_back(it, &mut self.spare) {
+            Ok(player) => {
+                self.players[place] = Some(player);
+                say(out, &["back"])
+            }
+            Err(refusal) => say_refusal(out, refusal),
+        }
+    }
+
+    /// A client makes the calls of a list, and appends each reply and a line feed.
+    fn lists<R>(
+        &mut self,
+        it: &Turn<'_, R>,
+        entries: &[Entry<'_>],
+        out: &mut Vec<u8>,
+    ) -> Result<(), Refusal> {
+        let (place, commands) = commands_in(it.rt.alloc(), entries)?;
+        match self.players.get_mut(place) {
+            Some(Some(player)) => player.tries_list(it, &commands, out),
+            _ => Ok(say(out, &["no client"])?),
+        }
+    }
+
+    fn asks_for_seat(&mut self, out: &mut Vec<u8>) -> Result<(), AllocError> {
+        match self.spare.ask() {
+            Some(refusal) => say_refusal(out, refusal),
+            None => say(out, &["seat"]),
+        }
+    }
+}
+
+/// Does what a line that is no call says.
+fn does_other<R, S: Counted>(
+    it: &Turn<'_, R>,
+    stage: &mut Stage<'_, S>,
+    deed: Deed<'_>,
+    out: &mut Vec<u8>,
+) -> Result<(), AllocError>
+where
+    S::Seat: Drop,
+    S::Parts: Copy + Drop,
+{
+    match deed {
+        Deed::ComeBack(who) => {
+            let trial = stage.trial;
+            stage.comes_back(it, trial.place_of(who), out)
+        }
+        Deed::Seat => stage.asks_for_seat(out),
+        Deed::Counts => S::say_counts(stage.group, out),
+        Deed::Part(name, given) => say_part(it, stage, name, given, out),
+        _ => Ok(()),
+    }
+}
+
+fn say_part<R, S: Counted>(
+    it: &Turn<'_, R>,
+    stage: &Stage<'_, S>,
+    name: &str,
+    given: &str,
+    out: &mut Vec<u8>,
+) -> Result<(), AllocError>
+where
+    S::Seat: Drop,
+    S::Parts: Copy + Drop,
+{
+    if !matches!(name, "open" | "steps") {
+        return say_text(it, name, given, out);
+    }
+    match config_of(it.rt.alloc(), stage.trial.header) {
+        Ok(config) => say_store::<R, S>(it, config, stage.parts, name, out),
+        Err(refusal) => say_refusal(out, refusal),
+    }
+}
+
+/// Does what a line with a reader says.
+fn does_reading<'p, R, S: Counted>(
+    it: &Turn<'_, R>,
+    readers: &mut Readers<'p, '_, S>,
+    entry: &Entry<'p>,
+    out: &mut Vec<u8>,
+) -> Result<(), AllocError>
+where
+    S::Seat: Drop,
+{
+    match entry.row.deed {
+        Deed::Open(name) => readers.opens(it, name, out),
+        Deed::Close(name) => readers.closes(it, name, out),
+        Deed::Ask(name, way) => match entry.asked {
+            Some(
+                Asked {
+                    place: _,
+                    command: Command::Query(query),
+                },
+            ) => readers.asks(it, name, query, way, out),
+            _ => say(out, &["no query"]),
+        },
+        _ => Ok(()),
+    }
+}
+
+/// Does what a line says, and appends the reply.
+fn does<'p, R: Wait, S: Counted>(
+    it: &Turn<'_, R>,
+    stage: &mut Stage<'_, S>,
+    readers: &mut Readers<'p, '_, S>,
+    entry: &Entry<'p>,
+    out: &mut Vec<u8>,
+) -> Result<(), Refusal>
+where
+    S::Seat: Drop,
+    S::Parts: Copy + Drop,
+{
+    match (entry.row.deed, entry.asked) {
+        (Deed::Call(way), Some(asked)) => stage.calls(it, asked, way, out),
+        (Deed::Open(_) | Deed::Close(_) | Deed::Ask(..), _) => {
+            Ok(does_reading(it, readers, entry, out)?)
+        }
+        (deed, _) => Ok(does_other(it, stage, deed, out)?),
+    }
+}
+
+/// Plays a line, and judges the reply.
+fn play_line<'p, R: Wait, S: Counted>(
+    host: &Host<'_, R>,
+    stage: &mut Stage<'_, S>,
+    readers: &mut Readers<'p, '_, S>,
+    entry: &Entry<'p>,
+    tally: &mut Tally<'_>,
+) -> Result<(), Failed>
+where
+    S::Seat: Drop,
+    S::Parts: Copy + Drop,
+{
+    let it = host.turn(entry.is_chosen);
+    let mut out = Vec::new(host.rt.alloc());
+    does(&it, stage, readers, entry, &mut out)?;
+    tally.shows = tally.shows || entry.is_chosen;
+    Ok(tally.judge(host.rt, entry, &out)?)
+}
+
+/// How many calls of one list stand first.
+fn listed(entries: &[Entry<'_>]) -> usize {
+    entries
+        .iter()
+        .position(|entry| !entry.is_listed())
+        .unwrap_or(entries.len())
+}
+
+/// Plays a list of calls, and judges each reply.
+fn play_list<R: Wait, S: Counted>(
+    host: &Host<'_, R>,
+    stage: &mut Stage<'_, S>,
+    entries: &[Entry<'_>],
+    tally: &mut Tally<'_>,
+) -> Result<(), Failed>
+where
+    S::Seat: Drop,
+    S::Parts: Copy + Drop,
+{
+    let alloc = host.rt.alloc();
+    let is_chosen = entries.iter().any(|entry| entry.is_chosen);
+    let mut out = Vec::new(alloc);
+    stage.lists(&host.turn(is_chosen), entries, &mut out)?;
+    let said = str::from_utf8(&out).unwrap_or("");
+    if is_chosen {
+        tally.shows = true;
+        return Ok(tally.show(host.rt, one_of(said))?);
+    }
+    for (entry, said) in entries.iter().zip(said.lines()) {
+        tally.judge(host.rt, entry, said.as_bytes())?;
+    }
+    Ok(())
+}
+
+/// The first refusal of a list's replies, or else the first reply.
+fn one_of(said: &str) -> &str {
+    let refusal = said.lines().find(|reply| reply.starts_with("refused "));
+    refusal.or(said.lines().next()).unwrap_or("")
+}
+
+/// The calls of the list that begins at a place; none where none begins there.
+fn list_at<'e>(entries: &'e [Entry<'e>], at: usize) -> &'e [Entry<'e>] {
+    let follows = at > 0 && entries.get(at - 1).is_some_and(|entry| entry.is_listed());
+    let rest = entries.get(at..).unwrap_or(&[]);
+    if follows {
+        return &[];
+    }
+    rest.get(..listed(rest)).unwrap_or(&[])
+}
+
+/// Plays the line at a place, or the list that begins there.
+fn play_at<'p, R: Wait, S: Counted>(
+    host: &Host<'_, R>,
+    stage: &mut Stage<'_, S>,
+    readers: &mut Readers<'p, '_, S>,
+    entries: &'p [Entry<'p>],
+    at: usize,
+    tally: &mut Tally<'_>,
+) -> Result<(), Failed>
+where
+    S::Seat: Drop,
+    S::Parts: Copy + Drop,
+{
+    let list = list_at(entries, at);
+    if !list.is_empty() {
+        return play_list(host, stage, list, tally);
+    }
+    match entries.get(at) {
+        Some(entry) if !entry.rests() && !entry.is_listed() => {
+            play_line(host, stage, readers, entry, tally)
+        }
+        _ => Ok(()),
+    }
+}
+
+/// Plays the lines of a group.
+fn play_entries<'p, R: Wait, S: Counted>(
+    host: &Host<'_, R>,
+    stage: &mut Stage<'_, S>,
+    readers: &mut Readers<'p, '_, S>,
+    entries: &'p [Entry<'p>],
+    tally: &mut Tally<'_>,
+) -> Result<(), Failed>
+where
+    S::Seat: Drop,
+    S::Parts: Copy + Drop,
+{
+    for at in 0..entries.len() {
+        play_at(host, stage, readers, entries, at, tally)?;
+    }
+    Ok(())
+}
+
+/// Plays a part of a trial in a group with these seats.
+fn play_in<R: Wait, S: Counted>(
+    host: &Host<'_, R>,
+    part: Part<'_>,
+    group: &Group<ScriptMutators, S>,
+    seats: Seats<ScriptMutators, S>,
+    parts: S::Parts,
+    tally: &mut Tally<'_>,
+) -> Result<(), Failed>
+where
+    S::Seat: Drop,
+    S::Parts: Copy + Drop,
+    requires { All (λ seat. (seat.mark.book ≡ group.now.shared.head)
+        × (S.home seat.slots ≡ S.serves group.now.shared.store)) seats.free.items }
+{
+    let alloc = host.rt.alloc();
+    let (mut stage, mut clients) = cast_of(alloc, part.trial, group, seats, parts)?;
+    let mut readers = Readers::new(alloc, clients.as_mut_slice());
+    play_entries(host, &mut stage, &mut readers, part.entries, tally)
+}
+
+/// Plays a part of a trial in a group of its own.
+fn play_part<R: Wait, S: Counted>(
+    host: &Host<'_, R>,
+    part: Part<'_>,
+    parts: S::Parts,
+    tally: &mut Tally<'_>,
+) -> Result<(), Failed>
+where
+    S::Seat: Drop,
+    S::Parts: Copy + Drop,
+{
+    let alloc = host.rt.alloc();
+    let config = config_of(alloc, part.trial.header)?;
+    let (group, seats) = Group::<ScriptMutators, S>::open(alloc, config, ScriptMutators, parts)?;
+    play_in(host, part, &group, seats, parts, tally)
+}
+
+/// Plays the lines of one group, where they are played.
+fn play_lines<R: Wait, S: Counted>(
+    host: &Host<'_, R>,
+    trial: Trial<'_>,
+    group: (usize, usize),
+    chosen: Option<usize>,
+    parts: S::Parts,
+    tally: &mut Tally<'_>,
+) -> Result<(), Failed>
+where
+    S::Seat: Drop,
+    S::Parts: Copy + Drop,
+{
+    if !is_played(group, chosen) {
+        return Ok(());
+    }
+    let entries = trial.entries(host.rt.alloc(), group, chosen)?;
+    let part = Part {
+        trial,
+        entries: &entries,
+    };
+    play_part::<R, S>(host, part, parts, tally)
+}
+
+/// Plays a trial over a store: whole, or the part alone with the chosen line.
+pub(crate) fn play<R: Wait, S: Counted>(
+    host: &Host<'_, R>,
+    trial: Trial<'_>,
+    chosen: Option<usize>,
+    parts: S::Parts,
+    tally: &mut Tally<'_>,
+) -> Result<(), Failed>
+where
+    S::Seat: Drop,
+    S::Parts: Copy + Drop,
+{
+    let groups = trial.parts(host.rt.alloc())?;
+    for group in &groups {
+        play_lines::<R, S>(host, trial, *group, chosen, parts, tally)?;
+    }
+    Ok(())
+}

@@ -1,0 +1,493 @@
+//! A client of a trial, with the tickets and the watches that it keeps.
+ghost use Rattle.std.specs.Prelude.{◌≡◌, ◌<◌, IfOk, vec_capacity, vec_len};
+ghost use Rattle.std.specs.Option.{ForSome};
+
+use crate::calls::{Turn, body_of, call_of, keep_ticket};
+use crate::looks::look;
+use crate::marks::{begins, ends};
+use crate::replies::{
+    Answer, id_word, is_change, say, say_answer, say_polled, say_refusal, say_row,
+};
+use crate::rows::{Manner, ONCE, Way};
+use chunk_slots::Store;
+use group_history::{Json, Refusal, Scan, Text, TextMap};
+use rebase::{Call, Client, Group, Polled, Reply, Seat, Seats, TakesRows, Ticket, Watch};
+use script_mutators::ScriptMutators;
+use script_parser::{Command, Query};
+use std::alloc::{AllocError, Global};
+use std::sync::Wait;
+use uuid::Uuid;
+
+/// A watch under its name.
+#[derive(Drop)]
+struct Named {
+    name: Text,
+    watch: Watch<ScriptMutators>,
+}
+
+/// A client, and what it keeps between its calls: tickets, and two watches. Another client of its ID looks at the group.
+#[derive(Drop)]
+pub(crate) struct Player<'g, S: Store<ScriptMutators>>
+where
+    S::Seat: Drop,
+{
+    group: &'g Group<ScriptMutators, S>,
+    id: Uuid,
+    client: Client<'g, ScriptMutators, S>,
+    looker: Client<'g, ScriptMutators, S>,
+    tickets: TextMap<Ticket>,
+    first: Option<Named>,
+    second: Option<Named>,
+    ghost client_of: { client.group.now ≡ group.now },
+    ghost looker_of: { looker.group.now ≡ group.now },
+    ghost first_of: { ForSome first (λ named. named.watch.book ≡ group.now.shared.head) },
+    ghost second_of: { ForSome second (λ named. named.watch.book ≡ group.now.shared.head) },
+}
+
+/// The seats that are free. One is out at least, so there is room for it.
+#[derive(Drop)]
+pub(crate) struct Spare<S: Store<ScriptMutators>>
+where
+    S::Seat: Drop,
+{
+    seats: Seats<ScriptMutators, S>,
+    ghost room: { vec_len seats.free < vec_capacity seats.free },
+}
+
+impl<S: Store<ScriptMutators>> Spare<S>
+where
+    S::Seat: Drop,
+{
+    pub(crate) fn new(seats: Seats<ScriptMutators, S>) -> Spare<S>
+        requires { vec_len seats.free < vec_capacity seats.free }
+    {
+        Spare { seats }
+    }
+
+    /// Why there is no seat, if there is none. One that is there is given up.
+    pub(crate) fn ask(&mut self) -> Option<Refusal> {
+        match self.seats.take() {
+            Ok(_) => None,
+            Err(refusal) => Some(refusal),
+        }
+    }
+
+    /// Takes the seat back, and gives out the next one: this one.
+    fn exchange(
+        &mut self,
+        seat: Seat<ScriptMutators, S>,
+    ) -> Result<Seat<ScriptMutators, S>, Refusal>
+        ensures { IfOk result (λ again. again ≡ seat) }
+    {
+        self.seats.back(seat);
+        self.seats.take()
+    }
+}
+
+/// A sink that writes rows as a scan's reply has them.
+#[derive(Drop)]
+pub(crate) struct Written {
+    pub(crate) text: Vec<u8>,
+    pub(crate) before: &'static str,
+}
+
+impl TakesRows for Written {
+    ghost has = { λ written rows. Unit {0} };
+
+    fn take(&mut self, key: &Text, value: &Json) -> Result<(), AllocError> {
+        say(&mut self.text, &[self.before])?;
+        self.before = ",";
+        say_row(&mut self.text, key, value)
+    }
+}
+
+pub(crate) fn nothing_written(alloc: Global) -> Written {
+    Written {
+        text: Vec::new(alloc),
+        before: "rows [",
+    }
+}
+
+impl Written {
+    /// Appends the reply.
+    pub(crate) fn say(&self, out: &mut Vec<u8>) -> Result<(), AllocError> {
+        out.extend_from_slice(&self.text)?;
+        say(out, &[if self.text.is_empty() { "rows []" } else { "]" }])
+    }
+}
+
+impl<'g, S: Store<ScriptMutators>> Player<'g, S>
+where
+    S::Seat: Drop,
+{
+    pub(crate) fn new(
+        alloc: Global,
+        group: &'g Group<ScriptMutators, S>,
+        id: Uuid,
+        client: Client<'g, ScriptMutators, S>,
+        looker: Client<'g, ScriptMutators, S>,
+    ) -> Player<'g, S>
+        requires client { client.group.now ≡ group.now }
+        requires looker { looker.group.now ≡ group.now }
+    {
+        Player {
+            group,
+            id,
+            client,
+            looker,
+            tickets: TextMap::new(alloc),
+            first: None,
+            second: None,
+        }
+    }
+
+    /// All that its looker sees.
+    pub(crate) fn look(&mut self, alloc: Global) -> Result<Vec<u8>, Refusal> {
+        look(alloc, &mut self.looker)
+    }
+
+    /// Makes the call that a command is; none where it is none, as an end of a pull whose ticket is not there.
+    fn answer<R: Wait>(
+        &mut self,
+        it: &Turn<'_, R>,
+        command: &Command,
+        way: Way<'_>,
+    ) -> Result<Option<Answer>, AllocError> {
+        let body = body_of(it.rt.alloc(), command, way)?;
+        let Some(call) = call_of(&self.tickets, command, &body) else {
+            return Ok(None);
+        };
+        begins(it.rt, it.is_marked);
+        let answer = made(it.on, &mut self.client, call, way);
+        ends(it.rt, it.is_marked);
+        Ok(Some(answer))
+    }
+
+    /// Keeps the ticket of a pull that it began.
+    fn keep(&mut self, command: &Command, answer: Answer) -> Result<(), AllocError> {
+        match (command, answer) {
+            (Command::Begin(name), Ok(Reply::Ticket(ticket))) => {
+                keep_ticket(&mut self.tickets, name, ticket)
+            }
+            (_, answer) => {
+                drop(answer);
+                Ok(())
+            }
+        }
+    }
+
+    /// Makes a call, and appends the answer. Whether it is one that changes the group.
+    fn call<R: Wait>(
+        &mut self,
+        it: &Turn<'_, R>,
+        command: &Command,
+        way: Way<'_>,
+        out: &mut Vec<u8>,
+    ) -> Result<bool, AllocError> {
+        let Some(answer) = self.answer(it, command, way)? else {
+            say(out, &["no ticket"])?;
+            return Ok(false);
+        };
+        say_answer(out, id_word(command), &answer)?;
+        let is_change = is_change(command, &answer);
+        self.keep(command, answer)?;
+        Ok(is_change)
+    }
+
+    /// Scans into a sink.
+    fn scan<R>(
+        &mut self,
+        it: &Turn<'_, R>,
+        scan: &Scan,
+        tries: u32,
+        out: &mut Vec<u8>,
+    ) -> Result<(), AllocError> {
+        let mut written = nothing_written(it.rt.alloc());
+        begins(it.rt, it.is_marked);
+        let scanned = self.client.scan_into(scan, &mut written, tries);
+        ends(it.rt, it.is_marked);
+        match scanned {
+            Ok(()) => written.say(out),
+            Err(refusal) => say_refusal(out, refusal),
+        }
+    }
+
+    /// Watches a scan. A third watch takes the second one's place.
+    fn watch(&mut self, name: &Text, scan: &Scan) -> Result<(), AllocError> {
+        let watch = self.client.watch(scan.clone()?);
+        let named = Some(Named {
+            name: name.clone()?,
+            watch,
+        });
+        if self.first.is_none() || is_named(&self.first, name) {
+            self.first = named;
+        } else {
+            self.second = named;
+        }
+        Ok(())
+    }
+
+    /// Polls the watch of a name, where there is one.
+    fn poll<R>(
+        &mut self,
+        it: &Turn<'_, R>,
+        name: &Text,
+        tries: u32,
+    ) -> Option<Result<Polled, Refusal>> {
+        if is_named(&self.first, name) {
+            let mut named = self.first.take()?;
+            let polled = polled_by(it, &mut self.client, &mut named, tries);
+            self.first = Some(named);
+            return Some(polled);
+        }
+        if is_named(&self.second, name) {
+            let mut named = self.second.take()?;
+            let polled = polled_by(it, &mut self.client, &mut named, tries);
+            self.second = Some(named);
+            return Some(polled);
+        }
+        None
+    }
+
+    fn say_poll<R>(
+        &mut self,
+        it: &Turn<'_, R>,
+        name: &Text,
+        tries: u32,
+        out: &mut Vec<u8>,
+    ) -> Result<(), AllocError> {
+        match self.poll(it, name, tries) {
+            Some(polled) => say_polled(out, &polled),
+            None => say(out, &["no watch"]),
+        }
+    }
+
+    /// Learns what its looker has seen: that looked last, so it is all that others have seen.
+    fn learn<R>(&mut self, it: &Turn<'_, R>) {
+        begins(it.rt, it.is_marked);
+        let seen = self.looker.mark();
+        self.client.learn(&seen);
+        ends(it.rt, it.is_marked);
+    }
+
+    /// Does a command, and appends the reply. Whether it changes the group.
+    pub(crate) fn does<R: Wait>(
+        &mut self,
+        it: &Turn<'_, R>,
+        command: &Command,
+        way: Way<'_>,
+        out: &mut Vec<u8>,
+    ) -> Result<bool, AllocError> {
+        match command {
+            Command::Learn(_) => {
+                self.learn(it);
+                say(out, &["learnt"])?;
+            }
+            Command::Watch(name, scan) => {
+                self.watch(name, scan)?;
+                say(out, &["watching"])?;
+            }
+            Command::Poll(name) => self.say_poll(it, name, way.tries, out)?,
+            Command::Query(Query::Scan(scan)) if way.manner == Manner::Into => {
+                self.scan(it, scan, way.tries, out)?
+            }
+            command => return self.call(it, command, way, out),
+        }
+        Ok(false)
+    }
+
+    /// Does a command, and appends the reply; and where its looker sees what it should not, that.
+    pub(crate) fn tries<R: Wait>(
+        &mut self,
+        it: &Turn<'_, R>,
+        command: &Command,
+        way: Way<'_>,
+        out: &mut Vec<u8>,
+    ) -> Result<(), Refusal> {
+        let alloc = it.rt.alloc();
+        let before = self.look(alloc)?;
+        let is_change = self.does(it, command, way, out)?;
+        let after = self.look(alloc)?;
+        if (before == after) == is_change {
+            say(out, &[", but its looker sees something else"])?;
+        }
+        Ok(())
+    }
+
+    /// Makes calls as one list, and appends each reply and a line feed; and where its looker sees what it should not, that.
+    pub(crate) fn tries_list<R>(
+        &mut self,
+        it: &Turn<'_, R>,
+        commands: &[&Command],
+        out: &mut Vec<u8>,
+    ) -> Result<(), Refusal> {
+        let alloc = it.rt.alloc();
+        let before = self.look(alloc)?;
+        let is_change = self.lists(it, commands, out)?;
+        let after = self.look(alloc)?;
+        if (before == after) == is_change {
+            say(out, &["its looker sees something else"])?;
+        }
+        Ok(())
+    }
+
+    /// Makes calls as one list, and appends each answer and a line feed. Whether one of them changes the group.
+    pub(crate) fn lists<R>(
+        &mut self,
+        it: &Turn<'_, R>,
+        commands: &[&Command],
+        out: &mut Vec<u8>,
+    ) -> Result<bool, AllocError> {
+        let mut bodies = Vec::new(it.rt.alloc());
+        for command in commands {
+            bodies.push(body_of(it.rt.alloc(), command, ONCE)?)?;
+        }
+        match self.answers(it, commands, &bodies) {
+            Ok(answers) => say_answers(out, commands, &answers),
+            Err(AllocError) => {
+                say(out, &["refused NoMemory\n"])?;
+                Ok(false)
+            }
+        }
+    }
+
+    fn answers<R>(
+        &mut self,
+        it: &Turn<'_, R>,
+        commands: &[&Command],
+        bodies: &[Vec<u8>],
+    ) -> Result<Vec<Answer>, AllocError> {
+        let alloc = it.rt.alloc();
+        let calls = listed_calls(alloc, &self.tickets, commands, bodies)?;
+        begins(it.rt, it.is_marked);
+        let answers = self.client.call_all(alloc, &calls, ONCE.tries);
+        ends(it.rt, it.is_marked);
+        answers
+    }
+
+    /// The client is closed, its seat goes back, and a client of its ID takes that seat.
+    pub(crate) fn comes_back<R>(
+        self,
+        it: &Turn<'_, R>,
+        spare: &mut Spare<S>,
+    ) -> Result<Player<'g, S>, Refusal> {
+        let Player {
+            group,
+            id,
+            client,
+            looker,
+            tickets,
+            first,
+            second,
+        } = self;
+        begins(it.rt, it.is_marked);
+        let client = client_again(group, id, client, spare);
+        ends(it.rt, it.is_marked);
+        Ok(Player {
+            group,
+            id,
+            client: client?,
+            looker,
+            tickets,
+            first,
+            second,
+        })
+    }
+}
+
+/// The calls of a list. A command that is no call is left out.
+fn listed_calls<'x>(
+    alloc: Global,
+    tickets: &'x TextMap<Ticket>,
+    commands: &'x [&'x Command],
+    bodies: &'x [Vec<u8>],
+) -> Result<Vec<Call<'x>>, AllocError> {
+    let mut calls = Vec::new(alloc);
+    for (command, body) in commands.iter().zip(bodies) {
+        if let Some(call) = call_of(tickets, command, body) {
+            calls.push(call)?;
+        }
+    }
+    Ok(calls)
+}
+
+fn client_again<'g, S: Store<ScriptMutators>>(
+    group: &'g Group<ScriptMutators, S>,
+    id: Uuid,
+    client: Client<'g, ScriptMutators, S>,
+    spare: &mut Spare<S>,
+) -> Result<Client<'g, ScriptMutators, S>, Refusal>
+where
+    S::Seat: Drop,
+    requires { client.group.now ≡ group.now }
+    ensures { IfOk result (λ again. again.group.now ≡ group.now) }
+{
+    let seat = spare.exchange(client.close())?;
+    match group.client(seat, id, ONCE.tries) {
+        Ok(client) => Ok(client),
+        Err((_, refusal)) => Err(refusal),
+    }
+}
+
+fn is_named(named: &Option<Named>, name: &Text) -> bool {
+    match named {
+        Some(named) => named.name == *name,
+        None => false,
+    }
+}
+
+/// Polls a watch of a client's group.
+fn polled_by<R, S: Store<ScriptMutators>>(
+    it: &Turn<'_, R>,
+    client: &mut Client<'_, ScriptMutators, S>,
+    named: &mut Named,
+    tries: u32,
+) -> Result<Polled, Refusal>
+where
+    S::Seat: Drop,
+    requires { named.old.watch.book ≡ client.old.mark.book }
+    ensures watch { named.new.watch.book ≡ named.old.watch.book }
+    ensures client { client.new.group.now ≡ client.old.group.now }
+{
+    begins(it.rt, it.is_marked);
+    let polled = client.poll(&mut named.watch, tries);
+    ends(it.rt, it.is_marked);
+    polled
+}
+
+/// Makes a call once, or as the one that begins anew where others were first.
+fn made<R: Wait, S: Store<ScriptMutators>>(
+    on: &R,
+    client: &mut Client<'_, ScriptMutators, S>,
+    call: Call<'_>,
+    way: Way<'_>,
+) -> Answer
+where
+    S::Seat: Drop,
+    ensures { client.new.group.now ≡ client.old.group.now }
+{
+    match (call, way.manner) {
+        (Call::Mutate(m), Manner::Waits) => {
+            client.mutate(on, m.name, m.args, m.time).map(Reply::Id)
+        }
+        (Call::EndPull(ticket, body), Manner::Waits) => {
+            client.end_pull(on, ticket, body).map(Reply::Ended)
+        }
+        (call, _) => client.make_call(call, way.tries),
+    }
+}
+
+/// Appends each answer and a line feed. Whether one of them changes the group.
+fn say_answers(
+    out: &mut Vec<u8>,
+    commands: &[&Command],
+    answers: &[Answer],
+) -> Result<bool, AllocError> {
+    let mut changes = false;
+    for (command, answer) in commands.iter().zip(answers) {
+        say_answer(out, id_word(command), answer)?;
+        say(out, &["\n"])?;
+        changes = changes || is_change(command, answer);
+    }
+    Ok(changes)
+}

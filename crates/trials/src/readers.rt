@@ -1,0 +1,171 @@
+//! Readers that a trial keeps: each is opened, asked and closed under its name.
+use crate::calls::Turn;
+use crate::marks::{begins, ends};
+use crate::players::nothing_written;
+use crate::replies::{Answer, say, say_answer, say_refusal};
+use crate::rows::{Manner, Way};
+use chunk_slots::Store;
+use group_history::{Refusal, Scan};
+use rebase::{Client, ReadTx, Reply};
+use script_mutators::ScriptMutators;
+use script_parser::Query;
+use std::alloc::{AllocError, Global};
+use std::slice::IterMut;
+
+/// A reader under its name.
+#[derive(Drop)]
+struct Open<'p, 'g, S: Store<ScriptMutators>>
+where
+    S::Seat: Drop,
+{
+    name: &'p str,
+    tx: ReadTx<'p, 'g, ScriptMutators, S>,
+}
+
+/// The readers that are open, and clients that have not read yet: each reads once.
+#[derive(Drop)]
+pub(crate) struct Readers<'p, 'g, S: Store<ScriptMutators>>
+where
+    S::Seat: Drop,
+{
+    pub(crate) free: IterMut<'p, Client<'g, ScriptMutators, S>>,
+    open: Vec<Open<'p, 'g, S>>,
+}
+
+impl<'p, 'g, S: Store<ScriptMutators>> Readers<'p, 'g, S>
+where
+    S::Seat: Drop,
+{
+    /// No reader yet, and clients that may read.
+    pub(crate) fn new(
+        alloc: Global,
+        clients: &'p mut [Client<'g, ScriptMutators, S>],
+    ) -> Readers<'p, 'g, S> {
+        Readers {
+            free: clients.iter_mut(),
+            open: Vec::new(alloc),
+        }
+    }
+
+    /// Opens a reader.
+    pub(crate) fn opens<R>(
+        &mut self,
+        it: &Turn<'_, R>,
+        name: &'p str,
+        out: &mut Vec<u8>,
+    ) -> Result<(), AllocError> {
+        let Some(client) = self.free.next() else {
+            return say(out, &["no client"]);
+        };
+        begins(it.rt, it.is_marked);
+        let read = client.read(1);
+        ends(it.rt, it.is_marked);
+        match read {
+            Ok(tx) => {
+                self.open.push(Open { name, tx })?;
+                say(out, &["reading"])
+            }
+            Err(refusal) => say_refusal(out, refusal),
+        }
+    }
+
+    /// Asks a reader a query.
+    pub(crate) fn asks<R>(
+        &self,
+        it: &Turn<'_, R>,
+        name: &str,
+        query: &Query,
+        way: Way<'_>,
+        out: &mut Vec<u8>,
+    ) -> Result<(), AllocError> {
+        match self.open.iter().find(|open| open.name == name) {
+            Some(open) => say_asked(it, &open.tx, query, way, out),
+            None => say(out, &["no reader"]),
+        }
+    }
+
+    /// Closes a reader. One that is not open is none.
+    pub(crate) fn closes<R>(
+        &mut self,
+        it: &Turn<'_, R>,
+        name: &str,
+        out: &mut Vec<u8>,
+    ) -> Result<(), AllocError> {
+        let Some(at) = self.open.iter().position(|open| open.name == name) else {
+            return say(out, &["no reader"]);
+        };
+        let Open { name: _, tx } = self.open.remove(at);
+        begins(it.rt, it.is_marked);
+        tx.close();
+        ends(it.rt, it.is_marked);
+        say(out, &["closed"])
+    }
+}
+
+fn say_asked<R, S: Store<ScriptMutators>>(
+    it: &Turn<'_, R>,
+    tx: &ReadTx<'_, '_, ScriptMutators, S>,
+    query: &Query,
+    way: Way<'_>,
+    out: &mut Vec<u8>,
+) -> Result<(), AllocError>
+where
+    S::Seat: Drop,
+{
+    if let Query::Scan(scan) = query
+        && way.manner == Manner::Into
+    {
+        return say_scanned(it, tx, scan, out);
+    }
+    begins(it.rt, it.is_marked);
+    let answer = asked(tx, query);
+    ends(it.rt, it.is_marked);
+    say_answer(out, "", &answer)
+}
+
+fn say_scanned<R, S: Store<ScriptMutators>>(
+    it: &Turn<'_, R>,
+    tx: &ReadTx<'_, '_, ScriptMutators, S>,
+    scan: &Scan,
+    out: &mut Vec<u8>,
+) -> Result<(), AllocError>
+where
+    S::Seat: Drop,
+{
+    let mut written = nothing_written(it.rt.alloc());
+    begins(it.rt, it.is_marked);
+    let scanned = tx.scan_into(scan, &mut written);
+    ends(it.rt, it.is_marked);
+    match scanned {
+        Ok(()) => written.say(out),
+        Err(refusal) => say_refusal(out, refusal),
+    }
+}
+
+fn asked<S: Store<ScriptMutators>>(tx: &ReadTx<'_, '_, ScriptMutators, S>, query: &Query) -> Answer
+where
+    S::Seat: Drop,
+{
+    match query {
+        Query::Get(key) => tx.get(key.as_str()).map(Reply::Value),
+        Query::Scan(scan) => tx.scan(scan).map(Reply::Rows),
+        Query::Pending => tx.pending().map(Reply::Pending),
+        Query::Cookie => tx.cookie().map(Reply::Cookie),
+        query => tells(tx, query).map(Reply::Is),
+    }
+}
+
+fn tells<S: Store<ScriptMutators>>(
+    tx: &ReadTx<'_, '_, ScriptMutators, S>,
+    query: &Query,
+) -> Result<bool, Refusal>
+where
+    S::Seat: Drop,
+{
+    match query {
+        Query::Has(key) => tx.has(key.as_str()),
+        Query::Empty => tx.is_empty(),
+        Query::Closed => tx.closed(),
+        _ => Err(Refusal::BadShape),
+    }
+}
