@@ -5,13 +5,14 @@ ghost use Rattle.std.specs.List.{All};
 use crate::calls::Turn;
 use crate::counts::Counted;
 use crate::failed::Failed;
+use crate::looks::all_rows;
 use crate::parts::{say_store, say_text};
 use crate::players::{Player, Spare};
 use crate::readers::Readers;
-use crate::replies::{say, say_refusal};
+use crate::replies::Said;
 use crate::rows::{Deed, ONCE, Way};
 use crate::sheet::{Asked, Entry, Trial, is_played};
-use crate::tally::Tally;
+use crate::tally::{Tally, judge};
 use crate::trial::Host;
 use chunk_slots::Store;
 use group_history::Refusal;
@@ -19,6 +20,7 @@ use rebase::{Client, Config, Group, Seats};
 use script_mutators::ScriptMutators;
 use script_parser::{ClientLine, Command, Header};
 use std::alloc::{AllocError, Global};
+use std::io;
 use std::sync::Wait;
 use uuid::Uuid;
 
@@ -63,7 +65,8 @@ where
 {
     let client = next_client(group, seats, id)?;
     let looker = next_client(group, seats, id)?;
-    Ok(Player::new(alloc, group, id, client, looker))
+    let all = all_rows(alloc)?;
+    Ok(Player::new(alloc, group, id, client, looker, all))
 }
 
 fn add_player<'g, S: Store<ScriptMutators>>(
@@ -229,60 +232,51 @@ where
     S::Seat: Drop,
     S::Parts: Copy + Drop,
 {
-    /// A client does a command, and appends the reply; and where its looker sees another group than it should, that.
-    fn calls<R: Wait>(
-        &mut self,
-        it: &Turn<'_, R>,
-        asked: Asked<'_>,
-        way: Way<'_>,
-        out: &mut Vec<u8>,
-    ) -> Result<(), Refusal> {
+    /// A client does a command, and says the reply; and where its looker sees another group than it should, that.
+    fn calls<R: Wait>(&mut self, it: &Turn<'_, R>, asked: Asked<'_>, way: Way<'_>, out: &mut Said) {
         match self.players.get_mut(asked.place) {
             Some(Some(player)) => player.tries(it, asked.command, way, out),
-            _ => Ok(say(out, &["no client"])?),
+            _ => out.say("no client"),
+        }
+    }
+
+    /// The client of a place, which is left empty.
+    fn leaves(&mut self, place: usize) -> Option<Player<'g, S>> {
+        self.players.get_mut(place)?.take()
+    }
+
+    fn enters(&mut self, place: usize, player: Player<'g, S>) {
+        if let Some(empty) = self.players.get_mut(place) {
+            drop(empty.replace(player));
         }
     }
 
     /// The client of this place is closed, and comes back on its seat.
-    fn comes_back<R>(
-        &mut self,
-        it: &Turn<'_, R>,
-        place: usize,
-        out: &mut Vec<u8>,
-    ) -> Result<(), AllocError> {
-        if place >= self.players.len() {
-            return say(out, &["no client"]);
-        }
-        let Some(player) = self.players[place].take() else {
-            return say(out, &["no client"]);
+    fn comes_back<R>(&mut self, it: &Turn<'_, R>, place: usize, out: &mut Said) {
+        let Some(player) = self.leaves(place) else {
+            return out.say("no client");
         };
         match player.comes_back(it, &mut self.spare) {
             Ok(player) => {
-                self.players[place] = Some(player);
-                say(out, &["back"])
+                self.enters(place, player);
+                out.say("back");
             }
-            Err(refusal) => say_refusal(out, refusal),
+            Err(refusal) => out.say_refusal(refusal),
         }
     }
 
-    /// A client makes the calls of a list, and appends each reply and a line feed.
-    fn lists<R>(
-        &mut self,
-        it: &Turn<'_, R>,
-        entries: &[Entry<'_>],
-        out: &mut Vec<u8>,
-    ) -> Result<(), Refusal> {
-        let (place, commands) = commands_in(it.rt.alloc(), entries)?;
+    /// A client makes the calls of a list, and says each reply and a line feed.
+    fn lists<R>(&mut self, it: &Turn<'_, R>, place: usize, commands: &[&Command], out: &mut Said) {
         match self.players.get_mut(place) {
-            Some(Some(player)) => player.tries_list(it, &commands, out),
-            _ => Ok(say(out, &["no client"])?),
+            Some(Some(player)) => player.tries_list(it, commands, out),
+            _ => out.say("no client"),
         }
     }
 
-    fn asks_for_seat(&mut self, out: &mut Vec<u8>) -> Result<(), AllocError> {
+    fn asks_for_seat(&mut self, out: &mut Said) {
         match self.spare.ask() {
-            Some(refusal) => say_refusal(out, refusal),
-            None => say(out, &["seat"]),
+            Some(refusal) => out.say_refusal(refusal),
+            None => out.say("seat"),
         }
     }
 }
@@ -292,8 +286,8 @@ fn does_other<R, S: Counted>(
     it: &Turn<'_, R>,
     stage: &mut Stage<'_, S>,
     deed: Deed<'_>,
-    out: &mut Vec<u8>,
-) -> Result<(), AllocError>
+    out: &mut Said,
+)
 where
     S::Seat: Drop,
     S::Parts: Copy + Drop,
@@ -304,9 +298,9 @@ where
             stage.comes_back(it, trial.place_of(who), out)
         }
         Deed::Seat => stage.asks_for_seat(out),
-        Deed::Counts => S::say_counts(stage.group, out),
+        Deed::Counts => S::say_counts(it.rt.alloc(), stage.group, out),
         Deed::Part(name, given) => say_part(it, stage, name, given, out),
-        _ => Ok(()),
+        _ => {}
     }
 }
 
@@ -315,8 +309,8 @@ fn say_part<R, S: Counted>(
     stage: &Stage<'_, S>,
     name: &str,
     given: &str,
-    out: &mut Vec<u8>,
-) -> Result<(), AllocError>
+    out: &mut Said,
+)
 where
     S::Seat: Drop,
     S::Parts: Copy + Drop,
@@ -326,7 +320,7 @@ where
     }
     match config_of(it.rt.alloc(), stage.trial.header) {
         Ok(config) => say_store::<R, S>(it, config, stage.parts, name, out),
-        Err(refusal) => say_refusal(out, refusal),
+        Err(refusal) => out.say_refusal(refusal),
     }
 }
 
@@ -335,8 +329,8 @@ fn does_reading<'p, R, S: Counted>(
     it: &Turn<'_, R>,
     readers: &mut Readers<'p, '_, S>,
     entry: &Entry<'p>,
-    out: &mut Vec<u8>,
-) -> Result<(), AllocError>
+    out: &mut Said,
+)
 where
     S::Seat: Drop,
 {
@@ -350,30 +344,30 @@ where
                     command: Command::Query(query),
                 },
             ) => readers.asks(it, name, query, way, out),
-            _ => say(out, &["no query"]),
+            _ => out.say("no query"),
         },
-        _ => Ok(()),
+        _ => {}
     }
 }
 
-/// Does what a line says, and appends the reply.
+/// Does what a line says, and says the reply.
 fn does<'p, R: Wait, S: Counted>(
     it: &Turn<'_, R>,
     stage: &mut Stage<'_, S>,
     readers: &mut Readers<'p, '_, S>,
     entry: &Entry<'p>,
-    out: &mut Vec<u8>,
-) -> Result<(), Refusal>
+    out: &mut Said,
+)
 where
     S::Seat: Drop,
     S::Parts: Copy + Drop,
 {
     match (entry.row.deed, entry.asked) {
         (Deed::Call(way), Some(asked)) => stage.calls(it, asked, way, out),
-        (Deed::Open(_) | Deed::Close(_) | Deed::Ask(..), _) => {
-            Ok(does_reading(it, readers, entry, out)?)
-        }
-        (deed, _) => Ok(does_other(it, stage, deed, out)?),
+        (Deed::Open(_) | Deed::Close(_) | Deed::Ask(..), _) => does_reading(
+            it, readers, entry, out,
+        ),
+        (deed, _) => does_other(it, stage, deed, out),
     }
 }
 
@@ -389,11 +383,9 @@ where
     S::Seat: Drop,
     S::Parts: Copy + Drop,
 {
-    let it = host.turn(entry.is_chosen);
-    let mut out = Vec::new(host.rt.alloc());
-    does(&it, stage, readers, entry, &mut out)?;
-    tally.shows = tally.shows || entry.is_chosen;
-    Ok(tally.judge(host.rt, entry, &out)?)
+    let mut out = Said::nothing(host.rt.alloc());
+    does(&host.turn(entry.is_chosen), stage, readers, entry, &mut out);
+    judge(host, entry, &out, tally)
 }
 
 /// How many calls of one list stand first.
@@ -415,19 +407,57 @@ where
     S::Seat: Drop,
     S::Parts: Copy + Drop,
 {
-    let alloc = host.rt.alloc();
     let is_chosen = entries.iter().any(|entry| entry.is_chosen);
-    let mut out = Vec::new(alloc);
-    stage.lists(&host.turn(is_chosen), entries, &mut out)?;
-    let said = str::from_utf8(&out).unwrap_or("");
-    if is_chosen {
-        tally.shows = true;
+    let mut out = Said::nothing(host.rt.alloc());
+    list_said(&host.turn(is_chosen), stage, entries, &mut out)?;
+    tally.shows = tally.shows || is_chosen;
+    judge_list(host, entries, &out, tally)
+}
+
+fn list_said<R, S: Counted>(
+    it: &Turn<'_, R>,
+    stage: &mut Stage<'_, S>,
+    entries: &[Entry<'_>],
+    out: &mut Said,
+) -> Result<(), AllocError>
+where
+    S::Seat: Drop,
+    S::Parts: Copy + Drop,
+{
+    let (place, commands) = commands_in(it.rt.alloc(), entries)?;
+    stage.lists(it, place, &commands, out);
+    Ok(())
+}
+
+/// Judges each reply of a list, or shows one of them.
+fn judge_list<R>(
+    host: &Host<'_, R>,
+    entries: &[Entry<'_>],
+    out: &Said,
+    tally: &mut Tally<'_>,
+) -> Result<(), Failed> {
+    let said = str::from_utf8(out.whole()?).unwrap_or("");
+    if tally.shows {
         return Ok(tally.show(host.rt, one_of(said))?);
     }
-    for (entry, said) in entries.iter().zip(said.lines()) {
-        tally.judge(host.rt, entry, said.as_bytes())?;
+    Ok(judge_each(host.rt, entries, said, tally)?)
+}
+
+fn judge_each(
+    rt: &HostRuntime,
+    entries: &[Entry<'_>],
+    said: &str,
+    tally: &mut Tally<'_>,
+) -> io::Result<()> {
+    let mut replies = said.lines();
+    for entry in entries {
+        let reply = replies.next().unwrap_or("no reply");
+        tally.judge(rt, entry, reply.as_bytes())?;
     }
-    Ok(())
+    match (replies.next(), entries.last()) {
+        (Some(more), Some(entry)) => tally.judge(rt, entry, more.as_bytes()),
+        _ => Ok(()),
+    }
 }
 
 /// The first refusal of a list's replies, or else the first reply.
@@ -506,8 +536,22 @@ where
 {
     let alloc = host.rt.alloc();
     let (mut stage, mut clients) = cast_of(alloc, part.trial, group, seats, parts)?;
-    let mut readers = Readers::new(alloc, clients.as_mut_slice());
-    play_entries(host, &mut stage, &mut readers, part.entries, tally)
+    play_with(host, part, &mut stage, clients.as_mut_slice(), tally)
+}
+
+fn play_with<'g, R: Wait, S: Counted>(
+    host: &Host<'_, R>,
+    part: Part<'_>,
+    stage: &mut Stage<'_, S>,
+    clients: &mut [Client<'g, ScriptMutators, S>],
+    tally: &mut Tally<'_>,
+) -> Result<(), Failed>
+where
+    S::Seat: Drop,
+    S::Parts: Copy + Drop,
+{
+    let mut readers = Readers::new(host.rt.alloc(), clients);
+    play_entries(host, stage, &mut readers, part.entries, tally)
 }
 
 /// Plays a part of a trial in a group of its own.

@@ -1,9 +1,9 @@
 //! What a client sees of the group: all of it as one text.
 ghost use Rattle.std.specs.Prelude.{◌≡◌};
 
-use crate::replies::{Answer, say, say_answer};
+use crate::replies::{Answer, Said};
 use chunk_slots::Store;
-use group_history::{Refusal, Scan, Start, Text};
+use group_history::{Scan, Start, Text};
 use rebase::{Call, Client};
 use script_mutators::ScriptMutators;
 use std::alloc::{AllocError, Global};
@@ -20,50 +20,54 @@ pub(crate) fn all_rows(alloc: Global) -> Result<Scan, AllocError> {
     })
 }
 
+/// Says what is seen, and a line feed. What is refused is not seen.
+pub(crate) fn say_seen(seen: &mut Said, answer: &Answer) {
+    seen.say_answer("last ", answer);
+    seen.say("\n");
+    if answer.is_err() {
+        seen.cut();
+    }
+}
+
 fn add_look<S: Store<ScriptMutators>>(
-    seen: &mut Vec<u8>,
+    seen: &mut Said,
     looker: &mut Client<'_, ScriptMutators, S>,
     call: Call<'_>,
-) -> Result<(), Refusal>
+)
 where
     S::Seat: Drop,
     ensures { looker.new.group.now ≡ looker.old.group.now }
 {
     let answer = looker.make_call(call, TRIES);
-    let said = say_seen(seen, &answer);
-    drop(answer);
-    said
-}
-
-/// Appends what is seen, and a line feed.
-pub(crate) fn say_seen(seen: &mut Vec<u8>, answer: &Answer) -> Result<(), Refusal> {
-    say_answer(seen, "last ", answer)?;
-    say(seen, &["\n"])?;
-    match answer {
-        Ok(_) => Ok(()),
-        Err(refusal) => Err(*refusal),
-    }
+    say_seen(seen, &answer);
 }
 
 /// The client's last id, what is pending, the cookie, whether the group is closed, and all rows.
 pub(crate) fn look<S: Store<ScriptMutators>>(
-    alloc: Global,
     looker: &mut Client<'_, ScriptMutators, S>,
-) -> Result<Vec<u8>, Refusal>
+    all: &Scan,
+    alloc: Global,
+) -> Said
 where
     S::Seat: Drop,
     ensures { looker.new.group.now ≡ looker.old.group.now }
 {
-    let all = all_rows(alloc)?;
-    let mut seen = Vec::new(alloc);
-    for call in [
-        Call::Refresh,
-        Call::PushBody,
-        Call::Cookie,
-        Call::Closed,
-        Call::Scan(&all),
-    ] {
-        add_look(&mut seen, looker, call)?;
+    let mut seen = Said::nothing(alloc);
+    add_look(&mut seen, looker, Call::Refresh);
+    add_look(&mut seen, looker, Call::PushBody);
+    add_look(&mut seen, looker, Call::Cookie);
+    add_look(&mut seen, looker, Call::Closed);
+    add_look(&mut seen, looker, Call::Scan(all));
+    seen
+}
+
+/// Says where a call changed what is seen and should not have, or the other way round.
+pub(crate) fn say_change(out: &mut Said, before: &Said, after: &Said, is_change: bool) {
+    let is_right = match (before.whole(), after.whole()) {
+        (Ok(before), Ok(after)) => (before == after) != is_change,
+        _ => false,
+    };
+    if !is_right {
+        out.say(", but its looker sees something else");
     }
-    Ok(seen)
 }

@@ -2,13 +2,12 @@
 use crate::calls::Turn;
 use crate::counts::Counted;
 use crate::marks::{begins, ends};
-use crate::replies::{say, say_refusal};
+use crate::replies::Said;
 use crate::steps::steps;
 use crate::{requests, texts};
 use group_history::Refusal;
 use rebase::{Config, Group};
 use script_mutators::ScriptMutators;
-use std::alloc::AllocError;
 
 /// What is told of a text; an error is a refusal that is told.
 fn told<R>(it: &Turn<'_, R>, name: &str, given: &str) -> Result<String, Refusal> {
@@ -48,15 +47,10 @@ fn word_told<R>(it: &Turn<'_, R>, name: &str, given: &str) -> Result<&'static st
 }
 
 /// Appends what is told of a text.
-pub(crate) fn say_text<R>(
-    it: &Turn<'_, R>,
-    name: &str,
-    given: &str,
-    out: &mut Vec<u8>,
-) -> Result<(), AllocError> {
+pub(crate) fn say_text<R>(it: &Turn<'_, R>, name: &str, given: &str, out: &mut Said) {
     match told(it, name, given) {
-        Ok(text) => say(out, &[text.as_str()]),
-        Err(refusal) => say_refusal(out, refusal),
+        Ok(text) => out.say(text.as_str()),
+        Err(refusal) => out.say_refusal(refusal),
     }
 }
 
@@ -81,8 +75,8 @@ pub(crate) fn say_store<R, S: Counted>(
     config: Config,
     parts: S::Parts,
     name: &str,
-    out: &mut Vec<u8>,
-) -> Result<(), AllocError>
+    out: &mut Said,
+)
 where
     S::Seat: Drop,
     S::Parts: Drop,
@@ -92,8 +86,8 @@ where
         _ => steps::<R, S>(it, parts),
     };
     match made {
-        Ok(true) => say(out, &["made"]),
-        Ok(false) => say(out, &["not made"]),
-        Err(refusal) => say_refusal(out, refusal),
+        Ok(true) => out.say("made"),
+        Ok(false) => out.say("not made"),
+        Err(refusal) => out.say_refusal(refusal),
     }
 }

@@ -1,13 +1,13 @@
 //! A trial over the group of one thread: a list of calls over a map.
 use crate::calls::{Turn, body_of, call_of, keep_ticket};
 use crate::failed::Failed;
-use crate::looks::{all_rows, say_seen};
+use crate::looks::{all_rows, say_change, say_seen};
 use crate::marks::{begins, ends};
 use crate::parts::say_text;
-use crate::replies::{Answer, id_word, is_change, say, say_answer, say_polled};
+use crate::replies::{Answer, Said, id_word, is_change};
 use crate::rows::{Deed, Way};
 use crate::sheet::{Asked, Entry, Trial, is_played};
-use crate::tally::Tally;
+use crate::tally::{Tally, judge};
 use crate::trial::Host;
 use group_history::{Ended, Mutation, PlainGroup, Refusal, Scan, Text, TextMap};
 use pull_patch::read_response;
@@ -39,6 +39,7 @@ struct Player {
     last: u64,
     tickets: TextMap<Ticket>,
     watches: TextMap<Watch>,
+    all: Scan,
 }
 
 impl Plain {
@@ -102,27 +103,20 @@ impl Plain {
         }
     }
 
-    fn add_look(&mut self, seen: &mut Vec<u8>, id: &Text, call: Call<'_>) -> Result<(), Refusal> {
+    fn add_look(&mut self, seen: &mut Said, id: &Text, call: Call<'_>) {
         let answer = self.call(id, 0, call);
-        let said = say_seen(seen, &answer);
-        drop(answer);
-        said
+        say_seen(seen, &answer);
     }
 
     /// All that a client of this ID sees.
-    fn look(&mut self, id: &Text) -> Result<Vec<u8>, Refusal> {
-        let all = all_rows(self.alloc)?;
-        let mut seen = Vec::new(self.alloc);
-        for call in [
-            Call::Refresh,
-            Call::PushBody,
-            Call::Cookie,
-            Call::Closed,
-            Call::Scan(&all),
-        ] {
-            self.add_look(&mut seen, id, call)?;
-        }
-        Ok(seen)
+    fn look(&mut self, id: &Text, all: &Scan) -> Said {
+        let mut seen = Said::nothing(self.alloc);
+        self.add_look(&mut seen, id, Call::Refresh);
+        self.add_look(&mut seen, id, Call::PushBody);
+        self.add_look(&mut seen, id, Call::Cookie);
+        self.add_look(&mut seen, id, Call::Closed);
+        self.add_look(&mut seen, id, Call::Scan(all));
+        seen
     }
 }
 
@@ -160,10 +154,11 @@ impl Player {
         Ok(Some(polled))
     }
 
-    fn say_poll(&mut self, plain: &Plain, name: &Text, out: &mut Vec<u8>) -> Result<(), Refusal> {
-        match self.poll(plain, name)? {
-            Some(polled) => Ok(say_polled(out, &Ok(polled))?),
-            None => Ok(say(out, &["no watch"])?),
+    fn say_poll(&mut self, plain: &Plain, name: &Text, out: &mut Said) {
+        match self.poll(plain, name) {
+            Ok(Some(polled)) => out.say_polled(&Ok(polled)),
+            Ok(None) => out.say("no watch"),
+            Err(refusal) => out.say_refusal(refusal),
         }
     }
 
@@ -173,32 +168,38 @@ impl Player {
         it: &Turn<'_, R>,
         plain: &mut Plain,
         command: &Command,
-        way: Way<'_>,
-    ) -> Result<Option<Answer>, AllocError> {
-        let body = body_of(plain.alloc, command, way)?;
-        let Some(call) = call_of(&self.tickets, command, &body) else {
-            return Ok(None);
-        };
+        body: &[u8],
+    ) -> Option<Answer> {
+        let call = call_of(&self.tickets, command, body)?;
         begins(it.rt, it.is_marked);
         let answer = plain.call(&self.id, self.last, call);
         ends(it.rt, it.is_marked);
-        Ok(Some(answer))
+        Some(answer)
     }
 
-    fn keep(&mut self, command: &Command, answer: Answer) -> Result<(), AllocError> {
+    /// Keeps the ticket of a pull that is begun, and the id that is replied.
+    fn keep(&mut self, command: &Command, answer: Answer, out: &mut Said) {
         match (command, answer) {
             (Command::Begin(name), Ok(Reply::Ticket(ticket))) => {
-                keep_ticket(&mut self.tickets, name, ticket)
+                if keep_ticket(&mut self.tickets, name, ticket).is_err() {
+                    out.cut();
+                }
             }
-            (_, Ok(Reply::Id(id))) => {
-                self.last = id;
-                Ok(())
-            }
-            (_, answer) => {
-                drop(answer);
-                Ok(())
-            }
+            (_, Ok(Reply::Id(id))) => self.last = id,
+            (_, answer) => drop(answer),
         }
+    }
+
+    /// Says an answer, and keeps what is to be kept of it. Whether it is one that changes the group.
+    fn take(&mut self, command: &Command, answer: Option<Answer>, out: &mut Said) -> bool {
+        let Some(answer) = answer else {
+            out.say("no ticket");
+            return false;
+        };
+        out.say_answer(id_word(command), &answer);
+        let is_change = is_change(command, &answer);
+        self.keep(command, answer, out);
+        is_change
     }
 
     fn call<R>(
@@ -207,55 +208,54 @@ impl Player {
         plain: &mut Plain,
         command: &Command,
         way: Way<'_>,
-        out: &mut Vec<u8>,
-    ) -> Result<bool, AllocError> {
-        let Some(answer) = self.answer(it, plain, command, way)? else {
-            say(out, &["no ticket"])?;
-            return Ok(false);
+        out: &mut Said,
+    ) -> bool {
+        let Ok(body) = body_of(plain.alloc, command, way) else {
+            out.cut();
+            return false;
         };
-        say_answer(out, id_word(command), &answer)?;
-        let is_change = is_change(command, &answer);
-        self.keep(command, answer)?;
-        Ok(is_change)
+        let answer = self.answer(it, plain, command, &body);
+        self.take(command, answer, out)
     }
 
-    /// Does a command, and appends the reply. Whether it changes the group.
+    fn say_watch(&mut self, name: &Text, scan: &Scan, out: &mut Said) {
+        match self.watch(name, scan) {
+            Ok(()) => out.say("watching"),
+            Err(_) => out.cut(),
+        }
+    }
+
+    /// Does a command, and says the reply. Whether it changes the group.
     fn does<R>(
         &mut self,
         it: &Turn<'_, R>,
         plain: &mut Plain,
         command: &Command,
         way: Way<'_>,
-        out: &mut Vec<u8>,
-    ) -> Result<bool, Refusal> {
+        out: &mut Said,
+    ) -> bool {
         match command {
-            Command::Learn(_) => say(out, &["learnt"])?,
-            Command::Watch(name, scan) => {
-                self.watch(name, scan)?;
-                say(out, &["watching"])?;
-            }
-            Command::Poll(name) => self.say_poll(plain, name, out)?,
-            command => return Ok(self.call(it, plain, command, way, out)?),
+            Command::Learn(_) => out.say("learnt"),
+            Command::Watch(name, scan) => self.say_watch(name, scan, out),
+            Command::Poll(name) => self.say_poll(plain, name, out),
+            command => return self.call(it, plain, command, way, out),
         }
-        Ok(false)
+        false
     }
 
-    /// The same; and where what is seen is not what it should be, that is appended.
+    /// The same; and where what is seen is not what it should be, that is said.
     fn tries<R>(
         &mut self,
         it: &Turn<'_, R>,
         plain: &mut Plain,
         command: &Command,
         way: Way<'_>,
-        out: &mut Vec<u8>,
-    ) -> Result<(), Refusal> {
-        let before = plain.look(&self.id)?;
-        let is_change = self.does(it, plain, command, way, out)?;
-        let after = plain.look(&self.id)?;
-        if (before == after) == is_change {
-            say(out, &[", but its looker sees something else"])?;
-        }
-        Ok(())
+        out: &mut Said,
+    ) {
+        let before = plain.look(&self.id, &self.all);
+        let is_change = self.does(it, plain, command, way, out);
+        let after = plain.look(&self.id, &self.all);
+        say_change(out, &before, &after, is_change);
     }
 }
 
@@ -265,6 +265,7 @@ fn player_of(alloc: Global, line: &ClientLine) -> Result<Player, AllocError> {
         last: 0,
         tickets: TextMap::new(alloc),
         watches: TextMap::new(alloc),
+        all: all_rows(alloc)?,
     })
 }
 
@@ -276,24 +277,45 @@ fn players_of(alloc: Global, lines: &[ClientLine]) -> Result<Vec<Player>, AllocE
     Ok(players)
 }
 
-/// Does what a line says, and appends the reply.
+/// Does what a line says, and says the reply.
 fn does<R>(
     it: &Turn<'_, R>,
     plain: &mut Plain,
     players: &mut [Player],
     entry: &Entry<'_>,
-    out: &mut Vec<u8>,
-) -> Result<(), Refusal> {
-    if let Deed::Part(name, given) = entry.row.deed {
-        return Ok(say_text(it, name, given, out)?);
+    out: &mut Said,
+) {
+    match (entry.row.deed, entry.asked) {
+        (Deed::Part(name, given), _) => say_text(it, name, given, out),
+        (Deed::Call(way), Some(asked)) => calls(it, plain, players, asked, way, out),
+        _ => out.say("nothing of a plain group"),
     }
-    let (Deed::Call(way), Some(Asked { place, command })) = (entry.row.deed, entry.asked) else {
-        return Ok(say(out, &["nothing of a plain group"])?);
-    };
-    match players.get_mut(place) {
-        Some(player) => player.tries(it, plain, command, way, out),
-        None => Ok(say(out, &["no client"])?),
+}
+
+fn calls<R>(
+    it: &Turn<'_, R>,
+    plain: &mut Plain,
+    players: &mut [Player],
+    asked: Asked<'_>,
+    way: Way<'_>,
+    out: &mut Said,
+) {
+    match players.get_mut(asked.place) {
+        Some(player) => player.tries(it, plain, asked.command, way, out),
+        None => out.say("no client"),
     }
+}
+
+fn play_entry<R>(
+    host: &Host<'_, R>,
+    plain: &mut Plain,
+    players: &mut [Player],
+    entry: &Entry<'_>,
+    tally: &mut Tally<'_>,
+) -> Result<(), Failed> {
+    let mut out = Said::nothing(host.rt.alloc());
+    does(&host.turn(entry.is_chosen), plain, players, entry, &mut out);
+    judge(host, entry, &out, tally)
 }
 
 fn play_entries<R>(
@@ -303,11 +325,10 @@ fn play_entries<R>(
     entries: &[Entry<'_>],
     tally: &mut Tally<'_>,
 ) -> Result<(), Failed> {
-    for entry in entries.iter().filter(|entry| !entry.rests()) {
-        let mut out = Vec::new(host.rt.alloc());
-        does(&host.turn(entry.is_chosen), plain, players, entry, &mut out)?;
-        tally.shows = tally.shows || entry.is_chosen;
-        tally.judge(host.rt, entry, &out)?;
+    for entry in entries {
+        if !entry.rests() {
+            play_entry(host, plain, players, entry, tally)?;
+        }
     }
     Ok(())
 }

@@ -3,11 +3,9 @@ ghost use Rattle.std.specs.Prelude.{◌≡◌, ◌<◌, IfOk, vec_capacity, vec_
 ghost use Rattle.std.specs.Option.{ForSome};
 
 use crate::calls::{Turn, body_of, call_of, keep_ticket};
-use crate::looks::look;
+use crate::looks::{look, say_change};
 use crate::marks::{begins, ends};
-use crate::replies::{
-    Answer, id_word, is_change, say, say_answer, say_polled, say_refusal, say_row,
-};
+use crate::replies::{Answer, Said, id_word, is_change};
 use crate::rows::{Manner, ONCE, Way};
 use chunk_slots::Store;
 use group_history::{Json, Refusal, Scan, Text, TextMap};
@@ -38,6 +36,7 @@ where
     tickets: TextMap<Ticket>,
     first: Option<Named>,
     second: Option<Named>,
+    all: Scan,
     ghost client_of: { client.group.now ≡ group.now },
     ghost looker_of: { looker.group.now ≡ group.now },
     ghost first_of: { ForSome first (λ named. named.watch.book ≡ group.now.shared.head) },
@@ -87,32 +86,42 @@ where
 /// A sink that writes rows as a scan's reply has them.
 #[derive(Drop)]
 pub(crate) struct Written {
-    pub(crate) text: Vec<u8>,
-    pub(crate) before: &'static str,
+    rows: Said,
+    before: &'static str,
 }
 
 impl TakesRows for Written {
     ghost has = { λ written rows. Unit {0} };
 
     fn take(&mut self, key: &Text, value: &Json) -> Result<(), AllocError> {
-        say(&mut self.text, &[self.before])?;
+        self.rows.say(self.before);
         self.before = ",";
-        say_row(&mut self.text, key, value)
-    }
-}
-
-pub(crate) fn nothing_written(alloc: Global) -> Written {
-    Written {
-        text: Vec::new(alloc),
-        before: "rows [",
+        self.rows.say_row(key, value);
+        match self.rows.whole() {
+            Ok(_) => Ok(()),
+            Err(e) => Err(e),
+        }
     }
 }
 
 impl Written {
-    /// Appends the reply.
-    pub(crate) fn say(&self, out: &mut Vec<u8>) -> Result<(), AllocError> {
-        out.extend_from_slice(&self.text)?;
-        say(out, &[if self.text.is_empty() { "rows []" } else { "]" }])
+    pub(crate) fn nothing(alloc: Global) -> Written {
+        Written {
+            rows: Said::nothing(alloc),
+            before: "rows [",
+        }
+    }
+
+    /// Says the reply to a scan that ended so.
+    pub(crate) fn say(&self, scanned: Result<(), Refusal>, out: &mut Said) {
+        match (scanned, self.rows.whole()) {
+            (Ok(()), Ok(rows)) => {
+                out.say_bytes(rows);
+                out.say(if rows.is_empty() { "rows []" } else { "]" });
+            }
+            (Err(refusal), _) => out.say_refusal(refusal),
+            (Ok(()), Err(_)) => out.cut(),
+        }
     }
 }
 
@@ -126,6 +135,7 @@ where
         id: Uuid,
         client: Client<'g, ScriptMutators, S>,
         looker: Client<'g, ScriptMutators, S>,
+        all: Scan,
     ) -> Player<'g, S>
         requires client { client.group.now ≡ group.now }
         requires looker { looker.group.now ≡ group.now }
@@ -138,12 +148,13 @@ where
             tickets: TextMap::new(alloc),
             first: None,
             second: None,
+            all,
         }
     }
 
     /// All that its looker sees.
-    pub(crate) fn look(&mut self, alloc: Global) -> Result<Vec<u8>, Refusal> {
-        look(alloc, &mut self.looker)
+    fn look(&mut self, alloc: Global) -> Said {
+        look(&mut self.looker, &self.all, alloc)
     }
 
     /// Makes the call that a command is; none where it is none, as an end of a pull whose ticket is not there.
@@ -151,202 +162,204 @@ where
         &mut self,
         it: &Turn<'_, R>,
         command: &Command,
+        body: &[u8],
         way: Way<'_>,
-    ) -> Result<Option<Answer>, AllocError> {
-        let body = body_of(it.rt.alloc(), command, way)?;
-        let Some(call) = call_of(&self.tickets, command, &body) else {
-            return Ok(None);
-        };
+    ) -> Option<Answer> {
+        let call = call_of(&self.tickets, command, body)?;
         begins(it.rt, it.is_marked);
         let answer = made(it.on, &mut self.client, call, way);
         ends(it.rt, it.is_marked);
-        Ok(Some(answer))
+        Some(answer)
     }
 
     /// Keeps the ticket of a pull that it began.
-    fn keep(&mut self, command: &Command, answer: Answer) -> Result<(), AllocError> {
-        match (command, answer) {
-            (Command::Begin(name), Ok(Reply::Ticket(ticket))) => {
-                keep_ticket(&mut self.tickets, name, ticket)
-            }
-            (_, answer) => {
-                drop(answer);
-                Ok(())
-            }
+    fn keep(&mut self, command: &Command, answer: Answer, out: &mut Said) {
+        if let (Command::Begin(name), Ok(Reply::Ticket(ticket))) = (command, answer)
+            && keep_ticket(&mut self.tickets, name, ticket).is_err()
+        {
+            out.cut();
         }
     }
 
-    /// Makes a call, and appends the answer. Whether it is one that changes the group.
+    /// Says an answer, and keeps what is to be kept of it. Whether it is one that changes the group.
+    fn take(&mut self, command: &Command, answer: Option<Answer>, out: &mut Said) -> bool {
+        let Some(answer) = answer else {
+            out.say("no ticket");
+            return false;
+        };
+        out.say_answer(id_word(command), &answer);
+        let is_change = is_change(command, &answer);
+        self.keep(command, answer, out);
+        is_change
+    }
+
+    /// Makes a call, and says the answer. Whether it is one that changes the group.
     fn call<R: Wait>(
         &mut self,
         it: &Turn<'_, R>,
         command: &Command,
         way: Way<'_>,
-        out: &mut Vec<u8>,
-    ) -> Result<bool, AllocError> {
-        let Some(answer) = self.answer(it, command, way)? else {
-            say(out, &["no ticket"])?;
-            return Ok(false);
+        out: &mut Said,
+    ) -> bool {
+        let Ok(body) = body_of(it.rt.alloc(), command, way) else {
+            out.cut();
+            return false;
         };
-        say_answer(out, id_word(command), &answer)?;
-        let is_change = is_change(command, &answer);
-        self.keep(command, answer)?;
-        Ok(is_change)
+        let answer = self.answer(it, command, &body, way);
+        self.take(command, answer, out)
     }
 
     /// Scans into a sink.
-    fn scan<R>(
-        &mut self,
-        it: &Turn<'_, R>,
-        scan: &Scan,
-        tries: u32,
-        out: &mut Vec<u8>,
-    ) -> Result<(), AllocError> {
-        let mut written = nothing_written(it.rt.alloc());
+    fn scan<R>(&mut self, it: &Turn<'_, R>, scan: &Scan, tries: u32, out: &mut Said) {
+        let mut written = Written::nothing(it.rt.alloc());
         begins(it.rt, it.is_marked);
         let scanned = self.client.scan_into(scan, &mut written, tries);
         ends(it.rt, it.is_marked);
-        match scanned {
-            Ok(()) => written.say(out),
-            Err(refusal) => say_refusal(out, refusal),
-        }
+        written.say(scanned, out);
+    }
+
+    /// A watch of a scan.
+    fn watched(&mut self, name: &Text, scan: &Scan) -> Result<Named, AllocError>
+        ensures watch { IfOk result (λ named. named.watch.book ≡ self.old.group.now.shared.head) }
+        ensures group { self.new.group.now ≡ self.old.group.now }
+    {
+        let name = name.clone()?;
+        let watch = self.client.watch(scan.clone()?);
+        Ok(Named { name, watch })
     }
 
     /// Watches a scan. A third watch takes the second one's place.
-    fn watch(&mut self, name: &Text, scan: &Scan) -> Result<(), AllocError> {
-        let watch = self.client.watch(scan.clone()?);
-        let named = Some(Named {
-            name: name.clone()?,
-            watch,
-        });
+    fn watch(&mut self, name: &Text, scan: &Scan, out: &mut Said) {
+        let Ok(named) = self.watched(name, scan) else {
+            return out.cut();
+        };
         if self.first.is_none() || is_named(&self.first, name) {
-            self.first = named;
+            self.first = Some(named);
         } else {
-            self.second = named;
+            self.second = Some(named);
         }
-        Ok(())
+        out.say("watching");
+    }
+
+    fn poll_first<R>(&mut self, it: &Turn<'_, R>, tries: u32) -> Option<Result<Polled, Refusal>> {
+        let mut named = self.first.take()?;
+        let polled = polled_by(it, &mut self.client, &mut named, tries);
+        self.first = Some(named);
+        Some(polled)
+    }
+
+    fn poll_second<R>(&mut self, it: &Turn<'_, R>, tries: u32) -> Option<Result<Polled, Refusal>> {
+        let mut named = self.second.take()?;
+        let polled = polled_by(it, &mut self.client, &mut named, tries);
+        self.second = Some(named);
+        Some(polled)
     }
 
     /// Polls the watch of a name, where there is one.
-    fn poll<R>(
-        &mut self,
-        it: &Turn<'_, R>,
-        name: &Text,
-        tries: u32,
-    ) -> Option<Result<Polled, Refusal>> {
-        if is_named(&self.first, name) {
-            let mut named = self.first.take()?;
-            let polled = polled_by(it, &mut self.client, &mut named, tries);
-            self.first = Some(named);
-            return Some(polled);
-        }
-        if is_named(&self.second, name) {
-            let mut named = self.second.take()?;
-            let polled = polled_by(it, &mut self.client, &mut named, tries);
-            self.second = Some(named);
-            return Some(polled);
-        }
-        None
-    }
-
-    fn say_poll<R>(
-        &mut self,
-        it: &Turn<'_, R>,
-        name: &Text,
-        tries: u32,
-        out: &mut Vec<u8>,
-    ) -> Result<(), AllocError> {
-        match self.poll(it, name, tries) {
-            Some(polled) => say_polled(out, &polled),
-            None => say(out, &["no watch"]),
+    fn poll<R>(&mut self, it: &Turn<'_, R>, name: &Text, tries: u32, out: &mut Said) {
+        let polled = if is_named(&self.first, name) {
+            self.poll_first(it, tries)
+        } else if is_named(&self.second, name) {
+            self.poll_second(it, tries)
+        } else {
+            None
+        };
+        match polled {
+            Some(polled) => out.say_polled(&polled),
+            None => out.say("no watch"),
         }
     }
 
     /// Learns what its looker has seen: that looked last, so it is all that others have seen.
-    fn learn<R>(&mut self, it: &Turn<'_, R>) {
+    fn learn<R>(&mut self, it: &Turn<'_, R>, out: &mut Said) {
         begins(it.rt, it.is_marked);
         let seen = self.looker.mark();
         self.client.learn(&seen);
         ends(it.rt, it.is_marked);
+        out.say("learnt");
     }
 
-    /// Does a command, and appends the reply. Whether it changes the group.
-    pub(crate) fn does<R: Wait>(
+    /// Does a command that is no call, and says the reply.
+    fn does_other<R>(&mut self, it: &Turn<'_, R>, command: &Command, way: Way<'_>, out: &mut Said) {
+        match command {
+            Command::Learn(_) => self.learn(it, out),
+            Command::Watch(name, scan) => self.watch(name, scan, out),
+            Command::Poll(name) => self.poll(it, name, way.tries, out),
+            Command::Query(Query::Scan(scan)) => self.scan(it, scan, way.tries, out),
+            _ => {}
+        }
+    }
+
+    /// Does a command, and says the reply. Whether it changes the group.
+    fn does<R: Wait>(
         &mut self,
         it: &Turn<'_, R>,
         command: &Command,
         way: Way<'_>,
-        out: &mut Vec<u8>,
-    ) -> Result<bool, AllocError> {
-        match command {
-            Command::Learn(_) => {
-                self.learn(it);
-                say(out, &["learnt"])?;
-            }
-            Command::Watch(name, scan) => {
-                self.watch(name, scan)?;
-                say(out, &["watching"])?;
-            }
-            Command::Poll(name) => self.say_poll(it, name, way.tries, out)?,
-            Command::Query(Query::Scan(scan)) if way.manner == Manner::Into => {
-                self.scan(it, scan, way.tries, out)?
-            }
-            command => return self.call(it, command, way, out),
+        out: &mut Said,
+    ) -> bool {
+        let is_other = match command {
+            Command::Learn(_) | Command::Watch(..) | Command::Poll(_) => true,
+            Command::Query(Query::Scan(_)) => way.manner == Manner::Into,
+            _ => false,
+        };
+        if is_other {
+            self.does_other(it, command, way, out);
+            return false;
         }
-        Ok(false)
+        self.call(it, command, way, out)
     }
 
-    /// Does a command, and appends the reply; and where its looker sees what it should not, that.
+    /// Does a command, and says the reply; and where its looker sees what it should not, that.
     pub(crate) fn tries<R: Wait>(
         &mut self,
         it: &Turn<'_, R>,
         command: &Command,
         way: Way<'_>,
-        out: &mut Vec<u8>,
-    ) -> Result<(), Refusal> {
-        let alloc = it.rt.alloc();
-        let before = self.look(alloc)?;
-        let is_change = self.does(it, command, way, out)?;
-        let after = self.look(alloc)?;
-        if (before == after) == is_change {
-            say(out, &[", but its looker sees something else"])?;
-        }
-        Ok(())
+        out: &mut Said,
+    ) {
+        let before = self.look(it.rt.alloc());
+        let is_change = self.does(it, command, way, out);
+        let after = self.look(it.rt.alloc());
+        say_change(out, &before, &after, is_change);
     }
 
-    /// Makes calls as one list, and appends each reply and a line feed; and where its looker sees what it should not, that.
+    /// Makes calls as one list, and says each reply and a line feed; and where its looker sees what it should not, that.
     pub(crate) fn tries_list<R>(
         &mut self,
         it: &Turn<'_, R>,
         commands: &[&Command],
-        out: &mut Vec<u8>,
-    ) -> Result<(), Refusal> {
-        let alloc = it.rt.alloc();
-        let before = self.look(alloc)?;
-        let is_change = self.lists(it, commands, out)?;
-        let after = self.look(alloc)?;
-        if (before == after) == is_change {
-            say(out, &["its looker sees something else"])?;
-        }
-        Ok(())
+        out: &mut Said,
+    ) {
+        let before = self.look(it.rt.alloc());
+        let is_change = self.lists(it, commands, out);
+        let after = self.look(it.rt.alloc());
+        say_change(out, &before, &after, is_change);
     }
 
-    /// Makes calls as one list, and appends each answer and a line feed. Whether one of them changes the group.
-    pub(crate) fn lists<R>(
+    /// Makes calls as one list, and says each answer and a line feed. Whether one of them changes the group.
+    fn lists<R>(&mut self, it: &Turn<'_, R>, commands: &[&Command], out: &mut Said) -> bool {
+        match bodies_of(it.rt.alloc(), commands) {
+            Ok(bodies) => self.lists_with(it, commands, &bodies, out),
+            Err(_) => {
+                out.cut();
+                false
+            }
+        }
+    }
+
+    fn lists_with<R>(
         &mut self,
         it: &Turn<'_, R>,
         commands: &[&Command],
-        out: &mut Vec<u8>,
-    ) -> Result<bool, AllocError> {
-        let mut bodies = Vec::new(it.rt.alloc());
-        for command in commands {
-            bodies.push(body_of(it.rt.alloc(), command, ONCE)?)?;
-        }
-        match self.answers(it, commands, &bodies) {
+        bodies: &[Vec<u8>],
+        out: &mut Said,
+    ) -> bool {
+        match self.answers(it, commands, bodies) {
             Ok(answers) => say_answers(out, commands, &answers),
             Err(AllocError) => {
-                say(out, &["refused NoMemory\n"])?;
-                Ok(false)
+                out.say_refusal(Refusal::NoMemory);
+                false
             }
         }
     }
@@ -379,6 +392,7 @@ where
             tickets,
             first,
             second,
+            all,
         } = self;
         begins(it.rt, it.is_marked);
         let client = client_again(group, id, client, spare);
@@ -391,6 +405,7 @@ where
             tickets,
             first,
             second,
+            all,
         })
     }
 }
@@ -477,17 +492,22 @@ where
     }
 }
 
-/// Appends each answer and a line feed. Whether one of them changes the group.
-fn say_answers(
-    out: &mut Vec<u8>,
-    commands: &[&Command],
-    answers: &[Answer],
-) -> Result<bool, AllocError> {
+/// Says each answer and a line feed. Whether one of them changes the group.
+fn say_answers(out: &mut Said, commands: &[&Command], answers: &[Answer]) -> bool {
     let mut changes = false;
     for (command, answer) in commands.iter().zip(answers) {
-        say_answer(out, id_word(command), answer)?;
-        say(out, &["\n"])?;
+        out.say_answer(id_word(command), answer);
+        out.say("\n");
         changes = changes || is_change(command, answer);
     }
-    Ok(changes)
+    changes
+}
+
+/// The bodies of the responses that commands have.
+fn bodies_of(alloc: Global, commands: &[&Command]) -> Result<Vec<Vec<u8>>, AllocError> {
+    let mut bodies = Vec::new(alloc);
+    for command in commands {
+        bodies.push(body_of(alloc, command, ONCE)?)?;
+    }
+    Ok(bodies)
 }

@@ -1,15 +1,15 @@
 //! Readers that a trial keeps: each is opened, asked and closed under its name.
 use crate::calls::Turn;
 use crate::marks::{begins, ends};
-use crate::players::nothing_written;
-use crate::replies::{Answer, say, say_answer, say_refusal};
+use crate::players::Written;
+use crate::replies::{Answer, Said};
 use crate::rows::{Manner, Way};
 use chunk_slots::Store;
 use group_history::{Refusal, Scan};
 use rebase::{Client, ReadTx, Reply};
 use script_mutators::ScriptMutators;
 use script_parser::Query;
-use std::alloc::{AllocError, Global};
+use std::alloc::Global;
 use std::slice::IterMut;
 
 /// A reader under its name.
@@ -48,24 +48,24 @@ where
     }
 
     /// Opens a reader.
-    pub(crate) fn opens<R>(
-        &mut self,
-        it: &Turn<'_, R>,
-        name: &'p str,
-        out: &mut Vec<u8>,
-    ) -> Result<(), AllocError> {
+    pub(crate) fn opens<R>(&mut self, it: &Turn<'_, R>, name: &'p str, out: &mut Said) {
         let Some(client) = self.free.next() else {
-            return say(out, &["no client"]);
+            return out.say("no client");
         };
         begins(it.rt, it.is_marked);
         let read = client.read(1);
         ends(it.rt, it.is_marked);
         match read {
-            Ok(tx) => {
-                self.open.push(Open { name, tx })?;
-                say(out, &["reading"])
-            }
-            Err(refusal) => say_refusal(out, refusal),
+            Ok(tx) => self.keep(Open { name, tx }, out),
+            Err(refusal) => out.say_refusal(refusal),
+        }
+    }
+
+    /// Keeps a reader that is open.
+    fn keep(&mut self, open: Open<'p, 'g, S>, out: &mut Said) {
+        match self.open.push(open) {
+            Ok(()) => out.say("reading"),
+            Err(_) => out.cut(),
         }
     }
 
@@ -76,29 +76,24 @@ where
         name: &str,
         query: &Query,
         way: Way<'_>,
-        out: &mut Vec<u8>,
-    ) -> Result<(), AllocError> {
+        out: &mut Said,
+    ) {
         match self.open.iter().find(|open| open.name == name) {
             Some(open) => say_asked(it, &open.tx, query, way, out),
-            None => say(out, &["no reader"]),
+            None => out.say("no reader"),
         }
     }
 
     /// Closes a reader. One that is not open is none.
-    pub(crate) fn closes<R>(
-        &mut self,
-        it: &Turn<'_, R>,
-        name: &str,
-        out: &mut Vec<u8>,
-    ) -> Result<(), AllocError> {
+    pub(crate) fn closes<R>(&mut self, it: &Turn<'_, R>, name: &str, out: &mut Said) {
         let Some(at) = self.open.iter().position(|open| open.name == name) else {
-            return say(out, &["no reader"]);
+            return out.say("no reader");
         };
         let Open { name: _, tx } = self.open.remove(at);
         begins(it.rt, it.is_marked);
         tx.close();
         ends(it.rt, it.is_marked);
-        say(out, &["closed"])
+        out.say("closed")
     }
 }
 
@@ -107,39 +102,37 @@ fn say_asked<R, S: Store<ScriptMutators>>(
     tx: &ReadTx<'_, '_, ScriptMutators, S>,
     query: &Query,
     way: Way<'_>,
-    out: &mut Vec<u8>,
-) -> Result<(), AllocError>
+    out: &mut Said,
+)
 where
     S::Seat: Drop,
 {
     if let Query::Scan(scan) = query
         && way.manner == Manner::Into
     {
-        return say_scanned(it, tx, scan, out);
+        say_scanned(it, tx, scan, out);
+        return;
     }
     begins(it.rt, it.is_marked);
     let answer = asked(tx, query);
     ends(it.rt, it.is_marked);
-    say_answer(out, "", &answer)
+    out.say_answer("", &answer)
 }
 
 fn say_scanned<R, S: Store<ScriptMutators>>(
     it: &Turn<'_, R>,
     tx: &ReadTx<'_, '_, ScriptMutators, S>,
     scan: &Scan,
-    out: &mut Vec<u8>,
-) -> Result<(), AllocError>
+    out: &mut Said,
+)
 where
     S::Seat: Drop,
 {
-    let mut written = nothing_written(it.rt.alloc());
+    let mut written = Written::nothing(it.rt.alloc());
     begins(it.rt, it.is_marked);
     let scanned = tx.scan_into(scan, &mut written);
     ends(it.rt, it.is_marked);
-    match scanned {
-        Ok(()) => written.say(out),
-        Err(refusal) => say_refusal(out, refusal),
-    }
+    written.say(scanned, out);
 }
 
 fn asked<S: Store<ScriptMutators>>(tx: &ReadTx<'_, '_, ScriptMutators, S>, query: &Query) -> Answer

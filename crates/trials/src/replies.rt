@@ -3,144 +3,174 @@ use group_history::{Ended, Json, Mutation, Refusal, Text};
 use push_body::push_quoted;
 use rebase::{Polled, Reply};
 use script_parser::Command;
-use std::alloc::AllocError;
+use std::alloc::{AllocError, Global};
 
-/// Appends texts, one after the other.
-pub(crate) fn say(out: &mut Vec<u8>, texts: &[&str]) -> Result<(), AllocError> {
-    for text in texts {
-        out.extend_from_slice(text.as_bytes())?;
-    }
-    Ok(())
+/// What is said of a call. Where memory is refused for it, that is told once it is asked for.
+#[derive(Drop)]
+pub(crate) struct Said {
+    text: Vec<u8>,
+    is_cut: bool,
 }
 
-fn say_number(out: &mut Vec<u8>, word: &str, number: u64) -> Result<(), AllocError> {
-    let text = format!(in out.allocator().clone()?; "{word}{number}")?;
-    out.extend_from_slice(text.as_bytes())
-}
-
-/// Appends a row of a scan.
-pub(crate) fn say_row(out: &mut Vec<u8>, key: &Text, value: &Json) -> Result<(), AllocError> {
-    say(out, &["["])?;
-    push_quoted(out, key.as_str())?;
-    say(out, &[",", value.text(), "]"])
-}
-
-/// Appends rows behind a word.
-pub(crate) fn say_rows(
-    out: &mut Vec<u8>,
-    word: &str,
-    rows: &[(Text, Json)],
-) -> Result<(), AllocError> {
-    let mut before = "[";
-    say(out, &[word])?;
-    for row in rows {
-        say(out, &[before])?;
-        say_row(out, &row.0, &row.1)?;
-        before = ",";
-    }
-    say(out, &[if rows.is_empty() { "[]" } else { "]" }])
-}
-
-fn say_mutation(out: &mut Vec<u8>, mutation: &Mutation) -> Result<(), AllocError> {
-    say(out, &["["])?;
-    push_quoted(out, mutation.client.as_str())?;
-    say_number(out, ",", mutation.id)?;
-    say(out, &[","])?;
-    push_quoted(out, mutation.name.as_str())?;
-    say(out, &["]"])
-}
-
-fn say_pending(out: &mut Vec<u8>, pending: &[Mutation]) -> Result<(), AllocError> {
-    let mut before = "pending [";
-    for mutation in pending {
-        say(out, &[before])?;
-        say_mutation(out, mutation)?;
-        before = ",";
-    }
-    say(
-        out,
-        &[if pending.is_empty() {
-            "pending []"
-        } else {
-            "]"
-        }],
-    )
-}
-
-fn say_bytes(out: &mut Vec<u8>, word: &str, bytes: &[u8]) -> Result<(), AllocError> {
-    say(out, &[word])?;
-    out.extend_from_slice(bytes)
-}
-
-fn say_value(out: &mut Vec<u8>, value: Option<&Json>) -> Result<(), AllocError> {
-    match value {
-        Some(value) => say(out, &["value ", value.text()]),
-        None => say(out, &["none"]),
-    }
-}
-
-/// Appends the name of a refusal, and what it tells.
-pub(crate) fn say_refusal(out: &mut Vec<u8>, refusal: Refusal) -> Result<(), AllocError> {
-    match refusal {
-        Refusal::Refused(code) => say_number(out, "refused Refused ", u64::from(code)),
-        Refusal::VersionNotSupported(kind) => {
-            let text = format!(in out.allocator().clone()?; "refused VersionNotSupported {kind}")?;
-            say(out, &[text.as_str()])
-        }
-        refusal => {
-            let text = format!(in out.allocator().clone()?; "refused {refusal:?}")?;
-            say(out, &[text.as_str()])
+impl Said {
+    pub(crate) fn nothing(alloc: Global) -> Said {
+        Said {
+            text: Vec::new(alloc),
+            is_cut: false,
         }
     }
-}
 
-pub(crate) fn say_reply(out: &mut Vec<u8>, id_word: &str, reply: &Reply) -> Result<(), AllocError> {
-    match reply {
-        Reply::Value(value) => say_value(out, value.as_ref()),
-        Reply::Is(is) => say(out, &[if *is { "yes" } else { "no" }]),
-        Reply::Rows(rows) => say_rows(out, "rows ", rows),
-        Reply::Pending(pending) => say_pending(out, pending),
-        Reply::Cookie(cookie) => say(out, &["cookie ", cookie.text()]),
-        Reply::Id(id) => say_number(out, id_word, *id),
-        Reply::Body(body) => say_bytes(out, "push ", body),
-        Reply::Ticket(ticket) => say_bytes(out, "pull ", &ticket.body),
-        Reply::Ended(Ended::Applied) => say(out, &["applied"]),
-        Reply::Ended(Ended::Same) => say(out, &["same"]),
+    /// All that was said.
+    pub(crate) fn whole(&self) -> Result<&[u8], AllocError> {
+        if self.is_cut {
+            return Err(AllocError);
+        }
+        Ok(&self.text)
+    }
+
+    /// What was said is not whole.
+    pub(crate) fn cut(&mut self) {
+        self.is_cut = true;
+    }
+
+    fn note(&mut self, said: Result<(), AllocError>) {
+        self.is_cut = self.is_cut || said.is_err();
+    }
+
+    pub(crate) fn say(&mut self, text: &str) {
+        self.say_bytes(text.as_bytes());
+    }
+
+    pub(crate) fn say_bytes(&mut self, bytes: &[u8]) {
+        let said = self.text.extend_from_slice(bytes);
+        self.note(said);
+    }
+
+    fn say_quoted(&mut self, text: &str) {
+        let said = push_quoted(&mut self.text, text);
+        self.note(said);
+    }
+
+    /// Says a text that is made for it.
+    pub(crate) fn say_made(&mut self, text: Result<String, AllocError>) {
+        match text {
+            Ok(text) => self.say(text.as_str()),
+            Err(AllocError) => self.is_cut = true,
+        }
+    }
+
+    fn say_number(&mut self, word: &str, number: u64) {
+        let alloc = *self.text.allocator();
+        self.say_made(format!(in alloc; "{word}{number}"));
+    }
+
+    /// Says a row of a scan.
+    pub(crate) fn say_row(&mut self, key: &Text, value: &Json) {
+        self.say("[");
+        self.say_quoted(key.as_str());
+        self.say(",");
+        self.say(value.text());
+        self.say("]");
+    }
+
+    /// Says rows behind a word.
+    pub(crate) fn say_rows(&mut self, word: &str, rows: &[(Text, Json)]) {
+        let mut before = "[";
+        self.say(word);
+        for row in rows {
+            self.say(before);
+            self.say_row(&row.0, &row.1);
+            before = ",";
+        }
+        self.say(if rows.is_empty() { "[]" } else { "]" });
+    }
+
+    fn say_mutation(&mut self, mutation: &Mutation) {
+        self.say("[");
+        self.say_quoted(mutation.client.as_str());
+        self.say_number(",", mutation.id);
+        self.say(",");
+        self.say_quoted(mutation.name.as_str());
+        self.say("]");
+    }
+
+    fn say_pending(&mut self, pending: &[Mutation]) {
+        let mut before = "[";
+        self.say("pending ");
+        for mutation in pending {
+            self.say(before);
+            self.say_mutation(mutation);
+            before = ",";
+        }
+        self.say(if pending.is_empty() { "[]" } else { "]" });
+    }
+
+    fn say_behind(&mut self, word: &str, bytes: &[u8]) {
+        self.say(word);
+        self.say_bytes(bytes);
+    }
+
+    fn say_value(&mut self, value: Option<&Json>) {
+        match value {
+            Some(value) => self.say_behind("value ", value.text().as_bytes()),
+            None => self.say("none"),
+        }
+    }
+
+    /// Says the name of a refusal, and what it tells.
+    pub(crate) fn say_refusal(&mut self, refusal: Refusal) {
+        let alloc = *self.text.allocator();
+        match refusal {
+            Refusal::Refused(code) => self.say_number("refused Refused ", u64::from(code)),
+            Refusal::VersionNotSupported(kind) => {
+                self.say_made(format!(in alloc; "refused VersionNotSupported {kind}"));
+            }
+            refusal => self.say_made(format!(in alloc; "refused {refusal:?}")),
+        }
+    }
+
+    /// Says a reply; before an id stands that word.
+    fn say_reply(&mut self, id_word: &str, reply: &Reply) {
+        match reply {
+            Reply::Value(value) => self.say_value(value.as_ref()),
+            Reply::Is(is) => self.say(if *is { "yes" } else { "no" }),
+            Reply::Rows(rows) => self.say_rows("rows ", rows),
+            Reply::Pending(pending) => self.say_pending(pending),
+            Reply::Cookie(cookie) => self.say_behind("cookie ", cookie.text().as_bytes()),
+            Reply::Id(id) => self.say_number(id_word, *id),
+            Reply::Body(body) => self.say_behind("push ", body),
+            Reply::Ticket(ticket) => self.say_behind("pull ", &ticket.body),
+            Reply::Ended(Ended::Applied) => self.say("applied"),
+            Reply::Ended(Ended::Same) => self.say("same"),
+        }
+    }
+
+    /// Says an answer; before an id stands that word.
+    pub(crate) fn say_answer(&mut self, id_word: &str, answer: &Answer) {
+        match answer {
+            Ok(reply) => self.say_reply(id_word, reply),
+            Err(refusal) => self.say_refusal(*refusal),
+        }
+    }
+
+    /// Says what a poll tells.
+    pub(crate) fn say_polled(&mut self, polled: &Result<Polled, Refusal>) {
+        match polled {
+            Ok(Polled::New(rows)) => self.say_rows("new ", rows.as_slice()),
+            Ok(Polled::Unchanged) => self.say("unchanged"),
+            Err(refusal) => self.say_refusal(*refusal),
+        }
     }
 }
 
 /// What is answered to a call.
 pub(crate) type Answer = Result<Reply, Refusal>;
 
-/// Appends an answer; before an id stands that word.
-pub(crate) fn say_answer(
-    out: &mut Vec<u8>,
-    id_word: &str,
-    answer: &Answer,
-) -> Result<(), AllocError> {
-    match answer {
-        Ok(reply) => say_reply(out, id_word, reply),
-        Err(refusal) => say_refusal(out, *refusal),
-    }
-}
-
 /// What stands before the id that a command is answered.
 pub(crate) fn id_word(command: &Command) -> &'static str {
     match command {
         Command::Refresh => "last ",
         _ => "id ",
-    }
-}
-
-/// Appends what a poll tells.
-pub(crate) fn say_polled(
-    out: &mut Vec<u8>,
-    polled: &Result<Polled, Refusal>,
-) -> Result<(), AllocError> {
-    match polled {
-        Ok(Polled::New(rows)) => say_rows(out, "new ", rows.as_slice()),
-        Ok(Polled::Unchanged) => say(out, &["unchanged"]),
-        Err(refusal) => say_refusal(out, *refusal),
     }
 }
 

@@ -1,6 +1,9 @@
 //! How many replies of a trial are as told.
+use crate::failed::Failed;
+use crate::replies::Said;
 use crate::rows::Row;
 use crate::sheet::Entry;
+use crate::trial::Host;
 use std::io::{self, Write};
 
 /// The replies of a trial over a store.
@@ -68,4 +71,15 @@ fn print(rt: &HostRuntime, said: &[u8]) -> io::Result<()> {
     }
     io::writer(rt).write_all(said)?;
     println!(rt; "")
+}
+
+/// Judges what is said to a line, or prints it.
+pub(crate) fn judge<R>(
+    host: &Host<'_, R>,
+    entry: &Entry<'_>,
+    out: &Said,
+    tally: &mut Tally<'_>,
+) -> Result<(), Failed> {
+    tally.shows = tally.shows || entry.is_chosen;
+    Ok(tally.judge(host.rt, entry, out.whole()?)?)
 }

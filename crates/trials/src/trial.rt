@@ -68,12 +68,14 @@ fn play_chosen<R: Wait + Sync>(host: &Host<'_, R>, line: &str) -> Result<(), Fai
 
 fn play_file<R: Wait + Sync>(
     host: &Host<'_, R>,
-    name: &str,
+    named: &str,
     chosen: Option<Chosen<'_>>,
 ) -> Result<(), Failed> {
-    let text = match name.split_once(' ') {
-        Some((name, stores)) => script_trial(host.rt, name, stores)?,
-        None => read(host.rt, name, "trial")?,
+    let (name, stores) = named.split_once(' ').unwrap_or((named, ""));
+    let text = if stores.is_empty() {
+        read(host.rt, name, "trial")?
+    } else {
+        script_trial(host.rt, name, stores)?
     };
     let text = expanded(host.rt.alloc(), text.as_str())?;
     play_text(host, name, text.as_str(), chosen)

@@ -1,3 +1,0 @@
-mod FirstPulls
-mod Leaves
-mod Drafts

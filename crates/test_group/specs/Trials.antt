@@ -1,0 +1,45 @@
+-- What tests try: a group without mutators, whose first pull brings a cookie and nothing else.
+use Rattle.std.specs.Prelude.{ℕ, ◌≡◌, List, [], ◌∷◌}
+use Rattle.std.specs.FinMap as finite
+use Rattle.group_history.specs.declared.changes.Change.{Change}
+use Rattle.group_history.specs.declared.changes.Change.TheVariants.{Pulled}
+use Rattle.group_history.specs.declared.nodes.Chunk.TheVariants.{Leaf}
+use Rattle.group_history.specs.declared.nodes.Kind.TheVariants.{Snapshot}
+use Rattle.group_history.specs.declared.nodes.Node.{Node}
+use Rattle.group_history.specs.declared.nodes.Node.TheVariants as node
+use Rattle.group_history.specs.declared.refs.Ref.{Ref}
+use Rattle.group_history.specs.Cookies.{Cookie, null_cookie}
+use Rattle.group_history.specs.Meaning.{Meanings, unknown}
+use Rattle.group_history.specs.Record.{after_change}
+use Rattle.group_history.specs.State.{opening}
+use Rattle.head_word.specs.declared.entry.Entry.{Entry}
+use Rattle.group_history.specs.Spelling.{Spells}
+use Rattle.group_history.specs.Naming.{placed_ref}
+use Rattle.group_history.specs.Refs.{stamp_of}
+use Rattle.map_chunks.specs.Drafts.{Drafted}
+use Rattle.head_word.specs.Books.{drawn}
+
+abbrev pub no_mutators : Meanings
+no_mutators name args why m = unknown
+
+-- the snapshot of an empty map under a cookie, over the leaf that `root` names
+abbrev pub bare : Cookie → Ref → Node Ref
+bare cookie root = node.Commit (record {
+  root = root;
+  kind = Snapshot (record { cookie = cookie; confirmed = finite.empty });
+})
+
+abbrev pub bare_pull : Cookie → Change
+bare_pull cookie = Pulled null_cookie (record { cookie = cookie; changes = []; patch = [] })
+
+-- the stamp is a commit of the state after the pull
+abbrev pub SpellsBare : List Entry → ℕ → Cookie → Type 0
+SpellsBare log stamp cookie = Spells no_mutators (drawn log) stamp (after_change opening (bare_pull cookie))
+
+-- The draft of such a pull, whose numbers begin behind the opening's stamps: an empty leaf, and the snapshot over it
+abbrev pub bare_draft : Cookie → Ref → Drafted
+bare_draft cookie root = record { first = 2; nodes = node.Chunk (Leaf []) ∷ bare cookie root ∷ [] }
+
+-- the snapshot's reference, where the draft was placed at these, is a commit of the state after the pull
+abbrev pub PlacesBare : List Entry → List Ref → Cookie → Type 0
+PlacesBare log refs cookie = (at : Ref) → stamp_of at ≡ 3 → SpellsBare log (stamp_of (placed_ref 2 refs at)) cookie

@@ -1,0 +1,132 @@
+//! Calls of clients with their answers.
+ghost use Rattle.std.specs.Prelude.{◌≡◌};
+
+use chunk_slots::Store;
+use group_history::{Ended, Json, Refusal, Text};
+use rebase::{Client, ReadTx, Ticket};
+use script_mutators::ScriptMutators;
+use std::alloc::Global;
+
+/// What a client is told.
+#[derive(Clone, Copy, PartialEq, Eq, Debug)]
+pub enum Told {
+    /// The id of the mutation.
+    Id(u64),
+    Ended(Ended),
+    /// The number at the key.
+    Value(Option<i64>),
+    Last(u64),
+}
+
+pub type Answer = Result<Told, Refusal>;
+
+/// A call that was refused memory has no answer, and ends a test.
+pub fn answered<T: Drop>(answer: Result<T, Refusal>) -> Result<Result<T, Refusal>, Refusal> {
+    match answer {
+        Err(Refusal::NoMemory) => Err(Refusal::NoMemory),
+        other => Ok(other),
+    }
+}
+
+/// The name of a mutator and the arguments of a call of it.
+#[derive(Drop)]
+pub struct MutatorCall {
+    pub name: Text,
+    pub args: Json,
+}
+
+pub fn call_of(alloc: Global, name: &str, args: &str) -> Result<MutatorCall, Refusal> {
+    let name = Text::new(alloc, name)?;
+    let args = Json::read(alloc, args.as_bytes())?;
+    Ok(MutatorCall { name, args })
+}
+
+pub fn mutates<S: Store<ScriptMutators>>(
+    client: &mut Client<'_, ScriptMutators, S>,
+    call: &MutatorCall,
+    tries: u32,
+) -> Answer
+where
+    S::Seat: Drop,
+{
+    client
+        .try_mutate(&call.name, &call.args, 1000, tries)
+        .map(Told::Id)
+}
+
+pub fn ends<S: Store<ScriptMutators>>(
+    client: &mut Client<'_, ScriptMutators, S>,
+    ticket: &Ticket,
+    body: &str,
+    tries: u32,
+) -> Answer
+where
+    S::Seat: Drop,
+    ensures { client.new.mark.book ≡ client.old.mark.book }
+{
+    client
+        .try_end_pull(ticket, body.as_bytes(), tries)
+        .map(Told::Ended)
+}
+
+/// Ends a pull that it begins for that.
+pub fn pulls<S: Store<ScriptMutators>>(
+    client: &mut Client<'_, ScriptMutators, S>,
+    body: &str,
+    tries: u32,
+) -> Answer
+where
+    S::Seat: Drop,
+    ensures { client.new.mark.book ≡ client.old.mark.book }
+{
+    let ticket = client.begin_pull(tries)?;
+    ends(client, &ticket, body, tries)
+}
+
+/// A number as JSON has it.
+pub fn number_in(text: &str) -> Option<i64> {
+    text.parse::<i64>().ok()
+}
+
+pub fn number_of(value: Option<&Json>) -> Option<i64> {
+    match value {
+        Some(value) => number_in(value.text()),
+        None => None,
+    }
+}
+
+/// The number at a key, where there is one.
+pub fn n_in<S: Store<ScriptMutators>>(
+    tx: &ReadTx<'_, '_, ScriptMutators, S>,
+    key: &str,
+) -> Result<Option<i64>, Refusal>
+where
+    S::Seat: Drop,
+{
+    let value = tx.get(key)?;
+    Ok(number_of(value.as_ref()))
+}
+
+pub fn gets<S: Store<ScriptMutators>>(
+    client: &mut Client<'_, ScriptMutators, S>,
+    key: &str,
+    tries: u32,
+) -> Answer
+where
+    S::Seat: Drop,
+{
+    let tx = client.read(tries)?;
+    let found = n_in(&tx, key);
+    tx.close();
+    found.map(Told::Value)
+}
+
+pub fn refreshes<S: Store<ScriptMutators>>(
+    client: &mut Client<'_, ScriptMutators, S>,
+    tries: u32,
+) -> Answer
+where
+    S::Seat: Drop,
+{
+    client.refresh(tries).map(Told::Last)
+}

@@ -1,0 +1,158 @@
+//! How tests open a group: whose it is, how it is laid out, and its clients.
+ghost use Rattle.std.specs.Prelude.{◌≡◌, ◌<◌, IfOk, vec_capacity, vec_len};
+ghost use Rattle.std.specs.List.{All};
+
+use chunk_slots::Store;
+use group_history::{Means, Refusal, Text};
+use push_body::Identity;
+use rebase::{Client, Config, Group, Seats};
+use script_mutators::ScriptMutators;
+use std::alloc::Global;
+use uuid::Uuid;
+
+const GROUP: &str = "00000000-0000-4000-8000-000000000001";
+
+/// Ids of clients.
+pub const A: &str = "00000000-0000-4000-8000-00000000000a";
+
+pub const B: &str = "00000000-0000-4000-8000-00000000000b";
+
+pub const C: &str = "00000000-0000-4000-8000-00000000000c";
+
+pub const D: &str = "00000000-0000-4000-8000-00000000000d";
+
+pub const E: &str = "00000000-0000-4000-8000-00000000000e";
+
+/// Whose the groups are.
+pub fn identity(alloc: Global) -> Result<Identity, Refusal> {
+    Ok(Identity {
+        group: Text::new(alloc, GROUP)?,
+        profile: Text::new(alloc, "p1")?,
+        schema: Text::new(alloc, "s1")?,
+    })
+}
+
+// A group of so many slots, with a seat for each of its clients.
+fn config_of(alloc: Global, slots: u32, clients: u32) -> Result<Config, Refusal> {
+    match Config::new(identity(alloc)?, slots, clients) {
+        Ok(config) => Ok(config),
+        Err(_) => Err(Refusal::Full),
+    }
+}
+
+fn id(text: &str) -> Result<Uuid, Refusal> {
+    match Uuid::parse_str(text) {
+        Ok(id) => Ok(id),
+        Err(_) => Err(Refusal::BadShape),
+    }
+}
+
+/// A new group of so many slots, and a seat for each of its clients.
+pub fn opened<S: Store<ScriptMutators> + Drop>(
+    alloc: Global,
+    parts: S::Parts,
+    slots: u32,
+    clients: u32,
+) -> Result<(Group<ScriptMutators, S>, Seats<ScriptMutators, S>), Refusal>
+where
+    S::Seat: Drop,
+    S::Parts: Drop,
+    ensures { IfOk result (λ made. All (λ seat. (seat.mark.book ≡ made.0.shared.head)
+        × (S.home seat.slots ≡ S.serves made.0.shared.store)) made.1.free.items) }
+{
+    let config = config_of(alloc, slots, clients)?;
+    Group::<ScriptMutators, S>::open(alloc, config, ScriptMutators, parts)
+}
+
+// A client of this ID on the next seat.
+fn next_client_of<'g, M: Means, S: Store<M>>(
+    group: &'g Group<M, S>,
+    seats: &mut Seats<M, S>,
+    id: Uuid,
+) -> Result<Client<'g, M, S>, Refusal>
+where
+    S::Seat: Drop,
+    requires { All (λ seat. (seat.mark.book ≡ group.now.shared.head)
+        × (S.home seat.slots ≡ S.serves group.now.shared.store)) seats.old.free.items }
+    ensures seats { All (λ seat. (seat.mark.book ≡ group.now.shared.head)
+        × (S.home seat.slots ≡ S.serves group.now.shared.store)) seats.new.free.items }
+    ensures room { IfOk result (λ _. vec_len seats.new.free < vec_capacity seats.new.free) }
+    ensures group { IfOk result (λ client. client.mark.book ≡ group.now.shared.head) }
+    ensures same { IfOk result (λ client. client.group.now ≡ group.now) }
+{
+    let seat = seats.take()?;
+    match group.client(seat, id, 9) {
+        Ok(client) => Ok(client),
+        Err((_, e)) => Err(e),
+    }
+}
+
+/// A client of this ID on the next seat.
+pub fn next_client<'g, M: Means, S: Store<M>>(
+    group: &'g Group<M, S>,
+    seats: &mut Seats<M, S>,
+    text: &str,
+) -> Result<Client<'g, M, S>, Refusal>
+where
+    S::Seat: Drop,
+    requires { All (λ seat. (seat.mark.book ≡ group.now.shared.head)
+        × (S.home seat.slots ≡ S.serves group.now.shared.store)) seats.old.free.items }
+    ensures seats { All (λ seat. (seat.mark.book ≡ group.now.shared.head)
+        × (S.home seat.slots ≡ S.serves group.now.shared.store)) seats.new.free.items }
+    ensures room { IfOk result (λ _. vec_len seats.new.free < vec_capacity seats.new.free) }
+    ensures group { IfOk result (λ client. client.mark.book ≡ group.now.shared.head) }
+    ensures same { IfOk result (λ client. client.group.now ≡ group.now) }
+{
+    let id = id(text)?;
+    next_client_of(group, seats, id)
+}
+
+/// A client that may be lent to a thread, and its number among those of its group, from 0 on. That is the number by
+/// which a gate knows its seat.
+#[derive(Drop)]
+pub struct Player<'g, S: Store<ScriptMutators>>
+where
+    S::Seat: Drop,
+{
+    pub number: usize,
+    pub client: Client<'g, ScriptMutators, S>,
+}
+
+// Adds a client of this ID, on the next seat.
+fn add_player<'g, S: Store<ScriptMutators>>(
+    group: &'g Group<ScriptMutators, S>,
+    seats: &mut Seats<ScriptMutators, S>,
+    text: &str,
+    players: &mut Vec<Player<'g, S>>,
+) -> Result<(), Refusal>
+where
+    S::Seat: Drop,
+    requires { All (λ seat. (seat.mark.book ≡ group.now.shared.head)
+        × (S.home seat.slots ≡ S.serves group.now.shared.store)) seats.old.free.items }
+    ensures { All (λ seat. (seat.mark.book ≡ group.now.shared.head)
+        × (S.home seat.slots ≡ S.serves group.now.shared.store)) seats.new.free.items }
+{
+    let client = next_client(group, seats, text)?;
+    let number = players.len();
+    players.push(Player { number, client })?;
+    Ok(())
+}
+
+/// Clients of these IDs on the next seats.
+pub fn players_of<'g, S: Store<ScriptMutators>>(
+    alloc: Global,
+    group: &'g Group<ScriptMutators, S>,
+    seats: &mut Seats<ScriptMutators, S>,
+    ids: &[&str],
+) -> Result<Vec<Player<'g, S>>, Refusal>
+where
+    S::Seat: Drop,
+    requires { All (λ seat. (seat.mark.book ≡ group.now.shared.head)
+        × (S.home seat.slots ≡ S.serves group.now.shared.store)) seats.old.free.items }
+{
+    let mut players = Vec::new(alloc);
+    for id in ids {
+        add_player(group, seats, id, &mut players)?;
+    }
+    Ok(players)
+}

@@ -1,0 +1,2 @@
+mod PlacedLemmas
+mod Drafts

@@ -1,0 +1,12 @@
+//! What no contract says: that calls succeed, how chunks are shaped, and values from outside.
+mod chains;
+mod claims;
+mod drafts;
+mod groups;
+mod heads;
+mod maps;
+mod scans;
+mod stores;
+mod texts;
+mod trees;
+mod writes;

@@ -1,0 +1,203 @@
+//! What a pull shares with the maps before it.
+ghost use Rattle.std.specs.Prelude.{◌≡◌, ◌<◌, ◌^◌, IsSome, IfOk, map};
+ghost use Rattle.std.specs.Coded.{Unit-prop};
+ghost use Rattle.group_history.specs.Naming.{content_of};
+ghost use Rattle.group_history.specs.Refs.{stamp_of};
+ghost use Rattle.group_history.specs.Spelling.{map_at, version_at};
+
+use super::chains::{at, example};
+use commits::{LentCommit, Nodes, VecNodes, cookie_of, dropped};
+use group_history::{Json, Mutation, PullOk, Ref, Refusal, Response, Stop, Text};
+use map_tree::{Chunks, Lent, Shelf};
+use pull_patch::read_response;
+use replays::{add_opening, base_at, rebased};
+use script_mutators::ScriptMutators;
+use std::alloc::Global;
+use std::marker::Brand;
+use std::prelude::*;
+
+/// Adds the operation that puts a number at its key, behind so many others.
+fn add_put(alloc: Global, body: &mut String, before: u64) -> Result<(), Refusal>
+    requires { before < 2 ^ 32 }
+{
+    if before > 0 {
+        body.push(',')?;
+    }
+    let number = before + 1;
+    let op = format!(in alloc; r#"{{"op":"put","key":"k{number:02}","value":{number}}}"#)?;
+    body.push_str(op.as_str())?;
+    Ok(())
+}
+
+/// The body of a pull with the keys of the first so many numbers, each with its number.
+fn numbered(alloc: Global, count: u32) -> Result<String, Refusal> {
+    let mut body = String::new(alloc);
+    body.push_str(r#"{"cookie":1,"lastMutationIDChanges":{},"patch":["#)?;
+    for before in 0..u64::from(count) {
+        add_put(alloc, &mut body, before)?;
+    }
+    body.push_str("]}")?;
+    Ok(body)
+}
+
+/// Counts how often a node is shown.
+#[derive(Drop)]
+struct Counted<'a> {
+    shelf: Shelf<'a>,
+    shown: u64,
+}
+
+impl<'a> Chunks for Counted<'a> {
+    type Held = Lent<'a>;
+
+    ghost contents = { λ counted. map content_of counted.shelf.nodes.now };
+
+    ghost places = { λ counted at. Unit {0} };
+
+    ghost places_prop = { λ _ at. Unit-prop };
+
+    ghost stops = { λ stop. ⊥ };
+
+    fn show(&mut self, at: Ref) -> Result<Lent<'a>, Stop> {
+        self.shown = self.shown.saturating_add(1);
+        self.shelf.show(at)
+    }
+
+    fn leave(&mut self, held: Lent<'a>) {
+        self.shelf.leave(held);
+    }
+}
+
+impl<'a> Nodes for Counted<'a> {
+    type HeldCommit = LentCommit<'a>;
+
+    fn show_commit(&mut self, at: Ref) -> Result<LentCommit<'a>, Stop> {
+        self.shown = self.shown.saturating_add(1);
+        self.shelf.show_commit(at)
+    }
+
+    fn leave_commit(&mut self, held: LentCommit<'a>) {
+        self.shelf.leave_commit(held);
+    }
+}
+
+/// Adds the nodes of a pull over this head, with these mutations pending, and answers the new head.
+fn add_rebased(
+    alloc: Global,
+    nodes: &mut VecNodes,
+    head: Ref,
+    pending: &[Mutation],
+    pull: &PullOk,
+) -> Result<Ref, Refusal>
+    requires { IsSome (version_at (map content_of nodes.old) (stamp_of head)) }
+    ensures old { IfOk result (λ _. IsSome (version_at (map content_of nodes.new) (stamp_of head))) }
+    ensures new { IfOk result (λ new. IsSome (version_at (map content_of nodes.new) (stamp_of new))) }
+{
+    let shelf = nodes.shelf();
+    let base = base_at::<Shelf<'_>, Brand>(shelf, head)?;
+    let mut draft = nodes.draft(alloc);
+    let mutators = &ScriptMutators;
+    let made = rebased::<Shelf<'_>, Brand, ScriptMutators>(
+        alloc, shelf, &mut draft, mutators, &base, pending, pull,
+    )?;
+    nodes.append(draft)?;
+    Ok(made.commit)
+}
+
+/// How many nodes one head leaves behind for another, and how many are shown until that is known.
+fn count_dropped(
+    alloc: Global,
+    nodes: &VecNodes,
+    old: Ref,
+    new: Ref,
+) -> Result<(usize, u64), Refusal>
+    requires old { IsSome (version_at (map content_of nodes.now) (stamp_of old)) }
+    requires new { IsSome (version_at (map content_of nodes.now) (stamp_of new)) }
+{
+    let mut counted = Counted {
+        shelf: nodes.shelf(),
+        shown: 0,
+    };
+    let left = dropped(alloc, &mut counted, old, new)?;
+    Ok((left.len(), counted.shown))
+}
+
+/// How many nodes are shown until the cookie of the third local commit is known.
+fn looks_for_cookie(alloc: Global) -> Result<u64, Refusal> {
+    let nodes = example(alloc)?;
+    let mut counted = Counted {
+        shelf: nodes.shelf(),
+        shown: 0,
+    };
+    cookie_of(&mut counted, at(6))?;
+    Ok(counted.shown)
+}
+
+#[test]
+fn a_cookie_is_two_looks_away(rt: HostRuntime) -> Result<(), Refusal> {
+    assert_eq!(rt; looks_for_cookie(rt.alloc())?, 2);
+    Ok(())
+}
+
+/// The nodes and the head of a new group.
+fn opened(alloc: Global) -> Result<(VecNodes, Ref), Refusal>
+    ensures { IfOk result (λ made. IsSome (version_at (map content_of made.0) (stamp_of made.1))) }
+{
+    let mut nodes = VecNodes::new(alloc);
+    let mut draft = nodes.draft(alloc);
+    let head = add_opening(alloc, &mut draft)?;
+    nodes.append(draft)?;
+    Ok((nodes, head))
+}
+
+/// What the body of a response tells.
+fn pulled(alloc: Global, body: &str) -> Result<PullOk, Refusal> {
+    match read_response(alloc, body.as_bytes())? {
+        Response::Ok(pull) => Ok(pull),
+        _ => Err(Refusal::BadShape),
+    }
+}
+
+/// The nodes and the head of a group that pulled so many keys, with these mutations pending.
+fn with_keys(alloc: Global, pending: &[Mutation], count: u32) -> Result<(VecNodes, Ref), Refusal>
+    ensures { IfOk result (λ made. IsSome (version_at (map content_of made.0) (stamp_of made.1))) }
+{
+    let body = numbered(alloc, count)?;
+    let pull = pulled(alloc, body.as_str())?;
+    let (mut nodes, opening) = opened(alloc)?;
+    let head = add_rebased(alloc, &mut nodes, opening, pending, &pull)?;
+    Ok((nodes, head))
+}
+
+/// A mutation of `a` with this id.
+fn mutation(alloc: Global, id: u64, name: &str, args: &str) -> Result<Mutation, Refusal> {
+    let client = Text::new(alloc, "a")?;
+    let name = Text::new(alloc, name)?;
+    let args = Json::read(alloc, args.as_bytes())?;
+    Ok(Mutation::new(&client, id, &name, &args, 0)?)
+}
+
+/// How many nodes a pull that brings nothing new leaves behind in such a group, where the first of the keys is set, and
+/// how many are shown until that is known.
+fn left_behind(alloc: Global, count: u32) -> Result<(usize, u64), Refusal> {
+    let pending = [mutation(alloc, 1, "set", r#"["k01",0]"#)?];
+    let pull = pulled(
+        alloc,
+        r#"{"cookie":2,"lastMutationIDChanges":{},"patch":[]}"#,
+    )?;
+    let (mut nodes, head) = with_keys(alloc, &pending, count)?;
+    let new = add_rebased(alloc, &mut nodes, head, &pending, &pull)?;
+    count_dropped(alloc, &nodes, head, new)
+}
+
+// So many keys fill 625 leaves at least. The set copied one of them, and the replay another; to show each
+// that is shared would show more than 600.
+#[test]
+fn a_pull_shares_the_pulled_map_and_does_not_walk_it(rt: HostRuntime) -> Result<(), Refusal> {
+    let (few, _) = left_behind(rt.alloc(), 17)?;
+    assert_eq!(rt; few, 4);
+    let (left, shown) = left_behind(rt.alloc(), 10_000)?;
+    assert!(rt; left < 10, "{left} left");
+    assert!(rt; shown < 600, "{shown} shown");
+    Ok(())
+}

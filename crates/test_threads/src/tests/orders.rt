@@ -1,0 +1,582 @@
+//! Of two clients that make short lists of calls at once. What each was answered has to be what a group of one thread
+//! answers in some order of the calls in which each client's own ones keep theirs.
+ghost use Rattle.std.specs.Prelude.{◌≡◌, IfOk};
+ghost use Rattle.std.specs.List.{All};
+ghost use Rattle.group_history.specs.Pull.{AreInRange};
+
+use chunk_slots::{Append, Arena, Store};
+use group_history::{Confirmed, Cookie, Json, Patch, PlainGroup, PullOk, Refusal, Response, Text};
+use rebase::{Client, Group, ReadTx, Seats, Ticket};
+use script_mutators::ScriptMutators;
+use serde_json::Value;
+use std::alloc::Global;
+use std::sync::atomic::AtomicU64;
+use std::sync::atomic::Ordering::SeqCst;
+use std::thread::{Threads, join};
+use test_group::{
+    A, Answer, B, Player, Told, answered, call_of, cookie_of, ends, gets, mutates, number_in,
+    number_of, opened, players_of, refreshes, two_of,
+};
+
+// More than there are other calls to be lost to.
+const TRIES: u32 = 1_000;
+
+// What a pull's response says: its cookie, A's last id, and the number at `n`.
+#[derive(Clone, Copy)]
+struct Pull {
+    cookie: u8,
+    confirms: u8,
+    n: u8,
+}
+
+#[derive(Clone, Copy)]
+enum Call {
+    // Of this mutator, with these arguments.
+    Mutate(&'static str, &'static str),
+    Get(&'static str),
+    // How many mutations are pending.
+    Pending,
+    Refresh,
+    // To begin a pull, whose ticket is kept.
+    Begin,
+    // To end the pull that was begun last.
+    End(Pull),
+}
+
+static CALLS: [Call; 16] = [
+    Call::Mutate("incr", r#"["n",1]"#),
+    Call::Mutate("incr", r#"["n",1]"#),
+    Call::Mutate("incr", r#"["n",10]"#),
+    Call::Mutate("set", r#"["n",100]"#),
+    Call::Mutate("set", r#"["n",7]"#),
+    Call::Mutate("set", r#"["k",1]"#),
+    Call::Get("n"),
+    Call::Get("n"),
+    Call::Get("k"),
+    Call::Pending,
+    Call::Refresh,
+    Call::Refresh,
+    Call::Begin,
+    Call::End(Pull {
+        cookie: 1,
+        confirms: 0,
+        n: 5,
+    }),
+    Call::End(Pull {
+        cookie: 2,
+        confirms: 1,
+        n: 20,
+    }),
+    Call::End(Pull {
+        cookie: 3,
+        confirms: 2,
+        n: 40,
+    }),
+];
+
+// A call, and what it was answered once it was made.
+#[derive(Clone, Copy)]
+struct Step {
+    call: Call,
+    answer: Option<Answer>,
+}
+
+fn unmade(call: Call) -> Step {
+    Step { call, answer: None }
+}
+
+// What is asked when two threads have ended.
+fn last_steps() -> [Step; 5] {
+    [
+        unmade(Call::Get("n")),
+        unmade(Call::Get("k")),
+        unmade(Call::Pending),
+        unmade(Call::Begin),
+        unmade(Call::Refresh),
+    ]
+}
+
+fn body_of(alloc: Global, pull: Pull) -> Result<String, Refusal> {
+    let Pull {
+        cookie,
+        confirms,
+        n,
+    } = pull;
+    Ok(format!(in alloc;
+        r#"{{"cookie":{cookie},"lastMutationIDChanges":{{"{A}":{confirms}}},"patch":[{{"op":"put","key":"n","value":{n}}}]}}"#
+    )?)
+}
+
+// The pulls of a client: the first one of all, and the one that it began last since.
+#[derive(Drop)]
+struct Begun<'a> {
+    first: &'a Ticket,
+    last: Option<Ticket>,
+}
+
+impl Begun<'_> {
+    fn ticket(&self) -> &Ticket {
+        match &self.last {
+            Some(ticket) => ticket,
+            None => self.first,
+        }
+    }
+
+    fn begins<S: Store<ScriptMutators>>(
+        &mut self,
+        client: &mut Client<'_, ScriptMutators, S>,
+    ) -> Answer
+    where
+        S::Seat: Drop,
+    {
+        let ticket = client.begin_pull(TRIES)?;
+        let told = Told::Value(number_in(ticket.cookie.text()));
+        self.last = Some(ticket);
+        Ok(told)
+    }
+
+    fn ends<S: Store<ScriptMutators>>(
+        &self,
+        alloc: Global,
+        client: &mut Client<'_, ScriptMutators, S>,
+        pull: Pull,
+    ) -> Answer
+    where
+        S::Seat: Drop,
+    {
+        let body = body_of(alloc, pull)?;
+        ends(client, self.ticket(), &body, TRIES)
+    }
+
+    fn makes<S: Store<ScriptMutators>>(
+        &mut self,
+        alloc: Global,
+        client: &mut Client<'_, ScriptMutators, S>,
+        call: Call,
+    ) -> Answer
+    where
+        S::Seat: Drop,
+    {
+        match call {
+            Call::Mutate(name, args) => mutates(client, &call_of(alloc, name, args)?, TRIES),
+            Call::Get(key) => gets(client, key, TRIES),
+            Call::Pending => counts(client),
+            Call::Refresh => refreshes(client, TRIES),
+            Call::Begin => self.begins(client),
+            Call::End(pull) => self.ends(alloc, client, pull),
+        }
+    }
+}
+
+fn count_in<S: Store<ScriptMutators>>(tx: &ReadTx<'_, '_, ScriptMutators, S>) -> Answer
+where
+    S::Seat: Drop,
+{
+    let pending = tx.pending()?;
+    Ok(Told::Last(pending.len() as u64))
+}
+
+fn counts<S: Store<ScriptMutators>>(client: &mut Client<'_, ScriptMutators, S>) -> Answer
+where
+    S::Seat: Drop,
+{
+    let tx = client.read(TRIES)?;
+    let count = count_in(&tx);
+    tx.close();
+    count
+}
+
+fn makes_all<S: Store<ScriptMutators>>(
+    alloc: Global,
+    client: &mut Client<'_, ScriptMutators, S>,
+    first: &Ticket,
+    steps: &mut [Step],
+) -> Result<(), Refusal>
+where
+    S::Seat: Drop,
+{
+    let mut begun = Begun { first, last: None };
+    for step in steps.iter_mut() {
+        step.answer = Some(answered(begun.makes(alloc, client, step.call))?);
+    }
+    Ok(())
+}
+
+// The same, once the other thread has come here too.
+fn makes_beside<S: Store<ScriptMutators>>(
+    alloc: Global,
+    player: &mut Player<'_, S>,
+    first: &Ticket,
+    steps: &mut [Step],
+    come: &AtomicU64,
+) -> Result<(), Refusal>
+where
+    S::Seat: Drop,
+{
+    come.fetch_add(1, SeqCst);
+    for _ in 0..100_000 {
+        if come.load(SeqCst) >= 2 {
+            break;
+        }
+    }
+    makes_all(alloc, &mut player.client, first, steps)
+}
+
+// A client of the group of one thread, and what is to be explained of its calls.
+#[derive(Drop)]
+struct Side<'a> {
+    client: Text,
+    last: u64,
+    ticket: Cookie,
+    steps: &'a [Step],
+}
+
+fn side_of<'a>(alloc: Global, client: &str, steps: &'a [Step]) -> Result<Side<'a>, Refusal> {
+    let client = Text::new(alloc, client)?;
+    let ticket = Cookie::null(alloc)?;
+    Ok(Side {
+        client,
+        last: 0,
+        ticket,
+        steps,
+    })
+}
+
+// A is the one client whose mutations are confirmed.
+fn confirms(alloc: Global, pull: Pull) -> Result<Vec<Confirmed>, Refusal>
+    ensures { IfOk result (λ changes. AreInRange changes.items) }
+{
+    let mut changes = Vec::new(alloc);
+    changes.push(Confirmed {
+        client: Text::new(alloc, A)?,
+        id: u64::from(pull.confirms),
+    })?;
+    Ok(changes)
+}
+
+fn puts(alloc: Global, pull: Pull) -> Result<Vec<Patch>, Refusal> {
+    let n = Patch::Put(
+        Text::new(alloc, "n")?,
+        Json::of(alloc, &Value::from(pull.n))?,
+    );
+    let mut patch = Vec::new(alloc);
+    patch.push(n)?;
+    Ok(patch)
+}
+
+fn response_of(alloc: Global, pull: Pull) -> Result<Response, Refusal> {
+    let cookie = cookie_of(alloc, &Value::from(pull.cookie))?;
+    let changes = confirms(alloc, pull)?;
+    let patch = puts(alloc, pull)?;
+    Ok(Response::Ok(PullOk::new(cookie, changes, patch)))
+}
+
+type Plain = PlainGroup<ScriptMutators>;
+
+impl Side<'_> {
+    fn mutates(&mut self, alloc: Global, group: &mut Plain, name: &str, args: &str) -> Answer {
+        let call = call_of(alloc, name, args)?;
+        let id = group.mutate(
+            &ScriptMutators,
+            &self.client,
+            self.last,
+            &call.name,
+            &call.args,
+            1000,
+        )?;
+        self.last = id;
+        Ok(Told::Id(id))
+    }
+
+    fn refreshes(&mut self, group: &Plain) -> Answer {
+        self.last = group.last(&self.client);
+        Ok(Told::Last(self.last))
+    }
+
+    fn begins(&mut self, group: &Plain) -> Answer {
+        self.ticket = group.cookie().clone()?;
+        Ok(Told::Value(number_in(self.ticket.text())))
+    }
+
+    fn ends(&mut self, alloc: Global, group: &mut Plain, pull: Pull) -> Answer {
+        let response = response_of(alloc, pull)?;
+        let ended = group.end_pull(&ScriptMutators, &self.ticket, &response)?;
+        Ok(Told::Ended(ended))
+    }
+
+    fn makes(&mut self, alloc: Global, group: &mut Plain, call: Call) -> Answer {
+        match call {
+            Call::Mutate(name, args) => self.mutates(alloc, group, name, args),
+            Call::Get(key) => Ok(Told::Value(number_of(group.get(&Text::new(alloc, key)?)))),
+            Call::Pending => Ok(Told::Last(group.pending().len() as u64)),
+            Call::Refresh => self.refreshes(group),
+            Call::Begin => self.begins(group),
+            Call::End(pull) => self.ends(alloc, group, pull),
+        }
+    }
+
+    // Makes the next call. False where it is answered otherwise, or where there is none.
+    fn fits(&mut self, alloc: Global, group: &mut Plain) -> Result<bool, Refusal> {
+        let Some((step, rest)) = self.steps.split_first() else {
+            return Ok(false);
+        };
+        self.steps = rest;
+        Ok(Some(answered(self.makes(alloc, group, step.call))?) == step.answer)
+    }
+}
+
+// What two clients made at once, of which the first one was A, and what A made then.
+#[derive(Clone, Copy)]
+struct Game {
+    by_a: [Step; 4],
+    by_b: [Step; 4],
+    last: [Step; 5],
+}
+
+// Of two clients with four calls each.
+const TURNS: u32 = 8;
+
+// How an order explains a game: the first turn that it does not, or all.
+#[derive(Clone, Copy, PartialEq, Eq)]
+enum Explained {
+    Until(u32),
+    All,
+}
+
+// The first turn that is answered otherwise in the order in which the turns of A are the bits of a number, the highest
+// one first.
+fn other_turn(
+    alloc: Global,
+    group: &mut Plain,
+    a: &mut Side<'_>,
+    b: &mut Side<'_>,
+    turns: u32,
+) -> Result<Option<u32>, Refusal> {
+    for turn in 0..TURNS {
+        let is_of_a = (turns >> (TURNS - 1 - turn)) & 1 == 1;
+        let fits = if is_of_a {
+            a.fits(alloc, group)?
+        } else {
+            b.fits(alloc, group)?
+        };
+        if !fits {
+            return Ok(Some(turn));
+        }
+    }
+    Ok(None)
+}
+
+fn ended_by(alloc: Global, group: &mut Plain, side: &mut Side<'_>) -> Result<Explained, Refusal> {
+    for _ in 0..side.steps.len() {
+        if !side.fits(alloc, group)? {
+            return Ok(Explained::Until(TURNS));
+        }
+    }
+    Ok(Explained::All)
+}
+
+// How a game is explained by that order, in a group of one thread. What A made afterwards counts as one turn more.
+fn explained_in<'a>(
+    alloc: Global,
+    a: &mut Side<'a>,
+    b: &mut Side<'_>,
+    last: &'a [Step],
+    turns: u32,
+) -> Result<Explained, Refusal> {
+    let mut group = Plain::new(alloc)?;
+    if let Some(turn) = other_turn(alloc, &mut group, a, b, turns)? {
+        return Ok(Explained::Until(turn));
+    }
+    a.steps = last;
+    ended_by(alloc, &mut group, a)
+}
+
+fn explained_by(alloc: Global, game: &Game, turns: u32) -> Result<Explained, Refusal> {
+    let mut a = side_of(alloc, A, &game.by_a)?;
+    let mut b = side_of(alloc, B, &game.by_b)?;
+    explained_in(alloc, &mut a, &mut b, &game.last, turns)
+}
+
+// The first number above this one whose bits differ in this turn or before.
+fn next_order(turns: u32, turn: u32) -> u32 {
+    let after = if turn < TURNS { TURNS - 1 - turn } else { 0 };
+    (turns >> after).wrapping_add(1) << after
+}
+
+// The first order that explains all. Those that begin as one that does not are passed over.
+fn order_of(alloc: Global, game: &Game) -> Result<Option<u32>, Refusal> {
+    let mut next = 0;
+    for turns in 0u32..1 << TURNS {
+        if turns < next {
+            continue;
+        }
+        match explained_by(alloc, game, turns)? {
+            Explained::All => return Ok(Some(turns)),
+            Explained::Until(turn) => next = next_order(turns, turn),
+        }
+    }
+    Ok(None)
+}
+
+// What calls are drawn by: the next number follows from the last one.
+#[derive(Drop)]
+struct Dice {
+    number: u64,
+}
+
+impl Dice {
+    fn draws(&mut self) -> Call {
+        self.number ^= self.number << 13;
+        self.number ^= self.number >> 7;
+        self.number ^= self.number << 17;
+        CALLS[(self.number % 16) as usize]
+    }
+
+    fn draws_four(&mut self) -> [Step; 4] {
+        [
+            unmade(self.draws()),
+            unmade(self.draws()),
+            unmade(self.draws()),
+            unmade(self.draws()),
+        ]
+    }
+
+    fn draws_game(&mut self) -> Game {
+        let by_a = self.draws_four();
+        let by_b = self.draws_four();
+        Game {
+            by_a,
+            by_b,
+            last: last_steps(),
+        }
+    }
+}
+
+// The game with what both were answered.
+fn both_make<R: Threads + Sync, S: Store<ScriptMutators>>(
+    rt: &R,
+    alloc: Global,
+    a: &mut Player<'_, S>,
+    b: &mut Player<'_, S>,
+    first: &Ticket,
+    game: &mut Game,
+) -> Result<(), Refusal>
+where
+    S::Seat: Drop,
+{
+    let (mut by_a, mut by_b) = (game.by_a, game.by_b);
+    let come = AtomicU64::new(0);
+    let (of_a, of_b) = join(
+        rt,
+        || makes_beside(alloc, a, first, &mut by_a, &come),
+        || makes_beside(alloc, b, first, &mut by_b, &come),
+    );
+    game.by_a = by_a;
+    game.by_b = by_b;
+    of_a?;
+    of_b
+}
+
+// Both make their calls, once A has begun the first pull of both; and then A makes the last ones.
+fn played_by<R: Threads + Sync, S: Store<ScriptMutators>>(
+    rt: &R,
+    alloc: Global,
+    a: &mut Player<'_, S>,
+    b: &mut Player<'_, S>,
+    game: &mut Game,
+) -> Result<(), Refusal>
+where
+    S::Seat: Drop,
+{
+    let first = a.client.begin_pull(TRIES)?;
+    both_make(rt, alloc, a, b, &first, game)?;
+    makes_all(alloc, &mut a.client, &first, &mut game.last)
+}
+
+// The game with all answers.
+fn played<R: Threads + Sync, S: Store<ScriptMutators>>(
+    rt: &R,
+    alloc: Global,
+    players: &mut [Player<'_, S>],
+    drawn: Game,
+) -> Result<Game, Refusal>
+where
+    S::Seat: Drop,
+{
+    let mut game = drawn;
+    let (a, b) = two_of(players)?;
+    played_by(rt, alloc, a, b, &mut game)?;
+    Ok(game)
+}
+
+fn game_in<R: Threads + Sync, S: Store<ScriptMutators>>(
+    rt: &R,
+    alloc: Global,
+    group: &Group<ScriptMutators, S>,
+    seats: &mut Seats<ScriptMutators, S>,
+    drawn: Game,
+) -> Result<Game, Refusal>
+where
+    S::Seat: Drop,
+    requires { All (λ seat. (seat.mark.book ≡ group.now.shared.head)
+        × (S.home seat.slots ≡ S.serves group.now.shared.store)) seats.old.free.items }
+{
+    let mut players = players_of(alloc, group, seats, &[A, B])?;
+    played(rt, alloc, players.as_mut_slice(), drawn)
+}
+
+fn game_in_new<R: Threads + Sync, S: Store<ScriptMutators> + Drop>(
+    rt: &R,
+    alloc: Global,
+    parts: S::Parts,
+    drawn: Game,
+) -> Result<Game, Refusal>
+where
+    S::Seat: Drop,
+    S::Parts: Drop,
+{
+    let (group, mut seats) = opened::<S>(alloc, parts, 256, 2)?;
+    game_in(rt, alloc, &group, &mut seats, drawn)
+}
+
+const ROUNDS: u32 = 100;
+
+// How many rounds there are before one whose answers no order explains.
+fn rounds_explained<R: Threads + Sync, S: Store<ScriptMutators> + Drop>(
+    rt: &R,
+    alloc: Global,
+    parts: S::Parts,
+) -> Result<u32, Refusal>
+where
+    S::Seat: Drop,
+    S::Parts: Copy,
+{
+    let mut dice = Dice {
+        number: 0x2545_f491_4f6c_dd1d,
+    };
+    for round in 0..ROUNDS {
+        let game = game_in_new::<R, S>(rt, alloc, parts, dice.draws_game())?;
+        if order_of(alloc, &game)?.is_none() {
+            return Ok(round);
+        }
+    }
+    Ok(ROUNDS)
+}
+
+#[test]
+fn answers_over_an_arena_have_an_order(rt: HostRuntime) -> Result<(), Refusal> {
+    let rounds = rounds_explained::<HostRuntime, Arena<ScriptMutators>>(&rt, rt.alloc(), ())?;
+    assert_eq!(rt; rounds, ROUNDS);
+    Ok(())
+}
+
+#[test]
+fn answers_over_a_vector_have_an_order(rt: HostRuntime) -> Result<(), Refusal> {
+    let rounds = rounds_explained::<HostRuntime, Append<&HostRuntime, ScriptMutators>>(
+        &rt,
+        rt.alloc(),
+        &rt,
+    )?;
+    assert_eq!(rt; rounds, ROUNDS);
+    Ok(())
+}
