@@ -567,6 +567,21 @@ where
 {
     let alloc = host.rt.alloc();
     let config = config_of(alloc, part.trial.header)?;
+    play_laid_out::<R, S>(host, part, config, parts, tally)
+}
+
+fn play_laid_out<R: Wait, S: Counted>(
+    host: &Host<'_, R>,
+    part: Part<'_>,
+    config: Config,
+    parts: S::Parts,
+    tally: &mut Tally<'_>,
+) -> Result<(), Failed>
+where
+    S::Seat: Drop,
+    S::Parts: Copy + Drop,
+{
+    let alloc = host.rt.alloc();
     let (group, seats) = Group::<ScriptMutators, S>::open(alloc, config, ScriptMutators, parts)?;
     play_in(host, part, &group, seats, parts, tally)
 }

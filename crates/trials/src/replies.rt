@@ -119,14 +119,22 @@ impl Said {
 
     /// Says the name of a refusal, and what it tells.
     pub(crate) fn say_refusal(&mut self, refusal: Refusal) {
-        let alloc = *self.text.allocator();
         match refusal {
             Refusal::Refused(code) => self.say_number("refused Refused ", u64::from(code)),
-            Refusal::VersionNotSupported(kind) => {
-                self.say_made(format!(in alloc; "refused VersionNotSupported {kind}"));
-            }
-            refusal => self.say_made(format!(in alloc; "refused {refusal:?}")),
+            refusal => self.say_name(refusal),
         }
+    }
+
+    /// Says the name of a refusal without a code, and the kind that it tells.
+    fn say_name(&mut self, refusal: Refusal) {
+        let alloc = *self.text.allocator();
+        let name = match refusal {
+            Refusal::VersionNotSupported(kind) => {
+                format!(in alloc; "refused VersionNotSupported {kind}")
+            }
+            refusal => format!(in alloc; "refused {refusal:?}"),
+        };
+        self.say_made(name);
     }
 
     /// Says a reply; before an id stands that word.

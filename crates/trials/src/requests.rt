@@ -9,7 +9,7 @@ use group_history::{
 use head_word::Head;
 use push_body::{Identity, pull_bytes, push_bytes};
 use reader_claims::Claims;
-use rebase::Config;
+use rebase::{Config, OutOfRange};
 use script_mutators::ScriptMutators;
 use serde_json::Value;
 use std::alloc::{AllocError, Global};
@@ -21,11 +21,16 @@ fn text_of(alloc: Global, value: &Value) -> Result<Text, AllocError> {
 /// The texts of an array.
 fn texts_of(alloc: Global, array: &str) -> Result<Vec<Text>, Refusal> {
     let value = read_value(alloc, array.as_bytes())?;
+    match value.as_array() {
+        Some(items) => Ok(texts_in(alloc, items)?),
+        None => Ok(Vec::new(alloc)),
+    }
+}
+
+fn texts_in(alloc: Global, items: &[Value]) -> Result<Vec<Text>, AllocError> {
     let mut texts = Vec::new(alloc);
-    if let Some(items) = value.as_array() {
-        for item in items {
-            texts.push(text_of(alloc, item)?)?;
-        }
+    for item in items {
+        texts.push(text_of(alloc, item)?)?;
     }
     Ok(texts)
 }
@@ -72,10 +77,18 @@ pub(crate) fn push<R>(it: &Turn<'_, R>, given: &str) -> Result<String, Refusal> 
     let alloc = it.rt.alloc();
     let (identity, clients) = identity_and_rest(alloc, given)?;
     let pending = pending_of(alloc, clients)?;
+    push_of(it, &identity, &pending)
+}
+
+fn push_of<R>(
+    it: &Turn<'_, R>,
+    identity: &Identity,
+    pending: &[Mutation],
+) -> Result<String, Refusal> {
     begins(it.rt, it.is_marked);
-    let body = push_bytes(alloc, &identity, &pending);
+    let body = push_bytes(it.rt.alloc(), identity, pending);
     ends(it.rt, it.is_marked);
-    Ok(text_of_body(alloc, &body?)?)
+    Ok(text_of_body(it.rt.alloc(), &body?)?)
 }
 
 /// The body of a pull from a cookie on: `IDENTITY COOKIE`.
@@ -108,9 +121,13 @@ pub(crate) fn limits<R>(it: &Turn<'_, R>, given: &str) -> Result<String, Refusal
     begins(it.rt, it.is_marked);
     let config = Config::new(identity, slots, seats);
     ends(it.rt, it.is_marked);
+    Ok(config_text(alloc, config)?)
+}
+
+fn config_text(alloc: Global, config: Result<Config, OutOfRange>) -> Result<String, AllocError> {
     match config {
-        Ok(_) => Ok(String::from_str(alloc, "a group")?),
-        Err(limit) => Ok(format!(in alloc; "{limit}")?),
+        Ok(_) => String::from_str(alloc, "a group"),
+        Err(limit) => format!(in alloc; "{limit}"),
     }
 }
 

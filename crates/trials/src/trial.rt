@@ -182,12 +182,21 @@ fn play_over<R: Wait + Sync>(
         others: 0,
         shows: false,
     };
-    match store {
-        "arena" => { group::play::<R, Arena<ScriptMutators>>(host, trial, chosen, (), &mut tally)? }
-        "append" => {
-            group::play::<R, Append<&R, ScriptMutators>>(host, trial, chosen, host.on, &mut tally)?
-        }
-        _ => plain::play(host, trial, chosen, &mut tally)?,
-    }
+    play_in_store(host, trial, chosen, &mut tally)?;
     Ok(tally.end(host.rt)?)
+}
+
+fn play_in_store<R: Wait + Sync>(
+    host: &Host<'_, R>,
+    trial: Trial<'_>,
+    chosen: Option<usize>,
+    tally: &mut Tally<'_>,
+) -> Result<(), Failed> {
+    match tally.store {
+        "arena" => group::play::<R, Arena<ScriptMutators>>(host, trial, chosen, (), tally),
+        "append" => {
+            group::play::<R, Append<&R, ScriptMutators>>(host, trial, chosen, host.on, tally)
+        }
+        _ => plain::play(host, trial, chosen, tally),
+    }
 }

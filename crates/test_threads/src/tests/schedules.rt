@@ -146,9 +146,14 @@ where
     turns.hears(hears.0, hears.1);
     let second = n_in(&tx, "n");
     tx.close();
+    other_of_two(first.map(Told::Value), second.map(Told::Value), n)
+}
+
+// The first of two answers that is not this number.
+fn other_of_two(first: Answer, second: Answer, n: i64) -> Result<Other, Refusal> {
     let want = Ok(Told::Value(Some(n)));
-    match other_than(first.map(Told::Value), want)? {
-        None => other_than(second.map(Told::Value), want),
+    match other_than(first, want)? {
+        None => other_than(second, want),
         other => Ok(other),
     }
 }
