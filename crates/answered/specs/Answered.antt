@@ -47,7 +47,7 @@ abbrev pub IsAnswered : Meanings → Known → Known → Option Change → (Stat
 IsAnswered means old new change right = (log : List Entry) × IsPoint means old new change log
     × right (after (record_of log))
 
--- a refusal for want of something: of memory, of a try more, of a slot, a stamp or a seat
+-- a refusal for want of something: of memory, of a try more, of a slot or of a stamp
 abbrev pub is_want : Refusal → Bool
 is_want refusal.NoMemory = true
 is_want refusal.Moved = true
@@ -55,7 +55,6 @@ is_want refusal.Busy = true
 is_want refusal.Gone = true
 is_want refusal.Full = true
 is_want refusal.Stamps = true
-is_want refusal.NoSeat = true
 is_want e = false
 
 -- such a refusal says nothing of the group's state, unless it stands for a change

@@ -4,7 +4,7 @@ ghost use mathlib.Core.List.{IsPrefix};
 ghost use Rattle.group_history.specs.Record.{after};
 ghost use Rattle.group_history.specs.State.{State};
 ghost use Rattle.head_word.specs.Books.{drawn, record_of, last_move, Follows};
-ghost use Rattle.head_word.specs.Marks.{others};
+ghost use Rattle.head_word.specs.Marks.{others, own};
 ghost use Rattle.answered.specs.Answered.{IsPoint, own_moves};
 ghost use Rattle.answered.specs.Trying.{IsBase, IsWon};
 
@@ -20,7 +20,8 @@ pub fn look<M: Means>(head: &Head<M>, mark: &mut Mark<M>) -> Ref
     ensures point { IsPoint M.means mark.old mark.new None mark.new.log }
     ensures base { IsBase M.means mark.new result (after (record_of mark.new.log)) }
     ensures last { result ≡ last_move mark.new.log }
-    ensures own { own_moves mark.new ≡ own_moves mark.old }
+    ensures own { own mark.new ≡ own mark.old }
+    ensures moves { own_moves mark.new ≡ own_moves mark.old }
     ensures others { others mark.old ≤ others mark.new }
 {
     let at = head.load(mark);

@@ -5,8 +5,8 @@ use Rattle.group_history.specs.declared.responses.Ended.TheVariants as ended
 use Rattle.group_history.specs.declared.changes.Change.{Change}
 use Rattle.group_history.specs.declared.changes.Change.TheVariants.{Mutated, Pulled, Closed}
 use Rattle.group_history.specs.declared.mutations.Reason.TheVariants.{Initial}
-use Rattle.group_history.specs.declared.changes.ChangeReply.{ChangeReply}
-use Rattle.group_history.specs.declared.changes.ChangeReply.TheVariants as reply
+use Rattle.group_history.specs.declared.changes.Reply.{Reply}
+use Rattle.group_history.specs.declared.changes.Reply.TheVariants as reply
 use Rattle.group_history.specs.Meaning.{Meanings}
 use Rattle.group_history.specs.Pull.{AreInRange}
 use Rattle.group_history.specs.State.{State, opening, last_id}
@@ -14,7 +14,7 @@ use Rattle.group_history.specs.Mutating.{mutate_reply, after_mutate}
 use Rattle.group_history.specs.Pulling.{end_reply, after_pull, after_closing}
 
 -- the reply that a change stands with: a mutation's id, that a pull is applied, and that the state isn't found
-abbrev pub reply_of : Change → ChangeReply
+abbrev pub reply_of : Change → Reply
 reply_of (Mutated x) = reply.Id x.id
 reply_of (Pulled ticket r) = reply.Ended ended.Applied
 reply_of Closed = reply.StateNotFound

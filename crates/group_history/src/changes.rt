@@ -19,7 +19,7 @@ pub enum Change {
 
 /// The reply to a change.
 #[derive(Clone, Copy, PartialEq, Eq)]
-pub enum ChangeReply {
+pub enum Reply {
     /// The new mutation's id.
     Id(u64),
 
@@ -35,13 +35,13 @@ impl Change {
     ghost use Rattle.group_history.specs.Record.{reply_of};
 
     /// The reply that goes with the change in a record.
-    pub fn reply(&self) -> ChangeReply
+    pub fn reply(&self) -> Reply
         ensures { result ≡ reply_of self.now }
     {
         match self {
-            Change::Mutated(mutation) => ChangeReply::Id(mutation.id),
-            Change::Pulled(_, _) => ChangeReply::Ended(Ended::Applied),
-            Change::Closed => ChangeReply::StateNotFound,
+            Change::Mutated(mutation) => Reply::Id(mutation.id),
+            Change::Pulled(_, _) => Reply::Ended(Ended::Applied),
+            Change::Closed => Reply::StateNotFound,
         }
     }
 }

@@ -26,7 +26,7 @@ mod steps;
 mod text_map;
 mod texts;
 
-pub use changes::{Change, ChangeReply};
+pub use changes::{Change, Reply};
 pub use confirmed::ConfirmedIds;
 pub use cookies::{Cookie, Order, cookie_cmp};
 pub use json::{Json, is_whole, nests_within, read_value};

@@ -28,8 +28,8 @@ use Rattle.group_history.proofs.Lists.{prefix_trans}
 use Rattle.group_history.proofs.Spellings.{length-spelled}
 use Rattle.map_chunks.specs.Drafts.{Drafted}
 use Rattle.map_chunks.specs.Places.{with_nodes}
-use Rattle.commits.proofs.Spelled.{option_map-some, joined_one-some, spelled_version, version-grown}
-use Rattle.commits.proofs.Snapshots.{begins}
+use Rattle.commit_graph.proofs.Spelled.{option_map-some, joined_one-some, spelled_version, version-grown}
+use Rattle.commit_graph.proofs.Snapshots.{begins}
 use Rattle.publishing.specs.Stamped.{stamped, restamped, drawn_as}
 use Rattle.publishing.specs.Placed.{IsPlaced}
 use Rattle.publishing.proofs.Numbers.{ref_stamped}

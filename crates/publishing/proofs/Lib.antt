@@ -4,3 +4,4 @@ mod Numbers
 pub mod Carrying
 mod Popping
 mod Leaving
+mod Stepping

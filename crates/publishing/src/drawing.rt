@@ -8,6 +8,7 @@ ghost use Rattle.head_word.specs.Books.{next_stamp, drafted, drafted_from};
 ghost use Rattle.head_word.specs.Marks.{others};
 ghost use Rattle.answered.specs.Answered.{own_moves};
 ghost use Rattle.map_chunks.specs.Drafts.{AreOrdered};
+ghost use Rattle.commit_graph.specs.Seats.{IsLater};
 
 use group_history::{Means, Node, Ref, Refusal};
 use head_word::{Head, Lost, Mark};
@@ -26,9 +27,7 @@ pub(crate) fn draw<M: Means>(
     requires some { 0 < length nodes.now }
     requires from { from ≤ next_stamp mark.old.log }
     requires order { AreOrdered from nodes.now }
-    ensures book { mark.new.book ≡ mark.old.book }
-    ensures number { mark.new.seat ≡ mark.old.seat }
-    ensures seen { IsPrefix mark.old.log mark.new.log }
+    ensures later { IsLater mark.old mark.new }
     ensures own { own_moves mark.new ≡ own_moves mark.old }
     ensures drawn { IfOk result (λ first. (log : List Entry) × IsPrefix mark.old.log log × (next_stamp log ≡ first)
         × (mark.new.log ≡ log ++ drafted mark.old.seat first (drafted_from from nodes.now) ∷ [])) }

@@ -1,71 +1,78 @@
 //! What becomes of a draft that was placed: the head is moved to it, or it is given up.
-ghost use Rattle.std.specs.Prelude.{◌≡◌, [], IsSome};
+ghost use Rattle.std.specs.Prelude.{◌≡◌, []};
 ghost use Rattle.std.specs.List.{All};
-ghost use mathlib.Core.List.{IsPrefix};
 ghost use Rattle.group_history.specs.Refs.{slot_of};
 ghost use Rattle.head_word.specs.Books.{drawn, Follows};
 ghost use Rattle.reader_claims.specs.Lists.{In};
 ghost use Rattle.reader_claims.specs.Machine.{Moves};
 ghost use Rattle.answered.specs.Trying.{Ends};
+ghost use Rattle.commit_graph.specs.Seats.{IsSeatOf, IsSameSeat};
 ghost use Rattle.publishing.specs.Retiring.{Retires, unneeded};
 
 use crate::retiring::retire_all;
 use answered::{Published, publish_at};
 use chunk_slots::Slots;
-use commits::Shared;
+use commit_graph::{Seat, Shared};
 use group_history::{Change, Means, Ref};
-use head_word::Mark;
 
-/// Moves the head from `base` to `new`, a commit to which the nodes lead that were placed at `refs`. Where
-/// that is won, the slots of `left` are retired, which the old head alone reaches; where it is lost, those
-/// of `refs`, which no head ever reached. Takes no memory.
+/// A draft that was placed at `refs`, and the move of the head from `base` to `new`, one of its commits, by a
+/// change.
+#[derive(Clone, Copy)]
+pub struct Move<'a> {
+    pub base: Ref,
+    pub new: Ref,
+    pub change: &'a Change,
+    pub refs: &'a [Ref],
+}
+
+/// Moves the head. Where that is won, the slots of `left` are retired, which the old head alone reaches; where
+/// it is lost, those of the draft, which no head ever reached. Takes no memory.
 pub fn publish_draft<M: Means, S: Slots<M>>(
     shared: &Shared<M, S>,
-    seat: &mut S::Seat,
-    mark: &mut Mark<M>,
-    base: Ref,
-    new: Ref,
-    change: &Change,
-    refs: &[Ref],
+    seat: &mut Seat<M, S>,
+    to: &Move<'_>,
     left: &[Ref],
 ) -> Published
-    requires book { mark.old.book ≡ shared.now.head }
-    requires number { IsSome mark.old.seat }
-    requires home { S.home seat.old ≡ S.serves shared.now.store }
-    requires none { S.reused → (S.view seat.old).taken ≡ [] }
-    requires settled { S.reused → All (λ at. In (S.view seat.old).settled (slot_of at)) refs.now }
-    requires follows { Follows M.means (drawn mark.old.log) base new change.now }
-    ensures book { mark.new.book ≡ mark.old.book }
-    ensures number { mark.new.seat ≡ mark.old.seat }
-    ensures seen { IsPrefix mark.old.log mark.new.log }
-    ensures ends { Ends M.means mark.old mark.new base change.now result }
-    ensures home { S.home seat.new ≡ S.serves shared.now.store }
-    ensures none { S.reused → (S.view seat.new).taken ≡ [] }
-    ensures moves { S.reused → Moves (S.view seat.old) (S.view seat.new) }
-    ensures retired { S.reused → Retires (S.serves shared.now.store).sizes.slots (S.view seat.old)
-        (unneeded result refs.now left.now) (S.view seat.new) }
+where
+    S::Seat: Drop,
+    requires home { IsSeatOf shared.now seat.old }
+    requires none { S.reused → seat.old.view.taken ≡ [] }
+    requires settled { S.reused → All (λ at. In seat.old.view.settled (slot_of at)) to.now.refs.now }
+    requires follows { Follows M.means (drawn seat.old.mark.log) to.now.base to.now.new to.now.change.now }
+    ensures seat { IsSameSeat seat.old seat.new }
+    ensures ends { Ends M.means seat.old.mark seat.new.mark to.now.base to.now.change.now result }
+    ensures none { S.reused → seat.new.view.taken ≡ [] }
+    ensures moves { S.reused → Moves seat.old.view seat.new.view }
+    ensures retired { S.reused → Retires shared.now.table.sizes.slots seat.old.view
+        (unneeded result to.now.refs.now left.now) seat.new.view }
 {
-    match publish_at(&shared.head, mark, base, new, change) {
+    match publish_at(&shared.head, &mut seat.mark, to.base, to.new, to.change) {
         Ok(()) => {
-            retire_all::<M, S>(&shared.store, seat, left);
+            retire_all::<M, S>(&shared.store, &mut seat.slots, left);
             return Published::Won;
         }
         Err(_moved) => {
-            retire_all::<M, S>(&shared.store, seat, refs);
+            retire_all::<M, S>(&shared.store, &mut seat.slots, to.refs);
             return Published::Lost;
         }
     }
 }
 
 /// Gives up a draft that was placed at `refs`, before any exchange: retires their slots. Takes no memory.
-pub fn abandon_draft<M: Means, S: Slots<M>>(shared: &Shared<M, S>, seat: &mut S::Seat, refs: &[Ref])
-    requires home { S.home seat.old ≡ S.serves shared.now.store }
-    requires none { S.reused → (S.view seat.old).taken ≡ [] }
-    ensures home { S.home seat.new ≡ S.serves shared.now.store }
-    ensures none { S.reused → (S.view seat.new).taken ≡ [] }
-    ensures moves { S.reused → Moves (S.view seat.old) (S.view seat.new) }
-    ensures retired { S.reused → Retires (S.serves shared.now.store).sizes.slots (S.view seat.old) refs.now
-        (S.view seat.new) }
+pub fn abandon_draft<M: Means, S: Slots<M>>(
+    shared: &Shared<M, S>,
+    seat: &mut Seat<M, S>,
+    refs: &[Ref],
+)
+where
+    S::Seat: Drop,
+    requires home { IsSeatOf shared.now seat.old }
+    requires none { S.reused → seat.old.view.taken ≡ [] }
+    ensures seat { IsSameSeat seat.old seat.new }
+    ensures mark { seat.new.mark ≡ seat.old.mark }
+    ensures none { S.reused → seat.new.view.taken ≡ [] }
+    ensures moves { S.reused → Moves seat.old.view seat.new.view }
+    ensures retired { S.reused → Retires shared.now.table.sizes.slots seat.old.view refs.now seat.new.view }
 {
-    retire_all::<M, S>(&shared.store, seat, refs);
+    retire_all::<M, S>(&shared.store, &mut seat.slots, refs);
 }

@@ -22,7 +22,7 @@ mod placing;
 mod retiring;
 mod taking;
 
-pub use exchange::{abandon_draft, publish_draft};
+pub use exchange::{Move, abandon_draft, publish_draft};
 pub use laws::placing_laws;
 pub use naming::place_of;
 pub use placing::place_draft;

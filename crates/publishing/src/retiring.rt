@@ -1,8 +1,8 @@
 //! Slots that are retired, since the head reaches them no more, or never did.
 ghost use Rattle.std.specs.Prelude.{◌≡◌, []};
 ghost use Rattle.chunk_slots.specs.Seats.{MayRetire};
-ghost use Rattle.reader_claims.specs.Machine.{Moves};
 ghost use Rattle.publishing.specs.Retiring.{LetsAllGo, Retires};
+ghost use Rattle.publishing.specs.Inside.Steps.{Steps};
 
 use chunk_slots::Slots;
 use group_history::{Means, Ref};
@@ -14,7 +14,7 @@ fn retire_at<M: Means, S: Slots<M>>(store: &S, seat: &mut S::Seat, refs: &[Ref],
     requires none { S.reused → (S.view seat.old).taken ≡ [] }
     ensures home { S.home seat.new ≡ S.serves store.now }
     ensures none { S.reused → (S.view seat.new).taken ≡ [] }
-    ensures moves { S.reused → Moves (S.view seat.old) (S.view seat.new) }
+    ensures steps { S.reused → Steps (S.view seat.old) (S.view seat.new) }
     ensures retired { S.reused → LetsAllGo (S.serves store.now).sizes.slots r (S.view seat.old) refs.now
         (S.view seat.new) }
 {
@@ -30,7 +30,7 @@ pub(crate) fn retire_all<M: Means, S: Slots<M>>(store: &S, seat: &mut S::Seat, r
     requires none { S.reused → (S.view seat.old).taken ≡ [] }
     ensures home { S.home seat.new ≡ S.serves store.now }
     ensures none { S.reused → (S.view seat.new).taken ≡ [] }
-    ensures moves { S.reused → Moves (S.view seat.old) (S.view seat.new) }
+    ensures steps { S.reused → Steps (S.view seat.old) (S.view seat.new) }
     ensures retired { S.reused → Retires (S.serves store.now).sizes.slots (S.view seat.old) refs.now (S.view seat.new) }
 {
     if refs.is_empty() {

@@ -4,12 +4,12 @@
 //! those that the seat knows as taken.
 ghost use Rattle.std.specs.Prelude.{◌≡◌, ◌⊎◌, ◌+◌, ◌<◌, ◌++◌, [], ◌∷◌, length, IfOk, IfErr, OnOk, OnErr};
 ghost use Rattle.group_history.specs.declared.refusals.Refusal.TheVariants as refusal;
-ghost use Rattle.reader_claims.specs.Machine.{Moves};
 ghost use Rattle.reader_claims.specs.Passes.{FindsNone};
 ghost use Rattle.reader_claims.specs.Seats.{kind_end};
 ghost use Rattle.publishing.specs.Placed.{FoundNone};
 ghost use Rattle.publishing.specs.Retiring.{SettlesNone};
 ghost use Rattle.publishing.specs.Inside.Stacks.{HasTaken};
+ghost use Rattle.publishing.specs.Inside.Steps.{Steps};
 
 use chunk_slots::{Slots, Store};
 use group_history::{Means, Refusal};
@@ -23,7 +23,7 @@ pub(crate) fn withdraw_all<M: Means, S: Slots<M>>(store: &S, seat: &mut S::Seat,
     ensures home { S.home seat.new ≡ S.serves store.now }
     ensures none { S.reused → (S.view seat.new).taken ≡ [] }
     ensures settled { S.reused → SettlesNone (S.view seat.old) (S.view seat.new) }
-    ensures moves { S.reused → Moves (S.view seat.old) (S.view seat.new) }
+    ensures steps { S.reused → Steps (S.view seat.old) (S.view seat.new) }
 {
     let mut slots = slots;
     while let Some(slot) = slots.pop() {
@@ -55,7 +55,7 @@ fn take_next<M: Means, S: Store<M>>(
     ensures taken { S.reused → HasTaken (S.view seat.new) slots.new.items }
     ensures more { OnOk result (length slots.new.items ≡ length slots.old.items + 1) }
     ensures settled { S.reused → SettlesNone (S.view seat.old) (S.view seat.new) }
-    ensures moves { S.reused → Moves (S.view seat.old) (S.view seat.new) }
+    ensures steps { S.reused → Steps (S.view seat.old) (S.view seat.new) }
     ensures full { S.reused → IfErr result
         (λ e. e ≡ refusal.Full → FindsNone (S.view seat.old) (S.view seat.new)
         (kind_end (S.serves store.now).sizes kind)) }
@@ -85,7 +85,7 @@ fn take_more<M: Means, S: Store<M>>(
     ensures taken { S.reused → HasTaken (S.view seat.new) slots.new.items }
     ensures more { OnOk result (length slots.new.items ≡ length slots.old.items + count) }
     ensures settled { S.reused → SettlesNone (S.view seat.old) (S.view seat.new) }
-    ensures moves { S.reused → Moves (S.view seat.old) (S.view seat.new) }
+    ensures steps { S.reused → Steps (S.view seat.old) (S.view seat.new) }
     ensures full { S.reused → IfErr result
         (λ e. e ≡ refusal.Full → FoundNone (S.view seat.old) (S.view seat.new)
         (kind_end (S.serves store.now).sizes kind)) }
@@ -113,7 +113,7 @@ pub(crate) fn take_all<M: Means, S: Store<M>>(
     ensures taken { S.reused → IfOk result (λ slots. HasTaken (S.view seat.new) slots.items) }
     ensures none { S.reused → OnErr result ((S.view seat.new).taken ≡ []) }
     ensures settled { S.reused → SettlesNone (S.view seat.old) (S.view seat.new) }
-    ensures moves { S.reused → Moves (S.view seat.old) (S.view seat.new) }
+    ensures steps { S.reused → Steps (S.view seat.old) (S.view seat.new) }
     ensures full { S.reused → IfErr result
         (λ e. e ≡ refusal.Full → FoundNone (S.view seat.old) (S.view seat.new)
         (kind_end (S.serves store.now).sizes kind)) }

@@ -19,7 +19,7 @@ use Rattle.head_word.specs.declared.entry.Entry.{Entry}
 use Rattle.head_word.specs.Books.{drawn, record_of}
 use Rattle.head_word.specs.Marks.{Known}
 use Rattle.head_word.proofs.BookLaws.{drawn_begins}
-use Rattle.commits.proofs.Spelled.{map-grown}
+use Rattle.commit_graph.proofs.Spelled.{map-grown}
 use Rattle.answered.specs.Answered.{Answers, IsPoint, IsRefused, nothing, own_moves}
 use Rattle.rebase.specs.Queries.{IsMissed, gave}
 use Rattle.rebase.proofs.CallLemmas.{missing}

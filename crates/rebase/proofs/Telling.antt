@@ -23,7 +23,7 @@ use Rattle.group_history.specs.Spelling.{Contents}
 use Rattle.group_history.specs.State.{State, last_id, view_of}
 use Rattle.head_word.specs.Books.{record_of}
 use Rattle.head_word.specs.Marks.{Known}
-use Rattle.commits.specs.LastIds.{last_at}
+use Rattle.commit_graph.specs.LastIds.{last_at}
 use Rattle.answered.specs.Answered.{Answers, IsPoint, IsRefused, is_want}
 use Rattle.answered.specs.Changes.{change_applied, change_made}
 use Rattle.rebase.specs.Queries.{told}

@@ -6,7 +6,6 @@ use mathlib.Core.List.{IsPrefix}
 use Rattle.group_history.specs.declared.changes.Change.{Change}
 use Rattle.group_history.specs.declared.mutations.Mutation.{Mutation}
 use Rattle.group_history.specs.declared.refusals.Refusal.{Refusal}
-use Rattle.group_history.specs.declared.refusals.Refusal.TheVariants.{NoMemory}
 use Rattle.group_history.specs.declared.responses.Ended.{Ended}
 use Rattle.group_history.specs.declared.responses.Ended.TheVariants as ended_as
 use Rattle.group_history.specs.Map.{Bytes}
@@ -21,7 +20,10 @@ use Rattle.push_body.specs.declared.identities.Identity.{Identity}
 use Rattle.answered.specs.Answered.{Answers, is_move, is_want, own_moves}
 use Rattle.answered.specs.Changes.{change_made, change_read, after_made}
 use Rattle.rebase.specs.Asking.{end_bytes_reply}
-use Rattle.rebase.specs.Queries.{IsMissed, asked_at, told}
+use Rattle.commit_graph.specs.Seats.{IsLater}
+use Rattle.group_steps.specs.Missing.{IsMissedOrDry, told}
+use Rattle.rebase.specs.Clients.{ClientState}
+use Rattle.rebase.specs.Queries.{asked_at}
 use Rattle.rebase.specs.Replies.{Replied, value, yes_or_no, rows, pending, cookie, id, body, ticket, ended}
 use Rattle.rebase.specs.declared.calls.Call.{Call}
 use Rattle.rebase.specs.declared.calls.Call.TheVariants as call
@@ -35,6 +37,10 @@ pub record Caller : Type 0 where
 
 abbrev pub caller : Identity → Bytes → ℕ → Caller
 caller identity client last = record { identity = identity; client = client; last = last }
+
+-- as a client of the code is one
+abbrev pub caller_of : ClientState → Caller
+caller_of client = caller client.group.identity client.id client.last
 
 -- the mutation that is asked for: the client's next one
 abbrev pub asked_mutation : Caller → Mutate → Mutation
@@ -96,16 +102,10 @@ last_after last other = last
 abbrev pub caller_after : Caller → Result Replied Refusal → Caller
 caller_after c reply = caller c.identity c.client (last_after c.last reply)
 
--- What a caller knows later: of the same book, by the same seat, and no less.
-pub record IsLater (old new : Known) : Type 0 where
-  pub book : new.book ≡ old.book
-  pub seat : new.seat ≡ old.seat
-  pub seen : IsPrefix old.log new.log
-
 -- What changes nothing in the group is refused for want of memory, or where a slot or a pin is lost to others, and for
 -- nothing else.
 abbrev pub MayRefuse : Type 0 → Call → Result Replied Refusal → Type 0
-MayRefuse reused x r = is_reading x ≡ true → IfErr r (λ e. (e ≡ NoMemory) ⊎ IsMissed reused e)
+MayRefuse reused x r = is_reading x ≡ true → IfErr r (IsMissedOrDry reused)
 
 -- Each call of the list is answered rightly at a point of its own, whatever others do meanwhile. It begins with what
 -- the client had seen at the end of the call before, so its point is not before that of the other one.

@@ -1,7 +1,3 @@
 -- Words that only private clauses of this crate use.
-pub mod Arriving
-pub mod Rooting
-pub mod Proposing
-pub mod Changing
-pub mod Leaving
+pub mod Keeping
 pub mod Watching

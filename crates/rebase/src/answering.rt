@@ -4,28 +4,26 @@
 //! moves the head meanwhile, the replies are those of a group of one thread (`AreReplies`): each is the right
 //! one at the state that the calls before it left.
 ghost use Rattle.std.specs.Prelude.{◌≡◌, ◌⊎◌, ◌≤◌, true, [], Ok, length, map, vec_capacity, IfOk, IfErr, OnErr};
-ghost use mathlib.Core.List.{IsPrefix};
 ghost use Rattle.group_history.specs.declared.mutators.Stop.TheVariants.{NoMemory as Dry};
-ghost use Rattle.group_history.specs.declared.refusals.Refusal.TheVariants.{NoMemory};
 ghost use Rattle.group_history.specs.Meaning.{Meanings};
 ghost use Rattle.group_history.specs.Record.{after};
 ghost use Rattle.group_history.specs.Spelling.{version_of};
 ghost use Rattle.group_history.specs.State.{State};
 ghost use Rattle.head_word.specs.Books.{record_of};
-ghost use Rattle.chunk_slots.specs.Seats.{IsIdle};
 ghost use Rattle.answered.specs.Answered.{Answers, nothing};
-ghost use Rattle.rebase.specs.Calls.{Caller, IsAlone, AreAnswered, AreReplies, caller, change_of, is_query, last_after};
-ghost use Rattle.rebase.specs.Calls.{is_reading, reply_to};
-ghost use Rattle.rebase.specs.Queries.{IsMissed, told};
+ghost use Rattle.group_steps.specs.Missing.{IsMissedOrDry, told};
+ghost use Rattle.rebase.specs.Calls.{Caller, IsAlone, AreAnswered, AreReplies, caller_of, change_of, is_query};
+ghost use Rattle.rebase.specs.Calls.{is_reading, last_after, reply_to};
+ghost use Rattle.rebase.specs.Clients.{Acts, Rests, Stays};
+ghost use Rattle.rebase.specs.Readers.{read_by};
 ghost use Rattle.rebase.specs.Replies.{reply_seen};
 
 use crate::calls::{Call, Reply};
 use crate::client::Client;
-use crate::group::Group;
-use crate::reading::Point;
+use crate::reading::ReadTx;
 use chunk_slots::{Slots, Store};
-use commits::Nodes;
-use group_history::{Mutators, Refusal, Stop};
+use commit_graph::Nodes;
+use group_history::{Means, Mutators, Refusal, Stop};
 use std::alloc::{AllocError, Global};
 use transactions::ReadTx as CommitTx;
 
@@ -48,56 +46,44 @@ fn read_call<N: Nodes>(tx: &mut CommitTx<N>, call: Call<'_>) -> Result<Reply, St
     }
 }
 
-// Asks what is read at a point.
-fn ask<M: Mutators, S: Slots<M>>(
-    group: &Group<M, S>,
-    at: &Point<M>,
-    call: Call<'_>,
-    tries: u32,
-) -> Result<Reply, Refusal>
+// Asks a reader.
+fn ask<M: Means, S: Slots<M>>(tx: &ReadTx<'_, M, S>, call: Call<'_>) -> Result<Reply, Refusal>
+where
+    S::Seat: Drop,
     requires query { is_query call ≡ true }
-    requires book { at.now.book ≡ group.now.shared.head }
     ensures value { (c : Caller) → IfOk result
-        (λ reply. reply_to M.means c (after (record_of at.now.log)) call.entry ≡ Ok (reply_seen reply)) }
-    ensures err { IfErr result (λ e. (e ≡ NoMemory) ⊎ IsMissed S.reused e) }
+        (λ reply. reply_to M.means c (read_by tx.now) call.entry ≡ Ok (reply_seen reply)) }
+    ensures err { IfErr result (IsMissedOrDry S.reused) }
 {
-    let mut tx = at.open(group.alloc, &group.shared, tries);
+    let mut tx = tx.commit();
     Ok(read_call(&mut tx, call)?)
 }
 
-impl<'g, M: Mutators, S: Store<M>> Client<'g, M, S>
+impl<M: Mutators, S: Store<M>> Client<M, S>
 where
     S::Seat: Drop,
 {
     // Makes a call that one reading answers.
     fn query(&mut self, call: Call<'_>, tries: u32) -> Result<Reply, Refusal>
         requires { is_query call ≡ true }
-        ensures answer { Answers M.means tries self.old.mark self.new.mark (told reply_seen result) nothing
-            (λ s. reply_to M.means (caller self.old.group.now.identity self.old.id self.old.last) s call.entry) }
-        ensures err { IfErr result (λ e. (e ≡ NoMemory) ⊎ IsMissed S.reused e) }
-        ensures seen { IsPrefix self.old.mark.log self.new.mark.log }
-        ensures idle { S.reused → IsIdle (S.view self.new.slots) }
-        ensures seat { (self.new.mark.book ≡ self.old.mark.book) × (self.new.mark.seat ≡ self.old.mark.seat) }
-        ensures same { (self.new.group.now ≡ self.old.group.now) × (self.new.id ≡ self.old.id)
-            × (self.new.last ≡ self.old.last) }
+        ensures answer { Answers M.means tries self.old.seat.mark self.new.seat.mark (told reply_seen result) nothing
+            (λ s. reply_to M.means (caller_of self.old) s call.entry) }
+        ensures err { IfErr result (IsMissedOrDry S.reused) }
+        ensures stays { Stays S.reused self.old self.new }
     {
-        let at = self.point(tries)?;
-        let reply = ask(self.group, &at, call, tries);
-        self.finish();
+        let tx = self.read(tries)?;
+        let reply = ask(&tx, call);
+        tx.close();
         reply
     }
 
     /// Makes one call.
     pub fn make_call(&mut self, call: Call<'_>, tries: u32) -> Result<Reply, Refusal>
-        ensures answer { let c = caller self.old.group.now.identity self.old.id self.old.last in
-            Answers M.means tries self.old.mark self.new.mark (told reply_seen result) (change_of c call.entry)
-            (λ s. reply_to M.means c s call.entry) }
-        ensures err { is_reading call.entry ≡ true → IfErr result (λ e. (e ≡ NoMemory) ⊎ IsMissed S.reused e) }
+        ensures answer { Answers M.means tries self.old.seat.mark self.new.seat.mark (told reply_seen result)
+            (change_of (caller_of self.old) call.entry) (λ s. reply_to M.means (caller_of self.old) s call.entry) }
+        ensures err { is_reading call.entry ≡ true → IfErr result (IsMissedOrDry S.reused) }
         ensures last { self.new.last ≡ last_after self.old.last (told reply_seen result) }
-        ensures seen { IsPrefix self.old.mark.log self.new.mark.log }
-        ensures idle { S.reused → IsIdle (S.view self.old.slots) → IsIdle (S.view self.new.slots) }
-        ensures seat { (self.new.mark.book ≡ self.old.mark.book) × (self.new.mark.seat ≡ self.old.mark.seat) }
-        ensures same { (self.new.group.now ≡ self.old.group.now) × (self.new.id ≡ self.old.id) }
+        ensures acts { Acts S.reused self.old self.new }
     {
         match call {
             Call::Refresh => self.refresh(tries).map(Reply::Id),
@@ -120,12 +106,10 @@ where
     )
         requires none { replies.old.items ≡ [] }
         requires room { length calls.now ≤ vec_capacity replies.old }
-        ensures answers { let c = caller self.old.group.now.identity self.old.id self.old.last in
-            AreAnswered M.means S.reused tries c self.old.mark calls.now (map (told reply_seen) replies.new.items)
-            self.new.mark (caller c.identity c.client self.new.last) }
-        ensures idle { S.reused → IsIdle (S.view self.old.slots) → IsIdle (S.view self.new.slots) }
-        ensures seat { (self.new.mark.book ≡ self.old.mark.book) × (self.new.mark.seat ≡ self.old.mark.seat) }
-        ensures same { (self.new.group.now ≡ self.old.group.now) × (self.new.id ≡ self.old.id) }
+        requires rests { Rests S.reused self.old }
+        ensures answers { AreAnswered M.means S.reused tries (caller_of self.old) self.old.seat.mark calls.now
+            (map (told reply_seen) replies.new.items) self.new.seat.mark (caller_of self.new) }
+        ensures acts { Acts S.reused self.old self.new }
     {
         for call in calls {
             let reply = self.make_call(*call, tries);
@@ -141,18 +125,16 @@ where
         calls: &[Call<'_>],
         tries: u32,
     ) -> Result<Vec<Result<Reply, Refusal>>, AllocError>
-        ensures answers { let c = caller self.old.group.now.identity self.old.id self.old.last in
-            IfOk result (λ replies. AreAnswered M.means S.reused tries c self.old.mark calls.now
-            (map (told reply_seen) replies.items) self.new.mark (caller c.identity c.client self.new.last)) }
-        ensures replies { let c = caller self.old.group.now.identity self.old.id self.old.last in
-            IfOk result (λ replies. IsAlone self.old.mark self.new.mark
-            → AreReplies M.means c (after (record_of self.old.mark.log)) calls.now (map (told reply_seen) replies.items)
-            (after (record_of self.new.mark.log)) (caller c.identity c.client self.new.last)) }
-        ensures err { OnErr result ((self.new.mark ≡ self.old.mark) × (self.new.last ≡ self.old.last)) }
-        ensures idle { S.reused → IsIdle (S.view self.old.slots) → IsIdle (S.view self.new.slots) }
-        ensures seat { (self.new.mark.book ≡ self.old.mark.book) × (self.new.mark.seat ≡ self.old.mark.seat) }
-        ensures same { (self.new.group.now ≡ self.old.group.now) × (self.new.id ≡ self.old.id) }
+        ensures answers { IfOk result (λ replies. AreAnswered M.means S.reused tries (caller_of self.old)
+            self.old.seat.mark calls.now (map (told reply_seen) replies.items) self.new.seat.mark
+            (caller_of self.new)) }
+        ensures replies { IfOk result (λ replies. IsAlone self.old.seat.mark self.new.seat.mark
+            → AreReplies M.means (caller_of self.old) (after (record_of self.old.seat.mark.log)) calls.now
+            (map (told reply_seen) replies.items) (after (record_of self.new.seat.mark.log)) (caller_of self.new)) }
+        ensures err { OnErr result (Stays S.reused self.old self.new × (self.new.seat.mark ≡ self.old.seat.mark)) }
+        ensures acts { Acts S.reused self.old self.new }
     {
+        self.finish();
         let mut replies = Vec::with_capacity(alloc, calls.len())?;
         self.call_each(calls, tries, &mut replies);
         Ok(replies)

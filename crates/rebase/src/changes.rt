@@ -4,33 +4,31 @@
 //! return after as many tries as they are given; the others go on while others are in the way.
 ghost use Rattle.std.specs.Prelude.{◌≡◌, ◌+◌, ◌<◌, ◌^◌, false, Ok, Some, IfOk, IfErr, IfSome, IsSome};
 ghost use Rattle.group_history.specs.declared.responses.Response.TheVariants as response;
-ghost use mathlib.Core.List.{IsPrefix};
 ghost use Rattle.group_history.specs.Map.{Bytes};
 ghost use Rattle.group_history.specs.Mutating.{mutate_reply};
 ghost use Rattle.group_history.specs.Pulling.{end_reply};
 ghost use Rattle.group_history.specs.Refs.{stamp_of};
 ghost use Rattle.group_history.specs.State.{made};
 ghost use Rattle.head_word.specs.Books.{drawn};
-ghost use Rattle.chunk_slots.specs.Seats.{IsIdle};
-ghost use Rattle.commits.specs.LastIds.{last_at};
+ghost use Rattle.commit_graph.specs.LastIds.{last_at};
 ghost use Rattle.pull_patch.specs.Grammar.{answer_to};
 ghost use Rattle.answered.specs.Answered.{Answers, nothing};
 ghost use Rattle.answered.specs.Changes.{change_applied, change_closing, change_made, change_read};
+ghost use Rattle.group_steps.specs.Missing.{told};
+ghost use Rattle.group_steps.specs.Changing.{ended_as, is_made};
+ghost use Rattle.group_steps.specs.Proposing.{AsksNext, HasLast, asked_reply, change_asked};
 ghost use Rattle.rebase.specs.Asking.{end_bytes_reply, is_passing};
-ghost use Rattle.rebase.specs.Queries.{told};
-ghost use Rattle.rebase.specs.Inside.Changing.{ended_as, is_made};
-ghost use Rattle.rebase.specs.Inside.Proposing.{AsksNext, HasLast, asked_reply, change_asked};
+ghost use Rattle.rebase.specs.Clients.{Acts, IsSameClient};
 
-use crate::changing::make_change;
 use crate::client::Client;
 use crate::tickets::Ticket;
-use crate::views::closed_at;
 use chunk_slots::Store;
-use commits::LastId;
+use commit_graph::LastId;
 use group_history::{
     Change, Cookie, Ended, Json, Mutation, Mutators, PullOk, Ref, Refusal, Response, Text,
     VersionKind,
 };
+use group_steps::{Request, closed_at, make_change};
 use pull_patch::read_response;
 use std::sync::Wait;
 
@@ -54,34 +52,27 @@ fn ended_as(made: Result<Option<Ref>, Refusal>) -> Result<Ended, Refusal>
     }
 }
 
-impl<'g, M: Mutators, S: Store<M>> Client<'g, M, S>
+impl<M: Mutators, S: Store<M>> Client<M, S>
 where
     S::Seat: Drop,
 {
     // Makes a change, and answers the commit where it stands: none where there is nothing to change.
     fn change(&mut self, change: Change, tries: u32) -> Result<Option<Ref>, Refusal>
         requires next { AsksNext self.old.id self.old.last change }
-        ensures answer { Answers M.means tries self.old.mark self.new.mark (told is_made result) (change_asked change)
+        ensures answer { Answers M.means tries self.old.seat.mark self.new.seat.mark (told is_made result) (change_asked change)
             (λ s. asked_reply M.means s self.old.last change) }
-        ensures found { IfOk result (λ made. IfSome made (λ at. HasLast (drawn self.new.mark.log) at change)) }
-        ensures idle { S.reused → IsIdle (S.view self.new.slots) }
-        ensures seen { IsPrefix self.old.mark.log self.new.mark.log }
-        ensures seat { (self.new.mark.book ≡ self.old.mark.book) × (self.new.mark.seat ≡ self.old.mark.seat) }
-        ensures same { (self.new.group.now ≡ self.old.group.now) × (self.new.id ≡ self.old.id)
-            × (self.new.last ≡ self.old.last) }
+        ensures found { IfOk result (λ made. IfSome made (λ at. HasLast (drawn self.new.seat.mark.log) at change)) }
+        ensures acts { Acts S.reused self.old self.new × (self.new.last ≡ self.old.last) }
     {
         let before = LastId {
             at: self.found,
             id: self.last,
         };
-        let made = make_change::<M, S>(
-            self.group,
-            &mut self.slots,
-            &mut self.mark,
-            &change,
+        let request = Request {
+            change: &change,
             before,
-            tries,
-        );
+        };
+        let made = make_change::<M, S>(&self.group, &mut self.seat, request, tries);
         drop(change);
         made
     }
@@ -90,14 +81,13 @@ where
     fn keep_next(&mut self, made: Result<Option<Ref>, Refusal>) -> Result<u64, Refusal>
         requires made { IfOk made IsSome }
         requires found { IfOk made (λ made. IfSome made
-            (λ at. (last_at (drawn self.old.mark.log) (stamp_of at) self.old.id ≡ Some (self.old.last + 1))
+            (λ at. (last_at (drawn self.old.seat.mark.log) (stamp_of at) self.old.id ≡ Some (self.old.last + 1))
             × (self.old.last + 1 < 2 ^ 53))) }
         ensures id { result ≡ told (λ at. self.old.last + 1) made }
         ensures last { IfOk result (λ id. self.new.last ≡ id) }
         ensures left { IfErr result (λ _. self.new.last ≡ self.old.last) }
-        ensures mark { self.new.mark ≡ self.old.mark }
-        ensures slots { S.view self.new.slots ≡ S.view self.old.slots }
-        ensures same { (self.new.group.now ≡ self.old.group.now) × (self.new.id ≡ self.old.id) }
+        ensures seat { self.new.seat ≡ self.old.seat }
+        ensures same { IsSameClient self.old self.new }
     {
         let Some(at) = made? else { unreachable!() };
         self.found = at;
@@ -115,44 +105,43 @@ where
         time: u64,
         tries: u32,
     ) -> Result<u64, Refusal>
-        ensures answer { Answers M.means tries self.old.mark self.new.mark result
+        ensures answer { Answers M.means tries self.old.seat.mark self.new.seat.mark result
             (change_made (made self.old.id (self.old.last + 1) name.now args.now time))
             (λ s. mutate_reply M.means s self.old.last (made self.old.id (self.old.last + 1) name.now args.now time)) }
         ensures last { IfOk result (λ id. (id ≡ self.old.last + 1) × (self.new.last ≡ id)) }
         ensures left { IfErr result (λ _. self.new.last ≡ self.old.last) }
-        ensures idle { S.reused → IsIdle (S.view self.old.slots) → IsIdle (S.view self.new.slots) }
-        ensures seen { IsPrefix self.old.mark.log self.new.mark.log }
-        ensures seat { (self.new.mark.book ≡ self.old.mark.book) × (self.new.mark.seat ≡ self.old.mark.seat) }
-        ensures same { (self.new.group.now ≡ self.old.group.now) × (self.new.id ≡ self.old.id) }
+        ensures acts { Acts S.reused self.old self.new }
     {
-        let mutation = Mutation::new(&self.id, self.last + 1, name, args, time)?;
+        let mutation = match Mutation::new(&self.id, self.last + 1, name, args, time) {
+            Ok(mutation) => mutation,
+            Err(e) => {
+                return self.refuse(Refusal::from(e));
+            }
+        };
         let made = self.change(Change::Mutated(mutation), tries);
         self.keep_next(made)
     }
 
     // Ends a pull that brought no error.
     fn end_applied(&mut self, ticket: &Cookie, pull: PullOk, tries: u32) -> Result<Ended, Refusal>
-        ensures answer { Answers M.means tries self.old.mark self.new.mark result (change_applied ticket.now pull)
+        ensures answer { Answers M.means tries self.old.seat.mark self.new.seat.mark result (change_applied ticket.now pull)
             (λ s. end_reply s ticket.now.text (response.Ok pull)) }
-        ensures idle { S.reused → IsIdle (S.view self.old.slots) → IsIdle (S.view self.new.slots) }
-        ensures seen { IsPrefix self.old.mark.log self.new.mark.log }
-        ensures seat { (self.new.mark.book ≡ self.old.mark.book) × (self.new.mark.seat ≡ self.old.mark.seat) }
-        ensures same { (self.new.group.now ≡ self.old.group.now) × (self.new.id ≡ self.old.id)
-            × (self.new.last ≡ self.old.last) }
+        ensures acts { Acts S.reused self.old self.new × (self.new.last ≡ self.old.last) }
     {
-        let cookie = ticket.clone()?;
-        ended_as(self.change(Change::Pulled(cookie, pull), tries))
+        match ticket.clone() {
+            Ok(cookie) => ended_as(self.change(Change::Pulled(cookie, pull), tries)),
+            Err(e) => {
+                drop(pull);
+                self.refuse(Refusal::from(e))
+            }
+        }
     }
 
     // Ends a pull whose server does not know the group: closes it.
     fn end_unknown(&mut self, tries: u32) -> Result<Ended, Refusal>
-        ensures answer { (ticket : Bytes) → Answers M.means tries self.old.mark self.new.mark result change_closing
+        ensures answer { (ticket : Bytes) → Answers M.means tries self.old.seat.mark self.new.seat.mark result change_closing
             (λ s. end_reply s ticket response.StateNotFound) }
-        ensures idle { S.reused → IsIdle (S.view self.new.slots) }
-        ensures seen { IsPrefix self.old.mark.log self.new.mark.log }
-        ensures seat { (self.new.mark.book ≡ self.old.mark.book) × (self.new.mark.seat ≡ self.old.mark.seat) }
-        ensures same { (self.new.group.now ≡ self.old.group.now) × (self.new.id ≡ self.old.id)
-            × (self.new.last ≡ self.old.last) }
+        ensures acts { Acts S.reused self.old self.new × (self.new.last ≡ self.old.last) }
     {
         match self.change(Change::Closed, tries) {
             Ok(_) => Err(Refusal::StateNotFound),
@@ -162,16 +151,12 @@ where
 
     // Ends a pull whose server does not support a version.
     fn end_unsupported(&mut self, kind: VersionKind, tries: u32) -> Result<Ended, Refusal>
-        ensures answer { (ticket : Bytes) → Answers M.means tries self.old.mark self.new.mark result nothing
+        ensures answer { (ticket : Bytes) → Answers M.means tries self.old.seat.mark self.new.seat.mark result nothing
             (λ s. end_reply s ticket (response.VersionNotSupported kind)) }
-        ensures idle { S.reused → IsIdle (S.view self.new.slots) }
-        ensures seen { IsPrefix self.old.mark.log self.new.mark.log }
-        ensures seat { (self.new.mark.book ≡ self.old.mark.book) × (self.new.mark.seat ≡ self.old.mark.seat) }
-        ensures same { (self.new.group.now ≡ self.old.group.now) × (self.new.id ≡ self.old.id)
-            × (self.new.last ≡ self.old.last) }
+        ensures acts { Acts S.reused self.old self.new × (self.new.last ≡ self.old.last) }
     {
         let at = self.begin(tries)?;
-        let closed = closed_at(&self.group.shared, &self.mark, at, tries);
+        let closed = closed_at(&self.here(at, tries));
         self.finish();
         if closed? {
             return Err(Refusal::Closed);
@@ -190,20 +175,16 @@ where
         body: &[u8],
         tries: u32,
     ) -> Result<Ended, Refusal>
-        ensures answer { Answers M.means tries self.old.mark self.new.mark result
+        ensures answer { Answers M.means tries self.old.seat.mark self.new.seat.mark result
             (change_read ticket.now.cookie (answer_to body.now))
             (λ s. end_bytes_reply s ticket.now.cookie.text body.now) }
-        ensures idle { S.reused → IsIdle (S.view self.old.slots) → IsIdle (S.view self.new.slots) }
-        ensures seen { IsPrefix self.old.mark.log self.new.mark.log }
-        ensures seat { (self.new.mark.book ≡ self.old.mark.book) × (self.new.mark.seat ≡ self.old.mark.seat) }
-        ensures same { (self.new.group.now ≡ self.old.group.now) × (self.new.id ≡ self.old.id)
-            × (self.new.last ≡ self.old.last) }
+        ensures acts { Acts S.reused self.old self.new × (self.new.last ≡ self.old.last) }
     {
-        self.mark.legal();
-        let response = match read_response(self.group.alloc, body) {
+        self.seat.mark.legal();
+        let response = match read_response(self.group.shared.alloc, body) {
             Ok(response) => response,
             Err(e) => {
-                return Err(e);
+                return self.refuse(e);
             }
         };
         match response {
@@ -228,16 +209,13 @@ where
         args: &Json,
         time: u64,
     ) -> Result<u64, Refusal>
-        ensures answer { Answers M.means 0 self.old.mark self.new.mark result
+        ensures answer { Answers M.means 0 self.old.seat.mark self.new.seat.mark result
             (change_made (made self.old.id (self.old.last + 1) name.now args.now time))
             (λ s. mutate_reply M.means s self.old.last (made self.old.id (self.old.last + 1) name.now args.now time)) }
         ensures lasting { is_passing result ≡ false }
         ensures last { IfOk result (λ id. (id ≡ self.old.last + 1) × (self.new.last ≡ id)) }
         ensures left { IfErr result (λ _. self.new.last ≡ self.old.last) }
-        ensures idle { S.reused → IsIdle (S.view self.old.slots) → IsIdle (S.view self.new.slots) }
-        ensures seen { IsPrefix self.old.mark.log self.new.mark.log }
-        ensures seat { (self.new.mark.book ≡ self.old.mark.book) × (self.new.mark.seat ≡ self.old.mark.seat) }
-        ensures same { (self.new.group.now ≡ self.old.group.now) × (self.new.id ≡ self.old.id) }
+        ensures acts { Acts S.reused self.old self.new }
     {
         for turn in rt.forever() {
             let _ = turn;
@@ -257,15 +235,11 @@ where
         ticket: &Ticket,
         body: &[u8],
     ) -> Result<Ended, Refusal>
-        ensures answer { Answers M.means 0 self.old.mark self.new.mark result
+        ensures answer { Answers M.means 0 self.old.seat.mark self.new.seat.mark result
             (change_read ticket.now.cookie (answer_to body.now))
             (λ s. end_bytes_reply s ticket.now.cookie.text body.now) }
         ensures lasting { is_passing result ≡ false }
-        ensures idle { S.reused → IsIdle (S.view self.old.slots) → IsIdle (S.view self.new.slots) }
-        ensures seen { IsPrefix self.old.mark.log self.new.mark.log }
-        ensures seat { (self.new.mark.book ≡ self.old.mark.book) × (self.new.mark.seat ≡ self.old.mark.seat) }
-        ensures same { (self.new.group.now ≡ self.old.group.now) × (self.new.id ≡ self.old.id)
-            × (self.new.last ≡ self.old.last) }
+        ensures acts { Acts S.reused self.old self.new × (self.new.last ≡ self.old.last) }
     {
         for turn in rt.forever() {
             let _ = turn;

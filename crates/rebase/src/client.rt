@@ -2,120 +2,148 @@
 //!
 //! Its queries have their point where they look at the head: each pins the seat first, and takes the pin
 //! away before it returns.
-ghost use Rattle.std.specs.Prelude.{◌≡◌, ◌⊎◌, ◌+◌, ◌<◌, ◌^◌, [], Ok, Some, None, IsSome, IfOk, IfErr, OnOk};
+ghost use Rattle.std.specs.Prelude.{◌≡◌, ◌<◌, ◌^◌, true, Ok, Err, Some, None, IfOk, IfErr};
+ghost use Rattle.std.specs.Arc.{arc_value};
 ghost use mathlib.Core.List.{IsPrefix};
 ghost use Rattle.group_history.specs.declared.refusals.Refusal.TheVariants.{NoMemory, Busy};
-ghost use Rattle.group_history.specs.Queries.{rows_at};
 ghost use Rattle.group_history.specs.Record.{after};
 ghost use Rattle.group_history.specs.Refs.{stamp_of};
-ghost use Rattle.group_history.specs.Rows.{Rows};
 ghost use Rattle.group_history.specs.Spelling.{map_at};
 ghost use Rattle.group_history.specs.State.{last_id, view_of};
 ghost use Rattle.head_word.specs.Books.{drawn, record_of};
 ghost use Rattle.head_word.specs.Marks.{known};
-ghost use Rattle.reader_claims.specs.declared.words.Pin.TheVariants.{Absent};
-ghost use Rattle.map_chunks.specs.Sinks.{HasMore};
 ghost use Rattle.chunk_slots.specs.Seats.{IsIdle};
+ghost use Rattle.commit_graph.specs.LastIds.{last_at};
+ghost use Rattle.commit_graph.specs.Seats.{HasLooked, IsSeatOf, is_held};
 ghost use Rattle.push_body.specs.Bodies.{pull_text, push_text};
-ghost use Rattle.answered.specs.Answered.{Answers, IsAnswered, IsLeft, IsPoint, own_moves, nothing};
+ghost use Rattle.answered.specs.Answered.{Answers, IsAnswered, IsLeft, IsPoint, nothing};
 ghost use Rattle.answered.specs.Trying.{IsBase};
-ghost use Rattle.rebase.specs.declared.views.Rooted.{Rooted as Root};
-ghost use Rattle.rebase.specs.Inside.Rooting.{IsRooted, maps};
-ghost use Rattle.rebase.specs.Queries.{IsHeld, IsMissed, asked, asked_at, gave, told};
-ghost use Rattle.commits.specs.LastIds.{last_at};
+ghost use Rattle.group_steps.specs.Missing.{IsMissed, IsMissedOrDry, told};
+ghost use Rattle.group_steps.specs.Places.{place};
+ghost use Rattle.rebase.specs.Clients.{IsSameClient, Looks, Reads, Rests, Stays};
+ghost use Rattle.rebase.specs.Queries.{asked, asked_at};
 ghost use Rattle.uuid.specs.Text.{hyphenated_text, lower};
 
 use crate::group::Group;
-use crate::pushing::body_at;
-use crate::reading::{Point, ReadTx};
+use crate::reading::Point;
 use crate::seats::Seat;
-use crate::steps::{begin, find_last};
 use crate::tickets::Ticket;
-use crate::views::{Rooted, cookie_at, root_at};
 use chunk_slots::Slots;
-use commits::LastId;
-use group_history::{Cookie, Means, Ref, Refusal, Scan, Text};
+use commit_graph::{LastId, Seat as ClientSeat};
+use group_history::{Cookie, Means, Ref, Refusal, Text};
+use group_steps::{
+    At, Rooted, SharedGroup, body_at, cookie_at, find_last, pin_and_load, root_at, unpin,
+};
 use head_word::Mark;
 use push_body::{Identity, pull_bytes};
 use std::alloc::{AllocError, Global};
-use transactions::TakesRows;
+use std::marker::Model;
+use std::sync::Arc;
 use uuid::Uuid;
 
-/// A client: its seat at the group, its ID, and its own last id.
+/// A client: a handle on its group, its seat there, its ID, and its own last id.
 #[derive(Drop)]
-pub struct Client<'g, M: Means, S: Slots<M>>
+pub struct Client<M: Means, S: Slots<M>>
 where
     S::Seat: Drop,
 {
-    pub(crate) group: &'g Group<M, S>,
-    pub(crate) slots: S::Seat,
-    pub(crate) mark: Mark<M>,
+    pub(crate) group: Arc<SharedGroup<M, S>>,
+    pub(crate) seat: ClientSeat<M, S>,
     pub(crate) id: Text,
     pub(crate) last: u64,
     // Where the last id was found.
     pub(crate) found: Ref,
     // What was read last.
     pub(crate) latest: Option<Rooted>,
-    ghost book: { mark.book ≡ group.now.shared.head },
-    ghost number: { IsSome mark.seat },
-    ghost home: { S.home slots ≡ S.serves group.now.shared.store },
-    ghost none: { S.reused → (S.view slots).taken ≡ [] },
-    ghost at: { last_at (drawn mark.log) (stamp_of found) id ≡ Some last },
-    ghost low: { last < 2 ^ 53 },
-    ghost rooted: { (r : Root) → latest ≡ Some r → IsRooted (drawn mark.log) r } by { Prim.hlevel maps },
 }
 
-impl<'g, M: Means, S: Slots<M>> Client<'g, M, S>
+impl<M: Means, S: Slots<M>> Model for Client<M, S>
+where
+    S::Seat: Drop,
+{
+    ghost use Rattle.std.specs.Arc.{arc_value};
+    ghost use Rattle.std.specs.Coded.{codes};
+    ghost use Rattle.head_word.specs.contracts.entry.Entry as entry;
+    ghost use Rattle.rebase.specs.Clients.{ClientState, grouped};
+    ghost use Rattle.rebase.specs.Inside.Keeping.{Keeps};
+
+    ghost Value = { ClientState };
+
+    ghost coded = { Prim.hlevel (codes, entry.the_row.coded) };
+
+    ghost view = { λ c. record {
+        group = grouped (arc_value c.group).shared (arc_value c.group).identity;
+        seat = c.seat;
+        id = c.id;
+        last = c.last;
+      } };
+
+    ghost invariant = { λ c. Keeps S.reused (arc_value c.group).shared c.seat c.id c.last c.found c.latest };
+}
+
+impl<M: Means, S: Slots<M>> Client<M, S>
 where
     S::Seat: Drop,
 {
     // Pins the seat, and looks where the head is.
     pub(crate) fn begin(&mut self, tries: u32) -> Result<Ref, Refusal>
-        ensures looked { IfOk result (λ at. IsPoint M.means self.old.mark self.new.mark None self.new.mark.log
-            × IsBase M.means self.new.mark at (after (record_of self.new.mark.log))) }
-        ensures held { S.reused → IfOk result (λ _. IsHeld (S.view self.new.slots)) }
-        ensures busy { IfErr result (λ e. (e ≡ Busy) × S.reused × (self.new.mark ≡ self.old.mark)) }
-        ensures idle { S.reused → IfErr result (λ _. IsIdle (S.view self.new.slots)) }
-        ensures seen { IsPrefix self.old.mark.log self.new.mark.log }
-        ensures seat { (self.new.mark.book ≡ self.old.mark.book) × (self.new.mark.seat ≡ self.old.mark.seat) }
-        ensures same { (self.new.group.now ≡ self.old.group.now) × (self.new.id ≡ self.old.id)
-            × (self.new.last ≡ self.old.last) }
+        ensures reads { IfOk result (λ _. Reads S.reused self.old self.new) }
+        ensures point { IfOk result (λ _. IsPoint M.means self.old.seat.mark self.new.seat.mark None
+            self.new.seat.mark.log) }
+        ensures base { IfOk result (λ at. IsBase M.means self.new.seat.mark at
+            (after (record_of self.new.seat.mark.log))) }
+        ensures busy { IfErr result (λ e. (e ≡ Busy) × S.reused × (self.new.seat.mark ≡ self.old.seat.mark)) }
+        ensures stays { IfErr result (λ _. Stays S.reused self.old self.new) }
     {
-        begin(&self.group.shared, &mut self.slots, &mut self.mark, tries)
+        let group: &SharedGroup<M, S> = &self.group;
+        pin_and_load(&group.shared, &mut self.seat, tries)
     }
 
     // Takes the pin away.
     pub(crate) fn finish(&mut self)
-        ensures mark { self.new.mark ≡ self.old.mark }
-        ensures idle { S.reused → IsIdle (S.view self.new.slots) }
-        ensures same { (self.new.group.now ≡ self.old.group.now) × (self.new.id ≡ self.old.id)
-            × (self.new.last ≡ self.old.last) }
+        ensures stays { Stays S.reused self.old self.new }
+        ensures mark { self.new.seat.mark ≡ self.old.seat.mark }
     {
-        self.group.shared.store.unpin(&mut self.slots);
+        let group: &SharedGroup<M, S> = &self.group;
+        unpin(&group.shared, &mut self.seat);
+    }
+
+    // The commit where the head was just seen, to be read.
+    pub(crate) fn here(&self, at: Ref, tries: u32) -> At<'_, M, S>
+        requires base { IsBase M.means self.now.seat.mark at (after (record_of self.now.seat.mark.log)) }
+        requires held { S.reused → is_held self.now.seat.view.pin ≡ true }
+        ensures { result ≡ place self.now.group.identity self.now.seat.mark.log self.now.seat.mark at }
+    {
+        At::new(&self.group, &self.seat, &self.seat.mark, at, tries)
+    }
+
+    // Takes the pin away, if there is one, where a call is refused before it did anything.
+    pub(crate) fn refuse<T>(&mut self, e: Refusal) -> Result<T, Refusal>
+        ensures err { result ≡ Err e }
+        ensures stays { Stays S.reused self.old self.new }
+        ensures mark { self.new.seat.mark ≡ self.old.seat.mark }
+    {
+        self.finish();
+        Err(e)
     }
 
     // Finds the client's last id in the group.
     fn find(&mut self, tries: u32) -> Result<LastId, Refusal>
-        ensures answer { Answers M.means tries self.old.mark self.new.mark (told (λ found. found.id) result) nothing
-            (λ s. Ok (last_id s self.old.id)) }
-        ensures found { IfOk result (λ found. last_at (drawn self.new.mark.log) (stamp_of found.at) self.old.id
+        ensures answer { Answers M.means tries self.old.seat.mark self.new.seat.mark (told (λ found. found.id) result)
+            nothing (λ s. Ok (last_id s self.old.id)) }
+        ensures found { IfOk result (λ found. last_at (drawn self.new.seat.mark.log) (stamp_of found.at) self.old.id
             ≡ Some found.id) }
         ensures low { IfOk result (λ found. found.id < 2 ^ 53) }
         ensures missed { IfErr result (IsMissed S.reused) }
-        ensures idle { S.reused → IsIdle (S.view self.new.slots) }
-        ensures seen { IsPrefix self.old.mark.log self.new.mark.log }
-        ensures seat { (self.new.mark.book ≡ self.old.mark.book) × (self.new.mark.seat ≡ self.old.mark.seat) }
-        ensures same { (self.new.group.now ≡ self.old.group.now) × (self.new.id ≡ self.old.id)
-            × (self.new.last ≡ self.old.last) }
+        ensures stays { Stays S.reused self.old self.new }
     {
         let before = LastId {
             at: self.found,
             id: self.last,
         };
         find_last(
-            &self.group.shared,
-            &mut self.slots,
-            &mut self.mark,
+            &self.group,
+            &mut self.seat,
             &self.id,
             Some(before),
             tries,
@@ -124,57 +152,39 @@ where
 
     /// The body of a push of all that is pending in the group.
     pub fn push_body(&mut self, tries: u32) -> Result<Vec<u8>, Refusal>
-        ensures answer { Answers M.means tries self.old.mark self.new.mark (told (λ body. body.items) result) nothing
-            (λ s. Ok (push_text self.old.group.now.identity s.pending)) }
-        ensures err { IfErr result (λ e. (e ≡ NoMemory) ⊎ IsMissed S.reused e) }
-        ensures idle { S.reused → IsIdle (S.view self.new.slots) }
-        ensures seen { IsPrefix self.old.mark.log self.new.mark.log }
-        ensures seat { (self.new.mark.book ≡ self.old.mark.book) × (self.new.mark.seat ≡ self.old.mark.seat) }
-        ensures same { (self.new.group.now ≡ self.old.group.now) × (self.new.id ≡ self.old.id)
-            × (self.new.last ≡ self.old.last) }
+        ensures answer { Answers M.means tries self.old.seat.mark self.new.seat.mark (told (λ body. body.items) result)
+            nothing (λ s. Ok (push_text self.old.group.identity s.pending)) }
+        ensures err { IfErr result (IsMissedOrDry S.reused) }
+        ensures stays { Stays S.reused self.old self.new }
     {
         let at = self.begin(tries)?;
-        let group = self.group;
-        let body = body_at(
-            group.alloc,
-            &group.shared,
-            &self.mark,
-            at,
-            &group.identity,
-            tries,
-        );
+        let body = body_at(&self.here(at, tries));
         self.finish();
         body
     }
 
     /// The body of a pull at the group's cookie, and the ticket with which it ends.
     pub fn begin_pull(&mut self, tries: u32) -> Result<Ticket, Refusal>
-        ensures answer { Answers M.means tries self.old.mark self.new.mark (told asked result) nothing
-            (λ s. Ok (asked_at self.old.group.now.identity s)) }
-        ensures err { IfErr result (λ e. (e ≡ NoMemory) ⊎ IsMissed S.reused e) }
-        ensures idle { S.reused → IsIdle (S.view self.new.slots) }
-        ensures seen { IsPrefix self.old.mark.log self.new.mark.log }
-        ensures seat { (self.new.mark.book ≡ self.old.mark.book) × (self.new.mark.seat ≡ self.old.mark.seat) }
-        ensures same { (self.new.group.now ≡ self.old.group.now) × (self.new.id ≡ self.old.id)
-            × (self.new.last ≡ self.old.last) }
+        ensures answer { Answers M.means tries self.old.seat.mark self.new.seat.mark (told asked result) nothing
+            (λ s. Ok (asked_at self.old.group.identity s)) }
+        ensures err { IfErr result (IsMissedOrDry S.reused) }
+        ensures stays { Stays S.reused self.old self.new }
     {
         let at = self.begin(tries)?;
-        let cookie = cookie_at(&self.group.shared, &self.mark, at, tries);
+        let cookie = cookie_at(&self.here(at, tries));
         self.finish();
-        ticket_of(self.group.alloc, &self.group.identity, cookie?)
+        let group: &SharedGroup<M, S> = &self.group;
+        ticket_of(group.shared.alloc, &group.identity, cookie?)
     }
 
     /// Finds the client's last id in the group, which is then its own. The remedy for `Stale`.
     pub fn refresh(&mut self, tries: u32) -> Result<u64, Refusal>
-        ensures answer { Answers M.means tries self.old.mark self.new.mark result nothing
+        ensures answer { Answers M.means tries self.old.seat.mark self.new.seat.mark result nothing
             (λ s. Ok (last_id s self.old.id)) }
         ensures last { IfOk result (λ id. self.new.last ≡ id) }
         ensures left { IfErr result (λ _. self.new.last ≡ self.old.last) }
         ensures missed { IfErr result (IsMissed S.reused) }
-        ensures idle { S.reused → IsIdle (S.view self.new.slots) }
-        ensures seen { IsPrefix self.old.mark.log self.new.mark.log }
-        ensures seat { (self.new.mark.book ≡ self.old.mark.book) × (self.new.mark.seat ≡ self.old.mark.seat) }
-        ensures same { (self.new.group.now ≡ self.old.group.now) × (self.new.id ≡ self.old.id) }
+        ensures looks { Looks S.reused self.old self.new }
     {
         let found = self.find(tries)?;
         self.last = found.id;
@@ -184,35 +194,31 @@ where
 
     // The root of the map at the commit of the head, which is looked at unless it is what was read last.
     fn root_of(&self, at: Ref, tries: u32) -> Result<Ref, Refusal>
-        requires { IsBase M.means self.now.mark at (after (record_of self.now.mark.log)) }
-        ensures root { IfOk result (λ root. map_at (drawn self.now.mark.log) (stamp_of root)
-            ≡ Some (view_of M.means (after (record_of self.now.mark.log)))) }
+        requires base { IsBase M.means self.now.seat.mark at (after (record_of self.now.seat.mark.log)) }
+        requires held { S.reused → is_held self.now.seat.view.pin ≡ true }
+        ensures root { IfOk result (λ root. map_at (drawn self.now.seat.mark.log) (stamp_of root)
+            ≡ Some (view_of M.means (after (record_of self.now.seat.mark.log)))) }
         ensures missed { IfErr result (IsMissed S.reused) }
     {
         match &self.latest {
             Some(latest) if latest.commit == at => Ok(latest.root),
-            _ => root_at(&self.group.shared, &self.mark, at, tries),
+            _ => root_at(&self.here(at, tries)),
         }
     }
 
     // Pins the seat, and finds the commit at the head and its root. The pin is taken away where that is refused.
     pub(crate) fn point(&mut self, tries: u32) -> Result<Point<M>, Refusal>
-        ensures point { IfOk result (λ at. IsPoint M.means self.old.mark self.new.mark None at.log
-            × (at.book ≡ self.new.mark.book)) }
-        ensures held { S.reused → IfOk result (λ _. IsHeld (S.view self.new.slots)) }
+        ensures reads { IfOk result (λ _. Reads S.reused self.old self.new) }
+        ensures point { IfOk result (λ at. IsPoint M.means self.old.seat.mark self.new.seat.mark None at.log
+            × (at.book ≡ self.new.seat.mark.book)) }
         ensures missed { IfErr result (IsMissed S.reused) }
-        ensures left { IfErr result (λ _. own_moves self.new.mark ≡ own_moves self.old.mark) }
-        ensures idle { S.reused → IfErr result (λ _. IsIdle (S.view self.new.slots)) }
-        ensures seen { IsPrefix self.old.mark.log self.new.mark.log }
-        ensures seat { (self.new.mark.book ≡ self.old.mark.book) × (self.new.mark.seat ≡ self.old.mark.seat) }
-        ensures same { (self.new.group.now ≡ self.old.group.now) × (self.new.id ≡ self.old.id)
-            × (self.new.last ≡ self.old.last) }
+        ensures stays { IfErr result (λ _. Stays S.reused self.old self.new) }
     {
         let at = self.begin(tries)?;
         match self.root_of(at, tries) {
             Ok(root) => {
                 self.latest = Some(Rooted { commit: at, root });
-                return Ok(Point::new(&self.mark, at, root));
+                return Ok(Point::new(&self.seat.mark, at, root));
             }
             Err(e) => {
                 self.finish();
@@ -221,86 +227,44 @@ where
         }
     }
 
-    /// Reads the group as it is now.
-    pub fn read(&mut self, tries: u32) -> Result<ReadTx<'_, 'g, M, S>, Refusal>
-        ensures same_reference { IfOk result (λ tx. tx.client.ghost_name ≡ self.entry.ghost_name) }
-        ensures point { IfOk result (λ tx. IsPoint M.means self.old.mark tx.client.now.mark None tx.at.log) }
-        ensures held { S.reused → IfOk result (λ tx. IsHeld (S.view tx.client.now.slots)) }
-        ensures seat { IfOk result (λ tx. (tx.client.now.mark.book ≡ self.old.mark.book)
-            × (tx.client.now.mark.seat ≡ self.old.mark.seat)) }
-        ensures same { IfOk result (λ tx. (tx.client.now.group.now ≡ self.old.group.now)
-            × (tx.client.now.id ≡ self.old.id) × (tx.client.now.last ≡ self.old.last)) }
-        ensures missed { IfErr result (IsMissed S.reused) }
-    {
-        let at = self.point(tries)?;
-        Ok(ReadTx::new(self, at, tries))
-    }
-
-    /// Gives the pairs that the scan asks for to the sink, in the order of their keys, each by reference. After
-    /// an `Err` the sink may have some of them.
-    pub fn scan_into<T: TakesRows>(
-        &mut self,
-        scan: &Scan,
-        sink: &mut T,
-        tries: u32,
-    ) -> Result<(), Refusal>
-        ensures answer { (rows : Rows) × Answers M.means tries self.old.mark self.new.mark (gave rows result) nothing
-            (λ s. Ok (rows_at M.means s scan.now)) × OnOk result (HasMore T.has sink.old sink.new rows) }
-        ensures err { IfErr result (λ e. (e ≡ NoMemory) ⊎ IsMissed S.reused e) }
-        ensures idle { S.reused → IsIdle (S.view self.new.slots) }
-        ensures seen { IsPrefix self.old.mark.log self.new.mark.log }
-        ensures seat { (self.new.mark.book ≡ self.old.mark.book) × (self.new.mark.seat ≡ self.old.mark.seat) }
-        ensures same { (self.new.group.now ≡ self.old.group.now) × (self.new.id ≡ self.old.id)
-            × (self.new.last ≡ self.old.last) }
-    {
-        match self.point(tries) {
-            Ok(at) => {
-                let given = at.scan_into(self.group, scan, tries, sink);
-                self.finish();
-                given
-            }
-            Err(e) => Err(e),
-        }
-    }
-
     /// Gives the client up, and hands its seat back. Takes no memory.
     pub fn close(self) -> Seat<M, S>
-        ensures mark { result.mark ≡ self.entry.mark }
-        ensures home { S.home result.slots ≡ S.home self.entry.slots }
+    where
+        M: Drop,
+        S: Drop,
+        ensures looked { HasLooked S.reused self.entry.seat result }
+        ensures mark { result.mark ≡ self.entry.seat.mark }
     {
         let mut client = self;
         client.finish();
         let Client {
             group: _,
-            slots,
-            mark,
+            seat,
             id: _,
             last: _,
             found: _,
             latest: _,
         } = client;
-        Seat { slots, mark }
+        Seat { seat }
     }
 
     /// What the client has seen of the group: a copy, from which others can learn. Takes no memory.
     pub fn mark(&self) -> Mark<M>
-        ensures { result ≡ known self.now.mark.book self.now.mark.log None }
+        ensures { result ≡ known self.now.seat.mark.book self.now.seat.mark.log None }
     {
-        self.mark.copy()
+        self.seat.mark.copy()
     }
 
     /// Afterwards the client has seen what the mark has. It is a mark of the same group. Takes no memory.
     pub fn learn(&mut self, other: &Mark<M>)
-        requires book { other.now.book ≡ self.old.mark.book }
-        ensures other { IsPrefix other.now.log self.new.mark.log }
-        ensures seen { IsPrefix self.old.mark.log self.new.mark.log }
-        ensures seat { (self.new.mark.book ≡ self.old.mark.book) × (self.new.mark.seat ≡ self.old.mark.seat) }
-        ensures moves { own_moves self.new.mark ≡ own_moves self.old.mark }
-        ensures slots { S.view self.new.slots ≡ S.view self.old.slots }
-        ensures same { (self.new.group.now ≡ self.old.group.now) × (self.new.id ≡ self.old.id)
-            × (self.new.last ≡ self.old.last) }
+        requires book { other.now.book ≡ self.old.seat.mark.book }
+        ensures other { IsPrefix other.now.log self.new.seat.mark.log }
+        ensures looked { HasLooked S.reused self.old.seat self.new.seat }
+        ensures view { self.new.seat.view ≡ self.old.seat.view }
+        ensures same { IsSameClient self.old self.new × (self.new.last ≡ self.old.last) }
     {
-        self.group.shared.head.learn(&mut self.mark, other);
+        let group: &SharedGroup<M, S> = &self.group;
+        group.shared.head.learn(&mut self.seat.mark, other);
     }
 }
 
@@ -321,52 +285,72 @@ fn client_id(alloc: Global, id: &Uuid) -> Result<Text, AllocError>
     Text::new(alloc, id.hyphenated().encode_lower(&mut buffer))
 }
 
+// A client whose last id was found.
+fn seated<M: Means, S: Slots<M>>(
+    group: &Group<M, S>,
+    seat: ClientSeat<M, S>,
+    id: Text,
+    found: LastId,
+) -> Result<Client<M, S>, (Seat<M, S>, Refusal)>
+where
+    S::Seat: Drop,
+    requires home { IsSeatOf group.now.group seat }
+    requires idle { S.reused → IsIdle seat.view }
+    requires found { last_at (drawn seat.mark.log) (stamp_of found.at) id ≡ Some found.id }
+    requires low { found.id < 2 ^ 53 }
+    ensures ok { IfOk result (λ client. client
+        ≡ record { group = group.now; seat = seat; id = id; last = found.id }) }
+    ensures err { IfErr result (λ e. (e.0 ≡ seat) × (e.1 ≡ NoMemory)) }
+{
+    match Arc::try_clone(&group.shared) {
+        Ok(group) => Ok(Client {
+            group,
+            seat,
+            id,
+            last: found.id,
+            found: found.at,
+            latest: None,
+        }),
+        Err(e) => Err((Seat { seat }, Refusal::from(e))),
+    }
+}
+
 impl<M: Means, S: Slots<M>> Group<M, S>
 where
     S::Seat: Drop,
 {
     /// A client of this ID on a seat of the group. It begins from what the seat has seen, and its own last id
-    /// is the one that the group has. Where it is refused the seat is handed back.
+    /// is the one that the group has. Where it is refused the seat is handed back. Takes memory for the ID alone.
     pub fn client(
         &self,
         seat: Seat<M, S>,
         id: Uuid,
         tries: u32,
-    ) -> Result<Client<'_, M, S>, (Seat<M, S>, Refusal)>
-        requires book { seat.mark.book ≡ self.now.shared.head }
-        requires home { S.home seat.slots ≡ S.serves self.now.shared.store }
-        ensures group { IfOk result (λ client. client.group.now ≡ self.now) }
+    ) -> Result<Client<M, S>, (Seat<M, S>, Refusal)>
+        requires seat { IsSeatOf self.now.group seat }
+        ensures group { IfOk result (λ client. client.group ≡ self.now) }
         ensures id { IfOk result (λ client. client.id ≡ hyphenated_text lower id) }
-        ensures answer { IfOk result (λ client. IsAnswered M.means seat.mark client.mark None
+        ensures answer { IfOk result (λ client. IsAnswered M.means seat.mark client.seat.mark None
             (λ s. last_id s client.id ≡ client.last)) }
-        ensures idle { S.reused → IfOk result (λ client. IsIdle (S.view client.slots)) }
-        ensures back { IfErr result (λ e. (e.0.mark.book ≡ self.now.shared.head)
-            × (S.home e.0.slots ≡ S.serves self.now.shared.store)) }
-        ensures err { IfErr result (λ e. ((e.1 ≡ NoMemory) ⊎ IsMissed S.reused e.1)
-            × IsLeft tries seat.mark e.0.mark e.1) }
+        ensures looked { IfOk result (λ client. HasLooked S.reused seat client.seat × Rests S.reused client) }
+        ensures back { IfErr result (λ e. HasLooked S.reused seat e.0) }
+        ensures err { IfErr result (λ e. IsMissedOrDry S.reused e.1 × IsLeft tries seat.mark e.0.mark e.1) }
     {
-        let id = match client_id(self.alloc, &id) {
+        let group: &SharedGroup<M, S> = &self.shared;
+        let id = match client_id(group.shared.alloc, &id) {
             Ok(id) => id,
             Err(e) => {
                 return Err((seat, Refusal::from(e)));
             }
         };
-        let Seat { slots, mark } = seat;
-        let (mut slots, mut mark) = (slots, mark);
-        match find_last(&self.shared, &mut slots, &mut mark, &id, None, tries) {
+        let Seat { seat } = seat;
+        let mut seat = seat;
+        match find_last(group, &mut seat, &id, None, tries) {
             Ok(found) => {
-                return Ok(Client {
-                    group: self,
-                    slots,
-                    mark,
-                    id,
-                    last: found.id,
-                    found: found.at,
-                    latest: None,
-                });
+                return seated(self, seat, id, found);
             }
             Err(e) => {
-                return Err((Seat { slots, mark }, e));
+                return Err((Seat { seat }, e));
             }
         }
     }

@@ -1,28 +1,38 @@
 //! A group of clients.
 ghost use Rattle.std.specs.Prelude.{◌≡◌, ◌⊎◌, ◌-◌, ◌≤◌, ℕ, length, IfOk, IfErr};
-ghost use Rattle.std.specs.List.{All};
+ghost use Rattle.std.specs.Arc.{arc_value};
 ghost use Rattle.group_history.specs.declared.refusals.Refusal.TheVariants as refusal;
 ghost use Rattle.group_history.specs.Refs.{max_seats, max_slots};
 ghost use Rattle.reader_claims.specs.Counts.{Counts, HasOldest, all_slots, whatever};
 ghost use Rattle.reader_claims.specs.Seats.{first_reserved};
-ghost use Rattle.chunk_slots.specs.Seats.{IsIdle};
+ghost use Rattle.rebase.specs.Clients.{AreSeatsOf, grouped};
 
 use crate::config::Config;
-use crate::seats::{Seat, Seats, seat_all};
+use crate::seats::{Seats, seat_all};
 use chunk_slots::{Arena, Slots, Store};
-use commits::Shared;
+use commit_graph::Shared;
 use group_history::{Means, Refusal};
+use group_steps::SharedGroup;
 use push_body::Identity;
 use reader_claims::SlotCounts;
-use std::alloc::Global;
+use std::alloc::{AllocError, Global};
+use std::marker::Model;
+use std::sync::Arc;
 
-/// A group: the nodes and the head that its clients share, its mutators, and whose requests it writes.
+/// A group: a handle on what its clients share. Each client has one of its own, and what is shared is let go with the
+/// last of them.
 #[derive(Drop)]
 pub struct Group<M: Means, S: Slots<M>> {
-    pub(crate) alloc: Global,
-    pub(crate) shared: Shared<M, S>,
-    pub(crate) mutators: M,
-    pub(crate) identity: Identity,
+    pub(crate) shared: Arc<SharedGroup<M, S>>,
+}
+
+impl<M: Means, S: Slots<M>> Model for Group<M, S> {
+    ghost use Rattle.std.specs.Arc.{arc_value};
+    ghost use Rattle.rebase.specs.Clients.{Grouped, grouped};
+
+    ghost Value = { Grouped };
+
+    ghost view = { λ group. grouped (arc_value group.shared).shared (arc_value group.shared).identity };
 }
 
 // A new store and its head, and a seat for each of so many clients.
@@ -36,14 +46,24 @@ where
     S::Seat: Drop,
     requires slots { (16 ≤ slots) × (slots ≤ max_slots) }
     requires seats { (1 ≤ seats) × (seats ≤ max_seats) }
-    ensures count { IfOk result (λ made. length made.1.free.items ≡ seats) }
-    ensures seats { IfOk result (λ made. All
-        (λ seat. (seat.mark.book ≡ made.0.head) × (S.home seat.slots ≡ S.serves made.0.store)) made.1.free.items) }
+    ensures count { IfOk result (λ made. length made.1.free ≡ seats) }
+    ensures seats { IfOk result (λ made. AreSeatsOf made.0 made.1.free) }
     ensures err { IfErr result (λ e. (e ≡ refusal.NoMemory) ⊎ (S.reused × ((e ≡ refusal.Busy) ⊎ (e ≡ refusal.Full)))) }
 {
     let (store, claimed, head, marks) = S::open(alloc, parts, slots, seats)?;
-    let seats = seat_all(alloc, &store, &head, claimed, marks)?;
-    Ok((Shared { store, head }, seats))
+    let shared = Shared { alloc, store, head };
+    let seats = seat_all(&shared, claimed, marks)?;
+    Ok((shared, seats))
+}
+
+fn share<M: Means + Drop, S: Slots<M> + Drop>(
+    alloc: Global,
+    group: SharedGroup<M, S>,
+) -> Result<Group<M, S>, AllocError>
+    ensures { IfOk result (λ made. made ≡ grouped group.shared group.identity) }
+{
+    let shared = Arc::new(alloc, group)?;
+    Ok(Group { shared })
 }
 
 impl<M: Means + Drop, S: Store<M> + Drop> Group<M, S>
@@ -58,24 +78,22 @@ where
         parts: S::Parts,
     ) -> Result<(Group<M, S>, Seats<M, S>), Refusal>
         ensures identity { IfOk result (λ made. made.0.identity ≡ config.identity) }
-        ensures count { IfOk result (λ made. length made.1.free.items ≡ config.seats) }
-        ensures seats { IfOk result (λ made. All
-            (λ seat. (seat.mark.book ≡ made.0.shared.head) × (S.home seat.slots ≡ S.serves made.0.shared.store))
-            made.1.free.items) }
+        ensures count { IfOk result (λ made. length made.1.free ≡ config.seats) }
+        ensures seats { IfOk result (λ made. AreSeatsOf made.0.group made.1.free) }
         ensures err { IfErr result (λ e. (e ≡ refusal.NoMemory)
             ⊎ (S.reused × ((e ≡ refusal.Busy) ⊎ (e ≡ refusal.Full)))) }
     {
         let (shared, seats) = open_shared::<M, S>(alloc, parts, config.slots(), config.seats())?;
         let identity = config.into_identity();
-        Ok((
-            Group {
-                alloc,
+        let group = share(
+            alloc,
+            SharedGroup {
                 shared,
                 mutators,
                 identity,
             },
-            seats,
-        ))
+        )?;
+        Ok((group, seats))
     }
 }
 
@@ -84,14 +102,15 @@ impl<M: Means> Group<M, Arena<M>> {
     /// each word, one after the other, so each was so at some time in the call, and no two need have been so
     /// at once. Nothing is changed, nobody is waited for, and no client and no memory is needed.
     pub fn slots(&self) -> SlotCounts
-        ensures counts { Counts whatever self.now.shared.store.claims.sizes result }
-        ensures all { all_slots result ≡ self.now.shared.store.claims.sizes.slots }
-        ensures ordinary { result.ordinary_free ≤ first_reserved self.now.shared.store.claims.sizes }
+        ensures counts { Counts whatever self.now.group.table.sizes result }
+        ensures all { all_slots result ≡ self.now.group.table.sizes.slots }
+        ensures ordinary { result.ordinary_free ≤ first_reserved self.now.group.table.sizes }
         ensures reserved { result.reserved_free
-            ≤ self.now.shared.store.claims.sizes.slots - first_reserved self.now.shared.store.claims.sizes }
-        ensures pins { result.pinned_seats ≤ self.now.shared.store.claims.sizes.readers }
+            ≤ self.now.group.table.sizes.slots - first_reserved self.now.group.table.sizes }
+        ensures pins { result.pinned_seats ≤ self.now.group.table.sizes.readers }
         ensures oldest { HasOldest result }
     {
-        self.shared.store.count()
+        let group: &SharedGroup<M, Arena<M>> = &self.shared;
+        group.shared.store.count()
     }
 }

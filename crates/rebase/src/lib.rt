@@ -11,27 +11,30 @@ mod answering;
 mod beside;
 mod calls;
 mod changes;
-mod changing;
 mod client;
 mod config;
 mod group;
-mod moving;
-mod proposing;
-mod pushing;
+mod queries;
 mod reading;
 mod seats;
-mod steps;
 mod tickets;
-mod views;
 mod watching;
 
 pub use calls::{Call, Mutate, Reply};
+pub use chunk_slots::{Append, Arena};
 pub use client::Client;
 pub use config::{Config, MIN_SLOTS, OutOfRange};
 pub use group::Group;
+pub use group_history::{
+    Cookie, Ended, Json, Means, Mutation, Mutators, Ran, Reason, Refusal, Scan, Start, Stop, Text,
+    VersionKind, WriteView,
+};
+pub use head_word::Mark;
+pub use push_body::Identity;
 pub use reader_claims::SlotCounts;
-pub use reading::{Point, ReadTx};
+pub use reading::ReadTx;
 pub use seats::{Seat, Seats};
 pub use tickets::Ticket;
 pub use transactions::TakesRows;
+pub use uuid::Uuid;
 pub use watching::{Polled, Rows, Watch};

@@ -1,7 +1,6 @@
 //! One commit, read as often as its reader likes.
-ghost use Rattle.std.specs.Prelude.{◌≡◌, ◌⊎◌, Some, None, IfOk, IfErr, OnOk};
+ghost use Rattle.std.specs.Prelude.{◌≡◌, ◌⊎◌, true, Some, IfOk, IfErr, OnOk};
 ghost use mathlib.Core.List.{IsPrefix};
-ghost use Rattle.group_history.specs.declared.refusals.Refusal.TheVariants.{NoMemory};
 ghost use Rattle.group_history.specs.Queries.{get_at, has_at, rows_at, is_empty_at};
 ghost use Rattle.group_history.specs.Record.{after};
 ghost use Rattle.group_history.specs.Refs.{stamp_of};
@@ -10,14 +9,15 @@ ghost use Rattle.group_history.specs.State.{view_of};
 ghost use Rattle.head_word.specs.Books.{drawn, record_of};
 ghost use Rattle.head_word.specs.Marks.{known};
 ghost use Rattle.map_chunks.specs.Sinks.{HasMore};
-ghost use Rattle.chunk_slots.specs.Seats.{IsIdle};
-ghost use Rattle.rebase.specs.Queries.{IsMissed};
+ghost use Rattle.commit_graph.specs.Seats.{IsReading, is_held};
+ghost use Rattle.group_steps.specs.Missing.{IsMissed, IsMissedOrDry};
+ghost use Rattle.rebase.specs.Clients.{Stays};
 
 use crate::client::Client;
-use crate::group::Group;
 use chunk_slots::Slots;
-use commits::{Shared, StoreNodes};
+use commit_graph::{Seat as ClientSeat, Shared, StoreNodes};
 use group_history::{Cookie, Json, Means, Mutation, Ref, Refusal, Scan, Text};
+use group_steps::SharedGroup;
 use head_word::{Mark, one_record};
 use std::alloc::Global;
 use std::marker::Model;
@@ -25,7 +25,7 @@ use transactions::{ReadTx as CommitTx, TakesRows};
 
 /// A commit, the root of its map, and a mark by which its state is that of the mark's record.
 #[derive(Drop)]
-pub struct Point<M: Means> {
+pub(crate) struct Point<M: Means> {
     mark: Mark<M>,
     head: Ref,
     root: Ref,
@@ -89,165 +89,156 @@ impl<M: Means> Point<M> {
         one_record(mark, &self.mark);
     }
 
-    // The rows of a scan there.
-    pub(crate) fn scan<S: Slots<M>>(
-        &self,
-        group: &Group<M, S>,
-        scan: &Scan,
-        tries: u32,
-    ) -> Result<Vec<(Text, Json)>, Refusal>
-        requires { self.now.book ≡ group.now.shared.head }
-        ensures rows { IfOk result (λ rows. rows.items ≡ rows_at M.means (after (record_of self.now.log)) scan.now) }
-        ensures err { IfErr result (λ e. (e ≡ NoMemory) ⊎ IsMissed S.reused e) }
-    {
-        let mut tx = self.open(group.alloc, &group.shared, tries);
-        Ok(tx.scan(scan)?)
-    }
-
-    // Gives the rows of a scan there to a sink.
-    pub(crate) fn scan_into<S: Slots<M>, T: TakesRows>(
-        &self,
-        group: &Group<M, S>,
-        scan: &Scan,
-        tries: u32,
-        sink: &mut T,
-    ) -> Result<(), Refusal>
-        requires { self.now.book ≡ group.now.shared.head }
-        ensures rows { OnOk result (HasMore T.has sink.old sink.new
-            (rows_at M.means (after (record_of self.now.log)) scan.now)) }
-        ensures err { IfErr result (λ e. (e ≡ NoMemory) ⊎ IsMissed S.reused e) }
-    {
-        let mut tx = self.open(group.alloc, &group.shared, tries);
-        Ok(tx.scan_into(scan, sink)?)
-    }
-
-    // Its commit, to be read.
+    // Its commit, to be read while the seat's pin is held.
     pub(crate) fn open<'a, S: Slots<M>>(
         &'a self,
-        alloc: Global,
         shared: &'a Shared<M, S>,
+        seat: &'a ClientSeat<M, S>,
         tries: u32,
     ) -> CommitTx<StoreNodes<'a, M, S>>
-        requires { self.now.book ≡ shared.now.head }
+    where
+        S::Seat: Drop,
+        requires reading { IsReading S.reused shared.now seat.now }
+        requires book { self.now.book ≡ shared.now.book }
         ensures { result.version ≡ version_of M.means (after (record_of self.now.log)) }
     {
-        let nodes = StoreNodes::new(shared, &self.mark, tries);
-        CommitTx::at(alloc, nodes, self.head, self.root)
+        let nodes = StoreNodes::new(shared, seat, &self.mark, tries);
+        CommitTx::at(shared.alloc, nodes, self.head, self.root)
     }
 }
 
 /// Reads one commit: every answer is that of the point at which it was opened. Its client's seat is pinned
 /// until it is closed or dropped. A refused call leaves it as it was.
-pub struct ReadTx<'a, 'g, M: Means, S: Slots<M>>
+pub struct ReadTx<'a, M: Means, S: Slots<M>>
 where
     S::Seat: Drop,
 {
-    pub(crate) client: &'a mut Client<'g, M, S>,
-    pub(crate) at: Point<M>,
-    pub(crate) tries: u32,
-    ghost book: { at.book ≡ client.now.mark.book },
+    client: &'a mut Client<M, S>,
+    at: Point<M>,
+    tries: u32,
+    ghost book: { at.book ≡ client.now.seat.mark.book },
+    ghost held: { S.reused → is_held client.now.seat.view.pin ≡ true },
 }
 
-impl<'a, 'g, M: Means, S: Slots<M>> ReadTx<'a, 'g, M, S>
+impl<'a, M: Means, S: Slots<M>> ReadTx<'a, M, S>
 where
     S::Seat: Drop,
 {
-    pub(crate) fn new(
-        client: &'a mut Client<'g, M, S>,
-        at: Point<M>,
-        tries: u32,
-    ) -> ReadTx<'a, 'g, M, S>
-        requires { at.book ≡ client.old.mark.book }
-        ensures same_reference { result.client.ghost_name ≡ client.entry.ghost_name }
-        ensures client { result.client.now ≡ client.old }
-        ensures at { result.at ≡ at }
+    ghost use Rattle.rebase.specs.Readers.{lent, read_by, seen_by};
+
+    pub(crate) fn new(client: &'a mut Client<M, S>, at: Point<M>, tries: u32) -> ReadTx<'a, M, S>
+        requires book { at.book ≡ client.old.seat.mark.book }
+        requires held { S.reused → is_held client.old.seat.view.pin ≡ true }
+        ensures same_reference { (lent result).ghost_name ≡ client.entry.ghost_name }
+        ensures client { (lent result).now ≡ client.old }
+        ensures at { seen_by result ≡ at }
     {
         ReadTx { client, at, tries }
     }
 
+    // Its point.
+    pub(crate) fn point(&self) -> &Point<M>
+        ensures { result.now ≡ seen_by self.now }
+    {
+        &self.at
+    }
+
+    // Where memory is taken from.
+    pub(crate) fn alloc(&self) -> Global {
+        let client = &*self.client;
+        client.group.shared.alloc
+    }
+
+    // Its commit.
+    pub(crate) fn commit(&self) -> CommitTx<StoreNodes<'_, M, S>>
+        ensures { result.version ≡ version_of M.means (read_by self.now) }
+    {
+        let client = &*self.client;
+        let group: &SharedGroup<M, S> = &client.group;
+        self.at.open(&group.shared, &client.seat, self.tries)
+    }
+
     /// The value at a key.
     pub fn get(&self, key: &str) -> Result<Option<Json>, Refusal>
-        ensures value { IfOk result (λ found. found ≡ get_at M.means (after (record_of self.now.at.log)) key.now) }
-        ensures err { IfErr result (λ e. (e ≡ NoMemory) ⊎ IsMissed S.reused e) }
+        ensures value { IfOk result (λ found. found
+            ≡ get_at M.means (read_by self.now) key.now) }
+        ensures err { IfErr result (IsMissedOrDry S.reused) }
     {
-        let group = self.client.group;
-        let mut tx = self.at.open(group.alloc, &group.shared, self.tries);
+        let mut tx = self.commit();
         Ok(tx.get(key)?)
     }
 
     /// Whether the key is there. Takes no memory.
     pub fn has(&self, key: &str) -> Result<bool, Refusal>
-        ensures value { IfOk result (λ found. found ≡ has_at M.means (after (record_of self.now.at.log)) key.now) }
+        ensures value { IfOk result (λ found. found
+            ≡ has_at M.means (read_by self.now) key.now) }
         ensures missed { IfErr result (IsMissed S.reused) }
     {
-        let group = self.client.group;
-        let mut tx = self.at.open(group.alloc, &group.shared, self.tries);
+        let mut tx = self.commit();
         Ok(tx.has(key)?)
     }
 
     /// The pairs that the scan asks for, in the order of their keys.
     pub fn scan(&self, scan: &Scan) -> Result<Vec<(Text, Json)>, Refusal>
-        ensures rows { IfOk result (λ rows. rows.items ≡ rows_at M.means (after (record_of self.now.at.log)) scan.now) }
-        ensures err { IfErr result (λ e. (e ≡ NoMemory) ⊎ IsMissed S.reused e) }
+        ensures rows { IfOk result (λ rows. rows.items
+            ≡ rows_at M.means (read_by self.now) scan.now) }
+        ensures err { IfErr result (IsMissedOrDry S.reused) }
     {
-        self.at.scan(self.client.group, scan, self.tries)
+        let mut tx = self.commit();
+        Ok(tx.scan(scan)?)
     }
 
     /// Gives the pairs that the scan asks for to the sink, in the order of their keys, each by reference. After
     /// an `Err` the sink may have some of them.
     pub fn scan_into<T: TakesRows>(&self, scan: &Scan, sink: &mut T) -> Result<(), Refusal>
         ensures rows { OnOk result (HasMore T.has sink.old sink.new
-            (rows_at M.means (after (record_of self.now.at.log)) scan.now)) }
-        ensures err { IfErr result (λ e. (e ≡ NoMemory) ⊎ IsMissed S.reused e) }
+            (rows_at M.means (read_by self.now) scan.now)) }
+        ensures err { IfErr result (IsMissedOrDry S.reused) }
     {
-        self.at.scan_into(self.client.group, scan, self.tries, sink)
+        let mut tx = self.commit();
+        Ok(tx.scan_into(scan, sink)?)
     }
 
     /// Whether no key is there. Takes no memory.
     pub fn is_empty(&self) -> Result<bool, Refusal>
-        ensures value { IfOk result (λ empty. empty ≡ is_empty_at M.means (after (record_of self.now.at.log))) }
+        ensures value { IfOk result (λ empty. empty
+            ≡ is_empty_at M.means (read_by self.now)) }
         ensures missed { IfErr result (IsMissed S.reused) }
     {
-        let group = self.client.group;
-        let mut tx = self.at.open(group.alloc, &group.shared, self.tries);
+        let mut tx = self.commit();
         Ok(tx.is_empty()?)
     }
 
     /// The mutations that are not confirmed, the oldest first.
     pub fn pending(&self) -> Result<Vec<Mutation>, Refusal>
-        ensures pending { IfOk result (λ xs. xs.items ≡ (after (record_of self.now.at.log)).pending) }
-        ensures err { IfErr result (λ e. (e ≡ NoMemory) ⊎ IsMissed S.reused e) }
+        ensures pending { IfOk result (λ xs. xs.items ≡ (read_by self.now).pending) }
+        ensures err { IfErr result (IsMissedOrDry S.reused) }
     {
-        let group = self.client.group;
-        let mut tx = self.at.open(group.alloc, &group.shared, self.tries);
+        let mut tx = self.commit();
         Ok(tx.pending()?)
     }
 
     pub fn cookie(&self) -> Result<Cookie, Refusal>
-        ensures cookie { IfOk result (λ cookie. cookie ≡ (after (record_of self.now.at.log)).cookie) }
-        ensures err { IfErr result (λ e. (e ≡ NoMemory) ⊎ IsMissed S.reused e) }
+        ensures cookie { IfOk result (λ cookie. cookie ≡ (read_by self.now).cookie) }
+        ensures err { IfErr result (IsMissedOrDry S.reused) }
     {
-        let group = self.client.group;
-        let mut tx = self.at.open(group.alloc, &group.shared, self.tries);
+        let mut tx = self.commit();
         Ok(tx.cookie()?)
     }
 
     /// Whether the group is closed. Takes no memory.
     pub fn closed(&self) -> Result<bool, Refusal>
-        ensures closed { IfOk result (λ closed. closed ≡ (after (record_of self.now.at.log)).closed) }
+        ensures closed { IfOk result (λ closed. closed ≡ (read_by self.now).closed) }
         ensures missed { IfErr result (IsMissed S.reused) }
     {
-        let group = self.client.group;
-        let mut tx = self.at.open(group.alloc, &group.shared, self.tries);
+        let mut tx = self.commit();
         Ok(tx.closed()?)
     }
 
     /// Ends the reading, and takes the pin away. Takes no memory.
     pub fn close(self)
-        ensures idle { S.reused → IsIdle (S.view self.exit.0.now.slots) }
-        ensures mark { self.exit.0.now.mark ≡ self.entry.client.now.mark }
-        ensures same { (self.exit.0.now.group.now ≡ self.entry.client.now.group.now)
-            × (self.exit.0.now.id ≡ self.entry.client.now.id) × (self.exit.0.now.last ≡ self.entry.client.now.last) }
+        ensures stays { Stays S.reused (lent self.entry).now self.exit.0.now }
+        ensures mark { self.exit.0.now.seat.mark ≡ (lent self.entry).now.seat.mark }
     {
         let ReadTx {
             client,
@@ -258,21 +249,22 @@ where
     }
 }
 
-impl<M: Means, S: Slots<M>> Drop for ReadTx<'_, '_, M, S>
+impl<M: Means, S: Slots<M>> Drop for ReadTx<'_, M, S>
 where
     S::Seat: Drop,
 {
+    ghost use Rattle.rebase.specs.Readers.{lent};
+
     fn drop(self)
-        ensures idle { S.reused → IsIdle (S.view self.exit.0.now.slots) }
-        ensures mark { self.exit.0.now.mark ≡ self.entry.client.now.mark }
-        ensures same { (self.exit.0.now.group.now ≡ self.entry.client.now.group.now)
-            × (self.exit.0.now.id ≡ self.entry.client.now.id) × (self.exit.0.now.last ≡ self.entry.client.now.last) }
+        ensures stays { Stays S.reused (lent self.entry).now self.exit.0.now }
+        ensures mark { self.exit.0.now.seat.mark ≡ (lent self.entry).now.seat.mark }
     {
         let ReadTx {
             client,
             at: _,
             tries: _,
         } = self;
-        client.group.shared.store.unpin(&mut client.slots);
+        let group: &SharedGroup<M, S> = &client.group;
+        group.shared.store.unpin(&mut client.seat.slots);
     }
 }

@@ -7,20 +7,19 @@
 ghost use Rattle.std.specs.Prelude.{◌≡◌, ◌⊎◌, Some, None, Ok, true, IfOk, IfErr, IfNone, IfSome};
 ghost use Rattle.std.specs.Cmp as laws;
 ghost use mathlib.Core.List.{IsPrefix};
-ghost use Rattle.group_history.specs.declared.refusals.Refusal.TheVariants.{NoMemory};
 ghost use Rattle.group_history.specs.Queries.{rows_at};
 ghost use Rattle.group_history.specs.Record.{after};
 ghost use Rattle.head_word.specs.Books.{record_of};
-ghost use Rattle.chunk_slots.specs.Seats.{IsIdle};
 ghost use Rattle.answered.specs.Answered.{Answers, nothing};
-ghost use Rattle.rebase.specs.Queries.{IsMissed};
+ghost use Rattle.group_steps.specs.Missing.{IsMissedOrDry};
+ghost use Rattle.rebase.specs.Clients.{Stays};
+ghost use Rattle.rebase.specs.Readers.{read_by, seen_by};
 ghost use Rattle.rebase.specs.Watching.{Watched, poll_at, poll_reply, same_rows, same_rows-equiv, was_told};
 ghost use Rattle.rebase.specs.Watching.{watch_after};
 
 use crate::beside::{Before, Beside};
 use crate::client::Client;
-use crate::group::Group;
-use crate::reading::Point;
+use crate::reading::{Point, ReadTx};
 use chunk_slots::Slots;
 use group_history::{Json, Means, Ref, Refusal, Scan, Text};
 use head_word::Mark;
@@ -106,24 +105,23 @@ fn copy_of(last: &Option<Told>) -> Result<Option<Told>, AllocError>
     }
 }
 
-// The rows of a scan there, if they are others than those of before, which `B` names.
+// The rows of a scan, if they are others than those of before, which `B` names.
 fn others_than<B: Before, M: Means, S: Slots<M>>(
     before: &[(Text, Json)],
-    group: &Group<M, S>,
-    at: &Point<M>,
+    tx: &ReadTx<'_, M, S>,
     scan: &Scan,
-    tries: u32,
 ) -> Result<Option<Vec<(Text, Json)>>, Refusal>
+where
+    S::Seat: Drop,
     requires before { before.now ≡ B.rows }
-    requires group { at.now.book ≡ group.now.shared.head }
-    ensures some { IfOk result (λ found. IfSome found (λ rows. rows.items
-        ≡ rows_at M.means (after (record_of at.now.log)) scan.now)) }
+    ensures some { IfOk result (λ found. IfSome found
+        (λ rows. rows.items ≡ rows_at M.means (read_by tx.now) scan.now)) }
     ensures same { IfOk result (λ found. IfNone found
-        (before.now ≡ rows_at M.means (after (record_of at.now.log)) scan.now)) }
-    ensures err { IfErr result (λ e. (e ≡ NoMemory) ⊎ IsMissed S.reused e) }
+        (before.now ≡ rows_at M.means (read_by tx.now) scan.now)) }
+    ensures err { IfErr result (IsMissedOrDry S.reused) }
 {
-    let mut beside = Beside::<'_, B>::new(group.alloc, before);
-    at.scan_into(group, scan, tries, &mut beside)?;
+    let mut beside = Beside::<'_, B>::new(tx.alloc(), before);
+    tx.scan_into(scan, &mut beside)?;
     Ok(beside.into_others()?)
 }
 
@@ -221,49 +219,42 @@ impl<M: Means> Watch<M> {
         }
     }
 
-    // The rows there, if they are others than those that were told last, or the first ones.
-    fn others<S: Slots<M>>(
-        &self,
-        group: &Group<M, S>,
-        at: &Point<M>,
-        tries: u32,
-    ) -> Result<Option<Vec<(Text, Json)>>, Refusal>
-        requires group { at.now.book ≡ group.now.shared.head }
-        ensures some { IfOk result (λ found. IfSome found (λ rows. rows.items
-            ≡ rows_at M.means (after (record_of at.now.log)) self.now.scan)) }
+    // The rows, if they are others than those that were told last, or the first ones.
+    fn others<S: Slots<M>>(&self, tx: &ReadTx<'_, M, S>) -> Result<Option<Vec<(Text, Json)>>, Refusal>
+    where
+        S::Seat: Drop,
+        ensures some { IfOk result (λ found. IfSome found
+            (λ rows. rows.items ≡ rows_at M.means (read_by tx.now) self.now.scan)) }
         ensures same { IfOk result (λ found. IfNone found
-            (self.now.last ≡ Some (rows_at M.means (after (record_of at.now.log)) self.now.scan))) }
-        ensures err { IfErr result (λ e. (e ≡ NoMemory) ⊎ IsMissed S.reused e) }
+            (self.now.last ≡ Some (rows_at M.means (read_by tx.now) self.now.scan))) }
+        ensures err { IfErr result (IsMissedOrDry S.reused) }
     {
         let Some(told) = &self.last else {
-            let rows = at.scan(group, &self.scan, tries)?;
+            let rows = tx.scan(&self.scan)?;
             return Ok(Some(rows));
         };
-        others_than::<Brand, M, S>(told.rows.as_slice(), group, at, &self.scan, tries)
+        others_than::<Brand, M, S>(told.rows.as_slice(), tx, &self.scan)
     }
 
-    // Asks at a point. Where it is refused the watch is as it was.
-    fn ask<S: Slots<M>>(
-        &mut self,
-        group: &Group<M, S>,
-        at: &Point<M>,
-        tries: u32,
-    ) -> Result<Polled, Refusal>
-        requires book { self.old.book ≡ at.now.book }
-        requires group { at.now.book ≡ group.now.shared.head }
-        ensures value { IfOk result (λ polled. polled ≡ poll_at M.means self.old (after (record_of at.now.log))) }
+    // Asks a reader. Where it is refused the watch is as it was.
+    fn ask<S: Slots<M>>(&mut self, tx: &ReadTx<'_, M, S>) -> Result<Polled, Refusal>
+    where
+        S::Seat: Drop,
+        requires book { self.old.book ≡ (seen_by tx.now).book }
+        ensures value { IfOk result (λ polled. polled ≡ poll_at M.means self.old (read_by tx.now)) }
         ensures kept { IfOk result (λ polled. self.new ≡ watch_after self.old (Ok polled)) }
         ensures left { IfErr result (λ _. self.new ≡ self.old) }
-        ensures err { IfErr result (λ e. (e ≡ NoMemory) ⊎ IsMissed S.reused e) }
+        ensures err { IfErr result (IsMissedOrDry S.reused) }
     {
+        let at = tx.point();
         if self.has_read(at) {
             return Ok(Polled::Unchanged);
         }
-        let Some(rows) = self.others(group, at, tries)? else {
+        let Some(rows) = self.others(tx)? else {
             self.stay(at);
             return Ok(Polled::Unchanged);
         };
-        Ok(self.tell(at, Rows::new(group.alloc, rows)?)?)
+        Ok(self.tell(at, Rows::new(tx.alloc(), rows)?)?)
     }
 }
 
@@ -281,35 +272,31 @@ impl<M: Means> Clone for Watch<M> {
     }
 }
 
-impl<'g, M: Means, S: Slots<M>> Client<'g, M, S>
+impl<M: Means, S: Slots<M>> Client<M, S>
 where
     S::Seat: Drop,
 {
     /// A watch of a scan, which has answered nothing yet. Nothing is read. Takes no memory.
     pub fn watch(&self, scan: Scan) -> Watch<M>
-        ensures { result ≡ record { book = self.now.mark.book; scan = scan; last = None } }
+        ensures { result ≡ record { book = self.now.seat.mark.book; scan = scan; last = None } }
     {
-        Watch::new(scan, &self.mark)
+        Watch::new(scan, &self.seat.mark)
     }
 
     /// The rows of the watch's scan, where they are others than those that it answered last, or the first ones; else
     /// `Unchanged`. They are compared by their keys and compact texts. A refused poll leaves the watch as it was. The
     /// watch is one of the client's group.
     pub fn poll(&mut self, watch: &mut Watch<M>, tries: u32) -> Result<Polled, Refusal>
-        requires book { watch.old.book ≡ self.old.mark.book }
-        ensures answer { Answers M.means tries self.old.mark self.new.mark result nothing
+        requires book { watch.old.book ≡ self.old.seat.mark.book }
+        ensures answer { Answers M.means tries self.old.seat.mark self.new.seat.mark result nothing
             (λ s. Ok (poll_at M.means watch.old s)) }
-        ensures err { IfErr result (λ e. (e ≡ NoMemory) ⊎ IsMissed S.reused e) }
+        ensures err { IfErr result (IsMissedOrDry S.reused) }
         ensures kept { watch.new ≡ watch_after watch.old result }
-        ensures idle { S.reused → IsIdle (S.view self.new.slots) }
-        ensures seen { IsPrefix self.old.mark.log self.new.mark.log }
-        ensures seat { (self.new.mark.book ≡ self.old.mark.book) × (self.new.mark.seat ≡ self.old.mark.seat) }
-        ensures same { (self.new.group.now ≡ self.old.group.now) × (self.new.id ≡ self.old.id)
-            × (self.new.last ≡ self.old.last) }
+        ensures stays { Stays S.reused self.old self.new }
     {
-        let at = self.point(tries)?;
-        let polled = watch.ask(self.group, &at, tries);
-        self.finish();
+        let tx = self.read(tries)?;
+        let polled = watch.ask(&tx);
+        tx.close();
         polled
     }
 }

@@ -1,18 +1,19 @@
 -- What a commit names has stamps below the commit's own.
 use Rattle.std.proofs.Common.{◌≡◌, ◌<◌, ◌≤◌, ◌+◌, ℕ, inl, inr, List, [], ◌∷◌, ◌++◌, length, ap, sym, subst, arith}
-use Rattle.std.proofs.Common.{◌∙◌}
+use Rattle.std.proofs.Common.{Some, ◌∙◌}
 use mathlib.Core.List.{IsPrefix}
 use Rattle.std.proofs.lemmas.List.{length-append}
 use Rattle.std.proofs.lemmas.List.Elements.{Contains-append_cases}
 use Rattle.group_history.specs.declared.refs.Ref.{Ref}
 use Rattle.group_history.specs.Refs.{stamp_of}
-use Rattle.group_history.specs.Spelling.{Contents, Version}
+use Rattle.group_history.specs.Map.{Entries}
+use Rattle.group_history.specs.Spelling.{Contents, Version, map_at}
 use Rattle.group_history.proofs.Lists.{only_one}
 use Rattle.map_chunks.specs.Drafts.{Drafted, AreBelow}
 use Rattle.map_chunks.specs.Places.{with_nodes}
 use Rattle.map_chunks.proofs.DraftLemmas.{below-none}
 use Rattle.map_tree.proofs.BelowLemmas.{version-within, map-within, length-with}
-use Rattle.commits.proofs.Snapshots.{begins}
+use Rattle.commit_graph.proofs.Snapshots.{begins}
 use Rattle.replays.specs.Chaining.{HasTip}
 use Rattle.replays.specs.declared.tips.Tip.{Tip}
 
@@ -41,13 +42,20 @@ pub chain-behind : (cs : Contents) (d : Drafted) (tip : Tip) (v : Version) → l
 chain-behind cs d tip v l h = subst (λ n. AreBelow n (tip.commit ∷ tip.snapshot ∷ [])) (length-behind cs d l)
     (chain-within (with_nodes cs d.nodes) tip v h)
 
+-- with this root
+pub root-behind : (cs : Contents) (d : Drafted) (root : Ref) (m : Entries) (tip : Tip) (v : Version)
+    → length cs ≡ d.first → map_at (with_nodes cs d.nodes) (stamp_of root) ≡ Some m
+    → HasTip (with_nodes cs d.nodes) tip v
+    → AreBelow (d.first + length d.nodes) (root ∷ tip.commit ∷ tip.snapshot ∷ [])
+root-behind cs d root m tip v l is h =
+    let low = map-within (with_nodes cs d.nodes) (stamp_of root) m is in
+    below-cons (d.first + length d.nodes) root (tip.commit ∷ tip.snapshot ∷ [])
+    (omega (arith, low, length-behind cs d l)) (chain-behind cs d tip v l h)
+
 pub tip-behind : (cs : Contents) (d : Drafted) (tip : Tip) (v : Version) → length cs ≡ d.first
     → HasTip (with_nodes cs d.nodes) tip v
     → AreBelow (d.first + length d.nodes) (tip.root ∷ tip.commit ∷ tip.snapshot ∷ [])
-tip-behind cs d tip v l h =
-    let root = map-within (with_nodes cs d.nodes) (stamp_of tip.root) v.read h.1 in
-    below-cons (d.first + length d.nodes) tip.root (tip.commit ∷ tip.snapshot ∷ [])
-    (omega (arith, root, length-behind cs d l)) (chain-behind cs d tip v l h)
+tip-behind cs d tip v l h = root-behind cs d tip.root v.read tip v l h.1 h
 
 -- the next name of a draft that grew is no lower
 pub drafts-grown : (old new : Drafted) → new.first ≡ old.first → IsPrefix old.nodes new.nodes

@@ -25,7 +25,7 @@ use Rattle.group_history.specs.State.{State, Ids, opening, pulled_state}
 use Rattle.group_history.proofs.Spellings.{spelled-newest, length-spelled}
 use Rattle.group_history.proofs.TextMaps.{empty_map}
 use Rattle.map_chunks.specs.Places.{with_nodes}
-use Rattle.commits.proofs.Spelled.{map-grown}
+use Rattle.commit_graph.proofs.Spelled.{map-grown}
 use Rattle.replays.specs.Chaining.{HasTip}
 use Rattle.replays.specs.declared.tips.Tip.{Tip}
 

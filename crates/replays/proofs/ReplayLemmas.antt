@@ -15,7 +15,7 @@ use Rattle.group_history.specs.State.{State, state, view_of, replayed, replayed_
 use Rattle.group_history.proofs.Replays.{replayed-append}
 use Rattle.map_chunks.specs.Places.{with_nodes}
 use Rattle.map_nodes.proofs.FreezeLemmas.{nodes-grown}
-use Rattle.commits.proofs.Spelled.{version-grown, snapshot-grown, map-grown}
+use Rattle.commit_graph.proofs.Spelled.{version-grown, snapshot-grown, map-grown}
 use Rattle.replays.specs.Chaining.{HasTip}
 use Rattle.replays.specs.Inside.Pending.{with_more}
 use Rattle.replays.specs.declared.tips.Tip.{Tip}

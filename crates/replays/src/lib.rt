@@ -1,7 +1,7 @@
 //! New commits of a client group, drafted over whatever shows the nodes that are placed.
 //!
-//! A mutation extends the newest map by one run of its mutator (`mutated`). A pull that is applied patches
-//! the pulled map, and runs each mutation that stays pending on what those before it left (`rebased`).
+//! A mutation extends the newest map by one run of its mutator (`draft_mutation`). A pull that is applied patches
+//! the pulled map, and runs each mutation that stays pending on what those before it left (`draft_rebase`).
 //! Both only read what is placed, and write what is new into a `Draft` behind it, the chunks and the
 //! commits: so a refused one has changed no group.
 //!
@@ -17,7 +17,8 @@ mod pulls;
 mod runs;
 mod tips;
 
-pub use locals::mutated;
-pub use looks::{base_at, pending_at, tip_at};
-pub use pulls::{RebasedHead, judged, rebased};
+pub use locals::draft_mutation;
+pub use looks::{Look, base_at, look_at, pending_at};
+pub use pulls::{RebasedHead, draft_rebase, pull_outcome};
+pub use runs::Setting;
 pub use tips::{Tip, add_closing, add_opening};

@@ -1,5 +1,5 @@
 //! Local commits: a new mutation, and pending ones that are replayed.
-ghost use Rattle.std.specs.Prelude.{◌≡◌, ◌⊎◌, ◌<◌, ◌≤◌, false, length, Some, Ok, Err, IfOk, IfErr, IfSome, OnOk};
+ghost use Rattle.std.specs.Prelude.{◌≡◌, ◌⊎◌, ◌<◌, false, length, Some, Ok, Err, IfOk, IfErr, IfSome, OnOk};
 ghost use mathlib.Core.List.{IsPrefix};
 ghost use Rattle.group_history.specs.Map.{Entries};
 ghost use Rattle.group_history.specs.Meaning.{Meaning, left_by, meaning_of};
@@ -16,25 +16,22 @@ ghost use Rattle.replays.specs.Inside.Pending.{with_more};
 ghost use Rattle.replays.specs.Inside.Running.{HasRun};
 ghost use Rattle.replays.specs.Refusing.{RefusesFor, StopsAs};
 
-use crate::runs::{Run, run_on};
+use crate::runs::{Run, Setting, run_on};
 use crate::tips::{Tip, add_local, add_over};
 use group_history::{Mutation, Mutators, Ran, Ref, Refusal, Step};
 use map_tree::{Chunks, Draft, Tree};
-use std::alloc::Global;
 use transactions::Known;
 
 /// Drafts a commit of a new mutation. Refused with NoMutator or Refused where its mutator isn't done at
 /// the newest map.
-pub fn mutated<C: Chunks + Copy, K: Known, M: Mutators>(
-    alloc: Global,
-    chunks: C,
+pub fn draft_mutation<C: Chunks + Copy, K: Known, M: Mutators>(
+    setting: &Setting<'_, C, M>,
     draft: &mut Draft,
     tip: Tip,
-    mutators: &M,
     mutation: Mutation,
 ) -> Result<Ref, Refusal>
-    requires known { C.contents chunks ≡ K.known }
-    requires places { (at : Reference) → C.places chunks at }
+    requires known { C.contents setting.now.chunks ≡ K.known }
+    requires places { (at : Reference) → C.places setting.now.chunks at }
     requires behind { draft.old.first ≡ length K.known }
     requires tip { (s : State) × IsTip M.means (with_nodes K.known draft.old.nodes) tip s }
     ensures ok { (s : State) → IsTip M.means (with_nodes K.known draft.old.nodes) tip s → s.closed ≡ false
@@ -46,21 +43,14 @@ pub fn mutated<C: Chunks + Copy, K: Known, M: Mutators>(
     ensures some { IfOk result (λ _. 0 < length draft.new.nodes) }
     ensures first { draft.new.first ≡ draft.old.first }
 {
-    let run = run_on::<C, K, M>(
-        alloc,
-        chunks,
-        draft,
-        Tree::at(tip.root),
-        mutators,
-        &mutation,
-    )?;
-    let tree = done(run)?;
-    let after = add_local(alloc, draft, tree, tip, mutation)?;
+    let run = run_on::<C, K, M>(setting, draft, Tree::at(tip.root), &mutation)?;
+    let tree = tree_if_done(run)?;
+    let after = add_local(setting.alloc, draft, tree, tip, mutation)?;
     Ok(after.commit)
 }
 
 // The tree that a run left, if it was done; else why its mutation is refused.
-fn done(run: Run) -> Result<Tree, Refusal>
+fn tree_if_done(run: Run) -> Result<Tree, Refusal>
     ensures ok { (contents : Contents) (meaning : Meaning) → HasRun contents meaning run
         → IfOk result (λ tree. (m : Entries) × (tree_map contents tree ≡ Some m) × (map_of meaning ≡ Ok m)) }
     ensures err { (contents : Contents) (meaning : Meaning) → HasRun contents meaning run
@@ -75,7 +65,7 @@ fn done(run: Run) -> Result<Tree, Refusal>
 }
 
 // The tree that a run left, if it was done; else the root from which it began.
-fn kept(run: Run, root: Ref) -> Tree
+fn tree_or_root(run: Run, root: Ref) -> Tree
     ensures { (contents : Contents) (m : Entries) (meaning : Meaning) → map_at contents (stamp_of root) ≡ Some m
         → HasRun contents meaning run → tree_map contents result ≡ Some (left_by meaning m) }
 {
@@ -88,15 +78,13 @@ fn kept(run: Run, root: Ref) -> Tree
 
 // One more mutation. Where its mutator isn't done, its commit has the map of the commit before it.
 fn replay_one<C: Chunks + Copy, K: Known, M: Mutators>(
-    alloc: Global,
-    chunks: C,
+    setting: &Setting<'_, C, M>,
     draft: &mut Draft,
     tip: Tip,
-    mutators: &M,
     mutation: &Mutation,
 ) -> Result<Tip, Refusal>
-    requires known { C.contents chunks ≡ K.known }
-    requires places { (at : Reference) → C.places chunks at }
+    requires known { C.contents setting.now.chunks ≡ K.known }
+    requires places { (at : Reference) → C.places setting.now.chunks at }
     requires behind { draft.old.first ≡ length K.known }
     requires tip { (s : State) × IsTip M.means (with_nodes K.known draft.old.nodes) tip s }
     ensures tip { (s : State) → IsTip M.means (with_nodes K.known draft.old.nodes) tip s → s.closed ≡ false
@@ -106,23 +94,22 @@ fn replay_one<C: Chunks + Copy, K: Known, M: Mutators>(
     ensures first { draft.new.first ≡ draft.old.first }
     ensures err { IfErr result (λ e. (e ≡ NoMemory) ⊎ (e ≡ Stamps) ⊎ StopsAs C.stops e) }
 {
-    let mutation_kept = mutation.clone()?;
-    let run = run_on::<C, K, M>(alloc, chunks, draft, Tree::at(tip.root), mutators, mutation)?;
-    let after = add_local(alloc, draft, kept(run, tip.root), tip, mutation_kept)?;
+    let copy = mutation.clone()?;
+    let run = run_on::<C, K, M>(setting, draft, Tree::at(tip.root), mutation)?;
+    let tree = tree_or_root(run, tip.root);
+    let after = add_local(setting.alloc, draft, tree, tip, copy)?;
     Ok(after)
 }
 
 // The map that the mutations leave, run in order on the map of a root; none where a mutator of them isn't done.
 fn run_all<C: Chunks + Copy, K: Known, M: Mutators>(
-    alloc: Global,
-    chunks: C,
+    setting: &Setting<'_, C, M>,
     draft: &Draft,
     root: Ref,
-    mutators: &M,
     pending: &[Mutation],
 ) -> Result<Option<Tree>, Refusal>
-    requires known { C.contents chunks ≡ K.known }
-    requires places { (at : Reference) → C.places chunks at }
+    requires known { C.contents setting.now.chunks ≡ K.known }
+    requires places { (at : Reference) → C.places setting.now.chunks at }
     requires behind { draft.now.first ≡ length K.known }
     requires map { (m : Entries) × (map_at (with_nodes K.known draft.now.nodes) (stamp_of root) ≡ Some m) }
     ensures left { (m : Entries) → map_at (with_nodes K.known draft.now.nodes) (stamp_of root) ≡ Some m
@@ -132,8 +119,8 @@ fn run_all<C: Chunks + Copy, K: Known, M: Mutators>(
 {
     let mut tree = Tree::at(root);
     for mutation in pending {
-        let run = run_on::<C, K, M>(alloc, chunks, draft, tree, mutators, mutation)?;
-        let Ok(left) = done(run) else {
+        let run = run_on::<C, K, M>(setting, draft, tree, mutation)?;
+        let Ok(left) = tree_if_done(run) else {
             return Ok(None);
         };
         tree = left;
@@ -160,56 +147,55 @@ fn add_unread<K: Known>(draft: &mut Draft, basis: Tip, before: &[Mutation]) -> R
     Ok(tip)
 }
 
-// Drafts what a tree has new, and a commit for each of the mutations, in order, of which the last has its map.
+// A commit for each of the mutations, in order. The last has the map of the root, the others that of the basis.
 fn add_all<K: Known>(
-    alloc: Global,
     draft: &mut Draft,
-    tree: Tree,
     basis: Tip,
     before: &[Mutation],
     last: &Mutation,
+    root: Ref,
 ) -> Result<Tip, Refusal>
     requires behind { draft.old.first ≡ length K.known }
     requires tip { (v : Version) × HasTip (with_nodes K.known draft.old.nodes) basis v × (v.state.closed ≡ false) }
-    requires map { (m : Entries) × (tree_map (with_nodes K.known draft.old.nodes) tree ≡ Some m) }
+    requires map { (m : Entries) × (map_at (with_nodes K.known draft.old.nodes) (stamp_of root) ≡ Some m) }
     ensures tip { (v : Version) (m : Entries) → HasTip (with_nodes K.known draft.old.nodes) basis v
-        → v.state.closed ≡ false → tree_map (with_nodes K.known draft.old.nodes) tree ≡ Some m
+        → v.state.closed ≡ false → map_at (with_nodes K.known draft.old.nodes) (stamp_of root) ≡ Some m
         → IfOk result (λ after. HasTip (with_nodes K.known draft.new.nodes) after
         (record { state = after_mutate (with_more v.state before.now) last.now; read = m })) }
     ensures some { IfOk result (λ _. 0 < length draft.new.nodes) }
     ensures first { draft.new.first ≡ draft.old.first }
     ensures why { IfErr result (λ e. (e ≡ NoMemory) ⊎ (e ≡ Stamps)) }
 {
-    let root = tree.freeze(alloc, draft)?;
     let tip = add_unread::<K>(draft, basis, before)?;
     let mutation = last.clone()?;
     add_over(draft, tip, root, Step::Local(mutation))
 }
 
-// The halves of at least two mutations, one after the other.
+// One mutation on a tree of its own, and of more the halves, one after the other.
 #[cycle(replaying)]
-fn replay_halves<C: Chunks + Copy, K: Known, M: Mutators>(
-    alloc: Global,
-    chunks: C,
+fn replay_parts<C: Chunks + Copy, K: Known, M: Mutators>(
+    setting: &Setting<'_, C, M>,
     draft: &mut Draft,
     basis: Tip,
-    mutators: &M,
     pending: &[Mutation],
 ) -> Result<Tip, Refusal>
-    requires known { C.contents chunks ≡ K.known }
-    requires places { (at : Reference) → C.places chunks at }
+    requires known { C.contents setting.now.chunks ≡ K.known }
+    requires places { (at : Reference) → C.places setting.now.chunks at }
     requires behind { draft.old.first ≡ length K.known }
     requires tip { (s : State) × IsTip M.means (with_nodes K.known draft.old.nodes) basis s × (s.closed ≡ false) }
-    requires two { 2 ≤ length pending.now }
+    requires one { 0 < length pending.now }
     ensures tip { (s : State) → IsTip M.means (with_nodes K.known draft.old.nodes) basis s → s.closed ≡ false
         → IfOk result (λ after. IsTip M.means (with_nodes K.known draft.new.nodes) after (with_more s pending.now)) }
     ensures some { 0 < length draft.old.nodes → OnOk result (0 < length draft.new.nodes) }
     ensures first { draft.new.first ≡ draft.old.first }
     ensures err { IfErr result (λ e. (e ≡ NoMemory) ⊎ (e ≡ Stamps) ⊎ StopsAs C.stops e) }
 {
+    if let [mutation] = pending {
+        return replay_one::<C, K, M>(setting, draft, basis, mutation);
+    }
     let (front, back) = pending.split_at(pending.len() / 2);
-    let middle = replayed::<C, K, M>(alloc, chunks, draft, basis, mutators, front)?;
-    replayed::<C, K, M>(alloc, chunks, draft, middle, mutators, back)
+    let middle = replay::<C, K, M>(setting, draft, basis, front)?;
+    replay::<C, K, M>(setting, draft, middle, back)
 }
 
 /// Drafts a commit for each of the mutations, in order. They are run on one tree, and the last commit alone has its
@@ -217,16 +203,14 @@ fn replay_halves<C: Chunks + Copy, K: Known, M: Mutators>(
 /// in that tree. So where one is among them, the halves are replayed one after the other in this way, down to one
 /// mutation on a tree of its own.
 #[cycle(replaying)]
-pub fn replayed<C: Chunks + Copy, K: Known, M: Mutators>(
-    alloc: Global,
-    chunks: C,
+pub fn replay<C: Chunks + Copy, K: Known, M: Mutators>(
+    setting: &Setting<'_, C, M>,
     draft: &mut Draft,
     basis: Tip,
-    mutators: &M,
     pending: &[Mutation],
 ) -> Result<Tip, Refusal>
-    requires known { C.contents chunks ≡ K.known }
-    requires places { (at : Reference) → C.places chunks at }
+    requires known { C.contents setting.now.chunks ≡ K.known }
+    requires places { (at : Reference) → C.places setting.now.chunks at }
     requires behind { draft.old.first ≡ length K.known }
     requires tip { (s : State) × IsTip M.means (with_nodes K.known draft.old.nodes) basis s × (s.closed ≡ false) }
     ensures tip { (s : State) → IsTip M.means (with_nodes K.known draft.old.nodes) basis s → s.closed ≡ false
@@ -238,11 +222,9 @@ pub fn replayed<C: Chunks + Copy, K: Known, M: Mutators>(
     let Some((last, before)) = pending.split_last() else {
         return Ok(basis);
     };
-    if let Some(tree) = run_all::<C, K, M>(alloc, chunks, draft, basis.root, mutators, pending)? {
-        return add_all::<K>(alloc, draft, tree, basis, before, last);
+    if let Some(tree) = run_all::<C, K, M>(setting, draft, basis.root, pending)? {
+        let root = tree.freeze(setting.alloc, draft)?;
+        return add_all::<K>(draft, basis, before, last, root);
     }
-    if before.is_empty() {
-        return replay_one::<C, K, M>(alloc, chunks, draft, basis, mutators, last);
-    }
-    replay_halves::<C, K, M>(alloc, chunks, draft, basis, mutators, pending)
+    replay_parts::<C, K, M>(setting, draft, basis, pending)
 }

@@ -14,10 +14,11 @@ ghost use Rattle.map_tree.specs.Trees.{tree_map, tree_places};
 ghost use Rattle.replays.specs.Chaining.{HasTip};
 ghost use Rattle.replays.specs.Refusing.{StopsAs};
 
-use crate::locals::replayed;
+use crate::locals::replay;
 use crate::patches::patched_map;
+use crate::runs::Setting;
 use crate::tips::{Tip, add_snapshot};
-use commits::Base;
+use commit_graph::Base;
 use group_history::{
     ConfirmedIds, Cookie, Ended, Mutation, Mutators, PullOk, Ref, Refusal, cookie_cmp,
     is_going_back, is_saying_nothing, keep_unconfirmed,
@@ -35,7 +36,7 @@ pub struct RebasedHead {
 }
 
 /// How a pull ends that brought no error, by the state's cookie and confirmed ids.
-pub fn judged(base: &Base, ticket: &Cookie, pull: &PullOk) -> Result<Ended, Refusal>
+pub fn pull_outcome(base: &Base, ticket: &Cookie, pull: &PullOk) -> Result<Ended, Refusal>
     ensures reply { (s : State) → s.cookie ≡ base.now.cookie → s.confirmed ≡ base.now.confirmed
         → result ≡ end_at s ticket.now.text pull.now }
 {
@@ -83,16 +84,15 @@ fn add_answered(
 }
 
 // Drafts the snapshot after a pull: the patched map, under the response's cookie and the ids confirmed then.
-fn add_patched<C: Chunks + Copy, K: Known>(
-    alloc: Global,
-    chunks: C,
+fn add_patched<C: Chunks + Copy, K: Known, M: Mutators>(
+    setting: &Setting<'_, C, M>,
     draft: &mut Draft,
     root: Ref,
     pull: &PullOk,
     confirmed: ConfirmedIds,
 ) -> Result<Tip, Refusal>
-    requires known { C.contents chunks ≡ K.known }
-    requires places { (at : Reference) → C.places chunks at }
+    requires known { C.contents setting.now.chunks ≡ K.known }
+    requires places { (at : Reference) → C.places setting.now.chunks at }
     requires behind { draft.old.first ≡ length K.known }
     requires map { IsSome (map_at (with_nodes K.known draft.old.nodes) (stamp_of root)) }
     ensures tip { (m : Entries) → map_at (with_nodes K.known draft.old.nodes) (stamp_of root) ≡ Some m
@@ -105,8 +105,8 @@ fn add_patched<C: Chunks + Copy, K: Known>(
     ensures first { draft.new.first ≡ draft.old.first }
     ensures err { IfErr result (λ e. (e ≡ NoMemory) ⊎ (e ≡ Stamps) ⊎ StopsAs C.stops e) }
 {
-    let tree = patched_map::<C, K>(alloc, chunks, draft, root, pull.patch())?;
-    let tip = add_answered(alloc, draft, tree, pull, confirmed)?;
+    let tree = patched_map::<C, K>(setting.alloc, setting.chunks, draft, root, pull.patch())?;
+    let tip = add_answered(setting.alloc, draft, tree, pull, confirmed)?;
     Ok(tip)
 }
 
@@ -130,17 +130,15 @@ fn after_changes(
 /// Drafts the commits of the state after a pull: a snapshot of the patched map, and on it the mutations
 /// that stay pending, replayed. A patch without operations shares the whole pulled map, and a response
 /// without changes the confirmed ids.
-pub fn rebased<C: Chunks + Copy, K: Known, M: Mutators>(
-    alloc: Global,
-    chunks: C,
+pub fn draft_rebase<C: Chunks + Copy, K: Known, M: Mutators>(
+    setting: &Setting<'_, C, M>,
     draft: &mut Draft,
-    mutators: &M,
     base: &Base,
     pending: &[Mutation],
     pull: &PullOk,
 ) -> Result<RebasedHead, Refusal>
-    requires known { C.contents chunks ≡ K.known }
-    requires places { (at : Reference) → C.places chunks at }
+    requires known { C.contents setting.now.chunks ≡ K.known }
+    requires places { (at : Reference) → C.places setting.now.chunks at }
     requires behind { draft.old.first ≡ length K.known }
     requires map { IsSome (map_at (with_nodes K.known draft.old.nodes) (stamp_of base.now.pulled)) }
     ensures spelled { (s : State) → map_at (with_nodes K.known draft.old.nodes) (stamp_of base.now.pulled)
@@ -154,9 +152,9 @@ pub fn rebased<C: Chunks + Copy, K: Known, M: Mutators>(
     ensures first { draft.new.first ≡ draft.old.first }
     ensures err { IfErr result (λ e. (e ≡ NoMemory) ⊎ (e ≡ Stamps) ⊎ StopsAs C.stops e) }
 {
-    let (confirmed, left) = after_changes(alloc, base, pending, pull)?;
-    let snapshot = add_patched::<C, K>(alloc, chunks, draft, base.pulled, pull, confirmed)?;
-    let tip = replayed::<C, K, M>(alloc, chunks, draft, snapshot, mutators, &left)?;
+    let (confirmed, left) = after_changes(setting.alloc, base, pending, pull)?;
+    let snapshot = add_patched::<C, K, M>(setting, draft, base.pulled, pull, confirmed)?;
+    let tip = replay::<C, K, M>(setting, draft, snapshot, &left)?;
     Ok(RebasedHead {
         commit: tip.commit,
         left: left.len(),

@@ -18,6 +18,14 @@ use std::alloc::Global;
 use std::marker::Brand;
 use transactions::{Fixed, Known, Staged, WriteTx};
 
+/// What new commits are made with: where memory is taken from, what shows the nodes that are placed, and the mutators.
+#[derive(Drop)]
+pub struct Setting<'a, C, M> {
+    pub alloc: Global,
+    pub chunks: C,
+    pub mutators: &'a M,
+}
+
 /// How a run ended, and the map that it left; what a refusing mutator wrote is in it.
 #[derive(Drop)]
 pub struct Run {
@@ -69,21 +77,19 @@ fn run_known<C: Chunks + Drop, K: Known, M: Mutators>(
 
 /// Runs a mutation's mutator on a tree, for the mutation's reason.
 pub fn run_on<'a, C: Chunks + Copy, K: Known, M: Mutators>(
-    alloc: Global,
-    chunks: C,
+    setting: &Setting<'_, C, M>,
     draft: &'a Draft,
     tree: Tree,
-    mutators: &M,
     mutation: &Mutation,
 ) -> Result<Run, Refusal>
-    requires known { C.contents chunks ≡ K.known }
-    requires places { (at : Reference) → C.places chunks at }
+    requires known { C.contents setting.now.chunks ≡ K.known }
+    requires places { (at : Reference) → C.places setting.now.chunks at }
     requires behind { draft.now.first ≡ length K.known }
     requires map { IsSome (tree_map (with_nodes K.known draft.now.nodes) tree) }
     ensures ran { (m : Entries) → tree_map (with_nodes K.known draft.now.nodes) tree ≡ Some m
         → IfOk result (λ run. HasRun (with_nodes K.known draft.now.nodes) (meaning_of M.means mutation.now m) run) }
     ensures err { IfErr result (λ e. (e ≡ NoMemory) ⊎ StopsAs C.stops e) }
 {
-    let staged = Staged::<'a, C, K>::new(chunks, draft);
-    run_known::<Staged<'a, C, K>, Brand, M>(alloc, staged, tree, mutators, mutation)
+    let staged = Staged::<'a, C, K>::new(setting.chunks, draft);
+    run_known::<Staged<'a, C, K>, Brand, M>(setting.alloc, staged, tree, setting.mutators, mutation)
 }

@@ -6,7 +6,7 @@ ghost use Rattle.chunk_slots.specs.Seats.{IsIdle};
 
 use crate::bare::{Nobody, empty_leaf};
 use chunk_slots::{Missed, Store};
-use commits::Shared;
+use commit_graph::Shared;
 use group_history::{Chunk, Node, Ref, Refusal};
 use head_word::Mark;
 use map_chunks::Draft;

@@ -7,7 +7,7 @@ use Rattle.group_history.specs.declared.refs.Ref.{Ref}
 use Rattle.group_history.specs.Naming.{content_of}
 use Rattle.group_history.specs.Spelling.{Contents, Version, version_at}
 use Rattle.map_chunks.specs.Places.{with_nodes}
-use Rattle.commits.proofs.Chained.{version_stays}
+use Rattle.commit_graph.proofs.Chained.{version_stays}
 use Rattle.map_chunks.specs.Drafts.{Drafted}
 
 -- an empty draft adds nothing

@@ -15,8 +15,8 @@ use Rattle.group_history.proofs.Spellings.{segment-content, version-content}
 use Rattle.group_history.proofs.Lists.{prefix_trans, only_one}
 use Rattle.map_chunks.specs.Places.{AreAll}
 use Rattle.map_chunks.proofs.Shelves.{some_of}
-use Rattle.commits.proofs.Spelled.{segment-grown, version-grown}
-use Rattle.commits.proofs.Chained.{get_stays}
+use Rattle.commit_graph.proofs.Spelled.{segment-grown, version-grown}
+use Rattle.commit_graph.proofs.Chained.{get_stays}
 
 -- what lies at a stamp lies there in a longer list too
 same_content : (ns more : Contents) (k : ℕ) (n m : Node ℕ) → IsPrefix ns more → slice_get ns k ≡ Some n

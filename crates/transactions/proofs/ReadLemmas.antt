@@ -3,7 +3,7 @@ use Rattle.std.proofs.Common.{◌≡◌, ℕ, Option, Some, None, refl, sym, ap,
 use Rattle.std.specs.Prelude.{IsSome}
 use mathlib.Core.List.{IsPrefix}
 use Rattle.group_history.specs.Spelling.{Contents, Version, version_at, map_at}
-use Rattle.commits.proofs.Spelled.{version-grown, map-grown}
+use Rattle.commit_graph.proofs.Spelled.{version-grown, map-grown}
 use Rattle.transactions.specs.Reads.{version_or, read_version, IsRead}
 
 pub some_version : (o : Option Version) → IsSome o → o ≡ Some (version_or o)

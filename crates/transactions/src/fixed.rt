@@ -8,7 +8,7 @@ ghost use Rattle.std.specs.Coded.{Coded-set, codes};
 ghost use Rattle.group_history.specs.Spelling.{Contents};
 ghost use Rattle.group_history.specs.State.{ids_coded};
 
-use commits::Nodes;
+use commit_graph::Nodes;
 use group_history::{Ref, Stop};
 use map_tree::Chunks;
 use std::marker::{Brand, PhantomData};

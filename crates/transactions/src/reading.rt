@@ -13,7 +13,7 @@ ghost use Rattle.map_chunks.specs.Places.{Grows};
 ghost use Rattle.map_chunks.specs.Sinks.{HasMore};
 ghost use Rattle.group_history.specs.declared.mutators.Stop.TheVariants.{NoMemory};
 
-use commits::{Nodes, closed_of, cookie_of, read_root, walk};
+use commit_graph::{Nodes, closed_of, cookie_of, read_root, walk};
 use group_history::{Cookie, Json, Mutation, Ref, Scan, Stop, Text};
 use map_tree::{TakesRows, Tree};
 use std::alloc::Global;

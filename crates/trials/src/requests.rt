@@ -3,7 +3,7 @@ use crate::calls::Turn;
 use crate::marks::{begins, ends};
 use crate::texts::cookie_of;
 use group_history::{
-    Change, ChangeReply, Cookie, Json, Mutation, Ref, Refusal, Text, read_value, record_laws,
+    Change, Cookie, Json, Mutation, Ref, Refusal, Reply, Text, read_value, record_laws,
     worked_examples,
 };
 use head_word::Head;
@@ -170,11 +170,11 @@ pub(crate) fn changed(alloc: Global, name: &str) -> Result<String, Refusal> {
     Ok(reply_text(alloc, reply)?)
 }
 
-fn reply_text(alloc: Global, reply: ChangeReply) -> Result<String, AllocError> {
+fn reply_text(alloc: Global, reply: Reply) -> Result<String, AllocError> {
     match reply {
-        ChangeReply::Id(id) => format!(in alloc; "id {id}"),
-        ChangeReply::Ended(_) => String::from_str(alloc, "an end of a pull"),
-        ChangeReply::StateNotFound => String::from_str(alloc, "StateNotFound"),
+        Reply::Id(id) => format!(in alloc; "id {id}"),
+        Reply::Ended(_) => String::from_str(alloc, "an end of a pull"),
+        Reply::StateNotFound => String::from_str(alloc, "StateNotFound"),
     }
 }
 

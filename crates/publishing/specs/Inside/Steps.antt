@@ -1,13 +1,26 @@
--- One node of a draft after the other.
-use Rattle.std.specs.Prelude.{◌≡◌, ℕ, List, [], ◌∷◌, ◌++◌, length}
+-- One step of a publisher after the other: of its seat, and of its draft.
+use Rattle.std.specs.Prelude.{◌≡◌, ◌⊎◌, ℕ, List, [], ◌∷◌, ◌++◌, length}
 use mathlib.Core.List.{IsPrefix}
 use Rattle.group_history.specs.declared.nodes.Node.{Node}
 use Rattle.group_history.specs.declared.refs.Ref.{Ref}
+use Rattle.group_history.specs.declared.refusals.Refusal.{Refusal}
+use Rattle.group_history.specs.declared.refusals.Refusal.TheVariants as refusal
 use Rattle.group_history.specs.Refs.{stamp_of}
 use Rattle.group_history.specs.Spelling.{Contents}
 use Rattle.reader_claims.specs.declared.view.View.{View}
+use Rattle.reader_claims.specs.Machine.{Moves}
+use Rattle.commit_graph.specs.Seats.{StaysHeld}
 use Rattle.publishing.specs.Stamped.{drawn_as}
 use Rattle.publishing.specs.Retiring.{SettlesAll}
+
+-- the seat went from v to u as the claims table allows, and a pin that was held is held still
+pub record Steps (v u : View) : Type 0 where
+  pub moves : Moves v u
+  pub held : StaysHeld v u
+
+-- why a node gets no place, for which a slot was taken
+abbrev pub MayRefuse : Type 0 → Refusal → Type 0
+MayRefuse reused e = (e ≡ refusal.NoMemory) ⊎ ((reused × (e ≡ refusal.Busy)) ⊎ ((reused → ⊥) × (e ≡ refusal.Full)))
 
 -- in contents that begin so, the nodes have the stamps from `first` on
 abbrev pub AreDrawn : ℕ → ℕ → List (Node Ref) → Contents → Type 0

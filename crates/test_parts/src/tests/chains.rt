@@ -17,7 +17,7 @@ ghost use Rattle.group_history.specs.declared.mutations.Mutation.{Mutation as Mu
 ghost use Rattle.group_history.specs.declared.refs.Ref.{Ref as Reference};
 ghost use Rattle.map_chunks.specs.Drafts.{AreBelow};
 
-use commits::{
+use commit_graph::{
     CommitState, TakesMutations, VecNodes, closed_of, cookie_of, dropped, hand_pending, last_id_of,
     read_root, state_of, walk,
 };

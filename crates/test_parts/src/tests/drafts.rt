@@ -10,7 +10,7 @@ ghost use Rattle.test_group.specs.Trials.{bare_draft, PlacesBare};
 
 use answered::Published;
 use chunk_slots::{Append, Arena, Store};
-use commits::{Shared, StoreNodes, read_root};
+use commit_graph::{Shared, StoreNodes, read_root};
 use group_history::{Chunk, Cookie, Node, Ref, Refusal, Stop};
 use head_word::Mark;
 use map_chunks::Draft;

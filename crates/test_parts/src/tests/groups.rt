@@ -6,7 +6,7 @@ ghost use Rattle.group_history.specs.Refs.{stamp_of};
 ghost use Rattle.group_history.specs.Spelling.{map_at, version_at};
 
 use super::chains::{at, example};
-use commits::{LentCommit, Nodes, VecNodes, cookie_of, dropped};
+use commit_graph::{LentCommit, Nodes, VecNodes, cookie_of, dropped};
 use group_history::{Json, Mutation, PullOk, Ref, Refusal, Response, Stop, Text};
 use map_tree::{Chunks, Lent, Shelf};
 use pull_patch::read_response;

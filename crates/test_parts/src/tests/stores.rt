@@ -5,7 +5,7 @@ ghost use Rattle.head_word.specs.Marks.{HasSeat};
 ghost use Rattle.chunk_slots.specs.Seats.{IsIdle};
 
 use chunk_slots::{Append, Arena, Missed, Placed, Store};
-use commits::Shared;
+use commit_graph::Shared;
 use counted_slot::Counted;
 use group_history::{Commit, Kind, Node, Ref, Refusal};
 use head_word::Mark;

@@ -6,7 +6,7 @@ ghost use Rattle.head_word.specs.Marks.{HasSeat};
 ghost use Rattle.chunk_slots.specs.Seats.{IsIdle};
 
 use chunk_slots::{Arena, Store};
-use commits::Shared;
+use commit_graph::Shared;
 use group_history::Refusal;
 use head_word::{Head, Mark};
 use reader_claims::{Claims, Kind};

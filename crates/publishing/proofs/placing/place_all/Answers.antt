@@ -2,11 +2,10 @@ use Rattle.std.proofs.Common.{◌≡◌, ◌∷◌, ◌++◌, [], length, refl, 
 use Rattle.std.proofs.Common.{length-append}
 use Rattle.std.specs.Vec.Iter.{into_iter_items}
 use Rattle.head_word.specs.Books.{drawn}
-use Rattle.reader_claims.specs.Machine.{still}
-use Rattle.reader_claims.proofs.Moving.{moves_moves}
 use Rattle.publishing.specs.Retiring.{SettlesAll}
 use Rattle.publishing.specs.Stamped.{AreFrom}
 use Rattle.publishing.proofs.Numbers.{from_more, turn_drawn}
+use Rattle.publishing.proofs.Stepping.{no_step, steps_steps}
 use Rattle.publishing.proofs.placing.place_all.Goals as goal
 
 pub loop-node-init : goal.loop-node-init
@@ -21,32 +20,32 @@ loop-node-init g c =
       taken = c.requires.taken;
       placed = ap length none;
       left = omega (arith, c.requires.slots);
-      stamps = subst (AreFrom c.args.first) (sym none) tt;
+      stamps = subst (AreFrom c.args.to.now.first) (sym none) tt;
       settled = λ r. subst (λ ats. SettlesAll v ats v) (sym none) (refl, refl);
-      moves = λ r. still v;
+      steps = λ r. no_step v;
     }
 
-pub place_named-requires-clause-drawn : goal.place_named-requires-clause-drawn
-place_named-requires-clause-drawn g c κs within =
+pub place_next-requires-clause-drawn : goal.place_next-requires-clause-drawn
+place_next-requires-clause-drawn g c κs within =
     let is = c.loop-node.invariant in
     let rest = into_iter_items c.next.new.self in
     let node = c.in-Some.node in
     let whole : c.args.nodes.items ≡ c.loop-node.yielded
     ++ (node ∷ rest) = is.whole ∙ ap (λ w. c.loop-node.yielded ++ w) c.in-Some.ensures.steps.0 in
-    turn_drawn c.args.from c.args.first c.args.nodes.items c.loop-node.yielded node rest c.loop-node.refs.items
-    (drawn c.args.mark.now.log) whole is.placed c.requires.order is.stamps c.requires.drawn
+    turn_drawn c.args.to.now.from c.args.to.now.first c.args.nodes.items c.loop-node.yielded node rest c.loop-node.refs.items
+    (drawn c.args.to.now.mark.now.log) whole is.placed c.requires.order is.stamps c.requires.drawn
 
 pub loop-node-preserved : goal.loop-node-preserved
 loop-node-preserved g c =
     let is = c.loop-node.invariant in
-    let done = c.place_named.ensures in
-    let ok = c.in_ok-place_named.ensures in
+    let done = c.place_next.ensures in
+    let ok = c.in_ok-place_next.ensures in
     let rest = into_iter_items c.next.new.self in
     let node = c.in-Some.node in
     let refs = c.loop-node.refs.items in
     let first = g.S.Slots.view c.args.seat.now in
     let v = g.S.Slots.view c.loop-node.seat in
-    let u = g.S.Slots.view c.place_named.new.seat in
+    let u = g.S.Slots.view c.place_next.new.seat in
     let whole : c.args.nodes.items ≡ c.loop-node.yielded
     ++ (node ∷ rest) = is.whole ∙ ap (λ w. c.loop-node.yielded ++ w) c.in-Some.ensures.steps.0 in
     let at = ok.placed.0 in
@@ -59,12 +58,12 @@ loop-node-preserved g c =
       taken = done.taken;
       placed = omega (arith, ap length ok.placed.1, length-append refs (at ∷ []), is.placed, one);
       left = omega (arith, done.less, is.left, one);
-      stamps = subst (AreFrom c.args.first) (sym ok.placed.1) (from_more c.args.first refs at is.stamps ok.placed.2);
+      stamps = subst (AreFrom c.args.to.now.first) (sym ok.placed.1) (from_more c.args.to.now.first refs at is.stamps ok.placed.2);
       settled = λ r. done.settled r first (is.settled r);
-      moves = λ r. moves_moves first v u (is.moves r) (done.moves r);
+      steps = λ r. steps_steps first v u (is.steps r) (done.steps r);
     }
 
-pub returns-in_err-place_named-clause-moves : goal.returns-in_err-place_named-clause-moves
-returns-in_err-place_named-clause-moves g c =
-    let view = g.S.Slots.view in λ r. moves_moves (view c.args.seat.now) (view c.loop-node.seat)
-    (view c.place_named.new.seat) (c.loop-node.invariant.moves r) (c.place_named.ensures.moves r)
+pub returns-in_err-place_next-clause-steps : goal.returns-in_err-place_next-clause-steps
+returns-in_err-place_next-clause-steps g c =
+    let view = g.S.Slots.view in λ r. steps_steps (view c.args.seat.now) (view c.loop-node.seat)
+    (view c.place_next.new.seat) (c.loop-node.invariant.steps r) (c.place_next.ensures.steps r)

@@ -1,9 +1,9 @@
 use Rattle.std.proofs.Common.{◌≡◌, ◌+◌, ◌++◌, length}
 use Rattle.std.specs.Vec.Iter.{into_iter_items}
-use Rattle.reader_claims.specs.Machine.{Moves}
 use Rattle.publishing.specs.Retiring.{SettlesAll}
 use Rattle.publishing.specs.Stamped.{AreFrom}
 use Rattle.publishing.specs.Inside.Stacks.{HasTaken}
+use Rattle.publishing.specs.Inside.Steps.{Steps}
 use Rattle.publishing.proofs.placing.place_all.Given as goal
 
 abbrev pub invariant-loop-node : goal.invariant-loop-node
@@ -13,11 +13,11 @@ invariant-loop-node g l =
       can : (goal.iterator-loop-node g).can_next l.node-iterator;
       finite : (goal.iterator-loop-node g).is_finite l.node-iterator;
       whole : l.fn.nodes.items ≡ l.yielded ++ into_iter_items l.node-iterator;
-      home : S.home l.seat ≡ S.serves l.store;
+      home : S.home l.seat ≡ S.serves l.to.store.now;
       taken : S.reused → HasTaken (S.view l.seat) l.slots.items;
       placed : length l.refs.items ≡ length l.yielded;
       left : length l.slots.items + length l.yielded ≡ length l.fn.nodes.items;
-      stamps : AreFrom l.first l.refs.items;
+      stamps : AreFrom l.to.first l.refs.items;
       settled : S.reused → SettlesAll (S.view l.fn.seat) l.refs.items (S.view l.seat);
-      moves : S.reused → Moves (S.view l.fn.seat) (S.view l.seat);
+      steps : S.reused → Steps (S.view l.fn.seat) (S.view l.seat);
     }

@@ -1,11 +1,12 @@
-use Rattle.reader_claims.specs.Machine.{still}
-use Rattle.reader_claims.proofs.Moving.{moves_moves}
+use Rattle.publishing.proofs.Stepping.{no_step, steps_keeping, steps_steps}
 use Rattle.publishing.proofs.retiring.retire_all.Goals as goal
 
-pub returns-then-is_empty-clause-moves : goal.returns-then-is_empty-clause-moves
-returns-then-is_empty-clause-moves g c = λ r. still (g.S.Slots.view c.args.seat.now)
+pub returns-then-is_empty-clause-steps : goal.returns-then-is_empty-clause-steps
+returns-then-is_empty-clause-steps g c = λ r. no_step (g.S.Slots.view c.args.seat.now)
 
-pub returns-in-Some-clause-moves : goal.returns-in-Some-clause-moves
-returns-in-Some-clause-moves g c =
-    let view = g.S.Slots.view in λ r. moves_moves (view c.args.seat.now) (view c.raise.new.seat)
-    (view c.retire_at.new.seat) (c.raise.ensures.moves r) (c.retire_at.ensures.moves r)
+pub returns-in-Some-clause-steps : goal.returns-in-Some-clause-steps
+returns-in-Some-clause-steps g c = λ r.
+    let v = g.S.Slots.view c.args.seat.now in
+    let w = g.S.Slots.view c.raise.new.seat in
+    steps_steps v w (g.S.Slots.view c.retire_at.new.seat)
+    (steps_keeping v w (c.raise.ensures.moves r) (c.raise.ensures.kept r).pin) (c.retire_at.ensures.steps r)

@@ -1,14 +1,13 @@
-use Rattle.std.proofs.Common.{◌≡◌, ◌<◌, ◌≤◌, [], List, take, refl, sym, subst}
+use Rattle.std.proofs.Common.{◌≡◌, ◌<◌, ◌≤◌, [], List, take, refl, ap, sym, subst}
 use Rattle.std.proofs.lemmas.List.{take_more}
 use Rattle.std.specs.Prelude.{slice_index_or}
 use Rattle.group_history.specs.declared.refs.Ref.{Ref}
 use Rattle.reader_claims.specs.declared.view.View.{View}
-use Rattle.reader_claims.specs.Machine.{still}
 use Rattle.reader_claims.specs.Passes.{IsRetired}
-use Rattle.reader_claims.proofs.Moving.{moves_moves}
 use Rattle.chunk_slots.specs.Seats.{MayRetire}
 use Rattle.publishing.specs.Retiring.{LetsGo, LetsAllGo}
 use Rattle.publishing.proofs.Leaving.{one_more}
+use Rattle.publishing.proofs.Stepping.{no_step, steps_beside, steps_steps}
 use Rattle.publishing.proofs.retiring.retire_at.Goals as goal
 
 pub loop-at-init : goal.loop-at-init
@@ -16,7 +15,7 @@ loop-at-init g c = record {
   home = c.requires.home;
   raised = c.requires.raised;
   none = c.requires.none;
-  moves = λ r. still (g.S.Slots.view c.args.seat.now);
+  steps = λ r. no_step (g.S.Slots.view c.args.seat.now);
   retired = λ r. refl;
 }
 
@@ -39,7 +38,8 @@ loop-at-preserved g c =
       home = done.seat;
       raised = λ r. subst (λ (w : View). MayRetire w c.args.r) (sym (done.kept r)) (is.raised r);
       none = λ r. subst (λ (w : View). w.taken ≡ []) (sym (done.kept r)) (is.none r);
-      moves = λ r. moves_moves first v u (is.moves r) (done.moves r);
+      steps = λ r. steps_steps first v u (is.steps r)
+          (steps_beside v u (done.moves r) (ap (λ (w : View). w.pin) (done.kept r)));
       retired = λ r. subst (λ (w : List Ref). LetsAllGo slots c.args.r first w u)
           (sym (take_more ats i (record { bits = 0 }) c.loop-at-test.true))
           (one_more slots c.args.r first v u (take i ats) at (is.retired r) (go r));

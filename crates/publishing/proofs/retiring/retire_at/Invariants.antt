@@ -1,7 +1,7 @@
 use Rattle.std.proofs.Common.{◌≡◌, [], take}
 use Rattle.chunk_slots.specs.Seats.{MayRetire}
-use Rattle.reader_claims.specs.Machine.{Moves}
 use Rattle.publishing.specs.Retiring.{LetsAllGo}
+use Rattle.publishing.specs.Inside.Steps.{Steps}
 use Rattle.publishing.proofs.retiring.retire_at.Given as goal
 
 abbrev pub invariant-loop-at : goal.invariant-loop-at
@@ -11,7 +11,7 @@ invariant-loop-at g l =
       home : S.home l.seat ≡ S.serves l.store;
       raised : S.reused → MayRetire (S.view l.seat) l.r;
       none : S.reused → (S.view l.seat).taken ≡ [];
-      moves : S.reused → Moves (S.view l.fn.seat) (S.view l.seat);
+      steps : S.reused → Steps (S.view l.fn.seat) (S.view l.seat);
       retired : S.reused → LetsAllGo (S.serves l.store).sizes.slots l.r (S.view l.fn.seat) (take l.at-index l.refs)
           (S.view l.seat);
     }

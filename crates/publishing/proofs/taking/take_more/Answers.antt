@@ -4,9 +4,9 @@ use Rattle.group_history.specs.declared.refusals.Refusal.TheVariants as refusal
 use Rattle.reader_claims.specs.Machine.{still}
 use Rattle.reader_claims.specs.Passes.{FindsNone}
 use Rattle.reader_claims.specs.Seats.{kind_end}
-use Rattle.reader_claims.proofs.Moving.{moves_moves}
 use Rattle.publishing.proofs.Leaving.{settles_none}
 use Rattle.publishing.proofs.Results.{if_err_then}
+use Rattle.publishing.proofs.Stepping.{no_step, steps_steps}
 use Rattle.publishing.proofs.taking.take_more.Goals as goal
 
 pub loop-held-init : goal.loop-held-init
@@ -15,7 +15,7 @@ loop-held-init g c = record {
   taken = c.requires.taken;
   more = omega arith;
   settled = λ r. (refl, refl);
-  moves = λ r. still (g.S.Slots.view c.args.seat.now);
+  steps = λ r. no_step (g.S.Slots.view c.args.seat.now);
 }
 
 pub loop-held-preserved : goal.loop-held-preserved
@@ -30,13 +30,13 @@ loop-held-preserved g c =
       taken = done.taken;
       more = omega (arith, is.more, c.in_ok-take_next.ensures.more);
       settled = λ r. settles_none first v u (is.settled r) (done.settled r);
-      moves = λ r. moves_moves first v u (is.moves r) (done.moves r);
+      steps = λ r. steps_steps first v u (is.steps r) (done.steps r);
     }
 
-pub returns-in_err-take_next-clause-moves : goal.returns-in_err-take_next-clause-moves
-returns-in_err-take_next-clause-moves g c =
-    let view = g.S.Slots.view in λ r. moves_moves (view c.args.seat.now) (view c.loop-held.seat)
-    (view c.take_next.new.seat) (c.loop-held.invariant.moves r) (c.take_next.ensures.moves r)
+pub returns-in_err-take_next-clause-steps : goal.returns-in_err-take_next-clause-steps
+returns-in_err-take_next-clause-steps g c =
+    let view = g.S.Slots.view in λ r. steps_steps (view c.args.seat.now) (view c.loop-held.seat)
+    (view c.take_next.new.seat) (c.loop-held.invariant.steps r) (c.take_next.ensures.steps r)
 
 pub returns-in_err-take_next-clause-full : goal.returns-in_err-take_next-clause-full
 returns-in_err-take_next-clause-full g c = λ r.
@@ -44,4 +44,4 @@ returns-in_err-take_next-clause-full g c = λ r.
     let u = g.S.Slots.view c.take_next.new.seat in
     let end = kind_end (g.S.Slots.serves c.args.store.now).sizes c.args.kind in
     let here : IfErr c.from_residual.result (λ e. e ≡ refusal.Full → FindsNone v u end) = search rules in
-    if_err_then c.from_residual.result here (λ e found is. (v, u, c.loop-held.invariant.moves r, found is, still u))
+    if_err_then c.from_residual.result here (λ e found is. (v, u, (c.loop-held.invariant.steps r).moves, found is, still u))

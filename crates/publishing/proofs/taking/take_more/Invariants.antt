@@ -1,7 +1,7 @@
 use Rattle.std.proofs.Common.{◌≡◌, ◌+◌, length}
-use Rattle.reader_claims.specs.Machine.{Moves}
 use Rattle.publishing.specs.Retiring.{SettlesNone}
 use Rattle.publishing.specs.Inside.Stacks.{HasTaken}
+use Rattle.publishing.specs.Inside.Steps.{Steps}
 use Rattle.publishing.proofs.taking.take_more.Given as goal
 
 abbrev pub invariant-loop-held : goal.invariant-loop-held
@@ -12,5 +12,5 @@ invariant-loop-held g l =
       taken : S.reused → HasTaken (S.view l.seat) l.slots.items;
       more : length l.slots.items ≡ length l.fn.slots.items + l.held;
       settled : S.reused → SettlesNone (S.view l.fn.seat) (S.view l.seat);
-      moves : S.reused → Moves (S.view l.fn.seat) (S.view l.seat);
+      steps : S.reused → Steps (S.view l.fn.seat) (S.view l.seat);
     }

@@ -1,7 +1,8 @@
-use Rattle.std.proofs.Common.{◌≡◌, ◌∷◌, ◌++◌, [], refl, subst, sym, rules}
-use Rattle.reader_claims.proofs.Moving.{moves_moves}
+use Rattle.std.proofs.Common.{◌≡◌, ◌∷◌, ◌++◌, [], refl, ap, subst, sym, rules}
+use Rattle.reader_claims.specs.declared.view.View.{View}
 use Rattle.publishing.specs.Inside.Stacks.{HasTaken}
 use Rattle.publishing.proofs.Popping.{pushed, withdrawn}
+use Rattle.publishing.proofs.Stepping.{steps_beside, steps_keeping, steps_steps}
 use Rattle.publishing.proofs.taking.take_next.Goals as goal
 
 pub returns-then-is_err-clause-taken : goal.returns-then-is_err-clause-taken
@@ -15,7 +16,10 @@ returns-then-is_err-clause-taken g c = λ r.
     subst (HasTaken w) (sym kept) (withdrawn u w (slots ++ x ∷ []) slots x refl
     (pushed v u slots x (c.requires.taken r) (c.in-Some.ensures.taken r).1) (c.withdraw.ensures.view r))
 
-pub returns-then-is_err-clause-moves : goal.returns-then-is_err-clause-moves
-returns-then-is_err-clause-moves g c = λ r.
-    moves_moves (g.S.Slots.view c.args.seat.now) (g.S.Slots.view c.take_slot.new.seat)
-    (g.S.Slots.view c.withdraw.new.seat) (c.take_slot.ensures.moves r) (c.withdraw.ensures.moves r)
+pub returns-then-is_err-clause-steps : goal.returns-then-is_err-clause-steps
+returns-then-is_err-clause-steps g c = λ r.
+    let v = g.S.Slots.view c.args.seat.now in
+    let u = g.S.Slots.view c.take_slot.new.seat in
+    let w = g.S.Slots.view c.withdraw.new.seat in
+    steps_steps v u w (steps_keeping v u (c.take_slot.ensures.moves r) (c.take_slot.ensures.looks r).pin)
+    (steps_beside u w (c.withdraw.ensures.moves r) (ap (λ (x : View). x.pin) (c.withdraw.ensures.view r)))

@@ -1,9 +1,8 @@
 use Rattle.std.proofs.Common.{refl, ap}
 use Rattle.reader_claims.specs.declared.view.View.{View}
-use Rattle.reader_claims.specs.Machine.{still}
-use Rattle.reader_claims.proofs.Moving.{moves_moves}
 use Rattle.publishing.proofs.Leaving.{settles_none}
 use Rattle.publishing.proofs.Popping.{withdrawn}
+use Rattle.publishing.proofs.Stepping.{no_step, steps_beside, steps_steps}
 use Rattle.publishing.proofs.taking.withdraw_all.Goals as goal
 
 pub loop-slot-init : goal.loop-slot-init
@@ -11,7 +10,7 @@ loop-slot-init g c = record {
   home = c.requires.home;
   taken = c.requires.taken;
   settled = λ r. (refl, refl);
-  moves = λ r. still (g.S.Slots.view c.args.seat.now);
+  steps = λ r. no_step (g.S.Slots.view c.args.seat.now);
 }
 
 pub loop-slot-preserved : goal.loop-slot-preserved
@@ -27,5 +26,6 @@ loop-slot-preserved g c =
           (is.taken r) (done.view r);
       settled = λ r. settles_none (S.view c.args.seat.now) v u (is.settled r)
           (ap (λ (w : View). w.settled) (done.view r), ap (λ (w : View). w.retired) (done.view r));
-      moves = λ r. moves_moves (S.view c.args.seat.now) v u (is.moves r) (done.moves r);
+      steps = λ r. steps_steps (S.view c.args.seat.now) v u (is.steps r)
+          (steps_beside v u (done.moves r) (ap (λ (w : View). w.pin) (done.view r)));
     }

@@ -1,7 +1,7 @@
 use Rattle.std.proofs.Common.{◌≡◌, vec_len}
-use Rattle.reader_claims.specs.Machine.{Moves}
 use Rattle.publishing.specs.Retiring.{SettlesNone}
 use Rattle.publishing.specs.Inside.Stacks.{HasTaken}
+use Rattle.publishing.specs.Inside.Steps.{Steps}
 use Rattle.publishing.proofs.taking.withdraw_all.Given as goal
 
 abbrev pub invariant-loop-slot : goal.invariant-loop-slot
@@ -11,7 +11,7 @@ invariant-loop-slot g l =
       home : S.home l.seat ≡ S.serves l.store;
       taken : S.reused → HasTaken (S.view l.seat) l.slots.items;
       settled : S.reused → SettlesNone (S.view l.fn.seat) (S.view l.seat);
-      moves : S.reused → Moves (S.view l.fn.seat) (S.view l.seat);
+      steps : S.reused → Steps (S.view l.fn.seat) (S.view l.seat);
     }
 
 abbrev pub decreases-loop-slot : goal.decreases-loop-slot

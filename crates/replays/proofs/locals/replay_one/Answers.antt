@@ -18,10 +18,10 @@ returns-clause-tip g c s h is_open =
     let old = with_nodes known c.args.draft.now.nodes in let new = with_nodes known c.add_local.new.draft.nodes in
     let m = view_of means s in let meaning = meaning_of means x m in
     let run = c.in_ok-run.ensures.ran m (c.at.ensures.map old ∙ h.1) in
-    let left = c.kept.ensures old m meaning h.1 run in
-    let same : c.in_ok-mutation_kept.mutation_kept ≡ x = search rules in
+    let left = c.tree_or_root-tree.ensures old m meaning h.1 run in
+    let same : c.in_ok-copy.copy ≡ x = search rules in
     let shape : Mutation → Entries → Version = λ y r. record { state = after_mutate s y; read = r } in
-    let is : shape c.in_ok-mutation_kept.mutation_kept (left_by meaning m) ≡ version_of means (after_mutate s x) =
+    let is : shape c.in_ok-copy.copy (left_by meaning m) ≡ version_of means (after_mutate s x) =
     ap (λ (y : Mutation). shape y (left_by meaning m)) same ∙ ap (shape x) (sym (view-mutated means s x)) in
     subst (λ (v : Version). HasTip new c.in_ok-after.after v) is
     (c.in_ok-after.ensures.spelled known (version_of means s) (left_by meaning m)
@@ -36,9 +36,9 @@ pub add_local-requires-clause-map : goal.add_local-requires-clause-map
 add_local-requires-clause-map g c =
     let means = g.M.Means.means in let known = g.K.Known.known in let m = view_of means c.requires.tip.0 in
     let old = with_nodes known c.args.draft.now.nodes in let meaning = meaning_of means c.args.mutation.now m in
-    let left = c.kept.ensures old m meaning c.requires.tip.1.1
+    let left = c.tree_or_root-tree.ensures old m meaning c.requires.tip.1.1
     (c.in_ok-run.ensures.ran m (c.at.ensures.map old ∙ c.requires.tip.1.1)) in
-    tree-behind known c.args.draft.now c.kept.result (left_by meaning m) (sym c.requires.behind) left
+    tree-behind known c.args.draft.now c.tree_or_root-tree.result (left_by meaning m) (sym c.requires.behind) left
 
 pub add_local-requires-clause-chain : goal.add_local-requires-clause-chain
 add_local-requires-clause-chain g c =

@@ -1,4 +1,4 @@
-use Rattle.std.proofs.Common.{Some, ap, sym, ◌∙◌}
+use Rattle.std.proofs.Common.{Some, ap, ◌∙◌}
 use Rattle.group_history.specs.Map.{Entries, patched}
 use Rattle.map_tree.specs.declared.tree.Tree.{Tree}
 use Rattle.transactions.specs.Maps.{map_or, shown_map}

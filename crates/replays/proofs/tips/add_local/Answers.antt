@@ -2,7 +2,7 @@ use Rattle.std.proofs.Common.{◌+◌, [], ◌∷◌, length, sym, ◌∙◌}
 use Rattle.group_history.specs.Refs.{stamp_of}
 use Rattle.map_chunks.specs.Places.{with_nodes}
 use Rattle.map_nodes.proofs.FreezeLemmas.{nodes-grown}
-use Rattle.commits.proofs.Spelled.{version-grown, snapshot-grown}
+use Rattle.commit_graph.proofs.Spelled.{version-grown, snapshot-grown}
 use Rattle.map_chunks.proofs.DraftLemmas.{below-more}
 use Rattle.replays.proofs.BelowLemmas.{below-cons, drafts-grown}
 use Rattle.group_history.proofs.Lists.{prefix_trans}

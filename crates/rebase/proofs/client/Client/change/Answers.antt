@@ -1,6 +1,6 @@
 use Rattle.group_history.specs.Refs.{stamp_of}
 use Rattle.head_word.specs.Books.{drawn}
-use Rattle.commits.specs.declared.states.LastId.{LastId}
+use Rattle.commit_graph.specs.declared.states.LastId.{LastId}
 use Rattle.rebase.proofs.Finding.{last_grown}
 use Rattle.rebase.proofs.Trying.{may_ask_next}
 use Rattle.rebase.proofs.Rooting.{roots_stay}

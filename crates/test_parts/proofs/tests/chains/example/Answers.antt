@@ -23,7 +23,7 @@ use Rattle.group_history.specs.Refs.{stamp_of}
 use Rattle.group_history.specs.Spelling.{Contents, Version, version_at}
 use Rattle.group_history.specs.State.{State, Ids, confirmed_id}
 use Rattle.group_history.proofs.IdLemmas.{after_mutate-IdsFollow, new_follows, overwritten-≤}
-use Rattle.commits.proofs.Spelled.{commit-made}
+use Rattle.commit_graph.proofs.Spelled.{commit-made}
 use Rattle.test_parts.proofs.tests.chains.example.Goals as goal
 
 -- the ids of a snapshot in which `a` has 4 confirmed

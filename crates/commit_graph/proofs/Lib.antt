@@ -1,0 +1,17 @@
+pub mod Spelled
+pub mod Snapshots
+mod LastIds
+pub mod Chained
+mod Rising
+pub mod Few
+mod Findings
+mod Reached
+mod Listing
+mod Leaving
+mod Lent
+mod Marked
+mod Choosing
+mod Descending
+mod Rooted
+mod Narrowing
+pub mod Seating

@@ -1,0 +1,16 @@
+use Rattle.std.proofs.Common.{◌≡◌, Some}
+use Rattle.map_chunks.specs.Places.{Grows, IfAt}
+use Rattle.group_history.specs.Refs.{stamp_of}
+use Rattle.group_history.specs.State.{last_id}
+use Rattle.group_history.specs.Spelling.{Version, version_at}
+use Rattle.commit_graph.proofs.Chained.{IsSearch, ahead}
+use Rattle.commit_graph.proofs.states.last_id_since.Given as goal
+
+abbrev pub invariant-loop-next : goal.invariant-loop-next
+invariant-loop-next g l = (v : Version) ×
+    (version_at (g.N.Chunks.contents l.initial.nodes) (stamp_of l.fn.head) ≡ Some v)
+    × IsSearch (g.N.Chunks.contents l.nodes) l.client (last_id v.state l.client) l.next
+    × Grows g.N.Chunks.contents g.N.Chunks.places l.initial.nodes l.nodes × IfAt (g.N.Chunks.places l.nodes) l.next
+
+abbrev pub decreases-loop-next : goal.decreases-loop-next
+decreases-loop-next g l = ahead l.next

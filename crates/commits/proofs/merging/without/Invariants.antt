@@ -1,5 +1,0 @@
-use Rattle.commits.proofs.Leaving.{IsMerge}
-use Rattle.commits.proofs.merging.without.Given as goal
-
-abbrev pub invariant-loop-at : goal.invariant-loop-at
-invariant-loop-at l = IsMerge l.before l.kept l.left.items l.at-index l.place

@@ -1,0 +1,6 @@
+pub mod Drafting
+pub mod Ending
+pub mod Finding
+pub mod Making
+pub mod Rooting
+pub mod Trying

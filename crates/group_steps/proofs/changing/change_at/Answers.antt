@@ -1,0 +1,48 @@
+use Rattle.std.proofs.Common.{◌<◌, ◌^◌, Some, sym, subst, rules}
+use Rattle.std.specs.Prelude.{IfSome}
+use Rattle.group_history.specs.declared.refs.Ref.{Ref}
+use Rattle.group_history.specs.Ids.{IdsFollow}
+use Rattle.group_history.specs.Record.{after, after_change}
+use Rattle.group_history.specs.Refs.{stamp_of}
+use Rattle.group_history.specs.Spelling.{Spells}
+use Rattle.head_word.specs.Books.{drawn, record_of}
+use Rattle.answered.specs.Trying.{IsBase, IsWon}
+use Rattle.group_steps.specs.Places.{Place, state_at}
+use Rattle.group_steps.specs.Proposing.{Leads, Proposes}
+use Rattle.group_steps.proofs.Trying.{has_last}
+use Rattle.group_steps.proofs.changing.change_at.Goals as goal
+
+pub move_head-requires-clause-leads : goal.move_head-requires-clause-leads
+move_head-requires-clause-leads g c κs within =
+    let means = g.M.Means.means in let mark = c.args.seat.now.mark in let p = c.in-Ok-Some.proposal in
+    let change = c.args.request.now.change.now in let last = c.args.request.now.before.id in
+    let s = after (record_of c.args.arrival.now.seen.log) in let at = c.new-at.result in
+    let leads = (subst (λ (q : Place). Proposes means (drawn q.mark.log) q.commit (state_at q) last change (Some p))
+    c.new-at.ensures.place (subst (Proposes means (drawn at.mark.log) at.commit (state_at at) last change)
+    c.in-Ok-Some.field-0-is c.in-Ok-Some.ensures.proposed)).1 in (
+      s,
+      subst (λ (b : Ref). IsBase means mark b s) (sym leads.begins) c.requires.base,
+      subst (λ (b : Ref). Leads means (drawn mark.log) b s change p) (sym leads.begins) leads,
+    )
+
+pub returns-in-Ok-Some-move_head-clause-tried : goal.returns-in-Ok-Some-move_head-clause-tried
+returns-in-Ok-Some-move_head-clause-tried g c =
+    let means = g.M.Means.means in let old = c.args.seat.now.mark in let new = c.move_head.new.seat.mark in
+    let p = c.in-Ok-Some.proposal in let change = c.args.request.now.change.now in
+    let before = c.args.request.now.before in let s = after (record_of c.args.arrival.now.seen.log) in
+    let at = c.new-at.result in
+    let proposed = subst (λ (q : Place). Proposes means (drawn q.mark.log) q.commit (state_at q) before.id change (Some p))
+    c.new-at.ensures.place (subst (Proposes means (drawn at.mark.log) at.commit (state_at at) before.id change)
+    c.in-Ok-Some.field-0-is c.in-Ok-Some.ensures.proposed) in
+    let base = subst (λ (b : Ref). IsBase means old b s) (sym proposed.1.begins) c.requires.base in
+    let won = subst (λ o. IfSome o (λ (at : Ref). IsWon means old new change s
+    × Spells means (drawn new.log) (stamp_of at) (after_change s change))) c.in-Ok-Some-move_head.field-0-is
+    (c.in-Ok-Some-move_head.ensures.won s base) in
+    let bits : c.in-Ok-Some-move_head.at.bits < 2 ^ 64 = search rules in
+    let ids = subst (λ (q : Place). IdsFollow (state_at q).confirmed (state_at q).pending) c.new-at.ensures.place
+    c.new-at.ensures.is.ids in (
+      proposed.0,
+      won.0,
+      has_last means (drawn old.log) (drawn new.log) c.in-Ok-Some-move_head.at s before change bits ids c.requires.asks
+          proposed.0 won.1,
+    )

@@ -1,0 +1,43 @@
+use Rattle.std.proofs.Common.{◌≡◌, length, refl, sym, ap, subst, ◌∙◌}
+use Rattle.group_history.specs.Spelling.{Contents, version_of}
+use Rattle.group_history.proofs.Lists.{prefix_self}
+use Rattle.head_word.specs.Books.{drawn}
+use Rattle.map_chunks.specs.Drafts.{Drafted}
+use Rattle.map_chunks.specs.Places.{with_nodes}
+use Rattle.replays.specs.Chaining.{IsTip}
+use Rattle.replays.proofs.BelowLemmas.{tip-behind}
+use Rattle.group_steps.specs.Places.{Place, state_at}
+use Rattle.group_steps.specs.Proposing.{closing_reply}
+use Rattle.group_steps.proofs.Drafting.{behind_none}
+use Rattle.group_steps.proofs.proposing.propose_closing.Goals as goal
+
+pub add_closing-requires : goal.add_closing-requires
+add_closing-requires g c =
+    let means = g.M.Means.means in let s = state_at c.args.at.now in let cs = drawn c.args.at.now.mark.log in
+    let bare : with_nodes cs c.new-draft.result.nodes
+    ≡ cs = ap (λ (d : Drafted). with_nodes cs d.nodes) c.new-draft.ensures ∙ behind_none cs in
+    let ready = subst (λ (w : Contents). IsTip means w c.args.spot.tip s) (sym bare) c.requires.spot.stands in
+    let behind = sym c.requires.spot.drawn ∙ sym (ap (λ (d : Drafted). d.first) c.new-draft.ensures) in
+    record { below = tip-behind cs c.new-draft.result c.args.spot.tip (version_of means s) behind ready }
+
+pub returns-clause-proposed : goal.returns-clause-proposed
+returns-clause-proposed g c last =
+    let means = g.M.Means.means in let s = state_at c.args.at.now in let cs = drawn c.args.at.now.mark.log in
+    let bare : with_nodes cs c.new-draft.result.nodes
+    ≡ cs = ap (λ (d : Drafted). with_nodes cs d.nodes) c.new-draft.ensures ∙ behind_none cs in
+    let ready = subst (λ (w : Contents). IsTip means w c.args.spot.tip s) (sym bare) c.requires.spot.stands in
+    let behind = sym c.requires.spot.drawn ∙ sym (ap (λ (d : Drafted). d.first) c.new-draft.ensures) in
+    let done = c.in_ok-at.ensures.spelled cs (version_of means s) behind ready c.requires.spot.opened in (
+      ap closing_reply c.requires.spot.opened,
+      record {
+        begins = ap (λ (p : Place). p.commit) c.at.view_is;
+        contents = cs;
+        drawn = prefix_self cs;
+        first = sym c.requires.spot.drawn ∙ sym (c.in_ok-at.ensures.first ∙ ap
+            (λ (d : Drafted). d.first) c.new-draft.ensures);
+        some = c.in_ok-at.ensures.some;
+        kind = refl;
+        accepted = c.requires.spot.opened;
+        then = done;
+      },
+    )

@@ -1,0 +1,26 @@
+use Rattle.std.proofs.Common.{◌≡◌, refl, sym, ap, subst, ◌∙◌}
+use Rattle.group_history.specs.Pulling.{after_pull}
+use Rattle.group_history.specs.Refs.{stamp_of}
+use Rattle.group_history.specs.Spelling.{Contents, Spells, map_at, version_at, version_of}
+use Rattle.head_word.specs.Books.{drawn}
+use Rattle.map_chunks.specs.Drafts.{Drafted}
+use Rattle.map_chunks.specs.Places.{with_nodes}
+use Rattle.group_steps.specs.Places.{Place, state_at}
+use Rattle.group_steps.proofs.Drafting.{behind_none}
+use Rattle.group_steps.proofs.proposing.propose_rebase.Goals as goal
+
+pub returns-clause-spelled : goal.returns-clause-spelled
+returns-clause-spelled g c =
+    let means = g.M.Means.means in let p = c.args.at.now in let s = state_at p in
+    let cs = drawn c.nodes-2.result.mark.now.log in let at = stamp_of c.args.before.now.pulled in
+    let base = c.requires.before in
+    let bare : with_nodes cs c.new-draft.result.nodes
+    ≡ cs = ap (λ (d : Drafted). with_nodes cs d.nodes) c.new-draft.ensures ∙ behind_none cs in
+    let there = ap (λ (w : Contents). map_at w at) (bare ∙ c.nodes-2.ensures.nodes) ∙ base.2 in
+    let here = ap (λ (w : Contents). version_at w (stamp_of c.at.inside.commit)) c.nodes.ensures.nodes
+    ∙ ap (λ r. version_at (drawn p.mark.log) (stamp_of r)) (ap (λ (q : Place). q.commit) c.at.view_is)
+    ∙ c.nodes.ensures.is.base in
+    let pending = sym (c.deref.ensures.value ∙ c.in_ok-pending.ensures.pending (version_of means s) here) in
+    let done = c.in_ok-made.ensures.spelled s there (sym base.1) pending c.requires.spot.opened in
+    subst (λ (w : Contents). Spells means (with_nodes w c.draft_rebase.new.draft.nodes)
+    (stamp_of c.in_ok-made.made.commit) (after_pull s c.args.pull.now)) c.nodes-2.ensures.nodes done

@@ -1,0 +1,24 @@
+-- What a change of the head leaves behind.
+use Rattle.std.specs.Prelude.{ℕ, ◌≡◌, ◌↔◌, List, []}
+use Rattle.std.specs.List.{Contains}
+use Rattle.group_history.specs.declared.changes.Change.{Change}
+use Rattle.group_history.specs.declared.changes.Change.TheVariants.{Mutated, Pulled, Closed}
+use Rattle.group_history.specs.declared.refs.Ref.{Ref}
+use Rattle.group_history.specs.Refs.{stamp_of}
+use Rattle.group_history.specs.Spelling.{Contents}
+use Rattle.reader_claims.specs.declared.view.View.{View}
+use Rattle.commit_graph.specs.Reach.{IsDropped, Falls, stamps_of}
+use Rattle.answered.specs.declared.trying.Published.{Published}
+use Rattle.publishing.specs.Retiring.{Retires, unneeded}
+
+-- After a pull, what the old head reaches and the new one does not, each once. Other changes leave nothing.
+abbrev pub AreLeft : Contents → Ref → Ref → Change → List Ref → Type 0
+AreLeft cs old new (Pulled ticket r) left =
+    ((x : ℕ) → Contains (stamps_of left) x ↔ IsDropped cs (stamp_of old) (stamp_of new) x) × Falls (stamps_of left)
+AreLeft cs old new (Mutated m) left = left ≡ []
+AreLeft cs old new Closed left = left ≡ []
+
+-- What the change leaves behind was retired where the head was moved, and the draft itself where it was not.
+abbrev pub RetiresWhatIsLeft : ℕ → Contents → Ref → Ref → Change → List Ref → View → View → Published → Type 0
+RetiresWhatIsLeft slots cs old new change refs v u published = (left : List Ref) × AreLeft cs old new change left
+    × Retires slots v (unneeded published refs left) u

@@ -1,0 +1,18 @@
+-- Why a query is refused, and what a reply tells.
+use Rattle.std.specs.Prelude.{◌≡◌, ◌⊎◌, Result, Ok, Err}
+use Rattle.group_history.specs.declared.refusals.Refusal.{Refusal}
+use Rattle.group_history.specs.declared.refusals.Refusal.TheVariants.{Busy, Gone, NoMemory}
+
+-- a slot has no node of that stamp any more; or a slot or a pin is lost to others, which happens only where slots are
+-- used again
+abbrev pub IsMissed : Type 0 → Refusal → Type 0
+IsMissed reused e = (e ≡ Gone) ⊎ (reused × (e ≡ Busy))
+
+-- that, or memory was wanting
+abbrev pub IsMissedOrDry : Type 0 → Refusal → Type 0
+IsMissedOrDry reused e = (e ≡ NoMemory) ⊎ IsMissed reused e
+
+-- what a reply tells
+abbrev pub told : {X Y : Type 0} → (X → Y) → Result X Refusal → Result Y Refusal
+told f (Ok x) = Ok (f x)
+told f (Err e) = Err e

@@ -1,0 +1,27 @@
+//! The steps that the calls of a shared group are made of.
+//!
+//! A query pins its seat, looks where the head is, reads the commit there, and takes the pin away. A change, a
+//! mutation or an end of a pull, is proposed at that commit: what leads to it is drafted, its nodes are placed, and the
+//! head is moved there from the commit; where others moved it first, all of it is done anew at the commit where they
+//! left it.
+//!
+//! `At` is the commit where a call stands, read by a seat whose pin is held. The clauses name the state there by what
+//! had been seen when the head was looked at (`state_at`).
+#![tactic(auto)]
+
+mod changing;
+mod group;
+mod moving;
+mod places;
+mod proposing;
+mod pushing;
+mod steps;
+mod views;
+
+pub use changing::make_change;
+pub use group::SharedGroup;
+pub use places::At;
+pub use proposing::Request;
+pub use pushing::body_at;
+pub use steps::{find_last, pin_and_load, unpin};
+pub use views::{Rooted, closed_at, cookie_at, root_at};

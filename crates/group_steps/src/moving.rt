@@ -1,0 +1,126 @@
+//! A change that was proposed: what leads to it is placed, and the head is moved there.
+ghost use Rattle.std.specs.List.{All};
+ghost use Rattle.group_history.specs.declared.refusals.Refusal.TheVariants.{Moved};
+ghost use Rattle.std.specs.Prelude.{◌≡◌, ◌≢◌, [], true, IfOk, IfErr, IfSome, IfNone, OnErr};
+ghost use Rattle.group_history.specs.Record.{after_change};
+ghost use Rattle.group_history.specs.Refs.{slot_of, stamp_of};
+ghost use Rattle.group_history.specs.Spelling.{Spells};
+ghost use Rattle.group_history.specs.State.{State};
+ghost use Rattle.head_word.specs.Books.{Follows, drawn};
+ghost use Rattle.reader_claims.specs.Lists.{In};
+ghost use Rattle.commit_graph.specs.Seats.{IsReading, IsSameSeat};
+ghost use Rattle.answered.specs.Answered.{IsLeft, is_want};
+ghost use Rattle.answered.specs.Trying.{Ends, IsBase, IsLost, IsWon};
+ghost use Rattle.publishing.specs.Retiring.{Retires};
+ghost use Rattle.group_steps.specs.Leaving.{AreLeft, RetiresWhatIsLeft};
+ghost use Rattle.group_steps.specs.Proposing.{Leads};
+
+use crate::proposing::Proposal;
+use answered::Published;
+use chunk_slots::Store;
+use commit_graph::{Seat, Shared, StoreNodes, dropped};
+use group_history::{Change, Means, Ref, Refusal};
+use publishing::{Move, abandon_draft, place_draft, place_of, publish_draft};
+
+// What the old head alone reaches. Only a pull lets anything go.
+fn left_behind<M: Means, S: Store<M>>(
+    shared: &Shared<M, S>,
+    seat: &Seat<M, S>,
+    to: &Move<'_>,
+    tries: u32,
+) -> Result<Vec<Ref>, Refusal>
+where
+    S::Seat: Drop,
+    requires reading { IsReading S.reused shared.now seat.now }
+    requires old { (s : State) × IsBase M.means seat.now.mark to.now.base s }
+    requires new { (s : State) × IsBase M.means seat.now.mark to.now.new s }
+    ensures exact { IfOk result (λ left. AreLeft (drawn seat.now.mark.log) to.now.base to.now.new to.now.change.now left.items) }
+    ensures err { IfErr result (λ e. (is_want e ≡ true) × (e ≢ Moved)) }
+{
+    match to.change {
+        Change::Pulled(_, _) => {
+            let mut nodes = StoreNodes::new(shared, seat, &seat.mark, tries);
+            Ok(dropped(shared.alloc, &mut nodes, to.base, to.new)?)
+        }
+        Change::Mutated(_) | Change::Closed => Ok(Vec::new(shared.alloc)),
+    }
+}
+
+// Moves the head to a commit of a draft that was placed, and retires what is needed no more. What the old head alone
+// reaches is listed before the exchange.
+fn exchange<M: Means, S: Store<M>>(
+    shared: &Shared<M, S>,
+    seat: &mut Seat<M, S>,
+    to: &Move<'_>,
+    tries: u32,
+) -> Result<Published, Refusal>
+where
+    S::Seat: Drop,
+    requires reading { IsReading S.reused shared.now seat.old }
+    requires none { S.reused → seat.old.view.taken ≡ [] }
+    requires settled { S.reused → All (λ at. In seat.old.view.settled (slot_of at)) to.now.refs.now }
+    requires follows { Follows M.means (drawn seat.old.mark.log) to.now.base to.now.new to.now.change.now }
+    ensures seat { IsSameSeat seat.old seat.new }
+    ensures none { S.reused → seat.new.view.taken ≡ [] }
+    ensures ends { IfOk result (Ends M.means seat.old.mark seat.new.mark to.now.base to.now.change.now) }
+    ensures retired { S.reused → IfOk result (λ published. RetiresWhatIsLeft shared.now.table.sizes.slots
+        (drawn seat.old.mark.log) to.now.base to.now.new to.now.change.now to.now.refs.now seat.old.view seat.new.view published) }
+    ensures given { S.reused → OnErr result
+        (Retires shared.now.table.sizes.slots seat.old.view to.now.refs.now seat.new.view) }
+    ensures err { IfErr result (λ e. (is_want e ≡ true) × (e ≢ Moved) × (seat.new.mark ≡ seat.old.mark)) }
+{
+    match left_behind::<M, S>(shared, seat, to, tries) {
+        Ok(left) => {
+            return Ok(publish_draft::<M, S>(shared, seat, to, &left));
+        }
+        Err(e) => {
+            abandon_draft::<M, S>(shared, seat, to.refs);
+            return Err(e);
+        }
+    }
+}
+
+/// Places what was proposed, and moves the head from its base to its commit, which is answered: none where others moved
+/// the head first. Refused with `NoMemory`, `Moved`, `Busy`, `Gone`, `Full` or `Stamps`.
+pub(crate) fn move_head<M: Means, S: Store<M>>(
+    shared: &Shared<M, S>,
+    seat: &mut Seat<M, S>,
+    change: &Change,
+    proposal: Proposal,
+    tries: u32,
+) -> Result<Option<Ref>, Refusal>
+where
+    S::Seat: Drop,
+    requires reading { IsReading S.reused shared.now seat.old }
+    requires none { S.reused → seat.old.view.taken ≡ [] }
+    requires leads { (s : State) × IsBase M.means seat.old.mark proposal.base s
+        × Leads M.means (drawn seat.old.mark.log) proposal.base s change.now proposal }
+    ensures seat { IsSameSeat seat.old seat.new }
+    ensures none { S.reused → seat.new.view.taken ≡ [] }
+    ensures won { (s : State) → IsBase M.means seat.old.mark proposal.base s
+        → IfOk result (λ new. IfSome new (λ at. IsWon M.means seat.old.mark seat.new.mark change.now s
+        × Spells M.means (drawn seat.new.mark.log) (stamp_of at) (after_change s change.now))) }
+    ensures lost { IfOk result (λ new. IfNone new (IsLost seat.old.mark seat.new.mark proposal.base)) }
+    ensures err { IfErr result (λ e. (is_want e ≡ true) × IsLeft tries seat.old.mark seat.new.mark e) }
+{
+    let Proposal {
+        base,
+        draft,
+        at,
+        kind,
+    } = proposal;
+    let from = draft.first();
+    let refs = place_draft::<M, S>(shared, seat, draft, kind, tries)?;
+    let new = place_of(at, from, &refs);
+    let to = Move {
+        base,
+        new,
+        change,
+        refs: &refs,
+    };
+    match exchange::<M, S>(shared, seat, &to, tries) {
+        Ok(Published::Won) => Ok(Some(new)),
+        Ok(Published::Lost) => Ok(None),
+        Err(e) => Err(e),
+    }
+}

@@ -1,0 +1,84 @@
+//! The body of a push at a commit: what is pending there is written where it stands, and not copied.
+//!
+//! A taker is known by what it has taken alone. So whose push it writes is named by its type: `W` stands for the
+//! identity.
+ghost use Rattle.std.specs.Prelude.{◌≡◌, ◌⊎◌, [], Some, IsSome, IfOk, IfErr};
+ghost use Rattle.group_history.specs.Refs.{stamp_of};
+ghost use Rattle.group_history.specs.Spelling.{Version, version_at};
+ghost use Rattle.group_history.specs.declared.mutators.Stop.TheVariants as stopping;
+ghost use Rattle.push_body.specs.declared.identities.Identity.{Identity as Identified};
+ghost use Rattle.push_body.specs.Bodies.{push_text};
+ghost use Rattle.push_body.specs.Written.{HasWritten};
+ghost use Rattle.group_steps.specs.Missing.{IsMissedOrDry};
+ghost use Rattle.group_steps.specs.Places.{state_at};
+
+use crate::places::At;
+use chunk_slots::Slots;
+use commit_graph::{Nodes, StoreNodes, TakesMutations, hand_pending};
+use group_history::{Means, Mutation, Ref, Refusal, Stop};
+use push_body::{Identity, PushWriter};
+use std::alloc::{AllocError, Global};
+use std::marker::{Brand, PhantomData};
+
+/// Names an identity.
+trait Whose {
+    ghost whose: { Identified };
+}
+
+impl Whose for Brand {
+    ghost whose = { record { group = []; profile = []; schema = [] } };
+}
+
+/// A push of the identity that `W` names, to which mutations are handed.
+#[derive(Drop)]
+struct Pushed<'i, W: Whose> {
+    writer: PushWriter<'i>,
+    of: PhantomData<W>,
+}
+
+impl<'i, W: Whose> TakesMutations for Pushed<'i, W> {
+    ghost has = { λ pushed xs. HasWritten W.whose xs pushed.writer };
+
+    fn take(&mut self, mutation: &Mutation) -> Result<(), AllocError> {
+        self.writer.add(mutation)
+    }
+}
+
+fn written<N: Nodes, W: Whose>(
+    alloc: Global,
+    nodes: &mut N,
+    at: Ref,
+    identity: &Identity,
+) -> Result<Vec<u8>, Stop>
+    requires whose { identity.now ≡ W.whose }
+    requires known { IsSome (version_at (N.contents nodes.old) (stamp_of at)) }
+    requires place { N.places nodes.old at }
+    ensures body { (v : Version) → version_at (N.contents nodes.old) (stamp_of at) ≡ Some v
+        → IfOk result (λ body. body.items ≡ push_text W.whose v.state.pending) }
+    ensures stopped { IfErr result (λ stop. (stop ≡ stopping.NoMemory) ⊎ N.stops stop) }
+{
+    let writer = PushWriter::new(alloc, identity)?;
+    let mut pushed = Pushed::<W> {
+        writer,
+        of: PhantomData,
+    };
+    hand_pending(alloc, nodes, at, &mut pushed)?;
+    Ok(pushed.writer.into_bytes()?)
+}
+
+/// The body of a push of all that is pending at the commit.
+pub fn body_at<'a, M: Means, S: Slots<M>>(at: &At<'a, M, S>) -> Result<Vec<u8>, Refusal>
+where
+    S::Seat: Drop,
+    ensures body { IfOk result (λ body. body.items ≡ push_text at.now.identity (state_at at.now).pending) }
+    ensures err { IfErr result (IsMissedOrDry S.reused) }
+{
+    let group = at.group;
+    let mut nodes = at.nodes();
+    Ok(written::<StoreNodes<'a, M, S>, Brand>(
+        group.shared.alloc,
+        &mut nodes,
+        at.commit,
+        &group.identity,
+    )?)
+}

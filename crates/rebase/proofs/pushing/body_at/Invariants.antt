@@ -1,5 +1,0 @@
-use Rattle.rebase.proofs.pushing.body_at.Given as goal
-
--- whose push it is
-abbrev pub ghosts-written : goal.ghosts-written
-ghosts-written g a = record { whose = a.identity.now }

@@ -1,0 +1,57 @@
+//! Readings of a group: a reader, and what one reading answers.
+ghost use Rattle.std.specs.Prelude.{◌≡◌, Ok, None, IfOk, IfErr, OnOk};
+ghost use Rattle.std.specs.Borrow.{sem, RestsIfErr};
+ghost use Rattle.group_history.specs.Queries.{rows_at};
+ghost use Rattle.group_history.specs.Rows.{Rows};
+ghost use Rattle.map_chunks.specs.Sinks.{HasMore};
+ghost use Rattle.answered.specs.Answered.{Answers, IsPoint, nothing};
+ghost use Rattle.group_steps.specs.Missing.{IsMissed, IsMissedOrDry};
+ghost use Rattle.rebase.specs.Clients.{Reads, Stays};
+ghost use Rattle.rebase.specs.Queries.{gave};
+ghost use Rattle.rebase.specs.Readers.{lent, seen_by};
+ghost use Rattle.rebase.specs.contracts.client.Client.{the_row};
+
+use crate::client::Client;
+use crate::reading::ReadTx;
+use chunk_slots::Slots;
+use group_history::{Means, Refusal, Scan};
+use transactions::TakesRows;
+
+impl<M: Means, S: Slots<M>> Client<M, S>
+where
+    S::Seat: Drop,
+{
+    /// Reads the group as it is now. Where that is refused the client is as it was, and has no pin.
+    pub fn read(&mut self, tries: u32) -> Result<ReadTx<'_, M, S>, Refusal>
+        ensures* rests { sem 𝓛 (RestsIfErr (the_row M.row S.row S.Seat.row M.Means S.Slots) self.entry
+            (λ tx. (lent tx).ghost_name) result (λ client. Stays S.reused self.old client)) }
+        ensures same_reference { IfOk result (λ tx. (lent tx).ghost_name ≡ self.entry.ghost_name) }
+        ensures point { IfOk result (λ tx. IsPoint M.means self.old.seat.mark (lent tx).now.seat.mark None
+            (seen_by tx).log) }
+        ensures reads { IfOk result (λ tx. Reads S.reused self.old (lent tx).now) }
+        ensures missed { IfErr result (IsMissed S.reused) }
+    {
+        let at = self.point(tries)?;
+        Ok(ReadTx::new(self, at, tries))
+    }
+
+    /// Gives the pairs that the scan asks for to the sink, in the order of their keys, each by reference. After
+    /// an `Err` the sink may have some of them.
+    pub fn scan_into<T: TakesRows>(
+        &mut self,
+        scan: &Scan,
+        sink: &mut T,
+        tries: u32,
+    ) -> Result<(), Refusal>
+        ensures answer { (rows : Rows) × Answers M.means tries self.old.seat.mark self.new.seat.mark
+            (gave rows result) nothing (λ s. Ok (rows_at M.means s scan.now))
+            × OnOk result (HasMore T.has sink.old sink.new rows) }
+        ensures err { IfErr result (IsMissedOrDry S.reused) }
+        ensures stays { Stays S.reused self.old self.new }
+    {
+        let tx = self.read(tries)?;
+        let given = tx.scan_into(scan, sink);
+        tx.close();
+        given
+    }
+}
