@@ -106,7 +106,9 @@ where
         chunks: at.nodes(),
         mutators: &group.mutators,
     };
-    let made = draft_mutation::<StoreNodes<'a, M, S>, Brand, M>(&setting, &mut draft, spot.tip, again);
+    let made = draft_mutation::<StoreNodes<'a, M, S>, Brand, M>(
+        &setting, &mut draft, spot.tip, again,
+    );
     let (base, kind) = (at.commit, Kind::Ordinary);
     match made {
         Ok(at) => Ok(Proposal {
@@ -177,7 +179,9 @@ where
         chunks: at.nodes(),
         mutators: &group.mutators,
     };
-    let made = draft_rebase::<StoreNodes<'a, M, S>, Brand, M>(&setting, &mut draft, before, &pending, pull)?;
+    let made = draft_rebase::<StoreNodes<'a, M, S>, Brand, M>(
+        &setting, &mut draft, before, &pending, pull,
+    )?;
     Ok(Proposal {
         base: at.commit,
         draft,

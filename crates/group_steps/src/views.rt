@@ -11,9 +11,7 @@ ghost use Rattle.group_steps.specs.Places.{state_at};
 
 use crate::places::At;
 use chunk_slots::Slots;
-use commit_graph::{
-    LastId, Nodes, StoreNodes, closed_of, cookie_of, last_id_since, read_root,
-};
+use commit_graph::{LastId, Nodes, StoreNodes, closed_of, cookie_of, last_id_since, read_root};
 use group_history::{Cookie, Means, Ref, Refusal, Stop, Text};
 use std::marker::Brand;
 use transactions::{Fixed, Known};

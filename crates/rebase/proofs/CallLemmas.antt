@@ -32,9 +32,13 @@ use Rattle.answered.proofs.AtOnce.{record_at}
 use Rattle.answered.proofs.Holding.{change_laws_hold}
 use Rattle.pull_patch.specs.Grammar.{answer_to}
 use Rattle.rebase.specs.Asking.{end_bytes_reply}
-use Rattle.rebase.specs.Calls.{AreAnswered, AreReplies, Caller, IsAlone, IsLater, IsReplyTo, MayRefuse, asked_mutation}
-use Rattle.rebase.specs.Calls.{caller_after, change_of, ended_in, id_in, moves_of_others, reply_to}
-use Rattle.rebase.specs.Queries.{IsMissed, told}
+use Rattle.commit_graph.specs.Seats.{IsLater}
+use Rattle.commit_graph.proofs.Seating.{later-self, later-trans}
+use Rattle.rebase.specs.Calls.{AreAnswered, AreReplies, Caller, IsAlone, IsReplyTo, MayRefuse, asked_mutation}
+use Rattle.rebase.specs.Calls.{caller, caller_after, caller_of, change_of, ended_in, id_in, last_after, moves_of_others}
+use Rattle.rebase.specs.Calls.{reply_to}
+use Rattle.rebase.specs.Clients.{ClientState, Grouped, IsSameClient}
+use Rattle.group_steps.specs.Missing.{IsMissed, told}
 use Rattle.rebase.specs.Replies.{Replied, reply_seen, ended, id}
 use Rattle.rebase.specs.declared.calls.Call.{Call}
 use Rattle.rebase.specs.declared.calls.Call.TheVariants as call
@@ -190,25 +194,15 @@ in_turn means tries old new (Err e) change right later alone is = by (change (Er
 
 -- LISTS OF CALLS
 
-later_self : (m : Known) → IsLater m m
-later_self m = record { book = refl; seat = refl; seen = prefix_self m.log }
-
-pub later_trans : (old mid new : Known) → IsLater old mid → IsLater mid new → IsLater old new
-later_trans old mid new a b = record {
-  book = b.book ∙ a.book;
-  seat = b.seat ∙ a.seat;
-  seen = prefix_trans old.log mid.log new.log a.seen b.seen;
-}
-
 -- calls only add to what their caller has seen
 calls_later : (means : Meanings) (reused : Type 0) (tries : ℕ) (c : Caller) (old : Known) (xs : List Call)
     (rs : List (Result Replied Refusal)) (new : Known) (end : Caller)
     → AreAnswered means reused tries c old xs rs new end → IsLater old new
-calls_later means reused tries c old [] [] new end all = subst (IsLater old) (sym all.0) (later_self old)
+calls_later means reused tries c old [] [] new end all = subst (IsLater old) (sym all.0) (later-self old)
 calls_later means reused tries c old [] (r ∷ rs) new end all = absurd all
 calls_later means reused tries c old (x ∷ xs) [] new end all = absurd all
 calls_later means reused tries c old (x ∷ xs) (r ∷ rs) new end all =
-    later_trans old all.0 new all.1 (calls_later means reused tries (caller_after c r) all.0 xs rs new end all.4)
+    later-trans old all.0 new all.1 (calls_later means reused tries (caller_after c r) all.0 xs rs new end all.4)
 
 -- Where no other seat moved the head between the first call and the last, none did so in any of them.
 pub alone_replies : (means : Meanings) (reused : Type 0) (tries : ℕ) (c : Caller) (old : Known) (xs : List Call)
@@ -280,6 +274,20 @@ turn means reused tries c d old mid new all i x rs news r l q h later is why n =
     (subst (λ w. AreAnswered means reused tries c old (take i all ++ x ∷ []) w new end) (sym back)
     (answered_more means reused tries c old mid new (take i all) (map (told reply_seen) rs) d x
     (told reply_seen r) h later is why))
+
+-- the client after a call is the caller after its reply
+pub caller_moves : (old new : ClientState) (r : Result Replied Refusal) → IsSameClient old new
+    → new.last ≡ last_after old.last r → caller_after (caller_of old) r ≡ caller_of new
+caller_moves old new r same is =
+    sym (ap (λ (g : Grouped). caller g.identity new.id new.last) same.0
+    ∙ ap (λ (i : Bytes). caller old.group.identity i new.last) same.1
+    ∙ ap (caller old.group.identity old.id) is)
+
+pub caller_stays : (old new : ClientState) → IsSameClient old new → new.last ≡ old.last → caller_of new ≡ caller_of old
+caller_stays old new same is =
+    ap (λ (g : Grouped). caller g.identity new.id new.last) same.0
+    ∙ ap (λ (i : Bytes). caller old.group.identity i new.last) same.1
+    ∙ ap (caller old.group.identity old.id) is
 
 -- REPLIES
 

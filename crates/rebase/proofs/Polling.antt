@@ -21,7 +21,8 @@ use Rattle.head_word.specs.Marks.{Known}
 use Rattle.head_word.proofs.BookLaws.{drawn_begins}
 use Rattle.commit_graph.proofs.Spelled.{map-grown}
 use Rattle.answered.specs.Answered.{Answers, IsPoint, IsRefused, nothing, own_moves}
-use Rattle.rebase.specs.Queries.{IsMissed, gave}
+use Rattle.group_steps.specs.Missing.{IsMissed}
+use Rattle.rebase.specs.Queries.{gave}
 use Rattle.rebase.proofs.CallLemmas.{missing}
 use Rattle.rebase.specs.declared.watching.Polled.{Polled}
 use Rattle.rebase.specs.declared.watching.Polled.TheVariants as polled

@@ -26,9 +26,9 @@ use Rattle.head_word.specs.Marks.{Known}
 use Rattle.commit_graph.specs.LastIds.{last_at}
 use Rattle.answered.specs.Answered.{Answers, IsPoint, IsRefused, is_want}
 use Rattle.answered.specs.Changes.{change_applied, change_made}
-use Rattle.rebase.specs.Queries.{told}
-use Rattle.rebase.specs.Inside.Changing.{ended_as, is_made}
-use Rattle.rebase.specs.Inside.Proposing.{HasLast, asked_reply, change_asked, is_applied}
+use Rattle.group_steps.specs.Missing.{told}
+use Rattle.group_steps.specs.Changing.{ended_as, is_made}
+use Rattle.group_steps.specs.Proposing.{HasLast, asked_reply, change_asked, is_applied}
 
 -- a value
 answers_as : {X Y : Type 0} (means : Meanings) (tries : ℕ) (old new : Known) (x : X) (y : Y)

@@ -21,8 +21,8 @@ use Rattle.answered.specs.Answered.{Answers, IsRefused, is_want}
 use Rattle.answered.specs.Changes.{change_read}
 use Rattle.answered.proofs.Moving.{point_seen}
 use Rattle.rebase.specs.Asking.{end_bytes_reply}
-use Rattle.rebase.proofs.Drafting.{right_or}
-use Rattle.rebase.proofs.Making.{wanting}
+use Rattle.group_steps.proofs.Drafting.{right_or}
+use Rattle.group_steps.proofs.Making.{wanting}
 
 -- WHAT IS ANSWERED
 

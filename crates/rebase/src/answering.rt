@@ -15,7 +15,7 @@ ghost use Rattle.group_steps.specs.Missing.{IsMissedOrDry, told};
 ghost use Rattle.rebase.specs.Calls.{Caller, IsAlone, AreAnswered, AreReplies, caller_of, change_of, is_query};
 ghost use Rattle.rebase.specs.Calls.{is_reading, last_after, reply_to};
 ghost use Rattle.rebase.specs.Clients.{Acts, Rests, Stays};
-ghost use Rattle.rebase.specs.Readers.{read_by};
+ghost use Rattle.rebase.specs.Readers.{lent, read_by};
 ghost use Rattle.rebase.specs.Replies.{reply_seen};
 
 use crate::calls::{Call, Reply};
@@ -51,11 +51,11 @@ fn ask<M: Means, S: Slots<M>>(tx: &ReadTx<'_, M, S>, call: Call<'_>) -> Result<R
 where
     S::Seat: Drop,
     requires query { is_query call ≡ true }
-    ensures value { (c : Caller) → IfOk result
-        (λ reply. reply_to M.means c (read_by tx.now) call.entry ≡ Ok (reply_seen reply)) }
+    ensures value { IfOk result (λ reply. reply_to M.means (caller_of (lent tx.now).now) (read_by tx.now) call.entry
+        ≡ Ok (reply_seen reply)) }
     ensures err { IfErr result (IsMissedOrDry S.reused) }
 {
-    let mut tx = tx.commit();
+    let mut tx = tx.commit()?;
     Ok(read_call(&mut tx, call)?)
 }
 

@@ -9,7 +9,8 @@ ghost use Rattle.group_history.specs.Mutating.{mutate_reply};
 ghost use Rattle.group_history.specs.Pulling.{end_reply};
 ghost use Rattle.group_history.specs.Refs.{stamp_of};
 ghost use Rattle.group_history.specs.State.{made};
-ghost use Rattle.head_word.specs.Books.{drawn};
+ghost use Rattle.group_history.specs.Answers.{Answers as Reads};
+ghost use Rattle.head_word.specs.Books.{IsOpened, drawn};
 ghost use Rattle.commit_graph.specs.LastIds.{last_at};
 ghost use Rattle.pull_patch.specs.Grammar.{answer_to};
 ghost use Rattle.answered.specs.Answered.{Answers, nothing};
@@ -28,7 +29,7 @@ use group_history::{
     Change, Cookie, Ended, Json, Mutation, Mutators, PullOk, Ref, Refusal, Response, Text,
     VersionKind,
 };
-use group_steps::{Request, closed_at, make_change};
+use group_steps::{Request, SharedGroup, closed_at, make_change};
 use pull_patch::read_response;
 use std::sync::Wait;
 
@@ -72,7 +73,8 @@ where
             change: &change,
             before,
         };
-        let made = make_change::<M, S>(&self.group, &mut self.seat, request, tries);
+        self.pinned = false;
+        let made = make_change::<M, S>(&self.group, &mut self.seat, &request, tries);
         drop(change);
         made
     }
@@ -164,6 +166,16 @@ where
         Err(Refusal::VersionNotSupported(kind))
     }
 
+    // Reads the bytes of a response. What the client has seen is a legal book.
+    fn response_in(&self, body: &[u8]) -> Result<Response, Refusal>
+        ensures read { Reads result (answer_to body.now) }
+        ensures legal { IsOpened M.means self.now.seat.mark.log }
+    {
+        self.seat.mark.legal();
+        let group: &SharedGroup<M, S> = &self.group;
+        read_response(group.shared.alloc, body)
+    }
+
     /// Ends a pull with the bytes of its response. They are read first, once, and refused with `NotJson`, `BadShape` or
     /// `NotWhole` where they are no response. Refused then, in this order, with `Closed`, what an error response says,
     /// `Overtaken`, `CookieWentBack`, `CookieNotNew` and `IdWentBack`; with `Moved` where others changed the group
@@ -180,8 +192,7 @@ where
             (λ s. end_bytes_reply s ticket.now.cookie.text body.now) }
         ensures acts { Acts S.reused self.old self.new × (self.new.last ≡ self.old.last) }
     {
-        self.seat.mark.legal();
-        let response = match read_response(self.group.shared.alloc, body) {
+        let response = match self.response_in(body) {
             Ok(response) => response,
             Err(e) => {
                 return self.refuse(e);

@@ -29,7 +29,7 @@ use crate::reading::Point;
 use crate::seats::Seat;
 use crate::tickets::Ticket;
 use chunk_slots::Slots;
-use commit_graph::{LastId, Seat as ClientSeat};
+use commit_graph::{LastId, Seat as ClientSeat, Shared};
 use group_history::{Cookie, Means, Ref, Refusal, Text};
 use group_steps::{
     At, Rooted, SharedGroup, body_at, cookie_at, find_last, pin_and_load, root_at, unpin,
@@ -55,6 +55,8 @@ where
     pub(crate) found: Ref,
     // What was read last.
     pub(crate) latest: Option<Rooted>,
+    // Whether its seat's pin is held, as far as it knows.
+    pub(crate) pinned: bool,
 }
 
 impl<M: Means, S: Slots<M>> Model for Client<M, S>
@@ -64,6 +66,8 @@ where
     ghost use Rattle.std.specs.Arc.{arc_value};
     ghost use Rattle.std.specs.Coded.{codes};
     ghost use Rattle.head_word.specs.contracts.entry.Entry as entry;
+    ghost use Rattle.std.specs.Prelude.{◌≡◌, true};
+    ghost use Rattle.commit_graph.specs.Seats.{is_held};
     ghost use Rattle.rebase.specs.Clients.{ClientState, grouped};
     ghost use Rattle.rebase.specs.Inside.Keeping.{Keeps};
 
@@ -72,13 +76,14 @@ where
     ghost coded = { Prim.hlevel (codes, entry.the_row.coded) };
 
     ghost view = { λ c. record {
-        group = grouped (arc_value c.group).shared (arc_value c.group).identity;
-        seat = c.seat;
-        id = c.id;
-        last = c.last;
-      } };
+      group = grouped (arc_value c.group).shared (arc_value c.group).identity;
+      seat = c.seat;
+      id = c.id;
+      last = c.last;
+    } };
 
-    ghost invariant = { λ c. Keeps S.reused (arc_value c.group).shared c.seat c.id c.last c.found c.latest };
+    ghost invariant = { λ c. Keeps S.reused (arc_value c.group).shared c.seat c.id c.last c.found c.latest
+        × (S.reused → c.pinned ≡ true → is_held c.seat.view.pin ≡ true) };
 }
 
 impl<M: Means, S: Slots<M>> Client<M, S>
@@ -96,7 +101,9 @@ where
         ensures stays { IfErr result (λ _. Stays S.reused self.old self.new) }
     {
         let group: &SharedGroup<M, S> = &self.group;
-        pin_and_load(&group.shared, &mut self.seat, tries)
+        let at = pin_and_load(&group.shared, &mut self.seat, tries);
+        self.pinned = at.is_ok();
+        at
     }
 
     // Takes the pin away.
@@ -105,6 +112,7 @@ where
         ensures mark { self.new.seat.mark ≡ self.old.seat.mark }
     {
         let group: &SharedGroup<M, S> = &self.group;
+        self.pinned = false;
         unpin(&group.shared, &mut self.seat);
     }
 
@@ -141,13 +149,8 @@ where
             at: self.found,
             id: self.last,
         };
-        find_last(
-            &self.group,
-            &mut self.seat,
-            &self.id,
-            Some(before),
-            tries,
-        )
+        self.pinned = false;
+        find_last(&self.group, &mut self.seat, &self.id, Some(before), tries)
     }
 
     /// The body of a push of all that is pending in the group.
@@ -232,8 +235,8 @@ where
     where
         M: Drop,
         S: Drop,
-        ensures looked { HasLooked S.reused self.entry.seat result }
-        ensures mark { result.mark ≡ self.entry.seat.mark }
+        ensures looked { HasLooked S.reused self.seat result }
+        ensures mark { result.mark ≡ self.seat.mark }
     {
         let mut client = self;
         client.finish();
@@ -244,6 +247,7 @@ where
             last: _,
             found: _,
             latest: _,
+            pinned: _,
         } = client;
         Seat { seat }
     }
@@ -264,8 +268,25 @@ where
         ensures same { IsSameClient self.old self.new × (self.new.last ≡ self.old.last) }
     {
         let group: &SharedGroup<M, S> = &self.group;
-        group.shared.head.learn(&mut self.seat.mark, other);
+        learn_on(&group.shared, &mut self.seat, other);
     }
+}
+
+// A seat learns what a mark of its group has seen.
+fn learn_on<M: Means, S: Slots<M>>(
+    shared: &Shared<M, S>,
+    seat: &mut ClientSeat<M, S>,
+    other: &Mark<M>,
+)
+where
+    S::Seat: Drop,
+    requires home { IsSeatOf shared.now seat.old }
+    requires book { other.now.book ≡ shared.now.book }
+    ensures other { IsPrefix other.now.log seat.new.mark.log }
+    ensures looked { HasLooked S.reused seat.old seat.new }
+    ensures view { seat.new.view ≡ seat.old.view }
+{
+    shared.head.learn(&mut seat.mark, other);
 }
 
 // The ticket of a pull at a cookie.
@@ -310,6 +331,7 @@ where
             last: found.id,
             found: found.at,
             latest: None,
+            pinned: false,
         }),
         Err(e) => Err((Seat { seat }, Refusal::from(e))),
     }

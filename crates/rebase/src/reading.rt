@@ -1,6 +1,7 @@
 //! One commit, read as often as its reader likes.
-ghost use Rattle.std.specs.Prelude.{◌≡◌, ◌⊎◌, true, Some, IfOk, IfErr, OnOk};
+ghost use Rattle.std.specs.Prelude.{◌≡◌, ◌⊎◌, Some, IfOk, IfErr, OnOk};
 ghost use mathlib.Core.List.{IsPrefix};
+ghost use Rattle.group_history.specs.declared.refusals.Refusal.TheVariants.{Gone};
 ghost use Rattle.group_history.specs.Queries.{get_at, has_at, rows_at, is_empty_at};
 ghost use Rattle.group_history.specs.Record.{after};
 ghost use Rattle.group_history.specs.Refs.{stamp_of};
@@ -9,7 +10,7 @@ ghost use Rattle.group_history.specs.State.{view_of};
 ghost use Rattle.head_word.specs.Books.{drawn, record_of};
 ghost use Rattle.head_word.specs.Marks.{known};
 ghost use Rattle.map_chunks.specs.Sinks.{HasMore};
-ghost use Rattle.commit_graph.specs.Seats.{IsReading, is_held};
+ghost use Rattle.commit_graph.specs.Seats.{IsReading};
 ghost use Rattle.group_steps.specs.Missing.{IsMissed, IsMissedOrDry};
 ghost use Rattle.rebase.specs.Clients.{Stays};
 
@@ -117,7 +118,6 @@ where
     at: Point<M>,
     tries: u32,
     ghost book: { at.book ≡ client.now.seat.mark.book },
-    ghost held: { S.reused → is_held client.now.seat.view.pin ≡ true },
 }
 
 impl<'a, M: Means, S: Slots<M>> ReadTx<'a, M, S>
@@ -128,7 +128,6 @@ where
 
     pub(crate) fn new(client: &'a mut Client<M, S>, at: Point<M>, tries: u32) -> ReadTx<'a, M, S>
         requires book { at.book ≡ client.old.seat.mark.book }
-        requires held { S.reused → is_held client.old.seat.view.pin ≡ true }
         ensures same_reference { (lent result).ghost_name ≡ client.entry.ghost_name }
         ensures client { (lent result).now ≡ client.old }
         ensures at { seen_by result ≡ at }
@@ -149,13 +148,18 @@ where
         client.group.shared.alloc
     }
 
-    // Its commit.
-    pub(crate) fn commit(&self) -> CommitTx<StoreNodes<'_, M, S>>
-        ensures { result.version ≡ version_of M.means (read_by self.now) }
+    // Its commit. The client's pin is held as long as there is the reader; that is looked at, since no type can keep what
+    // holds behind a `&mut` until the reader is let go, and not a moment longer.
+    pub(crate) fn commit(&self) -> Result<CommitTx<StoreNodes<'_, M, S>>, Refusal>
+        ensures version { IfOk result (λ tx. tx.version ≡ version_of M.means (read_by self.now)) }
+        ensures gone { IfErr result (λ e. e ≡ Gone) }
     {
         let client = &*self.client;
+        if !client.pinned {
+            return Err(Refusal::Gone);
+        }
         let group: &SharedGroup<M, S> = &client.group;
-        self.at.open(&group.shared, &client.seat, self.tries)
+        Ok(self.at.open(&group.shared, &client.seat, self.tries))
     }
 
     /// The value at a key.
@@ -164,7 +168,7 @@ where
             ≡ get_at M.means (read_by self.now) key.now) }
         ensures err { IfErr result (IsMissedOrDry S.reused) }
     {
-        let mut tx = self.commit();
+        let mut tx = self.commit()?;
         Ok(tx.get(key)?)
     }
 
@@ -174,7 +178,7 @@ where
             ≡ has_at M.means (read_by self.now) key.now) }
         ensures missed { IfErr result (IsMissed S.reused) }
     {
-        let mut tx = self.commit();
+        let mut tx = self.commit()?;
         Ok(tx.has(key)?)
     }
 
@@ -184,7 +188,7 @@ where
             ≡ rows_at M.means (read_by self.now) scan.now) }
         ensures err { IfErr result (IsMissedOrDry S.reused) }
     {
-        let mut tx = self.commit();
+        let mut tx = self.commit()?;
         Ok(tx.scan(scan)?)
     }
 
@@ -195,7 +199,7 @@ where
             (rows_at M.means (read_by self.now) scan.now)) }
         ensures err { IfErr result (IsMissedOrDry S.reused) }
     {
-        let mut tx = self.commit();
+        let mut tx = self.commit()?;
         Ok(tx.scan_into(scan, sink)?)
     }
 
@@ -205,7 +209,7 @@ where
             ≡ is_empty_at M.means (read_by self.now)) }
         ensures missed { IfErr result (IsMissed S.reused) }
     {
-        let mut tx = self.commit();
+        let mut tx = self.commit()?;
         Ok(tx.is_empty()?)
     }
 
@@ -214,7 +218,7 @@ where
         ensures pending { IfOk result (λ xs. xs.items ≡ (read_by self.now).pending) }
         ensures err { IfErr result (IsMissedOrDry S.reused) }
     {
-        let mut tx = self.commit();
+        let mut tx = self.commit()?;
         Ok(tx.pending()?)
     }
 
@@ -222,7 +226,7 @@ where
         ensures cookie { IfOk result (λ cookie. cookie ≡ (read_by self.now).cookie) }
         ensures err { IfErr result (IsMissedOrDry S.reused) }
     {
-        let mut tx = self.commit();
+        let mut tx = self.commit()?;
         Ok(tx.cookie()?)
     }
 
@@ -231,7 +235,7 @@ where
         ensures closed { IfOk result (λ closed. closed ≡ (read_by self.now).closed) }
         ensures missed { IfErr result (IsMissed S.reused) }
     {
-        let mut tx = self.commit();
+        let mut tx = self.commit()?;
         Ok(tx.closed()?)
     }
 
@@ -264,7 +268,9 @@ where
             at: _,
             tries: _,
         } = self;
+        client.pinned = false;
         let group: &SharedGroup<M, S> = &client.group;
-        group.shared.store.unpin(&mut client.seat.slots);
+        let seat = &mut client.seat;
+        group.shared.store.unpin(&mut seat.slots);
     }
 }

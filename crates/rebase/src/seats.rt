@@ -2,7 +2,7 @@
 //!
 //! A group has as many seats as clients may use it at a time. A seat claims slots of the group's store, and
 //! bears a number of the group's book. One that is out of use has no pin and no taken slot.
-ghost use Rattle.std.specs.Prelude.{◌≡◌, ◌<◌, [], ◌∷◌, ◌++◌, length, IfOk, IfErr};
+ghost use Rattle.std.specs.Prelude.{◌≡◌, ◌<◌, ◌≤◌, [], ◌∷◌, ◌++◌, length, IfOk, IfErr};
 ghost use Rattle.std.specs.List.{All};
 ghost use Rattle.group_history.specs.declared.refusals.Refusal.TheVariants as refusal;
 ghost use Rattle.head_word.specs.Marks.{HasSeat};
@@ -117,7 +117,7 @@ where
     pub fn back(&mut self, seat: Seat<M, S>)
         requires room { length self.old.free < self.old.room }
         ensures free { self.new.free ≡ self.old.free ++ seat ∷ [] }
-        ensures capacity { self.new.room ≡ self.old.room }
+        ensures capacity { self.old.room ≤ self.new.room }
     {
         let _ = self.free.push(seat);
     }

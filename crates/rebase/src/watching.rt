@@ -220,7 +220,10 @@ impl<M: Means> Watch<M> {
     }
 
     // The rows, if they are others than those that were told last, or the first ones.
-    fn others<S: Slots<M>>(&self, tx: &ReadTx<'_, M, S>) -> Result<Option<Vec<(Text, Json)>>, Refusal>
+    fn others<S: Slots<M>>(
+        &self,
+        tx: &ReadTx<'_, M, S>,
+    ) -> Result<Option<Vec<(Text, Json)>>, Refusal>
     where
         S::Seat: Drop,
         ensures some { IfOk result (λ found. IfSome found

@@ -2,15 +2,16 @@ use Rattle.std.proofs.Common.{◌≡◌, ◌+◌, ◌≤◌, length}
 use Rattle.std.specs.List.{All}
 use Rattle.head_word.specs.Marks.{HasSeat}
 use Rattle.chunk_slots.specs.Seats.{IsIdle}
+use Rattle.rebase.specs.Clients.{AreSeatsOf}
 use Rattle.rebase.proofs.seats.seat_all.Given as goal
 
 abbrev pub invariant-loop-mark : goal.invariant-loop-mark
 invariant-loop-mark g l = record {
-  claimed : All (λ seat. (g.S.Slots.home seat ≡ g.S.Slots.serves l.store)
+  claimed : All (λ seat. (g.S.Slots.home seat ≡ l.fn.shared.table)
       × (g.S.Slots.reused → IsIdle (g.S.Slots.view seat))) l.claimed.items;
-  marks : All (HasSeat l.head) l.marks.items;
+  marks : All (HasSeat l.fn.shared.book) l.marks.items;
   same : length l.claimed.items ≡ length l.marks.items;
-  free : All (λ seat. (seat.mark.book ≡ l.head) × (g.S.Slots.home seat.slots ≡ g.S.Slots.serves l.store)) l.free.items;
+  free : AreSeatsOf l.fn.shared l.free.items;
   count : length l.marks.items + length l.free.items ≡ length l.fn.marks.items;
   room : length l.fn.marks.items ≤ l.free.cap;
 }

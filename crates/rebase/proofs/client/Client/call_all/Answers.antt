@@ -1,13 +1,21 @@
-use Rattle.std.proofs.Common.{map}
-use Rattle.rebase.specs.Calls.{caller}
-use Rattle.rebase.specs.Queries.{told}
+use Rattle.std.proofs.Common.{map, sym, ap, subst, ◌∙◌}
+use Rattle.group_history.specs.Record.{after}
+use Rattle.head_word.specs.Books.{record_of}
+use Rattle.head_word.specs.Marks.{Known}
+use Rattle.group_steps.specs.Missing.{told}
+use Rattle.rebase.specs.Calls.{AreAnswered, AreReplies, Caller, IsAlone, caller_of}
 use Rattle.rebase.specs.Replies.{reply_seen}
-use Rattle.rebase.proofs.CallLemmas.{alone_replies}
+use Rattle.rebase.proofs.CallLemmas.{alone_replies, caller_stays}
 use Rattle.rebase.proofs.client.Client.call_all.Goals as goal
 
 pub returns-clause-replies : goal.returns-clause-replies
 returns-clause-replies g c alone =
-    let old = c.args.self.now in let new = c.call_each.new.self in let identity = old.group.now.identity in
-    alone_replies g.M.Means.means g.S.Slots.reused c.args.tries (caller identity old.id old.last) old.mark
-    c.args.calls.now (map (told reply_seen) c.call_each.new.replies.items) new.mark
-    (caller identity old.id new.last) c.call_each.ensures.answers alone
+    let means = g.M.Means.means in let old = c.args.self.now in let mid = c.finish.new.self in
+    let new = c.call_each.new.self in let rs = map (told reply_seen) c.call_each.new.replies.items in
+    let who = caller_stays old mid c.finish.ensures.stays.0.client c.finish.ensures.stays.1 in
+    let answered = subst (λ (d : Caller). AreAnswered means g.S.Slots.reused c.args.tries d old.seat.mark
+    c.args.calls.now rs new.seat.mark (caller_of new)) who
+    (subst (λ (m : Known). AreAnswered means g.S.Slots.reused c.args.tries (caller_of mid) m c.args.calls.now rs
+    new.seat.mark (caller_of new)) c.finish.ensures.mark c.call_each.ensures.answers) in
+    alone_replies means g.S.Slots.reused c.args.tries (caller_of old) old.seat.mark c.args.calls.now rs new.seat.mark
+    (caller_of new) answered alone

@@ -7,17 +7,17 @@ use Rattle.group_history.specs.Cookies.{Cookie}
 use Rattle.group_history.specs.Pulling.{end_reply}
 use Rattle.answered.specs.Answered.{Answers}
 use Rattle.answered.specs.Changes.{change_applied}
-use Rattle.rebase.specs.Inside.Changing.{is_made}
-use Rattle.rebase.specs.Inside.Proposing.{asked_reply, change_asked}
-use Rattle.rebase.specs.Queries.{told}
+use Rattle.group_steps.specs.Changing.{is_made}
+use Rattle.group_steps.specs.Proposing.{asked_reply, change_asked}
+use Rattle.group_steps.specs.Missing.{told}
 use Rattle.rebase.proofs.Telling.{pull_told}
 use Rattle.rebase.proofs.client.Client.end_applied.Goals as goal
 
-pub returns-clause-answer : goal.returns-clause-answer
-returns-clause-answer g c =
-    let means = g.M.Means.means in let old = c.args.self.now.mark in let new = c.change.new.self.mark in
+pub returns-in-Ok-clause-answer : goal.returns-in-Ok-clause-answer
+returns-in-Ok-clause-answer g c =
+    let means = g.M.Means.means in let old = c.args.self.now.seat.mark in let new = c.change.new.self.seat.mark in
     let t = c.args.ticket.now in let r = c.args.pull in let last = c.args.self.now.last in
-    let clone : c.in_ok-cookie.cookie ≡ t = search rules in
+    let clone : c.in-Ok.cookie ≡ t = search rules in
     let made = subst (λ (k : Cookie). Answers means c.args.tries old new (told is_made c.change.result)
     (change_asked (Pulled k r)) (λ s. asked_reply means s last (Pulled k r))) clone c.change.ensures.answer in
     subst (λ (w : Result Ended Refusal). Answers means c.args.tries old new w (change_applied t r)

@@ -1,14 +1,11 @@
-use Rattle.group_history.specs.Refs.{stamp_of}
-use Rattle.rebase.proofs.Finding.{last_grown}
-use Rattle.rebase.proofs.Rooting.{roots_stay}
+use Rattle.std.proofs.Common.{◌∙◌}
+use Rattle.rebase.proofs.Keeping.{keeps_later}
 use Rattle.rebase.proofs.client.Client.find.Goals as goal
 
-pub invariant_of-self-clause-at : goal.invariant_of-self-clause-at
-invariant_of-self-clause-at g c =
-    let client = c.args.self.now in last_grown client.mark.log c.find_last.new.mark.log
-    (stamp_of client.found) client.id client.last c.find_last.ensures.seen client.at
-
-pub invariant_of-self-clause-rooted : goal.invariant_of-self-clause-rooted
-invariant_of-self-clause-rooted g c =
-    let client = c.args.self.now in
-    roots_stay client.mark.log c.find_last.new.mark.log client.latest c.find_last.ensures.seen client.rooted
+pub invariant_of-self : goal.invariant_of-self
+invariant_of-self g c =
+    let k = c.self.inside in let looked = c.find_last.ensures.looked in (
+      keeps_later g.S.Slots.reused _ k.seat c.find_last.new.seat k.id k.last k.found k.latest looked.seat
+          (λ r. (looked.calm r).0 ∙ c.self.invariant.0.none r) c.self.invariant.0,
+      λ r no. absurd (cc no),
+    )

@@ -2,8 +2,9 @@ use Rattle.std.proofs.Common.{Ok, refl}
 use Rattle.group_history.specs.State.{State, last_id}
 use Rattle.push_body.specs.Bodies.{push_text}
 use Rattle.answered.specs.Answered.{nothing}
-use Rattle.rebase.specs.Calls.{caller}
-use Rattle.rebase.specs.Queries.{asked, asked_at, told}
+use Rattle.rebase.specs.Calls.{caller_of}
+use Rattle.group_steps.specs.Missing.{told}
+use Rattle.rebase.specs.Queries.{asked, asked_at}
 use Rattle.rebase.specs.Replies.{body, ended, id, reply_seen, ticket}
 use Rattle.rebase.specs.declared.calls.Call.TheVariants as call
 use Rattle.rebase.specs.declared.calls.Reply.TheVariants as reply
@@ -13,8 +14,8 @@ use Rattle.rebase.proofs.client.Client.make_call.Goals as goal
 pub returns-in-Mutate-clause-answer : goal.returns-in-Mutate-clause-answer
 returns-in-Mutate-clause-answer g c =
     let old = c.args.self.now in
-    mutated_told g.M.Means.means c.args.tries old.mark c.try_mutate.new.self.mark
-    (caller old.group.now.identity old.id old.last) c.args.call c.in-Mutate.m c.try_mutate.result
+    mutated_told g.M.Means.means c.args.tries old.seat.mark c.try_mutate.new.self.seat.mark
+    (caller_of old) c.args.call c.in-Mutate.m c.try_mutate.result
     (told reply_seen c.map-in-Mutate.result) c.in-Mutate.is
     (mapped reply.Id id c.try_mutate.result c.map-in-Mutate.result (λ n. refl) c.map-in-Mutate.ensures.cases)
     c.try_mutate.ensures.answer
@@ -22,8 +23,8 @@ returns-in-Mutate-clause-answer g c =
 pub returns-in-EndPull-clause-answer : goal.returns-in-EndPull-clause-answer
 returns-in-EndPull-clause-answer g c =
     let old = c.args.self.now in
-    ended_told g.M.Means.means c.args.tries old.mark c.try_end_pull.new.self.mark
-    (caller old.group.now.identity old.id old.last) c.args.call c.in-EndPull.ticket c.in-EndPull.body
+    ended_told g.M.Means.means c.args.tries old.seat.mark c.try_end_pull.new.self.seat.mark
+    (caller_of old) c.args.call c.in-EndPull.ticket c.in-EndPull.body
     c.try_end_pull.result (told reply_seen c.map-in-EndPull.result) c.in-EndPull.is
     (mapped reply.Ended ended c.try_end_pull.result c.map-in-EndPull.result (λ e. refl) c.map-in-EndPull.ensures.cases)
     c.try_end_pull.ensures.answer
@@ -31,8 +32,8 @@ returns-in-EndPull-clause-answer g c =
 pub returns-in-Refresh-clause-answer : goal.returns-in-Refresh-clause-answer
 returns-in-Refresh-clause-answer g c =
     let old = c.args.self.now in
-    call_told id g.M.Means.means c.args.tries old.mark c.refresh.new.self.mark
-    (caller old.group.now.identity old.id old.last) c.args.call call.Refresh c.refresh.result
+    call_told id g.M.Means.means c.args.tries old.seat.mark c.refresh.new.self.seat.mark
+    (caller_of old) c.args.call call.Refresh c.refresh.result
     (told reply_seen c.map.result) nothing (λ (s : State). Ok (last_id s old.id)) c.in-Refresh.is
     (mapped reply.Id id c.refresh.result c.map.result (λ n. refl) c.map.ensures.cases) refl (λ s. refl)
     c.refresh.ensures.answer
@@ -40,15 +41,15 @@ returns-in-Refresh-clause-answer g c =
 pub returns-in-PushBody-clause-answer : goal.returns-in-PushBody-clause-answer
 returns-in-PushBody-clause-answer g c =
     let old = c.args.self.now in
-    query_told reply.Body (λ b. b.items) body g.M.Means.means c.args.tries old.mark c.push_body.new.self.mark
-    (caller old.group.now.identity old.id old.last) c.args.call call.PushBody c.push_body.result
-    c.map-in-PushBody.result (λ s. push_text old.group.now.identity s.pending) c.in-PushBody.is (λ b. refl)
+    query_told reply.Body (λ b. b.items) body g.M.Means.means c.args.tries old.seat.mark c.push_body.new.self.seat.mark
+    (caller_of old) c.args.call call.PushBody c.push_body.result
+    c.map-in-PushBody.result (λ s. push_text old.group.identity s.pending) c.in-PushBody.is (λ b. refl)
     c.map-in-PushBody.ensures.cases refl (λ s. refl) c.push_body.ensures.answer
 
 pub returns-in-BeginPull-clause-answer : goal.returns-in-BeginPull-clause-answer
 returns-in-BeginPull-clause-answer g c =
     let old = c.args.self.now in
-    query_told reply.Ticket asked ticket g.M.Means.means c.args.tries old.mark c.begin_pull.new.self.mark
-    (caller old.group.now.identity old.id old.last) c.args.call call.BeginPull c.begin_pull.result
-    c.map-in-BeginPull.result (λ s. asked_at old.group.now.identity s) c.in-BeginPull.is (λ t. refl)
+    query_told reply.Ticket asked ticket g.M.Means.means c.args.tries old.seat.mark c.begin_pull.new.self.seat.mark
+    (caller_of old) c.args.call call.BeginPull c.begin_pull.result
+    c.map-in-BeginPull.result (λ s. asked_at old.group.identity s) c.in-BeginPull.is (λ t. refl)
     c.map-in-BeginPull.ensures.cases refl (λ s. refl) c.begin_pull.ensures.answer

@@ -6,7 +6,7 @@ use Rattle.group_history.specs.State.{made}
 use Rattle.answered.specs.Answered.{Answers}
 use Rattle.answered.specs.Changes.{change_made}
 use Rattle.rebase.specs.Asking.{is_passing}
-use Rattle.group_history.proofs.Lists.{prefix_trans}
+use Rattle.commit_graph.proofs.Seating.{seat-trans}
 use Rattle.rebase.proofs.Lasting.{begun_anew, left_alone, passing_err}
 use Rattle.rebase.proofs.client.Client.mutate.Goals as goal
 
@@ -17,42 +17,34 @@ returns-then-not-is_passing-clause-answer g c =
     let reply = c.try_mutate-reply.result in
     let name = c.args.name.now in let args = c.args.args.now in let time = c.args.time in
     let lasts : is_passing reply ≡ false = search rules in
-    let id = subst (λ (client : Bytes). Answers means 1000 mid.mark new.mark reply
+    let id = subst (λ (client : Bytes). Answers means 1000 mid.seat.mark new.seat.mark reply
     (change_made (made client (mid.last + 1) name args time))
-    (λ s. mutate_reply means s mid.last (made client (mid.last + 1) name args time))) i.5
+    (λ s. mutate_reply means s mid.last (made client (mid.last + 1) name args time))) i.client.1
     c.try_mutate-reply.ensures.answer in
-    let last = subst (λ (n : ℕ). Answers means 1000 mid.mark new.mark reply
+    let last = subst (λ (n : ℕ). Answers means 1000 mid.seat.mark new.seat.mark reply
     (change_made (made old.id (n + 1) name args time))
-    (λ s. mutate_reply means s n (made old.id (n + 1) name args time))) i.6 id in
-    begun_anew means 1000 0 old.mark mid.mark new.mark reply (change_made (made old.id (old.last + 1) name args time))
-    (λ s. mutate_reply means s old.last (made old.id (old.last + 1) name args time)) i.2 i.1 i.3 lasts last
+    (λ s. mutate_reply means s n (made old.id (n + 1) name args time))) i.last id in
+    begun_anew means 1000 0 old.seat.mark mid.seat.mark new.seat.mark reply (change_made (made old.id (old.last + 1) name args time))
+    (λ s. mutate_reply means s old.last (made old.id (old.last + 1) name args time)) i.seat.later.seen i.seat.later.seat i.own lasts last
 
 pub returns-then-not-is_passing-clause-last : goal.returns-then-not-is_passing-clause-last
 returns-then-not-is_passing-clause-last g c = subst (λ (n : ℕ). IfOk c.try_mutate-reply.result
-    (λ id. (id ≡ n + 1) × (c.try_mutate-reply.new.self.last ≡ id))) c.loop-turn.invariant.6
+    (λ id. (id ≡ n + 1) × (c.try_mutate-reply.new.self.last ≡ id))) c.loop-turn.invariant.last
     c.try_mutate-reply.ensures.last
 
 pub returns-then-not-is_passing-clause-left : goal.returns-then-not-is_passing-clause-left
 returns-then-not-is_passing-clause-left g c = subst (λ (n : ℕ). IfErr c.try_mutate-reply.result
-    (λ _. c.try_mutate-reply.new.self.last ≡ n)) c.loop-turn.invariant.6 c.try_mutate-reply.ensures.left
-
-pub returns-then-not-is_passing-clause-seen : goal.returns-then-not-is_passing-clause-seen
-returns-then-not-is_passing-clause-seen g c =
-    prefix_trans _ _ _ c.loop-turn.invariant.2 c.try_mutate-reply.ensures.seen
+    (λ _. c.try_mutate-reply.new.self.last ≡ n)) c.loop-turn.invariant.last c.try_mutate-reply.ensures.left
 
 pub loop-turn-preserved : goal.loop-turn-preserved
 loop-turn-preserved g c =
-    let means = g.M.Means.means in let old = c.args.self.now in let mid = c.loop-turn.self in
+    let old = c.args.self.now in let mid = c.loop-turn.self in let new = c.try_mutate-reply.new.self in
     let i = c.loop-turn.invariant in let e = c.try_mutate-reply.ensures in
     let x = made mid.id (mid.last + 1) c.args.name.now c.args.args.now c.args.time in
-    let passes : is_passing c.try_mutate-reply.result ≡ true = search rules in (
-      e.seat.0 ∙ i.0,
-      e.seat.1 ∙ i.1,
-      prefix_trans _ _ _ i.2 e.seen,
-      left_alone means 1000 mid.mark c.try_mutate-reply.new.self.mark c.try_mutate-reply.result (change_made x)
-          (λ s. mutate_reply means s mid.last x) passes (λ _ _. refl) e.answer ∙ i.3,
-      e.same.0 ∙ i.4,
-      e.same.1 ∙ i.5,
-      passing_err c.try_mutate-reply.result _ passes e.left ∙ i.6,
-      λ r idle. e.idle r (i.7 r idle),
-    )
+    let passes : is_passing c.try_mutate-reply.result ≡ true = search rules in record {
+      client = (e.acts.client.0 ∙ i.client.0, e.acts.client.1 ∙ i.client.1);
+      last = passing_err c.try_mutate-reply.result _ passes e.left ∙ i.last;
+      seat = seat-trans old.seat mid.seat new.seat i.seat e.acts.seat;
+      own = left_alone g.M.Means.means 1000 mid.seat.mark new.seat.mark c.try_mutate-reply.result (change_made x)
+          (λ s. mutate_reply g.M.Means.means s mid.last x) passes (λ _ _. refl) e.answer ∙ i.own;
+    }

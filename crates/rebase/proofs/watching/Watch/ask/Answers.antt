@@ -1,15 +1,19 @@
+use Rattle.std.proofs.Common.{◌≡◌, Some, subst}
 use Rattle.group_history.specs.Queries.{rows_at}
 use Rattle.group_history.specs.Record.{after}
 use Rattle.head_word.specs.Books.{record_of}
+use Rattle.head_word.specs.Marks.{Known}
+use Rattle.rebase.specs.Readers.{read_by}
 use Rattle.rebase.proofs.Polling.{none_of, told_again}
 use Rattle.rebase.proofs.watching.Watch.ask.Goals as goal
 
 pub returns-then-has_read-clause-value : goal.returns-then-has_read-clause-value
 returns-then-has_read-clause-value g c =
-    let w = c.args.self.now in told_again w.last (rows_at g.M.Means.means (after (record_of c.args.at.now.log)) w.scan)
-    (c.has_read.ensures c.if-has_read.true)
+    let w = c.args.self.now in told_again w.last (rows_at g.M.Means.means (read_by c.args.tx.now) w.scan)
+    (subst (λ (k : Known). w.last ≡ Some (rows_at g.M.Means.means (after (record_of k.log)) w.scan))
+    c.point-at.ensures (c.has_read.ensures c.if-has_read.true))
 
 pub returns-in_default-clause-value : goal.returns-in_default-clause-value
 returns-in_default-clause-value g c =
-    let w = c.args.self.now in told_again w.last (rows_at g.M.Means.means (after (record_of c.args.at.now.log)) w.scan)
+    let w = c.args.self.now in told_again w.last (rows_at g.M.Means.means (read_by c.args.tx.now) w.scan)
     (none_of c.in_ok-rows.field-0 c.in_default.is c.in_ok-rows.ensures.same)

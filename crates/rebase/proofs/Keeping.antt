@@ -1,0 +1,27 @@
+-- What a client keeps beside its seat stays right while its seat learns more.
+use Rattle.std.proofs.Common.{◌≡◌, ℕ, [], true, Option, Result, Ok, Err, IfOk, is_ok, ◌∙◌}
+use Rattle.group_history.specs.declared.refs.Ref.{Ref}
+use Rattle.group_history.specs.declared.refusals.Refusal.{Refusal}
+use Rattle.group_history.specs.Map.{Bytes}
+use Rattle.group_history.specs.Refs.{stamp_of}
+use Rattle.commit_graph.specs.Seats.{GroupId, IsSameSeat, Seated}
+use Rattle.group_steps.specs.declared.views.Rooted.{Rooted}
+use Rattle.group_steps.proofs.Finding.{last_grown}
+use Rattle.group_steps.proofs.Rooting.{roots_stay}
+use Rattle.rebase.specs.Inside.Keeping.{Keeps}
+
+pub keeps_later : (reused : Type 0) (group : GroupId) (old new : Seated) (id : Bytes) (last : ℕ) (found : Ref)
+    (latest : Option Rooted) → IsSameSeat old new → (reused → new.view.taken ≡ [])
+    → Keeps reused group old id last found latest → Keeps reused group new id last found latest
+keeps_later reused group old new id last found latest same none k = record {
+  home = (same.later.book ∙ k.home.0, same.table ∙ k.home.1);
+  none = none;
+  at = last_grown old.mark.log new.mark.log (stamp_of found) id last same.later.seen k.at;
+  low = k.low;
+  rooted = roots_stay old.mark.log new.mark.log latest same.later.seen k.rooted;
+}
+
+-- what holds where a call was answered
+pub where_ok : {X P : Type 0} (r : Result X Refusal) → is_ok r ≡ true → IfOk r (λ _. P) → P
+where_ok (Ok x) is h = h
+where_ok (Err e) is h = absurd (cc is)
