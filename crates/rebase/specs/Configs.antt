@@ -1,8 +1,15 @@
 -- How a group may be laid out. This project's own rules.
 use Rattle.std.specs.Prelude.{ℕ, nat_le, ◌&&◌, Bool, if◌then◌else◌, Option, Some, None}
 use Rattle.group_history.specs.Refs.{max_slots, max_seats}
+use Rattle.push_body.specs.declared.identities.Identity.{Identity}
 use Rattle.rebase.specs.declared.config.OutOfRange.{OutOfRange}
 use Rattle.rebase.specs.declared.config.OutOfRange.TheVariants.{Slots, Seats}
+
+-- how a group is laid out, and whose requests it writes
+pub record Layout : Type 0 where
+  pub identity : Identity
+  pub slots : ℕ
+  pub seats : ℕ
 
 -- a group has at least so many slots
 abbrev pub min_slots : ℕ

@@ -5,6 +5,7 @@ ghost use Rattle.rebase.specs.Configs.{min_slots, out_of_range};
 
 use group_history::{MAX_SEATS, MAX_SLOTS};
 use push_body::Identity;
+use std::marker::Model;
 use thiserror::Error;
 
 /// A group has at least so many slots.
@@ -28,7 +29,18 @@ pub struct Config {
     identity: Identity,
     slots: u32,
     seats: u32,
-    ghost in_range: { (min_slots ≤ slots) × (slots ≤ max_slots) × (1 ≤ seats) × (seats ≤ max_seats) },
+}
+
+impl Model for Config {
+    ghost use Rattle.std.specs.Prelude.{◌≤◌};
+    ghost use Rattle.group_history.specs.Refs.{max_slots, max_seats};
+    ghost use Rattle.rebase.specs.Configs.{Layout, min_slots};
+
+    ghost Value = { Layout };
+
+    ghost view = { λ c. record { identity = c.identity; slots = c.slots; seats = c.seats } };
+
+    ghost invariant = { λ c. (min_slots ≤ c.slots) × (c.slots ≤ max_slots) × (1 ≤ c.seats) × (c.seats ≤ max_seats) };
 }
 
 impl Config {
