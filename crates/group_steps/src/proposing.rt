@@ -151,6 +151,46 @@ fn kind_at_end(left: usize) -> Kind
     Kind::Ordinary
 }
 
+// Drafts the commits of the state after a pull, where these mutations are pending.
+fn propose_replayed<'a, M: Mutators, S: Slots<M>>(
+    at: &At<'a, M, S>,
+    spot: Spot,
+    before: &Base,
+    pending: &[Mutation],
+    pull: &PullOk,
+) -> Result<Proposal, Refusal>
+where
+    S::Seat: Drop,
+    requires spot { IsSpot M.means at.now spot.tip spot.first }
+    requires before { IsBaseOf (drawn at.now.mark.log) (state_at at.now) before.now }
+    requires pending { pending.now ≡ (state_at at.now).pending }
+    ensures spelled { IfOk result (λ p. Spells M.means (with_nodes (drawn at.now.mark.log) p.draft.nodes)
+        (stamp_of p.at) (after_pull (state_at at.now) pull.now)) }
+    ensures kind { IfOk result (λ p. p.kind ≡ kind_left (after_pull (state_at at.now) pull.now).pending) }
+    ensures first { IfOk result (λ p. (p.draft.first ≡ spot.first) × (p.base ≡ at.now.commit)) }
+    ensures some { IfOk result (λ p. 0 < length p.draft.nodes) }
+    ensures in_range { OnOk result (AreInRange pull.now.changes) }
+    ensures err { IfErr result (λ e. (is_want e ≡ true) × (e ≢ refusal.Moved)) }
+{
+    let group = at.group;
+    let alloc = group.shared.alloc;
+    let mut draft = Draft::new(alloc, spot.first);
+    let setting = Setting {
+        alloc,
+        chunks: at.nodes(),
+        mutators: &group.mutators,
+    };
+    let made = draft_rebase::<StoreNodes<'a, M, S>, Brand, M>(
+        &setting, &mut draft, before, pending, pull,
+    )?;
+    Ok(Proposal {
+        base: at.commit,
+        draft,
+        at: made.commit,
+        kind: kind_at_end(made.left),
+    })
+}
+
 // Drafts the commits of the state after a pull.
 fn propose_rebase<'a, M: Mutators, S: Slots<M>>(
     at: &At<'a, M, S>,
@@ -171,23 +211,12 @@ where
     ensures err { IfErr result (λ e. (is_want e ≡ true) × (e ≢ refusal.Moved)) }
 {
     let group = at.group;
-    let alloc = group.shared.alloc;
-    let pending = pending_at::<StoreNodes<'a, M, S>, Brand>(alloc, at.nodes(), at.commit)?;
-    let mut draft = Draft::new(alloc, spot.first);
-    let setting = Setting {
-        alloc,
-        chunks: at.nodes(),
-        mutators: &group.mutators,
-    };
-    let made = draft_rebase::<StoreNodes<'a, M, S>, Brand, M>(
-        &setting, &mut draft, before, &pending, pull,
+    let pending = pending_at::<StoreNodes<'a, M, S>, Brand>(
+        group.shared.alloc,
+        at.nodes(),
+        at.commit,
     )?;
-    Ok(Proposal {
-        base: at.commit,
-        draft,
-        at: made.commit,
-        kind: kind_at_end(made.left),
-    })
+    propose_replayed(at, spot, before, &pending, pull)
 }
 
 // What leads to the pull, at an open group of this basis. Nothing where the response brings nothing new.

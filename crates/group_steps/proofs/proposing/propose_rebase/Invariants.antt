@@ -4,6 +4,3 @@ use Rattle.group_steps.proofs.proposing.propose_rebase.Given as goal
 -- the nodes that the seat knows
 abbrev pub ghosts-pending_at : goal.ghosts-pending_at
 ghosts-pending_at g a = record { known = drawn a.nodes.mark.now.log }
-
-abbrev pub ghosts-draft_rebase : goal.ghosts-draft_rebase
-ghosts-draft_rebase g a = record { known = drawn a.setting.now.chunks.mark.now.log }
