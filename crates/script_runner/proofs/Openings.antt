@@ -1,25 +1,26 @@
 -- The clients of a script before the first phase, and what its run writes from there.
-use Rattle.std.proofs.Common.{◌≡◌, inl, inr, ℕ, Option, Result, Ok, Err, IfOk, OnOk, List, map, length, vec_len, sym}
+use Rattle.std.proofs.Common.{◌≡◌, ◌<◌, inr, arith, Option, Result, Ok, Err, IfOk, OnOk, List, map, length, vec_len, sym}
 use Rattle.std.proofs.Common.{ap, ◌∙◌, subst}
-use Rattle.std.proofs.lemmas.List.{length-map}
+use Rattle.std.proofs.lemmas.List.{get_or-map, length-map}
 use Rattle.std.proofs.lemmas.List.Elements.{All-map}
-use Rattle.std.specs.Io.KnownBytes.{Appends}
 use Rattle.std.specs.List.{All}
-use Rattle.logbook.specs.Pages.{Book}
 use Rattle.group_history.specs.Map.{Bytes}
 use Rattle.push_body.specs.declared.identities.Identity.{Identity}
+use Rattle.rebase.specs.Clients.{Grouped}
 use Rattle.script_parser.specs.declared.faults.Fault.{Fault}
 use Rattle.script_runner.specs.declared.phase.Turn.{Turn}
+use Rattle.script_runner.specs.declared.shared.SharedClient.{SharedClient}
 use Rattle.script_parser.specs.declared.script.Phase.{Phase}
 use Rattle.script_parser.specs.declared.script.Script.{Script}
 use Rattle.script_runner.specs.Callers.{shared_rules, Standing}
 use Rattle.script_runner.specs.Commanding.{Player}
 use Rattle.script_parser.specs.Context.{Context}
-use Rattle.script_runner.specs.Phases.{AreWritten, HasWhole}
-use Rattle.script_runner.specs.Runs.{AreNew, HasRun, HasStopped, IsNew, IsWant, identity_of}
+use Rattle.script_runner.specs.Phases.{AreWritten, HasWhole, HasWritten}
+use Rattle.script_runner.specs.Runs.{AreNew, HasRun, HasStopped, IsNew, identity_of}
 use Rattle.script_parser.specs.Scripts.{IsChecked, IsScript, client_said, phase_said}
-use Rattle.script_runner.specs.Inside.Players.{player_of, players_of}
-use Rattle.script_runner.specs.Inside.Turns.{AreOf}
+use Rattle.script_runner.specs.Inside.Players.{IsNewIn, line_of, player_of, players_of, standing_of}
+use Rattle.script_runner.specs.Inside.Runs.{header_identity}
+use Rattle.script_runner.specs.Inside.Turns.{AreOf, AreOfOneGroup}
 use Rattle.script_runner.proofs.Turns.{fused}
 
 -- a fact that rests on no value
@@ -33,77 +34,87 @@ pub if_player : {C E : Type 0} (stands : C → Standing) (r : Result (Turn C) E)
 if_player stands (Ok turn) P p is holds = subst P (sym is) holds
 if_player stands (Err e) P p is holds = tt
 
-module _ {C : Type 0} (turns : List (Turn C)) (stands : C → Standing) (book : Book) (script : Script)
-    (named : map (λ t. (t.client.name, (stands t.client.caller).caller.client)) turns
-    ≡ map client_said script.header.clients.items) where
+-- the clients that were opened are new ones
+pub are_opened : (group : Grouped) (identity : Identity) (lines : List (Bytes × Bytes)) (turns : List (Turn SharedClient))
+    → group.identity ≡ identity → map line_of turns ≡ lines → All (IsNewIn group) turns
+    → AreNew identity lines (players_of standing_of turns)
+are_opened group identity lines turns writes named new = record {
+  named = fused (λ p. (p.name, p.standing.caller.client)) (λ t. player_of standing_of t.client) turns ∙ named;
+  all = (
+    group.group.book,
+    All-map (IsNew identity group.group.book) (λ t. player_of standing_of t.client) turns
+        (subst (λ (i : Identity). All (λ t. IsNew i group.group.book (player_of standing_of t.client)) turns) writes new),
+  );
+}
+
+module _ (turns : List (Turn SharedClient)) (script : Script)
+    (new : AreNew (header_identity script.header) (map client_said script.header.clients.items)
+    (players_of standing_of turns)) where
   -- there are as many as the script has client lines
   as_many : length turns ≡ length script.header.clients.items
-  as_many = sym (length-map turns (λ t. (t.client.name, (stands t.client.caller).caller.client))) ∙ ap length named ∙
+  as_many = sym (length-map turns (λ t. player_of standing_of t.client)) ∙ sym
+      (length-map (players_of standing_of turns) (λ p. (p.name, p.standing.caller.client))) ∙ ap length new.named ∙
       length-map script.header.clients.items client_said
 
   -- so each phase has lines for each
-  pub enough : (slice : List (Turn C)) (phases : List Phase) → slice ≡ turns → phases ≡ script.phases.items
+  pub enough : (slice : List (Turn SharedClient)) (phases : List Phase) → slice ≡ turns → phases ≡ script.phases.items
       → IsChecked script → All (λ p. p.clients ≡ length slice) phases
   enough slice phases is so checked k d below =
       (subst (λ ps. All (λ p. p.clients ≡ vec_len script.header.clients) ps) (sym so) checked.each_client) k d
       below ∙ script.header.clients.ok.0 ∙ sym as_many ∙ sym (ap length is)
 
-  module _ (identity : Identity) (new : All (λ t. IsNew identity book (player_of stands t.client)) turns) where
-    -- they are of one group
-    pub of_one : (slice : List (Turn C)) → slice ≡ turns → AreOf stands book slice
-    of_one slice is = subst (AreOf stands book) (sym is) (λ k d below. (new k d below).of_book)
+  -- they are of one group
+  pub of_one : (slice : List (Turn SharedClient)) → slice ≡ turns → AreOfOneGroup standing_of slice
+  of_one slice is =
+      let player : Turn SharedClient → Player = λ t. player_of standing_of t.client in (
+        new.all.0,
+        subst (AreOf standing_of new.all.0) (sym is) (λ k d below.
+            let there : k < length (map player turns) = omega (below, length-map turns player, arith) in
+            subst (λ p. p.standing.mark.book ≡ new.all.0) (get_or-map player turns k d (player d) below)
+            (new.all.1 k (player d) there).of_book),
+      )
 
-    -- and are those that the script says
-    are_new : (said : Context) → IsScript said script
-        → identity ≡ identity_of script.header.group script.header.profile script.header.schema
-        → AreNew (identity_of said.group said.profile said.schema) said.clients (players_of stands turns)
-    are_new said is writes =
-        let so : identity ≡ identity_of said.group said.profile said.schema =
-        writes ∙ ap (λ g. identity_of g script.header.profile script.header.schema) is.group ∙ ap
-        (λ p. identity_of said.group p script.header.schema) is.profile ∙ ap
-        (identity_of said.group said.profile) is.schema in
+  -- and are those that the script says
+  are_new : (said : Context) → IsScript said script
+      → AreNew (identity_of said.group said.profile said.schema) said.clients (players_of standing_of turns)
+  are_new said is =
+      let so : header_identity script.header ≡ identity_of said.group said.profile said.schema =
+      ap (λ g. identity_of g script.header.profile script.header.schema) is.group ∙ ap
+      (λ p. identity_of said.group p script.header.schema) is.profile ∙ ap
+      (identity_of said.group said.profile) is.schema in
+      subst (λ i. AreNew i said.clients (players_of standing_of turns)) so
+      (subst (λ ls. AreNew (header_identity script.header) ls (players_of standing_of turns)) is.clients new)
+
+  -- a run to the end
+  pub has_run : (slice : List (Turn SharedClient)) (phases : List Phase) (closed : List Player)
+      (r : Result (Unit {0}) Fault) (said : Context) (old after : Option Bytes) → slice ≡ turns
+      → phases ≡ script.phases.items → IsScript said script
+      → OnOk r (HasWritten shared_rules (players_of standing_of slice) (map phase_said phases) old after closed)
+      → OnOk r (HasRun said old after)
+  has_run slice phases closed (Ok x) said old after is so script_is ran = record {
+    opened = players_of standing_of turns;
+    are = are_new said script_is;
+    text = ran.0;
+    closed = closed;
+    written = subst (λ w. AreWritten shared_rules (players_of standing_of turns) w ran.0 closed)
+        (ap (map phase_said) so ∙ script_is.phases)
+        (subst (λ w. AreWritten shared_rules (players_of standing_of w) (map phase_said phases) ran.0 closed) is ran.1);
+    appended = ran.2;
+  }
+  has_run slice phases closed (Err e) said old after is so script_is ran = tt
+
+  -- one that memory ended
+  pub has_stopped : (slice : List (Turn SharedClient)) (phases : List Phase) (said : Context) (old after : Option Bytes)
+      → slice ≡ turns → phases ≡ script.phases.items → IsScript said script
+      → HasWhole shared_rules (players_of standing_of slice) (map phase_said phases) old after
+      → HasStopped said old after
+  has_stopped slice phases said old after is so script_is ran =
+      inr (
+        players_of standing_of turns,
         record {
-          named = fused (λ p. (p.name, p.standing.caller.client))
-              (λ t. player_of stands t.client) turns ∙ named ∙ is.clients;
-          all = (
-            book,
-            All-map (IsNew (identity_of said.group said.profile said.schema) book)
-                (λ t. player_of stands t.client) turns
-                (subst (λ (i : Identity). All (λ t. IsNew i book (player_of stands t.client)) turns) so new),
-          );
-        }
-
-    -- a run to the end
-    pub has_run : (slice : List (Turn C)) (phases : List Phase) (closed : List Player) (r : Result (Unit {0}) Fault)
-        (said : Context) (old after : Option Bytes) → slice ≡ turns → phases ≡ script.phases.items
-        → IsScript said script
-        → identity ≡ identity_of script.header.group script.header.profile script.header.schema
-        → OnOk r ((text : Bytes) × AreWritten shared_rules (players_of stands slice) (map phase_said phases) text closed
-        × Appends old after text) → OnOk r (HasRun said old after)
-    has_run slice phases closed (Ok x) said old after is so script_is writes ran = record {
-      opened = players_of stands turns;
-      are = are_new said script_is writes;
-      text = ran.0;
-      closed = closed;
-      written = subst (λ w. AreWritten shared_rules (players_of stands turns) w ran.0 closed)
-          (ap (map phase_said) so ∙ script_is.phases)
-          (subst (λ w. AreWritten shared_rules (players_of stands w) (map phase_said phases) ran.0 closed) is ran.1);
-      appended = ran.2;
-    }
-    has_run slice phases closed (Err e) said old after is so script_is writes ran = tt
-
-    -- one that memory ended
-    pub has_stopped : (slice : List (Turn C)) (phases : List Phase) (said : Context) (old after : Option Bytes)
-        → slice ≡ turns → phases ≡ script.phases.items → IsScript said script
-        → identity ≡ identity_of script.header.group script.header.profile script.header.schema
-        → HasWhole shared_rules (players_of stands slice) (map phase_said phases) old after → HasStopped said old after
-    has_stopped slice phases said old after is so script_is writes ran =
-        inr (
-          players_of stands turns,
-          record {
-            are = are_new said script_is writes;
-            written = subst (λ w. HasWhole shared_rules (players_of stands turns) w old after)
-                (ap (map phase_said) so ∙ script_is.phases)
-                (subst (λ w. HasWhole shared_rules (players_of stands w) (map phase_said phases) old after) is ran);
-          },
-        )
+          are = are_new said script_is;
+          written = subst (λ w. HasWhole shared_rules (players_of standing_of turns) w old after)
+              (ap (map phase_said) so ∙ script_is.phases)
+              (subst (λ w. HasWhole shared_rules (players_of standing_of w) (map phase_said phases) old after) is ran);
+        },
+      )

@@ -10,23 +10,21 @@ use Rattle.std.specs.Global.{Vec}
 use Rattle.std.specs.Io.KnownBytes.{Appends, Keeps}
 use Rattle.std.specs.List.{All, concat}
 use Rattle.logbook.specs.Pages.{Book}
-use Rattle.group_history.specs.declared.refusals.Refusal.{Refusal}
 use Rattle.group_history.specs.Map.{Bytes}
 use Rattle.head_word.specs.Marks.{Known}
-use Rattle.rebase.specs.Replies.{Replied}
-use Rattle.rebase.specs.declared.calls.Call.{Call}
 use Rattle.script_runner.specs.declared.phase.Turn.{Turn}
 use Rattle.script_parser.specs.declared.script.Command.{Command}
 use Rattle.script_parser.specs.declared.script.Line.{Line}
 use Rattle.script_parser.specs.declared.script.Phase.{Phase}
-use Rattle.script_runner.specs.Callers.{Rules, Standing, sight_of}
+use Rattle.script_runner.specs.Callers.{CanLearn, CanLearnAll, Rules, Standing, sight_of}
 use Rattle.script_runner.specs.Commanding.{MayPrint, Player}
 use Rattle.script_parser.specs.Context.{Lines}
-use Rattle.script_runner.specs.Phases.{AreTold, AreWritten, IsPhase, all_seen}
+use Rattle.script_runner.specs.Phases.{AreTold, AreWritten, IsPhase, all_sights}
 use Rattle.script_runner.specs.Printing.{line_text}
 use Rattle.script_parser.specs.Scripts.{line_said, lines_at, phase_said}
 use Rattle.script_runner.specs.Inside.Players.{player_of, players_of}
-use Rattle.script_runner.specs.Inside.Turns.{AreOf, IsPrinted, IsTold, IsTurn, printed_text, texts_of}
+use Rattle.script_runner.specs.Inside.Turns.{AreOf, AreOfOneGroup, IsPrinted, IsTold, IsTurn, StayInGroup}
+use Rattle.script_runner.specs.Inside.Turns.{printed_text, texts_of}
 
 -- LISTS
 
@@ -81,21 +79,21 @@ appends-kept (Some x) (Some y) (Some z) xs h k = k ∙ h
 
 module _ (law : Rules) where
   -- one line more
-  told_more : (seen : List Known) (c mid end : Player) (ls : Lines) (text : Bytes) (l : ℕ × Command) (told : Bytes)
-      → AreTold law seen c ls text mid
-      → MayPrint law seen mid l.1 told end → end.name ≡ mid.name
-      → AreTold law seen c (ls ++ l ∷ []) (text ++ line_text l.0 mid.name told) end
-  told_more seen c mid end [] text l told h may name = (
+  told_more : (sights : List Known) (c mid end : Player) (ls : Lines) (text : Bytes) (l : ℕ × Command) (told : Bytes)
+      → AreTold law sights c ls text mid
+      → MayPrint law sights mid l.1 told end → end.name ≡ mid.name
+      → AreTold law sights c (ls ++ l ∷ []) (text ++ line_text l.0 mid.name told) end
+  told_more sights c mid end [] text l told h may name = (
     told,
     end,
     [],
-    subst (λ w. MayPrint law seen w l.1 told end) h.1 may,
+    subst (λ w. MayPrint law sights w l.1 told end) h.1 may,
     name ∙ ap (λ w. w.name) h.1,
     ap (λ w. w ++ line_text l.0 mid.name told) h.0 ∙ ap (λ w. line_text l.0 w.name told) h.1 ∙ sym
         (append-nil (line_text l.0 c.name told)),
     (refl, refl),
   )
-  told_more seen c mid end (d ∷ ls) text l told h may name = (
+  told_more sights c mid end (d ∷ ls) text l told h may name = (
     h.0,
     h.1,
     h.2 ++ line_text l.0 mid.name told,
@@ -103,20 +101,20 @@ module _ (law : Rules) where
     h.4,
     ap (λ w. w ++ line_text l.0 mid.name told) h.5 ∙ append_assoc (line_text d.0 c.name h.0) h.2
         (line_text l.0 mid.name told),
-    told_more seen h.1 mid end ls h.2 l told h.6 may name,
+    told_more sights h.1 mid end ls h.2 l told h.6 may name,
   )
 
   -- a turn of the loop over the lines
-  pub line-more : (seen : List Known) (c mid end : Player) (all : List Line) (i : ℕ) (l : Line) (old new : Bytes)
+  pub line-more : (sights : List Known) (c mid end : Player) (all : List Line) (i : ℕ) (l : Line) (old new : Bytes)
       → i < length all → l ≡ get_or all i l
-      → AreTold law seen c (map line_said (take i all)) old mid → IsTold law seen mid (line_said l) old new end
-      → AreTold law seen c (map line_said (take (i + 1) all)) new end
-  line-more seen c mid end all i l old new k q h a =
+      → AreTold law sights c (map line_said (take i all)) old mid → IsTold law sights mid (line_said l) old new end
+      → AreTold law sights c (map line_said (take (i + 1) all)) new end
+  line-more sights c mid end all i l old new k q h a =
       let front = ap (map line_said) (take_more all i l k ∙ ap (λ w. take i all ++ w ∷ []) (sym q)) ∙ map-append
       line_said (take i all) (l ∷ []) in
-      subst (λ w. AreTold law seen c w new end) (sym front)
-      (subst (λ w. AreTold law seen c (map line_said (take i all) ++ line_said l ∷ []) w end) (sym a.text)
-      (told_more seen c mid end (map line_said (take i all)) old (line_said l) a.told h a.may a.name))
+      subst (λ w. AreTold law sights c w new end) (sym front)
+      (subst (λ w. AreTold law sights c (map line_said (take i all) ++ line_said l ∷ []) w end) (sym a.text)
+      (told_more sights c mid end (map line_said (take i all)) old (line_said l) a.told h a.may a.name))
 
   -- one phase more
   written_more : (before mid after : List Player) (ps : List (List Lines)) (text : Bytes) (p : List Lines)
@@ -166,45 +164,45 @@ told_of P (Err e) is told = absurd (false≢true is)
 
 module _ {C : Type 0} (stands : C → Standing) where
   -- all have seen the one group of which each client is
-  pub one_group : {Seen : Type 0} (seen_by : Seen → Known) (book : Book) (turns : List (Turn C)) (seen : List Seen)
-      → map seen_by seen ≡ all_seen (players_of stands turns) → AreOf stands book turns
+  pub one_group : {Sight : Type 0} (shows : Sight → Known) (book : Book) (turns : List (Turn C)) (sights : List Sight)
+      → map shows sights ≡ all_sights (players_of stands turns) → AreOf stands book turns
       → (t : Turn C) → (stands t.client.caller).mark.book ≡ book
-      → All (λ s. (seen_by s).book ≡ (stands t.client.caller).mark.book) seen
-  one_group seen_by book turns seen is of_one t of_book k d below =
-      let views : map seen_by seen ≡ map (λ u. sight_of (stands u.client.caller)) turns = is ∙ fused
+      → CanLearnAll shows (stands t.client.caller) sights
+  one_group shows book turns sights is of_one t of_book k d below =
+      let views : map shows sights ≡ map (λ u. sight_of (stands u.client.caller)) turns = is ∙ fused
       (λ p. sight_of p.standing) (λ u. player_of stands u.client) turns in
       let below_too : k < length turns = omega (
         below,
         ap length views,
-        length-map seen seen_by,
+        length-map sights shows,
         length-map turns (λ u. sight_of (stands u.client.caller)),
         arith,
       ) in
-      let seen_there = sym (get_or-map seen_by seen k d (seen_by d) below) ∙ ap
-      (λ ss. get_or ss k (seen_by d)) views ∙ get_or-map (λ u. sight_of (stands u.client.caller)) turns k t
-      (seen_by d) below_too in
-      ap (λ s. s.book) seen_there ∙ of_one k t below_too ∙ sym of_book
+      let sight_there = sym (get_or-map shows sights k d (shows d) below) ∙ ap
+      (λ ss. get_or ss k (shows d)) views ∙ get_or-map (λ u. sight_of (stands u.client.caller)) turns k t
+      (shows d) below_too in
+      ap (λ s. s.book) sight_there ∙ of_one k t below_too ∙ sym of_book
 
   -- what is lent to a client in a phase is of its group
-  pub lent : {Seen : Type 0} (seen_by : Seen → Known) (turns : List (Turn C)) (seen : List Seen) (i : ℕ) (t : Turn C)
-      (k : ℕ) (d : Seen) → map seen_by seen ≡ all_seen (players_of stands turns)
-      → (book : Book) × AreOf stands book turns
-      → i < length turns → t ≡ slice_index_or turns i t → k < length seen
-      → (seen_by (slice_index_or seen k d)).book ≡ (stands t.client.caller).mark.book
-  lent seen_by turns seen i t k d is one below at in_seen =
-      one_group seen_by one.0 turns seen is one.1 t
-      (subst (λ u. (stands u.client.caller).mark.book ≡ one.0) (sym at) (one.1 i t below)) k d in_seen
+  pub lent : {Sight : Type 0} (shows : Sight → Known) (turns : List (Turn C)) (sights : List Sight) (i : ℕ) (t : Turn C)
+      (k : ℕ) (d : Sight) → map shows sights ≡ all_sights (players_of stands turns)
+      → AreOfOneGroup stands turns
+      → i < length turns → t ≡ slice_index_or turns i t → k < length sights
+      → CanLearn (stands t.client.caller) (shows (slice_index_or sights k d))
+  lent shows turns sights i t k d is one below at in_sights =
+      one_group shows one.0 turns sights is one.1 t
+      (subst (λ u. (stands u.client.caller).mark.book ≡ one.0) (sym at) (one.1 i t below)) k d in_sights
 
   module _ (law : Rules) where
     -- a client's part of a phase, as it stands in the lists
-    pub part : (seen : List Known) (old new : List (Turn C)) (p : Phase) (i : ℕ) (d : Turn C)
+    pub part : (sights : List Known) (old new : List (Turn C)) (p : Phase) (i : ℕ) (d : Turn C)
         → i < length old → i < length new → i < p.clients
-        → IsTurn law stands seen (lines_at p.parts.items i) (slice_index_or old i d).client
+        → IsTurn law stands sights (lines_at p.parts.items i) (slice_index_or old i d).client
         (slice_index_or new i d) → IsPrinted (slice_index_or new i d)
         → (l : Lines) (b : Player) (t : Bytes) (a : Player)
-        → AreTold law seen (slice_index_or (players_of stands old) i b) (slice_index_or (phase_said p) i l)
+        → AreTold law sights (slice_index_or (players_of stands old) i b) (slice_index_or (phase_said p) i l)
         (slice_index_or (texts_of new) i t) (slice_index_or (players_of stands new) i a)
-    part seen old new p i d in_old in_new in_lines turn printed l b t a =
+    part sights old new p i d in_old in_new in_lines turn printed l b t a =
         let before : slice_index_or (players_of stands old) i b
         ≡ player_of stands (slice_index_or old i d).client = get_or-map
         (λ u. player_of stands u.client) old i d b in_old in
@@ -217,28 +215,28 @@ module _ {C : Type 0} (stands : C → Standing) where
         let after : slice_index_or (players_of stands new) i a
         ≡ player_of stands (slice_index_or new i d).client = get_or-map
         (λ u. player_of stands u.client) new i d a in_new in
-        let told = told_of (λ w. AreTold law seen (player_of stands (slice_index_or old i d).client)
+        let told = told_of (λ w. AreTold law sights (player_of stands (slice_index_or old i d).client)
         (lines_at p.parts.items i) w (player_of stands (slice_index_or new i d).client))
         (slice_index_or new i d).printed printed turn.told in
-        subst (λ w. AreTold law seen w (slice_index_or (phase_said p) i l) (slice_index_or (texts_of new) i t)
+        subst (λ w. AreTold law sights w (slice_index_or (phase_said p) i l) (slice_index_or (texts_of new) i t)
         (slice_index_or (players_of stands new) i a)) (sym before)
-        (subst (λ w. AreTold law seen (player_of stands (slice_index_or old i d).client) w
+        (subst (λ w. AreTold law sights (player_of stands (slice_index_or old i d).client) w
         (slice_index_or (texts_of new) i t) (slice_index_or (players_of stands new) i a)) (sym said)
-        (subst (λ w. AreTold law seen (player_of stands (slice_index_or old i d).client)
+        (subst (λ w. AreTold law sights (player_of stands (slice_index_or old i d).client)
         (lines_at p.parts.items i) w
         (slice_index_or (players_of stands new) i a)) (sym text)
-        (subst (λ w. AreTold law seen (player_of stands (slice_index_or old i d).client)
+        (subst (λ w. AreTold law sights (player_of stands (slice_index_or old i d).client)
         (lines_at p.parts.items i) (printed_text (slice_index_or new i d).printed) w)
         (sym after) told)))
 
     -- a phase, by each client's part of it
-    pub phase : (seen : List Known) (old new : List (Turn C)) (p : Phase)
-        → seen ≡ all_seen (players_of stands old) → length new ≡ length old → length old ≡ p.clients
+    pub phase : (sights : List Known) (old new : List (Turn C)) (p : Phase)
+        → sights ≡ all_sights (players_of stands old) → length new ≡ length old → length old ≡ p.clients
         → ((i : ℕ) (d : Turn C) → i < length old
-        → IsTurn law stands seen (lines_at p.parts.items i) (slice_index_or old i d).client
+        → IsTurn law stands sights (lines_at p.parts.items i) (slice_index_or old i d).client
         (slice_index_or new i d)) → All IsPrinted new
         → IsPhase law (phase_said p) (players_of stands old) (texts_of new) (players_of stands new)
-    phase seen old new p is as_many enough turns printed =
+    phase sights old new p is as_many enough turns printed =
         let olds = length-map old (λ u. player_of stands u.client) in
         let news = length-map new (λ u. player_of stands u.client) in
         let texts = length-map new (λ u. printed_text u.printed) in
@@ -253,16 +251,16 @@ module _ {C : Type 0} (stands : C → Standing) where
               subst (λ ss. AreTold law ss (slice_index_or (players_of stands old) i b)
               (slice_index_or (phase_said p) i l) (slice_index_or (texts_of new) i t)
               (slice_index_or (players_of stands new) i a)) is
-              (part seen old new p i d in_old in_new in_lines (turns i d in_old)
+              (part sights old new p i d in_old in_new in_lines (turns i d in_old)
               (printed i d in_new) l b t a);
         }
 
     -- and they are of one group still
-    pub still_one : (seen : List Known) (old new : List (Turn C)) (p : Phase) → length new ≡ length old
+    pub still_one : (sights : List Known) (old new : List (Turn C)) (p : Phase) → length new ≡ length old
         → ((i : ℕ) (d : Turn C) → i < length old
-        → IsTurn law stands seen (lines_at p.parts.items i) (slice_index_or old i d).client
+        → IsTurn law stands sights (lines_at p.parts.items i) (slice_index_or old i d).client
         (slice_index_or new i d))
-        → (book : Book) → AreOf stands book old → AreOf stands book new
-    still_one seen old new p as_many turns book of_one i d below =
+        → StayInGroup stands old new
+    still_one sights old new p as_many turns book of_one i d below =
         let in_old : i < length old = omega (below, as_many, arith) in
         (turns i d in_old).group ∙ of_one i d in_old

@@ -1,18 +1,12 @@
 -- The watches of a client are of its group, and what a poll of one leaves.
-use Rattle.std.proofs.Common.{◌≡◌, ℕ, Bool, true, false, Option, Some, None, IfSome, Result, Ok, Err, OnOk, OnErr, cond}
+use Rattle.std.proofs.Common.{◌≡◌, Bool, true, false, Option, Some, None, IfSome, Result, Ok, Err, OnOk, OnErr, cond}
 use Rattle.std.proofs.Common.{refl, sym, ap, ◌∙◌, subst}
-use Rattle.std.proofs.lemmas.List.{append-nil}
 use Rattle.std.specs.Cmp.Lexicographic.{slice_cmp, nat_list_cmp_total}
 use Rattle.std.specs.FinMap as finite
 use Rattle.std.specs.Ordering.{nat_cmp, eq_by_cmp}
 use Rattle.logbook.specs.Pages.{Book}
 use Rattle.group_history.specs.declared.refusals.Refusal.{Refusal}
-use Rattle.group_history.specs.declared.refusals.Refusal.TheVariants as refusal
 use Rattle.group_history.specs.Map.{Bytes}
-use Rattle.group_history.specs.Meaning.{Meanings}
-use Rattle.group_history.specs.State.{State}
-use Rattle.head_word.specs.Marks.{Known}
-use Rattle.answered.specs.Answered.{Answers, nothing, own_moves}
 use Rattle.rebase.specs.declared.watching.Polled.{Polled}
 use Rattle.rebase.specs.declared.watching.Polled.TheVariants as polled
 use Rattle.rebase.specs.Watching.{Watched, watch_after}

@@ -1,7 +1,8 @@
 -- How a client stands between its calls, what its calls may reply, and how they leave it.
-use Rattle.std.specs.Prelude.{ℕ, ◌≡◌, true, [], Result, Ok, Err, None}
+use Rattle.std.specs.Prelude.{ℕ, ◌≡◌, true, List, [], Result, Ok, Err, None}
 use Rattle.std.specs.Cmp.Lexicographic.{slice_cmp}
 use Rattle.std.specs.FinMap as finite
+use Rattle.std.specs.List.{All}
 use Rattle.std.specs.Ordering.{nat_cmp}
 use mathlib.Core.List.{IsPrefix}
 use Rattle.logbook.specs.Pages.{Book}
@@ -13,7 +14,8 @@ use Rattle.group_history.specs.State.{State}
 use Rattle.head_word.specs.Marks.{Known, known}
 use Rattle.push_body.specs.declared.identities.Identity.{Identity}
 use Rattle.answered.specs.Answered.{Answers, is_want, nothing, own_moves}
-use Rattle.rebase.specs.Calls.{Caller, IsLater, IsReplyTo, caller, change_of, last_after, reply_to}
+use Rattle.commit_graph.specs.Seats.{IsLater}
+use Rattle.rebase.specs.Calls.{Caller, IsReplyTo, caller, change_of, last_after, reply_to}
 use Rattle.rebase.specs.Replies.{Replied, rows}
 use Rattle.rebase.specs.declared.calls.Call.{Call}
 use Rattle.rebase.specs.declared.calls.Call.TheVariants as call
@@ -33,15 +35,15 @@ pub record Standing : Type 0 where
   pub watches : Watches
 
 -- it has a watch of this name, which has answered nothing yet; an earlier one is given up
-abbrev pub watching : Bytes → Scan → Standing → Standing
-watching name scan c = record c {
+abbrev pub with_watch : Bytes → Scan → Standing → Standing
+with_watch name scan c = record c {
   watches = finite.insert (finite.remove c.watches name) name
       (record { book = c.mark.book; scan = scan; last = None });
 }
 
 -- it has no watch of this name
-abbrev pub unwatched : Bytes → Standing → Standing
-unwatched name c = record c { watches = finite.remove c.watches name }
+abbrev pub without_watch : Bytes → Standing → Standing
+without_watch name c = record c { watches = finite.remove c.watches name }
 
 -- the watches after a poll of one: it keeps what was answered, and a refused poll leaves it as it was
 abbrev pub watches_after : Bytes → Watched → Watches → Result Polled Refusal → Watches
@@ -49,13 +51,25 @@ watches_after name watch watches (Ok polled) = finite.insert watches name (watch
 watches_after name watch watches (Err e) = watches
 
 -- the reply of a scan whose rows were listed
-abbrev pub listed : {X : Type 0} → Rows → Result X Refusal → Result Replied Refusal
-listed rs (Ok list) = Ok (rows rs)
-listed rs (Err e) = Err e
+abbrev pub reply_of_list : {X : Type 0} → Rows → Result X Refusal → Result Replied Refusal
+reply_of_list rs (Ok list) = Ok (rows rs)
+reply_of_list rs (Err e) = Err e
+
+-- it is a client of the same group
+abbrev pub IsOfSameGroup : Standing → Standing → Type 0
+IsOfSameGroup old new = new.mark.book ≡ old.mark.book
 
 -- what others learn from a client: what it has seen
 abbrev pub sight_of : Standing → Known
 sight_of c = known c.mark.book c.mark.log None
+
+-- a client can learn what was seen of its group
+abbrev pub CanLearn : Standing → Known → Type 0
+CanLearn c sight = sight.book ≡ c.mark.book
+
+-- and so each of these
+abbrev pub CanLearnAll : {S : Type 0} → (S → Known) → Standing → List S → Type 0
+CanLearnAll shows c sights = All (λ s. CanLearn c (shows s)) sights
 
 -- The rules of a group: what its clients' calls and their polls may reply, and how a client stands then; and how a
 -- client stands that has learnt what another one had seen.

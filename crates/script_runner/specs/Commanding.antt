@@ -1,6 +1,5 @@
 -- What the call of a command may print, and how it leaves its client.
 use Rattle.std.specs.Prelude.{ℕ, ◌≡◌, ◌<◌, ◌⊎◌, ⊤, codes, List, length, slice_index_or, Option, Some, None, Result, Ok}
-use Rattle.std.specs.Prelude.{Err}
 use Rattle.std.specs.Cmp.Lexicographic.{slice_cmp}
 use Rattle.std.specs.FinMap as finite
 use Rattle.std.specs.Ordering.{nat_cmp}
@@ -20,7 +19,7 @@ use Rattle.script_parser.specs.declared.script.Command.{Command}
 use Rattle.script_parser.specs.declared.script.Command.TheVariants as command
 use Rattle.script_parser.specs.declared.script.Query.{Query}
 use Rattle.script_parser.specs.declared.script.Query.TheVariants as query
-use Rattle.script_runner.specs.Callers.{Rules, Standing, unwatched, watching}
+use Rattle.script_runner.specs.Callers.{Rules, Standing, with_watch, without_watch}
 use Rattle.script_runner.specs.Printing.{answer_text, polled_text, refreshed_text, refused_text}
 
 -- the tickets of a client, by their names
@@ -32,6 +31,10 @@ pub record Player : Type 0 where
   pub name : Bytes
   pub standing : Standing
   pub tickets : Tickets
+
+-- a client before its first line
+abbrev pub new_player : Bytes → Standing → Player
+new_player name standing = record { name = name; standing = standing; tickets = finite.empty }
 
 -- the call that a query is
 abbrev pub Asks : Query → Call → Type 0
@@ -66,8 +69,8 @@ IsBegun tickets name answer text after = (text ≡ answer_text answer) × (after
 
 -- A watch is kept under a name; where memory is refused for it there is none of that name. Nothing is read.
 pub record MayWatch (name : Bytes) (scan : Scan) (before : Player) (text : Bytes) (after : Player) : Type 0 where
-  pub kept : ((text ≡ codes "watching") × (after.standing ≡ watching name scan before.standing))
-      ⊎ ((text ≡ refused_text NoMemory) × (after.standing ≡ unwatched name before.standing))
+  pub kept : ((text ≡ codes "watching") × (after.standing ≡ with_watch name scan before.standing))
+      ⊎ ((text ≡ refused_text NoMemory) × (after.standing ≡ without_watch name before.standing))
   pub tickets : after.tickets ≡ before.tickets
 
 -- By the rules of a group.
@@ -94,9 +97,9 @@ module _ (law : Rules) where
   MayEnd None body before text after = (text ≡ codes "no ticket") × (after ≡ before)
 
   -- a client learns what the one at a place had seen
-  pub record MayLearn (seen : List Known) (place : ℕ) (before : Player) (text : Bytes) (after : Player) : Type 0 where
-    pub learnt : (s : Known) → place < length seen
-        → law.learns before.standing (slice_index_or seen place s) after.standing
+  pub record MayLearn (sights : List Known) (place : ℕ) (before : Player) (text : Bytes) (after : Player) : Type 0 where
+    pub learnt : (s : Known) → place < length sights
+        → law.learns before.standing (slice_index_or sights place s) after.standing
     pub printed : text ≡ codes "learnt"
     pub tickets : after.tickets ≡ before.tickets
 
@@ -112,15 +115,15 @@ module _ (law : Rules) where
   MayPoll name (Some watch) before text after = Polls name watch before text after
   MayPoll name None before text after = (text ≡ codes "no watch") × (after ≡ before)
 
-  -- What a command may print, and how it leaves its client. `seen` is what each client had seen when the phase began.
+  -- What a command may print, and how it leaves its client. `sights` are what each client had seen when the phase began.
   abbrev pub MayPrint : List Known → Player → Command → Bytes → Player → Type 0
-  MayPrint seen before (command.Query q) text after = HandsOn (Asks q) answer_text before text after
-  MayPrint seen before (command.Begin name) text after = MayBegin name before text after
-  MayPrint seen before (command.End name body) text after = MayEnd
+  MayPrint sights before (command.Query q) text after = HandsOn (Asks q) answer_text before text after
+  MayPrint sights before (command.Begin name) text after = MayBegin name before text after
+  MayPrint sights before (command.End name body) text after = MayEnd
       (finite.get before.tickets name) body before text after
-  MayPrint seen before (command.Mutate m) text after = HandsOn (AsksMutation m) answer_text before text after
-  MayPrint seen before command.Refresh text after = HandsOn (λ c. c ≡ call.Refresh) refreshed_text before text after
-  MayPrint seen before (command.Learn place) text after = MayLearn seen place before text after
-  MayPrint seen before (command.Watch name scan) text after = MayWatch name scan before text after
-  MayPrint seen before (command.Poll name) text after = MayPoll name
+  MayPrint sights before (command.Mutate m) text after = HandsOn (AsksMutation m) answer_text before text after
+  MayPrint sights before command.Refresh text after = HandsOn (λ c. c ≡ call.Refresh) refreshed_text before text after
+  MayPrint sights before (command.Learn place) text after = MayLearn sights place before text after
+  MayPrint sights before (command.Watch name scan) text after = MayWatch name scan before text after
+  MayPrint sights before (command.Poll name) text after = MayPoll name
       (finite.get before.standing.watches name) before text after

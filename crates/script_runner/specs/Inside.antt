@@ -1,5 +1,5 @@
 -- Words that only private clauses of this crate use: how replies are printed; the clients and their parts of a phase in
--- the code; and how a process ends.
+-- the code; how a script is run that was read; and how a process ends.
 pub mod Printing
 pub mod Players
 pub mod Turns

@@ -1,30 +1,27 @@
 -- The phases of a script: what each client's lines print, and how they leave it.
-use Rattle.std.specs.Prelude.{ℕ, ◌≡◌, ◌<◌, List, [], ◌∷◌, ◌++◌, length, take, slice_index_or, map, Option, Result}
+use Rattle.std.specs.Prelude.{ℕ, ◌≡◌, ◌<◌, List, [], ◌∷◌, ◌++◌, length, take, slice_index_or, map, Option}
 use Rattle.std.specs.Io.KnownBytes.{Appends}
 use Rattle.std.specs.List.{concat}
-use Rattle.group_history.specs.declared.refusals.Refusal.{Refusal}
 use Rattle.group_history.specs.Map.{Bytes}
 use Rattle.head_word.specs.Marks.{Known}
-use Rattle.rebase.specs.Replies.{Replied}
-use Rattle.rebase.specs.declared.calls.Call.{Call}
 use Rattle.script_runner.specs.Callers.{Rules, sight_of}
 use Rattle.script_runner.specs.Commanding.{MayPrint, Player}
 use Rattle.script_parser.specs.Context.{Lines}
 use Rattle.script_runner.specs.Printing.{line_text}
 
 -- what each client has seen
-abbrev pub all_seen : List Player → List Known
-all_seen players = map (λ p. sight_of p.standing) players
+abbrev pub all_sights : List Player → List Known
+all_sights players = map (λ p. sight_of p.standing) players
 
 module _ (law : Rules) where
   -- The text has a line of output for each line, in order, with what its command may print on the client that the lines
-  -- before left; the last one leaves the client at the end. `seen` is what each client had seen when the phase began.
+  -- before left; the last one leaves the client at the end. `sights` are what each client had seen when the phase began.
   abbrev pub AreTold : List Known → Player → Lines → Bytes → Player → Type 0
-  AreTold seen before [] text end = (text ≡ []) × (end ≡ before)
-  AreTold seen before (l ∷ ls) text end =
-      (told : Bytes) × (next : Player) × (rest : Bytes) × MayPrint law seen before l.1 told next
+  AreTold sights before [] text end = (text ≡ []) × (end ≡ before)
+  AreTold sights before (l ∷ ls) text end =
+      (told : Bytes) × (next : Player) × (rest : Bytes) × MayPrint law sights before l.1 told next
       × (next.name ≡ before.name)
-      × (text ≡ line_text l.0 before.name told ++ rest) × AreTold seen next ls rest end
+      × (text ≡ line_text l.0 before.name told ++ rest) × AreTold sights next ls rest end
 
   -- Each client does the lines of its place, and has a text of its own. Nothing is said of whose call comes first.
   pub record IsPhase (lines : List Lines) (before : List Player) (texts : List Bytes)
@@ -32,7 +29,7 @@ module _ (law : Rules) where
     pub as_many_texts : length texts ≡ length before
     pub as_many : length after ≡ length before
     pub each : (i : ℕ) (l : Lines) (b : Player) (t : Bytes) (a : Player) → i < length before
-        → AreTold (all_seen before) (slice_index_or before i b) (slice_index_or lines i l) (slice_index_or texts i t)
+        → AreTold (all_sights before) (slice_index_or before i b) (slice_index_or lines i l) (slice_index_or texts i t)
         (slice_index_or after i a)
 
   -- The text is what the phases print, one after the other, each from where the one before left the clients; of each
@@ -42,6 +39,10 @@ module _ (law : Rules) where
   AreWritten before (p ∷ ps) text after =
       (texts : List Bytes) × (mid : List Player) × (rest : Bytes) × IsPhase p before texts mid
       × (text ≡ concat texts ++ rest) × AreWritten mid ps rest after
+
+  -- the bytes that are known grew by that text
+  abbrev pub HasWritten : List Player → List (List Lines) → Option Bytes → Option Bytes → List Player → Type 0
+  HasWritten before phases old new after = (text : Bytes) × AreWritten before phases text after × Appends old new text
 
   -- the bytes that are known grew by the text of so many whole phases
   abbrev pub HasWhole : List Player → List (List Lines) → Option Bytes → Option Bytes → Type 0

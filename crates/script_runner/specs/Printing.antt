@@ -18,6 +18,10 @@ use Rattle.rebase.specs.Replies.{Replied, value, yes_or_no, rows, pending, cooki
 unfoldable pub row_text : Bytes × Bytes → Bytes
 row_text row = concat (codes "[" ∷ quoted row.0 ∷ codes "," ∷ row.1 ∷ codes "]" ∷ [])
 
+-- rows, with commas (44) between them
+abbrev pub rows_text : List (Bytes × Bytes) → Bytes
+rows_text rs = join_with_byte 44 (map row_text rs)
+
 -- a pending mutation, as a JSON array of client ID, id and name
 unfoldable pub pending_row : Mutation → Bytes
 pending_row m = concat (codes "[" ∷ quoted m.client ∷ codes "," ∷ decimal m.id ∷ codes "," ∷ quoted m.name

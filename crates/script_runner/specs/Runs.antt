@@ -1,5 +1,6 @@
 -- With which clients a run of a script begins, and how it ends.
 use Rattle.std.specs.Prelude.{◌≡◌, ◌⊎◌, ⊤, codes, List, map, Option, None, unwrap_or, Result, Err}
+use Rattle.std.specs.Prelude.{IfErr, IfOk}
 use Rattle.std.specs.FinMap as finite
 use Rattle.std.specs.Io.KnownBytes.{Appends, Keeps}
 use Rattle.std.specs.List.{All}
@@ -14,6 +15,7 @@ use Rattle.script_parser.specs.declared.faults.Fault.TheVariants as fault
 use Rattle.script_runner.specs.Callers.{shared_rules}
 use Rattle.script_runner.specs.Commanding.{Player}
 use Rattle.script_parser.specs.Context.{Context}
+use Rattle.script_parser.specs.Faults.{script_said}
 use Rattle.script_mutators.specs.Mutators.{script_means}
 use Rattle.script_runner.specs.Phases.{AreWritten, HasWhole}
 
@@ -67,3 +69,19 @@ IsOfScript fault.Write = ⊥
 abbrev pub IsWant : {X : Type 0} → Result X Fault → Type 0
 IsWant (Err fault.NoMemory) = ⊤
 IsWant other = ⊥
+
+-- it does not say that the script is faulty
+abbrev pub BlamesNoScript : {X : Type 0} → Result X Fault → Type 0
+BlamesNoScript result = IfErr result (λ e. IsOfScript e → ⊥)
+
+-- where the script is faulty, nothing is written
+abbrev pub KeepsIfFaulty : {X : Type 0} → Result X Fault → Option Bytes → Option Bytes → Type 0
+KeepsIfFaulty result old new = IfErr result (λ e. IsOfScript e → new ≡ old)
+
+-- a run to the end of the script that the bytes are
+abbrev pub HasRunScript : Bytes → Option Bytes → Option Bytes → Type 0
+HasRunScript script old new = IfOk (script_said script) (λ said. HasRun said old new)
+
+-- and one that memory ended, maybe before it was a script
+abbrev pub HasStoppedScript : Bytes → Option Bytes → Option Bytes → Type 0
+HasStoppedScript script old new = Keeps old new ⊎ IfOk (script_said script) (λ said. HasStopped said old new)

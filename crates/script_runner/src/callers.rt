@@ -1,15 +1,15 @@
 //! Who makes the calls of a script: a client of a group.
-ghost use Rattle.std.specs.Prelude.{◌≡◌, Result, Some, IfNone, IfOk, IfSome, OnErr, OnOk, codes, is_some, map};
+ghost use Rattle.std.specs.Prelude.{◌≡◌, Result, Some, IfNone, IfOk, IfSome, OnErr, OnOk, codes, is_some};
 ghost use Rattle.std.specs.FinMap as finite;
-ghost use Rattle.std.specs.List.{join_with_byte};
 ghost use Rattle.group_history.specs.Rows.{Rows};
 ghost use Rattle.head_word.specs.Marks.{Known};
-ghost use Rattle.rebase.specs.Queries.{told};
+ghost use Rattle.group_steps.specs.Missing.{told};
 ghost use Rattle.rebase.specs.Replies.{reply_seen};
 ghost use Rattle.rebase.specs.Watching.{Watched};
 ghost use Rattle.rebase.specs.declared.calls.Call.TheVariants as call;
-ghost use Rattle.script_runner.specs.Callers.{MayPoll, Rules, Standing, listed, sight_of, unwatched, watching};
-ghost use Rattle.script_runner.specs.Printing.{row_text};
+ghost use Rattle.script_runner.specs.Callers.{CanLearn, IsOfSameGroup, MayPoll, Rules, Standing, reply_of_list};
+ghost use Rattle.script_runner.specs.Callers.{sight_of, with_watch, without_watch};
+ghost use Rattle.script_runner.specs.Printing.{rows_text};
 ghost use Rattle.script_runner.specs.Inside.Players.{standing_of};
 
 use crate::rows::RowList;
@@ -27,12 +27,12 @@ pub(crate) const TRIES: u32 = 1_000_000;
 /// A client of a group that others call at the same time.
 pub(crate) trait Caller {
     /// What a client has seen of its group, from which others learn.
-    type Seen: Sync + Drop;
+    type Sight: Sync + Drop;
 
     /// How the client stands.
     ghost stands: { Self → Standing };
 
-    ghost seen_by: { Self.Seen → Known };
+    ghost shows: { Self.Sight → Known };
 
     /// The rules of its group: what its calls may reply.
     ghost law: { Rules };
@@ -40,18 +40,18 @@ pub(crate) trait Caller {
     /// Makes one call. A change may wait for others.
     fn call<R: Wait>(&mut self, rt: &R, call: Call<'_>) -> Result<Reply, Refusal>
         ensures reply { law.may_reply (stands self.old) call.entry (told reply_seen result) (stands self.new) }
-        ensures group { (stands self.new).mark.book ≡ (stands self.old).mark.book };
+        ensures group { IsOfSameGroup (stands self.old) (stands self.new) };
 
     /// Makes a scan, and answers what is printed of its rows.
     fn scan<R: Wait>(&mut self, rt: &R, alloc: Global, scan: &Scan) -> Result<RowList, Refusal>
-        ensures reply { (rows : Rows) × law.may_reply (stands self.old) (call.Scan scan.entry) (listed rows result)
-            (stands self.new) × IfOk result (λ list. list.text.items ≡ join_with_byte 44 (map row_text rows)) }
-        ensures group { (stands self.new).mark.book ≡ (stands self.old).mark.book };
+        ensures reply { (rows : Rows) × law.may_reply (stands self.old) (call.Scan scan.entry) (reply_of_list rows result)
+            (stands self.new) × IfOk result (λ list. list.text.items ≡ rows_text rows) }
+        ensures group { IsOfSameGroup (stands self.old) (stands self.new) };
 
     /// Keeps a watch of a scan under a name. An earlier one of that name is given up first.
     fn watch(&mut self, name: &Text, scan: &Scan) -> Result<(), AllocError>
-        ensures kept { OnOk result (stands self.new ≡ watching name.now scan.now (stands self.old)) }
-        ensures left { OnErr result (stands self.new ≡ unwatched name.now (stands self.old)) };
+        ensures kept { OnOk result (stands self.new ≡ with_watch name.now scan.now (stands self.old)) }
+        ensures left { OnErr result (stands self.new ≡ without_watch name.now (stands self.old)) };
 
     /// Polls the watch of a name, where there is one.
     fn poll<R: Wait>(&mut self, rt: &R, name: &Text) -> Option<Result<Polled, Refusal>>
@@ -59,17 +59,17 @@ pub(crate) trait Caller {
             (λ watch. law.may_poll name.now watch (stands self.old) reply (stands self.new))) }
         ensures there { is_some result ≡ is_some (finite.get (stands self.old).watches name.now) }
         ensures none { IfNone result (stands self.new ≡ stands self.old) }
-        ensures group { (stands self.new).mark.book ≡ (stands self.old).mark.book };
+        ensures group { IsOfSameGroup (stands self.old) (stands self.new) };
 
     /// Takes no memory.
-    fn seen(&self) -> Self::Seen
-        ensures { seen_by result ≡ sight_of (stands self.now) };
+    fn sight(&self) -> Self::Sight
+        ensures { shows result ≡ sight_of (stands self.now) };
 
     /// Takes no memory.
-    fn learn(&mut self, other: &Self::Seen)
-        requires { (seen_by other.now).book ≡ (stands self.old).mark.book }
-        ensures learns { law.learns (stands self.old) (seen_by other.now) (stands self.new) }
-        ensures group { (stands self.new).mark.book ≡ (stands self.old).mark.book };
+    fn learn(&mut self, other: &Self::Sight)
+        requires { CanLearn (stands self.old) (shows other.now) }
+        ensures learns { law.learns (stands self.old) (shows other.now) (stands self.new) }
+        ensures group { IsOfSameGroup (stands self.old) (stands self.new) };
 }
 
 /// Keeps a watch under a name. Where memory is refused for it the watches are as they were.
@@ -84,7 +84,7 @@ pub(crate) fn keep_watch<W: Drop>(
     watches.insert(name.clone()?, watch)
 }
 
-impl<'g> SharedClient<'g> {
+impl SharedClient {
     /// Polls a watch, and keeps it. Where memory is refused for it the watch is as it was.
     fn poll_kept(&mut self, name: &Text, watch: Watch<ScriptMutators>) -> Result<Polled, Refusal>
         requires { finite.get self.old.watches name.now ≡ Some watch }
@@ -97,14 +97,14 @@ impl<'g> SharedClient<'g> {
     }
 }
 
-impl<'g> Caller for SharedClient<'g> {
+impl Caller for SharedClient {
     ghost use Rattle.script_runner.specs.Callers.{shared_rules};
 
-    type Seen = Mark<ScriptMutators>;
+    type Sight = Mark<ScriptMutators>;
 
     ghost stands = { standing_of };
 
-    ghost seen_by = { λ seen. seen };
+    ghost shows = { λ sight. sight };
 
     ghost law = { shared_rules };
 
@@ -144,7 +144,7 @@ impl<'g> Caller for SharedClient<'g> {
         }
     }
 
-    fn seen(&self) -> Mark<ScriptMutators> {
+    fn sight(&self) -> Mark<ScriptMutators> {
         self.client.mark()
     }
 

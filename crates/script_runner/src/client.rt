@@ -1,13 +1,14 @@
 //! A client of a script: what it keeps between its lines, and what each command does.
 ghost use Rattle.std.specs.Prelude.{◌≡◌, IfOk, Ok, map};
-ghost use Rattle.std.specs.List.{All};
 ghost use Rattle.std.specs.FinMap as finite;
-ghost use Rattle.rebase.specs.Queries.{asked, told};
+ghost use Rattle.group_steps.specs.Missing.{told};
+ghost use Rattle.rebase.specs.Queries.{asked};
 ghost use Rattle.rebase.specs.Replies.{reply_seen, ticket as replied_ticket};
 ghost use Rattle.rebase.specs.declared.calls.Call.TheVariants as call;
 ghost use Rattle.script_runner.specs.Commanding.{Asks, AsksEnd, AsksMutation, HandsOn, IsBegun, MayBegin, MayEnd};
-ghost use Rattle.script_runner.specs.Commanding.{MayLearn, MayPoll, MayPrint, MayWatch};
-ghost use Rattle.script_runner.specs.Inside.Players.{player_of};
+ghost use Rattle.script_runner.specs.Callers.{CanLearnAll};
+ghost use Rattle.script_runner.specs.Commanding.{MayLearn, MayPoll, MayPrint, MayWatch, new_player};
+ghost use Rattle.script_runner.specs.Inside.Players.{IsSamePlayer, Prints, player_of};
 ghost use Rattle.script_runner.specs.Printing.{answer_text, polled_text, refreshed_text, replied_text};
 ghost use Rattle.script_runner.specs.Inside.Printing.{reply_text};
 
@@ -31,8 +32,7 @@ pub(crate) struct ScriptClient<C: Drop> {
 
 impl<C: Caller + Drop> ScriptClient<C> {
     pub(crate) fn new(alloc: Global, name: &Text, caller: C) -> Result<ScriptClient<C>, AllocError>
-        ensures { IfOk result (λ client. player_of C.stands client
-            ≡ record { name = name.now; standing = C.stands caller; tickets = finite.empty }) }
+        ensures { IfOk result (λ client. player_of C.stands client ≡ new_player name.now (C.stands caller)) }
     {
         Ok(ScriptClient {
             alloc,
@@ -42,20 +42,24 @@ impl<C: Caller + Drop> ScriptClient<C> {
         })
     }
 
-    /// Does a command. A refusal is a reply like any other. `seen` is what each client had seen when the phase began.
-    pub(crate) fn call<R: Wait>(&mut self, rt: &R, seen: &[C::Seen], command: &Command) -> Printed
-        requires { All (λ s. (C.seen_by s).book ≡ (C.stands self.old.caller).mark.book) seen.now }
-        ensures told { MayPrint C.law (map C.seen_by seen.now) (player_of C.stands self.old) command.now
-            (reply_text result) (player_of C.stands self.new) }
-        ensures name { self.new.name ≡ self.old.name }
-        ensures group { (C.stands self.new.caller).mark.book ≡ (C.stands self.old.caller).mark.book }
+    /// Does a command. A refusal is a reply like any other. `sights` are what each client had seen when the phase began.
+    pub(crate) fn call<R: Wait>(
+        &mut self,
+        rt: &R,
+        sights: &[C::Sight],
+        command: &Command,
+    ) -> Printed
+        requires { CanLearnAll C.shows (C.stands self.old.caller) sights.now }
+        ensures told { Prints C.stands (λ p. MayPrint C.law (map C.shows sights.now) p command.now)
+            self.old result self.new }
+        ensures same { IsSamePlayer C.stands self.old self.new }
     {
         match command {
             Command::Begin(name) => self.begin(rt, name),
             Command::End(name, body) => self.end(rt, name, body),
             Command::Mutate(call) => self.mutate(rt, call),
             Command::Refresh => self.refresh(rt),
-            Command::Learn(place) => self.learn(seen, *place),
+            Command::Learn(place) => self.learn(sights, *place),
             Command::Watch(name, scan) => self.watch(name, scan),
             Command::Poll(name) => self.poll(rt, name),
             Command::Query(query) => self.query(rt, query),
@@ -63,10 +67,8 @@ impl<C: Caller + Drop> ScriptClient<C> {
     }
 
     fn query<R: Wait>(&mut self, rt: &R, query: &Query) -> Printed
-        ensures told { HandsOn C.law (Asks query.now) answer_text (player_of C.stands self.old) (reply_text result)
-            (player_of C.stands self.new) }
-        ensures name { self.new.name ≡ self.old.name }
-        ensures group { (C.stands self.new.caller).mark.book ≡ (C.stands self.old.caller).mark.book }
+        ensures told { Prints C.stands (HandsOn C.law (Asks query.now) answer_text) self.old result self.new }
+        ensures same { IsSamePlayer C.stands self.old self.new }
     {
         match query {
             Query::Scan(scan) => self.scan(rt, scan),
@@ -75,10 +77,9 @@ impl<C: Caller + Drop> ScriptClient<C> {
     }
 
     fn scan<R: Wait>(&mut self, rt: &R, scan: &Scan) -> Printed
-        ensures told { HandsOn C.law (λ c. c ≡ call.Scan scan.entry) answer_text (player_of C.stands self.old)
-            (reply_text result) (player_of C.stands self.new) }
-        ensures name { self.new.name ≡ self.old.name }
-        ensures group { (C.stands self.new.caller).mark.book ≡ (C.stands self.old.caller).mark.book }
+        ensures told { Prints C.stands (HandsOn C.law (λ c. c ≡ call.Scan scan.entry) answer_text)
+            self.old result self.new }
+        ensures same { IsSamePlayer C.stands self.old self.new }
     {
         match self.caller.scan(rt, self.alloc, scan) {
             Ok(list) => Printed::Listed(list),
@@ -88,10 +89,8 @@ impl<C: Caller + Drop> ScriptClient<C> {
 
     /// A ticket whose name was given before is replaced, and where this is refused there is none of that name.
     fn begin<R: Wait>(&mut self, rt: &R, name: &Text) -> Printed
-        ensures told { MayBegin C.law name.now (player_of C.stands self.old) (reply_text result)
-            (player_of C.stands self.new) }
-        ensures name { self.new.name ≡ self.old.name }
-        ensures group { (C.stands self.new.caller).mark.book ≡ (C.stands self.old.caller).mark.book }
+        ensures told { Prints C.stands (MayBegin C.law name.now) self.old result self.new }
+        ensures same { IsSamePlayer C.stands self.old self.new }
     {
         self.tickets.remove(name);
         match self.caller.call(rt, Call::BeginPull) {
@@ -121,10 +120,9 @@ impl<C: Caller + Drop> ScriptClient<C> {
     }
 
     fn end<R: Wait>(&mut self, rt: &R, name: &Text, body: &Text) -> Printed
-        ensures told { MayEnd C.law (finite.get self.old.tickets name.now) body.now (player_of C.stands self.old)
-            (reply_text result) (player_of C.stands self.new) }
-        ensures name { self.new.name ≡ self.old.name }
-        ensures group { (C.stands self.new.caller).mark.book ≡ (C.stands self.old.caller).mark.book }
+        ensures told { Prints C.stands (MayEnd C.law (finite.get self.old.tickets name.now) body.now)
+            self.old result self.new }
+        ensures same { IsSamePlayer C.stands self.old self.new }
     {
         match self.tickets.get(name) {
             Some(ticket) => {
@@ -138,10 +136,8 @@ impl<C: Caller + Drop> ScriptClient<C> {
     }
 
     fn mutate<R: Wait>(&mut self, rt: &R, call: &MutatorCall) -> Printed
-        ensures told { HandsOn C.law (AsksMutation call.now) answer_text (player_of C.stands self.old)
-            (reply_text result) (player_of C.stands self.new) }
-        ensures name { self.new.name ≡ self.old.name }
-        ensures group { (C.stands self.new.caller).mark.book ≡ (C.stands self.old.caller).mark.book }
+        ensures told { Prints C.stands (HandsOn C.law (AsksMutation call.now) answer_text) self.old result self.new }
+        ensures same { IsSamePlayer C.stands self.old self.new }
     {
         let asked = Mutate {
             name: &call.mutator,
@@ -152,10 +148,8 @@ impl<C: Caller + Drop> ScriptClient<C> {
     }
 
     fn refresh<R: Wait>(&mut self, rt: &R) -> Printed
-        ensures told { HandsOn C.law (λ c. c ≡ call.Refresh) refreshed_text (player_of C.stands self.old)
-            (reply_text result) (player_of C.stands self.new) }
-        ensures name { self.new.name ≡ self.old.name }
-        ensures group { (C.stands self.new.caller).mark.book ≡ (C.stands self.old.caller).mark.book }
+        ensures told { Prints C.stands (HandsOn C.law (λ c. c ≡ call.Refresh) refreshed_text) self.old result self.new }
+        ensures same { IsSamePlayer C.stands self.old self.new }
     {
         let answer = self.caller.call(rt, Call::Refresh);
         if let Ok(Reply::Id(id)) = &answer {
@@ -168,10 +162,8 @@ impl<C: Caller + Drop> ScriptClient<C> {
 
     /// A watch whose name was given before is replaced, and where this is refused there is none of that name.
     fn watch(&mut self, name: &Text, scan: &Scan) -> Printed
-        ensures told { MayWatch name.now scan.now (player_of C.stands self.old) (reply_text result)
-            (player_of C.stands self.new) }
-        ensures name { self.new.name ≡ self.old.name }
-        ensures group { (C.stands self.new.caller).mark.book ≡ (C.stands self.old.caller).mark.book }
+        ensures told { Prints C.stands (MayWatch name.now scan.now) self.old result self.new }
+        ensures same { IsSamePlayer C.stands self.old self.new }
     {
         match self.caller.watch(name, scan) {
             Ok(()) => Printed::Watching,
@@ -180,10 +172,9 @@ impl<C: Caller + Drop> ScriptClient<C> {
     }
 
     fn poll<R: Wait>(&mut self, rt: &R, name: &Text) -> Printed
-        ensures told { MayPoll C.law name.now (finite.get (C.stands self.old.caller).watches name.now)
-            (player_of C.stands self.old) (reply_text result) (player_of C.stands self.new) }
-        ensures name { self.new.name ≡ self.old.name }
-        ensures group { (C.stands self.new.caller).mark.book ≡ (C.stands self.old.caller).mark.book }
+        ensures told { Prints C.stands (MayPoll C.law name.now (finite.get (C.stands self.old.caller).watches name.now))
+            self.old result self.new }
+        ensures same { IsSamePlayer C.stands self.old self.new }
     {
         match self.caller.poll(rt, name) {
             Some(polled) => polled_of(polled),
@@ -191,14 +182,12 @@ impl<C: Caller + Drop> ScriptClient<C> {
         }
     }
 
-    fn learn(&mut self, seen: &[C::Seen], place: usize) -> Printed
-        requires { All (λ s. (C.seen_by s).book ≡ (C.stands self.old.caller).mark.book) seen.now }
-        ensures told { MayLearn C.law (map C.seen_by seen.now) place (player_of C.stands self.old) (reply_text result)
-            (player_of C.stands self.new) }
-        ensures name { self.new.name ≡ self.old.name }
-        ensures group { (C.stands self.new.caller).mark.book ≡ (C.stands self.old.caller).mark.book }
+    fn learn(&mut self, sights: &[C::Sight], place: usize) -> Printed
+        requires { CanLearnAll C.shows (C.stands self.old.caller) sights.now }
+        ensures told { Prints C.stands (MayLearn C.law (map C.shows sights.now) place) self.old result self.new }
+        ensures same { IsSamePlayer C.stands self.old self.new }
     {
-        if let Some(other) = seen.get(place) {
+        if let Some(other) = sights.get(place) {
             self.caller.learn(other);
         }
         Printed::Learnt
@@ -237,12 +226,12 @@ fn reply_of(answer: Result<Reply, Refusal>) -> Printed
     ensures { reply_text result ≡ answer_text (told reply_seen answer) }
 {
     match answer {
-        Ok(answer) => handed_on(answer),
+        Ok(answer) => print_of(answer),
         Err(refusal) => Printed::Refused(refusal),
     }
 }
 
-fn handed_on(answer: Reply) -> Printed
+fn print_of(answer: Reply) -> Printed
     ensures { reply_text result ≡ replied_text (reply_seen answer) }
 {
     match answer {

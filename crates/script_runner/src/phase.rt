@@ -1,11 +1,11 @@
 //! A phase: each client with lines makes its calls on a thread of its own.
 ghost use Rattle.std.specs.Prelude.{◌≡◌, ◌<◌, IfOk, OnOk, length, map};
 ghost use Rattle.std.specs.List.{All};
-ghost use Rattle.logbook.specs.Pages.{Book};
 ghost use Rattle.script_parser.specs.Scripts.{line_said, lines_at, phase_said};
-ghost use Rattle.script_runner.specs.Phases.{AreTold, IsPhase, all_seen};
+ghost use Rattle.script_runner.specs.Callers.{CanLearnAll, IsOfSameGroup};
+ghost use Rattle.script_runner.specs.Phases.{AreTold, IsPhase, all_sights};
 ghost use Rattle.script_runner.specs.Inside.Players.{player_of, players_of};
-ghost use Rattle.script_runner.specs.Inside.Turns.{AreOf, IsPrinted, IsTold, IsTurn, texts_of};
+ghost use Rattle.script_runner.specs.Inside.Turns.{AreOfOneGroup, IsPrinted, IsTold, IsTurn, StayInGroup, texts_of};
 
 use crate::callers::Caller;
 use crate::client::ScriptClient;
@@ -23,24 +23,31 @@ pub trait Gate: Sync {
     fn after(&self, client: &str, line: u64);
 }
 
+/// What a run has of its caller: a handle on threads and waiting, where memory is taken from, and the gate.
+#[derive(Drop)]
+pub(crate) struct Host<'h, R, G> {
+    pub(crate) rt: &'h R,
+    pub(crate) alloc: Global,
+    pub(crate) gate: &'h G,
+}
+
 impl<C: Caller + Drop> ScriptClient<C> {
     /// Does the command of a line, between the questions to the gate, and appends what is printed of it.
     fn tell<R: Wait, G: Gate>(
         &mut self,
-        rt: &R,
-        gate: &G,
-        seen: &[C::Seen],
+        host: &Host<'_, R, G>,
+        sights: &[C::Sight],
         line: &Line,
         printed: &mut Vec<u8>,
     ) -> Result<(), AllocError>
-        requires { All (λ s. (C.seen_by s).book ≡ (C.stands self.old.caller).mark.book) seen.now }
-        ensures told { OnOk result (IsTold C.law (map C.seen_by seen.now) (player_of C.stands self.old)
+        requires { CanLearnAll C.shows (C.stands self.old.caller) sights.now }
+        ensures told { OnOk result (IsTold C.law (map C.shows sights.now) (player_of C.stands self.old)
             (line_said line.now) printed.old.items printed.new.items (player_of C.stands self.new)) }
-        ensures group { (C.stands self.new.caller).mark.book ≡ (C.stands self.old.caller).mark.book }
+        ensures group { IsOfSameGroup (C.stands self.old.caller) (C.stands self.new.caller) }
     {
-        gate.before(self.name.as_str(), line.number);
-        let reply = self.call(rt, seen, &line.command);
-        gate.after(self.name.as_str(), line.number);
+        host.gate.before(self.name.as_str(), line.number);
+        let reply = self.call(host.rt, sights, &line.command);
+        host.gate.after(self.name.as_str(), line.number);
         let told = print_line(printed, line.number, self.name.as_str(), &reply);
         drop(reply);
         told
@@ -49,20 +56,18 @@ impl<C: Caller + Drop> ScriptClient<C> {
     /// Does the commands of the lines, in order, and answers what is printed of them.
     fn tell_all<R: Wait, G: Gate>(
         &mut self,
-        rt: &R,
-        alloc: Global,
-        gate: &G,
-        seen: &[C::Seen],
+        host: &Host<'_, R, G>,
+        sights: &[C::Sight],
         lines: &[Line],
     ) -> Result<Vec<u8>, AllocError>
-        requires { All (λ s. (C.seen_by s).book ≡ (C.stands self.old.caller).mark.book) seen.now }
-        ensures told { IfOk result (λ text. AreTold C.law (map C.seen_by seen.now) (player_of C.stands self.old)
+        requires { CanLearnAll C.shows (C.stands self.old.caller) sights.now }
+        ensures told { IfOk result (λ text. AreTold C.law (map C.shows sights.now) (player_of C.stands self.old)
             (map line_said lines.now) text.items (player_of C.stands self.new)) }
-        ensures group { (C.stands self.new.caller).mark.book ≡ (C.stands self.old.caller).mark.book }
+        ensures group { IsOfSameGroup (C.stands self.old.caller) (C.stands self.new.caller) }
     {
-        let mut printed = Vec::new(alloc);
+        let mut printed = Vec::new(host.alloc);
         for line in lines {
-            self.tell(rt, gate, seen, line, &mut printed)?;
+            self.tell(host, sights, line, &mut printed)?;
         }
         Ok(printed)
     }
@@ -76,30 +81,26 @@ pub(crate) struct Turn<C: Drop> {
 }
 
 impl<C: Caller + Drop> Turn<C> {
-    fn play<R: Wait, G: Gate>(
-        &mut self,
-        rt: &R,
-        alloc: Global,
-        gate: &G,
-        seen: &[C::Seen],
-        lines: &[Line],
-    )
-        requires { All (λ s. (C.seen_by s).book ≡ (C.stands self.old.client.caller).mark.book) seen.now }
-        ensures { IsTurn C.law C.stands (map C.seen_by seen.now) (map line_said lines.now) self.old.client self.new }
+    fn play<R: Wait, G: Gate>(&mut self, host: &Host<'_, R, G>, sights: &[C::Sight], lines: &[Line])
+        requires { CanLearnAll C.shows (C.stands self.old.client.caller) sights.now }
+        ensures { IsTurn C.law C.stands (map C.shows sights.now) (map line_said lines.now) self.old.client self.new }
     {
-        self.printed = self.client.tell_all(rt, alloc, gate, seen, lines);
+        self.printed = self.client.tell_all(host, sights, lines);
     }
 }
 
 /// What each client has seen.
-fn seen_of<C: Caller + Drop>(alloc: Global, turns: &[Turn<C>]) -> Result<Vec<C::Seen>, AllocError>
-    ensures { IfOk result (λ seen. map C.seen_by seen.items ≡ all_seen (players_of C.stands turns.now)) }
+fn sights_of<C: Caller + Drop>(
+    alloc: Global,
+    turns: &[Turn<C>],
+) -> Result<Vec<C::Sight>, AllocError>
+    ensures { IfOk result (λ sights. map C.shows sights.items ≡ all_sights (players_of C.stands turns.now)) }
 {
-    let mut seen = Vec::with_capacity(alloc, turns.len())?;
+    let mut sights = Vec::with_capacity(alloc, turns.len())?;
     for turn in turns {
-        seen.push(turn.client.caller.seen())?;
+        sights.push(turn.client.caller.sight())?;
     }
-    Ok(seen)
+    Ok(sights)
 }
 
 /// How many threads serve so many clients: one each where two have lines, and else the one that is there.
@@ -111,34 +112,32 @@ fn threads_for(clients: usize, busy: usize) -> usize
 
 /// Does the lines of a phase: those of each place by the client of that place, on a thread of its own.
 pub(crate) fn run_phase<R: Threads + Wait + Sync, G: Gate, C: Caller + Send + Drop>(
-    rt: &R,
-    alloc: Global,
-    gate: &G,
+    host: &Host<'_, R, G>,
     turns: &mut [Turn<C>],
     phase: &Phase,
 ) -> Result<(), AllocError>
     requires lines { length turns.old ≡ phase.now.clients }
-    requires one { (b : Book) × AreOf C.stands b turns.old }
+    requires one { AreOfOneGroup C.stands turns.old }
     ensures phase { OnOk result (All IsPrinted turns.new
         → IsPhase C.law (phase_said phase.now) (players_of C.stands turns.old) (texts_of turns.new)
         (players_of C.stands turns.new)) }
-    ensures group { (b : Book) → AreOf C.stands b turns.old → AreOf C.stands b turns.new }
+    ensures group { StayInGroup C.stands turns.old turns.new }
     ensures count { length turns.new ≡ length turns.old }
 {
     if turns.is_empty() {
         return Ok(());
     }
-    let seen = seen_of(alloc, turns)?;
+    let sights = sights_of(host.alloc, turns)?;
     let count = threads_for(turns.len(), phase.busy());
     thread::for_each_mut(
-        rt,
+        host.rt,
         turns,
         count,
         &|i, turn| -> ()
-            requires one { All (λ s. (C.seen_by s).book ≡ (C.stands turn.now.client.caller).mark.book) seen.items }
-            ensures { IsTurn C.law C.stands (map C.seen_by seen.items)
+            requires one { CanLearnAll C.shows (C.stands turn.now.client.caller) sights.items }
+            ensures { IsTurn C.law C.stands (map C.shows sights.items)
                 (lines_at phase.entry.now.parts.items i) turn.entry.now.client turn.exit.now }
-        { turn.play(rt, alloc, gate, &seen, phase.lines_of(i)) },
+        { turn.play(host, &sights, phase.lines_of(i)) },
     );
     Ok(())
 }

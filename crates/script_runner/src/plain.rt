@@ -2,9 +2,8 @@
 //!
 //! It keeps its view as one map, which a pull computes anew. It says by the shortest code what a group is; its clients
 //! take turns at it.
-ghost use Rattle.std.specs.Prelude.{◌≡◌, true, map, Ok, Some, IfOk, IfErr, OnErr, IsOkUnless};
+ghost use Rattle.std.specs.Prelude.{◌≡◌, true, Ok, Some, IfOk, IfErr, OnErr, IsOkUnless};
 ghost use Rattle.std.specs.FinMap as finite;
-ghost use Rattle.std.specs.List.{join_with_byte};
 ghost use Rattle.group_history.specs.Answers.{Answers};
 ghost use Rattle.group_history.specs.Mutating.{mutate_reply};
 ghost use Rattle.group_history.specs.Queries.{get_at, rows_at};
@@ -13,12 +12,13 @@ ghost use Rattle.push_body.specs.Bodies.{push_text};
 ghost use Rattle.rebase.specs.Asking.{end_bytes_reply};
 ghost use Rattle.rebase.specs.Calls.{Caller as Asking, IsReplyTo, asked_mutation, caller, is_query, last_after};
 ghost use Rattle.rebase.specs.Calls.{reply_to};
-ghost use Rattle.rebase.specs.Queries.{asked, asked_at, told};
+ghost use Rattle.group_steps.specs.Missing.{told};
+ghost use Rattle.rebase.specs.Queries.{asked, asked_at};
 ghost use Rattle.rebase.specs.Replies.{reply_seen};
 ghost use Rattle.rebase.specs.Watching.{poll_at, poll_reply, watch_after};
 ghost use Rattle.script_mutators.specs.Mutators.{script_means};
 ghost use Rattle.script_runner.specs.Callers.{IsPolled, MayPollPlainly};
-ghost use Rattle.script_runner.specs.Printing.{row_text};
+ghost use Rattle.script_runner.specs.Printing.{rows_text};
 ghost use Rattle.script_runner.specs.Inside.Players.{standing_of_plain};
 
 use crate::callers::{Caller, keep_watch};
@@ -86,8 +86,7 @@ impl Plain {
 
     /// The rows of a scan, listed.
     fn list(&self, alloc: Global, scan: &Scan) -> Result<RowList, Refusal>
-        ensures ok { IfOk result (λ list. list.text.items
-            ≡ join_with_byte 44 (map row_text (rows_at script_means self.now.group scan.now))) }
+        ensures ok { IfOk result (λ list. list.text.items ≡ rows_text (rows_at script_means self.now.group scan.now)) }
         ensures err { IsOkUnless result NoMemory }
     {
         let rows = self.group.scan(scan)?;
@@ -252,11 +251,11 @@ impl<'g> Caller for PlainClient<'g> {
     ghost use Rattle.head_word.specs.Marks.{known};
     ghost use Rattle.script_runner.specs.Callers.{no_book, plain_rules};
 
-    type Seen = ();
+    type Sight = ();
 
     ghost stands = { standing_of_plain };
 
-    ghost seen_by = { λ seen. known no_book [] None };
+    ghost shows = { λ sight. known no_book [] None };
 
     ghost law = { plain_rules };
 
@@ -287,7 +286,7 @@ impl<'g> Caller for PlainClient<'g> {
         }
     }
 
-    fn seen(&self) {}
+    fn sight(&self) {}
 
     fn learn(&mut self, _other: &()) {}
 }

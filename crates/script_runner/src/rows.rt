@@ -1,7 +1,6 @@
 //! Rows of a scan, written as they are read.
-ghost use Rattle.std.specs.Prelude.{◌≡◌, ◌++◌, ◌∷◌, [], false, true, map, IfOk, OnOk};
-ghost use Rattle.std.specs.List.{join_with_byte};
-ghost use Rattle.script_runner.specs.Printing.{row_text};
+ghost use Rattle.std.specs.Prelude.{◌≡◌, ◌++◌, ◌∷◌, [], false, true, IfOk, OnOk};
+ghost use Rattle.script_runner.specs.Printing.{row_text, rows_text};
 ghost use Rattle.script_runner.specs.Inside.Printing.{HasRows};
 
 use crate::reply::{print_row, print_row_list};
@@ -28,7 +27,7 @@ impl RowList {
 
     /// The list of these rows.
     pub(crate) fn of(alloc: Global, rows: &[(Text, Json)]) -> Result<RowList, AllocError>
-        ensures { IfOk result (λ list. list.text.items ≡ join_with_byte 44 (map row_text rows.now)) }
+        ensures { IfOk result (λ list. list.text.items ≡ rows_text rows.now) }
     {
         let mut text = Vec::new(alloc);
         print_row_list(rows, &mut text)?;

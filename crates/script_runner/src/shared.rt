@@ -13,21 +13,21 @@ use std::alloc::Global;
 
 /// A client of a group whose clients may all call at the same time, and its watches.
 #[derive(Drop)]
-pub(crate) struct SharedClient<'g> {
-    pub(crate) client: Client<'g, ScriptMutators, Arena<ScriptMutators>>,
+pub(crate) struct SharedClient {
+    pub(crate) client: Client<ScriptMutators, Arena<ScriptMutators>>,
     pub(crate) watches: TextMap<Watch<ScriptMutators>>,
     ghost of_group: { (name : Bytes) (watch : Watched) → finite.get watches name ≡ Some watch
-        → watch.book ≡ client.mark.book } by { Π_prop
+        → watch.book ≡ client.seat.mark.book } by { Π_prop
             (λ name. Π_prop (λ watch. →_prop (Prim.hlevel (codes, Coded-set)))) },
 }
 
-impl<'g> SharedClient<'g> {
+impl SharedClient {
     /// A client without watches.
     pub(crate) fn new(
         alloc: Global,
-        client: Client<'g, ScriptMutators, Arena<ScriptMutators>>,
-    ) -> SharedClient<'g>
-        ensures client { result.client ≡ client.entry }
+        client: Client<ScriptMutators, Arena<ScriptMutators>>,
+    ) -> SharedClient
+        ensures client { result.client ≡ client }
         ensures watches { result.watches ≡ finite.empty }
     {
         SharedClient {

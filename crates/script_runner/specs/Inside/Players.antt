@@ -1,18 +1,23 @@
 -- The clients of the code, as a script has them.
-use Rattle.std.specs.Prelude.{List, map}
-use Rattle.rebase.specs.Calls.{caller}
+use Rattle.std.specs.Prelude.{◌≡◌, List, map}
+use Rattle.group_history.specs.Map.{Bytes}
+use Rattle.rebase.specs.Calls.{caller_of}
+use Rattle.rebase.specs.Clients.{Grouped}
 use Rattle.script_runner.specs.declared.shared.SharedClient.{SharedClient}
 use Rattle.script_runner.specs.declared.client.ScriptClient.{ScriptClient}
 use Rattle.script_runner.specs.declared.phase.Turn.{Turn}
 use Rattle.script_runner.specs.declared.plain.PlainClient.{PlainClient}
-use Rattle.script_runner.specs.Callers.{Standing, plain_standing}
+use Rattle.script_runner.specs.declared.reply.Printed.{Printed}
+use Rattle.script_runner.specs.Callers.{IsOfSameGroup, Standing, plain_standing}
 use Rattle.script_runner.specs.Commanding.{Player}
+use Rattle.script_runner.specs.Runs.{IsNew}
+use Rattle.script_runner.specs.Inside.Printing.{reply_text}
 
 -- a client of a shared group
 abbrev pub standing_of : SharedClient → Standing
 standing_of c = record {
-  caller = caller c.client.group.now.identity c.client.id c.client.last;
-  mark = c.client.mark;
+  caller = caller_of c.client;
+  mark = c.client.seat.mark;
   watches = c.watches;
 }
 
@@ -25,3 +30,20 @@ player_of stands c = record { name = c.name; standing = stands c.caller; tickets
 
 abbrev pub players_of : {C : Type 0} → (C → Standing) → List (Turn C) → List Player
 players_of stands turns = map (λ t. player_of stands t.client) turns
+
+-- it is the same client, by its name, and of the same group
+abbrev pub IsSamePlayer : {C : Type 0} → (C → Standing) → ScriptClient C → ScriptClient C → Type 0
+IsSamePlayer stands old new = (new.name ≡ old.name) × IsOfSameGroup (stands old.caller) (stands new.caller)
+
+-- what a call of a client printed, by this rule, and how it left the client
+abbrev pub Prints : {C : Type 0} → (C → Standing) → (Player → Bytes → Player → Type 0) → ScriptClient C → Printed
+    → ScriptClient C → Type 0
+Prints stands rule old reply new = rule (player_of stands old) (reply_text reply) (player_of stands new)
+
+-- what a client's line says of it: its name and its ID
+abbrev pub line_of : Turn SharedClient → Bytes × Bytes
+line_of turn = (turn.client.name, turn.client.caller.client.id)
+
+-- a client of this group before the first phase
+abbrev pub IsNewIn : Grouped → Turn SharedClient → Type 0
+IsNewIn group turn = IsNew group.identity group.group.book (player_of standing_of turn.client)

@@ -1,13 +1,13 @@
 -- A reply of the code, as it is printed: a word, and what it tells.
 use Rattle.std.specs.Prelude.{◌≡◌, Bool, true, false, [], ◌∷◌, ◌++◌, map, codes, decimal}
-use Rattle.std.specs.List.{concat, join_with_byte}
+use Rattle.std.specs.List.{concat}
 use Rattle.group_history.specs.Map.{Bytes}
 use Rattle.group_history.specs.Rows.{Rows}
 use Rattle.script_runner.specs.declared.reply.Printed.{Printed}
 use Rattle.script_runner.specs.declared.reply.Printed.TheVariants as reply
 use Rattle.script_runner.specs.declared.rows.RowList.{RowList}
 use Rattle.script_runner.specs.Printing.{array_text, bool_text, ended_text, pending_row, refusal_detail, refusal_name}
-use Rattle.script_runner.specs.Printing.{row_text}
+use Rattle.script_runner.specs.Printing.{row_text, rows_text}
 
 -- texts with commas between them, as a JSON array
 abbrev pub enclosed : Bytes → Bytes
@@ -20,7 +20,7 @@ are_none (r ∷ rs) = false
 
 -- these rows are listed
 pub record HasRows (list : RowList) (rows : Rows) : Type 0 where
-  pub text : list.text.items ≡ join_with_byte 44 (map row_text rows)
+  pub text : list.text.items ≡ rows_text rows
   pub empty : list.is_empty ≡ are_none rows
 
 -- the word that says which reply it is

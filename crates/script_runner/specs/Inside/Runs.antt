@@ -1,7 +1,29 @@
--- How a process ends.
-use Rattle.std.specs.Prelude.{ℕ}
+-- How a script is run that was read, and how a process ends.
+use Rattle.std.specs.Prelude.{ℕ, ◌≤◌, IfSome, OnOk, Option, Result, vec_len}
+use Rattle.group_history.specs.Map.{Bytes}
+use Rattle.group_history.specs.Refs.{max_seats, max_slots}
+use Rattle.push_body.specs.declared.identities.Identity.{Identity}
 use Rattle.script_parser.specs.declared.faults.Fault.{Fault}
 use Rattle.script_parser.specs.declared.faults.Fault.TheVariants as fault
+use Rattle.script_parser.specs.declared.script.Header.{Header}
+use Rattle.script_parser.specs.declared.script.Script.{Script}
+use Rattle.script_parser.specs.Context.{Context}
+use Rattle.script_parser.specs.Scripts.{IsScript}
+use Rattle.script_runner.specs.Runs.{BlamesNoScript, HasRun, HasStopped, IsWant, identity_of}
+
+-- whose requests the group of a header writes
+abbrev pub header_identity : Header → Identity
+header_identity header = identity_of header.group header.profile header.schema
+
+-- a group can have a seat for each client of the header, and as many slots as it asks for
+abbrev pub IsInRange : Header → Type 0
+IsInRange header = (vec_len header.clients ≤ max_seats) × IfSome header.slots (λ n. (16 ≤ n) × (n ≤ max_slots))
+
+-- What a run of a script that was read writes, to the end or until memory ended it. Its fault is none of the script.
+pub record IsRun {X : Type 0} (script : Script) (old new : Option Bytes) (result : Result X Fault) : Type 0 where
+  pub written : (said : Context) → IsScript said script → OnOk result (HasRun said old new)
+  pub want : (said : Context) → IsScript said script → IsWant result → HasStopped said old new
+  pub fault : BlamesNoScript result
 
 -- the status of a process that ends with the fault
 abbrev pub status_of : Fault → ℕ

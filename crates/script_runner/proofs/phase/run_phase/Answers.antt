@@ -7,8 +7,8 @@ use Rattle.script_runner.proofs.phase.run_phase.Goals as goal
 
 pub for_each_mut-requires-clause-accepts : goal.for_each_mut-requires-clause-accepts
 for_each_mut-requires-clause-accepts g c b m i p below is = (
-  λ k d in_seen. lent g.C.Caller.stands g.C.Caller.seen_by c.args.turns.now c.in_ok-seen.seen.items i p.now k d
-      c.in_ok-seen.ensures c.requires.one below is in_seen,
+  λ k d in_sights. lent g.C.Caller.stands g.C.Caller.shows c.args.turns.now c.in_ok-sights.sights.items i p.now k d
+      c.in_ok-sights.ensures c.requires.one below is in_sights,
   (search rules, search rules, search rules, search rules),
 )
 
@@ -16,17 +16,17 @@ pub returns : goal.returns
 returns g c =
     let stands = g.C.Caller.stands in let law = g.C.Caller.law in
     let old = c.args.turns.now in let new = c.for_each_mut.new.s in let said = c.args.phase.now in
-    let seen = map g.C.Caller.seen_by c.in_ok-seen.seen.items in
+    let sights = map g.C.Caller.shows c.in_ok-sights.sights.items in
     let turns : (i : ℕ) (d : Turn _) → i < length old
-    → IsTurn law stands seen (lines_at said.parts.items i) (slice_index_or old i d).client
+    → IsTurn law stands sights (lines_at said.parts.items i) (slice_index_or old i d).client
     (slice_index_or new i d) = λ i d below.
     let w = (c.for_each_mut.ensures i d below).1 in
-    subst (λ x. IsTurn law stands seen (lines_at said.parts.items i) x.client
+    subst (λ x. IsTurn law stands sights (lines_at said.parts.items i) x.client
     (slice_index_or new i d)) w.argument_is
-    (subst (λ y. IsTurn law stands seen (lines_at said.parts.items i) w.argument.now.client y) w.left w.call) in
+    (subst (λ y. IsTurn law stands sights (lines_at said.parts.items i) w.argument.now.client y) w.left w.call) in
     record {
-      phase = λ printed. phase stands law seen old new said c.in_ok-seen.ensures c.for_each_mut.auto.s
+      phase = λ printed. phase stands law sights old new said c.in_ok-sights.ensures c.for_each_mut.auto.s
           c.requires.lines turns printed;
-      group = still_one stands law seen old new said c.for_each_mut.auto.s turns;
+      group = still_one stands law sights old new said c.for_each_mut.auto.s turns;
       count = c.for_each_mut.auto.s;
     }

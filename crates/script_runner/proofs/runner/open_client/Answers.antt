@@ -1,7 +1,8 @@
-use Rattle.std.proofs.Common.{◌≡◌, ◌∙◌, Some, refl, sym, ap, subst}
-use Rattle.std.specs.FinMap as finite
+use Rattle.std.proofs.Common.{◌∙◌, Some, refl, sym, ap, subst}
+use Rattle.commit_graph.specs.Seats.{IsSeatOf}
 use Rattle.rebase.proofs.Seating.{popped}
-use Rattle.rebase.specs.Calls.{caller}
+use Rattle.rebase.specs.Calls.{caller_of}
+use Rattle.script_runner.specs.Commanding.{new_player}
 use Rattle.script_runner.specs.Runs.{IsNew}
 use Rattle.script_runner.specs.Inside.Players.{standing_of}
 use Rattle.script_runner.proofs.Openings.{if_ok, if_player}
@@ -9,26 +10,23 @@ use Rattle.script_runner.proofs.runner.open_client.Goals as goal
 
 pub returns-clause-seats : goal.returns-clause-seats
 returns-clause-seats c =
-    if_ok c.turn_of.result
-    (popped (λ seat. (seat.mark.book ≡ c.args.group.now.shared.head)
-    × (seat.slots.table ≡ c.args.group.now.shared.store.claims)) c.args.seats.now.free.items
-    c.take.new.self.free.items (Some c.in-Ok.seat) c.in-Ok.seat c.in-Ok.ensures.taken refl c.requires.seats).0
+    if_ok c.turn_of.result (popped (IsSeatOf c.args.group.now.group) c.args.seats.now.free c.take.new.self.free
+    (Some c.in-Ok.seat) c.in-Ok.seat c.in-Ok.ensures.taken refl c.requires.seats).0
 
 pub returns-clause-new : goal.returns-clause-new
 returns-clause-new c =
     let group = c.args.group.now in
-    let client = c.in-Ok-client.client in
     let made = c.new.result in
     let said = c.in-Ok-client.ensures in
-    if_player standing_of c.turn_of.result (IsNew group.identity group.shared.head)
-    (record { name = c.args.line.now.name; standing = standing_of made; tickets = finite.empty }) c.turn_of.ensures
-    (subst (λ x. IsNew group.identity group.shared.head (record {
-      name = c.args.line.now.name;
-      standing = record { caller = caller x.group.now.identity x.id x.last; mark = x.mark; watches = made.watches };
-      tickets = finite.empty;
-    })) (sym c.new.ensures.client) (record {
+    let home = (popped (IsSeatOf group.group) c.args.seats.now.free c.take.new.self.free (Some c.in-Ok.seat)
+    c.in-Ok.seat c.in-Ok.ensures.taken refl c.requires.seats).1 in
+    if_player standing_of c.turn_of.result (IsNew group.identity group.group.book)
+    (new_player c.args.line.now.name (standing_of made)) c.turn_of.ensures
+    (subst (λ x. IsNew group.identity group.group.book (new_player c.args.line.now.name
+    (record { caller = caller_of x; mark = x.seat.mark; watches = made.watches }))) (sym c.new.ensures.client)
+    (record {
       writes = ap (λ g. g.identity) said.group;
-      of_book = client.book ∙ ap (λ g. g.shared.head) said.group;
+      of_book = said.looked.0.seat.later.book ∙ home.0;
       last = (c.in-Ok.seat.mark, said.answer);
       tickets = refl;
       watches = c.new.ensures.watches;

@@ -1,9 +1,8 @@
 use Rattle.std.proofs.Common.{arith, sym, subst}
 use Rattle.std.proofs.lemmas.List.Elements.{All-push}
 use Rattle.std.specs.List.{All}
-use Rattle.script_runner.specs.Runs.{IsNew}
 use Rattle.script_parser.specs.Scripts.{client_said}
-use Rattle.script_runner.specs.Inside.Players.{player_of, standing_of}
+use Rattle.script_runner.specs.Inside.Players.{IsNewIn, line_of}
 use Rattle.script_runner.proofs.Turns.{mapped-more}
 use Rattle.script_runner.proofs.runner.open_clients.Goals as goal
 
@@ -11,13 +10,11 @@ pub loop-line-preserved : goal.loop-line-preserved
 loop-line-preserved c =
     let l = c.loop-line in let made = c.in_ok-turn.ensures in let group = c.args.group.now in
     record {
-      lines = mapped-more (λ t. (t.client.name, t.client.caller.client.id)) client_said l.turns.items
+      lines = mapped-more line_of client_said l.turns.items
           c.push.new.self.items c.in_ok-turn.turn c.args.lines.now l.line-index c.line-item.result
           c.loop-line-test.true c.line-item.is l.invariant.lines c.in_ok-push.ensures.items made.name;
-      new = subst (λ ts. All (λ t. IsNew group.identity group.shared.head (player_of standing_of t.client)) ts)
-          (sym c.in_ok-push.ensures.items)
-          (All-push (λ t. IsNew group.identity group.shared.head (player_of standing_of t.client)) l.turns.items
-          c.in_ok-turn.turn l.invariant.new made.new);
+      new = subst (λ ts. All (IsNewIn group) ts) (sym c.in_ok-push.ensures.items)
+          (All-push (IsNewIn group) l.turns.items c.in_ok-turn.turn l.invariant.new made.new);
       free = omega (arith, l.invariant.free, made.left);
       seats = made.seats;
     }

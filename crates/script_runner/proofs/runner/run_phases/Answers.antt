@@ -1,4 +1,4 @@
-use Rattle.std.proofs.Common.{◌++◌, ◌∙◌, Err, ap, map, subst, sym}
+use Rattle.std.proofs.Common.{◌++◌, ◌∙◌, Err, ap, subst, sym}
 use Rattle.std.proofs.lemmas.List.{take-map}
 use Rattle.std.proofs.lemmas.Result.{err_from_is_err_and}
 use Rattle.std.specs.List.{concat}

@@ -1,39 +1,32 @@
 use Rattle.std.proofs.Common.{◌≡◌, ℕ, refl, sym, ap, ◌∙◌, subst}
 use Rattle.answered.specs.Answered.{Answers}
-use Rattle.rebase.specs.Calls.{caller, change_of, last_after, reply_to}
-use Rattle.rebase.specs.Queries.{told}
+use Rattle.group_steps.specs.Missing.{told}
+use Rattle.rebase.specs.Calls.{caller, caller_of, change_of, last_after, reply_to}
 use Rattle.rebase.specs.Replies.{ended, reply_seen}
 use Rattle.rebase.specs.declared.calls.Reply.TheVariants as reply
 use Rattle.rebase.proofs.CallLemmas.{ended_told, mapped}
 use Rattle.script_runner.specs.Callers.{tries_of}
 use Rattle.script_mutators.specs.Mutators.{script_means}
-use Rattle.script_runner.proofs.Replying.{last_kept}
+use Rattle.script_runner.proofs.Replying.{last_kept, same_caller}
 use Rattle.script_runner.proofs.callers.SharedClientCaller.call.Goals as goal
 
 pub returns-in-EndPull-clause-reply : goal.returns-in-EndPull-clause-reply
 returns-in-EndPull-clause-reply g c =
-    let old = c.args.self.now.client in let new = c.end_pull.new.self in
-    let who = caller old.group.now.identity old.id old.last in
+    let old = c.args.self.now.client in let new = c.end_pull.new.self in let acts = c.end_pull.ensures.acts in
     let none : tries_of c.args.call ≡ 0 = ap tries_of c.in-EndPull.is in
-    let same = c.end_pull.ensures.same in
     let seen = told reply_seen c.map-in-EndPull.result in
     let is : seen ≡ told ended c.end_pull.result = mapped reply.Ended ended c.end_pull.result c.map-in-EndPull.result
     (λ e. refl) c.map-in-EndPull.ensures.cases in
-    let answer : Answers script_means 0 old.mark new.mark seen (change_of who c.args.call)
-    (λ s. reply_to script_means who s c.args.call) =
-    ended_told script_means 0 old.mark new.mark who c.args.call c.in-EndPull.ticket c.in-EndPull.body c.end_pull.result
-    seen c.in-EndPull.is is c.end_pull.ensures.answer in
+    let answer : Answers script_means 0 old.seat.mark new.seat.mark seen (change_of (caller_of old) c.args.call)
+    (λ s. reply_to script_means (caller_of old) s c.args.call) =
+    ended_told script_means 0 old.seat.mark new.seat.mark (caller_of old) c.args.call c.in-EndPull.ticket
+    c.in-EndPull.body c.end_pull.result seen c.in-EndPull.is is c.end_pull.ensures.answer in
     record {
-      answer = subst (λ (n : ℕ). Answers script_means n old.mark new.mark seen (change_of who c.args.call)
-          (λ s. reply_to script_means who s c.args.call)) (sym none) answer;
-      caller = ap (λ w. caller w.identity new.id new.last) same.0 ∙ ap
-          (λ w. caller old.group.now.identity w new.last) same.1
-          ∙ ap (caller old.group.now.identity old.id)
-          (same.2 ∙ sym (ap (last_after old.last) is ∙ last_kept old.last c.end_pull.result));
-      later = record {
-        book = c.end_pull.ensures.seat.0;
-        seat = c.end_pull.ensures.seat.1;
-        seen = c.end_pull.ensures.seen;
-      };
+      answer = subst (λ (n : ℕ). Answers script_means n old.seat.mark new.seat.mark seen
+          (change_of (caller_of old) c.args.call) (λ s. reply_to script_means (caller_of old) s c.args.call)) (sym none)
+          answer;
+      caller = same_caller old new acts.0.client acts.1 ∙ ap (caller old.group.identity old.id)
+          (sym (ap (last_after old.last) is ∙ last_kept old.last c.end_pull.result));
+      later = acts.0.seat.later;
       watches = refl;
     }

@@ -9,7 +9,7 @@ use Rattle.script_runner.proofs.callers.SharedClientCaller.watch.Goals as goal
 
 pub invariant_of-self : goal.invariant_of-self
 invariant_of-self c =
-    let old = c.args.self.now in let book = old.client.mark.book in
+    let old = c.args.self.now in let book = old.client.seat.mark.book in
     record {
       of_group = subst (λ (m : Watches). AreOf m book) (sym c.remove.ensures)
           (remove_of old.watches book c.args.name.now old.of_group);
@@ -17,7 +17,7 @@ invariant_of-self c =
 
 pub invariant_of-self-2 : goal.invariant_of-self-2
 invariant_of-self-2 c =
-    let old = c.args.self.now in let book = old.client.mark.book in
+    let old = c.args.self.now in let book = old.client.seat.mark.book in
     let removed = subst (λ (m : Watches). AreOf m book) (sym c.remove.ensures)
     (remove_of old.watches book c.args.name.now old.of_group) in
     record {
@@ -29,7 +29,7 @@ invariant_of-self-2 c =
 pub returns-clause-kept : goal.returns-clause-kept
 returns-clause-kept c =
     let old = c.args.self.now in let name = c.args.name.now in let left = finite.remove old.watches name in
-    let watch : Scan → Watched = λ s. record { book = old.client.mark.book; scan = s; last = None } in
+    let watch : Scan → Watched = λ s. record { book = old.client.seat.mark.book; scan = s; last = None } in
     let same = ap (λ (m : Watches). finite.insert m name c.watch-watch.result) c.remove.ensures ∙ ap
     (finite.insert left name) (c.watch-watch.ensures ∙ ap watch c.in_ok-clone.ensures.cases) in
     on_ok c.keep_watch.result (λ e. ap (λ (m : Watches). record (standing_of old) { watches = m }) (e ∙ same))

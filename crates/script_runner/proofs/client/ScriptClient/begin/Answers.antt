@@ -1,6 +1,6 @@
 use Rattle.std.proofs.Common.{Ok, sym, subst}
-use Rattle.std.specs.FinMap as finite
-use Rattle.rebase.specs.Queries.{asked, told}
+use Rattle.group_steps.specs.Missing.{told}
+use Rattle.rebase.specs.Queries.{asked}
 use Rattle.rebase.specs.Replies.{reply_seen, ticket}
 use Rattle.rebase.specs.declared.calls.Call.TheVariants as call
 use Rattle.script_runner.specs.Commanding.{IsBegun}

@@ -7,7 +7,7 @@ pub loop-line-preserved : goal.loop-line-preserved
 loop-line-preserved g c =
     let l = c.loop-line in let stands = g.C.Caller.stands in
     record {
-      told = line-more g.C.Caller.law (map g.C.Caller.seen_by c.args.seen.now) (player_of stands c.args.self.now)
+      told = line-more g.C.Caller.law (map g.C.Caller.shows c.args.sights.now) (player_of stands c.args.self.now)
           (player_of stands l.self) (player_of stands c.tell.new.self) c.args.lines.now l.line-index c.line-item.result
           l.printed.items c.tell.new.printed.items
           c.loop-line-test.true c.line-item.is l.invariant.told c.in_ok-tell.ensures.told;

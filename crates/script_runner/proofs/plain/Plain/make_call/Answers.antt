@@ -4,7 +4,7 @@ use Rattle.group_history.specs.declared.refusals.Refusal.{Refusal}
 use Rattle.group_history.specs.declared.refusals.Refusal.TheVariants as refusal
 use Rattle.answered.specs.Answered.{is_want}
 use Rattle.rebase.specs.Calls.{IsReplyTo, caller}
-use Rattle.rebase.specs.Queries.{told}
+use Rattle.group_steps.specs.Missing.{told}
 use Rattle.rebase.specs.Replies.{Replied, reply_seen}
 use Rattle.rebase.specs.declared.calls.Reply.{Reply}
 use Rattle.script_runner.proofs.plain.Plain.make_call.Goals as goal

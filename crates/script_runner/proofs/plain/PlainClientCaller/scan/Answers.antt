@@ -3,7 +3,7 @@ use Rattle.group_history.specs.Queries.{rows_at}
 use Rattle.rebase.specs.Calls.{caller}
 use Rattle.script_mutators.specs.Mutators.{script_means}
 use Rattle.script_runner.specs.Callers.{plain_standing}
-use Rattle.script_runner.proofs.Replying.{last_listed, listed_plainly}
+use Rattle.script_runner.proofs.Replying.{last_after_list, list_plainly}
 use Rattle.script_runner.proofs.plain.PlainClientCaller.scan.Goals as goal
 
 pub returns-clause-reply : goal.returns-clause-reply
@@ -14,9 +14,9 @@ returns-clause-reply g c =
       record {
         identity = plain.identity;
         at = plain.group;
-        answer = listed_plainly rs c.list.result c.list.ensures.err;
+        answer = list_plainly rs c.list.result c.list.ensures.err;
         caller = ap (caller me.caller.identity me.caller.client)
-            (sym (last_listed me.caller.last rs c.list.result));
+            (sym (last_after_list me.caller.last rs c.list.result));
         watches = refl;
       },
       c.list.ensures.ok,

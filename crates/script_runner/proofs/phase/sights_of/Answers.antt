@@ -3,14 +3,14 @@ use Rattle.std.proofs.lemmas.List.{take_all}
 use Rattle.script_runner.specs.Callers.{sight_of}
 use Rattle.script_runner.specs.Inside.Players.{player_of}
 use Rattle.script_runner.proofs.Turns.{fused, mapped-more}
-use Rattle.script_runner.proofs.phase.seen_of.Goals as goal
+use Rattle.script_runner.proofs.phase.sights_of.Goals as goal
 
 pub loop-turn-preserved : goal.loop-turn-preserved
 loop-turn-preserved g c =
     let l = c.loop-turn in
-    mapped-more g.C.Caller.seen_by (λ t. sight_of (g.C.Caller.stands t.client.caller)) l.seen.items
-    c.push.new.self.items c.seen.result c.args.turns.now l.turn-index c.turn-item.result
-    c.loop-turn-test.true c.turn-item.is l.invariant c.in_ok-push.ensures.items c.seen.ensures
+    mapped-more g.C.Caller.shows (λ t. sight_of (g.C.Caller.stands t.client.caller)) l.sights.items
+    c.push.new.self.items c.sight.result c.args.turns.now l.turn-index c.turn-item.result
+    c.loop-turn-test.true c.turn-item.is l.invariant c.in_ok-push.ensures.items c.sight.ensures
 
 pub returns : goal.returns
 returns g c =
