@@ -1,6 +1,7 @@
 -- What tests try: a group without mutators, whose first pull brings a cookie and nothing else.
 use Rattle.std.specs.Prelude.{ℕ, ◌≡◌, List, [], ◌∷◌}
 use Rattle.std.specs.FinMap as finite
+use Rattle.std.specs.List.{All}
 use Rattle.group_history.specs.declared.changes.Change.{Change}
 use Rattle.group_history.specs.declared.changes.Change.TheVariants.{Pulled}
 use Rattle.group_history.specs.declared.nodes.Chunk.TheVariants.{Leaf}
@@ -17,6 +18,8 @@ use Rattle.group_history.specs.Spelling.{Spells}
 use Rattle.group_history.specs.Naming.{placed_ref}
 use Rattle.group_history.specs.Refs.{stamp_of}
 use Rattle.map_chunks.specs.Drafts.{Drafted}
+use Rattle.chunk_slots.specs.Seats.{IsIdle}
+use Rattle.commit_graph.specs.Seats.{GroupId, Seated, IsSeatOf}
 use Rattle.head_word.specs.Books.{drawn}
 
 abbrev pub no_mutators : Meanings
@@ -43,3 +46,7 @@ bare_draft cookie root = record { first = 2; nodes = node.Chunk (Leaf []) ∷ ba
 -- the snapshot's reference, where the draft was placed at these, is a commit of the state after the pull
 abbrev pub PlacesBare : List Entry → List Ref → Cookie → Type 0
 PlacesBare log refs cookie = (at : Ref) → stamp_of at ≡ 3 → SpellsBare log (stamp_of (placed_ref 2 refs at)) cookie
+
+-- seats of this group, which where slots are used again have no pin and no taken slot
+abbrev pub AreFreeSeatsOf : Type 0 → GroupId → List Seated → Type 0
+AreFreeSeatsOf reused group seats = All (λ seat. IsSeatOf group seat × (reused → IsIdle seat.view)) seats

@@ -42,7 +42,7 @@ pub fn call_of(alloc: Global, name: &str, args: &str) -> Result<MutatorCall, Ref
 }
 
 pub fn mutates<S: Store<ScriptMutators>>(
-    client: &mut Client<'_, ScriptMutators, S>,
+    client: &mut Client<ScriptMutators, S>,
     call: &MutatorCall,
     tries: u32,
 ) -> Answer
@@ -55,14 +55,14 @@ where
 }
 
 pub fn ends<S: Store<ScriptMutators>>(
-    client: &mut Client<'_, ScriptMutators, S>,
+    client: &mut Client<ScriptMutators, S>,
     ticket: &Ticket,
     body: &str,
     tries: u32,
 ) -> Answer
 where
     S::Seat: Drop,
-    ensures { client.new.mark.book ≡ client.old.mark.book }
+    ensures { client.new.group ≡ client.old.group }
 {
     client
         .try_end_pull(ticket, body.as_bytes(), tries)
@@ -71,13 +71,13 @@ where
 
 /// Ends a pull that it begins for that.
 pub fn pulls<S: Store<ScriptMutators>>(
-    client: &mut Client<'_, ScriptMutators, S>,
+    client: &mut Client<ScriptMutators, S>,
     body: &str,
     tries: u32,
 ) -> Answer
 where
     S::Seat: Drop,
-    ensures { client.new.mark.book ≡ client.old.mark.book }
+    ensures { client.new.group ≡ client.old.group }
 {
     let ticket = client.begin_pull(tries)?;
     ends(client, &ticket, body, tries)
@@ -97,7 +97,7 @@ pub fn number_of(value: Option<&Json>) -> Option<i64> {
 
 /// The number at a key, where there is one.
 pub fn n_in<S: Store<ScriptMutators>>(
-    tx: &ReadTx<'_, '_, ScriptMutators, S>,
+    tx: &ReadTx<'_, ScriptMutators, S>,
     key: &str,
 ) -> Result<Option<i64>, Refusal>
 where
@@ -108,7 +108,7 @@ where
 }
 
 pub fn gets<S: Store<ScriptMutators>>(
-    client: &mut Client<'_, ScriptMutators, S>,
+    client: &mut Client<ScriptMutators, S>,
     key: &str,
     tries: u32,
 ) -> Answer
@@ -122,7 +122,7 @@ where
 }
 
 pub fn refreshes<S: Store<ScriptMutators>>(
-    client: &mut Client<'_, ScriptMutators, S>,
+    client: &mut Client<ScriptMutators, S>,
     tries: u32,
 ) -> Answer
 where

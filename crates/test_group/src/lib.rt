@@ -17,8 +17,8 @@ pub use calls::{
 pub use claims::{ClaimPlace, claim_places};
 use group_history::Refusal;
 pub use heads::{HeadPlace, next_head, two_heads};
-pub use opening::{A, B, C, D, E, Player, identity, next_client, opened, players_of};
-pub use stores::{Place, next_place, places_of, shows};
+pub use opening::{A, B, C, D, E, Player, new_players, next_client};
+pub use stores::{Place, next_place, opened_store, places_of, shows};
 
 /// The first two of these.
 pub fn two_of<T>(all: &mut [T]) -> Result<(&mut T, &mut T), Refusal> {

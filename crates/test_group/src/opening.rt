@@ -1,6 +1,6 @@
 //! How tests open a group: whose it is, how it is laid out, and its clients.
-ghost use Rattle.std.specs.Prelude.{◌≡◌, ◌<◌, IfOk, vec_capacity, vec_len};
-ghost use Rattle.std.specs.List.{All};
+ghost use Rattle.std.specs.Prelude.{◌≡◌, ◌<◌, IfOk, length};
+ghost use Rattle.rebase.specs.Clients.{AreSeatsOf};
 
 use chunk_slots::Store;
 use group_history::{Means, Refusal, Text};
@@ -23,8 +23,8 @@ pub const D: &str = "00000000-0000-4000-8000-00000000000d";
 
 pub const E: &str = "00000000-0000-4000-8000-00000000000e";
 
-/// Whose the groups are.
-pub fn identity(alloc: Global) -> Result<Identity, Refusal> {
+// Whose the groups are.
+fn identity(alloc: Global) -> Result<Identity, Refusal> {
     Ok(Identity {
         group: Text::new(alloc, GROUP)?,
         profile: Text::new(alloc, "p1")?,
@@ -47,8 +47,8 @@ fn id(text: &str) -> Result<Uuid, Refusal> {
     }
 }
 
-/// A new group of so many slots, and a seat for each of its clients.
-pub fn opened<S: Store<ScriptMutators> + Drop>(
+// A new group of so many slots, and a seat for each of its clients.
+fn opened<S: Store<ScriptMutators> + Drop>(
     alloc: Global,
     parts: S::Parts,
     slots: u32,
@@ -57,28 +57,24 @@ pub fn opened<S: Store<ScriptMutators> + Drop>(
 where
     S::Seat: Drop,
     S::Parts: Drop,
-    ensures { IfOk result (λ made. All (λ seat. (seat.mark.book ≡ made.0.shared.head)
-        × (S.home seat.slots ≡ S.serves made.0.shared.store)) made.1.free.items) }
+    ensures { IfOk result (λ made. AreSeatsOf made.0.group made.1.free) }
 {
     let config = config_of(alloc, slots, clients)?;
     Group::<ScriptMutators, S>::open(alloc, config, ScriptMutators, parts)
 }
 
 // A client of this ID on the next seat.
-fn next_client_of<'g, M: Means, S: Store<M>>(
-    group: &'g Group<M, S>,
+fn next_client_of<M: Means, S: Store<M>>(
+    group: &Group<M, S>,
     seats: &mut Seats<M, S>,
     id: Uuid,
-) -> Result<Client<'g, M, S>, Refusal>
+) -> Result<Client<M, S>, Refusal>
 where
     S::Seat: Drop,
-    requires { All (λ seat. (seat.mark.book ≡ group.now.shared.head)
-        × (S.home seat.slots ≡ S.serves group.now.shared.store)) seats.old.free.items }
-    ensures seats { All (λ seat. (seat.mark.book ≡ group.now.shared.head)
-        × (S.home seat.slots ≡ S.serves group.now.shared.store)) seats.new.free.items }
-    ensures room { IfOk result (λ _. vec_len seats.new.free < vec_capacity seats.new.free) }
-    ensures group { IfOk result (λ client. client.mark.book ≡ group.now.shared.head) }
-    ensures same { IfOk result (λ client. client.group.now ≡ group.now) }
+    requires { AreSeatsOf group.now.group seats.old.free }
+    ensures seats { AreSeatsOf group.now.group seats.new.free }
+    ensures room { IfOk result (λ _. length seats.new.free < seats.new.room) }
+    ensures group { IfOk result (λ client. client.group ≡ group.now) }
 {
     let seat = seats.take()?;
     match group.client(seat, id, 9) {
@@ -88,20 +84,17 @@ where
 }
 
 /// A client of this ID on the next seat.
-pub fn next_client<'g, M: Means, S: Store<M>>(
-    group: &'g Group<M, S>,
+pub fn next_client<M: Means, S: Store<M>>(
+    group: &Group<M, S>,
     seats: &mut Seats<M, S>,
     text: &str,
-) -> Result<Client<'g, M, S>, Refusal>
+) -> Result<Client<M, S>, Refusal>
 where
     S::Seat: Drop,
-    requires { All (λ seat. (seat.mark.book ≡ group.now.shared.head)
-        × (S.home seat.slots ≡ S.serves group.now.shared.store)) seats.old.free.items }
-    ensures seats { All (λ seat. (seat.mark.book ≡ group.now.shared.head)
-        × (S.home seat.slots ≡ S.serves group.now.shared.store)) seats.new.free.items }
-    ensures room { IfOk result (λ _. vec_len seats.new.free < vec_capacity seats.new.free) }
-    ensures group { IfOk result (λ client. client.mark.book ≡ group.now.shared.head) }
-    ensures same { IfOk result (λ client. client.group.now ≡ group.now) }
+    requires { AreSeatsOf group.now.group seats.old.free }
+    ensures seats { AreSeatsOf group.now.group seats.new.free }
+    ensures room { IfOk result (λ _. length seats.new.free < seats.new.room) }
+    ensures group { IfOk result (λ client. client.group ≡ group.now) }
 {
     let id = id(text)?;
     next_client_of(group, seats, id)
@@ -110,27 +103,25 @@ where
 /// A client that may be lent to a thread, and its number among those of its group, from 0 on. That is the number by
 /// which a gate knows its seat.
 #[derive(Drop)]
-pub struct Player<'g, S: Store<ScriptMutators>>
+pub struct Player<S: Store<ScriptMutators>>
 where
     S::Seat: Drop,
 {
     pub number: usize,
-    pub client: Client<'g, ScriptMutators, S>,
+    pub client: Client<ScriptMutators, S>,
 }
 
 // Adds a client of this ID, on the next seat.
-fn add_player<'g, S: Store<ScriptMutators>>(
-    group: &'g Group<ScriptMutators, S>,
+fn add_player<S: Store<ScriptMutators> + Drop>(
+    group: &Group<ScriptMutators, S>,
     seats: &mut Seats<ScriptMutators, S>,
     text: &str,
-    players: &mut Vec<Player<'g, S>>,
+    players: &mut Vec<Player<S>>,
 ) -> Result<(), Refusal>
 where
     S::Seat: Drop,
-    requires { All (λ seat. (seat.mark.book ≡ group.now.shared.head)
-        × (S.home seat.slots ≡ S.serves group.now.shared.store)) seats.old.free.items }
-    ensures { All (λ seat. (seat.mark.book ≡ group.now.shared.head)
-        × (S.home seat.slots ≡ S.serves group.now.shared.store)) seats.new.free.items }
+    requires { AreSeatsOf group.now.group seats.old.free }
+    ensures { AreSeatsOf group.now.group seats.new.free }
 {
     let client = next_client(group, seats, text)?;
     let number = players.len();
@@ -138,21 +129,36 @@ where
     Ok(())
 }
 
-/// Clients of these IDs on the next seats.
-pub fn players_of<'g, S: Store<ScriptMutators>>(
+// Clients of these IDs on the next seats.
+fn players_of<S: Store<ScriptMutators> + Drop>(
     alloc: Global,
-    group: &'g Group<ScriptMutators, S>,
+    group: &Group<ScriptMutators, S>,
     seats: &mut Seats<ScriptMutators, S>,
     ids: &[&str],
-) -> Result<Vec<Player<'g, S>>, Refusal>
+) -> Result<Vec<Player<S>>, Refusal>
 where
     S::Seat: Drop,
-    requires { All (λ seat. (seat.mark.book ≡ group.now.shared.head)
-        × (S.home seat.slots ≡ S.serves group.now.shared.store)) seats.old.free.items }
+    requires { AreSeatsOf group.now.group seats.old.free }
 {
     let mut players = Vec::new(alloc);
     for id in ids {
         add_player(group, seats, id, &mut players)?;
     }
     Ok(players)
+}
+
+/// Clients of these IDs in a new group of so many slots, with a seat for each of them.
+pub fn new_players<S: Store<ScriptMutators> + Drop>(
+    alloc: Global,
+    parts: S::Parts,
+    slots: u32,
+    ids: &[&str],
+) -> Result<Vec<Player<S>>, Refusal>
+where
+    S::Seat: Drop,
+    S::Parts: Drop,
+{
+    let clients = u32::try_from(ids.len()).unwrap_or(u32::MAX);
+    let (group, mut seats) = opened::<S>(alloc, parts, slots, clients)?;
+    players_of(alloc, &group, &mut seats, ids)
 }

@@ -1,18 +1,86 @@
 //! Seats of a group at its store, below the clients.
-ghost use Rattle.std.specs.Prelude.{◌≡◌, ◌<◌, [], length, IsSome, IfOk, OnOk};
+ghost use Rattle.std.specs.Prelude.{◌≡◌, ◌<◌, ◌≤◌, [], length, IfOk, OnOk};
 ghost use Rattle.std.specs.List.{All};
+ghost use Rattle.group_history.specs.Refs.{max_seats, max_slots};
+ghost use Rattle.head_word.specs.Books.{IsOpened};
 ghost use Rattle.head_word.specs.Marks.{HasSeat};
 ghost use Rattle.chunk_slots.specs.Seats.{IsIdle};
+ghost use Rattle.commit_graph.specs.Seats.{IsSeatOf};
+ghost use Rattle.test_group.specs.Trials.{AreFreeSeatsOf, no_mutators};
 
 use crate::bare::{Nobody, empty_leaf};
 use chunk_slots::{Missed, Store};
-use commit_graph::Shared;
+use commit_graph::{Seat, Shared};
 use group_history::{Chunk, Node, Ref, Refusal};
 use head_word::Mark;
 use map_chunks::Draft;
 use publishing::place_draft;
 use reader_claims::Kind;
 use std::alloc::Global;
+
+// Adds the next seat, with its mark.
+fn add_seat<S: Store<Nobody>>(
+    shared: &Shared<Nobody, S>,
+    claimed: &mut Vec<S::Seat>,
+    marks: &mut Vec<Mark<Nobody>>,
+    seats: &mut Vec<Seat<Nobody, S>>,
+) -> Result<(), Refusal>
+where
+    S::Seat: Drop,
+    requires claimed { All (λ seat. (S.home seat ≡ shared.now.table) × (S.reused → IsIdle (S.view seat)))
+        claimed.old.items }
+    requires marks { All (HasSeat shared.now.book) marks.old.items }
+    requires seats { AreFreeSeatsOf S.reused shared.now seats.old.items }
+    ensures claimed { All (λ seat. (S.home seat ≡ shared.now.table) × (S.reused → IsIdle (S.view seat)))
+        claimed.new.items }
+    ensures marks { All (HasSeat shared.now.book) marks.new.items }
+    ensures seats { AreFreeSeatsOf S.reused shared.now seats.new.items }
+{
+    let slots = claimed.pop().ok_or(Refusal::NoSeat)?;
+    let mark = marks.pop().ok_or(Refusal::NoSeat)?;
+    seats.push(Seat { slots, mark })?;
+    Ok(())
+}
+
+// The seats, each with its mark.
+fn seats_of<S: Store<Nobody>>(
+    shared: &Shared<Nobody, S>,
+    claimed: Vec<S::Seat>,
+    marks: Vec<Mark<Nobody>>,
+) -> Result<Vec<Seat<Nobody, S>>, Refusal>
+where
+    S::Seat: Drop,
+    requires claimed { All (λ seat. (S.home seat ≡ shared.now.table) × (S.reused → IsIdle (S.view seat)))
+        claimed.items }
+    requires marks { All (HasSeat shared.now.book) marks.items }
+    ensures { IfOk result (λ seats. AreFreeSeatsOf S.reused shared.now seats.items) }
+{
+    let (mut claimed, mut marks) = (claimed, marks);
+    let mut seats = Vec::new(shared.alloc);
+    for _ in 0..marks.len() {
+        add_seat(shared, &mut claimed, &mut marks, &mut seats)?;
+    }
+    Ok(seats)
+}
+
+/// A new store of so many slots with its head, and its seats.
+pub fn opened_store<S: Store<Nobody> + Drop>(
+    alloc: Global,
+    parts: S::Parts,
+    slots: u32,
+    seats: u32,
+) -> Result<(Shared<Nobody, S>, Vec<Seat<Nobody, S>>), Refusal>
+where
+    S::Seat: Drop,
+    requires slots { (16 ≤ slots) × (slots ≤ max_slots) }
+    requires seats { (1 ≤ seats) × (seats ≤ max_seats) }
+    ensures { IfOk result (λ made. AreFreeSeatsOf S.reused made.0 made.1.items) }
+{
+    let (store, claimed, head, marks) = S::open(alloc, parts, slots, seats)?;
+    let shared = Shared { alloc, store, head };
+    let seats = seats_of(&shared, claimed, marks)?;
+    Ok((shared, seats))
+}
 
 /// A seat of a group, between its calls.
 #[derive(Drop)]
@@ -21,51 +89,37 @@ where
     S::Seat: Drop,
 {
     pub shared: &'a Shared<Nobody, S>,
-    pub seat: S::Seat,
-    pub mark: Mark<Nobody>,
-    ghost book: { mark.book ≡ shared.now.head },
-    ghost seated: { IsSome mark.seat },
-    ghost home: { S.home seat ≡ S.serves shared.now.store },
-    ghost idle: { S.reused → (S.view seat).taken ≡ [] },
+    pub seat: Seat<Nobody, S>,
+    ghost home: { IsSeatOf shared.now seat },
+    ghost idle: { S.reused → seat.view.taken ≡ [] },
 }
 
 /// A place for the next seat.
 pub fn next_place<'a, S: Store<Nobody>>(
     shared: &'a Shared<Nobody, S>,
-    seats: &mut Vec<S::Seat>,
-    marks: &mut Vec<Mark<Nobody>>,
+    seats: &mut Vec<Seat<Nobody, S>>,
 ) -> Result<Place<'a, S>, Refusal>
 where
     S::Seat: Drop,
-    requires seats { All (λ seat. (S.home seat ≡ S.serves shared.now.store) × (S.reused → IsIdle (S.view seat)))
-        seats.old.items }
-    requires marks { All (HasSeat shared.now.head) marks.old.items }
-    ensures seats { All (λ seat. (S.home seat ≡ S.serves shared.now.store) × (S.reused → IsIdle (S.view seat)))
-        seats.new.items }
-    ensures marks { All (HasSeat shared.now.head) marks.new.items }
+    requires { AreFreeSeatsOf S.reused shared.now seats.old.items }
+    ensures { AreFreeSeatsOf S.reused shared.now seats.new.items }
 {
     let seat = seats.pop().ok_or(Refusal::NoSeat)?;
-    let mark = marks.pop().ok_or(Refusal::NoSeat)?;
-    Ok(Place { shared, seat, mark })
+    Ok(Place { shared, seat })
 }
 
 // Adds a place for the next seat.
 fn add_place<'a, S: Store<Nobody>>(
     shared: &'a Shared<Nobody, S>,
-    seats: &mut Vec<S::Seat>,
-    marks: &mut Vec<Mark<Nobody>>,
+    seats: &mut Vec<Seat<Nobody, S>>,
     places: &mut Vec<Place<'a, S>>,
 ) -> Result<(), Refusal>
 where
     S::Seat: Drop,
-    requires seats { All (λ seat. (S.home seat ≡ S.serves shared.now.store) × (S.reused → IsIdle (S.view seat)))
-        seats.old.items }
-    requires marks { All (HasSeat shared.now.head) marks.old.items }
-    ensures seats { All (λ seat. (S.home seat ≡ S.serves shared.now.store) × (S.reused → IsIdle (S.view seat)))
-        seats.new.items }
-    ensures marks { All (HasSeat shared.now.head) marks.new.items }
+    requires { AreFreeSeatsOf S.reused shared.now seats.old.items }
+    ensures { AreFreeSeatsOf S.reused shared.now seats.new.items }
 {
-    let place = next_place(shared, seats, marks)?;
+    let place = next_place(shared, seats)?;
     places.push(place)?;
     Ok(())
 }
@@ -74,18 +128,15 @@ where
 pub fn places_of<'a, S: Store<Nobody>>(
     alloc: Global,
     shared: &'a Shared<Nobody, S>,
-    seats: &mut Vec<S::Seat>,
-    marks: &mut Vec<Mark<Nobody>>,
+    seats: &mut Vec<Seat<Nobody, S>>,
 ) -> Result<Vec<Place<'a, S>>, Refusal>
 where
     S::Seat: Drop,
-    requires seats { All (λ seat. (S.home seat ≡ S.serves shared.now.store) × (S.reused → IsIdle (S.view seat)))
-        seats.old.items }
-    requires marks { All (HasSeat shared.now.head) marks.old.items }
+    requires { AreFreeSeatsOf S.reused shared.now seats.old.items }
 {
     let mut places = Vec::new(alloc);
     for _ in 0..seats.len() {
-        add_place(shared, seats, marks, &mut places)?;
+        add_place(shared, seats, &mut places)?;
     }
     Ok(places)
 }
@@ -116,19 +167,18 @@ impl<S: Store<Nobody>> Place<'_, S>
 where
     S::Seat: Drop,
 {
+    /// What the seat has seen is a legal book.
+    pub fn legal(&self)
+        ensures { IsOpened no_mutators self.now.seat.mark.log }
+    {
+        self.seat.mark.legal();
+    }
+
     /// Places so many empty leaves, and one more: where they lie.
     pub fn puts_leaves(&mut self, alloc: Global, count: usize) -> Result<Vec<Ref>, Refusal> {
         let draft = leaves(alloc, count)?;
-        self.mark.legal();
-        place_draft::<Nobody, S>(
-            alloc,
-            self.shared,
-            &mut self.seat,
-            &mut self.mark,
-            draft,
-            Kind::Ordinary,
-            3,
-        )
+        self.legal();
+        place_draft::<Nobody, S>(self.shared, &mut self.seat, draft, Kind::Ordinary, 3)
     }
 
     /// Places an empty leaf: where it lies.
@@ -139,9 +189,10 @@ where
 
     /// Whether it retired the slot.
     pub fn retires(&mut self, slot: u32) -> bool {
-        match self.shared.store.raise(&mut self.seat) {
+        let shared = self.shared;
+        match shared.store.raise(&mut self.seat.slots) {
             Some(r) => {
-                self.shared.store.retire(&mut self.seat, slot, r);
+                shared.store.retire(&mut self.seat.slots, slot, r);
                 true
             }
             None => false,
@@ -149,11 +200,13 @@ where
     }
 
     pub fn pins(&mut self) -> bool {
-        self.shared.store.pin(&mut self.seat, 100).is_ok()
+        let shared = self.shared;
+        shared.store.pin(&mut self.seat.slots, 100).is_ok()
     }
 
     pub fn unpins(&mut self) {
-        self.shared.store.unpin(&mut self.seat);
+        let shared = self.shared;
+        shared.store.unpin(&mut self.seat.slots);
     }
 }
 

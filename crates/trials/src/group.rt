@@ -1,11 +1,11 @@
 //! A trial over a store that threads may share: a group, its clients, and its readers.
-ghost use Rattle.std.specs.Prelude.{◌≡◌, ◌<◌, IfOk, vec_capacity, vec_len};
-ghost use Rattle.std.specs.List.{All};
+ghost use Rattle.std.specs.Prelude.{◌<◌, IfOk, length};
+ghost use Rattle.commit_graph.specs.Seats.{IsSeatOf};
+ghost use Rattle.rebase.specs.Clients.{AreSeatsOf};
 
 use crate::calls::Turn;
 use crate::counts::Counted;
 use crate::failed::Failed;
-use crate::looks::all_rows;
 use crate::parts::{say_store, say_text};
 use crate::players::{Player, Spare};
 use crate::readers::Readers;
@@ -28,19 +28,17 @@ use uuid::Uuid;
 const READERS: u32 = 4;
 
 /// A client of this ID on the next seat.
-fn next_client<'g, S: Store<ScriptMutators>>(
-    group: &'g Group<ScriptMutators, S>,
+fn next_client<S: Store<ScriptMutators>>(
+    group: &Group<ScriptMutators, S>,
     seats: &mut Seats<ScriptMutators, S>,
     id: Uuid,
-) -> Result<Client<'g, ScriptMutators, S>, Refusal>
+) -> Result<Client<ScriptMutators, S>, Refusal>
 where
     S::Seat: Drop,
-    requires { All (λ seat. (seat.mark.book ≡ group.now.shared.head)
-        × (S.home seat.slots ≡ S.serves group.now.shared.store)) seats.old.free.items }
-    ensures seats { All (λ seat. (seat.mark.book ≡ group.now.shared.head)
-        × (S.home seat.slots ≡ S.serves group.now.shared.store)) seats.new.free.items }
-    ensures room { IfOk result (λ _. vec_len seats.new.free < vec_capacity seats.new.free) }
-    ensures group { IfOk result (λ client. client.group.now ≡ group.now) }
+    requires { AreSeatsOf group.now.group seats.old.free }
+    ensures seats { AreSeatsOf group.now.group seats.new.free }
+    ensures room { IfOk result (λ _. length seats.new.free < seats.new.room) }
+    ensures seat { IfOk result (λ client. IsSeatOf group.now.group client.seat) }
 {
     let seat = seats.take()?;
     match group.client(seat, id, ONCE.tries) {
@@ -50,7 +48,7 @@ where
 }
 
 /// A player of this ID on the next two seats.
-fn next_player<'g, S: Store<ScriptMutators>>(
+fn next_player<'g, S: Store<ScriptMutators> + Drop>(
     alloc: Global,
     group: &'g Group<ScriptMutators, S>,
     seats: &mut Seats<ScriptMutators, S>,
@@ -58,18 +56,15 @@ fn next_player<'g, S: Store<ScriptMutators>>(
 ) -> Result<Player<'g, S>, Refusal>
 where
     S::Seat: Drop,
-    requires { All (λ seat. (seat.mark.book ≡ group.now.shared.head)
-        × (S.home seat.slots ≡ S.serves group.now.shared.store)) seats.old.free.items }
-    ensures { All (λ seat. (seat.mark.book ≡ group.now.shared.head)
-        × (S.home seat.slots ≡ S.serves group.now.shared.store)) seats.new.free.items }
+    requires { AreSeatsOf group.now.group seats.old.free }
+    ensures { AreSeatsOf group.now.group seats.new.free }
 {
     let client = next_client(group, seats, id)?;
     let looker = next_client(group, seats, id)?;
-    let all = all_rows(alloc)?;
-    Ok(Player::new(alloc, group, id, client, looker, all))
+    Ok(Player::new(alloc, group, id, client, looker)?)
 }
 
-fn add_player<'g, S: Store<ScriptMutators>>(
+fn add_player<'g, S: Store<ScriptMutators> + Drop>(
     alloc: Global,
     group: &'g Group<ScriptMutators, S>,
     seats: &mut Seats<ScriptMutators, S>,
@@ -78,17 +73,15 @@ fn add_player<'g, S: Store<ScriptMutators>>(
 ) -> Result<(), Refusal>
 where
     S::Seat: Drop,
-    requires { All (λ seat. (seat.mark.book ≡ group.now.shared.head)
-        × (S.home seat.slots ≡ S.serves group.now.shared.store)) seats.old.free.items }
-    ensures { All (λ seat. (seat.mark.book ≡ group.now.shared.head)
-        × (S.home seat.slots ≡ S.serves group.now.shared.store)) seats.new.free.items }
+    requires { AreSeatsOf group.now.group seats.old.free }
+    ensures { AreSeatsOf group.now.group seats.new.free }
 {
     let player = next_player(alloc, group, seats, id)?;
     players.push(Some(player))?;
     Ok(())
 }
 
-fn players_of<'g, S: Store<ScriptMutators>>(
+fn players_of<'g, S: Store<ScriptMutators> + Drop>(
     alloc: Global,
     group: &'g Group<ScriptMutators, S>,
     seats: &mut Seats<ScriptMutators, S>,
@@ -96,10 +89,8 @@ fn players_of<'g, S: Store<ScriptMutators>>(
 ) -> Result<Vec<Option<Player<'g, S>>>, Refusal>
 where
     S::Seat: Drop,
-    requires { All (λ seat. (seat.mark.book ≡ group.now.shared.head)
-        × (S.home seat.slots ≡ S.serves group.now.shared.store)) seats.old.free.items }
-    ensures { All (λ seat. (seat.mark.book ≡ group.now.shared.head)
-        × (S.home seat.slots ≡ S.serves group.now.shared.store)) seats.new.free.items }
+    requires { AreSeatsOf group.now.group seats.old.free }
+    ensures { AreSeatsOf group.now.group seats.new.free }
 {
     let mut players = Vec::new(alloc);
     for line in lines {
@@ -108,35 +99,31 @@ where
     Ok(players)
 }
 
-fn add_reader<'g, S: Store<ScriptMutators>>(
-    group: &'g Group<ScriptMutators, S>,
+fn add_reader<S: Store<ScriptMutators> + Drop>(
+    group: &Group<ScriptMutators, S>,
     seats: &mut Seats<ScriptMutators, S>,
-    readers: &mut Vec<Client<'g, ScriptMutators, S>>,
+    readers: &mut Vec<Client<ScriptMutators, S>>,
 ) -> Result<(), Refusal>
 where
     S::Seat: Drop,
-    requires { All (λ seat. (seat.mark.book ≡ group.now.shared.head)
-        × (S.home seat.slots ≡ S.serves group.now.shared.store)) seats.old.free.items }
-    ensures seats { All (λ seat. (seat.mark.book ≡ group.now.shared.head)
-        × (S.home seat.slots ≡ S.serves group.now.shared.store)) seats.new.free.items }
-    ensures room { IfOk result (λ _. vec_len seats.new.free < vec_capacity seats.new.free) }
+    requires { AreSeatsOf group.now.group seats.old.free }
+    ensures seats { AreSeatsOf group.now.group seats.new.free }
+    ensures room { IfOk result (λ _. length seats.new.free < seats.new.room) }
 {
     let client = next_client(group, seats, Uuid::nil())?;
     readers.push(client)?;
     Ok(())
 }
 
-fn readers_of<'g, S: Store<ScriptMutators>>(
+fn readers_of<S: Store<ScriptMutators> + Drop>(
     alloc: Global,
-    group: &'g Group<ScriptMutators, S>,
+    group: &Group<ScriptMutators, S>,
     seats: &mut Seats<ScriptMutators, S>,
-) -> Result<Vec<Client<'g, ScriptMutators, S>>, Refusal>
+) -> Result<Vec<Client<ScriptMutators, S>>, Refusal>
 where
     S::Seat: Drop,
-    requires { All (λ seat. (seat.mark.book ≡ group.now.shared.head)
-        × (S.home seat.slots ≡ S.serves group.now.shared.store)) seats.old.free.items }
-    ensures { All (λ seat. (seat.mark.book ≡ group.now.shared.head)
-        × (S.home seat.slots ≡ S.serves group.now.shared.store)) seats.new.free.items }
+    requires { AreSeatsOf group.now.group seats.old.free }
+    ensures { AreSeatsOf group.now.group seats.new.free }
 {
     let mut readers = Vec::new(alloc);
     for _ in 1..READERS {
@@ -160,18 +147,17 @@ where
 }
 
 /// The clients of a trial's group, and those that may read.
-fn cast_of<'g, S: Store<ScriptMutators>>(
+fn cast_of<'g, S: Store<ScriptMutators> + Drop>(
     alloc: Global,
     trial: Trial<'g>,
     group: &'g Group<ScriptMutators, S>,
     seats: Seats<ScriptMutators, S>,
     parts: S::Parts,
-) -> Result<(Stage<'g, S>, Vec<Client<'g, ScriptMutators, S>>), Refusal>
+) -> Result<(Stage<'g, S>, Vec<Client<ScriptMutators, S>>), Refusal>
 where
     S::Seat: Drop,
     S::Parts: Drop,
-    requires { All (λ seat. (seat.mark.book ≡ group.now.shared.head)
-        × (S.home seat.slots ≡ S.serves group.now.shared.store)) seats.free.items }
+    requires { AreSeatsOf group.now.group seats.free }
 {
     let mut seats = seats;
     let players = players_of(alloc, group, &mut seats, &trial.header.clients)?;
@@ -327,7 +313,7 @@ where
 /// Does what a line with a reader says.
 fn does_reading<'p, R, S: Counted>(
     it: &Turn<'_, R>,
-    readers: &mut Readers<'p, '_, S>,
+    readers: &mut Readers<'p, S>,
     entry: &Entry<'p>,
     out: &mut Said,
 )
@@ -354,7 +340,7 @@ where
 fn does<'p, R: Wait, S: Counted>(
     it: &Turn<'_, R>,
     stage: &mut Stage<'_, S>,
-    readers: &mut Readers<'p, '_, S>,
+    readers: &mut Readers<'p, S>,
     entry: &Entry<'p>,
     out: &mut Said,
 )
@@ -375,7 +361,7 @@ where
 fn play_line<'p, R: Wait, S: Counted>(
     host: &Host<'_, R>,
     stage: &mut Stage<'_, S>,
-    readers: &mut Readers<'p, '_, S>,
+    readers: &mut Readers<'p, S>,
     entry: &Entry<'p>,
     tally: &mut Tally<'_>,
 ) -> Result<(), Failed>
@@ -476,19 +462,26 @@ fn list_at<'e>(entries: &'e [Entry<'e>], at: usize) -> &'e [Entry<'e>] {
     rest.get(..listed(rest)).unwrap_or(&[])
 }
 
+/// A place among the lines of a group.
+#[derive(Clone, Copy)]
+struct Line<'p> {
+    entries: &'p [Entry<'p>],
+    at: usize,
+}
+
 /// Plays the line at a place, or the list that begins there.
 fn play_at<'p, R: Wait, S: Counted>(
     host: &Host<'_, R>,
     stage: &mut Stage<'_, S>,
-    readers: &mut Readers<'p, '_, S>,
-    entries: &'p [Entry<'p>],
-    at: usize,
+    readers: &mut Readers<'p, S>,
+    line: Line<'p>,
     tally: &mut Tally<'_>,
 ) -> Result<(), Failed>
 where
     S::Seat: Drop,
     S::Parts: Copy + Drop,
 {
+    let Line { entries, at } = line;
     let list = list_at(entries, at);
     if !list.is_empty() {
         return play_list(host, stage, list, tally);
@@ -505,7 +498,7 @@ where
 fn play_entries<'p, R: Wait, S: Counted>(
     host: &Host<'_, R>,
     stage: &mut Stage<'_, S>,
-    readers: &mut Readers<'p, '_, S>,
+    readers: &mut Readers<'p, S>,
     entries: &'p [Entry<'p>],
     tally: &mut Tally<'_>,
 ) -> Result<(), Failed>
@@ -514,36 +507,16 @@ where
     S::Parts: Copy + Drop,
 {
     for at in 0..entries.len() {
-        play_at(host, stage, readers, entries, at, tally)?;
+        play_at(host, stage, readers, Line { entries, at }, tally)?;
     }
     Ok(())
 }
 
-/// Plays a part of a trial in a group with these seats.
-fn play_in<R: Wait, S: Counted>(
-    host: &Host<'_, R>,
-    part: Part<'_>,
-    group: &Group<ScriptMutators, S>,
-    seats: Seats<ScriptMutators, S>,
-    parts: S::Parts,
-    tally: &mut Tally<'_>,
-) -> Result<(), Failed>
-where
-    S::Seat: Drop,
-    S::Parts: Copy + Drop,
-    requires { All (λ seat. (seat.mark.book ≡ group.now.shared.head)
-        × (S.home seat.slots ≡ S.serves group.now.shared.store)) seats.free.items }
-{
-    let alloc = host.rt.alloc();
-    let (mut stage, mut clients) = cast_of(alloc, part.trial, group, seats, parts)?;
-    play_with(host, part, &mut stage, clients.as_mut_slice(), tally)
-}
-
-fn play_with<'g, R: Wait, S: Counted>(
+fn play_with<R: Wait, S: Counted>(
     host: &Host<'_, R>,
     part: Part<'_>,
     stage: &mut Stage<'_, S>,
-    clients: &mut [Client<'g, ScriptMutators, S>],
+    clients: &mut [Client<ScriptMutators, S>],
     tally: &mut Tally<'_>,
 ) -> Result<(), Failed>
 where
@@ -583,7 +556,8 @@ where
 {
     let alloc = host.rt.alloc();
     let (group, seats) = Group::<ScriptMutators, S>::open(alloc, config, ScriptMutators, parts)?;
-    play_in(host, part, &group, seats, parts, tally)
+    let (mut stage, mut clients) = cast_of(alloc, part.trial, &group, seats, parts)?;
+    play_with(host, part, &mut stage, clients.as_mut_slice(), tally)
 }
 
 /// Plays the lines of one group, where they are played.

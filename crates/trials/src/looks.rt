@@ -1,5 +1,5 @@
 //! What a client sees of the group: all of it as one text.
-ghost use Rattle.std.specs.Prelude.{◌≡◌};
+ghost use Rattle.commit_graph.specs.Seats.{IsSameSeat};
 
 use crate::replies::{Answer, Said};
 use chunk_slots::Store;
@@ -31,12 +31,12 @@ pub(crate) fn say_seen(seen: &mut Said, answer: &Answer) {
 
 fn add_look<S: Store<ScriptMutators>>(
     seen: &mut Said,
-    looker: &mut Client<'_, ScriptMutators, S>,
+    looker: &mut Client<ScriptMutators, S>,
     call: Call<'_>,
 )
 where
     S::Seat: Drop,
-    ensures { looker.new.group.now ≡ looker.old.group.now }
+    ensures { IsSameSeat looker.old.seat looker.new.seat }
 {
     let answer = looker.make_call(call, TRIES);
     say_seen(seen, &answer);
@@ -44,13 +44,13 @@ where
 
 /// The client's last id, what is pending, the cookie, whether the group is closed, and all rows.
 pub(crate) fn look<S: Store<ScriptMutators>>(
-    looker: &mut Client<'_, ScriptMutators, S>,
+    looker: &mut Client<ScriptMutators, S>,
     all: &Scan,
     alloc: Global,
 ) -> Said
 where
     S::Seat: Drop,
-    ensures { looker.new.group.now ≡ looker.old.group.now }
+    ensures { IsSameSeat looker.old.seat looker.new.seat }
 {
     let mut seen = Said::nothing(alloc);
     add_look(&mut seen, looker, Call::Refresh);

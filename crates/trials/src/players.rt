@@ -1,9 +1,10 @@
 //! A client of a trial, with the tickets and the watches that it keeps.
-ghost use Rattle.std.specs.Prelude.{◌≡◌, ◌<◌, IfOk, vec_capacity, vec_len};
+ghost use Rattle.std.specs.Prelude.{◌≡◌, ◌<◌, IfOk, length};
 ghost use Rattle.std.specs.Option.{ForSome};
+ghost use Rattle.commit_graph.specs.Seats.{IsSameSeat, IsSeatOf};
 
 use crate::calls::{Turn, body_of, call_of, keep_ticket};
-use crate::looks::{look, say_change};
+use crate::looks::{all_rows, look, say_change};
 use crate::marks::{begins, ends};
 use crate::replies::{Answer, Said, id_word, is_change};
 use crate::rows::{Manner, ONCE, Way};
@@ -31,16 +32,16 @@ where
 {
     group: &'g Group<ScriptMutators, S>,
     id: Uuid,
-    client: Client<'g, ScriptMutators, S>,
-    looker: Client<'g, ScriptMutators, S>,
+    client: Client<ScriptMutators, S>,
+    looker: Client<ScriptMutators, S>,
     tickets: TextMap<Ticket>,
     first: Option<Named>,
     second: Option<Named>,
     all: Scan,
-    ghost client_of: { client.group.now ≡ group.now },
-    ghost looker_of: { looker.group.now ≡ group.now },
-    ghost first_of: { ForSome first (λ named. named.watch.book ≡ group.now.shared.head) },
-    ghost second_of: { ForSome second (λ named. named.watch.book ≡ group.now.shared.head) },
+    ghost client_of: { IsSeatOf group.now.group client.seat },
+    ghost looker_of: { IsSeatOf group.now.group looker.seat },
+    ghost first_of: { ForSome first (λ named. named.watch.book ≡ group.now.group.book) },
+    ghost second_of: { ForSome second (λ named. named.watch.book ≡ group.now.group.book) },
 }
 
 /// The seats that are free. One is out at least, so there is room for it.
@@ -50,7 +51,7 @@ where
     S::Seat: Drop,
 {
     seats: Seats<ScriptMutators, S>,
-    ghost room: { vec_len seats.free < vec_capacity seats.free },
+    ghost room: { length seats.free < seats.room },
 }
 
 impl<S: Store<ScriptMutators>> Spare<S>
@@ -58,7 +59,7 @@ where
     S::Seat: Drop,
 {
     pub(crate) fn new(seats: Seats<ScriptMutators, S>) -> Spare<S>
-        requires { vec_len seats.free < vec_capacity seats.free }
+        requires { length seats.free < seats.room }
     {
         Spare { seats }
     }
@@ -125,7 +126,7 @@ impl Written {
     }
 }
 
-impl<'g, S: Store<ScriptMutators>> Player<'g, S>
+impl<'g, S: Store<ScriptMutators> + Drop> Player<'g, S>
 where
     S::Seat: Drop,
 {
@@ -133,14 +134,14 @@ where
         alloc: Global,
         group: &'g Group<ScriptMutators, S>,
         id: Uuid,
-        client: Client<'g, ScriptMutators, S>,
-        looker: Client<'g, ScriptMutators, S>,
-        all: Scan,
-    ) -> Player<'g, S>
-        requires client { client.group.now ≡ group.now }
-        requires looker { looker.group.now ≡ group.now }
+        client: Client<ScriptMutators, S>,
+        looker: Client<ScriptMutators, S>,
+    ) -> Result<Player<'g, S>, AllocError>
+        requires client { IsSeatOf group.now.group client.seat }
+        requires looker { IsSeatOf group.now.group looker.seat }
     {
-        Player {
+        let all = all_rows(alloc)?;
+        Ok(Player {
             group,
             id,
             client,
@@ -149,7 +150,7 @@ where
             first: None,
             second: None,
             all,
-        }
+        })
     }
 
     /// All that its looker sees.
@@ -220,7 +221,7 @@ where
 
     /// A watch of a scan.
     fn watched(&mut self, name: &Text, scan: &Scan) -> Result<Named, AllocError>
-        ensures watch { IfOk result (λ named. named.watch.book ≡ self.old.group.now.shared.head) }
+        ensures watch { IfOk result (λ named. named.watch.book ≡ self.old.group.now.group.book) }
         ensures group { self.new.group.now ≡ self.old.group.now }
     {
         let name = name.clone()?;
@@ -426,16 +427,16 @@ fn listed_calls<'x>(
     Ok(calls)
 }
 
-fn client_again<'g, S: Store<ScriptMutators>>(
-    group: &'g Group<ScriptMutators, S>,
+fn client_again<S: Store<ScriptMutators> + Drop>(
+    group: &Group<ScriptMutators, S>,
     id: Uuid,
-    client: Client<'g, ScriptMutators, S>,
+    client: Client<ScriptMutators, S>,
     spare: &mut Spare<S>,
-) -> Result<Client<'g, ScriptMutators, S>, Refusal>
+) -> Result<Client<ScriptMutators, S>, Refusal>
 where
     S::Seat: Drop,
-    requires { client.group.now ≡ group.now }
-    ensures { IfOk result (λ again. again.group.now ≡ group.now) }
+    requires { IsSeatOf group.now.group client.seat }
+    ensures { IfOk result (λ again. IsSeatOf group.now.group again.seat) }
 {
     let seat = spare.exchange(client.close())?;
     match group.client(seat, id, ONCE.tries) {
@@ -454,15 +455,15 @@ fn is_named(named: &Option<Named>, name: &Text) -> bool {
 /// Polls a watch of a client's group.
 fn polled_by<R, S: Store<ScriptMutators>>(
     it: &Turn<'_, R>,
-    client: &mut Client<'_, ScriptMutators, S>,
+    client: &mut Client<ScriptMutators, S>,
     named: &mut Named,
     tries: u32,
 ) -> Result<Polled, Refusal>
 where
     S::Seat: Drop,
-    requires { named.old.watch.book ≡ client.old.mark.book }
+    requires { named.old.watch.book ≡ client.old.seat.mark.book }
     ensures watch { named.new.watch.book ≡ named.old.watch.book }
-    ensures client { client.new.group.now ≡ client.old.group.now }
+    ensures client { IsSameSeat client.old.seat client.new.seat }
 {
     begins(it.rt, it.is_marked);
     let polled = client.poll(&mut named.watch, tries);
@@ -473,13 +474,13 @@ where
 /// Makes a call once, or as the one that begins anew where others were first.
 fn made<R: Wait, S: Store<ScriptMutators>>(
     on: &R,
-    client: &mut Client<'_, ScriptMutators, S>,
+    client: &mut Client<ScriptMutators, S>,
     call: Call<'_>,
     way: Way<'_>,
 ) -> Answer
 where
     S::Seat: Drop,
-    ensures { client.new.group.now ≡ client.old.group.now }
+    ensures { IsSameSeat client.old.seat client.new.seat }
 {
     match (call, way.manner) {
         (Call::Mutate(m), Manner::Waits) => {

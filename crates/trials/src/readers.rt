@@ -14,33 +14,33 @@ use std::slice::IterMut;
 
 /// A reader under its name.
 #[derive(Drop)]
-struct Open<'p, 'g, S: Store<ScriptMutators>>
+struct Open<'p, S: Store<ScriptMutators>>
 where
     S::Seat: Drop,
 {
     name: &'p str,
-    tx: ReadTx<'p, 'g, ScriptMutators, S>,
+    tx: ReadTx<'p, ScriptMutators, S>,
 }
 
 /// The readers that are open, and clients that have not read yet: each reads once.
 #[derive(Drop)]
-pub(crate) struct Readers<'p, 'g, S: Store<ScriptMutators>>
+pub(crate) struct Readers<'p, S: Store<ScriptMutators>>
 where
     S::Seat: Drop,
 {
-    pub(crate) free: IterMut<'p, Client<'g, ScriptMutators, S>>,
-    open: Vec<Open<'p, 'g, S>>,
+    pub(crate) free: IterMut<'p, Client<ScriptMutators, S>>,
+    open: Vec<Open<'p, S>>,
 }
 
-impl<'p, 'g, S: Store<ScriptMutators>> Readers<'p, 'g, S>
+impl<'p, S: Store<ScriptMutators>> Readers<'p, S>
 where
     S::Seat: Drop,
 {
     /// No reader yet, and clients that may read.
     pub(crate) fn new(
         alloc: Global,
-        clients: &'p mut [Client<'g, ScriptMutators, S>],
-    ) -> Readers<'p, 'g, S> {
+        clients: &'p mut [Client<ScriptMutators, S>],
+    ) -> Readers<'p, S> {
         Readers {
             free: clients.iter_mut(),
             open: Vec::new(alloc),
@@ -62,7 +62,7 @@ where
     }
 
     /// Keeps a reader that is open.
-    fn keep(&mut self, open: Open<'p, 'g, S>, out: &mut Said) {
+    fn keep(&mut self, open: Open<'p, S>, out: &mut Said) {
         match self.open.push(open) {
             Ok(()) => out.say("reading"),
             Err(_) => out.cut(),
@@ -99,7 +99,7 @@ where
 
 fn say_asked<R, S: Store<ScriptMutators>>(
     it: &Turn<'_, R>,
-    tx: &ReadTx<'_, '_, ScriptMutators, S>,
+    tx: &ReadTx<'_, ScriptMutators, S>,
     query: &Query,
     way: Way<'_>,
     out: &mut Said,
@@ -121,7 +121,7 @@ where
 
 fn say_scanned<R, S: Store<ScriptMutators>>(
     it: &Turn<'_, R>,
-    tx: &ReadTx<'_, '_, ScriptMutators, S>,
+    tx: &ReadTx<'_, ScriptMutators, S>,
     scan: &Scan,
     out: &mut Said,
 )
@@ -135,7 +135,7 @@ where
     written.say(scanned, out);
 }
 
-fn asked<S: Store<ScriptMutators>>(tx: &ReadTx<'_, '_, ScriptMutators, S>, query: &Query) -> Answer
+fn asked<S: Store<ScriptMutators>>(tx: &ReadTx<'_, ScriptMutators, S>, query: &Query) -> Answer
 where
     S::Seat: Drop,
 {
@@ -149,7 +149,7 @@ where
 }
 
 fn tells<S: Store<ScriptMutators>>(
-    tx: &ReadTx<'_, '_, ScriptMutators, S>,
+    tx: &ReadTx<'_, ScriptMutators, S>,
     query: &Query,
 ) -> Result<bool, Refusal>
 where

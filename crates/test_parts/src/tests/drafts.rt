@@ -1,23 +1,26 @@
 //! Of drafts that are placed and published: won and lost over both stores, and where slots are wanting.
-ghost use Rattle.std.specs.Prelude.{◌≡◌, IfOk};
+ghost use Rattle.std.specs.Prelude.{◌≡◌, IfOk, IsSome};
 ghost use Rattle.std.specs.List.{All};
 ghost use Rattle.group_history.specs.Refs.{stamp_of, slot_of};
 ghost use Rattle.group_history.specs.declared.refs.Ref.{Ref as Reference};
-ghost use Rattle.head_word.specs.Marks.{HasSeat};
-ghost use Rattle.chunk_slots.specs.Seats.{IsIdle};
+ghost use Rattle.group_history.specs.Spelling.{version_at};
+ghost use Rattle.head_word.specs.Books.{drawn};
 ghost use Rattle.reader_claims.specs.Lists.{In};
+ghost use Rattle.commit_graph.specs.Seats.{IsReading};
 ghost use Rattle.test_group.specs.Trials.{bare_draft, PlacesBare};
 
 use answered::Published;
 use chunk_slots::{Append, Arena, Store};
-use commit_graph::{Shared, StoreNodes, read_root};
+use commit_graph::{Seat, Shared, StoreNodes, read_root};
 use group_history::{Chunk, Cookie, Node, Ref, Refusal, Stop};
-use head_word::Mark;
+use group_steps::{pin_and_load, unpin};
 use map_chunks::Draft;
-use publishing::{abandon_draft, place_draft, place_of, placing_laws, publish_draft};
+use publishing::{Move, abandon_draft, place_draft, place_of, placing_laws, publish_draft};
 use reader_claims::Kind;
 use std::alloc::Global;
-use test_group::{Nobody, Place, bare_change, bare_snapshot, empty_leaf, first_cookie, next_place};
+use test_group::{
+    Nobody, Place, bare_change, bare_snapshot, empty_leaf, first_cookie, next_place, opened_store,
+};
 
 // The draft of a first pull that brings this cookie alone.
 fn bare_draft(alloc: Global, cookie: &Cookie) -> Result<Draft, Refusal>
@@ -38,22 +41,14 @@ fn places<S: Store<Nobody>>(
 ) -> Result<Vec<Ref>, Refusal>
 where
     S::Seat: Drop,
-    ensures spells { IfOk result (λ refs. PlacesBare place.new.mark.log refs.items cookie.now) }
+    ensures spells { IfOk result (λ refs. PlacesBare place.new.seat.mark.log refs.items cookie.now) }
     ensures settled { S.reused → IfOk result
-        (λ refs. All (λ at. In (S.view place.new.seat).settled (slot_of at)) refs.items) }
+        (λ refs. All (λ at. In place.new.seat.view.settled (slot_of at)) refs.items) }
 {
     let draft = bare_draft(alloc, cookie)?;
-    place.mark.legal();
+    place.legal();
     placing_laws();
-    place_draft::<Nobody, S>(
-        alloc,
-        place.shared,
-        &mut place.seat,
-        &mut place.mark,
-        draft,
-        Kind::Ordinary,
-        3,
-    )
+    place_draft::<Nobody, S>(place.shared, &mut place.seat, draft, Kind::Ordinary, 3)
 }
 
 // How a pull ended, and where its draft was placed.
@@ -75,22 +70,19 @@ fn publishes<S: Store<Nobody>>(
 where
     S::Seat: Drop,
     requires base { stamp_of base ≡ 1 }
-    requires spells { PlacesBare place.old.mark.log refs.now cookie.now }
-    requires settled { S.reused → All (λ at. In (S.view place.old.seat).settled (slot_of at)) refs.now }
+    requires spells { PlacesBare place.old.seat.mark.log refs.now cookie.now }
+    requires settled { S.reused → All (λ at. In place.old.seat.view.settled (slot_of at)) refs.now }
 {
     let change = bare_change(alloc, cookie)?;
     let new = place_of(Ref::new(3, 0), 2, refs);
-    place.mark.legal();
-    let ended = publish_draft::<Nobody, S>(
-        place.shared,
-        &mut place.seat,
-        &mut place.mark,
+    place.legal();
+    let to = Move {
         base,
         new,
-        &change,
+        change: &change,
         refs,
-        &[],
-    );
+    };
+    let ended = publish_draft::<Nobody, S>(place.shared, &mut place.seat, &to, &[]);
     Ok(Pulled {
         ended,
         leaf: refs.first().copied().unwrap_or(base),
@@ -119,7 +111,8 @@ where
     S::Seat: Drop,
     ensures { IfOk result (λ at. stamp_of at ≡ 1) }
 {
-    let at = place.shared.head.load(&mut place.mark);
+    let shared = place.shared;
+    let at = shared.head.load(&mut place.seat.mark);
     if at.stamp() == 1 {
         Ok(at)
     } else {
@@ -127,23 +120,36 @@ where
     }
 }
 
+// The root of a commit, and what is read of it in another slot.
+fn roots_of<S: Store<Nobody>>(
+    shared: &Shared<Nobody, S>,
+    seat: &Seat<Nobody, S>,
+    at: Ref,
+    other: Ref,
+) -> [Result<Ref, Stop>; 2]
+where
+    S::Seat: Drop,
+    requires reading { IsReading S.reused shared.now seat.now }
+    requires version { IsSome (version_at (drawn seat.now.mark.log) (stamp_of at)) }
+{
+    let mut nodes = StoreNodes::new(shared, seat, &seat.mark, 100);
+    let mut again = nodes;
+    let astray = Ref::new(at.stamp(), other.slot());
+    [read_root(&mut nodes, at), read_root(&mut again, astray)]
+}
+
 // Where the head is, and the root of the commit there; and what is read of it in another slot.
 fn root_at_head<S: Store<Nobody>>(
     place: &mut Place<'_, S>,
     other: Ref,
-) -> (Ref, [Result<Ref, Stop>; 2])
+) -> Result<(Ref, [Result<Ref, Stop>; 2]), Refusal>
 where
     S::Seat: Drop,
 {
-    let at = place.shared.head.load(&mut place.mark);
-    place.mark.legal();
-    let mut nodes = StoreNodes::new(place.shared, &place.mark, 100);
-    let mut again = nodes;
-    let astray = Ref::new(at.stamp(), other.slot());
-    (
-        at,
-        [read_root(&mut nodes, at), read_root(&mut again, astray)],
-    )
+    let at = pin_and_load(place.shared, &mut place.seat, 100)?;
+    let roots = roots_of(place.shared, &place.seat, at, other);
+    unpin(place.shared, &mut place.seat);
+    Ok((at, roots))
 }
 
 // Whether the first of two seats wins and the second loses, both over the opening commit, and the head is then the
@@ -161,7 +167,7 @@ where
 {
     let won = pulls(one, alloc, base, cookie)?;
     let lost = pulls(two, alloc, base, cookie)?;
-    let (head, root) = root_at_head(two, base);
+    let (head, root) = root_at_head(two, base)?;
     Ok(
         is_pulled(&won, Published::Won, (3, 4))
             && is_pulled(&lost, Published::Lost, (5, 6))
@@ -301,30 +307,14 @@ where
     drafts_over(one, two, alloc, base, &cookie)
 }
 
-fn drafts_by_two<S: Store<Nobody>>(
-    shared: &Shared<Nobody, S>,
-    seats: &mut Vec<S::Seat>,
-    marks: &mut Vec<Mark<Nobody>>,
-    alloc: Global,
-) -> Result<Drafts, Refusal>
-where
-    S::Seat: Drop,
-    requires seats { All (λ seat. (S.home seat ≡ S.serves shared.now.store) × (S.reused → IsIdle (S.view seat)))
-        seats.old.items }
-    requires marks { All (HasSeat shared.now.head) marks.old.items }
-{
-    let mut one = next_place(shared, seats, marks)?;
-    let mut two = next_place(shared, seats, marks)?;
-    drafts_of(&mut one, &mut two, alloc)
-}
-
 fn drafts_in_new<S: Store<Nobody> + Drop>(alloc: Global, parts: S::Parts) -> Result<Drafts, Refusal>
 where
     S::Seat: Drop,
 {
-    let (store, mut seats, head, mut marks) = S::open(alloc, parts, 16, 2)?;
-    let shared = Shared { store, head };
-    drafts_by_two(&shared, &mut seats, &mut marks, alloc)
+    let (shared, mut seats) = opened_store::<S>(alloc, parts, 16, 2)?;
+    let mut one = next_place(&shared, &mut seats)?;
+    let mut two = next_place(&shared, &mut seats)?;
+    drafts_of(&mut one, &mut two, alloc)
 }
 
 // Of 16 slots 12 are not reserved. The opening has two of them, the leaf one, and the draft that was won two. So there

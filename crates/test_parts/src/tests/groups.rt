@@ -10,7 +10,7 @@ use commit_graph::{LentCommit, Nodes, VecNodes, cookie_of, dropped};
 use group_history::{Json, Mutation, PullOk, Ref, Refusal, Response, Stop, Text};
 use map_tree::{Chunks, Lent, Shelf};
 use pull_patch::read_response;
-use replays::{add_opening, base_at, rebased};
+use replays::{Setting, add_opening, base_at, draft_rebase, look_at};
 use script_mutators::ScriptMutators;
 use std::alloc::Global;
 use std::marker::Brand;
@@ -94,11 +94,16 @@ fn add_rebased(
     ensures new { IfOk result (λ new. IsSome (version_at (map content_of nodes.new) (stamp_of new))) }
 {
     let shelf = nodes.shelf();
-    let base = base_at::<Shelf<'_>, Brand>(shelf, head)?;
+    let look = look_at::<Shelf<'_>, Brand>(shelf, head)?;
+    let base = base_at::<Shelf<'_>, Brand>(shelf, look.tip)?;
     let mut draft = nodes.draft(alloc);
-    let mutators = &ScriptMutators;
-    let made = rebased::<Shelf<'_>, Brand, ScriptMutators>(
-        alloc, shelf, &mut draft, mutators, &base, pending, pull,
+    let setting = Setting {
+        alloc,
+        chunks: shelf,
+        mutators: &ScriptMutators,
+    };
+    let made = draft_rebase::<Shelf<'_>, Brand, ScriptMutators>(
+        &setting, &mut draft, &base, pending, pull,
     )?;
     nodes.append(draft)?;
     Ok(made.commit)

@@ -1,17 +1,10 @@
 //! Of the stores: that calls succeed, and which slots they find.
-ghost use Rattle.std.specs.Prelude.{◌≡◌};
-ghost use Rattle.std.specs.List.{All};
-ghost use Rattle.head_word.specs.Marks.{HasSeat};
-ghost use Rattle.chunk_slots.specs.Seats.{IsIdle};
-
 use chunk_slots::{Append, Arena, Missed, Placed, Store};
-use commit_graph::Shared;
 use counted_slot::Counted;
 use group_history::{Commit, Kind, Node, Ref, Refusal};
-use head_word::Mark;
 use std::alloc::Global;
 use std::mem::size_of;
-use test_group::{Nobody, Place, next_place, shows};
+use test_group::{Nobody, Place, next_place, opened_store, shows};
 
 const _: () = prove!(size_of::<Counted<Option<Placed<Nobody>>>>() == 72);
 
@@ -48,8 +41,9 @@ fn look_around<S: Store<Nobody>>(place: &mut Place<'_, S>) -> Result<Opening, Re
 where
     S::Seat: Drop,
 {
-    let at = place.shared.head.load(&mut place.mark);
-    let store = &place.shared.store;
+    let shared = place.shared;
+    let at = shared.head.load(&mut place.seat.mark);
+    let store = &shared.store;
     let Ok(Some(root)) = shows_root(store, at) else {
         return Err(Refusal::Gone);
     };
@@ -81,11 +75,12 @@ fn learns<S: Store<Nobody>>(place: &Place<'_, S>, at: Ref) -> bool
 where
     S::Seat: Drop,
 {
-    let Ok(shown) = place.shared.store.show(at.slot(), at.stamp(), 100) else {
+    let shared = place.shared;
+    let Ok(shown) = shared.store.show(at.slot(), at.stamp(), 100) else {
         return false;
     };
-    let mut copy = place.mark.copy();
-    place.shared.head.learn(&mut copy, shown.mark());
+    let mut copy = place.seat.mark.copy();
+    shared.head.learn(&mut copy, shown.mark());
     shown.leave();
     copy.seat().is_none()
 }
@@ -107,7 +102,8 @@ where
     S::Seat: Drop,
 {
     let at = place.puts(alloc)?;
-    let store = &place.shared.store;
+    let shared = place.shared;
+    let store = &shared.store;
     let shown = [
         shows(store, at.slot(), at.stamp()),
         shows(store, at.slot(), at.stamp().wrapping_add(1)),
@@ -121,29 +117,11 @@ where
         learnt,
         pinned,
         retired,
-        still: shows(&place.shared.store, at.slot(), at.stamp()),
+        still: shows(store, at.slot(), at.stamp()),
     })
 }
 
 // What a new store shows, and a node's life there.
-fn seen_by_one<S: Store<Nobody>>(
-    shared: &Shared<Nobody, S>,
-    seats: &mut Vec<S::Seat>,
-    marks: &mut Vec<Mark<Nobody>>,
-    alloc: Global,
-) -> Result<(Opening, Life), Refusal>
-where
-    S::Seat: Drop,
-    requires seats { All (λ seat. (S.home seat ≡ S.serves shared.now.store) × (S.reused → IsIdle (S.view seat)))
-        seats.old.items }
-    requires marks { All (HasSeat shared.now.head) marks.old.items }
-{
-    let mut place = next_place(shared, seats, marks)?;
-    let opening = look_around(&mut place)?;
-    let life = life_of(&mut place, alloc)?;
-    Ok((opening, life))
-}
-
 fn seen_in_new<S: Store<Nobody> + Drop>(
     alloc: Global,
     parts: S::Parts,
@@ -151,9 +129,11 @@ fn seen_in_new<S: Store<Nobody> + Drop>(
 where
     S::Seat: Drop,
 {
-    let (store, mut seats, head, mut marks) = S::open(alloc, parts, 16, 1)?;
-    let shared = Shared { store, head };
-    seen_by_one(&shared, &mut seats, &mut marks, alloc)
+    let (shared, mut seats) = opened_store::<S>(alloc, parts, 16, 1)?;
+    let mut place = next_place(&shared, &mut seats)?;
+    let opening = look_around(&mut place)?;
+    let life = life_of(&mut place, alloc)?;
+    Ok((opening, life))
 }
 
 // Whether the opening's two nodes and one that was placed are shown, each in its slot and under its stamp alone, and
@@ -203,7 +183,8 @@ fn retires_under_reader<S: Store<Nobody>>(
 where
     S::Seat: Drop,
 {
-    let store = &place.shared.store;
+    let shared = place.shared;
+    let store = &shared.store;
     let Ok(held) = store.show(at.slot(), at.stamp(), 1) else {
         return Err(Refusal::Gone);
     };
@@ -221,7 +202,8 @@ where
     let first = place.puts(alloc)?;
     let (lost, still) = retires_under_reader(place, alloc, first)?;
     let again = place.puts(alloc)?;
-    let store = &place.shared.store;
+    let shared = place.shared;
+    let store = &shared.store;
     Ok(Reuse {
         lost,
         still,
@@ -231,29 +213,13 @@ where
     })
 }
 
-fn reuse_by_one<S: Store<Nobody>>(
-    shared: &Shared<Nobody, S>,
-    seats: &mut Vec<S::Seat>,
-    marks: &mut Vec<Mark<Nobody>>,
-    alloc: Global,
-) -> Result<Reuse, Refusal>
-where
-    S::Seat: Drop,
-    requires seats { All (λ seat. (S.home seat ≡ S.serves shared.now.store) × (S.reused → IsIdle (S.view seat)))
-        seats.old.items }
-    requires marks { All (HasSeat shared.now.head) marks.old.items }
-{
-    let mut place = next_place(shared, seats, marks)?;
-    reuse_of(&mut place, alloc)
-}
-
 fn reuse_in_new<S: Store<Nobody> + Drop>(alloc: Global, parts: S::Parts) -> Result<Reuse, Refusal>
 where
     S::Seat: Drop,
 {
-    let (store, mut seats, head, mut marks) = S::open(alloc, parts, 16, 1)?;
-    let shared = Shared { store, head };
-    reuse_by_one(&shared, &mut seats, &mut marks, alloc)
+    let (shared, mut seats) = opened_store::<S>(alloc, parts, 16, 1)?;
+    let mut place = next_place(&shared, &mut seats)?;
+    reuse_of(&mut place, alloc)
 }
 
 #[test]

@@ -1,14 +1,11 @@
 //! Of four threads that close one group at once: one of them does.
-ghost use Rattle.std.specs.Prelude.{◌≡◌};
-ghost use Rattle.std.specs.List.{All};
 
 use chunk_slots::{Append, Arena, Store};
 use group_history::Refusal;
-use rebase::{Group, Seats};
 use script_mutators::ScriptMutators;
 use std::alloc::Global;
 use std::thread::{Threads, map_vec};
-use test_group::{A, Answer, B, Player, opened, players_of, pulls};
+use test_group::{A, Answer, B, Player, new_players, pulls};
 
 // The response by which a client state is not found any more.
 const CLOSING: &str = r#"{"error":"ClientStateNotFound"}"#;
@@ -16,7 +13,7 @@ const CLOSING: &str = r#"{"error":"ClientStateNotFound"}"#;
 // More than there are other calls to be lost to.
 const TRIES: u32 = 1_000;
 
-fn closes<S: Store<ScriptMutators>>(player: Player<'_, S>) -> Answer
+fn closes<S: Store<ScriptMutators> + Drop>(player: Player<S>) -> Answer
 where
     S::Seat: Drop,
 {
@@ -48,23 +45,7 @@ fn count(endings: &[Answer]) -> Result<Closings, Refusal> {
     Ok(closings)
 }
 
-fn closings_in<R: Threads + Sync, S: Store<ScriptMutators>>(
-    rt: &R,
-    alloc: Global,
-    group: &Group<ScriptMutators, S>,
-    seats: &mut Seats<ScriptMutators, S>,
-) -> Result<Closings, Refusal>
-where
-    S::Seat: Drop,
-    requires { All (λ seat. (seat.mark.book ≡ group.now.shared.head)
-        × (S.home seat.slots ≡ S.serves group.now.shared.store)) seats.old.free.items }
-{
-    let players = players_of(alloc, group, seats, &[A, B, A, B])?;
-    let endings = map_vec(rt, players, &|player| closes(player))?;
-    count(&endings)
-}
-
-fn closings_in_new<R: Threads + Sync, S: Store<ScriptMutators> + Drop>(
+fn closings_in_new<R: Threads + Sync, S: Store<ScriptMutators> + Drop + Send>(
     rt: &R,
     alloc: Global,
     parts: S::Parts,
@@ -73,8 +54,9 @@ where
     S::Seat: Drop,
     S::Parts: Drop,
 {
-    let (group, mut seats) = opened::<S>(alloc, parts, 32, 4)?;
-    closings_in(rt, alloc, &group, &mut seats)
+    let players = new_players::<S>(alloc, parts, 32, &[A, B, A, B])?;
+    let endings = map_vec(rt, players, &|player| closes(player))?;
+    count(&endings)
 }
 
 const ONE_CLOSES: Closings = Closings {
@@ -83,7 +65,7 @@ const ONE_CLOSES: Closings = Closings {
 };
 
 // The first answers of a hundred groups that are others than those.
-fn other_closings<R: Threads + Sync, S: Store<ScriptMutators> + Drop>(
+fn other_closings<R: Threads + Sync, S: Store<ScriptMutators> + Drop + Send>(
     rt: &R,
     alloc: Global,
     parts: S::Parts,

@@ -1,21 +1,20 @@
 //! Of two clients that make short lists of calls at once. What each was answered has to be what a group of one thread
 //! answers in some order of the calls in which each client's own ones keep theirs.
-ghost use Rattle.std.specs.Prelude.{◌≡◌, IfOk};
-ghost use Rattle.std.specs.List.{All};
+ghost use Rattle.std.specs.Prelude.{IfOk};
 ghost use Rattle.group_history.specs.Pull.{AreInRange};
 
 use chunk_slots::{Append, Arena, Store};
 use group_history::{Confirmed, Cookie, Json, Patch, PlainGroup, PullOk, Refusal, Response, Text};
-use rebase::{Client, Group, ReadTx, Seats, Ticket};
+use rebase::{Client, ReadTx, Ticket};
 use script_mutators::ScriptMutators;
 use serde_json::Value;
-use std::alloc::Global;
+use std::alloc::{AllocGlobal, Global};
 use std::sync::atomic::AtomicU64;
 use std::sync::atomic::Ordering::SeqCst;
 use std::thread::{Threads, join};
 use test_group::{
-    A, Answer, B, Player, Told, answered, call_of, cookie_of, ends, gets, mutates, number_in,
-    number_of, opened, players_of, refreshes, two_of,
+    A, Answer, B, Player, Told, answered, call_of, cookie_of, ends, gets, mutates, new_players,
+    number_in, number_of, refreshes, two_of,
 };
 
 // More than there are other calls to be lost to.
@@ -122,10 +121,7 @@ impl Begun<'_> {
         }
     }
 
-    fn begins<S: Store<ScriptMutators>>(
-        &mut self,
-        client: &mut Client<'_, ScriptMutators, S>,
-    ) -> Answer
+    fn begins<S: Store<ScriptMutators>>(&mut self, client: &mut Client<ScriptMutators, S>) -> Answer
     where
         S::Seat: Drop,
     {
@@ -138,7 +134,7 @@ impl Begun<'_> {
     fn ends<S: Store<ScriptMutators>>(
         &self,
         alloc: Global,
-        client: &mut Client<'_, ScriptMutators, S>,
+        client: &mut Client<ScriptMutators, S>,
         pull: Pull,
     ) -> Answer
     where
@@ -151,7 +147,7 @@ impl Begun<'_> {
     fn makes<S: Store<ScriptMutators>>(
         &mut self,
         alloc: Global,
-        client: &mut Client<'_, ScriptMutators, S>,
+        client: &mut Client<ScriptMutators, S>,
         call: Call,
     ) -> Answer
     where
@@ -168,7 +164,7 @@ impl Begun<'_> {
     }
 }
 
-fn count_in<S: Store<ScriptMutators>>(tx: &ReadTx<'_, '_, ScriptMutators, S>) -> Answer
+fn count_in<S: Store<ScriptMutators>>(tx: &ReadTx<'_, ScriptMutators, S>) -> Answer
 where
     S::Seat: Drop,
 {
@@ -176,7 +172,7 @@ where
     Ok(Told::Last(pending.len() as u64))
 }
 
-fn counts<S: Store<ScriptMutators>>(client: &mut Client<'_, ScriptMutators, S>) -> Answer
+fn counts<S: Store<ScriptMutators>>(client: &mut Client<ScriptMutators, S>) -> Answer
 where
     S::Seat: Drop,
 {
@@ -188,7 +184,7 @@ where
 
 fn makes_all<S: Store<ScriptMutators>>(
     alloc: Global,
-    client: &mut Client<'_, ScriptMutators, S>,
+    client: &mut Client<ScriptMutators, S>,
     first: &Ticket,
     steps: &mut [Step],
 ) -> Result<(), Refusal>
@@ -205,7 +201,7 @@ where
 // The same, once the other thread has come here too.
 fn makes_beside<S: Store<ScriptMutators>>(
     alloc: Global,
-    player: &mut Player<'_, S>,
+    player: &mut Player<S>,
     first: &Ticket,
     steps: &mut [Step],
     come: &AtomicU64,
@@ -453,17 +449,17 @@ impl Dice {
 }
 
 // The game with what both were answered.
-fn both_make<R: Threads + Sync, S: Store<ScriptMutators>>(
+fn both_make<R: AllocGlobal + Threads + Sync, S: Store<ScriptMutators> + Send>(
     rt: &R,
-    alloc: Global,
-    a: &mut Player<'_, S>,
-    b: &mut Player<'_, S>,
+    a: &mut Player<S>,
+    b: &mut Player<S>,
     first: &Ticket,
     game: &mut Game,
 ) -> Result<(), Refusal>
 where
     S::Seat: Drop,
 {
+    let alloc = rt.alloc();
     let (mut by_a, mut by_b) = (game.by_a, game.by_b);
     let come = AtomicU64::new(0);
     let (of_a, of_b) = join(
@@ -478,26 +474,26 @@ where
 }
 
 // Both make their calls, once A has begun the first pull of both; and then A makes the last ones.
-fn played_by<R: Threads + Sync, S: Store<ScriptMutators>>(
+fn played_by<R: AllocGlobal + Threads + Sync, S: Store<ScriptMutators> + Send>(
     rt: &R,
     alloc: Global,
-    a: &mut Player<'_, S>,
-    b: &mut Player<'_, S>,
+    a: &mut Player<S>,
+    b: &mut Player<S>,
     game: &mut Game,
 ) -> Result<(), Refusal>
 where
     S::Seat: Drop,
 {
     let first = a.client.begin_pull(TRIES)?;
-    both_make(rt, alloc, a, b, &first, game)?;
+    both_make(rt, a, b, &first, game)?;
     makes_all(alloc, &mut a.client, &first, &mut game.last)
 }
 
 // The game with all answers.
-fn played<R: Threads + Sync, S: Store<ScriptMutators>>(
+fn played<R: AllocGlobal + Threads + Sync, S: Store<ScriptMutators> + Send>(
     rt: &R,
     alloc: Global,
-    players: &mut [Player<'_, S>],
+    players: &mut [Player<S>],
     drawn: Game,
 ) -> Result<Game, Refusal>
 where
@@ -509,23 +505,7 @@ where
     Ok(game)
 }
 
-fn game_in<R: Threads + Sync, S: Store<ScriptMutators>>(
-    rt: &R,
-    alloc: Global,
-    group: &Group<ScriptMutators, S>,
-    seats: &mut Seats<ScriptMutators, S>,
-    drawn: Game,
-) -> Result<Game, Refusal>
-where
-    S::Seat: Drop,
-    requires { All (λ seat. (seat.mark.book ≡ group.now.shared.head)
-        × (S.home seat.slots ≡ S.serves group.now.shared.store)) seats.old.free.items }
-{
-    let mut players = players_of(alloc, group, seats, &[A, B])?;
-    played(rt, alloc, players.as_mut_slice(), drawn)
-}
-
-fn game_in_new<R: Threads + Sync, S: Store<ScriptMutators> + Drop>(
+fn game_in_new<R: AllocGlobal + Threads + Sync, S: Store<ScriptMutators> + Drop + Send>(
     rt: &R,
     alloc: Global,
     parts: S::Parts,
@@ -535,14 +515,14 @@ where
     S::Seat: Drop,
     S::Parts: Drop,
 {
-    let (group, mut seats) = opened::<S>(alloc, parts, 256, 2)?;
-    game_in(rt, alloc, &group, &mut seats, drawn)
+    let mut players = new_players::<S>(alloc, parts, 256, &[A, B])?;
+    played(rt, alloc, players.as_mut_slice(), drawn)
 }
 
 const ROUNDS: u32 = 100;
 
 // How many rounds there are before one whose answers no order explains.
-fn rounds_explained<R: Threads + Sync, S: Store<ScriptMutators> + Drop>(
+fn rounds_explained<R: AllocGlobal + Threads + Sync, S: Store<ScriptMutators> + Drop + Send>(
     rt: &R,
     alloc: Global,
     parts: S::Parts,

@@ -2,18 +2,16 @@
 //!
 //! A schedule says what is done by whom, on which of two threads, and where the gate holds them. Each act has its
 //! answer.
-ghost use Rattle.std.specs.Prelude.{◌≡◌};
-ghost use Rattle.std.specs.List.{All};
 
 use super::gates::{Hold, Moment, Side, Turns, Word};
 use chunk_slots::{Arena, Gated, Step, Store};
 use group_history::{Ended, Refusal};
-use rebase::{Client, Group, Seats};
+use rebase::Client;
 use script_mutators::ScriptMutators;
 use std::alloc::Global;
 use std::thread::{Threads, join};
 use test_group::{
-    A, Answer, B, C, Player, Told, answered, call_of, mutates, n_in, opened, players_of, pulls,
+    A, Answer, B, C, Player, Told, answered, call_of, mutates, n_in, new_players, pulls,
 };
 
 // What a client does, with one try each time, and what it is told.
@@ -59,7 +57,7 @@ fn other_than(answer: Answer, want: Answer) -> Result<Other, Refusal> {
 
 fn pull_other<S: Store<ScriptMutators>>(
     alloc: Global,
-    client: &mut Client<'_, ScriptMutators, S>,
+    client: &mut Client<ScriptMutators, S>,
     cookie: u64,
     n: u64,
 ) -> Result<Other, Refusal>
@@ -74,7 +72,7 @@ where
 
 fn serve_other<S: Store<ScriptMutators>>(
     alloc: Global,
-    client: &mut Client<'_, ScriptMutators, S>,
+    client: &mut Client<ScriptMutators, S>,
     turns: &Turns<'_>,
     rounds: u64,
 ) -> Result<Other, Refusal>
@@ -95,7 +93,7 @@ where
 
 fn lose_other<S: Store<ScriptMutators>>(
     alloc: Global,
-    client: &mut Client<'_, ScriptMutators, S>,
+    client: &mut Client<ScriptMutators, S>,
     times: u64,
 ) -> Result<Other, Refusal>
 where
@@ -113,7 +111,7 @@ where
 
 fn fill_other<S: Store<ScriptMutators>>(
     alloc: Global,
-    client: &mut Client<'_, ScriptMutators, S>,
+    client: &mut Client<ScriptMutators, S>,
     times: u64,
 ) -> Result<Other, Refusal>
 where
@@ -131,7 +129,7 @@ where
 }
 
 fn read_other<S: Store<ScriptMutators>>(
-    client: &mut Client<'_, ScriptMutators, S>,
+    client: &mut Client<ScriptMutators, S>,
     turns: &Turns<'_>,
     n: i64,
     says: (Word, u64),
@@ -162,7 +160,7 @@ impl Act {
     fn other<S: Store<ScriptMutators>>(
         self,
         alloc: Global,
-        client: &mut Client<'_, ScriptMutators, S>,
+        client: &mut Client<ScriptMutators, S>,
         turns: &Turns<'_>,
     ) -> Result<Other, Refusal>
     where
@@ -185,7 +183,7 @@ impl Act {
 
 fn first_other<S: Store<ScriptMutators>>(
     alloc: Global,
-    players: &mut [Player<'_, S>],
+    players: &mut [Player<S>],
     turns: &Turns<'_>,
     deeds: &[Deed],
 ) -> Result<Other, Refusal>
@@ -208,7 +206,7 @@ where
 // The same on a thread, which says when it has ended.
 fn first_on_thread<S: Store<ScriptMutators>>(
     alloc: Global,
-    players: &mut [Player<'_, S>],
+    players: &mut [Player<S>],
     turns: &Turns<'_>,
     deeds: &[Deed],
 ) -> Result<Other, Refusal>
@@ -221,10 +219,10 @@ where
 }
 
 // What the threads of the last one and of the others tell.
-fn both_other<R: Threads + Sync, S: Store<ScriptMutators>>(
+fn both_other<R: Threads + Sync, S: Store<ScriptMutators> + Send>(
     rt: &R,
     alloc: Global,
-    players: &mut [Player<'_, S>],
+    players: &mut [Player<S>],
     turns: &Turns<'_>,
     schedule: &Schedule,
 ) -> (Result<Other, Refusal>, Result<Other, Refusal>)
@@ -240,10 +238,10 @@ where
 }
 
 // What is told before, by the others, by the last one, and after.
-fn others_of<R: Threads + Sync, S: Store<ScriptMutators>>(
+fn others_of<R: Threads + Sync, S: Store<ScriptMutators> + Send>(
     rt: &R,
     alloc: Global,
-    players: &mut [Player<'_, S>],
+    players: &mut [Player<S>],
     turns: &Turns<'_>,
     schedule: &Schedule,
 ) -> Result<[Other; 4], Refusal>
@@ -256,24 +254,7 @@ where
     Ok([before, others?, last?, after])
 }
 
-fn others_in<R: Threads + Sync, S: Store<ScriptMutators>>(
-    rt: &R,
-    alloc: Global,
-    group: &Group<ScriptMutators, S>,
-    seats: &mut Seats<ScriptMutators, S>,
-    turns: &Turns<'_>,
-    schedule: &Schedule,
-) -> Result<[Other; 4], Refusal>
-where
-    S::Seat: Drop,
-    requires { All (λ seat. (seat.mark.book ≡ group.now.shared.head)
-        × (S.home seat.slots ≡ S.serves group.now.shared.store)) seats.old.free.items }
-{
-    let mut players = players_of(alloc, group, seats, &[A, C, B])?;
-    others_of(rt, alloc, players.as_mut_slice(), turns, schedule)
-}
-
-fn others_in_new<R: Threads + Sync, S: Store<ScriptMutators> + Drop>(
+fn others_in_new<R: Threads + Sync, S: Store<ScriptMutators> + Drop + Send>(
     rt: &R,
     alloc: Global,
     parts: S::Parts,
@@ -284,8 +265,8 @@ where
     S::Seat: Drop,
     S::Parts: Drop,
 {
-    let (group, mut seats) = opened::<S>(alloc, parts, 32, 3)?;
-    others_in(rt, alloc, &group, &mut seats, turns, schedule)
+    let mut players = new_players::<S>(alloc, parts, 32, &[A, C, B])?;
+    others_of(rt, alloc, players.as_mut_slice(), turns, schedule)
 }
 
 fn others_by<R: Threads + Sync>(

@@ -1,21 +1,18 @@
 //! Of threads at one store, one head and one claims table, below the clients of a group.
-ghost use Rattle.std.specs.Prelude.{◌≡◌, ◌<◌};
-ghost use Rattle.std.specs.List.{All};
+ghost use Rattle.std.specs.Prelude.{◌<◌};
 ghost use Rattle.group_history.specs.Refs.{max_slots};
-ghost use Rattle.head_word.specs.Marks.{HasSeat};
-ghost use Rattle.chunk_slots.specs.Seats.{IsIdle};
 
 use chunk_slots::{Arena, Store};
-use commit_graph::Shared;
 use group_history::Refusal;
-use head_word::{Head, Mark};
+use head_word::Head;
 use reader_claims::{Claims, Kind};
 use std::alloc::Global;
 use std::sync::atomic::AtomicU64;
 use std::sync::atomic::Ordering::SeqCst;
 use std::thread::{Threads, join, map_vec};
 use test_group::{
-    ClaimPlace, HeadPlace, Nobody, Place, claim_places, next_head, places_of, shows, two_heads,
+    ClaimPlace, HeadPlace, Nobody, Place, claim_places, next_head, opened_store, places_of, shows,
+    two_heads,
 };
 
 const LAST_EPOCH: u64 = 1 << 60;
@@ -30,7 +27,8 @@ where
         let Ok(at) = place.puts(alloc) else {
             continue;
         };
-        if shows(&place.shared.store, at.slot(), at.stamp()) == Ok(true) {
+        let shared = place.shared;
+        if shows(&shared.store, at.slot(), at.stamp()) == Ok(true) {
             good = good.wrapping_add(1);
         } else {
             bad = bad.wrapping_add(1);
@@ -41,24 +39,6 @@ where
 }
 
 // The least number that one of four threads was shown, and how many they were not shown in all.
-fn storm_by_four<R: Threads + Sync, S: Store<Nobody>>(
-    rt: &R,
-    alloc: Global,
-    shared: &Shared<Nobody, S>,
-    seats: &mut Vec<S::Seat>,
-    marks: &mut Vec<Mark<Nobody>>,
-) -> Result<(u32, u32), Refusal>
-where
-    S::Seat: Drop,
-    requires seats { All (λ seat. (S.home seat ≡ S.serves shared.now.store) × (S.reused → IsIdle (S.view seat)))
-        seats.old.items }
-    requires marks { All (HasSeat shared.now.head) marks.old.items }
-{
-    let places = places_of(alloc, shared, seats, marks)?;
-    let seen = map_vec(rt, places, &|place| storms(place, alloc))?;
-    Ok(least_and_sum(&seen))
-}
-
 fn four_storm<R: Threads + Sync, S: Store<Nobody> + Drop>(
     rt: &R,
     alloc: Global,
@@ -67,9 +47,10 @@ fn four_storm<R: Threads + Sync, S: Store<Nobody> + Drop>(
 where
     S::Seat: Drop,
 {
-    let (store, mut seats, head, mut marks) = S::open(alloc, parts, 16, 4)?;
-    let shared = Shared { store, head };
-    storm_by_four(rt, alloc, &shared, &mut seats, &mut marks)
+    let (shared, mut seats) = opened_store::<S>(alloc, parts, 16, 4)?;
+    let places = places_of(alloc, &shared, &mut seats)?;
+    let seen = map_vec(rt, places, &|place| storms(place, alloc))?;
+    Ok(least_and_sum(&seen))
 }
 
 fn least_and_sum(seen: &[(u32, u32)]) -> (u32, u32) {

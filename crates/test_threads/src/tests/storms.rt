@@ -4,21 +4,17 @@
 //! Slots come back by the pulls alone. So the storm ends only if none is lost for good, if none that a reader still
 //! needs is used again, and if nobody is kept away for ever; and the server's count is right only if each mutation is
 //! pending until it is confirmed, and then no more.
-ghost use Rattle.std.specs.Prelude.{◌≡◌};
-ghost use Rattle.std.specs.List.{All};
 
 use chunk_slots::{Arena, Store};
 use group_history::{Ended, Refusal, read_value};
-use rebase::{Client, Group, ReadTx, Seats};
+use rebase::{Client, ReadTx};
 use script_mutators::ScriptMutators;
 use serde_json::Value;
 use std::alloc::Global;
 use std::sync::atomic::AtomicU64;
 use std::sync::atomic::Ordering::SeqCst;
 use std::thread::{Threads, map_vec};
-use test_group::{
-    A, Answer, B, C, D, E, Player, Told, call_of, mutates, n_in, opened, players_of, pulls,
-};
+use test_group::{A, Answer, B, C, D, E, Player, Told, call_of, mutates, n_in, new_players, pulls};
 
 const TRIES: u32 = 100;
 
@@ -118,7 +114,7 @@ type Given = Result<Answers, Refusal>;
 // Mutates until the client has all its ids, or nobody may call any more.
 fn mutates_all<S: Store<ScriptMutators>>(
     alloc: Global,
-    client: &mut Client<'_, ScriptMutators, S>,
+    client: &mut Client<ScriptMutators, S>,
     budget: &Budget,
 ) -> Given
 where
@@ -196,7 +192,7 @@ impl Server {
     fn serves<S: Store<ScriptMutators>>(
         &mut self,
         alloc: Global,
-        client: &mut Client<'_, ScriptMutators, S>,
+        client: &mut Client<ScriptMutators, S>,
     ) -> Answer
     where
         S::Seat: Drop,
@@ -214,7 +210,7 @@ impl Server {
     fn counts_and_serves<S: Store<ScriptMutators>>(
         &mut self,
         alloc: Global,
-        client: &mut Client<'_, ScriptMutators, S>,
+        client: &mut Client<ScriptMutators, S>,
     ) -> Answer
     where
         S::Seat: Drop,
@@ -228,7 +224,7 @@ impl Server {
 // Pulls until all mutations are confirmed, or nobody may call any more.
 fn pulls_all<S: Store<ScriptMutators>>(
     alloc: Global,
-    client: &mut Client<'_, ScriptMutators, S>,
+    client: &mut Client<ScriptMutators, S>,
     budget: &Budget,
 ) -> Given
 where
@@ -251,9 +247,7 @@ where
     Ok(answers)
 }
 
-fn left_in<S: Store<ScriptMutators>>(
-    tx: &ReadTx<'_, '_, ScriptMutators, S>,
-) -> Result<Left, Refusal>
+fn left_in<S: Store<ScriptMutators>>(tx: &ReadTx<'_, ScriptMutators, S>) -> Result<Left, Refusal>
 where
     S::Seat: Drop,
 {
@@ -262,9 +256,7 @@ where
     Ok((n, pending.len()))
 }
 
-fn reads<S: Store<ScriptMutators>>(
-    client: &mut Client<'_, ScriptMutators, S>,
-) -> Result<Left, Refusal>
+fn reads<S: Store<ScriptMutators>>(client: &mut Client<ScriptMutators, S>) -> Result<Left, Refusal>
 where
     S::Seat: Drop,
 {
@@ -276,7 +268,11 @@ where
 
 // What one of the five is given, of whom the first one pulls. Where it is refused what it can't go on without, nobody
 // calls any more.
-fn storms<S: Store<ScriptMutators>>(alloc: Global, player: Player<'_, S>, budget: &Budget) -> Given
+fn storms<S: Store<ScriptMutators> + Drop>(
+    alloc: Global,
+    player: Player<S>,
+    budget: &Budget,
+) -> Given
 where
     S::Seat: Drop,
 {
@@ -296,7 +292,7 @@ where
 const N_IS_0: &str =
     r#"{"cookie":1,"lastMutationIDChanges":{},"patch":[{"op":"put","key":"n","value":0}]}"#;
 
-fn first_pulls<S: Store<ScriptMutators>>(players: &mut [Player<'_, S>]) -> Answer
+fn first_pulls<S: Store<ScriptMutators>>(players: &mut [Player<S>]) -> Answer
 where
     S::Seat: Drop,
 {
@@ -321,10 +317,10 @@ fn sum_of(given: &[Given]) -> Result<(u64, Answers), Refusal> {
 }
 
 // What five players are given, once the first one has pulled.
-fn storm_of<R: Threads + Sync, S: Store<ScriptMutators>>(
+fn storm_of<R: Threads + Sync, S: Store<ScriptMutators> + Drop + Send>(
     rt: &R,
     alloc: Global,
-    players: Vec<Player<'_, S>>,
+    players: Vec<Player<S>>,
 ) -> Result<(u64, Answers), Refusal>
 where
     S::Seat: Drop,
@@ -336,23 +332,7 @@ where
     sum_of(&given)
 }
 
-fn storm_in<R: Threads + Sync, S: Store<ScriptMutators>>(
-    rt: &R,
-    alloc: Global,
-    group: &Group<ScriptMutators, S>,
-    seats: &mut Seats<ScriptMutators, S>,
-) -> Result<(u64, Answers), Refusal>
-where
-    S::Seat: Drop,
-    requires { All (λ seat. (seat.mark.book ≡ group.now.shared.head)
-        × (S.home seat.slots ≡ S.serves group.now.shared.store)) seats.old.free.items }
-{
-    let mut players = players_of(alloc, group, seats, &[E, A, B, C, D])?;
-    first_pulls(players.as_mut_slice())?;
-    storm_of(rt, alloc, players)
-}
-
-fn storm_in_new<R: Threads + Sync, S: Store<ScriptMutators> + Drop>(
+fn storm_in_new<R: Threads + Sync, S: Store<ScriptMutators> + Drop + Send>(
     rt: &R,
     alloc: Global,
     parts: S::Parts,
@@ -361,8 +341,9 @@ where
     S::Seat: Drop,
     S::Parts: Drop,
 {
-    let (group, mut seats) = opened::<S>(alloc, parts, 64, 5)?;
-    storm_in(rt, alloc, &group, &mut seats)
+    let mut players = new_players::<S>(alloc, parts, 64, &[E, A, B, C, D])?;
+    first_pulls(players.as_mut_slice())?;
+    storm_of(rt, alloc, players)
 }
 
 // Full is answered often, since the slots are few. Busy is not: it says that a hundred steps were lost in a row. None

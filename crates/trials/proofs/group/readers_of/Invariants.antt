@@ -1,7 +1,5 @@
-use Rattle.std.proofs.Common.{◌≡◌}
-use Rattle.std.specs.List.{All}
+use Rattle.rebase.specs.Clients.{AreSeatsOf}
 use Rattle.trials.proofs.group.readers_of.Given as goal
 
 abbrev pub invariant-loop : goal.invariant-loop
-invariant-loop g l = All (λ seat. (seat.mark.book ≡ l.group.shared.head)
-    × (g.S.Slots.home seat.slots ≡ g.S.Slots.serves l.group.shared.store)) l.seats.free.items
+invariant-loop g l = AreSeatsOf l.group.group l.seats.free

@@ -9,7 +9,7 @@ use Rattle.test_parts.proofs.tests.drafts.publishes.Goals as goal
 
 pub publish_draft-ended-requires-clause-follows : goal.publish_draft-ended-requires-clause-follows
 publish_draft-ended-requires-clause-follows g c κs within =
-    let log = c.args.place.now.mark.log in
+    let log = c.args.place.now.seat.mark.log in
     let cookie = c.args.cookie.now in
     let new = c.place_of-new.result in
     let spells = subst (λ (at : Ref). SpellsBare log (stamp_of at) cookie) (sym c.place_of-new.ensures)
