@@ -45,6 +45,17 @@ fn count(endings: &[Answer]) -> Result<Closings, Refusal> {
     Ok(closings)
 }
 
+fn closings_of<R: Threads + Sync, S: Store<ScriptMutators> + Drop + Send>(
+    rt: &R,
+    players: Vec<Player<S>>,
+) -> Result<Closings, Refusal>
+where
+    S::Seat: Drop,
+{
+    let endings = map_vec(rt, players, &|player| closes(player))?;
+    count(&endings)
+}
+
 fn closings_in_new<R: Threads + Sync, S: Store<ScriptMutators> + Drop + Send>(
     rt: &R,
     alloc: Global,
@@ -55,8 +66,7 @@ where
     S::Parts: Drop,
 {
     let players = new_players::<S>(alloc, parts, 32, &[A, B, A, B])?;
-    let endings = map_vec(rt, players, &|player| closes(player))?;
-    count(&endings)
+    closings_of(rt, players)
 }
 
 const ONE_CLOSES: Closings = Closings {
