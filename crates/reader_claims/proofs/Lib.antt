@@ -12,3 +12,4 @@ pub mod Moving
 mod Bare
 pub mod Raising
 mod Counting
+mod Finding

@@ -18,10 +18,10 @@ use Rattle.reader_claims.specs.Words.{pin_at, first_slot, slot_at, pin_word, slo
 use Rattle.reader_claims.specs.Lists.{In, Noted}
 use Rattle.reader_claims.specs.Notes as notes
 use Rattle.reader_claims.specs.Views.{dealer, promoted, IsOpen, with_epoch, with_pin, with_read, with_raise, with_taken}
-use Rattle.reader_claims.specs.Views.{with_settled, with_withdrawn, with_retired, with_note, with_given}
+use Rattle.reader_claims.specs.Views.{with_settled, with_withdrawn, with_retired, with_note, with_look, with_given}
 use Rattle.reader_claims.specs.Machine as machine
 use Rattle.reader_claims.specs.Machine.{Move, Reached, Lawful, left_by}
-use Rattle.reader_claims.specs.Inside.Plays.{Sat, dealt_left, dealt_right, Goes, loaded, stored, cleared, read, raised}
+use Rattle.reader_claims.specs.Inside.Plays.{Sat, dealt_left, dealt_right, Goes, loaded, stored, cleared, read, raised, looked}
 use Rattle.reader_claims.specs.Inside.Plays.{took, settled, withdrawn, retired, gave}
 use Rattle.reader_claims.proofs.Sound.{Sound}
 use Rattle.reader_claims.proofs.Keeps.{St, turned, unturned, own_pin, none_noted, promoted_word, promoted_held, deals}
@@ -295,6 +295,14 @@ module _ (k : Sizes) where
       (λ j' at. let same : j ≡ j' = omega arith in
       told_at (step n (pin_at j) 0 0 none) m x x (λ q. with_read m.0 q x) j j' same move)
 
+  pub looks_as : (n id : ℕ) (m : Sat) (i : ℕ) → i < m.0.sizes.slots
+      → Allows (Lawful k) n id m (slot_at i) (λ y. y) (looked (step n (slot_at i) 0 0 none) m)
+  looks_as n id m i room s r wide me _ = let x : ℕ = get_or s.words (slot_at i) 0 in
+      let move : Move m.0 (slot_at i) x x (with_look m.0 i x) = machine.lost i (x + 1) x room (λ e. absurd (omega arith)) in
+      goes s (slot_at i) id m (looked (step n (slot_at i) 0 0 none) m) x (with_look m.0 i x) r me move
+      (λ i' at. let same : i ≡ i' = omega arith in
+      told_at (step n (slot_at i) 0 0 none) m x x (λ q. with_look m.0 q x) i i' same move)
+
   won_left : (x old new : ℕ) → x ≡ old → left_by old new x ≡ new
   won_left x old new e = ap (λ b. cond b new x) (eq-eqb x old e)
 
@@ -445,6 +453,11 @@ module _ (k : Sizes) where
       → Allows (Lawful k) n id m p (λ y. y) (read (step n p 0 0 none) m)
   reads_at n id m j p at some_pin few = subst (λ q. Allows (Lawful k) n id m q (λ y. y) (read (step n q 0 0 none) m))
       (sym at) (reads_as n id m j some_pin few)
+
+  pub looks_at : (n id : ℕ) (m : Sat) (i p : ℕ) → p ≡ slot_at i → i < m.0.sizes.slots
+      → Allows (Lawful k) n id m p (λ y. y) (looked (step n p 0 0 none) m)
+  looks_at n id m i p at room = subst (λ q. Allows (Lawful k) n id m q (λ y. y) (looked (step n q 0 0 none) m))
+      (sym at) (looks_as n id m i room)
 
   pub takes_at : (n id : ℕ) (m : Sat) (i new p : ℕ) → p ≡ slot_at i → 0 < m.0.number → i < m.0.sizes.slots
       → new ≡ slot_word (Taken m.0.number) → Allows (Lawful k) n id m p (λ y. either (eqb y 0) new y)

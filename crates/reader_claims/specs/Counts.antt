@@ -1,8 +1,10 @@
 -- What a count of a table tells: of the states in which the slots were found, and of the pins. Lists of them have the
 -- last one in front, so the number of a slot is how many stand behind it.
-use Rattle.std.specs.Prelude.{◌≡◌, ◌↔◌, ℕ, ◌+◌, List, [], ◌∷◌, length, min, nat_lt, if◌then◌else◌, Option, Some, None}
+use Rattle.std.specs.Prelude.{◌≡◌, ◌↔◌, ℕ, ◌+◌, List, [], ◌∷◌, ◌++◌, length, min, nat_lt, if◌then◌else◌, Option, Some, None}
 use Rattle.reader_claims.specs.declared.counts.SlotCounts.{SlotCounts}
 use Rattle.reader_claims.specs.declared.view.Sizes.{Sizes}
+use Rattle.reader_claims.specs.declared.view.View.{View}
+use Rattle.reader_claims.specs.Notes.{Note, lost}
 use Rattle.reader_claims.specs.declared.words.Pin.{Pin}
 use Rattle.reader_claims.specs.declared.words.Pin.TheVariants.{Absent, Stored, Held}
 use Rattle.reader_claims.specs.declared.words.SlotState.{SlotState}
@@ -83,9 +85,16 @@ pub record Counts (found : ℕ → ℕ → Type 0) (k : Sizes) (c : SlotCounts) 
   pub of_slots : CountsSlots found (first_reserved k) k.slots slots
   pub of_pins : CountsPins found k.readers slots c
 
--- where a look tells nothing of the table that it is made at
-abbrev pub whatever : ℕ → ℕ → Type 0
-whatever place word = Unit {0}
+-- from v to u the seat noted that at this place it found this word, of a slot or of a reader's pin
+pub data Found (v u : View) : ℕ → ℕ → Type 0 where
+  slot : (i w : ℕ) (later before : List Note) → u.notes ≡ later ++ (lost i (w + 1) w ∷ (before ++ v.notes))
+      → Found v u (slot_at i) w
+  pin : (j w : ℕ) (later before : List (ℕ × ℕ)) → u.read ≡ later ++ ((j, w) ∷ (before ++ v.read))
+      → Found v u (pin_at j) w
+
+-- but for the pins that it read and the slots that it noted, u is v
+abbrev pub OnlyLooks : View → View → Type 0
+OnlyLooks v u = u ≡ record v { read = u.read; notes = u.notes }
 
 -- no pin is the oldest one just where no seat is pinned
 abbrev pub HasOldest : SlotCounts → Type 0

@@ -105,6 +105,10 @@ with_given v i r = record v { notes = gave i r ∷ v.notes; floor = max v.floor 
 abbrev pub with_note : View → ℕ → ℕ → ℕ → View
 with_note v i old w = record v { notes = lost i old w ∷ v.notes }
 
+-- the slot i was looked at, and w was there: this is noted as if another word had been sought
+abbrev pub with_look : View → ℕ → ℕ → View
+with_look v i w = with_note v i (w + 1) w
+
 -- the pin of each reader was read since the epoch was last read or raised past
 abbrev pub ArePinsRead : View → Type 0
 ArePinsRead v = (j : ℕ) → 0 < j → j ≤ v.sizes.readers → (w : ℕ) × Noted v.read j w

@@ -44,11 +44,11 @@ ghost use Rattle.reader_claims.specs.Words.{epoch_at, pin_at, slot_at, slot_word
 ghost use Rattle.reader_claims.specs.declared.words.SlotState.TheVariants.{Free, Taken, Live, Retired};
 ghost use Rattle.reader_claims.specs.Machine.{Move, Moves, left_by};
 ghost use Rattle.reader_claims.specs.Seats.{AreSeats, first_reserved, kind_end};
-ghost use Rattle.reader_claims.specs.Counts.{Counts, HasOldest, all_slots, whatever};
+ghost use Rattle.reader_claims.specs.Counts.{Counts, Found, HasOldest, OnlyLooks, all_slots};
 ghost use Rattle.reader_claims.specs.Passes.{IsPinned, IsUnpinned, passed, IsRetired, IsButRetired, IsGiven};
 ghost use Rattle.reader_claims.specs.Passes.{IsNotGiven, Takes, Looks, FindsNone};
 
-use crate::counts::{SlotCounts, count};
+use crate::counts::SlotCounts;
 use crate::plays::Deal;
 use crate::slot::{Kind, Slot};
 use crate::steps::{Reader, Words};
@@ -296,16 +296,20 @@ impl Claims {
     }
 
     /// How many slots are in each state, and how many seats are pinned: one look at each word, one after
-    /// the other. Each word was so at some time in the call, and no two need have been so at once. Nothing
-    /// is changed, and no seat is needed.
-    pub fn count(&self) -> SlotCounts
-        ensures counts { Counts whatever self.now.sizes result }
+    /// the other. Each word was so at some time in the call, and no two need have been so at once. The seat
+    /// notes what it found, and nothing else is changed.
+    pub fn count(&self, seat: &mut ClaimSeat) -> SlotCounts
+        requires { seat.old.table ≡ self.now }
+        ensures table { seat.new.table ≡ seat.old.table }
+        ensures moves { Moves seat.old.view seat.new.view }
+        ensures looks { OnlyLooks seat.old.view seat.new.view }
+        ensures counts { Counts (Found seat.old.view seat.new.view) self.now.sizes result }
         ensures all { all_slots result ≡ self.now.sizes.slots }
         ensures ordinary { result.ordinary_free ≤ first_reserved self.now.sizes }
         ensures reserved { result.reserved_free ≤ self.now.sizes.slots - first_reserved self.now.sizes }
         ensures pins { result.pinned_seats ≤ self.now.sizes.readers }
         ensures oldest { HasOldest result }
     {
-        count(&self.words, self.words.sizes)
+        self.words.count(&mut seat.reader)
     }
 }

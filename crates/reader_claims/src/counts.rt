@@ -1,18 +1,16 @@
 //! How full a table is: how many of its slots are in each state, and how many of its seats are pinned.
 //!
-//! A count looks at each word once, one after the other, and changes none. So it needs no seat, takes no
-//! memory and disturbs nobody; and its numbers are not those of one moment, as others may step between two
-//! looks. A look without a seat tells nothing that a clause could name of the table. That a count counts
-//! what it looked at and nothing else is the contract of the counting itself, which is written for any
-//! table and knows of a word only that a look found it (`Looked`).
-ghost use Rattle.std.specs.Prelude.{◌≡◌, ℕ, ◌+◌, ◌-◌, ◌^◌, ◌<◌, ◌≤◌};
-ghost use Rattle.group_history.specs.Refs.{max_seats};
-ghost use Rattle.reader_claims.specs.Counts.{Counts, CountsSlots, CountsPins, HasOldest, all_slots, with_slot};
-ghost use Rattle.reader_claims.specs.Counts.{with_pin};
-ghost use Rattle.reader_claims.specs.Words.{first_slot};
+//! A count looks at each word once, one after the other, and changes none. It takes no memory and disturbs
+//! nobody; and its numbers are not those of one moment, as others may step between two looks. Each look is
+//! a step of the seat, which notes what it found: a count can tell of nothing that its seat did not look at.
+ghost use Rattle.std.specs.Prelude.{◌≡◌, ℕ, ◌+◌, ◌-◌, ◌^◌, ◌<◌, ◌≤◌, ◌++◌, List};
+ghost use Rattle.reader_claims.specs.Counts.{Counts, CountsSlots, CountsPins, Found, HasOldest, OnlyLooks};
+ghost use Rattle.reader_claims.specs.Counts.{all_slots, with_pin, with_slot};
+ghost use Rattle.reader_claims.specs.Machine.{Moves};
+ghost use Rattle.reader_claims.specs.Notes.{Note};
 ghost use Rattle.reader_claims.specs.Seats.{first_reserved};
 
-use crate::view::Sizes;
+use crate::steps::{Reader, Words};
 use crate::words::{Pin, SlotState};
 
 /// How many slots of a table are in each state, and how many of its seats are pinned.
@@ -30,20 +28,6 @@ pub struct SlotCounts {
     pub pinned_seats: u32,
     /// The least epoch that is pinned: slots that were retired above it wait for that seat.
     pub oldest_pin: Option<u64>,
-}
-
-/// Words that can be looked at. Of what a look finds the trait says only that a look found it there, so who
-/// counts by it can't count a word that was not looked at.
-pub(crate) trait Looked {
-    /// How many words there are.
-    ghost size: { Self → ℕ };
-
-    /// At this place a look found this word.
-    ghost found: { Self → ℕ → ℕ → Type 0 };
-
-    fn look_at(&self, place: usize) -> u64
-        requires { place < size self.now }
-        ensures { found self.now place result };
 }
 
 impl SlotCounts {
@@ -84,46 +68,60 @@ const NO_SLOTS: SlotCounts = SlotCounts {
     oldest_pin: None,
 };
 
-// Looks at the word of each slot.
-fn count_slots<T: Looked>(table: &T, sizes: Sizes) -> SlotCounts
-    requires size { T.size table.now ≡ first_slot + sizes.slots }
-    ensures { CountsSlots (T.found table.now) (first_reserved sizes) sizes.slots result }
-{
-    let ordinary = sizes.slots - sizes.slots / 4;
-    let mut counts = NO_SLOTS;
-    for slot in 0..sizes.slots {
-        let word = table.look_at(SlotState::place(slot));
-        counts.add_slot(slot, ordinary, SlotState::of_word(word));
-    }
-    counts
-}
+impl Words {
+    ghost use Rattle.reader_claims.specs.Inside.Known.{words_id, reader_id, view};
 
-// Looks at the word of each seat's pin.
-fn count_pins<T: Looked>(table: &T, sizes: Sizes, slots: SlotCounts) -> SlotCounts
-    requires size { T.size table.now ≡ first_slot + sizes.slots }
-    requires readers { sizes.readers ≤ max_seats }
-    requires none { slots.pinned_seats ≡ 0 }
-    ensures { CountsPins (T.found table.now) sizes.readers slots result }
-{
-    let mut counts = slots;
-    for reader in 0..sizes.readers {
-        let word = table.look_at(Pin::place(reader + 1));
-        counts.add_pin(Pin::of_word(word));
+    // Looks at the word of each slot.
+    fn count_slots(&self, reader: &mut Reader) -> SlotCounts
+        requires { reader_id reader.old ≡ words_id self.now }
+        ensures table { reader_id reader.new ≡ reader_id reader.old }
+        ensures moves { Moves (view reader.old) (view reader.new) }
+        ensures kept { view reader.new ≡ record (view reader.old) { notes = (view reader.new).notes } }
+        ensures more { (more : List Note) × ((view reader.new).notes ≡ more ++ (view reader.old).notes) }
+        ensures counts { CountsSlots (Found (view reader.old) (view reader.new))
+            (first_reserved self.now.sizes) self.now.sizes.slots result }
+    {
+        let ordinary = self.sizes.slots - self.sizes.slots / 4;
+        let mut counts = NO_SLOTS;
+        for slot in 0..self.sizes.slots {
+            let word = self.look_slot(reader, slot);
+            counts.add_slot(slot, ordinary, SlotState::of_word(word));
+        }
+        counts
     }
-    counts
-}
 
-/// Looks at the word of each slot, and then at that of each pin.
-pub(crate) fn count<T: Looked>(table: &T, sizes: Sizes) -> SlotCounts
-    requires size { T.size table.now ≡ first_slot + sizes.slots }
-    requires readers { sizes.readers ≤ max_seats }
-    ensures counts { Counts (T.found table.now) sizes result }
-    ensures all { all_slots result ≡ sizes.slots }
-    ensures ordinary { result.ordinary_free ≤ first_reserved sizes }
-    ensures reserved { result.reserved_free ≤ sizes.slots - first_reserved sizes }
-    ensures pins { result.pinned_seats ≤ sizes.readers }
-    ensures oldest { HasOldest result }
-{
-    let slots = count_slots(table, sizes);
-    count_pins(table, sizes, slots)
+    // Looks at the word of each seat's pin.
+    fn count_pins(&self, reader: &mut Reader, slots: SlotCounts) -> SlotCounts
+        requires table { reader_id reader.old ≡ words_id self.now }
+        requires none { slots.pinned_seats ≡ 0 }
+        ensures table { reader_id reader.new ≡ reader_id reader.old }
+        ensures moves { Moves (view reader.old) (view reader.new) }
+        ensures kept { view reader.new ≡ record (view reader.old) { read = (view reader.new).read } }
+        ensures more { (more : List (ℕ × ℕ)) × ((view reader.new).read ≡ more ++ (view reader.old).read) }
+        ensures counts { CountsPins (Found (view reader.old) (view reader.new)) self.now.sizes.readers slots result }
+    {
+        let mut counts = slots;
+        for other in 0..self.sizes.readers {
+            let word = self.load_pin(reader, other + 1);
+            counts.add_pin(Pin::of_word(word));
+        }
+        counts
+    }
+
+    /// Looks at the word of each slot, and then at that of each pin.
+    pub(crate) fn count(&self, reader: &mut Reader) -> SlotCounts
+        requires { reader_id reader.old ≡ words_id self.now }
+        ensures table { reader_id reader.new ≡ reader_id reader.old }
+        ensures moves { Moves (view reader.old) (view reader.new) }
+        ensures looks { OnlyLooks (view reader.old) (view reader.new) }
+        ensures counts { Counts (Found (view reader.old) (view reader.new)) self.now.sizes result }
+        ensures all { all_slots result ≡ self.now.sizes.slots }
+        ensures ordinary { result.ordinary_free ≤ first_reserved self.now.sizes }
+        ensures reserved { result.reserved_free ≤ self.now.sizes.slots - first_reserved self.now.sizes }
+        ensures pins { result.pinned_seats ≤ self.now.sizes.readers }
+        ensures oldest { HasOldest result }
+    {
+        let slots = self.count_slots(reader);
+        self.count_pins(reader, slots)
+    }
 }

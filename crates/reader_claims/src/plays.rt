@@ -1,7 +1,7 @@
 // The rule of the table, and what each kind of step tells.
 ghost use Rattle.reader_claims.specs.Views.{dealer};
 ghost use Rattle.reader_claims.specs.Machine.{Lawful};
-ghost use Rattle.reader_claims.specs.Inside.Plays.{dealt_left, dealt_right, loaded, stored, cleared, read, raised};
+ghost use Rattle.reader_claims.specs.Inside.Plays.{dealt_left, dealt_right, loaded, stored, cleared, read, raised, looked};
 ghost use Rattle.reader_claims.specs.Inside.Plays.{took, gave, settled, withdrawn, retired};
 
 use crate::view::{Sizes, View};
@@ -45,6 +45,12 @@ pub(crate) struct LoadPin;
 
 impl Play<(), View> for LoadPin {
     ghost then = { read };
+}
+
+pub(crate) struct LookSlot;
+
+impl Play<(), View> for LookSlot {
+    ghost then = { looked };
 }
 
 pub(crate) struct RaiseEpoch;

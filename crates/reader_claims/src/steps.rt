@@ -5,17 +5,15 @@ ghost use Rattle.group_history.specs.Refs.{max_seats};
 ghost use Rattle.reader_claims.specs.declared.words.Pin.TheVariants.{Absent, Stored};
 ghost use Rattle.reader_claims.specs.declared.words.SlotState.TheVariants.{Free, Taken, Live, Retired};
 ghost use Rattle.reader_claims.specs.Words.{epoch_at, pin_at, slot_at, slot_word, first_slot, IsSmall};
-ghost use Rattle.reader_claims.specs.Counts.{whatever};
 ghost use Rattle.reader_claims.specs.Lists.{In};
 ghost use Rattle.reader_claims.specs.Views.{IsOpen, with_epoch, with_pin, with_read, with_raise, with_taken};
-ghost use Rattle.reader_claims.specs.Views.{with_settled, with_withdrawn, with_retired, with_given, with_note};
+ghost use Rattle.reader_claims.specs.Views.{with_settled, with_withdrawn, with_retired, with_given, with_note, with_look};
 ghost use Rattle.reader_claims.specs.Passes.{IsButRetired};
 ghost use Rattle.reader_claims.specs.Machine.{Move, left_by};
 
-use crate::counts::Looked;
 use crate::plays::{
-    Claimed, ClearPin, Give, LoadEpoch, LoadPin, RaiseEpoch, Retire, Settle, StorePin, Take,
-    Withdraw,
+    Claimed, ClearPin, Give, LoadEpoch, LoadPin, LookSlot, RaiseEpoch, Retire, Settle, StorePin,
+    Take, Withdraw,
 };
 use crate::view::{Sizes, View};
 use crate::words::{EPOCH, FREE, LIVE, NO_PIN, Pin, SlotState};
@@ -93,6 +91,18 @@ impl Words {
         self.table
             .shared
             .load::<LoadPin>(&mut reader.seat, Pin::place(other))
+    }
+
+    // The word of a slot.
+    pub(crate) fn look_slot(&self, reader: &mut Reader, slot: u32) -> u64
+        requires { (reader_id reader.old ≡ words_id self.now) × (slot < self.now.sizes.slots) }
+        ensures table { reader_id reader.new ≡ reader_id reader.old }
+        ensures view { view reader.new ≡ with_look (view reader.old) slot result }
+        ensures step { Move (view reader.old) (slot_at slot) result result (view reader.new) }
+    {
+        self.table
+            .shared
+            .load::<LookSlot>(&mut reader.seat, SlotState::place(slot))
     }
 
     // The epoch found.
@@ -195,16 +205,5 @@ impl Words {
         ensures { IsSmall result }
     {
         SlotState::of_word(self.table.shared.peek(SlotState::place(slot)))
-    }
-}
-
-impl Looked for Words {
-    ghost size = { λ w. w.table.shared.table_id.words };
-
-    // A plain load without a seat tells nothing of the table.
-    ghost found = { λ _. whatever };
-
-    fn look_at(&self, place: usize) -> u64 {
-        self.table.shared.peek(place)
     }
 }

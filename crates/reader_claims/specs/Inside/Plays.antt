@@ -8,7 +8,7 @@ use Rattle.reader_claims.specs.declared.view.View.{View}
 use Rattle.reader_claims.specs.Words.{pin_at, slot_at, slot_word}
 use Rattle.reader_claims.specs.Lists.{In}
 use Rattle.reader_claims.specs.Views.{reader, dealer, with_epoch, with_pin, with_read, with_raise, with_taken}
-use Rattle.reader_claims.specs.Views.{with_settled, with_withdrawn, with_retired, with_given, with_note}
+use Rattle.reader_claims.specs.Views.{with_settled, with_withdrawn, with_retired, with_given, with_note, with_look}
 use Rattle.reader_claims.specs.Machine.{Move, left_by}
 
 abbrev pub Sat : Type 0
@@ -38,6 +38,9 @@ cleared st m r n = (x : ℕ) × Goes st m x r n (with_pin m.0 Absent)
 
 abbrev pub read : Play
 read st m r n = (j : ℕ) → st.word ≡ pin_at j → Goes st m r r n (with_read m.0 j r)
+
+abbrev pub looked : Play
+looked st m r n = (i : ℕ) → st.word ≡ slot_at i → Goes st m r r n (with_look m.0 i r)
 
 -- won or lost, the epoch is then above the number that it was to be raised from
 abbrev pub raised : Play
