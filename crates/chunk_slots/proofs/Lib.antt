@@ -2,3 +2,4 @@ mod Claiming
 pub mod Begins
 mod Pinning
 mod Numbering
+mod Opened

@@ -1,5 +1,5 @@
 -- Lists whose members bear those of another list.
-use Rattle.std.proofs.Common.{◌≡◌, ◌<◌, List, [], ◌∷◌, ◌++◌, map, length, ap, sym, subst, ◌∙◌}
+use Rattle.std.proofs.Common.{◌≡◌, ◌<◌, List, [], ◌∷◌, ◌++◌, map, length, refl, ap, sym, subst, ◌∙◌}
 use Rattle.std.proofs.Common.{append_assoc, append-nil}
 use Rattle.std.specs.List.{All}
 use Rattle.std.proofs.lemmas.List.{get_or-map, length-map, map-append, nil_from_length}
@@ -24,3 +24,12 @@ pub borne_all : {X Y : Type 0} (f : Y → X) (whole left : List X) (ys : List Y)
     → length left ≡ 0 → map f ys ≡ whole
 borne_all {X} {Y} f whole left ys is none =
     sym (subst (λ (w : List X). whole ≡ map f ys ++ w) (nil_from_length left none) is ∙ append-nil (map f ys))
+
+-- what the members of a list show, those that bear them show
+map_twice : {X Y Z : Type 0} (f : Y → X) (g : X → Z) (ys : List Y) → map (λ y. g (f y)) ys ≡ map g (map f ys)
+map_twice f g [] = refl
+map_twice f g (y ∷ ys) = ap (λ zs. g (f y) ∷ zs) (map_twice f g ys)
+
+pub map_borne : {X Y Z : Type 0} (f : Y → X) (g : X → Z) (ys : List Y) (xs : List X) → map f ys ≡ xs
+    → map (λ y. g (f y)) ys ≡ map g xs
+map_borne f g ys xs is = map_twice f g ys ∙ ap (map g) is

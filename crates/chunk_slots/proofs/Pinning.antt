@@ -1,9 +1,10 @@
 -- What tries of a pin leave of a view.
-use Rattle.std.proofs.Common.{◌≡◌, ℕ, ◌+◌, ◌≤◌, [], ap, subst, sym, arith}
+use Rattle.std.proofs.Common.{◌≡◌, ℕ, suc, ◌+◌, ◌<◌, ◌≤◌, [], max, refl, ap, subst, sym, arith}
 use Rattle.reader_claims.specs.declared.words.Pin.TheVariants.{Absent, Held}
 use Rattle.reader_claims.specs.declared.view.View.{View}
 use Rattle.reader_claims.specs.Passes as one
-use Rattle.chunk_slots.specs.Seats.{IsPinned, IsOvertaken}
+use Rattle.chunk_slots.specs.Seats as seats
+use Rattle.chunk_slots.specs.Seats.{IsPinned, IsOvertaken, LosesPins}
 
 -- but for its pin and what it read of the epoch, u is v
 abbrev pub IsButPin : View → View → Type 0
@@ -35,9 +36,10 @@ lost_again v t u same lost = subst (IsButPin v) (sym lost.0)
     }) same)
 
 -- after one that was not
-pub held_at_last : (v t u : View) (e : ℕ) → IsButPin v t → v.reached ≤ t.reached → one.IsPinned t u e → IsPinned v u
-held_at_last v t u e same up held = subst (IsPinned v) (sym held.0) (
-  ap (λ (z : View). record z {
+pub held_at_last : (v t u : View) (e n tries : ℕ) → IsButPin v t → v.reached ≤ t.reached → n < max 1 tries
+    → LosesPins n v t → one.IsPinned t u e → IsPinned v u tries
+held_at_last v t u e n tries same up few lost held = subst (λ (w : View). IsPinned v w tries) (sym held.0) record {
+  view = ap (λ (z : View). record z {
     pin = Held e;
     stores = t.stores + 1;
     loaded = e;
@@ -47,17 +49,18 @@ held_at_last v t u e same up held = subst (IsPinned v) (sym held.0) (
     read = [];
     notes = [];
     settled = [];
-  }) same,
-  let further = held.1 in omega arith,
-)
+  }) same;
+  reached = let further = held.1 in omega arith;
+  tried = (n, t, few, lost, refl);
+}
 
 -- each of so many tries was lost
-pub lost_at_last : (v t u : View) (tries k : ℕ) → IsButPin v t → 1 ≤ k → tries ≤ k → v.reached + k ≤ t.reached + 1
-    → one.IsUnpinned t u → IsOvertaken v u tries
-lost_at_last v t u tries k same some all up lost =
+pub lost_at_last : (v t u : View) (tries n : ℕ) → IsButPin v t → suc n ≡ max 1 tries → v.reached + n ≤ t.reached
+    → LosesPins n v t → one.IsUnpinned t u → IsOvertaken v u tries
+lost_at_last v t u tries n same all up before lost =
     let a = lost.1 in let b = lost.2 in
-    let left : u ≡ one.unpinned t u.before u.loaded = lost.0 in (
-      subst (λ (w : View). w ≡ record (one.unpinned v w.before w.loaded)
+    let left : u ≡ one.unpinned t u.before u.loaded = lost.0 in record {
+      view = subst (λ (w : View). w ≡ record (one.unpinned v w.before w.loaded)
           { stores = w.stores; passes = w.passes }) (sym left)
           (ap (λ (z : View). record z {
             pin = Absent;
@@ -69,7 +72,7 @@ lost_at_last v t u tries k same some all up lost =
             read = [];
             notes = [];
             settled = [];
-          }) same),
-      omega arith,
-      omega arith,
-    )
+          }) same);
+      lost = subst (λ (k : ℕ). LosesPins k v u) all (seats.more n v t u before lost);
+      rose = (omega arith, omega arith);
+    }

@@ -1,9 +1,11 @@
 -- What a store's seat knows of the claims table, and what the calls of a store tell of it. In each v is what the seat
 -- knew before the call, and u what it knows after it.
-use Rattle.std.specs.Prelude.{ℕ, ◌≡◌, ◌+◌, ◌^◌, ◌<◌, ◌≤◌, []}
+use Rattle.std.specs.Prelude.{ℕ, suc, ◌≡◌, ◌≢◌, ◌+◌, ◌^◌, ◌<◌, ◌≤◌, List, [], ◌∷◌, ◌++◌, max}
+use Rattle.std.specs.List.{All}
 use Rattle.reader_claims.specs.declared.words.Pin.TheVariants.{Absent}
+use Rattle.reader_claims.specs.declared.view.Sizes.{Sizes}
 use Rattle.reader_claims.specs.declared.view.View.{View}
-use Rattle.reader_claims.specs.Passes.{pinned, unpinned}
+use Rattle.reader_claims.specs.Passes.{IsUnpinned, pinned, unpinned}
 use Rattle.reader_claims.specs.Seats.{ClaimsId}
 use Rattle.reader_claims.specs.Views.{reader}
 
@@ -11,15 +13,37 @@ use Rattle.reader_claims.specs.Views.{reader}
 abbrev pub IsIdle : View → Type 0
 IsIdle v = (v.pin ≡ Absent) × (v.taken ≡ [])
 
--- The pin is held at the epoch that was loaded before it was stored and after. How often that was tried is left open
-abbrev pub IsPinned : View → View → Type 0
-IsPinned v u = (u ≡ record (pinned v u.loaded) { stores = u.stores; passes = u.passes }) × (v.reached ≤ u.loaded)
+-- The seats of a store that was just opened, by their views. The last one took two slots of the table, settled them for
+-- the opening's leaf and commit, and did nothing else to slots; the others have not begun
+pub record IsOpening (k : Sizes) (views : List View) (commit : ℕ) : Type 0 where
+  pub others : List View
+  pub opener : View
+  pub all : views ≡ others ++ opener ∷ []
+  pub unused : All (λ v. v ≡ reader k v.number) others
+  pub leaf : ℕ
+  pub two : (leaf ≢ commit) × (leaf < k.slots) × (commit < k.slots)
+  pub settled : opener.settled ≡ commit ∷ leaf ∷ []
+  pub idle : IsIdle opener
+  pub kept : (opener.withdrawn ≡ []) × (opener.retired ≡ []) × (opener.raises ≡ 0)
 
--- The pin is absent. The epoch rose by one at least at each of so many tries, and at one try where that is 0; and the
--- seat itself raised nothing
-abbrev pub IsOvertaken : View → View → ℕ → Type 0
-IsOvertaken v u tries = (u ≡ record (unpinned v u.before u.loaded) { stores = u.stores; passes = u.passes })
-    × (v.reached < u.loaded) × (v.reached + tries ≤ u.loaded)
+-- so many tries of a pin were lost, one after the other: at each the second load of the epoch read more than the first
+pub data LosesPins : ℕ → View → View → Type 0 where
+  none : (v : View) → LosesPins 0 v v
+  more : (n : ℕ) (v t u : View) → LosesPins n v t → IsUnpinned t u → LosesPins (suc n) v u
+
+-- The pin is held at the epoch that was loaded before it was stored and after. All tries before that one were lost, and
+-- they were fewer than the call may make: it makes one at least
+pub record IsPinned (v u : View) (tries : ℕ) : Type 0 where
+  pub view : u ≡ record (pinned v u.loaded) { stores = u.stores; passes = u.passes }
+  pub reached : v.reached ≤ u.loaded
+  pub tried : (n : ℕ) × (t : View) × (n < max 1 tries) × LosesPins n v t × (u ≡ pinned t u.loaded)
+
+-- The pin is absent. Each try that the call may make was lost, and one at least: others raised the epoch meanwhile, by
+-- one at least at each try
+pub record IsOvertaken (v u : View) (tries : ℕ) : Type 0 where
+  pub view : u ≡ record (unpinned v u.before u.loaded) { stores = u.stores; passes = u.passes }
+  pub lost : LosesPins (max 1 tries) v u
+  pub rose : (v.reached < u.loaded) × (v.reached + tries ≤ u.loaded)
 
 -- the seat may retire at r: that is one above the epoch that it loaded last, past which it has seen it since
 abbrev pub MayRetire : View → ℕ → Type 0

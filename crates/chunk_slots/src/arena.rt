@@ -54,7 +54,8 @@ fn places<M: Means>(alloc: Global, slots: u32, seen: &Sight<M>) -> Result<Vec<Sl
 impl<M: Means> Arena<M> {
     ghost use Rattle.std.specs.Prelude.{◌≡◌, ◌⊎◌, ◌-◌, ◌<◌, ◌≤◌, IfOk, IfErr};
     ghost use Rattle.group_history.specs.Refs.{max_slots};
-    ghost use Rattle.reader_claims.specs.Counts.{Counts, HasOldest, all_slots, whatever};
+    ghost use Rattle.reader_claims.specs.Counts.{Counts, Found, HasOldest, OnlyLooks, all_slots};
+    ghost use Rattle.reader_claims.specs.Machine.{Moves};
     ghost use Rattle.reader_claims.specs.Seats.{first_reserved};
     ghost use Rattle.group_history.specs.declared.refs.Ref.{Ref as Reference};
     ghost use Rattle.group_history.specs.declared.refusals.Refusal.TheVariants as refusal;
@@ -63,16 +64,20 @@ impl<M: Means> Arena<M> {
     ghost use Rattle.chunk_slots.specs.declared.missed.Missed.TheVariants as missed;
 
     /// How many slots are in each state, and how many seats are pinned, as the claims table counts them:
-    /// each word was so at some time in the call. Takes no memory and no seat.
-    pub fn count(&self) -> SlotCounts
-        ensures counts { Counts whatever self.now.claims.sizes result }
+    /// each word was so at some time in the call. The seat notes what it found, and nothing else is changed.
+    pub fn count(&self, seat: &mut ArenaSeat) -> SlotCounts
+        requires { seat.old.table ≡ self.now.claims }
+        ensures table { seat.new.table ≡ seat.old.table }
+        ensures moves { Moves seat.old.view seat.new.view }
+        ensures looks { OnlyLooks seat.old.view seat.new.view }
+        ensures counts { Counts (Found seat.old.view seat.new.view) self.now.claims.sizes result }
         ensures all { all_slots result ≡ self.now.claims.sizes.slots }
         ensures ordinary { result.ordinary_free ≤ first_reserved self.now.claims.sizes }
         ensures reserved { result.reserved_free ≤ self.now.claims.sizes.slots - first_reserved self.now.claims.sizes }
         ensures pins { result.pinned_seats ≤ self.now.claims.sizes.readers }
         ensures oldest { HasOldest result }
     {
-        self.claims.count()
+        seat.count(&self.claims)
     }
 
     // With the opening's nodes in the two slots.

@@ -1,21 +1,22 @@
 //! The seat of an arena. It steps on the claims table alone.
-ghost use Rattle.std.specs.Prelude.{◌≡◌, ◌≢◌, [], ◌∷◌, ℕ, length, IfOk, IfErr, ◌<◌, ◌≤◌, true, false, IfSome, IfNone};
+ghost use Rattle.std.specs.Prelude.{◌≡◌, ◌≢◌, [], ◌∷◌, ℕ, length, IfOk, IfErr, ◌-◌, ◌<◌, ◌≤◌, true, false, IfSome, IfNone};
 ghost use Rattle.std.specs.Prelude.{MatchOption, MatchResult};
 ghost use Rattle.std.specs.List.{All};
 ghost use Rattle.group_history.specs.declared.refusals.Refusal.TheVariants.{NoMemory};
+ghost use Rattle.reader_claims.specs.Counts.{Counts, Found, HasOldest, OnlyLooks, all_slots};
 ghost use Rattle.reader_claims.specs.Lists.{In};
 ghost use Rattle.reader_claims.specs.Machine.{Moves};
 ghost use Rattle.reader_claims.specs.Passes as held;
 ghost use Rattle.reader_claims.specs.Passes.{Takes, Looks, Raises, FindsNone, IsRetired, IsButRetired};
-ghost use Rattle.reader_claims.specs.Seats.{AreSeats, first_reserved, kind_end};
+ghost use Rattle.reader_claims.specs.Seats.{AreSeats, IsNew, first_reserved, kind_end};
 ghost use Rattle.reader_claims.specs.Views.{with_pin, with_settled, with_withdrawn};
 ghost use Rattle.reader_claims.specs.declared.words.Pin.TheVariants.{Absent};
-ghost use Rattle.chunk_slots.specs.Inside.Openings.{HasBoth, IsReady};
+ghost use Rattle.chunk_slots.specs.Inside.Openings.{HasBoth};
 ghost use Rattle.chunk_slots.specs.Seats.{IsPinned, IsOvertaken, IsRaised, IsAtEnd, MayRetire};
 
 use crate::missed::Busy;
 use group_history::Refusal;
-use reader_claims::{ClaimSeat, Claims, Kind, Slot};
+use reader_claims::{ClaimSeat, Claims, Kind, Slot, SlotCounts};
 use std::alloc::Global;
 use std::marker::Model;
 
@@ -46,7 +47,7 @@ pub(crate) fn seat_all(
 ) -> Result<Vec<ArenaSeat>, Refusal>
     requires { AreSeats claims.now (length dealt.items) dealt.items }
     ensures count { IfOk result (λ all. length all.items ≡ length dealt.items) }
-    ensures seats { IfOk result (λ all. All (IsReady claims.now) all.items) }
+    ensures seats { IfOk result (λ all. All (IsNew claims.now) all.items) }
     ensures err { IfErr result (λ e. e ≡ NoMemory) }
 {
     let _ = claims;
@@ -81,7 +82,7 @@ impl ArenaSeat {
 
     /// Takes the slots of the opening's nodes, the leaf's first.
     pub(crate) fn take_two(&mut self, claims: &Claims) -> Option<(u32, u32)>
-        requires { IsReady claims.now self.old }
+        requires { IsNew claims.now self.old }
         ensures { IfSome result (λ both. HasBoth claims.now both.0 both.1 self.new) }
     {
         let leaf = self.take(claims, Kind::Ordinary)?;
@@ -116,6 +117,9 @@ impl ArenaSeat {
         ensures table { self.new.table ≡ self.old.table }
         ensures taken { self.new.view.taken ≡ [] }
         ensures pin { self.new.view.pin ≡ self.old.view.pin }
+        ensures settled { self.new.view.settled ≡ second ∷ first ∷ self.old.view.settled }
+        ensures kept { (self.new.view.withdrawn ≡ self.old.view.withdrawn)
+            × (self.new.view.retired ≡ self.old.view.retired) × (self.new.view.raises ≡ self.old.view.raises) }
     {
         self.settle(claims, first);
         self.settle(claims, second);
@@ -176,7 +180,7 @@ impl ArenaSeat {
         ensures table { self.new.table ≡ self.old.table }
         ensures moves { Moves self.old.view self.new.view }
         ensures pin { MatchResult result
-            (λ _. IsPinned self.old.view self.new.view)
+            (λ _. IsPinned self.old.view self.new.view tries)
             (λ _. IsOvertaken self.old.view self.new.view tries) }
     {
         for _ in 1..tries {
@@ -189,6 +193,21 @@ impl ArenaSeat {
         } else {
             Err(Busy)
         }
+    }
+
+    pub(crate) fn count(&mut self, claims: &Claims) -> SlotCounts
+        requires { self.old.table ≡ claims.now }
+        ensures table { self.new.table ≡ self.old.table }
+        ensures moves { Moves self.old.view self.new.view }
+        ensures looks { OnlyLooks self.old.view self.new.view }
+        ensures counts { Counts (Found self.old.view self.new.view) claims.now.sizes result }
+        ensures all { all_slots result ≡ claims.now.sizes.slots }
+        ensures ordinary { result.ordinary_free ≤ first_reserved claims.now.sizes }
+        ensures reserved { result.reserved_free ≤ claims.now.sizes.slots - first_reserved claims.now.sizes }
+        ensures pins { result.pinned_seats ≤ claims.now.sizes.readers }
+        ensures oldest { HasOldest result }
+    {
+        claims.count(&mut self.seat)
     }
 
     pub(crate) fn unpin(&mut self, claims: &Claims)

@@ -1,10 +1,12 @@
 //! What an arena is opened with: the claims table and its seats, one of which places the opening's nodes.
-ghost use Rattle.std.specs.Prelude.{◌≡◌, ◌⊎◌, ◌+◌, ◌<◌, ◌≤◌, IfOk, IfErr, length};
+ghost use Rattle.std.specs.Prelude.{◌≡◌, ◌⊎◌, ◌+◌, ◌<◌, ◌≤◌, IfOk, IfErr, length, map};
 ghost use Rattle.std.specs.List.{All};
 ghost use Rattle.group_history.specs.Refs.{max_slots, max_seats};
 ghost use Rattle.group_history.specs.declared.refs.Ref.{Ref as Reference};
 ghost use Rattle.group_history.specs.declared.refusals.Refusal.TheVariants.{NoMemory, Busy, Full};
 ghost use Rattle.head_word.specs.Books.{opening};
+ghost use Rattle.reader_claims.specs.Seats.{IsNew};
+ghost use Rattle.chunk_slots.specs.Seats.{IsOpening};
 ghost use Rattle.chunk_slots.specs.Inside.Openings.{HasBoth, IsReady};
 
 use crate::arena::Arena;
@@ -23,7 +25,7 @@ pub(crate) struct Dealt {
     opener: ArenaSeat,
     leaf: u32,
     pub(crate) commit: u32,
-    ghost ready: { All (IsReady claims) others.items },
+    ghost unused: { All (IsNew claims) others.items },
     ghost both: { HasBoth claims leaf commit opener },
 }
 
@@ -31,7 +33,7 @@ impl Dealt {
     pub(crate) fn new(alloc: Global, slots: u32, seats: u32) -> Result<Dealt, Refusal>
         requires slots { (16 ≤ slots) × (slots ≤ max_slots) }
         requires seats { (1 ≤ seats) × (seats ≤ max_seats) }
-        ensures slots { IfOk result (λ dealt. dealt.claims.sizes.slots ≡ slots) }
+        ensures sizes { IfOk result (λ dealt. dealt.claims.sizes ≡ record { readers = seats; slots = slots }) }
         ensures seats { IfOk result (λ dealt. length dealt.others.items + 1 ≡ seats) }
         ensures err { IfErr result (λ e. (e ≡ NoMemory) ⊎ (e ≡ Full)) }
     {
@@ -52,7 +54,7 @@ impl Dealt {
         })
     }
 
-    /// The arena with the opening's nodes, and its seats, which are all idle.
+    /// The arena with the opening's nodes, and its seats, which are all idle. The opener's is the last.
     pub(crate) fn into_arena<M: Means>(
         self,
         alloc: Global,
@@ -61,9 +63,12 @@ impl Dealt {
     ) -> Result<(Arena<M>, Vec<ArenaSeat>), Refusal>
         requires slots { (self.claims.sizes.slots ≡ slots) × (slots ≤ max_slots) }
         requires log { (at : Reference) × (mark.now.log ≡ opening at) }
+        ensures claims { IfOk result (λ made. made.0.claims ≡ self.claims) }
         ensures book { IfOk result (λ made. made.0.book ≡ mark.now.book) }
         ensures count { IfOk result (λ made. length made.1.items ≡ length self.others.items + 1) }
         ensures seats { IfOk result (λ made. All (IsReady made.0.claims) made.1.items) }
+        ensures opening { IfOk result (λ made.
+            IsOpening made.0.claims.sizes (map (λ seat. seat.view) made.1.items) self.commit) }
         ensures err { IfErr result (λ e. (e ≡ NoMemory) ⊎ (e ≡ Busy)) }
     {
         let Dealt {

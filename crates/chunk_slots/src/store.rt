@@ -12,7 +12,7 @@
 //!
 //! What always returns stands in [`Slots`], and what may wait over some stores in [`Store`].
 ghost use Rattle.std.specs.Prelude.{◌≡◌, ◌⊎◌, ℕ, ◌^◌, ◌<◌, ◌≤◌, IfOk, IfErr, IfSome, IfNone, MatchOption, MatchResult};
-ghost use Rattle.std.specs.Prelude.{length};
+ghost use Rattle.std.specs.Prelude.{length, map};
 ghost use Rattle.std.specs.List.{All};
 ghost use Rattle.logbook.specs.Pages.{Book};
 ghost use Rattle.group_history.specs.Refs.{max_slots, max_seats};
@@ -28,7 +28,7 @@ ghost use Rattle.reader_claims.specs.Views.{with_pin, with_settled, with_withdra
 ghost use Rattle.reader_claims.specs.declared.words.Pin.TheVariants.{Absent};
 ghost use Rattle.chunk_slots.specs.declared.missed.Missed.TheVariants as missed;
 ghost use Rattle.chunk_slots.specs.Contents.{IsContent};
-ghost use Rattle.chunk_slots.specs.Seats.{IsIdle, IsPinned, IsOvertaken, IsRaised, IsAtEnd, MayRetire};
+ghost use Rattle.chunk_slots.specs.Seats.{IsIdle, IsOpening, IsPinned, IsOvertaken, IsRaised, IsAtEnd, MayRetire};
 
 use crate::missed::{Busy, Missed};
 use crate::shown::Shown;
@@ -108,7 +108,7 @@ pub trait Slots<M: Means>: Sync {
         ensures seat { home seat.new ≡ serves self.now }
         ensures moves { reused → Moves (view seat.old) (view seat.new) }
         ensures pin { reused → MatchResult result
-            (λ _. IsPinned (view seat.old) (view seat.new))
+            (λ _. IsPinned (view seat.old) (view seat.new) tries)
             (λ _. IsOvertaken (view seat.old) (view seat.new) tries) }
         ensures err { IfErr result (λ _. reused) };
 
@@ -136,11 +136,14 @@ pub trait Store<M: Means>: Slots<M> {
         requires slots { (16 ≤ slots) × (slots ≤ max_slots) }
         requires seats { (1 ≤ seats) × (seats ≤ max_seats) }
         ensures book { IfOk result (λ made. Self.book made.0 ≡ made.2) }
+        ensures sizes { Self.reused → IfOk result
+            (λ made. (Self.serves made.0).sizes ≡ record { readers = seats; slots = slots }) }
         ensures count { IfOk result (λ made. length made.1.items ≡ seats) }
         ensures seats { IfOk result (λ made. All
             (λ seat. (Self.home seat ≡ Self.serves made.0) × (Self.reused → IsIdle (Self.view seat))) made.1.items) }
         ensures marks { IfOk result (λ made. (slot : ℕ)
-            × (made.3.items ≡ seated made.2 (opening (opening_ref slot)) seats)) }
+            × (made.3.items ≡ seated made.2 (opening (opening_ref slot)) seats)
+            × (Self.reused → IsOpening (Self.serves made.0).sizes (map Self.view made.1.items) slot)) }
         ensures err { IfErr result (λ e. (e ≡ refusal.NoMemory)
             ⊎ (Self.reused × ((e ≡ refusal.Busy) ⊎ (e ≡ refusal.Full)))) };
 

@@ -23,4 +23,4 @@ returns-clause-book g c =
     (marks_know c.in_ok-head.head log c.args.seats c.in_ok-head.marks.items c.in_ok-head.ensures.marks)).0
 
 pub returns-clause-marks : goal.returns-clause-marks
-returns-clause-marks g c = (1, c.in_ok-head.ensures.marks)
+returns-clause-marks g c = (1, c.in_ok-head.ensures.marks, λ no. absurd no)

@@ -21,3 +21,6 @@ returns-clause-book g c =
     let know = marks_know c.in_ok-head.head
     (opening at) c.args.seats c.in_ok-head.marks.items c.in_ok-head.ensures.marks in
     c.in_ok-arena.ensures.book ∙ (c.first.ensures c.in_ok-head.head (opening at) know).0
+
+pub returns-clause-marks : goal.returns-clause-marks
+returns-clause-marks g c = (c.in_ok-dealt.dealt.commit, c.in_ok-head.ensures.marks, λ _. c.in_ok-arena.ensures.opening)

@@ -1,5 +1,6 @@
-use Rattle.std.proofs.Common.{◌≡◌, ◌+◌, ◌≤◌}
+use Rattle.std.proofs.Common.{◌≡◌, ℕ, ◌+◌, ◌≤◌, max}
 use Rattle.reader_claims.specs.Machine.{Moves}
+use Rattle.chunk_slots.specs.Seats.{LosesPins}
 use Rattle.chunk_slots.proofs.Pinning.{IsButPin}
 use Rattle.chunk_slots.proofs.arena_seat.ArenaSeat.pin.Given as goal
 
@@ -10,4 +11,6 @@ invariant-loop l = record {
   moves : Moves l.fn.self.view l.self.view;
   kept : IsButPin l.fn.self.view l.self.view;
   rose : l.fn.self.view.reached + l.counter ≤ l.self.view.reached + 1;
+  few : l.counter ≤ max 1 l.fn.tries;
+  lost : (n : ℕ) × (n + 1 ≡ l.counter) × LosesPins n l.fn.self.view l.self.view;
 }
