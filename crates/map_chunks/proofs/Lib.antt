@@ -15,7 +15,7 @@ pub mod SecondLemmas
 mod SeekLemmas
 pub mod Shelves
 mod SpanLemmas
-mod TakenLemmas
+pub mod TakenLemmas
 pub mod Texts
 pub mod TreeLemmas
 pub mod DraftLemmas

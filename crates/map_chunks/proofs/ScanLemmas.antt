@@ -11,8 +11,8 @@ use Rattle.group_history.specs.declared.scans.Scan.{Scan}
 use Rattle.group_history.specs.declared.scans.Start.{Start}
 use Rattle.group_history.specs.declared.scans.Start.TheVariants.{At, After}
 use Rattle.group_history.specs.Map.{Bytes, Entries}
-use Rattle.group_history.specs.Rows.{Rows, keys_of, paired, rises}
-use Rattle.group_history.proofs.Pairs.{keys_of-paired}
+use Rattle.group_history.specs.Rows.{Rows, keys_of, values_of, paired, rises}
+use Rattle.group_history.proofs.Pairs.{keys_of-paired, paired-parts}
 use Rattle.group_history.specs.Scans.{is_from, is_in, limited, rows_of}
 use Rattle.group_history.specs.Spelling.{Contents, Segment, rows_at, joined_one, joined_rows, begins_with}
 use Rattle.group_history.specs.Naming.{chunk_content}
@@ -26,6 +26,7 @@ use mathlib.Core.List.{IsPrefix}
 use Rattle.map_chunks.specs.Search.{is_above, IsPlace}
 use Rattle.map_chunks.specs.Shown.{rows_or, chunk_rows, IsTree, map_of_rows}
 use Rattle.map_chunks.specs.Scanning.{scanned, taken, Took, IsLow, is_past, is_full, is_over}
+use Rattle.map_chunks.specs.Sinks.{HasBegun}
 use Rattle.map_chunks.specs.Inside.Scanning.{opened_rows, greater}
 use Rattle.map_chunks.proofs.RowLemmas.{cmp, AllBelow, AllAbove, IsStrict, IsStrict-back, IsStrict-front, strict}
 use Rattle.map_chunks.proofs.RowLemmas.{rises_strict}
@@ -36,7 +37,7 @@ use Rattle.map_chunks.proofs.TreeLemmas.{map_is}
 use Rattle.map_chunks.proofs.PrefixLemmas.{past_prefix, below_prefix}
 use Rattle.map_chunks.proofs.Texts.{and-first, and-second}
 use Rattle.map_chunks.proofs.ListLemmas.{length-paired}
-use Rattle.map_chunks.proofs.TakenLemmas.{limited-nil, limited-full, took_none, took_part}
+use Rattle.map_chunks.proofs.TakenLemmas.{limited-nil, limited-full, took_none, took_part, begun_part}
 
 -- KEYS THAT ARE IN A SCAN
 
@@ -247,6 +248,15 @@ turn_over g es i rs scan has old new room after k t q e v =
     longer k [] b h = absurd cc
     longer k (r ∷ a) b h = h
 
+-- a turn in which the scan stops
+pub turn_stopped : {A : Type 0} (g : Bytes × A → Option Rows) (es : List (Bytes × A)) (i : ℕ) (rs : Rows) (scan : Scan)
+    {S : Type 0} (has : S → Rows → Type 0) (old mid new : S) (room between : Option ℕ) → (t : Turn g es i rs)
+    → Took has old mid room between (taken scan room (first_rows g es i))
+    → HasBegun has mid new (taken scan between t.here) → HasBegun has old new (taken scan room rs)
+turn_stopped g es i rs scan has old mid new room between t p q =
+    subst (λ w. HasBegun has old new (taken scan room w)) (sym t.whole)
+    (begun_part has old mid new scan room between (first_rows g es i) t.here t.back p q)
+
 -- ROWS OF A LEAF
 
 -- a row alone
@@ -319,6 +329,15 @@ pairs_child g ks xs i rs scan has old mid new room between after t p q =
     subst (λ w. Took has old new room after (taken scan room w)) (sym (one_more g (paired ks xs) i rs t))
     (took_part has old mid new scan room between after (first_rows g (paired ks xs) i) t.here p q)
 
+-- a row at its turn
+pub row_turn : (ks vs : List Bytes) (i : ℕ) (k v : Bytes) → length vs ≡ length ks → IsStrict (paired ks vs)
+    → i < length ks → k ≡ get_or ks i k → v ≡ get_or vs i v
+    → (t : Turn alone (paired ks vs) i (paired ks vs)) × ((k, v) ∷ [] ≡ t.here)
+row_turn ks vs i k v l o b p q =
+    let rows = paired ks vs in
+    let t = pairs_turn alone ks vs i rows l (alone-rows rows) o b in
+    (t, ap (λ w. w ∷ []) (paired-at ks vs i k v t.entry l b p q t.at) ∙ some_is t.here_is)
+
 -- a row more
 pub pairs_row : (ks vs : List Bytes) (i : ℕ) (scan : Scan) {S : Type 0} (has : S → Rows → Type 0) (old mid new : S)
     (room between after : Option ℕ) (k v : Bytes) → length vs ≡ length ks → IsStrict (paired ks vs) → i < length ks
@@ -327,12 +346,21 @@ pub pairs_row : (ks vs : List Bytes) (i : ℕ) (scan : Scan) {S : Type 0} (has :
     → Took has mid new between after (taken scan between ((k, v) ∷ []))
     → Took has old new room after (taken scan room (first_rows alone (paired ks vs) (i + 1)))
 pairs_row ks vs i scan has old mid new room between after k v l o b p q e f =
-    let rows = paired ks vs in
-    let t = pairs_turn alone ks vs i rows l (alone-rows rows) o b in
-    let same = paired-at ks vs i k v t.entry l b p q t.at in
-    let here : (k, v) ∷ [] ≡ t.here = ap (λ w. w ∷ []) same ∙ some_is t.here_is in
-    pairs_child alone ks vs i rows scan has old mid new room between after t e
-    (subst (λ w. Took has mid new between after (taken scan between w)) here f)
+    let r = row_turn ks vs i k v l o b p q in
+    pairs_child alone ks vs i (paired ks vs) scan has old mid new room between after r.0 e
+    (subst (λ w. Took has mid new between after (taken scan between w)) r.1 f)
+
+-- a row at which the scan stops
+pub pairs_stopped : (ks vs : List Bytes) (i : ℕ) (scan : Scan) {S : Type 0} (has : S → Rows → Type 0) (old mid new : S)
+    (room between : Option ℕ) (k v : Bytes) → length vs ≡ length ks → IsStrict (paired ks vs) → i < length ks
+    → k ≡ get_or ks i k → v ≡ get_or vs i v
+    → Took has old mid room between (taken scan room (first_rows alone (paired ks vs) i))
+    → HasBegun has mid new (taken scan between ((k, v) ∷ []))
+    → HasBegun has old new (taken scan room (paired ks vs))
+pairs_stopped ks vs i scan has old mid new room between k v l o b p q e f =
+    let r = row_turn ks vs i k v l o b p q in
+    turn_stopped alone (paired ks vs) i (paired ks vs) scan has old mid new room between r.0 e
+    (subst (λ w. HasBegun has mid new (taken scan between w)) r.1 f)
 
 pub pairs_order : (ks vs : List Bytes) → length vs ≡ length ks → T (rises ks) → IsStrict (paired ks vs)
 pairs_order ks vs l o = strict (paired ks vs)
@@ -409,6 +437,13 @@ opened_is ns k rs c h g =
           (λ e v q. chunk_rows-at ns o.depth (stamp_of e.1) v q) kids s.rows o.rows ∙ ap (λ w. Some w) r;
       low = top-low k kids o.low;
     }
+
+-- the keys and the values of a leaf side by side are its rows
+pub leaf_opened : (ns : Contents) (c : Chunk Ref) (rows : Rows) (ks vs : List Bytes) → c ≡ chunked.Leaf rows
+    → ks ≡ keys_of rows → vs ≡ values_of rows → paired ks vs ≡ rows_or (opened_rows ns c)
+leaf_opened ns c rows ks vs e p q =
+    ap (λ w. paired w vs) p ∙ ap (paired (keys_of rows)) q ∙ paired-parts rows
+    ∙ ap (λ (w : Chunk Ref). rows_or (opened_rows ns w)) (sym e)
 
 pub chunk_rows-kept : (old new : Contents) (k : ℕ) (rs : Rows) → IsPrefix old new → chunk_rows old k ≡ Some rs
     → chunk_rows new k ≡ Some rs

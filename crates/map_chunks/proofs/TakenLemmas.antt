@@ -1,16 +1,17 @@
 -- Rows that a sink takes, part after part, and the room that is left.
-use Rattle.std.proofs.Common.{◌≡◌, ◌≤◌, ◌+◌, ◌-◌, ℕ, zero, suc, true, false, List, [], ◌∷◌, ◌++◌, Option, Some, None}
+use Rattle.std.proofs.Common.{◌≡◌, ◌≤◌, ◌+◌, ◌-◌, ℕ, zero, suc, true, List, [], ◌∷◌, ◌++◌, Option, Some, None}
 use Rattle.std.proofs.Common.{length, length-take, min, take, nat_eq, refl, sym, ap, ◌∙◌, subst, arith, append_assoc}
+use Rattle.std.proofs.Common.{Result, Ok, Err}
+use Rattle.std.specs.Prelude.{IsErrAnd}
 use Rattle.std.proofs.lemmas.Bool.Decides.{nat_tests}
-use Rattle.std.proofs.lemmas.List.{append-nil, length-append}
+use Rattle.std.proofs.lemmas.List.{append-nil, length-append, take-take}
 use Rattle.std.proofs.lemmas.List.Elements.{filter-append}
 use Rattle.std.proofs.Math.Seq.{take-nil}
 use Rattle.group_history.specs.declared.scans.Scan.{Scan}
 use Rattle.group_history.specs.Rows.{Rows}
 use Rattle.group_history.specs.Scans.{is_in, limited}
-use Rattle.map_chunks.specs.Scanning.{scanned, taken, left, is_full, Took}
-use Rattle.map_chunks.specs.Sinks.{HasMore}
-use Rattle.map_chunks.specs.Inside.Scanning.{CanTake}
+use Rattle.map_chunks.specs.Scanning.{scanned, taken, left, is_full, Took, Gave}
+use Rattle.map_chunks.specs.Sinks.{HasMore, HasStill, HasBegun}
 
 -- ROOM
 
@@ -90,3 +91,57 @@ took_by has old new room after rows n l e a h =
       rows = h;
       room = a ∙ ap (left room) (sym (length-take n rows ∙ (let m : min n (length rows) ≡ n = omega arith in m)));
     })
+
+-- A BEGINNING OF WHAT A SINK WAS TO TAKE
+
+-- a beginning of a part is one of all
+front_of : {A : Type 0} (n : ℕ) (xs ys : List A) → (m : ℕ) × (take m (xs ++ ys) ≡ take n xs)
+front_of zero xs ys = (0, refl)
+front_of (suc n) [] ys = (0, refl)
+front_of (suc n) (x ∷ xs) ys = let f = front_of n xs ys in (suc f.0, ap (λ w. x ∷ w) f.1)
+
+-- a part, and a beginning of what is behind it, is a beginning of all
+past_of : {A : Type 0} (xs ys : List A) (n : ℕ) → (m : ℕ) × (take m (xs ++ ys) ≡ xs ++ take n ys)
+past_of [] ys n = (n, refl)
+past_of (x ∷ xs) ys n = let p = past_of xs ys n in (suc p.0, ap (λ w. x ∷ w) p.1)
+
+begun_front : {S : Type 0} (has : S → Rows → Type 0) (old new : S) (xs ys : Rows) → HasBegun has old new xs
+    → HasBegun has old new (xs ++ ys)
+begun_front has old new xs ys b =
+    let f = front_of b.0 xs ys in (f.0, subst (HasMore has old new) (sym f.1) b.1)
+
+begun_past : {S : Type 0} (has : S → Rows → Type 0) (old mid new : S) (xs ys : Rows) → HasMore has old mid xs
+    → HasBegun has mid new ys → HasBegun has old new (xs ++ ys)
+begun_past has old mid new xs ys m b =
+    let p = past_of xs ys b.0 in (
+      p.0,
+      λ zs h. subst (has new) (append_assoc zs xs (take b.0 ys) ∙ ap (λ w. zs ++ w) (sym p.1))
+          (b.1 (zs ++ xs) (m zs h)),
+    )
+
+-- a part, and a beginning of the one behind it
+pub begun_part : {S : Type 0} (has : S → Rows → Type 0) (old mid new : S) (scan : Scan) (room between : Option ℕ)
+    (a b c : Rows) → Took has old mid room between (taken scan room a)
+    → HasBegun has mid new (taken scan between b) → HasBegun has old new (taken scan room (a ++ (b ++ c)))
+begun_part has old mid new scan room between a b c p q =
+    subst (HasBegun has old new)
+    (ap (λ r. taken scan room a ++ taken scan r (b ++ c)) p.room ∙ taken-more scan room a (b ++ c))
+    (begun_past has old mid new (taken scan room a) (taken scan between (b ++ c)) p.rows
+    (subst (HasBegun has mid new) (taken-more scan between b c)
+    (begun_front has mid new (taken scan between b) _ q)))
+
+-- some of the rows that were taken one by one
+pub begun_by : {S : Type 0} (has : S → Rows → Type 0) (old mid new : S) (room : Option ℕ) (rows : Rows) (i n : ℕ)
+    → i ≤ n → limited room rows ≡ take n rows → HasMore has old mid (take i rows) → HasStill has mid new
+    → HasBegun has old new (limited room rows)
+begun_by has old mid new room rows i n l e m s = (
+  i,
+  λ zs h. subst (λ w. has new (zs ++ w)) (sym (ap (take i) e ∙ take-take i n rows l))
+      (s (zs ++ take i rows) (m zs h)),
+)
+
+-- what a refused scan gave
+pub gave_begun : {S E : Type 0} (has : S → Rows → Type 0) (old new : S) (room : Option ℕ) (r : Result (Option ℕ) E)
+    (rows : Rows) (P : E → Type 0) → IsErrAnd r P → HasBegun has old new rows → Gave has old new room r rows
+gave_begun has old new room (Ok after) rows P x b = absurd x
+gave_begun has old new room (Err e) rows P x b = b

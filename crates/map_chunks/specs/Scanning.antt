@@ -1,5 +1,6 @@
 -- A scan of rows that stand one part after another.
 use Rattle.std.specs.Prelude.{◌≡◌, ◌-◌, ℕ, Bool, false, not, nat_eq, ◌&&◌, ◌||◌, length, filter, Option, Some, None}
+use Rattle.std.specs.Prelude.{Result, Ok, Err}
 use Rattle.std.specs.List.{starts_with}
 use Rattle.std.specs.Ordering.{nat_cmp}
 use Rattle.std.specs.Cmp.Lexicographic.{slice_cmp}
@@ -9,7 +10,7 @@ use Rattle.group_history.specs.Map.{Bytes}
 use Rattle.group_history.specs.Rows.{Rows}
 use Rattle.group_history.specs.Scans.{is_in, limited}
 use Rattle.map_chunks.specs.Search.{is_above}
-use Rattle.map_chunks.specs.Sinks.{HasMore}
+use Rattle.map_chunks.specs.Sinks.{HasMore, HasBegun}
 
 -- the rows that the scan has, before its limit is looked at
 abbrev pub scanned : Scan → Rows → Rows
@@ -29,6 +30,11 @@ pub record Took {S : Type 0} (has : S → Rows → Type 0) (old new : S) (before
     (more : Rows) : Type 0 where
   pub rows : HasMore has old new more
   pub room : after ≡ left before (length more)
+
+-- what is answered is the room behind all of these rows; where that is refused the sink has a beginning of them
+abbrev pub Gave : {S E : Type 0} → (S → Rows → Type 0) → S → S → Option ℕ → Result (Option ℕ) E → Rows → Type 0
+Gave has old new room (Ok after) more = Took has old new room after more
+Gave has old new room (Err e) more = HasBegun has old new more
 
 -- no key below this one is in the scan
 abbrev pub IsLow : Scan → Bytes → Type 0

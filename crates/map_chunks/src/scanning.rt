@@ -5,7 +5,7 @@
 //! below it are scanned, so at most as many are shown at a time as the map is deep. Each row goes to a
 //! sink by reference. The keys that are in a scan stand together: so where the first and the last key of a
 //! leaf are in it, no other of its keys is looked at.
-ghost use Rattle.std.specs.Prelude.{◌≡◌, ◌⊎◌, ◌<◌, ◌≤◌, length, T, true, false, take, drop, ◌∷◌, [], IfErr, IfOk};
+ghost use Rattle.std.specs.Prelude.{◌≡◌, ◌⊎◌, ◌<◌, ◌≤◌, length, T, true, false, take, drop, ◌∷◌, [], IfErr};
 ghost use Rattle.group_history.specs.Naming.{chunk_children};
 ghost use Rattle.group_history.specs.Refs.{stamp_of};
 ghost use Rattle.group_history.specs.Rows.{Rows, rises, paired};
@@ -14,7 +14,7 @@ ghost use Rattle.group_history.specs.declared.mutators.Stop.TheVariants.{NoMemor
 ghost use Rattle.map_chunks.specs.Places.{Grows, AreAll};
 ghost use Rattle.map_chunks.specs.Shown.{chunk_rows, IsTree, rows_or};
 ghost use Rattle.map_chunks.specs.Scanning as scans;
-ghost use Rattle.map_chunks.specs.Scanning.{scanned, taken, left, Took, IsLow};
+ghost use Rattle.map_chunks.specs.Scanning.{scanned, taken, left, Gave, IsLow};
 ghost use Rattle.map_chunks.specs.Inside.Scanning as inside;
 ghost use Rattle.map_chunks.specs.Inside.Scanning.{children_rows, opened_rows, CanTake, AreIn};
 
@@ -109,8 +109,7 @@ fn take_row<S: TakesRows>(
     sink: &mut S,
 ) -> Result<Option<u64>, AllocError>
     requires { scans.is_full room ≡ false }
-    ensures { IfOk result (λ after. Took S.has sink.old sink.new room after
-        (taken scan.now room ((key.now, value.now) ∷ []))) }
+    ensures { Gave S.has sink.old sink.new room result (taken scan.now room ((key.now, value.now) ∷ [])) }
 {
     if !scan.has(key) {
         return Ok(room);
@@ -132,8 +131,7 @@ fn take_rows<S: TakesRows>(
     requires values { length values.now ≡ length keys.now }
     requires first { first < length keys.now }
     requires none { scanned scan.now (take first (paired keys.now values.now)) ≡ [] }
-    ensures { IfOk result (λ after. Took S.has sink.old sink.new room after
-        (taken scan.now room (paired keys.now values.now))) }
+    ensures { Gave S.has sink.old sink.new room result (taken scan.now room (paired keys.now values.now)) }
 {
     let mut left = room;
     for place in first..keys.len() {
@@ -153,8 +151,7 @@ fn take_all<S: TakesRows>(
     sink: &mut S,
 ) -> Result<Option<u64>, AllocError>
     requires { length values.now ≡ length keys.now }
-    ensures { IfOk result (λ after. Took S.has sink.old sink.new room after
-        (limited room (paired keys.now values.now))) }
+    ensures { Gave S.has sink.old sink.new room result (limited room (paired keys.now values.now)) }
 {
     let end = fitting(room, keys.len());
     for place in 0..end {
@@ -173,7 +170,7 @@ fn has_ends(scan: &Scan, keys: &[Text], first: usize) -> bool
 }
 
 /// Takes the scan's rows of a leaf, of whose keys none below `low` is in the scan, and answers the room
-/// that is left.
+/// that is left. Where that stops the sink has a beginning of these rows.
 pub fn scan_rows<S: TakesRows>(
     keys: &[Text],
     values: &[Json],
@@ -185,8 +182,7 @@ pub fn scan_rows<S: TakesRows>(
     requires order { T (rises keys.now) }
     requires values { length values.now ≡ length keys.now }
     requires low { IsLow scan.now low.now }
-    ensures { IfOk result (λ after. Took S.has sink.old sink.new room after
-        (taken scan.now room (paired keys.now values.now))) }
+    ensures { Gave S.has sink.old sink.new room result (taken scan.now room (paired keys.now values.now)) }
 {
     if keys.is_empty() {
         return Ok(room);
@@ -199,7 +195,7 @@ pub fn scan_rows<S: TakesRows>(
 }
 
 /// Takes the scan's rows of the chunk, and answers the room that is left. Stops for want of memory, or as
-/// the store does; what was taken by then stays with the sink.
+/// the store does; the sink has then a beginning of these rows.
 #[cycle(placed)]
 pub fn scan_placed<C: Chunks, S: TakesRows>(
     chunks: &mut C,
@@ -213,8 +209,8 @@ pub fn scan_placed<C: Chunks, S: TakesRows>(
     requires tree { IsTree (chunk_rows (C.contents chunks.old) (stamp_of at)) }
     requires low { IsLow scan.now low.now }
     ensures grown { Grows C.contents C.places chunks.old chunks.new }
-    ensures rows { IfOk result (λ after. Took S.has sink.old sink.new room after
-        (taken scan.now room (rows_or (chunk_rows (C.contents chunks.old) (stamp_of at))))) }
+    ensures rows { Gave S.has sink.old sink.new room result
+        (taken scan.now room (rows_or (chunk_rows (C.contents chunks.old) (stamp_of at)))) }
     ensures stopped { IfErr result (λ s. (s ≡ NoMemory) ⊎ C.stops s) }
 {
     let held = chunks.show(at)?;
@@ -236,8 +232,8 @@ fn scan_chunk<C: Chunks, S: TakesRows>(
     requires tree { IsTree (opened_rows (C.contents chunks.old) chunk.now) }
     requires low { IsLow scan.now low.now }
     ensures grown { Grows C.contents C.places chunks.old chunks.new }
-    ensures rows { IfOk result (λ after. Took S.has sink.old sink.new room after
-        (taken scan.now room (rows_or (opened_rows (C.contents chunks.old) chunk.now)))) }
+    ensures rows { Gave S.has sink.old sink.new room result
+        (taken scan.now room (rows_or (opened_rows (C.contents chunks.old) chunk.now))) }
     ensures stopped { IfErr result (λ s. (s ≡ NoMemory) ⊎ C.stops s) }
 {
     match chunk {
@@ -270,9 +266,9 @@ fn scan_children<C: Chunks, S: TakesRows>(
     requires tree { IsTree (children_rows (C.contents chunks.old) (paired below.firsts.now below.children.now)) }
     requires low { IsLow scan.now low.now }
     ensures grown { Grows C.contents C.places chunks.old chunks.new }
-    ensures rows { IfOk result (λ after. Took S.has sink.old sink.new room after
+    ensures rows { Gave S.has sink.old sink.new room result
         (taken scan.now room (rows_or (children_rows (C.contents chunks.old)
-        (paired below.entry.firsts.now below.entry.children.now))))) }
+        (paired below.entry.firsts.now below.entry.children.now)))) }
     ensures stopped { IfErr result (λ s. (s ≡ NoMemory) ⊎ C.stops s) }
 {
     if below.firsts.is_empty() {

@@ -2,9 +2,9 @@
 //!
 //! A scan visits its rows where they lie, and hands each to a sink by reference. What a sink keeps of them
 //! is its own: the rows themselves, a text of them, or a sum.
-ghost use Rattle.std.specs.Prelude.{◌≡◌, [], ◌∷◌, OnOk};
+ghost use Rattle.std.specs.Prelude.{◌≡◌, [], ◌∷◌, OnErr, OnOk};
 ghost use Rattle.group_history.specs.Rows.{Rows};
-ghost use Rattle.map_chunks.specs.Sinks.{HasMore};
+ghost use Rattle.map_chunks.specs.Sinks.{HasMore, HasStill};
 
 use group_history::{Json, Text};
 use std::alloc::AllocError;
@@ -14,9 +14,10 @@ pub trait TakesRows {
     /// What a sink is that has these rows.
     ghost has: { Self → Rows → Type 0 };
 
-    /// Takes a row behind those that it has. Stops for want of memory.
+    /// Takes a row behind those that it has. Stops for want of memory, and has then the rows that it had.
     fn take(&mut self, key: &Text, value: &Json) -> Result<(), AllocError>
-        ensures { OnOk result (HasMore has self.old self.new ((key.now, value.now) ∷ [])) };
+        ensures more { OnOk result (HasMore has self.old self.new ((key.now, value.now) ∷ [])) }
+        ensures still { OnErr result (HasStill has self.old self.new) };
 }
 
 /// The rows themselves, copied.

@@ -6,14 +6,14 @@ use Rattle.group_history.specs.Rows.{Rows, paired}
 use Rattle.group_history.specs.Spelling.{Contents, joined_rows}
 use Rattle.group_history.specs.Refs.{stamp_of}
 use mathlib.Core.List.{IsPrefix}
-use Rattle.map_chunks.specs.Shown.{IsTree, Piece, shown}
+use Rattle.map_chunks.specs.Shown.{IsTree, Piece, rows_or, shown}
 use Rattle.map_nodes.specs.Nodes.{kids_pieces, body_pieces, IsNode, child_height, kids_height}
 use Rattle.map_nodes.specs.Inside.Nodes.{child_rows}
 use Rattle.map_nodes.specs.declared.nodes.OwnChild.{OwnChild}
 use Rattle.map_nodes.specs.declared.nodes.OwnChild.TheVariants.{Placed, Own}
 use Rattle.map_nodes.specs.declared.nodes.Body.{Body}
-use Rattle.map_nodes.specs.declared.nodes.Body.TheVariants.{Inner}
-use Rattle.map_nodes.proofs.NodeLemmas.{kid_rows, shown-kids}
+use Rattle.map_nodes.specs.declared.nodes.Body.TheVariants.{Leaf, Inner}
+use Rattle.map_nodes.proofs.NodeLemmas.{kid_rows, shown-kids, shown-rows}
 use Rattle.map_nodes.proofs.ChangeLemmas.{shown-kept}
 use Rattle.map_nodes.specs.Inside.Scanning.{kid_shown, kids_shown}
 use Rattle.map_chunks.proofs.RowLemmas.{IsStrict-front}
@@ -45,6 +45,14 @@ kids_shown-is p depth keys body kids pieces rs v e inv h =
     ≡ Some rs = ap (shown p) (ap (body_pieces depth keys) (sym e) ∙ v) ∙ h in
     shown_as (kid_rows p (depth - 1)) (shown_kid p) (λ e w q. kid_shown-at p (depth - 1) e.1 w q)
     (paired keys kids.items) rs (sym (shown-kids p (depth - 1) (paired keys kids.items) i.1.3) ∙ s)
+
+-- the keys and the values of a leaf side by side are the rows that it shows
+pub leaf_shown : (p : Contents) (depth : ℕ) (keys : List Bytes) (body : Body) (values : _) (pieces : List Piece)
+    (ks vs : List Bytes) → body ≡ Leaf values → body_pieces depth keys body ≡ pieces → ks ≡ keys → vs ≡ values.items
+    → paired ks vs ≡ rows_or (shown p pieces)
+leaf_shown p depth keys body values pieces ks vs e v k q =
+    ap (λ w. paired w vs) k ∙ ap (paired keys) q
+    ∙ ap rows_or (sym (ap (shown p) (sym v ∙ ap (body_pieces depth keys) e) ∙ shown-rows p (paired keys values.items)))
 
 -- a child at its turn, when more may be placed
 pub record KidTurn (old new : Contents) (ks : List Bytes) (xs : List OwnChild) (i : ℕ) (rs : Rows)

@@ -1,5 +1,6 @@
 //! A text as JSON: in quotes, and escaped.
-ghost use Rattle.std.specs.Prelude.{◌≡◌, [], ◌∷◌, ◌++◌, IfOk, OnOk};
+ghost use Rattle.std.specs.Prelude.{◌≡◌, [], ◌∷◌, ◌++◌, IfOk, OnErr, OnOk};
+ghost use mathlib.Core.List.{IsPrefix};
 ghost use Rattle.json.specs.Print.{print};
 ghost use Rattle.json.specs.Token.{string};
 ghost use Rattle.push_body.specs.Bodies.{quoted};
@@ -9,10 +10,11 @@ use json::Writer;
 use std::alloc::{AllocError, Global};
 
 /// Appends a text as JSON, in quotes and escaped (RFC 8259, section 7). A text without a quote, a backslash or a
-/// control character is copied as it stands. What the buffer has after an error is not told.
+/// control character is copied as it stands. After an error the buffer begins with what it had.
 #[inline(always)]
 pub fn push_quoted(out: &mut Vec<u8>, text: &str) -> Result<(), AllocError>
-    ensures { OnOk result (out.new.items ≡ out.old.items ++ quoted text.now) }
+    ensures all { OnOk result (out.new.items ≡ out.old.items ++ quoted text.now) }
+    ensures kept { OnErr result (IsPrefix out.old.items out.new.items) }
 {
     if !is_plain(text.as_bytes()) {
         let token = escaped(*out.allocator(), text)?;

@@ -3,14 +3,14 @@
 //! The type's invariant is that the head's stamp spells a version and the root's stamp the map of it (`IsRead`), and
 //! that a node may be looked for at either. Contracts see the version, which no call changes, and what is known to be
 //! placed, which may grow with each call, also with one that stops.
-ghost use Rattle.std.specs.Prelude.{◌≡◌, ◌⊎◌, ◌==◌, length, Some, IfOk, IfErr, OnOk, IsSome};
+ghost use Rattle.std.specs.Prelude.{◌≡◌, ◌⊎◌, ◌==◌, length, Some, IfOk, IfErr, OnErr, OnOk, IsSome};
 ghost use mathlib.Core.List.{IsPrefix};
 ghost use Rattle.std.specs.FinMap as finite;
 ghost use Rattle.group_history.specs.Refs.{stamp_of};
 ghost use Rattle.group_history.specs.Scans.{rows_of};
 ghost use Rattle.group_history.specs.Spelling.{Version, map_at, version_at};
 ghost use Rattle.map_chunks.specs.Places.{Grows};
-ghost use Rattle.map_chunks.specs.Sinks.{HasMore};
+ghost use Rattle.map_chunks.specs.Sinks.{HasMore, HasBegun};
 ghost use Rattle.group_history.specs.declared.mutators.Stop.TheVariants.{NoMemory};
 
 use commit_graph::{Nodes, closed_of, cookie_of, read_root, walk};
@@ -124,9 +124,10 @@ impl<N: Nodes> ReadTx<N> {
     }
 
     /// Gives the pairs that the scan asks for to the sink, in the order of their keys, each by reference.
-    /// Where it stops, the sink may have some of them.
+    /// Where it stops, the sink has a beginning of them.
     pub fn scan_into<S: TakesRows>(&mut self, scan: &Scan, sink: &mut S) -> Result<(), Stop>
         ensures rows { OnOk result (HasMore S.has sink.old sink.new (rows_of scan.now self.old.version.read)) }
+        ensures begun { OnErr result (HasBegun S.has sink.old sink.new (rows_of scan.now self.old.version.read)) }
         ensures same { self.new.version ≡ self.old.version }
         ensures grown { IsPrefix self.old.contents self.new.contents }
         ensures stopped { IfErr result (λ stop. (stop ≡ NoMemory) ⊎ N.stops stop) }

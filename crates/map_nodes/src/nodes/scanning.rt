@@ -1,11 +1,11 @@
 //! Scans of a draft's chunks.
-ghost use Rattle.std.specs.Prelude.{◌≡◌, ◌⊎◌, length, T, IfErr, IfOk};
+ghost use Rattle.std.specs.Prelude.{◌≡◌, ◌⊎◌, length, T, IfErr};
 ghost use Rattle.group_history.specs.Rows.{rises, paired};
 ghost use Rattle.group_history.specs.declared.mutators.Stop.TheVariants.{NoMemory};
 ghost use Rattle.map_chunks.specs.Places.{Grows, AreAll, places_of};
 ghost use Rattle.map_nodes.specs.Inside.Freezing.{child_places, kids_places};
 ghost use Rattle.map_chunks.specs.Shown.{shown, IsTree, rows_or};
-ghost use Rattle.map_chunks.specs.Scanning.{taken, Took, IsLow};
+ghost use Rattle.map_chunks.specs.Scanning.{taken, Gave, IsLow};
 ghost use Rattle.map_nodes.specs.Inside.Scanning.{kid_shown, kids_shown};
 
 use super::{Body, OwnChild, OwnNode};
@@ -23,7 +23,7 @@ struct Below<'a> {
 
 impl OwnNode {
     /// Takes the scan's rows of the chunk, and answers the room that is left. Stops for want of memory, or as
-    /// the store does; what was taken by then stays with the sink.
+    /// the store does; the sink has then a beginning of these rows.
     #[cycle(own)]
     pub fn scan<C: Chunks, S: TakesRows>(
         &self,
@@ -37,8 +37,8 @@ impl OwnNode {
         requires tree { IsTree (shown (C.contents chunks.old) self.now.pieces) }
         requires low { IsLow scan.now low.now }
         ensures grown { Grows C.contents C.places chunks.old chunks.new }
-        ensures rows { IfOk result (λ after. Took S.has sink.old sink.new room after
-            (taken scan.now room (rows_or (shown (C.contents chunks.old) self.now.pieces)))) }
+        ensures rows { Gave S.has sink.old sink.new room result
+            (taken scan.now room (rows_or (shown (C.contents chunks.old) self.now.pieces))) }
         ensures stopped { IfErr result (λ s. (s ≡ NoMemory) ⊎ C.stops s) }
     {
         match &self.body {
@@ -72,9 +72,9 @@ fn scan_kids<C: Chunks, S: TakesRows>(
     requires tree { IsTree (kids_shown (C.contents chunks.old) (paired below.firsts.now below.kids.now)) }
     requires low { IsLow scan.now low.now }
     ensures grown { Grows C.contents C.places chunks.old chunks.new }
-    ensures rows { IfOk result (λ after. Took S.has sink.old sink.new room after
+    ensures rows { Gave S.has sink.old sink.new room result
         (taken scan.now room (rows_or (kids_shown (C.contents chunks.old)
-        (paired below.entry.firsts.now below.entry.kids.now))))) }
+        (paired below.entry.firsts.now below.entry.kids.now)))) }
     ensures stopped { IfErr result (λ s. (s ≡ NoMemory) ⊎ C.stops s) }
 {
     if below.firsts.is_empty() {
@@ -103,8 +103,8 @@ fn scan_kid<C: Chunks, S: TakesRows>(
     requires tree { IsTree (kid_shown (C.contents chunks.old) kid.now) }
     requires low { IsLow scan.now low.now }
     ensures grown { Grows C.contents C.places chunks.old chunks.new }
-    ensures rows { IfOk result (λ after. Took S.has sink.old sink.new room after
-        (taken scan.now room (rows_or (kid_shown (C.contents chunks.old) kid.now)))) }
+    ensures rows { Gave S.has sink.old sink.new room result
+        (taken scan.now room (rows_or (kid_shown (C.contents chunks.old) kid.now))) }
     ensures stopped { IfErr result (λ s. (s ≡ NoMemory) ⊎ C.stops s) }
 {
     match kid {

@@ -1,9 +1,9 @@
 //! Scans of a map.
-ghost use Rattle.std.specs.Prelude.{◌≡◌, ◌⊎◌, Some, IfOk, IfErr, OnOk, IsSome};
+ghost use Rattle.std.specs.Prelude.{◌≡◌, ◌⊎◌, Some, IfOk, IfErr, OnErr, OnOk, IsSome};
 ghost use Rattle.group_history.specs.Map.{Entries};
 ghost use Rattle.group_history.specs.Scans.{rows_of};
 ghost use Rattle.group_history.specs.declared.mutators.Stop.TheVariants.{NoMemory};
-ghost use Rattle.map_chunks.specs.Sinks.{HasMore};
+ghost use Rattle.map_chunks.specs.Sinks.{HasMore, HasBegun};
 ghost use Rattle.map_chunks.specs.Places.{Grows, AreAll};
 ghost use Rattle.map_tree.specs.Trees.{tree_places, tree_map};
 
@@ -34,7 +34,7 @@ impl Tree {
     }
 
     /// Gives the pairs that the scan asks for to the sink, in the order of their keys. No pair is copied.
-    /// Stops for want of memory, which only the sink takes, or as the store does; the sink may then have some
+    /// Stops for want of memory, which only the sink takes, or as the store does; the sink has then a beginning
     /// of the pairs.
     pub fn scan_into<C: Chunks, S: TakesRows>(
         &self,
@@ -47,6 +47,8 @@ impl Tree {
         ensures grown { Grows C.contents C.places chunks.old chunks.new }
         ensures rows { (m : Entries) → tree_map (C.contents chunks.old) self.now ≡ Some m
             → OnOk result (HasMore S.has sink.old sink.new (rows_of scan.now m)) }
+        ensures begun { (m : Entries) → tree_map (C.contents chunks.old) self.now ≡ Some m
+            → OnErr result (HasBegun S.has sink.old sink.new (rows_of scan.now m)) }
         ensures stopped { IfErr result (λ s. (s ≡ NoMemory) ⊎ C.stops s) }
     {
         let low = lowest(scan).as_str();

@@ -1,21 +1,24 @@
-use Rattle.std.proofs.Common.{[], true, ◌≡◌, ◌∙◌, ap, sym, subst, arith, length, slice_index_or, IfOk}
+use Rattle.std.proofs.Common.{[], true, ◌≡◌, ◌∙◌, ap, sym, subst, arith, length, slice_index_or}
 use Rattle.std.proofs.lemmas.List.{append-nil}
 use Rattle.group_history.specs.declared.nodes.Chunk.{Chunk}
 use Rattle.group_history.specs.declared.refs.Ref.{Ref}
 use Rattle.group_history.specs.Refs.{stamp_of}
-use Rattle.group_history.specs.Rows.{Rows, paired, keys_of, values_of}
+use Rattle.group_history.specs.Rows.{paired, keys_of, values_of}
 use Rattle.group_history.proofs.Pairs.{paired-parts}
 use Rattle.std.proofs.lemmas.List.Elements.{Contains-get_or}
 use Rattle.group_history.specs.Naming.{chunk_children}
 use Rattle.map_chunks.specs.Places.{AreAll}
 use Rattle.map_chunks.proofs.KeptLemmas.{grows_on}
-use Rattle.map_chunks.specs.Scanning.{Took, taken, is_over}
+use Rattle.map_chunks.specs.Scanning.{Took, Gave, taken, is_over}
+use Rattle.map_chunks.specs.Sinks.{HasBegun}
 use Rattle.map_chunks.specs.Inside.Scanning.{opened_rows, children_rows}
 use Rattle.map_chunks.specs.Shown.{IsTree, rows_or, chunk_rows}
 use Rattle.map_chunks.proofs.OpenLemmas.{known, tree_of}
 use Rattle.map_chunks.proofs.SearchLemmas.{length-keys_of, length-values_of}
 use Rattle.map_chunks.proofs.ScanLemmas.{got_any, ref_rows, refs_known, ref_turn, top, chunk_top, pairs_begun}
-use Rattle.map_chunks.proofs.ScanLemmas.{pairs_over, pairs_child, pairs_all, opened_is, chunk_rows-kept}
+use Rattle.map_chunks.proofs.ScanLemmas.{pairs_over, pairs_child, pairs_all, opened_is, chunk_rows-kept, turn_stopped}
+use Rattle.map_chunks.proofs.ScanLemmas.{leaf_opened}
+use Rattle.map_chunks.proofs.TakenLemmas.{gave_begun}
 use Rattle.map_chunks.proofs.scanning.+placed.Goals as goal
 
 pub scan_children-loop-place-init : goal.scan_children-loop-place-init
@@ -107,6 +110,26 @@ scan_children-loop-place-preserved g t c =
           c.in_ok-left.ensures.rows);
     }
 
+pub scan_children-returns-in_err-left-clause-rows : goal.scan_children-returns-in_err-left-clause-rows
+scan_children-returns-in_err-left-clause-rows g t c =
+    let p = g.C.Chunks.contents c.args.chunks.now in
+    let r = c.requires.1.1.1.1.1.1 in
+    let n = refs_known p c.args.below.firsts.now c.args.below.children.now r.1.1.0 in
+    let at = slice_index_or c.args.below.children.now c.loop-place.place (record { bits = 0 }) in
+    let u = ref_turn p (g.C.Chunks.contents c.loop-place.chunks) c.args.below.firsts.now c.args.below.children.now
+    c.loop-place.place at c.loop-place.invariant.grown.0 r.1.0 n c.loop-place-test.true
+    (got_any c.args.below.children.now c.loop-place.place (record { bits = 0 }) at
+    (omega (arith, r.1.0, c.loop-place-test.true))) in
+    gave_begun g.S.TakesRows.has c.args.sink.now c.scan_placed.new.sink c.args.room c.from_residual.result _ _
+    c.from_residual.ensures.1
+    (subst (λ w. HasBegun g.S.TakesRows.has c.args.sink.now c.scan_placed.new.sink
+    (taken c.args.scan.now c.args.room (rows_or w))) (sym n.is)
+    (turn_stopped (ref_rows p) (paired c.args.below.firsts.now c.args.below.children.now) c.loop-place.place n.rows
+    c.args.scan.now g.S.TakesRows.has c.args.sink.now c.loop-place.sink c.scan_placed.new.sink c.args.room
+    c.loop-place.left u.turn c.loop-place.invariant.rows
+    (subst (λ w. HasBegun g.S.TakesRows.has c.loop-place.sink c.scan_placed.new.sink
+    (taken c.args.scan.now c.loop-place.left (rows_or w))) u.rows_are c.in_err-left.ensures.rows)))
+
 pub scan_children-returns-clause-rows : goal.scan_children-returns-clause-rows
 scan_children-returns-clause-rows g t c =
     let p = g.C.Chunks.contents c.args.chunks.now in
@@ -119,15 +142,22 @@ scan_children-returns-clause-rows g t c =
 
 pub scan_chunk-returns-in-Leaf-clause-rows : goal.scan_chunk-returns-in-Leaf-clause-rows
 scan_chunk-returns-in-Leaf-clause-rows g t c =
-    let p = g.C.Chunks.contents c.args.chunks.now in
-    let rows : Rows = c.in-Leaf.leaf in
-    let keys : c.as_slice.result.now ≡ keys_of rows = c.as_slice.ensures.keys ∙ c.deref.ensures ∙ c.keys.ensures.keys in
-    let values : c.values.result.now ≡ values_of rows = c.values.ensures in
     subst (λ w. Took g.S.TakesRows.has c.args.sink.now c.scan_rows.new.sink c.args.room c.in_ok-left-in-Leaf.left
     (taken c.args.scan.now c.args.room w))
-    (ap (λ w. paired w c.values.result.now) keys ∙ ap (λ w. paired (keys_of rows) w) values ∙ paired-parts rows
-    ∙ ap (λ (ch : Chunk Ref). rows_or (opened_rows p ch)) (sym c.in-Leaf.is))
+    (leaf_opened (g.C.Chunks.contents c.args.chunks.now) c.args.chunk.now c.in-Leaf.leaf c.as_slice.result.now
+    c.values.result.now c.in-Leaf.is (c.as_slice.ensures.keys ∙ c.deref.ensures ∙ c.keys.ensures.keys)
+    c.values.ensures)
     c.in_ok-left-in-Leaf.ensures
+
+pub scan_chunk-returns-in_err-left-in-Leaf-clause-rows : goal.scan_chunk-returns-in_err-left-in-Leaf-clause-rows
+scan_chunk-returns-in_err-left-in-Leaf-clause-rows g t c =
+    let opened = leaf_opened (g.C.Chunks.contents c.args.chunks.now) c.args.chunk.now c.in-Leaf.leaf
+    c.as_slice.result.now c.values.result.now c.in-Leaf.is
+    (c.as_slice.ensures.keys ∙ c.deref.ensures ∙ c.keys.ensures.keys) c.values.ensures in
+    gave_begun g.S.TakesRows.has c.args.sink.now c.scan_rows.new.sink c.args.room c.from_residual.result _ _
+    c.from_residual.ensures.1
+    (subst (λ w. HasBegun g.S.TakesRows.has c.args.sink.now c.scan_rows.new.sink
+    (taken c.args.scan.now c.args.room w)) opened c.in_err-left-in-Leaf.ensures)
 
 pub scan_chunk-scan_children-requires : goal.scan_chunk-scan_children-requires
 scan_chunk-scan_children-requires g t c κs ws =
@@ -180,9 +210,8 @@ scan_chunk-returns-in-Inner-clause-rows g t c =
     let pairs : paired c.as_slice-in-Inner.result.now c.children.result.now
     ≡ kids = ap (λ w. paired w c.children.result.now) keys ∙ ap
     (λ w. paired (keys_of kids) w) children ∙ paired-parts kids in
-    subst (λ w. IfOk c.scan_children.result
-    (λ after. Took g.S.TakesRows.has c.args.sink.now c.scan_children.new.sink c.args.room after
-    (taken c.args.scan.now c.args.room (rows_or w))))
+    subst (λ w. Gave g.S.TakesRows.has c.args.sink.now c.scan_children.new.sink c.args.room c.scan_children.result
+    (taken c.args.scan.now c.args.room (rows_or w)))
     (ap (children_rows p) pairs ∙ ap (λ (ch : Chunk Ref). opened_rows p ch) (sym c.in-Inner.is))
     c.scan_children.ensures.rows
 
@@ -224,7 +253,6 @@ scan_placed-returns-clause-rows g t c =
     let n = known (chunk_rows p (stamp_of c.args.at)) r.0 in
     let o = opened_is q (stamp_of c.args.at) n.rows _
     (chunk_rows-kept p q (stamp_of c.args.at) n.rows c.show.ensures.grown.0 n.is) c.in_ok-held.ensures.content in
-    subst (λ w. IfOk c.scan_chunk-answer.result
-    (λ after. Took g.S.TakesRows.has c.args.sink.now c.scan_chunk-answer.new.sink c.args.room after
-    (taken c.args.scan.now c.args.room (rows_or w))))
+    subst (λ w. Gave g.S.TakesRows.has c.args.sink.now c.scan_chunk-answer.new.sink c.args.room
+    c.scan_chunk-answer.result (taken c.args.scan.now c.args.room (rows_or w)))
     (ap (λ (ch : Chunk Ref). opened_rows q ch) c.chunk.ensures ∙ o.rows_are ∙ sym n.is) c.scan_chunk-answer.ensures.rows

@@ -1,17 +1,18 @@
-use Rattle.std.proofs.Common.{[], true, ◌≡◌, ◌∙◌, ap, sym, subst, arith, length, slice_index_or, IfOk, T}
+use Rattle.std.proofs.Common.{[], true, ◌≡◌, ◌∙◌, ap, sym, subst, arith, length, slice_index_or, T}
 use Rattle.std.proofs.lemmas.List.{append-nil}
 use Rattle.group_history.specs.Rows.{paired, rises}
-use Rattle.map_nodes.specs.Nodes.{body_pieces, body_height, kids_height, IsNode}
+use Rattle.map_nodes.specs.Nodes.{body_height, kids_height, IsNode}
 use Rattle.map_chunks.specs.Places.{AreAll}
 use Rattle.map_nodes.specs.Inside.Freezing.{kids_places}
-use Rattle.map_chunks.specs.Scanning.{Took, taken, is_over}
+use Rattle.map_chunks.specs.Scanning.{Took, Gave, taken, is_over}
+use Rattle.map_chunks.specs.Sinks.{HasBegun}
 use Rattle.map_nodes.specs.Inside.Scanning.{kids_shown}
 use Rattle.map_chunks.specs.Shown.{Seen, rows_or, shown}
 use Rattle.map_nodes.specs.declared.nodes.Body.TheVariants.{Inner}
-use Rattle.map_nodes.proofs.NodeLemmas.{shown-rows}
 use Rattle.map_chunks.proofs.OpenLemmas.{known, tree_of}
-use Rattle.map_nodes.proofs.ScanLemmas.{shown_kid, kids_shown-is, kid_turn, kid_height}
-use Rattle.map_chunks.proofs.ScanLemmas.{got_any, pairs_begun, pairs_over, pairs_child, pairs_all}
+use Rattle.map_nodes.proofs.ScanLemmas.{shown_kid, kids_shown-is, leaf_shown, kid_turn, kid_height}
+use Rattle.map_chunks.proofs.ScanLemmas.{got_any, pairs_begun, pairs_over, pairs_child, pairs_all, turn_stopped}
+use Rattle.map_chunks.proofs.TakenLemmas.{gave_begun}
 use Rattle.map_chunks.proofs.KeptLemmas.{all_on, grows_on}
 use Rattle.map_nodes.proofs.PlaceLemmas.{kid_all, kids_may}
 use Rattle.map_nodes.proofs.nodes.+own.Goals as goal
@@ -95,6 +96,27 @@ scanning::scan_kids-loop-place-preserved g t c =
           c.in_ok-left.ensures.rows);
     }
 
+pub scanning::scan_kids-returns-in_err-left-clause-rows : goal.scanning::scan_kids-returns-in_err-left-clause-rows
+scanning::scan_kids-returns-in_err-left-clause-rows g t c =
+    let p = g.C.Chunks.contents c.args.chunks.now in
+    let r = c.requires.1.1.1.1.1.1 in
+    let n = known (kids_shown p (paired c.args.below.firsts.now c.args.below.kids.now)) r.1.1.0 in
+    let other = c.index-below-place-in-loop-place.result in
+    let kid = slice_index_or c.args.below.kids.now c.loop-place.place other in
+    let here = got_any c.args.below.kids.now c.loop-place.place other kid
+    (omega (arith, r.1.0, c.loop-place-test.true)) in
+    let u = kid_turn p (g.C.Chunks.contents c.loop-place.chunks) c.args.below.firsts.now c.args.below.kids.now
+    c.loop-place.place kid c.loop-place.invariant.grown.0 r.1.0 n c.loop-place-test.true here in
+    gave_begun g.S.TakesRows.has c.args.sink.now c.scan_kid.new.sink c.args.room c.from_residual.result _ _
+    c.from_residual.ensures.1
+    (subst (λ w. HasBegun g.S.TakesRows.has c.args.sink.now c.scan_kid.new.sink
+    (taken c.args.scan.now c.args.room (rows_or w))) (sym n.is)
+    (turn_stopped (shown_kid p) (paired c.args.below.firsts.now c.args.below.kids.now) c.loop-place.place n.rows
+    c.args.scan.now g.S.TakesRows.has c.args.sink.now c.loop-place.sink c.scan_kid.new.sink c.args.room
+    c.loop-place.left u.turn c.loop-place.invariant.rows
+    (subst (λ w. HasBegun g.S.TakesRows.has c.loop-place.sink c.scan_kid.new.sink
+    (taken c.args.scan.now c.loop-place.left (rows_or w))) u.rows_are c.in_err-left.ensures.rows)))
+
 pub scanning::scan_kids-returns-clause-rows : goal.scanning::scan_kids-returns-clause-rows
 scanning::scan_kids-returns-clause-rows g t c =
     let p = g.C.Chunks.contents c.args.chunks.now in
@@ -108,15 +130,24 @@ scanning::scan_kids-returns-clause-rows g t c =
 pub OwnNode::scan-returns-in-Leaf-clause-rows : goal.OwnNode::scan-returns-in-Leaf-clause-rows
 OwnNode::scan-returns-in-Leaf-clause-rows g t c =
     let p = g.C.Chunks.contents c.args.chunks.now in
-    let pieces = ap (body_pieces c.self.inside.depth c.self.inside.keys.texts) (sym c.in-Leaf.is) ∙ ap
-    (λ (s : Seen). s.pieces) c.self.view_is in
     subst (λ w. Took g.S.TakesRows.has c.args.sink.now c.scan_rows.new.sink c.args.room c.in_ok-left-in-Leaf.left
     (taken c.args.scan.now c.args.room w))
-    (ap (λ w. paired w c.deref.result.now) c.as_slice.ensures
-    ∙ ap (λ w. paired c.self.inside.keys.texts w) c.deref.ensures.value
-    ∙ ap rows_or
-    (sym (ap (shown p) (sym pieces) ∙ shown-rows p (paired c.self.inside.keys.texts c.in-Leaf.values.items))))
+    (leaf_shown p c.self.inside.depth c.self.inside.keys.texts c.self.inside.body c.in-Leaf.values
+    c.args.self.now.pieces c.as_slice.result.now c.deref.result.now c.in-Leaf.is
+    (ap (λ (s : Seen). s.pieces) c.self.view_is) c.as_slice.ensures c.deref.ensures.value)
     c.in_ok-left-in-Leaf.ensures
+
+pub OwnNode::scan-returns-in_err-left-in-Leaf-clause-rows : goal.OwnNode::scan-returns-in_err-left-in-Leaf-clause-rows
+OwnNode::scan-returns-in_err-left-in-Leaf-clause-rows g t c =
+    let p = g.C.Chunks.contents c.args.chunks.now in
+    gave_begun g.S.TakesRows.has c.args.sink.now c.scan_rows.new.sink c.args.room c.from_residual.result _ _
+    c.from_residual.ensures.1
+    (subst (λ w. HasBegun g.S.TakesRows.has c.args.sink.now c.scan_rows.new.sink
+    (taken c.args.scan.now c.args.room w))
+    (leaf_shown p c.self.inside.depth c.self.inside.keys.texts c.self.inside.body c.in-Leaf.values
+    c.args.self.now.pieces c.as_slice.result.now c.deref.result.now c.in-Leaf.is
+    (ap (λ (s : Seen). s.pieces) c.self.view_is) c.as_slice.ensures c.deref.ensures.value)
+    c.in_err-left-in-Leaf.ensures)
 
 pub OwnNode::scan-scan_kids-requires : goal.OwnNode::scan-scan_kids-requires
 OwnNode::scan-scan_kids-requires g t c κs ws =
@@ -178,7 +209,6 @@ OwnNode::scan-returns-in-Inner-clause-rows g t c =
     ≡ kids_shown p (paired c.self.inside.keys.texts c.in-Inner.kids.items) =
     ap (λ w. kids_shown p (paired w c.deref-in-Inner.result.now)) c.as_slice-in-Inner.ensures ∙ ap
     (λ w. kids_shown p (paired c.self.inside.keys.texts w)) c.deref-in-Inner.ensures.value in
-    subst (λ w. IfOk c.scan_kids.result
-    (λ after. Took g.S.TakesRows.has c.args.sink.now c.scan_kids.new.sink c.args.room after
-    (taken c.args.scan.now c.args.room (rows_or w))))
+    subst (λ w. Gave g.S.TakesRows.has c.args.sink.now c.scan_kids.new.sink c.args.room c.scan_kids.result
+    (taken c.args.scan.now c.args.room (rows_or w)))
     (pairs ∙ k ∙ sym n.is) c.scan_kids.ensures.rows
