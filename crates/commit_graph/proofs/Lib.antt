@@ -5,7 +5,7 @@ pub mod Chained
 mod Rising
 pub mod Few
 mod Findings
-mod Reached
+pub mod Reached
 mod Listing
 mod Leaving
 mod Lent

@@ -9,7 +9,7 @@ ghost use Rattle.group_history.specs.Spelling.{segment_at, map_at};
 ghost use Rattle.group_history.specs.declared.nodes.Chunk.{Chunk as Chunked};
 ghost use Rattle.group_history.specs.declared.refs.Ref.{Ref as Reference};
 ghost use Rattle.map_chunks.specs.Places.{Grows, IfAt};
-ghost use Rattle.commit_graph.specs.Inside.Gaps.{IsTops, HasGap};
+ghost use Rattle.commit_graph.specs.Inside.Gaps.{IsTops, IsBetween, HasGap};
 ghost use Rattle.commit_graph.specs.Inside.Meeting.{LiesChunk};
 
 use group_history::{Chunk, Ref, Stop};
@@ -24,7 +24,7 @@ pub struct Gap {
 
 impl Gap {
     pub fn has(self, at: Ref) -> bool
-        ensures { IsTrue result → (self.low < stamp_of at) × (stamp_of at ≤ self.high) }
+        ensures { IsTrue result → IsBetween self (stamp_of at) }
     {
         let stamp = at.stamp();
         self.low < stamp && stamp <= self.high

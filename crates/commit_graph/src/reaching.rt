@@ -35,29 +35,35 @@ fn ref_in(found: Found) -> Ref
     }
 }
 
+/// What both walks pass over: what a root keeps, and a gap in it.
+#[derive(Clone, Copy)]
+struct Part {
+    root: Ref,
+    gap: Gap,
+}
+
 // One node of a walk: where the root keeps it, it is passed over with all below it.
 fn visit<N: Nodes>(
     nodes: &mut N,
-    root: Ref,
-    gap: Gap,
+    part: Part,
     frontier: &mut Frontier,
     listed: &mut Vec<Ref>,
     at: Found,
 ) -> Result<(), Stop>
-    requires root { IsSome (map_at (N.contents nodes.old) (stamp_of root)) }
-    requires gap { HasGap (N.contents nodes.old) (stamp_of root) gap }
-    requires places { N.places nodes.old root × N.places nodes.old (ref_in at) }
+    requires root { IsSome (map_at (N.contents nodes.old) (stamp_of part.root)) }
+    requires gap { HasGap (N.contents nodes.old) (stamp_of part.root) part.gap }
+    requires places { N.places nodes.old part.root × N.places nodes.old (ref_in at) }
     requires found { IsSpelled (N.contents nodes.old) at }
     ensures grown { Grows N.contents N.places nodes.old nodes.new }
-    ensures visited { OnOk result ((Reaches (N.contents nodes.new) (stamp_of root) (stamp_in at)
+    ensures visited { OnOk result ((Reaches (N.contents nodes.new) (stamp_of part.root) (stamp_in at)
         × (frontier.new ≡ frontier.old) × (listed.new.items ≡ listed.old.items))
-        ⊎ ((n : Noded Reference) × (Reaches (N.contents nodes.new) (stamp_of root) (stamp_in at) → ⊥)
+        ⊎ ((n : Noded Reference) × (Reaches (N.contents nodes.new) (stamp_of part.root) (stamp_in at) → ⊥)
         × AreAll (N.places nodes.new) (children n)
         × (slice_get (N.contents nodes.new) (stamp_in at) ≡ Some (content_of n))
         × Adds frontier.old (found_in n) frontier.new × (listed.new.items ≡ listed.old.items ++ ref_in at ∷ []))) }
     ensures stopped { IfErr result (λ stop. (stop ≡ NoMemory) ⊎ N.stops stop) }
 {
-    if is_kept(nodes, root, gap, at)? {
+    if is_kept(nodes, part.root, part.gap, at)? {
         return Ok(());
     }
     look(nodes, frontier, at)?;
@@ -80,33 +86,25 @@ fn reachable<N: Nodes>(
     alloc: Global,
     nodes: &mut N,
     head: Ref,
-    root: Ref,
-    gap: Gap,
+    part: Part,
 ) -> Result<Vec<Ref>, Stop>
     requires head { IsSome (version_at (N.contents nodes.old) (stamp_of head)) }
-    requires places { N.places nodes.old head × N.places nodes.old root }
-    requires gap { HasGap (N.contents nodes.old) (stamp_of root) gap }
-    requires root { IsSome (map_at (N.contents nodes.old) (stamp_of root)) }
+    requires places { N.places nodes.old head × N.places nodes.old part.root }
+    requires gap { HasGap (N.contents nodes.old) (stamp_of part.root) part.gap }
+    requires root { IsSome (map_at (N.contents nodes.old) (stamp_of part.root)) }
     ensures grown { Grows N.contents N.places nodes.old nodes.new }
     ensures exact { IfOk result (λ xs. (x : ℕ)
-        → Contains (stamps_of xs.items) x ↔ IsDropped (N.contents nodes.new) (stamp_of head) (stamp_of root) x) }
+        → Contains (stamps_of xs.items) x ↔ IsDropped (N.contents nodes.new) (stamp_of head) (stamp_of part.root) x) }
     ensures once { IfOk result (λ xs. Falls (stamps_of xs.items)) }
     ensures places { IfOk result (λ xs. AreAll (N.places nodes.new) xs.items) }
     ensures stopped { IfErr result (λ stop. (stop ≡ NoMemory) ⊎ N.stops stop) }
 {
-    let mut frontier = begun(alloc, head, root)?;
+    let mut frontier = begun(alloc, head, part.root)?;
     let mut listed = Vec::new(alloc);
     while let Some(at) = frontier.pop() {
-        visit(nodes, root, gap, &mut frontier, &mut listed, at)?;
+        visit(nodes, part, &mut frontier, &mut listed, at)?;
     }
     Ok(listed)
-}
-
-/// What both walks pass over: what a root keeps, and a gap in it.
-#[derive(Clone, Copy)]
-struct Part {
-    root: Ref,
-    gap: Gap,
 }
 
 // The new head's pulled map, with a gap up to the old head.
@@ -142,8 +140,8 @@ pub fn dropped<N: Nodes>(alloc: Global, nodes: &mut N, old: Ref, new: Ref) -> Re
     ensures stopped { IfErr result (λ stop. (stop ≡ NoMemory) ⊎ N.stops stop) }
 {
     let part = kept_part(nodes, old, new)?;
-    let kept = reachable(alloc, nodes, new, part.root, part.gap)?;
-    let before = reachable(alloc, nodes, old, part.root, part.gap)?;
+    let kept = reachable(alloc, nodes, new, part)?;
+    let before = reachable(alloc, nodes, old, part)?;
     let left = without(alloc, &before, &kept)?;
     Ok(left)
 }

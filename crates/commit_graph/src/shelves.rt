@@ -1,5 +1,6 @@
 //! The commits of a vector of nodes.
 ghost use Rattle.group_history.specs.declared.nodes.Commit.{Commit as Committed};
+ghost use Rattle.commit_graph.specs.Inside.Kinds.{lent_commit};
 
 use crate::nodes::{Nodes, ShowsCommit};
 use group_history::{Commit, Node, Ref, Stop};
@@ -12,7 +13,7 @@ pub struct LentCommit<'a> {
 }
 
 impl<'a> ShowsCommit for LentCommit<'a> {
-    ghost shown = { λ lent. lent.commit.now };
+    ghost shown = { lent_commit };
 
     fn commit(&self) -> &Commit<Ref> {
         self.commit

@@ -13,6 +13,10 @@ pub record IsTops (rs : List Ref) (t : Tops) : Type 0 where
   pub one : (r : Ref) → t.top ≡ Some r → Contains rs r
   pub others : (r : Ref) → Contains rs r → (t.top ≡ Some r) ⊎ (stamp_of r ≤ t.second)
 
+-- a stamp between the two numbers of a gap
+abbrev pub IsBetween : Gap → ℕ → Type 0
+IsBetween g x = (g.low < x) × (x ≤ g.high)
+
 -- a root reaches nothing between
 abbrev pub HasGap : Contents → ℕ → Gap → Type 0
 HasGap ns root g = (x : ℕ) → Reaches ns root x → (x ≤ g.low) ⊎ (g.high < x)

@@ -10,6 +10,11 @@ use Rattle.group_history.specs.declared.nodes.Node.TheVariants as node
 use Rattle.group_history.specs.declared.refs.Ref.{Ref}
 use Rattle.group_history.specs.Cookies.{null_cookie}
 use Rattle.head_word.specs.Books.{nowhere}
+use Rattle.commit_graph.specs.declared.shelves.LentCommit.{LentCommit}
+
+-- the commit of a vector that is being shown
+abbrev pub lent_commit : LentCommit → Commit Ref
+lent_commit lent = lent.commit.now
 
 abbrev pub is_chunk : Node Ref → Bool
 is_chunk (node.Chunk c) = true

@@ -17,7 +17,7 @@ use Rattle.commit_graph.proofs.reaching.reachable.Goals as goal
 pub loop-at-init : goal.loop-at-init
 loop-at-init g c =
     let m = g.N.Chunks.contents c.args.nodes.now in
-    let root = stamp_of c.args.root in
+    let root = stamp_of c.args.part.root in
     let v = some_version m (stamp_of c.args.head) c.requires.head in
     let may = g.N.Chunks.places c.args.nodes.now in
     subst (λ (w : List Ref). IsListing may may m m c.args.head root w c.in_ok-frontier.frontier)
@@ -51,7 +51,7 @@ pub loop-at-preserved : goal.loop-at-preserved
 loop-at-preserved g c =
     let m = g.N.Chunks.contents in
     let was = g.N.Chunks.places c.args.nodes.now in let may = g.N.Chunks.places c.visit.new.nodes in
-    let first = m c.args.nodes.now in let two = m c.visit.new.nodes in let root = stamp_of c.args.root in
+    let first = m c.args.nodes.now in let two = m c.visit.new.nodes in let root = stamp_of c.args.part.root in
     let now = listing_grown was (g.N.Chunks.places c.loop-at.nodes) may first
     (m c.loop-at.nodes) two c.args.head root c.loop-at.listed.items c.loop-at.frontier c.loop-at.invariant
     c.visit.ensures.grown.0 c.visit.ensures.grown.1 in
@@ -71,12 +71,12 @@ returns-clause-exact g c =
     let m = g.N.Chunks.contents in
     let was = g.N.Chunks.places c.args.nodes.now in let may = g.N.Chunks.places c.loop-at.nodes in
     listing_ends was may (m c.args.nodes.now) (m c.loop-at.nodes) c.args.head
-    (stamp_of c.args.root) c.loop-at.listed.items
+    (stamp_of c.args.part.root) c.loop-at.listed.items
     c.loop-at.frontier c.loop-at.invariant c.in_default.ensures.none
 
 pub visit-requires-clause-places : goal.visit-requires-clause-places
 visit-requires-clause-places g c = (
-  c.loop-at.invariant.wider c.args.root c.requires.places.1,
+  c.loop-at.invariant.wider c.args.part.root c.requires.places.1,
   c.loop-at.invariant.places_ahead c.in-Some.at
       (subst (λ (w : List Found). Contains w c.in-Some.at) (sym c.in-Some.ensures.some)
       (Contains-append_right c.pop.new.self.ahead (c.in-Some.at ∷ []) c.in-Some.at (one_here c.in-Some.at))),
@@ -85,7 +85,7 @@ visit-requires-clause-places g c = (
 pub visit-requires-clause-gap : goal.visit-requires-clause-gap
 visit-requires-clause-gap g c x r =
     let m = g.N.Chunks.contents in
-    c.requires.gap x ((kept_grown (m c.args.nodes.now) (m c.loop-at.nodes) (stamp_of c.args.root) x c.requires.root
+    c.requires.gap x ((kept_grown (m c.args.nodes.now) (m c.loop-at.nodes) (stamp_of c.args.part.root) x c.requires.root
     c.loop-at.invariant.grown).1 r)
 
 pub returns-in_err-visit-clause-grown : goal.returns-in_err-visit-clause-grown

@@ -14,7 +14,7 @@ look-requires-clause-found g c = let m = g.N.Chunks.contents in
 pub returns-clause-visited : goal.returns-clause-visited
 returns-clause-visited g c =
     let m = g.N.Chunks.contents in let a = c.in_ok-look.ensures.added in
-    let root = stamp_of c.args.root in let at = stamp_in c.args.at in
+    let root = stamp_of c.args.part.root in let at = stamp_in c.args.at in
     let both = kept_grown (m c.is_kept.new.nodes) (m c.look.new.nodes) root at
     (map_some_stays (m c.args.nodes.now) (m c.is_kept.new.nodes) root c.is_kept.ensures.grown.0 c.requires.root)
     c.look.ensures.grown.0 in
