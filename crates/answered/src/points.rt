@@ -6,7 +6,7 @@ ghost use Rattle.group_history.specs.State.{State};
 ghost use Rattle.head_word.specs.Books.{drawn, record_of, last_move, Follows};
 ghost use Rattle.head_word.specs.Marks.{others, own};
 ghost use Rattle.answered.specs.Answered.{IsPoint, own_moves};
-ghost use Rattle.answered.specs.Trying.{IsBase, IsWon};
+ghost use Rattle.answered.specs.Trying.{IsBase, IsMove, IsWon};
 
 use group_history::{Change, Means, Ref};
 use head_word::{Head, Mark, Moved};
@@ -46,6 +46,7 @@ pub fn publish_at<M: Means>(
     ensures seen { IsPrefix mark.old.log mark.new.log }
     ensures won { (s : State) → IsBase M.means mark.old base s
         → IfOk result (λ _. IsWon M.means mark.old mark.new change.now s) }
+    ensures goes { IfOk result (λ _. IsMove mark.old mark.new base new change.now) }
     ensures own { IfErr result (λ _. own_moves mark.new ≡ own_moves mark.old) }
     ensures moved { IfErr result (λ _. last_move mark.new.log ≢ base) }
 {

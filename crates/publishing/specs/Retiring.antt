@@ -4,6 +4,7 @@ use Rattle.std.specs.Prelude.{◌≡◌, ℕ, ◌<◌, ◌≤◌, ◌⊎◌, Lis
 use Rattle.group_history.specs.declared.refs.Ref.{Ref}
 use Rattle.group_history.specs.Refs.{slot_of}
 use Rattle.reader_claims.specs.declared.view.View.{View}
+use Rattle.reader_claims.specs.Machine.{Moves}
 use Rattle.reader_claims.specs.Passes.{Raises, IsRetired}
 use Rattle.chunk_slots.specs.Seats.{IsAtEnd, IsRaised}
 use Rattle.answered.specs.declared.trying.Published.{Published}
@@ -37,6 +38,12 @@ SettlesAll v ats u = (u.settled ≡ map slot_of (reverse ats) ++ v.settled) × (
 -- what was settled since v was retired in the end
 abbrev pub GivesUp : ℕ → View → View → Type 0
 GivesUp slots v u = (ats : List Ref) × (w : View) × SettlesAll v ats w × Retires slots w ats u
+
+-- From v to u the seat retired only what it had settled in that time: so it goes where tries are lost.
+pub data GivesBack (slots : ℕ) : View → View → Type 0 where
+  none : (v : View) → GivesBack slots v v
+  kept : (v w u : View) → GivesBack slots v w → Moves w u → u.retired ≡ w.retired → GivesBack slots v u
+  tried : (v w u : View) → GivesBack slots v w → Moves w u → GivesUp slots w u → GivesBack slots v u
 
 -- Of the references of a draft, and of those that the old head alone reaches, these are needed no more
 abbrev pub unneeded : Published → List Ref → List Ref → List Ref

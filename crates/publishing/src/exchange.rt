@@ -1,11 +1,13 @@
 //! What becomes of a draft that was placed: the head is moved to it, or it is given up.
 ghost use Rattle.std.specs.Prelude.{◌≡◌, []};
 ghost use Rattle.std.specs.List.{All};
-ghost use Rattle.group_history.specs.Refs.{slot_of};
+ghost use Rattle.group_history.specs.Refs.{slot_of, stamp_of};
 ghost use Rattle.head_word.specs.Books.{drawn, Follows};
 ghost use Rattle.reader_claims.specs.Lists.{In};
 ghost use Rattle.reader_claims.specs.Machine.{Moves};
-ghost use Rattle.answered.specs.Trying.{Ends};
+ghost use Rattle.answered.specs.Trying.{Ends, IsMove};
+ghost use Rattle.answered.specs.declared.trying.Published.TheVariants as published;
+ghost use Rattle.commit_graph.specs.Reach.{IsDropped};
 ghost use Rattle.commit_graph.specs.Seats.{IsSeatOf, IsSameSeat};
 ghost use Rattle.publishing.specs.Retiring.{Retires, unneeded};
 
@@ -39,8 +41,12 @@ where
     requires none { S.reused → seat.old.view.taken ≡ [] }
     requires settled { S.reused → All (λ at. In seat.old.view.settled (slot_of at)) to.now.refs.now }
     requires follows { Follows M.means (drawn seat.old.mark.log) to.now.base to.now.new to.now.change.now }
+    requires left { All (λ at. IsDropped (drawn seat.old.mark.log) (stamp_of to.now.base) (stamp_of to.now.new)
+        (stamp_of at)) left.now }
     ensures seat { IsSameSeat seat.old seat.new }
     ensures ends { Ends M.means seat.old.mark seat.new.mark to.now.base to.now.change.now result }
+    ensures goes { result ≡ published.Won
+        → IsMove seat.old.mark seat.new.mark to.now.base to.now.new to.now.change.now }
     ensures none { S.reused → seat.new.view.taken ≡ [] }
     ensures moves { S.reused → Moves seat.old.view seat.new.view }
     ensures retired { S.reused → Retires shared.now.table.sizes.slots seat.old.view
