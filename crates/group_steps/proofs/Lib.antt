@@ -4,3 +4,5 @@ pub mod Finding
 pub mod Making
 pub mod Rooting
 pub mod Trying
+pub mod Stopping
+pub mod Giving

@@ -30,6 +30,8 @@ use Rattle.commit_graph.specs.LastIds.{last_in, last_at}
 use Rattle.commit_graph.proofs.Few.{last_id-small}
 use Rattle.answered.specs.Answered.{IsPoint, IsRefused, IsLeft, Answers, is_move, is_want, own_moves}
 use Rattle.answered.specs.Trying.{IsBase, IsUnproposed}
+use Rattle.group_steps.specs.Missing.{IsStop}
+use Rattle.group_steps.proofs.Stopping.{stop_wants}
 use Rattle.group_steps.specs.Arriving.{IsArrived, when_seen}
 use Rattle.group_steps.specs.Proposing.{IsUnmade}
 
@@ -71,11 +73,12 @@ arrived means old mid new log base first is number at last spelled drawn more ow
     by_number = ap (λ (s : Option ℕ). own_of s mid.log) number
 
 -- a refusal of what was proposed at a point is answered there
-unproposed : {X : Type 0} (means : Meanings) (tries : ℕ) (old new : Known) (e : Refusal)
+unproposed : {X : Type 0} (reused : Type 0) (means : Meanings) (tries : ℕ) (old new : Known) (e : Refusal)
     (change : Result X Refusal → Option Change) (right : State → Result X Refusal) (log : List Entry)
-    → IsPoint means old new None log → change (Err e) ≡ None → IsUnproposed change (right (after (record_of log))) e
+    → IsPoint means old new None log → change (Err e) ≡ None → IsUnproposed (IsStop reused) change
+    (right (after (record_of log))) e
     → Answers means tries old new (Err e) change right
-unproposed means tries old new e change right log p none is =
+unproposed reused means tries old new e change right log p none is =
     subst (λ (o : Option Change). IsRefused means tries old new (mute o) e o (λ s. right s ≡ Err e)) (sym none)
     (by_want (is_want e) refl is.0)
   where
@@ -84,10 +87,10 @@ unproposed means tries old new e change right log p none is =
     mute (Some c) = false
 
     by_want : (b : Bool) → is_want e ≡ b →
-        ((is_want e ≡ true) ⊎ ((right (after (record_of log)) ≡ Err e) × (change (Err e) ≡ None)))
+        (IsStop reused e ⊎ ((right (after (record_of log)) ≡ Err e) × (change (Err e) ≡ None)))
         → IsRefused means tries old new b e None (λ s. right s ≡ Err e)
     by_want true w h = (p.moves ∙ append-nil (own_moves old), λ moved. absurd (is.1 moved))
-    by_want false w (inl h) = absurd (cc (sym w ∙ h))
+    by_want false w (inl h) = absurd (cc (sym w ∙ stop_wants reused e h))
     by_want false w (inr h) = (log, p, h.0)
 
 -- so is one for want of something
@@ -104,15 +107,15 @@ wanting means tries old new e change right none want left =
     mute (Some c) = false
 
 -- a call that arrived, and made nothing
-pub unmade : {X : Type 0} (means : Meanings) (tries : ℕ) (old seen mid new : Known) (base : Ref) (first : ℕ)
+pub unmade : {X : Type 0} (reused : Type 0) (means : Meanings) (tries : ℕ) (old seen mid new : Known) (base : Ref) (first : ℕ)
     (e : Refusal) (change : Result X Refusal → Option Change) (right : State → Result X Refusal)
     → IsArrived means old seen mid base first → change (Err e) ≡ None
-    → IsUnmade change (right (after (record_of seen.log))) tries mid new e
+    → IsUnmade (IsStop reused) change (right (after (record_of seen.log))) tries mid new e
     → Answers means tries old new (Err e) change right
-unmade means tries old seen mid new base first e change right a none (inl h) =
-    unproposed means tries old new e change right seen.log
+unmade reused means tries old seen mid new base first e change right a none (inl h) =
+    unproposed reused means tries old new e change right seen.log
     (subst (λ (m : Known). IsPoint means old m None seen.log) (sym h.1) a.point) none h.0
-unmade means tries old seen mid new base first e change right a none (inr h) =
+unmade reused means tries old seen mid new base first e change right a none (inr h) =
     wanting means tries old new e change right none h.0 (h.1.0 ∙ a.same, λ moved. omega (arith, h.1.1 moved, a.others))
 
 -- ITS IDS

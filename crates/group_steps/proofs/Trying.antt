@@ -26,7 +26,7 @@ use Rattle.commit_graph.specs.LastIds.{last_at}
 use Rattle.commit_graph.specs.declared.states.LastId.{LastId}
 use Rattle.answered.specs.Answered.{Answers, IsPoint, IsRefused, is_mute, own_moves}
 use Rattle.answered.proofs.Losing.{lost_to_others, point_since}
-use Rattle.group_steps.specs.Missing.{told}
+use Rattle.group_steps.specs.Missing.{IsStop, told}
 use Rattle.group_steps.specs.Arriving.{IsArrived}
 use Rattle.group_steps.specs.Changing.{AnswersTry, EndsTry}
 use Rattle.group_steps.specs.Proposing.{AsksNext, HasLast, IsUnmade, MayAsk, asked_reply, change_asked}
@@ -84,14 +84,14 @@ has_last means cs new at s before Closed bits ids asks is spells = tt
 -- WHAT IS ANSWERED
 
 -- a try that looked where the head is, and what it found there
-pub try_answered : (means : Meanings) (tries : ℕ) (old seen mid new : Known) (base : Ref) (first last : ℕ) (c : Change)
+pub try_answered : (reused : Type 0) (means : Meanings) (tries : ℕ) (old seen mid new : Known) (base : Ref) (first last : ℕ) (c : Change)
     (r : Result Tried Refusal)
     → IsArrived means old seen mid base first → IsPrefix old.log mid.log → mid.seat ≡ old.seat
     → IsPrefix mid.log new.log → new.seat ≡ mid.seat
     → IfOk r (EndsTry means mid new base (after (record_of seen.log)) last c)
-    → IfErr r (IsUnmade (change_asked c) (asked_reply means (after (record_of seen.log)) last c) tries mid new)
+    → IfErr r (IsUnmade (IsStop reused) (change_asked c) (asked_reply means (after (record_of seen.log)) last c) tries mid new)
     → AnswersTry means tries old new last c r
-try_answered means tries old seen mid new base first last c (Ok (tried.Made at)) a pre seat more number is err =
+try_answered reused means tries old seen mid new base first last c (Ok (tried.Made at)) a pre seat more number is err =
     let won = is.1 in (
       (
         won.0,
@@ -100,15 +100,15 @@ try_answered means tries old seen mid new base first last c (Ok (tried.Made at))
       ),
       is.2,
     )
-try_answered means tries old seen mid new base first last c (Ok tried.Same) a pre seat more number is err =
+try_answered reused means tries old seen mid new base first last c (Ok tried.Same) a pre seat more number is err =
     (seen.log, subst (λ (m : Known). IsPoint means old m None seen.log) (sym is.1) a.point, is.0)
-try_answered means tries old seen mid new base first last c (Ok tried.Lost) a pre seat more number is err =
+try_answered reused means tries old seen mid new base first last c (Ok tried.Lost) a pre seat more number is err =
     let own = is.0 ∙ a.same in
     let by = lost_to_others seen new base (prefix_trans seen.log mid.log new.log a.since more)
     (number ∙ seat ∙ sym a.seat) (own ∙ sym a.own) a.last is.1 in
     (own, omega (arith, by, a.before))
-try_answered means tries old seen mid new base first last c
-    (Err e) a pre seat more number is err = unmade means tries old seen mid new base first e (change_asked c)
+try_answered reused means tries old seen mid new base first last c
+    (Err e) a pre seat more number is err = unmade reused means tries old seen mid new base first e (change_asked c)
     (λ (s : State). asked_reply means s last c) a refl err
 
 -- THE LATER PART OF A CALL

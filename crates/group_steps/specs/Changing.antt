@@ -32,6 +32,11 @@ AnswersTry means tries old new last change (Ok tried.Lost) = (own_moves new ≡ 
 AnswersTry means tries old new last change (Err e) = Answers means tries old new (Err e) (change_asked change)
     (λ s. asked_reply means s last change)
 
+-- the change that a try made
+abbrev pub change_tried : Change → Result Tried Refusal → Option Change
+change_tried change (Ok (tried.Made at)) = Some change
+change_tried change other = None
+
 -- whether the change was made
 abbrev pub is_made : Option Ref → Bool
 is_made (Some at) = true

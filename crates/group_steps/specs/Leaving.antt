@@ -1,5 +1,5 @@
 -- What a change of the head leaves behind.
-use Rattle.std.specs.Prelude.{ℕ, ◌≡◌, ◌↔◌, List, []}
+use Rattle.std.specs.Prelude.{ℕ, ◌≡◌, ◌↔◌, List, [], Option, Some, None}
 use Rattle.std.specs.List.{Contains}
 use Rattle.group_history.specs.declared.changes.Change.{Change}
 use Rattle.group_history.specs.declared.changes.Change.TheVariants.{Mutated, Pulled, Closed}
@@ -7,9 +7,12 @@ use Rattle.group_history.specs.declared.refs.Ref.{Ref}
 use Rattle.group_history.specs.Refs.{stamp_of}
 use Rattle.group_history.specs.Spelling.{Contents}
 use Rattle.reader_claims.specs.declared.view.View.{View}
+use Rattle.head_word.specs.Books.{drawn}
+use Rattle.commit_graph.specs.Seats.{Seated}
 use Rattle.commit_graph.specs.Reach.{IsDropped, Falls, stamps_of}
+use Rattle.answered.specs.Trying.{IsMove}
 use Rattle.answered.specs.declared.trying.Published.{Published}
-use Rattle.publishing.specs.Retiring.{Retires, unneeded}
+use Rattle.publishing.specs.Retiring.{GivesBack, Retires, unneeded}
 
 -- After a pull, what the old head reaches and the new one does not, each once. Other changes leave nothing.
 abbrev pub AreLeft : Contents → Ref → Ref → Change → List Ref → Type 0
@@ -17,6 +20,25 @@ AreLeft cs old new (Pulled ticket r) left =
     ((x : ℕ) → Contains (stamps_of left) x ↔ IsDropped cs (stamp_of old) (stamp_of new) x) × Falls (stamps_of left)
 AreLeft cs old new (Mutated m) left = left ≡ []
 AreLeft cs old new Closed left = left ≡ []
+
+-- The change was made from `base`, by a move of the seat to `to`. In lost tries the seat retired what it had settled
+-- there; then what the change leaves behind, and nothing else.
+pub record FreesFor (slots : ℕ) (old new : Seated) (change : Change) : Type 0 where
+  pub base : Ref
+  pub to : Ref
+  pub goes : IsMove old.mark new.mark base to change
+  pub left : List Ref
+  pub are : AreLeft (drawn new.mark.log) base to change left
+  pub made : View
+  pub freed : View
+  pub before : GivesBack slots old.view made
+  pub retired : Retires slots made left freed
+  pub behind : GivesBack slots freed new.view
+
+-- what a call retires that made this change, or none
+abbrev pub Frees : ℕ → Seated → Seated → Option Change → Type 0
+Frees slots old new None = GivesBack slots old.view new.view
+Frees slots old new (Some c) = FreesFor slots old new c
 
 -- What the change leaves behind was retired where the head was moved, and the draft itself where it was not.
 abbrev pub RetiresWhatIsLeft : ℕ → Contents → Ref → Ref → Change → List Ref → View → View → Published → Type 0

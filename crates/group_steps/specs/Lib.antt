@@ -6,5 +6,6 @@ pub mod Arriving
 pub mod Proposing
 pub mod Changing
 pub mod Leaving
+pub mod Causes
 -- The root of a map, known by its commit.
 pub mod Rooting

@@ -1,7 +1,7 @@
 -- Why a query is refused, and what a reply tells.
 use Rattle.std.specs.Prelude.{◌≡◌, ◌⊎◌, Result, Ok, Err}
 use Rattle.group_history.specs.declared.refusals.Refusal.{Refusal}
-use Rattle.group_history.specs.declared.refusals.Refusal.TheVariants.{Busy, Gone, NoMemory}
+use Rattle.group_history.specs.declared.refusals.Refusal.TheVariants.{Busy, Gone, NoMemory, Stamps}
 
 -- a slot has no node of that stamp any more; or a slot or a pin is lost to others, which happens only where slots are
 -- used again
@@ -11,6 +11,10 @@ IsMissed reused e = (e ≡ Gone) ⊎ (reused × (e ≡ Busy))
 -- that, or memory was wanting
 abbrev pub IsMissedOrDry : Type 0 → Refusal → Type 0
 IsMissedOrDry reused e = (e ≡ NoMemory) ⊎ IsMissed reused e
+
+-- that, or stamps were wanting: so no change could be proposed
+abbrev pub IsStop : Type 0 → Refusal → Type 0
+IsStop reused e = (e ≡ Stamps) ⊎ IsMissedOrDry reused e
 
 -- what a reply tells
 abbrev pub told : {X Y : Type 0} → (X → Y) → Result X Refusal → Result Y Refusal

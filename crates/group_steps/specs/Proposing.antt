@@ -114,7 +114,7 @@ Proposes means before base s last change (Some p) = (asked_reply means s last ch
 Proposes means before base s last change None = asked_reply means s last change ≡ Ok false
 
 -- Why nothing was made: nothing could be proposed, and nothing was done; or for want of something.
-abbrev pub IsUnmade : {X : Type 0} → (Result X Refusal → Option Change) → Result X Refusal → ℕ → Known → Known
-    → Refusal → Type 0
-IsUnmade change right tries old new e = (IsUnproposed change right e × (new ≡ old))
+abbrev pub IsUnmade : {X : Type 0} → (Refusal → Type 0) → (Result X Refusal → Option Change) → Result X Refusal → ℕ
+    → Known → Known → Refusal → Type 0
+IsUnmade stops change right tries old new e = (IsUnproposed stops change right e × (new ≡ old))
     ⊎ ((is_want e ≡ true) × IsLeft tries old new e)

@@ -2,7 +2,7 @@
 //!
 //! Each try pins the seat anew, looks where the head is, proposes the change at the state there, and moves the
 //! head from there.
-ghost use Rattle.std.specs.Prelude.{◌≡◌, ◌⊎◌, ◌+◌, ◌<◌, [], Ok, IfOk, IfErr, IfSome};
+ghost use Rattle.std.specs.Prelude.{◌≡◌, ◌⊎◌, ◌+◌, ◌<◌, [], Ok, Some, IfOk, IfErr, IfSome};
 ghost use mathlib.Core.List.{IsPrefix};
 ghost use Rattle.group_history.specs.Record.{after};
 ghost use Rattle.head_word.specs.Books.{drawn, next_stamp, record_of};
@@ -10,8 +10,10 @@ ghost use Rattle.chunk_slots.specs.Seats.{IsIdle};
 ghost use Rattle.commit_graph.specs.Seats.{IsReading, IsSameSeat, IsSeatOf};
 ghost use Rattle.answered.specs.Answered.{Answers};
 ghost use Rattle.answered.specs.Trying.{IsBase};
-ghost use Rattle.group_steps.specs.Missing.{told};
-ghost use Rattle.group_steps.specs.Changing.{AnswersTry, EndsTry, is_made};
+ghost use Rattle.group_steps.specs.Causes.{HasCause, HasCauseAt};
+ghost use Rattle.group_steps.specs.Leaving.{Frees};
+ghost use Rattle.group_steps.specs.Missing.{IsStop, told};
+ghost use Rattle.group_steps.specs.Changing.{AnswersTry, EndsTry, change_tried, is_made};
 ghost use Rattle.group_steps.specs.Proposing.{HasLast, IsUnmade, MayAsk, asked_reply, change_asked};
 
 use crate::group::SharedGroup;
@@ -56,9 +58,13 @@ where
     ensures none { S.reused → seat.new.view.taken ≡ [] }
     ensures tried { IfOk result (EndsTry M.means seat.old.mark seat.new.mark arrival.now.base
         (after (record_of arrival.now.seen.log)) request.now.before.id request.now.change.now) }
-    ensures err { IfErr result (IsUnmade (change_asked request.now.change.now)
+    ensures err { IfErr result (IsUnmade (IsStop S.reused) (change_asked request.now.change.now)
         (asked_reply M.means (after (record_of arrival.now.seen.log)) request.now.before.id request.now.change.now) tries
         seat.old.mark seat.new.mark) }
+    ensures cause { IfErr result (HasCauseAt M.means S.reused (after (record_of arrival.now.seen.log))
+        request.now.before.id request.now.change.now seat.old seat.new) }
+    ensures frees { S.reused → Frees group.now.shared.table.sizes.slots seat.old seat.new
+        (change_tried request.now.change.now result) }
 {
     let at = At::new(group, seat, &arrival.seen, arrival.base, tries);
     let proposed = propose(&at, arrival.first, request);
@@ -94,6 +100,10 @@ where
     ensures seat { IsSameSeat seat.old seat.new }
     ensures idle { S.reused → IsIdle seat.new.view }
     ensures answer { AnswersTry M.means tries seat.old.mark seat.new.mark request.now.before.id request.now.change.now result }
+    ensures cause { IfErr result (HasCause M.means S.reused request.now.before.id (Some request.now.change.now)
+        seat.old seat.new) }
+    ensures frees { S.reused → Frees group.now.shared.table.sizes.slots seat.old seat.new
+        (change_tried request.now.change.now result) }
 {
     let arrival = pin_and_load_both(&group.shared, seat, tries)?;
     let tried = change_at::<M, S>(group, seat, &arrival, request, tries);
@@ -119,6 +129,10 @@ where
     ensures answer { Answers M.means tries seat.old.mark seat.new.mark (told is_made result)
         (change_asked request.now.change.now) (λ s. asked_reply M.means s request.now.before.id request.now.change.now) }
     ensures found { IfOk result (λ made. IfSome made (λ at. HasLast (drawn seat.new.mark.log) at request.now.change.now)) }
+    ensures cause { IfErr result (HasCause M.means S.reused request.now.before.id (Some request.now.change.now)
+        seat.old seat.new) }
+    ensures frees { S.reused → Frees group.now.shared.table.sizes.slots seat.old seat.new
+        (change_asked request.now.change.now (told is_made result)) }
 {
     for tried in 0..tries.max(1) {
         let _ = tried;

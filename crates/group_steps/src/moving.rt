@@ -1,19 +1,25 @@
 //! A change that was proposed: what leads to it is placed, and the head is moved there.
 ghost use Rattle.std.specs.List.{All};
-ghost use Rattle.group_history.specs.declared.refusals.Refusal.TheVariants.{Moved};
-ghost use Rattle.std.specs.Prelude.{◌≡◌, ◌≢◌, [], true, IfOk, IfErr, IfSome, IfNone, OnErr};
+ghost use Rattle.group_history.specs.declared.refusals.Refusal.TheVariants as refusal;
+ghost use Rattle.std.specs.Prelude.{◌≡◌, [], true, IfOk, IfErr, IfSome, IfNone, OnErr};
 ghost use Rattle.group_history.specs.Record.{after_change};
 ghost use Rattle.group_history.specs.Refs.{slot_of, stamp_of};
 ghost use Rattle.group_history.specs.Spelling.{Spells};
 ghost use Rattle.group_history.specs.State.{State};
 ghost use Rattle.head_word.specs.Books.{Follows, drawn};
 ghost use Rattle.reader_claims.specs.Lists.{In};
+ghost use Rattle.reader_claims.specs.Machine.{Moves};
+ghost use Rattle.reader_claims.specs.Seats.{kind_end};
 ghost use Rattle.commit_graph.specs.Seats.{IsReading, IsSameSeat};
 ghost use Rattle.answered.specs.Answered.{IsLeft, is_want};
-ghost use Rattle.answered.specs.Trying.{Ends, IsBase, IsLost, IsWon};
+ghost use Rattle.answered.specs.Trying.{Ends, IsBase, IsLost, IsMove, IsWon};
+ghost use Rattle.answered.specs.declared.trying.Published.TheVariants.{Won};
+ghost use Rattle.publishing.specs.Placed.{FoundNone};
 ghost use Rattle.publishing.specs.Retiring.{Retires};
-ghost use Rattle.group_steps.specs.Leaving.{AreLeft, RetiresWhatIsLeft};
-ghost use Rattle.group_steps.specs.Proposing.{Leads};
+ghost use Rattle.group_steps.specs.Leaving.{AreLeft, Frees, RetiresWhatIsLeft};
+ghost use Rattle.group_steps.specs.Changing.{is_made};
+ghost use Rattle.group_steps.specs.Missing.{IsMissedOrDry, told};
+ghost use Rattle.group_steps.specs.Proposing.{Leads, change_asked};
 
 use crate::proposing::Proposal;
 use answered::Published;
@@ -35,7 +41,7 @@ where
     requires old { (s : State) × IsBase M.means seat.now.mark to.now.base s }
     requires new { (s : State) × IsBase M.means seat.now.mark to.now.new s }
     ensures exact { IfOk result (λ left. AreLeft (drawn seat.now.mark.log) to.now.base to.now.new to.now.change.now left.items) }
-    ensures err { IfErr result (λ e. (is_want e ≡ true) × (e ≢ Moved)) }
+    ensures err { IfErr result (IsMissedOrDry S.reused) }
 {
     match to.change {
         Change::Pulled(_, _) => {
@@ -62,12 +68,15 @@ where
     requires follows { Follows M.means (drawn seat.old.mark.log) to.now.base to.now.new to.now.change.now }
     ensures seat { IsSameSeat seat.old seat.new }
     ensures none { S.reused → seat.new.view.taken ≡ [] }
+    ensures moves { S.reused → Moves seat.old.view seat.new.view }
     ensures ends { IfOk result (Ends M.means seat.old.mark seat.new.mark to.now.base to.now.change.now) }
+    ensures goes { IfOk result (λ published. published ≡ Won
+        → IsMove seat.old.mark seat.new.mark to.now.base to.now.new to.now.change.now) }
     ensures retired { S.reused → IfOk result (λ published. RetiresWhatIsLeft shared.now.table.sizes.slots
         (drawn seat.old.mark.log) to.now.base to.now.new to.now.change.now to.now.refs.now seat.old.view seat.new.view published) }
     ensures given { S.reused → OnErr result
         (Retires shared.now.table.sizes.slots seat.old.view to.now.refs.now seat.new.view) }
-    ensures err { IfErr result (λ e. (is_want e ≡ true) × (e ≢ Moved) × (seat.new.mark ≡ seat.old.mark)) }
+    ensures err { IfErr result (λ e. IsMissedOrDry S.reused e × (seat.new.mark ≡ seat.old.mark)) }
 {
     match left_behind::<M, S>(shared, seat, to, tries) {
         Ok(left) => {
@@ -102,6 +111,11 @@ where
         × Spells M.means (drawn seat.new.mark.log) (stamp_of at) (after_change s change.now))) }
     ensures lost { IfOk result (λ new. IfNone new (IsLost seat.old.mark seat.new.mark proposal.base)) }
     ensures err { IfErr result (λ e. (is_want e ≡ true) × IsLeft tries seat.old.mark seat.new.mark e) }
+    ensures frees { S.reused → Frees shared.now.table.sizes.slots seat.old seat.new
+        (change_asked change.now (told is_made result)) }
+    ensures full { S.reused → IfErr result (λ e. e ≡ refusal.Full
+        → FoundNone seat.old.view seat.new.view (kind_end shared.now.table.sizes proposal.kind)) }
+    ensures busy { IfErr result (λ e. e ≡ refusal.Busy → S.reused) }
 {
     let Proposal {
         base,

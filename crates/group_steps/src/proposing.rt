@@ -2,7 +2,7 @@
 //!
 //! The commit is looked at once: that tells whether the group is closed, the root of its map, and its chain's snapshot.
 //! Nothing is placed yet, and the head is not touched: a refusal has changed nothing.
-ghost use Rattle.std.specs.Prelude.{ℕ, ◌≡◌, ◌≢◌, ◌⊎◌, ◌+◌, ◌<◌, true, false, Err, Some, List, length, IfOk, IfErr, OnOk};
+ghost use Rattle.std.specs.Prelude.{ℕ, ◌≡◌, ◌⊎◌, ◌+◌, ◌<◌, false, Err, Some, List, length, IfOk, IfErr, OnOk};
 ghost use Rattle.group_history.specs.Mutating.{mutate_reply};
 ghost use Rattle.group_history.specs.Pulling.{after_pull};
 ghost use Rattle.group_history.specs.Pull.{AreInRange};
@@ -17,9 +17,8 @@ ghost use Rattle.head_word.specs.Books.{drawn, next_stamp};
 ghost use Rattle.map_chunks.specs.Places.{with_nodes};
 ghost use Rattle.commit_graph.specs.Chains.{IsBaseOf};
 ghost use Rattle.commit_graph.specs.LastIds.{last_at};
-ghost use Rattle.answered.specs.Answered.{is_want};
 ghost use Rattle.answered.specs.Trying.{IsUnproposed};
-ghost use Rattle.group_steps.specs.Missing.{IsMissed};
+ghost use Rattle.group_steps.specs.Missing.{IsMissed, IsStop};
 ghost use Rattle.group_steps.specs.Places.{state_at};
 ghost use Rattle.group_steps.specs.Proposing.{IsSpot, MayAsk, Proposes, asked_reply, change_asked, kind_left};
 
@@ -95,7 +94,7 @@ where
     requires next { (mutation.now.id ≡ last + 1) × (mutation.now.reason ≡ Initial) }
     ensures proposed { IfOk result (λ p. Proposes M.means (drawn at.now.mark.log) at.now.commit (state_at at.now) last
         (changed.Mutated mutation.now) (Some p)) }
-    ensures err { IfErr result (IsUnproposed (change_asked (changed.Mutated mutation.now))
+    ensures err { IfErr result (IsUnproposed (IsStop S.reused) (change_asked (changed.Mutated mutation.now))
         (asked_reply M.means (state_at at.now) last (changed.Mutated mutation.now))) }
 {
     let again = mutation.clone()?;
@@ -134,7 +133,7 @@ where
     requires asks { MayAsk (drawn at.now.mark.log) before (changed.Mutated mutation.now) }
     ensures proposed { IfOk result (λ p. Proposes M.means (drawn at.now.mark.log) at.now.commit (state_at at.now)
         before.id (changed.Mutated mutation.now) (Some p)) }
-    ensures err { IfErr result (IsUnproposed (change_asked (changed.Mutated mutation.now))
+    ensures err { IfErr result (IsUnproposed (IsStop S.reused) (change_asked (changed.Mutated mutation.now))
         (asked_reply M.means (state_at at.now) before.id (changed.Mutated mutation.now))) }
 {
     check_next(at, mutation, before)?;
@@ -170,7 +169,7 @@ where
     ensures first { IfOk result (λ p. (p.draft.first ≡ spot.first) × (p.base ≡ at.now.commit)) }
     ensures some { IfOk result (λ p. 0 < length p.draft.nodes) }
     ensures in_range { OnOk result (AreInRange pull.now.changes) }
-    ensures err { IfErr result (λ e. (is_want e ≡ true) × (e ≢ refusal.Moved)) }
+    ensures err { IfErr result (IsStop S.reused) }
 {
     let group = at.group;
     let alloc = group.shared.alloc;
@@ -208,7 +207,7 @@ where
     ensures first { IfOk result (λ p. (p.draft.first ≡ spot.first) × (p.base ≡ at.now.commit)) }
     ensures some { IfOk result (λ p. 0 < length p.draft.nodes) }
     ensures in_range { OnOk result (AreInRange pull.now.changes) }
-    ensures err { IfErr result (λ e. (is_want e ≡ true) × (e ≢ refusal.Moved)) }
+    ensures err { IfErr result (IsStop S.reused) }
 {
     let group = at.group;
     let pending = pending_at::<StoreNodes<'a, M, S>, Brand>(
@@ -233,7 +232,7 @@ where
     requires before { IsBaseOf (drawn at.now.mark.log) (state_at at.now) before.now }
     ensures proposed { (last : ℕ) → IfOk result (Proposes M.means (drawn at.now.mark.log) at.now.commit
         (state_at at.now) last (changed.Pulled ticket.now pull.now)) }
-    ensures err { (last : ℕ) → IfErr result (IsUnproposed (change_asked (changed.Pulled ticket.now pull.now))
+    ensures err { (last : ℕ) → IfErr result (IsUnproposed (IsStop S.reused) (change_asked (changed.Pulled ticket.now pull.now))
         (asked_reply M.means (state_at at.now) last (changed.Pulled ticket.now pull.now))) }
 {
     match pull_outcome(before, ticket, pull) {
@@ -262,7 +261,7 @@ where
     requires spot { IsSpot M.means at.now spot.tip spot.first }
     ensures proposed { (last : ℕ) → IfOk result (Proposes M.means (drawn at.now.mark.log) at.now.commit
         (state_at at.now) last (changed.Pulled ticket.now pull.now)) }
-    ensures err { (last : ℕ) → IfErr result (IsUnproposed (change_asked (changed.Pulled ticket.now pull.now))
+    ensures err { (last : ℕ) → IfErr result (IsUnproposed (IsStop S.reused) (change_asked (changed.Pulled ticket.now pull.now))
         (asked_reply M.means (state_at at.now) last (changed.Pulled ticket.now pull.now))) }
 {
     let before = base_at::<StoreNodes<'a, M, S>, Brand>(at.nodes(), spot.tip)?;
@@ -279,7 +278,7 @@ where
     requires spot { IsSpot M.means at.now spot.tip spot.first }
     ensures proposed { (last : ℕ) → IfOk result (Proposes M.means (drawn at.now.mark.log) at.now.commit
         (state_at at.now) last changed.Closed) }
-    ensures err { (last : ℕ) → IfErr result (IsUnproposed (change_asked changed.Closed)
+    ensures err { (last : ℕ) → IfErr result (IsUnproposed (IsStop S.reused) (change_asked changed.Closed)
         (asked_reply M.means (state_at at.now) last changed.Closed)) }
 {
     let (group, base) = (at.group, at.commit);
@@ -306,7 +305,7 @@ where
     requires asks { MayAsk (drawn at.now.mark.log) request.now.before request.now.change.now }
     ensures proposed { IfOk result (Proposes M.means (drawn at.now.mark.log) at.now.commit (state_at at.now)
         request.now.before.id request.now.change.now) }
-    ensures err { IfErr result (IsUnproposed (change_asked request.now.change.now)
+    ensures err { IfErr result (IsUnproposed (IsStop S.reused) (change_asked request.now.change.now)
         (asked_reply M.means (state_at at.now) request.now.before.id request.now.change.now)) }
 {
     let Request { change, before } = *request;
@@ -337,7 +336,7 @@ where
     requires first { first ≡ next_stamp at.now.mark.log }
     ensures proposed { IfOk result (Proposes M.means (drawn at.now.mark.log) at.now.commit (state_at at.now)
         request.now.before.id request.now.change.now) }
-    ensures err { IfErr result (IsUnproposed (change_asked request.now.change.now)
+    ensures err { IfErr result (IsUnproposed (IsStop S.reused) (change_asked request.now.change.now)
         (asked_reply M.means (state_at at.now) request.now.before.id request.now.change.now)) }
 {
     let look = look_at::<StoreNodes<'a, M, S>, Brand>(at.nodes(), at.commit)?;

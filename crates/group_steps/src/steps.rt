@@ -7,6 +7,8 @@ ghost use Rattle.group_history.specs.State.{last_id};
 ghost use Rattle.head_word.specs.Books.{drawn, last_move, record_of};
 ghost use Rattle.head_word.specs.Marks.{others};
 ghost use Rattle.reader_claims.specs.declared.words.Pin.TheVariants.{Absent};
+ghost use Rattle.reader_claims.specs.Machine.{Moves};
+ghost use Rattle.chunk_slots.specs.Seats.{IsPinned};
 ghost use Rattle.commit_graph.specs.LastIds.{last_at};
 ghost use Rattle.commit_graph.specs.Seats.{HasLooked, IsSeatOf, is_held};
 ghost use Rattle.commit_graph.specs.declared.states.LastId.{LastId as Found};
@@ -34,11 +36,13 @@ where
     S::Seat: Drop,
     requires home { IsSeatOf shared.now seat.old }
     ensures looked { HasLooked S.reused seat.old seat.new }
+    ensures moves { S.reused → Moves seat.old.view seat.new.view }
     ensures point { IfOk result (λ _. IsPoint M.means seat.old.mark seat.new.mark None seat.new.mark.log) }
     ensures base { IfOk result (λ at. IsBase M.means seat.new.mark at (after (record_of seat.new.mark.log))) }
     ensures last { IfOk result (λ at. at ≡ last_move seat.new.mark.log) }
     ensures others { others seat.old.mark ≤ others seat.new.mark }
     ensures held { S.reused → IfOk result (λ _. is_held seat.new.view.pin ≡ true) }
+    ensures pinned { S.reused → IfOk result (λ _. IsPinned seat.old.view seat.new.view tries) }
     ensures busy { IfErr result (λ e. (e ≡ Busy) × S.reused × (seat.new.mark ≡ seat.old.mark)) }
     ensures unpinned { S.reused → IfErr result (λ _. seat.new.view.pin ≡ Absent) }
 {
@@ -52,6 +56,7 @@ where
     S::Seat: Drop,
     requires home { IsSeatOf shared.now seat.old }
     ensures looked { HasLooked S.reused seat.old seat.new }
+    ensures moves { S.reused → Moves seat.old.view seat.new.view }
     ensures mark { seat.new.mark ≡ seat.old.mark }
     ensures unpinned { S.reused → seat.new.view.pin ≡ Absent }
 {
@@ -77,6 +82,7 @@ where
     S::Seat: Drop,
     requires home { IsSeatOf shared.now seat.old }
     ensures looked { HasLooked S.reused seat.old seat.new }
+    ensures moves { S.reused → Moves seat.old.view seat.new.view }
     ensures arrived { IfOk result (λ at. IsArrived M.means seat.old.mark (when_seen seat.old.mark at.seen.log)
         seat.new.mark at.base at.first) }
     ensures held { S.reused → IfOk result (λ _. is_held seat.new.view.pin ≡ true) }

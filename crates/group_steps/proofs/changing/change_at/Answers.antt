@@ -6,9 +6,12 @@ use Rattle.group_history.specs.Record.{after, after_change}
 use Rattle.group_history.specs.Refs.{stamp_of}
 use Rattle.group_history.specs.Spelling.{Spells}
 use Rattle.head_word.specs.Books.{drawn, record_of}
-use Rattle.answered.specs.Trying.{IsBase, IsWon}
+use Rattle.answered.specs.Trying.{IsBase, IsUnproposed, IsWon}
+use Rattle.publishing.specs.Retiring.{none}
+use Rattle.group_steps.specs.Missing.{IsStop}
 use Rattle.group_steps.specs.Places.{Place, state_at}
-use Rattle.group_steps.specs.Proposing.{Leads, Proposes}
+use Rattle.group_steps.specs.Proposing.{Leads, Proposes, asked_reply, change_asked}
+use Rattle.group_steps.proofs.Giving.{cause_unproposed}
 use Rattle.group_steps.proofs.Trying.{has_last}
 use Rattle.group_steps.proofs.changing.change_at.Goals as goal
 
@@ -46,3 +49,17 @@ returns-in-Ok-Some-move_head-clause-tried g c =
       has_last means (drawn old.log) (drawn new.log) c.in-Ok-Some-move_head.at s before change bits ids c.requires.asks
           proposed.0 won.1,
     )
+
+pub returns-in-Ok-None-clause-frees : goal.returns-in-Ok-None-clause-frees
+returns-in-Ok-None-clause-frees g c r = none c.args.seat.now.view
+
+pub returns-in-Err-clause-frees : goal.returns-in-Err-clause-frees
+returns-in-Err-clause-frees g c r = none c.args.seat.now.view
+
+pub returns-in-Err-clause-cause : goal.returns-in-Err-clause-cause
+returns-in-Err-clause-cause g c =
+    let means = g.M.Means.means in let seat = c.args.seat.now in let change = c.args.request.now.change.now in
+    let last = c.args.request.now.before.id in
+    cause_unproposed means g.S.Slots.reused (after (record_of c.args.arrival.now.seen.log)) last change seat seat c.in-Err.e
+    (subst (λ (q : Place). IsUnproposed (IsStop g.S.Slots.reused) (change_asked change)
+    (asked_reply means (state_at q) last change) c.in-Err.e) c.new-at.ensures.place c.in-Err.ensures.err)

@@ -1,5 +1,7 @@
-use Rattle.std.proofs.Common.{◌≡◌, Some, sym, subst, ap, ◌∙◌}
+use Rattle.std.proofs.Common.{◌≡◌, List, Some, Option, Result, refl, sym, subst, ap, ◌∙◌}
+use Rattle.std.proofs.lemmas.Result.{err_from_is_err_and}
 use Rattle.group_history.specs.declared.refs.Ref.{Ref}
+use Rattle.group_history.specs.declared.refusals.Refusal.{Refusal}
 use Rattle.group_history.specs.Naming.{placed_ref}
 use Rattle.group_history.specs.Record.{after_change}
 use Rattle.group_history.specs.Refs.{stamp_of}
@@ -7,10 +9,20 @@ use Rattle.group_history.specs.Spelling.{version_of, Spells}
 use Rattle.group_history.specs.State.{State}
 use Rattle.head_word.specs.Books.{drawn}
 use Rattle.head_word.proofs.BookLaws.{spelled-stays}
+use Rattle.reader_claims.specs.declared.view.View.{View}
+use Rattle.reader_claims.proofs.Moving.{moves_moves}
 use Rattle.answered.specs.Trying.{Ends}
+use Rattle.answered.specs.declared.trying.Published.{Published}
+use Rattle.answered.specs.declared.trying.Published.TheVariants.{Won}
 use Rattle.answered.proofs.Losing.{point_since}
 use Rattle.publishing.proofs.Carrying.{placed-spelled}
+use Rattle.publishing.specs.Retiring.{Retires, none}
+use Rattle.group_steps.specs.Changing.{is_made}
+use Rattle.group_steps.specs.Leaving.{Frees, RetiresWhatIsLeft}
+use Rattle.group_steps.specs.Missing.{told}
+use Rattle.group_steps.specs.Proposing.{change_asked}
 use Rattle.group_steps.proofs.Drafting.{one_state}
+use Rattle.group_steps.proofs.Giving.{are_left_grown, drawn_grown, gives_kept, gives_up, move_since}
 use Rattle.group_steps.proofs.moving.move_head.Goals as goal
 
 pub exchange-requires-clause-follows : goal.exchange-requires-clause-follows
@@ -61,3 +73,69 @@ returns-in-Ok-Won-clause-won g c s is =
       subst (λ (t : State). Spells means (drawn new.log) (stamp_of c.place_of-new.result)
           (after_change t change)) same later,
     )
+
+pub returns-in_err-refs-clause-frees : goal.returns-in_err-refs-clause-frees
+returns-in_err-refs-clause-frees g c r =
+    let slots = c.args.shared.now.table.sizes.slots in let old = c.args.seat.now in let mid = c.place_draft.new.seat in
+    let p = err_from_is_err_and c.from_residual.result c.from_residual.ensures.1 in
+    subst (λ (w : Result (Option Ref) Refusal). Frees slots old mid (change_asked c.args.change.now (told is_made w)))
+    (sym p.1) (gives_up slots old.view mid.view (c.place_draft.ensures.moves r) (c.in_err-refs.ensures.given r))
+
+pub returns-in-Ok-Lost-clause-frees : goal.returns-in-Ok-Lost-clause-frees
+returns-in-Ok-Lost-clause-frees g c r =
+    let slots = c.args.shared.now.table.sizes.slots in let old = c.args.seat.now.view in
+    let mid = c.place_draft.new.seat in let new = c.exchange.new.seat.view in let refs = c.in_ok-refs.refs.items in
+    let what = subst (RetiresWhatIsLeft slots (drawn mid.mark.log) c.args.proposal.base c.place_of-new.result
+    c.args.change.now c.deref-2.result.now mid.view new) c.in-Ok-Lost.field-0-is (c.in-Ok-Lost.ensures.retired r) in
+    gives_up slots old new (moves_moves old mid.view new (c.place_draft.ensures.moves r) (c.exchange.ensures.moves r)) (
+      refs,
+      mid.view,
+      c.in_ok-refs.ensures.just r,
+      subst (λ (ats : List Ref). Retires slots mid.view ats new) c.deref-2.ensures.value what.2,
+    )
+
+pub returns-clause-frees : goal.returns-clause-frees
+returns-clause-frees g c r =
+    let slots = c.args.shared.now.table.sizes.slots in let old = c.args.seat.now.view in
+    let mid = c.place_draft.new.seat.view in let new = c.exchange.new.seat.view in
+    gives_up slots old new (moves_moves old mid new (c.place_draft.ensures.moves r) (c.exchange.ensures.moves r)) (
+      c.in_ok-refs.refs.items,
+      mid,
+      c.in_ok-refs.ensures.just r,
+      subst (λ (ats : List Ref). Retires slots mid ats new) c.deref-2.ensures.value (c.in-Err.ensures.given r),
+    )
+
+pub returns-in-Ok-Won-clause-frees : goal.returns-in-Ok-Won-clause-frees
+returns-in-Ok-Won-clause-frees g c r =
+    let means = g.M.Means.means in let l = c.requires.leads in let p = c.args.proposal in
+    let slots = c.args.shared.now.table.sizes.slots in let change = c.args.change.now in let to = c.place_of-new.result in
+    let old = c.args.seat.now in let mid = c.place_draft.new.seat in let new = c.exchange.new.seat in
+    let refs = c.in_ok-refs.refs.items in
+    let placed : to ≡ placed_ref p.draft.first refs p.at =
+    c.place_of-new.ensures ∙ ap (λ n. placed_ref n c.deref.result.now p.at) c.first-from.ensures ∙ ap
+    (λ rs. placed_ref p.draft.first rs p.at) c.deref.ensures.value in
+    let spelled = placed-spelled (drawn old.mark.log)
+    (drawn mid.mark.log) p.draft refs c.in_ok-refs.ensures.placed l.2.contents l.2.drawn l.2.first p.at
+    (version_of means (after_change l.0 change)) l.2.then in
+    let there = subst (λ (at : Ref). Spells means (drawn mid.mark.log) (stamp_of at) (after_change l.0 change))
+    (sym placed) spelled in
+    let base = spelled-stays old.mark.log mid.mark.log c.place_draft.ensures.seat.later.seen (stamp_of p.base)
+    (version_of means l.0) l.1 in
+    let what = subst (RetiresWhatIsLeft slots (drawn mid.mark.log) p.base to change c.deref-2.result.now mid.view new.view)
+    c.in-Ok-Won.field-0-is (c.in-Ok-Won.ensures.retired r) in
+    let later = c.place_draft.ensures.seat.later in
+    record {
+      base = p.base;
+      to = to;
+      goes = move_since old.mark mid.mark new.mark p.base to change later.seen later.seat
+          (c.in-Ok-Won.ensures.goes c.in-Ok-Won.field-0-is);
+      left = what.0;
+      are = are_left_grown (drawn mid.mark.log) (drawn new.mark.log) p.base to (version_of means l.0)
+          (version_of means (after_change l.0 change)) change what.0
+          (drawn_grown mid.mark.log new.mark.log c.exchange.ensures.seat.later.seen) base there what.1;
+      made = mid.view;
+      freed = new.view;
+      before = gives_kept slots old.view mid.view (c.place_draft.ensures.moves r) (c.in_ok-refs.ensures.just r).1;
+      retired = what.2;
+      behind = none new.view;
+    }

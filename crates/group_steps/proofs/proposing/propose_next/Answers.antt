@@ -16,7 +16,7 @@ use Rattle.answered.specs.Changes.{change_made}
 use Rattle.answered.specs.Trying.{IsUnproposed}
 use Rattle.replays.specs.Chaining.{IsTip}
 use Rattle.replays.specs.Refusing.{RefusesFor}
-use Rattle.group_steps.specs.Missing.{told}
+use Rattle.group_steps.specs.Missing.{IsStop, told}
 use Rattle.group_steps.specs.Places.{Place, state_at}
 use Rattle.group_steps.specs.Proposing.{change_asked}
 use Rattle.group_steps.proofs.Drafting.{behind_none, refused_for, told_unproposed}
@@ -46,9 +46,9 @@ returns-in-Err-clause-err g c =
     (by_meaning (meaning_of means y (view_of means t)) y.id)) again e in
     let right = reply_next means t x c.args.last c.requires.spot.opened c.requires.own c.requires.next.0 in
     let m = meaning_of means x (view_of means t) in
-    let un = subst (λ r. IsUnproposed (change_made x) r c.in-Err.e) (sym right)
+    let un = subst (λ r. IsUnproposed (IsStop g.S.Slots.reused) (change_made x) r c.in-Err.e) (sym right)
     (refused_for g.S.Slots.reused m x.id x c.in-Err.e f) in
-    told_unproposed (λ id. true) (change_made x) (change_asked (Mutated x))
+    told_unproposed (IsStop g.S.Slots.reused) (λ id. true) (change_made x) (change_asked (Mutated x))
     (mutate_reply means t c.args.last x) c.in-Err.e refl un
 
 pub returns-in-Ok-clause-proposed : goal.returns-in-Ok-clause-proposed

@@ -3,6 +3,7 @@ use Rattle.std.specs.Prelude.{IfOk, IfErr}
 use Rattle.group_history.specs.declared.changes.Change.{Change}
 use Rattle.head_word.specs.Books.{drawn}
 use Rattle.answered.specs.Trying.{IsUnproposed}
+use Rattle.group_steps.specs.Missing.{IsStop}
 use Rattle.group_steps.specs.Places.{state_at}
 use Rattle.group_steps.specs.Proposing.{Proposes, asked_reply, change_asked}
 use Rattle.group_steps.proofs.proposing.propose_open.Goals as goal
@@ -18,7 +19,7 @@ pub returns-in-Pulled-clause-err : goal.returns-in-Pulled-clause-err
 returns-in-Pulled-clause-err g c =
     let last = c.args.request.now.before.id in
     subst (λ (w : Change). IfErr c.propose_pull.result
-    (IsUnproposed (change_asked w) (asked_reply g.M.Means.means (state_at c.args.at.now) last w))) (sym c.in-Pulled.is)
+    (IsUnproposed (IsStop g.S.Slots.reused) (change_asked w) (asked_reply g.M.Means.means (state_at c.args.at.now) last w))) (sym c.in-Pulled.is)
     (c.propose_pull.ensures.err last)
 
 pub returns-in-Closed-clause-proposed : goal.returns-in-Closed-clause-proposed
@@ -32,5 +33,5 @@ pub returns-in-Closed-clause-err : goal.returns-in-Closed-clause-err
 returns-in-Closed-clause-err g c =
     let last = c.args.request.now.before.id in
     subst (λ (w : Change). IfErr c.propose_closing.result
-    (IsUnproposed (change_asked w) (asked_reply g.M.Means.means (state_at c.args.at.now) last w))) (sym c.in-Closed.is)
+    (IsUnproposed (IsStop g.S.Slots.reused) (change_asked w) (asked_reply g.M.Means.means (state_at c.args.at.now) last w))) (sym c.in-Closed.is)
     (c.propose_closing.ensures.err last)

@@ -1,0 +1,45 @@
+-- Why a change was refused for want of something.
+use Rattle.std.specs.Prelude.{ℕ, ◌≡◌, true, List, Option, Some, None, IsSome, Ok}
+use mathlib.Core.List.{IsPrefix}
+use Rattle.group_history.specs.declared.changes.Change.{Change}
+use Rattle.group_history.specs.declared.refusals.Refusal.{Refusal}
+use Rattle.group_history.specs.declared.refusals.Refusal.TheVariants as refusal
+use Rattle.group_history.specs.Meaning.{Meanings}
+use Rattle.group_history.specs.Record.{after}
+use Rattle.group_history.specs.State.{State}
+use Rattle.head_word.specs.declared.entry.Entry.{Entry}
+use Rattle.head_word.specs.Books.{record_of}
+use Rattle.reader_claims.specs.Seats.{kind_end}
+use Rattle.commit_graph.specs.Seats.{Seated}
+use Rattle.publishing.specs.Placed.{FoundNone}
+use Rattle.group_steps.specs.Proposing.{asked_reply, kind_for}
+
+-- The change was to be made at a state that the call came to see, and a pass found none of the slots that it may take
+-- there: each was taken, live, not to be given, or lost to another seat.
+pub record LacksSlots (means : Meanings) (last : ℕ) (change : Change) (old new : Seated) : Type 0 where
+  pub log : List Entry
+  pub since : IsPrefix old.mark.log log
+  pub until : IsPrefix log new.mark.log
+  pub asked : asked_reply means (after (record_of log)) last change ≡ Ok true
+  pub none : FoundNone old.view new.view (kind_end old.table.sizes (kind_for (after (record_of log)) change))
+
+-- What asks for no change lacks none.
+abbrev pub Lacks : Meanings → ℕ → Option Change → Seated → Seated → Type 0
+Lacks means last None old new = ⊥
+Lacks means last (Some c) old new = LacksSlots means last c old new
+
+-- The refusal has its cause: Full a pass, where slots are used again, Busy other seats, and Stamps a change that was to
+-- be drafted.
+pub record HasCause (means : Meanings) (reused : Type 0) (last : ℕ) (asked : Option Change) (old new : Seated)
+    (e : Refusal) : Type 0 where
+  pub full : reused → e ≡ refusal.Full → Lacks means last asked old new
+  pub busy : e ≡ refusal.Busy → reused
+  pub stamps : e ≡ refusal.Stamps → IsSome asked
+
+-- the same of a change that is tried at this state
+pub record HasCauseAt (means : Meanings) (reused : Type 0) (s : State) (last : ℕ) (change : Change) (old new : Seated)
+    (e : Refusal) : Type 0 where
+  pub asked : e ≡ refusal.Full → asked_reply means s last change ≡ Ok true
+  pub none : reused → e ≡ refusal.Full
+      → FoundNone old.view new.view (kind_end old.table.sizes (kind_for s change))
+  pub busy : e ≡ refusal.Busy → reused
