@@ -71,6 +71,13 @@ passing_read ticket (Ok response.StateNotFound) e is = absurd (cc is)
 passing_read ticket (Ok (response.VersionNotSupported kind)) e is = refl
 passing_read ticket (Err w) e is = refl
 
+-- and so does any other call that passes
+pub passing_changes : {X : Type 0} (reply : Result X Refusal) (change : Result X Refusal → Option Change)
+    → is_passing reply ≡ true → ((e : Refusal) → is_passing {X = X} (Err e) ≡ true → change (Err e) ≡ None)
+    → change reply ≡ None
+passing_changes (Ok x) change passes none = absurd (cc passes)
+passing_changes (Err e) change passes none = none e passes
+
 -- a reply that passes is a refusal
 pub passing_err : {X : Type 0} (reply : Result X Refusal) (P : Type 0) → is_passing reply ≡ true
     → IfErr reply (λ _. P) → P

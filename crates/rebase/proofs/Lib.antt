@@ -5,3 +5,4 @@ pub mod Seating
 mod Telling
 mod Unread
 mod Polling
+pub mod Causing

@@ -21,6 +21,9 @@ use Rattle.answered.specs.Answered.{Answers, IsRefused, is_want}
 use Rattle.answered.specs.Changes.{change_read}
 use Rattle.answered.proofs.Moving.{point_seen}
 use Rattle.rebase.specs.Asking.{end_bytes_reply}
+use Rattle.commit_graph.specs.Seats.{Seated}
+use Rattle.group_steps.specs.Causes.{HasCause}
+use Rattle.rebase.proofs.Causing.{cause_missed, cause_named}
 use Rattle.group_steps.proofs.Drafting.{right_or}
 use Rattle.group_steps.proofs.Making.{wanting}
 
@@ -61,3 +64,23 @@ unread means tries m ticket body e book is = by_cause (right_or e (answer_to bod
           point_seen means m m (prefix_self m.log) book refl,
           ap (λ a. a >>= end_reply (after (record_of m.log)) ticket.text) so,
         ))
+
+-- they lack nothing but memory
+pub unread_cause : (means : Meanings) (reused : Type 0) (last : ℕ) (asked : Option Change) (old new : Seated)
+    (body : Bytes) (e : Refusal) → Refuses e (answer_to body) → HasCause means reused last asked old new e
+unread_cause means reused last asked old new body e is = by_cause (right_or e (answer_to body) is)
+  where
+    by_cause : (e ≡ refusal.NoMemory) ⊎ (answer_to body ≡ Err e) → HasCause means reused last asked old new e
+    by_cause (inl none) = cause_missed means reused last asked old new e (inl none)
+    by_cause (inr so) = cause_named means reused last asked old new e
+        (refused_for (λ (w : Refusal). is_want w ≡ false) refl refl refl body e so)
+
+-- and change nothing
+pub unread_changes : (ticket : Cookie) (body : Bytes) (e : Refusal) → Refuses e (answer_to body)
+    → change_read ticket (answer_to body) (Err e) ≡ None
+unread_changes ticket body e is = by_cause (right_or e (answer_to body) is)
+  where
+    by_cause : (e ≡ refusal.NoMemory) ⊎ (answer_to body ≡ Err e) → change_read ticket (answer_to body) (Err e) ≡ None
+    by_cause (inl none) = ap (λ (w : Refusal). change_read ticket (answer_to body) (Err w)) none
+        ∙ none_read ticket (answer_to body)
+    by_cause (inr so) = ap (λ a. change_read ticket a (Err e)) so

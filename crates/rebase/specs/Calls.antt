@@ -1,9 +1,10 @@
 -- The calls of a client: what is right to reply to each, the change that a reply stands for, and when a list of calls
 -- is answered as a group of one thread answers it. What a refused call leaves is this project's own rule.
-use Rattle.std.specs.Prelude.{ℕ, ◌≡◌, ◌⊎◌, ◌+◌, ◌-◌, Bool, true, false, List, [], ◌∷◌, length, filter, Option, None}
+use Rattle.std.specs.Prelude.{ℕ, ◌≡◌, ◌⊎◌, ◌+◌, ◌-◌, Bool, true, false, List, [], ◌∷◌, length, filter, Option, Some, None}
 use Rattle.std.specs.Prelude.{Result, Ok, Err, IfErr}
 use mathlib.Core.List.{IsPrefix}
 use Rattle.group_history.specs.declared.changes.Change.{Change}
+use Rattle.group_history.specs.declared.changes.Change.TheVariants.{Mutated}
 use Rattle.group_history.specs.declared.mutations.Mutation.{Mutation}
 use Rattle.group_history.specs.declared.refusals.Refusal.{Refusal}
 use Rattle.group_history.specs.declared.responses.Ended.{Ended}
@@ -19,7 +20,7 @@ use Rattle.push_body.specs.Bodies.{push_text}
 use Rattle.push_body.specs.declared.identities.Identity.{Identity}
 use Rattle.answered.specs.Answered.{Answers, is_move, is_want, own_moves}
 use Rattle.answered.specs.Changes.{change_made, change_read, after_made}
-use Rattle.rebase.specs.Asking.{end_bytes_reply}
+use Rattle.rebase.specs.Asking.{change_wanted, end_bytes_reply}
 use Rattle.commit_graph.specs.Seats.{IsLater}
 use Rattle.group_steps.specs.Missing.{IsMissedOrDry, told}
 use Rattle.rebase.specs.Clients.{ClientState}
@@ -93,6 +94,12 @@ abbrev pub change_of : Caller → Call → Result Replied Refusal → Option Cha
 change_of c (call.Mutate m) reply = change_made (asked_mutation c m) (told id_in reply)
 change_of c (call.EndPull at bytes) reply = change_read at.now.cookie (answer_to bytes.now) (told ended_in reply)
 change_of c other reply = None
+
+-- the change that a call asks for, whatever is replied
+abbrev pub change_for : Caller → Call → Option Change
+change_for c (call.Mutate m) = Some (Mutated (asked_mutation c m))
+change_for c (call.EndPull at bytes) = change_wanted at.now.cookie (answer_to bytes.now)
+change_for c other = None
 
 -- the client after a reply: an id that is replied is its last one
 abbrev pub last_after : ℕ → Result Replied Refusal → ℕ

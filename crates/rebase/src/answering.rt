@@ -3,7 +3,7 @@
 //! A list of calls is answered call by call, each at a point of its own (`AreAnswered`). Where no other seat
 //! moves the head meanwhile, the replies are those of a group of one thread (`AreReplies`): each is the right
 //! one at the state that the calls before it left.
-ghost use Rattle.std.specs.Prelude.{◌≡◌, ◌⊎◌, ◌≤◌, true, [], Ok, length, map, vec_capacity, IfOk, IfErr, OnErr};
+ghost use Rattle.std.specs.Prelude.{false, ◌≡◌, ◌⊎◌, ◌≤◌, true, [], Ok, length, map, vec_capacity, IfOk, IfErr, OnErr};
 ghost use Rattle.group_history.specs.declared.mutators.Stop.TheVariants.{NoMemory as Dry};
 ghost use Rattle.group_history.specs.Meaning.{Meanings};
 ghost use Rattle.group_history.specs.Record.{after};
@@ -11,10 +11,12 @@ ghost use Rattle.group_history.specs.Spelling.{version_of};
 ghost use Rattle.group_history.specs.State.{State};
 ghost use Rattle.head_word.specs.Books.{record_of};
 ghost use Rattle.answered.specs.Answered.{Answers, nothing};
+ghost use Rattle.group_steps.specs.Causes.{HasCause};
+ghost use Rattle.group_steps.specs.Leaving.{Frees};
 ghost use Rattle.group_steps.specs.Missing.{IsMissedOrDry, told};
-ghost use Rattle.rebase.specs.Calls.{Caller, IsAlone, AreAnswered, AreReplies, caller_of, change_of, is_query};
-ghost use Rattle.rebase.specs.Calls.{is_reading, last_after, reply_to};
-ghost use Rattle.rebase.specs.Clients.{Acts, Rests, Stays};
+ghost use Rattle.rebase.specs.Calls.{Caller, IsAlone, AreAnswered, AreReplies, caller_of, change_for, change_of};
+ghost use Rattle.rebase.specs.Calls.{is_query, is_reading, last_after, reply_to};
+ghost use Rattle.rebase.specs.Clients.{Acts, Looks, Rests, Stays};
 ghost use Rattle.rebase.specs.Readers.{lent, read_by};
 ghost use Rattle.rebase.specs.Replies.{reply_seen};
 
@@ -84,6 +86,11 @@ where
         ensures err { is_reading call.entry ≡ true → IfErr result (IsMissedOrDry S.reused) }
         ensures last { self.new.last ≡ last_after self.old.last (told reply_seen result) }
         ensures acts { Acts S.reused self.old self.new }
+        ensures looks { is_reading call.entry ≡ true → Looks S.reused self.old self.new }
+        ensures cause { IfErr result (HasCause M.means S.reused self.old.last (change_for (caller_of self.old) call.entry)
+            self.old.seat self.new.seat) }
+        ensures frees { is_reading call.entry ≡ false → S.reused → Frees self.old.group.group.table.sizes.slots
+            self.old.seat self.new.seat (change_of (caller_of self.old) call.entry (told reply_seen result)) }
     {
         match call {
             Call::Refresh => self.refresh(tries).map(Reply::Id),

@@ -1,5 +1,5 @@
 //! Rows that are taken beside others, and copied from the first one on that differs.
-ghost use Rattle.std.specs.Prelude.{◌≡◌, ◌<◌, ◌+◌, ◌++◌, ◌∷◌, [], length, take, IfNone, IfOk, IfSome, IsTrue, OnOk};
+ghost use Rattle.std.specs.Prelude.{◌≡◌, ◌<◌, ◌+◌, ◌++◌, ◌∷◌, [], length, take, IfNone, IfOk, IfSome, IsTrue, OnErr, OnOk};
 ghost use Rattle.rebase.specs.Inside.Watching.{taken_rows};
 ghost use Rattle.rebase.specs.Watching.{Rows};
 
@@ -49,8 +49,9 @@ impl<'a, B: Before> Beside<'a, B> {
     }
 
     fn add(&mut self, key: &Text, value: &Json) -> Result<(), AllocError>
-        ensures { OnOk result (taken_rows B.rows self.new.taken
+        ensures more { OnOk result (taken_rows B.rows self.new.taken
             ≡ taken_rows B.rows self.old.taken ++ (key.now, value.now) ∷ []) }
+        ensures still { OnErr result (taken_rows B.rows self.new.taken ≡ taken_rows B.rows self.old.taken) }
     {
         match &mut self.taken {
             Taken::Own(rows) => return add_row(rows, key, value),
@@ -106,7 +107,8 @@ fn is_at(rows: &[(Text, Json)], place: usize, key: &Text, value: &Json) -> bool
 }
 
 fn add_row(rows: &mut Vec<(Text, Json)>, key: &Text, value: &Json) -> Result<(), AllocError>
-    ensures { OnOk result (rows.new.items ≡ rows.old.items ++ (key.now, value.now) ∷ []) }
+    ensures more { OnOk result (rows.new.items ≡ rows.old.items ++ (key.now, value.now) ∷ []) }
+    ensures still { OnErr result (rows.new.items ≡ rows.old.items) }
 {
     let key = key.clone()?;
     let value = value.clone()?;

@@ -2,7 +2,8 @@
 //!
 //! A change is made once, by one exchange of the group's head, or not at all. The forms that begin with `try_`
 //! return after as many tries as they are given; the others go on while others are in the way.
-ghost use Rattle.std.specs.Prelude.{◌≡◌, ◌+◌, ◌<◌, ◌^◌, false, Ok, Some, IfOk, IfErr, IfSome, IsSome};
+ghost use Rattle.std.specs.Prelude.{◌≡◌, ◌+◌, ◌<◌, ◌^◌, false, Ok, Some, None, IfOk, IfErr, IfSome, IsSome};
+ghost use Rattle.group_history.specs.declared.changes.Change.TheVariants.{Mutated, Pulled, Closed};
 ghost use Rattle.group_history.specs.declared.responses.Response.TheVariants as response;
 ghost use Rattle.group_history.specs.Map.{Bytes};
 ghost use Rattle.group_history.specs.Mutating.{mutate_reply};
@@ -15,10 +16,12 @@ ghost use Rattle.commit_graph.specs.LastIds.{last_at};
 ghost use Rattle.pull_patch.specs.Grammar.{answer_to};
 ghost use Rattle.answered.specs.Answered.{Answers, nothing};
 ghost use Rattle.answered.specs.Changes.{change_applied, change_closing, change_made, change_read};
+ghost use Rattle.group_steps.specs.Causes.{HasCause};
+ghost use Rattle.group_steps.specs.Leaving.{Frees};
 ghost use Rattle.group_steps.specs.Missing.{told};
 ghost use Rattle.group_steps.specs.Changing.{ended_as, is_made};
 ghost use Rattle.group_steps.specs.Proposing.{AsksNext, HasLast, asked_reply, change_asked};
-ghost use Rattle.rebase.specs.Asking.{end_bytes_reply, is_passing};
+ghost use Rattle.rebase.specs.Asking.{change_wanted, end_bytes_reply, is_passing};
 ghost use Rattle.rebase.specs.Clients.{Acts, IsSameClient};
 
 use crate::client::Client;
@@ -64,6 +67,10 @@ where
             (λ s. asked_reply M.means s self.old.last change) }
         ensures found { IfOk result (λ made. IfSome made (λ at. HasLast (drawn self.new.seat.mark.log) at change)) }
         ensures acts { Acts S.reused self.old self.new × (self.new.last ≡ self.old.last) }
+        ensures cause { IfErr result (HasCause M.means S.reused self.old.last (Some change)
+            self.old.seat self.new.seat) }
+        ensures frees { S.reused → Frees self.old.group.group.table.sizes.slots self.old.seat self.new.seat
+            (change_asked change (told is_made result)) }
     {
         let before = LastId {
             at: self.found,
@@ -113,6 +120,11 @@ where
         ensures last { IfOk result (λ id. (id ≡ self.old.last + 1) × (self.new.last ≡ id)) }
         ensures left { IfErr result (λ _. self.new.last ≡ self.old.last) }
         ensures acts { Acts S.reused self.old self.new }
+        ensures cause { IfErr result (HasCause M.means S.reused self.old.last
+            (Some (Mutated (made self.old.id (self.old.last + 1) name.now args.now time)))
+            self.old.seat self.new.seat) }
+        ensures frees { S.reused → Frees self.old.group.group.table.sizes.slots self.old.seat self.new.seat
+            (change_made (made self.old.id (self.old.last + 1) name.now args.now time) result) }
     {
         let mutation = match Mutation::new(&self.id, self.last + 1, name, args, time) {
             Ok(mutation) => mutation,
@@ -129,6 +141,10 @@ where
         ensures answer { Answers M.means tries self.old.seat.mark self.new.seat.mark result (change_applied ticket.now pull)
             (λ s. end_reply s ticket.now.text (response.Ok pull)) }
         ensures acts { Acts S.reused self.old self.new × (self.new.last ≡ self.old.last) }
+        ensures cause { IfErr result (HasCause M.means S.reused self.old.last (Some (Pulled ticket.now pull))
+            self.old.seat self.new.seat) }
+        ensures frees { S.reused → Frees self.old.group.group.table.sizes.slots self.old.seat self.new.seat
+            (change_applied ticket.now pull result) }
     {
         match ticket.clone() {
             Ok(cookie) => ended_as(self.change(Change::Pulled(cookie, pull), tries)),
@@ -144,6 +160,10 @@ where
         ensures answer { (ticket : Bytes) → Answers M.means tries self.old.seat.mark self.new.seat.mark result change_closing
             (λ s. end_reply s ticket response.StateNotFound) }
         ensures acts { Acts S.reused self.old self.new × (self.new.last ≡ self.old.last) }
+        ensures cause { IfErr result (HasCause M.means S.reused self.old.last (Some Closed)
+            self.old.seat self.new.seat) }
+        ensures frees { S.reused → Frees self.old.group.group.table.sizes.slots self.old.seat self.new.seat
+            (change_closing result) }
     {
         match self.change(Change::Closed, tries) {
             Ok(_) => Err(Refusal::StateNotFound),
@@ -156,6 +176,10 @@ where
         ensures answer { (ticket : Bytes) → Answers M.means tries self.old.seat.mark self.new.seat.mark result nothing
             (λ s. end_reply s ticket (response.VersionNotSupported kind)) }
         ensures acts { Acts S.reused self.old self.new × (self.new.last ≡ self.old.last) }
+        ensures cause { IfErr result (HasCause M.means S.reused self.old.last None
+            self.old.seat self.new.seat) }
+        ensures frees { S.reused → Frees self.old.group.group.table.sizes.slots self.old.seat self.new.seat
+            (None) }
     {
         let at = self.begin(tries)?;
         let closed = closed_at(&self.here(at, tries));
@@ -191,6 +215,10 @@ where
             (change_read ticket.now.cookie (answer_to body.now))
             (λ s. end_bytes_reply s ticket.now.cookie.text body.now) }
         ensures acts { Acts S.reused self.old self.new × (self.new.last ≡ self.old.last) }
+        ensures cause { IfErr result (HasCause M.means S.reused self.old.last (change_wanted ticket.now.cookie (answer_to body.now))
+            self.old.seat self.new.seat) }
+        ensures frees { S.reused → Frees self.old.group.group.table.sizes.slots self.old.seat self.new.seat
+            (change_read ticket.now.cookie (answer_to body.now) result) }
     {
         let response = match self.response_in(body) {
             Ok(response) => response,
@@ -227,6 +255,11 @@ where
         ensures last { IfOk result (λ id. (id ≡ self.old.last + 1) × (self.new.last ≡ id)) }
         ensures left { IfErr result (λ _. self.new.last ≡ self.old.last) }
         ensures acts { Acts S.reused self.old self.new }
+        ensures cause { IfErr result (HasCause M.means S.reused self.old.last
+            (Some (Mutated (made self.old.id (self.old.last + 1) name.now args.now time)))
+            self.old.seat self.new.seat) }
+        ensures frees { S.reused → Frees self.old.group.group.table.sizes.slots self.old.seat self.new.seat
+            (change_made (made self.old.id (self.old.last + 1) name.now args.now time) result) }
     {
         for turn in rt.forever() {
             let _ = turn;
@@ -251,6 +284,10 @@ where
             (λ s. end_bytes_reply s ticket.now.cookie.text body.now) }
         ensures lasting { is_passing result ≡ false }
         ensures acts { Acts S.reused self.old self.new × (self.new.last ≡ self.old.last) }
+        ensures cause { IfErr result (HasCause M.means S.reused self.old.last (change_wanted ticket.now.cookie (answer_to body.now))
+            self.old.seat self.new.seat) }
+        ensures frees { S.reused → Frees self.old.group.group.table.sizes.slots self.old.seat self.new.seat
+            (change_read ticket.now.cookie (answer_to body.now) result) }
     {
         for turn in rt.forever() {
             let _ = turn;

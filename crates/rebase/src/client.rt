@@ -13,6 +13,7 @@ ghost use Rattle.group_history.specs.State.{last_id, view_of};
 ghost use Rattle.head_word.specs.Books.{drawn, record_of};
 ghost use Rattle.head_word.specs.Marks.{known};
 ghost use Rattle.chunk_slots.specs.Seats.{IsIdle};
+ghost use Rattle.reader_claims.specs.Machine.{Moves};
 ghost use Rattle.commit_graph.specs.LastIds.{last_at};
 ghost use Rattle.commit_graph.specs.Seats.{HasLooked, IsSeatOf, is_held};
 ghost use Rattle.push_body.specs.Bodies.{pull_text, push_text};
@@ -28,7 +29,7 @@ use crate::group::Group;
 use crate::reading::Point;
 use crate::seats::Seat;
 use crate::tickets::Ticket;
-use chunk_slots::Slots;
+use chunk_slots::{Arena, Slots};
 use commit_graph::{LastId, Seat as ClientSeat, Shared};
 use group_history::{Cookie, Means, Ref, Refusal, Text};
 use group_steps::{
@@ -36,6 +37,7 @@ use group_steps::{
 };
 use head_word::Mark;
 use push_body::{Identity, pull_bytes};
+use reader_claims::SlotCounts;
 use std::alloc::{AllocError, Global};
 use std::marker::Model;
 use std::sync::Arc;
@@ -92,7 +94,8 @@ where
 {
     // Pins the seat, and looks where the head is.
     pub(crate) fn begin(&mut self, tries: u32) -> Result<Ref, Refusal>
-        ensures reads { IfOk result (λ _. Reads S.reused self.old self.new) }
+        ensures reads { IfOk result (λ _. Reads S.reused tries self.old self.new) }
+        ensures moves { S.reused → Moves self.old.seat.view self.new.seat.view }
         ensures point { IfOk result (λ _. IsPoint M.means self.old.seat.mark self.new.seat.mark None
             self.new.seat.mark.log) }
         ensures base { IfOk result (λ at. IsBase M.means self.new.seat.mark at
@@ -109,6 +112,7 @@ where
     // Takes the pin away.
     pub(crate) fn finish(&mut self)
         ensures stays { Stays S.reused self.old self.new }
+        ensures moves { S.reused → Moves self.old.seat.view self.new.seat.view }
         ensures mark { self.new.seat.mark ≡ self.old.seat.mark }
     {
         let group: &SharedGroup<M, S> = &self.group;
@@ -129,6 +133,7 @@ where
     pub(crate) fn refuse<T>(&mut self, e: Refusal) -> Result<T, Refusal>
         ensures err { result ≡ Err e }
         ensures stays { Stays S.reused self.old self.new }
+        ensures moves { S.reused → Moves self.old.seat.view self.new.seat.view }
         ensures mark { self.new.seat.mark ≡ self.old.seat.mark }
     {
         self.finish();
@@ -211,7 +216,7 @@ where
 
     // Pins the seat, and finds the commit at the head and its root. The pin is taken away where that is refused.
     pub(crate) fn point(&mut self, tries: u32) -> Result<Point<M>, Refusal>
-        ensures reads { IfOk result (λ _. Reads S.reused self.old self.new) }
+        ensures reads { IfOk result (λ _. Reads S.reused tries self.old self.new) }
         ensures point { IfOk result (λ at. IsPoint M.means self.old.seat.mark self.new.seat.mark None at.log
             × (at.book ≡ self.new.seat.mark.book)) }
         ensures missed { IfErr result (IsMissed S.reused) }
@@ -269,6 +274,31 @@ where
     {
         let group: &SharedGroup<M, S> = &self.group;
         learn_on(&group.shared, &mut self.seat, other);
+    }
+}
+
+impl<M: Means> Client<M, Arena<M>> {
+    ghost use Rattle.std.specs.Prelude.{⊤, ◌-◌, ◌≤◌};
+    ghost use Rattle.reader_claims.specs.Counts.{Counts, Found, HasOldest, all_slots};
+    ghost use Rattle.reader_claims.specs.Seats.{first_reserved};
+
+    /// How many of the group's slots are in each state, and how many of its seats are pinned: one look at
+    /// each word, one after the other, so each was so at some time in the call, and no two need have been so
+    /// at once. Nothing is changed, nobody is waited for, and no memory is taken.
+    pub fn slots(&mut self) -> SlotCounts
+        ensures counts { Counts (Found self.old.seat.view self.new.seat.view) self.old.group.group.table.sizes result }
+        ensures all { all_slots result ≡ self.old.group.group.table.sizes.slots }
+        ensures ordinary { result.ordinary_free ≤ first_reserved self.old.group.group.table.sizes }
+        ensures reserved { result.reserved_free ≤ self.old.group.group.table.sizes.slots
+            - first_reserved self.old.group.group.table.sizes }
+        ensures pins { result.pinned_seats ≤ self.old.group.group.table.sizes.readers }
+        ensures oldest { HasOldest result }
+        ensures looked { HasLooked ⊤ self.old.seat self.new.seat }
+        ensures pin { self.new.seat.view.pin ≡ self.old.seat.view.pin }
+        ensures same { IsSameClient self.old self.new × (self.new.last ≡ self.old.last) }
+    {
+        let group: &SharedGroup<M, Arena<M>> = &self.group;
+        group.shared.store.count(&mut self.seat.slots)
     }
 }
 

@@ -1,20 +1,17 @@
 //! A group of clients.
-ghost use Rattle.std.specs.Prelude.{◌≡◌, ◌⊎◌, ◌-◌, ◌≤◌, ℕ, length, IfOk, IfErr};
+ghost use Rattle.std.specs.Prelude.{◌≡◌, ◌⊎◌, ◌≤◌, length, IfOk, IfErr};
 ghost use Rattle.std.specs.Arc.{arc_value};
 ghost use Rattle.group_history.specs.declared.refusals.Refusal.TheVariants as refusal;
 ghost use Rattle.group_history.specs.Refs.{max_seats, max_slots};
-ghost use Rattle.reader_claims.specs.Counts.{Counts, HasOldest, all_slots, whatever};
-ghost use Rattle.reader_claims.specs.Seats.{first_reserved};
-ghost use Rattle.rebase.specs.Clients.{AreSeatsOf, grouped};
+ghost use Rattle.rebase.specs.Clients.{AreOpening, AreSeatsOf, grouped};
 
 use crate::config::Config;
 use crate::seats::{Seats, seat_all};
-use chunk_slots::{Arena, Slots, Store};
+use chunk_slots::{Slots, Store};
 use commit_graph::Shared;
 use group_history::{Means, Refusal};
 use group_steps::SharedGroup;
 use push_body::Identity;
-use reader_claims::SlotCounts;
 use std::alloc::{AllocError, Global};
 use std::marker::Model;
 use std::sync::Arc;
@@ -48,6 +45,9 @@ where
     requires seats { (1 ≤ seats) × (seats ≤ max_seats) }
     ensures count { IfOk result (λ made. length made.1.free ≡ seats) }
     ensures seats { IfOk result (λ made. AreSeatsOf made.0 made.1.free) }
+    ensures sizes { S.reused → IfOk result
+        (λ made. made.0.table.sizes ≡ record { readers = seats; slots = slots }) }
+    ensures opening { IfOk result (λ made. AreOpening S.reused made.0.table.sizes made.1.free) }
     ensures err { IfErr result (λ e. (e ≡ refusal.NoMemory) ⊎ (S.reused × ((e ≡ refusal.Busy) ⊎ (e ≡ refusal.Full)))) }
 {
     let (store, claimed, head, marks) = S::open(alloc, parts, slots, seats)?;
@@ -80,6 +80,9 @@ where
         ensures identity { IfOk result (λ made. made.0.identity ≡ config.identity) }
         ensures count { IfOk result (λ made. length made.1.free ≡ config.seats) }
         ensures seats { IfOk result (λ made. AreSeatsOf made.0.group made.1.free) }
+        ensures sizes { S.reused → IfOk result
+            (λ made. made.0.group.table.sizes ≡ record { readers = config.seats; slots = config.slots }) }
+        ensures opening { IfOk result (λ made. AreOpening S.reused made.0.group.table.sizes made.1.free) }
         ensures err { IfErr result (λ e. (e ≡ refusal.NoMemory)
             ⊎ (S.reused × ((e ≡ refusal.Busy) ⊎ (e ≡ refusal.Full)))) }
     {
@@ -94,23 +97,5 @@ where
             },
         )?;
         Ok((group, seats))
-    }
-}
-
-impl<M: Means> Group<M, Arena<M>> {
-    /// How many of the group's slots are in each state, and how many of its seats are pinned: one look at
-    /// each word, one after the other, so each was so at some time in the call, and no two need have been so
-    /// at once. Nothing is changed, nobody is waited for, and no client and no memory is needed.
-    pub fn slots(&self) -> SlotCounts
-        ensures counts { Counts whatever self.now.group.table.sizes result }
-        ensures all { all_slots result ≡ self.now.group.table.sizes.slots }
-        ensures ordinary { result.ordinary_free ≤ first_reserved self.now.group.table.sizes }
-        ensures reserved { result.reserved_free
-            ≤ self.now.group.table.sizes.slots - first_reserved self.now.group.table.sizes }
-        ensures pins { result.pinned_seats ≤ self.now.group.table.sizes.readers }
-        ensures oldest { HasOldest result }
-    {
-        let group: &SharedGroup<M, Arena<M>> = &self.shared;
-        group.shared.store.count()
     }
 }

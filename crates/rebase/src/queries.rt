@@ -1,5 +1,5 @@
 //! Readings of a group: a reader, and what one reading answers.
-ghost use Rattle.std.specs.Prelude.{◌≡◌, Ok, None, IfOk, IfErr, OnOk};
+ghost use Rattle.std.specs.Prelude.{◌≡◌, Ok, None, IfOk, IfErr, OnErr, OnOk};
 ghost use Rattle.std.specs.Borrow.{sem, RestsIfErr};
 ghost use Rattle.group_history.specs.Queries.{rows_at};
 ghost use Rattle.group_history.specs.Rows.{Rows};
@@ -7,7 +7,7 @@ ghost use Rattle.map_chunks.specs.Sinks.{HasMore};
 ghost use Rattle.answered.specs.Answered.{Answers, IsPoint, nothing};
 ghost use Rattle.group_steps.specs.Missing.{IsMissed, IsMissedOrDry};
 ghost use Rattle.rebase.specs.Clients.{Reads, Stays};
-ghost use Rattle.rebase.specs.Queries.{gave};
+ghost use Rattle.rebase.specs.Queries.{GaveSome, gave};
 ghost use Rattle.rebase.specs.Readers.{lent, seen_by};
 ghost use Rattle.rebase.specs.contracts.client.Client.{the_row};
 
@@ -28,7 +28,7 @@ where
         ensures same_reference { IfOk result (λ tx. (lent tx).ghost_name ≡ self.entry.ghost_name) }
         ensures point { IfOk result (λ tx. IsPoint M.means self.old.seat.mark (lent tx).now.seat.mark None
             (seen_by tx).log) }
-        ensures reads { IfOk result (λ tx. Reads S.reused self.old (lent tx).now) }
+        ensures reads { IfOk result (λ tx. Reads S.reused tries self.old (lent tx).now) }
         ensures missed { IfErr result (IsMissed S.reused) }
     {
         let at = self.point(tries)?;
@@ -46,6 +46,8 @@ where
         ensures answer { (rows : Rows) × Answers M.means tries self.old.seat.mark self.new.seat.mark
             (gave rows result) nothing (λ s. Ok (rows_at M.means s scan.now))
             × OnOk result (HasMore T.has sink.old sink.new rows) }
+        ensures begun { OnErr result (GaveSome M.means T.has self.old.seat.mark self.new.seat.mark scan.now sink.old
+            sink.new) }
         ensures err { IfErr result (IsMissedOrDry S.reused) }
         ensures stays { Stays S.reused self.old self.new }
     {

@@ -1,5 +1,5 @@
 //! One commit, read as often as its reader likes.
-ghost use Rattle.std.specs.Prelude.{◌≡◌, ◌⊎◌, Some, IfOk, IfErr, OnOk};
+ghost use Rattle.std.specs.Prelude.{◌≡◌, ◌⊎◌, Some, IfOk, IfErr, OnErr, OnOk};
 ghost use mathlib.Core.List.{IsPrefix};
 ghost use Rattle.group_history.specs.declared.refusals.Refusal.TheVariants.{Gone};
 ghost use Rattle.group_history.specs.Queries.{get_at, has_at, rows_at, is_empty_at};
@@ -9,7 +9,7 @@ ghost use Rattle.group_history.specs.Spelling.{Spells, map_at, version_of};
 ghost use Rattle.group_history.specs.State.{view_of};
 ghost use Rattle.head_word.specs.Books.{drawn, record_of};
 ghost use Rattle.head_word.specs.Marks.{known};
-ghost use Rattle.map_chunks.specs.Sinks.{HasMore};
+ghost use Rattle.map_chunks.specs.Sinks.{HasMore, HasBegun};
 ghost use Rattle.commit_graph.specs.Seats.{IsReading};
 ghost use Rattle.group_steps.specs.Missing.{IsMissed, IsMissedOrDry};
 ghost use Rattle.rebase.specs.Clients.{Stays};
@@ -196,6 +196,8 @@ where
     /// an `Err` the sink may have some of them.
     pub fn scan_into<T: TakesRows>(&self, scan: &Scan, sink: &mut T) -> Result<(), Refusal>
         ensures rows { OnOk result (HasMore T.has sink.old sink.new
+            (rows_at M.means (read_by self.now) scan.now)) }
+        ensures begun { OnErr result (HasBegun T.has sink.old sink.new
             (rows_at M.means (read_by self.now) scan.now)) }
         ensures err { IfErr result (IsMissedOrDry S.reused) }
     {

@@ -1,6 +1,8 @@
-use Rattle.std.proofs.Common.{sym, ◌∙◌}
+use Rattle.std.proofs.Common.{List, subst, sym, ◌∙◌}
+use Rattle.reader_claims.specs.declared.view.View.{View}
+use Rattle.chunk_slots.specs.Seats.{IsOpening}
 use Rattle.head_word.specs.Books.{opening, opening_ref}
-use Rattle.rebase.proofs.Seating.{marks_seated}
+use Rattle.rebase.proofs.Seating.{marks_seated, seen_seated}
 use Rattle.rebase.proofs.group.open_shared.Goals as goal
 
 pub seat_all-requires-clause-count : goal.seat_all-requires-clause-count
@@ -20,3 +22,13 @@ returns-clause-count g c =
     let e = c.in_ok-store.ensures in
     c.in_ok-seats.ensures.count ∙ (marks_seated c.in_ok-store.head
     (opening (opening_ref e.marks.0)) c.args.seats c.in_ok-store.marks.items e.marks.1).1
+
+pub returns-clause-opening : goal.returns-clause-opening
+returns-clause-opening g c =
+    let e = c.in_ok-store.ensures in let log = opening (opening_ref e.marks.0) in record {
+      commit = e.marks.0;
+      seen = c.in_ok-seats.ensures.seen log (seen_seated c.in_ok-store.head log c.args.seats c.in_ok-store.marks.items
+          e.marks.1);
+      slots = λ r. subst (λ (views : List View). IsOpening (g.S.Slots.serves c.in_ok-store.store).sizes views e.marks.0)
+          c.in_ok-seats.ensures.views (e.marks.2 r);
+    }

@@ -8,8 +8,10 @@ use Rattle.group_history.specs.Pulling.{end_reply}
 use Rattle.answered.specs.Answered.{Answers}
 use Rattle.answered.specs.Changes.{change_applied}
 use Rattle.group_steps.specs.Changing.{is_made}
+use Rattle.group_steps.specs.Leaving.{Frees}
 use Rattle.group_steps.specs.Proposing.{asked_reply, change_asked}
 use Rattle.group_steps.specs.Missing.{told}
+use Rattle.rebase.proofs.Causing.{frees_none}
 use Rattle.rebase.proofs.Telling.{pull_told}
 use Rattle.rebase.proofs.client.Client.end_applied.Goals as goal
 
@@ -23,3 +25,10 @@ returns-in-Ok-clause-answer g c =
     subst (λ (w : Result Ended Refusal). Answers means c.args.tries old new w (change_applied t r)
     (λ s. end_reply s t.text (response.Ok r))) (sym c.ended_as.ensures)
     (pull_told means c.args.tries old new last t r c.change.result made)
+
+pub returns-in-Err-clause-frees : goal.returns-in-Err-clause-frees
+returns-in-Err-clause-frees g c r =
+    let old = c.args.self.now in let new = c.refuse.new.self in let slots = old.group.group.table.sizes.slots in
+    subst (λ (w : Result Ended Refusal). Frees slots old.seat new.seat (change_applied c.args.ticket.now c.args.pull w))
+    (sym c.refuse.ensures.err)
+    (frees_none slots old.seat new.seat (c.refuse.ensures.moves r) (c.refuse.ensures.stays.0.looked.calm r).1)

@@ -1,9 +1,16 @@
-use Rattle.std.proofs.Common.{◌≡◌, true, false, rules, ◌∙◌}
+use Rattle.std.proofs.Common.{◌≡◌, ℕ, true, false, None, Option, refl, rules, subst, ◌∙◌}
+use Rattle.std.specs.Prelude.{IfErr}
+use Rattle.group_history.specs.declared.changes.Change.{Change}
 use Rattle.pull_patch.specs.Grammar.{answer_to}
 use Rattle.answered.specs.Changes.{change_read}
-use Rattle.commit_graph.proofs.Seating.{seat-trans}
-use Rattle.rebase.specs.Asking.{end_bytes_reply, is_passing}
-use Rattle.rebase.proofs.Lasting.{begun_anew, left_alone, passing_read}
+use Rattle.reader_claims.specs.Machine.{still}
+use Rattle.commit_graph.proofs.Seating.{seat-self, seat-trans}
+use Rattle.group_steps.specs.Causes.{HasCause}
+use Rattle.group_steps.specs.Leaving.{Frees}
+use Rattle.rebase.specs.Asking.{change_wanted, end_bytes_reply, is_passing}
+use Rattle.rebase.specs.Clients.{Grouped}
+use Rattle.rebase.proofs.Causing.{cause_anew, frees_anew, frees_moves, frees_none, if_err_then}
+use Rattle.rebase.proofs.Lasting.{begun_anew, left_alone, passing_changes, passing_read}
 use Rattle.rebase.proofs.client.Client.end_pull.Goals as goal
 
 pub returns-then-not-is_passing-clause-answer : goal.returns-then-not-is_passing-clause-answer
@@ -29,4 +36,40 @@ loop-turn-preserved g c =
       own = left_alone g.M.Means.means 1000 mid.seat.mark new.seat.mark c.try_end_pull-reply.result
           (change_read ticket (answer_to c.args.body.now)) (λ s. end_bytes_reply s ticket.text c.args.body.now) passes
           (passing_read ticket (answer_to c.args.body.now)) e.answer ∙ i.own;
+      gave = λ r. frees_anew old.group.group.table.sizes.slots old.seat mid.seat new.seat None i.seat (i.gave r)
+          (subst (λ (group : Grouped). Frees group.group.table.sizes.slots mid.seat new.seat None) i.client.0
+          (subst (λ (o : Option Change). Frees mid.group.group.table.sizes.slots mid.seat new.seat o)
+          (passing_changes c.try_end_pull-reply.result (change_read ticket (answer_to c.args.body.now)) passes
+          (passing_read ticket (answer_to c.args.body.now))) (e.frees r)));
     }
+
+pub loop-turn-init : goal.loop-turn-init
+loop-turn-init g c = let old = c.args.self.now in record {
+  client = (refl, refl);
+  last = refl;
+  seat = seat-self old.seat;
+  gave = λ r. frees_none old.group.group.table.sizes.slots old.seat old.seat (still old.seat.view) refl;
+  own = refl;
+}
+
+pub returns-then-not-is_passing-clause-cause : goal.returns-then-not-is_passing-clause-cause
+returns-then-not-is_passing-clause-cause g c =
+    let means = g.M.Means.means in let reused = g.S.Slots.reused in let old = c.args.self.now in
+    let mid = c.loop-turn.self in let new = c.try_end_pull-reply.new.self in let i = c.loop-turn.invariant in
+    let reply = c.try_end_pull-reply.result in
+    let asked = change_wanted c.args.ticket.now.cookie (answer_to c.args.body.now) in
+    let last = subst (λ (n : ℕ). IfErr reply (HasCause means reused n asked mid.seat new.seat)) i.last
+    c.try_end_pull-reply.ensures.cause in
+    if_err_then (HasCause means reused old.last asked mid.seat new.seat)
+    (HasCause means reused old.last asked old.seat new.seat) reply last (λ e h.
+    cause_anew means reused old.last asked old.seat mid.seat new.seat e i.seat.later.seen i.seat.table
+    (λ r. frees_moves old.group.group.table.sizes.slots old.seat mid.seat (i.gave r)) h)
+
+pub returns-then-not-is_passing-clause-frees : goal.returns-then-not-is_passing-clause-frees
+returns-then-not-is_passing-clause-frees g c r =
+    let old = c.args.self.now in let mid = c.loop-turn.self in let new = c.try_end_pull-reply.new.self in
+    let i = c.loop-turn.invariant in let reply = c.try_end_pull-reply.result in
+    let change = change_read c.args.ticket.now.cookie (answer_to c.args.body.now) reply in
+    frees_anew old.group.group.table.sizes.slots old.seat mid.seat new.seat change i.seat (i.gave r)
+    (subst (λ (group : Grouped). Frees group.group.table.sizes.slots mid.seat new.seat change) i.client.0
+    (c.try_end_pull-reply.ensures.frees r))

@@ -1,6 +1,7 @@
-use Rattle.std.proofs.Common.{◌≡◌}
+use Rattle.std.proofs.Common.{◌≡◌, None}
 use Rattle.answered.specs.Answered.{own_moves}
 use Rattle.commit_graph.specs.Seats.{IsSameSeat}
+use Rattle.group_steps.specs.Leaving.{Frees}
 use Rattle.rebase.specs.Clients.{IsSameClient}
 use Rattle.rebase.proofs.client.Client.end_pull.Given as goal
 
@@ -10,5 +11,6 @@ invariant-loop-turn g l = record {
   client : IsSameClient l.initial.self l.self;
   last : l.self.last ≡ l.initial.self.last;
   seat : IsSameSeat l.initial.self.seat l.self.seat;
+  gave : g.S.Slots.reused → Frees l.initial.self.group.group.table.sizes.slots l.initial.self.seat l.self.seat None;
   own : own_moves l.self.seat.mark ≡ own_moves l.initial.self.seat.mark;
 }

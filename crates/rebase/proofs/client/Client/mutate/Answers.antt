@@ -1,13 +1,20 @@
-use Rattle.std.proofs.Common.{◌≡◌, ◌+◌, ℕ, true, false, refl, rules, subst, ◌∙◌}
+use Rattle.std.proofs.Common.{◌≡◌, ◌+◌, ℕ, true, false, None, Option, Some, refl, rules, subst, ◌∙◌}
 use Rattle.std.specs.Prelude.{IfOk, IfErr}
+use Rattle.group_history.specs.declared.changes.Change.{Change}
+use Rattle.group_history.specs.declared.changes.Change.TheVariants.{Mutated}
 use Rattle.group_history.specs.Map.{Bytes}
 use Rattle.group_history.specs.Mutating.{mutate_reply}
 use Rattle.group_history.specs.State.{made}
 use Rattle.answered.specs.Answered.{Answers}
 use Rattle.answered.specs.Changes.{change_made}
 use Rattle.rebase.specs.Asking.{is_passing}
-use Rattle.commit_graph.proofs.Seating.{seat-trans}
-use Rattle.rebase.proofs.Lasting.{begun_anew, left_alone, passing_err}
+use Rattle.reader_claims.specs.Machine.{still}
+use Rattle.commit_graph.proofs.Seating.{seat-self, seat-trans}
+use Rattle.group_steps.specs.Causes.{HasCause}
+use Rattle.group_steps.specs.Leaving.{Frees}
+use Rattle.rebase.specs.Clients.{Grouped}
+use Rattle.rebase.proofs.Causing.{cause_anew, frees_anew, frees_moves, frees_none, if_err_then}
+use Rattle.rebase.proofs.Lasting.{begun_anew, left_alone, passing_changes, passing_err}
 use Rattle.rebase.proofs.client.Client.mutate.Goals as goal
 
 pub returns-then-not-is_passing-clause-answer : goal.returns-then-not-is_passing-clause-answer
@@ -47,4 +54,49 @@ loop-turn-preserved g c =
       seat = seat-trans old.seat mid.seat new.seat i.seat e.acts.seat;
       own = left_alone g.M.Means.means 1000 mid.seat.mark new.seat.mark c.try_mutate-reply.result (change_made x)
           (λ s. mutate_reply g.M.Means.means s mid.last x) passes (λ _ _. refl) e.answer ∙ i.own;
+      gave = λ r. frees_anew old.group.group.table.sizes.slots old.seat mid.seat new.seat None i.seat (i.gave r)
+          (subst (λ (group : Grouped). Frees group.group.table.sizes.slots mid.seat new.seat None) i.client.0
+          (subst (λ (o : Option Change). Frees mid.group.group.table.sizes.slots mid.seat new.seat o)
+          (passing_changes c.try_mutate-reply.result (change_made x) passes (λ _ _. refl)) (e.frees r)));
     }
+
+pub loop-turn-init : goal.loop-turn-init
+loop-turn-init g c = let old = c.args.self.now in record {
+  client = (refl, refl);
+  last = refl;
+  seat = seat-self old.seat;
+  gave = λ r. frees_none old.group.group.table.sizes.slots old.seat old.seat (still old.seat.view) refl;
+  own = refl;
+}
+
+pub returns-then-not-is_passing-clause-cause : goal.returns-then-not-is_passing-clause-cause
+returns-then-not-is_passing-clause-cause g c =
+    let means = g.M.Means.means in let reused = g.S.Slots.reused in let old = c.args.self.now in
+    let mid = c.loop-turn.self in let new = c.try_mutate-reply.new.self in let i = c.loop-turn.invariant in
+    let reply = c.try_mutate-reply.result in
+    let name = c.args.name.now in let args = c.args.args.now in let time = c.args.time in
+    let id = subst (λ (client : Bytes). IfErr reply (HasCause means reused mid.last
+    (Some (Mutated (made client (mid.last + 1) name args time))) mid.seat new.seat)) i.client.1
+    c.try_mutate-reply.ensures.cause in
+    let last = subst (λ (n : ℕ). IfErr reply (HasCause means reused n
+    (Some (Mutated (made old.id (n + 1) name args time))) mid.seat new.seat)) i.last id in
+    let asked = Some (Mutated (made old.id (old.last + 1) name args time)) in
+    if_err_then (HasCause means reused old.last asked mid.seat new.seat)
+    (HasCause means reused old.last asked old.seat new.seat) reply last (λ e h.
+    cause_anew means reused old.last asked old.seat mid.seat new.seat e i.seat.later.seen i.seat.table
+    (λ r. frees_moves old.group.group.table.sizes.slots old.seat mid.seat (i.gave r)) h)
+
+pub returns-then-not-is_passing-clause-frees : goal.returns-then-not-is_passing-clause-frees
+returns-then-not-is_passing-clause-frees g c r =
+    let old = c.args.self.now in let mid = c.loop-turn.self in let new = c.try_mutate-reply.new.self in
+    let i = c.loop-turn.invariant in let reply = c.try_mutate-reply.result in
+    let name = c.args.name.now in let args = c.args.args.now in let time = c.args.time in
+    let slots = old.group.group.table.sizes.slots in
+    let here = subst (λ (group : Grouped). Frees group.group.table.sizes.slots mid.seat new.seat
+    (change_made (made mid.id (mid.last + 1) name args time) reply)) i.client.0 (c.try_mutate-reply.ensures.frees r) in
+    let id = subst (λ (client : Bytes). Frees slots mid.seat new.seat
+    (change_made (made client (mid.last + 1) name args time) reply)) i.client.1 here in
+    let last = subst (λ (n : ℕ). Frees slots mid.seat new.seat (change_made (made old.id (n + 1) name args time) reply))
+    i.last id in
+    frees_anew slots old.seat mid.seat new.seat (change_made (made old.id (old.last + 1) name args time) reply) i.seat
+    (i.gave r) last

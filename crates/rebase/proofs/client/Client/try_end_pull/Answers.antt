@@ -1,4 +1,6 @@
-use Rattle.std.proofs.Common.{◌≡◌, Result, Ok, Err, sym, ap, subst, ◌∙◌}
+use Rattle.std.proofs.Common.{◌≡◌, Option, Result, Ok, Err, sym, ap, subst, ◌∙◌}
+use Rattle.std.specs.Prelude.{IfErr}
+use Rattle.group_history.specs.declared.changes.Change.{Change}
 use Rattle.group_history.specs.declared.refusals.Refusal.{Refusal}
 use Rattle.group_history.specs.declared.responses.Ended.{Ended}
 use Rattle.group_history.specs.declared.responses.Response.{Response}
@@ -9,8 +11,11 @@ use Rattle.pull_patch.specs.Grammar.{answer_to}
 use Rattle.answered.specs.Answered.{Answers}
 use Rattle.answered.specs.Changes.{change_read}
 use Rattle.head_word.specs.Marks.{Known}
-use Rattle.rebase.specs.Asking.{end_bytes_reply}
-use Rattle.rebase.proofs.Unread.{unread}
+use Rattle.group_steps.specs.Causes.{HasCause}
+use Rattle.group_steps.specs.Leaving.{Frees}
+use Rattle.rebase.specs.Asking.{change_wanted, end_bytes_reply}
+use Rattle.rebase.proofs.Causing.{frees_none}
+use Rattle.rebase.proofs.Unread.{unread, unread_cause, unread_changes}
 use Rattle.rebase.proofs.client.Client.try_end_pull.Goals as goal
 
 pub returns-in-Err-clause-answer : goal.returns-in-Err-clause-answer
@@ -42,3 +47,22 @@ returns-in-VersionNotSupported-clause-answer g c =
     c.end_unsupported.new.self.seat.mark c.end_unsupported.result
     (λ (reply : Result Ended Refusal). change_read k a reply) (λ s. a >>= end_reply s k.text))
     (sym read) (c.end_unsupported.ensures.answer k.text)
+
+pub returns-in-Err-clause-cause : goal.returns-in-Err-clause-cause
+returns-in-Err-clause-cause g c =
+    let means = g.M.Means.means in let reused = g.S.Slots.reused in let old = c.args.self.now in
+    let new = c.refuse.new.self in
+    let asked = change_wanted c.args.ticket.now.cookie (answer_to c.args.body.now) in
+    subst (λ (r : Result Ended Refusal). IfErr r (HasCause means reused old.last asked old.seat new.seat))
+    (sym c.refuse.ensures.err)
+    (unread_cause means reused old.last asked old.seat new.seat c.args.body.now c.in-Err.e c.in-Err.ensures.read)
+
+pub returns-in-Err-clause-frees : goal.returns-in-Err-clause-frees
+returns-in-Err-clause-frees g c r =
+    let old = c.args.self.now in let new = c.refuse.new.self in let slots = old.group.group.table.sizes.slots in
+    let k = c.args.ticket.now.cookie in let body = c.args.body.now in
+    subst (λ (w : Result Ended Refusal). Frees slots old.seat new.seat (change_read k (answer_to body) w))
+    (sym c.refuse.ensures.err)
+    (subst (λ (o : Option Change). Frees slots old.seat new.seat o)
+    (sym (unread_changes k body c.in-Err.e c.in-Err.ensures.read))
+    (frees_none slots old.seat new.seat (c.refuse.ensures.moves r) (c.refuse.ensures.stays.0.looked.calm r).1))

@@ -7,9 +7,11 @@ use Rattle.group_history.specs.State.{made}
 use Rattle.head_word.specs.Marks.{Known}
 use Rattle.answered.specs.Answered.{Answers}
 use Rattle.answered.specs.Changes.{change_made}
+use Rattle.group_steps.specs.Leaving.{Frees}
 use Rattle.group_steps.specs.Missing.{told}
 use Rattle.commit_graph.specs.Seats.{Seated}
 use Rattle.rebase.specs.Clients.{ClientState}
+use Rattle.rebase.proofs.Causing.{frees_none}
 use Rattle.rebase.proofs.Telling.{next_told}
 use Rattle.rebase.proofs.client.Client.try_mutate.Goals as goal
 
@@ -31,3 +33,10 @@ returns-clause-answer g c =
     (λ (n : ℕ). told (λ (at : Option Ref). n + 1) given) c.change-made.ensures.acts.1 in
     subst (λ (w : Result ℕ Refusal). Answers means c.args.tries old.seat.mark new.seat.mark w (change_made x)
     (λ s. mutate_reply means s old.last x)) (sym reply) there
+
+pub returns-in-Err-clause-frees : goal.returns-in-Err-clause-frees
+returns-in-Err-clause-frees g c r =
+    let old = c.args.self.now in let new = c.refuse.new.self in let slots = old.group.group.table.sizes.slots in
+    let x = made old.id (old.last + 1) c.args.name.now c.args.args.now c.args.time in
+    subst (λ (w : Result ℕ Refusal). Frees slots old.seat new.seat (change_made x w)) (sym c.refuse.ensures.err)
+    (frees_none slots old.seat new.seat (c.refuse.ensures.moves r) (c.refuse.ensures.stays.0.looked.calm r).1)
