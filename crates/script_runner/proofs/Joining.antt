@@ -3,11 +3,11 @@ use Rattle.std.proofs.Common.{◌≡◌, ℕ, true, false, List, [], ◌∷◌, 
 use Rattle.std.specs.Prelude.{OnOk}
 use Rattle.group_history.specs.Map.{Bytes}
 use Rattle.group_history.specs.Rows.{Rows}
-use Rattle.map_chunks.specs.Sinks.{HasMore}
+use Rattle.map_chunks.specs.Sinks.{HasMore, HasStill}
 use Rattle.push_body.proofs.Writings.{join-push}
 use Rattle.script_runner.specs.declared.rows.RowList.{RowList}
 use Rattle.script_runner.specs.Printing.{row_text}
-use Rattle.script_runner.specs.Inside.Printing.{HasRows}
+use Rattle.script_runner.specs.Inside.Printing.{HasRows, IsSame}
 
 -- a comma and one more text behind what was appended to a start
 pub more_joined : (start joined old comma new more : List ℕ) → old ≡ start ++ joined → comma ≡ old ++ 44 ∷ []
@@ -26,6 +26,10 @@ rows_more old new (r ∷ rs) x h e first next = record {
   text = next h.empty ∙ (ap (λ (t : Bytes). t ++ 44 ∷ row_text x) h.text ∙ sym (join-push row_text r rs x));
   empty = e;
 }
+
+-- a list that has the text that it had has the rows that it had
+pub rows_still : (old new : RowList) → IsSame old new → HasStill HasRows old new
+rows_still old new s rows h = record { text = s.text ∙ h.text; empty = s.empty ∙ h.empty }
 
 pub row_taken : {X E : Type 0} (r : Result X E) (old new : RowList) (x : Bytes × Bytes) → OnOk r (new.is_empty ≡ false)
     → (old.is_empty ≡ true → OnOk r (new.text.items ≡ old.text.items ++ row_text x))

@@ -1,11 +1,18 @@
 -- The clients of a script before the first phase, and what its run writes from there.
-use Rattle.std.proofs.Common.{◌≡◌, ◌<◌, inr, arith, Option, Result, Ok, Err, IfOk, OnOk, List, map, length, vec_len, sym}
-use Rattle.std.proofs.Common.{ap, ◌∙◌, subst}
+use Rattle.std.proofs.Common.{◌≡◌, ◌<◌, ℕ, suc, inl, inr, arith, Option, None, Some, Result, Ok, Err, IfOk, OnOk, List, []}
+use Rattle.std.proofs.Common.{map, filter, length, vec_len, refl, sym, ap, ◌∙◌, subst}
+use Rattle.std.proofs.lemmas.Bool.Decides.{eqb_tells}
 use Rattle.std.proofs.lemmas.List.{get_or-map, length-map}
 use Rattle.std.proofs.lemmas.List.Elements.{All-map}
 use Rattle.std.specs.List.{All}
 use Rattle.group_history.specs.Map.{Bytes}
 use Rattle.push_body.specs.declared.identities.Identity.{Identity}
+use Rattle.group_history.specs.declared.refs.Ref.{Ref}
+use Rattle.head_word.specs.declared.entry.Entry.{Entry}
+use Rattle.head_word.specs.Books.{opening}
+use Rattle.head_word.specs.Marks.{Known, own, own_of}
+use Rattle.head_word.specs.Tallies.{mine}
+use Rattle.answered.specs.Answered.{is_move, own_moves}
 use Rattle.rebase.specs.Clients.{Grouped}
 use Rattle.script_parser.specs.declared.faults.Fault.{Fault}
 use Rattle.script_runner.specs.declared.phase.Turn.{Turn}
@@ -33,6 +40,17 @@ pub if_player : {C E : Type 0} (stands : C → Standing) (r : Result (Turn C) E)
     → IfOk r (λ turn. player_of stands turn.client ≡ p) → P p → IfOk r (λ turn. P (player_of stands turn.client))
 if_player stands (Ok turn) P p is holds = subst P (sym is) holds
 if_player stands (Err e) P p is holds = tt
+
+opening_of_none : (seat : Option ℕ) (log : List Entry) (at : Ref) → log ≡ opening at → own_of seat log ≡ []
+opening_of_none None log at is = refl
+opening_of_none (Some j) log at is = elim (eqb_tells 0 (suc j)) [
+  | inl same ↦ absurd (let e : 0 ≡ suc j = same.1 in omega (arith, e))
+  | inr other ↦ let none : mine (suc j) (opening at) ≡ [] = rw other.0 refl in ap (mine (suc j)) is ∙ none
+]
+
+-- who has seen the opening alone, and then added nothing, moved nothing
+pub moved_nothing : (old new : Known) (at : Ref) → old.log ≡ opening at → own new ≡ own old → own_moves new ≡ []
+moved_nothing old new at is same = ap (filter is_move) (same ∙ opening_of_none old.seat old.log at is)
 
 -- the clients that were opened are new ones
 pub are_opened : (group : Grouped) (identity : Identity) (lines : List (Bytes × Bytes)) (turns : List (Turn SharedClient))

@@ -1,6 +1,6 @@
 -- What a client of a script replies, by what its group answers.
-use Rattle.std.proofs.Common.{◌≡◌, inl, ℕ, Result, Ok, Err, refl, ap, ◌∙◌}
-use Rattle.std.specs.Prelude.{IfErr}
+use Rattle.std.proofs.Common.{◌≡◌, inl, ℕ, ◌+◌, Result, Ok, Err, refl, ap, ◌∙◌}
+use Rattle.std.specs.Prelude.{IfErr, IfOk}
 use Rattle.std.specs.Borrow.{Bor}
 use Rattle.group_history.specs.declared.refusals.Refusal.{Refusal}
 use Rattle.group_history.specs.declared.refusals.Refusal.TheVariants as refusal
@@ -12,20 +12,39 @@ use Rattle.group_history.specs.Rows.{Rows}
 use Rattle.group_history.specs.State.{State}
 use Rattle.head_word.specs.Marks.{Known}
 use Rattle.answered.specs.Answered.{Answers, is_want, nothing}
+use Rattle.rebase.specs.Asking.{is_passing}
 use Rattle.rebase.specs.Calls.{Caller, IsReplyTo, caller, caller_of, change_of, last_after, reply_to}
 use Rattle.rebase.specs.Clients.{ClientState, IsSameClient}
 use Rattle.group_steps.specs.Missing.{told}
 use Rattle.rebase.specs.Queries.{gave}
-use Rattle.rebase.specs.Replies.{ended, rows}
+use Rattle.rebase.specs.Replies.{ended, id, rows}
 use Rattle.rebase.specs.declared.calls.Call.TheVariants as call
 use Rattle.rebase.proofs.CallLemmas.{call_told}
 use Rattle.script_runner.specs.Callers.{reply_of_list}
 
--- the same client with the same last id calls as the same one
-pub same_caller : (old new : ClientState) → IsSameClient old new → new.last ≡ old.last → caller_of new ≡ caller_of old
-same_caller old new same last =
+-- the same client calls as the same one, by its last id
+pub same_client : (old new : ClientState) → IsSameClient old new
+    → caller_of new ≡ caller old.group.identity old.id new.last
+same_client old new same =
     ap (λ g. caller g.identity new.id new.last) same.0 ∙ ap (λ i. caller old.group.identity i new.last) same.1
-    ∙ ap (caller old.group.identity old.id) last
+
+-- and with the same last id
+pub same_caller : (old new : ClientState) → IsSameClient old new → new.last ≡ old.last → caller_of new ≡ caller_of old
+same_caller old new same last = same_client old new same ∙ ap (caller old.group.identity old.id) last
+
+-- a refusal passes as it is told
+pub passing_told : {X Y : Type 0} (f : X → Y) (r : Result X Refusal) → is_passing (told f r) ≡ is_passing r
+passing_told f (Ok x) = refl
+passing_told f (Err refusal.Moved) = refl
+passing_told f (Err refusal.Busy) = refl
+passing_told f (Err refusal.Gone) = refl
+passing_told f (Err e) = refl
+
+-- the id of a mutation is the last one, and a refused one leaves that
+pub last_made : (r : Result ℕ Refusal) (old new : ℕ) → IfOk r (λ n. (n ≡ old + 1) × (new ≡ n))
+    → IfErr r (λ _. new ≡ old) → new ≡ last_after old (told id r)
+last_made (Ok n) old new made left = made.1
+last_made (Err e) old new made left = left
 
 -- the end of a pull leaves the last id
 pub last_kept : (last : ℕ) (r : Result Ended Refusal) → last_after last (told ended r) ≡ last

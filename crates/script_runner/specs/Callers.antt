@@ -1,5 +1,5 @@
 -- How a client stands between its calls, what its calls may reply, and how they leave it.
-use Rattle.std.specs.Prelude.{ℕ, ◌≡◌, true, List, [], Result, Ok, Err, None}
+use Rattle.std.specs.Prelude.{ℕ, ◌≡◌, true, false, ⊤, List, [], Result, Ok, Err, IfErr, None}
 use Rattle.std.specs.Cmp.Lexicographic.{slice_cmp}
 use Rattle.std.specs.FinMap as finite
 use Rattle.std.specs.List.{All}
@@ -15,7 +15,9 @@ use Rattle.head_word.specs.Marks.{Known, known}
 use Rattle.push_body.specs.declared.identities.Identity.{Identity}
 use Rattle.answered.specs.Answered.{Answers, is_want, nothing, own_moves}
 use Rattle.commit_graph.specs.Seats.{IsLater}
-use Rattle.rebase.specs.Calls.{Caller, IsReplyTo, caller, change_of, last_after, reply_to}
+use Rattle.group_steps.specs.Missing.{IsMissedOrDry}
+use Rattle.rebase.specs.Asking.{is_passing}
+use Rattle.rebase.specs.Calls.{Caller, IsReplyTo, MayRefuse, caller, change_of, is_reading, last_after, reply_to}
 use Rattle.rebase.specs.Replies.{Replied, rows}
 use Rattle.rebase.specs.declared.calls.Call.{Call}
 use Rattle.rebase.specs.declared.calls.Call.TheVariants as call
@@ -89,6 +91,10 @@ pub record MayReply (before : Standing) (asked : Call) (reply : Result Replied R
     (after : Standing) : Type 0 where
   pub answer : Answers script_means (tries_of asked) before.mark after.mark reply (change_of before.caller asked)
       (λ s. reply_to script_means before.caller s asked)
+  -- what changes nothing is refused for want of memory, or where a slot or a pin is lost to others; a change waits for
+  -- others
+  pub refused : MayRefuse ⊤ asked reply
+  pub lasting : is_reading asked ≡ false → is_passing reply ≡ false
   pub caller : after.caller ≡ caller before.caller.identity before.caller.client (last_after before.caller.last reply)
   pub later : IsLater before.mark after.mark
   pub watches : after.watches ≡ before.watches
@@ -98,6 +104,8 @@ pub record MayPoll (name : Bytes) (watch : Watched) (before : Standing) (reply :
     (after : Standing) : Type 0 where
   pub answer : Answers script_means 1000000 before.mark after.mark reply nothing
       (λ s. Ok (poll_at script_means watch s))
+  -- for the same
+  pub refused : IfErr reply (IsMissedOrDry ⊤)
   pub caller : after.caller ≡ before.caller
   pub later : IsLater before.mark after.mark
   pub watches : after.watches ≡ watches_after name watch before.watches reply

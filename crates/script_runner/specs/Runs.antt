@@ -1,5 +1,5 @@
 -- With which clients a run of a script begins, and how it ends.
-use Rattle.std.specs.Prelude.{◌≡◌, ◌⊎◌, ⊤, codes, List, map, Option, None, unwrap_or, Result, Err}
+use Rattle.std.specs.Prelude.{◌≡◌, ◌⊎◌, ⊤, codes, List, [], map, Option, None, unwrap_or, Result, Err}
 use Rattle.std.specs.Prelude.{IfErr, IfOk}
 use Rattle.std.specs.FinMap as finite
 use Rattle.std.specs.Io.KnownBytes.{Appends, Keeps}
@@ -7,9 +7,11 @@ use Rattle.std.specs.List.{All}
 use Rattle.logbook.specs.Pages.{Book}
 use Rattle.group_history.specs.Map.{Bytes}
 use Rattle.group_history.specs.State.{last_id}
+use Rattle.group_history.specs.declared.refs.Ref.{Ref}
+use Rattle.head_word.specs.Books.{opening}
 use Rattle.head_word.specs.Marks.{Known}
 use Rattle.push_body.specs.declared.identities.Identity.{Identity}
-use Rattle.answered.specs.Answered.{IsAnswered}
+use Rattle.answered.specs.Answered.{IsAnswered, own_moves}
 use Rattle.script_parser.specs.declared.faults.Fault.{Fault}
 use Rattle.script_parser.specs.declared.faults.Fault.TheVariants as fault
 use Rattle.script_runner.specs.Callers.{shared_rules}
@@ -27,13 +29,18 @@ identity_of group profile schema = record {
   schema = unwrap_or schema (codes "s1");
 }
 
--- a client of the group of this book before the first phase: it has the last id that the group has of it, no ticket and
--- no watch
+-- it has seen the opening of its book, and nothing else
+abbrev pub HasSeenOpening : Known → Type 0
+HasSeenOpening mark = (at : Ref) × (mark.log ≡ opening at)
+
+-- A client of the group of this book before the first phase. It began when its seat had seen the opening of the book
+-- alone, has the last id that the group has of it, moved nothing, and has no ticket and no watch.
 pub record IsNew (identity : Identity) (book : Book) (p : Player) : Type 0 where
   pub writes : p.standing.caller.identity ≡ identity
   pub of_book : p.standing.mark.book ≡ book
-  pub last : (before : Known) × IsAnswered script_means before p.standing.mark None
+  pub last : (before : Known) × HasSeenOpening before × IsAnswered script_means before p.standing.mark None
       (λ s. last_id s p.standing.caller.client ≡ p.standing.caller.last)
+  pub moves : own_moves p.standing.mark ≡ []
   pub tickets : p.tickets ≡ finite.empty
   pub watches : p.standing.watches ≡ finite.empty
 

@@ -1,6 +1,7 @@
 //! The program over any reader and writers.
 ghost use Rattle.std.specs.Prelude.{◌≡◌, ◌⊎◌, true, None, IfSome, is_some};
 ghost use Rattle.script_parser.specs.Faults.{first_fault};
+ghost use Rattle.script_runner.specs.Runs.{HasRunScript};
 ghost use Rattle.script_runner.specs.Inside.Runs.{status_of};
 
 use crate::phase::Gate;
@@ -50,6 +51,8 @@ pub fn program<R: AllocGlobal + Threads + Wait + Sync, I: Read, W: Write, E: Wri
 ) -> u8
     ensures statuses { (result ≡ 0) ⊎ (result ≡ 2) ⊎ (result ≡ 3) }
     ensures ran { result ≡ 0 → IfSome (I.remaining input.old) (λ script. first_fault script ≡ None) }
+    ensures written { result ≡ 0 → IfSome (I.remaining input.old)
+        (λ script. HasRunScript script (W.contents out.old) (W.contents out.new)) }
     ensures faulty { result ≡ 2 → IfSome (I.remaining input.old) (λ script. is_some (first_fault script) ≡ true) }
     ensures nothing_written { result ≡ 2 → W.contents out.new ≡ W.contents out.old }
 {

@@ -1,5 +1,6 @@
 //! What a call of a client replies, and how that is printed. The texts are those of `specs/Printing`.
-ghost use Rattle.std.specs.Prelude.{◌≡◌, ◌++◌, map, decimal, OnOk};
+ghost use Rattle.std.specs.Prelude.{◌≡◌, ◌++◌, map, decimal, OnErr, OnOk};
+ghost use mathlib.Core.List.{IsPrefix};
 ghost use Rattle.std.specs.List.{join_with_byte};
 ghost use Rattle.push_body.specs.Bodies.{quoted};
 ghost use Rattle.script_runner.specs.Printing.{row_text, pending_row, array_text, refusal_name, refusal_detail};
@@ -99,7 +100,8 @@ impl Printed {
 }
 
 fn said(out: &mut Vec<u8>, word: &str, text: &[u8]) -> Result<(), AllocError>
-    ensures { OnOk result (out.new.items ≡ out.old.items ++ word.now ++ text.now) }
+    ensures all { OnOk result (out.new.items ≡ out.old.items ++ word.now ++ text.now) }
+    ensures kept { OnErr result (IsPrefix out.old.items out.new.items) }
 {
     out.extend_from_slice(word.as_bytes())?;
     out.extend_from_slice(text)
@@ -114,16 +116,18 @@ fn print_number(out: &mut Vec<u8>, word: &str, number: u64) -> Result<(), AllocE
 
 /// Appends a word, and a text as compact JSON behind it.
 fn print_quoted(out: &mut Vec<u8>, word: &str, text: &str) -> Result<(), AllocError>
-    ensures { OnOk result (out.new.items ≡ out.old.items ++ word.now ++ quoted text.now) }
+    ensures all { OnOk result (out.new.items ≡ out.old.items ++ word.now ++ quoted text.now) }
+    ensures kept { OnErr result (IsPrefix out.old.items out.new.items) }
 {
     out.extend_from_slice(word.as_bytes())?;
     push_quoted(out, text)
 }
 
-/// Appends a row of a scan, as a JSON array of its key and value.
+/// Appends a row of a scan, as a JSON array of its key and value. Where that is refused what was there stays.
 #[tactic(auto, unfolding(crate::specs::Printing::row_text))]
 pub(crate) fn print_row(key: &Text, value: &Json, out: &mut Vec<u8>) -> Result<(), AllocError>
-    ensures { OnOk result (out.new.items ≡ out.old.items ++ row_text (key.now, value.now)) }
+    ensures all { OnOk result (out.new.items ≡ out.old.items ++ row_text (key.now, value.now)) }
+    ensures kept { OnErr result (IsPrefix out.old.items out.new.items) }
 {
     print_quoted(out, "[", key.as_str())?;
     said(out, ",", value.text().as_bytes())?;

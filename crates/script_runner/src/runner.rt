@@ -10,7 +10,8 @@ ghost use Rattle.script_runner.specs.Commanding.{new_player};
 ghost use Rattle.script_runner.specs.Phases.{HasWhole, HasWritten, IsPhase};
 ghost use Rattle.script_runner.specs.Runs.{AreNew, BlamesNoScript, HasRunScript, HasStoppedScript, IsWant};
 ghost use Rattle.script_runner.specs.Runs.{KeepsIfFaulty};
-ghost use Rattle.script_runner.specs.Inside.Players.{IsNewIn, line_of, player_of, players_of, standing_of};
+ghost use Rattle.script_runner.specs.Inside.Players.{IsFresh, IsNewIn, line_of, player_of, players_of};
+ghost use Rattle.script_runner.specs.Inside.Players.{standing_of};
 ghost use Rattle.script_runner.specs.Inside.Runs.{IsInRange, IsRun, header_identity};
 ghost use Rattle.script_runner.specs.Inside.Turns.{AreOfOneGroup, IsPrinted, StayInGroup, texts_of};
 
@@ -115,6 +116,7 @@ fn open_group(alloc: Global, header: &Header) -> Result<(ScriptGroup, ScriptSeat
     ensures identity { IfOk result (λ made. made.0.identity ≡ header_identity header.now) }
     ensures free { IfOk result (λ made. vec_len header.now.clients ≤ length made.1.free) }
     ensures seats { IfOk result (λ made. AreSeatsOf made.0.group made.1.free) }
+    ensures opening { IfOk result (λ made. All IsFresh made.1.free) }
     ensures fault { BlamesNoScript result }
 {
     let config = config_of(alloc, header)?;
@@ -144,8 +146,10 @@ fn open_client(
 ) -> Result<Turn<SharedClient>, AllocError>
     requires free { 1 ≤ length seats.old.free }
     requires seats { AreSeatsOf group.now.group seats.old.free }
+    requires opening { All IsFresh seats.old.free }
     ensures left { IfOk result (λ _. length seats.old.free ≡ length seats.new.free + 1) }
     ensures seats { IfOk result (λ _. AreSeatsOf group.now.group seats.new.free) }
+    ensures opening { IfOk result (λ _. All IsFresh seats.new.free) }
     ensures name { IfOk result (λ turn. line_of turn ≡ client_said line.now) }
     ensures new { IfOk result (IsNewIn group.now) }
 {
@@ -168,6 +172,7 @@ fn open_clients(
 ) -> Result<Vec<Turn<SharedClient>>, AllocError>
     requires free { length lines.now ≤ length seats.free }
     requires seats { AreSeatsOf group.now.group seats.free }
+    requires opening { All IsFresh seats.free }
     ensures lines { IfOk result (λ turns. map line_of turns.items ≡ map client_said lines.now) }
     ensures new { IfOk result (λ turns. All (IsNewIn group.now) turns.items) }
 {

@@ -1,6 +1,7 @@
 -- The clients of the code, as a script has them.
 use Rattle.std.specs.Prelude.{◌≡◌, List, map}
 use Rattle.group_history.specs.Map.{Bytes}
+use Rattle.commit_graph.specs.Seats.{Seated}
 use Rattle.rebase.specs.Calls.{caller_of}
 use Rattle.rebase.specs.Clients.{Grouped}
 use Rattle.script_runner.specs.declared.shared.SharedClient.{SharedClient}
@@ -10,7 +11,7 @@ use Rattle.script_runner.specs.declared.plain.PlainClient.{PlainClient}
 use Rattle.script_runner.specs.declared.reply.Printed.{Printed}
 use Rattle.script_runner.specs.Callers.{IsOfSameGroup, Standing, plain_standing}
 use Rattle.script_runner.specs.Commanding.{Player}
-use Rattle.script_runner.specs.Runs.{IsNew}
+use Rattle.script_runner.specs.Runs.{HasSeenOpening, IsNew}
 use Rattle.script_runner.specs.Inside.Printing.{reply_text}
 
 -- a client of a shared group
@@ -43,6 +44,10 @@ Prints stands rule old reply new = rule (player_of stands old) (reply_text reply
 -- what a client's line says of it: its name and its ID
 abbrev pub line_of : Turn SharedClient → Bytes × Bytes
 line_of turn = (turn.client.name, turn.client.caller.client.id)
+
+-- so has a seat
+abbrev pub IsFresh : Seated → Type 0
+IsFresh seat = HasSeenOpening seat.mark
 
 -- a client of this group before the first phase
 abbrev pub IsNewIn : Grouped → Turn SharedClient → Type 0

@@ -23,6 +23,11 @@ pub record HasRows (list : RowList) (rows : Rows) : Type 0 where
   pub text : list.text.items ≡ rows_text rows
   pub empty : list.is_empty ≡ are_none rows
 
+-- the list has the text that it had
+pub record IsSame (old new : RowList) : Type 0 where
+  pub text : new.text.items ≡ old.text.items
+  pub empty : new.is_empty ≡ old.is_empty
+
 -- the word that says which reply it is
 abbrev pub reply_word : Printed → Bytes
 reply_word (reply.Value json) = codes "value "

@@ -22,5 +22,5 @@ loop-row-preserved c =
       first = first;
       all = l.invariant.all;
       written = more_joined _ before _ _ _ (row_text x) l.invariant.written c.in_ok-push.ensures.items
-          c.in_ok-print_row-2.ensures ∙ ap (λ s. c.args.out.now.items ++ s) (sym more);
+          c.in_ok-print_row-2.ensures.all ∙ ap (λ s. c.args.out.now.items ++ s) (sym more);
     }

@@ -4,14 +4,19 @@ use Rattle.rebase.proofs.Seating.{popped}
 use Rattle.rebase.specs.Calls.{caller_of}
 use Rattle.script_runner.specs.Commanding.{new_player}
 use Rattle.script_runner.specs.Runs.{IsNew}
-use Rattle.script_runner.specs.Inside.Players.{standing_of}
-use Rattle.script_runner.proofs.Openings.{if_ok, if_player}
+use Rattle.script_runner.specs.Inside.Players.{IsFresh, standing_of}
+use Rattle.script_runner.proofs.Openings.{if_ok, if_player, moved_nothing}
 use Rattle.script_runner.proofs.runner.open_client.Goals as goal
 
 pub returns-clause-seats : goal.returns-clause-seats
 returns-clause-seats c =
     if_ok c.turn_of.result (popped (IsSeatOf c.args.group.now.group) c.args.seats.now.free c.take.new.self.free
     (Some c.in-Ok.seat) c.in-Ok.seat c.in-Ok.ensures.taken refl c.requires.seats).0
+
+pub returns-clause-opening : goal.returns-clause-opening
+returns-clause-opening c =
+    if_ok c.turn_of.result (popped IsFresh c.args.seats.now.free c.take.new.self.free (Some c.in-Ok.seat)
+    c.in-Ok.seat c.in-Ok.ensures.taken refl c.requires.opening).0
 
 pub returns-clause-new : goal.returns-clause-new
 returns-clause-new c =
@@ -20,6 +25,8 @@ returns-clause-new c =
     let said = c.in-Ok-client.ensures in
     let home = (popped (IsSeatOf group.group) c.args.seats.now.free c.take.new.self.free (Some c.in-Ok.seat)
     c.in-Ok.seat c.in-Ok.ensures.taken refl c.requires.seats).1 in
+    let seen = (popped IsFresh c.args.seats.now.free c.take.new.self.free (Some c.in-Ok.seat) c.in-Ok.seat
+    c.in-Ok.ensures.taken refl c.requires.opening).1 in
     if_player standing_of c.turn_of.result (IsNew group.identity group.group.book)
     (new_player c.args.line.now.name (standing_of made)) c.turn_of.ensures
     (subst (λ x. IsNew group.identity group.group.book (new_player c.args.line.now.name
@@ -27,7 +34,8 @@ returns-clause-new c =
     (record {
       writes = ap (λ g. g.identity) said.group;
       of_book = said.looked.0.seat.later.book ∙ home.0;
-      last = (c.in-Ok.seat.mark, said.answer);
+      last = (c.in-Ok.seat.mark, seen, said.answer);
+      moves = moved_nothing c.in-Ok.seat.mark c.in-Ok-client.client.seat.mark seen.0 seen.1 said.looked.0.own;
       tickets = refl;
       watches = c.new.ensures.watches;
     }))

@@ -17,4 +17,5 @@ loop-line-preserved c =
           (All-push (IsNewIn group) l.turns.items c.in_ok-turn.turn l.invariant.new made.new);
       free = omega (arith, l.invariant.free, made.left);
       seats = made.seats;
+      opening = made.opening;
     }

@@ -2,7 +2,7 @@ use Rattle.std.proofs.Common.{◌≡◌, ◌+◌, ◌≤◌, length, map, take}
 use Rattle.std.specs.List.{All}
 use Rattle.rebase.specs.Clients.{AreSeatsOf}
 use Rattle.script_parser.specs.Scripts.{client_said}
-use Rattle.script_runner.specs.Inside.Players.{IsNewIn, line_of}
+use Rattle.script_runner.specs.Inside.Players.{IsFresh, IsNewIn, line_of}
 use Rattle.script_runner.proofs.runner.open_clients.Given as goal
 
 abbrev pub invariant-loop-line : goal.invariant-loop-line
@@ -11,4 +11,5 @@ invariant-loop-line l = record {
   new : All (IsNewIn l.group) l.turns.items;
   free : length l.lines ≤ length l.seats.free + l.line-index;
   seats : AreSeatsOf l.group.group l.seats.free;
+  opening : All IsFresh l.seats.free;
 }

@@ -1,9 +1,10 @@
 use Rattle.std.proofs.Common.{[], Result, refl, subst}
-use Rattle.std.specs.Prelude.{OnOk}
+use Rattle.std.specs.Prelude.{IfErr, OnOk, ⊤}
 use Rattle.group_history.specs.declared.refusals.Refusal.{Refusal}
 use Rattle.group_history.specs.State.{State}
 use Rattle.map_chunks.specs.Sinks.{HasMore}
 use Rattle.answered.specs.Answered.{Answers}
+use Rattle.group_steps.specs.Missing.{IsMissedOrDry}
 use Rattle.rebase.specs.Calls.{caller_of, change_of, reply_to}
 use Rattle.rebase.specs.declared.calls.Call.TheVariants as call
 use Rattle.script_mutators.specs.Mutators.{script_means}
@@ -23,6 +24,8 @@ returns-in-Ok-clause-reply g c =
             (λ (s : State). reply_to script_means (caller_of old) s asked)) c.in-Ok.is
             (list_told script_means 1000000 old.seat.mark new.seat.mark (caller_of old) c.args.scan rs
             c.scan_into.result given.1);
+        refused = λ _. _;
+        lasting = λ still. absurd (cc still);
         caller = same_caller old new stays.0.client stays.1;
         later = stays.0.looked.seat.later;
         watches = refl;
@@ -42,6 +45,9 @@ returns-in-Err-clause-reply g c =
             (λ (s : State). reply_to script_means (caller_of old) s asked)) c.in-Err.is
             (list_told script_means 1000000 old.seat.mark new.seat.mark (caller_of old) c.args.scan rs
             c.scan_into.result given.1);
+        refused = λ _. subst (λ (r : Result (Unit {0}) Refusal). IfErr r (IsMissedOrDry ⊤)) c.in-Err.is
+            c.scan_into.ensures.err;
+        lasting = λ still. absurd (cc still);
         caller = same_caller old new stays.0.client stays.1;
         later = stays.0.looked.seat.later;
         watches = refl;
