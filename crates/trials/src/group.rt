@@ -259,6 +259,14 @@ where
         }
     }
 
+    /// How full the group is, as the first client finds it.
+    fn says_counts<R>(&mut self, it: &Turn<'_, R>, out: &mut Said) {
+        match self.players.get_mut(0) {
+            Some(Some(player)) => player.says_counts(it.rt.alloc(), out),
+            _ => out.say("no client"),
+        }
+    }
+
     fn asks_for_seat(&mut self, out: &mut Said) {
         match self.spare.ask() {
             Some(refusal) => out.say_refusal(refusal),
@@ -284,7 +292,7 @@ where
             stage.comes_back(it, trial.place_of(who), out)
         }
         Deed::Seat => stage.asks_for_seat(out),
-        Deed::Counts => S::say_counts(it.rt.alloc(), stage.group, out),
+        Deed::Counts => stage.says_counts(it, out),
         Deed::Part(name, given) => say_part(it, stage, name, given, out),
         _ => {}
     }

@@ -4,6 +4,7 @@ ghost use Rattle.std.specs.Option.{ForSome};
 ghost use Rattle.commit_graph.specs.Seats.{IsSameSeat, IsSeatOf};
 
 use crate::calls::{Turn, body_of, call_of, keep_ticket};
+use crate::counts::Counted;
 use crate::looks::{all_rows, look, say_change};
 use crate::marks::{begins, ends};
 use crate::replies::{Answer, Said, id_word, is_change};
@@ -511,4 +512,14 @@ fn bodies_of(alloc: Global, commands: &[&Command]) -> Result<Vec<Vec<u8>>, Alloc
         bodies.push(body_of(alloc, command, ONCE)?)?;
     }
     Ok(bodies)
+}
+
+impl<S: Counted> Player<'_, S>
+where
+    S::Seat: Drop,
+{
+    /// How full the group is, as its looker finds it.
+    pub(crate) fn says_counts(&mut self, alloc: Global, out: &mut Said) {
+        S::say_counts(alloc, &mut self.looker, out);
+    }
 }
