@@ -1,5 +1,5 @@
 -- What is right to answer where a client asks for a change, and what leads from a state to the one after it.
-use Rattle.std.specs.Prelude.{ℕ, ◌≡◌, ◌⊎◌, ◌+◌, ◌<◌, ◌^◌, Bool, true, false, List, [], length, Option, Some, None}
+use Rattle.std.specs.Prelude.{ℕ, ◌≡◌, ◌⊎◌, ◌+◌, ◌<◌, ◌≤◌, ◌^◌, Bool, true, false, List, [], length, Option, Some, None}
 use Rattle.std.specs.Prelude.{Result, Ok, Err}
 use mathlib.Core.List.{IsPrefix}
 use Rattle.group_history.specs.declared.changes.Change.{Change}
@@ -103,6 +103,8 @@ pub record Leads (means : Meanings) (before : Contents) (base : Ref) (s : State)
   pub drawn : IsPrefix contents before
   pub first : length contents ≡ p.draft.first
   pub some : 0 < length p.draft.nodes
+  -- its commit is one of the draft's own
+  pub new : p.draft.first ≤ stamp_of p.at
   pub kind : p.kind ≡ kind_for s change
   pub accepted : IsAccepted means s change
   pub then : Spells means (with_nodes contents p.draft.nodes) (stamp_of p.at) (after_change s change)

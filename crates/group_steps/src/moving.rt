@@ -1,5 +1,5 @@
 //! A change that was proposed: what leads to it is placed, and the head is moved there.
-ghost use Rattle.std.specs.List.{All};
+ghost use Rattle.std.specs.List.{All, Contains};
 ghost use Rattle.group_history.specs.declared.refusals.Refusal.TheVariants as refusal;
 ghost use Rattle.std.specs.Prelude.{◌≡◌, [], true, IfOk, IfErr, IfSome, IfNone, OnErr};
 ghost use Rattle.group_history.specs.Record.{after_change};
@@ -65,6 +65,7 @@ where
     requires reading { IsReading S.reused shared.now seat.old }
     requires none { S.reused → seat.old.view.taken ≡ [] }
     requires settled { S.reused → All (λ at. In seat.old.view.settled (slot_of at)) to.now.refs.now }
+    requires among { Contains to.now.refs.now to.now.new }
     requires follows { Follows M.means (drawn seat.old.mark.log) to.now.base to.now.new to.now.change.now }
     ensures seat { IsSameSeat seat.old seat.new }
     ensures none { S.reused → seat.new.view.taken ≡ [] }

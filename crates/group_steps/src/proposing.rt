@@ -2,7 +2,7 @@
 //!
 //! The commit is looked at once: that tells whether the group is closed, the root of its map, and its chain's snapshot.
 //! Nothing is placed yet, and the head is not touched: a refusal has changed nothing.
-ghost use Rattle.std.specs.Prelude.{ℕ, ◌≡◌, ◌⊎◌, ◌+◌, ◌<◌, false, Err, Some, List, length, IfOk, IfErr, OnOk};
+ghost use Rattle.std.specs.Prelude.{ℕ, ◌≡◌, ◌⊎◌, ◌+◌, ◌<◌, ◌≤◌, false, Err, Some, List, length, IfOk, IfErr, OnOk};
 ghost use Rattle.group_history.specs.Mutating.{mutate_reply};
 ghost use Rattle.group_history.specs.Pulling.{after_pull};
 ghost use Rattle.group_history.specs.Pull.{AreInRange};
@@ -168,6 +168,7 @@ where
     ensures kind { IfOk result (λ p. p.kind ≡ kind_left (after_pull (state_at at.now) pull.now).pending) }
     ensures first { IfOk result (λ p. (p.draft.first ≡ spot.first) × (p.base ≡ at.now.commit)) }
     ensures some { IfOk result (λ p. 0 < length p.draft.nodes) }
+    ensures new { IfOk result (λ p. p.draft.first ≤ stamp_of p.at) }
     ensures in_range { OnOk result (AreInRange pull.now.changes) }
     ensures err { IfErr result (IsStop S.reused) }
 {
@@ -206,6 +207,7 @@ where
     ensures kind { IfOk result (λ p. p.kind ≡ kind_left (after_pull (state_at at.now) pull.now).pending) }
     ensures first { IfOk result (λ p. (p.draft.first ≡ spot.first) × (p.base ≡ at.now.commit)) }
     ensures some { IfOk result (λ p. 0 < length p.draft.nodes) }
+    ensures new { IfOk result (λ p. p.draft.first ≤ stamp_of p.at) }
     ensures in_range { OnOk result (AreInRange pull.now.changes) }
     ensures err { IfErr result (IsStop S.reused) }
 {

@@ -1,6 +1,7 @@
 -- A draft spells under the stamps that it drew what it spelled under its own numbers.
-use Rattle.std.proofs.Common.{◌≡◌, ℕ, zero, suc, ◌+◌, ◌-◌, ◌<◌, ◌==◌, ◌⊎◌, inl, inr, List, [], ◌∷◌, ◌++◌, length, map}
+use Rattle.std.proofs.Common.{◌≡◌, ℕ, zero, suc, ◌+◌, ◌-◌, ◌<◌, ◌≤◌, ◌==◌, ◌⊎◌, inl, inr, List, [], ◌∷◌, ◌++◌, length, map}
 use Rattle.std.proofs.Common.{Some, None, Option, nat_lt, refl, ap, sym, subst, ◌∙◌, arith, length-append}
+use Rattle.std.specs.List.{Contains}
 use Rattle.std.specs.Prelude.{option_and_then, option_map, if◌then◌else◌}
 use Rattle.std.proofs.lemmas.List.{length-map}
 use Rattle.std.proofs.lemmas.Bool.{cond-true, cond-false, eq-eqb}
@@ -32,7 +33,7 @@ use Rattle.commit_graph.proofs.Spelled.{option_map-some, joined_one-some, spelle
 use Rattle.commit_graph.proofs.Snapshots.{begins}
 use Rattle.publishing.specs.Stamped.{stamped, restamped, drawn_as}
 use Rattle.publishing.specs.Placed.{IsPlaced}
-use Rattle.publishing.proofs.Numbers.{ref_stamped}
+use Rattle.publishing.proofs.Numbers.{ref_among, ref_stamped}
 use Rattle.publishing.proofs.Renaming.{renamed-renamed}
 
 -- what is spelled, where stamps are named anew
@@ -256,15 +257,13 @@ draft-carried cs ds first nodes pre m at v is =
     (drawn-twice from first nodes))
     (version-carried mine book h whole (stamp_of at) v there)
 
--- So a commit of a draft that was placed spells, under the reference that it then has, what it spelled in the draft.
-pub placed-spelled : (before after : Contents) (draft : Drafted) (refs : List Ref) → IsPlaced before after draft refs
-    → (cs : Contents) → IsPrefix cs before → length cs ≡ draft.first → (at : Ref) (v : Version)
-    → version_at (with_nodes cs draft.nodes) (stamp_of at) ≡ Some v
-    → version_at after (stamp_of (placed_ref draft.first refs at)) ≡ Some v
-placed-spelled before after draft refs is cs pre l at v spells =
+-- the stamps of a draft end where those of the references end at which it was placed
+placed-low : (before after : Contents) (draft : Drafted) (refs : List Ref) → IsPlaced before after draft refs
+    → (cs : Contents) → length cs ≡ draft.first → (at : Ref) (v : Version)
+    → version_at (with_nodes cs draft.nodes) (stamp_of at) ≡ Some v → stamp_of at < draft.first + length refs
+placed-low before after draft refs is cs l at v spells =
     let contents = with_nodes cs draft.nodes in
     let x = spelled_version contents (stamp_of at) v spells in
-    let low : stamp_of at < draft.first + length refs =
     omega (
       arith,
       answer_within (spelled contents) (stamp_of at) (version v x.0) x.1,
@@ -273,7 +272,23 @@ placed-spelled before after draft refs is cs pre l at v spells =
       length-map draft.nodes content_of,
       is.count,
       l,
-    ) in
+    )
+
+-- A commit of a draft that was placed is at one of the references, where it is one of the draft's own.
+pub placed_among : (before after : Contents) (draft : Drafted) (refs : List Ref) → IsPlaced before after draft refs
+    → (cs : Contents) → length cs ≡ draft.first → (at : Ref) (v : Version)
+    → version_at (with_nodes cs draft.nodes) (stamp_of at) ≡ Some v → draft.first ≤ stamp_of at
+    → Contains refs (placed_ref draft.first refs at)
+placed_among before after draft refs is cs l at v spells own =
+    ref_among draft.first refs at own (placed-low before after draft refs is cs l at v spells)
+
+-- So a commit of a draft that was placed spells, under the reference that it then has, what it spelled in the draft.
+pub placed-spelled : (before after : Contents) (draft : Drafted) (refs : List Ref) → IsPlaced before after draft refs
+    → (cs : Contents) → IsPrefix cs before → length cs ≡ draft.first → (at : Ref) (v : Version)
+    → version_at (with_nodes cs draft.nodes) (stamp_of at) ≡ Some v
+    → version_at after (stamp_of (placed_ref draft.first refs at)) ≡ Some v
+placed-spelled before after draft refs is cs pre l at v spells =
+    let low = placed-low before after draft refs is cs l at v spells in
     let there = draft-carried cs is.earlier is.first draft.nodes
     (prefix_trans cs before is.earlier pre is.since) is.behind at v spells in
     let behind = subst (λ n. version_at (is.earlier ++ drawn_as n is.first draft.nodes) (restamped n is.first at)

@@ -2,9 +2,10 @@
 use Rattle.std.proofs.Common.{◌≡◌, ℕ, zero, suc, ◌+◌, ◌-◌, ◌<◌, ◌≤◌, Bool, true, false, List, [], ◌∷◌, ◌++◌, map, All}
 use Rattle.std.proofs.Common.{Some, length, slice_get, slice_index_or, cond, nat_lt, refl, ap, sym, subst, ◌∙◌, arith}
 use Rattle.std.proofs.Common.{append_assoc, length-append, Option}
+use Rattle.std.specs.List.{Contains}
 use Rattle.std.proofs.lemmas.List.{append-nil, length-map, map-append}
-use Rattle.std.proofs.lemmas.List.Elements.{All-map, All-contains_itself}
-use Rattle.std.proofs.lemmas.Bool.{cond_both}
+use Rattle.std.proofs.lemmas.List.Elements.{All-map, All-contains_itself, Contains-get_or}
+use Rattle.std.proofs.lemmas.Bool.{cond_both, cond-false}
 use Rattle.std.proofs.lemmas.Bool.Decides.{nat_tests}
 use mathlib.Core.List.{IsPrefix}
 use Rattle.group_history.specs.declared.nodes.Chunk.TheVariants.{Leaf, Inner}
@@ -119,6 +120,13 @@ ref_stamped from first refs at are low = by (nat_lt (stamp_of at) from) refl
     by true is = refl
     by false is = let high : from ≤ stamp_of at = grind (arith, nat_tests, is) in
         from_at first refs (stamp_of at - from) at are (omega (arith, low, high))
+
+-- the reference of one of the draft's own nodes is one of those at which they were placed
+pub ref_among : (from : ℕ) (refs : List Ref) (at : Ref) → from ≤ stamp_of at → stamp_of at < from + length refs
+    → Contains refs (placed_ref from refs at)
+ref_among from refs at own low = subst (Contains refs)
+    (sym (cond-false (nat_lt (stamp_of at) from) at (slice_index_or refs (stamp_of at - from) at)
+    (grind (arith, nat_tests, own)))) (Contains-get_or refs (stamp_of at - from) at (omega (arith, own, low)))
 
 -- the content of a node whose children are so named
 pub node_stamped : (from first : ℕ) (refs : List Ref) (n : Node Ref) → AreFrom first refs

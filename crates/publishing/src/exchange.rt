@@ -1,6 +1,6 @@
 //! What becomes of a draft that was placed: the head is moved to it, or it is given up.
 ghost use Rattle.std.specs.Prelude.{◌≡◌, []};
-ghost use Rattle.std.specs.List.{All};
+ghost use Rattle.std.specs.List.{All, Contains};
 ghost use Rattle.group_history.specs.Refs.{slot_of, stamp_of};
 ghost use Rattle.head_word.specs.Books.{drawn, Follows};
 ghost use Rattle.reader_claims.specs.Lists.{In};
@@ -27,8 +27,8 @@ pub struct Move<'a> {
     pub refs: &'a [Ref],
 }
 
-/// Moves the head. Where that is won, the slots of `left` are retired, which the old head alone reaches; where
-/// it is lost, those of the draft, which no head ever reached. Takes no memory.
+/// Moves the head to one of the nodes that were placed. Where that is won, the slots of `left` are retired, which the
+/// old head alone reaches; where it is lost, those of the draft, which no head ever reached. Takes no memory.
 pub fn publish_draft<M: Means, S: Slots<M>>(
     shared: &Shared<M, S>,
     seat: &mut Seat<M, S>,
@@ -40,6 +40,7 @@ where
     requires home { IsSeatOf shared.now seat.old }
     requires none { S.reused → seat.old.view.taken ≡ [] }
     requires settled { S.reused → All (λ at. In seat.old.view.settled (slot_of at)) to.now.refs.now }
+    requires among { Contains to.now.refs.now to.now.new }
     requires follows { Follows M.means (drawn seat.old.mark.log) to.now.base to.now.new to.now.change.now }
     requires left { All (λ at. IsDropped (drawn seat.old.mark.log) (stamp_of to.now.base) (stamp_of to.now.new)
         (stamp_of at)) left.now }

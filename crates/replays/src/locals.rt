@@ -1,5 +1,5 @@
 //! Local commits: a new mutation, and pending ones that are replayed.
-ghost use Rattle.std.specs.Prelude.{◌≡◌, ◌⊎◌, ◌<◌, false, length, Some, Ok, Err, IfOk, IfErr, IfSome, OnOk};
+ghost use Rattle.std.specs.Prelude.{◌≡◌, ◌⊎◌, ◌<◌, ◌≤◌, false, length, Some, Ok, Err, IfOk, IfErr, IfSome, OnOk};
 ghost use mathlib.Core.List.{IsPrefix};
 ghost use Rattle.group_history.specs.Map.{Entries};
 ghost use Rattle.group_history.specs.Meaning.{Meaning, left_by, meaning_of};
@@ -42,6 +42,7 @@ pub fn draft_mutation<C: Chunks + Copy, K: Known, M: Mutators>(
         (by_meaning (meaning_of M.means mutation (view_of M.means s)) mutation.id)) }
     ensures some { IfOk result (λ _. 0 < length draft.new.nodes) }
     ensures first { draft.new.first ≡ draft.old.first }
+    ensures new { IfOk result (λ at. draft.old.first ≤ stamp_of at) }
 {
     let run = run_on::<C, K, M>(setting, draft, Tree::at(tip.root), &mutation)?;
     let tree = tree_if_done(run)?;
@@ -92,6 +93,7 @@ fn replay_one<C: Chunks + Copy, K: Known, M: Mutators>(
         (after_mutate s mutation.now)) }
     ensures some { IfOk result (λ _. 0 < length draft.new.nodes) }
     ensures first { draft.new.first ≡ draft.old.first }
+    ensures new { IfOk result (λ tip. draft.old.first ≤ stamp_of tip.commit) }
     ensures err { IfErr result (λ e. (e ≡ NoMemory) ⊎ (e ≡ Stamps) ⊎ StopsAs C.stops e) }
 {
     let copy = mutation.clone()?;
@@ -137,6 +139,8 @@ fn add_unread<K: Known>(draft: &mut Draft, basis: Tip, before: &[Mutation]) -> R
         (record { state = with_more v.state before.now; read = v.read })) }
     ensures grown { IsPrefix draft.old.nodes draft.new.nodes }
     ensures first { draft.new.first ≡ draft.old.first }
+    ensures new { draft.old.first ≤ stamp_of basis.commit
+        → IfOk result (λ tip. draft.old.first ≤ stamp_of tip.commit) }
     ensures why { IfErr result (λ e. (e ≡ NoMemory) ⊎ (e ≡ Stamps)) }
 {
     let mut tip = basis;
@@ -164,6 +168,7 @@ fn add_all<K: Known>(
         (record { state = after_mutate (with_more v.state before.now) last.now; read = m })) }
     ensures some { IfOk result (λ _. 0 < length draft.new.nodes) }
     ensures first { draft.new.first ≡ draft.old.first }
+    ensures new { IfOk result (λ tip. draft.old.first ≤ stamp_of tip.commit) }
     ensures why { IfErr result (λ e. (e ≡ NoMemory) ⊎ (e ≡ Stamps)) }
 {
     let tip = add_unread::<K>(draft, basis, before)?;
@@ -188,6 +193,8 @@ fn replay_parts<C: Chunks + Copy, K: Known, M: Mutators>(
         → IfOk result (λ after. IsTip M.means (with_nodes K.known draft.new.nodes) after (with_more s pending.now)) }
     ensures some { 0 < length draft.old.nodes → OnOk result (0 < length draft.new.nodes) }
     ensures first { draft.new.first ≡ draft.old.first }
+    ensures new { draft.old.first ≤ stamp_of basis.commit
+        → IfOk result (λ tip. draft.old.first ≤ stamp_of tip.commit) }
     ensures err { IfErr result (λ e. (e ≡ NoMemory) ⊎ (e ≡ Stamps) ⊎ StopsAs C.stops e) }
 {
     if let [mutation] = pending {
@@ -217,6 +224,8 @@ pub fn replay<C: Chunks + Copy, K: Known, M: Mutators>(
         → IfOk result (λ after. IsTip M.means (with_nodes K.known draft.new.nodes) after (with_more s pending.now)) }
     ensures some { 0 < length draft.old.nodes → OnOk result (0 < length draft.new.nodes) }
     ensures first { draft.new.first ≡ draft.old.first }
+    ensures new { draft.old.first ≤ stamp_of basis.commit
+        → IfOk result (λ tip. draft.old.first ≤ stamp_of tip.commit) }
     ensures err { IfErr result (λ e. (e ≡ NoMemory) ⊎ (e ≡ Stamps) ⊎ StopsAs C.stops e) }
 {
     let Some((last, before)) = pending.split_last() else {

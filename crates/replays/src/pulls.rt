@@ -1,5 +1,5 @@
 //! The end of a pull.
-ghost use Rattle.std.specs.Prelude.{◌≡◌, ◌⊎◌, ◌+◌, ◌<◌, false, length, Some, IsSome, IfOk, IfErr};
+ghost use Rattle.std.specs.Prelude.{◌≡◌, ◌⊎◌, ◌+◌, ◌<◌, ◌≤◌, false, length, Some, IsSome, IfOk, IfErr};
 ghost use Rattle.group_history.specs.Map.{Entries, patched};
 ghost use Rattle.group_history.specs.Pull.{AreInRange};
 ghost use Rattle.group_history.specs.Pulling.{end_at, after_pull, left_pending, overwritten};
@@ -77,6 +77,7 @@ fn add_answered(
         (record { state = pulled_state m pull.now.cookie confirmed; read = m })) }
     ensures some { IfOk result (λ _. 0 < length draft.new.nodes) }
     ensures first { draft.new.first ≡ draft.old.first }
+    ensures new { IfOk result (λ tip. draft.old.first ≤ stamp_of tip.commit) }
     ensures why { IfErr result (λ e. (e ≡ NoMemory) ⊎ (e ≡ Stamps)) }
 {
     let cookie = pull.cookie().clone()?;
@@ -103,6 +104,7 @@ fn add_patched<C: Chunks + Copy, K: Known, M: Mutators>(
         })) }
     ensures some { IfOk result (λ _. 0 < length draft.new.nodes) }
     ensures first { draft.new.first ≡ draft.old.first }
+    ensures new { IfOk result (λ tip. draft.old.first ≤ stamp_of tip.commit) }
     ensures err { IfErr result (λ e. (e ≡ NoMemory) ⊎ (e ≡ Stamps) ⊎ StopsAs C.stops e) }
 {
     let tree = patched_map::<C, K>(setting.alloc, setting.chunks, draft, root, pull.patch())?;
@@ -150,6 +152,7 @@ pub fn draft_rebase<C: Chunks + Copy, K: Known, M: Mutators>(
     ensures in_range { AreInRange pull.now.changes }
     ensures some { IfOk result (λ _. 0 < length draft.new.nodes) }
     ensures first { draft.new.first ≡ draft.old.first }
+    ensures new { IfOk result (λ made. draft.old.first ≤ stamp_of made.commit) }
     ensures err { IfErr result (λ e. (e ≡ NoMemory) ⊎ (e ≡ Stamps) ⊎ StopsAs C.stops e) }
 {
     let (confirmed, left) = after_changes(setting.alloc, base, pending, pull)?;

@@ -2,7 +2,7 @@
 //!
 //! A commit's map is drafted before the commit itself. Both are told as a `Tip`, from which the next
 //! commit goes on.
-ghost use Rattle.std.specs.Prelude.{◌≡◌, ◌⊎◌, ◌+◌, ◌<◌, [], ◌∷◌, false, length, Some, IfOk, IfErr};
+ghost use Rattle.std.specs.Prelude.{◌≡◌, ◌⊎◌, ◌+◌, ◌<◌, ◌≤◌, [], ◌∷◌, false, length, Some, IfOk, IfErr};
 ghost use Rattle.std.specs.FinMap as finite;
 ghost use mathlib.Core.List.{IsPrefix};
 ghost use Rattle.group_history.specs.Cookies.{null_cookie};
@@ -45,6 +45,7 @@ pub(crate) fn add_over(draft: &mut Draft, basis: Tip, root: Ref, step: Step) -> 
         → IfOk result (λ tip. HasTip (with_nodes contents draft.new.nodes) tip
         (record { state = stepped v.state step; read = m })) }
     ensures first { draft.new.first ≡ draft.old.first }
+    ensures new { IfOk result (λ tip. draft.old.first ≤ stamp_of tip.commit) }
     ensures grown { IsPrefix draft.old.nodes draft.new.nodes }
     ensures some { IfOk result (λ _. 0 < length draft.new.nodes) }
     ensures why { IfErr result (λ e. (e ≡ NoMemory) ⊎ (e ≡ Stamps)) }
@@ -83,6 +84,7 @@ pub fn add_local(
         → IfOk result (λ tip. HasTip (with_nodes contents draft.new.nodes) tip
         (record { state = after_mutate v.state mutation; read = m })) }
     ensures first { draft.new.first ≡ draft.old.first }
+    ensures new { IfOk result (λ tip. draft.old.first ≤ stamp_of tip.commit) }
     ensures grown { IsPrefix draft.old.nodes draft.new.nodes }
     ensures some { IfOk result (λ _. 0 < length draft.new.nodes) }
     ensures why { IfErr result (λ e. (e ≡ NoMemory) ⊎ (e ≡ Stamps)) }
@@ -102,6 +104,7 @@ pub fn add_closing(draft: &mut Draft, basis: Tip) -> Result<Ref, Refusal>
         ≡ Some (record { state = after_closing v.state; read = v.read })) }
     ensures some { IfOk result (λ _. 0 < length draft.new.nodes) }
     ensures first { draft.new.first ≡ draft.old.first }
+    ensures new { IfOk result (λ at. draft.old.first ≤ stamp_of at) }
     ensures why { IfErr result (λ e. (e ≡ NoMemory) ⊎ (e ≡ Stamps)) }
 {
     let tip = add_over(draft, basis, basis.root, Step::Closed)?;
@@ -122,6 +125,7 @@ pub fn add_snapshot(
         → IfOk result (λ tip. HasTip (with_nodes contents draft.new.nodes) tip
         (record { state = pulled_state m cookie confirmed; read = m })) }
     ensures first { draft.new.first ≡ draft.old.first }
+    ensures new { IfOk result (λ tip. draft.old.first ≤ stamp_of tip.commit) }
     ensures grown { IsPrefix draft.old.nodes draft.new.nodes }
     ensures some { IfOk result (λ _. 0 < length draft.new.nodes) }
     ensures why { IfErr result (λ e. (e ≡ NoMemory) ⊎ (e ≡ Stamps)) }

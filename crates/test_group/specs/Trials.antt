@@ -1,7 +1,7 @@
 -- What tests try: a group without mutators, whose first pull brings a cookie and nothing else.
 use Rattle.std.specs.Prelude.{ℕ, ◌≡◌, List, [], ◌∷◌}
 use Rattle.std.specs.FinMap as finite
-use Rattle.std.specs.List.{All}
+use Rattle.std.specs.List.{All, Contains}
 use Rattle.group_history.specs.declared.changes.Change.{Change}
 use Rattle.group_history.specs.declared.changes.Change.TheVariants.{Pulled}
 use Rattle.group_history.specs.declared.nodes.Chunk.TheVariants.{Leaf}
@@ -43,9 +43,11 @@ SpellsBare log stamp cookie = Spells no_mutators (drawn log) stamp (after_change
 abbrev pub bare_draft : Cookie → Ref → Drafted
 bare_draft cookie root = record { first = 2; nodes = node.Chunk (Leaf []) ∷ bare cookie root ∷ [] }
 
--- the snapshot's reference, where the draft was placed at these, is a commit of the state after the pull
+-- the snapshot's reference, where the draft was placed at these, is one of them, and a commit of the state after the
+-- pull
 abbrev pub PlacesBare : List Entry → List Ref → Cookie → Type 0
-PlacesBare log refs cookie = (at : Ref) → stamp_of at ≡ 3 → SpellsBare log (stamp_of (placed_ref 2 refs at)) cookie
+PlacesBare log refs cookie = (at : Ref) → stamp_of at ≡ 3
+    → Contains refs (placed_ref 2 refs at) × SpellsBare log (stamp_of (placed_ref 2 refs at)) cookie
 
 -- seats of this group, which where slots are used again have no pin and no taken slot
 abbrev pub AreFreeSeatsOf : Type 0 → GroupId → List Seated → Type 0

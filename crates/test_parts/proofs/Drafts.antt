@@ -24,6 +24,7 @@ use Rattle.map_chunks.specs.Drafts.{Drafted}
 use Rattle.map_chunks.specs.Places.{with_nodes}
 use Rattle.publishing.specs.Laws.{PlacingLaws}
 use Rattle.publishing.specs.Placed.{IsPlaced}
+use Rattle.publishing.proofs.Carrying.{placed_among}
 use Rattle.test_group.specs.Trials.{no_mutators, bare_draft, bare_pull, PlacesBare}
 
 -- the opening's contents, and behind them an empty leaf
@@ -67,6 +68,10 @@ bare_placed old new cookie draft refs laws starts is placed =
     let b = begins old starts in
     let d = bare_draft cookie is.0 in
     let placed' = subst (λ (d : Drafted). IsPlaced (drawn old) (drawn new) d refs) is.2 placed in
-    λ at third. laws.spelled (drawn old) (drawn new) d refs placed' (drawn (opening b.0)) b.1 refl at _
-    (subst (λ k. Spells no_mutators (with_nodes (drawn (opening b.0)) d.nodes) k
-    (after_change opening_state (bare_pull cookie))) (sym third) (bare_spells b.0 is.0 cookie is.1))
+    λ at third.
+    let there = subst (λ k. Spells no_mutators (with_nodes (drawn (opening b.0)) d.nodes) k
+    (after_change opening_state (bare_pull cookie))) (sym third) (bare_spells b.0 is.0 cookie is.1) in (
+      placed_among (drawn old) (drawn new) d refs placed' (drawn (opening b.0)) refl at _ there
+          (omega (arith, third)),
+      laws.spelled (drawn old) (drawn new) d refs placed' (drawn (opening b.0)) b.1 refl at _ there,
+    )

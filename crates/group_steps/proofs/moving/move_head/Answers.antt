@@ -1,4 +1,5 @@
 use Rattle.std.proofs.Common.{◌≡◌, List, Some, Option, Result, refl, sym, subst, ap, ◌∙◌}
+use Rattle.std.specs.List.{Contains}
 use Rattle.std.proofs.lemmas.Result.{err_from_is_err_and}
 use Rattle.group_history.specs.declared.refs.Ref.{Ref}
 use Rattle.group_history.specs.declared.refusals.Refusal.{Refusal}
@@ -15,7 +16,7 @@ use Rattle.answered.specs.Trying.{Ends}
 use Rattle.answered.specs.declared.trying.Published.{Published}
 use Rattle.answered.specs.declared.trying.Published.TheVariants.{Won}
 use Rattle.answered.proofs.Losing.{point_since}
-use Rattle.publishing.proofs.Carrying.{placed-spelled}
+use Rattle.publishing.proofs.Carrying.{placed_among, placed-spelled}
 use Rattle.publishing.specs.Retiring.{Retires, none}
 use Rattle.group_steps.specs.Changing.{is_made}
 use Rattle.group_steps.specs.Leaving.{Frees, RetiresWhatIsLeft}
@@ -24,6 +25,18 @@ use Rattle.group_steps.specs.Proposing.{change_asked}
 use Rattle.group_steps.proofs.Drafting.{one_state}
 use Rattle.group_steps.proofs.Giving.{are_left_grown, drawn_grown, gives_kept, gives_up, move_since}
 use Rattle.group_steps.proofs.moving.move_head.Goals as goal
+
+pub exchange-requires-clause-among : goal.exchange-requires-clause-among
+exchange-requires-clause-among g c κs within =
+    let means = g.M.Means.means in let l = c.requires.leads in let p = c.args.proposal in
+    let old = c.args.seat.now.mark.log in let mid = c.place_draft.new.seat.mark.log in
+    let refs = c.in_ok-refs.refs.items in let new = c.place_of-new.result in
+    let placed : new ≡ placed_ref p.draft.first refs p.at =
+    c.place_of-new.ensures ∙ ap (λ n. placed_ref n c.deref.result.now p.at) c.first-from.ensures ∙ ap
+    (λ rs. placed_ref p.draft.first rs p.at) c.deref.ensures.value in
+    let among = placed_among (drawn old) (drawn mid) p.draft refs c.in_ok-refs.ensures.placed l.2.contents l.2.first p.at
+    (version_of means (after_change l.0 c.args.change.now)) l.2.then l.2.new in
+    subst (λ (ats : List Ref). Contains ats new) (sym c.deref-2.ensures.value) (subst (Contains refs) (sym placed) among)
 
 pub exchange-requires-clause-follows : goal.exchange-requires-clause-follows
 exchange-requires-clause-follows g c κs within =

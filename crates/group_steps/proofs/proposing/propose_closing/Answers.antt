@@ -1,4 +1,5 @@
-use Rattle.std.proofs.Common.{◌≡◌, length, refl, sym, ap, subst, ◌∙◌}
+use Rattle.std.proofs.Common.{◌≡◌, ◌≤◌, length, refl, sym, ap, subst, ◌∙◌}
+use Rattle.group_history.specs.Refs.{stamp_of}
 use Rattle.group_history.specs.Spelling.{Contents, version_of}
 use Rattle.group_history.proofs.Lists.{prefix_self}
 use Rattle.head_word.specs.Books.{drawn}
@@ -36,6 +37,7 @@ returns-clause-proposed g c last =
         first = sym c.requires.spot.drawn ∙ sym (c.in_ok-at.ensures.first ∙ ap
             (λ (d : Drafted). d.first) c.new-draft.ensures);
         some = c.in_ok-at.ensures.some;
+        new = subst (λ n. n ≤ stamp_of c.in_ok-at.at) (sym c.in_ok-at.ensures.first) c.in_ok-at.ensures.new;
         kind = refl;
         accepted = c.requires.spot.opened;
         then = done;

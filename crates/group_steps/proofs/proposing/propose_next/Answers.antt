@@ -1,4 +1,4 @@
-use Rattle.std.proofs.Common.{◌≡◌, true, Ok, refl, sym, ap, subst, ◌∙◌, rules}
+use Rattle.std.proofs.Common.{◌≡◌, ◌≤◌, true, Ok, refl, sym, ap, subst, ◌∙◌, rules}
 use Rattle.group_history.specs.declared.changes.Change.TheVariants.{Mutated}
 use Rattle.group_history.specs.declared.mutations.Mutation.{Mutation}
 use Rattle.group_history.specs.declared.refs.Ref.{Ref}
@@ -73,6 +73,7 @@ returns-in-Ok-clause-proposed g c =
         first = sym c.requires.spot.drawn ∙ sym (c.draft_mutation-made.ensures.first ∙ ap
             (λ (d : Drafted). d.first) c.new-draft.ensures);
         some = c.in-Ok.ensures.some;
+        new = subst (λ n. n ≤ stamp_of c.in-Ok.at) (sym c.draft_mutation-made.ensures.first) c.in-Ok.ensures.new;
         kind = refl;
         accepted = accepted_next means t x c.args.last c.requires.own right c.requires.next.1;
         then = subst (λ (w : Contents). Spells means (with_nodes w made) (stamp_of c.in-Ok.at) (after_mutate t x))

@@ -2,6 +2,7 @@ use Rattle.std.proofs.Common.{◌≡◌, ◌≤◌, List, take, length, rules, s
 use Rattle.std.proofs.lemmas.List.{take_all}
 use Rattle.group_history.specs.declared.mutations.Mutation.{Mutation}
 use Rattle.group_history.specs.Mutating.{after_mutate}
+use Rattle.group_history.specs.Refs.{stamp_of}
 use Rattle.group_history.specs.Spelling.{Version}
 use Rattle.group_history.specs.State.{State}
 use Rattle.group_history.proofs.Lists.{prefix_trans}
@@ -39,6 +40,7 @@ loop-mutation-preserved g c =
           subst (λ (s : State). HasTip (with_nodes known c.add_over.new.draft.nodes) c.in_ok-tip.tip
           (record { state = s; read = v.read })) next
           (c.in_ok-tip.ensures.spelled known now v.read (sym (i.0 ∙ c.requires.behind)) at.0 at.2 is_open at.1),
+      λ own. subst (λ n. n ≤ stamp_of c.in_ok-tip.tip.commit) i.0 c.in_ok-tip.ensures.new,
     )
 
 pub returns-clause-tip : goal.returns-clause-tip
