@@ -170,7 +170,7 @@ module _ (k : Sizes) (s : World) (o : Joint k s) (id : ℕ) (v : View) (a : Work
     still = refl;
     rises = omega arith;
     held = λ c h. o.held id a c me.work h;
-    slots = λ z h. h;
+    slots = λ z h. search h;
     late = λ h. absurd (cc);
     commits = λ c h. inl h;
     drawn = λ q h. absurd h;

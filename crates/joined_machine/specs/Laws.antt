@@ -1,5 +1,5 @@
 -- What holds in the joined machine, after every list of events.
-use Rattle.std.specs.Prelude.{◌≡◌, ℕ, ◌^◌, ◌<◌, ◌≤◌, ◌⊎◌, List, slice_index}
+use Rattle.std.specs.Prelude.{◌≡◌, ℕ, ◌^◌, ◌<◌, ◌≤◌, ◌⊎◌, List, [], ◌∷◌, ◌++◌, cond, ◌==◌, slice_index}
 use mathlib.Core.Option.{some}
 use lib.ListN.{get_elem?}
 use Rattle.group_history.specs.Refs.{max_seats}
@@ -11,7 +11,8 @@ use Rattle.reader_claims.specs.Lists.{In}
 use Rattle.reader_claims.specs.Machine.{Reached}
 use Rattle.reader_claims.specs.Laws.{Holds}
 use Rattle.joined_machine.specs.Worlds.{Commit, Among, Work, World}
-use Rattle.joined_machine.specs.Events.{Deed, takes, withdraws, retires, gives, Event}
+use Rattle.joined_machine.specs.Events.{Deed, loads_epoch, raises, takes, settles, withdraws, retires, gives, begins}
+use Rattle.joined_machine.specs.Events.{loses, gives_up, Event}
 use Rattle.joined_machine.specs.Joined.{Steps, Runs, Opens}
 
 -- the commit is one that the seat j loaded under the pin that it still holds
@@ -75,3 +76,18 @@ OpeningLaw = (k : Sizes) (zs : List ℕ) → 0 < k.readers → k.readers ≤ max
 abbrev pub TurnLaw : Type 0
 TurnLaw = (k : Sizes) × (s t u : World) × (es : List Event) × (e : Event) × (z : ℕ)
     × Opens k s × Reached k s.words s.views × Runs s es t × Steps t e u × In s.reached z × (e.deed ≡ takes z)
+
+-- what the seat j does in these events, in order
+abbrev pub done_by : ℕ → List Event → List Deed
+done_by j [] = []
+done_by j (e ∷ es) = cond (e.seat == j) (e.deed ∷ done_by j es) (done_by j es)
+
+-- From such an opening there are events too by which a seat takes a slot and settles it in a try, loses the exchange of
+-- the head, or gives the try up, and retires the slot, with nothing else of that seat between; and the slot is given,
+-- and taken again. So what a lost try settled does not stay live for want of steps
+abbrev pub LostTurnLaw : Type 0
+LostTurnLaw = (d : Deed) → (d ≡ loses) ⊎ (d ≡ gives_up)
+    → (k : Sizes) × (s t u : World) × (es : List Event) × (e : Event) × (j n z : ℕ) × (before later : List Deed)
+    × Opens k s × Reached k s.words s.views × Runs s es t × Steps t e u × (In s.reached z → ⊥)
+    × (done_by j es ≡ before ++ begins ∷ takes z ∷ settles z ∷ d ∷ loads_epoch ∷ raises n ∷ retires z ∷ later)
+    × (e.deed ≡ takes z)

@@ -1,5 +1,6 @@
 // What holds in the joined machine, whatever its seats do.
 ghost use Rattle.joined_machine.specs.Laws.{JoinedLaw, HeadLaw, HoldLaw, HighestLaw, TableLaw, OpeningLaw, TurnLaw};
+ghost use Rattle.joined_machine.specs.Laws.{LostTurnLaw};
 ghost use Rattle.joined_machine.specs.Stamps.{StampLaw};
 
 /// For every list of events of the joined machine, with any number of seats (up to the 256 that the claims
@@ -24,4 +25,6 @@ pub fn joined_law()
     ensures opening { OpeningLaw }
     // A slot that was dropped does come back.
     ensures turn { TurnLaw }
+    // So does one that was settled in a try that was lost or given up.
+    ensures lost_turn { LostTurnLaw }
 {}

@@ -2,6 +2,7 @@ use Rattle.joined_machine.proofs.Lawful.{joined_law, head_law, hold_law, highest
 use Rattle.joined_machine.proofs.Stamped.{stamp_law}
 use Rattle.joined_machine.proofs.Tables.{table_law, opening_law}
 use Rattle.joined_machine.proofs.Turning.{turn_law}
+use Rattle.joined_machine.proofs.Losing.{lost_turn_law}
 use Rattle.joined_machine.proofs.laws.joined_law.Goals as goal
 
 pub returns : goal.returns
@@ -14,4 +15,5 @@ returns c = record {
   table = table_law;
   opening = opening_law;
   turn = turn_law;
+  lost_turn = lost_turn_law;
 }
