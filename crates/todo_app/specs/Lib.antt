@@ -1,0 +1,2 @@
+-- What a reader of the program believes: what the mutators mean.
+pub mod Todos
