@@ -1,4 +1,5 @@
 //! The group of the list, and its users.
+ghost use Rattle.std.specs.Prelude.{◌≡◌, length, IfErr};
 ghost use Rattle.rebase.specs.Clients.{AreSeatsOf};
 
 use crate::mutators::Todos;
@@ -38,6 +39,7 @@ fn client_of(
 ) -> Result<Client<Todos, Arena<Todos>>, Refusal>
     requires { AreSeatsOf group.now.group seats.old.free }
     ensures seats { AreSeatsOf group.now.group seats.new.free }
+    ensures kept { IfErr result (λ _. length seats.new.free ≡ length seats.old.free) }
 {
     let seat = seats.take()?;
     match group.client(seat, id, TRIES) {
