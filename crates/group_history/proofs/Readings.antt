@@ -2,7 +2,7 @@
 use Rattle.std.proofs.Common.{◌≡◌, ℕ, ◌≤◌, List, Bool, true, false, cond, Some, None, Ok, Err, refl, sym, ap, ◌∙◌}
 use Rattle.std.proofs.Common.{IsUtf8, nat_le, not}
 use Rattle.std.specs.Str.{is_utf8}
-use Rattle.std.proofs.lemmas.Bool.{le-leb}
+use Rattle.std.proofs.lemmas.Bool.{le-leb, leb-true}
 use Rattle.std.proofs.lemmas.Str.{IsUtf8-from_is_utf8, is_utf8-from_IsUtf8}
 use Rattle.serde_json.specs.Data.{Data, depth}
 use Rattle.serde_json.specs.Written.{has_float, compact_text}
@@ -60,3 +60,19 @@ unfolding cookie_at cookie_of
 cookie_at-compact d text o utf8 is same shallow whole order =
     rw (reading-ok text d utf8 is, le-leb (depth d) 126 shallow, whole, order)
     (ap (λ t. Some (record { text = t; order = o })) (sym same))
+
+-- A value that has a compact text: it nests at most 124 deep, and no number in it is a float.
+abbrev pub HasText : Data → Type 0
+HasText d = (depth d ≤ 124) × (has_float d ≡ false)
+
+-- by what the two tests on a value answer
+HasText-at : (shallow float : Bool) (d : Data) (text : List ℕ) → nat_le (depth d) 124 ≡ shallow → has_float d ≡ float
+    → cond shallow (cond float (Err NotWhole) (Ok (compact_text d))) (Err NotJson) ≡ Ok text → HasText d
+HasText-at true false d text shallow whole is = (leb-true _ _ shallow, whole)
+HasText-at true true d text shallow float is = cc
+HasText-at false float d text deep e is = cc
+
+-- a value that has a compact text
+pub HasText-text_of : (d : Data) (text : List ℕ) → text_of d ≡ Ok text → HasText d
+unfolding text_of
+HasText-text_of d text is = HasText-at _ _ d text refl refl is

@@ -11,6 +11,7 @@ ghost use Rattle.serde_json.specs.Written.{has_float, items_have_float, members_
 ghost use Rattle.group_history.specs.declared.refusals.Refusal.TheVariants as refusal;
 ghost use Rattle.group_history.specs.Answers.{AnswersSeen, Answers};
 ghost use Rattle.group_history.specs.Json.{reading, json_text, text_of};
+ghost use Rattle.group_history.specs.Meaning.{value_of};
 
 mod compact;
 
@@ -176,13 +177,21 @@ impl Json {
         self.compact.as_str()
     }
 
-    /// The value that the text is.
-    pub fn value(&self, alloc: Global) -> Result<Value, Refusal>
-        ensures err { IsOkUnless result refusal.NoMemory }
-        ensures read { IfOk result (λ v. reading self.now ≡ Ok (view v)) }
-        ensures ok { IfOk result (λ v. text_of (view v) ≡ Ok self.now) }
+    /// The value that the text is: nested at most 124 deep, with whole numbers alone.
+    pub fn value(&self, alloc: Global) -> Result<Value, AllocError>
+        ensures value { IfOk result (λ v. value_of self.now ≡ Some (view v)) }
+        ensures text { IfOk result (λ v. text_of (view v) ≡ Ok self.now) }
+        ensures shallow { IfOk result (λ v. depth (view v) ≤ 124) }
+        ensures whole { IfOk result (λ v. has_float (view v) ≡ false) }
     {
-        read_value(alloc, self.compact.as_str().as_bytes())
+        match read_value(alloc, self.compact.as_str().as_bytes()) {
+            Ok(value) => Ok(value),
+            Err(refusal) => {
+                let is_memory = refusal == Refusal::NoMemory;
+                prove!(is_memory);
+                Err(AllocError)
+            }
+        }
     }
 }
 

@@ -5,7 +5,7 @@ ghost use Rattle.group_history.specs.Map.{Entries};
 ghost use Rattle.group_history.specs.Meaning.{Meanings};
 ghost use Rattle.group_history.specs.Ran.{RunsAs};
 ghost use Rattle.group_history.specs.Scans.{rows_of};
-ghost use Rattle.group_history.specs.Stops.{told_as};
+ghost use Rattle.group_history.specs.Stops.{MayStop, told_as};
 ghost use Rattle.group_history.specs.declared.mutators.Stop.{Stop};
 ghost use Rattle.group_history.specs.declared.mutators.Stop.TheVariants.{NoMemory};
 
@@ -105,5 +105,5 @@ pub trait Mutators: Means + Sync {
     ) -> Result<Ran, Stop>
         ensures ran { IfOk result (λ ran. RunsAs (Self.means name.now args.now why (V.contents view.old)) ran
             (V.contents view.new)) }
-        ensures stopped { IfErr result (λ stop. (stop ≡ NoMemory) ⊎ V.stops stop) };
+        ensures stopped { IfErr result (MayStop V.stops) };
 }

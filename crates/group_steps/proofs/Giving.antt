@@ -1,5 +1,5 @@
 -- What a seat gives back, try after try, and why a change is refused in a later part of a call.
-use Rattle.std.proofs.Common.{◌≡◌, ◌≢◌, ◌⊎◌, inl, inr, ℕ, true, Err, Some, None, Option, List, [], ◌∷◌, ◌++◌, refl, sym}
+use Rattle.std.proofs.Common.{◌≡◌, ◌≢◌, ◌<◌, ◌⊎◌, inl, inr, ℕ, true, Err, Some, None, Option, List, [], ◌∷◌, ◌++◌, refl, sym}
 use Rattle.std.proofs.Common.{ap, length, subst, ◌∙◌, arith}
 use Rattle.std.specs.Prelude.{slice_index_or}
 use mathlib.Core.List.{IsPrefix}
@@ -12,7 +12,7 @@ use Rattle.group_history.specs.declared.refusals.Refusal.{Refusal}
 use Rattle.group_history.specs.declared.refusals.Refusal.TheVariants as refusal
 use Rattle.group_history.specs.Meaning.{Meanings}
 use Rattle.group_history.specs.Record.{after}
-use Rattle.group_history.specs.Refs.{stamp_of}
+use Rattle.group_history.specs.Refs.{slot_of, stamp_of}
 use Rattle.group_history.specs.Spelling.{Contents, Version, version_at}
 use Rattle.group_history.specs.State.{State}
 use Rattle.group_history.proofs.Lists.{map_to, prefix_trans}
@@ -25,7 +25,7 @@ use Rattle.reader_claims.specs.Machine.{Moves, still}
 use Rattle.reader_claims.specs.Seats.{ClaimsId, kind_end}
 use Rattle.reader_claims.proofs.Moving.{moves_moves}
 use Rattle.commit_graph.specs.Reach.{IsDropped}
-use Rattle.commit_graph.specs.Seats.{Seated}
+use Rattle.commit_graph.specs.Seats.{IsSameSeat, Seated}
 use Rattle.commit_graph.proofs.Reached.{reaches_back, reaches_stays, there_version}
 use Rattle.answered.specs.Answered.{is_want}
 use Rattle.answered.specs.Trying.{IsMove, IsUnproposed}
@@ -102,13 +102,17 @@ pub drawn_grown : (old new : List Entry) → IsPrefix old new → IsPrefix (draw
 drawn_grown old new pre = (drawn pre.0, sym (drawn_more old pre.0) ∙ ap drawn pre.1)
 
 -- an earlier part gave back what it settled
-pub frees_since : (slots : ℕ) (old mid new : Seated) (o : Option Change) → IsPrefix old.mark.log mid.mark.log
-    → mid.mark.seat ≡ old.mark.seat → GivesBack slots old.view mid.view → Frees slots mid new o → Frees slots old new o
-frees_since slots old mid new None pre seat gave frees = gives_gives slots old.view mid.view new.view gave frees
-frees_since slots old mid new (Some c) pre seat gave f = record {
+pub frees_since : (slots : ℕ) (old mid new : Seated) (o : Option Change) → IsSameSeat old mid → GivesBack slots old.view mid.view → Frees slots mid new o → Frees slots old new o
+frees_since slots old mid new None same gave frees = gives_gives slots old.view mid.view new.view gave frees
+frees_since slots old mid new (Some c) same gave f = record {
   base = f.base;
   to = f.to;
-  goes = move_since old.mark mid.mark new.mark f.base f.to c pre seat f.goes;
+  goes = move_since old.mark mid.mark new.mark f.base f.to c same.later.seen same.later.seat f.goes;
+  log = f.log;
+  seen = f.seen;
+  stood = f.stood;
+  within = subst (λ (t : ClaimsId). slot_of f.to < kind_end t.sizes (kind_for (after (record_of f.log)) c))
+      same.table f.within;
   left = f.left;
   are = f.are;
   made = f.made;
@@ -126,6 +130,10 @@ frees_then slots old mid new (Some c) same gave f = record {
   base = f.base;
   to = f.to;
   goes = subst (λ (m : Known). IsMove old.mark m f.base f.to c) (sym same) f.goes;
+  log = f.log;
+  seen = subst (λ (m : Known). IsPrefix f.log m.log) (sym same) f.seen;
+  stood = f.stood;
+  within = f.within;
   left = f.left;
   are = subst (λ (m : Known). AreLeft (drawn m.log) f.base f.to c f.left) (sym same) f.are;
   made = f.made;

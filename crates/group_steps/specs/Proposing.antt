@@ -16,11 +16,12 @@ use Rattle.group_history.specs.Map.{Bytes}
 use Rattle.group_history.specs.Meaning.{Meanings}
 use Rattle.group_history.specs.Mutating.{mutate_reply}
 use Rattle.group_history.specs.Pulling.{end_reply}
-use Rattle.group_history.specs.Record.{IsAccepted, after_change}
+use Rattle.group_history.specs.Record.{IsAccepted, after, after_change}
 use Rattle.group_history.specs.Refs.{stamp_of}
 use Rattle.group_history.specs.Spelling.{Contents, Spells}
 use Rattle.group_history.specs.State.{State}
-use Rattle.head_word.specs.Books.{drawn, next_stamp}
+use Rattle.head_word.specs.declared.entry.Entry.{Entry}
+use Rattle.head_word.specs.Books.{drawn, last_move, next_stamp, record_of}
 use Rattle.head_word.specs.Marks.{Known}
 use Rattle.map_chunks.specs.Places.{with_nodes}
 use Rattle.reader_claims.specs.declared.slot.Kind.{Kind}
@@ -28,7 +29,7 @@ use Rattle.reader_claims.specs.declared.slot.Kind.TheVariants as kind
 use Rattle.commit_graph.specs.LastIds.{last_at}
 use Rattle.commit_graph.specs.declared.states.LastId.{LastId}
 use Rattle.answered.specs.Answered.{IsLeft, is_want}
-use Rattle.answered.specs.Trying.{IsUnproposed}
+use Rattle.answered.specs.Trying.{IsBase, IsUnproposed}
 use Rattle.replays.specs.Chaining.{IsTip}
 use Rattle.replays.specs.declared.tips.Tip.{Tip}
 use Rattle.group_steps.specs.Missing.{told}
@@ -108,6 +109,14 @@ pub record Leads (means : Meanings) (before : Contents) (base : Ref) (s : State)
   pub kind : p.kind ≡ kind_for s change
   pub accepted : IsAccepted means s change
   pub then : Spells means (with_nodes contents p.draft.nodes) (stamp_of p.at) (after_change s change)
+
+-- The proposal begins at a commit of a state that was seen, at which the head was, and leads from there to the change.
+pub record MayMove (means : Meanings) (mark : Known) (change : Change) (p : Proposal) : Type 0 where
+  pub log : List Entry
+  pub seen : IsPrefix log mark.log
+  pub stood : p.base ≡ last_move log
+  pub base : IsBase means mark p.base (after (record_of log))
+  pub leads : Leads means (drawn mark.log) p.base (after (record_of log)) change p
 
 -- What is proposed at the state: what leads to the change, or nothing, where nothing is to be changed.
 abbrev pub Proposes : Meanings → Contents → Ref → State → ℕ → Change → Option Proposal → Type 0

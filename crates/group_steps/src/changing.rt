@@ -5,7 +5,7 @@
 ghost use Rattle.std.specs.Prelude.{◌≡◌, ◌⊎◌, ◌+◌, ◌<◌, [], Ok, Some, IfOk, IfErr, IfSome};
 ghost use mathlib.Core.List.{IsPrefix};
 ghost use Rattle.group_history.specs.Record.{after};
-ghost use Rattle.head_word.specs.Books.{drawn, next_stamp, record_of};
+ghost use Rattle.head_word.specs.Books.{drawn, last_move, next_stamp, record_of};
 ghost use Rattle.chunk_slots.specs.Seats.{IsIdle};
 ghost use Rattle.commit_graph.specs.Seats.{IsReading, IsSameSeat, IsSeatOf};
 ghost use Rattle.answered.specs.Answered.{Answers};
@@ -54,6 +54,7 @@ where
     requires base { IsBase M.means seat.old.mark arrival.now.base (after (record_of arrival.now.seen.log)) }
     requires asks { MayAsk (drawn seat.old.mark.log) request.now.before request.now.change.now }
     requires first { arrival.now.first ≡ next_stamp seat.old.mark.log }
+    requires stood { arrival.now.base ≡ last_move arrival.now.seen.log }
     ensures seat { IsSameSeat seat.old seat.new }
     ensures none { S.reused → seat.new.view.taken ≡ [] }
     ensures tried { IfOk result (EndsTry M.means seat.old.mark seat.new.mark arrival.now.base

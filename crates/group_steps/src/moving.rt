@@ -19,7 +19,7 @@ ghost use Rattle.publishing.specs.Retiring.{Retires};
 ghost use Rattle.group_steps.specs.Leaving.{AreLeft, Frees, RetiresWhatIsLeft};
 ghost use Rattle.group_steps.specs.Changing.{is_made};
 ghost use Rattle.group_steps.specs.Missing.{IsMissedOrDry, told};
-ghost use Rattle.group_steps.specs.Proposing.{Leads, change_asked};
+ghost use Rattle.group_steps.specs.Proposing.{MayMove, change_asked};
 
 use crate::proposing::Proposal;
 use answered::Published;
@@ -103,8 +103,7 @@ where
     S::Seat: Drop,
     requires reading { IsReading S.reused shared.now seat.old }
     requires none { S.reused → seat.old.view.taken ≡ [] }
-    requires leads { (s : State) × IsBase M.means seat.old.mark proposal.base s
-        × Leads M.means (drawn seat.old.mark.log) proposal.base s change.now proposal }
+    requires leads { MayMove M.means seat.old.mark change.now proposal }
     ensures seat { IsSameSeat seat.old seat.new }
     ensures none { S.reused → seat.new.view.taken ≡ [] }
     ensures won { (s : State) → IsBase M.means seat.old.mark proposal.base s

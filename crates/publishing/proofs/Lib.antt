@@ -4,4 +4,5 @@ mod Numbers
 pub mod Carrying
 mod Popping
 mod Leaving
+mod Lying
 mod Stepping

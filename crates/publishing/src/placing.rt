@@ -1,5 +1,5 @@
 //! A draft's nodes in their slots.
-ghost use Rattle.std.specs.Prelude.{◌≡◌, ◌⊎◌, ◌+◌, ◌<◌, ◌≤◌, ◌++◌, ◌∷◌, [], max, true, IfOk, IfErr, OnOk};
+ghost use Rattle.std.specs.Prelude.{ℕ, ◌≡◌, ◌⊎◌, ◌+◌, ◌<◌, ◌≤◌, ◌++◌, ◌∷◌, [], max, true, IfOk, IfErr, OnOk};
 ghost use Rattle.std.specs.Prelude.{OnErr, length};
 ghost use Rattle.std.specs.List.{All};
 ghost use Rattle.group_history.specs.Refs.{stamp_of, slot_of, stamps};
@@ -18,9 +18,9 @@ ghost use Rattle.group_history.specs.Naming.{renamed, placed_ref};
 ghost use Rattle.answered.specs.Answered.{own_moves, is_want};
 ghost use Rattle.commit_graph.specs.Seats.{IsSeatOf, IsSameSeat, StaysHeld};
 ghost use Rattle.publishing.specs.Stamped.{AreFrom};
-ghost use Rattle.publishing.specs.Placed.{IsPlaced, FoundNone};
+ghost use Rattle.publishing.specs.Placed.{IsPlaced, FoundNone, LieBelow};
 ghost use Rattle.publishing.specs.Retiring.{SettlesAll, GivesUp};
-ghost use Rattle.publishing.specs.Inside.Stacks.{HasTaken};
+ghost use Rattle.publishing.specs.Inside.Stacks.{AreBelow, HasTaken, StayBelow};
 ghost use Rattle.publishing.specs.Inside.Steps.{AreDrawn, AddsOne, KeepsSettled, MayRefuse, Steps};
 
 use crate::drawing::draw;
@@ -95,6 +95,7 @@ fn place_next<M: Means, S: Store<M>>(
     ensures placed { OnOk result (AddsOne (to.now.first + length refs.old.items) refs.old.items refs.new.items) }
     ensures same { OnErr result (refs.new.items ≡ refs.old.items) }
     ensures settled { S.reused → KeepsSettled (S.view seat.old) refs.old.items (S.view seat.new) refs.new.items }
+    ensures within { S.reused → StayBelow slots.old.items refs.old.items slots.new.items refs.new.items }
     ensures steps { S.reused → Steps (S.view seat.old) (S.view seat.new) }
     ensures err { IfErr result (MayRefuse S.reused) }
 {
@@ -128,6 +129,7 @@ fn place_all<M: Means, S: Store<M>>(
     ensures used { OnOk result (slots.new.items ≡ []) }
     ensures taken { S.reused → HasTaken (S.view seat.new) slots.new.items }
     ensures settled { S.reused → SettlesAll (S.view seat.old) refs.new.items (S.view seat.new) }
+    ensures within { S.reused → (end : ℕ) → AreBelow end slots.old.items → LieBelow end refs.new.items }
     ensures steps { S.reused → Steps (S.view seat.old) (S.view seat.new) }
     ensures err { IfErr result (MayRefuse S.reused) }
 {
@@ -170,6 +172,8 @@ fn place_drawn<M: Means, S: Store<M>>(
     ensures count { IfOk result (λ refs. length refs.items ≡ length nodes.items) }
     ensures none { S.reused → (S.view seat.new).taken ≡ [] }
     ensures settled { S.reused → IfOk result (λ refs. SettlesAll (S.view seat.old) refs.items (S.view seat.new)) }
+    ensures within { S.reused → (end : ℕ) → AreBelow end slots.items
+        → IfOk result (λ refs. LieBelow end refs.items) }
     ensures given { S.reused → OnErr result
         (GivesUp (S.serves to.now.store.now).sizes.slots (S.view seat.old) (S.view seat.new)) }
     ensures steps { S.reused → Steps (S.view seat.old) (S.view seat.new) }
@@ -209,6 +213,8 @@ where
         (λ refs. IsPlaced (drawn seat.old.mark.log) (drawn seat.new.mark.log) draft refs.items) }
     ensures none { S.reused → seat.new.view.taken ≡ [] }
     ensures settled { S.reused → IfOk result (λ refs. SettlesAll seat.old.view refs.items seat.new.view) }
+    ensures within { S.reused → (end : ℕ) → AreBelow end slots.items
+        → IfOk result (λ refs. LieBelow end refs.items) }
     ensures given { S.reused → OnErr result (GivesUp shared.now.table.sizes.slots seat.old.view seat.new.view) }
     ensures steps { S.reused → Steps seat.old.view seat.new.view }
     ensures moved { IfErr result
@@ -265,6 +271,7 @@ where
     ensures held { S.reused → StaysHeld seat.old.view seat.new.view }
     ensures settled { S.reused → IfOk result (λ refs. All (λ at. In seat.new.view.settled (slot_of at)) refs.items) }
     ensures just { S.reused → IfOk result (λ refs. SettlesAll seat.old.view refs.items seat.new.view) }
+    ensures within { S.reused → IfOk result (λ refs. LieBelow (kind_end shared.now.table.sizes kind) refs.items) }
     ensures given { S.reused → OnErr result (GivesUp shared.now.table.sizes.slots seat.old.view seat.new.view) }
     ensures moves { S.reused → Moves seat.old.view seat.new.view }
     ensures want { IfErr result (λ e. is_want e ≡ true) }

@@ -8,7 +8,7 @@ ghost use Rattle.reader_claims.specs.Passes.{FindsNone};
 ghost use Rattle.reader_claims.specs.Seats.{kind_end};
 ghost use Rattle.publishing.specs.Placed.{FoundNone};
 ghost use Rattle.publishing.specs.Retiring.{SettlesNone};
-ghost use Rattle.publishing.specs.Inside.Stacks.{HasTaken};
+ghost use Rattle.publishing.specs.Inside.Stacks.{AreBelow, HasTaken};
 ghost use Rattle.publishing.specs.Inside.Steps.{Steps};
 
 use chunk_slots::{Slots, Store};
@@ -54,6 +54,8 @@ fn take_next<M: Means, S: Store<M>>(
     ensures home { S.home seat.new ≡ S.serves store.now }
     ensures taken { S.reused → HasTaken (S.view seat.new) slots.new.items }
     ensures more { OnOk result (length slots.new.items ≡ length slots.old.items + 1) }
+    ensures within { S.reused → AreBelow (kind_end (S.serves store.now).sizes kind) slots.old.items
+        → AreBelow (kind_end (S.serves store.now).sizes kind) slots.new.items }
     ensures settled { S.reused → SettlesNone (S.view seat.old) (S.view seat.new) }
     ensures steps { S.reused → Steps (S.view seat.old) (S.view seat.new) }
     ensures full { S.reused → IfErr result
@@ -84,6 +86,8 @@ fn take_more<M: Means, S: Store<M>>(
     ensures home { S.home seat.new ≡ S.serves store.now }
     ensures taken { S.reused → HasTaken (S.view seat.new) slots.new.items }
     ensures more { OnOk result (length slots.new.items ≡ length slots.old.items + count) }
+    ensures within { S.reused → AreBelow (kind_end (S.serves store.now).sizes kind) slots.old.items
+        → AreBelow (kind_end (S.serves store.now).sizes kind) slots.new.items }
     ensures settled { S.reused → SettlesNone (S.view seat.old) (S.view seat.new) }
     ensures steps { S.reused → Steps (S.view seat.old) (S.view seat.new) }
     ensures full { S.reused → IfErr result
@@ -111,6 +115,7 @@ pub(crate) fn take_all<M: Means, S: Store<M>>(
     ensures home { S.home seat.new ≡ S.serves store.now }
     ensures count { IfOk result (λ slots. length slots.items ≡ count) }
     ensures taken { S.reused → IfOk result (λ slots. HasTaken (S.view seat.new) slots.items) }
+    ensures within { S.reused → IfOk result (λ slots. AreBelow (kind_end (S.serves store.now).sizes kind) slots.items) }
     ensures none { S.reused → OnErr result ((S.view seat.new).taken ≡ []) }
     ensures settled { S.reused → SettlesNone (S.view seat.old) (S.view seat.new) }
     ensures steps { S.reused → Steps (S.view seat.old) (S.view seat.new) }

@@ -2,6 +2,7 @@ pub mod Sound
 pub mod Keeps
 pub mod Slotted
 pub mod Reaching
+mod Opens
 mod Readers
 mod Pins
 mod Scans

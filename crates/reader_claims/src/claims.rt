@@ -140,6 +140,7 @@ impl Claims {
                 reader: Reader {
                     seat,
                     number: dealt + 1,
+                    bound: 0,
                 },
                 last: dealt.saturating_mul(apart),
                 retired: None,

@@ -24,7 +24,7 @@ const PROBES: u32 = 16;
 #[derive(Clone, Copy)]
 pub(crate) enum Look {
     Took(u32),
-    // The first that is retired.
+    // The first that is retired, and not known as open.
     Retired(u32),
     Nothing,
 }
@@ -89,6 +89,7 @@ impl Words {
         for other in 0..self.sizes.readers {
             least = lower(least, Pin::of_word(self.load_pin(reader, other + 1)));
         }
+        reader.bound = least;
         least
     }
 
@@ -187,7 +188,29 @@ impl Words {
         self.scan(reader, ordinary, self.end_of(kind), bound)
     }
 
-    // Takes the slot if a plain load finds it free.
+    // Gives a slot that was found as retired at r, and takes it, if the pins that were read leave it open.
+    fn quick_give(&self, reader: &mut Reader, slot: u32, r: u64) -> Look
+        requires slot { (reader_id reader.old ≡ words_id self.now) × (slot < self.now.sizes.slots) }
+        requires small { r < 2 ^ 63 - 1 }
+        ensures table { reader_id reader.new ≡ reader_id reader.old }
+        ensures moves { Moves (view reader.old) (view reader.new) }
+        ensures later { Later (view reader.old) (view reader.new) }
+        ensures taken { IfTook result (slot + 1) (view reader.old) (view reader.new) }
+    {
+        if r == 0 || reader.bound < r {
+            return Look::Retired(slot);
+        }
+        if self.give(reader, slot, r) != SlotState::Retired(r).word() {
+            return Look::Nothing;
+        }
+        if self.take(reader, slot) == FREE {
+            Look::Took(slot)
+        } else {
+            Look::Nothing
+        }
+    }
+
+    // Takes the slot if a plain load finds it free, or retired and open.
     fn quick_at(&self, reader: &mut Reader, slot: u32) -> Look
         requires { (reader_id reader.old ≡ words_id self.now) × (slot < self.now.sizes.slots) }
         ensures table { reader_id reader.new ≡ reader_id reader.old }
@@ -197,7 +220,7 @@ impl Words {
     {
         match self.look(slot) {
             SlotState::Free => {}
-            SlotState::Retired(_) => return Look::Retired(slot),
+            SlotState::Retired(r) => return self.quick_give(reader, slot, r),
             SlotState::Taken(_) | SlotState::Live => return Look::Nothing,
         }
         if self.take(reader, slot) == FREE {
@@ -207,7 +230,8 @@ impl Words {
         }
     }
 
-    // Takes the first slot that a plain load finds free, and stops at the first that is retired.
+    // Takes the first slot that a plain load finds free or open, and stops at the first that is retired and not known as
+    // open.
     fn quick(&self, reader: &mut Reader, from: u32, end: u32) -> Look
         requires { (reader_id reader.old ≡ words_id self.now) × (end ≤ self.now.sizes.slots) }
         ensures table { reader_id reader.new ≡ reader_id reader.old }

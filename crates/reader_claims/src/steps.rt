@@ -34,9 +34,13 @@ pub(crate) struct Words {
 pub(crate) struct Reader {
     pub(crate) seat: Seat<(), View>,
     pub(crate) number: u32,
+    // What was retired at this number or below may be given, by the pins that were read since the epoch was loaded or
+    // raised last. It is 0 until they were read.
+    pub(crate) bound: u64,
     ghost own: { (seat.me.0.number ≡ number) × (0 < number) × (number ≤ max_seats) },
     ghost bare: { seat.me.1 ≡ [] },
     ghost low: { seat.me.0.reached ≤ 2 ^ 60 },
+    ghost opens: { (r : ℕ) → 0 < r → r ≤ bound → ∥ IsOpen seat.me.0 r ∥₁ },
 }
 
 impl Words {
@@ -49,6 +53,7 @@ impl Words {
         ensures bound { ((view reader.old).reached ≤ result) × (result ≤ 2 ^ 60) }
         ensures step { Move (view reader.old) epoch_at result result (view reader.new) }
     {
+        reader.bound = 0;
         self.table.shared.load::<LoadEpoch>(&mut reader.seat, EPOCH)
     }
 
@@ -114,6 +119,7 @@ impl Words {
         ensures bound { ((view reader.old).reached ≤ result) × (result ≤ 2 ^ 60) }
         ensures step { Move (view reader.old) epoch_at result (left_by n (n + 1) result) (view reader.new) }
     {
+        reader.bound = 0;
         self.table
             .shared
             .compare_exchange::<RaiseEpoch>(&mut reader.seat, EPOCH, n, n + 1)

@@ -71,7 +71,7 @@ frees_none slots old new moves same = gives_kept slots old.view new.view moves s
 pub frees_anew : (slots : ℕ) (old mid new : Seated) (o : Option Change) → IsSameSeat old mid → Frees slots old mid None
     → Frees slots mid new o → Frees slots old new o
 frees_anew slots old mid new o same gave frees =
-    frees_since slots old mid new o same.later.seen same.later.seat gave frees
+    frees_since slots old mid new o same gave frees
 
 pub frees_moves : (slots : ℕ) (old new : Seated) → Frees slots old new None → Moves old.view new.view
 frees_moves slots old new gave = gives_moves slots old.view new.view gave

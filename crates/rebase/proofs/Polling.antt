@@ -21,12 +21,14 @@ use Rattle.head_word.specs.Marks.{Known}
 use Rattle.head_word.proofs.BookLaws.{drawn_begins}
 use Rattle.commit_graph.proofs.Spelled.{map-grown}
 use Rattle.answered.specs.Answered.{Answers, IsPoint, IsRefused, nothing, own_moves}
+use Rattle.transactions.proofs.RowLemmas.{pair_is}
 use Rattle.group_steps.specs.Missing.{IsMissed}
 use Rattle.rebase.specs.Queries.{gave}
 use Rattle.rebase.proofs.CallLemmas.{missing}
 use Rattle.rebase.specs.declared.watching.Polled.{Polled}
 use Rattle.rebase.specs.declared.watching.Polled.TheVariants as polled
-use Rattle.rebase.specs.Watching.{Rows, poll_reply, same_rows, was_told}
+use Rattle.group_history.specs.Rows.{Rows}
+use Rattle.rebase.specs.Watching.{poll_reply, same_rows, was_told}
 
 one_map : {m n : Entries} (o : Option Entries) → o ≡ Some m → o ≡ Some n → m ≡ n
 one_map o was is = cc (was, is)
@@ -44,13 +46,6 @@ read_again mine theirs root at m n (inr more) was is same =
 both : (a b : Bool) → (a && b) ≡ true → (a ≡ true) × (b ≡ true)
 both true b h = (refl, h)
 both false b h = absurd cc
-
-pair_is : (x y : Bytes × Bytes) → x.0 ≡ y.0 → x.1 ≡ y.1 → x ≡ y
-pair_is (a, b) (c, d) p q = ap (λ (z : Bytes). (z, b)) p ∙ ap (λ (z : Bytes). (c, z)) q
-
--- rows with the same key and the same value are equal
-pub same_row : (x y : Bytes × Bytes) → same_bytes x.0 y.0 ≡ true → same_bytes x.1 y.1 ≡ true → x ≡ y
-same_row x y key value = pair_is x y ((bytes_decides x.0 y.0).0 key) ((bytes_decides x.1 y.1).0 value)
 
 row_decides : (x y : Bytes × Bytes) → Decides (same_bytes x.0 y.0 && same_bytes x.1 y.1) (x ≡ y)
 row_decides x y = (

@@ -9,13 +9,10 @@ use Rattle.group_history.specs.declared.scans.Scan.{Scan}
 use Rattle.group_history.specs.Map.{Bytes, same_text}
 use Rattle.group_history.specs.Meaning.{Meanings}
 use Rattle.group_history.specs.Queries.{rows_at}
+use Rattle.group_history.specs.Rows.{Rows}
 use Rattle.group_history.specs.State.{State}
 use Rattle.rebase.specs.declared.watching.Polled.{Polled}
 use Rattle.rebase.specs.declared.watching.Polled.TheVariants as polled
-
--- rows: each a key and the compact text of its value
-abbrev pub Rows : Type 0
-Rows = List (Bytes × Bytes)
 
 -- a watch: the book of its group, what it asks for, and the rows that it answered last, none at first
 pub record Watched : Type 0 where

@@ -8,7 +8,6 @@
 #![tactic(auto)]
 
 mod answering;
-mod beside;
 mod calls;
 mod changes;
 mod client;

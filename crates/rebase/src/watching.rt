@@ -17,7 +17,6 @@ ghost use Rattle.rebase.specs.Readers.{read_by, seen_by};
 ghost use Rattle.rebase.specs.Watching.{Watched, poll_at, poll_reply, same_rows, same_rows-equiv, was_told};
 ghost use Rattle.rebase.specs.Watching.{watch_after};
 
-use crate::beside::{Before, Beside};
 use crate::client::Client;
 use crate::reading::{Point, ReadTx};
 use chunk_slots::Slots;
@@ -26,6 +25,7 @@ use head_word::Mark;
 use std::alloc::{AllocError, Global};
 use std::marker::{Brand, Model};
 use std::sync::Arc;
+use transactions::{Before, Beside};
 
 /// Rows that were answered, in the order of their keys. They are shared: a clone copies none.
 #[derive(Drop)]

@@ -11,25 +11,11 @@ use Rattle.group_history.specs.Map.{Bytes, Entries}
 use Rattle.group_history.specs.Json.{text_of}
 use Rattle.group_history.specs.Meaning.{Meaning}
 use Rattle.std.specs.Prelude.{Option}
-use Rattle.script_mutators.specs.Mutators.{wrong_arguments, needs, value_of, one_item, two_items, text_and_value}
+use Rattle.group_history.specs.Meaning.{needs, value_of}
+use Rattle.group_history.proofs.Readings.{HasText}
+use Rattle.script_mutators.specs.Mutators.{wrong_arguments, one_item, two_items, text_and_value}
 use Rattle.script_mutators.specs.Mutators.{meaning_at_text}
 use Rattle.script_mutators.specs.Inside.Mutators.{meaning_at}
-
--- it nests at most 124 deep, and no number in it is a float
-abbrev pub HasText : Data → Type 0
-HasText d = (depth d ≤ 124) × (has_float d ≡ false)
-
--- by what the two tests on a value answer
-HasText-at : (shallow float : Bool) (d : Data) (text : List ℕ) → nat_le (depth d) 124 ≡ shallow → has_float d ≡ float
-    → cond shallow (cond float (Err NotWhole) (Ok (compact_text d))) (Err NotJson) ≡ Ok text → HasText d
-HasText-at true false d text shallow whole is = (leb-true _ _ shallow, whole)
-HasText-at true true d text shallow float is = cc
-HasText-at false float d text deep e is = cc
-
--- a value that has a compact text
-pub HasText-text_of : (d : Data) (text : List ℕ) → text_of d ≡ Ok text → HasText d
-unfolding text_of
-HasText-text_of d text is = HasText-at _ _ d text refl refl is
 
 -- where the arguments are of another number
 pub no_one_item : (vs : List Value) → length vs ≢ 1 → one_item (items_view vs) ≡ None

@@ -22,7 +22,8 @@ use Rattle.serde_json.proofs.Texts.{print-outline}
 use Rattle.group_history.specs.Cookies.{value_read}
 use Rattle.group_history.specs.Json.{reading, or_not_json}
 use Rattle.group_history.specs.Map.{Bytes}
-use Rattle.script_mutators.specs.Mutators.{value_of, number_of}
+use Rattle.group_history.specs.Meaning.{value_of}
+use Rattle.script_mutators.specs.Mutators.{number_of}
 use Rattle.script_mutators.specs.Inside.Arguments.{whole}
 
 -- the JSON that tokens are

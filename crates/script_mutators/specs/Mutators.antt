@@ -9,9 +9,7 @@ use Rattle.serde_json.specs.Written.{compact_text}
 use Rattle.group_history.specs.declared.mutations.Reason.{Reason}
 use Rattle.group_history.specs.declared.mutations.Reason.TheVariants.{Initial, Rebase}
 use Rattle.group_history.specs.Map.{Bytes, Entries, same_text}
-use Rattle.group_history.specs.Meaning.{Meaning, Meanings, unknown, refuses, done}
-use Rattle.group_history.specs.Cookies.{value_read}
-use Rattle.group_history.specs.Json.{reading}
+use Rattle.group_history.specs.Meaning.{Meaning, Meanings, unknown, done, needs, value_of}
 
 -- the codes with which they refuse
 abbrev pub wrong_arguments : ℕ
@@ -25,15 +23,6 @@ other_kind = 3
 
 abbrev pub out_of_range : ℕ
 out_of_range = 4
-
--- What follows from a thing, where it is there; else the mutator refuses with the code.
-abbrev pub needs : {A : Type 0} → ℕ → Option A → (A → Meaning) → Meaning
-needs code None follows = refuses code
-needs code (Some a) follows = follows a
-
--- the value that a text is
-abbrev pub value_of : Bytes → Option Data
-value_of text = value_read (reading text)
 
 -- the one member
 abbrev pub one_item : Items → Option Data

@@ -8,12 +8,13 @@ ghost use Rattle.serde_json.specs.Data.{depth};
 ghost use Rattle.serde_json.specs.Find.{as_str};
 ghost use Rattle.serde_json.specs.View.{view as data_of};
 ghost use Rattle.serde_json.specs.Written.{has_float, compact_text};
+ghost use Rattle.group_history.specs.Meaning.{value_of};
 ghost use Rattle.group_history.specs.declared.mutators.Stop.TheVariants.{NoMemory};
 ghost use Rattle.script_mutators.specs.Mutators as spec;
 ghost use Rattle.script_mutators.specs.Inside.Arguments.{args_value, part_value};
 
 use crate::plain::{before_quote, plain_number, plain_text};
-use crate::values::{decimal, quoted, value_of};
+use crate::values::{decimal, quoted};
 use group_history::{Json, Stop};
 use serde_json::Value;
 use std::alloc::{AllocError, Global};
@@ -37,20 +38,20 @@ pub(crate) enum Part<'a> {
 
 /// The arguments that a JSON text is.
 pub(crate) fn args_of(alloc: Global, args: &Json) -> Result<Args<'_>, Stop>
-    ensures value { IfOk result (λ a. spec.value_of args.now ≡ Some (args_value a)) }
+    ensures value { IfOk result (λ a. value_of args.now ≡ Some (args_value a)) }
     ensures shallow { IfOk result (λ a. depth (args_value a) ≤ 124) }
     ensures whole { IfOk result (λ a. has_float (args_value a) ≡ false) }
     ensures stopped { IfErr result (λ stop. stop ≡ NoMemory) }
 {
     match plain_args(args.text()) {
         Some(plain) => Ok(plain),
-        None => Ok(Args::Other(value_of(alloc, args)?)),
+        None => Ok(Args::Other(args.value(alloc)?)),
     }
 }
 
 /// The arguments that a JSON text is, where they are plain.
 fn plain_args(text: &str) -> Option<Args<'_>>
-    ensures value { IfSome result (λ a. spec.value_of text.now ≡ Some (args_value a)) }
+    ensures value { IfSome result (λ a. value_of text.now ≡ Some (args_value a)) }
     ensures shallow { IfSome result (λ a. depth (args_value a) ≤ 124) }
     ensures whole { IfSome result (λ a. has_float (args_value a) ≡ false) }
 {

@@ -10,6 +10,7 @@ ghost use Rattle.std.specs.FinMap as finite;
 ghost use Rattle.serde_json.specs.Data.{depth};
 ghost use Rattle.serde_json.specs.Written.{has_float};
 ghost use Rattle.group_history.specs.Ran.{RunsAs};
+ghost use Rattle.group_history.specs.Stops.{MayStop};
 ghost use Rattle.group_history.specs.declared.mutators.Stop.TheVariants.{NoMemory};
 ghost use Rattle.script_mutators.specs.Mutators as spec;
 ghost use Rattle.script_mutators.specs.Inside.Arguments.{args_value};
@@ -59,7 +60,7 @@ fn run_named<V: WriteView>(
     ensures ran { IfOk result (λ ran. RunsAs
         (meaning_at (spec.mutator_of name.now why) (args_value args.now) (V.contents view.old)) ran
         (V.contents view.new)) }
-    ensures stopped { IfErr result (λ stop. (stop ≡ NoMemory) ⊎ V.stops stop) }
+    ensures stopped { IfErr result (MayStop V.stops) }
 {
     if name == "set" {
         return set(alloc, args, view);
@@ -86,7 +87,7 @@ fn run_other<V: WriteView>(
     ensures ran { IfOk result (λ ran. RunsAs
         (meaning_at (spec.mutator_of name.now why) (args_value args.now) (V.contents view.old)) ran
         (V.contents view.new)) }
-    ensures stopped { IfErr result (λ stop. (stop ≡ NoMemory) ⊎ V.stops stop) }
+    ensures stopped { IfErr result (MayStop V.stops) }
 {
     if name == "del" {
         return del(args, view);
@@ -119,7 +120,7 @@ fn set<V: WriteView>(alloc: Global, args: &Args<'_>, view: &mut V) -> Result<Ran
     requires whole { has_float (args_value args.now) ≡ false }
     ensures ran { IfOk result (λ ran. RunsAs (spec.set_means (args_value args.now) (V.contents view.old)) ran
         (V.contents view.new)) }
-    ensures stopped { IfErr result (λ stop. (stop ≡ NoMemory) ⊎ V.stops stop) }
+    ensures stopped { IfErr result (MayStop V.stops) }
 {
     let Some((key, value)) = text_and_value(args) else {
         return Ok(Ran::Refused(WRONG_ARGUMENTS));
@@ -133,7 +134,7 @@ fn set<V: WriteView>(alloc: Global, args: &Args<'_>, view: &mut V) -> Result<Ran
 fn incr<V: WriteView>(alloc: Global, args: &Args<'_>, view: &mut V) -> Result<Ran, Stop>
     ensures ran { IfOk result (λ ran. RunsAs (spec.incr_means (args_value args.now) (V.contents view.old)) ran
         (V.contents view.new)) }
-    ensures stopped { IfErr result (λ stop. (stop ≡ NoMemory) ⊎ V.stops stop) }
+    ensures stopped { IfErr result (MayStop V.stops) }
 {
     let Some((key, by)) = text_and_number(args) else {
         return Ok(Ran::Refused(WRONG_ARGUMENTS));
@@ -155,7 +156,7 @@ fn incr<V: WriteView>(alloc: Global, args: &Args<'_>, view: &mut V) -> Result<Ra
 fn put_number<V: WriteView>(alloc: Global, view: &mut V, key: &str, number: i64) -> Result<(), Stop>
     ensures put { OnOk result (V.contents view.new
         ≡ finite.insert (V.contents view.old) key.now (signed_decimal number)) }
-    ensures stopped { IfErr result (λ stop. (stop ≡ NoMemory) ⊎ V.stops stop) }
+    ensures stopped { IfErr result (MayStop V.stops) }
 {
     let number = decimal(alloc, number)?;
     view.put(key, &number)
@@ -166,7 +167,7 @@ fn put_number<V: WriteView>(alloc: Global, view: &mut V, key: &str, number: i64)
 fn del<V: WriteView>(args: &Args<'_>, view: &mut V) -> Result<Ran, Stop>
     ensures ran { IfOk result (λ ran. RunsAs (spec.del_means (args_value args.now) (V.contents view.old)) ran
         (V.contents view.new)) }
-    ensures stopped { IfErr result (λ stop. (stop ≡ NoMemory) ⊎ V.stops stop) }
+    ensures stopped { IfErr result (MayStop V.stops) }
 {
     let Some(key) = text_alone(args) else {
         return Ok(Ran::Refused(WRONG_ARGUMENTS));
@@ -180,7 +181,7 @@ fn del<V: WriteView>(args: &Args<'_>, view: &mut V) -> Result<Ran, Stop>
 fn append<V: WriteView>(alloc: Global, args: &Args<'_>, view: &mut V) -> Result<Ran, Stop>
     ensures ran { IfOk result (λ ran. RunsAs (spec.append_means (args_value args.now) (V.contents view.old)) ran
         (V.contents view.new)) }
-    ensures stopped { IfErr result (λ stop. (stop ≡ NoMemory) ⊎ V.stops stop) }
+    ensures stopped { IfErr result (MayStop V.stops) }
 {
     let Some((key, added)) = text_and_text(args) else {
         return Ok(Ran::Refused(WRONG_ARGUMENTS));
@@ -193,7 +194,7 @@ fn append<V: WriteView>(alloc: Global, args: &Args<'_>, view: &mut V) -> Result<
 fn tag<V: WriteView>(alloc: Global, args: &Args<'_>, why: Reason, view: &mut V) -> Result<Ran, Stop>
     ensures ran { IfOk result (λ ran. RunsAs (spec.tag_means why (args_value args.now) (V.contents view.old)) ran
         (V.contents view.new)) }
-    ensures stopped { IfErr result (λ stop. (stop ≡ NoMemory) ⊎ V.stops stop) }
+    ensures stopped { IfErr result (MayStop V.stops) }
 {
     let Some(key) = text_alone(args) else {
         return Ok(Ran::Refused(WRONG_ARGUMENTS));
@@ -215,7 +216,7 @@ fn reason_text(why: Reason) -> &'static str
 fn lengthen<V: WriteView>(alloc: Global, key: &str, added: &str, view: &mut V) -> Result<Ran, Stop>
     ensures ran { IfOk result (λ ran. RunsAs (spec.appended key.now added.now (V.contents view.old)) ran
         (V.contents view.new)) }
-    ensures stopped { IfErr result (λ stop. (stop ≡ NoMemory) ⊎ V.stops stop) }
+    ensures stopped { IfErr result (MayStop V.stops) }
 {
     let there = view.get(key)?;
     let Some(text) = followed(alloc, there, added)? else {

@@ -6,39 +6,23 @@ ghost use Rattle.serde_json.specs.Find.{as_str};
 ghost use Rattle.serde_json.specs.View.{view as data_of};
 ghost use Rattle.serde_json.specs.Written.{has_float, compact_text};
 ghost use Rattle.group_history.specs.declared.mutators.Stop.TheVariants.{NoMemory};
+ghost use Rattle.group_history.specs.Meaning.{value_of};
 ghost use Rattle.script_mutators.specs.Mutators as spec;
 
 use crate::plain::{plain_number, plain_text};
-use group_history::{Json, Refusal, Stop};
+use group_history::{Json, Stop};
 use serde_json::Value;
 use std::alloc::{AllocError, Global};
 
-/// The value that a JSON text is.
-pub(crate) fn value_of(alloc: Global, json: &Json) -> Result<Value, Stop>
-    ensures value { IfOk result (λ v. spec.value_of json.now ≡ Some (data_of v)) }
-    ensures shallow { IfOk result (λ v. depth (data_of v) ≤ 124) }
-    ensures whole { IfOk result (λ v. has_float (data_of v) ≡ false) }
-    ensures stopped { IfErr result (λ stop. stop ≡ NoMemory) }
-{
-    match json.value(alloc) {
-        Ok(value) => Ok(value),
-        Err(refusal) => {
-            let is_memory = refusal == Refusal::NoMemory;
-            prove!(is_memory);
-            Err(Stop::NoMemory)
-        }
-    }
-}
-
 /// The number that a JSON text is, where it is one from -2^63 to 2^63 - 1.
 pub(crate) fn number_in(alloc: Global, json: &Json) -> Result<Option<i64>, Stop>
-    ensures ok { IfOk result (λ number. number ≡ option_and_then spec.number_of (spec.value_of json.now)) }
+    ensures ok { IfOk result (λ number. number ≡ option_and_then spec.number_of (value_of json.now)) }
     ensures stopped { IfErr result (λ stop. stop ≡ NoMemory) }
 {
     if let Some(number) = plain_number(json.text()) {
         return Ok(Some(number));
     }
-    let value = value_of(alloc, json)?;
+    let value = json.value(alloc)?;
     Ok(value.as_i64())
 }
 
@@ -56,13 +40,13 @@ pub(crate) fn text_there(alloc: Global, there: Option<Json>) -> Result<Option<St
 
 /// A copy of the text that a JSON text is, where it is one.
 fn text_in(alloc: Global, json: &Json) -> Result<Option<String>, Stop>
-    ensures ok { IfOk result (λ text. option_map string_bytes text ≡ option_and_then as_str (spec.value_of json.now)) }
+    ensures ok { IfOk result (λ text. option_map string_bytes text ≡ option_and_then as_str (value_of json.now)) }
     ensures stopped { IfErr result (λ stop. stop ≡ NoMemory) }
 {
     if let Some(text) = plain_text(json.text()) {
         return Ok(Some(String::from_str(alloc, text)?));
     }
-    let value = value_of(alloc, json)?;
+    let value = json.value(alloc)?;
     match value.as_str() {
         Some(text) => Ok(Some(String::from_str(alloc, text)?)),
         None => Ok(None),

@@ -117,7 +117,7 @@ within : (found : Bool) (place many : ℕ) → (found ≡ true → place < many)
 within true place many below is = below refl
 within false place many below is = cc
 
-place_of-within : (name : Bytes) (clients : List (Bytes × Bytes)) → is_some (place_of name clients) ≡ true
+pub place_of-within : (name : Bytes) (clients : List (Bytes × Bytes)) → is_some (place_of name clients) ≡ true
     → unwrap_or (place_of name clients) 0 < length clients
 unfolding place_of
 place_of-within name clients is = within _ _ (length clients) (λ e. ltb-true _ _ e) is
@@ -283,7 +283,7 @@ words_line-sound c n name rest sound =
     (λ other. IfOk-if (length c.phases == 0) (header_line c name rest) (command_line c n name rest) Sound
     (λ is. header_line-sound c name rest sound (none c.phases is)) (λ some. command_line-sound c n name rest sound))
 
-said_with-sound : (c : Context) (n : ℕ) (l : Bytes) → Sound c → IfOk (said_with c n l) Sound
+pub said_with-sound : (c : Context) (n : ℕ) (l : Bytes) → Sound c → IfOk (said_with c n l) Sound
 unfolding said_with
 said_with-sound c n l sound = IfOk-if (is_skipped l) (Ok c) (words_line c n (word l) (more l)) Sound (λ is. sound)
     (λ other. words_line-sound c n (word l) (more l) sound)

@@ -4,5 +4,6 @@ mod Parts
 mod Needs
 mod CheckedLemmas
 mod CheckedScripts
+mod Kept
 mod Numbers
 mod Scripts

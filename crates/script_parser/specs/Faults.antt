@@ -34,6 +34,20 @@ said_with c n l = if is_skipped l then Ok c else words_line c n (word l) (more l
 abbrev pub lines_of : Bytes → List Bytes
 lines_of bytes = slice_split (λ b. b == 10) bytes
 
+-- how a fault is told
+abbrev pub fault_text : ScriptFault → Bytes
+fault_text text.NotUtf8 = codes "not UTF-8"
+fault_text text.UnknownLine = codes "unknown line"
+fault_text text.UnknownClient = codes "unknown client"
+fault_text text.UnknownCommand = codes "unknown command"
+fault_text text.BadWords = codes "bad words"
+fault_text text.BadUuid = codes "bad UUID"
+fault_text text.BadNumber = codes "bad number"
+fault_text text.SaidTwice = codes "said twice"
+fault_text text.TooManyClients = codes "too many clients"
+fault_text text.BadJson = codes "bad JSON"
+fault_text text.UnknownName = codes "unknown name"
+
 -- the fault of the line of this number, and where it has none, what is said with the lines after it too
 abbrev pub said_after : ℕ → (Context → Result Context (ℕ × ScriptFault)) → Result Context ScriptFault
     → Result Context (ℕ × ScriptFault)

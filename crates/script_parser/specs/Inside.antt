@@ -4,3 +4,4 @@ pub mod Parsing
 pub mod Header
 pub mod Commands
 pub mod Faults
+pub mod Reading

@@ -33,8 +33,12 @@ pub enum ScriptFault {
 }
 
 impl ScriptFault {
+    ghost use Rattle.script_parser.specs.Faults.{fault_text};
+
     /// How the fault is told.
-    fn text(self) -> &'static str {
+    pub fn text(self) -> &'static str
+        ensures { result.now ≡ fault_text self }
+    {
         match self {
             ScriptFault::NotUtf8 => "not UTF-8",
             ScriptFault::UnknownLine => "unknown line",
@@ -77,8 +81,10 @@ pub enum Fault {
 
 /// Why a line makes no value.
 #[derive(Clone, Copy, Debug, PartialEq, Eq)]
-pub(crate) enum LineFault {
+pub enum LineFault {
+    /// The line is faulty.
     Script(ScriptFault),
+    /// Memory was refused.
     NoMemory,
 }
 

@@ -7,9 +7,12 @@
 mod faults;
 mod lines;
 mod names;
+mod reader;
 mod script;
 
-pub use faults::{Fault, ScriptFault};
+pub use faults::{Fault, LineFault, ScriptFault};
+pub use reader::LineReader;
 pub use script::{
-    ClientLine, Command, Header, Line, MutatorCall, Phase, Query, Script, read_script, uuid_text,
+    Asked, ClientLine, Command, Header, Line, MutatorCall, Phase, Query, Script, read_script,
+    uuid_text,
 };

@@ -3,7 +3,7 @@
 //! Where a name of a client stands among them is noted, so that it is found at once. What was noted is looked at
 //! (`has`), so it may be anything; and a name that was not found so is looked for among all. A script has one such name
 //! at most, since its line is faulty and the last one that is read.
-ghost use Rattle.std.specs.Prelude.{◌≡◌, ◌==◌, ◌&&◌, true, [], ◌∷◌, ◌++◌, map, OnOk};
+ghost use Rattle.std.specs.Prelude.{◌≡◌, ◌==◌, ◌&&◌, true, [], ◌∷◌, ◌++◌, map, OnErr, OnOk};
 ghost use Rattle.group_history.specs.Map.{same_text};
 ghost use Rattle.script_parser.specs.Commands.{is_made};
 ghost use Rattle.script_parser.specs.Inside.Parsing.{made_said};
@@ -71,8 +71,9 @@ impl Names {
 
     /// Adds one that a line of a client makes.
     pub(crate) fn add(&mut self, client: usize, name: &Text) -> Result<(), AllocError>
-        ensures { OnOk result (map made_said self.new.all.items
+        ensures made { OnOk result (map made_said self.new.all.items
             ≡ map made_said self.old.all.items ++ (client, name.now) ∷ []) }
+        ensures left { OnErr result (self.new.all.items ≡ self.old.all.items) }
     {
         self.note(client, name)?;
         let name = name.clone()?;

@@ -3,8 +3,8 @@
 //! `Parser` takes the lines one after the other and keeps what they say. No line is looked at twice as text.
 //! Each function that takes a piece of a line says, by the definition of that piece, what the lines have said after
 //! it, or which fault the piece has.
-ghost use Rattle.std.specs.Prelude.{◌≡◌, ◌==◌, codes, [], ◌∷◌, ◌++◌, map, replicate, position, vec_len};
-ghost use Rattle.std.specs.Prelude.{unwrap_or, is_none, IfOk, OnOk, None, Some};
+ghost use Rattle.std.specs.Prelude.{◌≡◌, ◌==◌, ◌<◌, codes, [], ◌∷◌, ◌++◌, length, map, replicate, position, vec_len};
+ghost use Rattle.std.specs.Prelude.{unwrap_or, is_none, IfOk, OnErr, OnOk, None, Some};
 ghost use Rattle.std.specs.Option.{option_copied};
 ghost use Rattle.std.specs.Result.{result_err};
 ghost use Rattle.std.specs.Str.Lossy.{utf8_valid_len};
@@ -105,6 +105,17 @@ pub struct Line {
     pub command: Command,
 }
 
+/// What a line asks.
+#[derive(Drop)]
+pub enum Asked {
+    /// Nothing: it stands before the first phase, is empty or begins with `#`.
+    Nothing,
+    /// A new phase.
+    Phase,
+    /// A command of the client at this place among the `client` lines.
+    Command(usize, Line),
+}
+
 /// The lines of one client in a phase.
 #[derive(Drop)]
 pub(crate) struct Part {
@@ -199,10 +210,10 @@ pub fn uuid_text(alloc: Global, id: Uuid) -> Result<Text, AllocError>
 
 /// Takes the lines of a script, one after the other.
 #[derive(Drop)]
-struct Parser {
+pub(crate) struct Parser {
     alloc: Global,
-    header: Header,
-    phases: Vec<Phase>,
+    pub(crate) header: Header,
+    pub(crate) phases: Vec<Phase>,
     /// The tickets that the lines so far make.
     tickets: Names,
     /// The watches that they make.
@@ -218,9 +229,12 @@ impl Parser {
     ghost use Rattle.script_parser.specs.Commands.{watch_line, poll_line, mutate_line, learn_line, bare_line};
     ghost use Rattle.script_parser.specs.Commands.{look_line, named_command, command_of, with_line, command_line};
     ghost use Rattle.script_parser.specs.Faults.{said_with, words_line};
-    ghost use Rattle.script_parser.specs.Inside.Faults.{Follows, Tells};
+    ghost use Rattle.script_parser.specs.Inside.Faults.{Asks, Follows, Heads, Tells};
+    ghost use Rattle.script_parser.specs.Inside.Reading.{settled};
+    ghost use Rattle.script_parser.specs.Reading.{with_asked};
+    ghost use Rattle.script_parser.specs.declared.script.Asked.TheVariants as kind;
 
-    fn new(alloc: Global) -> Parser
+    pub(crate) fn new(alloc: Global) -> Parser
         ensures { context_of result ≡ nothing_said }
     {
         Parser {
@@ -238,47 +252,73 @@ impl Parser {
         }
     }
 
-    #[tactic(auto, unfolding(crate::specs::Faults::said_with, crate::specs::Faults::is_skipped))]
+    /// Takes a line, and keeps what it says.
     fn line(&mut self, number: u64, line: &str) -> Result<(), LineFault>
-        ensures { Follows (said_with (context_of self.old) number line.now)
-            (context_of self.new) result }
+        ensures { Follows (said_with (context_of self.old) number line.now) (context_of self.new) result }
+    {
+        match self.ask(number, line)? {
+            Asked::Nothing => {}
+            Asked::Phase => self.begin_phase()?,
+            Asked::Command(client, line) => self.keep(client, line)?,
+        }
+        Ok(())
+    }
+
+    /// What a line asks, which is not kept. What it says beside that is.
+    #[tactic(auto, unfolding(crate::specs::Faults::said_with, crate::specs::Faults::is_skipped))]
+    pub(crate) fn ask(&mut self, number: u64, line: &str) -> Result<Asked, LineFault>
+        ensures { Asks number (said_with (context_of self.old) number line.now)
+            (context_of self.old) (context_of self.new) result }
     {
         if line.is_empty() || line.starts_with('#') {
-            return Ok(());
+            return Ok(Asked::Nothing);
         }
         let (word, rest) = first_word(line);
         self.words(number, word, rest)
     }
 
-    #[tactic(auto, unfolding(crate::specs::Faults::words_line))]
-    fn words(&mut self, number: u64, word: &str, rest: Option<&str>) -> Result<(), LineFault>
-        ensures { Follows (words_line (context_of self.old) number word.now (option_copied rest.entry))
-            (context_of self.new) result }
+    #[tactic(auto, unfolding(crate::specs::Faults::words_line, crate::specs::Commands::phase_line))]
+    fn words(&mut self, number: u64, word: &str, rest: Option<&str>) -> Result<Asked, LineFault>
+        ensures { Asks number (words_line (context_of self.old) number word.now (option_copied rest.entry))
+            (context_of self.old) (context_of self.new) result }
     {
         if word == "phase" {
-            return self.phase(rest);
+            no_words(rest)?;
+            return Ok(Asked::Phase);
         }
         if self.phases.is_empty() {
-            return self.header_line(word, rest);
+            self.header_line(word, rest)?;
+            return Ok(Asked::Nothing);
         }
         self.command_line(number, word, rest)
     }
 
-    #[tactic(auto, unfolding(crate::specs::Commands::phase_line))]
-    fn phase(&mut self, rest: Option<&str>) -> Result<(), LineFault>
-        ensures { Follows (phase_line (context_of self.old) (option_copied rest.entry))
-            (context_of self.new) result }
+    /// Begins a phase, in which no client has a line.
+    pub(crate) fn begin_phase(&mut self) -> Result<(), AllocError>
+        ensures begun { OnOk result (context_of self.new ≡ with_asked kind.Phase (context_of self.old)) }
+        ensures left { OnErr result (context_of self.new ≡ context_of self.old) }
     {
-        no_words(rest)?;
         let phase = Phase::new(self.alloc, self.header.clients.len());
         self.phases.push(phase)?;
         Ok(())
     }
 
+    /// Notes that a phase has begun, where the first one is asked.
+    pub(crate) fn settle(&mut self, asked: &Asked) -> Result<(), AllocError>
+        ensures settled { OnOk result (context_of self.new ≡ settled asked.now (context_of self.old)) }
+        ensures left { OnErr result (context_of self.new ≡ context_of self.old) }
+        ensures asked { OnErr result (asked.now ≡ kind.Phase) }
+    {
+        match asked {
+            Asked::Phase if self.phases.is_empty() => self.begin_phase(),
+            _ => Ok(()),
+        }
+    }
+
     #[tactic(auto, unfolding(crate::specs::Header::header_line))]
     fn header_line(&mut self, word: &str, rest: Option<&str>) -> Result<(), LineFault>
-        ensures { Follows (header_line (context_of self.old) word.now (option_copied rest.entry))
-            (context_of self.new) result }
+        ensures { Heads (header_line (context_of self.old) word.now (option_copied rest.entry))
+            (context_of self.old) (context_of self.new) result }
     {
         if word == "client" {
             return self.client(rest);
@@ -300,8 +340,8 @@ impl Parser {
 
     #[tactic(auto, unfolding(crate::specs::Header::group_line))]
     fn group(&mut self, rest: Option<&str>) -> Result<(), LineFault>
-        ensures { Follows (group_line (context_of self.old) (option_copied rest.entry))
-            (context_of self.new) result }
+        ensures { Heads (group_line (context_of self.old) (option_copied rest.entry))
+            (context_of self.old) (context_of self.new) result }
     {
         let id = uuid_of(one_word(rest)?)?;
         let group = uuid_text(self.alloc, id)?;
@@ -310,8 +350,8 @@ impl Parser {
 
     #[tactic(auto, unfolding(crate::specs::Header::profile_line))]
     fn profile(&mut self, rest: Option<&str>) -> Result<(), LineFault>
-        ensures { Follows (profile_line (context_of self.old) (option_copied rest.entry))
-            (context_of self.new) result }
+        ensures { Heads (profile_line (context_of self.old) (option_copied rest.entry))
+            (context_of self.old) (context_of self.new) result }
     {
         let profile = Text::new(self.alloc, self::rest(rest)?)?;
         say(&mut self.header.profile, profile)
@@ -319,8 +359,8 @@ impl Parser {
 
     #[tactic(auto, unfolding(crate::specs::Header::schema_line))]
     fn schema(&mut self, rest: Option<&str>) -> Result<(), LineFault>
-        ensures { Follows (schema_line (context_of self.old) (option_copied rest.entry))
-            (context_of self.new) result }
+        ensures { Heads (schema_line (context_of self.old) (option_copied rest.entry))
+            (context_of self.old) (context_of self.new) result }
     {
         let schema = Text::new(self.alloc, self::rest(rest)?)?;
         say(&mut self.header.schema, schema)
@@ -328,8 +368,8 @@ impl Parser {
 
     #[tactic(auto, unfolding(crate::specs::Header::slots_line))]
     fn slots(&mut self, rest: Option<&str>) -> Result<(), LineFault>
-        ensures { Follows (slots_line (context_of self.old) (option_copied rest.entry))
-            (context_of self.new) result }
+        ensures { Heads (slots_line (context_of self.old) (option_copied rest.entry))
+            (context_of self.old) (context_of self.new) result }
     {
         let slots = number(one_word(rest)?, FEWEST_SLOTS, MAX_SLOTS)?;
         if self.header.slots.is_some() {
@@ -341,8 +381,8 @@ impl Parser {
 
     #[tactic(auto, unfolding(crate::specs::Header::client_line))]
     fn client(&mut self, rest: Option<&str>) -> Result<(), LineFault>
-        ensures { Follows (client_line (context_of self.old) (option_copied rest.entry))
-            (context_of self.new) result }
+        ensures { Heads (client_line (context_of self.old) (option_copied rest.entry))
+            (context_of self.old) (context_of self.new) result }
     {
         let (name, id) = first_word(self::rest(rest)?);
         if !is_client_name(name) {
@@ -354,8 +394,8 @@ impl Parser {
 
     /// Adds a client of a new name, if there is room for one.
     fn admit(&mut self, name: &str, id: Uuid) -> Result<(), LineFault>
-        ensures { Follows (admitted (context_of self.old) name.now (hyphenated_text lower id))
-            (context_of self.new) result }
+        ensures { Heads (admitted (context_of self.old) name.now (hyphenated_text lower id))
+            (context_of self.old) (context_of self.new) result }
     {
         if self.header.place_of(name).is_some() {
             return Err(LineFault::Script(ScriptFault::SaidTwice));
@@ -369,16 +409,21 @@ impl Parser {
     }
 
     #[tactic(auto, unfolding(crate::specs::Commands::command_line, crate::specs::Commands::command_at))]
-    fn command_line(&mut self, number: u64, word: &str, rest: Option<&str>) -> Result<(), LineFault>
-        ensures { Follows (command_line (context_of self.old) number word.now (option_copied rest.entry))
-            (context_of self.new) result }
+    fn command_line(
+        &mut self,
+        number: u64,
+        word: &str,
+        rest: Option<&str>,
+    ) -> Result<Asked, LineFault>
+        requires { 0 < length (context_of self.old).phases }
+        ensures { Asks number (command_line (context_of self.old) number word.now (option_copied rest.entry))
+            (context_of self.old) (context_of self.new) result }
     {
         let Some(client) = self.header.place_of(word) else {
             return Err(LineFault::Script(ScriptFault::UnknownClient));
         };
         let command = self.command_of(client, rest)?;
-        self.keep(client, Line { number, command })?;
-        Ok(())
+        Ok(Asked::Command(client, Line { number, command }))
     }
 
     /// Adds a line of a client to the last phase.
@@ -399,7 +444,7 @@ impl Parser {
     #[tactic(auto, unfolding(crate::specs::Commands::command_of))]
     fn command_of(&mut self, client: usize, rest: Option<&str>) -> Result<Command, LineFault>
         ensures { Tells (command_of (context_of self.old) client (option_copied rest.entry))
-            (context_of self.new) result }
+            (context_of self.old) (context_of self.new) result }
     {
         let Some(rest) = rest else {
             return Err(LineFault::Script(ScriptFault::UnknownCommand));
@@ -416,7 +461,7 @@ impl Parser {
         rest: Option<&str>,
     ) -> Result<Command, LineFault>
         ensures { Tells (named_command (context_of self.old) client name.now (option_copied rest.entry))
-            (context_of self.new) result }
+            (context_of self.old) (context_of self.new) result }
     {
         if name == "begin" {
             return self.begin(client, rest);
@@ -436,7 +481,7 @@ impl Parser {
     #[tactic(auto, unfolding(crate::specs::Commands::look_line))]
     fn look(&self, name: &str, rest: Option<&str>) -> Result<Command, LineFault>
         ensures { Tells (look_line (context_of self.now) name.now (option_copied rest.entry))
-            (context_of self.now) result }
+            (context_of self.now) (context_of self.now) result }
     {
         if name == "get" {
             return self.get(rest);
@@ -459,7 +504,7 @@ impl Parser {
     #[tactic(auto, unfolding(crate::specs::Commands::get_line))]
     fn get(&self, rest: Option<&str>) -> Result<Command, LineFault>
         ensures { Tells (get_line (context_of self.now) (option_copied rest.entry))
-            (context_of self.now) result }
+            (context_of self.now) (context_of self.now) result }
     {
         let key = Text::new(self.alloc, self::rest(rest)?)?;
         Ok(Command::Query(Query::Get(key)))
@@ -468,7 +513,7 @@ impl Parser {
     #[tactic(auto, unfolding(crate::specs::Commands::has_line))]
     fn has(&self, rest: Option<&str>) -> Result<Command, LineFault>
         ensures { Tells (has_line (context_of self.now) (option_copied rest.entry))
-            (context_of self.now) result }
+            (context_of self.now) (context_of self.now) result }
     {
         let key = Text::new(self.alloc, self::rest(rest)?)?;
         Ok(Command::Query(Query::Has(key)))
@@ -477,7 +522,7 @@ impl Parser {
     #[tactic(auto, unfolding(crate::specs::Commands::scan_line))]
     fn scan(&self, rest: Option<&str>) -> Result<Command, LineFault>
         ensures { Tells (scan_line (context_of self.now) (option_copied rest.entry))
-            (context_of self.now) result }
+            (context_of self.now) (context_of self.now) result }
     {
         let scan = scan_words(self.alloc, rest)?;
         Ok(Command::Query(Query::Scan(scan)))
@@ -486,7 +531,7 @@ impl Parser {
     #[tactic(auto, unfolding(crate::specs::Commands::watch_line))]
     fn watch(&mut self, client: usize, rest: Option<&str>) -> Result<Command, LineFault>
         ensures { Tells (watch_line (context_of self.old) client (option_copied rest.entry))
-            (context_of self.new) result }
+            (context_of self.old) (context_of self.new) result }
     {
         let (name, rest) = first_word(self::rest(rest)?);
         if !is_ticket_name(name) {
@@ -503,6 +548,7 @@ impl Parser {
         ensures made { OnOk result (context_of self.new ≡ record (context_of self.old) {
           watches = (context_of self.old).watches ++ (client, name.now) ∷ [];
         }) }
+        ensures left { OnErr result (context_of self.new ≡ context_of self.old) }
     {
         let name = Text::new(self.alloc, name)?;
         self.watches.add(client, &name)?;
@@ -512,7 +558,7 @@ impl Parser {
     #[tactic(auto, unfolding(crate::specs::Commands::poll_line))]
     fn poll(&self, client: usize, rest: Option<&str>) -> Result<Command, LineFault>
         ensures { Tells (poll_line (context_of self.now) client (option_copied rest.entry))
-            (context_of self.now) result }
+            (context_of self.now) (context_of self.now) result }
     {
         let name = self::rest(rest)?;
         if !is_ticket_name(name) {
@@ -528,7 +574,7 @@ impl Parser {
     #[tactic(auto, unfolding(crate::specs::Commands::mutate_line))]
     fn mutate(&self, rest: Option<&str>) -> Result<Command, LineFault>
         ensures { Tells (mutate_line (context_of self.now) (option_copied rest.entry))
-            (context_of self.now) result }
+            (context_of self.now) (context_of self.now) result }
     {
         let (time, rest) = word_of(rest)?;
         let (mutator, rest) = word_of(rest)?;
@@ -546,7 +592,7 @@ impl Parser {
     #[tactic(auto, unfolding(crate::specs::Commands::learn_line))]
     fn learn(&self, rest: Option<&str>) -> Result<Command, LineFault>
         ensures { Tells (learn_line (context_of self.now) (option_copied rest.entry))
-            (context_of self.now) result }
+            (context_of self.now) (context_of self.now) result }
     {
         let name = self::rest(rest)?;
         if !is_client_name(name) {
@@ -561,7 +607,7 @@ impl Parser {
     #[tactic(auto, unfolding(crate::specs::Commands::begin_line))]
     fn begin(&mut self, client: usize, rest: Option<&str>) -> Result<Command, LineFault>
         ensures { Tells (begin_line (context_of self.old) client (option_copied rest.entry))
-            (context_of self.new) result }
+            (context_of self.old) (context_of self.new) result }
     {
         let name = self::rest(rest)?;
         if !is_ticket_name(name) {
@@ -575,7 +621,7 @@ impl Parser {
     #[tactic(auto, unfolding(crate::specs::Commands::end_line))]
     fn end(&self, client: usize, rest: Option<&str>) -> Result<Command, LineFault>
         ensures { Tells (end_line (context_of self.now) client (option_copied rest.entry))
-            (context_of self.now) result }
+            (context_of self.now) (context_of self.now) result }
     {
         let (name, body) = first_word(self::rest(rest)?);
         if !is_ticket_name(name) {
@@ -592,7 +638,7 @@ impl Parser {
     #[tactic(auto, unfolding(crate::specs::Commands::bare_line))]
     fn bare(&self, name: &str, rest: Option<&str>) -> Result<Command, LineFault>
         ensures { Tells (bare_line (context_of self.now) name.now (option_copied rest.entry))
-            (context_of self.now) result }
+            (context_of self.now) (context_of self.now) result }
     {
         let Some(command) = bare_command(name) else {
             return Err(LineFault::Script(ScriptFault::UnknownCommand));
@@ -765,6 +811,7 @@ fn bare_command(name: &str) -> Option<Command>
 fn say(said: &mut Option<Text>, text: Text) -> Result<(), LineFault>
     ensures once { TestsLine (is_none said.old) script_fault.SaidTwice result }
     ensures said { OnOk result (said.new ≡ Some text) }
+    ensures left { OnErr result (said.new ≡ said.old) }
 {
     if said.is_some() {
         return Err(LineFault::Script(ScriptFault::SaidTwice));

@@ -3,3 +3,4 @@ mod Turns
 mod Openings
 mod Watches
 mod Replying
+mod Grouping

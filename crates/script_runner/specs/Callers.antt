@@ -9,6 +9,7 @@ use Rattle.logbook.specs.Pages.{Book}
 use Rattle.group_history.specs.declared.refusals.Refusal.{Refusal}
 use Rattle.group_history.specs.declared.scans.Scan.{Scan}
 use Rattle.group_history.specs.Map.{Bytes}
+use Rattle.group_history.specs.Meaning.{Meanings}
 use Rattle.group_history.specs.Rows.{Rows}
 use Rattle.group_history.specs.State.{State}
 use Rattle.head_word.specs.Marks.{Known, known}
@@ -86,11 +87,12 @@ tries_of (call.Mutate m) = 0
 tries_of (call.EndPull at bytes) = 0
 tries_of other = 1000000
 
--- The call is answered rightly at a point of the group's record, and the client's last id is then as the reply says.
-pub record MayReply (before : Standing) (asked : Call) (reply : Result Replied Refusal)
+-- The call is answered rightly at a point of the record of a group whose mutators mean this, and the client's last id
+-- is then as the reply says.
+pub record MayReply (means : Meanings) (before : Standing) (asked : Call) (reply : Result Replied Refusal)
     (after : Standing) : Type 0 where
-  pub answer : Answers script_means (tries_of asked) before.mark after.mark reply (change_of before.caller asked)
-      (λ s. reply_to script_means before.caller s asked)
+  pub answer : Answers means (tries_of asked) before.mark after.mark reply (change_of before.caller asked)
+      (λ s. reply_to means before.caller s asked)
   -- what changes nothing is refused for want of memory, or where a slot or a pin is lost to others; a change waits for
   -- others
   pub refused : MayRefuse ⊤ asked reply
@@ -99,11 +101,10 @@ pub record MayReply (before : Standing) (asked : Call) (reply : Result Replied R
   pub later : IsLater before.mark after.mark
   pub watches : after.watches ≡ before.watches
 
--- The poll of a watch is answered rightly at a point of the group's record.
-pub record MayPoll (name : Bytes) (watch : Watched) (before : Standing) (reply : Result Polled Refusal)
-    (after : Standing) : Type 0 where
-  pub answer : Answers script_means 1000000 before.mark after.mark reply nothing
-      (λ s. Ok (poll_at script_means watch s))
+-- The poll of a watch is answered rightly at a point of that record.
+pub record MayPoll (means : Meanings) (name : Bytes) (watch : Watched) (before : Standing)
+    (reply : Result Polled Refusal) (after : Standing) : Type 0 where
+  pub answer : Answers means 1000000 before.mark after.mark reply nothing (λ s. Ok (poll_at means watch s))
   -- for the same
   pub refused : IfErr reply (IsMissedOrDry ⊤)
   pub caller : after.caller ≡ before.caller
@@ -118,9 +119,9 @@ pub record Learns (before : Standing) (other : Known) (after : Standing) : Type 
   pub caller : after.caller ≡ before.caller
   pub watches : after.watches ≡ before.watches
 
--- the rules of a group whose clients may all call at the same time
-abbrev pub shared_rules : Rules
-shared_rules = record { may_reply = MayReply; may_poll = MayPoll; learns = Learns }
+-- the rules of a group whose clients may all call at the same time, by what its mutators mean
+abbrev pub shared_rules : Meanings → Rules
+shared_rules means = record { may_reply = MayReply means; may_poll = MayPoll means; learns = Learns }
 
 -- A client of a plain group, which is no group of a book: the call is answered rightly at some state.
 pub record MayReplyPlainly (before : Standing) (asked : Call) (reply : Result Replied Refusal)

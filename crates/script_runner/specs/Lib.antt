@@ -5,6 +5,7 @@ pub mod Printing
 pub mod Callers
 pub mod Commanding
 pub mod Phases
+pub mod Answering
 pub mod Runs
 -- Words that only private clauses of this crate use.
 pub mod Inside

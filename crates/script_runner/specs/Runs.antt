@@ -6,6 +6,7 @@ use Rattle.std.specs.Io.KnownBytes.{Appends, Keeps}
 use Rattle.std.specs.List.{All}
 use Rattle.logbook.specs.Pages.{Book}
 use Rattle.group_history.specs.Map.{Bytes}
+use Rattle.group_history.specs.Meaning.{Meanings}
 use Rattle.group_history.specs.State.{last_id}
 use Rattle.group_history.specs.declared.refs.Ref.{Ref}
 use Rattle.head_word.specs.Books.{opening}
@@ -14,6 +15,7 @@ use Rattle.push_body.specs.declared.identities.Identity.{Identity}
 use Rattle.answered.specs.Answered.{IsAnswered, own_moves}
 use Rattle.script_parser.specs.declared.faults.Fault.{Fault}
 use Rattle.script_parser.specs.declared.faults.Fault.TheVariants as fault
+use Rattle.script_parser.specs.declared.script.Header.{Header}
 use Rattle.script_runner.specs.Callers.{shared_rules}
 use Rattle.script_runner.specs.Commanding.{Player}
 use Rattle.script_parser.specs.Context.{Context}
@@ -29,39 +31,44 @@ identity_of group profile schema = record {
   schema = unwrap_or schema (codes "s1");
 }
 
+-- the same of a header
+abbrev pub header_identity : Header → Identity
+header_identity header = identity_of header.group header.profile header.schema
+
 -- it has seen the opening of its book, and nothing else
 abbrev pub HasSeenOpening : Known → Type 0
 HasSeenOpening mark = (at : Ref) × (mark.log ≡ opening at)
 
--- A client of the group of this book before the first phase. It began when its seat had seen the opening of the book
--- alone, has the last id that the group has of it, moved nothing, and has no ticket and no watch.
-pub record IsNew (identity : Identity) (book : Book) (p : Player) : Type 0 where
+-- A client of the group of this book before the first phase, whose mutators mean this. It began when its seat had seen
+-- the opening of the book alone, has the last id that the group has of it, moved nothing, and has no ticket and no watch.
+pub record IsNew (means : Meanings) (identity : Identity) (book : Book) (p : Player) : Type 0 where
   pub writes : p.standing.caller.identity ≡ identity
   pub of_book : p.standing.mark.book ≡ book
-  pub last : (before : Known) × HasSeenOpening before × IsAnswered script_means before p.standing.mark None
+  pub last : (before : Known) × HasSeenOpening before × IsAnswered means before p.standing.mark None
       (λ s. last_id s p.standing.caller.client ≡ p.standing.caller.last)
   pub moves : own_moves p.standing.mark ≡ []
   pub tickets : p.tickets ≡ finite.empty
   pub watches : p.standing.watches ≡ finite.empty
 
 -- the clients before the first phase: those of the lines, each with its name and ID, in a group of its own
-pub record AreNew (identity : Identity) (lines : List (Bytes × Bytes)) (players : List Player) : Type 0 where
+pub record AreNew (means : Meanings) (identity : Identity) (lines : List (Bytes × Bytes))
+    (players : List Player) : Type 0 where
   pub named : map (λ p. (p.name, p.standing.caller.client)) players ≡ lines
-  pub all : (book : Book) × All (IsNew identity book) players
+  pub all : (book : Book) × All (IsNew means identity book) players
 
 -- A run to the end writes what the phases print that the script says, from its clients on.
 pub record HasRun (said : Context) (old new : Option Bytes) : Type 0 where
   pub opened : List Player
-  pub are : AreNew (identity_of said.group said.profile said.schema) said.clients opened
+  pub are : AreNew script_means (identity_of said.group said.profile said.schema) said.clients opened
   pub text : Bytes
   pub closed : List Player
-  pub written : AreWritten shared_rules opened said.phases text closed
+  pub written : AreWritten (shared_rules script_means) opened said.phases text closed
   pub appended : Appends old new text
 
 -- A run that memory ended has written what so many whole phases print, none where its clients were not opened.
 pub record HasRunSome (said : Context) (old new : Option Bytes) (opened : List Player) : Type 0 where
-  pub are : AreNew (identity_of said.group said.profile said.schema) said.clients opened
-  pub written : HasWhole shared_rules opened said.phases old new
+  pub are : AreNew script_means (identity_of said.group said.profile said.schema) said.clients opened
+  pub written : HasWhole (shared_rules script_means) opened said.phases old new
 
 abbrev pub HasStopped : Context → Option Bytes → Option Bytes → Type 0
 HasStopped said old new = Keeps old new ⊎ ((opened : List Player) × HasRunSome said old new opened)

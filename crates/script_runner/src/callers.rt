@@ -7,14 +7,14 @@ ghost use Rattle.group_steps.specs.Missing.{told};
 ghost use Rattle.rebase.specs.Replies.{reply_seen};
 ghost use Rattle.rebase.specs.Watching.{Watched};
 ghost use Rattle.rebase.specs.declared.calls.Call.TheVariants as call;
-ghost use Rattle.script_runner.specs.Callers.{CanLearn, IsOfSameGroup, MayPoll, Rules, Standing, reply_of_list};
-ghost use Rattle.script_runner.specs.Callers.{sight_of, with_watch, without_watch};
+ghost use Rattle.script_runner.specs.Callers.{CanLearn, IsOfSameGroup, Learns, MayPoll, MayReply, Rules, Standing};
+ghost use Rattle.script_runner.specs.Callers.{reply_of_list, sight_of, with_watch, without_watch};
 ghost use Rattle.script_runner.specs.Printing.{rows_text};
 ghost use Rattle.script_runner.specs.Inside.Players.{standing_of};
 
 use crate::rows::RowList;
 use crate::shared::SharedClient;
-use group_history::{Refusal, Scan, Text, TextMap};
+use group_history::{Mutators, Refusal, Scan, Text, TextMap};
 use head_word::Mark;
 use rebase::{Call, Polled, Reply, Watch};
 use script_mutators::ScriptMutators;
@@ -84,31 +84,15 @@ pub(crate) fn keep_watch<W: Drop>(
     watches.insert(name.clone()?, watch)
 }
 
-impl SharedClient {
-    /// Polls a watch, and keeps it. Where memory is refused for it the watch is as it was.
-    fn poll_kept(&mut self, name: &Text, watch: Watch<ScriptMutators>) -> Result<Polled, Refusal>
-        requires { finite.get self.old.watches name.now ≡ Some watch }
-        ensures { MayPoll name.now watch (standing_of self.old) result (standing_of self.new) }
+// What a client of a shared group does, whatever its mutators. A method of the trait's block may not call it at a bound
+// of these, so the trait is met at `ScriptMutators` alone.
+impl<M: Mutators + Drop> SharedClient<M> {
+    /// Makes one call. A change may wait for others.
+    pub(crate) fn make_call<R: Wait>(&mut self, rt: &R, call: Call<'_>) -> Result<Reply, Refusal>
+        ensures reply { MayReply M.means (standing_of self.old) call.entry (told reply_seen result)
+            (standing_of self.new) }
+        ensures group { IsOfSameGroup (standing_of self.old) (standing_of self.new) }
     {
-        let mut watch = watch;
-        let polled = self.client.poll(&mut watch, TRIES)?;
-        keep_watch(&mut self.watches, name, watch)?;
-        Ok(polled)
-    }
-}
-
-impl Caller for SharedClient {
-    ghost use Rattle.script_runner.specs.Callers.{shared_rules};
-
-    type Sight = Mark<ScriptMutators>;
-
-    ghost stands = { standing_of };
-
-    ghost shows = { λ sight. sight };
-
-    ghost law = { shared_rules };
-
-    fn call<R: Wait>(&mut self, rt: &R, call: Call<'_>) -> Result<Reply, Refusal> {
         match call {
             Call::Mutate(m) => self
                 .client
@@ -119,7 +103,13 @@ impl Caller for SharedClient {
         }
     }
 
-    fn scan<R: Wait>(&mut self, _rt: &R, alloc: Global, scan: &Scan) -> Result<RowList, Refusal> {
+    /// Makes a scan, and answers what is printed of its rows.
+    pub(crate) fn list(&mut self, alloc: Global, scan: &Scan) -> Result<RowList, Refusal>
+        ensures reply { (rows : Rows) × MayReply M.means (standing_of self.old) (call.Scan scan.entry)
+            (reply_of_list rows result) (standing_of self.new)
+            × IfOk result (λ list. list.text.items ≡ rows_text rows) }
+        ensures group { IsOfSameGroup (standing_of self.old) (standing_of self.new) }
+    {
         let mut list = RowList::new(alloc);
         match self.client.scan_into(scan, &mut list, TRIES) {
             Ok(()) => Ok(list),
@@ -130,25 +120,92 @@ impl Caller for SharedClient {
         }
     }
 
-    fn watch(&mut self, name: &Text, scan: &Scan) -> Result<(), AllocError> {
+    /// Keeps a watch of a scan under a name. An earlier one of that name is given up first.
+    pub(crate) fn keep_scan(&mut self, name: &Text, scan: &Scan) -> Result<(), AllocError>
+        ensures kept { OnOk result (standing_of self.new ≡ with_watch name.now scan.now (standing_of self.old)) }
+        ensures left { OnErr result (standing_of self.new ≡ without_watch name.now (standing_of self.old)) }
+    {
         self.watches.remove(name);
         let watch = self.client.watch(scan.clone()?);
         keep_watch(&mut self.watches, name, watch)
     }
 
-    fn poll<R: Wait>(&mut self, _rt: &R, name: &Text) -> Option<Result<Polled, Refusal>> {
-        let copy: Result<Watch<ScriptMutators>, AllocError> = self.watches.get(name)?.clone();
+    /// Polls the watch of a name, where there is one.
+    pub(crate) fn poll_named(&mut self, name: &Text) -> Option<Result<Polled, Refusal>>
+        ensures some { IfSome result (λ reply. IfSome (finite.get (standing_of self.old).watches name.now)
+            (λ watch. MayPoll M.means name.now watch (standing_of self.old) reply (standing_of self.new))) }
+        ensures there { is_some result ≡ is_some (finite.get (standing_of self.old).watches name.now) }
+        ensures none { IfNone result (standing_of self.new ≡ standing_of self.old) }
+        ensures group { IsOfSameGroup (standing_of self.old) (standing_of self.new) }
+    {
+        let copy: Result<Watch<M>, AllocError> = self.watches.get(name)?.clone();
         match copy {
             Ok(watch) => Some(self.poll_kept(name, watch)),
             Err(_) => Some(Err(Refusal::NoMemory)),
         }
     }
 
-    fn sight(&self) -> Mark<ScriptMutators> {
+    /// Polls a watch, and keeps it. Where memory is refused for it the watch is as it was.
+    fn poll_kept(&mut self, name: &Text, watch: Watch<M>) -> Result<Polled, Refusal>
+        requires { finite.get self.old.watches name.now ≡ Some watch }
+        ensures { MayPoll M.means name.now watch (standing_of self.old) result (standing_of self.new) }
+    {
+        let mut watch = watch;
+        let polled = self.client.poll(&mut watch, TRIES)?;
+        keep_watch(&mut self.watches, name, watch)?;
+        Ok(polled)
+    }
+
+    /// What it has seen of its group. Takes no memory.
+    pub(crate) fn seen(&self) -> Mark<M>
+        ensures { result ≡ sight_of (standing_of self.now) }
+    {
         self.client.mark()
     }
 
-    fn learn(&mut self, other: &Mark<ScriptMutators>) {
+    /// Takes no memory.
+    pub(crate) fn learn_from(&mut self, other: &Mark<M>)
+        requires { CanLearn (standing_of self.old) other.now }
+        ensures learns { Learns (standing_of self.old) other.now (standing_of self.new) }
+        ensures group { IsOfSameGroup (standing_of self.old) (standing_of self.new) }
+    {
         self.client.learn(other);
+    }
+}
+
+impl Caller for SharedClient<ScriptMutators> {
+    ghost use Rattle.script_mutators.specs.Mutators.{script_means};
+    ghost use Rattle.script_runner.specs.Callers.{shared_rules};
+
+    type Sight = Mark<ScriptMutators>;
+
+    ghost stands = { standing_of };
+
+    ghost shows = { λ sight. sight };
+
+    ghost law = { shared_rules script_means };
+
+    fn call<R: Wait>(&mut self, rt: &R, call: Call<'_>) -> Result<Reply, Refusal> {
+        self.make_call(rt, call)
+    }
+
+    fn scan<R: Wait>(&mut self, _rt: &R, alloc: Global, scan: &Scan) -> Result<RowList, Refusal> {
+        self.list(alloc, scan)
+    }
+
+    fn watch(&mut self, name: &Text, scan: &Scan) -> Result<(), AllocError> {
+        self.keep_scan(name, scan)
+    }
+
+    fn poll<R: Wait>(&mut self, _rt: &R, name: &Text) -> Option<Result<Polled, Refusal>> {
+        self.poll_named(name)
+    }
+
+    fn sight(&self) -> Mark<ScriptMutators> {
+        self.seen()
+    }
+
+    fn learn(&mut self, other: &Mark<ScriptMutators>) {
+        self.learn_from(other);
     }
 }

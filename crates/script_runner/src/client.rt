@@ -23,16 +23,19 @@ use std::sync::Wait;
 /// A client of a script.
 #[derive(Drop)]
 pub(crate) struct ScriptClient<C: Drop> {
-    alloc: Global,
+    pub(crate) alloc: Global,
     pub(crate) name: Text,
     pub(crate) caller: C,
     /// The pulls that it began and can end, by the tickets' names. Their bodies are handed on.
-    tickets: TextMap<Ticket>,
+    pub(crate) tickets: TextMap<Ticket>,
 }
 
-impl<C: Caller + Drop> ScriptClient<C> {
+impl<C: Drop> ScriptClient<C> {
+    ghost use Rattle.script_runner.specs.Callers.{Standing};
+
     pub(crate) fn new(alloc: Global, name: &Text, caller: C) -> Result<ScriptClient<C>, AllocError>
-        ensures { IfOk result (λ client. player_of C.stands client ≡ new_player name.now (C.stands caller)) }
+        ensures { (stands : C → Standing) → IfOk result
+            (λ client. player_of stands client ≡ new_player name.now (stands caller)) }
     {
         Ok(ScriptClient {
             alloc,
@@ -42,6 +45,28 @@ impl<C: Caller + Drop> ScriptClient<C> {
         })
     }
 
+    /// Keeps a ticket, and hands its body on.
+    pub(crate) fn keep(&mut self, name: &Text, ticket: Ticket) -> Printed
+        ensures told { IsBegun self.old.tickets name.now (Ok (replied_ticket (asked ticket)))
+            (reply_text result) self.new.tickets }
+        ensures same { (self.new.name ≡ self.old.name) × (self.new.caller ≡ self.old.caller) }
+    {
+        let Ticket { body, cookie } = ticket;
+        let kept = Ticket {
+            body: Vec::new(self.alloc),
+            cookie,
+        };
+        let Ok(name) = name.clone() else {
+            return Printed::Refused(Refusal::NoMemory);
+        };
+        match self.tickets.insert(name, kept) {
+            Ok(()) => Printed::Pull(body),
+            Err(_) => Printed::Refused(Refusal::NoMemory),
+        }
+    }
+}
+
+impl<C: Caller + Drop> ScriptClient<C> {
     /// Does a command. A refusal is a reply like any other. `sights` are what each client had seen when the phase began.
     pub(crate) fn call<R: Wait>(
         &mut self,
@@ -96,26 +121,6 @@ impl<C: Caller + Drop> ScriptClient<C> {
         match self.caller.call(rt, Call::BeginPull) {
             Ok(Reply::Ticket(ticket)) => self.keep(name, ticket),
             answer => reply_of(answer),
-        }
-    }
-
-    /// Keeps a ticket, and hands its body on.
-    fn keep(&mut self, name: &Text, ticket: Ticket) -> Printed
-        ensures told { IsBegun self.old.tickets name.now (Ok (replied_ticket (asked ticket)))
-            (reply_text result) self.new.tickets }
-        ensures same { (self.new.name ≡ self.old.name) × (self.new.caller ≡ self.old.caller) }
-    {
-        let Ticket { body, cookie } = ticket;
-        let kept = Ticket {
-            body: Vec::new(self.alloc),
-            cookie,
-        };
-        let Ok(name) = name.clone() else {
-            return Printed::Refused(Refusal::NoMemory);
-        };
-        match self.tickets.insert(name, kept) {
-            Ok(()) => Printed::Pull(body),
-            Err(_) => Printed::Refused(Refusal::NoMemory),
         }
     }
 
@@ -195,7 +200,7 @@ impl<C: Caller + Drop> ScriptClient<C> {
 }
 
 /// The reply of a line that polls.
-fn polled_of(polled: Result<Polled, Refusal>) -> Printed
+pub(crate) fn polled_of(polled: Result<Polled, Refusal>) -> Printed
     ensures { reply_text result ≡ polled_text polled }
 {
     match polled {
@@ -206,7 +211,7 @@ fn polled_of(polled: Result<Polled, Refusal>) -> Printed
 }
 
 /// The call that a query is.
-fn call_of(query: &Query) -> Call<'_>
+pub(crate) fn call_of(query: &Query) -> Call<'_>
     ensures { Asks query.now result }
 {
     match query {
@@ -222,7 +227,7 @@ fn call_of(query: &Query) -> Call<'_>
 }
 
 /// The reply of a line that hands on what the group answered.
-fn reply_of(answer: Result<Reply, Refusal>) -> Printed
+pub(crate) fn reply_of(answer: Result<Reply, Refusal>) -> Printed
     ensures { reply_text result ≡ answer_text (told reply_seen answer) }
 {
     match answer {

@@ -5,14 +5,16 @@ ghost use Rattle.std.specs.List.{All, concat};
 ghost use Rattle.rebase.specs.Clients.{AreSeatsOf};
 ghost use Rattle.script_parser.specs.Faults.{Checks, first_fault, script_said};
 ghost use Rattle.script_parser.specs.Context.{Context};
+ghost use Rattle.script_parser.specs.Kept.{IsInRange};
 ghost use Rattle.script_parser.specs.Scripts.{IsChecked, IsScript, client_said, phase_said};
+ghost use Rattle.script_runner.specs.Callers.{Standing};
 ghost use Rattle.script_runner.specs.Commanding.{new_player};
 ghost use Rattle.script_runner.specs.Phases.{HasWhole, HasWritten, IsPhase};
 ghost use Rattle.script_runner.specs.Runs.{AreNew, BlamesNoScript, HasRunScript, HasStoppedScript, IsWant};
-ghost use Rattle.script_runner.specs.Runs.{KeepsIfFaulty};
+ghost use Rattle.script_runner.specs.Runs.{KeepsIfFaulty, header_identity};
 ghost use Rattle.script_runner.specs.Inside.Players.{IsFresh, IsNewIn, line_of, player_of, players_of};
 ghost use Rattle.script_runner.specs.Inside.Players.{standing_of};
-ghost use Rattle.script_runner.specs.Inside.Runs.{IsInRange, IsRun, header_identity};
+ghost use Rattle.script_runner.specs.Inside.Runs.{IsRun};
 ghost use Rattle.script_runner.specs.Inside.Turns.{AreOfOneGroup, IsPrinted, StayInGroup, texts_of};
 
 use crate::callers::{Caller, TRIES};
@@ -21,7 +23,7 @@ use crate::phase::{Gate, Host, Turn, run_phase};
 use crate::plain::{Plain, PlainClient};
 use crate::shared::SharedClient;
 use chunk_slots::Arena;
-use group_history::Text;
+use group_history::{Mutators, Text};
 use rebase::{Config, Group, Seats};
 use script_mutators::ScriptMutators;
 use script_parser::{ClientLine, Fault, Header, Phase, Script, read_script, uuid_text};
@@ -30,9 +32,9 @@ use std::io;
 use std::sync::{Mutex, Wait};
 use std::thread::Threads;
 
-type ScriptGroup = Group<ScriptMutators, Arena<ScriptMutators>>;
+pub(crate) type ScriptGroup<M> = Group<M, Arena<M>>;
 
-type ScriptSeats = Seats<ScriptMutators, Arena<ScriptMutators>>;
+pub(crate) type ScriptSeats<M> = Seats<M, Arena<M>>;
 
 /// What a phase prints, client by client.
 fn text_of<C: Drop>(alloc: Global, turns: &[Turn<C>]) -> Result<Vec<u8>, AllocError>
@@ -111,7 +113,11 @@ fn config_of(alloc: Global, header: &Header) -> Result<Config, AllocError>
 }
 
 /// Opens the group of a script.
-fn open_group(alloc: Global, header: &Header) -> Result<(ScriptGroup, ScriptSeats), Fault>
+pub(crate) fn open_group<M: Mutators + Drop>(
+    alloc: Global,
+    header: &Header,
+    mutators: M,
+) -> Result<(ScriptGroup<M>, ScriptSeats<M>), Fault>
     requires { IsInRange header.now }
     ensures identity { IfOk result (λ made. made.0.identity ≡ header_identity header.now) }
     ensures free { IfOk result (λ made. vec_len header.now.clients ≤ length made.1.free) }
@@ -120,15 +126,16 @@ fn open_group(alloc: Global, header: &Header) -> Result<(ScriptGroup, ScriptSeat
     ensures fault { BlamesNoScript result }
 {
     let config = config_of(alloc, header)?;
-    let Ok(made) = ScriptGroup::open(alloc, config, ScriptMutators, ()) else {
+    let Ok(made) = Group::<M, Arena<M>>::open(alloc, config, mutators, ()) else {
         return Err(Fault::NoMemory);
     };
     Ok(made)
 }
 
 /// A client before the first phase.
-fn turn_of<C: Caller + Drop>(alloc: Global, name: &Text, caller: C) -> Result<Turn<C>, AllocError>
-    ensures { IfOk result (λ turn. player_of C.stands turn.client ≡ new_player name.now (C.stands caller)) }
+fn turn_of<C: Drop>(alloc: Global, name: &Text, caller: C) -> Result<Turn<C>, AllocError>
+    ensures { (stands : C → Standing) → IfOk result
+        (λ turn. player_of stands turn.client ≡ new_player name.now (stands caller)) }
 {
     let client = ScriptClient::new(alloc, name, caller)?;
     Ok(Turn {
@@ -138,12 +145,12 @@ fn turn_of<C: Caller + Drop>(alloc: Global, name: &Text, caller: C) -> Result<Tu
 }
 
 /// Opens a client on a seat of a group.
-fn open_client(
+fn open_client<M: Mutators + Drop>(
     alloc: Global,
     line: &ClientLine,
-    group: &ScriptGroup,
-    seats: &mut ScriptSeats,
-) -> Result<Turn<SharedClient>, AllocError>
+    group: &ScriptGroup<M>,
+    seats: &mut ScriptSeats<M>,
+) -> Result<Turn<SharedClient<M>>, AllocError>
     requires free { 1 ≤ length seats.old.free }
     requires seats { AreSeatsOf group.now.group seats.old.free }
     requires opening { All IsFresh seats.old.free }
@@ -151,7 +158,7 @@ fn open_client(
     ensures seats { IfOk result (λ _. AreSeatsOf group.now.group seats.new.free) }
     ensures opening { IfOk result (λ _. All IsFresh seats.new.free) }
     ensures name { IfOk result (λ turn. line_of turn ≡ client_said line.now) }
-    ensures new { IfOk result (IsNewIn group.now) }
+    ensures new { IfOk result (IsNewIn M.means group.now) }
 {
     let Ok(seat) = seats.take() else {
         unreachable!()
@@ -164,17 +171,17 @@ fn open_client(
 }
 
 /// Opens the clients of a script on the seats of a group, in the order of their lines.
-fn open_clients(
+pub(crate) fn open_clients<M: Mutators + Drop>(
     alloc: Global,
     lines: &[ClientLine],
-    group: &ScriptGroup,
-    seats: ScriptSeats,
-) -> Result<Vec<Turn<SharedClient>>, AllocError>
+    group: &ScriptGroup<M>,
+    seats: ScriptSeats<M>,
+) -> Result<Vec<Turn<SharedClient<M>>>, AllocError>
     requires free { length lines.now ≤ length seats.free }
     requires seats { AreSeatsOf group.now.group seats.free }
     requires opening { All IsFresh seats.free }
     ensures lines { IfOk result (λ turns. map line_of turns.items ≡ map client_said lines.now) }
-    ensures new { IfOk result (λ turns. All (IsNewIn group.now) turns.items) }
+    ensures new { IfOk result (λ turns. All (IsNewIn M.means group.now) turns.items) }
 {
     let mut seats = seats;
     let mut turns = Vec::with_capacity(alloc, lines.len())?;
@@ -186,13 +193,17 @@ fn open_clients(
 }
 
 /// Opens a new group for a script, and a client for each of its client lines. The clients hold the group.
-fn open_script(alloc: Global, header: &Header) -> Result<Vec<Turn<SharedClient>>, Fault>
+fn open_script<M: Mutators + Drop>(
+    alloc: Global,
+    header: &Header,
+    mutators: M,
+) -> Result<Vec<Turn<SharedClient<M>>>, Fault>
     requires { IsInRange header.now }
-    ensures new { IfOk result (λ turns. AreNew (header_identity header.now)
+    ensures new { IfOk result (λ turns. AreNew M.means (header_identity header.now)
         (map client_said header.now.clients.items) (players_of standing_of turns.items)) }
     ensures fault { BlamesNoScript result }
 {
-    let (group, seats) = open_group(alloc, header)?;
+    let (group, seats) = open_group(alloc, header, mutators)?;
     let turns = open_clients(alloc, &header.clients, &group, seats)?;
     Ok(turns)
 }
@@ -208,7 +219,7 @@ fn run_shared<R: AllocGlobal + Threads + Wait + Sync, G: Gate, W: io::Write>(
     ensures { IsRun script.now (W.contents out.old) (W.contents out.new) result }
 {
     let alloc = rt.alloc();
-    let mut turns = open_script(alloc, &script.header)?;
+    let mut turns = open_script(alloc, &script.header, ScriptMutators)?;
     run_phases(&Host { rt, alloc, gate }, &mut turns, &script.phases, out)
 }
 

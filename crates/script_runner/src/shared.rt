@@ -6,27 +6,23 @@ ghost use Rattle.group_history.specs.Map.{Bytes};
 ghost use Rattle.rebase.specs.Watching.{Watched};
 
 use chunk_slots::Arena;
-use group_history::TextMap;
+use group_history::{Mutators, TextMap};
 use rebase::{Client, Watch};
-use script_mutators::ScriptMutators;
 use std::alloc::Global;
 
 /// A client of a group whose clients may all call at the same time, and its watches.
 #[derive(Drop)]
-pub(crate) struct SharedClient {
-    pub(crate) client: Client<ScriptMutators, Arena<ScriptMutators>>,
-    pub(crate) watches: TextMap<Watch<ScriptMutators>>,
+pub(crate) struct SharedClient<M: Mutators + Drop> {
+    pub(crate) client: Client<M, Arena<M>>,
+    pub(crate) watches: TextMap<Watch<M>>,
     ghost of_group: { (name : Bytes) (watch : Watched) → finite.get watches name ≡ Some watch
         → watch.book ≡ client.seat.mark.book } by { Π_prop
             (λ name. Π_prop (λ watch. →_prop (Prim.hlevel (codes, Coded-set)))) },
 }
 
-impl SharedClient {
+impl<M: Mutators + Drop> SharedClient<M> {
     /// A client without watches.
-    pub(crate) fn new(
-        alloc: Global,
-        client: Client<ScriptMutators, Arena<ScriptMutators>>,
-    ) -> SharedClient
+    pub(crate) fn new(alloc: Global, client: Client<M, Arena<M>>) -> SharedClient<M>
         ensures client { result.client ≡ client }
         ensures watches { result.watches ≡ finite.empty }
     {

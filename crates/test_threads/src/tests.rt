@@ -2,6 +2,7 @@
 //! order, what a reader meets that comes between the steps of a publisher, and how a run ends over streams that fail.
 mod closings;
 mod gates;
+mod lines;
 mod orders;
 mod phases;
 mod schedules;

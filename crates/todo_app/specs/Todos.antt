@@ -1,15 +1,13 @@
 -- What the mutators of a to-do list mean: `add`, `toggle` and `rename`.
 -- An item lies at the key "todo/ID", as an object with its members "done" and "text".
-use Rattle.std.specs.Prelude.{ℕ, Bool, false, not, ◌++◌, codes, if◌then◌else◌, Option, Some, None}
+use Rattle.std.specs.Prelude.{ℕ, Bool, false, not, ◌++◌, codes, if◌then◌else◌, Option}
 use Rattle.std.specs.Prelude.{option_map, option_and_then}
 use Rattle.std.specs.FinMap as finite
 use Rattle.serde_json.specs.Data.{Data, boolean, string, object, no_members, member}
 use Rattle.serde_json.specs.Find.{get, as_bool, as_str}
 use Rattle.serde_json.specs.Written.{compact_text}
-use Rattle.group_history.specs.Cookies.{value_read}
-use Rattle.group_history.specs.Json.{reading}
 use Rattle.group_history.specs.Map.{Bytes, Entries, same_text}
-use Rattle.group_history.specs.Meaning.{Meaning, Meanings, unknown, refuses, done}
+use Rattle.group_history.specs.Meaning.{Meaning, Meanings, unknown, done, needs, value_of}
 
 -- the codes with which they refuse
 abbrev pub wrong_arguments : ℕ
@@ -17,15 +15,6 @@ wrong_arguments = 1
 
 abbrev pub no_such_todo : ℕ
 no_such_todo = 2
-
--- What follows from a thing, where it is there; else the mutator refuses with the code.
-abbrev pub needs : {A : Type 0} → ℕ → Option A → (A → Meaning) → Meaning
-needs code None follows = refuses code
-needs code (Some a) follows = follows a
-
--- the value that a text is
-abbrev pub value_of : Bytes → Option Data
-value_of text = value_read (reading text)
 
 -- the text of a member
 abbrev pub text_in : Data → Bytes → Option Bytes

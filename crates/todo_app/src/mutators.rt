@@ -2,13 +2,13 @@
 //!
 //! Each takes an object as its arguments, and refuses with a code where a member is missing or there is no such item.
 //! What each means is a definition in `specs/Todos.antt`, and its clause `ran` says that it is run as that.
-ghost use Rattle.std.specs.Prelude.{◌≡◌, ◌⊎◌, IfOk, IfErr};
+ghost use Rattle.std.specs.Prelude.{◌≡◌, IfOk, IfErr};
 ghost use Rattle.serde_json.specs.View.{view as data_of};
 ghost use Rattle.group_history.specs.Ran.{RunsAs};
-ghost use Rattle.group_history.specs.declared.mutators.Stop.TheVariants.{NoMemory};
+ghost use Rattle.group_history.specs.Stops.{MayStop};
 ghost use Rattle.todo_app.specs.Todos as spec;
 
-use crate::todos::{key_of, put, text_in, todo_at, value_of};
+use crate::todos::{key_of, put, text_in, todo_at};
 use rebase::{Json, Means, Mutators, Ran, Reason, Stop, WriteView};
 use serde_json::Value;
 use std::alloc::Global;
@@ -32,7 +32,7 @@ const NO_SUCH_TODO: u32 = 2;
 fn add<V: WriteView>(alloc: Global, args: &Value, view: &mut V) -> Result<Ran, Stop>
     ensures ran { IfOk result (λ ran. RunsAs (spec.add_means (data_of args.now) (V.contents view.old)) ran
         (V.contents view.new)) }
-    ensures stopped { IfErr result (λ stop. (stop ≡ NoMemory) ⊎ V.stops stop) }
+    ensures stopped { IfErr result (MayStop V.stops) }
 {
     let Some(id) = text_in(args, "id") else {
         return Ok(Ran::Refused(WRONG_ARGUMENTS));
@@ -50,7 +50,7 @@ fn add<V: WriteView>(alloc: Global, args: &Value, view: &mut V) -> Result<Ran, S
 fn toggle<V: WriteView>(alloc: Global, args: &Value, view: &mut V) -> Result<Ran, Stop>
     ensures ran { IfOk result (λ ran. RunsAs (spec.toggle_means (data_of args.now) (V.contents view.old)) ran
         (V.contents view.new)) }
-    ensures stopped { IfErr result (λ stop. (stop ≡ NoMemory) ⊎ V.stops stop) }
+    ensures stopped { IfErr result (MayStop V.stops) }
 {
     let Some(id) = text_in(args, "id") else {
         return Ok(Ran::Refused(WRONG_ARGUMENTS));
@@ -68,7 +68,7 @@ fn toggle<V: WriteView>(alloc: Global, args: &Value, view: &mut V) -> Result<Ran
 fn rename<V: WriteView>(alloc: Global, args: &Value, view: &mut V) -> Result<Ran, Stop>
     ensures ran { IfOk result (λ ran. RunsAs (spec.rename_means (data_of args.now) (V.contents view.old)) ran
         (V.contents view.new)) }
-    ensures stopped { IfErr result (λ stop. (stop ≡ NoMemory) ⊎ V.stops stop) }
+    ensures stopped { IfErr result (MayStop V.stops) }
 {
     let Some(id) = text_in(args, "id") else {
         return Ok(Ran::Refused(WRONG_ARGUMENTS));
@@ -94,7 +94,7 @@ impl Mutators for Todos {
         _why: Reason,
         view: &mut V,
     ) -> Result<Ran, Stop> {
-        let args = value_of(alloc, args)?;
+        let args = args.value(alloc)?;
         if name == "add" {
             return add(alloc, &args, view);
         }

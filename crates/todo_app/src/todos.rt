@@ -1,11 +1,11 @@
 //! A to-do item, and how it lies in the map of a group.
-ghost use Rattle.std.specs.Prelude.{◌≡◌, ◌⊎◌, Some, IfOk, IfErr, OnOk, option_map, string_bytes};
+ghost use Rattle.std.specs.Prelude.{◌≡◌, IfOk, IfErr, OnOk, option_map, string_bytes};
 ghost use Rattle.std.specs.FinMap as finite;
 ghost use Rattle.serde_json.specs.View.{view as data_of};
-ghost use Rattle.group_history.specs.declared.mutators.Stop.TheVariants.{NoMemory};
+ghost use Rattle.group_history.specs.Stops.{MayStop};
 ghost use Rattle.todo_app.specs.Todos as spec;
 
-use rebase::{Json, Refusal, Stop, WriteView};
+use rebase::{Json, Stop, WriteView};
 use serde_json::{Value, json};
 use std::alloc::{AllocError, Global};
 use std::marker::Model;
@@ -24,21 +24,6 @@ impl Model for Todo {
     ghost Value = { Todo };
 
     ghost view = { λ todo. record { done = todo.done; text = string_bytes todo.text } };
-}
-
-/// The value that a JSON text is.
-pub(crate) fn value_of(alloc: Global, json: &Json) -> Result<Value, Stop>
-    ensures value { IfOk result (λ v. spec.value_of json.now ≡ Some (data_of v)) }
-    ensures stopped { IfErr result (λ stop. stop ≡ NoMemory) }
-{
-    match json.value(alloc) {
-        Ok(value) => Ok(value),
-        Err(refusal) => {
-            let is_memory = refusal == Refusal::NoMemory;
-            prove!(is_memory);
-            Err(Stop::NoMemory)
-        }
-    }
 }
 
 /// The text of a member, where it is one.
@@ -77,12 +62,12 @@ pub(crate) fn todo_at<V: WriteView>(
 ) -> Result<Option<Todo>, Stop>
     ensures value { IfOk result (λ todo. todo ≡ spec.todo_at (V.contents view.old) key.now) }
     ensures kept { V.contents view.new ≡ V.contents view.old }
-    ensures stopped { IfErr result (λ stop. (stop ≡ NoMemory) ⊎ V.stops stop) }
+    ensures stopped { IfErr result (MayStop V.stops) }
 {
     let Some(json) = view.get(key)? else {
         return Ok(None);
     };
-    let value = value_of(alloc, &json)?;
+    let value = json.value(alloc)?;
     Ok(todo_of(alloc, &value)?)
 }
 
@@ -111,7 +96,7 @@ pub(crate) fn put<V: WriteView>(
 ) -> Result<(), Stop>
     ensures put { OnOk result (V.contents view.new
         ≡ finite.insert (V.contents view.old) key.now (spec.written done text.now)) }
-    ensures stopped { IfErr result (λ stop. (stop ≡ NoMemory) ⊎ V.stops stop) }
+    ensures stopped { IfErr result (MayStop V.stops) }
 {
     let json = written(alloc, done, text)?;
     view.put(key, &json)

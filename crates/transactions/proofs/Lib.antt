@@ -2,3 +2,4 @@ pub mod WriteLemmas
 mod ReadLemmas
 mod KnownLemmas
 mod StagedLemmas
+pub mod RowLemmas

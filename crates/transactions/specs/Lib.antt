@@ -1,3 +1,4 @@
 pub mod Maps
 pub mod Reads
 pub mod Staging
+pub mod Taking

@@ -5,11 +5,13 @@
 //! map all along, though what is known to be placed may grow while it looks.
 #![tactic(auto)]
 
+mod beside;
 mod fixed;
 mod reading;
 mod staged;
 mod writing;
 
+pub use beside::{Before, Beside};
 pub use fixed::{Fixed, Known};
 pub use map_tree::TakesRows;
 pub use reading::ReadTx;

@@ -1,14 +1,12 @@
 -- What a watch keeps of the rows that it answered last.
-use Rattle.std.specs.Prelude.{◌≡◌, ⊤, Option, Some, None, take}
+use Rattle.std.specs.Prelude.{◌≡◌, ⊤, Option, Some, None}
 use Rattle.group_history.specs.declared.scans.Scan.{Scan}
 use Rattle.group_history.specs.Map.{Entries}
 use Rattle.group_history.specs.Refs.{stamp_of}
 use Rattle.group_history.specs.Scans.{rows_of}
 use Rattle.group_history.specs.Spelling.{Contents, map_at}
-use Rattle.rebase.specs.declared.beside.Taken.{Taken}
-use Rattle.rebase.specs.declared.beside.Taken.TheVariants.{First, Own}
 use Rattle.rebase.specs.declared.watching.Told.{Told}
-use Rattle.rebase.specs.Watching.{Rows}
+use Rattle.group_history.specs.Rows.{Rows}
 
 abbrev pub rows_told : Option Told → Option Rows
 rows_told None = None
@@ -19,8 +17,3 @@ abbrev pub AreRead : Contents → Scan → Option Told → Type 0
 AreRead contents scan None = ⊤
 AreRead contents scan (Some told) = (m : Entries) × (map_at contents (stamp_of told.root) ≡ Some m)
     × (told.rows ≡ rows_of scan m)
-
--- the rows that were taken beside others
-abbrev pub taken_rows : Rows → Taken → Rows
-taken_rows before (First count) = take count before
-taken_rows before (Own rows) = rows.items

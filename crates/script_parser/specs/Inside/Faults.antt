@@ -6,7 +6,10 @@ use Rattle.script_parser.specs.declared.faults.LineFault.TheVariants as line
 use Rattle.script_parser.specs.declared.faults.Fault.{Fault}
 use Rattle.script_parser.specs.declared.faults.Fault.TheVariants as fault
 use Rattle.script_parser.specs.declared.script.Command.{Command}
+use Rattle.script_parser.specs.declared.script.Asked.{Asked}
 use Rattle.script_parser.specs.Context.{Context}
+use Rattle.script_parser.specs.Reading.{with_asked}
+use Rattle.script_parser.specs.Inside.Reading.{IsBeside}
 
 -- the fault of the script, where a line of this number has this fault
 abbrev pub fault_at : ℕ → LineFault → Fault
@@ -38,8 +41,21 @@ Follows right c (Ok x) = right ≡ Ok c
 Follows right c (Err (line.Script f)) = right ≡ Err f
 Follows right c (Err line.NoMemory) = ⊤
 
--- The same of a client's line: Ok with its command.
-abbrev pub Tells : Result (Context × Command) ScriptFault → Context → Result Command LineFault → Type 0
-Tells right c (Ok k) = right ≡ Ok (c, k)
-Tells right c (Err (line.Script f)) = right ≡ Err f
-Tells right c (Err line.NoMemory) = ⊤
+-- The same of a line before the first phase, where this was said before it: a faulty one, or one for which memory is
+-- refused, says nothing.
+abbrev pub Heads : {X : Type 0} → Result Context ScriptFault → Context → Context → Result X LineFault → Type 0
+Heads right old new (Ok x) = (right ≡ Ok new) × (new.phases ≡ old.phases)
+Heads right old new (Err (line.Script f)) = (right ≡ Err f) × (new ≡ old)
+Heads right old new (Err line.NoMemory) = new ≡ old
+
+-- The same of a client's line: Ok with its command. It makes no client and no line.
+abbrev pub Tells : Result (Context × Command) ScriptFault → Context → Context → Result Command LineFault → Type 0
+Tells right old new (Ok k) = (right ≡ Ok (new, k)) × (new.clients ≡ old.clients) × (new.phases ≡ old.phases)
+Tells right old new (Err (line.Script f)) = (right ≡ Err f) × (new ≡ old)
+Tells right old new (Err line.NoMemory) = new ≡ old
+
+-- The same of any line of this number: Ok with what it asks, which is said beside what is kept.
+abbrev pub Asks : ℕ → Result Context ScriptFault → Context → Context → Result Asked LineFault → Type 0
+Asks n right old new (Ok asked) = (right ≡ Ok (with_asked asked new)) × IsBeside n old asked new
+Asks n right old new (Err (line.Script f)) = (right ≡ Err f) × (new ≡ old)
+Asks n right old new (Err line.NoMemory) = new ≡ old

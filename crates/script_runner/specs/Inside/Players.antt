@@ -1,6 +1,7 @@
 -- The clients of the code, as a script has them.
 use Rattle.std.specs.Prelude.{◌≡◌, List, map}
 use Rattle.group_history.specs.Map.{Bytes}
+use Rattle.group_history.specs.Meaning.{Meanings}
 use Rattle.commit_graph.specs.Seats.{Seated}
 use Rattle.rebase.specs.Calls.{caller_of}
 use Rattle.rebase.specs.Clients.{Grouped}
@@ -15,7 +16,7 @@ use Rattle.script_runner.specs.Runs.{HasSeenOpening, IsNew}
 use Rattle.script_runner.specs.Inside.Printing.{reply_text}
 
 -- a client of a shared group
-abbrev pub standing_of : SharedClient → Standing
+abbrev pub standing_of : {M : Type 0} → SharedClient M → Standing
 standing_of c = record {
   caller = caller_of c.client;
   mark = c.client.seat.mark;
@@ -42,13 +43,13 @@ abbrev pub Prints : {C : Type 0} → (C → Standing) → (Player → Bytes → 
 Prints stands rule old reply new = rule (player_of stands old) (reply_text reply) (player_of stands new)
 
 -- what a client's line says of it: its name and its ID
-abbrev pub line_of : Turn SharedClient → Bytes × Bytes
+abbrev pub line_of : {M : Type 0} → Turn (SharedClient M) → Bytes × Bytes
 line_of turn = (turn.client.name, turn.client.caller.client.id)
 
 -- so has a seat
 abbrev pub IsFresh : Seated → Type 0
 IsFresh seat = HasSeenOpening seat.mark
 
--- a client of this group before the first phase
-abbrev pub IsNewIn : Grouped → Turn SharedClient → Type 0
-IsNewIn group turn = IsNew group.identity group.group.book (player_of standing_of turn.client)
+-- a client of this group before the first phase, whose mutators mean this
+abbrev pub IsNewIn : {M : Type 0} → Meanings → Grouped → Turn (SharedClient M) → Type 0
+IsNewIn means group turn = IsNew means group.identity group.group.book (player_of standing_of turn.client)

@@ -11,14 +11,6 @@ use Rattle.script_parser.specs.Context.{Context}
 use Rattle.script_parser.specs.Scripts.{IsScript}
 use Rattle.script_runner.specs.Runs.{BlamesNoScript, HasRun, HasStopped, IsWant, identity_of}
 
--- whose requests the group of a header writes
-abbrev pub header_identity : Header → Identity
-header_identity header = identity_of header.group header.profile header.schema
-
--- a group can have a seat for each client of the header, and as many slots as it asks for
-abbrev pub IsInRange : Header → Type 0
-IsInRange header = (vec_len header.clients ≤ max_seats) × IfSome header.slots (λ n. (16 ≤ n) × (n ≤ max_slots))
-
 -- What a run of a script that was read writes, to the end or until memory ended it. Its fault is none of the script.
 pub record IsRun {X : Type 0} (script : Script) (old new : Option Bytes) (result : Result X Fault) : Type 0 where
   pub written : (said : Context) → IsScript said script → OnOk result (HasRun said old new)

@@ -1,4 +1,4 @@
-use Rattle.std.proofs.Common.{◌<◌, ◌^◌, Some, sym, subst, rules}
+use Rattle.std.proofs.Common.{◌<◌, ◌^◌, Some, sym, subst, ◌∙◌, rules}
 use Rattle.std.specs.Prelude.{IfSome}
 use Rattle.group_history.specs.declared.refs.Ref.{Ref}
 use Rattle.group_history.specs.Ids.{IdsFollow}
@@ -22,11 +22,14 @@ move_head-requires-clause-leads g c κs within =
     let s = after (record_of c.args.arrival.now.seen.log) in let at = c.new-at.result in
     let leads = (subst (λ (q : Place). Proposes means (drawn q.mark.log) q.commit (state_at q) last change (Some p))
     c.new-at.ensures.place (subst (Proposes means (drawn at.mark.log) at.commit (state_at at) last change)
-    c.in-Ok-Some.field-0-is c.in-Ok-Some.ensures.proposed)).1 in (
-      s,
-      subst (λ (b : Ref). IsBase means mark b s) (sym leads.begins) c.requires.base,
-      subst (λ (b : Ref). Leads means (drawn mark.log) b s change p) (sym leads.begins) leads,
-    )
+    c.in-Ok-Some.field-0-is c.in-Ok-Some.ensures.proposed)).1 in
+    record {
+      log = c.args.arrival.now.seen.log;
+      seen = c.requires.since;
+      stood = leads.begins ∙ c.requires.stood;
+      base = subst (λ (b : Ref). IsBase means mark b s) (sym leads.begins) c.requires.base;
+      leads = subst (λ (b : Ref). Leads means (drawn mark.log) b s change p) (sym leads.begins) leads;
+    }
 
 pub returns-in-Ok-Some-move_head-clause-tried : goal.returns-in-Ok-Some-move_head-clause-tried
 returns-in-Ok-Some-move_head-clause-tried g c =

@@ -57,5 +57,5 @@ returns-clause-frees g c r =
     let old = c.args.seat.now in let mid = c.pin_and_load_both.new.seat in let done = c.change_at-tried.new.seat in
     let new = c.unpin.new.seat in let o = change_tried c.args.request.now.change.now c.change_at-tried.result in
     frees_then slots old done new o last.mark (gives_kept slots done.view new.view (last.moves r) (last.looked.calm r).1)
-    (frees_since slots old mid done o first.looked.seat.later.seen first.looked.seat.later.seat
+    (frees_since slots old mid done o first.looked.seat
     (gives_kept slots old.view mid.view (first.moves r) (first.looked.calm r).1) (c.change_at-tried.ensures.frees r))

@@ -42,7 +42,7 @@ returns-in_err-at-clause-frees g c r =
     let p = err_from_is_err_and c.from_residual.result c.from_residual.ensures.1 in
     subst (λ (w : Result (Option Ref) Refusal). Frees slots old new
     (change_asked c.args.request.now.change.now (told is_made w))) (sym p.1)
-    (frees_since slots old mid new None v.seat.later.seen v.seat.later.seat (v.gave r) (c.in_err-at.ensures.frees r))
+    (frees_since slots old mid new None v.seat (v.gave r) (c.in_err-at.ensures.frees r))
 
 pub loop-tried-init : goal.loop-tried-init
 loop-tried-init g c = record {
@@ -59,14 +59,14 @@ returns-in-Made-clause-frees g c r =
     let v = c.loop-tried.invariant in let old = c.args.seat.now in let mid = c.loop-tried.seat in
     let new = c.change_once.new.seat in let slots = c.args.group.now.shared.table.sizes.slots in
     let change = c.args.request.now.change.now in
-    frees_since slots old mid new (Some change) v.seat.later.seen v.seat.later.seat (v.gave r)
+    frees_since slots old mid new (Some change) v.seat (v.gave r)
     (subst (λ (t : Tried). Frees slots mid new (change_tried change (Ok t))) c.in-Made.is (c.in_ok-at.ensures.frees r))
 
 pub returns-in-Same-clause-frees : goal.returns-in-Same-clause-frees
 returns-in-Same-clause-frees g c r =
     let v = c.loop-tried.invariant in let old = c.args.seat.now in let mid = c.loop-tried.seat in
     let new = c.change_once.new.seat in let slots = c.args.group.now.shared.table.sizes.slots in
-    frees_since slots old mid new None v.seat.later.seen v.seat.later.seat (v.gave r)
+    frees_since slots old mid new None v.seat (v.gave r)
     (subst (λ (t : Tried). Frees slots mid new (change_tried c.args.request.now.change.now (Ok t))) c.in-Same.is
     (c.in_ok-at.ensures.frees r))
 
@@ -82,7 +82,7 @@ loop-tried-preserved g c =
       own = lost.0 ∙ v.own;
       others = omega (arith, v.others, lost.1);
       none = λ r. (e.idle r).1;
-      gave = λ r. frees_since slots old mid new None v.seat.later.seen v.seat.later.seat (v.gave r)
+      gave = λ r. frees_since slots old mid new None v.seat (v.gave r)
           (subst (λ (t : Tried). Frees slots mid new (change_tried change (Ok t))) c.in-Lost.is
           (c.in_ok-at.ensures.frees r));
       idle = λ low. e.idle;

@@ -1,16 +1,20 @@
-use Rattle.std.proofs.Common.{◌≡◌, List, Some, Option, Result, refl, sym, subst, ap, ◌∙◌}
+use Rattle.std.proofs.Common.{◌≡◌, ◌<◌, List, Some, Option, Result, refl, sym, subst, ap, ◌∙◌}
 use Rattle.std.specs.List.{Contains}
+use Rattle.std.proofs.lemmas.List.Elements.{All-contains}
 use Rattle.std.proofs.lemmas.Result.{err_from_is_err_and}
 use Rattle.group_history.specs.declared.refs.Ref.{Ref}
 use Rattle.group_history.specs.declared.refusals.Refusal.{Refusal}
 use Rattle.group_history.specs.Naming.{placed_ref}
-use Rattle.group_history.specs.Record.{after_change}
-use Rattle.group_history.specs.Refs.{stamp_of}
+use Rattle.group_history.specs.Record.{after, after_change}
+use Rattle.group_history.specs.Refs.{slot_of, stamp_of}
 use Rattle.group_history.specs.Spelling.{version_of, Spells}
 use Rattle.group_history.specs.State.{State}
-use Rattle.head_word.specs.Books.{drawn}
+use Rattle.group_history.proofs.Lists.{prefix_trans}
+use Rattle.head_word.specs.Books.{drawn, record_of}
 use Rattle.head_word.proofs.BookLaws.{spelled-stays}
+use Rattle.reader_claims.specs.declared.slot.Kind.{Kind}
 use Rattle.reader_claims.specs.declared.view.View.{View}
+use Rattle.reader_claims.specs.Seats.{ClaimsId, kind_end}
 use Rattle.reader_claims.proofs.Moving.{moves_moves}
 use Rattle.answered.specs.Trying.{Ends}
 use Rattle.answered.specs.declared.trying.Published.{Published}
@@ -28,37 +32,37 @@ use Rattle.group_steps.proofs.moving.move_head.Goals as goal
 
 pub exchange-requires-clause-among : goal.exchange-requires-clause-among
 exchange-requires-clause-among g c κs within =
-    let means = g.M.Means.means in let l = c.requires.leads in let p = c.args.proposal in
+    let means = g.M.Means.means in let m = c.requires.leads in let st = after (record_of m.log) in let p = c.args.proposal in
     let old = c.args.seat.now.mark.log in let mid = c.place_draft.new.seat.mark.log in
     let refs = c.in_ok-refs.refs.items in let new = c.place_of-new.result in
     let placed : new ≡ placed_ref p.draft.first refs p.at =
     c.place_of-new.ensures ∙ ap (λ n. placed_ref n c.deref.result.now p.at) c.first-from.ensures ∙ ap
     (λ rs. placed_ref p.draft.first rs p.at) c.deref.ensures.value in
-    let among = placed_among (drawn old) (drawn mid) p.draft refs c.in_ok-refs.ensures.placed l.2.contents l.2.first p.at
-    (version_of means (after_change l.0 c.args.change.now)) l.2.then l.2.new in
+    let among = placed_among (drawn old) (drawn mid) p.draft refs c.in_ok-refs.ensures.placed m.leads.contents m.leads.first p.at
+    (version_of means (after_change st c.args.change.now)) m.leads.then m.leads.new in
     subst (λ (ats : List Ref). Contains ats new) (sym c.deref-2.ensures.value) (subst (Contains refs) (sym placed) among)
 
 pub exchange-requires-clause-follows : goal.exchange-requires-clause-follows
 exchange-requires-clause-follows g c κs within =
-    let means = g.M.Means.means in let l = c.requires.leads in let p = c.args.proposal in
+    let means = g.M.Means.means in let m = c.requires.leads in let st = after (record_of m.log) in let p = c.args.proposal in
     let change = c.args.change.now in
     let old = c.args.seat.now.mark.log in let new = c.place_draft.new.seat.mark.log in let refs = c.in_ok-refs.refs.items in
     let placed : c.place_of-new.result ≡ placed_ref p.draft.first refs p.at =
     c.place_of-new.ensures ∙ ap (λ n. placed_ref n c.deref.result.now p.at) c.first-from.ensures ∙ ap
     (λ rs. placed_ref p.draft.first rs p.at) c.deref.ensures.value in
     let spelled = placed-spelled (drawn old)
-    (drawn new) p.draft refs c.in_ok-refs.ensures.placed l.2.contents l.2.drawn l.2.first p.at
-    (version_of means (after_change l.0 change)) l.2.then in
+    (drawn new) p.draft refs c.in_ok-refs.ensures.placed m.leads.contents m.leads.drawn m.leads.first p.at
+    (version_of means (after_change st change)) m.leads.then in
     record {
-      state = l.0;
-      before = spelled-stays old new c.place_draft.ensures.seat.later.seen (stamp_of c.args.proposal.base) (version_of means l.0) l.1;
-      accepted = l.2.accepted;
-      then = subst (λ (r : Ref). Spells means (drawn new) (stamp_of r) (after_change l.0 change)) (sym placed) spelled;
+      state = st;
+      before = spelled-stays old new c.place_draft.ensures.seat.later.seen (stamp_of c.args.proposal.base) (version_of means st) m.base;
+      accepted = m.leads.accepted;
+      then = subst (λ (r : Ref). Spells means (drawn new) (stamp_of r) (after_change st change)) (sym placed) spelled;
     }
 
 pub returns-in-Ok-Won-clause-won : goal.returns-in-Ok-Won-clause-won
 returns-in-Ok-Won-clause-won g c s is =
-    let means = g.M.Means.means in let l = c.requires.leads in let p = c.args.proposal in
+    let means = g.M.Means.means in let m = c.requires.leads in let st = after (record_of m.log) in let p = c.args.proposal in
     let change = c.args.change.now in
     let old = c.args.seat.now.mark in let mid = c.place_draft.new.seat.mark in let new = c.exchange.new.seat.mark in
     let refs = c.in_ok-refs.refs.items in
@@ -66,13 +70,13 @@ returns-in-Ok-Won-clause-won g c s is =
     c.place_of-new.ensures ∙ ap (λ n. placed_ref n c.deref.result.now p.at) c.first-from.ensures ∙ ap
     (λ rs. placed_ref p.draft.first rs p.at) c.deref.ensures.value in
     let spelled = placed-spelled (drawn old.log)
-    (drawn mid.log) p.draft refs c.in_ok-refs.ensures.placed l.2.contents l.2.drawn l.2.first p.at
-    (version_of means (after_change l.0 change)) l.2.then in
-    let there = subst (λ (r : Ref). Spells means (drawn mid.log) (stamp_of r) (after_change l.0 change))
+    (drawn mid.log) p.draft refs c.in_ok-refs.ensures.placed m.leads.contents m.leads.drawn m.leads.first p.at
+    (version_of means (after_change st change)) m.leads.then in
+    let there = subst (λ (r : Ref). Spells means (drawn mid.log) (stamp_of r) (after_change st change))
     (sym placed) spelled in
     let later = spelled-stays mid.log new.log c.exchange.ensures.seat.later.seen (stamp_of c.place_of-new.result)
-    (version_of means (after_change l.0 change)) there in
-    let same = one_state means (drawn old.log) (stamp_of c.args.proposal.base) l.0 s l.1 is in
+    (version_of means (after_change st change)) there in
+    let same = one_state means (drawn old.log) (stamp_of c.args.proposal.base) st s m.base is in
     let base = spelled-stays old.log mid.log c.place_draft.ensures.seat.later.seen (stamp_of c.args.proposal.base)
     (version_of means s) is in
     let ends = subst (Ends means mid new c.args.proposal.base change) c.in-Ok-Won.field-0-is c.in-Ok-Won.ensures.ends in
@@ -120,7 +124,7 @@ returns-clause-frees g c r =
 
 pub returns-in-Ok-Won-clause-frees : goal.returns-in-Ok-Won-clause-frees
 returns-in-Ok-Won-clause-frees g c r =
-    let means = g.M.Means.means in let l = c.requires.leads in let p = c.args.proposal in
+    let means = g.M.Means.means in let m = c.requires.leads in let st = after (record_of m.log) in let p = c.args.proposal in
     let slots = c.args.shared.now.table.sizes.slots in let change = c.args.change.now in let to = c.place_of-new.result in
     let old = c.args.seat.now in let mid = c.place_draft.new.seat in let new = c.exchange.new.seat in
     let refs = c.in_ok-refs.refs.items in
@@ -128,23 +132,35 @@ returns-in-Ok-Won-clause-frees g c r =
     c.place_of-new.ensures ∙ ap (λ n. placed_ref n c.deref.result.now p.at) c.first-from.ensures ∙ ap
     (λ rs. placed_ref p.draft.first rs p.at) c.deref.ensures.value in
     let spelled = placed-spelled (drawn old.mark.log)
-    (drawn mid.mark.log) p.draft refs c.in_ok-refs.ensures.placed l.2.contents l.2.drawn l.2.first p.at
-    (version_of means (after_change l.0 change)) l.2.then in
-    let there = subst (λ (at : Ref). Spells means (drawn mid.mark.log) (stamp_of at) (after_change l.0 change))
+    (drawn mid.mark.log) p.draft refs c.in_ok-refs.ensures.placed m.leads.contents m.leads.drawn m.leads.first p.at
+    (version_of means (after_change st change)) m.leads.then in
+    let there = subst (λ (at : Ref). Spells means (drawn mid.mark.log) (stamp_of at) (after_change st change))
     (sym placed) spelled in
     let base = spelled-stays old.mark.log mid.mark.log c.place_draft.ensures.seat.later.seen (stamp_of p.base)
-    (version_of means l.0) l.1 in
+    (version_of means st) m.base in
     let what = subst (RetiresWhatIsLeft slots (drawn mid.mark.log) p.base to change c.deref-2.result.now mid.view new.view)
     c.in-Ok-Won.field-0-is (c.in-Ok-Won.ensures.retired r) in
     let later = c.place_draft.ensures.seat.later in
+    let among = placed_among (drawn old.mark.log) (drawn mid.mark.log) p.draft refs c.in_ok-refs.ensures.placed
+    m.leads.contents m.leads.first p.at (version_of means (after_change st change)) m.leads.then m.leads.new in
+    let one = All-contains (λ at. slot_of at < kind_end c.args.shared.now.table.sizes p.kind) refs
+    (placed_ref p.draft.first refs p.at) (c.in_ok-refs.ensures.within r) among in
+    let here = subst (λ (at : Ref). slot_of at < kind_end c.args.shared.now.table.sizes p.kind) (sym placed) one in
+    let table = subst (λ (t : ClaimsId). slot_of to < kind_end t.sizes p.kind) (sym c.requires.reading.0.1) here in
+    let low = subst (λ (k : Kind). slot_of to < kind_end old.table.sizes k) m.leads.kind table in
     record {
       base = p.base;
       to = to;
       goes = move_since old.mark mid.mark new.mark p.base to change later.seen later.seat
           (c.in-Ok-Won.ensures.goes c.in-Ok-Won.field-0-is);
+      log = m.log;
+      seen = prefix_trans m.log old.mark.log new.mark.log m.seen
+          (prefix_trans old.mark.log mid.mark.log new.mark.log later.seen c.exchange.ensures.seat.later.seen);
+      stood = m.stood;
+      within = low;
       left = what.0;
-      are = are_left_grown (drawn mid.mark.log) (drawn new.mark.log) p.base to (version_of means l.0)
-          (version_of means (after_change l.0 change)) change what.0
+      are = are_left_grown (drawn mid.mark.log) (drawn new.mark.log) p.base to (version_of means st)
+          (version_of means (after_change st change)) change what.0
           (drawn_grown mid.mark.log new.mark.log c.exchange.ensures.seat.later.seen) base there what.1;
       made = mid.view;
       freed = new.view;

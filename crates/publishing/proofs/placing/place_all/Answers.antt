@@ -4,6 +4,7 @@ use Rattle.std.specs.Vec.Iter.{into_iter_items}
 use Rattle.head_word.specs.Books.{drawn}
 use Rattle.publishing.specs.Retiring.{SettlesAll}
 use Rattle.publishing.specs.Stamped.{AreFrom}
+use Rattle.publishing.proofs.Lying.{none_lie}
 use Rattle.publishing.proofs.Numbers.{from_more, turn_drawn}
 use Rattle.publishing.proofs.Stepping.{no_step, steps_steps}
 use Rattle.publishing.proofs.placing.place_all.Goals as goal
@@ -18,6 +19,7 @@ loop-node-init g c =
       whole = search rules;
       home = c.requires.home;
       taken = c.requires.taken;
+      within = λ r end below. (below, none_lie end c.args.refs.now.items none);
       placed = ap length none;
       left = omega (arith, c.requires.slots);
       stamps = subst (AreFrom c.args.to.now.first) (sym none) tt;
@@ -56,6 +58,7 @@ loop-node-preserved g c =
       whole = whole ∙ sym (append_assoc c.loop-node.yielded (node ∷ []) rest);
       home = done.home;
       taken = done.taken;
+      within = λ r end below. let had = is.within r end below in done.within r end had.0 had.1;
       placed = omega (arith, ap length ok.placed.1, length-append refs (at ∷ []), is.placed, one);
       left = omega (arith, done.less, is.left, one);
       stamps = subst (AreFrom c.args.to.now.first) (sym ok.placed.1) (from_more c.args.to.now.first refs at is.stamps ok.placed.2);

@@ -1,8 +1,9 @@
-use Rattle.std.proofs.Common.{◌≡◌, ◌+◌, ◌++◌, length}
+use Rattle.std.proofs.Common.{ℕ, ◌≡◌, ◌+◌, ◌++◌, length}
 use Rattle.std.specs.Vec.Iter.{into_iter_items}
 use Rattle.publishing.specs.Retiring.{SettlesAll}
 use Rattle.publishing.specs.Stamped.{AreFrom}
-use Rattle.publishing.specs.Inside.Stacks.{HasTaken}
+use Rattle.publishing.specs.Placed.{LieBelow}
+use Rattle.publishing.specs.Inside.Stacks.{AreBelow, HasTaken}
 use Rattle.publishing.specs.Inside.Steps.{Steps}
 use Rattle.publishing.proofs.placing.place_all.Given as goal
 
@@ -15,6 +16,7 @@ invariant-loop-node g l =
       whole : l.fn.nodes.items ≡ l.yielded ++ into_iter_items l.node-iterator;
       home : S.home l.seat ≡ S.serves l.to.store.now;
       taken : S.reused → HasTaken (S.view l.seat) l.slots.items;
+      within : S.reused → (end : ℕ) → AreBelow end l.fn.slots.items → AreBelow end l.slots.items × LieBelow end l.refs.items;
       placed : length l.refs.items ≡ length l.yielded;
       left : length l.slots.items + length l.yielded ≡ length l.fn.nodes.items;
       stamps : AreFrom l.to.first l.refs.items;

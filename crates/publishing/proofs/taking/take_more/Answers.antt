@@ -13,6 +13,7 @@ pub loop-held-init : goal.loop-held-init
 loop-held-init g c = record {
   home = c.requires.home;
   taken = c.requires.taken;
+  within = λ r all. all;
   more = omega arith;
   settled = λ r. (refl, refl);
   steps = λ r. no_step (g.S.Slots.view c.args.seat.now);
@@ -28,6 +29,7 @@ loop-held-preserved g c =
     record {
       home = done.home;
       taken = done.taken;
+      within = λ r all. done.within r (is.within r all);
       more = omega (arith, is.more, c.in_ok-take_next.ensures.more);
       settled = λ r. settles_none first v u (is.settled r) (done.settled r);
       steps = λ r. steps_steps first v u (is.steps r) (done.steps r);

@@ -1,6 +1,7 @@
 use Rattle.std.proofs.Common.{◌≡◌, ◌+◌, length}
 use Rattle.publishing.specs.Retiring.{SettlesNone}
-use Rattle.publishing.specs.Inside.Stacks.{HasTaken}
+use Rattle.reader_claims.specs.Seats.{kind_end}
+use Rattle.publishing.specs.Inside.Stacks.{AreBelow, HasTaken}
 use Rattle.publishing.specs.Inside.Steps.{Steps}
 use Rattle.publishing.proofs.taking.take_more.Given as goal
 
@@ -10,6 +11,8 @@ invariant-loop-held g l =
     record {
       home : S.home l.seat ≡ S.serves l.store;
       taken : S.reused → HasTaken (S.view l.seat) l.slots.items;
+      within : S.reused → AreBelow (kind_end (S.serves l.store).sizes l.kind) l.fn.slots.items
+          → AreBelow (kind_end (S.serves l.store).sizes l.kind) l.slots.items;
       more : length l.slots.items ≡ length l.fn.slots.items + l.held;
       settled : S.reused → SettlesNone (S.view l.fn.seat) (S.view l.seat);
       steps : S.reused → Steps (S.view l.fn.seat) (S.view l.seat);

@@ -1,7 +1,8 @@
 use Rattle.std.proofs.Common.{arith, Some, option_and_then, ap, ◌∙◌}
 use Rattle.std.proofs.lemmas.Int.{to_z-of_z}
 use mir.Syntax.{w64}
-use Rattle.script_mutators.specs.Mutators.{number_of, value_of}
+use Rattle.group_history.specs.Meaning.{value_of}
+use Rattle.script_mutators.specs.Mutators.{number_of}
 use Rattle.script_mutators.proofs.PlainTexts.{number_at-plain}
 use Rattle.script_mutators.proofs.values.number_in.Goals as goal
 

@@ -1,6 +1,6 @@
 use Rattle.std.proofs.Common.{Some, option_and_then, sym, ap, ◌∙◌}
 use Rattle.serde_json.specs.Find.{as_str}
-use Rattle.script_mutators.specs.Mutators.{value_of}
+use Rattle.group_history.specs.Meaning.{value_of}
 use Rattle.script_mutators.proofs.PlainTexts.{value_of-plain_text}
 use Rattle.script_mutators.proofs.values.text_in.Goals as goal
 

@@ -1,8 +1,9 @@
 use Rattle.std.proofs.Common.{rules, refl, arith, ap, sym, ◌∙◌}
 use Rattle.reader_claims.specs.declared.words.SlotState.TheVariants.{Retired}
 use Rattle.reader_claims.specs.Words.{slot_at, slot_word}
-use Rattle.reader_claims.specs.Views.{with_given, with_note}
+use Rattle.reader_claims.specs.Views.{IsOpen, with_given, with_note}
 use Rattle.reader_claims.proofs.Reaching.{gives_at}
+use Rattle.reader_claims.proofs.Opens.{still_open}
 use Rattle.reader_claims.proofs.Readers.{Stays, stays, either_way, went, left_move}
 use Rattle.reader_claims.proofs.steps.Words.give.Goals as goal
 
@@ -21,7 +22,14 @@ invariant_of-reader c = let was = c.args.reader.now in
     c.compare_exchange.new.seat.me was.number)
     (λ e. stays _ _ _ _ _ _ c.compare_exchange.ensures.0 (did.0 e).0 refl refl was.low was.own was.bare)
     (λ ne. stays _ _ _ _ _ _ c.compare_exchange.ensures.0 (did.1 ne).0 refl refl was.low was.own was.bare) in
-    record { own = t.own; bare = t.bare; low = t.low }
+    record {
+      own = t.own;
+      bare = t.bare;
+      low = t.low;
+      opens = λ r low high. either_way c.compare_exchange.result c.word-retired.result ∥ IsOpen c.compare_exchange.new.seat.me.0 r ∥₁
+          (λ e. still_open was.seat.me c.compare_exchange.new.seat.me _ was.bound (did.0 e).0 refl refl (λ j x h. h) was.opens r low high)
+          (λ ne. still_open was.seat.me c.compare_exchange.new.seat.me _ was.bound (did.1 ne).0 refl refl (λ j x h. h) was.opens r low high);
+    }
 
 pub returns-clause-table : goal.returns-clause-table
 returns-clause-table c = let was = c.args.reader.now in

@@ -1,7 +1,8 @@
-use Rattle.std.proofs.Common.{rules, refl, arith, ap}
+use Rattle.std.proofs.Common.{rules, refl, arith, ap, suc}
 use Rattle.reader_claims.specs.Words.{pin_at}
 use Rattle.reader_claims.specs.Views.{with_read}
 use Rattle.reader_claims.proofs.Reaching.{reads_at}
+use Rattle.reader_claims.proofs.Opens.{still_open}
 use Rattle.reader_claims.proofs.Readers.{stays, went}
 use Rattle.reader_claims.proofs.steps.Words.load_pin.Goals as goal
 
@@ -15,7 +16,12 @@ load-requires c = (
 pub invariant_of-reader : goal.invariant_of-reader
 invariant_of-reader c = let was = c.args.reader.now in let did = c.load.ensures.2 c.args.other c.place.ensures in
     let t = stays was.seat.table_id _ was.seat.me c.load.new.seat.me was.number _ c.load.ensures.0 did.0 refl refl
-    was.low was.own was.bare in record { own = t.own; bare = t.bare; low = t.low }
+    was.low was.own was.bare in record {
+      own = t.own;
+      bare = t.bare;
+      low = t.low;
+      opens = still_open was.seat.me c.load.new.seat.me _ was.bound did.0 refl refl (λ j x h. (suc h.0, h.1)) was.opens;
+    }
 
 pub returns-clause-table : goal.returns-clause-table
 returns-clause-table c = let was = c.args.reader.now in let did = c.load.ensures.2 c.args.other c.place.ensures in

@@ -54,3 +54,14 @@ pub returns-clause-moves : goal.returns-clause-moves
 returns-clause-moves c = let v : View = view c.args.reader.now in let u : View = view c.load_epoch-least.new.reader in
     let t : View = view c.loop-other.reader in
     moves_moves v u t (one_move v u _ _ _ c.load_epoch-least.ensures.step) c.loop-other.invariant.moves
+
+pub invariant_of-reader : goal.invariant_of-reader
+invariant_of-reader c = record {
+  own = c.loop-other.reader.own;
+  bare = c.loop-other.reader.bare;
+  low = c.loop-other.reader.low;
+  opens = λ r low high. let v : View = view c.loop-other.reader in
+      let last : c.loop-other.other ≡ c.args.self.now.sizes.readers = omega arith in
+      ∣ subst (λ n. (r : ℕ) → r ≤ c.loop-other.least → OpenTo n v r)
+      (last ∙ sym (ap (λ (z : Sizes). z.readers) c.loop-other.invariant.sizes)) c.loop-other.invariant.open_at r high ∣₁;
+}

@@ -5,9 +5,6 @@ use Rattle.reader_claims.specs.Machine as machine
 use Rattle.reader_claims.proofs.Moving.{one_move}
 use Rattle.reader_claims.proofs.steps.Words.quick_at.Goals as goal
 
-pub returns-in-Retired-clause-later : goal.returns-in-Retired-clause-later
-returns-in-Retired-clause-later c = later_self _
-
 pub returns-in-Taken-clause-later : goal.returns-in-Taken-clause-later
 returns-in-Taken-clause-later c = later_self _
 
@@ -18,9 +15,6 @@ returns-else-take-eq-FREE-clause-later c = let v : View = view c.args.reader.now
 pub returns-then-take-eq-FREE-clause-later : goal.returns-then-take-eq-FREE-clause-later
 returns-then-take-eq-FREE-clause-later c = let v : View = view c.args.reader.now in
     let u : View = view c.take.new.reader in later_tried c.take.result _ v u c.take.ensures.won c.take.ensures.lost
-
-pub returns-in-Retired-clause-moves : goal.returns-in-Retired-clause-moves
-returns-in-Retired-clause-moves c = machine.still _
 
 pub returns-in-Taken-clause-moves : goal.returns-in-Taken-clause-moves
 returns-in-Taken-clause-moves c = machine.still _

@@ -18,7 +18,12 @@ invariant_of-reader c = let was = c.args.reader.now in let did = c.compare_excha
     let t = stays was.seat.table_id _ was.seat.me c.compare_exchange.new.seat.me was.number _
     c.compare_exchange.ensures.0 did.0 refl refl
     (omega (arith, c.compare_exchange.ensures.2.3, c.compare_exchange.ensures.2.2)) was.own was.bare in
-    record { own = t.own; bare = t.bare; low = t.low }
+    record {
+      own = t.own;
+      bare = t.bare;
+      low = t.low;
+      opens = λ r low high. absurd (omega arith);
+    }
 
 pub returns-clause-table : goal.returns-clause-table
 returns-clause-table c = let was = c.args.reader.now in let did = c.compare_exchange.ensures.2.1 in

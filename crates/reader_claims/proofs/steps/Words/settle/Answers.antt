@@ -4,6 +4,7 @@ use Rattle.reader_claims.specs.Views.{with_settled}
 use Rattle.reader_claims.specs.Machine.{Move}
 use Rattle.reader_claims.specs.declared.words.SlotState.TheVariants.{Taken}
 use Rattle.reader_claims.proofs.Reaching.{settles_at}
+use Rattle.reader_claims.proofs.Opens.{still_open}
 use Rattle.reader_claims.proofs.Readers.{stays, went}
 use Rattle.reader_claims.proofs.steps.Words.settle.Goals as goal
 
@@ -20,7 +21,12 @@ invariant_of-reader c = let was = c.args.reader.now in
     let did = c.compare_exchange.ensures.2.3 c.args.slot c.place.ensures in
     let t = stays was.seat.table_id _ was.seat.me c.compare_exchange.new.seat.me was.number _
     c.compare_exchange.ensures.0 did.0 refl refl was.low was.own was.bare in
-    record { own = t.own; bare = t.bare; low = t.low }
+    record {
+      own = t.own;
+      bare = t.bare;
+      low = t.low;
+      opens = still_open was.seat.me c.compare_exchange.new.seat.me _ was.bound did.0 refl refl (λ j x h. h) was.opens;
+    }
 
 pub returns-clause-table : goal.returns-clause-table
 returns-clause-table c = let was = c.args.reader.now in

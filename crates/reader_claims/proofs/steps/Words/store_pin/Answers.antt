@@ -4,6 +4,7 @@ use Rattle.reader_claims.specs.Views.{with_pin}
 use Rattle.reader_claims.specs.Machine.{Move}
 use Rattle.reader_claims.specs.declared.words.Pin.TheVariants.{Stored}
 use Rattle.reader_claims.proofs.Reaching.{stores_as}
+use Rattle.reader_claims.proofs.Opens.{still_open}
 use Rattle.reader_claims.proofs.Readers.{stays, went}
 use Rattle.reader_claims.proofs.steps.Words.store_pin.Goals as goal
 
@@ -17,7 +18,12 @@ store-requires c = (
 pub invariant_of-reader : goal.invariant_of-reader
 invariant_of-reader c = let was = c.args.reader.now in let did = c.store.ensures.2 c.args.epoch c.word.ensures in
     let t = stays was.seat.table_id _ was.seat.me c.store.new.seat.me was.number _ c.store.ensures.0 did.1.0 refl refl
-    was.low was.own was.bare in record { own = t.own; bare = t.bare; low = t.low }
+    was.low was.own was.bare in record {
+      own = t.own;
+      bare = t.bare;
+      low = t.low;
+      opens = still_open was.seat.me c.store.new.seat.me _ was.bound did.1.0 refl refl (λ j x h. h) was.opens;
+    }
 
 pub returns-clause-table : goal.returns-clause-table
 returns-clause-table c = let was = c.args.reader.now in let did = c.store.ensures.2 c.args.epoch c.word.ensures in

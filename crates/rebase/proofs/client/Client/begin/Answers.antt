@@ -1,4 +1,4 @@
-use Rattle.std.proofs.Common.{sym, ◌∙◌}
+use Rattle.std.proofs.Common.{rules, sym, ◌∙◌}
 use Rattle.rebase.proofs.Keeping.{keeps_later, where_ok}
 use Rattle.rebase.proofs.client.Client.begin.Goals as goal
 
@@ -9,3 +9,9 @@ invariant_of-self g c =
           (λ r. (e.looked.calm r).0 ∙ c.self.invariant.0.none r) c.self.invariant.0,
       λ r is. where_ok c.pin_and_load-at.result (sym c.is_ok-self-inside.ensures.value ∙ is) (e.held r),
     )
+
+pub returns-clause-reads : goal.returns-clause-reads
+returns-clause-reads g c = search rules
+
+pub returns-clause-moves : goal.returns-clause-moves
+returns-clause-moves g c = search rules

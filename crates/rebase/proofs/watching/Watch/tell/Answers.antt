@@ -1,5 +1,6 @@
 use Rattle.std.proofs.Common.{Option, sym, ap, ◌∙◌}
-use Rattle.rebase.specs.Watching.{Rows, Watched}
+use Rattle.group_history.specs.Rows.{Rows}
+use Rattle.rebase.specs.Watching.{Watched}
 use Rattle.rebase.proofs.Polling.{was_told-is}
 use Rattle.rebase.proofs.watching.Watch.tell.Goals as goal
 

@@ -6,7 +6,7 @@ use Rattle.script_runner.specs.Callers.{Watches}
 use Rattle.script_runner.proofs.shared.SharedClient.new.Goals as goal
 
 pub invariant_of-result : goal.invariant_of-result
-invariant_of-result c = record {
+invariant_of-result g c = record {
   of_group = λ name watch at. absurd (cc (sym (finite.get-empty (slice_cmp nat_cmp) name) ∙ ap
       (λ (m : Watches). finite.get m name) (sym c.new.ensures) ∙ at));
 }

@@ -1,0 +1,5 @@
+mod Answering
+mod Escapes
+mod Parts
+mod PickedRules
+mod Turns

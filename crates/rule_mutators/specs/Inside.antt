@@ -1,0 +1,2 @@
+-- Words that only private clauses of this crate use.
+pub mod Parts

@@ -1,0 +1,84 @@
+//! What can be wrong with rules, and where.
+use group_history::Text;
+use std::alloc::{AllocError, AllocFailed};
+use std::fmt;
+use thiserror::Error;
+
+/// What is wrong at a place.
+#[derive(Clone, Copy, Debug, PartialEq, Eq, Error)]
+pub enum Wrong {
+    NoSteps,
+    NoStep,
+    NoWord,
+    UnknownWord,
+    Parts,
+    NoArgument,
+    NoName,
+    NoCode,
+    NotWhole,
+}
+
+impl Wrong {
+    ghost use Rattle.std.specs.Prelude.{◌≡◌};
+    ghost use Rattle.rule_mutators.specs.Faults.{wrong_text};
+
+    /// How it is told.
+    pub fn text(self) -> &'static str
+        ensures { result.now ≡ wrong_text self }
+    {
+        match self {
+            Wrong::NoSteps => "no list of steps",
+            Wrong::NoStep => "no step: an array that begins with a word",
+            Wrong::NoWord => "no word",
+            Wrong::UnknownWord => "unknown word",
+            Wrong::Parts => "wrong number of parts",
+            Wrong::NoArgument => "no argument: neither a place nor a name",
+            Wrong::NoName => "no name: not a text",
+            Wrong::NoCode => "no code: not a number below 2^32",
+            Wrong::NotWhole => "a number is not whole, or does not fit 64 bits",
+        }
+    }
+}
+
+impl fmt::Display for Wrong {
+    fn fmt<W: fmt::Write>(&self, f: &mut fmt::Formatter<W>) -> fmt::Result {
+        f.write_str(self.text())
+    }
+}
+
+/// Why a text was not read as rules.
+#[derive(Debug, Drop, PartialEq, Eq, Error)]
+pub enum RuleFault {
+    #[error("memory was refused: free some and read again")]
+    NoMemory,
+    /// RFC 8259; it may nest at most 127 deep.
+    #[error("no JSON text, or one that nests too deep")]
+    NotJson,
+    #[error("no JSON object")]
+    NotObject,
+    /// The place is a JSON Pointer (RFC 6901) into the text's value, as `/add/0/2`.
+    #[error("{0}: {1}")]
+    At(Text, Wrong),
+}
+
+impl From<AllocError> for RuleFault {
+    ghost use Rattle.std.specs.Prelude.{◌≡◌};
+    ghost use Rattle.rule_mutators.specs.declared.faults.RuleFault.TheVariants.{NoMemory};
+
+    ghost from_gives = { λ _ e. e ≡ NoMemory };
+
+    fn from(_refused: AllocError) -> RuleFault {
+        RuleFault::NoMemory
+    }
+}
+
+impl<T: Drop> From<AllocFailed<T>> for RuleFault {
+    ghost use Rattle.std.specs.Prelude.{◌≡◌};
+    ghost use Rattle.rule_mutators.specs.declared.faults.RuleFault.TheVariants.{NoMemory};
+
+    ghost from_gives = { λ _ e. e ≡ NoMemory };
+
+    fn from(_refused: AllocFailed<T>) -> RuleFault {
+        RuleFault::NoMemory
+    }
+}

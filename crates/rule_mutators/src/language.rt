@@ -1,0 +1,78 @@
+//! The language of rules: what was read, as a tree.
+//!
+//! A rule is a list of steps, done in order. Its expressions have values at the arguments and at the map as it is then.
+//! `specs/Rules.antt` has the same language without the memory that it lies in, and `specs/Views.antt` says which rule
+//! a tree is.
+use group_history::Text;
+use serde_json::Value;
+
+/// A word before one expression.
+#[derive(Clone, Copy)]
+pub(crate) enum One {
+    Get,
+    Has,
+    Not,
+}
+
+/// A word before two expressions that both have values.
+#[derive(Clone, Copy)]
+pub(crate) enum Two {
+    Same,
+    Add,
+    Sub,
+    Below,
+    And,
+}
+
+/// Which of the arguments.
+#[derive(Drop)]
+pub(crate) enum Which {
+    At(u64),
+    Named(Text),
+}
+
+#[derive(Drop)]
+pub(crate) enum Expr {
+    Literal(Value),
+    Argument(Which),
+    One(One, Box<Expr>),
+    Field(Box<Expr>, Text),
+    Or(Box<(Expr, Expr)>),
+    Two(Two, Box<(Expr, Expr)>),
+    Cat(Vec<Expr>),
+    Object(Vec<(Text, Expr)>),
+}
+
+#[derive(Drop)]
+pub(crate) enum Step {
+    Put(Expr, Expr),
+    Del(Expr),
+    Merge(Expr, Expr),
+    /// Refuses with the code where the expression is false.
+    Need(Expr, u32),
+    If(Expr, Vec<Step>, Vec<Step>),
+}
+
+/// Rules by name, as they were read.
+#[derive(Drop)]
+pub struct Rules {
+    pub(crate) rules: Vec<(Text, Vec<Step>)>,
+}
+
+impl Rules {
+    ghost use Rattle.std.specs.Prelude.{◌≡◌, option_map};
+    ghost use Rattle.rule_mutators.specs.Meaning.{steps_named};
+    ghost use Rattle.rule_mutators.specs.Views.{all_steps, rules_of};
+
+    /// The steps of the rule of this name.
+    pub(crate) fn steps_of(&self, name: &str) -> Option<&Vec<Step>>
+        ensures { option_map (λ steps. all_steps steps.now.items) result ≡ steps_named name.now (rules_of self.now) }
+    {
+        for rule in &self.rules {
+            if name == rule.0.as_str() {
+                return Some(&rule.1);
+            }
+        }
+        None
+    }
+}

@@ -1,0 +1,88 @@
+//! Rules as the mutators of an application.
+//!
+//! A meaning belongs to a type, and rules are values: so the rules that a `RuleMutators` holds are named by its type
+//! parameter. Who opens a group picks them, at the call that is given the rules.
+ghost use Rattle.std.specs.Prelude.{◌≡◌, [], IfOk, IfErr};
+ghost use Rattle.group_history.specs.Ran.{RunsAs};
+ghost use Rattle.group_history.specs.Stops.{MayStop};
+ghost use Rattle.rule_mutators.specs.Meaning.{rules_mean};
+ghost use Rattle.rule_mutators.specs.Rules as rule;
+ghost use Rattle.rule_mutators.specs.Views.{rules_of};
+
+use crate::evaluating::Call;
+use crate::language::Rules;
+use crate::running::run_steps;
+use group_history::{Json, Means, Mutators, Ran, Reason, Stop, WriteView};
+use script_mutators::ScriptMutators;
+use std::alloc::Global;
+use std::marker::{Brand, PhantomData};
+
+/// Names rules.
+pub trait Picked {
+    ghost rules: { rule.Rules };
+}
+
+impl Picked for Brand {
+    ghost rules = { [] };
+}
+
+/// The rules that `B` names, and the mutators of scripts where no rule has the name.
+#[derive(Drop)]
+pub struct RuleMutators<B: Picked> {
+    rules: Rules,
+    of: PhantomData<B>,
+    ghost named: { ∥ rules_of rules ≡ B.rules ∥₁ },
+}
+
+impl<B: Picked> RuleMutators<B> {
+    /// Mutators that run the rules, which are those that `B` names.
+    pub fn new(rules: Rules) -> RuleMutators<B>
+        requires { rules_of rules ≡ B.rules }
+    {
+        RuleMutators {
+            rules,
+            of: PhantomData,
+        }
+    }
+}
+
+impl<B: Picked> Means for RuleMutators<B> {
+    ghost means = { rules_mean B.rules };
+}
+
+impl Rules {
+    /// Runs the rule of this name; without one, the mutator of scripts.
+    #[tactic(auto, unfolding(crate::specs::Meaning::rules_mean))]
+    fn run<V: WriteView>(
+        &self,
+        alloc: Global,
+        name: &str,
+        args: &Json,
+        why: Reason,
+        view: &mut V,
+    ) -> Result<Ran, Stop>
+        ensures ran { IfOk result (λ ran. RunsAs
+            (rules_mean (rules_of self.now) name.now args.now why (V.contents view.old)) ran (V.contents view.new)) }
+        ensures stopped { IfErr result (MayStop V.stops) }
+    {
+        let Some(steps) = self.steps_of(name) else {
+            return ScriptMutators.run(alloc, name, args, why, view);
+        };
+        let args = args.value(alloc)?;
+        let call = Call { alloc, args: &args };
+        run_steps(call, view, steps)
+    }
+}
+
+impl<B: Picked + Sync> Mutators for RuleMutators<B> {
+    fn run<V: WriteView>(
+        &self,
+        alloc: Global,
+        name: &str,
+        args: &Json,
+        why: Reason,
+        view: &mut V,
+    ) -> Result<Ran, Stop> {
+        self.rules.run(alloc, name, args, why, view)
+    }
+}

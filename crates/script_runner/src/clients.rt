@@ -1,0 +1,113 @@
+//! The clients of a script whose lines are done one by one.
+//!
+//! `Clients` is a group of its own, its clients, and what each of them had seen when the phase began. All are of that
+//! group, which the type's invariant says: so each can learn what any other had seen.
+ghost use Rattle.std.specs.Prelude.{◌≡◌, IfOk};
+ghost use Rattle.std.specs.Coded.{Coded-set, codes, Π_prop, →_prop};
+ghost use Rattle.std.specs.List.{All};
+ghost use Rattle.script_runner.specs.Phases.{all_sights};
+ghost use Rattle.script_runner.specs.Inside.Players.{players_of, standing_of};
+
+use crate::phase::Turn;
+use crate::reply::print_line;
+use crate::runner::{open_clients, open_group};
+use crate::shared::SharedClient;
+use chunk_slots::Arena;
+use group_history::Mutators;
+use head_word::Mark;
+use rebase::Group;
+use script_parser::{Header, Line};
+use std::alloc::{AllocError, Global};
+use std::sync::Wait;
+
+/// What each client has seen.
+fn marks_of<M: Mutators + Drop>(
+    alloc: Global,
+    turns: &[Turn<SharedClient<M>>],
+) -> Result<Vec<Mark<M>>, AllocError>
+    ensures { IfOk result (λ sights. sights.items ≡ all_sights (players_of standing_of turns.now)) }
+{
+    let mut sights = Vec::with_capacity(alloc, turns.len())?;
+    for turn in turns {
+        sights.push(turn.client.caller.seen())?;
+    }
+    Ok(sights)
+}
+
+/// The clients of a script, in a group of their own.
+#[derive(Drop)]
+pub struct Clients<M: Mutators + Drop> {
+    alloc: Global,
+    group: Group<M, Arena<M>>,
+    turns: Vec<Turn<SharedClient<M>>>,
+    sights: Vec<Mark<M>>,
+    ghost of_group: { All (λ t. (standing_of t.client.caller).mark.book ≡ group.group.book) turns.items } by { Π_prop
+        (λ k. Π_prop (λ d. →_prop (Prim.hlevel (codes, Coded-set)))) },
+    ghost seen_there: { All (λ s. s.book ≡ group.group.book) sights.items } by { Π_prop
+        (λ k. Π_prop (λ d. →_prop (Prim.hlevel (codes, Coded-set)))) },
+}
+
+impl<M: Mutators + Drop> Clients<M> {
+    ghost use Rattle.std.specs.Prelude.{◌<◌, ◌++◌, OnErr, OnOk, length, map};
+    ghost use Rattle.group_history.specs.Map.{Bytes};
+    ghost use Rattle.script_parser.specs.Kept.{IsInRange};
+    ghost use Rattle.script_parser.specs.Scripts.{client_said, line_said};
+    ghost use Rattle.script_runner.specs.Answering.{IsToldAt, players_in, sights_in};
+    ghost use Rattle.script_runner.specs.Callers.{shared_rules};
+    ghost use Rattle.script_runner.specs.Runs.{AreNew, header_identity};
+
+    /// Opens a group for the lines before the first phase, and a client for each `client` line, in their order. The first
+    /// phase begins. The mutators are those of the group.
+    pub fn open(alloc: Global, header: &Header, mutators: M) -> Result<Clients<M>, AllocError>
+        requires { IsInRange header.now }
+        ensures new { IfOk result (λ clients. AreNew M.means (header_identity header.now)
+            (map client_said header.now.clients.items) (players_in clients)) }
+        ensures seen { IfOk result (λ clients. sights_in clients ≡ all_sights (players_in clients)) }
+    {
+        let Ok((group, seats)) = open_group(alloc, header, mutators) else {
+            return Err(AllocError);
+        };
+        let turns = open_clients(alloc, &header.clients, &group, seats)?;
+        let sights = marks_of(alloc, &turns)?;
+        Ok(Clients {
+            alloc,
+            group,
+            turns,
+            sights,
+        })
+    }
+
+    /// Begins a phase: what the clients have seen until now is what others can learn in it.
+    pub fn begin_phase(&mut self) -> Result<(), AllocError>
+        ensures same { players_in self.new ≡ players_in self.old }
+        ensures seen { OnOk result (sights_in self.new ≡ all_sights (players_in self.new)) }
+        ensures left { OnErr result (sights_in self.new ≡ sights_in self.old) }
+    {
+        self.sights = marks_of(self.alloc, &self.turns)?;
+        Ok(())
+    }
+
+    /// Does the command of a line by the client at a place, and appends its line of output. A refusal of the call is
+    /// a reply like any other. A change may wait for others. Where memory is refused for the line of output, the call was
+    /// made.
+    pub fn tell<R: Wait>(
+        &mut self,
+        rt: &R,
+        place: usize,
+        line: &Line,
+        text: &mut Vec<u8>,
+    ) -> Result<(), AllocError>
+        requires { place < length (players_in self.old) }
+        ensures told { OnOk result ((told : Bytes) × (text.new.items ≡ text.old.items ++ told)
+            × IsToldAt (shared_rules M.means) (sights_in self.old) place (line_said line.now) (players_in self.old) told
+            (players_in self.new)) }
+        ensures seen { sights_in self.new ≡ sights_in self.old }
+        ensures count { length (players_in self.new) ≡ length (players_in self.old) }
+    {
+        let client = &mut self.turns[place].client;
+        let reply = client.answer(rt, &self.sights, &line.command);
+        let told = print_line(text, line.number, client.name.as_str(), &reply);
+        drop(reply);
+        told
+    }
+}
