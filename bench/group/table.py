@@ -1,23 +1,28 @@
 """Prints the best of each job, the ratios and the goals, as a table."""
 import sys
 
+# `spins` has a figure for the pauses alone.
+BASELINES = ['locked', 'persistent', 'concread', 'spins']
+
 # What a job is to take: (job, keys, pending), the baseline and the most that the ratio to it may be. Where more is
 # better, a job's last unit is 'a second', and the ratio is the least.
 GOALS = [
-    (('get', '100000', '0'), 'locked', 1.3),
-    (('get', '100000', '0'), 'persistent', 0.9),
-    (('mutate', '100000', '0'), 'locked', 2.5),
-    (('mutate', '100000', '0'), 'persistent', 0.25),
-    (('mutate', '100000', '1000'), ('mutate', '100000', '0'), 1.1),
-    (('pull', '10000', '0'), 'persistent', 0.45),
-    (('pull', '100000', '0'), 'locked', 0.15),
-    (('rebase', '100000', '1000'), 'persistent', 2.5),
-    (('scan', '100000', '0'), 'locked', 1.1),
-    (('push', '100000', '1000'), 'locked', 1.0),
+    (('get', '100000', '0'), 'locked', 1.25),
+    (('get', '100000', '0'), 'persistent', 0.85),
+    (('mutate', '100000', '0'), 'locked', 2.2),
+    (('mutate', '100000', '0'), 'persistent', 0.45),
+    (('mutate', '100000', '0'), 'concread', 1.1),
+    (('mutate', '100000', '1000'), ('mutate', '100000', '0'), 1.05),
+    (('mutate_seats', '100000', '256'), ('mutate', '100000', '0'), 1.05),
+    (('pull', '10000', '0'), 'persistent', 0.42),
+    (('pull', '100000', '0'), 'locked', 0.17),
+    (('rebase', '100000', '1000'), 'persistent', 1.6),
+    (('scan', '100000', '0'), 'locked', 0.95),
+    (('push', '100000', '1000'), 'locked', 0.8),
     (('read', '10000', '0'), 'locked', 0.3),
-    (('readers_gets', '100000', '200'), 'persistent', 1.3),
-    (('readers_mutations', '100000', '200'), 'persistent', 1.5),
-    (('readers_pause_999', '100000', '200'), 'locked', 0.3),
+    (('readers_gets', '100000', '200'), 'concread', 1.0),
+    (('readers_mutations', '100000', '200'), 'concread', 1.2),
+    (('readers_pause_999', '100000', '200'), 'spins', 1.5),
 ]
 
 
@@ -57,16 +62,18 @@ def told(best, unit, at, other, goal):
     name = f'{other[0]} {other[2]}' if isinstance(other, tuple) else other
     met = value is not None and (value >= goal if unit == 'a second' else value <= goal)
     return f'{goal} x {name}: {"met" if met else "short"}' + (
-        f' ({value:.2f})' if isinstance(other, tuple) and value else '')
+        f' ({value:.2f})' if value and (isinstance(other, tuple) or other == 'spins') else '')
 
 
 def main():
     best, units = read(sys.stdin)
-    print('| Job | Keys | Pending | locked | persistent | group | to locked | to persistent | Goals |')
-    print('|---|---|---|---|---|---|---|---|---|')
+    to = [name for name in BASELINES if name != 'spins']
+    heads = ['Job', 'Keys', 'Pending', *BASELINES, 'group', *(f'to {name}' for name in to), 'Goals']
+    print('| ' + ' | '.join(heads) + ' |')
+    print('|---' * len(heads) + '|')
     for at, unit in units.items():
-        values = [best.get((at, variant)) for variant in ('locked', 'persistent', 'group')]
-        ratios = [ratio(best, at, other) for other in ('locked', 'persistent')]
+        values = [best.get((at, variant)) for variant in (*BASELINES, 'group')]
+        ratios = [ratio(best, at, other) for other in to]
         goals = [told(best, unit, at, other, goal) for where, other, goal in GOALS if where == at]
         cells = [at[0], f'{int(at[1]):,}', f'{int(at[2]):,}'] + [shown(value, unit) for value in values]
         cells += ['-' if value is None else f'{value:.2f}' for value in ratios] + ['; '.join(goals)]

@@ -48,18 +48,18 @@ IsAnswered means old new change right = (log : List Entry) × IsPoint means old 
     × right (after (record_of log))
 
 -- a refusal for want of something: of memory, of a try more, of a slot or of a stamp
-abbrev pub is_want : Refusal → Bool
-is_want refusal.NoMemory = true
-is_want refusal.Moved = true
-is_want refusal.Busy = true
-is_want refusal.Gone = true
-is_want refusal.Full = true
-is_want refusal.Stamps = true
-is_want e = false
+abbrev pub is_resource_refusal : Refusal → Bool
+is_resource_refusal refusal.NoMemory = true
+is_resource_refusal refusal.Moved = true
+is_resource_refusal refusal.Busy = true
+is_resource_refusal refusal.Gone = true
+is_resource_refusal refusal.Full = true
+is_resource_refusal refusal.Stamps = true
+is_resource_refusal e = false
 
 -- such a refusal says nothing of the group's state, unless it stands for a change
 abbrev pub is_mute : Refusal → Option Change → Bool
-is_mute e None = is_want e
+is_mute e None = is_resource_refusal e
 is_mute e (Some c) = false
 
 -- The seat did not move the head; and where the call says that others did so first, they added as many entries as it
@@ -74,12 +74,13 @@ IsRefused means tries old new false e change right = IsAnswered means old new ch
 
 -- What a call answers, by the change that each reply stands for, and by the right reply at each state. A refusal may
 -- stand for a change too: that the server does not know the group closes it.
-abbrev pub Answers : {X : Type 0} → Meanings → ℕ → Known → Known → Result X Refusal → (Result X Refusal → Option Change)
+abbrev pub IsLinearized : {X : Type 0} → Meanings → ℕ → Known → Known → Result X Refusal → (Result X Refusal
+    → Option Change)
     → (State → Result X Refusal) → Type 0
-Answers means tries old new (Ok x) change right = IsAnswered means old new (change (Ok x)) (λ s. right s ≡ Ok x)
-Answers means tries old new (Err e) change right = IsRefused means tries old new (is_mute e (change (Err e))) e
+IsLinearized means tries old new (Ok x) change right = IsAnswered means old new (change (Ok x)) (λ s. right s ≡ Ok x)
+IsLinearized means tries old new (Err e) change right = IsRefused means tries old new (is_mute e (change (Err e))) e
     (change (Err e)) (λ s. right s ≡ Err e)
 
 -- what the replies of a query stand for
-abbrev pub nothing : {X : Type 0} → Result X Refusal → Option Change
-nothing reply = None
+abbrev pub no_change : {X : Type 0} → Result X Refusal → Option Change
+no_change reply = None

@@ -17,7 +17,7 @@ use Rattle.group_history.specs.State.{State}
 use Rattle.head_word.specs.declared.entry.Entry.{Entry}
 use Rattle.head_word.specs.Books.{moved, opening}
 use Rattle.head_word.specs.Marks.{Known, known}
-use Rattle.answered.specs.Answered.{IsPoint, Answers, nothing}
+use Rattle.answered.specs.Answered.{IsPoint, IsLinearized, no_change}
 use Rattle.answered.specs.Changes.{change_made, change_ended}
 
 -- the caller has the seat 0, and knows this much of the book
@@ -62,14 +62,14 @@ end_at s = end_reply s (codes "null") response.StateNotFound
 
 -- each of them is answered so to a caller who knew the one book before the call, and knows the other after it
 abbrev pub Asked : Book → List Entry → List Entry → Result (Option Bytes) Refusal → Type 0
-Asked book before after reply = Answers trial 1 (seen book before) (seen book after) reply nothing number_at
+Asked book before after reply = IsLinearized trial 1 (seen book before) (seen book after) reply no_change number_at
 
 abbrev pub Raised : ℕ → Book → List Entry → List Entry → Result ℕ Refusal → Type 0
-Raised tries book before after reply = Answers trial tries (seen book before) (seen book after) reply
+Raised tries book before after reply = IsLinearized trial tries (seen book before) (seen book after) reply
     (change_made (up 1)) raise_at
 
 abbrev pub Closing : Book → List Entry → List Entry → Result Ended Refusal → Type 0
-Closing book before after reply = Answers trial 1 (seen book before) (seen book after) reply
+Closing book before after reply = IsLinearized trial 1 (seen book before) (seen book after) reply
     (change_ended null_cookie response.StateNotFound) end_at
 
 pub record AnsweredExamples (book : Book) : Type 0 where

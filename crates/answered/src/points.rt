@@ -3,7 +3,7 @@ ghost use Rattle.std.specs.Prelude.{◌≡◌, ◌≢◌, ◌≤◌, None, IsSom
 ghost use mathlib.Core.List.{IsPrefix};
 ghost use Rattle.group_history.specs.Record.{after};
 ghost use Rattle.group_history.specs.State.{State};
-ghost use Rattle.head_word.specs.Books.{drawn, record_of, last_move, Follows};
+ghost use Rattle.head_word.specs.Books.{drawn, record_of, last_move, IsChangeFrom};
 ghost use Rattle.head_word.specs.Marks.{others, own};
 ghost use Rattle.answered.specs.Answered.{IsPoint, own_moves};
 ghost use Rattle.answered.specs.Trying.{IsBase, IsMove, IsWon};
@@ -40,7 +40,7 @@ pub fn publish_at<M: Means>(
 ) -> Result<(), Moved>
     requires book { mark.old.book ≡ head.now }
     requires seat { IsSome mark.old.seat }
-    requires follows { Follows M.means (drawn mark.old.log) base new change.now }
+    requires follows { IsChangeFrom M.means (drawn mark.old.log) base new change.now }
     ensures book { mark.new.book ≡ mark.old.book }
     ensures seat { mark.new.seat ≡ mark.old.seat }
     ensures seen { IsPrefix mark.old.log mark.new.log }

@@ -12,8 +12,8 @@ IsButPin v u = u ≡ record v {
   pin = u.pin;
   stores = u.stores;
   loaded = u.loaded;
-  before = u.before;
-  passes = u.passes;
+  loaded_before = u.loaded_before;
+  epoch_loads = u.epoch_loads;
   reached = u.reached;
   read = u.read;
   notes = u.notes;
@@ -27,8 +27,8 @@ lost_again v t u same lost = subst (IsButPin v) (sym lost.0)
       pin = Absent;
       stores = t.stores + 2;
       loaded = u.loaded;
-      before = u.before;
-      passes = t.passes + 2;
+      loaded_before = u.loaded_before;
+      epoch_loads = t.epoch_loads + 2;
       reached = u.loaded;
       read = [];
       notes = [];
@@ -43,8 +43,8 @@ held_at_last v t u e n tries same up few lost held = subst (λ (w : View). IsPin
     pin = Held e;
     stores = t.stores + 1;
     loaded = e;
-    before = e;
-    passes = t.passes + 2;
+    loaded_before = e;
+    epoch_loads = t.epoch_loads + 2;
     reached = e;
     read = [];
     notes = [];
@@ -59,15 +59,15 @@ pub lost_at_last : (v t u : View) (tries n : ℕ) → IsButPin v t → suc n ≡
     → LosesPins n v t → one.IsUnpinned t u → IsOvertaken v u tries
 lost_at_last v t u tries n same all up before lost =
     let a = lost.1 in let b = lost.2 in
-    let left : u ≡ one.unpinned t u.before u.loaded = lost.0 in record {
-      view = subst (λ (w : View). w ≡ record (one.unpinned v w.before w.loaded)
-          { stores = w.stores; passes = w.passes }) (sym left)
+    let left : u ≡ one.unpinned t u.loaded_before u.loaded = lost.0 in record {
+      view = subst (λ (w : View). w ≡ record (one.unpinned v w.loaded_before w.loaded)
+          { stores = w.stores; epoch_loads = w.epoch_loads }) (sym left)
           (ap (λ (z : View). record z {
             pin = Absent;
             stores = t.stores + 2;
             loaded = u.loaded;
-            before = u.before;
-            passes = t.passes + 2;
+            loaded_before = u.loaded_before;
+            epoch_loads = t.epoch_loads + 2;
             reached = u.loaded;
             read = [];
             notes = [];

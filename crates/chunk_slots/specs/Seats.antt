@@ -34,14 +34,14 @@ pub data LosesPins : ℕ → View → View → Type 0 where
 -- The pin is held at the epoch that was loaded before it was stored and after. All tries before that one were lost, and
 -- they were fewer than the call may make: it makes one at least
 pub record IsPinned (v u : View) (tries : ℕ) : Type 0 where
-  pub view : u ≡ record (pinned v u.loaded) { stores = u.stores; passes = u.passes }
+  pub view : u ≡ record (pinned v u.loaded) { stores = u.stores; epoch_loads = u.epoch_loads }
   pub reached : v.reached ≤ u.loaded
   pub tried : (n : ℕ) × (t : View) × (n < max 1 tries) × LosesPins n v t × (u ≡ pinned t u.loaded)
 
 -- The pin is absent. Each try that the call may make was lost, and one at least: others raised the epoch meanwhile, by
 -- one at least at each try
 pub record IsOvertaken (v u : View) (tries : ℕ) : Type 0 where
-  pub view : u ≡ record (unpinned v u.before u.loaded) { stores = u.stores; passes = u.passes }
+  pub view : u ≡ record (unpinned v u.loaded_before u.loaded) { stores = u.stores; epoch_loads = u.epoch_loads }
   pub lost : LosesPins (max 1 tries) v u
   pub rose : (v.reached < u.loaded) × (v.reached + tries ≤ u.loaded)
 

@@ -10,7 +10,7 @@ ghost use Rattle.group_history.specs.declared.refusals.Refusal.TheVariants.{NoMe
 ghost use Rattle.head_word.specs.Books.{opening};
 ghost use Rattle.chunk_slots.specs.Inside.Appended.{numbers};
 
-use crate::missed::{Busy, Missed};
+use crate::missed::{Busy, StoreStop};
 use crate::opening::{first, placed_leaf, placed_snapshot};
 use crate::placed::Placed;
 use crate::shown::Shown;
@@ -112,19 +112,19 @@ fn push_opening<R: Wait, M: Means>(
 impl<R, M: Means> Append<R, M> {
     ghost use Rattle.std.specs.Prelude.{◌≡◌, IfOk, IfErr};
     ghost use Rattle.chunk_slots.specs.Contents.{IsContent};
-    ghost use Rattle.chunk_slots.specs.declared.missed.Missed.TheVariants.{Gone};
+    ghost use Rattle.chunk_slots.specs.declared.missed.StoreStop.TheVariants.{Gone};
 
-    fn look(&self, slot: u32, stamp: u64) -> Result<Shown<'_, M>, Missed>
+    fn look(&self, slot: u32, stamp: u64) -> Result<Shown<'_, M>, StoreStop>
         ensures book { IfOk result (λ shown. shown.mark.book ≡ self.now) }
         ensures content { IfOk result (λ shown. IsContent shown.mark.log stamp shown.node) }
         ensures stamp { IfOk result (λ shown. shown.stamp ≡ stamp) }
         ensures err { IfErr result (λ e. e ≡ Gone) }
     {
         let Some(placed) = self.nodes.get(slot as usize) else {
-            return Err(Missed::Gone);
+            return Err(StoreStop::Gone);
         };
         if placed.stamp() != stamp {
-            return Err(Missed::Gone);
+            return Err(StoreStop::Gone);
         }
         Ok(Shown::lent(placed))
     }
@@ -161,7 +161,7 @@ impl<R: Sync + Drop, M: Means> Slots<M> for Append<R, M> {
 
     ghost view = { λ seat. no_view };
 
-    fn show(&self, slot: u32, stamp: u64, _tries: u32) -> Result<Shown<'_, M>, Missed> {
+    fn show(&self, slot: u32, stamp: u64, _tries: u32) -> Result<Shown<'_, M>, StoreStop> {
         self.look(slot, stamp)
     }
 

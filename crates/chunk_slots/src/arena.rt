@@ -7,7 +7,7 @@ ghost use Rattle.chunk_slots.specs.Inside.Places.{IsOfBook};
 use crate::arena_seat::ArenaSeat;
 use crate::counted::{Slot, look, put};
 use crate::dealt::Dealt;
-use crate::missed::{Busy, Missed};
+use crate::missed::{Busy, StoreStop};
 use crate::opening::{first, placed_leaf, placed_snapshot};
 use crate::placed::Placed;
 use crate::shown::Shown;
@@ -61,7 +61,7 @@ impl<M: Means> Arena<M> {
     ghost use Rattle.group_history.specs.declared.refusals.Refusal.TheVariants as refusal;
     ghost use Rattle.head_word.specs.Books.{opening};
     ghost use Rattle.chunk_slots.specs.Contents.{IsContent};
-    ghost use Rattle.chunk_slots.specs.declared.missed.Missed.TheVariants as missed;
+    ghost use Rattle.chunk_slots.specs.declared.missed.StoreStop.TheVariants as missed;
 
     /// How many slots are in each state, and how many seats are pinned, as the claims table counts them:
     /// each word was so at some time in the call. The seat notes what it found, and nothing else is changed.
@@ -127,17 +127,17 @@ impl<M: Means> Arena<M> {
         Ok(())
     }
 
-    fn find(&self, slot: u32, stamp: u64, tries: u32) -> Result<Shown<'_, M>, Missed>
+    fn find(&self, slot: u32, stamp: u64, tries: u32) -> Result<Shown<'_, M>, StoreStop>
         ensures book { IfOk result (λ shown. shown.mark.book ≡ self.now.book) }
         ensures content { IfOk result (λ shown. IsContent shown.mark.log stamp shown.node) }
         ensures stamp { IfOk result (λ shown. shown.stamp ≡ stamp) }
     {
         let Some(slot) = self.slots.get(slot as usize) else {
-            return Err(Missed::Gone);
+            return Err(StoreStop::Gone);
         };
         for _ in 1..tries {
             match look(slot, stamp) {
-                Err(Missed::Busy) => {}
+                Err(StoreStop::Busy) => {}
                 found => return found,
             }
         }
@@ -179,7 +179,7 @@ impl<M: Means> Slots<M> for Arena<M> {
 
     ghost view = { λ seat. seat.view };
 
-    fn show(&self, slot: u32, stamp: u64, tries: u32) -> Result<Shown<'_, M>, Missed> {
+    fn show(&self, slot: u32, stamp: u64, tries: u32) -> Result<Shown<'_, M>, StoreStop> {
         self.find(slot, stamp, tries)
     }
 

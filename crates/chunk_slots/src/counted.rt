@@ -22,10 +22,10 @@
 //! [`Placed`], and it comes back with the value whatever the slot held before.
 ghost use Rattle.std.specs.Prelude.{◌≡◌, ◌≢◌, ◌%◌, ◌+◌, ◌-◌, ◌^◌, ◌<◌, Some, IfOk, IfErr, IfSome};
 ghost use Rattle.counted_slot.specs.Counting.{readers};
-ghost use Rattle.chunk_slots.specs.declared.missed.Missed.TheVariants as missed;
+ghost use Rattle.chunk_slots.specs.declared.missed.StoreStop.TheVariants as missed;
 ghost use Rattle.chunk_slots.specs.Contents.{Content, IsContent, IsDrawn};
 
-use crate::missed::Missed;
+use crate::missed::StoreStop;
 use crate::placed::Placed;
 use crate::shown::Shown;
 use counted_slot::{Claim, Counted, MOST_READERS, ONE_READER, PRESENT, TAKEN};
@@ -49,15 +49,15 @@ fn reader_count(word: u64) -> u64
 }
 
 // The word with one reader more: Gone where nothing is shown, Busy where no more can be counted.
-fn joined(word: u64) -> Result<u64, Missed>
+fn joined(word: u64) -> Result<u64, StoreStop>
     ensures ok { IfOk result (λ more. (word % 4 ≡ 1) × (readers word < 2 ^ 30 - 1) × (more ≡ word + 4)) }
     ensures err { IfErr result (λ e. (e ≡ missed.Gone → word % 4 ≢ 1) × (e ≡ missed.Busy → readers word ≡ 2 ^ 30 - 1)) }
 {
     if state_of(word) != PRESENT {
-        return Err(Missed::Gone);
+        return Err(StoreStop::Gone);
     }
     if reader_count(word) == MOST_READERS {
-        return Err(Missed::Busy);
+        return Err(StoreStop::Busy);
     }
     Ok(word + ONE_READER)
 }
@@ -75,7 +75,7 @@ fn mark_at<M: Means>(claim: &Claim<'_, Option<Placed<M>>>, stamp: u64) -> Option
 }
 
 /// Shows the node of the stamp, in one try.
-pub(crate) fn look<M: Means>(slot: &Slot<M>, stamp: u64) -> Result<Shown<'_, M>, Missed>
+pub(crate) fn look<M: Means>(slot: &Slot<M>, stamp: u64) -> Result<Shown<'_, M>, StoreStop>
     ensures book { IfOk result (λ shown. shown.mark.book ≡ slot.now.book) }
     ensures content { IfOk result (λ shown. IsContent shown.mark.log stamp shown.node) }
     ensures stamp { IfOk result (λ shown. shown.stamp ≡ stamp) }
@@ -84,13 +84,13 @@ pub(crate) fn look<M: Means>(slot: &Slot<M>, stamp: u64) -> Result<Shown<'_, M>,
     let (found, claim) = slot.turn(word, joined(word)?);
     if found != word {
         claim.done();
-        return Err(Missed::Busy);
+        return Err(StoreStop::Busy);
     }
     match mark_at(&claim, stamp) {
         Some(mark) => Ok(Shown::claimed(claim, mark)),
         None => {
             let _ = claim.leave();
-            Err(Missed::Gone)
+            Err(StoreStop::Gone)
         }
     }
 }

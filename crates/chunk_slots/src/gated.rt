@@ -10,7 +10,7 @@
 //! All that clauses say of a gated store they say of the store in it, whose ghost members it hands on.
 ghost use Rattle.std.specs.Prelude.{◌≡◌, IfOk, map};
 
-use crate::missed::{Busy, Missed};
+use crate::missed::{Busy, StoreStop};
 use crate::shown::Shown;
 use crate::store::{Slots, Store};
 use group_history::{Means, Node, Ref, Refusal};
@@ -20,7 +20,7 @@ use std::alloc::{AllocError, Global};
 
 /// A call of a store around which a gate is asked.
 #[derive(Clone, Copy, PartialEq, Eq)]
-pub enum Step {
+pub enum StoreCall {
     Place,
     TakeSlot,
     Settle,
@@ -35,9 +35,9 @@ pub enum Step {
 /// deals them. It is asked by the threads that make the steps, so several of them may be in it at once. A call says
 /// nothing of waiting, so a gate that waits has the means for that in itself.
 pub trait Steps: Sync {
-    fn before(&self, seat: usize, step: Step);
+    fn before(&self, seat: usize, step: StoreCall);
 
-    fn after(&self, seat: usize, step: Step);
+    fn after(&self, seat: usize, step: StoreCall);
 }
 
 /// A store, and the gate that is asked around its steps. It is made of the store's own parts and the gate.
@@ -82,46 +82,46 @@ where
 
     ghost view = { λ numbered. S.view numbered.seat };
 
-    fn show(&self, slot: u32, stamp: u64, tries: u32) -> Result<Shown<'_, M>, Missed> {
+    fn show(&self, slot: u32, stamp: u64, tries: u32) -> Result<Shown<'_, M>, StoreStop> {
         self.store.show(slot, stamp, tries)
     }
 
     fn settle(&self, seat: &mut GatedSeat<S::Seat>, slot: u32) {
-        self.gate.before(seat.number, Step::Settle);
+        self.gate.before(seat.number, StoreCall::Settle);
         self.store.settle(&mut seat.seat, slot);
-        self.gate.after(seat.number, Step::Settle);
+        self.gate.after(seat.number, StoreCall::Settle);
     }
 
     fn withdraw(&self, seat: &mut GatedSeat<S::Seat>, slot: u32) {
-        self.gate.before(seat.number, Step::Withdraw);
+        self.gate.before(seat.number, StoreCall::Withdraw);
         self.store.withdraw(&mut seat.seat, slot);
-        self.gate.after(seat.number, Step::Withdraw);
+        self.gate.after(seat.number, StoreCall::Withdraw);
     }
 
     fn raise(&self, seat: &mut GatedSeat<S::Seat>) -> Option<u64> {
-        self.gate.before(seat.number, Step::Raise);
+        self.gate.before(seat.number, StoreCall::Raise);
         let raised = self.store.raise(&mut seat.seat);
-        self.gate.after(seat.number, Step::Raise);
+        self.gate.after(seat.number, StoreCall::Raise);
         raised
     }
 
     fn retire(&self, seat: &mut GatedSeat<S::Seat>, slot: u32, r: u64) {
-        self.gate.before(seat.number, Step::Retire);
+        self.gate.before(seat.number, StoreCall::Retire);
         self.store.retire(&mut seat.seat, slot, r);
-        self.gate.after(seat.number, Step::Retire);
+        self.gate.after(seat.number, StoreCall::Retire);
     }
 
     fn pin(&self, seat: &mut GatedSeat<S::Seat>, tries: u32) -> Result<(), Busy> {
-        self.gate.before(seat.number, Step::Pin);
+        self.gate.before(seat.number, StoreCall::Pin);
         let pinned = self.store.pin(&mut seat.seat, tries);
-        self.gate.after(seat.number, Step::Pin);
+        self.gate.after(seat.number, StoreCall::Pin);
         pinned
     }
 
     fn unpin(&self, seat: &mut GatedSeat<S::Seat>) {
-        self.gate.before(seat.number, Step::Unpin);
+        self.gate.before(seat.number, StoreCall::Unpin);
         self.store.unpin(&mut seat.seat);
-        self.gate.after(seat.number, Step::Unpin);
+        self.gate.after(seat.number, StoreCall::Unpin);
     }
 }
 
@@ -152,18 +152,18 @@ where
         node: Node<Ref>,
         tries: u32,
     ) -> Result<u32, Refusal> {
-        self.gate.before(seat.number, Step::Place);
+        self.gate.before(seat.number, StoreCall::Place);
         let placed = self
             .store
             .place(&mut seat.seat, mark, slot, stamp, node, tries);
-        self.gate.after(seat.number, Step::Place);
+        self.gate.after(seat.number, StoreCall::Place);
         placed
     }
 
     fn take_slot(&self, seat: &mut GatedSeat<S::Seat>, kind: Kind) -> Option<u32> {
-        self.gate.before(seat.number, Step::TakeSlot);
+        self.gate.before(seat.number, StoreCall::TakeSlot);
         let taken = self.store.take_slot(&mut seat.seat, kind);
-        self.gate.after(seat.number, Step::TakeSlot);
+        self.gate.after(seat.number, StoreCall::TakeSlot);
         taken
     }
 }

@@ -12,7 +12,7 @@ pub struct Busy;
 
 /// Why a node was not shown.
 #[derive(Clone, Copy, Debug, PartialEq, Eq, Error)]
-pub enum Missed {
+pub enum StoreStop {
     /// The slot was lost as often as the call tries.
     #[error("the slot was lost to other clients, as often as the call tries: call again")]
     Busy,
@@ -29,28 +29,28 @@ impl From<Busy> for Refusal {
     }
 }
 
-impl From<Missed> for Refusal {
+impl From<StoreStop> for Refusal {
     ghost use Rattle.chunk_slots.specs.Missing.{refusal_of};
 
     ghost from_gives = { λ missed refused. refused ≡ refusal_of missed };
 
-    fn from(missed: Missed) -> Refusal {
+    fn from(missed: StoreStop) -> Refusal {
         match missed {
-            Missed::Busy => Refusal::Busy,
-            Missed::Gone => Refusal::Gone,
+            StoreStop::Busy => Refusal::Busy,
+            StoreStop::Gone => Refusal::Gone,
         }
     }
 }
 
-impl From<Missed> for Stop {
+impl From<StoreStop> for Stop {
     ghost use Rattle.chunk_slots.specs.Missing.{stop_of};
 
     ghost from_gives = { λ missed stop. stop ≡ stop_of missed };
 
-    fn from(missed: Missed) -> Stop {
+    fn from(missed: StoreStop) -> Stop {
         match missed {
-            Missed::Busy => Stop::Busy,
-            Missed::Gone => Stop::Gone,
+            StoreStop::Busy => Stop::Busy,
+            StoreStop::Gone => Stop::Gone,
         }
     }
 }

@@ -13,8 +13,8 @@ ghost use Rattle.chunk_slots.specs.Inside.Openings.{Knows};
 
 use crate::placed::Placed;
 use group_history::{
-    BoxedCommit, Chunk, Commit, ConfirmedIds, Cookie, Keys, Kind, Leaf, Means, Node, Ref, Refusal,
-    Snapshot, TextMap,
+    BoxedCommit, Chunk, Commit, CommitKind, ConfirmedIds, Cookie, Keys, Leaf, Means, Node, Ref,
+    Refusal, Snapshot, TextMap,
 };
 use head_word::Mark;
 use std::alloc::Global;
@@ -37,7 +37,7 @@ fn opening_snapshot(alloc: Global, leaf: u32) -> Result<Node<Ref>, Refusal>
     let confirmed = ConfirmedIds::new(alloc, TextMap::new(alloc))?;
     let commit = Commit {
         root: Ref::new(0, leaf),
-        kind: Kind::Snapshot(Snapshot { cookie, confirmed }),
+        kind: CommitKind::Snapshot(Snapshot { cookie, confirmed }),
     };
     Ok(Node::Commit(BoxedCommit::new(alloc, commit)?))
 }

@@ -26,11 +26,11 @@ ghost use Rattle.reader_claims.specs.Passes.{Takes, Looks, Raises, FindsNone, Is
 ghost use Rattle.reader_claims.specs.Seats.{ClaimsId, first_reserved, kind_end};
 ghost use Rattle.reader_claims.specs.Views.{with_pin, with_settled, with_withdrawn};
 ghost use Rattle.reader_claims.specs.declared.words.Pin.TheVariants.{Absent};
-ghost use Rattle.chunk_slots.specs.declared.missed.Missed.TheVariants as missed;
+ghost use Rattle.chunk_slots.specs.declared.missed.StoreStop.TheVariants as missed;
 ghost use Rattle.chunk_slots.specs.Contents.{IsContent};
 ghost use Rattle.chunk_slots.specs.Seats.{IsIdle, IsOpening, IsPinned, IsOvertaken, IsRaised, IsAtEnd, MayRetire};
 
-use crate::missed::{Busy, Missed};
+use crate::missed::{Busy, StoreStop};
 use crate::shown::Shown;
 use group_history::{Means, Node, Ref, Refusal};
 use head_word::{Head, Mark};
@@ -58,7 +58,7 @@ pub trait Slots<M: Means>: Sync {
     ghost view: { Self.Seat → View };
 
     /// Shows the node of the stamp, where the slot has it. It is given back by `leave`.
-    fn show(&self, slot: u32, stamp: u64, tries: u32) -> Result<Shown<'_, M>, Missed>
+    fn show(&self, slot: u32, stamp: u64, tries: u32) -> Result<Shown<'_, M>, StoreStop>
         ensures book { IfOk result (λ shown. shown.mark.book ≡ book self.now) }
         ensures stamp { IfOk result (λ shown. shown.stamp ≡ stamp) }
         ensures content { IfOk result (λ shown. IsContent shown.mark.log stamp shown.node) }

@@ -5,18 +5,18 @@ use Rattle.std.specs.Prelude.{IsSome}
 use Rattle.std.proofs.lemmas.List.{append-nil}
 use mathlib.Core.List.{IsPrefix, reverse-append}
 use Rattle.group_history.specs.declared.nodes.Commit.{Commit}
-use Rattle.group_history.specs.declared.nodes.Kind.{Kind}
-use Rattle.group_history.specs.declared.nodes.Kind.TheVariants.{Snapshot, Over}
+use Rattle.group_history.specs.declared.nodes.CommitKind.{CommitKind}
+use Rattle.group_history.specs.declared.nodes.CommitKind.TheVariants.{Snapshot, Over}
 use Rattle.group_history.specs.declared.nodes.Snapshot.{Snapshot as Snapped}
-use Rattle.group_history.specs.declared.nodes.Step.{Step}
-use Rattle.group_history.specs.declared.nodes.Step.TheVariants.{Local, Closed}
+use Rattle.group_history.specs.declared.nodes.CommitChange.{CommitChange}
+use Rattle.group_history.specs.declared.nodes.CommitChange.TheVariants.{Local, Closed}
 use Rattle.group_history.specs.declared.nodes.Node.TheVariants as node
 use Rattle.group_history.specs.declared.mutations.Mutation.{Mutation}
 use Rattle.group_history.specs.declared.refs.Ref.{Ref}
 use Rattle.group_history.specs.Map.{Bytes}
 use Rattle.group_history.specs.Refs.{stamp_of}
 use Rattle.group_history.specs.Naming.{renamed_kind, commit_content}
-use Rattle.group_history.specs.Ids.{Follows, IdsFollow}
+use Rattle.group_history.specs.Ids.{AreConsecutive, IdsFollow}
 use Rattle.group_history.specs.State.{State, confirmed_id, ids_of, last_id}
 use Rattle.group_history.specs.Spelling.{Contents, Version, version_at, snapshot_at, snapshot_of, stepped, map_at}
 use Rattle.group_history.specs.Cookies.{Cookie}
@@ -49,12 +49,12 @@ pub get_stays : {A : Type 0} (xs ys : List A) (k : ℕ) (x : A) → IsPrefix xs 
 get_stays xs ys k x pre h = subst (λ (w : List _). slice_get w k ≡ Some x) pre.1 (get_more xs pre.0 k x h)
 
 -- what lies where a commit of this root and kind was placed
-abbrev pub LiesSo : Contents → ℕ → Ref → Kind Ref → Type 0
+abbrev pub LiesSo : Contents → ℕ → Ref → CommitKind Ref → Type 0
 LiesSo ns k root kind = slice_get ns k ≡ Some
     (node.Commit (record { root = stamp_of root; kind = renamed_kind stamp_of kind }))
 
 -- what is shown where a snapshot lies is one
-snapshot_only : (kind : Kind Ref) (s : Snapped) → Snapshot s ≡ renamed_kind stamp_of kind
+snapshot_only : (kind : CommitKind Ref) (s : Snapped) → Snapshot s ≡ renamed_kind stamp_of kind
     → (t : Snapped) × (kind ≡ Snapshot t)
 snapshot_only (Snapshot t) s e = (t, refl)
 snapshot_only (Over o) s e = absurd (cc e)
@@ -91,7 +91,7 @@ descent_begins first head h pre = let v = some_version first head h in
       grown = pre;
     }
 
-stepped_pending : (s : State) (step : Step) → (stepped s step).pending ≡ s.pending ++ listed (added_by step)
+stepped_pending : (s : State) (step : CommitChange) → (stepped s step).pending ≡ s.pending ++ listed (added_by step)
 stepped_pending s (Local x) = refl
 stepped_pending s Closed = sym (append-nil s.pending)
 
@@ -105,7 +105,8 @@ longer xs met o =
     append_assoc xs (listed o) (reverse met)
     ∙ ap (λ w. xs ++ w) (ap (λ w. w ++ reverse met) (sym (reverse_listed o)) ∙ sym (reverse-append met (listed o)))
 
-descent_over : (first ns more : Contents) (head at : ℕ) (met : List Mutation) (root : Ref) (kind : Kind Ref) (l : Link)
+descent_over : (first ns more : Contents) (head at : ℕ) (met : List Mutation) (root : Ref) (kind : CommitKind Ref)
+    (l : Link)
     → IsDescent first ns head at met → IsPrefix ns more → LiesSo more at root kind → link_named kind ≡ Some l
     → (stamp_of l.basis < at) × IsDescent first more head (stamp_of l.basis) (met ++ listed l.added)
 descent_over first ns more head at met root (Snapshot s) l d pre lies is = absurd (cc is)
@@ -140,14 +141,14 @@ none_from None h = refl
 none_from (Some x) h = absurd (h x refl)
 
 -- what is no link is a snapshot
-no_link_named : (kind : Kind Ref) → link_named kind ≡ None → (s : Snapped) × (kind ≡ Snapshot s)
+no_link_named : (kind : CommitKind Ref) → link_named kind ≡ None → (s : Snapped) × (kind ≡ Snapshot s)
 no_link_named (Snapshot s) h = (s, refl)
 no_link_named (Over o) h = absurd (cc h)
 
 pub no_link : (c : Commit Ref) → link_of c ≡ None → IsSnapshot c
 no_link c h = no_link_named c.kind h
 
-descent_bottom : (first ns more : Contents) (head at : ℕ) (met : List Mutation) (root : Ref) (kind : Kind Ref)
+descent_bottom : (first ns more : Contents) (head at : ℕ) (met : List Mutation) (root : Ref) (kind : CommitKind Ref)
     → IsDescent first ns head at met → IsPrefix ns more → LiesSo more at root kind → (s : Snapped) × (kind ≡ Snapshot s)
     → (v : Version) → version_at first head ≡ Some v → reverse met ≡ v.state.pending
 descent_bottom first ns more head at met root (Over o) d pre lies is v h = absurd (cc (is.1))
@@ -170,16 +171,16 @@ root_read first more head c v h pre lies = (commit-made more head _ v lies (vers
 
 -- WHAT A COMMIT TELLS OF ITS CHAIN
 
-top_stamp : (at : Ref) (kind : Kind Ref)
+top_stamp : (at : Ref) (kind : CommitKind Ref)
     → stamp_of (snapshot_named at kind) ≡ snapshot_of (stamp_of at) (renamed_kind stamp_of kind)
 top_stamp at (Snapshot s) = refl
 top_stamp at (Over o) = refl
 
-stepped_closed : (s : State) (step : Step) → s.closed ≡ false → closes step ≡ (stepped s step).closed
+stepped_closed : (s : State) (step : CommitChange) → s.closed ≡ false → closes step ≡ (stepped s step).closed
 stepped_closed s (Local x) is_open = sym is_open
 stepped_closed s Closed is_open = refl
 
-top_closed : (ns : Contents) (k : ℕ) (kind : Kind Ref) (v : Version) → IsMade ns k (renamed_kind stamp_of kind) v
+top_closed : (ns : Contents) (k : ℕ) (kind : CommitKind Ref) (v : Version) → IsMade ns k (renamed_kind stamp_of kind) v
     → closes_group kind ≡ v.state.closed
 top_closed ns k (Snapshot s) v made = sym (ap (λ (w : State). w.closed) made)
 top_closed ns k (Over o) v made = stepped_closed made.0.state o.step made.4 ∙ sym (ap (λ (w : State). w.closed) made.5)
@@ -202,7 +203,8 @@ top_found first more head c v h pre lies =
 abbrev pub IsSearch : Contents → Bytes → ℕ → Option Ref → Type 0
 IsSearch ns client last None = 0 ≡ last
 IsSearch ns client last (Some at) = (b : Version) × (version_at ns (stamp_of at) ≡ Some b)
-    × Follows (confirmed_id b.state.confirmed client) (ids_of client b.state.pending) × (last_id b.state client ≡ last)
+    × AreConsecutive (confirmed_id b.state.confirmed client) (ids_of client b.state.pending)
+    × (last_id b.state client ≡ last)
 
 -- how far the chain can still go
 abbrev pub ahead : Option Ref → ℕ
@@ -213,7 +215,7 @@ pub search_begins : (ns : Contents) (at : Ref) (client : Bytes) (v : Version) �
     → IdsFollow v.state.confirmed v.state.pending → IsSearch ns client (last_id v.state client) (Some at)
 search_begins ns at client v h ids = (v, h, ids.pending_ids client, refl)
 
-search_over : (ns more : Contents) (client : Bytes) (last : ℕ) (at : Ref) (root : Ref) (kind : Kind Ref)
+search_over : (ns more : Contents) (client : Bytes) (last : ℕ) (at : Ref) (root : Ref) (kind : CommitKind Ref)
     → IsSearch ns client last (Some at) → IsPrefix ns more → LiesSo more (stamp_of at) root kind
     → (ahead (basis_named kind) < suc (stamp_of at)) × (0 < id_named client kind → id_named client kind ≡ last)
     × (id_named client kind ≡ 0 → IsSearch more client last (basis_named kind))
@@ -224,17 +226,17 @@ search_over ns more client last at root (Snapshot s) d pre lies =
 search_over ns more client last at root (Over o) d pre lies =
     let m = commit-made more (stamp_of at) _ d.0 lies (version-grown ns more (stamp_of at) d.0 pre d.1) in
     let b = m.3 in
-    let ids : Follows (confirmed_id (stepped b.0.state o.step).confirmed client)
+    let ids : AreConsecutive (confirmed_id (stepped b.0.state o.step).confirmed client)
     (ids_of client (stepped b.0.state o.step).pending) =
-    subst (λ (w : State). Follows (confirmed_id w.confirmed client) (ids_of client w.pending)) b.5 d.2 in
+    subst (λ (w : State). AreConsecutive (confirmed_id w.confirmed client) (ids_of client w.pending)) b.5 d.2 in
     let is : last_id (stepped b.0.state o.step) client ≡ last = ap (λ (w : State). last_id w client) (sym b.5) ∙ d.3 in
     let t = by_step b.0.state o.step ids in
     (omega (arith, b.1), λ h. sym (t.0 h) ∙ is, λ h. let u = t.1 h in (b.0, b.2, u.0, sym u.1 ∙ is))
   where
-    by_step : (s : State) (step : Step) → Follows (confirmed_id (stepped s step).confirmed client)
+    by_step : (s : State) (step : CommitChange) → AreConsecutive (confirmed_id (stepped s step).confirmed client)
         (ids_of client (stepped s step).pending)
         → (0 < id_in client step → last_id (stepped s step) client ≡ id_in client step)
-        × (id_in client step ≡ 0 → Follows (confirmed_id s.confirmed client) (ids_of client s.pending)
+        × (id_in client step ≡ 0 → AreConsecutive (confirmed_id s.confirmed client) (ids_of client s.pending)
         × (last_id (stepped s step) client ≡ last_id s client))
     by_step s (Local x) ids = newest_id s x client ids
     by_step s Closed ids = (λ h. absurd (omega (arith, h)), λ h. (ids, refl))
@@ -271,10 +273,11 @@ same_content ns more k root s t b pre lies =
     ≡ Some (node.Commit (snapshot_content (stamp_of root) s)) = sym
     (get_stays ns more k (node.Commit (snapshot_content b.root b.content)) pre b.lies) ∙ lies in
     let f : snapshot_content b.root b.content ≡ snapshot_content (stamp_of root) s = cc e in
-    let k : (let w : Kind ℕ = Snapshot b.content in w) ≡ Snapshot s = ap (λ (w : Commit ℕ). w.kind) f in
+    let k : (let w : CommitKind ℕ = Snapshot b.content in w) ≡ Snapshot s = ap (λ (w : Commit ℕ). w.kind) f in
     (ap (λ (w : Commit ℕ). w.root) f, cc k)
 
-has_cookie : (ns more : Contents) (k : ℕ) (root : Ref) (kind : Kind Ref) (t : State) (cookie : Cookie) → IsBase ns k t
+has_cookie : (ns more : Contents) (k : ℕ) (root : Ref) (kind : CommitKind Ref) (t : State) (cookie : Cookie)
+    → IsBase ns k t
     → IsPrefix ns more → LiesSo more k root kind → cookie_in kind cookie → cookie ≡ t.cookie
 has_cookie ns more k root (Over o) t cookie b pre lies has = absurd has
 has_cookie ns more k root (Snapshot s) t cookie b pre lies has =
@@ -284,7 +287,7 @@ pub base_cookie : (ns more : Contents) (k : ℕ) (c : Commit Ref) (s : State) (c
     → IsPrefix ns more → LiesAt more k c → HasCookie c cookie → cookie ≡ s.cookie
 base_cookie ns more k c s cookie b pre lies has = has_cookie ns more k c.root c.kind s cookie b pre lies has
 
-has_base : (ns more : Contents) (k : ℕ) (root : Ref) (kind : Kind Ref) (t : State) (base : Base) → IsBase ns k t
+has_base : (ns more : Contents) (k : ℕ) (root : Ref) (kind : CommitKind Ref) (t : State) (base : Base) → IsBase ns k t
     → IsPrefix ns more → LiesSo more k root kind → base_in root kind base → IsBaseOf more t base
 has_base ns more k root (Over o) t base b pre lies has = absurd has
 has_base ns more k root (Snapshot s) t base b pre lies has =

@@ -17,7 +17,7 @@ use Rattle.group_history.specs.Refs.{stamp_of}
 use Rattle.group_history.specs.Rows.{paired, keys_of, values_of}
 use Rattle.group_history.specs.Naming.{children, chunk_children}
 use Rattle.group_history.specs.Spelling.{Contents, Segment, Spelled, segment, segment_in, rows_if, rows_in, joined_rows}
-use Rattle.group_history.specs.Spelling.{sized, chunk_in, map_of, segment_at, map_at}
+use Rattle.group_history.specs.Spelling.{sized, chunk_in, segment_map, segment_at, map_at}
 use Rattle.group_history.proofs.Folding.{and_then-some}
 use Rattle.group_history.proofs.Lists.{prefix_trans, no_element, first_here, later_here}
 use Rattle.map_chunks.specs.Places.{AreAll, IfAt}
@@ -37,7 +37,7 @@ Ordered ns k = (s : Segment) × (segment_at ns k ≡ Some s) × IsStrict s.rows
 pub map_ordered : (ns : Contents) (k : ℕ) → IsSome (map_at ns k) → Ordered ns k
 map_ordered ns k h = of (segment_at ns k) refl h
   where
-    of : (o : Option Segment) → segment_at ns k ≡ o → IsSome (option_and_then map_of o) → Ordered ns k
+    of : (o : Option Segment) → segment_at ns k ≡ o → IsSome (option_and_then segment_map o) → Ordered ns k
     of None e h = absurd (cc h)
     of (Some s) e h = (
       s,

@@ -1,10 +1,10 @@
 -- How much is pending at a commit, and how large ids are there.
 use Rattle.std.proofs.Common.{◌≡◌, ℕ, zero, suc, ◌+◌, ◌<◌, ◌≤◌, ◌^◌, [], ◌∷◌, length, Some, ap, arith}
 use Rattle.std.proofs.Common.{length-append}
-use Rattle.group_history.specs.declared.nodes.Kind.{Kind}
-use Rattle.group_history.specs.declared.nodes.Kind.TheVariants.{Snapshot, Over}
-use Rattle.group_history.specs.declared.nodes.Step.{Step}
-use Rattle.group_history.specs.declared.nodes.Step.TheVariants.{Local, Closed}
+use Rattle.group_history.specs.declared.nodes.CommitKind.{CommitKind}
+use Rattle.group_history.specs.declared.nodes.CommitKind.TheVariants.{Snapshot, Over}
+use Rattle.group_history.specs.declared.nodes.CommitChange.{CommitChange}
+use Rattle.group_history.specs.declared.nodes.CommitChange.TheVariants.{Local, Closed}
 use Rattle.group_history.specs.declared.refs.Ref.{Ref}
 use Rattle.group_history.specs.Ids.{IdsFollow}
 use Rattle.group_history.specs.Map.{Bytes}
@@ -16,11 +16,11 @@ use Rattle.group_history.proofs.Spellings.{version-content}
 use Rattle.commit_graph.proofs.Spelled.{IsMade, commit-made}
 
 -- each pending mutation has a commit of its own
-few_over : (s : State) (step : Step) → length (stepped s step).pending ≤ length s.pending + 1
+few_over : (s : State) (step : CommitChange) → length (stepped s step).pending ≤ length s.pending + 1
 few_over s (Local x) = omega (arith, length-append s.pending (x ∷ []))
 few_over s Closed = omega arith
 
-few_at : (ns : Contents) (k : ℕ) (v : Version) (kind : Kind ℕ) → IsMade ns k kind v
+few_at : (ns : Contents) (k : ℕ) (v : Version) (kind : CommitKind ℕ) → IsMade ns k kind v
     → ((j : ℕ) (w : Version) → j < k → version_at ns j ≡ Some w → length w.state.pending ≤ j)
     → length v.state.pending ≤ k
 few_at ns k v (Snapshot s) made below =

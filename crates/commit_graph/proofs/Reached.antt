@@ -7,8 +7,8 @@ use mathlib.Core.List.{IsPrefix}
 use Rattle.group_history.specs.declared.nodes.Chunk.{Chunk}
 use Rattle.group_history.specs.declared.nodes.Chunk.TheVariants.{Leaf, Inner}
 use Rattle.group_history.specs.declared.nodes.Commit.{Commit}
-use Rattle.group_history.specs.declared.nodes.Kind.{Kind}
-use Rattle.group_history.specs.declared.nodes.Kind.TheVariants.{Snapshot, Over}
+use Rattle.group_history.specs.declared.nodes.CommitKind.{CommitKind}
+use Rattle.group_history.specs.declared.nodes.CommitKind.TheVariants.{Snapshot, Over}
 use Rattle.group_history.specs.declared.nodes.Node.{Node}
 use Rattle.group_history.specs.declared.nodes.Node.TheVariants as node
 use Rattle.group_history.specs.declared.refs.Ref.{Ref}
@@ -18,7 +18,7 @@ use Rattle.group_history.specs.Rows.{values_of}
 use Rattle.group_history.specs.Folds.{answer}
 use Rattle.group_history.specs.Naming.{children, commits_named, renamed_kind, content_of, chunk_content, commit_content}
 use Rattle.group_history.specs.Spelling.{Contents, Segment, Version, Spelled, segment, version, as_segment, as_version}
-use Rattle.group_history.specs.Spelling.{spelled, segment_at, version_at, map_at, map_of}
+use Rattle.group_history.specs.Spelling.{spelled, segment_at, version_at, map_at, segment_map}
 use Rattle.group_history.proofs.Folding.{and_then-some}
 use Rattle.commit_graph.specs.declared.founds.Found.{Found}
 use Rattle.commit_graph.specs.declared.founds.Found.TheVariants as found
@@ -42,10 +42,10 @@ there_version ns k v h = let w = spelled_version ns k v h in (version v w.0, w.1
 
 root_segment : (ns : Contents) (k : ℕ) (m : Entries) → map_at ns k ≡ Some m
     → (s : Segment) × (segment_at ns k ≡ Some s)
-root_segment ns k m h = let s = and_then-some (segment_at ns k) map_of m h in (s.0, s.1)
+root_segment ns k m h = let s = and_then-some (segment_at ns k) segment_map m h in (s.0, s.1)
 
 -- The commits that a commit names have smaller stamps and spell versions.
-named_commit : (ns : Contents) (k c : ℕ) (kind : Kind ℕ) (v : Version) → IsMade ns k kind v
+named_commit : (ns : Contents) (k c : ℕ) (kind : CommitKind ℕ) (v : Version) → IsMade ns k kind v
     → Contains (commits_named kind) c → (c < k) × IsSome (version_at ns c)
 named_commit ns k c (Snapshot s) v made has = absurd (no_element c has)
 named_commit ns k c (Over o) v made has =
@@ -123,7 +123,7 @@ kid_stamps : (kids : List (Bytes × Ref))
 kid_stamps [] = refl
 kid_stamps (e ∷ es) = ap (λ w. stamp_of e.1 ∷ w) (kid_stamps es)
 
-named_stamps : (kind : Kind Ref) → map stamp_in (map found.Commit (commits_named kind))
+named_stamps : (kind : CommitKind Ref) → map stamp_in (map found.Commit (commits_named kind))
     ≡ commits_named (renamed_kind stamp_of kind)
 named_stamps (Snapshot s) = refl
 named_stamps (Over o) = refl
@@ -137,7 +137,7 @@ kid_refs : (rs : List Ref) → map ref_in (map found.Chunk rs) ≡ rs
 kid_refs [] = refl
 kid_refs (r ∷ rs) = ap (λ w. r ∷ w) (kid_refs rs)
 
-named_refs : (kind : Kind Ref) → map ref_in (map found.Commit (commits_named kind)) ≡ commits_named kind
+named_refs : (kind : CommitKind Ref) → map ref_in (map found.Commit (commits_named kind)) ≡ commits_named kind
 named_refs (Snapshot s) = refl
 named_refs (Over o) = refl
 

@@ -4,8 +4,8 @@ use Rattle.std.proofs.Common.{◌∙◌, subst}
 use Rattle.std.specs.Prelude.{IsSome}
 use mathlib.Core.List.{IsPrefix, reverse-append}
 use Rattle.group_history.specs.declared.nodes.Commit.{Commit}
-use Rattle.group_history.specs.declared.nodes.Kind.{Kind}
-use Rattle.group_history.specs.declared.nodes.Kind.TheVariants.{Snapshot, Over}
+use Rattle.group_history.specs.declared.nodes.CommitKind.{CommitKind}
+use Rattle.group_history.specs.declared.nodes.CommitKind.TheVariants.{Snapshot, Over}
 use Rattle.group_history.specs.declared.nodes.Snapshot.{Snapshot as Snapped}
 use Rattle.group_history.specs.declared.nodes.Node.TheVariants as node
 use Rattle.group_history.specs.declared.mutations.Mutation.{Mutation}
@@ -21,7 +21,7 @@ use Rattle.commit_graph.proofs.Chained.{IsDescent, descent_begins, descent_step,
 use Rattle.commit_graph.proofs.Chained.{version_stays}
 
 -- what a commit adds does not hang on how its references are written
-added_renamed : (kind : Kind Ref) → added_in (renamed_kind stamp_of kind) ≡ added_in kind
+added_renamed : (kind : CommitKind Ref) → added_in (renamed_kind stamp_of kind) ≡ added_in kind
 added_renamed (Snapshot s) = refl
 added_renamed (Over o) = refl
 
@@ -57,7 +57,7 @@ stair_begins places first head h pre = record {
   kept = refl;
 }
 
-linked : (kind : Kind Ref) (basis : Ref) → basis_named kind ≡ Some basis
+linked : (kind : CommitKind Ref) (basis : Ref) → basis_named kind ≡ Some basis
     → (o : Option Mutation) × (added_in kind ≡ o)
     × (link_named kind ≡ Some (let l : Link = record { added = o; basis = basis } in l))
 linked (Snapshot s) basis is = absurd (cc is)
@@ -98,7 +98,7 @@ stair_step p q first ns more head at chain c basis d pre g may lies is =
       },
     )
 
-no_basis : (kind : Kind Ref) → basis_named kind ≡ None → (s : Snapped) × (kind ≡ Snapshot s)
+no_basis : (kind : CommitKind Ref) → basis_named kind ≡ None → (s : Snapped) × (kind ≡ Snapshot s)
 no_basis (Snapshot s) h = (s, refl)
 no_basis (Over o) h = absurd (cc h)
 

@@ -6,8 +6,8 @@ use mathlib.Core.List.{IsPrefix}
 use Rattle.group_history.specs.declared.nodes.Chunk.{Chunk}
 use Rattle.group_history.specs.declared.nodes.Chunk.TheVariants.{Leaf, Inner}
 use Rattle.group_history.specs.declared.nodes.Commit.{Commit}
-use Rattle.group_history.specs.declared.nodes.Kind.{Kind}
-use Rattle.group_history.specs.declared.nodes.Kind.TheVariants.{Snapshot, Over}
+use Rattle.group_history.specs.declared.nodes.CommitKind.{CommitKind}
+use Rattle.group_history.specs.declared.nodes.CommitKind.TheVariants.{Snapshot, Over}
 use Rattle.group_history.specs.declared.nodes.Node.{Node}
 use Rattle.group_history.specs.declared.nodes.Node.TheVariants as node
 use Rattle.group_history.specs.declared.refs.Ref.{Ref}
@@ -120,7 +120,7 @@ empty_only ns root k r s (Inner kids) g h lies f = absurd (none kids f lies)
     none (e ∷ es) f lies = cc f
 
 -- a head reaches the snapshot of its chain, and the root that it names
-over_reached : (ns : Contents) (head : Ref) (root : Ref) (kind : Kind Ref) → LiesSo ns (stamp_of head) root kind
+over_reached : (ns : Contents) (head : Ref) (root : Ref) (kind : CommitKind Ref) → LiesSo ns (stamp_of head) root kind
     → Reaches ns (stamp_of head) (stamp_of (snapshot_named head kind))
 over_reached ns head root (Snapshot s) lies = itself (stamp_of head)
 over_reached ns head root (Over o) lies =
@@ -144,7 +144,8 @@ pub root_may : (may : Ref → Type 0) (ns : Contents) (k : ℕ) (c : Commit Ref)
 root_may may ns k c at = at.0 c.root (first_here c.root (commits_named c.kind))
 
 -- the snapshot of its chain, which is itself where it is one
-snapshot_may_be : (may : Ref → Type 0) (head root : Ref) (kind : Kind Ref) → AreAll may (root ∷ commits_named kind)
+snapshot_may_be : (may : Ref → Type 0) (head root : Ref) (kind : CommitKind Ref)
+    → AreAll may (root ∷ commits_named kind)
     → may head → may (snapshot_named head kind)
 snapshot_may_be may head root (Snapshot s) all here = here
 snapshot_may_be may head root (Over o) all here = all o.snapshot
@@ -156,7 +157,7 @@ pub snapshot_may : (may : Ref → Type 0) (ns : Contents) (head : Ref) (k : ℕ)
 snapshot_may may ns head k c here at = snapshot_may_be may head c.root c.kind at.0 here
 
 -- and its basis
-basis_may_be : (may : Ref → Type 0) (root : Ref) (kind : Kind Ref) → AreAll may (root ∷ commits_named kind)
+basis_may_be : (may : Ref → Type 0) (root : Ref) (kind : CommitKind Ref) → AreAll may (root ∷ commits_named kind)
     → IfAt may (basis_named kind)
 basis_may_be may root (Snapshot s) all = tt
 basis_may_be may root (Over o) all = all o.basis
@@ -166,7 +167,8 @@ pub basis_may : (may : Ref → Type 0) (ns : Contents) (k : ℕ) (c : Commit Ref
     → IfAt may (basis_of c)
 basis_may may ns k c at = basis_may_be may c.root c.kind at.0
 
-link_may_be : (may : Ref → Type 0) (root : Ref) (kind : Kind Ref) (l : Link) → AreAll may (root ∷ commits_named kind)
+link_may_be : (may : Ref → Type 0) (root : Ref) (kind : CommitKind Ref) (l : Link)
+    → AreAll may (root ∷ commits_named kind)
     → link_named kind ≡ Some l → may l.basis
 link_may_be may root (Snapshot s) l all e = absurd (cc e)
 link_may_be may root (Over o) l all e = let same : o.basis ≡ l.basis = cc e in
@@ -177,7 +179,7 @@ pub link_may : (may : Ref → Type 0) (ns : Contents) (k : ℕ) (c : Commit Ref)
 link_may may ns k c l at e = link_may_be may c.root c.kind l at.0 e
 
 -- the pulled map's root is that of the snapshot
-base_root_named : (root : Ref) (kind : Kind Ref) (base : Base) → base_in root kind base → root ≡ base.pulled
+base_root_named : (root : Ref) (kind : CommitKind Ref) (base : Base) → base_in root kind base → root ≡ base.pulled
 base_root_named root (Snapshot s) base h = sym (ap (λ (w : Base). w.pulled) h)
 base_root_named root (Over o) base h = absurd h
 

@@ -1,10 +1,10 @@
 -- The snapshot at which a commit's chain begins.
 use Rattle.std.proofs.Common.{◌≡◌, ℕ, zero, suc, ◌<◌, ◌≤◌, Some, Option, slice_get, refl, ap, sym, subst, ◌∙◌, arith}
 use Rattle.std.specs.Prelude.{IsSome}
-use Rattle.group_history.specs.declared.nodes.Kind.{Kind}
-use Rattle.group_history.specs.declared.nodes.Kind.TheVariants.{Snapshot, Over}
-use Rattle.group_history.specs.declared.nodes.Step.{Step}
-use Rattle.group_history.specs.declared.nodes.Step.TheVariants.{Local, Closed}
+use Rattle.group_history.specs.declared.nodes.CommitKind.{CommitKind}
+use Rattle.group_history.specs.declared.nodes.CommitKind.TheVariants.{Snapshot, Over}
+use Rattle.group_history.specs.declared.nodes.CommitChange.{CommitChange}
+use Rattle.group_history.specs.declared.nodes.CommitChange.TheVariants.{Local, Closed}
 use Rattle.group_history.specs.declared.nodes.Node.TheVariants as node
 use Rattle.group_history.specs.State.{State}
 use Rattle.group_history.specs.Spelling.{Contents, Version, version_at, snapshot_at, snapshot_of, stepped, map_at}
@@ -12,7 +12,7 @@ use Rattle.commit_graph.specs.Inside.Chains.{IsSnapshotAt, IsBase}
 use Rattle.commit_graph.proofs.Spelled.{IsMade, commit-made, commit-at, content-at, spelled_version}
 
 -- a step leaves what the server last sent
-base_stepped : (ns : Contents) (k : ℕ) (s : State) (step : Step) → IsBase ns k s → IsBase ns k (stepped s step)
+base_stepped : (ns : Contents) (k : ℕ) (s : State) (step : CommitChange) → IsBase ns k s → IsBase ns k (stepped s step)
 base_stepped ns k s (Local x) b = record {
   root = b.root;
   content = b.content;
@@ -36,7 +36,7 @@ pub record Begins (ns : Contents) (k j : ℕ) (s : State) : Type 0 where
   pub lies : IsSnapshotAt ns j
   pub low : j ≤ k
 
-begins_by : (ns : Contents) (k j : ℕ) (root : ℕ) (kind : Kind ℕ) (v : Version)
+begins_by : (ns : Contents) (k j : ℕ) (root : ℕ) (kind : CommitKind ℕ) (v : Version)
     → slice_get ns k ≡ Some (node.Commit (record { root = root; kind = kind })) → version_at ns k ≡ Some v
     → map_at ns root ≡ Some v.read → j ≡ snapshot_of k kind → IsMade ns k kind v
     → ((i : ℕ) (b : Version) (h : ℕ) → i < k → version_at ns i ≡ Some b → snapshot_at ns i ≡ Some h

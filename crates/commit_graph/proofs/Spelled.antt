@@ -9,8 +9,8 @@ use Rattle.std.proofs.lemmas.Option.{slice_get_cases}
 use Rattle.group_history.specs.declared.nodes.Chunk.{Chunk}
 use Rattle.group_history.specs.declared.nodes.Chunk.TheVariants.{Inner}
 use Rattle.group_history.specs.declared.nodes.Commit.{Commit}
-use Rattle.group_history.specs.declared.nodes.Kind.{Kind}
-use Rattle.group_history.specs.declared.nodes.Kind.TheVariants.{Snapshot, Over}
+use Rattle.group_history.specs.declared.nodes.CommitKind.{CommitKind}
+use Rattle.group_history.specs.declared.nodes.CommitKind.TheVariants.{Snapshot, Over}
 use Rattle.group_history.specs.declared.nodes.Node.{Node}
 use Rattle.group_history.specs.declared.nodes.Node.TheVariants as node
 use Rattle.group_history.specs.Map.{Bytes, Entries}
@@ -20,7 +20,8 @@ use Rattle.group_history.specs.Folds.{answer}
 use Rattle.group_history.specs.Spelling.{Contents, Segment, Version, Spelled, segment, version, as_segment, as_version}
 use Rattle.group_history.specs.Spelling.{as_snapshot, segment_in, version_in, snapshot_in, basis_in, stepped}
 use Rattle.group_history.specs.Spelling.{state_over, state_in, snapshot_of, rows_if, rows_in, begins_with, joined_one}
-use Rattle.group_history.specs.Spelling.{joined_rows, sized, chunk_in, map_of, map_in, commit_in, spelled_by, spelled}
+use Rattle.group_history.specs.Spelling.{joined_rows, sized, chunk_in, segment_map, map_in, commit_in, spelled_by}
+use Rattle.group_history.specs.Spelling.{spelled}
 use Rattle.group_history.specs.Spelling.{segment_at, version_at, snapshot_at, map_at}
 use Rattle.group_history.proofs.Folding.{and_then-some, folded_at, answer_within, length_folded}
 use Rattle.group_history.proofs.Spellings.{segment-stays, version-stays, snapshot-stays, map-stays}
@@ -105,9 +106,9 @@ below_map : (ns : Contents) (k : ℕ) (done : List (Option Spelled)) (c : ℕ) (
     → ((c : ℕ) (y : Spelled) → answer done c ≡ Some y → (c < k) × (answer (spelled ns) c ≡ Some y))
     → map_in done c ≡ Some m → (c < k) × (map_at ns c ≡ Some m)
 below_map ns k done c m below h =
-    let s = and_then-some (segment_in done c) map_of m h in
+    let s = and_then-some (segment_in done c) segment_map m h in
     let w = below_segment ns k done c s.0 below s.1 in
-    (w.0, ap (λ o. option_and_then map_of o) w.1 ∙ s.2)
+    (w.0, ap (λ o. option_and_then segment_map o) w.1 ∙ s.2)
 
 below_snapshot : (ns : Contents) (k : ℕ) (done : List (Option Spelled)) (c j : ℕ)
     → ((c : ℕ) (y : Spelled) → answer done c ≡ Some y → (c < k) × (answer (spelled ns) c ≡ Some y))
@@ -117,7 +118,7 @@ below_snapshot ns k done c j below h =
     ap (λ o. option_and_then as_snapshot o) (below c m.0 m.1).1 ∙ m.2
 
 -- What makes a commit's state: a snapshot has its own, a commit over a basis has the basis's after its step.
-abbrev pub IsMade : Contents → ℕ → Kind ℕ → Version → Type 0
+abbrev pub IsMade : Contents → ℕ → CommitKind ℕ → Version → Type 0
 IsMade ns k (Snapshot s) v = v.state ≡ pulled_state v.read s.cookie s.confirmed
 IsMade ns k (Over o) v =
     (b : Version) × (o.basis < k) × (version_at ns o.basis ≡ Some b) × (snapshot_at ns o.basis ≡ Some o.snapshot)
@@ -131,7 +132,8 @@ if_open : {A : Type 0} (b : Bool) (x y : A) → (if b then None else Some x) ≡
 if_open true x y h = absurd (cc h)
 if_open false x y h = (refl, cc h)
 
-made_so : (ns : Contents) (k : ℕ) (done : List (Option Spelled)) (kind : Kind ℕ) (m : Entries) (s : State) (v : Version)
+made_so : (ns : Contents) (k : ℕ) (done : List (Option Spelled)) (kind : CommitKind ℕ) (m : Entries) (s : State)
+    (v : Version)
     → ((c : ℕ) (y : Spelled) → answer done c ≡ Some y → (c < k) × (answer (spelled ns) c ≡ Some y))
     → state_in done kind m ≡ Some s → v.state ≡ s → v.read ≡ m → IsMade ns k kind v
 made_so ns k done (Snapshot sn) m s v below is state read =

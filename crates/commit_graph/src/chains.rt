@@ -12,7 +12,9 @@ ghost use Rattle.commit_graph.specs.Inside.Chains.{added_by, link_of, top_of, id
 ghost use Rattle.commit_graph.specs.Inside.Chains.{IsSnapshotAt, HasBase, HasCookie, IsShownAt, LiesAt};
 
 use crate::nodes::{Nodes, ShowsCommit};
-use group_history::{Commit, ConfirmedIds, Cookie, Kind, Mutation, Ref, Step, Stop, Text};
+use group_history::{
+    Commit, CommitChange, CommitKind, ConfirmedIds, Cookie, Mutation, Ref, Stop, Text,
+};
 use std::alloc::AllocError;
 
 /// A commit over a basis, as a link of its chain.
@@ -49,12 +51,12 @@ pub struct OwnId {
     pub basis: Option<Ref>,
 }
 
-fn added_by(step: &Step) -> Result<Option<Mutation>, AllocError>
+fn added_by(step: &CommitChange) -> Result<Option<Mutation>, AllocError>
     ensures { IfOk result (λ added. added ≡ added_by step.now) }
 {
     match step {
-        Step::Local(mutation) => Ok(Some(mutation.clone()?)),
-        Step::Closed => Ok(None),
+        CommitChange::Local(mutation) => Ok(Some(mutation.clone()?)),
+        CommitChange::Closed => Ok(None),
     }
 }
 
@@ -62,8 +64,8 @@ fn link_in(commit: &Commit<Ref>) -> Result<Option<Link>, AllocError>
     ensures { IfOk result (λ link. link ≡ link_of commit.now) }
 {
     match &commit.kind {
-        Kind::Snapshot(_) => Ok(None),
-        Kind::Over(over) => Ok(Some(Link {
+        CommitKind::Snapshot(_) => Ok(None),
+        CommitKind::Over(over) => Ok(Some(Link {
             added: added_by(&over.step)?,
             basis: over.basis,
         })),
@@ -74,15 +76,15 @@ fn top_in(commit: &Commit<Ref>, at: Ref) -> Top
     ensures { result ≡ top_of at commit.now }
 {
     match &commit.kind {
-        Kind::Snapshot(_) => Top {
+        CommitKind::Snapshot(_) => Top {
             root: commit.root,
             snapshot: at,
             closed: false,
         },
-        Kind::Over(over) => Top {
+        CommitKind::Over(over) => Top {
             root: commit.root,
             snapshot: over.snapshot,
-            closed: matches!(over.step, Step::Closed),
+            closed: matches!(over.step, CommitChange::Closed),
         },
     }
 }
@@ -91,23 +93,23 @@ fn basis_in(commit: &Commit<Ref>) -> Option<Ref>
     ensures { result ≡ basis_of commit.now }
 {
     match &commit.kind {
-        Kind::Snapshot(_) => None,
-        Kind::Over(over) => Some(over.basis),
+        CommitKind::Snapshot(_) => None,
+        CommitKind::Over(over) => Some(over.basis),
     }
 }
 
-fn id_in(step: &Step, client: &Text) -> u64
+fn id_in(step: &CommitChange, client: &Text) -> u64
     ensures { result ≡ id_in client.now step.now }
 {
     match step {
-        Step::Local(mutation) => {
+        CommitChange::Local(mutation) => {
             if mutation.client == *client {
                 mutation.id
             } else {
                 0
             }
         }
-        Step::Closed => 0,
+        CommitChange::Closed => 0,
     }
 }
 
@@ -115,8 +117,8 @@ fn own_id_in(commit: &Commit<Ref>, client: &Text) -> u64
     ensures { result ≡ own_id client.now commit.now }
 {
     match &commit.kind {
-        Kind::Snapshot(snapshot) => snapshot.confirmed.of(client),
-        Kind::Over(over) => id_in(&over.step, client),
+        CommitKind::Snapshot(snapshot) => snapshot.confirmed.of(client),
+        CommitKind::Over(over) => id_in(&over.step, client),
     }
 }
 
@@ -124,7 +126,7 @@ fn cookie_in(commit: &Commit<Ref>) -> Result<Cookie, AllocError>
     requires { IsSnapshot commit.now }
     ensures { IfOk result (λ cookie. HasCookie commit.now cookie) }
 {
-    let Kind::Snapshot(snapshot) = &commit.kind else {
+    let CommitKind::Snapshot(snapshot) = &commit.kind else {
         unreachable!();
     };
     snapshot.cookie.clone()
@@ -134,7 +136,7 @@ fn base_in(commit: &Commit<Ref>) -> Result<Base, AllocError>
     requires { IsSnapshot commit.now }
     ensures { IfOk result (λ base. HasBase commit.now base) }
 {
-    let Kind::Snapshot(snapshot) = &commit.kind else {
+    let CommitKind::Snapshot(snapshot) = &commit.kind else {
         unreachable!();
     };
     Ok(Base {

@@ -14,7 +14,7 @@ ghost use Rattle.commit_graph.specs.Inside.Handing.{AddUp, IsAdded, added_in};
 
 use crate::chains::show_basis;
 use crate::nodes::{Nodes, ShowsCommit};
-use group_history::{Commit, Kind, Mutation, Ref, Step, Stop};
+use group_history::{Commit, CommitChange, CommitKind, Mutation, Ref, Stop};
 use std::alloc::{AllocError, Global};
 
 /// Who takes mutations, one after another.
@@ -27,13 +27,13 @@ pub trait TakesMutations {
         ensures { (xs : List Mutated) → has self.old xs → OnOk result (has self.new (xs ++ mutation.now ∷ [])) };
 }
 
-fn hand_step<T: TakesMutations>(step: &Step, taker: &mut T) -> Result<(), AllocError>
+fn hand_step<T: TakesMutations>(step: &CommitChange, taker: &mut T) -> Result<(), AllocError>
     ensures { (xs : List Mutated) → T.has taker.old xs
         → OnOk result (T.has taker.new (xs ++ listed (added_by step.now))) }
 {
     match step {
-        Step::Local(mutation) => taker.take(mutation),
-        Step::Closed => Ok(()),
+        CommitChange::Local(mutation) => taker.take(mutation),
+        CommitChange::Closed => Ok(()),
     }
 }
 
@@ -42,8 +42,8 @@ fn hand_commit<T: TakesMutations>(commit: &Commit<Ref>, taker: &mut T) -> Result
         → OnOk result (T.has taker.new (xs ++ listed (added_in commit.now.kind))) }
 {
     match &commit.kind {
-        Kind::Snapshot(_) => Ok(()),
-        Kind::Over(over) => hand_step(&over.step, taker),
+        CommitKind::Snapshot(_) => Ok(()),
+        CommitKind::Over(over) => hand_step(&over.step, taker),
     }
 }
 

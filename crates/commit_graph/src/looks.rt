@@ -14,7 +14,7 @@ ghost use Rattle.commit_graph.specs.declared.founds.Found.TheVariants as found;
 use crate::founds::Found;
 use crate::frontiers::Frontier;
 use crate::nodes::{Nodes, ShowsCommit};
-use group_history::{Chunk, Commit, Kind, Ref, Stop};
+use group_history::{Chunk, Commit, CommitKind, Ref, Stop};
 use map_chunks::ShowsChunk;
 use std::alloc::AllocError;
 
@@ -43,12 +43,12 @@ fn add_commits(frontier: &mut Frontier, basis: Ref, snapshot: Ref) -> Result<(),
     frontier.add(Found::Commit(snapshot))
 }
 
-fn add_named(frontier: &mut Frontier, kind: &Kind<Ref>) -> Result<(), AllocError>
+fn add_named(frontier: &mut Frontier, kind: &CommitKind<Ref>) -> Result<(), AllocError>
     ensures { OnOk result (Adds frontier.old (map found.Commit (commits_named kind.now)) frontier.new) }
 {
     match kind {
-        Kind::Snapshot(_) => add_chunks(frontier, &[]),
-        Kind::Over(over) => add_commits(frontier, over.basis, over.snapshot),
+        CommitKind::Snapshot(_) => add_chunks(frontier, &[]),
+        CommitKind::Over(over) => add_commits(frontier, over.basis, over.snapshot),
     }
 }
 

@@ -10,7 +10,7 @@ ghost use Rattle.group_history.specs.declared.mutators.Stop.TheVariants.{Gone};
 ghost use Rattle.head_word.specs.Books.{drawn};
 ghost use Rattle.chunk_slots.specs.Contents.{IsContent};
 ghost use Rattle.commit_graph.specs.Seats.{IsReading, is_held};
-ghost use Rattle.commit_graph.specs.Stores.{IsLost};
+ghost use Rattle.commit_graph.specs.Stores.{IsStoreStop};
 ghost use Rattle.commit_graph.specs.Inside.Kinds.{is_chunk, chunk_of, commit_of};
 
 use crate::nodes::{Nodes, ShowsCommit};
@@ -160,7 +160,7 @@ impl<'a, M: Means, S: Slots<M>> Chunks for StoreNodes<'a, M, S> {
 
     ghost places_prop = { λ _ at. Unit-prop };
 
-    ghost stops = { IsLost S.reused };
+    ghost stops = { IsStoreStop S.reused };
 
     fn show(&mut self, at: Ref) -> Result<HeldChunk<'a, M>, Stop> {
         let shared = self.shared;

@@ -11,7 +11,7 @@ pub use commit_graph::{
     Base, CommitState, LastId, Nodes, Seat, Shared, ShowsCommit, StoreNodes, Top, VecNodes,
     base_of, closed_of, cookie_of, dropped, last_id_of, state_of, top_of, walk,
 };
-pub use group_history::Step::{Closed, Local};
-pub use group_history::{Commit, Kind, Over, Ref, Snapshot, Step};
+pub use group_history::CommitChange::{Closed, Local};
+pub use group_history::{Commit, CommitChange, CommitKind, Ref, Snapshot, Successor};
 pub use joined_machine::joined_law;
 pub use publishing::{Move, abandon_draft, place_draft, publish_draft};

@@ -16,15 +16,15 @@ use Rattle.group_history.specs.Map.{Bytes, Entries, same_text}
 use Rattle.group_history.specs.Meaning.{Meanings}
 use Rattle.group_history.specs.State.{Ids, confirmed_id, ids_of, replayed, rebased}
 use Rattle.group_history.specs.Pulling.{overwritten, unconfirmed, left_pending, goes_back}
-use Rattle.group_history.specs.Ids.{Follows, IdsFollow}
+use Rattle.group_history.specs.Ids.{AreConsecutive, IdsFollow}
 use Rattle.group_history.specs.Inside.Plain.{IsKept}
 
 -- the greatest of n and the numbers that follow it
-pub greatest-Follows : (n : ℕ) (xs : List ℕ) → Follows n xs → fold max n xs ≡ n + length xs
-greatest-Follows n [] f = omega arith
-greatest-Follows n (x ∷ xs) f =
+pub greatest-AreConsecutive : (n : ℕ) (xs : List ℕ) → AreConsecutive n xs → fold max n xs ≡ n + length xs
+greatest-AreConsecutive n [] f = omega arith
+greatest-AreConsecutive n (x ∷ xs) f =
     let next : max n x ≡ n + 1 = omega (arith, f.0) in
-    ap (λ k. fold max k xs) next ∙ greatest-Follows (n + 1) xs f.1 ∙ omega arith
+    ap (λ k. fold max k xs) next ∙ greatest-AreConsecutive (n + 1) xs f.1 ∙ omega arith
 
 length-ids_of : (client : Bytes) (xs : List Mutation) → length (ids_of client xs) ≤ length xs
 length-ids_of client [] = omega arith
@@ -38,29 +38,31 @@ length-ids_of client (x ∷ xs) =
     ]
 
 -- one more
-Follows-push : (n : ℕ) (xs : List ℕ) (x : ℕ) → Follows n xs → x ≡ n + length xs + 1 → Follows n (xs ++ x ∷ [])
-Follows-push n [] x f is = (omega arith, tt)
-Follows-push n (y ∷ ys) x f is = (f.0, Follows-push (n + 1) ys x f.1 (omega arith))
+AreConsecutive-push : (n : ℕ) (xs : List ℕ) (x : ℕ) → AreConsecutive n xs → x ≡ n + length xs + 1
+    → AreConsecutive n (xs ++ x ∷ [])
+AreConsecutive-push n [] x f is = (omega arith, tt)
+AreConsecutive-push n (y ∷ ys) x f is = (f.0, AreConsecutive-push (n + 1) ys x f.1 (omega arith))
 
 -- numbers that follow n are all above m, where m is at most n
-above : (m n : ℕ) (xs : List ℕ) → Follows n xs → m ≤ n → filter (λ i. nat_lt m i) xs ≡ xs
+above : (m n : ℕ) (xs : List ℕ) → AreConsecutive n xs → m ≤ n → filter (λ i. nat_lt m i) xs ≡ xs
 above m n [] f h = refl
 above m n (x ∷ xs) f h =
     rw (lt-ltb m x (omega (arith, f.0))) (ap (λ ys. x ∷ ys) (above m (n + 1) xs f.1 (omega arith)))
 
 -- those above m follow m
-Follows-above : (m n : ℕ) (xs : List ℕ) → Follows n xs → n ≤ m → Follows m (filter (λ i. nat_lt m i) xs)
-Follows-above m n [] f h = tt
-Follows-above m n (x ∷ xs) f h =
+AreConsecutive-above : (m n : ℕ) (xs : List ℕ) → AreConsecutive n xs → n ≤ m
+    → AreConsecutive m (filter (λ i. nat_lt m i) xs)
+AreConsecutive-above m n [] f h = tt
+AreConsecutive-above m n (x ∷ xs) f h =
     elim (nat_lt m x) as (λ b. nat_lt m x ≡ b
-    → Follows m (cond b (x ∷ filter (λ i. nat_lt m i) xs) (filter (λ i. nat_lt m i) xs))) [
+    → AreConsecutive m (cond b (x ∷ filter (λ i. nat_lt m i) xs) (filter (λ i. nat_lt m i) xs))) [
       | true ↦ λ e.
           let is : n ≡ m = omega (arith, f.0, ltb-true m x e) in (
             omega (arith, f.0),
-            subst (λ k. Follows (k + 1) (filter (λ i. nat_lt m i) xs)) is
+            subst (λ k. AreConsecutive (k + 1) (filter (λ i. nat_lt m i) xs)) is
                 (rw (above m (n + 1) xs f.1 (omega arith)) f.1),
           )
-      | false ↦ λ e. Follows-above m (n + 1) xs f.1 (omega (arith, f.0, ltb-false m x e))
+      | false ↦ λ e. AreConsecutive-above m (n + 1) xs f.1 (omega (arith, f.0, ltb-false m x e))
     ] refl
 
 -- the ids of a client's mutations that are not confirmed are those of its ids that are above its confirmed id
@@ -156,8 +158,8 @@ pub after_pull-IdsFollow : (ids : Ids) (changes : List Confirmed) (xs : List Mut
     → goes_back ids changes ≡ false → AllByRecursion (λ c. c.id ≤ 2 ^ 52) changes
     → IdsFollow (overwritten ids changes) (left_pending (overwritten ids changes) xs)
 after_pull-IdsFollow ids changes xs ok forward small = record {
-  pending_ids = λ client. subst (Follows _) (sym (ids_of-left (overwritten ids changes) client xs))
-      (Follows-above (confirmed_id (overwritten ids changes) client) (confirmed_id ids client) (ids_of client xs)
+  pending_ids = λ client. subst (AreConsecutive _) (sym (ids_of-left (overwritten ids changes) client xs))
+      (AreConsecutive-above (confirmed_id (overwritten ids changes) client) (confirmed_id ids client) (ids_of client xs)
       (ok.pending_ids client) (overwritten-≥ ids changes forward ids (λ k. omega arith) client));
   bounded = λ client. overwritten-≤ changes small ids ok.bounded client;
 }
@@ -179,16 +181,17 @@ pub after_mutate-IdsFollow : (ids : Ids) (xs : List Mutation) (x : Mutation) →
     → x.id ≡ fold max (confirmed_id ids x.client) (ids_of x.client xs) + 1
     → IdsFollow ids (xs ++ x ∷ [])
 after_mutate-IdsFollow ids xs x ok next = record {
-  pending_ids = λ client. subst (Follows _) (sym (ids_of-append client xs (x ∷ [])))
+  pending_ids = λ client. subst (AreConsecutive _) (sym (ids_of-append client xs (x ∷ [])))
       (elim (same_text x.client client) as (λ p. same_text x.client client ≡ p
-      → Follows (confirmed_id ids client) (ids_of client xs ++ map (λ (m : Mutation). m.id) (cond p (x ∷ []) []))) [
+      → AreConsecutive (confirmed_id ids client) (ids_of client xs ++ map (λ (m : Mutation). m.id) (cond p
+      (x ∷ []) []))) [
         | true ↦ λ e.
             let is : x.client ≡ client = (bytes_eq-Decides x.client client).0 e in
             let at : x.id ≡ fold max (confirmed_id ids client) (ids_of client xs) + 1 = subst
             (λ c. x.id ≡ fold max (confirmed_id ids c) (ids_of c xs) + 1) is next in
-            Follows-push _ (ids_of client xs) x.id (ok.pending_ids client)
-            (at ∙ ap (λ n. n + 1) (greatest-Follows _ _ (ok.pending_ids client)))
-        | false ↦ λ e. subst (Follows _) (sym (append-nil (ids_of client xs))) (ok.pending_ids client)
+            AreConsecutive-push _ (ids_of client xs) x.id (ok.pending_ids client)
+            (at ∙ ap (λ n. n + 1) (greatest-AreConsecutive _ _ (ok.pending_ids client)))
+        | false ↦ λ e. subst (AreConsecutive _) (sym (append-nil (ids_of client xs))) (ok.pending_ids client)
       ] refl);
   bounded = ok.bounded;
 }
@@ -198,7 +201,7 @@ pub last_id-≤ : (ids : Ids) (xs : List Mutation) (client : Bytes) → IdsFollo
     → fold max (confirmed_id ids client) (ids_of client xs) ≤ 2 ^ 52 + length xs
 last_id-≤ ids xs client ok = omega (
   arith,
-  greatest-Follows _ _ (ok.pending_ids client),
+  greatest-AreConsecutive _ _ (ok.pending_ids client),
   length-ids_of client xs,
   ok.bounded client,
 )

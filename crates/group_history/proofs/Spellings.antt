@@ -11,7 +11,7 @@ use Rattle.group_history.specs.Rows.{Rows}
 use Rattle.group_history.specs.Folds.{answer, joined}
 use Rattle.group_history.specs.Spelling.{Contents, Spelled, Segment, Version, as_segment, as_version, as_snapshot}
 use Rattle.group_history.specs.Spelling.{segment, version, spelled_by, spelled, segment_at, version_at, snapshot_at}
-use Rattle.group_history.specs.Spelling.{rows_at, rows_if, map_at, map_of, chunk_in, commit_in, snapshot_of}
+use Rattle.group_history.specs.Spelling.{rows_at, rows_if, map_at, segment_map, chunk_in, commit_in, snapshot_of}
 use Rattle.group_history.proofs.Folding.{and_then-some, folded_stays, folded_at, answer_within, length_folded, seam}
 use Rattle.group_history.proofs.Folding.{folded_more}
 
@@ -40,8 +40,8 @@ rows-stay xs ys depth k rows h =
 
 pub map-stays : (xs ys : Contents) (k : ℕ) (m : Entries) → map_at xs k ≡ Some m → map_at (xs ++ ys) k ≡ Some m
 map-stays xs ys k m h =
-    let s = and_then-some (segment_at xs k) map_of m h in
-    ap (λ o. option_and_then map_of o) (segment-stays xs ys k s.0 s.1) ∙ s.2
+    let s = and_then-some (segment_at xs k) segment_map m h in
+    ap (λ o. option_and_then segment_map o) (segment-stays xs ys k s.0 s.1) ∙ s.2
 
 content-within : (ns : Contents) (k : ℕ) → k < length ns → (n : Node ℕ) × (slice_get ns k ≡ Some n)
 content-within [] k h = absurd (omega arith)

@@ -14,9 +14,9 @@ AnswersSeen view (Ok x) right = right ≡ Ok (view x)
 AnswersSeen view (Err e) right = Refuses e right
 
 -- the call answers what is right
-abbrev pub Answers : {X : Type 0} → Result X Refusal → Result X Refusal → Type 0
-Answers (Ok x) right = right ≡ Ok x
-Answers (Err e) right = Refuses e right
+abbrev pub AnswersOrNoMemory : {X : Type 0} → Result X Refusal → Result X Refusal → Type 0
+AnswersOrNoMemory (Ok x) right = right ≡ Ok x
+AnswersOrNoMemory (Err e) right = Refuses e right
 
 infixl 10 ◌>>=◌
 abbrev pub ◌>>=◌ : {A B : Type 0} → Result A Refusal → (A → Result B Refusal) → Result B Refusal

@@ -16,10 +16,10 @@ by_meaning (refuses code) id = Err (refusal.Refused code)
 by_meaning (done m) id = Ok id
 
 -- the map that a mutation leaves, or why it is refused
-abbrev pub map_of : Meaning → Result Entries Refusal
-map_of unknown = Err refusal.NoMutator
-map_of (refuses code) = Err (refusal.Refused code)
-map_of (done m) = Ok m
+abbrev pub map_if_done : Meaning → Result Entries Refusal
+map_if_done unknown = Err refusal.NoMutator
+map_if_done (refuses code) = Err (refusal.Refused code)
+map_if_done (done m) = Ok m
 
 -- the reply at an open state
 abbrev pub open_reply : Meanings → State → ℕ → Mutation → Result ℕ Refusal

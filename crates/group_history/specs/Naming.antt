@@ -3,8 +3,8 @@ use Rattle.std.specs.Prelude.{ℕ, ◌+◌, ◌-◌, nat_lt, cond, List, [], ◌
 use Rattle.group_history.specs.declared.nodes.Chunk.{Chunk}
 use Rattle.group_history.specs.declared.nodes.Chunk.TheVariants.{Leaf, Inner}
 use Rattle.group_history.specs.declared.nodes.Commit.{Commit}
-use Rattle.group_history.specs.declared.nodes.Kind.{Kind}
-use Rattle.group_history.specs.declared.nodes.Kind.TheVariants.{Snapshot, Over}
+use Rattle.group_history.specs.declared.nodes.CommitKind.{CommitKind}
+use Rattle.group_history.specs.declared.nodes.CommitKind.TheVariants.{Snapshot, Over}
 use Rattle.group_history.specs.declared.nodes.Node.{Node}
 use Rattle.group_history.specs.declared.nodes.Node.TheVariants as node
 use Rattle.group_history.specs.declared.nodes.Child.{Child}
@@ -18,7 +18,7 @@ abbrev pub renamed_chunk : {A B : Type 0} → (A → B) → Chunk A → Chunk B
 renamed_chunk f (Leaf rows) = Leaf rows
 renamed_chunk f (Inner kids) = Inner (map (λ e. (e.0, f e.1)) kids)
 
-abbrev pub renamed_kind : {A B : Type 0} → (A → B) → Kind A → Kind B
+abbrev pub renamed_kind : {A B : Type 0} → (A → B) → CommitKind A → CommitKind B
 renamed_kind f (Snapshot s) = Snapshot s
 renamed_kind f (Over o) = Over (record { basis = f o.basis; snapshot = f o.snapshot; step = o.step })
 
@@ -35,7 +35,7 @@ chunk_children (Leaf rows) = []
 chunk_children (Inner kids) = values_of kids
 
 -- the commits that a commit names: its basis, and the snapshot of its chain
-abbrev pub commits_named : {A : Type 0} → Kind A → List A
+abbrev pub commits_named : {A : Type 0} → CommitKind A → List A
 commits_named (Snapshot s) = []
 commits_named (Over o) = o.basis ∷ o.snapshot ∷ []
 

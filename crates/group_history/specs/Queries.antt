@@ -18,8 +18,8 @@ abbrev pub has_at : Meanings → State → Bytes → Bool
 has_at means s key = finite.contains_key (view_of means s) key
 
 -- the rows of a scan
-abbrev pub rows_at : Meanings → State → Scan → List (Bytes × Bytes)
-rows_at means s scan = rows_of scan (view_of means s)
+abbrev pub view_rows : Meanings → State → Scan → List (Bytes × Bytes)
+view_rows means s scan = rows_of scan (view_of means s)
 
 -- whether no key is there
 abbrev pub is_empty_at : Meanings → State → Bool

@@ -8,10 +8,10 @@ use Rattle.std.specs.FinMap as finite
 use Rattle.group_history.specs.declared.nodes.Chunk.{Chunk}
 use Rattle.group_history.specs.declared.nodes.Chunk.TheVariants.{Leaf, Inner}
 use Rattle.group_history.specs.declared.nodes.Commit.{Commit}
-use Rattle.group_history.specs.declared.nodes.Kind.{Kind}
-use Rattle.group_history.specs.declared.nodes.Kind.TheVariants.{Snapshot, Over}
-use Rattle.group_history.specs.declared.nodes.Step.{Step}
-use Rattle.group_history.specs.declared.nodes.Step.TheVariants.{Local, Closed}
+use Rattle.group_history.specs.declared.nodes.CommitKind.{CommitKind}
+use Rattle.group_history.specs.declared.nodes.CommitKind.TheVariants.{Snapshot, Over}
+use Rattle.group_history.specs.declared.nodes.CommitChange.{CommitChange}
+use Rattle.group_history.specs.declared.nodes.CommitChange.TheVariants.{Local, Closed}
 use Rattle.group_history.specs.declared.nodes.Node.{Node}
 use Rattle.group_history.specs.declared.nodes.Node.TheVariants as node
 use Rattle.group_history.specs.Map.{Bytes, Entries, same_text}
@@ -103,11 +103,11 @@ chunk_in done (Leaf rows) = sized (length rows) 1 rows
 chunk_in done (Inner kids) = inner_in done kids
 
 -- the map of a root's rows, whose keys are in strict order
-abbrev pub map_of : Segment → Option Entries
-map_of s = if finite.is_sorted (slice_cmp nat_cmp) s.rows then Some (finite.from_sorted s.rows) else None
+abbrev pub segment_map : Segment → Option Entries
+segment_map s = if finite.is_sorted (slice_cmp nat_cmp) s.rows then Some (finite.from_sorted s.rows) else None
 
 abbrev pub map_in : List (Option Spelled) → ℕ → Option Entries
-map_in done root = option_and_then map_of (segment_in done root)
+map_in done root = option_and_then segment_map (segment_in done root)
 
 -- what a basis spells, if its chain begins at this snapshot
 abbrev pub basis_in : List (Option Spelled) → ℕ → ℕ → Option Version
@@ -115,16 +115,16 @@ basis_in done basis snapshot = option_and_then (λ k. if k == snapshot then vers
     (snapshot_in done basis)
 
 -- the state after what a commit adds to its basis
-abbrev pub stepped : State → Step → State
+abbrev pub stepped : State → CommitChange → State
 stepped s (Local x) = after_mutate s x
 stepped s Closed = after_closing s
 
 -- the state after one step more; a closed one has none
-abbrev pub state_over : Step → Version → Option State
+abbrev pub state_over : CommitChange → Version → Option State
 state_over step v = if v.state.closed then None else Some (stepped v.state step)
 
 -- a snapshot spells a state with nothing pending, a commit over a basis the basis's state after one step more
-abbrev pub state_in : List (Option Spelled) → Kind ℕ → Entries → Option State
+abbrev pub state_in : List (Option Spelled) → CommitKind ℕ → Entries → Option State
 state_in done (Snapshot s) m = Some (pulled_state m s.cookie s.confirmed)
 state_in done (Over o) m = option_and_then (state_over o.step) (basis_in done o.basis o.snapshot)
 
@@ -134,7 +134,7 @@ commit_in done c = option_and_then (λ m. option_map (λ s. record { state = s; 
     (map_in done c.root)
 
 -- the snapshot of a commit's chain; a snapshot of this stamp begins one
-abbrev pub snapshot_of : ℕ → Kind ℕ → ℕ
+abbrev pub snapshot_of : ℕ → CommitKind ℕ → ℕ
 snapshot_of own (Snapshot s) = own
 snapshot_of own (Over o) = o.snapshot
 

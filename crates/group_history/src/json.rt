@@ -9,7 +9,7 @@ ghost use Rattle.serde_json.specs.Data.{depth, items_depth, members_depth};
 ghost use Rattle.serde_json.specs.View.{view, items_view, members_view};
 ghost use Rattle.serde_json.specs.Written.{has_float, items_have_float, members_have_float, compact_text};
 ghost use Rattle.group_history.specs.declared.refusals.Refusal.TheVariants as refusal;
-ghost use Rattle.group_history.specs.Answers.{AnswersSeen, Answers};
+ghost use Rattle.group_history.specs.Answers.{AnswersSeen, AnswersOrNoMemory};
 ghost use Rattle.group_history.specs.Json.{reading, json_text, text_of};
 ghost use Rattle.group_history.specs.Meaning.{value_of};
 
@@ -142,7 +142,7 @@ impl Json {
     /// The compact text of the value that the bytes are. Refused with NotJson where they are no JSON
     /// text or nest deeper than 124, and then with NotWhole where a number isn't whole.
     pub fn read(alloc: Global, bytes: &[u8]) -> Result<Json, Refusal>
-        ensures { Answers result (json_text bytes.now) }
+        ensures { AnswersOrNoMemory result (json_text bytes.now) }
     {
         let value = read_value(alloc, bytes)?;
         Json::of(alloc, &value)
@@ -150,7 +150,7 @@ impl Json {
 
     /// The compact text of a value, with the same refusals.
     pub fn of(alloc: Global, value: &Value) -> Result<Json, Refusal>
-        ensures { Answers result (text_of (view value.now)) }
+        ensures { AnswersOrNoMemory result (text_of (view value.now)) }
     {
         if !nests_within(value, MAX_NESTING) {
             return Err(Refusal::NotJson);

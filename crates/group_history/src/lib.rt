@@ -34,7 +34,8 @@ pub use laws::{record_laws, worked_examples};
 pub use mutations::{Mutation, Reason};
 pub use mutators::{Means, Mutators, Ran, Stop, WriteView};
 pub use nodes::{
-    BoxedCommit, Child, Chunk, Commit, Inner, Keys, Kind, Leaf, Node, Over, Snapshot, Step,
+    BoxedCommit, Child, Chunk, Commit, CommitChange, CommitKind, Inner, Keys, Leaf, Node, Snapshot,
+    Successor,
 };
 pub use plain::PlainGroup;
 pub use refs::{MAX_SEATS, MAX_SLOTS, Ref, STAMP_BITS, STAMPS};

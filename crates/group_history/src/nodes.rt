@@ -196,7 +196,7 @@ pub struct Snapshot {
 
 /// What a commit adds to its basis.
 #[derive(Drop)]
-pub enum Step {
+pub enum CommitChange {
     /// A mutation, which is pending at it.
     Local(Mutation),
 
@@ -206,25 +206,25 @@ pub enum Step {
 
 /// A commit over another one.
 #[derive(Drop)]
-pub struct Over<R> {
+pub struct Successor<R> {
     /// The commit before it.
     pub basis: R,
     /// The snapshot at which its chain begins: the basis's own, or the basis where that is one.
     pub snapshot: R,
-    pub step: Step,
+    pub step: CommitChange,
 }
 
 #[derive(Drop)]
-pub enum Kind<R> {
+pub enum CommitKind<R> {
     Snapshot(Snapshot),
-    Over(Over<R>),
+    Over(Successor<R>),
 }
 
 /// A commit: the root of the map that queries read at it, and what it is.
 #[derive(Drop)]
 pub struct Commit<R> {
     pub root: R,
-    pub kind: Kind<R>,
+    pub kind: CommitKind<R>,
 }
 
 /// A commit behind a pointer: so a node takes no more room than a chunk needs, 48 bytes.

@@ -7,11 +7,11 @@
 ghost use Rattle.std.specs.Prelude.{◌≡◌, ◌+◌, false, Ok, IfOk, IfErr, OnOk, OnErr};
 ghost use Rattle.std.specs.Option.{option_copied};
 ghost use Rattle.group_history.specs.declared.refusals.Refusal.TheVariants.{NoMemory};
-ghost use Rattle.group_history.specs.Answers.{Answers, Refuses};
+ghost use Rattle.group_history.specs.Answers.{AnswersOrNoMemory, Refuses};
 ghost use Rattle.group_history.specs.Meaning.{meaning_of};
 ghost use Rattle.group_history.specs.State.{opening, made, last_id, view_of};
-ghost use Rattle.group_history.specs.Queries.{get_at, has_at, rows_at, is_empty_at};
-ghost use Rattle.group_history.specs.Mutating.{mutate_reply, after_mutate, left_by_mutate, map_of};
+ghost use Rattle.group_history.specs.Queries.{get_at, has_at, view_rows, is_empty_at};
+ghost use Rattle.group_history.specs.Mutating.{mutate_reply, after_mutate, left_by_mutate, map_if_done};
 ghost use Rattle.group_history.specs.Pulling.{after_pull, end_at, end_reply, left_at_end, left_by_end, goes_back};
 
 use crate::cookies::{Cookie, cookie_cmp};
@@ -97,7 +97,7 @@ impl<M: Mutators> PlainGroup<M> {
 
     /// The rows of a scan of the view.
     pub fn scan(&self, scan: &Scan) -> Result<Vec<(Text, Json)>, Refusal>
-        ensures rows { IfOk result (λ rows. rows.items ≡ rows_at M.means self.now scan.now) }
+        ensures rows { IfOk result (λ rows. rows.items ≡ view_rows M.means self.now scan.now) }
         ensures err { IfErr result (λ e. e ≡ NoMemory) }
     {
         Ok(self.view.rows(self.alloc, scan)?)
@@ -147,7 +147,7 @@ impl<M: Mutators> PlainGroup<M> {
         ticket: &Cookie,
         response: &Response,
     ) -> Result<Ended, Refusal>
-        ensures answer { Answers result (end_reply self.old ticket.now.text response.now) }
+        ensures answer { AnswersOrNoMemory result (end_reply self.old ticket.now.text response.now) }
         ensures left { self.new ≡ left_by_end result self.old response.now }
     {
         if self.closed() {
@@ -165,7 +165,7 @@ impl<M: Mutators> PlainGroup<M> {
 
     // Ends a pull of an open group by a response without an error.
     fn end_with(&mut self, mutators: &M, ticket: &Cookie, pull: &PullOk) -> Result<Ended, Refusal>
-        ensures answer { Answers result (end_at self.old ticket.now.text pull.now) }
+        ensures answer { AnswersOrNoMemory result (end_at self.old ticket.now.text pull.now) }
         ensures left { self.new ≡ left_at_end result self.old pull.now }
     {
         if self.cookie.text() != ticket.text() {
@@ -238,7 +238,7 @@ impl<M: Mutators> PlainGroup<M> {
         args: &Json,
         time: u64,
     ) -> Result<u64, Refusal>
-        ensures answer { Answers result (mutate_reply M.means self.old last
+        ensures answer { AnswersOrNoMemory result (mutate_reply M.means self.old last
             (made client.now (last + 1) name.now args.now time)) }
         ensures left { self.new ≡ left_by_mutate result self.old (made client.now (last + 1) name.now args.now time) }
     {
@@ -257,11 +257,12 @@ impl<M: Mutators> PlainGroup<M> {
     // Adds the client's next mutation, unless its mutator refuses or isn't known.
     fn accept(&mut self, mutators: &M, mutation: Mutation) -> Result<(), Refusal>
         requires { mutation.id ≡ last_id self.old mutation.client + 1 }
-        ensures done { OnOk result (map_of (meaning_of M.means mutation (view_of M.means self.old))
+        ensures done { OnOk result (map_if_done (meaning_of M.means mutation (view_of M.means self.old))
             ≡ Ok (view_of M.means self.new)) }
         ensures ok { OnOk result (self.new ≡ after_mutate self.old mutation) }
         ensures err { OnErr result (self.new ≡ self.old) }
-        ensures why { IfErr result (λ e. Refuses e (map_of (meaning_of M.means mutation (view_of M.means self.old)))) }
+        ensures why { IfErr result (λ e. Refuses e (map_if_done (meaning_of M.means mutation
+            (view_of M.means self.old)))) }
     {
         let view = self.shown_after(mutators, &mutation)?;
         self.pending.push(mutation)?;
@@ -271,7 +272,7 @@ impl<M: Mutators> PlainGroup<M> {
 
     // The view after one run of a mutation on it, unless its mutator refuses or isn't known.
     fn shown_after(&self, mutators: &M, mutation: &Mutation) -> Result<TextMap<Json>, Refusal>
-        ensures { Answers result (map_of (meaning_of M.means mutation.now (view_of M.means self.now))) }
+        ensures { AnswersOrNoMemory result (map_if_done (meaning_of M.means mutation.now (view_of M.means self.now))) }
     {
         let mut view = PlainView {
             alloc: self.alloc,

@@ -5,7 +5,7 @@
 ghost use Rattle.std.specs.Prelude.{◌≡◌, map};
 ghost use Rattle.group_history.specs.Naming.{placed_ref, renamed_chunk, renamed_commit, renamed_kind};
 
-use crate::nodes::{BoxedCommit, Chunk, Commit, Inner, Kind};
+use crate::nodes::{BoxedCommit, Chunk, Commit, CommitKind, Inner};
 use crate::refs::Ref;
 
 // The reference of a child.
@@ -43,12 +43,12 @@ pub(crate) fn renamed_chunk(chunk: Chunk<Ref>, from: u64, refs: &[Ref]) -> Chunk
     }
 }
 
-fn rename_kind(kind: &mut Kind<Ref>, from: u64, refs: &[Ref])
+fn rename_kind(kind: &mut CommitKind<Ref>, from: u64, refs: &[Ref])
     ensures { kind.new ≡ renamed_kind (placed_ref from refs.now) kind.old }
 {
     match kind {
-        Kind::Snapshot(_) => {}
-        Kind::Over(over) => {
+        CommitKind::Snapshot(_) => {}
+        CommitKind::Over(over) => {
             over.basis = renamed_ref(over.basis, from, refs);
             over.snapshot = renamed_ref(over.snapshot, from, refs);
         }

@@ -12,11 +12,11 @@ use Rattle.group_history.specs.Spelling.{Contents, Version, version_of, Spells}
 use Rattle.group_history.specs.State.{State}
 use Rattle.group_history.specs.Stops.{told_as}
 use Rattle.map_chunks.specs.Places.{with_nodes}
-use Rattle.commit_graph.specs.Stores.{IsLost}
+use Rattle.commit_graph.specs.Stores.{IsStoreStop}
 use Rattle.answered.specs.Changes.{change_made}
 use Rattle.answered.specs.Trying.{IsUnproposed}
 use Rattle.replays.specs.Refusing.{StopsAs, RefusesFor}
-use Rattle.group_steps.specs.Missing.{IsStop, told}
+use Rattle.group_steps.specs.Missing.{IsStop, map_ok}
 
 -- one commit spells one state
 pub one_state : (means : Meanings) (cs : Contents) (k : ℕ) (s t : State) → Spells means cs k s
@@ -35,7 +35,7 @@ for_want : {X : Type 0} (reused : Type 0) (change : Result X Refusal → Option 
     (e : Refusal) → IsStop reused e → IsUnproposed (IsStop reused) change right e
 for_want reused change right e stop = (inl stop, stop_stays reused e stop)
 
-lost_stops : (reused : Type 0) (e : Refusal) → StopsAs (IsLost reused) e → IsStop reused e
+lost_stops : (reused : Type 0) (e : Refusal) → StopsAs (IsStoreStop reused) e → IsStop reused e
 lost_stops reused e (s, inl gone, is) = inr (inr (inl (is ∙ ap told_as gone)))
 lost_stops reused e (s, inr lost, is) = inr (inr (inr (lost.0, is ∙ ap told_as lost.1)))
 
@@ -59,7 +59,8 @@ by_right reused m id x e (inr is) = (inr (is, refl), not_moved m id e is)
 
 -- what a draft of a mutation is refused with
 pub refused_for : (reused : Type 0) (m : Meaning) (id : ℕ) (x : Mutation) (e : Refusal)
-    → RefusesFor (IsLost reused) e (by_meaning m id) → IsUnproposed (IsStop reused) (change_made x) (by_meaning m id) e
+    → RefusesFor (IsStoreStop reused) e (by_meaning m id) → IsUnproposed (IsStop reused) (change_made x)
+    (by_meaning m id) e
 refused_for reused m id x e (inl lost) = for_want reused (change_made x) (by_meaning m id) e (lost_stops reused e lost)
 refused_for reused m id x e (inr (inl none)) = for_want reused (change_made x) (by_meaning m id) e (inl none.0)
 refused_for reused m id x e (inr (inr is)) = by_right reused m id x e (right_or e (by_meaning m id) is)
@@ -71,6 +72,6 @@ behind_none cs = append-nil cs
 -- a right answer that is told otherwise is refused as it is
 pub told_unproposed : {X Y : Type 0} (stops : Refusal → Type 0) (f : X → Y) (change : Result X Refusal → Option Change)
     (asked : Result Y Refusal → Option Change) (right : Result X Refusal) (e : Refusal)
-    → asked (Err e) ≡ None → IsUnproposed stops change right e → IsUnproposed stops asked (told f right) e
+    → asked (Err e) ≡ None → IsUnproposed stops change right e → IsUnproposed stops asked (map_ok f right) e
 told_unproposed stops f change asked right e none (inl want, other) = (inl want, other)
-told_unproposed stops f change asked right e none (inr is, other) = (inr (ap (told f) is.0, none), other)
+told_unproposed stops f change asked right e none (inr is, other) = (inr (ap (map_ok f) is.0, none), other)

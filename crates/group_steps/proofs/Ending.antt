@@ -18,9 +18,9 @@ use Rattle.group_history.specs.Mutating.{by_meaning, mutate_reply, open_reply}
 use Rattle.group_history.specs.Pull.{Pull}
 use Rattle.group_history.specs.Pulling.{by_order, end_at, end_reply, goes_back, says_nothing}
 use Rattle.group_history.specs.State.{State, last_id, view_of}
-use Rattle.answered.specs.Answered.{is_want}
+use Rattle.answered.specs.Answered.{is_resource_refusal}
 use Rattle.answered.specs.Trying.{IsUnproposed}
-use Rattle.group_steps.specs.Missing.{IsStop, told}
+use Rattle.group_steps.specs.Missing.{IsStop, map_ok}
 use Rattle.group_steps.specs.Proposing.{asked_reply, change_asked, closing_reply, is_applied}
 
 -- at an open one
@@ -30,20 +30,21 @@ end_open s ticket r is = ap (λ (b : Bool). if b then Err refusal.Closed else en
 
 -- it is never refused for want of something
 abbrev pub NeverWants : {X : Type 0} → Result X Refusal → Type 0
-NeverWants r = (e : Refusal) → is_want e ≡ true → r ≢ Err e
+NeverWants r = (e : Refusal) → is_resource_refusal e ≡ true → r ≢ Err e
 
 never_ok : {X : Type 0} (x : X) → NeverWants (Ok x)
 never_ok x e want = λ h. cc h
 
-never_named : {X : Type 0} (w : Refusal) → is_want w ≡ false → NeverWants {X = X} (Err w)
-never_named w not e want is = let same : w ≡ e = cc is in absurd (true≢false (sym want ∙ (ap is_want (sym same) ∙ not)))
+never_named : {X : Type 0} (w : Refusal) → is_resource_refusal w ≡ false → NeverWants {X = X} (Err w)
+never_named w not e want is = let same : w ≡ e = cc is in absurd (true≢false (sym want
+    ∙ (ap is_resource_refusal (sym same) ∙ not)))
 
 never_either : {X : Type 0} (b : Bool) (x y : Result X Refusal) → NeverWants x → NeverWants y
     → NeverWants (let w : Result X Refusal = if b then x else y in w)
 never_either true x y one other = one
 never_either false x y one other = other
 
-never_told : {X Y : Type 0} (f : X → Y) (r : Result X Refusal) → NeverWants r → NeverWants (told f r)
+never_told : {X Y : Type 0} (f : X → Y) (r : Result X Refusal) → NeverWants r → NeverWants (map_ok f r)
 never_told f (Ok x) never = never_ok (f x)
 never_told f (Err w) never = λ e want is. never e want (let same : w ≡ e = cc is in ap Err same)
 
@@ -83,10 +84,10 @@ never_asked means s last Closed = never_closing s.closed
 -- a right refusal is not that of a lost exchange
 pub judged_so : (reused : Type 0) (means : Meanings) (s : State) (last : ℕ) (ticket : Bytes) (change : Change) (r : Pull) (e : Refusal)
     → s.closed ≡ false → Err e ≡ end_at s ticket r
-    → asked_reply means s last change ≡ told is_applied (end_reply s ticket (response.Ok r))
+    → asked_reply means s last change ≡ map_ok is_applied (end_reply s ticket (response.Ok r))
     → IsUnproposed (IsStop reused) (change_asked change) (asked_reply means s last change) e
 judged_so reused means s last ticket change r e is judged asks = (
-  inr (asks ∙ ap (told is_applied) (end_open s ticket r is ∙ sym judged), refl),
+  inr (asks ∙ ap (map_ok is_applied) (end_open s ticket r is ∙ sym judged), refl),
   λ moved. never_ended s ticket r refusal.Moved refl (subst (λ (w : Refusal). end_at s ticket r ≡ Err w) moved
       (sym judged)),
 )

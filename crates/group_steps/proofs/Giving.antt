@@ -27,7 +27,7 @@ use Rattle.reader_claims.proofs.Moving.{moves_moves}
 use Rattle.commit_graph.specs.Reach.{IsDropped}
 use Rattle.commit_graph.specs.Seats.{IsSameSeat, Seated}
 use Rattle.commit_graph.proofs.Reached.{reaches_back, reaches_stays, there_version}
-use Rattle.answered.specs.Answered.{is_want}
+use Rattle.answered.specs.Answered.{is_resource_refusal}
 use Rattle.answered.specs.Trying.{IsMove, IsUnproposed}
 use Rattle.publishing.specs.Placed.{FoundNone}
 use Rattle.publishing.specs.Retiring.{GivesBack, GivesUp, none, kept, tried}
@@ -172,7 +172,7 @@ cause_unproposed means reused s last c old new e (inr right, other) = record {
   busy = λ busy. absurd (never refusal.Busy refl busy);
 }
   where
-    never : (w : Refusal) → is_want w ≡ true → e ≡ w → ⊥
+    never : (w : Refusal) → is_resource_refusal w ≡ true → e ≡ w → ⊥
     never w want is = never_asked means s last c w want (right.0 ∙ ap Err is)
 
 found_more : (v w u t : View) (end : ℕ) → Moves v w → FoundNone w u end → Moves u t → FoundNone v t end

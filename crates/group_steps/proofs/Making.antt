@@ -28,7 +28,7 @@ use Rattle.head_word.specs.Marks.{Known, others, own, own_of}
 use Rattle.head_word.proofs.BookLaws.{spelled-stays}
 use Rattle.commit_graph.specs.LastIds.{last_in, last_at}
 use Rattle.commit_graph.proofs.Few.{last_id-small}
-use Rattle.answered.specs.Answered.{IsPoint, IsRefused, IsLeft, Answers, is_move, is_want, own_moves}
+use Rattle.answered.specs.Answered.{IsPoint, IsRefused, IsLeft, IsLinearized, is_move, is_resource_refusal, own_moves}
 use Rattle.answered.specs.Trying.{IsBase, IsUnproposed}
 use Rattle.group_steps.specs.Missing.{IsStop}
 use Rattle.group_steps.proofs.Stopping.{stop_wants}
@@ -77,16 +77,16 @@ unproposed : {X : Type 0} (reused : Type 0) (means : Meanings) (tries : ℕ) (ol
     (change : Result X Refusal → Option Change) (right : State → Result X Refusal) (log : List Entry)
     → IsPoint means old new None log → change (Err e) ≡ None → IsUnproposed (IsStop reused) change
     (right (after (record_of log))) e
-    → Answers means tries old new (Err e) change right
+    → IsLinearized means tries old new (Err e) change right
 unproposed reused means tries old new e change right log p none is =
     subst (λ (o : Option Change). IsRefused means tries old new (mute o) e o (λ s. right s ≡ Err e)) (sym none)
-    (by_want (is_want e) refl is.0)
+    (by_want (is_resource_refusal e) refl is.0)
   where
     mute : Option Change → Bool
-    mute None = is_want e
+    mute None = is_resource_refusal e
     mute (Some c) = false
 
-    by_want : (b : Bool) → is_want e ≡ b →
+    by_want : (b : Bool) → is_resource_refusal e ≡ b →
         (IsStop reused e ⊎ ((right (after (record_of log)) ≡ Err e) × (change (Err e) ≡ None)))
         → IsRefused means tries old new b e None (λ s. right s ≡ Err e)
     by_want true w h = (p.moves ∙ append-nil (own_moves old), λ moved. absurd (is.1 moved))
@@ -96,14 +96,14 @@ unproposed reused means tries old new e change right log p none is =
 -- so is one for want of something
 pub wanting : {X : Type 0} (means : Meanings) (tries : ℕ) (old new : Known) (e : Refusal)
     (change : Result X Refusal → Option Change) (right : State → Result X Refusal)
-    → change (Err e) ≡ None → is_want e ≡ true → IsLeft tries old new e
-    → Answers means tries old new (Err e) change right
+    → change (Err e) ≡ None → is_resource_refusal e ≡ true → IsLeft tries old new e
+    → IsLinearized means tries old new (Err e) change right
 wanting means tries old new e change right none want left =
     subst (λ (o : Option Change). IsRefused means tries old new (mute o) e o (λ s. right s ≡ Err e)) (sym none)
     (subst (λ (b : Bool). IsRefused means tries old new b e None (λ s. right s ≡ Err e)) (sym want) left)
   where
     mute : Option Change → Bool
-    mute None = is_want e
+    mute None = is_resource_refusal e
     mute (Some c) = false
 
 -- a call that arrived, and made nothing
@@ -111,7 +111,7 @@ pub unmade : {X : Type 0} (reused : Type 0) (means : Meanings) (tries : ℕ) (ol
     (e : Refusal) (change : Result X Refusal → Option Change) (right : State → Result X Refusal)
     → IsArrived means old seen mid base first → change (Err e) ≡ None
     → IsUnmade (IsStop reused) change (right (after (record_of seen.log))) tries mid new e
-    → Answers means tries old new (Err e) change right
+    → IsLinearized means tries old new (Err e) change right
 unmade reused means tries old seen mid new base first e change right a none (inl h) =
     unproposed reused means tries old new e change right seen.log
     (subst (λ (m : Known). IsPoint means old m None seen.log) (sym h.1) a.point) none h.0

@@ -1,12 +1,12 @@
 -- What stops a proposal, and what causes a refusal has.
 use Rattle.std.proofs.Common.{◌≡◌, inl, inr, true, ℕ, ap, refl, sym, ◌∙◌}
 use Rattle.group_history.specs.declared.refusals.Refusal.{Refusal}
-use Rattle.answered.specs.Answered.{is_want}
+use Rattle.answered.specs.Answered.{is_resource_refusal}
 use Rattle.group_steps.specs.Missing.{IsStop}
 
 -- it is a want of something
-pub stop_wants : (reused : Type 0) (e : Refusal) → IsStop reused e → is_want e ≡ true
-stop_wants reused e (inl is) = ap is_want is
-stop_wants reused e (inr (inl is)) = ap is_want is
-stop_wants reused e (inr (inr (inl is))) = ap is_want is
-stop_wants reused e (inr (inr (inr is))) = ap is_want is.1
+pub stop_wants : (reused : Type 0) (e : Refusal) → IsStop reused e → is_resource_refusal e ≡ true
+stop_wants reused e (inl is) = ap is_resource_refusal is
+stop_wants reused e (inr (inl is)) = ap is_resource_refusal is
+stop_wants reused e (inr (inr (inl is))) = ap is_resource_refusal is
+stop_wants reused e (inr (inr (inr is))) = ap is_resource_refusal is.1

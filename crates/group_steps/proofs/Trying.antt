@@ -24,9 +24,9 @@ use Rattle.head_word.specs.Books.{drawn, record_of}
 use Rattle.head_word.specs.Marks.{Known, others}
 use Rattle.commit_graph.specs.LastIds.{last_at}
 use Rattle.commit_graph.specs.declared.states.LastId.{LastId}
-use Rattle.answered.specs.Answered.{Answers, IsPoint, IsRefused, is_mute, own_moves}
+use Rattle.answered.specs.Answered.{IsLinearized, IsPoint, IsRefused, is_mute, own_moves}
 use Rattle.answered.proofs.Losing.{lost_to_others, point_since}
-use Rattle.group_steps.specs.Missing.{IsStop, told}
+use Rattle.group_steps.specs.Missing.{IsStop, map_ok}
 use Rattle.group_steps.specs.Arriving.{IsArrived}
 use Rattle.group_steps.specs.Changing.{AnswersTry, EndsTry}
 use Rattle.group_steps.specs.Proposing.{AsksNext, HasLast, IsUnmade, MayAsk, asked_reply, change_asked}
@@ -56,13 +56,14 @@ may_ask_next cs before client Closed at next = tt
 -- WHERE IT STANDS
 
 told_open : (b : Bool) (y : Result ℕ Refusal)
-    → told (λ (id : ℕ). true) (let w : Result ℕ Refusal = if b then Err refusal.Closed else y in w) ≡ Ok true
-    → told (λ (id : ℕ). true) y ≡ Ok true
+    → map_ok (λ (id : ℕ). true) (let w : Result ℕ Refusal = if b then Err refusal.Closed else y in w) ≡ Ok true
+    → map_ok (λ (id : ℕ). true) y ≡ Ok true
 told_open true y h = absurd (cc h)
 told_open false y h = h
 
 told_own : (b : Bool) (n last : ℕ) (y : Result ℕ Refusal) → nat_eq n last ≡ b
-    → told (λ (id : ℕ). true) (let w : Result ℕ Refusal = if b then y else Err refusal.Stale in w) ≡ Ok true → n ≡ last
+    → map_ok (λ (id : ℕ). true) (let w : Result ℕ Refusal = if b then y else Err refusal.Stale in w) ≡ Ok true → n
+    ≡ last
 told_own true n last y e h = grind (arith, e)
 told_own false n last y e h = absurd (cc h)
 
@@ -126,7 +127,7 @@ refused_since means tries old mid new false e change right pre seat same more is
 pub answers_since : {X : Type 0} (means : Meanings) (tries : ℕ) (old mid new : Known) (reply : Result X Refusal)
     (change : Result X Refusal → Option Change) (right : State → Result X Refusal)
     → IsPrefix old.log mid.log → mid.seat ≡ old.seat → own_moves mid ≡ own_moves old → others old ≤ others mid
-    → Answers means tries mid new reply change right → Answers means tries old new reply change right
+    → IsLinearized means tries mid new reply change right → IsLinearized means tries old new reply change right
 answers_since means tries old mid new (Ok x) change right pre seat same more is =
     (is.0, point_since means old mid new (change (Ok x)) is.0 pre seat same is.1, is.2)
 answers_since means tries old mid new (Err e) change right pre seat same more is = refused_since means tries old mid new

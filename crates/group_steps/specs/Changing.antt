@@ -9,7 +9,7 @@ use Rattle.group_history.specs.Meaning.{Meanings}
 use Rattle.group_history.specs.State.{State}
 use Rattle.head_word.specs.Books.{drawn}
 use Rattle.head_word.specs.Marks.{Known, others}
-use Rattle.answered.specs.Answered.{Answers, IsAnswered, own_moves}
+use Rattle.answered.specs.Answered.{IsLinearized, IsAnswered, own_moves}
 use Rattle.answered.specs.Trying.{IsLost, IsWon}
 use Rattle.group_steps.specs.Proposing.{HasLast, asked_reply, change_asked}
 use Rattle.group_steps.specs.declared.changing.Tried.{Tried}
@@ -29,7 +29,7 @@ AnswersTry means tries old new last change (Ok (tried.Made at)) = IsAnswered mea
 AnswersTry means tries old new last change (Ok tried.Same) = IsAnswered means old new None
     (λ s. asked_reply means s last change ≡ Ok false)
 AnswersTry means tries old new last change (Ok tried.Lost) = (own_moves new ≡ own_moves old) × (others old < others new)
-AnswersTry means tries old new last change (Err e) = Answers means tries old new (Err e) (change_asked change)
+AnswersTry means tries old new last change (Err e) = IsLinearized means tries old new (Err e) (change_asked change)
     (λ s. asked_reply means s last change)
 
 -- the change that a try made

@@ -5,18 +5,18 @@ use Rattle.group_history.specs.declared.refusals.Refusal.TheVariants.{Busy, Gone
 
 -- a slot has no node of that stamp any more; or a slot or a pin is lost to others, which happens only where slots are
 -- used again
-abbrev pub IsMissed : Type 0 → Refusal → Type 0
-IsMissed reused e = (e ≡ Gone) ⊎ (reused × (e ≡ Busy))
+abbrev pub IsStoreRefusal : Type 0 → Refusal → Type 0
+IsStoreRefusal reused e = (e ≡ Gone) ⊎ (reused × (e ≡ Busy))
 
 -- that, or memory was wanting
 abbrev pub IsMissedOrDry : Type 0 → Refusal → Type 0
-IsMissedOrDry reused e = (e ≡ NoMemory) ⊎ IsMissed reused e
+IsMissedOrDry reused e = (e ≡ NoMemory) ⊎ IsStoreRefusal reused e
 
 -- that, or stamps were wanting: so no change could be proposed
 abbrev pub IsStop : Type 0 → Refusal → Type 0
 IsStop reused e = (e ≡ Stamps) ⊎ IsMissedOrDry reused e
 
 -- what a reply tells
-abbrev pub told : {X Y : Type 0} → (X → Y) → Result X Refusal → Result Y Refusal
-told f (Ok x) = Ok (f x)
-told f (Err e) = Err e
+abbrev pub map_ok : {X Y : Type 0} → (X → Y) → Result X Refusal → Result Y Refusal
+map_ok f (Ok x) = Ok (f x)
+map_ok f (Err e) = Err e

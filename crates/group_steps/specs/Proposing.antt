@@ -28,11 +28,11 @@ use Rattle.reader_claims.specs.declared.slot.Kind.{Kind}
 use Rattle.reader_claims.specs.declared.slot.Kind.TheVariants as kind
 use Rattle.commit_graph.specs.LastIds.{last_at}
 use Rattle.commit_graph.specs.declared.states.LastId.{LastId}
-use Rattle.answered.specs.Answered.{IsLeft, is_want}
+use Rattle.answered.specs.Answered.{IsLeft, is_resource_refusal}
 use Rattle.answered.specs.Trying.{IsBase, IsUnproposed}
 use Rattle.replays.specs.Chaining.{IsTip}
 use Rattle.replays.specs.declared.tips.Tip.{Tip}
-use Rattle.group_steps.specs.Missing.{told}
+use Rattle.group_steps.specs.Missing.{map_ok}
 use Rattle.group_steps.specs.Places.{Place, state_at}
 use Rattle.group_steps.specs.declared.proposing.Proposal.{Proposal}
 
@@ -48,8 +48,8 @@ closing_reply false = Ok true
 
 -- Whether the change is made, where a client asks for it whose last id is `last`; or why it is refused.
 abbrev pub asked_reply : Meanings → State → ℕ → Change → Result Bool Refusal
-asked_reply means s last (Mutated x) = told (λ id. true) (mutate_reply means s last x)
-asked_reply means s last (Pulled ticket r) = told is_applied (end_reply s ticket.text (response.Ok r))
+asked_reply means s last (Mutated x) = map_ok (λ id. true) (mutate_reply means s last x)
+asked_reply means s last (Pulled ticket r) = map_ok is_applied (end_reply s ticket.text (response.Ok r))
 asked_reply means s last Closed = closing_reply s.closed
 
 -- what such an answer stands for
@@ -97,7 +97,8 @@ pub record IsSpot (means : Meanings) (at : Place) (tip : Tip) (first : ℕ) : Ty
 
 -- It begins at the base. The change is accepted at the state, and the draft, behind contents that were drawn, has a
 -- commit of the state after it.
-pub record Leads (means : Meanings) (before : Contents) (base : Ref) (s : State) (change : Change) (p : Proposal)
+pub record IsProposalFor (means : Meanings) (before : Contents) (base : Ref) (s : State) (change : Change)
+    (p : Proposal)
     : Type 0 where
   pub begins : p.base ≡ base
   pub contents : Contents
@@ -116,16 +117,16 @@ pub record MayMove (means : Meanings) (mark : Known) (change : Change) (p : Prop
   pub seen : IsPrefix log mark.log
   pub stood : p.base ≡ last_move log
   pub base : IsBase means mark p.base (after (record_of log))
-  pub leads : Leads means (drawn mark.log) p.base (after (record_of log)) change p
+  pub leads : IsProposalFor means (drawn mark.log) p.base (after (record_of log)) change p
 
 -- What is proposed at the state: what leads to the change, or nothing, where nothing is to be changed.
-abbrev pub Proposes : Meanings → Contents → Ref → State → ℕ → Change → Option Proposal → Type 0
-Proposes means before base s last change (Some p) = (asked_reply means s last change ≡ Ok true)
-    × Leads means before base s change p
-Proposes means before base s last change None = asked_reply means s last change ≡ Ok false
+abbrev pub MayPropose : Meanings → Contents → Ref → State → ℕ → Change → Option Proposal → Type 0
+MayPropose means before base s last change (Some p) = (asked_reply means s last change ≡ Ok true)
+    × IsProposalFor means before base s change p
+MayPropose means before base s last change None = asked_reply means s last change ≡ Ok false
 
 -- Why nothing was made: nothing could be proposed, and nothing was done; or for want of something.
 abbrev pub IsUnmade : {X : Type 0} → (Refusal → Type 0) → (Result X Refusal → Option Change) → Result X Refusal → ℕ
     → Known → Known → Refusal → Type 0
 IsUnmade stops change right tries old new e = (IsUnproposed stops change right e × (new ≡ old))
-    ⊎ ((is_want e ≡ true) × IsLeft tries old new e)
+    ⊎ ((is_resource_refusal e ≡ true) × IsLeft tries old new e)

@@ -8,11 +8,11 @@ ghost use Rattle.group_history.specs.Record.{after};
 ghost use Rattle.head_word.specs.Books.{drawn, last_move, next_stamp, record_of};
 ghost use Rattle.chunk_slots.specs.Seats.{IsIdle};
 ghost use Rattle.commit_graph.specs.Seats.{IsReading, IsSameSeat, IsSeatOf};
-ghost use Rattle.answered.specs.Answered.{Answers};
+ghost use Rattle.answered.specs.Answered.{IsLinearized};
 ghost use Rattle.answered.specs.Trying.{IsBase};
 ghost use Rattle.group_steps.specs.Causes.{HasCause, HasCauseAt};
 ghost use Rattle.group_steps.specs.Leaving.{Frees};
-ghost use Rattle.group_steps.specs.Missing.{IsStop, told};
+ghost use Rattle.group_steps.specs.Missing.{IsStop, map_ok};
 ghost use Rattle.group_steps.specs.Changing.{AnswersTry, EndsTry, change_tried, is_made};
 ghost use Rattle.group_steps.specs.Proposing.{HasLast, IsUnmade, MayAsk, asked_reply, change_asked};
 
@@ -127,13 +127,13 @@ where
     requires asks { MayAsk (drawn seat.old.mark.log) request.now.before request.now.change.now }
     ensures seat { IsSameSeat seat.old seat.new }
     ensures idle { S.reused → IsIdle seat.new.view }
-    ensures answer { Answers M.means tries seat.old.mark seat.new.mark (told is_made result)
+    ensures answer { IsLinearized M.means tries seat.old.mark seat.new.mark (map_ok is_made result)
         (change_asked request.now.change.now) (λ s. asked_reply M.means s request.now.before.id request.now.change.now) }
     ensures found { IfOk result (λ made. IfSome made (λ at. HasLast (drawn seat.new.mark.log) at request.now.change.now)) }
     ensures cause { IfErr result (HasCause M.means S.reused request.now.before.id (Some request.now.change.now)
         seat.old seat.new) }
     ensures frees { S.reused → Frees group.now.shared.table.sizes.slots seat.old seat.new
-        (change_asked request.now.change.now (told is_made result)) }
+        (change_asked request.now.change.now (map_ok is_made result)) }
 {
     for tried in 0..tries.max(1) {
         let _ = tried;

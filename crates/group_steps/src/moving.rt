@@ -6,19 +6,19 @@ ghost use Rattle.group_history.specs.Record.{after_change};
 ghost use Rattle.group_history.specs.Refs.{slot_of, stamp_of};
 ghost use Rattle.group_history.specs.Spelling.{Spells};
 ghost use Rattle.group_history.specs.State.{State};
-ghost use Rattle.head_word.specs.Books.{Follows, drawn};
+ghost use Rattle.head_word.specs.Books.{IsChangeFrom, drawn};
 ghost use Rattle.reader_claims.specs.Lists.{In};
 ghost use Rattle.reader_claims.specs.Machine.{Moves};
 ghost use Rattle.reader_claims.specs.Seats.{kind_end};
 ghost use Rattle.commit_graph.specs.Seats.{IsReading, IsSameSeat};
-ghost use Rattle.answered.specs.Answered.{IsLeft, is_want};
+ghost use Rattle.answered.specs.Answered.{IsLeft, is_resource_refusal};
 ghost use Rattle.answered.specs.Trying.{Ends, IsBase, IsLost, IsMove, IsWon};
 ghost use Rattle.answered.specs.declared.trying.Published.TheVariants.{Won};
 ghost use Rattle.publishing.specs.Placed.{FoundNone};
 ghost use Rattle.publishing.specs.Retiring.{Retires};
 ghost use Rattle.group_steps.specs.Leaving.{AreLeft, Frees, RetiresWhatIsLeft};
 ghost use Rattle.group_steps.specs.Changing.{is_made};
-ghost use Rattle.group_steps.specs.Missing.{IsMissedOrDry, told};
+ghost use Rattle.group_steps.specs.Missing.{IsMissedOrDry, map_ok};
 ghost use Rattle.group_steps.specs.Proposing.{MayMove, change_asked};
 
 use crate::proposing::Proposal;
@@ -66,7 +66,7 @@ where
     requires none { S.reused → seat.old.view.taken ≡ [] }
     requires settled { S.reused → All (λ at. In seat.old.view.settled (slot_of at)) to.now.refs.now }
     requires among { Contains to.now.refs.now to.now.new }
-    requires follows { Follows M.means (drawn seat.old.mark.log) to.now.base to.now.new to.now.change.now }
+    requires follows { IsChangeFrom M.means (drawn seat.old.mark.log) to.now.base to.now.new to.now.change.now }
     ensures seat { IsSameSeat seat.old seat.new }
     ensures none { S.reused → seat.new.view.taken ≡ [] }
     ensures moves { S.reused → Moves seat.old.view seat.new.view }
@@ -110,9 +110,9 @@ where
         → IfOk result (λ new. IfSome new (λ at. IsWon M.means seat.old.mark seat.new.mark change.now s
         × Spells M.means (drawn seat.new.mark.log) (stamp_of at) (after_change s change.now))) }
     ensures lost { IfOk result (λ new. IfNone new (IsLost seat.old.mark seat.new.mark proposal.base)) }
-    ensures err { IfErr result (λ e. (is_want e ≡ true) × IsLeft tries seat.old.mark seat.new.mark e) }
+    ensures err { IfErr result (λ e. (is_resource_refusal e ≡ true) × IsLeft tries seat.old.mark seat.new.mark e) }
     ensures frees { S.reused → Frees shared.now.table.sizes.slots seat.old seat.new
-        (change_asked change.now (told is_made result)) }
+        (change_asked change.now (map_ok is_made result)) }
     ensures full { S.reused → IfErr result (λ e. e ≡ refusal.Full
         → FoundNone seat.old.view seat.new.view (kind_end shared.now.table.sizes proposal.kind)) }
     ensures busy { IfErr result (λ e. e ≡ refusal.Busy → S.reused) }

@@ -18,9 +18,9 @@ ghost use Rattle.map_chunks.specs.Places.{with_nodes};
 ghost use Rattle.commit_graph.specs.Chains.{IsBaseOf};
 ghost use Rattle.commit_graph.specs.LastIds.{last_at};
 ghost use Rattle.answered.specs.Trying.{IsUnproposed};
-ghost use Rattle.group_steps.specs.Missing.{IsMissed, IsStop};
+ghost use Rattle.group_steps.specs.Missing.{IsStoreRefusal, IsStop};
 ghost use Rattle.group_steps.specs.Places.{state_at};
-ghost use Rattle.group_steps.specs.Proposing.{IsSpot, MayAsk, Proposes, asked_reply, change_asked, kind_left};
+ghost use Rattle.group_steps.specs.Proposing.{IsSpot, MayAsk, MayPropose, asked_reply, change_asked, kind_left};
 
 use crate::places::At;
 use crate::views::last_known;
@@ -70,7 +70,7 @@ where
     requires open { (state_at at.now).closed ≡ false }
     requires before { last_at (drawn at.now.mark.log) (stamp_of before.at) mutation.now.client ≡ Some before.id }
     ensures ok { OnOk result (last_id (state_at at.now) mutation.now.client ≡ before.id) }
-    ensures err { IfErr result (λ e. IsMissed S.reused e ⊎ ((e ≡ refusal.Stale)
+    ensures err { IfErr result (λ e. IsStoreRefusal S.reused e ⊎ ((e ≡ refusal.Stale)
         × (mutate_reply M.means (state_at at.now) before.id mutation.now ≡ Err refusal.Stale))) }
 {
     let last = last_known(at, &mutation.client, Some(before))?;
@@ -92,7 +92,7 @@ where
     requires spot { IsSpot M.means at.now spot.tip spot.first }
     requires own { last_id (state_at at.now) mutation.now.client ≡ last }
     requires next { (mutation.now.id ≡ last + 1) × (mutation.now.reason ≡ Initial) }
-    ensures proposed { IfOk result (λ p. Proposes M.means (drawn at.now.mark.log) at.now.commit (state_at at.now) last
+    ensures proposed { IfOk result (λ p. MayPropose M.means (drawn at.now.mark.log) at.now.commit (state_at at.now) last
         (changed.Mutated mutation.now) (Some p)) }
     ensures err { IfErr result (IsUnproposed (IsStop S.reused) (change_asked (changed.Mutated mutation.now))
         (asked_reply M.means (state_at at.now) last (changed.Mutated mutation.now))) }
@@ -131,7 +131,7 @@ where
     S::Seat: Drop,
     requires spot { IsSpot M.means at.now spot.tip spot.first }
     requires asks { MayAsk (drawn at.now.mark.log) before (changed.Mutated mutation.now) }
-    ensures proposed { IfOk result (λ p. Proposes M.means (drawn at.now.mark.log) at.now.commit (state_at at.now)
+    ensures proposed { IfOk result (λ p. MayPropose M.means (drawn at.now.mark.log) at.now.commit (state_at at.now)
         before.id (changed.Mutated mutation.now) (Some p)) }
     ensures err { IfErr result (IsUnproposed (IsStop S.reused) (change_asked (changed.Mutated mutation.now))
         (asked_reply M.means (state_at at.now) before.id (changed.Mutated mutation.now))) }
@@ -232,7 +232,7 @@ where
     S::Seat: Drop,
     requires spot { IsSpot M.means at.now spot.tip spot.first }
     requires before { IsBaseOf (drawn at.now.mark.log) (state_at at.now) before.now }
-    ensures proposed { (last : ℕ) → IfOk result (Proposes M.means (drawn at.now.mark.log) at.now.commit
+    ensures proposed { (last : ℕ) → IfOk result (MayPropose M.means (drawn at.now.mark.log) at.now.commit
         (state_at at.now) last (changed.Pulled ticket.now pull.now)) }
     ensures err { (last : ℕ) → IfErr result (IsUnproposed (IsStop S.reused) (change_asked (changed.Pulled ticket.now pull.now))
         (asked_reply M.means (state_at at.now) last (changed.Pulled ticket.now pull.now))) }
@@ -261,7 +261,7 @@ fn propose_pull<'a, M: Mutators, S: Slots<M>>(
 where
     S::Seat: Drop,
     requires spot { IsSpot M.means at.now spot.tip spot.first }
-    ensures proposed { (last : ℕ) → IfOk result (Proposes M.means (drawn at.now.mark.log) at.now.commit
+    ensures proposed { (last : ℕ) → IfOk result (MayPropose M.means (drawn at.now.mark.log) at.now.commit
         (state_at at.now) last (changed.Pulled ticket.now pull.now)) }
     ensures err { (last : ℕ) → IfErr result (IsUnproposed (IsStop S.reused) (change_asked (changed.Pulled ticket.now pull.now))
         (asked_reply M.means (state_at at.now) last (changed.Pulled ticket.now pull.now))) }
@@ -278,7 +278,7 @@ fn propose_closing<M: Means, S: Slots<M>>(
 where
     S::Seat: Drop,
     requires spot { IsSpot M.means at.now spot.tip spot.first }
-    ensures proposed { (last : ℕ) → IfOk result (Proposes M.means (drawn at.now.mark.log) at.now.commit
+    ensures proposed { (last : ℕ) → IfOk result (MayPropose M.means (drawn at.now.mark.log) at.now.commit
         (state_at at.now) last changed.Closed) }
     ensures err { (last : ℕ) → IfErr result (IsUnproposed (IsStop S.reused) (change_asked changed.Closed)
         (asked_reply M.means (state_at at.now) last changed.Closed)) }
@@ -305,7 +305,7 @@ where
     S::Seat: Drop,
     requires spot { IsSpot M.means at.now spot.tip spot.first }
     requires asks { MayAsk (drawn at.now.mark.log) request.now.before request.now.change.now }
-    ensures proposed { IfOk result (Proposes M.means (drawn at.now.mark.log) at.now.commit (state_at at.now)
+    ensures proposed { IfOk result (MayPropose M.means (drawn at.now.mark.log) at.now.commit (state_at at.now)
         request.now.before.id request.now.change.now) }
     ensures err { IfErr result (IsUnproposed (IsStop S.reused) (change_asked request.now.change.now)
         (asked_reply M.means (state_at at.now) request.now.before.id request.now.change.now)) }
@@ -336,7 +336,7 @@ where
     S::Seat: Drop,
     requires asks { MayAsk (drawn at.now.mark.log) request.now.before request.now.change.now }
     requires first { first ≡ next_stamp at.now.mark.log }
-    ensures proposed { IfOk result (Proposes M.means (drawn at.now.mark.log) at.now.commit (state_at at.now)
+    ensures proposed { IfOk result (MayPropose M.means (drawn at.now.mark.log) at.now.commit (state_at at.now)
         request.now.before.id request.now.change.now) }
     ensures err { IfErr result (IsUnproposed (IsStop S.reused) (change_asked request.now.change.now)
         (asked_reply M.means (state_at at.now) request.now.before.id request.now.change.now)) }

@@ -12,10 +12,10 @@ ghost use Rattle.chunk_slots.specs.Seats.{IsPinned};
 ghost use Rattle.commit_graph.specs.LastIds.{last_at};
 ghost use Rattle.commit_graph.specs.Seats.{HasLooked, IsSeatOf, is_held};
 ghost use Rattle.commit_graph.specs.declared.states.LastId.{LastId as Found};
-ghost use Rattle.answered.specs.Answered.{Answers, IsPoint, nothing};
+ghost use Rattle.answered.specs.Answered.{IsLinearized, IsPoint, no_change};
 ghost use Rattle.answered.specs.Trying.{IsBase};
 ghost use Rattle.group_steps.specs.Arriving.{IsArrived, when_seen};
-ghost use Rattle.group_steps.specs.Missing.{IsMissed, told};
+ghost use Rattle.group_steps.specs.Missing.{IsStoreRefusal, map_ok};
 
 use crate::group::SharedGroup;
 use crate::places::At;
@@ -109,12 +109,13 @@ where
     requires before { (found : Found) → before ≡ Some found
         → last_at (drawn seat.old.mark.log) (stamp_of found.at) client.now ≡ Some found.id }
     ensures looked { HasLooked S.reused seat.old seat.new }
-    ensures answer { Answers M.means tries seat.old.mark seat.new.mark (told (λ found. found.id) result) nothing
+    ensures answer { IsLinearized M.means tries seat.old.mark seat.new.mark (map_ok
+        (λ found. found.id) result) no_change
         (λ s. Ok (last_id s client.now)) }
     ensures found { IfOk result (λ found. last_at (drawn seat.new.mark.log) (stamp_of found.at) client.now
         ≡ Some found.id) }
     ensures low { IfOk result (λ found. found.id < 2 ^ 53) }
-    ensures missed { IfErr result (IsMissed S.reused) }
+    ensures missed { IfErr result (IsStoreRefusal S.reused) }
     ensures unpinned { S.reused → seat.new.view.pin ≡ Absent }
 {
     let at = pin_and_load(&group.shared, seat, tries)?;

@@ -6,7 +6,7 @@ ghost use Rattle.group_history.specs.State.{last_id, view_of};
 ghost use Rattle.head_word.specs.Books.{drawn};
 ghost use Rattle.commit_graph.specs.LastIds.{last_at};
 ghost use Rattle.commit_graph.specs.declared.states.LastId.{LastId as Found};
-ghost use Rattle.group_steps.specs.Missing.{IsMissed, IsMissedOrDry};
+ghost use Rattle.group_steps.specs.Missing.{IsStoreRefusal, IsMissedOrDry};
 ghost use Rattle.group_steps.specs.Places.{state_at};
 
 use crate::places::At;
@@ -14,7 +14,7 @@ use chunk_slots::Slots;
 use commit_graph::{LastId, Nodes, StoreNodes, closed_of, cookie_of, last_id_since, read_root};
 use group_history::{Cookie, Means, Ref, Refusal, Stop, Text};
 use std::marker::Brand;
-use transactions::{Fixed, Known};
+use transactions::{Fixed, NamesContents};
 
 /// A commit, and the root of the map that queries read at it.
 #[derive(Clone, Copy)]
@@ -23,7 +23,7 @@ pub struct Rooted {
     pub root: Ref,
 }
 
-fn root_known<N: Nodes + Copy, K: Known>(nodes: N, at: Ref) -> Result<Ref, Stop>
+fn root_known<N: Nodes + Copy, K: NamesContents>(nodes: N, at: Ref) -> Result<Ref, Stop>
     requires known { N.contents nodes ≡ K.known }
     requires version { IsSome (version_at K.known (stamp_of at)) }
     requires place { N.places nodes at }
@@ -41,7 +41,7 @@ where
     S::Seat: Drop,
     ensures root { IfOk result (λ root. map_at (drawn at.now.mark.log) (stamp_of root)
         ≡ Some (view_of M.means (state_at at.now))) }
-    ensures err { IfErr result (IsMissed S.reused) }
+    ensures err { IfErr result (IsStoreRefusal S.reused) }
 {
     Ok(root_known::<StoreNodes<'a, M, S>, Brand>(at.nodes(), at.commit)?)
 }
@@ -62,7 +62,7 @@ pub fn closed_at<M: Means, S: Slots<M>>(at: &At<'_, M, S>) -> Result<bool, Refus
 where
     S::Seat: Drop,
     ensures closed { IfOk result (λ closed. closed ≡ (state_at at.now).closed) }
-    ensures err { IfErr result (IsMissed S.reused) }
+    ensures err { IfErr result (IsStoreRefusal S.reused) }
 {
     let mut nodes = at.nodes();
     Ok(closed_of(&mut nodes, at.commit)?)
@@ -80,7 +80,7 @@ where
         → last_at (drawn at.now.mark.log) (stamp_of found.at) client.now ≡ Some found.id }
     ensures id { IfOk result (λ id. id ≡ last_id (state_at at.now) client.now) }
     ensures low { IfOk result (λ id. id < 2 ^ 53) }
-    ensures err { IfErr result (IsMissed S.reused) }
+    ensures err { IfErr result (IsStoreRefusal S.reused) }
 {
     let mut nodes = at.nodes();
     Ok(last_id_since(&mut nodes, at.commit, client, before)?)

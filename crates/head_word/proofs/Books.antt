@@ -7,8 +7,8 @@ use Rattle.std.proofs.lemmas.List.Elements.{All-map}
 use Rattle.group_history.specs.declared.refs.Ref.{Ref}
 use Rattle.group_history.specs.declared.changes.Change.{Change}
 use Rattle.group_history.specs.declared.nodes.Chunk.TheVariants.{Leaf, Inner}
-use Rattle.group_history.specs.declared.nodes.Kind.{Kind}
-use Rattle.group_history.specs.declared.nodes.Kind.TheVariants.{Snapshot, Over}
+use Rattle.group_history.specs.declared.nodes.CommitKind.{CommitKind}
+use Rattle.group_history.specs.declared.nodes.CommitKind.TheVariants.{Snapshot, Over}
 use Rattle.group_history.specs.declared.nodes.Node.{Node}
 use Rattle.group_history.specs.declared.nodes.Node.TheVariants as node
 use Rattle.group_history.specs.declared.nodes.Child.{Child}
@@ -79,7 +79,8 @@ values-renamed : {A B : Type 0} (f : A → B) (kids : List (Bytes × A))
 values-renamed f [] = refl
 values-renamed f (k ∷ ks) = ap (λ w. f k.1 ∷ w) (values-renamed f ks)
 
-named-renamed : {A B : Type 0} (f : A → B) (k : Kind A) → commits_named (renamed_kind f k) ≡ map f (commits_named k)
+named-renamed : {A B : Type 0} (f : A → B) (k : CommitKind A) → commits_named (renamed_kind f k)
+    ≡ map f (commits_named k)
 named-renamed f (Snapshot s) = refl
 named-renamed f (Over o) = refl
 

@@ -32,7 +32,7 @@ use Rattle.head_word.specs.declared.entry.Entry.{Entry}
 use Rattle.head_word.specs.declared.entry.Entry.TheVariants as v
 use Rattle.head_word.specs.Books.{drafted_contents, drawn, next_stamp, last_move, nowhere, record_of, AreOrdered}
 use Rattle.head_word.specs.Books.{IsBook, drafted, moved, empty_leaf, opening, StartsOpened, IsOpened, IsBefore}
-use Rattle.head_word.specs.Books.{AreAfter, Follows}
+use Rattle.head_word.specs.Books.{AreAfter, IsChangeFrom}
 use Rattle.head_word.specs.Tallies.{key_of, count}
 use Rattle.head_word.specs.Rules.{head_says, drafts_say, FitsOpened, Fits, IsKept}
 use Rattle.head_word.specs.Inside.Parts.{Trades}
@@ -327,7 +327,7 @@ draft_moves means v by contents old starts before room cs log kept pre away =
     )
 
 move_goes : (means : Meanings) (v log : List Entry) (by : Option ℕ) (base to : Ref) (change : Change) (h d : ℕ)
-    → IsPrefix v log → Follows means (drawn v) base to change → FitsOpened means h d log
+    → IsPrefix v log → IsChangeFrom means (drawn v) base to change → FitsOpened means h d log
     → (b : Bool) → (h == base.bits) ≡ b
     → Goes (IsKept means) shown (Trades (moved by to (Some change))) 0 (v, (no_nib, None))
     (λ n. either (n == base.bits) to.bits n)
@@ -390,7 +390,7 @@ move_goes means v log by base to change h d pre follows fits false is =
 
 -- whatever the book is, the exchange adds the move directly after the one expected, or finds another last move
 pub move_moves : (means : Meanings) (v : List Entry) (by : Option ℕ) (base to : Ref) (change : Change) → StartsOpened v
-    → Follows means (drawn v) base to change
+    → IsChangeFrom means (drawn v) base to change
     → Moves (IsKept means) shown (Trades (moved by to (Some change))) 0 (v, (no_nib, None))
     (λ n. either (n == base.bits) to.bits n)
     (tells (Exchanges head_says means) (step 0 base.bits to.bits (moved by to (Some change))) (v, (no_nib, None)))

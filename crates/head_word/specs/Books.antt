@@ -6,7 +6,7 @@ use Rattle.std.specs.FinMap as finite
 use Rattle.group_history.specs.declared.refs.Ref.{Ref}
 use Rattle.group_history.specs.declared.changes.Change.{Change}
 use Rattle.group_history.specs.declared.nodes.Chunk.TheVariants.{Leaf}
-use Rattle.group_history.specs.declared.nodes.Kind.TheVariants.{Snapshot}
+use Rattle.group_history.specs.declared.nodes.CommitKind.TheVariants.{Snapshot}
 use Rattle.group_history.specs.declared.nodes.Node.{Node}
 use Rattle.group_history.specs.declared.nodes.Node.TheVariants as node
 use Rattle.group_history.specs.declared.nodes.Child.{Child}
@@ -151,7 +151,7 @@ AreAfter n place (c ∷ cs) = All (IsBefore n place) (children c) × AreAfter n 
 
 -- By these contents the state of `new` is that of `base` after the change, which is accepted there; and queries read at
 -- each of the two the view of its state.
-pub record Follows (means : Meanings) (contents : Contents) (base new : Ref) (change : Change) : Type 0 where
+pub record IsChangeFrom (means : Meanings) (contents : Contents) (base new : Ref) (change : Change) : Type 0 where
   pub state : State
   pub before : Spells means contents (stamp_of base) state
   pub accepted : IsAccepted means state change

@@ -21,7 +21,7 @@ ghost use Rattle.std.specs.Prelude.{◌≡◌, ◌≢◌, ◌+◌, ◌<◌, ◌�
 ghost use mathlib.Core.List.{IsPrefix};
 ghost use Rattle.group_history.specs.Refs.{stamps};
 ghost use Rattle.head_word.specs.declared.entry.Entry.{Entry};
-ghost use Rattle.head_word.specs.Books.{last_move, next_stamp, drawn, drafted, moved, AreAfter, Follows, IsOpened};
+ghost use Rattle.head_word.specs.Books.{last_move, next_stamp, drawn, drafted, moved, AreAfter, IsChangeFrom, IsOpened};
 ghost use Rattle.head_word.specs.Books.{drafted_from};
 ghost use Rattle.head_word.specs.Marks.{own, others};
 
@@ -141,7 +141,7 @@ impl<M: Means> Head<M> {
     ) -> Result<(), Moved>
         requires book { mark.old.book ≡ self.now }
         requires seat { IsSome mark.old.seat }
-        requires follows { Follows M.means (drawn mark.old.log) base new change.now }
+        requires follows { IsChangeFrom M.means (drawn mark.old.log) base new change.now }
         ensures book { mark.new.book ≡ mark.old.book }
         ensures seat { mark.new.seat ≡ mark.old.seat }
         ensures seen { IsPrefix mark.old.log mark.new.log }

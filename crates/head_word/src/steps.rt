@@ -7,7 +7,7 @@ ghost use Rattle.group_history.specs.declared.nodes.Child.{Child};
 ghost use Rattle.group_history.specs.declared.nodes.Node.{Node};
 ghost use Rattle.group_history.specs.Refs.{stamps};
 ghost use Rattle.head_word.specs.declared.entry.Entry.{Entry};
-ghost use Rattle.head_word.specs.Books.{last_move, next_stamp, drawn, drafted, moved, AreAfter, Follows, IsOpened};
+ghost use Rattle.head_word.specs.Books.{last_move, next_stamp, drawn, drafted, moved, AreAfter, IsChangeFrom, IsOpened};
 ghost use Rattle.head_word.specs.Marks.{own};
 
 use crate::asks::{Asks, Look, Proposed};
@@ -91,7 +91,7 @@ impl<M: Means> Head<M> {
     pub(crate) fn add_move(&self, mark: &mut Mark<M>, base: Ref, new: Ref, change: &Change) -> bool
         requires book { mark.old.book ≡ self.now }
         requires seat { IsSome mark.old.seat }
-        requires follows { Follows M.means (drawn mark.old.log) base new change.now }
+        requires follows { IsChangeFrom M.means (drawn mark.old.log) base new change.now }
         ensures book { mark.new.book ≡ mark.old.book }
         ensures seat { mark.new.seat ≡ mark.old.seat }
         ensures seen { IsPrefix mark.old.log mark.new.log }

@@ -19,15 +19,15 @@ use Rattle.map_chunks.specs.declared.looks.Hint.{Hint}
 use Rattle.map_chunks.specs.declared.looks.Hint.TheVariants.{Stands, On}
 use Rattle.map_chunks.specs.declared.looks.Second.{Second}
 use Rattle.map_chunks.specs.declared.looks.Second.TheVariants as second
-use Rattle.map_chunks.specs.declared.looks.Step.{Step}
-use Rattle.map_chunks.specs.declared.looks.Step.TheVariants.{Found, Below}
+use Rattle.map_chunks.specs.declared.looks.Descent.{Descent}
+use Rattle.map_chunks.specs.declared.looks.Descent.TheVariants.{Found, Below}
 use Rattle.map_chunks.proofs.EndLemmas.{only_ref-child}
 
 got_here : {A : Type 0} (xs : List A) (i : ℕ) (x : A) → slice_get xs i ≡ Some x → Contains xs x
 got_here xs i x h = subst (Contains xs) (get_or_from_slice_get xs i x x h)
     (Contains-get_or xs i x (slice_get_within xs i x h))
 
-pub step_at : (places : Ref → Type 0) (c : Chunk Ref) (key : Bytes) (step : Step) → AreAll places (chunk_children c)
+pub step_at : (places : Ref → Type 0) (c : Chunk Ref) (key : Bytes) (step : Descent) → AreAll places (chunk_children c)
     → IsStep c key step → IsStepAt places step
 step_at places c key (Found v) all i = tt
 step_at places (Leaf rows) key (Below at) all i = absurd i

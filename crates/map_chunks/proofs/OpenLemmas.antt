@@ -23,8 +23,8 @@ use Rattle.group_history.proofs.Spellings.{segment-content, segment-stays, rows-
 use Rattle.map_chunks.specs.Search.{IsPlace, is_above}
 use Rattle.map_chunks.specs.Shown.{chunk_rows, IsTree, rows_or}
 use Rattle.map_chunks.specs.Inside.Steps.{IsStep, Leads}
-use Rattle.map_chunks.specs.declared.looks.Step.{Step}
-use Rattle.map_chunks.specs.declared.looks.Step.TheVariants.{Found, Below}
+use Rattle.map_chunks.specs.declared.looks.Descent.{Descent}
+use Rattle.map_chunks.specs.declared.looks.Descent.TheVariants.{Found, Below}
 use Rattle.map_chunks.proofs.RowLemmas.{IsStrict, strict, sorted, find-front, find-back}
 use Rattle.map_chunks.proofs.JoinLemmas.{Shows, split_of, Place, Way, way}
 
@@ -327,12 +327,13 @@ find-way key ls k x bs rs w =
     sym (ap (find (slice_cmp nat_cmp) key) w.whole ∙ find-back key w.front
     (w.here ++ w.back) w.below ∙ find-front key w.here w.back w.above)
 
-pub leads : (ns : Contents) (k : ℕ) (s : Segment) (c : Chunk Ref) (key : Bytes) (step : Step) → segment_at ns k ≡ Some s
+pub leads : (ns : Contents) (k : ℕ) (s : Segment) (c : Chunk Ref) (key : Bytes) (step : Descent) → segment_at ns k
+    ≡ Some s
     → slice_get ns k ≡ Some (chunk_content c)
     → IsStrict s.rows → IsStep c key step → Leads ns key k s.rows step
 leads ns k s c key step h g o i = by c (opened ns k s c h g) step i
   where
-    by : (c : Chunk Ref) → Opened ns k s c → (step : Step) → IsStep c key step → Leads ns key k s.rows step
+    by : (c : Chunk Ref) → Opened ns k s c → (step : Descent) → IsStep c key step → Leads ns key k s.rows step
     by (Leaf rows) z (Found v) i = i ∙ ap (find (slice_cmp nat_cmp) key) (sym z.is)
     by (Leaf rows) z (Below at) i = absurd i
     by (Inner kids) z (Found v) i = absurd (omega (arith, z.filled))

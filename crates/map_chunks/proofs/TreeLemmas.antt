@@ -6,14 +6,14 @@ use Rattle.std.specs.Cmp.Lexicographic.{slice_cmp}
 use Rattle.std.specs.FinMap as finite
 use Rattle.group_history.specs.Map.{Bytes, Entries}
 use Rattle.group_history.specs.Rows.{Rows}
-use Rattle.group_history.specs.Spelling.{Contents, Segment, segment_at, map_at, map_of}
+use Rattle.group_history.specs.Spelling.{Contents, Segment, segment_at, map_at, segment_map}
 use Rattle.map_chunks.specs.Shown.{chunk_rows, IsTree, rows_or, map_of_rows}
 
 -- the map of a placed root is that of its rows
 pub map_at-rows : (p : Contents) (k : ℕ) → map_at p k ≡ option_and_then map_of_rows (chunk_rows p k)
 map_at-rows p k = by (segment_at p k)
   where
-    by : (o : Option Segment) → option_and_then map_of o
+    by : (o : Option Segment) → option_and_then segment_map o
         ≡ option_and_then map_of_rows (option_map (λ (s : Segment). s.rows) o)
     by None = refl
     by (Some s) = refl

@@ -15,27 +15,27 @@ pub const MOST: usize = 16;
 
 /// Room for a chunk that a split may make: an upper half, or a root above both.
 #[derive(Drop)]
-pub struct Spare<T> {
+pub struct SpareChunk<T> {
     pub keys: Vec<Text>,
     pub entries: Vec<T>,
 }
 
 /// Room for another chunk of 17 entries, where one with so many may be split: from 16 on. Else no memory is
 /// taken.
-pub fn take_spare<T: Drop>(alloc: Global, len: usize) -> Result<Spare<T>, AllocError>
+pub fn take_spare<T: Drop>(alloc: Global, len: usize) -> Result<SpareChunk<T>, AllocError>
     ensures keys { IfOk result (λ s. s.keys.items ≡ []) }
     ensures entries { IfOk result (λ s. s.entries.items ≡ []) }
     ensures room { IfOk result (λ s. 16 ≤ len → (17 ≤ vec_capacity s.keys) × (17 ≤ vec_capacity s.entries)) }
 {
     if len < MOST {
-        return Ok(Spare {
+        return Ok(SpareChunk {
             keys: Vec::new(alloc),
             entries: Vec::new(alloc),
         });
     }
     let keys = Vec::with_capacity(alloc, ROOM)?;
     let entries = Vec::with_capacity(alloc, ROOM)?;
-    Ok(Spare { keys, entries })
+    Ok(SpareChunk { keys, entries })
 }
 
 /// Room for one entry more. The keys become the chunk's own.
@@ -60,7 +60,7 @@ pub fn insert_entry<T: Drop>(
     place: usize,
     key: Text,
     entry: T,
-    spare: Spare<T>,
+    spare: SpareChunk<T>,
 ) -> Option<(NodeKeys, Vec<T>)>
     requires pairs { length entries.old.items ≡ length keys.old.texts }
     requires few { length keys.old.texts ≤ 16 }
@@ -78,7 +78,7 @@ pub fn insert_entry<T: Drop>(
     if entries.len() <= MOST {
         return None;
     }
-    let Spare {
+    let SpareChunk {
         keys: texts,
         entries: mut upper,
     } = spare;

@@ -7,7 +7,7 @@ use group_history::{Json, Ref, Text};
 
 /// What a look at one chunk on the way to a key gives.
 #[derive(Drop)]
-pub(crate) enum Step {
+pub(crate) enum Descent {
     /// The value at the key.
     Found(Option<Json>),
     /// The child to which the key belongs.
@@ -16,7 +16,7 @@ pub(crate) enum Step {
 
 /// How the value at a key stands to another one.
 #[derive(Clone, Copy)]
-pub enum Standing {
+pub enum Comparison {
     /// There is no such key.
     Absent,
     /// Another value is there, or none was asked for.
@@ -25,15 +25,15 @@ pub enum Standing {
     Same,
 }
 
-impl Standing {
+impl Comparison {
     /// Whether the key is there.
     pub fn is_there(self) -> bool
         ensures { result ≡ is_there self }
     {
         match self {
-            Standing::Absent => false,
-            Standing::Other => true,
-            Standing::Same => true,
+            Comparison::Absent => false,
+            Comparison::Other => true,
+            Comparison::Same => true,
         }
     }
 
@@ -42,9 +42,9 @@ impl Standing {
         ensures { result ≡ is_the_same self }
     {
         match self {
-            Standing::Absent => false,
-            Standing::Other => false,
-            Standing::Same => true,
+            Comparison::Absent => false,
+            Comparison::Other => false,
+            Comparison::Same => true,
         }
     }
 }
@@ -53,7 +53,7 @@ impl Standing {
 #[derive(Clone, Copy)]
 pub(crate) enum Hint {
     /// How the value stands to the one asked for.
-    Stands(Standing),
+    Stands(Comparison),
     /// The child to which the key belongs.
     On(Ref),
 }
@@ -61,7 +61,7 @@ pub(crate) enum Hint {
 /// What a look all the way down tells of a key's value.
 #[derive(Clone, Copy)]
 pub struct Sought {
-    pub standing: Standing,
+    pub standing: Comparison,
     /// How many chunks there are on the way: the depth of the tree.
     pub depth: u64,
 }

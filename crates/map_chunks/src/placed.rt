@@ -12,32 +12,32 @@ ghost use Rattle.map_chunks.specs.Inside.Depths.{IsFirst, IsAbove, has_none};
 ghost use Rattle.map_chunks.specs.Inside.Steps.{IsStep, IsStepAt, Leads};
 
 use crate::chunks::{Chunks, ShowsChunk};
-use crate::looks::Step;
+use crate::looks::Descent;
 use crate::search::{place_of, value_at};
 use group_history::{Chunk, Json, Ref, Stop};
 use std::alloc::AllocError;
 
 // What a chunk says of a key.
-fn step_of(chunk: &Chunk<Ref>, key: &str) -> Result<Step, AllocError>
+fn step_of(chunk: &Chunk<Ref>, key: &str) -> Result<Descent, AllocError>
     ensures { IfOk result (IsStep chunk.now key.now) }
 {
     match chunk {
         Chunk::Leaf(leaf) => {
             let value = value_at(leaf.keys().as_slice(), leaf.values(), key)?;
-            Ok(Step::Found(value))
+            Ok(Descent::Found(value))
         }
         Chunk::Inner(inner) => {
             let children = inner.children();
             if children.is_empty() {
-                return Ok(Step::Found(None));
+                return Ok(Descent::Found(None));
             }
             let place = place_of(inner.firsts().as_slice(), key);
-            Ok(Step::Below(children[place]))
+            Ok(Descent::Below(children[place]))
         }
     }
 }
 
-fn look<C: Chunks>(chunks: &mut C, at: Ref, key: &str) -> Result<Step, Stop>
+fn look<C: Chunks>(chunks: &mut C, at: Ref, key: &str) -> Result<Descent, Stop>
     requires known { IsTree (chunk_rows (C.contents chunks.old) (stamp_of at)) }
     requires place { C.places chunks.old at }
     ensures grown { Grows C.contents C.places chunks.old chunks.new }
@@ -62,8 +62,8 @@ pub fn get_placed<C: Chunks>(chunks: &mut C, at: Ref, key: &str) -> Result<Optio
     ensures stopped { IfErr result (λ s. (s ≡ NoMemory) ⊎ C.stops s) }
 {
     match look(chunks, at, key)? {
-        Step::Found(value) => Ok(value),
-        Step::Below(child) => get_placed(chunks, child, key),
+        Descent::Found(value) => Ok(value),
+        Descent::Below(child) => get_placed(chunks, child, key),
     }
 }
 

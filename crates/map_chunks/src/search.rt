@@ -8,7 +8,7 @@ ghost use Rattle.map_chunks.specs.Search.{IsRank, IsPlace, IsFound, IsAbsent};
 ghost use Rattle.map_chunks.specs.Seeking.{stands_in};
 ghost use Rattle.map_chunks.specs.Writes.{standing};
 
-use crate::looks::Standing;
+use crate::looks::Comparison;
 use group_history::{Json, Text};
 use std::alloc::AllocError;
 use std::cmp::Ordering;
@@ -59,29 +59,29 @@ pub fn search(keys: &[Text], key: &str) -> Result<usize, usize>
 }
 
 // How a value stands to the one asked for.
-fn compared(value: &Json, asked: Option<&Json>) -> Standing
+fn compared(value: &Json, asked: Option<&Json>) -> Comparison
     ensures { result ≡ standing (Some value.now) (option_copied asked.entry) }
 {
     match asked {
-        None => Standing::Other,
+        None => Comparison::Other,
         Some(asked) => {
             if value == asked {
-                return Standing::Same;
+                return Comparison::Same;
             }
-            Standing::Other
+            Comparison::Other
         }
     }
 }
 
 /// How the value at a key stands to the one asked for. No value is copied.
-pub fn standing_at(keys: &[Text], values: &[Json], key: &str, asked: Option<&Json>) -> Standing
+pub fn standing_at(keys: &[Text], values: &[Json], key: &str, asked: Option<&Json>) -> Comparison
     requires order { T (rises keys.now) }
     requires values { length values.now ≡ length keys.now }
     ensures { result ≡ stands_in (paired keys.now values.now) key.now (option_copied asked.entry) }
 {
     match search(keys, key) {
         Ok(place) => compared(&values[place], asked),
-        Err(_) => Standing::Absent,
+        Err(_) => Comparison::Absent,
     }
 }
 

@@ -7,7 +7,7 @@ ghost use Rattle.map_chunks.specs.Inside.Seeking.{IsHint, IsHintAt, Hints};
 ghost use Rattle.map_chunks.specs.Shown.{chunk_rows, IsTree, rows_or};
 
 use crate::chunks::{Chunks, ShowsChunk};
-use crate::looks::{Hint, Sought, Standing};
+use crate::looks::{Comparison, Hint, Sought};
 use crate::search::{place_of, standing_at};
 use group_history::{Chunk, Json, Ref, Stop};
 
@@ -23,7 +23,7 @@ fn hint_of(chunk: &Chunk<Ref>, key: &str, asked: Option<&Json>) -> Hint
         Chunk::Inner(inner) => {
             let children = inner.children();
             if children.is_empty() {
-                return Hint::Stands(Standing::Absent);
+                return Hint::Stands(Comparison::Absent);
             }
             let place = place_of(inner.firsts().as_slice(), key);
             Hint::On(children[place])

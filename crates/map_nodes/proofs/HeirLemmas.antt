@@ -8,32 +8,34 @@ use Rattle.map_nodes.specs.Nodes.{kids_fresh}
 use Rattle.map_nodes.specs.Inside.Removing.{left_rows, left_fresh, one_shown, gives_way, AreLeft, IsHeir, KeptBy}
 use Rattle.map_nodes.specs.Inside.Removing.{IsWideLeft}
 use Rattle.map_nodes.specs.declared.nodes.OwnChild.{OwnChild}
-use Rattle.map_nodes.specs.declared.nodes.removing.Fate.{Fate}
-use Rattle.map_nodes.specs.declared.nodes.removing.Fate.TheVariants.{Leaves, Stays}
-use Rattle.map_nodes.specs.declared.nodes.removing.Heir.{Heir}
-use Rattle.map_nodes.specs.declared.nodes.removing.Heir.TheVariants.{Placed, Own}
+use Rattle.map_nodes.specs.declared.nodes.removing.ChildAfter.{ChildAfter}
+use Rattle.map_nodes.specs.declared.nodes.removing.ChildAfter.TheVariants.{Leaves, Stays}
+use Rattle.map_nodes.specs.declared.nodes.removing.NewRoot.{NewRoot}
+use Rattle.map_nodes.specs.declared.nodes.removing.NewRoot.TheVariants.{Placed, Own}
 use Rattle.map_chunks.proofs.JoinLemmas.{some_is}
 
-pub heir-rows : (q r : Contents) (ks kids : List OwnChild) (depth : ℕ) (keys : List Bytes) (h : Heir) → IsHeir q r ks h
+pub heir-rows : (q r : Contents) (ks kids : List OwnChild) (depth : ℕ) (keys : List Bytes) (h : NewRoot)
+    → IsHeir q r ks h
     → left_rows r depth keys kids (Some h) ≡ one_shown q ks
 heir-rows q r ks kids depth keys (Placed at) i = i.0
 heir-rows q r ks kids depth keys (Own n) i = i.0
 
-pub heir-fresh : (q r : Contents) (ks old new : List OwnChild) (h : Heir) → IsHeir q r ks h → KeptBy old new h
+pub heir-fresh : (q r : Contents) (ks old new : List OwnChild) (h : NewRoot) → IsHeir q r ks h → KeptBy old new h
     → kids_fresh ks ≤ kids_fresh old → left_fresh new (Some h) ≤ kids_fresh old + 1
 heir-fresh q r ks old new (Placed at) i k f = omega (arith, ap kids_fresh k)
 heir-fresh q r ks old new (Own n) i k f = omega (arith, i.2, f)
 
-pub heir-wide : (q r : Contents) (ks : List OwnChild) (m n : ℕ) (h : Heir) → IsHeir q r ks h → IsWideLeft r m n (Some h)
+pub heir-wide : (q r : Contents) (ks : List OwnChild) (m n : ℕ) (h : NewRoot) → IsHeir q r ks h
+    → IsWideLeft r m n (Some h)
 heir-wide q r ks m n (Placed at) i = i.1
 heir-wide q r ks m n (Own x) i = i.1
 
-pub heir-kept : (old new : List OwnChild) (h : Heir) (at : Ref) → KeptBy old new h → Some h ≡ Some (Placed at)
+pub heir-kept : (old new : List OwnChild) (h : NewRoot) (at : Ref) → KeptBy old new h → Some h ≡ Some (Placed at)
     → new ≡ old
 heir-kept old new h at k e = subst (KeptBy old new) (some_is e) k
 
 -- a root that gives way to nothing stays wide
-pub still_wide : (fate : Fate) (old new n : ℕ) → n ≡ old → gives_way fate n ≡ false → AreLeft fate old new
+pub still_wide : (fate : ChildAfter) (old new n : ℕ) → n ≡ old → gives_way fate n ≡ false → AreLeft fate old new
     → 1 < old → 1 < new
 still_wide Leaves old new n e g l more = let f : nat_le n 2 ≡ false = g in let h : 2 < n = grind (arith, nat_tests) in
     omega (arith, l, e, h)

@@ -28,8 +28,8 @@ use Rattle.map_nodes.specs.declared.nodes.Body.{Body}
 use Rattle.map_nodes.specs.declared.nodes.Body.TheVariants.{Inner}
 use Rattle.map_nodes.specs.declared.nodes.OwnChild.{OwnChild}
 use Rattle.map_nodes.specs.declared.nodes.OwnChild.TheVariants.{Own}
-use Rattle.map_nodes.specs.declared.nodes.removing.Fate.{Fate}
-use Rattle.map_nodes.specs.declared.nodes.removing.Fate.TheVariants.{Leaves, Stays}
+use Rattle.map_nodes.specs.declared.nodes.removing.ChildAfter.{ChildAfter}
+use Rattle.map_nodes.specs.declared.nodes.removing.ChildAfter.TheVariants.{Leaves, Stays}
 use Rattle.map_nodes.proofs.ChangeLemmas.{IsLocal, changed, one_child, shown-kept}
 use Rattle.map_chunks.proofs.JoinLemmas.{begins, begins-with, split_of, some_is}
 use Rattle.map_nodes.proofs.LeafLemmas.{strict_rises}
@@ -294,7 +294,7 @@ child_gone p q depth keys nk kids ne pieces key i child pre l m z d nil two with
 -- what is known of the child's fate, in terms of the way to it
 pub fate_here : (p : Contents) (depth : ℕ) (keys : List Bytes) (kids : List OwnChild) (pieces : List Piece)
     (key : Bytes)
-    (i : ℕ) (child : OwnChild) (fate : Fate) → length kids ≡ length keys
+    (i : ℕ) (child : OwnChild) (fate : ChildAfter) → length kids ≡ length keys
     → (d : Down p depth keys kids pieces key i child) → IsFate key (get_or keys i []) (rows_or (kid_shown p child)) fate
     → IsFate key d.first d.way.here fate
 fate_here p depth keys kids pieces key i child fate l d f =
@@ -436,7 +436,7 @@ last_shown p depth keys kids pieces key i child l few d nil =
 
 pub has_others : (p : Contents) (depth : ℕ) (keys : List Bytes) (kids : List OwnChild) (pieces : List Piece)
     (key : Bytes)
-    (i : ℕ) (child : OwnChild) (fate : Fate) → length kids ≡ length keys
+    (i : ℕ) (child : OwnChild) (fate : ChildAfter) → length kids ≡ length keys
     → (d : Down p depth keys kids pieces key i child) → IsFate key d.first d.way.here fate
     → 0 < length (without key (rows_or (shown p pieces))) → HasOthers fate (length keys)
 has_others p depth keys kids pieces key i child Leaves l d f z =
@@ -454,7 +454,7 @@ shown_later old new depth keys body kids pieces pre v e o =
 
 -- the fate of the child, once more is placed
 pub fate_later : (old new : Contents) (depth : ℕ) (keys slice : List Bytes) (kids : List OwnChild) (pieces : List Piece)
-    (key first : Bytes) (i : ℕ) (child : OwnChild) (fate : Fate) → IsPrefix old new
+    (key first : Bytes) (i : ℕ) (child : OwnChild) (fate : ChildAfter) → IsPrefix old new
     → length kids ≡ length keys → slice ≡ keys → i < length slice → (d : Down old depth keys kids pieces key i child)
     → child ≡ get_or kids i child → first ≡ get_or slice i first
     → IsFate key first (rows_or (kid_shown old child)) fate → (c : OwnChild) → slice_get kids i ≡ Some c
@@ -470,7 +470,7 @@ fate_later old new depth keys slice kids pieces key first i child fate pre l s w
     (subst (λ k. IsFate key k (rows_or (kid_shown old child)) fate) at f))
 
 -- fewer than two children stay
-pub gives_way-is : (fate : Fate) (n : ℕ) → gives_way fate n ≡ true → (fate ≡ Leaves) × (n ≤ 2)
+pub gives_way-is : (fate : ChildAfter) (n : ℕ) → gives_way fate n ≡ true → (fate ≡ Leaves) × (n ≤ 2)
 gives_way-is Leaves n h = (refl, (let g : nat_le n 2 ≡ true = h in grind (arith, nat_tests)))
 gives_way-is (Stays other) n h = absurd cc
 
@@ -478,7 +478,7 @@ gives_way-is (Stays other) n h = absurd cc
 
 -- it shows nothing more, and leaves
 pub gone_at : (p : Contents) (depth : ℕ) (keys nk : List Bytes) (kids : _) (ne : List OwnChild) (key : Bytes) (i : ℕ)
-    (at : OwnChild) (fate : Fate) → IsNode depth keys (Inner kids)
+    (at : OwnChild) (fate : ChildAfter) → IsNode depth keys (Inner kids)
     → IsTree (shown p (body_pieces depth keys (Inner kids))) → IsPlace key keys i
     → ((c : OwnChild) → slice_get kids.items i ≡ Some c
     → IsFate key (get_or keys i []) (rows_or (kid_shown p c)) fate) → HasOthers fate (length keys) → fate ≡ Leaves
@@ -503,7 +503,7 @@ gone_at p depth keys nk kids ne key i at fate n t o f others e ek ee =
 
 -- it stays, without the key's row
 pub stays_at : (p q : Contents) (depth : ℕ) (keys nk : List Bytes) (kids : _) (ne : List OwnChild) (key : Bytes)
-    (i : ℕ) (at : OwnChild) (fate : Fate) (other : Option Bytes) → IsPrefix p q → IsNode depth keys (Inner kids)
+    (i : ℕ) (at : OwnChild) (fate : ChildAfter) (other : Option Bytes) → IsPrefix p q → IsNode depth keys (Inner kids)
     → IsTree (shown p (body_pieces depth keys (Inner kids))) → IsPlace key keys i
     → ((c : OwnChild) → slice_get kids.items i ≡ Some c
     → IsFate key (get_or keys i []) (rows_or (kid_shown p c)) fate) → fate ≡ Stays other → nk ≡ lowered i other keys
@@ -529,7 +529,7 @@ stays_at p q depth keys nk kids ne key i at fate other pre n t o f e ek done =
 
 -- it can be entered
 pub can_at : (p : Contents) (depth : ℕ) (keys : List Bytes) (kids : _) (key : Bytes) (i : ℕ) (at : OwnChild)
-    (fate : Fate) (other : Option Bytes) → IsNode depth keys (Inner kids)
+    (fate : ChildAfter) (other : Option Bytes) → IsNode depth keys (Inner kids)
     → IsTree (shown p (body_pieces depth keys (Inner kids))) → IsPlace key keys i
     → ((c : OwnChild) → slice_get kids.items i ≡ Some c
     → IsFate key (get_or keys i []) (rows_or (kid_shown p c)) fate) → fate ≡ Stays other → (c : OwnChild)
@@ -551,7 +551,8 @@ can_at p depth keys kids key i at fate other n t o f e =
 
 -- what is known of it, once more is placed
 pub fate_down : (p q : Contents) (depth : ℕ) (keys slice : List Bytes) (body : Body) (kids : _) (pieces : List Piece)
-    (key first : Bytes) (i : ℕ) (child : OwnChild) (fate : Fate) → IsPrefix p q → body_pieces depth keys body ≡ pieces
+    (key first : Bytes) (i : ℕ) (child : OwnChild) (fate : ChildAfter) → IsPrefix p q → body_pieces depth keys body
+    ≡ pieces
     → body ≡ Inner kids → IsNode depth keys body → slice ≡ keys → IsPlace key slice i
     → child ≡ get_or kids.items i child → first ≡ get_or slice i first → IsTree (shown p pieces)
     → IsFate key first (rows_or (kid_shown p child)) fate → 0 < length (without key (rows_or (shown p pieces)))

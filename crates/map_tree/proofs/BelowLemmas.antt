@@ -11,7 +11,7 @@ use Rattle.group_history.specs.Naming.{content_of}
 use Rattle.group_history.specs.Refs.{stamp_of}
 use Rattle.group_history.specs.Rows.{Rows}
 use Rattle.group_history.specs.Spelling.{Contents, Spelled, Segment, Version, as_segment, as_version, spelled}
-use Rattle.group_history.specs.Spelling.{spelled_by, segment_at, version_at, rows_at, rows_if, map_at, map_of}
+use Rattle.group_history.specs.Spelling.{spelled_by, segment_at, version_at, rows_at, rows_if, map_at, segment_map}
 use Rattle.group_history.specs.Spelling.{joined_one}
 use Rattle.group_history.proofs.Folding.{and_then-some, answer_within, length_folded}
 use Rattle.group_history.proofs.Lists.{only_one}
@@ -36,7 +36,7 @@ pub version-within : (ns : Contents) (k : ℕ) (v : Version) → version_at ns k
 version-within ns k v h = let m = and_then-some (answer (spelled ns) k) as_version v h in answered-within ns k m.0 m.1
 
 pub map-within : (ns : Contents) (k : ℕ) (m : Entries) → map_at ns k ≡ Some m → k < length ns
-map-within ns k m h = let s = and_then-some (segment_at ns k) map_of m h in segment-within ns k s.0 s.1
+map-within ns k m h = let s = and_then-some (segment_at ns k) segment_map m h in segment-within ns k s.0 s.1
 
 rows-within : (ns : Contents) (depth k : ℕ) (rows : Rows) → rows_at ns depth k ≡ Some rows → k < length ns
 rows-within ns depth k rows h = let s = and_then-some (segment_at ns k) (rows_if depth) rows h in

@@ -2,7 +2,7 @@
 use Rattle.std.proofs.Common.{◌≡◌, Bool, true, false, cond, Option, Some, None, is_some, refl}
 use Rattle.group_history.specs.Map.{Bytes, same_text}
 use Rattle.map_chunks.specs.Writes.{standing, is_there, is_the_same}
-use Rattle.map_chunks.specs.declared.looks.Standing.TheVariants.{Other, Same}
+use Rattle.map_chunks.specs.declared.looks.Comparison.TheVariants.{Other, Same}
 use Rattle.map_tree.proofs.WriteLemmas.{same_value}
 
 -- a key is there where it has a value

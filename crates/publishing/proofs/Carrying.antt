@@ -9,8 +9,8 @@ use Rattle.std.proofs.lemmas.Bool.Decides.{nat_tests, eqb_tells}
 use mathlib.Core.List.{IsPrefix}
 use Rattle.group_history.specs.declared.nodes.Chunk.TheVariants.{Leaf, Inner}
 use Rattle.group_history.specs.declared.nodes.Commit.{Commit}
-use Rattle.group_history.specs.declared.nodes.Kind.{Kind}
-use Rattle.group_history.specs.declared.nodes.Kind.TheVariants.{Snapshot, Over}
+use Rattle.group_history.specs.declared.nodes.CommitKind.{CommitKind}
+use Rattle.group_history.specs.declared.nodes.CommitKind.TheVariants.{Snapshot, Over}
 use Rattle.group_history.specs.declared.nodes.Node.{Node}
 use Rattle.group_history.specs.declared.nodes.Node.TheVariants as node
 use Rattle.group_history.specs.declared.refs.Ref.{Ref}
@@ -21,7 +21,8 @@ use Rattle.group_history.specs.Refs.{stamp_of}
 use Rattle.group_history.specs.Rows.{Rows}
 use Rattle.group_history.specs.Spelling.{Contents, Segment, Version, Spelled, as_segment, as_version, as_snapshot}
 use Rattle.group_history.specs.Spelling.{segment, version, segment_in, version_in, snapshot_in, rows_if, rows_in}
-use Rattle.group_history.specs.Spelling.{joined_one, joined_rows, sized, inner_in, map_of, map_in, basis_in, state_over}
+use Rattle.group_history.specs.Spelling.{joined_one, joined_rows, sized, inner_in, segment_map, map_in, basis_in}
+use Rattle.group_history.specs.Spelling.{state_over}
 use Rattle.group_history.specs.Spelling.{state_in, commit_in, snapshot_of, spelled_by, spelled, version_at}
 use Rattle.group_history.specs.State.{State}
 use Rattle.group_history.proofs.Folding.{and_then-some, answer_more, answer_within, seam, folded_more, folded_stays}
@@ -89,8 +90,8 @@ module _ (done more : List (Option Spelled)) (h : ℕ → ℕ) (go : Carries don
       ap (λ o. option_and_then (rows_if d) o) (segment-carried k s.0 s.1) ∙ s.2
 
   map-carried : (k : ℕ) (m : Entries) → map_in done k ≡ Some m → map_in more (h k) ≡ Some m
-  map-carried k m is = let s = and_then-some (segment_in done k) map_of m is in
-      ap (λ o. option_and_then map_of o) (segment-carried k s.0 s.1) ∙ s.2
+  map-carried k m is = let s = and_then-some (segment_in done k) segment_map m is in
+      ap (λ o. option_and_then segment_map o) (segment-carried k s.0 s.1) ∙ s.2
 
   joined-carried : (d : ℕ) (kids : List (Bytes × ℕ)) (rows : Rows) → joined_rows (shows_in done d kids) ≡ Some rows
       → joined_rows (shows_in more d (kids_by h kids)) ≡ Some rows
@@ -132,7 +133,7 @@ module _ (done more : List (Option Spelled)) (h : ℕ → ℕ) (go : Carries don
       ∙ (cond-true (h m.0 == h snapshot) (version_in more (h basis)) None
       (eq-eqb (h m.0) (h snapshot) (ap h t.0)) ∙ version-carried basis v t.1)
 
-  state-carried : (k : Kind ℕ) (m : Entries) (s : State) → state_in done k m ≡ Some s
+  state-carried : (k : CommitKind ℕ) (m : Entries) (s : State) → state_in done k m ≡ Some s
       → state_in more (renamed_kind h k) m ≡ Some s
   state-carried (Snapshot sn) m s is = is
   state-carried (Over o) m s is =
@@ -149,7 +150,7 @@ module _ (done more : List (Option Spelled)) (h : ℕ → ℕ) (go : Carries don
       (map-carried c.root m.0 m.1)
       ∙ (ap (λ o. option_map (F m.0) o) (state-carried c.kind m.0 s.0 s.1) ∙ ap Some s.2)
 
-  begin-carried : (k : Kind ℕ) → length more ≡ h (length done)
+  begin-carried : (k : CommitKind ℕ) → length more ≡ h (length done)
       → snapshot_of (length more) (renamed_kind h k) ≡ h (snapshot_of (length done) k)
   begin-carried (Snapshot sn) at = at
   begin-carried (Over o) at = refl

@@ -2,8 +2,8 @@
 use Rattle.std.proofs.Common.{◌≡◌, List, [], ◌∷◌, map, refl, ap, ◌∙◌}
 use Rattle.std.specs.List.{Contains}
 use Rattle.group_history.specs.declared.nodes.Chunk.TheVariants.{Leaf, Inner}
-use Rattle.group_history.specs.declared.nodes.Kind.{Kind}
-use Rattle.group_history.specs.declared.nodes.Kind.TheVariants.{Snapshot, Over}
+use Rattle.group_history.specs.declared.nodes.CommitKind.{CommitKind}
+use Rattle.group_history.specs.declared.nodes.CommitKind.TheVariants.{Snapshot, Over}
 use Rattle.group_history.specs.declared.nodes.Node.{Node}
 use Rattle.group_history.specs.declared.nodes.Node.TheVariants as node
 use Rattle.group_history.specs.Map.{Bytes}
@@ -21,7 +21,7 @@ kids-twice : {A B C : Type 0} (f : A → B) (g : B → C) (kids : List (Bytes ×
 kids-twice f g [] = refl
 kids-twice f g (k ∷ ks) = ap (λ w. (k.0, g (f k.1)) ∷ w) (kids-twice f g ks)
 
-kind-twice : {A B C : Type 0} (f : A → B) (g : B → C) (k : Kind A)
+kind-twice : {A B C : Type 0} (f : A → B) (g : B → C) (k : CommitKind A)
     → renamed_kind g (renamed_kind f k) ≡ renamed_kind (λ a. g (f a)) k
 kind-twice f g (Snapshot s) = refl
 kind-twice f g (Over o) = refl
@@ -45,7 +45,7 @@ kids-same f g (k ∷ ks) same =
     ap (λ b. (k.0, b) ∷ kids_by f ks) (same k.1 (first_here k.1 (values_of ks))) ∙ ap (λ w. (k.0, g k.1) ∷ w)
     (kids-same f g ks (λ a h. same a (later_here k.1 (values_of ks) a h)))
 
-kind-same : {A B : Type 0} (f g : A → B) (k : Kind A) → Agree f g (commits_named k)
+kind-same : {A B : Type 0} (f g : A → B) (k : CommitKind A) → Agree f g (commits_named k)
     → renamed_kind f k ≡ renamed_kind g k
 kind-same f g (Snapshot s) same = refl
 kind-same f g (Over o) same =

@@ -2,7 +2,7 @@
 ghost use Rattle.std.specs.Prelude.{◌≡◌, []};
 ghost use Rattle.std.specs.List.{All, Contains};
 ghost use Rattle.group_history.specs.Refs.{slot_of, stamp_of};
-ghost use Rattle.head_word.specs.Books.{drawn, Follows};
+ghost use Rattle.head_word.specs.Books.{drawn, IsChangeFrom};
 ghost use Rattle.reader_claims.specs.Lists.{In};
 ghost use Rattle.reader_claims.specs.Machine.{Moves};
 ghost use Rattle.answered.specs.Trying.{Ends, IsMove};
@@ -41,7 +41,7 @@ where
     requires none { S.reused → seat.old.view.taken ≡ [] }
     requires settled { S.reused → All (λ at. In seat.old.view.settled (slot_of at)) to.now.refs.now }
     requires among { Contains to.now.refs.now to.now.new }
-    requires follows { Follows M.means (drawn seat.old.mark.log) to.now.base to.now.new to.now.change.now }
+    requires follows { IsChangeFrom M.means (drawn seat.old.mark.log) to.now.base to.now.new to.now.change.now }
     requires left { All (λ at. IsDropped (drawn seat.old.mark.log) (stamp_of to.now.base) (stamp_of to.now.new)
         (stamp_of at)) left.now }
     ensures seat { IsSameSeat seat.old seat.new }

@@ -15,7 +15,7 @@ ghost use Rattle.reader_claims.specs.Machine.{Moves};
 ghost use Rattle.reader_claims.specs.Seats.{kind_end};
 ghost use Rattle.reader_claims.specs.Views.{with_settled};
 ghost use Rattle.group_history.specs.Naming.{renamed, placed_ref};
-ghost use Rattle.answered.specs.Answered.{own_moves, is_want};
+ghost use Rattle.answered.specs.Answered.{own_moves, is_resource_refusal};
 ghost use Rattle.commit_graph.specs.Seats.{IsSeatOf, IsSameSeat, StaysHeld};
 ghost use Rattle.publishing.specs.Stamped.{AreFrom};
 ghost use Rattle.publishing.specs.Placed.{IsPlaced, FoundNone, LieBelow};
@@ -274,7 +274,7 @@ where
     ensures within { S.reused → IfOk result (λ refs. LieBelow (kind_end shared.now.table.sizes kind) refs.items) }
     ensures given { S.reused → OnErr result (GivesUp shared.now.table.sizes.slots seat.old.view seat.new.view) }
     ensures moves { S.reused → Moves seat.old.view seat.new.view }
-    ensures want { IfErr result (λ e. is_want e ≡ true) }
+    ensures want { IfErr result (λ e. is_resource_refusal e ≡ true) }
     ensures moved { IfErr result
         (λ e. e ≡ refusal.Moved → others seat.old.mark + max 1 tries ≤ others seat.new.mark) }
     ensures stamps { IfErr result

@@ -8,7 +8,7 @@ use Rattle.group_history.specs.declared.responses.Confirmed.{Confirmed}
 use Rattle.group_history.specs.declared.responses.Patch.{Patch}
 use Rattle.group_history.specs.declared.responses.Response.{Response}
 use Rattle.group_history.specs.declared.responses.Response.TheVariants as response
-use Rattle.group_history.specs.Answers.{◌>>=◌, Answers, Refuses}
+use Rattle.group_history.specs.Answers.{◌>>=◌, AnswersOrNoMemory, Refuses}
 use Rattle.group_history.specs.Cookies.{Cookie, cookie_of}
 use Rattle.pull_patch.specs.Fields.{◌>>-◌, each}
 use Rattle.pull_patch.specs.Operations.{Edit, operation_of}
@@ -90,7 +90,7 @@ no_patch (Some c) None = refl
 no_patch (Some c) (Some cs) = refl
 
 -- what is right is an answer
-pub Answers-is : {X : Type 0} (r right : Result X Refusal) → r ≡ right → Answers r right
-Answers-is (Ok x) right is = sym is
-Answers-is (Err NoMemory) right is = tt
-Answers-is (Err e) right is = sym is
+pub AnswersOrNoMemory-is : {X : Type 0} (r right : Result X Refusal) → r ≡ right → AnswersOrNoMemory r right
+AnswersOrNoMemory-is (Ok x) right is = sym is
+AnswersOrNoMemory-is (Err NoMemory) right is = tt
+AnswersOrNoMemory-is (Err e) right is = sym is

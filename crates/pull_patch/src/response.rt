@@ -2,7 +2,7 @@
 ghost use Rattle.std.specs.Prelude.{◌≡◌, ◌≤◌, option_map, IfOk, IfSome};
 ghost use Rattle.serde_json.specs.Data.{depth};
 ghost use Rattle.serde_json.specs.View.{view};
-ghost use Rattle.group_history.specs.Answers.{Answers, AnswersSeen};
+ghost use Rattle.group_history.specs.Answers.{AnswersOrNoMemory, AnswersSeen};
 ghost use Rattle.group_history.specs.Pull.{AreInRange};
 ghost use Rattle.pull_patch.specs.Grammar as grammar;
 ghost use Rattle.pull_patch.specs.Inside.Parts as parts;
@@ -39,7 +39,7 @@ pub(crate) fn is_cookie(value: &Value) -> bool
 #[tactic(auto, unfolding(crate::specs::Inside::Parts::cookie_field, crate::specs::Grammar::cookie_at))]
 fn cookie_field(alloc: Global, value: &Value) -> Result<Option<Cookie>, Refusal>
     requires { depth (view value.now) ≤ 127 }
-    ensures { Answers result (parts.cookie_field (view value.now)) }
+    ensures { AnswersOrNoMemory result (parts.cookie_field (view value.now)) }
 {
     match value.get("cookie") {
         Some(cookie) if is_cookie(cookie) => Ok(Cookie::of(alloc, cookie)?),
@@ -76,7 +76,7 @@ fn patch_field(alloc: Global, value: &Value) -> Result<Option<Vec<Patch>>, Refus
 // the shape goes first.
 fn pull_response(alloc: Global, value: &Value) -> Result<Response, Refusal>
     requires { depth (view value.now) ≤ 127 }
-    ensures { Answers result (grammar.pull_response (view value.now)) }
+    ensures { AnswersOrNoMemory result (grammar.pull_response (view value.now)) }
 {
     let read_cookie = cookie_field(alloc, value)?;
     let read_changes = changes_field(alloc, value)?;
@@ -126,7 +126,7 @@ fn kind_of(value: &Value) -> VersionKind
 
 #[tactic(auto, unfolding(crate::specs::Grammar::error_of))]
 fn error_of(error: &Value, value: &Value) -> Result<Response, Refusal>
-    ensures { Answers result (grammar.error_of (view error.now) (view value.now)) }
+    ensures { AnswersOrNoMemory result (grammar.error_of (view error.now) (view value.now)) }
 {
     let Some(name) = error.as_str() else {
         return Err(Refusal::BadShape);
@@ -143,7 +143,7 @@ fn error_of(error: &Value, value: &Value) -> Result<Response, Refusal>
 #[tactic(auto, unfolding(crate::specs::Grammar::response_of))]
 fn response_of(alloc: Global, value: &Value) -> Result<Response, Refusal>
     requires { depth (view value.now) ≤ 127 }
-    ensures { Answers result (grammar.response_of (view value.now)) }
+    ensures { AnswersOrNoMemory result (grammar.response_of (view value.now)) }
 {
     match value.get("error") {
         Some(error) => error_of(error, value),
@@ -159,7 +159,7 @@ fn response_of(alloc: Global, value: &Value) -> Result<Response, Refusal>
 /// NoMemory may come in place of any answer.
 #[tactic(auto, unfolding(crate::specs::Grammar::answer_to))]
 pub fn read_response(alloc: Global, bytes: &[u8]) -> Result<Response, Refusal>
-    ensures { Answers result (grammar.answer_to bytes.now) }
+    ensures { AnswersOrNoMemory result (grammar.answer_to bytes.now) }
 {
     match plain_response(alloc, bytes) {
         Ok(response) => return Ok(response),

@@ -1,6 +1,7 @@
 -- What looks found, as more looks are made.
 use Rattle.std.proofs.Common.{◌≡◌, ℕ, ◌+◌, List, [], ◌∷◌, ◌++◌, sym, ap, ◌∙◌, append_assoc}
 use Rattle.reader_claims.specs.Notes.{lost}
+use Rattle.reader_claims.specs.Views.{sought}
 use Rattle.reader_claims.specs.Counts as counts
 use Rattle.reader_claims.specs.Counts.{Found, SlotsFound, PinsFound, CountsSlots, CountsPins}
 use Rattle.reader_claims.specs.declared.counts.SlotCounts.{SlotCounts}
@@ -19,7 +20,7 @@ then_more xs ys zs a b = (b.0 ++ a.0, b.1 ∙ ap (λ l. b.0 ++ l) a.1 ∙ sym (a
 pub found_later : (v t u : View) (p w : ℕ) → HasMore t.notes u.notes → HasMore t.read u.read → Found v t p w
     → Found v u p w
 found_later v t u p w a b (counts.slot i x later before is) = counts.slot i x (a.0 ++ later) before
-    (a.1 ∙ ap (λ l. a.0 ++ l) is ∙ sym (append_assoc a.0 later (lost i (x + 1) x ∷ (before ++ v.notes))))
+    (a.1 ∙ ap (λ l. a.0 ++ l) is ∙ sym (append_assoc a.0 later (lost i (sought x) x ∷ (before ++ v.notes))))
 found_later v t u p w a b (counts.pin j x later before is) = counts.pin j x (b.0 ++ later) before
     (b.1 ∙ ap (λ l. b.0 ++ l) is ∙ sym (append_assoc b.0 later ((j, x) ∷ (before ++ v.read))))
 
@@ -27,7 +28,7 @@ found_later v t u p w a b (counts.pin j x later before is) = counts.pin j x (b.0
 pub found_since : (v t u : View) (p w : ℕ) → HasMore v.notes t.notes → HasMore v.read t.read → Found t u p w
     → Found v u p w
 found_since v t u p w a b (counts.slot i x later before is) = counts.slot i x later (before ++ a.0)
-    (is ∙ ap (λ l. later ++ (lost i (x + 1) x ∷ l))
+    (is ∙ ap (λ l. later ++ (lost i (sought x) x ∷ l))
     (ap (λ l. before ++ l) a.1 ∙ sym (append_assoc before a.0 v.notes)))
 found_since v t u p w a b (counts.pin j x later before is) = counts.pin j x later (before ++ b.0)
     (is ∙ ap (λ l. later ++ ((j, x) ∷ l)) (ap (λ l. before ++ l) b.1 ∙ sym (append_assoc before b.0 v.read)))

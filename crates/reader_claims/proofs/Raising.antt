@@ -20,7 +20,7 @@ loads_only v u e is up = subst (Raises v) (sym is) record {
   settled = refl;
   withdrawn = refl;
   retired = refl;
-  passes = refl;
+  epoch_loads = refl;
   raises = (omega arith, omega arith);
   reached = up;
   floor = refl;
@@ -39,7 +39,7 @@ loads_and_raises v u t e n is up then further = let here : u.reached ≡ e = ap 
       settled = refl;
       withdrawn = refl;
       retired = refl;
-      passes = refl;
+      epoch_loads = refl;
       raises = (omega arith, omega arith);
       reached = omega arith;
       floor = refl;

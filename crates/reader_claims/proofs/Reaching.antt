@@ -18,7 +18,7 @@ use Rattle.reader_claims.specs.Words.{pin_at, first_slot, slot_at, pin_word, slo
 use Rattle.reader_claims.specs.Lists.{In, Noted}
 use Rattle.reader_claims.specs.Notes as notes
 use Rattle.reader_claims.specs.Views.{dealer, promoted, IsOpen, with_epoch, with_pin, with_read, with_raise, with_taken}
-use Rattle.reader_claims.specs.Views.{with_settled, with_withdrawn, with_retired, with_note, with_look, with_given}
+use Rattle.reader_claims.specs.Views.{with_settled, with_withdrawn, with_retired, with_note, with_look, with_given, sought}
 use Rattle.reader_claims.specs.Machine as machine
 use Rattle.reader_claims.specs.Machine.{Move, Reached, Lawful, left_by}
 use Rattle.reader_claims.specs.Inside.Plays.{Sat, dealt_left, dealt_right, Goes, loaded, stored, cleared, read, raised, looked}
@@ -295,10 +295,14 @@ module _ (k : Sizes) where
       (λ j' at. let same : j ≡ j' = omega arith in
       told_at (step n (pin_at j) 0 0 none) m x x (λ q. with_read m.0 q x) j j' same move)
 
+  unsought : (x : ℕ) → x ≢ sought x
+  unsought zero e = absurd (cc e)
+  unsought (suc x) e = absurd (cc e)
+
   pub looks_as : (n id : ℕ) (m : Sat) (i : ℕ) → i < m.0.sizes.slots
       → Allows (Lawful k) n id m (slot_at i) (λ y. y) (looked (step n (slot_at i) 0 0 none) m)
   looks_as n id m i room s r wide me _ = let x : ℕ = get_or s.words (slot_at i) 0 in
-      let move : Move m.0 (slot_at i) x x (with_look m.0 i x) = machine.lost i (x + 1) x room (λ e. absurd (omega arith)) in
+      let move : Move m.0 (slot_at i) x x (with_look m.0 i x) = machine.lost i (sought x) x room (unsought x) in
       goes s (slot_at i) id m (looked (step n (slot_at i) 0 0 none) m) x (with_look m.0 i x) r me move
       (λ i' at. let same : i ≡ i' = omega arith in
       told_at (step n (slot_at i) 0 0 none) m x x (λ q. with_look m.0 q x) i i' same move)

@@ -1,14 +1,16 @@
 -- What a pass over the slots knows.
-use Rattle.std.proofs.Common.{◌≡◌, ℕ, ◌+◌, ◌≢◌, List, [], ◌∷◌, ◌++◌, refl, sym, ap, ap₂, ◌∙◌, subst, arith}
+use Rattle.std.proofs.Common.{◌≡◌, ℕ, zero, suc, ◌+◌, ◌≢◌, List, [], ◌∷◌, ◌++◌, refl, sym, ap, ap₂, ◌∙◌, subst, arith}
 use Rattle.std.proofs.Common.{append_assoc}
 use mathlib.Core.Logic.{dite}
 use native.Mathlib.Decide.{ℕ_discrete, dec_lt}
 use Rattle.reader_claims.specs.Words.{slot_word}
 use Rattle.reader_claims.specs.Notes.{Note, lost, gave, StandTogether}
-use Rattle.reader_claims.specs.Views.{with_taken, with_note, with_given, promoted, ArePinsRead, IsOpen, IsClosed}
+use Rattle.reader_claims.specs.Views.{with_taken, with_note, with_look, with_given, promoted, sought}
+use Rattle.reader_claims.specs.Views.{ArePinsRead, IsOpen, IsClosed}
 use Rattle.reader_claims.specs.Passes as passes
-use Rattle.reader_claims.specs.Passes.{passed, found, retired_at, WhyShut, AreShut, FindsNone}
-use Rattle.reader_claims.specs.Inside.Scans.{Later}
+use Rattle.reader_claims.specs.Lists.{In}
+use Rattle.reader_claims.specs.Passes.{passed, found, retired_at, Takes, WhyShut, AreShut, FindsNone}
+use Rattle.reader_claims.specs.Inside.Scans.{Later, HasFound}
 use Rattle.reader_claims.specs.declared.view.View.{View}
 use Rattle.reader_claims.specs.declared.words.SlotState.{SlotState}
 use Rattle.reader_claims.specs.declared.words.SlotState.TheVariants.{Free, Taken, Live, Retired}
@@ -65,6 +67,38 @@ later_later v u t a b = (
   (let p = a.2 in let q = b.2 in omega arith),
 )
 
+sought_free : (w : ℕ) → w ≢ 0 → sought w ≡ 0
+sought_free zero h = absurd (h refl)
+sought_free (suc w) h = refl
+
+pub later_look : (v u : View) (i w : ℕ) → u ≡ with_look v i w → Later v u
+later_look v u i w is = later_note v u i (sought w) w is
+
+-- a look that found the slot not free
+pub found_by_look : (v u : View) (i w : ℕ) → u ≡ with_look v i w → w ≢ 0 → HasFound v i w u
+found_by_look v u i w is h = (v, later_self v, refl, is ∙ ap (λ (old : ℕ). with_note v i old w) (sought_free w h))
+
+-- a take after a look
+pub found_by_take : (v m u : View) (i seen w : ℕ) → m ≡ with_look v i seen → u ≡ with_note m i 0 w → HasFound v i w u
+found_by_take v m u i seen w look is = (m, later_look v m i seen look, ap (λ (y : View). y.taken) look, is)
+
+pub later_found : (v u : View) (i w : ℕ) → HasFound v i w u → Later v u
+later_found v u i w h = later_later v h.0 u h.1 (later_note h.0 u i 0 w h.3)
+
+-- a slot that was found so is given, and then taken
+pub taken_after_give : (v u t x : View) (i w r : ℕ) → HasFound v i w u → t ≡ with_given u i r → (In t.taken i → ⊥)
+    → x ≡ with_taken t i → Takes v x i
+taken_after_give v u t x i w r had given fresh won = let same : t.taken ≡ v.taken = ap (λ (y : View). y.taken) given
+    ∙ ap (λ (y : View). y.taken) had.3 ∙ had.2 in (
+      subst (λ l. In l i → ⊥) same fresh,
+      ap (λ (y : View). y.taken) won ∙ ap (λ l. i ∷ l) same,
+    )
+
+-- a slot that is shut is so from an earlier view on
+pub shut_since : (i : ℕ) (v m u : View) → m.taken ≡ v.taken → (u.taken ≡ m.taken) × WhyShut i u
+    → (u.taken ≡ v.taken) × WhyShut i u
+shut_since i v m u same h = (h.0 ∙ same, h.1)
+
 -- a slot that was found neither free nor retired
 shut_at_look : (i : ℕ) (v u : View) (state : SlotState) → u.notes ≡ found i (slot_word state) ∷ v.notes
     → slot_word state ≢ 0 → ((r : ℕ) → state ≡ Retired r → ⊥) → WhyShut i u
@@ -116,6 +150,17 @@ pub later_tried : (w i : ℕ) (v u : View) → (w ≡ 0 → u ≡ with_taken v i
 later_tried w i v u won miss = dite (ℕ_discrete w 0) (λ e. later_taken v u i (won e))
     (λ ne. later_note v u i 0 w (miss ne))
 
+-- a give, won or lost
+pub later_offered : (w old i r : ℕ) (v u : View) → (w ≡ old → u ≡ with_given v i r) → (w ≢ old → u ≡ with_note v i old w)
+    → Later v u
+later_offered w old i r v u won miss = dite (ℕ_discrete w old) (λ e. later_given v u i r (won e))
+    (λ ne. later_note v u i old w (miss ne))
+
+pub taken_offered : (w old i r : ℕ) (v u : View) → (w ≡ old → u ≡ with_given v i r) → (w ≢ old → u ≡ with_note v i old w)
+    → u.taken ≡ v.taken
+taken_offered w old i r v u won miss = dite (ℕ_discrete w old) (λ e. ap (λ (y : View). y.taken) (won e))
+    (λ ne. ap (λ (y : View). y.taken) (miss ne))
+
 all_later : (from end : ℕ) (v u : View) → Later v u → AreShut from end v → AreShut from end u
 all_later from end v u l h i over near = shut_later i v u l (h i over near)
 
@@ -132,7 +177,7 @@ finds_none : (v u t : View) (end : ℕ) → u ≡ passed v u → ArePinsRead u �
     → FindsNone v t end
 finds_none v u t end is read l shut = record {
   epoch = (
-    ap (λ (y : View). y.passes) l.0 ∙ ap (λ (y : View). y.passes) is,
+    ap (λ (y : View). y.epoch_loads) l.0 ∙ ap (λ (y : View). y.epoch_loads) is,
     ap (λ (y : View). y.loaded) l.0 ∙ ap (λ (y : View). y.loaded) is ∙ sym (ap (λ (y : View). y.reached) l.0),
   );
   pins = read_later u t l read;
@@ -160,8 +205,8 @@ given_passed v q u i r first second = second ∙ ap (λ y. with_given y i r) fir
     ∙ ap₂ (λ a b. with_given (record v {
       pin = promoted v.pin a;
       loaded = a;
-      before = v.loaded;
-      passes = v.passes + 1;
+      loaded_before = v.loaded;
+      epoch_loads = v.epoch_loads + 1;
       reached = a;
       read = b;
       notes = [];
@@ -175,8 +220,8 @@ noted_passed v q u i old x first second = second ∙ ap (λ y. with_note y i old
     ∙ ap₂ (λ a b. with_note (record v {
       pin = promoted v.pin a;
       loaded = a;
-      before = v.loaded;
-      passes = v.passes + 1;
+      loaded_before = v.loaded;
+      epoch_loads = v.epoch_loads + 1;
       reached = a;
       read = b;
       notes = [];

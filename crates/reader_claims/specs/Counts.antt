@@ -10,6 +10,7 @@ use Rattle.reader_claims.specs.declared.words.Pin.TheVariants.{Absent, Stored, H
 use Rattle.reader_claims.specs.declared.words.SlotState.{SlotState}
 use Rattle.reader_claims.specs.declared.words.SlotState.TheVariants.{Free, Taken, Live, Retired}
 use Rattle.reader_claims.specs.Seats.{first_reserved}
+use Rattle.reader_claims.specs.Views.{sought}
 use Rattle.reader_claims.specs.Words.{pin_at, pin_word, slot_at, slot_word}
 
 -- ---- the slots
@@ -87,7 +88,7 @@ pub record Counts (found : ℕ → ℕ → Type 0) (k : Sizes) (c : SlotCounts) 
 
 -- from v to u the seat noted that at this place it found this word, of a slot or of a reader's pin
 pub data Found (v u : View) : ℕ → ℕ → Type 0 where
-  slot : (i w : ℕ) (later before : List Note) → u.notes ≡ later ++ (lost i (w + 1) w ∷ (before ++ v.notes))
+  slot : (i w : ℕ) (later before : List Note) → u.notes ≡ later ++ (lost i (sought w) w ∷ (before ++ v.notes))
       → Found v u (slot_at i) w
   pin : (j w : ℕ) (later before : List (ℕ × ℕ)) → u.read ≡ later ++ ((j, w) ∷ (before ++ v.read))
       → Found v u (pin_at j) w

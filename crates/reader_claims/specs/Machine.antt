@@ -38,7 +38,7 @@ pub data Move (v : View) : ℕ → ℕ → ℕ → View → Type 0 where
       → Move v (slot_at i) (slot_word Live) (slot_word (Retired (v.loaded + 1))) (with_retired v i (v.loaded + 1))
   give : (i r : ℕ) → i < v.sizes.slots → IsOpen v r
       → Move v (slot_at i) (slot_word (Retired r)) (slot_word Free) (with_given v i r)
-  -- a take, a retire or a give that found another word than it looked for
+  -- a take, a retire or a give that found another word than it looked for; so is a look noted
   lost : (i old x : ℕ) → i < v.sizes.slots → x ≢ old → Move v (slot_at i) x x (with_note v i old x)
 
 -- what an exchange from old to new leaves where it found x

@@ -16,8 +16,8 @@ pinned v e = record v {
   pin = Held e;
   stores = v.stores + 1;
   loaded = e;
-  before = e;
-  passes = v.passes + 2;
+  loaded_before = e;
+  epoch_loads = v.epoch_loads + 2;
   reached = e;
   read = [];
   notes = [];
@@ -30,8 +30,8 @@ unpinned v a b = record v {
   pin = Absent;
   stores = v.stores + 2;
   loaded = b;
-  before = a;
-  passes = v.passes + 2;
+  loaded_before = a;
+  epoch_loads = v.epoch_loads + 2;
   reached = b;
   read = [];
   notes = [];
@@ -44,7 +44,8 @@ IsPinned v u e = (u ≡ pinned v e) × (v.reached ≤ e) × (e ≤ 2 ^ 60)
 
 -- the pin is absent, and the second load read more than the first: others raised the epoch
 abbrev pub IsUnpinned : View → View → Type 0
-IsUnpinned v u = (u ≡ unpinned v u.before u.loaded) × (v.reached ≤ u.before) × (u.before < u.loaded)
+IsUnpinned v u = (u ≡ unpinned v u.loaded_before u.loaded) × (v.reached ≤ u.loaded_before)
+    × (u.loaded_before < u.loaded)
 
 -- A call that raises the epoch loads it, and raises it once at most. It leaves the pin and the slots, and what the seat
 -- has reached never falls
@@ -57,7 +58,7 @@ pub record Raises (v u : View) : Type 0 where
   pub settled : u.settled ≡ v.settled
   pub withdrawn : u.withdrawn ≡ v.withdrawn
   pub retired : u.retired ≡ v.retired
-  pub passes : u.passes ≡ v.passes + 1
+  pub epoch_loads : u.epoch_loads ≡ v.epoch_loads + 1
   pub raises : (v.raises ≤ u.raises) × (u.raises ≤ v.raises + 1)
   pub reached : v.reached ≤ u.reached
   pub floor : u.floor ≡ v.floor
@@ -75,8 +76,8 @@ abbrev pub passed : View → View → View
 passed v u = record v {
   pin = promoted v.pin u.reached;
   loaded = u.reached;
-  before = v.loaded;
-  passes = v.passes + 1;
+  loaded_before = v.loaded;
+  epoch_loads = v.epoch_loads + 1;
   reached = u.reached;
   read = u.read;
   notes = [];
@@ -141,6 +142,6 @@ AreShut from end v = (i : ℕ) → from ≤ i → i < end → WhyShut i v
 
 -- from v to u the epoch was read, once, and since then each pin, and each slot below end was found shut
 pub record FindsNone (v u : View) (end : ℕ) : Type 0 where
-  pub epoch : (u.passes ≡ v.passes + 1) × (u.loaded ≡ u.reached)
+  pub epoch : (u.epoch_loads ≡ v.epoch_loads + 1) × (u.loaded ≡ u.reached)
   pub pins : ArePinsRead u
   pub slots : AreShut 0 end u

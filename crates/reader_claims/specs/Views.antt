@@ -1,5 +1,5 @@
 -- What a seat knows, and how each step changes it.
-use Rattle.std.specs.Prelude.{◌≡◌, ℕ, ◌+◌, ◌<◌, ◌≤◌, ◌⊎◌, [], ◌∷◌, max, cond, ◌==◌}
+use Rattle.std.specs.Prelude.{◌≡◌, ℕ, zero, suc, ◌+◌, ◌<◌, ◌≤◌, ◌⊎◌, [], ◌∷◌, max, cond, ◌==◌}
 use Rattle.reader_claims.specs.declared.words.Pin.{Pin}
 use Rattle.reader_claims.specs.declared.words.Pin.TheVariants.{Absent, Stored, Held}
 use Rattle.reader_claims.specs.declared.view.Sizes.{Sizes}
@@ -16,8 +16,8 @@ reader k j = record {
   pin = Absent;
   stores = 0;
   loaded = 0;
-  before = 0;
-  passes = 0;
+  loaded_before = 0;
+  epoch_loads = 0;
   reached = 0;
   raises = 0;
   read = [];
@@ -38,8 +38,8 @@ dealer k n = record {
   pin = Absent;
   stores = 0;
   loaded = 0;
-  before = 0;
-  passes = 0;
+  loaded_before = 0;
+  epoch_loads = 0;
   reached = 0;
   raises = 0;
   read = [];
@@ -62,8 +62,8 @@ abbrev pub with_epoch : View → ℕ → View
 with_epoch v e = record v {
   pin = promoted v.pin e;
   loaded = e;
-  before = v.loaded;
-  passes = v.passes + 1;
+  loaded_before = v.loaded;
+  epoch_loads = v.epoch_loads + 1;
   reached = e;
   read = [];  -- what was read before counts no more
   notes = [];
@@ -105,9 +105,14 @@ with_given v i r = record v { notes = gave i r ∷ v.notes; floor = max v.floor 
 abbrev pub with_note : View → ℕ → ℕ → ℕ → View
 with_note v i old w = record v { notes = lost i old w ∷ v.notes }
 
--- the slot i was looked at, and w was there: this is noted as if another word had been sought
+-- the word that a look which finds this one is noted to have sought: a free slot, or another word where it is free
+abbrev pub sought : ℕ → ℕ
+sought zero = 1
+sought (suc w) = 0
+
+-- the slot i was looked at, and w was there: this is noted as a take that found w
 abbrev pub with_look : View → ℕ → ℕ → View
-with_look v i w = with_note v i (w + 1) w
+with_look v i w = with_note v i (sought w) w
 
 -- the pin of each reader was read since the epoch was last read or raised past
 abbrev pub ArePinsRead : View → Type 0

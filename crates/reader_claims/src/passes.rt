@@ -8,7 +8,7 @@ ghost use Rattle.reader_claims.specs.Views.{ArePinsRead, IsOpen, IsClosed, with_
 ghost use Rattle.reader_claims.specs.Machine.{Moves};
 ghost use Rattle.reader_claims.specs.Seats.{first_reserved, kind_end};
 ghost use Rattle.reader_claims.specs.Passes.{passed, Takes, Looks, IsGiven, IsNotGiven, WhyShut, AreShut, FindsNone};
-ghost use Rattle.reader_claims.specs.Inside.Scans.{Later};
+ghost use Rattle.reader_claims.specs.Inside.Scans.{Later, HasFound};
 
 use crate::slot::Kind;
 use crate::steps::{Reader, Words};
@@ -19,6 +19,12 @@ use crate::words::{FREE, Pin, SlotState};
 const NEAR: u32 = 8;
 
 const PROBES: u32 = 16;
+
+// Where there are so many seats, a pass gives slots ahead, so that the next takes need no reading of the pins.
+const MANY_SEATS: u32 = 16;
+
+// How many slots are given ahead at most.
+const AHEAD: u32 = 64;
 
 // What plain loads of slots led to.
 #[derive(Clone, Copy)]
@@ -93,6 +99,23 @@ impl Words {
         least
     }
 
+    // Takes the slot if a look finds it free, since a look disturbs no other seat. The word found, by the look or by the
+    // take.
+    fn take_if_free(&self, reader: &mut Reader, slot: u32) -> u64
+        requires { (reader_id reader.old ≡ words_id self.now) × (slot < self.now.sizes.slots) }
+        ensures table { reader_id reader.new ≡ reader_id reader.old }
+        ensures moves { Moves (view reader.old) (view reader.new) }
+        ensures later { Later (view reader.old) (view reader.new) }
+        ensures won { result ≡ slot_word Free → Takes (view reader.old) (view reader.new) slot }
+        ensures lost { result ≢ slot_word Free → HasFound (view reader.old) slot result (view reader.new) }
+    {
+        let seen = self.look_slot(reader, slot);
+        if seen != FREE {
+            return seen;
+        }
+        self.take(reader, slot)
+    }
+
     // Tries to take one slot, also where it has to be given first. Slots are open at `bound` and
     // below.
     fn try_slot(&self, reader: &mut Reader, slot: u32, bound: u64) -> bool
@@ -106,7 +129,7 @@ impl Words {
         ensures shut { result ≡ false
             → ((view reader.new).taken ≡ (view reader.old).taken) × WhyShut slot (view reader.new) }
     {
-        let found = self.take(reader, slot);
+        let found = self.take_if_free(reader, slot);
         if found == FREE {
             return true;
         }
@@ -162,6 +185,59 @@ impl Words {
         None
     }
 
+    // Gives the slot if a plain load finds it retired, and the pins that were read leave it open.
+    fn give_if_open(&self, reader: &mut Reader, slot: u32)
+        requires { (reader_id reader.old ≡ words_id self.now) × (slot < self.now.sizes.slots) }
+        ensures table { reader_id reader.new ≡ reader_id reader.old }
+        ensures moves { Moves (view reader.old) (view reader.new) }
+        ensures later { Later (view reader.old) (view reader.new) }
+        ensures taken { (view reader.new).taken ≡ (view reader.old).taken }
+    {
+        let SlotState::Retired(r) = self.look(slot) else {
+            return;
+        };
+        if reader.bound < r || r == 0 {
+            return;
+        }
+        self.give(reader, slot, r);
+    }
+
+    // Gives what is open of the next slots, where there are many seats.
+    fn give_ahead(&self, reader: &mut Reader, from: u32, end: u32)
+        requires { (reader_id reader.old ≡ words_id self.now) × (end ≤ self.now.sizes.slots) }
+        ensures table { reader_id reader.new ≡ reader_id reader.old }
+        ensures moves { Moves (view reader.old) (view reader.new) }
+        ensures later { Later (view reader.old) (view reader.new) }
+        ensures taken { (view reader.new).taken ≡ (view reader.old).taken }
+    {
+        if self.sizes.readers < MANY_SEATS {
+            return;
+        }
+        for slot in from..from.saturating_add(AHEAD).min(end) {
+            self.give_if_open(reader, slot);
+        }
+    }
+
+    // Takes the first slot that can be had, as `scan` does, and gives ahead what stands behind it.
+    fn scan_ahead(&self, reader: &mut Reader, from: u32, end: u32, bound: u64) -> Option<u32>
+        requires slots { (reader_id reader.old ≡ words_id self.now) × (end ≤ self.now.sizes.slots) }
+        requires below { (r : ℕ) → r ≤ bound → IsOpen (view reader.old) r }
+        requires above { (r : ℕ) → bound < r → IsClosed (view reader.old) r }
+        ensures table { reader_id reader.new ≡ reader_id reader.old }
+        ensures moves { Moves (view reader.old) (view reader.new) }
+        ensures later { Later (view reader.old) (view reader.new) }
+        ensures taken { MatchOption result
+            ((view reader.new).taken ≡ (view reader.old).taken)
+            (λ i. (from ≤ i) × (i < end) × Takes (view reader.old) (view reader.new) i) }
+        ensures shut { IfNone result (AreShut from end (view reader.new)) }
+    {
+        let Some(slot) = self.scan(reader, from, end, bound) else {
+            return None;
+        };
+        self.give_ahead(reader, slot, end);
+        Some(slot)
+    }
+
     // One pass: the epoch and the pins, the ordinary slots from `begin` on and then those before,
     // and the reserved ones if the kind has them.
     fn pass(&self, reader: &mut Reader, begin: u32, kind: Kind) -> Option<u32>
@@ -179,10 +255,10 @@ impl Words {
     {
         let bound = self.open_below(reader);
         let ordinary = self.ordinary();
-        if let Some(slot) = self.scan(reader, begin, ordinary, bound) {
+        if let Some(slot) = self.scan_ahead(reader, begin, ordinary, bound) {
             return Some(slot);
         }
-        if let Some(slot) = self.scan(reader, 0, begin, bound) {
+        if let Some(slot) = self.scan_ahead(reader, 0, begin, bound) {
             return Some(slot);
         }
         self.scan(reader, ordinary, self.end_of(kind), bound)

@@ -27,9 +27,9 @@ pub struct View {
     // What the last load of the epoch read.
     pub ghost loaded: { ℕ },
     // What the load before that one read.
-    pub ghost before: { ℕ },
+    pub ghost loaded_before: { ℕ },
     // How often it loaded the epoch.
-    pub ghost passes: { ℕ },
+    pub ghost epoch_loads: { ℕ },
     // The epoch that was last read or raised past.
     pub ghost reached: { ℕ },
     // How often it raised the epoch, or found it raised.

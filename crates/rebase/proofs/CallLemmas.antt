@@ -25,8 +25,9 @@ use Rattle.head_word.specs.Marks.{Known, own, own_of}
 use Rattle.head_word.specs.Tallies.{key_of, mine}
 use Rattle.head_word.proofs.Books.{record_more}
 use Rattle.head_word.proofs.Counting.{mine_more}
-use Rattle.answered.specs.Answered.{IsPoint, IsAnswered, IsLeft, IsRefused, Answers, is_move, is_mute, is_want}
-use Rattle.answered.specs.Answered.{moves_for, nothing, own_moves}
+use Rattle.answered.specs.Answered.{IsPoint, IsAnswered, IsLeft, IsRefused, IsLinearized, is_move, is_mute}
+use Rattle.answered.specs.Answered.{is_resource_refusal}
+use Rattle.answered.specs.Answered.{moves_for, no_change, own_moves}
 use Rattle.answered.specs.Changes.{after_made, change_made, change_read}
 use Rattle.answered.proofs.AtOnce.{record_at}
 use Rattle.answered.proofs.Holding.{change_laws_hold}
@@ -38,7 +39,7 @@ use Rattle.rebase.specs.Calls.{AreAnswered, AreReplies, Caller, IsAlone, IsReply
 use Rattle.rebase.specs.Calls.{caller, caller_after, caller_of, change_of, ended_in, id_in, last_after, moves_of_others}
 use Rattle.rebase.specs.Calls.{reply_to}
 use Rattle.rebase.specs.Clients.{ClientState, Grouped, IsSameClient}
-use Rattle.group_steps.specs.Missing.{IsMissed, told}
+use Rattle.group_steps.specs.Missing.{IsStoreRefusal, map_ok}
 use Rattle.rebase.specs.Replies.{Replied, reply_seen, ended, id}
 use Rattle.rebase.specs.declared.calls.Call.{Call}
 use Rattle.rebase.specs.declared.calls.Call.TheVariants as call
@@ -179,7 +180,7 @@ left_in_turn tries old new e later alone is =
 in_turn : (means : Meanings) (tries : ℕ) (old new : Known) (r : Result Replied Refusal)
     (change : Result Replied Refusal → Option Change) (right : State → Result Replied Refusal) → IsLater old new
     → IsAlone old new
-    → Answers means tries old new r change right → IsInTurn means old new r (change r) right
+    → IsLinearized means tries old new r change right → IsInTurn means old new r (change r) right
 in_turn means tries old new (Ok x) change right later alone is = answered_in_turn means old new (change (Ok x)) right
     (Ok x) later alone is
 in_turn means tries old new (Err e) change right later alone is = by (change (Err e))
@@ -231,14 +232,14 @@ alone_replies means reused tries c old (x ∷ xs) (r ∷ rs) new end all alone =
 answered_more : (means : Meanings) (reused : Type 0) (tries : ℕ) (c : Caller) (old mid new : Known) (xs : List Call)
     (rs : List (Result Replied Refusal)) (d : Caller) (x : Call) (r : Result Replied Refusal)
     → AreAnswered means reused tries c old xs rs mid d
-    → IsLater mid new → Answers means tries mid new r (change_of d x) (λ s. reply_to means d s x)
+    → IsLater mid new → IsLinearized means tries mid new r (change_of d x) (λ s. reply_to means d s x)
     → MayRefuse reused x r
     → AreAnswered means reused tries c old (xs ++ x ∷ []) (rs ++ r ∷ []) new (caller_after d r)
 answered_more means reused tries c old mid new [] [] d x r all later is why = (
   new,
   subst (λ m. IsLater m new) all.0 later,
-  subst (λ m. Answers means tries m new r (change_of c x) (λ s. reply_to means c s x)) all.0
-      (subst (λ e. Answers means tries mid new r (change_of e x) (λ s. reply_to means e s x)) all.1 is),
+  subst (λ m. IsLinearized means tries m new r (change_of c x) (λ s. reply_to means c s x)) all.0
+      (subst (λ e. IsLinearized means tries mid new r (change_of e x) (λ s. reply_to means e s x)) all.1 is),
   why,
   (refl, ap (λ e. caller_after e r) all.1),
 )
@@ -259,21 +260,21 @@ map_more f (y ∷ xs) x = ap (λ w. f y ∷ w) (map_more f xs x)
 -- a turn of the loop over the calls
 pub turn : (means : Meanings) (reused : Type 0) (tries : ℕ) (c d : Caller) (old mid new : Known) (all : List Call)
     (i : ℕ) (x : Call) (rs news : List (Result Reply Refusal)) (r : Result Reply Refusal) → i < length all → x ≡ get_or all i x
-    → AreAnswered means reused tries c old (take i all) (map (told reply_seen) rs) mid d → IsLater mid new
-    → Answers means tries mid new (told reply_seen r) (change_of d x) (λ s. reply_to means d s x)
-    → MayRefuse reused x (told reply_seen r) → news ≡ rs ++ r ∷ []
-    → AreAnswered means reused tries c old (take (i + 1) all) (map (told reply_seen) news) new
-    (caller_after d (told reply_seen r))
+    → AreAnswered means reused tries c old (take i all) (map (map_ok reply_seen) rs) mid d → IsLater mid new
+    → IsLinearized means tries mid new (map_ok reply_seen r) (change_of d x) (λ s. reply_to means d s x)
+    → MayRefuse reused x (map_ok reply_seen r) → news ≡ rs ++ r ∷ []
+    → AreAnswered means reused tries c old (take (i + 1) all) (map (map_ok reply_seen) news) new
+    (caller_after d (map_ok reply_seen r))
 turn means reused tries c d old mid new all i x rs news r l q h later is why n =
     let front : take (i + 1) all ≡ take i all ++ x
     ∷ [] = take_more all i x l ∙ ap (λ w. take i all ++ w ∷ []) (sym q) in
-    let back : map (told reply_seen) news ≡ map (told reply_seen) rs ++ told reply_seen r
-    ∷ [] = ap (map (told reply_seen)) n ∙ map_more (told reply_seen) rs r in
-    let end = caller_after d (told reply_seen r) in
-    subst (λ w. AreAnswered means reused tries c old w (map (told reply_seen) news) new end) (sym front)
+    let back : map (map_ok reply_seen) news ≡ map (map_ok reply_seen) rs ++ map_ok reply_seen r
+    ∷ [] = ap (map (map_ok reply_seen)) n ∙ map_more (map_ok reply_seen) rs r in
+    let end = caller_after d (map_ok reply_seen r) in
+    subst (λ w. AreAnswered means reused tries c old w (map (map_ok reply_seen) news) new end) (sym front)
     (subst (λ w. AreAnswered means reused tries c old (take i all ++ x ∷ []) w new end) (sym back)
-    (answered_more means reused tries c old mid new (take i all) (map (told reply_seen) rs) d x
-    (told reply_seen r) h later is why))
+    (answered_more means reused tries c old mid new (take i all) (map (map_ok reply_seen) rs) d x
+    (map_ok reply_seen r) h later is why))
 
 -- the client after a call is the caller after its reply
 pub caller_moves : (old new : ClientState) (r : Result Replied Refusal) → IsSameClient old new
@@ -293,22 +294,22 @@ caller_stays old new same is =
 
 -- why a call is refused, as it is told
 pub why_told : {X Y : Type 0} (f : X → Y) (why : Refusal → Type 0) (r : Result X Refusal) → IfErr r why
-    → IfErr (told f r) why
+    → IfErr (map_ok f r) why
 why_told f why (Ok x) is = is
 why_told f why (Err e) is = is
 
-told_refusal : {X Y : Type 0} (f : X → Y) (r : Result X Refusal) (e : Refusal) → r ≡ Err e → told f r ≡ Err e
-told_refusal f r e is = ap (told f) is
+told_refusal : {X Y : Type 0} (f : X → Y) (r : Result X Refusal) (e : Refusal) → r ≡ Err e → map_ok f r ≡ Err e
+told_refusal f r e is = ap (map_ok f) is
 
 -- an answer is told as it is
 answers_told : {X : Type 0} (f : X → Replied) (means : Meanings) (tries : ℕ) (old new : Known)
     (r : Result X Refusal) (change : Result X Refusal → Option Change) (right : State → Result X Refusal)
     (shown : Result Replied Refusal → Option Change) (told_right : State → Result Replied Refusal)
-    → shown (told f r) ≡ change r → ((s : State) → told_right s ≡ told f (right s))
-    → Answers means tries old new r change right → Answers means tries old new (told f r) shown told_right
+    → shown (map_ok f r) ≡ change r → ((s : State) → told_right s ≡ map_ok f (right s))
+    → IsLinearized means tries old new r change right → IsLinearized means tries old new (map_ok f r) shown told_right
 answers_told f means tries old new (Ok x) change right shown told_right same seen is =
     subst (λ o. IsAnswered means old new o (λ s. told_right s ≡ Ok (f x))) (sym same)
-    (is.0, is.1, seen (after (record_of is.0)) ∙ ap (told f) is.2)
+    (is.0, is.1, seen (after (record_of is.0)) ∙ ap (map_ok f) is.2)
 answers_told f means tries old new (Err e) change right shown told_right same seen is =
     subst (λ o. IsRefused means tries old new (is_mute e o) e o (λ s. told_right s ≡ Err e)) (sym same)
     (by (change (Err e)) (is_mute e (change (Err e))) is)
@@ -321,25 +322,25 @@ answers_told f means tries old new (Err e) change right shown told_right same se
 -- a reply that was made of an answer, as it is told
 pub mapped : {X : Type 0} (f : X → Reply) (shown : X → Replied) (r : Result X Refusal) (m : Result Reply Refusal)
     → ((x : X) → reply_seen (f x) ≡ shown x) → MatchResult r (λ x. IsOkAnd m (λ y. y ≡ f x)) (λ e. m ≡ Err e)
-    → told reply_seen m ≡ told shown r
+    → map_ok reply_seen m ≡ map_ok shown r
 mapped f shown (Ok x) (Ok y) same is = ap (λ z. Ok (reply_seen z)) is ∙ ap Ok (same x)
 mapped f shown (Ok x) (Err e) same is = absurd is
-mapped f shown (Err e) m same is = ap (told reply_seen) is
+mapped f shown (Err e) m same is = ap (map_ok reply_seen) is
 
 -- a call, by the one that it is
 pub call_told : {X : Type 0} (f : X → Replied) (means : Meanings) (tries : ℕ) (old new : Known) (c : Caller)
     (x y : Call) (r : Result X Refusal) (m : Result Replied Refusal) (change : Result X Refusal → Option Change)
     (right : State → Result X Refusal)
-    → x ≡ y → m ≡ told f r → change_of c y (told f r) ≡ change r
-    → ((s : State) → reply_to means c s y ≡ told f (right s)) → Answers means tries old new r change right
-    → Answers means tries old new m (change_of c x) (λ s. reply_to means c s x)
+    → x ≡ y → m ≡ map_ok f r → change_of c y (map_ok f r) ≡ change r
+    → ((s : State) → reply_to means c s y ≡ map_ok f (right s)) → IsLinearized means tries old new r change right
+    → IsLinearized means tries old new m (change_of c x) (λ s. reply_to means c s x)
 call_told f means tries old new c x y r m change right is_call is_told same seen is =
-    subst (λ z. Answers means tries old new m (change_of c z) (λ s. reply_to means c s z)) (sym is_call)
-    (subst (λ w. Answers means tries old new w (change_of c y) (λ s. reply_to means c s y)) (sym is_told)
+    subst (λ z. IsLinearized means tries old new m (change_of c z) (λ s. reply_to means c s z)) (sym is_call)
+    (subst (λ w. IsLinearized means tries old new w (change_of c y) (λ s. reply_to means c s y)) (sym is_told)
     (answers_told f means tries old new r change right (change_of c y) (λ s. reply_to means c s y) same seen is))
 
 told_twice : {X Y Z : Type 0} (f : Y → Z) (g : X → Y) (r : Result X Refusal)
-    → told (λ x. f (g x)) r ≡ told f (told g r)
+    → map_ok (λ x. f (g x)) r ≡ map_ok f (map_ok g r)
 told_twice f g (Ok x) = refl
 told_twice f g (Err e) = refl
 
@@ -348,27 +349,27 @@ pub query_told : {X Y : Type 0} (f : X → Reply) (g : X → Y) (shown : Y → R
     (old new : Known) (c : Caller) (x y : Call) (r : Result X Refusal) (m : Result Reply Refusal) (right : State → Y)
     → x ≡ y → ((z : X) → reply_seen (f z) ≡ shown (g z))
     → MatchResult r (λ z. IsOkAnd m (λ w. w ≡ f z)) (λ e. m ≡ Err e)
-    → change_of c y (told shown (told g r)) ≡ None → ((s : State) → reply_to means c s y ≡ Ok (shown (right s)))
-    → Answers means tries old new (told g r) nothing (λ s. Ok (right s))
-    → Answers means tries old new (told reply_seen m) (change_of c x) (λ s. reply_to means c s x)
+    → change_of c y (map_ok shown (map_ok g r)) ≡ None → ((s : State) → reply_to means c s y ≡ Ok (shown (right s)))
+    → IsLinearized means tries old new (map_ok g r) no_change (λ s. Ok (right s))
+    → IsLinearized means tries old new (map_ok reply_seen m) (change_of c x) (λ s. reply_to means c s x)
 query_told f g shown means tries old new c x y r m right is_call same is_told none seen is =
-    call_told shown means tries old new c x y (told g r) (told reply_seen m) nothing (λ s. Ok (right s)) is_call
+    call_told shown means tries old new c x y (map_ok g r) (map_ok reply_seen m) no_change (λ s. Ok (right s)) is_call
     (mapped f (λ z. shown (g z)) r m same is_told ∙ told_twice shown g r) none seen is
 
-ended_shown : (r : Result Ended Refusal) → told ended_in (told ended r) ≡ r
+ended_shown : (r : Result Ended Refusal) → map_ok ended_in (map_ok ended r) ≡ r
 ended_shown (Ok e) = refl
 ended_shown (Err e) = refl
 
-id_shown : (r : Result ℕ Refusal) → told id_in (told id r) ≡ r
+id_shown : (r : Result ℕ Refusal) → map_ok id_in (map_ok id r) ≡ r
 id_shown (Ok n) = refl
 id_shown (Err e) = refl
 
 -- of a mutation
 pub mutated_told : (means : Meanings) (tries : ℕ) (old new : Known) (c : Caller) (x : Call) (m : Mutate)
-    (r : Result ℕ Refusal) (reply : Result Replied Refusal) → x ≡ call.Mutate m → reply ≡ told id r
-    → Answers means tries old new r (change_made (asked_mutation c m))
+    (r : Result ℕ Refusal) (reply : Result Replied Refusal) → x ≡ call.Mutate m → reply ≡ map_ok id r
+    → IsLinearized means tries old new r (change_made (asked_mutation c m))
     (λ s. mutate_reply means s c.last (asked_mutation c m))
-    → Answers means tries old new reply (change_of c x) (λ s. reply_to means c s x)
+    → IsLinearized means tries old new reply (change_of c x) (λ s. reply_to means c s x)
 mutated_told means tries old new c x m r reply call_is told_is is =
     call_told id means tries old new c x (call.Mutate m) r reply (change_made (asked_mutation c m))
     (λ s. mutate_reply means s c.last (asked_mutation c m)) call_is told_is
@@ -377,28 +378,28 @@ mutated_told means tries old new c x m r reply call_is told_is is =
 -- of an end of a pull
 pub ended_told : (means : Meanings) (tries : ℕ) (old new : Known) (c : Caller) (x : Call) (ticket : Bor Ticket)
     (body : Bor Bytes) (r : Result Ended Refusal) (reply : Result Replied Refusal) → x ≡ call.EndPull ticket body
-    → reply ≡ told ended r
-    → Answers means tries old new r (change_read ticket.now.cookie (answer_to body.now))
+    → reply ≡ map_ok ended r
+    → IsLinearized means tries old new r (change_read ticket.now.cookie (answer_to body.now))
     (λ s. end_bytes_reply s ticket.now.cookie.text body.now)
-    → Answers means tries old new reply (change_of c x) (λ s. reply_to means c s x)
+    → IsLinearized means tries old new reply (change_of c x) (λ s. reply_to means c s x)
 ended_told means tries old new c x ticket body r reply call_is told_is is =
     call_told ended means tries old new c x (call.EndPull ticket body) r reply
     (change_read ticket.now.cookie (answer_to body.now))
     (λ s. end_bytes_reply s ticket.now.cookie.text body.now) call_is told_is
     (ap (change_read ticket.now.cookie (answer_to body.now)) (ended_shown r)) (λ s. refl) is
 
-pub missing : (reused : Type 0) (e : Refusal) → (e ≡ refusal.NoMemory) ⊎ IsMissed reused e
-    → (is_want e ≡ true) × (e ≢ refusal.Moved)
+pub missing : (reused : Type 0) (e : Refusal) → (e ≡ refusal.NoMemory) ⊎ IsStoreRefusal reused e
+    → (is_resource_refusal e ≡ true) × (e ≢ refusal.Moved)
 missing reused e (inl none) = (
-  ap is_want none,
+  ap is_resource_refusal none,
   λ moved. let h : refusal.NoMemory ≡ refusal.Moved = sym none ∙ moved in cc h,
 )
 missing reused e (inr (inl gone)) = (
-  ap is_want gone,
+  ap is_resource_refusal gone,
   λ moved. let h : refusal.Gone ≡ refusal.Moved = sym gone ∙ moved in cc h,
 )
 missing reused e (inr (inr busy)) = (
-  ap is_want busy.1,
+  ap is_resource_refusal busy.1,
   λ moved. let h : refusal.Busy ≡ refusal.Moved = sym busy.1 ∙ moved in cc h,
 )
 
@@ -406,8 +407,8 @@ missing reused e (inr (inr busy)) = (
 pub queried : (reused : Type 0) (means : Meanings) (tries : ℕ) (old new : Known) (log : List Entry)
     (r : Result Reply Refusal) (right : State → Result Replied Refusal) → IsPoint means old new None log
     → IfOk r (λ x. right (after (record_of log)) ≡ Ok (reply_seen x))
-    → IfErr r (λ e. (e ≡ refusal.NoMemory) ⊎ IsMissed reused e)
-    → Answers means tries old new (told reply_seen r) nothing right
+    → IfErr r (λ e. (e ≡ refusal.NoMemory) ⊎ IsStoreRefusal reused e)
+    → IsLinearized means tries old new (map_ok reply_seen r) no_change right
 queried reused means tries old new log (Ok x) right p ok err = (log, p, ok)
 queried reused means tries old new log (Err e) right p ok err =
     let want = missing reused e err in

@@ -7,7 +7,7 @@ use Rattle.group_history.specs.declared.refusals.Refusal.{Refusal}
 use Rattle.group_history.specs.Meaning.{Meanings}
 use Rattle.reader_claims.specs.Machine.{Moves}
 use Rattle.commit_graph.specs.Seats.{IsSameSeat, Seated}
-use Rattle.answered.specs.Answered.{is_want}
+use Rattle.answered.specs.Answered.{is_resource_refusal}
 use Rattle.group_steps.specs.Causes.{HasCause}
 use Rattle.group_steps.specs.Leaving.{Frees}
 use Rattle.group_steps.specs.Missing.{IsMissedOrDry}
@@ -17,11 +17,11 @@ use Rattle.group_steps.proofs.Giving.{cause_since, frees_since, gives_kept, give
 
 -- a right refusal needs none
 pub cause_named : (means : Meanings) (reused : Type 0) (last : ℕ) (asked : Option Change) (old new : Seated) (e : Refusal)
-    → is_want e ≡ false → HasCause means reused last asked old new e
+    → is_resource_refusal e ≡ false → HasCause means reused last asked old new e
 cause_named means reused last asked old new e named = record {
-  full = λ r is. absurd (true≢false (sym (ap is_want is) ∙ named));
-  busy = λ is. absurd (true≢false (sym (ap is_want is) ∙ named));
-  stamps = λ is. absurd (true≢false (sym (ap is_want is) ∙ named));
+  full = λ r is. absurd (true≢false (sym (ap is_resource_refusal is) ∙ named));
+  busy = λ is. absurd (true≢false (sym (ap is_resource_refusal is) ∙ named));
+  stamps = λ is. absurd (true≢false (sym (ap is_resource_refusal is) ∙ named));
 }
 
 -- what looks, and asks for no change, has no other causes

@@ -12,12 +12,12 @@ use Rattle.group_history.specs.Cookies.{Cookie}
 use Rattle.group_history.specs.Meaning.{Meanings}
 use Rattle.group_history.specs.State.{State}
 use Rattle.head_word.specs.Marks.{Known}
-use Rattle.answered.specs.Answered.{Answers, IsRefused, is_mute, is_want, own_moves}
+use Rattle.answered.specs.Answered.{IsLinearized, IsRefused, is_mute, is_resource_refusal, own_moves}
 use Rattle.answered.specs.Changes.{change_read}
 use Rattle.answered.proofs.Losing.{point_since}
 use Rattle.rebase.specs.Asking.{is_passing}
 
-passing_wants : (X : Type 0) (e : Refusal) → is_passing {X = X} (Err e) ≡ true → is_want e ≡ true
+passing_wants : (X : Type 0) (e : Refusal) → is_passing {X = X} (Err e) ≡ true → is_resource_refusal e ≡ true
 passing_wants X refusal.Moved is = refl
 passing_wants X refusal.Busy is = refl
 passing_wants X refusal.Gone is = refl
@@ -27,7 +27,7 @@ passing_wants X e is = absurd (cc is)
 pub left_alone : {X : Type 0} (means : Meanings) (tries : ℕ) (old new : Known) (reply : Result X Refusal)
     (change : Result X Refusal → Option Change) (right : State → Result X Refusal)
     → is_passing reply ≡ true → ((e : Refusal) → is_passing {X = X} (Err e) ≡ true → change (Err e) ≡ None)
-    → Answers means tries old new reply change right → own_moves new ≡ own_moves old
+    → IsLinearized means tries old new reply change right → own_moves new ≡ own_moves old
 left_alone means tries old new (Ok x) change right passes none is = absurd (cc passes)
 left_alone {X = X} means tries old new (Err e) change right passes none is =
     let told = subst (λ (o : Option Change). IsRefused means tries old new (mute o) e o (λ s. right s ≡ Err e))
@@ -36,7 +36,7 @@ left_alone {X = X} means tries old new (Err e) change right passes none is =
     (passing_wants X e passes) told).0
   where
     mute : Option Change → Bool
-    mute None = is_want e
+    mute None = is_resource_refusal e
     mute (Some c) = false
 
 refused_anew : (X : Type 0) (means : Meanings) (tries more : ℕ) (old mid new : Known) (mute : Bool) (e : Refusal)
@@ -53,7 +53,7 @@ refused_anew X means tries more old mid new false e change right pre seat same l
 pub begun_anew : {X : Type 0} (means : Meanings) (tries more : ℕ) (old mid new : Known) (reply : Result X Refusal)
     (change : Result X Refusal → Option Change) (right : State → Result X Refusal)
     → IsPrefix old.log mid.log → mid.seat ≡ old.seat → own_moves mid ≡ own_moves old → is_passing reply ≡ false
-    → Answers means tries mid new reply change right → Answers means more old new reply change right
+    → IsLinearized means tries mid new reply change right → IsLinearized means more old new reply change right
 begun_anew means tries more old mid new (Ok x) change right pre seat same lasts is =
     (is.0, point_since means old mid new (change (Ok x)) is.0 pre seat same is.1, is.2)
 begun_anew {X = X} means tries more old mid new (Err e) change right pre seat same lasts is =

@@ -20,9 +20,9 @@ use Rattle.head_word.specs.Books.{drawn, record_of}
 use Rattle.head_word.specs.Marks.{Known}
 use Rattle.head_word.proofs.BookLaws.{drawn_begins}
 use Rattle.commit_graph.proofs.Spelled.{map-grown}
-use Rattle.answered.specs.Answered.{Answers, IsPoint, IsRefused, nothing, own_moves}
+use Rattle.answered.specs.Answered.{IsLinearized, IsPoint, IsRefused, no_change, own_moves}
 use Rattle.transactions.proofs.RowLemmas.{pair_is}
-use Rattle.group_steps.specs.Missing.{IsMissed}
+use Rattle.group_steps.specs.Missing.{IsStoreRefusal}
 use Rattle.rebase.specs.Queries.{gave}
 use Rattle.rebase.proofs.CallLemmas.{missing}
 use Rattle.rebase.specs.declared.watching.Polled.{Polled}
@@ -74,8 +74,8 @@ was_told-is (Some last) rows e = ap Some ((rows_decide last rows).0 e)
 pub polled_at : (reused : Type 0) (means : Meanings) (tries : ℕ) (old new : Known) (log : List Entry)
     (r : Result Polled Refusal) (right : State → Polled) → IsPoint means old new None log
     → IfOk r (λ polled. polled ≡ right (after (record_of log)))
-    → IfErr r (λ e. (e ≡ refusal.NoMemory) ⊎ IsMissed reused e)
-    → Answers means tries old new r nothing (λ s. Ok (right s))
+    → IfErr r (λ e. (e ≡ refusal.NoMemory) ⊎ IsStoreRefusal reused e)
+    → IsLinearized means tries old new r no_change (λ s. Ok (right s))
 polled_at reused means tries old new log (Ok polled) right p ok err = (log, p, ap Ok (sym ok))
 polled_at reused means tries old new log (Err e) right p ok err =
     let want = missing reused e err in
@@ -97,8 +97,8 @@ none_of (Some x) is h = absurd (cc is)
 
 -- a call that was refused before it looked has made no change
 pub missed_at : {X : Type 0} (reused : Type 0) (means : Meanings) (tries : ℕ) (old new : Known) (e : Refusal)
-    (right : State → X) → IsMissed reused e → own_moves new ≡ own_moves old
-    → Answers means tries old new (Err e) nothing (λ s. Ok (right s))
+    (right : State → X) → IsStoreRefusal reused e → own_moves new ≡ own_moves old
+    → IsLinearized means tries old new (Err e) no_change (λ s. Ok (right s))
 missed_at reused means tries old new e right missed left =
     let want = missing reused e (inr missed) in
     subst (λ b. IsRefused means tries old new b e None (λ s. Ok (right s) ≡ Err e)) (sym want.0)
@@ -107,8 +107,8 @@ missed_at reused means tries old new e right missed left =
 -- what a sink got at a point is right there
 pub given_at : {X : Type 0} (reused : Type 0) (means : Meanings) (tries : ℕ) (old new : Known) (log : List Entry)
     (r : Result X Refusal) (right : State → Rows) → IsPoint means old new None log
-    → IfErr r (λ e. (e ≡ refusal.NoMemory) ⊎ IsMissed reused e)
-    → Answers means tries old new (gave (right (after (record_of log))) r) nothing (λ s. Ok (right s))
+    → IfErr r (λ e. (e ≡ refusal.NoMemory) ⊎ IsStoreRefusal reused e)
+    → IsLinearized means tries old new (gave (right (after (record_of log))) r) no_change (λ s. Ok (right s))
 given_at reused means tries old new log (Ok done) right p err = (log, p, refl)
 given_at reused means tries old new log (Err e) right p err =
     let want = missing reused e err in

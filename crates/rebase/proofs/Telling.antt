@@ -24,9 +24,9 @@ use Rattle.group_history.specs.State.{State, last_id, view_of}
 use Rattle.head_word.specs.Books.{record_of}
 use Rattle.head_word.specs.Marks.{Known}
 use Rattle.commit_graph.specs.LastIds.{last_at}
-use Rattle.answered.specs.Answered.{Answers, IsPoint, IsRefused, is_want}
+use Rattle.answered.specs.Answered.{IsLinearized, IsPoint, IsRefused, is_resource_refusal}
 use Rattle.answered.specs.Changes.{change_applied, change_made}
-use Rattle.group_steps.specs.Missing.{told}
+use Rattle.group_steps.specs.Missing.{map_ok}
 use Rattle.group_steps.specs.Changing.{ended_as, is_made}
 use Rattle.group_steps.specs.Proposing.{HasLast, asked_reply, change_asked, is_applied}
 
@@ -35,7 +35,7 @@ answers_as : {X Y : Type 0} (means : Meanings) (tries : ℕ) (old new : Known) (
     (change : Result X Refusal → Option Change) (other : Result Y Refusal → Option Change)
     (right : State → Result X Refusal) (so : State → Result Y Refusal)
     → change (Ok x) ≡ other (Ok y) → ((s : State) → right s ≡ Ok x → so s ≡ Ok y)
-    → Answers means tries old new (Ok x) change right → Answers means tries old new (Ok y) other so
+    → IsLinearized means tries old new (Ok x) change right → IsLinearized means tries old new (Ok y) other so
 answers_as means tries old new x y change other right so same f is =
     (is.0, subst (λ (o : Option Change). IsPoint means old new o is.0) same is.1, f (after (record_of is.0)) is.2)
 
@@ -50,45 +50,45 @@ refuses_as : {X Y : Type 0} (means : Meanings) (tries : ℕ) (old new : Known) (
     (change : Result X Refusal → Option Change) (other : Result Y Refusal → Option Change)
     (right : State → Result X Refusal) (so : State → Result Y Refusal)
     → change (Err e) ≡ None → other (Err e) ≡ None → ((s : State) → right s ≡ Err e → so s ≡ Err e)
-    → Answers means tries old new (Err e) change right → Answers means tries old new (Err e) other so
+    → IsLinearized means tries old new (Err e) change right → IsLinearized means tries old new (Err e) other so
 refuses_as means tries old new e change other right so one two f is =
     subst (λ (o : Option Change). IsRefused means tries old new (mute o) e o (λ s. so s ≡ Err e)) (sym two)
-    (refused_as means tries old new (is_want e) e (λ s. right s ≡ Err e) (λ s. so s ≡ Err e) f
+    (refused_as means tries old new (is_resource_refusal e) e (λ s. right s ≡ Err e) (λ s. so s ≡ Err e) f
     (subst (λ (o : Option Change). IsRefused means tries old new (mute o) e o (λ s. right s ≡ Err e)) one is))
   where
     mute : Option Change → Bool
-    mute None = is_want e
+    mute None = is_resource_refusal e
     mute (Some c) = false
 
 -- WHAT WAS TOLD
 
-told_refused : {X Y : Type 0} (f : X → Y) (r : Result X Refusal) (e : Refusal) → told f r ≡ Err e → r ≡ Err e
+told_refused : {X Y : Type 0} (f : X → Y) (r : Result X Refusal) (e : Refusal) → map_ok f r ≡ Err e → r ≡ Err e
 told_refused f (Ok x) e h = absurd (cc h)
 told_refused f (Err w) e h = let same : w ≡ e = cc h in ap Err same
 
-told_applied : (r : Result Ended Refusal) → told is_applied r ≡ Ok true → r ≡ Ok ended.Applied
+told_applied : (r : Result Ended Refusal) → map_ok is_applied r ≡ Ok true → r ≡ Ok ended.Applied
 told_applied (Ok ended.Applied) h = refl
 told_applied (Ok ended.Same) h = absurd (cc h)
 told_applied (Err e) h = absurd (cc h)
 
-told_same : (r : Result Ended Refusal) → told is_applied r ≡ Ok false → r ≡ Ok ended.Same
+told_same : (r : Result Ended Refusal) → map_ok is_applied r ≡ Ok false → r ≡ Ok ended.Same
 told_same (Ok ended.Applied) h = absurd (cc h)
 told_same (Ok ended.Same) h = refl
 told_same (Err e) h = absurd (cc h)
 
-by_told : (m : Meaning) (id : ℕ) → told (λ (n : ℕ). true) (by_meaning m id) ≡ Ok true → by_meaning m id ≡ Ok id
+by_told : (m : Meaning) (id : ℕ) → map_ok (λ (n : ℕ). true) (by_meaning m id) ≡ Ok true → by_meaning m id ≡ Ok id
 by_told unknown id h = absurd (cc h)
 by_told (refuses code) id h = absurd (cc h)
 by_told (done m) id h = refl
 
 own_told : (b : Bool) (m : Meaning) (id : ℕ)
-    → (let w : Result ℕ Refusal = if b then by_meaning m id else Err refusal.Stale in told (λ (n : ℕ). true) w)
+    → (let w : Result ℕ Refusal = if b then by_meaning m id else Err refusal.Stale in map_ok (λ (n : ℕ). true) w)
     ≡ Ok true → (let w : Result ℕ Refusal = if b then by_meaning m id else Err refusal.Stale in w) ≡ Ok id
 own_told true m id h = by_told m id h
 own_told false m id h = absurd (cc h)
 
-open_told : (b : Bool) (y : Result ℕ Refusal) (id : ℕ) → (told (λ (n : ℕ). true) y ≡ Ok true → y ≡ Ok id)
-    → (let w : Result ℕ Refusal = if b then Err refusal.Closed else y in told (λ (n : ℕ). true) w) ≡ Ok true
+open_told : (b : Bool) (y : Result ℕ Refusal) (id : ℕ) → (map_ok (λ (n : ℕ). true) y ≡ Ok true → y ≡ Ok id)
+    → (let w : Result ℕ Refusal = if b then Err refusal.Closed else y in map_ok (λ (n : ℕ). true) w) ≡ Ok true
     → (let w : Result ℕ Refusal = if b then Err refusal.Closed else y in w) ≡ Ok id
 open_told true y id f h = absurd (cc h)
 open_told false y id f h = f h
@@ -99,7 +99,7 @@ told_mutated : (means : Meanings) (s : State) (last : ℕ) (x : Mutation)
 told_mutated means s last x h = open_told s.closed (open_reply means s last x) (last + 1)
     (own_told (nat_eq (last_id s x.client) last) (meaning_of means x (view_of means s)) (last + 1)) h
 
-told_all : (r : Result ℕ Refusal) → told (λ (n : ℕ). true) r ≡ Ok false → ⊥
+told_all : (r : Result ℕ Refusal) → map_ok (λ (n : ℕ). true) r ≡ Ok false → ⊥
 told_all (Ok n) h = cc h
 told_all (Err e) h = cc h
 
@@ -112,7 +112,8 @@ never_same means s last x h = told_all (mutate_reply means s last x) h
 
 -- a mutation that is not refused is made
 pub next_there : (means : Meanings) (tries : ℕ) (old new : Known) (last : ℕ) (x : Mutation)
-    (made : Result (Option Ref) Refusal) → Answers means tries old new (told is_made made) (change_asked (Mutated x))
+    (made : Result (Option Ref) Refusal) → IsLinearized means tries old new (map_ok is_made made) (change_asked
+    (Mutated x))
     (λ s. asked_reply means s last (Mutated x))
     → IfOk made IsSome
 next_there means tries old new last x (Ok (Some at)) is = refl
@@ -121,9 +122,10 @@ next_there means tries old new last x (Err e) is = tt
 
 -- and answered by its id
 pub next_told : (means : Meanings) (tries : ℕ) (old new : Known) (last : ℕ) (x : Mutation)
-    (made : Result (Option Ref) Refusal) → Answers means tries old new (told is_made made) (change_asked (Mutated x))
+    (made : Result (Option Ref) Refusal) → IsLinearized means tries old new (map_ok is_made made) (change_asked
+    (Mutated x))
     (λ s. asked_reply means s last (Mutated x))
-    → Answers means tries old new (told (λ at. last + 1) made) (change_made x) (λ s. mutate_reply means s last x)
+    → IsLinearized means tries old new (map_ok (λ at. last + 1) made) (change_made x) (λ s. mutate_reply means s last x)
 next_told means tries old new last x (Ok (Some at)) is =
     answers_as means tries old new true (last + 1) (change_asked (Mutated x)) (change_made x)
     (λ s. asked_reply means s last (Mutated x)) (λ s. mutate_reply means s last x) refl
@@ -147,9 +149,11 @@ next_found cs client last x (Err e) own next has = tt
 
 -- a pull is ended as its commit stands there or not
 pub pull_told : (means : Meanings) (tries : ℕ) (old new : Known) (last : ℕ) (t : Cookie) (r : Pull)
-    (made : Result (Option Ref) Refusal) → Answers means tries old new (told is_made made) (change_asked (Pulled t r))
+    (made : Result (Option Ref) Refusal) → IsLinearized means tries old new (map_ok is_made made) (change_asked
+    (Pulled t r))
     (λ s. asked_reply means s last (Pulled t r))
-    → Answers means tries old new (told ended_as made) (change_applied t r) (λ s. end_reply s t.text (response.Ok r))
+    → IsLinearized means tries old new (map_ok ended_as made) (change_applied t r) (λ s. end_reply s t.text
+    (response.Ok r))
 pull_told means tries old new last t r (Ok (Some at)) is =
     answers_as means tries old new true ended.Applied (change_asked (Pulled t r)) (change_applied t r)
     (λ s. asked_reply means s last (Pulled t r)) (λ s. end_reply s t.text (response.Ok r)) refl

@@ -17,7 +17,7 @@ use Rattle.head_word.specs.Books.{IsOpened, record_of}
 use Rattle.head_word.specs.Marks.{Known}
 use Rattle.pull_patch.specs.Grammar.{answer_to}
 use Rattle.pull_patch.proofs.Refusals.{refused_for}
-use Rattle.answered.specs.Answered.{Answers, IsRefused, is_want}
+use Rattle.answered.specs.Answered.{IsLinearized, IsRefused, is_resource_refusal}
 use Rattle.answered.specs.Changes.{change_read}
 use Rattle.answered.proofs.Moving.{point_seen}
 use Rattle.rebase.specs.Asking.{end_bytes_reply}
@@ -39,27 +39,28 @@ none_read ticket (Err e) = refl
 -- such bytes are refused rightly where the call began
 pub unread : (means : Meanings) (tries : ℕ) (m : Known) (ticket : Cookie) (body : Bytes) (e : Refusal)
     → IsOpened means m.log → Refuses e (answer_to body)
-    → Answers means tries m m (Err e) (change_read ticket (answer_to body)) (λ s. end_bytes_reply s ticket.text body)
+    → IsLinearized means tries m m (Err e) (change_read ticket (answer_to body))
+    (λ s. end_bytes_reply s ticket.text body)
 unread means tries m ticket body e book is = by_cause (right_or e (answer_to body) is)
   where
     mute : Option Change → Bool
-    mute None = is_want e
+    mute None = is_resource_refusal e
     mute (Some c) = false
 
     by_cause : (e ≡ refusal.NoMemory) ⊎ (answer_to body ≡ Err e)
-        → Answers means tries m m (Err e) (change_read ticket (answer_to body))
+        → IsLinearized means tries m m (Err e) (change_read ticket (answer_to body))
         (λ s. end_bytes_reply s ticket.text body)
     by_cause (inl none) =
         wanting means tries m m e (change_read ticket (answer_to body)) (λ s. end_bytes_reply s ticket.text body)
         (ap (λ w. change_read ticket (answer_to body) (Err w)) none ∙ none_read ticket (answer_to body))
-        (ap is_want none)
+        (ap is_resource_refusal none)
         (refl, λ moved. absurd (cc (sym none ∙ moved)))
     by_cause (inr so) =
         let still : change_read ticket (answer_to body) (Err e) ≡ None = ap (λ a. change_read ticket a (Err e)) so in
         subst (λ (o : Option Change). IsRefused means tries m m (mute o) e o
         (λ s. end_bytes_reply s ticket.text body ≡ Err e)) (sym still)
         (subst (λ (b : Bool). IsRefused means tries m m b e None (λ s. end_bytes_reply s ticket.text body ≡ Err e))
-        (sym (refused_for (λ (w : Refusal). is_want w ≡ false) refl refl refl body e so)) (
+        (sym (refused_for (λ (w : Refusal). is_resource_refusal w ≡ false) refl refl refl body e so)) (
           m.log,
           point_seen means m m (prefix_self m.log) book refl,
           ap (λ a. a >>= end_reply (after (record_of m.log)) ticket.text) so,
@@ -73,7 +74,7 @@ unread_cause means reused last asked old new body e is = by_cause (right_or e (a
     by_cause : (e ≡ refusal.NoMemory) ⊎ (answer_to body ≡ Err e) → HasCause means reused last asked old new e
     by_cause (inl none) = cause_missed means reused last asked old new e (inl none)
     by_cause (inr so) = cause_named means reused last asked old new e
-        (refused_for (λ (w : Refusal). is_want w ≡ false) refl refl refl body e so)
+        (refused_for (λ (w : Refusal). is_resource_refusal w ≡ false) refl refl refl body e so)
 
 -- and change nothing
 pub unread_changes : (ticket : Cookie) (body : Bytes) (e : Refusal) → Refuses e (answer_to body)

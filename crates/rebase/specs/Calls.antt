@@ -12,17 +12,17 @@ use Rattle.group_history.specs.declared.responses.Ended.TheVariants as ended_as
 use Rattle.group_history.specs.Map.{Bytes}
 use Rattle.group_history.specs.Meaning.{Meanings}
 use Rattle.group_history.specs.Mutating.{mutate_reply}
-use Rattle.group_history.specs.Queries.{get_at, has_at, rows_at, is_empty_at}
+use Rattle.group_history.specs.Queries.{get_at, has_at, view_rows, is_empty_at}
 use Rattle.group_history.specs.State.{State, made, last_id}
 use Rattle.head_word.specs.Marks.{Known}
 use Rattle.pull_patch.specs.Grammar.{answer_to}
 use Rattle.push_body.specs.Bodies.{push_text}
 use Rattle.push_body.specs.declared.identities.Identity.{Identity}
-use Rattle.answered.specs.Answered.{Answers, is_move, is_want, own_moves}
+use Rattle.answered.specs.Answered.{IsLinearized, is_move, is_resource_refusal, own_moves}
 use Rattle.answered.specs.Changes.{change_made, change_read, after_made}
 use Rattle.rebase.specs.Asking.{change_wanted, end_bytes_reply}
 use Rattle.commit_graph.specs.Seats.{IsLater}
-use Rattle.group_steps.specs.Missing.{IsMissedOrDry, told}
+use Rattle.group_steps.specs.Missing.{IsMissedOrDry, map_ok}
 use Rattle.rebase.specs.Clients.{ClientState}
 use Rattle.rebase.specs.Queries.{asked_at}
 use Rattle.rebase.specs.Replies.{Replied, value, yes_or_no, rows, pending, cookie, id, body, ticket, ended}
@@ -51,7 +51,7 @@ asked_mutation c m = made c.client (c.last + 1) m.name.now m.args.now m.time
 abbrev pub reply_to : Meanings → Caller → State → Call → Result Replied Refusal
 reply_to means c s (call.Get key) = Ok (value (get_at means s key.now))
 reply_to means c s (call.Has key) = Ok (yes_or_no (has_at means s key.now))
-reply_to means c s (call.Scan scan) = Ok (rows (rows_at means s scan.now))
+reply_to means c s (call.Scan scan) = Ok (rows (view_rows means s scan.now))
 reply_to means c s call.IsEmpty = Ok (yes_or_no (is_empty_at means s))
 reply_to means c s call.Closed = Ok (yes_or_no s.closed)
 reply_to means c s call.Pending = Ok (pending s.pending)
@@ -59,8 +59,8 @@ reply_to means c s call.Cookie = Ok (cookie s.cookie)
 reply_to means c s call.Refresh = Ok (id (last_id s c.client))
 reply_to means c s call.PushBody = Ok (body (push_text c.identity s.pending))
 reply_to means c s call.BeginPull = Ok (ticket (asked_at c.identity s))
-reply_to means c s (call.Mutate m) = told id (mutate_reply means s c.last (asked_mutation c m))
-reply_to means c s (call.EndPull at bytes) = told ended (end_bytes_reply s at.now.cookie.text bytes.now)
+reply_to means c s (call.Mutate m) = map_ok id (mutate_reply means s c.last (asked_mutation c m))
+reply_to means c s (call.EndPull at bytes) = map_ok ended (end_bytes_reply s at.now.cookie.text bytes.now)
 
 -- what one reading answers
 abbrev pub is_query : Call → Bool
@@ -91,8 +91,8 @@ ended_in other = ended_as.Same
 
 -- the change that a reply stands for: of a mutation, and of an end of a pull
 abbrev pub change_of : Caller → Call → Result Replied Refusal → Option Change
-change_of c (call.Mutate m) reply = change_made (asked_mutation c m) (told id_in reply)
-change_of c (call.EndPull at bytes) reply = change_read at.now.cookie (answer_to bytes.now) (told ended_in reply)
+change_of c (call.Mutate m) reply = change_made (asked_mutation c m) (map_ok id_in reply)
+change_of c (call.EndPull at bytes) reply = change_read at.now.cookie (answer_to bytes.now) (map_ok ended_in reply)
 change_of c other reply = None
 
 -- the change that a call asks for, whatever is replied
@@ -122,7 +122,7 @@ AreAnswered means reused tries c old [] [] new end = (new ≡ old) × (end ≡ c
 AreAnswered means reused tries c old [] (r ∷ rs) new end = ⊥
 AreAnswered means reused tries c old (x ∷ xs) [] new end = ⊥
 AreAnswered means reused tries c old (x ∷ xs) (r ∷ rs) new end =
-    (mid : Known) × IsLater old mid × Answers means tries old mid r (change_of c x) (λ s. reply_to means c s x)
+    (mid : Known) × IsLater old mid × IsLinearized means tries old mid r (change_of c x) (λ s. reply_to means c s x)
     × MayRefuse reused x r × AreAnswered means reused tries (caller_after c r) mid xs rs new end
 
 -- how often other seats have moved the head
@@ -136,7 +136,7 @@ IsAlone old new = moves_of_others new ≡ moves_of_others old
 -- The reply is the right one. A refusal for want of something may come in place of any answer.
 abbrev pub IsReplyTo : Result Replied Refusal → Result Replied Refusal → Type 0
 IsReplyTo (Ok x) right = right ≡ Ok x
-IsReplyTo (Err e) right = (is_want e ≡ true) ⊎ (right ≡ Err e)
+IsReplyTo (Err e) right = (is_resource_refusal e ≡ true) ⊎ (right ≡ Err e)
 
 -- Each call of the list is answered rightly at the state that the calls before it left, by a client whose last id is
 -- the one that they left; the last call leaves the state and the client at the end.

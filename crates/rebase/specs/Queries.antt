@@ -3,7 +3,7 @@ use Rattle.std.specs.Prelude.{◌⊎◌, List, None, Result, Ok, Err}
 use Rattle.group_history.specs.Cookies.{Cookie}
 use Rattle.group_history.specs.Map.{Bytes}
 use Rattle.group_history.specs.Meaning.{Meanings}
-use Rattle.group_history.specs.Queries.{rows_at}
+use Rattle.group_history.specs.Queries.{view_rows}
 use Rattle.group_history.specs.Record.{after}
 use Rattle.group_history.specs.Rows.{Rows}
 use Rattle.group_history.specs.State.{State}
@@ -26,7 +26,7 @@ gave rows (Err e) = Err e
 -- A refused scan into a sink: it gave nothing, or a beginning of the rows that are right at a point of the call.
 abbrev pub GaveSome : {S : Type 0} → Meanings → (S → Rows → Type 0) → Known → Known → Scan → S → S → Type 0
 GaveSome means has old new scan sink given = HasStill has sink given ⊎ ((log : List Entry)
-    × IsPoint means old new None log × HasBegun has sink given (rows_at means (after (record_of log)) scan))
+    × IsPoint means old new None log × HasBegun has sink given (view_rows means (after (record_of log)) scan))
 
 -- what a pull asks for: all that came after this cookie, by a request with this body
 pub record Asked : Type 0 where

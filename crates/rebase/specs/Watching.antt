@@ -8,7 +8,7 @@ use Rattle.group_history.specs.declared.refusals.Refusal.{Refusal}
 use Rattle.group_history.specs.declared.scans.Scan.{Scan}
 use Rattle.group_history.specs.Map.{Bytes, same_text}
 use Rattle.group_history.specs.Meaning.{Meanings}
-use Rattle.group_history.specs.Queries.{rows_at}
+use Rattle.group_history.specs.Queries.{view_rows}
 use Rattle.group_history.specs.Rows.{Rows}
 use Rattle.group_history.specs.State.{State}
 use Rattle.rebase.specs.declared.watching.Polled.{Polled}
@@ -39,7 +39,7 @@ poll_reply last rows = if was_told last rows then polled.Unchanged else polled.N
 
 -- what is right to answer at a state
 abbrev pub poll_at : Meanings → Watched → State → Polled
-poll_at means watch s = poll_reply watch.last (rows_at means s watch.scan)
+poll_at means watch s = poll_reply watch.last (view_rows means s watch.scan)
 
 -- the watch after an answer: it keeps the rows that are new, and else it is as it was
 abbrev pub watch_after : Watched → Result Polled Refusal → Watched

@@ -10,10 +10,10 @@ ghost use Rattle.group_history.specs.Record.{after};
 ghost use Rattle.group_history.specs.Spelling.{version_of};
 ghost use Rattle.group_history.specs.State.{State};
 ghost use Rattle.head_word.specs.Books.{record_of};
-ghost use Rattle.answered.specs.Answered.{Answers, nothing};
+ghost use Rattle.answered.specs.Answered.{IsLinearized, no_change};
 ghost use Rattle.group_steps.specs.Causes.{HasCause};
 ghost use Rattle.group_steps.specs.Leaving.{Frees};
-ghost use Rattle.group_steps.specs.Missing.{IsMissedOrDry, told};
+ghost use Rattle.group_steps.specs.Missing.{IsMissedOrDry, map_ok};
 ghost use Rattle.rebase.specs.Calls.{Caller, IsAlone, AreAnswered, AreReplies, caller_of, change_for, change_of};
 ghost use Rattle.rebase.specs.Calls.{is_query, is_reading, last_after, reply_to};
 ghost use Rattle.rebase.specs.Clients.{Acts, Looks, Rests, Stays};
@@ -68,7 +68,8 @@ where
     // Makes a call that one reading answers.
     fn query(&mut self, call: Call<'_>, tries: u32) -> Result<Reply, Refusal>
         requires { is_query call ≡ true }
-        ensures answer { Answers M.means tries self.old.seat.mark self.new.seat.mark (told reply_seen result) nothing
+        ensures answer { IsLinearized M.means tries self.old.seat.mark self.new.seat.mark
+            (map_ok reply_seen result) no_change
             (λ s. reply_to M.means (caller_of self.old) s call.entry) }
         ensures err { IfErr result (IsMissedOrDry S.reused) }
         ensures stays { Stays S.reused self.old self.new }
@@ -81,16 +82,16 @@ where
 
     /// Makes one call.
     pub fn make_call(&mut self, call: Call<'_>, tries: u32) -> Result<Reply, Refusal>
-        ensures answer { Answers M.means tries self.old.seat.mark self.new.seat.mark (told reply_seen result)
+        ensures answer { IsLinearized M.means tries self.old.seat.mark self.new.seat.mark (map_ok reply_seen result)
             (change_of (caller_of self.old) call.entry) (λ s. reply_to M.means (caller_of self.old) s call.entry) }
         ensures err { is_reading call.entry ≡ true → IfErr result (IsMissedOrDry S.reused) }
-        ensures last { self.new.last ≡ last_after self.old.last (told reply_seen result) }
+        ensures last { self.new.last ≡ last_after self.old.last (map_ok reply_seen result) }
         ensures acts { Acts S.reused self.old self.new }
         ensures looks { is_reading call.entry ≡ true → Looks S.reused self.old self.new }
         ensures cause { IfErr result (HasCause M.means S.reused self.old.last (change_for (caller_of self.old) call.entry)
             self.old.seat self.new.seat) }
         ensures frees { is_reading call.entry ≡ false → S.reused → Frees self.old.group.group.table.sizes.slots
-            self.old.seat self.new.seat (change_of (caller_of self.old) call.entry (told reply_seen result)) }
+            self.old.seat self.new.seat (change_of (caller_of self.old) call.entry (map_ok reply_seen result)) }
     {
         match call {
             Call::Refresh => self.refresh(tries).map(Reply::Id),
@@ -115,7 +116,7 @@ where
         requires room { length calls.now ≤ vec_capacity replies.old }
         requires rests { Rests S.reused self.old }
         ensures answers { AreAnswered M.means S.reused tries (caller_of self.old) self.old.seat.mark calls.now
-            (map (told reply_seen) replies.new.items) self.new.seat.mark (caller_of self.new) }
+            (map (map_ok reply_seen) replies.new.items) self.new.seat.mark (caller_of self.new) }
         ensures acts { Acts S.reused self.old self.new }
     {
         for call in calls {
@@ -133,15 +134,15 @@ where
         tries: u32,
     ) -> Result<Vec<Result<Reply, Refusal>>, AllocError>
         ensures answers { IfOk result (λ replies. AreAnswered M.means S.reused tries (caller_of self.old)
-            self.old.seat.mark calls.now (map (told reply_seen) replies.items) self.new.seat.mark
+            self.old.seat.mark calls.now (map (map_ok reply_seen) replies.items) self.new.seat.mark
             (caller_of self.new)) }
         ensures replies { IfOk result (λ replies. IsAlone self.old.seat.mark self.new.seat.mark
             → AreReplies M.means (caller_of self.old) (after (record_of self.old.seat.mark.log)) calls.now
-            (map (told reply_seen) replies.items) (after (record_of self.new.seat.mark.log)) (caller_of self.new)) }
+            (map (map_ok reply_seen) replies.items) (after (record_of self.new.seat.mark.log)) (caller_of self.new)) }
         ensures err { OnErr result (Stays S.reused self.old self.new × (self.new.seat.mark ≡ self.old.seat.mark)) }
         ensures acts { Acts S.reused self.old self.new }
     {
-        self.finish();
+        self.unpin();
         let mut replies = Vec::with_capacity(alloc, calls.len())?;
         self.call_each(calls, tries, &mut replies);
         Ok(replies)

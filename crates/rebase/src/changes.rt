@@ -10,15 +10,15 @@ ghost use Rattle.group_history.specs.Mutating.{mutate_reply};
 ghost use Rattle.group_history.specs.Pulling.{end_reply};
 ghost use Rattle.group_history.specs.Refs.{stamp_of};
 ghost use Rattle.group_history.specs.State.{made};
-ghost use Rattle.group_history.specs.Answers.{Answers as Reads};
+ghost use Rattle.group_history.specs.Answers.{AnswersOrNoMemory as Reads};
 ghost use Rattle.head_word.specs.Books.{IsOpened, drawn};
 ghost use Rattle.commit_graph.specs.LastIds.{last_at};
 ghost use Rattle.pull_patch.specs.Grammar.{answer_to};
-ghost use Rattle.answered.specs.Answered.{Answers, nothing};
+ghost use Rattle.answered.specs.Answered.{IsLinearized, no_change};
 ghost use Rattle.answered.specs.Changes.{change_applied, change_closing, change_made, change_read};
 ghost use Rattle.group_steps.specs.Causes.{HasCause};
 ghost use Rattle.group_steps.specs.Leaving.{Frees};
-ghost use Rattle.group_steps.specs.Missing.{told};
+ghost use Rattle.group_steps.specs.Missing.{map_ok};
 ghost use Rattle.group_steps.specs.Changing.{ended_as, is_made};
 ghost use Rattle.group_steps.specs.Proposing.{AsksNext, HasLast, asked_reply, change_asked};
 ghost use Rattle.rebase.specs.Asking.{change_wanted, end_bytes_reply, is_passing};
@@ -48,7 +48,7 @@ fn is_passing<T>(reply: &Result<T, Refusal>) -> bool
 
 // How a pull was ended whose commit stands there, if it changed anything.
 fn ended_as(made: Result<Option<Ref>, Refusal>) -> Result<Ended, Refusal>
-    ensures { result ≡ told ended_as made }
+    ensures { result ≡ map_ok ended_as made }
 {
     match made? {
         Some(_) => Ok(Ended::Applied),
@@ -63,14 +63,15 @@ where
     // Makes a change, and answers the commit where it stands: none where there is nothing to change.
     fn change(&mut self, change: Change, tries: u32) -> Result<Option<Ref>, Refusal>
         requires next { AsksNext self.old.id self.old.last change }
-        ensures answer { Answers M.means tries self.old.seat.mark self.new.seat.mark (told is_made result) (change_asked change)
+        ensures answer { IsLinearized M.means tries self.old.seat.mark self.new.seat.mark (map_ok is_made result)
+            (change_asked change)
             (λ s. asked_reply M.means s self.old.last change) }
         ensures found { IfOk result (λ made. IfSome made (λ at. HasLast (drawn self.new.seat.mark.log) at change)) }
         ensures acts { Acts S.reused self.old self.new × (self.new.last ≡ self.old.last) }
         ensures cause { IfErr result (HasCause M.means S.reused self.old.last (Some change)
             self.old.seat self.new.seat) }
         ensures frees { S.reused → Frees self.old.group.group.table.sizes.slots self.old.seat self.new.seat
-            (change_asked change (told is_made result)) }
+            (change_asked change (map_ok is_made result)) }
     {
         let before = LastId {
             at: self.found,
@@ -92,7 +93,7 @@ where
         requires found { IfOk made (λ made. IfSome made
             (λ at. (last_at (drawn self.old.seat.mark.log) (stamp_of at) self.old.id ≡ Some (self.old.last + 1))
             × (self.old.last + 1 < 2 ^ 53))) }
-        ensures id { result ≡ told (λ at. self.old.last + 1) made }
+        ensures id { result ≡ map_ok (λ at. self.old.last + 1) made }
         ensures last { IfOk result (λ id. self.new.last ≡ id) }
         ensures left { IfErr result (λ _. self.new.last ≡ self.old.last) }
         ensures seat { self.new.seat ≡ self.old.seat }
@@ -114,7 +115,7 @@ where
         time: u64,
         tries: u32,
     ) -> Result<u64, Refusal>
-        ensures answer { Answers M.means tries self.old.seat.mark self.new.seat.mark result
+        ensures answer { IsLinearized M.means tries self.old.seat.mark self.new.seat.mark result
             (change_made (made self.old.id (self.old.last + 1) name.now args.now time))
             (λ s. mutate_reply M.means s self.old.last (made self.old.id (self.old.last + 1) name.now args.now time)) }
         ensures last { IfOk result (λ id. (id ≡ self.old.last + 1) × (self.new.last ≡ id)) }
@@ -138,7 +139,8 @@ where
 
     // Ends a pull that brought no error.
     fn end_applied(&mut self, ticket: &Cookie, pull: PullOk, tries: u32) -> Result<Ended, Refusal>
-        ensures answer { Answers M.means tries self.old.seat.mark self.new.seat.mark result (change_applied ticket.now pull)
+        ensures answer { IsLinearized M.means tries self.old.seat.mark self.new.seat.mark result
+            (change_applied ticket.now pull)
             (λ s. end_reply s ticket.now.text (response.Ok pull)) }
         ensures acts { Acts S.reused self.old self.new × (self.new.last ≡ self.old.last) }
         ensures cause { IfErr result (HasCause M.means S.reused self.old.last (Some (Pulled ticket.now pull))
@@ -157,7 +159,8 @@ where
 
     // Ends a pull whose server does not know the group: closes it.
     fn end_unknown(&mut self, tries: u32) -> Result<Ended, Refusal>
-        ensures answer { (ticket : Bytes) → Answers M.means tries self.old.seat.mark self.new.seat.mark result change_closing
+        ensures answer { (ticket : Bytes) → IsLinearized M.means tries self.old.seat.mark self.new.seat.mark result
+            change_closing
             (λ s. end_reply s ticket response.StateNotFound) }
         ensures acts { Acts S.reused self.old self.new × (self.new.last ≡ self.old.last) }
         ensures cause { IfErr result (HasCause M.means S.reused self.old.last (Some Closed)
@@ -173,7 +176,8 @@ where
 
     // Ends a pull whose server does not support a version.
     fn end_unsupported(&mut self, kind: VersionKind, tries: u32) -> Result<Ended, Refusal>
-        ensures answer { (ticket : Bytes) → Answers M.means tries self.old.seat.mark self.new.seat.mark result nothing
+        ensures answer { (ticket : Bytes) → IsLinearized M.means tries self.old.seat.mark self.new.seat.mark result
+            no_change
             (λ s. end_reply s ticket (response.VersionNotSupported kind)) }
         ensures acts { Acts S.reused self.old self.new × (self.new.last ≡ self.old.last) }
         ensures cause { IfErr result (HasCause M.means S.reused self.old.last None
@@ -181,9 +185,9 @@ where
         ensures frees { S.reused → Frees self.old.group.group.table.sizes.slots self.old.seat self.new.seat
             (None) }
     {
-        let at = self.begin(tries)?;
+        let at = self.pin_and_load(tries)?;
         let closed = closed_at(&self.here(at, tries));
-        self.finish();
+        self.unpin();
         if closed? {
             return Err(Refusal::Closed);
         }
@@ -211,7 +215,7 @@ where
         body: &[u8],
         tries: u32,
     ) -> Result<Ended, Refusal>
-        ensures answer { Answers M.means tries self.old.seat.mark self.new.seat.mark result
+        ensures answer { IsLinearized M.means tries self.old.seat.mark self.new.seat.mark result
             (change_read ticket.now.cookie (answer_to body.now))
             (λ s. end_bytes_reply s ticket.now.cookie.text body.now) }
         ensures acts { Acts S.reused self.old self.new × (self.new.last ≡ self.old.last) }
@@ -248,7 +252,7 @@ where
         args: &Json,
         time: u64,
     ) -> Result<u64, Refusal>
-        ensures answer { Answers M.means 0 self.old.seat.mark self.new.seat.mark result
+        ensures answer { IsLinearized M.means 0 self.old.seat.mark self.new.seat.mark result
             (change_made (made self.old.id (self.old.last + 1) name.now args.now time))
             (λ s. mutate_reply M.means s self.old.last (made self.old.id (self.old.last + 1) name.now args.now time)) }
         ensures lasting { is_passing result ≡ false }
@@ -279,7 +283,7 @@ where
         ticket: &Ticket,
         body: &[u8],
     ) -> Result<Ended, Refusal>
-        ensures answer { Answers M.means 0 self.old.seat.mark self.new.seat.mark result
+        ensures answer { IsLinearized M.means 0 self.old.seat.mark self.new.seat.mark result
             (change_read ticket.now.cookie (answer_to body.now))
             (λ s. end_bytes_reply s ticket.now.cookie.text body.now) }
         ensures lasting { is_passing result ≡ false }

@@ -17,9 +17,9 @@ ghost use Rattle.reader_claims.specs.Machine.{Moves};
 ghost use Rattle.commit_graph.specs.LastIds.{last_at};
 ghost use Rattle.commit_graph.specs.Seats.{HasLooked, IsSeatOf, is_held};
 ghost use Rattle.push_body.specs.Bodies.{pull_text, push_text};
-ghost use Rattle.answered.specs.Answered.{Answers, IsAnswered, IsLeft, IsPoint, nothing};
+ghost use Rattle.answered.specs.Answered.{IsLinearized, IsAnswered, IsLeft, IsPoint, no_change};
 ghost use Rattle.answered.specs.Trying.{IsBase};
-ghost use Rattle.group_steps.specs.Missing.{IsMissed, IsMissedOrDry, told};
+ghost use Rattle.group_steps.specs.Missing.{IsStoreRefusal, IsMissedOrDry, map_ok};
 ghost use Rattle.group_steps.specs.Places.{place};
 ghost use Rattle.rebase.specs.Clients.{IsSameClient, Looks, Reads, Rests, Stays};
 ghost use Rattle.rebase.specs.Queries.{asked, asked_at};
@@ -93,7 +93,7 @@ where
     S::Seat: Drop,
 {
     // Pins the seat, and looks where the head is.
-    pub(crate) fn begin(&mut self, tries: u32) -> Result<Ref, Refusal>
+    pub(crate) fn pin_and_load(&mut self, tries: u32) -> Result<Ref, Refusal>
         ensures reads { IfOk result (λ _. Reads S.reused tries self.old self.new) }
         ensures moves { S.reused → Moves self.old.seat.view self.new.seat.view }
         ensures point { IfOk result (λ _. IsPoint M.means self.old.seat.mark self.new.seat.mark None
@@ -110,7 +110,7 @@ where
     }
 
     // Takes the pin away.
-    pub(crate) fn finish(&mut self)
+    pub(crate) fn unpin(&mut self)
         ensures stays { Stays S.reused self.old self.new }
         ensures moves { S.reused → Moves self.old.seat.view self.new.seat.view }
         ensures mark { self.new.seat.mark ≡ self.old.seat.mark }
@@ -136,18 +136,19 @@ where
         ensures moves { S.reused → Moves self.old.seat.view self.new.seat.view }
         ensures mark { self.new.seat.mark ≡ self.old.seat.mark }
     {
-        self.finish();
+        self.unpin();
         Err(e)
     }
 
     // Finds the client's last id in the group.
     fn find(&mut self, tries: u32) -> Result<LastId, Refusal>
-        ensures answer { Answers M.means tries self.old.seat.mark self.new.seat.mark (told (λ found. found.id) result)
-            nothing (λ s. Ok (last_id s self.old.id)) }
+        ensures answer { IsLinearized M.means tries self.old.seat.mark self.new.seat.mark (map_ok
+            (λ found. found.id) result)
+            no_change (λ s. Ok (last_id s self.old.id)) }
         ensures found { IfOk result (λ found. last_at (drawn self.new.seat.mark.log) (stamp_of found.at) self.old.id
             ≡ Some found.id) }
         ensures low { IfOk result (λ found. found.id < 2 ^ 53) }
-        ensures missed { IfErr result (IsMissed S.reused) }
+        ensures missed { IfErr result (IsStoreRefusal S.reused) }
         ensures stays { Stays S.reused self.old self.new }
     {
         let before = LastId {
@@ -160,38 +161,40 @@ where
 
     /// The body of a push of all that is pending in the group.
     pub fn push_body(&mut self, tries: u32) -> Result<Vec<u8>, Refusal>
-        ensures answer { Answers M.means tries self.old.seat.mark self.new.seat.mark (told (λ body. body.items) result)
-            nothing (λ s. Ok (push_text self.old.group.identity s.pending)) }
+        ensures answer { IsLinearized M.means tries self.old.seat.mark self.new.seat.mark (map_ok
+            (λ body. body.items) result)
+            no_change (λ s. Ok (push_text self.old.group.identity s.pending)) }
         ensures err { IfErr result (IsMissedOrDry S.reused) }
         ensures stays { Stays S.reused self.old self.new }
     {
-        let at = self.begin(tries)?;
+        let at = self.pin_and_load(tries)?;
         let body = body_at(&self.here(at, tries));
-        self.finish();
+        self.unpin();
         body
     }
 
     /// The body of a pull at the group's cookie, and the ticket with which it ends.
     pub fn begin_pull(&mut self, tries: u32) -> Result<Ticket, Refusal>
-        ensures answer { Answers M.means tries self.old.seat.mark self.new.seat.mark (told asked result) nothing
+        ensures answer { IsLinearized M.means tries self.old.seat.mark self.new.seat.mark
+            (map_ok asked result) no_change
             (λ s. Ok (asked_at self.old.group.identity s)) }
         ensures err { IfErr result (IsMissedOrDry S.reused) }
         ensures stays { Stays S.reused self.old self.new }
     {
-        let at = self.begin(tries)?;
+        let at = self.pin_and_load(tries)?;
         let cookie = cookie_at(&self.here(at, tries));
-        self.finish();
+        self.unpin();
         let group: &SharedGroup<M, S> = &self.group;
         ticket_of(group.shared.alloc, &group.identity, cookie?)
     }
 
     /// Finds the client's last id in the group, which is then its own. The remedy for `Stale`.
     pub fn refresh(&mut self, tries: u32) -> Result<u64, Refusal>
-        ensures answer { Answers M.means tries self.old.seat.mark self.new.seat.mark result nothing
+        ensures answer { IsLinearized M.means tries self.old.seat.mark self.new.seat.mark result no_change
             (λ s. Ok (last_id s self.old.id)) }
         ensures last { IfOk result (λ id. self.new.last ≡ id) }
         ensures left { IfErr result (λ _. self.new.last ≡ self.old.last) }
-        ensures missed { IfErr result (IsMissed S.reused) }
+        ensures missed { IfErr result (IsStoreRefusal S.reused) }
         ensures looks { Looks S.reused self.old self.new }
     {
         let found = self.find(tries)?;
@@ -206,7 +209,7 @@ where
         requires held { S.reused → is_held self.now.seat.view.pin ≡ true }
         ensures root { IfOk result (λ root. map_at (drawn self.now.seat.mark.log) (stamp_of root)
             ≡ Some (view_of M.means (after (record_of self.now.seat.mark.log)))) }
-        ensures missed { IfErr result (IsMissed S.reused) }
+        ensures missed { IfErr result (IsStoreRefusal S.reused) }
     {
         match &self.latest {
             Some(latest) if latest.commit == at => Ok(latest.root),
@@ -219,17 +222,17 @@ where
         ensures reads { IfOk result (λ _. Reads S.reused tries self.old self.new) }
         ensures point { IfOk result (λ at. IsPoint M.means self.old.seat.mark self.new.seat.mark None at.log
             × (at.book ≡ self.new.seat.mark.book)) }
-        ensures missed { IfErr result (IsMissed S.reused) }
+        ensures missed { IfErr result (IsStoreRefusal S.reused) }
         ensures stays { IfErr result (λ _. Stays S.reused self.old self.new) }
     {
-        let at = self.begin(tries)?;
+        let at = self.pin_and_load(tries)?;
         match self.root_of(at, tries) {
             Ok(root) => {
                 self.latest = Some(Rooted { commit: at, root });
                 return Ok(Point::new(&self.seat.mark, at, root));
             }
             Err(e) => {
-                self.finish();
+                self.unpin();
                 return Err(e);
             }
         }
@@ -244,7 +247,7 @@ where
         ensures mark { result.mark ≡ self.seat.mark }
     {
         let mut client = self;
-        client.finish();
+        client.unpin();
         let Client {
             group: _,
             seat,

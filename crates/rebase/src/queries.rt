@@ -1,11 +1,11 @@
 //! Readings of a group: a reader, and what one reading answers.
 ghost use Rattle.std.specs.Prelude.{◌≡◌, Ok, None, IfOk, IfErr, OnErr, OnOk};
 ghost use Rattle.std.specs.Borrow.{sem, RestsIfErr};
-ghost use Rattle.group_history.specs.Queries.{rows_at};
+ghost use Rattle.group_history.specs.Queries.{view_rows};
 ghost use Rattle.group_history.specs.Rows.{Rows};
 ghost use Rattle.map_chunks.specs.Sinks.{HasMore};
-ghost use Rattle.answered.specs.Answered.{Answers, IsPoint, nothing};
-ghost use Rattle.group_steps.specs.Missing.{IsMissed, IsMissedOrDry};
+ghost use Rattle.answered.specs.Answered.{IsLinearized, IsPoint, no_change};
+ghost use Rattle.group_steps.specs.Missing.{IsStoreRefusal, IsMissedOrDry};
 ghost use Rattle.rebase.specs.Clients.{Reads, Stays};
 ghost use Rattle.rebase.specs.Queries.{GaveSome, gave};
 ghost use Rattle.rebase.specs.Readers.{lent, seen_by};
@@ -29,7 +29,7 @@ where
         ensures point { IfOk result (λ tx. IsPoint M.means self.old.seat.mark (lent tx).now.seat.mark None
             (seen_by tx).log) }
         ensures reads { IfOk result (λ tx. Reads S.reused tries self.old (lent tx).now) }
-        ensures missed { IfErr result (IsMissed S.reused) }
+        ensures missed { IfErr result (IsStoreRefusal S.reused) }
     {
         let at = self.point(tries)?;
         Ok(ReadTx::new(self, at, tries))
@@ -43,8 +43,8 @@ where
         sink: &mut T,
         tries: u32,
     ) -> Result<(), Refusal>
-        ensures answer { (rows : Rows) × Answers M.means tries self.old.seat.mark self.new.seat.mark
-            (gave rows result) nothing (λ s. Ok (rows_at M.means s scan.now))
+        ensures answer { (rows : Rows) × IsLinearized M.means tries self.old.seat.mark self.new.seat.mark
+            (gave rows result) no_change (λ s. Ok (view_rows M.means s scan.now))
             × OnOk result (HasMore T.has sink.old sink.new rows) }
         ensures begun { OnErr result (GaveSome M.means T.has self.old.seat.mark self.new.seat.mark scan.now sink.old
             sink.new) }

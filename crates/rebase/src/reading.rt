@@ -2,7 +2,7 @@
 ghost use Rattle.std.specs.Prelude.{◌≡◌, ◌⊎◌, Some, IfOk, IfErr, OnErr, OnOk};
 ghost use mathlib.Core.List.{IsPrefix};
 ghost use Rattle.group_history.specs.declared.refusals.Refusal.TheVariants.{Gone};
-ghost use Rattle.group_history.specs.Queries.{get_at, has_at, rows_at, is_empty_at};
+ghost use Rattle.group_history.specs.Queries.{get_at, has_at, view_rows, is_empty_at};
 ghost use Rattle.group_history.specs.Record.{after};
 ghost use Rattle.group_history.specs.Refs.{stamp_of};
 ghost use Rattle.group_history.specs.Spelling.{Spells, map_at, version_of};
@@ -11,7 +11,7 @@ ghost use Rattle.head_word.specs.Books.{drawn, record_of};
 ghost use Rattle.head_word.specs.Marks.{known};
 ghost use Rattle.map_chunks.specs.Sinks.{HasMore, HasBegun};
 ghost use Rattle.commit_graph.specs.Seats.{IsReading};
-ghost use Rattle.group_steps.specs.Missing.{IsMissed, IsMissedOrDry};
+ghost use Rattle.group_steps.specs.Missing.{IsStoreRefusal, IsMissedOrDry};
 ghost use Rattle.rebase.specs.Clients.{Stays};
 
 use crate::client::Client;
@@ -176,7 +176,7 @@ where
     pub fn has(&self, key: &str) -> Result<bool, Refusal>
         ensures value { IfOk result (λ found. found
             ≡ has_at M.means (read_by self.now) key.now) }
-        ensures missed { IfErr result (IsMissed S.reused) }
+        ensures missed { IfErr result (IsStoreRefusal S.reused) }
     {
         let mut tx = self.commit()?;
         Ok(tx.has(key)?)
@@ -185,7 +185,7 @@ where
     /// The pairs that the scan asks for, in the order of their keys.
     pub fn scan(&self, scan: &Scan) -> Result<Vec<(Text, Json)>, Refusal>
         ensures rows { IfOk result (λ rows. rows.items
-            ≡ rows_at M.means (read_by self.now) scan.now) }
+            ≡ view_rows M.means (read_by self.now) scan.now) }
         ensures err { IfErr result (IsMissedOrDry S.reused) }
     {
         let mut tx = self.commit()?;
@@ -196,9 +196,9 @@ where
     /// an `Err` the sink may have some of them.
     pub fn scan_into<T: TakesRows>(&self, scan: &Scan, sink: &mut T) -> Result<(), Refusal>
         ensures rows { OnOk result (HasMore T.has sink.old sink.new
-            (rows_at M.means (read_by self.now) scan.now)) }
+            (view_rows M.means (read_by self.now) scan.now)) }
         ensures begun { OnErr result (HasBegun T.has sink.old sink.new
-            (rows_at M.means (read_by self.now) scan.now)) }
+            (view_rows M.means (read_by self.now) scan.now)) }
         ensures err { IfErr result (IsMissedOrDry S.reused) }
     {
         let mut tx = self.commit()?;
@@ -209,7 +209,7 @@ where
     pub fn is_empty(&self) -> Result<bool, Refusal>
         ensures value { IfOk result (λ empty. empty
             ≡ is_empty_at M.means (read_by self.now)) }
-        ensures missed { IfErr result (IsMissed S.reused) }
+        ensures missed { IfErr result (IsStoreRefusal S.reused) }
     {
         let mut tx = self.commit()?;
         Ok(tx.is_empty()?)
@@ -235,7 +235,7 @@ where
     /// Whether the group is closed. Takes no memory.
     pub fn closed(&self) -> Result<bool, Refusal>
         ensures closed { IfOk result (λ closed. closed ≡ (read_by self.now).closed) }
-        ensures missed { IfErr result (IsMissed S.reused) }
+        ensures missed { IfErr result (IsStoreRefusal S.reused) }
     {
         let mut tx = self.commit()?;
         Ok(tx.closed()?)
@@ -251,7 +251,7 @@ where
             at: _,
             tries: _,
         } = self;
-        client.finish();
+        client.unpin();
     }
 }
 

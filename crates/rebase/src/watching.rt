@@ -7,10 +7,10 @@
 ghost use Rattle.std.specs.Prelude.{◌≡◌, ◌⊎◌, Some, None, Ok, true, IfOk, IfErr, IfNone, IfSome};
 ghost use Rattle.std.specs.Cmp as laws;
 ghost use mathlib.Core.List.{IsPrefix};
-ghost use Rattle.group_history.specs.Queries.{rows_at};
+ghost use Rattle.group_history.specs.Queries.{view_rows};
 ghost use Rattle.group_history.specs.Record.{after};
 ghost use Rattle.head_word.specs.Books.{record_of};
-ghost use Rattle.answered.specs.Answered.{Answers, nothing};
+ghost use Rattle.answered.specs.Answered.{IsLinearized, no_change};
 ghost use Rattle.group_steps.specs.Missing.{IsMissedOrDry};
 ghost use Rattle.rebase.specs.Clients.{Stays};
 ghost use Rattle.rebase.specs.Readers.{read_by, seen_by};
@@ -25,7 +25,7 @@ use head_word::Mark;
 use std::alloc::{AllocError, Global};
 use std::marker::{Brand, Model};
 use std::sync::Arc;
-use transactions::{Before, Beside};
+use transactions::{PreviousRows, RowDiff};
 
 /// Rows that were answered, in the order of their keys. They are shared: a clone copies none.
 #[derive(Drop)]
@@ -88,16 +88,16 @@ pub enum Polled {
 
 /// The rows that were answered last, and the root of the map that they were read from.
 #[derive(Drop)]
-pub(crate) struct Told {
+pub(crate) struct LastAnswer {
     root: Ref,
     rows: Rows,
 }
 
-fn copy_of(last: &Option<Told>) -> Result<Option<Told>, AllocError>
+fn copy_of(last: &Option<LastAnswer>) -> Result<Option<LastAnswer>, AllocError>
     ensures { IfOk result (λ copy. copy ≡ last.now) }
 {
     match last {
-        Some(told) => Ok(Some(Told {
+        Some(told) => Ok(Some(LastAnswer {
             root: told.root,
             rows: told.rows.clone()?,
         })),
@@ -106,7 +106,7 @@ fn copy_of(last: &Option<Told>) -> Result<Option<Told>, AllocError>
 }
 
 // The rows of a scan, if they are others than those of before, which `B` names.
-fn others_than<B: Before, M: Means, S: Slots<M>>(
+fn others_than<B: PreviousRows, M: Means, S: Slots<M>>(
     before: &[(Text, Json)],
     tx: &ReadTx<'_, M, S>,
     scan: &Scan,
@@ -115,12 +115,12 @@ where
     S::Seat: Drop,
     requires before { before.now ≡ B.rows }
     ensures some { IfOk result (λ found. IfSome found
-        (λ rows. rows.items ≡ rows_at M.means (read_by tx.now) scan.now)) }
+        (λ rows. rows.items ≡ view_rows M.means (read_by tx.now) scan.now)) }
     ensures same { IfOk result (λ found. IfNone found
-        (before.now ≡ rows_at M.means (read_by tx.now) scan.now)) }
+        (before.now ≡ view_rows M.means (read_by tx.now) scan.now)) }
     ensures err { IfErr result (IsMissedOrDry S.reused) }
 {
-    let mut beside = Beside::<'_, B>::new(tx.alloc(), before);
+    let mut beside = RowDiff::<'_, B>::new(tx.alloc(), before);
     tx.scan_into(scan, &mut beside)?;
     Ok(beside.into_others()?)
 }
@@ -131,7 +131,7 @@ pub struct Watch<M: Means> {
     scan: Scan,
     // What was seen when the rows were read.
     mark: Mark<M>,
-    last: Option<Told>,
+    last: Option<LastAnswer>,
 }
 
 impl<M: Means> Model for Watch<M> {
@@ -160,7 +160,8 @@ impl<M: Means> Watch<M> {
     // Whether the map there is the one that was read last.
     fn has_read(&self, at: &Point<M>) -> bool
         requires { self.now.book ≡ at.now.book }
-        ensures { result ≡ true → self.now.last ≡ Some (rows_at M.means (after (record_of at.now.log)) self.now.scan) }
+        ensures { result ≡ true → self.now.last ≡ Some (view_rows M.means (after
+            (record_of at.now.log)) self.now.scan) }
     {
         at.begins_or_follows(&self.mark);
         match &self.last {
@@ -181,10 +182,10 @@ impl<M: Means> Watch<M> {
     // Keeps the rows that were read there as the last ones.
     fn keep(&mut self, at: &Point<M>, rows: Rows)
         requires book { self.old.book ≡ at.now.book }
-        requires rows { rows ≡ rows_at M.means (after (record_of at.now.log)) self.old.scan }
+        requires rows { rows ≡ view_rows M.means (after (record_of at.now.log)) self.old.scan }
         ensures { self.new ≡ record self.old { last = Some rows } }
     {
-        self.last = Some(Told {
+        self.last = Some(LastAnswer {
             root: at.root(),
             rows,
         });
@@ -194,7 +195,7 @@ impl<M: Means> Watch<M> {
     // Answers by the rows that were read there.
     fn tell(&mut self, at: &Point<M>, rows: Rows) -> Result<Polled, AllocError>
         requires book { self.old.book ≡ at.now.book }
-        requires rows { rows ≡ rows_at M.means (after (record_of at.now.log)) self.old.scan }
+        requires rows { rows ≡ view_rows M.means (after (record_of at.now.log)) self.old.scan }
         ensures value { IfOk result (λ polled. polled ≡ poll_reply self.old.last rows) }
         ensures kept { IfOk result (λ polled. self.new ≡ watch_after self.old (Ok polled)) }
         ensures left { IfErr result (λ _. self.new ≡ self.old) }
@@ -211,7 +212,7 @@ impl<M: Means> Watch<M> {
     // Stays as it is, at a point where the rows are those that were told last.
     fn stay(&mut self, at: &Point<M>)
         requires book { self.old.book ≡ at.now.book }
-        requires rows { self.old.last ≡ Some (rows_at M.means (after (record_of at.now.log)) self.old.scan) }
+        requires rows { self.old.last ≡ Some (view_rows M.means (after (record_of at.now.log)) self.old.scan) }
         ensures { self.new ≡ self.old }
     {
         if let Some(told) = self.last.take() {
@@ -227,9 +228,9 @@ impl<M: Means> Watch<M> {
     where
         S::Seat: Drop,
         ensures some { IfOk result (λ found. IfSome found
-            (λ rows. rows.items ≡ rows_at M.means (read_by tx.now) self.now.scan)) }
+            (λ rows. rows.items ≡ view_rows M.means (read_by tx.now) self.now.scan)) }
         ensures same { IfOk result (λ found. IfNone found
-            (self.now.last ≡ Some (rows_at M.means (read_by tx.now) self.now.scan))) }
+            (self.now.last ≡ Some (view_rows M.means (read_by tx.now) self.now.scan))) }
         ensures err { IfErr result (IsMissedOrDry S.reused) }
     {
         let Some(told) = &self.last else {
@@ -291,7 +292,7 @@ where
     /// watch is one of the client's group.
     pub fn poll(&mut self, watch: &mut Watch<M>, tries: u32) -> Result<Polled, Refusal>
         requires book { watch.old.book ≡ self.old.seat.mark.book }
-        ensures answer { Answers M.means tries self.old.seat.mark self.new.seat.mark result nothing
+        ensures answer { IsLinearized M.means tries self.old.seat.mark self.new.seat.mark result no_change
             (λ s. Ok (poll_at M.means watch.old s)) }
         ensures err { IfErr result (IsMissedOrDry S.reused) }
         ensures kept { watch.new ≡ watch_after watch.old result }

@@ -7,9 +7,9 @@ use Rattle.std.proofs.lemmas.Bool.{eq-eqb}
 use Rattle.std.proofs.lemmas.List.{map-append, length-map}
 use Rattle.group_history.specs.declared.nodes.Chunk.TheVariants.{Leaf}
 use Rattle.group_history.specs.declared.nodes.Commit.{Commit}
-use Rattle.group_history.specs.declared.nodes.Kind.{Kind}
-use Rattle.group_history.specs.declared.nodes.Kind.TheVariants.{Snapshot, Over}
-use Rattle.group_history.specs.declared.nodes.Step.{Step}
+use Rattle.group_history.specs.declared.nodes.CommitKind.{CommitKind}
+use Rattle.group_history.specs.declared.nodes.CommitKind.TheVariants.{Snapshot, Over}
+use Rattle.group_history.specs.declared.nodes.CommitChange.{CommitChange}
 use Rattle.group_history.specs.declared.nodes.Node.{Node}
 use Rattle.group_history.specs.declared.nodes.Node.TheVariants as node
 use Rattle.group_history.specs.declared.refs.Ref.{Ref}
@@ -30,7 +30,7 @@ use Rattle.replays.specs.Chaining.{HasTip}
 use Rattle.replays.specs.declared.tips.Tip.{Tip}
 
 -- the content of a commit over a basis
-abbrev over : {A : Type 0} → A → A → A → Step → Commit A
+abbrev over : {A : Type 0} → A → A → A → CommitChange → Commit A
 over root basis snapshot step = record {
   root = root;
   kind = Over (record { basis = basis; snapshot = snapshot; step = step });
@@ -40,7 +40,7 @@ abbrev made_of_state : Entries → State → Version
 made_of_state m s = record { state = s; read = m }
 
 -- what the newest commit spells, by what its parts spell
-newest_commit : (cs : Contents) (root : ℕ) (kind : Kind ℕ) (m : Entries) (s : State) → map_at cs root ≡ Some m
+newest_commit : (cs : Contents) (root : ℕ) (kind : CommitKind ℕ) (m : Entries) (s : State) → map_at cs root ≡ Some m
     → state_in (spelled cs) kind m ≡ Some s
     → answer (spelled (cs ++ node.Commit (record { root = root; kind = kind }) ∷ [])) (length cs)
     ≡ Some (version (made_of_state m s) (snapshot_of (length cs) kind))
@@ -54,7 +54,7 @@ newest_commit cs root kind m s r state =
     ∙ ap (λ n. Some (mark n (made_of_state m s))) (length-spelled cs)
 
 -- the state of a commit over a basis
-over_state : (cs : Contents) (basis snapshot : ℕ) (step : Step) (v : Version) (m : Entries)
+over_state : (cs : Contents) (basis snapshot : ℕ) (step : CommitChange) (v : Version) (m : Entries)
     → version_at cs basis ≡ Some v → snapshot_at cs basis ≡ Some snapshot → v.state.closed ≡ false
     → state_in (spelled cs) (Over (record { basis = basis; snapshot = snapshot; step = step })) m
     ≡ Some (stepped v.state step)
@@ -100,7 +100,8 @@ tip_of contents mid new first n tip v l is stamp h r =
     )
 
 -- a commit over a basis
-pub over_tip : (contents : Contents) (mid new : List (Node Ref)) (first : ℕ) (basis : Tip) (root at : Ref) (step : Step)
+pub over_tip : (contents : Contents) (mid new : List (Node Ref)) (first : ℕ) (basis : Tip) (root at : Ref)
+    (step : CommitChange)
     (v : Version) (m : Entries)
     → length contents ≡ first → new ≡ mid ++ node.Commit (over root basis.commit basis.snapshot step) ∷ []
     → stamp_of at ≡ first + length mid

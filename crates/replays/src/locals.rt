@@ -3,7 +3,7 @@ ghost use Rattle.std.specs.Prelude.{◌≡◌, ◌⊎◌, ◌<◌, ◌≤◌, fa
 ghost use mathlib.Core.List.{IsPrefix};
 ghost use Rattle.group_history.specs.Map.{Entries};
 ghost use Rattle.group_history.specs.Meaning.{Meaning, left_by, meaning_of};
-ghost use Rattle.group_history.specs.Mutating.{after_mutate, by_meaning, map_of};
+ghost use Rattle.group_history.specs.Mutating.{after_mutate, by_meaning, map_if_done};
 ghost use Rattle.group_history.specs.Refs.{stamp_of};
 ghost use Rattle.group_history.specs.Spelling.{Contents, Version, map_at, Spells};
 ghost use Rattle.group_history.specs.State.{State, view_of, replayed as map_after};
@@ -18,13 +18,13 @@ ghost use Rattle.replays.specs.Refusing.{RefusesFor, StopsAs};
 
 use crate::runs::{Run, Setting, run_on};
 use crate::tips::{Tip, add_local, add_over};
-use group_history::{Mutation, Mutators, Ran, Ref, Refusal, Step};
+use group_history::{CommitChange, Mutation, Mutators, Ran, Ref, Refusal};
 use map_tree::{Chunks, Draft, Tree};
-use transactions::Known;
+use transactions::NamesContents;
 
 /// Drafts a commit of a new mutation. Refused with NoMutator or Refused where its mutator isn't done at
 /// the newest map.
-pub fn draft_mutation<C: Chunks + Copy, K: Known, M: Mutators>(
+pub fn draft_mutation<C: Chunks + Copy, K: NamesContents, M: Mutators>(
     setting: &Setting<'_, C, M>,
     draft: &mut Draft,
     tip: Tip,
@@ -53,9 +53,9 @@ pub fn draft_mutation<C: Chunks + Copy, K: Known, M: Mutators>(
 // The tree that a run left, if it was done; else why its mutation is refused.
 fn tree_if_done(run: Run) -> Result<Tree, Refusal>
     ensures ok { (contents : Contents) (meaning : Meaning) → HasRun contents meaning run
-        → IfOk result (λ tree. (m : Entries) × (tree_map contents tree ≡ Some m) × (map_of meaning ≡ Ok m)) }
+        → IfOk result (λ tree. (m : Entries) × (tree_map contents tree ≡ Some m) × (map_if_done meaning ≡ Ok m)) }
     ensures err { (contents : Contents) (meaning : Meaning) → HasRun contents meaning run
-        → IfErr result (λ e. map_of meaning ≡ Err e) }
+        → IfErr result (λ e. map_if_done meaning ≡ Err e) }
 {
     let Run { ran, tree } = run;
     match ran {
@@ -78,7 +78,7 @@ fn tree_or_root(run: Run, root: Ref) -> Tree
 }
 
 // One more mutation. Where its mutator isn't done, its commit has the map of the commit before it.
-fn replay_one<C: Chunks + Copy, K: Known, M: Mutators>(
+fn replay_one<C: Chunks + Copy, K: NamesContents, M: Mutators>(
     setting: &Setting<'_, C, M>,
     draft: &mut Draft,
     tip: Tip,
@@ -104,7 +104,7 @@ fn replay_one<C: Chunks + Copy, K: Known, M: Mutators>(
 }
 
 // The map that the mutations leave, run in order on the map of a root; none where a mutator of them isn't done.
-fn run_all<C: Chunks + Copy, K: Known, M: Mutators>(
+fn run_all<C: Chunks + Copy, K: NamesContents, M: Mutators>(
     setting: &Setting<'_, C, M>,
     draft: &Draft,
     root: Ref,
@@ -131,7 +131,11 @@ fn run_all<C: Chunks + Copy, K: Known, M: Mutators>(
 }
 
 // A commit for each of the mutations, in order, all with the map of the basis: no head is at any of them.
-fn add_unread<K: Known>(draft: &mut Draft, basis: Tip, before: &[Mutation]) -> Result<Tip, Refusal>
+fn add_unread<K: NamesContents>(
+    draft: &mut Draft,
+    basis: Tip,
+    before: &[Mutation],
+) -> Result<Tip, Refusal>
     requires behind { draft.old.first ≡ length K.known }
     requires tip { (v : Version) × HasTip (with_nodes K.known draft.old.nodes) basis v × (v.state.closed ≡ false) }
     ensures tip { (v : Version) → HasTip (with_nodes K.known draft.old.nodes) basis v → v.state.closed ≡ false
@@ -146,13 +150,13 @@ fn add_unread<K: Known>(draft: &mut Draft, basis: Tip, before: &[Mutation]) -> R
     let mut tip = basis;
     for mutation in before {
         let mutation = mutation.clone()?;
-        tip = add_over(draft, tip, tip.root, Step::Local(mutation))?;
+        tip = add_over(draft, tip, tip.root, CommitChange::Local(mutation))?;
     }
     Ok(tip)
 }
 
 // A commit for each of the mutations, in order. The last has the map of the root, the others that of the basis.
-fn add_all<K: Known>(
+fn add_all<K: NamesContents>(
     draft: &mut Draft,
     basis: Tip,
     before: &[Mutation],
@@ -173,12 +177,12 @@ fn add_all<K: Known>(
 {
     let tip = add_unread::<K>(draft, basis, before)?;
     let mutation = last.clone()?;
-    add_over(draft, tip, root, Step::Local(mutation))
+    add_over(draft, tip, root, CommitChange::Local(mutation))
 }
 
 // One mutation on a tree of its own, and of more the halves, one after the other.
 #[cycle(replaying)]
-fn replay_parts<C: Chunks + Copy, K: Known, M: Mutators>(
+fn replay_parts<C: Chunks + Copy, K: NamesContents, M: Mutators>(
     setting: &Setting<'_, C, M>,
     draft: &mut Draft,
     basis: Tip,
@@ -210,7 +214,7 @@ fn replay_parts<C: Chunks + Copy, K: Known, M: Mutators>(
 /// in that tree. So where one is among them, the halves are replayed one after the other in this way, down to one
 /// mutation on a tree of its own.
 #[cycle(replaying)]
-pub fn replay<C: Chunks + Copy, K: Known, M: Mutators>(
+pub fn replay<C: Chunks + Copy, K: NamesContents, M: Mutators>(
     setting: &Setting<'_, C, M>,
     draft: &mut Draft,
     basis: Tip,

@@ -11,7 +11,7 @@ use crate::tips::Tip;
 use commit_graph::{Base, Nodes, top_of, walk};
 use group_history::{Mutation, Ref, Refusal};
 use std::alloc::Global;
-use transactions::{Fixed, Known};
+use transactions::{Fixed, NamesContents};
 
 /// What one look at a head tells: the tip of its chain, and whether the group is closed there.
 #[derive(Clone, Copy)]
@@ -21,7 +21,7 @@ pub struct Look {
 }
 
 /// Looks at a head. Takes no memory.
-pub fn look_at<N: Nodes + Copy, K: Known>(nodes: N, head: Ref) -> Result<Look, Refusal>
+pub fn look_at<N: Nodes + Copy, K: NamesContents>(nodes: N, head: Ref) -> Result<Look, Refusal>
     requires known { N.contents nodes ≡ K.known }
     requires place { N.places nodes head }
     requires version { IsSome (version_at K.known (stamp_of head)) }
@@ -45,7 +45,7 @@ pub fn look_at<N: Nodes + Copy, K: Known>(nodes: N, head: Ref) -> Result<Look, R
 }
 
 /// What the server last sent, by a look at the snapshot that the head told.
-pub fn base_at<N: Nodes + Copy, K: Known>(nodes: N, tip: Tip) -> Result<Base, Refusal>
+pub fn base_at<N: Nodes + Copy, K: NamesContents>(nodes: N, tip: Tip) -> Result<Base, Refusal>
     requires known { N.contents nodes ≡ K.known }
     requires place { N.places nodes tip.snapshot }
     requires tip { (v : Version) × HasTip K.known tip v }
@@ -58,7 +58,7 @@ pub fn base_at<N: Nodes + Copy, K: Known>(nodes: N, tip: Tip) -> Result<Base, Re
 }
 
 /// What is pending at a head, the oldest first.
-pub fn pending_at<N: Nodes + Copy, K: Known>(
+pub fn pending_at<N: Nodes + Copy, K: NamesContents>(
     alloc: Global,
     nodes: N,
     head: Ref,

@@ -18,7 +18,7 @@ use group_history::{Patch, Ref, Refusal, Stop, WriteView};
 use map_tree::{Chunks, Draft, Tree};
 use std::alloc::Global;
 use std::marker::Brand;
-use transactions::{Fixed, Known, Staged, WriteTx};
+use transactions::{Fixed, NamesContents, Staged, WriteTx};
 
 // One operation.
 fn operate<C: Chunks>(view: &mut WriteTx<C>, op: &Patch) -> Result<(), Stop>
@@ -52,7 +52,7 @@ fn operate_all<C: Chunks>(view: &mut WriteTx<C>, patch: &[Patch]) -> Result<(), 
     Ok(())
 }
 
-fn patched_known<C: Chunks + Drop, K: Known>(
+fn patched_known<C: Chunks + Drop, K: NamesContents>(
     alloc: Global,
     chunks: C,
     root: Ref,
@@ -71,7 +71,7 @@ fn patched_known<C: Chunks + Drop, K: Known>(
 }
 
 /// The map of a root after a patch's operations, in order. An empty patch keeps the root itself.
-pub fn patched_map<'a, C: Chunks + Copy, K: Known>(
+pub fn patched_map<'a, C: Chunks + Copy, K: NamesContents>(
     alloc: Global,
     chunks: C,
     draft: &'a Draft,

@@ -26,7 +26,7 @@ use group_history::{
 use map_tree::{Chunks, Draft, Tree};
 use std::alloc::{AllocError, Global};
 use std::cmp::Ordering;
-use transactions::Known;
+use transactions::NamesContents;
 
 /// What a pull leads to: the commit of the state after it, and how many mutations stay pending there.
 #[derive(Clone, Copy)]
@@ -85,7 +85,7 @@ fn add_answered(
 }
 
 // Drafts the snapshot after a pull: the patched map, under the response's cookie and the ids confirmed then.
-fn add_patched<C: Chunks + Copy, K: Known, M: Mutators>(
+fn add_patched<C: Chunks + Copy, K: NamesContents, M: Mutators>(
     setting: &Setting<'_, C, M>,
     draft: &mut Draft,
     root: Ref,
@@ -132,7 +132,7 @@ fn after_changes(
 /// Drafts the commits of the state after a pull: a snapshot of the patched map, and on it the mutations
 /// that stay pending, replayed. A patch without operations shares the whole pulled map, and a response
 /// without changes the confirmed ids.
-pub fn draft_rebase<C: Chunks + Copy, K: Known, M: Mutators>(
+pub fn draft_rebase<C: Chunks + Copy, K: NamesContents, M: Mutators>(
     setting: &Setting<'_, C, M>,
     draft: &mut Draft,
     base: &Base,

@@ -16,7 +16,7 @@ use group_history::{Mutation, Mutators, Ran, Refusal, Stop, WriteView};
 use map_tree::{Chunks, Draft, Tree};
 use std::alloc::Global;
 use std::marker::Brand;
-use transactions::{Fixed, Known, Staged, WriteTx};
+use transactions::{Fixed, NamesContents, Staged, WriteTx};
 
 /// What new commits are made with: where memory is taken from, what shows the nodes that are placed, and the mutators.
 #[derive(Drop)]
@@ -56,7 +56,7 @@ fn run_over<V: WriteView, M: Mutators>(
     mutators.run(alloc, name, &mutation.args, mutation.reason, view)
 }
 
-fn run_known<C: Chunks + Drop, K: Known, M: Mutators>(
+fn run_known<C: Chunks + Drop, K: NamesContents, M: Mutators>(
     alloc: Global,
     chunks: C,
     tree: Tree,
@@ -76,7 +76,7 @@ fn run_known<C: Chunks + Drop, K: Known, M: Mutators>(
 }
 
 /// Runs a mutation's mutator on a tree, for the mutation's reason.
-pub fn run_on<'a, C: Chunks + Copy, K: Known, M: Mutators>(
+pub fn run_on<'a, C: Chunks + Copy, K: NamesContents, M: Mutators>(
     setting: &Setting<'_, C, M>,
     draft: &'a Draft,
     tree: Tree,

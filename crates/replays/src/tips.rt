@@ -19,8 +19,8 @@ ghost use Rattle.map_tree.specs.Trees.{tree_map, tree_places};
 ghost use Rattle.replays.specs.Chaining.{HasTip};
 
 use group_history::{
-    Chunk, Commit, ConfirmedIds, Cookie, Keys, Kind, Leaf, Mutation, Node, Over, Ref, Refusal,
-    Snapshot, Step, TextMap,
+    Chunk, Commit, CommitChange, CommitKind, ConfirmedIds, Cookie, Keys, Leaf, Mutation, Node, Ref,
+    Refusal, Snapshot, Successor, TextMap,
 };
 use map_tree::{Draft, Tree};
 use std::alloc::{AllocError, Global};
@@ -36,7 +36,12 @@ pub struct Tip {
 }
 
 /// Drafts a commit over a basis, with the map of this root.
-pub(crate) fn add_over(draft: &mut Draft, basis: Tip, root: Ref, step: Step) -> Result<Tip, Refusal>
+pub(crate) fn add_over(
+    draft: &mut Draft,
+    basis: Tip,
+    root: Ref,
+    step: CommitChange,
+) -> Result<Tip, Refusal>
     requires below { AreBelow (draft.old.first + length draft.old.nodes) (root ∷ basis.commit ∷ basis.snapshot ∷ []) }
     ensures spelled { (contents : Contents) (v : Version) (m : Entries) → length contents ≡ draft.old.first
         → version_at (with_nodes contents draft.old.nodes) (stamp_of basis.commit) ≡ Some v
@@ -51,14 +56,14 @@ pub(crate) fn add_over(draft: &mut Draft, basis: Tip, root: Ref, step: Step) -> 
     ensures why { IfErr result (λ e. (e ≡ NoMemory) ⊎ (e ≡ Stamps)) }
 {
     let snapshot = basis.snapshot;
-    let over = Over {
+    let over = Successor {
         basis: basis.commit,
         snapshot,
         step,
     };
     let commit = draft.push_commit(Commit {
         root,
-        kind: Kind::Over(over),
+        kind: CommitKind::Over(over),
     })?;
     Ok(Tip {
         commit,
@@ -90,7 +95,7 @@ pub fn add_local(
     ensures why { IfErr result (λ e. (e ≡ NoMemory) ⊎ (e ≡ Stamps)) }
 {
     let root = tree.freeze(alloc, draft)?;
-    let tip = add_over(draft, basis, root, Step::Local(mutation))?;
+    let tip = add_over(draft, basis, root, CommitChange::Local(mutation))?;
     Ok(tip)
 }
 
@@ -107,7 +112,7 @@ pub fn add_closing(draft: &mut Draft, basis: Tip) -> Result<Ref, Refusal>
     ensures new { IfOk result (λ at. draft.old.first ≤ stamp_of at) }
     ensures why { IfErr result (λ e. (e ≡ NoMemory) ⊎ (e ≡ Stamps)) }
 {
-    let tip = add_over(draft, basis, basis.root, Step::Closed)?;
+    let tip = add_over(draft, basis, basis.root, CommitChange::Closed)?;
     Ok(tip.commit)
 }
 
@@ -131,7 +136,7 @@ pub fn add_snapshot(
     ensures why { IfErr result (λ e. (e ≡ NoMemory) ⊎ (e ≡ Stamps)) }
 {
     let root = tree.freeze(alloc, draft)?;
-    let kind = Kind::Snapshot(Snapshot { cookie, confirmed });
+    let kind = CommitKind::Snapshot(Snapshot { cookie, confirmed });
     let commit = draft.push_commit(Commit { root, kind })?;
     Ok(Tip {
         commit,
@@ -158,7 +163,7 @@ pub fn add_opening(alloc: Global, draft: &mut Draft) -> Result<Ref, Refusal>
     let root = draft.push(Node::Chunk(Chunk::Leaf(empty_leaf(alloc)?)))?;
     let cookie = Cookie::null(alloc)?;
     let confirmed = ConfirmedIds::new(alloc, TextMap::new(alloc))?;
-    let kind = Kind::Snapshot(Snapshot { cookie, confirmed });
+    let kind = CommitKind::Snapshot(Snapshot { cookie, confirmed });
     let head = draft.push_commit(Commit { root, kind })?;
     Ok(head)
 }

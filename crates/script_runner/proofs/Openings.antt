@@ -21,7 +21,7 @@ use Rattle.script_runner.specs.declared.phase.Turn.{Turn}
 use Rattle.script_runner.specs.declared.shared.SharedClient.{SharedClient}
 use Rattle.script_parser.specs.declared.script.Phase.{Phase}
 use Rattle.script_parser.specs.declared.script.Script.{Script}
-use Rattle.script_runner.specs.Callers.{shared_rules, Standing}
+use Rattle.script_runner.specs.Callers.{shared_rules, ClientState}
 use Rattle.script_runner.specs.Commanding.{Player}
 use Rattle.script_parser.specs.Context.{Context}
 use Rattle.script_runner.specs.Phases.{AreWritten, HasWhole, HasWritten}
@@ -37,7 +37,7 @@ if_ok (Ok x) a = a
 if_ok (Err e) a = tt
 
 -- what holds of the player that a turn's client is said to be
-pub if_player : {C E : Type 0} (stands : C → Standing) (r : Result (Turn C) E) (P : Player → Type 0) (p : Player)
+pub if_player : {C E : Type 0} (stands : C → ClientState) (r : Result (Turn C) E) (P : Player → Type 0) (p : Player)
     → IfOk r (λ turn. player_of stands turn.client ≡ p) → P p → IfOk r (λ turn. P (player_of stands turn.client))
 if_player stands (Ok turn) P p is holds = subst P (sym is) holds
 if_player stands (Err e) P p is holds = tt

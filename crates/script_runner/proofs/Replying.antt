@@ -7,15 +7,15 @@ use Rattle.group_history.specs.declared.refusals.Refusal.TheVariants as refusal
 use Rattle.group_history.specs.declared.responses.Ended.{Ended}
 use Rattle.group_history.specs.declared.scans.Scan.{Scan}
 use Rattle.group_history.specs.Meaning.{Meanings}
-use Rattle.group_history.specs.Queries.{rows_at}
+use Rattle.group_history.specs.Queries.{view_rows}
 use Rattle.group_history.specs.Rows.{Rows}
 use Rattle.group_history.specs.State.{State}
 use Rattle.head_word.specs.Marks.{Known}
-use Rattle.answered.specs.Answered.{Answers, is_want, nothing}
+use Rattle.answered.specs.Answered.{IsLinearized, is_resource_refusal, no_change}
 use Rattle.rebase.specs.Asking.{is_passing}
 use Rattle.rebase.specs.Calls.{Caller, IsReplyTo, caller, caller_of, change_of, last_after, reply_to}
 use Rattle.rebase.specs.Clients.{ClientState, IsSameClient}
-use Rattle.group_steps.specs.Missing.{told}
+use Rattle.group_steps.specs.Missing.{map_ok}
 use Rattle.rebase.specs.Queries.{gave}
 use Rattle.rebase.specs.Replies.{ended, id, rows}
 use Rattle.rebase.specs.declared.calls.Call.TheVariants as call
@@ -33,7 +33,7 @@ pub same_caller : (old new : ClientState) → IsSameClient old new → new.last 
 same_caller old new same last = same_client old new same ∙ ap (caller old.group.identity old.id) last
 
 -- a refusal passes as it is told
-pub passing_told : {X Y : Type 0} (f : X → Y) (r : Result X Refusal) → is_passing (told f r) ≡ is_passing r
+pub passing_told : {X Y : Type 0} (f : X → Y) (r : Result X Refusal) → is_passing (map_ok f r) ≡ is_passing r
 passing_told f (Ok x) = refl
 passing_told f (Err refusal.Moved) = refl
 passing_told f (Err refusal.Busy) = refl
@@ -42,12 +42,12 @@ passing_told f (Err e) = refl
 
 -- the id of a mutation is the last one, and a refused one leaves that
 pub last_made : (r : Result ℕ Refusal) (old new : ℕ) → IfOk r (λ n. (n ≡ old + 1) × (new ≡ n))
-    → IfErr r (λ _. new ≡ old) → new ≡ last_after old (told id r)
+    → IfErr r (λ _. new ≡ old) → new ≡ last_after old (map_ok id r)
 last_made (Ok n) old new made left = made.1
 last_made (Err e) old new made left = left
 
 -- the end of a pull leaves the last id
-pub last_kept : (last : ℕ) (r : Result Ended Refusal) → last_after last (told ended r) ≡ last
+pub last_kept : (last : ℕ) (r : Result Ended Refusal) → last_after last (map_ok ended r) ≡ last
 last_kept last (Ok e) = refl
 last_kept last (Err e) = refl
 
@@ -56,21 +56,21 @@ pub last_after_list : {X : Type 0} (last : ℕ) (rs : Rows) (r : Result X Refusa
 last_after_list last rs (Ok list) = refl
 last_after_list last rs (Err e) = refl
 
-list_is : {X : Type 0} (rs : Rows) (r : Result X Refusal) → reply_of_list rs r ≡ told rows (gave rs r)
+list_is : {X : Type 0} (rs : Rows) (r : Result X Refusal) → reply_of_list rs r ≡ map_ok rows (gave rs r)
 list_is rs (Ok list) = refl
 list_is rs (Err e) = refl
 
 -- rows that a sink got rightly are listed rightly
 pub list_told : {X : Type 0} (means : Meanings) (tries : ℕ) (old new : Known) (c : Caller) (scan : Bor Scan)
-    (rs : Rows) (r : Result X Refusal) → Answers means tries old new (gave rs r) nothing
-    (λ (s : State). Ok (rows_at means s scan.now)) → Answers means tries old new (reply_of_list rs r)
+    (rs : Rows) (r : Result X Refusal) → IsLinearized means tries old new (gave rs r) no_change
+    (λ (s : State). Ok (view_rows means s scan.now)) → IsLinearized means tries old new (reply_of_list rs r)
     (change_of c (call.Scan scan)) (λ (s : State). reply_to means c s (call.Scan scan))
 list_told means tries old new c scan rs r is =
-    call_told rows means tries old new c (call.Scan scan) (call.Scan scan) (gave rs r) (reply_of_list rs r) nothing
-    (λ (s : State). Ok (rows_at means s scan.now)) refl (list_is rs r) refl (λ (s : State). refl) is
+    call_told rows means tries old new c (call.Scan scan) (call.Scan scan) (gave rs r) (reply_of_list rs r) no_change
+    (λ (s : State). Ok (view_rows means s scan.now)) refl (list_is rs r) refl (λ (s : State). refl) is
 
 -- the right rows, or want of memory
 pub list_plainly : {X : Type 0} (rs : Rows) (r : Result X Refusal) → IfErr r (λ e. e ≡ refusal.NoMemory)
     → IsReplyTo (reply_of_list rs r) (Ok (rows rs))
 list_plainly rs (Ok list) err = refl
-list_plainly rs (Err e) err = inl (ap is_want err)
+list_plainly rs (Err e) err = inl (ap is_resource_refusal err)

@@ -16,7 +16,7 @@ use Rattle.script_runner.specs.declared.phase.Turn.{Turn}
 use Rattle.script_parser.specs.declared.script.Command.{Command}
 use Rattle.script_parser.specs.declared.script.Line.{Line}
 use Rattle.script_parser.specs.declared.script.Phase.{Phase}
-use Rattle.script_runner.specs.Callers.{CanLearn, CanLearnAll, Rules, Standing, sight_of}
+use Rattle.script_runner.specs.Callers.{CanLearn, CanLearnAll, Rules, ClientState, sight_of}
 use Rattle.script_runner.specs.Commanding.{MayPrint, Player}
 use Rattle.script_parser.specs.Context.{Lines}
 use Rattle.script_runner.specs.Phases.{AreTold, AreWritten, IsPhase, all_sights}
@@ -162,7 +162,7 @@ told_of : {E : Type 0} (P : Bytes → Type 0) (r : Result (Vec ℕ) E) → IsOk 
 told_of P (Ok text) is told = told
 told_of P (Err e) is told = absurd (false≢true is)
 
-module _ {C : Type 0} (stands : C → Standing) where
+module _ {C : Type 0} (stands : C → ClientState) where
   -- all have seen the one group of which each client is
   pub one_group : {Sight : Type 0} (shows : Sight → Known) (book : Book) (turns : List (Turn C)) (sights : List Sight)
       → map shows sights ≡ all_sights (players_of stands turns) → AreOf stands book turns

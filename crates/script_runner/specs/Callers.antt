@@ -14,7 +14,7 @@ use Rattle.group_history.specs.Rows.{Rows}
 use Rattle.group_history.specs.State.{State}
 use Rattle.head_word.specs.Marks.{Known, known}
 use Rattle.push_body.specs.declared.identities.Identity.{Identity}
-use Rattle.answered.specs.Answered.{Answers, is_want, nothing, own_moves}
+use Rattle.answered.specs.Answered.{IsLinearized, is_resource_refusal, no_change, own_moves}
 use Rattle.commit_graph.specs.Seats.{IsLater}
 use Rattle.group_steps.specs.Missing.{IsMissedOrDry}
 use Rattle.rebase.specs.Asking.{is_passing}
@@ -32,20 +32,20 @@ Watches = finite.FinMap (slice_cmp nat_cmp) Watched
 
 -- A client: whose requests its group writes, its ID, its own last id, what it has seen of the group's book, and its
 -- watches.
-pub record Standing : Type 0 where
+pub record ClientState : Type 0 where
   pub caller : Caller
   pub mark : Known
   pub watches : Watches
 
 -- it has a watch of this name, which has answered nothing yet; an earlier one is given up
-abbrev pub with_watch : Bytes → Scan → Standing → Standing
+abbrev pub with_watch : Bytes → Scan → ClientState → ClientState
 with_watch name scan c = record c {
   watches = finite.insert (finite.remove c.watches name) name
       (record { book = c.mark.book; scan = scan; last = None });
 }
 
 -- it has no watch of this name
-abbrev pub without_watch : Bytes → Standing → Standing
+abbrev pub without_watch : Bytes → ClientState → ClientState
 without_watch name c = record c { watches = finite.remove c.watches name }
 
 -- the watches after a poll of one: it keeps what was answered, and a refused poll leaves it as it was
@@ -59,27 +59,27 @@ reply_of_list rs (Ok list) = Ok (rows rs)
 reply_of_list rs (Err e) = Err e
 
 -- it is a client of the same group
-abbrev pub IsOfSameGroup : Standing → Standing → Type 0
+abbrev pub IsOfSameGroup : ClientState → ClientState → Type 0
 IsOfSameGroup old new = new.mark.book ≡ old.mark.book
 
 -- what others learn from a client: what it has seen
-abbrev pub sight_of : Standing → Known
+abbrev pub sight_of : ClientState → Known
 sight_of c = known c.mark.book c.mark.log None
 
 -- a client can learn what was seen of its group
-abbrev pub CanLearn : Standing → Known → Type 0
+abbrev pub CanLearn : ClientState → Known → Type 0
 CanLearn c sight = sight.book ≡ c.mark.book
 
 -- and so each of these
-abbrev pub CanLearnAll : {S : Type 0} → (S → Known) → Standing → List S → Type 0
+abbrev pub CanLearnAll : {S : Type 0} → (S → Known) → ClientState → List S → Type 0
 CanLearnAll shows c sights = All (λ s. CanLearn c (shows s)) sights
 
 -- The rules of a group: what its clients' calls and their polls may reply, and how a client stands then; and how a
 -- client stands that has learnt what another one had seen.
 pub record Rules : Type 1 where
-  pub may_reply : Standing → Call → Result Replied Refusal → Standing → Type 0
-  pub may_poll : Bytes → Watched → Standing → Result Polled Refusal → Standing → Type 0
-  pub learns : Standing → Known → Standing → Type 0
+  pub may_reply : ClientState → Call → Result Replied Refusal → ClientState → Type 0
+  pub may_poll : Bytes → Watched → ClientState → Result Polled Refusal → ClientState → Type 0
+  pub learns : ClientState → Known → ClientState → Type 0
 
 -- how often a call tries: one that waits goes on until others are out of its way
 abbrev pub tries_of : Call → ℕ
@@ -89,9 +89,9 @@ tries_of other = 1000000
 
 -- The call is answered rightly at a point of the record of a group whose mutators mean this, and the client's last id
 -- is then as the reply says.
-pub record MayReply (means : Meanings) (before : Standing) (asked : Call) (reply : Result Replied Refusal)
-    (after : Standing) : Type 0 where
-  pub answer : Answers means (tries_of asked) before.mark after.mark reply (change_of before.caller asked)
+pub record MayReply (means : Meanings) (before : ClientState) (asked : Call) (reply : Result Replied Refusal)
+    (after : ClientState) : Type 0 where
+  pub answer : IsLinearized means (tries_of asked) before.mark after.mark reply (change_of before.caller asked)
       (λ s. reply_to means before.caller s asked)
   -- what changes nothing is refused for want of memory, or where a slot or a pin is lost to others; a change waits for
   -- others
@@ -102,9 +102,9 @@ pub record MayReply (means : Meanings) (before : Standing) (asked : Call) (reply
   pub watches : after.watches ≡ before.watches
 
 -- The poll of a watch is answered rightly at a point of that record.
-pub record MayPoll (means : Meanings) (name : Bytes) (watch : Watched) (before : Standing)
-    (reply : Result Polled Refusal) (after : Standing) : Type 0 where
-  pub answer : Answers means 1000000 before.mark after.mark reply nothing (λ s. Ok (poll_at means watch s))
+pub record MayPoll (means : Meanings) (name : Bytes) (watch : Watched) (before : ClientState)
+    (reply : Result Polled Refusal) (after : ClientState) : Type 0 where
+  pub answer : IsLinearized means 1000000 before.mark after.mark reply no_change (λ s. Ok (poll_at means watch s))
   -- for the same
   pub refused : IfErr reply (IsMissedOrDry ⊤)
   pub caller : after.caller ≡ before.caller
@@ -112,7 +112,7 @@ pub record MayPoll (means : Meanings) (name : Bytes) (watch : Watched) (before :
   pub watches : after.watches ≡ watches_after name watch before.watches reply
 
 -- The client has seen what another one had seen too, and made no change.
-pub record Learns (before : Standing) (other : Known) (after : Standing) : Type 0 where
+pub record Learns (before : ClientState) (other : Known) (after : ClientState) : Type 0 where
   pub seen : IsPrefix other.log after.mark.log
   pub later : IsLater before.mark after.mark
   pub moves : own_moves after.mark ≡ own_moves before.mark
@@ -124,8 +124,8 @@ abbrev pub shared_rules : Meanings → Rules
 shared_rules means = record { may_reply = MayReply means; may_poll = MayPoll means; learns = Learns }
 
 -- A client of a plain group, which is no group of a book: the call is answered rightly at some state.
-pub record MayReplyPlainly (before : Standing) (asked : Call) (reply : Result Replied Refusal)
-    (after : Standing) : Type 0 where
+pub record MayReplyPlainly (before : ClientState) (asked : Call) (reply : Result Replied Refusal)
+    (after : ClientState) : Type 0 where
   pub identity : Identity
   pub at : State
   pub answer : IsReplyTo reply (reply_to script_means
@@ -136,18 +136,18 @@ pub record MayReplyPlainly (before : Standing) (asked : Call) (reply : Result Re
 -- a poll is answered rightly, or refused for want of something
 abbrev pub IsPolled : Result Polled Refusal → Polled → Type 0
 IsPolled (Ok polled) right = right ≡ polled
-IsPolled (Err e) right = is_want e ≡ true
+IsPolled (Err e) right = is_resource_refusal e ≡ true
 
 -- a poll too
-pub record MayPollPlainly (name : Bytes) (watch : Watched) (before : Standing) (reply : Result Polled Refusal)
-    (after : Standing) : Type 0 where
+pub record MayPollPlainly (name : Bytes) (watch : Watched) (before : ClientState) (reply : Result Polled Refusal)
+    (after : ClientState) : Type 0 where
   pub at : State
   pub answer : IsPolled reply (poll_at script_means watch at)
   pub caller : after.caller ≡ before.caller
   pub watches : after.watches ≡ watches_after name watch before.watches reply
 
 -- it sees everything, so it has nothing to learn
-abbrev pub LearnsNothing : Standing → Known → Standing → Type 0
+abbrev pub LearnsNothing : ClientState → Known → ClientState → Type 0
 LearnsNothing before other after = after ≡ before
 
 abbrev pub plain_rules : Rules
@@ -156,7 +156,7 @@ plain_rules = record { may_reply = MayReplyPlainly; may_poll = MayPollPlainly; l
 abbrev pub no_book : Book
 no_book = record { number = 0; log_name = 0; cells_name = 0 }
 
-abbrev pub plain_standing : Bytes → ℕ → Watches → Standing
+abbrev pub plain_standing : Bytes → ℕ → Watches → ClientState
 plain_standing id last watches = record {
   caller = caller (record { group = []; profile = []; schema = [] }) id last;
   mark = known no_book [] None;

@@ -19,7 +19,7 @@ use Rattle.script_parser.specs.declared.script.Command.{Command}
 use Rattle.script_parser.specs.declared.script.Command.TheVariants as command
 use Rattle.script_parser.specs.declared.script.Query.{Query}
 use Rattle.script_parser.specs.declared.script.Query.TheVariants as query
-use Rattle.script_runner.specs.Callers.{Rules, Standing, with_watch, without_watch}
+use Rattle.script_runner.specs.Callers.{Rules, ClientState, with_watch, without_watch}
 use Rattle.script_runner.specs.Printing.{answer_text, polled_text, refreshed_text, refused_text}
 
 -- the tickets of a client, by their names
@@ -29,11 +29,11 @@ Tickets = finite.FinMap (slice_cmp nat_cmp) Ticket
 -- a client of a script: its name, how it stands in its group, and its tickets
 pub record Player : Type 0 where
   pub name : Bytes
-  pub standing : Standing
+  pub standing : ClientState
   pub tickets : Tickets
 
 -- a client before its first line
-abbrev pub new_player : Bytes → Standing → Player
+abbrev pub new_player : Bytes → ClientState → Player
 new_player name standing = record { name = name; standing = standing; tickets = finite.empty }
 
 -- the call that a query is

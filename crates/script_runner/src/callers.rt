@@ -3,11 +3,11 @@ ghost use Rattle.std.specs.Prelude.{◌≡◌, Result, Some, IfNone, IfOk, IfSom
 ghost use Rattle.std.specs.FinMap as finite;
 ghost use Rattle.group_history.specs.Rows.{Rows};
 ghost use Rattle.head_word.specs.Marks.{Known};
-ghost use Rattle.group_steps.specs.Missing.{told};
+ghost use Rattle.group_steps.specs.Missing.{map_ok};
 ghost use Rattle.rebase.specs.Replies.{reply_seen};
 ghost use Rattle.rebase.specs.Watching.{Watched};
 ghost use Rattle.rebase.specs.declared.calls.Call.TheVariants as call;
-ghost use Rattle.script_runner.specs.Callers.{CanLearn, IsOfSameGroup, Learns, MayPoll, MayReply, Rules, Standing};
+ghost use Rattle.script_runner.specs.Callers.{CanLearn, IsOfSameGroup, Learns, MayPoll, MayReply, Rules, ClientState};
 ghost use Rattle.script_runner.specs.Callers.{reply_of_list, sight_of, with_watch, without_watch};
 ghost use Rattle.script_runner.specs.Printing.{rows_text};
 ghost use Rattle.script_runner.specs.Inside.Players.{standing_of};
@@ -30,7 +30,7 @@ pub(crate) trait Caller {
     type Sight: Sync + Drop;
 
     /// How the client stands.
-    ghost stands: { Self → Standing };
+    ghost stands: { Self → ClientState };
 
     ghost shows: { Self.Sight → Known };
 
@@ -39,7 +39,7 @@ pub(crate) trait Caller {
 
     /// Makes one call. A change may wait for others.
     fn call<R: Wait>(&mut self, rt: &R, call: Call<'_>) -> Result<Reply, Refusal>
-        ensures reply { law.may_reply (stands self.old) call.entry (told reply_seen result) (stands self.new) }
+        ensures reply { law.may_reply (stands self.old) call.entry (map_ok reply_seen result) (stands self.new) }
         ensures group { IsOfSameGroup (stands self.old) (stands self.new) };
 
     /// Makes a scan, and answers what is printed of its rows.
@@ -89,7 +89,7 @@ pub(crate) fn keep_watch<W: Drop>(
 impl<M: Mutators + Drop> SharedClient<M> {
     /// Makes one call. A change may wait for others.
     pub(crate) fn make_call<R: Wait>(&mut self, rt: &R, call: Call<'_>) -> Result<Reply, Refusal>
-        ensures reply { MayReply M.means (standing_of self.old) call.entry (told reply_seen result)
+        ensures reply { MayReply M.means (standing_of self.old) call.entry (map_ok reply_seen result)
             (standing_of self.new) }
         ensures group { IsOfSameGroup (standing_of self.old) (standing_of self.new) }
     {

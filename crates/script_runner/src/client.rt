@@ -1,7 +1,7 @@
 //! A client of a script: what it keeps between its lines, and what each command does.
 ghost use Rattle.std.specs.Prelude.{◌≡◌, IfOk, Ok, map};
 ghost use Rattle.std.specs.FinMap as finite;
-ghost use Rattle.group_steps.specs.Missing.{told};
+ghost use Rattle.group_steps.specs.Missing.{map_ok};
 ghost use Rattle.rebase.specs.Queries.{asked};
 ghost use Rattle.rebase.specs.Replies.{reply_seen, ticket as replied_ticket};
 ghost use Rattle.rebase.specs.declared.calls.Call.TheVariants as call;
@@ -31,10 +31,10 @@ pub(crate) struct ScriptClient<C: Drop> {
 }
 
 impl<C: Drop> ScriptClient<C> {
-    ghost use Rattle.script_runner.specs.Callers.{Standing};
+    ghost use Rattle.script_runner.specs.Callers.{ClientState};
 
     pub(crate) fn new(alloc: Global, name: &Text, caller: C) -> Result<ScriptClient<C>, AllocError>
-        ensures { (stands : C → Standing) → IfOk result
+        ensures { (stands : C → ClientState) → IfOk result
             (λ client. player_of stands client ≡ new_player name.now (stands caller)) }
     {
         Ok(ScriptClient {
@@ -228,7 +228,7 @@ pub(crate) fn call_of(query: &Query) -> Call<'_>
 
 /// The reply of a line that hands on what the group answered.
 pub(crate) fn reply_of(answer: Result<Reply, Refusal>) -> Printed
-    ensures { reply_text result ≡ answer_text (told reply_seen answer) }
+    ensures { reply_text result ≡ answer_text (map_ok reply_seen answer) }
 {
     match answer {
         Ok(answer) => print_of(answer),

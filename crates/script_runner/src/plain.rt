@@ -4,15 +4,15 @@
 //! take turns at it.
 ghost use Rattle.std.specs.Prelude.{◌≡◌, true, Ok, Some, IfOk, IfErr, OnErr, IsOkUnless};
 ghost use Rattle.std.specs.FinMap as finite;
-ghost use Rattle.group_history.specs.Answers.{Answers};
+ghost use Rattle.group_history.specs.Answers.{AnswersOrNoMemory};
 ghost use Rattle.group_history.specs.Mutating.{mutate_reply};
-ghost use Rattle.group_history.specs.Queries.{get_at, rows_at};
+ghost use Rattle.group_history.specs.Queries.{get_at, view_rows};
 ghost use Rattle.group_history.specs.declared.refusals.Refusal.TheVariants.{NoMemory};
 ghost use Rattle.push_body.specs.Bodies.{push_text};
 ghost use Rattle.rebase.specs.Asking.{end_bytes_reply};
 ghost use Rattle.rebase.specs.Calls.{Caller as Asking, IsReplyTo, asked_mutation, caller, is_query, last_after};
 ghost use Rattle.rebase.specs.Calls.{reply_to};
-ghost use Rattle.group_steps.specs.Missing.{told};
+ghost use Rattle.group_steps.specs.Missing.{map_ok};
 ghost use Rattle.rebase.specs.Queries.{asked, asked_at};
 ghost use Rattle.rebase.specs.Replies.{reply_seen};
 ghost use Rattle.rebase.specs.Watching.{poll_at, poll_reply, watch_after};
@@ -52,7 +52,7 @@ impl Plain {
 
     /// Makes one call of a client with this ID and this last id.
     fn make_call(&mut self, id: &Text, last: u64, call: Call<'_>) -> Result<Reply, Refusal>
-        ensures { IsReplyTo (told reply_seen result)
+        ensures { IsReplyTo (map_ok reply_seen result)
             (reply_to script_means (caller self.old.identity id.now last) self.old.group call.entry) }
     {
         match call {
@@ -86,7 +86,8 @@ impl Plain {
 
     /// The rows of a scan, listed.
     fn list(&self, alloc: Global, scan: &Scan) -> Result<RowList, Refusal>
-        ensures ok { IfOk result (λ list. list.text.items ≡ rows_text (rows_at script_means self.now.group scan.now)) }
+        ensures ok { IfOk result (λ list. list.text.items ≡ rows_text (view_rows script_means self.now.group
+            scan.now)) }
         ensures err { IsOkUnless result NoMemory }
     {
         let rows = self.group.scan(scan)?;
@@ -129,7 +130,7 @@ impl Plain {
     }
 
     fn mutate(&mut self, id: &Text, last: u64, m: Mutate<'_>) -> Result<u64, Refusal>
-        ensures { Answers result (mutate_reply script_means self.old.group last
+        ensures { AnswersOrNoMemory result (mutate_reply script_means self.old.group last
             (asked_mutation (caller self.old.identity id.now last) m.entry)) }
     {
         self.group
@@ -146,7 +147,7 @@ impl Plain {
     }
 
     fn end_pull(&mut self, ticket: &Ticket, body: &[u8]) -> Result<Ended, Refusal>
-        ensures { Answers result (end_bytes_reply self.old.group ticket.now.cookie.text body.now) }
+        ensures { AnswersOrNoMemory result (end_bytes_reply self.old.group ticket.now.cookie.text body.now) }
     {
         let response = read_response(self.alloc, body)?;
         self.group
@@ -238,7 +239,7 @@ impl<'g> PlainClient<'g> {
 
 /// A client's last id after a reply: an id that is replied is its last one.
 fn last_after(last: u64, reply: &Result<Reply, Refusal>) -> u64
-    ensures { result ≡ last_after last (told reply_seen reply.now) }
+    ensures { result ≡ last_after last (map_ok reply_seen reply.now) }
 {
     match reply {
         Ok(Reply::Id(id)) => *id,

@@ -7,7 +7,7 @@ ghost use Rattle.script_parser.specs.Faults.{Checks, first_fault, script_said};
 ghost use Rattle.script_parser.specs.Context.{Context};
 ghost use Rattle.script_parser.specs.Kept.{IsInRange};
 ghost use Rattle.script_parser.specs.Scripts.{IsChecked, IsScript, client_said, phase_said};
-ghost use Rattle.script_runner.specs.Callers.{Standing};
+ghost use Rattle.script_runner.specs.Callers.{ClientState};
 ghost use Rattle.script_runner.specs.Commanding.{new_player};
 ghost use Rattle.script_runner.specs.Phases.{HasWhole, HasWritten, IsPhase};
 ghost use Rattle.script_runner.specs.Runs.{AreNew, BlamesNoScript, HasRunScript, HasStoppedScript, IsWant};
@@ -134,7 +134,7 @@ pub(crate) fn open_group<M: Mutators + Drop>(
 
 /// A client before the first phase.
 fn turn_of<C: Drop>(alloc: Global, name: &Text, caller: C) -> Result<Turn<C>, AllocError>
-    ensures { (stands : C → Standing) → IfOk result
+    ensures { (stands : C → ClientState) → IfOk result
         (λ turn. player_of stands turn.client ≡ new_player name.now (stands caller)) }
 {
     let client = ScriptClient::new(alloc, name, caller)?;

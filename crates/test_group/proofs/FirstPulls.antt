@@ -7,7 +7,7 @@ use Rattle.std.specs.declared.cmp.Ordering.TheVariants.{Greater}
 use mathlib.Core.List.{IsPrefix}
 use Rattle.group_history.specs.declared.refs.Ref.{Ref}
 use Rattle.group_history.specs.declared.cookies.Order.TheVariants as order
-use Rattle.group_history.specs.declared.nodes.Kind.TheVariants.{Snapshot}
+use Rattle.group_history.specs.declared.nodes.CommitKind.TheVariants.{Snapshot}
 use Rattle.group_history.specs.declared.nodes.Node.{Node}
 use Rattle.group_history.specs.declared.nodes.Node.TheVariants as node
 use Rattle.group_history.specs.declared.nodes.Child.{Child}
@@ -16,14 +16,15 @@ use Rattle.group_history.specs.Cookies.{Cookie, order_cmp}
 use Rattle.group_history.specs.Pulling.{by_order}
 use Rattle.group_history.specs.Record.{IsAccepted}
 use Rattle.group_history.specs.Refs.{stamp_of, stamps}
-use Rattle.group_history.specs.Spelling.{Segment, as_version, map_of, map_in, segment_at, spelled, version_at, version}
+use Rattle.group_history.specs.Spelling.{Segment, as_version, segment_map, map_in, segment_at, spelled, version_at}
+use Rattle.group_history.specs.Spelling.{version}
 use Rattle.group_history.specs.Spelling.{Spells}
 use Rattle.group_history.specs.State.{pulled_state, opening as opening_state}
 use Rattle.group_history.proofs.Spellings.{segment-stays, version-newest}
 use Rattle.group_history.proofs.TextMaps.{empty_map}
 use Rattle.head_word.specs.declared.entry.Entry.{Entry}
 use Rattle.head_word.specs.declared.lost.Lost.{Lost}
-use Rattle.head_word.specs.Books.{drafted, drawn, next_stamp, opening, StartsOpened, Follows}
+use Rattle.head_word.specs.Books.{drafted, drawn, next_stamp, opening, StartsOpened, IsChangeFrom}
 use Rattle.test_group.specs.Trials.{no_mutators, bare_pull, SpellsBare}
 use Rattle.head_word.proofs.Books.{drawn_more}
 use Rattle.head_word.proofs.Stepping.{opening_spells, spells_from, starts_from, starts_with}
@@ -37,7 +38,7 @@ empty_root log starts =
     ≡ drawn log = sym (drawn_more (opening begun.0) begun.1.0) ∙ ap drawn begun.1.1 in
     let there : segment_at (drawn log) 0 ≡ Some leaf = subst (λ cs. segment_at cs 0 ≡ Some leaf) all
     (segment-stays (drawn (opening begun.0)) (drawn begun.1.0) 0 leaf refl) in
-    ap (option_and_then map_of) there ∙ ap Some empty_map
+    ap (option_and_then segment_map) there ∙ ap Some empty_map
 
 -- the snapshot as its draft lists it
 abbrev pub bare_node : Cookie → Ref → Node Child
@@ -79,7 +80,7 @@ bare_accepted cookie above = (
 -- and follows the opening commit
 pub bare_follows : (log : List Entry) (cookie : Cookie) (base new : Ref) → StartsOpened log → stamp_of base ≡ 1
     → order_cmp cookie.order order.Null ≡ Greater → SpellsBare log (stamp_of new) cookie
-    → Follows no_mutators (drawn log) base new (bare_pull cookie)
+    → IsChangeFrom no_mutators (drawn log) base new (bare_pull cookie)
 bare_follows log cookie base new starts at_opening above spells =
     let begun = starts_with log starts in
     let known : Spells no_mutators (drawn log) 1 opening_state = spells_from no_mutators

@@ -5,7 +5,7 @@ use Rattle.std.specs.List.{All, Contains}
 use Rattle.group_history.specs.declared.changes.Change.{Change}
 use Rattle.group_history.specs.declared.changes.Change.TheVariants.{Pulled}
 use Rattle.group_history.specs.declared.nodes.Chunk.TheVariants.{Leaf}
-use Rattle.group_history.specs.declared.nodes.Kind.TheVariants.{Snapshot}
+use Rattle.group_history.specs.declared.nodes.CommitKind.TheVariants.{Snapshot}
 use Rattle.group_history.specs.declared.nodes.Node.{Node}
 use Rattle.group_history.specs.declared.nodes.Node.TheVariants as node
 use Rattle.group_history.specs.declared.refs.Ref.{Ref}

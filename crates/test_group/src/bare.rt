@@ -6,8 +6,8 @@ ghost use Rattle.group_history.specs.declared.cookies.Order.TheVariants as order
 ghost use Rattle.test_group.specs.Trials.{bare, bare_pull};
 
 use group_history::{
-    BoxedCommit, Change, Commit, ConfirmedIds, Cookie, Keys, Kind, Leaf, Means, Node, PullOk, Ref,
-    Refusal, Snapshot, TextMap, cookie_cmp, nests_within, read_value,
+    BoxedCommit, Change, Commit, CommitKind, ConfirmedIds, Cookie, Keys, Leaf, Means, Node, PullOk,
+    Ref, Refusal, Snapshot, TextMap, cookie_cmp, nests_within, read_value,
 };
 use serde_json::Value;
 use std::alloc::Global;
@@ -51,7 +51,7 @@ pub fn bare_snapshot(alloc: Global, cookie: &Cookie, root: Ref) -> Result<Node<R
 {
     let commit = Commit {
         root,
-        kind: Kind::Snapshot(Snapshot {
+        kind: CommitKind::Snapshot(Snapshot {
             cookie: cookie.clone()?,
             confirmed: ConfirmedIds::new(alloc, TextMap::new(alloc))?,
         }),

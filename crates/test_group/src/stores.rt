@@ -9,7 +9,7 @@ ghost use Rattle.commit_graph.specs.Seats.{IsSeatOf};
 ghost use Rattle.test_group.specs.Trials.{AreFreeSeatsOf, no_mutators};
 
 use crate::bare::{Nobody, empty_leaf};
-use chunk_slots::{Missed, Store};
+use chunk_slots::{Store, StoreStop};
 use commit_graph::{Seat, Shared};
 use group_history::{Chunk, Node, Ref, Refusal};
 use head_word::Mark;
@@ -211,7 +211,7 @@ where
 }
 
 /// Whether an empty leaf, or else something else, is shown.
-pub fn shows<S: Store<Nobody>>(store: &S, slot: u32, stamp: u64) -> Result<bool, Missed> {
+pub fn shows<S: Store<Nobody>>(store: &S, slot: u32, stamp: u64) -> Result<bool, StoreStop> {
     let shown = store.show(slot, stamp, 100)?;
     let is_leaf = match shown.value() {
         Node::Chunk(Chunk::Leaf(leaf)) => leaf.values().is_empty(),

@@ -6,12 +6,13 @@ use Rattle.std.specs.FinMap as finite
 use mathlib.Core.List.{IsPrefix}
 use Rattle.group_history.specs.declared.refs.Ref.{Ref}
 use Rattle.group_history.specs.declared.nodes.Chunk.TheVariants.{Leaf}
-use Rattle.group_history.specs.declared.nodes.Kind.TheVariants.{Snapshot}
+use Rattle.group_history.specs.declared.nodes.CommitKind.TheVariants.{Snapshot}
 use Rattle.group_history.specs.declared.nodes.Node.{Node}
 use Rattle.group_history.specs.declared.nodes.Node.TheVariants as node
 use Rattle.group_history.specs.Cookies.{Cookie}
 use Rattle.group_history.specs.Refs.{stamp_of}
-use Rattle.group_history.specs.Spelling.{Contents, as_version, map_of, map_in, segment_at, spelled, version, Spells}
+use Rattle.group_history.specs.Spelling.{Contents, as_version, segment_map, map_in, segment_at, spelled, version}
+use Rattle.group_history.specs.Spelling.{Spells}
 use Rattle.group_history.specs.Record.{after_change}
 use Rattle.group_history.specs.State.{opening as opening_state}
 use Rattle.group_history.proofs.Spellings.{version-newest}
@@ -46,7 +47,7 @@ bare_spells r root cookie at_leaf =
     let cs = with_leaf r in
     let map : map_in (spelled cs) (stamp_of root)
     ≡ Some finite.empty = ap (map_in (spelled cs)) at_leaf ∙
-    (ap (option_and_then map_of) (leaf_there r) ∙ ap Some empty_map) in
+    (ap (option_and_then segment_map) (leaf_there r) ∙ ap Some empty_map) in
     version-newest cs content
     ∙ ap (λ o. option_and_then as_version (option_map (λ v. version v (length (spelled cs)))
     (option_and_then (λ m. Some (record {

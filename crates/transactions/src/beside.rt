@@ -10,41 +10,41 @@ use std::marker::{Brand, PhantomData};
 
 /// Rows that were taken.
 #[derive(Drop)]
-pub(crate) enum Taken {
+pub(crate) enum CollectedRows {
     /// The same as so many of the first ones before. None is copied.
     First(usize),
     Own(Vec<(Text, Json)>),
 }
 
 /// Names the rows of before. A call picks them.
-pub trait Before {
+pub trait PreviousRows {
     ghost rows: { Rows };
 }
 
-impl Before for Brand {
+impl PreviousRows for Brand {
     ghost rows = { [] };
 }
 
 /// Takes rows beside those of before, which `B` names.
 #[derive(Drop)]
-pub struct Beside<'a, B: Before> {
+pub struct RowDiff<'a, B: PreviousRows> {
     alloc: Global,
     before: &'a [(Text, Json)],
-    taken: Taken,
+    taken: CollectedRows,
     of: PhantomData<B>,
     ghost named: { before.now ≡ B.rows },
 }
 
-impl<'a, B: Before> Beside<'a, B> {
+impl<'a, B: PreviousRows> RowDiff<'a, B> {
     /// No row was taken yet.
-    pub fn new(alloc: Global, before: &'a [(Text, Json)]) -> Beside<'a, B>
+    pub fn new(alloc: Global, before: &'a [(Text, Json)]) -> RowDiff<'a, B>
         requires { before.now ≡ B.rows }
-        ensures { ⟦<Beside<'a, B> as TakesRows>⟧.has result [] }
+        ensures { ⟦<RowDiff<'a, B> as TakesRows>⟧.has result [] }
     {
-        Beside {
+        RowDiff {
             alloc,
             before,
-            taken: Taken::First(0),
+            taken: CollectedRows::First(0),
             of: PhantomData,
         }
     }
@@ -55,14 +55,14 @@ impl<'a, B: Before> Beside<'a, B> {
         ensures still { OnErr result (taken_rows B.rows self.new.taken ≡ taken_rows B.rows self.old.taken) }
     {
         match &mut self.taken {
-            Taken::Own(rows) => return add_row(rows, key, value),
-            Taken::First(count) => {
+            CollectedRows::Own(rows) => return add_row(rows, key, value),
+            CollectedRows::First(count) => {
                 if is_at(self.before, *count, key, value) {
                     *count += 1;
                     return Ok(());
                 }
                 let rows = first_and(self.alloc, self.before, *count, key, value)?;
-                self.taken = Taken::Own(rows);
+                self.taken = CollectedRows::Own(rows);
                 return Ok(());
             }
         }
@@ -70,25 +70,25 @@ impl<'a, B: Before> Beside<'a, B> {
 
     /// The rows that were taken, if they aren't those of before.
     pub fn into_others(self) -> Result<Option<Vec<(Text, Json)>>, AllocError>
-        ensures others { (taken : Rows) → ⟦<Beside<'a, B> as TakesRows>⟧.has self.entry taken
+        ensures others { (taken : Rows) → ⟦<RowDiff<'a, B> as TakesRows>⟧.has self.entry taken
             → IfOk result (λ found. IfSome found (λ rows. rows.items ≡ taken)) }
-        ensures same { (taken : Rows) → ⟦<Beside<'a, B> as TakesRows>⟧.has self.entry taken
+        ensures same { (taken : Rows) → ⟦<RowDiff<'a, B> as TakesRows>⟧.has self.entry taken
             → IfOk result (λ found. IfNone found (taken ≡ B.rows)) }
     {
-        let Beside {
+        let RowDiff {
             alloc,
             before,
             taken,
             of: _,
         } = self;
         match taken {
-            Taken::Own(rows) => Ok(Some(rows)),
-            Taken::First(count) => first_unless_all(alloc, before, count),
+            CollectedRows::Own(rows) => Ok(Some(rows)),
+            CollectedRows::First(count) => first_unless_all(alloc, before, count),
         }
     }
 }
 
-impl<'a, B: Before> TakesRows for Beside<'a, B> {
+impl<'a, B: PreviousRows> TakesRows for RowDiff<'a, B> {
     ghost has = { λ beside rows. taken_rows B.rows beside.taken ≡ rows };
 
     fn take(&mut self, key: &Text, value: &Json) -> Result<(), AllocError> {

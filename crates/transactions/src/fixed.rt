@@ -14,23 +14,23 @@ use map_tree::Chunks;
 use std::marker::{Brand, PhantomData};
 
 /// Names contents.
-pub trait Known {
+pub trait NamesContents {
     ghost known: { Contents };
 }
 
-impl Known for Brand {
+impl NamesContents for Brand {
     ghost known = { [] };
 }
 
 /// Chunks whose contents begin with those that `K` names. No others are told.
 #[derive(Drop)]
-pub struct Fixed<C: Chunks, K: Known> {
+pub struct Fixed<C: Chunks, K: NamesContents> {
     chunks: C,
     of: PhantomData<K>,
     ghost has: { take (length K.known) (C.contents chunks) ≡ K.known } by { Prim.hlevel (codes, ids_coded, Coded-set) },
 }
 
-impl<C: Chunks, K: Known> Fixed<C, K> {
+impl<C: Chunks, K: NamesContents> Fixed<C, K> {
     pub fn new(chunks: C) -> Fixed<C, K>
         requires { C.contents chunks ≡ K.known }
         ensures { result.chunks ≡ chunks }
@@ -42,7 +42,7 @@ impl<C: Chunks, K: Known> Fixed<C, K> {
     }
 }
 
-impl<C: Chunks, K: Known> Chunks for Fixed<C, K> {
+impl<C: Chunks, K: NamesContents> Chunks for Fixed<C, K> {
     type Held = C::Held;
 
     ghost contents = { λ fixed. K.known };
@@ -62,7 +62,7 @@ impl<C: Chunks, K: Known> Chunks for Fixed<C, K> {
     }
 }
 
-impl<N: Nodes, K: Known> Nodes for Fixed<N, K> {
+impl<N: Nodes, K: NamesContents> Nodes for Fixed<N, K> {
     type HeldCommit = N::HeldCommit;
 
     fn show_commit(&mut self, at: Ref) -> Result<N::HeldCommit, Stop> {

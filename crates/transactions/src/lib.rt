@@ -11,8 +11,8 @@ mod reading;
 mod staged;
 mod writing;
 
-pub use beside::{Before, Beside};
-pub use fixed::{Fixed, Known};
+pub use beside::{PreviousRows, RowDiff};
+pub use fixed::{Fixed, NamesContents};
 pub use map_tree::TakesRows;
 pub use reading::ReadTx;
 pub use staged::{HeldStaged, Staged};

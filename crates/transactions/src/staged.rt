@@ -9,7 +9,7 @@ ghost use Rattle.std.specs.Option.{option_copied};
 ghost use Rattle.group_history.specs.declared.refs.Ref.{Ref as Reference};
 ghost use Rattle.map_chunks.specs.Places.{with_nodes};
 
-use crate::fixed::{Fixed, Known};
+use crate::fixed::{Fixed, NamesContents};
 use group_history::{Chunk, Node, Ref, Stop};
 use map_tree::{Chunks, Draft, ShowsChunk};
 
@@ -34,14 +34,14 @@ impl<'a, H: ShowsChunk> ShowsChunk for HeldStaged<'a, H> {
 
 /// Shows chunks that `K` names, and those of a draft behind them. Any reference may be looked for.
 #[derive(Drop)]
-pub struct Staged<'a, C: Chunks, K: Known> {
+pub struct Staged<'a, C: Chunks, K: NamesContents> {
     chunks: Fixed<C, K>,
     draft: &'a Draft,
     ghost behind: { draft.now.first ≡ length K.known },
     ghost everywhere: { (at : Reference) → C.places chunks.chunks at } by { Π_prop (C.places_prop chunks.chunks) },
 }
 
-impl<'a, C: Chunks, K: Known> Staged<'a, C, K> {
+impl<'a, C: Chunks, K: NamesContents> Staged<'a, C, K> {
     /// The draft's first node has the stamp behind the last that `K` names.
     pub fn new(chunks: C, draft: &'a Draft) -> Staged<'a, C, K>
         requires known { C.contents chunks ≡ K.known }
@@ -64,7 +64,7 @@ impl<'a, C: Chunks, K: Known> Staged<'a, C, K> {
     }
 }
 
-impl<'a, C: Chunks, K: Known> Chunks for Staged<'a, C, K> {
+impl<'a, C: Chunks, K: NamesContents> Chunks for Staged<'a, C, K> {
     type Held = HeldStaged<'a, C::Held>;
 
     ghost contents = { λ staged. with_nodes K.known staged.draft.now.nodes };

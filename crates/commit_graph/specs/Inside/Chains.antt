@@ -2,10 +2,10 @@
 use Rattle.std.specs.Prelude.{◌≡◌, ℕ, Bool, true, false, List, [], ◌∷◌, if◌then◌else◌, slice_get, Some, None, Option}
 use Rattle.std.specs.Prelude.{IsSome}
 use Rattle.group_history.specs.declared.nodes.Commit.{Commit}
-use Rattle.group_history.specs.declared.nodes.Kind.{Kind}
-use Rattle.group_history.specs.declared.nodes.Kind.TheVariants.{Snapshot, Over}
-use Rattle.group_history.specs.declared.nodes.Step.{Step}
-use Rattle.group_history.specs.declared.nodes.Step.TheVariants.{Local, Closed}
+use Rattle.group_history.specs.declared.nodes.CommitKind.{CommitKind}
+use Rattle.group_history.specs.declared.nodes.CommitKind.TheVariants.{Snapshot, Over}
+use Rattle.group_history.specs.declared.nodes.CommitChange.{CommitChange}
+use Rattle.group_history.specs.declared.nodes.CommitChange.TheVariants.{Local, Closed}
 use Rattle.group_history.specs.declared.nodes.Snapshot.{Snapshot as Snapped}
 use Rattle.group_history.specs.declared.nodes.Node.TheVariants as node
 use Rattle.group_history.specs.declared.mutations.Mutation.{Mutation}
@@ -29,7 +29,7 @@ abbrev pub IsShownAt : (Ref → Type 0) → Contents → ℕ → Commit Ref → 
 IsShownAt places ns k c = AreAll places (commit_children c) × LiesAt ns k c
 
 -- the commit before it
-abbrev pub basis_named : Kind Ref → Option Ref
+abbrev pub basis_named : CommitKind Ref → Option Ref
 basis_named (Snapshot s) = None
 basis_named (Over o) = Some o.basis
 
@@ -37,7 +37,7 @@ abbrev pub basis_of : Commit Ref → Option Ref
 basis_of c = basis_named c.kind
 
 -- the mutation that a step adds to what is pending
-abbrev pub added_by : Step → Option Mutation
+abbrev pub added_by : CommitChange → Option Mutation
 added_by (Local x) = Some x
 added_by Closed = None
 
@@ -46,7 +46,7 @@ listed None = []
 listed (Some x) = x ∷ []
 
 -- a commit over a basis as a link of its chain
-abbrev pub link_named : Kind Ref → Option Link
+abbrev pub link_named : CommitKind Ref → Option Link
 link_named (Snapshot s) = None
 link_named (Over o) = Some (record { added = added_by o.step; basis = o.basis })
 
@@ -54,16 +54,16 @@ abbrev pub link_of : Commit Ref → Option Link
 link_of c = link_named c.kind
 
 -- whether a step closes the group
-abbrev pub closes : Step → Bool
+abbrev pub closes : CommitChange → Bool
 closes (Local x) = false
 closes Closed = true
 
 -- the snapshot of a commit's chain; a snapshot is the one of its own, by the reference at which it is shown
-abbrev pub snapshot_named : Ref → Kind Ref → Ref
+abbrev pub snapshot_named : Ref → CommitKind Ref → Ref
 snapshot_named at (Snapshot s) = at
 snapshot_named at (Over o) = o.snapshot
 
-abbrev pub closes_group : Kind Ref → Bool
+abbrev pub closes_group : CommitKind Ref → Bool
 closes_group (Snapshot s) = false
 closes_group (Over o) = closes o.step
 
@@ -73,11 +73,11 @@ top_of at c = record { root = c.root; snapshot = snapshot_named at c.kind; close
 
 -- The id that a commit alone knows of a client: a snapshot the confirmed one, a local commit its mutation's, if that is
 -- the client's.
-abbrev pub id_in : Bytes → Step → ℕ
+abbrev pub id_in : Bytes → CommitChange → ℕ
 id_in client (Local x) = if same_text x.client client then x.id else 0
 id_in client Closed = 0
 
-abbrev pub id_named : Bytes → Kind Ref → ℕ
+abbrev pub id_named : Bytes → CommitKind Ref → ℕ
 id_named client (Snapshot s) = confirmed_id s.confirmed client
 id_named client (Over o) = id_in client o.step
 
@@ -88,14 +88,14 @@ abbrev pub IsSnapshot : Commit Ref → Type 0
 IsSnapshot c = (s : Snapped) × (c.kind ≡ Snapshot s)
 
 -- what a snapshot has from the server
-abbrev pub cookie_in : Kind Ref → Cookie → Type 0
+abbrev pub cookie_in : CommitKind Ref → Cookie → Type 0
 cookie_in (Snapshot s) cookie = cookie ≡ s.cookie
 cookie_in (Over o) cookie = ⊥
 
 abbrev pub HasCookie : Commit Ref → Cookie → Type 0
 HasCookie c cookie = cookie_in c.kind cookie
 
-abbrev pub base_in : Ref → Kind Ref → Base → Type 0
+abbrev pub base_in : Ref → CommitKind Ref → Base → Type 0
 base_in root (Snapshot s) base = base ≡ record { cookie = s.cookie; confirmed = s.confirmed; pulled = root }
 base_in root (Over o) base = ⊥
 

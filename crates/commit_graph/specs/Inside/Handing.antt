@@ -2,8 +2,8 @@
 use Rattle.std.specs.Prelude.{◌≡◌, ℕ, List, [], ◌∷◌, ◌++◌, slice_get, Option, Some, None, IsSome}
 use Rattle.group_history.specs.declared.mutations.Mutation.{Mutation}
 use Rattle.group_history.specs.declared.nodes.Commit.{Commit}
-use Rattle.group_history.specs.declared.nodes.Kind.{Kind}
-use Rattle.group_history.specs.declared.nodes.Kind.TheVariants.{Snapshot, Over}
+use Rattle.group_history.specs.declared.nodes.CommitKind.{CommitKind}
+use Rattle.group_history.specs.declared.nodes.CommitKind.TheVariants.{Snapshot, Over}
 use Rattle.group_history.specs.declared.nodes.Node.TheVariants as node
 use Rattle.group_history.specs.declared.refs.Ref.{Ref}
 use Rattle.group_history.specs.Refs.{stamp_of}
@@ -11,7 +11,7 @@ use Rattle.group_history.specs.Spelling.{Contents, version_at}
 use Rattle.commit_graph.specs.Inside.Chains.{added_by, listed}
 
 -- the mutation that a commit of a kind adds to what is pending
-abbrev pub added_in : {A : Type 0} → Kind A → Option Mutation
+abbrev pub added_in : {A : Type 0} → CommitKind A → Option Mutation
 added_in (Snapshot s) = None
 added_in (Over o) = added_by o.step
 

@@ -12,23 +12,23 @@ use Rattle.group_history.specs.Rows.{Rows, keys_of, values_of}
 use Rattle.group_history.specs.Spelling.{Contents}
 use Rattle.map_chunks.specs.Search.{IsPlace}
 use Rattle.map_chunks.specs.Shown.{chunk_rows, IsTree, rows_or}
-use Rattle.map_chunks.specs.declared.looks.Step.{Step}
-use Rattle.map_chunks.specs.declared.looks.Step.TheVariants.{Found, Below}
+use Rattle.map_chunks.specs.declared.looks.Descent.{Descent}
+use Rattle.map_chunks.specs.declared.looks.Descent.TheVariants.{Found, Below}
 
 -- a leaf has the key's value, and an inner chunk the child to which it belongs
-abbrev pub IsStep : Chunk Ref → Bytes → Step → Type 0
+abbrev pub IsStep : Chunk Ref → Bytes → Descent → Type 0
 IsStep (Leaf rows) key (Found v) = v ≡ finite.find (slice_cmp nat_cmp) key rows
 IsStep (Leaf rows) key (Below at) = ⊥
 IsStep (Inner kids) key (Found v) = length kids ≡ 0
 IsStep (Inner kids) key (Below at) = (i : ℕ) × IsPlace key (keys_of kids) i × (slice_get (values_of kids) i ≡ Some at)
 
 -- the child to which the key belongs has the property
-abbrev pub IsStepAt : (Ref → Type 0) → Step → Type 0
+abbrev pub IsStepAt : (Ref → Type 0) → Descent → Type 0
 IsStepAt places (Found v) = Unit {0}
 IsStepAt places (Below at) = places at
 
 -- from the chunk of a stamp, with these rows: the key's value is found, or is that of a chunk placed before it
-abbrev pub Leads : Contents → Bytes → ℕ → Rows → Step → Type 0
+abbrev pub Leads : Contents → Bytes → ℕ → Rows → Descent → Type 0
 Leads contents key stamp rows (Found v) = v ≡ finite.find (slice_cmp nat_cmp) key rows
 Leads contents key stamp rows (Below at) = (stamp_of at < stamp) × IsTree (chunk_rows contents (stamp_of at))
     × (finite.find (slice_cmp nat_cmp) key (rows_or (chunk_rows contents (stamp_of at)))

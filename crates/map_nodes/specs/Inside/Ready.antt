@@ -6,17 +6,17 @@ use Rattle.map_nodes.specs.Nodes.{AllKids}
 use Rattle.map_nodes.specs.Inside.Halves.{AreNinth, IsHalf, with_half}
 use Rattle.map_nodes.specs.declared.nodes.OwnChild.{OwnChild}
 use Rattle.map_nodes.specs.declared.nodes.putting.Half.{Half}
-use Rattle.map_nodes.specs.declared.nodes.putting.splits.HalfRoom.{HalfRoom}
+use Rattle.map_nodes.specs.declared.nodes.putting.splits.SplitBuffers.{SplitBuffers}
 
 -- room for the upper half of a chunk with so many entries, where it is full
-pub record HasRoom {A : Type 0} (entries : ℕ) (room : HalfRoom A) : Type 0 where
+pub record HasRoom {A : Type 0} (entries : ℕ) (room : SplitBuffers A) : Type 0 where
   pub empty : (room.spare.keys.items ≡ []) × (room.spare.entries.items ≡ [])
   pub spare : 16 ≤ entries → (17 ≤ vec_capacity room.spare.keys) × (17 ≤ vec_capacity room.spare.entries)
   pub home : 16 ≤ entries → IsSome room.home
 
 -- Its keys have room, and where it is full there is room for an upper half of its own, with so many copies of that
 -- half's first key.
-abbrev pub IsReady : ℕ → List Bytes → ℕ → ℕ → Bytes → HalfRoom OwnChild → Type 0
+abbrev pub IsReady : ℕ → List Bytes → ℕ → ℕ → Bytes → SplitBuffers OwnChild → Type 0
 IsReady copies keys free place key room = (0 < free) × AreNinth copies keys (place + 1) key room.firsts.items
     × HasRoom (length keys) room
 

@@ -20,32 +20,32 @@ use Rattle.map_chunks.specs.SecondKeys.{second_key}
 use Rattle.map_chunks.specs.Shown.{shown, chunk_rows, rows_or, IsTree}
 use Rattle.map_nodes.specs.declared.nodes.Body.TheVariants.{Inner}
 use Rattle.map_nodes.specs.declared.nodes.OwnChild.{OwnChild}
-use Rattle.map_nodes.specs.declared.nodes.removing.Fate.{Fate}
-use Rattle.map_nodes.specs.declared.nodes.removing.Fate.TheVariants.{Leaves, Stays}
-use Rattle.map_nodes.specs.declared.nodes.removing.Heir.{Heir}
-use Rattle.map_nodes.specs.declared.nodes.removing.Heir.TheVariants as heir
+use Rattle.map_nodes.specs.declared.nodes.removing.ChildAfter.{ChildAfter}
+use Rattle.map_nodes.specs.declared.nodes.removing.ChildAfter.TheVariants.{Leaves, Stays}
+use Rattle.map_nodes.specs.declared.nodes.removing.NewRoot.{NewRoot}
+use Rattle.map_nodes.specs.declared.nodes.removing.NewRoot.TheVariants as heir
 use Rattle.map_chunks.specs.Wide.{IsWideAt, IsWideChunk}
 use Rattle.map_nodes.specs.Removing.{without}
 
 -- A child with these rows, under its first key, leaves where its one row has the key. Else it stays: under its second
 -- key where its first row has the key, and under the key that it has where another row or none has it.
-abbrev pub IsFate : Bytes → Bytes → Rows → Fate → Type 0
+abbrev pub IsFate : Bytes → Bytes → Rows → ChildAfter → Type 0
 IsFate key first rows Leaves = (first ≡ key) × (second_key rows ≡ None)
 IsFate key first rows (Stays None) = same_text first key ≡ false
 IsFate key first rows (Stays (Some next)) = (first ≡ key) × (second_key rows ≡ Some next)
 
 -- a child that leaves has others beside it
-abbrev pub HasOthers : Fate → ℕ → Type 0
+abbrev pub HasOthers : ChildAfter → ℕ → Type 0
 HasOthers Leaves entries = 1 < entries
 HasOthers (Stays first) entries = Unit {0}
 
 -- how many children there are then
-abbrev pub AreLeft : Fate → ℕ → ℕ → Type 0
+abbrev pub AreLeft : ChildAfter → ℕ → ℕ → Type 0
 AreLeft Leaves old new = new + 1 ≡ old
 AreLeft (Stays first) old new = new ≡ old
 
 -- whether fewer than two children stay
-abbrev pub gives_way : Fate → ℕ → Bool
+abbrev pub gives_way : ChildAfter → ℕ → Bool
 gives_way Leaves entries = nat_le entries 2
 gives_way (Stays first) entries = false
 
@@ -57,7 +57,7 @@ CanRemove contents below key c = IsTree (child_rows contents below c) × HasDept
 -- a chunk with these keys and children shows rows in order, and the key belongs to the child at this place, which has
 -- this fate
 pub record CanRemoveAt (contents : Contents) (depth : ℕ) (keys : List Bytes) (kids : Vec OwnChild Global) (key : Bytes)
-    (at : ℕ) (what : Fate) : Type 0 where
+    (at : ℕ) (what : ChildAfter) : Type 0 where
   pub node : IsNode depth keys (Inner kids)
   pub tree : IsTree (shown contents (body_pieces depth keys (Inner kids)))
   pub place : IsPlace key keys at
@@ -70,41 +70,41 @@ one_shown contents [] = Some []
 one_shown contents (c ∷ cs) = kid_shown contents c
 
 -- what stands in the place of a root with at most this one child: it shows what the child shows, and is wide
-abbrev pub IsHeir : Contents → Contents → List OwnChild → Heir → Type 0
+abbrev pub IsHeir : Contents → Contents → List OwnChild → NewRoot → Type 0
 IsHeir old new kids (heir.Placed at) = IsEnd new (one_shown old kids) at
 IsHeir old new kids (heir.Own n) = (shown new n.pieces ≡ one_shown old kids) × IsWideChunk n
     × (n.fresh ≤ kids_fresh kids + 1)
 
 -- a placed heir changes no child
-abbrev pub KeptBy : List OwnChild → List OwnChild → Heir → Type 0
+abbrev pub KeptBy : List OwnChild → List OwnChild → NewRoot → Type 0
 KeptBy old new (heir.Placed at) = new ≡ old
 KeptBy old new (heir.Own n) = Unit {0}
 
 -- the placed chunk that stands in a root's place, or those that the draft's own names
-abbrev pub heir_places : Heir → List Ref
+abbrev pub heir_places : NewRoot → List Ref
 heir_places (heir.Placed at) = at ∷ []
 heir_places (heir.Own n) = places_of n.pieces
 
 -- what an inner root shows once a key is removed: what its heir shows, if it has one, else its children
-abbrev pub left_rows : Contents → ℕ → List Bytes → List OwnChild → Option Heir → Option Rows
+abbrev pub left_rows : Contents → ℕ → List Bytes → List OwnChild → Option NewRoot → Option Rows
 left_rows contents depth keys kids None = shown contents (kids_pieces (depth - 1) (paired keys kids))
 left_rows contents depth keys kids (Some (heir.Placed at)) = chunk_rows contents (stamp_of at)
 left_rows contents depth keys kids (Some (heir.Own n)) = shown contents n.pieces
 
 -- how many own chunks it is then
-abbrev pub left_fresh : List OwnChild → Option Heir → ℕ
+abbrev pub left_fresh : List OwnChild → Option NewRoot → ℕ
 left_fresh kids None = kids_fresh kids + 1
 left_fresh kids (Some (heir.Placed at)) = kids_fresh kids + 1
 left_fresh kids (Some (heir.Own n)) = n.fresh
 
 -- an heir is wide, and a root that has none stays so
-abbrev pub IsWideLeft : Contents → ℕ → ℕ → Option Heir → Type 0
+abbrev pub IsWideLeft : Contents → ℕ → ℕ → Option NewRoot → Type 0
 IsWideLeft contents old new None = 1 < old → 1 < new
 IsWideLeft contents old new (Some (heir.Placed at)) = IsWideAt contents (stamp_of at)
 IsWideLeft contents old new (Some (heir.Own n)) = IsWideChunk n
 
 -- the placed chunks that are named then
-abbrev pub left_places : List OwnChild → Option Heir → List Ref
+abbrev pub left_places : List OwnChild → Option NewRoot → List Ref
 left_places kids None = kids_places kids
 left_places kids (Some h) = heir_places h
 
@@ -119,10 +119,10 @@ IsFirstAt contents below [] = Unit {0}
 IsFirstAt contents below (c ∷ cs) = HasDepth below c × IsSome (child_rows contents below c)
 
 -- what stands in a root's place is at most so deep
-abbrev pub IsLowHeir : Contents → ℕ → Heir → Type 0
+abbrev pub IsLowHeir : Contents → ℕ → NewRoot → Type 0
 IsLowHeir contents depth (heir.Placed at) = IsNoDeeper contents depth at
 IsLowHeir contents depth (heir.Own n) = n.depth ≤ depth
 
-abbrev pub IfLowHeir : Contents → ℕ → Option Heir → Type 0
+abbrev pub IfLowHeir : Contents → ℕ → Option NewRoot → Type 0
 IfLowHeir contents depth None = Unit {0}
 IfLowHeir contents depth (Some h) = IsLowHeir contents depth h

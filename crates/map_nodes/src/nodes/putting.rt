@@ -7,7 +7,7 @@
 //! each chunk above.
 ghost use Rattle.std.specs.Prelude.{◌≡◌};
 ghost use Rattle.group_history.specs.declared.mutators.Stop.TheVariants.{NoMemory};
-ghost use Rattle.map_nodes.specs.declared.nodes.putting.Unput.TheVariants.{Stopped};
+ghost use Rattle.map_nodes.specs.declared.nodes.putting.PutRefused.TheVariants.{Stopped};
 
 mod below;
 mod leaves;
@@ -40,24 +40,24 @@ pub(crate) struct Half {
 
 /// Why a row isn't put.
 #[derive(Drop)]
-pub(crate) enum Unput {
+pub(crate) enum PutRefused {
     Stopped(Stop),
     /// The chunk would be split, and may not be.
     Full,
 }
 
-impl From<AllocError> for Unput {
+impl From<AllocError> for PutRefused {
     ghost from_gives = { λ _ e. e ≡ Stopped NoMemory };
 
-    fn from(_refused: AllocError) -> Unput {
-        Unput::Stopped(Stop::NoMemory)
+    fn from(_refused: AllocError) -> PutRefused {
+        PutRefused::Stopped(Stop::NoMemory)
     }
 }
 
-impl From<Stop> for Unput {
+impl From<Stop> for PutRefused {
     ghost from_gives = { λ stop e. e ≡ Stopped stop };
 
-    fn from(stop: Stop) -> Unput {
-        Unput::Stopped(stop)
+    fn from(stop: Stop) -> PutRefused {
+        PutRefused::Stopped(stop)
     }
 }

@@ -13,7 +13,7 @@ ghost use Rattle.map_chunks.specs.Shown.{shown, IsTree, rows_or};
 use super::{Body, OwnChild, OwnNode};
 use group_history::{Json, Stop};
 use map_chunks::Chunks;
-use map_chunks::looks::Standing;
+use map_chunks::looks::Comparison;
 use map_chunks::placed::get_placed;
 use map_chunks::search::{place_of, standing_at, value_at};
 use map_chunks::seeking::seek_placed;
@@ -46,7 +46,7 @@ impl OwnNode {
         chunks: &mut C,
         key: &str,
         asked: Option<&Json>,
-    ) -> Result<Standing, Stop>
+    ) -> Result<Comparison, Stop>
         requires places { AreAll (C.places chunks.old) (places_of self.now.pieces) }
         requires tree { IsTree (shown (C.contents chunks.old) self.now.pieces) }
         ensures grown { Grows C.contents C.places chunks.old chunks.new }

@@ -14,7 +14,7 @@ use group_history::{Ref, Text};
 
 /// What becomes of the child to which a key belongs, once the key is removed.
 #[derive(Drop)]
-enum Fate {
+enum ChildAfter {
     /// Its only row had the key.
     Leaves,
     /// It has other rows. Its first key is another one then, if there is one here.
@@ -26,12 +26,12 @@ enum Fate {
 struct Removal<'a> {
     key: &'a str,
     place: usize,
-    fate: Fate,
+    fate: ChildAfter,
 }
 
 /// What stands in the place of a root with fewer than two children.
 #[derive(Drop)]
-enum Heir {
+enum NewRoot {
     Placed(Ref),
     Own(OwnNode),
 }

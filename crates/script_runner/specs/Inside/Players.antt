@@ -10,13 +10,13 @@ use Rattle.script_runner.specs.declared.client.ScriptClient.{ScriptClient}
 use Rattle.script_runner.specs.declared.phase.Turn.{Turn}
 use Rattle.script_runner.specs.declared.plain.PlainClient.{PlainClient}
 use Rattle.script_runner.specs.declared.reply.Printed.{Printed}
-use Rattle.script_runner.specs.Callers.{IsOfSameGroup, Standing, plain_standing}
+use Rattle.script_runner.specs.Callers.{IsOfSameGroup, ClientState, plain_standing}
 use Rattle.script_runner.specs.Commanding.{Player}
 use Rattle.script_runner.specs.Runs.{HasSeenOpening, IsNew}
 use Rattle.script_runner.specs.Inside.Printing.{reply_text}
 
 -- a client of a shared group
-abbrev pub standing_of : {M : Type 0} → SharedClient M → Standing
+abbrev pub standing_of : {M : Type 0} → SharedClient M → ClientState
 standing_of c = record {
   caller = caller_of c.client;
   mark = c.client.seat.mark;
@@ -24,21 +24,21 @@ standing_of c = record {
 }
 
 -- a client of a plain group
-abbrev pub standing_of_plain : PlainClient → Standing
+abbrev pub standing_of_plain : PlainClient → ClientState
 standing_of_plain c = plain_standing c.id c.last c.watches
 
-abbrev pub player_of : {C : Type 0} → (C → Standing) → ScriptClient C → Player
+abbrev pub player_of : {C : Type 0} → (C → ClientState) → ScriptClient C → Player
 player_of stands c = record { name = c.name; standing = stands c.caller; tickets = c.tickets }
 
-abbrev pub players_of : {C : Type 0} → (C → Standing) → List (Turn C) → List Player
+abbrev pub players_of : {C : Type 0} → (C → ClientState) → List (Turn C) → List Player
 players_of stands turns = map (λ t. player_of stands t.client) turns
 
 -- it is the same client, by its name, and of the same group
-abbrev pub IsSamePlayer : {C : Type 0} → (C → Standing) → ScriptClient C → ScriptClient C → Type 0
+abbrev pub IsSamePlayer : {C : Type 0} → (C → ClientState) → ScriptClient C → ScriptClient C → Type 0
 IsSamePlayer stands old new = (new.name ≡ old.name) × IsOfSameGroup (stands old.caller) (stands new.caller)
 
 -- what a call of a client printed, by this rule, and how it left the client
-abbrev pub Prints : {C : Type 0} → (C → Standing) → (Player → Bytes → Player → Type 0) → ScriptClient C → Printed
+abbrev pub Prints : {C : Type 0} → (C → ClientState) → (Player → Bytes → Player → Type 0) → ScriptClient C → Printed
     → ScriptClient C → Type 0
 Prints stands rule old reply new = rule (player_of stands old) (reply_text reply) (player_of stands new)
 

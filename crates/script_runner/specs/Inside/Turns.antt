@@ -9,7 +9,7 @@ use Rattle.head_word.specs.Marks.{Known}
 use Rattle.script_runner.specs.declared.client.ScriptClient.{ScriptClient}
 use Rattle.script_runner.specs.declared.phase.Turn.{Turn}
 use Rattle.script_parser.specs.declared.script.Command.{Command}
-use Rattle.script_runner.specs.Callers.{IsOfSameGroup, Rules, Standing}
+use Rattle.script_runner.specs.Callers.{IsOfSameGroup, Rules, ClientState}
 use Rattle.script_runner.specs.Commanding.{MayPrint, Player}
 use Rattle.script_parser.specs.Context.{Lines}
 use Rattle.script_runner.specs.Phases.{AreTold}
@@ -29,15 +29,15 @@ abbrev pub texts_of : {C : Type 0} → List (Turn C) → List Bytes
 texts_of turns = map (λ t. printed_text t.printed) turns
 
 -- all clients are of one group
-abbrev pub AreOf : {C : Type 0} → (C → Standing) → Book → List (Turn C) → Type 0
+abbrev pub AreOf : {C : Type 0} → (C → ClientState) → Book → List (Turn C) → Type 0
 AreOf stands book turns = All (λ t. (stands t.client.caller).mark.book ≡ book) turns
 
 -- of some one
-abbrev pub AreOfOneGroup : {C : Type 0} → (C → Standing) → List (Turn C) → Type 0
+abbrev pub AreOfOneGroup : {C : Type 0} → (C → ClientState) → List (Turn C) → Type 0
 AreOfOneGroup stands turns = (book : Book) × AreOf stands book turns
 
 -- of the group that they were of
-abbrev pub StayInGroup : {C : Type 0} → (C → Standing) → List (Turn C) → List (Turn C) → Type 0
+abbrev pub StayInGroup : {C : Type 0} → (C → ClientState) → List (Turn C) → List (Turn C) → Type 0
 StayInGroup stands old new = (book : Book) → AreOf stands book old → AreOf stands book new
 
 module _ (law : Rules) where
@@ -50,7 +50,8 @@ module _ (law : Rules) where
     pub text : new ≡ old ++ line_text l.0 before.name told
 
   -- a client's part of a phase, where memory wasn't refused
-  pub record IsTurn {C : Type 0} (stands : C → Standing) (sights : List Known) (lines : Lines) (before : ScriptClient C)
+  pub record IsTurn {C : Type 0} (stands : C → ClientState) (sights : List Known) (lines : Lines)
+      (before : ScriptClient C)
       (after : Turn C) : Type 0 where
     pub told : IfOk after.printed (λ text. AreTold law sights (player_of stands before) lines text.items
         (player_of stands after.client))

@@ -9,8 +9,8 @@ ghost use Rattle.group_history.specs.Naming.{children, content_of};
 ghost use Rattle.group_history.specs.Rows.{AreKeys};
 ghost use Rattle.group_history.specs.Spelling.{Version, version_at};
 ghost use Rattle.group_history.specs.declared.nodes.Chunk.TheVariants as chunk;
-ghost use Rattle.group_history.specs.declared.nodes.Kind.TheVariants as kind;
-ghost use Rattle.group_history.specs.declared.nodes.Step.TheVariants as step;
+ghost use Rattle.group_history.specs.declared.nodes.CommitKind.TheVariants as kind;
+ghost use Rattle.group_history.specs.declared.nodes.CommitChange.TheVariants as step;
 ghost use Rattle.group_history.specs.declared.nodes.Node.TheVariants as node;
 ghost use Rattle.group_history.specs.declared.nodes.Snapshot.{Snapshot as Snapped};
 ghost use Rattle.group_history.specs.declared.mutations.Mutation.{Mutation as Mutated};
@@ -22,8 +22,8 @@ use commit_graph::{
     read_root, state_of, walk,
 };
 use group_history::{
-    BoxedCommit, Chunk, Commit, ConfirmedIds, Cookie, Inner, Json, Keys, Kind, Leaf, Mutation,
-    Node, Over, Ref, Refusal, Snapshot, Step, Text, TextMap,
+    BoxedCommit, Chunk, Commit, CommitChange, CommitKind, ConfirmedIds, Cookie, Inner, Json, Keys,
+    Leaf, Mutation, Node, Ref, Refusal, Snapshot, Successor, Text, TextMap,
 };
 use std::alloc::{AllocError, Global};
 use std::prelude::*;
@@ -92,7 +92,7 @@ fn with_snapshot(alloc: Global, nodes: VecNodes, id: u64, root: Ref) -> Result<V
     ensures { IfOk result (λ after. (s : Snapped) × (s.confirmed ≡ finite.insert finite.empty (97 ∷ []) id)
         × (after ≡ nodes ++ node.Commit (record { root = root; kind = kind.Snapshot s }) ∷ [])) }
 {
-    let kind = Kind::Snapshot(snapshot(alloc, id)?);
+    let kind = CommitKind::Snapshot(snapshot(alloc, id)?);
     let commit = BoxedCommit::new(alloc, Commit { root, kind })?;
     let after = with(alloc, nodes, Node::Commit(commit))?;
     Ok(after)
@@ -113,7 +113,7 @@ fn with_over(
     nodes: VecNodes,
     basis: Ref,
     root: Ref,
-    step: Step,
+    step: CommitChange,
 ) -> Result<VecNodes, Refusal>
     requires { (stamp_of basis < length nodes) × (stamp_of root < length nodes) × (3 < length nodes) }
     ensures { IfOk result (λ after. (r : Reference) × (stamp_of r ≡ 3)
@@ -123,12 +123,12 @@ fn with_over(
         }) ∷ [])) }
 {
     let snapshot = at(3);
-    let over = Over {
+    let over = Successor {
         basis,
         snapshot,
         step,
     };
-    let kind = Kind::Over(over);
+    let kind = CommitKind::Over(over);
     let commit = BoxedCommit::new(alloc, Commit { root, kind })?;
     let after = with(alloc, nodes, Node::Commit(commit))?;
     Ok(after)
@@ -151,7 +151,7 @@ fn with_local(
         }) ∷ [])) }
 {
     let mutation = mutation(alloc, made.0, made.1)?;
-    let after = with_over(alloc, nodes, basis, root, Step::Local(mutation))?;
+    let after = with_over(alloc, nodes, basis, root, CommitChange::Local(mutation))?;
     Ok(after)
 }
 
@@ -185,7 +185,7 @@ pub(super) fn example(alloc: Global) -> Result<VecNodes, Refusal>
     let nodes = with_local(alloc, nodes, ("b", 1), at(4), at(2))?;
     let nodes = with_local(alloc, nodes, ("a", 6), at(5), at(1))?;
     let nodes = with_snapshot(alloc, nodes, 6, at(0))?;
-    let nodes = with_over(alloc, nodes, at(6), at(1), Step::Closed)?;
+    let nodes = with_over(alloc, nodes, at(6), at(1), CommitChange::Closed)?;
     Ok(nodes)
 }
 

@@ -12,7 +12,7 @@ use map_tree::{Chunks, Draft, Shelf, TakesRows, Tree, VecChunks};
 use std::alloc::{AllocError, Global};
 use std::marker::Brand;
 use std::prelude::*;
-use transactions::{Known, Staged};
+use transactions::{NamesContents, Staged};
 
 /// The numbers of the keys of rows, one after another.
 #[derive(Drop)]
@@ -64,7 +64,7 @@ fn of_placed(alloc: Global, scan: &Scan) -> Result<String, Refusal> {
 }
 
 /// The scan in a map of the draft.
-fn of_staged<'a, C: Chunks + Copy, K: Known>(
+fn of_staged<'a, C: Chunks + Copy, K: NamesContents>(
     alloc: Global,
     chunks: C,
     draft: &'a Draft,

@@ -1,7 +1,7 @@
 //! Of the stores: that calls succeed, and which slots they find.
-use chunk_slots::{Append, Arena, Missed, Placed, Store};
+use chunk_slots::{Append, Arena, Placed, Store, StoreStop};
 use counted_slot::Counted;
-use group_history::{Commit, Kind, Node, Ref, Refusal};
+use group_history::{Commit, CommitKind, Node, Ref, Refusal};
 use std::alloc::Global;
 use std::mem::size_of;
 use test_group::{Nobody, Place, next_place, opened_store, shows};
@@ -13,13 +13,13 @@ const _: () = prove!(size_of::<Node<Ref>>() == 48);
 
 fn snapshot_root(commit: &Commit<Ref>) -> Option<Ref> {
     match &commit.kind {
-        Kind::Snapshot(_) => Some(commit.root),
-        Kind::Over(_) => None,
+        CommitKind::Snapshot(_) => Some(commit.root),
+        CommitKind::Over(_) => None,
     }
 }
 
 // The root of the snapshot that is shown.
-fn shows_root<S: Store<Nobody>>(store: &S, at: Ref) -> Result<Option<Ref>, Missed> {
+fn shows_root<S: Store<Nobody>>(store: &S, at: Ref) -> Result<Option<Ref>, StoreStop> {
     let shown = store.show(at.slot(), at.stamp(), 100)?;
     let root = match shown.value() {
         Node::Commit(commit) => snapshot_root(commit.as_commit()),
@@ -34,7 +34,7 @@ fn shows_root<S: Store<Nobody>>(store: &S, at: Ref) -> Result<Option<Ref>, Misse
 struct Opening {
     leaf: Ref,
     snapshot: Ref,
-    shows: [Result<bool, Missed>; 6],
+    shows: [Result<bool, StoreStop>; 6],
 }
 
 fn look_around<S: Store<Nobody>>(place: &mut Place<'_, S>) -> Result<Opening, Refusal>
@@ -61,13 +61,13 @@ where
     })
 }
 
-const SHOWN_AT_FIRST: [Result<bool, Missed>; 6] = [
+const SHOWN_AT_FIRST: [Result<bool, StoreStop>; 6] = [
     Ok(true),
-    Err(Missed::Gone),
+    Err(StoreStop::Gone),
     Ok(false),
-    Err(Missed::Gone),
-    Err(Missed::Gone),
-    Err(Missed::Gone),
+    Err(StoreStop::Gone),
+    Err(StoreStop::Gone),
+    Err(StoreStop::Gone),
 ];
 
 // Whether a copy of the mark learns what is shown.
@@ -90,11 +90,11 @@ where
 #[derive(Clone, Copy)]
 struct Life {
     at: Ref,
-    shown: [Result<bool, Missed>; 2],
+    shown: [Result<bool, StoreStop>; 2],
     learnt: bool,
     pinned: bool,
     retired: bool,
-    still: Result<bool, Missed>,
+    still: Result<bool, StoreStop>,
 }
 
 fn life_of<S: Store<Nobody>>(place: &mut Place<'_, S>, alloc: Global) -> Result<Life, Refusal>
@@ -140,7 +140,7 @@ where
 // the placed one is shown once it is retired under a pin.
 fn shows_each(opening: &Opening, life: &Life) -> bool {
     opening.shows == SHOWN_AT_FIRST
-        && life.shown == [Ok(true), Err(Missed::Gone)]
+        && life.shown == [Ok(true), Err(StoreStop::Gone)]
         && life.learnt
         && life.pinned
         && life.still == Ok(true)
@@ -168,10 +168,10 @@ fn a_vector_shows_what_it_has(rt: HostRuntime) -> Result<(), Refusal> {
 #[derive(Clone, Copy)]
 struct Reuse {
     lost: Option<Refusal>,
-    still: Result<bool, Missed>,
+    still: Result<bool, StoreStop>,
     same: bool,
-    old: Result<bool, Missed>,
-    new: Result<bool, Missed>,
+    old: Result<bool, StoreStop>,
+    new: Result<bool, StoreStop>,
 }
 
 // Retires the slot under a reader: what a place there answers, and whether the reader's node is still shown.
@@ -179,7 +179,7 @@ fn retires_under_reader<S: Store<Nobody>>(
     place: &mut Place<'_, S>,
     alloc: Global,
     at: Ref,
-) -> Result<(Option<Refusal>, Result<bool, Missed>), Refusal>
+) -> Result<(Option<Refusal>, Result<bool, StoreStop>), Refusal>
 where
     S::Seat: Drop,
 {
@@ -227,6 +227,6 @@ fn a_slot_used_again_shows_the_new_stamp_alone(rt: HostRuntime) -> Result<(), Re
     let seen = reuse_in_new::<Arena<Nobody>>(rt.alloc(), ())?;
     let memory = seen.lost == Some(Refusal::NoMemory);
     assert!(rt; memory || seen.lost == Some(Refusal::Busy) && seen.still == Ok(true));
-    assert!(rt; memory || seen.same && seen.old == Err(Missed::Gone) && seen.new == Ok(true));
+    assert!(rt; memory || seen.same && seen.old == Err(StoreStop::Gone) && seen.new == Ok(true));
     Ok(())
 }

@@ -13,7 +13,7 @@ use map_tree::{Chunks, Draft, Shelf, Tree, VecChunks};
 use std::alloc::Global;
 use std::marker::Brand;
 use std::prelude::*;
-use transactions::{Known, Staged};
+use transactions::{NamesContents, Staged};
 
 /// How many leaves there are, how many inner chunks, and how many keys the first two leaves have.
 type Kinds = (usize, usize, [usize; 2]);
@@ -249,7 +249,7 @@ fn changed_in<C: Chunks>(
 }
 
 /// The same of a map of the draft.
-fn changed_staged<'a, C: Chunks + Copy, K: Known>(
+fn changed_staged<'a, C: Chunks + Copy, K: NamesContents>(
     alloc: Global,
     chunks: C,
     draft: &'a Draft,

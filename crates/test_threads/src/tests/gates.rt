@@ -1,5 +1,5 @@
 //! A gate for two threads: one of them comes to a certain moment, lets the other one go, and waits for it.
-use chunk_slots::{Step, Steps};
+use chunk_slots::{Steps, StoreCall};
 use std::sync::atomic::AtomicU64;
 use std::sync::atomic::Ordering::SeqCst;
 
@@ -26,7 +26,7 @@ pub(super) enum Side {
 #[derive(Clone, Copy, PartialEq, Eq)]
 pub(super) struct Moment {
     pub(super) seat: usize,
-    pub(super) step: Step,
+    pub(super) step: StoreCall,
     pub(super) side: Side,
 }
 
@@ -108,7 +108,7 @@ impl Turns<'_> {
         }
     }
 
-    fn reaches(&self, seat: usize, step: Step, side: Side) {
+    fn reaches(&self, seat: usize, step: StoreCall, side: Side) {
         let moment = Moment { seat, step, side };
         for (hold, moments) in self.holds.iter().zip(self.moments.iter()) {
             self.holds_at(hold, moments, moment);
@@ -117,11 +117,11 @@ impl Turns<'_> {
 }
 
 impl Steps for &Turns<'_> {
-    fn before(&self, seat: usize, step: Step) {
+    fn before(&self, seat: usize, step: StoreCall) {
         self.reaches(seat, step, Side::Before);
     }
 
-    fn after(&self, seat: usize, step: Step) {
+    fn after(&self, seat: usize, step: StoreCall) {
         self.reaches(seat, step, Side::After);
     }
 }

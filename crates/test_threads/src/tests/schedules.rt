@@ -4,7 +4,7 @@
 //! answer.
 
 use super::gates::{Hold, Moment, Side, Turns, Word};
-use chunk_slots::{Arena, Gated, Step, Store};
+use chunk_slots::{Arena, Gated, Store, StoreCall};
 use group_history::{Ended, Refusal};
 use rebase::Client;
 use script_mutators::ScriptMutators;
@@ -291,7 +291,7 @@ const REST: Deed = (0, Act::Rests);
 const NEVER: Hold = Hold {
     moment: Moment {
         seat: 0,
-        step: Step::Place,
+        step: StoreCall::Place,
         side: Side::Before,
     },
     every: 1,
@@ -308,7 +308,7 @@ static LOST: Schedule = Schedule {
         Hold {
             moment: Moment {
                 seat: 0,
-                step: Step::Place,
+                step: StoreCall::Place,
                 side: Side::After,
             },
             every: 2,
@@ -337,7 +337,7 @@ static KEPT: Schedule = Schedule {
         Hold {
             moment: Moment {
                 seat: 2,
-                step: Step::Settle,
+                step: StoreCall::Settle,
                 side: Side::Before,
             },
             every: 4,
@@ -369,7 +369,7 @@ static DROPPED: Schedule = Schedule {
         Hold {
             moment: Moment {
                 seat: 2,
-                step: Step::Raise,
+                step: StoreCall::Raise,
                 side: Side::After,
             },
             every: 2,
@@ -403,7 +403,7 @@ static RELAYED: Schedule = Schedule {
         Hold {
             moment: Moment {
                 seat: 1,
-                step: Step::Raise,
+                step: StoreCall::Raise,
                 side: Side::Before,
             },
             every: 2,
@@ -414,7 +414,7 @@ static RELAYED: Schedule = Schedule {
         Hold {
             moment: Moment {
                 seat: 2,
-                step: Step::Settle,
+                step: StoreCall::Settle,
                 side: Side::Before,
             },
             every: 2,

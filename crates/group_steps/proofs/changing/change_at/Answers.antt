@@ -10,7 +10,7 @@ use Rattle.answered.specs.Trying.{IsBase, IsUnproposed, IsWon}
 use Rattle.publishing.specs.Retiring.{none}
 use Rattle.group_steps.specs.Missing.{IsStop}
 use Rattle.group_steps.specs.Places.{Place, state_at}
-use Rattle.group_steps.specs.Proposing.{Leads, Proposes, asked_reply, change_asked}
+use Rattle.group_steps.specs.Proposing.{IsProposalFor, MayPropose, asked_reply, change_asked}
 use Rattle.group_steps.proofs.Giving.{cause_unproposed}
 use Rattle.group_steps.proofs.Trying.{has_last}
 use Rattle.group_steps.proofs.changing.change_at.Goals as goal
@@ -20,15 +20,15 @@ move_head-requires-clause-leads g c κs within =
     let means = g.M.Means.means in let mark = c.args.seat.now.mark in let p = c.in-Ok-Some.proposal in
     let change = c.args.request.now.change.now in let last = c.args.request.now.before.id in
     let s = after (record_of c.args.arrival.now.seen.log) in let at = c.new-at.result in
-    let leads = (subst (λ (q : Place). Proposes means (drawn q.mark.log) q.commit (state_at q) last change (Some p))
-    c.new-at.ensures.place (subst (Proposes means (drawn at.mark.log) at.commit (state_at at) last change)
+    let leads = (subst (λ (q : Place). MayPropose means (drawn q.mark.log) q.commit (state_at q) last change (Some p))
+    c.new-at.ensures.place (subst (MayPropose means (drawn at.mark.log) at.commit (state_at at) last change)
     c.in-Ok-Some.field-0-is c.in-Ok-Some.ensures.proposed)).1 in
     record {
       log = c.args.arrival.now.seen.log;
       seen = c.requires.since;
       stood = leads.begins ∙ c.requires.stood;
       base = subst (λ (b : Ref). IsBase means mark b s) (sym leads.begins) c.requires.base;
-      leads = subst (λ (b : Ref). Leads means (drawn mark.log) b s change p) (sym leads.begins) leads;
+      leads = subst (λ (b : Ref). IsProposalFor means (drawn mark.log) b s change p) (sym leads.begins) leads;
     }
 
 pub returns-in-Ok-Some-move_head-clause-tried : goal.returns-in-Ok-Some-move_head-clause-tried
@@ -37,8 +37,9 @@ returns-in-Ok-Some-move_head-clause-tried g c =
     let p = c.in-Ok-Some.proposal in let change = c.args.request.now.change.now in
     let before = c.args.request.now.before in let s = after (record_of c.args.arrival.now.seen.log) in
     let at = c.new-at.result in
-    let proposed = subst (λ (q : Place). Proposes means (drawn q.mark.log) q.commit (state_at q) before.id change (Some p))
-    c.new-at.ensures.place (subst (Proposes means (drawn at.mark.log) at.commit (state_at at) before.id change)
+    let proposed = subst (λ (q : Place). MayPropose means (drawn q.mark.log) q.commit (state_at q) before.id change
+    (Some p))
+    c.new-at.ensures.place (subst (MayPropose means (drawn at.mark.log) at.commit (state_at at) before.id change)
     c.in-Ok-Some.field-0-is c.in-Ok-Some.ensures.proposed) in
     let base = subst (λ (b : Ref). IsBase means old b s) (sym proposed.1.begins) c.requires.base in
     let won = subst (λ o. IfSome o (λ (at : Ref). IsWon means old new change s

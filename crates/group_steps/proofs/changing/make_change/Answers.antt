@@ -7,7 +7,7 @@ use Rattle.publishing.specs.Retiring.{none}
 use Rattle.group_steps.specs.Changing.{AnswersTry, change_tried, is_made}
 use Rattle.group_steps.specs.declared.changing.Tried.{Tried}
 use Rattle.group_steps.specs.Leaving.{Frees}
-use Rattle.group_steps.specs.Missing.{told}
+use Rattle.group_steps.specs.Missing.{map_ok}
 use Rattle.group_steps.specs.Proposing.{asked_reply, change_asked}
 use Rattle.group_steps.proofs.Giving.{cause_since, frees_since, gives_moves}
 use Rattle.group_steps.proofs.Trying.{answers_since, may_ask_grown}
@@ -41,7 +41,7 @@ returns-in_err-at-clause-frees g c r =
     let new = c.change_once.new.seat in let slots = c.args.group.now.shared.table.sizes.slots in
     let p = err_from_is_err_and c.from_residual.result c.from_residual.ensures.1 in
     subst (λ (w : Result (Option Ref) Refusal). Frees slots old new
-    (change_asked c.args.request.now.change.now (told is_made w))) (sym p.1)
+    (change_asked c.args.request.now.change.now (map_ok is_made w))) (sym p.1)
     (frees_since slots old mid new None v.seat (v.gave r) (c.in_err-at.ensures.frees r))
 
 pub loop-tried-init : goal.loop-tried-init

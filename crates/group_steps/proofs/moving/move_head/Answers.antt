@@ -24,7 +24,7 @@ use Rattle.publishing.proofs.Carrying.{placed_among, placed-spelled}
 use Rattle.publishing.specs.Retiring.{Retires, none}
 use Rattle.group_steps.specs.Changing.{is_made}
 use Rattle.group_steps.specs.Leaving.{Frees, RetiresWhatIsLeft}
-use Rattle.group_steps.specs.Missing.{told}
+use Rattle.group_steps.specs.Missing.{map_ok}
 use Rattle.group_steps.specs.Proposing.{change_asked}
 use Rattle.group_steps.proofs.Drafting.{one_state}
 use Rattle.group_steps.proofs.Giving.{are_left_grown, drawn_grown, gives_kept, gives_up, move_since}
@@ -95,7 +95,7 @@ pub returns-in_err-refs-clause-frees : goal.returns-in_err-refs-clause-frees
 returns-in_err-refs-clause-frees g c r =
     let slots = c.args.shared.now.table.sizes.slots in let old = c.args.seat.now in let mid = c.place_draft.new.seat in
     let p = err_from_is_err_and c.from_residual.result c.from_residual.ensures.1 in
-    subst (λ (w : Result (Option Ref) Refusal). Frees slots old mid (change_asked c.args.change.now (told is_made w)))
+    subst (λ (w : Result (Option Ref) Refusal). Frees slots old mid (change_asked c.args.change.now (map_ok is_made w)))
     (sym p.1) (gives_up slots old.view mid.view (c.place_draft.ensures.moves r) (c.in_err-refs.ensures.given r))
 
 pub returns-in-Ok-Lost-clause-frees : goal.returns-in-Ok-Lost-clause-frees

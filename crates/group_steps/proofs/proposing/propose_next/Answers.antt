@@ -11,12 +11,12 @@ use Rattle.group_history.proofs.Lists.{prefix_self}
 use Rattle.head_word.specs.Books.{drawn}
 use Rattle.map_chunks.specs.Drafts.{Drafted}
 use Rattle.map_chunks.specs.Places.{with_nodes}
-use Rattle.commit_graph.specs.Stores.{IsLost}
+use Rattle.commit_graph.specs.Stores.{IsStoreStop}
 use Rattle.answered.specs.Changes.{change_made}
 use Rattle.answered.specs.Trying.{IsUnproposed}
 use Rattle.replays.specs.Chaining.{IsTip}
 use Rattle.replays.specs.Refusing.{RefusesFor}
-use Rattle.group_steps.specs.Missing.{IsStop, told}
+use Rattle.group_steps.specs.Missing.{IsStop, map_ok}
 use Rattle.group_steps.specs.Places.{Place, state_at}
 use Rattle.group_steps.specs.Proposing.{change_asked}
 use Rattle.group_steps.proofs.Drafting.{behind_none, refused_for, told_unproposed}
@@ -42,7 +42,7 @@ returns-in-Err-clause-err g c =
     let again : c.in_ok-again.again ≡ x = search rules in
     let e = c.in-Err.ensures.err t (subst (λ (w : Contents). IsTip means w c.args.spot.tip t)
     (sym (bare ∙ c.nodes.ensures.nodes)) c.requires.spot.stands) in
-    let f = subst (λ (y : Mutation). RefusesFor (IsLost g.S.Slots.reused) c.in-Err.e
+    let f = subst (λ (y : Mutation). RefusesFor (IsStoreStop g.S.Slots.reused) c.in-Err.e
     (by_meaning (meaning_of means y (view_of means t)) y.id)) again e in
     let right = reply_next means t x c.args.last c.requires.spot.opened c.requires.own c.requires.next.0 in
     let m = meaning_of means x (view_of means t) in
@@ -65,7 +65,7 @@ returns-in-Ok-clause-proposed g c =
     let then = subst (λ (y : Mutation). Spells means (with_nodes cs made) (stamp_of c.in-Ok.at)
     (after_mutate t y)) again ok.1 in
     let right = reply_next means t x c.args.last c.requires.spot.opened c.requires.own c.requires.next.0 ∙ done in (
-      ap (told (λ id. true)) right,
+      ap (map_ok (λ id. true)) right,
       record {
         begins = ap (λ (p : Place). p.commit) c.at.view_is;
         contents = drawn c.args.at.now.mark.log;

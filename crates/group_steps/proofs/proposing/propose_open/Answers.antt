@@ -5,14 +5,14 @@ use Rattle.head_word.specs.Books.{drawn}
 use Rattle.answered.specs.Trying.{IsUnproposed}
 use Rattle.group_steps.specs.Missing.{IsStop}
 use Rattle.group_steps.specs.Places.{state_at}
-use Rattle.group_steps.specs.Proposing.{Proposes, asked_reply, change_asked}
+use Rattle.group_steps.specs.Proposing.{MayPropose, asked_reply, change_asked}
 use Rattle.group_steps.proofs.proposing.propose_open.Goals as goal
 
 pub returns-in-Pulled-clause-proposed : goal.returns-in-Pulled-clause-proposed
 returns-in-Pulled-clause-proposed g c =
     let p = c.args.at.now in let last = c.args.request.now.before.id in
     subst (λ (w : Change). IfOk c.propose_pull.result
-    (Proposes g.M.Means.means (drawn p.mark.log) p.commit (state_at p) last w)) (sym c.in-Pulled.is)
+    (MayPropose g.M.Means.means (drawn p.mark.log) p.commit (state_at p) last w)) (sym c.in-Pulled.is)
     (c.propose_pull.ensures.proposed last)
 
 pub returns-in-Pulled-clause-err : goal.returns-in-Pulled-clause-err
@@ -26,7 +26,7 @@ pub returns-in-Closed-clause-proposed : goal.returns-in-Closed-clause-proposed
 returns-in-Closed-clause-proposed g c =
     let p = c.args.at.now in let last = c.args.request.now.before.id in
     subst (λ (w : Change). IfOk c.propose_closing.result
-    (Proposes g.M.Means.means (drawn p.mark.log) p.commit (state_at p) last w)) (sym c.in-Closed.is)
+    (MayPropose g.M.Means.means (drawn p.mark.log) p.commit (state_at p) last w)) (sym c.in-Closed.is)
     (c.propose_closing.ensures.proposed last)
 
 pub returns-in-Closed-clause-err : goal.returns-in-Closed-clause-err

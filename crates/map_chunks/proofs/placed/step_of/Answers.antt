@@ -7,7 +7,7 @@ use Rattle.group_history.specs.Rows.{Rows, paired, keys_of, values_of}
 use Rattle.group_history.proofs.Pairs.{paired-parts}
 use Rattle.map_chunks.specs.Search.{IsPlace}
 use Rattle.map_chunks.specs.Inside.Steps.{IsStep}
-use Rattle.map_chunks.specs.declared.looks.Step.TheVariants.{Found, Below}
+use Rattle.map_chunks.specs.declared.looks.Descent.TheVariants.{Found, Below}
 use Rattle.map_chunks.proofs.SearchLemmas.{got, length-values_of, length-keys_of}
 use Rattle.map_chunks.proofs.placed.step_of.Goals as goal
 

@@ -6,34 +6,34 @@ ghost use Rattle.map_nodes.specs.Inside.Halves.{IsLower};
 ghost use Rattle.map_nodes.specs.Inside.Ready.{IsReady};
 
 use super::super::OwnChild;
-use super::splits::{HalfRoom, take_half_room};
+use super::splits::{SplitBuffers, take_half_room};
 use group_history::Text;
-use map_chunks::entries::Spare;
+use map_chunks::entries::SpareChunk;
 use map_chunks::keys::NodeKeys;
 use std::alloc::{AllocError, Global};
 
 /// What an inner chunk may need once its child is changed.
 #[derive(Drop)]
-pub(crate) struct Ready {
+pub(crate) struct PutBuffers {
     pub(crate) lower: Option<Text>,
-    pub(crate) room: HalfRoom<OwnChild>,
+    pub(crate) room: SplitBuffers<OwnChild>,
 }
 
-impl Ready {
+impl PutBuffers {
     /// Where the child isn't split.
-    pub(crate) fn of_whole(alloc: Global, lower: Option<Text>) -> Ready
+    pub(crate) fn of_whole(alloc: Global, lower: Option<Text>) -> PutBuffers
         ensures lower { result.lower ≡ lower }
     {
-        let spare = Spare {
+        let spare = SpareChunk {
             keys: Vec::new(alloc),
             entries: Vec::new(alloc),
         };
-        let room = HalfRoom {
+        let room = SplitBuffers {
             firsts: Vec::new(alloc),
             spare,
             home: None,
         };
-        Ready { lower, room }
+        PutBuffers { lower, room }
     }
 
     /// Where the child is split. The keys become the chunk's own.
@@ -44,7 +44,7 @@ impl Ready {
         key: &Text,
         lower: Option<Text>,
         copies: usize,
-    ) -> Result<Ready, AllocError>
+    ) -> Result<PutBuffers, AllocError>
         requires place { IsPlace key.now keys.old.texts place }
         ensures texts { keys.new.texts ≡ keys.old.texts }
         ensures lower { IfOk result (λ r. r.lower ≡ lower) }
@@ -52,7 +52,7 @@ impl Ready {
     {
         let room = take_half_room(alloc, keys.as_slice(), place + 1, key, copies)?;
         keys.make_room(alloc)?;
-        Ok(Ready { lower, room })
+        Ok(PutBuffers { lower, room })
     }
 }
 

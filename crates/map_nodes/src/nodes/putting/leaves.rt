@@ -14,8 +14,8 @@ ghost use Rattle.map_nodes.specs.Inside.Unput.{IsUnput};
 
 use super::super::homes::housed;
 use super::super::{Body, OwnNode};
-use super::splits::{HalfRoom, take_half_room};
-use super::{Half, Put, Unput};
+use super::splits::{SplitBuffers, take_half_room};
+use super::{Half, Put, PutRefused};
 use group_history::{Json, Text};
 use map_chunks::entries::{MOST, insert_entry, make_room};
 use map_chunks::keys::NodeKeys;
@@ -57,7 +57,7 @@ pub(crate) fn put_leaf(
     keys: &mut NodeKeys,
     values: &mut Vec<Json>,
     put: Put<'_>,
-) -> Result<Option<Half>, Unput>
+) -> Result<Option<Half>, PutRefused>
     requires keys { AreKeys keys.old.texts }
     requires pairs { length values.old.items ≡ length keys.old.texts }
     ensures rows { IfOk result (λ half. row_pieces (paired keys.new.texts values.new.items) ++ half_pieces half
@@ -73,7 +73,7 @@ pub(crate) fn put_leaf(
     ensures unput { IfErr result (IsUnput (λ _. ⊥) put.entry.may_split) }
 {
     if !put.may_split && keys.as_slice().len() >= MOST {
-        return Err(Unput::Full);
+        return Err(PutRefused::Full);
     }
     let value = put.value.clone()?;
     Ok(put_row(keys, values, put, value)?)
@@ -140,7 +140,7 @@ fn settle_row(
     values: &mut Vec<Json>,
     place: usize,
     row: (Text, Json),
-    room: HalfRoom<Json>,
+    room: SplitBuffers<Json>,
 ) -> Option<Half>
     requires keys { AreKeys keys.old.texts }
     requires pairs { length values.old.items ≡ length keys.old.texts }
@@ -156,7 +156,7 @@ fn settle_row(
     ensures fresh { half_fresh result ≤ 1 }
     ensures entries { HasKept (length keys.old.texts) (length keys.new.texts) result }
 {
-    let HalfRoom {
+    let SplitBuffers {
         firsts,
         spare,
         home,

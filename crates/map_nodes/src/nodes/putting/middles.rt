@@ -11,7 +11,7 @@ ghost use Rattle.map_nodes.specs.Inside.Ready.{HasRoom, Fits};
 use super::super::homes::housed;
 use super::super::{Body, OwnChild, OwnNode};
 use super::Half;
-use super::splits::HalfRoom;
+use super::splits::SplitBuffers;
 use group_history::Text;
 use map_chunks::entries::insert_entry;
 use map_chunks::keys::NodeKeys;
@@ -34,7 +34,7 @@ pub(crate) fn finish(
     kids: &mut Vec<OwnChild>,
     place: usize,
     depth: u64,
-    room: HalfRoom<OwnChild>,
+    room: SplitBuffers<OwnChild>,
     half: Option<Half>,
 ) -> Option<Half>
     requires fits { Fits depth place keys.old.texts kids.old.items half }
@@ -60,7 +60,7 @@ pub(crate) fn finish(
     let Some(first) = given.pop() else {
         return None;
     };
-    let HalfRoom {
+    let SplitBuffers {
         firsts,
         spare,
         home,

@@ -19,10 +19,10 @@ ghost use Rattle.map_nodes.specs.declared.nodes.Body.TheVariants as body;
 ghost use Rattle.map_nodes.specs.declared.nodes.OwnChild.{OwnChild as Childs};
 
 use super::super::{Body, OwnChild, OwnNode};
-use super::below::{Ready, lower_key};
+use super::below::{PutBuffers, lower_key};
 use super::leaves::put_leaf;
 use super::middles::{finish, lower_first};
-use super::{Half, Put, Unput};
+use super::{Half, Put, PutRefused};
 use group_history::Text;
 use map_chunks::Chunks;
 use map_chunks::entries::MOST;
@@ -37,7 +37,7 @@ fn put_inner<C: Chunks>(
     depth: u64,
     chunks: &mut C,
     put: Put<'_>,
-) -> Result<Option<Half>, Unput>
+) -> Result<Option<Half>, PutRefused>
     requires places { AreAll (C.places chunks.old)
         (places_of (body_pieces depth keys.old.texts (body.Inner kids.old))) }
     requires node { IsNode depth keys.old.texts (body.Inner kids.old) }
@@ -76,7 +76,7 @@ fn put_child<C: Chunks>(
     below: u64,
     chunks: &mut C,
     put: Put<'_>,
-) -> Result<(Ready, Option<Half>), Unput>
+) -> Result<(PutBuffers, Option<Half>), PutRefused>
     requires places { AreAll (C.places chunks.old) (kids_places kids.old.items) }
     requires within { place < length kids.old.items }
     requires place { IsPlace put.key.now keys.old.texts place }
@@ -123,7 +123,7 @@ impl OwnNode {
         place: usize,
         chunks: &mut C,
         put: Put<'_>,
-    ) -> Result<(Ready, Option<Half>), Unput>
+    ) -> Result<(PutBuffers, Option<Half>), PutRefused>
         requires places { AreAll (C.places chunks.old) (places_of self.old.pieces) }
         requires tree { IsTree (shown (C.contents chunks.old) self.old.pieces) }
         requires place { IsPlace put.key.now keys.old.texts place }
@@ -155,12 +155,12 @@ impl OwnNode {
             ..put
         };
         match self.put(chunks, whole) {
-            Ok(half) => return Ok((Ready::of_whole(put.alloc, lower), half)),
-            Err(Unput::Full) => {}
+            Ok(half) => return Ok((PutBuffers::of_whole(put.alloc, lower), half)),
+            Err(PutRefused::Full) => {}
             Err(stopped) => return Err(stopped),
         }
         if !put.may_split && keys.as_slice().len() >= MOST {
-            return Err(Unput::Full);
+            return Err(PutRefused::Full);
         }
         self.put_ready(keys, place, chunks, put, lower)
     }
@@ -174,7 +174,7 @@ impl OwnNode {
         chunks: &mut C,
         put: Put<'_>,
         lower: Option<Text>,
-    ) -> Result<(Ready, Option<Half>), Unput>
+    ) -> Result<(PutBuffers, Option<Half>), PutRefused>
         requires places { AreAll (C.places chunks.old) (places_of self.old.pieces) }
         requires tree { IsTree (shown (C.contents chunks.old) self.old.pieces) }
         requires place { IsPlace put.key.now keys.old.texts place }
@@ -196,7 +196,7 @@ impl OwnNode {
         ensures err { OnErr result (self.new ≡ self.old) }
         ensures unput { IfErr result (IsUnput C.stops true) }
     {
-        let ready = Ready::of_split(keys, put.alloc, place, put.key, lower, put.copies)?;
+        let ready = PutBuffers::of_split(keys, put.alloc, place, put.key, lower, put.copies)?;
         let split = Put {
             copies: put.copies + 1,
             may_split: true,
@@ -213,7 +213,7 @@ impl OwnNode {
         &mut self,
         chunks: &mut C,
         put: Put<'_>,
-    ) -> Result<Option<Half>, Unput>
+    ) -> Result<Option<Half>, PutRefused>
         requires places { AreAll (C.places chunks.old) (places_of self.old.pieces) }
         requires tree { IsTree (shown (C.contents chunks.old) self.old.pieces) }
         requires copies { put.copies + self.old.depth < 2 ^ 64 }

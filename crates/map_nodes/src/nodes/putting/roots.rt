@@ -14,10 +14,10 @@ ghost use Rattle.map_chunks.specs.Wide.{IsWideChunk};
 
 use super::super::homes::{housed, take_home};
 use super::super::{Body, OwnChild, OwnNode};
-use super::{Half, Put, Unput};
+use super::{Half, Put, PutRefused};
 use group_history::{Json, Stop, Text};
 use map_chunks::Chunks;
-use map_chunks::entries::{MOST, Spare, take_spare};
+use map_chunks::entries::{MOST, SpareChunk, take_spare};
 use map_chunks::keys::NodeKeys;
 use std::alloc::{AllocError, Global};
 use std::mem;
@@ -40,7 +40,7 @@ fn least_key(keys: &[Text], key: &Text) -> Result<Option<Text>, AllocError>
 #[derive(Drop)]
 struct Above {
     first: Option<Text>,
-    spare: Spare<OwnChild>,
+    spare: SpareChunk<OwnChild>,
     home: Option<Box<OwnNode>>,
 }
 
@@ -59,7 +59,7 @@ fn take_above(alloc: Global, keys: &[Text], key: &Text) -> Result<Above, AllocEr
 }
 
 // A root above both halves, made in the room that was taken for it.
-fn root_above(lower: Box<OwnNode>, half: Half, first: Text, room: Spare<OwnChild>) -> OwnNode
+fn root_above(lower: Box<OwnNode>, half: Half, first: Text, room: SpareChunk<OwnChild>) -> OwnNode
     requires depth { lower.value.depth + 1 < 2 ^ 64 }
     requires head { HeadIs first lower.value.pieces }
     requires half { IsHalf 1 lower.value.depth (Some half) }
@@ -76,7 +76,7 @@ fn root_above(lower: Box<OwnNode>, half: Half, first: Text, room: Spare<OwnChild
     let Some(second) = firsts.pop() else {
         return Box::into_inner(lower);
     };
-    let Spare {
+    let SpareChunk {
         mut keys,
         entries: mut kids,
     } = room;
@@ -128,8 +128,8 @@ impl OwnNode {
         };
         match self.put(chunks, put) {
             Ok(_) => return Ok(()),
-            Err(Unput::Full) => return self.put_split(alloc, chunks, key, value),
-            Err(Unput::Stopped(stop)) => return Err(stop),
+            Err(PutRefused::Full) => return self.put_split(alloc, chunks, key, value),
+            Err(PutRefused::Stopped(stop)) => return Err(stop),
         }
     }
 
@@ -199,8 +199,8 @@ impl OwnNode {
         };
         match self.put(chunks, put) {
             Ok(half) => return Ok(half),
-            Err(Unput::Stopped(stop)) => return Err(stop),
-            Err(Unput::Full) => unreachable!(),
+            Err(PutRefused::Stopped(stop)) => return Err(stop),
+            Err(PutRefused::Full) => unreachable!(),
         }
     }
 

@@ -7,14 +7,14 @@ use super::super::OwnNode;
 use super::super::homes::take_home;
 use super::leaves::ninth_copies;
 use group_history::Text;
-use map_chunks::entries::{Spare, take_spare};
+use map_chunks::entries::{SpareChunk, take_spare};
 use std::alloc::{AllocError, Global};
 
 /// Copies of the upper half's first key, and room for it.
 #[derive(Drop)]
-pub(crate) struct HalfRoom<T> {
+pub(crate) struct SplitBuffers<T> {
     pub(crate) firsts: Vec<Text>,
-    pub(crate) spare: Spare<T>,
+    pub(crate) spare: SpareChunk<T>,
     pub(crate) home: Option<Box<OwnNode>>,
 }
 
@@ -25,14 +25,14 @@ pub(crate) fn take_half_room<T: Drop>(
     place: usize,
     key: &Text,
     copies: usize,
-) -> Result<HalfRoom<T>, AllocError>
+) -> Result<SplitBuffers<T>, AllocError>
     ensures firsts { IfOk result (λ r. AreNinth copies keys.now place key.now r.firsts.items) }
     ensures room { IfOk result (HasRoom (length keys.now)) }
 {
     let firsts = ninth_copies(alloc, keys, place, key, copies)?;
     let spare = take_spare(alloc, keys.len())?;
     let home = take_home(alloc, keys.len())?;
-    Ok(HalfRoom {
+    Ok(SplitBuffers {
         firsts,
         spare,
         home,

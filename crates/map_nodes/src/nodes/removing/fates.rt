@@ -9,7 +9,7 @@ ghost use Rattle.map_chunks.specs.SecondKeys.{second_key};
 ghost use Rattle.map_chunks.specs.Shown.{shown, rows_or};
 
 use super::super::{Body, OwnChild, OwnNode};
-use super::Fate;
+use super::ChildAfter;
 use group_history::{Stop, Text};
 use map_chunks::Chunks;
 use map_chunks::keys::second_of;
@@ -56,7 +56,7 @@ pub(super) fn fate_of<C: Chunks>(
     first: &Text,
     kid: &OwnChild,
     key: &str,
-) -> Result<Fate, Stop>
+) -> Result<ChildAfter, Stop>
     requires places { AreAll (C.places chunks.old) (child_places kid.now) }
     requires tree { IsSome (kid_shown (C.contents chunks.old) kid.now) }
     ensures grown { Grows C.contents C.places chunks.old chunks.new }
@@ -64,10 +64,10 @@ pub(super) fn fate_of<C: Chunks>(
     ensures stopped { IfErr result (λ s. (s ≡ NoMemory) ⊎ C.stops s) }
 {
     if first.as_str() != key {
-        return Ok(Fate::Stays(None));
+        return Ok(ChildAfter::Stays(None));
     }
     match kid_second(kid, chunks)? {
-        None => Ok(Fate::Leaves),
-        Some(next) => Ok(Fate::Stays(Some(next))),
+        None => Ok(ChildAfter::Leaves),
+        Some(next) => Ok(ChildAfter::Stays(Some(next))),
     }
 }

@@ -16,7 +16,7 @@ ghost use Rattle.map_nodes.specs.declared.nodes.OwnChild.{OwnChild as Childs};
 
 use super::super::{Body, OwnChild, OwnNode};
 use super::fates::fate_of;
-use super::{Fate, Removal};
+use super::{ChildAfter, Removal};
 use group_history::{Json, Stop, Text};
 use map_chunks::Chunks;
 use map_chunks::entries::remove_entry;
@@ -128,11 +128,11 @@ pub(super) fn remove_at<C: Chunks>(
 {
     let Removal { key, place, fate } = removal;
     match fate {
-        Fate::Leaves => {
+        ChildAfter::Leaves => {
             remove_entry(keys, kids, alloc, place)?;
             return Ok(());
         }
-        Fate::Stays(first) => {
+        ChildAfter::Stays(first) => {
             make_ready(keys, alloc, &first)?;
             remove_child(kids, place, depth - 1, alloc, chunks, key)?;
             set_first(keys, place, first);

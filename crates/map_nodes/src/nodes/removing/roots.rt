@@ -12,7 +12,7 @@ ghost use Rattle.map_chunks.specs.Places.{Grows, AreAll, AreKept, places_of};
 ghost use Rattle.map_nodes.specs.Inside.Freezing.{child_places, kids_places};
 ghost use Rattle.map_chunks.specs.Wide.{IsWideChunk};
 ghost use Rattle.map_nodes.specs.declared.nodes.Body.TheVariants as body;
-ghost use Rattle.map_nodes.specs.declared.nodes.removing.Heir.TheVariants as heirs;
+ghost use Rattle.map_nodes.specs.declared.nodes.removing.NewRoot.TheVariants as heirs;
 ghost use Rattle.group_history.specs.declared.refs.Ref.{Ref as Reference};
 ghost use Rattle.map_nodes.specs.Inside.Removing as removals;
 ghost use Rattle.map_nodes.specs.Removing.{root_left, without, root_rows, IsWideRoot, IsLowRoot};
@@ -26,7 +26,7 @@ ghost use Rattle.map_chunks.specs.Shown.{shown, IsTree, rows_or};
 use super::super::{Body, OwnChild, OwnNode};
 use super::fates::fate_of;
 use super::paths::{remove_at, remove_row};
-use super::{Fate, Heir, Removal};
+use super::{ChildAfter, NewRoot, Removal};
 use group_history::{Json, Ref, Stop};
 use map_chunks::Chunks;
 use map_chunks::ends::end_placed;
@@ -130,12 +130,12 @@ fn kid_end<C: Chunks>(kid: &OwnChild, chunks: &mut C) -> Result<Option<Ref>, Sto
 }
 
 // Whether fewer than two children stay.
-fn gives_way(fate: &Fate, entries: usize) -> bool
+fn gives_way(fate: &ChildAfter, entries: usize) -> bool
     ensures { result ≡ removals.gives_way fate.now entries }
 {
     match fate {
-        Fate::Leaves => entries <= 2,
-        Fate::Stays(_) => false,
+        ChildAfter::Leaves => entries <= 2,
+        ChildAfter::Stays(_) => false,
     }
 }
 
@@ -145,7 +145,7 @@ fn heir<C: Chunks>(
     place: usize,
     alloc: Global,
     chunks: &mut C,
-) -> Result<Heir, Stop>
+) -> Result<NewRoot, Stop>
     requires places { AreAll (C.places chunks.old) (kids_places kids.old.items) }
     requires within { place < length kids.old.items }
     requires few { length kids.old.items ≤ 2 }
@@ -161,12 +161,12 @@ fn heir<C: Chunks>(
     ensures stopped { IfErr result (λ s. (s ≡ NoMemory) ⊎ C.stops s) }
 {
     if kids.len() == 1 {
-        return Ok(Heir::Own(OwnNode::empty(alloc)));
+        return Ok(NewRoot::Own(OwnNode::empty(alloc)));
     }
     let other = 1 - place;
     match kid_end(&kids[other], chunks)? {
-        Some(at) => return Ok(Heir::Placed(at)),
-        None => return Ok(Heir::Own(taken(kids.swap_remove(other), alloc))),
+        Some(at) => return Ok(NewRoot::Placed(at)),
+        None => return Ok(NewRoot::Own(taken(kids.swap_remove(other), alloc))),
     }
 }
 
@@ -179,7 +179,7 @@ fn remove_inner<C: Chunks>(
     alloc: Global,
     chunks: &mut C,
     key: &str,
-) -> Result<Option<Heir>, Stop>
+) -> Result<Option<NewRoot>, Stop>
     requires places { AreAll (C.places chunks.old) (kids_places kids.old.items) }
     requires node { IsNode depth keys.old.texts (body.Inner kids.old) }
     requires tree { IsTree (shown (C.contents chunks.old) (body_pieces depth keys.old.texts (body.Inner kids.old))) }
@@ -219,7 +219,7 @@ fn remove_fated<C: Chunks>(
     alloc: Global,
     chunks: &mut C,
     removal: Removal<'_>,
-) -> Result<Option<Heir>, Stop>
+) -> Result<Option<NewRoot>, Stop>
     requires places { AreAll (C.places chunks.old) (kids_places kids.old.items) }
     requires can { CanRemoveAt (C.contents chunks.old) depth keys.old.texts kids.old removal.key.now removal.place
         removal.fate }
@@ -297,8 +297,8 @@ impl OwnNode {
             Body::Inner(kids) => {
                 match remove_inner(&mut self.keys, kids, self.depth, alloc, chunks, key)? {
                     None => return Ok(None),
-                    Some(Heir::Placed(at)) => return Ok(Some(at)),
-                    Some(Heir::Own(node)) => {
+                    Some(NewRoot::Placed(at)) => return Ok(Some(at)),
+                    Some(NewRoot::Own(node)) => {
                         *self = node;
                         return Ok(None);
                     }

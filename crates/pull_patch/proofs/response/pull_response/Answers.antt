@@ -2,7 +2,7 @@ use Rattle.std.proofs.Common.{sym, ◌∙◌}
 use Rattle.std.proofs.lemmas.Result.{err_from_is_err_and}
 use Rattle.serde_json.specs.View.{view}
 use Rattle.pull_patch.proofs.Joins.{Refuses-through, cookie-refused, changes-refused, patch-refused, fields-joined}
-use Rattle.pull_patch.proofs.Joins.{Answers-is}
+use Rattle.pull_patch.proofs.Joins.{AnswersOrNoMemory-is}
 use Rattle.pull_patch.proofs.response.pull_response.Goals as goal
 
 pub returns-in_err-read_cookie : goal.returns-in_err-read_cookie
@@ -23,6 +23,6 @@ returns-in_err-read_patch c =
 
 pub returns : goal.returns
 returns c =
-    Answers-is _ _ (c.joined.ensures ∙ sym
+    AnswersOrNoMemory-is _ _ (c.joined.ensures ∙ sym
     (fields-joined (view c.args.value.now) _ _ _ c.in_ok-read_cookie.ensures c.in_ok-read_changes.ensures.value
     c.in_ok-read_patch.ensures))

@@ -21,13 +21,13 @@ pub replay_parts-returns-clause-tip : goal.replay_parts-returns-clause-tip
 replay_parts-returns-clause-tip g n c s h is_open =
     let front = c.split_at.result.0.now in
     subst (λ (w : State). IfOk c.replay-2.result (λ (after : Tip).
-    IsTip g.M.Means.means (with_nodes g.K.Known.known c.replay-2.new.draft.nodes) after w))
+    IsTip g.M.Means.means (with_nodes g.K.NamesContents.known c.replay-2.new.draft.nodes) after w))
     (with_halves s c.args.pending.now front c.split_at.result.1.now c.split_at.ensures.by_index.0)
     (c.replay-2.ensures.tip (with_more s front) (c.in_ok-middle.ensures.tip s h is_open) is_open)
 
 pub replay-freeze-requires : goal.replay-freeze-requires
 replay-freeze-requires g n c =
-    let means = g.M.Means.means in let known = g.K.Known.known in let t = c.requires.tip in
+    let means = g.M.Means.means in let known = g.K.NamesContents.known in let t = c.requires.tip in
     let m = view_of means t.0 in let all = replayed means m c.args.pending.now in
     let contents = with_nodes known c.args.draft.now.nodes in
     let left : tree_map contents c.in-Some-2.tree ≡ Some all =
@@ -39,14 +39,15 @@ pub replay-add_all-requires-clause-tip : goal.replay-add_all-requires-clause-tip
 replay-add_all-requires-clause-tip g n c =
     let t = c.requires.tip in let v = version_of g.M.Means.means t.0 in (
       v,
-      tip-grown g.K.Known.known c.args.draft.now.nodes c.freeze.new.draft.nodes c.args.basis v c.freeze.ensures.grown
+      tip-grown g.K.NamesContents.known c.args.draft.now.nodes c.freeze.new.draft.nodes c.args.basis v
+          c.freeze.ensures.grown
           t.1,
       t.2,
     )
 
 pub replay-add_all-requires-clause-map : goal.replay-add_all-requires-clause-map
 replay-add_all-requires-clause-map g n c =
-    let means = g.M.Means.means in let known = g.K.Known.known in let t = c.requires.tip in
+    let means = g.M.Means.means in let known = g.K.NamesContents.known in let t = c.requires.tip in
     let m = view_of means t.0 in let contents = with_nodes known c.args.draft.now.nodes in
     let all = replayed means m c.args.pending.now in
     let left : tree_map contents c.in-Some-2.tree ≡ Some all =
@@ -56,7 +57,7 @@ replay-add_all-requires-clause-map g n c =
 
 pub replay-returns-in-Some-2-clause-tip : goal.replay-returns-in-Some-2-clause-tip
 replay-returns-in-Some-2-clause-tip g n c s h is_open =
-    let means = g.M.Means.means in let m = view_of means s in let known = g.K.Known.known in
+    let means = g.M.Means.means in let m = view_of means s in let known = g.K.NamesContents.known in
     let old = c.args.draft.now in let mid = c.freeze.new.draft in
     let contents = with_nodes known old.nodes in let xs = c.args.pending.now in
     let all = replayed means m xs in

@@ -14,7 +14,7 @@ use Rattle.replays.proofs.locals.add_all.Goals as goal
 
 pub add_over-requires : goal.add_over-requires
 add_over-requires g c =
-    let known = g.K.Known.known in let t = c.requires.tip in let there = c.requires.map in
+    let known = g.K.NamesContents.known in let t = c.requires.tip in let there = c.requires.map in
     let old = c.args.draft.now in let new = c.add_unread.new.draft in let tip = c.in_ok-tip.tip in
     let now : Version = record { state = with_more t.0.state c.args.before.now; read = t.0.read } in
     let map = map-grown (with_nodes known old.nodes) (with_nodes known new.nodes) (stamp_of c.args.root) there.0
@@ -26,7 +26,7 @@ add_over-requires g c =
 
 pub returns-clause-tip : goal.returns-clause-tip
 returns-clause-tip g c v m h is_open is =
-    let known = g.K.Known.known in let before = c.args.before.now in
+    let known = g.K.NamesContents.known in let before = c.args.before.now in
     let old = c.args.draft.now in let new = c.add_unread.new.draft in
     let at = c.in_ok-tip.ensures.tip v h is_open in
     let map : map_at (with_nodes known new.nodes) (stamp_of c.args.root) ≡ Some m =

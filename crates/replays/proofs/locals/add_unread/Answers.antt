@@ -21,14 +21,14 @@ add_over-requires g c =
       read = t.0.read;
     } in
     record {
-      below = tip-behind g.K.Known.known c.loop-mutation.draft c.loop-mutation.tip now
+      below = tip-behind g.K.NamesContents.known c.loop-mutation.draft c.loop-mutation.tip now
           (sym (i.0 ∙ c.requires.behind)) (i.2 t.0 t.1 t.2);
     }
 
 pub loop-mutation-preserved : goal.loop-mutation-preserved
 loop-mutation-preserved g c =
     let i = c.loop-mutation.invariant in let k = c.loop-mutation.mutation-index in let xs = c.args.before.now in
-    let known = g.K.Known.known in (
+    let known = g.K.NamesContents.known in (
       c.in_ok-tip.ensures.first ∙ i.0,
       prefix_trans _ _ _ i.1 c.add_over.ensures.grown,
       λ v h is_open.
@@ -47,6 +47,7 @@ pub returns-clause-tip : goal.returns-clause-tip
 returns-clause-tip g c v h is_open =
     let k = c.loop-mutation.mutation-index in let xs = c.args.before.now in
     let over : length xs ≤ k = omega (arith, c.loop-mutation-test.false) in
-    subst (λ (w : List Mutation). HasTip (with_nodes g.K.Known.known c.loop-mutation.draft.nodes) c.loop-mutation.tip
+    subst (λ (w : List Mutation). HasTip (with_nodes g.K.NamesContents.known c.loop-mutation.draft.nodes)
+    c.loop-mutation.tip
     (record { state = with_more v.state w; read = v.read })) (take_all k xs over)
     (c.loop-mutation.invariant.2 v h is_open)

@@ -11,7 +11,7 @@ use Rattle.replays.proofs.locals.add_unread.Given as goal
 -- is one of the draft's own where that of the basis is
 abbrev pub invariant-loop-mutation : goal.invariant-loop-mutation
 invariant-loop-mutation g l =
-    let known = g.K.Known.known in
+    let known = g.K.NamesContents.known in
     (l.draft.first ≡ l.initial.draft.first) × IsPrefix l.initial.draft.nodes l.draft.nodes
     × ((v : Version) → HasTip (with_nodes known l.initial.draft.nodes) l.initial.tip v → v.state.closed ≡ false
     → HasTip (with_nodes known l.draft.nodes) l.tip

@@ -15,7 +15,7 @@ use Rattle.replays.proofs.locals.draft_mutation.Goals as goal
 
 pub returns-clause-ok : goal.returns-clause-ok
 returns-clause-ok g c s h is_open =
-    let means = g.M.Means.means in let known = g.K.Known.known in let x = c.args.mutation in
+    let means = g.M.Means.means in let known = g.K.NamesContents.known in let x = c.args.mutation in
     let old = with_nodes known c.args.draft.now.nodes in let m = view_of means s in
     let meaning = meaning_of means x m in
     let tree = c.in_ok-tree.ensures.ok old meaning (c.in_ok-run.ensures.ran m (c.at.ensures.map old ∙ h.1)) in
@@ -30,7 +30,7 @@ returns-clause-ok g c s h is_open =
 pub returns-in_err-tree-clause-err : goal.returns-in_err-tree-clause-err
 returns-in_err-tree-clause-err g c s h =
     let means = g.M.Means.means in let x = c.args.mutation in
-    let old = with_nodes g.K.Known.known c.args.draft.now.nodes in let m = view_of means s in
+    let old = with_nodes g.K.NamesContents.known c.args.draft.now.nodes in let m = view_of means s in
     let meaning = meaning_of means x m in
     let p = err_from_is_err_and c.from_residual-in_err-tree.result c.from_residual-in_err-tree.ensures.1 in
     let refused = c.in_err-tree.ensures.err old meaning (c.in_ok-run.ensures.ran m (c.at.ensures.map old ∙ h.1)) in
@@ -39,7 +39,7 @@ returns-in_err-tree-clause-err g c s h =
 pub returns-in_err-after-clause-err : goal.returns-in_err-after-clause-err
 returns-in_err-after-clause-err g c s h =
     let means = g.M.Means.means in let x = c.args.mutation in
-    let old = with_nodes g.K.Known.known c.args.draft.now.nodes in let m = view_of means s in
+    let old = with_nodes g.K.NamesContents.known c.args.draft.now.nodes in let m = view_of means s in
     let meaning = meaning_of means x m in
     let tree = c.in_ok-tree.ensures.ok old meaning (c.in_ok-run.ensures.ran m (c.at.ensures.map old ∙ h.1)) in
     let done = subst IsOfChange (sym (reply-done meaning tree.0 x.id tree.2)) tt in
@@ -48,12 +48,12 @@ returns-in_err-after-clause-err g c s h =
 
 pub run_on-requires-clause-map : goal.run_on-requires-clause-map
 run_on-requires-clause-map g c κs below =
-    let old = with_nodes g.K.Known.known c.args.draft.now.nodes in
+    let old = with_nodes g.K.NamesContents.known c.args.draft.now.nodes in
     subst (λ o. IsSome o) (sym (c.at.ensures.map old ∙ c.requires.tip.1.1)) refl
 
 pub add_local-requires-clause-map : goal.add_local-requires-clause-map
 add_local-requires-clause-map g c =
-    let means = g.M.Means.means in let known = g.K.Known.known in let m = view_of means c.requires.tip.0 in
+    let means = g.M.Means.means in let known = g.K.NamesContents.known in let m = view_of means c.requires.tip.0 in
     let old = with_nodes known c.args.draft.now.nodes in
     let tree = c.in_ok-tree.ensures.ok old (meaning_of means c.args.mutation m)
     (c.in_ok-run.ensures.ran m (c.at.ensures.map old ∙ c.requires.tip.1.1)) in
@@ -61,6 +61,6 @@ add_local-requires-clause-map g c =
 
 pub add_local-requires-clause-chain : goal.add_local-requires-clause-chain
 add_local-requires-clause-chain g c =
-    let known = g.K.Known.known in
+    let known = g.K.NamesContents.known in
     chain-behind known c.args.draft.now c.args.tip (version_of g.M.Means.means c.requires.tip.0)
     (sym c.requires.behind) c.requires.tip.1

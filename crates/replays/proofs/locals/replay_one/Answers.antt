@@ -14,7 +14,7 @@ use Rattle.replays.proofs.locals.replay_one.Goals as goal
 
 pub returns-clause-tip : goal.returns-clause-tip
 returns-clause-tip g c s h is_open =
-    let means = g.M.Means.means in let known = g.K.Known.known in let x = c.args.mutation.now in
+    let means = g.M.Means.means in let known = g.K.NamesContents.known in let x = c.args.mutation.now in
     let old = with_nodes known c.args.draft.now.nodes in let new = with_nodes known c.add_local.new.draft.nodes in
     let m = view_of means s in let meaning = meaning_of means x m in
     let run = c.in_ok-run.ensures.ran m (c.at.ensures.map old ∙ h.1) in
@@ -29,12 +29,12 @@ returns-clause-tip g c s h is_open =
 
 pub run_on-requires-clause-map : goal.run_on-requires-clause-map
 run_on-requires-clause-map g c κs below =
-    let old = with_nodes g.K.Known.known c.args.draft.now.nodes in
+    let old = with_nodes g.K.NamesContents.known c.args.draft.now.nodes in
     subst (λ o. IsSome o) (sym (c.at.ensures.map old ∙ c.requires.tip.1.1)) refl
 
 pub add_local-requires-clause-map : goal.add_local-requires-clause-map
 add_local-requires-clause-map g c =
-    let means = g.M.Means.means in let known = g.K.Known.known in let m = view_of means c.requires.tip.0 in
+    let means = g.M.Means.means in let known = g.K.NamesContents.known in let m = view_of means c.requires.tip.0 in
     let old = with_nodes known c.args.draft.now.nodes in let meaning = meaning_of means c.args.mutation.now m in
     let left = c.tree_or_root-tree.ensures old m meaning c.requires.tip.1.1
     (c.in_ok-run.ensures.ran m (c.at.ensures.map old ∙ c.requires.tip.1.1)) in
@@ -42,6 +42,6 @@ add_local-requires-clause-map g c =
 
 pub add_local-requires-clause-chain : goal.add_local-requires-clause-chain
 add_local-requires-clause-chain g c =
-    let known = g.K.Known.known in
+    let known = g.K.NamesContents.known in
     chain-behind known c.args.draft.now c.args.tip (version_of g.M.Means.means c.requires.tip.0)
     (sym c.requires.behind) c.requires.tip.1

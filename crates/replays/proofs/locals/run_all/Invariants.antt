@@ -10,6 +10,6 @@ use Rattle.replays.proofs.locals.run_all.Given as goal
 -- the tree has the map that so many of the mutations leave
 abbrev pub invariant-loop-mutation : goal.invariant-loop-mutation
 invariant-loop-mutation g l =
-    let contents = with_nodes g.K.Known.known l.draft.nodes in
+    let contents = with_nodes g.K.NamesContents.known l.draft.nodes in
     (m : Entries) → map_at contents (stamp_of l.fn.root) ≡ Some m
     → tree_map contents l.tree ≡ Some (replayed g.M.Means.means m (take l.mutation-index l.pending))

@@ -12,7 +12,7 @@ use Rattle.replays.proofs.pulls.add_patched.Goals as goal
 
 pub returns-clause-tip : goal.returns-clause-tip
 returns-clause-tip g c m h =
-    let known = g.K.Known.known in let pull = c.args.pull.now in
+    let known = g.K.NamesContents.known in let pull = c.args.pull.now in
     let P : List Patch → Type 0 = λ ops. HasTip
     (with_nodes known c.add_answered.new.draft.nodes) c.in_ok-tip.tip
     (record { state = pulled_state (patched m ops) pull.cookie c.args.confirmed; read = patched m ops }) in
@@ -21,7 +21,7 @@ returns-clause-tip g c m h =
 
 pub add_answered-requires : goal.add_answered-requires
 add_answered-requires g c =
-    let known = g.K.Known.known in
+    let known = g.K.NamesContents.known in
     let m = some_of (map_at (with_nodes known c.args.draft.now.nodes) (stamp_of c.args.root)) c.requires.map in
     record {
       map = tree-behind known c.args.draft.now c.in_ok-tree.tree (patched m.0 c.patch.result.now)

@@ -12,7 +12,7 @@ use Rattle.replays.proofs.pulls.draft_rebase.Goals as goal
 
 pub replay-requires-clause-tip : goal.replay-requires-clause-tip
 replay-requires-clause-tip g c κs below =
-    let known = g.K.Known.known in let there = map_at (with_nodes known c.args.draft.now.nodes)
+    let known = g.K.NamesContents.known in let there = map_at (with_nodes known c.args.draft.now.nodes)
     (stamp_of c.args.base.now.pulled) in
     let pull = c.args.pull.now in
     let s : State = pulled_state (patched (map_or there) pull.patch) pull.cookie c.in_ok-confirmed.confirmed in

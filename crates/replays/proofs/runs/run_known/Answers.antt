@@ -9,7 +9,7 @@ use Rattle.replays.proofs.runs.run_known.Goals as goal
 
 pub returns-clause-ran : goal.returns-clause-ran
 returns-clause-ran g c =
-    let known = g.K.Known.known in let means = g.M.Means.means in let x = c.args.mutation.now in
+    let known = g.K.NamesContents.known in let means = g.M.Means.means in let x = c.args.mutation.now in
     let m = shown_map known c.run_over.new.view.tree in (
       m,
       c.tree_of-tree.ensures,

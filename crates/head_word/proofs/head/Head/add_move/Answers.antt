@@ -3,7 +3,7 @@ use Rattle.std.proofs.Common.{if◌then◌else◌, MatchBool, nat_eq}
 use mathlib.Core.List.{IsPrefix}
 use Rattle.head_word.specs.declared.entry.Entry.{Entry}
 use Rattle.head_word.specs.declared.mark.Seat.{Seat}
-use Rattle.head_word.specs.Books.{drawn, last_move, moved, Follows, IsOpened}
+use Rattle.head_word.specs.Books.{drawn, last_move, moved, IsChangeFrom, IsOpened}
 use Rattle.head_word.specs.Tallies.{mine}
 use Rattle.head_word.specs.Marks.{Known, own, own_of}
 use Rattle.head_word.specs.Rules.{head_says}
@@ -20,8 +20,8 @@ compare_exchange-found-requires g c =
     let offer = c.offered-offer.ensures in
     let pen = c.no_pen-pen.ensures in
     let book = ap (λ (m : Known). m.book) c.mark.view_is ∙ (c.requires.book ∙ sym c.self.view_is) in
-    let follows : Follows means (drawn c.mark.inside.seen.log) c.args.base c.args.new c.args.change.now = subst
-    (λ (m : Known). Follows means (drawn m.log) c.args.base c.args.new c.args.change.now)
+    let follows : IsChangeFrom means (drawn c.mark.inside.seen.log) c.args.base c.args.new c.args.change.now = subst
+    (λ (m : Known). IsChangeFrom means (drawn m.log) c.args.base c.args.new c.args.change.now)
     (sym c.mark.view_is) c.requires.follows in
     let sits = subst (Sits c.mark.inside.seen.names c.mark.inside.seen.log)
     (sym c.take.ensures.value ∙ c.in-Some.is) c.mark.invariant.1 in (

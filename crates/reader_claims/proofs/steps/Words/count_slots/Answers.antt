@@ -4,6 +4,7 @@ use Rattle.reader_claims.specs.Counts.{Found, all_slots}
 use Rattle.reader_claims.specs.Inside.Known.{view}
 use Rattle.reader_claims.specs.Machine as machine
 use Rattle.reader_claims.specs.Notes.{lost}
+use Rattle.reader_claims.specs.Views.{sought}
 use Rattle.reader_claims.specs.Seats.{first_reserved}
 use Rattle.reader_claims.specs.Words.{slot_at}
 use Rattle.reader_claims.specs.declared.view.View.{View}
@@ -30,13 +31,13 @@ loop-slot-preserved c =
     let old = c.loop-slot.invariant in let first : View = view c.args.reader.now in
     let was : View = view c.loop-slot.reader in let now : View = view c.look_slot-word.new.reader in
     let is : now ≡ _ = c.look_slot-word.ensures.view in let i = c.loop-slot.slot in let w = c.look_slot-word.result in
-    let notes : HasMore was.notes now.notes = (lost i (w + 1) w ∷ [], ap (λ (v : View). v.notes) is) in
+    let notes : HasMore was.notes now.notes = (lost i (sought w) w ∷ [], ap (λ (v : View). v.notes) is) in
     let read : HasMore was.read now.read = ([], ap (λ (v : View). v.read) is) in
     let here : Found first now (slot_at i) w = counts.slot i w [] old.more.0
-    (ap (λ (v : View). v.notes) is ∙ ap (λ l. lost i (w + 1) w ∷ l) old.more.1) in record {
+    (ap (λ (v : View). v.notes) is ∙ ap (λ l. lost i (sought w) w ∷ l) old.more.1) in record {
       table = search rules;
       moves = moves_moves first was now old.moves (one_move was now _ _ _ c.look_slot-word.ensures.step);
-      kept = is ∙ ap (λ (v : View). record v { notes = lost i (w + 1) w ∷ was.notes }) old.kept
+      kept = is ∙ ap (λ (v : View). record v { notes = lost i (sought w) w ∷ was.notes }) old.kept
           ∙ ap (λ l. record first { notes = l }) (sym (ap (λ (v : View). v.notes) is));
       more = then_more first.notes was.notes now.notes old.more notes;
       counts = slot_more (Found first now) (first_reserved c.args.self.now.sizes) i (slot_at i) w c.of_word.result

@@ -1,7 +1,7 @@
 use Rattle.std.proofs.Common.{◌+◌, arith, is_ok, refl, sym, subst, ap, ◌∙◌, length, map, take, ◌∷◌, [], length-append}
 use Rattle.map_chunks.proofs.ListLemmas.{succeeded}
 use Rattle.commit_graph.proofs.Seating.{seat-trans}
-use Rattle.group_steps.specs.Missing.{told}
+use Rattle.group_steps.specs.Missing.{map_ok}
 use Rattle.rebase.specs.Calls.{AreAnswered, Caller, MayRefuse, caller_of}
 use Rattle.rebase.specs.Replies.{reply_seen}
 use Rattle.rebase.proofs.CallLemmas.{caller_moves, turn, why_told}
@@ -12,7 +12,7 @@ loop-call-preserved g c =
     let means = g.M.Means.means in let reused = g.S.Slots.reused in
     let l = c.loop-call in let old = c.args.self.now in let mid = l.self in
     let new = c.make_call-reply.new.self in
-    let reply = told reply_seen c.make_call-reply.result in
+    let reply = map_ok reply_seen c.make_call-reply.result in
     let e = c.make_call-reply.ensures in let i = l.invariant in
     let n = succeeded (is_ok c.push.result) _ _ _
     (c.push.ensures.succeeds (omega (arith, i.room, i.count, l.replies.ok.0, c.loop-call-test.true)))
@@ -21,7 +21,7 @@ loop-call-preserved g c =
     (e.err reading) in
     record {
       answered = subst (λ (d : Caller). AreAnswered means reused c.args.tries (caller_of old) old.seat.mark
-          (take (l.call-index + 1) c.args.calls.now) (map (told reply_seen) c.push.new.self.items) new.seat.mark d)
+          (take (l.call-index + 1) c.args.calls.now) (map (map_ok reply_seen) c.push.new.self.items) new.seat.mark d)
           (caller_moves mid new reply e.acts.client e.last)
           (turn means reused c.args.tries (caller_of old) (caller_of mid) old.seat.mark mid.seat.mark new.seat.mark
           c.args.calls.now l.call-index c.call-item.result l.replies.items c.push.new.self.items

@@ -5,12 +5,12 @@ use Rattle.group_history.specs.declared.responses.Ended.{Ended}
 use Rattle.group_history.specs.declared.responses.Response.TheVariants as response
 use Rattle.group_history.specs.Cookies.{Cookie}
 use Rattle.group_history.specs.Pulling.{end_reply}
-use Rattle.answered.specs.Answered.{Answers}
+use Rattle.answered.specs.Answered.{IsLinearized}
 use Rattle.answered.specs.Changes.{change_applied}
 use Rattle.group_steps.specs.Changing.{is_made}
 use Rattle.group_steps.specs.Leaving.{Frees}
 use Rattle.group_steps.specs.Proposing.{asked_reply, change_asked}
-use Rattle.group_steps.specs.Missing.{told}
+use Rattle.group_steps.specs.Missing.{map_ok}
 use Rattle.rebase.proofs.Causing.{frees_none}
 use Rattle.rebase.proofs.Telling.{pull_told}
 use Rattle.rebase.proofs.client.Client.end_applied.Goals as goal
@@ -20,9 +20,9 @@ returns-in-Ok-clause-answer g c =
     let means = g.M.Means.means in let old = c.args.self.now.seat.mark in let new = c.change.new.self.seat.mark in
     let t = c.args.ticket.now in let r = c.args.pull in let last = c.args.self.now.last in
     let clone : c.in-Ok.cookie ≡ t = search rules in
-    let made = subst (λ (k : Cookie). Answers means c.args.tries old new (told is_made c.change.result)
+    let made = subst (λ (k : Cookie). IsLinearized means c.args.tries old new (map_ok is_made c.change.result)
     (change_asked (Pulled k r)) (λ s. asked_reply means s last (Pulled k r))) clone c.change.ensures.answer in
-    subst (λ (w : Result Ended Refusal). Answers means c.args.tries old new w (change_applied t r)
+    subst (λ (w : Result Ended Refusal). IsLinearized means c.args.tries old new w (change_applied t r)
     (λ s. end_reply s t.text (response.Ok r))) (sym c.ended_as.ensures)
     (pull_told means c.args.tries old new last t r c.change.result made)
 

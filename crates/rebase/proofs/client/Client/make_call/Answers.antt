@@ -1,9 +1,9 @@
 use Rattle.std.proofs.Common.{Ok, refl}
 use Rattle.group_history.specs.State.{State, last_id}
 use Rattle.push_body.specs.Bodies.{push_text}
-use Rattle.answered.specs.Answered.{nothing}
+use Rattle.answered.specs.Answered.{no_change}
 use Rattle.rebase.specs.Calls.{caller_of}
-use Rattle.group_steps.specs.Missing.{told}
+use Rattle.group_steps.specs.Missing.{map_ok}
 use Rattle.rebase.specs.Queries.{asked, asked_at}
 use Rattle.rebase.specs.Replies.{body, ended, id, reply_seen, ticket}
 use Rattle.rebase.specs.declared.calls.Call.TheVariants as call
@@ -16,7 +16,7 @@ returns-in-Mutate-clause-answer g c =
     let old = c.args.self.now in
     mutated_told g.M.Means.means c.args.tries old.seat.mark c.try_mutate.new.self.seat.mark
     (caller_of old) c.args.call c.in-Mutate.m c.try_mutate.result
-    (told reply_seen c.map-in-Mutate.result) c.in-Mutate.is
+    (map_ok reply_seen c.map-in-Mutate.result) c.in-Mutate.is
     (mapped reply.Id id c.try_mutate.result c.map-in-Mutate.result (λ n. refl) c.map-in-Mutate.ensures.cases)
     c.try_mutate.ensures.answer
 
@@ -25,7 +25,7 @@ returns-in-EndPull-clause-answer g c =
     let old = c.args.self.now in
     ended_told g.M.Means.means c.args.tries old.seat.mark c.try_end_pull.new.self.seat.mark
     (caller_of old) c.args.call c.in-EndPull.ticket c.in-EndPull.body
-    c.try_end_pull.result (told reply_seen c.map-in-EndPull.result) c.in-EndPull.is
+    c.try_end_pull.result (map_ok reply_seen c.map-in-EndPull.result) c.in-EndPull.is
     (mapped reply.Ended ended c.try_end_pull.result c.map-in-EndPull.result (λ e. refl) c.map-in-EndPull.ensures.cases)
     c.try_end_pull.ensures.answer
 
@@ -34,7 +34,7 @@ returns-in-Refresh-clause-answer g c =
     let old = c.args.self.now in
     call_told id g.M.Means.means c.args.tries old.seat.mark c.refresh.new.self.seat.mark
     (caller_of old) c.args.call call.Refresh c.refresh.result
-    (told reply_seen c.map.result) nothing (λ (s : State). Ok (last_id s old.id)) c.in-Refresh.is
+    (map_ok reply_seen c.map.result) no_change (λ (s : State). Ok (last_id s old.id)) c.in-Refresh.is
     (mapped reply.Id id c.refresh.result c.map.result (λ n. refl) c.map.ensures.cases) refl (λ s. refl)
     c.refresh.ensures.answer
 

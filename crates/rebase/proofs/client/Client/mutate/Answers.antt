@@ -5,7 +5,7 @@ use Rattle.group_history.specs.declared.changes.Change.TheVariants.{Mutated}
 use Rattle.group_history.specs.Map.{Bytes}
 use Rattle.group_history.specs.Mutating.{mutate_reply}
 use Rattle.group_history.specs.State.{made}
-use Rattle.answered.specs.Answered.{Answers}
+use Rattle.answered.specs.Answered.{IsLinearized}
 use Rattle.answered.specs.Changes.{change_made}
 use Rattle.rebase.specs.Asking.{is_passing}
 use Rattle.reader_claims.specs.Machine.{still}
@@ -24,11 +24,11 @@ returns-then-not-is_passing-clause-answer g c =
     let reply = c.try_mutate-reply.result in
     let name = c.args.name.now in let args = c.args.args.now in let time = c.args.time in
     let lasts : is_passing reply ≡ false = search rules in
-    let id = subst (λ (client : Bytes). Answers means 1000 mid.seat.mark new.seat.mark reply
+    let id = subst (λ (client : Bytes). IsLinearized means 1000 mid.seat.mark new.seat.mark reply
     (change_made (made client (mid.last + 1) name args time))
     (λ s. mutate_reply means s mid.last (made client (mid.last + 1) name args time))) i.client.1
     c.try_mutate-reply.ensures.answer in
-    let last = subst (λ (n : ℕ). Answers means 1000 mid.seat.mark new.seat.mark reply
+    let last = subst (λ (n : ℕ). IsLinearized means 1000 mid.seat.mark new.seat.mark reply
     (change_made (made old.id (n + 1) name args time))
     (λ s. mutate_reply means s n (made old.id (n + 1) name args time))) i.last id in
     begun_anew means 1000 0 old.seat.mark mid.seat.mark new.seat.mark reply (change_made (made old.id (old.last + 1) name args time))

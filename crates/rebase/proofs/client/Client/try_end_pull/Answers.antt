@@ -8,7 +8,7 @@ use Rattle.group_history.specs.declared.responses.Response.TheVariants as respon
 use Rattle.group_history.specs.Answers.{◌>>=◌}
 use Rattle.group_history.specs.Pulling.{end_reply}
 use Rattle.pull_patch.specs.Grammar.{answer_to}
-use Rattle.answered.specs.Answered.{Answers}
+use Rattle.answered.specs.Answered.{IsLinearized}
 use Rattle.answered.specs.Changes.{change_read}
 use Rattle.head_word.specs.Marks.{Known}
 use Rattle.group_steps.specs.Causes.{HasCause}
@@ -22,9 +22,9 @@ pub returns-in-Err-clause-answer : goal.returns-in-Err-clause-answer
 returns-in-Err-clause-answer g c =
     let means = g.M.Means.means in let old = c.args.self.now.seat.mark in let k = c.args.ticket.now.cookie in
     let body = c.args.body.now in
-    subst (λ (r : Result Ended Refusal). Answers means c.args.tries old c.refuse.new.self.seat.mark r
+    subst (λ (r : Result Ended Refusal). IsLinearized means c.args.tries old c.refuse.new.self.seat.mark r
     (change_read k (answer_to body)) (λ s. end_bytes_reply s k.text body)) (sym c.refuse.ensures.err)
-    (subst (λ (m : Known). Answers means c.args.tries old m (Err c.in-Err.e) (change_read k (answer_to body))
+    (subst (λ (m : Known). IsLinearized means c.args.tries old m (Err c.in-Err.e) (change_read k (answer_to body))
     (λ s. end_bytes_reply s k.text body)) (sym c.refuse.ensures.mark)
     (unread means c.args.tries old k body c.in-Err.e c.in-Err.ensures.legal c.in-Err.ensures.read))
 
@@ -32,7 +32,7 @@ pub returns-in-StateNotFound-clause-answer : goal.returns-in-StateNotFound-claus
 returns-in-StateNotFound-clause-answer g c =
     let k = c.args.ticket.now.cookie in
     let read : answer_to c.args.body.now ≡ Ok response.StateNotFound = c.in-Ok.ensures.read ∙ ap Ok c.in-StateNotFound.is in
-    subst (λ (a : Result Response Refusal). Answers g.M.Means.means c.args.tries c.args.self.now.seat.mark
+    subst (λ (a : Result Response Refusal). IsLinearized g.M.Means.means c.args.tries c.args.self.now.seat.mark
     c.end_unknown.new.self.seat.mark c.end_unknown.result (λ (reply : Result Ended Refusal). change_read k a reply)
     (λ s. a >>= end_reply s k.text))
     (sym read) (c.end_unknown.ensures.answer k.text)
@@ -43,7 +43,7 @@ returns-in-VersionNotSupported-clause-answer g c =
     let read : answer_to c.args.body.now ≡ Ok
     (response.VersionNotSupported c.in-VersionNotSupported.kind) = c.in-Ok.ensures.read ∙ ap Ok
     c.in-VersionNotSupported.is in
-    subst (λ (a : Result Response Refusal). Answers g.M.Means.means c.args.tries c.args.self.now.seat.mark
+    subst (λ (a : Result Response Refusal). IsLinearized g.M.Means.means c.args.tries c.args.self.now.seat.mark
     c.end_unsupported.new.self.seat.mark c.end_unsupported.result
     (λ (reply : Result Ended Refusal). change_read k a reply) (λ s. a >>= end_reply s k.text))
     (sym read) (c.end_unsupported.ensures.answer k.text)

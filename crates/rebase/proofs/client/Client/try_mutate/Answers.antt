@@ -5,10 +5,10 @@ use Rattle.group_history.specs.declared.refusals.Refusal.{Refusal}
 use Rattle.group_history.specs.Mutating.{mutate_reply}
 use Rattle.group_history.specs.State.{made}
 use Rattle.head_word.specs.Marks.{Known}
-use Rattle.answered.specs.Answered.{Answers}
+use Rattle.answered.specs.Answered.{IsLinearized}
 use Rattle.answered.specs.Changes.{change_made}
 use Rattle.group_steps.specs.Leaving.{Frees}
-use Rattle.group_steps.specs.Missing.{told}
+use Rattle.group_steps.specs.Missing.{map_ok}
 use Rattle.commit_graph.specs.Seats.{Seated}
 use Rattle.rebase.specs.Clients.{ClientState}
 use Rattle.rebase.proofs.Causing.{frees_none}
@@ -20,18 +20,18 @@ returns-clause-answer g c =
     let means = g.M.Means.means in let old = c.args.self.now in let mid = c.change-made.new.self in
     let new = c.keep_next.new.self in let given = c.change-made.result in
     let x = made old.id (old.last + 1) c.args.name.now c.args.args.now c.args.time in
-    let so = subst (λ (y : Mutation). Answers means c.args.tries old.seat.mark mid.seat.mark
-    (told (λ (at : Option Ref). old.last + 1) given) (change_made y) (λ s. mutate_reply means s old.last y))
+    let so = subst (λ (y : Mutation). IsLinearized means c.args.tries old.seat.mark mid.seat.mark
+    (map_ok (λ (at : Option Ref). old.last + 1) given) (change_made y) (λ s. mutate_reply means s old.last y))
     (c.in-Ok.ensures ∙ ap (λ (t : ClientState). made t.id (t.last + 1) c.args.name.now c.args.args.now c.args.time)
     c.self.view_is)
     (next_told means c.args.tries old.seat.mark mid.seat.mark old.last c.in-Ok.mutation given
     c.change-made.ensures.answer) in
-    let there = subst (λ (m : Known). Answers means c.args.tries old.seat.mark m
-    (told (λ (at : Option Ref). old.last + 1) given) (change_made x) (λ s. mutate_reply means s old.last x))
+    let there = subst (λ (m : Known). IsLinearized means c.args.tries old.seat.mark m
+    (map_ok (λ (at : Option Ref). old.last + 1) given) (change_made x) (λ s. mutate_reply means s old.last x))
     (ap (λ (t : Seated). t.mark) (sym c.keep_next.ensures.seat)) so in
-    let reply : c.keep_next.result ≡ told (λ (at : Option Ref). old.last + 1) given = c.keep_next.ensures.id ∙ ap
-    (λ (n : ℕ). told (λ (at : Option Ref). n + 1) given) c.change-made.ensures.acts.1 in
-    subst (λ (w : Result ℕ Refusal). Answers means c.args.tries old.seat.mark new.seat.mark w (change_made x)
+    let reply : c.keep_next.result ≡ map_ok (λ (at : Option Ref). old.last + 1) given = c.keep_next.ensures.id ∙ ap
+    (λ (n : ℕ). map_ok (λ (at : Option Ref). n + 1) given) c.change-made.ensures.acts.1 in
+    subst (λ (w : Result ℕ Refusal). IsLinearized means c.args.tries old.seat.mark new.seat.mark w (change_made x)
     (λ s. mutate_reply means s old.last x)) (sym reply) there
 
 pub returns-in-Err-clause-frees : goal.returns-in-Err-clause-frees

@@ -1,5 +1,5 @@
 use Rattle.std.proofs.Common.{◌≡◌, Some, subst}
-use Rattle.group_history.specs.Queries.{rows_at}
+use Rattle.group_history.specs.Queries.{view_rows}
 use Rattle.group_history.specs.Record.{after}
 use Rattle.head_word.specs.Books.{record_of}
 use Rattle.head_word.specs.Marks.{Known}
@@ -9,11 +9,11 @@ use Rattle.rebase.proofs.watching.Watch.ask.Goals as goal
 
 pub returns-then-has_read-clause-value : goal.returns-then-has_read-clause-value
 returns-then-has_read-clause-value g c =
-    let w = c.args.self.now in told_again w.last (rows_at g.M.Means.means (read_by c.args.tx.now) w.scan)
-    (subst (λ (k : Known). w.last ≡ Some (rows_at g.M.Means.means (after (record_of k.log)) w.scan))
+    let w = c.args.self.now in told_again w.last (view_rows g.M.Means.means (read_by c.args.tx.now) w.scan)
+    (subst (λ (k : Known). w.last ≡ Some (view_rows g.M.Means.means (after (record_of k.log)) w.scan))
     c.point-at.ensures (c.has_read.ensures c.if-has_read.true))
 
 pub returns-in_default-clause-value : goal.returns-in_default-clause-value
 returns-in_default-clause-value g c =
-    let w = c.args.self.now in told_again w.last (rows_at g.M.Means.means (read_by c.args.tx.now) w.scan)
+    let w = c.args.self.now in told_again w.last (view_rows g.M.Means.means (read_by c.args.tx.now) w.scan)
     (none_of c.in_ok-rows.field-0 c.in_default.is c.in_ok-rows.ensures.same)

@@ -2,7 +2,7 @@ use Rattle.std.proofs.Common.{sym, subst, ap, ◌∙◌, Some}
 use Rattle.std.proofs.lemmas.Bool.{eqb-true}
 use Rattle.group_history.specs.Record.{after}
 use Rattle.group_history.specs.Refs.{stamp_of}
-use Rattle.group_history.specs.Queries.{rows_at}
+use Rattle.group_history.specs.Queries.{view_rows}
 use Rattle.group_history.specs.Scans.{rows_of}
 use Rattle.group_history.specs.State.{view_of}
 use Rattle.head_word.specs.Books.{drawn, record_of}
@@ -21,4 +21,4 @@ returns-in-Some g c same =
     (view_of means (after (record_of at.log))) c.begins_or_follows.ensures read.1 c.root.ensures stamps in
     sym (ap (λ (w : Watched). w.last) c.self.view_is) ∙ ap rows_told c.in-Some.is ∙ ap Some
     (read.2 ∙ ap (rows_of own.scan) one) ∙ ap
-    (λ (w : Watched). Some (rows_at means (after (record_of at.log)) w.scan)) c.self.view_is
+    (λ (w : Watched). Some (view_rows means (after (record_of at.log)) w.scan)) c.self.view_is

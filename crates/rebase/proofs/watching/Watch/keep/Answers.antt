@@ -1,5 +1,5 @@
 use Rattle.std.proofs.Common.{ap, sym, ◌∙◌}
-use Rattle.group_history.specs.Queries.{rows_at}
+use Rattle.group_history.specs.Queries.{view_rows}
 use Rattle.group_history.specs.Record.{after}
 use Rattle.group_history.specs.Refs.{stamp_of}
 use Rattle.group_history.specs.Spelling.{map_at}
@@ -14,5 +14,5 @@ invariant_of-self g c =
     let means = g.M.Means.means in let s = after (record_of c.args.at.now.log) in (
       view_of means s,
       ap (λ (m : Known). map_at (drawn m.log) (stamp_of c.root.result)) c.mark.ensures ∙ c.root.ensures,
-      c.requires.rows ∙ sym (ap (λ (w : Watched). rows_at means s w.scan) c.self.view_is),
+      c.requires.rows ∙ sym (ap (λ (w : Watched). view_rows means s w.scan) c.self.view_is),
     )

@@ -1,5 +1,5 @@
 use Rattle.std.proofs.Common.{Ok, sym, subst}
-use Rattle.group_steps.specs.Missing.{told}
+use Rattle.group_steps.specs.Missing.{map_ok}
 use Rattle.rebase.specs.Queries.{asked}
 use Rattle.rebase.specs.Replies.{reply_seen, ticket}
 use Rattle.rebase.specs.declared.calls.Call.TheVariants as call
@@ -16,8 +16,8 @@ returns-in-Ok-Ticket-clause-told g c =
     record {
       answer = answer;
       may = subst (λ w. may old call.BeginPull answer (standing_of w)) (sym c.keep.ensures.same.1)
-          (subst (λ r. may old call.BeginPull (told reply_seen (Ok r)) (standing_of c.make_call.new.self))
+          (subst (λ r. may old call.BeginPull (map_ok reply_seen (Ok r)) (standing_of c.make_call.new.self))
           c.in-Ok-Ticket.field-0-is c.in-Ok-Ticket.ensures.reply);
       begun = subst (λ tickets. IsBegun tickets c.args.name.now answer
-          (reply_text c.keep.result) c.keep.new.self.tickets) c.remove.ensures c.keep.ensures.told;
+          (reply_text c.keep.result) c.keep.new.self.tickets) c.remove.ensures c.keep.ensures.map_ok;
     }

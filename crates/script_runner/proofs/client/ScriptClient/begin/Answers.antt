@@ -1,5 +1,5 @@
 use Rattle.std.proofs.Common.{Ok, sym, subst}
-use Rattle.group_steps.specs.Missing.{told}
+use Rattle.group_steps.specs.Missing.{map_ok}
 use Rattle.rebase.specs.Queries.{asked}
 use Rattle.rebase.specs.Replies.{reply_seen, ticket}
 use Rattle.rebase.specs.declared.calls.Call.TheVariants as call
@@ -15,8 +15,8 @@ returns-in-Ok-Ticket-clause-told g c =
       answer = answer;
       may = subst (λ w. may (stands c.args.self.now.caller) call.BeginPull answer (stands w))
           (sym c.keep.ensures.same.1)
-          (subst (λ r. may (stands c.args.self.now.caller) call.BeginPull (told reply_seen (Ok r))
+          (subst (λ r. may (stands c.args.self.now.caller) call.BeginPull (map_ok reply_seen (Ok r))
           (stands c.call.new.self)) c.in-Ok-Ticket.field-0-is c.in-Ok-Ticket.ensures.reply);
       begun = subst (λ tickets. IsBegun tickets c.args.name.now answer
-          (reply_text c.keep.result) c.keep.new.self.tickets) c.remove.ensures c.keep.ensures.told;
+          (reply_text c.keep.result) c.keep.new.self.tickets) c.remove.ensures c.keep.ensures.map_ok;
     }

@@ -3,7 +3,7 @@ use Rattle.std.specs.Prelude.{IfErr, OnOk, ⊤}
 use Rattle.group_history.specs.declared.refusals.Refusal.{Refusal}
 use Rattle.group_history.specs.State.{State}
 use Rattle.map_chunks.specs.Sinks.{HasMore}
-use Rattle.answered.specs.Answered.{Answers}
+use Rattle.answered.specs.Answered.{IsLinearized}
 use Rattle.group_steps.specs.Missing.{IsMissedOrDry}
 use Rattle.rebase.specs.Calls.{caller_of, change_of, reply_to}
 use Rattle.rebase.specs.declared.calls.Call.TheVariants as call
@@ -18,7 +18,8 @@ returns-in-Ok-clause-reply g c =
     let given = c.scan_into.ensures.answer in let rs = given.0 in let stays = c.scan_into.ensures.stays in (
       rs,
       record {
-        answer = subst (λ (r : Result (Unit {0}) Refusal). Answers g.M.Means.means 1000000 old.seat.mark new.seat.mark
+        answer = subst (λ (r : Result (Unit {0}) Refusal). IsLinearized g.M.Means.means 1000000 old.seat.mark
+            new.seat.mark
             (reply_of_list rs r) (change_of (caller_of old) asked)
             (λ (s : State). reply_to g.M.Means.means (caller_of old) s asked)) c.in-Ok.is
             (list_told g.M.Means.means 1000000 old.seat.mark new.seat.mark (caller_of old) c.args.scan rs
@@ -39,7 +40,8 @@ returns-in-Err-clause-reply g c =
     let given = c.scan_into.ensures.answer in let rs = given.0 in let stays = c.scan_into.ensures.stays in (
       rs,
       record {
-        answer = subst (λ (r : Result (Unit {0}) Refusal). Answers g.M.Means.means 1000000 old.seat.mark new.seat.mark
+        answer = subst (λ (r : Result (Unit {0}) Refusal). IsLinearized g.M.Means.means 1000000 old.seat.mark
+            new.seat.mark
             (reply_of_list rs r) (change_of (caller_of old) asked)
             (λ (s : State). reply_to g.M.Means.means (caller_of old) s asked)) c.in-Err.is
             (list_told g.M.Means.means 1000000 old.seat.mark new.seat.mark (caller_of old) c.args.scan rs

@@ -1,6 +1,6 @@
 use Rattle.std.proofs.Common.{◌≡◌, ℕ, refl, sym, ap, ◌∙◌, subst}
-use Rattle.answered.specs.Answered.{Answers}
-use Rattle.group_steps.specs.Missing.{told}
+use Rattle.answered.specs.Answered.{IsLinearized}
+use Rattle.group_steps.specs.Missing.{map_ok}
 use Rattle.rebase.specs.Asking.{is_passing}
 use Rattle.rebase.specs.Calls.{caller, caller_of, change_of, is_reading, last_after, reply_to}
 use Rattle.rebase.specs.Replies.{ended, id, reply_seen}
@@ -14,15 +14,15 @@ pub returns-in-Mutate-clause-reply : goal.returns-in-Mutate-clause-reply
 returns-in-Mutate-clause-reply g c =
     let old = c.args.self.now.client in let new = c.mutate.new.self in let acts = c.mutate.ensures.acts in
     let none : tries_of c.args.call ≡ 0 = ap tries_of c.in-Mutate.is in
-    let seen = told reply_seen c.map.result in
-    let is : seen ≡ told id c.mutate.result = mapped reply.Id id c.mutate.result c.map.result (λ n. refl)
+    let seen = map_ok reply_seen c.map.result in
+    let is : seen ≡ map_ok id c.mutate.result = mapped reply.Id id c.mutate.result c.map.result (λ n. refl)
     c.map.ensures.cases in
-    let answer : Answers g.M.Means.means 0 old.seat.mark new.seat.mark seen (change_of (caller_of old) c.args.call)
+    let answer : IsLinearized g.M.Means.means 0 old.seat.mark new.seat.mark seen (change_of (caller_of old) c.args.call)
     (λ s. reply_to g.M.Means.means (caller_of old) s c.args.call) =
     mutated_told g.M.Means.means 0 old.seat.mark new.seat.mark (caller_of old) c.args.call c.in-Mutate.m
     c.mutate.result seen c.in-Mutate.is is c.mutate.ensures.answer in
     record {
-      answer = subst (λ (n : ℕ). Answers g.M.Means.means n old.seat.mark new.seat.mark seen
+      answer = subst (λ (n : ℕ). IsLinearized g.M.Means.means n old.seat.mark new.seat.mark seen
           (change_of (caller_of old) c.args.call) (λ s. reply_to g.M.Means.means (caller_of old) s c.args.call)) (sym none)
           answer;
       refused = λ reading. absurd (cc (sym reading ∙ ap is_reading c.in-Mutate.is));
@@ -38,15 +38,15 @@ pub returns-in-EndPull-clause-reply : goal.returns-in-EndPull-clause-reply
 returns-in-EndPull-clause-reply g c =
     let old = c.args.self.now.client in let new = c.end_pull.new.self in let acts = c.end_pull.ensures.acts in
     let none : tries_of c.args.call ≡ 0 = ap tries_of c.in-EndPull.is in
-    let seen = told reply_seen c.map-in-EndPull.result in
-    let is : seen ≡ told ended c.end_pull.result = mapped reply.Ended ended c.end_pull.result c.map-in-EndPull.result
+    let seen = map_ok reply_seen c.map-in-EndPull.result in
+    let is : seen ≡ map_ok ended c.end_pull.result = mapped reply.Ended ended c.end_pull.result c.map-in-EndPull.result
     (λ e. refl) c.map-in-EndPull.ensures.cases in
-    let answer : Answers g.M.Means.means 0 old.seat.mark new.seat.mark seen (change_of (caller_of old) c.args.call)
+    let answer : IsLinearized g.M.Means.means 0 old.seat.mark new.seat.mark seen (change_of (caller_of old) c.args.call)
     (λ s. reply_to g.M.Means.means (caller_of old) s c.args.call) =
     ended_told g.M.Means.means 0 old.seat.mark new.seat.mark (caller_of old) c.args.call c.in-EndPull.ticket
     c.in-EndPull.body c.end_pull.result seen c.in-EndPull.is is c.end_pull.ensures.answer in
     record {
-      answer = subst (λ (n : ℕ). Answers g.M.Means.means n old.seat.mark new.seat.mark seen
+      answer = subst (λ (n : ℕ). IsLinearized g.M.Means.means n old.seat.mark new.seat.mark seen
           (change_of (caller_of old) c.args.call) (λ s. reply_to g.M.Means.means (caller_of old) s c.args.call)) (sym none)
           answer;
       refused = λ reading. absurd (cc (sym reading ∙ ap is_reading c.in-EndPull.is));

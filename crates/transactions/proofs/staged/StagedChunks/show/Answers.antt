@@ -8,7 +8,7 @@ use Rattle.transactions.proofs.staged.StagedChunks.show.Goals as goal
 
 pub show-requires-clause-known : goal.show-requires-clause-known
 show-requires-clause-known g c =
-    let known = g.K.Known.known in let self = c.args.self.now in
+    let known = g.K.NamesContents.known in let self = c.args.self.now in
     let less : c.stamp-stamp.result < c.first.result = grind (arith, nat_tests, c.if-stamp-first.true) in
     let low : stamp_of c.args.at < length known = omega
     (arith, less, c.stamp-stamp.ensures.stamp, c.first.ensures, self.behind) in
@@ -16,7 +16,7 @@ show-requires-clause-known g c =
 
 pub returns-then-stamp-first-clause-content : goal.returns-then-stamp-first-clause-content
 returns-then-stamp-first-clause-content g c =
-    let known = g.K.Known.known in let self = c.args.self.now in
+    let known = g.K.NamesContents.known in let self = c.args.self.now in
     let less : c.stamp-stamp.result < c.first.result = grind (arith, nat_tests, c.if-stamp-first.true) in
     let low : stamp_of c.args.at < length known = omega
     (arith, less, c.stamp-stamp.ensures.stamp, c.first.ensures, self.behind) in
@@ -26,14 +26,14 @@ pub returns-in-Some-Chunk-clause-content : goal.returns-in-Some-Chunk-clause-con
 returns-in-Some-Chunk-clause-content g c =
     let self = c.args.self.now in
     let high : c.first.result ≤ c.stamp-stamp.result = grind (arith, nat_tests, c.if-stamp-first.false) in
-    back_content g.K.Known.known self.draft.now.nodes self.draft.now.first c.stamp-stamp.result
+    back_content g.K.NamesContents.known self.draft.now.nodes self.draft.now.first c.stamp-stamp.result
     (stamp_of c.args.at) _ self.behind c.stamp-stamp.ensures.stamp
     (subst (λ n. n ≤ c.stamp-stamp.result) c.first.ensures high)
     (sym (ap option_copied c.in-Some-Chunk.is ∙ ap (λ n. Some n) c.in-Some-Chunk.field-0-is) ∙ c.drafted.ensures)
 
 pub unreachable-requires : goal.unreachable-requires
 unreachable-requires g c =
-    let known = g.K.Known.known in let self = c.args.self.now in
+    let known = g.K.NamesContents.known in let self = c.args.self.now in
     let high : c.first.result ≤ c.stamp-stamp.result = grind (arith, nat_tests, c.if-stamp-first.false) in
     no_commit (with_nodes known self.draft.now.nodes) (stamp_of c.args.at) c.in-Some-Commit.field-0-0 c.requires.known
     (back_content known self.draft.now.nodes self.draft.now.first c.stamp-stamp.result
@@ -43,7 +43,7 @@ unreachable-requires g c =
 
 pub unreachable-requires-in-None : goal.unreachable-requires-in-None
 unreachable-requires-in-None g c =
-    let known = g.K.Known.known in let self = c.args.self.now in
+    let known = g.K.NamesContents.known in let self = c.args.self.now in
     let high : c.first.result ≤ c.stamp-stamp.result = grind (arith, nat_tests, c.if-stamp-first.false) in
     no_nothing (with_nodes known self.draft.now.nodes) (stamp_of c.args.at) c.requires.known
     (back_content known self.draft.now.nodes self.draft.now.first c.stamp-stamp.result

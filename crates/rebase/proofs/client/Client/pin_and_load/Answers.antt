@@ -1,6 +1,6 @@
 use Rattle.std.proofs.Common.{rules, sym, ◌∙◌}
 use Rattle.rebase.proofs.Keeping.{keeps_later, where_ok}
-use Rattle.rebase.proofs.client.Client.begin.Goals as goal
+use Rattle.rebase.proofs.client.Client.pin_and_load.Goals as goal
 
 pub invariant_of-self : goal.invariant_of-self
 invariant_of-self g c =

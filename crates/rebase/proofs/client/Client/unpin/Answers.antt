@@ -1,5 +1,5 @@
 use Rattle.std.proofs.Common.{rules}
-use Rattle.rebase.proofs.client.Client.finish.Goals as goal
+use Rattle.rebase.proofs.client.Client.unpin.Goals as goal
 
 pub returns-clause-stays : goal.returns-clause-stays
 returns-clause-stays g c = search rules
