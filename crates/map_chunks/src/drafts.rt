@@ -12,8 +12,11 @@ ghost use Rattle.group_history.specs.declared.refusals.Refusal.TheVariants as re
 ghost use Rattle.map_chunks.specs.Drafts.{AreBelow, AreOrdered};
 
 use group_history::{BoxedCommit, Commit, Node, Ref, Refusal, STAMPS};
-use std::alloc::Global;
+use std::alloc::{AllocError, Global};
 use std::marker::Model;
+
+/// So many nodes the draft of a usual mutation has at most.
+const USUAL: usize = 8;
 
 /// Nodes in the order of their stamps, and the first stamp. Each stands behind its children.
 #[derive(Drop)]
@@ -74,6 +77,7 @@ impl Draft {
         let Some(stamp) = self.next() else {
             return Err(Refusal::Stamps);
         };
+        make_room(&mut self.nodes)?;
         self.nodes.push(node)?;
         Ok(Ref::new(stamp, 0))
     }
@@ -130,4 +134,14 @@ impl Draft {
             None
         }
     }
+}
+
+// Makes room for the nodes of a usual mutation, before the first of them.
+fn make_room(nodes: &mut Vec<Node<Ref>>) -> Result<(), AllocError>
+    ensures { nodes.new.items ≡ nodes.old.items }
+{
+    if nodes.is_empty() {
+        nodes.reserve(USUAL)?;
+    }
+    Ok(())
 }

@@ -133,6 +133,7 @@ fn place_all<M: Means, S: Store<M>>(
     ensures steps { S.reused → Steps (S.view seat.old) (S.view seat.new) }
     ensures err { IfErr result (MayRefuse S.reused) }
 {
+    refs.reserve(nodes.len())?;
     for node in nodes {
         place_next::<M, S>(to, seat, node, slots, refs)?;
     }

@@ -12,14 +12,14 @@ use Rattle.publishing.proofs.placing.place_all.Goals as goal
 pub loop-node-init : goal.loop-node-init
 loop-node-init g c =
     let v = g.S.Slots.view c.args.seat.now in
-    let none = c.requires.refs in
+    let none = c.reserve.ensures.items ∙ c.requires.refs in
     record {
       can = tt;
       finite = tt;
       whole = search rules;
       home = c.requires.home;
       taken = c.requires.taken;
-      within = λ r end below. (below, none_lie end c.args.refs.now.items none);
+      within = λ r end below. (below, none_lie end c.reserve.new.self.items none);
       placed = ap length none;
       left = omega (arith, c.requires.slots);
       stamps = subst (AreFrom c.args.to.now.first) (sym none) tt;
@@ -70,3 +70,6 @@ pub returns-in_err-place_next-clause-steps : goal.returns-in_err-place_next-clau
 returns-in_err-place_next-clause-steps g c =
     let view = g.S.Slots.view in λ r. steps_steps (view c.args.seat.now) (view c.loop-node.seat)
     (view c.place_next.new.seat) (c.loop-node.invariant.steps r) (c.place_next.ensures.steps r)
+
+pub returns-in_err-reserve-clause-steps : goal.returns-in_err-reserve-clause-steps
+returns-in_err-reserve-clause-steps g c = λ r. no_step (g.S.Slots.view c.args.seat.now)

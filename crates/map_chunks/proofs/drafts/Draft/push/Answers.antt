@@ -1,4 +1,4 @@
-use Rattle.std.proofs.Common.{◌+◌, length, sym, subst}
+use Rattle.std.proofs.Common.{◌∙◌, ◌+◌, ◌++◌, ◌∷◌, [], ap, length, sym, subst}
 use Rattle.group_history.specs.Naming.{children}
 use Rattle.map_chunks.specs.Drafts.{Drafted, AreBelow, AreOrdered}
 use Rattle.map_chunks.proofs.DraftLemmas.{ordered-more}
@@ -8,6 +8,7 @@ pub invariant_of-self-2 : goal.invariant_of-self-2
 invariant_of-self-2 c = (
     let room = subst (λ (d : Drafted). AreBelow (d.first + length d.nodes) (children c.args.node))
     (sym c.self.view_is) c.requires.children in
-    subst (AreOrdered c.self.inside.first) (sym c.in_ok-push.ensures.items)
+    let kept = c.in_ok-push.ensures.items ∙ ap (λ w. w ++ (c.args.node ∷ [])) c.make_room.ensures in
+    subst (AreOrdered c.self.inside.first) (sym kept)
     (ordered-more c.self.inside.first c.self.inside.nodes.items c.args.node c.self.invariant room)
     )
