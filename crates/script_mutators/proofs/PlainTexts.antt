@@ -1,6 +1,6 @@
 -- What plain texts are read as.
 use Rattle.std.proofs.Common.{◌≡◌, ◌<◌, ◌≤◌, ◌^◌, ℤ, pos, negsuc, List, [], ◌∷◌, ◌++◌, Some, option_map}
-use Rattle.std.proofs.Common.{option_and_then, IsUtf8, refl, sym, ap, ◌∙◌, arith, append_assoc, append-nil, lt-ltb}
+use Rattle.std.proofs.Common.{Ok, false, option_and_then, IsUtf8, refl, sym, ap, ◌∙◌, arith, append_assoc, append-nil, lt-ltb}
 use Rattle.std.specs.Prelude.{Option}
 use Rattle.std.specs.Fmt.{signed_decimal}
 use Rattle.std.proofs.lemmas.Str.{is_utf8-from_IsUtf8}
@@ -16,13 +16,14 @@ use Rattle.json.proofs.Printed.Tokens.{tokens-print}
 use Rattle.json.proofs.Printed.Trees.{value-json_tokens, ArePrintable-json_tokens}
 use Rattle.serde_json.specs.Data.{Data, number, string, array, no_items, item}
 use Rattle.serde_json.specs.Read.{of_json, read, max_depth}
-use Rattle.serde_json.specs.Written.{outline, compact_text}
+use Rattle.serde_json.specs.Written.{outline, has_float, compact_text}
 use Rattle.serde_json.proofs.Numbers.{number_of-decimal, number_of-negative}
 use Rattle.serde_json.proofs.Texts.{print-outline}
 use Rattle.group_history.specs.Cookies.{value_read}
-use Rattle.group_history.specs.Json.{reading, or_not_json}
+use Rattle.group_history.specs.Json.{reading, or_not_json, json_text}
 use Rattle.group_history.specs.Map.{Bytes}
 use Rattle.group_history.specs.Meaning.{value_of}
+use Rattle.group_history.proofs.Readings.{json_text-compact}
 use Rattle.script_mutators.specs.Mutators.{number_of}
 use Rattle.script_mutators.specs.Inside.Arguments.{whole}
 
@@ -81,6 +82,18 @@ written-whole text z same low = record {
   shallow = omega arith;
   back = back-whole z (omega arith);
 }
+
+-- a number's text is its own compact text
+pub json_text-whole : (text : Bytes) (z : ℤ) → IsUtf8 text → text ≡ signed_decimal z → mag z < 2 ^ 63
+    → json_text text ≡ Ok text
+json_text-whole text z utf8 same fits =
+    let to = same ∙ sym (compact_text-whole z) in
+    let is = ap read to ∙ read-compact_text (whole z) (HasNumbers-whole z fits) (omega arith) ∙ back-whole z fits in
+    json_text-compact (whole z) text utf8 is to (omega arith) (is_no_float z)
+  where
+    is_no_float : (z : ℤ) → has_float (whole z) ≡ false
+    is_no_float (pos n) = refl
+    is_no_float (negsuc n) = refl
 
 number_of-whole : (z : ℤ) → mag z < 2 ^ 63 → number_of (whole z) ≡ Some z
 number_of-whole (pos n) h = rw (lt-ltb n (2 ^ 63) h) refl

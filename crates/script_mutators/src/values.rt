@@ -11,6 +11,7 @@ ghost use Rattle.script_mutators.specs.Mutators as spec;
 
 use crate::plain::{plain_number, plain_text};
 use group_history::{Json, Stop};
+use itoa::Buffer;
 use serde_json::Value;
 use std::alloc::{AllocError, Global};
 
@@ -57,7 +58,8 @@ fn text_in(alloc: Global, json: &Json) -> Result<Option<String>, Stop>
 pub(crate) fn decimal(alloc: Global, number: i64) -> Result<Json, AllocError>
     ensures { IfOk result (λ json. json ≡ signed_decimal number) }
 {
-    Json::of_whole(alloc, &Value::from(number))
+    let mut digits = Buffer::new();
+    Json::of_compact(alloc, digits.format(number))
 }
 
 /// The JSON text of a text.
