@@ -10,3 +10,4 @@ pub mod Pairs
 pub mod Folding
 pub mod Spellings
 mod InPlace
+pub mod Fronts

@@ -1,3 +1,4 @@
 -- Words that only private clauses of this crate use.
+pub mod Fronts
 pub mod Plain
 pub mod Texts

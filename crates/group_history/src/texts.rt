@@ -11,8 +11,10 @@ ghost use Rattle.std.specs.Ordering.{nat_cmp};
 ghost use Rattle.std.proofs.Common.{refl};
 
 mod packed;
+mod sought;
 
 use packed::Packed;
+pub use sought::Sought;
 use std::alloc::{AllocError, Global};
 use std::cmp::Ordering;
 use std::fmt;

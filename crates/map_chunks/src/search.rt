@@ -9,7 +9,7 @@ ghost use Rattle.map_chunks.specs.Seeking.{stands_in};
 ghost use Rattle.map_chunks.specs.Writes.{standing};
 
 use crate::looks::Comparison;
-use group_history::{Json, Text};
+use group_history::{Json, Sought, Text};
 use std::alloc::AllocError;
 use std::cmp::Ordering;
 
@@ -17,11 +17,12 @@ use std::cmp::Ordering;
 pub(crate) fn rank(keys: &[Text], key: &str) -> usize
     ensures { IsRank key.now keys.now result }
 {
+    let sought = Sought::new(key);
     let mut low = 0;
     let mut high = keys.len();
     while low < high {
         let middle = low + (high - low) / 2;
-        if keys[middle].as_str().cmp(key).is_gt() {
+        if sought.order_of(&keys[middle]).is_gt() {
             high = middle;
         } else {
             low = middle + 1;
@@ -45,11 +46,12 @@ pub fn search(keys: &[Text], key: &str) -> Result<usize, usize>
     ensures found { IfOk result (IsFound key.now keys.now) }
     ensures absent { IfErr result (IsAbsent key.now keys.now) }
 {
+    let sought = Sought::new(key);
     let mut low = 0;
     let mut high = keys.len();
     while low < high {
         let middle = low + (high - low) / 2;
-        match keys[middle].as_str().cmp(key) {
+        match sought.order_of(&keys[middle]) {
             Ordering::Less => low = middle + 1,
             Ordering::Equal => return Ok(middle),
             Ordering::Greater => high = middle,

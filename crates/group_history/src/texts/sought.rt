@@ -1,0 +1,50 @@
+//! A text that is sought among others.
+ghost use Rattle.std.specs.Prelude.{◌≡◌};
+ghost use Rattle.std.specs.Cmp.Lexicographic.{slice_cmp};
+ghost use Rattle.std.specs.Ordering.{nat_cmp};
+ghost use Rattle.group_history.specs.Inside.Fronts.{front_of, AreBytes};
+
+use super::packed::front_of_bytes;
+use super::{Kept, Text};
+use std::cmp::Ordering;
+use std::marker::Model;
+
+/// A text that is compared with many others: its first bytes are read once.
+#[derive(Drop)]
+pub struct Sought<'a> {
+    text: &'a str,
+    front: u128,
+    ghost first: { front ≡ front_of text.now },
+    ghost bytes: { AreBytes text.now },
+}
+
+impl<'a> Model for Sought<'a> {
+    ghost use Rattle.std.specs.Prelude.{ℕ, List};
+
+    ghost Value = { List ℕ };
+
+    ghost view = { λ s. s.text.now };
+}
+
+impl<'a> Sought<'a> {
+    pub fn new(text: &'a str) -> Sought<'a>
+        ensures { result ≡ text.now }
+    {
+        let front = front_of_bytes(text.as_bytes());
+        Sought { text, front }
+    }
+
+    /// How a text stands to this one.
+    #[inline]
+    pub fn order_of(&self, text: &Text) -> Ordering
+        ensures { result ≡ slice_cmp nat_cmp text.now self.now }
+    {
+        if let Kept::Short(short) = &text.kept {
+            let order = short.front().cmp(&self.front);
+            if order.is_ne() {
+                return order;
+            }
+        }
+        text.as_str().cmp(self.text)
+    }
+}
