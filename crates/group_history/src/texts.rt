@@ -11,10 +11,10 @@ ghost use Rattle.std.specs.Ordering.{nat_cmp};
 ghost use Rattle.std.proofs.Common.{refl};
 
 mod packed;
-mod sought;
+mod search_key;
 
 use packed::Packed;
-pub use sought::Sought;
+pub use search_key::SearchKey;
 use std::alloc::{AllocError, Global};
 use std::cmp::Ordering;
 use std::fmt;

@@ -9,7 +9,7 @@ ghost use Rattle.map_chunks.specs.Seeking.{stands_in};
 ghost use Rattle.map_chunks.specs.Writes.{standing};
 
 use crate::looks::Comparison;
-use group_history::{Json, Sought, Text};
+use group_history::{Json, SearchKey, Text};
 use std::alloc::AllocError;
 use std::cmp::Ordering;
 
@@ -17,7 +17,7 @@ use std::cmp::Ordering;
 pub(crate) fn rank(keys: &[Text], key: &str) -> usize
     ensures { IsRank key.now keys.now result }
 {
-    let sought = Sought::new(key);
+    let sought = SearchKey::new(key);
     let mut low = 0;
     let mut high = keys.len();
     while low < high {
@@ -46,7 +46,7 @@ pub fn search(keys: &[Text], key: &str) -> Result<usize, usize>
     ensures found { IfOk result (IsFound key.now keys.now) }
     ensures absent { IfErr result (IsAbsent key.now keys.now) }
 {
-    let sought = Sought::new(key);
+    let sought = SearchKey::new(key);
     let mut low = 0;
     let mut high = keys.len();
     while low < high {

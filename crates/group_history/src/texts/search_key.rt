@@ -11,14 +11,14 @@ use std::marker::Model;
 
 /// A text that is compared with many others: its first bytes are read once.
 #[derive(Drop)]
-pub struct Sought<'a> {
+pub struct SearchKey<'a> {
     text: &'a str,
     front: u128,
     ghost first: { front ≡ front_of text.now },
     ghost bytes: { AreBytes text.now },
 }
 
-impl<'a> Model for Sought<'a> {
+impl<'a> Model for SearchKey<'a> {
     ghost use Rattle.std.specs.Prelude.{ℕ, List};
 
     ghost Value = { List ℕ };
@@ -26,12 +26,12 @@ impl<'a> Model for Sought<'a> {
     ghost view = { λ s. s.text.now };
 }
 
-impl<'a> Sought<'a> {
-    pub fn new(text: &'a str) -> Sought<'a>
+impl<'a> SearchKey<'a> {
+    pub fn new(text: &'a str) -> SearchKey<'a>
         ensures { result ≡ text.now }
     {
         let front = front_of_bytes(text.as_bytes());
-        Sought { text, front }
+        SearchKey { text, front }
     }
 
     /// How a text stands to this one.

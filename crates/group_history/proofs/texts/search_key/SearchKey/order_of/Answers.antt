@@ -3,7 +3,7 @@ use Rattle.std.specs.Cmp.Lexicographic.{slice_cmp}
 use Rattle.std.specs.Ordering.{nat_cmp}
 use Rattle.group_history.specs.Inside.Texts.{kept_bytes}
 use Rattle.group_history.proofs.Fronts.{front-decides}
-use Rattle.group_history.proofs.texts.sought.Sought.order_of.Goals as goal
+use Rattle.group_history.proofs.texts.search_key.SearchKey.order_of.Goals as goal
 
 pub returns-then-is_ne : goal.returns-then-is_ne
 returns-then-is_ne c =
