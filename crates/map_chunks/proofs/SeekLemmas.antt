@@ -1,5 +1,5 @@
 -- A look for how a key's value stands to another one, and for how deep the tree is.
-use Rattle.std.proofs.Common.{◌≡◌, ℕ, ◌+◌, ◌++◌, ◌∷◌, Option, Some, map, slice_get, sym, ap, ◌∙◌, subst, arith, nat_cmp}
+use Rattle.std.proofs.Common.{◌≡◌, ℕ, ◌+◌, ◌++◌, ◌∷◌, Option, None, Some, map, slice_get, sym, ap, ◌∙◌, subst, arith, nat_cmp}
 use Rattle.std.specs.Prelude.{option_map}
 use Rattle.std.specs.Cmp.Lexicographic.{slice_cmp}
 use Rattle.std.specs.FinMap.{find}
@@ -12,9 +12,13 @@ use Rattle.group_history.specs.Refs.{stamp_of}
 use Rattle.group_history.specs.Rows.{keys_of}
 use Rattle.group_history.specs.Spelling.{Contents, Segment, segment_at, rows_at, joined_rows}
 use Rattle.map_chunks.specs.Search.{IsPlace}
-use Rattle.map_chunks.specs.Seeking.{stands_in}
+use Rattle.map_chunks.specs.Seeking.{chunk_depth, stands_in}
+use Rattle.map_chunks.specs.Writes.{standing}
+use Rattle.map_chunks.specs.Inside.Steps.{IsStep, Deepens}
 use Rattle.map_chunks.specs.Inside.Seeking.{IsHint, Hints}
 use Rattle.map_chunks.specs.Shown.{chunk_rows, rows_or}
+use Rattle.map_chunks.specs.declared.looks.Descent.{Descent}
+use Rattle.map_chunks.specs.declared.looks.Descent.TheVariants.{Found, Below}
 use Rattle.map_chunks.specs.declared.looks.Hint.{Hint}
 use Rattle.map_chunks.specs.declared.looks.Hint.TheVariants.{Stands, On}
 use Rattle.map_chunks.proofs.OpenLemmas.{Opened, opened, spells_at, chunk_rows-at, entry_at, placing, way_by, find-way}
@@ -48,3 +52,23 @@ hints ns k s c key asked hint h g o i = by c (opened ns k s c h g) hint i
           (f.0.segment.depth, ap (option_map (λ (t : Segment). t.depth)) f.0.is, ap (λ n. Some n) deep),
           ap (λ x. find (slice_cmp nat_cmp) key (rows_or x)) r ∙ find-way key _ _ _ _ s.rows w,
         )
+
+-- a step tells what a hint does where no value is asked for
+abbrev hint_by : Descent → Hint
+hint_by (Found v) = Stands (standing v None)
+hint_by (Below at) = On at
+
+hint_step : (c : Chunk Ref) (key : Bytes) (step : Descent) → IsStep c key step → IsHint c key None (hint_by step)
+hint_step (Leaf rows) key (Found v) i = ap (λ w. standing w None) i
+hint_step (Leaf rows) key (Below at) i = i
+hint_step (Inner kids) key (Found v) i = i
+hint_step (Inner kids) key (Below at) i = i
+
+pub deepens : (ns : Contents) (k : ℕ) (s : Segment) (c : Chunk Ref) (key : Bytes) (step : Descent)
+    → segment_at ns k ≡ Some s → slice_get ns k ≡ Some (chunk_content c) → IsStrict s.rows → IsStep c key step
+    → Deepens ns (Some s.depth) step
+deepens ns k s c key step h g o i = by step (hints ns k s c key None (hint_by step) h g o (hint_step c key step i))
+  where
+    by : (step : Descent) → Hints ns key None k (Some s.depth) s.rows (hint_by step) → Deepens ns (Some s.depth) step
+    by (Found v) told = told.0
+    by (Below at) told = told.2

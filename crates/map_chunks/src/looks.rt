@@ -1,8 +1,9 @@
 //! Looks at placed chunks, each of which is left again at once.
 ghost use Rattle.std.specs.Prelude.{◌≡◌, ◌<◌, ◌⊎◌, length, Some, IfOk, IfErr};
 ghost use mathlib.Core.List.{IsPrefix};
-ghost use Rattle.map_chunks.specs.Writes.{is_there, is_the_same};
+ghost use Rattle.map_chunks.specs.Writes.{is_there, is_the_same, standing};
 
+use crate::search::compared;
 use group_history::{Json, Ref, Text};
 
 /// What a look at one chunk on the way to a key gives.
@@ -64,6 +65,31 @@ pub struct Sought {
     pub standing: Comparison,
     /// How many chunks there are on the way: the depth of the tree.
     pub depth: u64,
+}
+
+/// What a look all the way down finds at a key.
+#[derive(Drop)]
+pub struct Lookup {
+    pub value: Option<Json>,
+    /// How many chunks there are on the way: the depth of the tree.
+    pub depth: u64,
+}
+
+impl Lookup {
+    /// How the value that was found stands to this one.
+    pub fn sought(&self, value: &Json) -> Sought
+        ensures standing { result.standing ≡ standing self.now.value (Some value.now) }
+        ensures depth { result.depth ≡ self.now.depth }
+    {
+        let standing = match &self.value {
+            None => Comparison::Absent,
+            Some(found) => compared(found, Some(value)),
+        };
+        Sought {
+            standing,
+            depth: self.depth,
+        }
+    }
 }
 
 /// What a look at one chunk on the way to the second key of its rows gives.

@@ -9,10 +9,11 @@ ghost use Rattle.map_chunks.specs.Places.{Grows, IfAt};
 ghost use Rattle.map_chunks.specs.Shown.{chunk_rows, IsTree, rows_or};
 ghost use Rattle.group_history.specs.Spelling.{Segment, segment_at};
 ghost use Rattle.map_chunks.specs.Inside.Depths.{IsFirst, IsAbove, has_none};
-ghost use Rattle.map_chunks.specs.Inside.Steps.{IsStep, IsStepAt, Leads};
+ghost use Rattle.map_chunks.specs.Inside.Steps.{Deepens, IsStep, IsStepAt, Leads};
+ghost use Rattle.map_chunks.specs.Seeking.{chunk_depth};
 
 use crate::chunks::{Chunks, ShowsChunk};
-use crate::looks::Descent;
+use crate::looks::{Descent, Lookup};
 use crate::search::{place_of, value_at};
 use group_history::{Chunk, Json, Ref, Stop};
 use std::alloc::AllocError;
@@ -44,6 +45,7 @@ fn look<C: Chunks>(chunks: &mut C, at: Ref, key: &str) -> Result<Descent, Stop>
     ensures place { IfOk result (IsStepAt (C.places chunks.new)) }
     ensures step { IfOk result (Leads (C.contents chunks.new) key.now (stamp_of at)
         (rows_or (chunk_rows (C.contents chunks.old) (stamp_of at)))) }
+    ensures depth { IfOk result (Deepens (C.contents chunks.new) (chunk_depth (C.contents chunks.old) (stamp_of at))) }
     ensures stopped { IfErr result (λ s. (s ≡ NoMemory) ⊎ C.stops s) }
 {
     let held = chunks.show(at)?;
@@ -64,6 +66,29 @@ pub fn get_placed<C: Chunks>(chunks: &mut C, at: Ref, key: &str) -> Result<Optio
     match look(chunks, at, key)? {
         Descent::Found(value) => Ok(value),
         Descent::Below(child) => get_placed(chunks, child, key),
+    }
+}
+
+/// The same, and how deep the chunk is.
+pub fn find_placed<C: Chunks>(chunks: &mut C, at: Ref, key: &str) -> Result<Lookup, Stop>
+    requires known { IsTree (chunk_rows (C.contents chunks.old) (stamp_of at)) }
+    requires place { C.places chunks.old at }
+    ensures grown { Grows C.contents C.places chunks.old chunks.new }
+    ensures value { IfOk result (λ found. found.value ≡ finite.find (slice_cmp nat_cmp) key.now
+        (rows_or (chunk_rows (C.contents chunks.old) (stamp_of at)))) }
+    ensures depth { IfOk result (λ found. chunk_depth (C.contents chunks.old) (stamp_of at) ≡ Some found.depth) }
+    ensures bound { IfOk result (λ found. found.depth ≤ stamp_of at + 1) }
+    ensures stopped { IfErr result (λ s. (s ≡ NoMemory) ⊎ C.stops s) }
+{
+    match look(chunks, at, key)? {
+        Descent::Found(value) => Ok(Lookup { value, depth: 1 }),
+        Descent::Below(child) => {
+            let below = find_placed(chunks, child, key)?;
+            Ok(Lookup {
+                value: below.value,
+                depth: below.depth + 1,
+            })
+        }
     }
 }
 

@@ -61,7 +61,7 @@ pub fn search(keys: &[Text], key: &str) -> Result<usize, usize>
 }
 
 // How a value stands to the one asked for.
-fn compared(value: &Json, asked: Option<&Json>) -> Comparison
+pub(crate) fn compared(value: &Json, asked: Option<&Json>) -> Comparison
     ensures { result ≡ standing (Some value.now) (option_copied asked.entry) }
 {
     match asked {

@@ -1,6 +1,6 @@
 mod DeleteLemmas
 mod PlaceLemmas
-mod RootCounts
+pub mod RootCounts
 mod SeekLemmas
 pub mod WriteLemmas
 pub mod BelowLemmas

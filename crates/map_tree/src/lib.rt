@@ -6,5 +6,6 @@
 
 mod tree;
 
+pub use map_chunks::looks::{Lookup, Sought};
 pub use map_chunks::{Chunks, Draft, Lent, Shelf, ShowsChunk, TakesRows, VecChunks};
 pub use tree::Tree;

@@ -9,11 +9,13 @@ ghost use Rattle.map_chunks.specs.Places.{Grows, AreAll, AreKept};
 ghost use Rattle.map_tree.specs.Trees.{root_places, tree_places, root_map, root_depth, root_fresh, tree_map};
 ghost use Rattle.map_tree.specs.Trees.{tree_depth, tree_fresh, HasWideRoot, IsWide};
 ghost use Rattle.map_chunks.specs.Seeking.{chunk_depth};
+ghost use Rattle.map_chunks.specs.Writes.{standing};
 ghost use Rattle.map_chunks.specs.Wide.{IsWideAt};
 
 use super::{Root, Tree};
 use group_history::{Json, Ref, Stop};
 use map_chunks::Chunks;
+use map_chunks::looks::Sought;
 use map_nodes::{OwnNode, room_for};
 use std::alloc::Global;
 
@@ -56,6 +58,41 @@ impl Tree {
         ensures stopped { IfErr result (λ s. (s ≡ NoMemory) ⊎ C.stops s) }
     {
         let sought = self.sought(chunks, key, Some(value))?;
+        self.put_sought(alloc, chunks, key, value, sought)
+    }
+
+    /// The same where it is known how the value at the key stands to the one that is put, and how deep the tree is.
+    pub fn put_sought<C: Chunks>(
+        &mut self,
+        alloc: Global,
+        chunks: &mut C,
+        key: &str,
+        value: &Json,
+        sought: Sought,
+    ) -> Result<(), Stop>
+        requires places { AreAll (C.places chunks.old) (tree_places self.old) }
+        requires map { IsSome (tree_map (C.contents chunks.old) self.old) }
+        requires standing { (m : Entries) → tree_map (C.contents chunks.old) self.old ≡ Some m
+            → sought.standing ≡ standing (finite.get m key.now) (Some value.now) }
+        requires depth { tree_depth (C.contents chunks.old) self.old ≡ Some sought.depth }
+        ensures grown { Grows C.contents C.places chunks.old chunks.new }
+        ensures ok { (m : Entries) → tree_map (C.contents chunks.old) self.old ≡ Some m
+            → OnOk result (tree_map (C.contents chunks.new) self.new ≡ Some (finite.insert m key.now value.now)) }
+        ensures few { (d : ℕ) → tree_depth (C.contents chunks.old) self.old ≡ Some d
+            → OnOk result (tree_fresh self.new ≤ tree_fresh self.old + d + d + 1) }
+        ensures replaced { (m : Entries) (d : ℕ) → tree_map (C.contents chunks.old) self.old ≡ Some m
+            → tree_depth (C.contents chunks.old) self.old ≡ Some d → IsSome (finite.get m key.now)
+            → OnOk result (tree_fresh self.new ≤ tree_fresh self.old + d) }
+        ensures deep { (d : ℕ) → tree_depth (C.contents chunks.old) self.old ≡ Some d
+            → OnOk result ((e : ℕ) × (tree_depth (C.contents chunks.new) self.new ≡ Some e) × (d ≤ e) × (e ≤ d + 1)) }
+        ensures wide { HasWideRoot (C.contents chunks.old) self.old
+            → OnOk result (HasWideRoot (C.contents chunks.new) self.new) }
+        ensures places { OnOk result (AreKept (C.places chunks.new) (tree_places self.old) (tree_places self.new)) }
+        ensures same { (m : Entries) → tree_map (C.contents chunks.old) self.old ≡ Some m
+            → finite.get m key.now ≡ Some value.now → OnOk result (self.new ≡ self.old) }
+        ensures err { OnErr result (self.new ≡ self.old) }
+        ensures stopped { IfErr result (λ s. (s ≡ NoMemory) ⊎ C.stops s) }
+    {
         if sought.standing.is_same() {
             return Ok(());
         }

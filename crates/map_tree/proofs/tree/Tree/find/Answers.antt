@@ -1,0 +1,41 @@
+use Rattle.std.proofs.Common.{◌≡◌, Some, sym, ap, ◌∙◌}
+use Rattle.std.specs.Prelude.{option_and_then}
+use Rattle.group_history.specs.Refs.{stamp_of}
+use Rattle.map_chunks.specs.Shown.{chunk_rows, shown, map_of_rows}
+use Rattle.map_tree.specs.Trees.{root_map, root_depth}
+use Rattle.map_chunks.proofs.AnswerLemmas.{if_ok_so}
+use Rattle.map_chunks.proofs.TreeLemmas.{map_at-rows, value_of_map}
+use Rattle.map_tree.proofs.PlaceLemmas.{placed_may, own_may}
+use Rattle.map_tree.proofs.tree.Tree.find.Goals as goal
+
+pub returns-in-Placed-clause-value : goal.returns-in-Placed-clause-value
+returns-in-Placed-clause-value g c m h =
+    let p = g.C.Chunks.contents c.args.chunks.now in
+    let k = stamp_of c.in-Placed.at in
+    let e : option_and_then map_of_rows (chunk_rows p k)
+    ≡ Some m = sym (map_at-rows p k) ∙ ap (root_map p) (sym c.in-Placed.is) ∙ h in
+    if_ok_so c.find_placed.result c.find_placed.ensures.value
+    (λ s f. f ∙ value_of_map (chunk_rows p k) m c.args.key.now e)
+
+pub returns-in-Placed-clause-depth : goal.returns-in-Placed-clause-depth
+returns-in-Placed-clause-depth g c = if_ok_so c.find_placed.result c.find_placed.ensures.depth
+    (λ s f. ap (root_depth (g.C.Chunks.contents c.args.chunks.now)) c.in-Placed.is ∙ f)
+
+pub returns-in_ok-value-in-Own-clause-value : goal.returns-in_ok-value-in-Own-clause-value
+returns-in_ok-value-in-Own-clause-value g c m h =
+    let p = g.C.Chunks.contents c.args.chunks.now in
+    let e : option_and_then map_of_rows (shown p c.in-Own.node.pieces)
+    ≡ Some m = ap (root_map p) (sym c.in-Own.is) ∙ h in
+    c.in_ok-value-in-Own.ensures.value ∙ value_of_map (shown p c.in-Own.node.pieces) m c.args.key.now e
+
+pub returns-in_ok-value-in-Own-clause-depth : goal.returns-in_ok-value-in-Own-clause-depth
+returns-in_ok-value-in-Own-clause-depth g c = ap
+    (root_depth (g.C.Chunks.contents c.args.chunks.now)) c.in-Own.is ∙ ap (λ n. Some n) (sym c.depth.ensures)
+
+pub find_placed-requires-clause-place : goal.find_placed-requires-clause-place
+find_placed-requires-clause-place g c = placed_may
+    (g.C.Chunks.places c.args.chunks.now) c.args.self.now.root c.in-Placed.at c.in-Placed.is c.requires.places
+
+pub get-requires-clause-places : goal.get-requires-clause-places
+get-requires-clause-places g c = own_may
+    (g.C.Chunks.places c.args.chunks.now) c.args.self.now.root c.in-Own.node c.in-Own.is c.requires.places
