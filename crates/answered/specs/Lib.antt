@@ -1,8 +1,8 @@
--- When a call is answered rightly: the words, the changes that replies stand for, and one try of a call that tries
--- again.
+-- Linearizability. Read Answered whole: `IsPoint` is the point of a call, `IsLinearized` what each call answers. Then
+-- Changes: which change a reply stands for. Trying says how one try ended. Laws and Examples show answers that are
+-- right and answers that are not.
 pub mod Answered
 pub mod Changes
 pub mod Trying
--- What is proved of these words, and worked examples.
 pub mod Laws
 pub mod Examples

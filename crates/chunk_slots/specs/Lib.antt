@@ -1,5 +1,5 @@
--- What a reader of the public clauses believes, in order of reading: what lies in a slot, what a seat knows, and why
--- nothing is shown.
+-- Stores. Read Contents (what lies in a slot), Seats (what a seat knows, and what the calls tell: `IsPinned`,
+-- `MayRetire`), Arenas, and Missing (why nothing is shown).
 pub mod Contents
 pub mod Seats
 pub mod Arenas

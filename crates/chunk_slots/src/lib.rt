@@ -1,5 +1,34 @@
-//! Where the nodes of a group lie, and how readers and publishers reach them. `store` tells what a store
-//! promises, and `counted` the protocol of a slot that is used again.
+//! Where the nodes of a group lie, and how readers and publishers reach them: a trait of stores, and two stores.
+//! `store` tells what a store promises, and `counted` the protocol of a slot that is used again.
+//!
+//! A reader may come with a `Ref` whose slot holds another node by then. Three checks prevent a stale read. *The
+//! stamp*: each node lies beside its stamp, and `show` answers Gone where the slot has no node of the stamp looked for.
+//! *The mark*: each slot keeps ghost evidence that the book assigned this stamp to this node (`Sight`, which has no
+//! bytes), so what is shown is the content of the stamp, whatever the slot held before. *The count*: a reader is
+//! counted in the slot's word while it reads, and nobody writes there meanwhile. What `show` answers can't be dropped
+//! and is handed to `leave`, so no reader stays counted on any way out.
+//!
+//! `Arena` uses its slots again. Which slot is free says the claims table; the calls on slots and pins are its steps. A
+//! slot has 72 bytes: a word, and in place a stamp and the node. `place` is Busy where, as often as it tries, somebody
+//! reads or writes in the slot. `Append` never uses a slot again: a vector that only grows, whose slot number is the
+//! number of the push. A push may wait. `take_slot` answers slot 0, which means nothing, and the clauses on claims are
+//! empty (`reused` is false). `Gated` asks a gate before and after each call of another store but `open` and `show`,
+//! for tests of schedules; its clauses are those of the store in it.
+//!
+//! Only `open` takes memory, and `place` in a vector. Calls that always return stand in `Slots`, the other three in
+//! `Store`.
+//!
+//! Decisions. Two traits, since a trait says nothing of waiting and a method of a block with the bound `R: Wait` counts
+//! as one that may wait. A store's seat is tied to it by an equation (`serves` of the store, `home` of the seat), which
+//! a generic client can keep. A node lies in its slot and not behind a pointer: a look finds stamp and node side by
+//! side, and placing one takes no memory; it costs 72 bytes in a free slot. An arena's opening may be Busy or Full by
+//! its contract, though neither comes: that a put into an empty slot is won is no clause.
+//!
+//! Not said by any clause, and tested: that a call succeeds; that a node which was placed is shown, as no clause tells
+//! what a slot's word holds; so also that a reader who holds a pin never meets Gone. The head and the table as one
+//! machine never take such a slot (`joined_law`); this store doesn't rest on that. `place` asks for a taken slot and
+//! answers its number; that the node then lies there is no clause. A count of readers ends at 2^30 - 1: one more is
+//! Busy.
 #![tactic(auto)]
 
 mod append;

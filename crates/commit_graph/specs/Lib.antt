@@ -1,5 +1,5 @@
--- What a reader of the public clauses believes: what clients share and what a seat has, what a base of the code is of a
--- state, a client's last id, what a stamp reaches, and why a store doesn't show a node.
+-- What clients share and what a head spells. Read Seats first: groups, seats, and what a look leaves (`HasLooked`).
+-- Then Chains and LastIds, Reach (`IsDropped`: what a new head lets go), and Stores: why a node is not shown.
 pub mod Seats
 pub mod Chains
 pub mod LastIds

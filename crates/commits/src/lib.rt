@@ -1,10 +1,10 @@
 //! The commits of a client group, in one place.
 //!
 //! A commit is a snapshot, which is what the server last sent, or one over the commit before it: a local commit, which
-//! adds a mutation, or one that closes the group. This crate has no code of its own. It hands on what the layers have of
-//! commits: their types (`group_history`), how a head is read and what a rebase lets go (`commit_graph`), how a draft is
-//! placed and the head moved to it (`publishing`), and the law that no slot which a head or a reader can reach is used
-//! again (`joined_machine`).
+//! adds a mutation, or one that closes the group. This crate has no code of its own. It hands on what the layers have
+//! of commits: their types (`group_history`), how a head is read and what a rebase lets go (`commit_graph`), how a
+//! draft is placed and the head moved to it (`publishing`), and the law that no slot which a head or a reader can reach
+//! is used again (`joined_machine`).
 #![tactic(auto)]
 
 pub use commit_graph::{

@@ -1,5 +1,8 @@
--- The record, in the order in which to read it: maps, mutators, texts and cookies; the state and what queries read of
--- it; how a mutation and a pull change it; the record of all changes; what is proved of them, with worked examples.
+-- The record, the base of all contracts: what a map, a mutator, a state and a change are, and which record is legal.
+-- Read Map, Meaning, State, Mutating, Pulling and Record in this order; Json, Cookies, Pull, Scans and Queries where
+-- these cite them. Laws and Examples hold them against what one expects. Ids: pending ids follow the confirmed one.
+-- Then nodes: Refs, Rows, Naming, Folds, Spelling (what chunks and commits spell). The rest are words of contracts:
+-- Answers, Ran, Stops, Orders, TextMap.
 pub mod Map
 pub mod Meaning
 pub mod Json
@@ -14,14 +17,11 @@ pub mod Record
 pub mod Ids
 pub mod Laws
 pub mod Examples
--- Nodes: references and rows, how a node names its children, and what chunks and commits spell together.
 pub mod Refs
 pub mod Rows
 pub mod Naming
 pub mod Folds
 pub mod Spelling
--- Words of contracts: how an answer, a run and a stop stand to the right ones; equal responses; the order of cookies;
--- exact clones.
 pub mod Answers
 pub mod Ran
 pub mod Stops

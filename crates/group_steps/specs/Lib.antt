@@ -1,11 +1,11 @@
--- Where a call stands, why a query is refused, and what is replied.
+-- A call step by step. Read Places and Missing (where a call stands, why a query is refused), then Proposing
+-- (`asked_reply`, `kind_for`), Leaving (`Frees`: what a change retires) and Causes (`HasCause`: why it is refused).
+-- Arriving, Changing and Rooting are between the steps.
 pub mod Places
 pub mod Missing
--- A call that has looked where the head is, what it proposes there, and how its try ends.
 pub mod Arriving
 pub mod Proposing
 pub mod Changing
 pub mod Leaving
 pub mod Causes
--- The root of a map, known by its commit.
 pub mod Rooting

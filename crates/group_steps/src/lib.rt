@@ -1,12 +1,19 @@
 //! The steps that the calls of a shared group are made of.
 //!
-//! A query pins its seat, looks where the head is, reads the commit there, and takes the pin away. A change, a
-//! mutation or an end of a pull, is proposed at that commit: what leads to it is drafted, its nodes are placed, and the
-//! head is moved there from the commit; where others moved it first, all of it is done anew at the commit where they
-//! left it.
+//! A query pins its seat, looks where the head is, reads the commit there, and takes the pin away. A change, a mutation
+//! or an end of a pull, is proposed at that commit: what leads to it is drafted, its nodes are placed, and the head is
+//! moved there from the commit; where others moved it first, all of it is done anew at the commit where they left it.
+//! `docs/MAINTAINING.md` has the path with the shared words of each step.
 //!
 //! `At` is the commit where a call stands, read by a seat whose pin is held. The clauses name the state there by what
-//! had been seen when the head was looked at (`state_at`).
+//! had been seen when the head was looked at (`state_at`). Why a change is refused with Full, Busy or Stamps is
+//! `HasCause`, and what it retires `Frees`.
+//!
+//! What is tried again is one function over the change, `make_change`, and no trait that each change meets: a method of
+//! a trait's block may not call a function at a bound that threads may share. What a pull leaves behind is listed
+//! before the exchange, since nothing may be refused after it. These steps are generic in the store and dear to check,
+//! so they stand in a crate of their own; wrong bodies stand in `rebase`, where a user reads the clause, and here only
+//! those of its own functions.
 #![tactic(auto)]
 
 mod changing;

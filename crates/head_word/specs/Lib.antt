@@ -1,5 +1,5 @@
--- What a reader of the public clauses believes, in order of reading: the book and what is true of it; who added which
--- of its entries; what a caller knows of it; the laws of books; and the rule that the two shared words keep.
+-- The book. Read Books (`IsBook`: what is true of every book), Tallies and Marks (who added what, and what a caller
+-- knows), Laws (stamps and records last), and Rules (what the two shared words say of the book).
 pub mod Books
 pub mod Tallies
 pub mod Marks

@@ -1,4 +1,5 @@
--- In the order of reading: what the machine has, what a seat does, when it may and what that changes, and what follows.
+-- The claims table and the head as one machine. Read Worlds (what it has), Events (what a seat does), Joined (when it
+-- may, and what that changes), Laws (`JoinedLaw` first), and Stamps (what lies in the slots).
 pub mod Worlds
 pub mod Events
 pub mod Joined

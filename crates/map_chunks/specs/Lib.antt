@@ -1,21 +1,20 @@
--- What a reader of the public clauses believes, in order of reading. Rows: what chunks and their pieces show, which
--- chunks have more than one child, the nodes of a draft, and what they name once they are placed.
+-- What placed chunks show and what is read below them. Read Shown, Wide, Drafts and Places first: rows, chunks with
+-- more than one child, a draft's nodes, and which references may be looked for. Then keys (KeysSeen, Keys, Search,
+-- Inserting: of 17 entries the first 8 stay), and reading (Writes, Seeking, Ends, SecondKeys, Sinks, Scanning). A user
+-- of `rebase` needs Sinks alone.
 pub mod Shown
 pub mod Wide
 pub mod Drafts
 pub mod Places
--- Keys: those of a draft's chunk, where a key stands among others, and an entry put among others.
 pub mod KeysSeen
 pub mod Keys
 pub mod Search
 pub mod Inserting
--- Reading below a placed chunk: how a key's value stands to another one, what a chunk ends in, its second key, what
--- takes the rows of a scan, and a scan.
 pub mod Writes
 pub mod Seeking
 pub mod Ends
 pub mod SecondKeys
 pub mod Sinks
 pub mod Scanning
--- Words that only private clauses use.
+-- Words that only private clauses of this crate use.
 pub mod Inside

@@ -1,5 +1,5 @@
--- What a reader of the public clauses believes, in order of reading: what the pieces of a draft's chunk are and what
--- holds of it, and what a root is once a key is removed.
+-- What the chunks that a draft owns show. Read Nodes: the pieces of a chunk and what holds of it; then Removing: what a
+-- root is once a key is removed. No public clause above `map_tree` reaches these.
 pub mod Nodes
 pub mod Removing
 -- Words that only private clauses of this crate use.

@@ -1,9 +1,8 @@
--- What a reader of the public clauses believes, in order of reading: what becomes of a draft's numbers, when a draft is
--- placed, and what becomes of slots that are no longer needed.
+-- How a draft becomes part of a group. Read Stamped (what becomes of its numbers), Placed (when it is placed, and when
+-- there was no slot), Retiring (what becomes of slots that are needed no more). Laws are proved of these.
 pub mod Stamped
 pub mod Placed
 pub mod Retiring
--- What is proved of these words.
 pub mod Laws
 -- Words that only private clauses of this crate use.
 pub mod Inside

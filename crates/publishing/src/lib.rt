@@ -1,17 +1,17 @@
 //! How a change that was prepared as a draft becomes part of a group.
 //!
-//! A draft's nodes are numbered among themselves. They are placed in three steps: a slot is taken for each,
-//! stamps are drawn for all at once, and each node is put into a slot, children before parents, and its
-//! slot settled. Then the head is exchanged, and what is no longer needed is retired: what the old head
-//! alone reached where the exchange was won, and the draft itself where it was lost. So a slot is settled
-//! before the head can reach it, and retired only when the head does not.
+//! A draft's nodes are numbered among themselves. They are placed in three steps: a slot is taken for each, stamps are
+//! drawn for all at once, and each node is put into a slot, children before parents, and its slot settled. Then the
+//! head is exchanged, and what is no longer needed is retired: what the old head alone reached where the exchange was
+//! won, and the draft itself where it was lost. So a slot is settled before the head can reach it, and retired only
+//! when the head does not.
 //!
-//! Whatever becomes of a draft, its publisher is left without taken slots: one that is taken is settled or
-//! withdrawn, and one that was settled in vain is retired. That stands in `GivesUp` and `Retires` of
-//! `specs/Retiring.antt`.
+//! Whatever becomes of a draft, its publisher is left without taken slots: one that is taken is settled or withdrawn,
+//! and one that was settled in vain is retired (`GivesUp` and `Retires` of `specs/Retiring.antt`). The epoch is raised
+//! once for all that is retired; at the last epoch nothing is.
 //!
-//! What the draft spelled under its own numbers it spells under the stamps that it drew: `placing_laws` has
-//! that, and `place_of` tells what a reference of the draft has become.
+//! What the draft spelled under its own numbers it spells under the stamps that it drew: `placing_laws` has that, and
+//! `place_of` tells what a reference of the draft has become.
 #![tactic(auto)]
 
 mod drawing;

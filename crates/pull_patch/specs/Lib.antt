@@ -1,3 +1,5 @@
+-- Which response the bytes are. Read Fields, Operations, Changes, then Grammar, whose `answer_to` is the whole:
+-- NotJson, BadShape, NotWhole, or the response. Laws and Worked hold it against bodies that are written out.
 pub mod Fields
 pub mod Operations
 pub mod Changes

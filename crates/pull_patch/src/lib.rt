@@ -1,11 +1,16 @@
-//! Reading a pull's response.
+//! Reading a pull's response. `docs/FORMATS.md` has the grammar in words.
 //!
 //! A body that is plain is read from token to token, with no tree of the whole (`plain`): without an error, and with
 //! whole numbers alone in what counts. Any other one is read as a tree of JSON. There all that the response needs is
 //! looked for with its type: the cookie, the confirmed ids and the patch, or the field `error`. Only where the whole
 //! shape is right is a number that isn't whole told. What the bytes are to be read as is written down in
-//! `specs/Grammar`, and `read_response` answers that, for every byte string; the parts of the reader have the parts of
-//! the grammar as their contracts.
+//! `specs/Grammar.antt`, and `read_response` answers that, for every byte string.
+//!
+//! Decisions. Two readers, since a tree of a body takes up to 37 bytes for each of its bytes. A put's value is written
+//! again from its tokens, and that is its compact text where its names ascend and its numbers are whole; only where it
+//! isn't, this one value is read by `serde_json`, which goes down one call a level and stops at 128: a body 126 deep
+//! needs a stack of 160 kB. `plain_response` refuses nothing but for want of memory. No clause says which bodies are
+//! plain, and no proof bounds a stack.
 //!
 //! What a response's patch makes of a map, and the order of cookies, are `group_history`'s.
 #![tactic(auto)]

@@ -1,10 +1,25 @@
 //! Clients of one group, on any threads, over any store.
 //!
-//! The clients of a group share the nodes of a store and the head of its book. Each has a seat: what it
-//! claims slots with, and what it has seen of the book. A query pins the seat, looks where the head is,
-//! reads the commit there, and takes the pin away again. A change, a mutation or an end of a pull, is drafted
-//! at that commit, its nodes are placed, and the head is moved there from the commit; where others moved it
-//! first, it is made anew at the commit where they left it.
+//! The clients of a group share the nodes of a store and the head of its book. Each has a seat: what it claims slots
+//! with, and what it has seen of the book. A query pins the seat, looks where the head is, reads the commit there, and
+//! takes the pin away again. A change is drafted at that commit, its nodes are placed, and the head is moved there;
+//! where others moved it first, it is made anew at the commit where they left it.
+//!
+//! Each call's clause `answer` is `IsLinearized` of `answered`: a right reply at one point of the call. What a call
+//! leaves is one word: `Acts` (a change), `Looks`, `Stays` (a query), `Reads` (an open reader). Why a change is refused
+//! with Full, Busy or Stamps is `cause`, what it retires `frees`.
+//!
+//! Decisions. A group is a handle on an `Arc`, and a client has no lifetime, so programs keep clients in structs and
+//! hand them to threads; it costs `Drop` bounds on mutators and store. A reader holds its client by `&mut`, so it has
+//! no model: `lent`, `seen_by` and `read_by` say what it shows. It has a copy of its client's mark and the root of its
+//! map, so it loads the head once and looks at the commit once. It looks whether its pin is held before each answer,
+//! since a type can't keep that of what lies behind its `&mut`; the pin is never found missing, and the answer would be
+//! Gone. A group is counted by a client (`slots`), since a load without a seat tells nothing that a clause could name.
+//! A call that may wait tries 1,000 times before it begins anew; in between it has no pin and no taken slot. A watch
+//! may be polled by any client of its group: it keeps the rows told last and what was seen of the book then, so at a
+//! root that it met before a poll reads no row. A seat that comes back needs the room that it left, so `back` takes no
+//! memory. A list of calls says of a refusal what names can say (`MayRefuse`); the cause of each is a clause of
+//! `make_call`.
 #![tactic(auto)]
 
 mod answering;

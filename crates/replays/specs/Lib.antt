@@ -1,5 +1,5 @@
--- What a reader of the public clauses believes, in order of reading: the newest commit of a chain, and why a change is
--- refused.
+-- The newest commit of a chain (Chaining), and why a change that is drafted is refused (Refusing). The states are the
+-- record's.
 pub mod Chaining
 pub mod Refusing
 -- Words that only private clauses of this crate use.

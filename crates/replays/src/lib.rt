@@ -1,13 +1,22 @@
 //! New commits of a client group, drafted over whatever shows the nodes that are placed.
 //!
-//! A mutation extends the newest map by one run of its mutator (`draft_mutation`). A pull that is applied patches
-//! the pulled map, and runs each mutation that stays pending on what those before it left (`draft_rebase`).
-//! Both only read what is placed, and write what is new into a `Draft` behind it, the chunks and the
-//! commits: so a refused one has changed no group.
+//! A mutation extends the newest map by one run of its mutator (`draft_mutation`). A pull that is applied patches the
+//! pulled map, and runs each mutation that stays pending on what those before it left (`draft_rebase`). Both only read
+//! what is placed, and write what is new into a `Draft` behind it: so a refused one has changed no group. How a pull
+//! ends is `pull_outcome`.
 //!
-//! What is placed is named by the type (`Known`), and any reference may be looked for there: so it is with
-//! a vector, and with the nodes of a store that clients share. Such nodes may stop, and then the refusal
-//! says why (`StopsAs`).
+//! A rebase runs what stays pending on one tree, and its last commit alone has that map. Queries read at heads, and no
+//! commit before it is ever one: these have the pulled map's root. In a map of one leaf a pull that leaves k mutations
+//! takes 3 + k slots so, where a map for each commit takes 2 + 2 k. What a refusing mutator wrote would stay in that
+//! tree, and a tree is no cheap copy: so then the halves are replayed one after the other, down to one mutation on a
+//! tree of its own. With one refusal among k there are up to log2 k maps (rounded up), and each mutation is run once at
+//! each halving at most, and once alone. A tree that is a cheap copy would change this.
+//!
+//! What is placed is named by the type (`NamesContents`), and any reference may be looked for there. Such nodes may
+//! stop, and then the refusal says why (`StopsAs`).
+//!
+//! Tested: that a mutation's map shares all chunks but those on its way, that an empty pull shares the pulled map, and
+//! how many slots a rebase takes.
 #![tactic(auto)]
 
 mod locals;

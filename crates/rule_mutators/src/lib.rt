@@ -1,8 +1,12 @@
-//! Mutators that are data.
+//! Mutators that are data. `docs/RULES.md` has the language.
 //!
 //! A host in any language gives its mutators as a JSON text. `Rules::read` reads it, and names the first fault by its
-//! place; `RuleMutators` runs what was read. What is read from which text, and what a rule means, are definitions in
-//! `specs/`.
+//! place, a JSON Pointer; `RuleMutators` runs what was read. What is read from which text is `specs/Reading.antt`, what
+//! a rule means `specs/Meaning.antt`. There are no loops, so each rule ends. A name without a rule is a mutator of
+//! scripts.
+//!
+//! Tested: each word once, and how each fault is told. By hand, in an unproved build: each allocation refused in turn,
+//! and 10,000 random cases beside the twin in Python (`tools/compare-rules`).
 #![tactic(auto)]
 
 mod evaluating;

@@ -1,4 +1,4 @@
--- What a reader of the public clauses believes: what the mutators mean.
+-- What the mutators of scripts mean: Mutators has each, by arguments, reason and map.
 pub mod Mutators
 -- Words that only private clauses of this crate use.
 pub mod Inside

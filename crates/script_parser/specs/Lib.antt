@@ -1,6 +1,5 @@
--- What a reader of the public clauses believes, in order of reading: the words of a line, what the lines so far have
--- said, what a line before the first phase says, and one from it on; which line is the first faulty one; what a script
--- says that was read; and what a line asks where no lines are kept.
+-- What a script says. Read Words, Context, Header and Commands (what a line says), then Faults (`script_said`: the
+-- first fault, or what was said) and Scripts. Kept and Reading are a line that is read by itself.
 pub mod Words
 pub mod Context
 pub mod Header

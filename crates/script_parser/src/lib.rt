@@ -1,7 +1,8 @@
 //! The language of scripts: a script is checked whole, and made values.
 //!
 //! `read_script` cuts a script into lines and makes values of them (a `Header`, and phases of `Command`s); where it is
-//! faulty, the first faulty line is told. What a script says, and which fault is the first, is in `specs/`.
+//! faulty, the first faulty line is told. `LineReader` does the same for a line by itself. What a script says, and
+//! which fault is the first, is in `specs/`; `docs/SCRIPT.md` says it in words, with each fault's usual cause.
 #![tactic(auto)]
 
 mod faults;

@@ -1,6 +1,6 @@
--- What a reader of the public clauses believes, in order of reading: how replies are printed; how a client stands, what
--- a call of it may reply, and what a command may print; what phases print; and how a run ends. What a script says is in
--- the definitions of script_parser.
+-- What a run writes. Read Printing (how replies are printed), Callers and Commanding (how a client stands, and what a
+-- command may print), Phases and Answering, and last Runs: `HasRun` is what `run` has written. What a script says is in
+-- `script_parser`.
 pub mod Printing
 pub mod Callers
 pub mod Commanding

@@ -3,7 +3,20 @@
 //! A script is checked whole before anything runs (`script_parser`). `runner` then runs its phases one after the other:
 //! in a phase each client with lines has a thread of its own, and what they print is written client by client, in the
 //! order of their header lines. `process` is the same over a reader and two writers, with the statuses of a process.
-//! `clients` does the lines of clients one by one, for who reads a script line by line.
+//! `clients` does the lines of clients one by one.
+//!
+//! Decisions. What the clients of a script stand for is plain data (`Player`: names, IDs, last ids, marks, tickets), of
+//! which the clause `written` speaks; a call's answer is right by the contract of the client's call (`MayReply`). A
+//! client alone in a phase runs on the caller's thread. A client of a script is one over `Arena` with the mutators of
+//! scripts, since a method of a trait's block may not call a function at a bound that threads may share; so each
+//! command stands twice, over the trait (`client`) and over any mutators (`answering`), by the same definitions. A
+//! client keeps its watches beside it, and a poll works on a copy, so a refused poll leaves the watch. `run_plain` runs
+//! the same over the plain group behind a lock; what it writes is no clause, since nothing is known of what a lock
+//! guards.
+//!
+//! Not said: why a writer failed, as `Write` says only what was written (tested with streams that fail); how many slots
+//! the group has (told by the scripts of `trials/data/slots`); who moved the head when. The clause on what a run wrote
+//! speaks of some record. This clause doesn't state that the clients' logs are prefixes of one book; their marks do.
 #![tactic(auto)]
 
 mod answering;

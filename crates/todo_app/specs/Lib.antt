@@ -1,2 +1,2 @@
--- What a reader of the program believes: what the mutators mean.
+-- What the mutators of the list mean: Todos has each, by its arguments and the map.
 pub mod Todos
