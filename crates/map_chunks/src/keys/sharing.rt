@@ -4,7 +4,7 @@ ghost use Rattle.std.specs.Arc.{arc_value};
 ghost use Rattle.group_history.specs.Rows.{AreKeys};
 
 use super::{NodeKeys, Texts};
-use group_history::Keys;
+use group_history::{Keys, Text};
 use std::alloc::{AllocError, Global};
 use std::sync::Arc;
 
@@ -16,7 +16,15 @@ impl NodeKeys {
     {
         match self.texts {
             Texts::Shared(keys) => Ok(keys),
-            Texts::Own(texts) => Ok(Arc::new(alloc, Keys::new(texts))?),
+            Texts::Own(texts) => shared(alloc, texts),
         }
     }
+}
+
+// Makes the list one that is shared. Room for its keys is made here alone.
+fn shared(alloc: Global, texts: Vec<Text>) -> Result<Arc<Keys>, AllocError>
+    requires { AreKeys texts.items }
+    ensures { IfOk result (λ keys. arc_value keys ≡ texts.items) }
+{
+    Ok(Arc::new(alloc, Keys::new(texts))?)
 }
