@@ -12,7 +12,7 @@ use Rattle.group_history.specs.Refs.{stamp_of}
 use Rattle.group_history.specs.Rows.{keys_of}
 use Rattle.group_history.specs.Spelling.{Contents, Segment, segment_at, rows_at, joined_rows}
 use Rattle.map_chunks.specs.Search.{IsPlace}
-use Rattle.map_chunks.specs.Seeking.{chunk_depth, stands_in}
+use Rattle.map_chunks.specs.Seeking.{stands_in}
 use Rattle.map_chunks.specs.Writes.{standing}
 use Rattle.map_chunks.specs.Inside.Steps.{IsStep, Deepens}
 use Rattle.map_chunks.specs.Inside.Seeking.{IsHint, Hints}

@@ -14,17 +14,17 @@ ghost use Rattle.map_chunks.specs.Seeking.{chunk_depth};
 
 use crate::chunks::{Chunks, ShowsChunk};
 use crate::looks::{Descent, Lookup};
-use crate::search::{place_of, value_at};
-use group_history::{Chunk, Json, Ref, Stop};
+use crate::search::{place_for, value_for};
+use group_history::{Chunk, Json, Ref, SearchKey, Stop};
 use std::alloc::AllocError;
 
 // What a chunk says of a key.
-fn step_of(chunk: &Chunk<Ref>, key: &str) -> Result<Descent, AllocError>
+fn step_of(chunk: &Chunk<Ref>, key: &SearchKey<'_>) -> Result<Descent, AllocError>
     ensures { IfOk result (IsStep chunk.now key.now) }
 {
     match chunk {
         Chunk::Leaf(leaf) => {
-            let value = value_at(leaf.keys().as_slice(), leaf.values(), key)?;
+            let value = value_for(leaf.keys().as_slice(), leaf.values(), key)?;
             Ok(Descent::Found(value))
         }
         Chunk::Inner(inner) => {
@@ -32,13 +32,13 @@ fn step_of(chunk: &Chunk<Ref>, key: &str) -> Result<Descent, AllocError>
             if children.is_empty() {
                 return Ok(Descent::Found(None));
             }
-            let place = place_of(inner.firsts().as_slice(), key);
+            let place = place_for(inner.firsts().as_slice(), key);
             Ok(Descent::Below(children[place]))
         }
     }
 }
 
-fn look<C: Chunks>(chunks: &mut C, at: Ref, key: &str) -> Result<Descent, Stop>
+fn look<C: Chunks>(chunks: &mut C, at: Ref, key: &SearchKey<'_>) -> Result<Descent, Stop>
     requires known { IsTree (chunk_rows (C.contents chunks.old) (stamp_of at)) }
     requires place { C.places chunks.old at }
     ensures grown { Grows C.contents C.places chunks.old chunks.new }
@@ -63,9 +63,21 @@ pub fn get_placed<C: Chunks>(chunks: &mut C, at: Ref, key: &str) -> Result<Optio
         (rows_or (chunk_rows (C.contents chunks.old) (stamp_of at)))) }
     ensures stopped { IfErr result (λ s. (s ≡ NoMemory) ⊎ C.stops s) }
 {
+    get_for(chunks, at, &SearchKey::new(key))
+}
+
+// The same, of a key whose first bytes were read already.
+fn get_for<C: Chunks>(chunks: &mut C, at: Ref, key: &SearchKey<'_>) -> Result<Option<Json>, Stop>
+    requires known { IsTree (chunk_rows (C.contents chunks.old) (stamp_of at)) }
+    requires place { C.places chunks.old at }
+    ensures grown { Grows C.contents C.places chunks.old chunks.new }
+    ensures value { IfOk result (λ v. v ≡ finite.find (slice_cmp nat_cmp) key.now
+        (rows_or (chunk_rows (C.contents chunks.old) (stamp_of at)))) }
+    ensures stopped { IfErr result (λ s. (s ≡ NoMemory) ⊎ C.stops s) }
+{
     match look(chunks, at, key)? {
         Descent::Found(value) => Ok(value),
-        Descent::Below(child) => get_placed(chunks, child, key),
+        Descent::Below(child) => get_for(chunks, child, key),
     }
 }
 
@@ -80,10 +92,24 @@ pub fn find_placed<C: Chunks>(chunks: &mut C, at: Ref, key: &str) -> Result<Look
     ensures bound { IfOk result (λ found. found.depth ≤ stamp_of at + 1) }
     ensures stopped { IfErr result (λ s. (s ≡ NoMemory) ⊎ C.stops s) }
 {
+    find_for(chunks, at, &SearchKey::new(key))
+}
+
+// The same, of a key whose first bytes were read already.
+fn find_for<C: Chunks>(chunks: &mut C, at: Ref, key: &SearchKey<'_>) -> Result<Lookup, Stop>
+    requires known { IsTree (chunk_rows (C.contents chunks.old) (stamp_of at)) }
+    requires place { C.places chunks.old at }
+    ensures grown { Grows C.contents C.places chunks.old chunks.new }
+    ensures value { IfOk result (λ found. found.value ≡ finite.find (slice_cmp nat_cmp) key.now
+        (rows_or (chunk_rows (C.contents chunks.old) (stamp_of at)))) }
+    ensures depth { IfOk result (λ found. chunk_depth (C.contents chunks.old) (stamp_of at) ≡ Some found.depth) }
+    ensures bound { IfOk result (λ found. found.depth ≤ stamp_of at + 1) }
+    ensures stopped { IfErr result (λ s. (s ≡ NoMemory) ⊎ C.stops s) }
+{
     match look(chunks, at, key)? {
         Descent::Found(value) => Ok(Lookup { value, depth: 1 }),
         Descent::Below(child) => {
-            let below = find_placed(chunks, child, key)?;
+            let below = find_for(chunks, child, key)?;
             Ok(Lookup {
                 value: below.value,
                 depth: below.depth + 1,

@@ -14,15 +14,14 @@ use std::alloc::AllocError;
 use std::cmp::Ordering;
 
 /// How many of the keys aren't above this one.
-pub(crate) fn rank(keys: &[Text], key: &str) -> usize
+fn rank(keys: &[Text], key: &SearchKey<'_>) -> usize
     ensures { IsRank key.now keys.now result }
 {
-    let sought = SearchKey::new(key);
     let mut low = 0;
     let mut high = keys.len();
     while low < high {
         let middle = low + (high - low) / 2;
-        if sought.order_of(&keys[middle]).is_gt() {
+        if key.order_of(&keys[middle]).is_gt() {
             high = middle;
         } else {
             low = middle + 1;
@@ -37,6 +36,15 @@ pub fn place_of(keys: &[Text], key: &str) -> usize
     requires order { T (rises keys.now) }
     ensures { IsPlace key.now keys.now result }
 {
+    place_for(keys, &SearchKey::new(key))
+}
+
+/// The same, of a key whose first bytes were read already.
+pub(crate) fn place_for(keys: &[Text], key: &SearchKey<'_>) -> usize
+    requires filled { 0 < length keys.now }
+    requires order { T (rises keys.now) }
+    ensures { IsPlace key.now keys.now result }
+{
     let rank = rank(keys, key);
     if rank == 0 { 0 } else { rank - 1 }
 }
@@ -46,12 +54,18 @@ pub fn search(keys: &[Text], key: &str) -> Result<usize, usize>
     ensures found { IfOk result (IsFound key.now keys.now) }
     ensures absent { IfErr result (IsAbsent key.now keys.now) }
 {
-    let sought = SearchKey::new(key);
+    search_for(keys, &SearchKey::new(key))
+}
+
+fn search_for(keys: &[Text], key: &SearchKey<'_>) -> Result<usize, usize>
+    ensures found { IfOk result (IsFound key.now keys.now) }
+    ensures absent { IfErr result (IsAbsent key.now keys.now) }
+{
     let mut low = 0;
     let mut high = keys.len();
     while low < high {
         let middle = low + (high - low) / 2;
-        match sought.order_of(&keys[middle]) {
+        match key.order_of(&keys[middle]) {
             Ordering::Less => low = middle + 1,
             Ordering::Equal => return Ok(middle),
             Ordering::Greater => high = middle,
@@ -81,7 +95,21 @@ pub fn standing_at(keys: &[Text], values: &[Json], key: &str, asked: Option<&Jso
     requires values { length values.now ≡ length keys.now }
     ensures { result ≡ stands_in (paired keys.now values.now) key.now (option_copied asked.entry) }
 {
-    match search(keys, key) {
+    standing_for(keys, values, &SearchKey::new(key), asked)
+}
+
+/// The same, of a key whose first bytes were read already.
+pub(crate) fn standing_for(
+    keys: &[Text],
+    values: &[Json],
+    key: &SearchKey<'_>,
+    asked: Option<&Json>,
+) -> Comparison
+    requires order { T (rises keys.now) }
+    requires values { length values.now ≡ length keys.now }
+    ensures { result ≡ stands_in (paired keys.now values.now) key.now (option_copied asked.entry) }
+{
+    match search_for(keys, key) {
         Ok(place) => compared(&values[place], asked),
         Err(_) => Comparison::Absent,
     }
@@ -93,7 +121,20 @@ pub fn value_at(keys: &[Text], values: &[Json], key: &str) -> Result<Option<Json
     requires values { length values.now ≡ length keys.now }
     ensures { IfOk result (λ v. v ≡ finite.find (slice_cmp nat_cmp) key.now (paired keys.now values.now)) }
 {
-    match search(keys, key) {
+    value_for(keys, values, &SearchKey::new(key))
+}
+
+/// The same, of a key whose first bytes were read already.
+pub(crate) fn value_for(
+    keys: &[Text],
+    values: &[Json],
+    key: &SearchKey<'_>,
+) -> Result<Option<Json>, AllocError>
+    requires order { T (rises keys.now) }
+    requires values { length values.now ≡ length keys.now }
+    ensures { IfOk result (λ v. v ≡ finite.find (slice_cmp nat_cmp) key.now (paired keys.now values.now)) }
+{
+    match search_for(keys, key) {
         Ok(place) => Ok(Some(values[place].clone()?)),
         Err(_) => Ok(None),
     }

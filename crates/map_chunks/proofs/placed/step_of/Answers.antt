@@ -29,9 +29,9 @@ returns-else-is_empty c =
     let keys : c.as_slice-in-Inner.result.now
     ≡ keys_of kids = c.as_slice-in-Inner.ensures.keys ∙ c.deref-in-Inner.ensures ∙ c.firsts.ensures.keys in
     let children : c.children-children.result.now ≡ values_of kids = c.children-children.ensures in
-    let place = c.place_of-place.result in
+    let place = c.place_for-place.result in
     let at = slice_index_or c.children-children.result.now place (record { bits = 0 }) in
-    let p : IsPlace key (keys_of kids) place = subst (λ w. IsPlace key w place) keys c.place_of-place.ensures in
+    let p : IsPlace key (keys_of kids) place = subst (λ w. IsPlace key w place) keys c.place_for-place.ensures in
     let l : place < length c.children-children.result.now = omega
     (arith, p.0, length-keys_of kids, length-values_of kids, ap length children) in
     subst (λ (ch : Chunk Ref). IsStep ch key (Below at)) (sym c.in-Inner.is) (

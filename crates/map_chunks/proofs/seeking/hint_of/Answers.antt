@@ -18,8 +18,8 @@ returns-in-Leaf c =
     let rows : Rows = c.in-Leaf.leaf in
     let keys : c.as_slice.result.now ≡ keys_of rows = c.as_slice.ensures.keys ∙ c.deref.ensures ∙ c.keys.ensures.keys in
     let values : c.values.result.now ≡ values_of rows = c.values.ensures in
-    subst (λ (ch : Chunk Ref). IsHint ch key asked (Stands c.standing_at-standing.result)) (sym c.in-Leaf.is)
-    (c.standing_at-standing.ensures ∙ ap (λ w. stands_in (paired w c.values.result.now) key asked) keys
+    subst (λ (ch : Chunk Ref). IsHint ch key asked (Stands c.standing_for-standing.result)) (sym c.in-Leaf.is)
+    (c.standing_for-standing.ensures ∙ ap (λ w. stands_in (paired w c.values.result.now) key asked) keys
     ∙ ap (λ w. stands_in (paired (keys_of rows) w) key asked) values ∙ ap (λ w. stands_in w key asked)
     (paired-parts rows))
 
@@ -30,9 +30,9 @@ returns-else-is_empty c =
     let keys : c.as_slice-in-Inner.result.now
     ≡ keys_of kids = c.as_slice-in-Inner.ensures.keys ∙ c.deref-in-Inner.ensures ∙ c.firsts.ensures.keys in
     let children : c.children-children.result.now ≡ values_of kids = c.children-children.ensures in
-    let place = c.place_of-place.result in
+    let place = c.place_for-place.result in
     let at = slice_index_or c.children-children.result.now place (record { bits = 0 }) in
-    let p : IsPlace key (keys_of kids) place = subst (λ w. IsPlace key w place) keys c.place_of-place.ensures in
+    let p : IsPlace key (keys_of kids) place = subst (λ w. IsPlace key w place) keys c.place_for-place.ensures in
     let l : place < length c.children-children.result.now = omega
     (arith, p.0, length-keys_of kids, length-values_of kids, ap length children) in
     subst (λ (ch : Chunk Ref). IsHint ch key (option_copied c.args.asked) (On at)) (sym c.in-Inner.is) (

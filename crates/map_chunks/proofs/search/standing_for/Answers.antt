@@ -3,7 +3,7 @@ use Rattle.std.specs.Prelude.{option_copied}
 use Rattle.group_history.specs.Rows.{paired}
 use Rattle.map_chunks.specs.Writes.{standing}
 use Rattle.map_chunks.proofs.SearchLemmas.{found_in, absent_in, find-found, find-absent, value-found, indexed}
-use Rattle.map_chunks.proofs.search.standing_at.Goals as goal
+use Rattle.map_chunks.proofs.search.standing_for.Goals as goal
 
 pub returns-in-Ok : goal.returns-in-Ok
 returns-in-Ok c =

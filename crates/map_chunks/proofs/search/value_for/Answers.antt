@@ -1,7 +1,7 @@
 use Rattle.std.proofs.Common.{Some, sym, ap, ◌∙◌}
 use Rattle.group_history.specs.Rows.{paired}
 use Rattle.map_chunks.proofs.SearchLemmas.{found_in, absent_in, find-found, find-absent, value-found, indexed}
-use Rattle.map_chunks.proofs.search.value_at.Goals as goal
+use Rattle.map_chunks.proofs.search.value_for.Goals as goal
 
 pub returns-in_ok-clone-in-Ok : goal.returns-in_ok-clone-in-Ok
 returns-in_ok-clone-in-Ok c =

@@ -1,7 +1,7 @@
 use Rattle.std.proofs.Common.{◌≡◌, arith, subst, true, slice_index_or}
 use Rattle.map_chunks.specs.Search.{is_above}
 use Rattle.map_chunks.proofs.SearchLemmas.{second_above}
-use Rattle.map_chunks.proofs.search.place_of.Goals as goal
+use Rattle.map_chunks.proofs.search.place_for.Goals as goal
 
 pub returns-then-rank-eq0 : goal.returns-then-rank-eq0
 returns-then-rank-eq0 c = (

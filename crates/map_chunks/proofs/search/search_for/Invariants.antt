@@ -2,7 +2,7 @@ use Rattle.std.proofs.Common.{◌-◌, ◌≡◌, ◌<◌, ◌≤◌, length, tr
 use Rattle.std.specs.Cmp.Lexicographic.{slice_cmp}
 use Rattle.group_history.specs.Map.{Bytes}
 use Rattle.map_chunks.specs.Search.{is_above}
-use Rattle.map_chunks.proofs.search.search.Given as goal
+use Rattle.map_chunks.proofs.search.search_for.Given as goal
 
 abbrev pub invariant-loop-low : goal.invariant-loop-low
 invariant-loop-low l = (l.low ≤ l.high) × (l.high ≤ length l.keys)
