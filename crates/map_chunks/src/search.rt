@@ -40,7 +40,7 @@ pub fn place_of(keys: &[Text], key: &str) -> usize
 }
 
 /// The same, of a key whose first bytes were read already.
-pub(crate) fn place_for(keys: &[Text], key: &SearchKey<'_>) -> usize
+pub fn place_for(keys: &[Text], key: &SearchKey<'_>) -> usize
     requires filled { 0 < length keys.now }
     requires order { T (rises keys.now) }
     ensures { IsPlace key.now keys.now result }
@@ -57,7 +57,8 @@ pub fn search(keys: &[Text], key: &str) -> Result<usize, usize>
     search_for(keys, &SearchKey::new(key))
 }
 
-fn search_for(keys: &[Text], key: &SearchKey<'_>) -> Result<usize, usize>
+/// The same, of a key whose first bytes were read already.
+pub fn search_for(keys: &[Text], key: &SearchKey<'_>) -> Result<usize, usize>
     ensures found { IfOk result (IsFound key.now keys.now) }
     ensures absent { IfErr result (IsAbsent key.now keys.now) }
 {

@@ -16,15 +16,15 @@ ghost use Rattle.map_nodes.specs.declared.nodes.OwnChild.{OwnChild as Childs};
 ghost use Rattle.map_nodes.specs.declared.nodes.OwnChild.TheVariants as childs;
 
 use super::{Body, OwnChild, OwnNode};
-use group_history::{Json, Ref, Stop};
+use group_history::{Json, Ref, SearchKey, Stop};
 use map_chunks::Chunks;
-use map_chunks::search::{place_of, search};
+use map_chunks::search::{place_for, search_for};
 use std::alloc::Global;
 
 // A value, and the key that has it from now on.
 #[derive(Drop)]
-struct Replacement<'a> {
-    key: &'a str,
+struct Replacement<'a, 'k> {
+    key: &'a SearchKey<'k>,
     value: Json,
 }
 
@@ -35,7 +35,7 @@ impl OwnNode {
         &mut self,
         alloc: Global,
         chunks: &mut C,
-        key: &str,
+        key: &SearchKey<'_>,
         value: Json,
     ) -> Result<(), Stop>
         requires places { AreAll (C.places chunks.old) (places_of self.old.pieces) }
@@ -56,14 +56,14 @@ impl OwnNode {
     {
         match &mut self.body {
             Body::Leaf(values) => {
-                let Ok(place) = search(self.keys.as_slice(), key) else {
+                let Ok(place) = search_for(self.keys.as_slice(), key) else {
                     return Ok(());
                 };
                 values[place] = value;
                 return Ok(());
             }
             Body::Inner(kids) => {
-                let place = place_of(self.keys.as_slice(), key);
+                let place = place_for(self.keys.as_slice(), key);
                 return replace_child(
                     kids,
                     place,
@@ -84,7 +84,7 @@ fn replace_child<C: Chunks>(
     below: u64,
     alloc: Global,
     chunks: &mut C,
-    to: Replacement<'_>,
+    to: Replacement<'_, '_>,
 ) -> Result<(), Stop>
     requires places { AreAll (C.places chunks.old) (kids_places kids.old.items) }
     requires within { place < length kids.old.items }
@@ -118,7 +118,7 @@ fn replaced_copy<C: Chunks>(
     chunks: &mut C,
     at: Ref,
     depth: u64,
-    key: &str,
+    key: &SearchKey<'_>,
     value: Json,
 ) -> Result<Box<OwnNode>, Stop>
     requires place { C.places chunks.old at }

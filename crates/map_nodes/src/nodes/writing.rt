@@ -9,7 +9,7 @@ ghost use Rattle.map_chunks.specs.Shown.{shown, IsTree, rows_or};
 ghost use Rattle.map_chunks.specs.Wide.{IsWideChunk};
 
 use super::OwnNode;
-use group_history::{Json, Stop, Text};
+use group_history::{Json, SearchKey, Stop, Text};
 use map_chunks::Chunks;
 use std::alloc::Global;
 
@@ -42,7 +42,7 @@ impl OwnNode {
         ensures stopped { IfErr result (λ s. (s ≡ NoMemory) ⊎ C.stops s) }
     {
         if there {
-            return self.replace(alloc, chunks, key, value.clone()?);
+            return self.replace(alloc, chunks, &SearchKey::new(key), value.clone()?);
         }
         let key = Text::new(alloc, key)?;
         self.put_root(alloc, chunks, &key, value)

@@ -34,7 +34,7 @@ OwnNode::replace-returns-in_default-clause-done g t c =
     c.self.inside.body c.in-Leaf.values c.args.self.now.pieces
     c.as_slice.result.now c.args.key.now c.in_default.field-0
     (ap (λ (s : Seen). s.pieces) c.self.view_is) c.in-Leaf.is c.self.invariant c.as_slice.ensures
-    c.requires.1.1.1.1.1.1 c.in_default.ensures.absent)
+    c.requires.there c.in_default.ensures.absent)
 
 pub OwnNode::replace-returns-in-Leaf-clause-done : goal.OwnNode::replace-returns-in-Leaf-clause-done
 OwnNode::replace-returns-in-Leaf-clause-done g t c =
@@ -150,24 +150,24 @@ OwnNode::replace-replace_child-requires g t c κs within =
     let keys = c.self.inside.keys.texts in
     let kids = c.in-Inner.kids in
     let pieces = c.args.self.now.pieces in
-    let i = c.place_of-place.result in
+    let i = c.place_for-place.result in
     let at : OwnChild = Placed (record { bits = 0 }) in
     let x = node_at p depth keys c.self.inside.body kids pieces c.as_slice-in-Inner.result.now c.args.key.now i at
     (ap (λ (s : Seen). s.pieces) c.self.view_is) c.in-Inner.is c.self.invariant
-    c.as_slice-in-Inner.ensures c.place_of-place.ensures c.requires.1.1.1.1.1.0 in
+    c.as_slice-in-Inner.ensures c.place_for-place.ensures c.requires.tree in
     let child = get_or kids.items i at in (
-      omega (arith, x.2.1.0, ap (λ (s : Seen). s.depth) c.self.view_is, c.requires.1.0),
+      omega (arith, x.2.1.0, ap (λ (s : Seen). s.depth) c.self.view_is, c.decreases),
       (
         within.0,
         (
           within.1,
           (
             kids_may (g.C.Chunks.places c.args.chunks.now) depth keys c.self.inside.body kids pieces
-                (ap (λ (s : Seen). s.pieces) c.self.view_is) c.in-Inner.is c.self.invariant c.requires.1.1.1.1.0,
+                (ap (λ (s : Seen). s.pieces) c.self.view_is) c.in-Inner.is c.self.invariant c.requires.places,
             (
               omega (arith, x.3.0, x.2.1.2),
               can_replace p depth keys kids.items pieces c.args.key.now i child x.0 x.1
-                  c.requires.1.1.1.1.1.1,
+                  c.requires.there,
             ),
           ),
         ),
@@ -181,18 +181,18 @@ OwnNode::replace-invariant_of-self-in-Inner g t c =
     let keys = c.self.inside.keys.texts in
     let kids = c.in-Inner.kids in
     let pieces = c.args.self.now.pieces in
-    let i = c.place_of-place.result in
+    let i = c.place_for-place.result in
     let at : OwnChild = Placed (record { bits = 0 }) in
     let x = node_at p depth keys c.self.inside.body kids pieces c.as_slice-in-Inner.result.now c.args.key.now i at
     (ap (λ (s : Seen). s.pieces) c.self.view_is) c.in-Inner.is c.self.invariant
-    c.as_slice-in-Inner.ensures c.place_of-place.ensures c.requires.1.1.1.1.1.0 in
+    c.as_slice-in-Inner.ensures c.place_for-place.ensures c.requires.tree in
     let child = get_or kids.items i at in
     let q = g.C.Chunks.contents c.replace_child.new.chunks in
     let done = c.replace_child.ensures.done child x.1 in
     either_way c.replace_child.result done c.replace_child.ensures.err
     (λ s. (child_replaced p q depth keys c.self.inside.body kids c.replace_child.new.kids.items pieces c.args.key.now
     c.args.value i child c.replace_child.ensures.grown.0 c.in-Inner.is c.self.invariant x.0
-    c.requires.1.1.1.1.1.1 s).node)
+    c.requires.there s).node)
     (λ e. (
       x.2.0,
       (
@@ -210,18 +210,18 @@ OwnNode::replace-returns-in-Inner-clause-done g t c =
     let keys = c.self.inside.keys.texts in
     let kids = c.in-Inner.kids in
     let pieces = c.args.self.now.pieces in
-    let i = c.place_of-place.result in
+    let i = c.place_for-place.result in
     let at : OwnChild = Placed (record { bits = 0 }) in
     let x = node_at p depth keys c.self.inside.body kids pieces c.as_slice-in-Inner.result.now c.args.key.now i at
     (ap (λ (s : Seen). s.pieces) c.self.view_is) c.in-Inner.is c.self.invariant
-    c.as_slice-in-Inner.ensures c.place_of-place.ensures c.requires.1.1.1.1.1.0 in
+    c.as_slice-in-Inner.ensures c.place_for-place.ensures c.requires.tree in
     let child = get_or kids.items i at in
     let q = g.C.Chunks.contents c.replace_child.new.chunks in
     let done = c.replace_child.ensures.done child x.1 in
     on_ok c.replace_child.result done (λ s.
     (child_replaced p q depth keys c.self.inside.body kids c.replace_child.new.kids.items pieces c.args.key.now
     c.args.value i child c.replace_child.ensures.grown.0 c.in-Inner.is c.self.invariant x.0
-    c.requires.1.1.1.1.1.1 s).shown_is)
+    c.requires.there s).shown_is)
 
 pub OwnNode::replace-returns-in-Inner-clause-fresh : goal.OwnNode::replace-returns-in-Inner-clause-fresh
 OwnNode::replace-returns-in-Inner-clause-fresh g t c =
@@ -230,11 +230,11 @@ OwnNode::replace-returns-in-Inner-clause-fresh g t c =
     let keys = c.self.inside.keys.texts in
     let kids = c.in-Inner.kids in
     let pieces = c.args.self.now.pieces in
-    let i = c.place_of-place.result in
+    let i = c.place_for-place.result in
     let at : OwnChild = Placed (record { bits = 0 }) in
     let x = node_at p depth keys c.self.inside.body kids pieces c.as_slice-in-Inner.result.now c.args.key.now i at
     (ap (λ (s : Seen). s.pieces) c.self.view_is) c.in-Inner.is c.self.invariant
-    c.as_slice-in-Inner.ensures c.place_of-place.ensures c.requires.1.1.1.1.1.0 in
+    c.as_slice-in-Inner.ensures c.place_for-place.ensures c.requires.tree in
     let child = get_or kids.items i at in
     let q = g.C.Chunks.contents c.replace_child.new.chunks in
     let done = c.replace_child.ensures.done child x.1 in
@@ -258,11 +258,11 @@ OwnNode::replace-returns-in-Inner-clause-places g t c =
     let keys = c.self.inside.keys.texts in
     let kids = c.in-Inner.kids in
     let pieces = c.args.self.now.pieces in
-    let i = c.place_of-place.result in
+    let i = c.place_for-place.result in
     let at : OwnChild = Placed (record { bits = 0 }) in
     let x = node_at p depth keys c.self.inside.body kids pieces c.as_slice-in-Inner.result.now c.args.key.now i at
     (ap (λ (s : Seen). s.pieces) c.self.view_is) c.in-Inner.is c.self.invariant
-    c.as_slice-in-Inner.ensures c.place_of-place.ensures c.requires.1.1.1.1.1.0 in
+    c.as_slice-in-Inner.ensures c.place_for-place.ensures c.requires.tree in
     let child = get_or kids.items i at in
     let at_q = g.C.Chunks.places c.replace_child.new.chunks in
     let done = c.replace_child.ensures.done child x.1 in
@@ -344,15 +344,15 @@ pub replacing::replaced_copy-copied_child-requires-clause-known :
     goal.replacing::replaced_copy-copied_child-requires-clause-known
 replacing::replaced_copy-copied_child-requires-clause-known g t c =
     let k = known (rows_at (g.C.Chunks.contents c.args.chunks.now) c.args.depth (stamp_of c.args.at))
-    c.requires.1.1.1.1.1.0 in
+    c.requires.can.0 in
     subst IsSome (sym k.is) refl
 
 pub replacing::replaced_copy-replace-requires : goal.replacing::replaced_copy-replace-requires
 replacing::replaced_copy-replace-requires g t c κs within =
     let q = g.C.Chunks.contents c.copied_child.new.chunks in
-    let can = c.requires.1.1.1.1.1 in
+    let can = c.requires.can in
     let v = c.deref_mut.ensures.value in (
-      omega (arith, ap (λ (s : Seen). s.depth) v, c.in_ok-node.ensures.depth, c.requires.1.0),
+      omega (arith, ap (λ (s : Seen). s.depth) v, c.in_ok-node.ensures.depth, c.decreases),
       (
         within.0,
         (
