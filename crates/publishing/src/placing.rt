@@ -109,6 +109,37 @@ fn place_next<M: Means, S: Store<M>>(
 }
 
 // Places the nodes, each in the slot that was taken last.
+fn place_each<M: Means, S: Store<M>>(
+    to: &Placing<'_, M, S>,
+    seat: &mut S::Seat,
+    nodes: Vec<Node<Ref>>,
+    slots: &mut Vec<u32>,
+    refs: &mut Vec<Ref>,
+) -> Result<(), Refusal>
+    requires home { S.home seat.old ≡ S.serves to.now.store.now }
+    requires slots { length slots.old.items ≡ length nodes.items }
+    requires taken { S.reused → HasTaken (S.view seat.old) slots.old.items }
+    requires refs { refs.old.items ≡ [] }
+    requires room { to.now.first + length nodes.items < stamps }
+    requires order { AreOrdered to.now.from nodes.items }
+    requires drawn { AreDrawn to.now.from to.now.first nodes.items (drawn to.now.mark.now.log) }
+    ensures home { S.home seat.new ≡ S.serves to.now.store.now }
+    ensures stamps { AreFrom to.now.first refs.new.items }
+    ensures all { OnOk result (length refs.new.items ≡ length nodes.items) }
+    ensures used { OnOk result (slots.new.items ≡ []) }
+    ensures taken { S.reused → HasTaken (S.view seat.new) slots.new.items }
+    ensures settled { S.reused → SettlesAll (S.view seat.old) refs.new.items (S.view seat.new) }
+    ensures within { S.reused → (end : ℕ) → AreBelow end slots.old.items → LieBelow end refs.new.items }
+    ensures steps { S.reused → Steps (S.view seat.old) (S.view seat.new) }
+    ensures err { IfErr result (MayRefuse S.reused) }
+{
+    for node in nodes {
+        place_next::<M, S>(to, seat, node, slots, refs)?;
+    }
+    Ok(())
+}
+
+// The same, with room made for all references at once.
 fn place_all<M: Means, S: Store<M>>(
     to: &Placing<'_, M, S>,
     seat: &mut S::Seat,
@@ -134,10 +165,7 @@ fn place_all<M: Means, S: Store<M>>(
     ensures err { IfErr result (MayRefuse S.reused) }
 {
     refs.reserve(nodes.len())?;
-    for node in nodes {
-        place_next::<M, S>(to, seat, node, slots, refs)?;
-    }
-    Ok(())
+    place_each::<M, S>(to, seat, nodes, slots, refs)
 }
 
 // Gives up what was placed so far: withdraws the slots that are left, and retires those of the references.

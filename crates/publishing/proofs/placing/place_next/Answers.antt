@@ -1,6 +1,6 @@
 use Rattle.std.proofs.Common.{◌≡◌, ap, ◌∙◌, rules}
 use Rattle.reader_claims.specs.Views.{with_settled, with_withdrawn}
-use Rattle.publishing.proofs.Lying.{stay_placed, stay_refused}
+use Rattle.publishing.proofs.Lying.{stay_refused}
 use Rattle.publishing.proofs.Popping.{settled, withdrawn}
 use Rattle.publishing.proofs.placing.place_next.Goals as goal
 

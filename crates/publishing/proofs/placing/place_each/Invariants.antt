@@ -5,7 +5,7 @@ use Rattle.publishing.specs.Stamped.{AreFrom}
 use Rattle.publishing.specs.Placed.{LieBelow}
 use Rattle.publishing.specs.Inside.Stacks.{AreBelow, HasTaken}
 use Rattle.publishing.specs.Inside.Steps.{Steps}
-use Rattle.publishing.proofs.placing.place_all.Given as goal
+use Rattle.publishing.proofs.placing.place_each.Given as goal
 
 abbrev pub invariant-loop-node : goal.invariant-loop-node
 invariant-loop-node g l =
