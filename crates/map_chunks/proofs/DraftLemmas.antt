@@ -1,12 +1,13 @@
 -- References with low stamps, and nodes that stand behind their children.
-use Rattle.std.proofs.Common.{◌≡◌, ◌<◌, ◌≤◌, ◌+◌, ℕ, zero, suc, List, [], ◌∷◌, ◌++◌, length, take, sym, subst, arith}
-use Rattle.std.proofs.lemmas.List.{length-append}
+use Rattle.std.proofs.Common.{◌≡◌, ◌<◌, ◌≤◌, ◌+◌, ℕ, zero, suc, List, [], ◌∷◌, ◌++◌, length, take, ap, min, sym, subst, arith}
+use Rattle.std.proofs.Common.{◌≢◌, ◌∙◌}
+use Rattle.std.proofs.lemmas.List.{length-append, length-take}
 use Rattle.group_history.specs.declared.nodes.Node.{Node}
 use Rattle.group_history.specs.declared.refs.Ref.{Ref}
 use Rattle.group_history.specs.Naming.{children}
 use Rattle.group_history.specs.Refs.{stamp_of}
 use Rattle.group_history.proofs.Lists.{no_element}
-use Rattle.map_chunks.specs.Drafts.{Drafted, AreBelow, AreOrdered}
+use Rattle.map_chunks.specs.Drafts.{Drafted, AreBelow, AreOrdered, longest}
 
 pub below-none : (n : ℕ) → AreBelow n []
 below-none n at h = absurd (no_element at h)
@@ -36,3 +37,12 @@ pub pushed-below : (old new : Drafted) (n : Node Ref) (at : Ref)
     → stamp_of at < new.first + length new.nodes
 pushed-below old new n at o e = subst (λ (d : Drafted). stamp_of at < d.first + length d.nodes) (sym o)
     (omega (arith, e, length-append old.nodes (n ∷ [])))
+
+-- one node more, where the longest draft isn't reached
+pub few-more : (xs ys : List (Node Ref)) (x : Node Ref) (n : ℕ) → length xs ≤ longest → n ≡ length xs → n ≢ longest
+    → ys ≡ xs ++ x ∷ [] → length ys ≤ longest
+few-more xs ys x n few len not is = let m : length ys ≡ length xs + 1 = ap length is ∙ length-append xs (x ∷ []) in
+    let other : length xs ≢ longest = λ e. not (len ∙ e) in omega (arith, few, m, other)
+
+pub few-take : (k : ℕ) (xs : List (Node Ref)) → length xs ≤ longest → length (take k xs) ≤ longest
+few-take k xs few = let m = length-take k xs in omega (arith, few, m)

@@ -1,5 +1,5 @@
 -- Nodes that are to be placed together.
-use Rattle.std.specs.Prelude.{ℕ, suc, ◌<◌, List, [], ◌∷◌}
+use Rattle.std.specs.Prelude.{ℕ, suc, ◌<◌, ◌≤◌, ◌^◌, List, [], ◌∷◌}
 use Rattle.std.specs.List.{Contains}
 use Rattle.group_history.specs.declared.nodes.Node.{Node}
 use Rattle.group_history.specs.declared.refs.Ref.{Ref}
@@ -10,6 +10,14 @@ use Rattle.group_history.specs.Refs.{stamp_of}
 pub record Drafted : Type 0 where
   pub first : ℕ
   pub nodes : List (Node Ref)
+
+-- A draft has at most half as many nodes as there are stamps. So many would take 32 TiB and more.
+abbrev pub longest : ℕ
+longest = 2 ^ 39
+
+-- so many stamps are drawn that a draft may reach the last one
+abbrev pub IsLate : ℕ → Type 0
+IsLate first = longest ≤ first
 
 -- each of these references has a stamp below n
 abbrev pub AreBelow : ℕ → List Ref → Type 0

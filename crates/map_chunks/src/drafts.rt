@@ -9,7 +9,7 @@ ghost use Rattle.group_history.specs.Naming.{children, commit_children};
 ghost use Rattle.group_history.specs.Refs.{stamps, stamp_of, slot_of};
 ghost use Rattle.group_history.specs.declared.nodes.Node.TheVariants as node;
 ghost use Rattle.group_history.specs.declared.refusals.Refusal.TheVariants as refusal;
-ghost use Rattle.map_chunks.specs.Drafts.{AreBelow, AreOrdered};
+ghost use Rattle.map_chunks.specs.Drafts.{AreBelow, AreOrdered, IsLate, longest};
 
 use group_history::{BoxedCommit, Commit, Node, Ref, Refusal, STAMPS};
 use std::alloc::{AllocError, Global};
@@ -17,6 +17,9 @@ use std::marker::Model;
 
 /// So many nodes the draft of a usual mutation has at most.
 const USUAL: usize = 8;
+
+/// So many nodes any draft has at most: half as many as there are stamps.
+const LONGEST: u64 = STAMPS / 2;
 
 /// Nodes in the order of their stamps, and the first stamp. Each stands behind its children.
 #[derive(Drop)]
@@ -26,7 +29,8 @@ pub struct Draft {
 }
 
 impl Model for Draft {
-    ghost use Rattle.map_chunks.specs.Drafts.{Drafted, AreOrdered};
+    ghost use Rattle.std.specs.Prelude.{◌≤◌, length};
+    ghost use Rattle.map_chunks.specs.Drafts.{Drafted, AreOrdered, longest};
     ghost use Rattle.group_history.specs.State.{ids_coded};
     ghost use Rattle.std.specs.Coded.{codes};
 
@@ -36,7 +40,7 @@ impl Model for Draft {
 
     ghost view = { λ d. record { first = d.first; nodes = d.nodes.items } };
 
-    ghost invariant = { λ d. AreOrdered d.first d.nodes.items };
+    ghost invariant = { λ d. AreOrdered d.first d.nodes.items × (length d.nodes.items ≤ longest) };
 }
 
 impl Draft {
@@ -65,7 +69,7 @@ impl Draft {
     }
 
     /// Appends a node, whose children have stamps below its own, and answers how it is named. Refused with
-    /// Stamps where its stamp would be `STAMPS`.
+    /// Stamps where its stamp would be `STAMPS`, which is never so where the first stamp is below half of that.
     pub fn push(&mut self, node: Node<Ref>) -> Result<Ref, Refusal>
         requires children { AreBelow (self.old.first + length self.old.nodes) (children node) }
         ensures stamp { IfOk result (λ at. (stamp_of at ≡ self.old.first + length self.old.nodes) × (slot_of at ≡ 0)) }
@@ -73,10 +77,14 @@ impl Draft {
         ensures err { OnErr result (self.new ≡ self.old) }
         ensures why { IfErr result (λ e. (e ≡ refusal.NoMemory)
             ⊎ ((e ≡ refusal.Stamps) × (stamps ≤ self.old.first + length self.old.nodes))) }
+        ensures late { IfErr result (λ e. e ≡ refusal.Stamps → IsLate self.old.first) }
     {
         let Some(stamp) = self.next() else {
             return Err(Refusal::Stamps);
         };
+        if self.len() == LONGEST {
+            return Err(Refusal::NoMemory);
+        }
         make_room(&mut self.nodes)?;
         self.nodes.push(node)?;
         Ok(Ref::new(stamp, 0))
@@ -94,6 +102,7 @@ impl Draft {
         ensures err { OnErr result (self.new ≡ self.old) }
         ensures why { IfErr result (λ e. (e ≡ refusal.NoMemory)
             ⊎ ((e ≡ refusal.Stamps) × (stamps ≤ self.old.first + length self.old.nodes))) }
+        ensures late { IfErr result (λ e. e ≡ refusal.Stamps → IsLate self.old.first) }
     {
         let commit = BoxedCommit::new(*self.nodes.allocator(), commit)?;
         self.push(Node::Commit(commit))
@@ -118,6 +127,7 @@ impl Draft {
     pub fn into_nodes(self) -> Vec<Node<Ref>>
         ensures nodes { result.items ≡ self.nodes }
         ensures order { AreOrdered self.first self.nodes }
+        ensures len { length result.items ≤ longest }
     {
         self.nodes
     }

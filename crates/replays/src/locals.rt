@@ -9,6 +9,7 @@ ghost use Rattle.group_history.specs.Spelling.{Contents, Version, map_at, Spells
 ghost use Rattle.group_history.specs.State.{State, view_of, replayed as map_after};
 ghost use Rattle.group_history.specs.declared.refs.Ref.{Ref as Reference};
 ghost use Rattle.group_history.specs.declared.refusals.Refusal.TheVariants.{NoMemory, Stamps};
+ghost use Rattle.map_chunks.specs.Drafts.{IsLate};
 ghost use Rattle.map_chunks.specs.Places.{with_nodes};
 ghost use Rattle.map_tree.specs.Trees.{tree_map};
 ghost use Rattle.replays.specs.Chaining.{HasTip, IsTip};
@@ -40,6 +41,7 @@ pub fn draft_mutation<C: Chunks + Copy, K: NamesContents, M: Mutators>(
     ensures err { (s : State) → IsTip M.means (with_nodes K.known draft.old.nodes) tip s
         → IfErr result (λ e. RefusesFor C.stops e
         (by_meaning (meaning_of M.means mutation (view_of M.means s)) mutation.id)) }
+    ensures late { IfErr result (λ e. e ≡ Stamps → IsLate draft.old.first) }
     ensures some { IfOk result (λ _. 0 < length draft.new.nodes) }
     ensures first { draft.new.first ≡ draft.old.first }
     ensures new { IfOk result (λ at. draft.old.first ≤ stamp_of at) }
@@ -95,6 +97,7 @@ fn replay_one<C: Chunks + Copy, K: NamesContents, M: Mutators>(
     ensures first { draft.new.first ≡ draft.old.first }
     ensures new { IfOk result (λ tip. draft.old.first ≤ stamp_of tip.commit) }
     ensures err { IfErr result (λ e. (e ≡ NoMemory) ⊎ (e ≡ Stamps) ⊎ StopsAs C.stops e) }
+    ensures late { IfErr result (λ e. e ≡ Stamps → IsLate draft.old.first) }
 {
     let copy = mutation.clone()?;
     let run = run_on::<C, K, M>(setting, draft, Tree::at(tip.root), mutation)?;
@@ -146,6 +149,7 @@ fn add_unread<K: NamesContents>(
     ensures new { draft.old.first ≤ stamp_of basis.commit
         → IfOk result (λ tip. draft.old.first ≤ stamp_of tip.commit) }
     ensures why { IfErr result (λ e. (e ≡ NoMemory) ⊎ (e ≡ Stamps)) }
+    ensures late { IfErr result (λ e. e ≡ Stamps → IsLate draft.old.first) }
 {
     let mut tip = basis;
     for mutation in before {
@@ -174,6 +178,7 @@ fn add_all<K: NamesContents>(
     ensures first { draft.new.first ≡ draft.old.first }
     ensures new { IfOk result (λ tip. draft.old.first ≤ stamp_of tip.commit) }
     ensures why { IfErr result (λ e. (e ≡ NoMemory) ⊎ (e ≡ Stamps)) }
+    ensures late { IfErr result (λ e. e ≡ Stamps → IsLate draft.old.first) }
 {
     let tip = add_unread::<K>(draft, basis, before)?;
     let mutation = last.clone()?;
@@ -200,6 +205,7 @@ fn replay_parts<C: Chunks + Copy, K: NamesContents, M: Mutators>(
     ensures new { draft.old.first ≤ stamp_of basis.commit
         → IfOk result (λ tip. draft.old.first ≤ stamp_of tip.commit) }
     ensures err { IfErr result (λ e. (e ≡ NoMemory) ⊎ (e ≡ Stamps) ⊎ StopsAs C.stops e) }
+    ensures late { IfErr result (λ e. e ≡ Stamps → IsLate draft.old.first) }
 {
     if let [mutation] = pending {
         return replay_one::<C, K, M>(setting, draft, basis, mutation);
@@ -231,6 +237,7 @@ pub fn replay<C: Chunks + Copy, K: NamesContents, M: Mutators>(
     ensures new { draft.old.first ≤ stamp_of basis.commit
         → IfOk result (λ tip. draft.old.first ≤ stamp_of tip.commit) }
     ensures err { IfErr result (λ e. (e ≡ NoMemory) ⊎ (e ≡ Stamps) ⊎ StopsAs C.stops e) }
+    ensures late { IfErr result (λ e. e ≡ Stamps → IsLate draft.old.first) }
 {
     let Some((last, before)) = pending.split_last() else {
         return Ok(basis);

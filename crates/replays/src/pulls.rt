@@ -8,7 +8,7 @@ ghost use Rattle.group_history.specs.Spelling.{Contents, map_at, Spells};
 ghost use Rattle.group_history.specs.State.{State, pulled_state};
 ghost use Rattle.group_history.specs.declared.refs.Ref.{Ref as Reference};
 ghost use Rattle.group_history.specs.declared.refusals.Refusal.TheVariants.{NoMemory, Stamps};
-ghost use Rattle.map_chunks.specs.Drafts.{AreBelow};
+ghost use Rattle.map_chunks.specs.Drafts.{AreBelow, IsLate};
 ghost use Rattle.map_chunks.specs.Places.{with_nodes};
 ghost use Rattle.map_tree.specs.Trees.{tree_map, tree_places};
 ghost use Rattle.replays.specs.Chaining.{HasTip};
@@ -79,6 +79,7 @@ fn add_answered(
     ensures first { draft.new.first ≡ draft.old.first }
     ensures new { IfOk result (λ tip. draft.old.first ≤ stamp_of tip.commit) }
     ensures why { IfErr result (λ e. (e ≡ NoMemory) ⊎ (e ≡ Stamps)) }
+    ensures late { IfErr result (λ e. e ≡ Stamps → IsLate draft.old.first) }
 {
     let cookie = pull.cookie().clone()?;
     add_snapshot(alloc, draft, tree, cookie, confirmed)
@@ -106,6 +107,7 @@ fn add_patched<C: Chunks + Copy, K: NamesContents, M: Mutators>(
     ensures first { draft.new.first ≡ draft.old.first }
     ensures new { IfOk result (λ tip. draft.old.first ≤ stamp_of tip.commit) }
     ensures err { IfErr result (λ e. (e ≡ NoMemory) ⊎ (e ≡ Stamps) ⊎ StopsAs C.stops e) }
+    ensures late { IfErr result (λ e. e ≡ Stamps → IsLate draft.old.first) }
 {
     let tree = patched_map::<C, K>(setting.alloc, setting.chunks, draft, root, pull.patch())?;
     let tip = add_answered(setting.alloc, draft, tree, pull, confirmed)?;
@@ -154,6 +156,7 @@ pub fn draft_rebase<C: Chunks + Copy, K: NamesContents, M: Mutators>(
     ensures first { draft.new.first ≡ draft.old.first }
     ensures new { IfOk result (λ made. draft.old.first ≤ stamp_of made.commit) }
     ensures err { IfErr result (λ e. (e ≡ NoMemory) ⊎ (e ≡ Stamps) ⊎ StopsAs C.stops e) }
+    ensures late { IfErr result (λ e. e ≡ Stamps → IsLate draft.old.first) }
 {
     let (confirmed, left) = after_changes(setting.alloc, base, pending, pull)?;
     let snapshot = add_patched::<C, K, M>(setting, draft, base.pulled, pull, confirmed)?;

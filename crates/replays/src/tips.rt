@@ -13,7 +13,7 @@ ghost use Rattle.group_history.specs.Refs.{stamp_of};
 ghost use Rattle.group_history.specs.Spelling.{Contents, Version, version_at, snapshot_at, map_at, stepped};
 ghost use Rattle.group_history.specs.State.{opening, pulled_state};
 ghost use Rattle.group_history.specs.declared.refusals.Refusal.TheVariants.{NoMemory, Stamps};
-ghost use Rattle.map_chunks.specs.Drafts.{AreBelow};
+ghost use Rattle.map_chunks.specs.Drafts.{AreBelow, IsLate};
 ghost use Rattle.map_chunks.specs.Places.{with_nodes};
 ghost use Rattle.map_tree.specs.Trees.{tree_map, tree_places};
 ghost use Rattle.replays.specs.Chaining.{HasTip};
@@ -54,6 +54,7 @@ pub(crate) fn add_over(
     ensures grown { IsPrefix draft.old.nodes draft.new.nodes }
     ensures some { IfOk result (λ _. 0 < length draft.new.nodes) }
     ensures why { IfErr result (λ e. (e ≡ NoMemory) ⊎ (e ≡ Stamps)) }
+    ensures late { IfErr result (λ e. e ≡ Stamps → IsLate draft.old.first) }
 {
     let snapshot = basis.snapshot;
     let over = Successor {
@@ -93,6 +94,7 @@ pub fn add_local(
     ensures grown { IsPrefix draft.old.nodes draft.new.nodes }
     ensures some { IfOk result (λ _. 0 < length draft.new.nodes) }
     ensures why { IfErr result (λ e. (e ≡ NoMemory) ⊎ (e ≡ Stamps)) }
+    ensures late { IfErr result (λ e. e ≡ Stamps → IsLate draft.old.first) }
 {
     let root = tree.freeze(alloc, draft)?;
     let tip = add_over(draft, basis, root, CommitChange::Local(mutation))?;
@@ -111,6 +113,7 @@ pub fn add_closing(draft: &mut Draft, basis: Tip) -> Result<Ref, Refusal>
     ensures first { draft.new.first ≡ draft.old.first }
     ensures new { IfOk result (λ at. draft.old.first ≤ stamp_of at) }
     ensures why { IfErr result (λ e. (e ≡ NoMemory) ⊎ (e ≡ Stamps)) }
+    ensures late { IfErr result (λ e. e ≡ Stamps → IsLate draft.old.first) }
 {
     let tip = add_over(draft, basis, basis.root, CommitChange::Closed)?;
     Ok(tip.commit)
@@ -134,6 +137,7 @@ pub fn add_snapshot(
     ensures grown { IsPrefix draft.old.nodes draft.new.nodes }
     ensures some { IfOk result (λ _. 0 < length draft.new.nodes) }
     ensures why { IfErr result (λ e. (e ≡ NoMemory) ⊎ (e ≡ Stamps)) }
+    ensures late { IfErr result (λ e. e ≡ Stamps → IsLate draft.old.first) }
 {
     let root = tree.freeze(alloc, draft)?;
     let kind = CommitKind::Snapshot(Snapshot { cookie, confirmed });

@@ -5,7 +5,7 @@ ghost use Rattle.group_history.specs.Refs.{stamps, stamp_of, slot_of};
 ghost use Rattle.group_history.specs.Rows.{Rows};
 ghost use Rattle.group_history.specs.Spelling.{Contents, rows_at};
 ghost use Rattle.group_history.specs.declared.refusals.Refusal.TheVariants as refusal;
-ghost use Rattle.map_chunks.specs.Drafts.{AreBelow};
+ghost use Rattle.map_chunks.specs.Drafts.{AreBelow, IsLate};
 ghost use Rattle.map_chunks.specs.Places.{with_nodes, places_of, IsNamed, AreNamed, AddsNamed};
 ghost use Rattle.map_nodes.specs.Inside.Freezing.{IsFrozen, AreFrozen, child_places, kids_places};
 ghost use Rattle.map_nodes.specs.Nodes.{child_fresh, kids_fresh};
@@ -35,6 +35,7 @@ pub fn frozen(alloc: Global, node: OwnNode, draft: &mut Draft) -> Result<Ref, Re
     ensures err { OnErr result (draft.new ≡ draft.old) }
     ensures why { IfErr result (λ e. (e ≡ refusal.NoMemory)
         ⊎ ((e ≡ refusal.Stamps) × (stamps < draft.old.first + length draft.old.nodes + node.fresh))) }
+    ensures late { IfErr result (λ e. e ≡ refusal.Stamps → IsLate draft.old.first) }
 {
     let len = draft.len();
     match node.freeze(alloc, draft) {
@@ -70,6 +71,7 @@ impl OwnNode {
         ensures grown { IsPrefix draft.old.nodes draft.new.nodes }
         ensures why { IfErr result (λ e. (e ≡ refusal.NoMemory)
             ⊎ ((e ≡ refusal.Stamps) × (stamps ≤ draft.new.first + length draft.new.nodes))) }
+        ensures late { IfErr result (λ e. e ≡ refusal.Stamps → IsLate draft.old.first) }
     {
         let OwnNode {
             depth: _,
@@ -105,6 +107,7 @@ fn freeze_kids(alloc: Global, kids: Vec<OwnChild>, draft: &mut Draft) -> Result<
     ensures grown { IsPrefix draft.old.nodes draft.new.nodes }
     ensures why { IfErr result (λ e. (e ≡ refusal.NoMemory)
         ⊎ ((e ≡ refusal.Stamps) × (stamps ≤ draft.new.first + length draft.new.nodes))) }
+    ensures late { IfErr result (λ e. e ≡ refusal.Stamps → IsLate draft.old.first) }
 {
     let mut children = Vec::with_capacity(alloc, kids.len())?;
     for kid in kids {
@@ -127,6 +130,7 @@ fn freeze_kid(alloc: Global, kid: OwnChild, draft: &mut Draft) -> Result<Ref, Re
     ensures grown { IsPrefix draft.old.nodes draft.new.nodes }
     ensures why { IfErr result (λ e. (e ≡ refusal.NoMemory)
         ⊎ ((e ≡ refusal.Stamps) × (stamps ≤ draft.new.first + length draft.new.nodes))) }
+    ensures late { IfErr result (λ e. e ≡ refusal.Stamps → IsLate draft.old.first) }
 {
     match kid {
         OwnChild::Placed(at) => {

@@ -6,7 +6,7 @@ ghost use Rattle.group_history.specs.Refs.{stamps, stamp_of};
 ghost use Rattle.group_history.specs.declared.refs.Ref.{Ref as Reference};
 ghost use Rattle.group_history.specs.declared.refusals.Refusal.TheVariants as refusal;
 ghost use Rattle.group_history.specs.Spelling.{Contents, map_at};
-ghost use Rattle.map_chunks.specs.Drafts.{AreBelow};
+ghost use Rattle.map_chunks.specs.Drafts.{AreBelow, IsLate};
 ghost use Rattle.map_chunks.specs.Places.{with_nodes, IsNamed, AddsNamed};
 ghost use Rattle.map_tree.specs.Trees.{tree_places, tree_map, tree_fresh, tree_root, HasWideRoot};
 ghost use Rattle.map_chunks.specs.Wide.{IsWideAt};
@@ -40,6 +40,7 @@ impl Tree {
         ensures err { OnErr result (draft.new ≡ draft.old) }
         ensures why { IfErr result (λ e. (e ≡ refusal.NoMemory)
             ⊎ ((e ≡ refusal.Stamps) × (stamps < draft.old.first + length draft.old.nodes + tree_fresh self))) }
+        ensures late { IfErr result (λ e. e ≡ refusal.Stamps → IsLate draft.old.first) }
     {
         let Tree { root } = self;
         match root {
