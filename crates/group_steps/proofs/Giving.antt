@@ -17,7 +17,8 @@ use Rattle.group_history.specs.Spelling.{Contents, Version, version_at}
 use Rattle.group_history.specs.State.{State}
 use Rattle.group_history.proofs.Lists.{map_to, prefix_trans}
 use Rattle.head_word.specs.declared.entry.Entry.{Entry}
-use Rattle.head_word.specs.Books.{drawn, moved, record_of}
+use Rattle.map_chunks.specs.Drafts.{IsLate}
+use Rattle.head_word.specs.Books.{drawn, moved, next_stamp, record_of}
 use Rattle.head_word.specs.Marks.{Known}
 use Rattle.head_word.proofs.Books.{drawn_more}
 use Rattle.reader_claims.specs.declared.view.View.{View}
@@ -160,16 +161,18 @@ stop_busy reused e (inr (inr (inr is))) busy = is.0
 -- what could not be proposed lacks no slot
 pub cause_unproposed : (means : Meanings) (reused : Type 0) (s : State) (last : ℕ) (c : Change) (old new : Seated)
     (e : Refusal) → IsUnproposed (IsStop reused) (change_asked c) (asked_reply means s last c) e
-    → HasCauseAt means reused s last c old new e
-cause_unproposed means reused s last c old new e (inl stop, other) = record {
+    → (e ≡ refusal.Stamps → IsLate (next_stamp new.mark.log)) → HasCauseAt means reused s last c old new e
+cause_unproposed means reused s last c old new e (inl stop, other) late = record {
   asked = λ full. absurd (stop_full reused e stop full);
   none = λ r full. absurd (stop_full reused e stop full);
   busy = stop_busy reused e stop;
+  stamps = late;
 }
-cause_unproposed means reused s last c old new e (inr right, other) = record {
+cause_unproposed means reused s last c old new e (inr right, other) late = record {
   asked = λ full. absurd (never refusal.Full refl full);
   none = λ r full. absurd (never refusal.Full refl full);
   busy = λ busy. absurd (never refusal.Busy refl busy);
+  stamps = late;
 }
   where
     never : (w : Refusal) → is_resource_refusal w ≡ true → e ≡ w → ⊥
@@ -183,9 +186,9 @@ found_more v w u t end before f after =
 pub cause_arrived : (means : Meanings) (reused : Type 0) (last : ℕ) (c : Change) (old mid done new : Seated)
     (log : List Entry) (e : Refusal) → IsPrefix old.mark.log log → IsPrefix log new.mark.log
     → mid.table ≡ old.table → (reused → Moves old.view mid.view) → (reused → Moves done.view new.view)
-    → HasCauseAt means reused (after (record_of log)) last c mid done e
+    → new.mark ≡ done.mark → HasCauseAt means reused (after (record_of log)) last c mid done e
     → HasCause means reused last (Some c) old new e
-cause_arrived means reused last c old mid done new log e since until table before behind h = record {
+cause_arrived means reused last c old mid done new log e since until table before behind same h = record {
   full = λ r is. record {
     log = log;
     since = since;
@@ -197,7 +200,7 @@ cause_arrived means reused last c old mid done new log e since until table befor
         (kind_end mid.table.sizes (kind_for (after (record_of log)) c)) (before r) (h.none r is) (behind r));
   };
   busy = h.busy;
-  stamps = λ is. refl;
+  stamps = λ is. (refl, subst (λ (m : Known). IsLate (next_stamp m.log)) (sym same) (h.stamps is));
 }
 
 -- so is what was refused in a later part of the call
@@ -219,11 +222,11 @@ cause_since means reused last c old mid new e pre table before h = record {
   stamps = h.stamps;
 }
 
--- a refusal that is no Full and no Busy needs none
+-- a refusal that is no Full, no Stamps and no Busy needs none
 pub cause_other : (means : Meanings) (reused : Type 0) (last : ℕ) (c : Change) (old new : Seated) (e : Refusal)
-    → e ≢ refusal.Full → (e ≡ refusal.Busy → reused) → HasCause means reused last (Some c) old new e
-cause_other means reused last c old new e other busy = record {
+    → e ≢ refusal.Full → e ≢ refusal.Stamps → (e ≡ refusal.Busy → reused) → HasCause means reused last (Some c) old new e
+cause_other means reused last c old new e other some busy = record {
   full = λ r is. absurd (other is);
   busy = busy;
-  stamps = λ is. refl;
+  stamps = λ is. absurd (some is);
 }

@@ -1,5 +1,6 @@
 -- Why a change was refused for want of something.
 use Rattle.std.specs.Prelude.{ℕ, ◌≡◌, true, List, Option, Some, None, IsSome, Ok}
+use Rattle.map_chunks.specs.Drafts.{IsLate}
 use mathlib.Core.List.{IsPrefix}
 use Rattle.group_history.specs.declared.changes.Change.{Change}
 use Rattle.group_history.specs.declared.refusals.Refusal.{Refusal}
@@ -8,7 +9,7 @@ use Rattle.group_history.specs.Meaning.{Meanings}
 use Rattle.group_history.specs.Record.{after}
 use Rattle.group_history.specs.State.{State}
 use Rattle.head_word.specs.declared.entry.Entry.{Entry}
-use Rattle.head_word.specs.Books.{record_of}
+use Rattle.head_word.specs.Books.{next_stamp, record_of}
 use Rattle.reader_claims.specs.Seats.{kind_end}
 use Rattle.commit_graph.specs.Seats.{Seated}
 use Rattle.publishing.specs.Placed.{FoundNone}
@@ -29,12 +30,12 @@ Lacks means last None old new = ⊥
 Lacks means last (Some c) old new = LacksSlots means last c old new
 
 -- The refusal has its cause: Full a pass, where slots are used again, Busy other seats, and Stamps a change that was to
--- be drafted.
+-- be drafted where half of all stamps are drawn.
 pub record HasCause (means : Meanings) (reused : Type 0) (last : ℕ) (asked : Option Change) (old new : Seated)
     (e : Refusal) : Type 0 where
   pub full : reused → e ≡ refusal.Full → Lacks means last asked old new
   pub busy : e ≡ refusal.Busy → reused
-  pub stamps : e ≡ refusal.Stamps → IsSome asked
+  pub stamps : e ≡ refusal.Stamps → IsSome asked × IsLate (next_stamp new.mark.log)
 
 -- the same of a change that is tried at this state
 pub record HasCauseAt (means : Meanings) (reused : Type 0) (s : State) (last : ℕ) (change : Change) (old new : Seated)
@@ -43,3 +44,4 @@ pub record HasCauseAt (means : Meanings) (reused : Type 0) (s : State) (last : �
   pub none : reused → e ≡ refusal.Full
       → FoundNone old.view new.view (kind_end old.table.sizes (kind_for s change))
   pub busy : e ≡ refusal.Busy → reused
+  pub stamps : e ≡ refusal.Stamps → IsLate (next_stamp new.mark.log)

@@ -6,10 +6,11 @@ ghost use Rattle.group_history.specs.Record.{after_change};
 ghost use Rattle.group_history.specs.Refs.{slot_of, stamp_of};
 ghost use Rattle.group_history.specs.Spelling.{Spells};
 ghost use Rattle.group_history.specs.State.{State};
-ghost use Rattle.head_word.specs.Books.{IsChangeFrom, drawn};
+ghost use Rattle.head_word.specs.Books.{IsChangeFrom, drawn, next_stamp};
 ghost use Rattle.reader_claims.specs.Lists.{In};
 ghost use Rattle.reader_claims.specs.Machine.{Moves};
 ghost use Rattle.reader_claims.specs.Seats.{kind_end};
+ghost use Rattle.map_chunks.specs.Drafts.{IsLate};
 ghost use Rattle.commit_graph.specs.Seats.{IsReading, IsSameSeat};
 ghost use Rattle.answered.specs.Answered.{IsLeft, is_resource_refusal};
 ghost use Rattle.answered.specs.Trying.{Ends, IsBase, IsLost, IsMove, IsWon};
@@ -116,6 +117,7 @@ where
     ensures full { S.reused → IfErr result (λ e. e ≡ refusal.Full
         → FoundNone seat.old.view seat.new.view (kind_end shared.now.table.sizes proposal.kind)) }
     ensures busy { IfErr result (λ e. e ≡ refusal.Busy → S.reused) }
+    ensures late { IfErr result (λ e. e ≡ refusal.Stamps → IsLate (next_stamp seat.new.mark.log)) }
 {
     let Proposal {
         base,

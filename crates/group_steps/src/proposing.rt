@@ -15,6 +15,7 @@ ghost use Rattle.group_history.specs.declared.mutations.Reason.TheVariants.{Init
 ghost use Rattle.group_history.specs.declared.refusals.Refusal.TheVariants as refusal;
 ghost use Rattle.head_word.specs.Books.{drawn, next_stamp};
 ghost use Rattle.map_chunks.specs.Places.{with_nodes};
+ghost use Rattle.map_chunks.specs.Drafts.{IsLate};
 ghost use Rattle.commit_graph.specs.Chains.{IsBaseOf};
 ghost use Rattle.commit_graph.specs.LastIds.{last_at};
 ghost use Rattle.answered.specs.Trying.{IsUnproposed};
@@ -96,6 +97,7 @@ where
         (changed.Mutated mutation.now) (Some p)) }
     ensures err { IfErr result (IsUnproposed (IsStop S.reused) (change_asked (changed.Mutated mutation.now))
         (asked_reply M.means (state_at at.now) last (changed.Mutated mutation.now))) }
+    ensures late { IfErr result (λ e. e ≡ refusal.Stamps → IsLate spot.first) }
 {
     let again = mutation.clone()?;
     let group = at.group;
@@ -135,6 +137,7 @@ where
         before.id (changed.Mutated mutation.now) (Some p)) }
     ensures err { IfErr result (IsUnproposed (IsStop S.reused) (change_asked (changed.Mutated mutation.now))
         (asked_reply M.means (state_at at.now) before.id (changed.Mutated mutation.now))) }
+    ensures late { IfErr result (λ e. e ≡ refusal.Stamps → IsLate spot.first) }
 {
     check_next(at, mutation, before)?;
     propose_next(at, spot, mutation, before.id)
@@ -171,6 +174,7 @@ where
     ensures new { IfOk result (λ p. p.draft.first ≤ stamp_of p.at) }
     ensures in_range { OnOk result (AreInRange pull.now.changes) }
     ensures err { IfErr result (IsStop S.reused) }
+    ensures late { IfErr result (λ e. e ≡ refusal.Stamps → IsLate spot.first) }
 {
     let group = at.group;
     let alloc = group.shared.alloc;
@@ -210,6 +214,7 @@ where
     ensures new { IfOk result (λ p. p.draft.first ≤ stamp_of p.at) }
     ensures in_range { OnOk result (AreInRange pull.now.changes) }
     ensures err { IfErr result (IsStop S.reused) }
+    ensures late { IfErr result (λ e. e ≡ refusal.Stamps → IsLate spot.first) }
 {
     let group = at.group;
     let pending = pending_at::<StoreNodes<'a, M, S>, Brand>(
@@ -236,6 +241,7 @@ where
         (state_at at.now) last (changed.Pulled ticket.now pull.now)) }
     ensures err { (last : ℕ) → IfErr result (IsUnproposed (IsStop S.reused) (change_asked (changed.Pulled ticket.now pull.now))
         (asked_reply M.means (state_at at.now) last (changed.Pulled ticket.now pull.now))) }
+    ensures late { IfErr result (λ e. e ≡ refusal.Stamps → IsLate spot.first) }
 {
     match pull_outcome(before, ticket, pull) {
         Ok(Ended::Same) => {
@@ -265,6 +271,7 @@ where
         (state_at at.now) last (changed.Pulled ticket.now pull.now)) }
     ensures err { (last : ℕ) → IfErr result (IsUnproposed (IsStop S.reused) (change_asked (changed.Pulled ticket.now pull.now))
         (asked_reply M.means (state_at at.now) last (changed.Pulled ticket.now pull.now))) }
+    ensures late { IfErr result (λ e. e ≡ refusal.Stamps → IsLate spot.first) }
 {
     let before = base_at::<StoreNodes<'a, M, S>, Brand>(at.nodes(), spot.tip)?;
     propose_outcome(at, spot, &before, ticket, pull)
@@ -282,6 +289,7 @@ where
         (state_at at.now) last changed.Closed) }
     ensures err { (last : ℕ) → IfErr result (IsUnproposed (IsStop S.reused) (change_asked changed.Closed)
         (asked_reply M.means (state_at at.now) last changed.Closed)) }
+    ensures late { IfErr result (λ e. e ≡ refusal.Stamps → IsLate spot.first) }
 {
     let (group, base) = (at.group, at.commit);
     let mut draft = Draft::new(group.shared.alloc, spot.first);
@@ -309,6 +317,7 @@ where
         request.now.before.id request.now.change.now) }
     ensures err { IfErr result (IsUnproposed (IsStop S.reused) (change_asked request.now.change.now)
         (asked_reply M.means (state_at at.now) request.now.before.id request.now.change.now)) }
+    ensures late { IfErr result (λ e. e ≡ refusal.Stamps → IsLate spot.first) }
 {
     let Request { change, before } = *request;
     match change {
@@ -340,6 +349,7 @@ where
         request.now.before.id request.now.change.now) }
     ensures err { IfErr result (IsUnproposed (IsStop S.reused) (change_asked request.now.change.now)
         (asked_reply M.means (state_at at.now) request.now.before.id request.now.change.now)) }
+    ensures late { IfErr result (λ e. e ≡ refusal.Stamps → IsLate first) }
 {
     let look = look_at::<StoreNodes<'a, M, S>, Brand>(at.nodes(), at.commit)?;
     if look.closed {

@@ -18,7 +18,7 @@ use std::marker::Model;
 /// So many nodes the draft of a usual mutation has at most.
 const USUAL: usize = 8;
 
-/// So many nodes any draft has at most: half as many as there are stamps.
+/// So many nodes any draft has at most: half as many as there are stamps. They would take 32 TiB.
 const LONGEST: u64 = STAMPS / 2;
 
 /// Nodes in the order of their stamps, and the first stamp. Each stands behind its children.
@@ -119,6 +119,7 @@ impl Draft {
     pub fn nodes(&self) -> &[Node<Ref>]
         ensures nodes { result.now ≡ self.now.nodes }
         ensures order { AreOrdered self.now.first self.now.nodes }
+        ensures len { length result.now ≤ longest }
     {
         &self.nodes
     }

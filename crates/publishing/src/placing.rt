@@ -7,7 +7,7 @@ ghost use Rattle.group_history.specs.declared.refs.Ref.{Ref as Reference};
 ghost use Rattle.group_history.specs.declared.refusals.Refusal.TheVariants as refusal;
 ghost use Rattle.head_word.specs.Books.{next_stamp, drawn};
 ghost use Rattle.head_word.specs.Marks.{others};
-ghost use Rattle.map_chunks.specs.Drafts.{AreOrdered};
+ghost use Rattle.map_chunks.specs.Drafts.{AreOrdered, IsLate};
 ghost use Rattle.chunk_slots.specs.Contents.{IsContent};
 ghost use Rattle.reader_claims.specs.declared.view.View.{View};
 ghost use Rattle.reader_claims.specs.Lists.{In};
@@ -250,6 +250,7 @@ where
         (λ e. e ≡ refusal.Moved → others seat.old.mark + max 1 tries ≤ others seat.new.mark) }
     ensures stamps { IfErr result
         (λ e. e ≡ refusal.Stamps → stamps ≤ next_stamp seat.new.mark.log + length draft.nodes) }
+    ensures late { IfErr result (λ e. e ≡ refusal.Stamps → IsLate (next_stamp seat.new.mark.log)) }
     ensures err { IfErr result
         (λ e. (e ≡ refusal.Moved) ⊎ ((e ≡ refusal.Stamps) ⊎ MayRefuse S.reused e)) }
 {
@@ -308,6 +309,7 @@ where
         (λ e. e ≡ refusal.Moved → others seat.old.mark + max 1 tries ≤ others seat.new.mark) }
     ensures stamps { IfErr result
         (λ e. e ≡ refusal.Stamps → stamps ≤ next_stamp seat.new.mark.log + length draft.nodes) }
+    ensures late { IfErr result (λ e. e ≡ refusal.Stamps → IsLate (next_stamp seat.new.mark.log)) }
     ensures full { S.reused → IfErr result
         (λ e. e ≡ refusal.Full → FoundNone seat.old.view seat.new.view (kind_end shared.now.table.sizes kind)) }
     ensures err { IfErr result (λ e. (e ≡ refusal.NoMemory)

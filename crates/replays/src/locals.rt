@@ -1,5 +1,5 @@
 //! Local commits: a new mutation, and pending ones that are replayed.
-ghost use Rattle.std.specs.Prelude.{◌≡◌, ◌⊎◌, ◌<◌, ◌≤◌, false, length, Some, Ok, Err, IfOk, IfErr, IfSome, OnOk};
+ghost use Rattle.std.specs.Prelude.{◌≡◌, ◌≢◌, ◌⊎◌, ◌<◌, ◌≤◌, false, length, Some, Ok, Err, IfOk, IfErr, IfSome, OnOk};
 ghost use mathlib.Core.List.{IsPrefix};
 ghost use Rattle.group_history.specs.Map.{Entries};
 ghost use Rattle.group_history.specs.Meaning.{Meaning, left_by, meaning_of};
@@ -58,6 +58,7 @@ fn tree_if_done(run: Run) -> Result<Tree, Refusal>
         → IfOk result (λ tree. (m : Entries) × (tree_map contents tree ≡ Some m) × (map_if_done meaning ≡ Ok m)) }
     ensures err { (contents : Contents) (meaning : Meaning) → HasRun contents meaning run
         → IfErr result (λ e. map_if_done meaning ≡ Err e) }
+    ensures other { IfErr result (λ e. e ≢ Stamps) }
 {
     let Run { ran, tree } = run;
     match ran {

@@ -1,5 +1,5 @@
 //! The end of a pull.
-ghost use Rattle.std.specs.Prelude.{◌≡◌, ◌⊎◌, ◌+◌, ◌<◌, ◌≤◌, false, length, Some, IsSome, IfOk, IfErr};
+ghost use Rattle.std.specs.Prelude.{◌≡◌, ◌≢◌, ◌⊎◌, ◌+◌, ◌<◌, ◌≤◌, false, length, Some, IsSome, IfOk, IfErr};
 ghost use Rattle.group_history.specs.Map.{Entries, patched};
 ghost use Rattle.group_history.specs.Pull.{AreInRange};
 ghost use Rattle.group_history.specs.Pulling.{end_at, after_pull, left_pending, overwritten};
@@ -39,6 +39,7 @@ pub struct RebasedHead {
 pub fn pull_outcome(base: &Base, ticket: &Cookie, pull: &PullOk) -> Result<Ended, Refusal>
     ensures reply { (s : State) → s.cookie ≡ base.now.cookie → s.confirmed ≡ base.now.confirmed
         → result ≡ end_at s ticket.now.text pull.now }
+    ensures other { IfErr result (λ e. e ≢ Stamps) }
 {
     if base.cookie.text() != ticket.text() {
         return Err(Refusal::Overtaken);

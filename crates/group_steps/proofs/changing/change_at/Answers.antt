@@ -13,6 +13,7 @@ use Rattle.group_steps.specs.Places.{Place, state_at}
 use Rattle.group_steps.specs.Proposing.{IsProposalFor, MayPropose, asked_reply, change_asked}
 use Rattle.group_steps.proofs.Giving.{cause_unproposed}
 use Rattle.group_steps.proofs.Trying.{has_last}
+use Rattle.map_chunks.specs.Drafts.{IsLate}
 use Rattle.group_steps.proofs.changing.change_at.Goals as goal
 
 pub move_head-requires-clause-leads : goal.move_head-requires-clause-leads
@@ -67,3 +68,4 @@ returns-in-Err-clause-cause g c =
     cause_unproposed means g.S.Slots.reused (after (record_of c.args.arrival.now.seen.log)) last change seat seat c.in-Err.e
     (subst (λ (q : Place). IsUnproposed (IsStop g.S.Slots.reused) (change_asked change)
     (asked_reply means (state_at q) last change) c.in-Err.e) c.new-at.ensures.place c.in-Err.ensures.err)
+    (λ is. subst IsLate c.requires.first (c.in-Err.ensures.late is))

@@ -48,7 +48,8 @@ returns-clause-cause g c =
     (prefix_trans seen mid.mark.log done.mark.log a.since c.change_at-tried.ensures.seat.later.seen) in
     if_err_then c.change_at-tried.result c.change_at-tried.ensures.cause (λ e h.
     cause_arrived means reused last change old mid done new seen e a.point.since until
-    c.pin_and_load_both.ensures.looked.seat.table c.pin_and_load_both.ensures.moves c.unpin.ensures.moves h)
+    c.pin_and_load_both.ensures.looked.seat.table c.pin_and_load_both.ensures.moves c.unpin.ensures.moves
+    c.unpin.ensures.mark h)
 
 pub returns-clause-frees : goal.returns-clause-frees
 returns-clause-frees g c r =
