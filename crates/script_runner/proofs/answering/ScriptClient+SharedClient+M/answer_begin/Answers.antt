@@ -19,5 +19,5 @@ returns-in-Ok-Ticket-clause-told g c =
           (subst (λ r. may old call.BeginPull (map_ok reply_seen (Ok r)) (standing_of c.make_call.new.self))
           c.in-Ok-Ticket.field-0-is c.in-Ok-Ticket.ensures.reply);
       begun = subst (λ tickets. IsBegun tickets c.args.name.now answer
-          (reply_text c.keep.result) c.keep.new.self.tickets) c.remove.ensures c.keep.ensures.map_ok;
+          (reply_text c.keep.result) c.keep.new.self.tickets) c.remove.ensures c.keep.ensures.told;
     }
