@@ -5,6 +5,7 @@
 //! a tree is.
 use group_history::Text;
 use serde_json::Value;
+use std::alloc::Global;
 
 /// A word before one expression.
 #[derive(Clone, Copy)]
@@ -60,9 +61,18 @@ pub struct Rules {
 }
 
 impl Rules {
-    ghost use Rattle.std.specs.Prelude.{◌≡◌, option_map};
+    ghost use Rattle.std.specs.Prelude.{◌≡◌, [], option_map};
     ghost use Rattle.rule_mutators.specs.Meaning.{steps_named};
     ghost use Rattle.rule_mutators.specs.Views.{all_steps, rules_of};
+
+    /// No rules.
+    pub fn none(alloc: Global) -> Rules
+        ensures { rules_of result ≡ [] }
+    {
+        Rules {
+            rules: Vec::new(alloc),
+        }
+    }
 
     /// The steps of the rule of this name.
     pub(crate) fn steps_of(&self, name: &str) -> Option<&Vec<Step>>

@@ -1,0 +1,5 @@
+mod Reading
+mod Served
+mod Answering
+mod Sharing
+mod Opening

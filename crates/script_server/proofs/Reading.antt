@@ -1,0 +1,62 @@
+-- A read through the next line feed reads a line.
+use Rattle.std.proofs.Common.{◌≡◌, ℕ, ◌==◌, Bool, true, false, not, [], ◌∷◌, ◌++◌, length, refl, sym, ap, subst, ◌∙◌}
+use Rattle.std.proofs.Common.{arith}
+use Rattle.std.proofs.Math.Dec.{eqb-suc-zero}
+use Rattle.std.specs.Prelude.{Option, Some, None, IfSome, if◌then◌else◌}
+use Rattle.std.specs.declared.io.buffered.BufReader.{BufReader}
+use Rattle.std.specs.Io.Buffered.{reader_buffer, reader_capacity, reader_inner, reader_remaining}
+use Rattle.std.specs.Io.KnownBytes.{prepend_known}
+use Rattle.std.specs.Io.BufRead.{take_through, drop_through, strip_last, DropsThrough}
+use Rattle.group_history.specs.Map.{Bytes}
+use Rattle.script_server.specs.Lines.{HasTaken}
+use Rattle.script_server.specs.Inside.Reads.{HasRead}
+
+-- of bytes that are there, one at least is before the next line feed, or it is that one
+some_through : (x : ℕ) (xs : Bytes) → not (length (take_through 10 (x ∷ xs)) == 0) ≡ true
+some_through x xs =
+    elim (x == 10) as (λ b. not (length (if b then x ∷ [] else x ∷ take_through 10 xs) == 0) ≡ true)
+    [ true ↦ refl | false ↦ ap not (eqb-suc-zero (length (take_through 10 xs))) ]
+
+any_read : (b : Bool) (line : Bytes) (new : Option Bytes) → HasRead None b line new
+any_read true line new = tt
+any_read false line new = tt
+
+line_taken : (x : ℕ) (xs line : Bytes) (new : Option Bytes) → line ≡ strip_last 10 (take_through 10 (x ∷ xs))
+    → new ≡ Some (drop_through 10 (x ∷ xs)) → HasTaken (Some (x ∷ xs)) (line ∷ []) new
+line_taken x xs line new first rest =
+    subst (HasTaken (Some (x ∷ xs)) (line ∷ [])) (sym rest) (
+      drop_through 10 (x ∷ xs),
+      record { more = omega arith; first = first; left = refl },
+      refl,
+    )
+
+pub read_is : (old new : Option Bytes) (start read line : Bytes) → start ≡ []
+    → IfSome old (λ xs. read ≡ start ++ take_through 10 xs) → DropsThrough old new 10 → line ≡ strip_last 10 read
+    → HasRead old (not (length read == 0)) line new
+read_is None new start read line none is rest first = any_read (not (length read == 0)) line new
+read_is (Some []) new start read line none is rest first =
+    subst (λ r. HasRead (Some []) (not (length r == 0)) line new)
+    (sym (is ∙ ap (λ s. s ++ take_through 10 []) none)) refl
+read_is (Some (x ∷ xs)) new start read line none is rest first =
+    let e : read ≡ take_through 10 (x ∷ xs) = is ∙ ap (λ s. s ++ take_through 10 (x ∷ xs)) none in
+    subst (λ b. HasRead (Some (x ∷ xs)) b line new)
+    (sym (ap (λ r. not (length r == 0)) e ∙ some_through x xs))
+    (line_taken x xs line new (first ∙ ap (strip_last 10) e) rest)
+
+-- a line that was read was taken
+pub was_read : (b : Bool) (old new : Option Bytes) (line : Bytes) → b ≡ true → HasRead old b line new
+    → HasTaken old (line ∷ []) new
+was_read b old new line is read = subst (λ there. HasRead old there line new) is read
+
+-- ---- an input that is read ahead
+
+prepend_none : (known : Option Bytes) → prepend_known [] known ≡ known
+prepend_none None = refl
+prepend_none (Some xs) = refl
+
+-- of what is read ahead, nothing was at first
+pub ahead_none : {T A : Type 0} (known : T → Option Bytes) (r : BufReader T A) (input : T) → reader_inner r ≡ input
+    → reader_buffer r ≡ [] → reader_capacity r ≡ 8192 → reader_remaining known r ≡ known input
+ahead_none known r input inner empty capacity =
+    ap (λ n. if n == 0 then None else prepend_known (reader_buffer r) (known (reader_inner r))) capacity
+    ∙ ap (λ b. prepend_known b (known (reader_inner r))) empty ∙ prepend_none (known (reader_inner r)) ∙ ap known inner

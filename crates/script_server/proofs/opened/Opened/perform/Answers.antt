@@ -1,0 +1,7 @@
+use denote.Exit.{no}
+use denote.Param.Send.{arg_sync, param_sync}
+use Rattle.script_server.proofs.Sharing.{mutators_sync}
+use Rattle.script_server.proofs.opened.Opened.perform.Goals as goal
+
+pub tell-requires-sync-M : goal.tell-requires-sync-M
+tell-requires-sync-M g c κs within = param_sync _ _ (arg_sync _ no _ (mutators_sync _ _))

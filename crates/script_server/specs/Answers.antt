@@ -1,0 +1,113 @@
+-- What a line is answered, and how it leaves things.
+use Rattle.std.specs.Prelude.{codes, decimal, ◌≡◌, ℕ, nat_eq, List, [], ◌∷◌, ◌++◌, drop, Option, Some, None, Result, Ok}
+use Rattle.std.specs.Prelude.{Err, if◌then◌else◌}
+use Rattle.std.specs.List.{concat, starts_with}
+use Rattle.group_history.specs.Map.{Bytes}
+use Rattle.rule_mutators.specs.declared.faults.RuleFault.{RuleFault}
+use Rattle.rule_mutators.specs.declared.faults.RuleFault.TheVariants as rule_fault
+use Rattle.rule_mutators.specs.Faults.{wrong_text}
+use Rattle.rule_mutators.specs.Reading.{rules_said}
+use Rattle.rule_mutators.specs.Rules.{Rules}
+use Rattle.script_parser.specs.declared.faults.ScriptFault.{ScriptFault}
+use Rattle.script_parser.specs.declared.faults.ScriptFault.TheVariants.{SaidTwice}
+use Rattle.script_parser.specs.declared.script.Asked.{Asked}
+use Rattle.script_parser.specs.declared.script.Asked.TheVariants as asked
+use Rattle.script_parser.specs.declared.script.Line.{Line}
+use Rattle.script_parser.specs.Context.{Context, Lines}
+use Rattle.script_parser.specs.Faults.{fault_text}
+use Rattle.script_parser.specs.Kept.{without_lines}
+use Rattle.script_parser.specs.Reading.{AsksFor, bytes_said_with}
+use Rattle.script_parser.specs.Scripts.{line_said}
+use Rattle.script_runner.specs.Answering.{IsToldAt}
+use Rattle.script_runner.specs.Callers.{shared_rules}
+use Rattle.script_runner.specs.Phases.{all_sights}
+use Rattle.script_runner.specs.Runs.{AreNew, identity_of}
+use Rattle.script_server.specs.Standing.{Standing, means_in, rules_in}
+
+-- ---- the texts of answers
+
+-- `LINE ok`
+unfoldable pub ok_text : ℕ → Bytes
+ok_text n = concat (decimal n ∷ codes " ok\n" ∷ [])
+
+-- `LINE fault TEXT`
+unfoldable pub refused_text : ℕ → Bytes → Bytes
+refused_text n fault = concat (decimal n ∷ codes " fault " ∷ fault ∷ codes "\n" ∷ [])
+
+-- how it is told that a text is no rules
+abbrev pub rule_fault_text : RuleFault → Bytes
+rule_fault_text rule_fault.NoMemory = codes "memory was refused: free some and read again"
+rule_fault_text rule_fault.NotJson = codes "no JSON text, or one that nests too deep"
+rule_fault_text rule_fault.NotObject = codes "no JSON object"
+rule_fault_text (rule_fault.At place wrong) = place ++ codes ": " ++ wrong_text wrong
+
+-- ---- rules
+
+-- the text of rules that a line gives: what follows `rules` and a space
+unfoldable pub rules_given : Bytes → Option Bytes
+rules_given line = if starts_with nat_eq line (codes "rules ") then Some (drop 6 line) else None
+
+-- the same where these phases have begun: from the first one on no line does
+abbrev pub given_before : List (List Lines) → Bytes → Option Bytes
+given_before [] line = rules_given line
+given_before (p ∷ ps) line = None
+
+abbrev pub given_in : Standing → Bytes → Option Bytes
+given_in s line = given_before s.said.phases line
+
+-- The rules that a text says, where a line before gave these; or how the fault of the line is told. That rules are given
+-- twice is told of a text that says rules.
+abbrev pub rules_with : Option Rules → Result Rules RuleFault → Result Rules Bytes
+rules_with given (Err e) = Err (codes "rules " ++ rule_fault_text e)
+rules_with (Some given) (Ok rules) = Err (fault_text SaidTwice)
+rules_with None (Ok rules) = Ok rules
+
+-- a line that gives rules
+abbrev pub GivesRules : Result Rules Bytes → ℕ → Standing → Bytes → Standing → Type 0
+GivesRules (Err fault) n before text after = (text ≡ refused_text n fault) × (after ≡ before)
+GivesRules (Ok rules) n before text after = (text ≡ ok_text n) × (after ≡ record before { rules = Some rules })
+
+-- ---- phases
+
+-- The first phase begins: there is a group of the rules, and a new client for each `client` line. This was said.
+pub record Opens (before : Standing) (kept : Context) (after : Standing) : Type 0 where
+  pub said : after.said ≡ kept
+  pub rules : after.rules ≡ Some (rules_in before)
+  pub players : AreNew (means_in before) (identity_of kept.group kept.profile kept.schema) kept.clients after.players
+  pub sights : after.sights ≡ all_sights after.players
+
+-- A phase begins where these have: in it clients learn what others have seen until now.
+abbrev pub BeginsPhase : List (List Lines) → Standing → Context → Standing → Type 0
+BeginsPhase [] before said after = Opens before said after
+BeginsPhase (p ∷ ps) before said after = after ≡ record before { said = said; sights = all_sights before.players }
+
+-- ---- any line
+
+-- the client at a place does the command of its line
+pub record Tells (place : ℕ) (line : Line) (before : Standing) (said : Context) (text : Bytes) (after : Standing) : Type 0
+  where
+    pub told : IsToldAt (shared_rules (means_in before)) before.sights place (line_said line) before.players text
+        after.players
+    pub left : after ≡ record before { said = said; players = after.players }
+
+-- what a line asks is done, and this was then said
+abbrev pub Does : Asked → ℕ → Standing → Context → Bytes → Standing → Type 0
+Does asked.Nothing n before said text after = (text ≡ ok_text n) × (after ≡ record before { said = said })
+Does asked.Phase n before said text after = (text ≡ ok_text n) × BeginsPhase before.said.phases before said after
+Does (asked.Command place line) n before said text after = Tells place line before said text after
+
+-- A line that says something, or is faulty. A faulty one changes nothing.
+abbrev pub Says : Result Context ScriptFault → ℕ → Standing → Bytes → Standing → Type 0
+Says (Err f) n before text after = (text ≡ refused_text n (fault_text f)) × (after ≡ before)
+Says (Ok said) n before text after =
+    (what : Asked) × AsksFor n before.said what said × Does what n before (without_lines said) text after
+
+-- a line that gives rules, or another one
+abbrev pub AnswersBy : Option Bytes → ℕ → Bytes → Standing → Bytes → Standing → Type 0
+AnswersBy (Some given) n line before text after = GivesRules (rules_with before.rules (rules_said given)) n before text
+    after
+AnswersBy None n line before text after = Says (bytes_said_with before.said n line) n before text after
+
+-- the line of this number is answered this text, and leaves things so
+abbrev pub Answers : ℕ → Bytes → Standing → Bytes → Standing → Type 0
+Answers n line before text after = AnswersBy (given_in before line) n line before text after

@@ -1,0 +1,226 @@
+//! The lines before the first phase: those of a script's header, and the rules of the group.
+ghost use Rattle.std.specs.Prelude.{◌≡◌, ◌-◌, ◌^◌, ◌<◌, [], IfOk, IfSome, None, Ok, OnErr, OnOk};
+ghost use Rattle.std.specs.Option.{option_copied};
+ghost use Rattle.rule_mutators.specs.Reading.{rules_said};
+ghost use Rattle.rule_mutators.specs.Views.{rules_of};
+ghost use Rattle.script_parser.specs.Reading.{kept_by};
+ghost use Rattle.script_server.specs.Answers.{GivesRules, given_in, rules_given, rules_with};
+ghost use Rattle.script_server.specs.Serving.{HasEnded};
+ghost use Rattle.script_server.specs.Inside.Stages.{AreHeads, HasTurned, IsHead, IsHeadOf, IsNoCommand, heads_stand, place_of};
+
+use crate::printing::{print_fault, print_ok, rules_fault};
+use crate::streams::{Buffers, Stop, read_line, write_answer};
+use rule_mutators::Rules;
+use script_parser::{Asked, LineFault, LineReader, ScriptFault};
+use std::alloc::{AllocError, Global};
+use std::io::{BufRead, Write};
+
+/// What becomes of a line before the first phase.
+#[derive(Clone, Copy, PartialEq, Eq)]
+pub(crate) enum Head {
+    /// It is answered.
+    Answered,
+    /// It begins the first phase, and isn't answered yet.
+    Begins,
+}
+
+/// What became of a turn before the first phase.
+#[derive(Clone, Copy, PartialEq, Eq)]
+pub(crate) enum Turn {
+    /// The input is at its end.
+    Ended,
+    /// The next line was answered.
+    Answered,
+    /// The next line begins the first phase, and isn't answered yet.
+    Begins,
+}
+
+/// What was said before the first phase.
+#[derive(Drop)]
+pub(crate) struct Heads {
+    alloc: Global,
+    reader: LineReader,
+    rules: Option<Rules>,
+}
+
+/// The text of rules that a line gives.
+#[tactic(auto, unfolding(crate::specs::Answers::rules_given))]
+fn rules_given(line: &[u8]) -> Option<&[u8]>
+    ensures { option_copied result ≡ rules_given line.now }
+{
+    if line.starts_with(b"rules ") {
+        Some(&line[6..])
+    } else {
+        None
+    }
+}
+
+/// Answers a line that asks this, unless it begins the first phase.
+fn head_of(asked: Asked, number: u64, text: &mut Vec<u8>) -> Result<Head, AllocError>
+    requires empty { text.old.items ≡ [] }
+    requires none { IsNoCommand asked }
+    ensures { IfOk result (λ head. IsHeadOf asked number head text.new.items) }
+{
+    match asked {
+        Asked::Nothing => {
+            print_ok(text, number)?;
+            Ok(Head::Answered)
+        }
+        Asked::Phase => Ok(Head::Begins),
+        Asked::Command(_, _) => unreachable!(),
+    }
+}
+
+impl Heads {
+    ghost use Rattle.script_server.specs.Standing.{at_first, rules_in};
+
+    /// Before the first line.
+    pub(crate) fn new(alloc: Global) -> Heads
+        ensures { heads_stand result ≡ at_first }
+    {
+        Heads {
+            alloc,
+            reader: LineReader::new(alloc),
+            rules: None,
+        }
+    }
+
+    /// What was said, and the rules, none where no line gave them.
+    pub(crate) fn into_parts(self) -> (LineReader, Rules)
+        ensures said { kept_by result.0 ≡ (heads_stand self).said }
+        ensures rules { rules_of result.1 ≡ rules_in (heads_stand self) }
+    {
+        let Heads {
+            alloc,
+            reader,
+            rules,
+        } = self;
+        match rules {
+            Some(rules) => (reader, rules),
+            None => (reader, Rules::none(alloc)),
+        }
+    }
+
+    /// Keeps rules, where they are the first ones.
+    fn keep_rules(
+        &mut self,
+        number: u64,
+        rules: Rules,
+        text: &mut Vec<u8>,
+    ) -> Result<(), AllocError>
+        requires { text.old.items ≡ [] }
+        ensures { OnOk result (GivesRules (rules_with (heads_stand self.old).rules (Ok (rules_of rules))) number
+            (heads_stand self.old) text.new.items (heads_stand self.new)) }
+    {
+        if self.rules.is_some() {
+            return print_fault(text, number, ScriptFault::SaidTwice.text());
+        }
+        self.rules = Some(rules);
+        print_ok(text, number)
+    }
+
+    /// Takes the rules that a line gives, where they are rules and the first ones.
+    fn give_rules(
+        &mut self,
+        number: u64,
+        given: &[u8],
+        text: &mut Vec<u8>,
+    ) -> Result<(), AllocError>
+        requires { text.old.items ≡ [] }
+        ensures { OnOk result (GivesRules (rules_with (heads_stand self.old).rules (rules_said given.now)) number
+            (heads_stand self.old) text.new.items (heads_stand self.new)) }
+    {
+        match Rules::read(self.alloc, given) {
+            Ok(rules) => self.keep_rules(number, rules, text),
+            Err(fault) => {
+                let told = rules_fault(self.alloc, &fault)?;
+                print_fault(text, number, told.as_str())
+            }
+        }
+    }
+
+    /// Takes a line that gives no rules.
+    fn take(&mut self, number: u64, line: &[u8], text: &mut Vec<u8>) -> Result<Head, AllocError>
+        requires empty { text.old.items ≡ [] }
+        requires none { (heads_stand self.old).said.phases ≡ [] }
+        requires other { given_in (heads_stand self.old) line.now ≡ None }
+        ensures { IfOk result (λ head. IsHead head number line.now (heads_stand self.old) text.new.items
+            (heads_stand self.new)) }
+    {
+        match self.reader.take(number, line) {
+            Ok(asked) => head_of(asked, number, text),
+            Err(LineFault::Script(fault)) => {
+                print_fault(text, number, fault.text())?;
+                Ok(Head::Answered)
+            }
+            Err(LineFault::NoMemory) => Err(AllocError),
+        }
+    }
+
+    /// Takes a line, and writes its answer in place of the text, unless it begins the first phase.
+    fn answer(&mut self, number: u64, line: &[u8], text: &mut Vec<u8>) -> Result<Head, AllocError>
+        requires { (heads_stand self.old).said.phases ≡ [] }
+        ensures { IfOk result (λ head. IsHead head number line.now (heads_stand self.old) text.new.items
+            (heads_stand self.new)) }
+    {
+        text.clear();
+        let Some(given) = rules_given(line) else {
+            return self.take(number, line, text);
+        };
+        self.give_rules(number, given, text)?;
+        Ok(Head::Answered)
+    }
+
+    /// Reads the next line and answers it.
+    fn turn<I: BufRead, W: Write>(
+        &mut self,
+        number: u64,
+        input: &mut I,
+        out: &mut W,
+        buffers: &mut Buffers,
+    ) -> Result<Turn, Stop>
+        requires { (heads_stand self.old).said.phases ≡ [] }
+        ensures turned { IfOk result (λ turn. HasTurned turn
+            (place_of (heads_stand self.old) number (I.remaining input.old) (W.contents out.old))
+            (heads_stand self.new) (I.remaining input.new) (W.contents out.new)) }
+        ensures ended { OnErr result (HasEnded
+            (place_of (heads_stand self.old) number (I.remaining input.old) (W.contents out.old))
+            (W.contents out.new)) }
+    {
+        if !read_line(input, &mut buffers.line)? {
+            return Ok(Turn::Ended);
+        }
+        match self.answer(number, &buffers.line, &mut buffers.text)? {
+            Head::Begins => Ok(Turn::Begins),
+            Head::Answered => {
+                write_answer(out, &buffers.text)?;
+                Ok(Turn::Answered)
+            }
+        }
+    }
+
+    /// Answers the lines before the first phase, and says which line begins it. That one isn't answered.
+    pub(crate) fn serve<I: BufRead, W: Write>(
+        &mut self,
+        input: &mut I,
+        out: &mut W,
+        buffers: &mut Buffers,
+    ) -> Result<Option<u64>, Stop>
+        requires { (heads_stand self.old).said.phases ≡ [] }
+        ensures number { IfOk result (λ first. IfSome first (λ n. n < 2 ^ 64 - 1)) }
+        ensures heads { IfOk result (λ first. AreHeads first
+            (place_of (heads_stand self.old) 1 (I.remaining input.old) (W.contents out.old))
+            (heads_stand self.new) (I.remaining input.new) (W.contents out.new)) }
+        ensures ended { OnErr result (HasEnded
+            (place_of (heads_stand self.old) 1 (I.remaining input.old) (W.contents out.old)) (W.contents out.new)) }
+    {
+        for number in 1..u64::MAX {
+            match self.turn(number, input, out, buffers)? {
+                Turn::Ended => return Ok(None),
+                Turn::Answered => {}
+                Turn::Begins => return Ok(Some(number)),
+            }
+        }
+        Err(Stop::Read)
+    }
+}
