@@ -25,3 +25,12 @@ returns-in_err-turn-clause-ended g c =
     (g.W.Write.contents c.args.out.now))
     (place_of (opened_stand l.self) l.number (g.I.Read.remaining l.input) (g.W.Write.contents l.out))
     (g.W.Write.contents c.turn.new.out) l.invariant.served c.in_err-turn.ensures.ended)
+
+pub returns-then-not-branch-clause-served : goal.returns-then-not-branch-clause-served
+returns-then-not-branch-clause-served g c =
+    let l = c.loop-number in
+    let at = place_of (opened_stand l.self) l.number (g.I.Read.remaining l.input) (g.W.Write.contents l.out) in
+    let output = g.W.Write.contents c.turn.new.out in
+    let turned = subst (λ is. HasAnswered is at (opened_stand c.turn.new.self) (g.I.Read.remaining c.turn.new.input)
+    output) c.if-not-branch.true c.in_ok-turn.ensures.turned in
+    (at, l.invariant.served, turned)
