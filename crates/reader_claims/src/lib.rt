@@ -15,10 +15,10 @@
 //! A call may report contention only if other seats caused it. `pin` answers `Raised` only where its second load read
 //! more than its first and the seat raised nothing. `take_slot` answers none only after a pass that loaded the epoch
 //! once and every pin, and found each slot taken, live, shut by the epoch or a pin, or changed by another seat between
-//! our read and our exchange. A pass looks at a slot before it exchanges its word, since a look disturbs nobody; the look
-//! is noted as a take that found that word. In the pass the seat stores no pin, raises nothing, and settles, withdraws and retires no
-//! slot: its view would record a slot that it took back, or a pin of its own. The seat that makes the others takes no
-//! slot.
+//! our read and our exchange. A pass looks at a slot before it exchanges its word, since a look disturbs nobody; the
+//! look is noted as a take that found that word. In the pass the seat stores no pin, raises nothing, and settles,
+//! withdraws and retires no slot: its view would record a slot that it took back, or a pin of its own. The seat that
+//! makes the others takes no slot.
 //!
 //! Of N slots the last N / 4 are reserved for ends of pulls that leave nothing pending (`Kind::PullEnd`), which take
 //! one only where no ordinary slot can be had. What a pass read of the pins counts until its seat loads or raises the
