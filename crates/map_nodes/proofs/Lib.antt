@@ -19,3 +19,7 @@ mod SecondLemmas
 mod UnputLemmas
 pub mod WideLemmas
 mod BelowLemmas
+mod TrailLemmas
+mod SpotLemmas
+mod LayLemmas
+mod StepLemmas

@@ -67,7 +67,7 @@ adds-both : (first : ℕ) (places : List Ref) (old mid new : List (Node Ref)) �
 adds-both first places old mid new a b =
     (a.0 ++ b.0, sym (append_assoc old a.0 b.0) ∙ ap (λ w. w ++ b.0) a.1 ∙ b.1, have-both first places a.0 b.0 a.2 b.2)
 
-adds-within : (first : ℕ) (places more : List Ref) (old new : List (Node Ref)) → Within places more
+pub adds-within : (first : ℕ) (places more : List Ref) (old new : List (Node Ref)) → Within places more
     → AddsNamed first places old new → AddsNamed first more old new
 adds-within first places more old new w a = (a.0, a.1, have-within first places more a.0 w a.2)
 

@@ -92,7 +92,7 @@ pub record Replaced (new : Contents) (below : ℕ) (es : Kids) (rows : Option Ro
   pub all : AllKids below es
   pub shown_is : shown new (kids_pieces below es) ≡ rows
 
-kid_replaced : (old new : Contents) (depth : ℕ) (keys : List Bytes) (kids : List OwnChild) (pieces : List Piece)
+pub kid_replaced : (old new : Contents) (depth : ℕ) (keys : List Bytes) (kids : List OwnChild) (pieces : List Piece)
     (key v : Bytes) (i : ℕ) (child : OwnChild) (n : Kid) (x : Option Rows)
     → IsPrefix old new → (d : Down old depth keys kids pieces key i child)
     → IsSome (find (slice_cmp nat_cmp) key (rows_or (shown old pieces))) → x ≡ Some d.way.here

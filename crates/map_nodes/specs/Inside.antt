@@ -15,3 +15,6 @@ pub mod Replacing
 -- A removal: what chunks with one child each end in, and what becomes of children and root.
 pub mod Ends
 pub mod Removing
+-- A trail: how it is laid, and where on it a key belongs.
+pub mod Laying
+pub mod Spots

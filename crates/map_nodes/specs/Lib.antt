@@ -1,6 +1,9 @@
--- What the chunks that a draft owns show. Read Nodes: the pieces of a chunk and what holds of it; then Removing: what a
--- root is once a key is removed. No public clause above `map_tree` reaches these.
+-- What the chunks that a draft owns show. Read Nodes: the pieces of a chunk and what holds of it; Trails: those of a
+-- list of chunks on one way; Roots: which of both a root is; then Removing: what a root is once a key is removed. No
+-- public clause above `map_tree` reaches these.
 pub mod Nodes
+pub mod Trails
+pub mod Roots
 pub mod Removing
 -- Words that only private clauses of this crate use.
 pub mod Inside

@@ -13,13 +13,13 @@ mod reading;
 mod removing;
 mod replacing;
 mod scanning;
+mod trails;
 mod writing;
 
-pub use copies::room_for;
-pub use freezing::frozen;
 use group_history::{Json, Ref};
 use map_chunks::keys::NodeKeys;
 use std::marker::Model;
+pub use trails::Trail;
 
 /// A chunk that a draft owns. A leaf is 1 deep.
 #[cycle(node)]

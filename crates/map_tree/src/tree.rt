@@ -11,7 +11,7 @@ use map_chunks::Chunks;
 use map_chunks::looks::{Lookup, Sought};
 use map_chunks::placed::{depth_placed, find_placed, get_placed};
 use map_chunks::seeking::seek_placed;
-use map_nodes::OwnNode;
+use map_nodes::OwnRoot;
 use std::alloc::Global;
 
 /// A map from texts to JSON values. A change copies the chunks on its way that are placed; these are
@@ -24,7 +24,7 @@ pub struct Tree {
 #[derive(Drop)]
 enum Root {
     Placed(Ref),
-    Own(OwnNode),
+    Own(OwnRoot),
 }
 
 impl Tree {
@@ -61,7 +61,7 @@ impl Tree {
         ensures wide { (contents : Contents) → HasWideRoot contents result }
     {
         Tree {
-            root: Root::Own(OwnNode::empty(alloc)),
+            root: Root::Own(OwnRoot::empty(alloc)),
         }
     }
 

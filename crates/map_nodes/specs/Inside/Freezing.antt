@@ -1,16 +1,19 @@
 -- A draft's chunks written down as nodes: what shows rows in the draft spells them once its nodes are placed, and each
 -- node names its children by the draft's own names, or as the draft names what is placed.
-use Rattle.std.specs.Prelude.{◌≡◌, ℕ, List, [], ◌∷◌, ◌++◌, length, Some}
+use Rattle.std.specs.Prelude.{◌≡◌, ◌<◌, ◌≤◌, ◌+◌, ℕ, List, [], ◌∷◌, ◌++◌, length, Some}
 use Rattle.group_history.specs.declared.nodes.Node.{Node}
 use Rattle.group_history.specs.declared.refs.Ref.{Ref}
 use Rattle.group_history.specs.Naming.{children}
-use Rattle.group_history.specs.Refs.{stamp_of}
+use mathlib.Core.List.{IsPrefix}
+use Rattle.group_history.specs.Refs.{stamp_of, slot_of}
 use Rattle.group_history.specs.Rows.{Rows}
 use Rattle.group_history.specs.Spelling.{Contents, rows_at}
 use Rattle.map_nodes.specs.Inside.Nodes.{child_rows}
 use Rattle.map_nodes.specs.declared.nodes.OwnChild.{OwnChild}
 use Rattle.map_nodes.specs.declared.nodes.OwnChild.TheVariants.{Placed, Own}
-use Rattle.map_chunks.specs.Places.{places_of, with_nodes}
+use Rattle.map_chunks.specs.Places.{AddsNamed, places_of, with_nodes}
+use Rattle.map_chunks.specs.Shown.{Seen, shown}
+use Rattle.map_chunks.specs.Wide.{IsWideAt}
 
 -- an own child is so deep
 abbrev pub IsDeep : ℕ → OwnChild → Type 0
@@ -40,3 +43,17 @@ child_places (Own n) = places_of n.value.pieces
 abbrev pub kids_places : List OwnChild → List Ref
 kids_places [] = []
 kids_places (k ∷ ks) = child_places k ++ kids_places ks
+
+-- An own chunk is written down under a name behind the draft's old nodes, with all that it owns: what it shows is
+-- spelled by the name's stamp, and each node names its children as the draft does. The draft's first stamp is given.
+pub record IsWritten (first : ℕ) (old new : List (Node Ref)) (n : Seen) (at : Ref) : Type 0 where
+  pub spelled : (contents : Contents) (rows : Rows) → length contents ≡ first
+      → shown (with_nodes contents old) n.pieces ≡ Some rows
+      → rows_at (with_nodes contents new) n.depth (stamp_of at) ≡ Some rows
+  pub wide : (contents : Contents) → length contents ≡ first → 1 < n.entries
+      → IsWideAt (with_nodes contents new) (stamp_of at)
+  pub named : AddsNamed first (places_of n.pieces) old new
+  pub drafted : (first ≤ stamp_of at) × (slot_of at ≡ 0)
+  pub below : stamp_of at < first + length new
+  pub count : length new ≡ length old + n.fresh
+  pub grown : IsPrefix old new

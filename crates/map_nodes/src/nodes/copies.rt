@@ -1,6 +1,6 @@
 //! Copies of placed chunks. A copy in which an entry is to be added gets room for a full chunk, and another
 //! one room for what it has.
-ghost use Rattle.std.specs.Prelude.{◌≡◌, ◌⊎◌, [], length, map, Some, IfOk, IfErr, IsSome, if◌then◌else◌};
+ghost use Rattle.std.specs.Prelude.{◌≡◌, ◌⊎◌, [], length, map, Some, IfOk, IfErr, IsSome};
 ghost use Rattle.group_history.specs.Refs.{stamp_of};
 ghost use Rattle.group_history.specs.Spelling.{rows_at};
 ghost use Rattle.group_history.specs.declared.mutators.Stop.TheVariants.{NoMemory};
@@ -12,7 +12,7 @@ ghost use Rattle.map_nodes.specs.declared.nodes.OwnChild.TheVariants.{Placed};
 
 use super::{Body, OwnChild, OwnNode};
 use group_history::{Chunk, Json, Ref, Stop};
-use map_chunks::keys::{NodeKeys, ROOM};
+use map_chunks::keys::NodeKeys;
 use map_chunks::{Chunks, ShowsChunk};
 use std::alloc::{AllocError, Global};
 
@@ -67,14 +67,11 @@ impl OwnNode {
     }
 }
 
-/// The room of a copy, by whether the key that is put is there already.
-pub fn room_for(there: bool) -> usize
-    ensures { result ≡ (if there then 0 else 17) }
-{
-    if there { 0 } else { ROOM }
-}
-
-fn copied_values(alloc: Global, values: &[Json], room: usize) -> Result<Vec<Json>, AllocError>
+pub(crate) fn copied_values(
+    alloc: Global,
+    values: &[Json],
+    room: usize,
+) -> Result<Vec<Json>, AllocError>
     ensures { IfOk result (λ copy. copy.items ≡ values.now) }
 {
     let mut copy = Vec::with_capacity(alloc, values.len().max(room))?;
@@ -84,7 +81,7 @@ fn copied_values(alloc: Global, values: &[Json], room: usize) -> Result<Vec<Json
     Ok(copy)
 }
 
-fn placed_children(
+pub(crate) fn placed_children(
     alloc: Global,
     children: &[Ref],
     room: usize,

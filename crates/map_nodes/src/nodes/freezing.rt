@@ -17,43 +17,11 @@ use group_history::{Chunk, Inner, Leaf, Ref, Refusal};
 use map_chunks::Draft;
 use std::alloc::Global;
 
-/// Appends the chunk and those that it owns to the draft, all or none, and answers its root's name.
-/// Refused for want of memory, or with Stamps where the nodes would have stamps from `STAMPS` on.
-pub fn frozen(alloc: Global, node: OwnNode, draft: &mut Draft) -> Result<Ref, Refusal>
-    requires below { AreBelow (draft.old.first + length draft.old.nodes) (places_of node.pieces) }
-    ensures spelled { (contents : Contents) (rows : Rows) → length contents ≡ draft.old.first
-        → shown (with_nodes contents draft.old.nodes) node.pieces ≡ Some rows
-        → IfOk result (λ root. rows_at (with_nodes contents draft.new.nodes) node.depth (stamp_of root) ≡ Some rows) }
-    ensures wide { (contents : Contents) → length contents ≡ draft.old.first → 1 < node.entries
-        → IfOk result (λ root. IsWideAt (with_nodes contents draft.new.nodes) (stamp_of root)) }
-    ensures named { OnOk result (AddsNamed draft.old.first (places_of node.pieces) draft.old.nodes draft.new.nodes) }
-    ensures drafted { IfOk result (λ at. (draft.old.first ≤ stamp_of at) × (slot_of at ≡ 0)) }
-    ensures below { IfOk result (λ at. stamp_of at < draft.new.first + length draft.new.nodes) }
-    ensures count { OnOk result (length draft.new.nodes ≡ length draft.old.nodes + node.fresh) }
-    ensures first { draft.new.first ≡ draft.old.first }
-    ensures grown { IsPrefix draft.old.nodes draft.new.nodes }
-    ensures err { OnErr result (draft.new ≡ draft.old) }
-    ensures why { IfErr result (λ e. (e ≡ refusal.NoMemory)
-        ⊎ ((e ≡ refusal.Stamps) × (stamps < draft.old.first + length draft.old.nodes + node.fresh))) }
-    ensures late { IfErr result (λ e. e ≡ refusal.Stamps → IsLate draft.old.first) }
-{
-    let len = draft.len();
-    match node.freeze(alloc, draft) {
-        Ok(root) => {
-            return Ok(root);
-        }
-        Err(refused) => {
-            draft.truncate(len);
-            return Err(refused);
-        }
-    }
-}
-
 impl OwnNode {
     /// Appends the chunk to the draft, behind its own children, and answers its name. Placed children
     /// keep their names. A refusal leaves what was appended so far.
     #[cycle(freezing)]
-    fn freeze(self, alloc: Global, draft: &mut Draft) -> Result<Ref, Refusal>
+    pub fn freeze(self, alloc: Global, draft: &mut Draft) -> Result<Ref, Refusal>
         requires below { AreBelow (draft.old.first + length draft.old.nodes) (places_of self.pieces) }
         ensures spelled { (contents : Contents) (rows : Rows) → length contents ≡ draft.old.first
             → shown (with_nodes contents draft.old.nodes) self.pieces ≡ Some rows

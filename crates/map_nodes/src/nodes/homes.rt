@@ -57,7 +57,7 @@ impl OwnNode {
     }
 }
 
-fn boxed(alloc: Global, node: OwnNode) -> Result<Box<OwnNode>, AllocError>
+pub(crate) fn boxed(alloc: Global, node: OwnNode) -> Result<Box<OwnNode>, AllocError>
     ensures { IfOk result (λ b. b.value ≡ node) }
 {
     let home = Box::new(alloc, node)?;

@@ -16,7 +16,7 @@ use super::{Root, Tree};
 use group_history::{Ref, Stop};
 use map_chunks::Chunks;
 use map_chunks::placed::is_empty_placed;
-use map_nodes::OwnNode;
+use map_nodes::OwnRoot;
 use std::alloc::Global;
 
 impl Tree {
@@ -120,7 +120,7 @@ fn root_without<C: Chunks>(
     ensures places { IfOk result (λ root. AreKept (C.places chunks.new) [] (root_places root)) }
     ensures stopped { IfErr result (λ s. (s ≡ NoMemory) ⊎ C.stops s) }
 {
-    let mut node = OwnNode::copied(alloc, chunks, at, depth, 0)?;
+    let mut node = OwnRoot::copied(alloc, chunks, at, depth)?;
     let end = node.remove_root(alloc, chunks, key)?;
     let mut root = Root::Own(node);
     root.give_way(end);

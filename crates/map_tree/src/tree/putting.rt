@@ -16,7 +16,7 @@ use super::{Root, Tree};
 use group_history::{Json, Ref, Stop};
 use map_chunks::Chunks;
 use map_chunks::looks::Sought;
-use map_nodes::{OwnNode, room_for};
+use map_nodes::OwnRoot;
 use std::alloc::Global;
 
 // What is known of the way to a key: how deep the tree is, and whether the key is there.
@@ -166,7 +166,6 @@ fn root_with<C: Chunks>(
     ensures places { IfOk result (λ root. AreKept (C.places chunks.new) [] (root_places root)) }
     ensures stopped { IfErr result (λ s. (s ≡ NoMemory) ⊎ C.stops s) }
 {
-    let mut node = OwnNode::copied(alloc, chunks, at, way.depth, room_for(way.there))?;
-    node.write(alloc, chunks, key, value, way.there)?;
-    Ok(Root::Own(node))
+    let own = OwnRoot::written(alloc, chunks, at, way.depth, key, value, way.there)?;
+    Ok(Root::Own(own))
 }

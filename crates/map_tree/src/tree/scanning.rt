@@ -33,9 +33,9 @@ impl Tree {
         Ok(rows)
     }
 
-    /// Gives the pairs that the scan asks for to the sink, in the order of their keys. No pair is copied.
-    /// Stops for want of memory, which only the sink takes, or as the store does; the sink has then a beginning
-    /// of the pairs.
+    /// Gives the pairs that the scan asks for to the sink, in the order of their keys. Stops for want of memory,
+    /// which the sink takes, and a copy of the new chunks where a put has found its key and nothing else is
+    /// changed; or as the store does. The sink has then a beginning of the pairs.
     pub fn scan_into<C: Chunks, S: TakesRows>(
         &self,
         chunks: &mut C,

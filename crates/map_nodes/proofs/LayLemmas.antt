@@ -1,0 +1,309 @@
+-- A trail laid from a placed chunk down to a key.
+use Rattle.std.proofs.Common.{◌≡◌, ◌<◌, ◌-◌, ℕ, inl, inr, List, [], ◌∷◌, ◌++◌, Some, length}
+use Rattle.std.proofs.Common.{append_assoc, Result, Ok, Err, IfOk, slice_get, get_or, set, refl, sym, ap, ◌∙◌, subst}
+use Rattle.std.proofs.Common.{arith, nat_cmp}
+use Rattle.std.proofs.lemmas.List.{get_or-map}
+use Rattle.std.specs.Arc.{arc_value}
+use Rattle.std.specs.List.{Contains}
+use Rattle.std.specs.Prelude.{IsSome}
+use Rattle.std.specs.Cmp.Lexicographic.{slice_cmp}
+use Rattle.std.specs.FinMap.{find, put}
+use mathlib.Core.List.{IsPrefix}
+use Rattle.group_history.specs.declared.nodes.Chunk.{Chunk}
+use Rattle.group_history.specs.declared.nodes.Chunk.TheVariants as chunked
+use Rattle.group_history.specs.declared.nodes.Node.TheVariants as node
+use Rattle.group_history.specs.declared.refs.Ref.{Ref}
+use Rattle.group_history.specs.Map.{Bytes}
+use Rattle.group_history.specs.Naming.{chunk_children, chunk_content}
+use Rattle.group_history.specs.Refs.{stamp_of}
+use Rattle.group_history.specs.Rows.{Rows, keys_of, values_of, paired, AreKeys}
+use Rattle.group_history.specs.Spelling.{Contents, rows_at}
+use Rattle.group_history.proofs.Lists.{get_more}
+use Rattle.group_history.proofs.Pairs.{paired-parts}
+use Rattle.group_history.proofs.Spellings.{segment-content}
+use Rattle.map_chunks.proofs.JoinLemmas.{some_is}
+use Rattle.map_chunks.proofs.KeptLemmas.{all_on, kept-from_none, kept-none}
+use Rattle.map_chunks.proofs.OpenLemmas.{known, rows-kept, spells_at}
+use Rattle.map_chunks.proofs.SearchLemmas.{absent_in, find-absent, found_in, got, length-keys_of, length-values_of}
+use Rattle.map_chunks.specs.Places.{AreAll, AreKept, places_of}
+use Rattle.map_chunks.specs.Search.{IsAbsent, IsFound, IsPlace}
+use Rattle.map_chunks.specs.Shown.{Piece, rows_or, shown, IsTree}
+use Rattle.map_chunks.specs.Wide.{IsWideAt}
+use Rattle.map_nodes.proofs.ChangeLemmas.{none_there, put-found, replaced}
+use Rattle.map_nodes.proofs.CopyLemmas.{Copyable, copied_inner, copied_pieces, copyable}
+use Rattle.map_nodes.proofs.NamedLemmas.{kept-child, places-rows}
+use Rattle.map_nodes.proofs.NodeLemmas.{Down, down, shown-rows}
+use Rattle.map_nodes.proofs.ReplaceLemmas.{can_replace, kid_replaced}
+use Rattle.map_nodes.proofs.SpotLemmas.{read_at, step_places}
+use Rattle.map_nodes.proofs.TrailLemmas.{kid_of, length-placed, placed-places, step-fresh}
+use Rattle.map_nodes.proofs.WideLemmas.{wide-copy, wide_grown}
+use Rattle.map_nodes.specs.Inside.Copies.{chunk_pieces}
+use Rattle.map_nodes.specs.Inside.Freezing.{child_places}
+use Rattle.map_nodes.specs.Inside.Laying.{HasKey, IsCopiedStep, IsLaid, IsLaidBehind, IsPutEnd, IsStage, IsStageAt}
+use Rattle.map_nodes.specs.Inside.Replacing.{CanReplace}
+use Rattle.map_nodes.specs.Nodes.{AllKids, kids_pieces}
+use Rattle.map_nodes.specs.Trails.{placed_kids, step_kids, step_seen, trail_seen, IsStep}
+use Rattle.map_nodes.specs.declared.nodes.OwnChild.TheVariants.{Placed, Own}
+use Rattle.map_nodes.specs.declared.nodes.trails.End.{End}
+use Rattle.map_nodes.specs.declared.nodes.trails.Step.{Step}
+use Rattle.map_nodes.specs.declared.nodes.trails.laying.Stage.TheVariants.{On, At}
+
+-- A LEAF
+
+-- a value put at a key of a leaf
+pub rows_put : (rows : Rows) (keys values : List Bytes) (key v : Bytes) (i : ℕ) → keys ≡ keys_of rows
+    → values ≡ values_of rows → AreKeys keys → IsFound key keys i
+    → paired keys (set values i v) ≡ put (slice_cmp nat_cmp) key v rows
+rows_put rows keys values key v i k x o f =
+    let l : length values ≡ length keys = omega
+    (arith, ap length k, ap length x, length-keys_of rows, length-values_of rows) in
+    let r = found_in key keys values i o.1 l f in
+    let whole : paired keys values ≡ rows = ap (λ w. paired w values) k ∙ ap (paired (keys_of rows)) x ∙ paired-parts
+    rows in
+    replaced keys values i v r.value r.front key r.back l r.whole r.at
+    ∙ sym (put-found key v (paired keys values) i r) ∙ ap (put (slice_cmp nat_cmp) key v) whole
+
+-- a key that is there stands somewhere
+pub rows_have : (rows : Rows) (keys : List Bytes) (key : Bytes) (n : ℕ) → keys ≡ keys_of rows → AreKeys keys
+    → IsSome (find (slice_cmp nat_cmp) key rows) → IsAbsent key keys n → ⊥
+rows_have rows keys key n k o there a =
+    let l : length (values_of rows) ≡ length keys = omega
+    (arith, ap length k, length-keys_of rows, length-values_of rows) in
+    let r = absent_in key keys (values_of rows) n o.1 l a in
+    let whole : paired keys (values_of rows) ≡ rows = ap (λ w. paired w (values_of rows)) k ∙ paired-parts rows in
+    none_there (find (slice_cmp nat_cmp) key rows) there
+    (ap (find (slice_cmp nat_cmp) key) (sym whole) ∙ find-absent key (paired keys (values_of rows)) n r)
+
+-- A PLACED CHUNK
+
+-- what a chunk that can be replaced spells once more is placed
+pub record Spelt (p q : Contents) (depth stamp : ℕ) (key : Bytes) (c : Chunk Ref) : Type 0 where
+  pub rows : Rows
+  pub was : rows_at p depth stamp ≡ Some rows
+  pub tree : IsTree (Some rows)
+  pub there : IsSome (find (slice_cmp nat_cmp) key rows)
+  pub copy : Copyable q depth rows c
+
+pub spelt : (p q : Contents) (depth : ℕ) (key : Bytes) (at : Ref) (c : Chunk Ref) → IsPrefix p q
+    → CanReplace p depth key (Placed at) → slice_get q (stamp_of at) ≡ Some (chunk_content c)
+    → Spelt p q depth (stamp_of at) key c
+spelt p q depth key at c g can e =
+    let k = known (rows_at p depth (stamp_of at)) can.0 in
+    record {
+      rows = k.rows;
+      was = k.is;
+      tree = subst IsTree k.is can.0;
+      there = subst (λ w. IsSome (find (slice_cmp nat_cmp) key (rows_or w))) k.is can.2;
+      copy = copyable q depth (stamp_of at) k.rows c (rows-kept p q depth (stamp_of at) k.rows g k.is) e;
+    }
+
+pub has_key : (p q : Contents) (depth stamp : ℕ) (key : Bytes) (c : Chunk Ref) → Spelt p q depth stamp key c
+    → HasKey key c
+has_key p q depth stamp key (chunked.Leaf rows) s =
+    let same : rows ≡ s.rows = some_is (sym (shown-rows q rows) ∙ s.copy.rows_are) in
+    subst (λ w. IsSome (find (slice_cmp nat_cmp) key w)) (sym same) s.there
+has_key p q depth stamp key (chunked.Inner kids) s = s.copy.deep.1
+
+-- THE LEAF OF A TRAIL
+
+pub laid_end : (p q : Contents) (may : Ref → Type 0) (depth stamp : ℕ) (key v : Bytes) (rows : Rows) (e : End)
+    → Spelt p q depth stamp key (chunked.Leaf rows) → IsPutEnd rows key v e
+    → IsLaid q may stamp depth key v (rows_at p depth stamp) [] e
+laid_end p q may depth stamp key v rows e s h =
+    let same : rows ≡ s.rows = some_is (sym (shown-rows q rows) ∙ s.copy.rows_are) in
+    let all = paired (arc_value e.keys) e.values.items in
+    record {
+      trail = h.0;
+      depth_is = sym s.copy.deep;
+      shown_is = shown-rows q all ∙ ap (λ w. Some w) (h.1 ∙ ap (put (slice_cmp nat_cmp) key v) same)
+          ∙ ap (λ w. Some (put (slice_cmp nat_cmp) key v (rows_or w))) (sym s.was);
+      few = omega (arith, s.copy.deep);
+      kept = subst (AreKept may []) (sym (places-rows all)) (kept-none may []);
+      wide = λ w. inl refl;
+    }
+
+-- A STEP OF A TRAIL
+
+-- the chunk copied, and the way down it
+pub record OnWay (q : Contents) (depth : ℕ) (key : Bytes) (s : Step) (rows : Rows) (below : Ref) : Type 0 where
+  pub deep : 0 < depth
+  pub keys : AreKeys (arc_value s.keys)
+  pub pairs : length s.children.items ≡ length (arc_value s.keys)
+  pub within : s.place < length (arc_value s.keys)
+  pub pieces : List Piece
+  pub rows_are : shown q pieces ≡ Some rows
+  pub here : slice_get (placed_kids s.children.items) s.place ≡ Some (Placed below)
+  pub way : Down q depth (arc_value s.keys) (placed_kids s.children.items) pieces key s.place (Placed below)
+
+pub on_way : (p q : Contents) (depth stamp : ℕ) (key : Bytes) (kids : List (Bytes × Ref)) (s : Step) (below : Ref)
+    → (x : Spelt p q depth stamp key (chunked.Inner kids)) → IsCopiedStep kids key s
+    → below ≡ get_or s.children.items s.place below
+    → OnWay q depth key s x.rows below
+on_way p q depth stamp key kids s below x h b =
+    let keys = arc_value s.keys in
+    let ats = s.children.items in
+    let items : placed_kids ats ≡ placed_kids (values_of kids) = ap (λ w. placed_kids w) h.1 in
+    let c = copied_inner depth keys (placed_kids ats) kids h.0 items x.copy.deep.0 x.copy.deep.1
+    h.3 in
+    let place : IsPlace key keys s.place = subst (λ w. IsPlace key w s.place) (sym h.0) h.2 in
+    let long : length ats ≡ length keys = omega (arith, length-placed ats, c.1.2) in
+    let at : slice_get (placed_kids ats) s.place ≡ Some (Placed below) =
+    got (placed_kids ats) s.place (Placed below) (omega (arith, c.1.2, place.0)) ∙ ap (λ w. Some w)
+    (get_or-map (λ w. Placed w) ats s.place below (Placed below) (omega (arith, long, place.0)) ∙ ap
+    (λ w. Placed w) (sym b)) in
+    let whole = copied_pieces (depth - 1) keys (placed_kids ats) kids h.0 items in
+    let tree : IsTree (shown q (chunk_pieces depth (chunked.Inner kids))) = subst IsTree (sym x.copy.rows_are) x.tree in
+    record {
+      deep = x.copy.deep.0;
+      keys = c.0;
+      pairs = long;
+      within = place.0;
+      pieces = chunk_pieces depth (chunked.Inner kids);
+      rows_are = x.copy.rows_are;
+      here = at;
+      way = down q depth keys (placed_kids ats) (chunk_pieces depth (chunked.Inner kids)) key s.place (Placed below)
+          c.1.2 c.1.3 (sym whole) place at tree;
+    }
+
+-- the child on the way can be replaced
+pub can_below : (q : Contents) (depth : ℕ) (key : Bytes) (s : Step) (rows : Rows) (below : Ref)
+    → OnWay q depth key s rows below → IsSome (find (slice_cmp nat_cmp) key rows)
+    → CanReplace q (depth - 1) key (Placed below)
+can_below q depth key s rows below x there =
+    can_replace q depth (arc_value s.keys) (placed_kids s.children.items) x.pieces key s.place (Placed below) x.way
+    x.here (subst (λ w. IsSome (find (slice_cmp nat_cmp) key (rows_or w))) (sym x.rows_are) there) (Placed below) x.here
+
+-- where a key is that a child has, there the step has it
+pub laid_step : (p q r : Contents) (may : Ref → Type 0) (depth stamp : ℕ) (key v : Bytes) (kids : List (Bytes × Ref))
+    (s : Step) (below : Ref) (more : List Step) (e : End)
+    → (x : Spelt p q depth stamp key (chunked.Inner kids)) → OnWay q depth key s x.rows below → IsPrefix q r
+    → arc_value s.keys ≡ keys_of kids → AreAll may s.children.items
+    → slice_get q stamp ≡ Some (chunk_content (chunked.Inner kids))
+    → IsLaid r may (stamp_of below) (depth - 1) key v (rows_at q (depth - 1) (stamp_of below)) more e
+    → IsLaid r may stamp depth key v (rows_at p depth stamp) (s ∷ more) e
+laid_step p q r may depth stamp key v kids s below more e x w g k all g2 laid =
+    let keys = arc_value s.keys in
+    let kidlist = placed_kids s.children.items in
+    let next = trail_seen more e in
+    let n = kid_of s next in
+    let there : IsSome (find (slice_cmp nat_cmp) key (rows_or (shown q w.pieces))) = subst
+    (λ z. IsSome (find (slice_cmp nat_cmp) key (rows_or z))) (sym w.rows_are) x.there in
+    let long : length kidlist ≡ length keys = length-placed s.children.items ∙ w.pairs in
+    let set_is = replaced keys kidlist s.place (Own n) (Placed below) w.way.before w.way.first w.way.behind long
+    w.way.whole
+    w.way.at in
+    let t = kid_replaced q r depth keys kidlist w.pieces key v s.place (Placed below) n
+    (rows_at q (depth - 1) (stamp_of below)) g w.way there w.way.way.here_is laid.depth_is laid.shown_is in
+    let read = read_at kidlist s.place (Placed below) w.here in
+    let kept = kept-child may kidlist s.place (Placed below) n read.0 read.1
+    (kept-from_none may (child_places (Placed below)) (places_of next.pieces) laid.kept) in
+    let all_is : AllKids (depth - 1) (paired keys (step_kids s next)) = subst (AllKids (depth - 1)) (sym set_is)
+    t.all in
+    let deep : depth - 1 ≡ next.depth = sym laid.depth_is in
+    let step : IsStep s next = (
+      w.keys,
+      w.pairs,
+      w.within,
+      subst (λ b. AllKids b (paired keys (step_kids s next))) deep
+          all_is,
+    ) in
+    record {
+      trail = (step, laid.trail);
+      depth_is = omega (arith, laid.depth_is, w.deep);
+      shown_is = ap (λ b. shown r (kids_pieces b (paired keys (step_kids s next)))) (sym deep)
+          ∙ ap (λ es. shown r (kids_pieces (depth - 1) es)) set_is ∙ t.shown_is
+          ∙ ap (λ z. Some (put (slice_cmp nat_cmp) key v (rows_or z))) (w.rows_are ∙ sym x.was);
+      few = omega (arith, step-fresh s next step, laid.few, w.deep);
+      kept = subst (AreKept may []) (sym (step_places s next step)) (λ at i. elim (kept at i) [
+        | inl t ↦ inr (all at (subst (λ z. Contains z at) (placed-places s.children.items) t))
+        | inr t ↦ inr t
+      ]);
+      wide = λ t. wide-copy r stamp depth (chunked.Inner kids) (step_seen s next)
+          (subst (λ z. slice_get z stamp ≡ Some (chunk_content (chunked.Inner kids))) g.1 (get_more q g.0 stamp _ g2))
+          x.copy.deep (omega (arith, laid.depth_is, w.deep)) (ap length k ∙ length-keys_of kids) t;
+    }
+
+-- THE STAGES
+
+on_inner : (ch : Chunk Ref) (key v : Bytes) (s : Step) → IsStage ch key v (On s)
+    → (kids : List (Bytes × Ref)) × (ch ≡ chunked.Inner kids) × IsCopiedStep kids key s
+on_inner (chunked.Leaf rows) key v s h = absurd h
+on_inner (chunked.Inner kids) key v s h = (kids, refl, h)
+
+at_leaf : (ch : Chunk Ref) (key v : Bytes) (e : End) → IsStage ch key v (At e)
+    → (rows : Rows) × (ch ≡ chunked.Leaf rows) × IsPutEnd rows key v e
+at_leaf (chunked.Leaf rows) key v e h = (rows, refl, h)
+at_leaf (chunked.Inner kids) key v e h = absurd h
+
+-- the leaf is reached
+pub lands : (p q : Contents) (may : Ref → Type 0) (depth : ℕ) (key v : Bytes) (at : Ref) (e : End) → IsPrefix p q
+    → CanReplace p depth key (Placed at) → IsStageAt q may (stamp_of at) key v (At e)
+    → IsLaid q may (stamp_of at) depth key v (rows_at p depth (stamp_of at)) [] e
+lands p q may depth key v at e g can x =
+    let f = at_leaf x.0 key v e x.2 in
+    let is : slice_get q (stamp_of at) ≡ Some (chunk_content (chunked.Leaf f.0)) = x.1 ∙ ap
+    (λ w. Some (chunk_content w)) f.1 in
+    laid_end p q may depth (stamp_of at) key v f.0 e (spelt p q depth key at (chunked.Leaf f.0) g can is) f.2
+
+-- the way goes on
+pub record Goes (p q : Contents) (may : Ref → Type 0) (depth : ℕ) (key : Bytes) (at : Ref) (s : Step)
+    (below : Ref) : Type 0 where
+  pub kids : List (Bytes × Ref)
+  pub is : slice_get q (stamp_of at) ≡ Some (chunk_content (chunked.Inner kids))
+  pub copied : IsCopiedStep kids key s
+  pub spelt : Spelt p q depth (stamp_of at) key (chunked.Inner kids)
+  pub way : OnWay q depth key s spelt.rows below
+  pub all : AreAll may s.children.items
+  pub here : may below
+
+pub goes : (p q : Contents) (may : Ref → Type 0) (depth : ℕ) (key v : Bytes) (at : Ref) (s : Step) (below : Ref)
+    → IsPrefix p q → CanReplace p depth key (Placed at) → IsStageAt q may (stamp_of at) key v (On s)
+    → below ≡ get_or s.children.items s.place below → Goes p q may depth key at s below
+goes p q may depth key v at s below g can x b =
+    let f = on_inner x.0 key v s x.2 in
+    let is : slice_get q (stamp_of at) ≡ Some (chunk_content (chunked.Inner f.0)) = x.1 ∙ ap
+    (λ w. Some (chunk_content w)) f.1 in
+    let sp = spelt p q depth key at (chunked.Inner f.0) g can is in
+    let way = on_way p q depth (stamp_of at) key f.0 s below sp f.2 b in
+    let all : AreAll may s.children.items = subst (AreAll may) (sym f.2.1)
+    (subst (λ w. AreAll may (chunk_children w)) f.1 x.3) in
+    record {
+      kids = f.0;
+      is = is;
+      copied = f.2;
+      spelt = sp;
+      way = way;
+      all = all;
+      here = all below (
+        s.place,
+        (let l : s.place < length s.children.items = omega
+            (arith, way.within, way.pairs) in l),
+        sym b,
+      );
+    }
+
+pub ok_so : {A E : Type 0} {P Q : A → Type 0} (r : Result A E) → IfOk r P → ((a : A) → P a → Q a) → IfOk r Q
+ok_so (Ok a) h f = f a h
+ok_so (Err e) h f = tt
+
+-- the steps behind this one
+pub laid_on : (p q r : Contents) (may more : Ref → Type 0) (depth : ℕ) (key v : Bytes) (at : Ref) (s : Step)
+    (below : Ref) (e : End) (old mid new : List Step) → Goes p q may depth key at s below → IsPrefix q r
+    → ((at : Ref) → may at → more at) → mid ≡ old ++ s ∷ []
+    → IsLaidBehind r more (stamp_of below) (depth - 1) key v (rows_at q (depth - 1) (stamp_of below)) mid new e
+    → IsLaidBehind r more (stamp_of at) depth key v (rows_at p depth (stamp_of at)) old new e
+laid_on p q r may more depth key v at s below e old mid new x g m w l = (
+  s ∷ l.0,
+  l.1 ∙ ap (λ z. z ++ l.0) w ∙ append_assoc old (s ∷ []) l.0,
+  laid_step p q r more depth (stamp_of at) key v x.kids s below l.0 e x.spelt x.way g x.copied.0
+      (all_on may more s.children.items m x.all) x.is l.2,
+)
+
+-- what is wide stays so
+pub wide_later : (old new : Contents) (depth k : ℕ) → IsTree (rows_at old depth k) → IsPrefix old new
+    → IsWideAt old k → IsWideAt new k
+wide_later old new depth k t p w =
+    let n = known (rows_at old depth k) t in
+    let f = spells_at old depth k n.rows n.is in
+    let c = segment-content old k f.0.segment f.0.is in
+    wide_grown old new k (node.Chunk c.0) p c.2 w

@@ -1,0 +1,13 @@
+use Rattle.std.proofs.Common.{arith, ap}
+use Rattle.map_chunks.specs.Shown.{Seen}
+use Rattle.map_nodes.proofs.TrailLemmas.{trail_fresh}
+use Rattle.map_nodes.proofs.nodes.trails.Trail.new_chunks.Goals as goal
+
+pub returns : goal.returns
+returns c = omega (
+  arith,
+  c.len.ensures,
+  c.self.inside.steps.ok.0,
+  trail_fresh c.self.inside.steps.items c.self.inside.end c.self.invariant,
+  ap (λ (s : Seen). s.fresh) c.self.view_is,
+)

@@ -1,0 +1,47 @@
+//! A trail: what a first put at a key that is there makes new.
+//!
+//! Its chunks are those on the way to the key. Each but the leaf has placed children, and the next chunk in the place
+//! of one of them, so no chunk lies behind a pointer, and each is written down as it is. Contracts see a trail as the
+//! own chunk that stands first. What else is changed is changed in an own chunk with the same pieces (`thawing`).
+mod freezing;
+mod laying;
+mod reading;
+mod thawing;
+
+use group_history::{Json, Keys, Ref};
+use std::marker::Model;
+use std::sync::Arc;
+
+/// A chunk above another one of the trail.
+#[derive(Drop)]
+struct Step {
+    keys: Arc<Keys>,
+    children: Vec<Ref>,
+    place: usize,
+}
+
+/// The leaf.
+#[derive(Drop)]
+struct End {
+    keys: Arc<Keys>,
+    values: Vec<Json>,
+}
+
+/// The chunks on the way to one key, the root first.
+#[derive(Drop)]
+pub struct Trail {
+    steps: Vec<Step>,
+    end: End,
+}
+
+impl Model for Trail {
+    ghost use Rattle.map_chunks.specs.Shown.{Seen};
+
+    ghost Value = { Seen };
+
+    ghost use Rattle.map_nodes.specs.Trails.{trail_seen, IsTrail};
+
+    ghost view = { λ t. trail_seen t.steps.items t.end };
+
+    ghost invariant = { λ t. IsTrail t.steps.items t.end };
+}

@@ -1,0 +1,122 @@
+//! Queries of a trail.
+ghost use Rattle.std.specs.Prelude.{◌≡◌, ◌==◌, ◌⊎◌, Some, IfOk, IfErr, length, option_copied};
+ghost use Rattle.std.specs.Ordering.{nat_cmp};
+ghost use Rattle.std.specs.Cmp.Lexicographic.{slice_cmp};
+ghost use Rattle.std.specs.FinMap as finite;
+ghost use Rattle.group_history.specs.Rows.{Rows};
+ghost use Rattle.group_history.specs.Spelling.{Contents};
+ghost use Rattle.group_history.specs.declared.mutators.Stop.TheVariants.{NoMemory};
+ghost use Rattle.map_chunks.specs.Places.{Grows, AreAll, places_of};
+ghost use Rattle.map_chunks.specs.Scanning.{taken, Gave, IsLow};
+ghost use Rattle.map_chunks.specs.Seeking.{stands_in};
+ghost use Rattle.map_chunks.specs.Shown.{shown, IsTree, rows_or};
+ghost use Rattle.map_nodes.specs.Inside.Spots.{IsSpot};
+ghost use Rattle.map_nodes.specs.Trails.{trail_seen, IsTrail};
+
+use super::{End, Step, Trail};
+use group_history::{Json, Ref, Scan, SearchKey, Stop};
+use map_chunks::looks::Comparison;
+use map_chunks::placed::get_placed;
+use map_chunks::search::{place_for, standing_at, value_at};
+use map_chunks::seeking::seek_placed;
+use map_chunks::{Chunks, TakesRows};
+
+// The placed chunk where the way to a key leaves the trail, if it does.
+fn spot(steps: &[Step], end: &End, key: &SearchKey<'_>) -> Option<Ref>
+    requires { IsTrail steps.now end.now }
+    ensures { (contents : Contents) → IsTree (shown contents (trail_seen steps.now end.now).pieces)
+        → IsSpot contents key.now (trail_seen steps.now end.now).pieces end.now result }
+{
+    let Some((step, rest)) = steps.split_first() else {
+        return None;
+    };
+    let place = place_for(step.keys.as_slice(), key);
+    if place == step.place {
+        return spot(rest, end, key);
+    }
+    Some(step.children[place])
+}
+
+impl Trail {
+    /// The value at a key, if it is there. Stops for want of memory, or as the store does.
+    pub fn get<C: Chunks>(&self, chunks: &mut C, key: &str) -> Result<Option<Json>, Stop>
+        requires places { AreAll (C.places chunks.old) (places_of self.now.pieces) }
+        requires tree { IsTree (shown (C.contents chunks.old) self.now.pieces) }
+        ensures grown { Grows C.contents C.places chunks.old chunks.new }
+        ensures value { IfOk result (λ v. v ≡ finite.find (slice_cmp nat_cmp) key.now
+            (rows_or (shown (C.contents chunks.old) self.now.pieces))) }
+        ensures stopped { IfErr result (λ s. (s ≡ NoMemory) ⊎ C.stops s) }
+    {
+        match spot(&self.steps, &self.end, &SearchKey::new(key)) {
+            Some(at) => get_placed(chunks, at, key),
+            None => Ok(value_at(self.end.keys.as_slice(), &self.end.values, key)?),
+        }
+    }
+
+    /// How the value at a key stands to the one asked for. Stops as the store does alone.
+    pub fn standing<C: Chunks>(
+        &self,
+        chunks: &mut C,
+        key: &str,
+        asked: Option<&Json>,
+    ) -> Result<Comparison, Stop>
+        requires places { AreAll (C.places chunks.old) (places_of self.now.pieces) }
+        requires tree { IsTree (shown (C.contents chunks.old) self.now.pieces) }
+        ensures grown { Grows C.contents C.places chunks.old chunks.new }
+        ensures standing { IfOk result (λ s. s
+            ≡ stands_in (rows_or (shown (C.contents chunks.old) self.now.pieces)) key.now (option_copied asked.entry)) }
+        ensures stopped { IfErr result C.stops }
+    {
+        match spot(&self.steps, &self.end, &SearchKey::new(key)) {
+            Some(at) => {
+                let sought = seek_placed(chunks, at, key, asked)?;
+                Ok(sought.standing)
+            }
+            None => Ok(standing_at(self.end.keys.as_slice(), &self.end.values, key, asked)),
+        }
+    }
+
+    /// Takes the scan's rows of the trail, and answers the room that is left. Stops for want of memory, or as
+    /// the store does; the sink has then a beginning of these rows.
+    pub fn scan<C: Chunks, S: TakesRows>(
+        &self,
+        chunks: &mut C,
+        scan: &Scan,
+        low: &str,
+        room: Option<u64>,
+        sink: &mut S,
+    ) -> Result<Option<u64>, Stop>
+        requires places { AreAll (C.places chunks.old) (places_of self.now.pieces) }
+        requires tree { IsTree (shown (C.contents chunks.old) self.now.pieces) }
+        requires low { IsLow scan.now low.now }
+        ensures grown { Grows C.contents C.places chunks.old chunks.new }
+        ensures rows { Gave S.has sink.old sink.new room result
+            (taken scan.now room (rows_or (shown (C.contents chunks.old) self.now.pieces))) }
+        ensures stopped { IfErr result (λ s. (s ≡ NoMemory) ⊎ C.stops s) }
+    {
+        let node = self.thawed(*self.steps.allocator())?;
+        node.scan(chunks, scan, low, room, sink)
+    }
+
+    /// How deep the trail is.
+    pub fn depth(&self) -> u64
+        ensures { result ≡ self.now.depth }
+    {
+        self.steps.len() as u64 + 1
+    }
+
+    /// How many chunks it is.
+    pub fn new_chunks(&self) -> u64
+        ensures { result ≡ self.now.fresh }
+    {
+        self.steps.len() as u64 + 1
+    }
+
+    /// Whether the trail has no rows: then it is a leaf.
+    pub fn is_empty(&self) -> bool
+        ensures { (contents : Contents) (rows : Rows) → shown contents self.now.pieces ≡ Some rows
+            → result ≡ (length rows == 0) }
+    {
+        self.steps.is_empty() && self.end.values.is_empty()
+    }
+}

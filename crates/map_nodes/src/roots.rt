@@ -1,0 +1,401 @@
+//! The root of what a draft owns of a map.
+//!
+//! A first put at a key that is there makes a trail; other changes need an own chunk, and make one of a trail first.
+ghost use Rattle.std.specs.Prelude.{◌≡◌, ◌==◌, ◌⊎◌, ◌+◌, ◌-◌, ◌*◌, ◌^◌, ◌<◌, ◌≤◌, [], true, min, length, Some, IsSome};
+ghost use Rattle.std.specs.Prelude.{IfOk, IfErr, OnOk, OnErr, option_copied};
+ghost use Rattle.std.specs.Ordering.{nat_cmp};
+ghost use Rattle.std.specs.Cmp.Lexicographic.{slice_cmp};
+ghost use Rattle.std.specs.FinMap as finite;
+ghost use mathlib.Core.List.{IsPrefix};
+ghost use Rattle.group_history.specs.Refs.{stamps, stamp_of, slot_of};
+ghost use Rattle.group_history.specs.Rows.{Rows};
+ghost use Rattle.group_history.specs.Spelling.{Contents, rows_at};
+ghost use Rattle.group_history.specs.declared.mutators.Stop.TheVariants.{NoMemory};
+ghost use Rattle.group_history.specs.declared.refusals.Refusal.TheVariants as refusal;
+ghost use Rattle.map_chunks.specs.Drafts.{AreBelow, IsLate};
+ghost use Rattle.map_chunks.specs.Places.{with_nodes, Grows, AreAll, AreKept, AddsNamed, places_of};
+ghost use Rattle.map_chunks.specs.Scanning.{taken, Gave, IsLow};
+ghost use Rattle.map_chunks.specs.Seeking.{stands_in};
+ghost use Rattle.map_chunks.specs.Shown.{shown, IsTree, rows_or};
+ghost use Rattle.map_chunks.specs.Wide.{IsWideAt, IsWideChunk};
+ghost use Rattle.map_nodes.specs.Removing.{root_left, without, root_rows, IsWideRoot, IsLowRoot};
+
+use crate::nodes::{OwnNode, Trail};
+use group_history::{Json, Ref, Refusal, Scan, Stop};
+use map_chunks::keys::ROOM;
+use map_chunks::looks::Comparison;
+use map_chunks::{Chunks, Draft, TakesRows};
+use std::alloc::Global;
+use std::marker::Model;
+
+/// A chunk that a draft owns, with all that it owns below it. Contracts see it as they see an `OwnNode`.
+#[derive(Drop)]
+pub struct OwnRoot {
+    form: Form,
+}
+
+#[derive(Drop)]
+enum Form {
+    Node(OwnNode),
+    Trail(Trail),
+}
+
+impl Model for OwnRoot {
+    ghost use Rattle.map_chunks.specs.Shown.{Seen};
+
+    ghost Value = { Seen };
+
+    ghost use Rattle.map_nodes.specs.Roots.{form_seen};
+
+    ghost view = { λ r. form_seen r.form };
+}
+
+impl OwnRoot {
+    fn new(node: OwnNode) -> OwnRoot
+        ensures { result ≡ node }
+    {
+        OwnRoot {
+            form: Form::Node(node),
+        }
+    }
+
+    /// An empty leaf.
+    pub fn empty(alloc: Global) -> OwnRoot
+        ensures depth { result.depth ≡ 1 }
+        ensures pieces { result.pieces ≡ [] }
+        ensures fresh { result.fresh ≡ 1 }
+    {
+        OwnRoot::new(OwnNode::empty(alloc))
+    }
+
+    /// A copy of the placed chunk, which is so deep. Stops for want of memory, or as the store does.
+    pub fn copied<C: Chunks>(
+        alloc: Global,
+        chunks: &mut C,
+        at: Ref,
+        depth: u64,
+    ) -> Result<OwnRoot, Stop>
+        requires place { C.places chunks.old at }
+        requires known { IsSome (rows_at (C.contents chunks.old) depth (stamp_of at)) }
+        ensures grown { Grows C.contents C.places chunks.old chunks.new }
+        ensures depth { IfOk result (λ n. n.depth ≡ depth) }
+        ensures rows { IfOk result (λ n. shown (C.contents chunks.new) n.pieces
+            ≡ rows_at (C.contents chunks.old) depth (stamp_of at)) }
+        ensures fresh { IfOk result (λ n. n.fresh ≡ 1) }
+        ensures places { IfOk result (λ n. AreKept (C.places chunks.new) [] (places_of n.pieces)) }
+        ensures wide { IsWideAt (C.contents chunks.new) (stamp_of at) → IfOk result IsWideChunk }
+        ensures stopped { IfErr result (λ s. (s ≡ NoMemory) ⊎ C.stops s) }
+    {
+        let node = OwnNode::copied(alloc, chunks, at, depth, 0)?;
+        Ok(OwnRoot::new(node))
+    }
+
+    /// The map whose root is a placed chunk, which is so deep, with a value put at a key; `there` says whether the
+    /// key is there. Stops for want of memory, or as the store does.
+    pub fn written<C: Chunks>(
+        alloc: Global,
+        chunks: &mut C,
+        at: Ref,
+        depth: u64,
+        key: &str,
+        value: &Json,
+        there: bool,
+    ) -> Result<OwnRoot, Stop>
+        requires place { C.places chunks.old at }
+        requires tree { IsTree (rows_at (C.contents chunks.old) depth (stamp_of at)) }
+        requires there { there ≡ true → IsSome (finite.find (slice_cmp nat_cmp) key.now
+            (rows_or (rows_at (C.contents chunks.old) depth (stamp_of at)))) }
+        ensures grown { Grows C.contents C.places chunks.old chunks.new }
+        ensures done { IfOk result (λ r. shown (C.contents chunks.new) r.pieces
+            ≡ Some (finite.put (slice_cmp nat_cmp) key.now value.now
+            (rows_or (rows_at (C.contents chunks.old) depth (stamp_of at))))) }
+        ensures few { IfOk result (λ r. r.fresh ≤ depth + depth + 1) }
+        ensures replaced { there ≡ true → IfOk result (λ r. r.fresh ≤ depth) }
+        ensures deep { IfOk result (λ r. (depth ≤ r.depth) × (r.depth ≤ depth + 1)) }
+        ensures wide { IsWideAt (C.contents chunks.old) (stamp_of at) → IfOk result IsWideChunk }
+        ensures places { IfOk result (λ r. AreKept (C.places chunks.new) [] (places_of r.pieces)) }
+        ensures stopped { IfErr result (λ s. (s ≡ NoMemory) ⊎ C.stops s) }
+    {
+        if there {
+            return OwnRoot::replaced(alloc, chunks, at, depth, key, value);
+        }
+        OwnRoot::inserted(alloc, chunks, at, depth, key, value)
+    }
+
+    // The same where the key is there: a trail.
+    fn replaced<C: Chunks>(
+        alloc: Global,
+        chunks: &mut C,
+        at: Ref,
+        depth: u64,
+        key: &str,
+        value: &Json,
+    ) -> Result<OwnRoot, Stop>
+        requires place { C.places chunks.old at }
+        requires tree { IsTree (rows_at (C.contents chunks.old) depth (stamp_of at)) }
+        requires there { IsSome (finite.find (slice_cmp nat_cmp) key.now
+            (rows_or (rows_at (C.contents chunks.old) depth (stamp_of at)))) }
+        ensures grown { Grows C.contents C.places chunks.old chunks.new }
+        ensures done { IfOk result (λ r. shown (C.contents chunks.new) r.pieces
+            ≡ Some (finite.put (slice_cmp nat_cmp) key.now value.now
+            (rows_or (rows_at (C.contents chunks.old) depth (stamp_of at))))) }
+        ensures few { IfOk result (λ r. r.fresh ≤ depth) }
+        ensures deep { IfOk result (λ r. r.depth ≡ depth) }
+        ensures wide { IsWideAt (C.contents chunks.old) (stamp_of at) → IfOk result IsWideChunk }
+        ensures places { IfOk result (λ r. AreKept (C.places chunks.new) [] (places_of r.pieces)) }
+        ensures stopped { IfErr result (λ s. (s ≡ NoMemory) ⊎ C.stops s) }
+    {
+        let trail = Trail::laid(alloc, chunks, at, depth, key, value)?;
+        Ok(OwnRoot {
+            form: Form::Trail(trail),
+        })
+    }
+
+    // The same where the key isn't there, or may not be.
+    fn inserted<C: Chunks>(
+        alloc: Global,
+        chunks: &mut C,
+        at: Ref,
+        depth: u64,
+        key: &str,
+        value: &Json,
+    ) -> Result<OwnRoot, Stop>
+        requires place { C.places chunks.old at }
+        requires tree { IsTree (rows_at (C.contents chunks.old) depth (stamp_of at)) }
+        ensures grown { Grows C.contents C.places chunks.old chunks.new }
+        ensures done { IfOk result (λ r. shown (C.contents chunks.new) r.pieces
+            ≡ Some (finite.put (slice_cmp nat_cmp) key.now value.now
+            (rows_or (rows_at (C.contents chunks.old) depth (stamp_of at))))) }
+        ensures few { IfOk result (λ r. r.fresh ≤ depth + depth + 1) }
+        ensures deep { IfOk result (λ r. (depth ≤ r.depth) × (r.depth ≤ depth + 1)) }
+        ensures wide { IsWideAt (C.contents chunks.old) (stamp_of at) → IfOk result IsWideChunk }
+        ensures places { IfOk result (λ r. AreKept (C.places chunks.new) [] (places_of r.pieces)) }
+        ensures stopped { IfErr result (λ s. (s ≡ NoMemory) ⊎ C.stops s) }
+    {
+        let mut node = OwnNode::copied(alloc, chunks, at, depth, ROOM)?;
+        node.write(alloc, chunks, key, value, false)?;
+        Ok(OwnRoot::new(node))
+    }
+
+    /// How deep the chunk is.
+    pub fn depth(&self) -> u64
+        ensures { result ≡ self.now.depth }
+    {
+        match &self.form {
+            Form::Node(node) => node.depth(),
+            Form::Trail(trail) => trail.depth(),
+        }
+    }
+
+    /// How many own chunks there are, from this one down. No machine has so many that the count stops at
+    /// the largest number.
+    pub fn new_chunks(&self) -> u64
+        ensures { result ≡ min self.now.fresh (2 ^ 64 - 1) }
+    {
+        match &self.form {
+            Form::Node(node) => node.new_chunks(),
+            Form::Trail(trail) => trail.new_chunks(),
+        }
+    }
+
+    /// Whether the chunk has no rows: then it is a leaf.
+    pub fn is_empty(&self) -> bool
+        ensures { (contents : Contents) (rows : Rows) → shown contents self.now.pieces ≡ Some rows
+            → result ≡ (length rows == 0) }
+    {
+        match &self.form {
+            Form::Node(node) => node.is_empty(),
+            Form::Trail(trail) => trail.is_empty(),
+        }
+    }
+
+    /// The value at a key, if it is there. Stops for want of memory, or as the store does.
+    pub fn get<C: Chunks>(&self, chunks: &mut C, key: &str) -> Result<Option<Json>, Stop>
+        requires places { AreAll (C.places chunks.old) (places_of self.now.pieces) }
+        requires tree { IsTree (shown (C.contents chunks.old) self.now.pieces) }
+        ensures grown { Grows C.contents C.places chunks.old chunks.new }
+        ensures value { IfOk result (λ v. v ≡ finite.find (slice_cmp nat_cmp) key.now
+            (rows_or (shown (C.contents chunks.old) self.now.pieces))) }
+        ensures stopped { IfErr result (λ s. (s ≡ NoMemory) ⊎ C.stops s) }
+    {
+        match &self.form {
+            Form::Node(node) => node.get(chunks, key),
+            Form::Trail(trail) => trail.get(chunks, key),
+        }
+    }
+
+    /// How the value at a key stands to the one asked for. Stops as the store does alone.
+    pub fn standing<C: Chunks>(
+        &self,
+        chunks: &mut C,
+        key: &str,
+        asked: Option<&Json>,
+    ) -> Result<Comparison, Stop>
+        requires places { AreAll (C.places chunks.old) (places_of self.now.pieces) }
+        requires tree { IsTree (shown (C.contents chunks.old) self.now.pieces) }
+        ensures grown { Grows C.contents C.places chunks.old chunks.new }
+        ensures standing { IfOk result (λ s. s
+            ≡ stands_in (rows_or (shown (C.contents chunks.old) self.now.pieces)) key.now (option_copied asked.entry)) }
+        ensures stopped { IfErr result C.stops }
+    {
+        match &self.form {
+            Form::Node(node) => node.standing(chunks, key, asked),
+            Form::Trail(trail) => trail.standing(chunks, key, asked),
+        }
+    }
+
+    /// Takes the scan's rows of the chunk, and answers the room that is left. Stops for want of memory, or as
+    /// the store does; the sink has then a beginning of these rows.
+    pub fn scan<C: Chunks, S: TakesRows>(
+        &self,
+        chunks: &mut C,
+        scan: &Scan,
+        low: &str,
+        room: Option<u64>,
+        sink: &mut S,
+    ) -> Result<Option<u64>, Stop>
+        requires places { AreAll (C.places chunks.old) (places_of self.now.pieces) }
+        requires tree { IsTree (shown (C.contents chunks.old) self.now.pieces) }
+        requires low { IsLow scan.now low.now }
+        ensures grown { Grows C.contents C.places chunks.old chunks.new }
+        ensures rows { Gave S.has sink.old sink.new room result
+            (taken scan.now room (rows_or (shown (C.contents chunks.old) self.now.pieces))) }
+        ensures stopped { IfErr result (λ s. (s ≡ NoMemory) ⊎ C.stops s) }
+    {
+        match &self.form {
+            Form::Node(node) => node.scan(chunks, scan, low, room, sink),
+            Form::Trail(trail) => trail.scan(chunks, scan, low, room, sink),
+        }
+    }
+
+    /// Puts a row in the map whose root the chunk is; `there` says whether its key is there.
+    /// Stops for want of memory, or as the store does, and the chunk is as it was then.
+    pub fn write<C: Chunks>(
+        &mut self,
+        alloc: Global,
+        chunks: &mut C,
+        key: &str,
+        value: &Json,
+        there: bool,
+    ) -> Result<(), Stop>
+        requires places { AreAll (C.places chunks.old) (places_of self.old.pieces) }
+        requires tree { IsTree (shown (C.contents chunks.old) self.old.pieces) }
+        requires there { there ≡ true → IsSome
+            (finite.find (slice_cmp nat_cmp) key.now (rows_or (shown (C.contents chunks.old) self.old.pieces))) }
+        ensures grown { Grows C.contents C.places chunks.old chunks.new }
+        ensures done { OnOk result (shown (C.contents chunks.new) self.new.pieces
+            ≡ Some (finite.put (slice_cmp nat_cmp) key.now value.now
+            (rows_or (shown (C.contents chunks.old) self.old.pieces)))) }
+        ensures few { OnOk result (self.new.fresh ≤ self.old.fresh + 2 * self.old.depth) }
+        ensures places { OnOk result (AreKept (C.places chunks.new) (places_of self.old.pieces)
+            (places_of self.new.pieces)) }
+        ensures replaced { there ≡ true → OnOk result (self.new.fresh < self.old.fresh + self.old.depth) }
+        ensures deep { OnOk result ((self.old.depth ≤ self.new.depth) × (self.new.depth ≤ self.old.depth + 1)) }
+        ensures wide { IsWideChunk self.old → OnOk result (IsWideChunk self.new) }
+        ensures err { OnErr result (self.new ≡ self.old) }
+        ensures stopped { IfErr result (λ s. (s ≡ NoMemory) ⊎ C.stops s) }
+    {
+        match &mut self.form {
+            Form::Node(node) => node.write(alloc, chunks, key, value, there),
+            Form::Trail(trail) => {
+                let mut node = trail.thawed(alloc)?;
+                node.write(alloc, chunks, key, value, there)?;
+                self.form = Form::Node(node);
+                Ok(())
+            }
+        }
+    }
+
+    /// Removes a key, if it is there, from the map whose root the chunk is. Answers a placed chunk where
+    /// that is the root from now on. Stops for want of memory, or as the store does, and the chunk is as it
+    /// was then.
+    pub fn remove_root<C: Chunks>(
+        &mut self,
+        alloc: Global,
+        chunks: &mut C,
+        key: &str,
+    ) -> Result<Option<Ref>, Stop>
+        requires places { AreAll (C.places chunks.old) (places_of self.old.pieces) }
+        requires tree { IsTree (shown (C.contents chunks.old) self.old.pieces) }
+        ensures grown { Grows C.contents C.places chunks.old chunks.new }
+        ensures done { IfOk result (λ root. root_rows (C.contents chunks.new) self.new root
+            ≡ Some (without key.now (rows_or (shown (C.contents chunks.old) self.old.pieces)))) }
+        ensures places { IfOk result (λ root. AreKept (C.places chunks.new) (places_of self.old.pieces)
+            (root_left self.new root)) }
+        ensures few { OnOk result (self.new.fresh + 1 ≤ self.old.fresh + self.old.depth) }
+        ensures deep { IfOk result (IsLowRoot (C.contents chunks.new) self.old.depth self.new) }
+        ensures wide { IsWideChunk self.old → IfOk result (IsWideRoot (C.contents chunks.new) self.new) }
+        ensures err { OnErr result (self.new ≡ self.old) }
+        ensures stopped { IfErr result (λ s. (s ≡ NoMemory) ⊎ C.stops s) }
+    {
+        match &mut self.form {
+            Form::Node(node) => node.remove_root(alloc, chunks, key),
+            Form::Trail(trail) => {
+                let mut node = trail.thawed(alloc)?;
+                let end = node.remove_root(alloc, chunks, key)?;
+                self.form = Form::Node(node);
+                Ok(end)
+            }
+        }
+    }
+
+    // Appends the chunk to the draft, behind its own children, and answers its name. Placed children
+    // keep their names. A refusal leaves what was appended so far.
+    fn freeze(self, alloc: Global, draft: &mut Draft) -> Result<Ref, Refusal>
+        requires below { AreBelow (draft.old.first + length draft.old.nodes) (places_of self.pieces) }
+        ensures spelled { (contents : Contents) (rows : Rows) → length contents ≡ draft.old.first
+            → shown (with_nodes contents draft.old.nodes) self.pieces ≡ Some rows
+            → IfOk result (λ root. rows_at (with_nodes contents draft.new.nodes) self.depth
+            (stamp_of root) ≡ Some rows) }
+        ensures wide { (contents : Contents) → length contents ≡ draft.old.first → 1 < self.entries
+            → IfOk result (λ root. IsWideAt (with_nodes contents draft.new.nodes) (stamp_of root)) }
+        ensures named { OnOk result (AddsNamed draft.old.first
+            (places_of self.pieces) draft.old.nodes draft.new.nodes) }
+        ensures drafted { IfOk result (λ at. (draft.old.first ≤ stamp_of at) × (slot_of at ≡ 0)) }
+        ensures below { IfOk result (λ at. stamp_of at < draft.new.first + length draft.new.nodes) }
+        ensures count { OnOk result (length draft.new.nodes ≡ length draft.old.nodes + self.fresh) }
+        ensures bound { OnErr result (length draft.new.nodes < length draft.old.nodes + self.fresh) }
+        ensures first { draft.new.first ≡ draft.old.first }
+        ensures grown { IsPrefix draft.old.nodes draft.new.nodes }
+        ensures why { IfErr result (λ e. (e ≡ refusal.NoMemory)
+            ⊎ ((e ≡ refusal.Stamps) × (stamps ≤ draft.new.first + length draft.new.nodes))) }
+        ensures late { IfErr result (λ e. e ≡ refusal.Stamps → IsLate draft.old.first) }
+    {
+        match self.form {
+            Form::Node(node) => node.freeze(alloc, draft),
+            Form::Trail(trail) => trail.freeze(draft),
+        }
+    }
+}
+
+/// Appends the chunk and those that it owns to the draft, all or none, and answers its root's name.
+/// Refused for want of memory, or with Stamps where the nodes would have stamps from `STAMPS` on.
+pub fn frozen(alloc: Global, root: OwnRoot, draft: &mut Draft) -> Result<Ref, Refusal>
+    requires below { AreBelow (draft.old.first + length draft.old.nodes) (places_of root.pieces) }
+    ensures spelled { (contents : Contents) (rows : Rows) → length contents ≡ draft.old.first
+        → shown (with_nodes contents draft.old.nodes) root.pieces ≡ Some rows
+        → IfOk result (λ at. rows_at (with_nodes contents draft.new.nodes) root.depth (stamp_of at) ≡ Some rows) }
+    ensures wide { (contents : Contents) → length contents ≡ draft.old.first → 1 < root.entries
+        → IfOk result (λ at. IsWideAt (with_nodes contents draft.new.nodes) (stamp_of at)) }
+    ensures named { OnOk result (AddsNamed draft.old.first (places_of root.pieces) draft.old.nodes draft.new.nodes) }
+    ensures drafted { IfOk result (λ at. (draft.old.first ≤ stamp_of at) × (slot_of at ≡ 0)) }
+    ensures below { IfOk result (λ at. stamp_of at < draft.new.first + length draft.new.nodes) }
+    ensures count { OnOk result (length draft.new.nodes ≡ length draft.old.nodes + root.fresh) }
+    ensures first { draft.new.first ≡ draft.old.first }
+    ensures grown { IsPrefix draft.old.nodes draft.new.nodes }
+    ensures err { OnErr result (draft.new ≡ draft.old) }
+    ensures why { IfErr result (λ e. (e ≡ refusal.NoMemory)
+        ⊎ ((e ≡ refusal.Stamps) × (stamps < draft.old.first + length draft.old.nodes + root.fresh))) }
+    ensures late { IfErr result (λ e. e ≡ refusal.Stamps → IsLate draft.old.first) }
+{
+    let len = draft.len();
+    match root.freeze(alloc, draft) {
+        Ok(at) => {
+            return Ok(at);
+        }
+        Err(refused) => {
+            draft.truncate(len);
+            return Err(refused);
+        }
+    }
+}
