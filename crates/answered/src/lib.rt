@@ -6,8 +6,8 @@
 //! this, and each public call of a shared group has it as its clause.
 //!
 //! A refusal may stand for a change: the server's answer that it does not know the group closes it. So the change is
-//! named by the whole reply. A refusal for lack of memory, slots, stamps or tries (`is_resource_refusal`) says nothing
-//! of the state.
+//! named by the whole reply; a reply of its own would change that. A refusal for lack of memory, slots, stamps or tries
+//! (`is_resource_refusal`) says nothing of the state.
 //!
 //! `points` has the two steps that such a call is made of, a look at the head and a move of it, with the points that
 //! they have, and `trying` how one try of a move ended. The crate stands on `group_history` and `head_word` alone and

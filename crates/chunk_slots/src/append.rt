@@ -42,7 +42,8 @@ impl<M: Means> Names<Mark<M>> for BookOfMark {
     ghost numbers = { λ mark. numbers mark.book };
 }
 
-/// The nodes of a group, by the number of the push that brought them.
+/// The nodes of a group, by the number of the push that brought them. No slot is used again, so a group over it grows
+/// until memory or the 2^24 slots end; a push may wait for another one.
 #[derive(Drop)]
 pub struct Append<R, M: Means> {
     rt: R,

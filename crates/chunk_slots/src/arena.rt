@@ -19,7 +19,8 @@ use reader_claims::{Claims, Kind, SlotCounts};
 use std::alloc::Global;
 use std::marker::Model;
 
-/// The slots of a group, and which of them are claimed.
+/// The slots of a group, as many as it was opened with, and which of them are claimed. A retired slot is used again
+/// once no older pin is held. It takes memory when it is opened, and none afterwards.
 #[derive(Drop)]
 pub struct Arena<M: Means> {
     pub(crate) claims: Claims,

@@ -21,14 +21,15 @@
 //! Decisions. Two traits, since a trait says nothing of waiting and a method of a block with the bound `R: Wait` counts
 //! as one that may wait. A store's seat is tied to it by an equation (`serves` of the store, `home` of the seat), which
 //! a generic client can keep. A node lies in its slot and not behind a pointer: a look finds stamp and node side by
-//! side, and placing one takes no memory; it costs 72 bytes in a free slot. An arena's opening may be Busy or Full by
-//! its contract, though neither comes: that a put into an empty slot is won is no clause.
+//! side, and placing one takes no memory; it costs 72 bytes in a free slot too, and an opening touches 80 bytes a slot,
+//! with its word. Few nodes in many slots would change that. An arena's opening may be Busy or Full by its contract,
+//! though neither comes: that a put into an empty slot is won is no clause.
 //!
 //! Not said by any clause, and tested: that a call succeeds; that a node which was placed is shown, as no clause tells
-//! what a slot's word holds; so also that a reader who holds a pin never meets Gone. The head and the table as one
-//! machine never take such a slot (`joined_law`); this store doesn't rest on that. `place` asks for a taken slot and
-//! answers its number; that the node then lies there is no clause. A count of readers ends at 2^30 - 1: one more is
-//! Busy.
+//! what a slot's word holds; so also that a reader who holds a pin never meets Gone (five threads on 64 slots). The
+//! head and the table as one machine never take such a slot (`joined_law`); this store doesn't rest on that. `place`
+//! asks for a taken slot and answers its number; that the node then lies there is no clause. A count of readers ends at
+//! 2^30 - 1: one more is Busy.
 #![tactic(auto)]
 
 mod append;

@@ -44,15 +44,14 @@ pending-few : (ns : Contents) (k : ℕ) (v : Version) → version_at ns k ≡ So
 pending-few ns k v h = few_below (suc k) ns k v (omega arith) h
 
 -- a stamp is below their number
-stamp-low : (r : Ref) → r.bits < 2 ^ 64 → stamp_of r < stamps
+pub stamp-low : (r : Ref) → r.bits < 2 ^ 64 → stamp_of r < stamps
 stamp-low r h = omega (arith, h)
 
 -- so a client's last id at a commit is far from the last number
-pub last_id-small : (ns : Contents) (at : Ref) (client : Bytes) (v : Version) → at.bits < 2 ^ 64
+pub last_id-small : (ns : Contents) (at : Ref) (client : Bytes) (v : Version) → stamp_of at < stamps
     → version_at ns (stamp_of at) ≡ Some v → IdsFollow v.state.confirmed v.state.pending
     → last_id v.state client < 2 ^ 53
-last_id-small ns at client v bits is ids =
+last_id-small ns at client v small is ids =
     let few = pending-few ns (stamp_of at) v is in
     let low = last_id-≤ v.state.confirmed v.state.pending client ids in
-    let small = stamp-low at bits in
     omega (arith, few, low, small)

@@ -14,12 +14,14 @@ use map_chunks::Chunks;
 pub trait ShowsCommit {
     ghost shown: { Self → Committed Reference };
 
+    /// The commit.
     fn commit(&self) -> &Commit<Ref>
         ensures { result.now ≡ shown self.now };
 }
 
 /// Where placed nodes are read. A node never changes once it is placed.
 pub trait Nodes: Chunks {
+    /// A commit that is being shown, until it is given back.
     type HeldCommit: ShowsCommit;
 
     /// Shows the commit of the reference's stamp, which is left again by `leave_commit`.
@@ -33,6 +35,7 @@ pub trait Nodes: Chunks {
             (commit_children (Self.HeldCommit.shown held))) }
         ensures stopped { IfErr result Self.stops };
 
+    /// Gives back what `show_commit` answered.
     fn leave_commit(&mut self, held: Self::HeldCommit)
         ensures { self.new ≡ self.old };
 }

@@ -123,11 +123,11 @@ fn kept_part<N: Nodes>(nodes: &mut N, old: Ref, new: Ref) -> Result<Part, Stop>
     Ok(Part { root, gap })
 }
 
-/// What the old head reaches and the new one doesn't: the nodes that a change of the head from `old` to
-/// `new` leaves behind, by falling stamps, each once.
+/// What the old head reaches and the new one doesn't: the nodes that a change of the head from `old` to `new` leaves
+/// behind, by falling stamps, each once. Stops where the nodes stop, or for want of memory.
 ///
-/// What the new head's pulled map keeps is passed over on both sides, so that a tree that both share
-/// isn't looked through.
+/// What the new head's pulled map keeps is passed over on both sides, so that a tree that both share isn't looked
+/// through.
 pub fn dropped<N: Nodes>(alloc: Global, nodes: &mut N, old: Ref, new: Ref) -> Result<Vec<Ref>, Stop>
     requires old { IsSome (version_at (N.contents nodes.old) (stamp_of old)) }
     requires places { N.places nodes.old old × N.places nodes.old new }

@@ -46,7 +46,7 @@ fn add(mutations: &mut Vec<Mutation>, mutation: Option<Mutation>) -> Result<(), 
     Ok(())
 }
 
-/// The pending mutations of a commit, the oldest first.
+/// The pending mutations of a commit, the oldest first. Stops where the nodes stop, or for want of memory.
 pub fn walk<N: Nodes>(alloc: Global, nodes: &mut N, head: Ref) -> Result<Vec<Mutation>, Stop>
     requires known { IsSome (version_at (N.contents nodes.old) (stamp_of head)) }
     requires place { N.places nodes.old head }
@@ -81,8 +81,8 @@ pub(crate) fn snapshot_of<N: Nodes>(nodes: &mut N, head: Ref) -> Result<Ref, Sto
     Ok(top.snapshot)
 }
 
-/// What a commit tells by one look: the root of its map, the snapshot of its chain, and whether the group
-/// is closed at it.
+/// What a commit tells by one look: the root of its map, the snapshot of its chain, and whether the group is closed at
+/// it. Stops where the nodes stop.
 pub fn top_of<N: Nodes>(nodes: &mut N, head: Ref) -> Result<Top, Stop>
     requires known { IsSome (version_at (N.contents nodes.old) (stamp_of head)) }
     requires place { N.places nodes.old head }
@@ -100,7 +100,7 @@ pub fn top_of<N: Nodes>(nodes: &mut N, head: Ref) -> Result<Top, Stop>
     Ok(top)
 }
 
-/// Whether the group is closed at a commit.
+/// Whether the group is closed at a commit. Stops where the nodes stop.
 pub fn closed_of<N: Nodes>(nodes: &mut N, head: Ref) -> Result<bool, Stop>
     requires known { IsSome (version_at (N.contents nodes.old) (stamp_of head)) }
     requires place { N.places nodes.old head }
@@ -113,7 +113,8 @@ pub fn closed_of<N: Nodes>(nodes: &mut N, head: Ref) -> Result<bool, Stop>
     Ok(top.closed)
 }
 
-/// What the server last sent, as a commit's state has it: two looks, however much is pending.
+/// What the server last sent, as a commit's state has it: two looks, however much is pending. Stops where the nodes
+/// stop, or for want of memory.
 pub fn base_of<N: Nodes>(nodes: &mut N, head: Ref) -> Result<Base, Stop>
     requires known { IsSome (version_at (N.contents nodes.old) (stamp_of head)) }
     requires place { N.places nodes.old head }
@@ -144,7 +145,8 @@ pub fn base_at<N: Nodes>(nodes: &mut N, snapshot: Ref) -> Result<Base, Stop>
     Ok(base)
 }
 
-/// The state of a commit. The pulled map's root is the reference that the snapshot names.
+/// The state of a commit. The pulled map's root is the reference that the snapshot names. Stops where the nodes stop,
+/// or for want of memory.
 pub fn state_of<N: Nodes>(alloc: Global, nodes: &mut N, head: Ref) -> Result<CommitState, Stop>
     requires known { IsSome (version_at (N.contents nodes.old) (stamp_of head)) }
     requires place { N.places nodes.old head }
@@ -178,7 +180,7 @@ pub fn state_of<N: Nodes>(alloc: Global, nodes: &mut N, head: Ref) -> Result<Com
     })
 }
 
-/// The cookie of a commit's state.
+/// The cookie of a commit's state: two looks. Stops where the nodes stop, or for want of memory.
 pub fn cookie_of<N: Nodes>(nodes: &mut N, head: Ref) -> Result<Cookie, Stop>
     requires known { IsSome (version_at (N.contents nodes.old) (stamp_of head)) }
     requires place { N.places nodes.old head }
@@ -213,8 +215,8 @@ fn found_at(before: Option<LastId>, at: Ref) -> Option<u64>
     None
 }
 
-/// A client's last id, where the ids follow: that of its newest commit, or else what the snapshot has
-/// confirmed. The walk ends there.
+/// A client's last id, where the ids follow: that of its newest commit, or else what the snapshot has confirmed, 0 for
+/// a client that is in neither. The walk ends there. Stops where the nodes stop.
 pub fn last_id_of<N: Nodes>(nodes: &mut N, head: Ref, client: &Text) -> Result<u64, Stop>
     requires head { IsSome (version_at (N.contents nodes.old) (stamp_of head)) }
     requires place { N.places nodes.old head }

@@ -34,7 +34,7 @@ impl Change {
     ghost use Rattle.std.specs.Prelude.{◌≡◌};
     ghost use Rattle.group_history.specs.Record.{reply_of};
 
-    /// The reply that goes with the change in a record.
+    /// The reply that goes with the change in a record: a mutation's id, `Applied`, or the closing.
     pub fn reply(&self) -> Reply
         ensures { result ≡ reply_of self.now }
     {

@@ -35,6 +35,7 @@ impl Model for ConfirmedIds {
 }
 
 impl ConfirmedIds {
+    /// The ids of a map, from now on shared; none is copied.
     pub fn new(alloc: Global, ids: TextMap<u64>) -> Result<ConfirmedIds, AllocError>
         ensures { IfOk result (λ c. c ≡ ids) }
     {
@@ -42,6 +43,7 @@ impl ConfirmedIds {
         Ok(ConfirmedIds { shared })
     }
 
+    /// The confirmed ids by the clients' IDs.
     pub fn as_map(&self) -> &TextMap<u64>
         ensures { result.now ≡ self.now }
     {

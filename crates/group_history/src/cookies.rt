@@ -23,7 +23,9 @@ use std::marker::Model;
 #[derive(Clone)]
 pub enum Order {
     Null,
+    /// Whole, from -2^63 to 2^64 - 1.
     Number(i128),
+    /// Texts are compared by their bytes.
     Text(Text),
 }
 
@@ -82,7 +84,8 @@ impl Ord for Order {
     }
 }
 
-/// A cookie. It may nest 126 deep, since it stands in a body that nests 127, so it is no `Json`.
+/// A cookie: null, a number, a text, or an object whose field `order` is a number or a text (Pull Endpoint Reference,
+/// "cookie"). It may nest 126 deep, since it stands in a body that nests 127, so it is no `Json`.
 #[derive(Clone)]
 pub struct Cookie {
     text: Text,
@@ -170,7 +173,8 @@ impl Cookie {
     }
 }
 
-/// How two cookies stand to each other. They may be equal in order and have different texts.
+/// How two cookies stand to each other by what they are compared by, an object by its `order`. They may be equal in
+/// order and have different texts. The rule is this project's.
 pub fn cookie_cmp(a: &Cookie, b: &Cookie) -> Ordering
     ensures { result ≡ order_cmp a.now.order b.now.order }
 {

@@ -148,7 +148,7 @@ impl Json {
         Json::of(alloc, &value)
     }
 
-    /// The compact text of a value, with the same refusals.
+    /// The compact text of a value, with the same refusals. `NoMemory` may come in place of any answer.
     pub fn of(alloc: Global, value: &Value) -> Result<Json, Refusal>
         ensures { AnswersOrNoMemory result (text_of (view value.now)) }
     {
@@ -171,6 +171,7 @@ impl Json {
         Ok(Json { compact })
     }
 
+    /// The compact text: no white space outside texts, fields in the order of their names' bytes.
     pub fn text(&self) -> &str
         ensures { result.now ≡ self.now }
     {

@@ -26,6 +26,7 @@ pub struct Mutation {
     pub id: u64,
     /// The mutator's name.
     pub name: Text,
+    /// What the mutator is given.
     pub args: Json,
     /// Milliseconds since the epoch, as the caller handed it in.
     pub timestamp: u64,
@@ -50,7 +51,7 @@ impl Drop for Mutation {
 }
 
 impl Mutation {
-    /// A mutation that its client makes.
+    /// A mutation that its client makes, so for the reason Initial.
     pub fn new(
         client: &Text,
         id: u64,

@@ -16,11 +16,14 @@ use crate::scans::Scan;
 use crate::texts::Text;
 use std::alloc::{AllocError, Global};
 
-/// Why a view stopped.
+/// Why a view stopped. The call that ran the mutator is refused with the same word.
 #[derive(Clone, Copy, Debug, PartialEq, Eq)]
 pub enum Stop {
+    /// Memory was refused.
     NoMemory,
+    /// A slot was lost to others, as often as the call tries.
     Busy,
+    /// A slot was given again while it was looked for.
     Gone,
 }
 
@@ -47,12 +50,15 @@ impl From<Stop> for Refusal {
 /// How a run ended that wasn't stopped.
 #[derive(Clone, Copy, PartialEq, Eq)]
 pub enum Ran {
+    /// The view has what the mutator wrote.
     Done,
+    /// No mutator has this name.
     Unknown,
+    /// The mutator refused, with a code of its own.
     Refused(u32),
 }
 
-/// A map that can be read and written. A call that stops leaves it as it was.
+/// A map that can be read and written (Replicache, `WriteTransaction`). A call that stops leaves it as it was.
 pub trait WriteView {
     /// What it shows.
     ghost contents: { Self → Entries };
@@ -60,26 +66,31 @@ pub trait WriteView {
     /// For which reasons it may stop.
     ghost stops: { Stop → Type 0 };
 
+    /// The value at a key; none where the key is not there.
     fn get(&mut self, key: &str) -> Result<Option<Json>, Stop>
         ensures value { IfOk result (λ found. found ≡ finite.get (contents self.old) key.now) }
         ensures kept { contents self.new ≡ contents self.old }
         ensures stopped { IfErr result stops };
 
+    /// Whether the key is there.
     fn has(&mut self, key: &str) -> Result<bool, Stop>
         ensures value { IfOk result (λ found. found ≡ finite.contains_key (contents self.old) key.now) }
         ensures kept { contents self.new ≡ contents self.old }
         ensures stopped { IfErr result stops };
 
+    /// The pairs that the scan asks for, in the order of their keys.
     fn scan(&mut self, scan: &Scan) -> Result<Vec<(Text, Json)>, Stop>
         ensures value { IfOk result (λ rows. rows.items ≡ rows_of scan.now (contents self.old)) }
         ensures kept { contents self.new ≡ contents self.old }
         ensures stopped { IfErr result stops };
 
+    /// Afterwards the key has the value.
     fn put(&mut self, key: &str, value: &Json) -> Result<(), Stop>
         ensures ok { OnOk result (contents self.new ≡ finite.insert (contents self.old) key.now value.now) }
         ensures err { OnErr result (contents self.new ≡ contents self.old) }
         ensures stopped { IfErr result stops };
 
+    /// Afterwards the key is not there, whether or not it was.
     fn del(&mut self, key: &str) -> Result<(), Stop>
         ensures ok { OnOk result (contents self.new ≡ finite.remove (contents self.old) key.now) }
         ensures err { OnErr result (contents self.new ≡ contents self.old) }
@@ -92,9 +103,11 @@ pub trait Means {
     ghost means: { Meanings };
 }
 
-/// The mutators of an application.
+/// The mutators of an application (Replicache, How It Works, "Mutations").
 pub trait Mutators: Means + Sync {
-    /// Runs one, for this reason. What a refusing one wrote is thrown away by the caller.
+    /// Runs the mutator of this name on the view, for this reason, and answers how that ended. Every rebase runs it
+    /// again on another map, so what it does depends on name, arguments, reason and map alone. It stops only where the
+    /// view stopped, or for want of memory. What a refusing one wrote is thrown away by the caller.
     fn run<V: WriteView>(
         &self,
         alloc: Global,

@@ -48,6 +48,7 @@ impl Model for Keys {
 impl Keys {
     ghost use Rattle.group_history.specs.Rows.{AreKeys};
 
+    /// Keys that are at most 16, in strict order of their bytes. Takes no memory.
     pub fn new(texts: Vec<Text>) -> Keys
         requires { AreKeys texts.items }
         ensures { result ≡ texts.items }
@@ -59,6 +60,7 @@ impl Keys {
         Keys { len, texts }
     }
 
+    /// The keys, in order.
     pub fn as_slice(&self) -> &[Text]
         ensures keys { result.now ≡ self.now }
         ensures order { AreKeys result.now }
@@ -98,7 +100,7 @@ impl Model for Leaf {
 impl Leaf {
     ghost use Rattle.group_history.specs.Rows.{AreKeys, paired, keys_of, values_of};
 
-    /// As many values as keys.
+    /// A leaf of keys and as many values, each for the key at its place.
     pub fn new(keys: Arc<Keys>, values: Vec<Json>) -> Leaf
         requires keys { AreKeys (arc_value keys) }
         requires values { length values.items ≡ length (arc_value keys) }
@@ -107,6 +109,7 @@ impl Leaf {
         Leaf { keys, values }
     }
 
+    /// Its keys.
     pub fn keys(&self) -> &Arc<Keys>
         ensures keys { arc_value result.now ≡ keys_of self.now }
         ensures order { AreKeys (arc_value result.now) }
@@ -114,6 +117,7 @@ impl Leaf {
         &self.keys
     }
 
+    /// The values, each at the place of its key.
     pub fn values(&self) -> &[Json]
         ensures { result.now ≡ values_of self.now }
     {
@@ -148,7 +152,7 @@ impl<R> Model for Inner<R> {
 impl<R> Inner<R> {
     ghost use Rattle.group_history.specs.Rows.{AreKeys, paired, keys_of, values_of};
 
-    /// As many children as first keys.
+    /// An inner chunk of first keys and as many children, each for the key at its place.
     pub fn new(firsts: Arc<Keys>, children: Vec<R>) -> Inner<R>
         requires firsts { AreKeys (arc_value firsts) }
         requires children { length children.items ≡ length (arc_value firsts) }
@@ -157,6 +161,7 @@ impl<R> Inner<R> {
         Inner { firsts, children }
     }
 
+    /// The first key of each child.
     pub fn firsts(&self) -> &Arc<Keys>
         ensures keys { arc_value result.now ≡ keys_of self.now }
         ensures order { AreKeys (arc_value result.now) }
@@ -164,6 +169,7 @@ impl<R> Inner<R> {
         &self.firsts
     }
 
+    /// The children, each at the place of its first key.
     pub fn children(&self) -> &[R]
         ensures { result.now ≡ values_of self.now }
     {
@@ -180,7 +186,7 @@ impl<R> Inner<R> {
     }
 }
 
-/// A chunk of a map.
+/// A chunk of a map: the rows of a leaf, or the children of an inner one, named by `R`.
 #[derive(Drop)]
 pub enum Chunk<R> {
     Leaf(Leaf),
@@ -190,7 +196,9 @@ pub enum Chunk<R> {
 /// A snapshot: what the server last sent, beside the pulled map.
 #[derive(Drop)]
 pub struct Snapshot {
+    /// The response's cookie; null where the group opened.
     pub cookie: Cookie,
+    /// The last id that the server confirmed, for each client.
     pub confirmed: ConfirmedIds,
 }
 
@@ -211,9 +219,11 @@ pub struct Successor<R> {
     pub basis: R,
     /// The snapshot at which its chain begins: the basis's own, or the basis where that is one.
     pub snapshot: R,
+    /// What it adds to the basis.
     pub step: CommitChange,
 }
 
+/// What a commit is: a snapshot, or one over a basis.
 #[derive(Drop)]
 pub enum CommitKind<R> {
     Snapshot(Snapshot),
@@ -223,7 +233,9 @@ pub enum CommitKind<R> {
 /// A commit: the root of the map that queries read at it, and what it is.
 #[derive(Drop)]
 pub struct Commit<R> {
+    /// The root of the map that queries read.
     pub root: R,
+    /// A snapshot, or one over a basis.
     pub kind: CommitKind<R>,
 }
 
@@ -246,6 +258,7 @@ impl<R> Model for BoxedCommit<R> {
 }
 
 impl<R> BoxedCommit<R> {
+    /// The commit, in memory of its own.
     pub fn new(alloc: Global, commit: Commit<R>) -> Result<BoxedCommit<R>, AllocError>
     where
         R: Drop,
@@ -255,6 +268,7 @@ impl<R> BoxedCommit<R> {
         Ok(BoxedCommit { inner })
     }
 
+    /// The commit.
     pub fn as_commit(&self) -> &Commit<R>
         ensures { result.now ≡ self.now }
     {
@@ -262,7 +276,7 @@ impl<R> BoxedCommit<R> {
     }
 }
 
-/// What lies in a slot, or is drafted to lie there.
+/// What lies in a slot, or is drafted to lie there. It names its children by `R`.
 pub enum Node<R> {
     Chunk(Chunk<R>),
     Commit(BoxedCommit<R>),

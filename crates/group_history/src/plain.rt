@@ -64,7 +64,7 @@ impl<M: Mutators> Model for PlainGroup<M> {
 }
 
 impl<M: Mutators> PlainGroup<M> {
-    /// A new group: nothing is pulled, nothing is pending, the cookie is null, and it is open.
+    /// A new group: nothing is pulled, nothing is pending, the cookie is null, and it is open. Refused with NoMemory.
     pub fn new(alloc: Global) -> Result<PlainGroup<M>, Refusal>
         ensures ok { IfOk result (λ g. g ≡ opening) }
         ensures err { IfErr result (λ e. e ≡ NoMemory) }
@@ -81,7 +81,7 @@ impl<M: Mutators> PlainGroup<M> {
         })
     }
 
-    /// The value at a key of the view.
+    /// The value at a key of the view; none where the key is not there.
     pub fn get(&self, key: &Text) -> Option<&Json>
         ensures { option_copied result ≡ get_at M.means self.now key.now }
     {
@@ -95,7 +95,7 @@ impl<M: Mutators> PlainGroup<M> {
         self.view.has(key)
     }
 
-    /// The rows of a scan of the view.
+    /// The rows of a scan of the view. Refused with NoMemory.
     pub fn scan(&self, scan: &Scan) -> Result<Vec<(Text, Json)>, Refusal>
         ensures rows { IfOk result (λ rows. rows.items ≡ view_rows M.means self.now scan.now) }
         ensures err { IfErr result (λ e. e ≡ NoMemory) }
@@ -110,6 +110,7 @@ impl<M: Mutators> PlainGroup<M> {
         self.view.is_empty()
     }
 
+    /// The cookie of the last pull that was applied; null before the first.
     pub fn cookie(&self) -> &Cookie
         ensures { result.now ≡ self.now.cookie }
     {
@@ -138,9 +139,10 @@ impl<M: Mutators> PlainGroup<M> {
         self.closed
     }
 
-    /// Ends a pull that was begun at the cookie `ticket`. Refused, in this order, with Closed, what an
-    /// error response says, Overtaken, CookieWentBack, CookieNotNew, IdWentBack. StateNotFound closes the
-    /// group, whatever the ticket.
+    /// Ends a pull that was begun at the cookie `ticket` (Pull Endpoint Reference; How It Works, "Pull" and "Rebase").
+    /// Refused, in this order, with Closed, what an error response says, Overtaken, CookieWentBack, CookieNotNew,
+    /// IdWentBack; NoMemory may come in place of any answer. StateNotFound closes the group, whatever the ticket; any
+    /// other refusal, and Same, leaves it as it was.
     pub fn end_pull(
         &mut self,
         mutators: &M,
@@ -227,8 +229,9 @@ impl<M: Mutators> PlainGroup<M> {
         })
     }
 
-    /// Makes a mutation, by a client whose own last id is `last`, and answers its id, `last + 1`. `time`
-    /// is in milliseconds. Refused, in this order, with Closed, Stale, NoMutator, Refused.
+    /// Makes a mutation, by a client whose own last id is `last`, and answers its id, `last + 1` (How It Works,
+    /// "Mutations"). `time` is in milliseconds. Refused, in this order, with Closed, Stale, NoMutator, Refused;
+    /// NoMemory may come in place of any answer. A refused call leaves the group as it was.
     pub fn mutate(
         &mut self,
         mutators: &M,

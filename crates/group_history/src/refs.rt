@@ -22,7 +22,7 @@ pub struct Ref {
 }
 
 impl Ref {
-    /// The stamp is below `STAMPS`, the slot's number below `MAX_SLOTS`.
+    /// The reference of a stamp below `STAMPS` and a slot's number below `MAX_SLOTS`.
     pub fn new(stamp: u64, slot: u32) -> Ref
         requires stamp { stamp < stamps }
         requires slot { slot < max_slots }
@@ -42,13 +42,14 @@ impl Ref {
         Ref { bits }
     }
 
-    /// The whole word.
+    /// The whole word: the stamp in the upper 40 bits, the slot's number in the lower 24.
     pub fn bits(self) -> u64
         ensures { result ≡ self.bits }
     {
         self.bits
     }
 
+    /// The stamp, below `STAMPS`.
     pub fn stamp(self) -> u64
         ensures stamp { result ≡ stamp_of self }
         ensures bound { result < stamps }
@@ -56,6 +57,7 @@ impl Ref {
         self.bits / MAX_SLOTS
     }
 
+    /// The slot's number, below `MAX_SLOTS`.
     pub fn slot(self) -> u32
         ensures slot { result ≡ slot_of self }
         ensures bound { result < max_slots }

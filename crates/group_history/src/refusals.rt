@@ -7,30 +7,49 @@ use std::alloc::{AllocError, AllocFailed};
 use std::fmt;
 use thiserror::Error;
 
-/// Why a call was refused. After every refusal the group is as other clients' changes left it, but that
-/// StateNotFound closes it; the refused client's last id is as it was.
+/// Why a call was refused; its message says what the caller can do. After every refusal the group is as other clients'
+/// changes left it, but that StateNotFound closes it; the refused client's last id is as it was.
 #[derive(Clone, Copy, Debug, PartialEq, Eq, Error)]
 pub enum Refusal {
+    /// Memory was refused.
     NoMemory,
+    /// Other clients changed the group first, as often as the call tries.
     Moved,
+    /// A slot or a pin was lost to other clients, as often as the call tries.
     Busy,
+    /// A slot was given again while it was looked for.
     Gone,
+    /// No slot is free for the change.
     Full,
+    /// The group has drawn its 2^40 stamps, or the draft needs more than are left.
     Stamps,
+    /// The client's last id is not the one that the group has.
     Stale,
+    /// No mutator has the name.
     NoMutator,
-    /// With the mutator's code.
+    /// The mutator refused, with this code.
     Refused(u32),
+    /// The bytes are no JSON text, or one that nests too deep.
     NotJson,
+    /// A field is missing, of a wrong type or out of range.
     BadShape,
+    /// A number is not whole, or does not fit 64 bits.
     NotWhole,
+    /// Another pull was applied since this one began.
     Overtaken,
+    /// The response's cookie is below the group's.
     CookieWentBack,
+    /// The response's cookie is as high as the group's, but the response is not `Same`.
     CookieNotNew,
+    /// The response confirms less of a client than was confirmed.
     IdWentBack,
+    /// The server does not know the group, which is closed by this.
     StateNotFound,
+    /// The server does not support this version.
     VersionNotSupported(VersionKind),
+    /// All seats are out.
     NoSeat,
+    /// The group was closed before.
     Closed,
 }
 

@@ -66,6 +66,7 @@ impl Model for PullOk {
 impl PullOk {
     ghost use Rattle.group_history.specs.Pull.{AreInRange};
 
+    /// The response that has these. Each id of the changes is from 0 to 2^52.
     pub fn new(cookie: Cookie, changes: Vec<Confirmed>, patch: Vec<Patch>) -> PullOk
         requires { AreInRange changes.items }
         ensures { result ≡ record { cookie = cookie; changes = changes.items; patch = patch.items } }
@@ -77,12 +78,14 @@ impl PullOk {
         }
     }
 
+    /// The cookie that the group has once the response is applied.
     pub fn cookie(&self) -> &Cookie
         ensures { result.now ≡ self.now.cookie }
     {
         &self.cookie
     }
 
+    /// The confirmed ids that it names, in order; of two for one client the last counts.
     pub fn changes(&self) -> &[Confirmed]
         ensures changes { result.now ≡ self.now.changes }
         ensures in_range { AreInRange result.now }
@@ -90,6 +93,7 @@ impl PullOk {
         &self.changes
     }
 
+    /// The operations on the pulled map, to be done in order.
     pub fn patch(&self) -> &[Patch]
         ensures { result.now ≡ self.now.patch }
     {
@@ -100,8 +104,11 @@ impl PullOk {
 /// Which version the server doesn't support.
 #[derive(Clone, Copy, Debug, PartialEq, Eq)]
 pub enum VersionKind {
+    /// The request's `pushVersion`.
     Push,
+    /// The request's `pullVersion`.
     Pull,
+    /// The request's `schemaVersion`.
     Schema,
     /// The response doesn't say, or says something else.
     Unknown,
@@ -126,9 +133,11 @@ impl fmt::Display for VersionKind {
 /// A response to a pull (Pull Endpoint Reference, version 1).
 #[derive(Drop)]
 pub enum Response {
+    /// A response without an error.
     Ok(PullOk),
     /// The server doesn't know the client group, which is closed by this.
     StateNotFound,
+    /// The server doesn't support this version. Nothing is changed.
     VersionNotSupported(VersionKind),
 }
 

@@ -23,11 +23,14 @@ impl Drop for Start {
     }
 }
 
-/// A scan: the keys that begin with the prefix, from the start on, in the order of their bytes, and of
-/// these the first `limit` where there is one.
+/// A scan: the keys that begin with the prefix, from the start on, in the order of their bytes, and of these the first
+/// `limit` where there is one (Replicache, `ScanOptions`).
 pub struct Scan {
+    /// What each key begins with; every key begins with the empty text.
     pub prefix: Text,
+    /// From where on.
     pub start: Start,
+    /// How many pairs at most.
     pub limit: Option<u64>,
 }
 

@@ -92,6 +92,7 @@ impl Text {
         })
     }
 
+    /// The text. Its bytes are where the `Text` keeps them: none is copied.
     #[inline]
     pub fn as_str(&self) -> &str
         ensures { result.now ≡ self.now }

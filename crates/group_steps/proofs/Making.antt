@@ -27,7 +27,7 @@ use Rattle.head_word.specs.Books.{last_move, next_stamp, record_of}
 use Rattle.head_word.specs.Marks.{Known, others, own, own_of}
 use Rattle.head_word.proofs.BookLaws.{spelled-stays}
 use Rattle.commit_graph.specs.LastIds.{last_in, last_at}
-use Rattle.commit_graph.proofs.Few.{last_id-small}
+use Rattle.commit_graph.proofs.Few.{last_id-small, stamp-low}
 use Rattle.answered.specs.Answered.{IsPoint, IsRefused, IsLeft, IsLinearized, is_move, is_resource_refusal, own_moves}
 use Rattle.answered.specs.Trying.{IsBase, IsUnproposed}
 use Rattle.group_steps.specs.Missing.{IsStop}
@@ -141,7 +141,7 @@ stands means cs at s x last bits ids is next spells =
     let more : last_id s x.client + 1 ≡ x.id = omega (arith, is, next) in
     let made = last_made s x more in
     let follow = after_mutate-IdsFollow s.confirmed s.pending x ids (sym more) in
-    let small = last_id-small cs at x.client (version_of means (after_mutate s x)) bits spells follow in
+    let small = last_id-small cs at x.client (version_of means (after_mutate s x)) (stamp-low at bits) spells follow in
     (ap (last_in x.client) spells ∙ ap Some made, omega (arith, small, made))
 
 -- WHAT IS ACCEPTED

@@ -1,10 +1,11 @@
 -- Where a call stands: a commit of a group, as a seat reads it.
-use Rattle.std.specs.Prelude.{◌≡◌, ◌<◌, ◌^◌, List}
+use Rattle.std.specs.Prelude.{◌≡◌, ◌<◌, List}
 use mathlib.Core.List.{IsPrefix}
 use Rattle.group_history.specs.declared.refs.Ref.{Ref}
 use Rattle.group_history.specs.Ids.{IdsFollow}
 use Rattle.group_history.specs.Meaning.{Meanings}
 use Rattle.group_history.specs.Record.{after}
+use Rattle.group_history.specs.Refs.{stamp_of, stamps}
 use Rattle.group_history.specs.State.{State}
 use Rattle.head_word.specs.declared.entry.Entry.{Entry}
 use Rattle.head_word.specs.Books.{record_of}
@@ -33,4 +34,4 @@ pub record IsPlace (means : Meanings) (at : Place) : Type 0 where
   pub since : IsPrefix at.log at.mark.log
   pub base : IsBase means at.mark at.commit (state_at at)
   pub ids : IdsFollow (state_at at).confirmed (state_at at).pending
-  pub word : at.commit.bits < 2 ^ 64
+  pub low : stamp_of at.commit < stamps

@@ -31,7 +31,7 @@
 //! two has its own steps in its own order, no clause ties the two orders, and none says that a publisher loads the
 //! epoch after it has moved the head; that stands in the code alone. Tests catch a publisher that raises it before, and
 //! not one that only loads it before. No contract rests on the law: each node is checked against the stamp that is
-//! looked for. The law is why no Gone is to be expected.
+//! looked for, a compare at each look. The law is why no Gone is to be expected.
 //!
 //! It is a crate of its own since it is checked in seconds; `commits` hands its law on. A lost try and a won one are
 //! not told apart: each leaves a list of slots.

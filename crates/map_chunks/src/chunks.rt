@@ -14,12 +14,14 @@ use group_history::{Chunk, Ref, Stop};
 pub trait ShowsChunk {
     ghost shown: { Self → Chunked Reference };
 
+    /// The chunk.
     fn chunk(&self) -> &Chunk<Ref>
         ensures { result.now ≡ shown self.now };
 }
 
 /// Where placed chunks are read. A chunk never changes once it is placed.
 pub trait Chunks {
+    /// A chunk that is being shown, until it is given back.
     type Held: ShowsChunk;
 
     /// What is known to be placed, by stamp. It only grows.
@@ -44,6 +46,7 @@ pub trait Chunks {
         ensures children { IfOk result (λ held. AreAll (places self.new) (chunk_children (Self.Held.shown held))) }
         ensures stopped { IfErr result stops };
 
+    /// Gives back what `show` answered.
     fn leave(&mut self, held: Self::Held)
         ensures { self.new ≡ self.old };
 }

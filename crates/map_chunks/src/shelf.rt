@@ -33,6 +33,7 @@ impl Model for VecChunks {
 }
 
 impl VecChunks {
+    /// A vector without nodes.
     pub fn new(alloc: Global) -> VecChunks
         ensures { result ≡ [] }
     {

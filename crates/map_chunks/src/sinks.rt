@@ -9,7 +9,7 @@ ghost use Rattle.map_chunks.specs.Sinks.{HasMore, HasStill};
 use group_history::{Json, Text};
 use std::alloc::AllocError;
 
-/// Takes rows, one behind another.
+/// Takes rows, one behind another, each by reference. It copies what it keeps.
 pub trait TakesRows {
     /// What a sink is that has these rows.
     ghost has: { Self → Rows → Type 0 };

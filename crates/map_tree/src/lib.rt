@@ -10,8 +10,10 @@
 //! children before parents; a placed child keeps its reference (`named`), and of new references nothing is said until
 //! they are placed.
 //!
-//! Not proved: that no fewer chunks would do, and that a put on chunks of the tree's own copies none. A tree 2^64 - 1
-//! deep would answer NoMemory to a put that splits its root, though no growth was refused; no machine holds one.
+//! Not proved: that no fewer chunks would do, and that a put on chunks of the tree's own copies none. The first change
+//! after a put that found its key in a placed tree copies what that put made new; those after it copy none of the
+//! tree's own. A tree 2^64 - 1 deep would answer NoMemory to a put that splits its root, though no growth was refused;
+//! no machine holds one.
 #![tactic(auto)]
 
 mod tree;

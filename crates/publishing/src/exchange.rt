@@ -27,8 +27,9 @@ pub struct Move<'a> {
     pub refs: &'a [Ref],
 }
 
-/// Moves the head to one of the nodes that were placed. Where that is won, the slots of `left` are retired, which the
-/// old head alone reaches; where it is lost, those of the draft, which no head ever reached. Takes no memory.
+/// Moves the head to one of the nodes that were placed, and answers whether the exchange was won. Where it is won, the
+/// slots of `left` are retired, which the old head alone reaches; where it is lost, those of the draft, which no head
+/// ever reached. Takes no memory.
 pub fn publish_draft<M: Means, S: Slots<M>>(
     shared: &Shared<M, S>,
     seat: &mut Seat<M, S>,

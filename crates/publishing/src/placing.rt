@@ -274,12 +274,13 @@ where
     }
 }
 
-/// Places a draft: takes a slot for each of its nodes, draws their stamps, and puts each node into a slot,
-/// which is settled then, children before parents. Answers the references under which the nodes lie, in
-/// order. Where other seats draw stamps meanwhile it draws again, `tries` times and once at least.
+/// Places a draft: takes a slot for each of its nodes, draws their stamps, and puts each node into a slot, which is
+/// settled then, children before parents. Answers the references under which the nodes lie, in order. Where other seats
+/// draw stamps meanwhile it draws again, `tries` times and once at least.
 ///
-/// Refused with `NoMemory`, `Full`, `Moved`, `Stamps` or `Busy`. Then what was settled is retired, and what
-/// was taken is withdrawn.
+/// Refused with `Full` where a slot is not found, `Moved` where others drew stamps each time, `Stamps` where fewer are
+/// left than the draft has nodes, `Busy` where a reader stayed in a slot, and `NoMemory`. Then what was settled is
+/// retired, and what was taken is withdrawn.
 pub fn place_draft<M: Means, S: Store<M>>(
     shared: &Shared<M, S>,
     seat: &mut Seat<M, S>,

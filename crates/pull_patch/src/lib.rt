@@ -9,8 +9,8 @@
 //! Decisions. Two readers, since a tree of a body takes up to 37 bytes for each of its bytes. A put's value is written
 //! again from its tokens, and that is its compact text where its names ascend and its numbers are whole; only where it
 //! isn't, this one value is read by `serde_json`, which goes down one call a level and stops at 128: a body 126 deep
-//! needs a stack of 160 kB. `plain_response` refuses nothing but for want of memory. No clause says which bodies are
-//! plain, and no proof bounds a stack.
+//! needs a stack of 160 kB, and with 64 kB the program dies at 40 levels. `plain_response` refuses nothing but for want
+//! of memory. No clause says which bodies are plain, and no proof bounds a stack.
 //!
 //! What a response's patch makes of a map, and the order of cookies, are `group_history`'s.
 #![tactic(auto)]

@@ -1,7 +1,11 @@
 //! Whose requests these are.
-use group_history::Text;
+ghost use Rattle.std.specs.Prelude.{◌≡◌, IfOk};
 
-/// What every request of a client group bears. Any text serves: it is escaped as a JSON text.
+use group_history::Text;
+use std::alloc::{AllocError, Global};
+
+/// What every request of a client group bears (Push and Pull Endpoint Reference: `clientGroupID`, `profileID`,
+/// `schemaVersion`). Any text serves: it is escaped as a JSON text.
 #[derive(Clone, Drop)]
 pub struct Identity {
     /// The client group's ID.
@@ -10,4 +14,26 @@ pub struct Identity {
     pub profile: Text,
     /// The version of the application's schema.
     pub schema: Text,
+}
+
+impl Identity {
+    /// An identity of these three texts. Only want of memory refuses it.
+    pub fn new(
+        alloc: Global,
+        group: &str,
+        profile: &str,
+        schema: &str,
+    ) -> Result<Identity, AllocError>
+        ensures { IfOk result (λ made. made
+            ≡ record { group = group.now; profile = profile.now; schema = schema.now }) }
+    {
+        let group = Text::new(alloc, group)?;
+        let profile = Text::new(alloc, profile)?;
+        let schema = Text::new(alloc, schema)?;
+        Ok(Identity {
+            group,
+            profile,
+            schema,
+        })
+    }
 }

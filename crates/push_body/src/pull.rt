@@ -33,7 +33,8 @@ fn pull_body(alloc: Global, identity: &Identity, cookie: &Cookie) -> Result<Body
     Ok(body)
 }
 
-/// The body of a pull from a cookie on (Replicache, Pull Endpoint Reference, version 1).
+/// The body of a pull from a cookie on (Replicache, Pull Endpoint Reference, version 1): compact JSON. Refused with
+/// NoMemory alone.
 pub fn pull_bytes(alloc: Global, identity: &Identity, cookie: &Cookie) -> Result<Vec<u8>, Refusal>
     ensures text { IfOk result (λ v. v.items ≡ pull_text identity.now cookie.now) }
     ensures err { IsOkUnless result refusal.NoMemory }

@@ -23,8 +23,8 @@ fn written<'i>(
     Ok(writer)
 }
 
-/// The body of a push of all pending mutations, the oldest first (Replicache, Push Endpoint Reference,
-/// version 1).
+/// The body of a push of all pending mutations, the oldest first (Replicache, Push Endpoint Reference, version 1):
+/// compact JSON, also where there are none. Refused with NoMemory alone.
 pub fn push_bytes(
     alloc: Global,
     identity: &Identity,

@@ -20,7 +20,8 @@ const BYTES_AROUND: usize = 80;
 /// Bytes of a request beside its mutations, with an identity of usual length.
 const BYTES_OF_REQUEST: usize = 256;
 
-/// A push that is being written.
+/// A push that is being written (Replicache, Push Endpoint Reference, version 1). After an error nothing is known of
+/// what was written.
 #[derive(Drop)]
 pub struct PushWriter<'i> {
     identity: &'i Identity,
@@ -43,7 +44,7 @@ impl<'i> PushWriter<'i> {
         })
     }
 
-    /// Appends a mutation.
+    /// Appends a mutation behind those that the push has.
     pub fn add(&mut self, mutation: &Mutation) -> Result<(), AllocError>
         ensures { (i : Identified) (ms : List Mutated) → HasWritten i ms self.old
             → OnOk result (HasWritten i (ms ++ mutation.now ∷ []) self.new) }
@@ -54,7 +55,7 @@ impl<'i> PushWriter<'i> {
         push_mutation(&mut self.body, mutation)
     }
 
-    /// The whole body.
+    /// The whole body: what `push_bytes` answers of the same mutations.
     pub fn into_bytes(self) -> Result<Vec<u8>, AllocError>
         ensures { (i : Identified) (ms : List Mutated) → HasWritten i ms self.entry
             → IfOk result (λ v. v.items ≡ push_text i ms) }

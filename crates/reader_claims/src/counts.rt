@@ -20,11 +20,13 @@ pub struct SlotCounts {
     pub ordinary_free: u32,
     /// Free, of those reserved for ends of pulls that leave nothing pending.
     pub reserved_free: u32,
+    /// With a node, and not retired.
     pub live: u32,
     /// Dropped, and not yet given: each waits for older pins to go, or for a search to come by.
     pub retired: u32,
     /// By a publisher, for a node that it is about to place.
     pub taken: u32,
+    /// Seats whose pin is stored.
     pub pinned_seats: u32,
     /// The least epoch that is pinned: slots that were retired above it wait for that seat.
     pub oldest_pin: Option<u64>,

@@ -1,12 +1,18 @@
 -- What a client is, and what its calls leave of it. This project's own words.
-use Rattle.std.specs.Prelude.{ℕ, ◌≡◌, true, List, map, reverse}
+use Rattle.std.specs.Prelude.{ℕ, ◌≡◌, ◌⊎◌, true, List, [], ◌∷◌, ◌++◌, None, map, reverse}
 use Rattle.std.specs.List.{All}
+use Rattle.group_history.specs.declared.refusals.Refusal.{Refusal}
+use Rattle.group_history.specs.declared.refusals.Refusal.TheVariants as refusal
 use Rattle.group_history.specs.Map.{Bytes}
+use Rattle.group_history.specs.Meaning.{Meanings}
+use Rattle.group_history.specs.State.{last_id}
 use Rattle.push_body.specs.declared.identities.Identity.{Identity}
 use Rattle.head_word.specs.Books.{opening, opening_ref}
 use Rattle.reader_claims.specs.declared.view.Sizes.{Sizes}
 use Rattle.chunk_slots.specs.Seats.{IsIdle, IsOpening, IsPinned}
 use Rattle.commit_graph.specs.Seats.{GroupId, HasLooked, IsSameSeat, IsSeatOf, Seated, is_held}
+use Rattle.answered.specs.Answered.{IsAnswered, IsLeft}
+use Rattle.group_steps.specs.Missing.{IsMissedOrDry}
 
 -- a group: which it is, and whose requests it writes
 pub record Grouped : Type 0 where
@@ -46,6 +52,32 @@ IsSameClient old new = (new.group ≡ old.group) × (new.id ≡ old.id)
 -- where slots are used again, it has no pin and no taken slot
 abbrev pub Rests : Type 0 → ClientState → Type 0
 Rests reused client = reused → IsIdle client.seat.view
+
+-- A client of a group by this ID that sat down on a seat: it knows no less than was seen from there, and its last id is
+-- the one that the group has.
+pub record SitsOn (reused : Type 0) (means : Meanings) (home : Grouped) (name : Bytes) (seat : Seated)
+    (client : ClientState) : Type 0 where
+  pub group : client.group ≡ home
+  pub id : client.id ≡ name
+  pub answer : IsAnswered means seat.mark client.seat.mark None (λ s. last_id s client.id ≡ client.last)
+  pub looked : HasLooked reused seat client.seat
+  pub rests : Rests reused client
+
+-- The last of the free seats was tried and came back. Nothing was done to its slots, and it knows no less.
+pub record CameBack (reused : Type 0) (tries : ℕ) (old new : List Seated) (e : Refusal) : Type 0 where
+  pub others : List Seated
+  pub seat : Seated
+  pub back : Seated
+  pub was : old ≡ others ++ seat ∷ []
+  pub is : new ≡ others ++ back ∷ []
+  pub looked : HasLooked reused seat back
+  pub missed : IsMissedOrDry reused e
+  pub left : IsLeft tries seat.mark back.mark e
+
+-- Why no client sat down, and what is left of the free seats: there was none, or the last of them came back.
+abbrev pub NoneSat : Type 0 → ℕ → List Seated → List Seated → Refusal → Type 0
+NoneSat reused tries old new e =
+    ((e ≡ refusal.NoSeat) × (old ≡ []) × (new ≡ [])) ⊎ CameBack reused tries old new e
 
 -- What a call leaves that may change the group: the same client on the same seat, which knows no less and rests.
 pub record Acts (reused : Type 0) (old new : ClientState) : Type 0 where

@@ -80,7 +80,8 @@ where
         reply
     }
 
-    /// Makes one call.
+    /// Makes one call, and answers as the method of its name does; a query opens a reader, asks it and closes it. A
+    /// refusal is that method's, and leaves what that method leaves.
     pub fn make_call(&mut self, call: Call<'_>, tries: u32) -> Result<Reply, Refusal>
         ensures answer { IsLinearized M.means tries self.old.seat.mark self.new.seat.mark (map_ok reply_seen result)
             (change_of (caller_of self.old) call.entry) (λ s. reply_to M.means (caller_of self.old) s call.entry) }
@@ -125,8 +126,10 @@ where
         }
     }
 
-    /// Makes calls in order, each with so many tries, and answers what each replied. Room for the replies is
-    /// taken first; where it is refused no call is made.
+    /// Makes calls in order, each with so many tries, and answers what each replied. A refusal is a reply, and the
+    /// calls behind it are made. Where no other client moves the head meanwhile, the replies are those of a group of
+    /// one thread, or refusals for lack of memory, slots or tries. Room for the replies is taken first; where it is
+    /// refused no call is made.
     pub fn call_all(
         &mut self,
         alloc: Global,

@@ -105,9 +105,13 @@ where
         Ok(self.last)
     }
 
-    /// Makes a mutation, and answers its id: one more than the client's last id, which it then is. `time` is in
-    /// milliseconds. Refused, in this order, with `Closed`, `Stale`, `NoMutator` and `Refused`; with `Moved` where
-    /// others changed the group first, as often as it was to try; and for want of memory, of a slot or of stamps.
+    /// Makes a mutation, and answers its id: one more than the client's last id, which it then is (Replicache, How It
+    /// Works, "Mutations"). Queries show it at once, and pushes have it until a pull confirms it. `time` is in
+    /// milliseconds, and stands in the push as it is.
+    ///
+    /// Refused, in this order, with `Closed`, `Stale`, `NoMutator` and `Refused`; with `Moved`, `Busy` or `Gone` where
+    /// others were in the way, as often as it was to try; and with `NoMemory`, `Full` or `Stamps` for want of memory,
+    /// of a slot or of stamps. A refused call leaves the client's last id as it was, and the group as others left it.
     pub fn try_mutate(
         &mut self,
         name: &Text,
@@ -204,11 +208,16 @@ where
         read_response(group.shared.alloc, body)
     }
 
-    /// Ends a pull with the bytes of its response. They are read first, once, and refused with `NotJson`, `BadShape` or
-    /// `NotWhole` where they are no response. Refused then, in this order, with `Closed`, what an error response says,
-    /// `Overtaken`, `CookieWentBack`, `CookieNotNew` and `IdWentBack`; with `Moved` where others changed the group
-    /// first, as often as it was to try; and for want of memory, of a slot or of stamps. `StateNotFound` closes the
-    /// group, whatever the ticket. A ticket may be ended again.
+    /// Ends a pull with the bytes of its response (Replicache, Pull Endpoint Reference, version 1; How It Works, "Pull"
+    /// and "Rebase"). With `Applied` the patch is done on the pulled map, the response's cookie and confirmed ids are
+    /// the group's, confirmed mutations are pending no more, and the others are run again on the new map. With `Same`
+    /// nothing was changed. The client's last id stays. A ticket may be ended again.
+    ///
+    /// The bytes are read first, once, and refused with `NotJson`, `BadShape` or `NotWhole` where they are no response.
+    /// Refused then, in this order, with `Closed`, what an error response says, `Overtaken`, `CookieWentBack`,
+    /// `CookieNotNew` and `IdWentBack`; with `Moved`, `Busy` or `Gone` where others were in the way, as often as it was
+    /// to try; and with `NoMemory`, `Full` or `Stamps` for want of memory, of a slot or of stamps. `StateNotFound`
+    /// closes the group, whatever the ticket; any other refusal changes nothing.
     pub fn try_end_pull(
         &mut self,
         ticket: &Ticket,
@@ -243,8 +252,8 @@ where
         }
     }
 
-    /// Makes a mutation as `try_mutate` does, and begins anew where it was refused with `Moved`, `Busy` or `Gone`: so
-    /// it may wait for others.
+    /// Makes a mutation as `try_mutate` does with 1,000 tries, and begins anew where that was refused with `Moved`,
+    /// `Busy` or `Gone`. So it is refused with none of the three, but it may wait for others, without end.
     pub fn mutate<R: Wait>(
         &mut self,
         rt: &R,
@@ -275,8 +284,8 @@ where
         unreachable!()
     }
 
-    /// Ends a pull as `try_end_pull` does, and begins anew where it was refused with `Moved`, `Busy` or `Gone`: so it
-    /// may wait for others.
+    /// Ends a pull as `try_end_pull` does with 1,000 tries, and begins anew where that was refused with `Moved`, `Busy`
+    /// or `Gone`. So it is refused with none of the three, but it may wait for others, without end.
     pub fn end_pull<R: Wait>(
         &mut self,
         rt: &R,

@@ -2,7 +2,8 @@
 //!
 //! Its queries have their point where they look at the head: each pins the seat first, and takes the pin
 //! away before it returns.
-ghost use Rattle.std.specs.Prelude.{◌≡◌, ◌<◌, ◌^◌, true, Ok, Err, Some, None, IfOk, IfErr};
+ghost use Rattle.std.specs.Prelude.{◌≡◌, ◌<◌, ◌≤◌, ◌^◌, true, Ok, Err, Some, None, IfOk, IfErr};
+ghost use Rattle.std.specs.Prelude.{[], ◌∷◌, ◌++◌, length};
 ghost use Rattle.std.specs.Arc.{arc_value};
 ghost use mathlib.Core.List.{IsPrefix};
 ghost use Rattle.group_history.specs.declared.refusals.Refusal.TheVariants.{NoMemory, Busy};
@@ -15,19 +16,19 @@ ghost use Rattle.head_word.specs.Marks.{known};
 ghost use Rattle.chunk_slots.specs.Seats.{IsIdle};
 ghost use Rattle.reader_claims.specs.Machine.{Moves};
 ghost use Rattle.commit_graph.specs.LastIds.{last_at};
-ghost use Rattle.commit_graph.specs.Seats.{HasLooked, IsSeatOf, is_held};
+ghost use Rattle.commit_graph.specs.Seats.{HasLooked, IsSeatOf, Seated, is_held};
 ghost use Rattle.push_body.specs.Bodies.{pull_text, push_text};
 ghost use Rattle.answered.specs.Answered.{IsLinearized, IsAnswered, IsLeft, IsPoint, no_change};
 ghost use Rattle.answered.specs.Trying.{IsBase};
 ghost use Rattle.group_steps.specs.Missing.{IsStoreRefusal, IsMissedOrDry, map_ok};
 ghost use Rattle.group_steps.specs.Places.{place};
-ghost use Rattle.rebase.specs.Clients.{IsSameClient, Looks, Reads, Rests, Stays};
+ghost use Rattle.rebase.specs.Clients.{AreSeatsOf, IsSameClient, Looks, NoneSat, Reads, Rests, SitsOn, Stays};
 ghost use Rattle.rebase.specs.Queries.{asked, asked_at};
 ghost use Rattle.uuid.specs.Text.{hyphenated_text, lower};
 
 use crate::group::Group;
 use crate::reading::Point;
-use crate::seats::Seat;
+use crate::seats::{Seat, Seats};
 use crate::tickets::Ticket;
 use chunk_slots::{Arena, Slots};
 use commit_graph::{LastId, Seat as ClientSeat, Shared};
@@ -43,7 +44,11 @@ use std::marker::Model;
 use std::sync::Arc;
 use uuid::Uuid;
 
-/// A client: a handle on its group, its seat there, its ID, and its own last id.
+/// A client: a handle on its group, its seat there, its ID, and its own last id. One thread at a time uses it.
+///
+/// A call with `tries` begins anew, or does a step anew, where others were first: so often, and once at least. After it
+/// the client is on its seat, knows no less than before, and has no pin and no taken slot, also where it was refused;
+/// only an open reader keeps its pin.
 #[derive(Drop)]
 pub struct Client<M: Means, S: Slots<M>>
 where
@@ -159,7 +164,9 @@ where
         find_last(&self.group, &mut self.seat, &self.id, Some(before), tries)
     }
 
-    /// The body of a push of all that is pending in the group.
+    /// The body of a push of all that is pending in the group, whichever client made it, the oldest first (Replicache,
+    /// Push Endpoint Reference, version 1). There is one also where nothing is pending, or where the group is closed.
+    /// Refused with `NoMemory`, `Gone`, and over slots that are used again `Busy`. Nothing is changed.
     pub fn push_body(&mut self, tries: u32) -> Result<Vec<u8>, Refusal>
         ensures answer { IsLinearized M.means tries self.old.seat.mark self.new.seat.mark (map_ok
             (λ body. body.items) result)
@@ -173,7 +180,9 @@ where
         body
     }
 
-    /// The body of a pull at the group's cookie, and the ticket with which it ends.
+    /// The ticket of a pull: the body of its request, and the group's cookie, at which it begins (Replicache, Pull
+    /// Endpoint Reference, version 1). The group notes nothing, so many pulls may be under way. Refused with
+    /// `NoMemory`, `Gone`, and over slots that are used again `Busy`.
     pub fn begin_pull(&mut self, tries: u32) -> Result<Ticket, Refusal>
         ensures answer { IsLinearized M.means tries self.old.seat.mark self.new.seat.mark
             (map_ok asked result) no_change
@@ -188,7 +197,9 @@ where
         ticket_of(group.shared.alloc, &group.identity, cookie?)
     }
 
-    /// Finds the client's last id in the group, which is then its own. The remedy for `Stale`.
+    /// Finds the client's last id in the group, which is then its own: the greatest of its confirmed id and its pending
+    /// ids. The remedy for `Stale`. Refused with `Gone`, and over slots that are used again `Busy`; then its own last
+    /// id is as it was. Takes no memory.
     pub fn refresh(&mut self, tries: u32) -> Result<u64, Refusal>
         ensures answer { IsLinearized M.means tries self.old.seat.mark self.new.seat.mark result no_change
             (λ s. Ok (last_id s self.old.id)) }
@@ -238,7 +249,8 @@ where
         }
     }
 
-    /// Gives the client up, and hands its seat back. Takes no memory.
+    /// Gives the client up, and hands its seat back, with what was seen on it. What it made stays pending. Takes no
+    /// memory.
     pub fn close(self) -> Seat<M, S>
     where
         M: Drop,
@@ -267,7 +279,8 @@ where
         self.seat.mark.copy()
     }
 
-    /// Afterwards the client has seen what the mark has. It is a mark of the same group. Takes no memory.
+    /// Afterwards the client has seen what the mark has, so no later answer of its calls is of a time before. It is a
+    /// mark of the same group. The client's last id and its pin stay. Takes no memory.
     pub fn learn(&mut self, other: &Mark<M>)
         requires book { other.now.book ≡ self.old.seat.mark.book }
         ensures other { IsPrefix other.now.log self.new.seat.mark.log }
@@ -374,8 +387,9 @@ impl<M: Means, S: Slots<M>> Group<M, S>
 where
     S::Seat: Drop,
 {
-    /// A client of this ID on a seat of the group. It begins from what the seat has seen, and its own last id
-    /// is the one that the group has. Where it is refused the seat is handed back. Takes memory for the ID alone.
+    /// A client of this ID on a seat of the group. It begins from what the seat has seen, and its own last id is the
+    /// one that the group has: 0 where it has none. Refused with `NoMemory`, `Gone`, and over slots that are used again
+    /// `Busy`; then the seat is handed back. Takes memory for the ID alone.
     pub fn client(
         &self,
         seat: Seat<M, S>,
@@ -406,6 +420,32 @@ where
             }
             Err(e) => {
                 return Err((Seat { seat }, e));
+            }
+        }
+    }
+
+    /// A client of this ID on the next of the free seats, as `client` has it. Where it is refused its seat is free
+    /// again. It is `NoSeat` where none is free. Takes memory for the ID alone.
+    pub fn next_client(
+        &self,
+        seats: &mut Seats<M, S>,
+        id: Uuid,
+        tries: u32,
+    ) -> Result<Client<M, S>, Refusal>
+        requires seats { AreSeatsOf self.now.group seats.old.free }
+        ensures seats { AreSeatsOf self.now.group seats.new.free }
+        ensures capacity { seats.old.room ≤ seats.new.room }
+        ensures room { IfOk result (λ _. length seats.new.free < seats.new.room) }
+        ensures ok { IfOk result (λ client. (seat : Seated) × (seats.old.free ≡ seats.new.free ++ seat ∷ [])
+            × SitsOn S.reused M.means self.now (hyphenated_text lower id) seat client) }
+        ensures err { IfErr result (NoneSat S.reused tries seats.old.free seats.new.free) }
+    {
+        let seat = seats.take()?;
+        match self.client(seat, id, tries) {
+            Ok(client) => Ok(client),
+            Err((seat, e)) => {
+                seats.back(seat);
+                Err(e)
             }
         }
     }

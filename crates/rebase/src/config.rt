@@ -44,7 +44,8 @@ impl Model for Config {
 }
 
 impl Config {
-    /// 16 to 16,777,216 slots, and 1 to 256 seats. Where both are out of range, it is the slots that are told.
+    /// 16 to 16,777,216 slots, and 1 to 256 seats; else `OutOfRange`. Where both are out of range, it is the slots that
+    /// are told.
     pub fn new(identity: Identity, slots: u32, seats: u32) -> Result<Config, OutOfRange>
         ensures fits { IfOk result (λ _. out_of_range slots seats ≡ None) }
         ensures identity { IfOk result (λ config. config.identity ≡ identity) }

@@ -70,7 +70,10 @@ impl<M: Means + Drop, S: Store<M> + Drop> Group<M, S>
 where
     S::Seat: Drop,
 {
-    /// A new group in its opening state, and its seats. Two of its slots are taken then.
+    /// A new group and its seats, as many as the config says. Nothing is pulled and nothing is pending, the cookie is
+    /// null, and two of its slots are taken. `parts` is what the store is made of: `()` for an `Arena`, a handle with
+    /// `Wait` for an `Append`. Refused with `NoMemory`; over slots that are used again the contract allows `Busy` and
+    /// `Full` too, though neither comes.
     pub fn open(
         alloc: Global,
         config: Config,

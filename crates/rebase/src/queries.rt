@@ -21,7 +21,9 @@ impl<M: Means, S: Slots<M>> Client<M, S>
 where
     S::Seat: Drop,
 {
-    /// Reads the group as it is now. Where that is refused the client is as it was, and has no pin.
+    /// Reads the group as it is at one moment of the call, and not before what the client has seen (Replicache,
+    /// `ReadTransaction`). Refused with `Gone`, and over slots that are used again `Busy`; then the client has no pin.
+    /// Takes no memory.
     pub fn read(&mut self, tries: u32) -> Result<ReadTx<'_, M, S>, Refusal>
         ensures* rests { sem 𝓛 (RestsIfErr (the_row M.row S.row S.Seat.row M.Means S.Slots) self.entry
             (λ tx. (lent tx).ghost_name) result (λ client. Stays S.reused self.old client)) }
@@ -35,8 +37,9 @@ where
         Ok(ReadTx::new(self, at, tries))
     }
 
-    /// Gives the pairs that the scan asks for to the sink, in the order of their keys, each by reference. After
-    /// an `Err` the sink may have some of them.
+    /// Gives the pairs that the scan asks for to the sink, in the order of their keys, each by reference. Refused with
+    /// `NoMemory`, also where the sink stops, `Gone`, and over slots that are used again `Busy`; then the sink may have
+    /// some of them, the first ones.
     pub fn scan_into<T: TakesRows>(
         &mut self,
         scan: &Scan,

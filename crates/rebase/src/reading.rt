@@ -108,8 +108,11 @@ impl<M: Means> Point<M> {
     }
 }
 
-/// Reads one commit: every answer is that of the point at which it was opened. Its client's seat is pinned
-/// until it is closed or dropped. A refused call leaves it as it was.
+/// Reads one commit: every answer is that of the point at which it was opened (Replicache, `ReadTransaction`). Its
+/// client's seat is pinned until it is closed or dropped, and the slots that the commit reaches are kept so long.
+///
+/// A query is refused with `Gone`, over slots that are used again with `Busy`, and where it takes memory with
+/// `NoMemory`. A refused one leaves the reader as it was.
 pub struct ReadTx<'a, M: Means, S: Slots<M>>
 where
     S::Seat: Drop,
@@ -162,7 +165,7 @@ where
         Ok(self.at.open(&group.shared, &client.seat, self.tries))
     }
 
-    /// The value at a key.
+    /// The value at a key of the view; none where the key is not there.
     pub fn get(&self, key: &str) -> Result<Option<Json>, Refusal>
         ensures value { IfOk result (λ found. found
             ≡ get_at M.means (read_by self.now) key.now) }
@@ -172,7 +175,7 @@ where
         Ok(tx.get(key)?)
     }
 
-    /// Whether the key is there. Takes no memory.
+    /// Whether the view has the key. Takes no memory.
     pub fn has(&self, key: &str) -> Result<bool, Refusal>
         ensures value { IfOk result (λ found. found
             ≡ has_at M.means (read_by self.now) key.now) }
@@ -182,7 +185,7 @@ where
         Ok(tx.has(key)?)
     }
 
-    /// The pairs that the scan asks for, in the order of their keys.
+    /// The pairs of the view that the scan asks for, in the order of their keys.
     pub fn scan(&self, scan: &Scan) -> Result<Vec<(Text, Json)>, Refusal>
         ensures rows { IfOk result (λ rows. rows.items
             ≡ view_rows M.means (read_by self.now) scan.now) }
@@ -192,8 +195,8 @@ where
         Ok(tx.scan(scan)?)
     }
 
-    /// Gives the pairs that the scan asks for to the sink, in the order of their keys, each by reference. After
-    /// an `Err` the sink may have some of them.
+    /// Gives the pairs that the scan asks for to the sink, in the order of their keys, each by reference. After an
+    /// `Err` the sink may have some of them, the first ones.
     pub fn scan_into<T: TakesRows>(&self, scan: &Scan, sink: &mut T) -> Result<(), Refusal>
         ensures rows { OnOk result (HasMore T.has sink.old sink.new
             (view_rows M.means (read_by self.now) scan.now)) }
@@ -205,7 +208,7 @@ where
         Ok(tx.scan_into(scan, sink)?)
     }
 
-    /// Whether no key is there. Takes no memory.
+    /// Whether the view has no key. Takes no memory.
     pub fn is_empty(&self) -> Result<bool, Refusal>
         ensures value { IfOk result (λ empty. empty
             ≡ is_empty_at M.means (read_by self.now)) }
@@ -215,7 +218,7 @@ where
         Ok(tx.is_empty()?)
     }
 
-    /// The mutations that are not confirmed, the oldest first.
+    /// The mutations of the group that are not confirmed, the oldest first.
     pub fn pending(&self) -> Result<Vec<Mutation>, Refusal>
         ensures pending { IfOk result (λ xs. xs.items ≡ (read_by self.now).pending) }
         ensures err { IfErr result (IsMissedOrDry S.reused) }
@@ -224,6 +227,7 @@ where
         Ok(tx.pending()?)
     }
 
+    /// The cookie of the last pull that was applied; null before the first.
     pub fn cookie(&self) -> Result<Cookie, Refusal>
         ensures cookie { IfOk result (λ cookie. cookie ≡ (read_by self.now).cookie) }
         ensures err { IfErr result (IsMissedOrDry S.reused) }
@@ -241,7 +245,7 @@ where
         Ok(tx.closed()?)
     }
 
-    /// Ends the reading, and takes the pin away. Takes no memory.
+    /// Ends the reading, and takes the pin away, as dropping the reader does. Takes no memory.
     pub fn close(self)
         ensures stays { Stays S.reused (lent self.entry).now self.exit.0.now }
         ensures mark { self.exit.0.now.seat.mark ≡ (lent self.entry).now.seat.mark }

@@ -103,7 +103,7 @@ impl<M: Means, S: Slots<M>> Seats<M, S>
 where
     S::Seat: Drop,
 {
-    /// A seat that no client has. It is `NoSeat` where all are out. Takes no memory.
+    /// A seat that no client has; `NoSeat` where all are out. Takes no memory.
     pub fn take(&mut self) -> Result<Seat<M, S>, Refusal>
         ensures room { IfOk result (λ _. length self.new.free < self.new.room) }
         ensures capacity { self.new.room ≡ self.old.room }

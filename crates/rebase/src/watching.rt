@@ -44,6 +44,7 @@ impl Model for Rows {
 }
 
 impl Rows {
+    /// The rows, from now on shared; none is copied.
     pub fn new(alloc: Global, rows: Vec<(Text, Json)>) -> Result<Rows, AllocError>
         ensures { IfOk result (λ shared. shared ≡ rows.items) }
     {
@@ -51,6 +52,7 @@ impl Rows {
         Ok(Rows { shared })
     }
 
+    /// The rows, in the order of their keys.
     pub fn as_slice(&self) -> &[(Text, Json)]
         ensures { result.now ≡ self.now }
     {
@@ -83,6 +85,7 @@ impl PartialEq for Rows {
 pub enum Polled {
     /// The rows, which are others than those that were answered last, or the first ones.
     New(Rows),
+    /// The rows are those that were answered last.
     Unchanged,
 }
 
@@ -125,7 +128,8 @@ where
     Ok(beside.into_others()?)
 }
 
-/// A scan that is polled. It may be polled by any client of its group.
+/// A scan that is polled. It keeps the rows that it answered last, in memory and in no slot. It may be polled by any
+/// client of its group.
 #[derive(Drop)]
 pub struct Watch<M: Means> {
     scan: Scan,
@@ -288,8 +292,8 @@ where
     }
 
     /// The rows of the watch's scan, where they are others than those that it answered last, or the first ones; else
-    /// `Unchanged`. They are compared by their keys and compact texts. A refused poll leaves the watch as it was. The
-    /// watch is one of the client's group.
+    /// `Unchanged`. They are compared by their keys and compact texts. The watch is one of the client's group. Refused
+    /// with `NoMemory`, `Gone`, and over slots that are used again `Busy`; then the watch is as it was.
     pub fn poll(&mut self, watch: &mut Watch<M>, tries: u32) -> Result<Polled, Refusal>
         requires book { watch.old.book ≡ self.old.seat.mark.book }
         ensures answer { IsLinearized M.means tries self.old.seat.mark self.new.seat.mark result no_change

@@ -4,17 +4,26 @@ use std::alloc::{AllocError, AllocFailed};
 use std::fmt;
 use thiserror::Error;
 
-/// What is wrong at a place.
+/// What is wrong at a place of rules.
 #[derive(Clone, Copy, Debug, PartialEq, Eq, Error)]
 pub enum Wrong {
+    /// There should be a list of steps.
     NoSteps,
+    /// There should be a step: an array that begins with a word.
     NoStep,
+    /// An array is empty, or what it begins with is no text.
     NoWord,
+    /// No step, or no expression, has this word.
     UnknownWord,
+    /// The word has too few parts behind it, or too many.
     Parts,
+    /// An argument is neither a number from 0 to 2^64 - 1 nor a text.
     NoArgument,
+    /// A member's name is no text.
     NoName,
+    /// A code is no number from 0 to 2^32 - 1.
     NoCode,
+    /// A number is not whole, or does not fit 64 bits.
     NotWhole,
 }
 
@@ -49,11 +58,13 @@ impl fmt::Display for Wrong {
 /// Why a text was not read as rules.
 #[derive(Debug, Drop, PartialEq, Eq, Error)]
 pub enum RuleFault {
+    /// It may come in place of any other answer.
     #[error("memory was refused: free some and read again")]
     NoMemory,
     /// RFC 8259; it may nest at most 127 deep.
     #[error("no JSON text, or one that nests too deep")]
     NotJson,
+    /// A JSON text, but no object.
     #[error("no JSON object")]
     NotObject,
     /// The place is a JSON Pointer (RFC 6901) into the text's value, as `/add/0/2`.

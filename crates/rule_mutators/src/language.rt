@@ -65,7 +65,7 @@ impl Rules {
     ghost use Rattle.rule_mutators.specs.Meaning.{steps_named};
     ghost use Rattle.rule_mutators.specs.Views.{all_steps, rules_of};
 
-    /// No rules.
+    /// No rules: every name is that of a mutator of scripts, or unknown.
     pub fn none(alloc: Global) -> Rules
         ensures { rules_of result ≡ [] }
     {

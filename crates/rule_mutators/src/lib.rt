@@ -5,8 +5,8 @@
 //! a rule means `specs/Meaning.antt`. There are no loops, so each rule ends. A name without a rule is a mutator of
 //! scripts.
 //!
-//! Tested: each word once, and how each fault is told. By hand, in an unproved build: each allocation refused in turn,
-//! and 10,000 random cases beside the twin in Python (`tools/compare-rules`).
+//! Tested in `test_parts`: each word once, and how each fault is told. By hand, in an unproved build: each allocation
+//! refused in turn, and 10,000 random cases beside the twin in Python (`tools/compare-rules`).
 #![tactic(auto)]
 
 mod evaluating;
@@ -16,8 +16,6 @@ mod mutators;
 mod places;
 mod reading;
 mod running;
-#[cfg(test)]
-mod tests;
 mod values;
 mod words;
 

@@ -17,7 +17,7 @@ use script_mutators::ScriptMutators;
 use std::alloc::Global;
 use std::marker::{Brand, PhantomData};
 
-/// Names rules.
+/// Names rules in a type, for contracts alone.
 pub trait Picked {
     ghost rules: { rule.Rules };
 }
@@ -26,7 +26,8 @@ impl Picked for Brand {
     ghost rules = { [] };
 }
 
-/// The rules that `B` names, and the mutators of scripts where no rule has the name.
+/// The rules that `B` names as mutators: a name runs the rule of that name, and without one the mutator of scripts. A
+/// rule refuses with the code of its `need`, or with 1 for a value of a wrong type, missing, or out of range.
 #[derive(Drop)]
 pub struct RuleMutators<B: Picked> {
     rules: Rules,

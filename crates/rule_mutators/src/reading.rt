@@ -24,7 +24,7 @@ use steps::read_steps;
 impl Rules {
     /// The rules that a text says: UTF-8, a JSON object of lists of steps (RFC 8259), nested at most 127 deep. Any
     /// other text is refused with the first fault in the order of reading: no JSON, no object, or what is wrong at a
-    /// place.
+    /// place. NoMemory may come in place of any answer.
     #[tactic(auto, unfolding(crate::specs::Reading::rules_said))]
     pub fn read(alloc: Global, text: &[u8]) -> Result<Rules, RuleFault>
         ensures { AnswersSeen rules_of result (spec.rules_said text.now) }

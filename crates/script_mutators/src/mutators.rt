@@ -23,7 +23,9 @@ use crate::values::{decimal, number_in, quoted, text_there};
 use group_history::{Json, Means, Mutators, Ran, Reason, Stop, WriteView};
 use std::alloc::Global;
 
-/// The mutators of scripts. Any name but theirs is unknown.
+/// The mutators of scripts: `set`, `del`, `incr`, `append` and `tag` (`docs/SCRIPT.md`). Any other name is unknown.
+/// They refuse with 1 for wrong arguments, 2 for a key that is not there, 3 for a value of another kind, 4 for a sum
+/// out of range.
 #[derive(Clone, Copy)]
 pub struct ScriptMutators;
 

@@ -10,6 +10,7 @@ use thiserror::Error;
 /// What is wrong with a line of a script. Where several are, the first of this list is told.
 #[derive(Clone, Copy, Debug, PartialEq, Eq, Error)]
 pub enum ScriptFault {
+    /// The script, or the line, is not UTF-8.
     NotUtf8,
     /// Before the first phase, the first word is no header word and not `phase`.
     UnknownLine,
@@ -19,6 +20,7 @@ pub enum ScriptFault {
     UnknownCommand,
     /// A word is missing or empty, one too many, or not of its form.
     BadWords,
+    /// A UUID isn't one in any of its text forms (RFC 9562).
     BadUuid,
     /// A number isn't decimal digits, or is out of range.
     BadNumber,
@@ -28,7 +30,7 @@ pub enum ScriptFault {
     TooManyClients,
     /// Arguments that are no JSON of whole numbers, or nest too deep.
     BadJson,
-    /// No client's name, or a ticket that no earlier line of the client makes.
+    /// No client's name, or a ticket or watch that no earlier line of the client makes.
     UnknownName,
 }
 

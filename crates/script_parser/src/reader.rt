@@ -24,7 +24,7 @@ impl LineReader {
     ghost use Rattle.script_parser.specs.Faults.{said_with};
     ghost use Rattle.script_parser.specs.Reading.{IsHeader, Takes, TakesAs, kept_by};
 
-    /// Before the first line.
+    /// A reader that has taken no line.
     pub fn new(alloc: Global) -> LineReader
         ensures { kept_by result ≡ nothing_said }
     {
@@ -33,8 +33,8 @@ impl LineReader {
         }
     }
 
-    /// Takes a line of this number, counted from 1, without its line feed. Where it is faulty, or memory is refused, the
-    /// reader is as it was. From the first phase on no client is added.
+    /// Takes a line of this number, counted from 1, without its line feed, and answers what it asks. Where it is
+    /// faulty, or memory is refused, the reader is as it was. From the first phase on no client is added.
     pub fn take(&mut self, number: u64, line: &[u8]) -> Result<Asked, LineFault>
         ensures taken { Takes number line.now (kept_by self.old) result (kept_by self.new) }
         ensures clients { 0 < length (kept_by self.old).phases

@@ -32,7 +32,7 @@ use push_body::Identity;
 use std::alloc::{AllocError, Global};
 use uuid::Uuid;
 
-/// A `client` line.
+/// A `client` line: a name of 1 to 16 ASCII letters or digits, and the client's ID.
 #[derive(Drop)]
 pub struct ClientLine {
     pub name: Text,
@@ -47,6 +47,7 @@ pub struct Header {
     schema: Option<Text>,
     /// From 16 to `MAX_SLOTS`.
     slots: Option<u64>,
+    /// The `client` lines, in order: at most 256, each of another name.
     pub clients: Vec<ClientLine>,
 }
 
@@ -57,6 +58,7 @@ pub enum Query {
     Get(Text),
     /// Whether the key is there.
     Has(Text),
+    /// The rows of a scan.
     Scan(Scan),
     /// Whether no key is there.
     Empty,
@@ -64,6 +66,7 @@ pub enum Query {
     Closed,
     /// The pending mutations of the group.
     Pending,
+    /// The group's cookie.
     Cookie,
     /// The body of a push.
     Push,
@@ -72,11 +75,13 @@ pub enum Query {
 /// What a client is to do.
 #[derive(Drop)]
 pub enum Command {
+    /// Ask the group.
     Query(Query),
     /// Begin a pull, and keep its ticket under this name.
     Begin(Text),
     /// End the pull of the ticket of this name, with this body.
     End(Text, Text),
+    /// Make a mutation.
     Mutate(MutatorCall),
     /// Read the client's last id anew.
     Refresh,
@@ -93,7 +98,9 @@ pub enum Command {
 pub struct MutatorCall {
     /// In milliseconds, below 2^53.
     pub time: u64,
+    /// The mutator's name, not empty.
     pub mutator: Text,
+    /// What it is given.
     pub args: Json,
 }
 
@@ -102,6 +109,7 @@ pub struct MutatorCall {
 pub struct Line {
     /// Counted from 1.
     pub number: u64,
+    /// What the client is to do.
     pub command: Command,
 }
 
@@ -147,7 +155,8 @@ const DEFAULT_SLOTS: u64 = 4096;
 const LATEST_TIME: u64 = 9_007_199_254_740_991;
 
 impl Header {
-    /// Whose requests the group writes.
+    /// Whose requests the group writes. What the header doesn't say is the nil UUID, the profile `p1` and the schema
+    /// `s1`.
     pub fn identity(&self, alloc: Global) -> Result<Identity, AllocError>
         ensures { IfOk result (λ identity. identity ≡ record {
           group = unwrap_or self.now.group (codes "00000000-0000-0000-0000-000000000000");
@@ -162,7 +171,7 @@ impl Header {
         })
     }
 
-    /// How many slots the group has.
+    /// How many slots the group has, from 16 to `MAX_SLOTS`; 4096 where the header doesn't say it.
     pub fn slots_or_default(&self) -> u64
         ensures { result ≡ unwrap_or self.now.slots 4096 }
     {
@@ -678,7 +687,8 @@ impl Phase {
         self.parts.iter().position(|part| part.client == client)
     }
 
-    /// The lines of the client at a place.
+    /// The lines of the client at this place among the `client` lines, in order; none where it has no line in the
+    /// phase.
     pub fn lines_of(&self, client: usize) -> &[Line]
         ensures { map line_said result.now ≡ lines_at self.now.parts.items client }
     {
@@ -820,8 +830,8 @@ fn say(said: &mut Option<Text>, text: Text) -> Result<(), LineFault>
     Ok(())
 }
 
-/// The script that the bytes are. A script that isn't UTF-8 is told for that, with the line of its first bad
-/// byte, before any other fault.
+/// The script that the bytes are, checked whole; refused with the first fault of the first faulty line, or with
+/// NoMemory. A script that isn't UTF-8 is told for that, with the line of its first bad byte, before any other fault.
 #[tactic(auto, unfolding(crate::specs::Faults::first_fault))]
 pub fn read_script(alloc: Global, bytes: &[u8]) -> Result<Script, Fault>
     ensures first { Checks (first_fault bytes.now) result }

@@ -56,8 +56,9 @@ impl<M: Mutators + Drop> Clients<M> {
     ghost use Rattle.script_runner.specs.Callers.{shared_rules};
     ghost use Rattle.script_runner.specs.Runs.{AreNew, header_identity};
 
-    /// Opens a group for the lines before the first phase, and a client for each `client` line, in their order. The first
-    /// phase begins. The mutators are those of the group.
+    /// Opens a group for the lines before the first phase, and a client for each `client` line, in their order. The
+    /// first phase begins. The mutators are those of the group. Whatever refuses the opening, it is told as refused
+    /// memory.
     pub fn open(alloc: Global, header: &Header, mutators: M) -> Result<Clients<M>, AllocError>
         requires { IsInRange header.now }
         ensures new { IfOk result (λ clients. AreNew M.means (header_identity header.now)
@@ -77,7 +78,8 @@ impl<M: Mutators + Drop> Clients<M> {
         })
     }
 
-    /// Begins a phase: what the clients have seen until now is what others can learn in it.
+    /// Begins a phase: what the clients have seen until now is what others can learn in it. Where memory is refused,
+    /// they can learn what they could before.
     pub fn begin_phase(&mut self) -> Result<(), AllocError>
         ensures same { players_in self.new ≡ players_in self.old }
         ensures seen { OnOk result (sights_in self.new ≡ all_sights (players_in self.new)) }
@@ -87,9 +89,9 @@ impl<M: Mutators + Drop> Clients<M> {
         Ok(())
     }
 
-    /// Does the command of a line by the client at a place, and appends its line of output. A refusal of the call is
-    /// a reply like any other. A change may wait for others. Where memory is refused for the line of output, the call was
-    /// made.
+    /// Does the command of a line by the client at a place among the `client` lines, and appends its line of output. A
+    /// refusal of the call is a reply like any other. A change may wait for others. Where memory is refused for the
+    /// line of output, the call was made.
     pub fn tell<R: Wait>(
         &mut self,
         rt: &R,

@@ -18,8 +18,10 @@ use std::thread::{self, Threads};
 /// Asked before and after each call of a client, from the client's own thread, with the client's name and the line's
 /// number. A gate may hold a call, so a test can order the calls of clients.
 pub trait Gate: Sync {
+    /// The client's call of this line has not begun.
     fn before(&self, client: &str, line: u64);
 
+    /// The client's call of this line has returned.
     fn after(&self, client: &str, line: u64);
 }
 

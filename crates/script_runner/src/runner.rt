@@ -223,8 +223,9 @@ fn run_shared<R: AllocGlobal + Threads + Wait + Sync, G: Gate, W: io::Write>(
     run_phases(&Host { rt, alloc, gate }, &mut turns, &script.phases, out)
 }
 
-/// Runs a script, and writes the replies of each phase when it has ended. A faulty script is told before
-/// anything runs or is written. After `NoMemory` the writer has the output of whole phases.
+/// Runs a script (`docs/SCRIPT.md`), each client of a phase on a thread of its own, and writes the replies of each
+/// phase when it has ended. A faulty script is told with its first fault before anything runs or is written. After
+/// `NoMemory` the writer has the output of whole phases; after `Write` no later phase runs.
 pub fn run<R: AllocGlobal + Threads + Wait + Sync, G: Gate, W: io::Write>(
     rt: &R,
     script: &[u8],

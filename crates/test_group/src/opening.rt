@@ -3,7 +3,7 @@ ghost use Rattle.std.specs.Prelude.{◌≡◌, ◌<◌, IfOk, length};
 ghost use Rattle.rebase.specs.Clients.{AreSeatsOf};
 
 use chunk_slots::Store;
-use group_history::{Means, Refusal, Text};
+use group_history::{Means, Refusal};
 use push_body::Identity;
 use rebase::{Client, Config, Group, Seats};
 use script_mutators::ScriptMutators;
@@ -23,18 +23,10 @@ pub const D: &str = "00000000-0000-4000-8000-00000000000d";
 
 pub const E: &str = "00000000-0000-4000-8000-00000000000e";
 
-// Whose the groups are.
-fn identity(alloc: Global) -> Result<Identity, Refusal> {
-    Ok(Identity {
-        group: Text::new(alloc, GROUP)?,
-        profile: Text::new(alloc, "p1")?,
-        schema: Text::new(alloc, "s1")?,
-    })
-}
-
 // A group of so many slots, with a seat for each of its clients.
 fn config_of(alloc: Global, slots: u32, clients: u32) -> Result<Config, Refusal> {
-    match Config::new(identity(alloc)?, slots, clients) {
+    let identity = Identity::new(alloc, GROUP, "p1", "s1")?;
+    match Config::new(identity, slots, clients) {
         Ok(config) => Ok(config),
         Err(_) => Err(Refusal::Full),
     }
@@ -63,26 +55,6 @@ where
     Group::<ScriptMutators, S>::open(alloc, config, ScriptMutators, parts)
 }
 
-// A client of this ID on the next seat.
-fn next_client_of<M: Means, S: Store<M>>(
-    group: &Group<M, S>,
-    seats: &mut Seats<M, S>,
-    id: Uuid,
-) -> Result<Client<M, S>, Refusal>
-where
-    S::Seat: Drop,
-    requires { AreSeatsOf group.now.group seats.old.free }
-    ensures seats { AreSeatsOf group.now.group seats.new.free }
-    ensures room { IfOk result (λ _. length seats.new.free < seats.new.room) }
-    ensures group { IfOk result (λ client. client.group ≡ group.now) }
-{
-    let seat = seats.take()?;
-    match group.client(seat, id, 9) {
-        Ok(client) => Ok(client),
-        Err((_, e)) => Err(e),
-    }
-}
-
 /// A client of this ID on the next seat.
 pub fn next_client<M: Means, S: Store<M>>(
     group: &Group<M, S>,
@@ -97,7 +69,7 @@ where
     ensures group { IfOk result (λ client. client.group ≡ group.now) }
 {
     let id = id(text)?;
-    next_client_of(group, seats, id)
+    group.next_client(seats, id, 9)
 }
 
 /// A client that may be lent to a thread, and its number among those of its group, from 0 on. That is the number by

@@ -1,5 +1,5 @@
-//! Tests of single parts, with no thread: claims, heads, stores and drafts; texts, maps as trees, commits, and what
-//! pulls share.
+//! Tests of single parts, with no thread: claims, heads, stores and drafts; texts, maps as trees, commits, what pulls
+//! share, and rules.
 //!
 //! They stand in a crate of their own, since a crate with tests is proved once more for them.
 #![tactic(auto)]

@@ -3,35 +3,37 @@
 
 mod mutators;
 mod opening;
-mod responses;
+mod server;
 mod todos;
 mod user;
 
 use opening::List;
-use rebase::{Json, Polled, Refusal, Text, Uuid};
-use responses::{TO_A, TO_B};
-use std::alloc::{AllocError, Global};
+use rebase::{Polled, Refusal};
+use server::{TO_A, TO_B};
+use std::alloc::Global;
 use std::io;
 use std::thread::{Threads, join};
 use user::{TRIES, User};
 
-/// The users' IDs, as numbers.
-const A: u128 = 0xa;
+/// What A and B do on the first day, each on a thread of its own.
+const OF_A: [(&str, &str); 2] = [
+    ("add", r#"{"id":"2","text":"milk"}"#),
+    ("toggle", r#"{"id":"1"}"#),
+];
 
-const B: u128 = 0xb;
-
-fn tell_rows(out: &mut String, rows: &[(Text, Json)]) -> Result<(), AllocError> {
-    for (key, item) in rows {
-        writeln!(out, "  {key} {item}")?;
-    }
-    Ok(())
-}
+const OF_B: [(&str, &str); 2] = [
+    ("add", r#"{"id":"3","text":"tea"}"#),
+    ("rename", r#"{"id":"3","text":"green tea"}"#),
+];
 
 /// Tells the items, where they are others than those that the user was told last.
 fn tell(out: &mut String, user: &mut User) -> Result<(), Refusal> {
-    match user.poll()? {
-        Polled::Unchanged => writeln!(out, "  unchanged")?,
-        Polled::New(rows) => tell_rows(out, rows.as_slice())?,
+    let Polled::New(rows) = user.poll()? else {
+        writeln!(out, "  unchanged")?;
+        return Ok(());
+    };
+    for (key, item) in rows.as_slice() {
+        writeln!(out, "  {key} {item}")?;
     }
     Ok(())
 }
@@ -42,20 +44,15 @@ fn pull(out: &mut String, user: &mut User) -> Result<(), Refusal> {
     tell(out, user)
 }
 
-fn a_works(a: &mut User) -> Result<(), Refusal> {
-    a.change("add", r#"{"id":"2","text":"milk"}"#)?;
-    a.change("toggle", r#"{"id":"1"}"#)?;
-    Ok(())
-}
-
-fn b_works(b: &mut User) -> Result<(), Refusal> {
-    b.change("add", r#"{"id":"3","text":"tea"}"#)?;
-    b.change("rename", r#"{"id":"3","text":"green tea"}"#)?;
+fn work(user: &mut User, changes: &[(&str, &str)]) -> Result<(), Refusal> {
+    for (name, args) in changes {
+        user.change(name, args)?;
+    }
     Ok(())
 }
 
 fn both_work<R: Threads + Sync>(rt: &R, a: &mut User, b: &mut User) -> Result<(), Refusal> {
-    let (of_a, of_b) = join(rt, || a_works(a), || b_works(b));
+    let (of_a, of_b) = join(rt, || work(a, &OF_A), || work(b, &OF_B));
     of_a?;
     of_b
 }
@@ -70,12 +67,6 @@ fn read(out: &mut String, user: &mut User) -> Result<(), Refusal> {
     Ok(())
 }
 
-fn push(out: &mut String, user: &mut User) -> Result<(), Refusal> {
-    let length = user.push()?;
-    writeln!(out, "push: {length} bytes")?;
-    Ok(())
-}
-
 /// A begins a pull, but B's is applied first: so A begins a new one.
 fn overtake(out: &mut String, a: &mut User, b: &mut User) -> Result<(), Refusal> {
     let ticket = a.client.begin_pull(TRIES)?;
@@ -85,6 +76,22 @@ fn overtake(out: &mut String, a: &mut User, b: &mut User) -> Result<(), Refusal>
         writeln!(out, "pull: {e}")?;
     }
     pull(out, a)
+}
+
+fn first_day<R: Threads + Sync>(
+    rt: &R,
+    out: &mut String,
+    a: &mut User,
+    b: &mut User,
+) -> Result<(), Refusal> {
+    pull(out, a)?;
+    both_work(rt, a, b)?;
+    tell(out, a)?;
+    read(out, a)?;
+    let length = a.push()?;
+    writeln!(out, "push: {length} bytes")?;
+    pull(out, a)?;
+    overtake(out, a, b)
 }
 
 /// A toggles an item so often that no slot is free in between: a pull then confirms what is pending.
@@ -115,39 +122,19 @@ fn forget(out: &mut String, a: &mut User) -> Result<(), Refusal> {
     Ok(())
 }
 
-fn first_day<R: Threads + Sync>(
-    rt: &R,
-    out: &mut String,
-    a: &mut User,
-    b: &mut User,
-) -> Result<(), Refusal> {
-    pull(out, a)?;
-    both_work(rt, a, b)?;
-    tell(out, a)?;
-    read(out, a)?;
-    push(out, a)?;
-    pull(out, a)?;
-    overtake(out, a, b)
-}
-
-fn second_day(
-    alloc: Global,
-    list: &mut List,
-    out: &mut String,
-    a: &mut User,
-) -> Result<(), Refusal> {
+fn second_day(out: &mut String, a: &mut User, other: &mut User) -> Result<(), Refusal> {
     fill(out, a)?;
-    let mut other = list.user(alloc, Uuid::from_u128(A), &[])?;
-    impersonate(out, a, &mut other)?;
+    impersonate(out, a, other)?;
     forget(out, a)
 }
 
 fn story<R: Threads + Sync>(rt: &R, alloc: Global, out: &mut String) -> Result<(), Refusal> {
     let mut list = List::open(alloc)?;
-    let mut a = list.user(alloc, Uuid::from_u128(A), TO_A)?;
-    let mut b = list.user(alloc, Uuid::from_u128(B), TO_B)?;
+    let mut a = list.user(alloc, 0xa, TO_A)?;
+    let mut b = list.user(alloc, 0xb, TO_B)?;
     first_day(rt, out, &mut a, &mut b)?;
-    second_day(alloc, &mut list, out, &mut a)
+    let mut other = list.user(alloc, 0xa, &[])?;
+    second_day(out, &mut a, &mut other)
 }
 
 fn main(rt: HostRuntime) -> io::Result<()> {

@@ -34,10 +34,7 @@ fn add<V: WriteView>(alloc: Global, args: &Value, view: &mut V) -> Result<Ran, S
         (V.contents view.new)) }
     ensures stopped { IfErr result (MayStop V.stops) }
 {
-    let Some(id) = text_in(args, "id") else {
-        return Ok(Ran::Refused(WRONG_ARGUMENTS));
-    };
-    let Some(text) = text_in(args, "text") else {
+    let (Some(id), Some(text)) = (text_in(args, "id"), text_in(args, "text")) else {
         return Ok(Ran::Refused(WRONG_ARGUMENTS));
     };
     let key = key_of(alloc, id)?;
@@ -70,10 +67,7 @@ fn rename<V: WriteView>(alloc: Global, args: &Value, view: &mut V) -> Result<Ran
         (V.contents view.new)) }
     ensures stopped { IfErr result (MayStop V.stops) }
 {
-    let Some(id) = text_in(args, "id") else {
-        return Ok(Ran::Refused(WRONG_ARGUMENTS));
-    };
-    let Some(text) = text_in(args, "text") else {
+    let (Some(id), Some(text)) = (text_in(args, "id"), text_in(args, "text")) else {
         return Ok(Ran::Refused(WRONG_ARGUMENTS));
     };
     let key = key_of(alloc, id)?;
@@ -95,15 +89,11 @@ impl Mutators for Todos {
         view: &mut V,
     ) -> Result<Ran, Stop> {
         let args = args.value(alloc)?;
-        if name == "add" {
-            return add(alloc, &args, view);
+        match name {
+            "add" => add(alloc, &args, view),
+            "toggle" => toggle(alloc, &args, view),
+            "rename" => rename(alloc, &args, view),
+            _ => Ok(Ran::Unknown),
         }
-        if name == "toggle" {
-            return toggle(alloc, &args, view);
-        }
-        if name == "rename" {
-            return rename(alloc, &args, view);
-        }
-        Ok(Ran::Unknown)
     }
 }

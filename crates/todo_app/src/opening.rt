@@ -1,10 +1,10 @@
 //! The group of the list, and its users.
-ghost use Rattle.std.specs.Prelude.{◌≡◌, length, IfErr};
 ghost use Rattle.rebase.specs.Clients.{AreSeatsOf};
 
 use crate::mutators::Todos;
-use crate::user::{Server, TRIES, User};
-use rebase::{Arena, Client, Config, Group, Identity, Refusal, Seats, Text, Uuid};
+use crate::server::Server;
+use crate::user::{TRIES, User};
+use rebase::{Arena, Config, Group, Identity, Refusal, Seats, Uuid};
 use std::alloc::Global;
 
 const SLOTS: u32 = 64;
@@ -19,41 +19,12 @@ pub(crate) struct List {
     ghost home: { AreSeatsOf group.group seats.free },
 }
 
-fn config(alloc: Global) -> Result<Config, Refusal> {
-    let identity = Identity {
-        group: Text::new(alloc, "00000000-0000-4000-8000-000000000001")?,
-        profile: Text::new(alloc, "p1")?,
-        schema: Text::new(alloc, "s1")?,
-    };
-    match Config::new(identity, SLOTS, SEATS) {
-        Ok(config) => Ok(config),
-        Err(_) => unreachable!(),
-    }
-}
-
-/// A client of this ID on the next seat. Where it is refused the seat is given back.
-fn client_of(
-    group: &Group<Todos, Arena<Todos>>,
-    seats: &mut Seats<Todos, Arena<Todos>>,
-    id: Uuid,
-) -> Result<Client<Todos, Arena<Todos>>, Refusal>
-    requires { AreSeatsOf group.now.group seats.old.free }
-    ensures seats { AreSeatsOf group.now.group seats.new.free }
-    ensures kept { IfErr result (λ _. length seats.new.free ≡ length seats.old.free) }
-{
-    let seat = seats.take()?;
-    match group.client(seat, id, TRIES) {
-        Ok(client) => Ok(client),
-        Err((seat, e)) => {
-            seats.back(seat);
-            Err(e)
-        }
-    }
-}
-
 impl List {
     pub(crate) fn open(alloc: Global) -> Result<List, Refusal> {
-        let config = config(alloc)?;
+        let identity = Identity::new(alloc, "00000000-0000-4000-8000-000000000001", "p1", "s1")?;
+        let Ok(config) = Config::new(identity, SLOTS, SEATS) else {
+            unreachable!()
+        };
         let (group, seats) = Group::open(alloc, config, Todos, ())?;
         Ok(List { group, seats })
     }
@@ -62,10 +33,11 @@ impl List {
     pub(crate) fn user(
         &mut self,
         alloc: Global,
-        id: Uuid,
+        id: u128,
         responses: &'static [&'static str],
     ) -> Result<User, Refusal> {
-        let client = client_of(&self.group, &mut self.seats, id)?;
+        let id = Uuid::from_u128(id);
+        let client = self.group.next_client(&mut self.seats, id, TRIES)?;
         User::new(alloc, client, Server::new(responses))
     }
 }

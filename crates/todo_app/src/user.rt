@@ -4,6 +4,7 @@
 ghost use Rattle.std.specs.Prelude.{◌≡◌};
 
 use crate::mutators::Todos;
+use crate::server::Server;
 use rebase::{Arena, Client, Ended, Json, Polled, Refusal, Scan, Start, Text, Watch};
 use std::alloc::Global;
 
@@ -12,31 +13,6 @@ pub(crate) const TRIES: u32 = 1000;
 
 /// How often a user mends what a call was refused for.
 const ATTEMPTS: u32 = 10;
-
-/// A stand-in for the server: its responses, in the order in which they are asked for.
-#[derive(Clone, Copy)]
-pub(crate) struct Server {
-    responses: &'static [&'static str],
-    sent: usize,
-}
-
-impl Server {
-    pub(crate) fn new(responses: &'static [&'static str]) -> Server {
-        Server { responses, sent: 0 }
-    }
-
-    /// Here a program sends the body of a push.
-    fn take(&self, _body: &[u8]) {}
-
-    /// Here a program sends the body of a pull, and waits for the bytes that come back.
-    pub(crate) fn response_to(&mut self, _body: &[u8]) -> &'static [u8] {
-        let Some(response) = self.responses.get(self.sent) else {
-            return b"";
-        };
-        self.sent += 1;
-        response.as_bytes()
-    }
-}
 
 /// A user of the list.
 #[derive(Drop)]

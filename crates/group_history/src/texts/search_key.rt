@@ -27,6 +27,7 @@ impl<'a> Model for SearchKey<'a> {
 }
 
 impl<'a> SearchKey<'a> {
+    /// To be compared with many others.
     pub fn new(text: &'a str) -> SearchKey<'a>
         ensures { result ≡ text.now }
     {
@@ -34,7 +35,7 @@ impl<'a> SearchKey<'a> {
         SearchKey { text, front }
     }
 
-    /// How a text stands to this one.
+    /// How the given text stands to this one, by bytes.
     #[inline]
     pub fn order_of(&self, text: &Text) -> Ordering
         ensures { result ≡ slice_cmp nat_cmp text.now self.now }

@@ -1,9 +1,9 @@
-//! Each word of the language, and each kind of fault. What is expected was worked out by hand from the definitions.
+//! Of rules: each word of the language, and each kind of fault. What is expected was worked out by hand from the definitions.
 ghost use Rattle.std.specs.Prelude.{◌≡◌};
 ghost use Rattle.rule_mutators.specs.Views.{rules_of};
 
-use crate::{Picked, RuleMutators, Rules};
 use group_history::{Json, PlainGroup, Refusal, Text};
+use rule_mutators::{Picked, RuleMutators, Rules};
 use std::alloc::Global;
 use std::marker::Brand;
 use std::prelude::*;

@@ -22,4 +22,4 @@ returns-clause-low g c =
     let here = ap (λ (cs : Contents). version_at cs (stamp_of c.at.inside.commit)) c.nodes-nodes.ensures.nodes
     ∙ ap (λ r. version_at (drawn p.mark.log) (stamp_of r)) commit ∙ is.base in
     subst (λ (n : ℕ). n < 2 ^ 53) (sym (c.in_ok-last_id_since.ensures.id v here))
-    (last_id-small (drawn p.mark.log) p.commit c.args.client.now v is.word is.base is.ids)
+    (last_id-small (drawn p.mark.log) p.commit c.args.client.now v is.low is.base is.ids)

@@ -1,4 +1,29 @@
-//! What the server of the story sends.
+//! A stand-in for the server of the story, and what it sends.
+
+/// A stand-in for the server: its responses, in the order in which they are asked for.
+#[derive(Clone, Copy)]
+pub(crate) struct Server {
+    responses: &'static [&'static str],
+    sent: usize,
+}
+
+impl Server {
+    pub(crate) fn new(responses: &'static [&'static str]) -> Server {
+        Server { responses, sent: 0 }
+    }
+
+    /// Here a program sends the body of a push.
+    pub(crate) fn take(&self, _body: &[u8]) {}
+
+    /// Here a program sends the body of a pull, and waits for the bytes that come back.
+    pub(crate) fn response_to(&mut self, _body: &[u8]) -> &'static [u8] {
+        let Some(response) = self.responses.get(self.sent) else {
+            return b"";
+        };
+        self.sent += 1;
+        response.as_bytes()
+    }
+}
 
 /// To A: an item; what both did, confirmed; a pull that B's overtakes, and the next one; the toggles that are pending,
 /// confirmed; and that it has forgotten the group.
