@@ -1,0 +1,6 @@
+mod Joining
+mod Keeping
+mod Opened
+mod Said
+mod Telling
+mod Watching

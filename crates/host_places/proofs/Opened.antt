@@ -1,0 +1,69 @@
+-- Places of a group that was just opened.
+use Rattle.std.proofs.Common.{◌≡◌, ◌+◌, ℕ, List, [], ◌∷◌, ◌++◌, map, length, refl, sym, ap, ◌∙◌, subst, arith}
+use Rattle.std.specs.Prelude.{⊤, IfSome, Option, Some}
+use Rattle.std.specs.List.{All}
+use Rattle.std.proofs.lemmas.List.{length-append, length-map}
+use Rattle.std.proofs.lemmas.List.Elements.{All-map, All-nil, All-pop, All-push}
+use Rattle.commit_graph.specs.Seats.{IsSeatOf, Seated}
+use Rattle.head_word.specs.Books.{opening, opening_ref}
+use Rattle.rebase.specs.Clients.{AreOpening, AreSeatsOf, Grouped}
+use Rattle.rebase.specs.Configs.{Layout}
+use Rattle.host_places.specs.Opening.{AreOpened, IsNew}
+use Rattle.host_places.specs.Places.{DeskState, PlaceState, free_place}
+
+-- the seat has seen the opening of its book alone
+abbrev pub SawOpening : ℕ → Seated → Type 0
+SawOpening commit seat = seat.mark.log ≡ opening (opening_ref commit)
+
+-- so many of the group's seats have got their places
+pub record Filled (group : Grouped) (total free : List Seated) (desks : List DeskState) : Type 0 where
+  pub home : AreSeatsOf group.group free
+  pub count : length desks + length free ≡ length total
+  pub new : (commit : ℕ) → All (SawOpening commit) total
+      → All (SawOpening commit) free × All (λ d. IsNew group commit d.place) desks
+
+pub none_filled : (group : Grouped) (total : List Seated) (desks : List DeskState) → AreSeatsOf group.group total → desks ≡ []
+    → Filled group total total desks
+none_filled group total desks home empty = record {
+  home = home;
+  count = let none : length desks ≡ 0 = ap length empty in omega (arith, none);
+  new = λ commit all. (all, subst (All (λ d. IsNew group commit d.place)) (sym empty) (All-nil (λ d. IsNew group commit d.place)));
+}
+
+-- one more has got its place
+pub one_more : (group : Grouped) (total free left : List Seated) (seat : Seated) (desk : DeskState)
+    (desks more : List DeskState) → free ≡ left ++ seat ∷ [] → desk.place ≡ free_place group seat → more ≡ desks ++ desk ∷ []
+    → Filled group total free desks → Filled group total left more
+one_more group total free left seat desk desks more taken place pushed was =
+    let home = All-pop (IsSeatOf group.group) free left (Some seat) taken was.home in
+    record {
+      home = home.0;
+      count =
+          let now = ap length pushed ∙ length-append desks (desk ∷ []) in
+          let before = ap length taken ∙ length-append left (seat ∷ []) in
+          omega (arith, now, before, was.count);
+      new = λ commit all.
+          let both = was.new commit all in
+          let seen = All-pop (SawOpening commit) free left (Some seat) taken both.0 in (
+            seen.0,
+            subst (All (λ d. IsNew group commit d.place)) (sym pushed)
+                (All-push (λ d. IsNew group commit d.place) desks desk both.1
+                (record { seat = seat; home = home.1; seen = seen.1; free = place })),
+          );
+    }
+
+-- all have
+pub opened_with : (layout : Layout) (group : Grouped) (free : List Seated) (desks : List DeskState)
+    → group.identity ≡ layout.identity → length free ≡ layout.seats
+    → group.group.table.sizes ≡ record { readers = layout.seats; slots = layout.slots }
+    → AreOpening ⊤ group.group.table.sizes free → length desks ≡ length free
+    → ((commit : ℕ) → All (SawOpening commit) free → All (λ d. IsNew group commit d.place) desks)
+    → AreOpened layout (map (λ d. d.place) desks)
+opened_with layout group free desks identity seats sizes opening count new = record {
+  group = group;
+  commit = opening.commit;
+  identity = identity;
+  sizes = sizes;
+  count = length-map desks (λ d. d.place) ∙ count ∙ seats;
+  all = All-map (IsNew group opening.commit) (λ (d : DeskState). d.place) desks (new opening.commit opening.seen);
+}

@@ -1,0 +1,3 @@
+-- Words that only private clauses of this crate use.
+pub mod Keeping
+pub mod Reading

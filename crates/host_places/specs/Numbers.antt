@@ -1,0 +1,107 @@
+-- How calls are asked for, and what they came to is told, by numbers.
+use Rattle.std.specs.Prelude.{ℕ, ◌≡◌, ◌⊎◌, ◌<◌, Bool, true, false, ℤ, pos, negsuc, length}
+use Rattle.group_history.specs.declared.refusals.Refusal.{Refusal}
+use Rattle.group_history.specs.declared.refusals.Refusal.TheVariants as refusal
+use Rattle.group_history.specs.declared.responses.VersionKind.{VersionKind}
+use Rattle.group_history.specs.declared.responses.VersionKind.TheVariants as kind
+use Rattle.group_history.specs.Map.{Bytes}
+use Rattle.group_history.specs.Meaning.{Meanings}
+use Rattle.host_places.specs.declared.asked.Asked.{Asked}
+use Rattle.host_places.specs.declared.asked.Asked.TheVariants as asked
+use Rattle.host_places.specs.declared.faults.Fault.{Fault}
+use Rattle.host_places.specs.declared.faults.Fault.TheVariants as fault
+use Rattle.host_places.specs.declared.outcomes.Outcome.{Outcome}
+use Rattle.host_places.specs.declared.outcomes.Outcome.TheVariants as outcome
+use Rattle.host_places.specs.Answers.{MayAnswer, Rule, Tells}
+
+-- The numbers of a call: which one it is, then what it is given. What it doesn't use is not looked at.
+abbrev pub IsCall : Asked → ℕ → ℕ → ℕ → Bytes → Bytes → Type 0
+IsCall (asked.Sit id) what m n a b = (what ≡ 0) × (id.now ≡ a)
+IsCall asked.Leave what m n a b = what ≡ 1
+IsCall (asked.Get key) what m n a b = (what ≡ 2) × (key.now ≡ a)
+IsCall (asked.Has key) what m n a b = (what ≡ 3) × (key.now ≡ a)
+IsCall (asked.Scan r) what m n a b = (what ≡ 4) × (r.prefix.now ≡ a) × (r.kind ≡ m) × (r.start.now ≡ b) × (r.limit ≡ n)
+IsCall asked.Pending what m n a b = what ≡ 5
+IsCall asked.Cookie what m n a b = what ≡ 6
+IsCall asked.Closed what m n a b = what ≡ 7
+IsCall asked.Refresh what m n a b = what ≡ 8
+IsCall asked.Push what m n a b = what ≡ 9
+IsCall asked.Begin what m n a b = what ≡ 10
+IsCall (asked.Forget t) what m n a b = (what ≡ 11) × (t ≡ m)
+IsCall (asked.End t body) what m n a b = (what ≡ 12) × (t ≡ m) × (body.now ≡ a)
+IsCall (asked.Mutate g) what m n a b = (what ≡ 13) × (g.name.now ≡ a) × (g.args.now ≡ b) × (g.time ≡ n)
+IsCall (asked.Watch r) what m n a b = (what ≡ 14) × (r.prefix.now ≡ a) × (r.kind ≡ m) × (r.start.now ≡ b) × (r.limit ≡ n)
+IsCall (asked.Poll w) what m n a b = (what ≡ 15) × (w ≡ m)
+
+-- The call of these numbers is answered; a number above 15 is that of no call.
+abbrev pub MayAnswerNumbers : Meanings → ℕ → ℕ → ℕ → Bytes → Bytes → Rule
+MayAnswerNumbers means what m n a b before t after =
+    ((x : Asked) × IsCall x what m n a b × MayAnswer means x before t after)
+    ⊎ ((15 < what) × Tells (outcome.Faulty fault.OutOfRange) before t after)
+
+-- a refusal's number; a mutator's code and the kind of a version are told beside it
+abbrev pub refusal_number : Refusal → ℤ
+refusal_number refusal.NoMemory = negsuc 0
+refusal_number refusal.Moved = negsuc 1
+refusal_number refusal.Busy = negsuc 2
+refusal_number refusal.Gone = negsuc 3
+refusal_number refusal.Full = negsuc 4
+refusal_number refusal.Stamps = negsuc 5
+refusal_number refusal.Stale = negsuc 6
+refusal_number refusal.NoMutator = negsuc 7
+refusal_number (refusal.Refused code) = negsuc 8
+refusal_number refusal.NotJson = negsuc 9
+refusal_number refusal.BadShape = negsuc 10
+refusal_number refusal.NotWhole = negsuc 11
+refusal_number refusal.Overtaken = negsuc 12
+refusal_number refusal.CookieWentBack = negsuc 13
+refusal_number refusal.CookieNotNew = negsuc 14
+refusal_number refusal.IdWentBack = negsuc 15
+refusal_number refusal.StateNotFound = negsuc 16
+refusal_number (refusal.VersionNotSupported kind) = negsuc 17
+refusal_number refusal.NoSeat = negsuc 18
+refusal_number refusal.Closed = negsuc 19
+
+abbrev pub kind_number : VersionKind → ℕ
+kind_number kind.Push = 1
+kind_number kind.Pull = 2
+kind_number kind.Schema = 3
+kind_number kind.Unknown = 0
+
+abbrev pub refusal_code : Refusal → ℕ
+refusal_code (refusal.Refused code) = code
+refusal_code (refusal.VersionNotSupported kind) = kind_number kind
+refusal_code e = 0
+
+abbrev pub fault_number : Fault → ℤ
+fault_number fault.NotUtf8 = negsuc 100
+fault_number fault.BadUuid = negsuc 101
+fault_number fault.OutOfRange = negsuc 102
+fault_number fault.NoTicket = negsuc 103
+fault_number fault.NoWatch = negsuc 104
+fault_number fault.BadRules = negsuc 105
+fault_number fault.InUse = negsuc 106
+fault_number fault.NoClient = negsuc 108
+fault_number fault.NoPlace = negsuc 109
+
+abbrev pub is_number : Bool → ℤ
+is_number true = pos 2
+is_number false = pos 0
+
+-- what a call came to: 0 or above where it was done
+abbrev pub outcome_number : Outcome → ℤ
+outcome_number outcome.Done = pos 0
+outcome_number (outcome.Number n) = pos 0
+outcome_number outcome.Nothing = pos 1
+outcome_number (outcome.Is is) = is_number is
+outcome_number (outcome.Refused e) = refusal_number e
+outcome_number (outcome.Faulty e) = fault_number e
+
+-- the number that it tells, and the code of a refusal
+abbrev pub outcome_value : Outcome → ℕ
+outcome_value (outcome.Number n) = n
+outcome_value other = 0
+
+abbrev pub outcome_code : Outcome → ℕ
+outcome_code (outcome.Refused e) = refusal_code e
+outcome_code other = 0

@@ -1,0 +1,59 @@
+-- What a group is opened with, and its places then.
+use Rattle.std.specs.Prelude.{ℕ, ◌≡◌, ◌⊎◌, List, [], length, Option, Some, None, Result, Ok, Err}
+use Rattle.std.specs.List.{All}
+use Rattle.group_history.specs.declared.refusals.Refusal.TheVariants.{Busy, Full, NoMemory}
+use Rattle.group_history.specs.Map.{Bytes}
+use Rattle.commit_graph.specs.Seats.{IsSeatOf, Seated}
+use Rattle.head_word.specs.Books.{opening, opening_ref}
+use Rattle.push_body.specs.declared.identities.Identity.{Identity}
+use Rattle.rebase.specs.declared.config.OutOfRange.{OutOfRange}
+use Rattle.rebase.specs.Clients.{Grouped}
+use Rattle.rebase.specs.Configs.{Layout, out_of_range}
+use Rattle.uuid.specs.Text.{hyphenated_text, lower}
+use Rattle.host_places.specs.declared.faults.Fault.TheVariants as fault
+use Rattle.host_places.specs.declared.opening.Opening.{Opening}
+use Rattle.host_places.specs.declared.outcomes.Outcome.{Outcome}
+use Rattle.host_places.specs.declared.outcomes.Outcome.TheVariants.{Faulty, Refused}
+use Rattle.host_places.specs.Asking.{◌>>=◌, text_said, uuid_said}
+use Rattle.host_places.specs.Places.{DeskState, PlaceState, free_place}
+
+-- whose requests the group writes: its ID is a UUID, the others are texts
+abbrev pub id_said : Bytes → Result Bytes Outcome
+id_said id = uuid_said id >>= (λ uuid. Ok (hyphenated_text lower uuid))
+
+abbrev pub identity_said : Bytes → Bytes → Bytes → Result Identity Outcome
+identity_said id profile schema =
+    id_said id >>= (λ group. text_said profile >>= (λ p. text_said schema
+    >>= (λ s. Ok (record { group = group; profile = p; schema = s }))))
+
+-- with so many slots and places
+abbrev pub laid_out : Option OutOfRange → Identity → ℕ → ℕ → Result Layout Outcome
+laid_out None identity slots seats = Ok (record { identity = identity; slots = slots; seats = seats })
+laid_out (Some e) identity slots seats = Err (Faulty fault.OutOfRange)
+
+abbrev pub layout_said : Bytes → Bytes → Bytes → ℕ → ℕ → Result Layout Outcome
+layout_said id profile schema slots seats =
+    identity_said id profile schema >>= (λ i. laid_out (out_of_range slots seats) i slots seats)
+
+abbrev pub layout_for : Opening → Result Layout Outcome
+layout_for with_ = layout_said with_.id.now with_.profile.now with_.schema.now with_.slots with_.places
+
+-- A place of a group that was just opened: nobody sits there, and its seat has seen the opening of the group's book alone.
+pub record IsNew (group : Grouped) (commit : ℕ) (p : PlaceState) : Type 0 where
+  pub seat : Seated
+  pub home : IsSeatOf group.group seat
+  pub seen : seat.mark.log ≡ opening (opening_ref commit)
+  pub free : p ≡ free_place group seat
+
+-- the places of a group that was just opened with this layout
+pub record AreOpened (layout : Layout) (places : List PlaceState) : Type 0 where
+  pub group : Grouped
+  pub commit : ℕ
+  pub identity : group.identity ≡ layout.identity
+  pub sizes : group.group.table.sizes ≡ record { readers = layout.seats; slots = layout.slots }
+  pub count : length places ≡ layout.seats
+  pub all : All (IsNew group commit) places
+
+-- a refusal for want of something
+abbrev pub IsWant : Outcome → Type 0
+IsWant e = (e ≡ Refused NoMemory) ⊎ (e ≡ Refused Busy) ⊎ (e ≡ Refused Full)

@@ -1,0 +1,122 @@
+//! A group that is opened, and its places.
+ghost use Rattle.std.specs.Prelude.{◌≡◌, ◌⊎◌, ℕ, Err, IfErr, IfOk, Ok, length, map};
+ghost use Rattle.std.specs.List.{All};
+ghost use Rattle.head_word.specs.Books.{opening, opening_ref};
+ghost use Rattle.std.specs.Arc.{arc_value};
+ghost use Rattle.commit_graph.specs.Seats.{IsSeatOf};
+ghost use Rattle.rebase.specs.Clients.{AreSeatsOf};
+ghost use Rattle.rebase.specs.Configs.{Layout};
+ghost use Rattle.host_places.specs.Asking.{IsSaid};
+ghost use Rattle.host_places.specs.Opening.{AreOpened, IsNew, IsWant, id_said, identity_said, layout_for};
+ghost use Rattle.host_places.specs.Places.{free_place};
+
+use crate::desk::Desk;
+use crate::faults::Fault;
+use crate::outcomes::Outcome;
+use crate::place::Place;
+use crate::texts::{text_of, uuid_of};
+use group_history::{Mutators, Refusal, Text};
+use rebase::{Arena, Config, Group, Identity, Seat, Seats, Uuid};
+use std::alloc::{AllocError, Global};
+use std::sync::Arc;
+
+/// What a group is opened with: its ID, a UUID; two texts, which its requests have; how many slots and places it has.
+#[derive(Clone, Copy)]
+pub struct Opening<'a> {
+    pub id: &'a [u8],
+    pub profile: &'a [u8],
+    pub schema: &'a [u8],
+    pub slots: u32,
+    pub places: u32,
+}
+
+fn id_text(alloc: Global, id: &[u8]) -> Result<Text, Outcome>
+    ensures { IsSaid result (id_said id.now) }
+{
+    let id = uuid_of(id)?;
+    let mut buffer = Uuid::encode_buffer();
+    match Text::new(alloc, id.hyphenated().encode_lower(&mut buffer)) {
+        Ok(text) => Ok(text),
+        Err(_) => Err(Outcome::Refused(Refusal::NoMemory)),
+    }
+}
+
+fn identity_of(alloc: Global, with: Opening<'_>) -> Result<Identity, Outcome>
+    ensures { IsSaid result (identity_said with.entry.id.now with.entry.profile.now with.entry.schema.now) }
+{
+    let group = id_text(alloc, with.id)?;
+    let profile = text_of(alloc, with.profile)?;
+    let schema = text_of(alloc, with.schema)?;
+    Ok(Identity {
+        group,
+        profile,
+        schema,
+    })
+}
+
+fn config_of(alloc: Global, with: Opening<'_>) -> Result<Config, Outcome>
+    ensures { IsSaid result (layout_for with.entry) }
+{
+    let identity = identity_of(alloc, with)?;
+    match Config::new(identity, with.slots, with.places) {
+        Ok(config) => Ok(config),
+        Err(_) => Err(Outcome::Faulty(Fault::OutOfRange)),
+    }
+}
+
+// A place with this seat.
+fn desk_at<M: Mutators + Drop>(
+    alloc: Global,
+    group: &Arc<Group<M, Arena<M>>, Global>,
+    seat: Seat<M, Arena<M>>,
+) -> Result<Desk<M>, AllocError>
+    requires { IsSeatOf (arc_value group.now).group seat }
+    ensures { IfOk result (λ desk. desk.place ≡ free_place (arc_value group.now) seat) }
+{
+    let group = Arc::try_clone(group)?;
+    Ok(Desk::new(alloc, Place::new(alloc, group, seat)))
+}
+
+// A place for each seat, the last one first.
+fn desks_at<M: Mutators + Drop>(
+    alloc: Global,
+    group: Group<M, Arena<M>>,
+    seats: Seats<M, Arena<M>>,
+) -> Result<Vec<Desk<M>>, AllocError>
+    requires { AreSeatsOf group.group seats.free }
+    ensures count { IfOk result (λ desks. length desks.items ≡ length seats.free) }
+    ensures new { (commit : ℕ) → All (λ seat. seat.mark.log ≡ opening (opening_ref commit)) seats.free
+        → IfOk result (λ desks. All (λ d. IsNew group commit d.place) desks.items) }
+{
+    let group = Arc::new(alloc, group)?;
+    let mut seats = seats;
+    let mut desks = Vec::new(alloc);
+    while let Ok(seat) = seats.take() {
+        desks.push(desk_at(alloc, &group, seat)?)?;
+    }
+    Ok(desks)
+}
+
+/// Opens a group, and answers its places. Refused where an argument says nothing, and for want of memory; `Busy` and
+/// `Full` do not come.
+pub fn open_places<M: Mutators + Drop>(
+    alloc: Global,
+    with: Opening<'_>,
+    mutators: M,
+) -> Result<Vec<Desk<M>>, Outcome>
+    ensures opened { IfOk result (λ desks. (layout : Layout)
+        × (layout_for with.entry ≡ Ok layout)
+        × AreOpened layout (map (λ d. d.place) desks.items)) }
+    ensures err { IfErr result (λ e. IsWant e
+        ⊎ (layout_for with.entry ≡ Err e)) }
+{
+    let config = config_of(alloc, with)?;
+    let opened = Group::open(alloc, config, mutators, ());
+    match opened {
+        Ok((group, seats)) => match desks_at(alloc, group, seats) {
+            Ok(desks) => Ok(desks),
+            Err(_) => Err(Outcome::Refused(Refusal::NoMemory)),
+        },
+        Err(refusal) => Err(Outcome::Refused(refusal)),
+    }
+}

@@ -1,0 +1,165 @@
+/* Calls with any numbers and bytes, at places that are open, empty or closed: each is answered as the header says.
+ *
+ *     anything CALLS SEED [REFUSED]
+ *
+ * One allocation in REFUSED is refused, at random; without it none is. The program is linked with --wrap=malloc and
+ * --wrap=realloc, so that the library calls the functions below. */
+#include "giqaymu.h"
+
+#include <stdio.h>
+#include <stdlib.h>
+
+/* Places; pieces, and which of them are names of mutators, arguments, IDs, responses and rules; the room for one. */
+enum { PLACES = 3, NAMES = 3, ARGS = 8, IDS = 12, RESPONSES = 15, RULES = 21, PIECES = 24, ROOM = 512 };
+
+/* What calls are given, whole or damaged. */
+static const char *const pieces[PIECES] = {
+    "",
+    "n",
+    "todo/x",
+    "incr",
+    "set",
+    "append",
+    "add",
+    "fly",
+    "[\"n\",1]",
+    "[\"t\",\"x\"]",
+    "[0.5]",
+    "{\"id\":\"x\",\"text\":\"milk\"}",
+    "00000000-0000-4000-8000-00000000000a",
+    "00000000-0000-4000-8000-00000000000b",
+    "{00000000-0000-4000-8000-00000000000C}",
+    "{\"cookie\":1,\"lastMutationIDChanges\":{},\"patch\":[{\"op\":\"put\",\"key\":\"n\",\"value\":5}]}",
+    "{\"cookie\":2,\"lastMutationIDChanges\":{},\"patch\":[{\"op\":\"clear\"}]}",
+    "{\"cookie\":{\"order\":\"3\"},\"lastMutationIDChanges\":{},\"patch\":[{\"op\":\"del\",\"key\":\"n\"}]}",
+    "{\"cookie\":null,\"lastMutationIDChanges\":{},\"patch\":[]}",
+    "{\"cookie\":9,\"lastMutationIDChanges\":{\"00000000-0000-4000-8000-00000000000a\":7},\"patch\":[]}",
+    "{\"error\":\"VersionNotSupported\",\"versionType\":\"pull\"}",
+    "{\"add\":[[\"put\",[\"cat\",\"todo/\",[\"arg\",\"id\"]],[\"arg\",\"text\"]]]}",
+    "{\"fly\":[[\"need\",[\"has\",\"n\"],77]]}",
+    "\xc3\xa9\xff"};
+
+static uint64_t state, refused;
+
+/* A number that looks random, below the limit. */
+static uint64_t below(uint64_t limit) {
+    state = state * 6364136223846793005 + 1442695040888963407;
+    return (state >> 33) % limit;
+}
+
+void *__real_malloc(size_t size);
+void *__real_realloc(void *old, size_t size);
+void *__wrap_malloc(size_t size);
+void *__wrap_realloc(void *old, size_t size);
+
+static int refuses(void) { return refused != 0 && below(refused) == 0; }
+
+void *__wrap_malloc(size_t size) { return refuses() ? NULL : __real_malloc(size); }
+
+void *__wrap_realloc(void *old, size_t size) { return refuses() ? NULL : __real_realloc(old, size); }
+
+static void fail(const char *what, long number) {
+    fprintf(stderr, "%s: %ld\n", what, number);
+    exit(EXIT_FAILURE);
+}
+
+/* A piece from one number up to another, now and then any piece, with another byte in it, or cut. */
+static giq_bytes given(uint8_t *room, int from, int to) {
+    const char *piece = below(6) == 0 ? pieces[below(PIECES)] : pieces[from + (int)below((uint64_t)(to - from))];
+    giq_bytes bytes;
+    bytes.at = room;
+    bytes.len = strlen(piece);
+    memcpy(room, piece, bytes.len);
+    if (bytes.len > 0 && below(6) == 0) room[below(bytes.len)] = (uint8_t)below(256);
+    if (bytes.len > 0 && below(6) == 0) bytes.len = (size_t)below(bytes.len);
+    return bytes;
+}
+
+/* What fits the first byte string of a call. */
+static giq_bytes fitting(uint8_t *room, uint32_t what) {
+    switch (what) {
+    case GIQ_CALL_SIT:
+        return given(room, IDS, RESPONSES);
+    case GIQ_CALL_END_PULL:
+        return given(room, RESPONSES, RULES);
+    case GIQ_CALL_MUTATE:
+        return given(room, NAMES, ARGS);
+    default:
+        return given(room, 0, NAMES);
+    }
+}
+
+/* A number that a call may take for that of a ticket, a kind or a limit. */
+static uint64_t number(void) {
+    static const uint64_t odd[] = {UINT32_MAX, UINT64_MAX, UINT64_MAX - 1, INT64_MAX};
+    return below(5) == 0 ? odd[below(4)] : below(5);
+}
+
+/* What a call returned and answered is what it may. */
+static void check(int32_t returned, const giq_answer *answer) {
+    static volatile uint8_t read;
+    size_t i;
+    const int has_code = returned == GIQ_REFUSED || returned == GIQ_VERSION_NOT_SUPPORTED;
+    if (returned > GIQ_YES || (returned < GIQ_CLOSED && returned > GIQ_NOT_UTF8) || returned < GIQ_NO_PLACE) {
+        fail("returned", returned);
+    }
+    if (returned == GIQ_NO_MEMORY && refused == 0) fail("no memory", returned);
+    if (returned < 0 && (answer->bytes.len != 0 || answer->number != 0)) fail("told", returned);
+    if (answer->code != 0 && !has_code) fail("code", (long)answer->code);
+    for (i = 0; i < answer->bytes.len; i++) read = answer->bytes.at[i];
+    (void)read;
+}
+
+/* Closes all places, opens a group there, and lets clients sit down. */
+static void open_any(giq_place *places) {
+    static uint8_t rooms[4][ROOM];
+    giq_opening opening;
+    giq_answer answer;
+    int32_t returned;
+    int i;
+    for (i = 0; i < PLACES; i++) giq_close(&places[i]);
+    opening.group = given(rooms[0], IDS, RESPONSES);
+    opening.profile = given(rooms[1], 0, NAMES);
+    opening.schema = given(rooms[2], 0, NAMES);
+    opening.rules = given(rooms[3], RULES, PIECES - 1);
+    opening.slots = below(4) == 0 ? (uint32_t)number() % GIQ_MAX_PLACES : 16 + (uint32_t)below(64);
+    returned = giq_open_places(&opening, places, PLACES);
+    for (i = 0; i < PLACES; i++) {
+        if ((places[i].is_open != 0) != (returned == GIQ_OK)) fail("open", returned);
+        (void)giq_sit(&places[i], giq_text(pieces[IDS + i]), &answer);
+    }
+}
+
+/* Makes a call; whether it was done. */
+static int call_any(giq_place *place) {
+    static uint8_t rooms[2][ROOM];
+    uint32_t what = below(50) == 0 ? (uint32_t)number() : (uint32_t)below(GIQ_CALL_POLL + 2);
+    uint32_t m = (uint32_t)number();
+    giq_answer answer;
+    int32_t returned;
+    if (what <= GIQ_CALL_LEAVE && below(10) != 0) what = GIQ_CALL_MUTATE;
+    memset(&answer, 255, sizeof answer);
+    returned = giq_ask(place, (enum giq_what)what, m, number(), fitting(rooms[0], what), given(rooms[1], ARGS, IDS),
+                       &answer);
+    check(returned, &answer);
+    return returned >= 0;
+}
+
+int main(int argc, char **argv) {
+    giq_place places[PLACES];
+    long calls = argc > 2 ? strtol(argv[1], NULL, 10) : 0, done = 0, i;
+
+    if (calls <= 0) fail("anything CALLS SEED [REFUSED]", calls);
+    state = strtoull(argv[2], NULL, 10);
+    refused = argc > 3 ? strtoull(argv[3], NULL, 10) : 0;
+    printf("seed %llu\n", (unsigned long long)state);
+    memset(places, 0, sizeof places);
+    for (i = 0; i < calls; i++) {
+        if (i % 200 == 0) open_any(places);
+        done += call_any(&places[below(PLACES)]);
+        if (below(500) == 0) giq_close(&places[below(PLACES)]);
+    }
+    for (i = 0; i < PLACES; i++) giq_close(&places[i]);
+    printf("%ld calls, %ld done\n", calls, done);
+    return EXIT_SUCCESS;
+}

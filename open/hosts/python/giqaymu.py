@@ -1,0 +1,403 @@
+"""The client half of Replicache for one client group, over the library that `hosts/build` makes.
+
+A group is opened with so many places. A client sits down at a place, makes its calls and leaves; then another one may
+sit there. Places of one group are used by threads at the same time; no call waits for another place, starts a thread
+or opens a socket. The program carries the bodies of requests and responses:
+
+    group = Group(GROUP, profile="p1", schema="s1", rules=RULES, places=2)
+    anna, bert = group.places
+    anna.sit(ANNA)
+    anna.mutate("add", {"id": "x", "text": "milk"})
+    post("/push", anna.push())
+    ticket = anna.begin_pull()
+    anna.end_pull(ticket, post("/pull", ticket.body))
+    anna.get("todo/x")
+
+The library is `hosts/out/libgiqaymu.so`, or the file that the variable GIQAYMU_LIBRARY names.
+"""
+
+from __future__ import annotations
+
+import contextlib
+import ctypes
+import enum
+import functools
+import json
+import os
+import threading
+import time
+import weakref
+from dataclasses import dataclass
+from pathlib import Path
+from types import TracebackType
+from typing import Any, NamedTuple
+
+__all__ = ["Ended", "Group", "Pending", "Place", "Refusal", "Row", "STACK", "Ticket", "Version", "Watch", "Why"]
+
+STACK = 262144
+"""How many bytes of stack were enough for each call that was tried. That is measured, not proved."""
+
+Json = Any
+"""None, bool, int, str, or a list or dict of such: what `json` reads and writes."""
+
+
+class Why(enum.IntEnum):
+    """Why a call was refused; the numbers of `giqaymu.h`, which says what to do about each."""
+
+    NO_MEMORY = -1
+    MOVED = -2
+    BUSY = -3
+    GONE = -4
+    FULL = -5
+    STAMPS = -6
+    STALE = -7
+    NO_MUTATOR = -8
+    REFUSED = -9
+    NOT_JSON = -10
+    BAD_SHAPE = -11
+    NOT_WHOLE = -12
+    OVERTAKEN = -13
+    COOKIE_WENT_BACK = -14
+    COOKIE_NOT_NEW = -15
+    ID_WENT_BACK = -16
+    STATE_NOT_FOUND = -17
+    VERSION_NOT_SUPPORTED = -18
+    NO_SEAT = -19
+    CLOSED = -20
+    NOT_UTF8 = -101
+    BAD_UUID = -102
+    OUT_OF_RANGE = -103
+    NO_TICKET = -104
+    NO_WATCH = -105
+    BAD_RULES = -106
+    IN_USE = -107
+    NO_CLIENT = -109
+    NO_PLACE = -110
+
+
+class Version(enum.IntEnum):
+    """Which version a server does not support: the code of `Why.VERSION_NOT_SUPPORTED`."""
+
+    UNKNOWN = 0
+    PUSH = 1
+    PULL = 2
+    SCHEMA = 3
+
+
+class Refusal(Exception):
+    """A call was refused. Nothing was changed, but that `Why.STATE_NOT_FOUND` closes the group.
+
+    `code` is that of the mutator where `why` is `Why.REFUSED`, and a `Version` where it is `Why.VERSION_NOT_SUPPORTED`.
+    """
+
+    def __init__(self, why: Why, code: int = 0) -> None:
+        super().__init__(why, code)
+        self.why = why
+        self.code = code
+
+    def __str__(self) -> str:
+        return f"{self.why.name} {self.code}" if self.code else self.why.name
+
+
+class Ended(enum.Enum):
+    """How a pull ended."""
+
+    APPLIED = 0
+    """What the server confirmed is pending no more, and the rest was run again on the server's map."""
+    SAME = 1
+    """The response brought nothing."""
+
+
+class Row(NamedTuple):
+    """A key and its value."""
+
+    key: str
+    value: Json
+
+
+class Pending(NamedTuple):
+    """A pending mutation."""
+
+    client: str
+    id: int
+    name: str
+
+
+@dataclass(frozen=True)
+class Ticket:
+    """A pull that a client began, and the body of its request."""
+
+    body: bytes
+    _number: int
+    _client: object
+
+
+@dataclass(frozen=True)
+class Watch:
+    """A watch of rows, which its client polls until it leaves."""
+
+    _number: int
+    _client: object
+
+
+class _What(enum.IntEnum):
+    """Which call is made: `enum giq_what`."""
+
+    SIT = 0
+    LEAVE = 1
+    GET = 2
+    HAS = 3
+    SCAN = 4
+    PENDING = 5
+    COOKIE = 6
+    CLOSED = 7
+    REFRESH = 8
+    PUSH = 9
+    BEGIN_PULL = 10
+    FORGET_TICKET = 11
+    END_PULL = 12
+    MUTATE = 13
+    WATCH = 14
+    POLL = 15
+
+
+_NONE, _YES = 1, 2
+_ANY, _AT, _AFTER = 0, 1, 2
+_MAX = 2**64 - 1
+
+
+class _Handle(ctypes.Structure):
+    """`giq_place`."""
+
+    _fields_ = [("at", ctypes.c_void_p), ("is_open", ctypes.c_uint64)]
+
+
+class _Answer(ctypes.Structure):
+    """`giq_answer`."""
+
+    _fields_ = [
+        ("at", ctypes.c_void_p),
+        ("len", ctypes.c_size_t),
+        ("number", ctypes.c_uint64),
+        ("code", ctypes.c_uint32),
+    ]
+
+
+class _Told(NamedTuple):
+    """What a call told; `returned` is 0 or above."""
+
+    returned: int
+    bytes: bytes
+    number: int
+
+
+@functools.cache
+def _library() -> ctypes.CDLL:
+    built = Path(__file__).resolve().parent.parent / "out" / "libgiqaymu.so"
+    library = ctypes.CDLL(os.environ.get("GIQAYMU_LIBRARY", str(built)))
+    text = [ctypes.c_char_p, ctypes.c_size_t]
+    place, u32, u64 = ctypes.POINTER(_Handle), ctypes.c_uint32, ctypes.c_uint64
+    library.giq_open.argtypes = [*text, *text, *text, *text, u32, place, ctypes.c_size_t]
+    library.giq_open.restype = ctypes.c_int32
+    library.giq_call.argtypes = [place, u32, u32, u64, *text, *text, ctypes.POINTER(_Answer)]
+    library.giq_call.restype = ctypes.c_int32
+    library.giq_close.argtypes = [place]
+    library.giq_close.restype = None
+    return library
+
+
+def _done(returned: int, code: int = 0) -> None:
+    """Raises a refusal where a call was refused."""
+    if returned < 0:
+        raise Refusal(Why(returned), code)
+
+
+def _json_bytes(value: Json) -> bytes:
+    return json.dumps(value, ensure_ascii=False, allow_nan=False, separators=(",", ":")).encode()
+
+
+def _within(name: str, number: int, most: int) -> int:
+    """The number; ctypes would cut one that does not fit."""
+    if not 0 <= number <= most:
+        raise ValueError(f"{name} is not from 0 to {most}: {number}")
+    return number
+
+
+class Place:
+    """A place at a group, at which a client sits down, makes its calls and leaves.
+
+    Each call may raise a `Refusal`. A place that two threads use at once lets one of them wait for the other. After
+    `close` each call is refused with `Why.NO_PLACE`.
+    """
+
+    def __init__(self, handle: _Handle) -> None:
+        """For `Group` alone, which opened the handle."""
+        self._handle = handle
+        self._answer = _Answer()
+        self._lock = threading.Lock()
+        # The client that sat down last: its tickets and watches bear it, so that those of another client are told
+        # apart.
+        self._client = object()
+        self._finish = weakref.finalize(self, _library().giq_close, handle)
+
+    def _call(self, what: _What, m: int = 0, n: int = 0, a: bytes = b"", b: bytes = b"") -> _Told:
+        with self._lock:
+            returned = _library().giq_call(self._handle, what, m, n, a, len(a), b, len(b), self._answer)
+            _done(returned, self._answer.code)
+            told = ctypes.string_at(self._answer.at, self._answer.len) if self._answer.len else b""
+            return _Told(returned, told, self._answer.number)
+
+    def close(self) -> None:
+        """Closes the place, with the client that sits there; what the client made stays pending in the group."""
+        with self._lock:
+            self._finish()
+
+    def sit(self, client: str) -> None:
+        """A client of this ID, a UUID, sits down."""
+        self._call(_What.SIT, a=client.encode())
+        self._client = object()
+
+    def leave(self) -> None:
+        """The client leaves; its tickets and watches are given up, and what it made stays pending."""
+        self._call(_What.LEAVE)
+
+    def get(self, key: str, default: Json = None) -> Json:
+        """The value at the key, or the default where there is none."""
+        told = self._call(_What.GET, a=key.encode())
+        return default if told.returned == _NONE else json.loads(told.bytes)
+
+    def has(self, key: str) -> bool:
+        """Whether the key is there."""
+        return self._call(_What.HAS, a=key.encode()).returned == _YES
+
+    def _scan(self, what: _What, prefix: str, at: str | None, after: str | None, limit: int | None) -> _Told:
+        if at is not None and after is not None:
+            raise ValueError("a scan begins at a key or after one")
+        kind, start = (_AT, at) if at is not None else (_AFTER, after) if after is not None else (_ANY, "")
+        most = _MAX if limit is None else _within("limit", limit, _MAX - 1)
+        return self._call(what, kind, most, prefix.encode(), start.encode())
+
+    def scan(
+        self, prefix: str = "", *, at: str | None = None, after: str | None = None, limit: int | None = None
+    ) -> list[Row]:
+        """The rows whose keys begin with the prefix, in the order of their keys' bytes.
+
+        They begin at the key `at`, or after the key `after`; there are `limit` at the most.
+        """
+        return _rows(self._scan(_What.SCAN, prefix, at, after, limit).bytes)
+
+    def pending(self) -> list[Pending]:
+        """The pending mutations of the group, whichever client made them, the oldest first."""
+        return [Pending(*one) for one in json.loads(self._call(_What.PENDING).bytes)]
+
+    def cookie(self) -> Json:
+        """The group's cookie; None before the first pull was applied."""
+        return json.loads(self._call(_What.COOKIE).bytes)
+
+    def closed(self) -> bool:
+        """Whether the group is closed, since the server does not know it."""
+        return self._call(_What.CLOSED).returned == _YES
+
+    def refresh(self) -> int:
+        """Finds the client's last id in the group: the remedy for `Why.STALE`."""
+        return self._call(_What.REFRESH).number
+
+    def mutate(self, name: str, args: Json, timestamp: int | None = None) -> int:
+        """Runs a mutator on the map, and answers the mutation's id; queries show it at once.
+
+        The timestamp is in milliseconds since 1970; without one it is now.
+        """
+        now = time.time_ns() // 1_000_000 if timestamp is None else _within("timestamp", timestamp, _MAX)
+        return self._call(_What.MUTATE, n=now, a=name.encode(), b=_json_bytes(args)).number
+
+    def push(self) -> bytes:
+        """The body of a push of all that is pending in the group (version 1), also where nothing is.
+
+        The answer of the push endpoint is not read by the library.
+        """
+        return self._call(_What.PUSH).bytes
+
+    def begin_pull(self) -> Ticket:
+        """Begins a pull: the ticket has the body of its request (version 1). Many pulls may be under way."""
+        told = self._call(_What.BEGIN_PULL)
+        return Ticket(told.bytes, told.number, self._client)
+
+    def _number_of(self, ticket: Ticket) -> int:
+        if ticket._client is not self._client:
+            raise Refusal(Why.NO_TICKET)
+        return ticket._number
+
+    def forget(self, ticket: Ticket) -> None:
+        """Gives up a pull to which no response came. Refused with `Why.NO_TICKET` where another client began it."""
+        self._call(_What.FORGET_TICKET, self._number_of(ticket))
+
+    def end_pull(self, ticket: Ticket, response: bytes) -> Ended:
+        """Ends a pull with the response's body; its ticket is given up, whatever comes.
+
+        Refused with `Why.NO_TICKET` where another client began the pull, or it has ended.
+        """
+        number = self._number_of(ticket)
+        try:
+            return Ended(self._call(_What.END_PULL, number, a=response).returned)
+        finally:
+            with contextlib.suppress(Refusal):
+                self.forget(ticket)
+
+    def watch(
+        self, prefix: str = "", *, at: str | None = None, after: str | None = None, limit: int | None = None
+    ) -> Watch:
+        """Watches the rows that `scan` has for the same arguments. Nothing is read."""
+        return Watch(self._scan(_What.WATCH, prefix, at, after, limit).number, self._client)
+
+    def poll(self, watch: Watch) -> list[Row] | None:
+        """The rows of a watch the first time, and whenever they differ from those told last; else None.
+
+        Refused with `Why.NO_WATCH` where the watch is another client's.
+        """
+        if watch._client is not self._client:
+            raise Refusal(Why.NO_WATCH)
+        told = self._call(_What.POLL, watch._number)
+        return None if told.returned == _NONE else _rows(told.bytes)
+
+
+def _rows(text: bytes) -> list[Row]:
+    return [Row(*row) for row in json.loads(text)]
+
+
+class Group:
+    """A client group that lives in memory and starts empty, and its places.
+
+    It is opened with its ID, a UUID, the profile ID and the schema version of its requests, its mutators as data
+    (`docs/RULES.md`; without them it has the mutators of scripts alone), 16 to 16,777,216 slots of some 80 bytes
+    each, and 1 to 256 places. A group never grows: `docs/USING.md` says how many slots to ask for.
+    """
+
+    def __init__(
+        self,
+        group: str,
+        *,
+        profile: str,
+        schema: str,
+        rules: dict[str, Json] | None = None,
+        slots: int = 4096,
+        places: int = 1,
+    ) -> None:
+        texts = [group.encode(), profile.encode(), schema.encode(), b"" if rules is None else _json_bytes(rules)]
+        given = [word for text in texts for word in (text, len(text))]
+        handles = (_Handle * _within("places", places, 2**16))()
+        _done(_library().giq_open(*given, _within("slots", slots, 2**32 - 1), handles, places))
+        self.places = [Place(handle) for handle in handles]
+        """The places; the group is freed with the last of them."""
+
+    def close(self) -> None:
+        """Closes all places."""
+        for place in self.places:
+            place.close()
+
+    def __enter__(self) -> Group:
+        return self
+
+    def __exit__(
+        self, kind: type[BaseException] | None, error: BaseException | None, trace: TracebackType | None
+    ) -> None:
+        self.close()

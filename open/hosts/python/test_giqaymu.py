@@ -1,0 +1,238 @@
+"""Each call of the wrapper, the refusals that a call can be brought to, and threads: `python3 -m unittest`."""
+
+from __future__ import annotations
+
+import gc
+import json
+import re
+import threading
+import unittest
+from pathlib import Path
+
+import giqaymu
+from giqaymu import Ended, Group, Json, Place, Refusal, Version, Why
+
+ID = "00000000-0000-4000-8000-000000000001"
+ANNA = "00000000-0000-4000-8000-00000000000a"
+BERT = "00000000-0000-4000-8000-00000000000b"
+RULES = {"need": [["need", ["has", ["arg", 0]], 77]]}
+
+
+def seated(slots: int = 1024) -> tuple[Place, Place]:
+    """Two places of a group, and a client at each."""
+    group = Group(ID, profile="p1", schema="s1", rules=RULES, slots=slots, places=2)
+    anna, bert = group.places
+    anna.sit(ANNA)
+    bert.sit(BERT)
+    return anna, bert
+
+
+def put(key: str, value: Json) -> dict[str, Json]:
+    """An operation of a patch."""
+    return {"op": "put", "key": key, "value": value}
+
+
+def response(cookie: Json, *patch: dict[str, Json], **ids: int) -> bytes:
+    """The body of a response that confirms these ids of anna and bert."""
+    changes = {{"anna": ANNA, "bert": BERT}[name]: last for name, last in ids.items()}
+    return json.dumps({"cookie": cookie, "lastMutationIDChanges": changes, "patch": patch}).encode()
+
+
+def pull(place: Place, body: bytes) -> Ended:
+    """A pull whose response is this one."""
+    return place.end_pull(place.begin_pull(), body)
+
+
+class Calls(unittest.TestCase):
+    """Each call."""
+
+    def refused(self, why: Why, call, *args: Json, code: int = 0, **words: Json) -> None:
+        """The call is refused so."""
+        with self.assertRaises(Refusal) as told:
+            call(*args, **words)
+        self.assertEqual((told.exception.why, told.exception.code), (why, code))
+
+    def test_queries(self) -> None:
+        anna, bert = seated()
+        self.assertIsNone(anna.cookie())
+        body = response({"order": 1}, put("a/1", 1), put("a/2", "é"), put("b", None))
+        self.assertIs(pull(anna, body), Ended.APPLIED)
+        self.assertEqual(bert.cookie(), {"order": 1})
+        self.assertEqual(bert.get("a/2"), "é")
+        self.assertEqual((bert.get("a"), bert.get("a", 7), bert.get("b", 7)), (None, 7, None))
+        self.assertEqual((bert.has("b"), bert.has(""), bert.closed()), (True, False, False))
+        rows = [("a/1", 1), ("a/2", "é"), ("b", None)]
+        self.assertEqual(bert.scan(), rows)
+        self.assertEqual(bert.scan("a/"), rows[:2])
+        self.assertEqual(bert.scan(at="a/2"), rows[1:])
+        self.assertEqual(bert.scan(after="a/1", limit=1), rows[1:2])
+        self.assertEqual(bert.scan(limit=0), [])
+        self.assertEqual(bert.scan()[1].value, "é")
+        for words in ({"at": "a", "after": "b"}, {"limit": -1}, {"limit": 2**64 - 1}):
+            with self.assertRaises(ValueError):
+                bert.scan(**words)
+
+    def test_changes(self) -> None:
+        anna, bert = seated()
+        self.assertEqual(anna.mutate("set", ["n", 1], 5), 1)
+        self.assertEqual(bert.mutate("incr", ["n", 2], 6), 1)
+        self.assertEqual(anna.mutate("append", ["t", "x"]), 2)
+        self.assertEqual(anna.get("n"), 3)
+        self.assertEqual(bert.pending(), [(ANNA, 1, "set"), (BERT, 1, "incr"), (ANNA, 2, "append")])
+        body = json.loads(bert.push())
+        self.assertEqual([(m["clientID"], m["id"], m["args"]) for m in body["mutations"]],
+                         [(ANNA, 1, ["n", 1]), (BERT, 1, ["n", 2]), (ANNA, 2, ["t", "x"])])
+        self.assertEqual([m["timestamp"] for m in body["mutations"]][:2], [5, 6])
+        self.assertIs(pull(bert, response(1, put("n", 30), anna=1, bert=1)), Ended.APPLIED)
+        self.assertIs(pull(bert, response(1)), Ended.SAME)
+        self.assertEqual(anna.pending(), [(ANNA, 2, "append")])
+        self.assertEqual(anna.scan(), [("n", 30), ("t", "x")])
+        self.assertEqual(anna.refresh(), 2)
+
+    def test_watches(self) -> None:
+        anna, bert = seated()
+        everything, others = anna.watch(), anna.watch("b")
+        self.assertEqual((anna.poll(everything), anna.poll(others)), ([], []))
+        bert.mutate("set", ["a", 1])
+        self.assertEqual(anna.poll(everything), [("a", 1)])
+        self.assertEqual((anna.poll(everything), anna.poll(others)), (None, None))
+        of_bert = bert.watch("a")
+        self.refused(Why.NO_WATCH, bert.poll, everything)
+        self.refused(Why.NO_WATCH, anna.poll, of_bert)
+        self.assertEqual(bert.poll(of_bert), [("a", 1)])
+
+    def test_refused_mutations(self) -> None:
+        anna, bert = seated()
+        self.refused(Why.NO_MUTATOR, anna.mutate, "nothing", [])
+        self.refused(Why.REFUSED, anna.mutate, "need", ["a"], code=77)
+        self.refused(Why.NOT_WHOLE, anna.mutate, "set", [0.5])
+        deep: Json = 1
+        for _ in range(125):
+            deep = [deep]
+        self.refused(Why.NOT_JSON, anna.mutate, "set", deep)
+        bert.leave()
+        bert.sit(ANNA)
+        bert.mutate("set", ["a", 1])
+        self.refused(Why.STALE, anna.mutate, "set", ["a", 2])
+        self.assertEqual((anna.refresh(), anna.mutate("set", ["a", 2])), (1, 2))
+        with self.assertRaises(ValueError):
+            anna.mutate("set", ["a", float("nan")])
+        with self.assertRaises(ValueError):
+            anna.mutate("set", ["a", 1], -1)
+
+    def test_full(self) -> None:
+        anna, _ = seated(16)
+        for number in range(1, 6):
+            self.assertEqual(anna.mutate("set", ["a", number]), number)
+        self.refused(Why.FULL, anna.mutate, "set", ["a", 6])
+
+    def test_refused_pulls(self) -> None:
+        anna, bert = seated()
+        late = bert.begin_pull()
+        pull(anna, response(5, put("n", 0), anna=3))
+        self.refused(Why.OVERTAKEN, bert.end_pull, late, response(6, put("n", 1)))
+        self.refused(Why.NOT_JSON, pull, anna, b"\xff")
+        self.refused(Why.BAD_SHAPE, pull, anna, b"{}")
+        self.refused(Why.NOT_WHOLE, pull, anna, response(0.5))
+        self.refused(Why.COOKIE_WENT_BACK, pull, anna, response(4, put("n", 1)))
+        self.refused(Why.COOKIE_NOT_NEW, pull, anna, response(5, put("n", 1)))
+        self.refused(Why.ID_WENT_BACK, pull, anna, response(6, anna=2))
+        body = b'{"error":"VersionNotSupported","versionType":"schema"}'
+        self.refused(Why.VERSION_NOT_SUPPORTED, pull, anna, body, code=Version.SCHEMA)
+        ticket, of_bert = anna.begin_pull(), bert.begin_pull()
+        self.refused(Why.NO_TICKET, bert.forget, ticket)
+        self.refused(Why.NO_TICKET, anna.end_pull, of_bert, response(6))
+        bert.forget(of_bert)
+        anna.forget(ticket)
+        self.refused(Why.NO_TICKET, anna.end_pull, ticket, response(6))
+        self.refused(Why.STATE_NOT_FOUND, pull, anna, b'{"error":"ClientStateNotFound"}')
+        self.assertTrue(bert.closed())
+        self.refused(Why.CLOSED, bert.mutate, "set", ["a", 1])
+
+    def test_sitting(self) -> None:
+        (place,) = Group(ID, profile="p1", schema="s1").places
+        self.refused(Why.NO_CLIENT, place.get, "a")
+        self.refused(Why.BAD_UUID, place.sit, "anna")
+        place.sit(ANNA)
+        self.refused(Why.IN_USE, place.sit, BERT)
+        ticket, watch = place.begin_pull(), place.watch()
+        place.mutate("set", ["a", 1])
+        place.leave()
+        place.sit(BERT)
+        self.assertTrue(place.has("a"))
+        self.refused(Why.NO_TICKET, place.end_pull, ticket, response(1))
+        self.refused(Why.NO_WATCH, place.poll, watch)
+
+    def test_opening(self) -> None:
+        words: dict[str, Json] = {"profile": "p1", "schema": "s1"}
+        self.refused(Why.BAD_UUID, Group, "1", **words)
+        self.refused(Why.OUT_OF_RANGE, Group, ID, slots=15, **words)
+        self.refused(Why.OUT_OF_RANGE, Group, ID, places=0, **words)
+        self.refused(Why.OUT_OF_RANGE, Group, ID, places=257, **words)
+        self.refused(Why.BAD_RULES, Group, ID, rules={"a": [["fly"]]}, **words)
+        self.assertEqual(len(Group(ID, places=256, **words).places), 256)
+        for name in ("slots", "places"):
+            with self.assertRaises(ValueError):
+                Group(ID, **{name: 2**32}, **words)
+
+    def test_closing(self) -> None:
+        anna, bert = seated()
+        anna.mutate("set", ["a", 1])
+        anna.close()
+        anna.close()
+        self.refused(Why.NO_PLACE, anna.get, "a")
+        self.assertEqual(bert.get("a"), 1)
+        with Group(ID, profile="p1", schema="s1") as group:
+            group.places[0].sit(ANNA)
+        self.refused(Why.NO_PLACE, group.places[0].leave)
+        del group, anna, bert
+        gc.collect()
+
+
+class Threads(unittest.TestCase):
+    """Places of one group, each on a thread of its own, and one place that threads share."""
+
+    def increments(self, places: list[Place], count: int) -> None:
+        """A thread for each of the places, which may be the same, makes so many mutations."""
+        def work(place: Place) -> None:
+            for _ in range(count):
+                place.mutate("incr", ["n", 1])
+
+        threads = [threading.Thread(target=work, args=[place]) for place in places]
+        for thread in threads:
+            thread.start()
+        for thread in threads:
+            thread.join()
+        for place in places:
+            self.assertEqual(place.get("n"), len(places) * count)
+
+    def test_no_mutation_is_lost(self) -> None:
+        places = Group(ID, profile="p1", schema="s1", slots=65536, places=4).places
+        for number, place in enumerate(places):
+            place.sit(ANNA[:-1] + str(number))
+        pull(places[0], response(1, put("n", 0)))
+        self.increments(places, 500)
+        self.assertEqual([place.refresh() for place in places], [500] * 4)
+
+    def test_a_shared_place(self) -> None:
+        anna, _ = seated(16384)
+        pull(anna, response(1, put("n", 0)))
+        self.increments([anna] * 4, 250)
+
+
+class Numbers(unittest.TestCase):
+    """The names and numbers are those of the header."""
+
+    def test_header(self) -> None:
+        header = Path(__file__).parent.parent.parent.joinpath("include", "giqaymu.h").read_text(encoding="utf-8")
+        numbers = {name: int(number) for name, number in re.findall(r"\bGIQ_(\w+) = (-?\d+)", header)}
+        self.assertEqual({why.name: why.value for why in Why}, {k: n for k, n in numbers.items() if n < 0})
+        calls = {f"CALL_{what.name}": what.value for what in giqaymu._What}
+        self.assertEqual(calls, {k: n for k, n in numbers.items() if k.startswith("CALL_")})
+        versions = {f"{v.name}_VERSION": v.value for v in Version}
+        self.assertEqual(versions, {k: n for k, n in numbers.items() if k.endswith("_VERSION")})
+        self.assertIn(f"#define GIQ_STACK {giqaymu.STACK}\n", header)
+
+
+if __name__ == "__main__":
+    unittest.main()

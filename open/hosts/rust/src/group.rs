@@ -1,0 +1,41 @@
+//! What a group is opened with.
+
+use crate::edge::Handle;
+use crate::place::Place;
+use crate::refusal::Refusal;
+
+/// What a client group is opened with. The group lives in memory, starts empty, and is freed with the last of its
+/// places.
+#[derive(Clone, Copy, Debug)]
+pub struct Group<'a> {
+    /// The group's ID: a UUID, in any of its text forms (RFC 9562).
+    pub id: &'a str,
+    /// The profile ID of its requests.
+    pub profile: &'a str,
+    /// The schema version of its requests.
+    pub schema: &'a str,
+    /// Its mutators as a JSON object (`docs/RULES.md`); empty: the mutators of scripts alone.
+    pub rules: &'a str,
+    /// 16 to 16,777,216, of some 80 bytes each. A group never grows: `docs/USING.md` says how many to ask for.
+    pub slots: u32,
+}
+
+impl Group<'_> {
+    /// Opens the group with `N` places, 1 to 256. Refused with `BadUuid`, `BadRules`, `OutOfRange` (slots or places)
+    /// and `NoMemory`.
+    pub fn open<const N: usize>(&self) -> Result<[Place; N], Refusal> {
+        match self.open_places(N)?.try_into() {
+            Ok(places) => Ok(places),
+            Err(_) => unreachable!("as many places as were asked for"),
+        }
+    }
+
+    /// Opens the group with so many places. Refused as [`Group::open`].
+    pub fn open_places(&self, count: usize) -> Result<Vec<Place>, Refusal> {
+        let texts = [self.id, self.profile, self.schema, self.rules];
+        match Handle::open(texts, self.slots, count) {
+            Ok(handles) => Ok(handles.into_iter().map(Place::new).collect()),
+            Err(returned) => Err(Refusal::of(returned, 0)),
+        }
+    }
+}

@@ -1,0 +1,62 @@
+//! The client half of [Replicache](https://doc.replicache.dev/concepts/how-it-works) for one client group.
+//!
+//! A [`Group`] is opened with so many places. A client sits down at a [`Place`], makes its calls and leaves; then
+//! another one may sit there. Places go to threads, each to one, and are used there at the same time; no call waits
+//! for another, starts a thread or opens a socket. The program carries the bodies of requests and responses.
+//!
+//! ```
+//! use giqaymu::{Ended, Group};
+//!
+//! # fn main() -> Result<(), giqaymu::Refusal> {
+//! let group = Group {
+//!     id: "00000000-0000-4000-8000-000000000001",
+//!     profile: "p1",
+//!     schema: "s1",
+//!     rules: r#"{"add":[["put",["cat","todo/",["arg","id"]],["arg","text"]]]}"#,
+//!     slots: 4096,
+//! };
+//! let [mut anna, mut bert] = group.open()?;
+//! anna.sit("00000000-0000-4000-8000-00000000000a")?;
+//! bert.sit("00000000-0000-4000-8000-00000000000b")?;
+//! anna.mutate("add", r#"{"id":"x","text":"milk"}"#, 1_700_000_000_000)?;
+//! assert_eq!(bert.get("todo/x")?, Some(&br#""milk""#[..]));
+//!
+//! let (ticket, request) = bert.begin_pull()?;
+//! assert!(request.starts_with(b"{\"clientGroupID\""));
+//! let response = br#"{"cookie":1,"lastMutationIDChanges":{},"patch":[{"op":"put","key":"n","value":5}]}"#;
+//! assert_eq!(bert.end_pull(ticket, response)?, Ended::Applied);
+//! # Ok(())
+//! # }
+//! ```
+//!
+//! What the header `giqaymu.h` asks of a caller in C is kept by types here. A place is used by one thread at a time:
+//!
+//! ```compile_fail,E0277
+//! fn is_shared<T: Sync>() {}
+//! is_shared::<giqaymu::Place>();
+//! ```
+//!
+//! What it lends ends before its next call:
+//!
+//! ```compile_fail,E0499
+//! fn both(place: &mut giqaymu::Place) -> Result<(), giqaymu::Refusal> {
+//!     let value = place.get("a")?;
+//!     place.get("b")?;
+//!     assert!(value.is_some());
+//!     Ok(())
+//! }
+//! ```
+//!
+//! Each call needs at most [`STACK`] bytes of its thread's stack.
+
+mod edge;
+mod group;
+mod place;
+mod refusal;
+mod scan;
+
+pub use edge::STACK;
+pub use group::Group;
+pub use place::{Ended, Place, Ticket, Watch};
+pub use refusal::{Refusal, Version};
+pub use scan::{Scan, Start};

@@ -1,0 +1,183 @@
+//! Why a call was refused.
+
+use std::error::Error;
+use std::fmt;
+
+/// Which version a server does not support.
+#[derive(Clone, Copy, Debug, PartialEq, Eq, Hash)]
+pub enum Version {
+    /// It didn't say.
+    Unknown,
+    /// That of pushes.
+    Push,
+    /// That of pulls.
+    Pull,
+    /// That of the schema.
+    Schema,
+}
+
+impl Version {
+    fn of(code: u32) -> Version {
+        match code {
+            1 => Version::Push,
+            2 => Version::Pull,
+            3 => Version::Schema,
+            _ => Version::Unknown,
+        }
+    }
+}
+
+/// Why a call was refused; its message says what the caller can do.
+#[derive(Clone, Copy, Debug, PartialEq, Eq, Hash)]
+#[non_exhaustive]
+pub enum Refusal {
+    /// Memory was refused.
+    NoMemory,
+    /// Other clients changed the group first, as often as the call tries.
+    Moved,
+    /// A slot or a pin was lost to other clients, as often as the call tries.
+    Busy,
+    /// A slot was given again while it was looked for.
+    Gone,
+    /// No slot is free for the change.
+    Full,
+    /// The group has drawn all its stamps.
+    Stamps,
+    /// The client's last id is not the one that the group has.
+    Stale,
+    /// No mutator has the name.
+    NoMutator,
+    /// The mutator refused, with this code.
+    Refused(u32),
+    /// The bytes are no JSON text, or one that nests too deep.
+    NotJson,
+    /// A field is missing, of a wrong type or out of range.
+    BadShape,
+    /// A number is not whole, or does not fit 64 bits.
+    NotWhole,
+    /// Another pull was applied since this one began.
+    Overtaken,
+    /// The response's cookie is below the group's.
+    CookieWentBack,
+    /// The response's cookie is as high as the group's, but the response brings something.
+    CookieNotNew,
+    /// The response confirms less of a client than was confirmed.
+    IdWentBack,
+    /// The server does not know the group, which is closed by this.
+    StateNotFound,
+    /// The server does not support this version.
+    VersionNotSupported(Version),
+    /// No call here is refused so.
+    NoSeat,
+    /// The group was closed before.
+    Closed,
+    /// The bytes are not UTF-8.
+    NotUtf8,
+    /// The text is no UUID.
+    BadUuid,
+    /// A number is none of those that it may be.
+    OutOfRange,
+    /// The place has no such ticket.
+    NoTicket,
+    /// The place has no such watch.
+    NoWatch,
+    /// The rules are faulty.
+    BadRules,
+    /// A client sits at the place.
+    InUse,
+    /// No client sits at the place.
+    NoClient,
+    /// The place is closed.
+    NoPlace,
+    /// What this crate doesn't know: the library is a later one.
+    Unknown(i32),
+}
+
+impl Refusal {
+    /// The refusal of this number, an `enum giq_number` of `giqaymu.h`, with this code.
+    pub fn of(number: i32, code: u32) -> Refusal {
+        match number {
+            -1 => Refusal::NoMemory,
+            -2 => Refusal::Moved,
+            -3 => Refusal::Busy,
+            -4 => Refusal::Gone,
+            -5 => Refusal::Full,
+            -6 => Refusal::Stamps,
+            -7 => Refusal::Stale,
+            -8 => Refusal::NoMutator,
+            -9 => Refusal::Refused(code),
+            -10 => Refusal::NotJson,
+            -11 => Refusal::BadShape,
+            -12 => Refusal::NotWhole,
+            -13 => Refusal::Overtaken,
+            -14 => Refusal::CookieWentBack,
+            -15 => Refusal::CookieNotNew,
+            -16 => Refusal::IdWentBack,
+            -17 => Refusal::StateNotFound,
+            -18 => Refusal::VersionNotSupported(Version::of(code)),
+            -19 => Refusal::NoSeat,
+            -20 => Refusal::Closed,
+            -101 => Refusal::NotUtf8,
+            -102 => Refusal::BadUuid,
+            -103 => Refusal::OutOfRange,
+            -104 => Refusal::NoTicket,
+            -105 => Refusal::NoWatch,
+            -106 => Refusal::BadRules,
+            -107 => Refusal::InUse,
+            -109 => Refusal::NoClient,
+            -110 => Refusal::NoPlace,
+            other => Refusal::Unknown(other),
+        }
+    }
+
+    fn message(self) -> &'static str {
+        match self {
+            Refusal::NoMemory => "memory was refused: free some and call again",
+            Refusal::Moved => "other clients changed the group first, as often as the call tries: call again",
+            Refusal::Busy => "a slot or a pin was lost to other clients, as often as the call tries: call again",
+            Refusal::Gone => "a slot was given again while it was looked for: call again",
+            Refusal::Full => "no slot is free: end a pull that confirms mutations, or open a group with more slots",
+            Refusal::Stamps => "the group has drawn all its stamps: open a new group",
+            Refusal::Stale => "the client's last id is not the group's: refresh it and call again",
+            Refusal::NoMutator => "no mutator has this name",
+            Refusal::Refused(_) => "the mutator refused with code",
+            Refusal::NotJson => "the bytes are no JSON text, or one that nests too deep",
+            Refusal::BadShape => "a field is missing, of a wrong type or out of range",
+            Refusal::NotWhole => "a number is not whole, or does not fit 64 bits",
+            Refusal::Overtaken => "another pull was applied since this one began: begin a new one",
+            Refusal::CookieWentBack => "the response's cookie is lower than the group's",
+            Refusal::CookieNotNew => {
+                "the response's cookie is as high as the group's, but the response brings something"
+            }
+            Refusal::IdWentBack => "the response confirms less of a client than was confirmed",
+            Refusal::StateNotFound => "the server does not know the client group: open a new one",
+            Refusal::VersionNotSupported(_) => "the server does not support this version:",
+            Refusal::NoSeat => "all seats are out",
+            Refusal::Closed => "the group is closed, since the server does not know it: open a new one",
+            Refusal::NotUtf8 => "the bytes are not UTF-8",
+            Refusal::BadUuid => "the text is no UUID",
+            Refusal::OutOfRange => "a number is none of those that it may be",
+            Refusal::NoTicket => "the place has no such ticket",
+            Refusal::NoWatch => "the place has no such watch",
+            Refusal::BadRules => "the rules are faulty",
+            Refusal::InUse => "a client sits at the place",
+            Refusal::NoClient => "no client sits at the place",
+            Refusal::NoPlace => "the place is closed",
+            Refusal::Unknown(_) => "the library answered an unknown number:",
+        }
+    }
+}
+
+impl fmt::Display for Refusal {
+    fn fmt(&self, f: &mut fmt::Formatter<'_>) -> fmt::Result {
+        f.write_str(self.message())?;
+        match self {
+            Refusal::Refused(code) => write!(f, " {code}"),
+            Refusal::VersionNotSupported(version) => write!(f, " {version:?}"),
+            Refusal::Unknown(number) => write!(f, " {number}"),
+            _ => Ok(()),
+        }
+    }
+}
+
+impl Error for Refusal {}

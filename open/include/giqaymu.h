@@ -1,0 +1,321 @@
+/* giqaymu.h: the client half of Replicache for one client group, for C, C++ and whatever calls as C does.
+ *
+ * A group is opened with 1 to 256 places. A client sits down at a place, makes its calls and leaves; then another one
+ * may sit there. No call opens a socket, starts a thread or waits for another call: the program carries the bodies of
+ * requests and responses. The last place that is closed frees the group.
+ *
+ * Bytes in. A giq_bytes is an address and a count; the bytes are read during the call alone. Keys, prefixes and names
+ * are UTF-8, arguments, rules and responses JSON texts, IDs UUIDs (RFC 9562, any of its text forms). They may not lie
+ * where the answer of the same place lies: copy what a place answered before you hand it back to that place.
+ *
+ * Bytes out. answer.bytes belongs to the library and is good until the next call of the same place, giq_close too.
+ * Each call that takes an answer writes it: where it is refused there are no bytes, and `code` may say more.
+ *
+ * What a call returns. 0 or above: it was done. Below 0: a refusal, an enum giq_number; nothing was changed then, but
+ * that GIQ_STATE_NOT_FOUND closes the group. Each call may be refused with GIQ_NO_MEMORY, at a closed place with
+ * GIQ_NO_PLACE, and where it needs a client with GIQ_NO_CLIENT. A call begins anew where calls of other places are in
+ * its way, 1,000,000 times at the most; then it is refused with GIQ_MOVED, GIQ_BUSY or GIQ_GONE.
+ *
+ * Threads. Any thread may open a group. A place is used by one thread at a time, its closing too; it may go from one
+ * thread to another where the program orders their calls (a lock, a queue, a join). Places of one group are used by
+ * any number of threads at the same time. No call may be made in a handler of a signal.
+ *
+ * Stack. GIQ_STACK bytes, 256 kB, were enough for each call that was tried, with rules, values and responses that nest
+ * as deep as they may; 64 kB were where little nests. That is measured, not proved.
+ *
+ * Trusted, since nothing here can look: a giq_place is zeros, or as the library left it; one thread at a time uses
+ * it, and nobody a copy of it; each giq_bytes has so many bytes that can be read, which nobody writes meanwhile;
+ * `answer` and `places` can be written. What a call answers then is proved, for any bytes and numbers, also at a place
+ * that was closed.
+ *
+ * Three functions are exported: giq_open, giq_call and giq_close. The others are written over them here.
+ */
+#ifndef GIQAYMU_H
+#define GIQAYMU_H
+
+#include <stddef.h>
+#include <stdint.h>
+#include <string.h>
+
+#ifdef __cplusplus
+extern "C" {
+#endif
+
+/* ---- types */
+
+/* A place of a group. The library alone writes it. It may be moved, but not be copied: of two copies one is used, the
+ * other one forgotten. A place of zeros is closed. */
+typedef struct giq_place {
+    void *at;
+    uint64_t is_open;
+} giq_place;
+
+/* So many bytes from an address on. Where there are none the address doesn't count. */
+typedef struct giq_bytes {
+    const uint8_t *at;
+    size_t len;
+} giq_bytes;
+
+/* What a call tells beside the number that it returns. */
+typedef struct giq_answer {
+    giq_bytes bytes; /* of the library, good until the next call of the place */
+    uint64_t number; /* an id, or the number of a ticket or of a watch; else 0 */
+    uint32_t code;   /* of GIQ_REFUSED: the mutator's; of GIQ_VERSION_NOT_SUPPORTED: an enum giq_version; else 0 */
+} giq_answer;
+
+/* What a call returns. */
+enum giq_number {
+    GIQ_OK = 0,   /* it was done; or no */
+    GIQ_NONE = 1, /* it was done, and there is nothing: no value, no new rows; or the pull changed nothing */
+    GIQ_YES = 2,
+
+    GIQ_NO_MEMORY = -1,              /* free some, and call again */
+    GIQ_MOVED = -2,                  /* others changed the group first, as often as the call tries: call again */
+    GIQ_BUSY = -3,                   /* a slot or a pin was lost to others, as often as it tries: call again */
+    GIQ_GONE = -4,                   /* a slot was given again while it was looked for: call again */
+    GIQ_FULL = -5,                   /* no slot is free: end a pull that confirms mutations, and call again */
+    GIQ_STAMPS = -6,                 /* the group has drawn all its stamps: open a new group */
+    GIQ_STALE = -7,                  /* the group has a later id of this client: giq_refresh, and call again */
+    GIQ_NO_MUTATOR = -8,             /* no mutator has this name */
+    GIQ_REFUSED = -9,                /* the mutator refused, with the code */
+    GIQ_NOT_JSON = -10,              /* the bytes are no JSON text, or one that nests too deep */
+    GIQ_BAD_SHAPE = -11,             /* a field is missing, of a wrong type or out of range */
+    GIQ_NOT_WHOLE = -12,             /* a number is not whole, or does not fit 64 bits */
+    GIQ_OVERTAKEN = -13,             /* another pull was applied since this one began: begin a new one */
+    GIQ_COOKIE_WENT_BACK = -14,      /* the response's cookie is below the group's */
+    GIQ_COOKIE_NOT_NEW = -15,        /* the cookie is as high as the group's, but the response brings something */
+    GIQ_ID_WENT_BACK = -16,          /* the response confirms less of a client than was confirmed */
+    GIQ_STATE_NOT_FOUND = -17,       /* the server does not know the group, which is closed by this: open a new one */
+    GIQ_VERSION_NOT_SUPPORTED = -18, /* the server does not support a version, which the code names */
+    GIQ_NO_SEAT = -19,               /* no call here is refused so */
+    GIQ_CLOSED = -20,                /* the group is closed: read what is pending, and open a new one */
+
+    GIQ_NOT_UTF8 = -101,
+    GIQ_BAD_UUID = -102,
+    GIQ_OUT_OF_RANGE = -103, /* a number is none of those that it may be */
+    GIQ_NO_TICKET = -104,    /* the place has no ticket of this number */
+    GIQ_NO_WATCH = -105,     /* the place has no watch of this number */
+    GIQ_BAD_RULES = -106,    /* the rules are faulty */
+    GIQ_IN_USE = -107,       /* a client sits at the place */
+    GIQ_NO_CLIENT = -109,    /* no client sits at the place */
+    GIQ_NO_PLACE = -110      /* the place is closed */
+};
+
+/* Which version a server does not support. */
+enum giq_version { GIQ_UNKNOWN_VERSION = 0, GIQ_PUSH_VERSION = 1, GIQ_PULL_VERSION = 2, GIQ_SCHEMA_VERSION = 3 };
+
+/* Where the rows of a scan begin: at the first key, at a key, or after it. */
+enum giq_start { GIQ_ANY = 0, GIQ_AT = 1, GIQ_AFTER = 2 };
+
+/* Which call giq_call makes. */
+enum giq_what {
+    GIQ_CALL_SIT = 0,
+    GIQ_CALL_LEAVE = 1,
+    GIQ_CALL_GET = 2,
+    GIQ_CALL_HAS = 3,
+    GIQ_CALL_SCAN = 4,
+    GIQ_CALL_PENDING = 5,
+    GIQ_CALL_COOKIE = 6,
+    GIQ_CALL_CLOSED = 7,
+    GIQ_CALL_REFRESH = 8,
+    GIQ_CALL_PUSH = 9,
+    GIQ_CALL_BEGIN_PULL = 10,
+    GIQ_CALL_FORGET_TICKET = 11,
+    GIQ_CALL_END_PULL = 12,
+    GIQ_CALL_MUTATE = 13,
+    GIQ_CALL_WATCH = 14,
+    GIQ_CALL_POLL = 15
+};
+
+#define GIQ_NO_LIMIT UINT64_MAX
+#define GIQ_MAX_PLACES 256
+#define GIQ_MIN_SLOTS 16
+#define GIQ_MAX_SLOTS 16777216
+#define GIQ_STACK 262144
+
+/* What a group is opened with. */
+typedef struct giq_opening {
+    giq_bytes group;   /* the group's ID */
+    giq_bytes profile; /* the profile ID of its requests, UTF-8 */
+    giq_bytes schema;  /* the schema version of its requests, UTF-8 */
+    giq_bytes rules;   /* its mutators as a JSON object (docs/RULES.md); no bytes: the mutators of scripts alone */
+    uint32_t slots;    /* GIQ_MIN_SLOTS to GIQ_MAX_SLOTS, some 80 bytes each; a group never grows */
+} giq_opening;
+
+/* Which rows: those whose keys begin with the prefix, from the start on, so many at the most. */
+typedef struct giq_range {
+    giq_bytes prefix;
+    uint32_t kind;   /* an enum giq_start */
+    giq_bytes start; /* the key, where the kind is not GIQ_ANY */
+    uint64_t limit;  /* GIQ_NO_LIMIT, or how many */
+} giq_range;
+
+/* ---- the exported functions: an address is not NULL here, even where its count is 0 */
+
+/* Opens a group at `count` places; those that were open are closed first. See giq_open_places. */
+int32_t giq_open(const uint8_t *group, size_t group_len, const uint8_t *profile, size_t profile_len,
+                 const uint8_t *schema, size_t schema_len, const uint8_t *rules, size_t rules_len, uint32_t slots,
+                 giq_place *places, size_t count);
+
+/* Makes the call `what`, an enum giq_what, with two numbers and two byte strings: what it doesn't use is not looked
+ * at. Any other number is refused with GIQ_OUT_OF_RANGE. */
+int32_t giq_call(giq_place *place, uint32_t what, uint32_t m, uint64_t n, const uint8_t *a, size_t a_len,
+                 const uint8_t *b, size_t b_len, giq_answer *answer);
+
+/* Closes a place, with the client that sits there; what the client made stays pending in the group. A place that is
+ * closed stays so. */
+void giq_close(giq_place *place);
+
+/* ---- bytes */
+
+/* The bytes of a text that ends with a zero, without it. */
+static inline giq_bytes giq_text(const char *text) {
+    giq_bytes bytes;
+    bytes.at = (const uint8_t *)text;
+    bytes.len = strlen(text);
+    return bytes;
+}
+
+/* No bytes. */
+static inline giq_bytes giq_nothing(void) { return giq_text(""); }
+
+/* All rows whose keys begin with the prefix. */
+static inline giq_range giq_rows(giq_bytes prefix) {
+    giq_range range;
+    range.prefix = prefix;
+    range.kind = GIQ_ANY;
+    range.start = giq_nothing();
+    range.limit = GIQ_NO_LIMIT;
+    return range;
+}
+
+/* An address that is not NULL. */
+static inline const uint8_t *giq_at(giq_bytes bytes) { return bytes.len == 0 ? (const uint8_t *)"" : bytes.at; }
+
+/* giq_call with byte strings as values. */
+static inline int32_t giq_ask(giq_place *place, enum giq_what what, uint32_t m, uint64_t n, giq_bytes a, giq_bytes b,
+                              giq_answer *answer) {
+    return giq_call(place, (uint32_t)what, m, n, giq_at(a), a.len, giq_at(b), b.len, answer);
+}
+
+/* ---- a group */
+
+/* Opens a group at `count` places, 1 to GIQ_MAX_PLACES, none of which is open; the group is in memory and starts empty.
+ * Where it is refused the places are closed: GIQ_BAD_UUID, GIQ_NOT_UTF8, GIQ_BAD_RULES, GIQ_OUT_OF_RANGE (slots or
+ * places), GIQ_NO_MEMORY. */
+static inline int32_t giq_open_places(const giq_opening *with, giq_place *places, size_t count) {
+    if (count == 0) return GIQ_OUT_OF_RANGE;
+    memset(places, 0, count * sizeof *places);
+    return giq_open(giq_at(with->group), with->group.len, giq_at(with->profile), with->profile.len,
+                    giq_at(with->schema), with->schema.len, giq_at(with->rules), with->rules.len, with->slots, places,
+                    count);
+}
+
+/* ---- a client */
+
+/* A client of this ID sits down. Its last id is the one that the group has, 0 where it has none.
+ * Refused: GIQ_BAD_UUID, GIQ_IN_USE, GIQ_BUSY, GIQ_GONE. */
+static inline int32_t giq_sit(giq_place *place, giq_bytes client, giq_answer *answer) {
+    return giq_ask(place, GIQ_CALL_SIT, 0, 0, client, giq_nothing(), answer);
+}
+
+/* The client leaves; its tickets and watches are given up, and what it made stays pending. */
+static inline int32_t giq_leave(giq_place *place, giq_answer *answer) {
+    return giq_ask(place, GIQ_CALL_LEAVE, 0, 0, giq_nothing(), giq_nothing(), answer);
+}
+
+/* Finds the client's last id in the group: answer->number. The remedy for GIQ_STALE. Refused: GIQ_BUSY, GIQ_GONE. */
+static inline int32_t giq_refresh(giq_place *place, giq_answer *answer) {
+    return giq_ask(place, GIQ_CALL_REFRESH, 0, 0, giq_nothing(), giq_nothing(), answer);
+}
+
+/* ---- queries: each is answered as of one moment of the call. Refused: GIQ_BUSY, GIQ_GONE; those that are given bytes:
+ * GIQ_NOT_UTF8 */
+
+/* The value at the key, a compact JSON text; GIQ_NONE where there is none. */
+static inline int32_t giq_get(giq_place *place, giq_bytes key, giq_answer *answer) {
+    return giq_ask(place, GIQ_CALL_GET, 0, 0, key, giq_nothing(), answer);
+}
+
+/* Whether the key is there: GIQ_YES or GIQ_OK. */
+static inline int32_t giq_has(giq_place *place, giq_bytes key, giq_answer *answer) {
+    return giq_ask(place, GIQ_CALL_HAS, 0, 0, key, giq_nothing(), answer);
+}
+
+/* The rows of the range in the order of their keys' bytes, a JSON array of [key,value].
+ * Refused: GIQ_OUT_OF_RANGE where the kind is no enum giq_start. */
+static inline int32_t giq_scan(giq_place *place, giq_range range, giq_answer *answer) {
+    return giq_ask(place, GIQ_CALL_SCAN, range.kind, range.limit, range.prefix, range.start, answer);
+}
+
+/* The pending mutations of the group, whichever client made them, the oldest first: a JSON array of
+ * [client,id,name]. */
+static inline int32_t giq_pending(giq_place *place, giq_answer *answer) {
+    return giq_ask(place, GIQ_CALL_PENDING, 0, 0, giq_nothing(), giq_nothing(), answer);
+}
+
+/* The group's cookie, a compact JSON text; null before the first pull was applied. */
+static inline int32_t giq_cookie(giq_place *place, giq_answer *answer) {
+    return giq_ask(place, GIQ_CALL_COOKIE, 0, 0, giq_nothing(), giq_nothing(), answer);
+}
+
+/* Whether the group is closed, since the server does not know it: GIQ_YES or GIQ_OK. */
+static inline int32_t giq_closed(giq_place *place, giq_answer *answer) {
+    return giq_ask(place, GIQ_CALL_CLOSED, 0, 0, giq_nothing(), giq_nothing(), answer);
+}
+
+/* Watches the rows of a range: answer->number names the watch at this place, until the client leaves. Nothing is read.
+ * Refused: as giq_scan. */
+static inline int32_t giq_watch(giq_place *place, giq_range range, giq_answer *answer) {
+    return giq_ask(place, GIQ_CALL_WATCH, range.kind, range.limit, range.prefix, range.start, answer);
+}
+
+/* The rows of a watch, as giq_scan has them, the first time and whenever they differ from those told last; else
+ * GIQ_NONE.
+ * Refused: GIQ_NO_WATCH; then, and in each other refusal, nothing counts as told. */
+static inline int32_t giq_poll(giq_place *place, uint32_t watch, giq_answer *answer) {
+    return giq_ask(place, GIQ_CALL_POLL, watch, 0, giq_nothing(), giq_nothing(), answer);
+}
+
+/* ---- changes and requests */
+
+/* Runs a mutator on the map: answer->number is the mutation's id, and queries show it at once. `args` is a JSON text of
+ * whole numbers that nests at most 124 deep, `time` is in milliseconds since 1970.
+ * Refused: GIQ_NOT_UTF8, GIQ_NOT_JSON, GIQ_NOT_WHOLE, GIQ_NO_MUTATOR, GIQ_REFUSED with the mutator's code, GIQ_STALE,
+ * GIQ_FULL, GIQ_STAMPS, GIQ_CLOSED, GIQ_MOVED, GIQ_BUSY, GIQ_GONE. */
+static inline int32_t giq_mutate(giq_place *place, giq_bytes name, giq_bytes args, uint64_t time, giq_answer *answer) {
+    return giq_ask(place, GIQ_CALL_MUTATE, 0, time, name, args, answer);
+}
+
+/* The body of a push of all that is pending in the group (version 1), also where nothing is. Refused: GIQ_BUSY,
+ * GIQ_GONE. The answer of the push endpoint is not read by the library. */
+static inline int32_t giq_push(giq_place *place, giq_answer *answer) {
+    return giq_ask(place, GIQ_CALL_PUSH, 0, 0, giq_nothing(), giq_nothing(), answer);
+}
+
+/* Begins a pull: the body of its request (version 1), and answer->number names its ticket at this place. Many pulls
+ * may be under way. Refused: GIQ_BUSY, GIQ_GONE. */
+static inline int32_t giq_begin_pull(giq_place *place, giq_answer *answer) {
+    return giq_ask(place, GIQ_CALL_BEGIN_PULL, 0, 0, giq_nothing(), giq_nothing(), answer);
+}
+
+/* Gives a ticket up: when its pull has ended, or when no response came. Its number may be given again.
+ * Refused: GIQ_NO_TICKET. */
+static inline int32_t giq_forget_ticket(giq_place *place, uint32_t ticket, giq_answer *answer) {
+    return giq_ask(place, GIQ_CALL_FORGET_TICKET, ticket, 0, giq_nothing(), giq_nothing(), answer);
+}
+
+/* Ends a pull with the response's body: what the server confirmed is pending no more, and the rest is run again on the
+ * server's map. GIQ_NONE where the response brings nothing. The ticket stays.
+ * Refused: GIQ_NO_TICKET, GIQ_NOT_JSON, GIQ_BAD_SHAPE, GIQ_NOT_WHOLE, GIQ_OVERTAKEN, GIQ_COOKIE_WENT_BACK,
+ * GIQ_COOKIE_NOT_NEW, GIQ_ID_WENT_BACK, GIQ_STATE_NOT_FOUND, GIQ_VERSION_NOT_SUPPORTED with an enum giq_version,
+ * GIQ_FULL, GIQ_STAMPS, GIQ_CLOSED, GIQ_MOVED, GIQ_BUSY, GIQ_GONE. */
+static inline int32_t giq_end_pull(giq_place *place, uint32_t ticket, giq_bytes response, giq_answer *answer) {
+    return giq_ask(place, GIQ_CALL_END_PULL, ticket, 0, response, giq_nothing(), answer);
+}
+
+#ifdef __cplusplus
+}
+#endif
+
+#endif
