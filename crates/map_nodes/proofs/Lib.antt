@@ -23,3 +23,4 @@ mod TrailLemmas
 mod SpotLemmas
 mod LayLemmas
 mod StepLemmas
+mod WalkLemmas

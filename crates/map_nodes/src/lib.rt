@@ -6,8 +6,8 @@
 //!
 //! `OwnRoot` is the root of a map. Where a first put finds its key, the new chunks are a trail (`nodes/trails.rt`):
 //! they lie in one list, and a freeze makes a node of each as it is. Contracts see a trail as the own chunk that it
-//! stands for. What is put or removed next makes that chunk of it, and a scan one for itself: a mutator that told what
-//! it will put would spare that.
+//! stands for. What is put or removed next makes that chunk of it: a mutator that told what it will put would spare
+//! that.
 //!
 //! A placed chunk on the way of a put is copied first, and takes its place in the draft only once the change below it
 //! is done; all memory is taken before anything changes, so a put that stops leaves the tree. An insert first tries

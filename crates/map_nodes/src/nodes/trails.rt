@@ -6,6 +6,7 @@
 mod freezing;
 mod laying;
 mod reading;
+mod scanning;
 mod thawing;
 
 use group_history::{Json, Keys, Ref};

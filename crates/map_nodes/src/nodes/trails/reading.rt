@@ -7,19 +7,18 @@ ghost use Rattle.group_history.specs.Rows.{Rows};
 ghost use Rattle.group_history.specs.Spelling.{Contents};
 ghost use Rattle.group_history.specs.declared.mutators.Stop.TheVariants.{NoMemory};
 ghost use Rattle.map_chunks.specs.Places.{Grows, AreAll, places_of};
-ghost use Rattle.map_chunks.specs.Scanning.{taken, Gave, IsLow};
 ghost use Rattle.map_chunks.specs.Seeking.{stands_in};
 ghost use Rattle.map_chunks.specs.Shown.{shown, IsTree, rows_or};
 ghost use Rattle.map_nodes.specs.Inside.Spots.{IsSpot};
 ghost use Rattle.map_nodes.specs.Trails.{trail_seen, IsTrail};
 
 use super::{End, Step, Trail};
-use group_history::{Json, Ref, Scan, SearchKey, Stop};
+use group_history::{Json, Ref, SearchKey, Stop};
+use map_chunks::Chunks;
 use map_chunks::looks::Comparison;
 use map_chunks::placed::get_placed;
 use map_chunks::search::{place_for, standing_at, value_at};
 use map_chunks::seeking::seek_placed;
-use map_chunks::{Chunks, TakesRows};
 
 // The placed chunk where the way to a key leaves the trail, if it does.
 fn spot(steps: &[Step], end: &End, key: &SearchKey<'_>) -> Option<Ref>
@@ -74,28 +73,6 @@ impl Trail {
             }
             None => Ok(standing_at(self.end.keys.as_slice(), &self.end.values, key, asked)),
         }
-    }
-
-    /// Takes the scan's rows of the trail, and answers the room that is left. Stops for want of memory, or as
-    /// the store does; the sink has then a beginning of these rows.
-    pub fn scan<C: Chunks, S: TakesRows>(
-        &self,
-        chunks: &mut C,
-        scan: &Scan,
-        low: &str,
-        room: Option<u64>,
-        sink: &mut S,
-    ) -> Result<Option<u64>, Stop>
-        requires places { AreAll (C.places chunks.old) (places_of self.now.pieces) }
-        requires tree { IsTree (shown (C.contents chunks.old) self.now.pieces) }
-        requires low { IsLow scan.now low.now }
-        ensures grown { Grows C.contents C.places chunks.old chunks.new }
-        ensures rows { Gave S.has sink.old sink.new room result
-            (taken scan.now room (rows_or (shown (C.contents chunks.old) self.now.pieces))) }
-        ensures stopped { IfErr result (λ s. (s ≡ NoMemory) ⊎ C.stops s) }
-    {
-        let node = self.thawed(*self.steps.allocator())?;
-        node.scan(chunks, scan, low, room, sink)
     }
 
     /// How deep the trail is.
