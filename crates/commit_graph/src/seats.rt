@@ -30,13 +30,23 @@ impl<M: Means, S: Slots<M>> Model for Shared<M, S> {
 
 /// A seat of a group: what its client claims slots with, and what it has seen of the book, which knows the seat by
 /// a number.
-#[derive(Drop)]
 pub struct Seat<M: Means, S: Slots<M>>
 where
     S::Seat: Drop,
 {
     pub slots: S::Seat,
     pub mark: Mark<M>,
+}
+
+impl<M: Means, S: Slots<M>> Drop for Seat<M, S>
+where
+    S::Seat: Drop,
+{
+    fn drop(self) {
+        let Seat { slots, mark } = self;
+        drop(slots);
+        drop(mark);
+    }
 }
 
 impl<M: Means, S: Slots<M>> Model for Seat<M, S>

@@ -24,7 +24,6 @@ use group_history::{ConfirmedIds, Cookie, Mutation, Ref, Stop, Text};
 use std::alloc::{AllocError, Global};
 
 /// The state of a commit. The pulled map is named by its root.
-#[derive(Drop)]
 pub struct CommitState {
     pub cookie: Cookie,
     /// Each client's confirmed id.
@@ -35,6 +34,21 @@ pub struct CommitState {
     pub pending: Vec<Mutation>,
     /// Whether the server said that it doesn't know the group.
     pub closed: bool,
+}
+
+impl Drop for CommitState {
+    fn drop(self) {
+        let CommitState {
+            cookie,
+            confirmed,
+            pulled: _,
+            pending,
+            closed: _,
+        } = self;
+        drop(cookie);
+        drop(confirmed);
+        drop(pending);
+    }
 }
 
 fn add(mutations: &mut Vec<Mutation>, mutation: Option<Mutation>) -> Result<(), AllocError>

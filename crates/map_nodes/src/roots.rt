@@ -29,9 +29,15 @@ use std::alloc::Global;
 use std::marker::Model;
 
 /// A chunk that a draft owns, with all that it owns below it. Contracts see it as they see an `OwnNode`.
-#[derive(Drop)]
 pub struct OwnRoot {
     form: Form,
+}
+
+impl Drop for OwnRoot {
+    fn drop(self) {
+        let OwnRoot { form } = self;
+        drop(form);
+    }
 }
 
 #[derive(Drop)]
@@ -361,7 +367,8 @@ impl OwnRoot {
             ⊎ ((e ≡ refusal.Stamps) × (stamps ≤ draft.new.first + length draft.new.nodes))) }
         ensures late { IfErr result (λ e. e ≡ refusal.Stamps → IsLate draft.old.first) }
     {
-        match self.form {
+        let OwnRoot { form } = self;
+        match form {
             Form::Node(node) => node.freeze(alloc, draft),
             Form::Trail(trail) => trail.freeze(draft),
         }

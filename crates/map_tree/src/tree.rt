@@ -16,9 +16,15 @@ use std::alloc::Global;
 
 /// A map from texts to JSON values. A change copies the chunks on its way that are placed; these are
 /// never changed.
-#[derive(Drop)]
 pub struct Tree {
     root: Root,
+}
+
+impl Drop for Tree {
+    fn drop(self) {
+        let Tree { root } = self;
+        drop(root);
+    }
 }
 
 #[derive(Drop)]

@@ -6,7 +6,7 @@ use std::alloc::{AllocError, Global};
 
 /// What every request of a client group bears (Push and Pull Endpoint Reference: `clientGroupID`, `profileID`,
 /// `schemaVersion`). Any text serves: it is escaped as a JSON text.
-#[derive(Clone, Drop)]
+#[derive(Clone)]
 pub struct Identity {
     /// The client group's ID.
     pub group: Text,
@@ -14,6 +14,19 @@ pub struct Identity {
     pub profile: Text,
     /// The version of the application's schema.
     pub schema: Text,
+}
+
+impl Drop for Identity {
+    fn drop(self) {
+        let Identity {
+            group,
+            profile,
+            schema,
+        } = self;
+        drop(group);
+        drop(profile);
+        drop(schema);
+    }
 }
 
 impl Identity {

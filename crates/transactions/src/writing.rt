@@ -24,10 +24,17 @@ use map_tree::{Chunks, Lookup, Sought, Tree};
 use std::alloc::{AllocError, Global};
 
 /// What a `get` found at a key.
-#[derive(Drop)]
 struct Looked {
     key: Text,
     found: Lookup,
+}
+
+impl Drop for Looked {
+    fn drop(self) {
+        let Looked { key, found } = self;
+        drop(key);
+        drop(found);
+    }
 }
 
 // How what is put at a key stands to what was found there, where that is the key that was looked at.
