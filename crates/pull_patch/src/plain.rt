@@ -24,6 +24,7 @@ use group_history::{Confirmed, Cookie, Patch, Refusal, Response, nests_within};
 use json::{Reader, Scratch, Token};
 use puts::read_patch;
 use serde_json::Value;
+use simdutf8::compat::from_utf8;
 use std::alloc::Global;
 pub(crate) use stops::Stop;
 use values::{pass_value, read_tree};
@@ -188,7 +189,7 @@ fn read_body(alloc: Global, reader: &mut Reader<'_>) -> Result<Response, Stop>
 pub(crate) fn plain_response(alloc: Global, bytes: &[u8]) -> Result<Response, Stop>
     ensures { IfOk result (λ r. grammar.answer_to bytes.now ≡ Ok r) }
 {
-    let Ok(body) = str::from_utf8(bytes) else {
+    let Ok(body) = from_utf8(bytes) else {
         return Err(Stop::NotPlain);
     };
     let mut scratch = Scratch::new(alloc);
