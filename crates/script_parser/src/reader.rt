@@ -12,11 +12,17 @@ use crate::script::{Asked, Header, Parser};
 use std::alloc::Global;
 
 /// Takes the lines of a script, one after the other, and keeps none.
-#[derive(Drop)]
 pub struct LineReader {
     parser: Parser,
     ghost bare: { without_lines (context_of parser) ≡ context_of parser },
     ghost range: { IsInRange parser.header } by { Prim.hlevel props },
+}
+
+impl Drop for LineReader {
+    fn drop(self) {
+        let LineReader { parser } = self;
+        drop(parser);
+    }
 }
 
 impl LineReader {

@@ -35,7 +35,6 @@ fn marks_of<M: Mutators + Drop>(
 }
 
 /// The clients of a script, in a group of their own.
-#[derive(Drop)]
 pub struct Clients<M: Mutators + Drop> {
     alloc: Global,
     group: Group<M, Arena<M>>,
@@ -45,6 +44,20 @@ pub struct Clients<M: Mutators + Drop> {
         (λ k. Π_prop (λ d. →_prop (Prim.hlevel (codes, Coded-set)))) },
     ghost seen_there: { All (λ s. s.book ≡ group.group.book) sights.items } by { Π_prop
         (λ k. Π_prop (λ d. →_prop (Prim.hlevel (codes, Coded-set)))) },
+}
+
+impl<M: Mutators + Drop> Drop for Clients<M> {
+    fn drop(self) {
+        let Clients {
+            alloc: _,
+            group,
+            turns,
+            sights,
+        } = self;
+        drop(group);
+        drop(turns);
+        drop(sights);
+    }
 }
 
 impl<M: Mutators + Drop> Clients<M> {

@@ -36,11 +36,22 @@ pub(crate) enum Turn {
 }
 
 /// What was said before the first phase.
-#[derive(Drop)]
 pub(crate) struct Heads {
     alloc: Global,
     reader: LineReader,
     rules: Option<Rules>,
+}
+
+impl Drop for Heads {
+    fn drop(self) {
+        let Heads {
+            alloc: _,
+            reader,
+            rules,
+        } = self;
+        drop(reader);
+        drop(rules);
+    }
 }
 
 /// The text of rules that a line gives.

@@ -21,10 +21,17 @@ use std::io::{BufRead, Write};
 use std::sync::Wait;
 
 /// The clients of a group whose rules `B` names.
-#[derive(Drop)]
 pub(crate) struct Opened<B: Picked + Sync + Drop> {
     reader: LineReader,
     clients: Clients<RuleMutators<B>>,
+}
+
+impl<B: Picked + Sync + Drop> Drop for Opened<B> {
+    fn drop(self) {
+        let Opened { reader, clients } = self;
+        drop(reader);
+        drop(clients);
+    }
 }
 
 impl<B: Picked + Sync + Drop> Opened<B> {
