@@ -27,7 +27,7 @@ use group_history::{Mutators, Ref, Refusal};
 
 /// How a try of a change ended.
 #[derive(Clone, Copy)]
-pub(crate) enum Tried {
+pub enum Tried {
     /// The change was made, and its commit is there.
     Made(Ref),
 

@@ -25,10 +25,11 @@ mod pushing;
 mod steps;
 mod views;
 
-pub use changing::make_change;
+pub use changing::{Tried, make_change};
 pub use group::SharedGroup;
+pub use moving::move_head;
 pub use places::At;
-pub use proposing::Request;
+pub use proposing::{Proposal, Request, Spot, check_next, kind_at_end, propose_closing};
 pub use pushing::body_at;
-pub use steps::{find_last, pin_and_load, unpin};
+pub use steps::{Arrival, find_last, pin_and_load, pin_and_load_both, unpin};
 pub use views::{Rooted, closed_at, cookie_at, root_at};

@@ -93,7 +93,7 @@ where
 
 /// Places what was proposed, and moves the head from its base to its commit, which is answered: none where others moved
 /// the head first. Refused with `NoMemory`, `Moved`, `Busy`, `Gone`, `Full` or `Stamps`.
-pub(crate) fn move_head<M: Means, S: Store<M>>(
+pub fn move_head<M: Means, S: Store<M>>(
     shared: &Shared<M, S>,
     seat: &mut Seat<M, S>,
     change: &Change,

@@ -45,23 +45,23 @@ pub struct Request<'a> {
 
 /// Where new commits are drafted: behind the tip of a chain, under stamps from the first one on.
 #[derive(Clone, Copy)]
-pub(crate) struct Spot {
-    pub(crate) tip: Tip,
-    pub(crate) first: u64,
+pub struct Spot {
+    pub tip: Tip,
+    pub first: u64,
 }
 
 /// The draft that leads from a commit to a change, its commit of the state after the change, and which slots it may
 /// take.
 #[derive(Drop)]
-pub(crate) struct Proposal {
-    pub(crate) base: Ref,
-    pub(crate) draft: Draft,
-    pub(crate) at: Ref,
-    pub(crate) kind: Kind,
+pub struct Proposal {
+    pub base: Ref,
+    pub draft: Draft,
+    pub at: Ref,
+    pub kind: Kind,
 }
 
-// Whether the mutation is its client's next one at an open group. It is Stale where it is not.
-fn check_next<M: Means, S: Slots<M>>(
+/// Whether the mutation is its client's next one at an open group. It is Stale where it is not.
+pub fn check_next<M: Means, S: Slots<M>>(
     at: &At<'_, M, S>,
     mutation: &Mutation,
     before: LastId,
@@ -143,8 +143,8 @@ where
     propose_next(at, spot, mutation, before.id)
 }
 
-// The slots that an end of a pull may take which leaves so many mutations pending.
-fn kind_at_end(left: usize) -> Kind
+/// The slots that an end of a pull may take which leaves so many mutations pending.
+pub fn kind_at_end(left: usize) -> Kind
     ensures { (xs : List Mutated) → left ≡ length xs → result ≡ kind_left xs }
 {
     if left == 0 {
@@ -277,8 +277,8 @@ where
     propose_outcome(at, spot, &before, ticket, pull)
 }
 
-// What leads to the closing of an open group.
-fn propose_closing<M: Means, S: Slots<M>>(
+/// What leads to the closing of an open group.
+pub fn propose_closing<M: Means, S: Slots<M>>(
     at: &At<'_, M, S>,
     spot: Spot,
 ) -> Result<Option<Proposal>, Refusal>

@@ -73,7 +73,7 @@ pub struct Arrival<M: Means> {
 }
 
 /// Pins the seat, looks where the head is, and then which stamps are drawn.
-pub(crate) fn pin_and_load_both<M: Means, S: Slots<M>>(
+pub fn pin_and_load_both<M: Means, S: Slots<M>>(
     shared: &Shared<M, S>,
     seat: &mut Seat<M, S>,
     tries: u32,

@@ -1,5 +1,5 @@
 mod NewestLemmas
-mod StateLemmas
-mod ReplayLemmas
-mod RunLemmas
+pub mod StateLemmas
+pub mod ReplayLemmas
+pub mod RunLemmas
 pub mod BelowLemmas

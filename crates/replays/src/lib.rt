@@ -26,8 +26,8 @@ mod pulls;
 mod runs;
 mod tips;
 
-pub use locals::draft_mutation;
+pub use locals::{draft_mutation, tree_if_done, tree_or_root};
 pub use looks::{Look, base_at, look_at, pending_at};
-pub use pulls::{RebasedHead, draft_rebase, pull_outcome};
-pub use runs::Setting;
-pub use tips::{Tip, add_closing, add_opening};
+pub use pulls::{RebasedHead, add_patched, after_changes, draft_rebase, pull_outcome};
+pub use runs::{Run, Setting};
+pub use tips::{Tip, add_closing, add_local, add_opening};

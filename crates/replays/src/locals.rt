@@ -52,8 +52,8 @@ pub fn draft_mutation<C: Chunks + Copy, K: NamesContents, M: Mutators>(
     Ok(after.commit)
 }
 
-// The tree that a run left, if it was done; else why its mutation is refused.
-fn tree_if_done(run: Run) -> Result<Tree, Refusal>
+/// The tree that a run left, if it was done; else why its mutation is refused.
+pub fn tree_if_done(run: Run) -> Result<Tree, Refusal>
     ensures ok { (contents : Contents) (meaning : Meaning) → HasRun contents meaning run
         → IfOk result (λ tree. (m : Entries) × (tree_map contents tree ≡ Some m) × (map_if_done meaning ≡ Ok m)) }
     ensures err { (contents : Contents) (meaning : Meaning) → HasRun contents meaning run
@@ -68,8 +68,8 @@ fn tree_if_done(run: Run) -> Result<Tree, Refusal>
     }
 }
 
-// The tree that a run left, if it was done; else the root from which it began.
-fn tree_or_root(run: Run, root: Ref) -> Tree
+/// The tree that a run left, if it was done; else the root from which it began.
+pub fn tree_or_root(run: Run, root: Ref) -> Tree
     ensures { (contents : Contents) (m : Entries) (meaning : Meaning) → map_at contents (stamp_of root) ≡ Some m
         → HasRun contents meaning run → tree_map contents result ≡ Some (left_by meaning m) }
 {

@@ -86,8 +86,8 @@ fn add_answered(
     add_snapshot(alloc, draft, tree, cookie, confirmed)
 }
 
-// Drafts the snapshot after a pull: the patched map, under the response's cookie and the ids confirmed then.
-fn add_patched<C: Chunks + Copy, K: NamesContents, M: Mutators>(
+/// Drafts the snapshot after a pull: the patched map, under the response's cookie and the ids confirmed then.
+pub fn add_patched<C: Chunks + Copy, K: NamesContents, M>(
     setting: &Setting<'_, C, M>,
     draft: &mut Draft,
     root: Ref,
@@ -115,8 +115,8 @@ fn add_patched<C: Chunks + Copy, K: NamesContents, M: Mutators>(
     Ok(tip)
 }
 
-// The ids that are confirmed after a pull, and the mutations that stay pending then.
-fn after_changes(
+/// The ids that are confirmed after a pull, and the mutations that stay pending then.
+pub fn after_changes(
     alloc: Global,
     base: &Base,
     pending: &[Mutation],
