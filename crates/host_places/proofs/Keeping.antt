@@ -60,12 +60,13 @@ begun_here means v client next (Err e) t tickets is answer refused stays (told, 
     }))
 
 -- a pull was begun, or memory was refused, at a place that is seen so
-pub begun_told : (means : Meanings) (v b : PlaceState) (client next : ClientState) (reply : Result Ticket Refusal) (t : Told)
-    (tickets : List (Option Ticket)) → v ≡ b → v.client ≡ Some client
+pub begun_told : (means : Meanings) (v b : PlaceState) (client next : ClientState) (reply : Result Ticket Refusal)
+    (t : Told) (tickets : List (Option Ticket)) → v ≡ b → v.client ≡ Some client
     → IsLinearized means tries client.seat.mark next.seat.mark (map_ok asked reply) no_change
     (λ s. Ok (asked_at client.group.identity s))
     → IfErr reply (IsMissedOrDry ⊤) → Stays ⊤ client next → Keeps reply t v.tickets tickets
     → Lacks b t (with_tickets next tickets v) ⊎ ByClient (Begins means) b t (with_tickets next tickets v)
 begun_told means v b client next reply t tickets same is answer refused stays kept =
-    subst (λ s. Lacks s t (with_tickets next tickets v) ⊎ ByClient (Begins means) s t (with_tickets next tickets v)) same
+    subst (λ s. Lacks s t (with_tickets next tickets v) ⊎ ByClient (Begins means) s t
+    (with_tickets next tickets v)) same
     (begun_here means v client next reply t tickets is answer refused stays kept)

@@ -1,6 +1,6 @@
 -- Places of a group that was just opened.
-use Rattle.std.proofs.Common.{◌≡◌, ◌+◌, ℕ, List, [], ◌∷◌, ◌++◌, map, length, refl, sym, ap, ◌∙◌, subst, arith}
-use Rattle.std.specs.Prelude.{⊤, IfSome, Option, Some}
+use Rattle.std.proofs.Common.{◌≡◌, ◌+◌, ℕ, List, [], ◌∷◌, ◌++◌, map, length, sym, ap, ◌∙◌, subst, arith}
+use Rattle.std.specs.Prelude.{⊤, Some}
 use Rattle.std.specs.List.{All}
 use Rattle.std.proofs.lemmas.List.{length-append, length-map}
 use Rattle.std.proofs.lemmas.List.Elements.{All-map, All-nil, All-pop, All-push}
@@ -9,7 +9,7 @@ use Rattle.head_word.specs.Books.{opening, opening_ref}
 use Rattle.rebase.specs.Clients.{AreOpening, AreSeatsOf, Grouped}
 use Rattle.rebase.specs.Configs.{Layout}
 use Rattle.host_places.specs.Opening.{AreOpened, IsNew}
-use Rattle.host_places.specs.Places.{DeskState, PlaceState, free_place}
+use Rattle.host_places.specs.Places.{DeskState, free_place}
 
 -- the seat has seen the opening of its book alone
 abbrev pub SawOpening : ℕ → Seated → Type 0
@@ -22,18 +22,19 @@ pub record Filled (group : Grouped) (total free : List Seated) (desks : List Des
   pub new : (commit : ℕ) → All (SawOpening commit) total
       → All (SawOpening commit) free × All (λ d. IsNew group commit d.place) desks
 
-pub none_filled : (group : Grouped) (total : List Seated) (desks : List DeskState) → AreSeatsOf group.group total → desks ≡ []
-    → Filled group total total desks
+pub none_filled : (group : Grouped) (total : List Seated) (desks : List DeskState) → AreSeatsOf group.group total
+    → desks ≡ [] → Filled group total total desks
 none_filled group total desks home empty = record {
   home = home;
   count = let none : length desks ≡ 0 = ap length empty in omega (arith, none);
-  new = λ commit all. (all, subst (All (λ d. IsNew group commit d.place)) (sym empty) (All-nil (λ d. IsNew group commit d.place)));
+  new = λ commit all.
+      (all, subst (All (λ d. IsNew group commit d.place)) (sym empty) (All-nil (λ d. IsNew group commit d.place)));
 }
 
 -- one more has got its place
 pub one_more : (group : Grouped) (total free left : List Seated) (seat : Seated) (desk : DeskState)
-    (desks more : List DeskState) → free ≡ left ++ seat ∷ [] → desk.place ≡ free_place group seat → more ≡ desks ++ desk ∷ []
-    → Filled group total free desks → Filled group total left more
+    (desks more : List DeskState) → free ≡ left ++ seat ∷ [] → desk.place ≡ free_place group seat
+    → more ≡ desks ++ desk ∷ [] → Filled group total free desks → Filled group total left more
 one_more group total free left seat desk desks more taken place pushed was =
     let home = All-pop (IsSeatOf group.group) free left (Some seat) taken was.home in
     record {

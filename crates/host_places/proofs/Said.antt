@@ -1,12 +1,12 @@
 -- What bytes say.
-use Rattle.std.proofs.Common.{◌≡◌, Option, Some, None, Result, Ok, Err, refl, sym, ap, ◌∙◌, subst}
+use Rattle.std.proofs.Common.{◌≡◌, Option, Some, None, Ok, Err, refl, ap}
 use Rattle.std.proofs.lemmas.Bool.{false_from_ne_true}
 use Rattle.std.proofs.lemmas.Str.{is_utf8-from_IsUtf8, IsUtf8-from_is_utf8}
 use Rattle.std.specs.Str.{IsUtf8, is_utf8}
 use Rattle.group_history.specs.Map.{Bytes}
 use Rattle.host_places.specs.declared.faults.Fault.TheVariants.{BadUuid, NotUtf8}
 use Rattle.host_places.specs.declared.outcomes.Outcome.TheVariants.{Faulty}
-use Rattle.host_places.specs.Asking.{or_bad_uuid, text_said, uuid_in, uuid_said}
+use Rattle.host_places.specs.Asking.{or_bad_uuid, text_said}
 use Rattle.uuid.specs.Text.{parsed}
 
 pub text_utf8 : (bytes : Bytes) → IsUtf8 bytes → text_said bytes ≡ Ok bytes
@@ -16,7 +16,8 @@ pub text_other : (bytes : Bytes) → (IsUtf8 bytes → ⊥) → text_said bytes 
 text_other bytes other = rw (false_from_ne_true (is_utf8 bytes) (λ e. other (IsUtf8-from_is_utf8 bytes e)))
 
 -- a text that is no UUID
-pub no_uuid : (text : Bytes) → ((u : Bytes) × (parsed text ≡ Some u) → ⊥) → or_bad_uuid (parsed text) ≡ Err (Faulty BadUuid)
+pub no_uuid : (text : Bytes) → ((u : Bytes) × (parsed text ≡ Some u) → ⊥)
+    → or_bad_uuid (parsed text) ≡ Err (Faulty BadUuid)
 no_uuid text none = by_cases (parsed text) refl where
   by_cases : (p : Option Bytes) → parsed text ≡ p → or_bad_uuid (parsed text) ≡ Err (Faulty BadUuid)
   by_cases None is = ap or_bad_uuid is

@@ -1,5 +1,6 @@
 -- What a call of a place may tell.
-use Rattle.std.proofs.Common.{◌≡◌, ◌⊎◌, ◌+◌, inl, inr, ℕ, List, [], ◌++◌, Option, Some, None, Result, Ok, Err, refl, sym, ap, ◌∙◌, subst}
+use Rattle.std.proofs.Common.{◌≡◌, ◌⊎◌, ◌+◌, inl, inr, ℕ, List, [], ◌++◌, Option, Some, None, Result, Ok, Err, refl}
+use Rattle.std.proofs.Common.{sym, ap, ◌∙◌, subst}
 use Rattle.std.specs.Prelude.{⊤, IfErr, IfOk, OnOk}
 use Rattle.group_history.specs.Meaning.{Meanings}
 use Rattle.group_history.specs.declared.changes.Change.TheVariants.{Mutated}
@@ -23,7 +24,7 @@ use Rattle.host_places.specs.declared.faults.Fault.{Fault}
 use Rattle.host_places.specs.declared.faults.Fault.TheVariants as fault
 use Rattle.host_places.specs.declared.outcomes.Outcome.{Outcome}
 use Rattle.host_places.specs.declared.outcomes.Outcome.TheVariants.{Done, Faulty}
-use Rattle.host_places.specs.Answers.{At, By, ByClient, Ends, Lacks, Leaves, Mutates, Reads, Refreshes, Rule, Tells, tries}
+use Rattle.host_places.specs.Answers.{At, By, ByClient, Ends, Lacks, Leaves, Mutates, Reads, Refreshes, Rule, tries}
 use Rattle.host_places.specs.Asking.{◌>>=◌, IsSaid}
 use Rattle.host_places.specs.Inside.Reading.{MayRead}
 use Rattle.host_places.specs.Places.{PlaceState, ticket_at, with_client}
@@ -52,8 +53,8 @@ pub lacks_at_once : (b : PlaceState) → Lacks b dry b
 lacks_at_once b = record { told = refl; left = inl refl }
 
 -- what was not read is told
-pub unsaid : {X : Type 0} (r : Result X Outcome) (rule : X → Rule) (e : Outcome) (b : PlaceState) → IsSaid {X = X} (Err e) r
-    → Lacks b (told_alone e) b ⊎ By r rule b (told_alone e) b
+pub unsaid : {X : Type 0} (r : Result X Outcome) (rule : X → Rule) (e : Outcome) (b : PlaceState)
+    → IsSaid {X = X} (Err e) r → Lacks b (told_alone e) b ⊎ By r rule b (told_alone e) b
 unsaid r rule e b (inl lack) = inl (record { told = ap told_alone lack; left = inl refl })
 unsaid r rule e b (inr is) = inr (by_err r rule e b is)
 
@@ -69,14 +70,14 @@ read_told tell right means b client next t is (inr read) =
     inr (at_some b.client fault.NoClient (Reads tell right means) client b t (with_client next b) is (next, read, refl))
 
 -- the same of a call whose argument was read
-pub said_told : {X : Type 0} (r : Result X Outcome) (rule : X → Rule) (x : X) (b : PlaceState) (t : Told) (a : PlaceState)
-    → r ≡ Ok x → Lacks b t a ⊎ rule x b t a → Lacks b t a ⊎ By r rule b t a
+pub said_told : {X : Type 0} (r : Result X Outcome) (rule : X → Rule) (x : X) (b : PlaceState) (t : Told)
+    (a : PlaceState) → r ≡ Ok x → Lacks b t a ⊎ rule x b t a → Lacks b t a ⊎ By r rule b t a
 said_told r rule x b t a is (inl lack) = inl lack
 said_told r rule x b t a is (inr done) = inr (by_ok r rule x b t a is done)
 
 -- what was not read of the first part is not read of the whole
-pub said_then : {A B : Type 0} (r : Result A Outcome) (f : A → Result B Outcome) (e : Outcome) → IsSaid {X = A} (Err e) r
-    → IsSaid {X = B} (Err e) (r >>= f)
+pub said_then : {A B : Type 0} (r : Result A Outcome) (f : A → Result B Outcome) (e : Outcome)
+    → IsSaid {X = A} (Err e) r → IsSaid {X = B} (Err e) (r >>= f)
 said_then r f e (inl lack) = inl lack
 said_then r f e (inr is) = inr (ap (λ q. q >>= f) is)
 
@@ -99,20 +100,22 @@ read_at tell right means v b client next t same is read =
 pub wrote_told : {X A E : Type 0} (tell : X → Told) (right : State → X) (means : Meanings) (client next : ClientState)
     (x : X) (written : Result A E) (t : Told) (start mid text : Bytes) → start ≡ [] → OnOk written (mid ≡ start ++ text)
     → IfOk written (λ _. t ≡ told Done mid) → IfErr written (λ _. t ≡ dry) → tell x ≡ told Done text
-    → IsLinearized means tries client.seat.mark next.seat.mark (Ok x) no_change (λ s. Ok (right s)) → Stays ⊤ client next
-    → MayRead tell right means client t next
-wrote_told tell right means client next x (Ok done) t start mid text empty printed ok err is answer stays = inr (record {
-  reply = Ok x;
-  answer = answer;
-  refused = tt;
-  stays = stays;
-  told = ok ∙ ap (told Done) (printed ∙ ap (λ s. s ++ text) empty) ∙ sym is;
-})
-wrote_told tell right means client next x (Err e) t start mid text empty printed ok err is answer stays = inl (err, stays)
+    → IsLinearized means tries client.seat.mark next.seat.mark (Ok x) no_change (λ s. Ok (right s))
+    → Stays ⊤ client next → MayRead tell right means client t next
+wrote_told tell right means client next x (Ok done) t start mid text empty printed ok err is answer stays =
+    inr (record {
+      reply = Ok x;
+      answer = answer;
+      refused = tt;
+      stays = stays;
+      told = ok ∙ ap (told Done) (printed ∙ ap (λ s. s ++ text) empty) ∙ sym is;
+    })
+wrote_told tell right means client next x (Err e) t start mid text empty printed ok err is answer stays =
+    inl (err, stays)
 
 -- the client looked for its last id
-pub refreshed : (means : Meanings) (v b : PlaceState) (client next : ClientState) (reply : Result ℕ Refusal) (o : Outcome)
-    → v ≡ b → v.client ≡ Some client
+pub refreshed : (means : Meanings) (v b : PlaceState) (client next : ClientState) (reply : Result ℕ Refusal)
+    (o : Outcome) → v ≡ b → v.client ≡ Some client
     → IsLinearized means tries client.seat.mark next.seat.mark reply no_change (λ s. Ok (last_id s client.id))
     → IfOk reply (λ n. next.last ≡ n) → IfErr reply (λ _. next.last ≡ client.last) → IfErr reply (IsStoreRefusal ⊤)
     → Looks ⊤ client next → told_alone o ≡ tells id_told reply
@@ -132,20 +135,27 @@ refreshed means v b client next reply o same is answer id last refused looks tol
     }))
 
 -- the client left
-pub left_place : (v b : PlaceState) (client : ClientState) (back : Seated) (seat : Option Seated) (none : Option ClientState)
-    (tickets : List (Option Ticket)) (watches : List Watched) → v ≡ b → v.client ≡ Some client → HasLooked ⊤ client.seat back
-    → back.mark ≡ client.seat.mark → seat ≡ Some back → none ≡ None → tickets ≡ [] → watches ≡ []
-    → ByClient Leaves b (told_alone Done)
+pub left_place : (v b : PlaceState) (client : ClientState) (back : Seated) (seat : Option Seated)
+    (none : Option ClientState) (tickets : List (Option Ticket)) (watches : List Watched) → v ≡ b
+    → v.client ≡ Some client → HasLooked ⊤ client.seat back → back.mark ≡ client.seat.mark → seat ≡ Some back
+    → none ≡ None → tickets ≡ [] → watches ≡ [] → ByClient Leaves b (told_alone Done)
     (record { group = v.group; seat = seat; client = none; tickets = tickets; watches = watches })
 left_place v b client back seat none tickets watches same is looked mark free no_client no_tickets no_watches =
-    let after : PlaceState = record { group = v.group; seat = seat; client = none; tickets = tickets; watches = watches } in
+    let after : PlaceState =
+    record { group = v.group; seat = seat; client = none; tickets = tickets; watches = watches } in
     subst (λ s. ByClient Leaves s (told_alone Done) after) same
     (at_some v.client fault.NoClient Leaves client v (told_alone Done) after is (record {
       seat = back;
       looked = looked;
       mark = mark;
       told = refl;
-      left = λ i. record { group = v.group; seat = free i; client = no_client i; tickets = no_tickets i; watches = no_watches i };
+      left = λ i. record {
+        group = v.group;
+        seat = free i;
+        client = no_client i;
+        tickets = no_tickets i;
+        watches = no_watches i;
+      };
     }))
 
 -- it made a mutation
@@ -164,8 +174,8 @@ pub mutated : (means : Meanings) (v b : PlaceState) (client next : ClientState) 
     → ByClient (λ c. Mutates means c name args time) b (told_alone o) (with_client next v)
 mutated means v b client next name args time reply o same is answer id last acts cause frees told =
     subst (λ s. ByClient (λ c. Mutates means c name args time) s (told_alone o) (with_client next v)) same
-    (at_some v.client fault.NoClient (λ c. Mutates means c name args time) client v (told_alone o) (with_client next v) is
-    (record {
+    (at_some v.client fault.NoClient (λ c. Mutates means c name args time) client v (told_alone o)
+    (with_client next v) is (record {
       reply = reply;
       next = next;
       answer = answer;
@@ -179,9 +189,10 @@ mutated means v b client next name args time reply o same is answer id last acts
     }))
 
 -- it ended a pull, whose ticket is kept under this number
-pub pull_ended : (means : Meanings) (v b : PlaceState) (client next : ClientState) (n : ℕ) (kept : Ticket) (body : Bytes)
-    (reply : Result Ended Refusal) (o : Outcome) → v ≡ b → v.client ≡ Some client → ticket_at v.tickets n ≡ Some kept
-    → IsLinearized means tries client.seat.mark next.seat.mark reply (change_read kept.cookie (answer_to body))
+pub pull_ended : (means : Meanings) (v b : PlaceState) (client next : ClientState) (n : ℕ) (kept : Ticket)
+    (body : Bytes) (reply : Result Ended Refusal) (o : Outcome) → v ≡ b → v.client ≡ Some client
+    → ticket_at v.tickets n ≡ Some kept → IsLinearized means tries client.seat.mark next.seat.mark reply
+    (change_read kept.cookie (answer_to body))
     (λ s. end_bytes_reply s kept.cookie.text body) → next.last ≡ client.last → Acts ⊤ client next
     → IfErr reply (HasCause means ⊤ client.last (change_wanted kept.cookie (answer_to body)) client.seat next.seat)
     → Frees client.group.group.table.sizes.slots client.seat next.seat (change_read kept.cookie (answer_to body) reply)

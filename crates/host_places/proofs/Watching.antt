@@ -1,6 +1,6 @@
 -- Watches that a place keeps.
-use Rattle.std.proofs.Common.{◌≡◌, ◌⊎◌, ◌<◌, inl, inr, ℕ, List, [], ◌∷◌, ◌++◌, Option, Some, None, Result, Ok, length, refl}
-use Rattle.std.proofs.Common.{sym, ap, ◌∙◌, subst, slice_get, slice_index_or, slice_set}
+use Rattle.std.proofs.Common.{◌≡◌, ◌⊎◌, ◌<◌, inl, inr, ℕ, List, Option, Some, Result, Ok, length, sym, ap, ◌∙◌, subst}
+use Rattle.std.proofs.Common.{slice_get, slice_index_or, slice_set}
 use Rattle.std.specs.Prelude.{⊤, IfErr, IfSome}
 use Rattle.std.specs.List.{All}
 use Rattle.std.proofs.lemmas.List.{set-get_or}
@@ -8,7 +8,6 @@ use Rattle.std.proofs.lemmas.List.Elements.{All-push}
 use Rattle.std.proofs.lemmas.Option.{slice_get-get_or}
 use Rattle.group_history.specs.Meaning.{Meanings}
 use Rattle.group_history.specs.declared.refusals.Refusal.{Refusal}
-use Rattle.group_history.specs.declared.scans.Scan.{Scan}
 use Rattle.answered.specs.Answered.{IsLinearized, no_change}
 use Rattle.commit_graph.specs.Seats.{IsSeatOf}
 use Rattle.group_steps.specs.Missing.{IsMissedOrDry}
@@ -46,8 +45,9 @@ abbrev pub PollsAt : Meanings → ℕ → ClientState → Rule
 PollsAt means n c p = At (slice_get p.watches n) fault.NoWatch (λ w. Polls means c n w) p
 
 -- a watch that is as it was is where it was
-as_it_was : (v : PlaceState) (next : ClientState) (n : ℕ) (watch new : Watched) → watch ≡ slice_index_or v.watches n watch
-    → new ≡ watch → with_watches next (slice_set v.watches n new) v ≡ with_client next v
+as_it_was : (v : PlaceState) (next : ClientState) (n : ℕ) (watch new : Watched)
+    → watch ≡ slice_index_or v.watches n watch → new ≡ watch
+    → with_watches next (slice_set v.watches n new) v ≡ with_client next v
 as_it_was v next n watch new there same =
     ap (λ ws. with_watches next ws v) (ap (slice_set v.watches n) (same ∙ there) ∙ set-get_or v.watches n watch)
 

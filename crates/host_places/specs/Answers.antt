@@ -2,7 +2,7 @@
 --
 -- A client's own call is made, as `rebase` says it, and its reply is told. Where the bytes of the host say nothing, or
 -- nobody sits there, or a number names nothing, that is told, and the place is as it was.
-use Rattle.std.specs.Prelude.{ℕ, ◌≡◌, ◌⊎◌, ◌+◌, ◌++◌, ◌∷◌, ⊤, true, [], List, length, Option, Some, None, Result, Ok, Err}
+use Rattle.std.specs.Prelude.{ℕ, ◌≡◌, ◌⊎◌, ◌+◌, ◌++◌, ◌∷◌, ⊤, [], List, length, Option, Some, None, Result, Ok, Err}
 use Rattle.std.specs.Prelude.{IfErr, IfOk, slice_get, slice_set}
 use Rattle.group_history.specs.declared.changes.Change.TheVariants.{Mutated}
 use Rattle.group_history.specs.declared.refusals.Refusal.{Refusal}
@@ -35,8 +35,8 @@ use Rattle.host_places.specs.declared.outcomes.Outcome.{Outcome}
 use Rattle.host_places.specs.declared.outcomes.Outcome.TheVariants.{Done, Faulty, Number, Refused}
 use Rattle.host_places.specs.declared.faults.Fault.TheVariants as fault
 use Rattle.host_places.specs.Asking.{named_said, scan_said, text_said, uuid_said}
-use Rattle.host_places.specs.Places.{IsKeptAt, PlaceState, free_place, sat, ticket_at, unsat, with_client}
-use Rattle.host_places.specs.Places.{with_tickets, with_watches}
+use Rattle.host_places.specs.Places.{IsKeptAt, PlaceState, free_place, sat, ticket_at, unsat, with_client, with_tickets}
+use Rattle.host_places.specs.Places.{with_watches}
 use Rattle.host_places.specs.Told.{Told, bytes_told, cookie_told, dry, ended_told, id_told, is_told, pending_told}
 use Rattle.host_places.specs.Told.{polled_told, rows_told, tells, told, told_alone, value_told}
 
@@ -106,7 +106,8 @@ pub record IsTurnedAway (seat : Seated) (before : PlaceState) (t : Told) (after 
   pub left : after ≡ unsat back before
 
 abbrev pub Sits : Meanings → Bytes → Rule
-Sits means uuid before = At before.seat fault.InUse (λ seat b t a. SitsDown uuid means seat b t a ⊎ IsTurnedAway seat b t a)
+Sits means uuid before =
+    At before.seat fault.InUse (λ seat b t a. SitsDown uuid means seat b t a ⊎ IsTurnedAway seat b t a)
     before
 
 -- the client leaves; its tickets and watches are given up
@@ -120,8 +121,8 @@ pub record Leaves (client : ClientState) (before : PlaceState) (t : Told) (after
 -- ---- calls that change nothing in the group
 
 -- The client reads, and the reply is right at a point of the group's record; it is told.
-pub record ReadsBy {X : Type 0} (tell : X → Told) (right : State → X) (means : Meanings) (client : ClientState) (t : Told)
-    (next : ClientState) : Type 0 where
+pub record ReadsBy {X : Type 0} (tell : X → Told) (right : State → X) (means : Meanings) (client : ClientState)
+    (t : Told) (next : ClientState) : Type 0 where
   pub reply : Result X Refusal
   pub answer : IsLinearized means tries client.seat.mark next.seat.mark reply no_change (λ s. Ok (right s))
   pub refused : IfErr reply (IsMissedOrDry ⊤)
@@ -134,11 +135,13 @@ Reads tell right means client before t after =
     (next : ClientState) × ReadsBy tell right means client t next × (after ≡ with_client next before)
 
 -- The client looks for its last id, which is told, and is its own then.
-pub record Refreshes (means : Meanings) (client : ClientState) (before : PlaceState) (t : Told) (after : PlaceState) : Type 0
+pub record Refreshes (means : Meanings) (client : ClientState) (before : PlaceState) (t : Told)
+    (after : PlaceState) : Type 0
   where
     pub reply : Result ℕ Refusal
     pub next : ClientState
-    pub answer : IsLinearized means tries client.seat.mark next.seat.mark reply no_change (λ s. Ok (last_id s client.id))
+    pub answer : IsLinearized means tries client.seat.mark next.seat.mark reply no_change
+        (λ s. Ok (last_id s client.id))
     pub id : IfOk reply (λ n. next.last ≡ n)
     pub last : IfErr reply (λ _. next.last ≡ client.last)
     pub refused : IfErr reply (IsStoreRefusal ⊤)
@@ -147,7 +150,8 @@ pub record Refreshes (means : Meanings) (client : ClientState) (before : PlaceSt
     pub left : after ≡ with_client next before
 
 -- A pull is begun: its request is told, and the number under which its ticket is kept.
-pub record Keeps (asked : Begun) (next : ClientState) (before : PlaceState) (t : Told) (after : PlaceState) : Type 0 where
+pub record Keeps (asked : Begun) (next : ClientState) (before : PlaceState) (t : Told)
+    (after : PlaceState) : Type 0 where
   pub number : ℕ
   pub kept : Ticket
   pub tickets : List (Option Ticket)
@@ -160,7 +164,8 @@ abbrev pub IsBegun : Result Begun Refusal → ClientState → Rule
 IsBegun (Ok asked) next before t after = Keeps asked next before t after
 IsBegun (Err e) next before t after = (t ≡ told_alone (Refused e)) × (after ≡ with_client next before)
 
-pub record Begins (means : Meanings) (client : ClientState) (before : PlaceState) (t : Told) (after : PlaceState) : Type 0
+pub record Begins (means : Meanings) (client : ClientState) (before : PlaceState) (t : Told)
+    (after : PlaceState) : Type 0
   where
     pub reply : Result Begun Refusal
     pub next : ClientState
@@ -187,7 +192,8 @@ pub record Polls (means : Meanings) (client : ClientState) (n : ℕ) (watch : Wa
     (after : PlaceState) : Type 0 where
   pub reply : Result Polled Refusal
   pub next : ClientState
-  pub answer : IsLinearized means tries client.seat.mark next.seat.mark reply no_change (λ s. Ok (poll_at means watch s))
+  pub answer : IsLinearized means tries client.seat.mark next.seat.mark reply no_change
+      (λ s. Ok (poll_at means watch s))
   pub refused : IfErr reply (IsMissedOrDry ⊤)
   pub stays : Stays ⊤ client next
   pub told : t ≡ tells polled_told reply
@@ -214,8 +220,8 @@ pub record Mutates (means : Meanings) (client : ClientState) (name args : Bytes)
   pub left : after ≡ with_client next before
 
 -- a pull is ended with the bytes of a response; its ticket stays
-pub record Ends (means : Meanings) (client : ClientState) (kept : Ticket) (body : Bytes) (before : PlaceState) (t : Told)
-    (after : PlaceState) : Type 0 where
+pub record Ends (means : Meanings) (client : ClientState) (kept : Ticket) (body : Bytes) (before : PlaceState)
+    (t : Told) (after : PlaceState) : Type 0 where
   pub reply : Result Ended Refusal
   pub next : ClientState
   pub answer : IsLinearized means tries client.seat.mark next.seat.mark reply

@@ -1,6 +1,6 @@
 -- What a host is told. Read Places (how a place stands), Told (what a call came to, and how a client's reply is told),
--- Asking (what the bytes of a host say), and then Answers: `MayAnswer` is what each call of a place may tell, and how it
--- leaves the place. Numbers has how it is told to a host as numbers, Opening what a group is opened with.
+-- Asking (what the bytes of a host say), and then Answers: `MayAnswer` is what each call of a place may tell, and how
+-- it leaves the place. Numbers has how it is told to a host as numbers, Opening what a group is opened with.
 pub mod Places
 pub mod Printing
 pub mod Told

@@ -1,5 +1,5 @@
 -- How calls are asked for, and what they came to is told, by numbers.
-use Rattle.std.specs.Prelude.{ℕ, ◌≡◌, ◌⊎◌, ◌<◌, Bool, true, false, ℤ, pos, negsuc, length}
+use Rattle.std.specs.Prelude.{ℕ, ◌≡◌, ◌⊎◌, ◌<◌, Bool, true, false, ℤ, pos, negsuc}
 use Rattle.group_history.specs.declared.refusals.Refusal.{Refusal}
 use Rattle.group_history.specs.declared.refusals.Refusal.TheVariants as refusal
 use Rattle.group_history.specs.declared.responses.VersionKind.{VersionKind}
@@ -30,7 +30,8 @@ IsCall asked.Begin what m n a b = what ≡ 10
 IsCall (asked.Forget t) what m n a b = (what ≡ 11) × (t ≡ m)
 IsCall (asked.End t body) what m n a b = (what ≡ 12) × (t ≡ m) × (body.now ≡ a)
 IsCall (asked.Mutate g) what m n a b = (what ≡ 13) × (g.name.now ≡ a) × (g.args.now ≡ b) × (g.time ≡ n)
-IsCall (asked.Watch r) what m n a b = (what ≡ 14) × (r.prefix.now ≡ a) × (r.kind ≡ m) × (r.start.now ≡ b) × (r.limit ≡ n)
+IsCall (asked.Watch r) what m n a b = (what ≡ 14) × (r.prefix.now ≡ a) × (r.kind ≡ m) × (r.start.now ≡ b)
+    × (r.limit ≡ n)
 IsCall (asked.Poll w) what m n a b = (what ≡ 15) × (w ≡ m)
 
 -- The call of these numbers is answered; a number above 15 is that of no call.

@@ -1,5 +1,5 @@
 -- What a group is opened with, and its places then.
-use Rattle.std.specs.Prelude.{ℕ, ◌≡◌, ◌⊎◌, List, [], length, Option, Some, None, Result, Ok, Err}
+use Rattle.std.specs.Prelude.{ℕ, ◌≡◌, ◌⊎◌, List, length, Option, Some, None, Result, Ok, Err}
 use Rattle.std.specs.List.{All}
 use Rattle.group_history.specs.declared.refusals.Refusal.TheVariants.{Busy, Full, NoMemory}
 use Rattle.group_history.specs.Map.{Bytes}
@@ -15,7 +15,7 @@ use Rattle.host_places.specs.declared.opening.Opening.{Opening}
 use Rattle.host_places.specs.declared.outcomes.Outcome.{Outcome}
 use Rattle.host_places.specs.declared.outcomes.Outcome.TheVariants.{Faulty, Refused}
 use Rattle.host_places.specs.Asking.{◌>>=◌, text_said, uuid_said}
-use Rattle.host_places.specs.Places.{DeskState, PlaceState, free_place}
+use Rattle.host_places.specs.Places.{PlaceState, free_place}
 
 -- whose requests the group writes: its ID is a UUID, the others are texts
 abbrev pub id_said : Bytes → Result Bytes Outcome
@@ -38,7 +38,8 @@ layout_said id profile schema slots seats =
 abbrev pub layout_for : Opening → Result Layout Outcome
 layout_for with_ = layout_said with_.id.now with_.profile.now with_.schema.now with_.slots with_.places
 
--- A place of a group that was just opened: nobody sits there, and its seat has seen the opening of the group's book alone.
+-- A place of a group that was just opened: nobody sits there, and its seat has seen the opening of the group's book
+-- alone.
 pub record IsNew (group : Grouped) (commit : ℕ) (p : PlaceState) : Type 0 where
   pub seat : Seated
   pub home : IsSeatOf group.group seat

@@ -1,6 +1,6 @@
 -- How a place stands. This project's own words.
-use Rattle.std.specs.Prelude.{ℕ, ◌≡◌, ◌⊎◌, ◌++◌, ◌∷◌, ◌<◌, [], List, length, Option, Some, None}
-use Rattle.std.specs.Prelude.{slice_index_or, slice_set}
+use Rattle.std.specs.Prelude.{ℕ, ◌≡◌, ◌⊎◌, ◌++◌, ◌∷◌, ◌<◌, [], List, length, Option, Some, None, slice_index_or}
+use Rattle.std.specs.Prelude.{slice_set}
 use Rattle.group_history.specs.Map.{Bytes}
 use Rattle.commit_graph.specs.Seats.{Seated}
 use Rattle.rebase.specs.Clients.{ClientState, Grouped}
@@ -8,8 +8,8 @@ use Rattle.rebase.specs.Watching.{Watched}
 use Rattle.rebase.specs.declared.tickets.Ticket.{Ticket}
 use denote.RawPtr.{Ptr}
 
--- A place at a group: the seat while nobody sits there, the client that sits there, and what that client keeps: tickets,
--- each under its number until it is forgotten, and watches under their numbers.
+-- A place at a group: the seat while nobody sits there, the client that sits there, and what that client keeps:
+-- tickets, each under its number until it is forgotten, and watches under their numbers.
 pub record PlaceState : Type 0 where
   pub group : Grouped
   pub seat : Option Seated

@@ -1,5 +1,5 @@
 -- The texts of rows and of pending mutations: JSON (RFC 8259).
-use Rattle.std.specs.Prelude.{List, [], ◌∷◌, map, codes, decimal}
+use Rattle.std.specs.Prelude.{List, [], ◌∷◌, codes, decimal}
 use Rattle.std.specs.List.{concat, join_with_byte}
 use Rattle.group_history.specs.declared.mutations.Mutation.{Mutation}
 use Rattle.group_history.specs.Map.{Bytes}

@@ -5,6 +5,7 @@ mod drafts;
 mod groups;
 mod heads;
 mod maps;
+mod places;
 mod rules;
 mod scans;
 mod stores;

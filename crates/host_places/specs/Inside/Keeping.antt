@@ -1,6 +1,6 @@
 -- Tickets and watches that are kept.
-use Rattle.std.specs.Prelude.{ℕ, ◌≡◌, ◌⊎◌, ◌++◌, ◌∷◌, [], Bool, true, false, IsSome, List, length, Option, None, Result, Ok}
-use Rattle.std.specs.Prelude.{Err, slice_set}
+use Rattle.std.specs.Prelude.{ℕ, ◌≡◌, ◌⊎◌, ◌++◌, ◌∷◌, [], Bool, true, false, IsSome, List, length, Option, None, Result}
+use Rattle.std.specs.Prelude.{Ok, Err, slice_set}
 use Rattle.group_history.specs.declared.refusals.Refusal.{Refusal}
 use Rattle.rebase.specs.declared.tickets.Ticket.{Ticket}
 use Rattle.rebase.specs.Watching.{Watched}

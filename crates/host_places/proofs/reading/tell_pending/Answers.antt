@@ -1,5 +1,4 @@
 use Rattle.std.proofs.Common.{Err, inr, sym, ap}
-use Rattle.group_history.specs.Queries.{view_rows}
 use Rattle.group_history.specs.State.{State}
 use Rattle.host_places.proofs.Telling.{wrote_told}
 use Rattle.host_places.specs.Told.{pending_told, told}
@@ -8,9 +7,11 @@ use Rattle.host_places.proofs.reading.tell_pending.Goals as goal
 
 pub returns-in-Ok : goal.returns-in-Ok
 returns-in-Ok g c =
-    wrote_told pending_told (λ (s : State). s.pending) g.M.Means.means c.args.client.now c.pending_at.new.client c.in-Ok.pending.items
+    wrote_told pending_told (λ (s : State). s.pending) g.M.Means.means c.args.client.now c.pending_at.new.client
+    c.in-Ok.pending.items
     c.print_pending.result _ c.args.bytes.now.items c.print_pending.new.out.items _ c.requires c.print_pending.ensures
-    c.wrote.ensures.ok c.wrote.ensures.err (ap pending_told (sym c.deref.ensures.value)) c.in-Ok.ensures.answer c.in-Ok.ensures.stays
+    c.wrote.ensures.ok c.wrote.ensures.err (ap pending_told (sym c.deref.ensures.value)) c.in-Ok.ensures.answer
+    c.in-Ok.ensures.stays
 
 pub returns-in-Err : goal.returns-in-Err
 returns-in-Err g c = inr (record {

@@ -4,5 +4,6 @@ use Rattle.host_places.proofs.place.Place.begin.Goals as goal
 pub returns : goal.returns
 returns g c =
     let e = c.begin_pull-reply.ensures in
-    begun_told g.M.Means.means _ c.args.self.now c.in-Some.client c.begin_pull-reply.new.self c.begin_pull-reply.result _
+    begun_told g.M.Means.means _ c.args.self.now c.in-Some.client c.begin_pull-reply.new.self
+    c.begin_pull-reply.result _
     c.keep_reply.new.tickets.items c.self.view_is c.in-Some.is e.answer e.err e.stays c.keep_reply.ensures

@@ -7,5 +7,6 @@ pub returns : goal.returns
 returns g c =
     let e = c.try_end_pull.ensures in
     pull_ended g.M.Means.means _ c.args.self.now c.in-Some.client c.try_end_pull.new.self c.args.number
-    c.in-Some-ticket_of.ticket.now c.args.body.now c.try_end_pull.result c.ended_outcome.result c.self.view_is c.in-Some.is
-    (ap (λ ts. ticket_at ts c.args.number) (sym c.deref.ensures.value) ∙ sym c.in-Some-ticket_of.ensures) e.answer e.acts.1 e.acts.0 e.cause (e.frees tt) c.ended_outcome.ensures
+    c.in-Some-ticket_of.ticket.now c.args.body.now c.try_end_pull.result c.ended_outcome.result c.self.view_is
+    c.in-Some.is (ap (λ ts. ticket_at ts c.args.number) (sym c.deref.ensures.value) ∙ sym c.in-Some-ticket_of.ensures)
+    e.answer e.acts.1 e.acts.0 e.cause (e.frees tt) c.ended_outcome.ensures
