@@ -2,6 +2,7 @@
 
     rules = read(text)                       # bytes; raises Fault, whose place is a JSON Pointer
     entries = run(rules, name, args, entries)    # the map after the mutator, a new dict; raises Refused or Unknown
+    run_on(rules, name, args, entries)           # changes the map itself, any mapping; what a refused one wrote stays there
 """
 import json
 
@@ -129,8 +130,10 @@ def script(name, args, m, rebased):
         need(other, type(other) is str)
         if type(m.get(key, "")) is not str: raise Refused(3)
         m[key] = m.get(key, "") + other
-def run(rules, name, args, entries, rebased=False):
-    m = dict(entries)
+def run_on(rules, name, args, m, rebased=False):
     if name in rules: do(rules[name], args, m)
     else: script(name, args, m, rebased)
+def run(rules, name, args, entries, rebased=False):
+    m = dict(entries)
+    run_on(rules, name, args, m, rebased)
     return m

@@ -1,0 +1,171 @@
+-- Numbers of refusals.
+use Rattle.std.proofs.Common.{◌≡◌, ◌⊎◌, ◌-◌, ◌<◌, ◌^◌, inl, inr, ℕ, Bool, true, false, [], ◌∷◌, Option, Some, None}
+use Rattle.std.proofs.Common.{Result, Ok, Err, refl, sym, ◌∙◌, subst, arith, w32}
+use Rattle.std.specs.Prelude.{⊤, ℤ, pos, negsuc, if◌then◌else◌}
+use Rattle.std.proofs.lemmas.Int.{to_z-of_z}
+use lib.Signed.{mag}
+use mir.Val.{hbits, of_z, to_z}
+use Rattle.group_history.specs.declared.refusals.Refusal.{Refusal}
+use Rattle.group_history.specs.declared.refusals.Refusal.TheVariants as refusal
+use Rattle.group_history.specs.Map.{Bytes}
+use Rattle.push_body.specs.declared.identities.Identity.{Identity}
+use Rattle.rebase.specs.declared.config.OutOfRange.{OutOfRange}
+use Rattle.rebase.specs.Configs.{Layout, out_of_range}
+use Rattle.rule_mutators.specs.declared.faults.RuleFault.{RuleFault}
+use Rattle.rule_mutators.specs.Reading.{rules_said}
+use Rattle.rule_mutators.specs.Rules.{Rules}
+use Rattle.std.specs.Str.{is_utf8}
+use Rattle.uuid.specs.Text.{parsed}
+use Rattle.host_places.specs.declared.faults.Fault.{Fault}
+use Rattle.host_places.specs.declared.faults.Fault.TheVariants as fault
+use Rattle.host_places.specs.declared.outcomes.Outcome.{Outcome}
+use Rattle.host_places.specs.declared.outcomes.Outcome.TheVariants as outcome
+use Rattle.host_places.specs.Asking.{◌>>=◌, or_bad_uuid, text_said, uuid_in, uuid_said}
+use Rattle.host_places.specs.Numbers.{fault_number, outcome_number, refusal_number}
+use Rattle.host_places.specs.Opening.{id_said, identity_said, laid_out, layout_said}
+use Rattle.giqaymu_c.specs.declared.jobs.Grounds.{Grounds}
+use Rattle.giqaymu_c.specs.Jobs.{IsGivingRefusal, IsOpeningRefusal, or_bad_rules, rules_given}
+
+-- it is a refusal
+abbrev pub IsNo : Outcome → Type 0
+IsNo (outcome.Refused e) = ⊤
+IsNo (outcome.Faulty e) = ⊤
+IsNo other = ⊥
+
+-- of a negative number
+abbrev pub IsBelow : ℤ → Type 0
+IsBelow z = (k : ℕ) × (z ≡ negsuc k) × (k < 200)
+
+refusal_below : (e : Refusal) → IsBelow (refusal_number e)
+refusal_below refusal.NoMemory = (0, refl, omega arith)
+refusal_below refusal.Moved = (1, refl, omega arith)
+refusal_below refusal.Busy = (2, refl, omega arith)
+refusal_below refusal.Gone = (3, refl, omega arith)
+refusal_below refusal.Full = (4, refl, omega arith)
+refusal_below refusal.Stamps = (5, refl, omega arith)
+refusal_below refusal.Stale = (6, refl, omega arith)
+refusal_below refusal.NoMutator = (7, refl, omega arith)
+refusal_below (refusal.Refused code) = (8, refl, omega arith)
+refusal_below refusal.NotJson = (9, refl, omega arith)
+refusal_below refusal.BadShape = (10, refl, omega arith)
+refusal_below refusal.NotWhole = (11, refl, omega arith)
+refusal_below refusal.Overtaken = (12, refl, omega arith)
+refusal_below refusal.CookieWentBack = (13, refl, omega arith)
+refusal_below refusal.CookieNotNew = (14, refl, omega arith)
+refusal_below refusal.IdWentBack = (15, refl, omega arith)
+refusal_below refusal.StateNotFound = (16, refl, omega arith)
+refusal_below (refusal.VersionNotSupported kind) = (17, refl, omega arith)
+refusal_below refusal.NoSeat = (18, refl, omega arith)
+refusal_below refusal.Closed = (19, refl, omega arith)
+
+fault_below : (e : Fault) → IsBelow (fault_number e)
+fault_below fault.NotUtf8 = (100, refl, omega arith)
+fault_below fault.BadUuid = (101, refl, omega arith)
+fault_below fault.OutOfRange = (102, refl, omega arith)
+fault_below fault.NoTicket = (103, refl, omega arith)
+fault_below fault.NoWatch = (104, refl, omega arith)
+fault_below fault.BadRules = (105, refl, omega arith)
+fault_below fault.InUse = (106, refl, omega arith)
+fault_below fault.NoClient = (108, refl, omega arith)
+fault_below fault.NoPlace = (109, refl, omega arith)
+
+pub no_below : (e : Outcome) → IsNo e → IsBelow (outcome_number e)
+no_below (outcome.Refused e) is = refusal_below e
+no_below (outcome.Faulty e) is = fault_below e
+no_below outcome.Done is = absurd is
+no_below (outcome.Number n) is = absurd is
+no_below outcome.Nothing is = absurd is
+no_below (outcome.Is b) is = absurd is
+
+-- it is kept in 32 bits
+pub below_kept : (z : ℤ) → IsBelow z → to_z w32 (of_z w32 z) ≡ z
+below_kept z (k, is, low) =
+    to_z-of_z w32 z (record { sfits = subst (λ y. mag y < 2 ^ hbits w32) (sym is) (omega (arith, low)) })
+
+-- and is no 0
+pub negsuc_pos : {P : Type 0} (n m : ℕ) → negsuc n ≡ pos m → P
+negsuc_pos n m e = absurd (subst is_negative e tt) where
+  is_negative : ℤ → Type 0
+  is_negative (pos k) = ⊥
+  is_negative (negsuc k) = Unit {0}
+
+pub below_zero : {P : Type 0} (z : ℤ) → IsBelow z → z ≡ pos 0 → P
+below_zero z (k, is, low) zero = negsuc_pos k 0 (sym is ∙ zero)
+
+pub below_bits : {P : Type 0} (z : ℤ) → IsBelow z → of_z w32 z ≡ 0 → P
+below_bits z (k, is, low) zero = absurd (bits (subst (λ y. of_z w32 y ≡ 0) is zero)) where
+  bits : of_z w32 (negsuc k) ≡ 0 → ⊥
+  bits e = absurd (omega (arith, low, e))
+
+-- ---- what is said, or else a refusal
+
+abbrev pub Fine : {X : Type 0} → (X → Type 0) → Result X Outcome → Type 0
+Fine P (Ok x) = P x
+Fine P (Err e) = IsNo e
+
+-- anything is said
+abbrev pub Said : {X : Type 0} → Result X Outcome → Type 0
+Said r = Fine (λ _. ⊤) r
+
+fine_then : {A B : Type 0} (Q : B → Type 0) (r : Result A Outcome) (f : A → Result B Outcome) → Said r
+    → ((x : A) → Fine Q (f x)) → Fine Q (r >>= f)
+fine_then Q (Ok x) f is more = more x
+fine_then Q (Err e) f is more = is
+
+text_fine : (bytes : Bytes) → Said (text_said bytes)
+text_fine bytes = by_cases (is_utf8 bytes) where
+  by_cases : (b : Bool) → Said {X = Bytes} (if b then Ok bytes else Err (outcome.Faulty fault.NotUtf8))
+  by_cases true = tt
+  by_cases false = tt
+
+uuid_fine : (bytes : Bytes) → Said (uuid_said bytes)
+uuid_fine bytes = read (text_said bytes) where
+  is_one : (o : Option Bytes) → Said (or_bad_uuid o)
+  is_one None = tt
+  is_one (Some uuid) = tt
+
+  read : (r : Result Bytes Outcome) → Said (uuid_in r)
+  read (Ok text) = is_one (parsed text)
+  read (Err e) = tt
+
+-- the layout has as many seats as were asked for
+pub layout_fine : (id profile schema : Bytes) (slots seats : ℕ)
+    → Fine (λ (l : Layout). l.seats ≡ seats) (layout_said id profile schema slots seats)
+layout_fine id profile schema slots seats =
+    fine_then (λ (l : Layout). l.seats ≡ seats) (identity_said id profile schema) _
+    (fine_then (λ _. ⊤) (id_said id) _ (fine_then (λ _. ⊤) (uuid_said id) _ (uuid_fine id) (λ _. tt))
+    (λ _. fine_then (λ _. ⊤) (text_said profile) _ (text_fine profile)
+    (λ _. fine_then (λ _. ⊤) (text_said schema) _ (text_fine schema) (λ _. tt))))
+    (laid (out_of_range slots seats)) where
+      laid : (o : Option OutOfRange) (i : Identity) → Fine (λ (l : Layout). l.seats ≡ seats) (laid_out o i slots seats)
+      laid None i = refl
+      laid (Some e) i = tt
+
+rules_fine : (text : Bytes) → Said (rules_given text)
+rules_fine [] = tt
+rules_fine (b ∷ bytes) = read (rules_said (b ∷ bytes)) where
+  read : (r : Result Rules RuleFault) → Said (or_bad_rules r)
+  read (Ok rules) = tt
+  read (Err e) = tt
+
+-- ---- refusals
+
+pub opening_no : (grounds : Grounds) (e : Outcome) → IsOpeningRefusal grounds e → IsNo e
+opening_no grounds e (inl (inl is)) = subst IsNo (sym is) tt
+opening_no grounds e (inl (inr (inl is))) = subst IsNo (sym is) tt
+opening_no grounds e (inl (inr (inr is))) = subst IsNo (sym is) tt
+opening_no grounds e (inr (inl is)) = subst IsNo (sym is) tt
+opening_no grounds e (inr (inr (inl is))) = subst (Fine {X = Rules} (λ _. ⊤)) is (rules_fine grounds.rules.now)
+opening_no grounds e (inr (inr (inr is))) =
+    let w = grounds.with in
+    subst (Fine (λ (l : Layout). l.seats ≡ w.places)) is
+    (layout_fine w.id.now w.profile.now w.schema.now w.slots w.places)
+
+pub giving_no : (e : Outcome) → IsGivingRefusal e → IsNo e
+giving_no e (inl is) = subst IsNo (sym is) tt
+giving_no e (inr (inl is)) = subst IsNo (sym is) tt
+giving_no e (inr (inr is)) = subst IsNo (sym is) tt
+
+pub either_no : (grounds : Grounds) (e : Outcome) → IsOpeningRefusal grounds e ⊎ IsGivingRefusal e → IsNo e
+either_no grounds e (inl why) = opening_no grounds e why
+either_no grounds e (inr why) = giving_no e why

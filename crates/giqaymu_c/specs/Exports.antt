@@ -1,0 +1,110 @@
+-- What the functions that C calls answer.
+use Rattle.std.specs.Prelude.{ℕ, ℤ, pos, ◌≡◌, ◌⊎◌, ◌-◌, ◌<◌, List, length, slice_index_or, Option, Some, Ok, IsOk}
+use Rattle.std.specs.List.{All}
+use Rattle.group_history.specs.Map.{Bytes}
+use Rattle.host_places.specs.declared.faults.Fault.TheVariants.{OutOfRange}
+use Rattle.host_places.specs.declared.outcomes.Outcome.{Outcome}
+use Rattle.host_places.specs.declared.outcomes.Outcome.TheVariants.{Faulty}
+use Rattle.host_places.specs.Numbers.{outcome_number}
+use Rattle.host_places.specs.Opening.{IsNew, layout_said}
+use Rattle.rebase.specs.Clients.{Grouped}
+use Rattle.rebase.specs.Configs.{Layout}
+use Rattle.rule_mutators.specs.Rules.{Rules}
+use Rattle.giqaymu_c.specs.declared.exports.Answer.{Answer}
+use Rattle.giqaymu_c.specs.declared.handle.Handle.{Handle}
+use Rattle.giqaymu_c.specs.declared.jobs.Grounds.{Grounds}
+use Rattle.giqaymu_c.specs.declared.jobs.Numbered.{Numbered}
+use Rattle.giqaymu_c.specs.declared.jobs.Reply.{Reply}
+use Rattle.giqaymu_c.specs.Jobs.{HasCalled, IsGivingRefusal, IsOpeningRefusal, rules_given}
+use Rattle.giqaymu_c.specs.Spots.{SpotState}
+
+-- the number that is answered and what is written to `out` are those of a reply
+pub record IsTold (reply : Reply) (number : ℤ) (out : Answer) : Type 0 where
+  pub number_is : number ≡ reply.number
+  pub value_is : out.number ≡ reply.value
+  pub code_is : out.code ≡ reply.code
+  pub at_is : out.at ≡ reply.at
+  pub len_is : out.len ≡ reply.len
+
+-- the call of these numbers and bytes
+pub record IsNumbered (call : Numbered) (what m n : ℕ) (a b : Bytes) : Type 0 where
+  pub what_is : call.what ≡ what
+  pub m_is : call.m ≡ m
+  pub n_is : call.n ≡ n
+  pub a_is : call.a.now ≡ a
+  pub b_is : call.b.now ≡ b
+
+-- is made
+pub record IsCalled (rules : Rules) (what m n : ℕ) (a b : Bytes) (before : Option SpotState) (number : ℤ) (out : Answer)
+    (after : Option SpotState) : Type 0 where
+  pub call : Numbered
+  pub asked : IsNumbered call what m n a b
+  pub reply : Reply
+  pub told : IsTold reply number out
+  pub called : HasCalled rules call before reply after
+
+-- ---- opening
+
+-- A new place of a group that was opened by the rules of this text: nobody sits there. It has so many places of the
+-- group that are not given out yet.
+pub record IsNewPlace (group : Grouped) (commit : ℕ) (text : Bytes) (spare : ℕ) (h : Handle) : Type 0 where
+  pub text_is : h.text ≡ text
+  pub spot : SpotState
+  pub there : h.spot ≡ Some spot
+  pub new : IsNew group commit spot.desk.place
+  pub count : length spot.spare ≡ spare
+  pub all : All (λ d. IsNew group commit d.place) spot.spare
+
+-- the places from the second one to the n-th
+abbrev pub AreNew : Grouped → ℕ → Bytes → ℕ → List Handle → Type 0
+AreNew group commit text n places =
+    (i : ℕ) → 0 < i → i < n → (d : Handle) → IsNewPlace group commit text 0 (slice_index_or places i d)
+
+-- where the first place had all of a new group, each has one of them
+abbrev pub IsGivenOut : ℕ → Handle → Handle → ℤ → List Handle → Type 0
+IsGivenOut n first last number places = (group : Grouped) (commit : ℕ) (text : Bytes)
+    → IsNewPlace group commit text (n - 1) first → number ≡ pos 0
+    → IsNewPlace group commit text 0 last × AreNew group commit text n places
+
+-- Each is a place of one new group with this layout: nobody sits there, and its seat has seen the opening of the
+-- group's book alone.
+pub record AreGivenOut (layout : Layout) (text : Bytes) (places : List Handle) : Type 0 where
+  pub group : Grouped
+  pub commit : ℕ
+  pub identity : group.identity ≡ layout.identity
+  pub sizes : group.group.table.sizes ≡ record { readers = layout.seats; slots = layout.slots }
+  pub each : (i : ℕ) → i < length places → (d : Handle) → IsNewPlace group commit text 0 (slice_index_or places i d)
+
+-- with these grounds; their rules are rules
+pub record AreOpenedFor (grounds : Grounds) (places : List Handle) : Type 0 where
+  pub layout : Layout
+  pub said : layout_said grounds.with.id.now grounds.with.profile.now grounds.with.schema.now grounds.with.slots
+      grounds.with.places ≡ Ok layout
+  pub rules : IsOk (rules_given grounds.rules.now)
+  pub given : AreGivenOut layout grounds.rules.now places
+
+abbrev pub IsGivingFault : ℤ → Type 0
+IsGivingFault number = (e : Outcome) × (number ≡ outcome_number e) × IsGivingRefusal e
+
+abbrev pub IsOpeningFault : Grounds → ℤ → Type 0
+IsOpeningFault grounds number = (e : Outcome) × (number ≡ outcome_number e)
+    × (IsOpeningRefusal grounds e ⊎ IsGivingRefusal e)
+
+-- with this
+pub record IsOf (grounds : Grounds) (id profile schema rules : Bytes) (slots : ℕ) : Type 0 where
+  pub id_is : grounds.with.id.now ≡ id
+  pub profile_is : grounds.with.profile.now ≡ profile
+  pub schema_is : grounds.with.schema.now ≡ schema
+  pub rules_are : grounds.rules.now ≡ rules
+  pub slots_are : grounds.with.slots ≡ slots
+
+abbrev pub IsOpened : Bytes → Bytes → Bytes → Bytes → ℕ → List Handle → Type 0
+IsOpened id profile schema rules slots places = (grounds : Grounds) × IsOf grounds id profile schema rules slots
+    × (grounds.with.places ≡ length places) × AreOpenedFor grounds places
+
+-- or it is refused for a count that is out of range
+abbrev pub IsRefusedFor : Bytes → Bytes → Bytes → Bytes → ℕ → ℕ → ℤ → Type 0
+IsRefusedFor id profile schema rules slots count number =
+    ((number ≡ outcome_number (Faulty OutOfRange)) × ((count ≡ 0) ⊎ (256 < count)))
+    ⊎ ((grounds : Grounds) × IsOf grounds id profile schema rules slots × (grounds.with.places ≡ count)
+    × IsOpeningFault grounds number)

@@ -1,0 +1,39 @@
+-- What memory a place of a host has.
+use Rattle.std.specs.Prelude.{ℕ, zero, suc, [], Option, Some, None}
+use Rattle.std.specs.Box.Ownership.{box_owns}
+use Rattle.std.specs.contracts.marker.Brand as Brand
+use Rattle.std.specs.Global.{Global}
+use Rattle.std.specs.contracts.impls.GlobalAllocator.TheImpl.{ghosts}
+use Rattle.group_history.specs.Map.{Bytes}
+use Rattle.giqaymu_c.specs.contracts.spots.Spot as Spot
+use Rattle.giqaymu_c.specs.Jobs.{rules_meant}
+use Rattle.giqaymu_c.specs.Spots.{SpotState}
+use base.Fml.{Fml, ffalse, ftrue}
+use denote.Exit.{no}
+use denote.Param.{arg, param}
+use denote.RattleType.{RattleType}
+use denote.RawPtr.{Ptr}
+use mir.Syntax.{ty_struct, tnil}
+
+-- the allocator of the heap; each of its values is this one
+abbrev pub heap : Global
+heap = record { memory = record { seal = tt } }
+
+-- a box of a value at the pointer, where the flag is not 0; else nothing
+abbrev pub held_owns : (R : RattleType) → ℕ → Ptr → Option R.Denot → Fml
+held_owns R zero at None = ftrue
+held_owns R zero at (Some x) = ffalse
+held_owns R (suc k) at None = ffalse
+held_owns R (suc k) at (Some x) = box_owns (ghosts.dealloc_token heap) R at x
+
+-- the marker that names rules, as a call passes it
+abbrev pub marker : RattleType
+marker = arg (ty_struct [] tnil) no Brand.the_row
+
+-- a spot of a group whose rules this text says
+abbrev pub spot_row : Bytes → RattleType
+spot_row text = Spot.the_row (param 0 marker) (record { rules = rules_meant text })
+
+-- what a place has
+abbrev pub place_owns : Bytes → ℕ → Ptr → Option SpotState → Fml
+place_owns text flag at spot = held_owns (spot_row text) flag at spot

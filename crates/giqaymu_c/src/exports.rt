@@ -1,0 +1,179 @@
+//! What C calls.
+ghost use Rattle.std.specs.Prelude.{◌≡◌, ◌≢◌, ◌⊎◌, ◌<◌, None, length, pos};
+ghost use Rattle.std.specs.List.{All};
+ghost use Rattle.giqaymu_c.specs.Jobs.{Acts, HasOpened, IsFit, rules_meant};
+ghost use Rattle.giqaymu_c.specs.Exports.{AreOpenedFor, IsCalled, IsGivenOut, IsGivingFault, IsOpened, IsOpeningFault};
+ghost use Rattle.giqaymu_c.specs.Exports.{IsRefusedFor};
+ghost use Rattle.giqaymu_c.specs.declared.jobs.Reply.{Reply as HostReply};
+
+use crate::handle::{Handle, act};
+use crate::jobs::{Grounds, Job, Numbered, Reply};
+use host_places::{Fault, Opening, Outcome};
+use std::alloc::Global;
+
+/// What a call answers beside its number: bytes that lie there until the place's next call, a number and a code.
+#[repr(C)]
+#[derive(Drop)]
+pub struct Answer {
+    pub at: *const u8,
+    pub len: usize,
+    pub number: u64,
+    pub code: u32,
+}
+
+// Does a job at a place, and answers the place that is given.
+fn act_at(alloc: Global, place: &mut Handle, job: Job<'_>) -> (Handle, Reply)
+    requires { IsFit job (rules_meant place.old.text) }
+    ensures { (place.new.text ≡ place.old.text) × (result.0.text ≡ place.old.text)
+        × Acts job.entry (rules_meant place.old.text) place.old.spot result.1 place.new.spot result.0.spot }
+{
+    let handle = std::mem::replace(place, Handle::none_for(Job::Close));
+    let (handle, given, reply) = act(handle, alloc, job);
+    std::mem::replace(place, handle).forget();
+    (given, reply)
+}
+
+// Closes a place.
+fn close(alloc: Global, handle: Handle) {
+    let (handle, given, _) = act(handle, alloc, Job::Close);
+    handle.forget();
+    given.forget();
+}
+
+/// Makes the call of these numbers and bytes at a place. A closed place is refused.
+#[unsafe(no_mangle)]
+pub extern "C" fn giq_call(
+    alloc: Global,
+    place: &mut Handle,
+    what: u32,
+    m: u32,
+    n: u64,
+    a: &[u8],
+    b: &[u8],
+    out: &mut Answer,
+) -> i32
+    ensures same { place.new.text ≡ place.old.text }
+    ensures called { IsCalled (rules_meant place.old.text) what m n a.now b.now place.old.spot result out.new
+        place.new.spot }
+{
+    let call = Job::Call(Numbered { what, m, n, a, b });
+    let (given, reply) = act_at(alloc, place, call);
+    given.forget();
+    *out = Answer {
+        at: reply.at,
+        len: reply.len,
+        number: reply.value,
+        code: reply.code,
+    };
+    reply.number
+}
+
+/// Closes a place, with the client that sits there. The last one of a group frees it.
+#[unsafe(no_mangle)]
+pub extern "C" fn giq_close(alloc: Global, place: &mut Handle)
+    ensures { place.new.spot ≡ None }
+{
+    close(
+        alloc,
+        std::mem::replace(place, Handle::none_for(Job::Close)),
+    );
+}
+
+// Opens a group: this place has all of its places then.
+fn open_first(alloc: Global, grounds: Grounds<'_>) -> (Handle, i32)
+    ensures text { result.0.text ≡ grounds.entry.rules.now }
+    ensures opened { (reply : HostReply) × (result.1 ≡ reply.number) × HasOpened grounds.entry reply result.0.spot }
+{
+    let job = Job::Open(grounds);
+    let (handle, given, reply) = act(Handle::none_for(job), alloc, job);
+    given.forget();
+    (handle, reply.number)
+}
+
+// Puts a place in the stead of another one, which is closed.
+fn put(alloc: Global, place: &mut Handle, handle: Handle)
+    ensures { place.new ≡ handle }
+{
+    close(alloc, std::mem::replace(place, handle));
+}
+
+// Gives the places behind the first one, which is not among them now.
+fn give_out(alloc: Global, first: Handle, places: &mut [Handle]) -> (Handle, i32)
+    ensures count { length places.new ≡ length places.old }
+    ensures given { IsGivenOut (length places.old) first result.0 result.1 places.new }
+    ensures why { (result.1 ≡ pos 0) ⊎ IsGivingFault result.1 }
+{
+    let mut first = first;
+    for at in 1..places.len() {
+        let (next, given, reply) = act(first, alloc, Job::Give);
+        first = next;
+        put(alloc, &mut places[at], given);
+        if reply.number != 0 {
+            return (first, reply.number);
+        }
+    }
+    (first, 0)
+}
+
+fn close_all(alloc: Global, places: &mut [Handle])
+    ensures count { length places.new ≡ length places.old }
+    ensures closed { All (λ h. h.spot ≡ None) places.new }
+{
+    for at in 0..places.len() {
+        put(alloc, &mut places[at], Handle::none_for(Job::Close));
+    }
+}
+
+// Opens a group, and gives its places out.
+fn open_all(alloc: Global, grounds: Grounds<'_>, places: &mut [Handle]) -> i32
+    requires some { 0 < length places.old }
+    requires count { grounds.with.places ≡ length places.old }
+    ensures count { length places.new ≡ length places.old }
+    ensures opened { result ≡ pos 0 → AreOpenedFor grounds.entry places.new }
+    ensures refused { result ≢ pos 0 → IsOpeningFault grounds.entry result }
+{
+    let (first, number) = open_first(alloc, grounds);
+    if number != 0 {
+        close(alloc, first);
+        return number;
+    }
+    let (first, number) = give_out(alloc, first, places);
+    put(alloc, &mut places[0], first);
+    number
+}
+
+/// Opens a group, and gives out its places: as many as there is room for, 1 to 256. Places that were open are closed
+/// first. Where it is refused, all of them are closed. `rules` is a JSON text of rules, or no bytes.
+#[unsafe(no_mangle)]
+pub extern "C" fn giq_open(
+    alloc: Global,
+    id: &[u8],
+    profile: &[u8],
+    schema: &[u8],
+    rules: &[u8],
+    slots: u32,
+    places: &mut [Handle],
+) -> i32
+    ensures count { length places.new ≡ length places.old }
+    ensures opened { result ≡ pos 0 → IsOpened id.now profile.now schema.now rules.now slots places.new }
+    ensures refused { result ≢ pos 0 → All (λ h. h.spot ≡ None) places.new }
+    ensures why { result ≢ pos 0 → IsRefusedFor id.now profile.now schema.now rules.now slots (length places.old)
+        result }
+{
+    if places.len() < 1 || places.len() > 256 {
+        close_all(alloc, places);
+        return Outcome::Faulty(Fault::OutOfRange).number();
+    }
+    let with = Opening {
+        id,
+        profile,
+        schema,
+        slots,
+        places: places.len() as u32,
+    };
+    let number = open_all(alloc, Grounds { with, rules }, places);
+    if number != 0 {
+        close_all(alloc, places);
+    }
+    number
+}

@@ -1,0 +1,75 @@
+//! A place of a host, as C has it.
+ghost use Rattle.std.specs.Prelude.{◌≡◌, ℕ, List, None, Option};
+ghost use Rattle.giqaymu_c.specs.Spots.{SpotState, spot_coded};
+ghost use Rattle.giqaymu_c.specs.Jobs.{Acts, IsFit, rules_meant, text_for};
+
+use crate::held::Held;
+use crate::jobs::{Job, Reply};
+use crate::spots::{Spot, act_held};
+use std::alloc::Global;
+use std::marker::{Brand, Model};
+
+/// A place of a host: nothing, where the flag is 0. C zeroes it before it is opened, and changes nothing of it.
+///
+/// By which rules its group was opened, and how it stands, is ghost data.
+#[repr(C)]
+pub struct Handle {
+    at: *mut u8,
+    is_open: u64,
+    pub ghost text: { List ℕ },
+    pub ghost spot: { Option SpotState } by { spot_coded },
+}
+
+impl Model for Handle {
+    ghost use Rattle.giqaymu_c.specs.Owned.{place_owns};
+
+    ghost also_owns = { λ h. place_owns h.text h.is_open h.at h.spot };
+}
+
+impl Handle {
+    /// A closed place, at which this job fits.
+    pub(crate) fn none_for(job: Job<'_>) -> Handle
+        ensures { (result.spot ≡ None) × (result.text ≡ text_for job.entry) }
+    {
+        let _ = job;
+        Handle {
+            at: std::ptr::null_mut(),
+            is_open: 0,
+        }
+    }
+
+    /// Lets go of a closed place.
+    pub(crate) fn forget(self)
+        requires { self.spot ≡ None }
+    {
+        let Handle { at: _, is_open: _ } = self;
+    }
+}
+
+/// Does a job at a place. What comes second is the place that is given.
+///
+/// This and what it calls is inlined, so that a job is not copied on its way: a call takes some 9 ns less.
+#[inline(always)]
+pub(crate) fn act(handle: Handle, alloc: Global, job: Job<'_>) -> (Handle, Handle, Reply)
+    requires { IsFit job (rules_meant handle.text) }
+    ensures { (result.0.text ≡ handle.text) × (result.1.text ≡ handle.text)
+        × Acts job.entry (rules_meant handle.text) handle.spot result.2 result.0.spot result.1.spot }
+{
+    let Handle { at, is_open } = handle;
+    let held = Held {
+        at: at as *mut Spot<Brand>,
+        is_open,
+    };
+    let (first, second, reply) = act_held::<Brand>(held, alloc, job);
+    let Held { at, is_open } = first;
+    let first = Handle {
+        at: at as *mut u8,
+        is_open,
+    };
+    let Held { at, is_open } = second;
+    let second = Handle {
+        at: at as *mut u8,
+        is_open,
+    };
+    (first, second, reply)
+}

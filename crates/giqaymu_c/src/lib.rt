@@ -1,0 +1,22 @@
+//! Places at a group for C: three functions over `host_places`. `include/giqaymu.h` is the header.
+//!
+//! A place of a host is a pointer and a flag (`Handle`); a zeroed one is closed. `exports` has what C calls, in safe
+//! code. Raw pointers are in `parts`, `held` and `handle` alone, each function of which is a few moves, proved by hand.
+//!
+//! Decisions. A meaning belongs to a type, and rules are given when a group is opened: so what a place has is of a type
+//! that is named by a marker, and a handle keeps as ghost data by which rules. One function, `act`, goes from a handle
+//! to that type and back: it calls `act_held` at the marker, whose proof picks the rules of the handle. All that is
+//! done to a place is a `Job` of it.
+//!
+//! No clause says that C hands a place over as the library left it, to one call at a time: the header asks for that.
+#![tactic(auto)]
+
+mod exports;
+mod handle;
+mod held;
+mod jobs;
+mod parts;
+mod spots;
+
+pub use exports::{Answer, giq_call, giq_close, giq_open};
+pub use handle::Handle;
