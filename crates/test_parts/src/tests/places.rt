@@ -284,12 +284,32 @@ fn clients_sit_down_and_leave(rt: HostRuntime) -> Result<(), Fail> {
 }
 
 #[test]
-fn stories(rt: HostRuntime) -> Result<(), Fail> {
-    assert_eq!(rt; other_of(rt.alloc(), &NOTHING)?, None, "nothing");
-    assert_eq!(rt; other_of(rt.alloc(), &CHANGES)?, None, "changes");
-    assert_eq!(rt; other_of(rt.alloc(), &TICKETS)?, None, "tickets");
-    assert_eq!(rt; other_of(rt.alloc(), &ROWS)?, None, "rows");
-    assert_eq!(rt; other_of(rt.alloc(), &RESPONSES)?, None, "responses");
+fn a_group_with_nothing_in_it(rt: HostRuntime) -> Result<(), Fail> {
+    assert_eq!(rt; other_of(rt.alloc(), &NOTHING)?, None);
+    Ok(())
+}
+
+#[test]
+fn two_clients_and_a_pull(rt: HostRuntime) -> Result<(), Fail> {
+    assert_eq!(rt; other_of(rt.alloc(), &CHANGES)?, None);
+    Ok(())
+}
+
+#[test]
+fn tickets_have_numbers(rt: HostRuntime) -> Result<(), Fail> {
+    assert_eq!(rt; other_of(rt.alloc(), &TICKETS)?, None);
+    Ok(())
+}
+
+#[test]
+fn rows_and_watches(rt: HostRuntime) -> Result<(), Fail> {
+    assert_eq!(rt; other_of(rt.alloc(), &ROWS)?, None);
+    Ok(())
+}
+
+#[test]
+fn responses_that_say_nothing(rt: HostRuntime) -> Result<(), Fail> {
+    assert_eq!(rt; other_of(rt.alloc(), &RESPONSES)?, None);
     Ok(())
 }
 
@@ -339,20 +359,24 @@ fn calls_by_name(desk: &mut Desk<ScriptMutators>) -> Outcome {
     desk.call(Asked::Scan(all))
 }
 
-#[test]
-fn a_call_by_name(rt: HostRuntime) -> Result<(), Fail> {
-    let mut desks = seated(rt.alloc())?;
-    assert_eq!(rt; desks.len(), 2);
+/// Whether the calls tell the row, and a key that is no UTF-8 is refused without bytes.
+fn are_told(desk: &mut Desk<ScriptMutators>) -> bool {
+    let is_row = calls_by_name(desk) == Outcome::Done && desk.bytes() == br#"[["n",1]]"#.as_slice();
+    let refused = desk.call(Asked::Get(b"\xff"));
+    is_row && refused == Outcome::Faulty(Fault::NotUtf8) && desk.bytes().is_empty()
+}
+
+fn are_told_anew(alloc: Global) -> Result<bool, Outcome> {
+    let mut desks = seated(alloc)?;
     let Some(desk) = desks.first_mut() else {
-        return Ok(());
+        return Ok(false);
     };
-    assert_eq!(rt; calls_by_name(desk), Outcome::Done);
-    assert_eq!(rt; desk.bytes(), br#"[["n",1]]"#.as_slice());
-    assert_eq!(rt;
-        desk.call(Asked::Get(b"\xff")),
-        Outcome::Faulty(Fault::NotUtf8)
-    );
-    assert!(rt; desk.bytes().is_empty());
+    Ok(are_told(desk))
+}
+
+#[test]
+fn calls_by_their_names(rt: HostRuntime) -> Result<(), Fail> {
+    assert!(rt; are_told_anew(rt.alloc())?);
     Ok(())
 }
 
