@@ -17,7 +17,6 @@ use Rattle.group_history.specs.Meaning.{Meanings}
 use Rattle.group_history.specs.Mutating.{mutate_reply}
 use Rattle.group_history.specs.Record.{after}
 use Rattle.group_history.specs.State.{State}
-use Rattle.group_history.proofs.Lists.{prefix_self, prefix_trans}
 use Rattle.head_word.specs.declared.entry.Entry.{Entry}
 use Rattle.head_word.specs.declared.entry.Entry.TheVariants as v
 use Rattle.head_word.specs.Books.{record_of, with_change}
@@ -302,7 +301,7 @@ told_refusal : {X Y : Type 0} (f : X → Y) (r : Result X Refusal) (e : Refusal)
 told_refusal f r e is = ap (map_ok f) is
 
 -- an answer is told as it is
-answers_told : {X : Type 0} (f : X → Replied) (means : Meanings) (tries : ℕ) (old new : Known)
+pub answers_told : {X : Type 0} (f : X → Replied) (means : Meanings) (tries : ℕ) (old new : Known)
     (r : Result X Refusal) (change : Result X Refusal → Option Change) (right : State → Result X Refusal)
     (shown : Result Replied Refusal → Option Change) (told_right : State → Result Replied Refusal)
     → shown (map_ok f r) ≡ change r → ((s : State) → told_right s ≡ map_ok f (right s))
@@ -356,11 +355,11 @@ query_told f g shown means tries old new c x y r m right is_call same is_told no
     call_told shown means tries old new c x y (map_ok g r) (map_ok reply_seen m) no_change (λ s. Ok (right s)) is_call
     (mapped f (λ z. shown (g z)) r m same is_told ∙ told_twice shown g r) none seen is
 
-ended_shown : (r : Result Ended Refusal) → map_ok ended_in (map_ok ended r) ≡ r
+pub ended_shown : (r : Result Ended Refusal) → map_ok ended_in (map_ok ended r) ≡ r
 ended_shown (Ok e) = refl
 ended_shown (Err e) = refl
 
-id_shown : (r : Result ℕ Refusal) → map_ok id_in (map_ok id r) ≡ r
+pub id_shown : (r : Result ℕ Refusal) → map_ok id_in (map_ok id r) ≡ r
 id_shown (Ok n) = refl
 id_shown (Err e) = refl
 

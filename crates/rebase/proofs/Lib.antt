@@ -6,3 +6,4 @@ mod Telling
 mod Unread
 mod Polling
 pub mod Causing
+mod Running

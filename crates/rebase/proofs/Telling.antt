@@ -3,7 +3,7 @@ use Rattle.std.proofs.Common.{◌≡◌, ℕ, ◌+◌, ◌<◌, ◌^◌, Bool, t
 use Rattle.std.proofs.Common.{ap, subst, ◌∙◌}
 use Rattle.std.specs.Prelude.{nat_eq, if◌then◌else◌, IfOk, IfSome, IsSome}
 use Rattle.group_history.specs.declared.changes.Change.{Change}
-use Rattle.group_history.specs.declared.changes.Change.TheVariants.{Mutated, Pulled}
+use Rattle.group_history.specs.declared.changes.Change.TheVariants.{Mutated, Pulled, Closed}
 use Rattle.group_history.specs.declared.mutations.Mutation.{Mutation}
 use Rattle.group_history.specs.declared.refs.Ref.{Ref}
 use Rattle.group_history.specs.declared.refusals.Refusal.{Refusal}
@@ -25,10 +25,11 @@ use Rattle.head_word.specs.Books.{record_of}
 use Rattle.head_word.specs.Marks.{Known}
 use Rattle.commit_graph.specs.LastIds.{last_at}
 use Rattle.answered.specs.Answered.{IsLinearized, IsPoint, IsRefused, is_resource_refusal}
-use Rattle.answered.specs.Changes.{change_applied, change_made}
+use Rattle.answered.specs.Changes.{change_applied, change_closing, change_made}
 use Rattle.group_steps.specs.Missing.{map_ok}
 use Rattle.group_steps.specs.Changing.{ended_as, is_made}
-use Rattle.group_steps.specs.Proposing.{HasLast, asked_reply, change_asked, is_applied}
+use Rattle.group_steps.specs.Proposing.{HasLast, asked_reply, change_asked, closing_reply, is_applied}
+use Rattle.rebase.specs.Inside.Made.{closing_ended}
 
 -- a value
 answers_as : {X Y : Type 0} (means : Meanings) (tries : ℕ) (old new : Known) (x : X) (y : Y)
@@ -166,3 +167,38 @@ pull_told means tries old new last t r (Err e) is =
     refuses_as means tries old new e (change_asked (Pulled t r)) (change_applied t r)
     (λ s. asked_reply means s last (Pulled t r)) (λ s. end_reply s t.text (response.Ok r)) refl refl
     (λ s h. told_refused is_applied (end_reply s t.text (response.Ok r)) e h) is
+
+-- A CLOSING
+
+closed_told : (b : Bool) → closing_reply b ≡ Ok true
+    → (let w : Result Ended Refusal = if b then Err refusal.Closed else Err refusal.StateNotFound in w)
+    ≡ Err refusal.StateNotFound
+closed_told true h = absurd (cc h)
+closed_told false h = refl
+
+never_kept : (b : Bool) → closing_reply b ≡ Ok false → ⊥
+never_kept true h = cc h
+never_kept false h = cc h
+
+pub never_unknown : (b : Bool) → closing_reply b ≡ Err refusal.StateNotFound → ⊥
+never_unknown true h = cc h
+never_unknown false h = cc h
+
+closed_before : (b : Bool) (e : Refusal) → closing_reply b ≡ Err e
+    → (let w : Result Ended Refusal = if b then Err refusal.Closed else Err refusal.StateNotFound in w) ≡ Err e
+closed_before true e h = let same : refusal.Closed ≡ e = cc h in ap Err same
+closed_before false e h = absurd (cc h)
+
+-- a closing is told as the refusal that it stands for
+pub closing_told : (means : Meanings) (tries : ℕ) (old new : Known) (last : ℕ) (ticket : Bytes)
+    (made : Result (Option Ref) Refusal)
+    → IsLinearized means tries old new (map_ok is_made made) (change_asked Closed) (λ s. asked_reply means s last Closed)
+    → IsLinearized means tries old new (closing_ended made) change_closing (λ s. end_reply s ticket response.StateNotFound)
+closing_told means tries old new last ticket (Ok (Some at)) is =
+    (is.0, is.1, closed_told (after (record_of is.0)).closed is.2)
+closing_told means tries old new last ticket (Ok None) is = absurd (never_kept (after (record_of is.0)).closed is.2)
+closing_told means tries old new last ticket (Err refusal.StateNotFound) is =
+    absurd (never_unknown (after (record_of is.0)).closed is.2)
+closing_told means tries old new last ticket (Err e) is =
+    refuses_as means tries old new e (change_asked Closed) change_closing (λ s. asked_reply means s last Closed)
+    (λ s. end_reply s ticket response.StateNotFound) refl refl (λ s h. closed_before s.closed e h) is

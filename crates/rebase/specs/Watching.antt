@@ -1,6 +1,6 @@
 -- What a watch answers: the rows of its scan, where they are others than those that it answered last.
 -- This project's own rule; Replicache's subscriptions tell of the same differences.
-use Rattle.std.specs.Prelude.{Bool, false, ◌&&◌, List, Option, Some, None, Result, Ok, if◌then◌else◌}
+use Rattle.std.specs.Prelude.{Bool, false, ◌&&◌, Option, Some, None, Result, Ok, if◌then◌else◌}
 use Rattle.std.specs.Cmp.{IsEquivalence, and_equiv, on_equiv}
 use Rattle.std.specs.Cmp.Lexicographic.{lists_equiv, nat_list_eq_equiv, pointwise}
 use Rattle.logbook.specs.Pages.{Book}

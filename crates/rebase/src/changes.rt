@@ -29,7 +29,7 @@ use crate::tickets::Ticket;
 use chunk_slots::Store;
 use commit_graph::LastId;
 use group_history::{
-    Change, Cookie, Ended, Json, Mutation, Mutators, PullOk, Ref, Refusal, Response, Text,
+    Change, Cookie, Ended, Json, Means, Mutation, Mutators, PullOk, Ref, Refusal, Response, Text,
     VersionKind,
 };
 use group_steps::{Request, SharedGroup, closed_at, make_change};
@@ -47,12 +47,69 @@ fn is_passing<T>(reply: &Result<T, Refusal>) -> bool
 }
 
 // How a pull was ended whose commit stands there, if it changed anything.
-fn ended_as(made: Result<Option<Ref>, Refusal>) -> Result<Ended, Refusal>
+pub(crate) fn ended_as(made: Result<Option<Ref>, Refusal>) -> Result<Ended, Refusal>
     ensures { result ≡ map_ok ended_as made }
 {
     match made? {
         Some(_) => Ok(Ended::Applied),
         None => Ok(Ended::Same),
+    }
+}
+
+impl<M: Means, S: Store<M>> Client<M, S>
+where
+    S::Seat: Drop,
+{
+    // Where the client's next mutation was made, its id is the client's last one, and is answered.
+    pub(crate) fn keep_next(&mut self, made: Result<Option<Ref>, Refusal>) -> Result<u64, Refusal>
+        requires made { IfOk made IsSome }
+        requires found { IfOk made (λ made. IfSome made
+            (λ at. (last_at (drawn self.old.seat.mark.log) (stamp_of at) self.old.id ≡ Some (self.old.last + 1))
+            × (self.old.last + 1 < 2 ^ 53))) }
+        ensures id { result ≡ map_ok (λ at. self.old.last + 1) made }
+        ensures last { IfOk result (λ id. self.new.last ≡ id) }
+        ensures left { IfErr result (λ _. self.new.last ≡ self.old.last) }
+        ensures seat { self.new.seat ≡ self.old.seat }
+        ensures same { IsSameClient self.old self.new }
+    {
+        let Some(at) = made? else { unreachable!() };
+        self.found = at;
+        self.last += 1;
+        Ok(self.last)
+    }
+
+    // Ends a pull whose server does not support a version.
+    pub(crate) fn end_unsupported(
+        &mut self,
+        kind: VersionKind,
+        tries: u32,
+    ) -> Result<Ended, Refusal>
+        ensures answer { (ticket : Bytes) → IsLinearized M.means tries self.old.seat.mark self.new.seat.mark result
+            no_change
+            (λ s. end_reply s ticket (response.VersionNotSupported kind)) }
+        ensures acts { Acts S.reused self.old self.new × (self.new.last ≡ self.old.last) }
+        ensures cause { IfErr result (HasCause M.means S.reused self.old.last None
+            self.old.seat self.new.seat) }
+        ensures frees { S.reused → Frees self.old.group.group.table.sizes.slots self.old.seat self.new.seat
+            (None) }
+    {
+        let at = self.pin_and_load(tries)?;
+        let closed = closed_at(&self.here(at, tries));
+        self.unpin();
+        if closed? {
+            return Err(Refusal::Closed);
+        }
+        Err(Refusal::VersionNotSupported(kind))
+    }
+
+    // Reads the bytes of a response. What the client has seen is a legal book.
+    pub(crate) fn response_in(&self, body: &[u8]) -> Result<Response, Refusal>
+        ensures read { Reads result (answer_to body.now) }
+        ensures legal { IsOpened M.means self.now.seat.mark.log }
+    {
+        self.seat.mark.legal();
+        let group: &SharedGroup<M, S> = &self.group;
+        read_response(group.shared.alloc, body)
     }
 }
 
@@ -85,24 +142,6 @@ where
         let made = make_change::<M, S>(&self.group, &mut self.seat, &request, tries);
         drop(change);
         made
-    }
-
-    // Where the client's next mutation was made, its id is the client's last one, and is answered.
-    fn keep_next(&mut self, made: Result<Option<Ref>, Refusal>) -> Result<u64, Refusal>
-        requires made { IfOk made IsSome }
-        requires found { IfOk made (λ made. IfSome made
-            (λ at. (last_at (drawn self.old.seat.mark.log) (stamp_of at) self.old.id ≡ Some (self.old.last + 1))
-            × (self.old.last + 1 < 2 ^ 53))) }
-        ensures id { result ≡ map_ok (λ at. self.old.last + 1) made }
-        ensures last { IfOk result (λ id. self.new.last ≡ id) }
-        ensures left { IfErr result (λ _. self.new.last ≡ self.old.last) }
-        ensures seat { self.new.seat ≡ self.old.seat }
-        ensures same { IsSameClient self.old self.new }
-    {
-        let Some(at) = made? else { unreachable!() };
-        self.found = at;
-        self.last += 1;
-        Ok(self.last)
     }
 
     /// Makes a mutation, and answers its id: one more than the client's last id, which it then is (Replicache, How It
@@ -176,36 +215,6 @@ where
             Ok(_) => Err(Refusal::StateNotFound),
             Err(e) => Err(e),
         }
-    }
-
-    // Ends a pull whose server does not support a version.
-    fn end_unsupported(&mut self, kind: VersionKind, tries: u32) -> Result<Ended, Refusal>
-        ensures answer { (ticket : Bytes) → IsLinearized M.means tries self.old.seat.mark self.new.seat.mark result
-            no_change
-            (λ s. end_reply s ticket (response.VersionNotSupported kind)) }
-        ensures acts { Acts S.reused self.old self.new × (self.new.last ≡ self.old.last) }
-        ensures cause { IfErr result (HasCause M.means S.reused self.old.last None
-            self.old.seat self.new.seat) }
-        ensures frees { S.reused → Frees self.old.group.group.table.sizes.slots self.old.seat self.new.seat
-            (None) }
-    {
-        let at = self.pin_and_load(tries)?;
-        let closed = closed_at(&self.here(at, tries));
-        self.unpin();
-        if closed? {
-            return Err(Refusal::Closed);
-        }
-        Err(Refusal::VersionNotSupported(kind))
-    }
-
-    // Reads the bytes of a response. What the client has seen is a legal book.
-    fn response_in(&self, body: &[u8]) -> Result<Response, Refusal>
-        ensures read { Reads result (answer_to body.now) }
-        ensures legal { IsOpened M.means self.now.seat.mark.log }
-    {
-        self.seat.mark.legal();
-        let group: &SharedGroup<M, S> = &self.group;
-        read_response(group.shared.alloc, body)
     }
 
     /// Ends a pull with the bytes of its response (Replicache, Pull Endpoint Reference, version 1; How It Works, "Pull"

@@ -19,10 +19,13 @@
 //! may be polled by any client of its group: it keeps the rows told last and what was seen of the book then, so at a
 //! root that it met before a poll reads no row. A seat that comes back needs the room that it left, so `back` takes no
 //! memory. A list of calls says of a refusal what names can say (`MayRefuse`); the cause of each is a clause of
-//! `make_call`.
+//! `make_call`. A change whose mutators the caller runs (`Asking`) has its client, so no other call is made meanwhile,
+//! and keeps the pin; what was known when its call began is no data of the type, so its clauses hold of each client by
+//! which it began (`BeganAs`). That a run did what the group's meanings say is the one premise, and stands on `ran`.
 #![tactic(auto)]
 
 mod answering;
+mod asking;
 mod calls;
 mod changes;
 mod client;
@@ -34,6 +37,7 @@ mod seats;
 mod tickets;
 mod watching;
 
+pub use asking::{Asked, Asking};
 pub use calls::{Call, Mutate, Reply};
 pub use chunk_slots::{Append, Arena};
 pub use client::Client;

@@ -1,4 +1,4 @@
-use Rattle.std.proofs.Common.{◌+◌, arith, is_ok, refl, sym, subst, ap, ◌∙◌, length, map, take, ◌∷◌, [], length-append}
+use Rattle.std.proofs.Common.{◌+◌, arith, is_ok, subst, ap, ◌∙◌, length, map, take, ◌∷◌, [], length-append}
 use Rattle.map_chunks.proofs.ListLemmas.{succeeded}
 use Rattle.commit_graph.proofs.Seating.{seat-trans}
 use Rattle.group_steps.specs.Missing.{map_ok}

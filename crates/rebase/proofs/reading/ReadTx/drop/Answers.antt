@@ -1,10 +1,9 @@
-use Rattle.std.proofs.Common.{◌≡◌, [], ap, sym, subst, ◌∙◌}
-use Rattle.std.specs.Arc.{arc_value}
-use Rattle.head_word.specs.Marks.{Known, own}
+use Rattle.std.proofs.Common.{◌≡◌, ap, sym, subst, ◌∙◌}
+use Rattle.head_word.specs.Marks.{own}
 use Rattle.reader_claims.specs.declared.view.View.{View}
 use Rattle.reader_claims.specs.declared.words.Pin.TheVariants.{Absent}
 use Rattle.reader_claims.specs.Views.{with_pin}
-use Rattle.commit_graph.specs.Seats.{IsCalm, IsLater, IsSameSeat, HasLooked, Seated}
+use Rattle.commit_graph.specs.Seats.{IsCalm, IsLater, Seated}
 use Rattle.commit_graph.proofs.Seating.{later-self}
 use Rattle.rebase.specs.Clients.{ClientState}
 use Rattle.rebase.specs.Readers.{lent}

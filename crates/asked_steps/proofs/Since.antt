@@ -1,0 +1,247 @@
+-- What the tries of a call come to, since it began.
+use Rattle.std.proofs.Common.{◌≡◌, inr, ℕ, ◌+◌, ◌<◌, ◌≤◌, ◌-◌, max, Bool, true, false, List, Option, Some, None, Result, Ok, Err, filter, length}
+use Rattle.std.proofs.Common.{refl, sym, ap, subst, ◌∙◌, arith}
+use Rattle.std.specs.Prelude.{IfOk, IfErr}
+use mathlib.Core.List.{IsPrefix}
+use Rattle.group_history.specs.declared.changes.Change.{Change}
+use Rattle.group_history.specs.declared.changes.Change.TheVariants.{Mutated, Pulled, Closed}
+use Rattle.group_history.specs.declared.refs.Ref.{Ref}
+use Rattle.group_history.specs.declared.mutators.Ran.{Ran}
+use Rattle.group_history.specs.declared.refusals.Refusal.{Refusal}
+use Rattle.group_history.specs.declared.refusals.Refusal.TheVariants as refusal
+use Rattle.group_history.specs.Meaning.{Meanings}
+use Rattle.group_history.specs.Mutating.{mutate_reply}
+use Rattle.group_history.specs.Record.{after}
+use Rattle.group_history.specs.Spelling.{Contents}
+use Rattle.group_history.specs.State.{State}
+use Rattle.group_history.proofs.Lists.{prefix_trans}
+use Rattle.head_word.specs.declared.entry.Entry.{Entry}
+use Rattle.head_word.specs.Books.{drawn, last_move, next_stamp, record_of}
+use Rattle.head_word.specs.Marks.{Known, others, own_of}
+use Rattle.reader_claims.specs.Machine.{Moves}
+use Rattle.chunk_slots.specs.Seats.{IsIdle}
+use Rattle.commit_graph.specs.Seats.{GroupId, HasLooked, IsSameSeat, Seated}
+use Rattle.commit_graph.proofs.Seating.{seat-trans}
+use Rattle.answered.specs.Answered.{IsLinearized, is_move, is_resource_refusal, own_moves}
+use Rattle.answered.specs.Trying.{IsBase}
+use Rattle.answered.proofs.Losing.{lost_to_others, point_since}
+use Rattle.publishing.specs.Retiring.{GivesBack}
+use Rattle.group_steps.specs.Arriving.{IsArrived, when_seen}
+use Rattle.group_steps.specs.Causes.{HasCauseAt}
+use Rattle.group_steps.specs.Changing.{AnswersTry, EndsTry, change_tried, is_made}
+use Rattle.group_steps.specs.Leaving.{Frees}
+use Rattle.group_steps.specs.Missing.{IsStop, map_ok}
+use Rattle.group_steps.specs.Proposing.{HasLast, IsUnmade, asked_reply, change_asked, closing_reply}
+use Rattle.group_steps.specs.declared.changing.Tried.{Tried}
+use Rattle.group_steps.specs.declared.changing.Tried.TheVariants as tried
+use Rattle.group_steps.proofs.Giving.{cause_arrived, cause_other, frees_since, frees_then, gives_gives, gives_kept, gives_moves}
+use Rattle.group_steps.proofs.Making.{wanting}
+use Rattle.group_steps.proofs.Trying.{try_answered}
+use Rattle.asked_steps.specs.Runs.{IsBehind, IsFirst}
+use Rattle.asked_steps.specs.Tries.{BeginsFirst, Follows, GoesBehind, IsPassed, NeedsNone, StartsAnew}
+use Rattle.asked_steps.specs.declared.runs.AskedRun.{AskedRun}
+use Rattle.asked_steps.specs.declared.runs.Step.{Step}
+use Rattle.asked_steps.specs.declared.trying.Attempt.{Attempt}
+use Rattle.asked_steps.specs.declared.trying.Turn.{Turn}
+use Rattle.asked_steps.specs.declared.trying.Turn.TheVariants as turn
+use Rattle.asked_steps.specs.Tries.{IsArrivedSince, IsEnded, IsFound, IsGoing, IsProgress, IsSince, IsTurn, TellsTurn, turn_of}
+use Rattle.asked_steps.specs.declared.trying.Progress.{Progress}
+use Rattle.asked_steps.specs.declared.trying.Progress.TheVariants as progress
+
+-- THE BEGINNING OF A TRY
+
+-- a call that lost so many tries arrives
+pub arrived_since : (means : Meanings) (reused : Type 0) (before old new : Seated) (lost : ℕ) (seen : List Entry) (base : Ref)
+    (first : ℕ) → IsSince reused before lost old
+    → IsArrived means old.mark (when_seen old.mark seen) new.mark base first
+    → HasLooked reused old new → (reused → Moves old.view new.view)
+    → IsArrivedSince means reused before lost seen new
+arrived_since means reused before old new lost seen base first i a looked moves = record {
+  arrived = record {
+    point = point_since means before.mark old.mark new.mark None seen i.same.later.seen i.same.later.seat i.own a.point;
+    last = refl;
+    spelled = subst (λ (b : Ref). IsBase means new.mark b (after (record_of seen))) a.last a.spelled;
+    drawn = refl;
+    seat = refl;
+    since = a.since;
+    own = ap (λ (s : Option ℕ). filter is_move (own_of s seen)) (sym i.same.later.seat) ∙ a.own ∙ i.own;
+    same = a.same ∙ i.own;
+    before = omega (arith, i.others, a.before, number);
+    others = omega (arith, i.others, a.others);
+  };
+  same = seat-trans before old new i.same looked.seat;
+  others = omega (arith, i.others, a.before, number);
+  gave = λ r. gives_gives before.table.sizes.slots before.view old.view new.view (i.gave r)
+      (gives_kept before.table.sizes.slots old.view new.view (moves r) (looked.calm r).1);
+}
+  where
+    number : others (when_seen old.mark seen) ≡ others (when_seen before.mark seen)
+    number = ap (λ (s : Option ℕ). length seen - length (own_of s seen)) i.same.later.seat
+
+-- a call whose pin was lost to others ends
+pub refused_since : (means : Meanings) (reused : Type 0) (tries : ℕ) (before old new : Seated) (lost last : ℕ) (c : Change)
+    (e : Refusal) → IsSince reused before lost old → HasLooked reused old new → (reused → Moves old.view new.view)
+    → (e ≡ refusal.Busy) × reused × (new.mark ≡ old.mark) → IsEnded means reused tries before new last c (Err e)
+refused_since means reused tries before old new lost last c e i looked moves busy = record {
+  answer = wanting means tries before.mark new.mark e (change_asked c) (λ s. asked_reply means s last c) refl
+      (ap is_resource_refusal busy.0) (ap own_moves busy.2 ∙ i.own, λ moved. absurd (cc (sym busy.0 ∙ moved)));
+  cause = cause_other means reused last c before new e (λ full. cc (sym busy.0 ∙ full))
+      (λ stamps. cc (sym busy.0 ∙ stamps)) (λ is. busy.1);
+  frees = λ r. gives_gives before.table.sizes.slots before.view old.view new.view (i.gave r)
+      (gives_kept before.table.sizes.slots old.view new.view (moves r) (looked.calm r).1);
+}
+
+-- a call whose tries were all lost ends
+pub moved_since : (means : Meanings) (reused : Type 0) (tries : ℕ) (before new : Seated) (lost last : ℕ) (c : Change)
+    → IsSince reused before lost new → max 1 tries ≤ lost
+    → IsEnded means reused tries before new last c (Err refusal.Moved)
+moved_since means reused tries before new lost last c i many = record {
+  answer = wanting means tries before.mark new.mark refusal.Moved (change_asked c) (λ s. asked_reply means s last c) refl
+      refl (i.own, λ moved. omega (arith, i.others, many));
+  cause = cause_other means reused last c before new refusal.Moved (λ full. cc full) (λ stamps. cc stamps)
+      (λ busy. absurd (cc busy));
+  frees = i.gave;
+}
+
+-- THE END OF A TRY
+
+-- a try that arrived ended so, and then the pin was taken away
+pub tried_since : (means : Meanings) (reused : Type 0) (tries : ℕ) (before mid done new : Seated) (lost last : ℕ) (c : Change)
+    (seen : List Entry) (base : Ref) (r : Result Tried Refusal) → base ≡ last_move seen
+    → IsArrivedSince means reused before lost seen mid → IsSameSeat mid done → HasLooked reused done new
+    → (reused → Moves done.view new.view) → new.mark ≡ done.mark
+    → IfOk r (EndsTry means mid.mark done.mark base (after (record_of seen)) last c)
+    → IfErr r (IsUnmade (IsStop reused) (change_asked c) (asked_reply means (after (record_of seen)) last c) tries
+    mid.mark done.mark)
+    → IfErr r (HasCauseAt means reused (after (record_of seen)) last c mid done)
+    → (reused → Frees before.table.sizes.slots mid done (change_tried c r))
+    → TellsTurn means reused tries before lost new last c (turn_of r)
+tried_since means reused tries before mid done new lost last c seen base r stood a more looked moves mark ok err cause
+    frees = ends r answers ok cause frees
+  where
+    answers : AnswersTry means tries before.mark done.mark last c r
+    answers = try_answered reused means tries before.mark (when_seen before.mark seen) mid.mark done.mark
+        (last_move seen) (next_stamp mid.mark.log) last c r a.arrived a.same.later.seen a.same.later.seat more.later.seen
+        more.later.seat (subst (λ (b : Ref). IfOk r (EndsTry means mid.mark done.mark b (after (record_of seen)) last c))
+        stood ok) err
+
+    rest : reused → GivesBack before.table.sizes.slots done.view new.view
+    rest again = gives_kept before.table.sizes.slots done.view new.view (moves again) (looked.calm again).1
+
+    whole : (o : Option Change) → (reused → Frees before.table.sizes.slots mid done o)
+        → reused → Frees before.table.sizes.slots before new o
+    whole o f again = frees_then before.table.sizes.slots before done new o mark (rest again)
+        (frees_since before.table.sizes.slots before mid done o a.same (a.gave again) (f again))
+
+    ends : (w : Result Tried Refusal) → AnswersTry means tries before.mark done.mark last c w
+        → IfOk w (EndsTry means mid.mark done.mark base (after (record_of seen)) last c)
+        → IfErr w (HasCauseAt means reused (after (record_of seen)) last c mid done)
+        → (reused → Frees before.table.sizes.slots mid done (change_tried c w))
+        → TellsTurn means reused tries before lost new last c (turn_of w)
+    ends (Ok (tried.Made at)) t is h f = record {
+      answer = subst (λ (m : Known). IsLinearized means tries before.mark m (Ok true) (change_asked c)
+          (λ s. asked_reply means s last c)) (sym mark) t.0;
+      cause = tt;
+      frees = whole (Some c) f;
+    }
+    ends (Ok tried.Same) t is h f = record {
+      answer = subst (λ (m : Known). IsLinearized means tries before.mark m (map_ok is_made (Ok None)) (change_asked c)
+          (λ s. asked_reply means s last c)) (sym mark) t;
+      cause = tt;
+      frees = whole None f;
+    }
+    ends (Ok tried.Lost) t is h f =
+        let away = lost_to_others (when_seen before.mark seen) done.mark (last_move seen)
+        (prefix_trans seen mid.mark.log done.mark.log a.arrived.since more.later.seen)
+        (more.later.seat ∙ a.same.later.seat) (t.0 ∙ sym a.arrived.own) refl (λ here. is.1 (here ∙ sym stood)) in
+        record {
+          same = seat-trans before done new (seat-trans before mid done a.same more) looked.seat;
+          own = ap own_moves mark ∙ t.0;
+          others = omega (arith, a.others, away, ap others mark);
+          gave = whole None f;
+        }
+    ends (Err e) t is h f = record {
+      answer = subst (λ (m : Known). IsLinearized means tries before.mark m (Err e) (change_asked c)
+          (λ s. asked_reply means s last c)) (sym mark) t;
+      cause = cause_arrived means reused last c before mid done new seen e a.arrived.point.since
+          (subst (λ (m : Known). IsPrefix seen m.log) (sym mark)
+          (prefix_trans seen mid.mark.log done.mark.log a.arrived.since more.later.seen)) a.same.table
+          (λ again. gives_moves before.table.sizes.slots before.view mid.view (a.gave again)) moves mark h;
+      frees = whole None f;
+    }
+
+-- WHAT IS FOUND
+
+no_false : (r : Result ℕ Refusal) → map_ok (λ (id : ℕ). true) r ≡ Ok false → ⊥
+no_false (Ok n) h = cc h
+no_false (Err e) h = cc h
+
+never_kept : (b : Bool) → closing_reply b ≡ Ok false → ⊥
+never_kept true h = cc h
+never_kept false h = cc h
+
+same_found : (means : Meanings) (cs : Contents) (s : State) (last : ℕ) (c : Change) → asked_reply means s last c ≡ Ok false
+    → IsFound cs c (Ok None)
+same_found means cs s last (Mutated x) h = no_false (mutate_reply means s last x) h
+same_found means cs s last (Pulled ticket r) h = tt
+same_found means cs s last Closed h = never_kept s.closed h
+
+-- how a try ended that needed no run more
+pub turn_ended : (means : Meanings) (reused : Type 0) (old done new : Seated) (base : Ref) (s : State) (last : ℕ) (c : Change)
+    (r : Result Tried Refusal) → new.mark ≡ done.mark → (reused → IsIdle new.view)
+    → IfOk r (EndsTry means old.mark done.mark base s last c) → IsTurn means reused old new s last c (turn_of r)
+turn_ended means reused old done new base s last c (Ok (tried.Made at)) mark idle is =
+    (idle, subst (λ (m : Known). HasLast (drawn m.log) at c) (sym mark) is.2)
+turn_ended means reused old done new base s last c (Ok tried.Same) mark idle is =
+    (idle, same_found means (drawn new.mark.log) s last c is.0)
+turn_ended means reused old done new base s last c (Ok tried.Lost) mark idle is = idle
+turn_ended means reused old done new base s last c (Err e) mark idle is = (idle, tt)
+
+-- THE TRIES OF A CALL
+
+-- a try that goes on is one that the call may make
+pub going_progress : (means : Meanings) (reused : Type 0) (group : GroupId) (new : Seated) (lost tries last : ℕ) (c : Change)
+    {M : Type 0} (p : Progress M) → lost < max 1 tries → IsGoing means reused group new lost last c (Some p)
+    → IsProgress means reused group new tries last c p
+going_progress means reused group new lost tries last c (progress.Run a) low is =
+    (is.0, subst (λ (n : ℕ). n < max 1 tries) (sym is.1) low, is.2)
+going_progress means reused group new lost tries last c (progress.Ended made) low is = is
+
+-- WHAT IS ASKED FOR
+
+-- a try that ended needs no run more
+pub needs_none : (r : Result Tried Refusal) → NeedsNone (turn_of r)
+needs_none (Ok (tried.Made at)) = tt
+needs_none (Ok tried.Same) = tt
+needs_none (Ok tried.Lost) = tt
+needs_none (Err e) = tt
+
+pub passed_none : (was : Result Step Refusal) (t : Turn) → NeedsNone t → IsPassed was t
+passed_none was (turn.Run run) h = absurd h
+passed_none was (turn.Ended made) h = tt
+passed_none was turn.Lost h = tt
+
+-- the first run is asked for
+pub begins_first : (s : State) (c : Change) (was : Result Step Refusal) (t : Turn) → IsPassed was t
+    → IfOk was (IsFirst s c) → BeginsFirst s c t
+begins_first s c was (turn.Run run) h first = subst (λ (w : Result Step Refusal). IfOk w (IsFirst s c)) h first
+begins_first s c was (turn.Ended made) h first = tt
+begins_first s c was turn.Lost h first = tt
+
+-- the next run is asked for
+pub goes_behind : (cs : Contents) (run : AskedRun) (ran : Ran) (was : Result Step Refusal) (t : Turn) → IsPassed was t
+    → IfOk was (IsBehind cs run ran) → GoesBehind cs run ran t
+goes_behind cs run ran was (turn.Run next) h behind =
+    subst (λ (w : Result Step Refusal). IfOk w (IsBehind cs run ran)) h behind
+goes_behind cs run ran was (turn.Ended made) h behind = tt
+goes_behind cs run ran was turn.Lost h behind = tt
+
+-- a later try is one that began after fewer were lost
+pub starts_earlier : (m n : ℕ) (c : Change) {M : Type 0} (p : Progress M) → m ≤ n → StartsAnew n c p → StartsAnew m c p
+starts_earlier m n c (progress.Run a) low h = (omega (arith, low, h.0), h.1)
+starts_earlier m n c (progress.Ended made) low h = tt
+
+pub follows_anew : (old new : Seated) {M : Type 0} (was : Attempt M) (ran : Ran) (c : Change) (p : Progress M)
+    → StartsAnew (was.lost + 1) c p → Follows old new was ran c p
+follows_anew old new was ran c (progress.Run a) h = inr h
+follows_anew old new was ran c (progress.Ended made) h = tt

@@ -1,0 +1,37 @@
+use Rattle.std.proofs.Common.{sym, subst, ◌∙◌}
+use Rattle.group_history.specs.Record.{after}
+use Rattle.head_word.specs.Books.{record_of}
+use Rattle.reader_claims.specs.Seats.{ClaimsId}
+use Rattle.group_steps.specs.Changing.{change_tried}
+use Rattle.group_steps.specs.Leaving.{Frees}
+use Rattle.asked_steps.specs.Tries.{IsTurn, NeedsNone, TellsTurn}
+use Rattle.asked_steps.specs.declared.trying.Turn.{Turn}
+use Rattle.asked_steps.proofs.Since.{needs_none, tried_since, turn_ended}
+use Rattle.asked_steps.proofs.trying.end_try.Goals as goal
+
+pub returns-clause-told : goal.returns-clause-told
+returns-clause-told g c before lost a =
+    let means = g.M.Means.means in let reused = g.S.Slots.reused in let e = c.make_there-tried.ensures in
+    let mid = c.args.seat.now in let done = c.make_there-tried.new.seat in let new = c.unpin.new.seat in
+    let request = c.args.request.now in let r = c.make_there-tried.result in
+    subst (λ (t : Turn). TellsTurn means reused c.args.tries before lost new request.before.id request.change.now t)
+    (sym c.turn_of.ensures)
+    (tried_since means reused c.args.tries before mid done new lost request.before.id request.change.now
+    c.args.arrival.now.seen.log c.args.arrival.now.base r c.requires.stands.stood a e.seat
+    c.unpin.ensures.looked c.unpin.ensures.moves c.unpin.ensures.mark e.tried e.err e.cause
+    (λ again. subst (λ (t : ClaimsId). Frees t.sizes.slots mid done (change_tried request.change.now r))
+    (sym c.requires.reading.0.1 ∙ a.same.table) (e.frees again)))
+
+pub returns-clause-turn : goal.returns-clause-turn
+returns-clause-turn g c =
+    let means = g.M.Means.means in let reused = g.S.Slots.reused in let e = c.make_there-tried.ensures in
+    let mid = c.args.seat.now in let done = c.make_there-tried.new.seat in let new = c.unpin.new.seat in
+    let request = c.args.request.now in let s = after (record_of c.args.arrival.now.seen.log) in
+    subst (λ (t : Turn). IsTurn means reused mid new s request.before.id request.change.now t)
+    (sym c.turn_of.ensures)
+    (turn_ended means reused mid done new c.args.arrival.now.base s request.before.id request.change.now
+    c.make_there-tried.result c.unpin.ensures.mark
+    (λ again. (c.unpin.ensures.unpinned again, (c.unpin.ensures.looked.calm again).0 ∙ e.none again)) e.tried)
+
+pub returns-clause-none : goal.returns-clause-none
+returns-clause-none g c = subst (λ (t : Turn). NeedsNone t) (sym c.turn_of.ensures) (needs_none c.make_there-tried.result)

@@ -1,0 +1,60 @@
+use Rattle.std.proofs.Common.{◌≡◌, ℕ, ap, rules, sym, subst, ◌∙◌}
+use Rattle.std.specs.Arc.{arc_value}
+use Rattle.commit_graph.specs.Seats.{IsSameSeat, Seated}
+use Rattle.commit_graph.proofs.Seating.{seat-trans}
+use Rattle.group_steps.specs.Missing.{map_ok}
+use Rattle.asked_steps.specs.Tries.{Follows as FollowsRun}
+use Rattle.asked_steps.specs.Tries.{IsArrivedSince, TellsProgress}
+use Rattle.rebase.specs.Asked.{Tells}
+use Rattle.rebase.specs.Clients.{ClientState, grouped}
+use Rattle.rebase.specs.Replies.{reply_seen}
+use Rattle.rebase.specs.Running.{BeganAs, EndsCall, Follows, IsAsked, UnderWay}
+use Rattle.rebase.proofs.Keeping.{keeps_later}
+use Rattle.rebase.proofs.Running.{next_shown, progress_none}
+use Rattle.rebase.proofs.asking.Asking.ran.Goals as goal
+
+pub invariant_of-client : goal.invariant_of-client
+invariant_of-client g c =
+    let means = g.M.Means.means in let reused = g.S.Slots.reused in
+    let k = c.client.inside in let e = c.ran_from-progress.ensures in let new = c.ran_from-progress.new.seat in (
+      keeps_later reused _ k.seat new k.id k.last k.found k.latest e.seat
+          (progress_none means reused c.deref.result.now.shared new c.self.inside.tries c.before-before.result.id
+          c.self.inside.change c.ran_from-progress.result e.stands) c.client.invariant.0,
+      λ r no. absurd (cc no),
+    )
+
+pub returns-clause-told : goal.returns-clause-told
+returns-clause-told g c before began =
+    let means = g.M.Means.means in let reused = g.S.Slots.reused in
+    let k = c.client.inside in let e = c.ran_from-progress.ensures in let new = c.ran_from-progress.new.seat in
+    let a = c.self.inside in let p = c.ran_from-progress.result in
+    let seat = ap (λ (w : ClientState). w.seat) c.client.view_is in
+    let id : c.before-before.result.id ≡ a.client.last = search rules in
+    let b = subst (BeganAs means reused before) (sym c.self.view_is) began in
+    subst (λ (w : UnderWay). Tells c.go_on.result (IsAsked means reused w.tries before w.change)
+    (λ client reply. EndsCall means reused w.tries before client w.change (map_ok reply_seen reply)))
+    c.self.view_is (c.go_on.ensures.told before (
+      ap (λ (w : ClientState). w.group) c.client.view_is ∙ b.client.0,
+      ap (λ (w : ClientState). w.id) c.client.view_is ∙ b.client.1,
+    )
+    (ap (λ (w : ClientState). w.last) c.client.view_is ∙ b.last)
+    (seat-trans before.seat a.client.seat new b.since.same
+    (subst (λ (w : Seated). IsSameSeat w new) seat e.seat))
+    (subst (λ (n : ℕ). TellsProgress means reused a.tries before.seat new n a.change p) (id ∙ b.last)
+    (e.told before.seat (subst (λ (w : Seated). IsArrivedSince means reused before.seat a.attempt.lost
+    a.attempt.arrival.seen.log w) (sym seat) b.since))))
+
+pub returns-clause-next : goal.returns-clause-next
+returns-clause-next g c =
+    let k = c.client.inside in let new = c.ran_from-progress.new.seat in let a = c.self.inside in
+    let p = c.ran_from-progress.result in
+    let client : ClientState = record {
+      group = grouped (arc_value k.group).shared (arc_value k.group).identity;
+      seat = new;
+      id = k.id;
+      last = k.last;
+    } in
+    subst (λ (w : UnderWay). Tells c.go_on.result (Follows w c.args.ran) (λ client reply. Unit {0})) c.self.view_is
+    (next_shown a.client client a.change a.tries a.attempt c.args.ran p c.go_on.result c.go_on.ensures.shown
+    (subst (λ (w : Seated). FollowsRun w new a.attempt c.args.ran a.change p)
+    (ap (λ (w : ClientState). w.seat) c.client.view_is) c.ran_from-progress.ensures.next))

@@ -1,0 +1,449 @@
+//! Changes whose mutators the caller runs.
+//!
+//! Such a change asks for each run. The caller reads and writes the map of the run, and says how it ended; then the next
+//! run is asked for, or the call ends, answered as `try_mutate` and `try_end_pull` answer it. Meanwhile the change has
+//! the client, whose pin is held. That the caller does on the map what the group's mutator of that name means is the one
+//! premise, and stands on `ran`.
+ghost use Rattle.std.specs.Prelude.{◌≡◌, ◌+◌, Ok, Err, Some, None, IfOk, IfErr, OnOk, OnErr};
+ghost use Rattle.std.specs.FinMap as finite;
+ghost use Rattle.group_history.specs.declared.changes.Change.TheVariants.{Mutated, Pulled};
+ghost use Rattle.group_history.specs.declared.responses.Response.TheVariants as response;
+ghost use Rattle.group_history.specs.Cookies.{Cookie as Cookied};
+ghost use Rattle.group_history.specs.Map.{Bytes};
+ghost use Rattle.group_history.specs.Meaning.{meaning_of};
+ghost use Rattle.group_history.specs.Pull.{Pull};
+ghost use Rattle.group_history.specs.Ran.{RunsAs};
+ghost use Rattle.group_history.specs.Refs.{stamp_of};
+ghost use Rattle.group_history.specs.Scans.{rows_of};
+ghost use Rattle.group_history.specs.State.{made};
+ghost use Rattle.head_word.specs.Books.{drawn, last_move};
+ghost use Rattle.reader_claims.specs.Machine.{Moves};
+ghost use Rattle.commit_graph.specs.LastIds.{last_at};
+ghost use Rattle.commit_graph.specs.Seats.{IsSameSeat};
+ghost use Rattle.pull_patch.specs.Grammar.{answer_to};
+ghost use Rattle.answered.specs.Answered.{own_moves};
+ghost use Rattle.asked_steps.specs.Tries.{IsFound, IsProgress, TellsProgress};
+ghost use Rattle.group_steps.specs.Leaving.{Frees};
+ghost use Rattle.group_steps.specs.Missing.{IsMissedOrDry, map_ok};
+ghost use Rattle.group_steps.specs.Places.{place};
+ghost use Rattle.group_steps.specs.Proposing.{AsksNext};
+ghost use Rattle.rebase.specs.Clients.{Acts, ClientState, IsSameClient, Stays};
+ghost use Rattle.rebase.specs.Inside.Made.{reply_made};
+ghost use Rattle.rebase.specs.Inside.Shown.{IsShown};
+ghost use Rattle.rebase.specs.Replies.{reply_seen};
+ghost use Rattle.rebase.specs.Running.{BeganAs, EndsCall, EndsPull, Follows, IsAsked, IsFirst, IsUnwritten, last_called};
+
+use crate::calls::Reply;
+use crate::changes::ended_as;
+use crate::client::Client;
+use crate::tickets::Ticket;
+use asked_steps::{Attempt, Progress, ask_from, del, get, put, ran_from, scan};
+use chunk_slots::{Slots, Store};
+use commit_graph::LastId;
+use group_history::{
+    Change, Json, Means, Mutation, PullOk, Ran, Ref, Refusal, Response, Scan, Text, VersionKind,
+};
+use group_steps::{At, Request, SharedGroup};
+use std::marker::Model;
+
+/// A change that asks for a run of a mutator. It has its client until it ends, and the client's seat is pinned.
+pub struct Asking<M: Means, S: Slots<M>>
+where
+    S::Seat: Drop,
+{
+    client: Client<M, S>,
+    change: Change,
+    attempt: Attempt<M>,
+    tries: u32,
+}
+
+impl<M: Means, S: Slots<M>> Model for Asking<M, S>
+where
+    S::Seat: Drop,
+{
+    ghost use Rattle.std.specs.Prelude.{◌<◌, max, reverse};
+    ghost use Rattle.std.specs.Coded.{codes};
+    ghost use Rattle.group_history.specs.contracts.changes.Change as the_change;
+    ghost use Rattle.group_history.specs.contracts.mutations.Mutation as the_mutation;
+    ghost use Rattle.head_word.specs.contracts.entry.Entry as entry;
+    ghost use Rattle.head_word.specs.Books.{drawn};
+    ghost use Rattle.group_steps.specs.Proposing.{AsksNext};
+    ghost use Rattle.group_steps.specs.Rooting.{entries_coded};
+    ghost use Rattle.asked_steps.specs.Runs.{run_map, run_start};
+    ghost use Rattle.asked_steps.specs.Tries.{IsAttempt};
+    ghost use Rattle.rebase.specs.Running.{UnderWay};
+
+    ghost Value = { UnderWay };
+
+    ghost coded = { Prim.hlevel (codes, entry.the_row.coded, the_change.the_row.coded, the_mutation.the_row.coded, entries_coded) };
+
+    ghost view = { λ a. record {
+      client = a.client;
+      change = a.change;
+      mutation = a.attempt.run.mutation;
+      start = run_start (drawn a.client.seat.mark.log) a.attempt.run;
+      map = run_map (drawn a.client.seat.mark.log) a.attempt.run;
+      behind = reverse a.attempt.run.behind.items;
+      seen = a.attempt.arrival.seen.log;
+      lost = a.attempt.lost;
+      tries = a.tries;
+    } };
+
+    ghost invariant = { λ a. IsAttempt M.means S.reused a.client.group.group a.client.seat a.client.last a.change a.attempt
+        × (a.attempt.lost < max 1 a.tries) × AsksNext a.client.id a.client.last a.change };
+}
+
+impl<M: Means + Drop, S: Slots<M> + Drop> Drop for Asking<M, S>
+where
+    S::Seat: Drop,
+{
+    fn drop(self) {
+        let Asking {
+            client,
+            change,
+            attempt,
+            tries: _,
+        } = self;
+        drop(change);
+        drop(attempt);
+        let mut client = client;
+        client.pinned = false;
+        let group: &SharedGroup<M, S> = &client.group;
+        let seat = &mut client.seat;
+        group.shared.store.unpin(&mut seat.slots);
+        drop(client);
+    }
+}
+
+/// What a change asks for, or how its call ended.
+#[derive(Drop)]
+pub enum Asked<M: Means, S: Slots<M>>
+where
+    S::Seat: Drop,
+{
+    /// A run.
+    Run(Asking<M, S>),
+
+    /// The end of the call, and the client again.
+    Ended(Client<M, S>, Result<Reply, Refusal>),
+}
+
+impl<M: Means, S: Store<M>> Client<M, S>
+where
+    S::Seat: Drop,
+{
+    ghost use Rattle.rebase.specs.Asked.{Tells};
+
+    // Where the client's last id was found.
+    fn before(&self) -> LastId
+        ensures id { result.id ≡ self.now.last }
+        ensures at { last_at (drawn self.now.seat.mark.log) (stamp_of result.at) self.now.id ≡ Some self.now.last }
+    {
+        LastId {
+            at: self.found,
+            id: self.last,
+        }
+    }
+
+    // What is replied where the change came to this.
+    fn end_change(
+        &mut self,
+        change: &Change,
+        made: Result<Option<Ref>, Refusal>,
+    ) -> Result<Reply, Refusal>
+        requires asks { AsksNext self.old.id self.old.last change.now }
+        requires found { IsFound (drawn self.old.seat.mark.log) change.now made }
+        ensures reply { map_ok reply_seen result ≡ reply_made self.old.last change.now made }
+        ensures last { self.new.last ≡ last_called self.old.last change.now (map_ok reply_seen result) }
+        ensures seat { self.new.seat ≡ self.old.seat }
+        ensures same { IsSameClient self.old self.new }
+    {
+        match change {
+            Change::Mutated(_) => self.keep_next(made).map(Reply::Id),
+            Change::Pulled(_, _) => ended_as(made).map(Reply::Ended),
+            Change::Closed => match made {
+                Ok(_) => Err(Refusal::StateNotFound),
+                Err(e) => Err(e),
+            },
+        }
+    }
+
+    // Refuses the call before it did anything.
+    fn refuse_asked(self, e: Refusal) -> Asked<M, S>
+        ensures told { Tells result (λ asking. ⊥) (λ client reply. (reply ≡ Err e) × Stays S.reused self client
+            × (S.reused → Moves self.seat.view client.seat.view) × (client.seat.mark ≡ self.seat.mark)) }
+    {
+        let mut client = self;
+        let reply = client.refuse(e);
+        Asked::Ended(client, reply)
+    }
+
+    // The change asks for a run, or the call ends.
+    fn go_on(self, change: Change, progress: Progress<M>, tries: u32) -> Asked<M, S>
+        requires progress { IsProgress M.means S.reused self.group.group self.seat tries self.last change progress }
+        requires asks { AsksNext self.id self.last change }
+        ensures told { (before : ClientState) → IsSameClient before self → self.last ≡ before.last
+            → IsSameSeat before.seat self.seat
+            → TellsProgress M.means S.reused tries before.seat self.seat before.last change progress
+            → Tells result (IsAsked M.means S.reused tries before change) (λ client reply.
+            EndsCall M.means S.reused tries before client change (map_ok reply_seen reply)) }
+        ensures shown { Tells result (IsShown self change tries progress) (λ client reply. Unit {0}) }
+        ensures fresh { Tells result IsUnwritten (λ client reply. Unit {0}) }
+    {
+        let mut client = self;
+        let _ = &client.group;
+        match progress {
+            Progress::Run(attempt) => {
+                client.pinned = true;
+                return Asked::Run(Asking {
+                    client,
+                    change,
+                    attempt,
+                    tries,
+                });
+            }
+            Progress::Ended(made) => {
+                let reply = client.end_change(&change, made);
+                drop(change);
+                return Asked::Ended(client, reply);
+            }
+        }
+    }
+
+    // Begins a change.
+    fn ask(self, change: Change, tries: u32) -> Asked<M, S>
+        requires next { AsksNext self.id self.last change }
+        ensures told { Tells result (IsAsked M.means S.reused tries self change) (λ client reply.
+            EndsCall M.means S.reused tries self client change (map_ok reply_seen reply)) }
+        ensures first { Tells result IsFirst (λ client reply. Unit {0}) }
+        ensures fresh { Tells result IsUnwritten (λ client reply. Unit {0}) }
+    {
+        let mut client = self;
+        let before = client.before();
+        let request = Request {
+            change: &change,
+            before,
+        };
+        client.pinned = false;
+        let progress = ask_from::<M, S>(&client.group, &mut client.seat, &request, 0, tries);
+        client.go_on(change, progress, tries)
+    }
+
+    /// Makes a mutation whose mutator the caller runs. It asks for that run, anew where others moved the head first, and
+    /// ends as `try_mutate` does, with `Reply::Id`.
+    pub fn ask_mutate(self, name: &Text, args: &Json, time: u64, tries: u32) -> Asked<M, S>
+        ensures told { Tells result
+            (IsAsked M.means S.reused tries self (Mutated (made self.id (self.last + 1) name.now args.now time)))
+            (λ client reply. EndsCall M.means S.reused tries self client
+            (Mutated (made self.id (self.last + 1) name.now args.now time)) (map_ok reply_seen reply)) }
+        ensures first { Tells result IsFirst (λ client reply. Unit {0}) }
+        ensures fresh { Tells result IsUnwritten (λ client reply. Unit {0}) }
+    {
+        match Mutation::new(&self.id, self.last + 1, name, args, time) {
+            Ok(mutation) => {
+                return self.ask(Change::Mutated(mutation), tries);
+            }
+            Err(e) => {
+                return self.refuse_asked(Refusal::from(e));
+            }
+        }
+    }
+
+    // Ends a pull that brought no error.
+    fn ask_pulled(self, ticket: &Ticket, pull: PullOk, tries: u32) -> Asked<M, S>
+        ensures told { Tells result (IsAsked M.means S.reused tries self (Pulled ticket.now.cookie pull))
+            (λ client reply. EndsCall M.means S.reused tries self client (Pulled ticket.now.cookie pull)
+            (map_ok reply_seen reply)) }
+        ensures first { Tells result IsFirst (λ client reply. Unit {0}) }
+        ensures fresh { Tells result IsUnwritten (λ client reply. Unit {0}) }
+    {
+        match ticket.cookie.clone() {
+            Ok(cookie) => {
+                return self.ask(Change::Pulled(cookie, pull), tries);
+            }
+            Err(e) => {
+                drop(pull);
+                return self.refuse_asked(Refusal::from(e));
+            }
+        }
+    }
+
+    // Ends a pull whose server does not support a version.
+    fn ask_unsupported(self, kind: VersionKind, tries: u32) -> Asked<M, S>
+        ensures told { (ticket : Cookied) (body : Bytes) → answer_to body ≡ Ok (response.VersionNotSupported kind)
+            → Tells result (λ asking. ⊥) (λ client reply. EndsPull M.means S.reused tries self client ticket body
+            (map_ok reply_seen reply)) }
+    {
+        let mut client = self;
+        let reply = client.end_unsupported(kind, tries).map(Reply::Ended);
+        Asked::Ended(client, reply)
+    }
+
+    /// Ends a pull with the bytes of its response, where the caller runs what stays pending. It asks for each run, the
+    /// oldest mutation first, and for all anew where others moved the head first, and ends as `try_end_pull` does, with
+    /// `Reply::Ended`: at once where no run is needed, as by an error response.
+    pub fn ask_end_pull(self, ticket: &Ticket, body: &[u8], tries: u32) -> Asked<M, S>
+        ensures told { Tells result (λ asking. (r : Pull) × (answer_to body.now ≡ Ok (response.Ok r))
+            × IsAsked M.means S.reused tries self (Pulled ticket.now.cookie r) asking)
+            (λ client reply. EndsPull M.means S.reused tries self client ticket.now.cookie body.now
+            (map_ok reply_seen reply)) }
+        ensures first { Tells result IsFirst (λ client reply. Unit {0}) }
+        ensures fresh { Tells result IsUnwritten (λ client reply. Unit {0}) }
+    {
+        match self.response_in(body) {
+            Ok(Response::Ok(pull)) => {
+                return self.ask_pulled(ticket, pull, tries);
+            }
+            Ok(Response::StateNotFound) => {
+                return self.ask(Change::Closed, tries);
+            }
+            Ok(Response::VersionNotSupported(kind)) => {
+                return self.ask_unsupported(kind, tries);
+            }
+            Err(e) => {
+                return self.refuse_asked(e);
+            }
+        }
+    }
+}
+
+impl<M: Means, S: Store<M>> Asking<M, S>
+where
+    S::Seat: Drop,
+{
+    ghost use Rattle.rebase.specs.Asked.{Tells};
+
+    /// The mutation whose mutator is to be run: by its name, on its arguments, for its reason.
+    pub fn mutation(&self) -> &Mutation
+        ensures { result.now ≡ self.now.mutation }
+    {
+        &self.attempt.run.mutation
+    }
+
+    // Where the call stands.
+    fn here(&self) -> At<'_, M, S>
+        ensures { result ≡ place self.now.client.group.identity self.now.seen self.now.client.seat.mark
+            (last_move self.now.seen) }
+    {
+        let client = &self.client;
+        let arrival = &self.attempt.arrival;
+        At::new(
+            &client.group,
+            &client.seat,
+            &arrival.seen,
+            arrival.base,
+            self.tries,
+        )
+    }
+
+    /// The value at a key of the run's map; none where the key is not there. Refused with `NoMemory`, `Gone`, and over
+    /// slots that are used again `Busy`.
+    pub fn get(&self, key: &str) -> Result<Option<Json>, Refusal>
+        ensures value { IfOk result (λ found. found ≡ finite.get self.now.map key.now) }
+        ensures err { IfErr result (IsMissedOrDry S.reused) }
+    {
+        get(&self.here(), &self.attempt.run, key)
+    }
+
+    /// The pairs of the run's map that the scan asks for, in the order of their keys. Refused as `get` is.
+    pub fn scan(&self, rows: &Scan) -> Result<Vec<(Text, Json)>, Refusal>
+        ensures rows { IfOk result (λ found. found.items ≡ rows_of rows.now self.now.map) }
+        ensures err { IfErr result (IsMissedOrDry S.reused) }
+    {
+        scan(&self.here(), &self.attempt.run, rows)
+    }
+
+    /// Afterwards the key has the value in the run's map. A refused put leaves the map. Refused as `get` is.
+    pub fn put(&mut self, key: &str, value: &Json) -> Result<(), Refusal>
+        ensures ok { OnOk result (self.new
+            ≡ record self.old { map = finite.insert self.old.map key.now value.now }) }
+        ensures left { OnErr result (self.new ≡ self.old) }
+        ensures err { IfErr result (IsMissedOrDry S.reused) }
+    {
+        let client = &self.client;
+        let arrival = &self.attempt.arrival;
+        let at = At::new(
+            &client.group,
+            &client.seat,
+            &arrival.seen,
+            arrival.base,
+            self.tries,
+        );
+        put(&at, &mut self.attempt.run, key, value)
+    }
+
+    /// Afterwards the key is not there in the run's map, whether or not it was. A refused one leaves the map. Refused as
+    /// `get` is.
+    pub fn del(&mut self, key: &str) -> Result<(), Refusal>
+        ensures ok { OnOk result (self.new ≡ record self.old { map = finite.remove self.old.map key.now }) }
+        ensures left { OnErr result (self.new ≡ self.old) }
+        ensures err { IfErr result (IsMissedOrDry S.reused) }
+    {
+        let client = &self.client;
+        let arrival = &self.attempt.arrival;
+        let at = At::new(
+            &client.group,
+            &client.seat,
+            &arrival.seen,
+            arrival.base,
+            self.tries,
+        );
+        del(&at, &mut self.attempt.run, key)
+    }
+
+    /// Says how the run ended. What was done to its map is what the group's mutator of that name does there, on those
+    /// arguments, for that reason; and where that refuses or there is none, the run ends as that says. Then the next run
+    /// is asked for, or the call ends: as `try_mutate` and `try_end_pull` do. Where a new mutation's run isn't done, the
+    /// call is refused with `NoMutator` or `Refused`; a pending mutation's leaves the map as it was before it.
+    pub fn ran(self, ran: Ran) -> Asked<M, S>
+        requires runs { RunsAs (meaning_of M.means self.mutation self.start) ran self.map }
+        ensures told { (before : ClientState) → BeganAs M.means S.reused before self
+            → Tells result (IsAsked M.means S.reused self.tries before self.change) (λ client reply.
+            EndsCall M.means S.reused self.tries before client self.change (map_ok reply_seen reply)) }
+        ensures next { Tells result (Follows self ran) (λ client reply. Unit {0}) }
+        ensures fresh { Tells result IsUnwritten (λ client reply. Unit {0}) }
+    {
+        let Asking {
+            client,
+            change,
+            attempt,
+            tries,
+        } = self;
+        let mut client = client;
+        let before = client.before();
+        let request = Request {
+            change: &change,
+            before,
+        };
+        client.pinned = false;
+        let progress = ran_from::<M, S>(
+            &client.group,
+            &mut client.seat,
+            attempt,
+            &request,
+            ran,
+            tries,
+        );
+        client.go_on(change, progress, tries)
+    }
+
+    /// Gives the change up: nothing was changed. Takes no memory.
+    pub fn give_up(self) -> Client<M, S>
+        ensures left { (before : ClientState) → BeganAs M.means S.reused before self
+            → Acts S.reused before result × (result.last ≡ before.last)
+            × (own_moves result.seat.mark ≡ own_moves before.seat.mark)
+            × (S.reused → Frees before.group.group.table.sizes.slots before.seat result.seat None) }
+    {
+        let Asking {
+            client,
+            change,
+            attempt,
+            tries: _,
+        } = self;
+        drop(change);
+        drop(attempt);
+        let mut client = client;
+        client.unpin();
+        client
+    }
+}
