@@ -2,16 +2,21 @@
 //!
 //! Each function has the clause `value`: what it answers is the expression's value by its definition, at the arguments
 //! and at what the view shows; `None` where it has none. No expression changes what the view shows.
-ghost use Rattle.std.specs.Prelude.{◌≡◌, Some, IfOk, IfErr, option_map, string_bytes};
+ghost use Rattle.std.specs.Prelude.{◌≡◌, ◌++◌, Some, IfOk, IfErr, OnOk, option_map, string_bytes};
+ghost use Rattle.std.specs.Prelude.{not as negation};
+ghost use Rattle.std.specs.FinMap.{get as finite_get};
+ghost use Rattle.serde_json.specs.Data.{boolean};
+ghost use Rattle.serde_json.specs.Find.{as_bool};
 ghost use Rattle.serde_json.specs.View.{view as data_of};
 ghost use Rattle.group_history.specs.Stops.{MayStop};
+ghost use Rattle.group_history.specs.declared.mutators.Stop.TheVariants.{NoMemory};
 ghost use Rattle.rule_mutators.specs.Meaning as spec;
 ghost use Rattle.rule_mutators.specs.Rules as rule;
 ghost use Rattle.rule_mutators.specs.declared.language.One.TheVariants as one;
 ghost use Rattle.rule_mutators.specs.Views.{expression_of, all_expressions, all_fields};
 
 use crate::language::{Expr, One, Two, Which};
-use crate::values::{field_of, of_two, put_member, value_there, wording};
+use crate::values::{copy_of, field_of, of_two, put_member, value_there, wording};
 use group_history::{Stop, Text, WriteView};
 use serde_json::{Map, Value};
 use std::alloc::{AllocError, Global};
@@ -36,8 +41,8 @@ pub(crate) fn value_at<V: WriteView>(
     ensures stopped { IfErr result (MayStop V.stops) }
 {
     match e {
-        Expr::Literal(value) => Ok(Some(value.clone()?)),
-        Expr::Argument(which) => Ok(argument(call, which)?),
+        Expr::Literal(value) => copy_of(value),
+        Expr::Argument(which) => argument(call, which),
         Expr::One(word, a) => one_at(call, view, *word, a),
         Expr::Field(of, name) => field_at(call, view, of, name.as_str()),
         Expr::Or(both) => or_at(call, view, both),
@@ -48,16 +53,17 @@ pub(crate) fn value_at<V: WriteView>(
 }
 
 /// A copy of one of the arguments.
-fn argument(call: Call<'_>, which: &Which) -> Result<Option<Value>, AllocError>
-    ensures { IfOk result (λ found. option_map data_of found
+fn argument(call: Call<'_>, which: &Which) -> Result<Option<Value>, Stop>
+    ensures value { IfOk result (λ found. option_map data_of found
         ≡ spec.argument_of which.now (data_of call.entry.args.now)) }
+    ensures stopped { IfErr result (λ stop. stop ≡ NoMemory) }
 {
     let found = match which {
         Which::At(place) => call.args.get(*place as usize),
         Which::Named(name) => call.args.get(name.as_str()),
     };
     match found {
-        Some(value) => Ok(Some(value.clone()?)),
+        Some(value) => copy_of(value),
         None => Ok(None),
     }
 }
@@ -75,9 +81,9 @@ fn one_at<V: WriteView>(
     ensures kept { V.contents view.new ≡ V.contents view.old }
     ensures stopped { IfErr result (MayStop V.stops) }
 {
-    match value_at(call, view, a)? {
-        Some(a) => of_one(call.alloc, view, word, a),
-        None => Ok(None),
+    match value_at(call, view, a) {
+        Ok(Some(a)) => of_one(call.alloc, view, word, a),
+        other => other,
     }
 }
 
@@ -96,11 +102,18 @@ fn of_one<V: WriteView>(
     match word {
         One::Get => get(alloc, view, a),
         One::Has => has(alloc, view, a),
-        One::Not => match a.as_bool() {
-            Some(is) => Ok(Some(Value::Bool(!is))),
-            None => Ok(None),
-        },
+        One::Not => {
+            let found = not(&a);
+            drop(a);
+            Ok(found)
+        }
     }
+}
+
+fn not(a: &Value) -> Option<Value>
+    ensures { option_map data_of result ≡ option_map (λ b. boolean (negation b)) (as_bool (data_of a.now)) }
+{
+    Some(Value::Bool(!a.as_bool()?))
 }
 
 fn get<V: WriteView>(alloc: Global, view: &mut V, key: Value) -> Result<Option<Value>, Stop>
@@ -112,8 +125,19 @@ fn get<V: WriteView>(alloc: Global, view: &mut V, key: Value) -> Result<Option<V
     let Some(key) = wording(alloc, key)? else {
         return Ok(None);
     };
-    let there = view.get(key.as_str())?;
-    Ok(Some(value_there(alloc, there)?))
+    let found = value_of(alloc, view, key.as_str());
+    drop(key);
+    Ok(Some(found?))
+}
+
+/// The value of a key, null where it has none.
+pub(crate) fn value_of<V: WriteView>(alloc: Global, view: &mut V, key: &str) -> Result<Value, Stop>
+    ensures value { IfOk result (λ v. spec.value_there (finite_get (V.contents view.old) key.now) ≡ Some (data_of v)) }
+    ensures kept { V.contents view.new ≡ V.contents view.old }
+    ensures stopped { IfErr result (MayStop V.stops) }
+{
+    let there = view.get(key)?;
+    value_there(alloc, there)
 }
 
 fn has<V: WriteView>(alloc: Global, view: &mut V, key: Value) -> Result<Option<Value>, Stop>
@@ -141,9 +165,9 @@ fn field_at<V: WriteView>(
     ensures kept { V.contents view.new ≡ V.contents view.old }
     ensures stopped { IfErr result (MayStop V.stops) }
 {
-    match value_at(call, view, of)? {
-        Some(value) => Ok(Some(field_of(&value, name)?)),
-        None => Ok(None),
+    match value_at(call, view, of) {
+        Ok(Some(value)) => field_of(value, name),
+        other => other,
     }
 }
 
@@ -159,9 +183,15 @@ fn or_at<V: WriteView>(
     ensures kept { V.contents view.new ≡ V.contents view.old }
     ensures stopped { IfErr result (MayStop V.stops) }
 {
-    match value_at(call, view, &both.0)? {
-        Some(Value::Null) => value_at(call, view, &both.1),
-        found => Ok(found),
+    match value_at(call, view, &both.0) {
+        Ok(Some(a)) => {
+            if a.is_null() {
+                drop(a);
+                return value_at(call, view, &both.1);
+            }
+            Ok(Some(a))
+        }
+        other => other,
     }
 }
 
@@ -181,10 +211,16 @@ fn two_at<V: WriteView>(
     let Some(a) = value_at(call, view, &both.0)? else {
         return Ok(None);
     };
-    let Some(b) = value_at(call, view, &both.1)? else {
-        return Ok(None);
+    let found = match value_at(call, view, &both.1) {
+        Ok(Some(b)) => {
+            let found = of_two(call.alloc, word, &a, &b);
+            drop(b);
+            found
+        }
+        other => other,
     };
-    of_two(call.alloc, word, &a, &b)
+    drop(a);
+    found
 }
 
 #[cycle(value)]
@@ -204,9 +240,15 @@ fn cat_at<V: WriteView>(
         let Some(next) = key_at(call, view, e)? else {
             return Ok(None);
         };
-        text.push_str(next.as_str())?;
+        push(&mut text, next)?;
     }
     Ok(Some(Value::String(text)))
+}
+
+fn push(text: &mut String, next: String) -> Result<(), AllocError>
+    ensures { OnOk result (string_bytes text.new ≡ string_bytes text.old ++ string_bytes next) }
+{
+    text.push_str(next.as_str())
 }
 
 /// The text that an expression is, or the decimal of its number: a key, or a part of a text.
@@ -241,10 +283,10 @@ fn object_at<V: WriteView>(
 {
     let mut members = Map::new(call.alloc);
     for field in fields {
-        let Some(value) = value_at(call, view, &field.1)? else {
-            return Ok(None);
-        };
-        put_member(call.alloc, &mut members, field.0.as_str(), value)?;
+        match value_at(call, view, &field.1) {
+            Ok(Some(value)) => put_member(call.alloc, &mut members, field.0.as_str(), value)?,
+            other => return other,
+        }
     }
     Ok(Some(Value::Object(members)))
 }
@@ -261,7 +303,11 @@ pub(crate) fn truth_at<V: WriteView>(
     ensures stopped { IfErr result (MayStop V.stops) }
 {
     match value_at(call, view, e)? {
-        Some(value) => Ok(value.as_bool()),
+        Some(value) => {
+            let is = value.as_bool();
+            drop(value);
+            Ok(is)
+        }
         None => Ok(None),
     }
 }

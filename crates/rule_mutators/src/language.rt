@@ -32,7 +32,6 @@ pub(crate) enum Which {
     Named(Text),
 }
 
-#[derive(Drop)]
 pub(crate) enum Expr {
     Literal(Value),
     Argument(Which),
@@ -44,7 +43,24 @@ pub(crate) enum Expr {
     Object(Vec<(Text, Expr)>),
 }
 
-#[derive(Drop)]
+impl Drop for Expr {
+    fn drop(self) {
+        match self {
+            Expr::Literal(value) => drop(value),
+            Expr::Argument(which) => drop(which),
+            Expr::One(_, e) => drop(e),
+            Expr::Field(e, name) => {
+                drop(e);
+                drop(name);
+            }
+            Expr::Or(both) => drop(both),
+            Expr::Two(_, both) => drop(both),
+            Expr::Cat(all) => drop(all),
+            Expr::Object(fields) => drop(fields),
+        }
+    }
+}
+
 pub(crate) enum Step {
     Put(Expr, Expr),
     Del(Expr),
@@ -52,6 +68,28 @@ pub(crate) enum Step {
     /// Refuses with the code where the expression is false.
     Need(Expr, u32),
     If(Expr, Vec<Step>, Vec<Step>),
+}
+
+impl Drop for Step {
+    fn drop(self) {
+        match self {
+            Step::Put(key, e) => {
+                drop(key);
+                drop(e);
+            }
+            Step::Del(key) => drop(key),
+            Step::Merge(key, e) => {
+                drop(key);
+                drop(e);
+            }
+            Step::Need(e, _) => drop(e),
+            Step::If(e, yes, other) => {
+                drop(e);
+                drop(yes);
+                drop(other);
+            }
+        }
+    }
 }
 
 /// Rules by name, as they were read.

@@ -71,7 +71,9 @@ impl Rules {
         };
         let args = args.value(alloc)?;
         let call = Call { alloc, args: &args };
-        run_steps(call, view, steps)
+        let ran = run_steps(call, view, steps);
+        drop(args);
+        ran
     }
 }
 

@@ -34,10 +34,12 @@ impl Rules {
             Err(Refusal::NoMemory) => return Err(RuleFault::NoMemory),
             Err(_) => return Err(RuleFault::NotJson),
         };
-        let Value::Object(members) = &value else {
-            return Err(RuleFault::NotObject);
+        let rules = match &value {
+            Value::Object(members) => read_named(alloc, members),
+            _ => Err(RuleFault::NotObject),
         };
-        read_named(alloc, members)
+        drop(value);
+        rules
     }
 }
 
@@ -57,6 +59,8 @@ fn read_rule(alloc: Global, name: &str, value: &Value) -> Result<(Text, Vec<Step
     ensures { AnswersSeen rule_of result (spec.rule_said name.now (data_of value.now)) }
 {
     let at = member_at(alloc, "", name)?;
-    let steps = read_steps(alloc, at.as_str(), value)?;
+    let steps = read_steps(alloc, at.as_str(), value);
+    drop(at);
+    let steps = steps?;
     Ok((Text::new(alloc, name)?, steps))
 }

@@ -9,9 +9,9 @@ ghost use Rattle.rule_mutators.specs.Meaning as spec;
 ghost use Rattle.rule_mutators.specs.Rules as rule;
 ghost use Rattle.rule_mutators.specs.Views.{expression_of, step_of, all_steps};
 
-use crate::evaluating::{Call, key_at, truth_at, value_at};
+use crate::evaluating::{Call, key_at, truth_at, value_at, value_of};
 use crate::language::{Expr, Step};
-use crate::values::{kept, merged, value_there};
+use crate::values::{kept, merged};
 use group_history::{Ran, Stop, WriteView};
 use serde_json::Value;
 use std::alloc::Global;
@@ -52,10 +52,11 @@ fn run_step<V: WriteView>(call: Call<'_>, view: &mut V, step: &Step) -> Result<R
         Step::Del(key) => del(call, view, key),
         Step::Merge(key, e) => merge(call, view, key, e),
         Step::Need(e, code) => need(call, view, e, *code),
-        Step::If(e, yes, other) => match truth_at(call, view, e)? {
-            Some(true) => run_steps(call, view, yes),
-            Some(false) => run_steps(call, view, other),
-            None => Ok(Ran::Refused(WRONG)),
+        Step::If(e, yes, other) => match truth_at(call, view, e) {
+            Ok(Some(true)) => run_steps(call, view, yes),
+            Ok(Some(false)) => run_steps(call, view, other),
+            Ok(None) => Ok(Ran::Refused(WRONG)),
+            Err(stop) => Err(stop),
         },
     }
 }
@@ -72,7 +73,9 @@ fn put<V: WriteView>(call: Call<'_>, view: &mut V, key: &Expr, e: &Expr) -> Resu
     let Some(value) = value_at(call, view, e)? else {
         return Ok(Ran::Refused(WRONG));
     };
-    put_value(call.alloc, view, key.as_str(), &value)
+    let ran = put_value(call.alloc, view, key.as_str(), &value);
+    drop(value);
+    ran
 }
 
 /// Puts a value at a key.
@@ -118,7 +121,9 @@ fn merge<V: WriteView>(call: Call<'_>, view: &mut V, key: &Expr, e: &Expr) -> Re
     let Some(more) = value_at(call, view, e)? else {
         return Ok(Ran::Refused(WRONG));
     };
-    merge_value(call.alloc, view, key.as_str(), &more)
+    let ran = merge_value(call.alloc, view, key.as_str(), &more);
+    drop(more);
+    ran
 }
 
 /// Puts the members of a value over those of the object at a key.
@@ -132,12 +137,13 @@ fn merge_value<V: WriteView>(
         (spec.merge_means key.now (data_of more.now) (V.contents view.old)) ran (V.contents view.new)) }
     ensures stopped { IfErr result (MayStop V.stops) }
 {
-    let there = view.get(key)?;
-    let there = value_there(alloc, there)?;
+    let there = value_of(alloc, view, key)?;
     let Some(value) = merged(alloc, there, more)? else {
         return Ok(Ran::Refused(WRONG));
     };
-    put_value(alloc, view, key, &value)
+    let ran = put_value(alloc, view, key, &value);
+    drop(value);
+    ran
 }
 
 /// Refuses with the code where an expression is false.

@@ -117,14 +117,25 @@ pub(crate) fn of_two(alloc: Global, word: Two, a: &Value, b: &Value) -> Result<O
     }
 }
 
-/// A copy of a member of an object, null where there is none.
-pub(crate) fn field_of(value: &Value, name: &str) -> Result<Value, AllocError>
-    ensures { IfOk result (λ v. data_of v ≡ spec.field_of name.now (data_of value.now)) }
+/// A copy.
+pub(crate) fn copy_of(value: &Value) -> Result<Option<Value>, Stop>
+    ensures ok { IfOk result (λ found. option_map data_of found ≡ Some (data_of value.now)) }
+    ensures stopped { IfErr result (λ stop. stop ≡ NoMemory) }
 {
-    match value.get(name) {
-        Some(field) => field.clone(),
-        None => Ok(Value::Null),
-    }
+    Ok(Some(value.clone()?))
+}
+
+/// A copy of a member of an object, null where there is none.
+pub(crate) fn field_of(value: Value, name: &str) -> Result<Option<Value>, Stop>
+    ensures ok { IfOk result (λ found. option_map data_of found ≡ Some (spec.field_of name.now (data_of value))) }
+    ensures stopped { IfErr result (λ stop. stop ≡ NoMemory) }
+{
+    let found = match value.get(name) {
+        Some(field) => copy_of(field),
+        None => Ok(Some(Value::Null)),
+    };
+    drop(value);
+    found
 }
 
 /// Puts a member.

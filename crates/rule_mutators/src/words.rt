@@ -43,60 +43,40 @@ pub(crate) fn word_of(text: &str) -> Option<Word>
 fn one_word(text: &str) -> Option<Word>
     ensures { result ≡ spec.one_word text.now }
 {
-    if text == "get" {
-        return Some(Word::One(One::Get));
+    match text {
+        "get" => Some(Word::One(One::Get)),
+        "has" => Some(Word::One(One::Has)),
+        "not" => Some(Word::One(One::Not)),
+        _ => None,
     }
-    if text == "has" {
-        return Some(Word::One(One::Has));
-    }
-    if text == "not" {
-        return Some(Word::One(One::Not));
-    }
-    None
 }
 
 #[tactic(auto, unfolding(crate::specs::Reading::two_word))]
 fn two_word(text: &str) -> Option<Word>
     ensures { result ≡ spec.two_word text.now }
 {
-    if text == "same" {
-        return Some(Word::Two(Two::Same));
+    match text {
+        "same" => Some(Word::Two(Two::Same)),
+        "add" => Some(Word::Two(Two::Add)),
+        "sub" => Some(Word::Two(Two::Sub)),
+        "below" => Some(Word::Two(Two::Below)),
+        "and" => Some(Word::Two(Two::And)),
+        _ => None,
     }
-    if text == "add" {
-        return Some(Word::Two(Two::Add));
-    }
-    if text == "sub" {
-        return Some(Word::Two(Two::Sub));
-    }
-    if text == "below" {
-        return Some(Word::Two(Two::Below));
-    }
-    if text == "and" {
-        return Some(Word::Two(Two::And));
-    }
-    None
 }
 
 #[tactic(auto, unfolding(crate::specs::Reading::other_word))]
 fn other_word(text: &str) -> Option<Word>
     ensures { result ≡ spec.other_word text.now }
 {
-    if text == "arg" {
-        return Some(Word::Arg);
+    match text {
+        "arg" => Some(Word::Arg),
+        "lit" => Some(Word::Lit),
+        "field" => Some(Word::Field),
+        "or" => Some(Word::Or),
+        "cat" => Some(Word::Cat),
+        _ => None,
     }
-    if text == "lit" {
-        return Some(Word::Lit);
-    }
-    if text == "field" {
-        return Some(Word::Field);
-    }
-    if text == "or" {
-        return Some(Word::Or);
-    }
-    if text == "cat" {
-        return Some(Word::Cat);
-    }
-    None
 }
 
 /// The word of a step that a text is.
@@ -104,20 +84,12 @@ fn other_word(text: &str) -> Option<Word>
 pub(crate) fn step_word_of(text: &str) -> Option<StepWord>
     ensures { result ≡ spec.step_word_of text.now }
 {
-    if text == "put" {
-        return Some(StepWord::Put);
+    match text {
+        "put" => Some(StepWord::Put),
+        "del" => Some(StepWord::Del),
+        "merge" => Some(StepWord::Merge),
+        "need" => Some(StepWord::Need),
+        "if" => Some(StepWord::If),
+        _ => None,
     }
-    if text == "del" {
-        return Some(StepWord::Del);
-    }
-    if text == "merge" {
-        return Some(StepWord::Merge);
-    }
-    if text == "need" {
-        return Some(StepWord::Need);
-    }
-    if text == "if" {
-        return Some(StepWord::If);
-    }
-    None
 }

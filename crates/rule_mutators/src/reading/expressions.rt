@@ -1,5 +1,5 @@
 //! Reads expressions.
-ghost use Rattle.std.specs.Prelude.{◌≡◌, IfOk};
+ghost use Rattle.std.specs.Prelude.{◌≡◌, Ok, IfOk};
 ghost use Rattle.serde_json.specs.View.{view as data_of, items_view, members_view};
 ghost use Rattle.rule_mutators.specs.Answers.{AnswersSeen};
 ghost use Rattle.rule_mutators.specs.Inside.Parts.{parts_behind};
@@ -9,7 +9,7 @@ ghost use Rattle.rule_mutators.specs.Views.{expression_of, all_expressions, all_
 
 use super::parts::{fault, one_part, read_literal, read_name, read_which, read_word};
 use crate::faults::{RuleFault, Wrong};
-use crate::language::Expr;
+use crate::language::{Expr, One, Two};
 use crate::places::{item_at, member_at};
 use crate::words::Word;
 use group_history::Text;
@@ -49,20 +49,29 @@ fn read_parts(alloc: Global, place: &str, word: Word, items: &[Value]) -> Result
         Word::Arg => read_argument(alloc, place, items),
         Word::Lit => read_lit(alloc, place, items),
         Word::Field => read_field(alloc, place, items),
-        Word::Or => {
-            let both = read_two(alloc, place, items)?;
-            Ok(Expr::Or(Box::new(alloc, both)?))
-        }
+        Word::Or => or(alloc, read_two(alloc, place, items)?),
         Word::Cat => Ok(Expr::Cat(read_all(alloc, place, items)?)),
-        Word::One(word) => {
-            let part = read_one(alloc, place, items)?;
-            Ok(Expr::One(word, Box::new(alloc, part)?))
-        }
-        Word::Two(word) => {
-            let both = read_two(alloc, place, items)?;
-            Ok(Expr::Two(word, Box::new(alloc, both)?))
-        }
+        Word::One(word) => one(alloc, word, read_one(alloc, place, items)?),
+        Word::Two(word) => two(alloc, word, read_two(alloc, place, items)?),
     }
+}
+
+fn or(alloc: Global, both: (Expr, Expr)) -> Result<Expr, RuleFault>
+    ensures { AnswersSeen expression_of result (Ok (rule.or (expression_of both.0) (expression_of both.1))) }
+{
+    Ok(Expr::Or(Box::new(alloc, both)?))
+}
+
+fn one(alloc: Global, word: One, part: Expr) -> Result<Expr, RuleFault>
+    ensures { AnswersSeen expression_of result (Ok (rule.one word (expression_of part))) }
+{
+    Ok(Expr::One(word, Box::new(alloc, part)?))
+}
+
+fn two(alloc: Global, word: Two, both: (Expr, Expr)) -> Result<Expr, RuleFault>
+    ensures { AnswersSeen expression_of result (Ok (rule.two word (expression_of both.0) (expression_of both.1))) }
+{
+    Ok(Expr::Two(word, Box::new(alloc, both)?))
 }
 
 fn read_argument(alloc: Global, place: &str, items: &[Value]) -> Result<Expr, RuleFault>
@@ -187,6 +196,8 @@ fn read_member(
     ensures name { IfOk result (λ m. m.0 ≡ name.now) }
 {
     let at = member_at(alloc, place, name)?;
-    let value = read_expression(alloc, at.as_str(), value)?;
+    let value = read_expression(alloc, at.as_str(), value);
+    drop(at);
+    let value = value?;
     Ok((Text::new(alloc, name)?, value))
 }

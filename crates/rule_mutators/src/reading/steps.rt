@@ -31,20 +31,20 @@ fn read_list(alloc: Global, place: &str, items: &[Value]) -> Result<Vec<Step>, R
 {
     let mut steps = Vec::new(alloc);
     for index in 0..items.len() {
-        let at = item_at(alloc, place, index)?;
-        steps.push(read_step(alloc, at.as_str(), &items[index])?)?;
+        steps.push(read_step(alloc, place, index, &items[index])?)?;
     }
     Ok(steps)
 }
 
-/// The step that a value is.
+/// The step that the item of a number is.
 #[cycle(step)]
-fn read_step(alloc: Global, place: &str, value: &Value) -> Result<Step, RuleFault>
-    ensures { AnswersSeen step_of result (spec.step_said place.now (data_of value.now)) }
+fn read_step(alloc: Global, place: &str, index: usize, value: &Value) -> Result<Step, RuleFault>
+    ensures { AnswersSeen step_of result (spec.step_said (spec.item_at place.now index) (data_of value.now)) }
 {
+    let at = item_at(alloc, place, index)?;
     match value {
-        Value::Array(items) => read_step_words(alloc, place, items.as_slice()),
-        _ => Err(fault(alloc, place, Wrong::NoStep)),
+        Value::Array(items) => read_step_words(alloc, at.as_str(), items.as_slice()),
+        _ => Err(fault(alloc, at.as_str(), Wrong::NoStep)),
     }
 }
 
