@@ -11,10 +11,18 @@
  * Bytes out. answer.bytes belongs to the library and is good until the next call of the same place, giq_close too.
  * Each call that takes an answer writes it: where it is refused there are no bytes, and `code` may say more.
  *
- * What a call returns. 0 or above: it was done. Below 0: a refusal, an enum giq_number; nothing was changed then, but
- * that GIQ_STATE_NOT_FOUND closes the group. Each call may be refused with GIQ_NO_MEMORY, at a closed place with
- * GIQ_NO_PLACE, and where it needs a client with GIQ_NO_CLIENT. A call begins anew where calls of other places are in
- * its way, 1,000,000 times at the most; then it is refused with GIQ_MOVED, GIQ_BUSY or GIQ_GONE.
+ * What a call returns. 0 or above: it was done, or asks for a run (GIQ_ASKED). Below 0: a refusal, an enum giq_number;
+ * nothing was changed then, but that GIQ_STATE_NOT_FOUND closes the group. Each call may be refused with GIQ_NO_MEMORY,
+ * at a closed place with GIQ_NO_PLACE, and where it needs a client with GIQ_NO_CLIENT. A call begins anew where others
+ * are in its way, 1,000,000 times at the most; then it is refused with GIQ_MOVED, GIQ_BUSY or GIQ_GONE.
+ *
+ * Mutators of the program's own. A group that is opened with own_mutators has no others. Then a mutation, and an end of
+ * a pull where mutations stay pending, answer GIQ_ASKED: the program runs the mutator on the run's map, by the calls
+ * giq_asked_name to giq_draft_del, and says with giq_ran how that ended; giq_ran answers GIQ_ASKED for the next run, or
+ * what the change came to. Until then each other call of the place is refused with GIQ_ASKS, but that the client may
+ * leave and the place be closed: then, and by giq_give_up, the change is given up, and nothing was changed. A slot is
+ * kept from other clients meanwhile, so a run is no place to wait. Where others changed the group first, all runs are
+ * asked for anew.
  *
  * Threads. Any thread may open a group. A place is used by one thread at a time, its closing too; it may go from one
  * thread to another where the program orders their calls (a lock, a queue, a join). Places of one group are used by
@@ -25,8 +33,9 @@
  *
  * Trusted, since nothing here can look: a giq_place is zeros, or as the library left it; one thread at a time uses
  * it, and nobody a copy of it; each giq_bytes has so many bytes that can be read, which nobody writes meanwhile;
- * `answer` and `places` can be written. What a call answers then is proved, for any bytes and numbers, also at a place
- * that was closed.
+ * `answer` and `places` can be written. And of mutators of the program's own: what a run does depends on the name, the
+ * arguments, the reason and the run's map alone. What a call answers then is proved, for any bytes and numbers, also at
+ * a place that was closed.
  *
  * Three functions are exported: giq_open, giq_call and giq_close. The others are written over them here.
  */
@@ -68,6 +77,7 @@ enum giq_number {
     GIQ_OK = 0,   /* it was done; or no */
     GIQ_NONE = 1, /* it was done, and there is nothing: no value, no new rows; or the pull changed nothing */
     GIQ_YES = 2,
+    GIQ_ASKED = 3, /* the change asks for a run of one of the program's own mutators */
 
     GIQ_NO_MEMORY = -1,              /* free some, and call again */
     GIQ_MOVED = -2,                  /* others changed the group first, as often as the call tries: call again */
@@ -97,8 +107,10 @@ enum giq_number {
     GIQ_NO_WATCH = -105,     /* the place has no watch of this number */
     GIQ_BAD_RULES = -106,    /* the rules are faulty */
     GIQ_IN_USE = -107,       /* a client sits at the place */
+    GIQ_ASKS = -108,         /* a change of the place asks for a run: do it, or give the change up */
     GIQ_NO_CLIENT = -109,    /* no client sits at the place */
-    GIQ_NO_PLACE = -110      /* the place is closed */
+    GIQ_NO_PLACE = -110,     /* the place is closed */
+    GIQ_NOT_ASKED = -111     /* no change of the place asks for a run */
 };
 
 /* Which version a server does not support. */
@@ -106,6 +118,12 @@ enum giq_version { GIQ_UNKNOWN_VERSION = 0, GIQ_PUSH_VERSION = 1, GIQ_PULL_VERSI
 
 /* Where the rows of a scan begin: at the first key, at a key, or after it. */
 enum giq_start { GIQ_ANY = 0, GIQ_AT = 1, GIQ_AFTER = 2 };
+
+/* For which reason a mutator is run: the client makes the mutation, or a pull was applied under it. */
+enum giq_reason { GIQ_INITIAL = 0, GIQ_REBASE = 1 };
+
+/* How a run ended: what it wrote is the mutator's; it refuses, with a code; or there is no mutator of the name. */
+enum giq_ending { GIQ_RAN = 0, GIQ_RAN_REFUSED = 1, GIQ_RAN_UNKNOWN = 2 };
 
 /* Which call giq_call makes. */
 enum giq_what {
@@ -124,7 +142,16 @@ enum giq_what {
     GIQ_CALL_END_PULL = 12,
     GIQ_CALL_MUTATE = 13,
     GIQ_CALL_WATCH = 14,
-    GIQ_CALL_POLL = 15
+    GIQ_CALL_POLL = 15,
+    GIQ_CALL_ASKED_NAME = 16,
+    GIQ_CALL_ASKED_ARGS = 17,
+    GIQ_CALL_DRAFT_GET = 18,
+    GIQ_CALL_DRAFT_HAS = 19,
+    GIQ_CALL_DRAFT_SCAN = 20,
+    GIQ_CALL_DRAFT_PUT = 21,
+    GIQ_CALL_DRAFT_DEL = 22,
+    GIQ_CALL_RAN = 23,
+    GIQ_CALL_GIVE_UP = 24
 };
 
 #define GIQ_NO_LIMIT UINT64_MAX
@@ -135,11 +162,12 @@ enum giq_what {
 
 /* What a group is opened with. */
 typedef struct giq_opening {
-    giq_bytes group;   /* the group's ID */
-    giq_bytes profile; /* the profile ID of its requests, UTF-8 */
-    giq_bytes schema;  /* the schema version of its requests, UTF-8 */
-    giq_bytes rules;   /* its mutators as a JSON object (docs/RULES.md); no bytes: the mutators of scripts alone */
-    uint32_t slots;    /* GIQ_MIN_SLOTS to GIQ_MAX_SLOTS, some 80 bytes each; a group never grows */
+    giq_bytes group;       /* the group's ID */
+    giq_bytes profile;     /* the profile ID of its requests, UTF-8 */
+    giq_bytes schema;      /* the schema version of its requests, UTF-8 */
+    giq_bytes rules;       /* its mutators as a JSON object (docs/RULES.md); no bytes: those of scripts alone */
+    uint32_t slots;        /* GIQ_MIN_SLOTS to GIQ_MAX_SLOTS, some 80 bytes each; a group never grows */
+    uint32_t own_mutators; /* 1: its mutators are the program's own, and there are no rules; else 0 */
 } giq_opening;
 
 /* Which rows: those whose keys begin with the prefix, from the start on, so many at the most. */
@@ -155,7 +183,7 @@ typedef struct giq_range {
 /* Opens a group at `count` places; those that were open are closed first. See giq_open_places. */
 int32_t giq_open(const uint8_t *group, size_t group_len, const uint8_t *profile, size_t profile_len,
                  const uint8_t *schema, size_t schema_len, const uint8_t *rules, size_t rules_len, uint32_t slots,
-                 giq_place *places, size_t count);
+                 uint32_t own_mutators, giq_place *places, size_t count);
 
 /* Makes the call `what`, an enum giq_what, with two numbers and two byte strings: what it doesn't use is not looked
  * at. Any other number is refused with GIQ_OUT_OF_RANGE. */
@@ -201,14 +229,14 @@ static inline int32_t giq_ask(giq_place *place, enum giq_what what, uint32_t m, 
 /* ---- a group */
 
 /* Opens a group at `count` places, 1 to GIQ_MAX_PLACES, none of which is open; the group is in memory and starts empty.
- * Where it is refused the places are closed: GIQ_BAD_UUID, GIQ_NOT_UTF8, GIQ_BAD_RULES, GIQ_OUT_OF_RANGE (slots or
- * places), GIQ_NO_MEMORY. */
+ * Where it is refused the places are closed: GIQ_BAD_UUID, GIQ_NOT_UTF8, GIQ_BAD_RULES (also rules beside mutators of
+ * the program's own), GIQ_OUT_OF_RANGE (slots, places or own_mutators), GIQ_NO_MEMORY. */
 static inline int32_t giq_open_places(const giq_opening *with, giq_place *places, size_t count) {
     if (count == 0) return GIQ_OUT_OF_RANGE;
     memset(places, 0, count * sizeof *places);
     return giq_open(giq_at(with->group), with->group.len, giq_at(with->profile), with->profile.len,
-                    giq_at(with->schema), with->schema.len, giq_at(with->rules), with->rules.len, with->slots, places,
-                    count);
+                    giq_at(with->schema), with->schema.len, giq_at(with->rules), with->rules.len, with->slots,
+                    with->own_mutators, places, count);
 }
 
 /* ---- a client */
@@ -279,8 +307,8 @@ static inline int32_t giq_poll(giq_place *place, uint32_t watch, giq_answer *ans
 
 /* ---- changes and requests */
 
-/* Runs a mutator on the map: answer->number is the mutation's id, and queries show it at once. `args` is a JSON text of
- * whole numbers that nests at most 124 deep, `time` is in milliseconds since 1970.
+/* Runs a mutator on the map: answer->number is the mutation's id, and queries show it at once; or GIQ_ASKED. `args` is
+ * a JSON text of whole numbers that nests at most 124 deep, `time` is in milliseconds since 1970.
  * Refused: GIQ_NOT_UTF8, GIQ_NOT_JSON, GIQ_NOT_WHOLE, GIQ_NO_MUTATOR, GIQ_REFUSED with the mutator's code, GIQ_STALE,
  * GIQ_FULL, GIQ_STAMPS, GIQ_CLOSED, GIQ_MOVED, GIQ_BUSY, GIQ_GONE. */
 static inline int32_t giq_mutate(giq_place *place, giq_bytes name, giq_bytes args, uint64_t time, giq_answer *answer) {
@@ -306,12 +334,65 @@ static inline int32_t giq_forget_ticket(giq_place *place, uint32_t ticket, giq_a
 }
 
 /* Ends a pull with the response's body: what the server confirmed is pending no more, and the rest is run again on the
- * server's map. GIQ_NONE where the response brings nothing. The ticket stays.
+ * server's map; GIQ_ASKED where one of those is to be run by the program. GIQ_NONE where the response brings nothing.
+ * The ticket stays.
  * Refused: GIQ_NO_TICKET, GIQ_NOT_JSON, GIQ_BAD_SHAPE, GIQ_NOT_WHOLE, GIQ_OVERTAKEN, GIQ_COOKIE_WENT_BACK,
  * GIQ_COOKIE_NOT_NEW, GIQ_ID_WENT_BACK, GIQ_STATE_NOT_FOUND, GIQ_VERSION_NOT_SUPPORTED with an enum giq_version,
  * GIQ_FULL, GIQ_STAMPS, GIQ_CLOSED, GIQ_MOVED, GIQ_BUSY, GIQ_GONE. */
 static inline int32_t giq_end_pull(giq_place *place, uint32_t ticket, giq_bytes response, giq_answer *answer) {
     return giq_ask(place, GIQ_CALL_END_PULL, ticket, 0, response, giq_nothing(), answer);
+}
+
+/* ---- mutators of the program's own: each call is refused with GIQ_NOT_ASKED where no run is asked for */
+
+/* The name of the mutator that is to be run; answer->number is the reason, an enum giq_reason. */
+static inline int32_t giq_asked_name(giq_place *place, giq_answer *answer) {
+    return giq_ask(place, GIQ_CALL_ASKED_NAME, 0, 0, giq_nothing(), giq_nothing(), answer);
+}
+
+/* Its arguments, a compact JSON text. */
+static inline int32_t giq_asked_args(giq_place *place, giq_answer *answer) {
+    return giq_ask(place, GIQ_CALL_ASKED_ARGS, 0, 0, giq_nothing(), giq_nothing(), answer);
+}
+
+/* The value at the key in the run's map, a compact JSON text; GIQ_NONE where there is none. Refused: GIQ_NOT_UTF8,
+ * GIQ_BUSY, GIQ_GONE, after which the run may go on. */
+static inline int32_t giq_draft_get(giq_place *place, giq_bytes key, giq_answer *answer) {
+    return giq_ask(place, GIQ_CALL_DRAFT_GET, 0, 0, key, giq_nothing(), answer);
+}
+
+/* Whether the key is there in the run's map: GIQ_YES or GIQ_OK. Refused: as giq_draft_get. */
+static inline int32_t giq_draft_has(giq_place *place, giq_bytes key, giq_answer *answer) {
+    return giq_ask(place, GIQ_CALL_DRAFT_HAS, 0, 0, key, giq_nothing(), answer);
+}
+
+/* The rows of the range in the run's map, as giq_scan has them. Refused: as giq_draft_get, and GIQ_OUT_OF_RANGE. */
+static inline int32_t giq_draft_scan(giq_place *place, giq_range range, giq_answer *answer) {
+    return giq_ask(place, GIQ_CALL_DRAFT_SCAN, range.kind, range.limit, range.prefix, range.start, answer);
+}
+
+/* Puts a value, a JSON text of whole numbers, at the key in the run's map. Refused, and then the map is as it was: as
+ * giq_draft_get, and GIQ_NOT_JSON, GIQ_NOT_WHOLE. */
+static inline int32_t giq_draft_put(giq_place *place, giq_bytes key, giq_bytes value, giq_answer *answer) {
+    return giq_ask(place, GIQ_CALL_DRAFT_PUT, 0, 0, key, value, answer);
+}
+
+/* Takes the key out of the run's map, whether or not it was there. Refused: as giq_draft_get. */
+static inline int32_t giq_draft_del(giq_place *place, giq_bytes key, giq_answer *answer) {
+    return giq_ask(place, GIQ_CALL_DRAFT_DEL, 0, 0, key, giq_nothing(), answer);
+}
+
+/* Says how the run ended, by an enum giq_ending, and the code where it refused. GIQ_ASKED: the next run is asked for.
+ * Else the change has ended: this returns and answers what giq_mutate or giq_end_pull would have. A new mutation whose
+ * run wasn't done is refused with GIQ_REFUSED or GIQ_NO_MUTATOR; a pending one stays pending, and leaves the map as it
+ * was before its run. Refused with GIQ_OUT_OF_RANGE where the ending is none, and then the run is still asked for. */
+static inline int32_t giq_ran(giq_place *place, uint32_t ending, uint32_t code, giq_answer *answer) {
+    return giq_ask(place, GIQ_CALL_RAN, ending, code, giq_nothing(), giq_nothing(), answer);
+}
+
+/* Gives the change up: nothing was changed. */
+static inline int32_t giq_give_up(giq_place *place, giq_answer *answer) {
+    return giq_ask(place, GIQ_CALL_GIVE_UP, 0, 0, giq_nothing(), giq_nothing(), answer);
 }
 
 #ifdef __cplusplus

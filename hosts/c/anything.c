@@ -41,6 +41,9 @@ static const char *const pieces[PIECES] = {
 
 static uint64_t state, refused;
 
+/* The place whose change asked for a run last. */
+static giq_place *asking;
+
 /* A number that looks random, below the limit. */
 static uint64_t below(uint64_t limit) {
     state = state * 6364136223846793005 + 1442695040888963407;
@@ -100,7 +103,7 @@ static void check(int32_t returned, const giq_answer *answer) {
     static volatile uint8_t read;
     size_t i;
     const int has_code = returned == GIQ_REFUSED || returned == GIQ_VERSION_NOT_SUPPORTED;
-    if (returned > GIQ_YES || (returned < GIQ_CLOSED && returned > GIQ_NOT_UTF8) || returned < GIQ_NO_PLACE) {
+    if (returned > GIQ_ASKED || (returned < GIQ_CLOSED && returned > GIQ_NOT_UTF8) || returned < GIQ_NOT_ASKED) {
         fail("returned", returned);
     }
     if (returned == GIQ_NO_MEMORY && refused == 0) fail("no memory", returned);
@@ -121,7 +124,8 @@ static void open_any(giq_place *places) {
     opening.group = given(rooms[0], IDS, RESPONSES);
     opening.profile = given(rooms[1], 0, NAMES);
     opening.schema = given(rooms[2], 0, NAMES);
-    opening.rules = given(rooms[3], RULES, PIECES - 1);
+    opening.own_mutators = below(2) == 0 ? 0 : (below(20) == 0 ? (uint32_t)number() : 1);
+    opening.rules = opening.own_mutators == 0 || below(20) == 0 ? given(rooms[3], RULES, PIECES - 1) : giq_nothing();
     opening.slots = below(4) == 0 ? (uint32_t)number() % GIQ_MAX_PLACES : 16 + (uint32_t)below(64);
     returned = giq_open_places(&opening, places, PLACES);
     for (i = 0; i < PLACES; i++) {
@@ -133,15 +137,25 @@ static void open_any(giq_place *places) {
 /* Makes a call; whether it was done. */
 static int call_any(giq_place *place) {
     static uint8_t rooms[2][ROOM];
-    uint32_t what = below(50) == 0 ? (uint32_t)number() : (uint32_t)below(GIQ_CALL_POLL + 2);
+    uint32_t what = below(50) == 0 ? (uint32_t)number() : (uint32_t)below(GIQ_CALL_GIVE_UP + 2);
     uint32_t m = (uint32_t)number();
     giq_answer answer;
     int32_t returned;
+    if (what > GIQ_CALL_POLL && place != asking && below(10) != 0) what = (uint32_t)below(GIQ_CALL_POLL + 1);
     if (what <= GIQ_CALL_LEAVE && below(10) != 0) what = GIQ_CALL_MUTATE;
+    if (place == asking && below(3) == 0) {
+        what = GIQ_CALL_RAN;
+        m = (uint32_t)below(3);
+    }
     memset(&answer, 255, sizeof answer);
     returned = giq_ask(place, (enum giq_what)what, m, number(), fitting(rooms[0], what), given(rooms[1], ARGS, IDS),
                        &answer);
     check(returned, &answer);
+    if (returned == GIQ_ASKED) {
+        asking = place;
+    } else if (place == asking && (what >= GIQ_CALL_RAN || returned == GIQ_NOT_ASKED)) {
+        asking = NULL;
+    }
     return returned >= 0;
 }
 

@@ -95,6 +95,7 @@ int main(int argc, char **argv) {
     opening.schema = giq_text("s1");
     opening.rules = giq_nothing();
     opening.slots = 32768;
+    opening.own_mutators = 0;
     done(giq_open_places(&opening, &place, 1));
     done(giq_sit(&place, giq_text("00000000-0000-4000-8000-000000000000"), &answer));
     fill(&place, keys);

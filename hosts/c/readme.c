@@ -54,6 +54,7 @@ int main(void) {
     opening.schema = giq_text("s1");
     opening.rules = giq_text("{\"add\":[[\"put\",[\"cat\",\"todo/\",[\"arg\",\"id\"]],[\"arg\",\"text\"]]]}");
     opening.slots = 4096;
+    opening.own_mutators = 0;
     done(giq_open_places(&opening, places, 2));
     done(giq_sit(&places[0], giq_text(ANNA), &answer));
     done(giq_sit(&places[1], giq_text(BERT), &answer));

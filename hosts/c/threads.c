@@ -104,6 +104,7 @@ static void open_all(giq_place *places) {
     opening.schema = giq_text("s1");
     opening.rules = giq_text(rules);
     opening.slots = SLOTS;
+    opening.own_mutators = 0;
     done("open", giq_open_places(&opening, places, THREADS));
     for (i = 0; i < THREADS; i++) done("sit", giq_sit(&places[i], giq_text(CLIENTS[i]), &answer));
 }

@@ -27,12 +27,28 @@ import os
 import threading
 import time
 import weakref
+from collections.abc import Callable, Mapping
 from dataclasses import dataclass
 from pathlib import Path
 from types import TracebackType
 from typing import Any, NamedTuple
 
-__all__ = ["Ended", "Group", "Pending", "Place", "Refusal", "Row", "STACK", "Ticket", "Version", "Watch", "Why"]
+__all__ = [
+    "Draft",
+    "Ended",
+    "Group",
+    "Mutator",
+    "Pending",
+    "Place",
+    "Refusal",
+    "Refuse",
+    "Row",
+    "STACK",
+    "Ticket",
+    "Version",
+    "Watch",
+    "Why",
+]
 
 STACK = 262144
 """How many bytes of stack were enough for each call that was tried. That is measured, not proved."""
@@ -71,8 +87,10 @@ class Why(enum.IntEnum):
     NO_WATCH = -105
     BAD_RULES = -106
     IN_USE = -107
+    ASKS = -108
     NO_CLIENT = -109
     NO_PLACE = -110
+    NOT_ASKED = -111
 
 
 class Version(enum.IntEnum):
@@ -97,6 +115,14 @@ class Refusal(Exception):
 
     def __str__(self) -> str:
         return f"{self.why.name} {self.code}" if self.code else self.why.name
+
+
+class Refuse(Exception):
+    """A mutator of the program's own raises it to refuse, with a code of its own."""
+
+    def __init__(self, code: int) -> None:
+        super().__init__(code)
+        self.code = _within("code", code, 2**32 - 1)
 
 
 class Ended(enum.Enum):
@@ -159,9 +185,19 @@ class _What(enum.IntEnum):
     MUTATE = 13
     WATCH = 14
     POLL = 15
+    ASKED_NAME = 16
+    ASKED_ARGS = 17
+    DRAFT_GET = 18
+    DRAFT_HAS = 19
+    DRAFT_SCAN = 20
+    DRAFT_PUT = 21
+    DRAFT_DEL = 22
+    RAN = 23
+    GIVE_UP = 24
 
 
-_NONE, _YES = 1, 2
+_NONE, _YES, _ASKED = 1, 2, 3
+_RAN, _RAN_REFUSED, _RAN_UNKNOWN = 0, 1, 2
 _ANY, _AT, _AFTER = 0, 1, 2
 _MAX = 2**64 - 1
 
@@ -197,7 +233,7 @@ def _library() -> ctypes.CDLL:
     library = ctypes.CDLL(os.environ.get("GIQAYMU_LIBRARY", str(built)))
     text = [ctypes.c_char_p, ctypes.c_size_t]
     place, u32, u64 = ctypes.POINTER(_Handle), ctypes.c_uint32, ctypes.c_uint64
-    library.giq_open.argtypes = [*text, *text, *text, *text, u32, place, ctypes.c_size_t]
+    library.giq_open.argtypes = [*text, *text, *text, *text, u32, u32, place, ctypes.c_size_t]
     library.giq_open.restype = ctypes.c_int32
     library.giq_call.argtypes = [place, u32, u32, u64, *text, *text, ctypes.POINTER(_Answer)]
     library.giq_call.restype = ctypes.c_int32
@@ -230,11 +266,13 @@ class Place:
     `close` each call is refused with `Why.NO_PLACE`.
     """
 
-    def __init__(self, handle: _Handle) -> None:
+    def __init__(self, handle: _Handle, mutators: Mapping[str, Mutator]) -> None:
         """For `Group` alone, which opened the handle."""
         self._handle = handle
+        self._mutators = mutators
         self._answer = _Answer()
-        self._lock = threading.Lock()
+        # A mutator of the program's own runs while its change has the place.
+        self._lock = threading.RLock()
         # The client that sat down last: its tickets and watches bear it, so that those of another client are told
         # apart.
         self._client = object()
@@ -261,10 +299,13 @@ class Place:
         """The client leaves; its tickets and watches are given up, and what it made stays pending."""
         self._call(_What.LEAVE)
 
+    def _value(self, what: _What, key: str, default: Json) -> Json:
+        told = self._call(what, a=key.encode())
+        return default if told.returned == _NONE else json.loads(told.bytes)
+
     def get(self, key: str, default: Json = None) -> Json:
         """The value at the key, or the default where there is none."""
-        told = self._call(_What.GET, a=key.encode())
-        return default if told.returned == _NONE else json.loads(told.bytes)
+        return self._value(_What.GET, key, default)
 
     def has(self, key: str) -> bool:
         """Whether the key is there."""
@@ -302,13 +343,42 @@ class Place:
         """Finds the client's last id in the group: the remedy for `Why.STALE`."""
         return self._call(_What.REFRESH).number
 
+    def _run(self) -> tuple[int, int]:
+        """Runs the mutator that is asked for: how that ended, and the code where it refused."""
+        named = self._call(_What.ASKED_NAME)
+        mutator = self._mutators.get(named.bytes.decode())
+        if mutator is None:
+            return _RAN_UNKNOWN, 0
+        draft = Draft(self, rebase=named.number == 1)
+        try:
+            mutator(draft, json.loads(self._call(_What.ASKED_ARGS).bytes))
+        except Refuse as refused:
+            return _RAN_REFUSED, refused.code
+        finally:
+            draft._place = None
+        return _RAN, 0
+
+    def _change(self, what: _What, m: int = 0, n: int = 0, a: bytes = b"", b: bytes = b"") -> _Told:
+        """Makes a change, with the runs that it asks for; one whose mutator raises is given up."""
+        with self._lock:
+            told = self._call(what, m, n, a, b)
+            while told.returned == _ASKED:
+                try:
+                    ending, code = self._run()
+                except BaseException:
+                    self._call(_What.GIVE_UP)
+                    raise
+                told = self._call(_What.RAN, ending, code)
+            return told
+
     def mutate(self, name: str, args: Json, timestamp: int | None = None) -> int:
         """Runs a mutator on the map, and answers the mutation's id; queries show it at once.
 
-        The timestamp is in milliseconds since 1970; without one it is now.
+        What a mutator of the program's own raises is raised, and nothing was changed; but `Refuse` refuses, with
+        `Why.REFUSED`. The timestamp is in milliseconds since 1970; without one it is now.
         """
         now = time.time_ns() // 1_000_000 if timestamp is None else _within("timestamp", timestamp, _MAX)
-        return self._call(_What.MUTATE, n=now, a=name.encode(), b=_json_bytes(args)).number
+        return self._change(_What.MUTATE, n=now, a=name.encode(), b=_json_bytes(args)).number
 
     def push(self) -> bytes:
         """The body of a push of all that is pending in the group (version 1), also where nothing is.
@@ -338,7 +408,7 @@ class Place:
         """
         number = self._number_of(ticket)
         try:
-            return Ended(self._call(_What.END_PULL, number, a=response).returned)
+            return Ended(self._change(_What.END_PULL, number, a=response).returned)
         finally:
             with contextlib.suppress(Refusal):
                 self.forget(ticket)
@@ -360,6 +430,53 @@ class Place:
         return None if told.returned == _NONE else _rows(told.bytes)
 
 
+class Draft:
+    """The map that a run of a mutator of the program's own reads and writes, until the run ends.
+
+    `rebase` says for which reason it is run: a pull was applied under the mutation, or the client makes it.
+    """
+
+    def __init__(self, place: Place, *, rebase: bool) -> None:
+        """For `Place` alone."""
+        self._place: Place | None = place
+        self.rebase = rebase
+
+    def _at(self) -> Place:
+        if self._place is None:
+            raise Refusal(Why.NOT_ASKED)
+        return self._place
+
+    def get(self, key: str, default: Json = None) -> Json:
+        """The value at the key, or the default where there is none."""
+        return self._at()._value(_What.DRAFT_GET, key, default)
+
+    def has(self, key: str) -> bool:
+        """Whether the key is there."""
+        return self._at()._call(_What.DRAFT_HAS, a=key.encode()).returned == _YES
+
+    def scan(
+        self, prefix: str = "", *, at: str | None = None, after: str | None = None, limit: int | None = None
+    ) -> list[Row]:
+        """The rows, as `Place.scan` has them."""
+        return _rows(self._at()._scan(_What.DRAFT_SCAN, prefix, at, after, limit).bytes)
+
+    def put(self, key: str, value: Json) -> None:
+        """Puts a value at the key."""
+        self._at()._call(_What.DRAFT_PUT, a=key.encode(), b=_json_bytes(value))
+
+    def delete(self, key: str) -> None:
+        """Takes the key out, whether or not it was there."""
+        self._at()._call(_What.DRAFT_DEL, a=key.encode())
+
+
+Mutator = Callable[[Draft, Json], None]
+"""A mutator of the program's own: it reads and writes the draft, and raises `Refuse` to refuse.
+
+Every rebase runs it again. So what it does has to depend on its name, its arguments, the reason and the draft alone:
+that is trusted.
+"""
+
+
 def _rows(text: bytes) -> list[Row]:
     return [Row(*row) for row in json.loads(text)]
 
@@ -367,9 +484,10 @@ def _rows(text: bytes) -> list[Row]:
 class Group:
     """A client group that lives in memory and starts empty, and its places.
 
-    It is opened with its ID, a UUID, the profile ID and the schema version of its requests, its mutators as data
-    (`docs/RULES.md`; without them it has the mutators of scripts alone), 16 to 16,777,216 slots of some 80 bytes
-    each, and 1 to 256 places. A group never grows: `docs/USING.md` says how many slots to ask for.
+    It is opened with its ID, a UUID, the profile ID and the schema version of its requests, 16 to 16,777,216 slots of
+    some 80 bytes each, and 1 to 256 places. Its mutators are data (`rules`: `docs/RULES.md`; without them it has those
+    of scripts alone), or functions of the program (`mutators`; then there are no others). A group never grows:
+    `docs/USING.md` says how many slots to ask for.
     """
 
     def __init__(
@@ -379,14 +497,16 @@ class Group:
         profile: str,
         schema: str,
         rules: dict[str, Json] | None = None,
+        mutators: Mapping[str, Mutator] | None = None,
         slots: int = 4096,
         places: int = 1,
     ) -> None:
         texts = [group.encode(), profile.encode(), schema.encode(), b"" if rules is None else _json_bytes(rules)]
         given = [word for text in texts for word in (text, len(text))]
         handles = (_Handle * _within("places", places, 2**16))()
-        _done(_library().giq_open(*given, _within("slots", slots, 2**32 - 1), handles, places))
-        self.places = [Place(handle) for handle in handles]
+        own = 0 if mutators is None else 1
+        _done(_library().giq_open(*given, _within("slots", slots, 2**32 - 1), own, handles, places))
+        self.places = [Place(handle, mutators or {}) for handle in handles]
         """The places; the group is freed with the last of them."""
 
     def close(self) -> None:

@@ -10,7 +10,7 @@ import unittest
 from pathlib import Path
 
 import giqaymu
-from giqaymu import Ended, Group, Json, Place, Refusal, Version, Why
+from giqaymu import Draft, Ended, Group, Json, Place, Refusal, Refuse, Version, Why
 
 ID = "00000000-0000-4000-8000-000000000001"
 ANNA = "00000000-0000-4000-8000-00000000000a"
@@ -187,6 +187,110 @@ class Calls(unittest.TestCase):
         self.refused(Why.NO_PLACE, group.places[0].leave)
         del group, anna, bert
         gc.collect()
+
+
+def note(draft: Draft, args: Json) -> None:
+    """Puts the arguments behind what is at `n`, and says whether it was rebased."""
+    draft.put("n", [*draft.get("n", []), args])
+    draft.put("rebased", draft.rebase)
+
+
+def take(draft: Draft, args: Json) -> None:
+    """Takes away the key, which has to be there, and no other one with its beginning."""
+    if not draft.has(args):
+        raise Refuse(7)
+    draft.delete(args)
+    draft.put("left", [row.key for row in draft.scan(args)])
+
+
+def fail(draft: Draft, args: Json) -> None:
+    """Raises an error."""
+    draft.put("n", 0)
+    raise KeyError(args)
+
+
+class OwnMutators(unittest.TestCase):
+    """Mutators of the program's own."""
+
+    def seated(self, **mutators: giqaymu.Mutator) -> tuple[Place, Place]:
+        """Two places, a client at each."""
+        own = {"note": note, "take": take, "fail": fail, **mutators}
+        anna, bert = Group(ID, profile="p1", schema="s1", mutators=own, slots=16384, places=2).places
+        anna.sit(ANNA)
+        bert.sit(BERT)
+        return anna, bert
+
+    refused = Calls.refused
+
+    def test_mutations(self) -> None:
+        anna, bert = self.seated()
+        self.assertEqual((anna.mutate("note", 1), bert.mutate("note", {"a": "é"})), (1, 1))
+        self.assertEqual(anna.scan(), [("n", [1, {"a": "é"}]), ("rebased", False)])
+        self.refused(Why.NO_MUTATOR, anna.mutate, "set", ["a", 1])
+        self.refused(Why.REFUSED, anna.mutate, "take", "x", code=7)
+        self.assertEqual(anna.mutate("take", "n"), 2)
+        self.assertEqual(anna.scan(), [("left", []), ("rebased", False)])
+
+    def test_rebase(self) -> None:
+        anna, bert = self.seated()
+        anna.mutate("note", 1)
+        anna.mutate("note", 2)
+        bert.mutate("take", "rebased")
+        self.assertIs(pull(anna, response(1, put("n", [0]), anna=1)), Ended.APPLIED)
+        self.assertEqual(anna.scan(), [("left", []), ("n", [0, 2])])
+        self.assertEqual(anna.pending(), [(ANNA, 2, "note"), (BERT, 1, "take")])
+        self.assertIs(pull(anna, response(2, put("n", [0, 2]), {"op": "del", "key": "rebased"}, anna=2)), Ended.APPLIED)
+        self.assertEqual(bert.scan(), [("n", [0, 2])])
+        self.assertIs(pull(anna, response(3, put("n", []), bert=1)), Ended.APPLIED)
+        self.assertIs(pull(anna, response(3)), Ended.SAME)
+        self.assertEqual(bert.pending(), [])
+
+    def test_errors(self) -> None:
+        anna, bert = self.seated()
+        with self.assertRaises(KeyError):
+            anna.mutate("fail", 1)
+        self.assertEqual((anna.scan(), anna.refresh(), anna.mutate("note", 1)), ([], 0, 1))
+        drafts: list[Draft] = []
+        anna, bert = self.seated(keep=lambda draft, args: drafts.append(draft), mean=lambda draft, args: anna.get("n"))
+        anna.mutate("keep", 1)
+        self.refused(Why.NOT_ASKED, drafts[0].get, "n")
+        self.refused(Why.ASKS, anna.mutate, "mean", 1)
+        self.assertEqual(anna.refresh(), 1)
+
+    def test_others_are_first(self) -> None:
+        runs = []
+
+        def slow(draft: Draft, args: Json) -> None:
+            runs.append(args)
+            if len(runs) < 3:
+                bert.mutate("note", len(runs))
+            draft.put("slow", draft.get("n"))
+
+        anna, bert = self.seated(slow=slow)
+        self.assertEqual(anna.mutate("slow", 5), 1)
+        self.assertEqual((runs, bert.get("slow")), ([5, 5, 5], [1, 2]))
+
+    def test_threads(self) -> None:
+        def count(draft: Draft, args: Json) -> None:
+            draft.put("n", draft.get("n", 0) + args)
+
+        anna, bert = self.seated(count=count)
+
+        def work(place: Place) -> None:
+            for _ in range(200):
+                place.mutate("count", 1)
+
+        threads = [threading.Thread(target=work, args=[place]) for place in (anna, bert, anna, bert)]
+        for thread in threads:
+            thread.start()
+        for thread in threads:
+            thread.join()
+        self.assertEqual((anna.get("n"), anna.refresh(), bert.refresh()), (800, 400, 400))
+
+    def test_opening(self) -> None:
+        with self.assertRaises(Refusal) as told:
+            Group(ID, profile="p1", schema="s1", rules=RULES, mutators={})
+        self.assertEqual(told.exception.why, Why.BAD_RULES)
 
 
 class Threads(unittest.TestCase):

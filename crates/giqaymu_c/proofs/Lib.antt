@@ -1,3 +1,4 @@
+mod Calling
 mod Cases
 mod Giving
 mod Numbers

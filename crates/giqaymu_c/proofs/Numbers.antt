@@ -1,6 +1,6 @@
 -- Numbers of refusals.
-use Rattle.std.proofs.Common.{◌≡◌, ◌⊎◌, ◌-◌, ◌<◌, ◌^◌, inl, inr, ℕ, Bool, true, false, [], ◌∷◌, Option, Some, None}
-use Rattle.std.proofs.Common.{Result, Ok, Err, refl, sym, ◌∙◌, subst, arith, w32}
+use Rattle.std.proofs.Common.{◌≡◌, ◌<◌, ◌^◌, inl, inr, ℕ, zero, suc, List, length, Bool, true, false}
+use Rattle.std.proofs.Common.{[], ◌∷◌, Option, Some, None, Result, Ok, Err, refl, sym, ◌∙◌, subst, arith, w32}
 use Rattle.std.specs.Prelude.{⊤, ℤ, pos, negsuc, if◌then◌else◌}
 use Rattle.std.proofs.lemmas.Int.{to_z-of_z}
 use lib.Signed.{mag}
@@ -10,7 +10,9 @@ use Rattle.group_history.specs.declared.refusals.Refusal.TheVariants as refusal
 use Rattle.group_history.specs.Map.{Bytes}
 use Rattle.push_body.specs.declared.identities.Identity.{Identity}
 use Rattle.rebase.specs.declared.config.OutOfRange.{OutOfRange}
-use Rattle.rebase.specs.Configs.{Layout, out_of_range}
+use Rattle.rebase.specs.declared.config.OutOfRange.TheVariants as out
+use Rattle.rebase.specs.Configs.{Layout, is_from_to, min_slots, out_of_range}
+use Rattle.group_history.specs.Refs.{max_slots}
 use Rattle.rule_mutators.specs.declared.faults.RuleFault.{RuleFault}
 use Rattle.rule_mutators.specs.Reading.{rules_said}
 use Rattle.rule_mutators.specs.Rules.{Rules}
@@ -22,9 +24,11 @@ use Rattle.host_places.specs.declared.outcomes.Outcome.{Outcome}
 use Rattle.host_places.specs.declared.outcomes.Outcome.TheVariants as outcome
 use Rattle.host_places.specs.Asking.{◌>>=◌, or_bad_uuid, text_said, uuid_in, uuid_said}
 use Rattle.host_places.specs.Numbers.{fault_number, outcome_number, refusal_number}
-use Rattle.host_places.specs.Opening.{id_said, identity_said, laid_out, layout_said}
+use Rattle.host_places.specs.declared.opening.Opening.{Opening}
+use Rattle.host_places.specs.Opening.{AreOpened, id_said, identity_said, laid_out, layout_for, layout_said}
+use Rattle.host_places.specs.Places.{PlaceState}
 use Rattle.giqaymu_c.specs.declared.jobs.Grounds.{Grounds}
-use Rattle.giqaymu_c.specs.Jobs.{IsGivingRefusal, IsOpeningRefusal, or_bad_rules, rules_given}
+use Rattle.giqaymu_c.specs.Jobs.{IsMutatorsRefusal, IsOpeningRefusal, IsOpeningWant, or_bad_rules, rules_given}
 
 -- it is a refusal
 abbrev pub IsNo : Outcome → Type 0
@@ -66,8 +70,10 @@ fault_below fault.NoTicket = (103, refl, omega arith)
 fault_below fault.NoWatch = (104, refl, omega arith)
 fault_below fault.BadRules = (105, refl, omega arith)
 fault_below fault.InUse = (106, refl, omega arith)
+fault_below fault.Asks = (107, refl, omega arith)
 fault_below fault.NoClient = (108, refl, omega arith)
 fault_below fault.NoPlace = (109, refl, omega arith)
+fault_below fault.NotAsked = (110, refl, omega arith)
 
 pub no_below : (e : Outcome) → IsNo e → IsBelow (outcome_number e)
 no_below (outcome.Refused e) is = refusal_below e
@@ -76,6 +82,7 @@ no_below outcome.Done is = absurd is
 no_below (outcome.Number n) is = absurd is
 no_below outcome.Nothing is = absurd is
 no_below (outcome.Is b) is = absurd is
+no_below outcome.Asked is = absurd is
 
 -- it is kept in 32 bits
 pub below_kept : (z : ℤ) → IsBelow z → to_z w32 (of_z w32 z) ≡ z
@@ -90,10 +97,10 @@ negsuc_pos n m e = absurd (subst is_negative e tt) where
   is_negative (negsuc k) = Unit {0}
 
 pub below_zero : {P : Type 0} (z : ℤ) → IsBelow z → z ≡ pos 0 → P
-below_zero z (k, is, low) zero = negsuc_pos k 0 (sym is ∙ zero)
+below_zero z (k, is, low) nought = negsuc_pos k 0 (sym is ∙ nought)
 
 pub below_bits : {P : Type 0} (z : ℤ) → IsBelow z → of_z w32 z ≡ 0 → P
-below_bits z (k, is, low) zero = absurd (bits (subst (λ y. of_z w32 y ≡ 0) is zero)) where
+below_bits z (k, is, low) nought = absurd (bits (subst (λ y. of_z w32 y ≡ 0) is nought)) where
   bits : of_z w32 (negsuc k) ≡ 0 → ⊥
   bits e = absurd (omega (arith, low, e))
 
@@ -128,18 +135,38 @@ uuid_fine bytes = read (text_said bytes) where
   read (Ok text) = is_one (parsed text)
   read (Err e) = tt
 
--- the layout has as many seats as were asked for
+-- a layout that is in range has a seat
+some_seat : (slots seats : ℕ) → out_of_range slots seats ≡ None → 0 < seats
+some_seat slots (suc n) fits = omega arith
+some_seat slots zero fits = none (is_from_to min_slots max_slots slots) fits where
+  none : (b : Bool) → (if b then Some (out.Seats 0) else Some (out.Slots slots)) ≡ None → 0 < zero
+  none true e = cc
+  none false e = cc
+
+-- it has as many as were asked for
+abbrev pub HasSeats : ℕ → Layout → Type 0
+HasSeats seats l = (l.seats ≡ seats) × (0 < seats)
+
 pub layout_fine : (id profile schema : Bytes) (slots seats : ℕ)
-    → Fine (λ (l : Layout). l.seats ≡ seats) (layout_said id profile schema slots seats)
+    → Fine (HasSeats seats) (layout_said id profile schema slots seats)
 layout_fine id profile schema slots seats =
-    fine_then (λ (l : Layout). l.seats ≡ seats) (identity_said id profile schema) _
+    fine_then (HasSeats seats) (identity_said id profile schema) _
     (fine_then (λ _. ⊤) (id_said id) _ (fine_then (λ _. ⊤) (uuid_said id) _ (uuid_fine id) (λ _. tt))
     (λ _. fine_then (λ _. ⊤) (text_said profile) _ (text_fine profile)
     (λ _. fine_then (λ _. ⊤) (text_said schema) _ (text_fine schema) (λ _. tt))))
-    (laid (out_of_range slots seats)) where
-      laid : (o : Option OutOfRange) (i : Identity) → Fine (λ (l : Layout). l.seats ≡ seats) (laid_out o i slots seats)
-      laid None i = refl
-      laid (Some e) i = tt
+    (laid (out_of_range slots seats) refl) where
+      laid : (o : Option OutOfRange) → out_of_range slots seats ≡ o → (i : Identity)
+          → Fine (HasSeats seats) (laid_out o i slots seats)
+      laid None fits i = (refl, some_seat slots seats fits)
+      laid (Some e) fits i = tt
+
+-- a group that was opened has a place
+pub some_place : (w : Opening) (layout : Layout) (places : List PlaceState) → layout_for w ≡ Ok layout
+    → AreOpened layout places → 0 < length places
+some_place w layout places said opened =
+    let has : HasSeats w.places layout = subst (Fine (HasSeats w.places)) said
+    (layout_fine w.id.now w.profile.now w.schema.now w.slots w.places) in
+    omega (arith, opened.count)
 
 rules_fine : (text : Bytes) → Said (rules_given text)
 rules_fine [] = tt
@@ -150,22 +177,19 @@ rules_fine (b ∷ bytes) = read (rules_said (b ∷ bytes)) where
 
 -- ---- refusals
 
-pub opening_no : (grounds : Grounds) (e : Outcome) → IsOpeningRefusal grounds e → IsNo e
-opening_no grounds e (inl (inl is)) = subst IsNo (sym is) tt
-opening_no grounds e (inl (inr (inl is))) = subst IsNo (sym is) tt
-opening_no grounds e (inl (inr (inr is))) = subst IsNo (sym is) tt
-opening_no grounds e (inr (inl is)) = subst IsNo (sym is) tt
-opening_no grounds e (inr (inr (inl is))) = subst (Fine {X = Rules} (λ _. ⊤)) is (rules_fine grounds.rules.now)
-opening_no grounds e (inr (inr (inr is))) =
+want_no : (grounds : Grounds) (e : Outcome) → IsOpeningWant grounds e → IsNo e
+want_no grounds e (inl (inl is)) = subst IsNo (sym is) tt
+want_no grounds e (inl (inr (inl is))) = subst IsNo (sym is) tt
+want_no grounds e (inl (inr (inr is))) = subst IsNo (sym is) tt
+want_no grounds e (inr is) =
     let w = grounds.with in
-    subst (Fine (λ (l : Layout). l.seats ≡ w.places)) is
-    (layout_fine w.id.now w.profile.now w.schema.now w.slots w.places)
+    subst (Fine (HasSeats w.places)) is (layout_fine w.id.now w.profile.now w.schema.now w.slots w.places)
 
-pub giving_no : (e : Outcome) → IsGivingRefusal e → IsNo e
-giving_no e (inl is) = subst IsNo (sym is) tt
-giving_no e (inr (inl is)) = subst IsNo (sym is) tt
-giving_no e (inr (inr is)) = subst IsNo (sym is) tt
+mutators_no : (grounds : Grounds) (e : Outcome) → IsMutatorsRefusal grounds e → IsNo e
+mutators_no grounds e (inl (own, is)) = subst (Fine {X = Rules} (λ _. ⊤)) is (rules_fine grounds.rules.now)
+mutators_no grounds e (inr (inl (own, some, is))) = subst IsNo (sym is) tt
+mutators_no grounds e (inr (inr (own, is))) = subst IsNo (sym is) tt
 
-pub either_no : (grounds : Grounds) (e : Outcome) → IsOpeningRefusal grounds e ⊎ IsGivingRefusal e → IsNo e
-either_no grounds e (inl why) = opening_no grounds e why
-either_no grounds e (inr why) = giving_no e why
+pub opening_no : (grounds : Grounds) (e : Outcome) → IsOpeningRefusal grounds e → IsNo e
+opening_no grounds e (inl want) = want_no grounds e want
+opening_no grounds e (inr why) = mutators_no grounds e why

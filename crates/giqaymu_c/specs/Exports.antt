@@ -1,21 +1,23 @@
 -- What the functions that C calls answer.
-use Rattle.std.specs.Prelude.{ℕ, ℤ, pos, ◌≡◌, ◌⊎◌, ◌-◌, ◌<◌, List, length, slice_index_or, Option, Some, Ok, IsOk}
+use Rattle.std.specs.Prelude.{ℕ, zero, suc, ℤ, pos, ◌≡◌, ◌⊎◌, ◌-◌, ◌<◌, Bool, true, false, List, [], length}
+use Rattle.std.specs.Prelude.{slice_index_or, Option, Some, Ok, IsOk}
 use Rattle.std.specs.List.{All}
+use Rattle.group_history.specs.declared.refusals.Refusal.TheVariants.{NoMemory}
 use Rattle.group_history.specs.Map.{Bytes}
 use Rattle.host_places.specs.declared.faults.Fault.TheVariants.{OutOfRange}
 use Rattle.host_places.specs.declared.outcomes.Outcome.{Outcome}
-use Rattle.host_places.specs.declared.outcomes.Outcome.TheVariants.{Faulty}
+use Rattle.host_places.specs.declared.outcomes.Outcome.TheVariants.{Faulty, Refused}
 use Rattle.host_places.specs.Numbers.{outcome_number}
 use Rattle.host_places.specs.Opening.{IsNew, layout_said}
 use Rattle.rebase.specs.Clients.{Grouped}
 use Rattle.rebase.specs.Configs.{Layout}
-use Rattle.rule_mutators.specs.Rules.{Rules}
 use Rattle.giqaymu_c.specs.declared.exports.Answer.{Answer}
 use Rattle.giqaymu_c.specs.declared.handle.Handle.{Handle}
 use Rattle.giqaymu_c.specs.declared.jobs.Grounds.{Grounds}
 use Rattle.giqaymu_c.specs.declared.jobs.Numbered.{Numbered}
 use Rattle.giqaymu_c.specs.declared.jobs.Reply.{Reply}
-use Rattle.giqaymu_c.specs.Jobs.{HasCalled, IsGivingRefusal, IsOpeningRefusal, rules_given}
+use Rattle.giqaymu_c.specs.Jobs.{HasCalled, IsOpeningRefusal, Meant, rules_given}
+use Rattle.giqaymu_c.specs.Own.{Run}
 use Rattle.giqaymu_c.specs.Spots.{SpotState}
 
 -- the number that is answered and what is written to `out` are those of a reply
@@ -35,76 +37,93 @@ pub record IsNumbered (call : Numbered) (what m n : ℕ) (a b : Bytes) : Type 0 
   pub b_is : call.b.now ≡ b
 
 -- is made
-pub record IsCalled (rules : Rules) (what m n : ℕ) (a b : Bytes) (before : Option SpotState) (number : ℤ) (out : Answer)
+pub record IsCalled (meant : Meant) (what m n : ℕ) (a b : Bytes) (before : Option SpotState) (number : ℤ) (out : Answer)
     (after : Option SpotState) : Type 0 where
   pub call : Numbered
   pub asked : IsNumbered call what m n a b
   pub reply : Reply
   pub told : IsTold reply number out
-  pub called : HasCalled rules call before reply after
+  pub called : HasCalled meant call before reply after
+
+-- it is a place of a group that was opened as the other one was, or closed with the same ghost data
+abbrev pub IsLike : Handle → Handle → Type 0
+IsLike one other = (other.text ≡ one.text) × (other.own ≡ one.own)
 
 -- ---- opening
 
--- A new place of a group that was opened by the rules of this text: nobody sits there. It has so many places of the
--- group that are not given out yet.
-pub record IsNewPlace (group : Grouped) (commit : ℕ) (text : Bytes) (spare : ℕ) (h : Handle) : Type 0 where
-  pub text_is : h.text ≡ text
+-- the terms on which a group was opened: the text of its rules; whether its mutators are the host's own, and their runs
+pub record Terms : Type 0 where
+  pub text : Bytes
+  pub is_own : Bool
+  pub own : List Run
+
+-- A new place of a group that was opened on these terms: nobody sits there. It has so many places of the group that
+-- are not given out yet.
+pub record IsNewPlace (group : Grouped) (commit : ℕ) (terms : Terms) (spare : ℕ) (h : Handle) : Type 0 where
+  pub text_is : h.text ≡ terms.text
+  pub own_is : h.own ≡ terms.own
   pub spot : SpotState
   pub there : h.spot ≡ Some spot
+  pub is_own : spot.own ≡ terms.is_own
   pub new : IsNew group commit spot.desk.place
   pub count : length spot.spare ≡ spare
   pub all : All (λ d. IsNew group commit d.place) spot.spare
 
 -- the places from the second one to the n-th
-abbrev pub AreNew : Grouped → ℕ → Bytes → ℕ → List Handle → Type 0
-AreNew group commit text n places =
-    (i : ℕ) → 0 < i → i < n → (d : Handle) → IsNewPlace group commit text 0 (slice_index_or places i d)
+abbrev pub AreNew : Grouped → ℕ → Terms → ℕ → List Handle → Type 0
+AreNew group commit terms n places =
+    (i : ℕ) → 0 < i → i < n → (d : Handle) → IsNewPlace group commit terms 0 (slice_index_or places i d)
 
--- where the first place had all of a new group, each has one of them
+-- Where the first place had all of a new group, each has one of them, or memory was refused.
 abbrev pub IsGivenOut : ℕ → Handle → Handle → ℤ → List Handle → Type 0
-IsGivenOut n first last number places = (group : Grouped) (commit : ℕ) (text : Bytes)
-    → IsNewPlace group commit text (n - 1) first → number ≡ pos 0
-    → IsNewPlace group commit text 0 last × AreNew group commit text n places
+IsGivenOut n first last number places = (group : Grouped) (commit : ℕ) (terms : Terms)
+    → IsNewPlace group commit terms (n - 1) first
+    → ((number ≡ pos 0) × IsNewPlace group commit terms 0 last × AreNew group commit terms n places)
+    ⊎ (number ≡ outcome_number (Refused NoMemory))
 
 -- Each is a place of one new group with this layout: nobody sits there, and its seat has seen the opening of the
 -- group's book alone.
-pub record AreGivenOut (layout : Layout) (text : Bytes) (places : List Handle) : Type 0 where
+pub record AreGivenOut (layout : Layout) (terms : Terms) (places : List Handle) : Type 0 where
   pub group : Grouped
   pub commit : ℕ
   pub identity : group.identity ≡ layout.identity
   pub sizes : group.group.table.sizes ≡ record { readers = layout.seats; slots = layout.slots }
-  pub each : (i : ℕ) → i < length places → (d : Handle) → IsNewPlace group commit text 0 (slice_index_or places i d)
+  pub each : (i : ℕ) → i < length places → (d : Handle) → IsNewPlace group commit terms 0 (slice_index_or places i d)
 
--- with these grounds; their rules are rules
-pub record AreOpenedFor (grounds : Grounds) (places : List Handle) : Type 0 where
+-- rules are rules; and with mutators of the host's own there are none
+abbrev pub AreMutators : ℕ → Bytes → Bool → Type 0
+AreMutators zero text is_own = IsOk (rules_given text) × (is_own ≡ false)
+AreMutators (suc n) text is_own = (n ≡ 0) × (text ≡ []) × (is_own ≡ true)
+
+-- with these grounds, where the host's own mutators have these runs
+pub record AreOpenedFor (grounds : Grounds) (own : List Run) (places : List Handle) : Type 0 where
   pub layout : Layout
   pub said : layout_said grounds.with.id.now grounds.with.profile.now grounds.with.schema.now grounds.with.slots
       grounds.with.places ≡ Ok layout
-  pub rules : IsOk (rules_given grounds.rules.now)
-  pub given : AreGivenOut layout grounds.rules.now places
-
-abbrev pub IsGivingFault : ℤ → Type 0
-IsGivingFault number = (e : Outcome) × (number ≡ outcome_number e) × IsGivingRefusal e
+  pub is_own : Bool
+  pub mutators : AreMutators grounds.own grounds.rules.now is_own
+  pub given : AreGivenOut layout (record { text = grounds.rules.now; is_own = is_own; own = own }) places
 
 abbrev pub IsOpeningFault : Grounds → ℤ → Type 0
-IsOpeningFault grounds number = (e : Outcome) × (number ≡ outcome_number e)
-    × (IsOpeningRefusal grounds e ⊎ IsGivingRefusal e)
+IsOpeningFault grounds number = (e : Outcome) × (number ≡ outcome_number e) × IsOpeningRefusal grounds e
 
 -- with this
-pub record IsOf (grounds : Grounds) (id profile schema rules : Bytes) (slots : ℕ) : Type 0 where
+pub record IsOf (grounds : Grounds) (id profile schema rules : Bytes) (slots own : ℕ) : Type 0 where
   pub id_is : grounds.with.id.now ≡ id
   pub profile_is : grounds.with.profile.now ≡ profile
   pub schema_is : grounds.with.schema.now ≡ schema
   pub rules_are : grounds.rules.now ≡ rules
   pub slots_are : grounds.with.slots ≡ slots
+  pub own_is : grounds.own ≡ own
 
-abbrev pub IsOpened : Bytes → Bytes → Bytes → Bytes → ℕ → List Handle → Type 0
-IsOpened id profile schema rules slots places = (grounds : Grounds) × IsOf grounds id profile schema rules slots
-    × (grounds.with.places ≡ length places) × AreOpenedFor grounds places
+abbrev pub IsOpened : Bytes → Bytes → Bytes → Bytes → ℕ → ℕ → List Run → List Handle → Type 0
+IsOpened id profile schema rules slots own means places = (grounds : Grounds)
+    × IsOf grounds id profile schema rules slots own × (grounds.with.places ≡ length places)
+    × AreOpenedFor grounds means places
 
 -- or it is refused for a count that is out of range
-abbrev pub IsRefusedFor : Bytes → Bytes → Bytes → Bytes → ℕ → ℕ → ℤ → Type 0
-IsRefusedFor id profile schema rules slots count number =
+abbrev pub IsRefusedFor : Bytes → Bytes → Bytes → Bytes → ℕ → ℕ → ℕ → ℤ → Type 0
+IsRefusedFor id profile schema rules slots own count number =
     ((number ≡ outcome_number (Faulty OutOfRange)) × ((count ≡ 0) ⊎ (256 < count)))
-    ⊎ ((grounds : Grounds) × IsOf grounds id profile schema rules slots × (grounds.with.places ≡ count)
+    ⊎ ((grounds : Grounds) × IsOf grounds id profile schema rules slots own × (grounds.with.places ≡ count)
     × IsOpeningFault grounds number)

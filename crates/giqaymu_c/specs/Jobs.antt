@@ -1,7 +1,10 @@
 -- What is done to a place of a host.
-use Rattle.std.specs.Prelude.{◌≡◌, ◌⊎◌, ◌++◌, ◌∷◌, ⊤, [], length, Option, Some, None, Result, Ok, Err, IsOk}
+use Rattle.std.specs.Prelude.{ℕ, ◌≡◌, ◌≢◌, ◌⊎◌, ◌++◌, ◌∷◌, ◌<◌, ⊤, [], Bool, true, false, List, length, Option}
+use Rattle.std.specs.Prelude.{Some, None}
+use Rattle.std.specs.Prelude.{Result, Ok, Err, IsOk, IfSome}
 use Rattle.group_history.specs.declared.refusals.Refusal.TheVariants.{NoMemory, NoSeat}
 use Rattle.group_history.specs.Map.{Bytes}
+use Rattle.group_history.specs.Meaning.{Meanings}
 use Rattle.rebase.specs.Configs.{Layout}
 use Rattle.rule_mutators.specs.declared.faults.RuleFault.{RuleFault}
 use Rattle.rule_mutators.specs.Meaning.{rules_mean}
@@ -12,13 +15,16 @@ use Rattle.host_places.specs.declared.outcomes.Outcome.{Outcome}
 use Rattle.host_places.specs.declared.outcomes.Outcome.TheVariants.{Done, Faulty, Refused}
 use Rattle.host_places.specs.Numbers.{MayAnswerNumbers, outcome_code, outcome_number, outcome_value}
 use Rattle.host_places.specs.Opening.{AreOpened, IsWant, layout_said}
-use Rattle.host_places.specs.Places.{DeskState}
+use Rattle.host_places.specs.Asking.{ran_said}
+use Rattle.host_places.specs.Places.{DeskState, PlaceState}
+use Rattle.host_places.specs.Runs.{IsRunTold}
 use Rattle.host_places.specs.Told.{told}
 use Rattle.giqaymu_c.specs.declared.jobs.Grounds.{Grounds}
 use Rattle.giqaymu_c.specs.declared.jobs.Job.{Job}
 use Rattle.giqaymu_c.specs.declared.jobs.Job.TheVariants as job
 use Rattle.giqaymu_c.specs.declared.jobs.Numbered.{Numbered}
 use Rattle.giqaymu_c.specs.declared.jobs.Reply.{Reply}
+use Rattle.giqaymu_c.specs.Own.{Run, runs_mean}
 use Rattle.giqaymu_c.specs.Spots.{SpotState, places_of}
 
 -- ---- rules
@@ -49,10 +55,39 @@ abbrev pub text_for : Job → Bytes
 text_for (job.Open grounds) = grounds.rules.now
 text_for other = []
 
--- a job fits at a place of these rules: a group is opened by the rules that it comes with
-abbrev pub IsFit : Job → Rules → Type 0
-IsFit (job.Open grounds) rules = rules ≡ rules_meant grounds.rules.now
-IsFit other rules = ⊤
+-- ---- what mutators mean
+
+-- what the mutators mean of a group at a place: its rules; and the host's own, where they are that
+pub record Meant : Type 0 where
+  pub rules : Rules
+  pub own : Meanings
+
+abbrev pub meant_by : Rules → Meanings → Meant
+meant_by rules own = record { rules = rules; own = own }
+
+-- at a place that was opened by the rules of this text, and where the host's own mutators have these runs
+abbrev pub meant_at : Bytes → List Run → Meant
+meant_at text own = meant_by (rules_meant text) (runs_mean own)
+
+-- as the group is of the host's own mutators, or not
+abbrev pub means_as : Bool → Meant → Meanings
+means_as true meant = meant.own
+means_as false meant = rules_mean meant.rules
+
+-- The premise of a host's own mutators, of the call with these numbers at a place: where it tells that a run has ended
+-- (23), the run is one of their meaning. Any other call, and any at a place with rules, has none.
+abbrev pub IsToldByNumbers : Meanings → ℕ → ℕ → ℕ → SpotState → Type 0
+IsToldByNumbers own what m n spot = spot.own ≡ true → what ≡ 23
+    → IsRunTold own spot.desk.place.asking (ran_said m n)
+
+abbrev pub IsToldAsMeant : Meanings → Numbered → SpotState → Type 0
+IsToldAsMeant own call spot = IsToldByNumbers own call.what call.m call.n spot
+
+-- A job fits at a place: a group is opened by the rules that it comes with, and a run is told of as it was.
+abbrev pub IsFit : Job → Meant → Option SpotState → Type 0
+IsFit (job.Open grounds) meant spot = meant.rules ≡ rules_meant grounds.rules.now
+IsFit (job.Call call) meant spot = IfSome spot (IsToldAsMeant meant.own call)
+IsFit other meant spot = ⊤
 
 -- ---- replies
 
@@ -66,21 +101,46 @@ pub record Replies (outcome : Outcome) (reply : Reply) : Type 0 where
 abbrev pub RepliesBare : Outcome → Reply → Type 0
 RepliesBare outcome reply = Replies outcome reply × (reply.len ≡ 0)
 
+-- with the bytes that a desk has
+pub record RepliesAt (outcome : Outcome) (desk : DeskState) (reply : Reply) : Type 0 where
+  pub told : Replies outcome reply
+  pub at : reply.at ≡ desk.start
+  pub len : reply.len ≡ length desk.bytes
+
 -- ---- opening
 
 -- the spot has all places of a group that was just opened so
-pub record Opens (grounds : Grounds) (spot : SpotState) : Type 0 where
+pub record OpensAll (grounds : Grounds) (spot : SpotState) : Type 0 where
   pub layout : Layout
   pub said : layout_said grounds.with.id.now grounds.with.profile.now grounds.with.schema.now grounds.with.slots
       grounds.with.places ≡ Ok layout
-  pub rules : IsOk (rules_given grounds.rules.now)
   pub opened : AreOpened layout (places_of spot)
 
--- it is refused for want of something or of a place, or since the rules or the rest say nothing
-abbrev pub IsOpeningRefusal : Grounds → Outcome → Type 0
-IsOpeningRefusal grounds e = IsWant e ⊎ (e ≡ Refused NoSeat) ⊎ (rules_given grounds.rules.now ≡ Err e)
+-- by rules
+abbrev pub OpensRules : Grounds → SpotState → Type 0
+OpensRules grounds spot = OpensAll grounds spot × IsOk (rules_given grounds.rules.now) × (spot.own ≡ false)
+
+-- for mutators of the host's own
+abbrev pub OpensOwn : Grounds → SpotState → Type 0
+OpensOwn grounds spot = OpensAll grounds spot × (grounds.rules.now ≡ []) × (spot.own ≡ true)
+
+abbrev pub Opens : Grounds → SpotState → Type 0
+Opens grounds spot = ((grounds.own ≡ 0) × OpensRules grounds spot) ⊎ ((grounds.own ≡ 1) × OpensOwn grounds spot)
+
+-- it is refused for want of something, or since its ID, a text or a number says nothing
+abbrev pub IsOpeningWant : Grounds → Outcome → Type 0
+IsOpeningWant grounds e = IsWant e
     ⊎ (layout_said grounds.with.id.now grounds.with.profile.now grounds.with.schema.now grounds.with.slots
     grounds.with.places ≡ Err e)
+
+-- or since the rules say nothing, or are there where the mutators are the host's own, or since neither is said
+abbrev pub IsMutatorsRefusal : Grounds → Outcome → Type 0
+IsMutatorsRefusal grounds e = ((grounds.own ≡ 0) × (rules_given grounds.rules.now ≡ Err e))
+    ⊎ ((grounds.own ≡ 1) × (grounds.rules.now ≢ []) × (e ≡ Faulty fault.BadRules))
+    ⊎ ((1 < grounds.own) × (e ≡ Faulty fault.OutOfRange))
+
+abbrev pub IsOpeningRefusal : Grounds → Outcome → Type 0
+IsOpeningRefusal grounds e = IsOpeningWant grounds e ⊎ IsMutatorsRefusal grounds e
 
 abbrev pub HasOpened : Grounds → Reply → Option SpotState → Type 0
 HasOpened grounds reply (Some spot) = RepliesBare Done reply × Opens grounds spot
@@ -89,34 +149,33 @@ HasOpened grounds reply None = (e : Outcome) × RepliesBare e reply × IsOpening
 -- ---- calls
 
 -- the call is answered at the desk, and the reply says where the bytes lie
-pub record Calls (rules : Rules) (call : Numbered) (before : SpotState) (reply : Reply)
-    (after : SpotState) : Type 0 where
+pub record CallsAt (asks : Bool) (means : Meanings) (call : Numbered) (before : PlaceState) (reply : Reply)
+    (after : DeskState) : Type 0 where
   pub outcome : Outcome
+  pub answered : MayAnswerNumbers asks means call.what call.m call.n call.a.now call.b.now before
+      (told outcome after.bytes) after.place
+  pub told : RepliesAt outcome after reply
+
+pub record Calls (meant : Meant) (call : Numbered) (before : SpotState) (reply : Reply)
+    (after : SpotState) : Type 0 where
   pub desk : DeskState
-  pub answered : MayAnswerNumbers (rules_mean rules) call.what call.m call.n call.a.now call.b.now before.desk.place
-      (told outcome desk.bytes) desk.place
-  pub told : Replies outcome reply
-  pub at : reply.at ≡ desk.start
-  pub len : reply.len ≡ length desk.bytes
+  pub called : CallsAt before.own (means_as before.own meant) call before.desk.place reply desk
   pub left : after ≡ record before { desk = desk }
 
-abbrev pub HasCalled : Rules → Numbered → Option SpotState → Reply → Option SpotState → Type 0
-HasCalled rules call None reply after = RepliesBare (Faulty fault.NoPlace) reply × (after ≡ None)
-HasCalled rules call (Some spot) reply after = (new : SpotState) × Calls rules call spot reply new × (after ≡ Some new)
+abbrev pub HasCalled : Meant → Numbered → Option SpotState → Reply → Option SpotState → Type 0
+HasCalled meant call None reply after = RepliesBare (Faulty fault.NoPlace) reply × (after ≡ None)
+HasCalled meant call (Some spot) reply after = (new : SpotState) × Calls meant call spot reply new × (after ≡ Some new)
 
 -- ---- places that are given
 
 -- One of the desks that were not given out yet is given to another place; or none, since there is none, or since memory
 -- was refused.
 abbrev pub Gives : SpotState → Reply → SpotState → Option SpotState → Type 0
-Gives before reply after None = (after.desk ≡ before.desk) × (RepliesBare (Refused NoMemory) reply
-    ⊎ (RepliesBare (Refused NoSeat) reply × (before.spare ≡ [])))
+Gives before reply after None = (after.desk ≡ before.desk) × (after.own ≡ before.own)
+    × (RepliesBare (Refused NoMemory) reply ⊎ (RepliesBare (Refused NoSeat) reply × (before.spare ≡ [])))
 Gives before reply after (Some spot) = RepliesBare Done reply × (after.desk ≡ before.desk)
-    × (before.spare ≡ after.spare ++ spot.desk ∷ []) × (spot.spare ≡ [])
-
--- a place is refused for that
-abbrev pub IsGivingRefusal : Outcome → Type 0
-IsGivingRefusal e = (e ≡ Refused NoMemory) ⊎ (e ≡ Refused NoSeat) ⊎ (e ≡ Faulty fault.NoPlace)
+    × (before.spare ≡ after.spare ++ spot.desk ∷ []) × (spot.spare ≡ []) × (spot.own ≡ before.own)
+    × (after.own ≡ before.own)
 
 abbrev pub HasGiven : Option SpotState → Reply → Option SpotState → Option SpotState → Type 0
 HasGiven None reply after given = RepliesBare (Faulty fault.NoPlace) reply × (after ≡ None) × (given ≡ None)
@@ -124,8 +183,8 @@ HasGiven (Some spot) reply after given = (new : SpotState) × (after ≡ Some ne
 
 -- ---- any job
 
-abbrev pub Acts : Job → Rules → Option SpotState → Reply → Option SpotState → Option SpotState → Type 0
-Acts (job.Open grounds) rules before reply after given = HasOpened grounds reply after × (given ≡ None)
-Acts job.Give rules before reply after given = HasGiven before reply after given
-Acts (job.Call call) rules before reply after given = HasCalled rules call before reply after × (given ≡ None)
-Acts job.Close rules before reply after given = (after ≡ None) × (given ≡ None)
+abbrev pub Acts : Job → Meant → Option SpotState → Reply → Option SpotState → Option SpotState → Type 0
+Acts (job.Open grounds) meant before reply after given = HasOpened grounds reply after × (given ≡ None)
+Acts job.Give meant before reply after given = HasGiven before reply after given
+Acts (job.Call call) meant before reply after given = HasCalled meant call before reply after × (given ≡ None)
+Acts job.Close meant before reply after given = (after ≡ None) × (given ≡ None)

@@ -1,5 +1,5 @@
 -- What memory a place of a host has.
-use Rattle.std.specs.Prelude.{ℕ, zero, suc, [], Option, Some, None}
+use Rattle.std.specs.Prelude.{ℕ, zero, suc, List, [], Option, Some, None}
 use Rattle.std.specs.Box.Ownership.{box_owns}
 use Rattle.std.specs.contracts.marker.Brand as Brand
 use Rattle.std.specs.Global.{Global}
@@ -7,6 +7,7 @@ use Rattle.std.specs.contracts.impls.GlobalAllocator.TheImpl.{ghosts}
 use Rattle.group_history.specs.Map.{Bytes}
 use Rattle.giqaymu_c.specs.contracts.spots.Spot as Spot
 use Rattle.giqaymu_c.specs.Jobs.{rules_meant}
+use Rattle.giqaymu_c.specs.Own.{Run, runs_mean}
 use Rattle.giqaymu_c.specs.Spots.{SpotState}
 use base.Fml.{Fml, ffalse, ftrue}
 use denote.Exit.{no}
@@ -30,10 +31,11 @@ held_owns R (suc k) at (Some x) = box_owns (ghosts.dealloc_token heap) R at x
 abbrev pub marker : RattleType
 marker = arg (ty_struct [] tnil) no Brand.the_row
 
--- a spot of a group whose rules this text says
-abbrev pub spot_row : Bytes → RattleType
-spot_row text = Spot.the_row (param 0 marker) (record { rules = rules_meant text })
+-- a spot of a group whose rules this text says, or whose host's own mutators have these runs
+abbrev pub spot_row : Bytes → List Run → RattleType
+spot_row text own =
+    Spot.the_row (param 0 marker) (record { rules = rules_meant text }) (record { meaning = runs_mean own })
 
 -- what a place has
-abbrev pub place_owns : Bytes → ℕ → Ptr → Option SpotState → Fml
-place_owns text flag at spot = held_owns (spot_row text) flag at spot
+abbrev pub place_owns : Bytes → List Run → ℕ → Ptr → Option SpotState → Fml
+place_owns text own flag at spot = held_owns (spot_row text own) flag at spot

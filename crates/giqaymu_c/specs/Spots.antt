@@ -1,18 +1,13 @@
 -- How a place of a host stands.
-use Rattle.std.specs.Prelude.{List, ◌∷◌, ◌++◌, [], map, Option}
-use Rattle.std.specs.Coded.{Coded, codes}
-use Rattle.head_word.specs.contracts.entry.Entry as entry
+use Rattle.std.specs.Prelude.{Bool, List, ◌∷◌, ◌++◌, [], map}
 use Rattle.host_places.specs.Places.{DeskState, PlaceState}
 
--- a desk, and those of its group that are not given out yet
+-- A desk, and those of its group that are not given out yet; and whether the group's mutators are the host's own.
 pub record SpotState : Type 0 where
   pub desk : DeskState
   pub spare : List DeskState
+  pub own : Bool
 
 -- the places of all of them
 abbrev pub places_of : SpotState → List PlaceState
 places_of s = map (λ d. d.place) (s.spare ++ s.desk ∷ [])
-
--- how it is stored
-pub spot_coded : Coded (Option SpotState)
-spot_coded = Prim.hlevel (codes, entry.the_row.coded)

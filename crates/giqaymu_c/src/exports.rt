@@ -1,9 +1,10 @@
 //! What C calls.
-ghost use Rattle.std.specs.Prelude.{◌≡◌, ◌≢◌, ◌⊎◌, ◌<◌, None, length, pos};
+ghost use Rattle.std.specs.Prelude.{◌≡◌, ◌≢◌, ◌<◌, IfSome, None, length, pos, slice_get};
 ghost use Rattle.std.specs.List.{All};
-ghost use Rattle.giqaymu_c.specs.Jobs.{Acts, HasOpened, IsFit, rules_meant};
-ghost use Rattle.giqaymu_c.specs.Exports.{AreOpenedFor, IsCalled, IsGivenOut, IsGivingFault, IsOpened, IsOpeningFault};
-ghost use Rattle.giqaymu_c.specs.Exports.{IsRefusedFor};
+ghost use Rattle.giqaymu_c.specs.Jobs.{Acts, HasOpened, IsFit, IsToldByNumbers, meant_at};
+ghost use Rattle.giqaymu_c.specs.Exports.{AreOpenedFor, IsCalled, IsGivenOut, IsLike, IsOpened};
+ghost use Rattle.giqaymu_c.specs.Exports.{IsOpeningFault, IsRefusedFor};
+ghost use Rattle.giqaymu_c.specs.Own.{runs_mean};
 ghost use Rattle.giqaymu_c.specs.declared.jobs.Reply.{Reply as HostReply};
 
 use crate::handle::{Handle, act};
@@ -21,13 +22,21 @@ pub struct Answer {
     pub code: u32,
 }
 
+// Takes a place away. A closed one, of the same ghost data, is there until it is put back.
+fn taken(place: &mut Handle) -> Handle
+    ensures { (result ≡ place.old) × (place.new.spot ≡ None) × (place.new.own ≡ place.old.own) }
+{
+    let none = Handle::none_for(Job::Close, place);
+    std::mem::replace(place, none)
+}
+
 // Does a job at a place, and answers the place that is given.
 fn act_at(alloc: Global, place: &mut Handle, job: Job<'_>) -> (Handle, Reply)
-    requires { IsFit job (rules_meant place.old.text) }
-    ensures { (place.new.text ≡ place.old.text) × (result.0.text ≡ place.old.text)
-        × Acts job.entry (rules_meant place.old.text) place.old.spot result.1 place.new.spot result.0.spot }
+    requires { IsFit job (meant_at place.old.text place.old.own) place.old.spot }
+    ensures { IsLike place.old place.new × IsLike place.old result.0
+        × Acts job.entry (meant_at place.old.text place.old.own) place.old.spot result.1 place.new.spot result.0.spot }
 {
-    let handle = std::mem::replace(place, Handle::none_for(Job::Close));
+    let handle = taken(place);
     let (handle, given, reply) = act(handle, alloc, job);
     std::mem::replace(place, handle).forget();
     (given, reply)
@@ -40,7 +49,8 @@ fn close(alloc: Global, handle: Handle) {
     given.forget();
 }
 
-/// Makes the call of these numbers and bytes at a place. A closed place is refused.
+/// Makes the call of these numbers and bytes at a place. A closed place is refused. The one premise is the host's to
+/// keep: where the call tells that a run of one of its own mutators has ended, the run ended as the place's runs mean.
 #[unsafe(no_mangle)]
 pub extern "C" fn giq_call(
     alloc: Global,
@@ -52,8 +62,9 @@ pub extern "C" fn giq_call(
     b: &[u8],
     out: &mut Answer,
 ) -> i32
-    ensures same { place.new.text ≡ place.old.text }
-    ensures called { IsCalled (rules_meant place.old.text) what m n a.now b.now place.old.spot result out.new
+    requires { IfSome place.old.spot (IsToldByNumbers (runs_mean place.old.own) what m n) }
+    ensures same { IsLike place.old place.new }
+    ensures called { IsCalled (meant_at place.old.text place.old.own) what m n a.now b.now place.old.spot result out.new
         place.new.spot }
 {
     let call = Job::Call(Numbered { what, m, n, a, b });
@@ -68,24 +79,23 @@ pub extern "C" fn giq_call(
     reply.number
 }
 
-/// Closes a place, with the client that sits there. The last one of a group frees it.
+/// Closes a place, with the client that sits there. A change that asks for a run is given up. The last one of a group
+/// frees it.
 #[unsafe(no_mangle)]
 pub extern "C" fn giq_close(alloc: Global, place: &mut Handle)
     ensures { place.new.spot ≡ None }
 {
-    close(
-        alloc,
-        std::mem::replace(place, Handle::none_for(Job::Close)),
-    );
+    let handle = taken(place);
+    close(alloc, handle);
 }
 
-// Opens a group: this place has all of its places then.
-fn open_first(alloc: Global, grounds: Grounds<'_>) -> (Handle, i32)
-    ensures text { result.0.text ≡ grounds.entry.rules.now }
+// Opens a group: this place has all of its places then. The host's own mutators have the runs of the other place.
+fn open_first(alloc: Global, grounds: Grounds<'_>, like: &Handle) -> (Handle, i32)
+    ensures text { (result.0.text ≡ grounds.entry.rules.now) × (result.0.own ≡ like.now.own) }
     ensures opened { (reply : HostReply) × (result.1 ≡ reply.number) × HasOpened grounds.entry reply result.0.spot }
 {
     let job = Job::Open(grounds);
-    let (handle, given, reply) = act(Handle::none_for(job), alloc, job);
+    let (handle, given, reply) = act(Handle::none_for(job, like), alloc, job);
     given.forget();
     (handle, reply.number)
 }
@@ -101,7 +111,6 @@ fn put(alloc: Global, place: &mut Handle, handle: Handle)
 fn give_out(alloc: Global, first: Handle, places: &mut [Handle]) -> (Handle, i32)
     ensures count { length places.new ≡ length places.old }
     ensures given { IsGivenOut (length places.old) first result.0 result.1 places.new }
-    ensures why { (result.1 ≡ pos 0) ⊎ IsGivingFault result.1 }
 {
     let mut first = first;
     for at in 1..places.len() {
@@ -120,7 +129,8 @@ fn close_all(alloc: Global, places: &mut [Handle])
     ensures closed { All (λ h. h.spot ≡ None) places.new }
 {
     for at in 0..places.len() {
-        put(alloc, &mut places[at], Handle::none_for(Job::Close));
+        let handle = taken(&mut places[at]);
+        close(alloc, handle);
     }
 }
 
@@ -129,10 +139,11 @@ fn open_all(alloc: Global, grounds: Grounds<'_>, places: &mut [Handle]) -> i32
     requires some { 0 < length places.old }
     requires count { grounds.with.places ≡ length places.old }
     ensures count { length places.new ≡ length places.old }
-    ensures opened { result ≡ pos 0 → AreOpenedFor grounds.entry places.new }
+    ensures opened { result ≡ pos 0 → IfSome (slice_get places.old 0)
+        (λ h. AreOpenedFor grounds.entry h.own places.new) }
     ensures refused { result ≢ pos 0 → IsOpeningFault grounds.entry result }
 {
-    let (first, number) = open_first(alloc, grounds);
+    let (first, number) = open_first(alloc, grounds, &places[0]);
     if number != 0 {
         close(alloc, first);
         return number;
@@ -143,7 +154,9 @@ fn open_all(alloc: Global, grounds: Grounds<'_>, places: &mut [Handle]) -> i32
 }
 
 /// Opens a group, and gives out its places: as many as there is room for, 1 to 256. Places that were open are closed
-/// first. Where it is refused, all of them are closed. `rules` is a JSON text of rules, or no bytes.
+/// first. Where it is refused, all of them are closed. `rules` is a JSON text of rules, or no bytes; where the mutators
+/// are the host's `own` (1, else 0) there are no rules. The runs of those are the ones that the first
+/// place has.
 #[unsafe(no_mangle)]
 pub extern "C" fn giq_open(
     alloc: Global,
@@ -152,12 +165,14 @@ pub extern "C" fn giq_open(
     schema: &[u8],
     rules: &[u8],
     slots: u32,
+    own: u32,
     places: &mut [Handle],
 ) -> i32
     ensures count { length places.new ≡ length places.old }
-    ensures opened { result ≡ pos 0 → IsOpened id.now profile.now schema.now rules.now slots places.new }
+    ensures opened { result ≡ pos 0 → IfSome (slice_get places.old 0)
+        (λ h. IsOpened id.now profile.now schema.now rules.now slots own h.own places.new) }
     ensures refused { result ≢ pos 0 → All (λ h. h.spot ≡ None) places.new }
-    ensures why { result ≢ pos 0 → IsRefusedFor id.now profile.now schema.now rules.now slots (length places.old)
+    ensures why { result ≢ pos 0 → IsRefusedFor id.now profile.now schema.now rules.now slots own (length places.old)
         result }
 {
     if places.len() < 1 || places.len() > 256 {
@@ -171,7 +186,7 @@ pub extern "C" fn giq_open(
         slots,
         places: places.len() as u32,
     };
-    let number = open_all(alloc, Grounds { with, rules }, places);
+    let number = open_all(alloc, Grounds { with, rules, own }, places);
     if number != 0 {
         close_all(alloc, places);
     }

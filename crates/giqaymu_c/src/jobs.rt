@@ -9,6 +9,8 @@ use host_places::{Opening, Outcome};
 pub struct Grounds<'a> {
     pub with: Opening<'a>,
     pub rules: &'a [u8],
+    /// 1: its mutators are the host's own, and there are no rules; else 0.
+    pub own: u32,
 }
 
 /// A call, as C asks for it: which one, two numbers and two byte strings.

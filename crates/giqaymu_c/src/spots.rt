@@ -1,34 +1,54 @@
 //! What a place of a host has: a desk, and the desks of its group that are not given out yet.
-ghost use Rattle.std.specs.Prelude.{◌≡◌, IfErr, IfOk, Ok};
+ghost use Rattle.std.specs.Prelude.{◌≡◌, ◌≢◌, ◌⊎◌, ◌++◌, ◌∷◌, ◌<◌, [], true, false, length, IfErr, IfNone};
+ghost use Rattle.std.specs.Prelude.{IfOk, IfSome, Ok};
 ghost use Rattle.rule_mutators.specs.Views.{rules_of};
-ghost use Rattle.giqaymu_c.specs.Jobs.{Acts, Calls, Gives, HasCalled, HasGiven, HasOpened, IsFit, IsOpeningRefusal};
-ghost use Rattle.giqaymu_c.specs.Jobs.{IsRulesRefusal, Opens, rules_given, rules_meant};
+ghost use Rattle.host_places.specs.declared.faults.Fault.TheVariants.{BadRules};
+ghost use Rattle.host_places.specs.declared.outcomes.Outcome.TheVariants.{Faulty};
+ghost use Rattle.host_places.specs.Asking.{ran_said};
+ghost use Rattle.host_places.specs.Runs.{IsRunTold};
+ghost use Rattle.giqaymu_c.specs.Inside.{IsBoxed};
+ghost use Rattle.giqaymu_c.specs.Jobs.{Acts, Calls, CallsAt, Gives, HasCalled, HasGiven, HasOpened, IsFit};
+ghost use Rattle.giqaymu_c.specs.Jobs.{IsOpeningRefusal, IsOpeningWant, IsRulesRefusal, IsToldAsMeant, Opens, OpensOwn};
+ghost use Rattle.giqaymu_c.specs.Jobs.{OpensRules, RepliesAt, meant_by, rules_given, rules_meant};
 
 use crate::held::Held;
 use crate::jobs::{Grounds, Job, Numbered, Reply};
-use group_history::Refusal;
-use host_places::{Desk, Fault, Outcome, open_places};
+use group_history::{Means, Mutators, Refusal};
+use host_places::{AtOnce, Changes, Desk, Fault, Outcome, OwnMutators, PickedMeaning, open_places};
 use rule_mutators::{Picked, RuleFault, RuleMutators, Rules};
 use std::alloc::Global;
 use std::marker::Model;
 
 /// A desk, and the desks of its group that are not given out yet.
 #[derive(Drop)]
-pub(crate) struct Spot<B: Picked + Sync + Drop> {
-    desk: Desk<RuleMutators<B>>,
-    spare: Vec<Desk<RuleMutators<B>>>,
+pub(crate) struct Desks<M: Means + Changes> {
+    desk: Desk<M>,
+    spare: Vec<Desk<M>>,
 }
 
-impl<B: Picked + Sync + Drop> Model for Spot<B> {
-    ghost use Rattle.std.specs.Coded.{codes};
-    ghost use Rattle.head_word.specs.contracts.entry.Entry as entry;
+/// Those of a group of rules, or of one whose mutators are the host's own.
+#[derive(Drop)]
+pub(crate) enum Either<B: Picked + PickedMeaning + Sync + Drop> {
+    Rules(Desks<RuleMutators<B>>),
+    Own(Desks<OwnMutators<B>>),
+}
+
+/// What a place of a host has.
+#[derive(Drop)]
+pub(crate) struct Spot<B: Picked + PickedMeaning + Sync + Drop> {
+    desks: Either<B>,
+}
+
+impl<B: Picked + PickedMeaning + Sync + Drop> Model for Spot<B> {
+    ghost use Rattle.giqaymu_c.specs.Inside.{seen_as};
+    ghost use Rattle.giqaymu_c.specs.Codes.{state_coded};
     ghost use Rattle.giqaymu_c.specs.Spots.{SpotState};
 
     ghost Value = { SpotState };
 
-    ghost coded = { Prim.hlevel (codes, entry.the_row.coded) };
+    ghost coded = { state_coded };
 
-    ghost view = { λ s. record { desk = s.desk; spare = s.spare.items } };
+    ghost view = { λ s. seen_as s.desks };
 }
 
 /// The rules of a text; no bytes are no rules.
@@ -46,26 +66,21 @@ fn rules_of_text(alloc: Global, text: &[u8]) -> Result<Rules, Outcome>
     }
 }
 
-impl<B: Picked + Sync + Drop> Spot<B> {
-    fn open(alloc: Global, grounds: Grounds<'_>) -> Result<Spot<B>, Outcome>
-        requires { B.rules ≡ rules_meant grounds.rules.now }
-        ensures opened { IfOk result (λ spot. Opens grounds.entry spot) }
-        ensures err { IfErr result (IsOpeningRefusal grounds.entry) }
+impl<M: Means + Changes> Desks<M> {
+    // The desks of a group that was opened.
+    fn of(desks: Vec<Desk<M>>) -> Desks<M>
+        requires { 0 < length desks.items }
+        ensures { desks.items ≡ result.spare.items ++ result.desk ∷ [] }
     {
-        let rules = rules_of_text(alloc, grounds.rules)?;
-        let mut spare = open_places(alloc, grounds.with, RuleMutators::<B>::new(rules))?;
-        match spare.pop() {
-            Some(desk) => Ok(Spot { desk, spare }),
-            None => Err(Outcome::Refused(Refusal::NoSeat)),
-        }
+        let mut spare = desks;
+        let desk = spare.pop().unwrap();
+        Desks { desk, spare }
     }
 
-    fn call(&mut self, call: Numbered<'_>) -> Reply
-        ensures { Calls B.rules call.entry self.old result self.new }
+    // What a call came to, and where the bytes lie that it told.
+    fn reply(&self, outcome: Outcome) -> Reply
+        ensures { RepliesAt outcome self.now.desk result }
     {
-        let outcome = self
-            .desk
-            .call_numbered(call.what, call.m, call.n, call.a, call.b);
         Reply {
             number: outcome.number(),
             value: outcome.value(),
@@ -75,15 +90,119 @@ impl<B: Picked + Sync + Drop> Spot<B> {
         }
     }
 
-    // A spot of the next desk that isn't given out yet.
-    fn give(&mut self, alloc: Global) -> (Held<Spot<B>>, Reply)
-        ensures { Gives self.old result.1 self.new result.0.value }
+    // The next desk that isn't given out yet, alone.
+    fn give(&mut self, alloc: Global) -> Option<Desks<M>>
+        ensures desk { self.new.desk ≡ self.old.desk }
+        ensures some { IfSome result (λ d. (self.old.spare.items ≡ self.new.spare.items ++ d.desk ∷ [])
+            × (d.spare.items ≡ [])) }
+        ensures none { IfNone result ((self.old.spare.items ≡ []) × (self.new.spare.items ≡ [])) }
     {
-        let Some(desk) = self.spare.pop() else {
-            return (Held::none(), Reply::bare(Outcome::Refused(Refusal::NoSeat)));
-        };
-        let spare = Vec::new(alloc);
-        match Box::new(alloc, Spot { desk, spare }) {
+        match self.spare.pop() {
+            Some(desk) => Some(Desks {
+                desk,
+                spare: Vec::new(alloc),
+            }),
+            None => None,
+        }
+    }
+}
+
+impl<M: Mutators + AtOnce> Desks<M> {
+    fn call(&mut self, call: Numbered<'_>) -> Reply
+        ensures spare { self.new.spare ≡ self.old.spare }
+        ensures called { CallsAt false M.means call.entry self.old.desk.place result self.new.desk }
+    {
+        let outcome = self
+            .desk
+            .call_numbered(call.what, call.m, call.n, call.a, call.b);
+        self.reply(outcome)
+    }
+}
+
+impl<B: PickedMeaning + Sync + Drop> Desks<OwnMutators<B>> {
+    fn call_own(&mut self, call: Numbered<'_>) -> Reply
+        requires { call.what ≡ 23 → IsRunTold B.meaning self.old.desk.place.asking (ran_said call.m call.n) }
+        ensures spare { self.new.spare ≡ self.old.spare }
+        ensures called { CallsAt true B.meaning call.entry self.old.desk.place result self.new.desk }
+    {
+        let outcome = self
+            .desk
+            .call_own_numbered(call.what, call.m, call.n, call.a, call.b);
+        self.reply(outcome)
+    }
+}
+
+impl<B: Picked + PickedMeaning + Sync + Drop> Spot<B> {
+    fn open_rules(alloc: Global, grounds: Grounds<'_>) -> Result<Spot<B>, Outcome>
+        requires { B.rules ≡ rules_meant grounds.rules.now }
+        ensures opened { IfOk result (λ spot. OpensRules grounds.entry spot) }
+        ensures err { IfErr result (λ e. IsOpeningWant grounds.entry e ⊎ IsRulesRefusal grounds.entry.rules.now e) }
+    {
+        let rules = rules_of_text(alloc, grounds.rules)?;
+        let desks = open_places(alloc, grounds.with, RuleMutators::<B>::new(rules))?;
+        let desks = Either::Rules(Desks::of(desks));
+        Ok(Spot { desks })
+    }
+
+    // Mutators of the host's own; then there are no rules.
+    fn open_own(alloc: Global, grounds: Grounds<'_>) -> Result<Spot<B>, Outcome>
+        ensures opened { IfOk result (λ spot. OpensOwn grounds.entry spot) }
+        ensures err { IfErr result (λ e. IsOpeningWant grounds.entry e
+            ⊎ ((e ≡ Faulty BadRules) × (grounds.entry.rules.now ≢ []))) }
+    {
+        if !grounds.rules.is_empty() {
+            return Err(Outcome::Faulty(Fault::BadRules));
+        }
+        let desks = open_places(alloc, grounds.with, OwnMutators::<B>::new())?;
+        let desks = Either::Own(Desks::of(desks));
+        Ok(Spot { desks })
+    }
+
+    fn open(alloc: Global, grounds: Grounds<'_>) -> Result<Spot<B>, Outcome>
+        requires { B.rules ≡ rules_meant grounds.rules.now }
+        ensures opened { IfOk result (λ spot. Opens grounds.entry spot) }
+        ensures err { IfErr result (IsOpeningRefusal grounds.entry) }
+    {
+        match grounds.own {
+            0 => Spot::<B>::open_rules(alloc, grounds),
+            1 => Spot::<B>::open_own(alloc, grounds),
+            _ => Err(Outcome::Faulty(Fault::OutOfRange)),
+        }
+    }
+
+    fn call(&mut self, call: Numbered<'_>) -> Reply
+        requires { IsToldAsMeant B.meaning call self.old }
+        ensures { Calls (meant_by B.rules B.meaning) call.entry self.old result self.new }
+    {
+        match &mut self.desks {
+            Either::Rules(desks) => desks.call(call),
+            Either::Own(desks) => desks.call_own(call),
+        }
+    }
+
+    // A spot of the next desk that isn't given out yet.
+    fn next(&mut self, alloc: Global) -> Option<Spot<B>>
+        ensures desk { self.new.desk ≡ self.old.desk }
+        ensures own { self.new.own ≡ self.old.own }
+        ensures some { IfSome result (λ spot. (self.old.spare ≡ self.new.spare ++ spot.desk ∷ [])
+            × (spot.spare ≡ []) × (spot.own ≡ self.old.own)) }
+        ensures none { IfNone result ((self.old.spare ≡ []) × (self.new.spare ≡ [])) }
+    {
+        match &mut self.desks {
+            Either::Rules(desks) => desks.give(alloc).map(|d| Spot {
+                desks: Either::Rules(d),
+            }),
+            Either::Own(desks) => desks.give(alloc).map(|d| Spot {
+                desks: Either::Own(d),
+            }),
+        }
+    }
+
+    // In a box.
+    fn boxed(self, alloc: Global) -> (Held<Spot<B>>, Reply)
+        ensures { IsBoxed self result.1 result.0.value }
+    {
+        match Box::new(alloc, self) {
             Ok(spot) => (Held::of(spot), Reply::bare(Outcome::Done)),
             Err(_) => (
                 Held::none(),
@@ -91,30 +210,37 @@ impl<B: Picked + Sync + Drop> Spot<B> {
             ),
         }
     }
+
+    fn give(&mut self, alloc: Global) -> (Held<Spot<B>>, Reply)
+        ensures { Gives self.old result.1 self.new result.0.value }
+    {
+        match self.next(alloc) {
+            Some(spot) => spot.boxed(alloc),
+            None => (Held::none(), Reply::bare(Outcome::Refused(Refusal::NoSeat))),
+        }
+    }
 }
 
-fn open_held<B: Picked + Sync + Drop>(alloc: Global, grounds: Grounds<'_>) -> (Held<Spot<B>>, Reply)
+fn open_held<B: Picked + PickedMeaning + Sync + Drop>(
+    alloc: Global,
+    grounds: Grounds<'_>,
+) -> (Held<Spot<B>>, Reply)
     requires { B.rules ≡ rules_meant grounds.rules.now }
     ensures { HasOpened grounds.entry result.1 result.0.value }
 {
     match Spot::<B>::open(alloc, grounds) {
-        Ok(spot) => match Box::new(alloc, spot) {
-            Ok(spot) => (Held::of(spot), Reply::bare(Outcome::Done)),
-            Err(_) => (
-                Held::none(),
-                Reply::bare(Outcome::Refused(Refusal::NoMemory)),
-            ),
-        },
+        Ok(spot) => spot.boxed(alloc),
         Err(outcome) => (Held::none(), Reply::bare(outcome)),
     }
 }
 
-fn call_held<B: Picked + Sync + Drop>(
+fn call_held<B: Picked + PickedMeaning + Sync + Drop>(
     held: Held<Spot<B>>,
     alloc: Global,
     call: Numbered<'_>,
 ) -> (Held<Spot<B>>, Reply)
-    ensures { HasCalled B.rules call.entry held.value result.1 result.0.value }
+    requires { IfSome held.value (IsToldAsMeant B.meaning call) }
+    ensures { HasCalled (meant_by B.rules B.meaning) call.entry held.value result.1 result.0.value }
 {
     let Some(mut spot) = held.into_box(alloc) else {
         return (Held::none(), Reply::bare(Outcome::Faulty(Fault::NoPlace)));
@@ -123,7 +249,7 @@ fn call_held<B: Picked + Sync + Drop>(
     (Held::of(spot), reply)
 }
 
-fn give_held<B: Picked + Sync + Drop>(
+fn give_held<B: Picked + PickedMeaning + Sync + Drop>(
     held: Held<Spot<B>>,
     alloc: Global,
 ) -> (Held<Spot<B>>, Held<Spot<B>>, Reply)
@@ -139,13 +265,13 @@ fn give_held<B: Picked + Sync + Drop>(
 
 /// Does a job at a place. What comes second is the place that is given.
 #[inline(always)]
-pub(crate) fn act_held<B: Picked + Sync + Drop>(
+pub(crate) fn act_held<B: Picked + PickedMeaning + Sync + Drop>(
     held: Held<Spot<B>>,
     alloc: Global,
     job: Job<'_>,
 ) -> (Held<Spot<B>>, Held<Spot<B>>, Reply)
-    requires { IsFit job B.rules }
-    ensures { Acts job.entry B.rules held.value result.2 result.0.value result.1.value }
+    requires { IsFit job (meant_by B.rules B.meaning) held.value }
+    ensures { Acts job.entry (meant_by B.rules B.meaning) held.value result.2 result.0.value result.1.value }
 {
     match job {
         Job::Open(grounds) => {

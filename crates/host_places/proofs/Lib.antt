@@ -1,5 +1,8 @@
+mod Asking
+mod Calm
 mod Joining
 mod Keeping
+mod Moving
 mod Opened
 mod Said
 mod Telling

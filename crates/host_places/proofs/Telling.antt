@@ -1,5 +1,5 @@
 -- What a call of a place may tell.
-use Rattle.std.proofs.Common.{◌≡◌, ◌⊎◌, ◌+◌, inl, inr, ℕ, List, [], ◌++◌, Option, Some, None, Result, Ok, Err, refl}
+use Rattle.std.proofs.Common.{◌≡◌, ◌⊎◌, ◌+◌, inl, inr, ℕ, [], ◌++◌, Option, Some, None, Result, Ok, Err, refl}
 use Rattle.std.proofs.Common.{sym, ap, ◌∙◌, subst}
 use Rattle.std.specs.Prelude.{⊤, IfErr, IfOk, OnOk}
 use Rattle.group_history.specs.Meaning.{Meanings}
@@ -11,20 +11,18 @@ use Rattle.group_history.specs.Map.{Bytes}
 use Rattle.group_history.specs.State.{State, last_id, made}
 use Rattle.answered.specs.Answered.{IsLinearized, no_change}
 use Rattle.answered.specs.Changes.{change_made, change_read}
-use Rattle.commit_graph.specs.Seats.{HasLooked, Seated}
 use Rattle.group_steps.specs.Causes.{HasCause}
 use Rattle.group_steps.specs.Leaving.{Frees}
 use Rattle.pull_patch.specs.Grammar.{answer_to}
 use Rattle.rebase.specs.Asking.{change_wanted, end_bytes_reply}
 use Rattle.group_steps.specs.Missing.{IsStoreRefusal}
-use Rattle.rebase.specs.Watching.{Watched}
 use Rattle.rebase.specs.declared.tickets.Ticket.{Ticket}
 use Rattle.rebase.specs.Clients.{Acts, ClientState, Looks, Stays}
 use Rattle.host_places.specs.declared.faults.Fault.{Fault}
 use Rattle.host_places.specs.declared.faults.Fault.TheVariants as fault
 use Rattle.host_places.specs.declared.outcomes.Outcome.{Outcome}
 use Rattle.host_places.specs.declared.outcomes.Outcome.TheVariants.{Done, Faulty}
-use Rattle.host_places.specs.Answers.{At, By, ByClient, Ends, Lacks, Leaves, Mutates, Reads, Refreshes, Rule, tries}
+use Rattle.host_places.specs.Answers.{At, By, ByClient, Ends, Lacks, Mutates, Reads, Refreshes, Rule, tries}
 use Rattle.host_places.specs.Asking.{◌>>=◌, IsSaid}
 use Rattle.host_places.specs.Inside.Reading.{MayRead}
 use Rattle.host_places.specs.Places.{PlaceState, ticket_at, with_client}
@@ -132,30 +130,6 @@ refreshed means v b client next reply o same is answer id last refused looks tol
       looks = looks;
       told = told;
       left = refl;
-    }))
-
--- the client left
-pub left_place : (v b : PlaceState) (client : ClientState) (back : Seated) (seat : Option Seated)
-    (none : Option ClientState) (tickets : List (Option Ticket)) (watches : List Watched) → v ≡ b
-    → v.client ≡ Some client → HasLooked ⊤ client.seat back → back.mark ≡ client.seat.mark → seat ≡ Some back
-    → none ≡ None → tickets ≡ [] → watches ≡ [] → ByClient Leaves b (told_alone Done)
-    (record { group = v.group; seat = seat; client = none; tickets = tickets; watches = watches })
-left_place v b client back seat none tickets watches same is looked mark free no_client no_tickets no_watches =
-    let after : PlaceState =
-    record { group = v.group; seat = seat; client = none; tickets = tickets; watches = watches } in
-    subst (λ s. ByClient Leaves s (told_alone Done) after) same
-    (at_some v.client fault.NoClient Leaves client v (told_alone Done) after is (record {
-      seat = back;
-      looked = looked;
-      mark = mark;
-      told = refl;
-      left = λ i. record {
-        group = v.group;
-        seat = free i;
-        client = no_client i;
-        tickets = no_tickets i;
-        watches = no_watches i;
-      };
     }))
 
 -- it made a mutation

@@ -1,24 +1,20 @@
 -- Watches that a place keeps.
-use Rattle.std.proofs.Common.{◌≡◌, ◌⊎◌, ◌<◌, inl, inr, ℕ, List, Option, Some, Result, Ok, length, sym, ap, ◌∙◌, subst}
+use Rattle.std.proofs.Common.{◌≡◌, ◌⊎◌, ◌<◌, inl, inr, ℕ, List, Option, Some, length, sym, ap, ◌∙◌, subst}
 use Rattle.std.proofs.Common.{slice_get, slice_index_or, slice_set}
-use Rattle.std.specs.Prelude.{⊤, IfErr, IfSome}
+use Rattle.std.specs.Prelude.{⊤, IfSome}
 use Rattle.std.specs.List.{All}
 use Rattle.std.proofs.lemmas.List.{set-get_or}
 use Rattle.std.proofs.lemmas.List.Elements.{All-push}
 use Rattle.std.proofs.lemmas.Option.{slice_get-get_or}
 use Rattle.group_history.specs.Meaning.{Meanings}
-use Rattle.group_history.specs.declared.refusals.Refusal.{Refusal}
-use Rattle.answered.specs.Answered.{IsLinearized, no_change}
 use Rattle.commit_graph.specs.Seats.{IsSeatOf}
-use Rattle.group_steps.specs.Missing.{IsMissedOrDry}
 use Rattle.rebase.specs.Clients.{ClientState, Grouped, Stays}
-use Rattle.rebase.specs.Watching.{Watched, poll_at, watch_after}
-use Rattle.rebase.specs.declared.watching.Polled.{Polled}
+use Rattle.rebase.specs.Watching.{Watched}
 use Rattle.host_places.specs.declared.faults.Fault.TheVariants as fault
-use Rattle.host_places.specs.Answers.{At, ByClient, Lacks, Polls, Rule, tries}
-use Rattle.host_places.specs.Inside.Keeping.{KeepsWatch}
+use Rattle.host_places.specs.Answers.{At, ByClient, Lacks, Polls, Rule}
+use Rattle.host_places.specs.Inside.Keeping.{IsPolled, KeepsWatch}
 use Rattle.host_places.specs.Places.{PlaceState, with_client, with_watches}
-use Rattle.host_places.specs.Told.{Told, dry, polled_told, tells}
+use Rattle.host_places.specs.Told.{Told, dry}
 use Rattle.host_places.proofs.Telling.{at_some}
 
 -- each watch is one of the group's book, also the one that was kept
@@ -32,13 +28,6 @@ kept_watch group sits client watch t old new is sat book all (inl (told, more)) 
     (All-push (λ w. w.book ≡ group.group.book) old watch all (book ∙ home.1.0))
 kept_watch group sits client watch t old new is sat book all (inr (told, same)) =
     subst (All (λ w. w.book ≡ group.group.book)) (sym same) all
-
--- how a watch was polled
-abbrev pub IsPolled : Meanings → ClientState → ClientState → Watched → Watched → Told → Type 0
-IsPolled means client next watch new t = ((reply : Result Polled Refusal)
-    × IsLinearized means tries client.seat.mark next.seat.mark reply no_change (λ s. Ok (poll_at means watch s))
-    × IfErr reply (IsMissedOrDry ⊤) × (t ≡ tells polled_told reply) × (new ≡ watch_after watch reply))
-    ⊎ ((t ≡ dry) × (new ≡ watch))
 
 -- the watch of a number, of the client that sits there
 abbrev pub PollsAt : Meanings → ℕ → ClientState → Rule

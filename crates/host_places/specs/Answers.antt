@@ -1,4 +1,4 @@
--- What each call of a place may tell, and how it leaves the place.
+-- What each call may tell at a place where no change asks for a run, and how it leaves the place.
 --
 -- A client's own call is made, as `rebase` says it, and its reply is told. Where the bytes of the host say nothing, or
 -- nobody sits there, or a number names nothing, that is told, and the place is as it was.
@@ -34,7 +34,7 @@ use Rattle.host_places.specs.declared.faults.Fault.{Fault}
 use Rattle.host_places.specs.declared.outcomes.Outcome.{Outcome}
 use Rattle.host_places.specs.declared.outcomes.Outcome.TheVariants.{Done, Faulty, Number, Refused}
 use Rattle.host_places.specs.declared.faults.Fault.TheVariants as fault
-use Rattle.host_places.specs.Asking.{named_said, scan_said, text_said, uuid_said}
+use Rattle.host_places.specs.Asking.{scan_said, text_said, uuid_said}
 use Rattle.host_places.specs.Places.{IsKeptAt, PlaceState, free_place, sat, ticket_at, unsat, with_client, with_tickets}
 use Rattle.host_places.specs.Places.{with_watches}
 use Rattle.host_places.specs.Told.{Told, bytes_told, cookie_told, dry, ended_told, id_told, is_told, pending_told}
@@ -235,34 +235,32 @@ pub record Ends (means : Meanings) (client : ClientState) (kept : Ticket) (body 
   pub told : t ≡ tells ended_told reply
   pub left : after ≡ with_client next before
 
--- ---- any call
+-- ---- any call that is no change of the group
 
-abbrev pub Answers : Meanings → Asked → Rule
-Answers means (asked.Sit id) before = By (uuid_said id.now) (Sits means) before
-Answers means asked.Leave before = ByClient Leaves before
-Answers means (asked.Get key) before = By (text_said key.now) (λ k. ByClient
+-- a query
+abbrev pub AnswersReading : Meanings → Asked → Rule
+AnswersReading means (asked.Get key) before = By (text_said key.now) (λ k. ByClient
     (Reads value_told (λ s. get_at means s k) means)) before
-Answers means (asked.Has key) before = By (text_said key.now) (λ k. ByClient
+AnswersReading means (asked.Has key) before = By (text_said key.now) (λ k. ByClient
     (Reads is_told (λ s. has_at means s k) means)) before
-Answers means (asked.Scan r) before = By (scan_said r.prefix.now r.kind r.start.now r.limit)
+AnswersReading means (asked.Scan r) before = By (scan_said r.prefix.now r.kind r.start.now r.limit)
     (λ scan. ByClient (Reads rows_told (λ s. view_rows means s scan) means)) before
-Answers means asked.Pending before = ByClient (Reads pending_told (λ s. s.pending) means) before
-Answers means asked.Cookie before = ByClient (Reads cookie_told (λ s. s.cookie) means) before
-Answers means asked.Closed before = ByClient (Reads is_told (λ s. s.closed) means) before
-Answers means asked.Refresh before = ByClient (Refreshes means) before
-Answers means asked.Push before = ByClient (λ c. Reads bytes_told (λ s. push_text c.group.identity s.pending) means c)
-    before
-Answers means asked.Begin before = ByClient (Begins means) before
-Answers means (asked.Forget n) before = At (ticket_at before.tickets n) fault.NoTicket (Forgets n) before
-Answers means (asked.End n body) before = ByClient (λ c b. At (ticket_at b.tickets n) fault.NoTicket
-    (λ kept. Ends means c kept body.now) b) before
-Answers means (asked.Mutate m) before = By (named_said m.name.now m.args.now)
-    (λ said. ByClient (λ c. Mutates means c said.0 said.1 m.time)) before
-Answers means (asked.Watch r) before = By (scan_said r.prefix.now r.kind r.start.now r.limit)
-    (λ scan. ByClient (Watches scan)) before
-Answers means (asked.Poll n) before = ByClient (λ c b. At (slice_get b.watches n) fault.NoWatch
-    (λ watch. Polls means c n watch) b) before
+AnswersReading means asked.Pending before = ByClient (Reads pending_told (λ s. s.pending) means) before
+AnswersReading means asked.Cookie before = ByClient (Reads cookie_told (λ s. s.cookie) means) before
+AnswersReading means asked.Closed before = ByClient (Reads is_told (λ s. s.closed) means) before
+AnswersReading means asked.Push before = ByClient
+    (λ c. Reads bytes_told (λ s. push_text c.group.identity s.pending) means c) before
+AnswersReading means other before = Tells (Faulty fault.NotAsked) before
 
--- a call is answered so, or memory was refused
-abbrev pub MayAnswer : Meanings → Asked → Rule
-MayAnswer means what before t after = Lacks before t after ⊎ Answers means what before t after
+-- and what a client does beside queries and changes
+abbrev pub AnswersLooking : Meanings → Asked → Rule
+AnswersLooking means (asked.Sit id) before = By (uuid_said id.now) (Sits means) before
+AnswersLooking means asked.Leave before = ByClient Leaves before
+AnswersLooking means asked.Refresh before = ByClient (Refreshes means) before
+AnswersLooking means asked.Begin before = ByClient (Begins means) before
+AnswersLooking means (asked.Forget n) before = At (ticket_at before.tickets n) fault.NoTicket (Forgets n) before
+AnswersLooking means (asked.Watch r) before = By (scan_said r.prefix.now r.kind r.start.now r.limit)
+    (λ scan. ByClient (Watches scan)) before
+AnswersLooking means (asked.Poll n) before = ByClient (λ c b. At (slice_get b.watches n) fault.NoWatch
+    (λ watch. Polls means c n watch) b) before
+AnswersLooking means other before = AnswersReading means other before

@@ -1,7 +1,9 @@
 -- What the bytes and numbers of a host say.
-use Rattle.std.specs.Prelude.{ℕ, ◌≡◌, ◌⊎◌, ◌-◌, ◌^◌, ◌==◌, if◌then◌else◌, Option, Some, None, Result, Ok, Err}
+use Rattle.std.specs.Prelude.{ℕ, ◌≡◌, ◌⊎◌, ◌-◌, ◌^◌, ◌==◌, nat_le, if◌then◌else◌, Option, Some, None, Result, Ok, Err}
 use Rattle.std.specs.Str.{is_utf8}
 use Rattle.uuid.specs.Text.{parsed}
+use Rattle.group_history.specs.declared.mutators.Ran.{Ran}
+use Rattle.group_history.specs.declared.mutators.Ran.TheVariants as ran
 use Rattle.group_history.specs.declared.refusals.Refusal.{Refusal}
 use Rattle.group_history.specs.declared.refusals.Refusal.TheVariants.{NoMemory}
 use Rattle.group_history.specs.declared.scans.Scan.{Scan}
@@ -73,3 +75,14 @@ scan_said prefix kind start limit =
 -- a mutator's name and its arguments
 abbrev pub named_said : Bytes → Bytes → Result (Bytes × Bytes) Outcome
 named_said name args = text_said name >>= (λ n. json_said args >>= (λ json. Ok (n, json)))
+
+-- how a run ended: 0 done, 1 refused with a code, which has 32 bits, 2 unknown
+abbrev pub code_said : ℕ → Result Ran Outcome
+code_said code = if nat_le code (2 ^ 32 - 1) then Ok (ran.Refused code) else Err (Faulty OutOfRange)
+
+abbrev pub ran_said : ℕ → ℕ → Result Ran Outcome
+ran_said kind code =
+    if kind == 0 then Ok ran.Done
+    else (if kind == 1 then code_said code
+    else (if kind == 2 then Ok ran.Unknown
+    else Err (Faulty OutOfRange)))

@@ -12,7 +12,8 @@ use Rattle.host_places.specs.declared.faults.Fault.{Fault}
 use Rattle.host_places.specs.declared.faults.Fault.TheVariants as fault
 use Rattle.host_places.specs.declared.outcomes.Outcome.{Outcome}
 use Rattle.host_places.specs.declared.outcomes.Outcome.TheVariants as outcome
-use Rattle.host_places.specs.Answers.{MayAnswer, Rule, Tells}
+use Rattle.host_places.specs.Answers.{Rule, Tells}
+use Rattle.host_places.specs.Calls.{MayAnswer}
 
 -- The numbers of a call: which one it is, then what it is given. What it doesn't use is not looked at.
 abbrev pub IsCall : Asked → ℕ → ℕ → ℕ → Bytes → Bytes → Type 0
@@ -33,12 +34,22 @@ IsCall (asked.Mutate g) what m n a b = (what ≡ 13) × (g.name.now ≡ a) × (g
 IsCall (asked.Watch r) what m n a b = (what ≡ 14) × (r.prefix.now ≡ a) × (r.kind ≡ m) × (r.start.now ≡ b)
     × (r.limit ≡ n)
 IsCall (asked.Poll w) what m n a b = (what ≡ 15) × (w ≡ m)
+IsCall asked.AskedName what m n a b = what ≡ 16
+IsCall asked.AskedArgs what m n a b = what ≡ 17
+IsCall (asked.DraftGet key) what m n a b = (what ≡ 18) × (key.now ≡ a)
+IsCall (asked.DraftHas key) what m n a b = (what ≡ 19) × (key.now ≡ a)
+IsCall (asked.DraftScan r) what m n a b = (what ≡ 20) × (r.prefix.now ≡ a) × (r.kind ≡ m) × (r.start.now ≡ b)
+    × (r.limit ≡ n)
+IsCall (asked.DraftPut key value) what m n a b = (what ≡ 21) × (key.now ≡ a) × (value.now ≡ b)
+IsCall (asked.DraftDel key) what m n a b = (what ≡ 22) × (key.now ≡ a)
+IsCall (asked.Ran kind code) what m n a b = (what ≡ 23) × (kind ≡ m) × (code ≡ n)
+IsCall asked.GiveUp what m n a b = what ≡ 24
 
--- The call of these numbers is answered; a number above 15 is that of no call.
-abbrev pub MayAnswerNumbers : Meanings → ℕ → ℕ → ℕ → Bytes → Bytes → Rule
-MayAnswerNumbers means what m n a b before t after =
-    ((x : Asked) × IsCall x what m n a b × MayAnswer means x before t after)
-    ⊎ ((15 < what) × Tells (outcome.Faulty fault.OutOfRange) before t after)
+-- The call of these numbers is answered; a number above 24 is that of no call.
+abbrev pub MayAnswerNumbers : Bool → Meanings → ℕ → ℕ → ℕ → Bytes → Bytes → Rule
+MayAnswerNumbers asks means what m n a b before t after =
+    ((x : Asked) × IsCall x what m n a b × MayAnswer asks means x before t after)
+    ⊎ ((24 < what) × Tells (outcome.Faulty fault.OutOfRange) before t after)
 
 -- a refusal's number; a mutator's code and the kind of a version are told beside it
 abbrev pub refusal_number : Refusal → ℤ
@@ -82,8 +93,10 @@ fault_number fault.NoTicket = negsuc 103
 fault_number fault.NoWatch = negsuc 104
 fault_number fault.BadRules = negsuc 105
 fault_number fault.InUse = negsuc 106
+fault_number fault.Asks = negsuc 107
 fault_number fault.NoClient = negsuc 108
 fault_number fault.NoPlace = negsuc 109
+fault_number fault.NotAsked = negsuc 110
 
 abbrev pub is_number : Bool → ℤ
 is_number true = pos 2
@@ -95,6 +108,7 @@ outcome_number outcome.Done = pos 0
 outcome_number (outcome.Number n) = pos 0
 outcome_number outcome.Nothing = pos 1
 outcome_number (outcome.Is is) = is_number is
+outcome_number outcome.Asked = pos 3
 outcome_number (outcome.Refused e) = refusal_number e
 outcome_number (outcome.Faulty e) = fault_number e
 

@@ -5,8 +5,12 @@ use Rattle.group_history.specs.declared.refusals.Refusal.TheVariants.{NoMemory}
 use Rattle.group_history.specs.declared.responses.Ended.{Ended}
 use Rattle.group_history.specs.declared.responses.Ended.TheVariants.{Applied, Same}
 use Rattle.group_history.specs.declared.mutations.Mutation.{Mutation}
+use Rattle.group_history.specs.declared.mutations.Reason.{Reason}
+use Rattle.group_history.specs.declared.mutations.Reason.TheVariants.{Initial, Rebase}
 use Rattle.group_history.specs.Cookies.{Cookie}
 use Rattle.group_history.specs.Map.{Bytes}
+use Rattle.rebase.specs.Replies.{Replied}
+use Rattle.rebase.specs.Replies as replied
 use Rattle.rebase.specs.declared.watching.Polled.{Polled}
 use Rattle.rebase.specs.declared.watching.Polled.TheVariants as polled
 use Rattle.host_places.specs.declared.outcomes.Outcome.{Outcome}
@@ -62,6 +66,20 @@ polled_told polled.Unchanged = told_alone Nothing
 -- of a mutation: its id
 abbrev pub id_told : ℕ → Told
 id_told n = told_alone (Number n)
+
+-- of a change: a mutation's id, or how a pull ended
+abbrev pub replied_told : Replied → Told
+replied_told (replied.id n) = id_told n
+replied_told (replied.ended e) = ended_told e
+replied_told other = told_alone Done
+
+-- of a run that is asked for: the mutator's name, with the number of its reason
+abbrev pub reason_number : Reason → ℕ
+reason_number Initial = 0
+reason_number Rebase = 1
+
+abbrev pub named_told : Mutation → Told
+named_told x = told (Number (reason_number x.reason)) x.name
 
 -- memory was refused
 abbrev pub dry : Told

@@ -46,6 +46,21 @@ pub enum Asked<'a> {
     Mutate(Named<'a>),
     Watch(Range<'a>),
     Poll(u32),
+    /// Where a change asks for a run: the name of its mutator, and the reason of the run.
+    AskedName,
+    /// The arguments of the run.
+    AskedArgs,
+    /// The value at a key of the run's map.
+    DraftGet(&'a [u8]),
+    DraftHas(&'a [u8]),
+    DraftScan(Range<'a>),
+    /// A value, a JSON text, is put at a key of the run's map.
+    DraftPut(&'a [u8], &'a [u8]),
+    DraftDel(&'a [u8]),
+    /// The run ended: 0 done, 1 refused with this code, 2 unknown.
+    Ran(u32, u64),
+    /// The change is given up.
+    GiveUp,
 }
 
 impl<'a> Range<'a> {
@@ -71,10 +86,10 @@ impl<'a> Named<'a> {
 }
 
 impl<'a> Asked<'a> {
-    /// The call of these numbers and bytes; none above 15.
+    /// The call of these numbers and bytes; none above 24.
     pub fn of(what: u32, m: u32, n: u64, a: &'a [u8], b: &'a [u8]) -> Option<Asked<'a>>
         ensures some { IfSome result (λ asked. IsCall asked what m n a.now b.now) }
-        ensures none { IfNone result (15 < what) }
+        ensures none { IfNone result (24 < what) }
     {
         match what {
             0 => Some(Asked::Sit(a)),
@@ -93,6 +108,15 @@ impl<'a> Asked<'a> {
             13 => Some(Asked::Mutate(Named::of(n, a, b))),
             14 => Some(Asked::Watch(Range::of(m, n, a, b))),
             15 => Some(Asked::Poll(m)),
+            16 => Some(Asked::AskedName),
+            17 => Some(Asked::AskedArgs),
+            18 => Some(Asked::DraftGet(a)),
+            19 => Some(Asked::DraftHas(a)),
+            20 => Some(Asked::DraftScan(Range::of(m, n, a, b))),
+            21 => Some(Asked::DraftPut(a, b)),
+            22 => Some(Asked::DraftDel(a)),
+            23 => Some(Asked::Ran(m, n)),
+            24 => Some(Asked::GiveUp),
             _ => None,
         }
     }

@@ -14,9 +14,13 @@ pub enum Fault {
     BadRules,
     /// A client sits there.
     InUse,
+    /// A change asks for a run there.
+    Asks,
     /// No client sits there.
     NoClient,
     NoPlace,
+    /// No change asks for a run there.
+    NotAsked,
 }
 
 impl Fault {
@@ -31,8 +35,10 @@ impl Fault {
             Fault::NoWatch => -105,
             Fault::BadRules => -106,
             Fault::InUse => -107,
+            Fault::Asks => -108,
             Fault::NoClient => -109,
             Fault::NoPlace => -110,
+            Fault::NotAsked => -111,
         }
     }
 }

@@ -2,30 +2,41 @@
 //!
 //! A group is opened with so many places. A client sits down at one, makes its calls and leaves; another one may sit
 //! there then. A host names calls, tickets and watches by numbers, and gives and takes bytes. `place` has what each
-//! call does, `reading` what queries tell, `texts` what the bytes of a host say, `printing` the texts of rows, which
-//! are those of scripts, `desk` a place with the bytes that its last call told.
+//! call does, `own` those where the mutators are the host's own, `reading` and `drafts` what queries tell, `texts` what
+//! the bytes of a host say, `printing` the texts of rows, which are those of scripts, `desk` a place with the bytes that
+//! its last call told.
 //!
 //! What each call may tell, and how it leaves the place, is `specs/Answers.antt`: the client's own call of `rebase` is
 //! made, and its reply is told. No call waits: one begins anew 1,000,000 times where others are in its way.
 //!
-//! Decisions. The arguments are read first, then it is looked who sits there. A refused call has told no bytes. A poll
+//! Mutators may be the host's own (`changes`). Then a change asks for each run, which the host does on the run's map
+//! (`drafts`, `specs/Drafts.antt`), and the place has the change in place of its client. Which of the two a group has
+//! is a matter of its type: a place of rules never asks, and its calls have no premise.
+//!
+//! Decisions. Whether a run is asked for comes first: it says which calls there are. Then the arguments are read, and
+//! then it is looked who sits there. A refused call has told no bytes. A poll
 //! keeps its rows only once they are told, so a refused one may be made again. A place has a handle on its group, which
 //! is let go with the last of them. A client that leaves takes its tickets and watches along.
 #![tactic(auto)]
 
 mod asked;
+mod changes;
 mod desk;
+mod drafts;
 mod faults;
 mod opening;
 mod outcomes;
+mod own;
 mod place;
 mod printing;
 mod reading;
+mod sitting;
 mod texts;
 mod tickets;
 mod watches;
 
 pub use asked::{Asked, Named, Range};
+pub use changes::{AtOnce, Changes, OwnMutators, PickedMeaning};
 pub use desk::Desk;
 pub use faults::Fault;
 pub use opening::{Opening, open_places};

@@ -1,5 +1,5 @@
 //! A group that is opened, and its places.
-ghost use Rattle.std.specs.Prelude.{◌≡◌, ◌⊎◌, ℕ, Err, IfErr, IfOk, Ok, length, map};
+ghost use Rattle.std.specs.Prelude.{◌≡◌, ◌⊎◌, [], ℕ, Err, IfErr, IfOk, Ok, OnOk, length, map};
 ghost use Rattle.std.specs.List.{All};
 ghost use Rattle.head_word.specs.Books.{opening, opening_ref};
 ghost use Rattle.std.specs.Arc.{arc_value};
@@ -7,15 +7,17 @@ ghost use Rattle.commit_graph.specs.Seats.{IsSeatOf};
 ghost use Rattle.rebase.specs.Clients.{AreSeatsOf};
 ghost use Rattle.rebase.specs.Configs.{Layout};
 ghost use Rattle.host_places.specs.Asking.{IsSaid};
+ghost use Rattle.host_places.specs.Inside.Filling.{IsAdded};
 ghost use Rattle.host_places.specs.Opening.{AreOpened, IsNew, IsWant, id_said, identity_said, layout_for};
 ghost use Rattle.host_places.specs.Places.{free_place};
 
+use crate::changes::Changes;
 use crate::desk::Desk;
 use crate::faults::Fault;
 use crate::outcomes::Outcome;
 use crate::place::Place;
 use crate::texts::{text_of, uuid_of};
-use group_history::{Mutators, Refusal, Text};
+use group_history::{Means, Refusal, Text};
 use rebase::{Arena, Config, Group, Identity, Seat, Seats, Uuid};
 use std::alloc::{AllocError, Global};
 use std::sync::Arc;
@@ -65,7 +67,7 @@ fn config_of(alloc: Global, with: Opening<'_>) -> Result<Config, Outcome>
 }
 
 // A place with this seat.
-fn desk_at<M: Mutators + Drop>(
+fn desk_at<M: Means + Changes>(
     alloc: Global,
     group: &Arc<Group<M, Arena<M>>, Global>,
     seat: Seat<M, Arena<M>>,
@@ -77,8 +79,60 @@ fn desk_at<M: Mutators + Drop>(
     Ok(Desk::new(alloc, Place::new(alloc, group, seat)))
 }
 
+// One more place, with this seat.
+fn add_desk<M: Means + Changes>(
+    alloc: Global,
+    group: &Arc<Group<M, Arena<M>>, Global>,
+    seat: Seat<M, Arena<M>>,
+    desks: &mut Vec<Desk<M>>,
+) -> Result<(), AllocError>
+    requires { IsSeatOf (arc_value group.now).group seat }
+    ensures { OnOk result (IsAdded (arc_value group.now) seat desks.old.items desks.new.items) }
+{
+    desks.push(desk_at(alloc, group, seat)?)?;
+    Ok(())
+}
+
 // A place for each seat, the last one first.
-fn desks_at<M: Mutators + Drop>(
+fn fill_desks<M: Means + Changes>(
+    alloc: Global,
+    group: &Arc<Group<M, Arena<M>>, Global>,
+    seats: &mut Seats<M, Arena<M>>,
+    desks: &mut Vec<Desk<M>>,
+) -> Result<(), AllocError>
+    requires home { AreSeatsOf (arc_value group.now).group seats.old.free }
+    requires none { desks.old.items ≡ [] }
+    ensures count { OnOk result (length desks.new.items ≡ length seats.old.free) }
+    ensures new { (commit : ℕ) → All (λ seat. seat.mark.log ≡ opening (opening_ref commit)) seats.old.free
+        → OnOk result (All (λ d. IsNew (arc_value group.now) commit d.place) desks.new.items) }
+{
+    while let Ok(seat) = seats.take() {
+        add_desk(alloc, group, seat, desks)?;
+    }
+    Ok(())
+}
+
+// A place for each seat of the group.
+fn desks_of<M: Means + Changes>(
+    alloc: Global,
+    group: Arc<Group<M, Arena<M>>, Global>,
+    seats: Seats<M, Arena<M>>,
+) -> Result<Vec<Desk<M>>, AllocError>
+    requires { AreSeatsOf (arc_value group).group seats.free }
+    ensures count { IfOk result (λ desks. length desks.items ≡ length seats.free) }
+    ensures new { (commit : ℕ) → All (λ seat. seat.mark.log ≡ opening (opening_ref commit)) seats.free
+        → IfOk result (λ desks. All (λ d. IsNew (arc_value group) commit d.place) desks.items) }
+{
+    let mut seats = seats;
+    let mut desks = Vec::new(alloc);
+    let filled = fill_desks(alloc, &group, &mut seats, &mut desks);
+    drop(seats);
+    drop(group);
+    filled?;
+    Ok(desks)
+}
+
+fn desks_at<M: Means + Changes>(
     alloc: Global,
     group: Group<M, Arena<M>>,
     seats: Seats<M, Arena<M>>,
@@ -89,17 +143,12 @@ fn desks_at<M: Mutators + Drop>(
         → IfOk result (λ desks. All (λ d. IsNew group commit d.place) desks.items) }
 {
     let group = Arc::new(alloc, group)?;
-    let mut seats = seats;
-    let mut desks = Vec::new(alloc);
-    while let Ok(seat) = seats.take() {
-        desks.push(desk_at(alloc, &group, seat)?)?;
-    }
-    Ok(desks)
+    desks_of(alloc, group, seats)
 }
 
 /// Opens a group, and answers its places. Refused where an argument says nothing, and for want of memory; `Busy` and
 /// `Full` do not come.
-pub fn open_places<M: Mutators + Drop>(
+pub fn open_places<M: Means + Changes>(
     alloc: Global,
     with: Opening<'_>,
     mutators: M,

@@ -17,14 +17,16 @@ pub enum Outcome {
     /// There is nothing: no value at the key, no new rows; or the pull changed nothing.
     Nothing,
     Is(bool),
+    /// The change asks for a run of a mutator.
+    Asked,
     /// The client's call was refused.
     Refused(Refusal),
     Faulty(Fault),
 }
 
 impl Outcome {
-    /// Its number: 0 where it was done, 1 where there is nothing, 2 for yes and 0 for no, and a negative one where it
-    /// was not done.
+    /// Its number: 0 where it was done, 1 where there is nothing, 2 for yes and 0 for no, 3 where a run is asked for,
+    /// and a negative one where it was not done.
     pub fn number(self) -> i32
         ensures { result ≡ outcome_number self }
     {
@@ -32,6 +34,7 @@ impl Outcome {
             Outcome::Done | Outcome::Number(_) | Outcome::Is(false) => 0,
             Outcome::Nothing => 1,
             Outcome::Is(true) => 2,
+            Outcome::Asked => 3,
             Outcome::Refused(refusal) => refusal_number(refusal),
             Outcome::Faulty(fault) => fault.number(),
         }

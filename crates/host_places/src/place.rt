@@ -1,27 +1,31 @@
 //! A place at a group, and its calls.
-ghost use Rattle.std.specs.Prelude.{◌≡◌, ◌⊎◌, [], slice_get};
+ghost use Rattle.std.specs.Prelude.{◌≡◌, ◌⊎◌, [], None, false, slice_get};
 ghost use Rattle.std.specs.Arc.{arc_value};
 ghost use Rattle.group_history.specs.Queries.{get_at, has_at, view_rows};
 ghost use Rattle.commit_graph.specs.Seats.{IsSeatOf};
 ghost use Rattle.push_body.specs.Bodies.{push_text};
 ghost use Rattle.host_places.specs.declared.faults.Fault.TheVariants as fault;
-ghost use Rattle.host_places.specs.Answers.{At, Begins, By, ByClient, Ends, Forgets, Lacks, Leaves, MayAnswer, Mutates};
-ghost use Rattle.host_places.specs.Answers.{Polls, Reads, Refreshes, Sits, Watches};
+ghost use Rattle.host_places.specs.Answers.{AnswersLooking, AnswersReading, At, Begins, By, ByClient, Ends, Forgets};
+ghost use Rattle.host_places.specs.Answers.{Lacks, Leaves, Mutates, Polls, Reads, Refreshes, Sits, Watches};
 ghost use Rattle.host_places.specs.Asking.{named_said, scan_said, text_said, uuid_said};
+ghost use Rattle.host_places.specs.Calls.{MayAnswer, MayLack};
+ghost use Rattle.host_places.specs.Inside.Sitting.{CanSit, IsAt, IsLeft, IsTaken, with_sitting};
 ghost use Rattle.host_places.specs.Places.{free_place, ticket_at};
 ghost use Rattle.host_places.specs.Told.{bytes_told, cookie_told, is_told, pending_told, rows_told, told, told_alone};
 ghost use Rattle.host_places.specs.Told.{value_told};
 
 use crate::asked::{Asked, Named, Range};
+use crate::changes::{AtOnce, Changes};
 use crate::faults::Fault;
 use crate::outcomes::{Outcome, ended_outcome, id_outcome};
 use crate::reading::{
     tell_closed, tell_cookie, tell_has, tell_pending, tell_push, tell_rows, tell_value,
 };
+use crate::sitting::Sitting;
 use crate::texts::{named_of, scan_of, str_of, uuid_of};
 use crate::tickets::{forget_ticket, keep_reply, ticket_of};
 use crate::watches::{keep_watch, poll_watch};
-use group_history::Mutators;
+use group_history::{Means, Mutators};
 use rebase::{Arena, Client, Group, Seat, Ticket, Watch};
 use std::alloc::Global;
 use std::marker::Model;
@@ -31,44 +35,51 @@ use std::sync::Arc;
 /// How often a call begins anew that others are in the way of.
 pub(crate) const TRIES: u32 = 1_000_000;
 
-/// A place at a group: a seat, or the client that sits there with what it keeps for its host.
+/// A place at a group: who sits there, with what it keeps for its host.
 #[derive(Drop)]
-pub struct Place<M: Mutators + Drop> {
-    alloc: Global,
+pub struct Place<M: Means + Changes> {
+    pub(crate) alloc: Global,
     group: Arc<Group<M, Arena<M>>, Global>,
-    seat: Option<Seat<M, Arena<M>>>,
-    client: Option<Client<M, Arena<M>>>,
-    tickets: Vec<Option<Ticket>>,
+    pub(crate) sitting: Sitting<M>,
+    pub(crate) tickets: Vec<Option<Ticket>>,
     watches: Vec<Watch<M>>,
 }
 
-impl<M: Mutators + Drop> Model for Place<M> {
+impl<M: Means + Changes> Model for Place<M> {
     ghost use Rattle.std.specs.Arc.{arc_value};
     ghost use Rattle.std.specs.Coded.{codes};
     ghost use Rattle.std.specs.List.{All};
-    ghost use Rattle.std.specs.Prelude.{◌≡◌, IfSome};
+    ghost use Rattle.std.specs.Prelude.{◌≡◌, true, IfSome};
+    ghost use Rattle.group_history.specs.contracts.changes.Change as the_change;
+    ghost use Rattle.group_history.specs.contracts.mutations.Mutation as the_mutation;
     ghost use Rattle.head_word.specs.contracts.entry.Entry as entry;
+    ghost use Rattle.group_steps.specs.Rooting.{entries_coded};
     ghost use Rattle.commit_graph.specs.Seats.{IsSeatOf};
     ghost use Rattle.host_places.specs.Places.{PlaceState};
+    ghost use Rattle.host_places.specs.Runs.{IsBegunAt};
+    ghost use Rattle.host_places.specs.Sitting.{asking_of, client_of, seat_of};
 
     ghost Value = { PlaceState };
 
-    ghost coded = { Prim.hlevel (codes, entry.the_row.coded) };
+    ghost coded = { Prim.hlevel (codes, entry.the_row.coded, the_change.the_row.coded, the_mutation.the_row.coded, entries_coded) };
 
     ghost view = { λ p. record {
       group = arc_value p.group;
-      seat = p.seat;
-      client = p.client;
+      seat = seat_of p.sitting;
+      client = client_of p.sitting;
+      asking = asking_of p.sitting;
       tickets = p.tickets.items;
       watches = p.watches.items;
     } };
 
-    ghost invariant = { λ p. IfSome p.seat (IsSeatOf (arc_value p.group).group)
-        × IfSome p.client (λ c. (c.group ≡ arc_value p.group) × IsSeatOf (arc_value p.group).group c.seat)
+    ghost invariant = { λ p. IfSome (seat_of p.sitting) (IsSeatOf (arc_value p.group).group)
+        × IfSome (client_of p.sitting) (λ c. (c.group ≡ arc_value p.group)
+        × IsSeatOf (arc_value p.group).group c.seat)
+        × IfSome (asking_of p.sitting) (λ a. (M.asks ≡ true) × IsBegunAt M.means (arc_value p.group) a)
         × All (λ w. w.book ≡ (arc_value p.group).group.book) p.watches.items };
 }
 
-impl<M: Mutators + Drop> Place<M> {
+impl<M: Means + Changes> Place<M> {
     /// A place with this seat, at which nobody sits.
     pub(crate) fn new(
         alloc: Global,
@@ -81,11 +92,24 @@ impl<M: Mutators + Drop> Place<M> {
         Place {
             alloc,
             group,
-            seat: Some(seat),
-            client: None,
+            sitting: Sitting::Nobody(seat),
             tickets: Vec::new(alloc),
             watches: Vec::new(alloc),
         }
+    }
+
+    // Who sits there is taken away. It, or another one, is put there before the call ends.
+    pub(crate) fn take(&mut self) -> Sitting<M>
+        ensures { IsTaken M.asks M.means result self.old self.new }
+    {
+        replace(&mut self.sitting, Sitting::Moving)
+    }
+
+    pub(crate) fn put(&mut self, sitting: Sitting<M>)
+        requires { CanSit M.asks M.means self.old.group sitting }
+        ensures { self.new ≡ with_sitting sitting self.old }
+    {
+        drop(replace(&mut self.sitting, sitting));
     }
 
     fn sit(&mut self, id: &[u8]) -> Outcome
@@ -95,31 +119,48 @@ impl<M: Mutators + Drop> Place<M> {
             Ok(id) => id,
             Err(outcome) => return outcome,
         };
-        let Some(seat) = self.seat.take() else {
-            return Outcome::Faulty(Fault::InUse);
+        let seat = match self.take() {
+            Sitting::Nobody(seat) => seat,
+            other => {
+                self.put(other);
+                return Outcome::Faulty(Fault::InUse);
+            }
         };
         match self.group.client(seat, id, TRIES) {
             Ok(client) => {
-                drop(replace(&mut self.client, Some(client)));
+                self.put(Sitting::Client(client));
                 return Outcome::Done;
             }
             Err((seat, refusal)) => {
-                drop(replace(&mut self.seat, Some(seat)));
+                self.put(Sitting::Nobody(seat));
                 return Outcome::Refused(refusal);
             }
         }
     }
 
+    // The client's seat is free, and what it kept is given up.
+    pub(crate) fn free(&mut self, client: Client<M, Arena<M>>)
+        requires { IsAt self.old.group client }
+        ensures { IsLeft client self.old self.new }
+    {
+        self.put(Sitting::Nobody(client.close()));
+        self.tickets.clear();
+        self.watches.clear();
+    }
+
     fn leave(&mut self) -> Outcome
         ensures { ByClient Leaves self.old (told_alone result) self.new }
     {
-        let Some(client) = self.client.take() else {
-            return Outcome::Faulty(Fault::NoClient);
-        };
-        drop(replace(&mut self.seat, Some(client.close())));
-        self.tickets.clear();
-        self.watches.clear();
-        Outcome::Done
+        match self.take() {
+            Sitting::Client(client) => {
+                self.free(client);
+                return Outcome::Done;
+            }
+            other => {
+                self.put(other);
+                return Outcome::Faulty(Fault::NoClient);
+            }
+        }
     }
 
     fn get(&mut self, key: &[u8], bytes: &mut Vec<u8>) -> Outcome
@@ -132,26 +173,24 @@ impl<M: Mutators + Drop> Place<M> {
             Ok(key) => key,
             Err(outcome) => return outcome,
         };
-        let Some(client) = &mut self.client else {
+        let Sitting::Client(client) = &mut self.sitting else {
             return Outcome::Faulty(Fault::NoClient);
         };
         tell_value(client, key, bytes)
     }
 
-    fn has(&mut self, key: &[u8], bytes: &mut Vec<u8>) -> Outcome
-        requires { bytes.old.items ≡ [] }
-        ensures { Lacks self.old (told result bytes.new.items) self.new
-            ⊎ By (text_said key.now) (λ k. ByClient (Reads is_told (λ s. has_at M.means s k) M.means)) self.old
-            (told result bytes.new.items) self.new }
+    fn has(&mut self, key: &[u8]) -> Outcome
+        ensures { By (text_said key.now) (λ k. ByClient (Reads is_told (λ s. has_at M.means s k) M.means)) self.old
+            (told_alone result) self.new }
     {
         let key = match str_of(key) {
             Ok(key) => key,
             Err(outcome) => return outcome,
         };
-        let Some(client) = &mut self.client else {
+        let Sitting::Client(client) = &mut self.sitting else {
             return Outcome::Faulty(Fault::NoClient);
         };
-        tell_has(client, key, bytes)
+        tell_has(client, key)
     }
 
     fn scan(&mut self, range: Range<'_>, bytes: &mut Vec<u8>) -> Outcome
@@ -165,7 +204,7 @@ impl<M: Mutators + Drop> Place<M> {
             Ok(scan) => scan,
             Err(outcome) => return outcome,
         };
-        let Some(client) = &mut self.client else {
+        let Sitting::Client(client) = &mut self.sitting else {
             return Outcome::Faulty(Fault::NoClient);
         };
         tell_rows(client, &scan, bytes)
@@ -176,7 +215,7 @@ impl<M: Mutators + Drop> Place<M> {
         ensures { Lacks self.old (told result bytes.new.items) self.new
             ⊎ ByClient (Reads pending_told (λ s. s.pending) M.means) self.old (told result bytes.new.items) self.new }
     {
-        let Some(client) = &mut self.client else {
+        let Sitting::Client(client) = &mut self.sitting else {
             return Outcome::Faulty(Fault::NoClient);
         };
         tell_pending(client, bytes)
@@ -187,30 +226,27 @@ impl<M: Mutators + Drop> Place<M> {
         ensures { Lacks self.old (told result bytes.new.items) self.new
             ⊎ ByClient (Reads cookie_told (λ s. s.cookie) M.means) self.old (told result bytes.new.items) self.new }
     {
-        let Some(client) = &mut self.client else {
+        let Sitting::Client(client) = &mut self.sitting else {
             return Outcome::Faulty(Fault::NoClient);
         };
         tell_cookie(client, bytes)
     }
 
-    fn closed(&mut self, bytes: &mut Vec<u8>) -> Outcome
-        requires { bytes.old.items ≡ [] }
-        ensures { Lacks self.old (told result bytes.new.items) self.new
-            ⊎ ByClient (Reads is_told (λ s. s.closed) M.means) self.old (told result bytes.new.items) self.new }
+    fn closed(&mut self) -> Outcome
+        ensures { ByClient (Reads is_told (λ s. s.closed) M.means) self.old (told_alone result) self.new }
     {
-        let Some(client) = &mut self.client else {
+        let Sitting::Client(client) = &mut self.sitting else {
             return Outcome::Faulty(Fault::NoClient);
         };
-        tell_closed(client, bytes)
+        tell_closed(client)
     }
 
     fn push(&mut self, bytes: &mut Vec<u8>) -> Outcome
         requires { bytes.old.items ≡ [] }
-        ensures { Lacks self.old (told result bytes.new.items) self.new
-            ⊎ ByClient (λ c. Reads bytes_told (λ s. push_text c.group.identity s.pending) M.means c) self.old
+        ensures { ByClient (λ c. Reads bytes_told (λ s. push_text c.group.identity s.pending) M.means c) self.old
             (told result bytes.new.items) self.new }
     {
-        let Some(client) = &mut self.client else {
+        let Sitting::Client(client) = &mut self.sitting else {
             return Outcome::Faulty(Fault::NoClient);
         };
         tell_push(client, bytes)
@@ -219,7 +255,7 @@ impl<M: Mutators + Drop> Place<M> {
     fn refresh(&mut self) -> Outcome
         ensures { ByClient (Refreshes M.means) self.old (told_alone result) self.new }
     {
-        let Some(client) = &mut self.client else {
+        let Sitting::Client(client) = &mut self.sitting else {
             return Outcome::Faulty(Fault::NoClient);
         };
         id_outcome(client.refresh(TRIES))
@@ -231,7 +267,7 @@ impl<M: Mutators + Drop> Place<M> {
         ensures { Lacks self.old (told result bytes.new.items) self.new
             ⊎ ByClient (Begins M.means) self.old (told result bytes.new.items) self.new }
     {
-        let Some(client) = &mut self.client else {
+        let Sitting::Client(client) = &mut self.sitting else {
             return Outcome::Faulty(Fault::NoClient);
         };
         let reply = client.begin_pull(TRIES);
@@ -248,11 +284,88 @@ impl<M: Mutators + Drop> Place<M> {
         Outcome::Done
     }
 
+    fn watch(&mut self, range: Range<'_>) -> Outcome
+        ensures { Lacks self.old (told_alone result) self.new
+            ⊎ By (scan_said range.entry.prefix.now range.entry.kind range.entry.start.now range.entry.limit)
+            (λ scan. ByClient (Watches scan)) self.old (told_alone result) self.new }
+    {
+        let scan = match scan_of(self.alloc, range) {
+            Ok(scan) => scan,
+            Err(outcome) => return outcome,
+        };
+        let Sitting::Client(client) = &self.sitting else {
+            return Outcome::Faulty(Fault::NoClient);
+        };
+        let watch = client.watch(scan);
+        keep_watch(&mut self.watches, watch)
+    }
+
+    fn poll(&mut self, number: u32, bytes: &mut Vec<u8>) -> Outcome
+        requires { bytes.old.items ≡ [] }
+        ensures { Lacks self.old (told result bytes.new.items) self.new
+            ⊎ ByClient (λ c b. At (slice_get b.watches number) fault.NoWatch (λ watch. Polls M.means c number watch) b)
+            self.old (told result bytes.new.items) self.new }
+    {
+        let Sitting::Client(client) = &mut self.sitting else {
+            return Outcome::Faulty(Fault::NoClient);
+        };
+        let number = number as usize;
+        if number >= self.watches.len() {
+            return Outcome::Faulty(Fault::NoWatch);
+        }
+        poll_watch(client, &mut self.watches[number], bytes)
+    }
+
+    // Makes a query, where no change asks for a run.
+    fn call_reading(&mut self, asked: Asked<'_>, bytes: &mut Vec<u8>) -> Outcome
+        requires { bytes.old.items ≡ [] }
+        ensures { (MayLack asked.entry × Lacks self.old (told result bytes.new.items) self.new)
+            ⊎ AnswersReading M.means asked.entry self.old (told result bytes.new.items) self.new }
+    {
+        match asked {
+            Asked::Get(key) => self.get(key, bytes),
+            Asked::Has(key) => self.has(key),
+            Asked::Scan(range) => self.scan(range, bytes),
+            Asked::Pending => self.pending(bytes),
+            Asked::Cookie => self.cookie(bytes),
+            Asked::Closed => self.closed(),
+            Asked::Push => self.push(bytes),
+            _ => Outcome::Faulty(Fault::NotAsked),
+        }
+    }
+
+    // Makes a call that is no change, where none asks for a run.
+    pub(crate) fn call_calm(&mut self, asked: Asked<'_>, bytes: &mut Vec<u8>) -> Outcome
+        requires { bytes.old.items ≡ [] }
+        ensures { (MayLack asked.entry × Lacks self.old (told result bytes.new.items) self.new)
+            ⊎ AnswersLooking M.means asked.entry self.old (told result bytes.new.items) self.new }
+    {
+        match asked {
+            Asked::Sit(id) => self.sit(id),
+            Asked::Leave => self.leave(),
+            Asked::Refresh => self.refresh(),
+            Asked::Begin => self.begin(bytes),
+            Asked::Forget(number) => self.forget(number),
+            Asked::Watch(range) => self.watch(range),
+            Asked::Poll(number) => self.poll(number, bytes),
+            other => self.call_reading(other, bytes),
+        }
+    }
+}
+
+impl<M: Mutators + AtOnce> Place<M> {
+    // No change asks for a run.
+    fn never_asks(&self)
+        ensures { self.now.asking ≡ None }
+    {
+        let _ = &self.sitting;
+    }
+
     fn end(&mut self, number: u32, body: &[u8]) -> Outcome
         ensures { ByClient (λ c b. At (ticket_at b.tickets number) fault.NoTicket
             (λ kept. Ends M.means c kept body.now) b) self.old (told_alone result) self.new }
     {
-        let Some(client) = &mut self.client else {
+        let Sitting::Client(client) = &mut self.sitting else {
             return Outcome::Faulty(Fault::NoClient);
         };
         let Some(ticket) = ticket_of(&self.tickets, number as usize) else {
@@ -271,66 +384,22 @@ impl<M: Mutators + Drop> Place<M> {
             Ok(said) => said,
             Err(outcome) => return outcome,
         };
-        let Some(client) = &mut self.client else {
+        let Sitting::Client(client) = &mut self.sitting else {
             return Outcome::Faulty(Fault::NoClient);
         };
         id_outcome(client.try_mutate(&name, &args, named.time, TRIES))
     }
 
-    fn watch(&mut self, range: Range<'_>) -> Outcome
-        ensures { Lacks self.old (told_alone result) self.new
-            ⊎ By (scan_said range.entry.prefix.now range.entry.kind range.entry.start.now range.entry.limit)
-            (λ scan. ByClient (Watches scan)) self.old (told_alone result) self.new }
-    {
-        let scan = match scan_of(self.alloc, range) {
-            Ok(scan) => scan,
-            Err(outcome) => return outcome,
-        };
-        let Some(client) = &self.client else {
-            return Outcome::Faulty(Fault::NoClient);
-        };
-        let watch = client.watch(scan);
-        keep_watch(&mut self.watches, watch)
-    }
-
-    fn poll(&mut self, number: u32, bytes: &mut Vec<u8>) -> Outcome
-        requires { bytes.old.items ≡ [] }
-        ensures { Lacks self.old (told result bytes.new.items) self.new
-            ⊎ ByClient (λ c b. At (slice_get b.watches number) fault.NoWatch (λ watch. Polls M.means c number watch) b)
-            self.old (told result bytes.new.items) self.new }
-    {
-        let Some(client) = &mut self.client else {
-            return Outcome::Faulty(Fault::NoClient);
-        };
-        let number = number as usize;
-        if number >= self.watches.len() {
-            return Outcome::Faulty(Fault::NoWatch);
-        }
-        poll_watch(client, &mut self.watches[number], bytes)
-    }
-
-    /// Makes a call. What it tells as bytes is written, none where it was refused.
+    /// Makes a call. What it tells as bytes is written, none where it was refused. No change asks for a run.
     pub fn call(&mut self, asked: Asked<'_>, bytes: &mut Vec<u8>) -> Outcome
         requires { bytes.old.items ≡ [] }
-        ensures { MayAnswer M.means asked.entry self.old (told result bytes.new.items) self.new }
+        ensures { MayAnswer false M.means asked.entry self.old (told result bytes.new.items) self.new }
     {
+        self.never_asks();
         match asked {
-            Asked::Sit(id) => self.sit(id),
-            Asked::Leave => self.leave(),
-            Asked::Get(key) => self.get(key, bytes),
-            Asked::Has(key) => self.has(key, bytes),
-            Asked::Scan(range) => self.scan(range, bytes),
-            Asked::Begin => self.begin(bytes),
-            Asked::Forget(number) => self.forget(number),
-            Asked::End(number, body) => self.end(number, body),
             Asked::Mutate(named) => self.mutate(named),
-            Asked::Watch(range) => self.watch(range),
-            Asked::Poll(number) => self.poll(number, bytes),
-            Asked::Pending => self.pending(bytes),
-            Asked::Cookie => self.cookie(bytes),
-            Asked::Closed => self.closed(bytes),
-            Asked::Refresh => self.refresh(),
-            Asked::Push => self.push(bytes),
+            Asked::End(number, body) => self.end(number, body),
+            other => self.call_calm(other, bytes),
         }
     }
 }

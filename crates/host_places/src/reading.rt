@@ -5,15 +5,17 @@ ghost use Rattle.answered.specs.Answered.{IsLinearized, no_change};
 ghost use Rattle.group_steps.specs.Missing.{IsMissedOrDry, map_ok};
 ghost use Rattle.push_body.specs.Bodies.{push_text};
 ghost use Rattle.rebase.specs.Clients.{Stays};
-ghost use Rattle.host_places.specs.Told.{bytes_told, cookie_told, dry, is_told, pending_told, rows_told, tells, told};
+ghost use Rattle.host_places.specs.Answers.{ReadsBy};
+ghost use Rattle.host_places.specs.Told.{bytes_told, cookie_told, dry, is_told, pending_told, rows_told, told, told_alone};
 ghost use Rattle.host_places.specs.Told.{value_told};
 ghost use Rattle.host_places.specs.Inside.Reading.{MayRead};
 ghost use Rattle.host_places.specs.declared.outcomes.Outcome.TheVariants.{Done};
 
+use crate::changes::Changes;
 use crate::outcomes::Outcome;
 use crate::place::TRIES;
 use crate::printing::{print_pending, print_rows};
-use group_history::{Cookie, Json, Mutation, Mutators, Refusal, Scan, Text};
+use group_history::{Cookie, Json, Means, Mutation, Refusal, Scan, Text};
 use rebase::{Arena, Client};
 use std::alloc::AllocError;
 
@@ -29,7 +31,7 @@ pub(crate) fn wrote(written: Result<(), AllocError>, bytes: &mut Vec<u8>) -> Out
     Outcome::Done
 }
 
-fn value_at<M: Mutators + Drop>(
+fn value_at<M: Means + Changes>(
     client: &mut Client<M, Arena<M>>,
     key: &str,
 ) -> Result<Option<Json>, Refusal>
@@ -45,7 +47,7 @@ fn value_at<M: Mutators + Drop>(
 }
 
 /// Tells the value at a key.
-pub(crate) fn tell_value<M: Mutators + Drop>(
+pub(crate) fn tell_value<M: Means + Changes>(
     client: &mut Client<M, Arena<M>>,
     key: &str,
     bytes: &mut Vec<u8>,
@@ -61,7 +63,7 @@ pub(crate) fn tell_value<M: Mutators + Drop>(
     }
 }
 
-fn is_there<M: Mutators + Drop>(
+fn is_there<M: Means + Changes>(
     client: &mut Client<M, Arena<M>>,
     key: &str,
 ) -> Result<bool, Refusal>
@@ -77,23 +79,16 @@ fn is_there<M: Mutators + Drop>(
 }
 
 /// Tells whether a key is there.
-pub(crate) fn tell_has<M: Mutators + Drop>(
-    client: &mut Client<M, Arena<M>>,
-    key: &str,
-    bytes: &mut Vec<u8>,
-) -> Outcome
-    requires { bytes.old.items ≡ [] }
-    ensures { MayRead is_told (λ s. has_at M.means s key.now) M.means client.old (told result bytes.new.items)
-        client.new }
+pub(crate) fn tell_has<M: Means + Changes>(client: &mut Client<M, Arena<M>>, key: &str) -> Outcome
+    ensures { ReadsBy is_told (λ s. has_at M.means s key.now) M.means client.old (told_alone result) client.new }
 {
-    let _ = bytes;
     match is_there(client, key) {
         Ok(is) => Outcome::Is(is),
         Err(refusal) => Outcome::Refused(refusal),
     }
 }
 
-fn rows_at<M: Mutators + Drop>(
+fn rows_at<M: Means + Changes>(
     client: &mut Client<M, Arena<M>>,
     scan: &Scan,
 ) -> Result<Vec<(Text, Json)>, Refusal>
@@ -109,7 +104,7 @@ fn rows_at<M: Mutators + Drop>(
 }
 
 /// Tells the rows of a scan.
-pub(crate) fn tell_rows<M: Mutators + Drop>(
+pub(crate) fn tell_rows<M: Means + Changes>(
     client: &mut Client<M, Arena<M>>,
     scan: &Scan,
     bytes: &mut Vec<u8>,
@@ -124,7 +119,7 @@ pub(crate) fn tell_rows<M: Mutators + Drop>(
     }
 }
 
-fn pending_at<M: Mutators + Drop>(
+fn pending_at<M: Means + Changes>(
     client: &mut Client<M, Arena<M>>,
 ) -> Result<Vec<Mutation>, Refusal>
     ensures answer { IsLinearized M.means TRIES client.old.seat.mark client.new.seat.mark
@@ -139,7 +134,7 @@ fn pending_at<M: Mutators + Drop>(
 }
 
 /// Tells the pending mutations.
-pub(crate) fn tell_pending<M: Mutators + Drop>(
+pub(crate) fn tell_pending<M: Means + Changes>(
     client: &mut Client<M, Arena<M>>,
     bytes: &mut Vec<u8>,
 ) -> Outcome
@@ -152,7 +147,7 @@ pub(crate) fn tell_pending<M: Mutators + Drop>(
     }
 }
 
-fn cookie_at<M: Mutators + Drop>(client: &mut Client<M, Arena<M>>) -> Result<Cookie, Refusal>
+fn cookie_at<M: Means + Changes>(client: &mut Client<M, Arena<M>>) -> Result<Cookie, Refusal>
     ensures answer { IsLinearized M.means TRIES client.old.seat.mark client.new.seat.mark result no_change
         (λ s. Ok s.cookie) }
     ensures refused { IfErr result (IsMissedOrDry ⊤) }
@@ -165,7 +160,7 @@ fn cookie_at<M: Mutators + Drop>(client: &mut Client<M, Arena<M>>) -> Result<Coo
 }
 
 /// Tells the cookie.
-pub(crate) fn tell_cookie<M: Mutators + Drop>(
+pub(crate) fn tell_cookie<M: Means + Changes>(
     client: &mut Client<M, Arena<M>>,
     bytes: &mut Vec<u8>,
 ) -> Outcome
@@ -178,7 +173,7 @@ pub(crate) fn tell_cookie<M: Mutators + Drop>(
     }
 }
 
-fn closed_at<M: Mutators + Drop>(client: &mut Client<M, Arena<M>>) -> Result<bool, Refusal>
+fn closed_at<M: Means + Changes>(client: &mut Client<M, Arena<M>>) -> Result<bool, Refusal>
     ensures answer { IsLinearized M.means TRIES client.old.seat.mark client.new.seat.mark result no_change
         (λ s. Ok s.closed) }
     ensures refused { IfErr result (IsMissedOrDry ⊤) }
@@ -191,14 +186,9 @@ fn closed_at<M: Mutators + Drop>(client: &mut Client<M, Arena<M>>) -> Result<boo
 }
 
 /// Tells whether the group is closed.
-pub(crate) fn tell_closed<M: Mutators + Drop>(
-    client: &mut Client<M, Arena<M>>,
-    bytes: &mut Vec<u8>,
-) -> Outcome
-    requires { bytes.old.items ≡ [] }
-    ensures { MayRead is_told (λ s. s.closed) M.means client.old (told result bytes.new.items) client.new }
+pub(crate) fn tell_closed<M: Means + Changes>(client: &mut Client<M, Arena<M>>) -> Outcome
+    ensures { ReadsBy is_told (λ s. s.closed) M.means client.old (told_alone result) client.new }
 {
-    let _ = bytes;
     match closed_at(client) {
         Ok(is) => Outcome::Is(is),
         Err(refusal) => Outcome::Refused(refusal),
@@ -206,12 +196,12 @@ pub(crate) fn tell_closed<M: Mutators + Drop>(
 }
 
 /// Tells the body of a push.
-pub(crate) fn tell_push<M: Mutators + Drop>(
+pub(crate) fn tell_push<M: Means + Changes>(
     client: &mut Client<M, Arena<M>>,
     bytes: &mut Vec<u8>,
 ) -> Outcome
     requires { bytes.old.items ≡ [] }
-    ensures { MayRead bytes_told (λ s. push_text client.old.group.identity s.pending) M.means client.old
+    ensures { ReadsBy bytes_told (λ s. push_text client.old.group.identity s.pending) M.means client.old
         (told result bytes.new.items) client.new }
 {
     match client.push_body(TRIES) {

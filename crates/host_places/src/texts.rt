@@ -48,7 +48,8 @@ pub(crate) fn uuid_of(bytes: &[u8]) -> Result<Uuid, Outcome>
     }
 }
 
-fn json_of(alloc: Global, bytes: &[u8]) -> Result<Json, Outcome>
+/// The JSON that bytes are.
+pub(crate) fn json_of(alloc: Global, bytes: &[u8]) -> Result<Json, Outcome>
     ensures { IsSaid result (json_said bytes.now) }
 {
     match Json::read(alloc, bytes) {

@@ -1,55 +1,84 @@
 //! Watches that are polled.
-ghost use Rattle.std.specs.Prelude.{◌≡◌, ◌⊎◌, ⊤, [], Ok, Result, IfErr};
-ghost use Rattle.answered.specs.Answered.{IsLinearized, no_change};
-ghost use Rattle.group_history.specs.declared.refusals.Refusal.{Refusal as Refused};
-ghost use Rattle.group_steps.specs.Missing.{IsMissedOrDry};
+ghost use Rattle.std.specs.Prelude.{◌≡◌, ◌⊎◌, ⊤, [], IfErr, IfOk};
 ghost use Rattle.rebase.specs.Clients.{Stays};
-ghost use Rattle.rebase.specs.Watching.{poll_at, watch_after};
-ghost use Rattle.rebase.specs.declared.watching.Polled.{Polled as PolledReply};
 ghost use Rattle.host_places.specs.Told.{dry, polled_told, tells, told, told_alone};
-ghost use Rattle.host_places.specs.Inside.Keeping.{KeepsWatch};
+ghost use Rattle.host_places.specs.Inside.Keeping.{IsPolled, KeepsWatch};
 
+use crate::changes::Changes;
 use crate::outcomes::Outcome;
 use crate::place::TRIES;
 use crate::printing::print_rows;
-use group_history::{Mutators, Refusal};
+use group_history::{Means, Refusal};
 use rebase::{Arena, Client, Polled, Watch};
+use std::alloc::AllocError;
+use std::mem::replace;
+
+// Tells what was polled; nothing where memory is refused.
+fn tell_polled(reply: Result<Polled, Refusal>, bytes: &mut Vec<u8>) -> Result<Outcome, AllocError>
+    requires { bytes.old.items ≡ [] }
+    ensures told { IfOk result (λ outcome. told outcome bytes.new.items ≡ tells polled_told reply) }
+    ensures lack { IfErr result (λ _. bytes.new.items ≡ []) }
+{
+    match reply {
+        Ok(Polled::New(rows)) => {
+            if let Err(e) = print_rows(rows.as_slice(), bytes) {
+                bytes.clear();
+                return Err(e);
+            }
+            Ok(Outcome::Done)
+        }
+        Ok(Polled::Unchanged) => Ok(Outcome::Nothing),
+        Err(refusal) => Ok(Outcome::Refused(refusal)),
+    }
+}
+
+// Polls a copy of a watch, which is kept where what is new is told.
+fn poll_copy<M: Means + Changes>(
+    client: &mut Client<M, Arena<M>>,
+    watch: &mut Watch<M>,
+    copy: Watch<M>,
+    bytes: &mut Vec<u8>,
+) -> Outcome
+    requires book { watch.old.book ≡ client.old.seat.mark.book }
+    requires copy { copy ≡ watch.old }
+    requires empty { bytes.old.items ≡ [] }
+    ensures polled { IsPolled M.means client.old client.new watch.old watch.new (told result bytes.new.items) }
+    ensures looked { Stays ⊤ client.old client.new }
+{
+    let mut copy = copy;
+    let reply = client.poll(&mut copy, TRIES);
+    match tell_polled(reply, bytes) {
+        Ok(outcome) => {
+            drop(replace(watch, copy));
+            outcome
+        }
+        Err(_) => {
+            drop(copy);
+            Outcome::Refused(Refusal::NoMemory)
+        }
+    }
+}
 
 /// Polls a watch, and tells what is new. Where memory is refused the watch is as it was.
-pub(crate) fn poll_watch<M: Mutators + Drop>(
+pub(crate) fn poll_watch<M: Means + Changes>(
     client: &mut Client<M, Arena<M>>,
     watch: &mut Watch<M>,
     bytes: &mut Vec<u8>,
 ) -> Outcome
     requires book { watch.old.book ≡ client.old.seat.mark.book }
     requires empty { bytes.old.items ≡ [] }
-    ensures polled { ((reply : Result PolledReply Refused)
-        × IsLinearized M.means TRIES client.old.seat.mark client.new.seat.mark reply no_change
-        (λ s. Ok (poll_at M.means watch.old s)) × IfErr reply (IsMissedOrDry ⊤)
-        × (told result bytes.new.items ≡ tells polled_told reply) × (watch.new ≡ watch_after watch.old reply))
-        ⊎ ((told result bytes.new.items ≡ dry) × (watch.new ≡ watch.old)) }
+    ensures polled { IsPolled M.means client.old client.new watch.old watch.new (told result bytes.new.items) }
     ensures looked { Stays ⊤ client.old client.new
         ⊎ ((client.new ≡ client.old) × (told result bytes.new.items ≡ dry) × (watch.new ≡ watch.old)) }
 {
-    let Ok(mut copy) = watch.clone() else {
-        return Outcome::Refused(Refusal::NoMemory);
-    };
-    match client.poll(&mut copy, TRIES) {
-        Ok(Polled::New(rows)) => {
-            if print_rows(rows.as_slice(), bytes).is_err() {
-                bytes.clear();
-                return Outcome::Refused(Refusal::NoMemory);
-            }
-            *watch = copy;
-            Outcome::Done
-        }
-        Ok(Polled::Unchanged) => Outcome::Nothing,
-        Err(refusal) => Outcome::Refused(refusal),
+    match watch.clone() {
+        Ok(copy) => poll_copy(client, watch, copy, bytes),
+        Err(_) => Outcome::Refused(Refusal::NoMemory),
     }
 }
 
 /// Keeps a watch under the next number. Where memory is refused it is not kept.
-pub(crate) fn keep_watch<M: Mutators + Drop>(
+pub(crate) fn keep_watch<M: Means + Changes>(
     watches: &mut Vec<Watch<M>>,
     watch: Watch<M>,
 ) -> Outcome

@@ -1,4 +1,5 @@
 //! What no contract says: that calls succeed, how chunks are shaped, and values from outside.
+mod asked_runs;
 mod asking;
 mod chains;
 mod claims;

@@ -27,6 +27,15 @@ pub(crate) enum What {
     Mutate = 13,
     Watch = 14,
     Poll = 15,
+    AskedName = 16,
+    AskedArgs = 17,
+    DraftGet = 18,
+    DraftHas = 19,
+    DraftScan = 20,
+    DraftPut = 21,
+    DraftDel = 22,
+    Ran = 23,
+    GiveUp = 24,
 }
 
 /// What a call is given: two numbers and two byte strings, of which each call uses some.
@@ -75,6 +84,7 @@ unsafe extern "C" {
         rules: *const u8,
         rules_len: usize,
         slots: u32,
+        own_mutators: u32,
         places: *mut Handle,
         count: usize,
     ) -> i32;
@@ -101,9 +111,9 @@ impl Handle {
         Handle { at: ptr::null_mut(), is_open: 0 }
     }
 
-    /// The places of a group that is opened with the texts of its ID, its profile, its schema and its rules; or what
-    /// the library returned where it is refused.
-    pub(crate) fn open(texts: [&str; 4], slots: u32, count: usize) -> Result<Vec<Handle>, i32> {
+    /// The places of a group that is opened with the texts of its ID, its profile, its schema and its rules, or for
+    /// mutators of the program's own; or what the library returned where it is refused.
+    pub(crate) fn open(texts: [&str; 4], slots: u32, own: bool, count: usize) -> Result<Vec<Handle>, i32> {
         let [group, profile, schema, rules] = texts;
         let mut places: Vec<Handle> = (0..count).map(|_| Handle::closed()).collect();
         // SAFETY: each pointer and length are those of a text, which is only read, and no pointer is NULL; `places` has
@@ -119,6 +129,7 @@ impl Handle {
                 rules.as_ptr(),
                 rules.len(),
                 slots,
+                u32::from(own),
                 places.as_mut_ptr(),
                 count,
             )

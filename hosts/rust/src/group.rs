@@ -20,22 +20,55 @@ pub struct Group<'a> {
     pub slots: u32,
 }
 
-impl Group<'_> {
+impl<'a> Group<'a> {
     /// Opens the group with `N` places, 1 to 256. Refused with `BadUuid`, `BadRules`, `OutOfRange` (slots or places)
     /// and `NoMemory`.
     pub fn open<const N: usize>(&self) -> Result<[Place; N], Refusal> {
-        match self.open_places(N)?.try_into() {
-            Ok(places) => Ok(places),
-            Err(_) => unreachable!("as many places as were asked for"),
-        }
+        Ok(as_many(self.open_places(N)?))
     }
 
     /// Opens the group with so many places. Refused as [`Group::open`].
     pub fn open_places(&self, count: usize) -> Result<Vec<Place>, Refusal> {
+        self.places(false, count)
+    }
+
+    /// The group with mutators of the program's own, and no others: its changes are made by [`Place::mutate_with`] and
+    /// [`Place::end_pull_with`]. It has no rules.
+    pub fn own_mutators(self) -> OwnGroup<'a> {
+        OwnGroup { group: self }
+    }
+
+    fn places(&self, own: bool, count: usize) -> Result<Vec<Place>, Refusal> {
         let texts = [self.id, self.profile, self.schema, self.rules];
-        match Handle::open(texts, self.slots, count) {
+        match Handle::open(texts, self.slots, own, count) {
             Ok(handles) => Ok(handles.into_iter().map(Place::new).collect()),
             Err(returned) => Err(Refusal::of(returned, 0)),
         }
+    }
+}
+
+/// What a client group is opened with whose mutators are the program's own.
+#[derive(Clone, Copy, Debug)]
+pub struct OwnGroup<'a> {
+    group: Group<'a>,
+}
+
+impl OwnGroup<'_> {
+    /// Opens the group with `N` places, 1 to 256. Refused as [`Group::open`], and with `BadRules` where it has rules.
+    pub fn open<const N: usize>(&self) -> Result<[Place; N], Refusal> {
+        Ok(as_many(self.open_places(N)?))
+    }
+
+    /// Opens the group with so many places. Refused as [`OwnGroup::open`].
+    pub fn open_places(&self, count: usize) -> Result<Vec<Place>, Refusal> {
+        self.group.places(true, count)
+    }
+}
+
+/// The places, which are as many as were asked for.
+fn as_many<const N: usize>(places: Vec<Place>) -> [Place; N] {
+    match places.try_into() {
+        Ok(places) => places,
+        Err(_) => unreachable!("as many places as were asked for"),
     }
 }

@@ -47,16 +47,36 @@
 //! }
 //! ```
 //!
+//! Mutators may be the program's own. A change calls them, and each rebase again:
+//!
+//! ```
+//! use giqaymu::{Group, Ran, Refusal};
+//!
+//! # fn main() -> Result<(), Refusal> {
+//! let group = Group { id: "00000000-0000-4000-8000-000000000001", profile: "p1", schema: "s1", rules: "", slots: 4096 };
+//! let [mut anna] = group.own_mutators().open()?;
+//! anna.sit("00000000-0000-4000-8000-00000000000a")?;
+//! let id = anna.mutate_with("rename", r#""milk""#, 1_700_000_000_000, |run, draft| {
+//!     draft.put("todo/x", &run.args)?;
+//!     Ok(Ran::Done)
+//! })?;
+//! assert_eq!((id, anna.get("todo/x")?), (1, Some(&br#""milk""#[..])));
+//! # Ok(())
+//! # }
+//! ```
+//!
 //! Each call needs at most [`STACK`] bytes of its thread's stack.
 
 mod edge;
 mod group;
+mod own;
 mod place;
 mod refusal;
 mod scan;
 
 pub use edge::STACK;
-pub use group::Group;
+pub use group::{Group, OwnGroup};
+pub use own::{Draft, Ran, Reason, Run};
 pub use place::{Ended, Place, Ticket, Watch};
 pub use refusal::{Refusal, Version};
 pub use scan::{Scan, Start};

@@ -1,6 +1,7 @@
 //! A place at a group, and its calls.
 
 use crate::edge::{Given, Handle, Told, What};
+use crate::own::{Draft, Ran, Run, run_all};
 use crate::refusal::Refusal;
 use crate::scan::{Scan, Start};
 use std::sync::atomic::{AtomicU64, Ordering};
@@ -49,9 +50,10 @@ pub enum Ended {
     Same,
 }
 
-/// `GIQ_NONE` and `GIQ_YES`.
+/// `GIQ_NONE`, `GIQ_YES` and `GIQ_ASKED`.
 const NONE: i32 = 1;
 const YES: i32 = 2;
+pub(crate) const ASKED: i32 = 3;
 /// `GIQ_NO_LIMIT`.
 const NO_LIMIT: u64 = u64::MAX;
 
@@ -60,7 +62,12 @@ fn short(number: u64) -> u32 {
     u32::try_from(number).expect("a number of a ticket or of a watch")
 }
 
-fn given_scan<'a>(scan: &Scan<'a>) -> Given<'a> {
+/// A text of the library.
+pub(crate) fn text(bytes: &[u8]) -> String {
+    String::from_utf8_lossy(bytes).into_owned()
+}
+
+pub(crate) fn given_scan<'a>(scan: &Scan<'a>) -> Given<'a> {
     let (kind, start) = match scan.start {
         Start::Any => (0, ""),
         Start::At(key) => (1, key),
@@ -74,7 +81,7 @@ impl Place {
         Place { handle, client: 0 }
     }
 
-    fn call(&mut self, what: What, given: Given<'_>) -> Result<Told<'_>, Refusal> {
+    pub(crate) fn call(&mut self, what: What, given: Given<'_>) -> Result<Told<'_>, Refusal> {
         let told = self.handle.call(what, given);
         if told.returned < 0 {
             return Err(Refusal::of(told.returned, told.code));
@@ -97,17 +104,25 @@ impl Place {
         Ok(())
     }
 
+    pub(crate) fn value(&mut self, what: What, key: &str) -> Result<Option<&[u8]>, Refusal> {
+        let a = key.as_bytes();
+        let told = self.call(what, Given { a, ..Given::default() })?;
+        Ok((told.returned != NONE).then_some(told.bytes))
+    }
+
+    pub(crate) fn is(&mut self, what: What, key: &str) -> Result<bool, Refusal> {
+        let a = key.as_bytes();
+        Ok(self.call(what, Given { a, ..Given::default() })?.returned == YES)
+    }
+
     /// The value at the key.
     pub fn get(&mut self, key: &str) -> Result<Option<&[u8]>, Refusal> {
-        let a = key.as_bytes();
-        let told = self.call(What::Get, Given { a, ..Given::default() })?;
-        Ok((told.returned != NONE).then_some(told.bytes))
+        self.value(What::Get, key)
     }
 
     /// Whether the key is there.
     pub fn has(&mut self, key: &str) -> Result<bool, Refusal> {
-        let a = key.as_bytes();
-        Ok(self.call(What::Has, Given { a, ..Given::default() })?.returned == YES)
+        self.is(What::Has, key)
     }
 
     /// The rows, an array of `[key,value]`, in the order of their keys' bytes.
@@ -162,22 +177,53 @@ impl Place {
 
     /// Ends a pull with the response's body; its ticket is given up, whatever comes. Refused with `NotJson`,
     /// `BadShape`, `NotWhole`, `Overtaken`, `CookieWentBack`, `CookieNotNew`, `IdWentBack`, `StateNotFound`,
-    /// `VersionNotSupported`, `Full`, `Stamps` and `Closed`; with `NoTicket` where another client began the pull.
+    /// `VersionNotSupported`, `Full`, `Stamps` and `Closed`; with `NoTicket` where another client began the pull; with
+    /// `Asks` where a mutation that stays pending is one of the program's own mutators.
     pub fn end_pull(&mut self, ticket: Ticket, response: &[u8]) -> Result<Ended, Refusal> {
+        self.end_pull_with(ticket, response, |_, _| Err(Refusal::Asks))
+    }
+
+    /// Ends a pull as [`Place::end_pull`] does, in a group whose mutators are the program's own: `run` is called for each
+    /// mutation that stays pending, the oldest first, and for all anew where others changed the group first. One whose
+    /// run isn't done stays pending, and changes nothing. Where `run` answers a refusal or panics, the change is given up:
+    /// nothing was changed.
+    pub fn end_pull_with<F>(&mut self, ticket: Ticket, response: &[u8], run: F) -> Result<Ended, Refusal>
+    where
+        F: FnMut(&Run, &mut Draft<'_>) -> Result<Ran, Refusal>,
+    {
         let (m, a) = (self.number_of(&ticket)?, response);
-        let told = self.call(What::EndPull, Given { m, a, ..Given::default() });
-        let ended = told.map(|told| if told.returned == NONE { Ended::Same } else { Ended::Applied });
+        let ended = self.change(What::EndPull, Given { m, a, ..Given::default() }, run);
         // It can be refused for memory at the most: then the ticket is given up when the client leaves.
         let _ = self.forget(ticket);
-        ended
+        ended.map(|(returned, _)| if returned == NONE { Ended::Same } else { Ended::Applied })
     }
 
     /// Runs a mutator on the map, and answers the mutation's id; queries show it at once. `args` is a JSON text of
     /// whole numbers that nests at most 124 deep, `time` is in milliseconds since 1970. Refused with `NotJson`,
-    /// `NotWhole`, `NoMutator`, `Refused` with the mutator's code, `Stale`, `Full`, `Stamps` and `Closed`.
+    /// `NotWhole`, `NoMutator`, `Refused` with the mutator's code, `Stale`, `Full`, `Stamps` and `Closed`; with `Asks` in
+    /// a group whose mutators are the program's own.
     pub fn mutate(&mut self, name: &str, args: &str, time: u64) -> Result<u64, Refusal> {
+        self.mutate_with(name, args, time, |_, _| Err(Refusal::Asks))
+    }
+
+    /// Makes a mutation as [`Place::mutate`] does, in a group whose mutators are the program's own: `run` is the mutator,
+    /// and is called anew where others changed the group first. Where it answers a refusal or panics, the change is given
+    /// up: nothing was changed.
+    pub fn mutate_with<F>(&mut self, name: &str, args: &str, time: u64, run: F) -> Result<u64, Refusal>
+    where
+        F: FnMut(&Run, &mut Draft<'_>) -> Result<Ran, Refusal>,
+    {
         let (n, a, b) = (time, name.as_bytes(), args.as_bytes());
-        Ok(self.call(What::Mutate, Given { m: 0, n, a, b })?.number)
+        Ok(self.change(What::Mutate, Given { m: 0, n, a, b }, run)?.1)
+    }
+
+    /// Makes a change, with the runs that it asks for: what it returned in the end, and its number.
+    fn change<F>(&mut self, what: What, given: Given<'_>, run: F) -> Result<(i32, u64), Refusal>
+    where
+        F: FnMut(&Run, &mut Draft<'_>) -> Result<Ran, Refusal>,
+    {
+        let told = self.call(what, given)?;
+        if told.returned == ASKED { run_all(self, run) } else { Ok((told.returned, told.number)) }
     }
 
     /// Watches rows. Nothing is read.

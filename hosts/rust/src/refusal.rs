@@ -85,10 +85,14 @@ pub enum Refusal {
     BadRules,
     /// A client sits at the place.
     InUse,
+    /// A change asks for a run of one of the program's own mutators.
+    Asks,
     /// No client sits at the place.
     NoClient,
     /// The place is closed.
     NoPlace,
+    /// No change of the place asks for a run.
+    NotAsked,
     /// What this crate doesn't know: the library is a later one.
     Unknown(i32),
 }
@@ -124,8 +128,10 @@ impl Refusal {
             -105 => Refusal::NoWatch,
             -106 => Refusal::BadRules,
             -107 => Refusal::InUse,
+            -108 => Refusal::Asks,
             -109 => Refusal::NoClient,
             -110 => Refusal::NoPlace,
+            -111 => Refusal::NotAsked,
             other => Refusal::Unknown(other),
         }
     }
@@ -161,8 +167,10 @@ impl Refusal {
             Refusal::NoWatch => "the place has no such watch",
             Refusal::BadRules => "the rules are faulty",
             Refusal::InUse => "a client sits at the place",
+            Refusal::Asks => "the change asks for a run of a mutator of the program's own",
             Refusal::NoClient => "no client sits at the place",
             Refusal::NoPlace => "the place is closed",
+            Refusal::NotAsked => "no change of the place asks for a run",
             Refusal::Unknown(_) => "the library answered an unknown number:",
         }
     }

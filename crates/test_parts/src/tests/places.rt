@@ -221,7 +221,7 @@ const ANY_VERSION: &str = r#"{"error":"VersionNotSupported"}"#;
 const NOT_FOUND: &str = r#"{"error":"ClientStateNotFound"}"#;
 
 /// Responses that say nothing; the last one closes the group.
-static RESPONSES: [Row; 15] = [
+static RESPONSES: [Row; 19] = [
     Row(0, BEGIN, 0, 0, "", "", (0, 0, 0), PULL_OF_NULL),
     Row(0, END, 0, 0, HALF, "", (-12, 0, 0), ""),
     Row(0, END, 0, 0, r#"{"cookie":1,"lastMut"#, "", (-10, 0, 0), ""),
@@ -233,7 +233,11 @@ static RESPONSES: [Row; 15] = [
     Row(0, COOKIE, 0, 0, "", "", (0, 0, 0), "null"),
     Row(0, MUTATE, 0, 1, "set", "[", (-10, 0, 0), ""),
     Row(0, MUTATE, 0, 1, "set", "[0.5]", (-12, 0, 0), ""),
-    Row(0, 16, 0, 0, "", "", (-103, 0, 0), ""),
+    Row(0, 16, 0, 0, "", "", (-111, 0, 0), ""),
+    Row(0, 21, 0, 0, "a", "1", (-111, 0, 0), ""),
+    Row(0, 23, 0, 0, "", "", (-111, 0, 0), ""),
+    Row(0, 24, 0, 0, "", "", (-111, 0, 0), ""),
+    Row(0, 25, 0, 0, "", "", (-103, 0, 0), ""),
     Row(0, END, 0, 0, NOT_FOUND, "", (-17, 0, 0), ""),
     Row(1, CLOSED, 0, 0, "", "", (2, 0, 0), ""),
     Row(1, MUTATE, 0, 1, "set", r#"["a",1]"#, (-20, 0, 0), ""),
@@ -385,5 +389,5 @@ fn calls_have_numbers(rt: HostRuntime) {
     for what in SIT..=POLL {
         assert!(rt; Asked::of(what, 0, 0, b"", b"").is_some(), "{what}");
     }
-    assert!(rt; Asked::of(16, 0, 0, b"", b"").is_none());
+    assert!(rt; Asked::of(25, 0, 0, b"", b"").is_none());
 }

@@ -36,8 +36,10 @@ use Rattle.core.specs.contracts.marker.Brand as Brand
 use Rattle.std_heap.specs.contracts.Global as Heap
 use Rattle.std.proofs.raw_atomic.Walks.{proved_at, leaves}
 use Rattle.giqaymu_c.specs.Owned.{marker, spot_row, place_owns, held_owns}
+use Rattle.host_places.specs.declared.changes.PickedMeaning as PickedMeaning
 use Rattle.rule_mutators.specs.declared.mutators.Picked as Picked
-use Rattle.giqaymu_c.specs.Jobs.{Acts, IsFit, rules_meant}
+use Rattle.giqaymu_c.specs.Jobs.{Acts, IsFit, Meant, meant_at, rules_meant}
+use Rattle.giqaymu_c.specs.Own.{runs_mean}
 use Rattle.giqaymu_c.proofs.Values.{opaque, al, Held, ptr_good, marked, marked_good, handle_good, held_in, held_out}
 use Rattle.giqaymu_c.proofs.Values.{handle_in, handle_out, three, three_good, three_in}
 use Rattle.giqaymu_c.specs.contracts.handle.Handle as handle
@@ -87,10 +89,12 @@ act_spec {M} 𝓤 𝓛 𝓜 𝓡 wired =
     let κs = z.0.0 in let qs = z.0.1 in let h = z.0.3.0 in let a = z.0.3.1.0 in let x = z.0.3.1.1.0 in let vs = z.0.4 in
     let Jb : RattleType = Job.the_row (named_lft 1 0 tt κs) in
     let g : Picked.Ghosts marker.Denot = record { rules = rules_meant h.text } in
-    let R : RattleType = spot_row h.text in
+    let m : PickedMeaning.Ghosts marker.Denot = record { meaning = runs_mean h.own } in
+    let meant : Meant = meant_at h.text h.own in
+    let R : RattleType = spot_row h.text h.own in
     let Post : Val → SProp 𝓤 = (walk_of 𝓛 En hs c).post z in
     let Run : List Val → SProp 𝓤 = λ ws. WpFn 𝓤 H 𝓣.C 𝓣.Λ fn ws Post in
-    let Fits : Type 0 = IsFit x (rules_meant h.text) in
+    let Fits : Type 0 = IsFit x meant h.spot in
     qed 𝓛 (((‵ (flft κs.0 qs.0) ⊛ ‵ ftrue) ⊛ ‵ (fsep ((handle.the_row).own_val h vs.0)
     (fsep ((Heap.the_row).own_val a vs.1.0) (fsep (Jb.own_val x vs.1.1.0) ftrue)))) ∷ raw (fact 𝓤 Fits) ∷ []) ∵
     move ! (1 ∷ []) $ heard ! Fits (λ fit. split ! $ split ! $ move ! (2 ∷ []) $ fsplit ! $
@@ -110,8 +114,9 @@ act_spec {M} 𝓤 𝓛 𝓜 𝓡 wired =
     sets ! (of_opd ! (get ! refl)) refl (ptr_good p) $
     sets ! (agg ! (and_then ! (get ! refl) (and_then ! (get ! refl) (no_more !)))) refl typed $
     sets ! (of_opd ! (get ! refl)) refl typed $ sets ! (of_opd ! (get ! refl)) refl fitsJ $
-    let k = triple_of 𝓛 (callee.signature marker g dict glue) (callee.spec marker g dict glue 𝓛 𝓜.mem 𝓡.returns) in
-    let Ce = callee.ended marker g dict glue in
+    let k = triple_of 𝓛 (callee.signature marker g dict m dict glue)
+    (callee.spec marker g dict m dict glue 𝓛 𝓜.mem 𝓡.returns) in
+    let Ce = callee.ended marker g dict m dict glue in
     let d : (Held R).Denot = record { at = p; is_open = n; value = h.spot } in
     let y : k.Ghost = (
       (
@@ -134,14 +139,14 @@ act_spec {M} 𝓤 𝓛 𝓜 𝓡 wired =
     use0 𝓛 (raw (fact 𝓤 ([] ⊑ []))) (fact_i 𝓤 ([] ⊑ []) (emp 𝓤) (⊑_static [])) $ join ! $ move ! (1 ∷ 0 ∷ []) $ join ! $
     use1 𝓛 (raw (k.pre y)) (id⊢ 𝓤 _) $
     calls_at ! (fm 𝓛 𝓜 𝓡) k
-    (met 𝓤 𝓛 𝓜 𝓡 (code.calls-giqaymu_c::spots::act_held 𝓡.env wired) marker marker_laws g dict glue
-    (λ 𝓛' 𝓜' 𝓡' like. record {})
+    (met 𝓤 𝓛 𝓜 𝓡 (code.calls-giqaymu_c::spots::act_held 𝓡.env wired) marker marker_laws g dict m dict glue
+    (λ 𝓛' 𝓜' 𝓡' like. record {}) (λ 𝓛' 𝓜' 𝓡' like. record {})
     (λ 𝓛' 𝓜' 𝓡' like. glues "giqaymu_c::Destruct++none::drop" 𝓡.env
     (code.calls-giqaymu_c::Destruct++none::drop 𝓡.env wired) marker marker_laws M 𝓤 𝓛' 𝓜'
     (within 𝓤 𝓛'.H 𝓜' 𝓡' 𝓡.env)))
     y (and_then ! (get ! refl) (and_then ! (get ! refl) (and_then ! (get ! refl) (no_more !)))) (λ u.
     let Did : (Held R).Denot × (Held R).Denot × (Reply.the_row).Denot
-    → Type 0 = λ r. Acts x (rules_meant h.text) h.spot r.2 r.0.value r.1.value in
+    → Type 0 = λ r. Acts x meant h.spot r.2 r.0.value r.1.value in
     use1 𝓛 (later
     (some (λ (r : (Held R).Denot × (Held R).Denot × (Reply.the_row).Denot).
     (toks ⊛ ‵ ((Tuple (Held R ∷ Held R ∷ Reply.the_row ∷ [])).own_val r (u ∷ []))) ⊛ some
@@ -174,16 +179,18 @@ act_spec {M} 𝓤 𝓛 𝓜 𝓡 wired =
     sets ! (of_opd ! (get ! refl)) refl good₁ $ sets ! (of_opd ! (get ! refl)) refl good₂ $
     sets ! (agg ! (and_then ! (get ! refl) (and_then ! (get ! refl) (and_then ! (get ! refl) (no_more !))))) refl
     (three_good handle.the_row handle.the_row Reply.the_row (marked p₁ n₁) (marked p₂ n₂) tv good₁ good₂ fitsT) $
-    let made₁ : (handle.the_row).Denot = record { at = p₁; is_open = n₁; text = h.text; spot = r.0.value } in
-    let made₂ : (handle.the_row).Denot = record { at = p₂; is_open = n₂; text = h.text; spot = r.1.value } in
-    let Ensured : Type 0 = (made₁.text ≡ h.text) × (made₂.text ≡ h.text)
-    × Acts x (rules_meant h.text) h.spot r.2 made₁.spot made₂.spot in
+    let made₁ : (handle.the_row).Denot =
+    record { at = p₁; is_open = n₁; text = h.text; own = h.own; spot = r.0.value } in
+    let made₂ : (handle.the_row).Denot =
+    record { at = p₂; is_open = n₂; text = h.text; own = h.own; spot = r.1.value } in
+    let Ensured : Type 0 = (made₁.text ≡ h.text) × (made₁.own ≡ h.own) × (made₂.text ≡ h.text)
+    × (made₂.own ≡ h.own) × Acts x meant h.spot r.2 made₁.spot made₂.spot in
     returns ! (look_at ! 0 refl) $ free_all ! refl $ keep ! (2 ∷ 3 ∷ 0 ∷ 4 ∷ []) $
-    use1 𝓛 (‵ (place_owns h.text n₂ p₂ r.1.value)) (id⊢ 𝓤 _) $ handle_in ! p₂ n₂ h.text r.1.value flag₂ $
-    move ! (1 ∷ []) $ use1 𝓛 (‵ (place_owns h.text n₁ p₁ r.0.value)) (id⊢ 𝓤 _) $
-    handle_in ! p₁ n₁ h.text r.0.value flag₁ $
+    use1 𝓛 (‵ (place_owns h.text h.own n₂ p₂ r.1.value)) (id⊢ 𝓤 _) $ handle_in ! p₂ n₂ h.text h.own r.1.value flag₂ $
+    move ! (1 ∷ []) $ use1 𝓛 (‵ (place_owns h.text h.own n₁ p₁ r.0.value)) (id⊢ 𝓤 _) $
+    handle_in ! p₁ n₁ h.text h.own r.0.value flag₁ $
     three_in ! handle.the_row handle.the_row Reply.the_row made₁ made₂ r.2 (marked p₁ n₁) (marked p₂ n₂) tv $
-    use0 𝓛 (raw (fact 𝓤 Ensured)) (fact_i 𝓤 Ensured (emp 𝓤) (refl, refl, did)) $
+    use0 𝓛 (raw (fact 𝓤 Ensured)) (fact_i 𝓤 Ensured (emp 𝓤) (refl, refl, refl, refl, did)) $
     nothing ! $ nothing ! $ nothing ! $ nothing ! $ fjoin ! $ move ! (1 ∷ 0 ∷ []) $ fjoin ! $ move ! (1 ∷ 0 ∷ []) $
     fjoin ! $
     move ! (3 ∷ []) $ split3 ! $ move ! (1 ∷ []) $ drop ! $ join ! $ move ! (0 ∷ 1 ∷ 3 ∷ 2 ∷ []) $

@@ -12,7 +12,6 @@ use denote.Exit.{yes}
 use denote.Signature.{plain}
 use denote.Steps.{nothing}
 use denote.Triple.Walked.{Stays, stay_dropped, walk_of, Goes-dropped}
-use Rattle.std_heap.specs.contracts.Global as Heap
 use Rattle.std.proofs.raw_atomic.Walks.{proved_at, leaves}
 use Rattle.giqaymu_c.proofs.Values.{marked, handle_out, handle_good}
 use Rattle.giqaymu_c.specs.contracts.handle.Handle as handle

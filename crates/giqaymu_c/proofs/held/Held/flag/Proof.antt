@@ -22,11 +22,9 @@ use denote.Signature.{plain}
 use denote.RawPtr.{Ptr}
 use denote.Steps.{nothing}
 use denote.Param.{param, bounded}
-use denote.Param.Laws.{Laws}
 use denote.Triple.Walked.{Stays, stay_dropped, walk_of}
 use Rattle.core.proofs.alloc.Calls.{Goes-blank}
 use Rattle.core.proofs.cell.Inside.{Good}
-use Rattle.std_heap.specs.contracts.Global as Heap
 use Rattle.std.proofs.raw_atomic.Walks.{proved_at, leaves}
 use Rattle.giqaymu_c.specs.Owned.{held_owns}
 use Rattle.giqaymu_c.proofs.Values.{falsely, both, both_good, Held, ptr_good, marked, marked_good, held_in, held_out}

@@ -17,7 +17,6 @@ use denote.Steps.{nothing}
 use denote.Param.{param, bounded}
 use denote.Triple.Walked.{Stays, stay_dropped, walk_of}
 use Rattle.core.proofs.alloc.Calls.{Goes-blank}
-use Rattle.std_heap.specs.contracts.Global as Heap
 use Rattle.std.proofs.raw_atomic.Walks.{proved_at, leaves}
 use Rattle.giqaymu_c.proofs.Values.{Held, marked, marked_good, held_out}
 use Rattle.giqaymu_c.specs.contracts.held.Held.forget.{ended, clauses}

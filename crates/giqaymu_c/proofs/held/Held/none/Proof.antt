@@ -1,5 +1,5 @@
 -- `none` holds nothing.
-use Rattle.std.proofs.Common.{◌≡◌, ◌<◌, List, [], ◌∷◌, None, refl, lit<}
+use Rattle.std.proofs.Common.{◌≡◌, List, [], ◌∷◌, None, refl, lit<}
 use mir.Syntax.{a_type, dnil}
 use mir.Val.{Val}
 use mir.MapTy.{inst_fn}
@@ -17,7 +17,6 @@ use denote.RawPtr.{null_ptr}
 use denote.Steps.{nothing}
 use denote.Param.{param, bounded}
 use denote.Triple.Walked.{Stays, walk_of}
-use Rattle.std_heap.specs.contracts.Global as Heap
 use Rattle.std.proofs.raw_atomic.Walks.{proved_at, leaves}
 use Rattle.giqaymu_c.specs.Owned.{held_owns}
 use Rattle.giqaymu_c.proofs.Values.{Held, marked, marked_good, held_in}

@@ -1,5 +1,5 @@
 -- `of_parts` moves the pointer, and what the parts own goes with it.
-use Rattle.std.proofs.Common.{◌≡◌, ◌<◌, List, [], ◌∷◌, ◌++◌, Some, refl, sym, subst, lit<}
+use Rattle.std.proofs.Common.{◌≡◌, List, [], ◌∷◌, ◌++◌, Some, refl, sym, subst, lit<}
 use mir.Syntax.{a_type, dnil}
 use mir.Val.{Val, vptr}
 use mir.MapTy.{inst_fn}
@@ -20,7 +20,6 @@ use denote.Steps.{nothing}
 use denote.Param.{param, bounded}
 use denote.Triple.Walked.{Stays, stay_dropped, walk_of}
 use Rattle.core.proofs.alloc.Calls.{Goes-blank}
-use Rattle.std_heap.specs.contracts.Global as Heap
 use Rattle.std.proofs.raw_atomic.Walks.{proved_at, leaves}
 use Rattle.giqaymu_c.specs.Owned.{held_owns}
 use Rattle.giqaymu_c.proofs.Values.{both, Held, Parts, marked, marked_good, held_in, parts_good, parts_out}

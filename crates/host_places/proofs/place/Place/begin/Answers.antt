@@ -1,9 +1,10 @@
+use Rattle.std.proofs.Common.{refl}
 use Rattle.host_places.proofs.Keeping.{begun_told}
 use Rattle.host_places.proofs.place.Place.begin.Goals as goal
 
 pub returns : goal.returns
 returns g c =
-    let e = c.begin_pull-reply.ensures in
-    begun_told g.M.Means.means _ c.args.self.now c.in-Some.client c.begin_pull-reply.new.self
+    let here = rw c.in-Client.is at c.self.view_is in let e = c.begin_pull-reply.ensures in
+    begun_told g.M.Means.means _ c.args.self.now c.in-Client.client c.begin_pull-reply.new.self
     c.begin_pull-reply.result _
-    c.keep_reply.new.tickets.items c.self.view_is c.in-Some.is e.answer e.err e.stays c.keep_reply.ensures
+    c.keep_reply.new.tickets.items here refl e.answer e.err e.stays c.keep_reply.ensures

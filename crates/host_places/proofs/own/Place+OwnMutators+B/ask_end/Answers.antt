@@ -1,0 +1,47 @@
+use Rattle.std.proofs.Common.{◌≡◌, Ok}
+use Rattle.std.specs.Prelude.{⊤}
+use Rattle.group_history.specs.declared.changes.Change.TheVariants.{Pulled}
+use Rattle.group_history.specs.declared.responses.Response.TheVariants as response
+use Rattle.group_history.specs.Pull.{Pull}
+use Rattle.group_steps.specs.Missing.{map_ok}
+use Rattle.pull_patch.specs.Grammar.{answer_to}
+use Rattle.rebase.specs.Replies.{reply_seen}
+use Rattle.rebase.specs.Running.{EndsPull, IsAsked, IsFirst, IsUnwritten, UnderWay}
+use Rattle.host_places.specs.declared.faults.Fault.TheVariants as fault
+use Rattle.host_places.specs.Answers.{At, tries}
+use Rattle.host_places.specs.Drafts.{AsksToEnd}
+use Rattle.host_places.specs.Places.{ticket_at}
+use Rattle.host_places.specs.Told.{told_alone}
+use Rattle.host_places.proofs.Asking.{step_at, stood, tells_all}
+use Rattle.host_places.proofs.Moving.{by_client, ticket_kept}
+use Rattle.host_places.proofs.Telling.{at_some}
+use Rattle.host_places.proofs.own.Place+OwnMutators+B.ask_end.Goals as goal
+
+pub go_on-requires-after_bounds : goal.go_on-requires-after_bounds
+go_on-requires-after_bounds g c κs within =
+    let means = g.B.PickedMeaning.meaning in let client = c.in-Client.client in
+    let cookie = c.in-Some.ticket.now.cookie in let body = c.args.body.now in
+    step_at means c.take.new.self.group client c.ask_end_pull-step.result
+    (λ asking. (r : Pull) × (answer_to body ≡ Ok (response.Ok r)) × IsAsked means ⊤ tries client (Pulled cookie r) asking)
+    (λ next reply. EndsPull means ⊤ tries client next cookie body (map_ok reply_seen reply)) c.in-Client.ensures.fits.1
+    (λ a is. is.2.began) (λ next reply ends. ends.acts) c.ask_end_pull-step.ensures.told
+
+pub returns : goal.returns
+returns g c =
+    let means = g.B.PickedMeaning.meaning in let client = c.in-Client.client in let taken = c.in-Client.ensures in
+    let kept = c.in-Some.ticket.now in let body = c.args.body.now in let n = c.args.number in
+    let b = c.args.self.now in let step = c.ask_end_pull-step in let new = c.go_on.new.self in
+    let t = told_alone c.go_on.result in
+    let asks : UnderWay → Type 0 = λ asking. (r : Pull) × (answer_to body ≡ Ok (response.Ok r))
+    × IsAsked means ⊤ tries client (Pulled kept.cookie r) asking in
+    by_client (λ client b. At (ticket_at b.tickets n) fault.NoTicket (λ kept. AsksToEnd means client kept body) b)
+    client b new t taken.client
+    (at_some (ticket_at b.tickets n) fault.NoTicket (λ kept. AsksToEnd means client kept body) kept b t new
+    (ticket_kept _ c.take.new.self b c.deref.result.now n kept c.in-Some.ensures c.deref.ensures.value c.self.view_is
+    taken.left)
+    (stood step.result (λ a. asks a × IsFirst a × IsUnwritten a)
+    (λ next reply. EndsPull means ⊤ tries client next kept.cookie body reply) b c.take.new.self new t taken.seat
+    taken.left
+    (tells_all step.result asks IsFirst IsUnwritten
+    (λ next reply. EndsPull means ⊤ tries client next kept.cookie body (map_ok reply_seen reply)) step.ensures.told
+    step.ensures.first step.ensures.fresh) c.go_on.ensures))

@@ -1,0 +1,30 @@
+use Rattle.std.proofs.Common.{inr, refl, sym}
+use Rattle.std.specs.FinMap as finite
+use Rattle.group_history.specs.Map.{Entries}
+use Rattle.host_places.specs.Told.{told_alone}
+use Rattle.host_places.proofs.Asking.{begun_written, written_told}
+use Rattle.host_places.proofs.Telling.{by_ok}
+use Rattle.host_places.proofs.own.Place+OwnMutators+B.draft_put.Goals as goal
+
+pub invariant_of-self-2 : goal.invariant_of-self-2
+invariant_of-self-2 g c =
+    let was = rw c.in-Asking.is at c.self.invariant in
+    let change : Entries → Entries = λ m. finite.insert m c.in-Ok.key.now c.in-Ok-json_of.value in (
+      tt,
+      tt,
+      (
+        refl,
+        begun_written g.B.PickedMeaning.meaning _ change c.in-Asking.asking c.put_drafted.new.asking
+            (told_alone c.put_drafted.result) c.put_drafted.ensures was.2.1,
+      ),
+      c.self.invariant.3,
+    )
+
+pub returns : goal.returns
+returns g c =
+    let here = rw c.in-Asking.is at c.self.view_is in
+    let change : Entries → Entries = λ m. finite.insert m c.in-Ok.key.now c.in-Ok-json_of.value in
+    inr (by_ok _ _ c.in-Ok.key.now _ _ _ (sym c.in-Ok.ensures)
+    (by_ok _ _ c.in-Ok-json_of.value _ _ _ c.in-Ok-json_of.ensures
+    (written_told change _ c.args.self.now c.in-Asking.asking c.put_drafted.new.asking
+    (told_alone c.put_drafted.result) here refl c.put_drafted.ensures)))

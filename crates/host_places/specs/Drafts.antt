@@ -1,0 +1,152 @@
+-- What each call may tell at a place whose change asks for a run, and how it leaves the place.
+--
+-- The host reads and writes the run's map, and says how the run ended; then the change goes on: the next run is asked
+-- for, or the change ends, and tells what it would have told at once. All else is refused there, but that the client
+-- may leave, which gives the change up.
+use Rattle.std.specs.Prelude.{ℕ, ◌≡◌, ◌⊎◌, ◌+◌, Result, IfErr, IfOk, ⊤}
+use Rattle.std.specs.FinMap as finite
+use Rattle.group_history.specs.declared.refusals.Refusal.{Refusal}
+use Rattle.group_history.specs.declared.changes.Change.{Change}
+use Rattle.group_history.specs.declared.changes.Change.TheVariants.{Mutated}
+use Rattle.group_history.specs.declared.mutators.Ran.{Ran}
+use Rattle.group_history.specs.Map.{Bytes, Entries}
+use Rattle.group_history.specs.Meaning.{Meanings}
+use Rattle.group_history.specs.Scans.{rows_of}
+use Rattle.group_history.specs.State.{made}
+use Rattle.commit_graph.specs.Seats.{HasLooked, Seated}
+use Rattle.group_steps.specs.Missing.{IsMissedOrDry}
+use Rattle.rebase.specs.Clients.{ClientState}
+use Rattle.rebase.specs.Replies.{Replied}
+use Rattle.rebase.specs.Running.{EndsCall, EndsPull, UnderWay}
+use Rattle.rebase.specs.declared.tickets.Ticket.{Ticket}
+use Rattle.host_places.specs.declared.asked.Asked.{Asked}
+use Rattle.host_places.specs.declared.asked.Asked.TheVariants as asked
+use Rattle.host_places.specs.declared.faults.Fault.TheVariants as fault
+use Rattle.host_places.specs.declared.outcomes.Outcome.TheVariants as outcome
+use Rattle.host_places.specs.Answers.{At, By, Rule, Tells, tries}
+use Rattle.host_places.specs.Asking.{json_said, ran_said, scan_said, text_said}
+use Rattle.host_places.specs.Places.{PlaceState, back_at, free_place, with_asking}
+use Rattle.host_places.specs.Runs.{AsksAtEnd, AsksFor, AsksNext, EndsRuns, GaveUp, IsRunTold}
+use Rattle.host_places.specs.Told.{Told, bytes_told, is_told, named_told, replied_told, rows_told, tells, told_alone}
+use Rattle.host_places.specs.Told.{value_told}
+
+-- ---- changes that may ask for a run
+
+-- A run is asked for: the place has it, and what the client keeps stays.
+pub record AsksRun (is : UnderWay → Type 0) (before : PlaceState) (t : Told) (after : PlaceState) : Type 0 where
+  pub asking : UnderWay
+  pub asked : is asking
+  pub told : t ≡ told_alone outcome.Asked
+  pub left : after ≡ with_asking asking before
+
+-- The change ended, and what it came to is told.
+pub record Replies (ends : ClientState → Result Replied Refusal → Type 0) (before : PlaceState) (t : Told)
+    (after : PlaceState) : Type 0 where
+  pub client : ClientState
+  pub reply : Result Replied Refusal
+  pub ended : ends client reply
+  pub told : t ≡ tells replied_told reply
+  pub left : after ≡ back_at client before
+
+-- the mutation that a client makes next
+abbrev pub mutation_of : ClientState → Bytes → Bytes → ℕ → Change
+mutation_of client name args time = Mutated (made client.id (client.last + 1) name args time)
+
+-- a mutation is made: its run is asked for; or the call ends before
+abbrev pub AsksToMutate : Meanings → ClientState → Bytes → Bytes → ℕ → Rule
+AsksToMutate means client name args time before t after =
+    AsksRun (AsksFor means client (mutation_of client name args time)) before t after
+    ⊎ Replies (λ next reply. EndsCall means ⊤ tries client next (mutation_of client name args time) reply)
+    before t after
+
+-- a pull is ended with the bytes of a response, and its ticket stays: the first run of what stays pending is asked for;
+-- or the call ends, as where nothing does
+abbrev pub AsksToEnd : Meanings → ClientState → Ticket → Bytes → Rule
+AsksToEnd means client kept body before t after =
+    AsksRun (AsksAtEnd means client kept.cookie body) before t after
+    ⊎ Replies (λ next reply. EndsPull means ⊤ tries client next kept.cookie body reply) before t after
+
+-- the run that is asked for there
+abbrev pub ByRun : (UnderWay → Rule) → Rule
+ByRun rule before = At before.asking fault.NotAsked rule before
+
+-- ---- the run, and its map
+
+-- this is told, and the place is as it was
+abbrev pub TellsThis : Told → Rule
+TellsThis this before t after = (t ≡ this) × (after ≡ before)
+
+-- The run's map is read, and the reply is right of it; it is told.
+pub record ReadsMap {X : Type 0} (tell : X → Told) (right : Entries → X) (asking : UnderWay) (t : Told) : Type 0 where
+  pub reply : Result X Refusal
+  pub answer : IfOk reply (λ x. x ≡ right asking.map)
+  pub refused : IfErr reply (IsMissedOrDry ⊤)
+  pub told : t ≡ tells tell reply
+
+abbrev pub ReadsDraft : {X : Type 0} → (X → Told) → (Entries → X) → UnderWay → Rule
+ReadsDraft tell right asking before t after = ReadsMap tell right asking t × (after ≡ before)
+
+-- The run's map is changed so, and nothing else of the change; or that is refused, and the map is as it was.
+abbrev pub WritesMap : (Entries → Entries) → UnderWay → Told → UnderWay → Type 0
+WritesMap change asking t next = ((t ≡ told_alone outcome.Done) × (next ≡ record asking { map = change asking.map }))
+    ⊎ ((e : Refusal) × IsMissedOrDry ⊤ e × (t ≡ told_alone (outcome.Refused e)) × (next ≡ asking))
+
+abbrev pub WritesDraft : (Entries → Entries) → UnderWay → Rule
+WritesDraft change asking before t after = (next : UnderWay) × WritesMap change asking t next
+    × (after ≡ with_asking next before)
+
+-- ---- the end of a run
+
+-- The next run is asked for, or the change ended.
+abbrev pub GoesOn : Meanings → Ran → UnderWay → Rule
+GoesOn means ran asking before t after = AsksRun (AsksNext means asking ran) before t after
+    ⊎ Replies (EndsRuns means asking) before t after
+
+-- The change is given up, and its client sits there.
+pub record GivesUp (means : Meanings) (asking : UnderWay) (before : PlaceState) (t : Told)
+    (after : PlaceState) : Type 0 where
+  pub client : ClientState
+  pub gave : GaveUp means asking client
+  pub told : t ≡ told_alone outcome.Done
+  pub left : after ≡ back_at client before
+
+-- It is given up, and its client leaves; the client's tickets and watches are given up.
+pub record LeavesAsked (means : Meanings) (asking : UnderWay) (before : PlaceState) (t : Told)
+    (after : PlaceState) : Type 0 where
+  pub client : ClientState
+  pub gave : GaveUp means asking client
+  pub seat : Seated
+  pub looked : HasLooked ⊤ client.seat seat
+  pub mark : seat.mark ≡ client.seat.mark
+  pub told : t ≡ told_alone outcome.Done
+  pub left : after ≡ free_place before.group seat
+
+-- what has to hold of a call: where it tells that a run has ended, the run is one of the group's meaning
+abbrev pub HasRunAsMeant : Meanings → PlaceState → Asked → Type 0
+HasRunAsMeant means place (asked.Ran kind code) = IsRunTold means place.asking (ran_said kind code)
+HasRunAsMeant means place other = ⊤
+
+-- ---- any call, where a run is asked for
+
+-- what is asked, and its map
+abbrev pub AnswersDraft : Asked → Rule
+AnswersDraft asked.AskedName before = ByRun (λ a. TellsThis (named_told a.mutation)) before
+AnswersDraft asked.AskedArgs before = ByRun (λ a. TellsThis (bytes_told a.mutation.args)) before
+AnswersDraft (asked.DraftGet key) before = By (text_said key.now) (λ k. ByRun
+    (ReadsDraft value_told (λ m. finite.get m k))) before
+AnswersDraft (asked.DraftHas key) before = By (text_said key.now) (λ k. ByRun
+    (ReadsDraft is_told (λ m. finite.contains_key m k))) before
+AnswersDraft (asked.DraftScan r) before = By (scan_said r.prefix.now r.kind r.start.now r.limit)
+    (λ scan. ByRun (ReadsDraft rows_told (rows_of scan))) before
+AnswersDraft (asked.DraftPut key value) before = By (text_said key.now) (λ k. By (json_said value.now)
+    (λ json. ByRun (WritesDraft (λ m. finite.insert m k json)))) before
+AnswersDraft (asked.DraftDel key) before = By (text_said key.now) (λ k. ByRun
+    (WritesDraft (λ m. finite.remove m k))) before
+AnswersDraft other before = Tells (outcome.Faulty fault.Asks) before
+
+-- and how it ends
+abbrev pub AnswersAsked : Meanings → Asked → Rule
+AnswersAsked means asked.Leave before = ByRun (LeavesAsked means) before
+AnswersAsked means (asked.Ran kind code) before = By (ran_said kind code) (λ ran. ByRun (GoesOn means ran)) before
+AnswersAsked means asked.GiveUp before = ByRun (GivesUp means) before
+AnswersAsked means other before = AnswersDraft other before

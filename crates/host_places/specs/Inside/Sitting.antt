@@ -1,0 +1,53 @@
+-- Who is taken from a place and put there in a call.
+use Rattle.std.specs.Prelude.{◌≡◌, Bool, true, None, Some, IfSome, ⊤}
+use Rattle.group_history.specs.Meaning.{Meanings}
+use Rattle.commit_graph.specs.Seats.{HasLooked, IsSeatOf, Seated}
+use Rattle.group_steps.specs.Missing.{map_ok}
+use Rattle.rebase.specs.declared.asking.Asked.{Asked}
+use Rattle.rebase.specs.Asked.{Tells}
+use Rattle.rebase.specs.Clients.{ClientState, Grouped}
+use Rattle.rebase.specs.Replies.{reply_seen}
+use Rattle.host_places.specs.declared.outcomes.Outcome.TheVariants.{Asked as AsksRun}
+use Rattle.host_places.specs.declared.sitting.Sitting.{Sitting}
+use Rattle.host_places.specs.Places.{PlaceState, free_place}
+use Rattle.host_places.specs.Runs.{IsBegunAt}
+use Rattle.host_places.specs.Sitting.{asking_of, client_of, seat_of}
+use Rattle.host_places.specs.Told.{Told, replied_told, tells, told_alone}
+
+-- the client is one of this group, on a seat of it
+abbrev pub IsAt : Grouped → ClientState → Type 0
+IsAt group client = (client.group ≡ group) × IsSeatOf group.group client.seat
+
+-- who sits there is of this group
+abbrev pub CanSit : Bool → Meanings → Grouped → {M : Type 0} → Sitting M → Type 0
+CanSit asks means group sitting = IfSome (seat_of sitting) (IsSeatOf group.group)
+    × IfSome (client_of sitting) (IsAt group)
+    × IfSome (asking_of sitting) (λ a. (asks ≡ true) × IsBegunAt means group a)
+
+abbrev pub with_sitting : {M : Type 0} → Sitting M → PlaceState → PlaceState
+with_sitting sitting p = record p { seat = seat_of sitting; client = client_of sitting; asking = asking_of sitting }
+
+-- who sat there was taken
+pub record IsTaken (asks : Bool) (means : Meanings) {M : Type 0} (sitting : Sitting M) (old new : PlaceState)
+    : Type 0 where
+  pub seat : seat_of sitting ≡ old.seat
+  pub client : client_of sitting ≡ old.client
+  pub asking : asking_of sitting ≡ old.asking
+  pub fits : CanSit asks means new.group sitting
+  pub left : new ≡ record old { seat = None; client = None; asking = None }
+
+-- the client left, and its tickets and watches are given up
+abbrev pub IsLeft : ClientState → PlaceState → PlaceState → Type 0
+IsLeft client old new = (seat : Seated) × HasLooked ⊤ client.seat seat × (seat.mark ≡ client.seat.mark)
+    × (new ≡ free_place old.group seat)
+
+-- what a change came to is of this group
+abbrev pub IsStepAt : Meanings → Grouped → {M S T : Type 0} → Asked M S T → Type 0
+IsStepAt means group step = Tells step (IsBegunAt means group) (λ c reply. IsAt group c)
+
+-- it is told, and the place, from which the client was taken, has it
+abbrev pub Stands : {M S T : Type 0} → Asked M S T → PlaceState → Told → PlaceState → Type 0
+Stands step old t new = Tells step
+    (λ a. (t ≡ told_alone AsksRun) × (new ≡ record old { seat = None; client = None; asking = Some a }))
+    (λ c reply. (t ≡ tells replied_told (map_ok reply_seen reply))
+    × (new ≡ record old { seat = None; client = Some c; asking = None }))

@@ -1,0 +1,68 @@
+//! How the changes of a group are made: at once, or by runs that they ask their host for.
+//!
+//! Mutators that are code or data are run by the call itself. A host's own mutators are not: their meaning is named by
+//! a type parameter, and that the host's runs are those of that meaning is the premise of each run that it tells of.
+ghost use Rattle.std.specs.Prelude.{◌≡◌, Bool, true, false, refl};
+ghost use Rattle.group_history.specs.Meaning.{Meanings, unknown};
+
+use group_history::Means;
+use rule_mutators::{Picked, RuleMutators};
+use script_mutators::ScriptMutators;
+use std::marker::{Brand, PhantomData};
+
+/// Mutators of a group at whose places hosts sit.
+pub trait Changes: Sync + Drop {
+    /// Whether a change asks its host for runs.
+    ghost asks: { Bool };
+}
+
+/// Mutators whose changes ask for no run.
+pub trait AtOnce: Changes {
+    ghost never: { Self.asks ≡ false };
+}
+
+impl Changes for ScriptMutators {
+    ghost asks = { false };
+}
+
+impl AtOnce for ScriptMutators {
+    ghost never = { refl };
+}
+
+impl<B: Picked + Sync + Drop> Changes for RuleMutators<B> {
+    ghost asks = { false };
+}
+
+impl<B: Picked + Sync + Drop> AtOnce for RuleMutators<B> {
+    ghost never = { refl };
+}
+
+/// Names a meaning of mutators in a type, for contracts alone.
+pub trait PickedMeaning {
+    ghost meaning: { Meanings };
+}
+
+impl PickedMeaning for Brand {
+    ghost meaning = { λ name args why map. unknown };
+}
+
+/// Mutators of the host's own: there is no code here, and what they mean is what `B` names.
+#[derive(Drop)]
+pub struct OwnMutators<B: PickedMeaning> {
+    of: PhantomData<B>,
+}
+
+impl<B: PickedMeaning> OwnMutators<B> {
+    /// Mutators that the host runs.
+    pub fn new() -> OwnMutators<B> {
+        OwnMutators { of: PhantomData }
+    }
+}
+
+impl<B: PickedMeaning> Means for OwnMutators<B> {
+    ghost means = { B.meaning };
+}
+
+impl<B: PickedMeaning + Sync + Drop> Changes for OwnMutators<B> {
+    ghost asks = { true };
+}
