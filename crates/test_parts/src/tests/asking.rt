@@ -17,7 +17,7 @@ use std::prelude::*;
 struct Moves;
 
 impl Means for Moves {
-    ghost use Rattle.std.specs.Coded.{codes};
+    ghost use Rattle.std.specs.Prelude.{codes};
     ghost use Rattle.std.specs.FinMap as finite;
     ghost use Rattle.group_history.specs.Meaning.{done};
 
