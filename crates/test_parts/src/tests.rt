@@ -1,6 +1,7 @@
 //! What no contract says: that calls succeed, how chunks are shaped, and values from outside.
 mod asked_runs;
 mod asking;
+mod calls;
 mod chains;
 mod claims;
 mod drafts;

@@ -1,6 +1,10 @@
 //! Of places whose mutators are the host's own: each run that a change asks for, and what it tells.
 ghost use Rattle.group_history.specs.Meaning.{done};
 
+use crate::tests::calls::{
+    ASKED_ARGS, ASKED_NAME, DRAFT_DEL, DRAFT_GET, DRAFT_HAS, DRAFT_PUT, DRAFT_SCAN, GET, GIVE_UP,
+    LEAVE, MUTATE, PENDING, RAN,
+};
 use host_places::{Asked, Desk, Named, Opening, Outcome, OwnMutators, PickedMeaning, open_places};
 use std::alloc::Global;
 use std::marker::Brand;
@@ -16,32 +20,6 @@ const HOUSE: Opening<'static> = Opening {
 };
 
 const A: &str = "00000000-0000-4000-8000-00000000000a";
-
-const LEAVE: u32 = 1;
-
-const GET: u32 = 2;
-
-const PENDING: u32 = 5;
-
-const MUTATE: u32 = 13;
-
-const ASKED_NAME: u32 = 16;
-
-const ASKED_ARGS: u32 = 17;
-
-const DRAFT_GET: u32 = 18;
-
-const DRAFT_HAS: u32 = 19;
-
-const DRAFT_SCAN: u32 = 20;
-
-const DRAFT_PUT: u32 = 21;
-
-const DRAFT_DEL: u32 = 22;
-
-const RAN: u32 = 23;
-
-const GIVE_UP: u32 = 24;
 
 const ALL: u64 = u64::MAX;
 

@@ -1,4 +1,8 @@
 //! Of places: each call of a host by its numbers and bytes, and what it tells.
+use crate::tests::calls::{
+    BEGIN, CLOSED, COOKIE, END, FORGET, GET, GIVE_UP, HAS, LEAVE, MUTATE, PENDING, POLL, PUSH,
+    REFRESH, SCAN, SIT, WATCH,
+};
 use host_places::{Asked, Desk, Fault, Named, Opening, Outcome, Range, open_places};
 use script_mutators::ScriptMutators;
 use std::alloc::Global;
@@ -17,38 +21,6 @@ const HOUSE: Opening<'static> = Opening {
 const A: &str = "00000000-0000-4000-8000-00000000000a";
 
 const B: &str = "00000000-0000-4000-8000-00000000000b";
-
-const SIT: u32 = 0;
-
-const LEAVE: u32 = 1;
-
-const GET: u32 = 2;
-
-const HAS: u32 = 3;
-
-const SCAN: u32 = 4;
-
-const PENDING: u32 = 5;
-
-const COOKIE: u32 = 6;
-
-const CLOSED: u32 = 7;
-
-const REFRESH: u32 = 8;
-
-const PUSH: u32 = 9;
-
-const BEGIN: u32 = 10;
-
-const FORGET: u32 = 11;
-
-const END: u32 = 12;
-
-const MUTATE: u32 = 13;
-
-const WATCH: u32 = 14;
-
-const POLL: u32 = 15;
 
 const ALL: u64 = u64::MAX;
 
@@ -386,7 +358,7 @@ fn calls_by_their_names(rt: HostRuntime) -> Result<(), Fail> {
 
 #[test]
 fn calls_have_numbers(rt: HostRuntime) {
-    for what in SIT..=POLL {
+    for what in SIT..=GIVE_UP {
         assert!(rt; Asked::of(what, 0, 0, b"", b"").is_some(), "{what}");
     }
     assert!(rt; Asked::of(25, 0, 0, b"", b"").is_none());
