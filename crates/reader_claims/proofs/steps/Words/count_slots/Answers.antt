@@ -46,3 +46,6 @@ loop-slot-preserved c =
           (first_reserved c.args.self.now.sizes) i c.loop-slot.counts old.counts) refl here c.of_word.ensures.word
           c.add_slot.ensures;
     }
+
+pub returns-clause-counts : goal.returns-clause-counts
+returns-clause-counts c = search rules
