@@ -1,3 +1,9 @@
+use Rattle.std.proofs.Common.{subst}
+use Rattle.answered.specs.Answered.{IsLinearized}
+use Rattle.group_steps.specs.Changing.{is_made}
+use Rattle.group_steps.specs.Missing.{map_ok}
+use Rattle.group_steps.specs.Proposing.{asked_reply, change_asked}
+use Rattle.rebase.specs.Clients.{ClientState}
 use Rattle.rebase.proofs.Keeping.{keeps_later}
 use Rattle.rebase.proofs.client.Client.change.Goals as goal
 
@@ -8,3 +14,10 @@ invariant_of-self g c =
           (λ r. (e.idle r).1) c.self.invariant.0,
       λ r no. absurd (cc no),
     )
+
+pub returns-clause-answer : goal.returns-clause-answer
+returns-clause-answer g c =
+    let means = g.M.Means.means in let change = c.args.change in
+    subst (λ (before : ClientState). IsLinearized means c.args.tries before.seat.mark c.make_change-made.new.seat.mark
+    (map_ok is_made c.make_change-made.result) (change_asked change) (λ s. asked_reply means s before.last change))
+    c.self.view_is c.make_change-made.ensures.answer
