@@ -2,7 +2,7 @@
 -- Read Map, Meaning, State, Mutating, Pulling and Record in this order; Json, Cookies, Pull, Scans and Queries where
 -- these cite them. Laws and Examples hold them against what one expects. Ids: pending ids follow the confirmed one.
 -- Then nodes: Refs, Rows, Naming, Folds, Spelling (what chunks and commits spell). The rest are words of contracts:
--- Answers, Ran, Stops, Orders, TextMap.
+-- Answers, Ran, Updating, Stops, Orders, TextMap.
 pub mod Map
 pub mod Meaning
 pub mod Json
@@ -24,6 +24,7 @@ pub mod Folds
 pub mod Spelling
 pub mod Answers
 pub mod Ran
+pub mod Updating
 pub mod Stops
 pub mod Orders
 pub mod TextMap

@@ -48,6 +48,7 @@ mod scans;
 mod steps;
 mod text_map;
 mod texts;
+mod updating;
 
 pub use changes::{Change, Reply};
 pub use confirmed::ConfirmedIds;
@@ -55,7 +56,7 @@ pub use cookies::{Cookie, Order, cookie_cmp};
 pub use json::{Json, is_whole, nests_within, read_value};
 pub use laws::{record_laws, worked_examples};
 pub use mutations::{Mutation, Reason};
-pub use mutators::{Means, Mutators, Ran, Stop, WriteView};
+pub use mutators::{Means, Mutators, Ran, Stop, Update, WriteView};
 pub use nodes::{
     BoxedCommit, Child, Chunk, Commit, CommitChange, CommitKind, Inner, Keys, Leaf, Node, Snapshot,
     Successor,
@@ -68,3 +69,4 @@ pub use scans::{Scan, Start};
 pub use steps::{apply_patch, is_going_back, is_saying_nothing, keep_unconfirmed, overwrite};
 pub use text_map::TextMap;
 pub use texts::{SearchKey, Text};
+pub use updating::update;

@@ -58,6 +58,15 @@ pub enum Ran {
     Refused(u32),
 }
 
+/// What a mutator makes of the value at a key.
+#[derive(Drop)]
+pub enum Update {
+    /// The key has this value then.
+    Put(Json),
+    /// The mutator refuses, with a code of its own, and nothing is put.
+    Refuse(u32),
+}
+
 /// A map that can be read and written (Replicache, `WriteTransaction`). A call that stops leaves it as it was.
 pub trait WriteView {
     /// What it shows.

@@ -3,10 +3,8 @@
 //! Each takes a JSON array as its arguments, and refuses with a code where they are wrong or where the
 //! value at the key doesn't suit. `tag` alone looks at the reason. What each means is a definition in
 //! `specs/Mutators`, and the clause `ran` of its function says that it is run as that, over any view.
-ghost use Rattle.std.specs.Prelude.{◌≡◌, ◌≤◌, ◌⊎◌, false, codes, Some, IfOk, IfErr, OnOk};
+ghost use Rattle.std.specs.Prelude.{◌≡◌, ◌≤◌, false, codes, Some, IfOk, IfErr};
 ghost use Rattle.group_history.specs.Map.{same_text};
-ghost use Rattle.std.specs.Fmt.{signed_decimal};
-ghost use Rattle.std.specs.FinMap as finite;
 ghost use Rattle.serde_json.specs.Data.{depth};
 ghost use Rattle.serde_json.specs.Written.{has_float};
 ghost use Rattle.group_history.specs.Ran.{RunsAs};
@@ -14,13 +12,14 @@ ghost use Rattle.group_history.specs.Stops.{MayStop};
 ghost use Rattle.group_history.specs.declared.mutators.Stop.TheVariants.{NoMemory};
 ghost use Rattle.script_mutators.specs.Mutators as spec;
 ghost use Rattle.script_mutators.specs.Inside.Arguments.{args_value};
+ghost use Rattle.script_mutators.specs.Inside.Mutators as inside;
 ghost use Rattle.script_mutators.specs.Inside.Mutators.{meaning_at};
 
 use crate::arguments::{
     Args, args_of, json_of, text_alone, text_and_number, text_and_text, text_and_value,
 };
 use crate::values::{decimal, number_in, quoted, text_there};
-use group_history::{Json, Means, Mutators, Ran, Reason, Stop, WriteView};
+use group_history::{Json, Means, Mutators, Ran, Reason, Stop, Update, WriteView, update};
 use std::alloc::Global;
 
 /// The mutators of scripts: `set`, `del`, `incr`, `append` and `tag` (`docs/SCRIPT.md`). Any other name is unknown.
@@ -132,7 +131,7 @@ fn set<V: WriteView>(alloc: Global, args: &Args<'_>, view: &mut V) -> Result<Ran
 }
 
 /// Raises the number at the key, which has to be there.
-#[tactic(auto, unfolding(crate::specs::Mutators::incr_means))]
+#[tactic(auto, unfolding(crate::specs::Mutators::incr_means, crate::specs::Inside::Mutators::raised))]
 fn incr<V: WriteView>(alloc: Global, args: &Args<'_>, view: &mut V) -> Result<Ran, Stop>
     ensures ran { IfOk result (λ ran. RunsAs (spec.incr_means (args_value args.now) (V.contents view.old)) ran
         (V.contents view.new)) }
@@ -141,27 +140,25 @@ fn incr<V: WriteView>(alloc: Global, args: &Args<'_>, view: &mut V) -> Result<Ra
     let Some((key, by)) = text_and_number(args) else {
         return Ok(Ran::Refused(WRONG_ARGUMENTS));
     };
-    let Some(there) = view.get(key)? else {
-        return Ok(Ran::Refused(KEY_NOT_THERE));
-    };
-    let Some(number) = number_in(alloc, &there)? else {
-        return Ok(Ran::Refused(OTHER_KIND));
-    };
-    let Some(sum) = sum_of(number, by) else {
-        return Ok(Ran::Refused(OUT_OF_RANGE));
-    };
-    put_number(alloc, view, key, sum)?;
-    Ok(Ran::Done)
+    update(view, key, |there| raised(alloc, there, by))
 }
 
-/// Puts a number at a key.
-fn put_number<V: WriteView>(alloc: Global, view: &mut V, key: &str, number: i64) -> Result<(), Stop>
-    ensures put { OnOk result (V.contents view.new
-        ≡ finite.insert (V.contents view.old) key.now (signed_decimal number)) }
-    ensures stopped { IfErr result (MayStop V.stops) }
+/// What `incr` makes of what is there: the number, raised.
+#[tactic(auto, unfolding(crate::specs::Inside::Mutators::raised))]
+fn raised(alloc: Global, there: Option<Json>, by: i64) -> Result<Update, Stop>
+    ensures ok { IfOk result (λ u. u ≡ inside.raised there by) }
+    ensures stopped { IfErr result (λ stop. stop ≡ NoMemory) }
 {
-    let number = decimal(alloc, number)?;
-    view.put(key, &number)
+    let Some(there) = there else {
+        return Ok(Update::Refuse(KEY_NOT_THERE));
+    };
+    let Some(number) = number_in(alloc, &there)? else {
+        return Ok(Update::Refuse(OTHER_KIND));
+    };
+    let Some(sum) = sum_of(number, by) else {
+        return Ok(Update::Refuse(OUT_OF_RANGE));
+    };
+    Ok(Update::Put(decimal(alloc, sum)?))
 }
 
 /// Takes the key away, which needn't be there.
@@ -214,31 +211,26 @@ fn reason_text(why: Reason) -> &'static str
 }
 
 /// Lets a text follow the text at a key, the empty one where the key isn't there.
-#[tactic(auto, unfolding(crate::specs::Mutators::appended))]
+#[tactic(auto, unfolding(crate::specs::Mutators::appended, crate::specs::Inside::Mutators::followed))]
 fn lengthen<V: WriteView>(alloc: Global, key: &str, added: &str, view: &mut V) -> Result<Ran, Stop>
     ensures ran { IfOk result (λ ran. RunsAs (spec.appended key.now added.now (V.contents view.old)) ran
         (V.contents view.new)) }
     ensures stopped { IfErr result (MayStop V.stops) }
 {
-    let there = view.get(key)?;
-    let Some(text) = followed(alloc, there, added)? else {
-        return Ok(Ran::Refused(OTHER_KIND));
-    };
-    view.put(key, &text)?;
-    Ok(Ran::Done)
+    update(view, key, |there| followed(alloc, there, added))
 }
 
-/// The JSON text of what is there with a text behind it; `None` where what is there is no text.
-#[tactic(auto, unfolding(crate::specs::Mutators::followed))]
-fn followed(alloc: Global, there: Option<Json>, added: &str) -> Result<Option<Json>, Stop>
-    ensures ok { IfOk result (λ text. text ≡ spec.followed there added.now) }
+/// What `append` and `tag` make of what is there: the text, with another behind it.
+#[tactic(auto, unfolding(crate::specs::Mutators::followed, crate::specs::Inside::Mutators::followed))]
+fn followed(alloc: Global, there: Option<Json>, added: &str) -> Result<Update, Stop>
+    ensures ok { IfOk result (λ u. u ≡ inside.followed there added.now) }
     ensures stopped { IfErr result (λ stop. stop ≡ NoMemory) }
 {
     let Some(mut text) = text_there(alloc, there)? else {
-        return Ok(None);
+        return Ok(Update::Refuse(OTHER_KIND));
     };
     text.push_str(added)?;
-    Ok(Some(quoted(alloc, text)?))
+    Ok(Update::Put(quoted(alloc, text)?))
 }
 
 /// The sum, where it is from -2^63 to 2^63 - 1.

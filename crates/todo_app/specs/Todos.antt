@@ -43,9 +43,13 @@ abbrev pub todo_of : Data → Option Todo
 todo_of d = option_and_then (λ is_done. option_map (λ text. record { done = is_done; text = text })
     (text_in d (codes "text"))) (option_and_then as_bool (get (codes "done") d))
 
+-- the item that lies there
+abbrev pub todo_in : Option Bytes → Option Todo
+todo_in there = option_and_then todo_of (option_and_then value_of there)
+
 -- the item at a key
 abbrev pub todo_at : Entries → Bytes → Option Todo
-todo_at m key = option_and_then todo_of (option_and_then value_of (finite.get m key))
+todo_at m key = todo_in (finite.get m key)
 
 -- `add`: the item has the text, and is not done
 unfoldable pub add_means : Data → Entries → Meaning

@@ -8,8 +8,8 @@ ghost use Rattle.group_history.specs.Ran.{RunsAs};
 ghost use Rattle.group_history.specs.Stops.{MayStop};
 ghost use Rattle.todo_app.specs.Todos as spec;
 
-use crate::todos::{key_of, put, text_in, todo_at};
-use rebase::{Json, Means, Mutators, Ran, Reason, Stop, WriteView};
+use crate::todos::{key_of, put, text_in, todo_in, written};
+use rebase::{Json, Means, Mutators, Ran, Reason, Stop, Update, WriteView, update};
 use serde_json::Value;
 use std::alloc::Global;
 
@@ -53,11 +53,12 @@ fn toggle<V: WriteView>(alloc: Global, args: &Value, view: &mut V) -> Result<Ran
         return Ok(Ran::Refused(WRONG_ARGUMENTS));
     };
     let key = key_of(alloc, id)?;
-    let Some(todo) = todo_at(alloc, view, key.as_str())? else {
-        return Ok(Ran::Refused(NO_SUCH_TODO));
-    };
-    put(alloc, view, key.as_str(), !todo.done, todo.text.as_str())?;
-    Ok(Ran::Done)
+    update(view, key.as_str(), |there| {
+        let Some(todo) = todo_in(alloc, there)? else {
+            return Ok(Update::Refuse(NO_SUCH_TODO));
+        };
+        Ok(Update::Put(written(alloc, !todo.done, todo.text.as_str())?))
+    })
 }
 
 /// Gives an item another text.
@@ -71,11 +72,12 @@ fn rename<V: WriteView>(alloc: Global, args: &Value, view: &mut V) -> Result<Ran
         return Ok(Ran::Refused(WRONG_ARGUMENTS));
     };
     let key = key_of(alloc, id)?;
-    let Some(todo) = todo_at(alloc, view, key.as_str())? else {
-        return Ok(Ran::Refused(NO_SUCH_TODO));
-    };
-    put(alloc, view, key.as_str(), todo.done, text)?;
-    Ok(Ran::Done)
+    update(view, key.as_str(), |there| {
+        let Some(todo) = todo_in(alloc, there)? else {
+            return Ok(Update::Refuse(NO_SUCH_TODO));
+        };
+        Ok(Update::Put(written(alloc, todo.done, text)?))
+    })
 }
 
 impl Mutators for Todos {

@@ -3,6 +3,7 @@ ghost use Rattle.std.specs.Prelude.{◌≡◌, IfOk, IfErr, OnOk, option_map, st
 ghost use Rattle.std.specs.FinMap as finite;
 ghost use Rattle.serde_json.specs.View.{view as data_of};
 ghost use Rattle.group_history.specs.Stops.{MayStop};
+ghost use Rattle.group_history.specs.declared.mutators.Stop.TheVariants.{NoMemory};
 ghost use Rattle.todo_app.specs.Todos as spec;
 
 use rebase::{Json, Stop, WriteView};
@@ -54,17 +55,12 @@ fn todo_of(alloc: Global, value: &Value) -> Result<Option<Todo>, AllocError>
     Ok(Some(Todo { done, text }))
 }
 
-/// The item at a key, where there is one.
-pub(crate) fn todo_at<V: WriteView>(
-    alloc: Global,
-    view: &mut V,
-    key: &str,
-) -> Result<Option<Todo>, Stop>
-    ensures value { IfOk result (λ todo. todo ≡ spec.todo_at (V.contents view.old) key.now) }
-    ensures kept { V.contents view.new ≡ V.contents view.old }
-    ensures stopped { IfErr result (MayStop V.stops) }
+/// The item that lies there, where there is one.
+pub(crate) fn todo_in(alloc: Global, there: Option<Json>) -> Result<Option<Todo>, Stop>
+    ensures ok { IfOk result (λ todo. todo ≡ spec.todo_in there) }
+    ensures stopped { IfErr result (λ stop. stop ≡ NoMemory) }
 {
-    let Some(json) = view.get(key)? else {
+    let Some(json) = there else {
         return Ok(None);
     };
     let value = json.value(alloc)?;
@@ -79,7 +75,7 @@ fn value_with(alloc: Global, done: bool, text: &str) -> Result<Value, AllocError
 }
 
 /// The JSON text of an item.
-fn written(alloc: Global, done: bool, text: &str) -> Result<Json, AllocError>
+pub(crate) fn written(alloc: Global, done: bool, text: &str) -> Result<Json, AllocError>
     ensures { IfOk result (λ json. json ≡ spec.written done text.now) }
 {
     let value = value_with(alloc, done, text)?;
