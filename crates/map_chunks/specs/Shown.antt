@@ -43,10 +43,12 @@ abbrev pub map_of_rows : Rows → Option Entries
 map_of_rows rows = if finite.is_sorted (slice_cmp nat_cmp) rows then Some (finite.from_sorted rows) else None
 
 -- A chunk of a draft as clauses see it: how deep it is, a leaf being 1 deep; how many keys it has; its pieces in order;
--- how deep its own chunks are nested; and how many chunks it is, itself counted.
+-- how deep its own chunks are nested; how many chunks it is, itself counted; and of each of these how deep it is, and
+-- how many keys it has.
 pub record Seen : Type 0 where
   pub depth : ℕ
   pub entries : ℕ
   pub pieces : List Piece
   pub height : ℕ
   pub fresh : ℕ
+  pub sizes : List (ℕ × ℕ)

@@ -79,7 +79,7 @@ length-pairs es nk ne p = sym (length-paired nk ne p.1) ∙ ap length p.0
 
 pub kept_alone : {A : Type 0} (es : List (Bytes × A)) (nk : List Bytes) (ne : List A) (old : ℕ) → Parted es nk ne None
     → length es ≡ old + 1 → HasKept old (length nk) None
-kept_alone es nk ne old h l = let n = length-pairs es nk ne h.0 in omega (arith, n, l)
+kept_alone es nk ne old h l = let n = length-pairs es nk ne h.0 in inr (omega (arith, n, l), omega (arith, h.1, l))
 
 pub kept_halves : {A : Type 0} (es : List (Bytes × A)) (nk : List Bytes) (ne : List A) (k2 : List Bytes) (e2 : List A)
     (old : ℕ) → Parted es nk ne (Some (k2, e2)) → length es ≡ old + 1
@@ -115,9 +115,10 @@ pub wide_kept : (old new : Seen) (half : Option Half) → half ≡ None → new.
     → HasKept old.entries new.entries half → IsWideChunk old → IsWideChunk new
 wide_kept old new half e d k w = by (subst (HasKept old.entries new.entries) e k) w
   where
-    by : old.entries ≤ new.entries → IsWideChunk old → IsWideChunk new
+    by : HasKept old.entries new.entries None → IsWideChunk old → IsWideChunk new
     by k (inl h) = inl (d ∙ h)
-    by k (inr h) = inr (omega arith)
+    by (inl k) (inr h) = inr (omega (arith, k, h))
+    by (inr k) (inr h) = inr (omega (arith, k.0, h))
 
 pub wide_same : (old new : Seen) → new.depth ≡ old.depth → new.entries ≡ old.entries → IsWideChunk old → IsWideChunk new
 wide_same old new d n (inl h) = inl (d ∙ h)

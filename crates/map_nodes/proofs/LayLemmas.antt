@@ -1,13 +1,14 @@
 -- A trail laid from a placed chunk down to a key.
-use Rattle.std.proofs.Common.{◌≡◌, ◌<◌, ◌-◌, ℕ, inl, inr, List, [], ◌∷◌, ◌++◌, Some, length}
+use Rattle.std.proofs.Common.{◌≡◌, ◌<◌, ◌+◌, ◌-◌, ℕ, cond, inl, inr, List, [], ◌∷◌, ◌++◌, Some, length}
 use Rattle.std.proofs.Common.{append_assoc, Result, Ok, Err, IfOk, slice_get, get_or, set, refl, sym, ap, ◌∙◌, subst}
-use Rattle.std.proofs.Common.{arith, nat_cmp}
+use Rattle.std.proofs.Common.{arith, nat_cmp, length-set}
 use Rattle.std.proofs.lemmas.List.{get_or-map}
 use Rattle.std.specs.Arc.{arc_value}
 use Rattle.std.specs.List.{Contains}
 use Rattle.std.specs.Prelude.{IsSome}
-use Rattle.std.specs.Cmp.Lexicographic.{slice_cmp}
+use Rattle.std.specs.Cmp.Lexicographic.{slice_cmp, nat_list_cmp_total}
 use Rattle.std.specs.FinMap.{find, put}
+use Rattle.std.specs.FinMap.Entries.{length-put}
 use mathlib.Core.List.{IsPrefix}
 use Rattle.group_history.specs.declared.nodes.Chunk.{Chunk}
 use Rattle.group_history.specs.declared.nodes.Chunk.TheVariants as chunked
@@ -23,17 +24,20 @@ use Rattle.group_history.proofs.Pairs.{paired-parts}
 use Rattle.group_history.proofs.Spellings.{segment-content}
 use Rattle.map_chunks.proofs.JoinLemmas.{some_is}
 use Rattle.map_chunks.proofs.KeptLemmas.{all_on, kept-from_none, kept-none}
+use Rattle.map_chunks.proofs.ListLemmas.{length-paired}
 use Rattle.map_chunks.proofs.OpenLemmas.{known, rows-kept, spells_at}
 use Rattle.map_chunks.proofs.SearchLemmas.{absent_in, find-absent, found_in, got, length-keys_of, length-values_of}
 use Rattle.map_chunks.specs.Places.{AreAll, AreKept, places_of}
 use Rattle.map_chunks.specs.Search.{IsAbsent, IsFound, IsPlace}
-use Rattle.map_chunks.specs.Shown.{Piece, rows_or, shown, IsTree}
+use Rattle.map_chunks.specs.Shown.{Piece, Seen, rows_or, shown, IsTree}
 use Rattle.map_chunks.specs.Wide.{IsWideAt}
 use Rattle.map_nodes.proofs.ChangeLemmas.{none_there, put-found, replaced}
 use Rattle.map_nodes.proofs.CopyLemmas.{Copyable, copied_inner, copied_pieces, copyable}
+use Rattle.map_nodes.proofs.CopyLemmas.{placed_inner, placed_kids-sizes, placed_leaf}
 use Rattle.map_nodes.proofs.NamedLemmas.{kept-child, places-rows}
 use Rattle.map_nodes.proofs.NodeLemmas.{Down, down, shown-rows}
 use Rattle.map_nodes.proofs.ReplaceLemmas.{can_replace, kid_replaced}
+use Rattle.map_nodes.proofs.SizeLemmas.{inner_parts, kids_sizes-set, leaf_parts, placed_sizes-kept}
 use Rattle.map_nodes.proofs.SpotLemmas.{read_at, step_places}
 use Rattle.map_nodes.proofs.TrailLemmas.{kid_of, length-placed, placed-places, step-fresh}
 use Rattle.map_nodes.proofs.WideLemmas.{wide-copy, wide_grown}
@@ -41,6 +45,8 @@ use Rattle.map_nodes.specs.Inside.Copies.{chunk_pieces}
 use Rattle.map_nodes.specs.Inside.Freezing.{child_places}
 use Rattle.map_nodes.specs.Inside.Laying.{HasKey, IsCopiedStep, IsLaid, IsLaidBehind, IsPutEnd, IsStage, IsStageAt}
 use Rattle.map_nodes.specs.Inside.Replacing.{CanReplace}
+use Rattle.map_nodes.specs.Inside.Sizing.{kids_seen_sizes}
+use Rattle.map_nodes.specs.Sizes.{AreAsBefore, one, placed_sizes, seen_sizes}
 use Rattle.map_nodes.specs.Nodes.{AllKids, kids_pieces}
 use Rattle.map_nodes.specs.Trails.{placed_kids, step_kids, step_seen, trail_seen, IsStep}
 use Rattle.map_nodes.specs.declared.nodes.OwnChild.TheVariants.{Placed, Own}
@@ -106,10 +112,32 @@ has_key p q depth stamp key (chunked.Inner kids) s = s.copy.deep.1
 
 -- THE LEAF OF A TRAIL
 
+-- a put of a key that is there keeps the number of rows
+length-replaced : (key v : Bytes) (rows : Rows) → IsTree (Some rows) → IsSome (find (slice_cmp nat_cmp) key rows)
+    → length (put (slice_cmp nat_cmp) key v rows) ≡ length rows
+length-replaced key v rows o h = length-put (slice_cmp nat_cmp) nat_list_cmp_total key v rows o ∙ ap
+    (λ b. cond b (length rows) (length rows + 1)) h
+
+end_sizes : (p q : Contents) (depth stamp : ℕ) (key v : Bytes) (rows : Rows) (e : End)
+    → Spelt p q depth stamp key (chunked.Leaf rows) → IsPutEnd rows key v e
+    → slice_get q stamp ≡ Some (chunk_content (chunked.Leaf rows))
+    → AreAsBefore (placed_sizes q depth stamp) (seen_sizes q (trail_seen [] e))
+end_sizes p q depth stamp key v rows e s h g d n =
+    let same : rows ≡ s.rows = some_is (sym (shown-rows q rows) ∙ s.copy.rows_are) in
+    let keys = arc_value e.keys in
+    let all = paired keys e.values.items in
+    let long : length keys ≡ length rows = sym (length-paired keys e.values.items h.0.1) ∙ ap length h.1
+    ∙ length-replaced key v rows (subst (λ w. IsTree (Some w)) (sym same) s.tree)
+    (subst (λ w. IsSome (find (slice_cmp nat_cmp) key w)) (sym same) s.there) in
+    leaf_parts q (1, length keys) all d n
+    ∙ ap (λ k. one (1, k) d n) long ∙ ap (λ k. one (k, length rows) d n) (sym s.copy.deep)
+    ∙ sym (placed_leaf q depth stamp rows s.copy.deep g d n)
+
 pub laid_end : (p q : Contents) (may : Ref → Type 0) (depth stamp : ℕ) (key v : Bytes) (rows : Rows) (e : End)
     → Spelt p q depth stamp key (chunked.Leaf rows) → IsPutEnd rows key v e
+    → slice_get q stamp ≡ Some (chunk_content (chunked.Leaf rows))
     → IsLaid q may stamp depth key v (rows_at p depth stamp) [] e
-laid_end p q may depth stamp key v rows e s h =
+laid_end p q may depth stamp key v rows e s h g =
     let same : rows ≡ s.rows = some_is (sym (shown-rows q rows) ∙ s.copy.rows_are) in
     let all = paired (arc_value e.keys) e.values.items in
     record {
@@ -118,6 +146,7 @@ laid_end p q may depth stamp key v rows e s h =
       shown_is = shown-rows q all ∙ ap (λ w. Some w) (h.1 ∙ ap (put (slice_cmp nat_cmp) key v) same)
           ∙ ap (λ w. Some (put (slice_cmp nat_cmp) key v (rows_or w))) (sym s.was);
       few = omega (arith, s.copy.deep);
+      sizes = end_sizes p q depth stamp key v rows e s h g;
       kept = subst (AreKept may []) (sym (places-rows all)) (kept-none may []);
       wide = λ w. inl refl;
     }
@@ -173,15 +202,45 @@ can_below q depth key s rows below x there =
     can_replace q depth (arc_value s.keys) (placed_kids s.children.items) x.pieces key s.place (Placed below) x.way
     x.here (subst (λ w. IsSome (find (slice_cmp nat_cmp) key (rows_or w))) (sym x.rows_are) there) (Placed below) x.here
 
+-- a step has as many children as the chunk that it is over, and one of them is the chunk below it
+step_sizes : (p : Contents) (depth stamp : ℕ) (kids : List (Bytes × Ref)) (s : Step) (below : Ref) (next : Seen)
+    → 0 < depth → slice_get p stamp ≡ Some (chunk_content (chunked.Inner kids))
+    → arc_value s.keys ≡ keys_of kids → s.children.items ≡ values_of kids
+    → slice_get (placed_kids s.children.items) s.place ≡ Some (Placed below) → depth - 1 ≡ next.depth
+    → AreAsBefore (placed_sizes p (depth - 1) (stamp_of below)) (seen_sizes p next)
+    → AreAsBefore (placed_sizes p depth stamp) (seen_sizes p (step_seen s next))
+step_sizes p depth stamp kids s below next z g k x here deep h d e =
+    let b = depth - 1 in
+    let keys = arc_value s.keys in
+    let ats = placed_kids s.children.items in
+    let after = step_kids s next in
+    let n = kid_of s next in
+    let wide : length keys ≡ length kids = ap length k ∙ length-keys_of kids in
+    let long : length after ≡ length keys = length-set ats s.place (Own n) ∙ length-placed s.children.items
+    ∙ ap length x ∙ length-values_of kids ∙ sym wide in
+    let up : b + 1 ≡ depth = omega (arith, z) in
+    inner_parts p (next.depth + 1, length keys) next.depth keys after long d e
+    ∙ ap (λ w. one (w + 1, length keys) d e + kids_seen_sizes p w after d e) (sym deep)
+    ∙ ap (λ w. one (w, length keys) d e + kids_seen_sizes p b after d e) up
+    ∙ ap (λ w. one (depth, w) d e + kids_seen_sizes p b after d e) wide
+    ∙ ap (λ w. one (depth, length kids) d e + w)
+    (swapped (kids_seen_sizes p b after d e) (placed_sizes p b (stamp_of below) d e) (kids_seen_sizes p b ats d e)
+    (seen_sizes p next d e) (kids_sizes-set p b ats s.place (Placed below) (Own n) here d e) (h d e)
+    ∙ ap (λ w. kids_seen_sizes p b (placed_kids w) d e) x ∙ placed_kids-sizes p b kids d e)
+    ∙ sym (placed_inner p depth stamp kids z g d e)
+  where
+    swapped : (a c k n : ℕ) → a + c ≡ k + n → n ≡ c → a ≡ k
+    swapped a c k n e h = omega arith
+
 -- where a key is that a child has, there the step has it
 pub laid_step : (p q r : Contents) (may : Ref → Type 0) (depth stamp : ℕ) (key v : Bytes) (kids : List (Bytes × Ref))
     (s : Step) (below : Ref) (more : List Step) (e : End)
     → (x : Spelt p q depth stamp key (chunked.Inner kids)) → OnWay q depth key s x.rows below → IsPrefix q r
-    → arc_value s.keys ≡ keys_of kids → AreAll may s.children.items
+    → arc_value s.keys ≡ keys_of kids → s.children.items ≡ values_of kids → AreAll may s.children.items
     → slice_get q stamp ≡ Some (chunk_content (chunked.Inner kids))
     → IsLaid r may (stamp_of below) (depth - 1) key v (rows_at q (depth - 1) (stamp_of below)) more e
     → IsLaid r may stamp depth key v (rows_at p depth stamp) (s ∷ more) e
-laid_step p q r may depth stamp key v kids s below more e x w g k all g2 laid =
+laid_step p q r may depth stamp key v kids s below more e x w g k ats all g2 laid =
     let keys = arc_value s.keys in
     let kidlist = placed_kids s.children.items in
     let next = trail_seen more e in
@@ -200,6 +259,8 @@ laid_step p q r may depth stamp key v kids s below more e x w g k all g2 laid =
     let all_is : AllKids (depth - 1) (paired keys (step_kids s next)) = subst (AllKids (depth - 1)) (sym set_is)
     t.all in
     let deep : depth - 1 ≡ next.depth = sym laid.depth_is in
+    let here : slice_get r stamp ≡ Some (chunk_content (chunked.Inner kids)) = subst
+    (λ z. slice_get z stamp ≡ Some (chunk_content (chunked.Inner kids))) g.1 (get_more q g.0 stamp _ g2) in
     let step : IsStep s next = (
       w.keys,
       w.pairs,
@@ -214,13 +275,13 @@ laid_step p q r may depth stamp key v kids s below more e x w g k all g2 laid =
           ∙ ap (λ es. shown r (kids_pieces (depth - 1) es)) set_is ∙ t.shown_is
           ∙ ap (λ z. Some (put (slice_cmp nat_cmp) key v (rows_or z))) (w.rows_are ∙ sym x.was);
       few = omega (arith, step-fresh s next step, laid.few, w.deep);
+      sizes = step_sizes r depth stamp kids s below next w.deep here k ats w.here deep laid.sizes;
       kept = subst (AreKept may []) (sym (step_places s next step)) (λ at i. elim (kept at i) [
         | inl t ↦ inr (all at (subst (λ z. Contains z at) (placed-places s.children.items) t))
         | inr t ↦ inr t
       ]);
       wide = λ t. wide-copy r stamp depth (chunked.Inner kids) (step_seen s next)
-          (subst (λ z. slice_get z stamp ≡ Some (chunk_content (chunked.Inner kids))) g.1 (get_more q g.0 stamp _ g2))
-          x.copy.deep (omega (arith, laid.depth_is, w.deep)) (ap length k ∙ length-keys_of kids) t;
+          here x.copy.deep (omega (arith, laid.depth_is, w.deep)) (ap length k ∙ length-keys_of kids) t;
     }
 
 -- THE STAGES
@@ -243,7 +304,7 @@ lands p q may depth key v at e g can x =
     let f = at_leaf x.0 key v e x.2 in
     let is : slice_get q (stamp_of at) ≡ Some (chunk_content (chunked.Leaf f.0)) = x.1 ∙ ap
     (λ w. Some (chunk_content w)) f.1 in
-    laid_end p q may depth (stamp_of at) key v f.0 e (spelt p q depth key at (chunked.Leaf f.0) g can is) f.2
+    laid_end p q may depth (stamp_of at) key v f.0 e (spelt p q depth key at (chunked.Leaf f.0) g can is) f.2 is
 
 -- the way goes on
 pub record Goes (p q : Contents) (may : Ref → Type 0) (depth : ℕ) (key : Bytes) (at : Ref) (s : Step)
@@ -295,7 +356,7 @@ pub laid_on : (p q r : Contents) (may more : Ref → Type 0) (depth : ℕ) (key 
 laid_on p q r may more depth key v at s below e old mid new x g m w l = (
   s ∷ l.0,
   l.1 ∙ ap (λ z. z ++ l.0) w ∙ append_assoc old (s ∷ []) l.0,
-  laid_step p q r more depth (stamp_of at) key v x.kids s below l.0 e x.spelt x.way g x.copied.0
+  laid_step p q r more depth (stamp_of at) key v x.kids s below l.0 e x.spelt x.way g x.copied.0 x.copied.1
       (all_on may more s.children.items m x.all) x.is l.2,
 )
 
@@ -307,3 +368,11 @@ wide_later old new depth k t p w =
     let f = spells_at old depth k n.rows n.is in
     let c = segment-content old k f.0.segment f.0.is in
     wide_grown old new k (node.Chunk c.0) p c.2 w
+
+-- a trail is as many chunks as the placed chunk was
+pub laid-sizes : (old new : Contents) (depth k : ℕ) (n : Seen) → IsTree (rows_at old depth k) → IsPrefix old new
+    → AreAsBefore (placed_sizes new depth k) (seen_sizes new n)
+    → AreAsBefore (placed_sizes old depth k) (seen_sizes new n)
+laid-sizes old new depth k n t p h d e =
+    let r = known (rows_at old depth k) t in
+    h d e ∙ placed_sizes-kept old new depth k r.rows p r.is d e

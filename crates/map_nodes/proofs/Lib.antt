@@ -24,3 +24,5 @@ mod SpotLemmas
 mod LayLemmas
 mod StepLemmas
 mod WalkLemmas
+pub mod PutSizes
+pub mod SizeLemmas

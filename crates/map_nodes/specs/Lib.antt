@@ -5,5 +5,6 @@ pub mod Nodes
 pub mod Trails
 pub mod Roots
 pub mod Removing
+pub mod Sizes
 -- Words that only private clauses of this crate use.
 pub mod Inside

@@ -75,3 +75,16 @@ kids_fresh (k ∷ ks) = child_fresh k + kids_fresh ks
 abbrev pub body_fresh : Body → ℕ
 body_fresh (Leaf values) = 1
 body_fresh (Inner kids) = kids_fresh kids.items + 1
+
+-- how deep each own chunk is, and how many keys it has
+abbrev pub child_sizes : OwnChild → List (ℕ × ℕ)
+child_sizes (Placed at) = []
+child_sizes (Own n) = n.value.sizes
+
+abbrev pub kids_sizes : List OwnChild → List (ℕ × ℕ)
+kids_sizes [] = []
+kids_sizes (k ∷ ks) = child_sizes k ++ kids_sizes ks
+
+abbrev pub body_sizes : ℕ → ℕ → Body → List (ℕ × ℕ)
+body_sizes depth entries (Leaf values) = (depth, entries) ∷ []
+body_sizes depth entries (Inner kids) = (depth, entries) ∷ kids_sizes kids.items

@@ -18,6 +18,7 @@ ghost use Rattle.map_chunks.specs.Scanning.{taken, Gave, IsLow};
 ghost use Rattle.map_chunks.specs.Seeking.{stands_in};
 ghost use Rattle.map_chunks.specs.Shown.{shown, IsTree, rows_or};
 ghost use Rattle.map_chunks.specs.Wide.{IsWideAt, IsWideChunk};
+ghost use Rattle.map_nodes.specs.Sizes.{placed_sizes, seen_sizes, AreAsBefore, ArePutIn};
 ghost use Rattle.map_nodes.specs.Removing.{root_left, without, root_rows, IsWideRoot, IsLowRoot};
 
 use crate::nodes::{OwnNode, Trail};
@@ -116,7 +117,11 @@ impl OwnRoot {
             ≡ Some (finite.put (slice_cmp nat_cmp) key.now value.now
             (rows_or (rows_at (C.contents chunks.old) depth (stamp_of at))))) }
         ensures few { IfOk result (λ r. r.fresh ≤ depth + depth + 1) }
+        ensures sizes { IfOk result (λ r. ArePutIn depth r.depth (placed_sizes (C.contents chunks.old) depth (stamp_of at))
+            (seen_sizes (C.contents chunks.new) r)) }
         ensures replaced { there ≡ true → IfOk result (λ r. r.fresh ≤ depth) }
+        ensures same { there ≡ true → IfOk result (λ r. AreAsBefore
+            (placed_sizes (C.contents chunks.old) depth (stamp_of at)) (seen_sizes (C.contents chunks.new) r)) }
         ensures deep { IfOk result (λ r. (depth ≤ r.depth) × (r.depth ≤ depth + 1)) }
         ensures wide { IsWideAt (C.contents chunks.old) (stamp_of at) → IfOk result IsWideChunk }
         ensures places { IfOk result (λ r. AreKept (C.places chunks.new) [] (places_of r.pieces)) }
@@ -146,6 +151,8 @@ impl OwnRoot {
             ≡ Some (finite.put (slice_cmp nat_cmp) key.now value.now
             (rows_or (rows_at (C.contents chunks.old) depth (stamp_of at))))) }
         ensures few { IfOk result (λ r. r.fresh ≤ depth) }
+        ensures sizes { IfOk result (λ r. AreAsBefore (placed_sizes (C.contents chunks.old) depth (stamp_of at))
+            (seen_sizes (C.contents chunks.new) r)) }
         ensures deep { IfOk result (λ r. r.depth ≡ depth) }
         ensures wide { IsWideAt (C.contents chunks.old) (stamp_of at) → IfOk result IsWideChunk }
         ensures places { IfOk result (λ r. AreKept (C.places chunks.new) [] (places_of r.pieces)) }
@@ -173,6 +180,8 @@ impl OwnRoot {
             ≡ Some (finite.put (slice_cmp nat_cmp) key.now value.now
             (rows_or (rows_at (C.contents chunks.old) depth (stamp_of at))))) }
         ensures few { IfOk result (λ r. r.fresh ≤ depth + depth + 1) }
+        ensures sizes { IfOk result (λ r. ArePutIn depth r.depth (placed_sizes (C.contents chunks.old) depth (stamp_of at))
+            (seen_sizes (C.contents chunks.new) r)) }
         ensures deep { IfOk result (λ r. (depth ≤ r.depth) × (r.depth ≤ depth + 1)) }
         ensures wide { IsWideAt (C.contents chunks.old) (stamp_of at) → IfOk result IsWideChunk }
         ensures places { IfOk result (λ r. AreKept (C.places chunks.new) [] (places_of r.pieces)) }
@@ -293,6 +302,10 @@ impl OwnRoot {
             ≡ Some (finite.put (slice_cmp nat_cmp) key.now value.now
             (rows_or (shown (C.contents chunks.old) self.old.pieces)))) }
         ensures few { OnOk result (self.new.fresh ≤ self.old.fresh + 2 * self.old.depth) }
+        ensures sizes { OnOk result (ArePutIn self.old.depth self.new.depth (seen_sizes (C.contents chunks.old) self.old)
+            (seen_sizes (C.contents chunks.new) self.new)) }
+        ensures same { there ≡ true → OnOk result (AreAsBefore (seen_sizes (C.contents chunks.old) self.old)
+            (seen_sizes (C.contents chunks.new) self.new)) }
         ensures places { OnOk result (AreKept (C.places chunks.new) (places_of self.old.pieces)
             (places_of self.new.pieces)) }
         ensures replaced { there ≡ true → OnOk result (self.new.fresh < self.old.fresh + self.old.depth) }

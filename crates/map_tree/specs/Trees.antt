@@ -1,5 +1,5 @@
 -- The map that a tree is.
-use Rattle.std.specs.Prelude.{ℕ, List, [], ◌∷◌, Option, Some, None, option_and_then, option_map}
+use Rattle.std.specs.Prelude.{ℕ, List, [], ◌∷◌, Option, Some, None, option_and_then, option_map, unwrap_or}
 use Rattle.group_history.specs.declared.refs.Ref.{Ref}
 use Rattle.group_history.specs.Map.{Entries}
 use Rattle.group_history.specs.Refs.{stamp_of}
@@ -7,6 +7,7 @@ use Rattle.group_history.specs.Spelling.{Contents, Segment, segment_at, map_at}
 use Rattle.map_chunks.specs.Places.{places_of}
 use Rattle.map_chunks.specs.Shown.{shown, map_of_rows}
 use Rattle.map_chunks.specs.Wide.{IsWideAt, IsWideChunk}
+use Rattle.map_nodes.specs.Sizes.{Sizes, placed_sizes, seen_sizes}
 use Rattle.map_tree.specs.declared.tree.Root.{Root}
 use Rattle.map_tree.specs.declared.tree.Root.TheVariants.{Placed, Own}
 use Rattle.map_tree.specs.declared.tree.Tree.{Tree}
@@ -31,6 +32,16 @@ root_depth contents (Own n) = Some n.depth
 -- how deep the tree is: 1 where its root is a leaf
 abbrev pub tree_depth : Contents → Tree → Option ℕ
 tree_depth contents t = root_depth contents t.root
+
+-- of the root and of the chunks below it, how many are of a depth and have so many entries
+abbrev pub root_sizes : Contents → Root → Sizes
+root_sizes contents (Placed at) depth entries =
+    placed_sizes contents (unwrap_or (root_depth contents (Placed at)) 0) (stamp_of at) depth entries
+root_sizes contents (Own n) depth entries = seen_sizes contents n depth entries
+
+-- how many chunks the tree has of each depth and size
+abbrev pub tree_sizes : Contents → Tree → Sizes
+tree_sizes contents t = root_sizes contents t.root
 
 abbrev pub root_fresh : Root → ℕ
 root_fresh (Placed at) = 0

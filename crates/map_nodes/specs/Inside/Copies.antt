@@ -1,5 +1,5 @@
 -- A placed chunk copied for a draft.
-use Rattle.std.specs.Prelude.{◌≡◌, ℕ, ◌-◌, ◌<◌, List, map, length}
+use Rattle.std.specs.Prelude.{◌≡◌, ℕ, ◌-◌, ◌<◌, List, [], ◌∷◌, map, length}
 use Rattle.group_history.specs.declared.nodes.Chunk.{Chunk}
 use Rattle.group_history.specs.declared.nodes.Chunk.TheVariants.{Leaf, Inner}
 use Rattle.group_history.specs.declared.refs.Ref.{Ref}
@@ -23,3 +23,4 @@ chunk_entries (Inner kids) = length kids
 -- one chunk, with the pieces of the copied one, and as many keys
 abbrev pub IsCopy : ℕ → Chunk Ref → Seen → Type 0
 IsCopy depth c n = (n.depth ≡ depth) × (n.pieces ≡ chunk_pieces depth c) × (n.fresh ≡ 1) × (n.entries ≡ chunk_entries c)
+    × (n.sizes ≡ (depth, chunk_entries c) ∷ [])

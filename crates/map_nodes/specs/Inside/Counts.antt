@@ -1,5 +1,5 @@
 -- How many chunks and keys a put makes.
-use Rattle.std.specs.Prelude.{◌≡◌, ◌≤◌, ℕ, Option, Some, None}
+use Rattle.std.specs.Prelude.{◌≡◌, ◌⊎◌, ◌<◌, ◌+◌, ℕ, Option, Some, None}
 use Rattle.map_nodes.specs.declared.nodes.putting.Half.{Half}
 
 -- how many own chunks an upper half is
@@ -7,7 +7,7 @@ abbrev pub half_fresh : Option Half → ℕ
 half_fresh None = 0
 half_fresh (Some h) = h.node.value.fresh
 
--- A chunk that isn't split has no fewer keys than before. One that is split had 16; 8 keys stay, and 9 go.
+-- A chunk that isn't split has its keys, or one more, and at most 16. One that is split had 16; 8 keys stay, and 9 go.
 abbrev pub HasKept : ℕ → ℕ → Option Half → Type 0
-HasKept old new None = old ≤ new
+HasKept old new None = (new ≡ old) ⊎ ((new ≡ old + 1) × (old < 16))
 HasKept old new (Some h) = (old ≡ 16) × (new ≡ 8) × (h.node.value.entries ≡ 9)

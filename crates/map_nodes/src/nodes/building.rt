@@ -1,5 +1,5 @@
 //! New chunks of a draft.
-ghost use Rattle.std.specs.Prelude.{◌≡◌, []};
+ghost use Rattle.std.specs.Prelude.{◌≡◌, [], ◌∷◌};
 
 use super::{Body, OwnNode};
 use map_chunks::keys::NodeKeys;
@@ -11,6 +11,7 @@ impl OwnNode {
         ensures depth { result.depth ≡ 1 }
         ensures pieces { result.pieces ≡ [] }
         ensures fresh { result.fresh ≡ 1 }
+        ensures sizes { result.sizes ≡ (1, 0) ∷ [] }
     {
         OwnNode {
             depth: 1,

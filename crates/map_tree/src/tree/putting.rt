@@ -6,8 +6,9 @@ ghost use Rattle.group_history.specs.Refs.{stamp_of};
 ghost use Rattle.group_history.specs.Spelling.{map_at};
 ghost use Rattle.group_history.specs.declared.mutators.Stop.TheVariants.{NoMemory};
 ghost use Rattle.map_chunks.specs.Places.{Grows, AreAll, AreKept};
-ghost use Rattle.map_tree.specs.Trees.{root_places, tree_places, root_map, root_depth, root_fresh, tree_map};
-ghost use Rattle.map_tree.specs.Trees.{tree_depth, tree_fresh, HasWideRoot, IsWide};
+ghost use Rattle.map_nodes.specs.Sizes.{placed_sizes, AreAsBefore, ArePutIn};
+ghost use Rattle.map_tree.specs.Trees.{root_places, tree_places, root_map, root_depth, root_fresh, root_sizes, tree_map};
+ghost use Rattle.map_tree.specs.Trees.{tree_depth, tree_fresh, tree_sizes, HasWideRoot, IsWide};
 ghost use Rattle.map_chunks.specs.Seeking.{chunk_depth};
 ghost use Rattle.map_chunks.specs.Writes.{standing};
 ghost use Rattle.map_chunks.specs.Wide.{IsWideAt};
@@ -28,8 +29,8 @@ struct Way {
 
 impl Tree {
     /// Puts a value at a key. New are only the chunks on the way to it and those that a split adds, and
-    /// none where the value is there already; placed chunks are copied first. Where it stops, the map is
-    /// as it was.
+    /// none where the value is there already; placed chunks are copied first. A chunk that gets a 17th entry is
+    /// split into the first 8 and the last 9. Where it stops, the map is as it was.
     pub fn put<C: Chunks>(
         &mut self,
         alloc: Global,
@@ -44,9 +45,15 @@ impl Tree {
             → OnOk result (tree_map (C.contents chunks.new) self.new ≡ Some (finite.insert m key.now value.now)) }
         ensures few { (d : ℕ) → tree_depth (C.contents chunks.old) self.old ≡ Some d
             → OnOk result (tree_fresh self.new ≤ tree_fresh self.old + d + d + 1) }
+        ensures sizes { (d : ℕ) → tree_depth (C.contents chunks.old) self.old ≡ Some d
+            → OnOk result ((e : ℕ) × (tree_depth (C.contents chunks.new) self.new ≡ Some e)
+            × ArePutIn d e (tree_sizes (C.contents chunks.old) self.old) (tree_sizes (C.contents chunks.new) self.new)) }
         ensures replaced { (m : Entries) (d : ℕ) → tree_map (C.contents chunks.old) self.old ≡ Some m
             → tree_depth (C.contents chunks.old) self.old ≡ Some d → IsSome (finite.get m key.now)
             → OnOk result (tree_fresh self.new ≤ tree_fresh self.old + d) }
+        ensures kept { (m : Entries) → tree_map (C.contents chunks.old) self.old ≡ Some m → IsSome (finite.get m key.now)
+            → OnOk result (AreAsBefore (tree_sizes (C.contents chunks.old) self.old)
+            (tree_sizes (C.contents chunks.new) self.new)) }
         ensures deep { (d : ℕ) → tree_depth (C.contents chunks.old) self.old ≡ Some d
             → OnOk result ((e : ℕ) × (tree_depth (C.contents chunks.new) self.new ≡ Some e) × (d ≤ e) × (e ≤ d + 1)) }
         ensures wide { HasWideRoot (C.contents chunks.old) self.old
@@ -80,9 +87,15 @@ impl Tree {
             → OnOk result (tree_map (C.contents chunks.new) self.new ≡ Some (finite.insert m key.now value.now)) }
         ensures few { (d : ℕ) → tree_depth (C.contents chunks.old) self.old ≡ Some d
             → OnOk result (tree_fresh self.new ≤ tree_fresh self.old + d + d + 1) }
+        ensures sizes { (d : ℕ) → tree_depth (C.contents chunks.old) self.old ≡ Some d
+            → OnOk result ((e : ℕ) × (tree_depth (C.contents chunks.new) self.new ≡ Some e)
+            × ArePutIn d e (tree_sizes (C.contents chunks.old) self.old) (tree_sizes (C.contents chunks.new) self.new)) }
         ensures replaced { (m : Entries) (d : ℕ) → tree_map (C.contents chunks.old) self.old ≡ Some m
             → tree_depth (C.contents chunks.old) self.old ≡ Some d → IsSome (finite.get m key.now)
             → OnOk result (tree_fresh self.new ≤ tree_fresh self.old + d) }
+        ensures kept { (m : Entries) → tree_map (C.contents chunks.old) self.old ≡ Some m → IsSome (finite.get m key.now)
+            → OnOk result (AreAsBefore (tree_sizes (C.contents chunks.old) self.old)
+            (tree_sizes (C.contents chunks.new) self.new)) }
         ensures deep { (d : ℕ) → tree_depth (C.contents chunks.old) self.old ≡ Some d
             → OnOk result ((e : ℕ) × (tree_depth (C.contents chunks.new) self.new ≡ Some e) × (d ≤ e) × (e ≤ d + 1)) }
         ensures wide { HasWideRoot (C.contents chunks.old) self.old
@@ -121,7 +134,12 @@ impl Tree {
         ensures ok { (m : Entries) → tree_map (C.contents chunks.old) self.old ≡ Some m
             → OnOk result (tree_map (C.contents chunks.new) self.new ≡ Some (finite.insert m key.now value.now)) }
         ensures few { OnOk result (tree_fresh self.new ≤ tree_fresh self.old + way.depth + way.depth + 1) }
+        ensures sizes { OnOk result ((e : ℕ) × (tree_depth (C.contents chunks.new) self.new ≡ Some e)
+            × ArePutIn way.depth e (tree_sizes (C.contents chunks.old) self.old)
+            (tree_sizes (C.contents chunks.new) self.new)) }
         ensures replaced { way.there ≡ true → OnOk result (tree_fresh self.new ≤ tree_fresh self.old + way.depth) }
+        ensures kept { way.there ≡ true → OnOk result (AreAsBefore (tree_sizes (C.contents chunks.old) self.old)
+            (tree_sizes (C.contents chunks.new) self.new)) }
         ensures deep { OnOk result ((e : ℕ) × (tree_depth (C.contents chunks.new) self.new ≡ Some e) × (way.depth ≤ e)
             × (e ≤ way.depth + 1)) }
         ensures wide { HasWideRoot (C.contents chunks.old) self.old
@@ -159,7 +177,12 @@ fn root_with<C: Chunks>(
     ensures ok { (m : Entries) → map_at (C.contents chunks.old) (stamp_of at) ≡ Some m
         → IfOk result (λ root. root_map (C.contents chunks.new) root ≡ Some (finite.insert m key.now value.now)) }
     ensures few { IfOk result (λ root. root_fresh root ≤ way.depth + way.depth + 1) }
+    ensures sizes { IfOk result (λ root. (e : ℕ) × (root_depth (C.contents chunks.new) root ≡ Some e)
+        × ArePutIn way.depth e (placed_sizes (C.contents chunks.old) way.depth (stamp_of at))
+        (root_sizes (C.contents chunks.new) root)) }
     ensures replaced { way.there ≡ true → IfOk result (λ root. root_fresh root ≤ way.depth) }
+    ensures kept { way.there ≡ true → IfOk result (λ root. AreAsBefore
+        (placed_sizes (C.contents chunks.old) way.depth (stamp_of at)) (root_sizes (C.contents chunks.new) root)) }
     ensures deep { IfOk result (λ root. (e : ℕ) × (root_depth (C.contents chunks.new) root ≡ Some e) × (way.depth ≤ e)
         × (e ≤ way.depth + 1)) }
     ensures wide { IsWideAt (C.contents chunks.old) (stamp_of at) → IfOk result (IsWide (C.contents chunks.new)) }

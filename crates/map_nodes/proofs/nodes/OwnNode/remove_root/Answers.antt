@@ -26,6 +26,7 @@ returns-in-Leaf-clause-done g c =
       pieces = row_pieces rows;
       height = 1;
       fresh = 1;
+      sizes = (c.self.inside.depth, length keys) ∷ [];
     } in
     if_ok_so c.remove_in_root.result c.remove_in_root.ensures.rows (λ root left.
     ap (root_rows p seen) left.0 ∙ ap (λ w. shown p (row_pieces w)) left.1 ∙ shown-rows p
@@ -46,6 +47,7 @@ returns-in-Leaf-clause-places g c =
       pieces = row_pieces rows;
       height = 1;
       fresh = 1;
+      sizes = (c.self.inside.depth, length keys) ∷ [];
     } in
     if_ok_so c.remove_in_root.result c.remove_in_root.ensures.rows (λ root left.
     subst (λ r. AreKept at_p old (root_left seen r)) (sym left.0)

@@ -2,11 +2,14 @@ use Rattle.std.proofs.Common.{◌≡◌, ◌∙◌, ap, sym, subst, Some, refl, 
 use Rattle.std.specs.Prelude.{IsSome}
 use Rattle.std.specs.FinMap as finite
 use Rattle.map_chunks.specs.Places.{AreKept, places_of}
-use Rattle.map_tree.specs.Trees.{root_places, tree_places, root_map, root_depth, root_fresh, tree_map, IsWide}
+use Rattle.group_history.specs.Refs.{stamp_of}
+use Rattle.map_nodes.specs.Sizes.{placed_sizes, seen_sizes, AreAsBefore, ArePutIn}
+use Rattle.map_nodes.proofs.PutSizes.{put_in_as}
+use Rattle.map_tree.specs.Trees.{root_places, root_sizes, tree_places, root_map, root_depth, root_fresh, tree_map, IsWide}
 use Rattle.map_chunks.specs.Shown.{shown}
 use Rattle.map_chunks.proofs.AnswerLemmas.{on_ok}
 use Rattle.map_chunks.proofs.KeptLemmas.{kept-from_none}
-use Rattle.map_tree.proofs.RootCounts.{own_depth}
+use Rattle.map_tree.proofs.RootCounts.{own_depth, placed_as}
 use Rattle.map_chunks.proofs.Shelves.{some_of}
 use Rattle.map_chunks.proofs.TreeLemmas.{map_is}
 use Rattle.map_tree.proofs.WriteLemmas.{put_map, found_there}
@@ -105,3 +108,41 @@ write-requires-clause-places g c = own_may
 pub root_with-requires-clause-place : goal.root_with-requires-clause-place
 root_with-requires-clause-place g c = placed_may
     (g.C.Chunks.places c.args.chunks.now) c.args.self.now.root c.in-Placed.at c.in-Placed.is c.requires.places
+
+pub returns-in-Own-clause-sizes : goal.returns-in-Own-clause-sizes
+returns-in-Own-clause-sizes g c =
+    let p = g.C.Chunks.contents c.args.chunks.now in
+    let new = c.write.new.self in
+    let now = seen_sizes (g.C.Chunks.contents c.write.new.chunks) new in
+    let e = own_depth p c.args.self.now.root c.in-Own.node c.args.way.depth c.in-Own.is c.requires.depth in
+    on_ok c.write.result c.write.ensures.sizes (λ n. (
+      new.depth,
+      refl,
+      subst (λ r. ArePutIn c.args.way.depth new.depth (root_sizes p r) now) (sym c.in-Own.is)
+          (subst (λ w. ArePutIn w new.depth (seen_sizes p c.in-Own.node) now) e n),
+    ))
+
+pub returns-in-Own-clause-kept : goal.returns-in-Own-clause-kept
+returns-in-Own-clause-kept g c there =
+    let p = g.C.Chunks.contents c.args.chunks.now in
+    let now = seen_sizes (g.C.Chunks.contents c.write.new.chunks) c.write.new.self in
+    on_ok c.write.result (c.write.ensures.same there)
+    (λ n. subst (λ r. AreAsBefore (root_sizes p r) now) (sym c.in-Own.is) n)
+
+pub returns-in-Placed-clause-sizes : goal.returns-in-Placed-clause-sizes
+returns-in-Placed-clause-sizes g c =
+    let p = g.C.Chunks.contents c.args.chunks.now in
+    let n = c.in_ok-root-in-Placed.ensures.sizes in (
+      n.0,
+      n.1,
+      put_in_as c.args.way.depth n.0 (placed_sizes p c.args.way.depth (stamp_of c.in-Placed.at))
+          (root_sizes (g.C.Chunks.contents c.root_with.new.chunks) c.in_ok-root-in-Placed.root)
+          (root_sizes p c.args.self.now.root)
+          (placed_as p c.args.self.now.root c.in-Placed.at c.args.way.depth c.in-Placed.is c.requires.depth) n.2,
+    )
+
+pub returns-in-Placed-clause-kept : goal.returns-in-Placed-clause-kept
+returns-in-Placed-clause-kept g c there at n =
+    let p = g.C.Chunks.contents c.args.chunks.now in
+    c.in_ok-root-in-Placed.ensures.kept there at n ∙ sym
+    (placed_as p c.args.self.now.root c.in-Placed.at c.args.way.depth c.in-Placed.is c.requires.depth at n)

@@ -1,4 +1,4 @@
-use Rattle.std.proofs.Common.{◌∙◌, ◌++◌, arith, [], ap, sym, subst, length, insert, Some, None, append-nil, get_or}
+use Rattle.std.proofs.Common.{◌∙◌, ◌++◌, arith, [], ◌∷◌, ap, sym, subst, length, insert, Some, None, append-nil, get_or}
 use Rattle.std.proofs.Common.{refl, nat_cmp}
 use Rattle.std.specs.Cmp.Lexicographic.{slice_cmp}
 use Rattle.std.specs.FinMap.{put}
@@ -127,6 +127,21 @@ returns-clause-entries c =
     (rows_put keys values c.args.place c.args.row.0 c.args.row.1 c.requires.keys.1 c.requires.pairs
     c.requires.absent) in
     (k.0, k.1, ap (λ (s : Seen). s.entries) c.housed.ensures ∙ k.2)
+
+pub returns-clause-sizes : goal.returns-clause-sizes
+returns-clause-sizes c =
+    let keys = c.args.keys.now.texts in
+    let values = c.args.values.now.items in
+    let h = parted_put keys values c.args.place c.args.row.0 c.args.row.1 c.insert_entry.new.keys.texts
+    c.insert_entry.new.entries.items
+    (Some (c.in-Some.upper_keys.texts, c.in-Some.upper.items)) c.requires.keys.1 c.requires.pairs c.requires.absent
+    c.in-Some.ensures in
+    let k = kept_halves (put (slice_cmp nat_cmp) c.args.row.0 c.args.row.1 (paired keys values))
+    c.insert_entry.new.keys.texts c.insert_entry.new.entries.items c.in-Some.upper_keys.texts
+    c.in-Some.upper.items (length keys) h
+    (rows_put keys values c.args.place c.args.row.0 c.args.row.1 c.requires.keys.1 c.requires.pairs
+    c.requires.absent) in
+    ap (λ (s : Seen). s.sizes) c.housed.ensures ∙ ap (λ n. (1, n) ∷ []) k.2
 
 pub insert_entry-requires-clause-spare_keys : goal.insert_entry-requires-clause-spare_keys
 insert_entry-requires-clause-spare_keys c = c.requires.spare.empty.0

@@ -12,6 +12,10 @@ use Rattle.map_nodes.proofs.CountLemmas.{entries_fresh, fresh-alone, fresh-halve
 use Rattle.map_nodes.proofs.CountLemmas.{kept_halves}
 use Rattle.map_nodes.proofs.KidLemmas.{finished_alone, kid_halves, putting, chosen_are}
 use Rattle.map_chunks.proofs.ListLemmas.{length-paired}
+use Rattle.map_nodes.proofs.PutSizes.{entries_sizes, sizes-alone, sizes-halves, sizes-with_half}
+use Rattle.map_nodes.proofs.SizeLemmas.{inner_sizes}
+use Rattle.map_nodes.specs.Inside.Sizing.{half_sizes}
+use Rattle.map_nodes.specs.Sizes.{one, seen_sizes}
 use Rattle.map_nodes.proofs.nodes.putting.middles.finish.Goals as goal
 
 pub returns-in_default-clause-shape : goal.returns-in_default-clause-shape
@@ -171,6 +175,79 @@ returns-clause-fresh c =
     let n = fresh-halves es c.insert_entry.new.keys.texts c.insert_entry.new.entries.items
     c.in-Some-insert_entry.upper_keys.texts c.in-Some-insert_entry.upper.items h in
     omega (arith, m, n, ap entries_fresh back, ap half_fresh c.in-Some.is, ap (λ (s : Seen). s.fresh) c.housed.ensures)
+
+pub returns-in_default-clause-sizes : goal.returns-in_default-clause-sizes
+returns-in_default-clause-sizes c p at n = let e = ap (λ h. half_sizes p h at n) c.in_default.is in omega (arith, e)
+
+pub returns-in_default-insert_entry-clause-sizes : goal.returns-in_default-insert_entry-clause-sizes
+returns-in_default-insert_entry-clause-sizes c contents at n =
+    let keys = c.args.keys.now.texts in
+    let kids = c.args.kids.now.items in
+    let es : Kids = with_half c.args.place c.args.half (paired keys kids) in
+    let hf : IsHalf (c.requires.fits.split.0 + 1) (c.args.depth - 1) (Some c.in-Some.half) = subst
+    (IsHalf (c.requires.fits.split.0 + 1) (c.args.depth - 1)) c.in-Some.is c.requires.fits.split.1 in
+    let p = putting keys kids c.args.place c.requires.fits.split.0
+    (c.args.depth - 1) c.in-Some.half c.in-Some-pop.first c.pop.new.self.items c.requires.fits.pairs
+    c.requires.fits.within hf c.in-Some-pop.ensures.items in
+    let back : with_half c.args.place (Some c.in-Some.half) (paired keys kids)
+    ≡ es = ap (λ h. with_half c.args.place h (paired keys kids)) (sym c.in-Some.is) in
+    let q : insert (paired keys kids) (c.args.place + 1) (c.in-Some-pop.first, Own c.in-Some.half.node)
+    ≡ es = p.es_is ∙ back in
+    let h = subst (λ (w : Kids). Parted w c.insert_entry.new.keys.texts c.insert_entry.new.entries.items None) q
+    c.in_default-insert_entry.ensures in
+    let below = c.args.depth - 1 in
+    let m = sizes-with_half contents below keys kids c.args.place c.in-Some.half at n c.requires.fits.pairs
+    c.requires.fits.within in
+    let r = sizes-alone contents below es c.insert_entry.new.keys.texts c.insert_entry.new.entries.items at n h in
+    omega (
+      arith,
+      m,
+      r,
+      ap (λ w. entries_sizes contents below w at n) back,
+      ap (λ w. half_sizes contents w at n)
+          c.in-Some.is,
+    )
+
+pub returns-clause-sizes : goal.returns-clause-sizes
+returns-clause-sizes c contents at n =
+    let keys = c.args.keys.now.texts in
+    let kids = c.args.kids.now.items in
+    let es : Kids = with_half c.args.place c.args.half (paired keys kids) in
+    let hf : IsHalf (c.requires.fits.split.0 + 1) (c.args.depth - 1) (Some c.in-Some.half) = subst
+    (IsHalf (c.requires.fits.split.0 + 1) (c.args.depth - 1)) c.in-Some.is c.requires.fits.split.1 in
+    let p = putting keys kids c.args.place c.requires.fits.split.0
+    (c.args.depth - 1) c.in-Some.half c.in-Some-pop.first c.pop.new.self.items c.requires.fits.pairs
+    c.requires.fits.within hf c.in-Some-pop.ensures.items in
+    let back : with_half c.args.place (Some c.in-Some.half) (paired keys kids)
+    ≡ es = ap (λ h. with_half c.args.place h (paired keys kids)) (sym c.in-Some.is) in
+    let q : insert (paired keys kids) (c.args.place + 1) (c.in-Some-pop.first, Own c.in-Some.half.node)
+    ≡ es = p.es_is ∙ back in
+    let h = subst (λ (w : Kids). Parted w c.insert_entry.new.keys.texts c.insert_entry.new.entries.items
+    (Some (c.in-Some-insert_entry.upper_keys.texts, c.in-Some-insert_entry.upper.items))) q
+    c.in-Some-insert_entry.ensures in
+    let below = c.args.depth - 1 in
+    let m = sizes-with_half contents below keys kids c.args.place c.in-Some.half at n c.requires.fits.pairs
+    c.requires.fits.within in
+    let r = sizes-halves contents below es c.insert_entry.new.keys.texts c.insert_entry.new.entries.items
+    c.in-Some-insert_entry.upper_keys.texts c.in-Some-insert_entry.upper.items at n h in
+    let k = kept_halves es c.insert_entry.new.keys.texts c.insert_entry.new.entries.items
+    c.in-Some-insert_entry.upper_keys.texts c.in-Some-insert_entry.upper.items (length keys) h
+    (sym (ap length back) ∙ p.whole) in
+    let x = ap (λ (s : Seen). seen_sizes contents s at n) c.housed.ensures in
+    let y = inner_sizes contents below c.in-Some-insert_entry.upper_keys.texts c.in-Some-insert_entry.upper.items
+    h.1.1 at n in
+    let z = ap (λ w. one (c.args.depth, w) at n) k.2 in
+    omega (
+      arith,
+      m,
+      r,
+      x,
+      y,
+      z,
+      ap (λ w. entries_sizes contents below w at n) back,
+      ap (λ w. half_sizes contents w at n)
+          c.in-Some.is,
+    )
 
 pub returns-in_default-insert_entry-clause-entries : goal.returns-in_default-insert_entry-clause-entries
 returns-in_default-insert_entry-clause-entries c =
