@@ -53,7 +53,7 @@ nodes-grown contents old new p = (map content_of p.0, sym (nodes-more contents o
 
 -- CHILDREN
 
-child-stays : (old new : Contents) (depth : ℕ) (child : OwnChild) (rows : Rows) → IsPrefix old new
+pub child-stays : (old new : Contents) (depth : ℕ) (child : OwnChild) (rows : Rows) → IsPrefix old new
     → child_rows old depth child ≡ Some rows → child_rows new depth child ≡ Some rows
 child-stays old new depth (Placed at) rows p h = rows-kept old new depth (stamp_of at) rows p h
 child-stays old new depth (Own n) rows p h = shown-kept old new n.value.pieces rows p h
@@ -94,7 +94,7 @@ frozen-length first old new [] (at ∷ ats) f = absurd f
 frozen-length first old new (child ∷ children) [] f = absurd f
 frozen-length first old new (child ∷ children) (at ∷ ats) f = ap suc (frozen-length first old new children ats f.1)
 
-deep_of : (depth : ℕ) (k : Bytes) (child : OwnChild) → IsChild depth k child → IsDeep depth child
+pub deep_of : (depth : ℕ) (k : Bytes) (child : OwnChild) → IsChild depth k child → IsDeep depth child
 deep_of depth k (Placed at) h = tt
 deep_of depth k (Own n) h = h.0
 

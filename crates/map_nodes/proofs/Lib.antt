@@ -26,3 +26,4 @@ mod StepLemmas
 mod WalkLemmas
 pub mod PutSizes
 pub mod SizeLemmas
+pub mod FreezeSizes

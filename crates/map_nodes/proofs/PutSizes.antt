@@ -1,22 +1,19 @@
 -- How many chunks of each depth and size there are once a row is put.
 use Rattle.std.proofs.Common.{◌≡◌, ◌≢◌, ◌⊎◌, ◌<◌, ◌≤◌, ◌+◌, ◌-◌, ℕ, Bool, true, false, List, [], ◌∷◌, ◌++◌, Option, Some}
-use Rattle.std.proofs.Common.{None, inl, inr, refl, sym, ap, ◌∙◌, subst, arith, cond, nat_lt, length, get_or, set, insert}
+use Rattle.std.proofs.Common.{None, inl, inr, refl, sym, ap, ◌∙◌, subst, arith, cond, nat_lt, length, get_or, insert}
 use Rattle.std.proofs.Common.{take, drop, take-append-drop, zero, suc, slice_get, Result, Ok, Err, IfOk}
 use Rattle.std.specs.Prelude.{◌==◌, ◌&&◌}
 use Rattle.std.proofs.lemmas.Bool.Decides.{nat_tests}
 use Rattle.group_history.specs.Map.{Bytes}
-use Rattle.group_history.specs.Refs.{stamp_of}
 use Rattle.group_history.specs.Rows.{Rows, paired, values_of}
 use Rattle.group_history.specs.Spelling.{Contents}
 use Rattle.group_history.proofs.Pairs.{values_of-paired}
 use Rattle.map_chunks.specs.Inserting.{ArePairs, Parted}
 use mathlib.Core.List.{IsPrefix}
 use Rattle.map_chunks.specs.Shown.{Piece, Seen, shown}
-use Rattle.map_chunks.proofs.JoinLemmas.{some_is}
 use Rattle.map_chunks.proofs.ListLemmas.{length-paired}
 use Rattle.map_nodes.specs.Inside.Counts.{HasKept}
 use Rattle.map_nodes.specs.Inside.Halves.{half_pieces, with_half}
-use Rattle.map_nodes.specs.Inside.Nodes.{child_rows}
 use Rattle.map_nodes.specs.Inside.Sizing.{child_seen_sizes, kids_seen_sizes, half_sizes, inner_sizes, split_sizes}
 use Rattle.map_nodes.specs.Inside.Sizing.{ChildHalvesPut, HalvesPut, IsLeafHalf}
 use Rattle.map_nodes.specs.Nodes.{Kids, kids_pieces, kids_sizes, row_pieces}
@@ -26,7 +23,7 @@ use Rattle.map_nodes.proofs.SizeLemmas.{row_pieces-sizes, inner_sizes as inner_i
 use Rattle.map_nodes.specs.Sizes.{Sizes, one, one_if, risen, counted, pieces_sizes, seen_sizes, AreGrown, ArePut}
 use Rattle.map_nodes.specs.Sizes.{AreAsBefore, ArePutIn}
 use Rattle.map_nodes.specs.declared.nodes.OwnChild.{OwnChild}
-use Rattle.map_nodes.specs.declared.nodes.OwnChild.TheVariants.{Placed, Own}
+use Rattle.map_nodes.specs.declared.nodes.OwnChild.TheVariants.{Own}
 use Rattle.map_nodes.specs.declared.nodes.putting.Half.{Half}
 
 -- ONE CHUNK

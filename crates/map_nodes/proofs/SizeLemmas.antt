@@ -55,7 +55,7 @@ named (chunked.Inner kids) = (
 )
 
 -- what each child has stays
-children-kept : (old new : Contents) (d : ℕ) (kids : List (Bytes × Ref)) (rs : Rows) (depth entries : ℕ)
+pub children-kept : (old new : Contents) (d : ℕ) (kids : List (Bytes × Ref)) (rs : Rows) (depth entries : ℕ)
     → joined_rows (shows_by (rows_at old d) kids) ≡ Some rs
     → ((k : ℕ) (v : Rows) → rows_at old d k ≡ Some v
     → placed_sizes new d k depth entries ≡ placed_sizes old d k depth entries)

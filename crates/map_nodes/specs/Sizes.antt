@@ -71,10 +71,11 @@ abbrev pub HasOneSplit : (ℕ → ℕ) → (ℕ → ℕ) → Type 0
 HasOneSplit old new =
     (entries : ℕ) → new entries + one_if 16 entries ≡ old entries + one_if 8 entries + one_if 9 entries
 
+-- of the chunks of a depth, by their sizes: none is changed, or one in these ways
 abbrev pub AreGrown : (ℕ → ℕ) → (ℕ → ℕ) → Type 0
 AreGrown old new = ((entries : ℕ) → new entries ≡ old entries) ⊎ HasOneMore old new ⊎ HasOneSplit old new
 
--- What a put makes of the chunks of a root so deep: at each depth one at most is changed.
+-- What a put makes of a chunk that is so deep, and of those below it: at each depth one at most is changed.
 abbrev pub ArePut : ℕ → Sizes → Sizes → Type 0
 ArePut deep old new = (depth : ℕ) → (depth ≤ deep → AreGrown (old depth) (new depth))
     × (deep < depth → (entries : ℕ) → new depth entries ≡ old depth entries)

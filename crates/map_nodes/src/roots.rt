@@ -1,7 +1,7 @@
 //! The root of what a draft owns of a map.
 //!
 //! A first put at a key that is there makes a trail; other changes need an own chunk, and make one of a trail first.
-ghost use Rattle.std.specs.Prelude.{◌≡◌, ◌==◌, ◌⊎◌, ◌+◌, ◌-◌, ◌*◌, ◌^◌, ◌<◌, ◌≤◌, [], true, min, length, Some, IsSome};
+ghost use Rattle.std.specs.Prelude.{◌≡◌, ◌==◌, ◌⊎◌, ◌+◌, ◌-◌, ◌*◌, ◌^◌, ◌<◌, ◌≤◌, [], ◌∷◌, true, min, length, Some, IsSome};
 ghost use Rattle.std.specs.Prelude.{IfOk, IfErr, OnOk, OnErr, option_copied};
 ghost use Rattle.std.specs.Ordering.{nat_cmp};
 ghost use Rattle.std.specs.Cmp.Lexicographic.{slice_cmp};
@@ -20,6 +20,7 @@ ghost use Rattle.map_chunks.specs.Shown.{shown, IsTree, rows_or};
 ghost use Rattle.map_chunks.specs.Wide.{IsWideAt, IsWideChunk};
 ghost use Rattle.map_nodes.specs.Sizes.{placed_sizes, seen_sizes, AreAsBefore, ArePutIn};
 ghost use Rattle.map_nodes.specs.Removing.{root_left, without, root_rows, IsWideRoot, IsLowRoot};
+ghost use Rattle.map_nodes.specs.Sizes.{AreAsBefore, placed_sizes, seen_sizes};
 
 use crate::nodes::{OwnNode, Trail};
 use group_history::{Json, Ref, Refusal, Scan, Stop};
@@ -71,6 +72,7 @@ impl OwnRoot {
         ensures depth { result.depth ≡ 1 }
         ensures pieces { result.pieces ≡ [] }
         ensures fresh { result.fresh ≡ 1 }
+        ensures sizes { result.sizes ≡ (1, 0) ∷ [] }
     {
         OwnRoot::new(OwnNode::empty(alloc))
     }
@@ -366,6 +368,10 @@ impl OwnRoot {
             → shown (with_nodes contents draft.old.nodes) self.pieces ≡ Some rows
             → IfOk result (λ root. rows_at (with_nodes contents draft.new.nodes) self.depth
             (stamp_of root) ≡ Some rows) }
+        ensures sizes { (contents : Contents) (rows : Rows) → length contents ≡ draft.old.first
+            → shown (with_nodes contents draft.old.nodes) self.pieces ≡ Some rows
+            → IfOk result (λ root. AreAsBefore (seen_sizes (with_nodes contents draft.old.nodes) self)
+            (placed_sizes (with_nodes contents draft.new.nodes) self.depth (stamp_of root))) }
         ensures wide { (contents : Contents) → length contents ≡ draft.old.first → 1 < self.entries
             → IfOk result (λ root. IsWideAt (with_nodes contents draft.new.nodes) (stamp_of root)) }
         ensures named { OnOk result (AddsNamed draft.old.first
@@ -395,6 +401,10 @@ pub fn frozen(alloc: Global, root: OwnRoot, draft: &mut Draft) -> Result<Ref, Re
     ensures spelled { (contents : Contents) (rows : Rows) → length contents ≡ draft.old.first
         → shown (with_nodes contents draft.old.nodes) root.pieces ≡ Some rows
         → IfOk result (λ at. rows_at (with_nodes contents draft.new.nodes) root.depth (stamp_of at) ≡ Some rows) }
+    ensures sizes { (contents : Contents) (rows : Rows) → length contents ≡ draft.old.first
+        → shown (with_nodes contents draft.old.nodes) root.pieces ≡ Some rows
+        → IfOk result (λ at. AreAsBefore (seen_sizes (with_nodes contents draft.old.nodes) root)
+        (placed_sizes (with_nodes contents draft.new.nodes) root.depth (stamp_of at))) }
     ensures wide { (contents : Contents) → length contents ≡ draft.old.first → 1 < root.entries
         → IfOk result (λ at. IsWideAt (with_nodes contents draft.new.nodes) (stamp_of at)) }
     ensures named { OnOk result (AddsNamed draft.old.first (places_of root.pieces) draft.old.nodes draft.new.nodes) }

@@ -5,6 +5,7 @@ use Rattle.group_history.specs.Map.{Entries}
 use Rattle.group_history.specs.Refs.{stamp_of}
 use Rattle.group_history.specs.Spelling.{Contents, Segment, segment_at, map_at}
 use Rattle.map_chunks.specs.Places.{places_of}
+use Rattle.map_chunks.specs.Seeking.{chunk_depth}
 use Rattle.map_chunks.specs.Shown.{shown, map_of_rows}
 use Rattle.map_chunks.specs.Wide.{IsWideAt, IsWideChunk}
 use Rattle.map_nodes.specs.Sizes.{Sizes, placed_sizes, seen_sizes}
@@ -33,11 +34,13 @@ root_depth contents (Own n) = Some n.depth
 abbrev pub tree_depth : Contents → Tree → Option ℕ
 tree_depth contents t = root_depth contents t.root
 
--- of the root and of the chunks below it, how many are of a depth and have so many entries
+-- of the placed chunk of a stamp and of those below it, how many are of a depth and have so many entries
+abbrev pub sizes_at : Contents → ℕ → Sizes
+sizes_at contents stamp = placed_sizes contents (unwrap_or (chunk_depth contents stamp) 0) stamp
+
 abbrev pub root_sizes : Contents → Root → Sizes
-root_sizes contents (Placed at) depth entries =
-    placed_sizes contents (unwrap_or (root_depth contents (Placed at)) 0) (stamp_of at) depth entries
-root_sizes contents (Own n) depth entries = seen_sizes contents n depth entries
+root_sizes contents (Placed at) = sizes_at contents (stamp_of at)
+root_sizes contents (Own n) = seen_sizes contents n
 
 -- how many chunks the tree has of each depth and size
 abbrev pub tree_sizes : Contents → Tree → Sizes
