@@ -42,13 +42,18 @@ rows_or (Some rows) = rows
 abbrev pub map_of_rows : Rows → Option Entries
 map_of_rows rows = if finite.is_sorted (slice_cmp nat_cmp) rows then Some (finite.from_sorted rows) else None
 
+-- a chunk so far below the first one: an own one with so many keys, or a placed one that is so deep
+pub data Mark : Type 0 where
+  own : ℕ → ℕ → Mark
+  placed : ℕ → ℕ → Ref → Mark
+
 -- A chunk of a draft as clauses see it: how deep it is, a leaf being 1 deep; how many keys it has; its pieces in order;
--- how deep its own chunks are nested; how many chunks it is, itself counted; and of each of these how deep it is, and
--- how many keys it has.
+-- how deep its own chunks are nested; how many chunks it is, itself counted; and which these are, each before those
+-- below it.
 pub record Seen : Type 0 where
   pub depth : ℕ
   pub entries : ℕ
   pub pieces : List Piece
   pub height : ℕ
   pub fresh : ℕ
-  pub sizes : List (ℕ × ℕ)
+  pub marks : List Mark

@@ -53,7 +53,7 @@ nodes-grown contents old new p = (map content_of p.0, sym (nodes-more contents o
 
 -- CHILDREN
 
-pub child-stays : (old new : Contents) (depth : ℕ) (child : OwnChild) (rows : Rows) → IsPrefix old new
+child-stays : (old new : Contents) (depth : ℕ) (child : OwnChild) (rows : Rows) → IsPrefix old new
     → child_rows old depth child ≡ Some rows → child_rows new depth child ≡ Some rows
 child-stays old new depth (Placed at) rows p h = rows-kept old new depth (stamp_of at) rows p h
 child-stays old new depth (Own n) rows p h = shown-kept old new n.value.pieces rows p h

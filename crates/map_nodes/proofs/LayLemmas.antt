@@ -1,7 +1,7 @@
 -- A trail laid from a placed chunk down to a key.
 use Rattle.std.proofs.Common.{◌≡◌, ◌<◌, ◌+◌, ◌-◌, ℕ, cond, inl, inr, List, [], ◌∷◌, ◌++◌, Some, length}
 use Rattle.std.proofs.Common.{append_assoc, Result, Ok, Err, IfOk, slice_get, get_or, set, refl, sym, ap, ◌∙◌, subst}
-use Rattle.std.proofs.Common.{arith, nat_cmp, length-set}
+use Rattle.std.proofs.Common.{arith, nat_cmp}
 use Rattle.std.proofs.lemmas.List.{get_or-map}
 use Rattle.std.specs.Arc.{arc_value}
 use Rattle.std.specs.List.{Contains}
@@ -19,7 +19,6 @@ use Rattle.group_history.specs.Naming.{chunk_children, chunk_content}
 use Rattle.group_history.specs.Refs.{stamp_of}
 use Rattle.group_history.specs.Rows.{Rows, keys_of, values_of, paired, AreKeys}
 use Rattle.group_history.specs.Spelling.{Contents, rows_at}
-use Rattle.group_history.proofs.Lists.{get_more}
 use Rattle.group_history.proofs.Pairs.{paired-parts}
 use Rattle.group_history.proofs.Spellings.{segment-content}
 use Rattle.map_chunks.proofs.JoinLemmas.{some_is}
@@ -33,11 +32,11 @@ use Rattle.map_chunks.specs.Shown.{Piece, Seen, rows_or, shown, IsTree}
 use Rattle.map_chunks.specs.Wide.{IsWideAt}
 use Rattle.map_nodes.proofs.ChangeLemmas.{none_there, put-found, replaced}
 use Rattle.map_nodes.proofs.CopyLemmas.{Copyable, copied_inner, copied_pieces, copyable}
-use Rattle.map_nodes.proofs.CopyLemmas.{placed_inner, placed_kids-sizes, placed_leaf}
+use Rattle.map_nodes.proofs.KeptLevels.{levels-set, placed_inner, placed_leaf, placed-values, still, topped-same}
+use Rattle.map_nodes.proofs.LevelLemmas.{inner-levels, leaf-levels}
 use Rattle.map_nodes.proofs.NamedLemmas.{kept-child, places-rows}
 use Rattle.map_nodes.proofs.NodeLemmas.{Down, down, shown-rows}
 use Rattle.map_nodes.proofs.ReplaceLemmas.{can_replace, kid_replaced}
-use Rattle.map_nodes.proofs.SizeLemmas.{inner_parts, kids_sizes-set, leaf_parts, placed_sizes-kept}
 use Rattle.map_nodes.proofs.SpotLemmas.{read_at, step_places}
 use Rattle.map_nodes.proofs.TrailLemmas.{kid_of, length-placed, placed-places, step-fresh}
 use Rattle.map_nodes.proofs.WideLemmas.{wide-copy, wide_grown}
@@ -45,9 +44,8 @@ use Rattle.map_nodes.specs.Inside.Copies.{chunk_pieces}
 use Rattle.map_nodes.specs.Inside.Freezing.{child_places}
 use Rattle.map_nodes.specs.Inside.Laying.{HasKey, IsCopiedStep, IsLaid, IsLaidBehind, IsPutEnd, IsStage, IsStageAt}
 use Rattle.map_nodes.specs.Inside.Replacing.{CanReplace}
-use Rattle.map_nodes.specs.Inside.Sizing.{kids_seen_sizes}
-use Rattle.map_nodes.specs.Sizes.{AreAsBefore, one, placed_sizes, seen_sizes}
-use Rattle.map_nodes.specs.Nodes.{AllKids, kids_pieces}
+use Rattle.map_nodes.specs.Levels.{nothing, placed_levels, seen_levels, topped, StayLater}
+use Rattle.map_nodes.specs.Nodes.{AllKids, kids_levels, kids_pieces}
 use Rattle.map_nodes.specs.Trails.{placed_kids, step_kids, step_seen, trail_seen, IsStep}
 use Rattle.map_nodes.specs.declared.nodes.OwnChild.TheVariants.{Placed, Own}
 use Rattle.map_nodes.specs.declared.nodes.trails.End.{End}
@@ -118,20 +116,18 @@ length-replaced : (key v : Bytes) (rows : Rows) → IsTree (Some rows) → IsSom
 length-replaced key v rows o h = length-put (slice_cmp nat_cmp) nat_list_cmp_total key v rows o ∙ ap
     (λ b. cond b (length rows) (length rows + 1)) h
 
-end_sizes : (p q : Contents) (depth stamp : ℕ) (key v : Bytes) (rows : Rows) (e : End)
+end_levels : (p q : Contents) (depth stamp : ℕ) (key v : Bytes) (rows : Rows) (e : End)
     → Spelt p q depth stamp key (chunked.Leaf rows) → IsPutEnd rows key v e
     → slice_get q stamp ≡ Some (chunk_content (chunked.Leaf rows))
-    → AreAsBefore (placed_sizes q depth stamp) (seen_sizes q (trail_seen [] e))
-end_sizes p q depth stamp key v rows e s h g d n =
+    → StayLater q (λ w. placed_levels w depth stamp) (seen_levels (trail_seen [] e))
+end_levels p q depth stamp key v rows e s h g later pre i =
     let same : rows ≡ s.rows = some_is (sym (shown-rows q rows) ∙ s.copy.rows_are) in
     let keys = arc_value e.keys in
-    let all = paired keys e.values.items in
     let long : length keys ≡ length rows = sym (length-paired keys e.values.items h.0.1) ∙ ap length h.1
     ∙ length-replaced key v rows (subst (λ w. IsTree (Some w)) (sym same) s.tree)
     (subst (λ w. IsSome (find (slice_cmp nat_cmp) key w)) (sym same) s.there) in
-    leaf_parts q (1, length keys) all d n
-    ∙ ap (λ k. one (1, k) d n) long ∙ ap (λ k. one (k, length rows) d n) (sym s.copy.deep)
-    ∙ sym (placed_leaf q depth stamp rows s.copy.deep g d n)
+    leaf-levels later (length keys) i ∙ ap (λ n. topped n nothing i) long
+    ∙ sym (placed_leaf later depth stamp rows s.copy.deep (still q later stamp (chunked.Leaf rows) pre g) i)
 
 pub laid_end : (p q : Contents) (may : Ref → Type 0) (depth stamp : ℕ) (key v : Bytes) (rows : Rows) (e : End)
     → Spelt p q depth stamp key (chunked.Leaf rows) → IsPutEnd rows key v e
@@ -146,7 +142,7 @@ laid_end p q may depth stamp key v rows e s h g =
       shown_is = shown-rows q all ∙ ap (λ w. Some w) (h.1 ∙ ap (put (slice_cmp nat_cmp) key v) same)
           ∙ ap (λ w. Some (put (slice_cmp nat_cmp) key v (rows_or w))) (sym s.was);
       few = omega (arith, s.copy.deep);
-      sizes = end_sizes p q depth stamp key v rows e s h g;
+      levels = end_levels p q depth stamp key v rows e s h g;
       kept = subst (AreKept may []) (sym (places-rows all)) (kept-none may []);
       wide = λ w. inl refl;
     }
@@ -203,34 +199,23 @@ can_below q depth key s rows below x there =
     x.here (subst (λ w. IsSome (find (slice_cmp nat_cmp) key (rows_or w))) (sym x.rows_are) there) (Placed below) x.here
 
 -- a step has as many children as the chunk that it is over, and one of them is the chunk below it
-step_sizes : (p : Contents) (depth stamp : ℕ) (kids : List (Bytes × Ref)) (s : Step) (below : Ref) (next : Seen)
+step_levels : (p : Contents) (depth stamp : ℕ) (kids : List (Bytes × Ref)) (s : Step) (below : Ref) (next : Seen)
     → 0 < depth → slice_get p stamp ≡ Some (chunk_content (chunked.Inner kids))
     → arc_value s.keys ≡ keys_of kids → s.children.items ≡ values_of kids
-    → slice_get (placed_kids s.children.items) s.place ≡ Some (Placed below) → depth - 1 ≡ next.depth
-    → AreAsBefore (placed_sizes p (depth - 1) (stamp_of below)) (seen_sizes p next)
-    → AreAsBefore (placed_sizes p depth stamp) (seen_sizes p (step_seen s next))
-step_sizes p depth stamp kids s below next z g k x here deep h d e =
+    → slice_get (placed_kids s.children.items) s.place ≡ Some (Placed below) → next.depth ≡ depth - 1
+    → StayLater p (λ w. placed_levels w (depth - 1) (stamp_of below)) (seen_levels next)
+    → StayLater p (λ w. placed_levels w depth stamp) (seen_levels (step_seen s next))
+step_levels p depth stamp kids s below next z g k x here deep h later pre i =
     let b = depth - 1 in
     let keys = arc_value s.keys in
     let ats = placed_kids s.children.items in
     let after = step_kids s next in
-    let n = kid_of s next in
-    let wide : length keys ≡ length kids = ap length k ∙ length-keys_of kids in
-    let long : length after ≡ length keys = length-set ats s.place (Own n) ∙ length-placed s.children.items
-    ∙ ap length x ∙ length-values_of kids ∙ sym wide in
-    let up : b + 1 ≡ depth = omega (arith, z) in
-    inner_parts p (next.depth + 1, length keys) next.depth keys after long d e
-    ∙ ap (λ w. one (w + 1, length keys) d e + kids_seen_sizes p w after d e) (sym deep)
-    ∙ ap (λ w. one (w, length keys) d e + kids_seen_sizes p b after d e) up
-    ∙ ap (λ w. one (depth, w) d e + kids_seen_sizes p b after d e) wide
-    ∙ ap (λ w. one (depth, length kids) d e + w)
-    (swapped (kids_seen_sizes p b after d e) (placed_sizes p b (stamp_of below) d e) (kids_seen_sizes p b ats d e)
-    (seen_sizes p next d e) (kids_sizes-set p b ats s.place (Placed below) (Own n) here d e) (h d e)
-    ∙ ap (λ w. kids_seen_sizes p b (placed_kids w) d e) x ∙ placed_kids-sizes p b kids d e)
-    ∙ sym (placed_inner p depth stamp kids z g d e)
-  where
-    swapped : (a c k n : ℕ) → a + c ≡ k + n → n ≡ c → a ≡ k
-    swapped a c k n e h = omega arith
+    inner-levels later next.depth (length keys) after i
+    ∙ ap (λ n. topped (length keys) (kids_levels n after later) i) deep
+    ∙ ap (λ n. topped n (kids_levels b after later) i) (ap length k ∙ length-keys_of kids)
+    ∙ topped-same (length kids) _ _ (λ j. levels-set later b ats s.place (Placed below) (Own (kid_of s next)) here
+    (h later pre) j ∙ ap (λ w. kids_levels b w later j) (ap placed_kids x ∙ placed-values kids)) i
+    ∙ sym (placed_inner later depth stamp kids z (still p later stamp (chunked.Inner kids) pre g) i)
 
 -- where a key is that a child has, there the step has it
 pub laid_step : (p q r : Contents) (may : Ref → Type 0) (depth stamp : ℕ) (key v : Bytes) (kids : List (Bytes × Ref))
@@ -259,8 +244,7 @@ laid_step p q r may depth stamp key v kids s below more e x w g k ats all g2 lai
     let all_is : AllKids (depth - 1) (paired keys (step_kids s next)) = subst (AllKids (depth - 1)) (sym set_is)
     t.all in
     let deep : depth - 1 ≡ next.depth = sym laid.depth_is in
-    let here : slice_get r stamp ≡ Some (chunk_content (chunked.Inner kids)) = subst
-    (λ z. slice_get z stamp ≡ Some (chunk_content (chunked.Inner kids))) g.1 (get_more q g.0 stamp _ g2) in
+    let here = still q r stamp (chunked.Inner kids) g g2 in
     let step : IsStep s next = (
       w.keys,
       w.pairs,
@@ -275,7 +259,7 @@ laid_step p q r may depth stamp key v kids s below more e x w g k ats all g2 lai
           ∙ ap (λ es. shown r (kids_pieces (depth - 1) es)) set_is ∙ t.shown_is
           ∙ ap (λ z. Some (put (slice_cmp nat_cmp) key v (rows_or z))) (w.rows_are ∙ sym x.was);
       few = omega (arith, step-fresh s next step, laid.few, w.deep);
-      sizes = step_sizes r depth stamp kids s below next w.deep here k ats w.here deep laid.sizes;
+      levels = step_levels r depth stamp kids s below next w.deep here k ats w.here laid.depth_is laid.levels;
       kept = subst (AreKept may []) (sym (step_places s next step)) (λ at i. elim (kept at i) [
         | inl t ↦ inr (all at (subst (λ z. Contains z at) (placed-places s.children.items) t))
         | inr t ↦ inr t
@@ -368,11 +352,3 @@ wide_later old new depth k t p w =
     let f = spells_at old depth k n.rows n.is in
     let c = segment-content old k f.0.segment f.0.is in
     wide_grown old new k (node.Chunk c.0) p c.2 w
-
--- a trail is as many chunks as the placed chunk was
-pub laid-sizes : (old new : Contents) (depth k : ℕ) (n : Seen) → IsTree (rows_at old depth k) → IsPrefix old new
-    → AreAsBefore (placed_sizes new depth k) (seen_sizes new n)
-    → AreAsBefore (placed_sizes old depth k) (seen_sizes new n)
-laid-sizes old new depth k n t p h d e =
-    let r = known (rows_at old depth k) t in
-    h d e ∙ placed_sizes-kept old new depth k r.rows p r.is d e

@@ -24,6 +24,7 @@ mod SpotLemmas
 mod LayLemmas
 mod StepLemmas
 mod WalkLemmas
-pub mod PutSizes
-pub mod SizeLemmas
-pub mod FreezeSizes
+pub mod LevelLemmas
+pub mod PutLevels
+pub mod FreezeLevels
+mod KeptLevels

@@ -12,9 +12,9 @@ use Rattle.group_history.specs.Rows.{Rows, keys_of, values_of, paired}
 use Rattle.group_history.specs.Spelling.{Contents, rows_at, joined_one, joined_rows, begins_with}
 use Rattle.group_history.proofs.Pairs.{keys_of-paired, values_of-paired}
 use Rattle.map_chunks.specs.Search.{IsPlace}
-use Rattle.map_chunks.specs.Shown.{Piece, Seen, part_rows, shown, chunk_rows, IsTree, rows_or}
+use Rattle.map_chunks.specs.Shown.{own, Piece, Seen, part_rows, shown, chunk_rows, IsTree, rows_or}
 use Rattle.map_nodes.specs.Nodes.{Kids, child_pieces, kids_pieces, kids_height, kids_fresh, row_pieces, body_pieces}
-use Rattle.map_nodes.specs.Nodes.{HeadIs, IsChild, AllKids, IsNode, kids_sizes}
+use Rattle.map_nodes.specs.Nodes.{HeadIs, IsChild, AllKids, IsNode, kids_marks, sunk}
 use Rattle.map_nodes.specs.Inside.Nodes.{Kid, child_rows}
 use Rattle.map_nodes.specs.declared.nodes.Body.{Body}
 use Rattle.map_nodes.specs.declared.nodes.Body.TheVariants.{Inner}
@@ -192,7 +192,7 @@ inner_seen depth keys kids =
       pieces = kids_pieces (depth - 1) (paired keys kids);
       height = kids_height kids + 2;
       fresh = kids_fresh kids + 1;
-      sizes = (depth, length keys) ∷ kids_sizes kids;
+      marks = own 0 (length keys) ∷ sunk (kids_marks (depth - 1) kids);
     }
 
 pub inner_same : (depth : ℕ) (keys2 keys : List Bytes) (kids2 kids : List OwnChild) → keys2 ≡ keys → kids2 ≡ kids

@@ -158,8 +158,8 @@ lowered_pairs keys kids i None y c before first behind l w a = replaced keys kid
 lowered_pairs keys kids i (Some k) y c before first behind l w a =
     paired-both keys kids i k y ∙ ap (λ z. set z i (k, y)) w ∙ set-at before (first, c) behind i (k, y) a
 
-with_half-is : (i : ℕ) (half : Option Half) (before : Kids) (e : Bytes × OwnChild) (behind : Kids) → length before ≡ i
-    → with_half i half (before ++ e ∷ behind) ≡ before ++ ((e ∷ half_kids half) ++ behind)
+pub with_half-is : (i : ℕ) (half : Option Half) (before : Kids) (e : Bytes × OwnChild) (behind : Kids)
+    → length before ≡ i → with_half i half (before ++ e ∷ behind) ≡ before ++ ((e ∷ half_kids half) ++ behind)
 with_half-is i None before e behind l = refl
 with_half-is i (Some h) before e behind l = insert_behind before e behind i (get_or h.firsts.items 0 [], Own h.node) l
 

@@ -1,6 +1,6 @@
 -- A value replaced below a draft's chunk.
-use Rattle.std.proofs.Common.{◌≡◌, ◌<◌, ◌+◌, ◌-◌, ℕ, List, [], ◌∷◌, ◌++◌, Option, Some, length, slice_get, set, refl}
-use Rattle.std.proofs.Common.{sym, ap, ◌∙◌, subst, nat_cmp, length-set, arith}
+use Rattle.std.proofs.Common.{◌≡◌, ◌<◌, ◌-◌, ℕ, List, [], ◌∷◌, ◌++◌, Option, Some, length, slice_get, set, refl, sym}
+use Rattle.std.proofs.Common.{ap, ◌∙◌, subst, nat_cmp, length-set}
 use Rattle.std.specs.Prelude.{IsSome}
 use Rattle.std.specs.Cmp.Lexicographic.{slice_cmp}
 use Rattle.std.specs.FinMap.{find, put}
@@ -10,10 +10,8 @@ use Rattle.group_history.specs.Rows.{Rows, paired, AreKeys}
 use Rattle.group_history.specs.Spelling.{Contents}
 use Rattle.map_nodes.specs.Inside.Replacing.{CanReplace}
 use Rattle.map_chunks.specs.Search.{IsFound, IsAbsent}
-use Rattle.map_chunks.specs.Shown.{Piece, Seen, shown, rows_or}
-use Rattle.map_nodes.specs.Nodes.{Kids, kids_pieces, kids_sizes, row_pieces, body_pieces, body_sizes, IsNode, AllKids}
-use Rattle.map_nodes.specs.Inside.Sizing.{IsChildAsBefore, child_seen_sizes, kids_seen_sizes}
-use Rattle.map_nodes.specs.Sizes.{counted, one, pieces_sizes, seen_sizes}
+use Rattle.map_chunks.specs.Shown.{Piece, shown, rows_or}
+use Rattle.map_nodes.specs.Nodes.{Kids, kids_pieces, row_pieces, body_pieces, IsNode, AllKids}
 use Rattle.map_nodes.specs.Inside.Nodes.{Kid, ChildChanged, child_rows}
 use Rattle.map_nodes.specs.declared.nodes.Body.{Body}
 use Rattle.map_nodes.specs.declared.nodes.Body.TheVariants.{Leaf, Inner}
@@ -26,8 +24,6 @@ use Rattle.map_nodes.proofs.NodeLemmas.{Down, shown-rows}
 use Rattle.map_chunks.proofs.OpenLemmas.{find-way}
 use Rattle.map_nodes.proofs.PathLemmas.{child_requires}
 use Rattle.map_chunks.proofs.SearchLemmas.{found_in, absent_in, find-absent}
-use Rattle.map_nodes.proofs.SizeLemmas.{child_sizes-kept, chunk_sizes, inner_parts, kids_sizes-grown, kids_sizes-set}
-use Rattle.map_nodes.proofs.SizeLemmas.{leaf_parts, leaf_sizes}
 
 -- a leaf shows its rows
 pub leaf_rows : (p : Contents) (depth : ℕ) (keys : List Bytes) (body : Body) (values : _) (pieces : List Piece)
@@ -168,46 +164,3 @@ child_replaced old new depth keys body kids ne pieces key v i child pre is inv d
       shown_is = ap (λ es. shown new (kids_pieces (depth - 1) (paired keys es))) c.1 ∙ ap
           (λ es. shown new (kids_pieces (depth - 1) es)) e ∙ k.shown_is;
     }
-
--- SIZES
-
--- a leaf has as many keys as before
-pub leaf_replaced-sizes : (p : Contents) (depth : ℕ) (keys : List Bytes) (body : Body) (values : _) (old : Seen) (i : ℕ)
-    (v : Bytes) → body_sizes depth (length keys) body ≡ old.sizes → body_pieces depth keys body ≡ old.pieces
-    → body ≡ Leaf values
-    → (d e : ℕ) → counted ((depth, length keys) ∷ []) d e
-    + pieces_sizes p (row_pieces (paired keys (set values.items i v))) d e ≡ seen_sizes p old d e
-leaf_replaced-sizes p depth keys body values old i v s q is d e =
-    leaf_parts p (depth, length keys) (paired keys (set values.items i v)) d e
-    ∙ sym (leaf_sizes p old (depth, length keys) (paired keys values.items)
-    (sym s ∙ ap (body_sizes depth (length keys)) is) (sym q ∙ ap (body_pieces depth keys) is) d e)
-
--- an inner chunk has as many children, and one of them is another chunk with as many chunks below it
-pub inner_replaced-sizes : (old new : Contents) (depth : ℕ) (keys : List Bytes) (body : Body) (kids : _)
-    (ne : List OwnChild) (was : Seen) (key : Bytes) (i : ℕ) (child : OwnChild)
-    → IsPrefix old new → body_sizes depth (length keys) body ≡ was.sizes → body_pieces depth keys body ≡ was.pieces
-    → body ≡ Inner kids → IsNode depth keys body
-    → (x : Down old depth keys kids.items was.pieces key i child) → slice_get kids.items i ≡ Some child
-    → IsChildAsBefore old new (depth - 1) i kids.items ne child
-    → (d e : ℕ) → counted ((depth, length keys) ∷ kids_sizes ne) d e
-    + pieces_sizes new (kids_pieces (depth - 1) (paired keys ne)) d e ≡ seen_sizes old was d e
-inner_replaced-sizes old new depth keys body kids ne was key i child p s q is inv x g h d e =
-    let below = depth - 1 in
-    let node : IsNode depth keys (Inner kids) = subst (IsNode depth keys) is inv in
-    let l : length kids.items ≡ length keys = node.1.2 in
-    let n = h.0 in
-    let after = set kids.items i (Own n) in
-    let pieces_are : was.pieces ≡ kids_pieces below (paired keys kids.items) = sym q ∙ ap (body_pieces depth keys) is in
-    inner_parts new (depth, length keys) below keys ne (ap length h.1 ∙ length-set kids.items i (Own n) ∙ l) d e
-    ∙ ap (λ w. one (depth, length keys) d e + kids_seen_sizes new below w d e) h.1
-    ∙ sums (one (depth, length keys) d e) (kids_seen_sizes new below after d e)
-    (kids_seen_sizes new below kids.items d e) (kids_seen_sizes old below kids.items d e)
-    (child_seen_sizes new below child d e) (child_seen_sizes old below child d e) (seen_sizes new n.value d e)
-    (kids_sizes-set new below kids.items i child (Own n) g d e)
-    (kids_sizes-grown old new below keys kids.items x.rows l node.1.3 p (ap (shown old) (sym pieces_are) ∙ x.rows_is)
-    d e) (child_sizes-kept old new below child x.way.here p x.way.here_is d e) (h.2 d e)
-    ∙ sym (chunk_sizes old was (depth, length keys) below keys kids.items l
-    (sym s ∙ ap (body_sizes depth (length keys)) is) pieces_are d e)
-  where
-    sums : (o a kn ko cn co n : ℕ) → a + cn ≡ kn + n → kn ≡ ko → cn ≡ co → n ≡ co → o + a ≡ o + ko
-    sums o a kn ko cn co n e f g h = omega arith

@@ -20,19 +20,19 @@ use Rattle.map_chunks.proofs.ListLemmas.{length-paired}
 use Rattle.map_chunks.proofs.OpenLemmas.{rows-kept, shows_by}
 use Rattle.map_chunks.specs.Drafts.{AreBelow}
 use Rattle.map_chunks.specs.Places.{AddsNamed, AreNamed, places_of, with_nodes}
-use Rattle.map_chunks.specs.Shown.{Seen, shown}
+use Rattle.map_chunks.specs.Shown.{own, Seen, shown}
 use Rattle.map_chunks.specs.Wide.{IsWideAt}
 use Rattle.map_nodes.proofs.BelowLemmas.{inner-below}
 use Rattle.map_nodes.proofs.FreezeLemmas.{all-spelled, inner_pushed, leaf_pushed, nodes-grown}
-use Rattle.map_nodes.proofs.FreezeSizes.{inner_sized, leaf_sized, step_sized}
+use Rattle.map_nodes.proofs.FreezeLevels.{inner_level, leaf_level, step_level}
 use Rattle.map_nodes.proofs.NamedLemmas.{adds-none, adds-one, adds-within, inner-named}
 use Rattle.map_nodes.proofs.NodeLemmas.{shown-kids, shown-rows}
 use Rattle.map_nodes.proofs.SpotLemmas.{step_places}
 use Rattle.map_nodes.proofs.TrailLemmas.{kid_of, placed-places, step-fresh, step-pairs}
 use Rattle.map_nodes.proofs.WideLemmas.{pushed_at, wide_inner, wide_node}
-use Rattle.map_nodes.specs.Inside.Freezing.{AreFrozen, IsFrozen, IsSized, IsWritten, child_places, kids_places}
+use Rattle.map_nodes.specs.Inside.Freezing.{AreFrozen, IsFrozen, IsLevel, IsWritten, child_places, kids_places}
 use Rattle.map_nodes.specs.Inside.Nodes.{Kid}
-use Rattle.map_nodes.specs.Sizes.{AreAsBefore, placed_sizes, seen_sizes}
+use Rattle.map_nodes.specs.Levels.{placed_levels, seen_levels, StayLater}
 use Rattle.map_nodes.specs.Trails.{placed_kids, step_kids, step_names, step_seen, trail_seen, IsStep, IsTrail}
 use Rattle.map_nodes.specs.declared.nodes.OwnChild.TheVariants.{Placed, Own}
 use Rattle.map_nodes.specs.declared.nodes.trails.End.{End}
@@ -185,8 +185,8 @@ written_leaf first old new e at leaf h l w k z =
       spelled = λ contents rows c shows. leaf_pushed contents first old new leaf rows 1 at c w k
           (omega (arith, ap length l, length-paired (arc_value e.keys) e.values.items h.1, h.0.0)) refl
           (l ∙ some_is (sym (shown-rows (with_nodes contents old) all) ∙ shows));
-      sizes = λ contents rows c shows. leaf_sized contents first old new (trail_seen [] e) leaf all at c w k refl
-          (ap (λ z. (1, z) ∷ []) (sym (ap length l ∙ length-paired (arc_value e.keys) e.values.items h.1))) refl;
+      levels = λ contents c. leaf_level contents first old new (trail_seen [] e) leaf at c w k refl
+          (ap (λ z. own 0 z ∷ []) (sym (ap length l ∙ length-paired (arc_value e.keys) e.values.items h.1)));
       wide = λ contents c many. wide_node (with_nodes contents new) (stamp_of at) (content_of x)
           (pushed_at contents first old new x at c w k) refl;
       named = adds-one first (places_of (trail_seen [] e).pieces) old old new x
@@ -208,17 +208,16 @@ written_step first old mid new s ss e at root h f w k z =
     let more : length new ≡ length mid + 1 = omega (arith, ap length w, length-append mid (x ∷ [])) in
     let frozen : IsFrozen first old mid (Own (kid_of s below)) at = λ contents depth rows c d shows. subst
     (λ b. rows_at (with_nodes contents mid) b (stamp_of at) ≡ Some rows) d (f.spelled contents rows c shows) in
-    let sized : IsSized first old mid (Own (kid_of s below)) at = λ contents depth rows c d shows. subst
-    (λ b. AreAsBefore (seen_sizes (with_nodes contents old) below) (placed_sizes (with_nodes contents mid) b
-    (stamp_of at))) d (f.sizes contents rows c shows) in
+    let level : IsLevel first mid (Own (kid_of s below)) at = λ contents depth c d. subst
+    (λ b. StayLater (with_nodes contents mid) (seen_levels below) (λ p. placed_levels p b (stamp_of at))) d
+    (f.levels contents c) in
     record {
       spelled = λ contents rows c shows. step_spelled contents first old mid new s below at root rows es h.0 c f.grown
           frozen refl w k shows;
-      sizes = λ contents rows c shows. inner_sized contents first old mid new (step_seen s below) below.depth
-          (below.depth + 1) (arc_value s.keys) (step_kids s below) (step_names s at) rows root c w k refl
-          (omega arith) refl refl (step-pairs s below h.0) h.0.3
-          (step_frozen first old mid s.children.items s.place (kid_of s below) at f.grown frozen)
-          (step_sized first old mid s.children.items s.place (kid_of s below) at f.grown sized) shows;
+      levels = λ contents c. inner_level contents first mid new (step_seen s below) below.depth (below.depth + 1)
+          (arc_value s.keys) (step_kids s below) (step_names s at) root c w k refl (omega arith) refl
+          (step-pairs s below h.0) (names_length s below at h.0) h.0.3
+          (step_level first mid s.children.items s.place (kid_of s below) at level);
       wide = λ contents c many. step_wide contents first mid new s below at root es h.0 c refl w k many;
       named = step_added first old mid new s below at es h.0 refl w f.drafted f.named;
       drafted = (omega (arith, k), z);

@@ -10,13 +10,13 @@ use Rattle.group_history.specs.Rows.{paired}
 use Rattle.group_history.specs.Spelling.{Contents}
 use Rattle.map_chunks.proofs.SearchLemmas.{got}
 use Rattle.map_chunks.specs.Search.{IsPlace}
-use Rattle.map_chunks.specs.Shown.{Seen, shown, IsTree}
+use Rattle.map_chunks.specs.Shown.{own, Seen, shown, IsTree}
 use Rattle.map_nodes.proofs.CopyLemmas.{placed_fresh}
 use Rattle.map_nodes.proofs.NodeLemmas.{Down, down}
 use Rattle.map_nodes.specs.Inside.Freezing.{kids_places}
 use Rattle.map_nodes.specs.Inside.Nodes.{Kid}
 use Rattle.map_nodes.specs.Nodes.{AllKids, HeadIs, child_fresh, child_height, child_pieces, kids_fresh, kids_height}
-use Rattle.map_nodes.specs.Nodes.{kids_pieces, child_sizes, kids_sizes}
+use Rattle.map_nodes.specs.Nodes.{kids_pieces, child_marks, kids_marks, sunk}
 use Rattle.map_nodes.specs.Trails.{placed_kids, step_kids, step_seen, trail_seen, IsEnd, IsStep, IsTrail}
 use Rattle.map_nodes.specs.declared.nodes.OwnChild.{OwnChild}
 use Rattle.map_nodes.specs.declared.nodes.OwnChild.TheVariants.{Placed, Own}
@@ -55,11 +55,11 @@ same_fresh [] i n m e = refl
 same_fresh (x ∷ xs) zero n m e = ap (λ (s : Seen). s.fresh + kids_fresh xs) e
 same_fresh (x ∷ xs) (suc i) n m e = ap (λ w. child_fresh x + w) (same_fresh xs i n m e)
 
-same_sizes : (xs : List OwnChild) (i : ℕ) (n m : Kid) → n.value ≡ m.value
-    → kids_sizes (set xs i (Own n)) ≡ kids_sizes (set xs i (Own m))
-same_sizes [] i n m e = refl
-same_sizes (x ∷ xs) zero n m e = ap (λ (s : Seen). s.sizes ++ kids_sizes xs) e
-same_sizes (x ∷ xs) (suc i) n m e = ap (λ w. child_sizes x ++ w) (same_sizes xs i n m e)
+same_marks : (b : ℕ) (xs : List OwnChild) (i : ℕ) (n m : Kid) → n.value ≡ m.value
+    → kids_marks b (set xs i (Own n)) ≡ kids_marks b (set xs i (Own m))
+same_marks b [] i n m e = refl
+same_marks b (x ∷ xs) zero n m e = ap (λ (s : Seen). s.marks ++ kids_marks b xs) e
+same_marks b (x ∷ xs) (suc i) n m e = ap (λ w. child_marks b x ++ w) (same_marks b xs i n m e)
 
 same_all : (b : ℕ) (ks : List Bytes) (xs : List OwnChild) (i : ℕ) (n m : Kid) → n.value ≡ m.value
     → AllKids b (paired ks (set xs i (Own m))) → AllKids b (paired ks (set xs i (Own n)))
@@ -108,7 +108,7 @@ chunk_over depth keys kids = record {
   pieces = kids_pieces (depth - 1) (paired keys kids);
   height = kids_height kids + 2;
   fresh = kids_fresh kids + 1;
-  sizes = (depth, length keys) ∷ kids_sizes kids;
+  marks = own 0 (length keys) ∷ sunk (kids_marks (depth - 1) kids);
 }
 
 pub seen_over : (s : Step) (below : Seen) (n : Kid) (depth : ℕ) (keys : List Bytes) (kids : List OwnChild)
@@ -127,7 +127,7 @@ seen_over s below n depth keys kids d k v e =
       pieces = kids_pieces b (paired texts (set xs s.place (Own n)));
       height = kids_height (set xs s.place (Own n)) + 2;
       fresh = kids_fresh (set xs s.place (Own n)) + 1;
-      sizes = (below.depth + 1, length texts) ∷ kids_sizes (set xs s.place (Own n));
+      marks = own 0 (length texts) ∷ sunk (kids_marks b (set xs s.place (Own n)));
     }) (one_less below.depth)
     ∙ ap (λ w. record {
       depth = below.depth + 1;
@@ -135,7 +135,7 @@ seen_over s below n depth keys kids d k v e =
       pieces = w;
       height = kids_height (set xs s.place (Own n)) + 2;
       fresh = kids_fresh (set xs s.place (Own n)) + 1;
-      sizes = (below.depth + 1, length texts) ∷ kids_sizes (set xs s.place (Own n));
+      marks = own 0 (length texts) ∷ sunk (kids_marks below.depth (set xs s.place (Own n)));
     }) (same_pieces below.depth texts xs s.place n m v)
     ∙ ap (λ w. record {
       depth = below.depth + 1;
@@ -143,7 +143,7 @@ seen_over s below n depth keys kids d k v e =
       pieces = kids_pieces below.depth (paired texts (set xs s.place (Own m)));
       height = w + 2;
       fresh = kids_fresh (set xs s.place (Own n)) + 1;
-      sizes = (below.depth + 1, length texts) ∷ kids_sizes (set xs s.place (Own n));
+      marks = own 0 (length texts) ∷ sunk (kids_marks below.depth (set xs s.place (Own n)));
     }) (same_height xs s.place n m v)
     ∙ ap (λ w. record {
       depth = below.depth + 1;
@@ -151,7 +151,7 @@ seen_over s below n depth keys kids d k v e =
       pieces = kids_pieces below.depth (paired texts (set xs s.place (Own m)));
       height = kids_height (set xs s.place (Own m)) + 2;
       fresh = w + 1;
-      sizes = (below.depth + 1, length texts) ∷ kids_sizes (set xs s.place (Own n));
+      marks = own 0 (length texts) ∷ sunk (kids_marks below.depth (set xs s.place (Own n)));
     }) (same_fresh xs s.place n m v)
     ∙ ap (λ w. record {
       depth = below.depth + 1;
@@ -159,8 +159,8 @@ seen_over s below n depth keys kids d k v e =
       pieces = kids_pieces below.depth (paired texts (set xs s.place (Own m)));
       height = kids_height (set xs s.place (Own m)) + 2;
       fresh = kids_fresh (set xs s.place (Own m)) + 1;
-      sizes = (below.depth + 1, length texts) ∷ w;
-    }) (same_sizes xs s.place n m v)
+      marks = own 0 (length texts) ∷ sunk w;
+    }) (same_marks below.depth xs s.place n m v)
 
 -- what holds of such a chunk
 pub node_over : (s : Step) (below : Seen) (n : Kid) (depth : ℕ) (keys : List Bytes) (kids : List OwnChild)

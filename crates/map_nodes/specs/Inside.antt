@@ -11,7 +11,7 @@ pub mod Halves
 pub mod Counts
 pub mod Ready
 pub mod Unput
-pub mod Sizing
+pub mod Puts
 pub mod Replacing
 -- A removal: what chunks with one child each end in, and what becomes of children and root.
 pub mod Ends

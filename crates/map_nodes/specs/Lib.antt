@@ -1,11 +1,11 @@
 -- What the chunks that a draft owns show. Read Nodes: the pieces of a chunk and what holds of it; Trails: those of a
--- list of chunks on one way; Roots: which of both a root is; Removing: what a root is once a key is removed; then Sizes:
--- how many chunks of each depth and size there are, and what a put makes of them. No public clause above `map_tree`
--- reaches these.
+-- list of chunks on one way; Roots: which of both a root is; Removing: what a root is once a key is removed; then
+-- Levels: how many entries the chunks of each level have, and what a put makes of them. No public clause above
+-- `map_tree` reaches these.
 pub mod Nodes
 pub mod Trails
 pub mod Roots
 pub mod Removing
-pub mod Sizes
+pub mod Levels
 -- Words that only private clauses of this crate use.
 pub mod Inside

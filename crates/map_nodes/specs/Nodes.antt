@@ -1,8 +1,11 @@
 -- The chunks of a draft: what their pieces are, and what holds of them.
 use Rattle.std.specs.Prelude.{ℕ, ◌+◌, ◌-◌, ◌<◌, max, List, [], ◌∷◌, ◌++◌, map, length, ◌≡◌}
 use Rattle.group_history.specs.Map.{Bytes}
+use Rattle.group_history.specs.Refs.{stamp_of}
 use Rattle.group_history.specs.Rows.{Rows, AreKeys, paired}
-use Rattle.map_chunks.specs.Shown.{value, chunk, Piece}
+use Rattle.group_history.specs.Spelling.{Contents}
+use Rattle.map_chunks.specs.Shown.{value, chunk, own, placed, Mark, Piece}
+use Rattle.map_nodes.specs.Levels.{Levels, nothing, placed_levels, seen_levels, topped}
 use Rattle.map_nodes.specs.declared.nodes.OwnChild.{OwnChild}
 use Rattle.map_nodes.specs.declared.nodes.OwnChild.TheVariants.{Placed, Own}
 use Rattle.map_nodes.specs.declared.nodes.Body.{Body}
@@ -76,15 +79,35 @@ abbrev pub body_fresh : Body → ℕ
 body_fresh (Leaf values) = 1
 body_fresh (Inner kids) = kids_fresh kids.items + 1
 
--- how deep each own chunk is, and how many keys it has
-abbrev pub child_sizes : OwnChild → List (ℕ × ℕ)
-child_sizes (Placed at) = []
-child_sizes (Own n) = n.value.sizes
+-- marks one level further below
+abbrev pub sunk : List Mark → List Mark
+sunk [] = []
+sunk (own at entries ∷ ms) = own (at + 1) entries ∷ sunk ms
+sunk (placed at deep ref ∷ ms) = placed (at + 1) deep ref ∷ sunk ms
 
-abbrev pub kids_sizes : List OwnChild → List (ℕ × ℕ)
-kids_sizes [] = []
-kids_sizes (k ∷ ks) = child_sizes k ++ kids_sizes ks
+-- which chunks these are, where the children are so deep
+abbrev pub child_marks : ℕ → OwnChild → List Mark
+child_marks below (Placed at) = placed 0 below at ∷ []
+child_marks below (Own n) = n.value.marks
 
-abbrev pub body_sizes : ℕ → ℕ → Body → List (ℕ × ℕ)
-body_sizes depth entries (Leaf values) = (depth, entries) ∷ []
-body_sizes depth entries (Inner kids) = (depth, entries) ∷ kids_sizes kids.items
+abbrev pub kids_marks : ℕ → List OwnChild → List Mark
+kids_marks below [] = []
+kids_marks below (k ∷ ks) = child_marks below k ++ kids_marks below ks
+
+abbrev pub body_marks : ℕ → ℕ → Body → List Mark
+body_marks depth entries (Leaf values) = own 0 entries ∷ []
+body_marks depth entries (Inner kids) = own 0 entries ∷ sunk (kids_marks (depth - 1) kids.items)
+
+-- a child, so deep where it is placed, and what is below it
+abbrev pub child_levels : ℕ → OwnChild → Contents → Levels
+child_levels below (Placed at) contents = placed_levels contents below (stamp_of at)
+child_levels below (Own n) contents = seen_levels n.value contents
+
+abbrev pub kids_levels : ℕ → List OwnChild → Contents → Levels
+kids_levels below [] contents level = []
+kids_levels below (k ∷ ks) contents level = child_levels below k contents level ++ kids_levels below ks contents level
+
+-- a chunk by its parts, and what is below it
+abbrev pub body_levels : ℕ → ℕ → Body → Contents → Levels
+body_levels depth entries (Leaf values) contents = topped entries nothing
+body_levels depth entries (Inner kids) contents = topped entries (kids_levels (depth - 1) kids.items contents)

@@ -50,7 +50,7 @@ impl Model for OwnNode {
     ghost Value = { Seen };
 
     ghost use Rattle.std.specs.Prelude.{length};
-    ghost use Rattle.map_nodes.specs.Nodes.{body_pieces, body_height, body_fresh, body_sizes, IsNode};
+    ghost use Rattle.map_nodes.specs.Nodes.{body_pieces, body_height, body_fresh, body_marks, IsNode};
 
     ghost view = { λ n. record {
       depth = n.depth;
@@ -58,7 +58,7 @@ impl Model for OwnNode {
       pieces = body_pieces n.depth n.keys.texts n.body;
       height = body_height n.body;
       fresh = body_fresh n.body;
-      sizes = body_sizes n.depth (length n.keys.texts) n.body;
+      marks = body_marks n.depth (length n.keys.texts) n.body;
     } };
 
     ghost invariant = { λ n. IsNode n.depth n.keys.texts n.body };

@@ -1,8 +1,8 @@
 //! The root of what a draft owns of a map.
 //!
 //! A first put at a key that is there makes a trail; other changes need an own chunk, and make one of a trail first.
-ghost use Rattle.std.specs.Prelude.{◌≡◌, ◌==◌, ◌⊎◌, ◌+◌, ◌-◌, ◌*◌, ◌^◌, ◌<◌, ◌≤◌, [], ◌∷◌, true, min, length, Some, IsSome};
-ghost use Rattle.std.specs.Prelude.{IfOk, IfErr, OnOk, OnErr, option_copied};
+ghost use Rattle.std.specs.Prelude.{◌≡◌, ◌==◌, ◌⊎◌, ◌+◌, ◌-◌, ◌*◌, ◌^◌, ◌<◌, ◌≤◌, [], ◌∷◌, true, min, length, Some};
+ghost use Rattle.std.specs.Prelude.{IsSome, IfOk, IfErr, OnOk, OnErr, option_copied};
 ghost use Rattle.std.specs.Ordering.{nat_cmp};
 ghost use Rattle.std.specs.Cmp.Lexicographic.{slice_cmp};
 ghost use Rattle.std.specs.FinMap as finite;
@@ -16,11 +16,10 @@ ghost use Rattle.map_chunks.specs.Drafts.{AreBelow, IsLate};
 ghost use Rattle.map_chunks.specs.Places.{with_nodes, Grows, AreAll, AreKept, AddsNamed, places_of};
 ghost use Rattle.map_chunks.specs.Scanning.{taken, Gave, IsLow};
 ghost use Rattle.map_chunks.specs.Seeking.{stands_in};
-ghost use Rattle.map_chunks.specs.Shown.{shown, IsTree, rows_or};
+ghost use Rattle.map_chunks.specs.Shown.{own, shown, IsTree, rows_or};
 ghost use Rattle.map_chunks.specs.Wide.{IsWideAt, IsWideChunk};
-ghost use Rattle.map_nodes.specs.Sizes.{placed_sizes, seen_sizes, AreAsBefore, ArePutIn};
 ghost use Rattle.map_nodes.specs.Removing.{root_left, without, root_rows, IsWideRoot, IsLowRoot};
-ghost use Rattle.map_nodes.specs.Sizes.{AreAsBefore, placed_sizes, seen_sizes};
+ghost use Rattle.map_nodes.specs.Levels.{placed_levels, seen_levels, PutLater, StayLater};
 
 use crate::nodes::{OwnNode, Trail};
 use group_history::{Json, Ref, Refusal, Scan, Stop};
@@ -72,7 +71,7 @@ impl OwnRoot {
         ensures depth { result.depth ≡ 1 }
         ensures pieces { result.pieces ≡ [] }
         ensures fresh { result.fresh ≡ 1 }
-        ensures sizes { result.sizes ≡ (1, 0) ∷ [] }
+        ensures marks { result.marks ≡ own 0 0 ∷ [] }
     {
         OwnRoot::new(OwnNode::empty(alloc))
     }
@@ -119,11 +118,11 @@ impl OwnRoot {
             ≡ Some (finite.put (slice_cmp nat_cmp) key.now value.now
             (rows_or (rows_at (C.contents chunks.old) depth (stamp_of at))))) }
         ensures few { IfOk result (λ r. r.fresh ≤ depth + depth + 1) }
-        ensures sizes { IfOk result (λ r. ArePutIn depth r.depth (placed_sizes (C.contents chunks.old) depth (stamp_of at))
-            (seen_sizes (C.contents chunks.new) r)) }
+        ensures levels { IfOk result (λ r. PutLater depth r.depth (C.contents chunks.new)
+            (λ p. placed_levels p depth (stamp_of at)) (seen_levels r)) }
         ensures replaced { there ≡ true → IfOk result (λ r. r.fresh ≤ depth) }
-        ensures same { there ≡ true → IfOk result (λ r. AreAsBefore
-            (placed_sizes (C.contents chunks.old) depth (stamp_of at)) (seen_sizes (C.contents chunks.new) r)) }
+        ensures same { there ≡ true → IfOk result (λ r. StayLater (C.contents chunks.new)
+            (λ p. placed_levels p depth (stamp_of at)) (seen_levels r)) }
         ensures deep { IfOk result (λ r. (depth ≤ r.depth) × (r.depth ≤ depth + 1)) }
         ensures wide { IsWideAt (C.contents chunks.old) (stamp_of at) → IfOk result IsWideChunk }
         ensures places { IfOk result (λ r. AreKept (C.places chunks.new) [] (places_of r.pieces)) }
@@ -153,8 +152,8 @@ impl OwnRoot {
             ≡ Some (finite.put (slice_cmp nat_cmp) key.now value.now
             (rows_or (rows_at (C.contents chunks.old) depth (stamp_of at))))) }
         ensures few { IfOk result (λ r. r.fresh ≤ depth) }
-        ensures sizes { IfOk result (λ r. AreAsBefore (placed_sizes (C.contents chunks.old) depth (stamp_of at))
-            (seen_sizes (C.contents chunks.new) r)) }
+        ensures levels { IfOk result (λ r. StayLater (C.contents chunks.new)
+            (λ p. placed_levels p depth (stamp_of at)) (seen_levels r)) }
         ensures deep { IfOk result (λ r. r.depth ≡ depth) }
         ensures wide { IsWideAt (C.contents chunks.old) (stamp_of at) → IfOk result IsWideChunk }
         ensures places { IfOk result (λ r. AreKept (C.places chunks.new) [] (places_of r.pieces)) }
@@ -182,8 +181,8 @@ impl OwnRoot {
             ≡ Some (finite.put (slice_cmp nat_cmp) key.now value.now
             (rows_or (rows_at (C.contents chunks.old) depth (stamp_of at))))) }
         ensures few { IfOk result (λ r. r.fresh ≤ depth + depth + 1) }
-        ensures sizes { IfOk result (λ r. ArePutIn depth r.depth (placed_sizes (C.contents chunks.old) depth (stamp_of at))
-            (seen_sizes (C.contents chunks.new) r)) }
+        ensures levels { IfOk result (λ r. PutLater depth r.depth (C.contents chunks.new)
+            (λ p. placed_levels p depth (stamp_of at)) (seen_levels r)) }
         ensures deep { IfOk result (λ r. (depth ≤ r.depth) × (r.depth ≤ depth + 1)) }
         ensures wide { IsWideAt (C.contents chunks.old) (stamp_of at) → IfOk result IsWideChunk }
         ensures places { IfOk result (λ r. AreKept (C.places chunks.new) [] (places_of r.pieces)) }
@@ -304,10 +303,10 @@ impl OwnRoot {
             ≡ Some (finite.put (slice_cmp nat_cmp) key.now value.now
             (rows_or (shown (C.contents chunks.old) self.old.pieces)))) }
         ensures few { OnOk result (self.new.fresh ≤ self.old.fresh + 2 * self.old.depth) }
-        ensures sizes { OnOk result (ArePutIn self.old.depth self.new.depth (seen_sizes (C.contents chunks.old) self.old)
-            (seen_sizes (C.contents chunks.new) self.new)) }
-        ensures same { there ≡ true → OnOk result (AreAsBefore (seen_sizes (C.contents chunks.old) self.old)
-            (seen_sizes (C.contents chunks.new) self.new)) }
+        ensures levels { OnOk result (PutLater self.old.depth self.new.depth (C.contents chunks.new)
+            (seen_levels self.old) (seen_levels self.new)) }
+        ensures same { there ≡ true → OnOk result (StayLater (C.contents chunks.new) (seen_levels self.old)
+            (seen_levels self.new)) }
         ensures places { OnOk result (AreKept (C.places chunks.new) (places_of self.old.pieces)
             (places_of self.new.pieces)) }
         ensures replaced { there ≡ true → OnOk result (self.new.fresh < self.old.fresh + self.old.depth) }
@@ -368,10 +367,9 @@ impl OwnRoot {
             → shown (with_nodes contents draft.old.nodes) self.pieces ≡ Some rows
             → IfOk result (λ root. rows_at (with_nodes contents draft.new.nodes) self.depth
             (stamp_of root) ≡ Some rows) }
-        ensures sizes { (contents : Contents) (rows : Rows) → length contents ≡ draft.old.first
-            → shown (with_nodes contents draft.old.nodes) self.pieces ≡ Some rows
-            → IfOk result (λ root. AreAsBefore (seen_sizes (with_nodes contents draft.old.nodes) self)
-            (placed_sizes (with_nodes contents draft.new.nodes) self.depth (stamp_of root))) }
+        ensures levels { (contents : Contents) → length contents ≡ draft.old.first
+            → IfOk result (λ root. StayLater (with_nodes contents draft.new.nodes) (seen_levels self)
+            (λ p. placed_levels p self.depth (stamp_of root))) }
         ensures wide { (contents : Contents) → length contents ≡ draft.old.first → 1 < self.entries
             → IfOk result (λ root. IsWideAt (with_nodes contents draft.new.nodes) (stamp_of root)) }
         ensures named { OnOk result (AddsNamed draft.old.first
@@ -401,10 +399,9 @@ pub fn frozen(alloc: Global, root: OwnRoot, draft: &mut Draft) -> Result<Ref, Re
     ensures spelled { (contents : Contents) (rows : Rows) → length contents ≡ draft.old.first
         → shown (with_nodes contents draft.old.nodes) root.pieces ≡ Some rows
         → IfOk result (λ at. rows_at (with_nodes contents draft.new.nodes) root.depth (stamp_of at) ≡ Some rows) }
-    ensures sizes { (contents : Contents) (rows : Rows) → length contents ≡ draft.old.first
-        → shown (with_nodes contents draft.old.nodes) root.pieces ≡ Some rows
-        → IfOk result (λ at. AreAsBefore (seen_sizes (with_nodes contents draft.old.nodes) root)
-        (placed_sizes (with_nodes contents draft.new.nodes) root.depth (stamp_of at))) }
+    ensures levels { (contents : Contents) → length contents ≡ draft.old.first
+        → IfOk result (λ at. StayLater (with_nodes contents draft.new.nodes) (seen_levels root)
+        (λ p. placed_levels p root.depth (stamp_of at))) }
     ensures wide { (contents : Contents) → length contents ≡ draft.old.first → 1 < root.entries
         → IfOk result (λ at. IsWideAt (with_nodes contents draft.new.nodes) (stamp_of at)) }
     ensures named { OnOk result (AddsNamed draft.old.first (places_of root.pieces) draft.old.nodes draft.new.nodes) }

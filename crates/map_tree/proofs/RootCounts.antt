@@ -10,15 +10,13 @@ use Rattle.group_history.specs.Refs.{stamp_of}
 use Rattle.group_history.specs.Spelling.{Contents, Segment, segment_at, map_at, rows_at}
 use Rattle.group_history.proofs.Spellings.{segment-content}
 use Rattle.map_chunks.specs.Seeking.{chunk_depth}
-use Rattle.map_chunks.specs.Shown.{Seen, shown}
-use Rattle.map_nodes.specs.Sizes.{placed_sizes}
-use Rattle.map_tree.specs.Trees.{root_map, root_depth, root_sizes, IsWide}
+use Rattle.map_chunks.specs.Shown.{Seen}
+use Rattle.map_nodes.specs.Levels.{placed_levels}
+use Rattle.map_tree.specs.Trees.{root_map, root_depth, root_levels, IsWide}
 use Rattle.map_tree.specs.declared.tree.Root.{Root}
 use Rattle.map_tree.specs.declared.tree.Root.TheVariants.{Placed, Own}
 use Rattle.map_chunks.proofs.JoinLemmas.{some_is}
 use Rattle.map_chunks.proofs.OpenLemmas.{segment-kept, rows_at-segment}
-use Rattle.map_chunks.proofs.TreeLemmas.{map_is}
-use Rattle.map_nodes.proofs.SizeLemmas.{placed_sizes-kept, seen_sizes-kept}
 use Rattle.map_nodes.proofs.WideLemmas.{wide_grown}
 use Rattle.map_tree.proofs.WriteLemmas.{placed_map}
 
@@ -67,22 +65,9 @@ wide_root_grown old new (Placed at) m p h w =
 pub is_there : (found there : Option Bytes) (b : Bool) → found ≡ there → b ≡ is_some found → IsSome there → b ≡ true
 is_there found there b e f h = f ∙ ap is_some e ∙ h
 
--- the chunks of a placed root that is so deep
-pub placed_as : (p : Contents) (r : Root) (at : Ref) (d : ℕ) → r ≡ Placed at → root_depth p r ≡ Some d
-    → (depth entries : ℕ) → root_sizes p r depth entries ≡ placed_sizes p d (stamp_of at) depth entries
-placed_as p r at d e h depth entries =
-    ap (λ w. root_sizes p w depth entries) e
-    ∙ ap (λ o. placed_sizes p (unwrap_or o 0) (stamp_of at) depth entries) (sym (ap (root_depth p) e) ∙ h)
-
--- the chunks of a root, once more is placed
-pub root_sizes_kept : (old new : Contents) (r : Root) (m : Entries) → IsPrefix old new → root_map old r ≡ Some m
-    → (depth entries : ℕ) → root_sizes new r depth entries ≡ root_sizes old r depth entries
-root_sizes_kept old new (Own n) m p h depth entries =
-    seen_sizes-kept old new n (finite.entries m) p (map_is (shown old n.pieces) m h).is depth entries
-root_sizes_kept old new (Placed at) m p h depth entries =
-    let s = placed_map old (stamp_of at) m h in
-    let was : root_depth old (Placed at) ≡ Some s.segment.depth = ap (option_map (λ (t : Segment). t.depth)) s.is in
-    placed_as new (Placed at) at s.segment.depth refl (root_depth_kept old new (Placed at) s.segment.depth p was)
-    depth entries ∙ placed_sizes-kept old new s.segment.depth (stamp_of at) s.segment.rows p
-    (rows_at-segment old (stamp_of at) s.segment s.is) depth entries
-    ∙ sym (placed_as old (Placed at) at s.segment.depth refl was depth entries)
+-- the levels of a placed root that is so deep, whatever is placed later
+pub placed_as : (p later : Contents) (r : Root) (at : Ref) (d : ℕ) → r ≡ Placed at → root_depth p r ≡ Some d
+    → IsPrefix p later → (level : ℕ) → root_levels r later level ≡ placed_levels later d (stamp_of at) level
+placed_as p later r at d e h pre level =
+    ap (λ w. root_levels w later level) e ∙ ap (λ o. placed_levels later (unwrap_or o 0) (stamp_of at) level)
+    (root_depth_kept p later (Placed at) d pre (sym (ap (root_depth p) e) ∙ h))

@@ -8,7 +8,7 @@ use Rattle.map_chunks.specs.Places.{places_of}
 use Rattle.map_chunks.specs.Seeking.{chunk_depth}
 use Rattle.map_chunks.specs.Shown.{shown, map_of_rows}
 use Rattle.map_chunks.specs.Wide.{IsWideAt, IsWideChunk}
-use Rattle.map_nodes.specs.Sizes.{Sizes, placed_sizes, seen_sizes}
+use Rattle.map_nodes.specs.Levels.{Levels, placed_levels, seen_levels}
 use Rattle.map_tree.specs.declared.tree.Root.{Root}
 use Rattle.map_tree.specs.declared.tree.Root.TheVariants.{Placed, Own}
 use Rattle.map_tree.specs.declared.tree.Tree.{Tree}
@@ -34,17 +34,17 @@ root_depth contents (Own n) = Some n.depth
 abbrev pub tree_depth : Contents → Tree → Option ℕ
 tree_depth contents t = root_depth contents t.root
 
--- of the placed chunk of a stamp and of those below it, how many are of a depth and have so many entries
-abbrev pub sizes_at : Contents → ℕ → Sizes
-sizes_at contents stamp = placed_sizes contents (unwrap_or (chunk_depth contents stamp) 0) stamp
+-- the placed chunk of a stamp, and what is below it
+abbrev pub levels_at : Contents → ℕ → Levels
+levels_at contents stamp = placed_levels contents (unwrap_or (chunk_depth contents stamp) 0) stamp
 
-abbrev pub root_sizes : Contents → Root → Sizes
-root_sizes contents (Placed at) = sizes_at contents (stamp_of at)
-root_sizes contents (Own n) = seen_sizes contents n
+abbrev pub root_levels : Root → Contents → Levels
+root_levels (Placed at) contents = levels_at contents (stamp_of at)
+root_levels (Own n) contents = seen_levels n contents
 
--- how many chunks the tree has of each depth and size
-abbrev pub tree_sizes : Contents → Tree → Sizes
-tree_sizes contents t = root_sizes contents t.root
+-- on each level of the tree, how many entries its chunks have, in their order
+abbrev pub tree_levels : Tree → Contents → Levels
+tree_levels t = root_levels t.root
 
 abbrev pub root_fresh : Root → ℕ
 root_fresh (Placed at) = 0

@@ -40,9 +40,9 @@ impl Tree {
     ghost use Rattle.group_history.specs.Refs.{stamp_of};
     ghost use Rattle.group_history.specs.Spelling.{Contents, map_at};
     ghost use Rattle.group_history.specs.declared.mutators.Stop.TheVariants.{NoMemory};
-    ghost use Rattle.map_nodes.specs.Sizes.{one, AreAsBefore};
-    ghost use Rattle.map_tree.specs.Trees.{sizes_at, tree_map, tree_depth, tree_fresh, tree_root, tree_places, tree_sizes};
-    ghost use Rattle.map_tree.specs.Trees.{HasWideRoot};
+    ghost use Rattle.map_nodes.specs.Levels.{nothing, topped, AreAsBefore};
+    ghost use Rattle.map_tree.specs.Trees.{levels_at, tree_map, tree_depth, tree_fresh, tree_root, tree_places};
+    ghost use Rattle.map_tree.specs.Trees.{tree_levels, HasWideRoot};
     ghost use Rattle.map_chunks.specs.Places.{Grows, AreAll};
     ghost use Rattle.map_chunks.specs.Wide.{IsWideAt};
     ghost use Rattle.map_chunks.specs.Writes.{standing};
@@ -51,8 +51,7 @@ impl Tree {
     pub fn at(root: Ref) -> Tree
         ensures map { (contents : Contents) → tree_map contents result ≡ map_at contents (stamp_of root) }
         ensures fresh { tree_fresh result ≡ 0 }
-        ensures sizes { (contents : Contents) → AreAsBefore (sizes_at contents (stamp_of root))
-            (tree_sizes contents result) }
+        ensures levels { (contents : Contents) → tree_levels result contents ≡ levels_at contents (stamp_of root) }
         ensures placed { tree_root result ≡ Some root }
         ensures places { tree_places result ≡ root ∷ [] }
         ensures wide { (contents : Contents) → IsWideAt contents (stamp_of root) → HasWideRoot contents result }
@@ -67,7 +66,7 @@ impl Tree {
         ensures map { (contents : Contents) → tree_map contents result ≡ Some finite.empty }
         ensures depth { (contents : Contents) → tree_depth contents result ≡ Some 1 }
         ensures fresh { tree_fresh result ≡ 1 }
-        ensures sizes { (contents : Contents) → AreAsBefore (one (1, 0)) (tree_sizes contents result) }
+        ensures levels { (contents : Contents) → AreAsBefore (topped 0 nothing) (tree_levels result contents) }
         ensures places { tree_places result ≡ [] }
         ensures wide { (contents : Contents) → HasWideRoot contents result }
     {

@@ -3,8 +3,9 @@ use Rattle.std.specs.Prelude.{◌≡◌, ℕ, ◌-◌, ◌<◌, List, [], ◌∷
 use Rattle.group_history.specs.declared.nodes.Chunk.{Chunk}
 use Rattle.group_history.specs.declared.nodes.Chunk.TheVariants.{Leaf, Inner}
 use Rattle.group_history.specs.declared.refs.Ref.{Ref}
-use Rattle.map_chunks.specs.Shown.{chunk, Piece, Seen}
-use Rattle.map_nodes.specs.Nodes.{row_pieces}
+use Rattle.map_chunks.specs.Shown.{chunk, own, Mark, Piece, Seen}
+use Rattle.map_nodes.specs.Nodes.{kids_marks, row_pieces, sunk}
+use Rattle.map_nodes.specs.declared.nodes.OwnChild.TheVariants.{Placed}
 
 -- the chunk may be so deep
 abbrev pub MayBeDeep : ℕ → Chunk Ref → Type 0
@@ -20,7 +21,12 @@ abbrev pub chunk_entries : Chunk Ref → ℕ
 chunk_entries (Leaf rows) = length rows
 chunk_entries (Inner kids) = length kids
 
--- one chunk, with the pieces of the copied one, and as many keys
+-- which chunks it is as an own one
+abbrev pub chunk_marks : ℕ → Chunk Ref → List Mark
+chunk_marks depth (Leaf rows) = own 0 (length rows) ∷ []
+chunk_marks depth (Inner kids) = own 0 (length kids) ∷ sunk (kids_marks (depth - 1) (map (λ e. Placed e.1) kids))
+
+-- one chunk, with the pieces of the copied one, as many keys, and its children
 abbrev pub IsCopy : ℕ → Chunk Ref → Seen → Type 0
 IsCopy depth c n = (n.depth ≡ depth) × (n.pieces ≡ chunk_pieces depth c) × (n.fresh ≡ 1) × (n.entries ≡ chunk_entries c)
-    × (n.sizes ≡ (depth, chunk_entries c) ∷ [])
+    × (n.marks ≡ chunk_marks depth c)

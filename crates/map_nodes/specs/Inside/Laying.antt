@@ -15,7 +15,7 @@ use Rattle.map_chunks.specs.Places.{AreAll, AreKept, places_of}
 use Rattle.map_chunks.specs.Search.{IsPlace}
 use Rattle.map_chunks.specs.Shown.{rows_or, shown}
 use Rattle.map_chunks.specs.Wide.{IsWideAt, IsWideChunk}
-use Rattle.map_nodes.specs.Sizes.{AreAsBefore, placed_sizes, seen_sizes}
+use Rattle.map_nodes.specs.Levels.{placed_levels, seen_levels, StayLater}
 use Rattle.map_nodes.specs.Trails.{IsEnd, IsTrail, trail_seen}
 use Rattle.map_nodes.specs.declared.nodes.trails.End.{End}
 use Rattle.map_nodes.specs.declared.nodes.trails.Step.{Step}
@@ -58,7 +58,7 @@ pub record IsLaid (contents : Contents) (places : Ref → Type 0) (stamp depth :
   pub depth_is : (trail_seen steps e).depth ≡ depth
   pub shown_is : shown contents (trail_seen steps e).pieces ≡ Some (put (slice_cmp nat_cmp) key value (rows_or was))
   pub few : (trail_seen steps e).fresh ≤ depth
-  pub sizes : AreAsBefore (placed_sizes contents depth stamp) (seen_sizes contents (trail_seen steps e))
+  pub levels : StayLater contents (λ p. placed_levels p depth stamp) (seen_levels (trail_seen steps e))
   pub kept : AreKept places [] (places_of (trail_seen steps e).pieces)
   pub wide : IsWideAt contents stamp → IsWideChunk (trail_seen steps e)
 

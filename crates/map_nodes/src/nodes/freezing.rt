@@ -7,9 +7,9 @@ ghost use Rattle.group_history.specs.Spelling.{Contents, rows_at};
 ghost use Rattle.group_history.specs.declared.refusals.Refusal.TheVariants as refusal;
 ghost use Rattle.map_chunks.specs.Drafts.{AreBelow, IsLate};
 ghost use Rattle.map_chunks.specs.Places.{with_nodes, places_of, IsNamed, AreNamed, AddsNamed};
-ghost use Rattle.map_nodes.specs.Inside.Freezing.{IsFrozen, AreFrozen, IsSized, AreSized, child_places, kids_places};
+ghost use Rattle.map_nodes.specs.Inside.Freezing.{IsFrozen, AreFrozen, IsLevel, AreLevel, child_places, kids_places};
 ghost use Rattle.map_nodes.specs.Nodes.{child_fresh, kids_fresh};
-ghost use Rattle.map_nodes.specs.Sizes.{AreAsBefore, placed_sizes, seen_sizes};
+ghost use Rattle.map_nodes.specs.Levels.{placed_levels, seen_levels, StayLater};
 ghost use Rattle.map_chunks.specs.Shown.{shown};
 ghost use Rattle.map_chunks.specs.Wide.{IsWideAt};
 
@@ -28,10 +28,9 @@ impl OwnNode {
             → shown (with_nodes contents draft.old.nodes) self.pieces ≡ Some rows
             → IfOk result (λ root. rows_at (with_nodes contents draft.new.nodes) self.depth
             (stamp_of root) ≡ Some rows) }
-        ensures sizes { (contents : Contents) (rows : Rows) → length contents ≡ draft.old.first
-            → shown (with_nodes contents draft.old.nodes) self.pieces ≡ Some rows
-            → IfOk result (λ root. AreAsBefore (seen_sizes (with_nodes contents draft.old.nodes) self)
-            (placed_sizes (with_nodes contents draft.new.nodes) self.depth (stamp_of root))) }
+        ensures levels { (contents : Contents) → length contents ≡ draft.old.first
+            → IfOk result (λ root. StayLater (with_nodes contents draft.new.nodes) (seen_levels self)
+            (λ p. placed_levels p self.depth (stamp_of root))) }
         ensures wide { (contents : Contents) → length contents ≡ draft.old.first → 1 < self.entries
             → IfOk result (λ root. IsWideAt (with_nodes contents draft.new.nodes) (stamp_of root)) }
         ensures named { OnOk result (AddsNamed draft.old.first
@@ -71,8 +70,7 @@ fn freeze_kids(alloc: Global, kids: Vec<OwnChild>, draft: &mut Draft) -> Result<
     requires below { AreBelow (draft.old.first + length draft.old.nodes) (kids_places kids.items) }
     ensures frozen { IfOk result (λ ats. AreFrozen draft.old.first draft.old.nodes draft.new.nodes
         kids.items ats.items) }
-    ensures sizes { IfOk result (λ ats. AreSized draft.old.first draft.old.nodes draft.new.nodes
-        kids.items ats.items) }
+    ensures levels { IfOk result (λ ats. AreLevel draft.old.first draft.new.nodes kids.items ats.items) }
     ensures named { OnOk result (AddsNamed draft.old.first (kids_places kids.items) draft.old.nodes draft.new.nodes) }
     ensures names { IfOk result (λ ats. AreNamed draft.old.first (kids_places kids.items) ats.items) }
     ensures below { IfOk result (λ ats. AreBelow (draft.new.first + length draft.new.nodes) ats.items) }
@@ -96,7 +94,7 @@ fn freeze_kids(alloc: Global, kids: Vec<OwnChild>, draft: &mut Draft) -> Result<
 fn freeze_kid(alloc: Global, kid: OwnChild, draft: &mut Draft) -> Result<Ref, Refusal>
     requires below { AreBelow (draft.old.first + length draft.old.nodes) (child_places kid) }
     ensures frozen { IfOk result (IsFrozen draft.old.first draft.old.nodes draft.new.nodes kid) }
-    ensures sizes { IfOk result (IsSized draft.old.first draft.old.nodes draft.new.nodes kid) }
+    ensures levels { IfOk result (IsLevel draft.old.first draft.new.nodes kid) }
     ensures named { OnOk result (AddsNamed draft.old.first (child_places kid) draft.old.nodes draft.new.nodes) }
     ensures name { IfOk result (IsNamed draft.old.first (child_places kid)) }
     ensures below { IfOk result (λ at. stamp_of at < draft.new.first + length draft.new.nodes) }

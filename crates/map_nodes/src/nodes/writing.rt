@@ -7,7 +7,7 @@ ghost use Rattle.group_history.specs.declared.mutators.Stop.TheVariants.{NoMemor
 ghost use Rattle.map_chunks.specs.Places.{Grows, AreAll, AreKept, places_of};
 ghost use Rattle.map_chunks.specs.Shown.{shown, IsTree, rows_or};
 ghost use Rattle.map_chunks.specs.Wide.{IsWideChunk};
-ghost use Rattle.map_nodes.specs.Sizes.{seen_sizes, AreAsBefore, ArePutIn};
+ghost use Rattle.map_nodes.specs.Levels.{seen_levels, PutLater, StayLater};
 
 use super::OwnNode;
 use group_history::{Json, SearchKey, Stop, Text};
@@ -34,10 +34,10 @@ impl OwnNode {
             ≡ Some (finite.put (slice_cmp nat_cmp) key.now value.now
             (rows_or (shown (C.contents chunks.old) self.old.pieces)))) }
         ensures few { OnOk result (self.new.fresh ≤ self.old.fresh + 2 * self.old.depth) }
-        ensures sizes { OnOk result (ArePutIn self.old.depth self.new.depth (seen_sizes (C.contents chunks.old) self.old)
-            (seen_sizes (C.contents chunks.new) self.new)) }
-        ensures same { there ≡ true → OnOk result (AreAsBefore (seen_sizes (C.contents chunks.old) self.old)
-            (seen_sizes (C.contents chunks.new) self.new)) }
+        ensures levels { OnOk result (PutLater self.old.depth self.new.depth (C.contents chunks.new)
+            (seen_levels self.old) (seen_levels self.new)) }
+        ensures same { there ≡ true → OnOk result (StayLater (C.contents chunks.new) (seen_levels self.old)
+            (seen_levels self.new)) }
         ensures places { OnOk result (AreKept (C.places chunks.new) (places_of self.old.pieces)
             (places_of self.new.pieces)) }
         ensures replaced { there ≡ true → OnOk result (self.new.fresh < self.old.fresh + self.old.depth) }

@@ -8,9 +8,9 @@ ghost use Rattle.group_history.specs.declared.refusals.Refusal.TheVariants as re
 ghost use Rattle.group_history.specs.Spelling.{Contents, map_at};
 ghost use Rattle.map_chunks.specs.Drafts.{AreBelow, IsLate};
 ghost use Rattle.map_chunks.specs.Places.{with_nodes, IsNamed, AddsNamed};
-ghost use Rattle.map_tree.specs.Trees.{sizes_at, tree_places, tree_map, tree_fresh, tree_root, tree_sizes};
+ghost use Rattle.map_tree.specs.Trees.{levels_at, tree_places, tree_map, tree_fresh, tree_levels, tree_root};
 ghost use Rattle.map_tree.specs.Trees.{HasWideRoot};
-ghost use Rattle.map_nodes.specs.Sizes.{AreAsBefore};
+ghost use Rattle.map_nodes.specs.Levels.{StayLater};
 ghost use Rattle.map_chunks.specs.Wide.{IsWideAt};
 
 use super::{Root, Tree};
@@ -28,10 +28,10 @@ impl Tree {
         ensures spelled { (contents : Contents) (m : Entries) → length contents ≡ draft.old.first
             → tree_map (with_nodes contents draft.old.nodes) self ≡ Some m
             → IfOk result (λ root. map_at (with_nodes contents draft.new.nodes) (stamp_of root) ≡ Some m) }
-        ensures sizes { (contents : Contents) (m : Entries) → length contents ≡ draft.old.first
+        ensures levels { (contents : Contents) (m : Entries) → length contents ≡ draft.old.first
             → tree_map (with_nodes contents draft.old.nodes) self ≡ Some m
-            → IfOk result (λ root. AreAsBefore (tree_sizes (with_nodes contents draft.old.nodes) self)
-            (sizes_at (with_nodes contents draft.new.nodes) (stamp_of root))) }
+            → IfOk result (λ root. StayLater (with_nodes contents draft.new.nodes) (tree_levels self)
+            (λ p. levels_at p (stamp_of root))) }
         ensures wide { (contents : Contents) (m : Entries) → length contents ≡ draft.old.first
             → tree_map (with_nodes contents draft.old.nodes) self ≡ Some m
             → HasWideRoot (with_nodes contents draft.old.nodes) self

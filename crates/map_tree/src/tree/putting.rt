@@ -6,9 +6,9 @@ ghost use Rattle.group_history.specs.Refs.{stamp_of};
 ghost use Rattle.group_history.specs.Spelling.{map_at};
 ghost use Rattle.group_history.specs.declared.mutators.Stop.TheVariants.{NoMemory};
 ghost use Rattle.map_chunks.specs.Places.{Grows, AreAll, AreKept};
-ghost use Rattle.map_nodes.specs.Sizes.{placed_sizes, AreAsBefore, ArePutIn};
-ghost use Rattle.map_tree.specs.Trees.{root_places, tree_places, root_map, root_depth, root_fresh, root_sizes, tree_map};
-ghost use Rattle.map_tree.specs.Trees.{tree_depth, tree_fresh, tree_sizes, HasWideRoot, IsWide};
+ghost use Rattle.map_nodes.specs.Levels.{placed_levels, PutLater, StayLater};
+ghost use Rattle.map_tree.specs.Trees.{root_places, tree_places, root_map, root_depth, root_fresh, root_levels};
+ghost use Rattle.map_tree.specs.Trees.{tree_map, tree_depth, tree_fresh, tree_levels, HasWideRoot, IsWide};
 ghost use Rattle.map_chunks.specs.Seeking.{chunk_depth};
 ghost use Rattle.map_chunks.specs.Writes.{standing};
 ghost use Rattle.map_chunks.specs.Wide.{IsWideAt};
@@ -45,15 +45,14 @@ impl Tree {
             → OnOk result (tree_map (C.contents chunks.new) self.new ≡ Some (finite.insert m key.now value.now)) }
         ensures few { (d : ℕ) → tree_depth (C.contents chunks.old) self.old ≡ Some d
             → OnOk result (tree_fresh self.new ≤ tree_fresh self.old + d + d + 1) }
-        ensures sizes { (d : ℕ) → tree_depth (C.contents chunks.old) self.old ≡ Some d
+        ensures levels { (d : ℕ) → tree_depth (C.contents chunks.old) self.old ≡ Some d
             → OnOk result ((e : ℕ) × (tree_depth (C.contents chunks.new) self.new ≡ Some e)
-            × ArePutIn d e (tree_sizes (C.contents chunks.old) self.old) (tree_sizes (C.contents chunks.new) self.new)) }
+            × PutLater d e (C.contents chunks.new) (tree_levels self.old) (tree_levels self.new)) }
         ensures replaced { (m : Entries) (d : ℕ) → tree_map (C.contents chunks.old) self.old ≡ Some m
             → tree_depth (C.contents chunks.old) self.old ≡ Some d → IsSome (finite.get m key.now)
             → OnOk result (tree_fresh self.new ≤ tree_fresh self.old + d) }
-        ensures kept { (m : Entries) → tree_map (C.contents chunks.old) self.old ≡ Some m → IsSome (finite.get m key.now)
-            → OnOk result (AreAsBefore (tree_sizes (C.contents chunks.old) self.old)
-            (tree_sizes (C.contents chunks.new) self.new)) }
+        ensures kept { (m : Entries) → tree_map (C.contents chunks.old) self.old ≡ Some m
+            → IsSome (finite.get m key.now) → OnOk result (StayLater (C.contents chunks.new) (tree_levels self.old) (tree_levels self.new)) }
         ensures deep { (d : ℕ) → tree_depth (C.contents chunks.old) self.old ≡ Some d
             → OnOk result ((e : ℕ) × (tree_depth (C.contents chunks.new) self.new ≡ Some e) × (d ≤ e) × (e ≤ d + 1)) }
         ensures wide { HasWideRoot (C.contents chunks.old) self.old
@@ -87,15 +86,14 @@ impl Tree {
             → OnOk result (tree_map (C.contents chunks.new) self.new ≡ Some (finite.insert m key.now value.now)) }
         ensures few { (d : ℕ) → tree_depth (C.contents chunks.old) self.old ≡ Some d
             → OnOk result (tree_fresh self.new ≤ tree_fresh self.old + d + d + 1) }
-        ensures sizes { (d : ℕ) → tree_depth (C.contents chunks.old) self.old ≡ Some d
+        ensures levels { (d : ℕ) → tree_depth (C.contents chunks.old) self.old ≡ Some d
             → OnOk result ((e : ℕ) × (tree_depth (C.contents chunks.new) self.new ≡ Some e)
-            × ArePutIn d e (tree_sizes (C.contents chunks.old) self.old) (tree_sizes (C.contents chunks.new) self.new)) }
+            × PutLater d e (C.contents chunks.new) (tree_levels self.old) (tree_levels self.new)) }
         ensures replaced { (m : Entries) (d : ℕ) → tree_map (C.contents chunks.old) self.old ≡ Some m
             → tree_depth (C.contents chunks.old) self.old ≡ Some d → IsSome (finite.get m key.now)
             → OnOk result (tree_fresh self.new ≤ tree_fresh self.old + d) }
-        ensures kept { (m : Entries) → tree_map (C.contents chunks.old) self.old ≡ Some m → IsSome (finite.get m key.now)
-            → OnOk result (AreAsBefore (tree_sizes (C.contents chunks.old) self.old)
-            (tree_sizes (C.contents chunks.new) self.new)) }
+        ensures kept { (m : Entries) → tree_map (C.contents chunks.old) self.old ≡ Some m
+            → IsSome (finite.get m key.now) → OnOk result (StayLater (C.contents chunks.new) (tree_levels self.old) (tree_levels self.new)) }
         ensures deep { (d : ℕ) → tree_depth (C.contents chunks.old) self.old ≡ Some d
             → OnOk result ((e : ℕ) × (tree_depth (C.contents chunks.new) self.new ≡ Some e) × (d ≤ e) × (e ≤ d + 1)) }
         ensures wide { HasWideRoot (C.contents chunks.old) self.old
@@ -134,12 +132,11 @@ impl Tree {
         ensures ok { (m : Entries) → tree_map (C.contents chunks.old) self.old ≡ Some m
             → OnOk result (tree_map (C.contents chunks.new) self.new ≡ Some (finite.insert m key.now value.now)) }
         ensures few { OnOk result (tree_fresh self.new ≤ tree_fresh self.old + way.depth + way.depth + 1) }
-        ensures sizes { OnOk result ((e : ℕ) × (tree_depth (C.contents chunks.new) self.new ≡ Some e)
-            × ArePutIn way.depth e (tree_sizes (C.contents chunks.old) self.old)
-            (tree_sizes (C.contents chunks.new) self.new)) }
+        ensures levels { OnOk result ((e : ℕ) × (tree_depth (C.contents chunks.new) self.new ≡ Some e)
+            × PutLater way.depth e (C.contents chunks.new) (tree_levels self.old) (tree_levels self.new)) }
         ensures replaced { way.there ≡ true → OnOk result (tree_fresh self.new ≤ tree_fresh self.old + way.depth) }
-        ensures kept { way.there ≡ true → OnOk result (AreAsBefore (tree_sizes (C.contents chunks.old) self.old)
-            (tree_sizes (C.contents chunks.new) self.new)) }
+        ensures kept { way.there ≡ true → OnOk result (StayLater (C.contents chunks.new) (tree_levels self.old)
+            (tree_levels self.new)) }
         ensures deep { OnOk result ((e : ℕ) × (tree_depth (C.contents chunks.new) self.new ≡ Some e) × (way.depth ≤ e)
             × (e ≤ way.depth + 1)) }
         ensures wide { HasWideRoot (C.contents chunks.old) self.old
@@ -177,12 +174,12 @@ fn root_with<C: Chunks>(
     ensures ok { (m : Entries) → map_at (C.contents chunks.old) (stamp_of at) ≡ Some m
         → IfOk result (λ root. root_map (C.contents chunks.new) root ≡ Some (finite.insert m key.now value.now)) }
     ensures few { IfOk result (λ root. root_fresh root ≤ way.depth + way.depth + 1) }
-    ensures sizes { IfOk result (λ root. (e : ℕ) × (root_depth (C.contents chunks.new) root ≡ Some e)
-        × ArePutIn way.depth e (placed_sizes (C.contents chunks.old) way.depth (stamp_of at))
-        (root_sizes (C.contents chunks.new) root)) }
+    ensures levels { IfOk result (λ root. (e : ℕ) × (root_depth (C.contents chunks.new) root ≡ Some e)
+        × PutLater way.depth e (C.contents chunks.new) (λ p. placed_levels p way.depth (stamp_of at))
+        (root_levels root)) }
     ensures replaced { way.there ≡ true → IfOk result (λ root. root_fresh root ≤ way.depth) }
-    ensures kept { way.there ≡ true → IfOk result (λ root. AreAsBefore
-        (placed_sizes (C.contents chunks.old) way.depth (stamp_of at)) (root_sizes (C.contents chunks.new) root)) }
+    ensures kept { way.there ≡ true → IfOk result (λ root. StayLater (C.contents chunks.new)
+        (λ p. placed_levels p way.depth (stamp_of at)) (root_levels root)) }
     ensures deep { IfOk result (λ root. (e : ℕ) × (root_depth (C.contents chunks.new) root ≡ Some e) × (way.depth ≤ e)
         × (e ≤ way.depth + 1)) }
     ensures wide { IsWideAt (C.contents chunks.old) (stamp_of at) → IfOk result (IsWide (C.contents chunks.new)) }

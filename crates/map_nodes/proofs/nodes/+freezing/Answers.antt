@@ -9,11 +9,10 @@ use Rattle.std.specs.Vec.Iter.{into_iter_items}
 use Rattle.group_history.specs.Spelling.{Contents, rows_at, joined_rows}
 use Rattle.group_history.proofs.Lists.{prefix_trans, one_here, no_element}
 use Rattle.map_chunks.specs.Places.{with_nodes, places_of, IsNamed, AreNamed, AddsNamed}
-use Rattle.map_nodes.specs.Inside.Freezing.{IsFrozen, AreFrozen, IsSized, AreSized, child_places, kids_places}
-use Rattle.map_nodes.specs.Nodes.{body_pieces, body_height, child_height, child_fresh, kids_fresh, kids_height, IsNode}
-use Rattle.map_nodes.specs.Nodes.{body_sizes}
-use Rattle.map_nodes.specs.Sizes.{AreAsBefore, placed_sizes, seen_sizes}
-use Rattle.map_chunks.specs.Shown.{Seen, shown}
+use Rattle.map_nodes.specs.Inside.Freezing.{IsFrozen, AreFrozen, IsLevel, AreLevel, child_places, kids_places}
+use Rattle.map_nodes.specs.Nodes.{body_marks, body_pieces, body_height, child_height, child_fresh, kids_fresh}
+use Rattle.map_nodes.specs.Nodes.{kids_height, IsNode}
+use Rattle.map_chunks.specs.Shown.{own, Seen, shown}
 use Rattle.map_nodes.specs.declared.nodes.Body.TheVariants.{Leaf, Inner}
 use Rattle.map_nodes.specs.declared.nodes.OwnChild.{OwnChild}
 use Rattle.map_chunks.proofs.JoinLemmas.{some_is}
@@ -23,8 +22,7 @@ use Rattle.map_nodes.proofs.WideLemmas.{pushed_at, wide_node, wide_inner}
 use Rattle.map_nodes.proofs.FreezeLemmas.{if_ok, err_so, own_frozen, leaf_pushed, inner_pushed, all-spelled}
 use Rattle.map_nodes.proofs.FreezeLemmas.{frozen-length, frozen-sooner, all-later, all-one, fresh-one, fresh-within}
 use Rattle.map_nodes.proofs.FreezeLemmas.{high-within}
-use Rattle.map_nodes.proofs.FreezeSizes.{all_sized-later, all_sized-one, inner_sized, leaf_sized, own_sized}
-use Rattle.map_nodes.proofs.FreezeSizes.{sized-sooner}
+use Rattle.map_nodes.proofs.FreezeLevels.{all_level-later, all_level-one, inner_level, leaf_level}
 use Rattle.std.specs.List.{Contains}
 use Rattle.map_chunks.proofs.AnswerLemmas.{on_ok}
 use Rattle.map_chunks.specs.Drafts.{AreBelow}
@@ -129,55 +127,43 @@ freezing::freeze_kid-returns-in-Own-clause-frozen t c =
     → IfOk c.freeze.result (λ root. rows_at (with_nodes contents c.freeze.new.draft.nodes) s.depth (stamp_of root)
     ≡ Some rows)) c.into_inner.ensures c.freeze.ensures.spelled))
 
-pub OwnNode::freeze-returns-in-Leaf-clause-sizes : goal.OwnNode::freeze-returns-in-Leaf-clause-sizes
-OwnNode::freeze-returns-in-Leaf-clause-sizes t c contents rows l h =
+pub OwnNode::freeze-returns-in-Leaf-clause-levels : goal.OwnNode::freeze-returns-in-Leaf-clause-levels
+OwnNode::freeze-returns-in-Leaf-clause-levels t c contents l =
     let depth = c.self.inside.depth in
     let texts = c.self.inside.keys.texts in
     let inv : IsNode depth texts (Leaf c.in-Leaf.values) = subst (IsNode depth texts) c.in-Leaf.is c.self.invariant in
-    let all = paired texts c.in-Leaf.values.items in
-    let pieces = ap (body_pieces depth texts) (sym c.in-Leaf.is) ∙ ap (λ (s : Seen). s.pieces) c.self.view_is in
-    let leaf : c.new-leaf.result ≡ all = c.new-leaf.ensures ∙ ap
+    let leaf : c.new-leaf.result ≡ paired texts c.in-Leaf.values.items = c.new-leaf.ensures ∙ ap
     (λ w. paired w c.in-Leaf.values.items) c.in_ok-keys.ensures in
     let size : length c.new-leaf.result ≡ length texts = ap length leaf ∙ length-paired texts c.in-Leaf.values.items
     inv.1.1 in
-    let sizes : c.args.self.sizes ≡ (1, length c.new-leaf.result) ∷ [] =
-    sym (ap (body_sizes depth (length texts)) (sym c.in-Leaf.is) ∙ ap (λ (s : Seen). s.sizes) c.self.view_is)
-    ∙ ap (λ w. (w, length texts) ∷ []) inv.1.0 ∙ ap (λ w. (1, w) ∷ []) (sym size) in
+    let marks : c.args.self.marks ≡ own 0 (length c.new-leaf.result) ∷ [] =
+    sym (ap (body_marks depth (length texts)) (sym c.in-Leaf.is) ∙ ap (λ (s : Seen). s.marks) c.self.view_is)
+    ∙ ap (λ w. own 0 w ∷ []) (sym size) in
     if_ok c.push.result c.push.ensures.stamp c.push.ensures.ok (λ at k o.
-    leaf_sized contents c.args.draft.now.first c.args.draft.now.nodes c.push.new.self.nodes c.args.self
-    c.new-leaf.result all at l (ap (λ d. d.nodes) o) k.0
-    (sym (ap (λ (s : Seen). s.depth) c.self.view_is) ∙ inv.1.0) sizes (sym pieces))
+    leaf_level contents c.args.draft.now.first c.args.draft.now.nodes c.push.new.self.nodes c.args.self
+    c.new-leaf.result at l (ap (λ d. d.nodes) o) k.0
+    (sym (ap (λ (s : Seen). s.depth) c.self.view_is) ∙ inv.1.0) marks)
 
-pub OwnNode::freeze-returns-in-Inner-clause-sizes : goal.OwnNode::freeze-returns-in-Inner-clause-sizes
-OwnNode::freeze-returns-in-Inner-clause-sizes t c contents rows l h =
+pub OwnNode::freeze-returns-in-Inner-clause-levels : goal.OwnNode::freeze-returns-in-Inner-clause-levels
+OwnNode::freeze-returns-in-Inner-clause-levels t c contents l =
     let depth = c.self.inside.depth in
     let texts = c.self.inside.keys.texts in
     let kids = c.in-Inner.kids.items in
     let ats = c.in_ok-children-in-Inner.children.items in
     let mid = c.freeze_kids.new.draft.nodes in
     let inv : IsNode depth texts (Inner c.in-Inner.kids) = subst (IsNode depth texts) c.in-Inner.is c.self.invariant in
-    let pieces = ap (body_pieces depth texts) (sym c.in-Inner.is) ∙ ap (λ (s : Seen). s.pieces) c.self.view_is in
-    let sizes = ap (body_sizes depth (length texts)) (sym c.in-Inner.is) ∙ ap (λ (s : Seen). s.sizes) c.self.view_is in
+    let marks = ap (body_marks depth (length texts)) (sym c.in-Inner.is) ∙ ap (λ (s : Seen). s.marks) c.self.view_is in
     let inner : c.new-inner.result ≡ paired texts ats = c.new-inner.ensures ∙ ap
     (λ w. paired w ats) c.in_ok-keys.ensures in
+    let long : length ats ≡ length texts = frozen-length _ _ _ kids ats
+    c.in_ok-children-in-Inner.ensures.frozen ∙ inv.1.2 in
     if_ok c.push-in-Inner.result c.push-in-Inner.ensures.stamp c.push-in-Inner.ensures.ok (λ at k o.
-    inner_sized contents c.args.draft.now.first c.args.draft.now.nodes mid c.push-in-Inner.new.self.nodes c.args.self
-    (depth - 1) depth texts kids ats rows at l
+    inner_level contents c.args.draft.now.first mid c.push-in-Inner.new.self.nodes c.args.self
+    (depth - 1) depth texts kids ats at l
     (ap (λ d. d.nodes) o ∙ ap (λ w. mid ++ node.Chunk (chunked.Inner w) ∷ []) inner)
     (k.0 ∙ ap (λ n. n + length mid) c.freeze_kids.ensures.first)
-    (sym (ap (λ (s : Seen). s.depth) c.self.view_is)) (omega (arith, inv.1.0)) (sym sizes) (sym pieces) inv.1.2 inv.1.3
-    c.in_ok-children-in-Inner.ensures.frozen c.in_ok-children-in-Inner.ensures.sizes h)
-
-pub freezing::freeze_kid-returns-in-Own-clause-sizes : goal.freezing::freeze_kid-returns-in-Own-clause-sizes
-freezing::freeze_kid-returns-in-Own-clause-sizes t c =
-    subst (λ (k : OwnChild). IfOk c.freeze.result
-    (IsSized c.args.draft.now.first c.args.draft.now.nodes c.freeze.new.draft.nodes k)) (sym c.in-Own.is)
-    (own_sized c.freeze.result c.args.draft.now.first c.args.draft.now.nodes c.freeze.new.draft.nodes c.in-Own.node
-    (subst (λ (s : Seen). (contents : Contents) (rows : Rows) → length contents ≡ c.args.draft.now.first
-    → shown (with_nodes contents c.args.draft.now.nodes) s.pieces ≡ Some rows
-    → IfOk c.freeze.result (λ root. AreAsBefore (seen_sizes (with_nodes contents c.args.draft.now.nodes) s)
-    (placed_sizes (with_nodes contents c.freeze.new.draft.nodes) s.depth (stamp_of root))))
-    c.into_inner.ensures c.freeze.ensures.sizes))
+    (sym (ap (λ (s : Seen). s.depth) c.self.view_is)) (omega (arith, inv.1.0)) (sym marks) inv.1.2 long inv.1.3
+    c.in_ok-children-in-Inner.ensures.levels)
 
 pub freezing::freeze_kids-freeze_kid-requires : goal.freezing::freeze_kids-freeze_kid-requires
 freezing::freeze_kids-freeze_kid-requires t c =
@@ -230,8 +216,8 @@ freezing::freeze_kids-loop-kid-preserved t c =
     (λ w. c.loop-kid.yielded ++ w) c.in-Some.ensures.steps.0 in
     let this : IsFrozen first mid new kid c.in_ok-at.at = subst
     (λ n. IsFrozen n mid new kid c.in_ok-at.at) c.loop-kid.invariant.first c.in_ok-at.ensures.frozen in
-    let sized : IsSized first mid new kid c.in_ok-at.at = subst
-    (λ n. IsSized n mid new kid c.in_ok-at.at) c.loop-kid.invariant.first c.in_ok-at.ensures.sizes in
+    let level : IsLevel first new kid c.in_ok-at.at = subst
+    (λ n. IsLevel n new kid c.in_ok-at.at) c.loop-kid.invariant.first c.in_ok-at.ensures.levels in
     record {
       can = tt;
       finite = tt;
@@ -244,11 +230,10 @@ freezing::freeze_kids-loop-kid-preserved t c =
           (all-later first old mid new done c.loop-kid.children.items c.freeze_kid.ensures.grown
           c.loop-kid.invariant.frozen)
           (frozen-sooner first old mid new kid c.in_ok-at.at c.loop-kid.invariant.grown this));
-      sizes = subst (λ ats. AreSized first old new (done ++ kid ∷ []) ats) (sym c.in_ok-push.ensures.items)
-          (all_sized-one first old new done c.loop-kid.children.items kid c.in_ok-at.at
-          (all_sized-later first old mid new done c.loop-kid.children.items c.freeze_kid.ensures.grown
-          c.loop-kid.invariant.frozen c.loop-kid.invariant.sizes)
-          (sized-sooner first old mid new kid c.in_ok-at.at c.loop-kid.invariant.grown sized));
+      levels = subst (λ ats. AreLevel first new (done ++ kid ∷ []) ats) (sym c.in_ok-push.ensures.items)
+          (all_level-one first new done c.loop-kid.children.items kid c.in_ok-at.at
+          (all_level-later first mid new done c.loop-kid.children.items c.freeze_kid.ensures.grown
+          c.loop-kid.invariant.levels) level);
       named = kid-added first done kid old mid new c.loop-kid.invariant.named
           (subst (λ n. AddsNamed n (child_places kid) mid new) c.loop-kid.invariant.first c.in_ok-at.ensures.named);
       below = subst (AreBelow (c.freeze_kid.new.draft.first + length new)) (sym c.in_ok-push.ensures.items)

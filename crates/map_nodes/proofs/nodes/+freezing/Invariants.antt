@@ -1,7 +1,7 @@
 use Rattle.std.proofs.Common.{◌≡◌, ◌+◌, ◌++◌, length}
 use mathlib.Core.List.{IsPrefix}
 use Rattle.std.specs.Vec.Iter.{into_iter_items}
-use Rattle.map_nodes.specs.Inside.Freezing.{kids_places, AreFrozen, AreSized}
+use Rattle.map_nodes.specs.Inside.Freezing.{kids_places, AreFrozen, AreLevel}
 use Rattle.map_chunks.specs.Drafts.{AreBelow}
 use Rattle.map_chunks.specs.Places.{AreNamed, AddsNamed}
 use Rattle.map_nodes.specs.Nodes.{kids_fresh, child_height, kids_height}
@@ -26,7 +26,7 @@ invariant-freezing::freeze_kids-loop-kid l =
       grown : IsPrefix l.fn.draft.nodes l.draft.nodes;
       count : length l.draft.nodes ≡ length l.fn.draft.nodes + kids_fresh l.yielded;
       frozen : AreFrozen l.fn.draft.first l.fn.draft.nodes l.draft.nodes l.yielded l.children.items;
-      sizes : AreSized l.fn.draft.first l.fn.draft.nodes l.draft.nodes l.yielded l.children.items;
+      levels : AreLevel l.fn.draft.first l.draft.nodes l.yielded l.children.items;
       named : AddsNamed l.fn.draft.first (kids_places l.yielded) l.fn.draft.nodes l.draft.nodes;
       below : AreBelow (l.draft.first + length l.draft.nodes) l.children.items;
       names : AreNamed l.fn.draft.first (kids_places l.yielded) l.children.items;

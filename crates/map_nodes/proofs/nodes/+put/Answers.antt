@@ -1,11 +1,11 @@
-use Rattle.std.proofs.Common.{◌≡◌, ◌+◌, ◌*◌, ◌-◌, ◌++◌, [], ◌∷◌, ◌<◌, ◌≤◌, IfOk, ℕ, Option, None, arith, length, sym, ap}
-use Rattle.std.proofs.Common.{subst, ◌∙◌, Some, get_or, length-set, slice_get, nat_cmp, T, refl, set-set}
+use Rattle.std.proofs.Common.{◌≡◌, ◌+◌, ◌*◌, ◌-◌, ◌++◌, [], ◌∷◌, ◌<◌, ◌≤◌, IfOk, ℕ, Option, None, arith, length, sym}
+use Rattle.std.proofs.Common.{ap, subst, ◌∙◌, Some, get_or, length-set, slice_get, nat_cmp, T, refl, set-set}
 use Rattle.std.specs.Prelude.{IsSome}
 use Rattle.std.specs.Box.{with_value}
 use Rattle.std.specs.Cmp.Lexicographic.{slice_cmp}
 use Rattle.std.specs.FinMap as finite
 use Rattle.group_history.specs.Refs.{stamp_of}
-use Rattle.group_history.specs.Rows.{paired, rises, keys_of}
+use Rattle.group_history.specs.Rows.{paired, rises, keys_of, values_of}
 use Rattle.group_history.specs.Spelling.{rows_at}
 use Rattle.map_nodes.specs.Inside.Counts.{half_fresh, HasKept}
 use Rattle.map_chunks.specs.Places.{AreAll, AreKept, places_of}
@@ -13,11 +13,11 @@ use Rattle.map_nodes.specs.Inside.Freezing.{child_places, kids_places}
 use Rattle.map_nodes.specs.Inside.Halves.{half_pieces, IsHalf, IsLower, AreNinth, HasDepth, ChildPut, with_half}
 use Rattle.map_nodes.specs.Inside.Halves.{lowered}
 use Rattle.map_nodes.specs.Nodes.{AllKids, IsNode, body_pieces, body_fresh, body_height, kids_pieces, child_fresh}
-use Rattle.map_nodes.specs.Nodes.{kids_fresh, kids_sizes, row_pieces, body_sizes}
+use Rattle.map_nodes.specs.Nodes.{kids_fresh, kids_levels, kids_marks, child_levels, sunk, body_marks}
 use Rattle.map_nodes.specs.Inside.Nodes.{Kid, child_rows}
 use Rattle.map_nodes.specs.Inside.Ready.{HasRoom, IsReady}
 use Rattle.map_chunks.specs.Search.{IsPlace}
-use Rattle.map_chunks.specs.Shown.{Seen, shown, rows_or, IsTree}
+use Rattle.map_chunks.specs.Shown.{own, Seen, shown, rows_or, IsTree}
 use Rattle.map_nodes.specs.declared.nodes.Body.{Body}
 use Rattle.map_nodes.specs.declared.nodes.Body.TheVariants.{Inner}
 use Rattle.map_nodes.specs.declared.nodes.OwnChild.{OwnChild}
@@ -35,10 +35,11 @@ use Rattle.map_nodes.proofs.UnputLemmas.{unput_anyhow, unput_split}
 use Rattle.map_nodes.proofs.PathLemmas.{put_path, filled_pairs, filled_kids, length-pairs, node_at, child_requires}
 use Rattle.map_nodes.proofs.PathLemmas.{if_ok, indexed_child, done_at, length-lowered, ninth_lowered}
 use Rattle.map_nodes.proofs.PlaceLemmas.{kid_all, kids_may, own_may, placed_may, new_may}
-use Rattle.map_nodes.proofs.PutSizes.{child_put, if_ok_three, inner_counted, leaf_put_sizes, put_as, put_later, put_over}
-use Rattle.map_nodes.specs.Inside.Sizing.{child_seen_sizes, kids_seen_sizes, half_sizes, inner_sizes, ChildHalvesPut}
-use Rattle.map_nodes.specs.Inside.Sizing.{HalvesPut}
-use Rattle.map_nodes.specs.Sizes.{Sizes, counted, placed_sizes, pieces_sizes, seen_sizes, ArePut}
+use Rattle.group_history.proofs.Lists.{prefix_trans}
+use Rattle.map_nodes.proofs.LevelLemmas.{inner-levels}
+use Rattle.map_nodes.proofs.PutLevels.{child_put, if_ok_both, leaf_put_levels, put_as, put_over}
+use Rattle.map_nodes.specs.Inside.Puts.{half_levels, ChildHalvesPut, HalvesPut}
+use Rattle.map_nodes.specs.Levels.{Levels, levels_of, placed_levels, seen_levels, topped, ArePut}
 use Rattle.map_nodes.proofs.nodes.+put.Goals as goal
 
 pub putting::paths::put_inner-put_child-requires : goal.putting::paths::put_inner-put_child-requires
@@ -223,8 +224,8 @@ putting::paths::put_inner-returns-clause-half g t c =
     (ninth_lowered c.args.put.copies keys i c.args.put.key.now c.in_ok-ready.ready.lower
     c.in_ok-ready.ready.room.firsts.items x.3 c.in_ok-ready.ensures.lower (c.in_ok-ready.ensures.ready some).1 key z))
 
-pub putting::paths::put_inner-returns-clause-sizes : goal.putting::paths::put_inner-returns-clause-sizes
-putting::paths::put_inner-returns-clause-sizes g t c =
+pub putting::paths::put_inner-returns-clause-levels : goal.putting::paths::put_inner-returns-clause-levels
+putting::paths::put_inner-returns-clause-levels g t c later pre =
     let p = g.C.Chunks.contents c.args.chunks.now in
     let at : OwnChild = Placed (record { bits = 0 }) in
     let i = c.place_of-place.result in
@@ -238,65 +239,60 @@ putting::paths::put_inner-returns-clause-sizes g t c =
     let keys = c.args.keys.now.texts in
     let kids = c.args.kids.now.items in
     let kk : c.reserve.new.self.items ≡ kids = c.reserve.ensures.items in
-    let done = subst (λ ks. ChildHalvesPut p q (c.args.depth - 1) i ks c.put_child.new.kids.items child
-    c.in_ok-ready.half) kk (c.in_ok-ready.ensures.sizes child (ap (λ w. slice_get w i) kk ∙ x.1)) in
+    let done = subst (λ ks. ChildHalvesPut q (c.args.depth - 1) i ks c.put_child.new.kids.items child
+    c.in_ok-ready.half) kk (c.in_ok-ready.ensures.levels child (ap (λ w. slice_get w i) kk ∙ x.1)) in
     let low = c.lower_first.ensures.texts ∙ ap (lowered i c.in_ok-ready.ready.lower) c.put_child.ensures.texts in
     let n = ap length low ∙ length-lowered i c.in_ok-ready.ready.lower keys in
-    put_over q c.args.depth (length keys) (length c.finish.new.keys.texts) c.finish.result
-    (kids_seen_sizes p (c.args.depth - 1) kids)
-    (λ at m. kids_seen_sizes q (c.args.depth - 1) c.put_child.new.kids.items at m
-    + half_sizes q c.in_ok-ready.half at m)
-    (kids_seen_sizes q (c.args.depth - 1) c.finish.new.kids.items) c.requires.node.1.0
-    (child_put p q c.args.depth keys kids c.put_child.new.kids.items
+    put_over later c.args.depth (length keys) (length c.finish.new.keys.texts) c.finish.result
+    (kids_levels (c.args.depth - 1) kids later) c.finish.new.kids.items
+    (values_of (with_half i c.in_ok-ready.half (paired c.lower_first.new.keys.texts c.put_child.new.kids.items)))
+    (subst (λ ks. ArePut (kids_levels (c.args.depth - 1) kids later)
+    (kids_levels (c.args.depth - 1)
+    (values_of (with_half i c.in_ok-ready.half (paired ks c.put_child.new.kids.items))) later)) (sym low)
+    (child_put p later c.args.depth keys kids c.put_child.new.kids.items
     (body_pieces c.args.depth c.args.keys.now.texts (Inner c.args.kids.now)) c.args.put.key.now i child
-    c.in_ok-ready.half c.put_child.ensures.grown.0 x.2.1.2 refl x.0 x.1 done) (c.finish.ensures.sizes q)
+    c.in_ok-ready.ready.lower c.in_ok-ready.half x.2.1.2 x.0 done.0 done.1 (done.2 later pre)))
+    c.finish.ensures.parted
     (subst (λ w. HasKept w (length c.finish.new.keys.texts) c.finish.result) n c.finish.ensures.entries)
 
-pub putting::paths::put_child-returns-in-Own-clause-sizes : goal.putting::paths::put_child-returns-in-Own-clause-sizes
-putting::paths::put_child-returns-in-Own-clause-sizes g t c x h =
-    let p = g.C.Chunks.contents c.args.chunks.now in
-    let q = g.C.Chunks.contents c.put_below.new.chunks in
+pub putting::paths::put_child-returns-in-Own-clause-levels : goal.putting::paths::put_child-returns-in-Own-clause-levels
+putting::paths::put_child-returns-in-Own-clause-levels g t c x h =
     let kids = c.args.kids.now.items in
     let child = c.index_mut.result.now in
-    let r = c.requires.tree child (child_at kids c.args.place
-    (length kids) child refl c.requires.within c.index_mut.ensures.value) in
     let n : Kid = with_value c.in-Own.node c.put_below.new.self in
-    let d : c.in-Own.node.value.depth ≡ c.args.below = subst (HasDepth c.args.below) c.in-Own.is r.1 in
+    let q = g.C.Chunks.contents c.put_below.new.chunks in
     let e : x ≡ Own c.in-Own.node = indexed_child kids c.args.place child x c.requires.within c.index_mut.ensures.value
     h ∙ c.in-Own.is in
-    if_ok_so c.put_below.result c.put_below.ensures.sizes (λ put sizes. (
+    if_ok_so c.put_below.result c.put_below.ensures.levels (λ put levels. (
       n,
       refl,
-      subst (λ y. ArePut c.args.below (child_seen_sizes p c.args.below y)
-          (λ at m. seen_sizes q c.put_below.new.self at m + half_sizes q put.1 at m)) (sym e)
-          (subst (λ w. ArePut w (seen_sizes p c.in-Own.node.value)
-          (λ at m. seen_sizes q c.put_below.new.self at m + half_sizes q put.1 at m)) d
-          (subst (λ (s : Seen). HalvesPut p q s c.put_below.new.self put.1) c.deref_mut.ensures.value sizes)),
+      λ later pre. subst (λ y. ArePut (child_levels c.args.below y later)
+          (λ i. seen_levels c.put_below.new.self later i ++ half_levels put.1 later i)) (sym e)
+          (subst (λ (s : Seen). HalvesPut q s c.put_below.new.self put.1) c.deref_mut.ensures.value levels later pre),
     ))
 
-pub putting::paths::put_child-returns-in-Placed-clause-sizes :
-    goal.putting::paths::put_child-returns-in-Placed-clause-sizes
-putting::paths::put_child-returns-in-Placed-clause-sizes g t c x h =
-    let p = g.C.Chunks.contents c.args.chunks.now in
+pub putting::paths::put_child-returns-in-Placed-clause-levels :
+    goal.putting::paths::put_child-returns-in-Placed-clause-levels
+putting::paths::put_child-returns-in-Placed-clause-levels g t c x h =
     let q = g.C.Chunks.contents c.copied_child.new.chunks in
     let r = g.C.Chunks.contents c.put_below-in-Placed.new.chunks in
     let kids = c.args.kids.now.items in
     let child = c.index_mut.result.now in
     let n : Kid = with_value c.in_ok-node-in-Placed.node c.put_below-in-Placed.new.self in
     let half = c.in_ok-answer-in-Placed.answer.1 in
-    let new : Sizes = λ at m. seen_sizes r c.put_below-in-Placed.new.self at m + half_sizes r half at m in
     let e : x ≡ Placed c.in-Placed.at = indexed_child kids c.args.place child x c.requires.within
     c.index_mut.ensures.value h ∙ c.in-Placed.is in (
       n,
       set-set kids c.args.place (Placed c.in-Placed.at) (Own n),
-      subst (λ y. ArePut c.args.below (child_seen_sizes p c.args.below y) new) (sym e)
-          (put_as c.args.below (seen_sizes q c.in_ok-node-in-Placed.node.value) new
-          (placed_sizes p c.args.below (stamp_of c.in-Placed.at)) new
-          (λ at m. sym (c.in_ok-node-in-Placed.ensures.sizes at m)) (λ at m. refl)
-          (subst (λ w. ArePut w (seen_sizes q c.in_ok-node-in-Placed.node.value) new)
-          c.in_ok-node-in-Placed.ensures.depth
-          (subst (λ (s : Seen). HalvesPut q r s c.put_below-in-Placed.new.self half)
-          c.deref_mut-in-Placed.ensures.value c.in_ok-answer-in-Placed.ensures.sizes))),
+      λ later pre.
+          let new : Levels = λ i. seen_levels c.put_below-in-Placed.new.self later i ++ half_levels half later i in
+          let sooner = prefix_trans q r later c.put_below-in-Placed.ensures.grown.0 pre in
+          subst (λ y. ArePut (child_levels c.args.below y later) new) (sym e)
+          (put_as (seen_levels c.in_ok-node-in-Placed.node.value later) new
+          (placed_levels later c.args.below (stamp_of c.in-Placed.at)) new
+          (λ i. sym (c.in_ok-node-in-Placed.ensures.levels later sooner i)) (λ i. refl)
+          (subst (λ (s : Seen). HalvesPut r s c.put_below-in-Placed.new.self half)
+          c.deref_mut-in-Placed.ensures.value c.in_ok-answer-in-Placed.ensures.levels later pre)),
     )
 
 pub putting::paths::put_inner-returns-clause-filled : goal.putting::paths::put_inner-returns-clause-filled
@@ -751,7 +747,7 @@ OwnNode::put-returns-in-Inner-clause-err g t c =
       pieces = body_pieces depth c.self.inside.keys.texts b;
       height = body_height b;
       fresh = body_fresh b;
-      sizes = body_sizes depth (length c.self.inside.keys.texts) b;
+      marks = body_marks depth (length c.self.inside.keys.texts) b;
     } in
     on_err c.put_inner.result c.put_inner.ensures.err
     (λ e. inner_same depth c.put_inner.new.keys.texts c.self.inside.keys.texts c.put_inner.new.kids.items
@@ -811,72 +807,40 @@ pub OwnNode::put_below-returns-clause-unput : goal.OwnNode::put_below-returns-cl
 OwnNode::put_below-returns-clause-unput g t c = unput_split g.C.Chunks.stops c.args.put.may_split c.put_ready.result
     c.put_ready.ensures.unput
 
-pub OwnNode::put-returns-in-Leaf-clause-sizes : goal.OwnNode::put-returns-in-Leaf-clause-sizes
-OwnNode::put-returns-in-Leaf-clause-sizes g t c =
-    let p = g.C.Chunks.contents c.args.chunks.now in
-    let depth = c.self.inside.depth in
+pub OwnNode::put-returns-in-Leaf-clause-levels : goal.OwnNode::put-returns-in-Leaf-clause-levels
+OwnNode::put-returns-in-Leaf-clause-levels g t c =
     let keys = c.self.inside.keys.texts in
-    let seen : Body → Seen = λ b. record {
-      depth = depth;
-      entries = length keys;
-      pieces = body_pieces depth keys b;
-      height = body_height b;
-      fresh = body_fresh b;
-      sizes = body_sizes depth (length keys) b;
-    } in
-    let d = leaf_counts depth keys c.self.inside.body c.in-Leaf.values c.in-Leaf.is c.self.invariant in
     let texts = c.put_leaf.new.keys.texts in
-    let now = paired texts c.put_leaf.new.values.items in
-    if_ok_three c.put_leaf.result c.put_leaf.ensures.rows c.put_leaf.ensures.sizes c.put_leaf.ensures.entries
-    (λ half rows nine kept.
-    subst (λ (s : Seen). ArePut s.depth (seen_sizes p s)
-    (λ at m. counted ((depth, length texts) ∷ []) at m + pieces_sizes p (row_pieces now) at m + half_sizes p half at m))
-    (ap seen (sym c.in-Leaf.is) ∙ c.self.view_is)
-    (leaf_put_sizes p depth (length keys) (length texts) half (paired keys c.in-Leaf.values.items) now
-    (finite.put (slice_cmp nat_cmp) c.args.put.key.now c.args.put.value.now (paired keys c.in-Leaf.values.items))
-    d.0 rows nine kept))
+    let was = ap (body_marks c.self.inside.depth (length keys)) (sym c.in-Leaf.is) ∙ ap (λ (s : Seen). s.marks)
+    c.self.view_is in
+    if_ok_both c.put_leaf.result c.put_leaf.ensures.marks c.put_leaf.ensures.entries (λ half nine kept later pre.
+    subst (λ ms. ArePut (levels_of later ms)
+    (λ i. levels_of later (own 0 (length texts) ∷ []) i ++ half_levels half later i)) was
+    (leaf_put_levels later (length keys) (length texts) half kept nine))
 
-pub OwnNode::put-returns-in-Inner-clause-sizes : goal.OwnNode::put-returns-in-Inner-clause-sizes
-OwnNode::put-returns-in-Inner-clause-sizes g t c =
-    let p = g.C.Chunks.contents c.args.chunks.now in
-    let q = g.C.Chunks.contents c.put_inner.new.chunks in
+pub OwnNode::put-returns-in-Inner-clause-levels : goal.OwnNode::put-returns-in-Inner-clause-levels
+OwnNode::put-returns-in-Inner-clause-levels g t c =
     let depth = c.self.inside.depth in
     let keys = c.self.inside.keys.texts in
-    let kids = c.in-Inner.kids in
-    let inner : IsNode depth keys (Inner kids) = subst (IsNode depth keys) c.in-Inner.is c.self.invariant in
-    let seen : Body → Seen = λ b. record {
-      depth = depth;
-      entries = length keys;
-      pieces = body_pieces depth keys b;
-      height = body_height b;
-      fresh = body_fresh b;
-      sizes = body_sizes depth (length keys) b;
-    } in
+    let kids = c.in-Inner.kids.items in
     let texts = c.put_inner.new.keys.texts in
     let now = c.put_inner.new.kids.items in
-    if_ok_so c.put_inner.result c.put_inner.ensures.sizes (λ half put.
-    subst (λ (s : Seen). ArePut s.depth (seen_sizes p s)
-    (λ at m. counted ((depth, length texts) ∷ kids_sizes now) at m
-    + pieces_sizes q (kids_pieces (depth - 1) (paired texts now)) at m + half_sizes q half at m))
-    (ap seen (sym c.in-Inner.is) ∙ c.self.view_is)
-    (put_as depth (inner_sizes p depth (length keys) kids.items)
-    (λ at m. inner_sizes q depth (length texts) now at m + half_sizes q half at m)
-    (seen_sizes p (seen (Inner kids)))
-    (λ at m. counted ((depth, length texts) ∷ kids_sizes now) at m
-    + pieces_sizes q (kids_pieces (depth - 1) (paired texts now)) at m + half_sizes q half at m)
-    (inner_counted p depth keys kids.items inner.1.2)
-    (λ at m. ap (λ w. w + half_sizes q half at m) (inner_counted q depth texts now c.put_inner.ensures.node.1.2 at m))
-    put))
+    let was = ap (body_marks depth (length keys)) (sym c.in-Inner.is) ∙ ap (λ (s : Seen). s.marks) c.self.view_is in
+    if_ok_so c.put_inner.result c.put_inner.ensures.levels (λ half put later pre.
+    subst (λ ms. ArePut (levels_of later ms)
+    (λ i. levels_of later (own 0 (length texts) ∷ sunk (kids_marks (depth - 1) now)) i ++ half_levels half later i)) was
+    (put_as (topped (length keys) (kids_levels (depth - 1) kids later))
+    (λ i. topped (length texts) (kids_levels (depth - 1) now later) i ++ half_levels half later i)
+    (levels_of later (own 0 (length keys) ∷ sunk (kids_marks (depth - 1) kids)))
+    (λ i. levels_of later (own 0 (length texts) ∷ sunk (kids_marks (depth - 1) now)) i ++ half_levels half later i)
+    (inner-levels later (depth - 1) (length keys) kids)
+    (λ i. ap (λ w. w ++ half_levels half later i) (inner-levels later (depth - 1) (length texts) now i)) (put later pre)))
 
-pub OwnNode::put_below-returns-clause-sizes : goal.OwnNode::put_below-returns-clause-sizes
-OwnNode::put_below-returns-clause-sizes g t c =
-    let p = g.C.Chunks.contents c.args.chunks.now in
-    let q = g.C.Chunks.contents c.put.new.chunks in
+pub OwnNode::put_below-returns-clause-levels : goal.OwnNode::put_below-returns-clause-levels
+OwnNode::put_below-returns-clause-levels g t c =
     let r = g.C.Chunks.contents c.put_ready.new.chunks in
-    let n = known (shown p c.args.self.now.pieces) c.requires.tree in
-    if_ok_so c.put_ready.result c.put_ready.ensures.sizes (λ y sizes.
-    put_later p q r c.args.self.now c.put.new.self c.put_ready.new.self y.1 n.rows c.put.ensures.grown.0 n.is
-    c.in-Err-Full.ensures.err sizes)
+    subst (λ (s : Seen). IfOk c.put_ready.result (λ y. HalvesPut r s c.put_ready.new.self y.1))
+    c.in-Err-Full.ensures.err c.put_ready.ensures.levels
 
 -- WHAT GREW
 

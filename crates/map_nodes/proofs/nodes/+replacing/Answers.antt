@@ -7,19 +7,21 @@ use Rattle.std.specs.FinMap as finite
 use Rattle.group_history.specs.Refs.{stamp_of}
 use Rattle.group_history.specs.Rows.{paired}
 use Rattle.group_history.specs.Spelling.{rows_at}
+use Rattle.group_history.proofs.Lists.{prefix_trans}
 use Rattle.map_chunks.specs.Places.{AreAll, AreKept, places_of}
 use Rattle.map_nodes.specs.Inside.Freezing.{child_places, kids_places}
-use Rattle.map_nodes.specs.Nodes.{AllKids, body_pieces, body_fresh, body_height, body_sizes, child_fresh, kids_fresh}
+use Rattle.map_nodes.specs.Nodes.{AllKids, body_pieces, body_fresh, body_height, body_marks, child_fresh, kids_fresh}
+use Rattle.map_nodes.specs.Nodes.{child_levels}
 use Rattle.map_nodes.specs.Inside.Nodes.{Kid, child_rows}
 use Rattle.map_nodes.specs.Inside.Replacing.{CanReplace}
-use Rattle.map_nodes.specs.Inside.Sizing.{child_seen_sizes}
-use Rattle.map_nodes.specs.Sizes.{seen_sizes}
+use Rattle.map_nodes.specs.Levels.{seen_levels}
 use Rattle.map_chunks.specs.Shown.{Seen, IsTree, rows_or, shown}
 use Rattle.map_nodes.specs.declared.nodes.Body.{Body}
 use Rattle.map_nodes.specs.declared.nodes.OwnChild.{OwnChild}
 use Rattle.map_nodes.specs.declared.nodes.OwnChild.TheVariants.{Placed, Own}
 use Rattle.map_chunks.proofs.AnswerLemmas.{both_ok, on_ok, on_err, either_way}
 use Rattle.map_nodes.proofs.CountLemmas.{leaf_counts, inner_counts}
+use Rattle.map_nodes.proofs.KeptLevels.{inner_kept-levels, leaf_kept-levels}
 use Rattle.map_chunks.proofs.KeptLemmas.{grows_on, kept-none, kept-grown, kept-trans, kept-from_none}
 use Rattle.map_nodes.proofs.NamedLemmas.{kept-child, own-places, places-kids, places-rows}
 use Rattle.map_nodes.proofs.NodeLemmas.{child_at, inner_same, written_back}
@@ -27,7 +29,6 @@ use Rattle.map_chunks.proofs.OpenLemmas.{known}
 use Rattle.map_nodes.proofs.PathLemmas.{node_at, indexed_child}
 use Rattle.map_nodes.proofs.RemoveLemmas.{fresh-set}
 use Rattle.map_nodes.proofs.ReplaceLemmas.{leaf_replaced, leaf_has, can_replace, child_replaced}
-use Rattle.map_nodes.proofs.ReplaceLemmas.{leaf_replaced-sizes, inner_replaced-sizes}
 use Rattle.map_nodes.proofs.PlaceLemmas.{kid_all, kids_may, own_may, placed_may, new_may}
 use Rattle.map_nodes.proofs.nodes.+replacing.Goals as goal
 
@@ -287,7 +288,7 @@ OwnNode::replace-returns-in-Inner-clause-err g t c =
       pieces = body_pieces depth keys b;
       height = body_height b;
       fresh = body_fresh b;
-      sizes = body_sizes depth (length keys) b;
+      marks = body_marks depth (length keys) b;
     } in
     on_err c.replace_child.result c.replace_child.ensures.err
     (λ e. inner_same depth keys keys c.replace_child.new.kids.items c.in-Inner.kids.items refl e ∙ ap seen
@@ -420,58 +421,55 @@ pub replacing::replaced_copy-returns-in_err-replace-clause-grown :
 replacing::replaced_copy-returns-in_err-replace-clause-grown g t c =
     grows_on g.C.Chunks.contents g.C.Chunks.places _ _ _ c.copied_child.ensures.grown c.replace.ensures.grown
 
-pub replacing::replace_child-returns-in-Own-clause-sizes : goal.replacing::replace_child-returns-in-Own-clause-sizes
-replacing::replace_child-returns-in-Own-clause-sizes g t c x h =
-    let p = g.C.Chunks.contents c.args.chunks.now in
+pub replacing::replace_child-returns-in-Own-clause-levels : goal.replacing::replace_child-returns-in-Own-clause-levels
+replacing::replace_child-returns-in-Own-clause-levels g t c x h =
     let kids = c.args.kids.now.items in
     let v = c.deref_mut.ensures.value in
     let n : Kid = with_value c.in-Own.node c.replace.new.self in
     let e : x ≡ Own c.in-Own.node = indexed_child kids c.args.place c.index_mut.result.now x c.requires.within
     c.index_mut.ensures.value h ∙ c.in-Own.is in
-    on_ok c.replace.result c.replace.ensures.sizes (λ s. (
+    on_ok c.replace.result c.replace.ensures.levels (λ s. (
       n,
       refl,
-      λ depth entries. s depth entries ∙ ap (λ (m : Seen). seen_sizes p m depth entries) v
-          ∙ ap (λ y. child_seen_sizes p c.args.below y depth entries) (sym e),
+      λ later pre level. s later pre level ∙ ap (λ (m : Seen). seen_levels m later level) v
+          ∙ ap (λ y. child_levels c.args.below y later level) (sym e),
     ))
 
-pub replacing::replace_child-returns-in-Placed-clause-sizes :
-    goal.replacing::replace_child-returns-in-Placed-clause-sizes
-replacing::replace_child-returns-in-Placed-clause-sizes g t c x h =
-    let p = g.C.Chunks.contents c.args.chunks.now in
+pub replacing::replace_child-returns-in-Placed-clause-levels :
+    goal.replacing::replace_child-returns-in-Placed-clause-levels
+replacing::replace_child-returns-in-Placed-clause-levels g t c x h =
     let kids = c.args.kids.now.items in
     let n = c.in_ok-node-in-Placed.node in
     let e : x ≡ Placed c.in-Placed.at = indexed_child kids c.args.place c.index_mut.result.now x c.requires.within
     c.index_mut.ensures.value h ∙ c.in-Placed.is in (
       n,
       set-set kids c.args.place (Placed c.in-Placed.at) (Own n),
-      λ depth entries. c.in_ok-node-in-Placed.ensures.sizes depth entries
-          ∙ ap (λ y. child_seen_sizes p c.args.below y depth entries) (sym e),
+      λ later pre level. c.in_ok-node-in-Placed.ensures.levels later pre level
+          ∙ ap (λ y. child_levels c.args.below y later level) (sym e),
     )
 
-pub replacing::replaced_copy-returns-clause-sizes : goal.replacing::replaced_copy-returns-clause-sizes
-replacing::replaced_copy-returns-clause-sizes g t c depth entries =
-    let q = g.C.Chunks.contents c.copied_child.new.chunks in
-    c.in_ok-replace.ensures.sizes depth entries
-    ∙ ap (λ (s : Seen). seen_sizes q s depth entries) c.deref_mut.ensures.value
-    ∙ c.in_ok-node.ensures.sizes depth entries
+pub replacing::replaced_copy-returns-clause-levels : goal.replacing::replaced_copy-returns-clause-levels
+replacing::replaced_copy-returns-clause-levels g t c later pre level =
+    c.in_ok-replace.ensures.levels later pre level
+    ∙ ap (λ (s : Seen). seen_levels s later level) c.deref_mut.ensures.value
+    ∙ c.in_ok-node.ensures.levels later
+    (prefix_trans _ _ later c.replace.ensures.grown.0 pre) level
 
-pub OwnNode::replace-returns-in_default-clause-sizes : goal.OwnNode::replace-returns-in_default-clause-sizes
-OwnNode::replace-returns-in_default-clause-sizes g t c =
+pub OwnNode::replace-returns-in_default-clause-levels : goal.OwnNode::replace-returns-in_default-clause-levels
+OwnNode::replace-returns-in_default-clause-levels g t c =
     absurd (leaf_has (g.C.Chunks.contents c.args.chunks.now) c.self.inside.depth c.self.inside.keys.texts
     c.self.inside.body c.in-Leaf.values c.args.self.now.pieces
     c.as_slice.result.now c.args.key.now c.in_default.field-0
     (ap (λ (s : Seen). s.pieces) c.self.view_is) c.in-Leaf.is c.self.invariant c.as_slice.ensures
     c.requires.there c.in_default.ensures.absent)
 
-pub OwnNode::replace-returns-in-Leaf-clause-sizes : goal.OwnNode::replace-returns-in-Leaf-clause-sizes
-OwnNode::replace-returns-in-Leaf-clause-sizes g t c =
-    leaf_replaced-sizes (g.C.Chunks.contents c.args.chunks.now) c.self.inside.depth c.self.inside.keys.texts
-    c.self.inside.body c.in-Leaf.values c.args.self.now c.in-Ok.place c.args.value
-    (ap (λ (s : Seen). s.sizes) c.self.view_is) (ap (λ (s : Seen). s.pieces) c.self.view_is) c.in-Leaf.is
+pub OwnNode::replace-returns-in-Leaf-clause-levels : goal.OwnNode::replace-returns-in-Leaf-clause-levels
+OwnNode::replace-returns-in-Leaf-clause-levels g t c =
+    leaf_kept-levels (g.C.Chunks.contents c.args.chunks.now) c.self.inside.depth c.self.inside.keys.texts
+    c.self.inside.body c.in-Leaf.values c.args.self.now (ap (λ (s : Seen). s.marks) c.self.view_is) c.in-Leaf.is
 
-pub OwnNode::replace-returns-in-Inner-clause-sizes : goal.OwnNode::replace-returns-in-Inner-clause-sizes
-OwnNode::replace-returns-in-Inner-clause-sizes g t c =
+pub OwnNode::replace-returns-in-Inner-clause-levels : goal.OwnNode::replace-returns-in-Inner-clause-levels
+OwnNode::replace-returns-in-Inner-clause-levels g t c =
     let p = g.C.Chunks.contents c.args.chunks.now in
     let q = g.C.Chunks.contents c.replace_child.new.chunks in
     let depth = c.self.inside.depth in
@@ -484,7 +482,6 @@ OwnNode::replace-returns-in-Inner-clause-sizes g t c =
     (ap (λ (s : Seen). s.pieces) c.self.view_is) c.in-Inner.is c.self.invariant
     c.as_slice-in-Inner.ensures c.place_for-place.ensures c.requires.tree in
     let child = get_or kids.items i at in
-    on_ok c.replace_child.result (c.replace_child.ensures.sizes child x.1) (λ s.
-    inner_replaced-sizes p q depth keys c.self.inside.body kids c.replace_child.new.kids.items c.args.self.now
-    c.args.key.now i child c.replace_child.ensures.grown.0 (ap (λ (s : Seen). s.sizes) c.self.view_is)
-    (ap (λ (s : Seen). s.pieces) c.self.view_is) c.in-Inner.is c.self.invariant x.0 x.1 s)
+    on_ok c.replace_child.result (c.replace_child.ensures.levels child x.1) (λ s.
+    inner_kept-levels q depth keys c.self.inside.body kids c.replace_child.new.kids.items c.args.self.now i child
+    (ap (λ (s : Seen). s.marks) c.self.view_is) c.in-Inner.is x.1 s)

@@ -2,13 +2,12 @@
 ghost use Rattle.std.specs.Prelude.{◌≡◌, ℕ, ◌<◌, ◌≤◌, ◌+◌, ◌-◌, length, Some, None, IsSome, vec_items, vec_len};
 ghost use Rattle.std.specs.Prelude.{vec_capacity};
 ghost use Rattle.group_history.specs.Map.{Bytes};
-ghost use Rattle.group_history.specs.Rows.{paired};
-ghost use Rattle.group_history.specs.Spelling.{Contents};
+ghost use Rattle.group_history.specs.Rows.{paired, values_of};
 ghost use Rattle.map_nodes.specs.Nodes.{kids_fresh};
 ghost use Rattle.map_nodes.specs.Inside.Halves.{IsHalf, AreNinth, with_half, lowered, Finished};
 ghost use Rattle.map_nodes.specs.Inside.Counts.{half_fresh, HasKept};
 ghost use Rattle.map_nodes.specs.Inside.Ready.{HasRoom, Fits};
-ghost use Rattle.map_nodes.specs.Inside.Sizing.{half_sizes, kids_seen_sizes, split_sizes};
+ghost use Rattle.map_nodes.specs.Inside.Puts.{IsHalved};
 
 use super::super::homes::housed;
 use super::super::{Body, OwnChild, OwnNode};
@@ -50,9 +49,8 @@ pub(crate) fn finish(
         → AreNinth copies keys.old.texts (place + 1) key room.firsts.items) → IsHalf copies depth result }
     ensures fresh { kids_fresh kids.new.items + half_fresh result ≤ kids_fresh kids.old.items + half_fresh half + 1 }
     ensures entries { HasKept (length keys.old.texts) (length keys.new.texts) result }
-    ensures sizes { (contents : Contents) (at entries : ℕ) → kids_seen_sizes contents (depth - 1) kids.new.items at entries
-        + half_sizes contents result at entries ≡ kids_seen_sizes contents (depth - 1) kids.old.items at entries
-        + half_sizes contents half at entries + split_sizes depth result at entries }
+    ensures parted { IsHalved depth kids.new.items result
+        (values_of (with_half place half (paired keys.old.texts kids.old.items))) }
     ensures whole { half ≡ None → result ≡ None }
 {
     let Some(half) = half else {

@@ -5,18 +5,20 @@ ghost use Rattle.std.specs.Prelude.{vec_capacity};
 ghost use Rattle.std.specs.Ordering.{nat_cmp};
 ghost use Rattle.std.specs.Cmp.Lexicographic.{slice_cmp};
 ghost use Rattle.std.specs.FinMap as finite;
+ghost use mathlib.Core.List.{IsPrefix};
+ghost use Rattle.group_history.specs.Spelling.{Contents};
 ghost use Rattle.map_chunks.specs.Places.{Grows, AreAll, AreKept, places_of};
 ghost use Rattle.map_nodes.specs.Inside.Freezing.{kids_places};
 ghost use Rattle.map_chunks.specs.Search.{IsPlace};
 ghost use Rattle.map_chunks.specs.Shown.{shown, IsTree, rows_or};
-ghost use Rattle.map_nodes.specs.Nodes.{IsNode, body_pieces, body_fresh, kids_fresh};
+ghost use Rattle.map_nodes.specs.Nodes.{IsNode, body_levels, body_pieces, body_fresh, kids_fresh};
 ghost use Rattle.map_nodes.specs.Inside.Nodes.{child_rows};
 ghost use Rattle.map_nodes.specs.Inside.Halves.{half_pieces, IsHalf, ChildPut, IsLower, HasDepth};
 ghost use Rattle.map_nodes.specs.Inside.Ready.{IsReady};
 ghost use Rattle.map_nodes.specs.Inside.Counts.{half_fresh, HasKept};
-ghost use Rattle.map_nodes.specs.Inside.Sizing.{half_sizes, inner_sizes, ChildHalvesPut, HalvesPut};
+ghost use Rattle.map_nodes.specs.Inside.Puts.{half_levels, ChildHalvesPut, HalvesPut};
 ghost use Rattle.map_nodes.specs.Inside.Unput.{IsUnput};
-ghost use Rattle.map_nodes.specs.Sizes.{ArePut};
+ghost use Rattle.map_nodes.specs.Levels.{ArePut};
 ghost use Rattle.map_nodes.specs.declared.nodes.Body.TheVariants as body;
 ghost use Rattle.map_nodes.specs.declared.nodes.OwnChild.{OwnChild as Childs};
 
@@ -58,10 +60,10 @@ fn put_inner<C: Chunks>(
     ensures fresh { IfOk result (λ half. body_fresh (body.Inner kids.new) + half_fresh half
         < body_fresh (body.Inner kids.old) + 2 * depth) }
     ensures entries { IfOk result (HasKept (length keys.old.texts) (length keys.new.texts)) }
-    ensures sizes { IfOk result (λ half. ArePut depth
-        (inner_sizes (C.contents chunks.old) depth (length keys.old.texts) kids.old.items)
-        (λ at n. inner_sizes (C.contents chunks.new) depth (length keys.new.texts) kids.new.items at n
-        + half_sizes (C.contents chunks.new) half at n)) }
+    ensures levels { IfOk result (λ half. (later : Contents) → IsPrefix (C.contents chunks.new) later
+        → ArePut (body_levels depth (length keys.old.texts) (body.Inner kids.old) later)
+        (λ level. body_levels depth (length keys.new.texts) (body.Inner kids.new) later level
+        ++ half_levels half later level)) }
     ensures filled { OnOk result (0 < length (body_pieces depth keys.new.texts (body.Inner kids.new))) }
     ensures whole { put.entry.may_split ≡ false → IfOk result (λ half. half ≡ None) }
     ensures err { OnErr result ((keys.new.texts ≡ keys.old.texts) × (kids.new.items ≡ kids.old.items)) }
@@ -96,9 +98,8 @@ fn put_child<C: Chunks>(
         (rows_or (child_rows (C.contents chunks.old) below c))))) }
     ensures fresh { IfOk result (λ r. kids_fresh kids.new.items + half_fresh r.1
         ≤ kids_fresh kids.old.items + 2 * below) }
-    ensures sizes { (c : Childs) → slice_get kids.old.items place ≡ Some c
-        → IfOk result (λ r. ChildHalvesPut (C.contents chunks.old) (C.contents chunks.new) below place kids.old.items
-        kids.new.items c r.1) }
+    ensures levels { (c : Childs) → slice_get kids.old.items place ≡ Some c
+        → IfOk result (λ r. ChildHalvesPut (C.contents chunks.new) below place kids.old.items kids.new.items c r.1) }
     ensures places { IfOk result (λ r. AreKept (C.places chunks.new) (kids_places kids.old.items)
         (kids_places kids.new.items ++ places_of (half_pieces r.1))) }
     ensures kept { vec_capacity kids.new ≡ vec_capacity kids.old }
@@ -146,8 +147,7 @@ impl OwnNode {
         ensures places { IfOk result (λ r. AreKept (C.places chunks.new) (places_of self.old.pieces)
             (places_of (self.new.pieces ++ half_pieces r.1))) }
         ensures fresh { IfOk result (λ r. self.new.fresh + half_fresh r.1 < self.old.fresh + 2 * self.old.depth) }
-        ensures sizes { IfOk result (λ r. HalvesPut (C.contents chunks.old) (C.contents chunks.new) self.old self.new
-            r.1) }
+        ensures levels { IfOk result (λ r. HalvesPut (C.contents chunks.new) self.old self.new r.1) }
         ensures filled { OnOk result (0 < length self.new.pieces) }
         ensures texts { keys.new.texts ≡ keys.old.texts }
         ensures lowers { IfOk result (λ r. IsSome r.0.lower → 0 < keys.new.room) }
@@ -199,8 +199,7 @@ impl OwnNode {
         ensures places { IfOk result (λ r. AreKept (C.places chunks.new) (places_of self.old.pieces)
             (places_of (self.new.pieces ++ half_pieces r.1))) }
         ensures fresh { IfOk result (λ r. self.new.fresh + half_fresh r.1 < self.old.fresh + 2 * self.old.depth) }
-        ensures sizes { IfOk result (λ r. HalvesPut (C.contents chunks.old) (C.contents chunks.new) self.old self.new
-            r.1) }
+        ensures levels { IfOk result (λ r. HalvesPut (C.contents chunks.new) self.old self.new r.1) }
         ensures filled { OnOk result (0 < length self.new.pieces) }
         ensures texts { keys.new.texts ≡ keys.old.texts }
         ensures lower { IfOk result (λ r. r.0.lower ≡ lower) }
@@ -240,7 +239,7 @@ impl OwnNode {
             (places_of (self.new.pieces ++ half_pieces half))) }
         ensures fresh { IfOk result (λ half. self.new.fresh + half_fresh half < self.old.fresh + 2 * self.old.depth) }
         ensures entries { IfOk result (HasKept self.old.entries self.new.entries) }
-        ensures sizes { IfOk result (HalvesPut (C.contents chunks.old) (C.contents chunks.new) self.old self.new) }
+        ensures levels { IfOk result (HalvesPut (C.contents chunks.new) self.old self.new) }
         ensures filled { OnOk result (0 < length self.new.pieces) }
         ensures whole { put.entry.may_split ≡ false → IfOk result (λ half. half ≡ None) }
         ensures err { OnErr result (self.new ≡ self.old) }

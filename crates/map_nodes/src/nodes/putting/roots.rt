@@ -6,12 +6,12 @@ ghost use Rattle.std.specs.Cmp.Lexicographic.{slice_cmp};
 ghost use Rattle.std.specs.FinMap as finite;
 ghost use Rattle.group_history.specs.declared.mutators.Stop.TheVariants.{NoMemory};
 ghost use Rattle.map_chunks.specs.Places.{Grows, AreAll, AreKept, places_of};
-ghost use Rattle.map_chunks.specs.Shown.{shown, IsTree, rows_or};
-ghost use Rattle.map_nodes.specs.Nodes.{HeadIs};
+ghost use Rattle.map_chunks.specs.Shown.{own, shown, IsTree, rows_or};
+ghost use Rattle.map_nodes.specs.Nodes.{HeadIs, sunk};
 ghost use Rattle.map_nodes.specs.Inside.Halves.{half_pieces, IsHalf, least, AreInOrder, HeadsBoth};
 ghost use Rattle.map_nodes.specs.Inside.Counts.{half_fresh, HasKept};
-ghost use Rattle.map_nodes.specs.Inside.Sizing.{HalvesPut};
-ghost use Rattle.map_nodes.specs.Sizes.{seen_sizes, ArePutIn};
+ghost use Rattle.map_nodes.specs.Inside.Puts.{HalvesPut};
+ghost use Rattle.map_nodes.specs.Levels.{seen_levels, PutLater};
 ghost use Rattle.map_chunks.specs.Wide.{IsWideChunk};
 
 use super::super::homes::{housed, take_home};
@@ -72,7 +72,7 @@ fn root_above(lower: Box<OwnNode>, half: Half, first: Text, room: SpareChunk<Own
     ensures depth { result.depth ≡ lower.value.depth + 1 }
     ensures fresh { result.fresh ≡ lower.value.fresh + half.node.value.fresh + 1 }
     ensures entries { result.entries ≡ 2 }
-    ensures sizes { result.sizes ≡ (lower.value.depth + 1, 2) ∷ (lower.value.sizes ++ half.node.value.sizes) }
+    ensures marks { result.marks ≡ own 0 2 ∷ sunk (lower.value.marks ++ half.node.value.marks) }
 {
     let depth = lower.depth() + 1;
     let Half { mut firsts, node } = half;
@@ -111,8 +111,8 @@ impl OwnNode {
             ≡ Some (finite.put (slice_cmp nat_cmp) key.now value.now
             (rows_or (shown (C.contents chunks.old) self.old.pieces)))) }
         ensures few { OnOk result (self.new.fresh ≤ self.old.fresh + 2 * self.old.depth) }
-        ensures sizes { OnOk result (ArePutIn self.old.depth self.new.depth (seen_sizes (C.contents chunks.old) self.old)
-            (seen_sizes (C.contents chunks.new) self.new)) }
+        ensures levels { OnOk result (PutLater self.old.depth self.new.depth (C.contents chunks.new)
+            (seen_levels self.old) (seen_levels self.new)) }
         ensures places { OnOk result (AreKept (C.places chunks.new) (places_of self.old.pieces)
             (places_of self.new.pieces)) }
         ensures deep { OnOk result ((self.old.depth ≤ self.new.depth) × (self.new.depth ≤ self.old.depth + 1)) }
@@ -154,8 +154,8 @@ impl OwnNode {
             ≡ Some (finite.put (slice_cmp nat_cmp) key.now value.now
             (rows_or (shown (C.contents chunks.old) self.old.pieces)))) }
         ensures few { OnOk result (self.new.fresh ≤ self.old.fresh + 2 * self.old.depth) }
-        ensures sizes { OnOk result (ArePutIn self.old.depth self.new.depth (seen_sizes (C.contents chunks.old) self.old)
-            (seen_sizes (C.contents chunks.new) self.new)) }
+        ensures levels { OnOk result (PutLater self.old.depth self.new.depth (C.contents chunks.new)
+            (seen_levels self.old) (seen_levels self.new)) }
         ensures places { OnOk result (AreKept (C.places chunks.new) (places_of self.old.pieces)
             (places_of self.new.pieces)) }
         ensures deep { OnOk result ((self.old.depth ≤ self.new.depth) × (self.new.depth ≤ self.old.depth + 1)) }
@@ -193,7 +193,7 @@ impl OwnNode {
             (places_of (self.new.pieces ++ half_pieces half))) }
         ensures fresh { IfOk result (λ half. self.new.fresh + half_fresh half < self.old.fresh + 2 * self.old.depth) }
         ensures entries { IfOk result (HasKept self.old.entries self.new.entries) }
-        ensures sizes { IfOk result (HalvesPut (C.contents chunks.old) (C.contents chunks.new) self.old self.new) }
+        ensures levels { IfOk result (HalvesPut (C.contents chunks.new) self.old self.new) }
         ensures filled { OnOk result (0 < length self.new.pieces) }
         ensures err { OnErr result (self.new ≡ self.old) }
         ensures stopped { IfErr result (λ s. (s ≡ NoMemory) ⊎ C.stops s) }
@@ -224,7 +224,7 @@ impl OwnNode {
         ensures depth { self.new.depth ≡ self.old.depth + 1 }
         ensures fresh { self.new.fresh ≡ self.old.fresh + half.node.value.fresh + 1 }
         ensures entries { self.new.entries ≡ 2 }
-        ensures sizes { self.new.sizes ≡ (self.old.depth + 1, 2) ∷ (self.old.sizes ++ half.node.value.sizes) }
+        ensures marks { self.new.marks ≡ own 0 2 ∷ sunk (self.old.marks ++ half.node.value.marks) }
     {
         let Above { first, spare, home } = above;
         let lower = housed(home, mem::replace(self, OwnNode::empty(alloc)));

@@ -13,7 +13,7 @@ ghost use Rattle.map_chunks.specs.Places.{with_nodes, places_of, AddsNamed};
 ghost use Rattle.map_chunks.specs.Shown.{shown};
 ghost use Rattle.map_chunks.specs.Wide.{IsWideAt};
 ghost use Rattle.map_nodes.specs.Inside.Freezing.{IsWritten};
-ghost use Rattle.map_nodes.specs.Sizes.{AreAsBefore, placed_sizes, seen_sizes};
+ghost use Rattle.map_nodes.specs.Levels.{placed_levels, seen_levels, StayLater};
 ghost use Rattle.map_nodes.specs.Trails.{step_names, trail_seen, IsTrail};
 
 use super::{End, Step, Trail};
@@ -81,10 +81,9 @@ impl Trail {
             → shown (with_nodes contents draft.old.nodes) self.pieces ≡ Some rows
             → IfOk result (λ root. rows_at (with_nodes contents draft.new.nodes) self.depth
             (stamp_of root) ≡ Some rows) }
-        ensures sizes { (contents : Contents) (rows : Rows) → length contents ≡ draft.old.first
-            → shown (with_nodes contents draft.old.nodes) self.pieces ≡ Some rows
-            → IfOk result (λ root. AreAsBefore (seen_sizes (with_nodes contents draft.old.nodes) self)
-            (placed_sizes (with_nodes contents draft.new.nodes) self.depth (stamp_of root))) }
+        ensures levels { (contents : Contents) → length contents ≡ draft.old.first
+            → IfOk result (λ root. StayLater (with_nodes contents draft.new.nodes) (seen_levels self)
+            (λ p. placed_levels p self.depth (stamp_of root))) }
         ensures wide { (contents : Contents) → length contents ≡ draft.old.first → 1 < self.entries
             → IfOk result (λ root. IsWideAt (with_nodes contents draft.new.nodes) (stamp_of root)) }
         ensures named { OnOk result (AddsNamed draft.old.first

@@ -1,9 +1,11 @@
 use Rattle.std.proofs.Common.{◌≡◌, ◌∙◌, ap, sym, subst, refl, arith, ◌-◌, length, [], ◌∷◌}
 use Rattle.group_history.specs.Rows.{Rows, keys_of, values_of, paired, AreKeys}
 use Rattle.group_history.proofs.Pairs.{paired-parts}
-use Rattle.map_nodes.specs.Inside.Copies.{MayBeDeep, chunk_pieces, chunk_entries}
-use Rattle.map_nodes.specs.Nodes.{row_pieces, kids_fresh, kids_sizes}
-use Rattle.map_nodes.proofs.CopyLemmas.{all_as_placed, copied_inner, copied_pieces, placed_fresh, placed_own}
+use Rattle.map_chunks.specs.Shown.{own}
+use Rattle.map_nodes.specs.Inside.Copies.{MayBeDeep, chunk_pieces, chunk_entries, chunk_marks}
+use Rattle.map_nodes.specs.Nodes.{row_pieces, kids_fresh, kids_marks, sunk}
+use Rattle.map_nodes.proofs.CopyLemmas.{all_as_placed, copied_inner, copied_pieces, placed_fresh}
+use Rattle.map_nodes.proofs.KeptLevels.{placed-values}
 use Rattle.map_chunks.proofs.SearchLemmas.{length-keys_of}
 use Rattle.map_nodes.proofs.nodes.OwnNode.of_chunk.Goals as goal
 
@@ -34,7 +36,7 @@ returns-in_ok-copied_values-in-Leaf c =
           ∙ ap row_pieces (paired-parts rows) ∙ ap (chunk_pieces c.args.depth) (sym c.in-Leaf.is),
       refl,
       ap length texts ∙ length-keys_of rows ∙ ap chunk_entries (sym c.in-Leaf.is),
-      ap (λ n. (c.args.depth, n) ∷ []) (ap length texts ∙ length-keys_of rows ∙ ap chunk_entries (sym c.in-Leaf.is)),
+      ap (λ n. own 0 n ∷ []) (ap length texts ∙ length-keys_of rows) ∙ ap (chunk_marks c.args.depth) (sym c.in-Leaf.is),
     )
 
 pub returns-in_ok-placed_children-in-Inner : goal.returns-in_ok-placed_children-in-Inner
@@ -52,8 +54,8 @@ returns-in_ok-placed_children-in-Inner c =
           (sym c.in-Inner.is),
       omega (arith, placed_fresh (values_of kids), ap kids_fresh items),
       ap length texts ∙ length-keys_of kids ∙ ap chunk_entries (sym c.in-Inner.is),
-      ap (λ n. (c.args.depth, n) ∷ kids_sizes c.in_ok-placed_children-in-Inner.field-0.items)
-          (ap length texts ∙ length-keys_of kids ∙ ap chunk_entries (sym c.in-Inner.is))
-          ∙ ap (λ w. (c.args.depth, chunk_entries c.args.chunk.now) ∷ w)
-          (ap kids_sizes items ∙ placed_own (values_of kids)),
+      ap (λ n. own 0 n ∷ sunk (kids_marks (c.args.depth - 1) c.in_ok-placed_children-in-Inner.field-0.items))
+          (ap length texts ∙ length-keys_of kids)
+          ∙ ap (λ w. own 0 (length kids) ∷ sunk (kids_marks (c.args.depth - 1) w)) (items ∙ placed-values kids)
+          ∙ ap (chunk_marks c.args.depth) (sym c.in-Inner.is),
     )

@@ -1,4 +1,4 @@
-use Rattle.std.proofs.Common.{◌∙◌, ap, sym, subst, nat_cmp, Some, refl}
+use Rattle.std.proofs.Common.{◌∙◌, OnOk, ap, sym, subst, nat_cmp, Some, refl}
 use Rattle.std.specs.Cmp.Lexicographic.{slice_cmp}
 use Rattle.std.specs.FinMap as finite
 use Rattle.map_chunks.specs.Places.{AreAll, AreKept, places_of}
@@ -9,7 +9,8 @@ use Rattle.map_nodes.proofs.ChangeLemmas.{shown-kept}
 use Rattle.map_nodes.proofs.NamedLemmas.{kept-front}
 use Rattle.map_chunks.proofs.OpenLemmas.{known, tree_of}
 use Rattle.map_chunks.proofs.KeptLemmas.{all_on, grows_on}
-use Rattle.map_nodes.proofs.PutSizes.{put_in_later, put_level}
+use Rattle.map_nodes.proofs.PutLevels.{put_level}
+use Rattle.map_nodes.specs.Levels.{seen_levels, PutLater}
 use Rattle.map_nodes.proofs.nodes.OwnNode.put_root.Goals as goal
 
 pub put_split-requires-clause-places : goal.put_split-requires-clause-places
@@ -53,17 +54,14 @@ pub returns-in-Err-Full-clause-grown : goal.returns-in-Err-Full-clause-grown
 returns-in-Err-Full-clause-grown g c =
     grows_on g.C.Chunks.contents g.C.Chunks.places _ _ _ c.put.ensures.grown c.put_split.ensures.grown
 
-pub returns-in-Ok-clause-sizes : goal.returns-in-Ok-clause-sizes
-returns-in-Ok-clause-sizes g c =
-    put_level (g.C.Chunks.contents c.args.chunks.now) (g.C.Chunks.contents c.put.new.chunks) c.args.self.now
-    c.put.new.self c.in-Ok.field-0 (c.in-Ok.ensures.whole refl) c.put.ensures.depth c.in-Ok.ensures.sizes
+pub returns-in-Ok-clause-levels : goal.returns-in-Ok-clause-levels
+returns-in-Ok-clause-levels g c =
+    put_level (g.C.Chunks.contents c.put.new.chunks) c.args.self.now c.put.new.self c.in-Ok.field-0
+    (c.in-Ok.ensures.whole refl) c.put.ensures.depth c.in-Ok.ensures.levels
 
-pub returns-in-Err-Full-clause-sizes : goal.returns-in-Err-Full-clause-sizes
-returns-in-Err-Full-clause-sizes g c =
-    let p = g.C.Chunks.contents c.args.chunks.now in
-    let q = g.C.Chunks.contents c.put.new.chunks in
+pub returns-in-Err-Full-clause-levels : goal.returns-in-Err-Full-clause-levels
+returns-in-Err-Full-clause-levels g c =
     let r = g.C.Chunks.contents c.put_split.new.chunks in
-    let n = known (shown p c.args.self.now.pieces) c.requires.tree in
-    on_ok c.put_split.result c.put_split.ensures.sizes
-    (put_in_later p q r c.args.self.now c.put.new.self c.put_split.new.self n.rows c.put.ensures.grown.0 n.is
-    c.in-Err-Full.ensures.err)
+    let new = c.put_split.new.self in
+    subst (λ (s : Seen). OnOk c.put_split.result (PutLater s.depth new.depth r (seen_levels s) (seen_levels new)))
+    c.in-Err-Full.ensures.err c.put_split.ensures.levels

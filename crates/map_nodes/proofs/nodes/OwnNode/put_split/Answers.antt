@@ -10,8 +10,8 @@ use Rattle.map_nodes.proofs.LeafLemmas.{put-strict}
 use Rattle.map_nodes.proofs.NamedLemmas.{kept-front}
 use Rattle.map_chunks.proofs.OpenLemmas.{known}
 use Rattle.map_nodes.proofs.RootLemmas.{two, begins_least}
-use Rattle.map_nodes.proofs.PutSizes.{put_level, put_risen}
-use Rattle.map_nodes.specs.Inside.Sizing.{HalvesPut}
+use Rattle.map_nodes.proofs.PutLevels.{put_level, put_risen}
+use Rattle.map_nodes.specs.Inside.Puts.{HalvesPut}
 use Rattle.map_nodes.proofs.nodes.OwnNode.put_split.Goals as goal
 
 pub rise-requires-clause-half : goal.rise-requires-clause-half
@@ -104,15 +104,14 @@ returns-clause-places g c =
     (sym (c.rise.ensures.pieces ∙ ap (λ h. c.put_anyway.new.self.pieces ++ half_pieces h) (sym c.in-Some.is)))
     c.in_ok-half.ensures.places
 
-pub returns-in_default-clause-sizes : goal.returns-in_default-clause-sizes
-returns-in_default-clause-sizes g c =
-    put_level (g.C.Chunks.contents c.args.chunks.now) (g.C.Chunks.contents c.put_anyway.new.chunks) c.args.self.now
-    c.put_anyway.new.self c.in_ok-half.field-0 c.in_default.is c.put_anyway.ensures.depth c.in_ok-half.ensures.sizes
+pub returns-in_default-clause-levels : goal.returns-in_default-clause-levels
+returns-in_default-clause-levels g c =
+    put_level (g.C.Chunks.contents c.put_anyway.new.chunks) c.args.self.now c.put_anyway.new.self
+    c.in_ok-half.field-0 c.in_default.is c.put_anyway.ensures.depth c.in_ok-half.ensures.levels
 
-pub returns-clause-sizes : goal.returns-clause-sizes
-returns-clause-sizes g c =
-    let p = g.C.Chunks.contents c.args.chunks.now in
+pub returns-clause-levels : goal.returns-clause-levels
+returns-clause-levels g c =
     let q = g.C.Chunks.contents c.put_anyway.new.chunks in
-    put_risen p q c.args.self.now c.put_anyway.new.self c.rise.new.self c.in-Some.half c.put_anyway.ensures.depth
-    c.rise.ensures.depth c.rise.ensures.pieces c.rise.ensures.sizes
-    (subst (HalvesPut p q c.args.self.now c.put_anyway.new.self) c.in-Some.is c.in_ok-half.ensures.sizes)
+    put_risen q c.args.self.now c.put_anyway.new.self c.rise.new.self c.in-Some.half c.put_anyway.ensures.depth
+    c.rise.ensures.depth c.rise.ensures.marks
+    (subst (HalvesPut q c.args.self.now c.put_anyway.new.self) c.in-Some.is c.in_ok-half.ensures.levels)

@@ -1,22 +1,20 @@
 use Rattle.std.proofs.Common.{◌∙◌, OnOk, ap, sym, subst}
 use Rattle.map_chunks.specs.Shown.{Seen}
 use Rattle.map_nodes.specs.Roots.{form_seen}
-use Rattle.map_nodes.specs.Sizes.{seen_sizes, ArePutIn}
+use Rattle.map_nodes.specs.Levels.{seen_levels, PutLater}
 use Rattle.map_nodes.proofs.roots.OwnRoot.write.Goals as goal
 
-pub returns-in-Node-clause-sizes : goal.returns-in-Node-clause-sizes
-returns-in-Node-clause-sizes g c =
-    let p = g.C.Chunks.contents c.args.chunks.now in
+pub returns-in-Node-clause-levels : goal.returns-in-Node-clause-levels
+returns-in-Node-clause-levels g c =
     let q = g.C.Chunks.contents c.write.new.chunks in
     let new = c.write.new.self in
-    subst (λ (s : Seen). OnOk c.write.result (ArePutIn s.depth new.depth (seen_sizes p s) (seen_sizes q new)))
-    (ap form_seen (sym c.in-Node.is) ∙ c.self.view_is) c.write.ensures.sizes
+    subst (λ (s : Seen). OnOk c.write.result (PutLater s.depth new.depth q (seen_levels s) (seen_levels new)))
+    (ap form_seen (sym c.in-Node.is) ∙ c.self.view_is) c.write.ensures.levels
 
-pub returns-in_ok-write-in-Trail-clause-sizes : goal.returns-in_ok-write-in-Trail-clause-sizes
-returns-in_ok-write-in-Trail-clause-sizes g c =
-    let p = g.C.Chunks.contents c.args.chunks.now in
+pub returns-in_ok-write-in-Trail-clause-levels : goal.returns-in_ok-write-in-Trail-clause-levels
+returns-in_ok-write-in-Trail-clause-levels g c =
     let q = g.C.Chunks.contents c.write-in-Trail.new.chunks in
     let new = c.write-in-Trail.new.self in
-    subst (λ (s : Seen). ArePutIn s.depth new.depth (seen_sizes p s) (seen_sizes q new))
+    subst (λ (s : Seen). PutLater s.depth new.depth q (seen_levels s) (seen_levels new))
     (c.in_ok-node-in-Trail.ensures ∙ ap form_seen (sym c.in-Trail.is) ∙ c.self.view_is)
-    c.in_ok-write-in-Trail.ensures.sizes
+    c.in_ok-write-in-Trail.ensures.levels

@@ -1,12 +1,12 @@
 use Rattle.std.proofs.Common.{◌≡◌, ◌+◌, ◌<◌, sym, ap, subst, ◌∙◌, length, Ok, OnOk, IfErr, refl, arith, ◌⊎◌, inl}
-use Rattle.std.specs.Prelude.{unwrap_or}
-use Rattle.group_history.specs.Refs.{stamps, stamp_of}
+use Rattle.group_history.specs.Refs.{stamps}
 use Rattle.map_chunks.specs.Drafts.{AreBelow}
 use Rattle.map_chunks.specs.Places.{with_nodes, AddsNamed}
-use Rattle.map_chunks.proofs.AnswerLemmas.{if_ok_so}
-use Rattle.map_nodes.specs.Sizes.{placed_sizes}
-use Rattle.map_nodes.proofs.FreezeSizes.{map_sized}
-use Rattle.map_tree.specs.Trees.{root_places, root_sizes, tree_places, root_map, root_fresh, placed_root, IsWide}
+use Rattle.map_nodes.proofs.FreezeLevels.{map_level}
+use Rattle.map_nodes.proofs.PutLevels.{if_ok_both}
+use Rattle.map_tree.proofs.RootCounts.{placed_as}
+use Rattle.map_tree.specs.declared.tree.Root.TheVariants.{Placed}
+use Rattle.map_tree.specs.Trees.{root_places, root_levels, tree_places, root_map, root_fresh, placed_root, IsWide}
 use Rattle.group_history.specs.declared.refusals.Refusal.TheVariants as refusal
 use Rattle.group_history.proofs.Lists.{one_here}
 use Rattle.map_nodes.proofs.FreezeLemmas.{map_frozen}
@@ -82,17 +82,17 @@ frozen-requires c = record {
       c.requires.below;
 }
 
-pub returns-in-Placed-clause-sizes : goal.returns-in-Placed-clause-sizes
-returns-in-Placed-clause-sizes c contents m l h depth entries =
-    ap (λ r. root_sizes (with_nodes contents c.args.draft.now.nodes) r depth entries) (sym c.in-Placed.is)
+pub returns-in-Placed-clause-levels : goal.returns-in-Placed-clause-levels
+returns-in-Placed-clause-levels c contents m l h later pre level =
+    ap (λ r. root_levels r later level) (sym c.in-Placed.is)
 
-pub returns-in-Own-clause-sizes : goal.returns-in-Own-clause-sizes
-returns-in-Own-clause-sizes c contents m l h =
+pub returns-in-Own-clause-levels : goal.returns-in-Own-clause-levels
+returns-in-Own-clause-levels c contents m l h =
     let p = with_nodes contents c.args.draft.now.nodes in
     let q = with_nodes contents c.frozen.new.draft.nodes in
     let n = c.in-Own.node in
-    if_ok_so c.frozen.result (map_sized c.frozen.result p q n m (ap (root_map p) (sym c.in-Own.is) ∙ h)
-    (λ rows e. c.frozen.ensures.spelled contents rows l e) (λ rows e. c.frozen.ensures.sizes contents rows l e))
-    (λ root s depth entries.
-    ap (λ o. placed_sizes q (unwrap_or o 0) (stamp_of root) depth entries) s.0 ∙ s.1 depth entries
-    ∙ ap (λ r. root_sizes p r depth entries) (sym c.in-Own.is))
+    if_ok_both c.frozen.result (map_level c.frozen.result p q n m (ap (root_map p) (sym c.in-Own.is) ∙ h)
+    (λ rows e. c.frozen.ensures.spelled contents rows l e)) (c.frozen.ensures.levels contents l)
+    (λ root deep same later pre level.
+    placed_as q later (Placed root) root n.depth refl deep pre level ∙ same later pre level
+    ∙ ap (λ r. root_levels r later level) (sym c.in-Own.is))

@@ -1,8 +1,8 @@
 use Rattle.std.proofs.Common.{◌∙◌, ap, sym, subst, Some, refl, arith}
 use Rattle.std.specs.FinMap as finite
-use Rattle.map_nodes.specs.Sizes.{ArePutIn}
-use Rattle.map_nodes.proofs.PutSizes.{put_same as as_before}
-use Rattle.map_tree.specs.Trees.{tree_places, tree_sizes}
+use Rattle.map_nodes.specs.Levels.{PutLater}
+use Rattle.map_nodes.proofs.PutLevels.{put_same as as_before}
+use Rattle.map_tree.specs.Trees.{tree_levels, tree_places}
 use Rattle.map_chunks.specs.Writes.{is_there, is_the_same}
 use Rattle.map_chunks.proofs.AnswerLemmas.{on_ok}
 use Rattle.map_chunks.proofs.JoinLemmas.{some_is}
@@ -53,20 +53,21 @@ returns-clause-deep g c d t =
     let e = some_is (sym c.requires.depth ∙ t) in
     on_ok c.write.result c.write.ensures.deep (λ n. (n.0, n.1, omega (arith, n.2, e), omega (arith, n.3, e)))
 
-pub returns-then-is_same-clause-sizes : goal.returns-then-is_same-clause-sizes
-returns-then-is_same-clause-sizes g c d t =
-    let now = tree_sizes (g.C.Chunks.contents c.args.chunks.now) c.args.self.now in
-    (d, t, as_before d d now now refl (λ at n. refl))
+pub returns-then-is_same-clause-levels : goal.returns-then-is_same-clause-levels
+returns-then-is_same-clause-levels g c d t =
+    let now = tree_levels c.args.self.now in
+    (d, t, as_before (g.C.Chunks.contents c.args.chunks.now) d d now now refl (λ later pre level. refl))
 
 pub returns-then-is_same-clause-kept : goal.returns-then-is_same-clause-kept
-returns-then-is_same-clause-kept g c m h f at n = refl
+returns-then-is_same-clause-kept g c m h f later pre level = refl
 
-pub returns-clause-sizes : goal.returns-clause-sizes
-returns-clause-sizes g c d t =
+pub returns-clause-levels : goal.returns-clause-levels
+returns-clause-levels g c d t =
     let e = some_is (sym c.requires.depth ∙ t) in
-    let old = tree_sizes (g.C.Chunks.contents c.args.chunks.now) c.args.self.now in
-    let new = tree_sizes (g.C.Chunks.contents c.write.new.chunks) c.write.new.self in
-    on_ok c.write.result c.write.ensures.sizes (λ n. (n.0, n.1, subst (λ w. ArePutIn w n.0 old new) e n.2))
+    let q = g.C.Chunks.contents c.write.new.chunks in
+    let old = tree_levels c.args.self.now in
+    let new = tree_levels c.write.new.self in
+    on_ok c.write.result c.write.ensures.levels (λ n. (n.0, n.1, subst (λ w. PutLater w n.0 q old new) e n.2))
 
 pub returns-clause-kept : goal.returns-clause-kept
 returns-clause-kept g c m h f =

@@ -3,9 +3,11 @@ use Rattle.std.specs.Prelude.{IsSome}
 use Rattle.std.specs.FinMap as finite
 use Rattle.map_chunks.specs.Places.{AreKept, places_of}
 use Rattle.group_history.specs.Refs.{stamp_of}
-use Rattle.map_nodes.specs.Sizes.{placed_sizes, seen_sizes, AreAsBefore, ArePutIn}
-use Rattle.map_nodes.proofs.PutSizes.{put_in_as}
-use Rattle.map_tree.specs.Trees.{root_places, root_sizes, tree_places, root_map, root_depth, root_fresh, tree_map, IsWide}
+use Rattle.group_history.proofs.Lists.{prefix_trans}
+use Rattle.map_nodes.specs.Levels.{placed_levels, seen_levels, PutLater, StayLater}
+use Rattle.map_nodes.proofs.PutLevels.{put_in_as}
+use Rattle.map_tree.specs.Trees.{root_places, root_levels, tree_places, root_map, root_depth, root_fresh, tree_map}
+use Rattle.map_tree.specs.Trees.{IsWide}
 use Rattle.map_chunks.specs.Shown.{shown}
 use Rattle.map_chunks.proofs.AnswerLemmas.{on_ok}
 use Rattle.map_chunks.proofs.KeptLemmas.{kept-from_none}
@@ -109,40 +111,42 @@ pub root_with-requires-clause-place : goal.root_with-requires-clause-place
 root_with-requires-clause-place g c = placed_may
     (g.C.Chunks.places c.args.chunks.now) c.args.self.now.root c.in-Placed.at c.in-Placed.is c.requires.places
 
-pub returns-in-Own-clause-sizes : goal.returns-in-Own-clause-sizes
-returns-in-Own-clause-sizes g c =
+pub returns-in-Own-clause-levels : goal.returns-in-Own-clause-levels
+returns-in-Own-clause-levels g c =
     let p = g.C.Chunks.contents c.args.chunks.now in
+    let q = g.C.Chunks.contents c.write.new.chunks in
     let new = c.write.new.self in
-    let now = seen_sizes (g.C.Chunks.contents c.write.new.chunks) new in
     let e = own_depth p c.args.self.now.root c.in-Own.node c.args.way.depth c.in-Own.is c.requires.depth in
-    on_ok c.write.result c.write.ensures.sizes (λ n. (
+    on_ok c.write.result c.write.ensures.levels (λ n. (
       new.depth,
       refl,
-      subst (λ r. ArePutIn c.args.way.depth new.depth (root_sizes p r) now) (sym c.in-Own.is)
-          (subst (λ w. ArePutIn w new.depth (seen_sizes p c.in-Own.node) now) e n),
+      subst (λ r. PutLater c.args.way.depth new.depth q (root_levels r) (seen_levels new)) (sym c.in-Own.is)
+          (subst (λ w. PutLater w new.depth q (seen_levels c.in-Own.node) (seen_levels new)) e n),
     ))
 
 pub returns-in-Own-clause-kept : goal.returns-in-Own-clause-kept
 returns-in-Own-clause-kept g c there =
-    let p = g.C.Chunks.contents c.args.chunks.now in
-    let now = seen_sizes (g.C.Chunks.contents c.write.new.chunks) c.write.new.self in
     on_ok c.write.result (c.write.ensures.same there)
-    (λ n. subst (λ r. AreAsBefore (root_sizes p r) now) (sym c.in-Own.is) n)
+    (λ n. subst (λ r. StayLater (g.C.Chunks.contents c.write.new.chunks) (root_levels r) (seen_levels c.write.new.self))
+    (sym c.in-Own.is) n)
 
-pub returns-in-Placed-clause-sizes : goal.returns-in-Placed-clause-sizes
-returns-in-Placed-clause-sizes g c =
+pub returns-in-Placed-clause-levels : goal.returns-in-Placed-clause-levels
+returns-in-Placed-clause-levels g c =
     let p = g.C.Chunks.contents c.args.chunks.now in
-    let n = c.in_ok-root-in-Placed.ensures.sizes in (
+    let q = g.C.Chunks.contents c.root_with.new.chunks in
+    let n = c.in_ok-root-in-Placed.ensures.levels in (
       n.0,
       n.1,
-      put_in_as c.args.way.depth n.0 (placed_sizes p c.args.way.depth (stamp_of c.in-Placed.at))
-          (root_sizes (g.C.Chunks.contents c.root_with.new.chunks) c.in_ok-root-in-Placed.root)
-          (root_sizes p c.args.self.now.root)
-          (placed_as p c.args.self.now.root c.in-Placed.at c.args.way.depth c.in-Placed.is c.requires.depth) n.2,
+      λ later pre. put_in_as c.args.way.depth n.0 (placed_levels later c.args.way.depth (stamp_of c.in-Placed.at))
+          (root_levels c.in_ok-root-in-Placed.root later) (root_levels c.args.self.now.root later)
+          (placed_as p later c.args.self.now.root c.in-Placed.at c.args.way.depth c.in-Placed.is c.requires.depth
+          (prefix_trans p q later c.root_with.ensures.grown.0 pre)) (n.2 later pre),
     )
 
 pub returns-in-Placed-clause-kept : goal.returns-in-Placed-clause-kept
-returns-in-Placed-clause-kept g c there at n =
+returns-in-Placed-clause-kept g c there later pre level =
     let p = g.C.Chunks.contents c.args.chunks.now in
-    c.in_ok-root-in-Placed.ensures.kept there at n ∙ sym
-    (placed_as p c.args.self.now.root c.in-Placed.at c.args.way.depth c.in-Placed.is c.requires.depth at n)
+    let q = g.C.Chunks.contents c.root_with.new.chunks in
+    c.in_ok-root-in-Placed.ensures.kept there later pre level ∙ sym
+    (placed_as p later c.args.self.now.root c.in-Placed.at c.args.way.depth c.in-Placed.is c.requires.depth
+    (prefix_trans p q later c.root_with.ensures.grown.0 pre) level)

@@ -38,8 +38,8 @@ returns-clause-deep g c =
 pub returns-clause-wide : goal.returns-clause-wide
 returns-clause-wide g c w = c.in_ok-own.ensures.wide w
 
-pub returns-clause-sizes : goal.returns-clause-sizes
-returns-clause-sizes g c = (c.in_ok-own.own.depth, refl, c.in_ok-own.ensures.sizes)
+pub returns-clause-levels : goal.returns-clause-levels
+returns-clause-levels g c = (c.in_ok-own.own.depth, refl, c.in_ok-own.ensures.levels)
 
 pub returns-clause-kept : goal.returns-clause-kept
 returns-clause-kept g c there = c.in_ok-own.ensures.same there

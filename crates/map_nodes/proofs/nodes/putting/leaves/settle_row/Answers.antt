@@ -4,7 +4,7 @@ use Rattle.std.specs.Cmp.Lexicographic.{slice_cmp}
 use Rattle.std.specs.FinMap.{put}
 use Rattle.group_history.specs.Rows.{paired}
 use Rattle.map_nodes.specs.Nodes.{row_pieces, HeadIs}
-use Rattle.map_chunks.specs.Shown.{Seen}
+use Rattle.map_chunks.specs.Shown.{own, Seen}
 use Rattle.map_nodes.proofs.CountLemmas.{kept_alone, kept_halves, rows_put}
 use Rattle.map_nodes.proofs.LeafLemmas.{parted_put, leaf_halves, leaf_whole}
 use Rattle.map_nodes.proofs.nodes.putting.leaves.settle_row.Goals as goal
@@ -128,8 +128,8 @@ returns-clause-entries c =
     c.requires.absent) in
     (k.0, k.1, ap (λ (s : Seen). s.entries) c.housed.ensures ∙ k.2)
 
-pub returns-clause-sizes : goal.returns-clause-sizes
-returns-clause-sizes c =
+pub returns-clause-marks : goal.returns-clause-marks
+returns-clause-marks c =
     let keys = c.args.keys.now.texts in
     let values = c.args.values.now.items in
     let h = parted_put keys values c.args.place c.args.row.0 c.args.row.1 c.insert_entry.new.keys.texts
@@ -141,7 +141,7 @@ returns-clause-sizes c =
     c.in-Some.upper.items (length keys) h
     (rows_put keys values c.args.place c.args.row.0 c.args.row.1 c.requires.keys.1 c.requires.pairs
     c.requires.absent) in
-    ap (λ (s : Seen). s.sizes) c.housed.ensures ∙ ap (λ n. (1, n) ∷ []) k.2
+    ap (λ (s : Seen). s.marks) c.housed.ensures ∙ ap (λ n. own 0 n ∷ []) k.2
 
 pub insert_entry-requires-clause-spare_keys : goal.insert_entry-requires-clause-spare_keys
 insert_entry-requires-clause-spare_keys c = c.requires.spare.empty.0

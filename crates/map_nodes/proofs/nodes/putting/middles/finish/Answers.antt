@@ -1,21 +1,19 @@
-use Rattle.std.proofs.Common.{◌≡◌, ◌∙◌, ◌++◌, ◌<◌, ◌+◌, ◌-◌, [], ap, sym, subst, arith, length, insert, Some, None}
+use Rattle.std.proofs.Common.{◌≡◌, ◌∙◌, ◌++◌, ◌<◌, ◌+◌, ◌-◌, [], ◌∷◌, ap, sym, subst, arith, length, insert, Some, None}
 use Rattle.std.proofs.Common.{get_or, refl}
 use Rattle.std.specs.Prelude.{IsSome}
-use Rattle.group_history.specs.Rows.{paired, keys_of}
+use Rattle.group_history.specs.Rows.{paired, keys_of, values_of}
 use Rattle.map_nodes.specs.Inside.Halves.{with_half, IsHalf}
 use Rattle.map_chunks.specs.Inserting.{Parted}
-use Rattle.map_nodes.specs.Nodes.{Kids, HeadIs, kids_pieces}
-use Rattle.map_chunks.specs.Shown.{Seen}
+use Rattle.map_nodes.specs.Nodes.{Kids, HeadIs, kids_marks, kids_pieces, sunk}
+use Rattle.map_chunks.specs.Shown.{own, Seen}
 use Rattle.map_nodes.specs.declared.nodes.OwnChild.TheVariants.{Own}
 use Rattle.map_nodes.specs.Inside.Counts.{half_fresh}
 use Rattle.map_nodes.proofs.CountLemmas.{entries_fresh, fresh-alone, fresh-halves, fresh-with_half, kept_alone}
 use Rattle.map_nodes.proofs.CountLemmas.{kept_halves}
 use Rattle.map_nodes.proofs.KidLemmas.{finished_alone, kid_halves, putting, chosen_are}
 use Rattle.map_chunks.proofs.ListLemmas.{length-paired}
-use Rattle.map_nodes.proofs.PutSizes.{entries_sizes, sizes-alone, sizes-halves, sizes-with_half}
-use Rattle.map_nodes.proofs.SizeLemmas.{inner_sizes}
-use Rattle.map_nodes.specs.Inside.Sizing.{half_sizes}
-use Rattle.map_nodes.specs.Sizes.{one, seen_sizes}
+use Rattle.map_nodes.proofs.PutLevels.{values-halves, values-pairs}
+use Rattle.group_history.proofs.Pairs.{values_of-paired}
 use Rattle.map_nodes.proofs.nodes.putting.middles.finish.Goals as goal
 
 pub returns-in_default-clause-shape : goal.returns-in_default-clause-shape
@@ -176,11 +174,15 @@ returns-clause-fresh c =
     c.in-Some-insert_entry.upper_keys.texts c.in-Some-insert_entry.upper.items h in
     omega (arith, m, n, ap entries_fresh back, ap half_fresh c.in-Some.is, ap (λ (s : Seen). s.fresh) c.housed.ensures)
 
-pub returns-in_default-clause-sizes : goal.returns-in_default-clause-sizes
-returns-in_default-clause-sizes c p at n = let e = ap (λ h. half_sizes p h at n) c.in_default.is in omega (arith, e)
+pub returns-in_default-clause-parted : goal.returns-in_default-clause-parted
+returns-in_default-clause-parted c =
+    let keys = c.args.keys.now.texts in
+    let kids = c.args.kids.now.items in
+    sym (values_of-paired keys kids c.requires.fits.pairs)
+    ∙ ap (λ h. values_of (with_half c.args.place h (paired keys kids))) (sym c.in_default.is)
 
-pub returns-in_default-insert_entry-clause-sizes : goal.returns-in_default-insert_entry-clause-sizes
-returns-in_default-insert_entry-clause-sizes c contents at n =
+pub returns-in_default-insert_entry-clause-parted : goal.returns-in_default-insert_entry-clause-parted
+returns-in_default-insert_entry-clause-parted c =
     let keys = c.args.keys.now.texts in
     let kids = c.args.kids.now.items in
     let es : Kids = with_half c.args.place c.args.half (paired keys kids) in
@@ -195,21 +197,10 @@ returns-in_default-insert_entry-clause-sizes c contents at n =
     ≡ es = p.es_is ∙ back in
     let h = subst (λ (w : Kids). Parted w c.insert_entry.new.keys.texts c.insert_entry.new.entries.items None) q
     c.in_default-insert_entry.ensures in
-    let below = c.args.depth - 1 in
-    let m = sizes-with_half contents below keys kids c.args.place c.in-Some.half at n c.requires.fits.pairs
-    c.requires.fits.within in
-    let r = sizes-alone contents below es c.insert_entry.new.keys.texts c.insert_entry.new.entries.items at n h in
-    omega (
-      arith,
-      m,
-      r,
-      ap (λ w. entries_sizes contents below w at n) back,
-      ap (λ w. half_sizes contents w at n)
-          c.in-Some.is,
-    )
+    values-pairs es c.insert_entry.new.keys.texts c.insert_entry.new.entries.items h.0
 
-pub returns-clause-sizes : goal.returns-clause-sizes
-returns-clause-sizes c contents at n =
+pub returns-clause-parted : goal.returns-clause-parted
+returns-clause-parted c =
     let keys = c.args.keys.now.texts in
     let kids = c.args.kids.now.items in
     let es : Kids = with_half c.args.place c.args.half (paired keys kids) in
@@ -225,28 +216,14 @@ returns-clause-sizes c contents at n =
     let h = subst (λ (w : Kids). Parted w c.insert_entry.new.keys.texts c.insert_entry.new.entries.items
     (Some (c.in-Some-insert_entry.upper_keys.texts, c.in-Some-insert_entry.upper.items))) q
     c.in-Some-insert_entry.ensures in
-    let below = c.args.depth - 1 in
-    let m = sizes-with_half contents below keys kids c.args.place c.in-Some.half at n c.requires.fits.pairs
-    c.requires.fits.within in
-    let r = sizes-halves contents below es c.insert_entry.new.keys.texts c.insert_entry.new.entries.items
-    c.in-Some-insert_entry.upper_keys.texts c.in-Some-insert_entry.upper.items at n h in
     let k = kept_halves es c.insert_entry.new.keys.texts c.insert_entry.new.entries.items
     c.in-Some-insert_entry.upper_keys.texts c.in-Some-insert_entry.upper.items (length keys) h
-    (sym (ap length back) ∙ p.whole) in
-    let x = ap (λ (s : Seen). seen_sizes contents s at n) c.housed.ensures in
-    let y = inner_sizes contents below c.in-Some-insert_entry.upper_keys.texts c.in-Some-insert_entry.upper.items
-    h.1.1 at n in
-    let z = ap (λ w. one (c.args.depth, w) at n) k.2 in
-    omega (
-      arith,
-      m,
-      r,
-      x,
-      y,
-      z,
-      ap (λ w. entries_sizes contents below w at n) back,
-      ap (λ w. half_sizes contents w at n)
-          c.in-Some.is,
+    (sym (ap length back) ∙ p.whole) in (
+      c.in-Some-insert_entry.upper.items,
+      values-halves es c.insert_entry.new.keys.texts c.insert_entry.new.entries.items
+          c.in-Some-insert_entry.upper_keys.texts c.in-Some-insert_entry.upper.items h,
+      ap (λ (s : Seen). s.marks) c.housed.ensures
+          ∙ ap (λ n. own 0 n ∷ sunk (kids_marks (c.args.depth - 1) c.in-Some-insert_entry.upper.items)) k.2,
     )
 
 pub returns-in_default-insert_entry-clause-entries : goal.returns-in_default-insert_entry-clause-entries
