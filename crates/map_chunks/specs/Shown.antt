@@ -42,9 +42,15 @@ rows_or (Some rows) = rows
 abbrev pub map_of_rows : Rows → Option Entries
 map_of_rows rows = if finite.is_sorted (slice_cmp nat_cmp) rows then Some (finite.from_sorted rows) else None
 
--- a chunk so far below the first one: an own one with so many keys, or a placed one that is so deep
+-- The keys of a chunk: those of a leaf; or those that part an inner chunk's children, the first key of each but the
+-- first child.
+pub data Shape : Type 0 where
+  leaf_keys : List Bytes → Shape
+  child_keys : List Bytes → Shape
+
+-- a chunk so far below the first one: an own one with these keys, or a placed one that is so deep
 pub data Mark : Type 0 where
-  own : ℕ → ℕ → Mark
+  own : ℕ → Shape → Mark
   placed : ℕ → ℕ → Ref → Mark
 
 -- A chunk of a draft as clauses see it: how deep it is, a leaf being 1 deep; how many keys it has; its pieces in order;

@@ -1,7 +1,7 @@
--- Copies have the levels of what they are copies of, and a chunk keeps its levels where a child does.
-use Rattle.std.proofs.Common.{◌≡◌, ◌<◌, ◌-◌, ℕ, zero, suc, List, [], ◌∷◌, ◌++◌, Some, length, map, slice_get, set}
-use Rattle.std.proofs.Common.{refl, sym, ap, ◌∙◌, subst, arith}
-use Rattle.std.specs.List.{concat}
+-- Copies have the chunks of what they are copies of, and a chunk keeps its own where a child's change.
+use Rattle.std.proofs.Common.{◌≡◌, ◌<◌, ◌-◌, ℕ, zero, suc, List, [], ◌∷◌, ◌++◌, None, Some, map, slice_get, set}
+use Rattle.std.proofs.Common.{append-nil, inl, refl, sym, ap, ◌∙◌, subst, arith}
+use Rattle.std.specs.List.{flat_map}
 use mathlib.Core.List.{IsPrefix}
 use Rattle.group_history.specs.declared.nodes.Chunk.{Chunk}
 use Rattle.group_history.specs.declared.nodes.Chunk.TheVariants as chunked
@@ -9,26 +9,22 @@ use Rattle.group_history.specs.declared.refs.Ref.{Ref}
 use Rattle.group_history.specs.Map.{Bytes}
 use Rattle.group_history.specs.Naming.{chunk_content}
 use Rattle.group_history.specs.Refs.{stamp_of}
-use Rattle.group_history.specs.Rows.{Rows, values_of}
+use Rattle.group_history.specs.Rows.{Rows, keys_of, values_of}
 use Rattle.group_history.specs.Spelling.{Contents}
 use Rattle.group_history.proofs.Lists.{get_more}
 use Rattle.map_chunks.proofs.JoinLemmas.{some_is}
-use Rattle.map_chunks.proofs.OpenLemmas.{length-renamed, stamped}
-use Rattle.map_chunks.specs.Shown.{own, Seen}
-use Rattle.map_nodes.proofs.LevelLemmas.{inner-levels, leaf-levels}
+use Rattle.map_chunks.proofs.OpenLemmas.{stamped}
+use Rattle.map_chunks.specs.Shown.{own, leaf_keys, Seen, Shape}
+use Rattle.map_nodes.proofs.LevelLemmas.{changed_as, changed_beside, inner-levels, leaf-levels, topped-same}
 use Rattle.map_nodes.specs.Inside.Copies.{IsCopy, MayBeDeep}
-use Rattle.map_nodes.specs.Inside.Puts.{IsChildAsBefore}
-use Rattle.map_nodes.specs.Levels.{AreAsBefore, StayLater, levels_of, node_levels, nothing, placed_levels, seen_levels}
-use Rattle.map_nodes.specs.Levels.{topped}
+use Rattle.map_nodes.specs.Inside.Puts.{IsChildRenewed}
+use Rattle.map_nodes.specs.Levels.{levels_of, node_levels, nothing, parting, placed_levels, seen_levels, topped}
+use Rattle.map_nodes.specs.Levels.{AreChanged, CopiedLater, IsCopied, IsRenewed, Levels, Member, RenewedLater}
 use Rattle.map_nodes.specs.Nodes.{body_marks, child_levels, kids_levels, kids_marks, sunk}
 use Rattle.map_nodes.specs.declared.nodes.Body.{Body}
 use Rattle.map_nodes.specs.declared.nodes.Body.TheVariants.{Leaf, Inner}
 use Rattle.map_nodes.specs.declared.nodes.OwnChild.{OwnChild}
 use Rattle.map_nodes.specs.declared.nodes.OwnChild.TheVariants.{Placed, Own}
-
-pub topped-same : (n : ℕ) (f g : ℕ → List ℕ) → ((i : ℕ) → f i ≡ g i) → (i : ℕ) → topped n f i ≡ topped n g i
-topped-same n f g h zero = refl
-topped-same n f g h (suc i) = h i
 
 -- PLACED CHUNKS
 
@@ -46,72 +42,106 @@ pub placed-values : (kids : List (Bytes × Ref)) → map (λ at. Placed at) (val
 placed-values [] = refl
 placed-values (k ∷ ks) = ap (λ w. Placed k.1 ∷ w) (placed-values ks)
 
-placed-concat : (p : Contents) (below : ℕ) (kids : List (Bytes × Ref)) (i : ℕ)
-    → kids_levels below (as_placed kids) p i ≡ concat (map (λ e. placed_levels p below e.1 i) (stamped kids))
-placed-concat p below [] i = refl
-placed-concat p below (k ∷ ks) i = ap (λ w. placed_levels p below (stamp_of k.1) i ++ w) (placed-concat p below ks i)
+-- children named by their stamps have the same keys
+pub keys-renamed : (kids : List (Bytes × Ref)) → keys_of (stamped kids) ≡ keys_of kids
+keys-renamed [] = refl
+keys-renamed (k ∷ ks) = ap (λ w. k.0 ∷ w) (keys-renamed ks)
+
+placed-below : (p : Contents) (below : ℕ) (kids : List (Bytes × Ref)) (i : ℕ)
+    → kids_levels below (as_placed kids) p i ≡ flat_map (λ e. placed_levels p below e.1 i) (stamped kids)
+placed-below p below [] i = refl
+placed-below p below (k ∷ ks) i = ap (λ w. placed_levels p below (stamp_of k.1) i ++ w) (placed-below p below ks i)
 
 pub placed_leaf : (p : Contents) (depth stamp : ℕ) (rows : Rows) → depth ≡ 1
     → slice_get p stamp ≡ Some (chunk_content (chunked.Leaf rows))
-    → (i : ℕ) → placed_levels p depth stamp i ≡ topped (length rows) nothing i
+    → (i : ℕ) → placed_levels p depth stamp i ≡ topped (Some stamp, leaf_keys (keys_of rows)) nothing i
 placed_leaf p zero stamp rows h g i = absurd (omega arith)
-placed_leaf p (suc below) stamp rows h g i = ap (λ o. node_levels (placed_levels p below) o i) g
+placed_leaf p (suc below) stamp rows h g i = ap (λ o. node_levels stamp (placed_levels p below) o i) g
 
 pub placed_inner : (p : Contents) (depth stamp : ℕ) (kids : List (Bytes × Ref)) → 0 < depth
     → slice_get p stamp ≡ Some (chunk_content (chunked.Inner kids))
     → (i : ℕ) → placed_levels p depth stamp i
-    ≡ topped (length kids) (kids_levels (depth - 1) (as_placed kids) p) i
+    ≡ topped (Some stamp, parting (keys_of kids)) (kids_levels (depth - 1) (as_placed kids) p) i
 placed_inner p zero stamp kids h g i = absurd (omega arith)
 placed_inner p (suc below) stamp kids h g i =
     let b : below ≡ suc below - 1 = omega arith in
-    ap (λ o. node_levels (placed_levels p below) o i) g
-    ∙ ap (λ n. topped n (λ j. concat (map (λ e. placed_levels p below e.1 j) (stamped kids))) i) (length-renamed kids)
-    ∙ topped-same (length kids) _ _ (λ j. sym (placed-concat p below kids j)) i
-    ∙ ap (λ n. topped (length kids) (kids_levels n (as_placed kids) p) i) b
+    let n : Member = (Some stamp, parting (keys_of kids)) in
+    ap (λ o. node_levels stamp (placed_levels p below) o i) g
+    ∙ ap (λ ks. topped (Some stamp, parting ks) (λ j. flat_map (λ e. placed_levels p below e.1 j) (stamped kids)) i)
+    (keys-renamed kids)
+    ∙ topped-same n _ _ (λ j. sym (placed-below p below kids j)) i
+    ∙ ap (λ d. topped n (kids_levels d (as_placed kids) p) i) b
 
--- a copy has the levels of the copied chunk
+-- a copy has the keys of the copied chunk, and what is below that
 copy-levels : (p : Contents) (depth stamp : ℕ) (c : Chunk Ref) (n : Seen) → MayBeDeep depth c → IsCopy depth c n
-    → slice_get p stamp ≡ Some (chunk_content c) → AreAsBefore (placed_levels p depth stamp) (seen_levels n p)
-copy-levels p depth stamp (chunked.Leaf rows) n m is g i =
-    ap (λ w. levels_of p w i) is.4 ∙ leaf-levels p (length rows) i ∙ sym (placed_leaf p depth stamp rows m g i)
-copy-levels p depth stamp (chunked.Inner kids) n m is g i =
-    ap (λ w. levels_of p w i) is.4 ∙ inner-levels p (depth - 1) (length kids) (as_placed kids) i
-    ∙ sym (placed_inner p depth stamp kids m.0 g i)
+    → slice_get p stamp ≡ Some (chunk_content c) → IsCopied (placed_levels p depth stamp) (seen_levels n p)
+copy-levels p depth stamp (chunked.Leaf rows) n m is g =
+    let keys = leaf_keys (keys_of rows) in
+    let old = placed_leaf p depth stamp rows m g in
+    let new : (i : ℕ) → seen_levels n p i ≡ topped (None, keys) nothing i = λ i. ap (λ w. levels_of p w i) is.4
+    ∙ leaf-levels p keys i in
+    ((Some stamp, keys, old 0, new 0), λ i. new (suc i) ∙ sym (old (suc i)))
+copy-levels p depth stamp (chunked.Inner kids) n m is g =
+    let keys = parting (keys_of kids) in
+    let below = kids_levels (depth - 1) (as_placed kids) p in
+    let old = placed_inner p depth stamp kids m.0 g in
+    let new : (i : ℕ) → seen_levels n p i ≡ topped (None, keys) below i = λ i. ap (λ w. levels_of p w i) is.4
+    ∙ inner-levels p (depth - 1) keys (as_placed kids) i in
+    ((Some stamp, keys, old 0, new 0), λ i. new (suc i) ∙ sym (old (suc i)))
 
 pub copied-levels : (p : Contents) (depth stamp : ℕ) (c : Chunk Ref) (n : Seen) → MayBeDeep depth c → IsCopy depth c n
-    → slice_get p stamp ≡ Some (chunk_content c) → StayLater p (λ q. placed_levels q depth stamp) (seen_levels n)
+    → slice_get p stamp ≡ Some (chunk_content c) → CopiedLater p (λ q. placed_levels q depth stamp) (seen_levels n)
 copied-levels p depth stamp c n m is g later pre = copy-levels later depth stamp c n m is (still p later stamp c pre g)
 
 -- A CHILD CHANGED
 
--- children keep their levels where another one with the same levels stands at a place
-pub levels-set : (p : Contents) (b : ℕ) (xs : List OwnChild) (i : ℕ) (x y : OwnChild) → slice_get xs i ≡ Some x
-    → AreAsBefore (child_levels b x p) (child_levels b y p)
-    → AreAsBefore (kids_levels b xs p) (kids_levels b (set xs i y) p)
-levels-set p b [] i x y g h j = refl
-levels-set p b (z ∷ zs) zero x y g h j =
-    ap (λ w. w ++ kids_levels b zs p j) (h j ∙ ap (λ w. child_levels b w p j) (sym (some_is g)))
-levels-set p b (z ∷ zs) (suc i) x y g h j = ap (λ w. child_levels b z p j ++ w) (levels-set p b zs i x y g h j)
+-- children's chunks are changed on a level where those of the child at a place are
+pub levels-set : (B : Shape → List Shape → Type 0) (p : Contents) (b : ℕ) (xs : List OwnChild) (i : ℕ)
+    (x y : OwnChild) (level : ℕ) → slice_get xs i ≡ Some x
+    → AreChanged B (child_levels b x p level) (child_levels b y p level)
+    → AreChanged B (kids_levels b xs p level) (kids_levels b (set xs i y) p level)
+levels-set B p b [] i x y j g h = inl refl
+levels-set B p b (z ∷ zs) zero x y j g h =
+    let more = kids_levels b zs p j in
+    changed_as B (child_levels b x p j ++ more) (child_levels b y p j ++ more) (child_levels b z p j ++ more)
+    (child_levels b y p j ++ more) (ap (λ w. child_levels b w p j ++ more) (some_is g)) refl
+    (changed_beside B [] (child_levels b x p j) (child_levels b y p j) more h)
+levels-set B p b (z ∷ zs) (suc i) x y j g h =
+    let first = child_levels b z p j in
+    let old = kids_levels b zs p j in
+    let new = kids_levels b (set zs i y) p j in
+    changed_as B (first ++ (old ++ [])) (first ++ (new ++ [])) (first ++ old) (first ++ new)
+    (ap (λ w. first ++ w) (sym (append-nil old))) (ap (λ w. first ++ w) (sym (append-nil new)))
+    (changed_beside B first old new [] (levels-set B p b zs i x y j g h))
+
+-- a chunk stays where those below it change
+pub topped_changed : (B : Shape → List Shape → Type 0) (n : Member) (f g : Levels)
+    → ((i : ℕ) → AreChanged B (f i) (g i)) → (i : ℕ) → AreChanged B (topped n f i) (topped n g i)
+topped_changed B n f g h zero = inl refl
+topped_changed B n f g h (suc i) = h i
 
 -- VALUES REPLACED
 
--- a leaf has as many keys as before
+-- a leaf has the keys that it had
 pub leaf_kept-levels : (p : Contents) (depth : ℕ) (keys : List Bytes) (body : Body) (values : _) (old : Seen)
-    → body_marks depth (length keys) body ≡ old.marks → body ≡ Leaf values
-    → StayLater p (seen_levels old) (λ q. levels_of q (own 0 (length keys) ∷ []))
+    → body_marks depth keys body ≡ old.marks → body ≡ Leaf values
+    → RenewedLater p (seen_levels old) (λ q. levels_of q (own 0 (leaf_keys keys) ∷ []))
 leaf_kept-levels p depth keys body values old s is later pre i =
-    ap (λ w. levels_of later w i) (sym (ap (body_marks depth (length keys)) is) ∙ s)
+    inl (ap (λ w. levels_of later w i) (sym (ap (body_marks depth keys) is) ∙ s))
 
--- an inner chunk has as many children, and one of them is another chunk with the same levels
+-- an inner chunk has the keys that it had, and in the place of one child's chunks are new ones with the same keys
 pub inner_kept-levels : (p : Contents) (depth : ℕ) (keys : List Bytes) (body : Body) (kids : _) (new : List OwnChild)
-    (old : Seen) (i : ℕ) (child : OwnChild) → body_marks depth (length keys) body ≡ old.marks → body ≡ Inner kids
-    → slice_get kids.items i ≡ Some child → IsChildAsBefore p (depth - 1) i kids.items new child
-    → StayLater p (seen_levels old) (λ q. levels_of q (own 0 (length keys) ∷ sunk (kids_marks (depth - 1) new)))
+    (old : Seen) (i : ℕ) (child : OwnChild) → body_marks depth keys body ≡ old.marks → body ≡ Inner kids
+    → slice_get kids.items i ≡ Some child → IsChildRenewed p (depth - 1) i kids.items new child
+    → RenewedLater p (seen_levels old) (λ q. levels_of q (own 0 (parting keys) ∷ sunk (kids_marks (depth - 1) new)))
 inner_kept-levels p depth keys body kids new old i child s is g h later pre j =
     let b = depth - 1 in
-    let n = length keys in
-    inner-levels later b n new j
-    ∙ topped-same n _ _ (λ k. ap (λ w. kids_levels b w later k) h.1
-    ∙ levels-set later b kids.items i child (Own h.0) g (h.2 later pre) k) j
-    ∙ sym (inner-levels later b n kids.items j)
-    ∙ ap (λ w. levels_of later w j) (sym (ap (body_marks depth n) is) ∙ s)
+    let n = parting keys in
+    let was = kids_levels b kids.items later in
+    let now = kids_levels b (set kids.items i (Own h.0)) later in
+    changed_as IsRenewed (topped (None, n) was j) (topped (None, n) now j) (seen_levels old later j)
+    (levels_of later (own 0 n ∷ sunk (kids_marks b new)) j)
+    (ap (λ w. levels_of later w j) (sym s ∙ ap (body_marks depth keys) is) ∙ inner-levels later b n kids.items j)
+    (inner-levels later b n new j ∙ topped-same (None, n) _ _ (λ k. ap (λ w. kids_levels b w later k) h.1) j)
+    (topped_changed IsRenewed (None, n) was now
+    (λ k. levels-set IsRenewed later b kids.items i child (Own h.0) k g (h.2 later pre k)) j)

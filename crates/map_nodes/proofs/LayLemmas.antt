@@ -1,5 +1,6 @@
 -- A trail laid from a placed chunk down to a key.
-use Rattle.std.proofs.Common.{◌≡◌, ◌<◌, ◌+◌, ◌-◌, ℕ, cond, inl, inr, List, [], ◌∷◌, ◌++◌, Some, length}
+use Rattle.std.proofs.Common.{◌≡◌, ◌<◌, ◌+◌, ◌-◌, ℕ, zero, suc, cond, inl, inr, List, [], ◌∷◌, ◌++◌, Option, None}
+use Rattle.std.proofs.Common.{Some, length, Ordering, Less, Equal, Greater}
 use Rattle.std.proofs.Common.{append_assoc, Result, Ok, Err, IfOk, slice_get, get_or, set, refl, sym, ap, ◌∙◌, subst}
 use Rattle.std.proofs.Common.{arith, nat_cmp}
 use Rattle.std.proofs.lemmas.List.{get_or-map}
@@ -8,7 +9,7 @@ use Rattle.std.specs.List.{Contains}
 use Rattle.std.specs.Prelude.{IsSome}
 use Rattle.std.specs.Cmp.Lexicographic.{slice_cmp, nat_list_cmp_total}
 use Rattle.std.specs.FinMap.{find, put}
-use Rattle.std.specs.FinMap.Entries.{length-put}
+use Rattle.std.specs.FinMap.Entries.{by_order, length-put}
 use mathlib.Core.List.{IsPrefix}
 use Rattle.group_history.specs.declared.nodes.Chunk.{Chunk}
 use Rattle.group_history.specs.declared.nodes.Chunk.TheVariants as chunked
@@ -19,21 +20,20 @@ use Rattle.group_history.specs.Naming.{chunk_children, chunk_content}
 use Rattle.group_history.specs.Refs.{stamp_of}
 use Rattle.group_history.specs.Rows.{Rows, keys_of, values_of, paired, AreKeys}
 use Rattle.group_history.specs.Spelling.{Contents, rows_at}
-use Rattle.group_history.proofs.Pairs.{paired-parts}
+use Rattle.group_history.proofs.Pairs.{keys_of-paired, paired-parts}
 use Rattle.group_history.proofs.Spellings.{segment-content}
 use Rattle.map_chunks.proofs.JoinLemmas.{some_is}
 use Rattle.map_chunks.proofs.KeptLemmas.{all_on, kept-from_none, kept-none}
-use Rattle.map_chunks.proofs.ListLemmas.{length-paired}
 use Rattle.map_chunks.proofs.OpenLemmas.{known, rows-kept, spells_at}
 use Rattle.map_chunks.proofs.SearchLemmas.{absent_in, find-absent, found_in, got, length-keys_of, length-values_of}
 use Rattle.map_chunks.specs.Places.{AreAll, AreKept, places_of}
 use Rattle.map_chunks.specs.Search.{IsAbsent, IsFound, IsPlace}
-use Rattle.map_chunks.specs.Shown.{Piece, Seen, rows_or, shown, IsTree}
+use Rattle.map_chunks.specs.Shown.{Piece, Seen, Shape, leaf_keys, rows_or, shown, IsTree}
 use Rattle.map_chunks.specs.Wide.{IsWideAt}
 use Rattle.map_nodes.proofs.ChangeLemmas.{none_there, put-found, replaced}
 use Rattle.map_nodes.proofs.CopyLemmas.{Copyable, copied_inner, copied_pieces, copyable}
-use Rattle.map_nodes.proofs.KeptLevels.{levels-set, placed_inner, placed_leaf, placed-values, still, topped-same}
-use Rattle.map_nodes.proofs.LevelLemmas.{inner-levels, leaf-levels}
+use Rattle.map_nodes.proofs.KeptLevels.{levels-set, placed_inner, placed_leaf, placed-values, still}
+use Rattle.map_nodes.proofs.LevelLemmas.{changed_as, inner-levels, leaf-levels, topped-same}
 use Rattle.map_nodes.proofs.NamedLemmas.{kept-child, places-rows}
 use Rattle.map_nodes.proofs.NodeLemmas.{Down, down, shown-rows}
 use Rattle.map_nodes.proofs.ReplaceLemmas.{can_replace, kid_replaced}
@@ -44,7 +44,8 @@ use Rattle.map_nodes.specs.Inside.Copies.{chunk_pieces}
 use Rattle.map_nodes.specs.Inside.Freezing.{child_places}
 use Rattle.map_nodes.specs.Inside.Laying.{HasKey, IsCopiedStep, IsLaid, IsLaidBehind, IsPutEnd, IsStage, IsStageAt}
 use Rattle.map_nodes.specs.Inside.Replacing.{CanReplace}
-use Rattle.map_nodes.specs.Levels.{nothing, placed_levels, seen_levels, topped, StayLater}
+use Rattle.map_nodes.specs.Levels.{nothing, parting, placed_levels, seen_levels, topped}
+use Rattle.map_nodes.specs.Levels.{AreChanged, IsRenewed, Levels, RenewedLater}
 use Rattle.map_nodes.specs.Nodes.{AllKids, kids_levels, kids_pieces}
 use Rattle.map_nodes.specs.Trails.{placed_kids, step_kids, step_seen, trail_seen, IsStep}
 use Rattle.map_nodes.specs.declared.nodes.OwnChild.TheVariants.{Placed, Own}
@@ -116,18 +117,46 @@ length-replaced : (key v : Bytes) (rows : Rows) → IsTree (Some rows) → IsSom
 length-replaced key v rows o h = length-put (slice_cmp nat_cmp) nat_list_cmp_total key v rows o ∙ ap
     (λ b. cond b (length rows) (length rows + 1)) h
 
+-- such a put keeps the keys
+keys-put : (key v : Bytes) (rows : Rows) → length (put (slice_cmp nat_cmp) key v rows) ≡ length rows
+    → keys_of (put (slice_cmp nat_cmp) key v rows) ≡ keys_of rows
+keys-put key v [] h = absurd (omega arith)
+keys-put key v (e ∷ es) h = by (slice_cmp nat_cmp key e.0) (keys-put key v es) h
+  where
+    by : (o : Ordering)
+        → (length (put (slice_cmp nat_cmp) key v es) ≡ length es
+        → keys_of (put (slice_cmp nat_cmp) key v es) ≡ keys_of es)
+        → length (by_order o ((key, v) ∷ e ∷ es) ((e.0, v) ∷ es) (e ∷ put (slice_cmp nat_cmp) key v es))
+        ≡ suc (length es)
+        → keys_of (by_order o ((key, v) ∷ e ∷ es) ((e.0, v) ∷ es) (e ∷ put (slice_cmp nat_cmp) key v es))
+        ≡ e.0 ∷ keys_of es
+    by Less more l = absurd (omega arith)
+    by Equal more l = refl
+    by Greater more l = ap (λ w. e.0 ∷ w) (more (omega arith))
+
+-- a new chunk in the place of one with the same keys, over chunks that are renewed
+renewed_over : (stamp : Option ℕ) (n : Shape) (old new f g : Levels) → ((i : ℕ) → old i ≡ topped (stamp, n) f i)
+    → ((i : ℕ) → new i ≡ topped (None, n) g i) → ((i : ℕ) → AreChanged IsRenewed (f i) (g i)) → (i : ℕ)
+    → AreChanged IsRenewed (old i) (new i)
+renewed_over stamp n old new f g o w h zero = inr ([], (stamp, n), [], n ∷ [], o 0, w 0, refl)
+renewed_over stamp n old new f g o w h (suc i) =
+    changed_as IsRenewed (f i) (g i) (old (suc i)) (new (suc i)) (o (suc i)) (w (suc i)) (h i)
+
 end_levels : (p q : Contents) (depth stamp : ℕ) (key v : Bytes) (rows : Rows) (e : End)
     → Spelt p q depth stamp key (chunked.Leaf rows) → IsPutEnd rows key v e
     → slice_get q stamp ≡ Some (chunk_content (chunked.Leaf rows))
-    → StayLater q (λ w. placed_levels w depth stamp) (seen_levels (trail_seen [] e))
-end_levels p q depth stamp key v rows e s h g later pre i =
+    → RenewedLater q (λ w. placed_levels w depth stamp) (seen_levels (trail_seen [] e))
+end_levels p q depth stamp key v rows e s h g later pre =
     let same : rows ≡ s.rows = some_is (sym (shown-rows q rows) ∙ s.copy.rows_are) in
     let keys = arc_value e.keys in
-    let long : length keys ≡ length rows = sym (length-paired keys e.values.items h.0.1) ∙ ap length h.1
-    ∙ length-replaced key v rows (subst (λ w. IsTree (Some w)) (sym same) s.tree)
-    (subst (λ w. IsSome (find (slice_cmp nat_cmp) key w)) (sym same) s.there) in
-    leaf-levels later (length keys) i ∙ ap (λ n. topped n nothing i) long
-    ∙ sym (placed_leaf later depth stamp rows s.copy.deep (still q later stamp (chunked.Leaf rows) pre g) i)
+    let is : keys ≡ keys_of rows = sym (keys_of-paired keys e.values.items h.0.1) ∙ ap keys_of h.1
+    ∙ keys-put key v rows (length-replaced key v rows (subst (λ w. IsTree (Some w)) (sym same) s.tree)
+    (subst (λ w. IsSome (find (slice_cmp nat_cmp) key w)) (sym same) s.there)) in
+    renewed_over (Some stamp) (leaf_keys (keys_of rows)) (placed_levels later depth stamp)
+    (seen_levels (trail_seen [] e) later) nothing nothing
+    (placed_leaf later depth stamp rows s.copy.deep (still q later stamp (chunked.Leaf rows) pre g))
+    (λ i. leaf-levels later (leaf_keys keys) i ∙ ap (λ ks. topped (None, leaf_keys ks) nothing i) is)
+    (λ i. inl refl)
 
 pub laid_end : (p q : Contents) (may : Ref → Type 0) (depth stamp : ℕ) (key v : Bytes) (rows : Rows) (e : End)
     → Spelt p q depth stamp key (chunked.Leaf rows) → IsPutEnd rows key v e
@@ -198,24 +227,27 @@ can_below q depth key s rows below x there =
     can_replace q depth (arc_value s.keys) (placed_kids s.children.items) x.pieces key s.place (Placed below) x.way
     x.here (subst (λ w. IsSome (find (slice_cmp nat_cmp) key (rows_or w))) (sym x.rows_are) there) (Placed below) x.here
 
--- a step has as many children as the chunk that it is over, and one of them is the chunk below it
+-- a step has the keys of the chunk that it is over, and in the place of one child the chunk below it
 step_levels : (p : Contents) (depth stamp : ℕ) (kids : List (Bytes × Ref)) (s : Step) (below : Ref) (next : Seen)
     → 0 < depth → slice_get p stamp ≡ Some (chunk_content (chunked.Inner kids))
     → arc_value s.keys ≡ keys_of kids → s.children.items ≡ values_of kids
     → slice_get (placed_kids s.children.items) s.place ≡ Some (Placed below) → next.depth ≡ depth - 1
-    → StayLater p (λ w. placed_levels w (depth - 1) (stamp_of below)) (seen_levels next)
-    → StayLater p (λ w. placed_levels w depth stamp) (seen_levels (step_seen s next))
-step_levels p depth stamp kids s below next z g k x here deep h later pre i =
+    → RenewedLater p (λ w. placed_levels w (depth - 1) (stamp_of below)) (seen_levels next)
+    → RenewedLater p (λ w. placed_levels w depth stamp) (seen_levels (step_seen s next))
+step_levels p depth stamp kids s below next z g k x here deep h later pre =
     let b = depth - 1 in
     let keys = arc_value s.keys in
     let ats = placed_kids s.children.items in
     let after = step_kids s next in
-    inner-levels later next.depth (length keys) after i
-    ∙ ap (λ n. topped (length keys) (kids_levels n after later) i) deep
-    ∙ ap (λ n. topped n (kids_levels b after later) i) (ap length k ∙ length-keys_of kids)
-    ∙ topped-same (length kids) _ _ (λ j. levels-set later b ats s.place (Placed below) (Own (kid_of s next)) here
-    (h later pre) j ∙ ap (λ w. kids_levels b w later j) (ap placed_kids x ∙ placed-values kids)) i
-    ∙ sym (placed_inner later depth stamp kids z (still p later stamp (chunked.Inner kids) pre g) i)
+    renewed_over (Some stamp) (parting (keys_of kids)) (placed_levels later depth stamp)
+    (seen_levels (step_seen s next) later) (kids_levels b ats later) (kids_levels b after later)
+    (λ i. placed_inner later depth stamp kids z (still p later stamp (chunked.Inner kids) pre g) i
+    ∙ topped-same (Some stamp, parting (keys_of kids)) _ _
+    (λ j. ap (λ w. kids_levels b w later j) (sym (ap placed_kids x ∙ placed-values kids))) i)
+    (λ i. inner-levels later next.depth (parting keys) after i
+    ∙ ap (λ n. topped (None, parting keys) (kids_levels n after later) i) deep
+    ∙ ap (λ ks. topped (None, parting ks) (kids_levels b after later) i) k)
+    (λ j. levels-set IsRenewed later b ats s.place (Placed below) (Own (kid_of s next)) j here (h later pre j))
 
 -- where a key is that a child has, there the step has it
 pub laid_step : (p q r : Contents) (may : Ref → Type 0) (depth stamp : ℕ) (key v : Bytes) (kids : List (Bytes × Ref))

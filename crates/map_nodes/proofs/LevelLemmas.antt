@@ -1,12 +1,14 @@
 -- Levels of marks, of children and of chunks.
-use Rattle.std.proofs.Common.{◌≡◌, ◌+◌, ◌-◌, ℕ, zero, suc, Bool, true, false, cond, nat_le, List, [], ◌∷◌, ◌++◌}
-use Rattle.std.proofs.Common.{append_assoc, append-nil, refl, sym, ap, ◌∙◌, arith}
+use Rattle.std.proofs.Common.{◌≡◌, ◌+◌, ◌-◌, ℕ, zero, suc, Bool, true, false, cond, nat_le, List, [], ◌∷◌, ◌++◌, None}
+use Rattle.std.proofs.Common.{append_assoc, append-nil, length, length-append, refl, sym, ap, ◌∙◌, subst, arith, Option, inl, inr, drop, get_or}
 use Rattle.std.specs.Prelude.{◌==◌}
 use Rattle.std.proofs.lemmas.Bool.Decides.{nat_tests}
 use Rattle.group_history.specs.Refs.{stamp_of}
 use Rattle.group_history.specs.Spelling.{Contents}
-use Rattle.map_chunks.specs.Shown.{Mark, own, placed}
-use Rattle.map_nodes.specs.Levels.{levels_of, mark_levels, placed_levels, topped}
+use Rattle.group_history.specs.Map.{Bytes}
+use Rattle.map_chunks.specs.Shown.{Mark, Shape, own, leaf_keys, placed}
+use Rattle.map_nodes.specs.Levels.{Levels, Member, levels_of, mark_levels, parting, placed_levels, topped}
+use Rattle.map_nodes.specs.Levels.{as_new, AreChanged, IsCopied}
 use Rattle.map_nodes.specs.Nodes.{body_levels, body_marks, child_levels, child_marks, kids_levels, kids_marks, sunk}
 use Rattle.map_nodes.specs.declared.nodes.Body.{Body}
 use Rattle.map_nodes.specs.declared.nodes.Body.TheVariants.{Leaf, Inner}
@@ -23,7 +25,7 @@ levels-append c (x ∷ xs) ys i = ap (λ w. mark_levels c x i ++ w) (levels-appe
 pub sunk-top : (c : Contents) (ms : List Mark) → levels_of c (sunk ms) 0 ≡ []
 sunk-top c [] = refl
 sunk-top c (own at n ∷ ms) =
-    ap (λ u. cond u (n ∷ []) [] ++ levels_of c (sunk ms) 0)
+    ap (λ u. cond u ((None, n) ∷ []) [] ++ levels_of c (sunk ms) 0)
     (let e : ((at + 1) == 0) ≡ false = grind (arith, nat_tests) in e) ∙ sunk-top c ms
 sunk-top c (placed at deep r ∷ ms) =
     ap (λ u. cond u (placed_levels c deep (stamp_of r) (0 - (at + 1))) [] ++ levels_of c (sunk ms) 0)
@@ -46,7 +48,7 @@ same_order i j = by (nat_le i j) refl
 pub sunk-below : (c : Contents) (ms : List Mark) (i : ℕ) → levels_of c (sunk ms) (suc i) ≡ levels_of c ms i
 sunk-below c [] i = refl
 sunk-below c (own at n ∷ ms) i =
-    ap (λ u. cond u (n ∷ []) [] ++ levels_of c (sunk ms) (suc i)) (same_test at i)
+    ap (λ u. cond u ((None, n) ∷ []) [] ++ levels_of c (sunk ms) (suc i)) (same_test at i)
     ∙ ap (λ w. mark_levels c (own at n) i ++ w) (sunk-below c ms i)
 sunk-below c (placed at deep r ∷ ms) i =
     ap (λ u. cond u (placed_levels c deep (stamp_of r) (suc i - (at + 1))) [] ++ levels_of c (sunk ms) (suc i))
@@ -56,11 +58,11 @@ sunk-below c (placed at deep r ∷ ms) i =
     ∙ ap (λ w. mark_levels c (placed at deep r) i ++ w) (sunk-below c ms i)
 
 -- a chunk over marks
-pub topped-is : (c : Contents) (n : ℕ) (ms : List Mark) (i : ℕ)
-    → levels_of c (own 0 n ∷ sunk ms) i ≡ topped n (levels_of c ms) i
-topped-is c n ms zero = ap (λ w. n ∷ w) (sunk-top c ms)
+pub topped-is : (c : Contents) (n : Shape) (ms : List Mark) (i : ℕ)
+    → levels_of c (own 0 n ∷ sunk ms) i ≡ topped (None, n) (levels_of c ms) i
+topped-is c n ms zero = ap (λ w. (None, n) ∷ w) (sunk-top c ms)
 topped-is c n ms (suc i) =
-    ap (λ u. cond u (n ∷ []) [] ++ levels_of c (sunk ms) (suc i))
+    ap (λ u. cond u ((None, n) ∷ []) [] ++ levels_of c (sunk ms) (suc i))
     (let e : (0 == suc i) ≡ false = grind (arith, nat_tests) in e) ∙ sunk-below c ms i
 
 pub child-levels : (c : Contents) (b : ℕ) (x : OwnChild) (i : ℕ)
@@ -80,25 +82,83 @@ kids-levels c b (x ∷ xs) i =
     ∙ ap (λ w. w ++ levels_of c (kids_marks b xs) i) (child-levels c b x i)
     ∙ ap (λ w. child_levels b x c i ++ w) (kids-levels c b xs i)
 
-topped-same : (n : ℕ) (f g : ℕ → List ℕ) → ((i : ℕ) → f i ≡ g i) → (i : ℕ) → topped n f i ≡ topped n g i
+pub topped-same : (n : Member) (f g : Levels) → ((i : ℕ) → f i ≡ g i) → (i : ℕ) → topped n f i ≡ topped n g i
 topped-same n f g h zero = refl
 topped-same n f g h (suc i) = h i
 
 -- an inner chunk's marks by its children
-pub inner-levels : (c : Contents) (b n : ℕ) (kids : List OwnChild) (i : ℕ)
-    → levels_of c (own 0 n ∷ sunk (kids_marks b kids)) i ≡ topped n (kids_levels b kids c) i
-inner-levels c b n kids i = topped-is c n (kids_marks b kids) i ∙ topped-same n _ _ (kids-levels c b kids) i
+pub inner-levels : (c : Contents) (b : ℕ) (n : Shape) (kids : List OwnChild) (i : ℕ)
+    → levels_of c (own 0 n ∷ sunk (kids_marks b kids)) i ≡ topped (None, n) (kids_levels b kids c) i
+inner-levels c b n kids i = topped-is c n (kids_marks b kids) i ∙ topped-same (None, n) _ _ (kids-levels c b kids) i
 
-pub leaf-levels : (c : Contents) (n : ℕ) (i : ℕ) → levels_of c (own 0 n ∷ []) i ≡ topped n (λ i. []) i
-leaf-levels c n i = topped-is c n [] i ∙ topped-same n _ _ (λ i. refl) i
+pub leaf-levels : (c : Contents) (n : Shape) (i : ℕ) → levels_of c (own 0 n ∷ []) i ≡ topped (None, n) (λ i. []) i
+leaf-levels c n i = topped-is c n [] i ∙ topped-same (None, n) _ _ (λ i. refl) i
 
-pub body-levels : (c : Contents) (depth n : ℕ) (body : Body) (i : ℕ)
-    → levels_of c (body_marks depth n body) i ≡ body_levels depth n body c i
-body-levels c depth n (Leaf values) i = leaf-levels c n i
-body-levels c depth n (Inner kids) i = inner-levels c (depth - 1) n kids.items i
+pub body-levels : (c : Contents) (depth : ℕ) (keys : List Bytes) (body : Body) (i : ℕ)
+    → levels_of c (body_marks depth keys body) i ≡ body_levels depth keys body c i
+body-levels c depth keys (Leaf values) i = leaf-levels c (leaf_keys keys) i
+body-levels c depth keys (Inner kids) i = inner-levels c (depth - 1) (parting keys) kids.items i
 
 pub kids-levels-append : (c : Contents) (b : ℕ) (xs ys : List OwnChild) (i : ℕ)
     → kids_levels b (xs ++ ys) c i ≡ kids_levels b xs c i ++ kids_levels b ys c i
 kids-levels-append c b [] ys i = refl
 kids-levels-append c b (x ∷ xs) ys i = ap (λ w. child_levels b x c i ++ w) (kids-levels-append c b xs ys i)
     ∙ sym (append_assoc (child_levels b x c i) (kids_levels b xs c i) (kids_levels b ys c i))
+
+-- CHANGES
+
+-- the chunks beside those that changed stay
+pub changed_beside : (B : Shape → List Shape → Type 0) (x a b y : List Member) → AreChanged B a b
+    → AreChanged B (x ++ (a ++ y)) (x ++ (b ++ y))
+changed_beside B x a b y (inl e) = inl (ap (λ w. x ++ (w ++ y)) e)
+changed_beside B x a b y (inr m) = inr (
+  x ++ m.0,
+  m.1,
+  m.2 ++ y,
+  m.3,
+  ap (λ w. x ++ (w ++ y)) m.4 ∙ shift x m.0 (m.1 ∷ m.2) y,
+  ap (λ w. x ++ (w ++ y)) m.5 ∙ shift x m.0 (as_new m.3 ++ m.2) y
+      ∙ ap (λ w. (x ++ m.0) ++ w) (append_assoc (as_new m.3) m.2 y),
+  m.6,
+)
+  where
+    shift : (x f t y : List Member) → x ++ ((f ++ t) ++ y) ≡ (x ++ f) ++ (t ++ y)
+    shift x f t y = ap (λ w. x ++ w) (append_assoc f t y) ∙ sym (append_assoc x f (t ++ y))
+
+pub changed_as : (B : Shape → List Shape → Type 0) (a b c d : List Member) → c ≡ a → d ≡ b → AreChanged B a b
+    → AreChanged B c d
+changed_as B a b c d e f h = subst (λ w. AreChanged B w d) (sym e) (subst (AreChanged B a) (sym f) h)
+
+-- a chunk that is copied, and then changed in one of these ways
+pub changed_copy : (B : Shape → List Shape → Type 0) → ((keys : Shape) → B keys (keys ∷ [])) → (was now new : Levels)
+    → IsCopied was now → ((level : ℕ) → AreChanged B (now level) (new level))
+    → (level : ℕ) → AreChanged B (was level) (new level)
+changed_copy B same was now new c h (suc level) =
+    changed_as B (now (suc level)) (new (suc level)) (was (suc level)) (new (suc level)) (sym (c.1 level)) refl
+    (h (suc level))
+changed_copy B same was now new c h zero = by (h 0)
+  where
+    stamp : Option ℕ
+    stamp = c.0.0
+
+    keys : Shape
+    keys = c.0.1
+
+    alone : (before : List Member) (chunk : Member) (after : List Member) → (None, keys) ∷ [] ≡ before ++ chunk ∷ after
+        → (before ≡ []) × (chunk ≡ (None, keys)) × (after ≡ [])
+    alone [] chunk after e = (refl, sym (ap (λ w. get_or w 0 chunk) e), sym (ap (drop 1) e))
+    alone (b ∷ bs) chunk after e = absurd (omega (arith, ap length e, length-append bs (chunk ∷ after)))
+
+    by : AreChanged B (now 0) (new 0) → AreChanged B (was 0) (new 0)
+    by (inl e) = inr ([], (stamp, keys), [], keys ∷ [], c.0.2, e ∙ c.0.3, same keys)
+    by (inr m) =
+        let a = alone m.0 m.1 m.2 (sym c.0.3 ∙ m.4) in
+        inr (
+          [],
+          (stamp, keys),
+          [],
+          m.3,
+          c.0.2,
+          m.5 ∙ ap (λ w. w ++ (as_new m.3 ++ m.2)) a.0 ∙ ap (λ w. as_new m.3 ++ w) a.2,
+          subst (λ w. B w m.3) (ap (λ (w : Member). w.1) a.1) m.6,
+        )

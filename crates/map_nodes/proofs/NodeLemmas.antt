@@ -15,6 +15,7 @@ use Rattle.map_chunks.specs.Search.{IsPlace}
 use Rattle.map_chunks.specs.Shown.{own, Piece, Seen, part_rows, shown, chunk_rows, IsTree, rows_or}
 use Rattle.map_nodes.specs.Nodes.{Kids, child_pieces, kids_pieces, kids_height, kids_fresh, row_pieces, body_pieces}
 use Rattle.map_nodes.specs.Nodes.{HeadIs, IsChild, AllKids, IsNode, kids_marks, sunk}
+use Rattle.map_nodes.specs.Levels.{parting}
 use Rattle.map_nodes.specs.Inside.Nodes.{Kid, child_rows}
 use Rattle.map_nodes.specs.declared.nodes.Body.{Body}
 use Rattle.map_nodes.specs.declared.nodes.Body.TheVariants.{Inner}
@@ -192,7 +193,7 @@ inner_seen depth keys kids =
       pieces = kids_pieces (depth - 1) (paired keys kids);
       height = kids_height kids + 2;
       fresh = kids_fresh kids + 1;
-      marks = own 0 (length keys) ∷ sunk (kids_marks (depth - 1) kids);
+      marks = own 0 (parting keys) ∷ sunk (kids_marks (depth - 1) kids);
     }
 
 pub inner_same : (depth : ℕ) (keys2 keys : List Bytes) (kids2 kids : List OwnChild) → keys2 ≡ keys → kids2 ≡ kids

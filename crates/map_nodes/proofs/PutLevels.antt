@@ -1,125 +1,301 @@
 -- What a put makes of the chunks of each level.
-use Rattle.std.proofs.Common.{◌≡◌, ◌+◌, ◌-◌, ℕ, zero, suc, List, [], ◌∷◌, ◌++◌, Option, Some, None}
-use Rattle.std.proofs.Common.{inl, inr, refl, sym, ap, ◌∙◌, subst, arith, length, take, drop, set}
-use Rattle.std.proofs.Common.{take-append-drop, append_assoc, append-nil, Result, Ok, Err, IfOk}
+use Rattle.std.proofs.Common.{◌≡◌, ◌⊎◌, ◌+◌, ◌-◌, ◌<◌, ◌≤◌, ℕ, zero, suc, Bool, true, false, List, [], ◌∷◌, ◌++◌}
+use Rattle.std.proofs.Common.{Option, Some, None, inl, inr, refl, sym, ap, ◌∙◌, subst, arith, length, take, drop, set}
+use Rattle.std.proofs.Common.{get_or, insert, length-append, length-drop, take-append-drop, append_assoc, append-nil}
+use Rattle.std.proofs.Common.{Result, Ok, Err, IfOk}
 use Rattle.group_history.specs.Map.{Bytes}
-use Rattle.group_history.specs.Rows.{paired, values_of}
+use Rattle.group_history.specs.Rows.{keys_of, paired, values_of}
 use Rattle.group_history.specs.Spelling.{Contents}
-use Rattle.group_history.proofs.Pairs.{values_of-paired}
+use Rattle.group_history.proofs.Pairs.{keys_of-paired, values_of-paired}
+use Rattle.map_chunks.proofs.ListLemmas.{length-inserted, length-paired, paired-insert}
+use Rattle.map_chunks.proofs.SearchLemmas.{length-keys_of}
 use Rattle.map_chunks.specs.Inserting.{ArePairs, Parted}
-use Rattle.map_chunks.specs.Shown.{own, Piece, Seen}
+use Rattle.map_chunks.specs.Search.{is_above, IsPlace}
+use Rattle.map_chunks.specs.Shown.{own, child_keys, leaf_keys, Piece, Seen, Shape}
 use Rattle.map_nodes.specs.Inside.Counts.{HasKept}
-use Rattle.map_nodes.specs.Inside.Halves.{lowered, with_half}
+use Rattle.map_nodes.specs.Inside.Halves.{IsLower, lowered, with_half}
 use Rattle.map_nodes.specs.Inside.Nodes.{Kid}
-use Rattle.map_nodes.specs.Inside.Puts.{half_levels, HalvesPut, IsHalved, IsLeafHalf}
-use Rattle.map_nodes.specs.Levels.{Levels, levels_of, seen_levels, topped, AreGrown, ArePut}
-use Rattle.map_nodes.specs.Levels.{ArePutIn, PutLater, StayLater}
+use Rattle.map_nodes.specs.Inside.Puts.{half_levels, HalvesPut, IsHalved, IsLeafPut}
+use Rattle.map_nodes.specs.Levels.{Levels, Member, levels_of, nothing, parting, seen_levels, topped}
+use Rattle.map_nodes.specs.Levels.{as_new, AreChanged, AreGrown, ArePut, ArePutIn, HasOneMore, IsCopied, IsGrown}
+use Rattle.map_nodes.specs.Levels.{IsRenewed, PutLater, RenewedLater}
 use Rattle.map_nodes.specs.Nodes.{Kids, child_levels, kids_levels, kids_marks, sunk}
 use Rattle.map_nodes.specs.declared.nodes.OwnChild.{OwnChild}
 use Rattle.map_nodes.specs.declared.nodes.OwnChild.TheVariants.{Own}
 use Rattle.map_nodes.specs.declared.nodes.putting.Half.{Half}
-use Rattle.map_nodes.proofs.LevelLemmas.{inner-levels, kids-levels-append, leaf-levels, levels-append, topped-is}
+use Rattle.map_nodes.proofs.LevelLemmas.{changed_as, changed_beside, changed_copy, inner-levels, kids-levels-append}
+use Rattle.map_nodes.proofs.LevelLemmas.{leaf-levels, levels-append, topped-is}
 use Rattle.map_nodes.proofs.NodeLemmas.{Down}
-use Rattle.map_nodes.proofs.PathLemmas.{half_kids, lowered_pairs, with_half-is}
+use Rattle.map_nodes.proofs.PathLemmas.{half_kids, length-lowered, lowered_pairs, with_half-is}
 
 -- LEVELS
 
-pub grown_as : (a b c d : List ℕ) → c ≡ a → d ≡ b → AreGrown a b → AreGrown c d
-grown_as a b c d e f h = subst (λ w. AreGrown w d) (sym e) (subst (AreGrown a) (sym f) h)
-
--- the chunks beside those that grew stay
-pub grown_beside : (x a b y : List ℕ) → AreGrown a b → AreGrown (x ++ (a ++ y)) (x ++ (b ++ y))
-grown_beside x a b y (inl e) = inl (ap (λ w. x ++ (w ++ y)) e)
-grown_beside x a b y (inr (inl m)) = inr (inl (
-  x ++ m.0,
-  m.1,
-  m.2 ++ y,
-  m.3,
-  ap (λ w. x ++ (w ++ y)) m.4 ∙ shift x m.0 (m.1 ∷ m.2) y,
-  ap (λ w. x ++ (w ++ y)) m.5 ∙ shift x m.0 ((m.1 + 1) ∷ m.2) y,
-))
-  where
-    shift : (x f t y : List ℕ) → x ++ ((f ++ t) ++ y) ≡ (x ++ f) ++ (t ++ y)
-    shift x f t y = ap (λ w. x ++ w) (append_assoc f t y) ∙ sym (append_assoc x f (t ++ y))
-grown_beside x a b y (inr (inr s)) = inr (inr (
-  x ++ s.0,
-  s.1 ++ y,
-  ap (λ w. x ++ (w ++ y)) s.2 ∙ shift x s.0 (16 ∷ s.1) y,
-  ap (λ w. x ++ (w ++ y)) s.3 ∙ shift x s.0 (8 ∷ 9 ∷ s.1) y,
-))
-  where
-    shift : (x f t y : List ℕ) → x ++ ((f ++ t) ++ y) ≡ (x ++ f) ++ (t ++ y)
-    shift x f t y = ap (λ w. x ++ w) (append_assoc f t y) ∙ sym (append_assoc x f (t ++ y))
-
 pub put_as : (a b c d : Levels) → ((i : ℕ) → c i ≡ a i) → ((i : ℕ) → d i ≡ b i) → ArePut a b → ArePut c d
-put_as a b c d e f h i = grown_as (a i) (b i) (c i) (d i) (e i) (f i) (h i)
+put_as a b c d e f h i = changed_as IsGrown (a i) (b i) (c i) (d i) (e i) (f i) (h i)
+
+-- a chunk alone, and what it became
+own_grown : (old : Shape) (made : List Shape) (new : List Member) → new ≡ as_new made → IsGrown old made
+    → AreGrown ((None, old) ∷ []) new
+own_grown old made new e g = inr ([], (None, old), [], made, refl, e ∙ sym (append-nil (as_new made)), g)
+
+-- a put into a copy of a chunk
+pub put_copied : (was now new : Levels) → IsCopied was now → ArePut now new → ArePut was new
+put_copied was now new = changed_copy IsGrown (λ keys. inl refl) was now new
+
+-- KEYS
+
+length-more : (keys more : List Bytes) → HasOneMore keys more → length more ≡ length keys + 1
+length-more keys more h =
+    let a = ap length h.3 in
+    let b = ap length h.4 in
+    let d = length-append h.0 h.2 in
+    let e = length-append h.0 (h.1 ∷ h.2) in
+    omega (arith, a, b, d, e)
+
+-- a key put before the place is one more
+pub one_more : (keys : List Bytes) (place : ℕ) (key : Bytes) → HasOneMore keys (insert keys place key)
+one_more keys place key = (take place keys, key, drop place keys, sym (take-append-drop place keys), refl)
+
+pub keys-pairs : {A : Type 0} (es : List (Bytes × A)) (keys : List Bytes) (xs : List A) → ArePairs es keys xs
+    → keys ≡ keys_of es
+keys-pairs es keys xs p = sym (keys_of-paired keys xs p.1) ∙ ap keys_of p.0
+
+keys-take : {A : Type 0} (n : ℕ) (es : List (Bytes × A)) → keys_of (take n es) ≡ take n (keys_of es)
+keys-take zero es = refl
+keys-take (suc n) [] = refl
+keys-take (suc n) (e ∷ es) = ap (λ w. e.0 ∷ w) (keys-take n es)
+
+keys-drop : {A : Type 0} (n : ℕ) (es : List (Bytes × A)) → keys_of (drop n es) ≡ drop n (keys_of es)
+keys-drop zero es = refl
+keys-drop (suc n) [] = refl
+keys-drop (suc n) (e ∷ es) = keys-drop n es
+
+-- the keys of both halves
+pub keys-halves : {A : Type 0} (es : List (Bytes × A)) (nk : List Bytes) (ne : List A) (k2 : List Bytes) (e2 : List A)
+    → Parted es nk ne (Some (k2, e2))
+    → (length (keys_of es) ≡ 17) × (nk ≡ take 8 (keys_of es)) × (k2 ≡ drop 8 (keys_of es))
+keys-halves es nk ne k2 e2 h = (
+  length-keys_of es ∙ h.2,
+  keys-pairs (take 8 es) nk ne h.0 ∙ keys-take 8 es,
+  keys-pairs (drop 8 es) k2 e2 h.1 ∙ keys-drop 8 es,
+)
+
+keys-inserted : {A : Type 0} (keys : List Bytes) (xs : List A) (i : ℕ) (key : Bytes) (x : A) → length xs ≡ length keys
+    → i ≤ length keys → keys_of (insert (paired keys xs) i (key, x)) ≡ insert keys i key
+keys-inserted keys xs i key x l w =
+    ap keys_of (sym (paired-insert keys xs i key x l w))
+    ∙ keys_of-paired (insert keys i key) (insert xs i x) (omega (
+      arith,
+      length-inserted keys i key w,
+      length-inserted xs i x (omega (arith, l, w)),
+      l,
+    ))
+
+-- LEAVES
+
+-- a row put before the place, where all the rows stay together
+pub leaf_more : {A : Type 0} (keys : List Bytes) (xs : List A) (i : ℕ) (key : Bytes) (x : A) (nk : List Bytes)
+    (ne : List A) → length xs ≡ length keys → i ≤ length keys → Parted (insert (paired keys xs) i (key, x)) nk ne None
+    → IsLeafPut keys nk None
+leaf_more keys xs i key x nk ne l w h =
+    let all = keys-inserted keys xs i key x l w in
+    let n = length-inserted (paired keys xs) i (key, x) (omega (arith, length-paired keys xs l, w)) in
+    let few : length keys ≤ 16 = omega (arith, n, h.1, length-paired keys xs l) in
+    inr (
+      insert keys i key,
+      one_more keys i key,
+      few,
+      keys-pairs (insert (paired keys xs) i (key, x)) nk ne h.0 ∙ all,
+    )
+
+-- a row put before the place, where the rows are halved
+pub leaf_halved : {A : Type 0} (keys : List Bytes) (xs : List A) (i : ℕ) (key : Bytes) (x : A) (nk : List Bytes)
+    (ne : List A) (k2 : List Bytes) (e2 : List A) (half : Half) → length xs ≡ length keys → i ≤ length keys
+    → Parted (insert (paired keys xs) i (key, x)) nk ne (Some (k2, e2))
+    → half.node.value.marks ≡ own 0 (leaf_keys k2) ∷ [] → IsLeafPut keys nk (Some half)
+leaf_halved keys xs i key x nk ne k2 e2 half l w h m =
+    let all = keys-inserted keys xs i key x l w in
+    let k = keys-halves (insert (paired keys xs) i (key, x)) nk ne k2 e2 h in
+    let n = length-inserted keys i key w in
+    let few : length keys ≤ 16 = omega (arith, n, ap length all, k.0) in
+    inr (
+      insert keys i key,
+      one_more keys i key,
+      few,
+      (
+        sym (ap length all) ∙ k.0,
+        k.1 ∙ ap (take 8) all,
+        m ∙ ap (λ w. own 0 (leaf_keys w) ∷ []) (k.2 ∙ ap (drop 8) all),
+      ),
+    )
+
+not_none : (h : Half) → Some h ≡ None → ⊥
+not_none h e = cc
+
+-- where a chunk isn't split and has a key more, it had room
+had_room : (old new : ℕ) → HasKept old new None → new ≡ old + 1 → old < 16
+had_room old new (inl e) l = absurd (omega (arith, e, l))
+had_room old new (inr k) l = k.1
+
+-- the leaf that there was, and what it is then
+leaf_grown : (q : Contents) (old new : List Bytes) (half : Option Half) → HasKept (length old) (length new) half
+    → IsLeafPut old new half
+    → AreGrown ((None, leaf_keys old) ∷ []) ((None, leaf_keys new) ∷ half_levels half q 0)
+leaf_grown q old new None k (inl s) = own_grown (leaf_keys old) (leaf_keys new ∷ []) _ refl
+    (inl (ap (λ w. leaf_keys w ∷ []) s.0))
+leaf_grown q old new (Some h) k (inl s) = absurd (not_none h s.1)
+leaf_grown q old new None k (inr m) =
+    let more = ap length m.3 ∙ length-more old m.0 m.1 in
+    own_grown (leaf_keys old) (leaf_keys new ∷ []) _ refl
+    (inr (inl (m.0, had_room (length old) (length new) k more, m.1, ap (λ w. leaf_keys w ∷ []) m.3)))
+leaf_grown q old new (Some h) k (inr m) =
+    own_grown (leaf_keys old) (leaf_keys (take 8 m.0) ∷ leaf_keys (drop 8 m.0) ∷ []) _
+    (ap (λ w. (None, leaf_keys w) ∷ half_levels (Some h) q 0) m.3.1
+    ∙ ap (λ w. (None, leaf_keys (take 8 m.0)) ∷ w)
+    (ap (λ w. levels_of q w 0) m.3.2 ∙ leaf-levels q (leaf_keys (drop 8 m.0)) 0))
+    (inr (inr (m.0, k.0, m.1, refl)))
+
+leaf_half_below : (q : Contents) (old new : List Bytes) (half : Option Half) (i : ℕ) → IsLeafPut old new half
+    → half_levels half q (suc i) ≡ []
+leaf_half_below q old new None i m = refl
+leaf_half_below q old new (Some h) i (inl s) = absurd (not_none h s.1)
+leaf_half_below q old new (Some h) i (inr m) = ap (λ w. levels_of q w (suc i)) m.3.2 ∙ leaf-levels q
+    (leaf_keys (drop 8 m.0)) (suc i)
+
+pub leaf_put_levels : (q : Contents) (old new : List Bytes) (half : Option Half)
+    → HasKept (length old) (length new) half → IsLeafPut old new half
+    → ArePut (levels_of q (own 0 (leaf_keys old) ∷ []))
+    (λ i. levels_of q (own 0 (leaf_keys new) ∷ []) i ++ half_levels half q i)
+leaf_put_levels q old new half k m =
+    put_as (topped (None, leaf_keys old) nothing)
+    (λ i. topped (None, leaf_keys new) nothing i ++ half_levels half q i)
+    (levels_of q (own 0 (leaf_keys old) ∷ []))
+    (λ i. levels_of q (own 0 (leaf_keys new) ∷ []) i ++ half_levels half q i) (leaf-levels q (leaf_keys old))
+    (λ i. ap (λ w. w ++ half_levels half q i) (leaf-levels q (leaf_keys new) i)) by
+  where
+    by : ArePut (topped (None, leaf_keys old) nothing)
+        (λ i. topped (None, leaf_keys new) nothing i ++ half_levels half q i)
+    by zero = leaf_grown q old new half k m
+    by (suc i) = inl (leaf_half_below q old new half i m)
 
 -- A CHUNK OVER CHUNKS
 
--- the chunk itself, and the one of nine that was split off it
-own_grown : (old new : ℕ) (half : Option Half) (h0 : List ℕ) → HasKept old new half → (half ≡ None → h0 ≡ [])
-    → ((h : Half) → half ≡ Some h → h0 ≡ 9 ∷ []) → AreGrown (old ∷ []) (new ∷ h0)
-own_grown old new None h0 (inl k) e f = inl (ap (λ w. new ∷ w) (e refl) ∙ ap (λ w. w ∷ []) k)
-own_grown old new None h0 (inr k) e f = inr (inl (
-  [],
-  old,
-  [],
-  k.1,
-  refl,
-  ap (λ w. new ∷ w) (e refl)
-      ∙ ap (λ w. w ∷ []) k.0,
-))
-own_grown old new (Some h) h0 k e f = inr (inr (
-  [],
-  [],
-  ap (λ w. w ∷ []) k.0,
-  ap (λ w. new ∷ w) (f h refl)
-      ∙ ap (λ w. w ∷ 9 ∷ []) k.1,
-))
+-- The first keys of a chunk's children once a row is put below one of them: the keys that part them are the same, or
+-- one more.
+abbrev pub AreFirsts : List Bytes → List Bytes → Type 0
+AreFirsts old firsts = ((length firsts ≡ length old) × (drop 1 firsts ≡ drop 1 old))
+    ⊎ ((length firsts ≡ length old + 1) × HasOneMore (drop 1 old) (drop 1 firsts))
 
-half_top : (q : Contents) (deep : ℕ) (half : Option Half) (kids all : List OwnChild) (h : Half)
-    → IsHalved deep kids half all → half ≡ Some h → half_levels half q 0 ≡ 9 ∷ []
-half_top q deep None kids all h i e = absurd cc
-half_top q deep (Some g) kids all h i e = ap (λ w. levels_of q w 0) i.2 ∙ topped-is q 9 (kids_marks (deep - 1) i.0) 0
+-- a key below the first one belongs to the first child
+lower_at : (keys : List Bytes) (key k : Bytes) (i : ℕ) → IsPlace key keys i → IsLower key (get_or keys i []) (Some k)
+    → i ≡ 0
+lower_at keys key k zero p low = refl
+lower_at keys key k (suc i) p low = absurd (clash (is_above (get_or keys (suc i) []) key) (p.1 [] (omega arith)) low.1)
+  where
+    clash : (b : Bool) → b ≡ false → b ≡ true → ⊥
+    clash true e f = cc
+    clash false e f = cc
 
-half_none : (q : Contents) (half : Option Half) → half ≡ None → half_levels half q 0 ≡ []
-half_none q None e = refl
-half_none q (Some h) e = absurd cc
+lowered-parting : (keys : List Bytes) (key : Bytes) (i : ℕ) (lower : Option Bytes) → IsPlace key keys i
+    → IsLower key (get_or keys i []) lower → drop 1 (lowered i lower keys) ≡ drop 1 keys
+lowered-parting keys key i None p low = refl
+lowered-parting keys key i (Some k) p low = ap (λ n. drop 1 (set keys n k)) (lower_at keys key k i p low) ∙ first keys
+  where
+    first : (keys : List Bytes) → drop 1 (set keys 0 k) ≡ drop 1 keys
+    first [] = refl
+    first (x ∷ xs) = refl
 
-half_below : (q : Contents) (deep : ℕ) (half : Option Half) (kids all : List OwnChild) (i : ℕ)
-    → IsHalved deep kids half all
+-- a key put behind the first one
+more_behind : (keys : List Bytes) (i : ℕ) (key : Bytes) → i < length keys
+    → HasOneMore (drop 1 keys) (drop 1 (insert keys (suc i) key))
+more_behind [] i key l = absurd (omega (arith, l))
+more_behind (k ∷ keys) i key l = one_more keys i key
+
+pub firsts_are : (keys : List Bytes) (new : List OwnChild) (i : ℕ) (lower : Option Bytes) (half : Option Half)
+    (key : Bytes) → IsPlace key keys i → IsLower key (get_or keys i []) lower → length new ≡ length keys
+    → AreFirsts keys (keys_of (with_half i half (paired (lowered i lower keys) new)))
+firsts_are keys new i lower None key p low l =
+    let ks = lowered i lower keys in
+    let n = length-lowered i lower keys in
+    let e : keys_of (paired ks new) ≡ ks = keys_of-paired ks new (omega (arith, l, n)) in
+    inl (ap length e ∙ n, ap (drop 1) e ∙ lowered-parting keys key i lower p low)
+firsts_are keys new i lower (Some h) key p low l =
+    let ks = lowered i lower keys in
+    let n = length-lowered i lower keys in
+    let k = get_or h.firsts.items 0 [] in
+    let s : i + 1 ≡ suc i = omega arith in
+    let e : keys_of (insert (paired ks new) (i + 1) (k, Own h.node)) ≡ insert ks (i + 1) k =
+    keys-inserted ks new (i + 1) k (Own h.node) (omega (arith, l, n)) (omega (arith, p.0, n)) in
+    let m = length-inserted ks (i + 1) k (omega (arith, p.0, n)) in
+    let more : HasOneMore (drop 1 ks) (drop 1 (insert ks (suc i) k)) = more_behind ks i k (omega (arith, p.0, n)) in
+    inr (
+      omega (arith, ap length e, m, n),
+      subst (λ w. HasOneMore w (drop 1 (keys_of (insert (paired ks new) (i + 1) (k, Own h.node)))))
+          (lowered-parting keys key i lower p low)
+          (subst (λ w. HasOneMore (drop 1 ks) (drop 1 w)) (ap (λ w. insert ks w k) (sym s) ∙ sym e) more),
+    )
+
+-- the chunk that there was, and what it is then
+inner_grown : (q : Contents) (deep : ℕ) (old firsts keys : List Bytes) (half : Option Half) (kids all : List OwnChild)
+    → AreFirsts old firsts → IsHalved deep keys kids half firsts all → HasKept (length old) (length keys) half
+    → AreGrown ((None, parting old) ∷ []) ((None, parting keys) ∷ half_levels half q 0)
+inner_grown q deep old firsts keys None kids all (inl f) h k = own_grown (parting old) (parting keys ∷ []) _ refl
+    (inl (ap (λ w. child_keys w ∷ []) (ap (drop 1) h.0 ∙ f.1)))
+inner_grown q deep old firsts keys (Some g) kids all (inl f) h k = absurd (omega (arith, f.0, h.0, k.0))
+inner_grown q deep old firsts keys None kids all (inr f) h k =
+    let room = had_room (length old) (length keys) k (ap length h.0 ∙ f.0) in
+    own_grown (parting old) (parting keys ∷ []) _ refl
+    (inr (inl (
+      drop 1 firsts,
+      omega (arith, room, length-drop 1 old),
+      f.1,
+      ap (λ w. child_keys w ∷ []) (ap (drop 1) h.0),
+    )))
+inner_grown q deep old firsts keys (Some g) kids all (inr f) h k =
+    own_grown (parting old) (child_keys (take 7 (drop 1 firsts)) ∷ child_keys (drop 8 (drop 1 firsts)) ∷ []) _
+    (ap (λ w. (None, parting w) ∷ half_levels (Some g) q 0) h.1
+    ∙ ap (λ w. (None, child_keys w) ∷ half_levels (Some g) q 0) (front firsts)
+    ∙ ap (λ w. (None, child_keys (take 7 (drop 1 firsts))) ∷ w)
+    (ap (λ w. levels_of q w 0) h.2.2 ∙ topped-is q (parting (drop 8 firsts)) (kids_marks (deep - 1) h.2.0) 0
+    ∙ ap (λ w. (None, child_keys w) ∷ []) (back firsts)))
+    (inr (inr (drop 1 firsts, full, f.1, refl)))
+  where
+    front : (xs : List Bytes) → drop 1 (take 8 xs) ≡ take 7 (drop 1 xs)
+    front [] = refl
+    front (x ∷ xs) = refl
+
+    drop_one : (n : ℕ) (xs : List Bytes) → drop 1 (drop n xs) ≡ drop (suc n) xs
+    drop_one zero xs = refl
+    drop_one (suc n) [] = refl
+    drop_one (suc n) (x ∷ xs) = drop_one n xs
+
+    back : (xs : List Bytes) → drop 1 (drop 8 xs) ≡ drop 8 (drop 1 xs)
+    back [] = refl
+    back (x ∷ xs) = drop_one 7 xs
+
+    full : length (drop 1 old) ≡ 15
+    full = omega (arith, k.0, length-drop 1 old)
+
+half_below : (q : Contents) (deep : ℕ) (keys firsts : List Bytes) (half : Option Half) (kids all : List OwnChild)
+    (i : ℕ) → IsHalved deep keys kids half firsts all
     → kids_levels (deep - 1) kids q i ++ half_levels half q (suc i) ≡ kids_levels (deep - 1) all q i
-half_below q deep None kids all i h = append-nil (kids_levels (deep - 1) kids q i) ∙ ap
-    (λ w. kids_levels (deep - 1) w q i) h
-half_below q deep (Some g) kids all i h =
-    ap (λ w. kids_levels (deep - 1) kids q i ++ levels_of q w (suc i)) h.2
-    ∙ ap (λ w. kids_levels (deep - 1) kids q i ++ w) (inner-levels q (deep - 1) 9 h.0 (suc i))
-    ∙ sym (kids-levels-append q (deep - 1) kids h.0 i) ∙ ap (λ w. kids_levels (deep - 1) w q i) h.1
+half_below q deep keys firsts None kids all i h = append-nil (kids_levels (deep - 1) kids q i) ∙ ap
+    (λ w. kids_levels (deep - 1) w q i) h.1
+half_below q deep keys firsts (Some g) kids all i h =
+    ap (λ w. kids_levels (deep - 1) kids q i ++ levels_of q w (suc i)) h.2.2
+    ∙ ap (λ w. kids_levels (deep - 1) kids q i ++ w)
+    (inner-levels q (deep - 1) (parting (drop 8 firsts)) h.2.0 (suc i))
+    ∙ sym (kids-levels-append q (deep - 1) kids h.2.0 i) ∙ ap (λ w. kids_levels (deep - 1) w q i) h.2.1
 
 -- a chunk over chunks of which one was put in, once it is split where it has to be
-pub put_over : (q : Contents) (deep old new : ℕ) (half : Option Half) (a : Levels) (kids all : List OwnChild)
-    → ArePut a (kids_levels (deep - 1) all q) → IsHalved deep kids half all → HasKept old new half
-    → ArePut (topped old a) (λ i. topped new (kids_levels (deep - 1) kids q) i ++ half_levels half q i)
-put_over q deep old new half a kids all p h k zero = own_grown old new half (half_levels half q 0) k (half_none q half)
-    (λ g. half_top q deep half kids all g h)
-put_over q deep old new half a kids all p h k (suc i) = subst (AreGrown (a i)) (sym
-    (half_below q deep half kids all i h)) (p i)
-
-pub leaf_put_levels : (q : Contents) (old new : ℕ) (half : Option Half) → HasKept old new half → IsLeafHalf half
-    → ArePut (levels_of q (own 0 old ∷ [])) (λ i. levels_of q (own 0 new ∷ []) i ++ half_levels half q i)
-leaf_put_levels q old new half k n i =
-    grown_as (topped old (λ j. []) i) (topped new (λ j. []) i ++ half_levels half q i) (levels_of q (own 0 old ∷ []) i)
-    (levels_of q (own 0 new ∷ []) i ++ half_levels half q i) (leaf-levels q old i)
-    (ap (λ w. w ++ half_levels half q i) (leaf-levels q new i)) (by i)
-  where
-    halved : (half : Option Half) → IsLeafHalf half → IsHalved 1 [] half []
-    halved None n = refl
-    halved (Some h) n = ([], refl, n)
-
-    by : (i : ℕ) → AreGrown (topped old (λ j. []) i) (topped new (λ j. []) i ++ half_levels half q i)
-    by zero = own_grown old new half (half_levels half q 0) k (half_none q half)
-        (λ g. half_top q 1 half [] [] g (halved half n))
-    by (suc j) = inl (half_below q 1 half [] [] j (halved half n))
+pub put_over : (q : Contents) (deep : ℕ) (old firsts keys : List Bytes) (half : Option Half) (a : Levels)
+    (kids all : List OwnChild) → ArePut a (kids_levels (deep - 1) all q) → AreFirsts old firsts
+    → IsHalved deep keys kids half firsts all → HasKept (length old) (length keys) half
+    → ArePut (topped (None, parting old) a)
+    (λ i. topped (None, parting keys) (kids_levels (deep - 1) kids q) i ++ half_levels half q i)
+put_over q deep old firsts keys half a kids all p f h k zero = inner_grown q deep old firsts keys half kids all f h k
+put_over q deep old firsts keys half a kids all p f h k (suc i) = subst (AreGrown (a i)) (sym
+    (half_below q deep keys firsts half kids all i h)) (p i)
 
 -- CHILDREN
 
@@ -164,7 +340,8 @@ child_put p q depth keys kids new pieces key i child lower half l d n e h level 
     let first = d.first in
     let es = ap (λ w. with_half i half (paired (lowered i lower keys) w)) e ∙ ap (with_half i half)
     (lowered_pairs keys kids i lower (Own n) child d.before first d.behind l d.whole d.at) in
-    grown_as (entries_levels b d.before q level ++ (child_levels b child q level ++ entries_levels b d.behind q level))
+    changed_as IsGrown
+    (entries_levels b d.before q level ++ (child_levels b child q level ++ entries_levels b d.behind q level))
     (entries_levels b d.before q level
     ++ ((seen_levels n.value q level ++ half_levels half q level) ++ entries_levels b d.behind q level))
     (kids_levels b kids q level)
@@ -177,7 +354,7 @@ child_put p q depth keys kids new pieces key i child lower half l d n e h level 
     (ap (λ w. seen_levels n.value q level ++ w) (entries-append q b (half_kids half) d.behind level)
     ∙ ap (λ w. seen_levels n.value q level ++ (w ++ entries_levels b d.behind q level)) (half_entries q b half level)
     ∙ sym (append_assoc (seen_levels n.value q level) (half_levels half q level) (entries_levels b d.behind q level))))
-    (grown_beside (entries_levels b d.before q level) (child_levels b child q level)
+    (changed_beside IsGrown (entries_levels b d.before q level) (child_levels b child q level)
     (seen_levels n.value q level ++ half_levels half q level) (entries_levels b d.behind q level) (h level))
 
 -- one answer from two things that are known of it
@@ -192,35 +369,53 @@ if_ok_both (Err e) p q f = tt
 pub put_level : (q : Contents) (old new : Seen) (half : Option Half) → half ≡ None → new.depth ≡ old.depth
     → HalvesPut q old new half → PutLater old.depth new.depth q (seen_levels old) (seen_levels new)
 put_level q old new half e d h later pre = (
-  λ i. grown_as (seen_levels old later i) (seen_levels new later i ++ half_levels half later i) (seen_levels old later i)
-      (seen_levels new later (i + (new.depth - old.depth))) refl
+  λ i. changed_as IsGrown (seen_levels old later i) (seen_levels new later i ++ half_levels half later i)
+      (seen_levels old later i) (seen_levels new later (i + (new.depth - old.depth))) refl
       (ap (seen_levels new later) (let z : i + (new.depth - old.depth) ≡ i = omega (arith, d) in z)
       ∙ sym (append-nil (seen_levels new later i)) ∙ ap (λ w. seen_levels new later i ++ half_levels w later i) (sym e))
       (h later pre i),
   λ l. absurd (omega (arith, l, d)),
 )
 
-pub put_same : (q : Contents) (was deep : ℕ) (old new : Contents → Levels) → deep ≡ was → StayLater q old new
+-- a chunk that has its keys still is what a put may make of it, too
+renewed_grown : (old new : List Member) → AreChanged IsRenewed old new → AreGrown old new
+renewed_grown old new (inl e) = inl e
+renewed_grown old new (inr m) = inr (m.0, m.1, m.2, m.3, m.4, m.5, inl m.6)
+
+-- a value replaced
+pub put_same : (q : Contents) (was deep : ℕ) (old new : Contents → Levels) → deep ≡ was → RenewedLater q old new
     → PutLater was deep q old new
 put_same q was deep old new d h later pre = (
-  λ i. inl (ap (new later) (let z : i + (deep - was) ≡ i = omega (arith, d) in z) ∙ h later pre i),
+  λ i. subst (λ n. AreGrown (old later i) (new later n))
+      (let z : i ≡ i + (deep - was) = omega (arith, d) in z)
+      (renewed_grown (old later i) (new later i) (h later pre i)),
   λ l. absurd (omega (arith, l, d)),
 )
 
 -- a root of two above the halves of one that is split
 pub put_risen : (q : Contents) (old lower new : Seen) (half : Half) → lower.depth ≡ old.depth
-    → new.depth ≡ lower.depth + 1 → new.marks ≡ own 0 2 ∷ sunk (lower.marks ++ half.node.value.marks)
+    → new.depth ≡ lower.depth + 1
+    → ((key : Bytes) × (new.marks ≡ own 0 (child_keys (key ∷ [])) ∷ sunk (lower.marks ++ half.node.value.marks)))
     → HalvesPut q old lower (Some half) → PutLater old.depth new.depth q (seen_levels old) (seen_levels new)
-put_risen q old lower new half d n m h later pre = (
-  λ i. grown_as (seen_levels old later i) (seen_levels lower later i ++ half_levels (Some half) later i)
-      (seen_levels old later i) (seen_levels new later (i + (new.depth - old.depth))) refl
-      (ap (seen_levels new later) (let z : i + (new.depth - old.depth) ≡ suc i = omega (arith, d, n) in z)
-      ∙ ap (λ w. levels_of later w (suc i)) m ∙ topped-is later 2 (lower.marks ++ half.node.value.marks) (suc i)
-      ∙ levels-append later lower.marks half.node.value.marks i) (h later pre i),
-  λ l. ap (λ w. levels_of later w 0) m ∙ topped-is later 2 (lower.marks ++ half.node.value.marks) 0,
-)
+put_risen q old lower new half d n m h later pre =
+    let shape = child_keys (m.0 ∷ []) in (
+      λ i. changed_as IsGrown (seen_levels old later i) (seen_levels lower later i ++ half_levels (Some half) later i)
+          (seen_levels old later i) (seen_levels new later (i + (new.depth - old.depth))) refl
+          (ap (seen_levels new later) (let z : i + (new.depth - old.depth) ≡ suc i = omega (arith, d, n) in z)
+          ∙ ap (λ w. levels_of later w (suc i)) m.1
+          ∙ topped-is later shape (lower.marks ++ half.node.value.marks) (suc i)
+          ∙ levels-append later lower.marks half.node.value.marks i) (h later pre i),
+      λ l. (
+        m.0,
+        ap (λ w. levels_of later w 0) m.1 ∙ topped-is later shape (lower.marks ++ half.node.value.marks) 0,
+      ),
+    )
+
+-- a copy of a root that is put in
+pub put_in_copied : (was deep : ℕ) (a b c : Levels) → IsCopied c a → ArePutIn was deep a b → ArePutIn was deep c b
+put_in_copied was deep a b c e h = (put_copied c a (λ i. b (i + (deep - was))) e h.0, h.1)
 
 -- what was before, told by other words
 pub put_in_as : (was deep : ℕ) (a b c : Levels) → ((i : ℕ) → c i ≡ a i) → ArePutIn was deep a b → ArePutIn was deep c b
 put_in_as was deep a b c e h =
-    (λ i. grown_as (a i) (b (i + (deep - was))) (c i) (b (i + (deep - was))) (e i) refl (h.0 i), h.1)
+    (λ i. changed_as IsGrown (a i) (b (i + (deep - was))) (c i) (b (i + (deep - was))) (e i) refl (h.0 i), h.1)

@@ -12,15 +12,16 @@ use Rattle.group_history.specs.declared.refs.Ref.{Ref}
 use Rattle.group_history.specs.Map.{Bytes}
 use Rattle.group_history.specs.Naming.{content_of}
 use Rattle.group_history.specs.Refs.{stamp_of, slot_of}
-use Rattle.group_history.specs.Rows.{Rows, paired, values_of}
+use Rattle.group_history.specs.Rows.{Rows, keys_of, paired, values_of}
 use Rattle.group_history.specs.Spelling.{Contents, joined_rows, rows_at}
 use Rattle.group_history.proofs.Lists.{cons_cases, first_here, later_here, no_element, prefix_trans}
+use Rattle.group_history.proofs.Pairs.{keys_of-paired}
 use Rattle.map_chunks.proofs.JoinLemmas.{some_is}
 use Rattle.map_chunks.proofs.ListLemmas.{length-paired}
 use Rattle.map_chunks.proofs.OpenLemmas.{rows-kept, shows_by}
 use Rattle.map_chunks.specs.Drafts.{AreBelow}
 use Rattle.map_chunks.specs.Places.{AddsNamed, AreNamed, places_of, with_nodes}
-use Rattle.map_chunks.specs.Shown.{own, Seen, shown}
+use Rattle.map_chunks.specs.Shown.{own, leaf_keys, Seen, shown}
 use Rattle.map_chunks.specs.Wide.{IsWideAt}
 use Rattle.map_nodes.proofs.BelowLemmas.{inner-below}
 use Rattle.map_nodes.proofs.FreezeLemmas.{all-spelled, inner_pushed, leaf_pushed, nodes-grown}
@@ -32,7 +33,7 @@ use Rattle.map_nodes.proofs.TrailLemmas.{kid_of, placed-places, step-fresh, step
 use Rattle.map_nodes.proofs.WideLemmas.{pushed_at, wide_inner, wide_node}
 use Rattle.map_nodes.specs.Inside.Freezing.{AreFrozen, IsFrozen, IsLevel, IsWritten, child_places, kids_places}
 use Rattle.map_nodes.specs.Inside.Nodes.{Kid}
-use Rattle.map_nodes.specs.Levels.{placed_levels, seen_levels, StayLater}
+use Rattle.map_nodes.specs.Levels.{placed_levels, seen_levels, NamedLater}
 use Rattle.map_nodes.specs.Trails.{placed_kids, step_kids, step_names, step_seen, trail_seen, IsStep, IsTrail}
 use Rattle.map_nodes.specs.declared.nodes.OwnChild.TheVariants.{Placed, Own}
 use Rattle.map_nodes.specs.declared.nodes.trails.End.{End}
@@ -186,7 +187,8 @@ written_leaf first old new e at leaf h l w k z =
           (omega (arith, ap length l, length-paired (arc_value e.keys) e.values.items h.1, h.0.0)) refl
           (l ∙ some_is (sym (shown-rows (with_nodes contents old) all) ∙ shows));
       levels = λ contents c. leaf_level contents first old new (trail_seen [] e) leaf at c w k refl
-          (ap (λ z. own 0 z ∷ []) (sym (ap length l ∙ length-paired (arc_value e.keys) e.values.items h.1)));
+          (ap (λ ks. own 0 (leaf_keys ks) ∷ [])
+          (sym (ap keys_of l ∙ keys_of-paired (arc_value e.keys) e.values.items h.1)));
       wide = λ contents c many. wide_node (with_nodes contents new) (stamp_of at) (content_of x)
           (pushed_at contents first old new x at c w k) refl;
       named = adds-one first (places_of (trail_seen [] e).pieces) old old new x
@@ -209,7 +211,7 @@ written_step first old mid new s ss e at root h f w k z =
     let frozen : IsFrozen first old mid (Own (kid_of s below)) at = λ contents depth rows c d shows. subst
     (λ b. rows_at (with_nodes contents mid) b (stamp_of at) ≡ Some rows) d (f.spelled contents rows c shows) in
     let level : IsLevel first mid (Own (kid_of s below)) at = λ contents depth c d. subst
-    (λ b. StayLater (with_nodes contents mid) (seen_levels below) (λ p. placed_levels p b (stamp_of at))) d
+    (λ b. NamedLater first (with_nodes contents mid) (seen_levels below) (λ p. placed_levels p b (stamp_of at))) d
     (f.levels contents c) in
     record {
       spelled = λ contents rows c shows. step_spelled contents first old mid new s below at root rows es h.0 c f.grown

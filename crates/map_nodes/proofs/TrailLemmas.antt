@@ -15,6 +15,7 @@ use Rattle.map_nodes.proofs.CopyLemmas.{placed_fresh}
 use Rattle.map_nodes.proofs.NodeLemmas.{Down, down}
 use Rattle.map_nodes.specs.Inside.Freezing.{kids_places}
 use Rattle.map_nodes.specs.Inside.Nodes.{Kid}
+use Rattle.map_nodes.specs.Levels.{parting}
 use Rattle.map_nodes.specs.Nodes.{AllKids, HeadIs, child_fresh, child_height, child_pieces, kids_fresh, kids_height}
 use Rattle.map_nodes.specs.Nodes.{kids_pieces, child_marks, kids_marks, sunk}
 use Rattle.map_nodes.specs.Trails.{placed_kids, step_kids, step_seen, trail_seen, IsEnd, IsStep, IsTrail}
@@ -108,7 +109,7 @@ chunk_over depth keys kids = record {
   pieces = kids_pieces (depth - 1) (paired keys kids);
   height = kids_height kids + 2;
   fresh = kids_fresh kids + 1;
-  marks = own 0 (length keys) ∷ sunk (kids_marks (depth - 1) kids);
+  marks = own 0 (parting keys) ∷ sunk (kids_marks (depth - 1) kids);
 }
 
 pub seen_over : (s : Step) (below : Seen) (n : Kid) (depth : ℕ) (keys : List Bytes) (kids : List OwnChild)
@@ -127,7 +128,7 @@ seen_over s below n depth keys kids d k v e =
       pieces = kids_pieces b (paired texts (set xs s.place (Own n)));
       height = kids_height (set xs s.place (Own n)) + 2;
       fresh = kids_fresh (set xs s.place (Own n)) + 1;
-      marks = own 0 (length texts) ∷ sunk (kids_marks b (set xs s.place (Own n)));
+      marks = own 0 (parting texts) ∷ sunk (kids_marks b (set xs s.place (Own n)));
     }) (one_less below.depth)
     ∙ ap (λ w. record {
       depth = below.depth + 1;
@@ -135,7 +136,7 @@ seen_over s below n depth keys kids d k v e =
       pieces = w;
       height = kids_height (set xs s.place (Own n)) + 2;
       fresh = kids_fresh (set xs s.place (Own n)) + 1;
-      marks = own 0 (length texts) ∷ sunk (kids_marks below.depth (set xs s.place (Own n)));
+      marks = own 0 (parting texts) ∷ sunk (kids_marks below.depth (set xs s.place (Own n)));
     }) (same_pieces below.depth texts xs s.place n m v)
     ∙ ap (λ w. record {
       depth = below.depth + 1;
@@ -143,7 +144,7 @@ seen_over s below n depth keys kids d k v e =
       pieces = kids_pieces below.depth (paired texts (set xs s.place (Own m)));
       height = w + 2;
       fresh = kids_fresh (set xs s.place (Own n)) + 1;
-      marks = own 0 (length texts) ∷ sunk (kids_marks below.depth (set xs s.place (Own n)));
+      marks = own 0 (parting texts) ∷ sunk (kids_marks below.depth (set xs s.place (Own n)));
     }) (same_height xs s.place n m v)
     ∙ ap (λ w. record {
       depth = below.depth + 1;
@@ -151,7 +152,7 @@ seen_over s below n depth keys kids d k v e =
       pieces = kids_pieces below.depth (paired texts (set xs s.place (Own m)));
       height = kids_height (set xs s.place (Own m)) + 2;
       fresh = w + 1;
-      marks = own 0 (length texts) ∷ sunk (kids_marks below.depth (set xs s.place (Own n)));
+      marks = own 0 (parting texts) ∷ sunk (kids_marks below.depth (set xs s.place (Own n)));
     }) (same_fresh xs s.place n m v)
     ∙ ap (λ w. record {
       depth = below.depth + 1;
@@ -159,7 +160,7 @@ seen_over s below n depth keys kids d k v e =
       pieces = kids_pieces below.depth (paired texts (set xs s.place (Own m)));
       height = kids_height (set xs s.place (Own m)) + 2;
       fresh = kids_fresh (set xs s.place (Own m)) + 1;
-      marks = own 0 (length texts) ∷ sunk w;
+      marks = own 0 (parting texts) ∷ sunk w;
     }) (same_marks below.depth xs s.place n m v)
 
 -- what holds of such a chunk

@@ -1,44 +1,54 @@
--- How many entries the chunks of a map have, level by level, and what a put makes of them. A chunk has at most 16
--- entries: a 17th splits it into the first 8 and the last 9. This project's own rule.
-use Rattle.std.specs.Prelude.{◌≡◌, ◌⊎◌, ◌==◌, ℕ, zero, suc, ◌+◌, ◌-◌, ◌<◌, nat_le, if◌then◌else◌, List, [], ◌∷◌, ◌++◌}
-use Rattle.std.specs.Prelude.{map, length, Option, Some, None, slice_get}
-use Rattle.std.specs.List.{concat}
+-- Of which chunks a map consists, level by level, and what a put makes of them. A chunk has at most 16 entries: a 17th
+-- splits it into the first 8 and the last 9. This project's own rule.
+use Rattle.std.specs.Prelude.{◌≡◌, ◌⊎◌, ◌==◌, ℕ, zero, suc, ◌+◌, ◌-◌, ◌<◌, ◌≤◌, nat_le, if◌then◌else◌, List, [], ◌∷◌}
+use Rattle.std.specs.Prelude.{◌++◌, map, length, take, drop, Option, Some, None, slice_get}
+use Rattle.std.specs.List.{flat_map}
 use mathlib.Core.List.{IsPrefix}
 use Rattle.group_history.specs.declared.nodes.Chunk.TheVariants.{Leaf, Inner}
 use Rattle.group_history.specs.declared.nodes.Node.{Node}
 use Rattle.group_history.specs.declared.nodes.Node.TheVariants.{Chunk, Commit}
+use Rattle.group_history.specs.Map.{Bytes}
 use Rattle.group_history.specs.Refs.{stamp_of}
+use Rattle.group_history.specs.Rows.{keys_of}
 use Rattle.group_history.specs.Spelling.{Contents}
-use Rattle.map_chunks.specs.Shown.{Mark, own, placed, Seen}
+use Rattle.map_chunks.specs.Shown.{Mark, own, placed, Seen, Shape, leaf_keys, child_keys}
 
--- so many levels below the first chunk, how many entries the chunks have, in their order
+-- a chunk of a map: its stamp, which a new one has not, and its keys
+abbrev pub Member : Type 0
+Member = Option ℕ × Shape
+
+-- so many levels below the first chunk, which chunks there are, in their order
 abbrev pub Levels : Type 0
-Levels = ℕ → List ℕ
+Levels = ℕ → List Member
 
 abbrev pub nothing : Levels
 nothing level = []
 
--- a chunk with so many entries, and what is below it
-abbrev pub topped : ℕ → Levels → Levels
-topped entries below zero = entries ∷ []
-topped entries below (suc level) = below level
+-- a chunk, and what is below it
+abbrev pub topped : Member → Levels → Levels
+topped chunk below zero = chunk ∷ []
+topped chunk below (suc level) = below level
 
--- a chunk, and what is below it by its children's stamps
-abbrev pub node_levels : (ℕ → Levels) → Option (Node ℕ) → Levels
-node_levels below None = nothing
-node_levels below (Some (Commit c)) = nothing
-node_levels below (Some (Chunk (Leaf rows))) = topped (length rows) nothing
-node_levels below (Some (Chunk (Inner kids))) =
-    topped (length kids) (λ level. concat (map (λ e. below e.1 level) kids))
+-- the keys that part children with these first keys
+abbrev pub parting : List Bytes → Shape
+parting keys = child_keys (drop 1 keys)
+
+-- the chunk of a stamp, and what is below it by its children's stamps
+abbrev pub node_levels : ℕ → (ℕ → Levels) → Option (Node ℕ) → Levels
+node_levels stamp below None = nothing
+node_levels stamp below (Some (Commit c)) = nothing
+node_levels stamp below (Some (Chunk (Leaf rows))) = topped (Some stamp, leaf_keys (keys_of rows)) nothing
+node_levels stamp below (Some (Chunk (Inner kids))) =
+    topped (Some stamp, parting (keys_of kids)) (λ level. flat_map (λ e. below e.1 level) kids)
 
 -- the placed chunk of a stamp, which is so deep, and what is below it
 abbrev pub placed_levels : Contents → ℕ → ℕ → Levels
 placed_levels contents zero stamp = nothing
-placed_levels contents (suc below) stamp = node_levels (placed_levels contents below) (slice_get contents stamp)
+placed_levels contents (suc below) stamp = node_levels stamp (placed_levels contents below) (slice_get contents stamp)
 
 -- a chunk of a draft; of a placed one what is below it, too
 abbrev pub mark_levels : Contents → Mark → Levels
-mark_levels contents (own at entries) level = if at == level then entries ∷ [] else []
+mark_levels contents (own at keys) level = if at == level then (None, keys) ∷ [] else []
 mark_levels contents (placed at deep ref) level =
     if nat_le at level then placed_levels contents deep (stamp_of ref) (level - at) else []
 
@@ -53,23 +63,72 @@ seen_levels n contents = levels_of contents n.marks
 abbrev pub AreAsBefore : Levels → Levels → Type 0
 AreAsBefore old new = (level : ℕ) → new level ≡ old level
 
--- whatever is placed later, these are the same chunks on each level
-abbrev pub StayLater : Contents → (Contents → Levels) → (Contents → Levels) → Type 0
-StayLater contents old new = (later : Contents) → IsPrefix contents later → AreAsBefore (old later) (new later)
+-- A COPY
 
--- of the chunks of a level one has an entry more, and at most 16
-abbrev pub HasOneMore : List ℕ → List ℕ → Type 0
-HasOneMore old new = (before : List ℕ) × (was : ℕ) × (after : List ℕ) × (was < 16)
-    × (old ≡ before ++ was ∷ after) × (new ≡ before ++ (was + 1) ∷ after)
+-- the first chunk is a new one with the keys of the old one, and below it are the same chunks
+abbrev pub IsCopied : Levels → Levels → Type 0
+IsCopied old new = ((stamp : Option ℕ) × (keys : Shape) × (old 0 ≡ (stamp, keys) ∷ []) × (new 0 ≡ (None, keys) ∷ []))
+    × ((level : ℕ) → new (suc level) ≡ old (suc level))
 
--- of the chunks of a level one of 16 entries got a 17th: 8 and 9 stand in its place
-abbrev pub HasOneSplit : List ℕ → List ℕ → Type 0
-HasOneSplit old new = (before : List ℕ) × (after : List ℕ) × (old ≡ before ++ 16 ∷ after)
-    × (new ≡ before ++ 8 ∷ 9 ∷ after)
+-- whatever is placed later, this is a copy
+abbrev pub CopiedLater : Contents → (Contents → Levels) → (Contents → Levels) → Type 0
+CopiedLater contents old new = (later : Contents) → IsPrefix contents later → IsCopied (old later) (new later)
 
--- the chunks of a level once a row is put: they are as before, or one is changed in one of these ways
-abbrev pub AreGrown : List ℕ → List ℕ → Type 0
-AreGrown old new = (new ≡ old) ⊎ HasOneMore old new ⊎ HasOneSplit old new
+-- A CHANGE
+
+-- new chunks with these keys
+abbrev pub as_new : List Shape → List Member
+as_new made = map (λ keys. (None, keys)) made
+
+-- In the place of one chunk stand new ones, and it became these. No other chunk of the level is another one.
+abbrev pub HasMade : (Shape → List Shape → Type 0) → List Member → List Member → Type 0
+HasMade Became old new = (before : List Member) × (chunk : Member) × (after : List Member) × (made : List Shape)
+    × (old ≡ before ++ chunk ∷ after) × (new ≡ before ++ (as_new made ++ after)) × Became chunk.1 made
+
+-- the chunks of a level are the same, or new ones stand in the place of one
+abbrev pub AreChanged : (Shape → List Shape → Type 0) → List Member → List Member → Type 0
+AreChanged Became old new = (new ≡ old) ⊎ HasMade Became old new
+
+-- A VALUE REPLACED
+
+-- a new chunk with the keys of the old one
+abbrev pub IsRenewed : Shape → List Shape → Type 0
+IsRenewed keys made = made ≡ keys ∷ []
+
+-- Whatever is placed later: on each level one chunk at most is new, and it has the keys of the one in whose place it
+-- stands.
+abbrev pub RenewedLater : Contents → (Contents → Levels) → (Contents → Levels) → Type 0
+RenewedLater contents old new = (later : Contents) → IsPrefix contents later → (level : ℕ)
+    → AreChanged IsRenewed (old later level) (new later level)
+
+-- A PUT
+
+-- one key more stands among these
+abbrev pub HasOneMore : List Bytes → List Bytes → Type 0
+HasOneMore keys more = (low : List Bytes) × (key : Bytes) × (high : List Bytes) × (keys ≡ low ++ high)
+    × (more ≡ low ++ key ∷ high)
+
+-- A chunk with room got an entry more: one of at most 16 rows, or 15 keys that part at most 16 children.
+abbrev pub IsWider : Shape → List Shape → Type 0
+IsWider (leaf_keys keys) made = (more : List Bytes) × (length keys < 16) × HasOneMore keys more
+    × (made ≡ leaf_keys more ∷ [])
+IsWider (child_keys keys) made = (more : List Bytes) × (length keys < 15) × HasOneMore keys more
+    × (made ≡ child_keys more ∷ [])
+
+-- A full chunk got a 17th entry: the first 8 and the last 9 stand in its place. The key that parts the ninth child from
+-- the eighth goes to the chunk above.
+abbrev pub IsSplit : Shape → List Shape → Type 0
+IsSplit (leaf_keys keys) made = (more : List Bytes) × (length keys ≡ 16) × HasOneMore keys more
+    × (made ≡ leaf_keys (take 8 more) ∷ leaf_keys (drop 8 more) ∷ [])
+IsSplit (child_keys keys) made = (more : List Bytes) × (length keys ≡ 15) × HasOneMore keys more
+    × (made ≡ child_keys (take 7 more) ∷ child_keys (drop 8 more) ∷ [])
+
+-- what becomes of a chunk on the way to a key that is put
+abbrev pub IsGrown : Shape → List Shape → Type 0
+IsGrown keys made = IsRenewed keys made ⊎ IsWider keys made ⊎ IsSplit keys made
+
+abbrev pub AreGrown : List Member → List Member → Type 0
+AreGrown = AreChanged IsGrown
 
 abbrev pub ArePut : Levels → Levels → Type 0
 ArePut old new = (level : ℕ) → AreGrown (old level) (new level)
@@ -78,9 +137,27 @@ ArePut old new = (level : ℕ) → AreGrown (old level) (new level)
 -- halves of the old one.
 abbrev pub ArePutIn : ℕ → ℕ → Levels → Levels → Type 0
 ArePutIn was deep old new = ((level : ℕ) → AreGrown (old level) (new (level + (deep - was))))
-    × (was < deep → new 0 ≡ 2 ∷ [])
+    × (was < deep → (key : Bytes) × (new 0 ≡ (None, child_keys (key ∷ [])) ∷ []))
 
 -- whatever is placed later, this is what a put makes of a map
 abbrev pub PutLater : ℕ → ℕ → Contents → (Contents → Levels) → (Contents → Levels) → Type 0
 PutLater was deep contents old new = (later : Contents) → IsPrefix contents later
     → ArePutIn was deep (old later) (new later)
+
+-- A FREEZE
+
+-- the chunk is as it was, or was new, and has a stamp from the first one on
+abbrev pub IsNamedNow : ℕ → Member → Member → Type 0
+IsNamedNow first old new = (new ≡ old)
+    ⊎ ((stamp : ℕ) × (first ≤ stamp) × (old.0 ≡ None) × (new ≡ (Some stamp, old.1)))
+
+abbrev pub AreNamedNow : ℕ → List Member → List Member → Type 0
+AreNamedNow first [] [] = Unit {0}
+AreNamedNow first [] (n ∷ new) = ⊥
+AreNamedNow first (o ∷ old) [] = ⊥
+AreNamedNow first (o ∷ old) (n ∷ new) = IsNamedNow first o n × AreNamedNow first old new
+
+-- Whatever is placed later: the chunks that were new have stamps from the first one on, and the others are as they were.
+abbrev pub NamedLater : ℕ → Contents → (Contents → Levels) → (Contents → Levels) → Type 0
+NamedLater first contents old new = (later : Contents) → IsPrefix contents later → (level : ℕ)
+    → AreNamedNow first (old later level) (new later level)

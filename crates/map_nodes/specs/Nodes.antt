@@ -1,11 +1,11 @@
 -- The chunks of a draft: what their pieces are, and what holds of them.
-use Rattle.std.specs.Prelude.{ℕ, ◌+◌, ◌-◌, ◌<◌, max, List, [], ◌∷◌, ◌++◌, map, length, ◌≡◌}
+use Rattle.std.specs.Prelude.{ℕ, ◌+◌, ◌-◌, ◌<◌, max, List, [], ◌∷◌, ◌++◌, map, length, ◌≡◌, None}
 use Rattle.group_history.specs.Map.{Bytes}
 use Rattle.group_history.specs.Refs.{stamp_of}
 use Rattle.group_history.specs.Rows.{Rows, AreKeys, paired}
 use Rattle.group_history.specs.Spelling.{Contents}
-use Rattle.map_chunks.specs.Shown.{value, chunk, own, placed, Mark, Piece}
-use Rattle.map_nodes.specs.Levels.{Levels, nothing, placed_levels, seen_levels, topped}
+use Rattle.map_chunks.specs.Shown.{value, chunk, own, placed, Mark, Piece, Shape, leaf_keys}
+use Rattle.map_nodes.specs.Levels.{Levels, nothing, parting, placed_levels, seen_levels, topped}
 use Rattle.map_nodes.specs.declared.nodes.OwnChild.{OwnChild}
 use Rattle.map_nodes.specs.declared.nodes.OwnChild.TheVariants.{Placed, Own}
 use Rattle.map_nodes.specs.declared.nodes.Body.{Body}
@@ -82,8 +82,13 @@ body_fresh (Inner kids) = kids_fresh kids.items + 1
 -- marks one level further below
 abbrev pub sunk : List Mark → List Mark
 sunk [] = []
-sunk (own at entries ∷ ms) = own (at + 1) entries ∷ sunk ms
+sunk (own at keys ∷ ms) = own (at + 1) keys ∷ sunk ms
 sunk (placed at deep ref ∷ ms) = placed (at + 1) deep ref ∷ sunk ms
+
+-- a chunk's keys by its parts
+abbrev pub body_shape : List Bytes → Body → Shape
+body_shape keys (Leaf values) = leaf_keys keys
+body_shape keys (Inner kids) = parting keys
 
 -- which chunks these are, where the children are so deep
 abbrev pub child_marks : ℕ → OwnChild → List Mark
@@ -94,9 +99,9 @@ abbrev pub kids_marks : ℕ → List OwnChild → List Mark
 kids_marks below [] = []
 kids_marks below (k ∷ ks) = child_marks below k ++ kids_marks below ks
 
-abbrev pub body_marks : ℕ → ℕ → Body → List Mark
-body_marks depth entries (Leaf values) = own 0 entries ∷ []
-body_marks depth entries (Inner kids) = own 0 entries ∷ sunk (kids_marks (depth - 1) kids.items)
+abbrev pub body_marks : ℕ → List Bytes → Body → List Mark
+body_marks depth keys (Leaf values) = own 0 (leaf_keys keys) ∷ []
+body_marks depth keys (Inner kids) = own 0 (parting keys) ∷ sunk (kids_marks (depth - 1) kids.items)
 
 -- a child, so deep where it is placed, and what is below it
 abbrev pub child_levels : ℕ → OwnChild → Contents → Levels
@@ -108,6 +113,6 @@ kids_levels below [] contents level = []
 kids_levels below (k ∷ ks) contents level = child_levels below k contents level ++ kids_levels below ks contents level
 
 -- a chunk by its parts, and what is below it
-abbrev pub body_levels : ℕ → ℕ → Body → Contents → Levels
-body_levels depth entries (Leaf values) contents = topped entries nothing
-body_levels depth entries (Inner kids) contents = topped entries (kids_levels (depth - 1) kids.items contents)
+abbrev pub body_levels : ℕ → List Bytes → Body → Contents → Levels
+body_levels depth keys (Leaf values) contents = topped (None, leaf_keys keys) nothing
+body_levels depth keys (Inner kids) contents = topped (None, parting keys) (kids_levels (depth - 1) kids.items contents)

@@ -4,7 +4,8 @@ use Rattle.std.specs.Arc.{arc_value}
 use denote.RawPtr.{null_ptr}
 use Rattle.group_history.specs.declared.refs.Ref.{Ref}
 use Rattle.group_history.specs.Rows.{AreKeys, paired}
-use Rattle.map_chunks.specs.Shown.{own, Seen}
+use Rattle.map_chunks.specs.Shown.{own, leaf_keys, Seen}
+use Rattle.map_nodes.specs.Levels.{parting}
 use Rattle.map_nodes.specs.Nodes.{AllKids, kids_fresh, kids_height, kids_marks, kids_pieces, row_pieces, sunk}
 use Rattle.map_nodes.specs.declared.nodes.OwnChild.{OwnChild}
 use Rattle.map_nodes.specs.declared.nodes.OwnChild.TheVariants.{Placed, Own}
@@ -33,7 +34,7 @@ step_seen s below = record {
   pieces = kids_pieces below.depth (paired (arc_value s.keys) (step_kids s below));
   height = kids_height (step_kids s below) + 2;
   fresh = kids_fresh (step_kids s below) + 1;
-  marks = own 0 (length (arc_value s.keys)) ∷ sunk (kids_marks below.depth (step_kids s below));
+  marks = own 0 (parting (arc_value s.keys)) ∷ sunk (kids_marks below.depth (step_kids s below));
 }
 
 abbrev pub leaf_seen : End → Seen
@@ -43,7 +44,7 @@ leaf_seen e = record {
   pieces = row_pieces (paired (arc_value e.keys) e.values.items);
   height = 1;
   fresh = 1;
-  marks = own 0 (length (arc_value e.keys)) ∷ [];
+  marks = own 0 (leaf_keys (arc_value e.keys)) ∷ [];
 }
 
 -- the chunk of the first step, or the leaf

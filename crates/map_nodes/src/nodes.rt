@@ -58,7 +58,7 @@ impl Model for OwnNode {
       pieces = body_pieces n.depth n.keys.texts n.body;
       height = body_height n.body;
       fresh = body_fresh n.body;
-      marks = body_marks n.depth (length n.keys.texts) n.body;
+      marks = body_marks n.depth n.keys.texts n.body;
     } };
 
     ghost invariant = { λ n. IsNode n.depth n.keys.texts n.body };

@@ -16,10 +16,10 @@ ghost use Rattle.map_chunks.specs.Drafts.{AreBelow, IsLate};
 ghost use Rattle.map_chunks.specs.Places.{with_nodes, Grows, AreAll, AreKept, AddsNamed, places_of};
 ghost use Rattle.map_chunks.specs.Scanning.{taken, Gave, IsLow};
 ghost use Rattle.map_chunks.specs.Seeking.{stands_in};
-ghost use Rattle.map_chunks.specs.Shown.{own, shown, IsTree, rows_or};
+ghost use Rattle.map_chunks.specs.Shown.{own, leaf_keys, shown, IsTree, rows_or};
 ghost use Rattle.map_chunks.specs.Wide.{IsWideAt, IsWideChunk};
 ghost use Rattle.map_nodes.specs.Removing.{root_left, without, root_rows, IsWideRoot, IsLowRoot};
-ghost use Rattle.map_nodes.specs.Levels.{placed_levels, seen_levels, PutLater, StayLater};
+ghost use Rattle.map_nodes.specs.Levels.{placed_levels, seen_levels, NamedLater, PutLater, RenewedLater};
 
 use crate::nodes::{OwnNode, Trail};
 use group_history::{Json, Ref, Refusal, Scan, Stop};
@@ -71,7 +71,7 @@ impl OwnRoot {
         ensures depth { result.depth ≡ 1 }
         ensures pieces { result.pieces ≡ [] }
         ensures fresh { result.fresh ≡ 1 }
-        ensures marks { result.marks ≡ own 0 0 ∷ [] }
+        ensures marks { result.marks ≡ own 0 (leaf_keys []) ∷ [] }
     {
         OwnRoot::new(OwnNode::empty(alloc))
     }
@@ -121,7 +121,7 @@ impl OwnRoot {
         ensures levels { IfOk result (λ r. PutLater depth r.depth (C.contents chunks.new)
             (λ p. placed_levels p depth (stamp_of at)) (seen_levels r)) }
         ensures replaced { there ≡ true → IfOk result (λ r. r.fresh ≤ depth) }
-        ensures same { there ≡ true → IfOk result (λ r. StayLater (C.contents chunks.new)
+        ensures same { there ≡ true → IfOk result (λ r. RenewedLater (C.contents chunks.new)
             (λ p. placed_levels p depth (stamp_of at)) (seen_levels r)) }
         ensures deep { IfOk result (λ r. (depth ≤ r.depth) × (r.depth ≤ depth + 1)) }
         ensures wide { IsWideAt (C.contents chunks.old) (stamp_of at) → IfOk result IsWideChunk }
@@ -152,7 +152,7 @@ impl OwnRoot {
             ≡ Some (finite.put (slice_cmp nat_cmp) key.now value.now
             (rows_or (rows_at (C.contents chunks.old) depth (stamp_of at))))) }
         ensures few { IfOk result (λ r. r.fresh ≤ depth) }
-        ensures levels { IfOk result (λ r. StayLater (C.contents chunks.new)
+        ensures levels { IfOk result (λ r. RenewedLater (C.contents chunks.new)
             (λ p. placed_levels p depth (stamp_of at)) (seen_levels r)) }
         ensures deep { IfOk result (λ r. r.depth ≡ depth) }
         ensures wide { IsWideAt (C.contents chunks.old) (stamp_of at) → IfOk result IsWideChunk }
@@ -305,7 +305,7 @@ impl OwnRoot {
         ensures few { OnOk result (self.new.fresh ≤ self.old.fresh + 2 * self.old.depth) }
         ensures levels { OnOk result (PutLater self.old.depth self.new.depth (C.contents chunks.new)
             (seen_levels self.old) (seen_levels self.new)) }
-        ensures same { there ≡ true → OnOk result (StayLater (C.contents chunks.new) (seen_levels self.old)
+        ensures same { there ≡ true → OnOk result (RenewedLater (C.contents chunks.new) (seen_levels self.old)
             (seen_levels self.new)) }
         ensures places { OnOk result (AreKept (C.places chunks.new) (places_of self.old.pieces)
             (places_of self.new.pieces)) }
@@ -368,7 +368,7 @@ impl OwnRoot {
             → IfOk result (λ root. rows_at (with_nodes contents draft.new.nodes) self.depth
             (stamp_of root) ≡ Some rows) }
         ensures levels { (contents : Contents) → length contents ≡ draft.old.first
-            → IfOk result (λ root. StayLater (with_nodes contents draft.new.nodes) (seen_levels self)
+            → IfOk result (λ root. NamedLater draft.old.first (with_nodes contents draft.new.nodes) (seen_levels self)
             (λ p. placed_levels p self.depth (stamp_of root))) }
         ensures wide { (contents : Contents) → length contents ≡ draft.old.first → 1 < self.entries
             → IfOk result (λ root. IsWideAt (with_nodes contents draft.new.nodes) (stamp_of root)) }
@@ -400,7 +400,7 @@ pub fn frozen(alloc: Global, root: OwnRoot, draft: &mut Draft) -> Result<Ref, Re
         → shown (with_nodes contents draft.old.nodes) root.pieces ≡ Some rows
         → IfOk result (λ at. rows_at (with_nodes contents draft.new.nodes) root.depth (stamp_of at) ≡ Some rows) }
     ensures levels { (contents : Contents) → length contents ≡ draft.old.first
-        → IfOk result (λ at. StayLater (with_nodes contents draft.new.nodes) (seen_levels root)
+        → IfOk result (λ at. NamedLater draft.old.first (with_nodes contents draft.new.nodes) (seen_levels root)
         (λ p. placed_levels p root.depth (stamp_of at))) }
     ensures wide { (contents : Contents) → length contents ≡ draft.old.first → 1 < root.entries
         → IfOk result (λ at. IsWideAt (with_nodes contents draft.new.nodes) (stamp_of at)) }

@@ -34,7 +34,7 @@ enum Root {
 }
 
 impl Tree {
-    ghost use Rattle.std.specs.Prelude.{◌≡◌, ◌⊎◌, [], ◌∷◌, Some, IfOk, IfErr, IsSome, option_copied};
+    ghost use Rattle.std.specs.Prelude.{◌≡◌, ◌⊎◌, [], ◌∷◌, Some, None, IfOk, IfErr, IsSome, option_copied};
     ghost use Rattle.std.specs.FinMap as finite;
     ghost use Rattle.group_history.specs.Map.{Entries};
     ghost use Rattle.group_history.specs.Refs.{stamp_of};
@@ -44,6 +44,7 @@ impl Tree {
     ghost use Rattle.map_tree.specs.Trees.{levels_at, tree_map, tree_depth, tree_fresh, tree_root, tree_places};
     ghost use Rattle.map_tree.specs.Trees.{tree_levels, HasWideRoot};
     ghost use Rattle.map_chunks.specs.Places.{Grows, AreAll};
+    ghost use Rattle.map_chunks.specs.Shown.{leaf_keys};
     ghost use Rattle.map_chunks.specs.Wide.{IsWideAt};
     ghost use Rattle.map_chunks.specs.Writes.{standing};
 
@@ -66,7 +67,7 @@ impl Tree {
         ensures map { (contents : Contents) → tree_map contents result ≡ Some finite.empty }
         ensures depth { (contents : Contents) → tree_depth contents result ≡ Some 1 }
         ensures fresh { tree_fresh result ≡ 1 }
-        ensures levels { (contents : Contents) → AreAsBefore (topped 0 nothing) (tree_levels result contents) }
+        ensures levels { (contents : Contents) → AreAsBefore (topped (None, leaf_keys []) nothing) (tree_levels result contents) }
         ensures places { tree_places result ≡ [] }
         ensures wide { (contents : Contents) → HasWideRoot contents result }
     {

@@ -3,7 +3,9 @@ use Rattle.std.specs.Prelude.{◌≡◌, ℕ, ◌-◌, ◌<◌, List, [], ◌∷
 use Rattle.group_history.specs.declared.nodes.Chunk.{Chunk}
 use Rattle.group_history.specs.declared.nodes.Chunk.TheVariants.{Leaf, Inner}
 use Rattle.group_history.specs.declared.refs.Ref.{Ref}
-use Rattle.map_chunks.specs.Shown.{chunk, own, Mark, Piece, Seen}
+use Rattle.group_history.specs.Rows.{keys_of}
+use Rattle.map_chunks.specs.Shown.{chunk, own, leaf_keys, Mark, Piece, Seen}
+use Rattle.map_nodes.specs.Levels.{parting}
 use Rattle.map_nodes.specs.Nodes.{kids_marks, row_pieces, sunk}
 use Rattle.map_nodes.specs.declared.nodes.OwnChild.TheVariants.{Placed}
 
@@ -23,8 +25,9 @@ chunk_entries (Inner kids) = length kids
 
 -- which chunks it is as an own one
 abbrev pub chunk_marks : ℕ → Chunk Ref → List Mark
-chunk_marks depth (Leaf rows) = own 0 (length rows) ∷ []
-chunk_marks depth (Inner kids) = own 0 (length kids) ∷ sunk (kids_marks (depth - 1) (map (λ e. Placed e.1) kids))
+chunk_marks depth (Leaf rows) = own 0 (leaf_keys (keys_of rows)) ∷ []
+chunk_marks depth (Inner kids) =
+    own 0 (parting (keys_of kids)) ∷ sunk (kids_marks (depth - 1) (map (λ e. Placed e.1) kids))
 
 -- one chunk, with the pieces of the copied one, as many keys, and its children
 abbrev pub IsCopy : ℕ → Chunk Ref → Seen → Type 0

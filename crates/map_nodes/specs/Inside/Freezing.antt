@@ -10,7 +10,7 @@ use Rattle.group_history.specs.Refs.{stamp_of, slot_of}
 use Rattle.group_history.specs.Rows.{Rows}
 use Rattle.group_history.specs.Spelling.{Contents, rows_at}
 use Rattle.map_nodes.specs.Inside.Nodes.{child_rows}
-use Rattle.map_nodes.specs.Levels.{placed_levels, seen_levels, StayLater}
+use Rattle.map_nodes.specs.Levels.{placed_levels, seen_levels, NamedLater}
 use Rattle.map_nodes.specs.Nodes.{child_levels}
 use Rattle.map_nodes.specs.declared.nodes.OwnChild.{OwnChild}
 use Rattle.map_nodes.specs.declared.nodes.OwnChild.TheVariants.{Placed, Own}
@@ -39,10 +39,11 @@ AreFrozen first old new (child ∷ children) [] = ⊥
 AreFrozen first old new (child ∷ children) (at ∷ ats) = IsFrozen first old new child at
     × AreFrozen first old new children ats
 
--- The child has the levels that are placed under the reference's stamp, whatever is placed later.
+-- The child has the chunks that are placed under the reference's stamp, whatever is placed later, the new ones of stamps
+-- from the draft's first on.
 abbrev pub IsLevel : ℕ → List (Node Ref) → OwnChild → Ref → Type 0
 IsLevel first new child at = (contents : Contents) (depth : ℕ) → length contents ≡ first → IsDeep depth child
-    → StayLater (with_nodes contents new) (child_levels depth child) (λ p. placed_levels p depth (stamp_of at))
+    → NamedLater first (with_nodes contents new) (child_levels depth child) (λ p. placed_levels p depth (stamp_of at))
 
 abbrev pub AreLevel : ℕ → List (Node Ref) → List OwnChild → List Ref → Type 0
 AreLevel first new [] [] = Unit {0}
@@ -66,7 +67,7 @@ pub record IsWritten (first : ℕ) (old new : List (Node Ref)) (n : Seen) (at : 
       → shown (with_nodes contents old) n.pieces ≡ Some rows
       → rows_at (with_nodes contents new) n.depth (stamp_of at) ≡ Some rows
   pub levels : (contents : Contents) → length contents ≡ first
-      → StayLater (with_nodes contents new) (seen_levels n) (λ p. placed_levels p n.depth (stamp_of at))
+      → NamedLater first (with_nodes contents new) (seen_levels n) (λ p. placed_levels p n.depth (stamp_of at))
   pub wide : (contents : Contents) → length contents ≡ first → 1 < n.entries
       → IsWideAt (with_nodes contents new) (stamp_of at)
   pub named : AddsNamed first (places_of n.pieces) old new

@@ -15,7 +15,7 @@ use Rattle.map_chunks.specs.Places.{AreAll, AreKept, places_of}
 use Rattle.map_chunks.specs.Search.{IsPlace}
 use Rattle.map_chunks.specs.Shown.{rows_or, shown}
 use Rattle.map_chunks.specs.Wide.{IsWideAt, IsWideChunk}
-use Rattle.map_nodes.specs.Levels.{placed_levels, seen_levels, StayLater}
+use Rattle.map_nodes.specs.Levels.{placed_levels, seen_levels, RenewedLater}
 use Rattle.map_nodes.specs.Trails.{IsEnd, IsTrail, trail_seen}
 use Rattle.map_nodes.specs.declared.nodes.trails.End.{End}
 use Rattle.map_nodes.specs.declared.nodes.trails.Step.{Step}
@@ -50,15 +50,15 @@ IsStageAt contents places stamp key value stage = (c : Chunk Ref)
     × (slice_get contents stamp ≡ Some (chunk_content c)) × IsStage c key value stage
     × AreAll places (chunk_children c)
 
--- a trail as deep as the placed chunk of a stamp, that shows its rows with a value put at a key, is as many chunks of
--- each depth and size, and names only chunks that may be looked for
+-- a trail as deep as the placed chunk of a stamp, that shows its rows with a value put at a key, is one new chunk on each
+-- level, with the same keys, and names only chunks that may be looked for
 pub record IsLaid (contents : Contents) (places : Ref → Type 0) (stamp depth : ℕ) (key value : Bytes)
     (was : Option Rows) (steps : List Step) (e : End) : Type 0 where
   pub trail : IsTrail steps e
   pub depth_is : (trail_seen steps e).depth ≡ depth
   pub shown_is : shown contents (trail_seen steps e).pieces ≡ Some (put (slice_cmp nat_cmp) key value (rows_or was))
   pub few : (trail_seen steps e).fresh ≤ depth
-  pub levels : StayLater contents (λ p. placed_levels p depth stamp) (seen_levels (trail_seen steps e))
+  pub levels : RenewedLater contents (λ p. placed_levels p depth stamp) (seen_levels (trail_seen steps e))
   pub kept : AreKept places [] (places_of (trail_seen steps e).pieces)
   pub wide : IsWideAt contents stamp → IsWideChunk (trail_seen steps e)
 

@@ -1,10 +1,12 @@
 -- What a put makes of the levels of children and halves, whatever is placed later.
-use Rattle.std.specs.Prelude.{◌≡◌, ℕ, ◌-◌, ◌∷◌, ◌++◌, [], List, Option, Some, None, slice_set}
+use Rattle.std.specs.Prelude.{◌≡◌, ◌⊎◌, ℕ, ◌-◌, ◌≤◌, ◌∷◌, ◌++◌, [], List, Option, Some, None, slice_set, length, take}
+use Rattle.std.specs.Prelude.{drop}
 use mathlib.Core.List.{IsPrefix}
 use Rattle.group_history.specs.Spelling.{Contents}
-use Rattle.map_chunks.specs.Shown.{own, Seen}
+use Rattle.group_history.specs.Map.{Bytes}
+use Rattle.map_chunks.specs.Shown.{own, leaf_keys, Seen}
 use Rattle.map_nodes.specs.Inside.Nodes.{Kid}
-use Rattle.map_nodes.specs.Levels.{Levels, nothing, seen_levels, AreAsBefore, ArePut}
+use Rattle.map_nodes.specs.Levels.{Levels, nothing, parting, seen_levels, ArePut, HasOneMore, RenewedLater}
 use Rattle.map_nodes.specs.Nodes.{child_levels, kids_marks, sunk}
 use Rattle.map_nodes.specs.declared.nodes.OwnChild.{OwnChild}
 use Rattle.map_nodes.specs.declared.nodes.OwnChild.TheVariants.{Own}
@@ -15,16 +17,24 @@ abbrev pub half_levels : Option Half → Contents → Levels
 half_levels None contents = nothing
 half_levels (Some h) contents = seen_levels h.node.value contents
 
--- the upper half of a leaf is one chunk of nine
-abbrev pub IsLeafHalf : Option Half → Type 0
-IsLeafHalf None = Unit {0}
-IsLeafHalf (Some h) = h.node.value.marks ≡ own 0 9 ∷ []
+-- the keys of a leaf and of its upper half, where it has one, are all these: it is whole, or has the first 8
+abbrev pub AreLeafKeys : List Bytes → List Bytes → Option Half → Type 0
+AreLeafKeys all keys None = keys ≡ all
+AreLeafKeys all keys (Some h) = (length all ≡ 17) × (keys ≡ take 8 all)
+    × (h.node.value.marks ≡ own 0 (leaf_keys (drop 8 all)) ∷ [])
 
--- the children of a chunk that is so deep, and of the upper half that was split off it, if one was, are all these
-abbrev pub IsHalved : ℕ → List OwnChild → Option Half → List OwnChild → Type 0
-IsHalved deep kids None all = kids ≡ all
-IsHalved deep kids (Some h) all = (upper : List OwnChild) × (kids ++ upper ≡ all)
-    × (h.node.value.marks ≡ own 0 9 ∷ sunk (kids_marks (deep - 1) upper))
+-- a leaf has the keys that it had, or one more
+abbrev pub IsLeafPut : List Bytes → List Bytes → Option Half → Type 0
+IsLeafPut old new half = ((new ≡ old) × (half ≡ None))
+    ⊎ ((all : List Bytes) × HasOneMore old all × (length old ≤ 16) × AreLeafKeys all new half)
+
+-- The keys and children of a chunk that is so deep, and those of the upper half that was split off it, if one was, are
+-- all these: it is whole, or has the first 8.
+abbrev pub IsHalved : ℕ → List Bytes → List OwnChild → Option Half → List Bytes → List OwnChild → Type 0
+IsHalved deep keys kids None firsts all = (keys ≡ firsts) × (kids ≡ all)
+IsHalved deep keys kids (Some h) firsts all = (length firsts ≡ 17) × (keys ≡ take 8 firsts)
+    × ((upper : List OwnChild) × (kids ++ upper ≡ all)
+    × (h.node.value.marks ≡ own 0 (parting (drop 8 firsts)) ∷ sunk (kids_marks (deep - 1) upper)))
 
 -- a put made of a chunk this one and its upper half
 abbrev pub HalvesPut : Contents → Seen → Seen → Option Half → Type 0
@@ -37,8 +47,7 @@ ChildHalvesPut contents below place old new child half = (n : Kid) × (new ≡ s
     × ((later : Contents) → IsPrefix contents later → ArePut (child_levels below child later)
     (λ level. seen_levels n.value later level ++ half_levels half later level))
 
--- an own child stands at the place of this one, with the same levels
-abbrev pub IsChildAsBefore : Contents → ℕ → ℕ → List OwnChild → List OwnChild → OwnChild → Type 0
-IsChildAsBefore contents below place old new child = (n : Kid) × (new ≡ slice_set old place (Own n))
-    × ((later : Contents) → IsPrefix contents later
-    → AreAsBefore (child_levels below child later) (seen_levels n.value later))
+-- an own child stands at the place of this one, of which one chunk on each level at most is new, with the same keys
+abbrev pub IsChildRenewed : Contents → ℕ → ℕ → List OwnChild → List OwnChild → OwnChild → Type 0
+IsChildRenewed contents below place old new child = (n : Kid) × (new ≡ slice_set old place (Own n))
+    × RenewedLater contents (child_levels below child) (seen_levels n.value)

@@ -1,6 +1,6 @@
 //! New chunks of a draft.
 ghost use Rattle.std.specs.Prelude.{◌≡◌, [], ◌∷◌};
-ghost use Rattle.map_chunks.specs.Shown.{own};
+ghost use Rattle.map_chunks.specs.Shown.{own, leaf_keys};
 
 use super::{Body, OwnNode};
 use map_chunks::keys::NodeKeys;
@@ -12,7 +12,7 @@ impl OwnNode {
         ensures depth { result.depth ≡ 1 }
         ensures pieces { result.pieces ≡ [] }
         ensures fresh { result.fresh ≡ 1 }
-        ensures marks { result.marks ≡ own 0 0 ∷ [] }
+        ensures marks { result.marks ≡ own 0 (leaf_keys []) ∷ [] }
     {
         OwnNode {
             depth: 1,

@@ -9,7 +9,7 @@ ghost use Rattle.map_chunks.specs.Drafts.{AreBelow, IsLate};
 ghost use Rattle.map_chunks.specs.Places.{with_nodes, places_of, IsNamed, AreNamed, AddsNamed};
 ghost use Rattle.map_nodes.specs.Inside.Freezing.{IsFrozen, AreFrozen, IsLevel, AreLevel, child_places, kids_places};
 ghost use Rattle.map_nodes.specs.Nodes.{child_fresh, kids_fresh};
-ghost use Rattle.map_nodes.specs.Levels.{placed_levels, seen_levels, StayLater};
+ghost use Rattle.map_nodes.specs.Levels.{placed_levels, seen_levels, NamedLater};
 ghost use Rattle.map_chunks.specs.Shown.{shown};
 ghost use Rattle.map_chunks.specs.Wide.{IsWideAt};
 
@@ -29,7 +29,7 @@ impl OwnNode {
             → IfOk result (λ root. rows_at (with_nodes contents draft.new.nodes) self.depth
             (stamp_of root) ≡ Some rows) }
         ensures levels { (contents : Contents) → length contents ≡ draft.old.first
-            → IfOk result (λ root. StayLater (with_nodes contents draft.new.nodes) (seen_levels self)
+            → IfOk result (λ root. NamedLater draft.old.first (with_nodes contents draft.new.nodes) (seen_levels self)
             (λ p. placed_levels p self.depth (stamp_of root))) }
         ensures wide { (contents : Contents) → length contents ≡ draft.old.first → 1 < self.entries
             → IfOk result (λ root. IsWideAt (with_nodes contents draft.new.nodes) (stamp_of root)) }

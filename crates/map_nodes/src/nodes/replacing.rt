@@ -11,8 +11,8 @@ ghost use Rattle.map_nodes.specs.Inside.Nodes.{ChildChanged, child_rows};
 ghost use Rattle.map_nodes.specs.Inside.Replacing.{CanReplace};
 ghost use Rattle.map_chunks.specs.Places.{Grows, AreAll, AreKept, places_of};
 ghost use Rattle.map_nodes.specs.Inside.Freezing.{kids_places};
-ghost use Rattle.map_nodes.specs.Inside.Puts.{IsChildAsBefore};
-ghost use Rattle.map_nodes.specs.Levels.{placed_levels, seen_levels, StayLater};
+ghost use Rattle.map_nodes.specs.Inside.Puts.{IsChildRenewed};
+ghost use Rattle.map_nodes.specs.Levels.{placed_levels, seen_levels, RenewedLater};
 ghost use Rattle.map_chunks.specs.Shown.{shown, IsTree, rows_or};
 ghost use Rattle.map_nodes.specs.declared.nodes.OwnChild.{OwnChild as Childs};
 ghost use Rattle.map_nodes.specs.declared.nodes.OwnChild.TheVariants as childs;
@@ -48,7 +48,7 @@ impl OwnNode {
         ensures depth { self.new.depth ≡ self.old.depth }
         ensures entries { self.new.entries ≡ self.old.entries }
         ensures fresh { OnOk result (self.new.fresh < self.old.fresh + self.old.depth) }
-        ensures levels { OnOk result (StayLater (C.contents chunks.new) (seen_levels self.old)
+        ensures levels { OnOk result (RenewedLater (C.contents chunks.new) (seen_levels self.old)
             (seen_levels self.new)) }
         ensures places { OnOk result (AreKept (C.places chunks.new) (places_of self.old.pieces)
             (places_of self.new.pieces)) }
@@ -100,7 +100,7 @@ fn replace_child<C: Chunks>(
         (Some (finite.put (slice_cmp nat_cmp) to.entry.key.now to.entry.value
         (rows_or (child_rows (C.contents chunks.old) below c))))) }
     ensures levels { (c : Childs) → slice_get kids.old.items place ≡ Some c
-        → OnOk result (IsChildAsBefore (C.contents chunks.new) below place kids.old.items kids.new.items c) }
+        → OnOk result (IsChildRenewed (C.contents chunks.new) below place kids.old.items kids.new.items c) }
     ensures places { OnOk result (AreKept (C.places chunks.new) (kids_places kids.old.items)
         (kids_places kids.new.items)) }
     ensures err { OnErr result (kids.new.items ≡ kids.old.items) }
@@ -135,7 +135,7 @@ fn replaced_copy<C: Chunks>(
         ≡ Some (finite.put (slice_cmp nat_cmp) key.now value
         (rows_or (rows_at (C.contents chunks.old) depth (stamp_of at))))) }
     ensures fresh { IfOk result (λ n. n.value.fresh ≤ depth) }
-    ensures levels { IfOk result (λ n. StayLater (C.contents chunks.new)
+    ensures levels { IfOk result (λ n. RenewedLater (C.contents chunks.new)
         (λ p. placed_levels p depth (stamp_of at)) (seen_levels n.value)) }
     ensures places { IfOk result (λ n. AreKept (C.places chunks.new) [] (places_of n.value.pieces)) }
     ensures stopped { IfErr result (λ s. (s ≡ NoMemory) ⊎ C.stops s) }

@@ -7,7 +7,7 @@ ghost use Rattle.group_history.specs.declared.mutators.Stop.TheVariants.{NoMemor
 ghost use Rattle.map_chunks.specs.Places.{Grows, AreAll, AreKept, places_of};
 ghost use Rattle.map_chunks.specs.Shown.{shown, IsTree, rows_or};
 ghost use Rattle.map_chunks.specs.Wide.{IsWideChunk};
-ghost use Rattle.map_nodes.specs.Levels.{seen_levels, PutLater, StayLater};
+ghost use Rattle.map_nodes.specs.Levels.{seen_levels, PutLater, RenewedLater};
 
 use super::OwnNode;
 use group_history::{Json, SearchKey, Stop, Text};
@@ -36,7 +36,7 @@ impl OwnNode {
         ensures few { OnOk result (self.new.fresh ≤ self.old.fresh + 2 * self.old.depth) }
         ensures levels { OnOk result (PutLater self.old.depth self.new.depth (C.contents chunks.new)
             (seen_levels self.old) (seen_levels self.new)) }
-        ensures same { there ≡ true → OnOk result (StayLater (C.contents chunks.new) (seen_levels self.old)
+        ensures same { there ≡ true → OnOk result (RenewedLater (C.contents chunks.new) (seen_levels self.old)
             (seen_levels self.new)) }
         ensures places { OnOk result (AreKept (C.places chunks.new) (places_of self.old.pieces)
             (places_of self.new.pieces)) }

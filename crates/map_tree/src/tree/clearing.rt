@@ -1,8 +1,9 @@
 //! A map emptied.
-ghost use Rattle.std.specs.Prelude.{◌≡◌, [], Some};
+ghost use Rattle.std.specs.Prelude.{◌≡◌, [], Some, None};
 ghost use Rattle.std.specs.FinMap as finite;
 ghost use Rattle.group_history.specs.Spelling.{Contents};
 ghost use Rattle.map_tree.specs.Trees.{tree_map, tree_depth, tree_fresh, tree_places, tree_levels, HasWideRoot};
+ghost use Rattle.map_chunks.specs.Shown.{leaf_keys};
 ghost use Rattle.map_nodes.specs.Levels.{nothing, topped, AreAsBefore};
 
 use super::Tree;
@@ -14,7 +15,7 @@ impl Tree {
         ensures map { (contents : Contents) → tree_map contents self.new ≡ Some finite.empty }
         ensures depth { (contents : Contents) → tree_depth contents self.new ≡ Some 1 }
         ensures fresh { tree_fresh self.new ≡ 1 }
-        ensures levels { (contents : Contents) → AreAsBefore (topped 0 nothing) (tree_levels self.new contents) }
+        ensures levels { (contents : Contents) → AreAsBefore (topped (None, leaf_keys []) nothing) (tree_levels self.new contents) }
         ensures places { tree_places self.new ≡ [] }
         ensures wide { (contents : Contents) → HasWideRoot contents self.new }
     {

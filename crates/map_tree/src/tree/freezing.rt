@@ -10,7 +10,7 @@ ghost use Rattle.map_chunks.specs.Drafts.{AreBelow, IsLate};
 ghost use Rattle.map_chunks.specs.Places.{with_nodes, IsNamed, AddsNamed};
 ghost use Rattle.map_tree.specs.Trees.{levels_at, tree_places, tree_map, tree_fresh, tree_levels, tree_root};
 ghost use Rattle.map_tree.specs.Trees.{HasWideRoot};
-ghost use Rattle.map_nodes.specs.Levels.{StayLater};
+ghost use Rattle.map_nodes.specs.Levels.{NamedLater};
 ghost use Rattle.map_chunks.specs.Wide.{IsWideAt};
 
 use super::{Root, Tree};
@@ -30,7 +30,7 @@ impl Tree {
             → IfOk result (λ root. map_at (with_nodes contents draft.new.nodes) (stamp_of root) ≡ Some m) }
         ensures levels { (contents : Contents) (m : Entries) → length contents ≡ draft.old.first
             → tree_map (with_nodes contents draft.old.nodes) self ≡ Some m
-            → IfOk result (λ root. StayLater (with_nodes contents draft.new.nodes) (tree_levels self)
+            → IfOk result (λ root. NamedLater draft.old.first (with_nodes contents draft.new.nodes) (tree_levels self)
             (λ p. levels_at p (stamp_of root))) }
         ensures wide { (contents : Contents) (m : Entries) → length contents ≡ draft.old.first
             → tree_map (with_nodes contents draft.old.nodes) self ≡ Some m

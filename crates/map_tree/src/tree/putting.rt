@@ -6,7 +6,7 @@ ghost use Rattle.group_history.specs.Refs.{stamp_of};
 ghost use Rattle.group_history.specs.Spelling.{map_at};
 ghost use Rattle.group_history.specs.declared.mutators.Stop.TheVariants.{NoMemory};
 ghost use Rattle.map_chunks.specs.Places.{Grows, AreAll, AreKept};
-ghost use Rattle.map_nodes.specs.Levels.{placed_levels, PutLater, StayLater};
+ghost use Rattle.map_nodes.specs.Levels.{placed_levels, PutLater, RenewedLater};
 ghost use Rattle.map_tree.specs.Trees.{root_places, tree_places, root_map, root_depth, root_fresh, root_levels};
 ghost use Rattle.map_tree.specs.Trees.{tree_map, tree_depth, tree_fresh, tree_levels, HasWideRoot, IsWide};
 ghost use Rattle.map_chunks.specs.Seeking.{chunk_depth};
@@ -52,7 +52,7 @@ impl Tree {
             → tree_depth (C.contents chunks.old) self.old ≡ Some d → IsSome (finite.get m key.now)
             → OnOk result (tree_fresh self.new ≤ tree_fresh self.old + d) }
         ensures kept { (m : Entries) → tree_map (C.contents chunks.old) self.old ≡ Some m
-            → IsSome (finite.get m key.now) → OnOk result (StayLater (C.contents chunks.new) (tree_levels self.old) (tree_levels self.new)) }
+            → IsSome (finite.get m key.now) → OnOk result (RenewedLater (C.contents chunks.new) (tree_levels self.old) (tree_levels self.new)) }
         ensures deep { (d : ℕ) → tree_depth (C.contents chunks.old) self.old ≡ Some d
             → OnOk result ((e : ℕ) × (tree_depth (C.contents chunks.new) self.new ≡ Some e) × (d ≤ e) × (e ≤ d + 1)) }
         ensures wide { HasWideRoot (C.contents chunks.old) self.old
@@ -93,7 +93,7 @@ impl Tree {
             → tree_depth (C.contents chunks.old) self.old ≡ Some d → IsSome (finite.get m key.now)
             → OnOk result (tree_fresh self.new ≤ tree_fresh self.old + d) }
         ensures kept { (m : Entries) → tree_map (C.contents chunks.old) self.old ≡ Some m
-            → IsSome (finite.get m key.now) → OnOk result (StayLater (C.contents chunks.new) (tree_levels self.old) (tree_levels self.new)) }
+            → IsSome (finite.get m key.now) → OnOk result (RenewedLater (C.contents chunks.new) (tree_levels self.old) (tree_levels self.new)) }
         ensures deep { (d : ℕ) → tree_depth (C.contents chunks.old) self.old ≡ Some d
             → OnOk result ((e : ℕ) × (tree_depth (C.contents chunks.new) self.new ≡ Some e) × (d ≤ e) × (e ≤ d + 1)) }
         ensures wide { HasWideRoot (C.contents chunks.old) self.old
@@ -135,7 +135,7 @@ impl Tree {
         ensures levels { OnOk result ((e : ℕ) × (tree_depth (C.contents chunks.new) self.new ≡ Some e)
             × PutLater way.depth e (C.contents chunks.new) (tree_levels self.old) (tree_levels self.new)) }
         ensures replaced { way.there ≡ true → OnOk result (tree_fresh self.new ≤ tree_fresh self.old + way.depth) }
-        ensures kept { way.there ≡ true → OnOk result (StayLater (C.contents chunks.new) (tree_levels self.old)
+        ensures kept { way.there ≡ true → OnOk result (RenewedLater (C.contents chunks.new) (tree_levels self.old)
             (tree_levels self.new)) }
         ensures deep { OnOk result ((e : ℕ) × (tree_depth (C.contents chunks.new) self.new ≡ Some e) × (way.depth ≤ e)
             × (e ≤ way.depth + 1)) }
@@ -178,7 +178,7 @@ fn root_with<C: Chunks>(
         × PutLater way.depth e (C.contents chunks.new) (λ p. placed_levels p way.depth (stamp_of at))
         (root_levels root)) }
     ensures replaced { way.there ≡ true → IfOk result (λ root. root_fresh root ≤ way.depth) }
-    ensures kept { way.there ≡ true → IfOk result (λ root. StayLater (C.contents chunks.new)
+    ensures kept { way.there ≡ true → IfOk result (λ root. RenewedLater (C.contents chunks.new)
         (λ p. placed_levels p way.depth (stamp_of at)) (root_levels root)) }
     ensures deep { IfOk result (λ root. (e : ℕ) × (root_depth (C.contents chunks.new) root ≡ Some e) × (way.depth ≤ e)
         × (e ≤ way.depth + 1)) }

@@ -4,7 +4,8 @@ use Rattle.group_history.specs.declared.nodes.Chunk.TheVariants as chunked
 use Rattle.group_history.specs.declared.nodes.Node.TheVariants as node
 use Rattle.group_history.specs.Naming.{content_of}
 use Rattle.group_history.specs.Refs.{stamp_of}
-use Rattle.group_history.specs.Rows.{Rows, paired}
+use Rattle.group_history.specs.Rows.{Rows, keys_of, paired}
+use Rattle.group_history.proofs.Pairs.{keys_of-paired}
 use Rattle.std.specs.Vec.Iter.{into_iter_items}
 use Rattle.group_history.specs.Spelling.{Contents, rows_at, joined_rows}
 use Rattle.group_history.proofs.Lists.{prefix_trans, one_here, no_element}
@@ -12,7 +13,7 @@ use Rattle.map_chunks.specs.Places.{with_nodes, places_of, IsNamed, AreNamed, Ad
 use Rattle.map_nodes.specs.Inside.Freezing.{IsFrozen, AreFrozen, IsLevel, AreLevel, child_places, kids_places}
 use Rattle.map_nodes.specs.Nodes.{body_marks, body_pieces, body_height, child_height, child_fresh, kids_fresh}
 use Rattle.map_nodes.specs.Nodes.{kids_height, IsNode}
-use Rattle.map_chunks.specs.Shown.{own, Seen, shown}
+use Rattle.map_chunks.specs.Shown.{own, leaf_keys, Seen, shown}
 use Rattle.map_nodes.specs.declared.nodes.Body.TheVariants.{Leaf, Inner}
 use Rattle.map_nodes.specs.declared.nodes.OwnChild.{OwnChild}
 use Rattle.map_chunks.proofs.JoinLemmas.{some_is}
@@ -22,7 +23,7 @@ use Rattle.map_nodes.proofs.WideLemmas.{pushed_at, wide_node, wide_inner}
 use Rattle.map_nodes.proofs.FreezeLemmas.{if_ok, err_so, own_frozen, leaf_pushed, inner_pushed, all-spelled}
 use Rattle.map_nodes.proofs.FreezeLemmas.{frozen-length, frozen-sooner, all-later, all-one, fresh-one, fresh-within}
 use Rattle.map_nodes.proofs.FreezeLemmas.{high-within}
-use Rattle.map_nodes.proofs.FreezeLevels.{all_level-later, all_level-one, inner_level, leaf_level}
+use Rattle.map_nodes.proofs.FreezeLevels.{all_level-later, all_level-one, inner_level, leaf_level, placed_level}
 use Rattle.std.specs.List.{Contains}
 use Rattle.map_chunks.proofs.AnswerLemmas.{on_ok}
 use Rattle.map_chunks.specs.Drafts.{AreBelow}
@@ -134,11 +135,11 @@ OwnNode::freeze-returns-in-Leaf-clause-levels t c contents l =
     let inv : IsNode depth texts (Leaf c.in-Leaf.values) = subst (IsNode depth texts) c.in-Leaf.is c.self.invariant in
     let leaf : c.new-leaf.result ≡ paired texts c.in-Leaf.values.items = c.new-leaf.ensures ∙ ap
     (λ w. paired w c.in-Leaf.values.items) c.in_ok-keys.ensures in
-    let size : length c.new-leaf.result ≡ length texts = ap length leaf ∙ length-paired texts c.in-Leaf.values.items
+    let same : keys_of c.new-leaf.result ≡ texts = ap keys_of leaf ∙ keys_of-paired texts c.in-Leaf.values.items
     inv.1.1 in
-    let marks : c.args.self.marks ≡ own 0 (length c.new-leaf.result) ∷ [] =
-    sym (ap (body_marks depth (length texts)) (sym c.in-Leaf.is) ∙ ap (λ (s : Seen). s.marks) c.self.view_is)
-    ∙ ap (λ w. own 0 w ∷ []) (sym size) in
+    let marks : c.args.self.marks ≡ own 0 (leaf_keys (keys_of c.new-leaf.result)) ∷ [] =
+    sym (ap (body_marks depth texts) (sym c.in-Leaf.is) ∙ ap (λ (s : Seen). s.marks) c.self.view_is)
+    ∙ ap (λ w. own 0 (leaf_keys w) ∷ []) (sym same) in
     if_ok c.push.result c.push.ensures.stamp c.push.ensures.ok (λ at k o.
     leaf_level contents c.args.draft.now.first c.args.draft.now.nodes c.push.new.self.nodes c.args.self
     c.new-leaf.result at l (ap (λ d. d.nodes) o) k.0
@@ -152,7 +153,7 @@ OwnNode::freeze-returns-in-Inner-clause-levels t c contents l =
     let ats = c.in_ok-children-in-Inner.children.items in
     let mid = c.freeze_kids.new.draft.nodes in
     let inv : IsNode depth texts (Inner c.in-Inner.kids) = subst (IsNode depth texts) c.in-Inner.is c.self.invariant in
-    let marks = ap (body_marks depth (length texts)) (sym c.in-Inner.is) ∙ ap (λ (s : Seen). s.marks) c.self.view_is in
+    let marks = ap (body_marks depth texts) (sym c.in-Inner.is) ∙ ap (λ (s : Seen). s.marks) c.self.view_is in
     let inner : c.new-inner.result ≡ paired texts ats = c.new-inner.ensures ∙ ap
     (λ w. paired w ats) c.in_ok-keys.ensures in
     let long : length ats ≡ length texts = frozen-length _ _ _ kids ats
@@ -164,6 +165,12 @@ OwnNode::freeze-returns-in-Inner-clause-levels t c contents l =
     (k.0 ∙ ap (λ n. n + length mid) c.freeze_kids.ensures.first)
     (sym (ap (λ (s : Seen). s.depth) c.self.view_is)) (omega (arith, inv.1.0)) (sym marks) inv.1.2 long inv.1.3
     c.in_ok-children-in-Inner.ensures.levels)
+
+pub freezing::freeze_kid-returns-in-Placed-clause-levels :
+    goal.freezing::freeze_kid-returns-in-Placed-clause-levels
+freezing::freeze_kid-returns-in-Placed-clause-levels t c =
+    subst (λ (k : OwnChild). IsLevel c.args.draft.now.first c.args.draft.now.nodes k c.in-Placed.at)
+    (sym c.in-Placed.is) (placed_level c.args.draft.now.first c.args.draft.now.nodes c.in-Placed.at)
 
 pub freezing::freeze_kids-freeze_kid-requires : goal.freezing::freeze_kids-freeze_kid-requires
 freezing::freeze_kids-freeze_kid-requires t c =

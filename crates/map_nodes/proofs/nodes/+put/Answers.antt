@@ -17,7 +17,7 @@ use Rattle.map_nodes.specs.Nodes.{kids_fresh, kids_levels, kids_marks, child_lev
 use Rattle.map_nodes.specs.Inside.Nodes.{Kid, child_rows}
 use Rattle.map_nodes.specs.Inside.Ready.{HasRoom, IsReady}
 use Rattle.map_chunks.specs.Search.{IsPlace}
-use Rattle.map_chunks.specs.Shown.{own, Seen, shown, rows_or, IsTree}
+use Rattle.map_chunks.specs.Shown.{own, leaf_keys, Seen, shown, rows_or, IsTree}
 use Rattle.map_nodes.specs.declared.nodes.Body.{Body}
 use Rattle.map_nodes.specs.declared.nodes.Body.TheVariants.{Inner}
 use Rattle.map_nodes.specs.declared.nodes.OwnChild.{OwnChild}
@@ -37,9 +37,10 @@ use Rattle.map_nodes.proofs.PathLemmas.{if_ok, indexed_child, done_at, length-lo
 use Rattle.map_nodes.proofs.PlaceLemmas.{kid_all, kids_may, own_may, placed_may, new_may}
 use Rattle.group_history.proofs.Lists.{prefix_trans}
 use Rattle.map_nodes.proofs.LevelLemmas.{inner-levels}
-use Rattle.map_nodes.proofs.PutLevels.{child_put, if_ok_both, leaf_put_levels, put_as, put_over}
+use Rattle.map_nodes.proofs.PutLevels.{AreFirsts, child_put, firsts_are, if_ok_both, leaf_put_levels, put_as}
+use Rattle.map_nodes.proofs.PutLevels.{put_copied, put_over}
 use Rattle.map_nodes.specs.Inside.Puts.{half_levels, ChildHalvesPut, HalvesPut}
-use Rattle.map_nodes.specs.Levels.{Levels, levels_of, placed_levels, seen_levels, topped, ArePut}
+use Rattle.map_nodes.specs.Levels.{Levels, levels_of, parting, placed_levels, seen_levels, topped, ArePut}
 use Rattle.map_nodes.proofs.nodes.+put.Goals as goal
 
 pub putting::paths::put_inner-put_child-requires : goal.putting::paths::put_inner-put_child-requires
@@ -243,15 +244,20 @@ putting::paths::put_inner-returns-clause-levels g t c later pre =
     c.in_ok-ready.half) kk (c.in_ok-ready.ensures.levels child (ap (λ w. slice_get w i) kk ∙ x.1)) in
     let low = c.lower_first.ensures.texts ∙ ap (lowered i c.in_ok-ready.ready.lower) c.put_child.ensures.texts in
     let n = ap length low ∙ length-lowered i c.in_ok-ready.ready.lower keys in
-    put_over later c.args.depth (length keys) (length c.finish.new.keys.texts) c.finish.result
-    (kids_levels (c.args.depth - 1) kids later) c.finish.new.kids.items
-    (values_of (with_half i c.in_ok-ready.half (paired c.lower_first.new.keys.texts c.put_child.new.kids.items)))
+    let now = c.put_child.new.kids.items in
+    let m : length now ≡ length keys = ap length done.1 ∙ length-set kids i (Own done.0) ∙ x.2.1.2 in
+    put_over later c.args.depth keys
+    (keys_of (with_half i c.in_ok-ready.half (paired c.lower_first.new.keys.texts now)))
+    c.finish.new.keys.texts c.finish.result (kids_levels (c.args.depth - 1) kids later) c.finish.new.kids.items
+    (values_of (with_half i c.in_ok-ready.half (paired c.lower_first.new.keys.texts now)))
     (subst (λ ks. ArePut (kids_levels (c.args.depth - 1) kids later)
-    (kids_levels (c.args.depth - 1)
-    (values_of (with_half i c.in_ok-ready.half (paired ks c.put_child.new.kids.items))) later)) (sym low)
-    (child_put p later c.args.depth keys kids c.put_child.new.kids.items
+    (kids_levels (c.args.depth - 1) (values_of (with_half i c.in_ok-ready.half (paired ks now))) later)) (sym low)
+    (child_put p later c.args.depth keys kids now
     (body_pieces c.args.depth c.args.keys.now.texts (Inner c.args.kids.now)) c.args.put.key.now i child
     c.in_ok-ready.ready.lower c.in_ok-ready.half x.2.1.2 x.0 done.0 done.1 (done.2 later pre)))
+    (subst (λ ks. AreFirsts keys (keys_of (with_half i c.in_ok-ready.half (paired ks now)))) (sym low)
+    (firsts_are keys now i c.in_ok-ready.ready.lower c.in_ok-ready.half c.args.put.key.now x.3
+    c.in_ok-ready.ensures.lower m))
     c.finish.ensures.parted
     (subst (λ w. HasKept w (length c.finish.new.keys.texts) c.finish.result) n c.finish.ensures.entries)
 
@@ -288,9 +294,9 @@ putting::paths::put_child-returns-in-Placed-clause-levels g t c x h =
           let new : Levels = λ i. seen_levels c.put_below-in-Placed.new.self later i ++ half_levels half later i in
           let sooner = prefix_trans q r later c.put_below-in-Placed.ensures.grown.0 pre in
           subst (λ y. ArePut (child_levels c.args.below y later) new) (sym e)
-          (put_as (seen_levels c.in_ok-node-in-Placed.node.value later) new
-          (placed_levels later c.args.below (stamp_of c.in-Placed.at)) new
-          (λ i. sym (c.in_ok-node-in-Placed.ensures.levels later sooner i)) (λ i. refl)
+          (put_copied (placed_levels later c.args.below (stamp_of c.in-Placed.at))
+          (seen_levels c.in_ok-node-in-Placed.node.value later) new
+          (c.in_ok-node-in-Placed.ensures.levels later sooner)
           (subst (λ (s : Seen). HalvesPut r s c.put_below-in-Placed.new.self half)
           c.deref_mut-in-Placed.ensures.value c.in_ok-answer-in-Placed.ensures.levels later pre)),
     )
@@ -747,7 +753,7 @@ OwnNode::put-returns-in-Inner-clause-err g t c =
       pieces = body_pieces depth c.self.inside.keys.texts b;
       height = body_height b;
       fresh = body_fresh b;
-      marks = body_marks depth (length c.self.inside.keys.texts) b;
+      marks = body_marks depth c.self.inside.keys.texts b;
     } in
     on_err c.put_inner.result c.put_inner.ensures.err
     (λ e. inner_same depth c.put_inner.new.keys.texts c.self.inside.keys.texts c.put_inner.new.kids.items
@@ -811,12 +817,12 @@ pub OwnNode::put-returns-in-Leaf-clause-levels : goal.OwnNode::put-returns-in-Le
 OwnNode::put-returns-in-Leaf-clause-levels g t c =
     let keys = c.self.inside.keys.texts in
     let texts = c.put_leaf.new.keys.texts in
-    let was = ap (body_marks c.self.inside.depth (length keys)) (sym c.in-Leaf.is) ∙ ap (λ (s : Seen). s.marks)
+    let was = ap (body_marks c.self.inside.depth keys) (sym c.in-Leaf.is) ∙ ap (λ (s : Seen). s.marks)
     c.self.view_is in
-    if_ok_both c.put_leaf.result c.put_leaf.ensures.marks c.put_leaf.ensures.entries (λ half nine kept later pre.
+    if_ok_both c.put_leaf.result c.put_leaf.ensures.keys c.put_leaf.ensures.entries (λ half put kept later pre.
     subst (λ ms. ArePut (levels_of later ms)
-    (λ i. levels_of later (own 0 (length texts) ∷ []) i ++ half_levels half later i)) was
-    (leaf_put_levels later (length keys) (length texts) half kept nine))
+    (λ i. levels_of later (own 0 (leaf_keys texts) ∷ []) i ++ half_levels half later i)) was
+    (leaf_put_levels later keys texts half kept put))
 
 pub OwnNode::put-returns-in-Inner-clause-levels : goal.OwnNode::put-returns-in-Inner-clause-levels
 OwnNode::put-returns-in-Inner-clause-levels g t c =
@@ -825,16 +831,18 @@ OwnNode::put-returns-in-Inner-clause-levels g t c =
     let kids = c.in-Inner.kids.items in
     let texts = c.put_inner.new.keys.texts in
     let now = c.put_inner.new.kids.items in
-    let was = ap (body_marks depth (length keys)) (sym c.in-Inner.is) ∙ ap (λ (s : Seen). s.marks) c.self.view_is in
+    let was = ap (body_marks depth keys) (sym c.in-Inner.is) ∙ ap (λ (s : Seen). s.marks) c.self.view_is in
     if_ok_so c.put_inner.result c.put_inner.ensures.levels (λ half put later pre.
     subst (λ ms. ArePut (levels_of later ms)
-    (λ i. levels_of later (own 0 (length texts) ∷ sunk (kids_marks (depth - 1) now)) i ++ half_levels half later i)) was
-    (put_as (topped (length keys) (kids_levels (depth - 1) kids later))
-    (λ i. topped (length texts) (kids_levels (depth - 1) now later) i ++ half_levels half later i)
-    (levels_of later (own 0 (length keys) ∷ sunk (kids_marks (depth - 1) kids)))
-    (λ i. levels_of later (own 0 (length texts) ∷ sunk (kids_marks (depth - 1) now)) i ++ half_levels half later i)
-    (inner-levels later (depth - 1) (length keys) kids)
-    (λ i. ap (λ w. w ++ half_levels half later i) (inner-levels later (depth - 1) (length texts) now i)) (put later pre)))
+    (λ i. levels_of later (own 0 (parting texts) ∷ sunk (kids_marks (depth - 1) now)) i ++ half_levels half later i))
+    was
+    (put_as (topped (None, parting keys) (kids_levels (depth - 1) kids later))
+    (λ i. topped (None, parting texts) (kids_levels (depth - 1) now later) i ++ half_levels half later i)
+    (levels_of later (own 0 (parting keys) ∷ sunk (kids_marks (depth - 1) kids)))
+    (λ i. levels_of later (own 0 (parting texts) ∷ sunk (kids_marks (depth - 1) now)) i ++ half_levels half later i)
+    (inner-levels later (depth - 1) (parting keys) kids)
+    (λ i. ap (λ w. w ++ half_levels half later i) (inner-levels later (depth - 1) (parting texts) now i))
+    (put later pre)))
 
 pub OwnNode::put_below-returns-clause-levels : goal.OwnNode::put_below-returns-clause-levels
 OwnNode::put_below-returns-clause-levels g t c =

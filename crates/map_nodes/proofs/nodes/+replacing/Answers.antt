@@ -14,7 +14,7 @@ use Rattle.map_nodes.specs.Nodes.{AllKids, body_pieces, body_fresh, body_height,
 use Rattle.map_nodes.specs.Nodes.{child_levels}
 use Rattle.map_nodes.specs.Inside.Nodes.{Kid, child_rows}
 use Rattle.map_nodes.specs.Inside.Replacing.{CanReplace}
-use Rattle.map_nodes.specs.Levels.{seen_levels}
+use Rattle.map_nodes.specs.Levels.{placed_levels, seen_levels, AreChanged, IsRenewed, RenewedLater}
 use Rattle.map_chunks.specs.Shown.{Seen, IsTree, rows_or, shown}
 use Rattle.map_nodes.specs.declared.nodes.Body.{Body}
 use Rattle.map_nodes.specs.declared.nodes.OwnChild.{OwnChild}
@@ -22,6 +22,7 @@ use Rattle.map_nodes.specs.declared.nodes.OwnChild.TheVariants.{Placed, Own}
 use Rattle.map_chunks.proofs.AnswerLemmas.{both_ok, on_ok, on_err, either_way}
 use Rattle.map_nodes.proofs.CountLemmas.{leaf_counts, inner_counts}
 use Rattle.map_nodes.proofs.KeptLevels.{inner_kept-levels, leaf_kept-levels}
+use Rattle.map_nodes.proofs.LevelLemmas.{changed_copy}
 use Rattle.map_chunks.proofs.KeptLemmas.{grows_on, kept-none, kept-grown, kept-trans, kept-from_none}
 use Rattle.map_nodes.proofs.NamedLemmas.{kept-child, own-places, places-kids, places-rows}
 use Rattle.map_nodes.proofs.NodeLemmas.{child_at, inner_same, written_back}
@@ -288,7 +289,7 @@ OwnNode::replace-returns-in-Inner-clause-err g t c =
       pieces = body_pieces depth keys b;
       height = body_height b;
       fresh = body_fresh b;
-      marks = body_marks depth (length keys) b;
+      marks = body_marks depth keys b;
     } in
     on_err c.replace_child.result c.replace_child.ensures.err
     (λ e. inner_same depth keys keys c.replace_child.new.kids.items c.in-Inner.kids.items refl e ∙ ap seen
@@ -428,11 +429,13 @@ replacing::replace_child-returns-in-Own-clause-levels g t c x h =
     let n : Kid = with_value c.in-Own.node c.replace.new.self in
     let e : x ≡ Own c.in-Own.node = indexed_child kids c.args.place c.index_mut.result.now x c.requires.within
     c.index_mut.ensures.value h ∙ c.in-Own.is in
+    let q = g.C.Chunks.contents c.replace.new.chunks in
+    let new = c.replace.new.self in
     on_ok c.replace.result c.replace.ensures.levels (λ s. (
       n,
       refl,
-      λ later pre level. s later pre level ∙ ap (λ (m : Seen). seen_levels m later level) v
-          ∙ ap (λ y. child_levels c.args.below y later level) (sym e),
+      subst (λ y. RenewedLater q (child_levels c.args.below y) (seen_levels new)) (sym e)
+          (subst (λ (m : Seen). RenewedLater q (seen_levels m) (seen_levels new)) v s),
     ))
 
 pub replacing::replace_child-returns-in-Placed-clause-levels :
@@ -440,20 +443,24 @@ pub replacing::replace_child-returns-in-Placed-clause-levels :
 replacing::replace_child-returns-in-Placed-clause-levels g t c x h =
     let kids = c.args.kids.now.items in
     let n = c.in_ok-node-in-Placed.node in
+    let q = g.C.Chunks.contents c.replaced_copy.new.chunks in
     let e : x ≡ Placed c.in-Placed.at = indexed_child kids c.args.place c.index_mut.result.now x c.requires.within
     c.index_mut.ensures.value h ∙ c.in-Placed.is in (
       n,
       set-set kids c.args.place (Placed c.in-Placed.at) (Own n),
-      λ later pre level. c.in_ok-node-in-Placed.ensures.levels later pre level
-          ∙ ap (λ y. child_levels c.args.below y later level) (sym e),
+      subst (λ y. RenewedLater q (child_levels c.args.below y) (seen_levels n.value)) (sym e)
+          c.in_ok-node-in-Placed.ensures.levels,
     )
 
 pub replacing::replaced_copy-returns-clause-levels : goal.replacing::replaced_copy-returns-clause-levels
-replacing::replaced_copy-returns-clause-levels g t c later pre level =
-    c.in_ok-replace.ensures.levels later pre level
-    ∙ ap (λ (s : Seen). seen_levels s later level) c.deref_mut.ensures.value
-    ∙ c.in_ok-node.ensures.levels later
-    (prefix_trans _ _ later c.replace.ensures.grown.0 pre) level
+replacing::replaced_copy-returns-clause-levels g t c later pre =
+    let node = c.in_ok-node.node.value in
+    let new = seen_levels c.replace.new.self later in
+    changed_copy IsRenewed (λ keys. refl) (placed_levels later c.args.depth (stamp_of c.args.at))
+    (seen_levels node later) new
+    (c.in_ok-node.ensures.levels later (prefix_trans _ _ later c.replace.ensures.grown.0 pre))
+    (λ level. subst (λ (s : Seen). AreChanged IsRenewed (seen_levels s later level) (new level))
+    c.deref_mut.ensures.value (c.in_ok-replace.ensures.levels later pre level))
 
 pub OwnNode::replace-returns-in_default-clause-levels : goal.OwnNode::replace-returns-in_default-clause-levels
 OwnNode::replace-returns-in_default-clause-levels g t c =

@@ -10,7 +10,7 @@ ghost use Rattle.map_chunks.specs.Search.{IsAbsent};
 ghost use Rattle.map_nodes.specs.Inside.Halves.{half_pieces, IsHalf, AreNinth};
 ghost use Rattle.map_nodes.specs.Inside.Counts.{half_fresh, HasKept};
 ghost use Rattle.map_nodes.specs.Inside.Ready.{HasRoom};
-ghost use Rattle.map_nodes.specs.Inside.Puts.{IsLeafHalf};
+ghost use Rattle.map_nodes.specs.Inside.Puts.{IsLeafPut};
 ghost use Rattle.map_nodes.specs.Inside.Unput.{IsUnput};
 
 use super::super::homes::housed;
@@ -69,7 +69,7 @@ pub(crate) fn put_leaf(
         × (0 < length keys.new.texts)) }
     ensures fresh { IfOk result (λ half. half_fresh half ≤ 1) }
     ensures entries { IfOk result (HasKept (length keys.old.texts) (length keys.new.texts)) }
-    ensures marks { IfOk result IsLeafHalf }
+    ensures keys { IfOk result (IsLeafPut keys.old.texts keys.new.texts) }
     ensures whole { put.entry.may_split ≡ false → IfOk result (λ half. half ≡ None) }
     ensures err { OnErr result ((keys.new.texts ≡ keys.old.texts) × (values.new.items ≡ values.old.items)) }
     ensures unput { IfErr result (IsUnput (λ _. ⊥) put.entry.may_split) }
@@ -98,7 +98,7 @@ fn put_row(
         × (0 < length keys.new.texts)) }
     ensures fresh { IfOk result (λ half. half_fresh half ≤ 1) }
     ensures entries { IfOk result (HasKept (length keys.old.texts) (length keys.new.texts)) }
-    ensures marks { IfOk result IsLeafHalf }
+    ensures keys { IfOk result (IsLeafPut keys.old.texts keys.new.texts) }
     ensures err { OnErr result ((keys.new.texts ≡ keys.old.texts) × (values.new.items ≡ values.old.items)) }
 {
     match search(keys.as_slice(), put.key.as_str()) {
@@ -129,7 +129,7 @@ fn insert_row(
         × (0 < length keys.new.texts)) }
     ensures fresh { IfOk result (λ half. half_fresh half ≤ 1) }
     ensures entries { IfOk result (HasKept (length keys.old.texts) (length keys.new.texts)) }
-    ensures marks { IfOk result IsLeafHalf }
+    ensures keys { IfOk result (IsLeafPut keys.old.texts keys.new.texts) }
     ensures err { OnErr result ((keys.new.texts ≡ keys.old.texts) × (values.new.items ≡ values.old.items)) }
 {
     let room = take_half_room(put.alloc, keys.as_slice(), place, put.key, put.copies)?;
@@ -159,7 +159,7 @@ fn settle_row(
         × (0 < length keys.new.texts) }
     ensures fresh { half_fresh result ≤ 1 }
     ensures entries { HasKept (length keys.old.texts) (length keys.new.texts) result }
-    ensures marks { IsLeafHalf result }
+    ensures keys { IsLeafPut keys.old.texts keys.new.texts result }
 {
     let SplitBuffers {
         firsts,

@@ -2,7 +2,7 @@
 ghost use Rattle.std.specs.Prelude.{◌≡◌, ℕ, ◌<◌, ◌≤◌, ◌+◌, ◌-◌, length, Some, None, IsSome, vec_items, vec_len};
 ghost use Rattle.std.specs.Prelude.{vec_capacity};
 ghost use Rattle.group_history.specs.Map.{Bytes};
-ghost use Rattle.group_history.specs.Rows.{paired, values_of};
+ghost use Rattle.group_history.specs.Rows.{keys_of, paired, values_of};
 ghost use Rattle.map_nodes.specs.Nodes.{kids_fresh};
 ghost use Rattle.map_nodes.specs.Inside.Halves.{IsHalf, AreNinth, with_half, lowered, Finished};
 ghost use Rattle.map_nodes.specs.Inside.Counts.{half_fresh, HasKept};
@@ -49,7 +49,8 @@ pub(crate) fn finish(
         → AreNinth copies keys.old.texts (place + 1) key room.firsts.items) → IsHalf copies depth result }
     ensures fresh { kids_fresh kids.new.items + half_fresh result ≤ kids_fresh kids.old.items + half_fresh half + 1 }
     ensures entries { HasKept (length keys.old.texts) (length keys.new.texts) result }
-    ensures parted { IsHalved depth kids.new.items result
+    ensures parted { IsHalved depth keys.new.texts kids.new.items result
+        (keys_of (with_half place half (paired keys.old.texts kids.old.items)))
         (values_of (with_half place half (paired keys.old.texts kids.old.items))) }
     ensures whole { half ≡ None → result ≡ None }
 {

@@ -61,8 +61,8 @@ fn put_inner<C: Chunks>(
         < body_fresh (body.Inner kids.old) + 2 * depth) }
     ensures entries { IfOk result (HasKept (length keys.old.texts) (length keys.new.texts)) }
     ensures levels { IfOk result (λ half. (later : Contents) → IsPrefix (C.contents chunks.new) later
-        → ArePut (body_levels depth (length keys.old.texts) (body.Inner kids.old) later)
-        (λ level. body_levels depth (length keys.new.texts) (body.Inner kids.new) later level
+        → ArePut (body_levels depth keys.old.texts (body.Inner kids.old) later)
+        (λ level. body_levels depth keys.new.texts (body.Inner kids.new) later level
         ++ half_levels half later level)) }
     ensures filled { OnOk result (0 < length (body_pieces depth keys.new.texts (body.Inner kids.new))) }
     ensures whole { put.entry.may_split ≡ false → IfOk result (λ half. half ≡ None) }

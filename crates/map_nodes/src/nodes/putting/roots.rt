@@ -5,8 +5,9 @@ ghost use Rattle.std.specs.Ordering.{nat_cmp};
 ghost use Rattle.std.specs.Cmp.Lexicographic.{slice_cmp};
 ghost use Rattle.std.specs.FinMap as finite;
 ghost use Rattle.group_history.specs.declared.mutators.Stop.TheVariants.{NoMemory};
+ghost use Rattle.group_history.specs.Map.{Bytes};
 ghost use Rattle.map_chunks.specs.Places.{Grows, AreAll, AreKept, places_of};
-ghost use Rattle.map_chunks.specs.Shown.{own, shown, IsTree, rows_or};
+ghost use Rattle.map_chunks.specs.Shown.{own, child_keys, shown, IsTree, rows_or};
 ghost use Rattle.map_nodes.specs.Nodes.{HeadIs, sunk};
 ghost use Rattle.map_nodes.specs.Inside.Halves.{half_pieces, IsHalf, least, AreInOrder, HeadsBoth};
 ghost use Rattle.map_nodes.specs.Inside.Counts.{half_fresh, HasKept};
@@ -72,7 +73,8 @@ fn root_above(lower: Box<OwnNode>, half: Half, first: Text, room: SpareChunk<Own
     ensures depth { result.depth ≡ lower.value.depth + 1 }
     ensures fresh { result.fresh ≡ lower.value.fresh + half.node.value.fresh + 1 }
     ensures entries { result.entries ≡ 2 }
-    ensures marks { result.marks ≡ own 0 2 ∷ sunk (lower.value.marks ++ half.node.value.marks) }
+    ensures marks { (key : Bytes) × (result.marks
+        ≡ own 0 (child_keys (key ∷ [])) ∷ sunk (lower.value.marks ++ half.node.value.marks)) }
 {
     let depth = lower.depth() + 1;
     let Half { mut firsts, node } = half;
@@ -224,7 +226,8 @@ impl OwnNode {
         ensures depth { self.new.depth ≡ self.old.depth + 1 }
         ensures fresh { self.new.fresh ≡ self.old.fresh + half.node.value.fresh + 1 }
         ensures entries { self.new.entries ≡ 2 }
-        ensures marks { self.new.marks ≡ own 0 2 ∷ sunk (self.old.marks ++ half.node.value.marks) }
+        ensures marks { (key : Bytes) × (self.new.marks
+            ≡ own 0 (child_keys (key ∷ [])) ∷ sunk (self.old.marks ++ half.node.value.marks)) }
     {
         let Above { first, spare, home } = above;
         let lower = housed(home, mem::replace(self, OwnNode::empty(alloc)));

@@ -13,7 +13,7 @@ ghost use Rattle.map_chunks.specs.Places.{with_nodes, places_of, AddsNamed};
 ghost use Rattle.map_chunks.specs.Shown.{shown};
 ghost use Rattle.map_chunks.specs.Wide.{IsWideAt};
 ghost use Rattle.map_nodes.specs.Inside.Freezing.{IsWritten};
-ghost use Rattle.map_nodes.specs.Levels.{placed_levels, seen_levels, StayLater};
+ghost use Rattle.map_nodes.specs.Levels.{placed_levels, seen_levels, NamedLater};
 ghost use Rattle.map_nodes.specs.Trails.{step_names, trail_seen, IsTrail};
 
 use super::{End, Step, Trail};
@@ -82,7 +82,7 @@ impl Trail {
             → IfOk result (λ root. rows_at (with_nodes contents draft.new.nodes) self.depth
             (stamp_of root) ≡ Some rows) }
         ensures levels { (contents : Contents) → length contents ≡ draft.old.first
-            → IfOk result (λ root. StayLater (with_nodes contents draft.new.nodes) (seen_levels self)
+            → IfOk result (λ root. NamedLater draft.old.first (with_nodes contents draft.new.nodes) (seen_levels self)
             (λ p. placed_levels p self.depth (stamp_of root))) }
         ensures wide { (contents : Contents) → length contents ≡ draft.old.first → 1 < self.entries
             → IfOk result (λ root. IsWideAt (with_nodes contents draft.new.nodes) (stamp_of root)) }

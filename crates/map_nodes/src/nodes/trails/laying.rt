@@ -12,7 +12,7 @@ ghost use Rattle.group_history.specs.declared.mutators.Stop.TheVariants.{NoMemor
 ghost use Rattle.map_chunks.specs.Places.{Grows, AreKept, places_of};
 ghost use Rattle.map_chunks.specs.Shown.{shown, rows_or};
 ghost use Rattle.map_chunks.specs.Wide.{IsWideAt, IsWideChunk};
-ghost use Rattle.map_nodes.specs.Levels.{placed_levels, seen_levels, StayLater};
+ghost use Rattle.map_nodes.specs.Levels.{placed_levels, seen_levels, RenewedLater};
 ghost use Rattle.map_nodes.specs.Inside.Laying.{IsPutEnd, IsCopiedStep, IsStage, IsStageAt, IsLaidBehind, HasKey};
 ghost use Rattle.map_nodes.specs.Inside.Replacing.{CanReplace};
 ghost use Rattle.map_nodes.specs.declared.nodes.OwnChild.TheVariants as childs;
@@ -147,7 +147,7 @@ impl Trail {
             ≡ Some (finite.put (slice_cmp nat_cmp) key.now value.now
             (rows_or (rows_at (C.contents chunks.old) depth (stamp_of at))))) }
         ensures few { IfOk result (λ t. t.fresh ≤ depth) }
-        ensures levels { IfOk result (λ t. StayLater (C.contents chunks.new)
+        ensures levels { IfOk result (λ t. RenewedLater (C.contents chunks.new)
             (λ p. placed_levels p depth (stamp_of at)) (seen_levels t)) }
         ensures places { IfOk result (λ t. AreKept (C.places chunks.new) [] (places_of t.pieces)) }
         ensures wide { IsWideAt (C.contents chunks.old) (stamp_of at) → IfOk result IsWideChunk }

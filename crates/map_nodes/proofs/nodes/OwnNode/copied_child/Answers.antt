@@ -2,7 +2,7 @@ use Rattle.std.proofs.Common.{sym, subst, []}
 use Rattle.group_history.specs.Refs.{stamp_of}
 use Rattle.map_chunks.specs.Places.{AreKept, places_of}
 use Rattle.map_chunks.specs.Shown.{Seen}
-use Rattle.map_nodes.specs.Levels.{placed_levels, seen_levels, StayLater}
+use Rattle.map_nodes.specs.Levels.{placed_levels, seen_levels, CopiedLater}
 use Rattle.map_nodes.proofs.nodes.OwnNode.copied_child.Goals as goal
 
 pub returns-clause-places : goal.returns-clause-places
@@ -12,6 +12,6 @@ returns-clause-places g c =
 
 pub returns-clause-levels : goal.returns-clause-levels
 returns-clause-levels g c =
-    subst (λ (s : Seen). StayLater (g.C.Chunks.contents c.copied.new.chunks)
+    subst (λ (s : Seen). CopiedLater (g.C.Chunks.contents c.copied.new.chunks)
     (λ p. placed_levels p c.args.depth (stamp_of c.args.at)) (seen_levels s))
     (sym c.in_ok-boxed.ensures) c.in_ok-node.ensures.levels

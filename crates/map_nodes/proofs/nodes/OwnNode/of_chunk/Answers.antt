@@ -1,8 +1,9 @@
 use Rattle.std.proofs.Common.{◌≡◌, ◌∙◌, ap, sym, subst, refl, arith, ◌-◌, length, [], ◌∷◌}
 use Rattle.group_history.specs.Rows.{Rows, keys_of, values_of, paired, AreKeys}
 use Rattle.group_history.proofs.Pairs.{paired-parts}
-use Rattle.map_chunks.specs.Shown.{own}
+use Rattle.map_chunks.specs.Shown.{own, leaf_keys}
 use Rattle.map_nodes.specs.Inside.Copies.{MayBeDeep, chunk_pieces, chunk_entries, chunk_marks}
+use Rattle.map_nodes.specs.Levels.{parting}
 use Rattle.map_nodes.specs.Nodes.{row_pieces, kids_fresh, kids_marks, sunk}
 use Rattle.map_nodes.proofs.CopyLemmas.{all_as_placed, copied_inner, copied_pieces, placed_fresh}
 use Rattle.map_nodes.proofs.KeptLevels.{placed-values}
@@ -36,7 +37,7 @@ returns-in_ok-copied_values-in-Leaf c =
           ∙ ap row_pieces (paired-parts rows) ∙ ap (chunk_pieces c.args.depth) (sym c.in-Leaf.is),
       refl,
       ap length texts ∙ length-keys_of rows ∙ ap chunk_entries (sym c.in-Leaf.is),
-      ap (λ n. own 0 n ∷ []) (ap length texts ∙ length-keys_of rows) ∙ ap (chunk_marks c.args.depth) (sym c.in-Leaf.is),
+      ap (λ w. own 0 (leaf_keys w) ∷ []) texts ∙ ap (chunk_marks c.args.depth) (sym c.in-Leaf.is),
     )
 
 pub returns-in_ok-placed_children-in-Inner : goal.returns-in_ok-placed_children-in-Inner
@@ -54,8 +55,9 @@ returns-in_ok-placed_children-in-Inner c =
           (sym c.in-Inner.is),
       omega (arith, placed_fresh (values_of kids), ap kids_fresh items),
       ap length texts ∙ length-keys_of kids ∙ ap chunk_entries (sym c.in-Inner.is),
-      ap (λ n. own 0 n ∷ sunk (kids_marks (c.args.depth - 1) c.in_ok-placed_children-in-Inner.field-0.items))
-          (ap length texts ∙ length-keys_of kids)
-          ∙ ap (λ w. own 0 (length kids) ∷ sunk (kids_marks (c.args.depth - 1) w)) (items ∙ placed-values kids)
+      ap (λ w. own 0 (parting w) ∷ sunk (kids_marks (c.args.depth - 1) c.in_ok-placed_children-in-Inner.field-0.items))
+          texts
+          ∙ ap (λ w. own 0 (parting (keys_of kids)) ∷ sunk (kids_marks (c.args.depth - 1) w))
+          (items ∙ placed-values kids)
           ∙ ap (chunk_marks c.args.depth) (sym c.in-Inner.is),
     )

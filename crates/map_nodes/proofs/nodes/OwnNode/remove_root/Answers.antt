@@ -5,7 +5,7 @@ use Rattle.map_nodes.specs.Inside.Freezing.{kids_places}
 use Rattle.map_nodes.specs.Nodes.{body_pieces, row_pieces, IsNode}
 use Rattle.map_nodes.specs.Removing.{root_left, root_rows, without}
 use Rattle.map_nodes.specs.Inside.Removing.{left_places}
-use Rattle.map_chunks.specs.Shown.{own, Seen, shown, rows_or, IsTree}
+use Rattle.map_chunks.specs.Shown.{own, leaf_keys, Seen, shown, rows_or, IsTree}
 use Rattle.map_nodes.specs.declared.nodes.Body.TheVariants.{Inner}
 use Rattle.map_chunks.proofs.AnswerLemmas.{if_ok_so}
 use Rattle.map_chunks.proofs.KeptLemmas.{kept-none}
@@ -26,7 +26,7 @@ returns-in-Leaf-clause-done g c =
       pieces = row_pieces rows;
       height = 1;
       fresh = 1;
-      marks = own 0 (length keys) ∷ [];
+      marks = own 0 (leaf_keys keys) ∷ [];
     } in
     if_ok_so c.remove_in_root.result c.remove_in_root.ensures.rows (λ root left.
     ap (root_rows p seen) left.0 ∙ ap (λ w. shown p (row_pieces w)) left.1 ∙ shown-rows p
@@ -47,7 +47,7 @@ returns-in-Leaf-clause-places g c =
       pieces = row_pieces rows;
       height = 1;
       fresh = 1;
-      marks = own 0 (length keys) ∷ [];
+      marks = own 0 (leaf_keys keys) ∷ [];
     } in
     if_ok_so c.remove_in_root.result c.remove_in_root.ensures.rows (λ root left.
     subst (λ r. AreKept at_p old (root_left seen r)) (sym left.0)

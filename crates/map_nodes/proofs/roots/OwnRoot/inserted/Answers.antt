@@ -5,7 +5,7 @@ use Rattle.group_history.proofs.Lists.{prefix_trans}
 use Rattle.map_chunks.specs.Shown.{Seen}
 use Rattle.map_nodes.specs.Levels.{placed_levels, seen_levels, ArePutIn}
 use Rattle.map_nodes.proofs.LayLemmas.{wide_later}
-use Rattle.map_nodes.proofs.PutLevels.{put_in_as}
+use Rattle.map_nodes.proofs.PutLevels.{put_in_copied}
 use Rattle.map_nodes.proofs.roots.OwnRoot.inserted.Goals as goal
 
 pub returns-clause-wide : goal.returns-clause-wide
@@ -22,6 +22,6 @@ returns-clause-levels g c later pre =
     let new = c.write.new.self in
     subst (λ (s : Seen). ArePutIn c.args.depth s.depth was (seen_levels s later)) (sym c.new.ensures)
     (subst (λ d. ArePutIn d new.depth was (seen_levels new later)) c.in_ok-node.ensures.depth
-    (put_in_as c.in_ok-node.node.depth new.depth (seen_levels c.in_ok-node.node later) (seen_levels new later) was
-    (λ i. sym (c.in_ok-node.ensures.levels later (prefix_trans q r later c.write.ensures.grown.0 pre) i))
+    (put_in_copied c.in_ok-node.node.depth new.depth (seen_levels c.in_ok-node.node later) (seen_levels new later) was
+    (c.in_ok-node.ensures.levels later (prefix_trans q r later c.write.ensures.grown.0 pre))
     (c.in_ok-write.ensures.levels later pre)))

@@ -1,6 +1,6 @@
-use Rattle.std.proofs.Common.{ap, ◌∙◌, Some, inl}
+use Rattle.std.proofs.Common.{[], ap, ◌∙◌, Some, inl}
 use Rattle.std.specs.Prelude.{option_and_then}
-use Rattle.map_chunks.specs.Shown.{shown, map_of_rows}
+use Rattle.map_chunks.specs.Shown.{leaf_keys, shown, map_of_rows}
 use Rattle.map_chunks.proofs.TreeLemmas.{map_of_nothing}
 use Rattle.map_nodes.specs.Levels.{levels_of}
 use Rattle.map_nodes.proofs.LevelLemmas.{leaf-levels}
@@ -18,4 +18,4 @@ returns-clause-wide c contents = inl c.empty.ensures.depth
 
 pub returns-clause-levels : goal.returns-clause-levels
 returns-clause-levels c contents level = ap (λ ms. levels_of contents ms level) c.empty.ensures.marks
-    ∙ leaf-levels contents 0 level
+    ∙ leaf-levels contents (leaf_keys []) level

@@ -2,8 +2,9 @@ use Rattle.std.proofs.Common.{◌≡◌, ◌+◌, ◌<◌, sym, ap, subst, ◌�
 use Rattle.group_history.specs.Refs.{stamps}
 use Rattle.map_chunks.specs.Drafts.{AreBelow}
 use Rattle.map_chunks.specs.Places.{with_nodes, AddsNamed}
-use Rattle.map_nodes.proofs.FreezeLevels.{map_level}
+use Rattle.map_nodes.proofs.FreezeLevels.{map_level, named_all}
 use Rattle.map_nodes.proofs.PutLevels.{if_ok_both}
+use Rattle.map_nodes.specs.Levels.{seen_levels, AreNamedNow}
 use Rattle.map_tree.proofs.RootCounts.{placed_as}
 use Rattle.map_tree.specs.declared.tree.Root.TheVariants.{Placed}
 use Rattle.map_tree.specs.Trees.{root_places, root_levels, tree_places, root_map, root_fresh, placed_root, IsWide}
@@ -84,15 +85,19 @@ frozen-requires c = record {
 
 pub returns-in-Placed-clause-levels : goal.returns-in-Placed-clause-levels
 returns-in-Placed-clause-levels c contents m l h later pre level =
-    ap (λ r. root_levels r later level) (sym c.in-Placed.is)
+    let first = c.args.draft.now.first in
+    let at = root_levels (Placed c.in-Placed.at) later level in
+    subst (λ r. AreNamedNow first (root_levels r later level) at) (sym c.in-Placed.is) (named_all first at)
 
 pub returns-in-Own-clause-levels : goal.returns-in-Own-clause-levels
 returns-in-Own-clause-levels c contents m l h =
+    let first = c.args.draft.now.first in
     let p = with_nodes contents c.args.draft.now.nodes in
     let q = with_nodes contents c.frozen.new.draft.nodes in
     let n = c.in-Own.node in
     if_ok_both c.frozen.result (map_level c.frozen.result p q n m (ap (root_map p) (sym c.in-Own.is) ∙ h)
     (λ rows e. c.frozen.ensures.spelled contents rows l e)) (c.frozen.ensures.levels contents l)
-    (λ root deep same later pre level.
-    placed_as q later (Placed root) root n.depth refl deep pre level ∙ same later pre level
-    ∙ ap (λ r. root_levels r later level) (sym c.in-Own.is))
+    (λ root deep named later pre level.
+    subst (λ r. AreNamedNow first (root_levels r later level) (root_levels (Placed root) later level))
+    (sym c.in-Own.is) (subst (AreNamedNow first (seen_levels n later level))
+    (sym (placed_as q later (Placed root) root n.depth refl deep pre level)) (named later pre level)))

@@ -1,4 +1,4 @@
-use Rattle.std.proofs.Common.{◌∙◌, ap, sym, subst, Some, refl, arith}
+use Rattle.std.proofs.Common.{◌∙◌, ap, sym, subst, Some, inl, refl, arith}
 use Rattle.std.specs.FinMap as finite
 use Rattle.map_nodes.specs.Levels.{PutLater}
 use Rattle.map_nodes.proofs.PutLevels.{put_same as as_before}
@@ -56,10 +56,10 @@ returns-clause-deep g c d t =
 pub returns-then-is_same-clause-levels : goal.returns-then-is_same-clause-levels
 returns-then-is_same-clause-levels g c d t =
     let now = tree_levels c.args.self.now in
-    (d, t, as_before (g.C.Chunks.contents c.args.chunks.now) d d now now refl (λ later pre level. refl))
+    (d, t, as_before (g.C.Chunks.contents c.args.chunks.now) d d now now refl (λ later pre level. inl refl))
 
 pub returns-then-is_same-clause-kept : goal.returns-then-is_same-clause-kept
-returns-then-is_same-clause-kept g c m h f later pre level = refl
+returns-then-is_same-clause-kept g c m h f later pre level = inl refl
 
 pub returns-clause-levels : goal.returns-clause-levels
 returns-clause-levels g c d t =

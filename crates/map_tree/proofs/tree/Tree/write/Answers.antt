@@ -4,7 +4,8 @@ use Rattle.std.specs.FinMap as finite
 use Rattle.map_chunks.specs.Places.{AreKept, places_of}
 use Rattle.group_history.specs.Refs.{stamp_of}
 use Rattle.group_history.proofs.Lists.{prefix_trans}
-use Rattle.map_nodes.specs.Levels.{placed_levels, seen_levels, PutLater, StayLater}
+use Rattle.map_nodes.specs.Levels.{placed_levels, seen_levels, IsRenewed, PutLater, RenewedLater}
+use Rattle.map_nodes.proofs.LevelLemmas.{changed_as}
 use Rattle.map_nodes.proofs.PutLevels.{put_in_as}
 use Rattle.map_tree.specs.Trees.{root_places, root_levels, tree_places, root_map, root_depth, root_fresh, tree_map}
 use Rattle.map_tree.specs.Trees.{IsWide}
@@ -127,8 +128,8 @@ returns-in-Own-clause-levels g c =
 pub returns-in-Own-clause-kept : goal.returns-in-Own-clause-kept
 returns-in-Own-clause-kept g c there =
     on_ok c.write.result (c.write.ensures.same there)
-    (λ n. subst (λ r. StayLater (g.C.Chunks.contents c.write.new.chunks) (root_levels r) (seen_levels c.write.new.self))
-    (sym c.in-Own.is) n)
+    (λ n. subst (λ r. RenewedLater (g.C.Chunks.contents c.write.new.chunks) (root_levels r)
+    (seen_levels c.write.new.self)) (sym c.in-Own.is) n)
 
 pub returns-in-Placed-clause-levels : goal.returns-in-Placed-clause-levels
 returns-in-Placed-clause-levels g c =
@@ -147,6 +148,9 @@ pub returns-in-Placed-clause-kept : goal.returns-in-Placed-clause-kept
 returns-in-Placed-clause-kept g c there later pre level =
     let p = g.C.Chunks.contents c.args.chunks.now in
     let q = g.C.Chunks.contents c.root_with.new.chunks in
-    c.in_ok-root-in-Placed.ensures.kept there later pre level ∙ sym
+    let old = placed_levels later c.args.way.depth (stamp_of c.in-Placed.at) level in
+    let new = root_levels c.in_ok-root-in-Placed.root later level in
+    changed_as IsRenewed old new (root_levels c.args.self.now.root later level) new
     (placed_as p later c.args.self.now.root c.in-Placed.at c.args.way.depth c.in-Placed.is c.requires.depth
-    (prefix_trans p q later c.root_with.ensures.grown.0 pre) level)
+    (prefix_trans p q later c.root_with.ensures.grown.0 pre) level) refl
+    (c.in_ok-root-in-Placed.ensures.kept there later pre level)

@@ -4,6 +4,7 @@ use Rattle.std.specs.FinMap.{put}
 use Rattle.group_history.specs.Rows.{AreKeys, paired}
 use Rattle.map_nodes.specs.Inside.Counts.{HasKept}
 use Rattle.map_nodes.specs.Inside.Halves.{AreNinth}
+use Rattle.map_nodes.specs.Inside.Puts.{IsLeafPut}
 use Rattle.map_nodes.specs.Inside.Ready.{HasRoom}
 use Rattle.map_nodes.specs.Nodes.{row_pieces}
 use Rattle.map_chunks.specs.Search.{IsAbsent}
@@ -47,3 +48,7 @@ returns-clause-half c =
     (c.as_slice.ensures ∙ sym c.make_room.ensures.keys)
     (subst (λ k. AreNinth c.args.put.copies c.as_slice.result.now c.args.place k c.in_ok-room.room.firsts.items)
     (sym c.in_ok-key.ensures.cases) c.in_ok-room.ensures.firsts))
+
+pub returns-clause-keys : goal.returns-clause-keys
+returns-clause-keys c = subst (λ ks. IsLeafPut ks c.settle_row.new.keys.texts c.settle_row.result)
+    c.make_room.ensures.keys c.settle_row.ensures.keys

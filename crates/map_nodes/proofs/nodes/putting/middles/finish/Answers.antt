@@ -12,8 +12,9 @@ use Rattle.map_nodes.proofs.CountLemmas.{entries_fresh, fresh-alone, fresh-halve
 use Rattle.map_nodes.proofs.CountLemmas.{kept_halves}
 use Rattle.map_nodes.proofs.KidLemmas.{finished_alone, kid_halves, putting, chosen_are}
 use Rattle.map_chunks.proofs.ListLemmas.{length-paired}
-use Rattle.map_nodes.proofs.PutLevels.{values-halves, values-pairs}
-use Rattle.group_history.proofs.Pairs.{values_of-paired}
+use Rattle.map_nodes.proofs.PutLevels.{keys-halves, keys-pairs, values-halves, values-pairs}
+use Rattle.map_nodes.specs.Levels.{parting}
+use Rattle.group_history.proofs.Pairs.{keys_of-paired, values_of-paired}
 use Rattle.map_nodes.proofs.nodes.putting.middles.finish.Goals as goal
 
 pub returns-in_default-clause-shape : goal.returns-in_default-clause-shape
@@ -178,8 +179,11 @@ pub returns-in_default-clause-parted : goal.returns-in_default-clause-parted
 returns-in_default-clause-parted c =
     let keys = c.args.keys.now.texts in
     let kids = c.args.kids.now.items in
-    sym (values_of-paired keys kids c.requires.fits.pairs)
-    ∙ ap (λ h. values_of (with_half c.args.place h (paired keys kids))) (sym c.in_default.is)
+    let e : paired keys kids ≡ with_half c.args.place c.args.half (paired keys kids) =
+    ap (λ h. with_half c.args.place h (paired keys kids)) (sym c.in_default.is) in (
+      sym (keys_of-paired keys kids c.requires.fits.pairs) ∙ ap keys_of e,
+      sym (values_of-paired keys kids c.requires.fits.pairs) ∙ ap values_of e,
+    )
 
 pub returns-in_default-insert_entry-clause-parted : goal.returns-in_default-insert_entry-clause-parted
 returns-in_default-insert_entry-clause-parted c =
@@ -196,8 +200,10 @@ returns-in_default-insert_entry-clause-parted c =
     let q : insert (paired keys kids) (c.args.place + 1) (c.in-Some-pop.first, Own c.in-Some.half.node)
     ≡ es = p.es_is ∙ back in
     let h = subst (λ (w : Kids). Parted w c.insert_entry.new.keys.texts c.insert_entry.new.entries.items None) q
-    c.in_default-insert_entry.ensures in
-    values-pairs es c.insert_entry.new.keys.texts c.insert_entry.new.entries.items h.0
+    c.in_default-insert_entry.ensures in (
+      keys-pairs es c.insert_entry.new.keys.texts c.insert_entry.new.entries.items h.0,
+      values-pairs es c.insert_entry.new.keys.texts c.insert_entry.new.entries.items h.0,
+    )
 
 pub returns-clause-parted : goal.returns-clause-parted
 returns-clause-parted c =
@@ -216,14 +222,17 @@ returns-clause-parted c =
     let h = subst (λ (w : Kids). Parted w c.insert_entry.new.keys.texts c.insert_entry.new.entries.items
     (Some (c.in-Some-insert_entry.upper_keys.texts, c.in-Some-insert_entry.upper.items))) q
     c.in-Some-insert_entry.ensures in
-    let k = kept_halves es c.insert_entry.new.keys.texts c.insert_entry.new.entries.items
-    c.in-Some-insert_entry.upper_keys.texts c.in-Some-insert_entry.upper.items (length keys) h
-    (sym (ap length back) ∙ p.whole) in (
-      c.in-Some-insert_entry.upper.items,
-      values-halves es c.insert_entry.new.keys.texts c.insert_entry.new.entries.items
-          c.in-Some-insert_entry.upper_keys.texts c.in-Some-insert_entry.upper.items h,
-      ap (λ (s : Seen). s.marks) c.housed.ensures
-          ∙ ap (λ n. own 0 n ∷ sunk (kids_marks (c.args.depth - 1) c.in-Some-insert_entry.upper.items)) k.2,
+    let k = keys-halves es c.insert_entry.new.keys.texts c.insert_entry.new.entries.items
+    c.in-Some-insert_entry.upper_keys.texts c.in-Some-insert_entry.upper.items h in (
+      k.0,
+      k.1,
+      (
+        c.in-Some-insert_entry.upper.items,
+        values-halves es c.insert_entry.new.keys.texts c.insert_entry.new.entries.items
+            c.in-Some-insert_entry.upper_keys.texts c.in-Some-insert_entry.upper.items h,
+        ap (λ (s : Seen). s.marks) c.housed.ensures
+            ∙ ap (λ w. own 0 (parting w) ∷ sunk (kids_marks (c.args.depth - 1) c.in-Some-insert_entry.upper.items)) k.2,
+      ),
     )
 
 pub returns-in_default-insert_entry-clause-entries : goal.returns-in_default-insert_entry-clause-entries
