@@ -48,7 +48,6 @@ mod scans;
 mod steps;
 mod text_map;
 mod texts;
-mod updating;
 
 pub use changes::{Change, Reply};
 pub use confirmed::ConfirmedIds;
@@ -69,4 +68,3 @@ pub use scans::{Scan, Start};
 pub use steps::{apply_patch, is_going_back, is_saying_nothing, keep_unconfirmed, overwrite};
 pub use text_map::TextMap;
 pub use texts::{SearchKey, Text};
-pub use updating::update;

@@ -1,11 +1,13 @@
 //! What a mutator is, and the view of a map that it reads and writes.
-ghost use Rattle.std.specs.Prelude.{◌≡◌, ◌⊎◌, List, IfOk, IfErr, OnOk, OnErr, is_some};
+ghost use Rattle.std.specs.Prelude.{◌≡◌, ◌⊎◌, List, Ok, Err, IfOk, IfErr, OnOk, OnErr, is_some};
 ghost use Rattle.std.specs.FinMap as finite;
 ghost use Rattle.group_history.specs.Map.{Entries};
 ghost use Rattle.group_history.specs.Meaning.{Meanings};
 ghost use Rattle.group_history.specs.Ran.{RunsAs};
 ghost use Rattle.group_history.specs.Scans.{rows_of};
 ghost use Rattle.group_history.specs.Stops.{MayStop, told_as};
+ghost use Rattle.group_history.specs.Updating.{UpdatesAs};
+ghost use Rattle.group_history.specs.declared.mutators.Update.{Update as Updates};
 ghost use Rattle.group_history.specs.declared.mutators.Stop.{Stop};
 ghost use Rattle.group_history.specs.declared.mutators.Stop.TheVariants.{NoMemory};
 
@@ -104,6 +106,20 @@ pub trait WriteView {
         ensures ok { OnOk result (contents self.new ≡ finite.remove (contents self.old) key.now) }
         ensures err { OnErr result (contents self.new ≡ contents self.old) }
         ensures stopped { IfErr result stops };
+
+    /// Looks at a key, and puts what the change makes of the value there (none where the key isn't there): a `get`, and
+    /// then a `put`. It answers `Done` where a value was to be put, and `Refused` where the change refuses. It stops
+    /// where the view or the change stops, and then the view is as it was.
+    fn update<F: FnOnce(Option<Json>) -> Result<Update, Stop>>(
+        &mut self,
+        key: &str,
+        change: F,
+    ) -> Result<Ran, Stop>
+        requires { F.IsAlwaysCallable change }
+        ensures ran { IfOk result (λ ran. (u : Updates) × F.post change (finite.get (contents self.old) key.now) (Ok u)
+            × UpdatesAs u key.now (contents self.old) ran (contents self.new)) }
+        ensures err { OnErr result (contents self.new ≡ contents self.old) }
+        ensures stopped { IfErr result (λ e. stops e ⊎ F.post change (finite.get (contents self.old) key.now) (Err e)) };
 }
 
 /// What an application's mutators mean. What runs none of them asks for this alone.

@@ -4,7 +4,7 @@ ghost use Rattle.group_history.specs.declared.mutators.Stop.TheVariants.{NoMemor
 
 use crate::json::Json;
 use crate::mutations::Mutation;
-use crate::mutators::{Mutators, Ran, Stop, WriteView};
+use crate::mutators::{Mutators, Ran, Stop, Update, WriteView};
 use crate::scans::Scan;
 use crate::text_map::TextMap;
 use crate::texts::Text;
@@ -68,5 +68,19 @@ impl WriteView for PlainView {
         let key = Text::new(self.alloc, key)?;
         self.map.remove(&key);
         Ok(())
+    }
+
+    fn update<F: FnOnce(Option<Json>) -> Result<Update, Stop>>(
+        &mut self,
+        key: &str,
+        change: F,
+    ) -> Result<Ran, Stop> {
+        match change(self.get(key)?)? {
+            Update::Put(value) => {
+                self.put(key, &value)?;
+                Ok(Ran::Done)
+            }
+            Update::Refuse(code) => Ok(Ran::Refused(code)),
+        }
     }
 }

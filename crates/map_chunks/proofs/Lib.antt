@@ -19,3 +19,4 @@ pub mod TakenLemmas
 pub mod Texts
 pub mod TreeLemmas
 pub mod DraftLemmas
+pub mod WayLemmas

@@ -1,5 +1,5 @@
 //! Looks at placed chunks, each of which is left again at once.
-ghost use Rattle.std.specs.Prelude.{◌≡◌, ◌<◌, ◌⊎◌, length, Some, IfOk, IfErr};
+ghost use Rattle.std.specs.Prelude.{◌≡◌, ◌<◌, ◌⊎◌, length, Some, IfOk, IfErr, option_copied};
 ghost use mathlib.Core.List.{IsPrefix};
 ghost use Rattle.map_chunks.specs.Writes.{is_there, is_the_same, standing};
 
@@ -27,6 +27,16 @@ pub enum Comparison {
 }
 
 impl Comparison {
+    /// How the value at a key, if there is one, stands to this one.
+    pub fn of(there: Option<&Json>, value: &Json) -> Comparison
+        ensures { result ≡ standing (option_copied there.entry) (Some value.now) }
+    {
+        match there {
+            None => Comparison::Absent,
+            Some(there) => compared(there, Some(value)),
+        }
+    }
+
     /// Whether the key is there.
     pub fn is_there(self) -> bool
         ensures { result ≡ is_there self }
@@ -65,31 +75,6 @@ pub struct Sought {
     pub standing: Comparison,
     /// How many chunks there are on the way: the depth of the tree.
     pub depth: u64,
-}
-
-/// What a look all the way down finds at a key.
-#[derive(Drop)]
-pub struct Lookup {
-    pub value: Option<Json>,
-    /// How many chunks there are on the way: the depth of the tree.
-    pub depth: u64,
-}
-
-impl Lookup {
-    /// How the value that was found stands to this one.
-    pub fn sought(&self, value: &Json) -> Sought
-        ensures standing { result.standing ≡ standing self.now.value (Some value.now) }
-        ensures depth { result.depth ≡ self.now.depth }
-    {
-        let standing = match &self.value {
-            None => Comparison::Absent,
-            Some(found) => compared(found, Some(value)),
-        };
-        Sought {
-            standing,
-            depth: self.depth,
-        }
-    }
 }
 
 /// What a look at one chunk on the way to the second key of its rows gives.

@@ -13,7 +13,7 @@ ghost use Rattle.map_chunks.specs.Inside.Steps.{Deepens, IsStep, IsStepAt, Leads
 ghost use Rattle.map_chunks.specs.Seeking.{chunk_depth};
 
 use crate::chunks::{Chunks, ShowsChunk};
-use crate::looks::{Descent, Lookup};
+use crate::looks::Descent;
 use crate::search::{place_for, value_for};
 use group_history::{Chunk, Json, Ref, SearchKey, Stop};
 use std::alloc::AllocError;
@@ -78,43 +78,6 @@ fn get_for<C: Chunks>(chunks: &mut C, at: Ref, key: &SearchKey<'_>) -> Result<Op
     match look(chunks, at, key)? {
         Descent::Found(value) => Ok(value),
         Descent::Below(child) => get_for(chunks, child, key),
-    }
-}
-
-/// The same, and how deep the chunk is.
-pub fn find_placed<C: Chunks>(chunks: &mut C, at: Ref, key: &str) -> Result<Lookup, Stop>
-    requires known { IsTree (chunk_rows (C.contents chunks.old) (stamp_of at)) }
-    requires place { C.places chunks.old at }
-    ensures grown { Grows C.contents C.places chunks.old chunks.new }
-    ensures value { IfOk result (λ found. found.value ≡ finite.find (slice_cmp nat_cmp) key.now
-        (rows_or (chunk_rows (C.contents chunks.old) (stamp_of at)))) }
-    ensures depth { IfOk result (λ found. chunk_depth (C.contents chunks.old) (stamp_of at) ≡ Some found.depth) }
-    ensures bound { IfOk result (λ found. found.depth ≤ stamp_of at + 1) }
-    ensures stopped { IfErr result (λ s. (s ≡ NoMemory) ⊎ C.stops s) }
-{
-    find_for(chunks, at, &SearchKey::new(key))
-}
-
-// The same, of a key whose first bytes were read already.
-fn find_for<C: Chunks>(chunks: &mut C, at: Ref, key: &SearchKey<'_>) -> Result<Lookup, Stop>
-    requires known { IsTree (chunk_rows (C.contents chunks.old) (stamp_of at)) }
-    requires place { C.places chunks.old at }
-    ensures grown { Grows C.contents C.places chunks.old chunks.new }
-    ensures value { IfOk result (λ found. found.value ≡ finite.find (slice_cmp nat_cmp) key.now
-        (rows_or (chunk_rows (C.contents chunks.old) (stamp_of at)))) }
-    ensures depth { IfOk result (λ found. chunk_depth (C.contents chunks.old) (stamp_of at) ≡ Some found.depth) }
-    ensures bound { IfOk result (λ found. found.depth ≤ stamp_of at + 1) }
-    ensures stopped { IfErr result (λ s. (s ≡ NoMemory) ⊎ C.stops s) }
-{
-    match look(chunks, at, key)? {
-        Descent::Found(value) => Ok(Lookup { value, depth: 1 }),
-        Descent::Below(child) => {
-            let below = find_for(chunks, child, key)?;
-            Ok(Lookup {
-                value: below.value,
-                depth: below.depth + 1,
-            })
-        }
     }
 }
 

@@ -42,7 +42,7 @@ use Rattle.map_nodes.proofs.TrailLemmas.{kid_of, length-placed, placed-places, s
 use Rattle.map_nodes.proofs.WideLemmas.{wide-copy, wide_grown}
 use Rattle.map_nodes.specs.Inside.Copies.{chunk_pieces}
 use Rattle.map_nodes.specs.Inside.Freezing.{child_places}
-use Rattle.map_nodes.specs.Inside.Laying.{HasKey, IsCopiedStep, IsLaid, IsLaidBehind, IsPutEnd, IsStage, IsStageAt}
+use Rattle.map_nodes.specs.Inside.Laying.{IsCopiedStep, IsLaid, IsPutEnd}
 use Rattle.map_nodes.specs.Inside.Replacing.{CanReplace}
 use Rattle.map_nodes.specs.Levels.{nothing, parting, placed_levels, seen_levels, topped}
 use Rattle.map_nodes.specs.Levels.{AreChanged, IsRenewed, Levels, RenewedLater}
@@ -51,7 +51,6 @@ use Rattle.map_nodes.specs.Trails.{placed_kids, step_kids, step_seen, trail_seen
 use Rattle.map_nodes.specs.declared.nodes.OwnChild.TheVariants.{Placed, Own}
 use Rattle.map_nodes.specs.declared.nodes.trails.End.{End}
 use Rattle.map_nodes.specs.declared.nodes.trails.Step.{Step}
-use Rattle.map_nodes.specs.declared.nodes.trails.laying.Stage.TheVariants.{On, At}
 
 -- A LEAF
 
@@ -101,13 +100,6 @@ spelt p q depth key at c g can e =
       there = subst (λ w. IsSome (find (slice_cmp nat_cmp) key (rows_or w))) k.is can.2;
       copy = copyable q depth (stamp_of at) k.rows c (rows-kept p q depth (stamp_of at) k.rows g k.is) e;
     }
-
-pub has_key : (p q : Contents) (depth stamp : ℕ) (key : Bytes) (c : Chunk Ref) → Spelt p q depth stamp key c
-    → HasKey key c
-has_key p q depth stamp key (chunked.Leaf rows) s =
-    let same : rows ≡ s.rows = some_is (sym (shown-rows q rows) ∙ s.copy.rows_are) in
-    subst (λ w. IsSome (find (slice_cmp nat_cmp) key w)) (sym same) s.there
-has_key p q depth stamp key (chunked.Inner kids) s = s.copy.deep.1
 
 -- THE LEAF OF A TRAIL
 
@@ -299,82 +291,6 @@ laid_step p q r may depth stamp key v kids s below more e x w g k ats all g2 lai
       wide = λ t. wide-copy r stamp depth (chunked.Inner kids) (step_seen s next)
           here x.copy.deep (omega (arith, laid.depth_is, w.deep)) (ap length k ∙ length-keys_of kids) t;
     }
-
--- THE STAGES
-
-on_inner : (ch : Chunk Ref) (key v : Bytes) (s : Step) → IsStage ch key v (On s)
-    → (kids : List (Bytes × Ref)) × (ch ≡ chunked.Inner kids) × IsCopiedStep kids key s
-on_inner (chunked.Leaf rows) key v s h = absurd h
-on_inner (chunked.Inner kids) key v s h = (kids, refl, h)
-
-at_leaf : (ch : Chunk Ref) (key v : Bytes) (e : End) → IsStage ch key v (At e)
-    → (rows : Rows) × (ch ≡ chunked.Leaf rows) × IsPutEnd rows key v e
-at_leaf (chunked.Leaf rows) key v e h = (rows, refl, h)
-at_leaf (chunked.Inner kids) key v e h = absurd h
-
--- the leaf is reached
-pub lands : (p q : Contents) (may : Ref → Type 0) (depth : ℕ) (key v : Bytes) (at : Ref) (e : End) → IsPrefix p q
-    → CanReplace p depth key (Placed at) → IsStageAt q may (stamp_of at) key v (At e)
-    → IsLaid q may (stamp_of at) depth key v (rows_at p depth (stamp_of at)) [] e
-lands p q may depth key v at e g can x =
-    let f = at_leaf x.0 key v e x.2 in
-    let is : slice_get q (stamp_of at) ≡ Some (chunk_content (chunked.Leaf f.0)) = x.1 ∙ ap
-    (λ w. Some (chunk_content w)) f.1 in
-    laid_end p q may depth (stamp_of at) key v f.0 e (spelt p q depth key at (chunked.Leaf f.0) g can is) f.2 is
-
--- the way goes on
-pub record Goes (p q : Contents) (may : Ref → Type 0) (depth : ℕ) (key : Bytes) (at : Ref) (s : Step)
-    (below : Ref) : Type 0 where
-  pub kids : List (Bytes × Ref)
-  pub is : slice_get q (stamp_of at) ≡ Some (chunk_content (chunked.Inner kids))
-  pub copied : IsCopiedStep kids key s
-  pub spelt : Spelt p q depth (stamp_of at) key (chunked.Inner kids)
-  pub way : OnWay q depth key s spelt.rows below
-  pub all : AreAll may s.children.items
-  pub here : may below
-
-pub goes : (p q : Contents) (may : Ref → Type 0) (depth : ℕ) (key v : Bytes) (at : Ref) (s : Step) (below : Ref)
-    → IsPrefix p q → CanReplace p depth key (Placed at) → IsStageAt q may (stamp_of at) key v (On s)
-    → below ≡ get_or s.children.items s.place below → Goes p q may depth key at s below
-goes p q may depth key v at s below g can x b =
-    let f = on_inner x.0 key v s x.2 in
-    let is : slice_get q (stamp_of at) ≡ Some (chunk_content (chunked.Inner f.0)) = x.1 ∙ ap
-    (λ w. Some (chunk_content w)) f.1 in
-    let sp = spelt p q depth key at (chunked.Inner f.0) g can is in
-    let way = on_way p q depth (stamp_of at) key f.0 s below sp f.2 b in
-    let all : AreAll may s.children.items = subst (AreAll may) (sym f.2.1)
-    (subst (λ w. AreAll may (chunk_children w)) f.1 x.3) in
-    record {
-      kids = f.0;
-      is = is;
-      copied = f.2;
-      spelt = sp;
-      way = way;
-      all = all;
-      here = all below (
-        s.place,
-        (let l : s.place < length s.children.items = omega
-            (arith, way.within, way.pairs) in l),
-        sym b,
-      );
-    }
-
-pub ok_so : {A E : Type 0} {P Q : A → Type 0} (r : Result A E) → IfOk r P → ((a : A) → P a → Q a) → IfOk r Q
-ok_so (Ok a) h f = f a h
-ok_so (Err e) h f = tt
-
--- the steps behind this one
-pub laid_on : (p q r : Contents) (may more : Ref → Type 0) (depth : ℕ) (key v : Bytes) (at : Ref) (s : Step)
-    (below : Ref) (e : End) (old mid new : List Step) → Goes p q may depth key at s below → IsPrefix q r
-    → ((at : Ref) → may at → more at) → mid ≡ old ++ s ∷ []
-    → IsLaidBehind r more (stamp_of below) (depth - 1) key v (rows_at q (depth - 1) (stamp_of below)) mid new e
-    → IsLaidBehind r more (stamp_of at) depth key v (rows_at p depth (stamp_of at)) old new e
-laid_on p q r may more depth key v at s below e old mid new x g m w l = (
-  s ∷ l.0,
-  l.1 ∙ ap (λ z. z ++ l.0) w ∙ append_assoc old (s ∷ []) l.0,
-  laid_step p q r more depth (stamp_of at) key v x.kids s below l.0 e x.spelt x.way g x.copied.0 x.copied.1
-      (all_on may more s.children.items m x.all) x.is l.2,
-)
 
 -- what is wide stays so
 pub wide_later : (old new : Contents) (depth k : ℕ) → IsTree (rows_at old depth k) → IsPrefix old new

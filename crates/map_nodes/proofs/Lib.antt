@@ -28,3 +28,5 @@ pub mod LevelLemmas
 pub mod PutLevels
 pub mod FreezeLevels
 mod KeptLevels
+pub mod WayLemmas
+mod UpdateLemmas

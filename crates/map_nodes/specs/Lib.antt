@@ -7,5 +7,7 @@ pub mod Trails
 pub mod Roots
 pub mod Removing
 pub mod Levels
+-- What a put and an update make of a map.
+pub mod Updating
 -- Words that only private clauses of this crate use.
 pub mod Inside

@@ -4,10 +4,10 @@
 //! copied before they change. Contracts see an own chunk as the list of its pieces: rows, and the placed chunks below
 //! it. Each call asks that what the chunk shows is in order, and says what it shows afterwards.
 //!
-//! `OwnRoot` is the root of a map. Where a first put finds its key, the new chunks are a trail (`nodes/trails.rt`):
-//! they lie in one list, and a freeze makes a node of each as it is. Contracts see a trail as the own chunk that it
-//! stands for. What is put or removed next makes that chunk of it: a mutator that told what it will put would spare
-//! that.
+//! `OwnRoot` is the root of a map. Where a first put or update finds its key, the new chunks are a trail
+//! (`nodes/trails.rt`): they are laid by one way down and up, they lie in one list, and a freeze makes a node of each as
+//! it is. Contracts see a trail as the own chunk that it stands for. What is put or removed next makes that chunk of it:
+//! a mutator that told what it will put would spare that.
 //!
 //! A placed chunk on the way of a put is copied first, and takes its place in the draft only once the change below it
 //! is done; all memory is taken before anything changes, so a put that stops leaves the tree. An insert first tries
@@ -20,4 +20,4 @@
 mod nodes;
 mod roots;
 
-pub use roots::{OwnRoot, frozen};
+pub use roots::{OwnRoot, Updated, frozen};

@@ -20,6 +20,7 @@ use group_history::{Json, Ref};
 use map_chunks::keys::NodeKeys;
 use std::marker::Model;
 pub use trails::Trail;
+pub(crate) use trails::{Laying, Reached, change_at};
 
 /// A chunk that a draft owns. A leaf is 1 deep.
 #[cycle(node)]

@@ -1,7 +1,7 @@
 //! The root of what a draft owns of a map.
 //!
 //! A first put at a key that is there makes a trail; other changes need an own chunk, and make one of a trail first.
-ghost use Rattle.std.specs.Prelude.{◌≡◌, ◌==◌, ◌⊎◌, ◌+◌, ◌-◌, ◌*◌, ◌^◌, ◌<◌, ◌≤◌, [], ◌∷◌, true, min, length, Some};
+ghost use Rattle.std.specs.Prelude.{◌≡◌, ◌==◌, ◌⊎◌, ◌+◌, ◌-◌, ◌*◌, ◌^◌, ◌<◌, ◌≤◌, [], ◌∷◌, true, min, length, Ok, Err, Some, None};
 ghost use Rattle.std.specs.Prelude.{IsSome, IfOk, IfErr, OnOk, OnErr, option_copied};
 ghost use Rattle.std.specs.Ordering.{nat_cmp};
 ghost use Rattle.std.specs.Cmp.Lexicographic.{slice_cmp};
@@ -10,19 +10,23 @@ ghost use mathlib.Core.List.{IsPrefix};
 ghost use Rattle.group_history.specs.Refs.{stamps, stamp_of, slot_of};
 ghost use Rattle.group_history.specs.Rows.{Rows};
 ghost use Rattle.group_history.specs.Spelling.{Contents, rows_at};
+ghost use Rattle.group_history.specs.declared.mutators.Ran.TheVariants.{Done};
 ghost use Rattle.group_history.specs.declared.mutators.Stop.TheVariants.{NoMemory};
+ghost use Rattle.group_history.specs.declared.mutators.Update.{Update as Updates};
 ghost use Rattle.group_history.specs.declared.refusals.Refusal.TheVariants as refusal;
 ghost use Rattle.map_chunks.specs.Drafts.{AreBelow, IsLate};
 ghost use Rattle.map_chunks.specs.Places.{with_nodes, Grows, AreAll, AreKept, AddsNamed, places_of};
 ghost use Rattle.map_chunks.specs.Scanning.{taken, Gave, IsLow};
-ghost use Rattle.map_chunks.specs.Seeking.{stands_in};
-ghost use Rattle.map_chunks.specs.Shown.{own, leaf_keys, shown, IsTree, rows_or};
+ghost use Rattle.map_chunks.specs.Seeking.{chunk_depth, stands_in};
+ghost use Rattle.map_chunks.specs.Shown.{chunk_rows, own, leaf_keys, shown, IsTree, rows_or};
+ghost use Rattle.map_nodes.specs.Inside.Laying.{IsReached};
+ghost use Rattle.map_nodes.specs.Updating.{IsUpdated};
 ghost use Rattle.map_chunks.specs.Wide.{IsWideAt, IsWideChunk};
 ghost use Rattle.map_nodes.specs.Removing.{root_left, without, root_rows, IsWideRoot, IsLowRoot};
 ghost use Rattle.map_nodes.specs.Levels.{placed_levels, seen_levels, NamedLater, PutLater, RenewedLater};
 
-use crate::nodes::{OwnNode, Trail};
-use group_history::{Json, Ref, Refusal, Scan, Stop};
+use crate::nodes::{Laying, OwnNode, Reached, Trail, change_at};
+use group_history::{Json, Ran, Ref, Refusal, Scan, SearchKey, Stop, Update};
 use map_chunks::keys::ROOM;
 use map_chunks::looks::Comparison;
 use map_chunks::{Chunks, Draft, TakesRows};
@@ -66,6 +70,14 @@ impl OwnRoot {
         }
     }
 
+    fn of_trail(trail: Trail) -> OwnRoot
+        ensures { result ≡ trail }
+    {
+        OwnRoot {
+            form: Form::Trail(trail),
+        }
+    }
+
     /// An empty leaf.
     pub fn empty(alloc: Global) -> OwnRoot
         ensures depth { result.depth ≡ 1 }
@@ -98,74 +110,66 @@ impl OwnRoot {
         Ok(OwnRoot::new(node))
     }
 
-    /// The map whose root is a placed chunk, which is so deep, with a value put at a key; `there` says whether the
-    /// key is there. Stops for want of memory, or as the store does.
-    pub fn written<C: Chunks>(
+    /// The map whose root is a placed chunk, once the change has seen the value at a key (none where the key isn't
+    /// there), and has made another one of it. Where the key is there, that is one way down. Stops for want of memory,
+    /// or as the store or the change does.
+    pub fn updated<C: Chunks, F: FnOnce(Option<Json>) -> Result<Update, Stop>>(
         alloc: Global,
         chunks: &mut C,
         at: Ref,
-        depth: u64,
         key: &str,
-        value: &Json,
-        there: bool,
-    ) -> Result<OwnRoot, Stop>
+        change: F,
+    ) -> Result<Updated, Stop>
         requires place { C.places chunks.old at }
-        requires tree { IsTree (rows_at (C.contents chunks.old) depth (stamp_of at)) }
-        requires there { there ≡ true → IsSome (finite.find (slice_cmp nat_cmp) key.now
-            (rows_or (rows_at (C.contents chunks.old) depth (stamp_of at)))) }
+        requires tree { IsTree (chunk_rows (C.contents chunks.old) (stamp_of at)) }
+        requires callable { F.IsAlwaysCallable change }
         ensures grown { Grows C.contents C.places chunks.old chunks.new }
-        ensures done { IfOk result (λ r. shown (C.contents chunks.new) r.pieces
-            ≡ Some (finite.put (slice_cmp nat_cmp) key.now value.now
-            (rows_or (rows_at (C.contents chunks.old) depth (stamp_of at))))) }
-        ensures few { IfOk result (λ r. r.fresh ≤ depth + depth + 1) }
-        ensures levels { IfOk result (λ r. PutLater depth r.depth (C.contents chunks.new)
-            (λ p. placed_levels p depth (stamp_of at)) (seen_levels r)) }
-        ensures replaced { there ≡ true → IfOk result (λ r. r.fresh ≤ depth) }
-        ensures same { there ≡ true → IfOk result (λ r. RenewedLater (C.contents chunks.new)
-            (λ p. placed_levels p depth (stamp_of at)) (seen_levels r)) }
-        ensures deep { IfOk result (λ r. (depth ≤ r.depth) × (r.depth ≤ depth + 1)) }
-        ensures wide { IsWideAt (C.contents chunks.old) (stamp_of at) → IfOk result IsWideChunk }
-        ensures places { IfOk result (λ r. AreKept (C.places chunks.new) [] (places_of r.pieces)) }
-        ensures stopped { IfErr result (λ s. (s ≡ NoMemory) ⊎ C.stops s) }
+        ensures updated { IfOk result (λ r. (u : Updates) × F.post change (finite.find (slice_cmp nat_cmp) key.now
+            (rows_or (chunk_rows (C.contents chunks.old) (stamp_of at)))) (Ok u)
+            × IsUpdated (C.contents chunks.old) (C.contents chunks.new) (C.places chunks.new) (stamp_of at) key.now u r) }
+        ensures stopped { IfErr result (λ e. (e ≡ NoMemory) ⊎ C.stops e ⊎ F.post change (finite.find
+            (slice_cmp nat_cmp) key.now (rows_or (chunk_rows (C.contents chunks.old) (stamp_of at)))) (Err e)) }
     {
-        if there {
-            return OwnRoot::replaced(alloc, chunks, at, depth, key, value);
+        let mut laying = Laying::new(alloc);
+        let searched = SearchKey::new(key);
+        let reached = change_at(alloc, chunks, at, &searched, 0, &mut laying, change)?;
+        OwnRoot::settled(alloc, chunks, at, key, reached, laying)
+    }
+
+    // What a way down from a placed chunk ended in, as a map.
+    fn settled<C: Chunks>(
+        alloc: Global,
+        chunks: &mut C,
+        at: Ref,
+        key: &str,
+        reached: Reached,
+        laying: Laying,
+    ) -> Result<Updated, Stop>
+        requires place { C.places chunks.old at }
+        requires tree { IsTree (chunk_rows (C.contents chunks.old) (stamp_of at)) }
+        requires reached { (u : Updates) × IsReached (C.contents chunks.old) (C.places chunks.old) (stamp_of at)
+            (chunk_depth (C.contents chunks.old) (stamp_of at))
+            (rows_or (chunk_rows (C.contents chunks.old) (stamp_of at))) key.now u reached laying }
+        ensures grown { Grows C.contents C.places chunks.old chunks.new }
+        ensures updated { (u : Updates) → IsReached (C.contents chunks.old) (C.places chunks.old) (stamp_of at)
+            (chunk_depth (C.contents chunks.old) (stamp_of at))
+            (rows_or (chunk_rows (C.contents chunks.old) (stamp_of at))) key.now u reached laying
+            → IfOk result (IsUpdated (C.contents chunks.old) (C.contents chunks.new) (C.places chunks.new) (stamp_of at)
+            key.now u) }
+        ensures stopped { IfErr result (λ e. (e ≡ NoMemory) ⊎ C.stops e) }
+    {
+        match reached {
+            Reached::Same => Ok(Updated::kept(Ran::Done)),
+            Reached::Refused(code) => Ok(Updated::kept(Ran::Refused(code))),
+            Reached::Laid => Ok(Updated::made(OwnRoot::of_trail(Trail::of(laying)))),
+            Reached::Fresh(value, depth) => {
+                let root = OwnRoot::inserted(alloc, chunks, at, depth, key, &value)?;
+                Ok(Updated::made(root))
+            }
         }
-        OwnRoot::inserted(alloc, chunks, at, depth, key, value)
     }
 
-    // The same where the key is there: a trail.
-    fn replaced<C: Chunks>(
-        alloc: Global,
-        chunks: &mut C,
-        at: Ref,
-        depth: u64,
-        key: &str,
-        value: &Json,
-    ) -> Result<OwnRoot, Stop>
-        requires place { C.places chunks.old at }
-        requires tree { IsTree (rows_at (C.contents chunks.old) depth (stamp_of at)) }
-        requires there { IsSome (finite.find (slice_cmp nat_cmp) key.now
-            (rows_or (rows_at (C.contents chunks.old) depth (stamp_of at)))) }
-        ensures grown { Grows C.contents C.places chunks.old chunks.new }
-        ensures done { IfOk result (λ r. shown (C.contents chunks.new) r.pieces
-            ≡ Some (finite.put (slice_cmp nat_cmp) key.now value.now
-            (rows_or (rows_at (C.contents chunks.old) depth (stamp_of at))))) }
-        ensures few { IfOk result (λ r. r.fresh ≤ depth) }
-        ensures levels { IfOk result (λ r. RenewedLater (C.contents chunks.new)
-            (λ p. placed_levels p depth (stamp_of at)) (seen_levels r)) }
-        ensures deep { IfOk result (λ r. r.depth ≡ depth) }
-        ensures wide { IsWideAt (C.contents chunks.old) (stamp_of at) → IfOk result IsWideChunk }
-        ensures places { IfOk result (λ r. AreKept (C.places chunks.new) [] (places_of r.pieces)) }
-        ensures stopped { IfErr result (λ s. (s ≡ NoMemory) ⊎ C.stops s) }
-    {
-        let trail = Trail::laid(alloc, chunks, at, depth, key, value)?;
-        Ok(OwnRoot {
-            form: Form::Trail(trail),
-        })
-    }
-
-    // The same where the key isn't there, or may not be.
+    // The map whose root is a placed chunk, which is so deep, with a value put at a key that isn't there, or may not be.
     fn inserted<C: Chunks>(
         alloc: Global,
         chunks: &mut C,
@@ -388,6 +392,30 @@ impl OwnRoot {
         match form {
             Form::Node(node) => node.freeze(alloc, draft),
             Form::Trail(trail) => trail.freeze(draft),
+        }
+    }
+}
+
+/// How an update of a map ended whose root is placed, and the map where it is another one.
+#[derive(Drop)]
+pub struct Updated {
+    pub ran: Ran,
+    pub root: Option<OwnRoot>,
+}
+
+impl Updated {
+    fn kept(ran: Ran) -> Updated
+        ensures { (result.ran ≡ ran) × (result.root ≡ None) }
+    {
+        Updated { ran, root: None }
+    }
+
+    fn made(root: OwnRoot) -> Updated
+        ensures { (result.ran ≡ Done) × (result.root ≡ Some root) }
+    {
+        Updated {
+            ran: Ran::Done,
+            root: Some(root),
         }
     }
 }

@@ -1,5 +1,6 @@
 mod DeleteLemmas
 mod PlaceLemmas
+mod PutTrees
 pub mod RootCounts
 mod SeekLemmas
 pub mod WriteLemmas

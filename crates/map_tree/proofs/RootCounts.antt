@@ -1,11 +1,11 @@
 -- How deep a map is, and how wide its root, once more is placed.
-use Rattle.std.proofs.Common.{◌≡◌, ℕ, Bool, true, [], Option, Some, None, refl, sym, ap, ◌∙◌, is_some}
+use Rattle.std.proofs.Common.{◌≡◌, ℕ, [], Option, Some, None, refl, sym, ap, ◌∙◌}
 use Rattle.std.proofs.lemmas.List.{append-nil}
-use Rattle.std.specs.Prelude.{IsSome, option_map, unwrap_or}
+use Rattle.std.specs.Prelude.{option_map, unwrap_or}
 use Rattle.std.specs.FinMap as finite
 use mathlib.Core.List.{IsPrefix}
 use Rattle.group_history.specs.declared.refs.Ref.{Ref}
-use Rattle.group_history.specs.Map.{Bytes, Entries}
+use Rattle.group_history.specs.Map.{Entries}
 use Rattle.group_history.specs.Refs.{stamp_of}
 use Rattle.group_history.specs.Spelling.{Contents, Segment, segment_at, map_at, rows_at}
 use Rattle.group_history.proofs.Spellings.{segment-content}
@@ -60,10 +60,6 @@ wide_root_grown old new (Placed at) m p h w =
     let s = placed_map old (stamp_of at) m h in
     let c = segment-content old (stamp_of at) s.segment s.is in
     wide_grown old new (stamp_of at) _ p c.2 w
-
--- a key that is there was found
-pub is_there : (found there : Option Bytes) (b : Bool) → found ≡ there → b ≡ is_some found → IsSome there → b ≡ true
-is_there found there b e f h = f ∙ ap is_some e ∙ h
 
 -- the levels of a placed root that is so deep, whatever is placed later
 pub placed_as : (p later : Contents) (r : Root) (at : Ref) (d : ℕ) → r ≡ Placed at → root_depth p r ≡ Some d

@@ -1,6 +1,6 @@
 -- What a put makes of a map.
-use Rattle.std.proofs.Common.{◌≡◌, ℕ, Bool, true, cond, Option, Some, None, Result, Ok, Err, IfOk, refl, sym, ap, ◌∙◌}
-use Rattle.std.proofs.Common.{subst, nat_cmp, is_some, Equal, Ordering, Less, Greater, is_eq}
+use Rattle.std.proofs.Common.{◌≡◌, ℕ, true, cond, Option, Some, None, Result, Ok, Err, IfOk, refl, sym, ap, ◌∙◌}
+use Rattle.std.proofs.Common.{subst, nat_cmp, Equal, Ordering, Less, Greater, is_eq}
 use Rattle.std.specs.Prelude.{IsSome, option_and_then}
 use Rattle.std.specs.Cmp.Lexicographic.{slice_cmp, nat_list_cmp_total}
 use Rattle.std.specs.FinMap as finite
@@ -58,22 +58,8 @@ root_kept old new (Own n) m p h =
 pub placed_map : (p : Contents) (k : ℕ) (m : Entries) → map_at p k ≡ Some m → Spells p k (finite.entries m)
 placed_map p k m h = spells_rows p k (finite.entries m) (map_is (chunk_rows p k) m (sym (map_at-rows p k) ∙ h)).is
 
--- a key that was found is in the rows
-pub found_there : (x : Option Rows) (m : Entries) (key : Bytes) (found : Option Bytes) (there : Bool)
-    → x ≡ Some (finite.entries m) → found ≡ finite.get m key → there ≡ is_some found
-    → there ≡ true → IsSome (finite.find (slice_cmp nat_cmp) key (rows_or x))
-found_there x m key found there e f t h =
-    ap (λ w. is_some (finite.find (slice_cmp nat_cmp) key (rows_or w))) e ∙ ap is_some
-    (sym (finite.get-entries m key)) ∙ ap is_some (sym f) ∙ sym t ∙ h
-
 pub entries_tree : (x : Option Rows) (m : Entries) → x ≡ Some (finite.entries m) → IsTree x
 entries_tree x m e = subst IsTree (sym e) (finite.entries_sorted m)
-
--- the rows that were copied are the map's
-pub put_copied : (x y : Option Rows) (m : Entries) (key v : Bytes) → x ≡ Some (finite.entries m)
-    → y ≡ Some (finite.put (slice_cmp nat_cmp) key v (rows_or x))
-    → option_and_then map_of_rows y ≡ Some (finite.insert m key v)
-put_copied x y m key v e f = put_map x y m key v (map_from x m e) f
 
 pub depth_is : {E : Type 0} (r : Result ℕ E) (x : Option ℕ) (n : ℕ) → x ≡ Some n → IfOk r (λ d. d ≡ n)
     → IfOk r (λ d. x ≡ Some d)

@@ -8,8 +8,8 @@ mod scanning;
 
 use group_history::{Json, Ref, Stop};
 use map_chunks::Chunks;
-use map_chunks::looks::{Lookup, Sought};
-use map_chunks::placed::{depth_placed, find_placed, get_placed};
+use map_chunks::looks::Sought;
+use map_chunks::placed::{depth_placed, get_placed};
 use map_chunks::seeking::seek_placed;
 use map_nodes::OwnRoot;
 use std::alloc::Global;
@@ -88,29 +88,6 @@ impl Tree {
         match &self.root {
             Root::Placed(at) => get_placed(chunks, *at, key),
             Root::Own(node) => node.get(chunks, key),
-        }
-    }
-
-    /// The value at a key, and how deep the tree is. A put at this key that comes next needs no look of its own
-    /// (`put_sought`).
-    pub fn find<C: Chunks>(&self, chunks: &mut C, key: &str) -> Result<Lookup, Stop>
-        requires places { AreAll (C.places chunks.old) (tree_places self.now) }
-        requires map { IsSome (tree_map (C.contents chunks.old) self.now) }
-        ensures grown { Grows C.contents C.places chunks.old chunks.new }
-        ensures value { (m : Entries) → tree_map (C.contents chunks.old) self.now ≡ Some m
-            → IfOk result (λ found. found.value ≡ finite.get m key.now) }
-        ensures depth { IfOk result (λ found. tree_depth (C.contents chunks.old) self.now ≡ Some found.depth) }
-        ensures stopped { IfErr result (λ s. (s ≡ NoMemory) ⊎ C.stops s) }
-    {
-        match &self.root {
-            Root::Placed(at) => find_placed(chunks, *at, key),
-            Root::Own(node) => {
-                let value = node.get(chunks, key)?;
-                Ok(Lookup {
-                    value,
-                    depth: node.depth(),
-                })
-            }
         }
     }
 

@@ -45,7 +45,7 @@ pub use config::{Config, MIN_SLOTS, OutOfRange};
 pub use group::Group;
 pub use group_history::{
     Cookie, Ended, Json, Means, Mutation, Mutators, Ran, Reason, Refusal, Scan, Start, Stop, Text,
-    Update, VersionKind, WriteView, update,
+    Update, VersionKind, WriteView,
 };
 pub use head_word::Mark;
 pub use push_body::Identity;

@@ -1,2 +1,3 @@
 -- Words that only private clauses of this crate use.
+pub mod Merging
 pub mod Parts

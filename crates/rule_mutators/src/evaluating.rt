@@ -4,7 +4,6 @@
 //! and at what the view shows; `None` where it has none. No expression changes what the view shows.
 ghost use Rattle.std.specs.Prelude.{◌≡◌, ◌++◌, Some, IfOk, IfErr, OnOk, option_map, string_bytes};
 ghost use Rattle.std.specs.Prelude.{not as negation};
-ghost use Rattle.std.specs.FinMap.{get as finite_get};
 ghost use Rattle.serde_json.specs.Data.{boolean};
 ghost use Rattle.serde_json.specs.Find.{as_bool};
 ghost use Rattle.serde_json.specs.View.{view as data_of};
@@ -125,19 +124,8 @@ fn get<V: WriteView>(alloc: Global, view: &mut V, key: Value) -> Result<Option<V
     let Some(key) = wording(alloc, key)? else {
         return Ok(None);
     };
-    let found = value_of(alloc, view, key.as_str());
-    drop(key);
-    Ok(Some(found?))
-}
-
-/// The value of a key, null where it has none.
-pub(crate) fn value_of<V: WriteView>(alloc: Global, view: &mut V, key: &str) -> Result<Value, Stop>
-    ensures value { IfOk result (λ v. spec.value_there (finite_get (V.contents view.old) key.now) ≡ Some (data_of v)) }
-    ensures kept { V.contents view.new ≡ V.contents view.old }
-    ensures stopped { IfErr result (MayStop V.stops) }
-{
-    let there = view.get(key)?;
-    value_there(alloc, there)
+    let there = view.get(key.as_str())?;
+    Ok(Some(value_there(alloc, there)?))
 }
 
 fn has<V: WriteView>(alloc: Global, view: &mut V, key: Value) -> Result<Option<Value>, Stop>

@@ -5,14 +5,16 @@ ghost use Rattle.std.specs.Prelude.{◌≡◌, IfOk, IfErr};
 ghost use Rattle.serde_json.specs.View.{view as data_of};
 ghost use Rattle.group_history.specs.Ran.{RunsAs};
 ghost use Rattle.group_history.specs.Stops.{MayStop};
+ghost use Rattle.group_history.specs.declared.mutators.Stop.TheVariants.{NoMemory};
+ghost use Rattle.rule_mutators.specs.Inside.Merging as inside;
 ghost use Rattle.rule_mutators.specs.Meaning as spec;
 ghost use Rattle.rule_mutators.specs.Rules as rule;
 ghost use Rattle.rule_mutators.specs.Views.{expression_of, step_of, all_steps};
 
-use crate::evaluating::{Call, key_at, truth_at, value_at, value_of};
+use crate::evaluating::{Call, key_at, truth_at, value_at};
 use crate::language::{Expr, Step};
-use crate::values::{kept, merged};
-use group_history::{Ran, Stop, WriteView};
+use crate::values::{kept, merged, value_there};
+use group_history::{Json, Ran, Stop, Update, WriteView};
 use serde_json::Value;
 use std::alloc::Global;
 
@@ -73,26 +75,12 @@ fn put<V: WriteView>(call: Call<'_>, view: &mut V, key: &Expr, e: &Expr) -> Resu
     let Some(value) = value_at(call, view, e)? else {
         return Ok(Ran::Refused(WRONG));
     };
-    let ran = put_value(call.alloc, view, key.as_str(), &value);
+    let json = kept(call.alloc, &value);
     drop(value);
-    ran
-}
-
-/// Puts a value at a key.
-fn put_value<V: WriteView>(
-    alloc: Global,
-    view: &mut V,
-    key: &str,
-    value: &Value,
-) -> Result<Ran, Stop>
-    ensures ran { IfOk result (λ ran. RunsAs
-        (spec.put_means key.now (data_of value.now) (V.contents view.old)) ran (V.contents view.new)) }
-    ensures stopped { IfErr result (MayStop V.stops) }
-{
-    let Some(json) = kept(alloc, value)? else {
+    let Some(json) = json? else {
         return Ok(Ran::Refused(WRONG));
     };
-    view.put(key, &json)?;
+    view.put(key.as_str(), &json)?;
     Ok(Ran::Done)
 }
 
@@ -137,13 +125,24 @@ fn merge_value<V: WriteView>(
         (spec.merge_means key.now (data_of more.now) (V.contents view.old)) ran (V.contents view.new)) }
     ensures stopped { IfErr result (MayStop V.stops) }
 {
-    let there = value_of(alloc, view, key)?;
+    view.update(key, |there| merged_there(alloc, there, more))
+}
+
+/// What `merge` makes of what is there: the object, with the members of a value put over its own.
+fn merged_there(alloc: Global, there: Option<Json>, more: &Value) -> Result<Update, Stop>
+    ensures ok { IfOk result (λ u. u ≡ inside.merged_there there (data_of more.now)) }
+    ensures stopped { IfErr result (λ stop. stop ≡ NoMemory) }
+{
+    let there = value_there(alloc, there)?;
     let Some(value) = merged(alloc, there, more)? else {
-        return Ok(Ran::Refused(WRONG));
+        return Ok(Update::Refuse(WRONG));
     };
-    let ran = put_value(alloc, view, key, &value);
+    let json = kept(alloc, &value);
     drop(value);
-    ran
+    match json? {
+        Some(json) => Ok(Update::Put(json)),
+        None => Ok(Update::Refuse(WRONG)),
+    }
 }
 
 /// Refuses with the code where an expression is false.

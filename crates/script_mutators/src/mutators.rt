@@ -19,7 +19,7 @@ use crate::arguments::{
     Args, args_of, json_of, text_alone, text_and_number, text_and_text, text_and_value,
 };
 use crate::values::{decimal, number_in, quoted, text_there};
-use group_history::{Json, Means, Mutators, Ran, Reason, Stop, Update, WriteView, update};
+use group_history::{Json, Means, Mutators, Ran, Reason, Stop, Update, WriteView};
 use std::alloc::Global;
 
 /// The mutators of scripts: `set`, `del`, `incr`, `append` and `tag` (`docs/SCRIPT.md`). Any other name is unknown.
@@ -140,7 +140,7 @@ fn incr<V: WriteView>(alloc: Global, args: &Args<'_>, view: &mut V) -> Result<Ra
     let Some((key, by)) = text_and_number(args) else {
         return Ok(Ran::Refused(WRONG_ARGUMENTS));
     };
-    update(view, key, |there| raised(alloc, there, by))
+    view.update(key, |there| raised(alloc, there, by))
 }
 
 /// What `incr` makes of what is there: the number, raised.
@@ -217,7 +217,7 @@ fn lengthen<V: WriteView>(alloc: Global, key: &str, added: &str, view: &mut V) -
         (V.contents view.new)) }
     ensures stopped { IfErr result (MayStop V.stops) }
 {
-    update(view, key, |there| followed(alloc, there, added))
+    view.update(key, |there| followed(alloc, there, added))
 }
 
 /// What `append` and `tag` make of what is there: the text, with another behind it.

@@ -9,7 +9,7 @@ ghost use Rattle.group_history.specs.Stops.{MayStop};
 ghost use Rattle.todo_app.specs.Todos as spec;
 
 use crate::todos::{key_of, put, text_in, todo_in, written};
-use rebase::{Json, Means, Mutators, Ran, Reason, Stop, Update, WriteView, update};
+use rebase::{Json, Means, Mutators, Ran, Reason, Stop, Update, WriteView};
 use serde_json::Value;
 use std::alloc::Global;
 
@@ -53,7 +53,7 @@ fn toggle<V: WriteView>(alloc: Global, args: &Value, view: &mut V) -> Result<Ran
         return Ok(Ran::Refused(WRONG_ARGUMENTS));
     };
     let key = key_of(alloc, id)?;
-    update(view, key.as_str(), |there| {
+    view.update(key.as_str(), |there| {
         let Some(todo) = todo_in(alloc, there)? else {
             return Ok(Update::Refuse(NO_SUCH_TODO));
         };
@@ -72,7 +72,7 @@ fn rename<V: WriteView>(alloc: Global, args: &Value, view: &mut V) -> Result<Ran
         return Ok(Ran::Refused(WRONG_ARGUMENTS));
     };
     let key = key_of(alloc, id)?;
-    update(view, key.as_str(), |there| {
+    view.update(key.as_str(), |there| {
         let Some(todo) = todo_in(alloc, there)? else {
             return Ok(Update::Refuse(NO_SUCH_TODO));
         };

@@ -1,31 +1,26 @@
 -- A trail laid from a placed chunk down to a key, with another value there.
-use Rattle.std.specs.Prelude.{◌≡◌, ℕ, ◌≤◌, ◌<◌, List, [], ◌++◌, Option, Some, IsSome, length, slice_get}
+use Rattle.std.specs.Prelude.{◌≡◌, ℕ, ◌+◌, ◌^◌, ◌≤◌, ◌<◌, List, [], ◌∷◌, ◌++◌, reverse, Option, Some, None, IsSome}
 use Rattle.std.specs.Arc.{arc_value}
 use Rattle.std.specs.Ordering.{nat_cmp}
 use Rattle.std.specs.Cmp.Lexicographic.{slice_cmp}
 use Rattle.std.specs.FinMap.{find, put}
-use Rattle.group_history.specs.declared.nodes.Chunk.{Chunk}
-use Rattle.group_history.specs.declared.nodes.Chunk.TheVariants.{Leaf, Inner}
+use Rattle.group_history.specs.declared.mutators.Update.{Update}
+use Rattle.group_history.specs.declared.mutators.Update.TheVariants.{Put, Refuse}
 use Rattle.group_history.specs.declared.refs.Ref.{Ref}
 use Rattle.group_history.specs.Map.{Bytes}
-use Rattle.group_history.specs.Naming.{chunk_children, chunk_content}
 use Rattle.group_history.specs.Rows.{Rows, AreKeys, keys_of, values_of, paired}
 use Rattle.group_history.specs.Spelling.{Contents}
-use Rattle.map_chunks.specs.Places.{AreAll, AreKept, places_of}
-use Rattle.map_chunks.specs.Search.{IsPlace}
+use Rattle.map_chunks.specs.Places.{AreKept, places_of}
+use Rattle.map_chunks.specs.Search.{IsFound, IsPlace}
 use Rattle.map_chunks.specs.Shown.{rows_or, shown}
 use Rattle.map_chunks.specs.Wide.{IsWideAt, IsWideChunk}
 use Rattle.map_nodes.specs.Levels.{placed_levels, seen_levels, RenewedLater}
 use Rattle.map_nodes.specs.Trails.{IsEnd, IsTrail, trail_seen}
 use Rattle.map_nodes.specs.declared.nodes.trails.End.{End}
 use Rattle.map_nodes.specs.declared.nodes.trails.Step.{Step}
-use Rattle.map_nodes.specs.declared.nodes.trails.laying.Stage.{Stage}
-use Rattle.map_nodes.specs.declared.nodes.trails.laying.Stage.TheVariants.{On, At}
-
--- a leaf has the key, an inner chunk children
-abbrev pub HasKey : Bytes → Chunk Ref → Type 0
-HasKey key (Leaf rows) = IsSome (find (slice_cmp nat_cmp) key rows)
-HasKey key (Inner kids) = 0 < length kids
+use Rattle.map_nodes.specs.declared.nodes.trails.laying.Laying.{Laying}
+use Rattle.map_nodes.specs.declared.nodes.trails.laying.Reached.{Reached}
+use Rattle.map_nodes.specs.declared.nodes.trails.laying.Reached.TheVariants.{Same, Refused, Fresh, Laid}
 
 -- a leaf's rows with a value put at a key
 abbrev pub IsPutEnd : Rows → Bytes → Bytes → End → Type 0
@@ -36,19 +31,6 @@ IsPutEnd rows key value e = IsEnd e
 abbrev pub IsCopiedStep : List (Bytes × Ref) → Bytes → Step → Type 0
 IsCopiedStep kids key s = (arc_value s.keys ≡ keys_of kids) × (s.children.items ≡ values_of kids)
     × IsPlace key (keys_of kids) s.place × AreKeys (arc_value s.keys)
-
--- a leaf with the value put, or an inner chunk copied
-abbrev pub IsStage : Chunk Ref → Bytes → Bytes → Stage → Type 0
-IsStage (Leaf rows) key value (On s) = ⊥
-IsStage (Leaf rows) key value (At e) = IsPutEnd rows key value e
-IsStage (Inner kids) key value (On s) = IsCopiedStep kids key s
-IsStage (Inner kids) key value (At e) = ⊥
-
--- this is done to the placed chunk of a stamp, whose children may be looked for
-abbrev pub IsStageAt : Contents → (Ref → Type 0) → ℕ → Bytes → Bytes → Stage → Type 0
-IsStageAt contents places stamp key value stage = (c : Chunk Ref)
-    × (slice_get contents stamp ≡ Some (chunk_content c)) × IsStage c key value stage
-    × AreAll places (chunk_children c)
 
 -- a trail as deep as the placed chunk of a stamp, that shows its rows with a value put at a key, is one new chunk on each
 -- level, with the same keys, and names only chunks that may be looked for
@@ -62,8 +44,48 @@ pub record IsLaid (contents : Contents) (places : Ref → Type 0) (stamp depth :
   pub kept : AreKept places [] (places_of (trail_seen steps e).pieces)
   pub wide : IsWideAt contents stamp → IsWideChunk (trail_seen steps e)
 
--- behind the steps that were there stand those of such a trail
-abbrev pub IsLaidBehind : Contents → (Ref → Type 0) → ℕ → ℕ → Bytes → Bytes → Option Rows → List Step → List Step → End
-    → Type 0
-IsLaidBehind contents places stamp depth key value was old new e = (more : List Step) × (new ≡ old ++ more)
-    × IsLaid contents places stamp depth key value was more e
+-- there is a value, and this is another one
+abbrev pub IsAnother : Option Bytes → Bytes → Type 0
+IsAnother found v = IsSome found × (found ≡ Some v → ⊥)
+
+-- a leaf with these rows has the key at this place, or hasn't the key
+abbrev pub IsPlaceIn : Rows → Bytes → Option ℕ → Type 0
+IsPlaceIn rows key None = find (slice_cmp nat_cmp) key rows ≡ None
+IsPlaceIn rows key (Some i) = IsFound key (keys_of rows) i
+
+-- The key has the value that is put already, or another one in a leaf of its own, or isn't there; or nothing is put.
+abbrev pub IsLeafEnd : Rows → Bytes → Update → Reached → Laying → Type 0
+IsLeafEnd rows key u Same l = (v : Bytes) × (u ≡ Put v) × (find (slice_cmp nat_cmp) key rows ≡ Some v)
+IsLeafEnd rows key u (Refused code) l = u ≡ Refuse code
+IsLeafEnd rows key u (Fresh value depth) l =
+    (u ≡ Put value) × (find (slice_cmp nat_cmp) key rows ≡ None) × (depth ≡ 1)
+IsLeafEnd rows key u Laid l = (v : Bytes) × (u ≡ Put v) × IsAnother (find (slice_cmp nat_cmp) key rows) v
+    × (l.steps.items ≡ []) × ((e : End) × (l.end ≡ Some e) × IsPutEnd rows key v e)
+
+-- The same of the placed chunk of a stamp, which has these rows and may be so deep. The steps of new chunks are listed
+-- from the lowest to the topmost.
+abbrev pub IsReached : Contents → (Ref → Type 0) → ℕ → Option ℕ → Rows → Bytes → Update → Reached → Laying → Type 0
+IsReached contents places stamp depth rows key u Same l =
+    (v : Bytes) × (u ≡ Put v) × (find (slice_cmp nat_cmp) key rows ≡ Some v)
+IsReached contents places stamp depth rows key u (Refused code) l = u ≡ Refuse code
+IsReached contents places stamp depth rows key u (Fresh value deep) l =
+    (u ≡ Put value) × (find (slice_cmp nat_cmp) key rows ≡ None) × (depth ≡ Some deep) × (deep ≤ stamp + 1)
+IsReached contents places stamp depth rows key u Laid l = (v : Bytes) × (u ≡ Put v)
+    × IsAnother (find (slice_cmp nat_cmp) key rows) v × ((deep : ℕ) × (depth ≡ Some deep)
+    × ((e : End) × (l.end ≡ Some e)
+    × IsLaid contents places stamp deep key v (Some rows) (reverse l.steps.items) e))
+
+-- the depth of what is below can grow
+abbrev pub IsLow : Reached → Type 0
+IsLow Same = Unit {0}
+IsLow (Refused code) = Unit {0}
+IsLow (Fresh value depth) = depth + 1 < 2 ^ 64
+IsLow Laid = Unit {0}
+
+-- what a way ends in that goes through an inner chunk with these children, where it ends so below the one at a place
+abbrev pub IsStepped : List (Bytes × Ref) → Bytes → ℕ → Reached → Reached → Laying → Laying → Type 0
+IsStepped kids key place Same r old new = r ≡ Same
+IsStepped kids key place (Refused code) r old new = r ≡ Refused code
+IsStepped kids key place (Fresh value depth) r old new = r ≡ Fresh value (depth + 1)
+IsStepped kids key place Laid r old new = (r ≡ Laid) × (new.end ≡ old.end)
+    × ((s : Step) × IsCopiedStep kids key s × (s.place ≡ place) × (new.steps.items ≡ old.steps.items ++ s ∷ []))

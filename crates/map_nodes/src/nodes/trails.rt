@@ -1,4 +1,4 @@
-//! A trail: what a first put at a key that is there makes new.
+//! A trail: what a first put at a key that is there makes new, by one way down (`laying`).
 //!
 //! Its chunks are those on the way to the key. Each but the leaf has placed children, and the next chunk in the place
 //! of one of them, so no chunk lies behind a pointer, and each is written down as it is. Contracts see a trail as the
@@ -9,13 +9,15 @@ mod reading;
 mod scanning;
 mod thawing;
 
+pub(crate) use laying::{Laying, Reached, change_at};
+
 use group_history::{Json, Keys, Ref};
 use std::marker::Model;
 use std::sync::Arc;
 
 /// A chunk above another one of the trail.
 #[derive(Drop)]
-struct Step {
+pub(crate) struct Step {
     keys: Arc<Keys>,
     children: Vec<Ref>,
     place: usize,
@@ -23,7 +25,7 @@ struct Step {
 
 /// The leaf.
 #[derive(Drop)]
-struct End {
+pub(crate) struct End {
     keys: Arc<Keys>,
     values: Vec<Json>,
 }

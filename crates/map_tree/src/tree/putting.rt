@@ -1,36 +1,29 @@
 //! Values put in a map.
-ghost use Rattle.std.specs.Prelude.{◌≡◌, ◌⊎◌, ◌+◌, ◌≤◌, [], ℕ, true, Some, IfOk, IfErr, OnOk, OnErr, IsSome, is_some};
+ghost use Rattle.std.specs.Prelude.{◌≡◌, ◌⊎◌, Some, Ok, Err, IfOk, IfErr, OnOk, OnErr, IsSome};
+ghost use Rattle.std.specs.Ordering.{nat_cmp};
+ghost use Rattle.std.specs.Cmp.Lexicographic.{slice_cmp};
 ghost use Rattle.std.specs.FinMap as finite;
 ghost use Rattle.group_history.specs.Map.{Entries};
-ghost use Rattle.group_history.specs.Refs.{stamp_of};
-ghost use Rattle.group_history.specs.Spelling.{map_at};
 ghost use Rattle.group_history.specs.declared.mutators.Stop.TheVariants.{NoMemory};
-ghost use Rattle.map_chunks.specs.Places.{Grows, AreAll, AreKept};
-ghost use Rattle.map_nodes.specs.Levels.{placed_levels, PutLater, RenewedLater};
-ghost use Rattle.map_tree.specs.Trees.{root_places, tree_places, root_map, root_depth, root_fresh, root_levels};
-ghost use Rattle.map_tree.specs.Trees.{tree_map, tree_depth, tree_fresh, tree_levels, HasWideRoot, IsWide};
-ghost use Rattle.map_chunks.specs.Seeking.{chunk_depth};
-ghost use Rattle.map_chunks.specs.Writes.{standing};
-ghost use Rattle.map_chunks.specs.Wide.{IsWideAt};
+ghost use Rattle.group_history.specs.declared.mutators.Update.{Update as Updates};
+ghost use Rattle.map_chunks.specs.Places.{Grows, AreAll, places_of};
+ghost use Rattle.map_chunks.specs.Seeking.{stands_in};
+ghost use Rattle.map_chunks.specs.Shown.{shown, IsTree, rows_or};
+ghost use Rattle.map_nodes.specs.Updating.{IsPutOn, IsPutOr};
+ghost use Rattle.map_tree.specs.Puts.{IsPut, IsUpdate, settled};
+ghost use Rattle.map_tree.specs.Trees.{tree_places, tree_map};
 
 use super::{Root, Tree};
-use group_history::{Json, Ref, Stop};
+use group_history::{Json, Ran, Stop, Update};
 use map_chunks::Chunks;
-use map_chunks::looks::Sought;
-use map_nodes::OwnRoot;
-use std::alloc::Global;
-
-// What is known of the way to a key: how deep the tree is, and whether the key is there.
-#[derive(Clone, Copy)]
-struct Way {
-    depth: u64,
-    there: bool,
-}
+use map_chunks::looks::Comparison;
+use map_nodes::{OwnRoot, Updated};
+use std::alloc::{AllocError, Global};
 
 impl Tree {
-    /// Puts a value at a key. New are only the chunks on the way to it and those that a split adds, and
-    /// none where the value is there already; placed chunks are copied first. A chunk that gets a 17th entry is
-    /// split into the first 8 and the last 9. Where it stops, the map is as it was.
+    /// Puts a value at a key. New are only the chunks on the way to it and those that a split adds, and none where the
+    /// value is there already. A chunk that gets a 17th entry is split into the first 8 and the last 9. Where it stops,
+    /// the map is as it was.
     pub fn put<C: Chunks>(
         &mut self,
         alloc: Global,
@@ -41,151 +34,149 @@ impl Tree {
         requires places { AreAll (C.places chunks.old) (tree_places self.old) }
         requires map { IsSome (tree_map (C.contents chunks.old) self.old) }
         ensures grown { Grows C.contents C.places chunks.old chunks.new }
-        ensures ok { (m : Entries) → tree_map (C.contents chunks.old) self.old ≡ Some m
-            → OnOk result (tree_map (C.contents chunks.new) self.new ≡ Some (finite.insert m key.now value.now)) }
-        ensures few { (d : ℕ) → tree_depth (C.contents chunks.old) self.old ≡ Some d
-            → OnOk result (tree_fresh self.new ≤ tree_fresh self.old + d + d + 1) }
-        ensures levels { (d : ℕ) → tree_depth (C.contents chunks.old) self.old ≡ Some d
-            → OnOk result ((e : ℕ) × (tree_depth (C.contents chunks.new) self.new ≡ Some e)
-            × PutLater d e (C.contents chunks.new) (tree_levels self.old) (tree_levels self.new)) }
-        ensures replaced { (m : Entries) (d : ℕ) → tree_map (C.contents chunks.old) self.old ≡ Some m
-            → tree_depth (C.contents chunks.old) self.old ≡ Some d → IsSome (finite.get m key.now)
-            → OnOk result (tree_fresh self.new ≤ tree_fresh self.old + d) }
-        ensures kept { (m : Entries) → tree_map (C.contents chunks.old) self.old ≡ Some m
-            → IsSome (finite.get m key.now) → OnOk result (RenewedLater (C.contents chunks.new) (tree_levels self.old) (tree_levels self.new)) }
-        ensures deep { (d : ℕ) → tree_depth (C.contents chunks.old) self.old ≡ Some d
-            → OnOk result ((e : ℕ) × (tree_depth (C.contents chunks.new) self.new ≡ Some e) × (d ≤ e) × (e ≤ d + 1)) }
-        ensures wide { HasWideRoot (C.contents chunks.old) self.old
-            → OnOk result (HasWideRoot (C.contents chunks.new) self.new) }
-        ensures places { OnOk result (AreKept (C.places chunks.new) (tree_places self.old) (tree_places self.new)) }
-        ensures same { (m : Entries) → tree_map (C.contents chunks.old) self.old ≡ Some m
-            → finite.get m key.now ≡ Some value.now → OnOk result (self.new ≡ self.old) }
-        ensures err { OnErr result (self.new ≡ self.old) }
-        ensures stopped { IfErr result (λ s. (s ≡ NoMemory) ⊎ C.stops s) }
-    {
-        let sought = self.sought(chunks, key, Some(value))?;
-        self.put_sought(alloc, chunks, key, value, sought)
-    }
-
-    /// The same where it is known how the value at the key stands to the one that is put, and how deep the tree is.
-    pub fn put_sought<C: Chunks>(
-        &mut self,
-        alloc: Global,
-        chunks: &mut C,
-        key: &str,
-        value: &Json,
-        sought: Sought,
-    ) -> Result<(), Stop>
-        requires places { AreAll (C.places chunks.old) (tree_places self.old) }
-        requires map { IsSome (tree_map (C.contents chunks.old) self.old) }
-        requires standing { (m : Entries) → tree_map (C.contents chunks.old) self.old ≡ Some m
-            → sought.standing ≡ standing (finite.get m key.now) (Some value.now) }
-        requires depth { tree_depth (C.contents chunks.old) self.old ≡ Some sought.depth }
-        ensures grown { Grows C.contents C.places chunks.old chunks.new }
-        ensures ok { (m : Entries) → tree_map (C.contents chunks.old) self.old ≡ Some m
-            → OnOk result (tree_map (C.contents chunks.new) self.new ≡ Some (finite.insert m key.now value.now)) }
-        ensures few { (d : ℕ) → tree_depth (C.contents chunks.old) self.old ≡ Some d
-            → OnOk result (tree_fresh self.new ≤ tree_fresh self.old + d + d + 1) }
-        ensures levels { (d : ℕ) → tree_depth (C.contents chunks.old) self.old ≡ Some d
-            → OnOk result ((e : ℕ) × (tree_depth (C.contents chunks.new) self.new ≡ Some e)
-            × PutLater d e (C.contents chunks.new) (tree_levels self.old) (tree_levels self.new)) }
-        ensures replaced { (m : Entries) (d : ℕ) → tree_map (C.contents chunks.old) self.old ≡ Some m
-            → tree_depth (C.contents chunks.old) self.old ≡ Some d → IsSome (finite.get m key.now)
-            → OnOk result (tree_fresh self.new ≤ tree_fresh self.old + d) }
-        ensures kept { (m : Entries) → tree_map (C.contents chunks.old) self.old ≡ Some m
-            → IsSome (finite.get m key.now) → OnOk result (RenewedLater (C.contents chunks.new) (tree_levels self.old) (tree_levels self.new)) }
-        ensures deep { (d : ℕ) → tree_depth (C.contents chunks.old) self.old ≡ Some d
-            → OnOk result ((e : ℕ) × (tree_depth (C.contents chunks.new) self.new ≡ Some e) × (d ≤ e) × (e ≤ d + 1)) }
-        ensures wide { HasWideRoot (C.contents chunks.old) self.old
-            → OnOk result (HasWideRoot (C.contents chunks.new) self.new) }
-        ensures places { OnOk result (AreKept (C.places chunks.new) (tree_places self.old) (tree_places self.new)) }
-        ensures same { (m : Entries) → tree_map (C.contents chunks.old) self.old ≡ Some m
-            → finite.get m key.now ≡ Some value.now → OnOk result (self.new ≡ self.old) }
-        ensures err { OnErr result (self.new ≡ self.old) }
-        ensures stopped { IfErr result (λ s. (s ≡ NoMemory) ⊎ C.stops s) }
-    {
-        if sought.standing.is_same() {
-            return Ok(());
-        }
-        let way = Way {
-            depth: sought.depth,
-            there: sought.standing.is_there(),
-        };
-        self.write(alloc, chunks, key, value, way)
-    }
-
-    // Puts a value at a key on a path of chunks that are the tree's own from then on.
-    fn write<C: Chunks>(
-        &mut self,
-        alloc: Global,
-        chunks: &mut C,
-        key: &str,
-        value: &Json,
-        way: Way,
-    ) -> Result<(), Stop>
-        requires places { AreAll (C.places chunks.old) (tree_places self.old) }
-        requires map { IsSome (tree_map (C.contents chunks.old) self.old) }
-        requires depth { tree_depth (C.contents chunks.old) self.old ≡ Some way.depth }
-        requires there { (m : Entries) → tree_map (C.contents chunks.old) self.old ≡ Some m
-            → way.there ≡ is_some (finite.get m key.now) }
-        ensures grown { Grows C.contents C.places chunks.old chunks.new }
-        ensures ok { (m : Entries) → tree_map (C.contents chunks.old) self.old ≡ Some m
-            → OnOk result (tree_map (C.contents chunks.new) self.new ≡ Some (finite.insert m key.now value.now)) }
-        ensures few { OnOk result (tree_fresh self.new ≤ tree_fresh self.old + way.depth + way.depth + 1) }
-        ensures levels { OnOk result ((e : ℕ) × (tree_depth (C.contents chunks.new) self.new ≡ Some e)
-            × PutLater way.depth e (C.contents chunks.new) (tree_levels self.old) (tree_levels self.new)) }
-        ensures replaced { way.there ≡ true → OnOk result (tree_fresh self.new ≤ tree_fresh self.old + way.depth) }
-        ensures kept { way.there ≡ true → OnOk result (RenewedLater (C.contents chunks.new) (tree_levels self.old)
-            (tree_levels self.new)) }
-        ensures deep { OnOk result ((e : ℕ) × (tree_depth (C.contents chunks.new) self.new ≡ Some e) × (way.depth ≤ e)
-            × (e ≤ way.depth + 1)) }
-        ensures wide { HasWideRoot (C.contents chunks.old) self.old
-            → OnOk result (HasWideRoot (C.contents chunks.new) self.new) }
-        ensures places { OnOk result (AreKept (C.places chunks.new) (tree_places self.old) (tree_places self.new)) }
+        ensures put { (m : Entries) → tree_map (C.contents chunks.old) self.old ≡ Some m
+            → OnOk result (IsPut (C.contents chunks.old) (C.contents chunks.new) (C.places chunks.new) self.old self.new
+            m key.now value.now) }
         ensures err { OnErr result (self.new ≡ self.old) }
         ensures stopped { IfErr result (λ s. (s ≡ NoMemory) ⊎ C.stops s) }
     {
         match &mut self.root {
-            Root::Own(node) => return node.write(alloc, chunks, key, value, way.there),
+            Root::Own(node) => put_own(node, alloc, chunks, key, value),
             Root::Placed(at) => {
-                let root = root_with(alloc, chunks, *at, key, value, way)?;
-                self.root = root;
-                return Ok(());
+                let at = *at;
+                let put = |_there| Ok(Update::Put(value.clone()?));
+                let updated = OwnRoot::updated(alloc, chunks, at, key, put)?;
+                self.settle(updated);
+                Ok(())
             }
+        }
+    }
+
+    /// Lets the change see the value at a key (none where the key isn't there), and puts what it makes of it: a look
+    /// and a put. Where the key is there and the root is placed, that is one way down. Where it stops or refuses, the
+    /// map is as it was.
+    pub fn update<C: Chunks, F: FnOnce(Option<Json>) -> Result<Update, Stop>>(
+        &mut self,
+        alloc: Global,
+        chunks: &mut C,
+        key: &str,
+        change: F,
+    ) -> Result<Ran, Stop>
+        requires places { AreAll (C.places chunks.old) (tree_places self.old) }
+        requires map { IsSome (tree_map (C.contents chunks.old) self.old) }
+        requires callable { F.IsAlwaysCallable change }
+        ensures grown { Grows C.contents C.places chunks.old chunks.new }
+        ensures updated { (m : Entries) → tree_map (C.contents chunks.old) self.old ≡ Some m → IfOk result (λ ran.
+            (u : Updates) × F.post change (finite.get m key.now) (Ok u) × IsUpdate (C.contents chunks.old)
+            (C.contents chunks.new) (C.places chunks.new) self.old self.new m key.now u ran) }
+        ensures err { OnErr result (self.new ≡ self.old) }
+        ensures stopped { (m : Entries) → tree_map (C.contents chunks.old) self.old ≡ Some m → IfErr result (λ e.
+            (e ≡ NoMemory) ⊎ C.stops e ⊎ F.post change (finite.get m key.now) (Err e)) }
+    {
+        match &mut self.root {
+            Root::Own(node) => update_own(node, alloc, chunks, key, change),
+            Root::Placed(at) => {
+                let at = *at;
+                let updated = OwnRoot::updated(alloc, chunks, at, key, change)?;
+                Ok(self.settle(updated))
+            }
+        }
+    }
+
+    // The map is what an update made of its placed root.
+    fn settle(&mut self, updated: Updated) -> Ran
+        ensures ran { result ≡ updated.ran }
+        ensures tree { self.new ≡ settled updated.root self.old }
+    {
+        let Updated { ran, root } = updated;
+        if let Some(root) = root {
+            self.root = Root::Own(root);
+        }
+        ran
+    }
+}
+
+// Puts a value in own chunks, where its key stands so to it there.
+fn write_over<C: Chunks>(
+    node: &mut OwnRoot,
+    alloc: Global,
+    chunks: &mut C,
+    key: &str,
+    value: &Json,
+    standing: Comparison,
+) -> Result<(), Stop>
+    requires places { AreAll (C.places chunks.old) (places_of node.old.pieces) }
+    requires tree { IsTree (shown (C.contents chunks.old) node.old.pieces) }
+    requires standing { standing
+        ≡ stands_in (rows_or (shown (C.contents chunks.old) node.old.pieces)) key.now (Some value.now) }
+    ensures grown { Grows C.contents C.places chunks.old chunks.new }
+    ensures put { OnOk result (IsPutOn (C.contents chunks.old) (C.contents chunks.new) (C.places chunks.new) key.now
+        value.now node.old node.new) }
+    ensures err { OnErr result (node.new ≡ node.old) }
+    ensures stopped { IfErr result (λ s. (s ≡ NoMemory) ⊎ C.stops s) }
+{
+    if standing.is_same() {
+        return Ok(());
+    }
+    node.write(alloc, chunks, key, value, standing.is_there())
+}
+
+// Puts a value in own chunks.
+fn put_own<C: Chunks>(
+    node: &mut OwnRoot,
+    alloc: Global,
+    chunks: &mut C,
+    key: &str,
+    value: &Json,
+) -> Result<(), Stop>
+    requires places { AreAll (C.places chunks.old) (places_of node.old.pieces) }
+    requires tree { IsTree (shown (C.contents chunks.old) node.old.pieces) }
+    ensures grown { Grows C.contents C.places chunks.old chunks.new }
+    ensures put { OnOk result (IsPutOn (C.contents chunks.old) (C.contents chunks.new) (C.places chunks.new) key.now
+        value.now node.old node.new) }
+    ensures err { OnErr result (node.new ≡ node.old) }
+    ensures stopped { IfErr result (λ s. (s ≡ NoMemory) ⊎ C.stops s) }
+{
+    let standing = node.standing(chunks, key, Some(value))?;
+    write_over(node, alloc, chunks, key, value, standing)
+}
+
+// Looks at a key of own chunks, and puts what the change makes of it.
+fn update_own<C: Chunks, F: FnOnce(Option<Json>) -> Result<Update, Stop>>(
+    node: &mut OwnRoot,
+    alloc: Global,
+    chunks: &mut C,
+    key: &str,
+    change: F,
+) -> Result<Ran, Stop>
+    requires places { AreAll (C.places chunks.old) (places_of node.old.pieces) }
+    requires tree { IsTree (shown (C.contents chunks.old) node.old.pieces) }
+    requires callable { F.IsAlwaysCallable change }
+    ensures grown { Grows C.contents C.places chunks.old chunks.new }
+    ensures updated { IfOk result (λ ran. (u : Updates) × F.post change (finite.find (slice_cmp nat_cmp) key.now
+        (rows_or (shown (C.contents chunks.old) node.old.pieces))) (Ok u) × IsPutOr (C.contents chunks.old)
+        (C.contents chunks.new) (C.places chunks.new) key.now node.old node.new u ran) }
+    ensures err { OnErr result (node.new ≡ node.old) }
+    ensures stopped { IfErr result (λ e. (e ≡ NoMemory) ⊎ C.stops e ⊎ F.post change (finite.find (slice_cmp nat_cmp)
+        key.now (rows_or (shown (C.contents chunks.old) node.old.pieces))) (Err e)) }
+{
+    let there = node.get(chunks, key)?;
+    let was = copied(&there)?;
+    match change(there)? {
+        Update::Refuse(code) => Ok(Ran::Refused(code)),
+        Update::Put(value) => {
+            let standing = Comparison::of(was.as_ref(), &value);
+            write_over(node, alloc, chunks, key, &value, standing)?;
+            Ok(Ran::Done)
         }
     }
 }
 
-// The root of a map with a value put at a key, where its root was placed.
-fn root_with<C: Chunks>(
-    alloc: Global,
-    chunks: &mut C,
-    at: Ref,
-    key: &str,
-    value: &Json,
-    way: Way,
-) -> Result<Root, Stop>
-    requires place { C.places chunks.old at }
-    requires map { IsSome (map_at (C.contents chunks.old) (stamp_of at)) }
-    requires depth { chunk_depth (C.contents chunks.old) (stamp_of at) ≡ Some way.depth }
-    requires there { (m : Entries) → map_at (C.contents chunks.old) (stamp_of at) ≡ Some m
-        → way.there ≡ is_some (finite.get m key.now) }
-    ensures grown { Grows C.contents C.places chunks.old chunks.new }
-    ensures ok { (m : Entries) → map_at (C.contents chunks.old) (stamp_of at) ≡ Some m
-        → IfOk result (λ root. root_map (C.contents chunks.new) root ≡ Some (finite.insert m key.now value.now)) }
-    ensures few { IfOk result (λ root. root_fresh root ≤ way.depth + way.depth + 1) }
-    ensures levels { IfOk result (λ root. (e : ℕ) × (root_depth (C.contents chunks.new) root ≡ Some e)
-        × PutLater way.depth e (C.contents chunks.new) (λ p. placed_levels p way.depth (stamp_of at))
-        (root_levels root)) }
-    ensures replaced { way.there ≡ true → IfOk result (λ root. root_fresh root ≤ way.depth) }
-    ensures kept { way.there ≡ true → IfOk result (λ root. RenewedLater (C.contents chunks.new)
-        (λ p. placed_levels p way.depth (stamp_of at)) (root_levels root)) }
-    ensures deep { IfOk result (λ root. (e : ℕ) × (root_depth (C.contents chunks.new) root ≡ Some e) × (way.depth ≤ e)
-        × (e ≤ way.depth + 1)) }
-    ensures wide { IsWideAt (C.contents chunks.old) (stamp_of at) → IfOk result (IsWide (C.contents chunks.new)) }
-    ensures places { IfOk result (λ root. AreKept (C.places chunks.new) [] (root_places root)) }
-    ensures stopped { IfErr result (λ s. (s ≡ NoMemory) ⊎ C.stops s) }
+fn copied(value: &Option<Json>) -> Result<Option<Json>, AllocError>
+    ensures { IfOk result (λ copy. copy ≡ value.now) }
 {
-    let own = OwnRoot::written(alloc, chunks, at, way.depth, key, value, way.there)?;
-    Ok(Root::Own(own))
+    match value {
+        Some(value) => Ok(Some(value.clone()?)),
+        None => Ok(None),
+    }
 }

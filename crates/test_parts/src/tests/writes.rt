@@ -1,5 +1,5 @@
 //! A map that a transaction writes.
-use group_history::{Json, Refusal, Scan, Start, Text, WriteView};
+use group_history::{Json, Ran, Refusal, Scan, Start, Text, Update, WriteView};
 use map_tree::{Chunks, Tree, VecChunks};
 use std::alloc::Global;
 use std::prelude::*;
@@ -86,5 +86,46 @@ fn a_map_is_written_and_cleared(rt: HostRuntime) -> Result<(), Refusal> {
     let nodes = VecChunks::new(rt.alloc());
     let seen = written(rt.alloc(), nodes.shelf())?;
     assert_eq!(rt; seen, ([true, false, true, true], false));
+    Ok(())
+}
+
+/// Puts 33 at a key that is there, and else refuses with 7.
+fn update<V: WriteView>(alloc: Global, view: &mut V, key: &str) -> Result<Ran, Refusal> {
+    let value = Json::read(alloc, b"33")?;
+    let ran = view.update(key, |there| {
+        if there.is_none() {
+            return Ok(Update::Refuse(7));
+        }
+        Ok(Update::Put(value))
+    })?;
+    Ok(ran)
+}
+
+/// Of a transaction that has the keys of the first 17 numbers: whether the third is updated, one behind them refused,
+/// the third has its new number, and the one behind them is not there.
+fn updated<V: WriteView>(alloc: Global, view: &mut V) -> Result<[bool; 4], Refusal> {
+    let third = update(alloc, view, "k03")? == Ran::Done;
+    let behind = update(alloc, view, "k18")? == Ran::Refused(7);
+    let found = view.get("k03")?;
+    Ok([
+        third,
+        behind,
+        found.is_some_and(|value| value.text() == "33"),
+        !view.has("k18")?,
+    ])
+}
+
+/// The same of a transaction that begins with an empty map.
+fn updated_over<C: Chunks + Drop>(alloc: Global, chunks: C) -> Result<[bool; 4], Refusal> {
+    let mut tx = WriteTx::new(alloc, chunks, Tree::empty(alloc));
+    put_keys(alloc, &mut tx, 17)?;
+    updated(alloc, &mut tx)
+}
+
+#[test]
+fn a_key_that_is_there_is_updated(rt: HostRuntime) -> Result<(), Refusal> {
+    let nodes = VecChunks::new(rt.alloc());
+    let seen = updated_over(rt.alloc(), nodes.shelf())?;
+    assert_eq!(rt; seen, [true; 4]);
     Ok(())
 }

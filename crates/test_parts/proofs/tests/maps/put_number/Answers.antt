@@ -10,4 +10,5 @@ pub returns : goal.returns
 returns c =
     put_there (tree_map (map content_of c.args.chunks.now.nodes.now) c.args.tree.now)
     (tree_map (map content_of c.put.new.chunks.nodes.now) c.put.new.self)
-    (λ (m : Entries). finite.insert m c.as_str.result.now c.args.value.now) c.requires c.in_ok-put.ensures.ok
+    (λ (m : Entries). finite.insert m c.as_str.result.now c.args.value.now) c.requires
+    (λ m is. (c.in_ok-put.ensures.put m is).map)

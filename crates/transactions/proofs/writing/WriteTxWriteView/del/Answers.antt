@@ -16,7 +16,6 @@ invariant_of-self g c =
       placed = places-there c.del.result (g.C.Chunks.places c.del.new.chunks) t.tree c.del.new.self
           (all_on (g.C.Chunks.places t.chunks) (g.C.Chunks.places c.del.new.chunks) _ c.del.ensures.grown.1 t.placed)
           c.del.ensures.places c.del.ensures.err;
-      there = tt;
     }
 
 pub returns-clause-ok : goal.returns-clause-ok

@@ -10,7 +10,6 @@ invariant_of-self g c =
       spells = kept_there (m t.chunks) (m c.has.new.chunks) t.tree.root c.has.ensures.grown.0 t.spells;
       placed = all_on (g.C.Chunks.places t.chunks)
           (g.C.Chunks.places c.has.new.chunks) _ c.has.ensures.grown.1 t.placed;
-      there = tt;
     }
 
 pub returns-clause-kept : goal.returns-clause-kept
