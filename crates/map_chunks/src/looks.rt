@@ -1,9 +1,8 @@
 //! Looks at placed chunks, each of which is left again at once.
-ghost use Rattle.std.specs.Prelude.{◌≡◌, ◌<◌, ◌⊎◌, length, Some, IfOk, IfErr, option_copied};
+ghost use Rattle.std.specs.Prelude.{◌≡◌, ◌<◌, ◌⊎◌, length, Some, IfOk, IfErr};
 ghost use mathlib.Core.List.{IsPrefix};
-ghost use Rattle.map_chunks.specs.Writes.{is_there, is_the_same, standing};
+ghost use Rattle.map_chunks.specs.Writes.{is_there, is_the_same};
 
-use crate::search::compared;
 use group_history::{Json, Ref, Text};
 
 /// What a look at one chunk on the way to a key gives.
@@ -27,16 +26,6 @@ pub enum Comparison {
 }
 
 impl Comparison {
-    /// How the value at a key, if there is one, stands to this one.
-    pub fn of(there: Option<&Json>, value: &Json) -> Comparison
-        ensures { result ≡ standing (option_copied there.entry) (Some value.now) }
-    {
-        match there {
-            None => Comparison::Absent,
-            Some(there) => compared(there, Some(value)),
-        }
-    }
-
     /// Whether the key is there.
     pub fn is_there(self) -> bool
         ensures { result ≡ is_there self }

@@ -1,7 +1,7 @@
 -- How many own chunks and keys there are once a chunk is changed.
 use Rattle.std.proofs.Common.{◌≡◌, ◌<◌, ◌≤◌, ◌+◌, ◌-◌, ℕ, zero, suc, List, [], ◌∷◌, ◌++◌, Option, Some, None, length}
 use Rattle.std.proofs.Common.{get_or, set, insert, take, drop, min, take-append-drop, length-take, length-drop, sym, ap}
-use Rattle.std.proofs.Common.{◌∙◌, subst, arith, inl, inr, Result, Ok, Err, OnOk, nat_cmp, T}
+use Rattle.std.proofs.Common.{◌∙◌, subst, arith, inl, inr, nat_cmp, T}
 use Rattle.std.specs.Cmp.Lexicographic.{slice_cmp}
 use Rattle.std.specs.FinMap.{put}
 use Rattle.group_history.specs.Map.{Bytes}
@@ -119,15 +119,6 @@ wide_kept old new half e d k w = by (subst (HasKept old.entries new.entries) e k
     by k (inl h) = inl (d ∙ h)
     by (inl k) (inr h) = inr (omega (arith, k, h))
     by (inr k) (inr h) = inr (omega (arith, k.0, h))
-
-pub wide_same : (old new : Seen) → new.depth ≡ old.depth → new.entries ≡ old.entries → IsWideChunk old → IsWideChunk new
-wide_same old new d n (inl h) = inl (d ∙ h)
-wide_same old new d n (inr h) = inr (omega (arith, h, n))
-
--- what holds whatever the answer is
-pub ok_all : {A E P : Type 0} (r : Result A E) → P → OnOk r P
-ok_all (Ok x) p = p
-ok_all (Err e) p = tt
 
 -- a number that is the same as one chunk's after a change
 pub deep_same : (old new : ℕ) → new ≡ old → (old ≤ new) × (new ≤ old + 1)

@@ -17,14 +17,13 @@ use Rattle.map_chunks.proofs.OpenLemmas.{stamped}
 use Rattle.map_chunks.specs.Shown.{own, leaf_keys, Seen, Shape}
 use Rattle.map_nodes.proofs.LevelLemmas.{changed_as, changed_beside, inner-levels, leaf-levels, topped-same}
 use Rattle.map_nodes.specs.Inside.Copies.{IsCopy, MayBeDeep}
-use Rattle.map_nodes.specs.Inside.Puts.{IsChildRenewed}
 use Rattle.map_nodes.specs.Levels.{levels_of, node_levels, nothing, parting, placed_levels, seen_levels, topped}
-use Rattle.map_nodes.specs.Levels.{AreChanged, CopiedLater, IsCopied, IsRenewed, Levels, Member, RenewedLater}
-use Rattle.map_nodes.specs.Nodes.{body_marks, child_levels, kids_levels, kids_marks, sunk}
+use Rattle.map_nodes.specs.Levels.{AreChanged, CopiedLater, IsCopied, Levels, Member, RenewedLater}
+use Rattle.map_nodes.specs.Nodes.{body_marks, child_levels, kids_levels}
 use Rattle.map_nodes.specs.declared.nodes.Body.{Body}
-use Rattle.map_nodes.specs.declared.nodes.Body.TheVariants.{Leaf, Inner}
+use Rattle.map_nodes.specs.declared.nodes.Body.TheVariants.{Leaf}
 use Rattle.map_nodes.specs.declared.nodes.OwnChild.{OwnChild}
-use Rattle.map_nodes.specs.declared.nodes.OwnChild.TheVariants.{Placed, Own}
+use Rattle.map_nodes.specs.declared.nodes.OwnChild.TheVariants.{Placed}
 
 -- PLACED CHUNKS
 
@@ -128,20 +127,3 @@ pub leaf_kept-levels : (p : Contents) (depth : ℕ) (keys : List Bytes) (body : 
     → RenewedLater p (seen_levels old) (λ q. levels_of q (own 0 (leaf_keys keys) ∷ []))
 leaf_kept-levels p depth keys body values old s is later pre i =
     inl (ap (λ w. levels_of later w i) (sym (ap (body_marks depth keys) is) ∙ s))
-
--- an inner chunk has the keys that it had, and in the place of one child's chunks are new ones with the same keys
-pub inner_kept-levels : (p : Contents) (depth : ℕ) (keys : List Bytes) (body : Body) (kids : _) (new : List OwnChild)
-    (old : Seen) (i : ℕ) (child : OwnChild) → body_marks depth keys body ≡ old.marks → body ≡ Inner kids
-    → slice_get kids.items i ≡ Some child → IsChildRenewed p (depth - 1) i kids.items new child
-    → RenewedLater p (seen_levels old) (λ q. levels_of q (own 0 (parting keys) ∷ sunk (kids_marks (depth - 1) new)))
-inner_kept-levels p depth keys body kids new old i child s is g h later pre j =
-    let b = depth - 1 in
-    let n = parting keys in
-    let was = kids_levels b kids.items later in
-    let now = kids_levels b (set kids.items i (Own h.0)) later in
-    changed_as IsRenewed (topped (None, n) was j) (topped (None, n) now j) (seen_levels old later j)
-    (levels_of later (own 0 n ∷ sunk (kids_marks b new)) j)
-    (ap (λ w. levels_of later w j) (sym s ∙ ap (body_marks depth keys) is) ∙ inner-levels later b n kids.items j)
-    (inner-levels later b n new j ∙ topped-same (None, n) _ _ (λ k. ap (λ w. kids_levels b w later k) h.1) j)
-    (topped_changed IsRenewed (None, n) was now
-    (λ k. levels-set IsRenewed later b kids.items i child (Own h.0) k g (h.2 later pre k)) j)

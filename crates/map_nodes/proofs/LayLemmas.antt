@@ -1,7 +1,7 @@
 -- A trail laid from a placed chunk down to a key.
-use Rattle.std.proofs.Common.{◌≡◌, ◌<◌, ◌+◌, ◌-◌, ℕ, zero, suc, cond, inl, inr, List, [], ◌∷◌, ◌++◌, Option, None}
+use Rattle.std.proofs.Common.{◌≡◌, ◌<◌, ◌+◌, ◌-◌, ℕ, zero, suc, cond, inl, inr, List, [], ◌∷◌, Option, None}
 use Rattle.std.proofs.Common.{Some, length, Ordering, Less, Equal, Greater}
-use Rattle.std.proofs.Common.{append_assoc, Result, Ok, Err, IfOk, slice_get, get_or, set, refl, sym, ap, ◌∙◌, subst}
+use Rattle.std.proofs.Common.{slice_get, get_or, set, refl, sym, ap, ◌∙◌, subst}
 use Rattle.std.proofs.Common.{arith, nat_cmp}
 use Rattle.std.proofs.lemmas.List.{get_or-map}
 use Rattle.std.specs.Arc.{arc_value}
@@ -16,27 +16,27 @@ use Rattle.group_history.specs.declared.nodes.Chunk.TheVariants as chunked
 use Rattle.group_history.specs.declared.nodes.Node.TheVariants as node
 use Rattle.group_history.specs.declared.refs.Ref.{Ref}
 use Rattle.group_history.specs.Map.{Bytes}
-use Rattle.group_history.specs.Naming.{chunk_children, chunk_content}
+use Rattle.group_history.specs.Naming.{chunk_content}
 use Rattle.group_history.specs.Refs.{stamp_of}
 use Rattle.group_history.specs.Rows.{Rows, keys_of, values_of, paired, AreKeys}
 use Rattle.group_history.specs.Spelling.{Contents, rows_at}
 use Rattle.group_history.proofs.Pairs.{keys_of-paired, paired-parts}
 use Rattle.group_history.proofs.Spellings.{segment-content}
 use Rattle.map_chunks.proofs.JoinLemmas.{some_is}
-use Rattle.map_chunks.proofs.KeptLemmas.{all_on, kept-from_none, kept-none}
+use Rattle.map_chunks.proofs.KeptLemmas.{kept-from_none, kept-none}
 use Rattle.map_chunks.proofs.OpenLemmas.{known, rows-kept, spells_at}
-use Rattle.map_chunks.proofs.SearchLemmas.{absent_in, find-absent, found_in, got, length-keys_of, length-values_of}
+use Rattle.map_chunks.proofs.SearchLemmas.{found_in, got, length-keys_of, length-values_of}
 use Rattle.map_chunks.specs.Places.{AreAll, AreKept, places_of}
-use Rattle.map_chunks.specs.Search.{IsAbsent, IsFound, IsPlace}
+use Rattle.map_chunks.specs.Search.{IsFound, IsPlace}
 use Rattle.map_chunks.specs.Shown.{Piece, Seen, Shape, leaf_keys, rows_or, shown, IsTree}
 use Rattle.map_chunks.specs.Wide.{IsWideAt}
-use Rattle.map_nodes.proofs.ChangeLemmas.{none_there, put-found, replaced}
+use Rattle.map_nodes.proofs.ChangeLemmas.{put-found, replaced}
 use Rattle.map_nodes.proofs.CopyLemmas.{Copyable, copied_inner, copied_pieces, copyable}
 use Rattle.map_nodes.proofs.KeptLevels.{levels-set, placed_inner, placed_leaf, placed-values, still}
 use Rattle.map_nodes.proofs.LevelLemmas.{changed_as, inner-levels, leaf-levels, topped-same}
 use Rattle.map_nodes.proofs.NamedLemmas.{kept-child, places-rows}
 use Rattle.map_nodes.proofs.NodeLemmas.{Down, down, shown-rows}
-use Rattle.map_nodes.proofs.ReplaceLemmas.{can_replace, kid_replaced}
+use Rattle.map_nodes.proofs.ReplaceLemmas.{kid_replaced}
 use Rattle.map_nodes.proofs.SpotLemmas.{read_at, step_places}
 use Rattle.map_nodes.proofs.TrailLemmas.{kid_of, length-placed, placed-places, step-fresh}
 use Rattle.map_nodes.proofs.WideLemmas.{wide-copy, wide_grown}
@@ -66,17 +66,6 @@ rows_put rows keys values key v i k x o f =
     rows in
     replaced keys values i v r.value r.front key r.back l r.whole r.at
     ∙ sym (put-found key v (paired keys values) i r) ∙ ap (put (slice_cmp nat_cmp) key v) whole
-
--- a key that is there stands somewhere
-pub rows_have : (rows : Rows) (keys : List Bytes) (key : Bytes) (n : ℕ) → keys ≡ keys_of rows → AreKeys keys
-    → IsSome (find (slice_cmp nat_cmp) key rows) → IsAbsent key keys n → ⊥
-rows_have rows keys key n k o there a =
-    let l : length (values_of rows) ≡ length keys = omega
-    (arith, ap length k, length-keys_of rows, length-values_of rows) in
-    let r = absent_in key keys (values_of rows) n o.1 l a in
-    let whole : paired keys (values_of rows) ≡ rows = ap (λ w. paired w (values_of rows)) k ∙ paired-parts rows in
-    none_there (find (slice_cmp nat_cmp) key rows) there
-    (ap (find (slice_cmp nat_cmp) key) (sym whole) ∙ find-absent key (paired keys (values_of rows)) n r)
 
 -- A PLACED CHUNK
 
@@ -210,14 +199,6 @@ on_way p q depth stamp key kids s below x h b =
       way = down q depth keys (placed_kids ats) (chunk_pieces depth (chunked.Inner kids)) key s.place (Placed below)
           c.1.2 c.1.3 (sym whole) place at tree;
     }
-
--- the child on the way can be replaced
-pub can_below : (q : Contents) (depth : ℕ) (key : Bytes) (s : Step) (rows : Rows) (below : Ref)
-    → OnWay q depth key s rows below → IsSome (find (slice_cmp nat_cmp) key rows)
-    → CanReplace q (depth - 1) key (Placed below)
-can_below q depth key s rows below x there =
-    can_replace q depth (arc_value s.keys) (placed_kids s.children.items) x.pieces key s.place (Placed below) x.way
-    x.here (subst (λ w. IsSome (find (slice_cmp nat_cmp) key (rows_or w))) (sym x.rows_are) there) (Placed below) x.here
 
 -- a step has the keys of the chunk that it is over, and in the place of one child the chunk below it
 step_levels : (p : Contents) (depth stamp : ℕ) (kids : List (Bytes × Ref)) (s : Step) (below : Ref) (next : Seen)

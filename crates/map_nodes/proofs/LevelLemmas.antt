@@ -1,17 +1,15 @@
 -- Levels of marks, of children and of chunks.
 use Rattle.std.proofs.Common.{◌≡◌, ◌+◌, ◌-◌, ℕ, zero, suc, Bool, true, false, cond, nat_le, List, [], ◌∷◌, ◌++◌, None}
-use Rattle.std.proofs.Common.{append_assoc, append-nil, length, length-append, refl, sym, ap, ◌∙◌, subst, arith, Option, inl, inr, drop, get_or}
+use Rattle.std.proofs.Common.{append_assoc, append-nil, length, length-append, refl, sym, ap, ◌∙◌, subst, arith}
+use Rattle.std.proofs.Common.{Option, inl, inr, drop, get_or}
 use Rattle.std.specs.Prelude.{◌==◌}
 use Rattle.std.proofs.lemmas.Bool.Decides.{nat_tests}
 use Rattle.group_history.specs.Refs.{stamp_of}
 use Rattle.group_history.specs.Spelling.{Contents}
-use Rattle.group_history.specs.Map.{Bytes}
-use Rattle.map_chunks.specs.Shown.{Mark, Shape, own, leaf_keys, placed}
-use Rattle.map_nodes.specs.Levels.{Levels, Member, levels_of, mark_levels, parting, placed_levels, topped}
+use Rattle.map_chunks.specs.Shown.{Mark, Shape, own, placed}
+use Rattle.map_nodes.specs.Levels.{Levels, Member, levels_of, mark_levels, placed_levels, topped}
 use Rattle.map_nodes.specs.Levels.{as_new, AreChanged, IsCopied}
-use Rattle.map_nodes.specs.Nodes.{body_levels, body_marks, child_levels, child_marks, kids_levels, kids_marks, sunk}
-use Rattle.map_nodes.specs.declared.nodes.Body.{Body}
-use Rattle.map_nodes.specs.declared.nodes.Body.TheVariants.{Leaf, Inner}
+use Rattle.map_nodes.specs.Nodes.{child_levels, child_marks, kids_levels, kids_marks, sunk}
 use Rattle.map_nodes.specs.declared.nodes.OwnChild.{OwnChild}
 use Rattle.map_nodes.specs.declared.nodes.OwnChild.TheVariants.{Placed, Own}
 
@@ -93,11 +91,6 @@ inner-levels c b n kids i = topped-is c n (kids_marks b kids) i ∙ topped-same 
 
 pub leaf-levels : (c : Contents) (n : Shape) (i : ℕ) → levels_of c (own 0 n ∷ []) i ≡ topped (None, n) (λ i. []) i
 leaf-levels c n i = topped-is c n [] i ∙ topped-same (None, n) _ _ (λ i. refl) i
-
-pub body-levels : (c : Contents) (depth : ℕ) (keys : List Bytes) (body : Body) (i : ℕ)
-    → levels_of c (body_marks depth keys body) i ≡ body_levels depth keys body c i
-body-levels c depth keys (Leaf values) i = leaf-levels c (leaf_keys keys) i
-body-levels c depth keys (Inner kids) i = inner-levels c (depth - 1) (parting keys) kids.items i
 
 pub kids-levels-append : (c : Contents) (b : ℕ) (xs ys : List OwnChild) (i : ℕ)
     → kids_levels b (xs ++ ys) c i ≡ kids_levels b xs c i ++ kids_levels b ys c i

@@ -16,6 +16,7 @@ mod ReplaceLemmas
 mod RootLemmas
 mod ScanLemmas
 mod SecondLemmas
+mod RenewLemmas
 mod UnputLemmas
 pub mod WideLemmas
 mod BelowLemmas

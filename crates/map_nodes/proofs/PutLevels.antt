@@ -196,7 +196,7 @@ lower_at keys key k (suc i) p low = absurd (clash (is_above (get_or keys (suc i)
     clash true e f = cc
     clash false e f = cc
 
-lowered-parting : (keys : List Bytes) (key : Bytes) (i : ℕ) (lower : Option Bytes) → IsPlace key keys i
+pub lowered-parting : (keys : List Bytes) (key : Bytes) (i : ℕ) (lower : Option Bytes) → IsPlace key keys i
     → IsLower key (get_or keys i []) lower → drop 1 (lowered i lower keys) ≡ drop 1 keys
 lowered-parting keys key i None p low = refl
 lowered-parting keys key i (Some k) p low = ap (λ n. drop 1 (set keys n k)) (lower_at keys key k i p low) ∙ first keys

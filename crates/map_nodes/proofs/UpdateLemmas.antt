@@ -1,5 +1,5 @@
 -- What a way down ends in, as what an update makes of a map.
-use Rattle.std.proofs.Common.{◌≡◌, ◌<◌, ◌≤◌, ◌+◌, ◌*◌, ℕ, List, [], Option, Some, None, refl, sym, ap, ◌∙◌, subst, arith}
+use Rattle.std.proofs.Common.{◌≡◌, ◌≤◌, ◌+◌, ℕ, List, [], Option, Some, None, sym, ap, ◌∙◌, subst, arith}
 use Rattle.std.specs.Prelude.{IsSome}
 use Rattle.std.specs.Ordering.{nat_cmp}
 use Rattle.std.specs.Cmp.Lexicographic.{slice_cmp}
@@ -9,10 +9,8 @@ use Rattle.group_history.specs.declared.mutators.Update.{Update}
 use Rattle.group_history.specs.declared.mutators.Update.TheVariants.{Put, Refuse}
 use Rattle.group_history.specs.declared.refs.Ref.{Ref}
 use Rattle.group_history.specs.Map.{Bytes}
-use Rattle.group_history.specs.Refs.{stamp_of}
 use Rattle.group_history.specs.Rows.{Rows}
 use Rattle.group_history.specs.Spelling.{Contents, rows_at}
-use Rattle.map_chunks.proofs.JoinLemmas.{some_is}
 use Rattle.map_chunks.proofs.OpenLemmas.{known}
 use Rattle.map_chunks.proofs.WayLemmas.{deep_rows, depth_later, rows_later}
 use Rattle.map_chunks.specs.Places.{AreKept, places_of}

@@ -1,6 +1,7 @@
 -- The one way down to a key: through an inner chunk, and up again.
-use Rattle.std.proofs.Common.{◌≡◌, ◌<◌, ◌≤◌, ◌+◌, ◌-◌, ℕ, List, [], ◌∷◌, ◌++◌, Some, None, length, reverse, slice_get}
-use Rattle.std.proofs.Common.{◌^◌, Option, Result, Ok, Err, IfOk, IfErr, append-nil, get_or, refl, sym, ap, ◌∙◌, subst, arith}
+use Rattle.std.proofs.Common.{◌≡◌, ◌<◌, ◌+◌, ◌-◌, ℕ, List, [], ◌∷◌, Some, None, length, reverse, slice_get}
+use Rattle.std.proofs.Common.{◌^◌, Option, Result, Ok, Err, IfOk, IfErr, append-nil, get_or, refl, sym, ap, ◌∙◌}
+use Rattle.std.proofs.Common.{subst, arith}
 use Rattle.std.proofs.lemmas.List.{reverse-append}
 use Rattle.std.specs.List.{Contains}
 use Rattle.std.specs.Prelude.{IsSome}
@@ -60,9 +61,12 @@ leaf_misses rows key n o a =
 -- the child is one of the children
 pub child_in : (kids : List (Bytes × Ref)) (key : Bytes) (i : ℕ) (below : Ref) → IsPlace key (keys_of kids) i
     → below ≡ get_or (values_of kids) i below → Contains (values_of kids) below
-child_in kids key i below place b =
-    (i, (let l : i < length (values_of kids) = omega
-        (arith, length-keys_of kids, length-values_of kids, place.0) in l), sym b)
+child_in kids key i below place b = (
+  i,
+  (let l : i < length (values_of kids) = omega
+      (arith, length-keys_of kids, length-values_of kids, place.0) in l),
+  sym b,
+)
 
 -- new chunks below make one above them
 laid_up : (q r : Contents) (may : Ref → Type 0) (key v : Bytes) (at below : Ref) (kids : List (Bytes × Ref)) (d : ℕ)

@@ -6,7 +6,7 @@ pub mod Scanning
 pub mod Copies
 pub mod Freezing
 -- A put: the upper half of a chunk that was split, how many chunks and keys there are then, what is ready before it,
--- why a row isn't put, and a value replaced.
+-- why a row isn't put, what is made of the chunks, and a child in which a value may be replaced.
 pub mod Halves
 pub mod Counts
 pub mod Ready

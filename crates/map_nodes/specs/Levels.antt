@@ -157,7 +157,8 @@ AreNamedNow first [] (n ∷ new) = ⊥
 AreNamedNow first (o ∷ old) [] = ⊥
 AreNamedNow first (o ∷ old) (n ∷ new) = IsNamedNow first o n × AreNamedNow first old new
 
--- Whatever is placed later: the chunks that were new have stamps from the first one on, and the others are as they were.
+-- Whatever is placed later: the chunks that were new have stamps from the first one on, and the others are as they
+-- were.
 abbrev pub NamedLater : ℕ → Contents → (Contents → Levels) → (Contents → Levels) → Type 0
 NamedLater first contents old new = (later : Contents) → IsPrefix contents later → (level : ℕ)
     → AreNamedNow first (old later level) (new later level)

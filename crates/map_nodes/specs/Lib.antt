@@ -1,6 +1,6 @@
 -- What the chunks that a draft owns show. Read Nodes: the pieces of a chunk and what holds of it; Trails: those of a
 -- list of chunks on one way; Roots: which of both a root is; Removing: what a root is once a key is removed; then
--- Levels: how many entries the chunks of each level have, and what a put makes of them. No public clause above
+-- Levels: of which chunks each level consists, and what a put makes of them. No public clause above
 -- `map_tree` reaches these.
 pub mod Nodes
 pub mod Trails

@@ -4,7 +4,7 @@ use Rattle.group_history.specs.Map.{Bytes}
 use Rattle.group_history.specs.Refs.{stamp_of}
 use Rattle.group_history.specs.Rows.{Rows, AreKeys, paired}
 use Rattle.group_history.specs.Spelling.{Contents}
-use Rattle.map_chunks.specs.Shown.{value, chunk, own, placed, Mark, Piece, Shape, leaf_keys}
+use Rattle.map_chunks.specs.Shown.{value, chunk, own, placed, Mark, Piece, leaf_keys}
 use Rattle.map_nodes.specs.Levels.{Levels, nothing, parting, placed_levels, seen_levels, topped}
 use Rattle.map_nodes.specs.declared.nodes.OwnChild.{OwnChild}
 use Rattle.map_nodes.specs.declared.nodes.OwnChild.TheVariants.{Placed, Own}
@@ -84,11 +84,6 @@ abbrev pub sunk : List Mark → List Mark
 sunk [] = []
 sunk (own at keys ∷ ms) = own (at + 1) keys ∷ sunk ms
 sunk (placed at deep ref ∷ ms) = placed (at + 1) deep ref ∷ sunk ms
-
--- a chunk's keys by its parts
-abbrev pub body_shape : List Bytes → Body → Shape
-body_shape keys (Leaf values) = leaf_keys keys
-body_shape keys (Inner kids) = parting keys
 
 -- which chunks these are, where the children are so deep
 abbrev pub child_marks : ℕ → OwnChild → List Mark

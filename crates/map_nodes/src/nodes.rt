@@ -11,7 +11,6 @@ mod homes;
 mod putting;
 mod reading;
 mod removing;
-mod replacing;
 mod scanning;
 mod trails;
 mod writing;

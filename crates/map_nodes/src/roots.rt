@@ -1,7 +1,7 @@
 //! The root of what a draft owns of a map.
 //!
 //! A first put at a key that is there makes a trail; other changes need an own chunk, and make one of a trail first.
-ghost use Rattle.std.specs.Prelude.{◌≡◌, ◌==◌, ◌⊎◌, ◌+◌, ◌-◌, ◌*◌, ◌^◌, ◌<◌, ◌≤◌, [], ◌∷◌, true, min, length, Ok, Err, Some, None};
+ghost use Rattle.std.specs.Prelude.{◌≡◌, ◌==◌, ◌⊎◌, ◌+◌, ◌-◌, ◌^◌, ◌<◌, ◌≤◌, [], ◌∷◌, min, length, Ok, Err, Some, None};
 ghost use Rattle.std.specs.Prelude.{IsSome, IfOk, IfErr, OnOk, OnErr, option_copied};
 ghost use Rattle.std.specs.Ordering.{nat_cmp};
 ghost use Rattle.std.specs.Cmp.Lexicographic.{slice_cmp};
@@ -20,10 +20,10 @@ ghost use Rattle.map_chunks.specs.Scanning.{taken, Gave, IsLow};
 ghost use Rattle.map_chunks.specs.Seeking.{chunk_depth, stands_in};
 ghost use Rattle.map_chunks.specs.Shown.{chunk_rows, own, leaf_keys, shown, IsTree, rows_or};
 ghost use Rattle.map_nodes.specs.Inside.Laying.{IsReached};
-ghost use Rattle.map_nodes.specs.Updating.{IsUpdated};
+ghost use Rattle.map_nodes.specs.Updating.{IsPutOn, IsUpdated};
 ghost use Rattle.map_chunks.specs.Wide.{IsWideAt, IsWideChunk};
 ghost use Rattle.map_nodes.specs.Removing.{root_left, without, root_rows, IsWideRoot, IsLowRoot};
-ghost use Rattle.map_nodes.specs.Levels.{placed_levels, seen_levels, NamedLater, PutLater, RenewedLater};
+ghost use Rattle.map_nodes.specs.Levels.{placed_levels, seen_levels, NamedLater, PutLater};
 
 use crate::nodes::{Laying, OwnNode, Reached, Trail, change_at};
 use group_history::{Json, Ran, Ref, Refusal, Scan, SearchKey, Stop, Update};
@@ -126,7 +126,8 @@ impl OwnRoot {
         ensures grown { Grows C.contents C.places chunks.old chunks.new }
         ensures updated { IfOk result (λ r. (u : Updates) × F.post change (finite.find (slice_cmp nat_cmp) key.now
             (rows_or (chunk_rows (C.contents chunks.old) (stamp_of at)))) (Ok u)
-            × IsUpdated (C.contents chunks.old) (C.contents chunks.new) (C.places chunks.new) (stamp_of at) key.now u r) }
+            × IsUpdated (C.contents chunks.old) (C.contents chunks.new) (C.places chunks.new) (stamp_of at) key.now u
+            r) }
         ensures stopped { IfErr result (λ e. (e ≡ NoMemory) ⊎ C.stops e ⊎ F.post change (finite.find
             (slice_cmp nat_cmp) key.now (rows_or (chunk_rows (C.contents chunks.old) (stamp_of at)))) (Err e)) }
     {
@@ -169,7 +170,7 @@ impl OwnRoot {
         }
     }
 
-    // The map whose root is a placed chunk, which is so deep, with a value put at a key that isn't there, or may not be.
+    // The map whose root is a placed chunk, which is so deep, with a value put at a key that isn't there.
     fn inserted<C: Chunks>(
         alloc: Global,
         chunks: &mut C,
@@ -193,7 +194,7 @@ impl OwnRoot {
         ensures stopped { IfErr result (λ s. (s ≡ NoMemory) ⊎ C.stops s) }
     {
         let mut node = OwnNode::copied(alloc, chunks, at, depth, ROOM)?;
-        node.write(alloc, chunks, key, value, false)?;
+        node.write(alloc, chunks, key, value)?;
         Ok(OwnRoot::new(node))
     }
 
@@ -288,7 +289,7 @@ impl OwnRoot {
         }
     }
 
-    /// Puts a row in the map whose root the chunk is; `there` says whether its key is there.
+    /// Puts a row in the map whose root the chunk is. Where it is there already, the chunk is as it was.
     /// Stops for want of memory, or as the store does, and the chunk is as it was then.
     pub fn write<C: Chunks>(
         &mut self,
@@ -296,34 +297,20 @@ impl OwnRoot {
         chunks: &mut C,
         key: &str,
         value: &Json,
-        there: bool,
     ) -> Result<(), Stop>
         requires places { AreAll (C.places chunks.old) (places_of self.old.pieces) }
         requires tree { IsTree (shown (C.contents chunks.old) self.old.pieces) }
-        requires there { there ≡ true → IsSome
-            (finite.find (slice_cmp nat_cmp) key.now (rows_or (shown (C.contents chunks.old) self.old.pieces))) }
         ensures grown { Grows C.contents C.places chunks.old chunks.new }
-        ensures done { OnOk result (shown (C.contents chunks.new) self.new.pieces
-            ≡ Some (finite.put (slice_cmp nat_cmp) key.now value.now
-            (rows_or (shown (C.contents chunks.old) self.old.pieces)))) }
-        ensures few { OnOk result (self.new.fresh ≤ self.old.fresh + 2 * self.old.depth) }
-        ensures levels { OnOk result (PutLater self.old.depth self.new.depth (C.contents chunks.new)
-            (seen_levels self.old) (seen_levels self.new)) }
-        ensures same { there ≡ true → OnOk result (RenewedLater (C.contents chunks.new) (seen_levels self.old)
-            (seen_levels self.new)) }
-        ensures places { OnOk result (AreKept (C.places chunks.new) (places_of self.old.pieces)
-            (places_of self.new.pieces)) }
-        ensures replaced { there ≡ true → OnOk result (self.new.fresh < self.old.fresh + self.old.depth) }
-        ensures deep { OnOk result ((self.old.depth ≤ self.new.depth) × (self.new.depth ≤ self.old.depth + 1)) }
-        ensures wide { IsWideChunk self.old → OnOk result (IsWideChunk self.new) }
+        ensures put { OnOk result (IsPutOn (C.contents chunks.old) (C.contents chunks.new) (C.places chunks.new)
+            key.now value.now self.old self.new) }
         ensures err { OnErr result (self.new ≡ self.old) }
         ensures stopped { IfErr result (λ s. (s ≡ NoMemory) ⊎ C.stops s) }
     {
         match &mut self.form {
-            Form::Node(node) => node.write(alloc, chunks, key, value, there),
+            Form::Node(node) => node.write(alloc, chunks, key, value),
             Form::Trail(trail) => {
                 let mut node = trail.thawed(alloc)?;
-                node.write(alloc, chunks, key, value, there)?;
+                node.write(alloc, chunks, key, value)?;
                 self.form = Form::Node(node);
                 Ok(())
             }

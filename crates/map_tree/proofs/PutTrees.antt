@@ -1,7 +1,7 @@
 -- What a put and an update make of a tree, by what they make of its root.
-use Rattle.std.proofs.Common.{◌≡◌, ℕ, List, Option, Some, None, inl, refl, sym, ap, ◌∙◌, subst, arith, T}
+use Rattle.std.proofs.Common.{◌≡◌, ℕ, List, Option, Some, None, inl, refl, sym, ap, ◌∙◌, subst, arith}
 use Rattle.std.specs.Prelude.{IsSome, option_and_then}
-use Rattle.std.specs.Cmp.Lexicographic.{slice_cmp, nat_list_cmp_total}
+use Rattle.std.specs.Cmp.Lexicographic.{slice_cmp}
 use Rattle.std.specs.FinMap as finite
 use Rattle.std.specs.Ordering.{nat_cmp}
 use mathlib.Core.List.{IsPrefix}
@@ -11,14 +11,12 @@ use Rattle.group_history.specs.declared.mutators.Update.TheVariants.{Put, Refuse
 use Rattle.group_history.specs.declared.refs.Ref.{Ref}
 use Rattle.group_history.specs.Map.{Bytes, Entries}
 use Rattle.group_history.specs.Refs.{stamp_of}
-use Rattle.group_history.specs.Rows.{Rows}
 use Rattle.group_history.specs.Spelling.{Contents}
 use Rattle.group_history.proofs.Lists.{prefix_trans}
 use Rattle.map_chunks.proofs.JoinLemmas.{some_is}
 use Rattle.map_chunks.proofs.KeptLemmas.{kept-from_none, kept-same}
 use Rattle.map_chunks.proofs.OpenLemmas.{known}
 use Rattle.map_chunks.proofs.TreeLemmas.{map_at-rows, value_of_map}
-use Rattle.map_chunks.specs.Places.{places_of}
 use Rattle.map_chunks.specs.Shown.{chunk_rows, map_of_rows, rows_or, shown, IsTree, Piece, Seen}
 use Rattle.map_nodes.proofs.ChangeLemmas.{shown-kept}
 use Rattle.map_nodes.proofs.LevelLemmas.{changed_as}
@@ -34,40 +32,6 @@ use Rattle.map_tree.specs.declared.tree.Root.TheVariants.{Placed, Own}
 use Rattle.map_tree.specs.declared.tree.Tree.{Tree}
 use Rattle.map_tree.proofs.RootCounts.{placed_as, root_depth_kept, wide_root_grown}
 use Rattle.map_tree.proofs.WriteLemmas.{put_map, put_same, root_kept}
-
--- VALUES THAT ARE THERE
-
--- rows in which a value is there that is put
-put_rows : (rows : Rows) (key value : Bytes) → T (finite.is_sorted (slice_cmp nat_cmp) rows)
-    → finite.find (slice_cmp nat_cmp) key rows ≡ Some value → finite.put (slice_cmp nat_cmp) key value rows ≡ rows
-put_rows rows key value o f =
-    let m : Entries = finite.from_sorted rows in
-    let e = finite.entries-from_sorted (slice_cmp nat_cmp) rows o in
-    let there : finite.get m key ≡ Some value = finite.get-entries m key
-    ∙ ap (finite.find (slice_cmp nat_cmp) key) e ∙ f in
-    ap (finite.put (slice_cmp nat_cmp) key value) (sym e) ∙ sym (finite.entries-insert nat_list_cmp_total m key value)
-    ∙ ap finite.entries (put_same m key value there) ∙ e
-
--- own chunks in which a value is there that is put
-pub put_there_on : (p : Contents) (places : Ref → Type 0) (key value : Bytes) (n : Seen) → IsTree (shown p n.pieces)
-    → finite.find (slice_cmp nat_cmp) key (rows_or (shown p n.pieces)) ≡ Some value
-    → IsPutOn p p places key value n n
-put_there_on p places key value n t f = record {
-  same = λ z. refl;
-  shown_is = by (shown p n.pieces) t f;
-  few = omega arith;
-  replaced = λ z. omega arith;
-  levels = as_before p n.depth n.depth (seen_levels n) (seen_levels n) refl (λ later pre level. inl refl);
-  kept = λ z later pre level. inl refl;
-  deep = (omega arith, omega arith);
-  wide = λ w. w;
-  places_are = kept-same places (places_of n.pieces);
-}
-  where
-    by : (x : Option Rows) → IsTree x → finite.find (slice_cmp nat_cmp) key (rows_or x) ≡ Some value
-        → x ≡ Some (finite.put (slice_cmp nat_cmp) key value (rows_or x))
-    by None t f = absurd t
-    by (Some rows) t f = ap (λ w. Some w) (sym (put_rows rows key value t f))
 
 -- what own chunks show, once more is placed
 pub shown_later : (old new : Contents) (ps : List Piece) → IsPrefix old new → IsTree (shown old ps)

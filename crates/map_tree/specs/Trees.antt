@@ -42,7 +42,7 @@ abbrev pub root_levels : Root → Contents → Levels
 root_levels (Placed at) contents = levels_at contents (stamp_of at)
 root_levels (Own n) contents = seen_levels n contents
 
--- on each level of the tree, how many entries its chunks have, in their order
+-- on each level of the tree, which chunks stand there, in their order
 abbrev pub tree_levels : Tree → Contents → Levels
 tree_levels t = root_levels t.root
 

@@ -67,7 +67,8 @@ impl Tree {
         ensures map { (contents : Contents) → tree_map contents result ≡ Some finite.empty }
         ensures depth { (contents : Contents) → tree_depth contents result ≡ Some 1 }
         ensures fresh { tree_fresh result ≡ 1 }
-        ensures levels { (contents : Contents) → AreAsBefore (topped (None, leaf_keys []) nothing) (tree_levels result contents) }
+        ensures levels { (contents : Contents) → AreAsBefore (topped (None, leaf_keys []) nothing)
+            (tree_levels result contents) }
         ensures places { tree_places result ≡ [] }
         ensures wide { (contents : Contents) → HasWideRoot contents result }
     {

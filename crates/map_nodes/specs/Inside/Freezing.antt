@@ -39,8 +39,8 @@ AreFrozen first old new (child ∷ children) [] = ⊥
 AreFrozen first old new (child ∷ children) (at ∷ ats) = IsFrozen first old new child at
     × AreFrozen first old new children ats
 
--- The child has the chunks that are placed under the reference's stamp, whatever is placed later, the new ones of stamps
--- from the draft's first on.
+-- The child has the chunks that are placed under the reference's stamp, whatever is placed later; those that were new
+-- have stamps from the draft's first on.
 abbrev pub IsLevel : ℕ → List (Node Ref) → OwnChild → Ref → Type 0
 IsLevel first new child at = (contents : Contents) (depth : ℕ) → length contents ≡ first → IsDeep depth child
     → NamedLater first (with_nodes contents new) (child_levels depth child) (λ p. placed_levels p depth (stamp_of at))

@@ -32,8 +32,8 @@ abbrev pub IsCopiedStep : List (Bytes × Ref) → Bytes → Step → Type 0
 IsCopiedStep kids key s = (arc_value s.keys ≡ keys_of kids) × (s.children.items ≡ values_of kids)
     × IsPlace key (keys_of kids) s.place × AreKeys (arc_value s.keys)
 
--- a trail as deep as the placed chunk of a stamp, that shows its rows with a value put at a key, is one new chunk on each
--- level, with the same keys, and names only chunks that may be looked for
+-- a trail as deep as the placed chunk of a stamp, that shows its rows with a value put at a key, is one new chunk on
+-- each level, with the same keys, and names only chunks that may be looked for
 pub record IsLaid (contents : Contents) (places : Ref → Type 0) (stamp depth : ℕ) (key value : Bytes)
     (was : Option Rows) (steps : List Step) (e : End) : Type 0 where
   pub trail : IsTrail steps e

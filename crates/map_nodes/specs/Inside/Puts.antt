@@ -1,13 +1,17 @@
 -- What a put makes of the levels of children and halves, whatever is placed later.
-use Rattle.std.specs.Prelude.{◌≡◌, ◌⊎◌, ℕ, ◌-◌, ◌≤◌, ◌∷◌, ◌++◌, [], List, Option, Some, None, slice_set, length, take}
-use Rattle.std.specs.Prelude.{drop}
+use Rattle.std.specs.Prelude.{◌≡◌, ◌⊎◌, ℕ, ◌+◌, ◌-◌, ◌<◌, ◌≤◌, ◌∷◌, ◌++◌, [], List, Option, Some, None, IsSome}
+use Rattle.std.specs.Prelude.{slice_set, length, take, drop}
+use Rattle.std.specs.Ordering.{nat_cmp}
+use Rattle.std.specs.Cmp.Lexicographic.{slice_cmp}
+use Rattle.std.specs.FinMap.{find}
 use mathlib.Core.List.{IsPrefix}
 use Rattle.group_history.specs.Spelling.{Contents}
 use Rattle.group_history.specs.Map.{Bytes}
-use Rattle.map_chunks.specs.Shown.{own, leaf_keys, Seen}
+use Rattle.group_history.specs.Rows.{Rows}
+use Rattle.map_chunks.specs.Shown.{own, leaf_keys, Seen, rows_or}
 use Rattle.map_nodes.specs.Inside.Nodes.{Kid}
 use Rattle.map_nodes.specs.Levels.{Levels, nothing, parting, seen_levels, ArePut, HasOneMore, RenewedLater}
-use Rattle.map_nodes.specs.Nodes.{child_levels, kids_marks, sunk}
+use Rattle.map_nodes.specs.Nodes.{child_fresh, child_levels, kids_marks, sunk}
 use Rattle.map_nodes.specs.declared.nodes.OwnChild.{OwnChild}
 use Rattle.map_nodes.specs.declared.nodes.OwnChild.TheVariants.{Own}
 use Rattle.map_nodes.specs.declared.nodes.putting.Half.{Half}
@@ -47,7 +51,24 @@ ChildHalvesPut contents below place old new child half = (n : Kid) × (new ≡ s
     × ((later : Contents) → IsPrefix contents later → ArePut (child_levels below child later)
     (λ level. seen_levels n.value later level ++ half_levels half later level))
 
--- an own child stands at the place of this one, of which one chunk on each level at most is new, with the same keys
-abbrev pub IsChildRenewed : Contents → ℕ → ℕ → List OwnChild → List OwnChild → OwnChild → Type 0
-IsChildRenewed contents below place old new child = (n : Kid) × (new ≡ slice_set old place (Own n))
-    × RenewedLater contents (child_levels below child) (seen_levels n.value)
+-- the value at a key, of the rows that are shown
+abbrev pub value_in : Option Rows → Bytes → Option Bytes
+value_in rows key = find (slice_cmp nat_cmp) key (rows_or rows)
+
+-- where the key was there, it had another value, and the leaf has the keys that it had, and no upper half
+abbrev pub HasReplacedRow : Option Bytes → Bytes → List Bytes → List Bytes → Option Half → Type 0
+HasReplacedRow found value old new half = IsSome found → (found ≡ Some value → ⊥) × (new ≡ old) × (half ≡ None)
+
+-- Where the key was there, it had another value, and the chunk isn't split: fewer own chunks than the bound are there
+-- then, of which one on each level at most is new, with the same keys.
+abbrev pub HasReplaced : Contents → Option Bytes → Bytes → ℕ → ℕ → (Contents → Levels) → (Contents → Levels)
+    → Option Half → Type 0
+HasReplaced contents found value bound fresh old new half = IsSome found → (found ≡ Some value → ⊥)
+    × (half ≡ None) × (fresh < bound) × RenewedLater contents old new
+
+-- an own child stands at the place of this one, of which the same holds
+abbrev pub ChildReplaced : Contents → Option Bytes → Bytes → ℕ → ℕ → List OwnChild → List OwnChild → OwnChild
+    → Option Half → Type 0
+ChildReplaced contents found value below place old new child half = (n : Kid) × (new ≡ slice_set old place (Own n))
+    × HasReplaced contents found value (child_fresh child + below + 1) n.value.fresh (child_levels below child)
+    (seen_levels n.value) half

@@ -1,5 +1,6 @@
-//! What a put of a new key takes and makes.
+//! What a put takes and makes.
 //!
+//! A value put at a key that is there takes the place of the old one, unless it is the same.
 //! A chunk with 17 entries is split: the first 8 stay, the last 9 become its upper half, which its parent
 //! puts behind it. All memory is taken before anything changes, so a chunk puts a row below first where
 //! nothing may be split, and only where that can't be done takes what an upper half needs: a key list of
@@ -42,8 +43,10 @@ pub(crate) struct Half {
 #[derive(Drop)]
 pub(crate) enum PutRefused {
     Stopped(Stop),
-    /// The chunk would be split, and may not be.
+    /// The key isn't there, and the chunk would be split, and may not be.
     Full,
+    /// The key has this very value.
+    Same,
 }
 
 impl From<AllocError> for PutRefused {

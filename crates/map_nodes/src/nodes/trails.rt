@@ -9,9 +9,8 @@ mod reading;
 mod scanning;
 mod thawing;
 
-pub(crate) use laying::{Laying, Reached, change_at};
-
 use group_history::{Json, Keys, Ref};
+pub(crate) use laying::{Laying, Reached, change_at};
 use std::marker::Model;
 use std::sync::Arc;
 

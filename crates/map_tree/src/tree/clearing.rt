@@ -15,7 +15,8 @@ impl Tree {
         ensures map { (contents : Contents) → tree_map contents self.new ≡ Some finite.empty }
         ensures depth { (contents : Contents) → tree_depth contents self.new ≡ Some 1 }
         ensures fresh { tree_fresh self.new ≡ 1 }
-        ensures levels { (contents : Contents) → AreAsBefore (topped (None, leaf_keys []) nothing) (tree_levels self.new contents) }
+        ensures levels { (contents : Contents) → AreAsBefore (topped (None, leaf_keys []) nothing)
+            (tree_levels self.new contents) }
         ensures places { tree_places self.new ≡ [] }
         ensures wide { (contents : Contents) → HasWideRoot contents self.new }
     {

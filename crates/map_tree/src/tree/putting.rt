@@ -7,18 +7,16 @@ ghost use Rattle.group_history.specs.Map.{Entries};
 ghost use Rattle.group_history.specs.declared.mutators.Stop.TheVariants.{NoMemory};
 ghost use Rattle.group_history.specs.declared.mutators.Update.{Update as Updates};
 ghost use Rattle.map_chunks.specs.Places.{Grows, AreAll, places_of};
-ghost use Rattle.map_chunks.specs.Seeking.{stands_in};
 ghost use Rattle.map_chunks.specs.Shown.{shown, IsTree, rows_or};
-ghost use Rattle.map_nodes.specs.Updating.{IsPutOn, IsPutOr};
+ghost use Rattle.map_nodes.specs.Updating.{IsPutOr};
 ghost use Rattle.map_tree.specs.Puts.{IsPut, IsUpdate, settled};
 ghost use Rattle.map_tree.specs.Trees.{tree_places, tree_map};
 
 use super::{Root, Tree};
 use group_history::{Json, Ran, Stop, Update};
 use map_chunks::Chunks;
-use map_chunks::looks::Comparison;
 use map_nodes::{OwnRoot, Updated};
-use std::alloc::{AllocError, Global};
+use std::alloc::Global;
 
 impl Tree {
     /// Puts a value at a key. New are only the chunks on the way to it and those that a split adds, and none where the
@@ -41,7 +39,7 @@ impl Tree {
         ensures stopped { IfErr result (λ s. (s ≡ NoMemory) ⊎ C.stops s) }
     {
         match &mut self.root {
-            Root::Own(node) => put_own(node, alloc, chunks, key, value),
+            Root::Own(node) => node.write(alloc, chunks, key, value),
             Root::Placed(at) => {
                 let at = *at;
                 let put = |_there| Ok(Update::Put(value.clone()?));
@@ -96,51 +94,6 @@ impl Tree {
     }
 }
 
-// Puts a value in own chunks, where its key stands so to it there.
-fn write_over<C: Chunks>(
-    node: &mut OwnRoot,
-    alloc: Global,
-    chunks: &mut C,
-    key: &str,
-    value: &Json,
-    standing: Comparison,
-) -> Result<(), Stop>
-    requires places { AreAll (C.places chunks.old) (places_of node.old.pieces) }
-    requires tree { IsTree (shown (C.contents chunks.old) node.old.pieces) }
-    requires standing { standing
-        ≡ stands_in (rows_or (shown (C.contents chunks.old) node.old.pieces)) key.now (Some value.now) }
-    ensures grown { Grows C.contents C.places chunks.old chunks.new }
-    ensures put { OnOk result (IsPutOn (C.contents chunks.old) (C.contents chunks.new) (C.places chunks.new) key.now
-        value.now node.old node.new) }
-    ensures err { OnErr result (node.new ≡ node.old) }
-    ensures stopped { IfErr result (λ s. (s ≡ NoMemory) ⊎ C.stops s) }
-{
-    if standing.is_same() {
-        return Ok(());
-    }
-    node.write(alloc, chunks, key, value, standing.is_there())
-}
-
-// Puts a value in own chunks.
-fn put_own<C: Chunks>(
-    node: &mut OwnRoot,
-    alloc: Global,
-    chunks: &mut C,
-    key: &str,
-    value: &Json,
-) -> Result<(), Stop>
-    requires places { AreAll (C.places chunks.old) (places_of node.old.pieces) }
-    requires tree { IsTree (shown (C.contents chunks.old) node.old.pieces) }
-    ensures grown { Grows C.contents C.places chunks.old chunks.new }
-    ensures put { OnOk result (IsPutOn (C.contents chunks.old) (C.contents chunks.new) (C.places chunks.new) key.now
-        value.now node.old node.new) }
-    ensures err { OnErr result (node.new ≡ node.old) }
-    ensures stopped { IfErr result (λ s. (s ≡ NoMemory) ⊎ C.stops s) }
-{
-    let standing = node.standing(chunks, key, Some(value))?;
-    write_over(node, alloc, chunks, key, value, standing)
-}
-
 // Looks at a key of own chunks, and puts what the change makes of it.
 fn update_own<C: Chunks, F: FnOnce(Option<Json>) -> Result<Update, Stop>>(
     node: &mut OwnRoot,
@@ -161,22 +114,11 @@ fn update_own<C: Chunks, F: FnOnce(Option<Json>) -> Result<Update, Stop>>(
         key.now (rows_or (shown (C.contents chunks.old) node.old.pieces))) (Err e)) }
 {
     let there = node.get(chunks, key)?;
-    let was = copied(&there)?;
     match change(there)? {
         Update::Refuse(code) => Ok(Ran::Refused(code)),
         Update::Put(value) => {
-            let standing = Comparison::of(was.as_ref(), &value);
-            write_over(node, alloc, chunks, key, &value, standing)?;
+            node.write(alloc, chunks, key, &value)?;
             Ok(Ran::Done)
         }
-    }
-}
-
-fn copied(value: &Option<Json>) -> Result<Option<Json>, AllocError>
-    ensures { IfOk result (λ copy. copy ≡ value.now) }
-{
-    match value {
-        Some(value) => Ok(Some(value.clone()?)),
-        None => Ok(None),
     }
 }

@@ -1,5 +1,6 @@
-use Rattle.std.proofs.Common.{◌≡◌, ◌+◌, ◌*◌, ◌-◌, ◌++◌, [], ◌∷◌, ◌<◌, ◌≤◌, IfOk, ℕ, Option, None, arith, length, sym}
-use Rattle.std.proofs.Common.{ap, subst, ◌∙◌, Some, get_or, length-set, slice_get, nat_cmp, T, refl, set-set}
+use Rattle.std.proofs.Common.{◌≡◌, ◌+◌, ◌*◌, ◌-◌, ◌++◌, [], ◌∷◌, ◌<◌, ◌≤◌, IfErr, IfOk, ℕ, true, Option, None, arith}
+use Rattle.std.proofs.Common.{length, sym, ap, subst, ◌∙◌, Some, get_or, length-set, slice_get, nat_cmp, T, refl}
+use Rattle.std.proofs.Common.{set-set}
 use Rattle.std.specs.Prelude.{IsSome}
 use Rattle.std.specs.Box.{with_value}
 use Rattle.std.specs.Cmp.Lexicographic.{slice_cmp}
@@ -31,16 +32,21 @@ use Rattle.map_nodes.proofs.NamedLemmas.{kept-kid, kept-finished, own-places, pl
 use Rattle.map_nodes.proofs.NodeLemmas.{inner_same, shown-rows, child_at, written_back}
 use Rattle.map_chunks.proofs.OpenLemmas.{known, tree_of}
 use Rattle.map_nodes.proofs.ReplaceLemmas.{leaf_rows}
-use Rattle.map_nodes.proofs.UnputLemmas.{unput_anyhow, unput_split}
+use Rattle.map_nodes.proofs.UnputLemmas.{handed_on, unput_anyhow, unput_split}
+use Rattle.map_nodes.proofs.RenewLemmas.{inner_replaced, value_below}
 use Rattle.map_nodes.proofs.PathLemmas.{put_path, filled_pairs, filled_kids, length-pairs, node_at, child_requires}
 use Rattle.map_nodes.proofs.PathLemmas.{if_ok, indexed_child, done_at, length-lowered, ninth_lowered}
 use Rattle.map_nodes.proofs.PlaceLemmas.{kid_all, kids_may, own_may, placed_may, new_may}
 use Rattle.group_history.proofs.Lists.{prefix_trans}
-use Rattle.map_nodes.proofs.LevelLemmas.{inner-levels}
+use Rattle.map_nodes.proofs.LevelLemmas.{changed_as, changed_copy, inner-levels}
 use Rattle.map_nodes.proofs.PutLevels.{AreFirsts, child_put, firsts_are, if_ok_both, leaf_put_levels, put_as}
 use Rattle.map_nodes.proofs.PutLevels.{put_copied, put_over}
-use Rattle.map_nodes.specs.Inside.Puts.{half_levels, ChildHalvesPut, HalvesPut}
-use Rattle.map_nodes.specs.Levels.{Levels, levels_of, parting, placed_levels, seen_levels, topped, ArePut}
+use Rattle.map_nodes.specs.Inside.Puts.{half_levels, value_in, ChildHalvesPut, ChildReplaced, HalvesPut, HasReplaced}
+use Rattle.map_nodes.specs.Inside.Puts.{IsHalved}
+use Rattle.map_nodes.specs.Inside.Unput.{IsUnput}
+use Rattle.map_nodes.specs.Levels.{Levels, levels_of, parting, placed_levels, seen_levels, topped, AreChanged, ArePut}
+use Rattle.map_nodes.specs.Levels.{IsRenewed, RenewedLater}
+use Rattle.map_nodes.proofs.KeptLevels.{leaf_kept-levels}
 use Rattle.map_nodes.proofs.nodes.+put.Goals as goal
 
 pub putting::paths::put_inner-put_child-requires : goal.putting::paths::put_inner-put_child-requires
@@ -673,8 +679,15 @@ OwnNode::put-returns-in-Leaf-clause-places g t c =
     (subst (AreKept at_p old) (sym (places-rows rows)) (kept-none at_p old)))
 
 pub OwnNode::put-returns-in-Leaf-clause-unput : goal.OwnNode::put-returns-in-Leaf-clause-unput
-OwnNode::put-returns-in-Leaf-clause-unput g t c = unput_anyhow g.C.Chunks.stops c.args.put.may_split c.put_leaf.result
-    c.put_leaf.ensures.unput
+OwnNode::put-returns-in-Leaf-clause-unput g t c =
+    let stops = g.C.Chunks.stops in
+    let may_split = c.args.put.may_split in
+    let value = c.args.put.value.now in
+    let was = leaf_rows (g.C.Chunks.contents c.args.chunks.now) c.self.inside.depth c.self.inside.keys.texts
+    c.self.inside.body c.in-Leaf.values c.args.self.now.pieces (ap (λ (s : Seen). s.pieces) c.self.view_is)
+    c.in-Leaf.is in
+    subst (λ z. IfErr c.put_leaf.result (IsUnput stops may_split (value_in z c.args.put.key.now) value)) (sym was)
+    (unput_anyhow stops may_split _ value c.put_leaf.result c.put_leaf.ensures.unput)
 
 pub OwnNode::put-put_inner-requires : goal.OwnNode::put-put_inner-requires
 OwnNode::put-put_inner-requires g t c κs within =
@@ -810,8 +823,17 @@ OwnNode::put_below-returns-clause-err g t c = on_err c.put_ready.result c.put_re
     (λ same. same ∙ c.in-Err-Full.ensures.err)
 
 pub OwnNode::put_below-returns-clause-unput : goal.OwnNode::put_below-returns-clause-unput
-OwnNode::put_below-returns-clause-unput g t c = unput_split g.C.Chunks.stops c.args.put.may_split c.put_ready.result
-    c.put_ready.ensures.unput
+OwnNode::put_below-returns-clause-unput g t c =
+    let p = g.C.Chunks.contents c.args.chunks.now in
+    let q = g.C.Chunks.contents c.put.new.chunks in
+    let key = c.args.put.key.now in
+    let value = c.args.put.value.now in
+    let n = known (shown p c.args.self.now.pieces) c.requires.tree in
+    let here = shown-kept p q c.args.self.now.pieces n.rows c.put.ensures.grown.0 n.is in
+    unput_split g.C.Chunks.stops c.args.put.may_split (value_in (shown p c.args.self.now.pieces) key) value
+    c.put_ready.result
+    (subst (λ z. IfErr c.put_ready.result (IsUnput g.C.Chunks.stops true (value_in z key) value))
+    (ap (λ (s : Seen). shown q s.pieces) c.in-Err-Full.ensures.err ∙ here ∙ sym n.is) c.put_ready.ensures.unput)
 
 pub OwnNode::put-returns-in-Leaf-clause-levels : goal.OwnNode::put-returns-in-Leaf-clause-levels
 OwnNode::put-returns-in-Leaf-clause-levels g t c =
@@ -867,3 +889,207 @@ putting::paths::put_child-returns-in_err-answer-in-Placed-clause-grown g t c =
 pub OwnNode::put_below-returns-clause-grown : goal.OwnNode::put_below-returns-clause-grown
 OwnNode::put_below-returns-clause-grown g t c =
     grows_on g.C.Chunks.contents g.C.Chunks.places _ _ _ c.put.ensures.grown c.put_ready.ensures.grown
+
+-- VALUES REPLACED
+
+pub putting::paths::put_inner-returns-clause-renewed : goal.putting::paths::put_inner-returns-clause-renewed
+putting::paths::put_inner-returns-clause-renewed g t c =
+    let p = g.C.Chunks.contents c.args.chunks.now in
+    let at : OwnChild = Placed (record { bits = 0 }) in
+    let i = c.place_of-place.result in
+    let depth = c.args.depth in
+    let keys = c.args.keys.now.texts in
+    let kids = c.args.kids.now.items in
+    let key = c.args.put.key.now in
+    let value = c.args.put.value.now in
+    let pieces = body_pieces depth keys (Inner c.args.kids.now) in
+    let x = node_at p depth keys (Inner c.args.kids.now) c.args.kids.now pieces c.as_slice.result.now key i at
+    refl refl c.requires.node c.as_slice.ensures
+    (subst (λ k. IsPlace k c.as_slice.result.now i) c.as_str.ensures c.place_of-place.ensures) c.requires.tree in
+    let q = g.C.Chunks.contents c.put_child.new.chunks in
+    let child = get_or kids i at in
+    let new = c.put_child.new.kids.items in
+    let half = c.in_ok-ready.half in
+    let lower = c.in_ok-ready.ready.lower in
+    let kk : c.reserve.new.self.items ≡ kids = c.reserve.ensures.items in
+    let low = c.lower_first.ensures.texts ∙ ap (lowered i lower) c.put_child.ensures.texts in
+    inner_replaced q depth keys c.finish.new.keys.texts kids new c.finish.new.kids.items key i child lower half
+    c.finish.result (value_in (shown p pieces) key) value c.requires.node.1.0 x.2.1.2 x.1 x.3
+    c.in_ok-ready.ensures.lower
+    (subst (λ f. ChildReplaced q f value (depth - 1) i kids new child half)
+    (value_below p depth keys kids pieces key i child x.0)
+    (subst (λ ks. ChildReplaced q (value_in (child_rows p (depth - 1) child) key) value (depth - 1) i ks new child half)
+    kk (c.in_ok-ready.ensures.renewed child (ap (λ w. slice_get w i) kk ∙ x.1))))
+    (subst (λ ks. IsHalved depth c.finish.new.keys.texts c.finish.new.kids.items c.finish.result
+    (keys_of (with_half i half (paired ks new))) (values_of (with_half i half (paired ks new)))) low
+    c.finish.ensures.parted) c.finish.ensures.whole
+
+pub putting::paths::put_child-returns-in-Own-clause-renewed :
+    goal.putting::paths::put_child-returns-in-Own-clause-renewed
+putting::paths::put_child-returns-in-Own-clause-renewed g t c x h =
+    let p = g.C.Chunks.contents c.args.chunks.now in
+    let q = g.C.Chunks.contents c.put_below.new.chunks in
+    let kids = c.args.kids.now.items in
+    let below = c.args.below in
+    let key = c.args.put.key.now in
+    let value = c.args.put.value.now in
+    let child = c.index_mut.result.now in
+    let r = c.requires.tree child (child_at kids c.args.place (length kids) child refl c.requires.within
+    c.index_mut.ensures.value) in
+    let d : c.in-Own.node.value.depth ≡ below = subst (HasDepth below) c.in-Own.is r.1 in
+    let new = c.put_below.new.self in
+    let e : x ≡ Own c.in-Own.node = indexed_child kids c.args.place child x c.requires.within c.index_mut.ensures.value
+    h ∙ c.in-Own.is in
+    if_ok_so c.put_below.result c.put_below.ensures.renewed (λ put renewed. (
+      with_value c.in-Own.node new,
+      refl,
+      subst (λ y. HasReplaced q (value_in (child_rows p below y) key) value (child_fresh y + below + 1) new.fresh
+          (child_levels below y) (seen_levels new) put.1) (sym e) (λ there.
+          let u = subst (λ (s : Seen). HasReplaced q (value_in (shown p s.pieces) key) value (s.fresh + s.depth)
+          new.fresh (seen_levels s) (seen_levels new) put.1) c.deref_mut.ensures.value renewed there in
+          (u.0, u.1, omega (arith, u.2, d), u.3)),
+    ))
+
+pub putting::paths::put_child-returns-in-Placed-clause-renewed :
+    goal.putting::paths::put_child-returns-in-Placed-clause-renewed
+putting::paths::put_child-returns-in-Placed-clause-renewed g t c x h =
+    let p = g.C.Chunks.contents c.args.chunks.now in
+    let q = g.C.Chunks.contents c.copied_child.new.chunks in
+    let r = g.C.Chunks.contents c.put_below-in-Placed.new.chunks in
+    let kids = c.args.kids.now.items in
+    let below = c.args.below in
+    let key = c.args.put.key.now in
+    let value = c.args.put.value.now in
+    let node = c.in_ok-node-in-Placed.node in
+    let new = c.put_below-in-Placed.new.self in
+    let half = c.in_ok-answer-in-Placed.answer.1 in
+    let e : x ≡ Placed c.in-Placed.at = indexed_child kids c.args.place c.index_mut.result.now x c.requires.within
+    c.index_mut.ensures.value h ∙ c.in-Placed.is in
+    let renewed = subst (λ z. HasReplaced r (value_in z key) value (node.value.fresh + node.value.depth) new.fresh
+    (seen_levels node.value) (seen_levels new) half) c.in_ok-node-in-Placed.ensures.rows
+    (subst (λ (s : Seen). HasReplaced r (value_in (shown q s.pieces) key) value (s.fresh + s.depth) new.fresh
+    (seen_levels s) (seen_levels new) half) c.deref_mut-in-Placed.ensures.value
+    c.in_ok-answer-in-Placed.ensures.renewed) in (
+      with_value node new,
+      set-set kids c.args.place (Placed c.in-Placed.at) (Own (with_value node new)),
+      subst (λ y. HasReplaced r (value_in (child_rows p below y) key) value (child_fresh y + below + 1) new.fresh
+          (child_levels below y) (seen_levels new) half) (sym e) (λ there.
+          let u = renewed there in (
+            u.0,
+            u.1,
+            omega (arith, u.2, c.in_ok-node-in-Placed.ensures.fresh, c.in_ok-node-in-Placed.ensures.depth),
+            λ later pre. changed_copy IsRenewed (λ keys. refl) (placed_levels later below (stamp_of c.in-Placed.at))
+                (seen_levels node.value later) (seen_levels new later)
+                (c.in_ok-node-in-Placed.ensures.levels later
+                (prefix_trans q r later c.put_below-in-Placed.ensures.grown.0 pre)) (u.3 later pre),
+          )),
+    )
+
+pub OwnNode::put-returns-in-Leaf-clause-renewed : goal.OwnNode::put-returns-in-Leaf-clause-renewed
+OwnNode::put-returns-in-Leaf-clause-renewed g t c =
+    let p = g.C.Chunks.contents c.args.chunks.now in
+    let depth = c.self.inside.depth in
+    let keys = c.self.inside.keys.texts in
+    let body = c.self.inside.body in
+    let values = c.in-Leaf.values in
+    let key = c.args.put.key.now in
+    let was = leaf_rows p depth keys body values c.args.self.now.pieces (ap (λ (s : Seen). s.pieces) c.self.view_is)
+    c.in-Leaf.is in
+    let n = leaf_counts depth keys body values c.in-Leaf.is c.self.invariant in
+    if_ok_so c.put_leaf.result c.put_leaf.ensures.renewed (λ half renewed there.
+    let u = renewed (subst (λ z. IsSome (value_in z key)) was there) in (
+      λ same. u.0 (ap (λ z. value_in z key) (sym was) ∙ same),
+      u.2,
+      omega (arith, n.0, n.1, ap (λ (s : Seen). s.depth) c.self.view_is, ap (λ (s : Seen). s.fresh) c.self.view_is),
+      subst (λ ks. RenewedLater p (seen_levels c.args.self.now) (λ q. levels_of q (own 0 (leaf_keys ks) ∷ [])))
+          (sym u.1) (leaf_kept-levels p depth keys body values c.args.self.now (ap (λ (s : Seen). s.marks)
+          c.self.view_is) c.in-Leaf.is),
+    ))
+
+pub OwnNode::put-returns-in-Inner-clause-renewed : goal.OwnNode::put-returns-in-Inner-clause-renewed
+OwnNode::put-returns-in-Inner-clause-renewed g t c =
+    let p = g.C.Chunks.contents c.args.chunks.now in
+    let depth = c.self.inside.depth in
+    let keys = c.self.inside.keys.texts in
+    let kids = c.in-Inner.kids.items in
+    let texts = c.put_inner.new.keys.texts in
+    let now = c.put_inner.new.kids.items in
+    let key = c.args.put.key.now in
+    let view = ap (body_pieces depth keys) (sym c.in-Inner.is) ∙ ap (λ (s : Seen). s.pieces) c.self.view_is in
+    let was = ap (body_marks depth keys) (sym c.in-Inner.is) ∙ ap (λ (s : Seen). s.marks) c.self.view_is in
+    let n = inner_counts depth keys c.self.inside.body c.in-Inner.kids c.in-Inner.is c.self.invariant in
+    if_ok_so c.put_inner.result c.put_inner.ensures.renewed (λ half renewed there.
+    let u = renewed (subst (λ ps. IsSome (value_in (shown p ps) key)) (sym view) there) in (
+      λ same. u.0 (ap (λ ps. value_in (shown p ps) key) view ∙ same),
+      u.1,
+      omega (arith, u.2, n.1, ap (λ (s : Seen). s.depth) c.self.view_is, ap (λ (s : Seen). s.fresh) c.self.view_is),
+      λ later pre level. subst (λ ms. AreChanged IsRenewed (levels_of later ms level)
+          (levels_of later (own 0 (parting texts) ∷ sunk (kids_marks (depth - 1) now)) level)) was
+          (changed_as IsRenewed (topped (None, parting keys) (kids_levels (depth - 1) kids later) level)
+          (topped (None, parting texts) (kids_levels (depth - 1) now later) level)
+          (levels_of later (own 0 (parting keys) ∷ sunk (kids_marks (depth - 1) kids)) level)
+          (levels_of later (own 0 (parting texts) ∷ sunk (kids_marks (depth - 1) now)) level)
+          (inner-levels later (depth - 1) (parting keys) kids level)
+          (inner-levels later (depth - 1) (parting texts) now level) (u.3 later pre level)),
+    ))
+
+-- WHY IT ISN'T PUT
+
+pub putting::paths::put_child-returns-in-Own-clause-unput : goal.putting::paths::put_child-returns-in-Own-clause-unput
+putting::paths::put_child-returns-in-Own-clause-unput g t c x h =
+    let p = g.C.Chunks.contents c.args.chunks.now in
+    let stops = g.C.Chunks.stops in
+    let may_split = c.args.put.may_split in
+    let key = c.args.put.key.now in
+    let value = c.args.put.value.now in
+    let e : x ≡ Own c.in-Own.node = indexed_child c.args.kids.now.items c.args.place c.index_mut.result.now x
+    c.requires.within c.index_mut.ensures.value h ∙ c.in-Own.is in
+    subst (λ y. IfErr c.put_below.result (IsUnput stops may_split (value_in (child_rows p c.args.below y) key) value))
+    (sym e) (subst (λ (s : Seen). IfErr c.put_below.result (IsUnput stops may_split (value_in (shown p s.pieces) key)
+    value)) c.deref_mut.ensures.value c.put_below.ensures.unput)
+
+pub putting::paths::put_child-returns-in_err-answer-in-Placed-clause-unput :
+    goal.putting::paths::put_child-returns-in_err-answer-in-Placed-clause-unput
+putting::paths::put_child-returns-in_err-answer-in-Placed-clause-unput g t c x h =
+    let p = g.C.Chunks.contents c.args.chunks.now in
+    let q = g.C.Chunks.contents c.copied_child.new.chunks in
+    let stops = g.C.Chunks.stops in
+    let may_split = c.args.put.may_split in
+    let key = c.args.put.key.now in
+    let value = c.args.put.value.now in
+    let e : x ≡ Placed c.in-Placed.at = indexed_child c.args.kids.now.items c.args.place c.index_mut.result.now x
+    c.requires.within c.index_mut.ensures.value h ∙ c.in-Placed.is in
+    let there : shown q c.deref_mut-in-Placed.result.now.pieces ≡ child_rows p c.args.below x =
+    ap (λ (s : Seen). shown q s.pieces) c.deref_mut-in-Placed.ensures.value ∙ c.in_ok-node-in-Placed.ensures.rows
+    ∙ ap (child_rows p c.args.below) (sym e) in
+    let why = subst (λ z. IfErr c.put_below-in-Placed.result (IsUnput stops may_split (value_in z key) value)) there
+    c.put_below-in-Placed.ensures.unput in
+    handed_on c.from_residual-in_err-answer-in-Placed.result c.from_residual-in_err-answer-in-Placed.ensures.1
+    (λ w is. subst (IsUnput stops may_split (value_in (child_rows p c.args.below x) key) value) (sym is)
+    (subst (λ o. IfErr o (IsUnput stops may_split (value_in (child_rows p c.args.below x) key) value))
+    c.in_err-answer-in-Placed.was why))
+
+pub putting::paths::put_inner-returns-in_err-ready-clause-unput :
+    goal.putting::paths::put_inner-returns-in_err-ready-clause-unput
+putting::paths::put_inner-returns-in_err-ready-clause-unput g t c =
+    let p = g.C.Chunks.contents c.args.chunks.now in
+    let at : OwnChild = Placed (record { bits = 0 }) in
+    let i = c.place_of-place.result in
+    let depth = c.args.depth in
+    let keys = c.args.keys.now.texts in
+    let kids = c.args.kids.now.items in
+    let stops = g.C.Chunks.stops in
+    let may_split = c.args.put.may_split in
+    let key = c.args.put.key.now in
+    let value = c.args.put.value.now in
+    let pieces = body_pieces depth keys (Inner c.args.kids.now) in
+    let x = node_at p depth keys (Inner c.args.kids.now) c.args.kids.now pieces c.as_slice.result.now key i at
+    refl refl c.requires.node c.as_slice.ensures
+    (subst (λ k. IsPlace k c.as_slice.result.now i) c.as_str.ensures c.place_of-place.ensures) c.requires.tree in
+    let child = get_or kids i at in
+    let why = subst (λ f. IfErr c.put_child.result (IsUnput stops may_split f value))
+    (value_below p depth keys kids pieces key i child x.0)
+    (c.put_child.ensures.unput child (ap (λ w. slice_get w i) c.reserve.ensures.items ∙ x.1)) in
+    handed_on c.from_residual-in_err-ready.result c.from_residual-in_err-ready.ensures.1
+    (λ w is. subst (IsUnput stops may_split (value_in (shown p pieces) key) value) (sym is)
+    (subst (λ o. IfErr o (IsUnput stops may_split (value_in (shown p pieces) key) value)) c.in_err-ready.was why))

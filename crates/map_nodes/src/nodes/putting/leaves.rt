@@ -1,4 +1,4 @@
-//! A new row in a leaf.
+//! A row put in a leaf.
 ghost use Rattle.std.specs.Prelude.{◌≡◌, ℕ, ◌<◌, ◌≤◌, ◌++◌, false, length, replicate, None, IfOk, IfErr, OnOk, OnErr};
 ghost use Rattle.std.specs.Prelude.{vec_items, vec_len, vec_capacity};
 ghost use Rattle.std.specs.Ordering.{nat_cmp};
@@ -10,7 +10,7 @@ ghost use Rattle.map_chunks.specs.Search.{IsAbsent};
 ghost use Rattle.map_nodes.specs.Inside.Halves.{half_pieces, IsHalf, AreNinth};
 ghost use Rattle.map_nodes.specs.Inside.Counts.{half_fresh, HasKept};
 ghost use Rattle.map_nodes.specs.Inside.Ready.{HasRoom};
-ghost use Rattle.map_nodes.specs.Inside.Puts.{IsLeafPut};
+ghost use Rattle.map_nodes.specs.Inside.Puts.{HasReplacedRow, IsLeafPut};
 ghost use Rattle.map_nodes.specs.Inside.Unput.{IsUnput};
 
 use super::super::homes::housed;
@@ -53,7 +53,7 @@ pub(crate) fn ninth_copies(
     copies_of(alloc, &keys[ninth], count)
 }
 
-/// Puts a row in a leaf's, unless they would be split and may not be.
+/// Puts a row in a leaf's, unless its value is there already, or they would be split and may not be.
 pub(crate) fn put_leaf(
     keys: &mut NodeKeys,
     values: &mut Vec<Json>,
@@ -71,42 +71,27 @@ pub(crate) fn put_leaf(
     ensures entries { IfOk result (HasKept (length keys.old.texts) (length keys.new.texts)) }
     ensures keys { IfOk result (IsLeafPut keys.old.texts keys.new.texts) }
     ensures whole { put.entry.may_split ≡ false → IfOk result (λ half. half ≡ None) }
+    ensures renewed { IfOk result (HasReplacedRow (finite.find (slice_cmp nat_cmp) put.entry.key.now
+        (paired keys.old.texts values.old.items)) put.entry.value.now keys.old.texts keys.new.texts) }
     ensures err { OnErr result ((keys.new.texts ≡ keys.old.texts) × (values.new.items ≡ values.old.items)) }
-    ensures unput { IfErr result (IsUnput (λ _. ⊥) put.entry.may_split) }
-{
-    if !put.may_split && keys.as_slice().len() >= MOST {
-        return Err(PutRefused::Full);
-    }
-    let value = put.value.clone()?;
-    Ok(put_row(keys, values, put, value)?)
-}
-
-// Puts a row in a leaf's.
-fn put_row(
-    keys: &mut NodeKeys,
-    values: &mut Vec<Json>,
-    put: Put<'_>,
-    value: Json,
-) -> Result<Option<Half>, AllocError>
-    requires keys { AreKeys keys.old.texts }
-    requires pairs { length values.old.items ≡ length keys.old.texts }
-    ensures rows { IfOk result (λ half. row_pieces (paired keys.new.texts values.new.items) ++ half_pieces half
-        ≡ row_pieces (finite.put (slice_cmp nat_cmp) put.entry.key.now value
-        (paired keys.old.texts values.old.items))) }
-    ensures half { IfOk result (IsHalf put.entry.copies 1) }
-    ensures leaf { IfOk result (λ half. AreKeys keys.new.texts × (length values.new.items ≡ length keys.new.texts)
-        × (0 < length keys.new.texts)) }
-    ensures fresh { IfOk result (λ half. half_fresh half ≤ 1) }
-    ensures entries { IfOk result (HasKept (length keys.old.texts) (length keys.new.texts)) }
-    ensures keys { IfOk result (IsLeafPut keys.old.texts keys.new.texts) }
-    ensures err { OnErr result ((keys.new.texts ≡ keys.old.texts) × (values.new.items ≡ values.old.items)) }
+    ensures unput { IfErr result (IsUnput (λ _. ⊥) put.entry.may_split (finite.find (slice_cmp nat_cmp)
+        put.entry.key.now (paired keys.old.texts values.old.items)) put.entry.value.now) }
 {
     match search(keys.as_slice(), put.key.as_str()) {
         Ok(place) => {
-            values[place] = value;
+            if values[place] == *put.value {
+                return Err(PutRefused::Same);
+            }
+            values[place] = put.value.clone()?;
             return Ok(None);
         }
-        Err(place) => return insert_row(keys, values, place, put, value),
+        Err(place) => {
+            if !put.may_split && keys.as_slice().len() >= MOST {
+                return Err(PutRefused::Full);
+            }
+            let value = put.value.clone()?;
+            return Ok(insert_row(keys, values, place, put, value)?);
+        }
     }
 }
 

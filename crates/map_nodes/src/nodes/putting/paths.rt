@@ -16,9 +16,10 @@ ghost use Rattle.map_nodes.specs.Inside.Nodes.{child_rows};
 ghost use Rattle.map_nodes.specs.Inside.Halves.{half_pieces, IsHalf, ChildPut, IsLower, HasDepth};
 ghost use Rattle.map_nodes.specs.Inside.Ready.{IsReady};
 ghost use Rattle.map_nodes.specs.Inside.Counts.{half_fresh, HasKept};
-ghost use Rattle.map_nodes.specs.Inside.Puts.{half_levels, ChildHalvesPut, HalvesPut};
+ghost use Rattle.map_nodes.specs.Inside.Puts.{half_levels, value_in, ChildHalvesPut, ChildReplaced, HalvesPut};
+ghost use Rattle.map_nodes.specs.Inside.Puts.{HasReplaced};
 ghost use Rattle.map_nodes.specs.Inside.Unput.{IsUnput};
-ghost use Rattle.map_nodes.specs.Levels.{ArePut};
+ghost use Rattle.map_nodes.specs.Levels.{seen_levels, ArePut};
 ghost use Rattle.map_nodes.specs.declared.nodes.Body.TheVariants as body;
 ghost use Rattle.map_nodes.specs.declared.nodes.OwnChild.{OwnChild as Childs};
 
@@ -66,8 +67,14 @@ fn put_inner<C: Chunks>(
         ++ half_levels half later level)) }
     ensures filled { OnOk result (0 < length (body_pieces depth keys.new.texts (body.Inner kids.new))) }
     ensures whole { put.entry.may_split ≡ false → IfOk result (λ half. half ≡ None) }
+    ensures renewed { IfOk result (HasReplaced (C.contents chunks.new) (value_in (shown (C.contents chunks.old)
+        (body_pieces depth keys.old.texts (body.Inner kids.old))) put.entry.key.now) put.entry.value.now
+        (body_fresh (body.Inner kids.old) + depth) (body_fresh (body.Inner kids.new))
+        (body_levels depth keys.old.texts (body.Inner kids.old))
+        (body_levels depth keys.new.texts (body.Inner kids.new))) }
     ensures err { OnErr result ((keys.new.texts ≡ keys.old.texts) × (kids.new.items ≡ kids.old.items)) }
-    ensures unput { IfErr result (IsUnput C.stops put.entry.may_split) }
+    ensures unput { IfErr result (IsUnput C.stops put.entry.may_split (value_in (shown (C.contents chunks.old)
+        (body_pieces depth keys.old.texts (body.Inner kids.old))) put.entry.key.now) put.entry.value.now) }
 {
     let place = place_of(keys.as_slice(), put.key.as_str());
     kids.reserve(1)?;
@@ -109,8 +116,13 @@ fn put_child<C: Chunks>(
     ensures ready { IfOk result (λ r. IsSome r.1
         → IsReady put.entry.copies keys.old.texts keys.new.room place put.entry.key.now r.0.room) }
     ensures whole { put.entry.may_split ≡ false → 16 ≤ length keys.old.texts → IfOk result (λ r. r.1 ≡ None) }
+    ensures renewed { (c : Childs) → slice_get kids.old.items place ≡ Some c
+        → IfOk result (λ r. ChildReplaced (C.contents chunks.new) (value_in (child_rows (C.contents chunks.old) below c)
+        put.entry.key.now) put.entry.value.now below place kids.old.items kids.new.items c r.1) }
     ensures err { OnErr result (kids.new.items ≡ kids.old.items) }
-    ensures unput { IfErr result (IsUnput C.stops put.entry.may_split) }
+    ensures unput { (c : Childs) → slice_get kids.old.items place ≡ Some c
+        → IfErr result (IsUnput C.stops put.entry.may_split (value_in (child_rows (C.contents chunks.old) below c)
+        put.entry.key.now) put.entry.value.now) }
 {
     match &mut kids[place] {
         OwnChild::Own(node) => return node.put_below(keys, place, chunks, put),
@@ -156,8 +168,12 @@ impl OwnNode {
         ensures ready { IfOk result (λ r. IsSome r.1
             → IsReady put.entry.copies keys.old.texts keys.new.room place put.entry.key.now r.0.room) }
         ensures whole { put.entry.may_split ≡ false → 16 ≤ length keys.old.texts → IfOk result (λ r. r.1 ≡ None) }
+        ensures renewed { IfOk result (λ r. HasReplaced (C.contents chunks.new)
+            (value_in (shown (C.contents chunks.old) self.old.pieces) put.entry.key.now) put.entry.value.now
+            (self.old.fresh + self.old.depth) self.new.fresh (seen_levels self.old) (seen_levels self.new) r.1) }
         ensures err { OnErr result (self.new ≡ self.old) }
-        ensures unput { IfErr result (IsUnput C.stops put.entry.may_split) }
+        ensures unput { IfErr result (IsUnput C.stops put.entry.may_split
+            (value_in (shown (C.contents chunks.old) self.old.pieces) put.entry.key.now) put.entry.value.now) }
     {
         let lower = lower_key(keys, put.alloc, place, put.key)?;
         let whole = Put {
@@ -168,7 +184,7 @@ impl OwnNode {
         match self.put(chunks, whole) {
             Ok(half) => return Ok((PutBuffers::of_whole(put.alloc, lower), half)),
             Err(PutRefused::Full) => {}
-            Err(stopped) => return Err(stopped),
+            Err(refused) => return Err(refused),
         }
         if !put.may_split && keys.as_slice().len() >= MOST {
             return Err(PutRefused::Full);
@@ -205,8 +221,12 @@ impl OwnNode {
         ensures lower { IfOk result (λ r. r.0.lower ≡ lower) }
         ensures ready { IfOk result (λ r. IsReady put.entry.copies keys.old.texts keys.new.room place put.entry.key.now
             r.0.room) }
+        ensures renewed { IfOk result (λ r. HasReplaced (C.contents chunks.new)
+            (value_in (shown (C.contents chunks.old) self.old.pieces) put.entry.key.now) put.entry.value.now
+            (self.old.fresh + self.old.depth) self.new.fresh (seen_levels self.old) (seen_levels self.new) r.1) }
         ensures err { OnErr result (self.new ≡ self.old) }
-        ensures unput { IfErr result (IsUnput C.stops true) }
+        ensures unput { IfErr result (IsUnput C.stops true
+            (value_in (shown (C.contents chunks.old) self.old.pieces) put.entry.key.now) put.entry.value.now) }
     {
         let ready = PutBuffers::of_split(keys, put.alloc, place, put.key, lower, put.copies)?;
         let split = Put {
@@ -219,7 +239,7 @@ impl OwnNode {
     }
 
     /// Puts a row. Answers the upper half where the chunk is split, with so many copies of its first key.
-    /// Where it may not be split and would be, it is as it was.
+    /// Where it may not be split and would be, or has the row, it is as it was.
     #[cycle(put)]
     pub(crate) fn put<C: Chunks>(
         &mut self,
@@ -242,8 +262,12 @@ impl OwnNode {
         ensures levels { IfOk result (HalvesPut (C.contents chunks.new) self.old self.new) }
         ensures filled { OnOk result (0 < length self.new.pieces) }
         ensures whole { put.entry.may_split ≡ false → IfOk result (λ half. half ≡ None) }
+        ensures renewed { IfOk result (HasReplaced (C.contents chunks.new)
+            (value_in (shown (C.contents chunks.old) self.old.pieces) put.entry.key.now) put.entry.value.now
+            (self.old.fresh + self.old.depth) self.new.fresh (seen_levels self.old) (seen_levels self.new)) }
         ensures err { OnErr result (self.new ≡ self.old) }
-        ensures unput { IfErr result (IsUnput C.stops put.entry.may_split) }
+        ensures unput { IfErr result (IsUnput C.stops put.entry.may_split
+            (value_in (shown (C.contents chunks.old) self.old.pieces) put.entry.key.now) put.entry.value.now) }
     {
         match &mut self.body {
             Body::Leaf(values) => {

@@ -1,5 +1,5 @@
 //! A put in a whole map: where its root is split, a new root stands above both halves.
-ghost use Rattle.std.specs.Prelude.{◌≡◌, ◌⊎◌, ◌<◌, ◌≤◌, ◌+◌, ◌*◌, ◌^◌, ◌++◌, [], ◌∷◌, length, Some, IsSome};
+ghost use Rattle.std.specs.Prelude.{◌≡◌, ◌⊎◌, ◌<◌, ◌≤◌, ◌+◌, ◌*◌, ◌^◌, ◌++◌, [], ◌∷◌, length, Some, None, IsSome};
 ghost use Rattle.std.specs.Prelude.{IfOk, IfErr, OnOk, OnErr, T, vec_items, vec_len, vec_capacity};
 ghost use Rattle.std.specs.Ordering.{nat_cmp};
 ghost use Rattle.std.specs.Cmp.Lexicographic.{slice_cmp};
@@ -11,9 +11,8 @@ ghost use Rattle.map_chunks.specs.Shown.{own, child_keys, shown, IsTree, rows_or
 ghost use Rattle.map_nodes.specs.Nodes.{HeadIs, sunk};
 ghost use Rattle.map_nodes.specs.Inside.Halves.{half_pieces, IsHalf, least, AreInOrder, HeadsBoth};
 ghost use Rattle.map_nodes.specs.Inside.Counts.{half_fresh, HasKept};
-ghost use Rattle.map_nodes.specs.Inside.Puts.{HalvesPut};
-ghost use Rattle.map_nodes.specs.Levels.{seen_levels, PutLater};
-ghost use Rattle.map_chunks.specs.Wide.{IsWideChunk};
+ghost use Rattle.map_nodes.specs.Inside.Puts.{value_in, HalvesPut};
+ghost use Rattle.map_nodes.specs.Updating.{IsPutOn};
 
 use super::super::homes::{housed, take_home};
 use super::super::{Body, OwnChild, OwnNode};
@@ -97,8 +96,8 @@ fn root_above(lower: Box<OwnNode>, half: Half, first: Text, room: SpareChunk<Own
 }
 
 impl OwnNode {
-    /// Puts a row in the map whose root the chunk is. Only where it can't be put otherwise, the root is
-    /// split.
+    /// Puts a row in the map whose root the chunk is. Where it is there already, the chunk is as it was. Only
+    /// where it can't be put otherwise, the root is split.
     pub(crate) fn put_root<C: Chunks>(
         &mut self,
         alloc: Global,
@@ -109,16 +108,8 @@ impl OwnNode {
         requires places { AreAll (C.places chunks.old) (places_of self.old.pieces) }
         requires tree { IsTree (shown (C.contents chunks.old) self.old.pieces) }
         ensures grown { Grows C.contents C.places chunks.old chunks.new }
-        ensures done { OnOk result (shown (C.contents chunks.new) self.new.pieces
-            ≡ Some (finite.put (slice_cmp nat_cmp) key.now value.now
-            (rows_or (shown (C.contents chunks.old) self.old.pieces)))) }
-        ensures few { OnOk result (self.new.fresh ≤ self.old.fresh + 2 * self.old.depth) }
-        ensures levels { OnOk result (PutLater self.old.depth self.new.depth (C.contents chunks.new)
-            (seen_levels self.old) (seen_levels self.new)) }
-        ensures places { OnOk result (AreKept (C.places chunks.new) (places_of self.old.pieces)
-            (places_of self.new.pieces)) }
-        ensures deep { OnOk result ((self.old.depth ≤ self.new.depth) × (self.new.depth ≤ self.old.depth + 1)) }
-        ensures wide { IsWideChunk self.old → OnOk result (IsWideChunk self.new) }
+        ensures put { OnOk result (IsPutOn (C.contents chunks.old) (C.contents chunks.new) (C.places chunks.new)
+            key.now value.now self.old self.new) }
         ensures err { OnErr result (self.new ≡ self.old) }
         ensures stopped { IfErr result (λ s. (s ≡ NoMemory) ⊎ C.stops s) }
     {
@@ -135,12 +126,13 @@ impl OwnNode {
         };
         match self.put(chunks, put) {
             Ok(_) => return Ok(()),
+            Err(PutRefused::Same) => return Ok(()),
             Err(PutRefused::Full) => return self.put_split(alloc, chunks, key, value),
             Err(PutRefused::Stopped(stop)) => return Err(stop),
         }
     }
 
-    // Puts a row, where the root may be split.
+    // Puts a row whose key isn't there, where the root may be split.
     fn put_split<C: Chunks>(
         &mut self,
         alloc: Global,
@@ -151,17 +143,10 @@ impl OwnNode {
         requires places { AreAll (C.places chunks.old) (places_of self.old.pieces) }
         requires tree { IsTree (shown (C.contents chunks.old) self.old.pieces) }
         requires depth { self.old.depth + 1 < 2 ^ 64 }
+        requires absent { value_in (shown (C.contents chunks.old) self.old.pieces) key.now ≡ None }
         ensures grown { Grows C.contents C.places chunks.old chunks.new }
-        ensures done { OnOk result (shown (C.contents chunks.new) self.new.pieces
-            ≡ Some (finite.put (slice_cmp nat_cmp) key.now value.now
-            (rows_or (shown (C.contents chunks.old) self.old.pieces)))) }
-        ensures few { OnOk result (self.new.fresh ≤ self.old.fresh + 2 * self.old.depth) }
-        ensures levels { OnOk result (PutLater self.old.depth self.new.depth (C.contents chunks.new)
-            (seen_levels self.old) (seen_levels self.new)) }
-        ensures places { OnOk result (AreKept (C.places chunks.new) (places_of self.old.pieces)
-            (places_of self.new.pieces)) }
-        ensures deep { OnOk result ((self.old.depth ≤ self.new.depth) × (self.new.depth ≤ self.old.depth + 1)) }
-        ensures wide { IsWideChunk self.old → OnOk result (IsWideChunk self.new) }
+        ensures put { OnOk result (IsPutOn (C.contents chunks.old) (C.contents chunks.new) (C.places chunks.new)
+            key.now value.now self.old self.new) }
         ensures err { OnErr result (self.new ≡ self.old) }
         ensures stopped { IfErr result (λ s. (s ≡ NoMemory) ⊎ C.stops s) }
     {
@@ -174,7 +159,8 @@ impl OwnNode {
         Ok(())
     }
 
-    // Puts a row in the chunk, which may be split, and so is never refused as full.
+    // Puts a row whose key isn't there in the chunk, which may be split: it stops only for want of memory, or as the
+    // store does.
     fn put_anyway<C: Chunks>(
         &mut self,
         alloc: Global,
@@ -185,6 +171,7 @@ impl OwnNode {
         requires places { AreAll (C.places chunks.old) (places_of self.old.pieces) }
         requires tree { IsTree (shown (C.contents chunks.old) self.old.pieces) }
         requires depth { self.old.depth + 1 < 2 ^ 64 }
+        requires absent { value_in (shown (C.contents chunks.old) self.old.pieces) key.now ≡ None }
         ensures grown { Grows C.contents C.places chunks.old chunks.new }
         ensures depth { self.new.depth ≡ self.old.depth }
         ensures done { IfOk result (λ half. shown (C.contents chunks.new) (self.new.pieces ++ half_pieces half)
@@ -210,7 +197,7 @@ impl OwnNode {
         match self.put(chunks, put) {
             Ok(half) => return Ok(half),
             Err(PutRefused::Stopped(stop)) => return Err(stop),
-            Err(PutRefused::Full) => unreachable!(),
+            Err(PutRefused::Full | PutRefused::Same) => unreachable!(),
         }
     }
 

@@ -17,7 +17,8 @@ ghost use Rattle.map_chunks.specs.Places.{Grows, AreAll};
 ghost use Rattle.map_chunks.specs.Search.{IsFound, IsPlace};
 ghost use Rattle.map_chunks.specs.Seeking.{chunk_depth};
 ghost use Rattle.map_chunks.specs.Shown.{chunk_rows, rows_or, IsTree};
-ghost use Rattle.map_nodes.specs.Inside.Laying.{IsPutEnd, IsCopiedStep, IsLeafEnd, IsPlaceIn, IsReached, IsStepped, IsLow};
+ghost use Rattle.map_nodes.specs.Inside.Laying.{IsPutEnd, IsCopiedStep, IsLeafEnd, IsPlaceIn, IsReached};
+ghost use Rattle.map_nodes.specs.Inside.Laying.{IsStepped, IsLow};
 ghost use Rattle.map_nodes.specs.Trails.{trail_seen, IsTrail};
 ghost use Rattle.map_nodes.specs.declared.nodes.trails.End.{End as Ends};
 ghost use Rattle.map_nodes.specs.declared.nodes.trails.Step.{Step as Steps};
@@ -120,10 +121,7 @@ fn put_absent(update: Update) -> Reached
 }
 
 // A key in a leaf: its place, if it has one, and the value there.
-fn look_in(
-    leaf: &Leaf,
-    key: &SearchKey<'_>,
-) -> Result<(Option<usize>, Option<Json>), AllocError>
+fn look_in(leaf: &Leaf, key: &SearchKey<'_>) -> Result<(Option<usize>, Option<Json>), AllocError>
     ensures keys { AreKeys (keys_of leaf.now) }
     ensures place { IfOk result (λ looked. IsPlaceIn leaf.now key.now looked.0) }
     ensures there { IfOk result (λ looked. looked.1 ≡ finite.find (slice_cmp nat_cmp) key.now leaf.now) }

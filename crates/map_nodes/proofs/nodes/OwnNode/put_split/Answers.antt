@@ -1,16 +1,17 @@
-use Rattle.std.proofs.Common.{◌≡◌, ◌∙◌, ◌++◌, ◌≤◌, ap, sym, subst, Some, nat_cmp, arith, inr, length}
+use Rattle.std.proofs.Common.{◌≡◌, ◌∙◌, ◌++◌, ◌≤◌, ap, sym, subst, Some, nat_cmp, arith, inr, length, refl}
+use Rattle.std.specs.Prelude.{IsSome}
 use Rattle.std.specs.Cmp.Lexicographic.{slice_cmp}
 use Rattle.std.specs.FinMap as finite
 use Rattle.map_nodes.specs.Inside.Counts.{half_fresh, HasKept}
 use Rattle.map_chunks.specs.Places.{AreKept, places_of}
 use Rattle.map_nodes.specs.Inside.Halves.{half_pieces, HeadsBoth, IsHalf, least}
 use Rattle.map_chunks.specs.Shown.{Seen, shown, rows_or}
-use Rattle.map_nodes.proofs.CountLemmas.{wide_kept}
 use Rattle.map_nodes.proofs.LeafLemmas.{put-strict}
-use Rattle.map_nodes.proofs.NamedLemmas.{kept-front}
+use Rattle.map_nodes.proofs.ChangeLemmas.{none_there}
+use Rattle.map_nodes.proofs.RenewLemmas.{put_whole}
 use Rattle.map_chunks.proofs.OpenLemmas.{known}
 use Rattle.map_nodes.proofs.RootLemmas.{two, begins_least}
-use Rattle.map_nodes.proofs.PutLevels.{put_level, put_risen}
+use Rattle.map_nodes.proofs.PutLevels.{put_risen}
 use Rattle.map_nodes.specs.Inside.Puts.{HalvesPut}
 use Rattle.map_nodes.proofs.nodes.OwnNode.put_split.Goals as goal
 
@@ -70,48 +71,35 @@ rise-requires-clause-home g c =
     (arith, kept.0, ap (λ (s : Seen). s.entries) c.self.view_is, ap length c.as_slice.ensures) in
     c.in_ok-above.ensures.home full
 
-pub returns-in_default-clause-wide : goal.returns-in_default-clause-wide
-returns-in_default-clause-wide g c w = wide_kept c.args.self.now c.put_anyway.new.self c.in_ok-half.field-0
-    c.in_default.is c.put_anyway.ensures.depth c.in_ok-half.ensures.entries w
-
-pub returns-clause-done : goal.returns-clause-done
-returns-clause-done g c =
+pub returns-in_default-clause-put : goal.returns-in_default-clause-put
+returns-in_default-clause-put g c =
+    let p = g.C.Chunks.contents c.args.chunks.now in
     let q = g.C.Chunks.contents c.put_anyway.new.chunks in
-    ap (shown q) (c.rise.ensures.pieces ∙ ap (λ h. c.put_anyway.new.self.pieces ++ half_pieces h) (sym c.in-Some.is)) ∙
-    c.in_ok-half.ensures.done
+    let made = c.in_ok-half.ensures in
+    put_whole p q (g.C.Chunks.places c.put_anyway.new.chunks) c.args.key.now c.args.value.now c.args.self.now
+    c.put_anyway.new.self c.in_ok-half.field-0 c.in_default.is c.put_anyway.ensures.depth made.done made.places
+    made.fresh made.entries made.levels (λ there. absurd (none_there _ there c.requires.absent))
 
-pub returns-clause-few : goal.returns-clause-few
-returns-clause-few g c = omega (arith, c.rise.ensures.fresh, c.in_ok-half.ensures.fresh, ap half_fresh c.in-Some.is)
-
-pub returns-clause-deep : goal.returns-clause-deep
-returns-clause-deep g c = (
-  omega (arith, c.rise.ensures.depth, c.put_anyway.ensures.depth),
-  omega (arith, c.rise.ensures.depth, c.put_anyway.ensures.depth),
-)
-
-pub returns-clause-wide : goal.returns-clause-wide
-returns-clause-wide g c w = inr (omega (arith, c.rise.ensures.entries))
-
-pub returns-in_default-clause-places : goal.returns-in_default-clause-places
-returns-in_default-clause-places g c =
-    kept-front (g.C.Chunks.places c.put_anyway.new.chunks)
-    (places_of c.args.self.now.pieces) c.put_anyway.new.self.pieces
-    (half_pieces c.in_ok-half.field-0) c.in_ok-half.ensures.places
-
-pub returns-clause-places : goal.returns-clause-places
-returns-clause-places g c =
-    subst (λ ps. AreKept (g.C.Chunks.places c.put_anyway.new.chunks) (places_of c.args.self.now.pieces) (places_of ps))
-    (sym (c.rise.ensures.pieces ∙ ap (λ h. c.put_anyway.new.self.pieces ++ half_pieces h) (sym c.in-Some.is)))
-    c.in_ok-half.ensures.places
-
-pub returns-in_default-clause-levels : goal.returns-in_default-clause-levels
-returns-in_default-clause-levels g c =
-    put_level (g.C.Chunks.contents c.put_anyway.new.chunks) c.args.self.now c.put_anyway.new.self
-    c.in_ok-half.field-0 c.in_default.is c.put_anyway.ensures.depth c.in_ok-half.ensures.levels
-
-pub returns-clause-levels : goal.returns-clause-levels
-returns-clause-levels g c =
+pub returns-clause-put : goal.returns-clause-put
+returns-clause-put g c =
     let q = g.C.Chunks.contents c.put_anyway.new.chunks in
-    put_risen q c.args.self.now c.put_anyway.new.self c.rise.new.self c.in-Some.half c.put_anyway.ensures.depth
-    c.rise.ensures.depth c.rise.ensures.marks
-    (subst (HalvesPut q c.args.self.now c.put_anyway.new.self) c.in-Some.is c.in_ok-half.ensures.levels)
+    let at_q = g.C.Chunks.places c.put_anyway.new.chunks in
+    let was = c.args.self.now in
+    let lower = c.put_anyway.new.self in
+    let pieces = c.rise.ensures.pieces ∙ ap (λ h. lower.pieces ++ half_pieces h) (sym c.in-Some.is) in
+    record {
+      same = λ found. absurd (none_there _ (subst IsSome (sym found) refl) c.requires.absent);
+      shown_is = ap (shown q) pieces ∙ c.in_ok-half.ensures.done;
+      few = omega (arith, c.rise.ensures.fresh, c.in_ok-half.ensures.fresh, ap half_fresh c.in-Some.is);
+      replaced = λ there. absurd (none_there _ there c.requires.absent);
+      levels = put_risen q was lower c.rise.new.self c.in-Some.half c.put_anyway.ensures.depth c.rise.ensures.depth
+          c.rise.ensures.marks (subst (HalvesPut q was lower) c.in-Some.is c.in_ok-half.ensures.levels);
+      kept = λ there. absurd (none_there _ there c.requires.absent);
+      deep = (
+        omega (arith, c.rise.ensures.depth, c.put_anyway.ensures.depth),
+        omega (arith, c.rise.ensures.depth, c.put_anyway.ensures.depth),
+      );
+      wide = λ w. inr (omega (arith, c.rise.ensures.entries));
+      places_are = subst (λ ps. AreKept at_q (places_of was.pieces) (places_of ps)) (sym pieces)
+          c.in_ok-half.ensures.places;
+    }

@@ -10,7 +10,7 @@ use Rattle.map_nodes.proofs.roots.OwnRoot.inserted.Goals as goal
 
 pub returns-clause-wide : goal.returns-clause-wide
 returns-clause-wide g c w =
-    subst IsWideChunk (sym c.new.ensures) (c.in_ok-write.ensures.wide (c.in_ok-node.ensures.wide
+    subst IsWideChunk (sym c.new.ensures) (c.in_ok-write.ensures.put.wide (c.in_ok-node.ensures.wide
     (wide_later (g.C.Chunks.contents c.args.chunks.now) (g.C.Chunks.contents c.copied.new.chunks) c.args.depth
     (stamp_of c.args.at) c.requires.tree c.copied.ensures.grown.0 w)))
 
@@ -24,4 +24,4 @@ returns-clause-levels g c later pre =
     (subst (λ d. ArePutIn d new.depth was (seen_levels new later)) c.in_ok-node.ensures.depth
     (put_in_copied c.in_ok-node.node.depth new.depth (seen_levels c.in_ok-node.node later) (seen_levels new later) was
     (c.in_ok-node.ensures.levels later (prefix_trans q r later c.write.ensures.grown.0 pre))
-    (c.in_ok-write.ensures.levels later pre)))
+    (c.in_ok-write.ensures.put.levels later pre)))

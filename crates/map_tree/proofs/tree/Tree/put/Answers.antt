@@ -10,9 +10,9 @@ use Rattle.map_tree.proofs.tree.Tree.put.Goals as goal
 
 pub returns-in-Own-clause-put : goal.returns-in-Own-clause-put
 returns-in-Own-clause-put g c m h =
-    on_ok c.put_own.result c.put_own.ensures.put
-    (own_put (g.C.Chunks.contents c.args.chunks.now) (g.C.Chunks.contents c.put_own.new.chunks)
-    (g.C.Chunks.places c.put_own.new.chunks) c.args.self.now c.in-Own.node c.put_own.new.node m c.args.key.now
+    on_ok c.write.result c.write.ensures.put
+    (own_put (g.C.Chunks.contents c.args.chunks.now) (g.C.Chunks.contents c.write.new.chunks)
+    (g.C.Chunks.places c.write.new.chunks) c.args.self.now c.in-Own.node c.write.new.self m c.args.key.now
     c.args.value.now c.in-Own.is h)
 
 pub returns-in_ok-updated-in-Placed-clause-put : goal.returns-in_ok-updated-in-Placed-clause-put

@@ -1,4 +1,5 @@
-use Rattle.std.proofs.Common.{◌≡◌, ◌⊎◌, ◌∙◌, ◌+◌, ◌<◌, ◌^◌, length, slice_get, Ok, Err, Some, ap, arith, get_or, inl, inr, refl, subst, sym}
+use Rattle.std.proofs.Common.{◌≡◌, ◌⊎◌, ◌∙◌, ◌+◌, ◌<◌, ◌^◌, length, slice_get, Ok, Err, Some, ap, arith, inl}
+use Rattle.std.proofs.Common.{inr, subst, sym}
 use Rattle.std.specs.Ordering.{nat_cmp}
 use Rattle.std.specs.Cmp.Lexicographic.{slice_cmp}
 use Rattle.std.specs.FinMap as finite
@@ -75,7 +76,7 @@ change_at-returns-clause-stopped g t c =
       | inr y ↦ elim y [
         | inl s ↦ inr (inl s)
         | inr f ↦ inr (inr (subst (λ w. g.F.FnOnce.post c.args.change
-          (finite.find (slice_cmp nat_cmp) c.args.key.now (rows_or w), tt) (Err e)) rows f))
+            (finite.find (slice_cmp nat_cmp) c.args.key.now (rows_or w), tt) (Err e)) rows f))
       ]
     ])
 
@@ -86,8 +87,12 @@ change_in-place_for-place-requires-clause-filled g t c =
     let content : slice_get q (stamp_of c.args.at) ≡ Some (chunk_content (chunked.Inner kids)) = c.requires.content ∙ ap
     (λ w. Some (chunk_content w)) c.in-Inner.is in
     let full = filled q (stamp_of c.args.at) kids c.requires.known content in
-    omega (arith, full, length-keys_of kids,
-    ap length (c.as_slice.ensures.keys ∙ c.deref.ensures ∙ c.firsts.ensures.keys))
+    omega (
+      arith,
+      full,
+      length-keys_of kids,
+      ap length (c.as_slice.ensures.keys ∙ c.deref.ensures ∙ c.firsts.ensures.keys),
+    )
 
 pub change_in-change_at-requires : goal.change_in-change_at-requires
 change_in-change_at-requires g t c κs within =
@@ -122,8 +127,11 @@ change_in-returns-in_err-below-in-Inner-clause-stopped g t c =
     let b = c.child_at-child.ensures.child in
     let w = way q key c.args.at below kids i c.requires.known content place b in
     err_and c.from_residual.result c.from_residual.ensures.1 (λ e x. elim (subst (λ e. (e ≡ NoMemory)
-    ⊎ g.C.Chunks.stops e ⊎ g.F.FnOnce.post c.args.change (finite.find (slice_cmp nat_cmp) key
-    (rows_or (chunk_rows q (stamp_of below))), tt) (Err e)) (sym x) c.in_err-below-in-Inner.ensures.stopped) [
+    ⊎ g.C.Chunks.stops e ⊎ g.F.FnOnce.post c.args.change (
+      finite.find (slice_cmp nat_cmp) key
+          (rows_or (chunk_rows q (stamp_of below))),
+      tt,
+    ) (Err e)) (sym x) c.in_err-below-in-Inner.ensures.stopped) [
       | inl y ↦ inl y
       | inr z ↦ elim z [
         | inl s ↦ inr (inl s)
@@ -141,7 +149,7 @@ change_in-step_up-requires g t c =
       low = low_reached (g.C.Chunks.contents c.change_at.new.chunks) (g.C.Chunks.places c.change_at.new.chunks) below
           (chunk_depth q (stamp_of below)) (rows_or (chunk_rows q (stamp_of below))) c.args.key.now r.0
           c.in_ok-below-in-Inner.below c.change_at.new.laying (let l : stamp_of below + 2 < 2 ^ 64 = omega
-              (arith, c.child_at-child.ensures.bound) in l) r.2;
+          (arith, c.child_at-child.ensures.bound) in l) r.2;
     }
 
 pub change_in-returns-in-Leaf-clause-reached : goal.change_in-returns-in-Leaf-clause-reached
@@ -172,7 +180,7 @@ change_in-returns-in-Leaf-clause-stopped g t c =
     err_so c.change_leaf.result c.change_leaf.ensures.stopped (λ e h. elim h [
       | inl x ↦ inl x
       | inr f ↦ inr (inr (subst (λ w. g.F.FnOnce.post c.args.change
-        (finite.find (slice_cmp nat_cmp) c.args.key.now (rows_or w), tt) (Err e)) (sym is.0) f))
+          (finite.find (slice_cmp nat_cmp) c.args.key.now (rows_or w), tt) (Err e)) (sym is.0) f))
     ])
 
 pub change_in-returns-in_ok-step_up-in-Inner-clause-reached :

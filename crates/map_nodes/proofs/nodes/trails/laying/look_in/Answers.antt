@@ -1,5 +1,5 @@
-use Rattle.std.proofs.Common.{◌≡◌, ◌∙◌, Some, ap, get_or, sym, subst}
-use Rattle.group_history.specs.Rows.{AreKeys, keys_of}
+use Rattle.std.proofs.Common.{◌∙◌, Some, ap, get_or, sym, subst}
+use Rattle.group_history.specs.Rows.{AreKeys}
 use Rattle.map_chunks.specs.Search.{IsAbsent, IsFound}
 use Rattle.map_nodes.proofs.WayLemmas.{leaf_has, leaf_misses}
 use Rattle.map_nodes.proofs.nodes.trails.laying.look_in.Goals as goal

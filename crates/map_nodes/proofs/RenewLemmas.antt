@@ -1,0 +1,172 @@
+-- A value replaced below a chunk, and the map once a value is put.
+use Rattle.std.proofs.Common.{◌≡◌, ◌<◌, ◌+◌, ◌*◌, ◌-◌, ℕ, List, [], ◌∷◌, ◌++◌, Option, Some, None, length, slice_get}
+use Rattle.std.proofs.Common.{set, get_or, inl, refl, sym, ap, ◌∙◌, subst, arith, append-nil, length-set, nat_cmp, cond}
+use Rattle.std.proofs.Common.{drop, Ordering, Less, Equal, Greater, is_eq}
+use Rattle.std.specs.Prelude.{IsSome}
+use Rattle.std.specs.Cmp.Lexicographic.{slice_cmp}
+use Rattle.std.specs.FinMap.{find, put}
+use Rattle.std.specs.FinMap.Entries.{by_order}
+use mathlib.Core.List.{IsPrefix}
+use Rattle.group_history.proofs.Pairs.{keys_of-paired, values_of-paired}
+use Rattle.group_history.specs.declared.refs.Ref.{Ref}
+use Rattle.group_history.specs.Map.{Bytes}
+use Rattle.group_history.specs.Rows.{Rows, keys_of, paired, values_of}
+use Rattle.group_history.specs.Spelling.{Contents}
+use Rattle.map_chunks.proofs.JoinLemmas.{some_is}
+use Rattle.map_chunks.proofs.KeptLemmas.{kept-same}
+use Rattle.map_chunks.proofs.OpenLemmas.{find-way, known}
+use Rattle.map_chunks.proofs.RowLemmas.{cmp, find-above, AllAbove-less, IsStrict}
+use Rattle.map_chunks.specs.Places.{AreKept, places_of}
+use Rattle.map_chunks.specs.Search.{IsPlace}
+use Rattle.map_chunks.specs.Shown.{Piece, Seen, IsTree, child_keys, rows_or, shown}
+use Rattle.map_nodes.proofs.ChangeLemmas.{none_there, shown-kept}
+use Rattle.map_nodes.proofs.CountLemmas.{deep_same, wide_kept}
+use Rattle.map_nodes.proofs.KeptLevels.{levels-set, topped_changed}
+use Rattle.map_nodes.proofs.LevelLemmas.{changed_as}
+use Rattle.map_nodes.proofs.NamedLemmas.{kept-front}
+use Rattle.map_nodes.proofs.NodeLemmas.{Down}
+use Rattle.map_nodes.proofs.PathLemmas.{length-lowered}
+use Rattle.map_nodes.proofs.PutLevels.{lowered-parting, put_level, put_same}
+use Rattle.map_nodes.proofs.RemoveLemmas.{fresh-set}
+use Rattle.map_nodes.specs.Inside.Counts.{half_fresh, HasKept}
+use Rattle.map_nodes.specs.Inside.Halves.{half_pieces, lowered, with_half, IsLower}
+use Rattle.map_nodes.specs.Inside.Nodes.{child_rows}
+use Rattle.map_nodes.specs.Inside.Puts.{value_in, ChildReplaced, HalvesPut, HasReplaced, IsHalved}
+use Rattle.map_nodes.specs.Levels.{parting, seen_levels, topped, IsRenewed, RenewedLater}
+use Rattle.map_nodes.specs.Nodes.{kids_fresh, kids_levels}
+use Rattle.map_nodes.specs.Updating.{IsPutOn}
+use Rattle.map_nodes.specs.declared.nodes.OwnChild.{OwnChild}
+use Rattle.map_nodes.specs.declared.nodes.OwnChild.TheVariants.{Own}
+use Rattle.map_nodes.specs.declared.nodes.putting.Half.{Half}
+
+-- BELOW A CHUNK
+
+-- the child to which the key belongs has the value at it
+pub value_below : (p : Contents) (depth : ℕ) (keys : List Bytes) (kids : List OwnChild) (pieces : List Piece)
+    (key : Bytes) (i : ℕ) (child : OwnChild) → (d : Down p depth keys kids pieces key i child)
+    → value_in (child_rows p (depth - 1) child) key ≡ value_in (shown p pieces) key
+value_below p depth keys kids pieces key i child d =
+    ap (λ z. value_in z key) d.way.here_is ∙ find-way key _ _ _ _ d.rows d.way
+    ∙ ap (λ z. value_in z key) (sym d.rows_is)
+
+-- a chunk over chunks, where a value was replaced below one of them
+pub inner_replaced : (q : Contents) (depth : ℕ) (keys now : List Bytes) (kids put all : List OwnChild) (key : Bytes)
+    (i : ℕ) (child : OwnChild) (lower : Option Bytes) (half made : Option Half) (found : Option Bytes) (v : Bytes)
+    → 0 < depth → length kids ≡ length keys → slice_get kids i ≡ Some child → IsPlace key keys i
+    → IsLower key (get_or keys i []) lower → ChildReplaced q found v (depth - 1) i kids put child half
+    → IsHalved depth now all made (keys_of (with_half i half (paired (lowered i lower keys) put)))
+    (values_of (with_half i half (paired (lowered i lower keys) put)))
+    → (half ≡ None → made ≡ None)
+    → HasReplaced q found v (kids_fresh kids + 1 + depth) (kids_fresh all + 1)
+    (λ p. topped (None, parting keys) (kids_levels (depth - 1) kids p))
+    (λ p. topped (None, parting now) (kids_levels (depth - 1) all p)) made
+inner_replaced q depth keys now kids put all key i child lower half made found v above l g place low c parted whole t =
+    let b = depth - 1 in
+    let n = c.0 in
+    let r = c.2 t in
+    let none = whole r.1 in
+    let ks = lowered i lower keys in
+    let m : length put ≡ length ks =
+    ap length c.1 ∙ length-set kids i (Own n) ∙ l ∙ sym (length-lowered i lower keys) in
+    let alone : IsHalved depth now all None (keys_of (paired ks put)) (values_of (paired ks put)) =
+    subst (λ h. IsHalved depth now all None (keys_of (with_half i h (paired ks put)))
+    (values_of (with_half i h (paired ks put)))) r.1
+    (subst (λ h. IsHalved depth now all h (keys_of (with_half i half (paired ks put)))
+    (values_of (with_half i half (paired ks put)))) none parted) in
+    let new = set kids i (Own n) in
+    let all_are : all ≡ new = alone.1 ∙ values_of-paired ks put m ∙ c.1 in
+    let shape : parting now ≡ parting keys = ap (λ w. child_keys (drop 1 w)) (alone.0 ∙ keys_of-paired ks put m)
+    ∙ ap (λ w. child_keys w) (lowered-parting keys key i lower place low) in
+    let f = fresh-set kids i child (Own n) g in (
+      r.0,
+      none,
+      omega (arith, f, r.2, above, ap kids_fresh all_are),
+      λ later pre level.
+          let was = kids_levels b kids later in
+          let then = kids_levels b new later in
+          changed_as IsRenewed (topped (None, parting keys) was level) (topped (None, parting keys) then level)
+          (topped (None, parting keys) was level) (topped (None, parting now) (kids_levels b all later) level) refl
+          (ap (λ w. topped (None, w) (kids_levels b all later) level) shape
+          ∙ ap (λ w. topped (None, parting keys) (kids_levels b w later) level) all_are)
+          (topped_changed IsRenewed (None, parting keys) was then
+          (λ k. levels-set IsRenewed later b kids i child (Own n) k g (r.3 later pre k)) level),
+    )
+
+-- A WHOLE MAP
+
+-- a value that is there is put in vain
+pub put-same : (key v : Bytes) (rows : Rows) → IsStrict rows → find (slice_cmp nat_cmp) key rows ≡ Some v
+    → put (slice_cmp nat_cmp) key v rows ≡ rows
+put-same key v [] o f = absurd cc
+put-same key v (r ∷ rs) o f = by (cmp key r.0) refl f (put-same key v rs o.1)
+  where
+    by : (c : Ordering) → cmp key r.0 ≡ c → cond (is_eq c) (Some r.1) (find (slice_cmp nat_cmp) key rs) ≡ Some v
+        → (find (slice_cmp nat_cmp) key rs ≡ Some v → put (slice_cmp nat_cmp) key v rs ≡ rs)
+        → by_order c ((key, v) ∷ r ∷ rs) ((r.0, v) ∷ rs) (r ∷ put (slice_cmp nat_cmp) key v rs) ≡ r ∷ rs
+    by Less e f g =
+        let none = find-above key rs (AllAbove-less key r.0 rs e o.0) in
+        absurd (none_there (find (slice_cmp nat_cmp) key rs) (subst IsSome (sym f) refl) none)
+    by Equal e f g = ap (λ w. (r.0, w) ∷ rs) (sym (some_is f))
+    by Greater e f g = ap (λ w. r ∷ w) (g f)
+
+-- a map that has the value already
+pub put_unchanged : (p q : Contents) (may : Ref → Type 0) (key v : Bytes) (n o : Seen) → IsPrefix p q
+    → IsTree (shown p n.pieces) → value_in (shown p n.pieces) key ≡ Some v → o ≡ n
+    → IsPutOn p q may key v n o
+put_unchanged p q may key v n o pre tree found e = subst (IsPutOn p q may key v n) (sym e) (record {
+  same = λ f. refl;
+  shown_is = let k = known (shown p n.pieces) tree in
+      shown-kept p q n.pieces k.rows pre k.is
+      ∙ ap (λ w. Some w) (sym (put-same key v k.rows k.order
+      (ap (λ z. value_in z key) (sym k.is) ∙ found)))
+      ∙ ap (λ z. Some (put (slice_cmp nat_cmp) key v (rows_or z))) (sym k.is);
+  few = omega arith;
+  replaced = λ t. omega arith;
+  levels = put_same q n.depth n.depth (seen_levels n) (seen_levels n) refl (kept n);
+  kept = λ t. kept n;
+  deep = deep_same n.depth n.depth refl;
+  wide = λ w. w;
+  places_are = kept-same may (places_of n.pieces);
+})
+  where
+    kept : (n : Seen) → RenewedLater q (seen_levels n) (seen_levels n)
+    kept n later pre level = inl refl
+
+-- a root that isn't split
+pub put_whole : (p q : Contents) (may : Ref → Type 0) (key v : Bytes) (n o : Seen) (half : Option Half) → half ≡ None
+    → o.depth ≡ n.depth
+    → shown q (o.pieces ++ half_pieces half) ≡ Some (put (slice_cmp nat_cmp) key v (rows_or (shown p n.pieces)))
+    → AreKept may (places_of n.pieces) (places_of (o.pieces ++ half_pieces half))
+    → o.fresh + half_fresh half < n.fresh + 2 * n.depth → HasKept n.entries o.entries half → HalvesPut q n o half
+    → HasReplaced q (value_in (shown p n.pieces) key) v (n.fresh + n.depth) o.fresh (seen_levels n) (seen_levels o) half
+    → IsPutOn p q may key v n o
+put_whole p q may key v n o half e d shows kept fresh entries levels renewed = record {
+  same = λ f. absurd ((renewed (subst IsSome (sym f) refl)).0 f);
+  shown_is = ap (shown q) (sym (append-nil o.pieces)) ∙ ap (λ h. shown q (o.pieces ++ half_pieces h)) (sym e) ∙ shows;
+  few = omega (arith, fresh);
+  replaced = λ t. omega (arith, (renewed t).2);
+  levels = put_level q n o half e d levels;
+  kept = λ t. (renewed t).3;
+  deep = deep_same n.depth o.depth d;
+  wide = wide_kept n o half e d entries;
+  places_are = kept-front may (places_of n.pieces) o.pieces (half_pieces half) kept;
+}
+
+-- what holds since chunks were read holds since before
+pub put_since : (p q r : Contents) (may : Ref → Type 0) (key v : Bytes) (n s o : Seen) → IsPrefix p q
+    → IsTree (shown p n.pieces) → s ≡ n → IsPutOn q r may key v s o → IsPutOn p r may key v n o
+put_since p q r may key v n s o pre tree e h =
+    let k = known (shown p n.pieces) tree in
+    let there : shown p n.pieces ≡ shown q n.pieces = k.is ∙ sym (shown-kept p q n.pieces k.rows pre k.is) in
+    let g = subst (λ w. IsPutOn q r may key v w o) e h in
+    record {
+      same = λ f. g.same (ap (λ z. value_in z key) (sym there) ∙ f);
+      shown_is = g.shown_is ∙ ap (λ z. Some (put (slice_cmp nat_cmp) key v (rows_or z))) (sym there);
+      few = g.few;
+      replaced = λ t. g.replaced (subst (λ z. IsSome (value_in z key)) there t);
+      levels = g.levels;
+      kept = λ t. g.kept (subst (λ z. IsSome (value_in z key)) there t);
+      deep = g.deep;
+      wide = g.wide;
+      places_are = g.places_are;
+    }
