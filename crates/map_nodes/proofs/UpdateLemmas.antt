@@ -17,6 +17,7 @@ use Rattle.map_chunks.specs.Places.{AreKept, places_of}
 use Rattle.map_chunks.specs.Seeking.{chunk_depth}
 use Rattle.map_chunks.specs.Shown.{Seen, chunk_rows, rows_or, shown, IsTree}
 use Rattle.map_chunks.specs.Wide.{IsWideAt, IsWideChunk}
+use Rattle.map_nodes.proofs.ChangeLemmas.{none_there}
 use Rattle.map_nodes.proofs.LayLemmas.{wide_later}
 use Rattle.map_nodes.proofs.PutLevels.{put_same}
 use Rattle.map_nodes.specs.Inside.Laying.{IsAnother, IsLaid}
@@ -44,10 +45,6 @@ laid_root q may k d key v rows steps e a laid = record {
   places_are = laid.kept;
 }
 
-none_there : {T : Type 0} (o : Option Bytes) → o ≡ None → IsSome o → T
-none_there None e h = absurd cc
-none_there (Some v) e h = absurd cc
-
 -- a key that wasn't there
 pub fresh_root : (p q : Contents) (may : Ref → Type 0) (k d : ℕ) (key v : Bytes) (n : Seen) → IsTree (chunk_rows p k)
     → chunk_depth p k ≡ Some d → find (slice_cmp nat_cmp) key (rows_or (chunk_rows p k)) ≡ None
@@ -59,9 +56,9 @@ fresh_root p q may k d key v n t h none shows few levels deep wide kept = record
   other = λ e. (let x : None ≡ Some v = sym none ∙ e in cc);
   shown_is = shows ∙ ap (λ w. Some (put (slice_cmp nat_cmp) key v (rows_or w))) (deep_rows p k d t h);
   few = few;
-  replaced = λ s. none_there (find (slice_cmp nat_cmp) key (rows_or (chunk_rows p k))) none s;
+  replaced = λ s. absurd (none_there (find (slice_cmp nat_cmp) key (rows_or (chunk_rows p k))) s none);
   levels = levels;
-  kept = λ s. none_there (find (slice_cmp nat_cmp) key (rows_or (chunk_rows p k))) none s;
+  kept = λ s. absurd (none_there (find (slice_cmp nat_cmp) key (rows_or (chunk_rows p k))) s none);
   deep = deep;
   wide = wide;
   places_are = kept;

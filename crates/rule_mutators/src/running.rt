@@ -75,12 +75,26 @@ fn put<V: WriteView>(call: Call<'_>, view: &mut V, key: &Expr, e: &Expr) -> Resu
     let Some(value) = value_at(call, view, e)? else {
         return Ok(Ran::Refused(WRONG));
     };
-    let json = kept(call.alloc, &value);
+    let ran = put_value(call.alloc, view, key.as_str(), &value);
     drop(value);
-    let Some(json) = json? else {
+    ran
+}
+
+/// Puts a value at a key.
+fn put_value<V: WriteView>(
+    alloc: Global,
+    view: &mut V,
+    key: &str,
+    value: &Value,
+) -> Result<Ran, Stop>
+    ensures ran { IfOk result (λ ran. RunsAs
+        (spec.put_means key.now (data_of value.now) (V.contents view.old)) ran (V.contents view.new)) }
+    ensures stopped { IfErr result (MayStop V.stops) }
+{
+    let Some(json) = kept(alloc, value)? else {
         return Ok(Ran::Refused(WRONG));
     };
-    view.put(key.as_str(), &json)?;
+    view.put(key, &json)?;
     Ok(Ran::Done)
 }
 
