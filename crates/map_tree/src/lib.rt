@@ -6,12 +6,13 @@
 //!
 //! What a put makes of a tree is one word, `IsPut` of `specs/Puts.antt`. In a tree d deep, a value replaced makes at
 //! most d chunks new, a new key at most 2 d + 1 (`replaced`, `few`). On each level new chunks stand in the place of one
-//! chunk at most, the one on the way to the key, and all others are the same, placed ones under their stamps
-//! (`levels`): it has the keys that it had, or one more; or it got a 17th entry, and the first 8 and the last 9 stand
-//! in its place. A value replaced changes no key (`kept`), and a value that is there already makes nothing new
-//! (`same`). A key removed makes at most d chunks new. A root that would keep one child gives way to it (`wide`).
-//! `freeze` appends the own chunks to a `Draft` as they are, children before parents; a placed child keeps its
-//! reference (`named`), and of new references nothing is said until they are placed.
+//! chunk at most, and all others are the same, placed ones under their stamps (`levels`): it has the keys that it had,
+//! or one more; or it got a 17th entry, and the first 8 and the last 9 stand in its place. Where the chunk on the way
+//! to the key is the tree's own already and keeps its keys, no clause says that no other one is copied. A value
+//! replaced changes no key (`kept`), and a value that is there already makes nothing new (`same`). A key removed makes
+//! at most d chunks new. A root that would keep one child gives way to it (`wide`). `freeze` appends the own chunks to
+//! a `Draft` as they are, children before parents; a placed child keeps its reference (`named`), and of new references
+//! nothing is said until they are placed.
 //!
 //! A put and an `update` in a map whose root is placed go down once: each chunk on the way is held while the way goes
 //! on below it, and new ones are made on the way up, only where the value changes. A key that isn't there takes a
