@@ -18,6 +18,7 @@ mod ScanLemmas
 mod SecondLemmas
 mod RenewLemmas
 mod UnputLemmas
+mod DepthLemmas
 pub mod WideLemmas
 mod BelowLemmas
 mod TrailLemmas
@@ -31,3 +32,7 @@ pub mod FreezeLevels
 mod KeptLevels
 pub mod WayLemmas
 mod UpdateLemmas
+mod AmongLemmas
+mod LeafEnds
+mod LeafRows
+mod GrownLemmas

@@ -3,6 +3,7 @@ use Rattle.std.proofs.Common.{◌≡◌, ◌⊎◌, ◌+◌, ◌-◌, ◌<◌, �
 use Rattle.std.proofs.Common.{Option, Some, None, inl, inr, refl, sym, ap, ◌∙◌, subst, arith, length, take, drop, set}
 use Rattle.std.proofs.Common.{get_or, insert, length-append, length-drop, take-append-drop, append_assoc, append-nil}
 use Rattle.std.proofs.Common.{Result, Ok, Err, IfOk}
+use mathlib.Core.List.{IsPrefix}
 use Rattle.group_history.specs.Map.{Bytes}
 use Rattle.group_history.specs.Rows.{keys_of, paired, values_of}
 use Rattle.group_history.specs.Spelling.{Contents}
@@ -365,13 +366,18 @@ if_ok_both (Err e) p q f = tt
 
 -- ROOTS
 
+-- what a put makes of a map: a chunk and its upper half
+abbrev pub PutBoth : Contents → (Contents → Levels) → Seen → Option Half → Type 0
+PutBoth contents old new half = (later : Contents) → IsPrefix contents later
+    → ArePut (old later) (λ level. seen_levels new later level ++ half_levels half later level)
+
 -- a root that isn't split
-pub put_level : (q : Contents) (old new : Seen) (half : Option Half) → half ≡ None → new.depth ≡ old.depth
-    → HalvesPut q old new half → PutLater old.depth new.depth q (seen_levels old) (seen_levels new)
-put_level q old new half e d h later pre = (
-  λ i. changed_as IsGrown (seen_levels old later i) (seen_levels new later i ++ half_levels half later i)
-      (seen_levels old later i) (seen_levels new later (i + (new.depth - old.depth))) refl
-      (ap (seen_levels new later) (let z : i + (new.depth - old.depth) ≡ i = omega (arith, d) in z)
+pub put_level : (q : Contents) (was : ℕ) (old : Contents → Levels) (new : Seen) (half : Option Half) → half ≡ None
+    → new.depth ≡ was → PutBoth q old new half → PutLater was new.depth q old (seen_levels new)
+put_level q was old new half e d h later pre = (
+  λ i. changed_as IsGrown (old later i) (seen_levels new later i ++ half_levels half later i)
+      (old later i) (seen_levels new later (i + (new.depth - was))) refl
+      (ap (seen_levels new later) (let z : i + (new.depth - was) ≡ i = omega (arith, d) in z)
       ∙ sym (append-nil (seen_levels new later i)) ∙ ap (λ w. seen_levels new later i ++ half_levels w later i) (sym e))
       (h later pre i),
   λ l. absurd (omega (arith, l, d)),
@@ -393,15 +399,15 @@ put_same q was deep old new d h later pre = (
 )
 
 -- a root of two above the halves of one that is split
-pub put_risen : (q : Contents) (old lower new : Seen) (half : Half) → lower.depth ≡ old.depth
+pub put_risen : (q : Contents) (was : ℕ) (old : Contents → Levels) (lower new : Seen) (half : Half) → lower.depth ≡ was
     → new.depth ≡ lower.depth + 1
     → ((key : Bytes) × (new.marks ≡ own 0 (child_keys (key ∷ [])) ∷ sunk (lower.marks ++ half.node.value.marks)))
-    → HalvesPut q old lower (Some half) → PutLater old.depth new.depth q (seen_levels old) (seen_levels new)
-put_risen q old lower new half d n m h later pre =
+    → PutBoth q old lower (Some half) → PutLater was new.depth q old (seen_levels new)
+put_risen q was old lower new half d n m h later pre =
     let shape = child_keys (m.0 ∷ []) in (
-      λ i. changed_as IsGrown (seen_levels old later i) (seen_levels lower later i ++ half_levels (Some half) later i)
-          (seen_levels old later i) (seen_levels new later (i + (new.depth - old.depth))) refl
-          (ap (seen_levels new later) (let z : i + (new.depth - old.depth) ≡ suc i = omega (arith, d, n) in z)
+      λ i. changed_as IsGrown (old later i) (seen_levels lower later i ++ half_levels (Some half) later i)
+          (old later i) (seen_levels new later (i + (new.depth - was))) refl
+          (ap (seen_levels new later) (let z : i + (new.depth - was) ≡ suc i = omega (arith, d, n) in z)
           ∙ ap (λ w. levels_of later w (suc i)) m.1
           ∙ topped-is later shape (lower.marks ++ half.node.value.marks) (suc i)
           ∙ levels-append later lower.marks half.node.value.marks i) (h later pre i),

@@ -31,9 +31,10 @@ use Rattle.map_nodes.proofs.RemoveLemmas.{fresh-set}
 use Rattle.map_nodes.specs.Inside.Counts.{half_fresh, HasKept}
 use Rattle.map_nodes.specs.Inside.Halves.{half_pieces, lowered, with_half, IsLower}
 use Rattle.map_nodes.specs.Inside.Nodes.{child_rows}
-use Rattle.map_nodes.specs.Inside.Puts.{value_in, ChildReplaced, HalvesPut, HasReplaced, IsHalved}
+use Rattle.map_nodes.specs.Inside.Puts.{value_in, ChildReplaced, HalvesPut, HasReplaced, IsHalved, IsOwnPut}
 use Rattle.map_nodes.specs.Levels.{parting, seen_levels, topped, IsRenewed, RenewedLater}
 use Rattle.map_nodes.specs.Nodes.{kids_fresh, kids_levels}
+use Rattle.map_nodes.specs.Others.{ArePutAmong}
 use Rattle.map_nodes.specs.Updating.{IsPutOn}
 use Rattle.map_nodes.specs.declared.nodes.OwnChild.{OwnChild}
 use Rattle.map_nodes.specs.declared.nodes.OwnChild.TheVariants.{Own}
@@ -124,6 +125,7 @@ put_unchanged p q may key v n o pre tree found e = subst (IsPutOn p q may key v 
   replaced = λ t. omega arith;
   levels = put_same q n.depth n.depth (seen_levels n) (seen_levels n) refl (kept n);
   kept = λ t. kept n;
+  others = λ other. absurd (other found);
   deep = deep_same n.depth n.depth refl;
   wide = λ w. w;
   places_are = kept-same may (places_of n.pieces);
@@ -135,22 +137,26 @@ put_unchanged p q may key v n o pre tree found e = subst (IsPutOn p q may key v 
 -- a root that isn't split
 pub put_whole : (p q : Contents) (may : Ref → Type 0) (key v : Bytes) (n o : Seen) (half : Option Half) → half ≡ None
     → o.depth ≡ n.depth
-    → shown q (o.pieces ++ half_pieces half) ≡ Some (put (slice_cmp nat_cmp) key v (rows_or (shown p n.pieces)))
+    → IsOwnPut q key v (shown p n.pieces) n.pieces o.pieces (n.fresh + n.depth) o.fresh (seen_levels n) (seen_levels o)
+    half
     → AreKept may (places_of n.pieces) (places_of (o.pieces ++ half_pieces half))
     → o.fresh + half_fresh half < n.fresh + 2 * n.depth → HasKept n.entries o.entries half → HalvesPut q n o half
-    → HasReplaced q (value_in (shown p n.pieces) key) v (n.fresh + n.depth) o.fresh (seen_levels n) (seen_levels o) half
     → IsPutOn p q may key v n o
-put_whole p q may key v n o half e d shows kept fresh entries levels renewed = record {
-  same = λ f. absurd ((renewed (subst IsSome (sym f) refl)).0 f);
-  shown_is = ap (shown q) (sym (append-nil o.pieces)) ∙ ap (λ h. shown q (o.pieces ++ half_pieces h)) (sym e) ∙ shows;
+put_whole p q may key v n o half e d made kept fresh entries levels = record {
+  same = λ f. absurd ((made.renewed (subst IsSome (sym f) refl)).0 f);
+  shown_is = ap (shown q) (sym whole) ∙ made.shown_is;
   few = omega (arith, fresh);
-  replaced = λ t. omega (arith, (renewed t).2);
-  levels = put_level q n o half e d levels;
-  kept = λ t. (renewed t).3;
+  replaced = λ t. omega (arith, (made.renewed t).2);
+  levels = put_level q n.depth (seen_levels n) o half e d levels;
+  kept = λ t. (made.renewed t).3;
+  others = λ other. subst (ArePutAmong q key v n.pieces) whole made.others;
   deep = deep_same n.depth o.depth d;
   wide = wide_kept n o half e d entries;
   places_are = kept-front may (places_of n.pieces) o.pieces (half_pieces half) kept;
 }
+  where
+    whole : o.pieces ++ half_pieces half ≡ o.pieces
+    whole = ap (λ h. o.pieces ++ half_pieces h) e ∙ append-nil o.pieces
 
 -- what holds since chunks were read holds since before
 pub put_since : (p q r : Contents) (may : Ref → Type 0) (key v : Bytes) (n s o : Seen) → IsPrefix p q
@@ -166,6 +172,7 @@ put_since p q r may key v n s o pre tree e h =
       replaced = λ t. g.replaced (subst (λ z. IsSome (value_in z key)) there t);
       levels = g.levels;
       kept = λ t. g.kept (subst (λ z. IsSome (value_in z key)) there t);
+      others = λ other. g.others (λ f. other (ap (λ z. value_in z key) there ∙ f));
       deep = g.deep;
       wide = g.wide;
       places_are = g.places_are;

@@ -1,6 +1,6 @@
 -- A new root above both halves of a map.
 use Rattle.std.proofs.Common.{◌≡◌, ◌<◌, ◌+◌, ◌-◌, ◌&&◌, ℕ, Bool, true, false, cond, T, List, [], ◌∷◌, ◌++◌, Some, None}
-use Rattle.std.proofs.Common.{length, replicate, append-nil, refl, sym, ap, ◌∙◌, subst, arith, nat_cmp, Less, is_lt}
+use Rattle.std.proofs.Common.{get_or, length, replicate, append-nil, refl, sym, ap, ◌∙◌, subst, arith, nat_cmp, Less, is_lt}
 use Rattle.std.specs.Cmp.Lexicographic.{slice_cmp}
 use Rattle.std.specs.FinMap.{put}
 use Rattle.group_history.specs.Map.{Bytes}
@@ -37,6 +37,17 @@ head_body depth k ks (Inner kids) h = by kids.items h.1.2 h.1.3
         → HeadIs k (kids_pieces (depth - 1) (paired (k ∷ ks) cs))
     by [] l a = absurd (omega arith)
     by (c ∷ cs) l a = head_kids (depth - 1) 0 ((k, c) ∷ paired ks cs) (omega arith) a
+
+-- so they do where the chunk has pieces
+pub heads : (depth : ℕ) (keys : List Bytes) (body : Body) (d : Bytes) → IsNode depth keys body
+    → 0 < length (body_pieces depth keys body) → HeadIs (get_or keys 0 d) (body_pieces depth keys body)
+heads depth [] (Leaf values) d h l = absurd (omega arith)
+heads depth [] (Inner kids) d h l = absurd (omega (arith, h.1.1))
+heads depth (k ∷ ks) body d h l = head_body depth k ks body h
+
+pub head_append : (k : Bytes) (ps qs : List Piece) → HeadIs k ps → HeadIs k (ps ++ qs)
+head_append k [] qs h = absurd h
+head_append k (p ∷ ps) qs h = h
 
 no_rows : (p : Contents) (depth : ℕ) (body : Body) (rows : Rows) → IsNode depth [] body
     → shown p (body_pieces depth [] body) ≡ Some rows → [] ≡ rows

@@ -1,5 +1,5 @@
 -- What a way down ends in, as what an update makes of a map.
-use Rattle.std.proofs.Common.{◌≡◌, ◌≤◌, ◌+◌, ℕ, List, [], Option, Some, None, sym, ap, ◌∙◌, subst, arith}
+use Rattle.std.proofs.Common.{◌≡◌, ◌+◌, ◌++◌, ℕ, List, [], Option, Some, None, append-nil, inr, refl, sym, ap, ◌∙◌, subst, arith}
 use Rattle.std.specs.Prelude.{IsSome}
 use Rattle.std.specs.Ordering.{nat_cmp}
 use Rattle.std.specs.Cmp.Lexicographic.{slice_cmp}
@@ -10,59 +10,64 @@ use Rattle.group_history.specs.declared.mutators.Update.TheVariants.{Put, Refuse
 use Rattle.group_history.specs.declared.refs.Ref.{Ref}
 use Rattle.group_history.specs.Map.{Bytes}
 use Rattle.group_history.specs.Rows.{Rows}
-use Rattle.group_history.specs.Spelling.{Contents, rows_at}
-use Rattle.map_chunks.proofs.OpenLemmas.{known}
+use Rattle.group_history.specs.Spelling.{Contents}
+use Rattle.map_chunks.proofs.OpenLemmas.{known, tree_of}
+use Rattle.map_chunks.proofs.RowLemmas.{IsStrict}
 use Rattle.map_chunks.proofs.WayLemmas.{deep_rows, depth_later, rows_later}
 use Rattle.map_chunks.specs.Places.{AreKept, places_of}
 use Rattle.map_chunks.specs.Seeking.{chunk_depth}
 use Rattle.map_chunks.specs.Shown.{Seen, chunk_rows, rows_or, shown, IsTree}
-use Rattle.map_chunks.specs.Wide.{IsWideAt, IsWideChunk}
-use Rattle.map_nodes.proofs.ChangeLemmas.{none_there}
 use Rattle.map_nodes.proofs.LayLemmas.{wide_later}
-use Rattle.map_nodes.proofs.PutLevels.{put_same}
-use Rattle.map_nodes.specs.Inside.Laying.{IsAnother, IsLaid}
-use Rattle.map_nodes.specs.Levels.{placed_levels, seen_levels, PutLater}
-use Rattle.map_nodes.specs.Trails.{trail_seen}
+use Rattle.map_nodes.proofs.LeafLemmas.{put-strict}
+use Rattle.map_nodes.proofs.PutLevels.{put_level, put_risen}
+use Rattle.map_nodes.specs.Inside.Halves.{half_pieces, IsTopped}
+use Rattle.map_nodes.specs.Inside.Laying.{IsMade}
+use Rattle.map_nodes.specs.Levels.{placed_levels}
 use Rattle.map_nodes.specs.Updating.{IsPutIn, IsPutRoot, IsUpdated}
-use Rattle.map_nodes.specs.declared.nodes.trails.End.{End}
-use Rattle.map_nodes.specs.declared.nodes.trails.Step.{Step}
+use Rattle.map_nodes.specs.declared.nodes.putting.Half.{Half}
 use Rattle.map_nodes.specs.declared.roots.Updated.{Updated}
 
--- a trail
-pub laid_root : (q : Contents) (may : Ref → Type 0) (k d : ℕ) (key v : Bytes) (rows : Rows) (steps : List Step) (e : End)
-    → IsAnother (find (slice_cmp nat_cmp) key rows) v → IsLaid q may k d key v (Some rows) steps e
-    → IsPutRoot q q may k d rows key v (trail_seen steps e)
-laid_root q may k d key v rows steps e a laid = record {
-  other = a.1;
-  shown_is = laid.shown_is;
-  few = omega (arith, laid.few);
-  replaced = λ t. laid.few;
-  levels = put_same q d (trail_seen steps e).depth (λ p. placed_levels p d k) (seen_levels (trail_seen steps e))
-      laid.depth_is laid.levels;
-  kept = λ t. laid.levels;
-  deep = (omega (arith, laid.depth_is), omega (arith, laid.depth_is));
-  wide = laid.wide;
-  places_are = laid.kept;
-}
+-- what is made of a placed root: a chunk that wasn't split, or a root above both halves
+pub made_root : (q : Contents) (may : Ref → Type 0) (k d : ℕ) (key v : Bytes) (rows : Rows) (n root : Seen)
+    (half : Option Half) → (find (slice_cmp nat_cmp) key rows ≡ Some v → ⊥) → IsMade q may 1 k d rows key v n half
+    → IsTopped n half root → IsPutRoot q q may k d rows key v root
+made_root q may k d key v rows n root None a m t =
+    subst (IsPutRoot q q may k d rows key v) (sym t) (record {
+      other = a;
+      shown_is = ap (shown q) (sym (append-nil n.pieces)) ∙ m.shown_is;
+      few = omega (arith, m.few);
+      replaced = λ s. (m.replaced s).1;
+      levels = put_level q d (λ p. placed_levels p d k) n None refl m.depth_is m.levels;
+      kept = λ s. (m.replaced s).2;
+      deep = (omega (arith, m.depth_is), omega (arith, m.depth_is));
+      wide = m.wide;
+      places_are = subst (λ ps. AreKept may [] (places_of ps)) (append-nil n.pieces) m.kept;
+    })
+made_root q may k d key v rows n root (Some h) a m t =
+    let whole = λ (s : IsSome (find (slice_cmp nat_cmp) key rows)). split_none h (m.replaced s).0 in
+    record {
+      other = a;
+      shown_is = ap (shown q) t.0 ∙ m.shown_is;
+      few = omega (arith, m.few, t.2);
+      replaced = λ s. absurd (whole s);
+      levels = put_risen q d (λ p. placed_levels p d k) n root h m.depth_is t.1 t.4 m.levels;
+      kept = λ s. absurd (whole s);
+      deep = (omega (arith, m.depth_is, t.1), omega (arith, m.depth_is, t.1));
+      wide = λ w. inr (omega (arith, t.3));
+      places_are = subst (λ ps. AreKept may [] (places_of ps)) (sym t.0) m.kept;
+    }
+  where
+    split_none : (h : Half) → Some h ≡ None → ⊥
+    split_none h e = cc
 
--- a key that wasn't there
-pub fresh_root : (p q : Contents) (may : Ref → Type 0) (k d : ℕ) (key v : Bytes) (n : Seen) → IsTree (chunk_rows p k)
-    → chunk_depth p k ≡ Some d → find (slice_cmp nat_cmp) key (rows_or (chunk_rows p k)) ≡ None
-    → shown q n.pieces ≡ Some (put (slice_cmp nat_cmp) key v (rows_or (rows_at p d k))) → n.fresh ≤ d + d + 1
-    → PutLater d n.depth q (λ w. placed_levels w d k) (seen_levels n)
-    → (d ≤ n.depth) × (n.depth ≤ d + 1) → (IsWideAt p k → IsWideChunk n) → AreKept may [] (places_of n.pieces)
-    → IsPutRoot p q may k d (rows_or (chunk_rows p k)) key v n
-fresh_root p q may k d key v n t h none shows few levels deep wide kept = record {
-  other = λ e. (let x : None ≡ Some v = sym none ∙ e in cc);
-  shown_is = shows ∙ ap (λ w. Some (put (slice_cmp nat_cmp) key v (rows_or w))) (deep_rows p k d t h);
-  few = few;
-  replaced = λ s. absurd (none_there (find (slice_cmp nat_cmp) key (rows_or (chunk_rows p k))) s none);
-  levels = levels;
-  kept = λ s. absurd (none_there (find (slice_cmp nat_cmp) key (rows_or (chunk_rows p k))) s none);
-  deep = deep;
-  wide = wide;
-  places_are = kept;
-}
+-- what is made shows rows in order
+pub made_order : (q : Contents) (may : Ref → Type 0) (copies k d : ℕ) (key v : Bytes) (o : Option Rows) (n : Seen)
+    (half : Option Half) → IsTree o → IsMade q may copies k d (rows_or o) key v n half
+    → IsTree (shown q (n.pieces ++ half_pieces half))
+made_order q may copies k d key v o n half t m =
+    let r = known o t in
+    tree_of (shown q (n.pieces ++ half_pieces half)) (put (slice_cmp nat_cmp) key v (rows_or o)) m.shown_is
+    (put-strict key v (rows_or o) (subst (λ w. IsStrict (rows_or w)) (sym r.is) r.order))
 
 -- what was learnt before of what is placed changes nothing
 pub updated_since : (p q r : Contents) (may : Ref → Type 0) (k : ℕ) (key : Bytes) (u : Update) (x : Updated)

@@ -16,6 +16,7 @@ use Rattle.map_chunks.specs.Seeking.{chunk_depth}
 use Rattle.map_chunks.specs.Shown.{Seen, chunk_rows, rows_or, shown}
 use Rattle.map_chunks.specs.Wide.{IsWideAt, IsWideChunk}
 use Rattle.map_nodes.specs.Levels.{placed_levels, seen_levels, PutLater, RenewedLater}
+use Rattle.map_nodes.specs.Others.{ArePutAmong}
 use Rattle.map_nodes.specs.declared.roots.Updated.{Updated}
 
 -- new chunks with a value put in the map of a stamp, which was so deep and had these rows
@@ -41,6 +42,8 @@ pub record IsPutOn (old new : Contents) (places : Ref → Type 0) (key value : B
   pub levels : PutLater n.depth o.depth new (seen_levels n) (seen_levels o)
   pub kept : IsSome (find (slice_cmp nat_cmp) key (rows_or (shown old n.pieces)))
       → RenewedLater new (seen_levels n) (seen_levels o)
+  pub others : (find (slice_cmp nat_cmp) key (rows_or (shown old n.pieces)) ≡ Some value → ⊥)
+      → ArePutAmong new key value n.pieces o.pieces
   pub deep : (n.depth ≤ o.depth) × (o.depth ≤ n.depth + 1)
   pub wide : IsWideChunk n → IsWideChunk o
   pub places_are : AreKept places (places_of n.pieces) (places_of o.pieces)

@@ -18,7 +18,9 @@
 //! merged, so a fill in order leaves its leaves half full.
 #![tactic(auto)]
 
+mod changes;
 mod nodes;
 mod roots;
 
+pub use changes::Change;
 pub use roots::{OwnRoot, Updated, frozen};

@@ -7,6 +7,7 @@ mod building;
 mod copies;
 mod counting;
 mod freezing;
+mod growing;
 mod homes;
 mod putting;
 mod reading;
@@ -16,7 +17,9 @@ mod trails;
 mod writing;
 
 use group_history::{Json, Ref};
+pub(crate) use growing::Down;
 use map_chunks::keys::NodeKeys;
+pub(crate) use putting::topped;
 use std::marker::Model;
 pub use trails::Trail;
 pub(crate) use trails::{Laying, Reached, change_at};

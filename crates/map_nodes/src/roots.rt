@@ -2,7 +2,7 @@
 //!
 //! A first put at a key that is there makes a trail; other changes need an own chunk, and make one of a trail first.
 ghost use Rattle.std.specs.Prelude.{◌≡◌, ◌==◌, ◌⊎◌, ◌+◌, ◌-◌, ◌^◌, ◌<◌, ◌≤◌, [], ◌∷◌, min, length, Ok, Err, Some, None};
-ghost use Rattle.std.specs.Prelude.{IsSome, IfOk, IfErr, OnOk, OnErr, option_copied};
+ghost use Rattle.std.specs.Prelude.{true, IsSome, IfOk, IfErr, OnOk, OnErr, option_copied};
 ghost use Rattle.std.specs.Ordering.{nat_cmp};
 ghost use Rattle.std.specs.Cmp.Lexicographic.{slice_cmp};
 ghost use Rattle.std.specs.FinMap as finite;
@@ -19,18 +19,19 @@ ghost use Rattle.map_chunks.specs.Places.{with_nodes, Grows, AreAll, AreKept, Ad
 ghost use Rattle.map_chunks.specs.Scanning.{taken, Gave, IsLow};
 ghost use Rattle.map_chunks.specs.Seeking.{chunk_depth, stands_in};
 ghost use Rattle.map_chunks.specs.Shown.{chunk_rows, own, leaf_keys, shown, IsTree, rows_or};
+ghost use Rattle.map_nodes.specs.Changes.{CanMake, Makes};
 ghost use Rattle.map_nodes.specs.Inside.Laying.{IsReached};
-ghost use Rattle.map_nodes.specs.Updating.{IsPutOn, IsUpdated};
+ghost use Rattle.map_nodes.specs.Updating.{IsPutOr, IsUpdated};
 ghost use Rattle.map_chunks.specs.Wide.{IsWideAt, IsWideChunk};
 ghost use Rattle.map_nodes.specs.Removing.{root_left, without, root_rows, IsWideRoot, IsLowRoot};
 ghost use Rattle.map_nodes.specs.Levels.{placed_levels, seen_levels, NamedLater, PutLater};
 
-use crate::nodes::{Laying, OwnNode, Reached, Trail, change_at};
-use group_history::{Json, Ran, Ref, Refusal, Scan, SearchKey, Stop, Update};
-use map_chunks::keys::ROOM;
+use crate::changes::Change;
+use crate::nodes::{Down, Laying, OwnNode, Reached, Trail, change_at, topped};
+use group_history::{Json, Ran, Ref, Refusal, STAMPS, Scan, SearchKey, Stop, Update};
 use map_chunks::looks::Comparison;
 use map_chunks::{Chunks, Draft, TakesRows};
-use std::alloc::Global;
+use std::alloc::{AllocError, Global};
 use std::marker::Model;
 
 /// A chunk that a draft owns, with all that it owns below it. Contracts see it as they see an `OwnNode`.
@@ -110,92 +111,72 @@ impl OwnRoot {
         Ok(OwnRoot::new(node))
     }
 
-    /// The map whose root is a placed chunk, once the change has seen the value at a key (none where the key isn't
-    /// there), and has made another one of it. Where the key is there, that is one way down. Stops for want of memory,
-    /// or as the store or the change does.
+    /// The map whose root is a placed chunk, with what a change makes of the value at a key (none where the key isn't
+    /// there) put there: one way down. Stops for want of memory, or as the store or the change does.
     pub fn updated<C: Chunks, F: FnOnce(Option<Json>) -> Result<Update, Stop>>(
         alloc: Global,
         chunks: &mut C,
         at: Ref,
         key: &str,
-        change: F,
+        change: Change<F>,
     ) -> Result<Updated, Stop>
         requires place { C.places chunks.old at }
         requires tree { IsTree (chunk_rows (C.contents chunks.old) (stamp_of at)) }
-        requires callable { F.IsAlwaysCallable change }
+        requires callable { CanMake (λ f. F.IsAlwaysCallable f) change }
         ensures grown { Grows C.contents C.places chunks.old chunks.new }
-        ensures updated { IfOk result (λ r. (u : Updates) × F.post change (finite.find (slice_cmp nat_cmp) key.now
-            (rows_or (chunk_rows (C.contents chunks.old) (stamp_of at)))) (Ok u)
+        ensures updated { IfOk result (λ r. (u : Updates) × Makes (λ f x r. F.post f x r) change (finite.find
+            (slice_cmp nat_cmp) key.now (rows_or (chunk_rows (C.contents chunks.old) (stamp_of at)))) (Ok u)
             × IsUpdated (C.contents chunks.old) (C.contents chunks.new) (C.places chunks.new) (stamp_of at) key.now u
             r) }
-        ensures stopped { IfErr result (λ e. (e ≡ NoMemory) ⊎ C.stops e ⊎ F.post change (finite.find
-            (slice_cmp nat_cmp) key.now (rows_or (chunk_rows (C.contents chunks.old) (stamp_of at)))) (Err e)) }
+        ensures stopped { IfErr result (λ e. (e ≡ NoMemory) ⊎ C.stops e ⊎ Makes (λ f x r. F.post f x r) change
+            (finite.find (slice_cmp nat_cmp) key.now (rows_or (chunk_rows (C.contents chunks.old) (stamp_of at))))
+            (Err e)) }
     {
-        let mut laying = Laying::new(alloc);
+        prove!(at.stamp() < STAMPS);
         let searched = SearchKey::new(key);
-        let reached = change_at(alloc, chunks, at, &searched, 0, &mut laying, change)?;
-        OwnRoot::settled(alloc, chunks, at, key, reached, laying)
+        let down = Down {
+            alloc,
+            key,
+            searched: &searched,
+            copies: 1,
+            may_split: true,
+            as_trail: true,
+        };
+        let mut laying = Laying::new(alloc);
+        let reached = change_at(chunks, at, &down, &mut laying, change)?;
+        Ok(OwnRoot::settled(alloc, chunks, at, key, reached, laying)?)
     }
 
-    // What a way down from a placed chunk ended in, as a map.
+    // What a way down from a placed chunk to a key ended in, as a map.
     fn settled<C: Chunks>(
         alloc: Global,
-        chunks: &mut C,
+        chunks: &C,
         at: Ref,
         key: &str,
         reached: Reached,
         laying: Laying,
-    ) -> Result<Updated, Stop>
-        requires place { C.places chunks.old at }
-        requires tree { IsTree (chunk_rows (C.contents chunks.old) (stamp_of at)) }
-        requires reached { (u : Updates) × IsReached (C.contents chunks.old) (C.places chunks.old) (stamp_of at)
-            (chunk_depth (C.contents chunks.old) (stamp_of at))
-            (rows_or (chunk_rows (C.contents chunks.old) (stamp_of at))) key.now u reached laying }
-        ensures grown { Grows C.contents C.places chunks.old chunks.new }
-        ensures updated { (u : Updates) → IsReached (C.contents chunks.old) (C.places chunks.old) (stamp_of at)
-            (chunk_depth (C.contents chunks.old) (stamp_of at))
-            (rows_or (chunk_rows (C.contents chunks.old) (stamp_of at))) key.now u reached laying
-            → IfOk result (IsUpdated (C.contents chunks.old) (C.contents chunks.new) (C.places chunks.new) (stamp_of at)
+    ) -> Result<Updated, AllocError>
+        requires tree { IsTree (chunk_rows (C.contents chunks.now) (stamp_of at)) }
+        requires reached { (u : Updates) × IsReached (C.contents chunks.now) (C.places chunks.now) 1 true true
+            (stamp_of at) (chunk_depth (C.contents chunks.now) (stamp_of at))
+            (rows_or (chunk_rows (C.contents chunks.now) (stamp_of at))) key.now u reached laying }
+        ensures { (u : Updates) → IsReached (C.contents chunks.now) (C.places chunks.now) 1 true true (stamp_of at)
+            (chunk_depth (C.contents chunks.now) (stamp_of at))
+            (rows_or (chunk_rows (C.contents chunks.now) (stamp_of at))) key.now u reached laying
+            → IfOk result (IsUpdated (C.contents chunks.now) (C.contents chunks.now) (C.places chunks.now) (stamp_of at)
             key.now u) }
-        ensures stopped { IfErr result (λ e. (e ≡ NoMemory) ⊎ C.stops e) }
     {
         match reached {
             Reached::Same => Ok(Updated::kept(Ran::Done)),
             Reached::Refused(code) => Ok(Updated::kept(Ran::Refused(code))),
             Reached::Laid => Ok(Updated::made(OwnRoot::of_trail(Trail::of(laying)))),
-            Reached::Fresh(value, depth) => {
-                let root = OwnRoot::inserted(alloc, chunks, at, depth, key, &value)?;
-                Ok(Updated::made(root))
+            Reached::Grown(node, half) => {
+                prove!(at.stamp() < STAMPS);
+                let root = topped(alloc, node, half)?;
+                Ok(Updated::made(OwnRoot::new(root)))
             }
+            Reached::Full(_) => unreachable!(),
         }
-    }
-
-    // The map whose root is a placed chunk, which is so deep, with a value put at a key that isn't there.
-    fn inserted<C: Chunks>(
-        alloc: Global,
-        chunks: &mut C,
-        at: Ref,
-        depth: u64,
-        key: &str,
-        value: &Json,
-    ) -> Result<OwnRoot, Stop>
-        requires place { C.places chunks.old at }
-        requires tree { IsTree (rows_at (C.contents chunks.old) depth (stamp_of at)) }
-        ensures grown { Grows C.contents C.places chunks.old chunks.new }
-        ensures done { IfOk result (λ r. shown (C.contents chunks.new) r.pieces
-            ≡ Some (finite.put (slice_cmp nat_cmp) key.now value.now
-            (rows_or (rows_at (C.contents chunks.old) depth (stamp_of at))))) }
-        ensures few { IfOk result (λ r. r.fresh ≤ depth + depth + 1) }
-        ensures levels { IfOk result (λ r. PutLater depth r.depth (C.contents chunks.new)
-            (λ p. placed_levels p depth (stamp_of at)) (seen_levels r)) }
-        ensures deep { IfOk result (λ r. (depth ≤ r.depth) × (r.depth ≤ depth + 1)) }
-        ensures wide { IsWideAt (C.contents chunks.old) (stamp_of at) → IfOk result IsWideChunk }
-        ensures places { IfOk result (λ r. AreKept (C.places chunks.new) [] (places_of r.pieces)) }
-        ensures stopped { IfErr result (λ s. (s ≡ NoMemory) ⊎ C.stops s) }
-    {
-        let mut node = OwnNode::copied(alloc, chunks, at, depth, ROOM)?;
-        node.write(alloc, chunks, key, value)?;
-        Ok(OwnRoot::new(node))
     }
 
     /// How deep the chunk is.
@@ -289,30 +270,36 @@ impl OwnRoot {
         }
     }
 
-    /// Puts a row in the map whose root the chunk is. Where it is there already, the chunk is as it was.
-    /// Stops for want of memory, or as the store does, and the chunk is as it was then.
-    pub fn write<C: Chunks>(
+    /// Puts what a change makes of the value at a key in the map whose root the chunk is. Where it is there already, and
+    /// where the change refuses, the chunk is as it was. Stops for want of memory, or as the store or the change does,
+    /// and the chunk is as it was then.
+    pub fn write<C: Chunks, F: FnOnce(Option<Json>) -> Result<Update, Stop>>(
         &mut self,
         alloc: Global,
         chunks: &mut C,
         key: &str,
-        value: &Json,
-    ) -> Result<(), Stop>
+        change: Change<F>,
+    ) -> Result<Ran, Stop>
         requires places { AreAll (C.places chunks.old) (places_of self.old.pieces) }
         requires tree { IsTree (shown (C.contents chunks.old) self.old.pieces) }
+        requires callable { CanMake (λ f. F.IsAlwaysCallable f) change }
         ensures grown { Grows C.contents C.places chunks.old chunks.new }
-        ensures put { OnOk result (IsPutOn (C.contents chunks.old) (C.contents chunks.new) (C.places chunks.new)
-            key.now value.now self.old self.new) }
+        ensures put { IfOk result (λ ran. (u : Updates) × Makes (λ f x r. F.post f x r) change (finite.find
+            (slice_cmp nat_cmp) key.now (rows_or (shown (C.contents chunks.old) self.old.pieces))) (Ok u)
+            × IsPutOr (C.contents chunks.old) (C.contents chunks.new) (C.places chunks.new) key.now self.old self.new u
+            ran) }
         ensures err { OnErr result (self.new ≡ self.old) }
-        ensures stopped { IfErr result (λ s. (s ≡ NoMemory) ⊎ C.stops s) }
+        ensures stopped { IfErr result (λ s. (s ≡ NoMemory) ⊎ C.stops s ⊎ Makes (λ f x r. F.post f x r) change
+            (finite.find (slice_cmp nat_cmp) key.now (rows_or (shown (C.contents chunks.old) self.old.pieces)))
+            (Err s)) }
     {
         match &mut self.form {
-            Form::Node(node) => node.write(alloc, chunks, key, value),
+            Form::Node(node) => node.write(alloc, chunks, key, change),
             Form::Trail(trail) => {
                 let mut node = trail.thawed(alloc)?;
-                node.write(alloc, chunks, key, value)?;
+                let ran = node.write(alloc, chunks, key, change)?;
                 self.form = Form::Node(node);
-                Ok(())
+                Ok(ran)
             }
         }
     }

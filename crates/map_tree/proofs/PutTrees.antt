@@ -24,7 +24,7 @@ use Rattle.map_nodes.proofs.PutLevels.{put_in_as, put_same as as_before}
 use Rattle.map_nodes.specs.Levels.{placed_levels, seen_levels, IsRenewed, PutLater}
 use Rattle.map_nodes.specs.Updating.{IsPutIn, IsPutOn, IsPutOr, IsUpdated}
 use Rattle.map_nodes.specs.declared.roots.Updated.{Updated}
-use Rattle.map_tree.specs.Puts.{settled, IsPut, IsUpdate}
+use Rattle.map_tree.specs.Puts.{settled, ArePutBeside, IsPut, IsUpdate}
 use Rattle.map_tree.specs.Trees.{root_depth, root_levels, root_map, root_places, tree_levels, tree_map, tree_places}
 use Rattle.map_tree.specs.Trees.{IsWide}
 use Rattle.map_tree.specs.declared.tree.Root.{Root}
@@ -32,27 +32,6 @@ use Rattle.map_tree.specs.declared.tree.Root.TheVariants.{Placed, Own}
 use Rattle.map_tree.specs.declared.tree.Tree.{Tree}
 use Rattle.map_tree.proofs.RootCounts.{placed_as, root_depth_kept, wide_root_grown}
 use Rattle.map_tree.proofs.WriteLemmas.{put_map, put_same, root_kept}
-
--- what own chunks show, once more is placed
-pub shown_later : (old new : Contents) (ps : List Piece) → IsPrefix old new → IsTree (shown old ps)
-    → shown new ps ≡ shown old ps
-shown_later old new ps p t = let k = known (shown old ps) t in shown-kept old new ps k.rows p k.is ∙ sym k.is
-
--- a put behind a look, which shows the same
-pub put_behind : (old mid new : Contents) (places : Ref → Type 0) (key value : Bytes) (n o : Seen)
-    → shown mid n.pieces ≡ shown old n.pieces → IsPutOn mid new places key value n o
-    → IsPutOn old new places key value n o
-put_behind old mid new places key value n o e p = record {
-  same = λ f. p.same (ap (λ w. finite.find (slice_cmp nat_cmp) key (rows_or w)) e ∙ f);
-  shown_is = p.shown_is ∙ ap (λ w. Some (finite.put (slice_cmp nat_cmp) key value (rows_or w))) e;
-  few = p.few;
-  replaced = λ f. p.replaced (subst (λ w. IsSome (finite.find (slice_cmp nat_cmp) key (rows_or w))) (sym e) f);
-  levels = p.levels;
-  kept = λ f. p.kept (subst (λ w. IsSome (finite.find (slice_cmp nat_cmp) key (rows_or w))) (sym e) f);
-  deep = p.deep;
-  wide = p.wide;
-  places_are = p.places_are;
-}
 
 -- A TREE WHOSE ROOT IS AN OWN CHUNK
 
@@ -77,6 +56,7 @@ own_put old new places t n o m key value e h p =
         subst (λ w. PutLater w o.depth new (seen_levels n) (seen_levels o)) (some_is g) p.levels,
       );
       kept = λ f. p.kept (subst IsSome (sym v) f);
+      others = λ other. p.others (λ f. other (sym v ∙ f));
       deep = λ d g. let x = some_is g in let y = p.deep.0 in let z = p.deep.1 in
           (o.depth, refl, omega arith, omega arith);
       wide = p.wide;
@@ -112,6 +92,7 @@ tree_put old new places t m key value g h f = record {
     as_before new d d (tree_levels t) (tree_levels t) refl (λ later pre level. inl refl),
   );
   kept = λ z later pre level. inl refl;
+  others = λ other. absurd (other f);
   deep = λ d x. (d, root_depth_kept old new t.root d g x, omega arith, omega arith);
   wide = wide_root_grown old new t.root m g h;
   places_are = kept-same places (tree_places t);
@@ -150,6 +131,7 @@ placed_put old new places t at (Some n) m key value g e h p =
           (root_levels t.root later level) (seen_levels n later level)
           (placed_as old later t.root at depth e (ap (root_depth old) e ∙ p.1) (prefix_trans old new later g pre) level)
           refl (q.kept (subst IsSome (sym v) f) later pre level);
+      others = λ other. subst (λ w. ArePutBeside new key value w (Own n)) (sym e) tt;
       deep = λ d x. let y = deep d x in let a = q.deep.0 in let b = q.deep.1 in
           (n.depth, refl, omega arith, omega arith);
       wide = λ w. q.wide (subst (IsWide old) e w);

@@ -11,9 +11,19 @@ use Rattle.group_history.specs.Spelling.{Contents}
 use Rattle.map_chunks.specs.Places.{AreKept}
 use Rattle.map_chunks.specs.Shown.{Seen}
 use Rattle.map_nodes.specs.Levels.{PutLater, RenewedLater}
+use Rattle.map_nodes.specs.Others.{ArePutAmong}
 use Rattle.map_tree.specs.Trees.{tree_map, tree_depth, tree_fresh, tree_places, tree_levels, HasWideRoot}
-use Rattle.map_tree.specs.declared.tree.Root.TheVariants.{Own}
+use Rattle.map_tree.specs.declared.tree.Root.{Root}
+use Rattle.map_tree.specs.declared.tree.Root.TheVariants.{Placed, Own}
 use Rattle.map_tree.specs.declared.tree.Tree.{Tree}
+
+-- In the place of one piece of an own root at most stand others, and all other pieces are the same. A placed root is on
+-- each way, and new chunks stand in its place.
+abbrev pub ArePutBeside : Contents → Bytes → Bytes → Root → Root → Type 0
+ArePutBeside contents key value (Placed at) (Placed to) = ⊥
+ArePutBeside contents key value (Placed at) (Own o) = Unit {0}
+ArePutBeside contents key value (Own n) (Placed to) = ⊥
+ArePutBeside contents key value (Own n) (Own o) = ArePutAmong contents key value n.pieces o.pieces
 
 -- A tree that is this map, once a value is put at a key: its map (`map`); how many chunks are new (`few`; `replaced`,
 -- where the key is there); on each level the chunks in whose place new ones stand (`levels`; `kept`, where the key is
@@ -27,6 +37,7 @@ pub record IsPut (old new : Contents) (places : Ref → Type 0) (t u : Tree) (m 
   pub levels : (d : ℕ) → tree_depth old t ≡ Some d
       → (e : ℕ) × (tree_depth new u ≡ Some e) × PutLater d e new (tree_levels t) (tree_levels u)
   pub kept : IsSome (finite.get m key) → RenewedLater new (tree_levels t) (tree_levels u)
+  pub others : (finite.get m key ≡ Some value → ⊥) → ArePutBeside new key value t.root u.root
   pub deep : (d : ℕ) → tree_depth old t ≡ Some d → (e : ℕ) × (tree_depth new u ≡ Some e) × (d ≤ e) × (e ≤ d + 1)
   pub wide : HasWideRoot old t → HasWideRoot new u
   pub places_are : AreKept places (tree_places t) (tree_places u)

@@ -8,8 +8,8 @@ use Rattle.group_history.specs.Map.{Bytes}
 use Rattle.group_history.specs.Rows.{AreKeys, paired}
 use Rattle.group_history.specs.Spelling.{Contents}
 use Rattle.map_chunks.specs.Search.{is_above}
-use Rattle.map_chunks.specs.Shown.{Piece, shown}
-use Rattle.map_nodes.specs.Nodes.{Kids, HeadIs, AllKids, kids_pieces}
+use Rattle.map_chunks.specs.Shown.{own, child_keys, Piece, Seen, shown}
+use Rattle.map_nodes.specs.Nodes.{Kids, HeadIs, AllKids, kids_pieces, sunk}
 use Rattle.map_nodes.specs.Inside.Nodes.{Kid}
 use Rattle.map_nodes.specs.declared.nodes.OwnChild.{OwnChild}
 use Rattle.map_nodes.specs.declared.nodes.OwnChild.TheVariants.{Placed, Own}
@@ -78,3 +78,10 @@ AreInOrder first (q ∷ qs) = T (is_lt (slice_cmp nat_cmp first q.0))
 abbrev pub HeadsBoth : Option Bytes → List Piece → List Piece → Type 0
 HeadsBoth None lower upper = ⊥
 HeadsBoth (Some first) lower upper = HeadIs first lower × AreInOrder first upper
+
+-- the chunk itself, or a root above it and its upper half
+abbrev pub IsTopped : Seen → Option Half → Seen → Type 0
+IsTopped n None root = root ≡ n
+IsTopped n (Some h) root = (root.pieces ≡ n.pieces ++ h.node.value.pieces) × (root.depth ≡ n.depth + 1)
+    × (root.fresh ≡ n.fresh + h.node.value.fresh + 1) × (root.entries ≡ 2)
+    × ((key : Bytes) × (root.marks ≡ own 0 (child_keys (key ∷ [])) ∷ sunk (n.marks ++ h.node.value.marks)))

@@ -3,15 +3,17 @@ use Rattle.std.specs.Prelude.{◌≡◌, ◌⊎◌, ℕ, ◌+◌, ◌-◌, ◌<�
 use Rattle.std.specs.Prelude.{slice_set, length, take, drop}
 use Rattle.std.specs.Ordering.{nat_cmp}
 use Rattle.std.specs.Cmp.Lexicographic.{slice_cmp}
-use Rattle.std.specs.FinMap.{find}
+use Rattle.std.specs.FinMap.{find, put}
 use mathlib.Core.List.{IsPrefix}
 use Rattle.group_history.specs.Spelling.{Contents}
 use Rattle.group_history.specs.Map.{Bytes}
 use Rattle.group_history.specs.Rows.{Rows}
-use Rattle.map_chunks.specs.Shown.{own, leaf_keys, Seen, rows_or}
+use Rattle.map_chunks.specs.Shown.{own, leaf_keys, Piece, Seen, rows_or, shown}
+use Rattle.map_nodes.specs.Inside.Halves.{half_pieces, ChildPut}
 use Rattle.map_nodes.specs.Inside.Nodes.{Kid}
 use Rattle.map_nodes.specs.Levels.{Levels, nothing, parting, seen_levels, ArePut, HasOneMore, RenewedLater}
-use Rattle.map_nodes.specs.Nodes.{child_fresh, child_levels, kids_marks, sunk}
+use Rattle.map_nodes.specs.Nodes.{child_fresh, child_levels, child_pieces, kids_marks, sunk}
+use Rattle.map_nodes.specs.Others.{ArePutAmong}
 use Rattle.map_nodes.specs.declared.nodes.OwnChild.{OwnChild}
 use Rattle.map_nodes.specs.declared.nodes.OwnChild.TheVariants.{Own}
 use Rattle.map_nodes.specs.declared.nodes.putting.Half.{Half}
@@ -72,3 +74,20 @@ abbrev pub ChildReplaced : Contents → Option Bytes → Bytes → ℕ → ℕ �
 ChildReplaced contents found value below place old new child half = (n : Kid) × (new ≡ slice_set old place (Own n))
     × HasReplaced contents found value (child_fresh child + below + 1) n.value.fresh (child_levels below child)
     (seen_levels n.value) half
+
+-- A value is put in an own chunk: what it and its upper half show then, which of its pieces are the same, and what holds
+-- where the key was there.
+pub record IsOwnPut (contents : Contents) (key value : Bytes) (rows : Option Rows) (old new : List Piece)
+    (bound fresh : ℕ) (was now : Contents → Levels) (half : Option Half) : Type 0 where
+  pub shown_is : shown contents (new ++ half_pieces half) ≡ Some (put (slice_cmp nat_cmp) key value (rows_or rows))
+  pub others : ArePutAmong contents key value old (new ++ half_pieces half)
+  pub renewed : HasReplaced contents (value_in rows key) value bound fresh was now half
+
+-- A value is put in the child at a place, which is under this first key.
+pub record IsChildPut (contents : Contents) (copies below place : ℕ) (first key value : Bytes) (rows : Option Rows)
+    (old new : List OwnChild) (child : OwnChild) (half : Option Half) : Type 0 where
+  pub done : ChildPut contents copies below place old new half
+      (Some (put (slice_cmp nat_cmp) key value (rows_or rows)))
+  pub others : ArePutAmong contents key value (child_pieces below first child)
+      (done.0.value.pieces ++ half_pieces half)
+  pub renewed : ChildReplaced contents (value_in rows key) value below place old new child half

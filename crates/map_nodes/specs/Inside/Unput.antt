@@ -1,14 +1,17 @@
 -- Why a row isn't put in a chunk.
-use Rattle.std.specs.Prelude.{◌≡◌, ◌⊎◌, Bool, false, Option, Some, None}
+use Rattle.std.specs.Prelude.{◌≡◌, ◌⊎◌, Bool, false, Option, Some, None, Result, Ok, Err}
 use Rattle.group_history.specs.Map.{Bytes}
 use Rattle.group_history.specs.declared.mutators.Stop.{Stop}
 use Rattle.group_history.specs.declared.mutators.Stop.TheVariants.{NoMemory}
+use Rattle.group_history.specs.declared.mutators.Update.{Update}
+use Rattle.group_history.specs.declared.mutators.Update.TheVariants.{Put, Refuse}
 use Rattle.map_nodes.specs.declared.nodes.putting.PutRefused.{PutRefused}
-use Rattle.map_nodes.specs.declared.nodes.putting.PutRefused.TheVariants.{Stopped, Full, Same}
+use Rattle.map_nodes.specs.declared.nodes.putting.PutRefused.TheVariants.{Stopped, Full, Same, Refused}
 
--- Memory was refused, or reading stopped for one of these reasons, or the key isn't there and the chunk would be split
--- and may not be, or the key has this very value.
-abbrev pub IsUnput : (Stop → Type 0) → Bool → Option Bytes → Bytes → PutRefused → Type 0
-IsUnput stops may_split found value (Stopped s) = (s ≡ NoMemory) ⊎ stops s
-IsUnput stops may_split found value Full = (may_split ≡ false) × (found ≡ None)
-IsUnput stops may_split found value Same = found ≡ Some value
+-- Memory was refused, or reading stopped for one of these reasons, or the change did. Or the change made a value, the
+-- key isn't there, and the chunk would be split and may not be; or the key has this very value. Or the change refused.
+abbrev pub IsUnput : (Result Update Stop → Type 0) → (Stop → Type 0) → Bool → Option Bytes → PutRefused → Type 0
+IsUnput makes stops may_split found (Stopped s) = (s ≡ NoMemory) ⊎ stops s ⊎ makes (Err s)
+IsUnput makes stops may_split found (Full value) = (may_split ≡ false) × (found ≡ None) × makes (Ok (Put value))
+IsUnput makes stops may_split found Same = (value : Bytes) × (found ≡ Some value) × makes (Ok (Put value))
+IsUnput makes stops may_split found (Refused code) = makes (Ok (Refuse code))

@@ -1,6 +1,7 @@
 //! What a put takes and makes.
 //!
-//! A value put at a key that is there takes the place of the old one, unless it is the same.
+//! A value put at a key that is there takes the place of the old one, unless it is the same. What is put is what a
+//! change makes of the value there, and it sees that at the leaf.
 //! A chunk with 17 entries is split: the first 8 stay, the last 9 become its upper half, which its parent
 //! puts behind it. All memory is taken before anything changes, so a chunk puts a row below first where
 //! nothing may be split, and only where that can't be done takes what an upper half needs: a key list of
@@ -18,16 +19,18 @@ mod roots;
 mod splits;
 
 use super::OwnNode;
+pub(crate) use below::PutBuffers;
 use group_history::{Json, Stop, Text};
+pub(crate) use leaves::{insert_row, value_found};
+pub(crate) use middles::{finish, lower_first};
+pub(crate) use roots::topped;
 use std::alloc::{AllocError, Global};
 
-/// A row to put in a chunk: how many copies of an upper half's first key are wanted, and whether the chunk
-/// may be split.
+/// A put in a chunk: how many copies of an upper half's first key are wanted, and whether the chunk may be split.
 #[derive(Clone, Copy)]
 pub(crate) struct Put<'a> {
     pub(crate) alloc: Global,
     pub(crate) key: &'a Text,
-    pub(crate) value: &'a Json,
     pub(crate) copies: usize,
     pub(crate) may_split: bool,
 }
@@ -43,10 +46,12 @@ pub(crate) struct Half {
 #[derive(Drop)]
 pub(crate) enum PutRefused {
     Stopped(Stop),
-    /// The key isn't there, and the chunk would be split, and may not be.
-    Full,
-    /// The key has this very value.
+    /// The key isn't there, and the chunk would be split for this value, and may not be.
+    Full(Json),
+    /// The key has the very value that is to be put.
     Same,
+    /// The change refuses, with a code.
+    Refused(u32),
 }
 
 impl From<AllocError> for PutRefused {

@@ -1,22 +1,22 @@
 //! Values put in a map.
 ghost use Rattle.std.specs.Prelude.{◌≡◌, ◌⊎◌, Some, Ok, Err, IfOk, IfErr, OnOk, OnErr, IsSome};
-ghost use Rattle.std.specs.Ordering.{nat_cmp};
-ghost use Rattle.std.specs.Cmp.Lexicographic.{slice_cmp};
 ghost use Rattle.std.specs.FinMap as finite;
 ghost use Rattle.group_history.specs.Map.{Entries};
 ghost use Rattle.group_history.specs.declared.mutators.Stop.TheVariants.{NoMemory};
 ghost use Rattle.group_history.specs.declared.mutators.Update.{Update as Updates};
-ghost use Rattle.map_chunks.specs.Places.{Grows, AreAll, places_of};
-ghost use Rattle.map_chunks.specs.Shown.{shown, IsTree, rows_or};
-ghost use Rattle.map_nodes.specs.Updating.{IsPutOr};
+ghost use Rattle.map_chunks.specs.Places.{Grows, AreAll};
+ghost use Rattle.map_nodes.specs.Changes.{CanMake, Makes};
 ghost use Rattle.map_tree.specs.Puts.{IsPut, IsUpdate, settled};
 ghost use Rattle.map_tree.specs.Trees.{tree_places, tree_map};
 
 use super::{Root, Tree};
 use group_history::{Json, Ran, Stop, Update};
 use map_chunks::Chunks;
-use map_nodes::{OwnRoot, Updated};
+use map_nodes::{Change, OwnRoot, Updated};
 use std::alloc::Global;
+
+// A change that asks nothing.
+type Constant = Change<fn(Option<Json>) -> Result<Update, Stop>>;
 
 impl Tree {
     /// Puts a value at a key. New are only the chunks on the way to it and those that a split adds, and none where the
@@ -38,21 +38,13 @@ impl Tree {
         ensures err { OnErr result (self.new ≡ self.old) }
         ensures stopped { IfErr result (λ s. (s ≡ NoMemory) ⊎ C.stops s) }
     {
-        match &mut self.root {
-            Root::Own(node) => node.write(alloc, chunks, key, value),
-            Root::Placed(at) => {
-                let at = *at;
-                let put = |_there| Ok(Update::Put(value.clone()?));
-                let updated = OwnRoot::updated(alloc, chunks, at, key, put)?;
-                self.settle(updated);
-                Ok(())
-            }
-        }
+        let change: Constant = Change::Value(value.clone()?);
+        self.change(alloc, chunks, key, change)?;
+        Ok(())
     }
 
     /// Lets the change see the value at a key (none where the key isn't there), and puts what it makes of it: a look
-    /// and a put. Where the key is there and the root is placed, that is one way down. Where it stops or refuses, the
-    /// map is as it was.
+    /// and a put on one way down. Where it stops or refuses, the map is as it was.
     pub fn update<C: Chunks, F: FnOnce(Option<Json>) -> Result<Update, Stop>>(
         &mut self,
         alloc: Global,
@@ -71,8 +63,30 @@ impl Tree {
         ensures stopped { (m : Entries) → tree_map (C.contents chunks.old) self.old ≡ Some m → IfErr result (λ e.
             (e ≡ NoMemory) ⊎ C.stops e ⊎ F.post change (finite.get m key.now) (Err e)) }
     {
+        self.change(alloc, chunks, key, Change::Ask(change))
+    }
+
+    // Puts what a change makes of the value at a key.
+    fn change<C: Chunks, F: FnOnce(Option<Json>) -> Result<Update, Stop>>(
+        &mut self,
+        alloc: Global,
+        chunks: &mut C,
+        key: &str,
+        change: Change<F>,
+    ) -> Result<Ran, Stop>
+        requires places { AreAll (C.places chunks.old) (tree_places self.old) }
+        requires map { IsSome (tree_map (C.contents chunks.old) self.old) }
+        requires callable { CanMake (λ f. F.IsAlwaysCallable f) change }
+        ensures grown { Grows C.contents C.places chunks.old chunks.new }
+        ensures updated { (m : Entries) → tree_map (C.contents chunks.old) self.old ≡ Some m → IfOk result (λ ran.
+            (u : Updates) × Makes (λ f x r. F.post f x r) change (finite.get m key.now) (Ok u) × IsUpdate
+            (C.contents chunks.old) (C.contents chunks.new) (C.places chunks.new) self.old self.new m key.now u ran) }
+        ensures err { OnErr result (self.new ≡ self.old) }
+        ensures stopped { (m : Entries) → tree_map (C.contents chunks.old) self.old ≡ Some m → IfErr result (λ e.
+            (e ≡ NoMemory) ⊎ C.stops e ⊎ Makes (λ f x r. F.post f x r) change (finite.get m key.now) (Err e)) }
+    {
         match &mut self.root {
-            Root::Own(node) => update_own(node, alloc, chunks, key, change),
+            Root::Own(node) => node.write(alloc, chunks, key, change),
             Root::Placed(at) => {
                 let at = *at;
                 let updated = OwnRoot::updated(alloc, chunks, at, key, change)?;
@@ -91,34 +105,5 @@ impl Tree {
             self.root = Root::Own(root);
         }
         ran
-    }
-}
-
-// Looks at a key of own chunks, and puts what the change makes of it.
-fn update_own<C: Chunks, F: FnOnce(Option<Json>) -> Result<Update, Stop>>(
-    node: &mut OwnRoot,
-    alloc: Global,
-    chunks: &mut C,
-    key: &str,
-    change: F,
-) -> Result<Ran, Stop>
-    requires places { AreAll (C.places chunks.old) (places_of node.old.pieces) }
-    requires tree { IsTree (shown (C.contents chunks.old) node.old.pieces) }
-    requires callable { F.IsAlwaysCallable change }
-    ensures grown { Grows C.contents C.places chunks.old chunks.new }
-    ensures updated { IfOk result (λ ran. (u : Updates) × F.post change (finite.find (slice_cmp nat_cmp) key.now
-        (rows_or (shown (C.contents chunks.old) node.old.pieces))) (Ok u) × IsPutOr (C.contents chunks.old)
-        (C.contents chunks.new) (C.places chunks.new) key.now node.old node.new u ran) }
-    ensures err { OnErr result (node.new ≡ node.old) }
-    ensures stopped { IfErr result (λ e. (e ≡ NoMemory) ⊎ C.stops e ⊎ F.post change (finite.find (slice_cmp nat_cmp)
-        key.now (rows_or (shown (C.contents chunks.old) node.old.pieces))) (Err e)) }
-{
-    let there = node.get(chunks, key)?;
-    match change(there)? {
-        Update::Refuse(code) => Ok(Ran::Refused(code)),
-        Update::Put(value) => {
-            node.write(alloc, chunks, key, &value)?;
-            Ok(Ran::Done)
-        }
     }
 }

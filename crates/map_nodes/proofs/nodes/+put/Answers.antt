@@ -1,52 +1,59 @@
-use Rattle.std.proofs.Common.{◌≡◌, ◌+◌, ◌*◌, ◌-◌, ◌++◌, [], ◌∷◌, ◌<◌, ◌≤◌, IfErr, IfOk, ℕ, true, Option, None, arith}
-use Rattle.std.proofs.Common.{length, sym, ap, subst, ◌∙◌, Some, get_or, length-set, slice_get, nat_cmp, T, refl}
-use Rattle.std.proofs.Common.{set-set}
+use Rattle.std.proofs.Common.{◌≡◌, ◌+◌, ◌*◌, ◌-◌, ◌++◌, [], ◌∷◌, ◌<◌, ◌≤◌, IfErr, IfOk, ℕ, true, false, Option, None}
+use Rattle.std.proofs.Common.{length, sym, ap, subst, ◌∙◌, Ok, Some, get_or, set, length-set, slice_get, nat_cmp, T}
+use Rattle.std.proofs.Common.{refl, set-set, arith, Result}
 use Rattle.std.specs.Prelude.{IsSome}
 use Rattle.std.specs.Box.{with_value}
 use Rattle.std.specs.Cmp.Lexicographic.{slice_cmp}
 use Rattle.std.specs.FinMap as finite
+use Rattle.group_history.specs.Map.{Bytes}
 use Rattle.group_history.specs.Refs.{stamp_of}
-use Rattle.group_history.specs.Rows.{paired, rises, keys_of, values_of}
+use Rattle.group_history.specs.Rows.{Rows, paired, rises, keys_of, values_of}
 use Rattle.group_history.specs.Spelling.{rows_at}
+use Rattle.group_history.specs.declared.mutators.Stop.{Stop}
+use Rattle.group_history.specs.declared.mutators.Update.{Update}
+use Rattle.group_history.specs.declared.mutators.Update.TheVariants.{Put as Puts}
 use Rattle.map_nodes.specs.Inside.Counts.{half_fresh, HasKept}
 use Rattle.map_chunks.specs.Places.{AreAll, AreKept, places_of}
+use Rattle.map_nodes.specs.Changes.{Makes}
 use Rattle.map_nodes.specs.Inside.Freezing.{child_places, kids_places}
-use Rattle.map_nodes.specs.Inside.Halves.{half_pieces, IsHalf, IsLower, AreNinth, HasDepth, ChildPut, with_half}
+use Rattle.map_nodes.specs.Inside.Halves.{half_pieces, IsHalf, IsLower, AreNinth, HasDepth, with_half}
 use Rattle.map_nodes.specs.Inside.Halves.{lowered}
 use Rattle.map_nodes.specs.Nodes.{AllKids, IsNode, body_pieces, body_fresh, body_height, kids_pieces, child_fresh}
-use Rattle.map_nodes.specs.Nodes.{kids_fresh, kids_levels, kids_marks, child_levels, sunk, body_marks}
+use Rattle.map_nodes.specs.Nodes.{kids_fresh, kids_levels, kids_marks, child_levels, sunk, body_marks, row_pieces}
 use Rattle.map_nodes.specs.Inside.Nodes.{Kid, child_rows}
 use Rattle.map_nodes.specs.Inside.Ready.{HasRoom, IsReady}
+use Rattle.map_nodes.specs.Others.{ArePutAmong}
 use Rattle.map_chunks.specs.Search.{IsPlace}
-use Rattle.map_chunks.specs.Shown.{own, leaf_keys, Seen, shown, rows_or, IsTree}
+use Rattle.map_chunks.specs.Shown.{own, leaf_keys, Seen, chunk_rows, shown, rows_or, IsTree}
 use Rattle.map_nodes.specs.declared.nodes.Body.{Body}
 use Rattle.map_nodes.specs.declared.nodes.Body.TheVariants.{Inner}
 use Rattle.map_nodes.specs.declared.nodes.OwnChild.{OwnChild}
 use Rattle.map_nodes.specs.declared.nodes.putting.Half.{Half}
 use Rattle.map_nodes.specs.declared.nodes.OwnChild.TheVariants.{Placed, Own}
 use Rattle.map_chunks.proofs.AnswerLemmas.{if_ok_so, on_err, on_ok}
+use Rattle.map_chunks.proofs.JoinLemmas.{some_is}
+use Rattle.map_nodes.proofs.AmongLemmas.{depth_at, inner_among, own_put, placed_put, rows_alone, rows_put}
 use Rattle.map_nodes.proofs.CountLemmas.{fresh-set, leaf_counts, inner_counts}
 use Rattle.map_nodes.proofs.ChangeLemmas.{shown-kept}
-use Rattle.map_chunks.proofs.KeptLemmas.{all_on, grows_on, kept-none, kept-grown, kept-trans, kept-from_none}
+use Rattle.map_chunks.proofs.KeptLemmas.{all_on, grows_on, kept-none, kept-from_none}
 use Rattle.map_nodes.proofs.NamedLemmas.{kept-kid, kept-finished, own-places, places-rows}
-use Rattle.map_nodes.proofs.NodeLemmas.{inner_same, shown-rows, child_at, written_back}
+use Rattle.map_nodes.proofs.NodeLemmas.{inner_same, child_at, written_back}
 use Rattle.map_chunks.proofs.OpenLemmas.{known, tree_of}
 use Rattle.map_nodes.proofs.ReplaceLemmas.{leaf_rows}
 use Rattle.map_nodes.proofs.UnputLemmas.{handed_on, unput_anyhow, unput_split}
 use Rattle.map_nodes.proofs.RenewLemmas.{inner_replaced, value_below}
 use Rattle.map_nodes.proofs.PathLemmas.{put_path, filled_pairs, filled_kids, length-pairs, node_at, child_requires}
 use Rattle.map_nodes.proofs.PathLemmas.{if_ok, indexed_child, done_at, length-lowered, ninth_lowered}
-use Rattle.map_nodes.proofs.PlaceLemmas.{kid_all, kids_may, own_may, placed_may, new_may}
-use Rattle.group_history.proofs.Lists.{prefix_trans}
-use Rattle.map_nodes.proofs.LevelLemmas.{changed_as, changed_copy, inner-levels}
-use Rattle.map_nodes.proofs.PutLevels.{AreFirsts, child_put, firsts_are, if_ok_both, leaf_put_levels, put_as}
-use Rattle.map_nodes.proofs.PutLevels.{put_copied, put_over}
-use Rattle.map_nodes.specs.Inside.Puts.{half_levels, value_in, ChildHalvesPut, ChildReplaced, HalvesPut, HasReplaced}
-use Rattle.map_nodes.specs.Inside.Puts.{IsHalved}
-use Rattle.map_nodes.specs.Inside.Unput.{IsUnput}
-use Rattle.map_nodes.specs.Levels.{Levels, levels_of, parting, placed_levels, seen_levels, topped, AreChanged, ArePut}
-use Rattle.map_nodes.specs.Levels.{IsRenewed, RenewedLater}
+use Rattle.map_nodes.proofs.PlaceLemmas.{kid_all, kids_may, own_may, placed_may}
 use Rattle.map_nodes.proofs.KeptLevels.{leaf_kept-levels}
+use Rattle.map_nodes.proofs.LevelLemmas.{changed_as, inner-levels}
+use Rattle.map_nodes.proofs.PutLevels.{AreFirsts, child_put, firsts_are, if_ok_both, leaf_put_levels, put_as}
+use Rattle.map_nodes.proofs.PutLevels.{put_over}
+use Rattle.map_nodes.specs.Inside.Puts.{half_levels, value_in, ChildHalvesPut, ChildReplaced, HalvesPut, IsChildPut}
+use Rattle.map_nodes.specs.Inside.Puts.{IsHalved, IsOwnPut}
+use Rattle.map_nodes.specs.Inside.Unput.{IsUnput}
+use Rattle.map_nodes.specs.Levels.{levels_of, parting, seen_levels, topped, AreChanged, ArePut}
+use Rattle.map_nodes.specs.Levels.{IsRenewed, RenewedLater}
 use Rattle.map_nodes.proofs.nodes.+put.Goals as goal
 
 pub putting::paths::put_inner-put_child-requires : goal.putting::paths::put_inner-put_child-requires
@@ -63,23 +70,30 @@ putting::paths::put_inner-put_child-requires g t c κs within =
       (
         within.0,
         (
-          within.1,
+          within.1.0,
           (
-            subst (λ ks. AreAll (g.C.Chunks.places c.args.chunks.now) (kids_places ks)) (sym c.reserve.ensures.items)
-                (kids_may (g.C.Chunks.places c.args.chunks.now) c.args.depth c.args.keys.now.texts
-                (Inner c.args.kids.now) c.args.kids.now
-                (body_pieces c.args.depth c.args.keys.now.texts (Inner c.args.kids.now)) refl refl c.requires.node
-                c.requires.places),
+            within.1.1,
             (
-              omega (arith, x.3.0, x.2.1.2, ap length c.reserve.ensures.items),
+              subst (λ ks. AreAll (g.C.Chunks.places c.args.chunks.now) (kids_places ks)) (sym c.reserve.ensures.items)
+                  (kids_may (g.C.Chunks.places c.args.chunks.now) c.args.depth c.args.keys.now.texts
+                  (Inner c.args.kids.now) c.args.kids.now
+                  (body_pieces c.args.depth c.args.keys.now.texts (Inner c.args.kids.now)) refl refl c.requires.node
+                  c.requires.places),
               (
-                subst (λ w. IsPlace c.args.put.key.now w i) c.as_slice.ensures
-                    (subst (λ k. IsPlace k c.as_slice.result.now i) c.as_str.ensures c.place_of-place.ensures),
+                omega (arith, x.3.0, x.2.1.2, ap length c.reserve.ensures.items),
                 (
-                  omega (arith, x.2.1.0, c.requires.copies),
-                  child_requires p c.args.depth c.args.keys.now.texts c.args.kids.now.items c.reserve.new.self.items
-                      (body_pieces c.args.depth c.args.keys.now.texts (Inner c.args.kids.now)) c.args.put.key.now i
-                      (get_or c.args.kids.now.items i at) x.0 x.1 c.reserve.ensures.items,
+                  subst (λ w. IsPlace c.args.put.key.now w i) c.as_slice.ensures
+                      (subst (λ k. IsPlace k c.as_slice.result.now i) c.as_str.ensures c.place_of-place.ensures),
+                  (
+                    omega (arith, x.2.1.0, c.requires.copies),
+                    (
+                      child_requires p c.args.depth c.args.keys.now.texts c.args.kids.now.items
+                          c.reserve.new.self.items
+                          (body_pieces c.args.depth c.args.keys.now.texts (Inner c.args.kids.now)) c.args.put.key.now i
+                          (get_or c.args.kids.now.items i at) x.0 x.1 c.reserve.ensures.items,
+                      c.requires.callable,
+                    ),
+                  ),
                 ),
               ),
             ),
@@ -103,14 +117,14 @@ putting::paths::put_inner-finish-requires-clause-fits g t c =
     let keys = c.args.keys.now.texts in
     let kids = c.args.kids.now.items in
     let kk : c.reserve.new.self.items ≡ kids = c.reserve.ensures.items in
-    let done = subst (λ ks. ChildPut q (c.args.put.copies + 1)
-    (c.args.depth - 1) i ks c.put_child.new.kids.items c.in_ok-ready.half
-    (Some (finite.put (slice_cmp nat_cmp) c.args.put.key.now c.args.put.value.now
-    (rows_or (child_rows p (c.args.depth - 1) child))))) kk
-    (c.in_ok-ready.ensures.done child (ap (λ w. slice_get w i) kk ∙ x.1)) in
+    let r = c.in_ok-ready.ensures.put child (ap (λ w. slice_get w i) kk ∙ x.1) in
+    let put = subst (λ ks. IsChildPut q (c.args.put.copies + 1) (c.args.depth - 1) i (get_or keys i [])
+    c.args.put.key.now r.0 (child_rows p (c.args.depth - 1) child) ks c.put_child.new.kids.items child
+    c.in_ok-ready.half) kk r.2 in
+    let done = put.done in
     let low = c.lower_first.ensures.texts ∙ ap (lowered i c.in_ok-ready.ready.lower) c.put_child.ensures.texts in
     let u = put_path p q c.args.depth c.args.put.copies keys kids c.put_child.new.kids.items
-    (body_pieces c.args.depth c.args.keys.now.texts (Inner c.args.kids.now)) c.args.put.key.now c.args.put.value.now i
+    (body_pieces c.args.depth c.args.keys.now.texts (Inner c.args.kids.now)) c.args.put.key.now r.0 i
     child c.in_ok-ready.ready.lower
     c.in_ok-ready.half c.put_child.ensures.grown.0 x.2.1.2 x.0 c.in_ok-ready.ensures.lower done in
     let n : length c.lower_first.new.keys.texts ≡ length keys =
@@ -148,11 +162,11 @@ putting::paths::put_inner-finish-requires-clause-kids_room g t c =
     let keys = c.args.keys.now.texts in
     let kids = c.args.kids.now.items in
     let kk : c.reserve.new.self.items ≡ kids = c.reserve.ensures.items in
-    let done = subst (λ ks. ChildPut q (c.args.put.copies + 1)
-    (c.args.depth - 1) i ks c.put_child.new.kids.items c.in_ok-ready.half
-    (Some (finite.put (slice_cmp nat_cmp) c.args.put.key.now c.args.put.value.now
-    (rows_or (child_rows p (c.args.depth - 1) child))))) kk
-    (c.in_ok-ready.ensures.done child (ap (λ w. slice_get w i) kk ∙ x.1)) in
+    let r = c.in_ok-ready.ensures.put child (ap (λ w. slice_get w i) kk ∙ x.1) in
+    let put = subst (λ ks. IsChildPut q (c.args.put.copies + 1) (c.args.depth - 1) i (get_or keys i [])
+    c.args.put.key.now r.0 (child_rows p (c.args.depth - 1) child) ks c.put_child.new.kids.items child
+    c.in_ok-ready.half) kk r.2 in
+    let done = put.done in
     let low = c.lower_first.ensures.texts ∙ ap (lowered i c.in_ok-ready.ready.lower) c.put_child.ensures.texts in
     let n = ap length done.1 ∙ length-set kids i (Own done.0) ∙ sym (ap length kk) in
     omega (
@@ -172,37 +186,50 @@ putting::paths::put_inner-finish-requires-clause-room g t c some =
     (sym (ap length low ∙ length-lowered c.place_of-place.result c.in_ok-ready.ready.lower c.args.keys.now.texts))
     (c.in_ok-ready.ensures.ready some).2
 
-pub putting::paths::put_inner-returns-clause-done : goal.putting::paths::put_inner-returns-clause-done
-putting::paths::put_inner-returns-clause-done g t c =
+pub putting::paths::put_inner-returns-clause-put : goal.putting::paths::put_inner-returns-clause-put
+putting::paths::put_inner-returns-clause-put g t c =
     let p = g.C.Chunks.contents c.args.chunks.now in
     let at : OwnChild = Placed (record { bits = 0 }) in
     let i = c.place_of-place.result in
-    let x = node_at p c.args.depth c.args.keys.now.texts (Inner c.args.kids.now) c.args.kids.now
-    (body_pieces c.args.depth c.args.keys.now.texts (Inner c.args.kids.now)) c.as_slice.result.now
-    c.args.put.key.now i at
+    let depth = c.args.depth in
+    let keys = c.args.keys.now.texts in
+    let kids = c.args.kids.now.items in
+    let key = c.args.put.key.now in
+    let pieces = body_pieces depth keys (Inner c.args.kids.now) in
+    let x = node_at p depth keys (Inner c.args.kids.now) c.args.kids.now pieces c.as_slice.result.now key i at
     refl refl c.requires.node c.as_slice.ensures
     (subst (λ k. IsPlace k c.as_slice.result.now i) c.as_str.ensures c.place_of-place.ensures) c.requires.tree in
     let q = g.C.Chunks.contents c.put_child.new.chunks in
-    let child = get_or c.args.kids.now.items i at in
-    let keys = c.args.keys.now.texts in
-    let kids = c.args.kids.now.items in
+    let child = get_or kids i at in
+    let new = c.put_child.new.kids.items in
+    let half = c.in_ok-ready.half in
+    let lower = c.in_ok-ready.ready.lower in
     let kk : c.reserve.new.self.items ≡ kids = c.reserve.ensures.items in
-    let done = subst (λ ks. ChildPut q (c.args.put.copies + 1)
-    (c.args.depth - 1) i ks c.put_child.new.kids.items c.in_ok-ready.half
-    (Some (finite.put (slice_cmp nat_cmp) c.args.put.key.now c.args.put.value.now
-    (rows_or (child_rows p (c.args.depth - 1) child))))) kk
-    (c.in_ok-ready.ensures.done child (ap (λ w. slice_get w i) kk ∙ x.1)) in
-    let low = c.lower_first.ensures.texts ∙ ap (lowered i c.in_ok-ready.ready.lower) c.put_child.ensures.texts in
-    let u = put_path p q c.args.depth c.args.put.copies keys kids c.put_child.new.kids.items
-    (body_pieces c.args.depth c.args.keys.now.texts (Inner c.args.kids.now)) c.args.put.key.now c.args.put.value.now i
-    child c.in_ok-ready.ready.lower
-    c.in_ok-ready.half c.put_child.ensures.grown.0 x.2.1.2 x.0 c.in_ok-ready.ensures.lower done in
-    done_at q (c.args.depth - 1) (with_half i c.in_ok-ready.half
-    (paired (lowered i c.in_ok-ready.ready.lower keys) c.put_child.new.kids.items))
-    (shown p (body_pieces c.args.depth c.args.keys.now.texts (Inner c.args.kids.now))) x.0.rows c.args.put.key.now
-    c.args.put.value.now _ x.0.rows_is
-    (c.finish.ensures.shape.0 ∙ ap (λ ks. kids_pieces (c.args.depth - 1)
-    (with_half i c.in_ok-ready.half (paired ks c.put_child.new.kids.items))) low) u.shown_is
+    let r = c.in_ok-ready.ensures.put child (ap (λ w. slice_get w i) kk ∙ x.1) in
+    let put = subst (λ ks. IsChildPut q (c.args.put.copies + 1) (depth - 1) i (get_or keys i []) key r.0
+    (child_rows p (depth - 1) child) ks new child half) kk r.2 in
+    let low = c.lower_first.ensures.texts ∙ ap (lowered i lower) c.put_child.ensures.texts in
+    let u = put_path p q depth c.args.put.copies keys kids new pieces key r.0 i child lower half
+    c.put_child.ensures.grown.0 x.2.1.2 x.0 c.in_ok-ready.ensures.lower put.done in
+    let is = c.finish.ensures.shape.0 ∙ ap (λ ks. kids_pieces (depth - 1) (with_half i half (paired ks new))) low in
+    let same = value_below p depth keys kids pieces key i child x.0 in (
+      r.0,
+      subst (λ w. Makes (λ f y z. g.F.FnOnce.post f (y, tt) z) c.args.change w (Ok (Puts r.0))) same r.1,
+      record {
+        shown_is = done_at q (depth - 1) (with_half i half (paired (lowered i lower keys) new)) (shown p pieces)
+            x.0.rows key r.0 _ x.0.rows_is is u.shown_is;
+        others = inner_among p q depth keys kids new pieces
+            (body_pieces depth c.finish.new.keys.texts (Inner c.finish.new.kids) ++ half_pieces c.finish.result) key r.0
+            i child lower half put.done.0 x.2.1.2 x.0 refl put.done.1 put.others is;
+        renewed = inner_replaced q depth keys c.finish.new.keys.texts kids new c.finish.new.kids.items key i child
+            lower half c.finish.result (value_in (shown p pieces) key) r.0 c.requires.node.1.0 x.2.1.2 x.1 x.3
+            c.in_ok-ready.ensures.lower
+            (subst (λ f. ChildReplaced q f r.0 (depth - 1) i kids new child half) same put.renewed)
+            (subst (λ ks. IsHalved depth c.finish.new.keys.texts c.finish.new.kids.items c.finish.result
+            (keys_of (with_half i half (paired ks new))) (values_of (with_half i half (paired ks new)))) low
+            c.finish.ensures.parted) c.finish.ensures.whole;
+      },
+    )
 
 pub putting::paths::put_inner-returns-clause-half : goal.putting::paths::put_inner-returns-clause-half
 putting::paths::put_inner-returns-clause-half g t c =
@@ -219,11 +246,11 @@ putting::paths::put_inner-returns-clause-half g t c =
     let keys = c.args.keys.now.texts in
     let kids = c.args.kids.now.items in
     let kk : c.reserve.new.self.items ≡ kids = c.reserve.ensures.items in
-    let done = subst (λ ks. ChildPut q (c.args.put.copies + 1)
-    (c.args.depth - 1) i ks c.put_child.new.kids.items c.in_ok-ready.half
-    (Some (finite.put (slice_cmp nat_cmp) c.args.put.key.now c.args.put.value.now
-    (rows_or (child_rows p (c.args.depth - 1) child))))) kk
-    (c.in_ok-ready.ensures.done child (ap (λ w. slice_get w i) kk ∙ x.1)) in
+    let r = c.in_ok-ready.ensures.put child (ap (λ w. slice_get w i) kk ∙ x.1) in
+    let put = subst (λ ks. IsChildPut q (c.args.put.copies + 1) (c.args.depth - 1) i (get_or keys i [])
+    c.args.put.key.now r.0 (child_rows p (c.args.depth - 1) child) ks c.put_child.new.kids.items child
+    c.in_ok-ready.half) kk r.2 in
+    let done = put.done in
     let low = c.lower_first.ensures.texts ∙ ap (lowered i c.in_ok-ready.ready.lower) c.put_child.ensures.texts in
     c.finish.ensures.half c.args.put.copies done.5
     (λ some key z. subst (λ ks. AreNinth c.args.put.copies ks (i + 1) key c.in_ok-ready.ready.room.firsts.items)
@@ -286,25 +313,23 @@ putting::paths::put_child-returns-in-Own-clause-levels g t c x h =
 pub putting::paths::put_child-returns-in-Placed-clause-levels :
     goal.putting::paths::put_child-returns-in-Placed-clause-levels
 putting::paths::put_child-returns-in-Placed-clause-levels g t c x h =
-    let q = g.C.Chunks.contents c.copied_child.new.chunks in
-    let r = g.C.Chunks.contents c.put_below-in-Placed.new.chunks in
     let kids = c.args.kids.now.items in
     let child = c.index_mut.result.now in
-    let n : Kid = with_value c.in_ok-node-in-Placed.node c.put_below-in-Placed.new.self in
-    let half = c.in_ok-answer-in-Placed.answer.1 in
+    let below = c.args.below in
+    let p = g.C.Chunks.contents c.args.chunks.now in
+    let n : Kid = c.in_ok-ready-in-Placed.node in
+    let half = c.in_ok-ready-in-Placed.half in
+    let tree = c.requires.tree child (child_at kids c.args.place
+    (length kids) child refl c.requires.within c.index_mut.ensures.value) in
+    let t : IsTree (rows_at p below (stamp_of c.in-Placed.at)) =
+    subst (λ y. IsTree (child_rows p below y)) c.in-Placed.is tree.0 in
+    let u = c.in_ok-ready-in-Placed.ensures.put below (depth_at p below (stamp_of c.in-Placed.at) t) in
     let e : x ≡ Placed c.in-Placed.at = indexed_child kids c.args.place child x c.requires.within
     c.index_mut.ensures.value h ∙ c.in-Placed.is in (
       n,
       set-set kids c.args.place (Placed c.in-Placed.at) (Own n),
-      λ later pre.
-          let new : Levels = λ i. seen_levels c.put_below-in-Placed.new.self later i ++ half_levels half later i in
-          let sooner = prefix_trans q r later c.put_below-in-Placed.ensures.grown.0 pre in
-          subst (λ y. ArePut (child_levels c.args.below y later) new) (sym e)
-          (put_copied (placed_levels later c.args.below (stamp_of c.in-Placed.at))
-          (seen_levels c.in_ok-node-in-Placed.node.value later) new
-          (c.in_ok-node-in-Placed.ensures.levels later sooner)
-          (subst (λ (s : Seen). HalvesPut r s c.put_below-in-Placed.new.self half)
-          c.deref_mut-in-Placed.ensures.value c.in_ok-answer-in-Placed.ensures.levels later pre)),
+      λ later pre. subst (λ y. ArePut (child_levels below y later)
+          (λ i. seen_levels n.value later i ++ half_levels half later i)) (sym e) (u.3.levels later pre),
     )
 
 pub putting::paths::put_inner-returns-clause-filled : goal.putting::paths::put_inner-returns-clause-filled
@@ -328,122 +353,127 @@ putting::paths::put_child-put_below-requires g t c κs within =
       (
         within.0,
         (
-          within.1,
+          within.1.0,
           (
-            subst (λ (s : Seen). AreAll may (places_of s.pieces)) (sym v)
-                (own_may may child c.in-Own.node c.in-Own.is
-                (kid_all may kids c.args.place child c.requires.within c.index_mut.ensures.value c.requires.places)),
+            within.1.1,
             (
-              subst (λ (s : Seen). IsTree (shown p s.pieces)) (sym v)
-                  (subst (λ x. IsTree (child_rows p c.args.below x)) c.in-Own.is r.0),
-              (c.requires.place, omega (arith, d, c.requires.copies)),
+              subst (λ (s : Seen). AreAll may (places_of s.pieces)) (sym v)
+                  (own_may may child c.in-Own.node c.in-Own.is
+                  (kid_all may kids c.args.place child c.requires.within c.index_mut.ensures.value c.requires.places)),
+              (
+                subst (λ (s : Seen). IsTree (shown p s.pieces)) (sym v)
+                    (subst (λ x. IsTree (child_rows p c.args.below x)) c.in-Own.is r.0),
+                (c.requires.place, (omega (arith, d, c.requires.copies), c.requires.callable)),
+              ),
             ),
           ),
         ),
       ),
     )
 
-pub putting::paths::put_child-returns-in-Own-clause-done : goal.putting::paths::put_child-returns-in-Own-clause-done
-putting::paths::put_child-returns-in-Own-clause-done g t c x h =
+pub putting::paths::put_child-returns-in-Own-clause-put : goal.putting::paths::put_child-returns-in-Own-clause-put
+putting::paths::put_child-returns-in-Own-clause-put g t c x h =
     let p = g.C.Chunks.contents c.args.chunks.now in
+    let q = g.C.Chunks.contents c.put_below.new.chunks in
     let kids = c.args.kids.now.items in
+    let below = c.args.below in
+    let place = c.args.place in
+    let first = get_or c.args.keys.now.texts place [] in
+    let key = c.args.put.key.now in
+    let copies = c.args.put.copies + 1 in
     let child = c.index_mut.result.now in
-    let r = c.requires.tree child (child_at kids c.args.place
-    (length kids) child refl c.requires.within c.index_mut.ensures.value) in
-    let n : Kid = with_value c.in-Own.node c.put_below.new.self in
+    let r = c.requires.tree child (child_at kids place (length kids) child refl c.requires.within
+    c.index_mut.ensures.value) in
+    let m = c.in-Own.node in
+    let n : Kid = with_value m c.put_below.new.self in
     let v = c.deref_mut.ensures.value in
-    let d : c.deref_mut.result.now.depth ≡ c.args.below = ap (λ (s : Seen). s.depth) v ∙ subst
-    (HasDepth c.args.below) c.in-Own.is r.1 in
-    let e : x ≡ Own c.in-Own.node = indexed_child kids c.args.place child x c.requires.within c.index_mut.ensures.value
-    h ∙ c.in-Own.is in
-    if_ok c.put_below.result c.put_below.ensures.done c.put_below.ensures.half c.put_below.ensures.filled
-    (λ put done half filled. (
-      n,
-      refl,
-      c.put_below.ensures.depth ∙ d,
-      filled,
-      done ∙ ap (λ (m : Seen). Some (finite.put (slice_cmp nat_cmp) c.args.put.key.now c.args.put.value.now
-          (rows_or (shown p m.pieces)))) v
-          ∙ ap (λ y. Some (finite.put (slice_cmp nat_cmp) c.args.put.key.now c.args.put.value.now
-          (rows_or (child_rows p c.args.below y)))) (sym e),
-      subst (λ w. IsHalf (c.args.put.copies + 1) w put.1) d half,
+    let deep : m.value.depth ≡ below = subst (HasDepth below) c.in-Own.is r.1 in
+    let d : c.deref_mut.result.now.depth ≡ below = ap (λ (s : Seen). s.depth) v ∙ deep in
+    let e : x ≡ Own m = indexed_child kids place child x c.requires.within c.index_mut.ensures.value h ∙ c.in-Own.is in
+    if_ok c.put_below.result c.put_below.ensures.put c.put_below.ensures.half c.put_below.ensures.filled
+    (λ answer put half filled. (
+      put.0,
+      subst (λ y. Makes (λ f there made. g.F.FnOnce.post f (there, tt) made) c.args.change
+          (value_in (child_rows p below y) key) (Ok (Puts put.0))) (sym e)
+          (subst (λ (s : Seen). Makes (λ f there made. g.F.FnOnce.post f (there, tt) made) c.args.change
+          (value_in (shown p s.pieces) key) (Ok (Puts put.0))) v put.1),
+      subst (λ y. IsChildPut q copies below place first key put.0 (child_rows p below y) kids
+          (set kids place (Own n)) y answer.1) (sym e)
+          (own_put q copies below place first key put.0 (shown p m.value.pieces) kids m n answer.1 deep
+          (c.put_below.ensures.depth ∙ d) filled (subst (λ w. IsHalf copies w answer.1) d half)
+          (subst (λ (s : Seen). IsOwnPut q key put.0 (shown p s.pieces) s.pieces n.value.pieces (s.fresh + s.depth)
+          n.value.fresh (seen_levels s) (seen_levels n.value) answer.1) v put.2)),
     ))
 
-pub putting::paths::put_child-copied_child-requires-clause-place :
-    goal.putting::paths::put_child-copied_child-requires-clause-place
-putting::paths::put_child-copied_child-requires-clause-place g t c =
+pub putting::paths::put_child-put_placed-requires-clause-may :
+    goal.putting::paths::put_child-put_placed-requires-clause-may
+putting::paths::put_child-put_placed-requires-clause-may g t c =
     let may = g.C.Chunks.places c.args.chunks.now in
     let child = c.index_mut.result.now in
     placed_may may child c.in-Placed.at c.in-Placed.is
     (kid_all may c.args.kids.now.items c.args.place child c.requires.within c.index_mut.ensures.value
     c.requires.places)
 
-pub putting::paths::put_child-copied_child-requires-clause-known :
-    goal.putting::paths::put_child-copied_child-requires-clause-known
-putting::paths::put_child-copied_child-requires-clause-known g t c =
+pub putting::paths::put_child-put_placed-requires-clause-tree :
+    goal.putting::paths::put_child-put_placed-requires-clause-tree
+putting::paths::put_child-put_placed-requires-clause-tree g t c =
     let p = g.C.Chunks.contents c.args.chunks.now in
     let kids = c.args.kids.now.items in
     let child = c.index_mut.result.now in
     let r = c.requires.tree child (child_at kids c.args.place
     (length kids) child refl c.requires.within c.index_mut.ensures.value) in
-    let k = known (rows_at p c.args.below (stamp_of c.in-Placed.at))
-    (subst (λ x. IsTree (child_rows p c.args.below x)) c.in-Placed.is r.0) in
-    subst IsSome (sym k.is) refl
+    let k = stamp_of c.in-Placed.at in
+    let tree : IsTree (rows_at p c.args.below k) =
+    subst (λ x. IsTree (child_rows p c.args.below x)) c.in-Placed.is r.0 in
+    subst IsTree (sym (rows_alone p c.args.below k tree)) tree
 
-pub putting::paths::put_child-put_below-requires-in-Placed : goal.putting::paths::put_child-put_below-requires-in-Placed
-putting::paths::put_child-put_below-requires-in-Placed g t c κs within =
+pub putting::paths::put_child-put_placed-requires-clause-copies :
+    goal.putting::paths::put_child-put_placed-requires-clause-copies
+putting::paths::put_child-put_placed-requires-clause-copies g t c d is =
     let p = g.C.Chunks.contents c.args.chunks.now in
     let kids = c.args.kids.now.items in
     let child = c.index_mut.result.now in
     let r = c.requires.tree child (child_at kids c.args.place
     (length kids) child refl c.requires.within c.index_mut.ensures.value) in
-    let q = g.C.Chunks.contents c.copied_child.new.chunks in
-    let v = c.deref_mut-in-Placed.ensures.value in
-    let d : c.deref_mut-in-Placed.result.now.depth
-    ≡ c.args.below = ap (λ (s : Seen). s.depth) v ∙ c.in_ok-node-in-Placed.ensures.depth in (
-      omega (arith, d, c.decreases),
-      (
-        within.0,
-        (
-          within.1,
-          (
-            subst (λ (s : Seen). AreAll (g.C.Chunks.places c.copied_child.new.chunks) (places_of s.pieces)) (sym v)
-                (new_may (g.C.Chunks.places c.copied_child.new.chunks)
-                (places_of c.in_ok-node-in-Placed.node.value.pieces) c.in_ok-node-in-Placed.ensures.places),
-            (
-              subst (λ (s : Seen). IsTree (shown q s.pieces)) (sym v)
-                  (subst IsTree (sym c.in_ok-node-in-Placed.ensures.rows)
-                  (subst (λ x. IsTree (child_rows p c.args.below x)) c.in-Placed.is r.0)),
-              (c.requires.place, omega (arith, d, c.requires.copies)),
-            ),
-          ),
-        ),
-      ),
-    )
+    let k = stamp_of c.in-Placed.at in
+    let tree : IsTree (rows_at p c.args.below k) =
+    subst (λ x. IsTree (child_rows p c.args.below x)) c.in-Placed.is r.0 in
+    let same : c.args.below ≡ d = some_is (sym (depth_at p c.args.below k tree) ∙ is) in
+    omega (arith, same, c.requires.copies)
 
-pub putting::paths::put_child-returns-in-Placed-clause-done :
-    goal.putting::paths::put_child-returns-in-Placed-clause-done
-putting::paths::put_child-returns-in-Placed-clause-done g t c x h =
+pub putting::paths::put_child-returns-in-Placed-clause-put :
+    goal.putting::paths::put_child-returns-in-Placed-clause-put
+putting::paths::put_child-returns-in-Placed-clause-put g t c x h =
     let p = g.C.Chunks.contents c.args.chunks.now in
+    let q = g.C.Chunks.contents c.put_placed.new.chunks in
+    let may = g.C.Chunks.places c.put_placed.new.chunks in
     let kids = c.args.kids.now.items in
+    let below = c.args.below in
+    let place = c.args.place in
+    let first = get_or c.args.keys.now.texts place [] in
+    let key = c.args.put.key.now in
+    let copies = c.args.put.copies + 1 in
     let child = c.index_mut.result.now in
-    let n : Kid = with_value c.in_ok-node-in-Placed.node c.put_below-in-Placed.new.self in
-    let v = c.deref_mut-in-Placed.ensures.value in
-    let half = c.in_ok-answer-in-Placed.answer.1 in
-    let e : x ≡ Placed c.in-Placed.at = indexed_child kids c.args.place child x c.requires.within
-    c.index_mut.ensures.value h ∙ c.in-Placed.is in
-    let q = g.C.Chunks.contents c.copied_child.new.chunks in
-    let d : c.deref_mut-in-Placed.result.now.depth
-    ≡ c.args.below = ap (λ (s : Seen). s.depth) v ∙ c.in_ok-node-in-Placed.ensures.depth in (
-      n,
-      set-set kids c.args.place (Placed c.in-Placed.at) (Own n),
-      c.put_below-in-Placed.ensures.depth ∙ d,
-      c.in_ok-answer-in-Placed.ensures.filled,
-      c.in_ok-answer-in-Placed.ensures.done
-          ∙ ap (λ z. Some (finite.put (slice_cmp nat_cmp) c.args.put.key.now c.args.put.value.now (rows_or z)))
-          (ap (λ (s : Seen). shown q s.pieces) v ∙ c.in_ok-node-in-Placed.ensures.rows ∙ ap
-          (child_rows p c.args.below) (sym e)),
-      subst (λ w. IsHalf (c.args.put.copies + 1) w half) d c.in_ok-answer-in-Placed.ensures.half,
+    let at = c.in-Placed.at in
+    let n : Kid = c.in_ok-ready-in-Placed.node in
+    let half = c.in_ok-ready-in-Placed.half in
+    let r = c.requires.tree child (child_at kids place (length kids) child refl c.requires.within
+    c.index_mut.ensures.value) in
+    let tree : IsTree (rows_at p below (stamp_of at)) =
+    subst (λ y. IsTree (child_rows p below y)) c.in-Placed.is r.0 in
+    let same = rows_alone p below (stamp_of at) tree in
+    let u = c.in_ok-ready-in-Placed.ensures.put below (depth_at p below (stamp_of at) tree) in
+    let new = set (set kids place (Placed at)) place (Own n) in
+    let e : x ≡ Placed at = indexed_child kids place child x c.requires.within c.index_mut.ensures.value
+    h ∙ c.in-Placed.is in (
+      u.0,
+      subst (λ y. Makes (λ f there made. g.F.FnOnce.post f (there, tt) made) c.args.change
+          (value_in (child_rows p below y) key) (Ok (Puts u.0))) (sym e)
+          (subst (λ z. Makes (λ f there made. g.F.FnOnce.post f (there, tt) made) c.args.change
+          (value_in z key) (Ok (Puts u.0))) same u.1),
+      subst (λ y. IsChildPut q copies below place first key u.0 (child_rows p below y) kids new y half) (sym e)
+          (placed_put p q may copies below place first key u.0 kids new at n half c.put_placed.ensures.grown.0 tree
+          (set-set kids place (Placed at) (Own n)) u.2 u.3),
     )
 
 pub putting::paths::put_inner-returns-clause-fresh : goal.putting::paths::put_inner-returns-clause-fresh
@@ -478,23 +508,19 @@ putting::paths::put_child-returns-in-Own-clause-fresh g t c =
 pub putting::paths::put_child-returns-in-Placed-clause-fresh :
     goal.putting::paths::put_child-returns-in-Placed-clause-fresh
 putting::paths::put_child-returns-in-Placed-clause-fresh g t c =
+    let p = g.C.Chunks.contents c.args.chunks.now in
     let kids = c.args.kids.now.items in
     let child = c.index_mut.result.now in
-    let n : Kid = with_value c.in_ok-node-in-Placed.node c.put_below-in-Placed.new.self in
-    let v = c.deref_mut-in-Placed.ensures.value in
+    let at = c.in-Placed.at in
+    let n : Kid = c.in_ok-ready-in-Placed.node in
+    let r = c.requires.tree child (child_at kids c.args.place
+    (length kids) child refl c.requires.within c.index_mut.ensures.value) in
+    let tree : IsTree (rows_at p c.args.below (stamp_of at)) =
+    subst (λ y. IsTree (child_rows p c.args.below y)) c.in-Placed.is r.0 in
+    let u = c.in_ok-ready-in-Placed.ensures.put c.args.below (depth_at p c.args.below (stamp_of at) tree) in
     let f = fresh-set kids c.args.place child (Own n) c.requires.within c.index_mut.ensures.value in
-    let twice = ap kids_fresh (set-set kids c.args.place (Placed c.in-Placed.at) (Own n)) in
-    omega (
-      arith,
-      c.in_ok-answer-in-Placed.ensures.fresh,
-      f,
-      twice,
-      ap (λ (s : Seen). s.depth) v,
-      ap (λ (s : Seen). s.fresh) v,
-      c.in_ok-node-in-Placed.ensures.depth,
-      c.in_ok-node-in-Placed.ensures.fresh,
-      ap child_fresh c.in-Placed.is,
-    )
+    let twice = ap kids_fresh (set-set kids c.args.place (Placed at) (Own n)) in
+    omega (arith, u.3.few, f, twice, ap child_fresh c.in-Placed.is)
 
 pub putting::paths::put_child-returns-in-Own-clause-err : goal.putting::paths::put_child-returns-in-Own-clause-err
 putting::paths::put_child-returns-in-Own-clause-err g t c =
@@ -514,18 +540,21 @@ OwnNode::put_below-put_ready-requires g t c κs within =
       (
         within.0,
         (
-          within.1,
+          within.1.0,
           (
-            subst (λ (s : Seen). AreAll (g.C.Chunks.places c.put.new.chunks) (places_of s.pieces)) (sym e)
-                (all_on (g.C.Chunks.places c.args.chunks.now)
-                (g.C.Chunks.places c.put.new.chunks) _ c.put.ensures.grown.1 c.requires.places),
+            within.1.1,
             (
-              subst (λ (s : Seen). IsTree (shown q s.pieces)) (sym e)
-                  (tree_of (shown q c.args.self.now.pieces) n.rows here n.order),
+              subst (λ (s : Seen). AreAll (g.C.Chunks.places c.put.new.chunks) (places_of s.pieces)) (sym e)
+                  (all_on (g.C.Chunks.places c.args.chunks.now)
+                  (g.C.Chunks.places c.put.new.chunks) _ c.put.ensures.grown.1 c.requires.places),
               (
-                subst (λ ks. IsPlace c.args.put.key.now ks c.args.place) (sym c.lower_key.ensures.texts)
-                    c.requires.place,
-                omega (arith, d, c.requires.copies),
+                subst (λ (s : Seen). IsTree (shown q s.pieces)) (sym e)
+                    (tree_of (shown q c.args.self.now.pieces) n.rows here n.order),
+                (
+                  subst (λ ks. IsPlace c.args.put.key.now ks c.args.place) (sym c.lower_key.ensures.texts)
+                      c.requires.place,
+                  omega (arith, d, c.requires.copies),
+                ),
               ),
             ),
           ),
@@ -567,11 +596,11 @@ putting::paths::put_inner-returns-clause-places g t c =
     let keys = c.args.keys.now.texts in
     let kids = c.args.kids.now.items in
     let kk : c.reserve.new.self.items ≡ kids = c.reserve.ensures.items in
-    let done = subst (λ ks. ChildPut q (c.args.put.copies + 1)
-    (c.args.depth - 1) i ks c.put_child.new.kids.items c.in_ok-ready.half
-    (Some (finite.put (slice_cmp nat_cmp) c.args.put.key.now c.args.put.value.now
-    (rows_or (child_rows p (c.args.depth - 1) child))))) kk
-    (c.in_ok-ready.ensures.done child (ap (λ w. slice_get w i) kk ∙ x.1)) in
+    let r = c.in_ok-ready.ensures.put child (ap (λ w. slice_get w i) kk ∙ x.1) in
+    let put = subst (λ ks. IsChildPut q (c.args.put.copies + 1) (c.args.depth - 1) i (get_or keys i [])
+    c.args.put.key.now r.0 (child_rows p (c.args.depth - 1) child) ks c.put_child.new.kids.items child
+    c.in_ok-ready.half) kk r.2 in
+    let done = put.done in
     let low = c.lower_first.ensures.texts ∙ ap (lowered i c.in_ok-ready.ready.lower) c.put_child.ensures.texts in
     let n : length c.put_child.new.kids.items ≡ length c.lower_first.new.keys.texts =
     ap length done.1 ∙ length-set kids i (Own done.0) ∙ x.2.1.2 ∙ sym
@@ -603,23 +632,22 @@ putting::paths::put_child-returns-in-Own-clause-places g t c =
 pub putting::paths::put_child-returns-in-Placed-clause-places :
     goal.putting::paths::put_child-returns-in-Placed-clause-places
 putting::paths::put_child-returns-in-Placed-clause-places g t c =
+    let p = g.C.Chunks.contents c.args.chunks.now in
     let kids = c.args.kids.now.items in
     let child = c.index_mut.result.now in
-    let at_p = g.C.Chunks.places c.copied_child.new.chunks in
-    let at_q = g.C.Chunks.places c.put_below-in-Placed.new.chunks in
-    let n : Kid = with_value c.in_ok-node-in-Placed.node c.put_below-in-Placed.new.self in
-    let half = half_pieces c.in_ok-answer-in-Placed.answer.1 in
-    let copied = kept-grown at_p at_q [] (places_of c.in_ok-node-in-Placed.node.value.pieces)
-    c.put_below-in-Placed.ensures.grown.1 c.in_ok-node-in-Placed.ensures.places in
-    let put = subst (λ (s : Seen). AreKept at_q (places_of s.pieces)
-    (places_of (c.put_below-in-Placed.new.self.pieces ++ half))) c.deref_mut-in-Placed.ensures.value
-    c.in_ok-answer-in-Placed.ensures.places in
-    let all = kept-trans at_q [] (places_of c.in_ok-node-in-Placed.node.value.pieces)
-    (places_of (c.put_below-in-Placed.new.self.pieces ++ half)) copied put in
+    let at = c.in-Placed.at in
+    let at_q = g.C.Chunks.places c.put_placed.new.chunks in
+    let n : Kid = c.in_ok-ready-in-Placed.node in
+    let half = half_pieces c.in_ok-ready-in-Placed.half in
+    let r = c.requires.tree child (child_at kids c.args.place
+    (length kids) child refl c.requires.within c.index_mut.ensures.value) in
+    let tree : IsTree (rows_at p c.args.below (stamp_of at)) =
+    subst (λ y. IsTree (child_rows p c.args.below y)) c.in-Placed.is r.0 in
+    let u = c.in_ok-ready-in-Placed.ensures.put c.args.below (depth_at p c.args.below (stamp_of at) tree) in
     subst (λ ks. AreKept at_q (kids_places kids) (kids_places ks ++ places_of half))
-    (sym (set-set kids c.args.place (Placed c.in-Placed.at) (Own n)))
+    (sym (set-set kids c.args.place (Placed at) (Own n)))
     (kept-kid at_q kids c.args.place child n half c.requires.within c.index_mut.ensures.value
-    (kept-from_none at_q (child_places child) (places_of (c.put_below-in-Placed.new.self.pieces ++ half)) all))
+    (kept-from_none at_q (child_places child) (places_of (n.value.pieces ++ half)) u.3.kept))
 
 pub putting::paths::put_inner-returns-clause-node : goal.putting::paths::put_inner-returns-clause-node
 putting::paths::put_inner-returns-clause-node g t c = let s = c.finish.ensures.shape in
@@ -632,15 +660,45 @@ OwnNode::put-returns-in-Leaf-clause-filled g t c =
     on_ok c.put_leaf.result c.put_leaf.ensures.leaf
     (λ leaf. filled_pairs c.put_leaf.new.keys.texts c.put_leaf.new.values.items leaf.1 leaf.2)
 
-pub OwnNode::put-returns-in-Leaf-clause-done : goal.OwnNode::put-returns-in-Leaf-clause-done
-OwnNode::put-returns-in-Leaf-clause-done g t c =
+pub OwnNode::put-returns-in-Leaf-clause-put : goal.OwnNode::put-returns-in-Leaf-clause-put
+OwnNode::put-returns-in-Leaf-clause-put g t c =
     let p = g.C.Chunks.contents c.args.chunks.now in
-    if_ok_so c.put_leaf.result c.put_leaf.ensures.rows (λ half rows. ap (shown p) rows
-    ∙ shown-rows p (finite.put (slice_cmp nat_cmp) c.args.put.key.now c.args.put.value.now
-    (paired c.self.inside.keys.texts c.in-Leaf.values.items))
-    ∙ ap (λ z. Some (finite.put (slice_cmp nat_cmp) c.args.put.key.now c.args.put.value.now (rows_or z)))
-    (sym (leaf_rows p c.self.inside.depth c.self.inside.keys.texts c.self.inside.body c.in-Leaf.values
-    c.args.self.now.pieces (ap (λ (s : Seen). s.pieces) c.self.view_is) c.in-Leaf.is)))
+    let depth = c.self.inside.depth in
+    let keys = c.self.inside.keys.texts in
+    let body = c.self.inside.body in
+    let values = c.in-Leaf.values in
+    let key = c.args.put.key.now in
+    let view = ap (λ (s : Seen). s.pieces) c.self.view_is in
+    let rows = paired keys values.items in
+    let new = row_pieces (paired c.put_leaf.new.keys.texts c.put_leaf.new.values.items) in
+    let was = leaf_rows p depth keys body values c.args.self.now.pieces view c.in-Leaf.is in
+    let pieces_are : c.args.self.now.pieces ≡ row_pieces rows = sym view ∙ ap (body_pieces depth keys) c.in-Leaf.is in
+    let n = leaf_counts depth keys body values c.in-Leaf.is c.self.invariant in
+    if_ok_so c.put_leaf.result c.put_leaf.ensures.put (λ half put.
+    let u = rows_put p key put.0 rows c.args.self.now.pieces new half pieces_are put.2 in (
+      put.0,
+      subst (λ z. Makes (λ f there made. g.F.FnOnce.post f (there, tt) made) c.args.change (value_in z key)
+          (Ok (Puts put.0))) (sym was) put.1,
+      record {
+        shown_is = u.0;
+        others = u.1;
+        renewed = λ there.
+            let r = put.3 (subst (λ z. IsSome (value_in z key)) was there) in (
+              λ same. r.0 (ap (λ z. value_in z key) (sym was) ∙ same),
+              r.2,
+              omega (
+                arith,
+                n.0,
+                n.1,
+                ap (λ (s : Seen). s.depth) c.self.view_is,
+                ap (λ (s : Seen). s.fresh) c.self.view_is,
+              ),
+              subst (λ ks. RenewedLater p (seen_levels c.args.self.now) (λ q. levels_of q (own 0 (leaf_keys ks) ∷ [])))
+                  (sym r.1) (leaf_kept-levels p depth keys body values c.args.self.now (ap (λ (s : Seen). s.marks)
+                  c.self.view_is) c.in-Leaf.is),
+            );
+      },
+    ))
 
 pub OwnNode::put-returns-in-Leaf-clause-half : goal.OwnNode::put-returns-in-Leaf-clause-half
 OwnNode::put-returns-in-Leaf-clause-half g t c =
@@ -672,22 +730,26 @@ pub OwnNode::put-returns-in-Leaf-clause-places : goal.OwnNode::put-returns-in-Le
 OwnNode::put-returns-in-Leaf-clause-places g t c =
     let at_p = g.C.Chunks.places c.args.chunks.now in
     let old = places_of c.args.self.now.pieces in
-    let rows = finite.put (slice_cmp nat_cmp) c.args.put.key.now c.args.put.value.now
+    if_ok_so c.put_leaf.result c.put_leaf.ensures.put
+    (λ half put.
+    let rows = finite.put (slice_cmp nat_cmp) c.args.put.key.now put.0
     (paired c.self.inside.keys.texts c.in-Leaf.values.items) in
-    if_ok_so c.put_leaf.result c.put_leaf.ensures.rows
-    (λ half is. subst (λ ps. AreKept at_p old (places_of ps)) (sym is)
+    subst (λ ps. AreKept at_p old (places_of ps)) (sym put.2)
     (subst (AreKept at_p old) (sym (places-rows rows)) (kept-none at_p old)))
 
 pub OwnNode::put-returns-in-Leaf-clause-unput : goal.OwnNode::put-returns-in-Leaf-clause-unput
 OwnNode::put-returns-in-Leaf-clause-unput g t c =
     let stops = g.C.Chunks.stops in
     let may_split = c.args.put.may_split in
-    let value = c.args.put.value.now in
+    let key = c.args.put.key.now in
     let was = leaf_rows (g.C.Chunks.contents c.args.chunks.now) c.self.inside.depth c.self.inside.keys.texts
     c.self.inside.body c.in-Leaf.values c.args.self.now.pieces (ap (λ (s : Seen). s.pieces) c.self.view_is)
     c.in-Leaf.is in
-    subst (λ z. IfErr c.put_leaf.result (IsUnput stops may_split (value_in z c.args.put.key.now) value)) (sym was)
-    (unput_anyhow stops may_split _ value c.put_leaf.result c.put_leaf.ensures.unput)
+    subst (λ z. IfErr c.put_leaf.result (IsUnput (λ made. Makes (λ f there m. g.F.FnOnce.post f (there, tt) m)
+    c.args.change (value_in z key) made) stops may_split (value_in z key))) (sym was)
+    (unput_anyhow (λ made. Makes (λ f there m. g.F.FnOnce.post f (there, tt) m) c.args.change
+    (finite.find (slice_cmp nat_cmp) key (paired c.self.inside.keys.texts c.in-Leaf.values.items)) made) stops
+    may_split _ c.put_leaf.result c.put_leaf.ensures.unput)
 
 pub OwnNode::put-put_inner-requires : goal.OwnNode::put-put_inner-requires
 OwnNode::put-put_inner-requires g t c κs within =
@@ -702,14 +764,17 @@ OwnNode::put-put_inner-requires g t c κs within =
       (
         within.0,
         (
-          within.1,
+          within.1.0,
           (
-            subst (λ ps. AreAll may (places_of ps)) (sym view) c.requires.places,
+            within.1.1,
             (
-              inner,
+              subst (λ ps. AreAll may (places_of ps)) (sym view) c.requires.places,
               (
-                subst (λ ps. IsTree (shown p ps)) (sym view) c.requires.tree,
-                omega (arith, here, c.requires.copies),
+                inner,
+                (
+                  subst (λ ps. IsTree (shown p ps)) (sym view) c.requires.tree,
+                  (omega (arith, here, c.requires.copies), c.requires.callable),
+                ),
               ),
             ),
           ),
@@ -717,14 +782,50 @@ OwnNode::put-put_inner-requires g t c κs within =
       ),
     )
 
-pub OwnNode::put-returns-in-Inner-clause-done : goal.OwnNode::put-returns-in-Inner-clause-done
-OwnNode::put-returns-in-Inner-clause-done g t c =
+pub OwnNode::put-returns-in-Inner-clause-put : goal.OwnNode::put-returns-in-Inner-clause-put
+OwnNode::put-returns-in-Inner-clause-put g t c =
     let p = g.C.Chunks.contents c.args.chunks.now in
-    let view = ap (body_pieces c.self.inside.depth c.self.inside.keys.texts) (sym c.in-Inner.is) ∙ ap
-    (λ (s : Seen). s.pieces) c.self.view_is in
-    if_ok_so c.put_inner.result c.put_inner.ensures.done
-    (λ half done. done ∙ ap (λ ps. Some (finite.put (slice_cmp nat_cmp) c.args.put.key.now c.args.put.value.now
-    (rows_or (shown p ps)))) view)
+    let q = g.C.Chunks.contents c.put_inner.new.chunks in
+    let depth = c.self.inside.depth in
+    let keys = c.self.inside.keys.texts in
+    let kids = c.in-Inner.kids.items in
+    let texts = c.put_inner.new.keys.texts in
+    let now = c.put_inner.new.kids.items in
+    let key = c.args.put.key.now in
+    let view = ap (body_pieces depth keys) (sym c.in-Inner.is) ∙ ap (λ (s : Seen). s.pieces) c.self.view_is in
+    let was = ap (body_marks depth keys) (sym c.in-Inner.is) ∙ ap (λ (s : Seen). s.marks) c.self.view_is in
+    let new = body_pieces depth texts (Inner c.put_inner.new.kids) in
+    let n = inner_counts depth keys c.self.inside.body c.in-Inner.kids c.in-Inner.is c.self.invariant in
+    if_ok_so c.put_inner.result c.put_inner.ensures.put (λ half put. (
+      put.0,
+      subst (λ ps. Makes (λ f there made. g.F.FnOnce.post f (there, tt) made) c.args.change
+          (value_in (shown p ps) key) (Ok (Puts put.0))) view put.1,
+      record {
+        shown_is = put.2.shown_is ∙ ap (λ ps. Some (finite.put (slice_cmp nat_cmp) key put.0
+            (rows_or (shown p ps)))) view;
+        others = subst (λ ps. ArePutAmong q key put.0 ps (new ++ half_pieces half)) view put.2.others;
+        renewed = λ there.
+            let u = put.2.renewed (subst (λ ps. IsSome (value_in (shown p ps) key)) (sym view) there) in (
+              λ same. u.0 (ap (λ ps. value_in (shown p ps) key) view ∙ same),
+              u.1,
+              omega (
+                arith,
+                u.2,
+                n.1,
+                ap (λ (s : Seen). s.depth) c.self.view_is,
+                ap (λ (s : Seen). s.fresh) c.self.view_is,
+              ),
+              λ later pre level. subst (λ ms. AreChanged IsRenewed (levels_of later ms level)
+                  (levels_of later (own 0 (parting texts) ∷ sunk (kids_marks (depth - 1) now)) level)) was
+                  (changed_as IsRenewed (topped (None, parting keys) (kids_levels (depth - 1) kids later) level)
+                  (topped (None, parting texts) (kids_levels (depth - 1) now later) level)
+                  (levels_of later (own 0 (parting keys) ∷ sunk (kids_marks (depth - 1) kids)) level)
+                  (levels_of later (own 0 (parting texts) ∷ sunk (kids_marks (depth - 1) now)) level)
+                  (inner-levels later (depth - 1) (parting keys) kids level)
+                  (inner-levels later (depth - 1) (parting texts) now level) (u.3 later pre level)),
+            );
+      },
+    ))
 
 pub OwnNode::put-returns-in-Inner-clause-half : goal.OwnNode::put-returns-in-Inner-clause-half
 OwnNode::put-returns-in-Inner-clause-half g t c = subst (λ d. IfOk c.put_inner.result (IsHalf c.args.put.copies d))
@@ -772,17 +873,30 @@ OwnNode::put-returns-in-Inner-clause-err g t c =
     (λ e. inner_same depth c.put_inner.new.keys.texts c.self.inside.keys.texts c.put_inner.new.kids.items
     c.in-Inner.kids.items e.0 e.1 ∙ ap seen (sym c.in-Inner.is) ∙ c.self.view_is)
 
-pub OwnNode::put_below-returns-clause-done : goal.OwnNode::put_below-returns-clause-done
-OwnNode::put_below-returns-clause-done g t c =
+pub OwnNode::put_below-returns-clause-put : goal.OwnNode::put_below-returns-clause-put
+OwnNode::put_below-returns-clause-put g t c =
     let p = g.C.Chunks.contents c.args.chunks.now in
     let q = g.C.Chunks.contents c.put.new.chunks in
-    let n = known (shown p c.args.self.now.pieces) c.requires.tree in
+    let r = g.C.Chunks.contents c.put_ready.new.chunks in
+    let key = c.args.put.key.now in
+    let value = c.in-Err-Full.value in
+    let old = c.args.self.now in
+    let new = c.put_ready.new.self in
+    let n = known (shown p old.pieces) c.requires.tree in
     let e = c.in-Err-Full.ensures.err in
-    let here = shown-kept p q c.args.self.now.pieces n.rows c.put.ensures.grown.0 n.is in
-    if_ok_so c.put_ready.result c.put_ready.ensures.done
-    (λ r done. done ∙ ap (λ z. Some (finite.put (slice_cmp nat_cmp) c.args.put.key.now c.args.put.value.now
-    (rows_or z)))
-    (ap (λ (s : Seen). shown q s.pieces) e ∙ here ∙ sym n.is))
+    let here = shown-kept p q old.pieces n.rows c.put.ensures.grown.0 n.is ∙ sym n.is in
+    let made = λ (r : Result Update Stop). Makes (λ f there m. g.F.FnOnce.post f (there, tt) m) c.args.change
+    (value_in (shown p old.pieces) key) r in
+    let full = subst (IsUnput made g.C.Chunks.stops false (value_in (shown p old.pieces) key)) c.in-Err-Full.field-0-is
+    c.in-Err-Full.ensures.unput in
+    if_ok_so c.put_ready.result c.put_ready.ensures.put (λ answer put. (
+      value,
+      full.2,
+      subst (λ z. IsOwnPut r key value z old.pieces new.pieces (old.fresh + old.depth) new.fresh (seen_levels old)
+          (seen_levels new) answer.1) here
+          (subst (λ (s : Seen). IsOwnPut r key value (shown q s.pieces) s.pieces new.pieces (s.fresh + s.depth)
+          new.fresh (seen_levels s) (seen_levels new) answer.1) e put),
+    ))
 
 pub OwnNode::put_below-returns-clause-half : goal.OwnNode::put_below-returns-clause-half
 OwnNode::put_below-returns-clause-half g t c = subst
@@ -810,7 +924,8 @@ pub OwnNode::put_below-returns-clause-lower : goal.OwnNode::put_below-returns-cl
 OwnNode::put_below-returns-clause-lower g t c =
     if_ok_so c.put_ready.result c.put_ready.ensures.lower
     (λ r is. subst (IsLower c.args.put.key.now (get_or c.args.keys.now.texts c.args.place []))
-    (sym is) c.in_ok-lower.ensures.lower)
+    (sym is) (subst (λ k. IsLower k (get_or c.args.keys.now.texts c.args.place []) c.in_ok-lower.lower)
+    c.as_str.ensures c.in_ok-lower.ensures.lower))
 
 pub OwnNode::put_below-returns-clause-ready : goal.OwnNode::put_below-returns-clause-ready
 OwnNode::put_below-returns-clause-ready g t c =
@@ -827,13 +942,17 @@ OwnNode::put_below-returns-clause-unput g t c =
     let p = g.C.Chunks.contents c.args.chunks.now in
     let q = g.C.Chunks.contents c.put.new.chunks in
     let key = c.args.put.key.now in
-    let value = c.args.put.value.now in
+    let value = c.in-Err-Full.value in
     let n = known (shown p c.args.self.now.pieces) c.requires.tree in
     let here = shown-kept p q c.args.self.now.pieces n.rows c.put.ensures.grown.0 n.is in
-    unput_split g.C.Chunks.stops c.args.put.may_split (value_in (shown p c.args.self.now.pieces) key) value
-    c.put_ready.result
-    (subst (λ z. IfErr c.put_ready.result (IsUnput g.C.Chunks.stops true (value_in z key) value))
-    (ap (λ (s : Seen). shown q s.pieces) c.in-Err-Full.ensures.err ∙ here ∙ sym n.is) c.put_ready.ensures.unput)
+    let found = value_in (shown p c.args.self.now.pieces) key in
+    let made = λ (r : Result Update Stop). Makes (λ f there m. g.F.FnOnce.post f (there, tt) m) c.args.change found r in
+    let full = subst (IsUnput made g.C.Chunks.stops false found) c.in-Err-Full.field-0-is
+    c.in-Err-Full.ensures.unput in
+    unput_split made g.C.Chunks.stops c.args.put.may_split found value c.put_ready.result full.2
+    (subst (λ z. IfErr c.put_ready.result (IsUnput (λ made. made ≡ Ok (Puts value)) g.C.Chunks.stops true
+    (value_in z key))) (ap (λ (s : Seen). shown q s.pieces) c.in-Err-Full.ensures.err ∙ here ∙ sym n.is)
+    c.put_ready.ensures.unput)
 
 pub OwnNode::put-returns-in-Leaf-clause-levels : goal.OwnNode::put-returns-in-Leaf-clause-levels
 OwnNode::put-returns-in-Leaf-clause-levels g t c =
@@ -874,200 +993,46 @@ OwnNode::put_below-returns-clause-levels g t c =
 
 -- WHAT GREW
 
-pub putting::paths::put_child-returns-in-Placed-clause-grown :
-    goal.putting::paths::put_child-returns-in-Placed-clause-grown
-putting::paths::put_child-returns-in-Placed-clause-grown g t c =
-    grows_on g.C.Chunks.contents g.C.Chunks.places _ _ _ c.copied_child.ensures.grown
-    c.put_below-in-Placed.ensures.grown
-
-pub putting::paths::put_child-returns-in_err-answer-in-Placed-clause-grown :
-    goal.putting::paths::put_child-returns-in_err-answer-in-Placed-clause-grown
-putting::paths::put_child-returns-in_err-answer-in-Placed-clause-grown g t c =
-    grows_on g.C.Chunks.contents g.C.Chunks.places _ _ _ c.copied_child.ensures.grown
-    c.put_below-in-Placed.ensures.grown
-
 pub OwnNode::put_below-returns-clause-grown : goal.OwnNode::put_below-returns-clause-grown
 OwnNode::put_below-returns-clause-grown g t c =
     grows_on g.C.Chunks.contents g.C.Chunks.places _ _ _ c.put.ensures.grown c.put_ready.ensures.grown
-
--- VALUES REPLACED
-
-pub putting::paths::put_inner-returns-clause-renewed : goal.putting::paths::put_inner-returns-clause-renewed
-putting::paths::put_inner-returns-clause-renewed g t c =
-    let p = g.C.Chunks.contents c.args.chunks.now in
-    let at : OwnChild = Placed (record { bits = 0 }) in
-    let i = c.place_of-place.result in
-    let depth = c.args.depth in
-    let keys = c.args.keys.now.texts in
-    let kids = c.args.kids.now.items in
-    let key = c.args.put.key.now in
-    let value = c.args.put.value.now in
-    let pieces = body_pieces depth keys (Inner c.args.kids.now) in
-    let x = node_at p depth keys (Inner c.args.kids.now) c.args.kids.now pieces c.as_slice.result.now key i at
-    refl refl c.requires.node c.as_slice.ensures
-    (subst (λ k. IsPlace k c.as_slice.result.now i) c.as_str.ensures c.place_of-place.ensures) c.requires.tree in
-    let q = g.C.Chunks.contents c.put_child.new.chunks in
-    let child = get_or kids i at in
-    let new = c.put_child.new.kids.items in
-    let half = c.in_ok-ready.half in
-    let lower = c.in_ok-ready.ready.lower in
-    let kk : c.reserve.new.self.items ≡ kids = c.reserve.ensures.items in
-    let low = c.lower_first.ensures.texts ∙ ap (lowered i lower) c.put_child.ensures.texts in
-    inner_replaced q depth keys c.finish.new.keys.texts kids new c.finish.new.kids.items key i child lower half
-    c.finish.result (value_in (shown p pieces) key) value c.requires.node.1.0 x.2.1.2 x.1 x.3
-    c.in_ok-ready.ensures.lower
-    (subst (λ f. ChildReplaced q f value (depth - 1) i kids new child half)
-    (value_below p depth keys kids pieces key i child x.0)
-    (subst (λ ks. ChildReplaced q (value_in (child_rows p (depth - 1) child) key) value (depth - 1) i ks new child half)
-    kk (c.in_ok-ready.ensures.renewed child (ap (λ w. slice_get w i) kk ∙ x.1))))
-    (subst (λ ks. IsHalved depth c.finish.new.keys.texts c.finish.new.kids.items c.finish.result
-    (keys_of (with_half i half (paired ks new))) (values_of (with_half i half (paired ks new)))) low
-    c.finish.ensures.parted) c.finish.ensures.whole
-
-pub putting::paths::put_child-returns-in-Own-clause-renewed :
-    goal.putting::paths::put_child-returns-in-Own-clause-renewed
-putting::paths::put_child-returns-in-Own-clause-renewed g t c x h =
-    let p = g.C.Chunks.contents c.args.chunks.now in
-    let q = g.C.Chunks.contents c.put_below.new.chunks in
-    let kids = c.args.kids.now.items in
-    let below = c.args.below in
-    let key = c.args.put.key.now in
-    let value = c.args.put.value.now in
-    let child = c.index_mut.result.now in
-    let r = c.requires.tree child (child_at kids c.args.place (length kids) child refl c.requires.within
-    c.index_mut.ensures.value) in
-    let d : c.in-Own.node.value.depth ≡ below = subst (HasDepth below) c.in-Own.is r.1 in
-    let new = c.put_below.new.self in
-    let e : x ≡ Own c.in-Own.node = indexed_child kids c.args.place child x c.requires.within c.index_mut.ensures.value
-    h ∙ c.in-Own.is in
-    if_ok_so c.put_below.result c.put_below.ensures.renewed (λ put renewed. (
-      with_value c.in-Own.node new,
-      refl,
-      subst (λ y. HasReplaced q (value_in (child_rows p below y) key) value (child_fresh y + below + 1) new.fresh
-          (child_levels below y) (seen_levels new) put.1) (sym e) (λ there.
-          let u = subst (λ (s : Seen). HasReplaced q (value_in (shown p s.pieces) key) value (s.fresh + s.depth)
-          new.fresh (seen_levels s) (seen_levels new) put.1) c.deref_mut.ensures.value renewed there in
-          (u.0, u.1, omega (arith, u.2, d), u.3)),
-    ))
-
-pub putting::paths::put_child-returns-in-Placed-clause-renewed :
-    goal.putting::paths::put_child-returns-in-Placed-clause-renewed
-putting::paths::put_child-returns-in-Placed-clause-renewed g t c x h =
-    let p = g.C.Chunks.contents c.args.chunks.now in
-    let q = g.C.Chunks.contents c.copied_child.new.chunks in
-    let r = g.C.Chunks.contents c.put_below-in-Placed.new.chunks in
-    let kids = c.args.kids.now.items in
-    let below = c.args.below in
-    let key = c.args.put.key.now in
-    let value = c.args.put.value.now in
-    let node = c.in_ok-node-in-Placed.node in
-    let new = c.put_below-in-Placed.new.self in
-    let half = c.in_ok-answer-in-Placed.answer.1 in
-    let e : x ≡ Placed c.in-Placed.at = indexed_child kids c.args.place c.index_mut.result.now x c.requires.within
-    c.index_mut.ensures.value h ∙ c.in-Placed.is in
-    let renewed = subst (λ z. HasReplaced r (value_in z key) value (node.value.fresh + node.value.depth) new.fresh
-    (seen_levels node.value) (seen_levels new) half) c.in_ok-node-in-Placed.ensures.rows
-    (subst (λ (s : Seen). HasReplaced r (value_in (shown q s.pieces) key) value (s.fresh + s.depth) new.fresh
-    (seen_levels s) (seen_levels new) half) c.deref_mut-in-Placed.ensures.value
-    c.in_ok-answer-in-Placed.ensures.renewed) in (
-      with_value node new,
-      set-set kids c.args.place (Placed c.in-Placed.at) (Own (with_value node new)),
-      subst (λ y. HasReplaced r (value_in (child_rows p below y) key) value (child_fresh y + below + 1) new.fresh
-          (child_levels below y) (seen_levels new) half) (sym e) (λ there.
-          let u = renewed there in (
-            u.0,
-            u.1,
-            omega (arith, u.2, c.in_ok-node-in-Placed.ensures.fresh, c.in_ok-node-in-Placed.ensures.depth),
-            λ later pre. changed_copy IsRenewed (λ keys. refl) (placed_levels later below (stamp_of c.in-Placed.at))
-                (seen_levels node.value later) (seen_levels new later)
-                (c.in_ok-node-in-Placed.ensures.levels later
-                (prefix_trans q r later c.put_below-in-Placed.ensures.grown.0 pre)) (u.3 later pre),
-          )),
-    )
-
-pub OwnNode::put-returns-in-Leaf-clause-renewed : goal.OwnNode::put-returns-in-Leaf-clause-renewed
-OwnNode::put-returns-in-Leaf-clause-renewed g t c =
-    let p = g.C.Chunks.contents c.args.chunks.now in
-    let depth = c.self.inside.depth in
-    let keys = c.self.inside.keys.texts in
-    let body = c.self.inside.body in
-    let values = c.in-Leaf.values in
-    let key = c.args.put.key.now in
-    let was = leaf_rows p depth keys body values c.args.self.now.pieces (ap (λ (s : Seen). s.pieces) c.self.view_is)
-    c.in-Leaf.is in
-    let n = leaf_counts depth keys body values c.in-Leaf.is c.self.invariant in
-    if_ok_so c.put_leaf.result c.put_leaf.ensures.renewed (λ half renewed there.
-    let u = renewed (subst (λ z. IsSome (value_in z key)) was there) in (
-      λ same. u.0 (ap (λ z. value_in z key) (sym was) ∙ same),
-      u.2,
-      omega (arith, n.0, n.1, ap (λ (s : Seen). s.depth) c.self.view_is, ap (λ (s : Seen). s.fresh) c.self.view_is),
-      subst (λ ks. RenewedLater p (seen_levels c.args.self.now) (λ q. levels_of q (own 0 (leaf_keys ks) ∷ [])))
-          (sym u.1) (leaf_kept-levels p depth keys body values c.args.self.now (ap (λ (s : Seen). s.marks)
-          c.self.view_is) c.in-Leaf.is),
-    ))
-
-pub OwnNode::put-returns-in-Inner-clause-renewed : goal.OwnNode::put-returns-in-Inner-clause-renewed
-OwnNode::put-returns-in-Inner-clause-renewed g t c =
-    let p = g.C.Chunks.contents c.args.chunks.now in
-    let depth = c.self.inside.depth in
-    let keys = c.self.inside.keys.texts in
-    let kids = c.in-Inner.kids.items in
-    let texts = c.put_inner.new.keys.texts in
-    let now = c.put_inner.new.kids.items in
-    let key = c.args.put.key.now in
-    let view = ap (body_pieces depth keys) (sym c.in-Inner.is) ∙ ap (λ (s : Seen). s.pieces) c.self.view_is in
-    let was = ap (body_marks depth keys) (sym c.in-Inner.is) ∙ ap (λ (s : Seen). s.marks) c.self.view_is in
-    let n = inner_counts depth keys c.self.inside.body c.in-Inner.kids c.in-Inner.is c.self.invariant in
-    if_ok_so c.put_inner.result c.put_inner.ensures.renewed (λ half renewed there.
-    let u = renewed (subst (λ ps. IsSome (value_in (shown p ps) key)) (sym view) there) in (
-      λ same. u.0 (ap (λ ps. value_in (shown p ps) key) view ∙ same),
-      u.1,
-      omega (arith, u.2, n.1, ap (λ (s : Seen). s.depth) c.self.view_is, ap (λ (s : Seen). s.fresh) c.self.view_is),
-      λ later pre level. subst (λ ms. AreChanged IsRenewed (levels_of later ms level)
-          (levels_of later (own 0 (parting texts) ∷ sunk (kids_marks (depth - 1) now)) level)) was
-          (changed_as IsRenewed (topped (None, parting keys) (kids_levels (depth - 1) kids later) level)
-          (topped (None, parting texts) (kids_levels (depth - 1) now later) level)
-          (levels_of later (own 0 (parting keys) ∷ sunk (kids_marks (depth - 1) kids)) level)
-          (levels_of later (own 0 (parting texts) ∷ sunk (kids_marks (depth - 1) now)) level)
-          (inner-levels later (depth - 1) (parting keys) kids level)
-          (inner-levels later (depth - 1) (parting texts) now level) (u.3 later pre level)),
-    ))
 
 -- WHY IT ISN'T PUT
 
 pub putting::paths::put_child-returns-in-Own-clause-unput : goal.putting::paths::put_child-returns-in-Own-clause-unput
 putting::paths::put_child-returns-in-Own-clause-unput g t c x h =
     let p = g.C.Chunks.contents c.args.chunks.now in
-    let stops = g.C.Chunks.stops in
-    let may_split = c.args.put.may_split in
     let key = c.args.put.key.now in
-    let value = c.args.put.value.now in
     let e : x ≡ Own c.in-Own.node = indexed_child c.args.kids.now.items c.args.place c.index_mut.result.now x
     c.requires.within c.index_mut.ensures.value h ∙ c.in-Own.is in
-    subst (λ y. IfErr c.put_below.result (IsUnput stops may_split (value_in (child_rows p c.args.below y) key) value))
-    (sym e) (subst (λ (s : Seen). IfErr c.put_below.result (IsUnput stops may_split (value_in (shown p s.pieces) key)
-    value)) c.deref_mut.ensures.value c.put_below.ensures.unput)
+    let unput = λ (z : Option Rows). IfErr c.put_below.result (IsUnput (λ made.
+    Makes (λ f there m. g.F.FnOnce.post f (there, tt) m) c.args.change (value_in z key) made) g.C.Chunks.stops
+    c.args.put.may_split (value_in z key)) in
+    subst (λ y. unput (child_rows p c.args.below y)) (sym e)
+    (subst (λ (s : Seen). unput (shown p s.pieces)) c.deref_mut.ensures.value c.put_below.ensures.unput)
 
-pub putting::paths::put_child-returns-in_err-answer-in-Placed-clause-unput :
-    goal.putting::paths::put_child-returns-in_err-answer-in-Placed-clause-unput
-putting::paths::put_child-returns-in_err-answer-in-Placed-clause-unput g t c x h =
+pub putting::paths::put_child-returns-in_err-ready-in-Placed-clause-unput :
+    goal.putting::paths::put_child-returns-in_err-ready-in-Placed-clause-unput
+putting::paths::put_child-returns-in_err-ready-in-Placed-clause-unput g t c x h =
     let p = g.C.Chunks.contents c.args.chunks.now in
-    let q = g.C.Chunks.contents c.copied_child.new.chunks in
-    let stops = g.C.Chunks.stops in
-    let may_split = c.args.put.may_split in
+    let kids = c.args.kids.now.items in
+    let below = c.args.below in
     let key = c.args.put.key.now in
-    let value = c.args.put.value.now in
-    let e : x ≡ Placed c.in-Placed.at = indexed_child c.args.kids.now.items c.args.place c.index_mut.result.now x
-    c.requires.within c.index_mut.ensures.value h ∙ c.in-Placed.is in
-    let there : shown q c.deref_mut-in-Placed.result.now.pieces ≡ child_rows p c.args.below x =
-    ap (λ (s : Seen). shown q s.pieces) c.deref_mut-in-Placed.ensures.value ∙ c.in_ok-node-in-Placed.ensures.rows
-    ∙ ap (child_rows p c.args.below) (sym e) in
-    let why = subst (λ z. IfErr c.put_below-in-Placed.result (IsUnput stops may_split (value_in z key) value)) there
-    c.put_below-in-Placed.ensures.unput in
-    handed_on c.from_residual-in_err-answer-in-Placed.result c.from_residual-in_err-answer-in-Placed.ensures.1
-    (λ w is. subst (IsUnput stops may_split (value_in (child_rows p c.args.below x) key) value) (sym is)
-    (subst (λ o. IfErr o (IsUnput stops may_split (value_in (child_rows p c.args.below x) key) value))
-    c.in_err-answer-in-Placed.was why))
+    let child = c.index_mut.result.now in
+    let k = stamp_of c.in-Placed.at in
+    let e : x ≡ Placed c.in-Placed.at = indexed_child kids c.args.place child x c.requires.within
+    c.index_mut.ensures.value h ∙ c.in-Placed.is in
+    let r = c.requires.tree child (child_at kids c.args.place
+    (length kids) child refl c.requires.within c.index_mut.ensures.value) in
+    let tree : IsTree (rows_at p below k) = subst (λ y. IsTree (child_rows p below y)) c.in-Placed.is r.0 in
+    let there : chunk_rows p k ≡ child_rows p below x = rows_alone p below k tree ∙ ap (child_rows p below) (sym e) in
+    let unput = λ (z : Option Rows). IsUnput (λ made.
+    Makes (λ f there m. g.F.FnOnce.post f (there, tt) m) c.args.change (value_in z key) made) g.C.Chunks.stops
+    c.args.put.may_split (value_in z key) in
+    let why = subst (λ z. IfErr c.put_placed.result (unput z)) there c.put_placed.ensures.unput in
+    handed_on c.from_residual.result c.from_residual.ensures.1
+    (λ w is. subst (unput (child_rows p below x)) (sym is)
+    (subst (λ o. IfErr o (unput (child_rows p below x))) c.in_err-ready-in-Placed.was why))
 
 pub putting::paths::put_inner-returns-in_err-ready-clause-unput :
     goal.putting::paths::put_inner-returns-in_err-ready-clause-unput
@@ -1078,18 +1043,18 @@ putting::paths::put_inner-returns-in_err-ready-clause-unput g t c =
     let depth = c.args.depth in
     let keys = c.args.keys.now.texts in
     let kids = c.args.kids.now.items in
-    let stops = g.C.Chunks.stops in
-    let may_split = c.args.put.may_split in
     let key = c.args.put.key.now in
-    let value = c.args.put.value.now in
     let pieces = body_pieces depth keys (Inner c.args.kids.now) in
     let x = node_at p depth keys (Inner c.args.kids.now) c.args.kids.now pieces c.as_slice.result.now key i at
     refl refl c.requires.node c.as_slice.ensures
     (subst (λ k. IsPlace k c.as_slice.result.now i) c.as_str.ensures c.place_of-place.ensures) c.requires.tree in
     let child = get_or kids i at in
-    let why = subst (λ f. IfErr c.put_child.result (IsUnput stops may_split f value))
+    let unput = λ (found : Option Bytes). IsUnput (λ made.
+    Makes (λ f there m. g.F.FnOnce.post f (there, tt) m) c.args.change found made) g.C.Chunks.stops
+    c.args.put.may_split found in
+    let why = subst (λ f. IfErr c.put_child.result (unput f))
     (value_below p depth keys kids pieces key i child x.0)
     (c.put_child.ensures.unput child (ap (λ w. slice_get w i) c.reserve.ensures.items ∙ x.1)) in
     handed_on c.from_residual-in_err-ready.result c.from_residual-in_err-ready.ensures.1
-    (λ w is. subst (IsUnput stops may_split (value_in (shown p pieces) key) value) (sym is)
-    (subst (λ o. IfErr o (IsUnput stops may_split (value_in (shown p pieces) key) value)) c.in_err-ready.was why))
+    (λ w is. subst (unput (value_in (shown p pieces) key)) (sym is)
+    (subst (λ o. IfErr o (unput (value_in (shown p pieces) key))) c.in_err-ready.was why))

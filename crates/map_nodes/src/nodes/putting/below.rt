@@ -7,6 +7,7 @@ ghost use Rattle.map_nodes.specs.Inside.Ready.{IsReady};
 
 use super::super::OwnChild;
 use super::splits::{SplitBuffers, take_half_room};
+use super::{Half, Put};
 use group_history::Text;
 use map_chunks::entries::SpareChunk;
 use map_chunks::keys::NodeKeys;
@@ -36,6 +37,27 @@ impl PutBuffers {
         PutBuffers { lower, room }
     }
 
+    /// Where the child was changed already, and has this upper half.
+    pub(crate) fn of_child(
+        keys: &mut NodeKeys,
+        put: Put<'_>,
+        place: usize,
+        half: &Option<Half>,
+    ) -> Result<PutBuffers, AllocError>
+        requires place { IsPlace put.key.now keys.old.texts place }
+        ensures texts { keys.new.texts ≡ keys.old.texts }
+        ensures lowers { IfOk result (λ r. IsSome r.lower → 0 < keys.new.room) }
+        ensures lower { IfOk result (λ r. IsLower put.entry.key.now (slice_index_or keys.old.texts place []) r.lower) }
+        ensures ready { IfOk result (λ r. IsSome half.now
+            → IsReady put.entry.copies keys.old.texts keys.new.room place put.entry.key.now r.room) }
+    {
+        let lower = lower_key(keys, put.alloc, place, put.key.as_str())?;
+        match half {
+            None => Ok(PutBuffers::of_whole(put.alloc, lower)),
+            Some(_) => PutBuffers::of_split(keys, put.alloc, place, put.key, lower, put.copies),
+        }
+    }
+
     /// Where the child is split. The keys become the chunk's own.
     pub(crate) fn of_split(
         keys: &mut NodeKeys,
@@ -62,7 +84,7 @@ pub(crate) fn lower_key(
     keys: &mut NodeKeys,
     alloc: Global,
     place: usize,
-    key: &Text,
+    key: &str,
 ) -> Result<Option<Text>, AllocError>
     requires { IsPlace key.now keys.old.texts place }
     ensures texts { keys.new.texts ≡ keys.old.texts }
@@ -72,8 +94,8 @@ pub(crate) fn lower_key(
     if place > 0 {
         return Ok(None);
     }
-    if keys.as_slice()[place].as_str().cmp(key.as_str()).is_gt() {
-        let lower = key.clone()?;
+    if keys.as_slice()[place].as_str().cmp(key).is_gt() {
+        let lower = Text::new(alloc, key)?;
         keys.make_room(alloc)?;
         return Ok(Some(lower));
     }

@@ -1,12 +1,15 @@
 //! A row put in a leaf.
-ghost use Rattle.std.specs.Prelude.{◌≡◌, ℕ, ◌<◌, ◌≤◌, ◌++◌, false, length, replicate, None, IfOk, IfErr, OnOk, OnErr};
-ghost use Rattle.std.specs.Prelude.{vec_items, vec_len, vec_capacity};
+ghost use Rattle.std.specs.Prelude.{◌≡◌, ℕ, ◌<◌, ◌≤◌, ◌++◌, false, List, length, replicate, Ok, None, IfOk, IfErr, OnOk};
+ghost use Rattle.std.specs.Prelude.{OnErr, option_copied, vec_items, vec_len, vec_capacity};
 ghost use Rattle.std.specs.Ordering.{nat_cmp};
 ghost use Rattle.std.specs.Cmp.Lexicographic.{slice_cmp};
 ghost use Rattle.std.specs.FinMap as finite;
+ghost use Rattle.group_history.specs.Map.{Bytes};
 ghost use Rattle.group_history.specs.Rows.{AreKeys, paired};
+ghost use Rattle.group_history.specs.declared.mutators.Update.TheVariants.{Put as Puts};
+ghost use Rattle.map_nodes.specs.Changes.{CanMake, Makes};
 ghost use Rattle.map_nodes.specs.Nodes.{row_pieces};
-ghost use Rattle.map_chunks.specs.Search.{IsAbsent};
+ghost use Rattle.map_chunks.specs.Search.{IsAbsent, IsFound};
 ghost use Rattle.map_nodes.specs.Inside.Halves.{half_pieces, IsHalf, AreNinth};
 ghost use Rattle.map_nodes.specs.Inside.Counts.{half_fresh, HasKept};
 ghost use Rattle.map_nodes.specs.Inside.Ready.{HasRoom};
@@ -17,7 +20,8 @@ use super::super::homes::housed;
 use super::super::{Body, OwnNode};
 use super::splits::{SplitBuffers, take_half_room};
 use super::{Half, Put, PutRefused};
-use group_history::{Json, Text};
+use crate::changes::Change;
+use group_history::{Json, Stop, Text, Update};
 use map_chunks::entries::{MOST, insert_entry, make_room};
 use map_chunks::keys::NodeKeys;
 use map_chunks::search::search;
@@ -53,16 +57,69 @@ pub(crate) fn ninth_copies(
     copies_of(alloc, &keys[ninth], count)
 }
 
-/// Puts a row in a leaf's, unless its value is there already, or they would be split and may not be.
-pub(crate) fn put_leaf(
+/// Puts what a change makes of the value at a key in a leaf's rows, unless it is there already, or they would be split
+/// and may not be.
+pub(crate) fn put_leaf<F: FnOnce(Option<Json>) -> Result<Update, Stop>>(
     keys: &mut NodeKeys,
     values: &mut Vec<Json>,
     put: Put<'_>,
+    change: Change<F>,
 ) -> Result<Option<Half>, PutRefused>
     requires keys { AreKeys keys.old.texts }
     requires pairs { length values.old.items ≡ length keys.old.texts }
+    requires callable { CanMake (λ f. F.IsAlwaysCallable f) change }
+    ensures put { IfOk result (λ half. (v : Bytes) × Makes (λ f x r. F.post f x r) change (finite.find
+        (slice_cmp nat_cmp) put.entry.key.now (paired keys.old.texts values.old.items)) (Ok (Puts v))
+        × (row_pieces (paired keys.new.texts values.new.items) ++ half_pieces half
+        ≡ row_pieces (finite.put (slice_cmp nat_cmp) put.entry.key.now v (paired keys.old.texts values.old.items)))
+        × HasReplacedRow (finite.find (slice_cmp nat_cmp) put.entry.key.now (paired keys.old.texts values.old.items)) v
+        keys.old.texts keys.new.texts half) }
+    ensures half { IfOk result (IsHalf put.entry.copies 1) }
+    ensures leaf { OnOk result (AreKeys keys.new.texts × (length values.new.items ≡ length keys.new.texts)
+        × (0 < length keys.new.texts)) }
+    ensures fresh { IfOk result (λ half. half_fresh half ≤ 1) }
+    ensures entries { IfOk result (HasKept (length keys.old.texts) (length keys.new.texts)) }
+    ensures keys { IfOk result (IsLeafPut keys.old.texts keys.new.texts) }
+    ensures whole { put.entry.may_split ≡ false → IfOk result (λ half. half ≡ None) }
+    ensures err { OnErr result ((keys.new.texts ≡ keys.old.texts) × (values.new.items ≡ values.old.items)) }
+    ensures unput { IfErr result (IsUnput (λ made. Makes (λ f x r. F.post f x r) change (finite.find (slice_cmp nat_cmp)
+        put.entry.key.now (paired keys.old.texts values.old.items)) made) (λ _. ⊥) put.entry.may_split (finite.find
+        (slice_cmp nat_cmp) put.entry.key.now (paired keys.old.texts values.old.items))) }
+{
+    let found = search(keys.as_slice(), put.key.as_str());
+    match change.of(value_found(values, &found))? {
+        Update::Put(value) => put_row(keys, values, found, put, value),
+        Update::Refuse(code) => Err(PutRefused::Refused(code)),
+    }
+}
+
+/// The value at a place where a key was found, if it was.
+pub(crate) fn value_found<'a>(values: &'a [Json], found: &Result<usize, usize>) -> Option<&'a Json>
+    requires { IfOk found.now (λ place. place < length values.now) }
+    ensures { (key : Bytes) (keys : List Bytes) → AreKeys keys → length values.now ≡ length keys
+        → IfOk found.now (IsFound key keys) → IfErr found.now (IsAbsent key keys)
+        → option_copied result ≡ finite.find (slice_cmp nat_cmp) key (paired keys values.now) }
+{
+    match found {
+        Ok(place) => Some(&values[*place]),
+        Err(_) => None,
+    }
+}
+
+// Puts a row whose key was found at a place of a leaf, or has its place before one.
+fn put_row(
+    keys: &mut NodeKeys,
+    values: &mut Vec<Json>,
+    found: Result<usize, usize>,
+    put: Put<'_>,
+    value: Json,
+) -> Result<Option<Half>, PutRefused>
+    requires keys { AreKeys keys.old.texts }
+    requires pairs { length values.old.items ≡ length keys.old.texts }
+    requires found { IfOk found (IsFound put.key.now keys.old.texts) }
+    requires absent { IfErr found (IsAbsent put.key.now keys.old.texts) }
     ensures rows { IfOk result (λ half. row_pieces (paired keys.new.texts values.new.items) ++ half_pieces half
-        ≡ row_pieces (finite.put (slice_cmp nat_cmp) put.entry.key.now put.entry.value.now
+        ≡ row_pieces (finite.put (slice_cmp nat_cmp) put.entry.key.now value
         (paired keys.old.texts values.old.items))) }
     ensures half { IfOk result (IsHalf put.entry.copies 1) }
     ensures leaf { OnOk result (AreKeys keys.new.texts × (length values.new.items ≡ length keys.new.texts)
@@ -72,31 +129,31 @@ pub(crate) fn put_leaf(
     ensures keys { IfOk result (IsLeafPut keys.old.texts keys.new.texts) }
     ensures whole { put.entry.may_split ≡ false → IfOk result (λ half. half ≡ None) }
     ensures renewed { IfOk result (HasReplacedRow (finite.find (slice_cmp nat_cmp) put.entry.key.now
-        (paired keys.old.texts values.old.items)) put.entry.value.now keys.old.texts keys.new.texts) }
+        (paired keys.old.texts values.old.items)) value keys.old.texts keys.new.texts) }
     ensures err { OnErr result ((keys.new.texts ≡ keys.old.texts) × (values.new.items ≡ values.old.items)) }
-    ensures unput { IfErr result (IsUnput (λ _. ⊥) put.entry.may_split (finite.find (slice_cmp nat_cmp)
-        put.entry.key.now (paired keys.old.texts values.old.items)) put.entry.value.now) }
+    ensures unput { IfErr result (IsUnput (λ made. made ≡ Ok (Puts value)) (λ _. ⊥) put.entry.may_split (finite.find
+        (slice_cmp nat_cmp) put.entry.key.now (paired keys.old.texts values.old.items))) }
 {
-    match search(keys.as_slice(), put.key.as_str()) {
+    match found {
         Ok(place) => {
-            if values[place] == *put.value {
+            if values[place] == value {
+                drop(value);
                 return Err(PutRefused::Same);
             }
-            values[place] = put.value.clone()?;
+            values[place] = value;
             return Ok(None);
         }
         Err(place) => {
             if !put.may_split && keys.as_slice().len() >= MOST {
-                return Err(PutRefused::Full);
+                return Err(PutRefused::Full(value));
             }
-            let value = put.value.clone()?;
             return Ok(insert_row(keys, values, place, put, value)?);
         }
     }
 }
 
-// Puts a row whose key is new before the one at the place.
-fn insert_row(
+/// Puts a row whose key is new before the one at the place.
+pub(crate) fn insert_row(
     keys: &mut NodeKeys,
     values: &mut Vec<Json>,
     place: usize,

@@ -1,59 +1,68 @@
 //! A put on its way down.
-ghost use Rattle.std.specs.Prelude.{◌≡◌, ◌<◌, ◌≤◌, ◌+◌, ◌*◌, ◌^◌, ◌++◌, [], false, true, length, slice_get};
-ghost use Rattle.std.specs.Prelude.{slice_index_or, Some, None, IsSome, IfOk, IfErr, OnOk, OnErr, vec_items, vec_len};
-ghost use Rattle.std.specs.Prelude.{vec_capacity};
-ghost use Rattle.std.specs.Ordering.{nat_cmp};
-ghost use Rattle.std.specs.Cmp.Lexicographic.{slice_cmp};
-ghost use Rattle.std.specs.FinMap as finite;
+ghost use Rattle.std.specs.Prelude.{◌≡◌, ℕ, ◌<◌, ◌≤◌, ◌+◌, ◌*◌, ◌^◌, ◌++◌, [], false, true, length, slice_get};
+ghost use Rattle.std.specs.Prelude.{slice_index_or, Ok, Some, None, IsSome, IfOk, IfErr, OnOk, OnErr, vec_items};
+ghost use Rattle.std.specs.Prelude.{vec_len, vec_capacity};
 ghost use mathlib.Core.List.{IsPrefix};
+ghost use Rattle.group_history.specs.Map.{Bytes};
+ghost use Rattle.group_history.specs.Refs.{stamp_of};
 ghost use Rattle.group_history.specs.Spelling.{Contents};
+ghost use Rattle.group_history.specs.declared.mutators.Update.TheVariants.{Put as Puts};
+ghost use Rattle.map_chunks.specs.Seeking.{chunk_depth};
 ghost use Rattle.map_chunks.specs.Places.{Grows, AreAll, AreKept, places_of};
 ghost use Rattle.map_nodes.specs.Inside.Freezing.{kids_places};
 ghost use Rattle.map_chunks.specs.Search.{IsPlace};
-ghost use Rattle.map_chunks.specs.Shown.{shown, IsTree, rows_or};
+ghost use Rattle.map_chunks.specs.Shown.{chunk_rows, shown, IsTree, rows_or};
+ghost use Rattle.map_nodes.specs.Changes.{CanMake, Makes};
 ghost use Rattle.map_nodes.specs.Nodes.{IsNode, body_levels, body_pieces, body_fresh, kids_fresh};
 ghost use Rattle.map_nodes.specs.Inside.Nodes.{child_rows};
-ghost use Rattle.map_nodes.specs.Inside.Halves.{half_pieces, IsHalf, ChildPut, IsLower, HasDepth};
+ghost use Rattle.map_nodes.specs.Inside.Halves.{half_pieces, IsHalf, IsLower, HasDepth};
+ghost use Rattle.map_nodes.specs.Inside.Laying.{IsMade};
 ghost use Rattle.map_nodes.specs.Inside.Ready.{IsReady};
 ghost use Rattle.map_nodes.specs.Inside.Counts.{half_fresh, HasKept};
-ghost use Rattle.map_nodes.specs.Inside.Puts.{half_levels, value_in, ChildHalvesPut, ChildReplaced, HalvesPut};
-ghost use Rattle.map_nodes.specs.Inside.Puts.{HasReplaced};
+ghost use Rattle.map_nodes.specs.Inside.Puts.{half_levels, value_in, ChildHalvesPut, HalvesPut, IsChildPut, IsOwnPut};
 ghost use Rattle.map_nodes.specs.Inside.Unput.{IsUnput};
 ghost use Rattle.map_nodes.specs.Levels.{seen_levels, ArePut};
 ghost use Rattle.map_nodes.specs.declared.nodes.Body.TheVariants as body;
 ghost use Rattle.map_nodes.specs.declared.nodes.OwnChild.{OwnChild as Childs};
 
-use super::super::{Body, OwnChild, OwnNode};
+use super::super::{Body, Down, Laying, OwnChild, OwnNode, Reached, change_at};
 use super::below::{PutBuffers, lower_key};
 use super::leaves::put_leaf;
 use super::middles::{finish, lower_first};
 use super::{Half, Put, PutRefused};
-use group_history::Text;
+use crate::changes::Change;
+use group_history::{Json, Ref, SearchKey, Stop, Text, Update};
 use map_chunks::Chunks;
 use map_chunks::entries::MOST;
-use map_chunks::keys::{NodeKeys, ROOM};
+use map_chunks::keys::NodeKeys;
 use map_chunks::search::place_of;
 
 // Puts a row below a chunk with these keys and children, and splits them where they are 17 then.
 #[cycle(put)]
-fn put_inner<C: Chunks>(
+fn put_inner<C: Chunks, F: FnOnce(Option<Json>) -> Result<Update, Stop>>(
     keys: &mut NodeKeys,
     kids: &mut Vec<OwnChild>,
     depth: u64,
     chunks: &mut C,
     put: Put<'_>,
+    change: Change<F>,
 ) -> Result<Option<Half>, PutRefused>
     requires places { AreAll (C.places chunks.old)
         (places_of (body_pieces depth keys.old.texts (body.Inner kids.old))) }
     requires node { IsNode depth keys.old.texts (body.Inner kids.old) }
     requires tree { IsTree (shown (C.contents chunks.old) (body_pieces depth keys.old.texts (body.Inner kids.old))) }
     requires copies { put.copies + depth < 2 ^ 64 }
+    requires callable { CanMake (λ f. F.IsAlwaysCallable f) change }
     ensures grown { Grows C.contents C.places chunks.old chunks.new }
     ensures node { IsNode depth keys.new.texts (body.Inner kids.new) }
-    ensures done { IfOk result (λ half. shown (C.contents chunks.new)
-        (body_pieces depth keys.new.texts (body.Inner kids.new) ++ half_pieces half)
-        ≡ Some (finite.put (slice_cmp nat_cmp) put.entry.key.now put.entry.value.now
-        (rows_or (shown (C.contents chunks.old) (body_pieces depth keys.old.texts (body.Inner kids.old)))))) }
+    ensures put { IfOk result (λ half. (v : Bytes) × Makes (λ f x r. F.post f x r) change (value_in
+        (shown (C.contents chunks.old) (body_pieces depth keys.old.texts (body.Inner kids.old))) put.entry.key.now)
+        (Ok (Puts v)) × IsOwnPut (C.contents chunks.new) put.entry.key.now v
+        (shown (C.contents chunks.old) (body_pieces depth keys.old.texts (body.Inner kids.old)))
+        (body_pieces depth keys.old.texts (body.Inner kids.old)) (body_pieces depth keys.new.texts (body.Inner kids.new))
+        (body_fresh (body.Inner kids.old) + depth) (body_fresh (body.Inner kids.new))
+        (body_levels depth keys.old.texts (body.Inner kids.old))
+        (body_levels depth keys.new.texts (body.Inner kids.new)) half) }
     ensures half { IfOk result (IsHalf put.entry.copies depth) }
     ensures places { IfOk result (λ half. AreKept (C.places chunks.new)
         (places_of (body_pieces depth keys.old.texts (body.Inner kids.old)))
@@ -67,30 +76,28 @@ fn put_inner<C: Chunks>(
         ++ half_levels half later level)) }
     ensures filled { OnOk result (0 < length (body_pieces depth keys.new.texts (body.Inner kids.new))) }
     ensures whole { put.entry.may_split ≡ false → IfOk result (λ half. half ≡ None) }
-    ensures renewed { IfOk result (HasReplaced (C.contents chunks.new) (value_in (shown (C.contents chunks.old)
-        (body_pieces depth keys.old.texts (body.Inner kids.old))) put.entry.key.now) put.entry.value.now
-        (body_fresh (body.Inner kids.old) + depth) (body_fresh (body.Inner kids.new))
-        (body_levels depth keys.old.texts (body.Inner kids.old))
-        (body_levels depth keys.new.texts (body.Inner kids.new))) }
     ensures err { OnErr result ((keys.new.texts ≡ keys.old.texts) × (kids.new.items ≡ kids.old.items)) }
-    ensures unput { IfErr result (IsUnput C.stops put.entry.may_split (value_in (shown (C.contents chunks.old)
-        (body_pieces depth keys.old.texts (body.Inner kids.old))) put.entry.key.now) put.entry.value.now) }
+    ensures unput { IfErr result (IsUnput (λ made. Makes (λ f x r. F.post f x r) change (value_in
+        (shown (C.contents chunks.old) (body_pieces depth keys.old.texts (body.Inner kids.old))) put.entry.key.now) made)
+        C.stops put.entry.may_split (value_in (shown (C.contents chunks.old)
+        (body_pieces depth keys.old.texts (body.Inner kids.old))) put.entry.key.now)) }
 {
     let place = place_of(keys.as_slice(), put.key.as_str());
     kids.reserve(1)?;
-    let (ready, half) = put_child(keys, kids, place, depth - 1, chunks, put)?;
+    let (ready, half) = put_child(keys, kids, place, depth - 1, chunks, put, change)?;
     lower_first(keys, place, ready.lower);
     Ok(finish(keys, kids, place, depth, ready.room, half))
 }
 
 #[cycle(put)]
-fn put_child<C: Chunks>(
+fn put_child<C: Chunks, F: FnOnce(Option<Json>) -> Result<Update, Stop>>(
     keys: &mut NodeKeys,
     kids: &mut Vec<OwnChild>,
     place: usize,
     below: u64,
     chunks: &mut C,
     put: Put<'_>,
+    change: Change<F>,
 ) -> Result<(PutBuffers, Option<Half>), PutRefused>
     requires places { AreAll (C.places chunks.old) (kids_places kids.old.items) }
     requires within { place < length kids.old.items }
@@ -98,11 +105,14 @@ fn put_child<C: Chunks>(
     requires copies { put.copies + 1 + below < 2 ^ 64 }
     requires tree { (c : Childs) → slice_get kids.old.items place ≡ Some c
         → IsTree (child_rows (C.contents chunks.old) below c) × HasDepth below c }
+    requires callable { CanMake (λ f. F.IsAlwaysCallable f) change }
     ensures grown { Grows C.contents C.places chunks.old chunks.new }
-    ensures done { (c : Childs) → slice_get kids.old.items place ≡ Some c
-        → IfOk result (λ r. ChildPut (C.contents chunks.new) (put.entry.copies + 1) below place kids.old.items
-        kids.new.items r.1 (Some (finite.put (slice_cmp nat_cmp) put.entry.key.now put.entry.value.now
-        (rows_or (child_rows (C.contents chunks.old) below c))))) }
+    ensures put { (c : Childs) → slice_get kids.old.items place ≡ Some c
+        → IfOk result (λ r. (v : Bytes) × Makes (λ f x r. F.post f x r) change
+        (value_in (child_rows (C.contents chunks.old) below c) put.entry.key.now) (Ok (Puts v))
+        × IsChildPut (C.contents chunks.new) (put.entry.copies + 1) below place
+        (slice_index_or keys.old.texts place []) put.entry.key.now v (child_rows (C.contents chunks.old) below c)
+        kids.old.items kids.new.items c r.1) }
     ensures fresh { IfOk result (λ r. kids_fresh kids.new.items + half_fresh r.1
         ≤ kids_fresh kids.old.items + 2 * below) }
     ensures levels { (c : Childs) → slice_get kids.old.items place ≡ Some c
@@ -116,22 +126,73 @@ fn put_child<C: Chunks>(
     ensures ready { IfOk result (λ r. IsSome r.1
         → IsReady put.entry.copies keys.old.texts keys.new.room place put.entry.key.now r.0.room) }
     ensures whole { put.entry.may_split ≡ false → 16 ≤ length keys.old.texts → IfOk result (λ r. r.1 ≡ None) }
-    ensures renewed { (c : Childs) → slice_get kids.old.items place ≡ Some c
-        → IfOk result (λ r. ChildReplaced (C.contents chunks.new) (value_in (child_rows (C.contents chunks.old) below c)
-        put.entry.key.now) put.entry.value.now below place kids.old.items kids.new.items c r.1) }
     ensures err { OnErr result (kids.new.items ≡ kids.old.items) }
     ensures unput { (c : Childs) → slice_get kids.old.items place ≡ Some c
-        → IfErr result (IsUnput C.stops put.entry.may_split (value_in (child_rows (C.contents chunks.old) below c)
-        put.entry.key.now) put.entry.value.now) }
+        → IfErr result (IsUnput (λ made. Makes (λ f x r. F.post f x r) change
+        (value_in (child_rows (C.contents chunks.old) below c) put.entry.key.now) made) C.stops put.entry.may_split
+        (value_in (child_rows (C.contents chunks.old) below c) put.entry.key.now)) }
 {
     match &mut kids[place] {
-        OwnChild::Own(node) => return node.put_below(keys, place, chunks, put),
+        OwnChild::Own(node) => return node.put_below(keys, place, chunks, put, change),
         OwnChild::Placed(at) => {
-            let mut node = OwnNode::copied_child(put.alloc, chunks, *at, below, ROOM)?;
-            let answer = node.put_below(keys, place, chunks, put)?;
+            let (ready, node, half) = put_placed(keys, place, *at, chunks, put, change)?;
             kids[place] = OwnChild::Own(node);
-            return Ok(answer);
+            return Ok((ready, half));
         }
+    }
+}
+
+// Puts a row below a placed child of a chunk with these keys: own chunks are made on the way up.
+fn put_placed<C: Chunks, F: FnOnce(Option<Json>) -> Result<Update, Stop>>(
+    keys: &mut NodeKeys,
+    place: usize,
+    at: Ref,
+    chunks: &mut C,
+    put: Put<'_>,
+    change: Change<F>,
+) -> Result<(PutBuffers, Box<OwnNode>, Option<Half>), PutRefused>
+    requires may { C.places chunks.old at }
+    requires tree { IsTree (chunk_rows (C.contents chunks.old) (stamp_of at)) }
+    requires place { IsPlace put.key.now keys.old.texts place }
+    requires copies { (d : ℕ) → chunk_depth (C.contents chunks.old) (stamp_of at) ≡ Some d
+        → put.copies + 1 + d < 2 ^ 64 }
+    requires callable { CanMake (λ f. F.IsAlwaysCallable f) change }
+    ensures grown { Grows C.contents C.places chunks.old chunks.new }
+    ensures put { (d : ℕ) → chunk_depth (C.contents chunks.old) (stamp_of at) ≡ Some d
+        → IfOk result (λ r. (v : Bytes) × Makes (λ f x r. F.post f x r) change
+        (value_in (chunk_rows (C.contents chunks.old) (stamp_of at)) put.entry.key.now) (Ok (Puts v))
+        × (value_in (chunk_rows (C.contents chunks.old) (stamp_of at)) put.entry.key.now ≡ Some v → ⊥)
+        × IsMade (C.contents chunks.new) (C.places chunks.new) (put.entry.copies + 1) (stamp_of at) d
+        (rows_or (chunk_rows (C.contents chunks.old) (stamp_of at))) put.entry.key.now v r.1.value r.2) }
+    ensures texts { keys.new.texts ≡ keys.old.texts }
+    ensures lowers { IfOk result (λ r. IsSome r.0.lower → 0 < keys.new.room) }
+    ensures lower { IfOk result (λ r. IsLower put.entry.key.now (slice_index_or keys.old.texts place []) r.0.lower) }
+    ensures ready { IfOk result (λ r. IsSome r.2
+        → IsReady put.entry.copies keys.old.texts keys.new.room place put.entry.key.now r.0.room) }
+    ensures whole { put.entry.may_split ≡ false → 16 ≤ length keys.old.texts → IfOk result (λ r. r.2 ≡ None) }
+    ensures unput { IfErr result (IsUnput (λ made. Makes (λ f x r. F.post f x r) change
+        (value_in (chunk_rows (C.contents chunks.old) (stamp_of at)) put.entry.key.now) made) C.stops put.entry.may_split
+        (value_in (chunk_rows (C.contents chunks.old) (stamp_of at)) put.entry.key.now)) }
+{
+    let searched = SearchKey::new(put.key.as_str());
+    let down = Down {
+        alloc: put.alloc,
+        key: put.key.as_str(),
+        searched: &searched,
+        copies: put.copies + 1,
+        may_split: put.may_split || keys.as_slice().len() < MOST,
+        as_trail: false,
+    };
+    let mut laying = Laying::new(put.alloc);
+    match change_at(chunks, at, &down, &mut laying, change)? {
+        Reached::Grown(node, half) => {
+            let ready = PutBuffers::of_child(keys, put, place, &half)?;
+            Ok((ready, node, half))
+        }
+        Reached::Same => Err(PutRefused::Same),
+        Reached::Refused(code) => Err(PutRefused::Refused(code)),
+        Reached::Full(value) => Err(PutRefused::Full(value)),
+        Reached::Laid => unreachable!(),
     }
 }
 
@@ -139,22 +200,26 @@ impl OwnNode {
     // Puts a row in a child of a chunk with these keys. What an upper half of the child needs is taken only
     // where the row can't be put without one.
     #[cycle(put)]
-    fn put_below<C: Chunks>(
+    fn put_below<C: Chunks, F: FnOnce(Option<Json>) -> Result<Update, Stop>>(
         &mut self,
         keys: &mut NodeKeys,
         place: usize,
         chunks: &mut C,
         put: Put<'_>,
+        change: Change<F>,
     ) -> Result<(PutBuffers, Option<Half>), PutRefused>
         requires places { AreAll (C.places chunks.old) (places_of self.old.pieces) }
         requires tree { IsTree (shown (C.contents chunks.old) self.old.pieces) }
         requires place { IsPlace put.key.now keys.old.texts place }
         requires copies { put.copies + 1 + self.old.depth < 2 ^ 64 }
+        requires callable { CanMake (λ f. F.IsAlwaysCallable f) change }
         ensures grown { Grows C.contents C.places chunks.old chunks.new }
         ensures depth { self.new.depth ≡ self.old.depth }
-        ensures done { IfOk result (λ r. shown (C.contents chunks.new) (self.new.pieces ++ half_pieces r.1)
-            ≡ Some (finite.put (slice_cmp nat_cmp) put.entry.key.now put.entry.value.now
-            (rows_or (shown (C.contents chunks.old) self.old.pieces)))) }
+        ensures put { IfOk result (λ r. (v : Bytes) × Makes (λ f x r. F.post f x r) change (value_in
+            (shown (C.contents chunks.old) self.old.pieces) put.entry.key.now) (Ok (Puts v))
+            × IsOwnPut (C.contents chunks.new) put.entry.key.now v (shown (C.contents chunks.old) self.old.pieces)
+            self.old.pieces self.new.pieces (self.old.fresh + self.old.depth) self.new.fresh (seen_levels self.old)
+            (seen_levels self.new) r.1) }
         ensures half { IfOk result (λ r. IsHalf (put.entry.copies + 1) self.old.depth r.1) }
         ensures places { IfOk result (λ r. AreKept (C.places chunks.new) (places_of self.old.pieces)
             (places_of (self.new.pieces ++ half_pieces r.1))) }
@@ -168,39 +233,38 @@ impl OwnNode {
         ensures ready { IfOk result (λ r. IsSome r.1
             → IsReady put.entry.copies keys.old.texts keys.new.room place put.entry.key.now r.0.room) }
         ensures whole { put.entry.may_split ≡ false → 16 ≤ length keys.old.texts → IfOk result (λ r. r.1 ≡ None) }
-        ensures renewed { IfOk result (λ r. HasReplaced (C.contents chunks.new)
-            (value_in (shown (C.contents chunks.old) self.old.pieces) put.entry.key.now) put.entry.value.now
-            (self.old.fresh + self.old.depth) self.new.fresh (seen_levels self.old) (seen_levels self.new) r.1) }
         ensures err { OnErr result (self.new ≡ self.old) }
-        ensures unput { IfErr result (IsUnput C.stops put.entry.may_split
-            (value_in (shown (C.contents chunks.old) self.old.pieces) put.entry.key.now) put.entry.value.now) }
+        ensures unput { IfErr result (IsUnput (λ made. Makes (λ f x r. F.post f x r) change
+            (value_in (shown (C.contents chunks.old) self.old.pieces) put.entry.key.now) made) C.stops
+            put.entry.may_split (value_in (shown (C.contents chunks.old) self.old.pieces) put.entry.key.now)) }
     {
-        let lower = lower_key(keys, put.alloc, place, put.key)?;
+        let lower = lower_key(keys, put.alloc, place, put.key.as_str())?;
         let whole = Put {
             copies: put.copies + 1,
             may_split: false,
             ..put
         };
-        match self.put(chunks, whole) {
+        let value = match self.put(chunks, whole, change) {
             Ok(half) => return Ok((PutBuffers::of_whole(put.alloc, lower), half)),
-            Err(PutRefused::Full) => {}
+            Err(PutRefused::Full(value)) => value,
             Err(refused) => return Err(refused),
-        }
+        };
         if !put.may_split && keys.as_slice().len() >= MOST {
-            return Err(PutRefused::Full);
+            return Err(PutRefused::Full(value));
         }
-        self.put_ready(keys, place, chunks, put, lower)
+        self.put_ready::<C, F>(keys, place, chunks, put, lower, value)
     }
 
     // Puts a row in a child of a chunk with these keys, once what an upper half of the child needs is taken.
     #[cycle(put)]
-    fn put_ready<C: Chunks>(
+    fn put_ready<C: Chunks, F: FnOnce(Option<Json>) -> Result<Update, Stop>>(
         &mut self,
         keys: &mut NodeKeys,
         place: usize,
         chunks: &mut C,
         put: Put<'_>,
         lower: Option<Text>,
+        value: Json,
     ) -> Result<(PutBuffers, Option<Half>), PutRefused>
         requires places { AreAll (C.places chunks.old) (places_of self.old.pieces) }
         requires tree { IsTree (shown (C.contents chunks.old) self.old.pieces) }
@@ -208,9 +272,9 @@ impl OwnNode {
         requires copies { put.copies + 1 + self.old.depth < 2 ^ 64 }
         ensures grown { Grows C.contents C.places chunks.old chunks.new }
         ensures depth { self.new.depth ≡ self.old.depth }
-        ensures done { IfOk result (λ r. shown (C.contents chunks.new) (self.new.pieces ++ half_pieces r.1)
-            ≡ Some (finite.put (slice_cmp nat_cmp) put.entry.key.now put.entry.value.now
-            (rows_or (shown (C.contents chunks.old) self.old.pieces)))) }
+        ensures put { IfOk result (λ r. IsOwnPut (C.contents chunks.new) put.entry.key.now value
+            (shown (C.contents chunks.old) self.old.pieces) self.old.pieces self.new.pieces
+            (self.old.fresh + self.old.depth) self.new.fresh (seen_levels self.old) (seen_levels self.new) r.1) }
         ensures half { IfOk result (λ r. IsHalf (put.entry.copies + 1) self.old.depth r.1) }
         ensures places { IfOk result (λ r. AreKept (C.places chunks.new) (places_of self.old.pieces)
             (places_of (self.new.pieces ++ half_pieces r.1))) }
@@ -221,12 +285,9 @@ impl OwnNode {
         ensures lower { IfOk result (λ r. r.0.lower ≡ lower) }
         ensures ready { IfOk result (λ r. IsReady put.entry.copies keys.old.texts keys.new.room place put.entry.key.now
             r.0.room) }
-        ensures renewed { IfOk result (λ r. HasReplaced (C.contents chunks.new)
-            (value_in (shown (C.contents chunks.old) self.old.pieces) put.entry.key.now) put.entry.value.now
-            (self.old.fresh + self.old.depth) self.new.fresh (seen_levels self.old) (seen_levels self.new) r.1) }
         ensures err { OnErr result (self.new ≡ self.old) }
-        ensures unput { IfErr result (IsUnput C.stops true
-            (value_in (shown (C.contents chunks.old) self.old.pieces) put.entry.key.now) put.entry.value.now) }
+        ensures unput { IfErr result (IsUnput (λ made. made ≡ Ok (Puts value)) C.stops true
+            (value_in (shown (C.contents chunks.old) self.old.pieces) put.entry.key.now)) }
     {
         let ready = PutBuffers::of_split(keys, put.alloc, place, put.key, lower, put.copies)?;
         let split = Put {
@@ -234,26 +295,30 @@ impl OwnNode {
             may_split: true,
             ..put
         };
-        let half = self.put(chunks, split)?;
+        let half = self.put(chunks, split, Change::<F>::Value(value))?;
         Ok((ready, half))
     }
 
     /// Puts a row. Answers the upper half where the chunk is split, with so many copies of its first key.
     /// Where it may not be split and would be, or has the row, it is as it was.
     #[cycle(put)]
-    pub(crate) fn put<C: Chunks>(
+    pub(crate) fn put<C: Chunks, F: FnOnce(Option<Json>) -> Result<Update, Stop>>(
         &mut self,
         chunks: &mut C,
         put: Put<'_>,
+        change: Change<F>,
     ) -> Result<Option<Half>, PutRefused>
         requires places { AreAll (C.places chunks.old) (places_of self.old.pieces) }
         requires tree { IsTree (shown (C.contents chunks.old) self.old.pieces) }
         requires copies { put.copies + self.old.depth < 2 ^ 64 }
+        requires callable { CanMake (λ f. F.IsAlwaysCallable f) change }
         ensures grown { Grows C.contents C.places chunks.old chunks.new }
         ensures depth { self.new.depth ≡ self.old.depth }
-        ensures done { IfOk result (λ half. shown (C.contents chunks.new) (self.new.pieces ++ half_pieces half)
-            ≡ Some (finite.put (slice_cmp nat_cmp) put.entry.key.now put.entry.value.now
-            (rows_or (shown (C.contents chunks.old) self.old.pieces)))) }
+        ensures put { IfOk result (λ half. (v : Bytes) × Makes (λ f x r. F.post f x r) change (value_in
+            (shown (C.contents chunks.old) self.old.pieces) put.entry.key.now) (Ok (Puts v))
+            × IsOwnPut (C.contents chunks.new) put.entry.key.now v (shown (C.contents chunks.old) self.old.pieces)
+            self.old.pieces self.new.pieces (self.old.fresh + self.old.depth) self.new.fresh (seen_levels self.old)
+            (seen_levels self.new) half) }
         ensures half { IfOk result (IsHalf put.entry.copies self.old.depth) }
         ensures places { IfOk result (λ half. AreKept (C.places chunks.new) (places_of self.old.pieces)
             (places_of (self.new.pieces ++ half_pieces half))) }
@@ -262,19 +327,17 @@ impl OwnNode {
         ensures levels { IfOk result (HalvesPut (C.contents chunks.new) self.old self.new) }
         ensures filled { OnOk result (0 < length self.new.pieces) }
         ensures whole { put.entry.may_split ≡ false → IfOk result (λ half. half ≡ None) }
-        ensures renewed { IfOk result (HasReplaced (C.contents chunks.new)
-            (value_in (shown (C.contents chunks.old) self.old.pieces) put.entry.key.now) put.entry.value.now
-            (self.old.fresh + self.old.depth) self.new.fresh (seen_levels self.old) (seen_levels self.new)) }
         ensures err { OnErr result (self.new ≡ self.old) }
-        ensures unput { IfErr result (IsUnput C.stops put.entry.may_split
-            (value_in (shown (C.contents chunks.old) self.old.pieces) put.entry.key.now) put.entry.value.now) }
+        ensures unput { IfErr result (IsUnput (λ made. Makes (λ f x r. F.post f x r) change
+            (value_in (shown (C.contents chunks.old) self.old.pieces) put.entry.key.now) made) C.stops
+            put.entry.may_split (value_in (shown (C.contents chunks.old) self.old.pieces) put.entry.key.now)) }
     {
         match &mut self.body {
             Body::Leaf(values) => {
-                return put_leaf(&mut self.keys, values, put);
+                return put_leaf(&mut self.keys, values, put, change);
             }
             Body::Inner(kids) => {
-                return put_inner(&mut self.keys, kids, self.depth, chunks, put);
+                return put_inner(&mut self.keys, kids, self.depth, chunks, put, change);
             }
         }
     }

@@ -1,23 +1,28 @@
 //! A put in a whole map: where its root is split, a new root stands above both halves.
 ghost use Rattle.std.specs.Prelude.{◌≡◌, ◌⊎◌, ◌<◌, ◌≤◌, ◌+◌, ◌*◌, ◌^◌, ◌++◌, [], ◌∷◌, length, Some, None, IsSome};
-ghost use Rattle.std.specs.Prelude.{IfOk, IfErr, OnOk, OnErr, T, vec_items, vec_len, vec_capacity};
+ghost use Rattle.std.specs.Prelude.{Ok, Err, IfOk, IfErr, OnOk, OnErr, T, vec_items, vec_len, vec_capacity};
 ghost use Rattle.std.specs.Ordering.{nat_cmp};
 ghost use Rattle.std.specs.Cmp.Lexicographic.{slice_cmp};
 ghost use Rattle.std.specs.FinMap as finite;
 ghost use Rattle.group_history.specs.declared.mutators.Stop.TheVariants.{NoMemory};
+ghost use Rattle.group_history.specs.declared.mutators.Update.{Update as Updates};
 ghost use Rattle.group_history.specs.Map.{Bytes};
+ghost use Rattle.group_history.specs.Spelling.{Contents};
 ghost use Rattle.map_chunks.specs.Places.{Grows, AreAll, AreKept, places_of};
 ghost use Rattle.map_chunks.specs.Shown.{own, child_keys, shown, IsTree, rows_or};
 ghost use Rattle.map_nodes.specs.Nodes.{HeadIs, sunk};
-ghost use Rattle.map_nodes.specs.Inside.Halves.{half_pieces, IsHalf, least, AreInOrder, HeadsBoth};
+ghost use Rattle.map_nodes.specs.Inside.Halves.{half_pieces, IsHalf, least, AreInOrder, HeadsBoth, IsTopped};
 ghost use Rattle.map_nodes.specs.Inside.Counts.{half_fresh, HasKept};
 ghost use Rattle.map_nodes.specs.Inside.Puts.{value_in, HalvesPut};
-ghost use Rattle.map_nodes.specs.Updating.{IsPutOn};
+ghost use Rattle.map_nodes.specs.Changes.{CanMake, Makes};
+ghost use Rattle.map_nodes.specs.Others.{ArePutAmong};
+ghost use Rattle.map_nodes.specs.Updating.{IsPutOn, IsPutOr};
 
 use super::super::homes::{housed, take_home};
 use super::super::{Body, OwnChild, OwnNode};
 use super::{Half, Put, PutRefused};
-use group_history::{Json, Stop, Text};
+use crate::changes::Change;
+use group_history::{Json, Ran, Stop, Text, Update};
 use map_chunks::Chunks;
 use map_chunks::entries::{MOST, SpareChunk, take_spare};
 use map_chunks::keys::NodeKeys;
@@ -60,6 +65,26 @@ fn take_above(alloc: Global, keys: &[Text], key: &Text) -> Result<Above, AllocEr
     Ok(Above { first, spare, home })
 }
 
+/// A map's root whose chunk was split, if it was: both halves stand below it.
+pub(crate) fn topped(
+    alloc: Global,
+    node: Box<OwnNode>,
+    half: Option<Half>,
+) -> Result<OwnNode, AllocError>
+    requires depth { node.value.depth + 1 < 2 ^ 64 }
+    requires half { IsHalf 1 node.value.depth half }
+    requires filled { 0 < length node.value.pieces }
+    requires order { (contents : Contents) × IsTree (shown contents (node.value.pieces ++ half_pieces half)) }
+    ensures { IfOk result (IsTopped node.value half) }
+{
+    let Some(half) = half else {
+        return Ok(Box::into_inner(node));
+    };
+    let first = node.keys.as_slice()[0].clone()?;
+    let spare = take_spare(alloc, MOST)?;
+    Ok(root_above(node, half, first, spare))
+}
+
 // A root above both halves, made in the room that was taken for it.
 fn root_above(lower: Box<OwnNode>, half: Half, first: Text, room: SpareChunk<OwnChild>) -> OwnNode
     requires depth { lower.value.depth + 1 < 2 ^ 64 }
@@ -96,22 +121,25 @@ fn root_above(lower: Box<OwnNode>, half: Half, first: Text, room: SpareChunk<Own
 }
 
 impl OwnNode {
-    /// Puts a row in the map whose root the chunk is. Where it is there already, the chunk is as it was. Only
-    /// where it can't be put otherwise, the root is split.
-    pub(crate) fn put_root<C: Chunks>(
+    /// Puts what a change makes of the value at a key in the map whose root the chunk is. Where it is there already, and
+    /// where the change refuses, the chunk is as it was. Only where it can't be put otherwise, the root is split.
+    pub(crate) fn put_root<C: Chunks, F: FnOnce(Option<Json>) -> Result<Update, Stop>>(
         &mut self,
         alloc: Global,
         chunks: &mut C,
         key: &Text,
-        value: &Json,
-    ) -> Result<(), Stop>
+        change: Change<F>,
+    ) -> Result<Ran, Stop>
         requires places { AreAll (C.places chunks.old) (places_of self.old.pieces) }
         requires tree { IsTree (shown (C.contents chunks.old) self.old.pieces) }
+        requires callable { CanMake (λ f. F.IsAlwaysCallable f) change }
         ensures grown { Grows C.contents C.places chunks.old chunks.new }
-        ensures put { OnOk result (IsPutOn (C.contents chunks.old) (C.contents chunks.new) (C.places chunks.new)
-            key.now value.now self.old self.new) }
+        ensures put { IfOk result (λ ran. (u : Updates) × Makes (λ f x r. F.post f x r) change (value_in
+            (shown (C.contents chunks.old) self.old.pieces) key.now) (Ok u) × IsPutOr (C.contents chunks.old)
+            (C.contents chunks.new) (C.places chunks.new) key.now self.old self.new u ran) }
         ensures err { OnErr result (self.new ≡ self.old) }
-        ensures stopped { IfErr result (λ s. (s ≡ NoMemory) ⊎ C.stops s) }
+        ensures stopped { IfErr result (λ s. (s ≡ NoMemory) ⊎ C.stops s ⊎ Makes (λ f x r. F.post f x r) change (value_in
+            (shown (C.contents chunks.old) self.old.pieces) key.now) (Err s)) }
     {
         // No memory holds a tree so deep.
         if self.depth == u64::MAX {
@@ -120,25 +148,28 @@ impl OwnNode {
         let put = Put {
             alloc,
             key,
-            value,
             copies: 1,
             may_split: false,
         };
-        match self.put(chunks, put) {
-            Ok(_) => return Ok(()),
-            Err(PutRefused::Same) => return Ok(()),
-            Err(PutRefused::Full) => return self.put_split(alloc, chunks, key, value),
+        match self.put(chunks, put, change) {
+            Ok(_) => return Ok(Ran::Done),
+            Err(PutRefused::Same) => return Ok(Ran::Done),
+            Err(PutRefused::Refused(code)) => return Ok(Ran::Refused(code)),
+            Err(PutRefused::Full(value)) => {
+                self.put_split::<C, F>(alloc, chunks, key, value)?;
+                return Ok(Ran::Done);
+            }
             Err(PutRefused::Stopped(stop)) => return Err(stop),
         }
     }
 
     // Puts a row whose key isn't there, where the root may be split.
-    fn put_split<C: Chunks>(
+    fn put_split<C: Chunks, F: FnOnce(Option<Json>) -> Result<Update, Stop>>(
         &mut self,
         alloc: Global,
         chunks: &mut C,
         key: &Text,
-        value: &Json,
+        value: Json,
     ) -> Result<(), Stop>
         requires places { AreAll (C.places chunks.old) (places_of self.old.pieces) }
         requires tree { IsTree (shown (C.contents chunks.old) self.old.pieces) }
@@ -146,12 +177,12 @@ impl OwnNode {
         requires absent { value_in (shown (C.contents chunks.old) self.old.pieces) key.now ≡ None }
         ensures grown { Grows C.contents C.places chunks.old chunks.new }
         ensures put { OnOk result (IsPutOn (C.contents chunks.old) (C.contents chunks.new) (C.places chunks.new)
-            key.now value.now self.old self.new) }
+            key.now value self.old self.new) }
         ensures err { OnErr result (self.new ≡ self.old) }
         ensures stopped { IfErr result (λ s. (s ≡ NoMemory) ⊎ C.stops s) }
     {
         let above = take_above(alloc, self.keys.as_slice(), key)?;
-        let Some(half) = self.put_anyway(alloc, chunks, key, value)? else {
+        let Some(half) = self.put_anyway::<C, F>(alloc, chunks, key, value)? else {
             drop(above);
             return Ok(());
         };
@@ -161,12 +192,12 @@ impl OwnNode {
 
     // Puts a row whose key isn't there in the chunk, which may be split: it stops only for want of memory, or as the
     // store does.
-    fn put_anyway<C: Chunks>(
+    fn put_anyway<C: Chunks, F: FnOnce(Option<Json>) -> Result<Update, Stop>>(
         &mut self,
         alloc: Global,
         chunks: &mut C,
         key: &Text,
-        value: &Json,
+        value: Json,
     ) -> Result<Option<Half>, Stop>
         requires places { AreAll (C.places chunks.old) (places_of self.old.pieces) }
         requires tree { IsTree (shown (C.contents chunks.old) self.old.pieces) }
@@ -175,8 +206,10 @@ impl OwnNode {
         ensures grown { Grows C.contents C.places chunks.old chunks.new }
         ensures depth { self.new.depth ≡ self.old.depth }
         ensures done { IfOk result (λ half. shown (C.contents chunks.new) (self.new.pieces ++ half_pieces half)
-            ≡ Some (finite.put (slice_cmp nat_cmp) key.now value.now
+            ≡ Some (finite.put (slice_cmp nat_cmp) key.now value
             (rows_or (shown (C.contents chunks.old) self.old.pieces)))) }
+        ensures others { IfOk result (λ half. ArePutAmong (C.contents chunks.new) key.now value self.old.pieces
+            (self.new.pieces ++ half_pieces half)) }
         ensures half { IfOk result (IsHalf 1 self.old.depth) }
         ensures places { IfOk result (λ half. AreKept (C.places chunks.new) (places_of self.old.pieces)
             (places_of (self.new.pieces ++ half_pieces half))) }
@@ -190,14 +223,13 @@ impl OwnNode {
         let put = Put {
             alloc,
             key,
-            value,
             copies: 1,
             may_split: true,
         };
-        match self.put(chunks, put) {
+        match self.put(chunks, put, Change::<F>::Value(value)) {
             Ok(half) => return Ok(half),
             Err(PutRefused::Stopped(stop)) => return Err(stop),
-            Err(PutRefused::Full | PutRefused::Same) => unreachable!(),
+            Err(PutRefused::Full(_) | PutRefused::Same | PutRefused::Refused(_)) => unreachable!(),
         }
     }
 

@@ -1,35 +1,46 @@
-//! A trail laid on the one way down to a key.
+//! The one way down from a placed chunk to a key.
 //!
 //! Each chunk on the way is held while the way goes on below it. What the change makes of the value is known at the
-//! leaf: only where that is another value, the chunks become new ones, on the way up.
-ghost use Rattle.std.specs.Prelude.{◌≡◌, ◌⊎◌, ◌++◌, ◌∷◌, ◌<◌, [], length, Ok, Err, Some, None};
+//! leaf: only where that is another value, the chunks become new ones, on the way up. They are a trail where one is
+//! asked for and no chunk is split, and own chunks otherwise. All chunks stay as they are until all new ones are made,
+//! so memory may be refused on the way up, too.
+ghost use Rattle.std.specs.Prelude.{◌≡◌, ◌⊎◌, ◌++◌, ◌∷◌, ◌+◌, ◌<◌, ◌^◌, [], ℕ, length, Ok, Err, Option, Some, None};
 ghost use Rattle.std.specs.Prelude.{IfOk, IfErr, OnOk, vec_items, slice_get, slice_index_or, reverse};
 ghost use Rattle.std.specs.Ordering.{nat_cmp};
 ghost use Rattle.std.specs.Cmp.Lexicographic.{slice_cmp};
+ghost use Rattle.std.specs.Arc.{arc_value};
 ghost use Rattle.std.specs.FinMap as finite;
 ghost use Rattle.group_history.specs.Map.{Bytes};
 ghost use Rattle.group_history.specs.Naming.{chunk_children, chunk_content};
 ghost use Rattle.group_history.specs.Refs.{stamps, stamp_of};
-ghost use Rattle.group_history.specs.Rows.{AreKeys, Rows, keys_of, values_of};
+ghost use Rattle.group_history.specs.Rows.{keys_of, values_of, AreKeys};
 ghost use Rattle.group_history.specs.declared.mutators.Stop.TheVariants.{NoMemory};
 ghost use Rattle.group_history.specs.declared.mutators.Update.{Update as Updates};
+ghost use Rattle.group_history.specs.declared.mutators.Update.TheVariants.{Put as Puts};
 ghost use Rattle.map_chunks.specs.Places.{Grows, AreAll};
-ghost use Rattle.map_chunks.specs.Search.{IsFound, IsPlace};
+ghost use Rattle.map_chunks.specs.Search.{IsAbsent, IsFound, IsPlace};
 ghost use Rattle.map_chunks.specs.Seeking.{chunk_depth};
 ghost use Rattle.map_chunks.specs.Shown.{chunk_rows, rows_or, IsTree};
-ghost use Rattle.map_nodes.specs.Inside.Laying.{IsPutEnd, IsCopiedStep, IsLeafEnd, IsPlaceIn, IsReached};
-ghost use Rattle.map_nodes.specs.Inside.Laying.{IsStepped, IsLow};
-ghost use Rattle.map_nodes.specs.Trails.{trail_seen, IsTrail};
+ghost use Rattle.map_nodes.specs.Changes.{CanMake, Makes};
+ghost use Rattle.map_nodes.specs.Inside.Halves.{lowered, IsLower};
+ghost use Rattle.map_nodes.specs.Inside.Laying.{IsPutEnd, IsCopiedStep, IsLeafEnd, IsReached, CanStep, IsStepped};
+ghost use Rattle.map_nodes.specs.Trails.{leaf_seen, trail_seen, IsEnd, IsTrail};
 ghost use Rattle.map_nodes.specs.declared.nodes.trails.End.{End as Ends};
-ghost use Rattle.map_nodes.specs.declared.nodes.trails.Step.{Step as Steps};
-ghost use Rattle.map_nodes.specs.declared.nodes.trails.laying.Laying.{Laying as Layings};
 
+use super::super::OwnNode;
 use super::super::copies::copied_values;
+use super::super::growing::{Down, grown_over, grown_rows};
+use super::super::homes::boxed;
+use super::super::putting::{Half, value_found};
 use super::{End, Step, Trail};
-use group_history::{Chunk, Inner, Json, Leaf, Ref, STAMPS, SearchKey, Stop, Update};
+use crate::changes::Change;
+use group_history::{Chunk, Inner, Json, Keys, Leaf, Ref, STAMPS, Stop, Text, Update};
+use map_chunks::entries::MOST;
+use map_chunks::keys::NodeKeys;
 use map_chunks::search::{place_for, search_for};
 use map_chunks::{Chunks, ShowsChunk};
 use std::alloc::{AllocError, Global};
+use std::sync::Arc;
 
 /// New chunks on the way up, where there are any: a leaf, and those above it, the lowest first. They are written where
 /// they stay, since each level would move them once more.
@@ -58,6 +69,27 @@ impl Laying {
     }
 }
 
+impl End {
+    // The rows of a leaf, with another value at a place.
+    fn replaced(alloc: Global, leaf: &Leaf, place: usize, value: Json) -> Result<End, AllocError>
+        requires within { place < length leaf.now }
+        ensures { (key : Bytes) → IsFound key (keys_of leaf.now) place → IfOk result (IsPutEnd leaf.now key value) }
+    {
+        let keys = leaf.keys().clone()?;
+        let mut values = copied_values(alloc, leaf.values(), 0)?;
+        values[place] = value;
+        Ok(End { keys, values })
+    }
+
+    // The same leaf as an own chunk.
+    fn into_node(self) -> OwnNode
+        requires { IsEnd self }
+        ensures { result ≡ leaf_seen self }
+    {
+        OwnNode::of_rows(NodeKeys::shared(self.keys), self.values)
+    }
+}
+
 /// What a way down to a key ends in.
 #[derive(Drop)]
 pub(crate) enum Reached {
@@ -65,119 +97,133 @@ pub(crate) enum Reached {
     Same,
     /// The change refuses, with a code.
     Refused(u32),
-    /// The key isn't there. This value is to be put, in a tree that is so deep.
-    Fresh(Json, u64),
-    /// The key has another value, in new chunks.
+    /// The key isn't there, and the topmost chunk would be split for this value, and may not be.
+    Full(Json),
+    /// The value is put in a trail.
     Laid,
+    /// The value is put in own chunks: the topmost one, and its upper half where that was split.
+    Grown(Box<OwnNode>, Option<Half>),
 }
 
-// The rows of a leaf, with another value at a place.
-fn put_end(alloc: Global, leaf: &Leaf, place: usize, value: Json) -> Result<End, AllocError>
-    requires within { place < length leaf.now }
-    ensures { (key : Bytes) → IsFound key (keys_of leaf.now) place → IfOk result (IsPutEnd leaf.now key value) }
-{
-    let keys = leaf.keys().clone()?;
-    let mut values = copied_values(alloc, leaf.values(), 0)?;
-    values[place] = value;
-    Ok(End { keys, values })
-}
-
-// What becomes of the value at a place of a leaf.
+// What becomes of a leaf that has another value at a place.
 fn put_found(
-    alloc: Global,
     leaf: &Leaf,
     place: usize,
-    above: usize,
-    update: Update,
+    down: &Down<'_>,
+    value: Json,
     laying: &mut Laying,
 ) -> Result<Reached, AllocError>
     requires within { place < length leaf.now }
-    requires keys { AreKeys (keys_of leaf.now) }
     ensures { (key : Bytes) → IsFound key (keys_of leaf.now) place
-        → IfOk result (λ r. IsLeafEnd leaf.now key update r laying.new) }
+        → IfOk result (λ r. IsLeafEnd down.now.copies down.now.may_split down.now.as_trail leaf.now key
+        (Puts value) r laying.new) }
+{
+    // Each value has its key, and these are in order.
+    prove!(place < leaf.keys().as_slice().len());
+    if leaf.values()[place] == value {
+        drop(value);
+        return Ok(Reached::Same);
+    }
+    let end = End::replaced(down.alloc, leaf, place, value)?;
+    if down.as_trail {
+        laying.begin(down.alloc, down.copies, end)?;
+        return Ok(Reached::Laid);
+    }
+    Ok(Reached::Grown(boxed(down.alloc, end.into_node())?, None))
+}
+
+// What becomes of a leaf that has one row more, before the one at a place.
+fn put_absent(
+    leaf: &Leaf,
+    place: usize,
+    down: &Down<'_>,
+    value: Json,
+    laying: &mut Laying,
+) -> Result<Reached, AllocError>
+    requires absent { IsAbsent down.now.key.now (keys_of leaf.now) place }
+    ensures { IfOk result (λ r. IsLeafEnd down.now.copies down.now.may_split down.now.as_trail leaf.now
+        down.now.key.now (Puts value) r laying.new) }
+{
+    let is_full = leaf.keys().as_slice().len() >= MOST;
+    if is_full && !down.may_split {
+        return Ok(Reached::Full(value));
+    }
+    let (keys, values, half) = grown_rows(leaf, place, down, value)?;
+    if down.as_trail && half.is_none() {
+        let keys = keys.into_keys(down.alloc)?;
+        laying.begin(down.alloc, down.copies, End { keys, values })?;
+        return Ok(Reached::Laid);
+    }
+    let node = OwnNode::of_rows(keys, values);
+    Ok(Reached::Grown(boxed(down.alloc, node)?, half))
+}
+
+// What becomes of a leaf in which a key was found at a place, or has its place before one.
+fn put_in(
+    leaf: &Leaf,
+    found: Result<usize, usize>,
+    down: &Down<'_>,
+    update: Update,
+    laying: &mut Laying,
+) -> Result<Reached, AllocError>
+    requires found { IfOk found (IsFound down.now.key.now (keys_of leaf.now)) }
+    requires absent { IfErr found (IsAbsent down.now.key.now (keys_of leaf.now)) }
+    ensures { IfOk result (λ r. IsLeafEnd down.now.copies down.now.may_split down.now.as_trail leaf.now
+        down.now.key.now update r laying.new) }
 {
     let value = match update {
         Update::Put(value) => value,
         Update::Refuse(code) => return Ok(Reached::Refused(code)),
     };
-    if leaf.values()[place] == value {
-        drop(value);
-        return Ok(Reached::Same);
-    }
-    let end = put_end(alloc, leaf, place, value)?;
-    laying.begin(alloc, above, end)?;
-    Ok(Reached::Laid)
-}
-
-// What becomes of a key that a leaf hasn't.
-fn put_absent(update: Update) -> Reached
-    ensures { (rows : Rows) (key : Bytes) (l : Layings) → finite.find (slice_cmp nat_cmp) key rows ≡ None
-        → IsLeafEnd rows key update result l }
-{
-    match update {
-        Update::Put(value) => Reached::Fresh(value, 1),
-        Update::Refuse(code) => Reached::Refused(code),
-    }
-}
-
-// A key in a leaf: its place, if it has one, and the value there.
-fn look_in(leaf: &Leaf, key: &SearchKey<'_>) -> Result<(Option<usize>, Option<Json>), AllocError>
-    ensures keys { AreKeys (keys_of leaf.now) }
-    ensures place { IfOk result (λ looked. IsPlaceIn leaf.now key.now looked.0) }
-    ensures there { IfOk result (λ looked. looked.1 ≡ finite.find (slice_cmp nat_cmp) key.now leaf.now) }
-{
-    match search_for(leaf.keys().as_slice(), key) {
-        Ok(place) => Ok((Some(place), Some(leaf.values()[place].clone()?))),
-        Err(_) => Ok((None, None)),
-    }
-}
-
-// What becomes of a leaf in which a key has this place, if it has one.
-fn put_in(
-    alloc: Global,
-    leaf: &Leaf,
-    place: Option<usize>,
-    above: usize,
-    update: Update,
-    laying: &mut Laying,
-) -> Result<Reached, AllocError>
-    requires keys { AreKeys (keys_of leaf.now) }
-    requires place { (key : Bytes) × IsPlaceIn leaf.now key place }
-    ensures { (key : Bytes) → IsPlaceIn leaf.now key place
-        → IfOk result (λ r. IsLeafEnd leaf.now key update r laying.new) }
-{
-    match place {
-        Some(place) => put_found(alloc, leaf, place, above, update, laying),
-        None => Ok(put_absent(update)),
+    match found {
+        Ok(place) => put_found(leaf, place, down, value, laying),
+        Err(place) => put_absent(leaf, place, down, value, laying),
     }
 }
 
 // What the change makes of a leaf.
 fn change_leaf<F: FnOnce(Option<Json>) -> Result<Update, Stop>>(
-    alloc: Global,
     leaf: &Leaf,
-    key: &SearchKey<'_>,
-    above: usize,
+    down: &Down<'_>,
     laying: &mut Laying,
-    change: F,
+    change: Change<F>,
 ) -> Result<Reached, Stop>
-    requires callable { F.IsAlwaysCallable change }
-    ensures reached { IfOk result (λ r. (u : Updates) × F.post change (finite.find (slice_cmp nat_cmp) key.now leaf.now)
-        (Ok u) × IsLeafEnd leaf.now key.now u r laying.new) }
-    ensures stopped { IfErr result (λ e. (e ≡ NoMemory)
-        ⊎ F.post change (finite.find (slice_cmp nat_cmp) key.now leaf.now) (Err e)) }
+    requires callable { CanMake (λ f. F.IsAlwaysCallable f) change }
+    ensures reached { IfOk result (λ r. (u : Updates) × Makes (λ f x r. F.post f x r) change (finite.find
+        (slice_cmp nat_cmp) down.now.key.now leaf.now) (Ok u) × IsLeafEnd down.now.copies down.now.may_split
+        down.now.as_trail leaf.now down.now.key.now u r laying.new) }
+    ensures stopped { IfErr result (λ e. (e ≡ NoMemory) ⊎ Makes (λ f x r. F.post f x r) change (finite.find
+        (slice_cmp nat_cmp) down.now.key.now leaf.now) (Err e)) }
 {
-    let (place, there) = look_in(leaf, key)?;
-    let update = change(there)?;
-    Ok(put_in(alloc, leaf, place, above, update, laying)?)
+    let found = search_for(leaf.keys().as_slice(), down.searched);
+    let update = change.of(value_found(leaf.values(), &found))?;
+    Ok(put_in(leaf, found, down, update, laying)?)
 }
 
-fn copied_step(alloc: Global, inner: &Inner<Ref>, place: usize) -> Result<Step, AllocError>
-    ensures { (key : Bytes) → IsPlace key (keys_of inner.now) place
-        → IfOk result (λ s. IsCopiedStep inner.now key s × (s.place ≡ place)) }
+// The first keys of an inner chunk, of which the first is the key where that is below it.
+fn step_keys(inner: &Inner<Ref>, place: usize, down: &Down<'_>) -> Result<Arc<Keys>, AllocError>
+    requires place { IsPlace down.now.key.now (keys_of inner.now) place }
+    ensures { IfOk result (λ keys. AreKeys (arc_value keys) × ((lower : Option Bytes)
+        × IsLower down.now.key.now (slice_index_or (keys_of inner.now) place []) lower
+        × (arc_value keys ≡ lowered place lower (keys_of inner.now)))) }
 {
-    let keys = inner.firsts().clone()?;
-    let mut children = Vec::with_capacity(alloc, inner.children().len())?;
+    let firsts = inner.firsts();
+    if place > 0 || !down.searched.order_of(&firsts.as_slice()[0]).is_gt() {
+        return Ok(firsts.clone()?);
+    }
+    let mut keys = NodeKeys::shared(firsts.clone()?);
+    keys.make_room(down.alloc)?;
+    keys.set(0, Text::new(down.alloc, down.key)?);
+    keys.into_keys(down.alloc)
+}
+
+// An inner chunk copied, above the new chunk in the place of the child at a place.
+fn copied_step(inner: &Inner<Ref>, place: usize, down: &Down<'_>) -> Result<Step, AllocError>
+    requires place { IsPlace down.now.key.now (keys_of inner.now) place }
+    ensures { IfOk result (λ s. IsCopiedStep inner.now down.now.key.now s × (s.place ≡ place)) }
+{
+    let keys = step_keys(inner, place, down)?;
+    let mut children = Vec::with_capacity(down.alloc, inner.children().len())?;
     children.extend_from_slice(inner.children())?;
     Ok(Step {
         keys,
@@ -190,23 +236,6 @@ fn add(steps: &mut Vec<Step>, step: Step) -> Result<(), AllocError>
     ensures { OnOk result (steps.new.items ≡ steps.old.items ++ step ∷ []) }
 {
     steps.push(step)?;
-    Ok(())
-}
-
-// A new chunk above those below it.
-fn lay_step(
-    alloc: Global,
-    inner: &Inner<Ref>,
-    place: usize,
-    laying: &mut Laying,
-) -> Result<(), AllocError>
-    ensures steps { (key : Bytes) → IsPlace key (keys_of inner.now) place → OnOk result ((s : Steps)
-        × IsCopiedStep inner.now key s × (s.place ≡ place)
-        × (laying.new.steps.items ≡ laying.old.steps.items ++ s ∷ [])) }
-    ensures end { OnOk result (laying.new.end ≡ laying.old.end) }
-{
-    let step = copied_step(alloc, inner, place)?;
-    add(&mut laying.steps, step)?;
     Ok(())
 }
 
@@ -223,54 +252,59 @@ fn child_at(inner: &Inner<Ref>, place: usize) -> Ref
 
 // What the way through an inner chunk ends in, where the way below the child at a place ends so.
 fn step_up(
-    alloc: Global,
     inner: &Inner<Ref>,
     place: usize,
+    down: &Down<'_>,
     below: Reached,
     laying: &mut Laying,
 ) -> Result<Reached, AllocError>
-    requires low { IsLow below }
-    ensures { (key : Bytes) → IsPlace key (keys_of inner.now) place
-        → IfOk result (λ r. IsStepped inner.now key place below r laying.old laying.new) }
+    requires place { IsPlace down.now.key.now (keys_of inner.now) place }
+    requires fits { CanStep down.now.copies inner.now down.now.key.now place below }
+    ensures { IfOk result (λ r. IsStepped down.now.copies inner.now down.now.key.now place below r laying.old
+        laying.new) }
 {
     match below {
         Reached::Laid => {
-            lay_step(alloc, inner, place, laying)?;
+            let step = copied_step(inner, place, down)?;
+            add(&mut laying.steps, step)?;
             Ok(Reached::Laid)
         }
-        Reached::Fresh(value, depth) => Ok(Reached::Fresh(value, depth + 1)),
+        Reached::Grown(child, half) => {
+            let (node, half) = grown_over(inner, place, down, child, half)?;
+            Ok(Reached::Grown(node, half))
+        }
+        Reached::Full(value) => Ok(Reached::Full(value)),
         Reached::Same => Ok(Reached::Same),
         Reached::Refused(code) => Ok(Reached::Refused(code)),
     }
 }
 
 /// Goes down from a placed chunk to a key, lets the change see the value there (none where the key isn't there), and
-/// makes new chunks of those on the way where it makes another value of it. There is to be room for so many steps
-/// above them. Stops for want of memory, or as the store or the change does.
+/// makes new chunks of those on the way where it makes another value of it. Stops for want of memory, or as the store
+/// or the change does.
 #[cycle(change)]
 pub(crate) fn change_at<C: Chunks, F: FnOnce(Option<Json>) -> Result<Update, Stop>>(
-    alloc: Global,
     chunks: &mut C,
     at: Ref,
-    key: &SearchKey<'_>,
-    above: usize,
+    down: &Down<'_>,
     laying: &mut Laying,
-    change: F,
+    change: Change<F>,
 ) -> Result<Reached, Stop>
     requires known { IsTree (chunk_rows (C.contents chunks.old) (stamp_of at)) }
     requires place { C.places chunks.old at }
-    requires callable { F.IsAlwaysCallable change }
+    requires copies { (d : ℕ) → chunk_depth (C.contents chunks.old) (stamp_of at) ≡ Some d → down.now.copies + d < 2 ^ 64 }
+    requires callable { CanMake (λ f. F.IsAlwaysCallable f) change }
     ensures grown { Grows C.contents C.places chunks.old chunks.new }
-    ensures reached { IfOk result (λ r. (u : Updates) × F.post change (finite.find (slice_cmp nat_cmp) key.now
-        (rows_or (chunk_rows (C.contents chunks.old) (stamp_of at)))) (Ok u)
-        × IsReached (C.contents chunks.new) (C.places chunks.new) (stamp_of at)
-        (chunk_depth (C.contents chunks.old) (stamp_of at))
-        (rows_or (chunk_rows (C.contents chunks.old) (stamp_of at))) key.now u r laying.new) }
-    ensures stopped { IfErr result (λ e. (e ≡ NoMemory) ⊎ C.stops e ⊎ F.post change (finite.find (slice_cmp nat_cmp)
-        key.now (rows_or (chunk_rows (C.contents chunks.old) (stamp_of at)))) (Err e)) }
+    ensures reached { IfOk result (λ r. (u : Updates) × Makes (λ f x r. F.post f x r) change (finite.find
+        (slice_cmp nat_cmp) down.now.key.now (rows_or (chunk_rows (C.contents chunks.old) (stamp_of at)))) (Ok u)
+        × IsReached (C.contents chunks.new) (C.places chunks.new) down.now.copies down.now.may_split
+        down.now.as_trail (stamp_of at) (chunk_depth (C.contents chunks.old) (stamp_of at))
+        (rows_or (chunk_rows (C.contents chunks.old) (stamp_of at))) down.now.key.now u r laying.new) }
+    ensures stopped { IfErr result (λ e. (e ≡ NoMemory) ⊎ C.stops e ⊎ Makes (λ f x r. F.post f x r) change (finite.find
+        (slice_cmp nat_cmp) down.now.key.now (rows_or (chunk_rows (C.contents chunks.old) (stamp_of at)))) (Err e)) }
 {
     let held = chunks.show(at)?;
-    let reached = change_in(alloc, chunks, at, held.chunk(), key, above, laying, change);
+    let reached = change_in(chunks, at, held.chunk(), down, laying, change);
     chunks.leave(held);
     reached
 }
@@ -278,36 +312,35 @@ pub(crate) fn change_at<C: Chunks, F: FnOnce(Option<Json>) -> Result<Update, Sto
 // The same, where the chunk is shown.
 #[cycle(change)]
 fn change_in<C: Chunks, F: FnOnce(Option<Json>) -> Result<Update, Stop>>(
-    alloc: Global,
     chunks: &mut C,
     at: Ref,
     chunk: &Chunk<Ref>,
-    key: &SearchKey<'_>,
-    above: usize,
+    down: &Down<'_>,
     laying: &mut Laying,
-    change: F,
+    change: Change<F>,
 ) -> Result<Reached, Stop>
     requires known { IsTree (chunk_rows (C.contents chunks.old) (stamp_of at)) }
     requires content { slice_get (C.contents chunks.old) (stamp_of at) ≡ Some (chunk_content chunk.now) }
     requires children { AreAll (C.places chunks.old) (chunk_children chunk.now) }
-    requires callable { F.IsAlwaysCallable change }
+    requires copies { (d : ℕ) → chunk_depth (C.contents chunks.old) (stamp_of at) ≡ Some d → down.now.copies + d < 2 ^ 64 }
+    requires callable { CanMake (λ f. F.IsAlwaysCallable f) change }
     ensures grown { Grows C.contents C.places chunks.old chunks.new }
-    ensures reached { IfOk result (λ r. (u : Updates) × F.post change (finite.find (slice_cmp nat_cmp) key.now
-        (rows_or (chunk_rows (C.contents chunks.old) (stamp_of at)))) (Ok u)
-        × IsReached (C.contents chunks.new) (C.places chunks.new) (stamp_of at)
-        (chunk_depth (C.contents chunks.old) (stamp_of at))
-        (rows_or (chunk_rows (C.contents chunks.old) (stamp_of at))) key.now u r laying.new) }
-    ensures stopped { IfErr result (λ e. (e ≡ NoMemory) ⊎ C.stops e ⊎ F.post change (finite.find (slice_cmp nat_cmp)
-        key.now (rows_or (chunk_rows (C.contents chunks.old) (stamp_of at)))) (Err e)) }
+    ensures reached { IfOk result (λ r. (u : Updates) × Makes (λ f x r. F.post f x r) change (finite.find
+        (slice_cmp nat_cmp) down.now.key.now (rows_or (chunk_rows (C.contents chunks.old) (stamp_of at)))) (Ok u)
+        × IsReached (C.contents chunks.new) (C.places chunks.new) down.now.copies down.now.may_split
+        down.now.as_trail (stamp_of at) (chunk_depth (C.contents chunks.old) (stamp_of at))
+        (rows_or (chunk_rows (C.contents chunks.old) (stamp_of at))) down.now.key.now u r laying.new) }
+    ensures stopped { IfErr result (λ e. (e ≡ NoMemory) ⊎ C.stops e ⊎ Makes (λ f x r. F.post f x r) change (finite.find
+        (slice_cmp nat_cmp) down.now.key.now (rows_or (chunk_rows (C.contents chunks.old) (stamp_of at)))) (Err e)) }
 {
     match chunk {
-        Chunk::Leaf(leaf) => change_leaf(alloc, leaf, key, above, laying, change),
+        Chunk::Leaf(leaf) => change_leaf(leaf, down, laying, change),
         Chunk::Inner(inner) => {
-            let place = place_for(inner.firsts().as_slice(), key);
+            let place = place_for(inner.firsts().as_slice(), down.searched);
             let child = child_at(inner, place);
-            let deeper = above.saturating_add(1);
-            let below = change_at(alloc, chunks, child, key, deeper, laying, change)?;
-            Ok(step_up(alloc, inner, place, below, laying)?)
+            let deeper = down.below(inner.children().len());
+            let below = change_at(chunks, child, &deeper, laying, change)?;
+            Ok(step_up(inner, place, down, below, laying)?)
         }
     }
 }

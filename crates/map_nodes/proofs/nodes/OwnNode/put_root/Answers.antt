@@ -1,11 +1,14 @@
-use Rattle.std.proofs.Common.{◌∙◌, false, ap, sym, subst, refl}
+use Rattle.std.proofs.Common.{◌∙◌, false, ap, sym, subst, refl, Result, Ok}
+use Rattle.group_history.specs.declared.mutators.Stop.{Stop}
+use Rattle.group_history.specs.declared.mutators.Update.{Update}
+use Rattle.group_history.specs.declared.mutators.Update.TheVariants.{Put, Refuse}
 use Rattle.map_chunks.specs.Places.{AreAll, places_of}
 use Rattle.map_chunks.specs.Shown.{Seen, shown, IsTree}
-use Rattle.map_chunks.proofs.AnswerLemmas.{on_ok}
 use Rattle.map_nodes.proofs.ChangeLemmas.{shown-kept}
 use Rattle.map_chunks.proofs.OpenLemmas.{known, tree_of}
 use Rattle.map_chunks.proofs.KeptLemmas.{all_on, grows_on}
 use Rattle.map_nodes.proofs.RenewLemmas.{put_since, put_unchanged, put_whole}
+use Rattle.map_nodes.specs.Changes.{Makes}
 use Rattle.map_nodes.specs.Inside.Puts.{value_in}
 use Rattle.map_nodes.specs.Inside.Unput.{IsUnput}
 use Rattle.map_nodes.proofs.nodes.OwnNode.put_root.Goals as goal
@@ -32,7 +35,9 @@ put_split-requires-clause-absent g c =
     let n = known (shown p c.args.self.now.pieces) c.requires.tree in
     let here = shown-kept p q c.args.self.now.pieces n.rows c.put.ensures.grown.0 n.is in
     let found = value_in (shown p c.args.self.now.pieces) c.args.key.now in
-    let why = subst (IsUnput g.C.Chunks.stops false found c.args.value.now) c.in-Err-Full.field-0-is
+    let makes : Result Update Stop → Type 0 =
+    λ r. Makes (λ f x y. g.F.FnOnce.post f (x, tt) y) c.args.change found r in
+    let why = subst (IsUnput makes g.C.Chunks.stops false found) c.in-Err-Full.field-0-is
     c.in-Err-Full.ensures.unput in
     ap (λ z. value_in z c.args.key.now)
     (ap (λ (s : Seen). shown q s.pieces) c.in-Err-Full.ensures.err ∙ here ∙ sym n.is) ∙ why.1
@@ -42,27 +47,61 @@ returns-in-Ok-clause-put g c =
     let p = g.C.Chunks.contents c.args.chunks.now in
     let q = g.C.Chunks.contents c.put.new.chunks in
     let made = c.in-Ok.ensures in
-    put_whole p q (g.C.Chunks.places c.put.new.chunks) c.args.key.now c.args.value.now c.args.self.now c.put.new.self
-    c.in-Ok.field-0 (made.whole refl) c.put.ensures.depth made.done made.places made.fresh made.entries made.levels
-    made.renewed
+    let z = made.put in (
+      Put z.0,
+      z.1,
+      (
+        refl,
+        put_whole p q (g.C.Chunks.places c.put.new.chunks) c.args.key.now z.0 c.args.self.now c.put.new.self
+            c.in-Ok.field-0 (made.whole refl) c.put.ensures.depth z.2 made.places made.fresh made.entries made.levels,
+      ),
+    )
 
 pub returns-in-Err-Same-clause-put : goal.returns-in-Err-Same-clause-put
 returns-in-Err-Same-clause-put g c =
     let p = g.C.Chunks.contents c.args.chunks.now in
     let found = value_in (shown p c.args.self.now.pieces) c.args.key.now in
-    put_unchanged p (g.C.Chunks.contents c.put.new.chunks)
-    (g.C.Chunks.places c.put.new.chunks) c.args.key.now c.args.value.now c.args.self.now c.put.new.self
-    c.put.ensures.grown.0 c.requires.tree
-    (subst (IsUnput g.C.Chunks.stops false found c.args.value.now) c.in-Err-Same.field-0-is
-    c.in-Err-Same.ensures.unput) c.in-Err-Same.ensures.err
+    let makes : Result Update Stop → Type 0 =
+    λ r. Makes (λ f x y. g.F.FnOnce.post f (x, tt) y) c.args.change found r in
+    let why = subst (IsUnput makes g.C.Chunks.stops false found) c.in-Err-Same.field-0-is
+    c.in-Err-Same.ensures.unput in (
+      Put why.0,
+      why.2,
+      (
+        refl,
+        put_unchanged p (g.C.Chunks.contents c.put.new.chunks) (g.C.Chunks.places c.put.new.chunks) c.args.key.now
+            why.0 c.args.self.now c.put.new.self c.put.ensures.grown.0 c.requires.tree why.1 c.in-Err-Same.ensures.err,
+      ),
+    )
+
+pub returns-in-Err-Refused-clause-put : goal.returns-in-Err-Refused-clause-put
+returns-in-Err-Refused-clause-put g c =
+    let p = g.C.Chunks.contents c.args.chunks.now in
+    let found = value_in (shown p c.args.self.now.pieces) c.args.key.now in
+    let makes : Result Update Stop → Type 0 =
+    λ r. Makes (λ f x y. g.F.FnOnce.post f (x, tt) y) c.args.change found r in
+    let why = subst (IsUnput makes g.C.Chunks.stops false found) c.in-Err-Refused.field-0-is
+    c.in-Err-Refused.ensures.unput in
+    (Refuse c.in-Err-Refused.code, why, (refl, c.in-Err-Refused.ensures.err))
 
 pub returns-in-Err-Full-clause-put : goal.returns-in-Err-Full-clause-put
 returns-in-Err-Full-clause-put g c =
-    on_ok c.put_split.result c.put_split.ensures.put
-    (put_since (g.C.Chunks.contents c.args.chunks.now) (g.C.Chunks.contents c.put.new.chunks)
-    (g.C.Chunks.contents c.put_split.new.chunks) (g.C.Chunks.places c.put_split.new.chunks) c.args.key.now
-    c.args.value.now c.args.self.now c.put.new.self c.put_split.new.self c.put.ensures.grown.0 c.requires.tree
-    c.in-Err-Full.ensures.err)
+    let p = g.C.Chunks.contents c.args.chunks.now in
+    let found = value_in (shown p c.args.self.now.pieces) c.args.key.now in
+    let makes : Result Update Stop → Type 0 =
+    λ r. Makes (λ f x y. g.F.FnOnce.post f (x, tt) y) c.args.change found r in
+    let why = subst (IsUnput makes g.C.Chunks.stops false found) c.in-Err-Full.field-0-is
+    c.in-Err-Full.ensures.unput in (
+      Put c.in-Err-Full.value,
+      why.2,
+      (
+        refl,
+        put_since p (g.C.Chunks.contents c.put.new.chunks) (g.C.Chunks.contents c.put_split.new.chunks)
+            (g.C.Chunks.places c.put_split.new.chunks) c.args.key.now c.in-Err-Full.value c.args.self.now
+            c.put.new.self c.put_split.new.self c.put.ensures.grown.0 c.requires.tree c.in-Err-Full.ensures.err
+            c.in_ok-put_split-in-Err-Full.ensures.put,
+      ),
+    )
 
 pub returns-in-Err-Full-clause-grown : goal.returns-in-Err-Full-clause-grown
 returns-in-Err-Full-clause-grown g c =

@@ -13,6 +13,8 @@ use Rattle.map_chunks.proofs.OpenLemmas.{known}
 use Rattle.map_nodes.proofs.RootLemmas.{two, begins_least}
 use Rattle.map_nodes.proofs.PutLevels.{put_risen}
 use Rattle.map_nodes.specs.Inside.Puts.{HalvesPut}
+use Rattle.map_nodes.specs.Levels.{seen_levels}
+use Rattle.map_nodes.specs.Others.{ArePutAmong}
 use Rattle.map_nodes.proofs.nodes.OwnNode.put_split.Goals as goal
 
 pub rise-requires-clause-half : goal.rise-requires-clause-half
@@ -26,15 +28,15 @@ rise-requires-clause-first g c =
     let q = g.C.Chunks.contents c.put_anyway.new.chunks in
     let key = c.args.key.now in
     let n = known (shown p c.args.self.now.pieces) c.requires.tree in
-    let rows = finite.put (slice_cmp nat_cmp) key c.args.value.now n.rows in
+    let rows = finite.put (slice_cmp nat_cmp) key c.args.value n.rows in
     let upper = c.in-Some.half.node.value.pieces in
     let e : shown q (c.put_anyway.new.self.pieces ++ upper) ≡ Some rows =
     ap (λ h. shown q (c.put_anyway.new.self.pieces ++ half_pieces h))
     (sym c.in-Some.is) ∙ c.in_ok-half.ensures.done ∙ ap
-    (λ z. Some (finite.put (slice_cmp nat_cmp) key c.args.value.now (rows_or z))) n.is in
+    (λ z. Some (finite.put (slice_cmp nat_cmp) key c.args.value (rows_or z))) n.is in
     let hf : IsHalf 1 c.args.self.now.depth (Some c.in-Some.half) = subst
     (IsHalf 1 c.args.self.now.depth) c.in-Some.is c.in_ok-half.ensures.half in
-    let b = begins_least p c.self.inside.depth c.self.inside.keys.texts c.self.inside.body n.rows key c.args.value.now
+    let b = begins_least p c.self.inside.depth c.self.inside.keys.texts c.self.inside.body n.rows key c.args.value
     c.self.invariant (ap (shown p) (ap (λ (s : Seen). s.pieces) c.self.view_is) ∙ n.is) in
     let kept : HasKept c.args.self.now.entries c.put_anyway.new.self.entries (Some c.in-Some.half) = subst
     (HasKept c.args.self.now.entries c.put_anyway.new.self.entries) c.in-Some.is c.in_ok-half.ensures.entries in
@@ -44,7 +46,7 @@ rise-requires-clause-first g c =
     let f : c.in_ok-above.above.first ≡ Some first = c.in_ok-above.ensures.first full ∙ ap
     (λ ks. Some (least key ks)) c.as_slice.ensures in
     let t = two q first hf.1.0 c.put_anyway.new.self.pieces upper rows e
-    (put-strict key c.args.value.now n.rows n.order) b c.in_ok-half.ensures.filled hf.1.1 in
+    (put-strict key c.args.value n.rows n.order) b c.in_ok-half.ensures.filled hf.1.1 in
     subst (λ o. HeadsBoth o c.put_anyway.new.self.pieces upper) (sym f) (t.head, t.order)
 
 pub rise-requires-clause-keys : goal.rise-requires-clause-keys
@@ -76,9 +78,12 @@ returns-in_default-clause-put g c =
     let p = g.C.Chunks.contents c.args.chunks.now in
     let q = g.C.Chunks.contents c.put_anyway.new.chunks in
     let made = c.in_ok-half.ensures in
-    put_whole p q (g.C.Chunks.places c.put_anyway.new.chunks) c.args.key.now c.args.value.now c.args.self.now
-    c.put_anyway.new.self c.in_ok-half.field-0 c.in_default.is c.put_anyway.ensures.depth made.done made.places
-    made.fresh made.entries made.levels (λ there. absurd (none_there _ there c.requires.absent))
+    put_whole p q (g.C.Chunks.places c.put_anyway.new.chunks) c.args.key.now c.args.value c.args.self.now
+    c.put_anyway.new.self c.in_ok-half.field-0 c.in_default.is c.put_anyway.ensures.depth (record {
+      shown_is = made.done;
+      others = made.others;
+      renewed = λ there. absurd (none_there _ there c.requires.absent);
+    }) made.places made.fresh made.entries made.levels
 
 pub returns-clause-put : goal.returns-clause-put
 returns-clause-put g c =
@@ -92,9 +97,11 @@ returns-clause-put g c =
       shown_is = ap (shown q) pieces ∙ c.in_ok-half.ensures.done;
       few = omega (arith, c.rise.ensures.fresh, c.in_ok-half.ensures.fresh, ap half_fresh c.in-Some.is);
       replaced = λ there. absurd (none_there _ there c.requires.absent);
-      levels = put_risen q was lower c.rise.new.self c.in-Some.half c.put_anyway.ensures.depth c.rise.ensures.depth
+      levels = put_risen q was.depth (seen_levels was) lower c.rise.new.self c.in-Some.half c.put_anyway.ensures.depth c.rise.ensures.depth
           c.rise.ensures.marks (subst (HalvesPut q was lower) c.in-Some.is c.in_ok-half.ensures.levels);
       kept = λ there. absurd (none_there _ there c.requires.absent);
+      others = λ other. subst (ArePutAmong q c.args.key.now c.args.value was.pieces) (sym pieces)
+          c.in_ok-half.ensures.others;
       deep = (
         omega (arith, c.rise.ensures.depth, c.put_anyway.ensures.depth),
         omega (arith, c.rise.ensures.depth, c.put_anyway.ensures.depth),

@@ -1,5 +1,5 @@
-use Rattle.std.proofs.Common.{◌≡◌, ◌⊎◌, ◌∙◌, ◌+◌, ◌<◌, ◌^◌, length, slice_get, Ok, Err, Some, ap, arith, inl}
-use Rattle.std.proofs.Common.{inr, subst, sym}
+use Rattle.std.proofs.Common.{◌≡◌, ◌⊎◌, ◌∙◌, ◌+◌, ◌<◌, ◌≤◌, ◌^◌, length, slice_get, Ok, Err, Some, ap, arith, inl, inr}
+use Rattle.std.proofs.Common.{subst, sym}
 use Rattle.std.specs.Ordering.{nat_cmp}
 use Rattle.std.specs.Cmp.Lexicographic.{slice_cmp}
 use Rattle.std.specs.FinMap as finite
@@ -8,13 +8,16 @@ use Rattle.group_history.specs.declared.nodes.Chunk.TheVariants as chunked
 use Rattle.group_history.specs.Naming.{chunk_children, chunk_content}
 use Rattle.group_history.specs.Refs.{stamp_of}
 use Rattle.group_history.specs.Rows.{keys_of, values_of}
-use Rattle.map_chunks.proofs.SearchLemmas.{length-keys_of}
+use Rattle.map_chunks.proofs.JoinLemmas.{some_is}
+use Rattle.map_chunks.proofs.SearchLemmas.{length-keys_of, length-values_of}
 use Rattle.map_chunks.proofs.WayLemmas.{depth_later, filled, leaf_is, rows_later, way}
 use Rattle.map_chunks.specs.Places.{AreAll}
 use Rattle.map_chunks.specs.Search.{IsPlace}
 use Rattle.map_chunks.specs.Seeking.{chunk_depth}
 use Rattle.map_chunks.specs.Shown.{chunk_rows, rows_or, IsTree}
-use Rattle.map_nodes.proofs.WayLemmas.{child_in, err_and, err_so, leaf_reached, low_reached, ok_so, reached_up}
+use Rattle.map_nodes.proofs.LeafEnds.{leaf_reached}
+use Rattle.map_nodes.proofs.WayLemmas.{can_step, child_in, err_and, err_so, ok_so, reached_as, reached_up}
+use Rattle.map_nodes.specs.Changes.{Makes}
 use Rattle.map_nodes.specs.Inside.Laying.{IsReached}
 use Rattle.map_nodes.proofs.nodes.trails.laying.+change.Goals as goal
 
@@ -22,7 +25,8 @@ pub change_at-change_in-reached-requires : goal.change_at-change_in-reached-requ
 change_at-change_in-reached-requires g t c κs within =
     let p = g.C.Chunks.contents c.args.chunks.now in
     let q = g.C.Chunks.contents c.show.new.self in
-    let k = stamp_of c.args.at in (
+    let k = stamp_of c.args.at in
+    let depth = depth_later p q k c.show.ensures.grown.0 c.requires.known in (
       omega (arith, c.decreases),
       (
         within.0,
@@ -37,7 +41,7 @@ change_at-change_in-reached-requires g t c κs within =
                 (
                   subst (λ w. AreAll (g.C.Chunks.places c.show.new.self) (chunk_children w)) (sym c.chunk.ensures)
                       c.in_ok-held.ensures.children,
-                  c.requires.callable,
+                  (λ d h. c.requires.copies d (sym depth ∙ h), c.requires.callable),
                 ),
               ),
             ),
@@ -51,18 +55,23 @@ change_at-returns-clause-reached g t c =
     let p = g.C.Chunks.contents c.args.chunks.now in
     let q = g.C.Chunks.contents c.show.new.self in
     let k = stamp_of c.args.at in
-    let key = c.args.key.now in
+    let key = c.args.down.now.key.now in
+    let copies = c.args.down.now.copies in
+    let may_split = c.args.down.now.may_split in
+    let as_trail = c.args.down.now.as_trail in
     let rows = rows_later p q k c.show.ensures.grown.0 c.requires.known in
     let depth = depth_later p q k c.show.ensures.grown.0 c.requires.known in
+    let new = c.change_in-reached.new in
     ok_so c.change_in-reached.result c.change_in-reached.ensures.reached (λ r h. (
       h.0,
-      subst (λ w. g.F.FnOnce.post c.args.change (finite.find (slice_cmp nat_cmp) key (rows_or w), tt) (Ok h.0)) rows h.1,
-      subst (λ s. IsReached (g.C.Chunks.contents s) (g.C.Chunks.places s) k (chunk_depth p k) (rows_or (chunk_rows p k))
-          key h.0 r c.change_in-reached.new.laying) (sym c.leave.ensures)
-          (subst (λ w. IsReached (g.C.Chunks.contents c.change_in-reached.new.chunks)
-          (g.C.Chunks.places c.change_in-reached.new.chunks) k w (rows_or (chunk_rows p k)) key h.0 r c.change_in-reached.new.laying) depth
-          (subst (λ w. IsReached (g.C.Chunks.contents c.change_in-reached.new.chunks)
-          (g.C.Chunks.places c.change_in-reached.new.chunks) k (chunk_depth q k) (rows_or w) key h.0 r c.change_in-reached.new.laying) rows h.2)),
+      subst (λ w. Makes (λ f x s. g.F.FnOnce.post f (x, tt) s) c.args.change
+          (finite.find (slice_cmp nat_cmp) key (rows_or w)) (Ok h.0)) rows h.1,
+      subst (λ s. IsReached (g.C.Chunks.contents s) (g.C.Chunks.places s) copies may_split as_trail k (chunk_depth p k)
+          (rows_or (chunk_rows p k)) key h.0 r new.laying) (sym c.leave.ensures)
+          (subst (λ w. IsReached (g.C.Chunks.contents new.chunks) (g.C.Chunks.places new.chunks) copies may_split
+          as_trail k w (rows_or (chunk_rows p k)) key h.0 r new.laying) depth
+          (subst (λ w. IsReached (g.C.Chunks.contents new.chunks) (g.C.Chunks.places new.chunks) copies may_split
+          as_trail k (chunk_depth q k) (rows_or w) key h.0 r new.laying) rows h.2)),
     ))
 
 pub change_at-returns-clause-stopped : goal.change_at-returns-clause-stopped
@@ -75,8 +84,8 @@ change_at-returns-clause-stopped g t c =
       | inl x ↦ inl x
       | inr y ↦ elim y [
         | inl s ↦ inr (inl s)
-        | inr f ↦ inr (inr (subst (λ w. g.F.FnOnce.post c.args.change
-            (finite.find (slice_cmp nat_cmp) c.args.key.now (rows_or w), tt) (Err e)) rows f))
+        | inr f ↦ inr (inr (subst (λ w. Makes (λ f x s. g.F.FnOnce.post f (x, tt) s) c.args.change
+            (finite.find (slice_cmp nat_cmp) c.args.down.now.key.now (rows_or w)) (Err e)) rows f))
       ]
     ])
 
@@ -94,79 +103,134 @@ change_in-place_for-place-requires-clause-filled g t c =
       ap length (c.as_slice.ensures.keys ∙ c.deref.ensures ∙ c.firsts.ensures.keys),
     )
 
-pub change_in-change_at-requires : goal.change_in-change_at-requires
-change_in-change_at-requires g t c κs within =
+pub change_in-below-deeper-requires : goal.change_in-below-deeper-requires
+change_in-below-deeper-requires g t c =
     let q = g.C.Chunks.contents c.args.chunks.now in
     let kids = c.in-Inner.inner in
+    let key = c.args.down.now.key.now in
     let i = c.place_for-place.result in
     let below = c.child_at-child.result in
     let content : slice_get q (stamp_of c.args.at) ≡ Some (chunk_content (chunked.Inner kids)) = c.requires.content ∙ ap
     (λ w. Some (chunk_content w)) c.in-Inner.is in
-    let place : IsPlace c.args.key.now (keys_of kids) i = subst (λ w. IsPlace c.args.key.now w i)
-    (c.as_slice.ensures.keys ∙ c.deref.ensures ∙ c.firsts.ensures.keys) c.place_for-place.ensures in
+    let place : IsPlace key (keys_of kids) i = subst (λ z. IsPlace z (keys_of kids) i) c.args.down.now.same
+    (subst (λ w. IsPlace c.args.down.now.searched.now w i)
+    (c.as_slice.ensures.keys ∙ c.deref.ensures ∙ c.firsts.ensures.keys) c.place_for-place.ensures) in
+    let w = way q key c.args.at below kids i c.requires.known content place c.child_at-child.ensures.child in
+    let r = c.requires.copies (w.depth + 1) w.deeper in
+    omega (arith, r)
+
+pub change_in-change_at-requires : goal.change_in-change_at-requires
+change_in-change_at-requires g t c κs within =
+    let q = g.C.Chunks.contents c.args.chunks.now in
+    let kids = c.in-Inner.inner in
+    let key = c.args.down.now.key.now in
+    let i = c.place_for-place.result in
+    let below = c.child_at-child.result in
+    let content : slice_get q (stamp_of c.args.at) ≡ Some (chunk_content (chunked.Inner kids)) = c.requires.content ∙ ap
+    (λ w. Some (chunk_content w)) c.in-Inner.is in
+    let place : IsPlace key (keys_of kids) i = subst (λ z. IsPlace z (keys_of kids) i) c.args.down.now.same
+    (subst (λ w. IsPlace c.args.down.now.searched.now w i)
+    (c.as_slice.ensures.keys ∙ c.deref.ensures ∙ c.firsts.ensures.keys) c.place_for-place.ensures) in
     let b = c.child_at-child.ensures.child in
-    let w = way q c.args.key.now c.args.at below kids i c.requires.known content place b in
+    let w = way q key c.args.at below kids i c.requires.known content place b in
     let all : AreAll (g.C.Chunks.places c.args.chunks.now) (values_of kids) = subst
     (λ z. AreAll (g.C.Chunks.places c.args.chunks.now) (chunk_children z)) c.in-Inner.is c.requires.children in
-    let here = all below (child_in kids c.args.key.now i below place b) in (
+    let here = all below (child_in kids key i below place b) in
+    let r = c.requires.copies (w.depth + 1) w.deeper in (
       omega (arith, w.low, c.decreases),
-      (within.0, (within.1.0, (within.1.1, (w.tree, (here, c.requires.callable))))),
+      (
+        within.0,
+        (
+          within.1.0,
+          (
+            within.1.1,
+            (
+              w.tree,
+              (
+                here,
+                (
+                  λ d h. omega (arith, r, c.below-deeper.ensures.copies, some_is (sym w.depth_is ∙ h)),
+                  c.requires.callable,
+                ),
+              ),
+            ),
+          ),
+        ),
+      ),
     )
 
 pub change_in-returns-in_err-below-in-Inner-clause-stopped : goal.change_in-returns-in_err-below-in-Inner-clause-stopped
 change_in-returns-in_err-below-in-Inner-clause-stopped g t c =
     let q = g.C.Chunks.contents c.args.chunks.now in
     let kids = c.in-Inner.inner in
-    let key = c.args.key.now in
+    let key = c.args.down.now.key.now in
+    let deeper = c.below-deeper.result.key.now in
     let i = c.place_for-place.result in
     let below = c.child_at-child.result in
     let content : slice_get q (stamp_of c.args.at) ≡ Some (chunk_content (chunked.Inner kids)) = c.requires.content ∙ ap
     (λ w. Some (chunk_content w)) c.in-Inner.is in
-    let place : IsPlace key (keys_of kids) i = subst (λ w. IsPlace key w i)
-    (c.as_slice.ensures.keys ∙ c.deref.ensures ∙ c.firsts.ensures.keys) c.place_for-place.ensures in
-    let b = c.child_at-child.ensures.child in
-    let w = way q key c.args.at below kids i c.requires.known content place b in
+    let place : IsPlace key (keys_of kids) i = subst (λ z. IsPlace z (keys_of kids) i) c.args.down.now.same
+    (subst (λ w. IsPlace c.args.down.now.searched.now w i)
+    (c.as_slice.ensures.keys ∙ c.deref.ensures ∙ c.firsts.ensures.keys) c.place_for-place.ensures) in
+    let w = way q key c.args.at below kids i c.requires.known content place c.child_at-child.ensures.child in
+    let same : finite.find (slice_cmp nat_cmp) deeper (rows_or (chunk_rows q (stamp_of below)))
+    ≡ finite.find (slice_cmp nat_cmp) key (rows_or (chunk_rows q (stamp_of c.args.at))) =
+    ap (λ z. finite.find (slice_cmp nat_cmp) z (rows_or (chunk_rows q (stamp_of below)))) c.below-deeper.ensures.key
+    ∙ w.same in
     err_and c.from_residual.result c.from_residual.ensures.1 (λ e x. elim (subst (λ e. (e ≡ NoMemory)
-    ⊎ g.C.Chunks.stops e ⊎ g.F.FnOnce.post c.args.change (
-      finite.find (slice_cmp nat_cmp) key
-          (rows_or (chunk_rows q (stamp_of below))),
-      tt,
-    ) (Err e)) (sym x) c.in_err-below-in-Inner.ensures.stopped) [
+    ⊎ g.C.Chunks.stops e ⊎ Makes (λ f x s. g.F.FnOnce.post f (x, tt) s) c.args.change
+    (finite.find (slice_cmp nat_cmp) deeper (rows_or (chunk_rows q (stamp_of below)))) (Err e)) (sym x)
+    c.in_err-below-in-Inner.ensures.stopped) [
       | inl y ↦ inl y
       | inr z ↦ elim z [
         | inl s ↦ inr (inl s)
-        | inr f ↦ inr (inr (subst (λ z. g.F.FnOnce.post c.args.change (z, tt) (Err e)) w.same f))
+        | inr f ↦ inr (inr (subst (λ z. Makes (λ f x s. g.F.FnOnce.post f (x, tt) s) c.args.change z (Err e)) same f))
       ]
     ])
 
-pub change_in-step_up-requires : goal.change_in-step_up-requires
-change_in-step_up-requires g t c =
+pub change_in-step_up-requires-clause-fits : goal.change_in-step_up-requires-clause-fits
+change_in-step_up-requires-clause-fits g t c =
     let q = g.C.Chunks.contents c.args.chunks.now in
+    let kids = c.in-Inner.inner in
+    let key = c.args.down.now.key.now in
+    let deeper = c.below-deeper.result in
     let i = c.place_for-place.result in
     let below = c.child_at-child.result in
+    let content : slice_get q (stamp_of c.args.at) ≡ Some (chunk_content (chunked.Inner kids)) = c.requires.content ∙ ap
+    (λ w. Some (chunk_content w)) c.in-Inner.is in
+    let place : IsPlace key (keys_of kids) i = subst (λ z. IsPlace z (keys_of kids) i) c.args.down.now.same
+    (subst (λ w. IsPlace c.args.down.now.searched.now w i)
+    (c.as_slice.ensures.keys ∙ c.deref.ensures ∙ c.firsts.ensures.keys) c.place_for-place.ensures) in
+    let b = c.child_at-child.ensures.child in
+    let w = way q key c.args.at below kids i c.requires.known content place b in
+    let few : length kids ≤ 16 = omega
+    (arith, c.firsts.ensures.order.0, ap length c.firsts.ensures.keys, length-keys_of kids) in
+    let big : stamp_of below + 2 < 2 ^ 64 = omega (arith, c.child_at-child.ensures.bound) in
+    let new = c.change_at.new in
     let r = c.in_ok-below-in-Inner.ensures.reached in
-    record {
-      low = low_reached (g.C.Chunks.contents c.change_at.new.chunks) (g.C.Chunks.places c.change_at.new.chunks) below
-          (chunk_depth q (stamp_of below)) (rows_or (chunk_rows q (stamp_of below))) c.args.key.now r.0
-          c.in_ok-below-in-Inner.below c.change_at.new.laying (let l : stamp_of below + 2 < 2 ^ 64 = omega
-          (arith, c.child_at-child.ensures.bound) in l) r.2;
-    }
+    can_step q (g.C.Chunks.contents new.chunks) (g.C.Chunks.places new.chunks) c.args.down.now.copies deeper.may_split
+    c.args.down.now.as_trail key c.args.at below kids i r.0 c.in_ok-below-in-Inner.below new.laying w c.requires.known
+    content c.change_at.ensures.grown.0 place b few big
+    (reached_as (g.C.Chunks.contents new.chunks) (g.C.Chunks.places new.chunks) deeper.copies (c.args.down.now.copies + 1)
+    deeper.may_split deeper.as_trail c.args.down.now.as_trail (stamp_of below) (chunk_depth q (stamp_of below))
+    (rows_or (chunk_rows q (stamp_of below))) deeper.key.now key r.0 c.in_ok-below-in-Inner.below new.laying
+    c.below-deeper.ensures.copies c.below-deeper.ensures.trail c.below-deeper.ensures.key r.2)
 
 pub change_in-returns-in-Leaf-clause-reached : goal.change_in-returns-in-Leaf-clause-reached
 change_in-returns-in-Leaf-clause-reached g t c =
     let q = g.C.Chunks.contents c.args.chunks.now in
     let k = stamp_of c.args.at in
-    let key = c.args.key.now in
+    let key = c.args.down.now.key.now in
     let rows = c.in-Leaf.leaf in
     let content : slice_get q k ≡ Some (chunk_content (chunked.Leaf rows)) = c.requires.content ∙ ap
     (λ w. Some (chunk_content w)) c.in-Leaf.is in
     let is = leaf_is q k rows c.requires.known content in
     ok_so c.change_leaf.result c.change_leaf.ensures.reached (λ r h. (
       h.0,
-      subst (λ w. g.F.FnOnce.post c.args.change (finite.find (slice_cmp nat_cmp) key (rows_or w), tt) (Ok h.0))
-          (sym is.0) h.1,
-      leaf_reached q (g.C.Chunks.places c.args.chunks.now) key c.args.at rows h.0 r c.change_leaf.new.laying
-          c.requires.known content h.2,
+      subst (λ w. Makes (λ f x s. g.F.FnOnce.post f (x, tt) s) c.args.change
+          (finite.find (slice_cmp nat_cmp) key (rows_or w)) (Ok h.0)) (sym is.0) h.1,
+      leaf_reached q (g.C.Chunks.places c.args.chunks.now) c.args.down.now.copies c.args.down.now.may_split
+          c.args.down.now.as_trail key c.args.at rows h.0 r c.change_leaf.new.laying c.requires.known content h.2,
     ))
 
 pub change_in-returns-in-Leaf-clause-stopped : goal.change_in-returns-in-Leaf-clause-stopped
@@ -179,8 +243,8 @@ change_in-returns-in-Leaf-clause-stopped g t c =
     let is = leaf_is q k rows c.requires.known content in
     err_so c.change_leaf.result c.change_leaf.ensures.stopped (λ e h. elim h [
       | inl x ↦ inl x
-      | inr f ↦ inr (inr (subst (λ w. g.F.FnOnce.post c.args.change
-          (finite.find (slice_cmp nat_cmp) c.args.key.now (rows_or w), tt) (Err e)) (sym is.0) f))
+      | inr f ↦ inr (inr (subst (λ w. Makes (λ f x s. g.F.FnOnce.post f (x, tt) s) c.args.change
+          (finite.find (slice_cmp nat_cmp) c.args.down.now.key.now (rows_or w)) (Err e)) (sym is.0) f))
     ])
 
 pub change_in-returns-in_ok-step_up-in-Inner-clause-reached :
@@ -188,24 +252,38 @@ pub change_in-returns-in_ok-step_up-in-Inner-clause-reached :
 change_in-returns-in_ok-step_up-in-Inner-clause-reached g t c =
     let q = g.C.Chunks.contents c.args.chunks.now in
     let kids = c.in-Inner.inner in
-    let key = c.args.key.now in
+    let key = c.args.down.now.key.now in
+    let deeper = c.below-deeper.result in
     let i = c.place_for-place.result in
     let below = c.child_at-child.result in
     let content : slice_get q (stamp_of c.args.at) ≡ Some (chunk_content (chunked.Inner kids)) = c.requires.content ∙ ap
     (λ w. Some (chunk_content w)) c.in-Inner.is in
-    let place : IsPlace key (keys_of kids) i = subst (λ w. IsPlace key w i)
-    (c.as_slice.ensures.keys ∙ c.deref.ensures ∙ c.firsts.ensures.keys) c.place_for-place.ensures in
+    let place : IsPlace key (keys_of kids) i = subst (λ z. IsPlace z (keys_of kids) i) c.args.down.now.same
+    (subst (λ w. IsPlace c.args.down.now.searched.now w i)
+    (c.as_slice.ensures.keys ∙ c.deref.ensures ∙ c.firsts.ensures.keys) c.place_for-place.ensures) in
     let b = c.child_at-child.ensures.child in
     let w = way q key c.args.at below kids i c.requires.known content place b in
     let all : AreAll (g.C.Chunks.places c.args.chunks.now) (values_of kids) = subst
     (λ z. AreAll (g.C.Chunks.places c.args.chunks.now) (chunk_children z)) c.in-Inner.is c.requires.children in
+    let same : finite.find (slice_cmp nat_cmp) deeper.key.now (rows_or (chunk_rows q (stamp_of below)))
+    ≡ finite.find (slice_cmp nat_cmp) key (rows_or (chunk_rows q (stamp_of c.args.at))) =
+    ap (λ z. finite.find (slice_cmp nat_cmp) z (rows_or (chunk_rows q (stamp_of below)))) c.below-deeper.ensures.key
+    ∙ w.same in
+    let new = c.change_at.new in
     let r = c.in_ok-below-in-Inner.ensures.reached in
     let u = r.0 in (
       u,
-      subst (λ z. g.F.FnOnce.post c.args.change (z, tt) (Ok u)) w.same r.1,
-      reached_up q (g.C.Chunks.contents c.change_at.new.chunks) (g.C.Chunks.places c.change_at.new.chunks) key c.args.at
-          below kids i u c.in_ok-below-in-Inner.below c.in_ok-step_up-in-Inner.field-0
-          c.change_at.new.laying c.step_up.new.laying w c.requires.known content
-          c.change_at.ensures.grown.0 (λ at z. c.change_at.ensures.grown.1 at (all at z)) b r.2
-          (c.in_ok-step_up-in-Inner.ensures key place),
+      subst (λ z. Makes (λ f x s. g.F.FnOnce.post f (x, tt) s) c.args.change z (Ok u)) same r.1,
+      reached_up q (g.C.Chunks.contents new.chunks) (g.C.Chunks.places new.chunks) c.args.down.now.copies
+          c.args.down.now.may_split deeper.may_split c.args.down.now.as_trail key c.args.at below kids i u
+          c.in_ok-below-in-Inner.below c.in_ok-step_up-in-Inner.field-0 new.laying c.step_up.new.laying w
+          c.requires.known content c.change_at.ensures.grown.0 (λ at z. c.change_at.ensures.grown.1 at (all at z)) place
+          b (λ f. (c.below-deeper.ensures.split f).0)
+          (λ f full. c.below-deeper.ensures.whole f (omega
+          (arith, full, ap length c.children.ensures, length-values_of kids)))
+          (reached_as (g.C.Chunks.contents new.chunks) (g.C.Chunks.places new.chunks) deeper.copies
+          (c.args.down.now.copies + 1) deeper.may_split deeper.as_trail c.args.down.now.as_trail (stamp_of below)
+          (chunk_depth q (stamp_of below)) (rows_or (chunk_rows q (stamp_of below))) deeper.key.now key u
+          c.in_ok-below-in-Inner.below new.laying c.below-deeper.ensures.copies c.below-deeper.ensures.trail
+          c.below-deeper.ensures.key r.2) c.in_ok-step_up-in-Inner.ensures,
     )

@@ -1,10 +1,36 @@
-use Rattle.std.proofs.Common.{Ok, subst}
+use Rattle.std.proofs.Common.{◌≡◌, ◌∙◌, ◌⊎◌, Err, Ok, inl, inr, nat_cmp, option_copied, subst, sym}
+use Rattle.std.specs.Cmp.Lexicographic.{slice_cmp}
+use Rattle.std.specs.FinMap.{find}
+use Rattle.group_history.specs.declared.mutators.Stop.TheVariants.{NoMemory}
+use Rattle.map_nodes.proofs.LeafEnds.{stopped_so}
+use Rattle.map_nodes.proofs.LeafRows.{value_searched}
+use Rattle.map_nodes.specs.Changes.{Makes}
 use Rattle.map_nodes.proofs.nodes.trails.laying.change_leaf.Goals as goal
+
+pub returns-in_err-update-clause-stopped : goal.returns-in_err-update-clause-stopped
+returns-in_err-update-clause-stopped g c =
+    let there : option_copied c.value_found.result ≡ find (slice_cmp nat_cmp) c.args.down.now.key.now c.args.leaf.now =
+    value_searched c.args.leaf.now c.args.down.now.searched.now c.args.down.now.key.now c.search_for-found.result
+    (option_copied c.value_found.result) c.as_slice.result.now c.values.result.now c.args.down.now.same
+    (c.as_slice.ensures.keys ∙ c.deref.ensures ∙ c.keys.ensures.keys) c.values.ensures c.as_slice.ensures.order
+    c.search_for-found.ensures.found c.search_for-found.ensures.absent c.value_found.ensures in
+    stopped_so c.from_residual.result c.from_residual.ensures.1 (λ e same. elim (subst
+    (λ s. (s ≡ NoMemory) ⊎ Makes (λ f x r. g.F.FnOnce.post f (x, tt) r) c.args.change
+    (option_copied c.value_found.result) (Err s)) (sym same) c.in_err-update.ensures.stopped) [
+      | inl memory ↦ inl memory
+      | inr refused ↦ inr (subst (λ w. Makes (λ f x r. g.F.FnOnce.post f (x, tt) r) c.args.change w (Err e)) there
+          refused)
+    ])
 
 pub returns-clause-reached : goal.returns-clause-reached
 returns-clause-reached g c =
-    let update = c.in_ok-update.update in (
-      update,
-      subst (λ w. g.F.FnOnce.post c.args.change (w, tt) (Ok update)) c.in_ok-place.ensures.there c.in_ok-update.ensures,
-      c.in_ok-put_in.ensures c.args.key.now c.in_ok-place.ensures.place,
+    let there : option_copied c.value_found.result ≡ find (slice_cmp nat_cmp) c.args.down.now.key.now c.args.leaf.now =
+    value_searched c.args.leaf.now c.args.down.now.searched.now c.args.down.now.key.now c.search_for-found.result
+    (option_copied c.value_found.result) c.as_slice.result.now c.values.result.now c.args.down.now.same
+    (c.as_slice.ensures.keys ∙ c.deref.ensures ∙ c.keys.ensures.keys) c.values.ensures c.as_slice.ensures.order
+    c.search_for-found.ensures.found c.search_for-found.ensures.absent c.value_found.ensures in (
+      c.in_ok-update.update,
+      subst (λ w. Makes (λ f x r. g.F.FnOnce.post f (x, tt) r) c.args.change w (Ok c.in_ok-update.update)) there
+          c.in_ok-update.ensures.made,
+      c.in_ok-put_in.ensures,
     )

@@ -3,8 +3,9 @@ use Rattle.map_nodes.specs.Inside.Laying.{IsStepped}
 use Rattle.map_nodes.specs.declared.nodes.trails.laying.Reached.TheVariants.{Laid}
 use Rattle.map_nodes.proofs.nodes.trails.laying.step_up.Goals as goal
 
-pub returns-in_ok-lay_step-in-Laid : goal.returns-in_ok-lay_step-in-Laid
-returns-in_ok-lay_step-in-Laid c key place =
-    let s = c.in_ok-lay_step-in-Laid.ensures.steps key place in
-    subst (λ w. IsStepped c.args.inner.now key c.args.place w Laid c.args.laying.now c.lay_step.new.laying)
-    (sym c.in-Laid.is) (refl, c.in_ok-lay_step-in-Laid.ensures.end, (s.0, s.1, s.2, s.3))
+pub returns-in_ok-add-in-Laid : goal.returns-in_ok-add-in-Laid
+returns-in_ok-add-in-Laid c =
+    let s = c.in_ok-step-in-Laid.ensures in
+    subst (λ w. IsStepped c.args.down.now.copies c.args.inner.now c.args.down.now.key.now c.args.place w Laid
+    c.args.laying.now (record { steps = c.add.new.steps; end = c.args.laying.now.end }))
+    (sym c.in-Laid.is) (refl, refl, (c.in_ok-step-in-Laid.step, s.0, s.1, c.in_ok-add-in-Laid.ensures))

@@ -9,12 +9,13 @@ use Rattle.map_chunks.proofs.AnswerLemmas.{if_ok_so}
 use Rattle.map_chunks.proofs.TreeLemmas.{value_of_map}
 use Rattle.map_chunks.specs.Shown.{chunk_rows, map_of_rows, rows_or, shown}
 use Rattle.map_nodes.proofs.WayLemmas.{err_so}
+use Rattle.map_nodes.specs.Changes.{Makes}
 use Rattle.map_tree.specs.Puts.{settled, IsUpdate}
 use Rattle.map_tree.specs.Trees.{root_map}
 use Rattle.map_tree.specs.declared.tree.Root.TheVariants.{Placed}
 use Rattle.map_tree.specs.declared.tree.Tree.{Tree}
 use Rattle.map_tree.proofs.PutTrees.{own_update, placed_spells, placed_update}
-use Rattle.map_tree.proofs.tree.Tree.update.Goals as goal
+use Rattle.map_tree.proofs.tree.Tree.change.Goals as goal
 
 pub returns-in_err-updated-in-Placed-clause-stopped : goal.returns-in_err-updated-in-Placed-clause-stopped
 returns-in_err-updated-in-Placed-clause-stopped g c m h =
@@ -24,13 +25,13 @@ returns-in_err-updated-in-Placed-clause-stopped g c m h =
     (placed_spells p c.args.self.now c.in-Placed.at m c.in-Placed.is h) in
     let e = c.in_err-updated-in-Placed.field-0 in
     let s : IfErr c.from_residual.result (λ e. (e ≡ NoMemory) ⊎ g.C.Chunks.stops e
-    ⊎ g.F.FnOnce.post c.args.change (finite.find (slice_cmp nat_cmp) c.args.key.now (rows_or (chunk_rows p k)), tt)
-    (Err e)) = search rules in
+    ⊎ Makes (λ f there made. g.F.FnOnce.post f (there, tt) made) c.args.change
+    (finite.find (slice_cmp nat_cmp) c.args.key.now (rows_or (chunk_rows p k))) (Err e)) = search rules in
     err_so c.from_residual.result s (λ e z. elim z [
       | inl x ↦ inl x
       | inr y ↦ elim y [
         | inl x ↦ inr (inl x)
-        | inr f ↦ inr (inr (subst (λ w. g.F.FnOnce.post c.args.change (w, tt) (Err e)) v f))
+        | inr f ↦ inr (inr (subst (λ w. Makes (λ f there made. g.F.FnOnce.post f (there, tt) made) c.args.change w (Err e)) v f))
       ]
     ])
 
@@ -39,12 +40,12 @@ returns-in-Own-clause-updated g c m h =
     let p = g.C.Chunks.contents c.args.chunks.now in
     let n = c.in-Own.node in
     let h' : option_and_then map_of_rows (shown p n.pieces) ≡ Some m = ap (root_map p) (sym c.in-Own.is) ∙ h in
-    if_ok_so c.update_own.result c.update_own.ensures.updated (λ ran z. (
+    if_ok_so c.write.result c.write.ensures.put (λ ran z. (
       z.0,
-      subst (λ w. g.F.FnOnce.post c.args.change (w, tt) (Ok z.0)) (value_of_map (shown p n.pieces) m c.args.key.now h')
+      subst (λ w. Makes (λ f there made. g.F.FnOnce.post f (there, tt) made) c.args.change w (Ok z.0)) (value_of_map (shown p n.pieces) m c.args.key.now h')
           z.1,
-      own_update p (g.C.Chunks.contents c.update_own.new.chunks) (g.C.Chunks.places c.update_own.new.chunks)
-          c.args.self.now n c.update_own.new.node m c.args.key.now z.0 ran c.in-Own.is h z.2,
+      own_update p (g.C.Chunks.contents c.write.new.chunks) (g.C.Chunks.places c.write.new.chunks)
+          c.args.self.now n c.write.new.self m c.args.key.now z.0 ran c.in-Own.is h z.2,
     ))
 
 pub returns-in-Own-clause-stopped : goal.returns-in-Own-clause-stopped
@@ -52,11 +53,11 @@ returns-in-Own-clause-stopped g c m h =
     let p = g.C.Chunks.contents c.args.chunks.now in
     let n = c.in-Own.node in
     let h' : option_and_then map_of_rows (shown p n.pieces) ≡ Some m = ap (root_map p) (sym c.in-Own.is) ∙ h in
-    err_so c.update_own.result c.update_own.ensures.stopped (λ e z. elim z [
+    err_so c.write.result c.write.ensures.stopped (λ e z. elim z [
       | inl x ↦ inl x
       | inr y ↦ elim y [
         | inl x ↦ inr (inl x)
-        | inr f ↦ inr (inr (subst (λ w. g.F.FnOnce.post c.args.change (w, tt) (Err e))
+        | inr f ↦ inr (inr (subst (λ w. Makes (λ f there made. g.F.FnOnce.post f (there, tt) made) c.args.change w (Err e))
             (value_of_map (shown p n.pieces) m c.args.key.now h') f))
       ]
     ])
@@ -73,7 +74,7 @@ returns-in_ok-updated-in-Placed-clause-updated g c m h =
     let z = c.in_ok-updated-in-Placed.ensures.updated in
     let u = z.0 in (
       u,
-      subst (λ w. g.F.FnOnce.post c.args.change (w, tt) (Ok u))
+      subst (λ w. Makes (λ f there made. g.F.FnOnce.post f (there, tt) made) c.args.change w (Ok u))
           (value_of_map (chunk_rows p (stamp_of at)) m key (placed_spells p t at m c.in-Placed.is h)) z.1,
       subst (λ (w : Tree). IsUpdate p q may t w m key u c.settle.result) (sym c.settle.ensures.tree)
           (subst (IsUpdate p q may t (settled r.root (record { root = Placed at })) m key u) (sym c.settle.ensures.ran)

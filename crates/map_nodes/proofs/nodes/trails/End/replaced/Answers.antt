@@ -3,8 +3,8 @@ use Rattle.std.specs.Arc.{arc_value}
 use Rattle.group_history.specs.Rows.{AreKeys, keys_of, values_of}
 use Rattle.map_chunks.proofs.SearchLemmas.{length-keys_of, length-values_of}
 use Rattle.map_chunks.specs.Search.{IsFound}
-use Rattle.map_nodes.proofs.LayLemmas.{rows_put}
-use Rattle.map_nodes.proofs.nodes.trails.laying.put_end.Goals as goal
+use Rattle.map_nodes.proofs.LeafRows.{value_put}
+use Rattle.map_nodes.proofs.nodes.trails.End.replaced.Goals as goal
 
 pub returns : goal.returns
 returns c key found =
@@ -22,5 +22,5 @@ returns c key found =
         length-set values i v ∙ (let l : length values ≡ length keys = omega
             (arith, ap length k, ap length x, length-keys_of rows, length-values_of rows) in l),
       ),
-      rows_put rows keys values key v i k x o f,
+      value_put rows keys values key v i k x o f,
     )

@@ -1,0 +1,145 @@
+//! Own chunks made of placed ones on the way up, with what a put made below them. All placed chunks stay as they are, so
+//! memory may be refused at any of these steps.
+ghost use Rattle.std.specs.Prelude.{◌≡◌, ◌+◌, ◌++◌, ◌<◌, ◌≤◌, ◌^◌, true, false, length, vec_items, IfOk};
+ghost use Rattle.std.specs.Ordering.{nat_cmp};
+ghost use Rattle.std.specs.Cmp.Lexicographic.{slice_cmp};
+ghost use Rattle.std.specs.FinMap as finite;
+ghost use Rattle.group_history.specs.Rows.{AreKeys, keys_of, paired};
+ghost use Rattle.map_chunks.specs.Search.{IsAbsent, IsPlace};
+ghost use Rattle.map_nodes.specs.Inside.Counts.{half_fresh, HasKept};
+ghost use Rattle.map_nodes.specs.Inside.Halves.{half_pieces, IsHalf};
+ghost use Rattle.map_nodes.specs.Inside.Laying.{rows_seen, CanGrowOver, IsGrownOver};
+ghost use Rattle.map_nodes.specs.Inside.Puts.{IsLeafPut};
+ghost use Rattle.map_nodes.specs.Nodes.{row_pieces};
+
+use super::copies::{copied_values, placed_children};
+use super::homes::boxed;
+use super::putting::{Half, Put, PutBuffers, finish, insert_row, lower_first};
+use super::{Body, OwnChild, OwnNode};
+use group_history::{Inner, Json, Leaf, Ref, SearchKey, Text};
+use map_chunks::entries::MOST;
+use map_chunks::keys::{NodeKeys, ROOM};
+use std::alloc::{AllocError, Global};
+
+/// A way down to a key: how many copies of an upper half's first key are wanted, one for each chunk above; whether the
+/// chunk may be split; and whether a trail will do.
+#[derive(Drop)]
+pub(crate) struct Down<'a> {
+    pub(crate) alloc: Global,
+    pub(crate) key: &'a str,
+    pub(crate) searched: &'a SearchKey<'a>,
+    pub(crate) copies: usize,
+    pub(crate) may_split: bool,
+    pub(crate) as_trail: bool,
+    ghost same: { searched.now ≡ key.now },
+}
+
+impl<'a> Down<'a> {
+    /// The way on below a chunk with so many children: where that may be split if it gets another one, so may its child.
+    pub(crate) fn below(&self, children: usize) -> Down<'a>
+        requires { self.now.copies + 1 < 2 ^ 64 }
+        ensures key { result.key.now ≡ self.now.key.now }
+        ensures copies { result.copies ≡ self.now.copies + 1 }
+        ensures trail { result.as_trail ≡ self.now.as_trail }
+        ensures split { result.may_split ≡ false → (self.now.may_split ≡ false) × (16 ≤ children) }
+        ensures whole { self.now.may_split ≡ false → 16 ≤ children → result.may_split ≡ false }
+    {
+        Down {
+            alloc: self.alloc,
+            key: self.key,
+            searched: self.searched,
+            copies: self.copies + 1,
+            may_split: self.may_split || children < MOST,
+            as_trail: self.as_trail,
+        }
+    }
+
+    // The put of a row with this key.
+    fn put(&self, key: &'a Text) -> Put<'a>
+        ensures key { result.key.now ≡ key.now }
+        ensures copies { result.copies ≡ self.now.copies }
+        ensures split { result.may_split ≡ true }
+    {
+        Put {
+            alloc: self.alloc,
+            key,
+            copies: self.copies,
+            may_split: true,
+        }
+    }
+}
+
+impl OwnNode {
+    /// A leaf.
+    pub(crate) fn of_rows(keys: NodeKeys, values: Vec<Json>) -> OwnNode
+        requires keys { AreKeys keys.texts }
+        requires pairs { length values.items ≡ length keys.texts }
+        ensures { result ≡ rows_seen keys.texts values.items }
+    {
+        OwnNode {
+            depth: 1,
+            keys,
+            body: Body::Leaf(values),
+        }
+    }
+}
+
+/// The rows of a leaf with one more, before the one at a place, and the upper half where they are 17 then.
+pub(crate) fn grown_rows(
+    leaf: &Leaf,
+    place: usize,
+    down: &Down<'_>,
+    value: Json,
+) -> Result<(NodeKeys, Vec<Json>, Option<Half>), AllocError>
+    requires absent { IsAbsent down.now.key.now (keys_of leaf.now) place }
+    ensures rows { IfOk result (λ r. row_pieces (paired r.0.texts r.1.items) ++ half_pieces r.2
+        ≡ row_pieces (finite.put (slice_cmp nat_cmp) down.now.key.now value leaf.now)) }
+    ensures half { IfOk result (λ r. IsHalf down.now.copies 1 r.2) }
+    ensures leaf { IfOk result (λ r. AreKeys r.0.texts × (length r.1.items ≡ length r.0.texts)
+        × (0 < length r.0.texts)) }
+    ensures fresh { IfOk result (λ r. half_fresh r.2 ≤ 1) }
+    ensures entries { IfOk result (λ r. HasKept (length leaf.now) (length r.0.texts) r.2) }
+    ensures keys { IfOk result (λ r. IsLeafPut (keys_of leaf.now) r.0.texts r.2) }
+{
+    let room = if down.as_trail {
+        leaf.values().len() + 1
+    } else {
+        ROOM
+    };
+    let mut keys = NodeKeys::shared(leaf.keys().clone()?);
+    let mut values = copied_values(down.alloc, leaf.values(), room)?;
+    let key = Text::new(down.alloc, down.key)?;
+    let half = insert_row(&mut keys, &mut values, place, down.put(&key), value)?;
+    Ok((keys, values, half))
+}
+
+/// An inner chunk with an own child in the place of one, and the child's upper half behind it. It is split where it has
+/// 17 children then.
+pub(crate) fn grown_over(
+    inner: &Inner<Ref>,
+    place: usize,
+    down: &Down<'_>,
+    child: Box<OwnNode>,
+    half: Option<Half>,
+) -> Result<(Box<OwnNode>, Option<Half>), AllocError>
+    requires place { IsPlace down.now.key.now (keys_of inner.now) place }
+    requires fits { CanGrowOver down.now.copies inner.now down.now.key.now place child.value half }
+    ensures { IfOk result (λ r. IsGrownOver down.now.copies (child.value.depth + 1) inner.now down.now.key.now place
+        child.value half r.0.value r.1) }
+{
+    let depth = child.depth() + 1;
+    let mut keys = NodeKeys::shared(inner.firsts().clone()?);
+    let mut kids = placed_children(down.alloc, inner.children(), ROOM)?;
+    kids.reserve(1)?;
+    let key = Text::new(down.alloc, down.key)?;
+    let ready = PutBuffers::of_child(&mut keys, down.put(&key), place, &half)?;
+    kids[place] = OwnChild::Own(child);
+    lower_first(&mut keys, place, ready.lower);
+    let half = finish(&mut keys, &mut kids, place, depth, ready.room, half);
+    let node = OwnNode {
+        depth,
+        keys,
+        body: Body::Inner(kids),
+    };
+    Ok((boxed(down.alloc, node)?, half))
+}
