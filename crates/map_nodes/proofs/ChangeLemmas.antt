@@ -3,7 +3,7 @@ use Rattle.std.proofs.Common.{◌≡◌, ◌-◌, ℕ, zero, suc, true, cond, Li
 use Rattle.std.proofs.Common.{get_or, set, refl, sym, ap, ◌∙◌, subst, arith, nat_cmp, Ordering, Less, Equal, Greater}
 use Rattle.std.specs.Prelude.{IsSome}
 use Rattle.std.specs.Cmp.Lexicographic.{slice_cmp}
-use Rattle.std.specs.FinMap.{find, put}
+use Rattle.std.specs.FinMap.{put}
 use Rattle.std.specs.FinMap.Entries.{by_order}
 use Rattle.std.proofs.lemmas.List.{append-nil}
 use mathlib.Core.List.{IsPrefix}
@@ -17,7 +17,7 @@ use Rattle.map_nodes.specs.Nodes.{Kids, kids_pieces, HeadIs, AllKids}
 use Rattle.map_nodes.specs.Inside.Nodes.{Kid, child_rows}
 use Rattle.map_nodes.specs.declared.nodes.OwnChild.{OwnChild}
 use Rattle.map_nodes.specs.declared.nodes.OwnChild.TheVariants.{Placed, Own}
-use Rattle.map_chunks.proofs.RowLemmas.{cmp, AllBelow, AllAbove, AllAbove-less, IsStrict, find-above, put-front}
+use Rattle.map_chunks.proofs.RowLemmas.{cmp, AllBelow, AllAbove, put-front}
 use Rattle.map_chunks.proofs.RowLemmas.{put-back, put-at}
 use Rattle.map_chunks.proofs.JoinLemmas.{Shows, appended, joined-append, split_of, begins, back_begins, begins-with}
 use Rattle.map_chunks.proofs.OpenLemmas.{rows-kept, shows_of, shows-append, key_at}
@@ -178,15 +178,6 @@ put-begins k key v rs h n =
 pub none_there : (o : Option Bytes) → IsSome o → o ≡ None → ⊥
 none_there None f e = absurd cc
 none_there (Some v) f e = cc
-
--- a key that is there isn't below the first one
-pub there_above : (k key : Bytes) (rs : Rows) → begins_with k rs ≡ true → IsStrict rs
-    → IsSome (find (slice_cmp nat_cmp) key rs) → cmp key k ≡ Less → ⊥
-there_above k key rs h o f l =
-    let b = begins k rs h in
-    let s : IsStrict ((k, b.value) ∷ b.rest) = subst IsStrict b.whole o in
-    let up : AllAbove key rs = subst (AllAbove key) (sym b.whole) (l, AllAbove-less key k b.rest l s.0) in
-    none_there (find (slice_cmp nat_cmp) key rs) f (find-above key rs up)
 
 pub put-found : (key v : Bytes) (rows : Rows) (i : ℕ) → (f : Found key rows i)
     → put (slice_cmp nat_cmp) key v rows ≡ f.front ++ (key, v) ∷ f.back

@@ -29,7 +29,7 @@ use Rattle.map_chunks.specs.Seeking.{chunk_depth}
 use Rattle.map_chunks.specs.Shown.{Piece, Seen, chunk_rows, rows_or, shown, IsTree}
 use Rattle.map_nodes.proofs.CopyLemmas.{copied_pieces, copyable, placed_fresh}
 use Rattle.map_nodes.proofs.KeptLevels.{placed_inner, placed-values, still}
-use Rattle.map_nodes.proofs.LevelLemmas.{changed_as, changed_copy, inner-levels}
+use Rattle.map_nodes.proofs.LevelLemmas.{changed_as, changed_copy, inner-levels, IsCopied}
 use Rattle.map_nodes.proofs.NamedLemmas.{kept-finished, kept-kid}
 use Rattle.map_nodes.proofs.NodeLemmas.{Down, down}
 use Rattle.map_nodes.proofs.PathLemmas.{Put, filled_kids, length-lowered, length-pairs, put_path}
@@ -47,7 +47,7 @@ use Rattle.map_nodes.specs.Inside.Laying.{IsMade}
 use Rattle.map_nodes.specs.Inside.Nodes.{Kid, child_rows}
 use Rattle.map_nodes.specs.Inside.Puts.{half_levels}
 use Rattle.map_nodes.specs.Inside.Ready.{Fits}
-use Rattle.map_nodes.specs.Levels.{parting, placed_levels, seen_levels, topped, IsCopied, IsRenewed}
+use Rattle.map_nodes.specs.Levels.{parting, placed_levels, seen_levels, topped, IsRenewed}
 use Rattle.map_nodes.specs.Nodes.{AllKids, kids_levels, kids_pieces}
 use Rattle.map_nodes.specs.Trails.{placed_kids, step_kids, step_seen, IsStep}
 use Rattle.map_nodes.specs.declared.nodes.OwnChild.TheVariants.{Placed, Own}

@@ -1,5 +1,5 @@
 -- Copies have the chunks of what they are copies of, and a chunk keeps its own where a child's change.
-use Rattle.std.proofs.Common.{◌≡◌, ◌<◌, ◌-◌, ℕ, zero, suc, List, [], ◌∷◌, ◌++◌, None, Some, map, slice_get, set}
+use Rattle.std.proofs.Common.{◌≡◌, ◌<◌, ◌-◌, ℕ, zero, suc, List, [], ◌∷◌, ◌++◌, Some, map, slice_get, set}
 use Rattle.std.proofs.Common.{append-nil, inl, refl, sym, ap, ◌∙◌, subst, arith}
 use Rattle.std.specs.List.{flat_map}
 use mathlib.Core.List.{IsPrefix}
@@ -15,10 +15,9 @@ use Rattle.group_history.proofs.Lists.{get_more}
 use Rattle.map_chunks.proofs.JoinLemmas.{some_is}
 use Rattle.map_chunks.proofs.OpenLemmas.{stamped}
 use Rattle.map_chunks.specs.Shown.{own, leaf_keys, Seen, Shape}
-use Rattle.map_nodes.proofs.LevelLemmas.{changed_as, changed_beside, inner-levels, leaf-levels, topped-same}
-use Rattle.map_nodes.specs.Inside.Copies.{IsCopy, MayBeDeep}
+use Rattle.map_nodes.proofs.LevelLemmas.{changed_as, changed_beside, topped-same}
 use Rattle.map_nodes.specs.Levels.{levels_of, node_levels, nothing, parting, placed_levels, seen_levels, topped}
-use Rattle.map_nodes.specs.Levels.{AreChanged, CopiedLater, IsCopied, Levels, Member, RenewedLater}
+use Rattle.map_nodes.specs.Levels.{AreChanged, Levels, Member, RenewedLater}
 use Rattle.map_nodes.specs.Nodes.{body_marks, child_levels, kids_levels}
 use Rattle.map_nodes.specs.declared.nodes.Body.{Body}
 use Rattle.map_nodes.specs.declared.nodes.Body.TheVariants.{Leaf}
@@ -70,27 +69,6 @@ placed_inner p (suc below) stamp kids h g i =
     (keys-renamed kids)
     ∙ topped-same n _ _ (λ j. sym (placed-below p below kids j)) i
     ∙ ap (λ d. topped n (kids_levels d (as_placed kids) p) i) b
-
--- a copy has the keys of the copied chunk, and what is below that
-copy-levels : (p : Contents) (depth stamp : ℕ) (c : Chunk Ref) (n : Seen) → MayBeDeep depth c → IsCopy depth c n
-    → slice_get p stamp ≡ Some (chunk_content c) → IsCopied (placed_levels p depth stamp) (seen_levels n p)
-copy-levels p depth stamp (chunked.Leaf rows) n m is g =
-    let keys = leaf_keys (keys_of rows) in
-    let old = placed_leaf p depth stamp rows m g in
-    let new : (i : ℕ) → seen_levels n p i ≡ topped (None, keys) nothing i = λ i. ap (λ w. levels_of p w i) is.4
-    ∙ leaf-levels p keys i in
-    ((Some stamp, keys, old 0, new 0), λ i. new (suc i) ∙ sym (old (suc i)))
-copy-levels p depth stamp (chunked.Inner kids) n m is g =
-    let keys = parting (keys_of kids) in
-    let below = kids_levels (depth - 1) (as_placed kids) p in
-    let old = placed_inner p depth stamp kids m.0 g in
-    let new : (i : ℕ) → seen_levels n p i ≡ topped (None, keys) below i = λ i. ap (λ w. levels_of p w i) is.4
-    ∙ inner-levels p (depth - 1) keys (as_placed kids) i in
-    ((Some stamp, keys, old 0, new 0), λ i. new (suc i) ∙ sym (old (suc i)))
-
-pub copied-levels : (p : Contents) (depth stamp : ℕ) (c : Chunk Ref) (n : Seen) → MayBeDeep depth c → IsCopy depth c n
-    → slice_get p stamp ≡ Some (chunk_content c) → CopiedLater p (λ q. placed_levels q depth stamp) (seen_levels n)
-copied-levels p depth stamp c n m is g later pre = copy-levels later depth stamp c n m is (still p later stamp c pre g)
 
 -- A CHILD CHANGED
 

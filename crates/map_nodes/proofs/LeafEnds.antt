@@ -1,9 +1,8 @@
 -- What a put makes of a leaf.
 use Rattle.std.proofs.Common.{◌≡◌, ◌∙◌, ◌<◌, ◌≤◌, ◌++◌, ◌∷◌, ℕ, zero, suc, Bool, List, [], Option, Some, None}
 use Rattle.std.proofs.Common.{append-nil, ap, arith, false, inl, inr, length, nat_cmp, not, refl, reverse}
-use Rattle.std.proofs.Common.{slice_get, subst, sym, true, Err, IfErr, Ok, Result}
+use Rattle.std.proofs.Common.{slice_get, subst, sym, true}
 use Rattle.std.specs.Option.{is_some}
-use Rattle.std.specs.Result.{IsErrAnd}
 use Rattle.std.specs.Arc.{arc_value}
 use Rattle.std.specs.Cmp.Lexicographic.{slice_cmp}
 use Rattle.std.specs.FinMap.{find, put}
@@ -98,11 +97,6 @@ pub no_half : (half : Option Half) (none : Bool) → is_some half ≡ not none �
 no_half None none s e = refl
 no_half (Some h) true s e = absurd cc
 no_half (Some h) false s e = absurd cc
-
--- why a way ends, where the change of a leaf stops
-pub stopped_so : {A E : Type 0} {P Q : E → Type 0} (r : Result A E) → IsErrAnd r P → ((e : E) → P e → Q e) → IfErr r Q
-stopped_so (Ok a) h f = tt
-stopped_so (Err e) h f = f e h
 
 -- A PLACED LEAF
 

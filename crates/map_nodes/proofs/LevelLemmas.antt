@@ -8,7 +8,7 @@ use Rattle.group_history.specs.Refs.{stamp_of}
 use Rattle.group_history.specs.Spelling.{Contents}
 use Rattle.map_chunks.specs.Shown.{Mark, Shape, own, placed}
 use Rattle.map_nodes.specs.Levels.{Levels, Member, levels_of, mark_levels, placed_levels, topped}
-use Rattle.map_nodes.specs.Levels.{as_new, AreChanged, IsCopied}
+use Rattle.map_nodes.specs.Levels.{as_new, AreChanged}
 use Rattle.map_nodes.specs.Nodes.{child_levels, child_marks, kids_levels, kids_marks, sunk}
 use Rattle.map_nodes.specs.declared.nodes.OwnChild.{OwnChild}
 use Rattle.map_nodes.specs.declared.nodes.OwnChild.TheVariants.{Placed, Own}
@@ -121,6 +121,11 @@ changed_beside B x a b y (inr m) = inr (
 pub changed_as : (B : Shape → List Shape → Type 0) (a b c d : List Member) → c ≡ a → d ≡ b → AreChanged B a b
     → AreChanged B c d
 changed_as B a b c d e f h = subst (λ w. AreChanged B w d) (sym e) (subst (AreChanged B a) (sym f) h)
+
+-- the first chunk is a new one with the keys of the old one, and below it are the same chunks
+abbrev pub IsCopied : Levels → Levels → Type 0
+IsCopied old new = ((stamp : Option ℕ) × (keys : Shape) × (old 0 ≡ (stamp, keys) ∷ []) × (new 0 ≡ (None, keys) ∷ []))
+    × ((level : ℕ) → new (suc level) ≡ old (suc level))
 
 -- a chunk that is copied, and then changed in one of these ways
 pub changed_copy : (B : Shape → List Shape → Type 0) → ((keys : Shape) → B keys (keys ∷ [])) → (was now new : Levels)

@@ -12,7 +12,6 @@ mod NodeLemmas
 mod PathLemmas
 pub mod PlaceLemmas
 pub mod RemoveLemmas
-mod ReplaceLemmas
 mod RootLemmas
 mod ScanLemmas
 mod SecondLemmas
@@ -23,7 +22,6 @@ pub mod WideLemmas
 mod BelowLemmas
 mod TrailLemmas
 mod SpotLemmas
-mod LayLemmas
 mod StepLemmas
 mod WalkLemmas
 pub mod LevelLemmas

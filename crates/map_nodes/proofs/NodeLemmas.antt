@@ -1,5 +1,5 @@
 -- The way down a chunk of a draft.
-use Rattle.std.proofs.Common.{◌≡◌, ◌<◌, ◌+◌, ◌-◌, ℕ, true, cond, List, [], ◌∷◌, ◌++◌, Option, Some, None, length, map}
+use Rattle.std.proofs.Common.{◌≡◌, ◌<◌, ◌-◌, ℕ, true, cond, List, [], ◌∷◌, ◌++◌, Option, Some, None, length, map}
 use Rattle.std.proofs.Common.{get_or, set, slice_get, refl, sym, ap, ◌∙◌, subst, arith, nat_cmp}
 use Rattle.std.proofs.lemmas.List.{set-get_or}
 use Rattle.std.specs.Box.{with_value}
@@ -12,13 +12,13 @@ use Rattle.group_history.specs.Rows.{Rows, keys_of, values_of, paired}
 use Rattle.group_history.specs.Spelling.{Contents, rows_at, joined_one, joined_rows, begins_with}
 use Rattle.group_history.proofs.Pairs.{keys_of-paired, values_of-paired}
 use Rattle.map_chunks.specs.Search.{IsPlace}
-use Rattle.map_chunks.specs.Shown.{own, Piece, Seen, part_rows, shown, chunk_rows, IsTree, rows_or}
-use Rattle.map_nodes.specs.Nodes.{Kids, child_pieces, kids_pieces, kids_height, kids_fresh, row_pieces, body_pieces}
-use Rattle.map_nodes.specs.Nodes.{HeadIs, IsChild, AllKids, IsNode, kids_marks, sunk}
-use Rattle.map_nodes.specs.Levels.{parting}
+use Rattle.map_chunks.specs.Shown.{Piece, Seen, part_rows, shown, chunk_rows, IsTree, rows_or}
+use Rattle.map_nodes.specs.Nodes.{Kids, child_pieces, kids_pieces, row_pieces, body_pieces}
+use Rattle.map_nodes.specs.Nodes.{HeadIs, IsChild, AllKids, IsNode}
+use Rattle.map_nodes.specs.Inside.Laying.{inner_seen}
 use Rattle.map_nodes.specs.Inside.Nodes.{Kid, child_rows}
 use Rattle.map_nodes.specs.declared.nodes.Body.{Body}
-use Rattle.map_nodes.specs.declared.nodes.Body.TheVariants.{Inner}
+use Rattle.map_nodes.specs.declared.nodes.Body.TheVariants.{Leaf, Inner}
 use Rattle.map_nodes.specs.declared.nodes.OwnChild.{OwnChild}
 use Rattle.map_nodes.specs.declared.nodes.OwnChild.TheVariants.{Placed, Own}
 use Rattle.map_chunks.proofs.RowLemmas.{IsStrict}
@@ -184,18 +184,14 @@ down-find p depth keys kids pieces key i child x d e =
     ap (λ w. find (slice_cmp nat_cmp) key (rows_or w)) e ∙ find-way key _ _ _ _ d.rows d.way ∙ ap
     (λ w. find (slice_cmp nat_cmp) key (rows_or w)) (sym d.rows_is)
 
--- an inner chunk as clauses see it, by its keys and children
-abbrev pub inner_seen : ℕ → List Bytes → List OwnChild → Seen
-inner_seen depth keys kids =
-    record {
-      depth = depth;
-      entries = length keys;
-      pieces = kids_pieces (depth - 1) (paired keys kids);
-      height = kids_height kids + 2;
-      fresh = kids_fresh kids + 1;
-      marks = own 0 (parting keys) ∷ sunk (kids_marks (depth - 1) kids);
-    }
-
+-- an inner chunk by the same keys and children
 pub inner_same : (depth : ℕ) (keys2 keys : List Bytes) (kids2 kids : List OwnChild) → keys2 ≡ keys → kids2 ≡ kids
     → inner_seen depth keys2 kids2 ≡ inner_seen depth keys kids
 inner_same depth keys2 keys kids2 kids k e = ap (λ ks. inner_seen depth ks kids2) k ∙ ap (inner_seen depth keys) e
+
+-- a leaf shows its rows
+pub leaf_rows : (p : Contents) (depth : ℕ) (keys : List Bytes) (body : Body) (values : _) (pieces : List Piece)
+    → body_pieces depth keys body ≡ pieces → body ≡ Leaf values
+    → shown p pieces ≡ Some (paired keys values.items)
+leaf_rows p depth keys body values pieces v e = ap (shown p) (sym v ∙ ap (body_pieces depth keys) e) ∙ shown-rows p
+    (paired keys values.items)

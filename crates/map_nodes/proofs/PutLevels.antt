@@ -16,15 +16,15 @@ use Rattle.map_chunks.specs.Shown.{own, child_keys, leaf_keys, Piece, Seen, Shap
 use Rattle.map_nodes.specs.Inside.Counts.{HasKept}
 use Rattle.map_nodes.specs.Inside.Halves.{IsLower, lowered, with_half}
 use Rattle.map_nodes.specs.Inside.Nodes.{Kid}
-use Rattle.map_nodes.specs.Inside.Puts.{half_levels, HalvesPut, IsHalved, IsLeafPut}
+use Rattle.map_nodes.specs.Inside.Puts.{half_levels, IsHalved, IsLeafPut}
 use Rattle.map_nodes.specs.Levels.{Levels, Member, levels_of, nothing, parting, seen_levels, topped}
-use Rattle.map_nodes.specs.Levels.{as_new, AreChanged, AreGrown, ArePut, ArePutIn, HasOneMore, IsCopied, IsGrown}
+use Rattle.map_nodes.specs.Levels.{as_new, AreChanged, AreGrown, ArePut, ArePutIn, HasOneMore, IsGrown}
 use Rattle.map_nodes.specs.Levels.{IsRenewed, PutLater, RenewedLater}
 use Rattle.map_nodes.specs.Nodes.{Kids, child_levels, kids_levels, kids_marks, sunk}
 use Rattle.map_nodes.specs.declared.nodes.OwnChild.{OwnChild}
 use Rattle.map_nodes.specs.declared.nodes.OwnChild.TheVariants.{Own}
 use Rattle.map_nodes.specs.declared.nodes.putting.Half.{Half}
-use Rattle.map_nodes.proofs.LevelLemmas.{changed_as, changed_beside, changed_copy, inner-levels, kids-levels-append}
+use Rattle.map_nodes.proofs.LevelLemmas.{changed_as, changed_beside, changed_copy, inner-levels, kids-levels-append, IsCopied}
 use Rattle.map_nodes.proofs.LevelLemmas.{leaf-levels, levels-append, topped-is}
 use Rattle.map_nodes.proofs.NodeLemmas.{Down}
 use Rattle.map_nodes.proofs.PathLemmas.{half_kids, length-lowered, lowered_pairs, with_half-is}
@@ -416,10 +416,6 @@ put_risen q was old lower new half d n m h later pre =
         ap (λ w. levels_of later w 0) m.1 ∙ topped-is later shape (lower.marks ++ half.node.value.marks) 0,
       ),
     )
-
--- a copy of a root that is put in
-pub put_in_copied : (was deep : ℕ) (a b c : Levels) → IsCopied c a → ArePutIn was deep a b → ArePutIn was deep c b
-put_in_copied was deep a b c e h = (put_copied c a (λ i. b (i + (deep - was))) e h.0, h.1)
 
 -- what was before, told by other words
 pub put_in_as : (was deep : ℕ) (a b c : Levels) → ((i : ℕ) → c i ≡ a i) → ArePutIn was deep a b → ArePutIn was deep c b

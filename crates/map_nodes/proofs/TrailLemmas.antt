@@ -13,6 +13,7 @@ use Rattle.map_chunks.specs.Search.{IsPlace}
 use Rattle.map_chunks.specs.Shown.{own, Seen, shown, IsTree}
 use Rattle.map_nodes.proofs.CopyLemmas.{placed_fresh}
 use Rattle.map_nodes.proofs.NodeLemmas.{Down, down}
+use Rattle.map_nodes.specs.Inside.Laying.{inner_seen}
 use Rattle.map_nodes.specs.Inside.Freezing.{kids_places}
 use Rattle.map_nodes.specs.Inside.Nodes.{Kid}
 use Rattle.map_nodes.specs.Levels.{parting}
@@ -102,26 +103,16 @@ trail_end [] e h = h
 trail_end (s ∷ ss) e h = trail_end ss e h.1
 
 -- an own chunk over the same chunk, wherever that lies
-abbrev pub chunk_over : ℕ → List Bytes → List OwnChild → Seen
-chunk_over depth keys kids = record {
-  depth = depth;
-  entries = length keys;
-  pieces = kids_pieces (depth - 1) (paired keys kids);
-  height = kids_height kids + 2;
-  fresh = kids_fresh kids + 1;
-  marks = own 0 (parting keys) ∷ sunk (kids_marks (depth - 1) kids);
-}
-
 pub seen_over : (s : Step) (below : Seen) (n : Kid) (depth : ℕ) (keys : List Bytes) (kids : List OwnChild)
     → depth ≡ below.depth + 1 → keys ≡ arc_value s.keys → n.value ≡ below
     → kids ≡ set (placed_kids s.children.items) s.place (Own n)
-    → chunk_over depth keys kids ≡ step_seen s below
+    → inner_seen depth keys kids ≡ step_seen s below
 seen_over s below n depth keys kids d k v e =
     let m = kid_of s below in
     let xs = placed_kids s.children.items in
     let texts = arc_value s.keys in
-    ap (λ w. chunk_over w keys kids) d ∙ ap (λ w. chunk_over (below.depth + 1) w kids) k
-    ∙ ap (λ w. chunk_over (below.depth + 1) texts w) e
+    ap (λ w. inner_seen w keys kids) d ∙ ap (λ w. inner_seen (below.depth + 1) w kids) k
+    ∙ ap (λ w. inner_seen (below.depth + 1) texts w) e
     ∙ ap (λ b. record {
       depth = below.depth + 1;
       entries = length texts;

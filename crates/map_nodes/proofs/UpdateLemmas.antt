@@ -1,5 +1,5 @@
 -- What a way down ends in, as what an update makes of a map.
-use Rattle.std.proofs.Common.{◌≡◌, ◌+◌, ◌++◌, ℕ, List, [], Option, Some, None, append-nil, inr, refl, sym, ap, ◌∙◌, subst, arith}
+use Rattle.std.proofs.Common.{◌≡◌, ◌++◌, ℕ, [], Option, Some, None, append-nil, inr, refl, sym, ap, ◌∙◌, subst, arith}
 use Rattle.std.specs.Prelude.{IsSome}
 use Rattle.std.specs.Ordering.{nat_cmp}
 use Rattle.std.specs.Cmp.Lexicographic.{slice_cmp}
@@ -17,9 +17,9 @@ use Rattle.map_chunks.proofs.WayLemmas.{deep_rows, depth_later, rows_later}
 use Rattle.map_chunks.specs.Places.{AreKept, places_of}
 use Rattle.map_chunks.specs.Seeking.{chunk_depth}
 use Rattle.map_chunks.specs.Shown.{Seen, chunk_rows, rows_or, shown, IsTree}
-use Rattle.map_nodes.proofs.LayLemmas.{wide_later}
 use Rattle.map_nodes.proofs.LeafLemmas.{put-strict}
 use Rattle.map_nodes.proofs.PutLevels.{put_level, put_risen}
+use Rattle.map_nodes.proofs.WideLemmas.{wide_later}
 use Rattle.map_nodes.specs.Inside.Halves.{half_pieces, IsTopped}
 use Rattle.map_nodes.specs.Inside.Laying.{IsMade}
 use Rattle.map_nodes.specs.Levels.{placed_levels}

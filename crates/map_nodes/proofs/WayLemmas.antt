@@ -5,7 +5,6 @@ use Rattle.std.proofs.Common.{arith}
 use Rattle.std.proofs.lemmas.List.{reverse-append}
 use Rattle.std.specs.List.{Contains}
 use Rattle.std.specs.Ordering.{nat_cmp}
-use Rattle.std.specs.Result.{IsErrAnd}
 use Rattle.std.specs.Cmp.Lexicographic.{slice_cmp}
 use Rattle.std.specs.FinMap.{find}
 use mathlib.Core.List.{IsPrefix}
@@ -173,10 +172,6 @@ ok_so (Err e) h f = tt
 pub err_so : {A E : Type 0} {P Q : E → Type 0} (r : Result A E) → IfErr r P → ((e : E) → P e → Q e) → IfErr r Q
 err_so (Ok a) h f = tt
 err_so (Err e) h f = f e h
-
-pub err_and : {A E : Type 0} {P Q : E → Type 0} (r : Result A E) → IsErrAnd r P → ((e : E) → P e → Q e) → IfErr r Q
-err_and (Ok a) h f = tt
-err_and (Err e) h f = f e h
 
 -- the same told by other words
 pub reached_as : (q : Contents) (may : Ref → Type 0) (n m : ℕ) (split a b : Bool) (stamp : ℕ) (depth : Option ℕ)

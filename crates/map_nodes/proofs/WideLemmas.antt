@@ -21,10 +21,10 @@ use Rattle.group_history.proofs.Spellings.{segment-content}
 use Rattle.group_history.proofs.Lists.{get_more}
 use Rattle.map_nodes.specs.Inside.Copies.{chunk_entries, MayBeDeep}
 use Rattle.map_chunks.specs.Places.{with_nodes}
-use Rattle.map_chunks.specs.Shown.{Seen, shown, map_of_rows}
+use Rattle.map_chunks.specs.Shown.{Seen, shown, map_of_rows, IsTree}
 use Rattle.map_chunks.specs.Wide.{is_narrow, IsWideAt, IsWideChunk}
 use Rattle.map_chunks.proofs.JoinLemmas.{some_is}
-use Rattle.map_chunks.proofs.OpenLemmas.{spells_at}
+use Rattle.map_chunks.proofs.OpenLemmas.{known, spells_at}
 use Rattle.map_chunks.proofs.TreeLemmas.{map_is}
 
 -- A NODE BEHIND OTHERS
@@ -143,3 +143,12 @@ wide_frozen (Ok at) old new n m h (inl d) f g =
     let x = map_is (shown old n.pieces) m h in
     low_wide new (stamp_of at) (finite.entries m)
     (subst (λ k. rows_at new k (stamp_of at) ≡ Some (finite.entries m)) d (f (finite.entries m) x.is))
+
+-- what is wide stays so
+pub wide_later : (old new : Contents) (depth k : ℕ) → IsTree (rows_at old depth k) → IsPrefix old new
+    → IsWideAt old k → IsWideAt new k
+wide_later old new depth k t p w =
+    let n = known (rows_at old depth k) t in
+    let f = spells_at old depth k n.rows n.is in
+    let c = segment-content old k f.0.segment f.0.is in
+    wide_grown old new k (node.Chunk c.0) p c.2 w

@@ -6,16 +6,15 @@ pub mod Scanning
 pub mod Copies
 pub mod Freezing
 -- A put: the upper half of a chunk that was split, how many chunks and keys there are then, what is ready before it,
--- why a row isn't put, what is made of the chunks, and a child in which a value may be replaced.
+-- why a row isn't put, and what is made of the chunks.
 pub mod Halves
 pub mod Counts
 pub mod Ready
 pub mod Unput
 pub mod Puts
-pub mod Replacing
 -- A removal: what chunks with one child each end in, and what becomes of children and root.
 pub mod Ends
 pub mod Removing
--- A trail: how it is laid, and where on it a key belongs.
+-- The way down from a placed chunk, and what is made on the way up; where on a trail a key belongs.
 pub mod Laying
 pub mod Spots

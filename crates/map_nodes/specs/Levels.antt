@@ -63,17 +63,6 @@ seen_levels n contents = levels_of contents n.marks
 abbrev pub AreAsBefore : Levels → Levels → Type 0
 AreAsBefore old new = (level : ℕ) → new level ≡ old level
 
--- A COPY
-
--- the first chunk is a new one with the keys of the old one, and below it are the same chunks
-abbrev pub IsCopied : Levels → Levels → Type 0
-IsCopied old new = ((stamp : Option ℕ) × (keys : Shape) × (old 0 ≡ (stamp, keys) ∷ []) × (new 0 ≡ (None, keys) ∷ []))
-    × ((level : ℕ) → new (suc level) ≡ old (suc level))
-
--- whatever is placed later, this is a copy
-abbrev pub CopiedLater : Contents → (Contents → Levels) → (Contents → Levels) → Type 0
-CopiedLater contents old new = (later : Contents) → IsPrefix contents later → IsCopied (old later) (new later)
-
 -- A CHANGE
 
 -- new chunks with these keys

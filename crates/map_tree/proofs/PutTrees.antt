@@ -1,9 +1,7 @@
 -- What a put and an update make of a tree, by what they make of its root.
-use Rattle.std.proofs.Common.{◌≡◌, ℕ, List, Option, Some, None, inl, refl, sym, ap, ◌∙◌, subst, arith}
+use Rattle.std.proofs.Common.{◌≡◌, ℕ, Option, Some, None, inl, refl, sym, ap, ◌∙◌, subst, arith}
 use Rattle.std.specs.Prelude.{IsSome, option_and_then}
-use Rattle.std.specs.Cmp.Lexicographic.{slice_cmp}
 use Rattle.std.specs.FinMap as finite
-use Rattle.std.specs.Ordering.{nat_cmp}
 use mathlib.Core.List.{IsPrefix}
 use Rattle.group_history.specs.declared.mutators.Ran.{Ran}
 use Rattle.group_history.specs.declared.mutators.Update.{Update}
@@ -15,10 +13,8 @@ use Rattle.group_history.specs.Spelling.{Contents}
 use Rattle.group_history.proofs.Lists.{prefix_trans}
 use Rattle.map_chunks.proofs.JoinLemmas.{some_is}
 use Rattle.map_chunks.proofs.KeptLemmas.{kept-from_none, kept-same}
-use Rattle.map_chunks.proofs.OpenLemmas.{known}
 use Rattle.map_chunks.proofs.TreeLemmas.{map_at-rows, value_of_map}
-use Rattle.map_chunks.specs.Shown.{chunk_rows, map_of_rows, rows_or, shown, IsTree, Piece, Seen}
-use Rattle.map_nodes.proofs.ChangeLemmas.{shown-kept}
+use Rattle.map_chunks.specs.Shown.{chunk_rows, map_of_rows, shown, Seen}
 use Rattle.map_nodes.proofs.LevelLemmas.{changed_as}
 use Rattle.map_nodes.proofs.PutLevels.{put_in_as, put_same as as_before}
 use Rattle.map_nodes.specs.Levels.{placed_levels, seen_levels, IsRenewed, PutLater}

@@ -37,9 +37,8 @@ use Rattle.map_nodes.proofs.CountLemmas.{fresh-set, leaf_counts, inner_counts}
 use Rattle.map_nodes.proofs.ChangeLemmas.{shown-kept}
 use Rattle.map_chunks.proofs.KeptLemmas.{all_on, grows_on, kept-none, kept-from_none}
 use Rattle.map_nodes.proofs.NamedLemmas.{kept-kid, kept-finished, own-places, places-rows}
-use Rattle.map_nodes.proofs.NodeLemmas.{inner_same, child_at, written_back}
+use Rattle.map_nodes.proofs.NodeLemmas.{leaf_rows, inner_same, child_at, written_back}
 use Rattle.map_chunks.proofs.OpenLemmas.{known, tree_of}
-use Rattle.map_nodes.proofs.ReplaceLemmas.{leaf_rows}
 use Rattle.map_nodes.proofs.UnputLemmas.{handed_on, unput_anyhow, unput_split}
 use Rattle.map_nodes.proofs.RenewLemmas.{inner_replaced, value_below}
 use Rattle.map_nodes.proofs.PathLemmas.{put_path, filled_pairs, filled_kids, length-pairs, node_at, child_requires}

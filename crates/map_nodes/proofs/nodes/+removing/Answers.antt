@@ -22,10 +22,9 @@ use Rattle.map_nodes.proofs.EndLemmas.{kids-removed}
 use Rattle.map_chunks.proofs.KeptLemmas.{all_on, grows_on, kept-none, kept-same, kept-grown, kept-trans, kept-within}
 use Rattle.map_chunks.proofs.KeptLemmas.{kept-from_none}
 use Rattle.map_nodes.proofs.NamedLemmas.{kept-child, own-places, places-kids, places-rows}
-use Rattle.map_nodes.proofs.NodeLemmas.{shown-rows, child_at, node_down, written_back}
+use Rattle.map_nodes.proofs.NodeLemmas.{leaf_rows, shown-rows, child_at, node_down, written_back}
 use Rattle.map_chunks.proofs.OpenLemmas.{known}
 use Rattle.map_nodes.proofs.PathLemmas.{indexed_child}
-use Rattle.map_nodes.proofs.ReplaceLemmas.{leaf_rows}
 use Rattle.map_nodes.proofs.RemoveLemmas.{can_at, fate_down, fresh-removed, gone_at, stays_at, stays_few}
 use Rattle.map_nodes.proofs.RemoveLemmas.{shown_later}
 use Rattle.map_nodes.proofs.ScanLemmas.{kid_shown-at}

@@ -6,7 +6,7 @@ use Rattle.map_nodes.specs.Nodes.{body_height, IsNode}
 use Rattle.map_chunks.specs.SecondKeys.{second_key}
 use Rattle.map_chunks.specs.Shown.{Seen, shown, rows_or}
 use Rattle.map_nodes.specs.declared.nodes.Body.TheVariants.{Leaf, Inner}
-use Rattle.map_nodes.proofs.ReplaceLemmas.{leaf_rows}
+use Rattle.map_nodes.proofs.NodeLemmas.{leaf_rows}
 use Rattle.map_nodes.proofs.ScanLemmas.{kids_shown-is, kid_height}
 use Rattle.map_nodes.proofs.SecondLemmas.{first_kid}
 use Rattle.map_chunks.proofs.Shelves.{some_of}

@@ -1,6 +1,5 @@
 use Rattle.std.proofs.Common.{◌∙◌, ap, sym, subst, inr}
 use Rattle.std.specs.List.{Contains}
-use mathlib.Core.List.{IsPrefix}
 use Rattle.group_history.specs.declared.nodes.Chunk.{Chunk}
 use Rattle.group_history.specs.declared.refs.Ref.{Ref}
 use Rattle.group_history.specs.Refs.{stamp_of}
@@ -10,7 +9,6 @@ use Rattle.map_nodes.specs.Inside.Copies.{MayBeDeep, IsCopy, chunk_pieces}
 use Rattle.map_chunks.specs.Shown.{shown}
 use Rattle.map_chunks.specs.Wide.{IsWideAt}
 use Rattle.map_nodes.proofs.CopyLemmas.{copyable}
-use Rattle.map_nodes.proofs.KeptLevels.{copied-levels}
 use Rattle.map_nodes.proofs.NamedLemmas.{copy-places}
 use Rattle.map_chunks.proofs.OpenLemmas.{rows-kept}
 use Rattle.map_chunks.proofs.Shelves.{some_of}
@@ -59,15 +57,3 @@ returns-clause-places g c at h =
     (copy-places c.args.depth (g.C.Held.ShowsChunk.shown c.in_ok-held.held) at
     (subst (λ ps. Contains (places_of ps) at)
     (c.in_ok-node.ensures.1 ∙ ap (chunk_pieces c.args.depth) c.chunk.ensures) h))))
-
-pub returns-clause-levels : goal.returns-clause-levels
-returns-clause-levels g c later pre =
-    let p = g.C.Chunks.contents c.show.new.self in
-    let k = stamp_of c.args.at in
-    let s = some_of (rows_at (g.C.Chunks.contents c.args.chunks.now) c.args.depth k) c.requires.known in
-    let r = rows-kept (g.C.Chunks.contents c.args.chunks.now) p c.args.depth k s.0 c.show.ensures.grown.0 s.1 in
-    let y = copyable p c.args.depth k s.0 _ r c.in_ok-held.ensures.content in
-    let is = subst (λ (ch : Chunk Ref). IsCopy c.args.depth ch c.in_ok-node.field-0) c.chunk.ensures
-    c.in_ok-node.ensures in
-    copied-levels p c.args.depth k _ c.in_ok-node.field-0 y.deep is c.in_ok-held.ensures.content later
-    (subst (λ q. IsPrefix q later) (ap g.C.Chunks.contents c.leave.ensures) pre)

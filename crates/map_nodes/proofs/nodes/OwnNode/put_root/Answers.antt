@@ -1,4 +1,4 @@
-use Rattle.std.proofs.Common.{◌∙◌, false, ap, sym, subst, refl, Result, Ok}
+use Rattle.std.proofs.Common.{◌∙◌, false, ap, sym, subst, refl, Result}
 use Rattle.group_history.specs.declared.mutators.Stop.{Stop}
 use Rattle.group_history.specs.declared.mutators.Update.{Update}
 use Rattle.group_history.specs.declared.mutators.Update.TheVariants.{Put, Refuse}

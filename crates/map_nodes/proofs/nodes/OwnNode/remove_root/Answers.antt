@@ -10,8 +10,7 @@ use Rattle.map_nodes.specs.declared.nodes.Body.TheVariants.{Inner}
 use Rattle.map_chunks.proofs.AnswerLemmas.{if_ok_so}
 use Rattle.map_chunks.proofs.KeptLemmas.{kept-none}
 use Rattle.map_nodes.proofs.NamedLemmas.{own-places, places-kids, places-rows}
-use Rattle.map_nodes.proofs.NodeLemmas.{shown-rows}
-use Rattle.map_nodes.proofs.ReplaceLemmas.{leaf_rows}
+use Rattle.map_nodes.proofs.NodeLemmas.{leaf_rows, shown-rows}
 use Rattle.map_nodes.proofs.PlaceLemmas.{kids_may}
 use Rattle.map_nodes.proofs.nodes.OwnNode.remove_root.Goals as goal
 

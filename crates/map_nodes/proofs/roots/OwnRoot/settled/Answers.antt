@@ -3,7 +3,6 @@ use Rattle.group_history.specs.Refs.{stamp_of}
 use Rattle.map_chunks.specs.Seeking.{chunk_depth}
 use Rattle.map_chunks.specs.Shown.{chunk_rows, rows_or}
 use Rattle.map_nodes.proofs.UpdateLemmas.{made_order, made_root}
-use Rattle.map_nodes.specs.Inside.Halves.{IsHalf, IsTopped}
 use Rattle.map_nodes.specs.Inside.Laying.{IsReached}
 use Rattle.map_nodes.specs.Trails.{trail_seen}
 use Rattle.map_nodes.specs.Updating.{IsPutIn, IsUpdated}

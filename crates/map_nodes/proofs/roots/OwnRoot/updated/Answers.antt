@@ -1,11 +1,10 @@
-use Rattle.std.proofs.Common.{◌<◌, true, Ok, arith, rules, subst, sym}
+use Rattle.std.proofs.Common.{◌<◌, true, arith, rules, subst, sym}
 use Rattle.group_history.specs.Refs.{stamps, stamp_of}
 use Rattle.map_chunks.proofs.WayLemmas.{depth_later, rows_later}
 use Rattle.map_chunks.specs.Seeking.{chunk_depth}
 use Rattle.map_chunks.specs.Shown.{chunk_rows, rows_or, IsTree}
 use Rattle.map_nodes.proofs.DepthLemmas.{depth-low}
 use Rattle.map_nodes.proofs.UpdateLemmas.{updated_since}
-use Rattle.map_nodes.proofs.WayLemmas.{ok_so}
 use Rattle.map_nodes.specs.Inside.Laying.{IsReached}
 use Rattle.map_nodes.proofs.roots.OwnRoot.updated.Goals as goal
 

@@ -16,7 +16,8 @@ use Rattle.map_chunks.specs.Search.{IsPlace}
 use Rattle.map_chunks.specs.Seeking.{chunk_depth}
 use Rattle.map_chunks.specs.Shown.{chunk_rows, rows_or, IsTree}
 use Rattle.map_nodes.proofs.LeafEnds.{leaf_reached}
-use Rattle.map_nodes.proofs.WayLemmas.{can_step, child_in, err_and, err_so, ok_so, reached_as, reached_up}
+use Rattle.map_nodes.proofs.UnputLemmas.{handed_on}
+use Rattle.map_nodes.proofs.WayLemmas.{can_step, child_in, err_so, ok_so, reached_as, reached_up}
 use Rattle.map_nodes.specs.Changes.{Makes}
 use Rattle.map_nodes.specs.Inside.Laying.{IsReached}
 use Rattle.map_nodes.proofs.nodes.trails.laying.+change.Goals as goal
@@ -177,7 +178,7 @@ change_in-returns-in_err-below-in-Inner-clause-stopped g t c =
     ≡ finite.find (slice_cmp nat_cmp) key (rows_or (chunk_rows q (stamp_of c.args.at))) =
     ap (λ z. finite.find (slice_cmp nat_cmp) z (rows_or (chunk_rows q (stamp_of below)))) c.below-deeper.ensures.key
     ∙ w.same in
-    err_and c.from_residual.result c.from_residual.ensures.1 (λ e x. elim (subst (λ e. (e ≡ NoMemory)
+    handed_on c.from_residual.result c.from_residual.ensures.1 (λ e x. elim (subst (λ e. (e ≡ NoMemory)
     ⊎ g.C.Chunks.stops e ⊎ Makes (λ f x s. g.F.FnOnce.post f (x, tt) s) c.args.change
     (finite.find (slice_cmp nat_cmp) deeper (rows_or (chunk_rows q (stamp_of below)))) (Err e)) (sym x)
     c.in_err-below-in-Inner.ensures.stopped) [

@@ -2,7 +2,7 @@ use Rattle.std.proofs.Common.{◌≡◌, ◌∙◌, ◌⊎◌, Err, Ok, inl, inr
 use Rattle.std.specs.Cmp.Lexicographic.{slice_cmp}
 use Rattle.std.specs.FinMap.{find}
 use Rattle.group_history.specs.declared.mutators.Stop.TheVariants.{NoMemory}
-use Rattle.map_nodes.proofs.LeafEnds.{stopped_so}
+use Rattle.map_nodes.proofs.UnputLemmas.{handed_on}
 use Rattle.map_nodes.proofs.LeafRows.{value_searched}
 use Rattle.map_nodes.specs.Changes.{Makes}
 use Rattle.map_nodes.proofs.nodes.trails.laying.change_leaf.Goals as goal
@@ -14,7 +14,7 @@ returns-in_err-update-clause-stopped g c =
     (option_copied c.value_found.result) c.as_slice.result.now c.values.result.now c.args.down.now.same
     (c.as_slice.ensures.keys ∙ c.deref.ensures ∙ c.keys.ensures.keys) c.values.ensures c.as_slice.ensures.order
     c.search_for-found.ensures.found c.search_for-found.ensures.absent c.value_found.ensures in
-    stopped_so c.from_residual.result c.from_residual.ensures.1 (λ e same. elim (subst
+    handed_on c.from_residual.result c.from_residual.ensures.1 (λ e same. elim (subst
     (λ s. (s ≡ NoMemory) ⊎ Makes (λ f x r. g.F.FnOnce.post f (x, tt) r) c.args.change
     (option_copied c.value_found.result) (Err s)) (sym same) c.in_err-update.ensures.stopped) [
       | inl memory ↦ inl memory

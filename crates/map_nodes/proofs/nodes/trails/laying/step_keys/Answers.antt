@@ -1,12 +1,11 @@
 use Rattle.std.proofs.Common.{◌≡◌, ◌∙◌, ◌<◌, ℕ, zero, suc, true, List, [], ◌∷◌, Some, ap, arith, get_or, length, refl, rules}
 use Rattle.std.proofs.Common.{set, subst, sym}
-use Rattle.std.specs.Arc.{arc_value}
 use Rattle.group_history.specs.Map.{Bytes}
 use Rattle.group_history.specs.Rows.{keys_of, AreKeys}
 use Rattle.map_chunks.proofs.AnswerLemmas.{if_ok_so}
 use Rattle.map_chunks.specs.Search.{is_above}
 use Rattle.map_nodes.proofs.GrownLemmas.{lowered_keys}
-use Rattle.map_nodes.specs.Inside.Halves.{lowered, IsLower}
+use Rattle.map_nodes.specs.Inside.Halves.{IsLower}
 use Rattle.map_nodes.proofs.nodes.trails.laying.step_keys.Goals as goal
 
 -- what is there doesn't hang on what stands for nothing
