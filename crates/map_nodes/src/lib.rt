@@ -4,18 +4,21 @@
 //! copied before they change. Contracts see an own chunk as the list of its pieces: rows, and the placed chunks below
 //! it. Each call asks that what the chunk shows is in order, and says what it shows afterwards.
 //!
-//! `OwnRoot` is the root of a map. Where a first put or update finds its key, the new chunks are a trail
-//! (`nodes/trails.rt`): they are laid by one way down and up, they lie in one list, and a freeze makes a node of each
-//! as it is. Contracts see a trail as the own chunk that it stands for. What is put or removed next makes that chunk of
-//! it: a mutator that told what it will put would spare that.
+//! `OwnRoot` is the root of a map. What is put is a `Change`: what a closure makes of the value at the key, or a value.
+//! It is taken down to the leaf, so an update goes down as often as a put does.
 //!
-//! A placed chunk on the way of a put is copied first, and takes its place in the draft only once the change below it
-//! is done; all memory is taken before anything changes, so a put that stops leaves the tree. So does one that finds
-//! its value there already: such a copy is dropped. A put first tries without splitting; a full chunk reports that,
-//! unchanged, and the chunk above then takes a key list of its own. So a new key rebuilds the key lists of its leaf, of
-//! those above whose child is split, and of those whose first key it becomes; no other. A removal looks at the child
-//! before anything changes: one that would be empty leaves its parent and is not copied. Half-empty chunks are not
-//! merged, so a fill in order leaves its leaves half full.
+//! From a placed chunk on that is once (`nodes/trails/laying.rt`): each chunk is held while the way goes on below it,
+//! and new ones are made on the way up, only where the value changes. Where the root is placed and no chunk is split,
+//! they are a trail (`nodes/trails.rt`): they lie in one list, and a freeze makes a node of each as it is. Contracts see
+//! a trail as the own chunk that it stands for. What is put or removed next makes that chunk of it: a mutator that told
+//! what it will put would spare that. Otherwise they are own chunks (`nodes/growing.rt`).
+//!
+//! Own chunks are changed in place, on the way up (`nodes/putting.rt`); all memory is taken before that, so a put that
+//! stops leaves the tree. A put first tries without splitting an own chunk. A full one hands the value back, unchanged;
+//! the chunk above then takes a key list of its own, and puts the value below it once more. So a new key rebuilds the
+//! key lists of its leaf, of those above whose child is split, and of those whose first key it becomes; no other. A
+//! removal looks at the child before anything changes: one that would be empty leaves its parent and is not copied.
+//! Half-empty chunks are not merged, so a fill in order leaves its leaves half full.
 #![tactic(auto)]
 
 mod changes;

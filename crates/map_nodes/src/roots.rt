@@ -1,6 +1,6 @@
 //! The root of what a draft owns of a map.
 //!
-//! A first put at a key that is there makes a trail; other changes need an own chunk, and make one of a trail first.
+//! A first put makes a trail, where no chunk is split; other changes need an own chunk, and make one of a trail first.
 ghost use Rattle.std.specs.Prelude.{◌≡◌, ◌==◌, ◌⊎◌, ◌+◌, ◌-◌, ◌^◌, ◌<◌, ◌≤◌, [], ◌∷◌, min, length, Ok, Err, Some, None};
 ghost use Rattle.std.specs.Prelude.{true, IsSome, IfOk, IfErr, OnOk, OnErr, option_copied};
 ghost use Rattle.std.specs.Ordering.{nat_cmp};

@@ -27,8 +27,9 @@ ArePutBeside contents key value (Own n) (Own o) = ArePutAmong contents key value
 
 -- A tree that is this map, once a value is put at a key: its map (`map`); how many chunks are new (`few`; `replaced`,
 -- where the key is there); on each level the chunks in whose place new ones stand (`levels`; `kept`, where the key is
--- there); how deep it is (`deep`), whether its root is wide (`wide`), which placed chunks it names (`places_are`); and
--- that nothing is new where the value is there already (`same`).
+-- there), and in own chunks the pieces that are the same (`others`); how deep it is (`deep`), whether its root is wide
+-- (`wide`), which placed chunks it names (`places_are`); and that nothing is new where the value is there already
+-- (`same`).
 pub record IsPut (old new : Contents) (places : Ref → Type 0) (t u : Tree) (m : Entries) (key value : Bytes)
     : Type 0 where
   pub map : tree_map new u ≡ Some (finite.insert m key value)

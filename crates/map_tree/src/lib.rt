@@ -7,22 +7,23 @@
 //! What a put makes of a tree is one word, `IsPut` of `specs/Puts.antt`. In a tree d deep, a value replaced makes at
 //! most d chunks new, a new key at most 2 d + 1 (`replaced`, `few`). On each level new chunks stand in the place of one
 //! chunk at most, and all others are the same, placed ones under their stamps (`levels`): it has the keys that it had,
-//! or one more; or it got a 17th entry, and the first 8 and the last 9 stand in its place. Where the chunk on the way
-//! to the key is the tree's own already and keeps its keys, no clause says that no other one is copied. A value
-//! replaced changes no key (`kept`), and a value that is there already makes nothing new (`same`). A key removed makes
-//! at most d chunks new. A root that would keep one child gives way to it (`wide`). `freeze` appends the own chunks to
-//! a `Draft` as they are, children before parents; a placed child keeps its reference (`named`), and of new references
-//! nothing is said until they are placed.
+//! or one more; or it got a 17th entry, and the first 8 and the last 9 stand in its place. In chunks of the tree's own
+//! all pieces are the same but one at most, be it a row or a placed chunk with all that is below it: what stands in its
+//! place shows its rows and the value (`others`). So the chunks on the way to the key are made new, and no other. A
+//! value replaced changes no key (`kept`), and a value that is there already makes nothing new (`same`). A key removed
+//! makes at most d chunks new. A root that would keep one child gives way to it (`wide`). `freeze` appends the own
+//! chunks to a `Draft` as they are, children before parents; a placed child keeps its reference (`named`), and of new
+//! references nothing is said until they are placed.
 //!
-//! A put and an `update` in a map whose root is placed go down once: each chunk on the way is held while the way goes
-//! on below it, and new ones are made on the way up, only where the value changes. A key that isn't there takes a
-//! second way, on which the chunks are copied: there is to be room before one is split. In chunks of the tree's own a
-//! put goes down once, but where one is split; an `update` looks first.
+//! A put and an `update` go down once. Each placed chunk on the way is held while the way goes on below it, and new
+//! ones are made on the way up, only where the value changes; the tree's own chunks are changed in place. Where one of
+//! these is to be split, the part of the way below the chunk above it is gone once more, by then with room for both
+//! halves.
 //!
 //! Not proved: that no fewer chunks would do, and that a put on chunks of the tree's own copies none. The first change
-//! after a put that found its key in a placed tree copies what that put made new; those after it copy none of the
-//! tree's own. A tree 2^64 - 1 deep would answer NoMemory to a put that splits its root, though no growth was refused;
-//! no machine holds one.
+//! after a first put that split no chunk copies what that put made new; those after it copy none of the tree's own. A
+//! tree 2^64 - 1 deep would answer NoMemory to a put that splits its root, though no growth was refused; no machine
+//! holds one.
 #![tactic(auto)]
 
 mod tree;

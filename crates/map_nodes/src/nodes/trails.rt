@@ -1,4 +1,4 @@
-//! A trail: what a first put at a key that is there makes new, by one way down (`laying`).
+//! A trail: what a first put makes new where no chunk is split, by one way down (`laying`).
 //!
 //! Its chunks are those on the way to the key. Each but the leaf has placed children, and the next chunk in the place
 //! of one of them, so no chunk lies behind a pointer, and each is written down as it is. Contracts see a trail as the
