@@ -80,6 +80,7 @@ impl PutBuffers {
 
 /// The key, where it is below the one of the child to which it belongs. That is the first child then, and
 /// the keys become the chunk's own.
+#[inline(always)]
 pub(crate) fn lower_key(
     keys: &mut NodeKeys,
     alloc: Global,

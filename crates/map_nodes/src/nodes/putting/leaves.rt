@@ -107,6 +107,7 @@ pub(crate) fn value_found<'a>(values: &'a [Json], found: &Result<usize, usize>) 
 }
 
 // Puts a row whose key was found at a place of a leaf, or has its place before one.
+#[inline(always)]
 fn put_row(
     keys: &mut NodeKeys,
     values: &mut Vec<Json>,
@@ -153,6 +154,7 @@ fn put_row(
 }
 
 /// Puts a row whose key is new before the one at the place.
+#[inline(always)]
 pub(crate) fn insert_row(
     keys: &mut NodeKeys,
     values: &mut Vec<Json>,

@@ -18,6 +18,7 @@ use map_chunks::entries::insert_entry;
 use map_chunks::keys::NodeKeys;
 
 /// Puts a lower first key in the place of one, if there is one.
+#[inline(always)]
 pub(crate) fn lower_first(keys: &mut NodeKeys, place: usize, lower: Option<Text>)
     requires room { IsSome lower → 0 < keys.old.room }
     requires within { place < length keys.old.texts }
@@ -30,6 +31,7 @@ pub(crate) fn lower_first(keys: &mut NodeKeys, place: usize, lower: Option<Text>
 }
 
 /// Puts the upper half of the child at the place behind it, and splits the children where they are 17 then.
+#[inline(always)]
 pub(crate) fn finish(
     keys: &mut NodeKeys,
     kids: &mut Vec<OwnChild>,
