@@ -1,20 +1,23 @@
 //! Own chunks made of placed ones on the way up, with what a put made below them. All placed chunks stay as they are, so
 //! memory may be refused at any of these steps.
-ghost use Rattle.std.specs.Prelude.{◌≡◌, ◌+◌, ◌++◌, ◌<◌, ◌≤◌, ◌^◌, true, false, length, vec_items, IfOk};
+ghost use Rattle.std.specs.Prelude.{◌≡◌, ◌+◌, ◌++◌, ◌<◌, ◌≤◌, ◌^◌, true, false, [], length, slice_index_or, IfOk, IsSome};
+ghost use Rattle.std.specs.Prelude.{vec_items, vec_len, vec_capacity};
 ghost use Rattle.std.specs.Ordering.{nat_cmp};
 ghost use Rattle.std.specs.Cmp.Lexicographic.{slice_cmp};
 ghost use Rattle.std.specs.FinMap as finite;
-ghost use Rattle.group_history.specs.Rows.{AreKeys, keys_of, paired};
+ghost use Rattle.group_history.specs.Rows.{AreKeys, keys_of, paired, values_of};
 ghost use Rattle.map_chunks.specs.Search.{IsAbsent, IsPlace};
 ghost use Rattle.map_nodes.specs.Inside.Counts.{half_fresh, HasKept};
-ghost use Rattle.map_nodes.specs.Inside.Halves.{half_pieces, IsHalf};
+ghost use Rattle.map_nodes.specs.Inside.Halves.{half_pieces, IsHalf, IsLower};
 ghost use Rattle.map_nodes.specs.Inside.Laying.{rows_seen, CanGrowOver, IsGrownOver};
 ghost use Rattle.map_nodes.specs.Inside.Puts.{IsLeafPut};
+ghost use Rattle.map_nodes.specs.Inside.Ready.{IsReady};
 ghost use Rattle.map_nodes.specs.Nodes.{row_pieces};
+ghost use Rattle.map_nodes.specs.Trails.{placed_kids};
 
 use super::copies::{copied_values, placed_children};
 use super::homes::boxed;
-use super::putting::{Half, Put, PutBuffers, finish, insert_row, lower_first};
+use super::putting::{Half, Put, PutBuffers, finish, insert_row, lower_first, lower_key};
 use super::{Body, OwnChild, OwnNode};
 use group_history::{Inner, Json, Leaf, Ref, SearchKey, Text};
 use map_chunks::entries::MOST;
@@ -113,6 +116,40 @@ pub(crate) fn grown_rows(
     Ok((keys, values, half))
 }
 
+// The keys and children of an inner chunk, copied with room for one more.
+fn copied_over(inner: &Inner<Ref>, alloc: Global) -> Result<(NodeKeys, Vec<OwnChild>), AllocError>
+    ensures keys { IfOk result (λ r. r.0.texts ≡ keys_of inner.now) }
+    ensures kids { IfOk result (λ r. r.1.items ≡ placed_kids (values_of inner.now)) }
+    ensures room { IfOk result (λ r. vec_len r.1 < vec_capacity r.1) }
+{
+    let keys = NodeKeys::shared(inner.firsts().clone()?);
+    let mut kids = placed_children(alloc, inner.children(), ROOM)?;
+    kids.reserve(1)?;
+    Ok((keys, kids))
+}
+
+// What these keys need, where the child at a place was changed already, and has this upper half.
+fn ready_over(
+    keys: &mut NodeKeys,
+    place: usize,
+    down: &Down<'_>,
+    half: &Option<Half>,
+) -> Result<PutBuffers, AllocError>
+    requires place { IsPlace down.now.key.now keys.old.texts place }
+    ensures texts { keys.new.texts ≡ keys.old.texts }
+    ensures lowers { IfOk result (λ r. IsSome r.lower → 0 < keys.new.room) }
+    ensures lower { IfOk result (λ r. IsLower down.now.key.now (slice_index_or keys.old.texts place []) r.lower) }
+    ensures ready { IfOk result (λ r. IsSome half.now
+        → IsReady down.now.copies keys.old.texts keys.new.room place down.now.key.now r.room) }
+{
+    let lower = lower_key(keys, down.alloc, place, down.key)?;
+    if half.is_none() {
+        return Ok(PutBuffers::of_whole(down.alloc, lower));
+    }
+    let key = Text::new(down.alloc, down.key)?;
+    PutBuffers::of_split(keys, down.alloc, place, &key, lower, down.copies)
+}
+
 /// An inner chunk with an own child in the place of one, and the child's upper half behind it. It is split where it has
 /// 17 children then.
 pub(crate) fn grown_over(
@@ -128,11 +165,8 @@ pub(crate) fn grown_over(
         child.value half r.0.value r.1) }
 {
     let depth = child.depth() + 1;
-    let mut keys = NodeKeys::shared(inner.firsts().clone()?);
-    let mut kids = placed_children(down.alloc, inner.children(), ROOM)?;
-    kids.reserve(1)?;
-    let key = Text::new(down.alloc, down.key)?;
-    let ready = PutBuffers::of_child(&mut keys, down.put(&key), place, &half)?;
+    let (mut keys, mut kids) = copied_over(inner, down.alloc)?;
+    let ready = ready_over(&mut keys, place, down, &half)?;
     kids[place] = OwnChild::Own(child);
     lower_first(&mut keys, place, ready.lower);
     let half = finish(&mut keys, &mut kids, place, depth, ready.room, half);

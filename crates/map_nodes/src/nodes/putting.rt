@@ -19,7 +19,7 @@ mod roots;
 mod splits;
 
 use super::OwnNode;
-pub(crate) use below::PutBuffers;
+pub(crate) use below::{PutBuffers, lower_key};
 use group_history::{Json, Stop, Text};
 pub(crate) use leaves::{insert_row, value_found};
 pub(crate) use middles::{finish, lower_first};

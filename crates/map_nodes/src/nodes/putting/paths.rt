@@ -1,11 +1,13 @@
 //! A put on its way down.
-ghost use Rattle.std.specs.Prelude.{◌≡◌, ℕ, ◌<◌, ◌≤◌, ◌+◌, ◌*◌, ◌^◌, ◌++◌, [], false, true, length, slice_get};
-ghost use Rattle.std.specs.Prelude.{slice_index_or, Ok, Some, None, IsSome, IfOk, IfErr, OnOk, OnErr, vec_items};
+ghost use Rattle.std.specs.Prelude.{◌≡◌, ◌⊎◌, ℕ, ◌<◌, ◌≤◌, ◌+◌, ◌*◌, ◌^◌, ◌++◌, [], false, true, length, slice_get};
+ghost use Rattle.std.specs.Prelude.{slice_index_or, Ok, Err, Some, None, IsSome, IfOk, IfErr, OnOk, OnErr, vec_items};
 ghost use Rattle.std.specs.Prelude.{vec_len, vec_capacity};
 ghost use mathlib.Core.List.{IsPrefix};
 ghost use Rattle.group_history.specs.Map.{Bytes};
 ghost use Rattle.group_history.specs.Refs.{stamp_of};
 ghost use Rattle.group_history.specs.Spelling.{Contents};
+ghost use Rattle.group_history.specs.declared.mutators.Stop.TheVariants.{NoMemory};
+ghost use Rattle.group_history.specs.declared.mutators.Update.{Update as Updates};
 ghost use Rattle.group_history.specs.declared.mutators.Update.TheVariants.{Put as Puts};
 ghost use Rattle.map_chunks.specs.Seeking.{chunk_depth};
 ghost use Rattle.map_chunks.specs.Places.{Grows, AreAll, AreKept, places_of};
@@ -16,14 +18,16 @@ ghost use Rattle.map_nodes.specs.Changes.{CanMake, Makes};
 ghost use Rattle.map_nodes.specs.Nodes.{IsNode, body_levels, body_pieces, body_fresh, kids_fresh};
 ghost use Rattle.map_nodes.specs.Inside.Nodes.{child_rows};
 ghost use Rattle.map_nodes.specs.Inside.Halves.{half_pieces, IsHalf, IsLower, HasDepth};
-ghost use Rattle.map_nodes.specs.Inside.Laying.{IsMade};
+ghost use Rattle.map_nodes.specs.Inside.Laying.{IsMade, IsReached};
 ghost use Rattle.map_nodes.specs.Inside.Ready.{IsReady};
 ghost use Rattle.map_nodes.specs.Inside.Counts.{half_fresh, HasKept};
 ghost use Rattle.map_nodes.specs.Inside.Puts.{half_levels, value_in, ChildHalvesPut, HalvesPut, IsChildPut, IsOwnPut};
-ghost use Rattle.map_nodes.specs.Inside.Unput.{IsUnput};
+ghost use Rattle.map_nodes.specs.Inside.Unput.{IsTold, IsUnput};
 ghost use Rattle.map_nodes.specs.Levels.{seen_levels, ArePut};
 ghost use Rattle.map_nodes.specs.declared.nodes.Body.TheVariants as body;
 ghost use Rattle.map_nodes.specs.declared.nodes.OwnChild.{OwnChild as Childs};
+ghost use Rattle.map_nodes.specs.declared.nodes.trails.laying.Laying.{Laying as Layings};
+ghost use Rattle.map_nodes.specs.declared.nodes.trails.laying.Reached.TheVariants.{Laid as laid, Grown as Grew};
 
 use super::super::{Body, Down, Laying, OwnChild, OwnNode, Reached, change_at};
 use super::below::{PutBuffers, lower_key};
@@ -174,17 +178,64 @@ fn put_placed<C: Chunks, F: FnOnce(Option<Json>) -> Result<Update, Stop>>(
         (value_in (chunk_rows (C.contents chunks.old) (stamp_of at)) put.entry.key.now) made) C.stops put.entry.may_split
         (value_in (chunk_rows (C.contents chunks.old) (stamp_of at)) put.entry.key.now)) }
 {
+    let may_split = put.may_split || keys.as_slice().len() < MOST;
+    let reached = change_placed(at, chunks, put, may_split, change)?;
+    taken_up(keys, place, put, reached)
+}
+
+// The way down from a placed child, on which own chunks are made.
+fn change_placed<C: Chunks, F: FnOnce(Option<Json>) -> Result<Update, Stop>>(
+    at: Ref,
+    chunks: &mut C,
+    put: Put<'_>,
+    may_split: bool,
+    change: Change<F>,
+) -> Result<Reached, Stop>
+    requires may { C.places chunks.old at }
+    requires tree { IsTree (chunk_rows (C.contents chunks.old) (stamp_of at)) }
+    requires copies { (d : ℕ) → chunk_depth (C.contents chunks.old) (stamp_of at) ≡ Some d
+        → put.copies + 1 + d < 2 ^ 64 }
+    requires callable { CanMake (λ f. F.IsAlwaysCallable f) change }
+    ensures grown { Grows C.contents C.places chunks.old chunks.new }
+    ensures reached { IfOk result (λ r. (u : Updates) × Makes (λ f x r. F.post f x r) change (value_in
+        (chunk_rows (C.contents chunks.old) (stamp_of at)) put.entry.key.now) (Ok u) × ((l : Layings) × IsReached
+        (C.contents chunks.new) (C.places chunks.new) (put.entry.copies + 1) may_split false (stamp_of at)
+        (chunk_depth (C.contents chunks.old) (stamp_of at))
+        (rows_or (chunk_rows (C.contents chunks.old) (stamp_of at))) put.entry.key.now u r l)) }
+    ensures stopped { IfErr result (λ e. (e ≡ NoMemory) ⊎ C.stops e ⊎ Makes (λ f x r. F.post f x r) change (value_in
+        (chunk_rows (C.contents chunks.old) (stamp_of at)) put.entry.key.now) (Err e)) }
+{
     let searched = SearchKey::new(put.key.as_str());
     let down = Down {
         alloc: put.alloc,
         key: put.key.as_str(),
         searched: &searched,
         copies: put.copies + 1,
-        may_split: put.may_split || keys.as_slice().len() < MOST,
+        may_split,
         as_trail: false,
     };
     let mut laying = Laying::new(put.alloc);
-    match change_at(chunks, at, &down, &mut laying, change)? {
+    change_at(chunks, at, &down, &mut laying, change)
+}
+
+// The own chunks that were made of a placed child, and what the chunk above needs for them.
+fn taken_up(
+    keys: &mut NodeKeys,
+    place: usize,
+    put: Put<'_>,
+    reached: Reached,
+) -> Result<(PutBuffers, Box<OwnNode>, Option<Half>), PutRefused>
+    requires place { IsPlace put.key.now keys.old.texts place }
+    requires own { reached ≡ laid → ⊥ }
+    ensures node { IfOk result (λ r. reached ≡ Grew r.1 r.2) }
+    ensures texts { keys.new.texts ≡ keys.old.texts }
+    ensures lowers { IfOk result (λ r. IsSome r.0.lower → 0 < keys.new.room) }
+    ensures lower { IfOk result (λ r. IsLower put.entry.key.now (slice_index_or keys.old.texts place []) r.0.lower) }
+    ensures ready { IfOk result (λ r. IsSome r.2
+        → IsReady put.entry.copies keys.old.texts keys.new.room place put.entry.key.now r.0.room) }
+    ensures told { IfErr result (IsTold reached) }
+{
+    match reached {
         Reached::Grown(node, half) => {
             let ready = PutBuffers::of_child(keys, put, place, &half)?;
             Ok((ready, node, half))

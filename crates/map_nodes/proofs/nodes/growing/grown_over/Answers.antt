@@ -15,36 +15,27 @@ use Rattle.map_nodes.specs.Trails.{placed_kids}
 use Rattle.map_nodes.specs.declared.nodes.OwnChild.TheVariants.{Own}
 use Rattle.map_nodes.proofs.nodes.growing.grown_over.Goals as goal
 
-pub of_child-requires : goal.of_child-requires
-of_child-requires c =
-    let texts : c.shared-keys.result.texts ≡ keys_of c.args.inner.now =
-    c.shared-keys.ensures ∙ c.in_ok-clone.ensures.cases ∙ c.firsts.ensures.keys in
-    let key = c.put.ensures.key ∙ c.in_ok-key.ensures in
-    record {
-      place = subst (λ w. IsPlace c.put.result.key.now w c.args.place) (sym texts)
-          (subst (λ w. IsPlace w (keys_of c.args.inner.now) c.args.place) (sym key) c.requires.place);
-    }
+pub ready_over-requires : goal.ready_over-requires
+ready_over-requires c = record {
+  place = subst (λ w. IsPlace c.args.down.now.key.now w c.args.place) (sym c.in_ok-keys.ensures.keys) c.requires.place;
+}
 
 pub finish-half-requires-clause-fits : goal.finish-half-requires-clause-fits
 finish-half-requires-clause-fits c =
     let kids = c.args.inner.now in
     let i = c.args.place in
-    let texts : c.shared-keys.result.texts ≡ keys_of kids =
-    c.shared-keys.ensures ∙ c.in_ok-clone.ensures.cases ∙ c.firsts.ensures.keys in
-    let items : c.reserve.new.self.items ≡ placed_kids (values_of kids) =
-    c.reserve.ensures.items ∙ c.in_ok-kids.ensures ∙ ap placed_kids c.children.ensures in
-    let key = c.put.ensures.key ∙ c.in_ok-key.ensures in
+    let texts : c.in_ok-keys.keys.texts ≡ keys_of kids = c.in_ok-keys.ensures.keys in
+    let items : c.in_ok-keys.kids.items ≡ placed_kids (values_of kids) = c.in_ok-keys.ensures.kids in
     let lower = c.in_ok-ready.ready.lower in
     let kid = c.args.child in
     let low : IsLower c.args.down.now.key.now (get_or (keys_of kids) i []) lower =
-    subst (λ w. IsLower w (get_or (keys_of kids) i []) lower) key
-    (subst (λ ks. IsLower c.put.result.key.now (get_or ks i []) lower) texts c.in_ok-ready.ensures.lower) in
+    subst (λ ks. IsLower c.args.down.now.key.now (get_or ks i []) lower) texts c.in_ok-ready.ensures.lower in
     let now : c.lower_first.new.keys.texts ≡ lowered i lower (keys_of kids) =
-    c.lower_first.ensures.texts ∙ ap (lowered i lower) (c.of_child.ensures.texts ∙ texts) in
+    c.lower_first.ensures.texts ∙ ap (lowered i lower) (c.ready_over.ensures.texts ∙ texts) in
     let deep : c.depth-depth.result + 1 ≡ c.args.child.value.depth + 1 = ap (λ n. n + 1)
     (c.depth-depth.ensures ∙ ap (λ (s : Seen). s.depth) c.deref.ensures) in
-    subst (λ n. Fits n i c.lower_first.new.keys.texts (set c.reserve.new.self.items i (Own kid)) c.args.half) (sym deep)
-    (subst (λ ks. Fits (c.args.child.value.depth + 1) i ks (set c.reserve.new.self.items i (Own kid)) c.args.half) (sym now)
+    subst (λ n. Fits n i c.lower_first.new.keys.texts (set c.in_ok-keys.kids.items i (Own kid)) c.args.half) (sym deep)
+    (subst (λ ks. Fits (c.args.child.value.depth + 1) i ks (set c.in_ok-keys.kids.items i (Own kid)) c.args.half) (sym now)
     (subst (λ xs. Fits (c.args.child.value.depth + 1) i (lowered i lower (keys_of kids)) (set xs i (Own kid)) c.args.half)
     (sym items) (c.requires.fits.fits lower kid low refl)))
 
@@ -56,25 +47,21 @@ returns c =
     let half = c.args.half in
     let made = c.finish-half.result in
     let copies = c.args.down.now.copies in
-    let texts : c.shared-keys.result.texts ≡ keys_of kids =
-    c.shared-keys.ensures ∙ c.in_ok-clone.ensures.cases ∙ c.firsts.ensures.keys in
-    let items : c.reserve.new.self.items ≡ placed_kids (values_of kids) =
-    c.reserve.ensures.items ∙ c.in_ok-kids.ensures ∙ ap placed_kids c.children.ensures in
-    let key = c.put.ensures.key ∙ c.in_ok-key.ensures in
+    let texts : c.in_ok-keys.keys.texts ≡ keys_of kids = c.in_ok-keys.ensures.keys in
+    let items : c.in_ok-keys.kids.items ≡ placed_kids (values_of kids) = c.in_ok-keys.ensures.kids in
     let lower = c.in_ok-ready.ready.lower in
     let kid = c.args.child in
     let low : IsLower c.args.down.now.key.now (get_or (keys_of kids) i []) lower =
-    subst (λ w. IsLower w (get_or (keys_of kids) i []) lower) key
-    (subst (λ ks. IsLower c.put.result.key.now (get_or ks i []) lower) texts c.in_ok-ready.ensures.lower) in
+    subst (λ ks. IsLower c.args.down.now.key.now (get_or ks i []) lower) texts c.in_ok-ready.ensures.lower in
     let now : c.lower_first.new.keys.texts ≡ lowered i lower (keys_of kids) =
-    c.lower_first.ensures.texts ∙ ap (lowered i lower) (c.of_child.ensures.texts ∙ texts) in
-    let over : set c.reserve.new.self.items i (Own kid) ≡ kids_over kids i kid = ap (λ xs. set xs i (Own kid)) items in
+    c.lower_first.ensures.texts ∙ ap (lowered i lower) (c.ready_over.ensures.texts ∙ texts) in
+    let over : set c.in_ok-keys.kids.items i (Own kid) ≡ kids_over kids i kid = ap (λ xs. set xs i (Own kid)) items in
     let deep : c.depth-depth.result + 1 ≡ child.depth + 1 = ap (λ n. n + 1)
     (c.depth-depth.ensures ∙ ap (λ (s : Seen). s.depth) c.deref.ensures) in
     let one : c.depth-depth.result + 1 - 1 ≡ child.depth = omega (arith, deep) in
-    let es : with_half i half (paired c.lower_first.new.keys.texts (set c.reserve.new.self.items i (Own kid)))
+    let es : with_half i half (paired c.lower_first.new.keys.texts (set c.in_ok-keys.kids.items i (Own kid)))
     ≡ entries_over kids i lower kid half =
-    ap (λ ks. with_half i half (paired ks (set c.reserve.new.self.items i (Own kid)))) now
+    ap (λ ks. with_half i half (paired ks (set c.in_ok-keys.kids.items i (Own kid)))) now
     ∙ ap (λ xs. with_half i half (paired (lowered i lower (keys_of kids)) xs)) over in
     let n : length c.lower_first.new.keys.texts ≡ length kids =
     ap length now ∙ length-lowered i lower (keys_of kids) ∙ length-keys_of kids in
@@ -94,11 +81,8 @@ returns c =
           (subst (λ d. IsHalf (copies + 1) d half) (sym one) c.requires.fits.half_is)
           (λ some k z. subst (λ ks. AreNinth copies ks (i + 1) k c.in_ok-ready.ready.room.firsts.items) (sym now)
           (ninth_lowered copies (keys_of kids) i c.args.down.now.key.now lower c.in_ok-ready.ready.room.firsts.items
-          c.requires.place low (subst (λ w. AreNinth copies (keys_of kids) (i + 1) w
-          c.in_ok-ready.ready.room.firsts.items) key
-          (subst (λ ks. AreNinth copies ks (i + 1) c.put.result.key.now c.in_ok-ready.ready.room.firsts.items) texts
-          (subst (λ n. AreNinth n c.shared-keys.result.texts (i + 1) c.put.result.key.now
-          c.in_ok-ready.ready.room.firsts.items) c.put.ensures.copies (c.in_ok-ready.ensures.ready some).1))) k z)));
+          c.requires.place low (subst (λ ks. AreNinth copies ks (i + 1) c.args.down.now.key.now
+          c.in_ok-ready.ready.room.firsts.items) texts (c.in_ok-ready.ensures.ready some).1) k z)));
       few = let f = fresh_placed (values_of kids) i kid (omega
           (arith, length-keys_of kids, length-values_of kids, c.requires.place.0)) in
           omega (

@@ -4,7 +4,7 @@ use Rattle.group_history.specs.Refs.{stamp_of}
 use Rattle.group_history.specs.Spelling.{Segment}
 use Rattle.map_chunks.proofs.OpenLemmas.{known, spells_rows}
 use Rattle.map_chunks.specs.Shown.{chunk_rows}
-use Rattle.map_nodes.proofs.nodes.putting.paths.put_placed.Goals as goal
+use Rattle.map_nodes.proofs.nodes.putting.paths.change_placed.Goals as goal
 
 pub overflow_add-down : goal.overflow_add-down
 overflow_add-down g c =
