@@ -296,8 +296,7 @@ impl OwnRoot {
         match &mut self.form {
             Form::Node(node) => node.write(alloc, chunks, key, change),
             Form::Trail(trail) => {
-                let mut node = trail.thawed(alloc)?;
-                let ran = node.write(alloc, chunks, key, change)?;
+                let (node, ran) = written_over(trail, alloc, chunks, key, change)?;
                 self.form = Form::Node(node);
                 Ok(ran)
             }
@@ -368,6 +367,30 @@ impl OwnRoot {
             Form::Trail(trail) => trail.freeze(draft),
         }
     }
+}
+
+// An own chunk like a trail, in which what a change makes of the value at a key is put.
+fn written_over<C: Chunks, F: FnOnce(Option<Json>) -> Result<Update, Stop>>(
+    trail: &Trail,
+    alloc: Global,
+    chunks: &mut C,
+    key: &str,
+    change: Change<F>,
+) -> Result<(OwnNode, Ran), Stop>
+    requires places { AreAll (C.places chunks.old) (places_of trail.now.pieces) }
+    requires tree { IsTree (shown (C.contents chunks.old) trail.now.pieces) }
+    requires callable { CanMake (λ f. F.IsAlwaysCallable f) change }
+    ensures grown { Grows C.contents C.places chunks.old chunks.new }
+    ensures put { IfOk result (λ r. (u : Updates) × Makes (λ f x r. F.post f x r) change (finite.find
+        (slice_cmp nat_cmp) key.now (rows_or (shown (C.contents chunks.old) trail.now.pieces))) (Ok u)
+        × IsPutOr (C.contents chunks.old) (C.contents chunks.new) (C.places chunks.new) key.now trail.now r.0 u r.1) }
+    ensures stopped { IfErr result (λ s. (s ≡ NoMemory) ⊎ C.stops s ⊎ Makes (λ f x r. F.post f x r) change
+        (finite.find (slice_cmp nat_cmp) key.now (rows_or (shown (C.contents chunks.old) trail.now.pieces)))
+        (Err s)) }
+{
+    let mut node = trail.thawed(alloc)?;
+    let ran = node.write(alloc, chunks, key, change)?;
+    Ok((node, ran))
 }
 
 /// How an update of a map ended whose root is placed, and the map where it is another one.
