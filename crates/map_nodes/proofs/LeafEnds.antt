@@ -43,7 +43,7 @@ use Rattle.map_nodes.specs.declared.nodes.putting.Half.{Half}
 use Rattle.map_nodes.specs.declared.nodes.trails.End.{End}
 use Rattle.map_nodes.specs.declared.nodes.trails.laying.Laying.{Laying}
 use Rattle.map_nodes.specs.declared.nodes.trails.laying.Reached.{Reached}
-use Rattle.map_nodes.specs.declared.nodes.trails.laying.Reached.TheVariants.{Same, Refused, Full, Laid, Grown}
+use Rattle.map_nodes.specs.declared.nodes.trails.laying.Reached.TheVariants.{Same, Refused, Laid, Grown}
 
 -- A LEAF MADE
 
@@ -87,11 +87,6 @@ made_longer copies rows key v keys values half none p h l some f k m = record {
   keys = (keys, refl, k, m);
   renewed = λ there. absurd (none_there (find (slice_cmp nat_cmp) key rows) there none);
 }
-
--- a leaf with room isn't split
-pub had_room : (old new : ℕ) (half : Option Half) → HasKept old new half → old < 16 → half ≡ None
-had_room old new None k l = refl
-had_room old new (Some h) k l = absurd (omega (arith, k.0))
 
 pub no_half : (half : Option Half) (none : Bool) → is_some half ≡ not none → none ≡ true → half ≡ None
 no_half None none s e = refl
@@ -160,23 +155,22 @@ made_of_placed q places copies stamp rows key v n half g m = record {
         (leaf_put_levels later (keys_of rows) keys half kept m.keys.3))
 
 -- a placed leaf is one chunk
-pub leaf_reached : (q : Contents) (places : Ref → Type 0) (copies : ℕ) (may_split as_trail : Bool) (key : Bytes)
+pub leaf_reached : (q : Contents) (places : Ref → Type 0) (copies : ℕ) (as_trail : Bool) (key : Bytes)
     (at : Ref) (rows : Rows) (u : Update) (r : Reached) (l : Laying) → IsTree (chunk_rows q (stamp_of at))
     → slice_get q (stamp_of at) ≡ Some (chunk_content (chunked.Leaf rows))
-    → IsLeafEnd copies may_split as_trail rows key u r l
-    → IsReached q places copies may_split as_trail (stamp_of at) (chunk_depth q (stamp_of at))
+    → IsLeafEnd copies as_trail rows key u r l
+    → IsReached q places copies as_trail (stamp_of at) (chunk_depth q (stamp_of at))
     (rows_or (chunk_rows q (stamp_of at))) key u r l
-leaf_reached q places copies may_split as_trail key at rows u r l t g h =
+leaf_reached q places copies as_trail key at rows u r l t g h =
     let k = stamp_of at in
     let is = leaf_is q k rows t g in
-    subst (λ w. IsReached q places copies may_split as_trail k w (rows_or (chunk_rows q k)) key u r l) (sym is.1)
-    (subst (λ w. IsReached q places copies may_split as_trail k (Some 1) (rows_or w) key u r l) (sym is.0) (by r h))
+    subst (λ w. IsReached q places copies as_trail k w (rows_or (chunk_rows q k)) key u r l) (sym is.1)
+    (subst (λ w. IsReached q places copies as_trail k (Some 1) (rows_or w) key u r l) (sym is.0) (by r h))
   where
-    by : (r : Reached) → IsLeafEnd copies may_split as_trail rows key u r l
-        → IsReached q places copies may_split as_trail (stamp_of at) (Some 1) rows key u r l
+    by : (r : Reached) → IsLeafEnd copies as_trail rows key u r l
+        → IsReached q places copies as_trail (stamp_of at) (Some 1) rows key u r l
     by Same h = h
     by (Refused code) h = h
-    by (Full value) h = h
     by Laid h =
         let e = h.5.0 in
         let none = sym (ap reverse h.4) in (
@@ -200,6 +194,5 @@ leaf_reached q places copies may_split as_trail key at rows u r l t g h =
       h.0,
       h.1,
       h.2,
-      h.3,
-      (1, refl, (omega arith), made_of_placed q places copies (stamp_of at) rows key h.0 n.value half g h.4),
+      (1, refl, (omega arith), made_of_placed q places copies (stamp_of at) rows key h.0 n.value half g h.3),
     )

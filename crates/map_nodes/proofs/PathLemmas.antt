@@ -13,6 +13,8 @@ use Rattle.group_history.specs.Spelling.{Contents, begins_with, joined_rows}
 use Rattle.group_history.proofs.Pairs.{keys_of-paired}
 use Rattle.map_nodes.specs.Inside.Halves.{HasDepth, half_pieces, IsHalf, with_half, lowered, IsLower, ChildPut}
 use Rattle.map_nodes.specs.Inside.Halves.{AreNinth}
+use Rattle.map_nodes.specs.Inside.Ready.{AreNinthIn, HasRoom, HasRoomIn, IsOpened, Taken}
+use Rattle.map_nodes.specs.declared.nodes.putting.splits.SplitBuffers.{SplitBuffers}
 use Rattle.map_nodes.specs.Nodes.{body_pieces, IsNode, Kids, child_pieces, kids_pieces, row_pieces, HeadIs, IsChild}
 use Rattle.map_nodes.specs.Nodes.{AllKids}
 use Rattle.map_nodes.specs.Inside.Nodes.{Kid, child_rows}
@@ -315,3 +317,28 @@ pub done_at : (q : Contents) (below : ℕ) (es : Kids) (x : Option Rows) (rows :
     → shown q ps ≡ Some (put (slice_cmp nat_cmp) key v (rows_or x))
 done_at q below es x rows key v ps e f h = ap (shown q) f ∙ h ∙ ap
     (λ z. Some (put (slice_cmp nat_cmp) key v (rows_or z))) (sym e)
+
+-- WHAT WAS TAKEN FOR A SPLIT
+
+pub ninth_lowered_in : (copies : ℕ) (keys : List Bytes) (i : ℕ) (key : Bytes) (lower : Option Bytes) (room : Taken)
+    → IsPlace key keys i → IsLower key (get_or keys i []) lower → AreNinthIn copies keys (i + 1) key room → (k : Bytes)
+    → (i + 1 ≡ 8 → ⊥) → AreNinthIn copies (lowered i lower keys) (i + 1) k room
+ninth_lowered_in copies keys i key lower None p low n k z = tt
+ninth_lowered_in copies keys i key lower (Some room) p low n k z =
+    ninth_lowered copies keys i key lower room.value.firsts.items p low n k z
+
+pub room_opened : (entries : ℕ) (taken : Taken) (room : SplitBuffers OwnChild) → HasRoomIn entries taken
+    → IsOpened taken room → HasRoom entries room
+room_opened entries None room h is = record {
+  empty = is;
+  spare = λ full. absurd (h full);
+  home = λ full. absurd (h full);
+}
+room_opened entries (Some taken) room h is = subst (HasRoom entries) (sym is) h
+
+pub ninth_opened : (copies : ℕ) (keys : List Bytes) (place : ℕ) (key : Bytes) (taken : Taken)
+    (room : SplitBuffers OwnChild) → HasRoomIn (length keys) taken → IsOpened taken room
+    → AreNinthIn copies keys place key taken → AreNinth copies keys place key room.firsts.items
+ninth_opened copies keys place key None room h is n = λ full. absurd (h (omega (arith, full)))
+ninth_opened copies keys place key (Some taken) room h is n =
+    subst (λ w. AreNinth copies keys place key w.firsts.items) (sym is) n

@@ -1,6 +1,6 @@
 -- A value replaced below a chunk, and the map once a value is put.
 use Rattle.std.proofs.Common.{◌≡◌, ◌<◌, ◌+◌, ◌*◌, ◌-◌, ℕ, List, [], ◌∷◌, ◌++◌, Option, Some, None, length, slice_get}
-use Rattle.std.proofs.Common.{set, get_or, inl, refl, sym, ap, ◌∙◌, subst, arith, append-nil, length-set, nat_cmp, cond}
+use Rattle.std.proofs.Common.{set, get_or, inl, inr, refl, sym, ap, ◌∙◌, subst, arith, append-nil, length-set, nat_cmp, cond}
 use Rattle.std.proofs.Common.{drop, Ordering, Less, Equal, Greater, is_eq}
 use Rattle.std.specs.Prelude.{IsSome}
 use Rattle.std.specs.Cmp.Lexicographic.{slice_cmp}
@@ -26,10 +26,10 @@ use Rattle.map_nodes.proofs.LevelLemmas.{changed_as}
 use Rattle.map_nodes.proofs.NamedLemmas.{kept-front}
 use Rattle.map_nodes.proofs.NodeLemmas.{Down}
 use Rattle.map_nodes.proofs.PathLemmas.{length-lowered}
-use Rattle.map_nodes.proofs.PutLevels.{lowered-parting, put_level, put_same}
+use Rattle.map_nodes.proofs.PutLevels.{lowered-parting, put_level, put_risen, put_same}
 use Rattle.map_nodes.proofs.RemoveLemmas.{fresh-set}
 use Rattle.map_nodes.specs.Inside.Counts.{half_fresh, HasKept}
-use Rattle.map_nodes.specs.Inside.Halves.{half_pieces, lowered, with_half, IsLower}
+use Rattle.map_nodes.specs.Inside.Halves.{half_pieces, lowered, with_half, IsLower, IsTopped}
 use Rattle.map_nodes.specs.Inside.Nodes.{child_rows}
 use Rattle.map_nodes.specs.Inside.Puts.{value_in, ChildReplaced, HalvesPut, HasReplaced, IsHalved, IsOwnPut}
 use Rattle.map_nodes.specs.Levels.{parting, seen_levels, topped, IsRenewed, RenewedLater}
@@ -158,22 +158,28 @@ put_whole p q may key v n o half e d made kept fresh entries levels = record {
     whole : o.pieces ++ half_pieces half ≡ o.pieces
     whole = ap (λ h. o.pieces ++ half_pieces h) e ∙ append-nil o.pieces
 
--- what holds since chunks were read holds since before
-pub put_since : (p q r : Contents) (may : Ref → Type 0) (key v : Bytes) (n s o : Seen) → IsPrefix p q
-    → IsTree (shown p n.pieces) → s ≡ n → IsPutOn q r may key v s o → IsPutOn p r may key v n o
-put_since p q r may key v n s o pre tree e h =
-    let k = known (shown p n.pieces) tree in
-    let there : shown p n.pieces ≡ shown q n.pieces = k.is ∙ sym (shown-kept p q n.pieces k.rows pre k.is) in
-    let g = subst (λ w. IsPutOn q r may key v w o) e h in
+-- a root, or the one above its halves
+pub put_topped : (p q : Contents) (may : Ref → Type 0) (key v : Bytes) (n s o : Seen) (half : Option Half)
+    → s.depth ≡ n.depth
+    → IsOwnPut q key v (shown p n.pieces) n.pieces s.pieces (n.fresh + n.depth) s.fresh (seen_levels n) (seen_levels s)
+    half
+    → AreKept may (places_of n.pieces) (places_of (s.pieces ++ half_pieces half))
+    → s.fresh + half_fresh half < n.fresh + 2 * n.depth → HasKept n.entries s.entries half → HalvesPut q n s half
+    → IsTopped s half o → IsPutOn p q may key v n o
+put_topped p q may key v n s o None d made kept fresh entries levels top = subst (IsPutOn p q may key v n) (sym top)
+    (put_whole p q may key v n s None refl d made kept fresh entries levels)
+put_topped p q may key v n s o (Some h) d made kept fresh entries levels top =
+    let split : IsSome (value_in (shown p n.pieces) key) → ⊥ =
+    λ there. (let e : Some h ≡ None = (made.renewed there).1 in absurd cc) in
     record {
-      same = λ f. g.same (ap (λ z. value_in z key) (sym there) ∙ f);
-      shown_is = g.shown_is ∙ ap (λ z. Some (put (slice_cmp nat_cmp) key v (rows_or z))) (sym there);
-      few = g.few;
-      replaced = λ t. g.replaced (subst (λ z. IsSome (value_in z key)) there t);
-      levels = g.levels;
-      kept = λ t. g.kept (subst (λ z. IsSome (value_in z key)) there t);
-      others = λ other. g.others (λ f. other (ap (λ z. value_in z key) there ∙ f));
-      deep = g.deep;
-      wide = g.wide;
-      places_are = g.places_are;
+      same = λ found. absurd (split (subst IsSome (sym found) refl));
+      shown_is = ap (shown q) top.0 ∙ made.shown_is;
+      few = omega (arith, top.2, fresh);
+      replaced = λ there. absurd (split there);
+      levels = put_risen q n.depth (seen_levels n) s o h d top.1 top.4 levels;
+      kept = λ there. absurd (split there);
+      others = λ other. subst (ArePutAmong q key v n.pieces) (sym top.0) made.others;
+      deep = (omega (arith, top.1, d), omega (arith, top.1, d));
+      wide = λ w. inr (omega (arith, top.3));
+      places_are = subst (λ ps. AreKept may (places_of n.pieces) (places_of ps)) (sym top.0) kept;
     }

@@ -1,21 +1,25 @@
 -- A new root above both halves of a map.
-use Rattle.std.proofs.Common.{◌≡◌, ◌<◌, ◌+◌, ◌-◌, ◌&&◌, ℕ, Bool, true, false, cond, T, List, [], ◌∷◌, ◌++◌, Some, None}
+use Rattle.std.proofs.Common.{◌≡◌, ◌<◌, ◌≤◌, ◌+◌, ◌-◌, ◌^◌, ◌&&◌, ℕ, Bool, true, false, cond, T, List, [], ◌∷◌, ◌++◌}
+use Rattle.std.proofs.Common.{Option, Some, None}
 use Rattle.std.proofs.Common.{get_or, length, replicate, append-nil, refl, sym, ap, ◌∙◌, subst, arith, nat_cmp, Less, is_lt}
 use Rattle.std.specs.Cmp.Lexicographic.{slice_cmp}
 use Rattle.std.specs.FinMap.{put}
 use Rattle.group_history.specs.Map.{Bytes}
 use Rattle.group_history.specs.Rows.{Rows, AreKeys, rises, paired}
 use Rattle.group_history.specs.Spelling.{Contents, begins_with}
-use Rattle.map_nodes.specs.Inside.Halves.{IsHalf, least, AreInOrder}
+use Rattle.map_nodes.specs.Inside.Counts.{HasKept}
+use Rattle.map_nodes.specs.Inside.Halves.{half_pieces, least, AreInOrder, HeadsBoth, IsHalf}
+use Rattle.map_nodes.specs.Inside.Rising.{CanRise, IsTaken}
 use Rattle.map_nodes.specs.Nodes.{kids_pieces, row_pieces, body_pieces, HeadIs, AllKids, IsNode}
 use Rattle.map_nodes.specs.Inside.Nodes.{Kid}
 use Rattle.map_chunks.specs.Search.{is_above}
-use Rattle.map_chunks.specs.Shown.{Piece, part_rows, shown}
+use Rattle.map_chunks.specs.Shown.{Piece, Seen, part_rows, shown}
 use Rattle.map_nodes.specs.declared.nodes.Body.{Body}
 use Rattle.map_nodes.specs.declared.nodes.Body.TheVariants.{Leaf, Inner}
 use Rattle.map_nodes.specs.declared.nodes.OwnChild.{OwnChild}
 use Rattle.map_nodes.specs.declared.nodes.OwnChild.TheVariants.{Own}
 use Rattle.map_nodes.specs.declared.nodes.putting.Half.{Half}
+use Rattle.map_nodes.specs.declared.nodes.putting.roots.Above.{Above}
 use Rattle.map_nodes.proofs.ChangeLemmas.{head_from}
 use Rattle.map_chunks.proofs.JoinLemmas.{back_begins, halves, begins-with}
 use Rattle.map_nodes.proofs.KidLemmas.{repeated, head_kids}
@@ -143,3 +147,23 @@ root first second lower half keys given kids h i o g ek ec =
     less_of : (ps : List Piece) → AreInOrder first ps → HeadIs second ps → T (is_lt (cmp first second))
     less_of [] o h = absurd h
     less_of (p ∷ ps) o h = subst (λ k. T (is_lt (cmp first k))) h o
+
+-- A ROOT THAT WAS SPLIT
+
+-- a chunk and its upper half, where what a root above them needs was taken for a full chunk
+pub can_rise : (q : Contents) (rows : Rows) (first : Bytes) (n s : Seen) (above : Above) (half : Option Half)
+    → n.depth + 1 < 2 ^ 64 → s.depth ≡ n.depth → IsHalf 1 n.depth half
+    → shown q (s.pieces ++ half_pieces half) ≡ Some rows → IsStrict rows → begins_with first rows ≡ true
+    → 0 < length s.pieces → HasKept n.entries s.entries half → IsTaken n.entries first above → CanRise s above half
+can_rise q rows first n s above None deep d h e o b l kept t = tt
+can_rise q rows first n s above (Some half) deep d h e o b l kept t =
+    let full : 16 ≤ n.entries = omega (arith, kept.0) in
+    let is = two q first h.1.0 s.pieces half.node.value.pieces rows e o b l h.1.1 in
+    record {
+      deep = omega (arith, d, deep);
+      half_is = subst (λ w. IsHalf 1 w (Some half)) (sym d) h;
+      heads = subst (λ w. HeadsBoth w s.pieces half.node.value.pieces) (sym (t.first full)) (is.head, is.order);
+      keys = (t.empty.0, (t.spare full).0);
+      kids = (t.empty.1, (t.spare full).1);
+      home = t.home full;
+    }

@@ -1,6 +1,6 @@
 -- The one way down to a key: through an inner chunk, and up again.
-use Rattle.std.proofs.Common.{◌≡◌, ◌<◌, ◌≤◌, ◌+◌, ◌-◌, ◌^◌, ℕ, Bool, false, List, [], ◌∷◌, Option, Some, None, length}
-use Rattle.std.proofs.Common.{reverse, slice_get, Result, Ok, Err, IfOk, IfErr, get_or, refl, sym, ap, ◌∙◌, subst}
+use Rattle.std.proofs.Common.{◌≡◌, ◌<◌, ◌≤◌, ◌+◌, ◌-◌, ◌^◌, ℕ, Bool, List, [], ◌∷◌, Option, Some, None, length}
+use Rattle.std.proofs.Common.{reverse, slice_get, Result, Ok, Err, IfOk, IfErr, get_or, sym, ap, ◌∙◌, subst}
 use Rattle.std.proofs.Common.{arith}
 use Rattle.std.proofs.lemmas.List.{reverse-append}
 use Rattle.std.specs.List.{Contains}
@@ -24,13 +24,12 @@ use Rattle.map_chunks.specs.Search.{IsPlace}
 use Rattle.map_chunks.specs.Seeking.{chunk_depth}
 use Rattle.map_chunks.specs.Shown.{Seen, chunk_rows, rows_or, IsTree}
 use Rattle.map_nodes.proofs.GrownLemmas.{fits_over, made_over, over, step_over}
-use Rattle.map_nodes.specs.Inside.Counts.{HasKept}
 use Rattle.map_nodes.specs.Inside.Laying.{CanStep, IsGrownOver, IsMade, IsReached, IsStepped}
 use Rattle.map_nodes.specs.Trails.{step_seen, trail_seen, IsTrail}
 use Rattle.map_nodes.specs.declared.nodes.putting.Half.{Half}
 use Rattle.map_nodes.specs.declared.nodes.trails.laying.Laying.{Laying}
 use Rattle.map_nodes.specs.declared.nodes.trails.laying.Reached.{Reached}
-use Rattle.map_nodes.specs.declared.nodes.trails.laying.Reached.TheVariants.{Same, Refused, Full, Laid, Grown}
+use Rattle.map_nodes.specs.declared.nodes.trails.laying.Reached.TheVariants.{Same, Refused, Laid, Grown}
 
 -- the child is one of the children
 pub child_in : (kids : List (Bytes × Ref)) (key : Bytes) (i : ℕ) (below : Ref) → IsPlace key (keys_of kids) i
@@ -51,56 +50,44 @@ made_below r may copies stamp d rows key v n half m =
     subst (λ z. IsMade r may copies stamp z rows key v n half) (sym one) m
 
 -- own chunks that were made below fit in the chunk above
-pub can_step : (q r : Contents) (may : Ref → Type 0) (copies : ℕ) (may_split as_trail : Bool) (key : Bytes)
+pub can_step : (q r : Contents) (may : Ref → Type 0) (copies : ℕ) (as_trail : Bool) (key : Bytes)
     (at below : Ref) (kids : List (Bytes × Ref)) (i : ℕ) (u : Update) (x : Reached) (l : Laying) → Way q key at below
     → IsTree (chunk_rows q (stamp_of at)) → slice_get q (stamp_of at) ≡ Some (chunk_content (chunked.Inner kids))
     → IsPrefix q r → IsPlace key (keys_of kids) i → below ≡ get_or (values_of kids) i below → length kids ≤ 16
     → stamp_of below + 2 < 2 ^ 64
-    → IsReached r may (copies + 1) may_split as_trail (stamp_of below) (chunk_depth q (stamp_of below))
+    → IsReached r may (copies + 1) as_trail (stamp_of below) (chunk_depth q (stamp_of below))
     (rows_or (chunk_rows q (stamp_of below))) key u x l
     → CanStep copies kids key i x
-can_step q r may copies may_split as_trail key at below kids i u Same l w t g pre place b few big h = tt
-can_step q r may copies may_split as_trail key at below kids i u (Refused code) l w t g pre place b few big h = tt
-can_step q r may copies may_split as_trail key at below kids i u (Full value) l w t g pre place b few big h = tt
-can_step q r may copies may_split as_trail key at below kids i u Laid l w t g pre place b few big h = tt
-can_step q r may copies may_split as_trail key at below kids i u (Grown n half) l w t g pre place b few big h =
-    let d = h.4.0 in
+can_step q r may copies as_trail key at below kids i u Same l w t g pre place b few big h = tt
+can_step q r may copies as_trail key at below kids i u (Refused code) l w t g pre place b few big h = tt
+can_step q r may copies as_trail key at below kids i u Laid l w t g pre place b few big h = tt
+can_step q r may copies as_trail key at below kids i u (Grown n half) l w t g pre place b few big h =
+    let d = h.3.0 in
     fits_over q r may copies (d + 1) i key h.0 at below kids n.value half
-    (over q key at below kids i d w t g place b h.4.1) pre few (omega (arith, h.4.2, big))
-    (made_below r may (copies + 1) (stamp_of below) d (rows_or (chunk_rows q (stamp_of below))) key h.0 n.value half h.4.3)
-
--- a chunk that isn't full isn't split
-whole_up : (old new : ℕ) (made : Option Half) → HasKept old new made → (16 ≤ old → made ≡ None) → made ≡ None
-whole_up old new None k f = refl
-whole_up old new (Some h) k f = f (omega (arith, k.0))
+    (over q key at below kids i d w t g place b h.3.1) pre few (omega (arith, h.3.2, big))
+    (made_below r may (copies + 1) (stamp_of below) d (rows_or (chunk_rows q (stamp_of below))) key h.0 n.value half h.3.3)
 
 -- what the way ends in, told of the chunk above
-pub reached_up : (q r : Contents) (may : Ref → Type 0) (copies : ℕ) (may_split deeper_split as_trail : Bool)
+pub reached_up : (q r : Contents) (may : Ref → Type 0) (copies : ℕ) (as_trail : Bool)
     (key : Bytes) (at below : Ref) (kids : List (Bytes × Ref)) (i : ℕ) (u : Update) (x y : Reached) (old new : Laying)
     → Way q key at below → IsTree (chunk_rows q (stamp_of at))
     → slice_get q (stamp_of at) ≡ Some (chunk_content (chunked.Inner kids)) → IsPrefix q r
     → AreAll may (values_of kids) → IsPlace key (keys_of kids) i → below ≡ get_or (values_of kids) i below
-    → (deeper_split ≡ false → may_split ≡ false)
-    → (may_split ≡ false → 16 ≤ length kids → deeper_split ≡ false)
-    → IsReached r may (copies + 1) deeper_split as_trail (stamp_of below) (chunk_depth q (stamp_of below))
+    → IsReached r may (copies + 1) as_trail (stamp_of below) (chunk_depth q (stamp_of below))
     (rows_or (chunk_rows q (stamp_of below))) key u x old
     → IsStepped copies kids key i x y old new
-    → IsReached r may copies may_split as_trail (stamp_of at) (chunk_depth q (stamp_of at))
+    → IsReached r may copies as_trail (stamp_of at) (chunk_depth q (stamp_of at))
     (rows_or (chunk_rows q (stamp_of at))) key u y new
-reached_up q r may copies may_split deeper_split as_trail key at below kids i u Same y old new w t g pre all
-    place b low full h e =
-    subst (λ z. IsReached r may copies may_split as_trail (stamp_of at) (chunk_depth q (stamp_of at))
+reached_up q r may copies as_trail key at below kids i u Same y old new w t g pre all
+    place b h e =
+    subst (λ z. IsReached r may copies as_trail (stamp_of at) (chunk_depth q (stamp_of at))
     (rows_or (chunk_rows q (stamp_of at))) key u z new) (sym e) (h.0, h.1, sym w.same ∙ h.2)
-reached_up q r may copies may_split deeper_split as_trail key at below kids i u (Refused code) y old new w t g pre
-    all place b low full h e =
-    subst (λ z. IsReached r may copies may_split as_trail (stamp_of at) (chunk_depth q (stamp_of at))
+reached_up q r may copies as_trail key at below kids i u (Refused code) y old new w t g pre
+    all place b h e =
+    subst (λ z. IsReached r may copies as_trail (stamp_of at) (chunk_depth q (stamp_of at))
     (rows_or (chunk_rows q (stamp_of at))) key u z new) (sym e) h
-reached_up q r may copies may_split deeper_split as_trail key at below kids i u (Full value) y old new w t g pre
-    all place b low full h e =
-    subst (λ z. IsReached r may copies may_split as_trail (stamp_of at) (chunk_depth q (stamp_of at))
-    (rows_or (chunk_rows q (stamp_of at))) key u z new) (sym e) (h.0, sym w.same ∙ h.1, low h.2)
-reached_up q r may copies may_split deeper_split as_trail key at below kids i u Laid y old new w t g pre all
-    place b low full h e =
+reached_up q r may copies as_trail key at below kids i u Laid y old new w t g pre all
+    place b h e =
     let v = h.0 in
     let d = h.4.0 in
     let end = h.4.2.0 in
@@ -121,7 +108,7 @@ reached_up q r may copies may_split deeper_split as_trail key at below kids i u 
     let deep : w.depth ≡ d = some_is (sym w.depth_is ∙ h.4.1) in
     let is : s ∷ steps ≡ reverse new.steps.items =
     sym (ap reverse e.2.3 ∙ reverse-append old.steps.items (s ∷ [])) in
-    subst (λ z. IsReached r may copies may_split as_trail (stamp_of at) (chunk_depth q (stamp_of at)) rows key u z new)
+    subst (λ z. IsReached r may copies as_trail (stamp_of at) (chunk_depth q (stamp_of at)) rows key u z new)
     (sym e.0) (
       v,
       h.1,
@@ -138,29 +125,28 @@ reached_up q r may copies may_split deeper_split as_trail key at below kids i u 
         ),
       ),
     )
-reached_up q r may copies may_split deeper_split as_trail key at below kids i u (Grown child half) y old new w t g pre
-    all place b low full h e =
+reached_up q r may copies as_trail key at below kids i u (Grown child half) y old new w t g pre
+    all place b h e =
     let v = h.0 in
-    let d = h.4.0 in
+    let d = h.3.0 in
     let n = e.0 in
     let made = e.1 in
     let below_rows = rows_or (chunk_rows q (stamp_of below)) in
     let rows = rows_or (chunk_rows q (stamp_of at)) in
     let other : find (slice_cmp nat_cmp) key rows ≡ Some v → ⊥ = λ f. h.2 (w.same ∙ f) in
-    let x = over q key at below kids i d w t g place b h.4.1 in
-    let m = made_below r may (copies + 1) (stamp_of below) d below_rows key v child.value half h.4.3 in
-    let grown = subst (λ z. IsGrownOver copies (z + 1) kids key i child.value half n.value made) h.4.3.depth_is e.3 in
-    let deep : w.depth ≡ d = some_is (sym w.depth_is ∙ h.4.1) in
-    subst (λ z. IsReached r may copies may_split as_trail (stamp_of at) (chunk_depth q (stamp_of at)) rows key u z new)
+    let x = over q key at below kids i d w t g place b h.3.1 in
+    let m = made_below r may (copies + 1) (stamp_of below) d below_rows key v child.value half h.3.3 in
+    let grown = subst (λ z. IsGrownOver copies (z + 1) kids key i child.value half n.value made) h.3.3.depth_is e.3 in
+    let deep : w.depth ≡ d = some_is (sym w.depth_is ∙ h.3.1) in
+    subst (λ z. IsReached r may copies as_trail (stamp_of at) (chunk_depth q (stamp_of at)) rows key u z new)
     (sym e.2) (
       v,
       h.1,
       other,
-      λ one. whole_up (length kids) (length grown.keys) made grown.entries (λ z. grown.whole (h.3 (full one z))),
       (
         d + 1,
         w.deeper ∙ ap (λ z. Some (z + 1)) deep,
-        omega (arith, h.4.2, w.low),
+        omega (arith, h.3.2, w.low),
         made_over q r may copies (d + 1) i key v at below kids child.value n.value half made x pre all other m grown,
       ),
     )
@@ -174,10 +160,10 @@ err_so (Ok a) h f = tt
 err_so (Err e) h f = f e h
 
 -- the same told by other words
-pub reached_as : (q : Contents) (may : Ref → Type 0) (n m : ℕ) (split a b : Bool) (stamp : ℕ) (depth : Option ℕ)
+pub reached_as : (q : Contents) (may : Ref → Type 0) (n m : ℕ) (a b : Bool) (stamp : ℕ) (depth : Option ℕ)
     (rows : Rows) (j k : Bytes) (u : Update) (x : Reached) (l : Laying) → n ≡ m → a ≡ b → j ≡ k
-    → IsReached q may n split a stamp depth rows j u x l → IsReached q may m split b stamp depth rows k u x l
-reached_as q may n m split a b stamp depth rows j k u x l e f g h =
-    subst (λ z. IsReached q may z split b stamp depth rows k u x l) e
-    (subst (λ z. IsReached q may n split z stamp depth rows k u x l) f
-    (subst (λ z. IsReached q may n split a stamp depth rows z u x l) g h))
+    → IsReached q may n a stamp depth rows j u x l → IsReached q may m b stamp depth rows k u x l
+reached_as q may n m a b stamp depth rows j k u x l e f g h =
+    subst (λ z. IsReached q may z b stamp depth rows k u x l) e
+    (subst (λ z. IsReached q may n z stamp depth rows k u x l) f
+    (subst (λ z. IsReached q may n a stamp depth rows z u x l) g h))

@@ -10,6 +10,7 @@ pub mod Freezing
 pub mod Halves
 pub mod Counts
 pub mod Ready
+pub mod Rising
 pub mod Unput
 pub mod Puts
 -- A removal: what chunks with one child each end in, and what becomes of children and root.

@@ -14,9 +14,9 @@
 //! what it will put would spare that. Otherwise they are own chunks (`nodes/growing.rt`).
 //!
 //! Own chunks are changed in place, on the way up (`nodes/putting.rt`); all memory is taken before that, so a put that
-//! stops leaves the tree. A put first tries without splitting an own chunk. A full one hands the value back, unchanged;
-//! the chunk above then takes a key list of its own, and puts the value below it once more. So a new key rebuilds the
-//! key lists of its leaf, of those above whose child is split, and of those whose first key it becomes; no other. A
+//! stops leaves the tree. A chunk above a full child, which may be split, makes room in a key list of its own before the
+//! way goes on below it, and where it is full itself takes what its own split needs. So a put rebuilds the key lists of
+//! chunks above a full child, that of its leaf where the key is new, and those whose first key it becomes; no other. A
 //! removal looks at the child before anything changes: one that would be empty leaves its parent and is not copied.
 //! Half-empty chunks are not merged, so a fill in order leaves its leaves half full.
 #![tactic(auto)]

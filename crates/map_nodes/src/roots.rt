@@ -139,7 +139,6 @@ impl OwnRoot {
             key,
             searched: &searched,
             copies: 1,
-            may_split: true,
             as_trail: true,
         };
         let mut laying = Laying::new(alloc);
@@ -157,10 +156,10 @@ impl OwnRoot {
         laying: Laying,
     ) -> Result<Updated, AllocError>
         requires tree { IsTree (chunk_rows (C.contents chunks.now) (stamp_of at)) }
-        requires reached { (u : Updates) × IsReached (C.contents chunks.now) (C.places chunks.now) 1 true true
+        requires reached { (u : Updates) × IsReached (C.contents chunks.now) (C.places chunks.now) 1 true
             (stamp_of at) (chunk_depth (C.contents chunks.now) (stamp_of at))
             (rows_or (chunk_rows (C.contents chunks.now) (stamp_of at))) key.now u reached laying }
-        ensures { (u : Updates) → IsReached (C.contents chunks.now) (C.places chunks.now) 1 true true (stamp_of at)
+        ensures { (u : Updates) → IsReached (C.contents chunks.now) (C.places chunks.now) 1 true (stamp_of at)
             (chunk_depth (C.contents chunks.now) (stamp_of at))
             (rows_or (chunk_rows (C.contents chunks.now) (stamp_of at))) key.now u reached laying
             → IfOk result (IsUpdated (C.contents chunks.now) (C.contents chunks.now) (C.places chunks.now) (stamp_of at)
@@ -175,7 +174,6 @@ impl OwnRoot {
                 let root = topped(alloc, node, half)?;
                 Ok(Updated::made(OwnRoot::new(root)))
             }
-            Reached::Full(_) => unreachable!(),
         }
     }
 

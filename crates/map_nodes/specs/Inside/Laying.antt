@@ -1,5 +1,5 @@
 -- The way down from a placed chunk to a key, and the new chunks that are made on the way up.
-use Rattle.std.specs.Prelude.{◌≡◌, Bool, true, false, ℕ, ◌+◌, ◌-◌, ◌*◌, ◌^◌, ◌≤◌, ◌<◌, List, [], ◌∷◌, ◌++◌, length}
+use Rattle.std.specs.Prelude.{◌≡◌, Bool, true, ℕ, ◌+◌, ◌-◌, ◌*◌, ◌^◌, ◌≤◌, ◌<◌, List, [], ◌∷◌, ◌++◌, length}
 use Rattle.std.specs.Prelude.{reverse, slice_index_or, slice_set, Option, Some, None, IsSome}
 use Rattle.std.specs.Arc.{arc_value}
 use Rattle.std.specs.Ordering.{nat_cmp}
@@ -31,7 +31,7 @@ use Rattle.map_nodes.specs.declared.nodes.trails.End.{End}
 use Rattle.map_nodes.specs.declared.nodes.trails.Step.{Step}
 use Rattle.map_nodes.specs.declared.nodes.trails.laying.Laying.{Laying}
 use Rattle.map_nodes.specs.declared.nodes.trails.laying.Reached.{Reached}
-use Rattle.map_nodes.specs.declared.nodes.trails.laying.Reached.TheVariants.{Same, Refused, Full, Laid, Grown}
+use Rattle.map_nodes.specs.declared.nodes.trails.laying.Reached.TheVariants.{Same, Refused, Laid, Grown}
 
 -- a leaf with these keys and values
 abbrev pub rows_seen : List Bytes → List Bytes → Seen
@@ -85,36 +85,32 @@ pub record IsMade (contents : Contents) (places : Ref → Type 0) (copies stamp 
   pub kept : AreKept places [] (places_of (n.pieces ++ half_pieces half))
   pub wide : IsWideAt contents stamp → IsWideChunk n
 
--- The key has the value that is put already, or nothing is put; or the key isn't there, and the leaf would be split and
--- may not be; or it has another value, in a leaf of a trail or in an own one.
-abbrev pub IsLeafEnd : ℕ → Bool → Bool → Rows → Bytes → Update → Reached → Laying → Type 0
-IsLeafEnd copies may_split as_trail rows key u Same l = (v : Bytes) × (u ≡ Put v)
+-- The key has the value that is put already, or nothing is put; or it has another value, in a leaf of a trail or in an
+-- own one.
+abbrev pub IsLeafEnd : ℕ → Bool → Rows → Bytes → Update → Reached → Laying → Type 0
+IsLeafEnd copies as_trail rows key u Same l = (v : Bytes) × (u ≡ Put v)
     × (find (slice_cmp nat_cmp) key rows ≡ Some v)
-IsLeafEnd copies may_split as_trail rows key u (Refused code) l = u ≡ Refuse code
-IsLeafEnd copies may_split as_trail rows key u (Full value) l = (u ≡ Put value)
-    × (find (slice_cmp nat_cmp) key rows ≡ None) × (may_split ≡ false)
-IsLeafEnd copies may_split as_trail rows key u Laid l = (v : Bytes) × (u ≡ Put v)
+IsLeafEnd copies as_trail rows key u (Refused code) l = u ≡ Refuse code
+IsLeafEnd copies as_trail rows key u Laid l = (v : Bytes) × (u ≡ Put v)
     × (find (slice_cmp nat_cmp) key rows ≡ Some v → ⊥) × (as_trail ≡ true) × (l.steps.items ≡ [])
     × ((e : End) × (l.end ≡ Some e) × IsEnd e × IsMadeLeaf copies rows key v (trail_seen [] e) None)
-IsLeafEnd copies may_split as_trail rows key u (Grown n half) l = (v : Bytes) × (u ≡ Put v)
-    × (find (slice_cmp nat_cmp) key rows ≡ Some v → ⊥) × (may_split ≡ false → half ≡ None)
+IsLeafEnd copies as_trail rows key u (Grown n half) l = (v : Bytes) × (u ≡ Put v)
+    × (find (slice_cmp nat_cmp) key rows ≡ Some v → ⊥)
     × IsMadeLeaf copies rows key v n.value half
 
 -- The same of the placed chunk of a stamp, which has these rows and may be so deep. The steps of new chunks are listed
 -- from the lowest to the topmost.
-abbrev pub IsReached : Contents → (Ref → Type 0) → ℕ → Bool → Bool → ℕ → Option ℕ → Rows → Bytes → Update → Reached
+abbrev pub IsReached : Contents → (Ref → Type 0) → ℕ → Bool → ℕ → Option ℕ → Rows → Bytes → Update → Reached
     → Laying → Type 0
-IsReached contents places copies may_split as_trail stamp depth rows key u Same l = (v : Bytes) × (u ≡ Put v)
+IsReached contents places copies as_trail stamp depth rows key u Same l = (v : Bytes) × (u ≡ Put v)
     × (find (slice_cmp nat_cmp) key rows ≡ Some v)
-IsReached contents places copies may_split as_trail stamp depth rows key u (Refused code) l = u ≡ Refuse code
-IsReached contents places copies may_split as_trail stamp depth rows key u (Full value) l = (u ≡ Put value)
-    × (find (slice_cmp nat_cmp) key rows ≡ None) × (may_split ≡ false)
-IsReached contents places copies may_split as_trail stamp depth rows key u Laid l = (v : Bytes) × (u ≡ Put v)
+IsReached contents places copies as_trail stamp depth rows key u (Refused code) l = u ≡ Refuse code
+IsReached contents places copies as_trail stamp depth rows key u Laid l = (v : Bytes) × (u ≡ Put v)
     × (find (slice_cmp nat_cmp) key rows ≡ Some v → ⊥) × (as_trail ≡ true)
     × ((deep : ℕ) × (depth ≡ Some deep) × ((e : End) × (l.end ≡ Some e) × IsTrail (reverse l.steps.items) e
     × IsMade contents places copies stamp deep rows key v (trail_seen (reverse l.steps.items) e) None))
-IsReached contents places copies may_split as_trail stamp depth rows key u (Grown n half) l = (v : Bytes)
-    × (u ≡ Put v) × (find (slice_cmp nat_cmp) key rows ≡ Some v → ⊥) × (may_split ≡ false → half ≡ None)
+IsReached contents places copies as_trail stamp depth rows key u (Grown n half) l = (v : Bytes)
+    × (u ≡ Put v) × (find (slice_cmp nat_cmp) key rows ≡ Some v → ⊥)
     × ((deep : ℕ) × (depth ≡ Some deep) × (deep ≤ stamp + 1)
     × IsMade contents places copies stamp deep rows key v n.value half)
 
@@ -173,7 +169,6 @@ pub record IsGrownOver (copies depth : ℕ) (kids : List (Bytes × Ref)) (key : 
 abbrev pub CanStep : ℕ → List (Bytes × Ref) → Bytes → ℕ → Reached → Type 0
 CanStep copies kids key place Same = Unit {0}
 CanStep copies kids key place (Refused code) = Unit {0}
-CanStep copies kids key place (Full value) = Unit {0}
 CanStep copies kids key place Laid = Unit {0}
 CanStep copies kids key place (Grown child half) = CanGrowOver copies kids key place child.value half
 
@@ -181,7 +176,6 @@ CanStep copies kids key place (Grown child half) = CanGrowOver copies kids key p
 abbrev pub IsStepped : ℕ → List (Bytes × Ref) → Bytes → ℕ → Reached → Reached → Laying → Laying → Type 0
 IsStepped copies kids key place Same r old new = r ≡ Same
 IsStepped copies kids key place (Refused code) r old new = r ≡ Refused code
-IsStepped copies kids key place (Full value) r old new = r ≡ Full value
 IsStepped copies kids key place Laid r old new = (r ≡ Laid) × (new.end ≡ old.end)
     × ((s : Step) × IsCopiedStep kids key s × (s.place ≡ place) × (new.steps.items ≡ old.steps.items ++ s ∷ []))
 IsStepped copies kids key place (Grown child half) r old new = (n : Kid) × (made : Option Half) × (r ≡ Grown n made)

@@ -1,6 +1,6 @@
 //! Own chunks made of placed ones on the way up, with what a put made below them. All placed chunks stay as they are, so
 //! memory may be refused at any of these steps.
-ghost use Rattle.std.specs.Prelude.{◌≡◌, ◌+◌, ◌++◌, ◌<◌, ◌≤◌, ◌^◌, true, false, [], length, slice_index_or, IfOk, IsSome};
+ghost use Rattle.std.specs.Prelude.{◌≡◌, ◌+◌, ◌++◌, ◌<◌, ◌≤◌, ◌^◌, [], length, slice_index_or, IfOk, IsSome};
 ghost use Rattle.std.specs.Prelude.{vec_items, vec_len, vec_capacity};
 ghost use Rattle.std.specs.Ordering.{nat_cmp};
 ghost use Rattle.std.specs.Cmp.Lexicographic.{slice_cmp};
@@ -20,39 +20,34 @@ use super::homes::boxed;
 use super::putting::{Half, Put, PutBuffers, finish, insert_row, lower_first, lower_key};
 use super::{Body, OwnChild, OwnNode};
 use group_history::{Inner, Json, Leaf, Ref, SearchKey, Text};
-use map_chunks::entries::MOST;
 use map_chunks::keys::{NodeKeys, ROOM};
 use std::alloc::{AllocError, Global};
 
-/// A way down to a key: how many copies of an upper half's first key are wanted, one for each chunk above; whether the
-/// chunk may be split; and whether a trail will do.
+/// A way down to a key: how many copies of an upper half's first key are wanted, one for each chunk above; and whether a
+/// trail will do.
 #[derive(Drop)]
 pub(crate) struct Down<'a> {
     pub(crate) alloc: Global,
     pub(crate) key: &'a str,
     pub(crate) searched: &'a SearchKey<'a>,
     pub(crate) copies: usize,
-    pub(crate) may_split: bool,
     pub(crate) as_trail: bool,
     ghost same: { searched.now ≡ key.now },
 }
 
 impl<'a> Down<'a> {
-    /// The way on below a chunk with so many children: where that may be split if it gets another one, so may its child.
-    pub(crate) fn below(&self, children: usize) -> Down<'a>
+    /// The way on below a chunk.
+    pub(crate) fn below(&self) -> Down<'a>
         requires { self.now.copies + 1 < 2 ^ 64 }
         ensures key { result.key.now ≡ self.now.key.now }
         ensures copies { result.copies ≡ self.now.copies + 1 }
         ensures trail { result.as_trail ≡ self.now.as_trail }
-        ensures split { result.may_split ≡ false → (self.now.may_split ≡ false) × (16 ≤ children) }
-        ensures whole { self.now.may_split ≡ false → 16 ≤ children → result.may_split ≡ false }
     {
         Down {
             alloc: self.alloc,
             key: self.key,
             searched: self.searched,
             copies: self.copies + 1,
-            may_split: self.may_split || children < MOST,
             as_trail: self.as_trail,
         }
     }
@@ -61,13 +56,11 @@ impl<'a> Down<'a> {
     fn put(&self, key: &'a Text) -> Put<'a>
         ensures key { result.key.now ≡ key.now }
         ensures copies { result.copies ≡ self.now.copies }
-        ensures split { result.may_split ≡ true }
     {
         Put {
             alloc: self.alloc,
             key,
             copies: self.copies,
-            may_split: true,
         }
     }
 }
@@ -142,12 +135,17 @@ fn ready_over(
     ensures ready { IfOk result (λ r. IsSome half.now
         → IsReady down.now.copies keys.old.texts keys.new.room place down.now.key.now r.room) }
 {
-    let lower = lower_key(keys, down.alloc, place, down.key)?;
     if half.is_none() {
-        return Ok(PutBuffers::of_whole(down.alloc, lower));
+        let lower = lower_key(keys, down.alloc, place, down.key)?;
+        return Ok(PutBuffers { lower, room: None });
     }
     let key = Text::new(down.alloc, down.key)?;
-    PutBuffers::of_split(keys, down.alloc, place, &key, lower, down.copies)
+    let put = Put {
+        alloc: down.alloc,
+        key: &key,
+        copies: down.copies,
+    };
+    PutBuffers::of_child(keys, put, place, true)
 }
 
 /// An inner chunk with an own child in the place of one, and the child's upper half behind it. It is split where it has
@@ -169,7 +167,9 @@ pub(crate) fn grown_over(
     let ready = ready_over(&mut keys, place, down, &half)?;
     kids[place] = OwnChild::Own(child);
     lower_first(&mut keys, place, ready.lower);
-    let half = finish(&mut keys, &mut kids, place, depth, ready.room, half);
+    let half = finish(
+        &mut keys, &mut kids, place, depth, down.alloc, ready.room, half,
+    );
     let node = OwnNode {
         depth,
         keys,

@@ -3,10 +3,9 @@
 //! A value put at a key that is there takes the place of the old one, unless it is the same. What is put is what a
 //! change makes of the value there, and it sees that at the leaf.
 //! A chunk with 17 entries is split: the first 8 stay, the last 9 become its upper half, which its parent
-//! puts behind it. All memory is taken before anything changes, so a chunk puts a row below first where
-//! nothing may be split, and only where that can't be done takes what an upper half needs: a key list of
-//! its own, and where it is full itself, room for a split. The first key of an upper half is copied for
-//! each chunk above.
+//! puts behind it. All memory is taken before anything changes: above a child that is full, a chunk takes what
+//! the child's upper half needs before it goes on below: a key list of its own, and where it is full itself,
+//! room for a split. The first key of an upper half is copied for each chunk above.
 ghost use Rattle.std.specs.Prelude.{◌≡◌};
 ghost use Rattle.group_history.specs.declared.mutators.Stop.TheVariants.{NoMemory};
 ghost use Rattle.map_nodes.specs.declared.nodes.putting.PutRefused.TheVariants.{Stopped};
@@ -26,13 +25,12 @@ pub(crate) use middles::{finish, lower_first};
 pub(crate) use roots::topped;
 use std::alloc::{AllocError, Global};
 
-/// A put in a chunk: how many copies of an upper half's first key are wanted, and whether the chunk may be split.
+/// A put in a chunk: how many copies of an upper half's first key are wanted.
 #[derive(Clone, Copy)]
 pub(crate) struct Put<'a> {
     pub(crate) alloc: Global,
     pub(crate) key: &'a Text,
     pub(crate) copies: usize,
-    pub(crate) may_split: bool,
 }
 
 /// The upper half of a chunk that was split, and copies of its first key.
@@ -46,8 +44,6 @@ pub(crate) struct Half {
 #[derive(Drop)]
 pub(crate) enum PutRefused {
     Stopped(Stop),
-    /// The key isn't there, and the chunk would be split for this value, and may not be.
-    Full(Json),
     /// The key has the very value that is to be put.
     Same,
     /// The change refuses, with a code.

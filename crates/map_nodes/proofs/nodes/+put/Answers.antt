@@ -1,6 +1,7 @@
-use Rattle.std.proofs.Common.{◌≡◌, ◌+◌, ◌*◌, ◌-◌, ◌++◌, [], ◌∷◌, ◌<◌, ◌≤◌, IfErr, IfOk, ℕ, true, false, Option, None}
+use Rattle.std.proofs.Common.{◌≡◌, ◌+◌, ◌-◌, ◌++◌, [], ◌∷◌, ◌≤◌, IfErr, IfOk, ℕ, Option, None}
 use Rattle.std.proofs.Common.{length, sym, ap, subst, ◌∙◌, Ok, Some, get_or, set, length-set, slice_get, nat_cmp, T}
-use Rattle.std.proofs.Common.{refl, set-set, arith, Result}
+use Rattle.std.proofs.Common.{refl, set-set, arith}
+use Rattle.std.proofs.lemmas.Bool.{le-leb}
 use Rattle.std.specs.Prelude.{IsSome}
 use Rattle.std.specs.Box.{with_value}
 use Rattle.std.specs.Cmp.Lexicographic.{slice_cmp}
@@ -9,19 +10,17 @@ use Rattle.group_history.specs.Map.{Bytes}
 use Rattle.group_history.specs.Refs.{stamp_of}
 use Rattle.group_history.specs.Rows.{Rows, paired, rises, keys_of, values_of}
 use Rattle.group_history.specs.Spelling.{rows_at}
-use Rattle.group_history.specs.declared.mutators.Stop.{Stop}
-use Rattle.group_history.specs.declared.mutators.Update.{Update}
 use Rattle.group_history.specs.declared.mutators.Update.TheVariants.{Put as Puts}
-use Rattle.map_nodes.specs.Inside.Counts.{half_fresh, HasKept}
+use Rattle.map_nodes.specs.Inside.Counts.{HasKept}
 use Rattle.map_chunks.specs.Places.{AreAll, AreKept, places_of}
 use Rattle.map_nodes.specs.Changes.{Makes}
 use Rattle.map_nodes.specs.Inside.Freezing.{child_places, kids_places}
-use Rattle.map_nodes.specs.Inside.Halves.{half_pieces, IsHalf, IsLower, AreNinth, HasDepth, with_half}
+use Rattle.map_nodes.specs.Inside.Halves.{half_pieces, IsHalf, HasDepth, with_half}
 use Rattle.map_nodes.specs.Inside.Halves.{lowered}
 use Rattle.map_nodes.specs.Nodes.{AllKids, IsNode, body_pieces, body_fresh, body_height, kids_pieces, child_fresh}
 use Rattle.map_nodes.specs.Nodes.{kids_fresh, kids_levels, kids_marks, child_levels, sunk, body_marks, row_pieces}
 use Rattle.map_nodes.specs.Inside.Nodes.{Kid, child_rows}
-use Rattle.map_nodes.specs.Inside.Ready.{HasRoom, IsReady}
+use Rattle.map_nodes.specs.Inside.Ready.{AreNinthIn, HasRoomIn}
 use Rattle.map_nodes.specs.Others.{ArePutAmong}
 use Rattle.map_chunks.specs.Search.{IsPlace}
 use Rattle.map_chunks.specs.Shown.{own, leaf_keys, Seen, chunk_rows, shown, rows_or, IsTree}
@@ -34,15 +33,13 @@ use Rattle.map_chunks.proofs.AnswerLemmas.{if_ok_so, on_err, on_ok}
 use Rattle.map_chunks.proofs.JoinLemmas.{some_is}
 use Rattle.map_nodes.proofs.AmongLemmas.{depth_at, inner_among, own_put, placed_put, rows_alone, rows_put}
 use Rattle.map_nodes.proofs.CountLemmas.{fresh-set, leaf_counts, inner_counts}
-use Rattle.map_nodes.proofs.ChangeLemmas.{shown-kept}
-use Rattle.map_chunks.proofs.KeptLemmas.{all_on, grows_on, kept-none, kept-from_none}
+use Rattle.map_chunks.proofs.KeptLemmas.{kept-none, kept-from_none}
 use Rattle.map_nodes.proofs.NamedLemmas.{kept-kid, kept-finished, own-places, places-rows}
 use Rattle.map_nodes.proofs.NodeLemmas.{leaf_rows, inner_same, child_at, written_back}
-use Rattle.map_chunks.proofs.OpenLemmas.{known, tree_of}
-use Rattle.map_nodes.proofs.UnputLemmas.{handed_on, unput_anyhow, unput_split}
+use Rattle.map_nodes.proofs.UnputLemmas.{handed_on, unput_anyhow}
 use Rattle.map_nodes.proofs.RenewLemmas.{inner_replaced, value_below}
 use Rattle.map_nodes.proofs.PathLemmas.{put_path, filled_pairs, filled_kids, length-pairs, node_at, child_requires}
-use Rattle.map_nodes.proofs.PathLemmas.{if_ok, indexed_child, done_at, length-lowered, ninth_lowered}
+use Rattle.map_nodes.proofs.PathLemmas.{if_ok, indexed_child, done_at, length-lowered, ninth_lowered_in}
 use Rattle.map_nodes.proofs.PlaceLemmas.{kid_all, kids_may, own_may, placed_may}
 use Rattle.map_nodes.proofs.KeptLevels.{leaf_kept-levels}
 use Rattle.map_nodes.proofs.LevelLemmas.{changed_as, inner-levels}
@@ -181,7 +178,7 @@ pub putting::paths::put_inner-finish-requires-clause-room : goal.putting::paths:
 putting::paths::put_inner-finish-requires-clause-room g t c some =
     let low = c.lower_first.ensures.texts ∙ ap (lowered c.place_of-place.result c.in_ok-ready.ready.lower)
     c.put_child.ensures.texts in
-    subst (λ n. HasRoom n c.in_ok-ready.ready.room)
+    subst (λ n. HasRoomIn n c.in_ok-ready.ready.room)
     (sym (ap length low ∙ length-lowered c.place_of-place.result c.in_ok-ready.ready.lower c.args.keys.now.texts))
     (c.in_ok-ready.ensures.ready some).2
 
@@ -252,10 +249,9 @@ putting::paths::put_inner-returns-clause-half g t c =
     let done = put.done in
     let low = c.lower_first.ensures.texts ∙ ap (lowered i c.in_ok-ready.ready.lower) c.put_child.ensures.texts in
     c.finish.ensures.half c.args.put.copies done.5
-    (λ some key z. subst (λ ks. AreNinth c.args.put.copies ks (i + 1) key c.in_ok-ready.ready.room.firsts.items)
-    (sym low)
-    (ninth_lowered c.args.put.copies keys i c.args.put.key.now c.in_ok-ready.ready.lower
-    c.in_ok-ready.ready.room.firsts.items x.3 c.in_ok-ready.ensures.lower (c.in_ok-ready.ensures.ready some).1 key z))
+    (λ some key z. subst (λ ks. AreNinthIn c.args.put.copies ks (i + 1) key c.in_ok-ready.ready.room) (sym low)
+    (ninth_lowered_in c.args.put.copies keys i c.args.put.key.now c.in_ok-ready.ready.lower c.in_ok-ready.ready.room x.3
+    c.in_ok-ready.ensures.lower (c.in_ok-ready.ensures.ready some).1 key z))
 
 pub putting::paths::put_inner-returns-clause-levels : goal.putting::paths::put_inner-returns-clause-levels
 putting::paths::put_inner-returns-clause-levels g t c later pre =
@@ -527,56 +523,6 @@ putting::paths::put_child-returns-in-Own-clause-err g t c =
     (λ e. written_back c.args.kids.now.items c.args.place c.index_mut.result.now c.in-Own.node c.put_below.new.self
     c.index_mut.ensures.value c.in-Own.is (e ∙ c.deref_mut.ensures.value))
 
-pub OwnNode::put_below-put_ready-requires : goal.OwnNode::put_below-put_ready-requires
-OwnNode::put_below-put_ready-requires g t c κs within =
-    let p = g.C.Chunks.contents c.args.chunks.now in
-    let q = g.C.Chunks.contents c.put.new.chunks in
-    let n = known (shown p c.args.self.now.pieces) c.requires.tree in
-    let e = c.in-Err-Full.ensures.err in
-    let d = ap (λ (s : Seen). s.depth) e in
-    let here = shown-kept p q c.args.self.now.pieces n.rows c.put.ensures.grown.0 n.is in (
-      omega (arith, d, c.decreases),
-      (
-        within.0,
-        (
-          within.1.0,
-          (
-            within.1.1,
-            (
-              subst (λ (s : Seen). AreAll (g.C.Chunks.places c.put.new.chunks) (places_of s.pieces)) (sym e)
-                  (all_on (g.C.Chunks.places c.args.chunks.now)
-                  (g.C.Chunks.places c.put.new.chunks) _ c.put.ensures.grown.1 c.requires.places),
-              (
-                subst (λ (s : Seen). IsTree (shown q s.pieces)) (sym e)
-                    (tree_of (shown q c.args.self.now.pieces) n.rows here n.order),
-                (
-                  subst (λ ks. IsPlace c.args.put.key.now ks c.args.place) (sym c.lower_key.ensures.texts)
-                      c.requires.place,
-                  omega (arith, d, c.requires.copies),
-                ),
-              ),
-            ),
-          ),
-        ),
-      ),
-    )
-
--- a chunk isn't split, where one with 16 entries isn't
-whole_kept : (old new : ℕ) (half : Option Half) → HasKept old new half → (16 ≤ old → half ≡ None) → half ≡ None
-whole_kept old new None k f = refl
-whole_kept old new (Some h) k f = f (omega (arith, k.0))
-
-pub putting::paths::put_inner-returns-clause-whole : goal.putting::paths::put_inner-returns-clause-whole
-putting::paths::put_inner-returns-clause-whole g t c m =
-    let keys = c.args.keys.now.texts in
-    let i = c.place_of-place.result in
-    let low = ap length (c.lower_first.ensures.texts ∙ ap
-    (lowered i c.in_ok-ready.ready.lower) c.put_child.ensures.texts) ∙ length-lowered i
-    c.in_ok-ready.ready.lower keys in
-    whole_kept (length keys) (length c.finish.new.keys.texts) c.finish.result
-    (subst (λ n. HasKept n (length c.finish.new.keys.texts) c.finish.result) low c.finish.ensures.entries)
-    (λ full. c.finish.ensures.whole (c.in_ok-ready.ensures.whole m full))
-
 -- REFERENCES
 
 pub putting::paths::put_inner-returns-clause-places : goal.putting::paths::put_inner-returns-clause-places
@@ -739,16 +685,14 @@ OwnNode::put-returns-in-Leaf-clause-places g t c =
 pub OwnNode::put-returns-in-Leaf-clause-unput : goal.OwnNode::put-returns-in-Leaf-clause-unput
 OwnNode::put-returns-in-Leaf-clause-unput g t c =
     let stops = g.C.Chunks.stops in
-    let may_split = c.args.put.may_split in
     let key = c.args.put.key.now in
     let was = leaf_rows (g.C.Chunks.contents c.args.chunks.now) c.self.inside.depth c.self.inside.keys.texts
     c.self.inside.body c.in-Leaf.values c.args.self.now.pieces (ap (λ (s : Seen). s.pieces) c.self.view_is)
     c.in-Leaf.is in
     subst (λ z. IfErr c.put_leaf.result (IsUnput (λ made. Makes (λ f there m. g.F.FnOnce.post f (there, tt) m)
-    c.args.change (value_in z key) made) stops may_split (value_in z key))) (sym was)
+    c.args.change (value_in z key) made) stops (value_in z key))) (sym was)
     (unput_anyhow (λ made. Makes (λ f there m. g.F.FnOnce.post f (there, tt) m) c.args.change
-    (finite.find (slice_cmp nat_cmp) key (paired c.self.inside.keys.texts c.in-Leaf.values.items)) made) stops
-    may_split _ c.put_leaf.result c.put_leaf.ensures.unput)
+    (finite.find (slice_cmp nat_cmp) key (paired c.self.inside.keys.texts c.in-Leaf.values.items)) made) stops _ c.put_leaf.result c.put_leaf.ensures.unput)
 
 pub OwnNode::put-put_inner-requires : goal.OwnNode::put-put_inner-requires
 OwnNode::put-put_inner-requires g t c κs within =
@@ -872,87 +816,6 @@ OwnNode::put-returns-in-Inner-clause-err g t c =
     (λ e. inner_same depth c.put_inner.new.keys.texts c.self.inside.keys.texts c.put_inner.new.kids.items
     c.in-Inner.kids.items e.0 e.1 ∙ ap seen (sym c.in-Inner.is) ∙ c.self.view_is)
 
-pub OwnNode::put_below-returns-clause-put : goal.OwnNode::put_below-returns-clause-put
-OwnNode::put_below-returns-clause-put g t c =
-    let p = g.C.Chunks.contents c.args.chunks.now in
-    let q = g.C.Chunks.contents c.put.new.chunks in
-    let r = g.C.Chunks.contents c.put_ready.new.chunks in
-    let key = c.args.put.key.now in
-    let value = c.in-Err-Full.value in
-    let old = c.args.self.now in
-    let new = c.put_ready.new.self in
-    let n = known (shown p old.pieces) c.requires.tree in
-    let e = c.in-Err-Full.ensures.err in
-    let here = shown-kept p q old.pieces n.rows c.put.ensures.grown.0 n.is ∙ sym n.is in
-    let made = λ (r : Result Update Stop). Makes (λ f there m. g.F.FnOnce.post f (there, tt) m) c.args.change
-    (value_in (shown p old.pieces) key) r in
-    let full = subst (IsUnput made g.C.Chunks.stops false (value_in (shown p old.pieces) key)) c.in-Err-Full.field-0-is
-    c.in-Err-Full.ensures.unput in
-    if_ok_so c.put_ready.result c.put_ready.ensures.put (λ answer put. (
-      value,
-      full.2,
-      subst (λ z. IsOwnPut r key value z old.pieces new.pieces (old.fresh + old.depth) new.fresh (seen_levels old)
-          (seen_levels new) answer.1) here
-          (subst (λ (s : Seen). IsOwnPut r key value (shown q s.pieces) s.pieces new.pieces (s.fresh + s.depth)
-          new.fresh (seen_levels s) (seen_levels new) answer.1) e put),
-    ))
-
-pub OwnNode::put_below-returns-clause-half : goal.OwnNode::put_below-returns-clause-half
-OwnNode::put_below-returns-clause-half g t c = subst
-    (λ (s : Seen). IfOk c.put_ready.result (λ r. IsHalf (c.args.put.copies + 1) s.depth r.1)) c.in-Err-Full.ensures.err
-    c.put_ready.ensures.half
-
-pub OwnNode::put_below-returns-clause-places : goal.OwnNode::put_below-returns-clause-places
-OwnNode::put_below-returns-clause-places g t c =
-    let at_q = g.C.Chunks.places c.put_ready.new.chunks in
-    subst (λ (s : Seen). IfOk c.put_ready.result
-    (λ r. AreKept at_q (places_of s.pieces) (places_of (c.put_ready.new.self.pieces ++ half_pieces r.1))))
-    c.in-Err-Full.ensures.err c.put_ready.ensures.places
-
-pub OwnNode::put_below-returns-clause-fresh : goal.OwnNode::put_below-returns-clause-fresh
-OwnNode::put_below-returns-clause-fresh g t c =
-    subst (λ (s : Seen). IfOk c.put_ready.result
-    (λ r. c.put_ready.new.self.fresh + half_fresh r.1 < s.fresh + 2 * s.depth)) c.in-Err-Full.ensures.err
-    c.put_ready.ensures.fresh
-
-pub OwnNode::put_below-returns-clause-lowers : goal.OwnNode::put_below-returns-clause-lowers
-OwnNode::put_below-returns-clause-lowers g t c = if_ok_so c.put_ready.result c.put_ready.ensures.ready
-    (λ r ready some. ready.0)
-
-pub OwnNode::put_below-returns-clause-lower : goal.OwnNode::put_below-returns-clause-lower
-OwnNode::put_below-returns-clause-lower g t c =
-    if_ok_so c.put_ready.result c.put_ready.ensures.lower
-    (λ r is. subst (IsLower c.args.put.key.now (get_or c.args.keys.now.texts c.args.place []))
-    (sym is) (subst (λ k. IsLower k (get_or c.args.keys.now.texts c.args.place []) c.in_ok-lower.lower)
-    c.as_str.ensures c.in_ok-lower.ensures.lower))
-
-pub OwnNode::put_below-returns-clause-ready : goal.OwnNode::put_below-returns-clause-ready
-OwnNode::put_below-returns-clause-ready g t c =
-    if_ok_so c.put_ready.result c.put_ready.ensures.ready
-    (λ r ready some. subst (λ ks. IsReady c.args.put.copies ks c.put_ready.new.keys.room c.args.place c.args.put.key.now
-    r.0.room) c.lower_key.ensures.texts ready)
-
-pub OwnNode::put_below-returns-clause-err : goal.OwnNode::put_below-returns-clause-err
-OwnNode::put_below-returns-clause-err g t c = on_err c.put_ready.result c.put_ready.ensures.err
-    (λ same. same ∙ c.in-Err-Full.ensures.err)
-
-pub OwnNode::put_below-returns-clause-unput : goal.OwnNode::put_below-returns-clause-unput
-OwnNode::put_below-returns-clause-unput g t c =
-    let p = g.C.Chunks.contents c.args.chunks.now in
-    let q = g.C.Chunks.contents c.put.new.chunks in
-    let key = c.args.put.key.now in
-    let value = c.in-Err-Full.value in
-    let n = known (shown p c.args.self.now.pieces) c.requires.tree in
-    let here = shown-kept p q c.args.self.now.pieces n.rows c.put.ensures.grown.0 n.is in
-    let found = value_in (shown p c.args.self.now.pieces) key in
-    let made = λ (r : Result Update Stop). Makes (λ f there m. g.F.FnOnce.post f (there, tt) m) c.args.change found r in
-    let full = subst (IsUnput made g.C.Chunks.stops false found) c.in-Err-Full.field-0-is
-    c.in-Err-Full.ensures.unput in
-    unput_split made g.C.Chunks.stops c.args.put.may_split found value c.put_ready.result full.2
-    (subst (λ z. IfErr c.put_ready.result (IsUnput (λ made. made ≡ Ok (Puts value)) g.C.Chunks.stops true
-    (value_in z key))) (ap (λ (s : Seen). shown q s.pieces) c.in-Err-Full.ensures.err ∙ here ∙ sym n.is)
-    c.put_ready.ensures.unput)
-
 pub OwnNode::put-returns-in-Leaf-clause-levels : goal.OwnNode::put-returns-in-Leaf-clause-levels
 OwnNode::put-returns-in-Leaf-clause-levels g t c =
     let keys = c.self.inside.keys.texts in
@@ -984,18 +847,6 @@ OwnNode::put-returns-in-Inner-clause-levels g t c =
     (λ i. ap (λ w. w ++ half_levels half later i) (inner-levels later (depth - 1) (parting texts) now i))
     (put later pre)))
 
-pub OwnNode::put_below-returns-clause-levels : goal.OwnNode::put_below-returns-clause-levels
-OwnNode::put_below-returns-clause-levels g t c =
-    let r = g.C.Chunks.contents c.put_ready.new.chunks in
-    subst (λ (s : Seen). IfOk c.put_ready.result (λ y. HalvesPut r s c.put_ready.new.self y.1))
-    c.in-Err-Full.ensures.err c.put_ready.ensures.levels
-
--- WHAT GREW
-
-pub OwnNode::put_below-returns-clause-grown : goal.OwnNode::put_below-returns-clause-grown
-OwnNode::put_below-returns-clause-grown g t c =
-    grows_on g.C.Chunks.contents g.C.Chunks.places _ _ _ c.put.ensures.grown c.put_ready.ensures.grown
-
 -- WHY IT ISN'T PUT
 
 pub putting::paths::put_child-returns-in-Own-clause-unput : goal.putting::paths::put_child-returns-in-Own-clause-unput
@@ -1005,8 +856,7 @@ putting::paths::put_child-returns-in-Own-clause-unput g t c x h =
     let e : x ≡ Own c.in-Own.node = indexed_child c.args.kids.now.items c.args.place c.index_mut.result.now x
     c.requires.within c.index_mut.ensures.value h ∙ c.in-Own.is in
     let unput = λ (z : Option Rows). IfErr c.put_below.result (IsUnput (λ made.
-    Makes (λ f there m. g.F.FnOnce.post f (there, tt) m) c.args.change (value_in z key) made) g.C.Chunks.stops
-    c.args.put.may_split (value_in z key)) in
+    Makes (λ f there m. g.F.FnOnce.post f (there, tt) m) c.args.change (value_in z key) made) g.C.Chunks.stops (value_in z key)) in
     subst (λ y. unput (child_rows p c.args.below y)) (sym e)
     (subst (λ (s : Seen). unput (shown p s.pieces)) c.deref_mut.ensures.value c.put_below.ensures.unput)
 
@@ -1026,8 +876,7 @@ putting::paths::put_child-returns-in_err-ready-in-Placed-clause-unput g t c x h 
     let tree : IsTree (rows_at p below k) = subst (λ y. IsTree (child_rows p below y)) c.in-Placed.is r.0 in
     let there : chunk_rows p k ≡ child_rows p below x = rows_alone p below k tree ∙ ap (child_rows p below) (sym e) in
     let unput = λ (z : Option Rows). IsUnput (λ made.
-    Makes (λ f there m. g.F.FnOnce.post f (there, tt) m) c.args.change (value_in z key) made) g.C.Chunks.stops
-    c.args.put.may_split (value_in z key) in
+    Makes (λ f there m. g.F.FnOnce.post f (there, tt) m) c.args.change (value_in z key) made) g.C.Chunks.stops (value_in z key) in
     let why = subst (λ z. IfErr c.put_placed.result (unput z)) there c.put_placed.ensures.unput in
     handed_on c.from_residual.result c.from_residual.ensures.1
     (λ w is. subst (unput (child_rows p below x)) (sym is)
@@ -1049,11 +898,23 @@ putting::paths::put_inner-returns-in_err-ready-clause-unput g t c =
     (subst (λ k. IsPlace k c.as_slice.result.now i) c.as_str.ensures c.place_of-place.ensures) c.requires.tree in
     let child = get_or kids i at in
     let unput = λ (found : Option Bytes). IsUnput (λ made.
-    Makes (λ f there m. g.F.FnOnce.post f (there, tt) m) c.args.change found made) g.C.Chunks.stops
-    c.args.put.may_split found in
+    Makes (λ f there m. g.F.FnOnce.post f (there, tt) m) c.args.change found made) g.C.Chunks.stops found in
     let why = subst (λ f. IfErr c.put_child.result (unput f))
     (value_below p depth keys kids pieces key i child x.0)
     (c.put_child.ensures.unput child (ap (λ w. slice_get w i) c.reserve.ensures.items ∙ x.1)) in
     handed_on c.from_residual-in_err-ready.result c.from_residual-in_err-ready.ensures.1
     (λ w is. subst (unput (value_in (shown p pieces) key)) (sym is)
     (subst (λ o. IfErr o (unput (value_in (shown p pieces) key))) c.in_err-ready.was why))
+
+-- a chunk that has an upper half was full
+was_full : (old new : ℕ) (half : Option Half) → HasKept old new half → IsSome half → 16 ≤ old
+was_full old new None k some = absurd cc
+was_full old new (Some h) k some = omega (arith, k.0)
+
+pub OwnNode::put_below-returns-clause-ready : goal.OwnNode::put_below-returns-clause-ready
+OwnNode::put_below-returns-clause-ready g t c some =
+    let full = was_full c.args.self.now.entries c.put.new.self.entries c.in_ok-half.half c.in_ok-half.ensures.entries
+    some in
+    let long : 16 ≤ length c.as_slice.result.now = omega
+    (arith, full, ap (λ (s : Seen). s.entries) c.self.view_is, ap length c.as_slice.ensures) in
+    c.in_ok-ready.ensures.ready (le-leb 16 (length c.as_slice.result.now) long)

@@ -57,8 +57,7 @@ pub(crate) fn ninth_copies(
     copies_of(alloc, &keys[ninth], count)
 }
 
-/// Puts what a change makes of the value at a key in a leaf's rows, unless it is there already, or they would be split
-/// and may not be.
+/// Puts what a change makes of the value at a key in a leaf's rows, unless it is there already.
 pub(crate) fn put_leaf<F: FnOnce(Option<Json>) -> Result<Update, Stop>>(
     keys: &mut NodeKeys,
     values: &mut Vec<Json>,
@@ -80,10 +79,9 @@ pub(crate) fn put_leaf<F: FnOnce(Option<Json>) -> Result<Update, Stop>>(
     ensures fresh { IfOk result (λ half. half_fresh half ≤ 1) }
     ensures entries { IfOk result (HasKept (length keys.old.texts) (length keys.new.texts)) }
     ensures keys { IfOk result (IsLeafPut keys.old.texts keys.new.texts) }
-    ensures whole { put.entry.may_split ≡ false → IfOk result (λ half. half ≡ None) }
     ensures err { OnErr result ((keys.new.texts ≡ keys.old.texts) × (values.new.items ≡ values.old.items)) }
     ensures unput { IfErr result (IsUnput (λ made. Makes (λ f x r. F.post f x r) change (finite.find (slice_cmp nat_cmp)
-        put.entry.key.now (paired keys.old.texts values.old.items)) made) (λ _. ⊥) put.entry.may_split (finite.find
+        put.entry.key.now (paired keys.old.texts values.old.items)) made) (λ _. ⊥) (finite.find
         (slice_cmp nat_cmp) put.entry.key.now (paired keys.old.texts values.old.items))) }
 {
     let found = search(keys.as_slice(), put.key.as_str());
@@ -128,11 +126,10 @@ fn put_row(
     ensures fresh { IfOk result (λ half. half_fresh half ≤ 1) }
     ensures entries { IfOk result (HasKept (length keys.old.texts) (length keys.new.texts)) }
     ensures keys { IfOk result (IsLeafPut keys.old.texts keys.new.texts) }
-    ensures whole { put.entry.may_split ≡ false → IfOk result (λ half. half ≡ None) }
     ensures renewed { IfOk result (HasReplacedRow (finite.find (slice_cmp nat_cmp) put.entry.key.now
         (paired keys.old.texts values.old.items)) value keys.old.texts keys.new.texts) }
     ensures err { OnErr result ((keys.new.texts ≡ keys.old.texts) × (values.new.items ≡ values.old.items)) }
-    ensures unput { IfErr result (IsUnput (λ made. made ≡ Ok (Puts value)) (λ _. ⊥) put.entry.may_split (finite.find
+    ensures unput { IfErr result (IsUnput (λ made. made ≡ Ok (Puts value)) (λ _. ⊥) (finite.find
         (slice_cmp nat_cmp) put.entry.key.now (paired keys.old.texts values.old.items))) }
 {
     match found {
@@ -145,9 +142,6 @@ fn put_row(
             return Ok(None);
         }
         Err(place) => {
-            if !put.may_split && keys.as_slice().len() >= MOST {
-                return Err(PutRefused::Full(value));
-            }
             return Ok(insert_row(keys, values, place, put, value)?);
         }
     }

@@ -4,9 +4,9 @@ ghost use Rattle.std.specs.Prelude.{vec_capacity};
 ghost use Rattle.group_history.specs.Map.{Bytes};
 ghost use Rattle.group_history.specs.Rows.{keys_of, paired, values_of};
 ghost use Rattle.map_nodes.specs.Nodes.{kids_fresh};
-ghost use Rattle.map_nodes.specs.Inside.Halves.{IsHalf, AreNinth, with_half, lowered, Finished};
+ghost use Rattle.map_nodes.specs.Inside.Halves.{IsHalf, with_half, lowered, Finished};
 ghost use Rattle.map_nodes.specs.Inside.Counts.{half_fresh, HasKept};
-ghost use Rattle.map_nodes.specs.Inside.Ready.{HasRoom, Fits};
+ghost use Rattle.map_nodes.specs.Inside.Ready.{AreNinthIn, HasRoomIn, Fits};
 ghost use Rattle.map_nodes.specs.Inside.Puts.{IsHalved};
 
 use super::super::homes::housed;
@@ -16,6 +16,7 @@ use super::splits::SplitBuffers;
 use group_history::Text;
 use map_chunks::entries::insert_entry;
 use map_chunks::keys::NodeKeys;
+use std::alloc::Global;
 
 /// Puts a lower first key in the place of one, if there is one.
 #[inline(always)]
@@ -37,18 +38,19 @@ pub(crate) fn finish(
     kids: &mut Vec<OwnChild>,
     place: usize,
     depth: u64,
-    room: SplitBuffers<OwnChild>,
+    alloc: Global,
+    room: Option<Box<SplitBuffers<OwnChild>>>,
     half: Option<Half>,
 ) -> Option<Half>
     requires fits { Fits depth place keys.old.texts kids.old.items half }
     requires kids_room { vec_len kids.old < vec_capacity kids.old }
     requires keys_room { IsSome half → 0 < keys.old.room }
-    requires room { IsSome half → HasRoom (length keys.old.texts) room }
+    requires room { IsSome half → HasRoomIn (length keys.old.texts) room }
     ensures shape { Finished depth (with_half place half (paired keys.old.texts kids.old.items)) keys.new.texts
         kids.new.items result }
     ensures half { (copies : ℕ) → IsHalf (copies + 1) (depth - 1) half
         → (IsSome half → (key : Bytes) → (place + 1 ≡ 8 → ⊥)
-        → AreNinth copies keys.old.texts (place + 1) key room.firsts.items) → IsHalf copies depth result }
+        → AreNinthIn copies keys.old.texts (place + 1) key room) → IsHalf copies depth result }
     ensures fresh { kids_fresh kids.new.items + half_fresh result ≤ kids_fresh kids.old.items + half_fresh half + 1 }
     ensures entries { HasKept (length keys.old.texts) (length keys.new.texts) result }
     ensures parted { IsHalved depth keys.new.texts kids.new.items result
@@ -70,7 +72,7 @@ pub(crate) fn finish(
         firsts,
         spare,
         home,
-    } = room;
+    } = SplitBuffers::opened(room, alloc);
     let Some((upper_keys, upper)) = insert_entry(
         keys,
         kids,

@@ -30,12 +30,12 @@ ghost use Rattle.map_nodes.specs.declared.nodes.trails.laying.Laying.{Laying as 
 ghost use Rattle.map_nodes.specs.declared.nodes.trails.laying.Reached.TheVariants.{Laid as laid, Grown as Grew};
 
 use super::super::{Body, Down, Laying, OwnChild, OwnNode, Reached, change_at};
-use super::below::{PutBuffers, lower_key};
+use super::below::PutBuffers;
 use super::leaves::put_leaf;
 use super::middles::{finish, lower_first};
 use super::{Half, Put, PutRefused};
 use crate::changes::Change;
-use group_history::{Json, Ref, SearchKey, Stop, Text, Update};
+use group_history::{Json, Ref, SearchKey, Stop, Update};
 use map_chunks::Chunks;
 use map_chunks::entries::MOST;
 use map_chunks::keys::NodeKeys;
@@ -79,18 +79,17 @@ fn put_inner<C: Chunks, F: FnOnce(Option<Json>) -> Result<Update, Stop>>(
         (λ level. body_levels depth keys.new.texts (body.Inner kids.new) later level
         ++ half_levels half later level)) }
     ensures filled { OnOk result (0 < length (body_pieces depth keys.new.texts (body.Inner kids.new))) }
-    ensures whole { put.entry.may_split ≡ false → IfOk result (λ half. half ≡ None) }
     ensures err { OnErr result ((keys.new.texts ≡ keys.old.texts) × (kids.new.items ≡ kids.old.items)) }
     ensures unput { IfErr result (IsUnput (λ made. Makes (λ f x r. F.post f x r) change (value_in
         (shown (C.contents chunks.old) (body_pieces depth keys.old.texts (body.Inner kids.old))) put.entry.key.now) made)
-        C.stops put.entry.may_split (value_in (shown (C.contents chunks.old)
+        C.stops (value_in (shown (C.contents chunks.old)
         (body_pieces depth keys.old.texts (body.Inner kids.old))) put.entry.key.now)) }
 {
     let place = place_of(keys.as_slice(), put.key.as_str());
     kids.reserve(1)?;
     let (ready, half) = put_child(keys, kids, place, depth - 1, chunks, put, change)?;
     lower_first(keys, place, ready.lower);
-    Ok(finish(keys, kids, place, depth, ready.room, half))
+    Ok(finish(keys, kids, place, depth, put.alloc, ready.room, half))
 }
 
 #[cycle(put)]
@@ -129,12 +128,10 @@ fn put_child<C: Chunks, F: FnOnce(Option<Json>) -> Result<Update, Stop>>(
     ensures lower { IfOk result (λ r. IsLower put.entry.key.now (slice_index_or keys.old.texts place []) r.0.lower) }
     ensures ready { IfOk result (λ r. IsSome r.1
         → IsReady put.entry.copies keys.old.texts keys.new.room place put.entry.key.now r.0.room) }
-    ensures whole { put.entry.may_split ≡ false → 16 ≤ length keys.old.texts → IfOk result (λ r. r.1 ≡ None) }
     ensures err { OnErr result (kids.new.items ≡ kids.old.items) }
     ensures unput { (c : Childs) → slice_get kids.old.items place ≡ Some c
         → IfErr result (IsUnput (λ made. Makes (λ f x r. F.post f x r) change
-        (value_in (child_rows (C.contents chunks.old) below c) put.entry.key.now) made) C.stops put.entry.may_split
-        (value_in (child_rows (C.contents chunks.old) below c) put.entry.key.now)) }
+        (value_in (child_rows (C.contents chunks.old) below c) put.entry.key.now) made) C.stops (value_in (child_rows (C.contents chunks.old) below c) put.entry.key.now)) }
 {
     match &mut kids[place] {
         OwnChild::Own(node) => return node.put_below(keys, place, chunks, put, change),
@@ -173,13 +170,10 @@ fn put_placed<C: Chunks, F: FnOnce(Option<Json>) -> Result<Update, Stop>>(
     ensures lower { IfOk result (λ r. IsLower put.entry.key.now (slice_index_or keys.old.texts place []) r.0.lower) }
     ensures ready { IfOk result (λ r. IsSome r.2
         → IsReady put.entry.copies keys.old.texts keys.new.room place put.entry.key.now r.0.room) }
-    ensures whole { put.entry.may_split ≡ false → 16 ≤ length keys.old.texts → IfOk result (λ r. r.2 ≡ None) }
     ensures unput { IfErr result (IsUnput (λ made. Makes (λ f x r. F.post f x r) change
-        (value_in (chunk_rows (C.contents chunks.old) (stamp_of at)) put.entry.key.now) made) C.stops put.entry.may_split
-        (value_in (chunk_rows (C.contents chunks.old) (stamp_of at)) put.entry.key.now)) }
+        (value_in (chunk_rows (C.contents chunks.old) (stamp_of at)) put.entry.key.now) made) C.stops (value_in (chunk_rows (C.contents chunks.old) (stamp_of at)) put.entry.key.now)) }
 {
-    let may_split = put.may_split || keys.as_slice().len() < MOST;
-    let reached = change_placed(at, chunks, put, may_split, change)?;
+    let reached = change_placed(at, chunks, put, change)?;
     taken_up(keys, place, put, reached)
 }
 
@@ -188,7 +182,6 @@ fn change_placed<C: Chunks, F: FnOnce(Option<Json>) -> Result<Update, Stop>>(
     at: Ref,
     chunks: &mut C,
     put: Put<'_>,
-    may_split: bool,
     change: Change<F>,
 ) -> Result<Reached, Stop>
     requires may { C.places chunks.old at }
@@ -199,7 +192,7 @@ fn change_placed<C: Chunks, F: FnOnce(Option<Json>) -> Result<Update, Stop>>(
     ensures grown { Grows C.contents C.places chunks.old chunks.new }
     ensures reached { IfOk result (λ r. (u : Updates) × Makes (λ f x r. F.post f x r) change (value_in
         (chunk_rows (C.contents chunks.old) (stamp_of at)) put.entry.key.now) (Ok u) × ((l : Layings) × IsReached
-        (C.contents chunks.new) (C.places chunks.new) (put.entry.copies + 1) may_split false (stamp_of at)
+        (C.contents chunks.new) (C.places chunks.new) (put.entry.copies + 1) false (stamp_of at)
         (chunk_depth (C.contents chunks.old) (stamp_of at))
         (rows_or (chunk_rows (C.contents chunks.old) (stamp_of at))) put.entry.key.now u r l)) }
     ensures stopped { IfErr result (λ e. (e ≡ NoMemory) ⊎ C.stops e ⊎ Makes (λ f x r. F.post f x r) change (value_in
@@ -211,7 +204,6 @@ fn change_placed<C: Chunks, F: FnOnce(Option<Json>) -> Result<Update, Stop>>(
         key: put.key.as_str(),
         searched: &searched,
         copies: put.copies + 1,
-        may_split,
         as_trail: false,
     };
     let mut laying = Laying::new(put.alloc);
@@ -237,19 +229,18 @@ fn taken_up(
 {
     match reached {
         Reached::Grown(node, half) => {
-            let ready = PutBuffers::of_child(keys, put, place, &half)?;
+            let ready = PutBuffers::of_child(keys, put, place, half.is_some())?;
             Ok((ready, node, half))
         }
         Reached::Same => Err(PutRefused::Same),
         Reached::Refused(code) => Err(PutRefused::Refused(code)),
-        Reached::Full(value) => Err(PutRefused::Full(value)),
         Reached::Laid => unreachable!(),
     }
 }
 
 impl OwnNode {
-    // Puts a row in a child of a chunk with these keys. What an upper half of the child needs is taken only
-    // where the row can't be put without one.
+    // Puts a row in a child of a chunk with these keys. Where the child is full, what an upper half of it needs is taken
+    // first.
     #[cycle(put)]
     fn put_below<C: Chunks, F: FnOnce(Option<Json>) -> Result<Update, Stop>>(
         &mut self,
@@ -283,75 +274,22 @@ impl OwnNode {
             r.0.lower) }
         ensures ready { IfOk result (λ r. IsSome r.1
             → IsReady put.entry.copies keys.old.texts keys.new.room place put.entry.key.now r.0.room) }
-        ensures whole { put.entry.may_split ≡ false → 16 ≤ length keys.old.texts → IfOk result (λ r. r.1 ≡ None) }
         ensures err { OnErr result (self.new ≡ self.old) }
         ensures unput { IfErr result (IsUnput (λ made. Makes (λ f x r. F.post f x r) change
-            (value_in (shown (C.contents chunks.old) self.old.pieces) put.entry.key.now) made) C.stops
-            put.entry.may_split (value_in (shown (C.contents chunks.old) self.old.pieces) put.entry.key.now)) }
+            (value_in (shown (C.contents chunks.old) self.old.pieces) put.entry.key.now) made) C.stops (value_in (shown (C.contents chunks.old) self.old.pieces) put.entry.key.now)) }
     {
-        let lower = lower_key(keys, put.alloc, place, put.key.as_str())?;
-        let whole = Put {
+        let may_split = self.keys.as_slice().len() >= MOST;
+        let ready = PutBuffers::of_child(keys, put, place, may_split)?;
+        let deeper = Put {
             copies: put.copies + 1,
-            may_split: false,
             ..put
         };
-        let value = match self.put(chunks, whole, change) {
-            Ok(half) => return Ok((PutBuffers::of_whole(put.alloc, lower), half)),
-            Err(PutRefused::Full(value)) => value,
-            Err(refused) => return Err(refused),
-        };
-        if !put.may_split && keys.as_slice().len() >= MOST {
-            return Err(PutRefused::Full(value));
-        }
-        self.put_ready::<C, F>(keys, place, chunks, put, lower, value)
-    }
-
-    // Puts a row in a child of a chunk with these keys, once what an upper half of the child needs is taken.
-    #[cycle(put)]
-    fn put_ready<C: Chunks, F: FnOnce(Option<Json>) -> Result<Update, Stop>>(
-        &mut self,
-        keys: &mut NodeKeys,
-        place: usize,
-        chunks: &mut C,
-        put: Put<'_>,
-        lower: Option<Text>,
-        value: Json,
-    ) -> Result<(PutBuffers, Option<Half>), PutRefused>
-        requires places { AreAll (C.places chunks.old) (places_of self.old.pieces) }
-        requires tree { IsTree (shown (C.contents chunks.old) self.old.pieces) }
-        requires place { IsPlace put.key.now keys.old.texts place }
-        requires copies { put.copies + 1 + self.old.depth < 2 ^ 64 }
-        ensures grown { Grows C.contents C.places chunks.old chunks.new }
-        ensures depth { self.new.depth ≡ self.old.depth }
-        ensures put { IfOk result (λ r. IsOwnPut (C.contents chunks.new) put.entry.key.now value
-            (shown (C.contents chunks.old) self.old.pieces) self.old.pieces self.new.pieces
-            (self.old.fresh + self.old.depth) self.new.fresh (seen_levels self.old) (seen_levels self.new) r.1) }
-        ensures half { IfOk result (λ r. IsHalf (put.entry.copies + 1) self.old.depth r.1) }
-        ensures places { IfOk result (λ r. AreKept (C.places chunks.new) (places_of self.old.pieces)
-            (places_of (self.new.pieces ++ half_pieces r.1))) }
-        ensures fresh { IfOk result (λ r. self.new.fresh + half_fresh r.1 < self.old.fresh + 2 * self.old.depth) }
-        ensures levels { IfOk result (λ r. HalvesPut (C.contents chunks.new) self.old self.new r.1) }
-        ensures filled { OnOk result (0 < length self.new.pieces) }
-        ensures texts { keys.new.texts ≡ keys.old.texts }
-        ensures lower { IfOk result (λ r. r.0.lower ≡ lower) }
-        ensures ready { IfOk result (λ r. IsReady put.entry.copies keys.old.texts keys.new.room place put.entry.key.now
-            r.0.room) }
-        ensures err { OnErr result (self.new ≡ self.old) }
-        ensures unput { IfErr result (IsUnput (λ made. made ≡ Ok (Puts value)) C.stops true
-            (value_in (shown (C.contents chunks.old) self.old.pieces) put.entry.key.now)) }
-    {
-        let ready = PutBuffers::of_split(keys, put.alloc, place, put.key, lower, put.copies)?;
-        let split = Put {
-            copies: put.copies + 1,
-            may_split: true,
-            ..put
-        };
-        let half = self.put(chunks, split, Change::<F>::Value(value))?;
+        let half = self.put(chunks, deeper, change)?;
         Ok((ready, half))
     }
 
     /// Puts a row. Answers the upper half where the chunk is split, with so many copies of its first key.
-    /// Where it may not be split and would be, or has the row, it is as it was.
+    /// Where it has the row, it is as it was.
     #[cycle(put)]
     pub(crate) fn put<C: Chunks, F: FnOnce(Option<Json>) -> Result<Update, Stop>>(
         &mut self,
@@ -377,11 +315,9 @@ impl OwnNode {
         ensures entries { IfOk result (HasKept self.old.entries self.new.entries) }
         ensures levels { IfOk result (HalvesPut (C.contents chunks.new) self.old self.new) }
         ensures filled { OnOk result (0 < length self.new.pieces) }
-        ensures whole { put.entry.may_split ≡ false → IfOk result (λ half. half ≡ None) }
         ensures err { OnErr result (self.new ≡ self.old) }
         ensures unput { IfErr result (IsUnput (λ made. Makes (λ f x r. F.post f x r) change
-            (value_in (shown (C.contents chunks.old) self.old.pieces) put.entry.key.now) made) C.stops
-            put.entry.may_split (value_in (shown (C.contents chunks.old) self.old.pieces) put.entry.key.now)) }
+            (value_in (shown (C.contents chunks.old) self.old.pieces) put.entry.key.now) made) C.stops (value_in (shown (C.contents chunks.old) self.old.pieces) put.entry.key.now)) }
     {
         match &mut self.body {
             Body::Leaf(values) => {

@@ -6,16 +6,17 @@ ghost use Rattle.std.specs.Cmp.Lexicographic.{slice_cmp};
 ghost use Rattle.std.specs.FinMap as finite;
 ghost use Rattle.group_history.specs.declared.mutators.Stop.TheVariants.{NoMemory};
 ghost use Rattle.group_history.specs.declared.mutators.Update.{Update as Updates};
+ghost use Rattle.group_history.specs.declared.mutators.Update.TheVariants.{Put as Puts};
 ghost use Rattle.group_history.specs.Map.{Bytes};
 ghost use Rattle.group_history.specs.Spelling.{Contents};
-ghost use Rattle.map_chunks.specs.Places.{Grows, AreAll, AreKept, places_of};
+ghost use Rattle.map_chunks.specs.Places.{Grows, AreAll, places_of};
 ghost use Rattle.map_chunks.specs.Shown.{own, child_keys, shown, IsTree, rows_or};
 ghost use Rattle.map_nodes.specs.Nodes.{HeadIs, sunk};
 ghost use Rattle.map_nodes.specs.Inside.Halves.{half_pieces, IsHalf, least, AreInOrder, HeadsBoth, IsTopped};
-ghost use Rattle.map_nodes.specs.Inside.Counts.{half_fresh, HasKept};
-ghost use Rattle.map_nodes.specs.Inside.Puts.{value_in, HalvesPut};
+ghost use Rattle.map_nodes.specs.Inside.Puts.{value_in};
+ghost use Rattle.map_nodes.specs.Inside.Rising.{CanRise, IsTaken};
+ghost use Rattle.map_nodes.specs.Inside.Unput.{IsAnswer, IsUnput};
 ghost use Rattle.map_nodes.specs.Changes.{CanMake, Makes};
-ghost use Rattle.map_nodes.specs.Others.{ArePutAmong};
 ghost use Rattle.map_nodes.specs.Updating.{IsPutOn, IsPutOr};
 
 use super::super::homes::{housed, take_home};
@@ -42,6 +43,17 @@ fn least_key(keys: &[Text], key: &Text) -> Result<Option<Text>, AllocError>
     Ok(Some(keys[0].clone()?))
 }
 
+// What a change answers that put nothing.
+fn answered(refused: PutRefused) -> Result<Ran, Stop>
+    ensures { IsAnswer refused result }
+{
+    match refused {
+        PutRefused::Same => Ok(Ran::Done),
+        PutRefused::Refused(code) => Ok(Ran::Refused(code)),
+        PutRefused::Stopped(stop) => Err(stop),
+    }
+}
+
 // What a root above a chunk and its upper half needs: its first key, room for itself, and room for the
 // chunk as its child.
 #[derive(Drop)]
@@ -53,11 +65,7 @@ struct Above {
 
 // All of it, where the chunk with these keys may be split.
 fn take_above(alloc: Global, keys: &[Text], key: &Text) -> Result<Above, AllocError>
-    ensures first { IfOk result (λ a. 16 ≤ length keys.now → a.first ≡ Some (least key.now keys.now)) }
-    ensures empty { IfOk result (λ a. (a.spare.keys.items ≡ []) × (a.spare.entries.items ≡ [])) }
-    ensures spare { IfOk result (λ a. 16 ≤ length keys.now
-        → (17 ≤ vec_capacity a.spare.keys) × (17 ≤ vec_capacity a.spare.entries)) }
-    ensures home { IfOk result (λ a. 16 ≤ length keys.now → IsSome a.home) }
+    ensures { IfOk result (IsTaken (length keys.now) (least key.now keys.now)) }
 {
     let first = least_key(keys, key)?;
     let spare = take_spare(alloc, keys.len())?;
@@ -122,7 +130,8 @@ fn root_above(lower: Box<OwnNode>, half: Half, first: Text, room: SpareChunk<Own
 
 impl OwnNode {
     /// Puts what a change makes of the value at a key in the map whose root the chunk is. Where it is there already, and
-    /// where the change refuses, the chunk is as it was. Only where it can't be put otherwise, the root is split.
+    /// where the change refuses, the chunk is as it was. What a root above both halves of a full one needs is taken
+    /// first.
     pub(crate) fn put_root<C: Chunks, F: FnOnce(Option<Json>) -> Result<Update, Stop>>(
         &mut self,
         alloc: Global,
@@ -149,87 +158,54 @@ impl OwnNode {
             alloc,
             key,
             copies: 1,
-            may_split: false,
         };
-        match self.put(chunks, put, change) {
-            Ok(_) => return Ok(Ran::Done),
-            Err(PutRefused::Same) => return Ok(Ran::Done),
-            Err(PutRefused::Refused(code)) => return Ok(Ran::Refused(code)),
-            Err(PutRefused::Full(value)) => {
-                self.put_split::<C, F>(alloc, chunks, key, value)?;
-                return Ok(Ran::Done);
+        if self.keys.as_slice().len() < MOST {
+            match self.put(chunks, put, change) {
+                Ok(_) => return Ok(Ran::Done),
+                Err(refused) => return answered(refused),
             }
-            Err(PutRefused::Stopped(stop)) => return Err(stop),
+        }
+        match self.put_full(chunks, put, change) {
+            Ok(()) => return Ok(Ran::Done),
+            Err(refused) => return answered(refused),
         }
     }
 
-    // Puts a row whose key isn't there, where the root may be split.
-    fn put_split<C: Chunks, F: FnOnce(Option<Json>) -> Result<Update, Stop>>(
+    // The same where the root may be split.
+    fn put_full<C: Chunks, F: FnOnce(Option<Json>) -> Result<Update, Stop>>(
         &mut self,
-        alloc: Global,
         chunks: &mut C,
-        key: &Text,
-        value: Json,
-    ) -> Result<(), Stop>
+        put: Put<'_>,
+        change: Change<F>,
+    ) -> Result<(), PutRefused>
         requires places { AreAll (C.places chunks.old) (places_of self.old.pieces) }
         requires tree { IsTree (shown (C.contents chunks.old) self.old.pieces) }
+        requires copies { put.copies ≡ 1 }
         requires depth { self.old.depth + 1 < 2 ^ 64 }
-        requires absent { value_in (shown (C.contents chunks.old) self.old.pieces) key.now ≡ None }
+        requires callable { CanMake (λ f. F.IsAlwaysCallable f) change }
         ensures grown { Grows C.contents C.places chunks.old chunks.new }
-        ensures put { OnOk result (IsPutOn (C.contents chunks.old) (C.contents chunks.new) (C.places chunks.new)
-            key.now value self.old self.new) }
+        ensures put { OnOk result ((v : Bytes) × Makes (λ f x r. F.post f x r) change (value_in
+            (shown (C.contents chunks.old) self.old.pieces) put.entry.key.now) (Ok (Puts v))
+            × IsPutOn (C.contents chunks.old) (C.contents chunks.new) (C.places chunks.new) put.entry.key.now v self.old
+            self.new) }
         ensures err { OnErr result (self.new ≡ self.old) }
-        ensures stopped { IfErr result (λ s. (s ≡ NoMemory) ⊎ C.stops s) }
+        ensures unput { IfErr result (IsUnput (λ made. Makes (λ f x r. F.post f x r) change
+            (value_in (shown (C.contents chunks.old) self.old.pieces) put.entry.key.now) made) C.stops
+            (value_in (shown (C.contents chunks.old) self.old.pieces) put.entry.key.now)) }
     {
-        let above = take_above(alloc, self.keys.as_slice(), key)?;
-        let Some(half) = self.put_anyway::<C, F>(alloc, chunks, key, value)? else {
-            drop(above);
-            return Ok(());
-        };
-        self.rise(alloc, half, above);
+        let above = take_above(put.alloc, self.keys.as_slice(), put.key)?;
+        let half = self.put(chunks, put, change)?;
+        self.risen(put.alloc, half, above);
         Ok(())
     }
 
-    // Puts a row whose key isn't there in the chunk, which may be split: it stops only for want of memory, or as the
-    // store does.
-    fn put_anyway<C: Chunks, F: FnOnce(Option<Json>) -> Result<Update, Stop>>(
-        &mut self,
-        alloc: Global,
-        chunks: &mut C,
-        key: &Text,
-        value: Json,
-    ) -> Result<Option<Half>, Stop>
-        requires places { AreAll (C.places chunks.old) (places_of self.old.pieces) }
-        requires tree { IsTree (shown (C.contents chunks.old) self.old.pieces) }
-        requires depth { self.old.depth + 1 < 2 ^ 64 }
-        requires absent { value_in (shown (C.contents chunks.old) self.old.pieces) key.now ≡ None }
-        ensures grown { Grows C.contents C.places chunks.old chunks.new }
-        ensures depth { self.new.depth ≡ self.old.depth }
-        ensures done { IfOk result (λ half. shown (C.contents chunks.new) (self.new.pieces ++ half_pieces half)
-            ≡ Some (finite.put (slice_cmp nat_cmp) key.now value
-            (rows_or (shown (C.contents chunks.old) self.old.pieces)))) }
-        ensures others { IfOk result (λ half. ArePutAmong (C.contents chunks.new) key.now value self.old.pieces
-            (self.new.pieces ++ half_pieces half)) }
-        ensures half { IfOk result (IsHalf 1 self.old.depth) }
-        ensures places { IfOk result (λ half. AreKept (C.places chunks.new) (places_of self.old.pieces)
-            (places_of (self.new.pieces ++ half_pieces half))) }
-        ensures fresh { IfOk result (λ half. self.new.fresh + half_fresh half < self.old.fresh + 2 * self.old.depth) }
-        ensures entries { IfOk result (HasKept self.old.entries self.new.entries) }
-        ensures levels { IfOk result (HalvesPut (C.contents chunks.new) self.old self.new) }
-        ensures filled { OnOk result (0 < length self.new.pieces) }
-        ensures err { OnErr result (self.new ≡ self.old) }
-        ensures stopped { IfErr result (λ s. (s ≡ NoMemory) ⊎ C.stops s) }
+    // Where the chunk was split, makes it a root above both halves.
+    fn risen(&mut self, alloc: Global, half: Option<Half>, above: Above)
+        requires { CanRise self.old above half }
+        ensures { IsTopped self.old half self.new }
     {
-        let put = Put {
-            alloc,
-            key,
-            copies: 1,
-            may_split: true,
-        };
-        match self.put(chunks, put, Change::<F>::Value(value)) {
-            Ok(half) => return Ok(half),
-            Err(PutRefused::Stopped(stop)) => return Err(stop),
-            Err(PutRefused::Full(_) | PutRefused::Same | PutRefused::Refused(_)) => unreachable!(),
+        if let Some(half) = half {
+            self.rise(alloc, half, above);
         }
     }
 

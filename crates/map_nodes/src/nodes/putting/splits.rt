@@ -1,10 +1,10 @@
 //! What the upper half of a chunk needs, taken before anything changes.
 ghost use Rattle.std.specs.Prelude.{length, IfOk};
 ghost use Rattle.map_nodes.specs.Inside.Halves.{AreNinth};
-ghost use Rattle.map_nodes.specs.Inside.Ready.{HasRoom};
+ghost use Rattle.map_nodes.specs.Inside.Ready.{HasRoom, IsOpened};
 
-use super::super::OwnNode;
 use super::super::homes::take_home;
+use super::super::{OwnChild, OwnNode};
 use super::leaves::ninth_copies;
 use group_history::Text;
 use map_chunks::entries::{SpareChunk, take_spare};
@@ -37,4 +37,26 @@ pub(crate) fn take_half_room<T: Drop>(
         spare,
         home,
     })
+}
+
+impl SplitBuffers<OwnChild> {
+    /// What was taken, or room for nothing.
+    pub(crate) fn opened(
+        taken: Option<Box<SplitBuffers<OwnChild>>>,
+        alloc: Global,
+    ) -> SplitBuffers<OwnChild>
+        ensures { IsOpened taken result }
+    {
+        if let Some(taken) = taken {
+            return Box::into_inner(taken);
+        }
+        SplitBuffers {
+            firsts: Vec::new(alloc),
+            spare: SpareChunk {
+                keys: Vec::new(alloc),
+                entries: Vec::new(alloc),
+            },
+            home: None,
+        }
+    }
 }

@@ -35,7 +35,6 @@ use super::super::putting::{Half, value_found};
 use super::{End, Step, Trail};
 use crate::changes::Change;
 use group_history::{Chunk, Inner, Json, Keys, Leaf, Ref, STAMPS, Stop, Text, Update};
-use map_chunks::entries::MOST;
 use map_chunks::keys::NodeKeys;
 use map_chunks::search::{place_for, search_for};
 use map_chunks::{Chunks, ShowsChunk};
@@ -97,8 +96,6 @@ pub(crate) enum Reached {
     Same,
     /// The change refuses, with a code.
     Refused(u32),
-    /// The key isn't there, and the topmost chunk would be split for this value, and may not be.
-    Full(Json),
     /// The value is put in a trail.
     Laid,
     /// The value is put in own chunks: the topmost one, and its upper half where that was split.
@@ -115,7 +112,7 @@ fn put_found(
 ) -> Result<Reached, AllocError>
     requires within { place < length leaf.now }
     ensures { (key : Bytes) → IsFound key (keys_of leaf.now) place
-        → IfOk result (λ r. IsLeafEnd down.now.copies down.now.may_split down.now.as_trail leaf.now key
+        → IfOk result (λ r. IsLeafEnd down.now.copies down.now.as_trail leaf.now key
         (Puts value) r laying.new) }
 {
     // Each value has its key, and these are in order.
@@ -141,13 +138,11 @@ fn put_absent(
     laying: &mut Laying,
 ) -> Result<Reached, AllocError>
     requires absent { IsAbsent down.now.key.now (keys_of leaf.now) place }
-    ensures { IfOk result (λ r. IsLeafEnd down.now.copies down.now.may_split down.now.as_trail leaf.now
+    ensures { IfOk result (λ r. IsLeafEnd down.now.copies down.now.as_trail leaf.now
         down.now.key.now (Puts value) r laying.new) }
 {
-    let is_full = leaf.keys().as_slice().len() >= MOST;
-    if is_full && !down.may_split {
-        return Ok(Reached::Full(value));
-    }
+    // The keys are in order.
+    prove!(place <= leaf.keys().as_slice().len());
     let (keys, values, half) = grown_rows(leaf, place, down, value)?;
     if down.as_trail && half.is_none() {
         let keys = keys.into_keys(down.alloc)?;
@@ -168,7 +163,7 @@ fn put_in(
 ) -> Result<Reached, AllocError>
     requires found { IfOk found (IsFound down.now.key.now (keys_of leaf.now)) }
     requires absent { IfErr found (IsAbsent down.now.key.now (keys_of leaf.now)) }
-    ensures { IfOk result (λ r. IsLeafEnd down.now.copies down.now.may_split down.now.as_trail leaf.now
+    ensures { IfOk result (λ r. IsLeafEnd down.now.copies down.now.as_trail leaf.now
         down.now.key.now update r laying.new) }
 {
     let value = match update {
@@ -190,8 +185,7 @@ fn change_leaf<F: FnOnce(Option<Json>) -> Result<Update, Stop>>(
 ) -> Result<Reached, Stop>
     requires callable { CanMake (λ f. F.IsAlwaysCallable f) change }
     ensures reached { IfOk result (λ r. (u : Updates) × Makes (λ f x r. F.post f x r) change (finite.find
-        (slice_cmp nat_cmp) down.now.key.now leaf.now) (Ok u) × IsLeafEnd down.now.copies down.now.may_split
-        down.now.as_trail leaf.now down.now.key.now u r laying.new) }
+        (slice_cmp nat_cmp) down.now.key.now leaf.now) (Ok u) × IsLeafEnd down.now.copies down.now.as_trail leaf.now down.now.key.now u r laying.new) }
     ensures stopped { IfErr result (λ e. (e ≡ NoMemory) ⊎ Makes (λ f x r. F.post f x r) change (finite.find
         (slice_cmp nat_cmp) down.now.key.now leaf.now) (Err e)) }
 {
@@ -273,7 +267,6 @@ fn step_up(
             let (node, half) = grown_over(inner, place, down, child, half)?;
             Ok(Reached::Grown(node, half))
         }
-        Reached::Full(value) => Ok(Reached::Full(value)),
         Reached::Same => Ok(Reached::Same),
         Reached::Refused(code) => Ok(Reached::Refused(code)),
     }
@@ -297,8 +290,7 @@ pub(crate) fn change_at<C: Chunks, F: FnOnce(Option<Json>) -> Result<Update, Sto
     ensures grown { Grows C.contents C.places chunks.old chunks.new }
     ensures reached { IfOk result (λ r. (u : Updates) × Makes (λ f x r. F.post f x r) change (finite.find
         (slice_cmp nat_cmp) down.now.key.now (rows_or (chunk_rows (C.contents chunks.old) (stamp_of at)))) (Ok u)
-        × IsReached (C.contents chunks.new) (C.places chunks.new) down.now.copies down.now.may_split
-        down.now.as_trail (stamp_of at) (chunk_depth (C.contents chunks.old) (stamp_of at))
+        × IsReached (C.contents chunks.new) (C.places chunks.new) down.now.copies down.now.as_trail (stamp_of at) (chunk_depth (C.contents chunks.old) (stamp_of at))
         (rows_or (chunk_rows (C.contents chunks.old) (stamp_of at))) down.now.key.now u r laying.new) }
     ensures stopped { IfErr result (λ e. (e ≡ NoMemory) ⊎ C.stops e ⊎ Makes (λ f x r. F.post f x r) change (finite.find
         (slice_cmp nat_cmp) down.now.key.now (rows_or (chunk_rows (C.contents chunks.old) (stamp_of at)))) (Err e)) }
@@ -327,8 +319,7 @@ fn change_in<C: Chunks, F: FnOnce(Option<Json>) -> Result<Update, Stop>>(
     ensures grown { Grows C.contents C.places chunks.old chunks.new }
     ensures reached { IfOk result (λ r. (u : Updates) × Makes (λ f x r. F.post f x r) change (finite.find
         (slice_cmp nat_cmp) down.now.key.now (rows_or (chunk_rows (C.contents chunks.old) (stamp_of at)))) (Ok u)
-        × IsReached (C.contents chunks.new) (C.places chunks.new) down.now.copies down.now.may_split
-        down.now.as_trail (stamp_of at) (chunk_depth (C.contents chunks.old) (stamp_of at))
+        × IsReached (C.contents chunks.new) (C.places chunks.new) down.now.copies down.now.as_trail (stamp_of at) (chunk_depth (C.contents chunks.old) (stamp_of at))
         (rows_or (chunk_rows (C.contents chunks.old) (stamp_of at))) down.now.key.now u r laying.new) }
     ensures stopped { IfErr result (λ e. (e ≡ NoMemory) ⊎ C.stops e ⊎ Makes (λ f x r. F.post f x r) change (finite.find
         (slice_cmp nat_cmp) down.now.key.now (rows_or (chunk_rows (C.contents chunks.old) (stamp_of at)))) (Err e)) }
@@ -338,7 +329,7 @@ fn change_in<C: Chunks, F: FnOnce(Option<Json>) -> Result<Update, Stop>>(
         Chunk::Inner(inner) => {
             let place = place_for(inner.firsts().as_slice(), down.searched);
             let child = child_at(inner, place);
-            let deeper = down.below(inner.children().len());
+            let deeper = down.below();
             let below = change_at(chunks, child, &deeper, laying, change)?;
             Ok(step_up(inner, place, down, below, laying)?)
         }

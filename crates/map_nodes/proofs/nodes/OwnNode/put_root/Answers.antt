@@ -1,108 +1,112 @@
-use Rattle.std.proofs.Common.{◌∙◌, false, ap, sym, subst, refl, Result}
+use Rattle.std.proofs.Common.{◌≡◌, ◌⊎◌, ◌<◌, ℕ, ap, arith, length, sym, subst, refl, Option, Some, None, Result, Ok, Err}
+use Rattle.std.proofs.Common.{IfOk, IfErr}
+use mathlib.Core.List.{IsPrefix}
+use Rattle.group_history.specs.declared.mutators.Ran.{Ran}
 use Rattle.group_history.specs.declared.mutators.Stop.{Stop}
+use Rattle.group_history.specs.declared.mutators.Stop.TheVariants.{NoMemory}
 use Rattle.group_history.specs.declared.mutators.Update.{Update}
 use Rattle.group_history.specs.declared.mutators.Update.TheVariants.{Put, Refuse}
-use Rattle.map_chunks.specs.Places.{AreAll, places_of}
+use Rattle.group_history.specs.declared.refs.Ref.{Ref}
+use Rattle.group_history.specs.Map.{Bytes}
+use Rattle.group_history.specs.Spelling.{Contents}
 use Rattle.map_chunks.specs.Shown.{Seen, shown, IsTree}
-use Rattle.map_nodes.proofs.ChangeLemmas.{shown-kept}
-use Rattle.map_chunks.proofs.OpenLemmas.{known, tree_of}
-use Rattle.map_chunks.proofs.KeptLemmas.{all_on, grows_on}
-use Rattle.map_nodes.proofs.RenewLemmas.{put_since, put_unchanged, put_whole}
+use Rattle.map_nodes.proofs.RenewLemmas.{put_unchanged, put_whole}
 use Rattle.map_nodes.specs.Changes.{Makes}
+use Rattle.map_nodes.specs.Inside.Counts.{HasKept}
 use Rattle.map_nodes.specs.Inside.Puts.{value_in}
-use Rattle.map_nodes.specs.Inside.Unput.{IsUnput}
+use Rattle.map_nodes.specs.Inside.Unput.{IsAnswer, IsUnput}
+use Rattle.map_nodes.specs.Updating.{IsPutOr}
+use Rattle.map_nodes.specs.declared.nodes.putting.Half.{Half}
+use Rattle.map_nodes.specs.declared.nodes.putting.PutRefused.{PutRefused}
+use Rattle.map_nodes.specs.declared.nodes.putting.PutRefused.TheVariants.{Stopped, Same, Refused}
 use Rattle.map_nodes.proofs.nodes.OwnNode.put_root.Goals as goal
 
-pub put_split-requires-clause-places : goal.put_split-requires-clause-places
-put_split-requires-clause-places g c =
-    subst (λ (s : Seen). AreAll (g.C.Chunks.places c.put.new.chunks) (places_of s.pieces))
-    (sym c.in-Err-Full.ensures.err) (all_on (g.C.Chunks.places c.args.chunks.now)
-    (g.C.Chunks.places c.put.new.chunks) _ c.put.ensures.grown.1 c.requires.places)
+-- what is answered where nothing is put
+not_put : (p q : Contents) (may : Ref → Type 0) (makes : Result Update Stop → Type 0) (stops : Stop → Type 0)
+    (key : Bytes) (n o : Seen) (why : PutRefused) (r : Result Ran Stop) → IsPrefix p q → IsTree (shown p n.pieces) → o ≡ n
+    → IsUnput makes stops (value_in (shown p n.pieces) key) why → IsAnswer why r
+    → IfOk r (λ ran. (u : Update) × makes (Ok u) × IsPutOr p q may key n o u ran)
+not_put p q may makes stops key n o (Stopped s) r pre tree e h is = subst (λ w. IfOk w (λ ran. (u : Update)
+    × makes (Ok u) × IsPutOr p q may key n o u ran)) (sym is) tt
+not_put p q may makes stops key n o Same r pre tree e h is = subst (λ w. IfOk w (λ ran. (u : Update)
+    × makes (Ok u) × IsPutOr p q may key n o u ran)) (sym is)
+    (Put h.0, h.2, (refl, put_unchanged p q may key h.0 n o pre tree h.1 e))
+not_put p q may makes stops key n o (Refused code) r pre tree e h is = subst (λ w. IfOk w (λ ran. (u : Update)
+    × makes (Ok u) × IsPutOr p q may key n o u ran)) (sym is) (Refuse code, h, (refl, e))
 
-pub put_split-requires-clause-tree : goal.put_split-requires-clause-tree
-put_split-requires-clause-tree g c =
-    let p = g.C.Chunks.contents c.args.chunks.now in
-    let q = g.C.Chunks.contents c.put.new.chunks in
-    let n = known (shown p c.args.self.now.pieces) c.requires.tree in
-    let here = shown-kept p q c.args.self.now.pieces n.rows c.put.ensures.grown.0 n.is in
-    subst (λ (s : Seen). IsTree (shown q s.pieces)) (sym c.in-Err-Full.ensures.err)
-    (tree_of (shown q c.args.self.now.pieces) n.rows here n.order)
+not_done : (makes : Result Update Stop → Type 0) (stops : Stop → Type 0) (found : Option Bytes) (why : PutRefused)
+    (r : Result Ran Stop) → IsUnput makes stops found why → IsAnswer why r
+    → IfErr r (λ s. (s ≡ NoMemory) ⊎ stops s ⊎ makes (Err s))
+not_done makes stops found (Stopped s) r h is =
+    subst (λ w. IfErr w (λ s. (s ≡ NoMemory) ⊎ stops s ⊎ makes (Err s))) (sym is) h
+not_done makes stops found Same r h is =
+    subst (λ w. IfErr w (λ s. (s ≡ NoMemory) ⊎ stops s ⊎ makes (Err s))) (sym is) tt
+not_done makes stops found (Refused code) r h is =
+    subst (λ w. IfErr w (λ s. (s ≡ NoMemory) ⊎ stops s ⊎ makes (Err s))) (sym is) tt
 
-pub put_split-requires-clause-absent : goal.put_split-requires-clause-absent
-put_split-requires-clause-absent g c =
-    let p = g.C.Chunks.contents c.args.chunks.now in
-    let q = g.C.Chunks.contents c.put.new.chunks in
-    let n = known (shown p c.args.self.now.pieces) c.requires.tree in
-    let here = shown-kept p q c.args.self.now.pieces n.rows c.put.ensures.grown.0 n.is in
-    let found = value_in (shown p c.args.self.now.pieces) c.args.key.now in
-    let makes : Result Update Stop → Type 0 =
-    λ r. Makes (λ f x y. g.F.FnOnce.post f (x, tt) y) c.args.change found r in
-    let why = subst (IsUnput makes g.C.Chunks.stops false found) c.in-Err-Full.field-0-is
-    c.in-Err-Full.ensures.unput in
-    ap (λ z. value_in z c.args.key.now)
-    (ap (λ (s : Seen). shown q s.pieces) c.in-Err-Full.ensures.err ∙ here ∙ sym n.is) ∙ why.1
+-- a chunk with room isn't split
+had_room : (old new : ℕ) (half : Option Half) → HasKept old new half → old < 16 → half ≡ None
+had_room old new None k l = refl
+had_room old new (Some h) k l = absurd (omega (arith, k.0))
 
 pub returns-in-Ok-clause-put : goal.returns-in-Ok-clause-put
 returns-in-Ok-clause-put g c =
     let p = g.C.Chunks.contents c.args.chunks.now in
     let q = g.C.Chunks.contents c.put.new.chunks in
+    let old = c.args.self.now in
     let made = c.in-Ok.ensures in
-    let z = made.put in (
+    let half = c.in-Ok.field-0 in
+    let z = made.put in
+    let few : old.entries < 16 = omega (
+      arith,
+      c.if-as_slice-lt-MOST.true,
+      ap length c.as_slice.ensures,
+      ap (λ (s : Seen). s.entries) c.self.view_is,
+    ) in (
       Put z.0,
       z.1,
       (
         refl,
-        put_whole p q (g.C.Chunks.places c.put.new.chunks) c.args.key.now z.0 c.args.self.now c.put.new.self
-            c.in-Ok.field-0 (made.whole refl) c.put.ensures.depth z.2 made.places made.fresh made.entries made.levels,
+        put_whole p q (g.C.Chunks.places c.put.new.chunks) c.args.key.now z.0 old c.put.new.self half
+            (had_room old.entries c.put.new.self.entries half made.entries few) c.put.ensures.depth z.2 made.places
+            made.fresh made.entries made.levels,
       ),
     )
 
-pub returns-in-Err-Same-clause-put : goal.returns-in-Err-Same-clause-put
-returns-in-Err-Same-clause-put g c =
+pub returns-in-Err-clause-put : goal.returns-in-Err-clause-put
+returns-in-Err-clause-put g c =
+    let p = g.C.Chunks.contents c.args.chunks.now in
+    let q = g.C.Chunks.contents c.put.new.chunks in
+    let found = value_in (shown p c.args.self.now.pieces) c.args.key.now in
+    let makes : Result Update Stop → Type 0 =
+    λ r. Makes (λ f x y. g.F.FnOnce.post f (x, tt) y) c.args.change found r in
+    not_put p q (g.C.Chunks.places c.put.new.chunks) makes g.C.Chunks.stops c.args.key.now c.args.self.now c.put.new.self
+    c.in-Err.refused c.answered.result c.put.ensures.grown.0 c.requires.tree c.in-Err.ensures.err c.in-Err.ensures.unput
+    c.answered.ensures
+
+pub returns-in-Err-put_full-clause-put : goal.returns-in-Err-put_full-clause-put
+returns-in-Err-put_full-clause-put g c =
+    let p = g.C.Chunks.contents c.args.chunks.now in
+    let q = g.C.Chunks.contents c.put_full.new.chunks in
+    let found = value_in (shown p c.args.self.now.pieces) c.args.key.now in
+    let makes : Result Update Stop → Type 0 =
+    λ r. Makes (λ f x y. g.F.FnOnce.post f (x, tt) y) c.args.change found r in
+    not_put p q (g.C.Chunks.places c.put_full.new.chunks) makes g.C.Chunks.stops c.args.key.now c.args.self.now c.put_full.new.self
+    c.in-Err-put_full.refused c.answered-in-Err-put_full.result c.put_full.ensures.grown.0 c.requires.tree c.in-Err-put_full.ensures.err c.in-Err-put_full.ensures.unput
+    c.answered-in-Err-put_full.ensures
+
+pub returns-in-Err-clause-stopped : goal.returns-in-Err-clause-stopped
+returns-in-Err-clause-stopped g c =
     let p = g.C.Chunks.contents c.args.chunks.now in
     let found = value_in (shown p c.args.self.now.pieces) c.args.key.now in
     let makes : Result Update Stop → Type 0 =
     λ r. Makes (λ f x y. g.F.FnOnce.post f (x, tt) y) c.args.change found r in
-    let why = subst (IsUnput makes g.C.Chunks.stops false found) c.in-Err-Same.field-0-is
-    c.in-Err-Same.ensures.unput in (
-      Put why.0,
-      why.2,
-      (
-        refl,
-        put_unchanged p (g.C.Chunks.contents c.put.new.chunks) (g.C.Chunks.places c.put.new.chunks) c.args.key.now
-            why.0 c.args.self.now c.put.new.self c.put.ensures.grown.0 c.requires.tree why.1 c.in-Err-Same.ensures.err,
-      ),
-    )
+    not_done makes g.C.Chunks.stops found c.in-Err.refused c.answered.result c.in-Err.ensures.unput c.answered.ensures
 
-pub returns-in-Err-Refused-clause-put : goal.returns-in-Err-Refused-clause-put
-returns-in-Err-Refused-clause-put g c =
+pub returns-in-Err-put_full-clause-stopped : goal.returns-in-Err-put_full-clause-stopped
+returns-in-Err-put_full-clause-stopped g c =
     let p = g.C.Chunks.contents c.args.chunks.now in
     let found = value_in (shown p c.args.self.now.pieces) c.args.key.now in
     let makes : Result Update Stop → Type 0 =
     λ r. Makes (λ f x y. g.F.FnOnce.post f (x, tt) y) c.args.change found r in
-    let why = subst (IsUnput makes g.C.Chunks.stops false found) c.in-Err-Refused.field-0-is
-    c.in-Err-Refused.ensures.unput in
-    (Refuse c.in-Err-Refused.code, why, (refl, c.in-Err-Refused.ensures.err))
-
-pub returns-in-Err-Full-clause-put : goal.returns-in-Err-Full-clause-put
-returns-in-Err-Full-clause-put g c =
-    let p = g.C.Chunks.contents c.args.chunks.now in
-    let found = value_in (shown p c.args.self.now.pieces) c.args.key.now in
-    let makes : Result Update Stop → Type 0 =
-    λ r. Makes (λ f x y. g.F.FnOnce.post f (x, tt) y) c.args.change found r in
-    let why = subst (IsUnput makes g.C.Chunks.stops false found) c.in-Err-Full.field-0-is
-    c.in-Err-Full.ensures.unput in (
-      Put c.in-Err-Full.value,
-      why.2,
-      (
-        refl,
-        put_since p (g.C.Chunks.contents c.put.new.chunks) (g.C.Chunks.contents c.put_split.new.chunks)
-            (g.C.Chunks.places c.put_split.new.chunks) c.args.key.now c.in-Err-Full.value c.args.self.now
-            c.put.new.self c.put_split.new.self c.put.ensures.grown.0 c.requires.tree c.in-Err-Full.ensures.err
-            c.in_ok-put_split-in-Err-Full.ensures.put,
-      ),
-    )
-
-pub returns-in-Err-Full-clause-grown : goal.returns-in-Err-Full-clause-grown
-returns-in-Err-Full-clause-grown g c =
-    grows_on g.C.Chunks.contents g.C.Chunks.places _ _ _ c.put.ensures.grown c.put_split.ensures.grown
+    not_done makes g.C.Chunks.stops found c.in-Err-put_full.refused c.answered-in-Err-put_full.result c.in-Err-put_full.ensures.unput c.answered-in-Err-put_full.ensures

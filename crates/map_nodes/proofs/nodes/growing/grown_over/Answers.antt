@@ -2,14 +2,14 @@ use Rattle.std.proofs.Common.{◌≡◌, ◌∙◌, ◌+◌, ◌-◌, ap, refl, 
 use Rattle.group_history.specs.Rows.{keys_of, paired, values_of}
 use Rattle.map_chunks.proofs.SearchLemmas.{length-keys_of, length-values_of}
 use Rattle.map_chunks.specs.Search.{IsPlace}
-use Rattle.map_nodes.proofs.PathLemmas.{length-lowered, ninth_lowered}
+use Rattle.map_nodes.proofs.PathLemmas.{length-lowered, ninth_lowered_in}
 use Rattle.map_chunks.specs.Shown.{Seen}
 use Rattle.map_nodes.proofs.TrailLemmas.{fresh_placed}
 use Rattle.map_nodes.specs.Inside.Counts.{HasKept}
-use Rattle.map_nodes.specs.Inside.Halves.{lowered, with_half, AreNinth, Finished, IsHalf, IsLower}
+use Rattle.map_nodes.specs.Inside.Halves.{lowered, with_half, Finished, IsHalf, IsLower}
 use Rattle.map_nodes.specs.Inside.Laying.{entries_over, inner_seen, kids_over}
 use Rattle.map_nodes.specs.Inside.Puts.{IsHalved}
-use Rattle.map_nodes.specs.Inside.Ready.{Fits}
+use Rattle.map_nodes.specs.Inside.Ready.{AreNinthIn, Fits}
 use Rattle.map_nodes.specs.Nodes.{kids_fresh}
 use Rattle.map_nodes.specs.Trails.{placed_kids}
 use Rattle.map_nodes.specs.declared.nodes.OwnChild.TheVariants.{Own}
@@ -79,10 +79,10 @@ returns c =
           (subst (λ es. Finished (c.depth-depth.result + 1) es keys children made) es c.finish-half.ensures.shape);
       half_is = subst (λ d. IsHalf copies d made) deep (c.finish-half.ensures.half copies
           (subst (λ d. IsHalf (copies + 1) d half) (sym one) c.requires.fits.half_is)
-          (λ some k z. subst (λ ks. AreNinth copies ks (i + 1) k c.in_ok-ready.ready.room.firsts.items) (sym now)
-          (ninth_lowered copies (keys_of kids) i c.args.down.now.key.now lower c.in_ok-ready.ready.room.firsts.items
-          c.requires.place low (subst (λ ks. AreNinth copies ks (i + 1) c.args.down.now.key.now
-          c.in_ok-ready.ready.room.firsts.items) texts (c.in_ok-ready.ensures.ready some).1) k z)));
+          (λ some k z. subst (λ ks. AreNinthIn copies ks (i + 1) k c.in_ok-ready.ready.room) (sym now)
+          (ninth_lowered_in copies (keys_of kids) i c.args.down.now.key.now lower c.in_ok-ready.ready.room
+          c.requires.place low (subst (λ ks. AreNinthIn copies ks (i + 1) c.args.down.now.key.now
+          c.in_ok-ready.ready.room) texts (c.in_ok-ready.ensures.ready some).1) k z)));
       few = let f = fresh_placed (values_of kids) i kid (omega
           (arith, length-keys_of kids, length-values_of kids, c.requires.place.0)) in
           omega (

@@ -16,7 +16,7 @@ returns-in-Laid g c u reached =
     let key = c.args.key.now in
     let rows = rows_or (chunk_rows p k) in
     let l = c.args.laying in
-    let h = subst (λ w. IsReached p may 1 true true k (chunk_depth p k) rows key u w l) c.in-Laid.is reached in
+    let h = subst (λ w. IsReached p may 1 true k (chunk_depth p k) rows key u w l) c.in-Laid.is reached in
     let deep = h.4.0 in
     let end = h.4.2.0 in
     let seen = trail_seen (reverse l.steps.items) end in
@@ -31,7 +31,7 @@ pub of-requires : goal.of-requires
 of-requires g c =
     let p = g.C.Chunks.contents c.args.chunks.now in
     let k = stamp_of c.args.at in
-    let h = subst (λ w. IsReached p (g.C.Chunks.places c.args.chunks.now) 1 true true k (chunk_depth p k)
+    let h = subst (λ w. IsReached p (g.C.Chunks.places c.args.chunks.now) 1 true k (chunk_depth p k)
     (rows_or (chunk_rows p k)) c.args.key.now c.requires.reached.0 w c.args.laying) c.in-Laid.is
     c.requires.reached.1 in
     (h.4.2.0, h.4.2.1, h.4.2.2)
@@ -41,11 +41,11 @@ topped-requires-clause-order g c =
     let p = g.C.Chunks.contents c.args.chunks.now in
     let may = g.C.Chunks.places c.args.chunks.now in
     let k = stamp_of c.args.at in
-    let h = subst (λ w. IsReached p may 1 true true k (chunk_depth p k) (rows_or (chunk_rows p k)) c.args.key.now
+    let h = subst (λ w. IsReached p may 1 true k (chunk_depth p k) (rows_or (chunk_rows p k)) c.args.key.now
     c.requires.reached.0 w c.args.laying) c.in-Grown.is c.requires.reached.1 in (
       p,
-      made_order p may 1 k h.4.0 c.args.key.now h.0 (chunk_rows p k) c.in-Grown.node.value c.in-Grown.half
-          c.requires.tree h.4.3,
+      made_order p may 1 k h.3.0 c.args.key.now h.0 (chunk_rows p k) c.in-Grown.node.value c.in-Grown.half
+          c.requires.tree h.3.3,
     )
 
 pub returns-in_ok-root-in-Grown : goal.returns-in_ok-root-in-Grown
@@ -57,15 +57,15 @@ returns-in_ok-root-in-Grown g c u reached =
     let rows = rows_or (chunk_rows p k) in
     let n = c.in-Grown.node.value in
     let half = c.in-Grown.half in
-    let h = subst (λ w. IsReached p may 1 true true k (chunk_depth p k) rows key u w c.args.laying) c.in-Grown.is
+    let h = subst (λ w. IsReached p may 1 true k (chunk_depth p k) rows key u w c.args.laying) c.in-Grown.is
     reached in
     let root = c.in_ok-root-in-Grown.root in
     let made = c.made-in-Grown.ensures in
     subst (λ w. IsUpdated p p may k key w c.made-in-Grown.result) (sym h.1) (
       made.0,
       subst (IsPutIn p p may k key h.0) (sym (made.1 ∙ ap (λ w. Some w) c.new.ensures)) (
-        h.4.0,
-        h.4.1,
-        made_root p may k h.4.0 key h.0 rows n root half h.2 h.4.3 c.in_ok-root-in-Grown.ensures,
+        h.3.0,
+        h.3.1,
+        made_root p may k h.3.0 key h.0 rows n root half h.2 h.3.3 c.in_ok-root-in-Grown.ensures,
       ),
     )

@@ -44,17 +44,6 @@ returns-in-Ok-clause-renewed c there =
       refl,
     )
 
-pub returns-then-as_slice-ge-MOST-clause-unput : goal.returns-then-as_slice-ge-MOST-clause-unput
-returns-then-as_slice-ge-MOST-clause-unput c =
-    let key = c.args.put.key.now in
-    let keys = c.args.keys.now.texts in
-    let a : IsAbsent key keys c.in-Err.place = subst (λ w. IfErr w (IsAbsent key keys)) c.in-Err.is c.requires.absent
-    in (
-      search,
-      value_absent key keys c.args.values.now.items c.in-Err.place c.requires.keys.1 c.requires.pairs a,
-      refl,
-    )
-
 pub returns-in-Err-clause-renewed : goal.returns-in-Err-clause-renewed
 returns-in-Err-clause-renewed c there =
     let key = c.args.put.key.now in

@@ -11,6 +11,7 @@ use Rattle.map_nodes.specs.Inside.Counts.{half_fresh}
 use Rattle.map_nodes.proofs.CountLemmas.{entries_fresh, fresh-alone, fresh-halves, fresh-with_half, kept_alone}
 use Rattle.map_nodes.proofs.CountLemmas.{kept_halves}
 use Rattle.map_nodes.proofs.KidLemmas.{finished_alone, kid_halves, putting, chosen_are}
+use Rattle.map_nodes.proofs.PathLemmas.{ninth_opened, room_opened}
 use Rattle.map_chunks.proofs.ListLemmas.{length-paired}
 use Rattle.map_nodes.proofs.PutLevels.{keys-halves, keys-pairs, values-halves, values-pairs}
 use Rattle.map_nodes.specs.Levels.{parting}
@@ -126,10 +127,11 @@ returns-clause-half c copies is firsts =
         subst (λ (s : Seen). HeadIs (get_or (keys_of es) 8 []) s.pieces) (sym c.housed.ensures) b.head,
         chosen_are c.args.place copies c.in-Some-pop.first (get_or (keys_of es) 8 [])
             (get_or (insert keys (c.args.place + 1) c.in-Some-pop.first) 8 []) c.pop.new.self.items
-            c.args.room.firsts.items c.chosen.result.items
+            c.opened-firsts.result.firsts.items c.chosen.result.items
             n p.given_are p.at_eight c.chosen.ensures.at c.chosen.ensures.other
-            (λ z. firsts (subst IsSome (sym c.in-Some.is) refl) c.in-Some-pop.first z full
-            c.in-Some-pop.first (λ y. refl)),
+            (λ z. ninth_opened copies keys (c.args.place + 1) c.in-Some-pop.first c.args.room c.opened-firsts.result
+            (c.requires.room (subst IsSome (sym c.in-Some.is) refl)) c.opened-firsts.ensures
+            (firsts (subst IsSome (sym c.in-Some.is) refl) c.in-Some-pop.first z) full c.in-Some-pop.first (λ y. refl)),
       ),
     )
 
@@ -293,7 +295,8 @@ housed-requires c =
     let h = subst (λ (w : Kids). Parted w c.insert_entry.new.keys.texts c.insert_entry.new.entries.items
     (Some (c.in-Some-insert_entry.upper_keys.texts, c.in-Some-insert_entry.upper.items))) q
     c.in-Some-insert_entry.ensures in
-    (c.requires.room (subst IsSome (sym c.in-Some.is) refl)).home (omega (arith, h.2, p.whole, ap length back))
+    (room_opened (length keys) c.args.room c.opened-firsts.result (c.requires.room (subst IsSome (sym c.in-Some.is) refl))
+    c.opened-firsts.ensures).home (omega (arith, h.2, p.whole, ap length back))
 
 pub insert_entry-requires-clause-pairs : goal.insert_entry-requires-clause-pairs
 insert_entry-requires-clause-pairs c = c.requires.fits.pairs
@@ -309,10 +312,13 @@ insert_entry-requires-clause-room c =
     (c.requires.keys_room (subst IsSome (sym c.in-Some.is) refl), c.requires.kids_room)
 
 pub insert_entry-requires-clause-spare_keys : goal.insert_entry-requires-clause-spare_keys
-insert_entry-requires-clause-spare_keys c = (c.requires.room (subst IsSome (sym c.in-Some.is) refl)).empty.0
+insert_entry-requires-clause-spare_keys c = (room_opened (length c.args.keys.now.texts) c.args.room c.opened-firsts.result
+    (c.requires.room (subst IsSome (sym c.in-Some.is) refl)) c.opened-firsts.ensures).empty.0
 
 pub insert_entry-requires-clause-spare_entries : goal.insert_entry-requires-clause-spare_entries
-insert_entry-requires-clause-spare_entries c = (c.requires.room (subst IsSome (sym c.in-Some.is) refl)).empty.1
+insert_entry-requires-clause-spare_entries c = (room_opened (length c.args.keys.now.texts) c.args.room c.opened-firsts.result
+    (c.requires.room (subst IsSome (sym c.in-Some.is) refl)) c.opened-firsts.ensures).empty.1
 
 pub insert_entry-requires-clause-spare_room : goal.insert_entry-requires-clause-spare_room
-insert_entry-requires-clause-spare_room c = (c.requires.room (subst IsSome (sym c.in-Some.is) refl)).spare
+insert_entry-requires-clause-spare_room c = (room_opened (length c.args.keys.now.texts) c.args.room c.opened-firsts.result
+    (c.requires.room (subst IsSome (sym c.in-Some.is) refl)) c.opened-firsts.ensures).spare

@@ -9,7 +9,7 @@ use Rattle.group_history.specs.Naming.{chunk_children, chunk_content}
 use Rattle.group_history.specs.Refs.{stamp_of}
 use Rattle.group_history.specs.Rows.{keys_of, values_of}
 use Rattle.map_chunks.proofs.JoinLemmas.{some_is}
-use Rattle.map_chunks.proofs.SearchLemmas.{length-keys_of, length-values_of}
+use Rattle.map_chunks.proofs.SearchLemmas.{length-keys_of}
 use Rattle.map_chunks.proofs.WayLemmas.{depth_later, filled, leaf_is, rows_later, way}
 use Rattle.map_chunks.specs.Places.{AreAll}
 use Rattle.map_chunks.specs.Search.{IsPlace}
@@ -58,7 +58,6 @@ change_at-returns-clause-reached g t c =
     let k = stamp_of c.args.at in
     let key = c.args.down.now.key.now in
     let copies = c.args.down.now.copies in
-    let may_split = c.args.down.now.may_split in
     let as_trail = c.args.down.now.as_trail in
     let rows = rows_later p q k c.show.ensures.grown.0 c.requires.known in
     let depth = depth_later p q k c.show.ensures.grown.0 c.requires.known in
@@ -67,12 +66,10 @@ change_at-returns-clause-reached g t c =
       h.0,
       subst (λ w. Makes (λ f x s. g.F.FnOnce.post f (x, tt) s) c.args.change
           (finite.find (slice_cmp nat_cmp) key (rows_or w)) (Ok h.0)) rows h.1,
-      subst (λ s. IsReached (g.C.Chunks.contents s) (g.C.Chunks.places s) copies may_split as_trail k (chunk_depth p k)
+      subst (λ s. IsReached (g.C.Chunks.contents s) (g.C.Chunks.places s) copies as_trail k (chunk_depth p k)
           (rows_or (chunk_rows p k)) key h.0 r new.laying) (sym c.leave.ensures)
-          (subst (λ w. IsReached (g.C.Chunks.contents new.chunks) (g.C.Chunks.places new.chunks) copies may_split
-          as_trail k w (rows_or (chunk_rows p k)) key h.0 r new.laying) depth
-          (subst (λ w. IsReached (g.C.Chunks.contents new.chunks) (g.C.Chunks.places new.chunks) copies may_split
-          as_trail k (chunk_depth q k) (rows_or w) key h.0 r new.laying) rows h.2)),
+          (subst (λ w. IsReached (g.C.Chunks.contents new.chunks) (g.C.Chunks.places new.chunks) copies as_trail k w (rows_or (chunk_rows p k)) key h.0 r new.laying) depth
+          (subst (λ w. IsReached (g.C.Chunks.contents new.chunks) (g.C.Chunks.places new.chunks) copies as_trail k (chunk_depth q k) (rows_or w) key h.0 r new.laying) rows h.2)),
     ))
 
 pub change_at-returns-clause-stopped : goal.change_at-returns-clause-stopped
@@ -209,11 +206,11 @@ change_in-step_up-requires-clause-fits g t c =
     let big : stamp_of below + 2 < 2 ^ 64 = omega (arith, c.child_at-child.ensures.bound) in
     let new = c.change_at.new in
     let r = c.in_ok-below-in-Inner.ensures.reached in
-    can_step q (g.C.Chunks.contents new.chunks) (g.C.Chunks.places new.chunks) c.args.down.now.copies deeper.may_split
+    can_step q (g.C.Chunks.contents new.chunks) (g.C.Chunks.places new.chunks) c.args.down.now.copies
     c.args.down.now.as_trail key c.args.at below kids i r.0 c.in_ok-below-in-Inner.below new.laying w c.requires.known
     content c.change_at.ensures.grown.0 place b few big
     (reached_as (g.C.Chunks.contents new.chunks) (g.C.Chunks.places new.chunks) deeper.copies (c.args.down.now.copies + 1)
-    deeper.may_split deeper.as_trail c.args.down.now.as_trail (stamp_of below) (chunk_depth q (stamp_of below))
+    deeper.as_trail c.args.down.now.as_trail (stamp_of below) (chunk_depth q (stamp_of below))
     (rows_or (chunk_rows q (stamp_of below))) deeper.key.now key r.0 c.in_ok-below-in-Inner.below new.laying
     c.below-deeper.ensures.copies c.below-deeper.ensures.trail c.below-deeper.ensures.key r.2)
 
@@ -230,7 +227,7 @@ change_in-returns-in-Leaf-clause-reached g t c =
       h.0,
       subst (λ w. Makes (λ f x s. g.F.FnOnce.post f (x, tt) s) c.args.change
           (finite.find (slice_cmp nat_cmp) key (rows_or w)) (Ok h.0)) (sym is.0) h.1,
-      leaf_reached q (g.C.Chunks.places c.args.chunks.now) c.args.down.now.copies c.args.down.now.may_split
+      leaf_reached q (g.C.Chunks.places c.args.chunks.now) c.args.down.now.copies
           c.args.down.now.as_trail key c.args.at rows h.0 r c.change_leaf.new.laying c.requires.known content h.2,
     ))
 
@@ -276,14 +273,11 @@ change_in-returns-in_ok-step_up-in-Inner-clause-reached g t c =
       u,
       subst (λ z. Makes (λ f x s. g.F.FnOnce.post f (x, tt) s) c.args.change z (Ok u)) same r.1,
       reached_up q (g.C.Chunks.contents new.chunks) (g.C.Chunks.places new.chunks) c.args.down.now.copies
-          c.args.down.now.may_split deeper.may_split c.args.down.now.as_trail key c.args.at below kids i u
+          c.args.down.now.as_trail key c.args.at below kids i u
           c.in_ok-below-in-Inner.below c.in_ok-step_up-in-Inner.field-0 new.laying c.step_up.new.laying w
           c.requires.known content c.change_at.ensures.grown.0 (λ at z. c.change_at.ensures.grown.1 at (all at z)) place
-          b (λ f. (c.below-deeper.ensures.split f).0)
-          (λ f full. c.below-deeper.ensures.whole f (omega
-          (arith, full, ap length c.children.ensures, length-values_of kids)))
-          (reached_as (g.C.Chunks.contents new.chunks) (g.C.Chunks.places new.chunks) deeper.copies
-          (c.args.down.now.copies + 1) deeper.may_split deeper.as_trail c.args.down.now.as_trail (stamp_of below)
+          b (reached_as (g.C.Chunks.contents new.chunks) (g.C.Chunks.places new.chunks) deeper.copies
+          (c.args.down.now.copies + 1) deeper.as_trail c.args.down.now.as_trail (stamp_of below)
           (chunk_depth q (stamp_of below)) (rows_or (chunk_rows q (stamp_of below))) deeper.key.now key u
           c.in_ok-below-in-Inner.below new.laying c.below-deeper.ensures.copies c.below-deeper.ensures.trail
           c.below-deeper.ensures.key r.2) c.in_ok-step_up-in-Inner.ensures,
