@@ -54,12 +54,14 @@ impl<'a> Down<'a> {
 
     // The put of a row with this key.
     fn put(&self, key: &'a Text) -> Put<'a>
+        requires { key.now ≡ self.now.key.now }
         ensures key { result.key.now ≡ key.now }
         ensures copies { result.copies ≡ self.now.copies }
     {
         Put {
             alloc: self.alloc,
             key,
+            searched: self.searched,
             copies: self.copies,
         }
     }
@@ -143,6 +145,7 @@ fn ready_over(
     let put = Put {
         alloc: down.alloc,
         key: &key,
+        searched: down.searched,
         copies: down.copies,
     };
     PutBuffers::of_child(keys, put, place, true)

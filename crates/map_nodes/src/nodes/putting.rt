@@ -19,18 +19,21 @@ mod splits;
 
 use super::OwnNode;
 pub(crate) use below::{PutBuffers, lower_key};
-use group_history::{Json, Stop, Text};
+use group_history::{Json, SearchKey, Stop, Text};
 pub(crate) use leaves::{insert_row, value_found};
 pub(crate) use middles::{finish, lower_first};
 pub(crate) use roots::topped;
 use std::alloc::{AllocError, Global};
 
-/// A put in a chunk: how many copies of an upper half's first key are wanted.
+/// A put in a chunk: its key, of which the first bytes are read once, and how many copies of an upper half's first key
+/// are wanted.
 #[derive(Clone, Copy)]
 pub(crate) struct Put<'a> {
     pub(crate) alloc: Global,
     pub(crate) key: &'a Text,
+    pub(crate) searched: &'a SearchKey<'a>,
     pub(crate) copies: usize,
+    ghost same: { searched.now ≡ key.now },
 }
 
 /// The upper half of a chunk that was split, and copies of its first key.

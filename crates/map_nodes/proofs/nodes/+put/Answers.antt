@@ -56,12 +56,12 @@ pub putting::paths::put_inner-put_child-requires : goal.putting::paths::put_inne
 putting::paths::put_inner-put_child-requires g t c κs within =
     let p = g.C.Chunks.contents c.args.chunks.now in
     let at : OwnChild = Placed (record { bits = 0 }) in
-    let i = c.place_of-place.result in
+    let i = c.place_for-place.result in
     let x = node_at p c.args.depth c.args.keys.now.texts (Inner c.args.kids.now) c.args.kids.now
     (body_pieces c.args.depth c.args.keys.now.texts (Inner c.args.kids.now)) c.as_slice.result.now
     c.args.put.key.now i at
     refl refl c.requires.node c.as_slice.ensures
-    (subst (λ k. IsPlace k c.as_slice.result.now i) c.as_str.ensures c.place_of-place.ensures) c.requires.tree in (
+    (subst (λ k. IsPlace k c.as_slice.result.now i) c.args.put.same c.place_for-place.ensures) c.requires.tree in (
       omega (arith, x.2.1.0, c.decreases),
       (
         within.0,
@@ -79,7 +79,7 @@ putting::paths::put_inner-put_child-requires g t c κs within =
                 omega (arith, x.3.0, x.2.1.2, ap length c.reserve.ensures.items),
                 (
                   subst (λ w. IsPlace c.args.put.key.now w i) c.as_slice.ensures
-                      (subst (λ k. IsPlace k c.as_slice.result.now i) c.as_str.ensures c.place_of-place.ensures),
+                      (subst (λ k. IsPlace k c.as_slice.result.now i) c.args.put.same c.place_for-place.ensures),
                   (
                     omega (arith, x.2.1.0, c.requires.copies),
                     (
@@ -102,12 +102,12 @@ pub putting::paths::put_inner-finish-requires-clause-fits : goal.putting::paths:
 putting::paths::put_inner-finish-requires-clause-fits g t c =
     let p = g.C.Chunks.contents c.args.chunks.now in
     let at : OwnChild = Placed (record { bits = 0 }) in
-    let i = c.place_of-place.result in
+    let i = c.place_for-place.result in
     let x = node_at p c.args.depth c.args.keys.now.texts (Inner c.args.kids.now) c.args.kids.now
     (body_pieces c.args.depth c.args.keys.now.texts (Inner c.args.kids.now)) c.as_slice.result.now
     c.args.put.key.now i at
     refl refl c.requires.node c.as_slice.ensures
-    (subst (λ k. IsPlace k c.as_slice.result.now i) c.as_str.ensures c.place_of-place.ensures) c.requires.tree in
+    (subst (λ k. IsPlace k c.as_slice.result.now i) c.args.put.same c.place_for-place.ensures) c.requires.tree in
     let q = g.C.Chunks.contents c.put_child.new.chunks in
     let child = get_or c.args.kids.now.items i at in
     let keys = c.args.keys.now.texts in
@@ -147,12 +147,12 @@ pub putting::paths::put_inner-finish-requires-clause-kids_room :
 putting::paths::put_inner-finish-requires-clause-kids_room g t c =
     let p = g.C.Chunks.contents c.args.chunks.now in
     let at : OwnChild = Placed (record { bits = 0 }) in
-    let i = c.place_of-place.result in
+    let i = c.place_for-place.result in
     let x = node_at p c.args.depth c.args.keys.now.texts (Inner c.args.kids.now) c.args.kids.now
     (body_pieces c.args.depth c.args.keys.now.texts (Inner c.args.kids.now)) c.as_slice.result.now
     c.args.put.key.now i at
     refl refl c.requires.node c.as_slice.ensures
-    (subst (λ k. IsPlace k c.as_slice.result.now i) c.as_str.ensures c.place_of-place.ensures) c.requires.tree in
+    (subst (λ k. IsPlace k c.as_slice.result.now i) c.args.put.same c.place_for-place.ensures) c.requires.tree in
     let q = g.C.Chunks.contents c.put_child.new.chunks in
     let child = get_or c.args.kids.now.items i at in
     let keys = c.args.keys.now.texts in
@@ -176,17 +176,17 @@ putting::paths::put_inner-finish-requires-clause-kids_room g t c =
 
 pub putting::paths::put_inner-finish-requires-clause-room : goal.putting::paths::put_inner-finish-requires-clause-room
 putting::paths::put_inner-finish-requires-clause-room g t c some =
-    let low = c.lower_first.ensures.texts ∙ ap (lowered c.place_of-place.result c.in_ok-ready.ready.lower)
+    let low = c.lower_first.ensures.texts ∙ ap (lowered c.place_for-place.result c.in_ok-ready.ready.lower)
     c.put_child.ensures.texts in
     subst (λ n. HasRoomIn n c.in_ok-ready.ready.room)
-    (sym (ap length low ∙ length-lowered c.place_of-place.result c.in_ok-ready.ready.lower c.args.keys.now.texts))
+    (sym (ap length low ∙ length-lowered c.place_for-place.result c.in_ok-ready.ready.lower c.args.keys.now.texts))
     (c.in_ok-ready.ensures.ready some).2
 
 pub putting::paths::put_inner-returns-clause-put : goal.putting::paths::put_inner-returns-clause-put
 putting::paths::put_inner-returns-clause-put g t c =
     let p = g.C.Chunks.contents c.args.chunks.now in
     let at : OwnChild = Placed (record { bits = 0 }) in
-    let i = c.place_of-place.result in
+    let i = c.place_for-place.result in
     let depth = c.args.depth in
     let keys = c.args.keys.now.texts in
     let kids = c.args.kids.now.items in
@@ -194,7 +194,7 @@ putting::paths::put_inner-returns-clause-put g t c =
     let pieces = body_pieces depth keys (Inner c.args.kids.now) in
     let x = node_at p depth keys (Inner c.args.kids.now) c.args.kids.now pieces c.as_slice.result.now key i at
     refl refl c.requires.node c.as_slice.ensures
-    (subst (λ k. IsPlace k c.as_slice.result.now i) c.as_str.ensures c.place_of-place.ensures) c.requires.tree in
+    (subst (λ k. IsPlace k c.as_slice.result.now i) c.args.put.same c.place_for-place.ensures) c.requires.tree in
     let q = g.C.Chunks.contents c.put_child.new.chunks in
     let child = get_or kids i at in
     let new = c.put_child.new.kids.items in
@@ -231,12 +231,12 @@ pub putting::paths::put_inner-returns-clause-half : goal.putting::paths::put_inn
 putting::paths::put_inner-returns-clause-half g t c =
     let p = g.C.Chunks.contents c.args.chunks.now in
     let at : OwnChild = Placed (record { bits = 0 }) in
-    let i = c.place_of-place.result in
+    let i = c.place_for-place.result in
     let x = node_at p c.args.depth c.args.keys.now.texts (Inner c.args.kids.now) c.args.kids.now
     (body_pieces c.args.depth c.args.keys.now.texts (Inner c.args.kids.now)) c.as_slice.result.now
     c.args.put.key.now i at
     refl refl c.requires.node c.as_slice.ensures
-    (subst (λ k. IsPlace k c.as_slice.result.now i) c.as_str.ensures c.place_of-place.ensures) c.requires.tree in
+    (subst (λ k. IsPlace k c.as_slice.result.now i) c.args.put.same c.place_for-place.ensures) c.requires.tree in
     let q = g.C.Chunks.contents c.put_child.new.chunks in
     let child = get_or c.args.kids.now.items i at in
     let keys = c.args.keys.now.texts in
@@ -257,12 +257,12 @@ pub putting::paths::put_inner-returns-clause-levels : goal.putting::paths::put_i
 putting::paths::put_inner-returns-clause-levels g t c later pre =
     let p = g.C.Chunks.contents c.args.chunks.now in
     let at : OwnChild = Placed (record { bits = 0 }) in
-    let i = c.place_of-place.result in
+    let i = c.place_for-place.result in
     let x = node_at p c.args.depth c.args.keys.now.texts (Inner c.args.kids.now) c.args.kids.now
     (body_pieces c.args.depth c.args.keys.now.texts (Inner c.args.kids.now)) c.as_slice.result.now
     c.args.put.key.now i at
     refl refl c.requires.node c.as_slice.ensures
-    (subst (λ k. IsPlace k c.as_slice.result.now i) c.as_str.ensures c.place_of-place.ensures) c.requires.tree in
+    (subst (λ k. IsPlace k c.as_slice.result.now i) c.args.put.same c.place_for-place.ensures) c.requires.tree in
     let q = g.C.Chunks.contents c.put_child.new.chunks in
     let child = get_or c.args.kids.now.items i at in
     let keys = c.args.keys.now.texts in
@@ -480,7 +480,7 @@ putting::paths::put_inner-returns-clause-fresh g t c =
 pub putting::paths::put_inner-returns-clause-entries : goal.putting::paths::put_inner-returns-clause-entries
 putting::paths::put_inner-returns-clause-entries g t c =
     let keys = c.args.keys.now.texts in
-    let i = c.place_of-place.result in
+    let i = c.place_for-place.result in
     let low = ap length (c.lower_first.ensures.texts ∙ ap
     (lowered i c.in_ok-ready.ready.lower) c.put_child.ensures.texts) ∙ length-lowered i
     c.in_ok-ready.ready.lower keys in
@@ -529,12 +529,12 @@ pub putting::paths::put_inner-returns-clause-places : goal.putting::paths::put_i
 putting::paths::put_inner-returns-clause-places g t c =
     let p = g.C.Chunks.contents c.args.chunks.now in
     let at : OwnChild = Placed (record { bits = 0 }) in
-    let i = c.place_of-place.result in
+    let i = c.place_for-place.result in
     let x = node_at p c.args.depth c.args.keys.now.texts (Inner c.args.kids.now) c.args.kids.now
     (body_pieces c.args.depth c.args.keys.now.texts (Inner c.args.kids.now)) c.as_slice.result.now
     c.args.put.key.now i at
     refl refl c.requires.node c.as_slice.ensures
-    (subst (λ k. IsPlace k c.as_slice.result.now i) c.as_str.ensures c.place_of-place.ensures) c.requires.tree in
+    (subst (λ k. IsPlace k c.as_slice.result.now i) c.args.put.same c.place_for-place.ensures) c.requires.tree in
     let q = g.C.Chunks.contents c.put_child.new.chunks in
     let at_q = g.C.Chunks.places c.put_child.new.chunks in
     let child = get_or c.args.kids.now.items i at in
@@ -887,7 +887,7 @@ pub putting::paths::put_inner-returns-in_err-ready-clause-unput :
 putting::paths::put_inner-returns-in_err-ready-clause-unput g t c =
     let p = g.C.Chunks.contents c.args.chunks.now in
     let at : OwnChild = Placed (record { bits = 0 }) in
-    let i = c.place_of-place.result in
+    let i = c.place_for-place.result in
     let depth = c.args.depth in
     let keys = c.args.keys.now.texts in
     let kids = c.args.kids.now.items in
@@ -895,7 +895,7 @@ putting::paths::put_inner-returns-in_err-ready-clause-unput g t c =
     let pieces = body_pieces depth keys (Inner c.args.kids.now) in
     let x = node_at p depth keys (Inner c.args.kids.now) c.args.kids.now pieces c.as_slice.result.now key i at
     refl refl c.requires.node c.as_slice.ensures
-    (subst (λ k. IsPlace k c.as_slice.result.now i) c.as_str.ensures c.place_of-place.ensures) c.requires.tree in
+    (subst (λ k. IsPlace k c.as_slice.result.now i) c.args.put.same c.place_for-place.ensures) c.requires.tree in
     let child = get_or kids i at in
     let unput = λ (found : Option Bytes). IsUnput (λ made.
     Makes (λ f there m. g.F.FnOnce.post f (there, tt) m) c.args.change found made) g.C.Chunks.stops found in

@@ -24,7 +24,7 @@ use crate::changes::Change;
 use group_history::{Json, Stop, Text, Update};
 use map_chunks::entries::{MOST, insert_entry, make_room};
 use map_chunks::keys::NodeKeys;
-use map_chunks::search::search;
+use map_chunks::search::search_for;
 use std::alloc::{AllocError, Global};
 
 fn copies_of(alloc: Global, text: &Text, count: usize) -> Result<Vec<Text>, AllocError>
@@ -84,7 +84,7 @@ pub(crate) fn put_leaf<F: FnOnce(Option<Json>) -> Result<Update, Stop>>(
         put.entry.key.now (paired keys.old.texts values.old.items)) made) (λ _. ⊥) (finite.find
         (slice_cmp nat_cmp) put.entry.key.now (paired keys.old.texts values.old.items))) }
 {
-    let found = search(keys.as_slice(), put.key.as_str());
+    let found = search_for(keys.as_slice(), put.searched);
     match change.of(value_found(values, &found))? {
         Update::Put(value) => put_row(keys, values, found, put, value),
         Update::Refuse(code) => Err(PutRefused::Refused(code)),

@@ -35,11 +35,11 @@ use super::leaves::put_leaf;
 use super::middles::{finish, lower_first};
 use super::{Half, Put, PutRefused};
 use crate::changes::Change;
-use group_history::{Json, Ref, SearchKey, Stop, Update};
+use group_history::{Json, Ref, Stop, Update};
 use map_chunks::Chunks;
 use map_chunks::entries::MOST;
 use map_chunks::keys::NodeKeys;
-use map_chunks::search::place_of;
+use map_chunks::search::place_for;
 
 // Puts a row below a chunk with these keys and children, and splits them where they are 17 then.
 #[cycle(put)]
@@ -85,7 +85,7 @@ fn put_inner<C: Chunks, F: FnOnce(Option<Json>) -> Result<Update, Stop>>(
         C.stops (value_in (shown (C.contents chunks.old)
         (body_pieces depth keys.old.texts (body.Inner kids.old))) put.entry.key.now)) }
 {
-    let place = place_of(keys.as_slice(), put.key.as_str());
+    let place = place_for(keys.as_slice(), put.searched);
     kids.reserve(1)?;
     let (ready, half) = put_child(keys, kids, place, depth - 1, chunks, put, change)?;
     lower_first(keys, place, ready.lower);
@@ -198,11 +198,10 @@ fn change_placed<C: Chunks, F: FnOnce(Option<Json>) -> Result<Update, Stop>>(
     ensures stopped { IfErr result (λ e. (e ≡ NoMemory) ⊎ C.stops e ⊎ Makes (λ f x r. F.post f x r) change (value_in
         (chunk_rows (C.contents chunks.old) (stamp_of at)) put.entry.key.now) (Err e)) }
 {
-    let searched = SearchKey::new(put.key.as_str());
     let down = Down {
         alloc: put.alloc,
         key: put.key.as_str(),
-        searched: &searched,
+        searched: put.searched,
         copies: put.copies + 1,
         as_trail: false,
     };
@@ -281,8 +280,10 @@ impl OwnNode {
         let may_split = self.keys.as_slice().len() >= MOST;
         let ready = PutBuffers::of_child(keys, put, place, may_split)?;
         let deeper = Put {
+            alloc: put.alloc,
+            key: put.key,
+            searched: put.searched,
             copies: put.copies + 1,
-            ..put
         };
         let half = self.put(chunks, deeper, change)?;
         Ok((ready, half))

@@ -23,7 +23,7 @@ use super::super::homes::{housed, take_home};
 use super::super::{Body, OwnChild, OwnNode};
 use super::{Half, Put, PutRefused};
 use crate::changes::Change;
-use group_history::{Json, Ran, Stop, Text, Update};
+use group_history::{Json, Ran, SearchKey, Stop, Text, Update};
 use map_chunks::Chunks;
 use map_chunks::entries::{MOST, SpareChunk, take_spare};
 use map_chunks::keys::NodeKeys;
@@ -154,9 +154,11 @@ impl OwnNode {
         if self.depth == u64::MAX {
             return Err(Stop::NoMemory);
         }
+        let searched = SearchKey::new(key.as_str());
         let put = Put {
             alloc,
             key,
+            searched: &searched,
             copies: 1,
         };
         if self.keys.as_slice().len() < MOST {
