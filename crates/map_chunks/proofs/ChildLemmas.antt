@@ -16,7 +16,7 @@ use Rattle.map_chunks.specs.Inside.SecondKeys.{IsSecondStep, IsSecondAt}
 use Rattle.map_chunks.specs.Inside.Seeking.{IsHint, IsHintAt}
 use Rattle.map_chunks.specs.Inside.Steps.{IsStep, IsStepAt}
 use Rattle.map_chunks.specs.declared.looks.Hint.{Hint}
-use Rattle.map_chunks.specs.declared.looks.Hint.TheVariants.{Stands, On}
+use Rattle.map_chunks.specs.declared.looks.Hint.TheVariants.{Known, On}
 use Rattle.map_chunks.specs.declared.looks.Second.{Second}
 use Rattle.map_chunks.specs.declared.looks.Second.TheVariants as second
 use Rattle.map_chunks.specs.declared.looks.Descent.{Descent}
@@ -33,11 +33,11 @@ step_at places c key (Found v) all i = tt
 step_at places (Leaf rows) key (Below at) all i = absurd i
 step_at places (Inner kids) key (Below at) all i = all at (got_here (values_of kids) i.0 at i.2)
 
-pub hint_at : (places : Ref → Type 0) (c : Chunk Ref) (key : Bytes) (asked : Option Bytes) (hint : Hint)
-    → AreAll places (chunk_children c) → IsHint c key asked hint → IsHintAt places hint
-hint_at places c key asked (Stands s) all i = tt
-hint_at places (Leaf rows) key asked (On at) all i = absurd i
-hint_at places (Inner kids) key asked (On at) all i = all at (got_here (values_of kids) i.0 at i.2)
+pub hint_at : (places : Ref → Type 0) (c : Chunk Ref) (key : Bytes) (hint : Hint) → AreAll places (chunk_children c)
+    → IsHint c key hint → IsHintAt places hint
+hint_at places c key (Known there) all i = tt
+hint_at places (Leaf rows) key (On at) all i = absurd i
+hint_at places (Inner kids) key (On at) all i = all at (got_here (values_of kids) i.0 at i.2)
 
 pub second_at : (places : Ref → Type 0) (c : Chunk Ref) (step : Second) → AreAll places (chunk_children c)
     → IsSecondStep c step → IsSecondAt places step

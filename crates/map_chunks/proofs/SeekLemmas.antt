@@ -1,5 +1,6 @@
--- A look for how a key's value stands to another one, and for how deep the tree is.
-use Rattle.std.proofs.Common.{◌≡◌, ℕ, ◌+◌, ◌++◌, ◌∷◌, Option, None, Some, map, slice_get, sym, ap, ◌∙◌, subst, arith, nat_cmp}
+-- A look for whether a key is there, and for how deep the tree is.
+use Rattle.std.proofs.Common.{◌≡◌, ℕ, ◌+◌, ◌++◌, ◌∷◌, Some, is_some, map, slice_get, sym, ap, ◌∙◌, subst, arith}
+use Rattle.std.proofs.Common.{nat_cmp}
 use Rattle.std.specs.Prelude.{option_map}
 use Rattle.std.specs.Cmp.Lexicographic.{slice_cmp}
 use Rattle.std.specs.FinMap.{find}
@@ -12,29 +13,28 @@ use Rattle.group_history.specs.Refs.{stamp_of}
 use Rattle.group_history.specs.Rows.{keys_of}
 use Rattle.group_history.specs.Spelling.{Contents, Segment, segment_at, rows_at, joined_rows}
 use Rattle.map_chunks.specs.Search.{IsPlace}
-use Rattle.map_chunks.specs.Seeking.{stands_in}
-use Rattle.map_chunks.specs.Writes.{standing}
+use Rattle.map_chunks.specs.Seeking.{is_in}
 use Rattle.map_chunks.specs.Inside.Steps.{IsStep, Deepens}
 use Rattle.map_chunks.specs.Inside.Seeking.{IsHint, Hints}
 use Rattle.map_chunks.specs.Shown.{chunk_rows, rows_or}
 use Rattle.map_chunks.specs.declared.looks.Descent.{Descent}
 use Rattle.map_chunks.specs.declared.looks.Descent.TheVariants.{Found, Below}
 use Rattle.map_chunks.specs.declared.looks.Hint.{Hint}
-use Rattle.map_chunks.specs.declared.looks.Hint.TheVariants.{Stands, On}
+use Rattle.map_chunks.specs.declared.looks.Hint.TheVariants.{Known, On}
 use Rattle.map_chunks.proofs.OpenLemmas.{Opened, opened, spells_at, chunk_rows-at, entry_at, placing, way_by, find-way}
 use Rattle.map_chunks.proofs.OpenLemmas.{tree_of, shows_by, AllLow, low_at}
 use Rattle.map_chunks.proofs.RowLemmas.{IsStrict}
 
-pub hints : (ns : Contents) (k : ℕ) (s : Segment) (c : Chunk Ref) (key : Bytes) (asked : Option Bytes) (hint : Hint)
+pub hints : (ns : Contents) (k : ℕ) (s : Segment) (c : Chunk Ref) (key : Bytes) (hint : Hint)
     → segment_at ns k ≡ Some s → slice_get ns k ≡ Some (chunk_content c)
-    → IsStrict s.rows → IsHint c key asked hint → Hints ns key asked k (Some s.depth) s.rows hint
-hints ns k s c key asked hint h g o i = by c (opened ns k s c h g) hint i
+    → IsStrict s.rows → IsHint c key hint → Hints ns key k (Some s.depth) s.rows hint
+hints ns k s c key hint h g o i = by c (opened ns k s c h g) hint i
   where
-    by : (c : Chunk Ref) → Opened ns k s c → (hint : Hint) → IsHint c key asked hint
-        → Hints ns key asked k (Some s.depth) s.rows hint
-    by (Leaf rows) z (Stands v) i = (ap (λ n. Some n) z.depth, i ∙ ap (λ w. stands_in w key asked) (sym z.is))
+    by : (c : Chunk Ref) → Opened ns k s c → (hint : Hint) → IsHint c key hint
+        → Hints ns key k (Some s.depth) s.rows hint
+    by (Leaf rows) z (Known there) i = (ap (λ n. Some n) z.depth, i ∙ ap (λ w. is_in w key) (sym z.is))
     by (Leaf rows) z (On at) i = absurd i
-    by (Inner kids) z (Stands v) i = absurd (omega (arith, z.filled))
+    by (Inner kids) z (Known there) i = absurd (omega (arith, z.filled))
     by (Inner kids) z (On at) i =
         let a = entry_at kids i.0 at i.2 in
         let p = placing key a.before a.first at a.behind i.0 a.at
@@ -53,13 +53,13 @@ hints ns k s c key asked hint h g o i = by c (opened ns k s c h g) hint i
           ap (λ x. find (slice_cmp nat_cmp) key (rows_or x)) r ∙ find-way key _ _ _ _ s.rows w,
         )
 
--- a step tells what a hint does where no value is asked for
+-- a step tells what a hint does
 abbrev hint_by : Descent → Hint
-hint_by (Found v) = Stands (standing v None)
+hint_by (Found v) = Known (is_some v)
 hint_by (Below at) = On at
 
-hint_step : (c : Chunk Ref) (key : Bytes) (step : Descent) → IsStep c key step → IsHint c key None (hint_by step)
-hint_step (Leaf rows) key (Found v) i = ap (λ w. standing w None) i
+hint_step : (c : Chunk Ref) (key : Bytes) (step : Descent) → IsStep c key step → IsHint c key (hint_by step)
+hint_step (Leaf rows) key (Found v) i = ap is_some i
 hint_step (Leaf rows) key (Below at) i = i
 hint_step (Inner kids) key (Found v) i = i
 hint_step (Inner kids) key (Below at) i = i
@@ -67,8 +67,8 @@ hint_step (Inner kids) key (Below at) i = i
 pub deepens : (ns : Contents) (k : ℕ) (s : Segment) (c : Chunk Ref) (key : Bytes) (step : Descent)
     → segment_at ns k ≡ Some s → slice_get ns k ≡ Some (chunk_content c) → IsStrict s.rows → IsStep c key step
     → Deepens ns (Some s.depth) step
-deepens ns k s c key step h g o i = by step (hints ns k s c key None (hint_by step) h g o (hint_step c key step i))
+deepens ns k s c key step h g o i = by step (hints ns k s c key (hint_by step) h g o (hint_step c key step i))
   where
-    by : (step : Descent) → Hints ns key None k (Some s.depth) s.rows (hint_by step) → Deepens ns (Some s.depth) step
+    by : (step : Descent) → Hints ns key k (Some s.depth) s.rows (hint_by step) → Deepens ns (Some s.depth) step
     by (Found v) told = told.0
     by (Below at) told = told.2

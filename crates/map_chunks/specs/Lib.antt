@@ -1,6 +1,6 @@
 -- What placed chunks show and what is read below them. Read Shown, Wide, Drafts and Places first: rows, chunks with
 -- more than one child, a draft's nodes, and which references may be looked for. Then keys (KeysSeen, Keys, Search,
--- Inserting: of 17 entries the first 8 stay), and reading (Writes, Seeking, Ends, SecondKeys, Sinks, Scanning). A user
+-- Inserting: of 17 entries the first 8 stay), and reading (Seeking, Ends, SecondKeys, Sinks, Scanning). A user
 -- of `rebase` needs Sinks alone.
 pub mod Shown
 pub mod Wide
@@ -10,7 +10,6 @@ pub mod KeysSeen
 pub mod Keys
 pub mod Search
 pub mod Inserting
-pub mod Writes
 pub mod Seeking
 pub mod Ends
 pub mod SecondKeys

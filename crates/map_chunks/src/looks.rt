@@ -1,8 +1,4 @@
 //! Looks at placed chunks, each of which is left again at once.
-ghost use Rattle.std.specs.Prelude.{◌≡◌, ◌<◌, ◌⊎◌, length, Some, IfOk, IfErr};
-ghost use mathlib.Core.List.{IsPrefix};
-ghost use Rattle.map_chunks.specs.Writes.{is_there, is_the_same};
-
 use group_history::{Json, Ref, Text};
 
 /// What a look at one chunk on the way to a key gives.
@@ -14,54 +10,20 @@ pub(crate) enum Descent {
     Below(Ref),
 }
 
-/// How the value at a key stands to another one.
-#[derive(Clone, Copy)]
-pub enum Comparison {
-    /// There is no such key.
-    Absent,
-    /// Another value is there, or none was asked for.
-    Other,
-    /// This very value is there.
-    Same,
-}
-
-impl Comparison {
-    /// Whether the key is there.
-    pub fn is_there(self) -> bool
-        ensures { result ≡ is_there self }
-    {
-        match self {
-            Comparison::Absent => false,
-            Comparison::Other => true,
-            Comparison::Same => true,
-        }
-    }
-
-    /// Whether the value is there.
-    pub fn is_same(self) -> bool
-        ensures { result ≡ is_the_same self }
-    {
-        match self {
-            Comparison::Absent => false,
-            Comparison::Other => false,
-            Comparison::Same => true,
-        }
-    }
-}
-
-/// What a look at one chunk on the way to a key tells of its value.
+/// What a look at one chunk on the way to a key tells of it.
 #[derive(Clone, Copy)]
 pub(crate) enum Hint {
-    /// How the value stands to the one asked for.
-    Stands(Comparison),
+    /// Whether the key is there.
+    Known(bool),
     /// The child to which the key belongs.
     On(Ref),
 }
 
-/// What a look all the way down tells of a key's value.
+/// What a look all the way down tells of a key.
 #[derive(Clone, Copy)]
 pub struct Sought {
-    pub standing: Comparison,
+    /// Whether the key is there.
+    pub is_there: bool,
     /// How many chunks there are on the way: the depth of the tree.
     pub depth: u64,
 }

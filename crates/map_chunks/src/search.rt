@@ -1,14 +1,12 @@
 //! A key's place among keys in order.
-ghost use Rattle.std.specs.Prelude.{◌≡◌, ◌<◌, length, Some, IfOk, IfErr, T, option_copied};
+ghost use Rattle.std.specs.Prelude.{◌≡◌, ◌<◌, List, length, IfOk, IfErr, T, is_some};
 ghost use Rattle.std.specs.Ordering.{nat_cmp};
 ghost use Rattle.std.specs.Cmp.Lexicographic.{slice_cmp};
 ghost use Rattle.std.specs.FinMap as finite;
+ghost use Rattle.group_history.specs.Map.{Bytes};
 ghost use Rattle.group_history.specs.Rows.{rises, paired};
 ghost use Rattle.map_chunks.specs.Search.{IsRank, IsPlace, IsFound, IsAbsent};
-ghost use Rattle.map_chunks.specs.Seeking.{stands_in};
-ghost use Rattle.map_chunks.specs.Writes.{standing};
 
-use crate::looks::Comparison;
 use group_history::{Json, SearchKey, Text};
 use std::alloc::AllocError;
 use std::cmp::Ordering;
@@ -75,45 +73,13 @@ pub fn search_for(keys: &[Text], key: &SearchKey<'_>) -> Result<usize, usize>
     Err(low)
 }
 
-// How a value stands to the one asked for.
-pub(crate) fn compared(value: &Json, asked: Option<&Json>) -> Comparison
-    ensures { result ≡ standing (Some value.now) (option_copied asked.entry) }
-{
-    match asked {
-        None => Comparison::Other,
-        Some(asked) => {
-            if value == asked {
-                return Comparison::Same;
-            }
-            Comparison::Other
-        }
-    }
-}
-
-/// How the value at a key stands to the one asked for. No value is copied.
-pub fn standing_at(keys: &[Text], values: &[Json], key: &str, asked: Option<&Json>) -> Comparison
+/// Whether a key is among these, one whose first bytes were read already.
+pub fn has_key(keys: &[Text], key: &SearchKey<'_>) -> bool
     requires order { T (rises keys.now) }
-    requires values { length values.now ≡ length keys.now }
-    ensures { result ≡ stands_in (paired keys.now values.now) key.now (option_copied asked.entry) }
+    ensures { (values : List Bytes) → length values ≡ length keys.now
+        → result ≡ is_some (finite.find (slice_cmp nat_cmp) key.now (paired keys.now values)) }
 {
-    standing_for(keys, values, &SearchKey::new(key), asked)
-}
-
-/// The same, of a key whose first bytes were read already.
-pub(crate) fn standing_for(
-    keys: &[Text],
-    values: &[Json],
-    key: &SearchKey<'_>,
-    asked: Option<&Json>,
-) -> Comparison
-    requires order { T (rises keys.now) }
-    requires values { length values.now ≡ length keys.now }
-    ensures { result ≡ stands_in (paired keys.now values.now) key.now (option_copied asked.entry) }
-{
-    match search_for(keys, key) {
-        Ok(place) => compared(&values[place], asked),
-        Err(_) => Comparison::Absent,
-    }
+    search_for(keys, key).is_ok()
 }
 
 /// The value at a key, copied, if it is there.

@@ -2,7 +2,7 @@
 //!
 //! A first put makes a trail, where no chunk is split; other changes need an own chunk, and make one of a trail first.
 ghost use Rattle.std.specs.Prelude.{◌≡◌, ◌==◌, ◌⊎◌, ◌+◌, ◌-◌, ◌^◌, ◌<◌, ◌≤◌, [], ◌∷◌, min, length, Ok, Err, Some, None};
-ghost use Rattle.std.specs.Prelude.{true, IsSome, IfOk, IfErr, OnOk, OnErr, option_copied};
+ghost use Rattle.std.specs.Prelude.{true, IsSome, IfOk, IfErr, OnOk, OnErr};
 ghost use Rattle.std.specs.Ordering.{nat_cmp};
 ghost use Rattle.std.specs.Cmp.Lexicographic.{slice_cmp};
 ghost use Rattle.std.specs.FinMap as finite;
@@ -17,7 +17,7 @@ ghost use Rattle.group_history.specs.declared.refusals.Refusal.TheVariants as re
 ghost use Rattle.map_chunks.specs.Drafts.{AreBelow, IsLate};
 ghost use Rattle.map_chunks.specs.Places.{with_nodes, Grows, AreAll, AreKept, AddsNamed, places_of};
 ghost use Rattle.map_chunks.specs.Scanning.{taken, Gave, IsLow};
-ghost use Rattle.map_chunks.specs.Seeking.{chunk_depth, stands_in};
+ghost use Rattle.map_chunks.specs.Seeking.{chunk_depth, is_in};
 ghost use Rattle.map_chunks.specs.Shown.{chunk_rows, own, leaf_keys, shown, IsTree, rows_or};
 ghost use Rattle.map_nodes.specs.Changes.{CanMake, Makes};
 ghost use Rattle.map_nodes.specs.Inside.Laying.{IsReached};
@@ -29,7 +29,6 @@ ghost use Rattle.map_nodes.specs.Levels.{placed_levels, seen_levels, NamedLater,
 use crate::changes::Change;
 use crate::nodes::{Down, Laying, OwnNode, Reached, Trail, change_at, topped};
 use group_history::{Json, Ran, Ref, Refusal, STAMPS, Scan, SearchKey, Stop, Update};
-use map_chunks::looks::Comparison;
 use map_chunks::{Chunks, Draft, TakesRows};
 use std::alloc::{AllocError, Global};
 use std::marker::Model;
@@ -224,23 +223,17 @@ impl OwnRoot {
         }
     }
 
-    /// How the value at a key stands to the one asked for. Stops as the store does alone.
-    pub fn standing<C: Chunks>(
-        &self,
-        chunks: &mut C,
-        key: &str,
-        asked: Option<&Json>,
-    ) -> Result<Comparison, Stop>
+    /// Whether the key is there. Stops as the store does alone.
+    pub fn has<C: Chunks>(&self, chunks: &mut C, key: &str) -> Result<bool, Stop>
         requires places { AreAll (C.places chunks.old) (places_of self.now.pieces) }
         requires tree { IsTree (shown (C.contents chunks.old) self.now.pieces) }
         ensures grown { Grows C.contents C.places chunks.old chunks.new }
-        ensures standing { IfOk result (λ s. s
-            ≡ stands_in (rows_or (shown (C.contents chunks.old) self.now.pieces)) key.now (option_copied asked.entry)) }
+        ensures has { IfOk result (λ b. b ≡ is_in (rows_or (shown (C.contents chunks.old) self.now.pieces)) key.now) }
         ensures stopped { IfErr result C.stops }
     {
         match &self.form {
-            Form::Node(node) => node.standing(chunks, key, asked),
-            Form::Trail(trail) => trail.standing(chunks, key, asked),
+            Form::Node(node) => node.has(chunks, key),
+            Form::Trail(trail) => trail.has(chunks, key),
         }
     }
 

@@ -2,6 +2,5 @@ mod DeleteLemmas
 mod PlaceLemmas
 mod PutTrees
 pub mod RootCounts
-mod SeekLemmas
 pub mod WriteLemmas
 pub mod BelowLemmas

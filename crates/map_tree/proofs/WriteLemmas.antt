@@ -1,5 +1,5 @@
 -- What a put makes of a map.
-use Rattle.std.proofs.Common.{◌≡◌, ℕ, true, cond, Option, Some, None, Result, Ok, Err, IfOk, refl, sym, ap, ◌∙◌}
+use Rattle.std.proofs.Common.{◌≡◌, ℕ, cond, Option, Some, Result, Ok, Err, IfOk, refl, sym, ap, ◌∙◌}
 use Rattle.std.proofs.Common.{subst, nat_cmp, Equal, Ordering, Less, Greater, is_eq}
 use Rattle.std.specs.Prelude.{IsSome, option_and_then}
 use Rattle.std.specs.Cmp.Lexicographic.{slice_cmp, nat_list_cmp_total}
@@ -13,14 +13,12 @@ use Rattle.group_history.proofs.Folding.{and_then-some}
 use Rattle.group_history.proofs.Spellings.{map-stays}
 use Rattle.map_chunks.specs.Shown.{shown, chunk_rows, IsTree, rows_or, map_of_rows}
 use Rattle.map_tree.specs.Trees.{root_map}
-use Rattle.map_chunks.specs.Writes.{is_same}
 use Rattle.map_tree.specs.declared.tree.Root.{Root}
 use Rattle.map_tree.specs.declared.tree.Root.TheVariants.{Placed, Own}
 use Rattle.map_nodes.proofs.ChangeLemmas.{shown-kept}
 use Rattle.map_chunks.proofs.OpenLemmas.{spells_rows, Spells}
 use Rattle.map_chunks.proofs.RowLemmas.{cmp, same_key}
 use Rattle.map_chunks.proofs.Shelves.{some_of}
-use Rattle.map_chunks.proofs.Texts.{same_text-is}
 use Rattle.map_chunks.proofs.TreeLemmas.{map_at-rows, map_is, map_from}
 
 pub put_map : (x y : Option Rows) (m : Entries) (key v : Bytes) → option_and_then map_of_rows x ≡ Some m
@@ -41,10 +39,6 @@ put_same m key v h = finite.same_map nat_list_cmp_total same_key (finite.insert 
         (sym (same_key q key e))
     by q Less e = ap (λ o. cond (is_eq o) (Some v) (finite.get m q)) e
     by q Greater e = ap (λ o. cond (is_eq o) (Some v) (finite.get m q)) e
-
-pub same_value : (found : Option Bytes) (v : Bytes) → is_same found v ≡ true → found ≡ Some v
-same_value None v h = absurd cc
-same_value (Some w) v h = ap (λ z. Some z) (same_text-is w v h)
 
 pub root_kept : (old new : Contents) (r : Root) (m : Entries) → IsPrefix old new → root_map old r ≡ Some m
     → root_map new r ≡ Some m

@@ -34,7 +34,7 @@ enum Root {
 }
 
 impl Tree {
-    ghost use Rattle.std.specs.Prelude.{◌≡◌, ◌⊎◌, [], ◌∷◌, Some, None, IfOk, IfErr, IsSome, option_copied};
+    ghost use Rattle.std.specs.Prelude.{◌≡◌, ◌⊎◌, [], ◌∷◌, Some, None, IfOk, IfErr, IsSome};
     ghost use Rattle.std.specs.FinMap as finite;
     ghost use Rattle.group_history.specs.Map.{Entries};
     ghost use Rattle.group_history.specs.Refs.{stamp_of};
@@ -46,7 +46,6 @@ impl Tree {
     ghost use Rattle.map_chunks.specs.Places.{Grows, AreAll};
     ghost use Rattle.map_chunks.specs.Shown.{leaf_keys};
     ghost use Rattle.map_chunks.specs.Wide.{IsWideAt};
-    ghost use Rattle.map_chunks.specs.Writes.{standing};
 
     /// The map whose root is placed there.
     pub fn at(root: Ref) -> Tree
@@ -101,31 +100,26 @@ impl Tree {
             → IfOk result (λ v. v ≡ finite.contains_key m key.now) }
         ensures stopped { IfErr result C.stops }
     {
-        let sought = self.sought(chunks, key, None)?;
-        Ok(sought.standing.is_there())
+        let sought = self.sought(chunks, key)?;
+        Ok(sought.is_there)
     }
 
-    // How the value at the key stands to the one asked for, and how deep the tree is.
-    fn sought<C: Chunks>(
-        &self,
-        chunks: &mut C,
-        key: &str,
-        asked: Option<&Json>,
-    ) -> Result<Sought, Stop>
+    // Whether the key is there, and how deep the tree is.
+    fn sought<C: Chunks>(&self, chunks: &mut C, key: &str) -> Result<Sought, Stop>
         requires places { AreAll (C.places chunks.old) (tree_places self.now) }
         requires map { IsSome (tree_map (C.contents chunks.old) self.now) }
         ensures grown { Grows C.contents C.places chunks.old chunks.new }
-        ensures standing { (m : Entries) → tree_map (C.contents chunks.old) self.now ≡ Some m
-            → IfOk result (λ s. s.standing ≡ standing (finite.get m key.now) (option_copied asked.entry)) }
+        ensures is_there { (m : Entries) → tree_map (C.contents chunks.old) self.now ≡ Some m
+            → IfOk result (λ s. s.is_there ≡ finite.contains_key m key.now) }
         ensures depth { IfOk result (λ s. tree_depth (C.contents chunks.old) self.now ≡ Some s.depth) }
         ensures stopped { IfErr result C.stops }
     {
         match &self.root {
-            Root::Placed(at) => seek_placed(chunks, *at, key, asked),
+            Root::Placed(at) => seek_placed(chunks, *at, key),
             Root::Own(node) => {
-                let standing = node.standing(chunks, key, asked)?;
+                let is_there = node.has(chunks, key)?;
                 Ok(Sought {
-                    standing,
+                    is_there,
                     depth: node.depth(),
                 })
             }

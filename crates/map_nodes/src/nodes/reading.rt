@@ -1,5 +1,5 @@
 //! Queries of a draft's chunks.
-ghost use Rattle.std.specs.Prelude.{◌≡◌, ◌==◌, ◌⊎◌, Some, IfOk, IfErr, length, option_copied};
+ghost use Rattle.std.specs.Prelude.{◌≡◌, ◌==◌, ◌⊎◌, Some, IfOk, IfErr, length};
 ghost use Rattle.std.specs.Ordering.{nat_cmp};
 ghost use Rattle.std.specs.Cmp.Lexicographic.{slice_cmp};
 ghost use Rattle.std.specs.FinMap as finite;
@@ -7,15 +7,14 @@ ghost use Rattle.group_history.specs.Rows.{Rows};
 ghost use Rattle.group_history.specs.Spelling.{Contents};
 ghost use Rattle.group_history.specs.declared.mutators.Stop.TheVariants.{NoMemory};
 ghost use Rattle.map_chunks.specs.Places.{Grows, AreAll, places_of};
-ghost use Rattle.map_chunks.specs.Seeking.{stands_in};
+ghost use Rattle.map_chunks.specs.Seeking.{is_in};
 ghost use Rattle.map_chunks.specs.Shown.{shown, IsTree, rows_or};
 
 use super::{Body, OwnChild, OwnNode};
-use group_history::{Json, Stop};
+use group_history::{Json, SearchKey, Stop};
 use map_chunks::Chunks;
-use map_chunks::looks::Comparison;
 use map_chunks::placed::get_placed;
-use map_chunks::search::{place_of, standing_at, value_at};
+use map_chunks::search::{has_key, place_of, value_at};
 use map_chunks::seeking::seek_placed;
 
 impl OwnNode {
@@ -40,30 +39,24 @@ impl OwnNode {
         }
     }
 
-    /// How the value at a key stands to the one asked for. Stops as the store does alone.
-    pub fn standing<C: Chunks>(
-        &self,
-        chunks: &mut C,
-        key: &str,
-        asked: Option<&Json>,
-    ) -> Result<Comparison, Stop>
+    /// Whether the key is there. Stops as the store does alone.
+    pub fn has<C: Chunks>(&self, chunks: &mut C, key: &str) -> Result<bool, Stop>
         requires places { AreAll (C.places chunks.old) (places_of self.now.pieces) }
         requires tree { IsTree (shown (C.contents chunks.old) self.now.pieces) }
         ensures grown { Grows C.contents C.places chunks.old chunks.new }
-        ensures standing { IfOk result (λ s. s
-            ≡ stands_in (rows_or (shown (C.contents chunks.old) self.now.pieces)) key.now (option_copied asked.entry)) }
+        ensures has { IfOk result (λ b. b ≡ is_in (rows_or (shown (C.contents chunks.old) self.now.pieces)) key.now) }
         ensures stopped { IfErr result C.stops }
     {
         match &self.body {
-            Body::Leaf(values) => Ok(standing_at(self.keys.as_slice(), values, key, asked)),
+            Body::Leaf(_) => Ok(has_key(self.keys.as_slice(), &SearchKey::new(key))),
             Body::Inner(kids) => {
                 let place = place_of(self.keys.as_slice(), key);
                 match &kids[place] {
                     OwnChild::Placed(at) => {
-                        let sought = seek_placed(chunks, *at, key, asked)?;
-                        Ok(sought.standing)
+                        let sought = seek_placed(chunks, *at, key)?;
+                        Ok(sought.is_there)
                     }
-                    OwnChild::Own(node) => node.standing(chunks, key, asked),
+                    OwnChild::Own(node) => node.has(chunks, key),
                 }
             }
         }

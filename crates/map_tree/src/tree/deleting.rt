@@ -56,8 +56,8 @@ impl Tree {
         ensures err { OnErr result (self.new ≡ self.old) }
         ensures stopped { IfErr result (λ s. (s ≡ NoMemory) ⊎ C.stops s) }
     {
-        let sought = self.sought(chunks, key, None)?;
-        if sought.standing.is_there() {
+        let sought = self.sought(chunks, key)?;
+        if sought.is_there {
             return self.remove(alloc, chunks, key, sought.depth);
         }
         Ok(())

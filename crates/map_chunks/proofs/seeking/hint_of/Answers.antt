@@ -1,27 +1,25 @@
 use Rattle.std.proofs.Common.{◌≡◌, ◌<◌, length, Some, subst, sym, ap, ◌∙◌, arith, slice_get, slice_index_or}
-use Rattle.std.specs.Prelude.{option_copied}
 use Rattle.group_history.specs.declared.nodes.Chunk.{Chunk}
 use Rattle.group_history.specs.declared.refs.Ref.{Ref}
 use Rattle.group_history.specs.Rows.{Rows, paired, keys_of, values_of}
 use Rattle.group_history.proofs.Pairs.{paired-parts}
 use Rattle.map_chunks.specs.Search.{IsPlace}
-use Rattle.map_chunks.specs.Seeking.{stands_in}
+use Rattle.map_chunks.specs.Seeking.{is_in}
 use Rattle.map_chunks.specs.Inside.Seeking.{IsHint}
-use Rattle.map_chunks.specs.declared.looks.Hint.TheVariants.{Stands, On}
+use Rattle.map_chunks.specs.declared.looks.Hint.TheVariants.{Known, On}
 use Rattle.map_chunks.proofs.SearchLemmas.{got, length-values_of, length-keys_of}
 use Rattle.map_chunks.proofs.seeking.hint_of.Goals as goal
 
 pub returns-in-Leaf : goal.returns-in-Leaf
 returns-in-Leaf c =
     let key = c.args.key.now in
-    let asked = option_copied c.args.asked in
     let rows : Rows = c.in-Leaf.leaf in
     let keys : c.as_slice.result.now ≡ keys_of rows = c.as_slice.ensures.keys ∙ c.deref.ensures ∙ c.keys.ensures.keys in
-    let values : c.values.result.now ≡ values_of rows = c.values.ensures in
-    subst (λ (ch : Chunk Ref). IsHint ch key asked (Stands c.standing_for-standing.result)) (sym c.in-Leaf.is)
-    (c.standing_for-standing.ensures ∙ ap (λ w. stands_in (paired w c.values.result.now) key asked) keys
-    ∙ ap (λ w. stands_in (paired (keys_of rows) w) key asked) values ∙ ap (λ w. stands_in w key asked)
-    (paired-parts rows))
+    let same : length (values_of rows) ≡ length c.as_slice.result.now = omega
+    (arith, length-keys_of rows, length-values_of rows, ap length keys) in
+    subst (λ (ch : Chunk Ref). IsHint ch key (Known c.has_key.result)) (sym c.in-Leaf.is)
+    (c.has_key.ensures (values_of rows) same ∙ ap (λ w. is_in (paired w (values_of rows)) key) keys
+    ∙ ap (λ w. is_in w key) (paired-parts rows))
 
 pub returns-else-is_empty : goal.returns-else-is_empty
 returns-else-is_empty c =
@@ -35,7 +33,7 @@ returns-else-is_empty c =
     let p : IsPlace key (keys_of kids) place = subst (λ w. IsPlace key w place) keys c.place_for-place.ensures in
     let l : place < length c.children-children.result.now = omega
     (arith, p.0, length-keys_of kids, length-values_of kids, ap length children) in
-    subst (λ (ch : Chunk Ref). IsHint ch key (option_copied c.args.asked) (On at)) (sym c.in-Inner.is) (
+    subst (λ (ch : Chunk Ref). IsHint ch key (On at)) (sym c.in-Inner.is) (
       place,
       p,
       subst (λ w. slice_get w place ≡ Some at) children

@@ -1,5 +1,5 @@
 //! Queries of a trail.
-ghost use Rattle.std.specs.Prelude.{◌≡◌, ◌==◌, ◌⊎◌, Some, IfOk, IfErr, length, option_copied};
+ghost use Rattle.std.specs.Prelude.{◌≡◌, ◌==◌, ◌⊎◌, Some, IfOk, IfErr, length};
 ghost use Rattle.std.specs.Ordering.{nat_cmp};
 ghost use Rattle.std.specs.Cmp.Lexicographic.{slice_cmp};
 ghost use Rattle.std.specs.FinMap as finite;
@@ -7,7 +7,7 @@ ghost use Rattle.group_history.specs.Rows.{Rows};
 ghost use Rattle.group_history.specs.Spelling.{Contents};
 ghost use Rattle.group_history.specs.declared.mutators.Stop.TheVariants.{NoMemory};
 ghost use Rattle.map_chunks.specs.Places.{Grows, AreAll, places_of};
-ghost use Rattle.map_chunks.specs.Seeking.{stands_in};
+ghost use Rattle.map_chunks.specs.Seeking.{is_in};
 ghost use Rattle.map_chunks.specs.Shown.{shown, IsTree, rows_or};
 ghost use Rattle.map_nodes.specs.Inside.Spots.{IsSpot};
 ghost use Rattle.map_nodes.specs.Trails.{trail_seen, IsTrail};
@@ -15,9 +15,8 @@ ghost use Rattle.map_nodes.specs.Trails.{trail_seen, IsTrail};
 use super::{End, Step, Trail};
 use group_history::{Json, Ref, SearchKey, Stop};
 use map_chunks::Chunks;
-use map_chunks::looks::Comparison;
 use map_chunks::placed::get_placed;
-use map_chunks::search::{place_for, standing_at, value_at};
+use map_chunks::search::{has_key, place_for, value_at};
 use map_chunks::seeking::seek_placed;
 
 // The placed chunk where the way to a key leaves the trail, if it does.
@@ -52,26 +51,21 @@ impl Trail {
         }
     }
 
-    /// How the value at a key stands to the one asked for. Stops as the store does alone.
-    pub fn standing<C: Chunks>(
-        &self,
-        chunks: &mut C,
-        key: &str,
-        asked: Option<&Json>,
-    ) -> Result<Comparison, Stop>
+    /// Whether the key is there. Stops as the store does alone.
+    pub fn has<C: Chunks>(&self, chunks: &mut C, key: &str) -> Result<bool, Stop>
         requires places { AreAll (C.places chunks.old) (places_of self.now.pieces) }
         requires tree { IsTree (shown (C.contents chunks.old) self.now.pieces) }
         ensures grown { Grows C.contents C.places chunks.old chunks.new }
-        ensures standing { IfOk result (λ s. s
-            ≡ stands_in (rows_or (shown (C.contents chunks.old) self.now.pieces)) key.now (option_copied asked.entry)) }
+        ensures has { IfOk result (λ b. b ≡ is_in (rows_or (shown (C.contents chunks.old) self.now.pieces)) key.now) }
         ensures stopped { IfErr result C.stops }
     {
-        match spot(&self.steps, &self.end, &SearchKey::new(key)) {
+        let searched = SearchKey::new(key);
+        match spot(&self.steps, &self.end, &searched) {
             Some(at) => {
-                let sought = seek_placed(chunks, at, key, asked)?;
-                Ok(sought.standing)
+                let sought = seek_placed(chunks, at, key)?;
+                Ok(sought.is_there)
             }
-            None => Ok(standing_at(self.end.keys.as_slice(), &self.end.values, key, asked)),
+            None => Ok(has_key(self.end.keys.as_slice(), &searched)),
         }
     }
 

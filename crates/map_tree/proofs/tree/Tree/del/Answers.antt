@@ -1,13 +1,11 @@
-use Rattle.std.proofs.Common.{◌∙◌, ap, sym, Some, None, arith}
+use Rattle.std.proofs.Common.{◌∙◌, ap, sym, Some, arith}
 use Rattle.std.specs.FinMap as finite
 use Rattle.map_tree.specs.Trees.{tree_map}
-use Rattle.map_chunks.specs.Writes.{is_there}
 use Rattle.map_chunks.proofs.AnswerLemmas.{on_ok}
 use Rattle.map_chunks.proofs.JoinLemmas.{some_is}
 use Rattle.map_tree.proofs.DeleteLemmas.{not_there}
 use Rattle.map_nodes.proofs.RemoveLemmas.{removed_same}
 use Rattle.map_tree.proofs.RootCounts.{root_depth_kept, wide_root_grown}
-use Rattle.map_tree.proofs.SeekLemmas.{there_is}
 use Rattle.map_chunks.proofs.Shelves.{some_of}
 use Rattle.map_tree.proofs.WriteLemmas.{kept_there, root_kept}
 use Rattle.map_chunks.proofs.KeptLemmas.{all_on}
@@ -24,18 +22,18 @@ remove-requires-clause-depth g c =
     (g.C.Chunks.contents c.sought.new.chunks) c.args.self.now.root c.in_ok-sought.sought.depth
     c.sought.ensures.grown.0 c.in_ok-sought.ensures.depth
 
-pub returns-then-is_there-clause-ok : goal.returns-then-is_there-clause-ok
-returns-then-is_there-clause-ok g c m h =
+pub returns-then-sought-clause-ok : goal.returns-then-sought-clause-ok
+returns-then-sought-clause-ok g c m h =
     c.remove.ensures.ok m (root_kept (g.C.Chunks.contents c.args.chunks.now)
     (g.C.Chunks.contents c.sought.new.chunks) c.args.self.now.root m c.sought.ensures.grown.0 h)
 
-pub returns-then-is_there-clause-few : goal.returns-then-is_there-clause-few
-returns-then-is_there-clause-few g c d e =
+pub returns-then-sought-clause-few : goal.returns-then-sought-clause-few
+returns-then-sought-clause-few g c d e =
     c.remove.ensures.few d (root_depth_kept (g.C.Chunks.contents c.args.chunks.now)
     (g.C.Chunks.contents c.sought.new.chunks) c.args.self.now.root d c.sought.ensures.grown.0 e)
 
-pub returns-then-is_there-clause-deep : goal.returns-then-is_there-clause-deep
-returns-then-is_there-clause-deep g c d t =
+pub returns-then-sought-clause-deep : goal.returns-then-sought-clause-deep
+returns-then-sought-clause-deep g c d t =
     let e = some_is (sym c.in_ok-sought.ensures.depth ∙ t) in
     on_ok c.remove.result c.remove.ensures.deep (λ n. (n.0, n.1, omega (arith, n.2, e)))
 
@@ -47,8 +45,8 @@ returns-clause-deep g c d t = (
   omega arith,
 )
 
-pub returns-then-is_there-clause-wide : goal.returns-then-is_there-clause-wide
-returns-then-is_there-clause-wide g c w =
+pub returns-then-sought-clause-wide : goal.returns-then-sought-clause-wide
+returns-then-sought-clause-wide g c w =
     let s = some_of (tree_map (g.C.Chunks.contents c.args.chunks.now) c.args.self.now) c.requires.map in
     c.remove.ensures.wide (wide_root_grown (g.C.Chunks.contents c.args.chunks.now)
     (g.C.Chunks.contents c.sought.new.chunks) c.args.self.now.root s.0 c.sought.ensures.grown.0 s.1 w)
@@ -57,9 +55,8 @@ pub returns-clause-ok : goal.returns-clause-ok
 returns-clause-ok g c m h =
     root_kept (g.C.Chunks.contents c.args.chunks.now)
     (g.C.Chunks.contents c.sought.new.chunks) c.args.self.now.root m c.sought.ensures.grown.0 h
-    ∙ ap (λ w. Some w) (sym (removed_same m c.args.key.now (not_there c.is_there.result (finite.get m c.args.key.now)
-    (c.is_there.ensures ∙ ap is_there (c.in_ok-sought.ensures.standing m h) ∙ there_is
-    (finite.get m c.args.key.now) None) c.if-is_there.false)))
+    ∙ ap (λ w. Some w) (sym (removed_same m c.args.key.now (not_there c.in_ok-sought.sought.is_there
+    (finite.get m c.args.key.now) (c.in_ok-sought.ensures.is_there m h) c.if-sought.false)))
 
 pub returns-clause-wide : goal.returns-clause-wide
 returns-clause-wide g c w =
@@ -71,7 +68,7 @@ pub remove-requires-clause-places : goal.remove-requires-clause-places
 remove-requires-clause-places g c = all_on (g.C.Chunks.places c.args.chunks.now)
     (g.C.Chunks.places c.sought.new.chunks) _ c.sought.ensures.grown.1 c.requires.places
 
-pub returns-then-is_there-clause-grown : goal.returns-then-is_there-clause-grown
-returns-then-is_there-clause-grown g c =
+pub returns-then-sought-clause-grown : goal.returns-then-sought-clause-grown
+returns-then-sought-clause-grown g c =
     grows_on g.C.Chunks.contents g.C.Chunks.places _ _ _
     c.sought.ensures.grown c.remove.ensures.grown

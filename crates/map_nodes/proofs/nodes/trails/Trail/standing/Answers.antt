@@ -1,8 +1,0 @@
-use Rattle.std.proofs.Common.{◌∙◌, ap, length, sym}
-use Rattle.map_nodes.proofs.TrailLemmas.{trail_end}
-use Rattle.map_nodes.proofs.nodes.trails.Trail.standing.Goals as goal
-
-pub standing_at-requires-clause-values : goal.standing_at-requires-clause-values
-standing_at-requires-clause-values g c = ap length c.deref-in-None-2.ensures.value
-    ∙ (trail_end c.self.inside.steps.items c.self.inside.end c.self.invariant).1
-    ∙ ap length (sym (c.as_slice.ensures.keys ∙ c.deref-in-None.ensures))
