@@ -5,10 +5,10 @@
 //! it. Each call asks that what the chunk shows is in order, and says what it shows afterwards.
 //!
 //! `OwnRoot` is the root of a map. What is put is a `Change`: what a closure makes of the value at the key, or a value.
-//! It is taken down to the leaf, so an update goes down as often as a put does.
+//! It is taken down to the leaf, so an update goes down once, as a put does.
 //!
-//! From a placed chunk on that is once (`nodes/trails/laying.rt`): each chunk is held while the way goes on below it,
-//! and new ones are made on the way up, only where the value changes. Where the root is placed and no chunk is split,
+//! From a placed chunk on, each chunk is held while the way goes on below it (`nodes/trails/laying.rt`), and new ones
+//! are made on the way up, only where the value changes. Where the root is placed and no chunk is split,
 //! they are a trail (`nodes/trails.rt`): they lie in one list, and a freeze makes a node of each as it is. Contracts see
 //! a trail as the own chunk that it stands for. What is put or removed next makes that chunk of it: a mutator that told
 //! what it will put would spare that. Otherwise they are own chunks (`nodes/growing.rt`).
