@@ -79,38 +79,70 @@ enum giq_number {
     GIQ_YES = 2,
     GIQ_ASKED = 3, /* the change asks for a run of one of the program's own mutators */
 
-    GIQ_NO_MEMORY = -1,              /* free some, and call again */
-    GIQ_MOVED = -2,                  /* others changed the group first, as often as the call tries: call again */
-    GIQ_BUSY = -3,                   /* a slot or a pin was lost to others, as often as it tries: call again */
-    GIQ_GONE = -4,                   /* a slot was given again while it was looked for: call again */
-    GIQ_FULL = -5,                   /* no slot is free: end a pull that confirms mutations, and call again */
-    GIQ_STAMPS = -6,                 /* the group has drawn all its stamps: open a new group */
-    GIQ_STALE = -7,                  /* the group has a later id of this client: giq_refresh, and call again */
-    GIQ_NO_MUTATOR = -8,             /* no mutator has this name */
-    GIQ_REFUSED = -9,                /* the mutator refused, with the code */
-    GIQ_NOT_JSON = -10,              /* the bytes are no JSON text, or one that nests too deep */
-    GIQ_BAD_SHAPE = -11,             /* a field is missing, of a wrong type or out of range */
-    GIQ_NOT_WHOLE = -12,             /* a number is not whole, or does not fit 64 bits */
-    GIQ_OVERTAKEN = -13,             /* another pull was applied since this one began: begin a new one */
-    GIQ_COOKIE_WENT_BACK = -14,      /* the response's cookie is below the group's */
-    GIQ_COOKIE_NOT_NEW = -15,        /* the cookie is as high as the group's, but the response brings something */
-    GIQ_ID_WENT_BACK = -16,          /* the response confirms less of a client than was confirmed */
-    GIQ_STATE_NOT_FOUND = -17,       /* the server does not know the group, which is closed by this: open a new one */
-    GIQ_VERSION_NOT_SUPPORTED = -18, /* the server does not support a version, which the code names */
-    GIQ_NO_SEAT = -19,               /* no call here is refused so */
-    GIQ_CLOSED = -20,                /* the group is closed: read what is pending, and open a new one */
-
+    /* by tools/refusals: header of all */
+    /* memory was refused: free some and call again */
+    GIQ_NO_MEMORY = -1,
+    /* other clients changed the group first, as often as the call tries: call again */
+    GIQ_MOVED = -2,
+    /* a slot or a pin was lost to other clients, as often as the call tries: call again */
+    GIQ_BUSY = -3,
+    /* a slot was given again while it was looked for: call again */
+    GIQ_GONE = -4,
+    /* no slot is free for the change: close readers, end a pull that confirms, or open a larger group */
+    GIQ_FULL = -5,
+    /* the group has too few stamps left: open a new group */
+    GIQ_STAMPS = -6,
+    /* the client's last id is not the one that the group has: refresh it and call again */
+    GIQ_STALE = -7,
+    /* no mutator has this name */
+    GIQ_NO_MUTATOR = -8,
+    /* the mutator refused, with the code */
+    GIQ_REFUSED = -9,
+    /* the bytes are no JSON text, or one that nests too deep */
+    GIQ_NOT_JSON = -10,
+    /* a field is missing, of a wrong type or out of range */
+    GIQ_BAD_SHAPE = -11,
+    /* a number is not whole, or does not fit 64 bits */
+    GIQ_NOT_WHOLE = -12,
+    /* another pull was applied since this one began: begin a new one */
+    GIQ_OVERTAKEN = -13,
+    /* the response's cookie is below the group's: begin a new pull */
+    GIQ_COOKIE_WENT_BACK = -14,
+    /* the cookie is as high as the group's, but the response brings something: begin a new pull */
+    GIQ_COOKIE_NOT_NEW = -15,
+    /* the response confirms less of a client than was confirmed: begin a new pull */
+    GIQ_ID_WENT_BACK = -16,
+    /* the server does not know the client group, which is closed by this: open a new one */
+    GIQ_STATE_NOT_FOUND = -17,
+    /* the server does not support the version of this kind */
+    GIQ_VERSION_NOT_SUPPORTED = -18,
+    /* all seats are out: give one back */
+    GIQ_NO_SEAT = -19,
+    /* the group is closed, since the server does not know it: open a new one */
+    GIQ_CLOSED = -20,
+    /* the bytes are not UTF-8 */
     GIQ_NOT_UTF8 = -101,
+    /* the text is no UUID (RFC 9562) */
     GIQ_BAD_UUID = -102,
-    GIQ_OUT_OF_RANGE = -103, /* a number is none of those that it may be */
-    GIQ_NO_TICKET = -104,    /* the place has no ticket of this number */
-    GIQ_NO_WATCH = -105,     /* the place has no watch of this number */
-    GIQ_BAD_RULES = -106,    /* the rules are faulty */
-    GIQ_IN_USE = -107,       /* a client sits at the place */
-    GIQ_ASKS = -108,         /* a change of the place asks for a run: do it, or give the change up */
-    GIQ_NO_CLIENT = -109,    /* no client sits at the place */
-    GIQ_NO_PLACE = -110,     /* the place is closed */
-    GIQ_NOT_ASKED = -111     /* no change of the place asks for a run */
+    /* a number is none of those that it may be */
+    GIQ_OUT_OF_RANGE = -103,
+    /* the place has no ticket of this number: begin a pull */
+    GIQ_NO_TICKET = -104,
+    /* the place has no watch of this number: begin a watch */
+    GIQ_NO_WATCH = -105,
+    /* the rules are faulty */
+    GIQ_BAD_RULES = -106,
+    /* a client sits at the place: let it leave first */
+    GIQ_IN_USE = -107,
+    /* a change of the place asks for a run of a mutator: do it, or give the change up */
+    GIQ_ASKS = -108,
+    /* no client sits at the place: sit down first */
+    GIQ_NO_CLIENT = -109,
+    /* the place is closed: open a group */
+    GIQ_NO_PLACE = -110,
+    /* no change of the place asks for a run: mutate, or end a pull */
+    GIQ_NOT_ASKED = -111
+    /* tools/refusals: end */
 };
 
 /* Which version a server does not support. */

@@ -60,6 +60,7 @@ Json = Any
 class Why(enum.IntEnum):
     """Why a call was refused; the numbers of `giqaymu.h`, which says what to do about each."""
 
+    # by tools/refusals: python of all
     NO_MEMORY = -1
     MOVED = -2
     BUSY = -3
@@ -91,6 +92,7 @@ class Why(enum.IntEnum):
     NO_CLIENT = -109
     NO_PLACE = -110
     NOT_ASKED = -111
+    # tools/refusals: end
 
 
 class Version(enum.IntEnum):
@@ -114,7 +116,46 @@ class Refusal(Exception):
         self.code = code
 
     def __str__(self) -> str:
-        return f"{self.why.name} {self.code}" if self.code else self.why.name
+        code = Version(self.code).name.lower() if self.why is Why.VERSION_NOT_SUPPORTED else self.code
+        return f"{self.why.name}: {_MESSAGES[self.why]}{f' ({code})' if code else ''}"
+
+
+# What happened, and what the caller can do about it.
+_MESSAGES = {
+    # by tools/refusals: python messages of all
+    Why.NO_MEMORY: "memory was refused: free some and call again",
+    Why.MOVED: "other clients changed the group first, as often as the call tries: call again",
+    Why.BUSY: "a slot or a pin was lost to other clients, as often as the call tries: call again",
+    Why.GONE: "a slot was given again while it was looked for: call again",
+    Why.FULL: "no slot is free for the change: close readers, end a pull that confirms, or open a larger group",
+    Why.STAMPS: "the group has too few stamps left: open a new group",
+    Why.STALE: "the client's last id is not the one that the group has: refresh it and call again",
+    Why.NO_MUTATOR: "no mutator has this name",
+    Why.REFUSED: "the mutator refused, with the code",
+    Why.NOT_JSON: "the bytes are no JSON text, or one that nests too deep",
+    Why.BAD_SHAPE: "a field is missing, of a wrong type or out of range",
+    Why.NOT_WHOLE: "a number is not whole, or does not fit 64 bits",
+    Why.OVERTAKEN: "another pull was applied since this one began: begin a new one",
+    Why.COOKIE_WENT_BACK: "the response's cookie is below the group's: begin a new pull",
+    Why.COOKIE_NOT_NEW: "the cookie is as high as the group's, but the response brings something: begin a new pull",
+    Why.ID_WENT_BACK: "the response confirms less of a client than was confirmed: begin a new pull",
+    Why.STATE_NOT_FOUND: "the server does not know the client group, which is closed by this: open a new one",
+    Why.VERSION_NOT_SUPPORTED: "the server does not support the version of this kind",
+    Why.NO_SEAT: "all seats are out: give one back",
+    Why.CLOSED: "the group is closed, since the server does not know it: open a new one",
+    Why.NOT_UTF8: "the bytes are not UTF-8",
+    Why.BAD_UUID: "the text is no UUID (RFC 9562)",
+    Why.OUT_OF_RANGE: "a number is none of those that it may be",
+    Why.NO_TICKET: "the place has no ticket of this number: begin a pull",
+    Why.NO_WATCH: "the place has no watch of this number: begin a watch",
+    Why.BAD_RULES: "the rules are faulty",
+    Why.IN_USE: "a client sits at the place: let it leave first",
+    Why.ASKS: "a change of the place asks for a run of a mutator: do it, or give the change up",
+    Why.NO_CLIENT: "no client sits at the place: sit down first",
+    Why.NO_PLACE: "the place is closed: open a group",
+    Why.NOT_ASKED: "no change of the place asks for a run: mutate, or end a pull",
+    # tools/refusals: end
+}
 
 
 class Refuse(Exception):

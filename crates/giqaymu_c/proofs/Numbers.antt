@@ -6,7 +6,6 @@ use Rattle.std.proofs.lemmas.Int.{to_z-of_z}
 use lib.Signed.{mag}
 use mir.Val.{hbits, of_z, to_z}
 use Rattle.group_history.specs.declared.refusals.Refusal.{Refusal}
-use Rattle.group_history.specs.declared.refusals.Refusal.TheVariants as refusal
 use Rattle.group_history.specs.Map.{Bytes}
 use Rattle.push_body.specs.declared.identities.Identity.{Identity}
 use Rattle.rebase.specs.declared.config.OutOfRange.{OutOfRange}
@@ -23,7 +22,9 @@ use Rattle.host_places.specs.declared.faults.Fault.TheVariants as fault
 use Rattle.host_places.specs.declared.outcomes.Outcome.{Outcome}
 use Rattle.host_places.specs.declared.outcomes.Outcome.TheVariants as outcome
 use Rattle.host_places.specs.Asking.{◌>>=◌, or_bad_uuid, text_said, uuid_in, uuid_said}
-use Rattle.host_places.specs.Numbers.{fault_number, outcome_number, refusal_number}
+use Rattle.group_history.specs.Refusals.{refusal_number, refusal_place}
+use Rattle.group_history.proofs.Numbered.{refusal_place_low}
+use Rattle.host_places.specs.Numbers.{fault_number, fault_place, outcome_number}
 use Rattle.host_places.specs.declared.opening.Opening.{Opening}
 use Rattle.host_places.specs.Opening.{AreOpened, id_said, identity_said, laid_out, layout_for, layout_said}
 use Rattle.host_places.specs.Places.{PlaceState}
@@ -41,39 +42,26 @@ abbrev pub IsBelow : ℤ → Type 0
 IsBelow z = (k : ℕ) × (z ≡ negsuc k) × (k < 200)
 
 refusal_below : (e : Refusal) → IsBelow (refusal_number e)
-refusal_below refusal.NoMemory = (0, refl, omega arith)
-refusal_below refusal.Moved = (1, refl, omega arith)
-refusal_below refusal.Busy = (2, refl, omega arith)
-refusal_below refusal.Gone = (3, refl, omega arith)
-refusal_below refusal.Full = (4, refl, omega arith)
-refusal_below refusal.Stamps = (5, refl, omega arith)
-refusal_below refusal.Stale = (6, refl, omega arith)
-refusal_below refusal.NoMutator = (7, refl, omega arith)
-refusal_below (refusal.Refused code) = (8, refl, omega arith)
-refusal_below refusal.NotJson = (9, refl, omega arith)
-refusal_below refusal.BadShape = (10, refl, omega arith)
-refusal_below refusal.NotWhole = (11, refl, omega arith)
-refusal_below refusal.Overtaken = (12, refl, omega arith)
-refusal_below refusal.CookieWentBack = (13, refl, omega arith)
-refusal_below refusal.CookieNotNew = (14, refl, omega arith)
-refusal_below refusal.IdWentBack = (15, refl, omega arith)
-refusal_below refusal.StateNotFound = (16, refl, omega arith)
-refusal_below (refusal.VersionNotSupported kind) = (17, refl, omega arith)
-refusal_below refusal.NoSeat = (18, refl, omega arith)
-refusal_below refusal.Closed = (19, refl, omega arith)
+refusal_below e = (refusal_place e, refl, omega (arith, refusal_place_low e))
+
+fault_place_low : (e : Fault) → fault_place e < 200
+-- by tools/refusals: low cases of faults
+fault_place_low fault.NotUtf8 = omega arith
+fault_place_low fault.BadUuid = omega arith
+fault_place_low fault.OutOfRange = omega arith
+fault_place_low fault.NoTicket = omega arith
+fault_place_low fault.NoWatch = omega arith
+fault_place_low fault.BadRules = omega arith
+fault_place_low fault.InUse = omega arith
+fault_place_low fault.Asks = omega arith
+fault_place_low fault.NoClient = omega arith
+fault_place_low fault.NoPlace = omega arith
+fault_place_low fault.NotAsked = omega arith
+
+-- tools/refusals: end
 
 fault_below : (e : Fault) → IsBelow (fault_number e)
-fault_below fault.NotUtf8 = (100, refl, omega arith)
-fault_below fault.BadUuid = (101, refl, omega arith)
-fault_below fault.OutOfRange = (102, refl, omega arith)
-fault_below fault.NoTicket = (103, refl, omega arith)
-fault_below fault.NoWatch = (104, refl, omega arith)
-fault_below fault.BadRules = (105, refl, omega arith)
-fault_below fault.InUse = (106, refl, omega arith)
-fault_below fault.Asks = (107, refl, omega arith)
-fault_below fault.NoClient = (108, refl, omega arith)
-fault_below fault.NoPlace = (109, refl, omega arith)
-fault_below fault.NotAsked = (110, refl, omega arith)
+fault_below e = (fault_place e, refl, fault_place_low e)
 
 pub no_below : (e : Outcome) → IsNo e → IsBelow (outcome_number e)
 no_below (outcome.Refused e) is = refusal_below e

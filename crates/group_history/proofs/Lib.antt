@@ -11,3 +11,4 @@ pub mod Folding
 pub mod Spellings
 mod InPlace
 pub mod Fronts
+pub mod Numbered

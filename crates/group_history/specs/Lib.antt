@@ -2,11 +2,12 @@
 -- Read Map, Meaning, State, Mutating, Pulling and Record in this order; Json, Cookies, Pull, Scans and Queries where
 -- these cite them. Laws and Examples hold them against what one expects. Ids: pending ids follow the confirmed one.
 -- Then nodes: Refs, Rows, Naming, Folds, Spelling (what chunks and commits spell). The rest are words of contracts:
--- Answers, Ran, Updating, Stops, Orders, TextMap.
+-- Answers, Ran, Updating, Stops, Orders, TextMap, Refusals.
 pub mod Map
 pub mod Meaning
 pub mod Json
 pub mod Cookies
+pub mod Refusals
 pub mod Pull
 pub mod State
 pub mod Scans

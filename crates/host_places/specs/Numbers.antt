@@ -5,6 +5,7 @@ use Rattle.group_history.specs.declared.refusals.Refusal.TheVariants as refusal
 use Rattle.group_history.specs.declared.responses.VersionKind.{VersionKind}
 use Rattle.group_history.specs.declared.responses.VersionKind.TheVariants as kind
 use Rattle.group_history.specs.Map.{Bytes}
+use Rattle.group_history.specs.Refusals.{refusal_number}
 use Rattle.group_history.specs.Meaning.{Meanings}
 use Rattle.host_places.specs.declared.asked.Asked.{Asked}
 use Rattle.host_places.specs.declared.asked.Asked.TheVariants as asked
@@ -51,29 +52,7 @@ MayAnswerNumbers asks means what m n a b before t after =
     ((x : Asked) × IsCall x what m n a b × MayAnswer asks means x before t after)
     ⊎ ((24 < what) × Tells (outcome.Faulty fault.OutOfRange) before t after)
 
--- a refusal's number; a mutator's code and the kind of a version are told beside it
-abbrev pub refusal_number : Refusal → ℤ
-refusal_number refusal.NoMemory = negsuc 0
-refusal_number refusal.Moved = negsuc 1
-refusal_number refusal.Busy = negsuc 2
-refusal_number refusal.Gone = negsuc 3
-refusal_number refusal.Full = negsuc 4
-refusal_number refusal.Stamps = negsuc 5
-refusal_number refusal.Stale = negsuc 6
-refusal_number refusal.NoMutator = negsuc 7
-refusal_number (refusal.Refused code) = negsuc 8
-refusal_number refusal.NotJson = negsuc 9
-refusal_number refusal.BadShape = negsuc 10
-refusal_number refusal.NotWhole = negsuc 11
-refusal_number refusal.Overtaken = negsuc 12
-refusal_number refusal.CookieWentBack = negsuc 13
-refusal_number refusal.CookieNotNew = negsuc 14
-refusal_number refusal.IdWentBack = negsuc 15
-refusal_number refusal.StateNotFound = negsuc 16
-refusal_number (refusal.VersionNotSupported kind) = negsuc 17
-refusal_number refusal.NoSeat = negsuc 18
-refusal_number refusal.Closed = negsuc 19
-
+-- The number of a refusal is the group's; a mutator's code and the kind of a version are told beside it.
 abbrev pub kind_number : VersionKind → ℕ
 kind_number kind.Push = 1
 kind_number kind.Pull = 2
@@ -85,18 +64,25 @@ refusal_code (refusal.Refused code) = code
 refusal_code (refusal.VersionNotSupported kind) = kind_number kind
 refusal_code e = 0
 
+-- how many numbers below -1 that of a fault is
+abbrev pub fault_place : Fault → ℕ
+-- by tools/refusals: place cases of faults
+fault_place fault.NotUtf8 = 100
+fault_place fault.BadUuid = 101
+fault_place fault.OutOfRange = 102
+fault_place fault.NoTicket = 103
+fault_place fault.NoWatch = 104
+fault_place fault.BadRules = 105
+fault_place fault.InUse = 106
+fault_place fault.Asks = 107
+fault_place fault.NoClient = 108
+fault_place fault.NoPlace = 109
+fault_place fault.NotAsked = 110
+
+-- tools/refusals: end
+
 abbrev pub fault_number : Fault → ℤ
-fault_number fault.NotUtf8 = negsuc 100
-fault_number fault.BadUuid = negsuc 101
-fault_number fault.OutOfRange = negsuc 102
-fault_number fault.NoTicket = negsuc 103
-fault_number fault.NoWatch = negsuc 104
-fault_number fault.BadRules = negsuc 105
-fault_number fault.InUse = negsuc 106
-fault_number fault.Asks = negsuc 107
-fault_number fault.NoClient = negsuc 108
-fault_number fault.NoPlace = negsuc 109
-fault_number fault.NotAsked = negsuc 110
+fault_number e = negsuc (fault_place e)
 
 abbrev pub is_number : Bool → ℤ
 is_number true = pos 2

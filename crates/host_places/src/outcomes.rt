@@ -1,7 +1,6 @@
 //! What a call came to.
 ghost use Rattle.std.specs.Prelude.{◌≡◌};
 ghost use Rattle.host_places.specs.Numbers.{kind_number, outcome_code, outcome_number, outcome_value, refusal_code};
-ghost use Rattle.host_places.specs.Numbers.{refusal_number};
 ghost use Rattle.host_places.specs.Told.{ended_told, id_told, tells, told_alone};
 
 use crate::faults::Fault;
@@ -35,7 +34,7 @@ impl Outcome {
             Outcome::Nothing => 1,
             Outcome::Is(true) => 2,
             Outcome::Asked => 3,
-            Outcome::Refused(refusal) => refusal_number(refusal),
+            Outcome::Refused(refusal) => refusal.number(),
             Outcome::Faulty(fault) => fault.number(),
         }
     }
@@ -80,33 +79,6 @@ pub(crate) fn id_outcome(reply: Result<u64, Refusal>) -> Outcome
     match reply {
         Ok(id) => Outcome::Number(id),
         Err(refusal) => Outcome::Refused(refusal),
-    }
-}
-
-fn refusal_number(refusal: Refusal) -> i32
-    ensures { result ≡ refusal_number refusal }
-{
-    match refusal {
-        Refusal::NoMemory => -1,
-        Refusal::Moved => -2,
-        Refusal::Busy => -3,
-        Refusal::Gone => -4,
-        Refusal::Full => -5,
-        Refusal::Stamps => -6,
-        Refusal::Stale => -7,
-        Refusal::NoMutator => -8,
-        Refusal::Refused(_) => -9,
-        Refusal::NotJson => -10,
-        Refusal::BadShape => -11,
-        Refusal::NotWhole => -12,
-        Refusal::Overtaken => -13,
-        Refusal::CookieWentBack => -14,
-        Refusal::CookieNotNew => -15,
-        Refusal::IdWentBack => -16,
-        Refusal::StateNotFound => -17,
-        Refusal::VersionNotSupported(_) => -18,
-        Refusal::NoSeat => -19,
-        Refusal::Closed => -20,
     }
 }
 

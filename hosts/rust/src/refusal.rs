@@ -31,6 +31,7 @@ impl Version {
 #[derive(Clone, Copy, Debug, PartialEq, Eq, Hash)]
 #[non_exhaustive]
 pub enum Refusal {
+    // by tools/refusals: variants of all
     /// Memory was refused.
     NoMemory,
     /// Other clients changed the group first, as often as the call tries.
@@ -41,13 +42,13 @@ pub enum Refusal {
     Gone,
     /// No slot is free for the change.
     Full,
-    /// The group has drawn all its stamps.
+    /// The group has too few stamps left.
     Stamps,
     /// The client's last id is not the one that the group has.
     Stale,
-    /// No mutator has the name.
+    /// No mutator has this name.
     NoMutator,
-    /// The mutator refused, with this code.
+    /// The mutator refused, with the code.
     Refused(u32),
     /// The bytes are no JSON text, or one that nests too deep.
     NotJson,
@@ -59,33 +60,33 @@ pub enum Refusal {
     Overtaken,
     /// The response's cookie is below the group's.
     CookieWentBack,
-    /// The response's cookie is as high as the group's, but the response brings something.
+    /// The cookie is as high as the group's, but the response brings something.
     CookieNotNew,
     /// The response confirms less of a client than was confirmed.
     IdWentBack,
-    /// The server does not know the group, which is closed by this.
+    /// The server does not know the client group, which is closed by this.
     StateNotFound,
-    /// The server does not support this version.
+    /// The server does not support the version of this kind.
     VersionNotSupported(Version),
-    /// No call here is refused so.
+    /// All seats are out.
     NoSeat,
-    /// The group was closed before.
+    /// The group is closed, since the server does not know it.
     Closed,
     /// The bytes are not UTF-8.
     NotUtf8,
-    /// The text is no UUID.
+    /// The text is no UUID (RFC 9562).
     BadUuid,
     /// A number is none of those that it may be.
     OutOfRange,
-    /// The place has no such ticket.
+    /// The place has no ticket of this number.
     NoTicket,
-    /// The place has no such watch.
+    /// The place has no watch of this number.
     NoWatch,
     /// The rules are faulty.
     BadRules,
     /// A client sits at the place.
     InUse,
-    /// A change asks for a run of one of the program's own mutators.
+    /// A change of the place asks for a run of a mutator.
     Asks,
     /// No client sits at the place.
     NoClient,
@@ -93,6 +94,7 @@ pub enum Refusal {
     NoPlace,
     /// No change of the place asks for a run.
     NotAsked,
+    // tools/refusals: end
     /// What this crate doesn't know: the library is a later one.
     Unknown(i32),
 }
@@ -101,6 +103,7 @@ impl Refusal {
     /// The refusal of this number, an `enum giq_number` of `giqaymu.h`, with this code.
     pub fn of(number: i32, code: u32) -> Refusal {
         match number {
+            // by tools/refusals: by number of all
             -1 => Refusal::NoMemory,
             -2 => Refusal::Moved,
             -3 => Refusal::Busy,
@@ -132,46 +135,69 @@ impl Refusal {
             -109 => Refusal::NoClient,
             -110 => Refusal::NoPlace,
             -111 => Refusal::NotAsked,
+            // tools/refusals: end
             other => Refusal::Unknown(other),
         }
     }
 
     fn message(self) -> &'static str {
         match self {
+            // by tools/refusals: messages of all
             Refusal::NoMemory => "memory was refused: free some and call again",
-            Refusal::Moved => "other clients changed the group first, as often as the call tries: call again",
-            Refusal::Busy => "a slot or a pin was lost to other clients, as often as the call tries: call again",
+            Refusal::Moved => {
+                "other clients changed the group first, as often as the call tries: call again"
+            }
+            Refusal::Busy => {
+                "a slot or a pin was lost to other clients, as often as the call tries: call again"
+            }
             Refusal::Gone => "a slot was given again while it was looked for: call again",
-            Refusal::Full => "no slot is free: end a pull that confirms mutations, or open a group with more slots",
-            Refusal::Stamps => "the group has drawn all its stamps: open a new group",
-            Refusal::Stale => "the client's last id is not the group's: refresh it and call again",
+            Refusal::Full => {
+                "no slot is free for the change: close readers, end a pull that confirms, or open a larger group"
+            }
+            Refusal::Stamps => "the group has too few stamps left: open a new group",
+            Refusal::Stale => {
+                "the client's last id is not the one that the group has: refresh it and call again"
+            }
             Refusal::NoMutator => "no mutator has this name",
-            Refusal::Refused(_) => "the mutator refused with code",
+            Refusal::Refused(_) => "the mutator refused, with the code",
             Refusal::NotJson => "the bytes are no JSON text, or one that nests too deep",
             Refusal::BadShape => "a field is missing, of a wrong type or out of range",
             Refusal::NotWhole => "a number is not whole, or does not fit 64 bits",
             Refusal::Overtaken => "another pull was applied since this one began: begin a new one",
-            Refusal::CookieWentBack => "the response's cookie is lower than the group's",
-            Refusal::CookieNotNew => {
-                "the response's cookie is as high as the group's, but the response brings something"
+            Refusal::CookieWentBack => {
+                "the response's cookie is below the group's: begin a new pull"
             }
-            Refusal::IdWentBack => "the response confirms less of a client than was confirmed",
-            Refusal::StateNotFound => "the server does not know the client group: open a new one",
-            Refusal::VersionNotSupported(_) => "the server does not support this version:",
-            Refusal::NoSeat => "all seats are out",
-            Refusal::Closed => "the group is closed, since the server does not know it: open a new one",
+            Refusal::CookieNotNew => {
+                "the cookie is as high as the group's, but the response brings something: begin a new pull"
+            }
+            Refusal::IdWentBack => {
+                "the response confirms less of a client than was confirmed: begin a new pull"
+            }
+            Refusal::StateNotFound => {
+                "the server does not know the client group, which is closed by this: open a new one"
+            }
+            Refusal::VersionNotSupported(_) => {
+                "the server does not support the version of this kind"
+            }
+            Refusal::NoSeat => "all seats are out: give one back",
+            Refusal::Closed => {
+                "the group is closed, since the server does not know it: open a new one"
+            }
             Refusal::NotUtf8 => "the bytes are not UTF-8",
-            Refusal::BadUuid => "the text is no UUID",
+            Refusal::BadUuid => "the text is no UUID (RFC 9562)",
             Refusal::OutOfRange => "a number is none of those that it may be",
-            Refusal::NoTicket => "the place has no such ticket",
-            Refusal::NoWatch => "the place has no such watch",
+            Refusal::NoTicket => "the place has no ticket of this number: begin a pull",
+            Refusal::NoWatch => "the place has no watch of this number: begin a watch",
             Refusal::BadRules => "the rules are faulty",
-            Refusal::InUse => "a client sits at the place",
-            Refusal::Asks => "the change asks for a run of a mutator of the program's own",
-            Refusal::NoClient => "no client sits at the place",
-            Refusal::NoPlace => "the place is closed",
-            Refusal::NotAsked => "no change of the place asks for a run",
-            Refusal::Unknown(_) => "the library answered an unknown number:",
+            Refusal::InUse => "a client sits at the place: let it leave first",
+            Refusal::Asks => {
+                "a change of the place asks for a run of a mutator: do it, or give the change up"
+            }
+            Refusal::NoClient => "no client sits at the place: sit down first",
+            Refusal::NoPlace => "the place is closed: open a group",
+            Refusal::NotAsked => "no change of the place asks for a run: mutate, or end a pull",
+            // tools/refusals: end
+            Refusal::Unknown(_) => "the library answered an unknown number",
         }
     }
 }
@@ -180,9 +206,9 @@ impl fmt::Display for Refusal {
     fn fmt(&self, f: &mut fmt::Formatter<'_>) -> fmt::Result {
         f.write_str(self.message())?;
         match self {
-            Refusal::Refused(code) => write!(f, " {code}"),
-            Refusal::VersionNotSupported(version) => write!(f, " {version:?}"),
-            Refusal::Unknown(number) => write!(f, " {number}"),
+            Refusal::Refused(code) => write!(f, " ({code})"),
+            Refusal::VersionNotSupported(version) => write!(f, " ({version:?})"),
+            Refusal::Unknown(number) => write!(f, " ({number})"),
             _ => Ok(()),
         }
     }
