@@ -79,10 +79,24 @@ class TryEdits(unittest.TestCase):
         self.assertIn("FAILED toy/means_the_same: NOT REFUSED", said)
         self.assertEqual(status, 1)
 
-    def test_an_edit_that_breaks_another_function_fails_and_the_others_of_its_round_are_judged(self):
+    def test_an_edit_that_breaks_another_function_alone_fails(self):
         promises_less = "old: ensures same { result ≡ x }\nnew: ensures same { result ≡ result }\n# refused: returns\n"
-        status, said = self.tried(promises_less=promises_less, takes_the_less=f"{LESS}# refused: {self.goal}\n")
-        self.assertIn("FAILED toy/promises_less: toy::handed_on_twice: refused, and no edit of the round changes it", said)
+        status, said = self.tried(promises_less=promises_less)
+        self.assertIn("FAILED toy/promises_less: NOT REFUSED", said)
+        self.assertEqual(status, 1)
+
+    def test_where_the_crate_itself_is_not_proved_no_edit_passes(self):
+        (self.crate / "src/lib.rt").write_text(CRATE.replace("    x\n", "    x / 2\n"), encoding="utf-8")
+        try:
+            status, said = self.tried(halves="old: handed_on(x)\nnew: handed_on(x) / 2\n# refused: returns\n")
+        finally:
+            (self.crate / "src/lib.rt").write_text(CRATE, encoding="utf-8")
+        self.assertIn("FAILED toy/halves: toy::handed_on: refused, and no edit of the round changes it", said)
+        self.assertEqual(status, 1)
+
+    def test_a_wrong_body_passes_also_where_another_edit_of_its_round_does_not(self):
+        means_the_same = "old: handed_on(x)\nnew: handed_on(x + 0)\n# refused: returns\n"
+        status, said = self.tried(means_the_same=means_the_same, takes_the_less=f"{LESS}# refused: {self.goal}\n")
         self.assertIn(f"toy/takes_the_less: refused for {self.goal}", said)
         self.assertEqual(said.splitlines()[-1], "1 passed, 1 failed")
         self.assertEqual(status, 1)
