@@ -1,4 +1,5 @@
-/* Mutators of the program's own: each step of a run, a rebase, others that are first, and changes that are given up. */
+/* Mutators of the program's own: each step of a run, a rebase, others that are first, changes that are given up, and the
+ * numbers of tickets. */
 #include "giqaymu.h"
 
 #include <stdio.h>
@@ -169,12 +170,26 @@ static void rebase(giq_place *anna, giq_place *bert) {
     TELLS("[[\"" BERT "\",1,\"m\"],[\"" ANNA "\",3,\"n\"],[\"" BERT "\",2,\"k\"]]");
 }
 
+/* Tickets have numbers from 0 on; the number of one that was given up is given again. */
+static void tickets(giq_place *place) {
+    IS(giq_begin_pull(place, &answer), GIQ_OK);
+    NUMBERS(0);
+    IS(giq_begin_pull(place, &answer), GIQ_OK);
+    NUMBERS(1);
+    IS(giq_forget_ticket(place, 0, &answer), GIQ_OK);
+    IS(giq_begin_pull(place, &answer), GIQ_OK);
+    NUMBERS(0);
+    IS(giq_begin_pull(place, &answer), GIQ_OK);
+    NUMBERS(2);
+}
+
 int main(void) {
     giq_place places[2];
     open_group(places);
     steps(&places[0]);
     no_changes(&places[0]);
     rebase(&places[0], &places[1]);
+    tickets(&places[1]);
     IS(mutate(&places[1], "mark", "1"), GIQ_ASKED);
     giq_close(&places[1]);
     IS(giq_ran(&places[1], GIQ_RAN, 0, &answer), GIQ_NO_PLACE);

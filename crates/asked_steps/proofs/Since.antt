@@ -1,5 +1,5 @@
 -- What the tries of a call come to, since it began.
-use Rattle.std.proofs.Common.{◌≡◌, inr, ℕ, ◌+◌, ◌<◌, ◌≤◌, ◌-◌, max, Bool, true, false, List, Option, Some, None, Result, Ok, Err, filter, length}
+use Rattle.std.proofs.Common.{◌≡◌, inr, ℕ, ◌+◌, ◌≤◌, ◌-◌, Bool, true, false, List, Option, Some, None, Result, Ok, Err, filter, length}
 use Rattle.std.proofs.Common.{refl, sym, ap, subst, ◌∙◌, arith}
 use Rattle.std.specs.Prelude.{IfOk, IfErr}
 use mathlib.Core.List.{IsPrefix}
@@ -20,7 +20,7 @@ use Rattle.head_word.specs.Books.{drawn, last_move, next_stamp, record_of}
 use Rattle.head_word.specs.Marks.{Known, others, own_of}
 use Rattle.reader_claims.specs.Machine.{Moves}
 use Rattle.chunk_slots.specs.Seats.{IsIdle}
-use Rattle.commit_graph.specs.Seats.{GroupId, HasLooked, IsSameSeat, Seated}
+use Rattle.commit_graph.specs.Seats.{HasLooked, IsSameSeat, Seated}
 use Rattle.commit_graph.proofs.Seating.{seat-trans}
 use Rattle.answered.specs.Answered.{IsLinearized, is_move, is_resource_refusal, own_moves}
 use Rattle.answered.specs.Trying.{IsBase}
@@ -44,7 +44,7 @@ use Rattle.asked_steps.specs.declared.runs.Step.{Step}
 use Rattle.asked_steps.specs.declared.trying.Attempt.{Attempt}
 use Rattle.asked_steps.specs.declared.trying.Turn.{Turn}
 use Rattle.asked_steps.specs.declared.trying.Turn.TheVariants as turn
-use Rattle.asked_steps.specs.Tries.{IsArrivedSince, IsEnded, IsFound, IsGoing, IsProgress, IsSince, IsTurn, TellsTurn, turn_of}
+use Rattle.asked_steps.specs.Tries.{IsArrivedSince, IsEnded, IsFound, IsSince, IsTurn, TellsTurn, turn_of}
 use Rattle.asked_steps.specs.declared.trying.Progress.{Progress}
 use Rattle.asked_steps.specs.declared.trying.Progress.TheVariants as progress
 
@@ -89,18 +89,6 @@ refused_since means reused tries before old new lost last c e i looked moves bus
       (λ stamps. cc (sym busy.0 ∙ stamps)) (λ is. busy.1);
   frees = λ r. gives_gives before.table.sizes.slots before.view old.view new.view (i.gave r)
       (gives_kept before.table.sizes.slots old.view new.view (moves r) (looked.calm r).1);
-}
-
--- a call whose tries were all lost ends
-pub moved_since : (means : Meanings) (reused : Type 0) (tries : ℕ) (before new : Seated) (lost last : ℕ) (c : Change)
-    → IsSince reused before lost new → max 1 tries ≤ lost
-    → IsEnded means reused tries before new last c (Err refusal.Moved)
-moved_since means reused tries before new lost last c i many = record {
-  answer = wanting means tries before.mark new.mark refusal.Moved (change_asked c) (λ s. asked_reply means s last c) refl
-      refl (i.own, λ moved. omega (arith, i.others, many));
-  cause = cause_other means reused last c before new refusal.Moved (λ full. cc full) (λ stamps. cc stamps)
-      (λ busy. absurd (cc busy));
-  frees = i.gave;
 }
 
 -- THE END OF A TRY
@@ -198,14 +186,6 @@ turn_ended means reused old done new base s last c (Ok tried.Lost) mark idle is 
 turn_ended means reused old done new base s last c (Err e) mark idle is = (idle, tt)
 
 -- THE TRIES OF A CALL
-
--- a try that goes on is one that the call may make
-pub going_progress : (means : Meanings) (reused : Type 0) (group : GroupId) (new : Seated) (lost tries last : ℕ) (c : Change)
-    {M : Type 0} (p : Progress M) → lost < max 1 tries → IsGoing means reused group new lost last c (Some p)
-    → IsProgress means reused group new tries last c p
-going_progress means reused group new lost tries last c (progress.Run a) low is =
-    (is.0, subst (λ (n : ℕ). n < max 1 tries) (sym is.1) low, is.2)
-going_progress means reused group new lost tries last c (progress.Ended made) low is = is
 
 -- WHAT IS ASKED FOR
 

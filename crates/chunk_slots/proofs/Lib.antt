@@ -1,5 +1,4 @@
 mod Claiming
 pub mod Begins
 mod Pinning
-mod Numbering
 mod Opened

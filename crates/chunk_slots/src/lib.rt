@@ -12,8 +12,7 @@
 //! slot has 72 bytes: a word, and in place a stamp and the node. `place` is Busy where, as often as it tries, somebody
 //! reads or writes in the slot. `Append` never uses a slot again: a vector that only grows, whose slot number is the
 //! number of the push. A push may wait. `take_slot` answers slot 0, which means nothing, and the clauses on claims are
-//! empty (`reused` is false). `Gated` asks a gate before and after each call of another store but `open` and `show`,
-//! for tests of schedules; its clauses are those of the store in it.
+//! empty (`reused` is false).
 //!
 //! Only `open` takes memory, and `place` in a vector. Calls that always return stand in `Slots`, the other three in
 //! `Store`.
@@ -37,7 +36,6 @@ mod arena;
 mod arena_seat;
 mod counted;
 mod dealt;
-mod gated;
 mod missed;
 mod opening;
 mod placed;
@@ -47,7 +45,6 @@ mod store;
 pub use append::{Append, NoClaims};
 pub use arena::Arena;
 pub use arena_seat::ArenaSeat;
-pub use gated::{Gated, GatedSeat, Steps, StoreCall};
 pub use missed::{Busy, StoreStop};
 pub use placed::Placed;
 pub use shown::Shown;

@@ -49,7 +49,7 @@ pub use reaching::dropped;
 pub use seats::{Seat, Shared};
 pub use shelves::LentCommit;
 pub use states::{
-    CommitState, LastId, base_at, base_of, closed_of, cookie_of, last_id_of, last_id_since,
-    read_root, state_of, top_of, walk,
+    CommitState, LastId, base_at, base_of, closed_of, cookie_of, last_id_since, read_root,
+    state_of, top_of, walk,
 };
 pub use stores::{HeldChunk, HeldCommit, StoreNodes};

@@ -230,22 +230,8 @@ fn found_at(before: Option<LastId>, at: Ref) -> Option<u64>
 }
 
 /// A client's last id, where the ids follow: that of its newest commit, or else what the snapshot has confirmed, 0 for
-/// a client that is in neither. The walk ends there. Stops where the nodes stop.
-pub fn last_id_of<N: Nodes>(nodes: &mut N, head: Ref, client: &Text) -> Result<u64, Stop>
-    requires head { IsSome (version_at (N.contents nodes.old) (stamp_of head)) }
-    requires place { N.places nodes.old head }
-    requires ids { (v : Version) → version_at (N.contents nodes.old) (stamp_of head) ≡ Some v
-        → IdsFollow v.state.confirmed v.state.pending }
-    ensures grown { Grows N.contents N.places nodes.old nodes.new }
-    ensures id { (v : Version) → version_at (N.contents nodes.old) (stamp_of head) ≡ Some v
-        → IfOk result (λ id. id ≡ last_id v.state client.now) }
-    ensures stopped { IfErr result N.stops }
-{
-    last_id_since(nodes, head, client, None)
-}
-
-/// The same, for a client whose last id was found at a commit before. Where the walk meets that commit, it
-/// ends there.
+/// a client that is in neither. The walk ends there, and where it meets the commit at which the id was found before.
+/// Stops where the nodes stop.
 pub fn last_id_since<N: Nodes>(
     nodes: &mut N,
     head: Ref,

@@ -9,7 +9,7 @@
 
 pub use commit_graph::{
     Base, CommitState, LastId, Nodes, Seat, Shared, ShowsCommit, StoreNodes, Top, VecNodes,
-    base_of, closed_of, cookie_of, dropped, last_id_of, state_of, top_of, walk,
+    base_of, closed_of, cookie_of, dropped, last_id_since, state_of, top_of, walk,
 };
 pub use group_history::CommitChange::{Closed, Local};
 pub use group_history::{Commit, CommitChange, CommitKind, Ref, Snapshot, Successor};

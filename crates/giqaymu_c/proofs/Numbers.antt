@@ -1,5 +1,5 @@
 -- Numbers of refusals.
-use Rattle.std.proofs.Common.{◌≡◌, ◌<◌, ◌^◌, inl, inr, ℕ, zero, suc, List, length, Bool, true, false}
+use Rattle.std.proofs.Common.{◌≡◌, ◌<◌, ◌^◌, inl, inr, ℕ, zero, suc, Bool, true, false}
 use Rattle.std.proofs.Common.{[], ◌∷◌, Option, Some, None, Result, Ok, Err, refl, sym, ◌∙◌, subst, arith, w32}
 use Rattle.std.specs.Prelude.{⊤, ℤ, pos, negsuc, if◌then◌else◌}
 use Rattle.std.proofs.lemmas.Int.{to_z-of_z}
@@ -25,9 +25,7 @@ use Rattle.host_places.specs.Asking.{◌>>=◌, or_bad_uuid, text_said, uuid_in,
 use Rattle.group_history.specs.Refusals.{refusal_number, refusal_place}
 use Rattle.group_history.proofs.Numbered.{refusal_place_low}
 use Rattle.host_places.specs.Numbers.{fault_number, fault_place, outcome_number}
-use Rattle.host_places.specs.declared.opening.Opening.{Opening}
-use Rattle.host_places.specs.Opening.{AreOpened, id_said, identity_said, laid_out, layout_for, layout_said}
-use Rattle.host_places.specs.Places.{PlaceState}
+use Rattle.host_places.specs.Opening.{id_said, identity_said, laid_out, layout_said}
 use Rattle.giqaymu_c.specs.declared.jobs.Grounds.{Grounds}
 use Rattle.giqaymu_c.specs.Jobs.{IsMutatorsRefusal, IsOpeningRefusal, IsOpeningWant, or_bad_rules, rules_given}
 
@@ -147,14 +145,6 @@ layout_fine id profile schema slots seats =
           → Fine (HasSeats seats) (laid_out o i slots seats)
       laid None fits i = (refl, some_seat slots seats fits)
       laid (Some e) fits i = tt
-
--- a group that was opened has a place
-pub some_place : (w : Opening) (layout : Layout) (places : List PlaceState) → layout_for w ≡ Ok layout
-    → AreOpened layout places → 0 < length places
-some_place w layout places said opened =
-    let has : HasSeats w.places layout = subst (Fine (HasSeats w.places)) said
-    (layout_fine w.id.now w.profile.now w.schema.now w.slots w.places) in
-    omega (arith, opened.count)
 
 rules_fine : (text : Bytes) → Said (rules_given text)
 rules_fine [] = tt

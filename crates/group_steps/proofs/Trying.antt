@@ -11,7 +11,6 @@ use Rattle.group_history.specs.declared.refs.Ref.{Ref}
 use Rattle.group_history.specs.declared.refusals.Refusal.{Refusal}
 use Rattle.group_history.specs.declared.refusals.Refusal.TheVariants as refusal
 use Rattle.group_history.specs.Ids.{IdsFollow}
-use Rattle.group_history.specs.Map.{Bytes}
 use Rattle.group_history.specs.Meaning.{Meanings, meaning_of}
 use Rattle.group_history.specs.Mutating.{by_meaning, open_reply}
 use Rattle.group_history.specs.Record.{after, after_change}
@@ -22,14 +21,13 @@ use Rattle.group_history.proofs.Lists.{prefix_trans}
 use Rattle.head_word.specs.declared.entry.Entry.{Entry}
 use Rattle.head_word.specs.Books.{drawn, record_of}
 use Rattle.head_word.specs.Marks.{Known, others}
-use Rattle.commit_graph.specs.LastIds.{last_at}
 use Rattle.commit_graph.specs.declared.states.LastId.{LastId}
 use Rattle.answered.specs.Answered.{IsLinearized, IsPoint, IsRefused, is_mute, own_moves}
 use Rattle.answered.proofs.Losing.{lost_to_others, point_since}
 use Rattle.group_steps.specs.Missing.{IsStop, map_ok}
 use Rattle.group_steps.specs.Arriving.{IsArrived}
 use Rattle.group_steps.specs.Changing.{AnswersTry, EndsTry}
-use Rattle.group_steps.specs.Proposing.{AsksNext, HasLast, IsUnmade, MayAsk, asked_reply, change_asked}
+use Rattle.group_steps.specs.Proposing.{HasLast, IsUnmade, MayAsk, asked_reply, change_asked}
 use Rattle.group_steps.specs.declared.changing.Tried.{Tried}
 use Rattle.group_steps.specs.declared.changing.Tried.TheVariants as tried
 use Rattle.group_steps.proofs.Finding.{last_grown}
@@ -44,14 +42,6 @@ may_ask_grown old new before (Mutated x) more asks =
     (last_grown old new (stamp_of before.at) x.client before.id more asks.0, asks.1, asks.2)
 may_ask_grown old new before (Pulled t r) more asks = tt
 may_ask_grown old new before Closed more asks = tt
-
--- it asks for its next change
-pub may_ask_next : (cs : Contents) (before : LastId) (client : Bytes) (c : Change)
-    → last_at cs (stamp_of before.at) client ≡ Some before.id → AsksNext client before.id c → MayAsk cs before c
-may_ask_next cs before client (Mutated x) at next =
-    (subst (λ (w : Bytes). last_at cs (stamp_of before.at) w ≡ Some before.id) (sym next.0) at, next.1, next.2)
-may_ask_next cs before client (Pulled t r) at next = tt
-may_ask_next cs before client Closed at next = tt
 
 -- WHERE IT STANDS
 

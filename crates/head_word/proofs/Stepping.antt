@@ -1,6 +1,6 @@
 -- Each step on a word keeps the rule.
 use Rattle.std.proofs.Common.{◌≡◌, ◌≢◌, ℕ, zero, suc, ◌+◌, ◌≤◌, ◌<◌, ◌==◌, Bool, true, false, List, [], ◌∷◌, ◌++◌}
-use Rattle.std.proofs.Common.{length, slice_index_or, Some, None, Option, replicate, refl, ap, sym, ◌∙◌, subst, arith}
+use Rattle.std.proofs.Common.{length, slice_index_or, Some, None, Option, refl, ap, sym, ◌∙◌, subst, arith}
 use Rattle.std.proofs.Common.{lit≤, inl, inr, length-append}
 use Rattle.std.specs.Prelude.{option_and_then}
 use Rattle.std.specs.FinMap as finite
@@ -31,7 +31,7 @@ use Rattle.head_word.specs.declared.entry.Answer.{Answer}
 use Rattle.head_word.specs.declared.entry.Entry.{Entry}
 use Rattle.head_word.specs.declared.entry.Entry.TheVariants as v
 use Rattle.head_word.specs.Books.{drafted_contents, drawn, next_stamp, last_move, nowhere, record_of, AreOrdered}
-use Rattle.head_word.specs.Books.{IsBook, drafted, moved, empty_leaf, opening, StartsOpened, IsOpened, IsBefore}
+use Rattle.head_word.specs.Books.{IsBook, drafted, moved, opening, StartsOpened, IsOpened, IsBefore}
 use Rattle.head_word.specs.Books.{AreAfter, IsChangeFrom}
 use Rattle.head_word.specs.Tallies.{key_of, count}
 use Rattle.head_word.specs.Rules.{head_says, drafts_say, FitsOpened, Fits, IsKept}
@@ -242,11 +242,6 @@ pub after_from : (v log : List Entry) (contents : List (Node Child)) → IsPrefi
     → AreAfter (next_stamp v) 0 contents → AreAfter (next_stamp log) 0 contents
 after_from v log contents pre h = after_more (next_stamp v) (next_stamp log) 0 contents
     (omega (arith, sym (ap next_stamp pre.1) ∙ next_more v pre.0)) h
-
--- empty leaves have no children, so they stand after every book
-pub leaves_after : (n place count : ℕ) → AreAfter n place (replicate count empty_leaf)
-leaves_after n place zero = tt
-leaves_after n place (suc count) = ((λ k d lt. absurd (omega (arith, lt))), leaves_after n (suc place) count)
 
 draft_goes : (means : Meanings) (v log : List Entry) (by : Option ℕ) (contents : List (Node Child)) (old h d : ℕ)
     → IsPrefix v log → AreAfter (next_stamp v) 0 contents → FitsOpened means h d log

@@ -18,14 +18,6 @@ pub struct Wanted<'a> {
     pub nodes: &'a [Node<Ref>],
 }
 
-/// A draft to be added, of so many empty leaves.
-#[derive(Drop)]
-pub struct Leaves {
-    pub by: Option<u64>,
-    pub first: u64,
-    pub count: u64,
-}
-
 /// A move to be added.
 #[derive(Drop)]
 pub struct Proposed<'a> {
@@ -51,15 +43,6 @@ impl<'a> Plain<Wanted<'a>, Entry, Answer> for Asks {
     ghost use Rattle.head_word.specs.Books.{drafted, drafted_from};
 
     ghost ask = { λ w. drafted w.by w.first (drafted_from w.from w.nodes.now) };
-
-    ghost state = { λ w. None };
-}
-
-impl Plain<Leaves, Entry, Answer> for Asks {
-    ghost use Rattle.std.specs.Prelude.{None, replicate};
-    ghost use Rattle.head_word.specs.Books.{drafted, empty_leaf};
-
-    ghost ask = { λ w. drafted w.by w.first (replicate w.count empty_leaf) };
 
     ghost state = { λ w. None };
 }

@@ -23,8 +23,7 @@
 //!
 //! Decisions. A head names what its mutators mean by a type parameter, since whether a record is legal depends on it;
 //! nothing here runs a mutator. A tally counts all entries of a seat together, since `own` lists them. `draft` is told
-//! where the draft's own numbers begin, so a node may name a child by its place in the same draft. `skip` draws stamps
-//! that nobody uses: tests come near the last stamp by it.
+//! where the draft's own numbers begin, so a node may name a child by its place in the same draft.
 //!
 //! Not proved: that an exchange is ever won.
 #![tactic(auto)]
@@ -37,7 +36,6 @@ mod laws;
 mod lost;
 mod mark;
 mod opening;
-mod skip;
 mod steps;
 mod tally;
 

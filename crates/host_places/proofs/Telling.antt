@@ -1,5 +1,5 @@
 -- What a call of a place may tell.
-use Rattle.std.proofs.Common.{◌≡◌, ◌⊎◌, ◌+◌, inl, inr, ℕ, [], ◌++◌, Option, Some, None, Result, Ok, Err, refl}
+use Rattle.std.proofs.Common.{◌≡◌, ◌⊎◌, ◌+◌, inl, inr, ℕ, [], ◌++◌, Option, Some, Result, Ok, Err, refl}
 use Rattle.std.proofs.Common.{sym, ap, ◌∙◌, subst}
 use Rattle.std.specs.Prelude.{⊤, IfErr, IfOk, OnOk}
 use Rattle.group_history.specs.Meaning.{Meanings}
@@ -21,9 +21,8 @@ use Rattle.rebase.specs.Clients.{Acts, ClientState, Looks, Stays}
 use Rattle.host_places.specs.declared.faults.Fault.{Fault}
 use Rattle.host_places.specs.declared.faults.Fault.TheVariants as fault
 use Rattle.host_places.specs.declared.outcomes.Outcome.{Outcome}
-use Rattle.host_places.specs.declared.outcomes.Outcome.TheVariants.{Done, Faulty}
+use Rattle.host_places.specs.declared.outcomes.Outcome.TheVariants.{Done}
 use Rattle.host_places.specs.Answers.{At, By, ByClient, Ends, Lacks, Mutates, Reads, Refreshes, Rule, tries}
-use Rattle.host_places.specs.Asking.{◌>>=◌, IsSaid}
 use Rattle.host_places.specs.Inside.Reading.{MayRead}
 use Rattle.host_places.specs.Places.{PlaceState, ticket_at, with_client}
 use Rattle.host_places.specs.Told.{Told, dry, ended_told, id_told, tells, told, told_alone}
@@ -33,10 +32,6 @@ pub at_some : {X : Type 0} (o : Option X) (none : Fault) (rule : X → Rule) (x 
     (a : PlaceState) → o ≡ Some x → rule x b t a → At o none rule b t a
 at_some o none rule x b t a is done = subst (λ p. At p none rule b t a) (sym is) done
 
-pub at_none : {X : Type 0} (o : Option X) (none : Fault) (rule : X → Rule) (b : PlaceState) → o ≡ None
-    → At o none rule b (told_alone (Faulty none)) b
-at_none o none rule b is = subst (λ p. At p none rule b (told_alone (Faulty none)) b) (sym is) (refl, refl)
-
 -- by what is said, and where nothing is
 pub by_ok : {X : Type 0} (r : Result X Outcome) (rule : X → Rule) (x : X) (b : PlaceState) (t : Told) (a : PlaceState)
     → r ≡ Ok x → rule x b t a → By r rule b t a
@@ -45,16 +40,6 @@ by_ok r rule x b t a is done = subst (λ p. By p rule b t a) (sym is) done
 pub by_err : {X : Type 0} (r : Result X Outcome) (rule : X → Rule) (e : Outcome) (b : PlaceState) → r ≡ Err e
     → By r rule b (told_alone e) b
 by_err r rule e b is = subst (λ p. By p rule b (told_alone e) b) (sym is) (refl, refl)
-
--- memory was refused before anything was done
-pub lacks_at_once : (b : PlaceState) → Lacks b dry b
-lacks_at_once b = record { told = refl; left = inl refl }
-
--- what was not read is told
-pub unsaid : {X : Type 0} (r : Result X Outcome) (rule : X → Rule) (e : Outcome) (b : PlaceState)
-    → IsSaid {X = X} (Err e) r → Lacks b (told_alone e) b ⊎ By r rule b (told_alone e) b
-unsaid r rule e b (inl lack) = inl (record { told = ap told_alone lack; left = inl refl })
-unsaid r rule e b (inr is) = inr (by_err r rule e b is)
 
 -- what a client tells that read
 pub read_told : {X : Type 0} (tell : X → Told) (right : State → X) (means : Meanings) (b : PlaceState)
@@ -66,23 +51,6 @@ read_told tell right means b client next t is (inl lack) = inl (record {
 })
 read_told tell right means b client next t is (inr read) =
     inr (at_some b.client fault.NoClient (Reads tell right means) client b t (with_client next b) is (next, read, refl))
-
--- the same of a call whose argument was read
-pub said_told : {X : Type 0} (r : Result X Outcome) (rule : X → Rule) (x : X) (b : PlaceState) (t : Told)
-    (a : PlaceState) → r ≡ Ok x → Lacks b t a ⊎ rule x b t a → Lacks b t a ⊎ By r rule b t a
-said_told r rule x b t a is (inl lack) = inl lack
-said_told r rule x b t a is (inr done) = inr (by_ok r rule x b t a is done)
-
--- what was not read of the first part is not read of the whole
-pub said_then : {A B : Type 0} (r : Result A Outcome) (f : A → Result B Outcome) (e : Outcome)
-    → IsSaid {X = A} (Err e) r → IsSaid {X = B} (Err e) (r >>= f)
-said_then r f e (inl lack) = inl lack
-said_then r f e (inr is) = inr (ap (λ q. q >>= f) is)
-
--- what was read of it is what the rest goes on with
-pub went_on : {A B : Type 0} (r : Result A Outcome) (f : A → Result B Outcome) (x : A) (y : Result B Outcome) → r ≡ Ok x
-    → IsSaid y (f x) → IsSaid y (r >>= f)
-went_on r f x y is said = subst (IsSaid y) (sym (ap (λ q. q >>= f) is)) said
 
 -- ---- calls of the client that sits there
 

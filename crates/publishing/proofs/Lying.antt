@@ -1,9 +1,7 @@
 -- Nodes that lie in slots below an end, as the slots were that were taken for them.
 use Rattle.std.proofs.Common.{◌≡◌, ◌<◌, ℕ, zero, suc, List, [], ◌∷◌, ◌++◌, sym, subst, arith}
 use Rattle.std.specs.List.{All}
-use Rattle.std.proofs.lemmas.List.Elements.{All-append}
 use Rattle.group_history.specs.declared.refs.Ref.{Ref}
-use Rattle.group_history.specs.Refs.{slot_of}
 use Rattle.publishing.specs.Placed.{LieBelow}
 use Rattle.publishing.specs.Inside.Stacks.{AreBelow, StayBelow}
 
@@ -13,14 +11,6 @@ all_but_last P (y ∷ xs) x all zero d low = all zero d (omega arith)
 all_but_last P (y ∷ xs) x all (suc k) d low = all_but_last P xs x (λ j e l. all (suc j) e (omega (arith, l))) k d
     (omega (arith, low))
 
-last_one : {A : Type 0} (P : A → Type 0) (xs : List A) (x : A) → All P (xs ++ x ∷ []) → P x
-last_one P [] x all = all zero x (omega arith)
-last_one P (y ∷ xs) x all = last_one P xs x (λ j e l. all (suc j) e (omega (arith, l)))
-
-all_one : {A : Type 0} (P : A → Type 0) (x : A) → P x → All P (x ∷ [])
-all_one P x p zero d low = p
-all_one P x p (suc k) d low = absurd (omega (arith, low))
-
 -- no slot is below any end
 pub none_below : (end : ℕ) (slots : List ℕ) → slots ≡ [] → AreBelow end slots
 none_below end slots none = subst (AreBelow end) (sym none) (λ k d low. absurd (omega (arith, low)))
@@ -28,22 +18,6 @@ none_below end slots none = subst (AreBelow end) (sym none) (λ k d low. absurd 
 -- no node lies beyond any end
 pub none_lie : (end : ℕ) (refs : List Ref) → refs ≡ [] → LieBelow end refs
 none_lie end refs none = subst (LieBelow end) (sym none) (λ k d low. absurd (omega (arith, low)))
-
--- one more was taken
-pub one_below : (end : ℕ) (slots more : List ℕ) (x : ℕ) → more ≡ slots ++ x ∷ [] → x < end → AreBelow end slots
-    → AreBelow end more
-one_below end slots more x is low all = subst (AreBelow end) (sym is)
-    (All-append (λ i. i < end) slots (x ∷ []) all (all_one (λ i. i < end) x low))
-
--- a node was placed in the last slot
-pub stay_placed : (slots left : List ℕ) (refs more : List Ref) (x : ℕ) (at : Ref) → slots ≡ left ++ x ∷ []
-    → more ≡ refs ++ at ∷ [] → slot_of at ≡ x → StayBelow slots refs left more
-stay_placed slots left refs more x at split is lies end below all =
-    let had = subst (AreBelow end) split below in (
-      all_but_last (λ i. i < end) left x had,
-      subst (LieBelow end) (sym is) (All-append (λ r. slot_of r < end) refs (at ∷ []) all
-          (all_one (λ r. slot_of r < end) at (subst (λ i. i < end) (sym lies) (last_one (λ i. i < end) left x had)))),
-    )
 
 -- or the last slot was given back
 pub stay_refused : (slots left : List ℕ) (refs more : List Ref) (x : ℕ) → slots ≡ left ++ x ∷ [] → more ≡ refs

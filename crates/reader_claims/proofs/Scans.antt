@@ -82,9 +82,6 @@ found_by_look v u i w is h = (v, later_self v, refl, is ∙ ap (λ (old : ℕ). 
 pub found_by_take : (v m u : View) (i seen w : ℕ) → m ≡ with_look v i seen → u ≡ with_note m i 0 w → HasFound v i w u
 found_by_take v m u i seen w look is = (m, later_look v m i seen look, ap (λ (y : View). y.taken) look, is)
 
-pub later_found : (v u : View) (i w : ℕ) → HasFound v i w u → Later v u
-later_found v u i w h = later_later v h.0 u h.1 (later_note h.0 u i 0 w h.3)
-
 -- a slot that was found so is given, and then taken
 pub taken_after_give : (v u t x : View) (i w r : ℕ) → HasFound v i w u → t ≡ with_given u i r → (In t.taken i → ⊥)
     → x ≡ with_taken t i → Takes v x i

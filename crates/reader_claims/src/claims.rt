@@ -38,15 +38,14 @@ ghost use Rattle.group_history.specs.Refs.{max_slots, max_seats};
 ghost use Rattle.group_history.specs.declared.refusals.Refusal.TheVariants.{NoMemory};
 ghost use Rattle.reader_claims.specs.declared.words.Pin.TheVariants.{Absent};
 ghost use Rattle.reader_claims.specs.Lists.{In};
-ghost use Rattle.reader_claims.specs.Views.{IsOpen, IsClosed, with_epoch, with_pin, with_raise, with_settled};
-ghost use Rattle.reader_claims.specs.Views.{with_withdrawn};
+ghost use Rattle.reader_claims.specs.Views.{with_epoch, with_pin, with_raise, with_settled, with_withdrawn};
 ghost use Rattle.reader_claims.specs.Words.{epoch_at, pin_at, slot_at, slot_word};
 ghost use Rattle.reader_claims.specs.declared.words.SlotState.TheVariants.{Free, Taken, Live, Retired};
 ghost use Rattle.reader_claims.specs.Machine.{Move, Moves, left_by};
 ghost use Rattle.reader_claims.specs.Seats.{AreSeats, first_reserved, kind_end};
 ghost use Rattle.reader_claims.specs.Counts.{Counts, Found, HasOldest, OnlyLooks, all_slots};
-ghost use Rattle.reader_claims.specs.Passes.{IsPinned, IsUnpinned, passed, IsRetired, IsButRetired, IsGiven};
-ghost use Rattle.reader_claims.specs.Passes.{IsNotGiven, Takes, Looks, FindsNone};
+ghost use Rattle.reader_claims.specs.Passes.{IsPinned, IsUnpinned, IsRetired, IsButRetired, IsGiven, IsNotGiven};
+ghost use Rattle.reader_claims.specs.Passes.{Takes, Looks, FindsNone};
 
 use crate::counts::SlotCounts;
 use crate::plays::Deal;
@@ -204,19 +203,6 @@ impl Claims {
             × (seat.new.view.reached ≤ 2 ^ 60) }
     {
         self.words.raise_epoch(&mut seat.reader, n);
-    }
-
-    /// Whether the epoch is at least r and no pin is below r: then none will be.
-    pub fn quiet(&self, seat: &mut ClaimSeat, r: u64) -> bool
-        requires { seat.old.table ≡ self.now }
-        ensures table { seat.new.table ≡ seat.old.table }
-        ensures moves { Moves seat.old.view seat.new.view }
-        ensures view { seat.new.view ≡ passed seat.old.view seat.new.view }
-        ensures reached { seat.old.view.reached ≤ seat.new.view.reached }
-        ensures yes { result ≡ true → IsOpen seat.new.view r }
-        ensures no { result ≡ false → IsClosed seat.new.view r }
-    {
-        r <= self.words.open_below(&mut seat.reader)
     }
 
     /// Takes a slot that is free, or that is retired and may be given. A reserved one is taken only

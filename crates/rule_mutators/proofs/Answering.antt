@@ -3,7 +3,7 @@ use Rattle.std.proofs.Common.{◌≡◌, sym, ap, subst}
 use Rattle.std.specs.Prelude.{Result}
 use Rattle.rule_mutators.specs.declared.faults.RuleFault.{RuleFault}
 use Rattle.rule_mutators.specs.declared.faults.RuleFault.TheVariants.{NoMemory, NotJson, NotObject, At}
-use Rattle.rule_mutators.specs.Answers.{Refuses, AnswersSeen}
+use Rattle.rule_mutators.specs.Answers.{Refuses}
 use Rattle.rule_mutators.specs.Reading.{◌>>=◌}
 
 pub refuses_on : {A B : Type 0} (e : RuleFault) (x : Result A RuleFault) (f : A → Result B RuleFault) → Refuses e x
@@ -15,7 +15,3 @@ refuses_on (At place what) x f h = ap (λ r. r >>= f) h
 
 pub refuses_by : {A : Type 0} (e : RuleFault) (x y : Result A RuleFault) → y ≡ x → Refuses e x → Refuses e y
 refuses_by e x y same h = subst (λ r. Refuses e r) (sym same) h
-
-pub answers_by : {X Y : Type 0} (view : X → Y) (r : Result X RuleFault) (x y : Result Y RuleFault) → y ≡ x
-    → AnswersSeen view r x → AnswersSeen view r y
-answers_by view r x y same h = subst (λ right. AnswersSeen view r right) (sym same) h

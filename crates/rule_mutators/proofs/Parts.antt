@@ -9,7 +9,7 @@ use Rattle.rule_mutators.specs.declared.faults.RuleFault.TheVariants.{At}
 use Rattle.rule_mutators.specs.declared.faults.Wrong.TheVariants as wrong
 use Rattle.rule_mutators.specs.Reading.{Part, the_one, the_two, choice_said}
 use Rattle.rule_mutators.specs.Reading.{expression_said, steps_said, item_at, ◌>>=◌}
-use Rattle.rule_mutators.specs.Reading.{two_said, field_said, need_said, name_said, code_said}
+use Rattle.rule_mutators.specs.Reading.{field_said, need_said, name_said, code_said}
 use Rattle.rule_mutators.specs.Answers.{Refuses}
 use Rattle.rule_mutators.specs.Inside.Parts.{parts_behind, branches_behind}
 use Rattle.rule_mutators.specs.Rules as rule
@@ -64,13 +64,6 @@ second_refuses e place vs a b x f long first second is h =
     (ap (λ (t : Result (Part × Part) RuleFault). t >>= (λ both. both.0.said >>= f both))
     (the_two-at place vs a b long first second)
     ∙ ap (λ (r : Result rule.Expression RuleFault). r >>= f (part_at place 1 a, part_at place 2 b)) is) h
-
-pub two_said-at : (place : Bytes) (vs : List Value) (a b : Value) → length vs ≡ 3 → a ≡ get_or vs 1 a
-    → b ≡ get_or vs 2 b → two_said place (parts_behind place (items_view vs)) ≡ (expression_said (item_at place 1) (view a)
-    >>= (λ e. expression_said (item_at place 2) (view b) >>= (λ f. Ok (e, f))))
-two_said-at place vs a b long first second =
-    ap (λ (t : Result (Part × Part) RuleFault). t >>= (λ both. both.0.said >>= (λ e. both.1.said >>= (λ f. Ok (e, f)))))
-    (the_two-at place vs a b long first second)
 
 pub field_said-at : (place : Bytes) (vs : List Value) (a b : Value) → length vs ≡ 3 → a ≡ get_or vs 1 a
     → b ≡ get_or vs 2 b → field_said place (parts_behind place (items_view vs)) ≡ (expression_said (item_at place 1) (view a)

@@ -19,7 +19,7 @@ use Rattle.script_parser.specs.Context.{Context, Lines}
 use Rattle.script_parser.specs.Commands.{changed_at, with_line}
 use Rattle.script_parser.specs.Faults.{said_with}
 use Rattle.script_parser.specs.Kept.{IsInRange, bare, new_phase, without_lines}
-use Rattle.script_parser.specs.Reading.{AsksFor, TakesAs, bytes_said_with, with_asked}
+use Rattle.script_parser.specs.Reading.{TakesAs, bytes_said_with, with_asked}
 use Rattle.script_parser.specs.Scripts.{LearnsWithin, client_said, line_said}
 use Rattle.script_parser.specs.Inside.Faults.{Asks}
 use Rattle.script_parser.specs.Inside.Parsing.{context_of}
@@ -161,24 +161,7 @@ bare_settled asked.Nothing c is = is
 bare_settled asked.Phase c is = bare_noted c.phases c refl is
 bare_settled (asked.Command client l) c is = is
 
-clients_noted : (ps : List (List Lines)) (c : Context) → (noted ps c).clients ≡ c.clients
-clients_noted [] c = refl
-clients_noted (p ∷ ps) c = refl
-
--- from the first phase on no client is added
-pub clients_kept : (n : ℕ) (old new : Context) (a : Asked) → IsBeside n old a new → 0 < length old.phases
-    → (settled a new).clients ≡ old.clients
-clients_kept n old new asked.Nothing beside some = beside.1 some
-clients_kept n old new asked.Phase beside some = clients_noted new.phases new ∙ ap (λ c. c.clients) beside
-clients_kept n old new (asked.Command client l) beside some = beside.1
-
 -- REFUSED
-
--- a line that is not taken leaves what was kept
-pub left_if_err : (n : ℕ) (right : Result Context ScriptFault) (old new : Context) (f : LineFault)
-    → Asks n right old new (Err f) → new ≡ old
-left_if_err n right old new (line.Script t) refused = refused.1
-left_if_err n right old new line.NoMemory refused = refused
 
 pub refused_as : (n : ℕ) (right : Result Context ScriptFault) (old new : Context) (f : LineFault)
     → Asks n right old new (Err f) → TakesAs right n old (Err f) new

@@ -1,20 +1,17 @@
 -- What a line is answered, by what it says.
 use Rattle.std.proofs.Common.{◌≡◌, ℕ, ◌<◌, List, [], ◌∷◌, ◌++◌, length, map, refl, sym, ap, subst, ◌∙◌, arith}
 use Rattle.std.proofs.lemmas.List.{length-map}
-use Rattle.std.specs.Prelude.{Some, None, Result, Ok, Err, IfOk, OnOk}
+use Rattle.std.specs.Prelude.{None, Result, Ok, Err, IfOk, OnOk}
 use Rattle.group_history.specs.Map.{Bytes}
-use Rattle.rule_mutators.specs.Reading.{rules_said}
-use Rattle.script_parser.specs.declared.faults.ScriptFault.{ScriptFault}
 use Rattle.script_parser.specs.declared.script.Asked.{Asked}
 use Rattle.script_parser.specs.declared.script.Asked.TheVariants as asked
 use Rattle.script_parser.specs.declared.script.Line.{Line}
 use Rattle.script_parser.specs.Context.{Context, Lines}
-use Rattle.script_parser.specs.Faults.{fault_text}
 use Rattle.script_parser.specs.Kept.{bare, new_phase, without_lines}
 use Rattle.script_parser.specs.Reading.{AsksFor, bytes_said_with}
 use Rattle.script_runner.specs.Phases.{all_sights}
-use Rattle.script_server.specs.Answers.{Answers, AnswersBy, BeginsPhase, Does, GivesRules, Opens, Says, given_before}
-use Rattle.script_server.specs.Answers.{given_in, ok_text, refused_text, rules_given, rules_with}
+use Rattle.script_server.specs.Answers.{Answers, AnswersBy, BeginsPhase, Does, Opens, Says, given_before}
+use Rattle.script_server.specs.Answers.{given_in, ok_text}
 use Rattle.script_server.specs.Standing.{Standing}
 use Rattle.script_server.specs.declared.heads.Head.{Head}
 use Rattle.script_server.specs.declared.heads.Head.TheVariants as head
@@ -23,24 +20,10 @@ use Rattle.script_server.specs.Inside.Stages.{IsPlaced}
 
 -- ---- any line
 
-pub answers_rules : (n : ℕ) (line given : Bytes) (before : Standing) (text : Bytes) (after : Standing)
-    → given_in before line ≡ Some given → GivesRules (rules_with before.rules (rules_said given)) n before text after
-    → Answers n line before text after
-answers_rules n line given before text after is gives =
-    subst (λ o. AnswersBy o n line before text after) (sym is) gives
-
 answers_other : (n : ℕ) (line : Bytes) (before : Standing) (text : Bytes) (after : Standing)
     → given_in before line ≡ None → Says (bytes_said_with before.said n line) n before text after
     → Answers n line before text after
 answers_other n line before text after none says = subst (λ o. AnswersBy o n line before text after) (sym none) says
-
--- a faulty line
-pub answers_fault : (n : ℕ) (line : Bytes) (before : Standing) (text : Bytes) (after : Standing) (f : ScriptFault)
-    → given_in before line ≡ None → bytes_said_with before.said n line ≡ Err f → text ≡ refused_text n (fault_text f)
-    → after ≡ before → Answers n line before text after
-answers_fault n line before text after f none right told left =
-    answers_other n line before text after none
-    (subst (λ r. Says r n before text after) (sym right) (told, left))
 
 -- a line that says something
 pub answers_said : (n : ℕ) (line : Bytes) (before : Standing) (text : Bytes) (after : Standing) (what : Asked)
@@ -52,9 +35,6 @@ answers_said n line before text after what said none right asks does =
     (subst (λ r. Says r n before text after) (sym right) (what, asks, does))
 
 -- ---- before the first phase
-
-pub given_heads : (before : Standing) (line : Bytes) → before.said.phases ≡ [] → given_in before line ≡ rules_given line
-given_heads before line none = ap (λ ps. given_before ps line) none
 
 -- where no phase has begun and none begins, none has
 pub still_heads : (c said : Context) → c.phases ≡ [] → said.phases ≡ c.phases → (without_lines said).phases ≡ []
@@ -141,19 +121,6 @@ begun_by : (n : ℕ) (c said : Context) → c.phases ≡ [] → AsksFor n c aske
 begun_by n c said none asks =
     let one : said.phases ≡ new_phase (length c.clients) ∷ [] = asks ∙ ap (λ ps. ps ++ new_phase (length c.clients) ∷ []) none in
     subst (λ ps. 0 < length (bare (length said.clients) ps)) (sym one) (omega arith)
-
-pub begun_first : (n : ℕ) (line : Bytes) (before mid : Standing) → IsFirstPhase n line before mid
-    → 0 < length mid.said.phases
-begun_first n line before mid first =
-    subst (λ s. 0 < length s.said.phases) (sym first.kept)
-    (begun_by n before.said first.said first.none first.asks)
-
--- and then it is
-pub open_by : (mid after : Standing) → 0 < length mid.said.phases → Opens mid mid.said after → IsOpen after
-open_by mid after begun opens = record {
-  begun = subst (λ c. 0 < length c.phases) (sym opens.said) begun;
-  clients = counted _ after.players mid.said.clients opens.players.named ∙ ap (λ c. length c.clients) (sym opens.said);
-}
 
 -- what the code knows of a line that was answered before the first phase
 pub answers_head : (h : Head) (n : ℕ) (line read : Bytes) (before : Standing) (text : Bytes) (after : Standing)

@@ -3,9 +3,6 @@ use Rattle.std.proofs.Common.{◌≡◌, ℕ, ◌==◌, Bool, true, false, not, 
 use Rattle.std.proofs.Common.{arith}
 use Rattle.std.proofs.Math.Dec.{eqb-suc-zero}
 use Rattle.std.specs.Prelude.{Option, Some, None, IfSome, if◌then◌else◌}
-use Rattle.std.specs.declared.io.buffered.BufReader.{BufReader}
-use Rattle.std.specs.Io.Buffered.{reader_buffer, reader_capacity, reader_inner, reader_remaining}
-use Rattle.std.specs.Io.KnownBytes.{prepend_known}
 use Rattle.std.specs.Io.BufRead.{take_through, drop_through, strip_last, DropsThrough}
 use Rattle.group_history.specs.Map.{Bytes}
 use Rattle.script_server.specs.Lines.{HasTaken}
@@ -47,16 +44,3 @@ read_is (Some (x ∷ xs)) new start read line none is rest first =
 pub was_read : (b : Bool) (old new : Option Bytes) (line : Bytes) → b ≡ true → HasRead old b line new
     → HasTaken old (line ∷ []) new
 was_read b old new line is read = subst (λ there. HasRead old there line new) is read
-
--- ---- an input that is read ahead
-
-prepend_none : (known : Option Bytes) → prepend_known [] known ≡ known
-prepend_none None = refl
-prepend_none (Some xs) = refl
-
--- of what is read ahead, nothing was at first
-pub ahead_none : {T A : Type 0} (known : T → Option Bytes) (r : BufReader T A) (input : T) → reader_inner r ≡ input
-    → reader_buffer r ≡ [] → reader_capacity r ≡ 8192 → reader_remaining known r ≡ known input
-ahead_none known r input inner empty capacity =
-    ap (λ n. if n == 0 then None else prepend_known (reader_buffer r) (known (reader_inner r))) capacity
-    ∙ ap (λ b. prepend_known b (known (reader_inner r))) empty ∙ prepend_none (known (reader_inner r)) ∙ ap known inner

@@ -1,10 +1,9 @@
 -- What tests try: a group without mutators, whose first pull brings a cookie and nothing else.
-use Rattle.std.specs.Prelude.{ℕ, ◌≡◌, List, [], ◌∷◌}
+use Rattle.std.specs.Prelude.{ℕ, List, []}
 use Rattle.std.specs.FinMap as finite
-use Rattle.std.specs.List.{All, Contains}
+use Rattle.std.specs.List.{All}
 use Rattle.group_history.specs.declared.changes.Change.{Change}
 use Rattle.group_history.specs.declared.changes.Change.TheVariants.{Pulled}
-use Rattle.group_history.specs.declared.nodes.Chunk.TheVariants.{Leaf}
 use Rattle.group_history.specs.declared.nodes.CommitKind.TheVariants.{Snapshot}
 use Rattle.group_history.specs.declared.nodes.Node.{Node}
 use Rattle.group_history.specs.declared.nodes.Node.TheVariants as node
@@ -15,9 +14,6 @@ use Rattle.group_history.specs.Record.{after_change}
 use Rattle.group_history.specs.State.{opening}
 use Rattle.head_word.specs.declared.entry.Entry.{Entry}
 use Rattle.group_history.specs.Spelling.{Spells}
-use Rattle.group_history.specs.Naming.{placed_ref}
-use Rattle.group_history.specs.Refs.{stamp_of}
-use Rattle.map_chunks.specs.Drafts.{Drafted}
 use Rattle.chunk_slots.specs.Seats.{IsIdle}
 use Rattle.commit_graph.specs.Seats.{GroupId, Seated, IsSeatOf}
 use Rattle.head_word.specs.Books.{drawn}
@@ -38,16 +34,6 @@ bare_pull cookie = Pulled null_cookie (record { cookie = cookie; changes = []; p
 -- the stamp is a commit of the state after the pull
 abbrev pub SpellsBare : List Entry → ℕ → Cookie → Type 0
 SpellsBare log stamp cookie = Spells no_mutators (drawn log) stamp (after_change opening (bare_pull cookie))
-
--- The draft of such a pull, whose numbers begin behind the opening's stamps: an empty leaf, and the snapshot over it
-abbrev pub bare_draft : Cookie → Ref → Drafted
-bare_draft cookie root = record { first = 2; nodes = node.Chunk (Leaf []) ∷ bare cookie root ∷ [] }
-
--- the snapshot's reference, where the draft was placed at these, is one of them, and a commit of the state after the
--- pull
-abbrev pub PlacesBare : List Entry → List Ref → Cookie → Type 0
-PlacesBare log refs cookie = (at : Ref) → stamp_of at ≡ 3
-    → Contains refs (placed_ref 2 refs at) × SpellsBare log (stamp_of (placed_ref 2 refs at)) cookie
 
 -- seats of this group, which where slots are used again have no pin and no taken slot
 abbrev pub AreFreeSeatsOf : Type 0 → GroupId → List Seated → Type 0

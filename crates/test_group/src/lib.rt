@@ -9,7 +9,7 @@ mod heads;
 mod opening;
 mod stores;
 
-pub use bare::{Nobody, bare_change, bare_snapshot, cookie_of, empty_leaf, first_cookie};
+pub use bare::{Nobody, cookie_of};
 pub use calls::{
     Answer, MutatorCall, Told, answered, call_of, ends, gets, mutates, n_in, number_in, number_of,
     pulls, refreshes,

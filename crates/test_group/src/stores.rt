@@ -150,15 +150,12 @@ fn add_leaf(alloc: Global, draft: &mut Draft) -> Result<(), Refusal>
     Ok(())
 }
 
-// A draft of so many empty leaves, and one more.
-fn leaves(alloc: Global, count: usize) -> Result<Draft, Refusal>
+// A draft of an empty leaf.
+fn leaf_draft(alloc: Global) -> Result<Draft, Refusal>
     ensures first { IfOk result (λ draft. draft.first ≡ 2) }
     ensures some { IfOk result (λ draft. 0 < length draft.nodes) }
 {
     let mut draft = Draft::new(alloc, 2);
-    for _ in 0..count {
-        add_leaf(alloc, &mut draft)?;
-    }
     add_leaf(alloc, &mut draft)?;
     Ok(draft)
 }
@@ -167,23 +164,22 @@ impl<S: Store<Nobody>> Place<'_, S>
 where
     S::Seat: Drop,
 {
-    /// What the seat has seen is a legal book.
-    pub fn legal(&self)
+    // What the seat has seen is a legal book.
+    fn legal(&self)
         ensures { IsOpened no_mutators self.now.seat.mark.log }
     {
         self.seat.mark.legal();
     }
 
-    /// Places so many empty leaves, and one more: where they lie.
-    pub fn puts_leaves(&mut self, alloc: Global, count: usize) -> Result<Vec<Ref>, Refusal> {
-        let draft = leaves(alloc, count)?;
+    fn puts_leaf(&mut self, alloc: Global) -> Result<Vec<Ref>, Refusal> {
+        let draft = leaf_draft(alloc)?;
         self.legal();
         place_draft::<Nobody, S>(self.shared, &mut self.seat, draft, Kind::Ordinary, 3)
     }
 
     /// Places an empty leaf: where it lies.
     pub fn puts(&mut self, alloc: Global) -> Result<Ref, Refusal> {
-        let refs = self.puts_leaves(alloc, 0)?;
+        let refs = self.puts_leaf(alloc)?;
         refs.first().copied().ok_or(Refusal::Gone)
     }
 
@@ -202,11 +198,6 @@ where
     pub fn pins(&mut self) -> bool {
         let shared = self.shared;
         shared.store.pin(&mut self.seat.slots, 100).is_ok()
-    }
-
-    pub fn unpins(&mut self) {
-        let shared = self.shared;
-        shared.store.unpin(&mut self.seat.slots);
     }
 }
 

@@ -1,2 +1,1 @@
 mod PlacedLemmas
-mod Drafts

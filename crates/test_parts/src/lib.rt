@@ -1,5 +1,4 @@
-//! Tests of single parts, with no thread: claims, heads, stores and drafts; texts, maps as trees, commits, what pulls
-//! share, and rules.
+//! Tests of single parts, with no thread: claims, stores, texts, maps as trees, and what pulls share.
 //!
 //! They stand in a crate of their own, since a crate with tests is proved once more for them.
 #![tactic(auto)]

@@ -1,17 +1,8 @@
-//! What no contract says: that calls succeed, how chunks are shaped, and values from outside.
-mod asked_runs;
-mod asking;
-mod calls;
-mod chains;
+//! What no contract says: which slots a store finds, how chunks are shaped, how often nodes are shown, and how texts are
+//! kept and printed.
 mod claims;
-mod drafts;
 mod groups;
-mod heads;
 mod maps;
-mod places;
-mod rules;
-mod scans;
 mod stores;
 mod texts;
 mod trees;
-mod writes;

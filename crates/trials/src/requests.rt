@@ -6,7 +6,8 @@ use group_history::{
     Change, Cookie, Json, Mutation, Ref, Refusal, Reply, Text, read_value, record_laws,
     worked_examples,
 };
-use head_word::Head;
+use head_word::{Head, book_laws};
+use publishing::placing_laws;
 use push_body::{Identity, pull_bytes, push_bytes};
 use reader_claims::Claims;
 use rebase::{Config, OutOfRange};
@@ -178,10 +179,12 @@ fn reply_text(alloc: Global, reply: Reply) -> Result<String, AllocError> {
     }
 }
 
-/// The laws of the record, which are called as any function is.
+/// The laws of the record, of its book and of placed drafts, which are called as any function is.
 pub(crate) fn laws() -> &'static str {
     record_laws();
     worked_examples();
+    book_laws();
+    placing_laws();
     "hold"
 }
 

@@ -43,39 +43,8 @@ fn slots_are_taken_once_and_the_reserve_last(rt: HostRuntime) -> Result<(), Refu
     Ok(())
 }
 
-// Whether S holds a pin of the epoch e that T loads; whether the pins are quiet at e + 1 under it, and without it;
-// whether two raises from e lead to e + 1; and whether the pins are quiet at e + 2.
-fn quiet_under(t: &mut ClaimPlace<'_>, s: &mut ClaimPlace<'_>) -> [bool; 5] {
-    let (claims, t) = (t.claims, &mut t.seat);
-    let e = claims.epoch(t);
-    let held = s.claims.pin(&mut s.seat) == Ok(e);
-    if e >= LAST_EPOCH {
-        return [held, false, false, false, false];
-    }
-    claims.raise(t, e);
-    let under = claims.quiet(t, e + 1);
-    s.claims.unpin(&mut s.seat);
-    let free = claims.quiet(t, e + 1);
-    claims.raise(t, e);
-    let raised = claims.epoch(t) == e + 1;
-    [held, under, free, raised, claims.quiet(t, e + 2)]
-}
-
-fn quiet_in_new(alloc: Global) -> Result<[bool; 5], Refusal> {
-    let (claims, seats) = Claims::new(alloc, 16, 2)?;
-    let mut places = claim_places(alloc, &claims, seats)?;
-    let (t, s) = two_of(places.as_mut_slice())?;
-    Ok(quiet_under(t, s))
-}
-
-#[test]
-fn a_pin_keeps_the_pins_from_being_quiet(rt: HostRuntime) -> Result<(), Refusal> {
-    assert_eq!(rt; quiet_in_new(rt.alloc())?, [true, false, true, true, false]);
-    Ok(())
-}
-
-// A slot that S settled and retired can't be had while T has its pin. It is given first, or by the take itself.
-fn retires_under(s: &mut ClaimPlace<'_>, t: &mut ClaimPlace<'_>, gives: bool) -> bool {
+// A slot that S settled and retired can't be had while T has its pin, and is given once T has none.
+fn retires_under(s: &mut ClaimPlace<'_>, t: &mut ClaimPlace<'_>) -> bool {
     let (claims, s) = (s.claims, &mut s.seat);
     let Some(slot) = claims.take_slot(s, Kind::Ordinary) else {
         return false;
@@ -88,31 +57,12 @@ fn retires_under(s: &mut ClaimPlace<'_>, t: &mut ClaimPlace<'_>, gives: bool) ->
     }
     claims.raise(s, e);
     claims.retire(s, slot, e + 1);
-    let given_early = gives && claims.give(s, slot);
+    let given_early = claims.give(s, slot);
     let taken_early = claims.take_slot(s, Kind::Ordinary);
     t.claims.unpin(&mut t.seat);
-    let given = !gives || claims.give(s, slot);
+    let given = claims.give(s, slot);
     let taken = claims.take_slot(s, Kind::Ordinary);
     !given_early && taken_early.is_none() && given && taken == Some(slot)
-}
-
-// A slot that S withdrew is the one that T takes.
-fn withdraws_for(s: &mut ClaimPlace<'_>, t: &mut ClaimPlace<'_>) -> bool {
-    let Some(slot) = s.claims.take_slot(&mut s.seat, Kind::Ordinary) else {
-        return false;
-    };
-    let none_left = takes(t, Kind::Ordinary).is_none();
-    s.claims.withdraw(&mut s.seat, slot);
-    none_left && takes(t, Kind::Ordinary) == Some(slot)
-}
-
-// Of what becomes of the last ordinary slot.
-#[derive(Clone, Copy)]
-enum Last {
-    Retired,
-    // It is given before it is taken.
-    RetiredAndGiven,
-    Withdrawn,
 }
 
 fn takes_eleven(place: &mut ClaimPlace<'_>) -> bool {
@@ -124,28 +74,16 @@ fn takes_eleven(place: &mut ClaimPlace<'_>) -> bool {
     true
 }
 
-fn is_found_by(s: &mut ClaimPlace<'_>, t: &mut ClaimPlace<'_>, last: Last) -> bool {
-    match last {
-        Last::Retired => retires_under(s, t, false),
-        Last::RetiredAndGiven => retires_under(s, t, true),
-        Last::Withdrawn => withdraws_for(s, t),
-    }
-}
-
-// Whether T, or S, finds the last ordinary slot again as it should. S has taken the other ones of a new table.
-fn is_found(alloc: Global, last: Last) -> Result<bool, Refusal> {
+// Whether the last ordinary slot of a new table waits so. S has taken the other ones.
+fn waits_in_new(alloc: Global) -> Result<bool, Refusal> {
     let (claims, seats) = Claims::new(alloc, 16, 2)?;
     let mut places = claim_places(alloc, &claims, seats)?;
     let (t, s) = two_of(places.as_mut_slice())?;
-    Ok(takes_eleven(s) && is_found_by(s, t, last))
+    Ok(takes_eleven(s) && retires_under(s, t))
 }
 
 #[test]
-fn a_retired_slot_waits_for_the_pin_and_a_withdrawn_one_is_free(
-    rt: HostRuntime,
-) -> Result<(), Refusal> {
-    assert!(rt; is_found(rt.alloc(), Last::Retired)?);
-    assert!(rt; is_found(rt.alloc(), Last::RetiredAndGiven)?);
-    assert!(rt; is_found(rt.alloc(), Last::Withdrawn)?);
+fn a_retired_slot_is_given_once_no_pin_holds_it(rt: HostRuntime) -> Result<(), Refusal> {
+    assert!(rt; waits_in_new(rt.alloc())?);
     Ok(())
 }

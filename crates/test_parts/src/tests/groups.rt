@@ -5,8 +5,7 @@ ghost use Rattle.group_history.specs.Naming.{content_of};
 ghost use Rattle.group_history.specs.Refs.{stamp_of};
 ghost use Rattle.group_history.specs.Spelling.{map_at, version_at};
 
-use super::chains::{at, example};
-use commit_graph::{LentCommit, Nodes, VecNodes, cookie_of, dropped};
+use commit_graph::{CommitState, LentCommit, Nodes, VecNodes, cookie_of, dropped, state_of};
 use group_history::{Json, Mutation, PullOk, Ref, Refusal, Response, Stop, Text};
 use map_tree::{Chunks, Lent, Shelf};
 use pull_patch::read_response;
@@ -127,23 +126,6 @@ fn count_dropped(
     Ok((left.len(), counted.shown))
 }
 
-/// How many nodes are shown until the cookie of the third local commit is known.
-fn looks_for_cookie(alloc: Global) -> Result<u64, Refusal> {
-    let nodes = example(alloc)?;
-    let mut counted = Counted {
-        shelf: nodes.shelf(),
-        shown: 0,
-    };
-    cookie_of(&mut counted, at(6))?;
-    Ok(counted.shown)
-}
-
-#[test]
-fn a_cookie_is_two_looks_away(rt: HostRuntime) -> Result<(), Refusal> {
-    assert_eq!(rt; looks_for_cookie(rt.alloc())?, 2);
-    Ok(())
-}
-
 /// The nodes and the head of a new group.
 fn opened(alloc: Global) -> Result<(VecNodes, Ref), Refusal>
     ensures { IfOk result (λ made. IsSome (version_at (map content_of made.0) (stamp_of made.1))) }
@@ -180,6 +162,60 @@ fn mutation(alloc: Global, id: u64, name: &str, args: &str) -> Result<Mutation, 
     let name = Text::new(alloc, name)?;
     let args = Json::read(alloc, args.as_bytes())?;
     Ok(Mutation::new(&client, id, &name, &args, 0)?)
+}
+
+/// The nodes and the head of a group that pulled one key, with three mutations pending.
+fn with_three(alloc: Global) -> Result<(VecNodes, Ref), Refusal>
+    ensures { IfOk result (λ made. IsSome (version_at (map content_of made.0) (stamp_of made.1))) }
+{
+    let pending = [
+        mutation(alloc, 1, "set", r#"["k01",0]"#)?,
+        mutation(alloc, 2, "set", r#"["k02",0]"#)?,
+        mutation(alloc, 3, "del", r#"["k02"]"#)?,
+    ];
+    with_keys(alloc, &pending, 1)
+}
+
+/// How many nodes are shown until the cookie of the third local commit is known.
+fn looks_for_cookie(alloc: Global) -> Result<u64, Refusal> {
+    let (nodes, head) = with_three(alloc)?;
+    let mut counted = Counted {
+        shelf: nodes.shelf(),
+        shown: 0,
+    };
+    cookie_of(&mut counted, head)?;
+    Ok(counted.shown)
+}
+
+#[test]
+fn a_cookie_is_two_looks_away(rt: HostRuntime) -> Result<(), Refusal> {
+    assert_eq!(rt; looks_for_cookie(rt.alloc())?, 2);
+    Ok(())
+}
+
+/// Whether a state has the cookie 1, how many mutations are pending, what is confirmed of `a`, and whether the group is
+/// closed.
+fn facts(alloc: Global, state: &CommitState) -> Result<(bool, usize, u64, bool), Refusal> {
+    let client = Text::new(alloc, "a")?;
+    Ok((
+        state.cookie.text() == "1",
+        state.pending.len(),
+        state.confirmed.of(&client),
+        state.closed,
+    ))
+}
+
+fn facts_of_three(alloc: Global) -> Result<(bool, usize, u64, bool), Refusal> {
+    let (nodes, head) = with_three(alloc)?;
+    let mut shelf = nodes.shelf();
+    let state = state_of(alloc, &mut shelf, head)?;
+    facts(alloc, &state)
+}
+
+#[test]
+fn a_state_is_told(rt: HostRuntime) -> Result<(), Refusal> {
+    assert_eq!(rt; facts_of_three(rt.alloc())?, (true, 3, 0, false));
+    Ok(())
 }
 
 /// How many nodes a pull that brings nothing new leaves behind in such a group, where the first of the keys is set, and

@@ -70,12 +70,16 @@ const SHOWN_AT_FIRST: [Result<bool, StoreStop>; 6] = [
     Err(StoreStop::Gone),
 ];
 
+fn may_cross<T: Send + Sync>(_value: &T) {}
+
 // Whether a copy of the mark learns what is shown.
 fn learns<S: Store<Nobody>>(place: &Place<'_, S>, at: Ref) -> bool
 where
     S::Seat: Drop,
 {
     let shared = place.shared;
+    may_cross(&shared.head);
+    may_cross(&place.seat.mark);
     let Ok(shown) = shared.store.show(at.slot(), at.stamp(), 100) else {
         return false;
     };

@@ -1,5 +1,5 @@
 //! A gate for two threads: one of them comes to a certain moment, lets the other one go, and waits for it.
-use chunk_slots::{Steps, StoreCall};
+use super::gated::{Steps, StoreCall};
 use std::sync::atomic::AtomicU64;
 use std::sync::atomic::Ordering::SeqCst;
 

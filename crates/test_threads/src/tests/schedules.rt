@@ -3,8 +3,9 @@
 //! A schedule says what is done by whom, on which of two threads, and where the gate holds them. Each act has its
 //! answer.
 
+use super::gated::{Gated, StoreCall};
 use super::gates::{Hold, Moment, Side, Turns, Word};
-use chunk_slots::{Arena, Gated, Store, StoreCall};
+use chunk_slots::{Arena, Store};
 use group_history::{Ended, Refusal};
 use rebase::Client;
 use script_mutators::ScriptMutators;

@@ -1,7 +1,7 @@
 use Rattle.std.proofs.Common.{◌≡◌, subst, sym}
 use Rattle.chunk_slots.specs.Seats.{IsIdle, IsOpening}
-use Rattle.chunk_slots.proofs.Numbering.{all_borne, map_borne}
-use Rattle.chunk_slots.proofs.gated.GatedStore.open.Goals as goal
+use Rattle.test_threads.proofs.Numbering.{all_borne, map_borne}
+use Rattle.test_threads.proofs.tests.gated.GatedStore.open.Goals as goal
 
 pub returns-clause-seats : goal.returns-clause-seats
 returns-clause-seats g c =

@@ -1,7 +1,7 @@
 use Rattle.std.proofs.Common.{sym, ◌∙◌}
 use Rattle.std.specs.Vec.Iter.{into_iter_items}
-use Rattle.chunk_slots.proofs.Numbering.{borne_more, borne_all}
-use Rattle.chunk_slots.proofs.gated.number_all.Goals as goal
+use Rattle.test_threads.proofs.Numbering.{borne_more, borne_all}
+use Rattle.test_threads.proofs.tests.gated.number_all.Goals as goal
 
 pub loop-seat-preserved : goal.loop-seat-preserved
 loop-seat-preserved g c = record {

@@ -10,9 +10,7 @@
 //! All that clauses say of a gated store they say of the store in it, whose ghost members it hands on.
 ghost use Rattle.std.specs.Prelude.{◌≡◌, IfOk, map};
 
-use crate::missed::{Busy, StoreStop};
-use crate::shown::Shown;
-use crate::store::{Slots, Store};
+use chunk_slots::{Busy, Shown, Slots, Store, StoreStop};
 use group_history::{Means, Node, Ref, Refusal};
 use head_word::{Head, Mark};
 use reader_claims::Kind;
