@@ -11,7 +11,8 @@ use Rattle.group_history.specs.Naming.{chunk_children}
 use Rattle.group_history.specs.Rows.{values_of}
 use Rattle.map_chunks.specs.Inside.Depths.{IsFirst}
 use Rattle.map_chunks.specs.Inside.Ends.{only_ref}
-use Rattle.map_chunks.specs.Places.{AreAll, IfAt}
+use Rattle.map_chunks.specs.Places.{AreAll}
+use Rattle.map_chunks.proofs.KeptLemmas.{IfAt}
 use Rattle.map_chunks.specs.Inside.SecondKeys.{IsSecondStep}
 use Rattle.map_chunks.specs.Inside.Seeking.{IsHint}
 use Rattle.map_chunks.specs.declared.looks.Hint.{Hint}

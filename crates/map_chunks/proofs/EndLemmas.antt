@@ -1,5 +1,6 @@
 -- What chunks with one child each end in.
-use Rattle.std.proofs.Common.{◌≡◌, ◌≤◌, ◌<◌, ◌+◌, ℕ, false, [], ◌∷◌, ◌++◌, Option, Some, None, slice_get, append-nil, refl, sym}
+use Rattle.std.proofs.Common.{◌≡◌, ◌≤◌, ◌<◌, ◌+◌, ℕ, false, [], ◌∷◌, ◌++◌, Option, Some, None, slice_get, append-nil}
+use Rattle.std.proofs.Common.{refl, sym}
 use Rattle.std.proofs.Common.{ap, ◌∙◌, subst, inr, arith}
 use Rattle.std.specs.Prelude.{option_map}
 use mathlib.Core.List.{IsPrefix}

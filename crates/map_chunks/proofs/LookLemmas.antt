@@ -1,6 +1,7 @@
 -- What a look at a placed chunk tells of the rows that its stamp spells.
 use Rattle.std.proofs.Common.{◌≡◌, ℕ, Bool, Bor, Result, Ok, IfOk, Option, Some, length, nat_cmp, refl, sym, ap, ◌∙◌}
 use Rattle.std.proofs.Common.{subst, arith}
+use Rattle.std.proofs.lemmas.Result.{IfOk-at_ok}
 use Rattle.std.specs.Prelude.{◌==◌, IsSome, option_map}
 use Rattle.std.specs.Cmp.Lexicographic.{slice_cmp}
 use Rattle.std.specs.FinMap.{find}
@@ -15,7 +16,8 @@ use Rattle.map_chunks.specs.Inside.Ends.{only_ref}
 use Rattle.map_chunks.specs.Inside.SecondKeys.{IsSecondStep}
 use Rattle.map_chunks.specs.Inside.Seeking.{IsHint}
 use Rattle.map_chunks.specs.Inside.Steps.{IsStep}
-use Rattle.map_chunks.specs.Places.{IfAt, IsShown}
+use Rattle.map_chunks.specs.Places.{IsShown}
+use Rattle.map_chunks.proofs.KeptLemmas.{IfAt}
 use Rattle.map_chunks.specs.Seeking.{chunk_depth}
 use Rattle.map_chunks.specs.Shown.{chunk_rows, IsTree, rows_or}
 use Rattle.map_chunks.specs.declared.looks.Descent.{Descent}
@@ -78,7 +80,7 @@ module _ (places : Ref → Type 0) (p q : Contents) (k : ℕ) where
       → IsPrefix p q → Saw (λ c. IfOk told (IsStep c key)) → told ≡ Ok (Below at)
       → Hints q key k (chunk_depth p k) (rows_or (chunk_rows p k)) (On at) × places at
   below_told key told at tree grown (c, shown, is) same =
-      hint_told key (On at) (On at) tree grown (c, shown, by c.now (subst (λ r. IfOk r (IsStep c.now key)) same is)) refl
+      hint_told key (On at) (On at) tree grown (c, shown, by c.now (IfOk-at_ok (IsStep c.now key) same is)) refl
     where
       by : (c : Chunk Ref) → IsStep c key (Below at) → IsHint c key (On at)
       by (Leaf rows) i = i
@@ -89,7 +91,7 @@ module _ (places : Ref → Type 0) (p q : Contents) (k : ℕ) where
       → v ≡ find (slice_cmp nat_cmp) key (rows_or (chunk_rows p k))
   found_told key told v tree grown (c, shown, is) same =
       let s = spelled (strictly tree).0 grown in
-      by s c.now shown (subst (λ r. IfOk r (IsStep c.now key)) same is)
+      by s c.now shown (IfOk-at_ok (IsStep c.now key) same is)
     where
       by : (s : Spelled) (c : Chunk Ref) → IsShown places q k c → IsStep c key (Found v)
           → v ≡ find (slice_cmp nat_cmp) key (rows_or (chunk_rows p k))
@@ -102,7 +104,7 @@ module _ (places : Ref → Type 0) (p q : Contents) (k : ℕ) where
       → LeadsToSecond q k (rows_or (chunk_rows p k)) step × IsSecondAt places step
   second_told told step some grown (c, shown, is) same =
       let s = spelled some grown in
-      let so = subst (λ r. IfOk r (IsSecondStep c.now)) same is in (
+      let so = IfOk-at_ok (IsSecondStep c.now) same is in (
         subst (λ rs. LeadsToSecond q k rs step) s.rows (leads_second q k s.segment c.now step s.is shown.1 so),
         second_at places c.now step shown.0 so,
       )

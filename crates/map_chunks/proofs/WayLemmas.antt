@@ -51,8 +51,8 @@ way q key at below kids i t g place b =
     let child : slice_get (values_of kids) i ≡ Some below =
     got (values_of kids) i below (omega (arith, length-keys_of kids, length-values_of kids, place.0)) ∙ ap
     (λ w. Some w) (sym b) in
-    let l : Hints q key k (Some s.segment.depth) s.segment.rows (On below) = hints q k s.segment (chunked.Inner kids) key
-    (On below) s.is g order (i, place, child) in
+    let l : Hints q key k (Some s.segment.depth) s.segment.rows (On below) = hints q k s.segment (chunked.Inner kids)
+    key (On below) s.is g order (i, place, child) in
     record {
       low = l.0;
       tree = l.1;

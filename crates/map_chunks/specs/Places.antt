@@ -1,5 +1,5 @@
 -- Nodes placed behind others, and the references that name what is placed.
-use Rattle.std.specs.Prelude.{◌≡◌, ◌⊎◌, ◌≤◌, ℕ, List, [], ◌∷◌, ◌++◌, map, Option, Some, None, slice_get}
+use Rattle.std.specs.Prelude.{◌≡◌, ◌⊎◌, ◌≤◌, ℕ, List, [], ◌∷◌, ◌++◌, map, Some, slice_get}
 use mathlib.Core.List.{IsPrefix}
 use Rattle.std.specs.List.{Contains}
 use Rattle.group_history.specs.declared.nodes.Chunk.{Chunk}
@@ -47,11 +47,6 @@ AreAll places ats = (at : Ref) → Contains ats at → places at
 abbrev pub IsShown : (Ref → Type 0) → Contents → ℕ → Chunk Ref → Type 0
 IsShown places contents stamp c = AreAll places (chunk_children c)
     × (slice_get contents stamp ≡ Some (chunk_content c))
-
--- the reference has it, if there is one
-abbrev pub IfAt : (Ref → Type 0) → Option Ref → Type 0
-IfAt places None = Unit {0}
-IfAt places (Some at) = places at
 
 -- The contents grew, and with them the references at which a chunk may be looked for.
 abbrev pub Grows : {S : Type 0} → (S → Contents) → (S → Ref → Type 0) → S → S → Type 0

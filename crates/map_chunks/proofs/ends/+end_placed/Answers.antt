@@ -39,6 +39,7 @@ returns-in-Some-clause-depth g t c d h =
     let q = g.C.Chunks.contents c.look_at.new.chunks in
     let one = (only_told _ p q _ _ _ c.requires.known c.look_at.ensures.grown.0 c.in_ok-look_at.ensures.told
     c.in-Some.is).0.2 in
-    let deep : one.0 + 1 ≡ d = some_is (sym one.2 ∙ depth-later p q (stamp_of c.args.at) d c.look_at.ensures.grown.0 h) in
+    let deep : one.0 + 1 ≡ d = some_is (sym one.2 ∙ depth-later p q (stamp_of c.args.at) d c.look_at.ensures.grown.0 h)
+    in
     if_ok_so c.end_placed.result (c.end_placed.ensures.depth one.0 one.1)
     (λ at. no_deeper (g.C.Chunks.contents c.end_placed.new.chunks) one.0 d at (omega (arith, deep)))
