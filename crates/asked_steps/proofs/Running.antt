@@ -27,7 +27,7 @@ use Rattle.map_tree.specs.Trees.{tree_map}
 use Rattle.answered.specs.Changes.{change_made}
 use Rattle.answered.specs.Trying.{IsUnproposed}
 use Rattle.replays.specs.Chaining.{IsTip}
-use Rattle.replays.specs.Inside.Pending.{with_more}
+use Rattle.replays.specs.Pending.{with_more}
 use Rattle.replays.specs.Inside.Running.{HasRun}
 use Rattle.group_steps.specs.Missing.{IsStop}
 use Rattle.replays.proofs.RunLemmas.{Refuses-is, reply-refused}

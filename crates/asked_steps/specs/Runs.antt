@@ -19,7 +19,7 @@ use Rattle.map_chunks.specs.Places.{with_nodes}
 use Rattle.map_tree.specs.Trees.{tree_map}
 use Rattle.transactions.specs.Maps.{map_or, shown_map}
 use Rattle.replays.specs.Chaining.{IsTip}
-use Rattle.replays.specs.Inside.Pending.{with_more}
+pub use Rattle.replays.specs.Pending.{with_more}
 use Rattle.group_steps.specs.Proposing.{MayPropose}
 use Rattle.asked_steps.specs.declared.runs.AskedRun.{AskedRun}
 use Rattle.asked_steps.specs.declared.runs.Chain.{Chain}

@@ -28,8 +28,7 @@ use Rattle.commit_graph.specs.Chains.{IsBaseOf}
 use Rattle.commit_graph.specs.Inside.Chains.{LiesAt, basis_of, basis_named, added_by, listed, link_of, link_named, top_of}
 use Rattle.commit_graph.specs.Inside.Chains.{snapshot_named, closes_group, closes, id_in, own_id, id_named, IsSnapshot}
 use Rattle.commit_graph.specs.Inside.Chains.{IsSnapshotAt, HasCookie, cookie_in, HasBase, base_in, snapshot_content, IsBase}
-use Rattle.commit_graph.proofs.Spelled.{IsMade, commit-made, version-grown, map-grown}
-use Rattle.commit_graph.proofs.Snapshots.{begins}
+use Rattle.commit_graph.proofs.Spelled.{IsMade, commit-made, content-at, spelled_version, version-grown, map-grown}
 use Rattle.commit_graph.proofs.LastIds.{newest_id}
 
 pub some_version : (ns : Contents) (k : ℕ) → IsSome (version_at ns k) → (v : Version) × (version_at ns k ≡ Some v)
@@ -53,18 +52,23 @@ abbrev pub LiesSo : Contents → ℕ → Ref → CommitKind Ref → Type 0
 LiesSo ns k root kind = slice_get ns k ≡ Some
     (node.Commit (record { root = stamp_of root; kind = renamed_kind stamp_of kind }))
 
+-- what lies where a commit with all below it lay, lay there
+pub lies_was : (ns more : Contents) (k : ℕ) (c : Commit Ref) → IsSome (version_at ns k) → IsPrefix ns more
+    → LiesAt more k c → LiesAt ns k c
+lies_was ns more k c h pre lies =
+    let v = some_version ns k h in
+    let d = content-at ns k _ (spelled_version ns k v.0 v.1).1 in
+    d.1 ∙ (sym (get_stays ns more k d.0 pre d.1) ∙ lies)
+
 -- what is shown where a snapshot lies is one
 snapshot_only : (kind : CommitKind Ref) (s : Snapped) → Snapshot s ≡ renamed_kind stamp_of kind
     → (t : Snapped) × (kind ≡ Snapshot t)
 snapshot_only (Snapshot t) s e = (t, refl)
 snapshot_only (Over o) s e = absurd (cc e)
 
-pub shown_snapshot : (ns more : Contents) (k : ℕ) (c : Commit Ref) → IsSnapshotAt ns k → IsPrefix ns more
-    → LiesAt more k c → IsSnapshot c
-shown_snapshot ns more k c at pre lies =
-    let e : Some (node.Commit (snapshot_content at.1.0 at.1.1))
-    ≡ Some (commit_content c) = sym (get_stays ns more k
-    (node.Commit (snapshot_content at.1.0 at.1.1)) pre at.1.2) ∙ lies in
+pub shown_snapshot : (ns : Contents) (k : ℕ) (c : Commit Ref) → IsSnapshotAt ns k → LiesAt ns k c → IsSnapshot c
+shown_snapshot ns k c at lies =
+    let e : Some (node.Commit (snapshot_content at.1.0 at.1.1)) ≡ Some (commit_content c) = sym at.1.2 ∙ lies in
     let f : snapshot_content at.1.0 at.1.1
     ≡ record { root = stamp_of c.root; kind = renamed_kind stamp_of c.kind } = cc e in
     snapshot_only c.kind at.1.1 (ap (λ (w : Commit ℕ). w.kind) f)
@@ -187,17 +191,11 @@ top_closed ns k (Over o) v made = stepped_closed made.0.state o.step made.4 ∙ 
 
 pub top_found : (first more : Contents) (head : Ref) (c : Commit Ref) (v : Version)
     → version_at first (stamp_of head) ≡ Some v → IsPrefix first more → LiesAt more (stamp_of head) c
-    → IsBase more (stamp_of (top_of head c).snapshot) v.state × IsSnapshotAt more (stamp_of (top_of head c).snapshot)
-    × ((top_of head c).closed ≡ v.state.closed)
-    × (map_at more (stamp_of (top_of head c).root) ≡ Some v.read)
+    → ((top_of head c).closed ≡ v.state.closed) × (map_at more (stamp_of (top_of head c).root) ≡ Some v.read)
     × (snapshot_at more (stamp_of head) ≡ Some (stamp_of (top_of head c).snapshot))
 top_found first more head c v h pre lies =
-    let at = version-grown first more (stamp_of head) v pre h in
-    let m = commit-made more (stamp_of head) _ v lies at in
-    let from : snapshot_at more (stamp_of head)
-    ≡ Some (stamp_of (top_of head c).snapshot) = m.2 ∙ ap Some (sym (top_stamp head c.kind)) in
-    let b = begins more (stamp_of head) v (stamp_of (top_of head c).snapshot) at from in
-    (b.base, b.lies, top_closed more (stamp_of head) c.kind v m.3, m.1, from)
+    let m = commit-made more (stamp_of head) _ v lies (version-grown first more (stamp_of head) v pre h) in
+    (top_closed more (stamp_of head) c.kind v m.3, m.1, m.2 ∙ ap Some (sym (top_stamp head c.kind)))
 
 -- While a client's newest commit is looked for: its last id is that of the commit at hand, where its ids follow.
 abbrev pub IsSearch : Contents → Bytes → ℕ → Option Ref → Type 0

@@ -20,7 +20,8 @@ use Rattle.group_history.specs.Spelling.{Contents, Segment, Spelled, segment, se
 use Rattle.group_history.specs.Spelling.{sized, chunk_in, segment_map, segment_at, map_at}
 use Rattle.group_history.proofs.Folding.{and_then-some}
 use Rattle.group_history.proofs.Lists.{prefix_trans, no_element, first_here, later_here}
-use Rattle.map_chunks.specs.Places.{AreAll, IfAt}
+use Rattle.map_chunks.specs.Places.{AreAll}
+use Rattle.map_chunks.proofs.KeptLemmas.{IfAt}
 use Rattle.commit_graph.specs.Reach.{Reaches, itself, through}
 use Rattle.commit_graph.specs.Inside.Meeting.{or_this, choose, child_for, HasKey, LiesChunk}
 use Rattle.commit_graph.proofs.Spelled.{made_of, spelled_segment, option_map-some, sized-some, below_segment, segment-grown}

@@ -1,5 +1,5 @@
 -- How the stamps that a root reaches are narrowed down, on the way to its newest chunks.
-use Rattle.std.proofs.Common.{◌≡◌, ◌⊎◌, ℕ, ◌<◌, ◌≤◌, inl, inr, List, [], ◌∷◌, ◌++◌, map, Some, None, refl}
+use Rattle.std.proofs.Common.{◌≡◌, ◌⊎◌, ℕ, ◌<◌, ◌≤◌, inl, inr, List, [], ◌∷◌, ◌++◌, map, Option, Some, None, refl}
 use Rattle.std.proofs.Common.{ap, sym, subst, ◌∙◌, arith}
 use Rattle.std.specs.Prelude.{IsSome}
 use Rattle.std.specs.List.{Contains}
@@ -13,6 +13,8 @@ use Rattle.group_history.specs.Refs.{stamp_of}
 use Rattle.group_history.specs.Naming.{children, chunk_children, content_of}
 use Rattle.group_history.specs.Spelling.{Contents, Segment, segment_at, map_at}
 use Rattle.group_history.proofs.Lists.{only_one, one_here, prefix_trans, map_from, map_to}
+use Rattle.map_chunks.specs.Places.{AreAll}
+use Rattle.map_chunks.proofs.KeptLemmas.{IfAt}
 use Rattle.commit_graph.specs.declared.founds.Found.TheVariants as found
 use Rattle.commit_graph.specs.declared.gaps.Tops.{Tops}
 use Rattle.commit_graph.specs.Reach.{Reaches, itself, through}
@@ -24,6 +26,14 @@ use Rattle.commit_graph.proofs.Descending.{map_ordered, reach_low}
 use Rattle.commit_graph.proofs.Reached.{there_segment, reaches_stays, reaches_back, reaches_child, found_stamps, found_refs}
 use Rattle.commit_graph.proofs.Reached.{child_there}
 use Rattle.commit_graph.proofs.Rooted.{chunk_reaches, map_some_stays}
+
+-- the one that is told may be looked for where each may
+pub tops_may : (may : Ref → Type 0) (rs : List Ref) (t : Tops) → AreAll may rs → IsTops rs t → IfAt may t.top
+tops_may may rs t all is = by t.top refl
+  where
+    by : (o : Option Ref) → t.top ≡ o → IfAt may o
+    by None e = tt
+    by (Some r) e = all r (is.one r e)
 
 -- one more: it is the one that is told, or else stands among the others, as the one that was told before does
 pub tops_more : (rs : List Ref) (t u : Tops) (at : Ref) → IsTops rs t → (u.top ≡ Some at) ⊎ (u.top ≡ t.top)

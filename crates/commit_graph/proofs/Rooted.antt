@@ -14,10 +14,12 @@ use Rattle.group_history.specs.declared.refs.Ref.{Ref}
 use Rattle.group_history.specs.Map.{Bytes, Entries}
 use Rattle.group_history.specs.Refs.{stamp_of}
 use Rattle.group_history.specs.Rows.{Rows, keys_of, values_of}
-use Rattle.group_history.specs.Naming.{children, commits_named, renamed_kind}
+use Rattle.group_history.specs.Naming.{children, commits_named}
 use Rattle.group_history.specs.Spelling.{Contents, Segment, Version, segment, chunk_in, segment_at, version_at, map_at}
+use Rattle.group_history.specs.Spelling.{snapshot_at, snapshot_of}
 use Rattle.group_history.proofs.Lists.{no_element, first_here, later_here}
-use Rattle.map_chunks.specs.Places.{AreAll, IfAt}
+use Rattle.map_chunks.specs.Places.{AreAll}
+use Rattle.map_chunks.proofs.KeptLemmas.{IfAt}
 use Rattle.commit_graph.specs.declared.chains.Base.{Base}
 use Rattle.commit_graph.specs.declared.chains.Link.{Link}
 use Rattle.commit_graph.specs.Inside.Chains.{LiesAt, IsShownAt, HasBase, base_in, top_of, snapshot_named, basis_named}
@@ -25,8 +27,7 @@ use Rattle.commit_graph.specs.Inside.Chains.{basis_of, link_named, link_of}
 use Rattle.commit_graph.specs.Reach.{Reaches, itself, through}
 use Rattle.commit_graph.specs.Inside.Meeting.{keys_in, IsFirst, HasKey, LiesChunk}
 use Rattle.commit_graph.proofs.Spelled.{made_of, spelled_segment, option_map-some, sized-some, chunk-at, inner-at, not_both}
-use Rattle.commit_graph.proofs.Spelled.{segment-grown, map-grown}
-use Rattle.commit_graph.proofs.Chained.{LiesSo}
+use Rattle.commit_graph.proofs.Spelled.{segment-grown, map-grown, commit-made, commit-at, content-at, spelled_version}
 use Rattle.commit_graph.proofs.Choosing.{filled, first_part}
 use Rattle.commit_graph.proofs.Descending.{inner_parts, map_ordered}
 use Rattle.commit_graph.proofs.Reached.{there_segment, reaches_stays, reaches_back, reaches_child}
@@ -120,19 +121,22 @@ empty_only ns root k r s (Inner kids) g h lies f = absurd (none kids f lies)
     none (e ∷ es) f lies = cc f
 
 -- a head reaches the snapshot of its chain, and the root that it names
-over_reached : (ns : Contents) (head : Ref) (root : Ref) (kind : CommitKind Ref) → LiesSo ns (stamp_of head) root kind
-    → Reaches ns (stamp_of head) (stamp_of (snapshot_named head kind))
-over_reached ns head root (Snapshot s) lies = itself (stamp_of head)
-over_reached ns head root (Over o) lies =
-    let n : Node ℕ = node.Commit (record { root = stamp_of root; kind = renamed_kind stamp_of (Over o) }) in
-    reaches_child ns (stamp_of head) (stamp_of head) (stamp_of o.snapshot) n (itself (stamp_of head)) lies
-    (later_here (stamp_of root) (stamp_of o.basis ∷ stamp_of o.snapshot ∷ []) (stamp_of o.snapshot)
-    (later_here (stamp_of o.basis) (stamp_of o.snapshot ∷ []) (stamp_of o.snapshot)
-    (first_here (stamp_of o.snapshot) [])))
-
-pub snapshot_reached : (ns : Contents) (head : Ref) (c : Commit Ref) → LiesAt ns (stamp_of head) c
-    → Reaches ns (stamp_of head) (stamp_of (top_of head c).snapshot)
-snapshot_reached ns head c lies = over_reached ns head c.root c.kind lies
+pub snapshot_reached : (ns : Contents) (k : ℕ) (v : Version) (j : ℕ) → version_at ns k ≡ Some v
+    → snapshot_at ns k ≡ Some j → Reaches ns k j
+snapshot_reached ns k v j h s =
+    let d = content-at ns k _ (spelled_version ns k v h).1 in
+    let c = commit-at ns k d.0 v d.1 h in
+    let is : slice_get ns k ≡ Some (node.Commit c.0) = d.1 ∙ ap Some c.1 in
+    let e : Some j ≡ Some (snapshot_of k c.0.kind) = sym s ∙ (commit-made ns k c.0 v is h).2 in
+    let at : j ≡ snapshot_of k c.0.kind = cc e in
+    subst (Reaches ns k) (sym at) (by c.0.root c.0.kind is)
+  where
+    by : (root : ℕ) (kind : CommitKind ℕ) → slice_get ns k ≡ Some (node.Commit (record { root = root; kind = kind }))
+        → Reaches ns k (snapshot_of k kind)
+    by root (Snapshot s) is = itself k
+    by root (Over o) is = reaches_child ns k k o.snapshot _ (itself k) is
+        (later_here root (o.basis ∷ o.snapshot ∷ []) o.snapshot
+        (later_here o.basis (o.snapshot ∷ []) o.snapshot (first_here o.snapshot [])))
 
 pub root_reached : (ns : Contents) (head k : ℕ) (c : Commit Ref) → Reaches ns head k → LiesAt ns k c
     → Reaches ns head (stamp_of c.root)

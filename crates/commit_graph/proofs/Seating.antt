@@ -1,5 +1,5 @@
 -- A seat that stays the same over several steps.
-use Rattle.std.proofs.Common.{◌≡◌, refl, ◌∙◌}
+use Rattle.std.proofs.Common.{refl, ◌∙◌}
 use Rattle.group_history.proofs.Lists.{prefix_self, prefix_trans}
 use Rattle.head_word.specs.Marks.{Known}
 use Rattle.commit_graph.specs.Seats.{IsLater, IsSameSeat, Seated, HasLooked}

@@ -8,12 +8,13 @@ ghost use Rattle.group_history.specs.Naming.{chunk_children};
 ghost use Rattle.group_history.specs.Spelling.{segment_at, map_at};
 ghost use Rattle.group_history.specs.declared.nodes.Chunk.{Chunk as Chunked};
 ghost use Rattle.group_history.specs.declared.refs.Ref.{Ref as Reference};
-ghost use Rattle.map_chunks.specs.Places.{Grows, IfAt};
+ghost use Rattle.map_chunks.specs.Places.{Grows};
 ghost use Rattle.commit_graph.specs.Inside.Gaps.{IsTops, IsBetween, HasGap};
 ghost use Rattle.commit_graph.specs.Inside.Meeting.{LiesChunk};
 
 use group_history::{Chunk, Ref, Stop};
-use map_chunks::{Chunks, ShowsChunk};
+use map_chunks::Chunks;
+use map_chunks::looks::look_at;
 
 /// Stamps above `low`, up to `high`.
 #[derive(Clone, Copy)]
@@ -81,21 +82,6 @@ fn tops_in(chunk: &Chunk<Ref>) -> Tops
     }
 }
 
-fn show_tops<C: Chunks>(chunks: &mut C, at: Ref) -> Result<Tops, Stop>
-    requires known { IsSome (segment_at (C.contents chunks.old) (stamp_of at)) }
-    requires place { C.places chunks.old at }
-    ensures grown { Grows C.contents C.places chunks.old chunks.new }
-    ensures place { IfOk result (λ tops. IfAt (C.places chunks.new) tops.top) }
-    ensures content { IfOk result (λ tops. (c : Chunked Reference) × LiesChunk (C.contents chunks.new) (stamp_of at) c
-        × IsTops (chunk_children c) tops) }
-    ensures stopped { IfErr result C.stops }
-{
-    let held = chunks.show(at)?;
-    let tops = tops_in(held.chunk());
-    chunks.leave(held);
-    Ok(tops)
-}
-
 /// Goes down from the root of a map, always to the newest child, to the first chunk that isn't above the limit. What
 /// else is reached up to the limit is no newer than the other children on the way.
 pub fn gap_below<C: Chunks>(chunks: &mut C, root: Ref, limit: u64) -> Result<Gap, Stop>
@@ -108,7 +94,7 @@ pub fn gap_below<C: Chunks>(chunks: &mut C, root: Ref, limit: u64) -> Result<Gap
     let mut at = root;
     let mut low = 0;
     while at.stamp() > limit {
-        let tops = show_tops(chunks, at)?;
+        let tops = look_at(chunks, at, tops_in)?;
         low = tops.second.max(low);
         let Some(top) = tops.top else {
             return Ok(Gap { low, high: limit });

@@ -12,7 +12,7 @@ ghost use Rattle.map_chunks.specs.Places.{Grows};
 ghost use Rattle.commit_graph.specs.Inside.Chains.{added_by, listed};
 ghost use Rattle.commit_graph.specs.Inside.Handing.{AddUp, IsAdded, added_in};
 
-use crate::chains::show_basis;
+use crate::chains::{basis_in, look_at_commit};
 use crate::nodes::{Nodes, ShowsCommit};
 use group_history::{Commit, CommitChange, CommitKind, Mutation, Ref, Stop};
 use std::alloc::{AllocError, Global};
@@ -80,7 +80,7 @@ fn chain_of<N: Nodes>(alloc: Global, nodes: &mut N, head: Ref) -> Result<Vec<Ref
 {
     let mut chain = Vec::new(alloc);
     let mut at = head;
-    while let Some(basis) = show_basis(nodes, at)? {
+    while let Some(basis) = look_at_commit(nodes, at, basis_in)? {
         keep(&mut chain, at)?;
         at = basis;
     }

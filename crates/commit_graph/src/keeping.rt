@@ -11,14 +11,15 @@ ghost use Rattle.commit_graph.specs.Inside.Meeting.{keys_in, IsFirst, LiesChunk}
 ghost use Rattle.commit_graph.specs.Reach.{Reaches};
 ghost use Rattle.commit_graph.specs.Inside.Reach.{IsSpelled, ref_in, stamp_in};
 
-use crate::chains::show_root;
+use crate::chains::look_at_commit;
 use crate::founds::Found;
 use crate::gaps::Gap;
 use crate::meeting::meets;
 use crate::nodes::Nodes;
 use crate::states::snapshot_of;
 use group_history::{Chunk, Ref, Stop, Text};
-use map_chunks::{Chunks, ShowsChunk};
+use map_chunks::Chunks;
+use map_chunks::looks::look_at;
 use std::alloc::AllocError;
 
 fn first_of(keys: &[Text]) -> Result<Option<Text>, AllocError>
@@ -39,20 +40,6 @@ fn first_key_in(chunk: &Chunk<Ref>) -> Result<Option<Text>, AllocError>
     }
 }
 
-fn show_first_key<C: Chunks>(chunks: &mut C, at: Ref) -> Result<Option<Text>, Stop>
-    requires known { IsSome (segment_at (C.contents chunks.old) (stamp_of at)) }
-    requires place { C.places chunks.old at }
-    ensures grown { Grows C.contents C.places chunks.old chunks.new }
-    ensures content { IfOk result (λ key. (c : Chunked Reference) × LiesChunk (C.contents chunks.new) (stamp_of at) c
-        × IsFirst (keys_in c) key) }
-    ensures stopped { IfErr result (λ stop. (stop ≡ NoMemory) ⊎ C.stops stop) }
-{
-    let held = chunks.show(at)?;
-    let key = first_key_in(held.chunk());
-    chunks.leave(held);
-    Ok(key?)
-}
-
 fn is_chunk_kept<C: Chunks>(chunks: &mut C, root: Ref, at: Ref) -> Result<bool, Stop>
     requires root { IsSome (map_at (C.contents chunks.old) (stamp_of root)) }
     requires places { C.places chunks.old root × C.places chunks.old at }
@@ -61,7 +48,7 @@ fn is_chunk_kept<C: Chunks>(chunks: &mut C, root: Ref, at: Ref) -> Result<bool, 
     ensures kept { IfOk result (λ kept. IsTrue kept ↔ Reaches (C.contents chunks.new) (stamp_of root) (stamp_of at)) }
     ensures stopped { IfErr result (λ stop. (stop ≡ NoMemory) ⊎ C.stops stop) }
 {
-    let Some(key) = show_first_key(chunks, at)? else {
+    let Some(key) = look_at(chunks, at, first_key_in)?? else {
         return Ok(at.stamp() == root.stamp());
     };
     let met = meets(chunks, root, &key, at.stamp())?;
@@ -99,6 +86,12 @@ pub fn base_root<N: Nodes>(nodes: &mut N, head: Ref) -> Result<Ref, Stop>
     ensures stopped { IfErr result N.stops }
 {
     let snapshot = snapshot_of(nodes, head)?;
-    let root = show_root(nodes, snapshot)?;
+    let root = look_at_commit(
+        nodes,
+        snapshot,
+        |commit|
+            ensures { result ≡ commit.now.root }
+        { commit.root },
+    )?;
     Ok(root)
 }

@@ -10,12 +10,13 @@ ghost use Rattle.group_history.specs.Naming.{chunk_content};
 ghost use Rattle.group_history.specs.Spelling.{segment_at, map_at};
 ghost use Rattle.group_history.specs.declared.nodes.Chunk.{Chunk as Chunked};
 ghost use Rattle.group_history.specs.declared.refs.Ref.{Ref as Reference};
-ghost use Rattle.map_chunks.specs.Places.{Grows, IfAt};
+ghost use Rattle.map_chunks.specs.Places.{Grows};
 ghost use Rattle.commit_graph.specs.Inside.Meeting.{choose, child_for, HasKey, LiesChunk};
 ghost use Rattle.commit_graph.specs.Reach.{Reaches};
 
 use group_history::{Chunk, Ref, Stop, Text};
-use map_chunks::{Chunks, ShowsChunk};
+use map_chunks::Chunks;
+use map_chunks::looks::look_at;
 
 fn chosen(firsts: &[Text], children: &[Ref], key: &Text) -> Option<Ref>
     requires { length children.now ≡ length firsts.now }
@@ -39,21 +40,6 @@ fn child_in(chunk: &Chunk<Ref>, key: &Text) -> Option<Ref>
     }
 }
 
-fn show_child<C: Chunks>(chunks: &mut C, at: Ref, key: &Text) -> Result<Option<Ref>, Stop>
-    requires known { IsSome (segment_at (C.contents chunks.old) (stamp_of at)) }
-    requires place { C.places chunks.old at }
-    ensures grown { Grows C.contents C.places chunks.old chunks.new }
-    ensures place { IfOk result (IfAt (C.places chunks.new)) }
-    ensures content { IfOk result (λ child. (c : Chunked Reference) × LiesChunk (C.contents chunks.new) (stamp_of at) c
-        × (child ≡ child_for key.now c)) }
-    ensures stopped { IfErr result C.stops }
-{
-    let held = chunks.show(at)?;
-    let child = child_in(held.chunk(), key);
-    chunks.leave(held);
-    Ok(child)
-}
-
 /// Whether the root of a map reaches the chunk of a stamp, which has this key.
 pub fn meets<C: Chunks>(chunks: &mut C, root: Ref, key: &Text, stamp: u64) -> Result<bool, Stop>
     requires root { IsSome (map_at (C.contents chunks.old) (stamp_of root)) }
@@ -65,7 +51,14 @@ pub fn meets<C: Chunks>(chunks: &mut C, root: Ref, key: &Text, stamp: u64) -> Re
 {
     let mut at = root;
     while at.stamp() > stamp {
-        let Some(child) = show_child(chunks, at, key)? else {
+        let child = look_at(
+            chunks,
+            at,
+            |chunk|
+                ensures { result ≡ child_for key.entry.now chunk.now }
+            { child_in(chunk, key) },
+        )?;
+        let Some(child) = child else {
             return Ok(false);
         };
         at = child;

@@ -11,14 +11,13 @@ ghost use Rattle.group_history.specs.Spelling.{Version, version_at, snapshot_at,
 ghost use Rattle.group_history.specs.declared.mutators.Stop.TheVariants.{NoMemory};
 ghost use Rattle.map_chunks.specs.Places.{Grows};
 ghost use Rattle.commit_graph.specs.Chains.{IsBaseOf};
-ghost use Rattle.commit_graph.specs.Inside.Chains.{IsBase, IsSnapshotAt, listed};
+ghost use Rattle.commit_graph.specs.Inside.Chains as seen;
+ghost use Rattle.commit_graph.specs.Inside.Chains.{IsBase, IsSnapshotAt, basis_of, listed, own_id};
 ghost use Rattle.commit_graph.specs.LastIds.{last_at};
 ghost use Rattle.commit_graph.specs.Reach.{Reaches};
 ghost use Rattle.commit_graph.specs.declared.states.LastId.{LastId as Ids};
 
-use crate::chains::{
-    Base, Top, show_base, show_cookie, show_link, show_own_id, show_root, show_top,
-};
+use crate::chains::{Base, Top, base_in, cookie_in, link_in, look_at_commit, own_id_in, top_in};
 use crate::nodes::Nodes;
 use group_history::{ConfirmedIds, Cookie, Mutation, Ref, Stop, Text};
 use std::alloc::{AllocError, Global};
@@ -71,7 +70,7 @@ pub fn walk<N: Nodes>(alloc: Global, nodes: &mut N, head: Ref) -> Result<Vec<Mut
 {
     let mut pending = Vec::new(alloc);
     let mut at = head;
-    while let Some(link) = show_link(nodes, at)? {
+    while let Some(link) = look_at_commit(nodes, at, link_in)?? {
         add(&mut pending, link.added)?;
         at = link.basis;
     }
@@ -91,7 +90,7 @@ pub(crate) fn snapshot_of<N: Nodes>(nodes: &mut N, head: Ref) -> Result<Ref, Sto
         → IfOk result (λ at. IsBase (N.contents nodes.new) (stamp_of at) v.state) }
     ensures stopped { IfErr result N.stops }
 {
-    let top = show_top(nodes, head)?;
+    let top = top_of(nodes, head)?;
     Ok(top.snapshot)
 }
 
@@ -110,7 +109,13 @@ pub fn top_of<N: Nodes>(nodes: &mut N, head: Ref) -> Result<Top, Stop>
     ensures places { IfOk result (λ top. N.places nodes.new top.root × N.places nodes.new top.snapshot) }
     ensures stopped { IfErr result N.stops }
 {
-    let top = show_top(nodes, head)?;
+    let top = look_at_commit(
+        nodes,
+        head,
+        |commit|
+            ensures { result ≡ seen.top_of head commit.now }
+        { top_in(commit, head) },
+    )?;
     Ok(top)
 }
 
@@ -123,7 +128,7 @@ pub fn closed_of<N: Nodes>(nodes: &mut N, head: Ref) -> Result<bool, Stop>
         → IfOk result (λ closed. closed ≡ v.state.closed) }
     ensures stopped { IfErr result N.stops }
 {
-    let top = show_top(nodes, head)?;
+    let top = top_of(nodes, head)?;
     Ok(top.closed)
 }
 
@@ -139,7 +144,7 @@ pub fn base_of<N: Nodes>(nodes: &mut N, head: Ref) -> Result<Base, Stop>
     ensures stopped { IfErr result (λ stop. (stop ≡ NoMemory) ⊎ N.stops stop) }
 {
     let snapshot = snapshot_of(nodes, head)?;
-    let base = show_base(nodes, snapshot)?;
+    let base = look_at_commit(nodes, snapshot, base_in)??;
     Ok(base)
 }
 
@@ -155,7 +160,7 @@ pub fn base_at<N: Nodes>(nodes: &mut N, snapshot: Ref) -> Result<Base, Stop>
     ensures place { IfOk result (λ b. N.places nodes.new b.pulled) }
     ensures stopped { IfErr result (λ stop. (stop ≡ NoMemory) ⊎ N.stops stop) }
 {
-    let base = show_base(nodes, snapshot)?;
+    let base = look_at_commit(nodes, snapshot, base_in)??;
     Ok(base)
 }
 
@@ -204,7 +209,7 @@ pub fn cookie_of<N: Nodes>(nodes: &mut N, head: Ref) -> Result<Cookie, Stop>
     ensures stopped { IfErr result (λ stop. (stop ≡ NoMemory) ⊎ N.stops stop) }
 {
     let snapshot = snapshot_of(nodes, head)?;
-    let cookie = show_cookie(nodes, snapshot)?;
+    let cookie = look_at_commit(nodes, snapshot, cookie_in)??;
     Ok(cookie)
 }
 
@@ -254,7 +259,14 @@ pub fn last_id_since<N: Nodes>(
         if let Some(id) = found_at(before, at) {
             return Ok(id);
         }
-        let own = show_own_id(nodes, at, client)?;
+        let own = look_at_commit(
+            nodes,
+            at,
+            |commit|
+                ensures id { result.id ≡ own_id client.entry.now commit.now }
+                ensures basis { result.basis ≡ basis_of commit.now }
+            { own_id_in(commit, client) },
+        )?;
         if own.id > 0 {
             return Ok(own.id);
         }
@@ -273,6 +285,6 @@ pub fn read_root<N: Nodes>(nodes: &mut N, head: Ref) -> Result<Ref, Stop>
     ensures place { IfOk result (N.places nodes.new) }
     ensures stopped { IfErr result N.stops }
 {
-    let root = show_root(nodes, head)?;
-    Ok(root)
+    let top = top_of(nodes, head)?;
+    Ok(top.root)
 }

@@ -3,5 +3,4 @@ mod Cases
 mod Giving
 mod Numbers
 mod Opening
-mod Sharing
 mod Values

@@ -5,7 +5,6 @@
 -- host as numbers, Opening what a group is opened with.
 pub mod Places
 pub mod Sitting
-pub mod Printing
 pub mod Told
 pub mod Asking
 pub mod Answers

@@ -15,7 +15,7 @@ use Rattle.rebase.specs.declared.watching.Polled.{Polled}
 use Rattle.rebase.specs.declared.watching.Polled.TheVariants as polled
 use Rattle.host_places.specs.declared.outcomes.Outcome.{Outcome}
 use Rattle.host_places.specs.declared.outcomes.Outcome.TheVariants.{Done, Number, Nothing, Is, Refused}
-use Rattle.host_places.specs.Printing.{array_text, pending_row, row_text}
+use Rattle.push_body.specs.Rows.{array_text, pending_row, row_text}
 
 -- what a call told: what it came to, and bytes
 pub record Told : Type 0 where

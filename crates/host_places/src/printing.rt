@@ -3,7 +3,7 @@ ghost use Rattle.std.specs.Prelude.{◌≡◌, ◌++◌, map, decimal, OnErr, On
 ghost use mathlib.Core.List.{IsPrefix};
 ghost use Rattle.std.specs.List.{join_with_byte};
 ghost use Rattle.push_body.specs.Bodies.{quoted};
-ghost use Rattle.host_places.specs.Printing.{array_text, pending_row, row_text};
+ghost use Rattle.push_body.specs.Rows.{array_text, pending_row, row_text};
 
 use group_history::{Json, Mutation, Text};
 use push_body::push_quoted;
@@ -33,7 +33,7 @@ fn print_quoted(out: &mut Vec<u8>, word: &str, text: &str) -> Result<(), AllocEr
     push_quoted(out, text)
 }
 
-#[tactic(auto, unfolding(crate::specs::Printing::row_text))]
+#[tactic(auto, unfolding(push_body::specs::Rows::row_text))]
 fn print_row(key: &Text, value: &Json, out: &mut Vec<u8>) -> Result<(), AllocError>
     ensures all { OnOk result (out.new.items ≡ out.old.items ++ row_text (key.now, value.now)) }
     ensures kept { OnErr result (IsPrefix out.old.items out.new.items) }
@@ -67,7 +67,7 @@ pub(crate) fn print_rows(rows: &[(Text, Json)], out: &mut Vec<u8>) -> Result<(),
     said(out, "]", &[])
 }
 
-#[tactic(auto, unfolding(crate::specs::Printing::pending_row))]
+#[tactic(auto, unfolding(push_body::specs::Rows::pending_row))]
 fn print_pending_row(mutation: &Mutation, out: &mut Vec<u8>) -> Result<(), AllocError>
     ensures { OnOk result (out.new.items ≡ out.old.items ++ pending_row mutation.now) }
 {

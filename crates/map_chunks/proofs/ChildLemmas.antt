@@ -11,33 +11,35 @@ use Rattle.group_history.specs.Naming.{chunk_children}
 use Rattle.group_history.specs.Rows.{values_of}
 use Rattle.map_chunks.specs.Inside.Depths.{IsFirst}
 use Rattle.map_chunks.specs.Inside.Ends.{only_ref}
-use Rattle.map_chunks.specs.Places.{AreAll, IfAt}
-use Rattle.map_chunks.specs.Inside.SecondKeys.{IsSecondStep, IsSecondAt}
-use Rattle.map_chunks.specs.Inside.Seeking.{IsHint, IsHintAt}
-use Rattle.map_chunks.specs.Inside.Steps.{IsStep, IsStepAt}
+use Rattle.map_chunks.specs.Places.{AreAll}
+use Rattle.map_chunks.proofs.KeptLemmas.{IfAt}
+use Rattle.map_chunks.specs.Inside.SecondKeys.{IsSecondStep}
+use Rattle.map_chunks.specs.Inside.Seeking.{IsHint}
 use Rattle.map_chunks.specs.declared.looks.Hint.{Hint}
 use Rattle.map_chunks.specs.declared.looks.Hint.TheVariants.{Known, On}
 use Rattle.map_chunks.specs.declared.looks.Second.{Second}
 use Rattle.map_chunks.specs.declared.looks.Second.TheVariants as second
-use Rattle.map_chunks.specs.declared.looks.Descent.{Descent}
-use Rattle.map_chunks.specs.declared.looks.Descent.TheVariants.{Found, Below}
 use Rattle.map_chunks.proofs.EndLemmas.{only_ref-child}
 
 got_here : {A : Type 0} (xs : List A) (i : ℕ) (x : A) → slice_get xs i ≡ Some x → Contains xs x
 got_here xs i x h = subst (Contains xs) (get_or_from_slice_get xs i x x h)
     (Contains-get_or xs i x (slice_get_within xs i x h))
 
-pub step_at : (places : Ref → Type 0) (c : Chunk Ref) (key : Bytes) (step : Descent) → AreAll places (chunk_children c)
-    → IsStep c key step → IsStepAt places step
-step_at places c key (Found v) all i = tt
-step_at places (Leaf rows) key (Below at) all i = absurd i
-step_at places (Inner kids) key (Below at) all i = all at (got_here (values_of kids) i.0 at i.2)
+-- the child to which the key belongs has the property
+abbrev pub IsHintAt : (Ref → Type 0) → Hint → Type 0
+IsHintAt places (Known there) = Unit {0}
+IsHintAt places (On at) = places at
 
 pub hint_at : (places : Ref → Type 0) (c : Chunk Ref) (key : Bytes) (hint : Hint) → AreAll places (chunk_children c)
     → IsHint c key hint → IsHintAt places hint
 hint_at places c key (Known there) all i = tt
 hint_at places (Leaf rows) key (On at) all i = absurd i
 hint_at places (Inner kids) key (On at) all i = all at (got_here (values_of kids) i.0 at i.2)
+
+-- the first child has the property
+abbrev pub IsSecondAt : (Ref → Type 0) → Second → Type 0
+IsSecondAt places (second.Known key) = Unit {0}
+IsSecondAt places (second.First at next) = places at
 
 pub second_at : (places : Ref → Type 0) (c : Chunk Ref) (step : Second) → AreAll places (chunk_children c)
     → IsSecondStep c step → IsSecondAt places step

@@ -1,14 +1,20 @@
 -- How deep a placed chunk is.
-use Rattle.std.proofs.Common.{◌≡◌, ℕ, [], ◌∷◌, Option, Some, slice_get, sym, subst, arith}
+use Rattle.std.proofs.Common.{◌≡◌, ◌<◌, ◌+◌, ℕ, [], ◌∷◌, Option, Some, None, slice_get, sym, subst, arith}
 use Rattle.group_history.specs.declared.nodes.Chunk.{Chunk}
 use Rattle.group_history.specs.declared.nodes.Chunk.TheVariants.{Leaf, Inner}
 use Rattle.group_history.specs.declared.refs.Ref.{Ref}
 use Rattle.group_history.specs.Naming.{chunk_content}
 use Rattle.group_history.specs.Refs.{stamp_of}
 use Rattle.group_history.specs.Spelling.{Contents, Segment, segment_at, rows_at}
-use Rattle.map_chunks.specs.Inside.Depths.{IsFirst, IsAbove}
+use Rattle.map_chunks.specs.Inside.Depths.{IsFirst}
 use Rattle.map_chunks.proofs.JoinLemmas.{split_of}
 use Rattle.map_chunks.proofs.OpenLemmas.{Opened, opened, spells_at, shows_by}
+
+-- a leaf is 1 deep, and an inner chunk one deeper than its first child, which was placed before it
+abbrev pub IsAbove : Contents → ℕ → Segment → Option Ref → Type 0
+IsAbove contents stamp s None = s.depth ≡ 1
+IsAbove contents stamp s (Some child) = (stamp_of child < stamp)
+    × ((t : Segment) × (segment_at contents (stamp_of child) ≡ Some t) × (s.depth ≡ t.depth + 1))
 
 pub above : (ns : Contents) (k : ℕ) (s : Segment) (c : Chunk Ref) (child : Option Ref) → segment_at ns k ≡ Some s
     → slice_get ns k ≡ Some (chunk_content c) → IsFirst c child → IsAbove ns k s child

@@ -1,5 +1,6 @@
 -- What chunks with one child each end in.
-use Rattle.std.proofs.Common.{◌≡◌, ◌≤◌, ℕ, false, [], ◌∷◌, ◌++◌, Option, Some, None, slice_get, append-nil, refl, sym}
+use Rattle.std.proofs.Common.{◌≡◌, ◌≤◌, ◌<◌, ◌+◌, ℕ, false, [], ◌∷◌, ◌++◌, Option, Some, None, slice_get, append-nil}
+use Rattle.std.proofs.Common.{refl, sym}
 use Rattle.std.proofs.Common.{ap, ◌∙◌, subst, inr, arith}
 use Rattle.std.specs.Prelude.{option_map}
 use mathlib.Core.List.{IsPrefix}
@@ -13,7 +14,7 @@ use Rattle.group_history.specs.Rows.{Rows}
 use Rattle.group_history.specs.Spelling.{Contents, Segment, segment_at, rows_at}
 use Rattle.group_history.proofs.Lists.{one_here, only_one}
 use Rattle.map_chunks.specs.Ends.{IsNoDeeper}
-use Rattle.map_chunks.specs.Inside.Ends.{only_ref, IsOnlyChild}
+use Rattle.map_chunks.specs.Inside.Ends.{only_ref}
 use Rattle.map_chunks.specs.Places.{AreKept}
 use Rattle.map_chunks.specs.Seeking.{chunk_depth}
 use Rattle.map_chunks.specs.Shown.{chunk_rows}
@@ -43,6 +44,13 @@ segment_deep ns k d h = by (segment_at ns k) refl h
 -- a chunk with rows at a depth is so deep
 pub depth-at : (ns : Contents) (d k : ℕ) (rs : Rows) → rows_at ns d k ≡ Some rs → chunk_depth ns k ≡ Some d
 depth-at ns d k rs h = let f = spells_at ns d k rs h in depth_of ns k f.0.segment f.0.is ∙ ap (λ n. Some n) f.1
+
+-- the chunk of the stamp is wide, or its only child was placed before it, one level below; what is wide, or the child,
+-- has these rows
+abbrev pub IsOnlyChild : Contents → ℕ → Option Rows → Option Ref → Type 0
+IsOnlyChild contents stamp rows None = (chunk_rows contents stamp ≡ rows) × IsWideAt contents stamp
+IsOnlyChild contents stamp rows (Some child) = (stamp_of child < stamp) × (chunk_rows contents (stamp_of child) ≡ rows)
+    × ((d : ℕ) × (chunk_depth contents (stamp_of child) ≡ Some d) × (chunk_depth contents stamp ≡ Some (d + 1)))
 
 pub only_is : (ns : Contents) (k : ℕ) (s : Segment) (c : Chunk Ref) → segment_at ns k ≡ Some s
     → slice_get ns k ≡ Some (chunk_content c) → chunk_rows ns k ≡ Some s.rows

@@ -1,5 +1,5 @@
 -- References that were there before, or at which a chunk may be looked for.
-use Rattle.std.proofs.Common.{inl, inr, List, []}
+use Rattle.std.proofs.Common.{inl, inr, List, [], Option, Some, None}
 use Rattle.std.specs.List.{Contains}
 use Rattle.group_history.specs.declared.refs.Ref.{Ref}
 use Rattle.group_history.specs.Spelling.{Contents}
@@ -18,6 +18,13 @@ grows_on contents places a b d g h = (
 pub all_on : (places more : Ref → Type 0) (ats : List Ref) → ((at : Ref) → places at → more at) → AreAll places ats
     → AreAll more ats
 all_on places more ats g all at i = g at (all at i)
+
+-- REFERENCES OF A CHUNK
+
+-- the reference has the property, if there is one
+abbrev pub IfAt : (Ref → Type 0) → Option Ref → Type 0
+IfAt places None = Unit {0}
+IfAt places (Some at) = places at
 
 -- REFERENCES OF A CHANGED TREE
 

@@ -21,10 +21,7 @@ use Rattle.group_history.specs.Spelling.{rows_if, rows_in, segment_at, rows_at, 
 use Rattle.group_history.proofs.Folding.{and_then-some}
 use Rattle.group_history.proofs.Spellings.{segment-content, segment-stays, rows-stay}
 use Rattle.map_chunks.specs.Search.{IsPlace, is_above}
-use Rattle.map_chunks.specs.Shown.{chunk_rows, IsTree, rows_or}
-use Rattle.map_chunks.specs.Inside.Steps.{IsStep, Leads}
-use Rattle.map_chunks.specs.declared.looks.Descent.{Descent}
-use Rattle.map_chunks.specs.declared.looks.Descent.TheVariants.{Found, Below}
+use Rattle.map_chunks.specs.Shown.{chunk_rows, IsTree}
 use Rattle.map_chunks.proofs.RowLemmas.{IsStrict, strict, sorted, find-front, find-back}
 use Rattle.map_chunks.proofs.JoinLemmas.{Shows, split_of, Place, Way, way}
 
@@ -326,28 +323,3 @@ pub find-way : (key : Bytes) (ls : Shows) (k : Bytes) (x : Option Rows) (bs : Sh
 find-way key ls k x bs rs w =
     sym (ap (find (slice_cmp nat_cmp) key) w.whole ∙ find-back key w.front
     (w.here ++ w.back) w.below ∙ find-front key w.here w.back w.above)
-
-pub leads : (ns : Contents) (k : ℕ) (s : Segment) (c : Chunk Ref) (key : Bytes) (step : Descent) → segment_at ns k
-    ≡ Some s
-    → slice_get ns k ≡ Some (chunk_content c)
-    → IsStrict s.rows → IsStep c key step → Leads ns key k s.rows step
-leads ns k s c key step h g o i = by c (opened ns k s c h g) step i
-  where
-    by : (c : Chunk Ref) → Opened ns k s c → (step : Descent) → IsStep c key step → Leads ns key k s.rows step
-    by (Leaf rows) z (Found v) i = i ∙ ap (find (slice_cmp nat_cmp) key) (sym z.is)
-    by (Leaf rows) z (Below at) i = absurd i
-    by (Inner kids) z (Found v) i = absurd (omega (arith, z.filled))
-    by (Inner kids) z (Below at) i =
-        let a = entry_at kids i.0 at i.2 in
-        let p = placing key a.before a.first at a.behind i.0 a.at
-        (subst (λ w. IsPlace key (keys_of w) i.0) a.whole i.1) in
-        let j : joined_rows (map (λ (e : Bytes × Ref). (e.0, rows_at ns z.depth (stamp_of e.1)))
-        (a.before ++ (a.first, at) ∷ a.behind)) ≡ Some s.rows =
-        ap (λ w. joined_rows (shows_by (rows_at ns z.depth) w)) (sym a.whole) ∙ z.rows in
-        let w = way_by (λ (e : Bytes × Ref). rows_at ns z.depth (stamp_of e.1)) key a.before
-        (a.first, at) a.behind s.rows j o p in
-        let r = chunk_rows-at ns z.depth (stamp_of at) w.here w.here_is in (
-          low_at k a.before (a.first, at) a.behind (subst (AllLow k) a.whole z.low),
-          tree_of (chunk_rows ns (stamp_of at)) w.here r w.strict,
-          ap (λ x. find (slice_cmp nat_cmp) key (rows_or x)) r ∙ find-way key _ _ _ _ s.rows w,
-        )

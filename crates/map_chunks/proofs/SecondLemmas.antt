@@ -12,7 +12,7 @@ use Rattle.group_history.specs.Refs.{stamp_of}
 use Rattle.group_history.specs.Rows.{Rows, keys_of}
 use Rattle.group_history.specs.Spelling.{Contents, Segment, segment_at, rows_at, joined_rows, begins_with}
 use Rattle.map_chunks.specs.SecondKeys.{second_key}
-use Rattle.map_chunks.specs.Inside.SecondKeys.{IsSecondStep, LeadsToSecond}
+use Rattle.map_chunks.specs.Inside.SecondKeys.{IsSecondStep}
 use Rattle.map_chunks.specs.Shown.{chunk_rows, rows_or}
 use Rattle.map_chunks.specs.declared.looks.Second.{Second}
 use Rattle.map_chunks.specs.declared.looks.Second.TheVariants.{Known, First}
@@ -34,6 +34,13 @@ second-joined e es rs s = by s.front s.starts es s.back s.back_is ∙ ap second_
 keys-by : (f : ℕ → Option Rows) (kids : List (Bytes × Ref)) → keys_of (shows_by f kids) ≡ keys_of kids
 keys-by f [] = refl
 keys-by f (e ∷ es) = ap (λ w. e.0 ∷ w) (keys-by f es)
+
+-- from the chunk of a stamp, with these rows: the second key is found, or is that of a chunk placed before it, or else
+-- the one given
+abbrev pub LeadsToSecond : Contents → ℕ → Rows → Second → Type 0
+LeadsToSecond contents stamp rows (Known key) = key ≡ second_key rows
+LeadsToSecond contents stamp rows (First at next) = (stamp_of at < stamp) × IsSome (chunk_rows contents (stamp_of at))
+    × (option_or (second_key (rows_or (chunk_rows contents (stamp_of at)))) next ≡ second_key rows)
 
 pub leads_second : (ns : Contents) (k : ℕ) (s : Segment) (c : Chunk Ref) (step : Second) → segment_at ns k ≡ Some s
     → slice_get ns k ≡ Some (chunk_content c)

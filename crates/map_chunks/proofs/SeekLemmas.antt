@@ -1,5 +1,5 @@
 -- A look for whether a key is there, and for how deep the tree is.
-use Rattle.std.proofs.Common.{◌≡◌, ℕ, ◌+◌, ◌++◌, ◌∷◌, Some, is_some, map, slice_get, sym, ap, ◌∙◌, subst, arith}
+use Rattle.std.proofs.Common.{◌≡◌, ◌<◌, ℕ, ◌+◌, Option, ◌++◌, ◌∷◌, Some, map, slice_get, sym, ap, ◌∙◌, subst, arith}
 use Rattle.std.proofs.Common.{nat_cmp}
 use Rattle.std.specs.Prelude.{option_map}
 use Rattle.std.specs.Cmp.Lexicographic.{slice_cmp}
@@ -10,20 +10,26 @@ use Rattle.group_history.specs.declared.refs.Ref.{Ref}
 use Rattle.group_history.specs.Map.{Bytes}
 use Rattle.group_history.specs.Naming.{chunk_content}
 use Rattle.group_history.specs.Refs.{stamp_of}
-use Rattle.group_history.specs.Rows.{keys_of}
+use Rattle.group_history.specs.Rows.{Rows, keys_of}
 use Rattle.group_history.specs.Spelling.{Contents, Segment, segment_at, rows_at, joined_rows}
 use Rattle.map_chunks.specs.Search.{IsPlace}
-use Rattle.map_chunks.specs.Seeking.{is_in}
-use Rattle.map_chunks.specs.Inside.Steps.{IsStep, Deepens}
-use Rattle.map_chunks.specs.Inside.Seeking.{IsHint, Hints}
-use Rattle.map_chunks.specs.Shown.{chunk_rows, rows_or}
-use Rattle.map_chunks.specs.declared.looks.Descent.{Descent}
-use Rattle.map_chunks.specs.declared.looks.Descent.TheVariants.{Found, Below}
+use Rattle.map_chunks.specs.Seeking.{chunk_depth, is_in}
+use Rattle.map_chunks.specs.Inside.Seeking.{IsHint}
+use Rattle.map_chunks.specs.Shown.{chunk_rows, rows_or, IsTree}
 use Rattle.map_chunks.specs.declared.looks.Hint.{Hint}
 use Rattle.map_chunks.specs.declared.looks.Hint.TheVariants.{Known, On}
 use Rattle.map_chunks.proofs.OpenLemmas.{Opened, opened, spells_at, chunk_rows-at, entry_at, placing, way_by, find-way}
 use Rattle.map_chunks.proofs.OpenLemmas.{tree_of, shows_by, AllLow, low_at}
 use Rattle.map_chunks.proofs.RowLemmas.{IsStrict}
+
+-- from the chunk of a stamp, so deep, with these rows: it is a leaf, and this is whether the key is there, or a chunk
+-- one level below, which was placed before it, has the key's value
+abbrev pub Hints : Contents → Bytes → ℕ → Option ℕ → Rows → Hint → Type 0
+Hints contents key stamp depth rows (Known there) = (depth ≡ Some 1) × (there ≡ is_in rows key)
+Hints contents key stamp depth rows (On at) = (stamp_of at < stamp) × IsTree (chunk_rows contents (stamp_of at))
+    × ((d : ℕ) × (chunk_depth contents (stamp_of at) ≡ Some d) × (depth ≡ Some (d + 1)))
+    × (find (slice_cmp nat_cmp) key (rows_or (chunk_rows contents (stamp_of at)))
+    ≡ find (slice_cmp nat_cmp) key rows)
 
 pub hints : (ns : Contents) (k : ℕ) (s : Segment) (c : Chunk Ref) (key : Bytes) (hint : Hint)
     → segment_at ns k ≡ Some s → slice_get ns k ≡ Some (chunk_content c)
@@ -52,23 +58,3 @@ hints ns k s c key hint h g o i = by c (opened ns k s c h g) hint i
           (f.0.segment.depth, ap (option_map (λ (t : Segment). t.depth)) f.0.is, ap (λ n. Some n) deep),
           ap (λ x. find (slice_cmp nat_cmp) key (rows_or x)) r ∙ find-way key _ _ _ _ s.rows w,
         )
-
--- a step tells what a hint does
-abbrev hint_by : Descent → Hint
-hint_by (Found v) = Known (is_some v)
-hint_by (Below at) = On at
-
-hint_step : (c : Chunk Ref) (key : Bytes) (step : Descent) → IsStep c key step → IsHint c key (hint_by step)
-hint_step (Leaf rows) key (Found v) i = ap is_some i
-hint_step (Leaf rows) key (Below at) i = i
-hint_step (Inner kids) key (Found v) i = i
-hint_step (Inner kids) key (Below at) i = i
-
-pub deepens : (ns : Contents) (k : ℕ) (s : Segment) (c : Chunk Ref) (key : Bytes) (step : Descent)
-    → segment_at ns k ≡ Some s → slice_get ns k ≡ Some (chunk_content c) → IsStrict s.rows → IsStep c key step
-    → Deepens ns (Some s.depth) step
-deepens ns k s c key step h g o i = by step (hints ns k s c key (hint_by step) h g o (hint_step c key step i))
-  where
-    by : (step : Descent) → Hints ns key k (Some s.depth) s.rows (hint_by step) → Deepens ns (Some s.depth) step
-    by (Found v) told = told.0
-    by (Below at) told = told.2

@@ -13,15 +13,14 @@ use Rattle.group_history.specs.Refs.{stamp_of}
 use Rattle.group_history.specs.Rows.{Rows, keys_of, values_of}
 use Rattle.group_history.specs.Spelling.{Contents, Segment, rows_at}
 use Rattle.map_chunks.proofs.JoinLemmas.{some_is}
-use Rattle.map_chunks.proofs.OpenLemmas.{known, leads, opened, rows_at-segment, segment-kept, spells_rows}
+use Rattle.map_chunks.proofs.OpenLemmas.{known, opened, rows_at-segment, segment-kept, spells_rows}
 use Rattle.map_chunks.proofs.RowLemmas.{IsStrict}
 use Rattle.map_chunks.proofs.SearchLemmas.{got, length-keys_of, length-values_of}
-use Rattle.map_chunks.proofs.SeekLemmas.{deepens}
-use Rattle.map_chunks.specs.Inside.Steps.{Deepens, Leads}
+use Rattle.map_chunks.proofs.SeekLemmas.{Hints, hints}
 use Rattle.map_chunks.specs.Search.{IsPlace}
 use Rattle.map_chunks.specs.Seeking.{chunk_depth}
 use Rattle.map_chunks.specs.Shown.{chunk_rows, rows_or, IsTree}
-use Rattle.map_chunks.specs.declared.looks.Descent.TheVariants.{Below}
+use Rattle.map_chunks.specs.declared.looks.Hint.TheVariants.{On}
 
 -- the child of an inner chunk to which a key belongs
 pub record Way (q : Contents) (key : Bytes) (at below : Ref) : Type 0 where
@@ -52,17 +51,15 @@ way q key at below kids i t g place b =
     let child : slice_get (values_of kids) i ≡ Some below =
     got (values_of kids) i below (omega (arith, length-keys_of kids, length-values_of kids, place.0)) ∙ ap
     (λ w. Some w) (sym b) in
-    let l : Leads q key k s.segment.rows (Below below) = leads q k s.segment (chunked.Inner kids) key (Below below) s.is g
-    order (i, place, child) in
-    let d : Deepens q (Some s.segment.depth) (Below below) = deepens q k s.segment (chunked.Inner kids) key (Below below)
-    s.is g order (i, place, child) in
+    let l : Hints q key k (Some s.segment.depth) s.segment.rows (On below) = hints q k s.segment (chunked.Inner kids)
+    key (On below) s.is g order (i, place, child) in
     record {
       low = l.0;
       tree = l.1;
-      same = l.2 ∙ ap (find (slice_cmp nat_cmp) key) (s.rows ∙ ap rows_or (sym n.is));
-      depth = d.0;
-      depth_is = d.1;
-      deeper = ap (option_map (λ (x : Segment). x.depth)) s.is ∙ d.2;
+      same = l.3 ∙ ap (find (slice_cmp nat_cmp) key) (s.rows ∙ ap rows_or (sym n.is));
+      depth = l.2.0;
+      depth_is = l.2.1;
+      deeper = ap (option_map (λ (x : Segment). x.depth)) s.is ∙ l.2.2;
     }
 
 -- the rows of a chunk that is so deep

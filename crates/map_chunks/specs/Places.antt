@@ -1,10 +1,11 @@
 -- Nodes placed behind others, and the references that name what is placed.
-use Rattle.std.specs.Prelude.{◌≡◌, ◌⊎◌, ◌≤◌, ℕ, List, [], ◌∷◌, ◌++◌, map, Option, Some, None}
+use Rattle.std.specs.Prelude.{◌≡◌, ◌⊎◌, ◌≤◌, ℕ, List, [], ◌∷◌, ◌++◌, map, Some, slice_get}
 use mathlib.Core.List.{IsPrefix}
 use Rattle.std.specs.List.{Contains}
+use Rattle.group_history.specs.declared.nodes.Chunk.{Chunk}
 use Rattle.group_history.specs.declared.nodes.Node.{Node}
 use Rattle.group_history.specs.declared.refs.Ref.{Ref}
-use Rattle.group_history.specs.Naming.{children, content_of}
+use Rattle.group_history.specs.Naming.{children, chunk_children, chunk_content, content_of}
 use Rattle.group_history.specs.Refs.{stamp_of, slot_of}
 use Rattle.group_history.specs.Spelling.{Contents}
 use Rattle.map_chunks.specs.Shown.{Part, value, chunk, Piece}
@@ -42,10 +43,10 @@ AddsNamed first places old new = (more : List (Node Ref)) × (old ++ more ≡ ne
 abbrev pub AreAll : (Ref → Type 0) → List Ref → Type 0
 AreAll places ats = (at : Ref) → Contains ats at → places at
 
--- the reference has it, if there is one
-abbrev pub IfAt : (Ref → Type 0) → Option Ref → Type 0
-IfAt places None = Unit {0}
-IfAt places (Some at) = places at
+-- The chunk lies at the stamp, and each of its children has the property.
+abbrev pub IsShown : (Ref → Type 0) → Contents → ℕ → Chunk Ref → Type 0
+IsShown places contents stamp c = AreAll places (chunk_children c)
+    × (slice_get contents stamp ≡ Some (chunk_content c))
 
 -- The contents grew, and with them the references at which a chunk may be looked for.
 abbrev pub Grows : {S : Type 0} → (S → Contents) → (S → Ref → Type 0) → S → S → Type 0

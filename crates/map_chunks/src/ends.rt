@@ -3,14 +3,16 @@ ghost use Rattle.std.specs.Prelude.{◌≡◌, ◌⊎◌, ℕ, [], ◌∷◌, So
 ghost use Rattle.group_history.specs.Refs.{stamp_of};
 ghost use Rattle.group_history.specs.declared.mutators.Stop.TheVariants.{NoMemory};
 ghost use Rattle.map_chunks.specs.Ends.{IsEnd, IsNoDeeper};
-ghost use Rattle.map_chunks.specs.Inside.Ends.{only_ref, IsOnlyChild};
-ghost use Rattle.map_chunks.specs.Places.{Grows, IfAt};
+ghost use Rattle.map_chunks.specs.Inside.Ends.{only_ref};
+ghost use Rattle.map_chunks.specs.Places.{Grows};
 ghost use Rattle.map_chunks.specs.Seeking.{chunk_depth};
 ghost use Rattle.map_chunks.specs.Shown.{chunk_rows};
 
-use crate::chunks::{Chunks, ShowsChunk};
+use crate::chunks::Chunks;
+use crate::looks::look_at;
 use group_history::{Chunk, Ref, Stop};
 
+// The only child of a chunk that has but one.
 fn only_of(chunk: &Chunk<Ref>) -> Option<Ref>
     ensures { result ≡ only_ref chunk.now }
 {
@@ -26,22 +28,6 @@ fn only_of(chunk: &Chunk<Ref>) -> Option<Ref>
     }
 }
 
-// The only child of a chunk that has but one.
-fn only_child<C: Chunks>(chunks: &mut C, at: Ref) -> Result<Option<Ref>, Stop>
-    requires known { IsSome (chunk_rows (C.contents chunks.old) (stamp_of at)) }
-    requires place { C.places chunks.old at }
-    ensures grown { Grows C.contents C.places chunks.old chunks.new }
-    ensures place { IfOk result (IfAt (C.places chunks.new)) }
-    ensures child { IfOk result (IsOnlyChild (C.contents chunks.new) (stamp_of at)
-        (chunk_rows (C.contents chunks.old) (stamp_of at))) }
-    ensures stopped { IfErr result (λ s. (s ≡ NoMemory) ⊎ C.stops s) }
-{
-    let held = chunks.show(at)?;
-    let child = only_of(held.chunk());
-    chunks.leave(held);
-    Ok(child)
-}
-
 /// The chunk itself, or the first below it that is a leaf or has two children. It has the same rows,
 /// and is no deeper. Stops for want of memory, or as the store does.
 pub fn end_placed<C: Chunks>(chunks: &mut C, at: Ref) -> Result<Ref, Stop>
@@ -54,7 +40,7 @@ pub fn end_placed<C: Chunks>(chunks: &mut C, at: Ref) -> Result<Ref, Stop>
         → IfOk result (IsNoDeeper (C.contents chunks.new) d) }
     ensures stopped { IfErr result (λ s. (s ≡ NoMemory) ⊎ C.stops s) }
 {
-    match only_child(chunks, at)? {
+    match look_at(chunks, at, only_of)? {
         None => return Ok(at),
         Some(child) => return end_placed(chunks, child),
     }

@@ -4,9 +4,10 @@
 //! never changes once it is placed. `Chunks` shows placed chunks by stamp, by a token that has to be handed to `leave`:
 //! a store may count its readers by it. `VecChunks` keeps them in a vector, behind which a `Draft` has the nodes that
 //! are placed next. The modules go down from a placed chunk: `placed` to a key's value, `seeking` to whether a key is
-//! there, `scanning` along the leaves, whose rows go into what `sinks` is about, `seconds` to the second key, and
-//! `ends` past chunks with one child. `keys`, `entries` and `search` are what a changed chunk's keys need, whoever owns
-//! the chunk: up to 16 entries stay together; of 17 the first 8 stay and the last 9 are handed out (`insert_entry`).
+//! there, `seconds` to the second key, and `ends` past chunks with one child, each by `look_at`, which shows a closure
+//! one chunk; `scanning` along the leaves, whose rows go into what `sinks` is about, while the chunks above are shown.
+//! `keys`, `entries` and `search` are what a changed chunk's keys need, whoever owns the chunk: up to 16 entries stay
+//! together; of 17 the first 8 stay and the last 9 are handed out (`insert_entry`).
 //!
 //! Every call asks that the chunk spells rows. A stamp doesn't determine its slot, so each store has a relation
 //! `places`: the references that may be dereferenced. `show` asks it of its reference and says it of each child, and

@@ -1,5 +1,31 @@
 //! Looks at placed chunks, each of which is left again at once.
-use group_history::{Json, Ref, Text};
+ghost use Rattle.std.specs.Prelude.{IfOk, IfErr, IsSome};
+ghost use Rattle.group_history.specs.Refs.{stamp_of};
+ghost use Rattle.group_history.specs.Spelling.{segment_at};
+ghost use Rattle.map_chunks.specs.Places.{Grows, IsShown};
+
+use crate::chunks::{Chunks, ShowsChunk};
+use group_history::{Chunk, Json, Ref, Stop, Text};
+
+/// What a closure tells of a placed chunk, which is shown to it, and left again. Stops as the store does alone.
+pub fn look_at<C: Chunks, R, F: Fn(&Chunk<Ref>) -> R>(
+    chunks: &mut C,
+    at: Ref,
+    tell: F,
+) -> Result<R, Stop>
+    requires known { IsSome (segment_at (C.contents chunks.old) (stamp_of at)) }
+    requires place { C.places chunks.old at }
+    requires callable { F.IsAlwaysCallable tell }
+    ensures grown { Grows C.contents C.places chunks.old chunks.new }
+    ensures told { IfOk result (λ told. (chunk : _)
+        × IsShown (C.places chunks.new) (C.contents chunks.new) (stamp_of at) chunk.now × F.post tell chunk told) }
+    ensures stopped { IfErr result C.stops }
+{
+    let held = chunks.show(at)?;
+    let told = tell(held.chunk());
+    chunks.leave(held);
+    Ok(told)
+}
 
 /// What a look at one chunk on the way to a key gives.
 #[derive(Drop)]

@@ -5,15 +5,14 @@ ghost use Rattle.std.specs.Cmp.Lexicographic.{slice_cmp};
 ghost use Rattle.std.specs.FinMap as finite;
 ghost use Rattle.group_history.specs.Refs.{stamp_of};
 ghost use Rattle.group_history.specs.declared.mutators.Stop.TheVariants.{NoMemory};
-ghost use Rattle.map_chunks.specs.Places.{Grows, IfAt};
+ghost use Rattle.map_chunks.specs.Places.{Grows};
 ghost use Rattle.map_chunks.specs.Shown.{chunk_rows, IsTree, rows_or};
 ghost use Rattle.group_history.specs.Spelling.{Segment, segment_at};
-ghost use Rattle.map_chunks.specs.Inside.Depths.{IsFirst, IsAbove, has_none};
-ghost use Rattle.map_chunks.specs.Inside.Steps.{Deepens, IsStep, IsStepAt, Leads};
-ghost use Rattle.map_chunks.specs.Seeking.{chunk_depth};
+ghost use Rattle.map_chunks.specs.Inside.Depths.{IsFirst, has_none};
+ghost use Rattle.map_chunks.specs.Inside.Steps.{IsStep};
 
-use crate::chunks::{Chunks, ShowsChunk};
-use crate::looks::Descent;
+use crate::chunks::Chunks;
+use crate::looks::{Descent, look_at};
 use crate::search::{place_for, value_for};
 use group_history::{Chunk, Json, Ref, SearchKey, Stop};
 use std::alloc::AllocError;
@@ -38,22 +37,6 @@ fn step_of(chunk: &Chunk<Ref>, key: &SearchKey<'_>) -> Result<Descent, AllocErro
     }
 }
 
-fn look<C: Chunks>(chunks: &mut C, at: Ref, key: &SearchKey<'_>) -> Result<Descent, Stop>
-    requires known { IsTree (chunk_rows (C.contents chunks.old) (stamp_of at)) }
-    requires place { C.places chunks.old at }
-    ensures grown { Grows C.contents C.places chunks.old chunks.new }
-    ensures place { IfOk result (IsStepAt (C.places chunks.new)) }
-    ensures step { IfOk result (Leads (C.contents chunks.new) key.now (stamp_of at)
-        (rows_or (chunk_rows (C.contents chunks.old) (stamp_of at)))) }
-    ensures depth { IfOk result (Deepens (C.contents chunks.new) (chunk_depth (C.contents chunks.old) (stamp_of at))) }
-    ensures stopped { IfErr result (λ s. (s ≡ NoMemory) ⊎ C.stops s) }
-{
-    let held = chunks.show(at)?;
-    let step = step_of(held.chunk(), key);
-    chunks.leave(held);
-    Ok(step?)
-}
-
 /// The value at a key of the chunk's rows, if it is there. Stops for want of memory, or as the store does.
 pub fn get_placed<C: Chunks>(chunks: &mut C, at: Ref, key: &str) -> Result<Option<Json>, Stop>
     requires known { IsTree (chunk_rows (C.contents chunks.old) (stamp_of at)) }
@@ -75,7 +58,14 @@ fn get_for<C: Chunks>(chunks: &mut C, at: Ref, key: &SearchKey<'_>) -> Result<Op
         (rows_or (chunk_rows (C.contents chunks.old) (stamp_of at)))) }
     ensures stopped { IfErr result (λ s. (s ≡ NoMemory) ⊎ C.stops s) }
 {
-    match look(chunks, at, key)? {
+    let step = look_at(
+        chunks,
+        at,
+        |chunk|
+            ensures { IfOk result (IsStep chunk.now key.entry.now) }
+        { step_of(chunk, key) },
+    )?;
+    match step? {
         Descent::Found(value) => Ok(value),
         Descent::Below(child) => get_for(chunks, child, key),
     }
@@ -90,21 +80,6 @@ fn first_of(chunk: &Chunk<Ref>) -> Option<Ref>
     }
 }
 
-fn first_child<C: Chunks>(chunks: &mut C, at: Ref) -> Result<Option<Ref>, Stop>
-    requires known { IsSome (segment_at (C.contents chunks.old) (stamp_of at)) }
-    requires place { C.places chunks.old at }
-    ensures grown { Grows C.contents C.places chunks.old chunks.new }
-    ensures place { IfOk result (IfAt (C.places chunks.new)) }
-    ensures child { (s : Segment) → segment_at (C.contents chunks.old) (stamp_of at) ≡ Some s
-        → IfOk result (IsAbove (C.contents chunks.new) (stamp_of at) s) }
-    ensures stopped { IfErr result C.stops }
-{
-    let held = chunks.show(at)?;
-    let child = first_of(held.chunk());
-    chunks.leave(held);
-    Ok(child)
-}
-
 /// How deep a placed chunk is: 1 where it is a leaf. Stops as the store does alone.
 pub fn depth_placed<C: Chunks>(chunks: &mut C, at: Ref) -> Result<u64, Stop>
     requires known { IsSome (segment_at (C.contents chunks.old) (stamp_of at)) }
@@ -115,7 +90,7 @@ pub fn depth_placed<C: Chunks>(chunks: &mut C, at: Ref) -> Result<u64, Stop>
     ensures bound { IfOk result (λ d. d ≤ stamp_of at + 1) }
     ensures stopped { IfErr result C.stops }
 {
-    match first_child(chunks, at)? {
+    match look_at(chunks, at, first_of)? {
         None => Ok(1),
         Some(child) => {
             let below = depth_placed(chunks, child)?;
@@ -141,8 +116,5 @@ pub fn is_empty_placed<C: Chunks>(chunks: &mut C, at: Ref) -> Result<bool, Stop>
     ensures value { IfOk result (λ b. b ≡ (length (rows_or (chunk_rows (C.contents chunks.old) (stamp_of at))) == 0)) }
     ensures stopped { IfErr result C.stops }
 {
-    let held = chunks.show(at)?;
-    let empty = is_empty(held.chunk());
-    chunks.leave(held);
-    Ok(empty)
+    look_at(chunks, at, is_empty)
 }

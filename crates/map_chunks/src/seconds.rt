@@ -4,12 +4,12 @@ ghost use Rattle.group_history.specs.Refs.{stamp_of};
 ghost use Rattle.group_history.specs.declared.mutators.Stop.TheVariants.{NoMemory};
 ghost use Rattle.map_chunks.specs.Places.{Grows};
 ghost use Rattle.map_chunks.specs.SecondKeys.{second_key};
-ghost use Rattle.map_chunks.specs.Inside.SecondKeys.{IsSecondStep, IsSecondAt, LeadsToSecond};
+ghost use Rattle.map_chunks.specs.Inside.SecondKeys.{IsSecondStep};
 ghost use Rattle.map_chunks.specs.Shown.{chunk_rows, rows_or};
 
-use crate::chunks::{Chunks, ShowsChunk};
+use crate::chunks::Chunks;
 use crate::keys::second_of;
-use crate::looks::Second;
+use crate::looks::{Second, look_at};
 use group_history::{Chunk, Ref, Stop, Text};
 use std::alloc::AllocError;
 
@@ -33,21 +33,6 @@ fn step_of(chunk: &Chunk<Ref>) -> Result<Second, AllocError>
     }
 }
 
-fn look<C: Chunks>(chunks: &mut C, at: Ref) -> Result<Second, Stop>
-    requires known { IsSome (chunk_rows (C.contents chunks.old) (stamp_of at)) }
-    requires place { C.places chunks.old at }
-    ensures grown { Grows C.contents C.places chunks.old chunks.new }
-    ensures place { IfOk result (IsSecondAt (C.places chunks.new)) }
-    ensures step { IfOk result (LeadsToSecond (C.contents chunks.new) (stamp_of at)
-        (rows_or (chunk_rows (C.contents chunks.old) (stamp_of at)))) }
-    ensures stopped { IfErr result (λ s. (s ≡ NoMemory) ⊎ C.stops s) }
-{
-    let held = chunks.show(at)?;
-    let step = step_of(held.chunk());
-    chunks.leave(held);
-    Ok(step?)
-}
-
 /// The second key of the chunk's rows, if there are two. Stops for want of memory, or as the store does.
 pub fn second_placed<C: Chunks>(chunks: &mut C, at: Ref) -> Result<Option<Text>, Stop>
     requires known { IsSome (chunk_rows (C.contents chunks.old) (stamp_of at)) }
@@ -56,7 +41,7 @@ pub fn second_placed<C: Chunks>(chunks: &mut C, at: Ref) -> Result<Option<Text>,
     ensures key { IfOk result (λ key. key ≡ second_key (rows_or (chunk_rows (C.contents chunks.old) (stamp_of at)))) }
     ensures stopped { IfErr result (λ s. (s ≡ NoMemory) ⊎ C.stops s) }
 {
-    match look(chunks, at)? {
+    match look_at(chunks, at, step_of)?? {
         Second::Known(key) => Ok(key),
         Second::First(child, next) => {
             let key = second_placed(chunks, child)?;

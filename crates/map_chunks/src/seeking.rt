@@ -3,11 +3,11 @@ ghost use Rattle.std.specs.Prelude.{◌≡◌, ◌≤◌, ◌+◌, Some, IfOk, I
 ghost use Rattle.group_history.specs.Refs.{stamp_of};
 ghost use Rattle.map_chunks.specs.Places.{Grows};
 ghost use Rattle.map_chunks.specs.Seeking.{chunk_depth, is_in};
-ghost use Rattle.map_chunks.specs.Inside.Seeking.{IsHint, IsHintAt, Hints};
+ghost use Rattle.map_chunks.specs.Inside.Seeking.{IsHint};
 ghost use Rattle.map_chunks.specs.Shown.{chunk_rows, IsTree, rows_or};
 
-use crate::chunks::{Chunks, ShowsChunk};
-use crate::looks::{Hint, Sought};
+use crate::chunks::Chunks;
+use crate::looks::{Hint, Sought, look_at};
 use crate::search::{has_key, place_for};
 use group_history::{Chunk, Ref, SearchKey, Stop};
 
@@ -26,22 +26,6 @@ fn hint_of(chunk: &Chunk<Ref>, key: &SearchKey<'_>) -> Hint
             Hint::On(children[place])
         }
     }
-}
-
-fn hint<C: Chunks>(chunks: &mut C, at: Ref, key: &SearchKey<'_>) -> Result<Hint, Stop>
-    requires known { IsTree (chunk_rows (C.contents chunks.old) (stamp_of at)) }
-    requires place { C.places chunks.old at }
-    ensures grown { Grows C.contents C.places chunks.old chunks.new }
-    ensures place { IfOk result (IsHintAt (C.places chunks.new)) }
-    ensures hint { IfOk result (Hints (C.contents chunks.new) key.now (stamp_of at)
-        (chunk_depth (C.contents chunks.old) (stamp_of at))
-        (rows_or (chunk_rows (C.contents chunks.old) (stamp_of at)))) }
-    ensures stopped { IfErr result C.stops }
-{
-    let held = chunks.show(at)?;
-    let hint = hint_of(held.chunk(), key);
-    chunks.leave(held);
-    Ok(hint)
 }
 
 /// Whether a key is in the chunk's rows, and how deep the chunk is. Stops as the store does alone.
@@ -69,7 +53,14 @@ fn seek_for<C: Chunks>(chunks: &mut C, at: Ref, key: &SearchKey<'_>) -> Result<S
     ensures bound { IfOk result (λ s. s.depth ≤ stamp_of at + 1) }
     ensures stopped { IfErr result C.stops }
 {
-    match hint(chunks, at, key)? {
+    let hint = look_at(
+        chunks,
+        at,
+        |chunk|
+            ensures { IsHint chunk.now key.entry.now result }
+        { hint_of(chunk, key) },
+    )?;
+    match hint {
         Hint::Known(is_there) => Ok(Sought { is_there, depth: 1 }),
         Hint::On(child) => {
             let below = seek_for(chunks, child, key)?;

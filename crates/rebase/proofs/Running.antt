@@ -43,7 +43,7 @@ use Rattle.group_steps.specs.Proposing.{HasLast, asked_reply, change_asked}
 use Rattle.group_steps.proofs.Making.{wanting}
 use Rattle.transactions.specs.Maps.{map_or}
 use Rattle.asked_steps.specs.Runs.{IsAskedRun, run_start}
-use Rattle.asked_steps.specs.Runs.{IsFirstRun}
+use Rattle.asked_steps.specs.Runs.{IsFirstRun, with_more}
 use Rattle.asked_steps.specs.Tries.{Follows as FollowsRun, StartsAnew}
 use Rattle.asked_steps.specs.Tries.{IsEnded, IsFound, IsProgress, IsSince, TellsProgress}
 use Rattle.asked_steps.specs.declared.trying.Attempt.{Attempt}
@@ -57,7 +57,7 @@ use Rattle.rebase.specs.Clients.{Acts, ClientState, Grouped, IsSameClient, Stays
 use Rattle.rebase.specs.Inside.Made.{closing_ended, reply_made}
 use Rattle.rebase.specs.Inside.Shown.{IsShown, under_way}
 use Rattle.rebase.specs.Replies.{Replied, ended, id, reply_seen}
-use Rattle.rebase.specs.Running.{AsksFor, BeganAs, EndsCall, EndsPull, Follows, IsAsked, IsFirst, IsFirstAt, IsJudgedAt, IsUnwritten, UnderWay, change_replied, change_reply, last_called, with_pending}
+use Rattle.rebase.specs.Running.{AsksFor, BeganAs, EndsCall, EndsPull, Follows, IsAsked, IsFirst, IsFirstAt, IsJudgedAt, IsUnwritten, UnderWay, change_replied, change_reply, last_called}
 use Rattle.rebase.specs.declared.asking.Asked.{Asked}
 use Rattle.rebase.specs.declared.asking.Asked.TheVariants as asked
 use Rattle.rebase.specs.declared.calls.Reply.{Reply}
@@ -164,8 +164,8 @@ asks_for means cs s last c run u one others start is = record {
   judged = judged_at means cs s last c run u one others start is;
   between = is.leads.state;
   start = start ∙ ap map_or is.leads.tip.1;
-  whole = ap (λ (y : Mutation). with_pending is.leads.state (y ∷ u.behind)) one
-      ∙ ap (λ (ys : List Mutation). with_pending is.leads.state (run.mutation ∷ ys)) others ∙ is.leads.whole;
+  whole = ap (λ (y : Mutation). with_more is.leads.state (y ∷ u.behind)) one
+      ∙ ap (λ (ys : List Mutation). with_more is.leads.state (run.mutation ∷ ys)) others ∙ is.leads.whole;
 }
 
 -- where a run is asked for, or the call ended, the seat has no taken slot

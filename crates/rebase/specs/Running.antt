@@ -1,5 +1,5 @@
 -- A change whose mutators the caller runs: what is shown of it while it is under way, and how its call ends.
-use Rattle.std.specs.Prelude.{ℕ, ◌≡◌, ◌⊎◌, ◌<◌, ◌∷◌, ◌++◌, false, List, [], Option, Some, Result, IfErr}
+use Rattle.std.specs.Prelude.{ℕ, ◌≡◌, ◌⊎◌, ◌<◌, ◌∷◌, false, List, [], Option, Some, Result, IfErr}
 use Rattle.group_history.specs.declared.changes.Change.{Change}
 use Rattle.group_history.specs.declared.changes.Change.TheVariants.{Mutated, Pulled, Closed}
 use Rattle.group_history.specs.declared.mutations.Mutation.{Mutation}
@@ -12,7 +12,7 @@ use Rattle.group_history.specs.Meaning.{Meanings}
 use Rattle.group_history.specs.Mutating.{mutate_reply}
 use Rattle.group_history.specs.Pulling.{after_pull, end_reply}
 use Rattle.group_history.specs.Record.{IsAccepted, after, after_change}
-use Rattle.group_history.specs.State.{State, last_id, state, view_of}
+use Rattle.group_history.specs.State.{State, last_id, view_of}
 use Rattle.head_word.specs.declared.entry.Entry.{Entry}
 use Rattle.answered.specs.Answered.{IsLinearized}
 use Rattle.head_word.specs.Books.{record_of}
@@ -21,7 +21,7 @@ use Rattle.answered.specs.Changes.{change_applied, change_closing, change_made, 
 use Rattle.group_steps.specs.Causes.{HasCause}
 use Rattle.group_steps.specs.Leaving.{Frees}
 use Rattle.group_steps.specs.Missing.{map_ok}
-use Rattle.asked_steps.specs.Runs.{map_by}
+use Rattle.asked_steps.specs.Runs.{map_by, with_more}
 use Rattle.asked_steps.specs.Tries.{IsArrivedSince}
 use Rattle.rebase.specs.Asking.{change_wanted, end_bytes_reply}
 use Rattle.rebase.specs.Calls.{ended_in, id_in, last_after}
@@ -48,10 +48,6 @@ pub record BeganAs (means : Meanings) (reused : Type 0) (before : ClientState) (
   pub last : asking.client.last ≡ before.last
   pub since : IsArrivedSince means reused before.seat asking.lost asking.seen asking.client.seat
 
--- the state with more mutations at the end of what is pending
-abbrev pub with_pending : State → List Mutation → State
-with_pending s xs = state s.pulled s.cookie s.confirmed (s.pending ++ xs) s.closed
-
 -- So far as the change is judged at the state where the head was looked at: a mutation is its client's next one, at an
 -- open group, and is run on the map there; a pull is accepted.
 abbrev pub IsJudgedAt : Meanings → State → ℕ → Change → UnderWay → Type 0
@@ -66,7 +62,7 @@ pub record AsksFor (means : Meanings) (s : State) (last : ℕ) (change : Change)
   pub judged : IsJudgedAt means s last change asking
   pub between : State
   pub start : asking.start ≡ view_of means between
-  pub whole : with_pending between (asking.mutation ∷ asking.behind) ≡ after_change s change
+  pub whole : with_more between (asking.mutation ∷ asking.behind) ≡ after_change s change
 
 -- The next run of the same try, where the one before ended so: of the next mutation behind it, from the map that it left.
 pub record IsNextRun (was : UnderWay) (ran : Ran) (now : UnderWay) : Type 0 where

@@ -13,7 +13,7 @@ use Rattle.group_history.specs.Meaning.{Meanings}
 use Rattle.group_history.specs.Mutating.{after_mutate}
 use Rattle.group_history.specs.State.{State, state, Ids, pulled_state, view_of, replayed_once}
 use Rattle.group_history.proofs.Replays.{replayed-append}
-use Rattle.replays.specs.Inside.Pending.{with_more}
+use Rattle.replays.specs.Pending.{with_more}
 
 -- a view with one mutation more
 pub view-mutated : (means : Meanings) (s : State) (x : Mutation)

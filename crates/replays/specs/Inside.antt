@@ -1,3 +1,2 @@
--- Words that only private clauses of this crate use: a run of a mutator, and a state with more that is pending.
+-- Words that only private clauses of this crate use: a run of a mutator.
 pub mod Running
-pub mod Pending

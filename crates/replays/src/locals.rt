@@ -13,7 +13,7 @@ ghost use Rattle.map_chunks.specs.Drafts.{IsLate};
 ghost use Rattle.map_chunks.specs.Places.{with_nodes};
 ghost use Rattle.map_tree.specs.Trees.{tree_map};
 ghost use Rattle.replays.specs.Chaining.{HasTip, IsTip};
-ghost use Rattle.replays.specs.Inside.Pending.{with_more};
+ghost use Rattle.replays.specs.Pending.{with_more};
 ghost use Rattle.replays.specs.Inside.Running.{HasRun};
 ghost use Rattle.replays.specs.Refusing.{RefusesFor, StopsAs};
 

@@ -3,3 +3,4 @@ mod Escapes
 mod Parts
 mod PickedRules
 mod Turns
+pub mod Sharing

@@ -7,7 +7,7 @@ use Rattle.serde_json.specs.Data.{Data, string, Items, no_items, item}
 use Rattle.serde_json.specs.Find.{as_array, as_str, as_number, as_i64}
 use Rattle.serde_json.specs.Written.{compact_text}
 use Rattle.group_history.specs.declared.mutations.Reason.{Reason}
-use Rattle.group_history.specs.declared.mutations.Reason.TheVariants.{Initial, Rebase}
+use Rattle.group_history.specs.Examples.{tagged}
 use Rattle.group_history.specs.Map.{Bytes, Entries, same_text}
 use Rattle.group_history.specs.Meaning.{Meaning, Meanings, unknown, done, needs, value_of}
 
@@ -96,14 +96,9 @@ appended key added m = needs other_kind (followed (finite.get m key) added) (λ 
 unfoldable pub append_means : Data → Entries → Meaning
 append_means args m = needs wrong_arguments (text_and_text args) (λ a. appended a.0 a.1 m)
 
--- the text that tells a reason
-abbrev pub reason_text : Reason → Bytes
-reason_text Initial = codes "i"
-reason_text Rebase = codes "r"
-
 -- `tag`: the text at the key is followed by the text of the reason
 unfoldable pub tag_means : Reason → Data → Entries → Meaning
-tag_means why args m = needs wrong_arguments (text_alone args) (λ key. appended key (reason_text why) m)
+tag_means why args m = needs wrong_arguments (text_alone args) (λ key. appended key (tagged why) m)
 
 -- the mutator of a name as it is run for a reason, where there is one; only `tag` looks at the reason
 unfoldable pub mutator_of : Bytes → Reason → Option (Data → Entries → Meaning)

@@ -4,6 +4,7 @@
 //! value at the key doesn't suit. `tag` alone looks at the reason. What each means is a definition in
 //! `specs/Mutators`, and the clause `ran` of its function says that it is run as that, over any view.
 ghost use Rattle.std.specs.Prelude.{◌≡◌, ◌≤◌, false, codes, Some, IfOk, IfErr};
+ghost use Rattle.group_history.specs.Examples.{tagged};
 ghost use Rattle.group_history.specs.Map.{same_text};
 ghost use Rattle.serde_json.specs.Data.{depth};
 ghost use Rattle.serde_json.specs.Written.{has_float};
@@ -202,7 +203,7 @@ fn tag<V: WriteView>(alloc: Global, args: &Args<'_>, why: Reason, view: &mut V) 
 }
 
 fn reason_text(why: Reason) -> &'static str
-    ensures { result.now ≡ spec.reason_text why }
+    ensures { result.now ≡ tagged why }
 {
     match why {
         Reason::Initial => "i",

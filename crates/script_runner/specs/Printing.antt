@@ -2,34 +2,20 @@
 use Rattle.std.specs.Prelude.{ℕ, Bool, true, false, List, [], ◌∷◌, ◌++◌, map, codes, decimal, Some, None, Result, Ok}
 use Rattle.std.specs.Prelude.{Err}
 use Rattle.std.specs.List.{concat, join_with_byte}
-use Rattle.group_history.specs.declared.mutations.Mutation.{Mutation}
 use Rattle.group_history.specs.declared.refusals.Refusal.{Refusal}
 use Rattle.group_history.specs.declared.refusals.Refusal.TheVariants as refusal
 use Rattle.group_history.specs.declared.responses.Ended.{Ended}
 use Rattle.group_history.specs.declared.responses.Ended.TheVariants.{Applied, Same}
 use Rattle.group_history.specs.Map.{Bytes}
 use Rattle.group_history.specs.Pull.{kind_text}
-use Rattle.push_body.specs.Bodies.{quoted}
+pub use Rattle.push_body.specs.Rows.{array_text, pending_row, row_text}
 use Rattle.rebase.specs.declared.watching.Polled.{Polled}
 use Rattle.rebase.specs.declared.watching.Polled.TheVariants as polled
 use Rattle.rebase.specs.Replies.{Replied, value, yes_or_no, rows, pending, cookie, id, body, ticket, ended}
 
--- a row of a scan, as a JSON array of its key and value; the value is compact JSON already
-unfoldable pub row_text : Bytes × Bytes → Bytes
-row_text row = concat (codes "[" ∷ quoted row.0 ∷ codes "," ∷ row.1 ∷ codes "]" ∷ [])
-
 -- rows, with commas (44) between them
 abbrev pub rows_text : List (Bytes × Bytes) → Bytes
 rows_text rs = join_with_byte 44 (map row_text rs)
-
--- a pending mutation, as a JSON array of client ID, id and name
-unfoldable pub pending_row : Mutation → Bytes
-pending_row m = concat (codes "[" ∷ quoted m.client ∷ codes "," ∷ decimal m.id ∷ codes "," ∷ quoted m.name
-    ∷ codes "]" ∷ [])
-
--- a JSON array of texts that are JSON, with commas (44) between them
-abbrev pub array_text : List Bytes → Bytes
-array_text texts = concat (codes "[" ∷ join_with_byte 44 texts ∷ codes "]" ∷ [])
 
 -- the name of a refusal
 abbrev pub refusal_name : Refusal → Bytes

@@ -124,7 +124,7 @@ fn print_quoted(out: &mut Vec<u8>, word: &str, text: &str) -> Result<(), AllocEr
 }
 
 /// Appends a row of a scan, as a JSON array of its key and value. Where that is refused what was there stays.
-#[tactic(auto, unfolding(crate::specs::Printing::row_text))]
+#[tactic(auto, unfolding(push_body::specs::Rows::row_text))]
 pub(crate) fn print_row(key: &Text, value: &Json, out: &mut Vec<u8>) -> Result<(), AllocError>
     ensures all { OnOk result (out.new.items ≡ out.old.items ++ row_text (key.now, value.now)) }
     ensures kept { OnErr result (IsPrefix out.old.items out.new.items) }
@@ -165,7 +165,7 @@ fn print_list(list: &RowList, out: &mut Vec<u8>) -> Result<(), AllocError>
 }
 
 /// Appends a pending mutation, as a JSON array of client ID, id and name.
-#[tactic(auto, unfolding(crate::specs::Printing::pending_row))]
+#[tactic(auto, unfolding(push_body::specs::Rows::pending_row))]
 fn print_pending_row(mutation: &Mutation, out: &mut Vec<u8>) -> Result<(), AllocError>
     ensures { OnOk result (out.new.items ≡ out.old.items ++ pending_row mutation.now) }
 {

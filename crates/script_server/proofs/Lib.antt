@@ -1,5 +1,4 @@
 mod Reading
 mod Served
 mod Answering
-mod Sharing
 mod Opening

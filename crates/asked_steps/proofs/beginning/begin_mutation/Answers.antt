@@ -7,7 +7,7 @@ use Rattle.map_chunks.specs.Drafts.{Drafted}
 use Rattle.map_chunks.specs.Places.{with_nodes}
 use Rattle.transactions.specs.Maps.{map_or}
 use Rattle.replays.specs.Chaining.{IsTip}
-use Rattle.replays.specs.Inside.Pending.{with_more}
+use Rattle.replays.specs.Pending.{with_more}
 use Rattle.replays.specs.declared.tips.Tip.{Tip}
 use Rattle.group_steps.specs.Places.{state_at}
 use Rattle.group_steps.proofs.Drafting.{behind_none}

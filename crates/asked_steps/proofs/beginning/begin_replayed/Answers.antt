@@ -7,7 +7,7 @@ use Rattle.group_history.specs.Map.{patched}
 use Rattle.group_history.specs.Pulling.{after_pull, left_pending}
 use Rattle.group_history.specs.State.{State, pulled_state}
 use Rattle.head_word.specs.Books.{drawn}
-use Rattle.replays.specs.Inside.Pending.{with_more}
+use Rattle.replays.specs.Pending.{with_more}
 use Rattle.replays.proofs.StateLemmas.{pull_parts}
 use Rattle.group_steps.specs.Places.{Place, state_at}
 use Rattle.asked_steps.specs.Runs.{Leads, MayStep}

@@ -1,21 +1,29 @@
+use Rattle.std.proofs.lemmas.Result.{IfOk-at_ok}
 use Rattle.group_history.specs.Refs.{stamp_of}
-use Rattle.commit_graph.proofs.Chained.{base_cookie}
+use Rattle.commit_graph.specs.Inside.Chains.{HasCookie}
+use Rattle.commit_graph.proofs.Chained.{shown_snapshot, base_cookie}
 use Rattle.map_chunks.proofs.KeptLemmas.{grows_on}
 use Rattle.commit_graph.proofs.states.cookie_of.Goals as goal
 
 pub returns-clause-cookie : goal.returns-clause-cookie
 returns-clause-cookie g c v h =
-    let m = g.N.Chunks.contents in let k = c.in_ok-cookie.ensures.content in
-    base_cookie (m c.snapshot_of.new.nodes) (m c.show_cookie.new.nodes)
-    (stamp_of c.in_ok-snapshot.snapshot) k.0 v.state c.in_ok-cookie.cookie
-    (c.in_ok-snapshot.ensures.state v h) c.show_cookie.ensures.grown.0 k.1 k.2
+    let m = g.N.Chunks.contents in let k = c.in_ok-look_at_commit.ensures.told in
+    base_cookie (m c.snapshot_of.new.nodes) (m c.look_at_commit.new.nodes)
+    (stamp_of c.in_ok-snapshot.snapshot) k.0.now v.state c.in_ok-cookie.cookie
+    (c.in_ok-snapshot.ensures.state v h) c.look_at_commit.ensures.grown.0 k.1.1
+    (IfOk-at_ok (HasCookie k.0.now) c.in_ok-cookie.was k.2)
 
 pub returns-clause-grown : goal.returns-clause-grown
 returns-clause-grown g c =
     grows_on g.N.Chunks.contents g.N.Chunks.places _ _ _
-    c.snapshot_of.ensures.grown c.show_cookie.ensures.grown
+    c.snapshot_of.ensures.grown c.look_at_commit.ensures.grown
 
 pub returns-in_err-cookie-clause-grown : goal.returns-in_err-cookie-clause-grown
 returns-in_err-cookie-clause-grown g c =
     grows_on g.N.Chunks.contents g.N.Chunks.places _ _ _
-    c.snapshot_of.ensures.grown c.show_cookie.ensures.grown
+    c.snapshot_of.ensures.grown c.look_at_commit.ensures.grown
+
+pub look_at_commit-requires-clause-callable : goal.look_at_commit-requires-clause-callable
+look_at_commit-requires-clause-callable g c commit lies =
+    shown_snapshot (g.N.Chunks.contents c.snapshot_of.new.nodes) (stamp_of c.in_ok-snapshot.snapshot) commit.now
+    c.in_ok-snapshot.ensures.lies lies

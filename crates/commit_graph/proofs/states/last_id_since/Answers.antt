@@ -4,8 +4,7 @@ use Rattle.group_history.specs.Refs.{stamp_of}
 use Rattle.group_history.specs.State.{last_id}
 use Rattle.group_history.specs.Spelling.{Version}
 use Rattle.group_history.proofs.Lists.{prefix_self}
-use Rattle.map_chunks.specs.Places.{IfAt}
-use Rattle.map_chunks.proofs.KeptLemmas.{grows_on}
+use Rattle.map_chunks.proofs.KeptLemmas.{IfAt, grows_on}
 use Rattle.commit_graph.proofs.Rooted.{basis_may}
 use Rattle.commit_graph.proofs.Chained.{IsSearch, ahead, search_begins, search_ends, search_step, some_version}
 use Rattle.commit_graph.proofs.states.last_id_since.Goals as goal
@@ -32,53 +31,57 @@ returns-in-Some-found_at-clause-id g c v h =
 
 pub returns-then-own-gt0-clause-id : goal.returns-then-own-gt0-clause-id
 returns-then-own-gt0-clause-id g c v h =
-    let m = g.N.Chunks.contents in let i = c.loop-next.invariant in let k = c.in_ok-own.ensures.content in
+    let m = g.N.Chunks.contents in let i = c.loop-next.invariant in let k = c.in_ok-own.ensures.told in
     let last = last_id i.0.state c.args.client.now in
     let met = subst (λ (o : Option Ref). IsSearch (m c.loop-next.nodes) c.args.client.now last o) c.in-Some.is i.2 in
     let s = search_step (m c.loop-next.nodes)
-    (m c.show_own_id.new.nodes) c.args.client.now last c.in-Some.at k.0 met c.show_own_id.ensures.grown.0 k.1.1 in
+    (m c.look_at_commit.new.nodes) c.args.client.now last c.in-Some.at k.0.now met c.look_at_commit.ensures.grown.0
+    k.1.1 in
     let same : i.0 ≡ v = (let e : Some i.0 ≡ Some v = sym i.1 ∙ h in cc e) in
-    k.2 ∙ (s.1 (subst (λ (n : ℕ). 0 < n) k.2 c.if-own-gt0.true) ∙ ap
+    k.2.0 ∙ (s.1 (subst (λ (n : ℕ). 0 < n) k.2.0 c.if-own-gt0.true) ∙ ap
     (λ (w : Version). last_id w.state c.args.client.now) same)
 
 pub loop-next-smaller : goal.loop-next-smaller
 loop-next-smaller g c =
-    let m = g.N.Chunks.contents in let i = c.loop-next.invariant in let k = c.in_ok-own.ensures.content in
+    let m = g.N.Chunks.contents in let i = c.loop-next.invariant in let k = c.in_ok-own.ensures.told in
     let last = last_id i.0.state c.args.client.now in
     let met = subst (λ (o : Option Ref). IsSearch (m c.loop-next.nodes) c.args.client.now last o) c.in-Some.is i.2 in
     let s = search_step (m c.loop-next.nodes)
-    (m c.show_own_id.new.nodes) c.args.client.now last c.in-Some.at k.0 met c.show_own_id.ensures.grown.0 k.1.1 in
+    (m c.look_at_commit.new.nodes) c.args.client.now last c.in-Some.at k.0.now met c.look_at_commit.ensures.grown.0
+    k.1.1 in
     subst (λ (o : Option Ref). ahead c.in_ok-own.own.basis < ahead o) (sym c.in-Some.is)
-    (subst (λ (o : Option Ref). ahead o < suc (stamp_of c.in-Some.at)) (sym k.3) s.0)
+    (subst (λ (o : Option Ref). ahead o < suc (stamp_of c.in-Some.at)) (sym k.2.1) s.0)
 
 pub loop-next-preserved : goal.loop-next-preserved
 loop-next-preserved g c =
-    let m = g.N.Chunks.contents in let i = c.loop-next.invariant in let k = c.in_ok-own.ensures.content in
+    let m = g.N.Chunks.contents in let i = c.loop-next.invariant in let k = c.in_ok-own.ensures.told in
     let last = last_id i.0.state c.args.client.now in
     let met = subst (λ (o : Option Ref). IsSearch (m c.loop-next.nodes) c.args.client.now last o) c.in-Some.is i.2 in
     let s = search_step (m c.loop-next.nodes)
-    (m c.show_own_id.new.nodes) c.args.client.now last c.in-Some.at k.0 met c.show_own_id.ensures.grown.0 k.1.1 in
-    let none = sym k.2 ∙ omega (arith, c.if-own-gt0.false) in let may = g.N.Chunks.places c.show_own_id.new.nodes in (
+    (m c.look_at_commit.new.nodes) c.args.client.now last c.in-Some.at k.0.now met c.look_at_commit.ensures.grown.0
+    k.1.1 in
+    let none = sym k.2.0 ∙ omega (arith, c.if-own-gt0.false) in
+    let may = g.N.Chunks.places c.look_at_commit.new.nodes in (
       i.0,
       i.1,
-      subst (λ (o : Option Ref). IsSearch (m c.show_own_id.new.nodes) c.args.client.now last o) (sym k.3)
+      subst (λ (o : Option Ref). IsSearch (m c.look_at_commit.new.nodes) c.args.client.now last o) (sym k.2.1)
           (s.2 none),
-      grows_on m g.N.Chunks.places c.args.nodes.now c.loop-next.nodes c.show_own_id.new.nodes i.3
-          c.show_own_id.ensures.grown,
-      subst (IfAt may) (sym k.3)
-          (basis_may may (m c.show_own_id.new.nodes) (stamp_of c.in-Some.at) k.0 k.1),
+      grows_on m g.N.Chunks.places c.args.nodes.now c.loop-next.nodes c.look_at_commit.new.nodes i.3
+          c.look_at_commit.ensures.grown,
+      subst (IfAt may) (sym k.2.1)
+          (basis_may may (m c.look_at_commit.new.nodes) (stamp_of c.in-Some.at) k.0.now k.1),
     )
 
-pub show_own_id-requires-clause-place : goal.show_own_id-requires-clause-place
-show_own_id-requires-clause-place g c = subst
+pub look_at_commit-requires-clause-place : goal.look_at_commit-requires-clause-place
+look_at_commit-requires-clause-place g c = subst
     (IfAt (g.N.Chunks.places c.loop-next.nodes)) c.in-Some.is c.loop-next.invariant.4
 
 pub returns-then-own-gt0-clause-grown : goal.returns-then-own-gt0-clause-grown
 returns-then-own-gt0-clause-grown g c =
     grows_on g.N.Chunks.contents g.N.Chunks.places _ _ _
-    c.loop-next.invariant.3 c.show_own_id.ensures.grown
+    c.loop-next.invariant.3 c.look_at_commit.ensures.grown
 
 pub returns-in_err-own-clause-grown : goal.returns-in_err-own-clause-grown
 returns-in_err-own-clause-grown g c =
     grows_on g.N.Chunks.contents g.N.Chunks.places _ _ _
-    c.loop-next.invariant.3 c.show_own_id.ensures.grown
+    c.loop-next.invariant.3 c.look_at_commit.ensures.grown

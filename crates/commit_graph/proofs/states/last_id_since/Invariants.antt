@@ -1,5 +1,6 @@
 use Rattle.std.proofs.Common.{◌≡◌, Some}
-use Rattle.map_chunks.specs.Places.{Grows, IfAt}
+use Rattle.map_chunks.specs.Places.{Grows}
+use Rattle.map_chunks.proofs.KeptLemmas.{IfAt}
 use Rattle.group_history.specs.Refs.{stamp_of}
 use Rattle.group_history.specs.State.{last_id}
 use Rattle.group_history.specs.Spelling.{Version, version_at}

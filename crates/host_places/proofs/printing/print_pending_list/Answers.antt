@@ -2,7 +2,7 @@ use Rattle.std.proofs.Common.{◌≡◌, ◌+◌, [], ◌∷◌, ◌++◌, map, 
 use Rattle.std.proofs.lemmas.List.{take_more}
 use Rattle.std.specs.List.{join_with_byte}
 use Rattle.push_body.proofs.Writings.{join-push}
-use Rattle.host_places.specs.Printing.{pending_row}
+use Rattle.push_body.specs.Rows.{pending_row}
 use Rattle.host_places.proofs.Joining.{more_joined}
 use Rattle.host_places.proofs.printing.print_pending_list.Goals as goal
 

@@ -1,7 +1,7 @@
 use Rattle.std.proofs.Common.{◌≡◌, ◌∷◌, ◌++◌, map, take}
 use Rattle.std.specs.List.{join_with_byte}
 use Rattle.group_history.specs.declared.mutations.Mutation.{Mutation}
-use Rattle.host_places.specs.Printing.{pending_row}
+use Rattle.push_body.specs.Rows.{pending_row}
 use Rattle.host_places.proofs.printing.print_pending_list.Given as goal
 
 abbrev pub invariant-loop-mutation : goal.invariant-loop-mutation

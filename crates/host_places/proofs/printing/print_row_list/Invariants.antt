@@ -1,7 +1,7 @@
 use Rattle.std.proofs.Common.{◌≡◌, ◌∷◌, ◌++◌, map, take}
 use Rattle.std.specs.List.{join_with_byte}
 use Rattle.group_history.specs.Map.{Bytes}
-use Rattle.host_places.specs.Printing.{row_text}
+use Rattle.push_body.specs.Rows.{row_text}
 use Rattle.host_places.proofs.printing.print_row_list.Given as goal
 
 abbrev pub invariant-loop-row : goal.invariant-loop-row

@@ -7,7 +7,7 @@ use Rattle.map_tree.specs.Trees.{tree_map}
 use Rattle.map_tree.specs.declared.tree.Tree.{Tree}
 use Rattle.map_tree.proofs.BelowLemmas.{tree-behind}
 use Rattle.replays.specs.Chaining.{HasTip, IsTip}
-use Rattle.replays.specs.Inside.Pending.{with_more}
+use Rattle.replays.specs.Pending.{with_more}
 use Rattle.replays.specs.declared.tips.Tip.{Tip}
 use Rattle.replays.proofs.ReplayLemmas.{tip-grown, version_last, with_halves}
 use Rattle.replays.proofs.locals.+replaying.Goals as goal

@@ -7,7 +7,7 @@ use Rattle.map_chunks.specs.Places.{with_nodes}
 use Rattle.map_nodes.proofs.FreezeLemmas.{nodes-grown}
 use Rattle.commit_graph.proofs.Spelled.{map-grown}
 use Rattle.replays.specs.Chaining.{HasTip}
-use Rattle.replays.specs.Inside.Pending.{with_more}
+use Rattle.replays.specs.Pending.{with_more}
 use Rattle.replays.specs.declared.tips.Tip.{Tip}
 use Rattle.replays.proofs.BelowLemmas.{root-behind}
 use Rattle.replays.proofs.locals.add_all.Goals as goal

@@ -8,7 +8,7 @@ use Rattle.group_history.specs.State.{State}
 use Rattle.group_history.proofs.Lists.{prefix_trans}
 use Rattle.map_chunks.specs.Places.{with_nodes}
 use Rattle.replays.specs.Chaining.{HasTip}
-use Rattle.replays.specs.Inside.Pending.{with_more}
+use Rattle.replays.specs.Pending.{with_more}
 use Rattle.replays.proofs.BelowLemmas.{tip-behind}
 use Rattle.replays.proofs.StateLemmas.{with_next}
 use Rattle.replays.proofs.locals.add_unread.Goals as goal

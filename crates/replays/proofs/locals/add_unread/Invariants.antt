@@ -4,7 +4,7 @@ use Rattle.group_history.specs.Refs.{stamp_of}
 use Rattle.group_history.specs.Spelling.{Version}
 use Rattle.map_chunks.specs.Places.{with_nodes}
 use Rattle.replays.specs.Chaining.{HasTip}
-use Rattle.replays.specs.Inside.Pending.{with_more}
+use Rattle.replays.specs.Pending.{with_more}
 use Rattle.replays.proofs.locals.add_unread.Given as goal
 
 -- the tip is of the state with so many of the mutations, and has the map of the basis; its commit

@@ -2,7 +2,7 @@ use Rattle.std.proofs.Common.{◌≡◌, ◌∙◌, true, false, sym}
 use denote.Exit.{no}
 use denote.Param.Send.{arg_sync, param_sync}
 use Rattle.giqaymu_c.proofs.Calling.{calls_of, spot}
-use Rattle.giqaymu_c.proofs.Sharing.{mutators_sync}
+use Rattle.rule_mutators.proofs.Sharing.{mutators_sync}
 use Rattle.giqaymu_c.specs.Inside.{seen_as}
 use Rattle.giqaymu_c.specs.Jobs.{meant_by}
 use Rattle.giqaymu_c.proofs.spots.Spot.call.Goals as goal

@@ -1,6 +1,6 @@
 use denote.Exit.{no}
 use denote.Param.Send.{arg_sync, param_sync}
-use Rattle.giqaymu_c.proofs.Sharing.{mutators_sync}
+use Rattle.rule_mutators.proofs.Sharing.{mutators_sync}
 use Rattle.giqaymu_c.proofs.spots.Spot.next.Goals as goal
 
 pub give-requires-sync-M : goal.give-requires-sync-M

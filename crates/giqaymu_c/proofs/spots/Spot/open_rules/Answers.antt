@@ -1,6 +1,6 @@
 use denote.Exit.{no}
 use denote.Param.Send.{arg_sync, param_sync}
-use Rattle.giqaymu_c.proofs.Sharing.{mutators_sync}
+use Rattle.rule_mutators.proofs.Sharing.{mutators_sync}
 use Rattle.giqaymu_c.proofs.spots.Spot.open_rules.Goals as goal
 
 pub open_places-requires-sync-M : goal.open_places-requires-sync-M

@@ -1,6 +1,6 @@
 use denote.Exit.{no}
 use denote.Param.Send.{arg_sync, param_sync}
-use Rattle.script_server.proofs.Sharing.{mutators_sync}
+use Rattle.rule_mutators.proofs.Sharing.{mutators_sync}
 use Rattle.script_server.proofs.opened.Opened.perform.Goals as goal
 
 pub tell-requires-sync-M : goal.tell-requires-sync-M

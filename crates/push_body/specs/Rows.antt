@@ -1,4 +1,5 @@
--- The texts of rows and of pending mutations: JSON (RFC 8259).
+-- The texts of what a client answers, as the edges print it: a row of a scan and a pending mutation, each a JSON array
+-- (RFC 8259), and arrays of them.
 use Rattle.std.specs.Prelude.{List, [], ◌∷◌, codes, decimal}
 use Rattle.std.specs.List.{concat, join_with_byte}
 use Rattle.group_history.specs.declared.mutations.Mutation.{Mutation}
