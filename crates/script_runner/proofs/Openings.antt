@@ -1,6 +1,6 @@
 -- The clients of a script before the first phase, and what its run writes from there.
-use Rattle.std.proofs.Common.{◌≡◌, ◌<◌, ℕ, suc, inl, inr, arith, Option, None, Some, Result, Ok, Err, IfOk, OnOk, List, []}
-use Rattle.std.proofs.Common.{map, filter, length, vec_len, refl, sym, ap, ◌∙◌, subst}
+use Rattle.std.proofs.Common.{◌≡◌, ◌<◌, ℕ, suc, inl, inr, arith, Option, None, Some, Result, Ok, Err, IfOk, OnOk}
+use Rattle.std.proofs.Common.{List, [], map, filter, length, vec_len, refl, sym, ap, ◌∙◌, subst}
 use Rattle.std.proofs.lemmas.Bool.Decides.{eqb_tells}
 use Rattle.std.proofs.lemmas.List.{get_or-map, length-map}
 use Rattle.std.proofs.lemmas.List.Elements.{All-map}

@@ -116,7 +116,8 @@ module _ (means : Meanings) where
   MayPoll name (Some watch) before text after = Polls name watch before text after
   MayPoll name None before text after = (text ≡ codes "no watch") × (after ≡ before)
 
-  -- What a command may print, and how it leaves its client. `sights` are what each client had seen when the phase began.
+  -- What a command may print, and how it leaves its client. `sights` are what each client had seen when the phase
+  -- began.
   abbrev pub MayPrint : List Known → Player → Command → Bytes → Player → Type 0
   MayPrint sights before (command.Query q) text after = HandsOn (Asks q) answer_text before text after
   MayPrint sights before (command.Begin name) text after = MayBegin name before text after

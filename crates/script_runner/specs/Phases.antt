@@ -16,7 +16,8 @@ all_sights players = map (λ p. sight_of p.standing) players
 
 module _ (means : Meanings) where
   -- The text has a line of output for each line, in order, with what its command may print on the client that the lines
-  -- before left; the last one leaves the client at the end. `sights` are what each client had seen when the phase began.
+  -- before left; the last one leaves the client at the end. `sights` are what each client had seen when the phase
+  -- began.
   abbrev pub AreTold : List Known → Player → Lines → Bytes → Player → Type 0
   AreTold sights before [] text end = (text ≡ []) × (end ≡ before)
   AreTold sights before (l ∷ ls) text end =

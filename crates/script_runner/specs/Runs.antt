@@ -39,7 +39,8 @@ abbrev pub HasSeenOpening : Known → Type 0
 HasSeenOpening mark = (at : Ref) × (mark.log ≡ opening at)
 
 -- A client of the group of this book before the first phase, whose mutators mean this. It began when its seat had seen
--- the opening of the book alone, has the last id that the group has of it, moved nothing, and has no ticket and no watch.
+-- the opening of the book alone, has the last id that the group has of it, moved nothing, and has no ticket and no
+-- watch.
 pub record IsNew (means : Meanings) (identity : Identity) (book : Book) (p : Player) : Type 0 where
   pub writes : p.standing.caller.identity ≡ identity
   pub of_book : p.standing.mark.book ≡ book
