@@ -1,5 +1,6 @@
 -- Clients whose lines are done one by one.
-use Rattle.std.proofs.Common.{◌≡◌, ◌<◌, ◌++◌, ℕ, List, Some, map, length, slice_index_or, slice_set, sym, subst, ap, ◌∙◌}
+use Rattle.std.proofs.Common.{◌≡◌, ◌<◌, ◌++◌, ℕ, List, Some, map, length, slice_index_or, slice_set}
+use Rattle.std.proofs.Common.{sym, subst, ap, ◌∙◌}
 use Rattle.std.proofs.lemmas.List.{get_or-map, length-map, map-set}
 use Rattle.std.proofs.lemmas.List.Elements.{All-map}
 use Rattle.std.proofs.lemmas.Option.{slice_get-get_or}
@@ -13,9 +14,8 @@ use Rattle.rebase.specs.Clients.{Grouped}
 use Rattle.script_parser.specs.declared.script.Command.{Command}
 use Rattle.script_runner.specs.declared.phase.Turn.{Turn}
 use Rattle.script_runner.specs.declared.reply.Printed.{Printed}
-use Rattle.script_runner.specs.declared.shared.SharedClient.{SharedClient}
 use Rattle.script_runner.specs.Answering.{IsToldAt}
-use Rattle.script_runner.specs.Callers.{shared_rules, sight_of}
+use Rattle.script_runner.specs.Callers.{sight_of}
 use Rattle.script_runner.specs.Commanding.{MayPrint, Player}
 use Rattle.script_runner.specs.Phases.{all_sights}
 use Rattle.script_runner.specs.Printing.{line_text}
@@ -23,31 +23,31 @@ use Rattle.script_runner.specs.Inside.Players.{IsNewIn, Prints, player_of, playe
 use Rattle.script_runner.specs.Inside.Printing.{reply_text}
 
 -- new clients are of their group
-pub of_group : {M : Type 0} (means : Meanings) (group : Grouped) (turns : List (Turn (SharedClient M)))
+pub of_group : {M : Type 0} (means : Meanings) (group : Grouped) (turns : List (Turn M))
     → All (IsNewIn means group) turns
     → All (λ t. (standing_of t.client.caller).mark.book ≡ group.group.book) turns
 of_group means group turns new k d below = (new k d below).of_book
 
 -- and so is what they have seen
-pub seen_there : {M : Type 0} (book : Book) (turns : List (Turn (SharedClient M))) (sights : List Known)
-    → sights ≡ all_sights (players_of standing_of turns)
+pub seen_there : {M : Type 0} (book : Book) (turns : List (Turn M)) (sights : List Known)
+    → sights ≡ all_sights (players_of turns)
     → All (λ t. (standing_of t.client.caller).mark.book ≡ book) turns → All (λ s. s.book ≡ book) sights
 seen_there book turns sights is of =
     subst (All (λ s. s.book ≡ book)) (sym is)
-    (All-map (λ s. s.book ≡ book) (λ p. sight_of p.standing) (players_of standing_of turns)
-    (All-map (λ p. (sight_of p.standing).book ≡ book) (λ t. player_of standing_of t.client) turns of))
+    (All-map (λ s. s.book ≡ book) (λ p. sight_of p.standing) (players_of turns)
+    (All-map (λ p. (sight_of p.standing).book ≡ book) (λ t. player_of t.client) turns of))
 
 -- a line was told by the client at a place
-pub told_at : {M : Type 0} (means : Meanings) (turns : List (Turn (SharedClient M))) (sights : List Known)
-    (place : ℕ) (l : ℕ × Command) (old new : Turn (SharedClient M)) (reply : Printed) (name out after : Bytes)
-    → place < length (players_of standing_of turns) → old ≡ slice_index_or turns place old
-    → Prints standing_of (λ p. MayPrint (shared_rules means) sights p l.1) old.client reply new.client
+pub told_at : {M : Type 0} (means : Meanings) (turns : List (Turn M)) (sights : List Known)
+    (place : ℕ) (l : ℕ × Command) (old new : Turn M) (reply : Printed) (name out after : Bytes)
+    → place < length (players_of turns) → old ≡ slice_index_or turns place old
+    → Prints (λ p. MayPrint means sights p l.1) old.client reply new.client
     → new.client.name ≡ old.client.name → name ≡ new.client.name
     → after ≡ out ++ line_text l.0 name (reply_text reply)
-    → (text : Bytes) × (after ≡ out ++ text) × IsToldAt (shared_rules means) sights place l
-    (players_of standing_of turns) text (players_of standing_of (slice_set turns place new))
+    → (text : Bytes) × (after ≡ out ++ text) × IsToldAt means sights place l
+    (players_of turns) text (players_of (slice_set turns place new))
 told_at {M} means turns sights place l old new reply name out after below at may same named printed =
-    let player : Turn (SharedClient M) → Player = λ t. player_of standing_of t.client in
+    let player : Turn M → Player = λ t. player_of t.client in
     let within : place < length turns = subst (λ n. place < n) (length-map turns player) below in (
       line_text l.0 name (reply_text reply),
       printed,

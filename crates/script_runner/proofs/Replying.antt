@@ -1,5 +1,5 @@
 -- What a client of a script replies, by what its group answers.
-use Rattle.std.proofs.Common.{◌≡◌, inl, ℕ, ◌+◌, Result, Ok, Err, refl, ap, ◌∙◌}
+use Rattle.std.proofs.Common.{◌≡◌, ℕ, ◌+◌, Result, Ok, Err, refl, ap, ◌∙◌}
 use Rattle.std.specs.Prelude.{IfErr, IfOk}
 use Rattle.std.specs.Borrow.{Bor}
 use Rattle.group_history.specs.declared.refusals.Refusal.{Refusal}
@@ -11,9 +11,9 @@ use Rattle.group_history.specs.Queries.{view_rows}
 use Rattle.group_history.specs.Rows.{Rows}
 use Rattle.group_history.specs.State.{State}
 use Rattle.head_word.specs.Marks.{Known}
-use Rattle.answered.specs.Answered.{IsLinearized, is_resource_refusal, no_change}
+use Rattle.answered.specs.Answered.{IsLinearized, no_change}
 use Rattle.rebase.specs.Asking.{is_passing}
-use Rattle.rebase.specs.Calls.{Caller, IsReplyTo, caller, caller_of, change_of, last_after, reply_to}
+use Rattle.rebase.specs.Calls.{Caller, caller, caller_of, change_of, last_after, reply_to}
 use Rattle.rebase.specs.Clients.{ClientState, IsSameClient}
 use Rattle.group_steps.specs.Missing.{map_ok}
 use Rattle.rebase.specs.Queries.{gave}
@@ -51,11 +51,6 @@ pub last_kept : (last : ℕ) (r : Result Ended Refusal) → last_after last (map
 last_kept last (Ok e) = refl
 last_kept last (Err e) = refl
 
--- and so does a scan
-pub last_after_list : {X : Type 0} (last : ℕ) (rs : Rows) (r : Result X Refusal) → last_after last (reply_of_list rs r) ≡ last
-last_after_list last rs (Ok list) = refl
-last_after_list last rs (Err e) = refl
-
 list_is : {X : Type 0} (rs : Rows) (r : Result X Refusal) → reply_of_list rs r ≡ map_ok rows (gave rs r)
 list_is rs (Ok list) = refl
 list_is rs (Err e) = refl
@@ -68,9 +63,3 @@ pub list_told : {X : Type 0} (means : Meanings) (tries : ℕ) (old new : Known) 
 list_told means tries old new c scan rs r is =
     call_told rows means tries old new c (call.Scan scan) (call.Scan scan) (gave rs r) (reply_of_list rs r) no_change
     (λ (s : State). Ok (view_rows means s scan.now)) refl (list_is rs r) refl (λ (s : State). refl) is
-
--- the right rows, or want of memory
-pub list_plainly : {X : Type 0} (rs : Rows) (r : Result X Refusal) → IfErr r (λ e. e ≡ refusal.NoMemory)
-    → IsReplyTo (reply_of_list rs r) (Ok (rows rs))
-list_plainly rs (Ok list) err = refl
-list_plainly rs (Err e) err = inl (ap is_resource_refusal err)

@@ -11,18 +11,19 @@ use Rattle.std.specs.Io.KnownBytes.{Appends, Keeps}
 use Rattle.std.specs.List.{All, concat}
 use Rattle.logbook.specs.Pages.{Book}
 use Rattle.group_history.specs.Map.{Bytes}
+use Rattle.group_history.specs.Meaning.{Meanings}
 use Rattle.head_word.specs.Marks.{Known}
 use Rattle.script_runner.specs.declared.phase.Turn.{Turn}
 use Rattle.script_parser.specs.declared.script.Command.{Command}
 use Rattle.script_parser.specs.declared.script.Line.{Line}
 use Rattle.script_parser.specs.declared.script.Phase.{Phase}
-use Rattle.script_runner.specs.Callers.{CanLearn, CanLearnAll, Rules, ClientState, sight_of}
+use Rattle.script_runner.specs.Callers.{CanLearn, CanLearnAll, sight_of}
 use Rattle.script_runner.specs.Commanding.{MayPrint, Player}
 use Rattle.script_parser.specs.Context.{Lines}
 use Rattle.script_runner.specs.Phases.{AreTold, AreWritten, IsPhase, all_sights}
 use Rattle.script_runner.specs.Printing.{line_text}
 use Rattle.script_parser.specs.Scripts.{line_said, lines_at, phase_said}
-use Rattle.script_runner.specs.Inside.Players.{player_of, players_of}
+use Rattle.script_runner.specs.Inside.Players.{player_of, players_of, standing_of}
 use Rattle.script_runner.specs.Inside.Turns.{AreOf, AreOfOneGroup, IsPrinted, IsTold, IsTurn, StayInGroup}
 use Rattle.script_runner.specs.Inside.Turns.{printed_text, texts_of}
 
@@ -48,14 +49,14 @@ mapped-more f g xs new x ys i y k q so is same =
 
 -- TEXTS
 
-text_with : {C : Type 0} (ts : List (Turn C)) (t : Turn C)
+text_with : {M : Type 0} (ts : List (Turn M)) (t : Turn M)
     → concat (texts_of (ts ++ t ∷ [])) ≡ concat (texts_of ts) ++ printed_text t.printed
 text_with ts t =
     ap concat (map-append (λ u. printed_text u.printed) ts (t ∷ [])) ∙ concat-append (texts_of ts)
     (printed_text t.printed ∷ []) ∙ ap (λ w. concat (texts_of ts) ++ w) (append-nil (printed_text t.printed))
 
 -- a turn of the loop over the clients
-pub text-more : {C : Type 0} (all : List (Turn C)) (i : ℕ) (t : Turn C) (old new : Bytes) → i < length all
+pub text-more : {M : Type 0} (all : List (Turn M)) (i : ℕ) (t : Turn M) (old new : Bytes) → i < length all
     → t ≡ get_or all i t → old ≡ concat (texts_of (take i all)) → new ≡ old ++ printed_text t.printed
     → new ≡ concat (texts_of (take (i + 1) all))
 text-more all i t old new k q o n =
@@ -77,17 +78,17 @@ appends-kept (Some x) None c xs h k = absurd h
 appends-kept (Some x) (Some y) None xs h k = absurd k
 appends-kept (Some x) (Some y) (Some z) xs h k = k ∙ h
 
-module _ (law : Rules) where
+module _ (means : Meanings) where
   -- one line more
   told_more : (sights : List Known) (c mid end : Player) (ls : Lines) (text : Bytes) (l : ℕ × Command) (told : Bytes)
-      → AreTold law sights c ls text mid
-      → MayPrint law sights mid l.1 told end → end.name ≡ mid.name
-      → AreTold law sights c (ls ++ l ∷ []) (text ++ line_text l.0 mid.name told) end
+      → AreTold means sights c ls text mid
+      → MayPrint means sights mid l.1 told end → end.name ≡ mid.name
+      → AreTold means sights c (ls ++ l ∷ []) (text ++ line_text l.0 mid.name told) end
   told_more sights c mid end [] text l told h may name = (
     told,
     end,
     [],
-    subst (λ w. MayPrint law sights w l.1 told end) h.1 may,
+    subst (λ w. MayPrint means sights w l.1 told end) h.1 may,
     name ∙ ap (λ w. w.name) h.1,
     ap (λ w. w ++ line_text l.0 mid.name told) h.0 ∙ ap (λ w. line_text l.0 w.name told) h.1 ∙ sym
         (append-nil (line_text l.0 c.name told)),
@@ -107,24 +108,24 @@ module _ (law : Rules) where
   -- a turn of the loop over the lines
   pub line-more : (sights : List Known) (c mid end : Player) (all : List Line) (i : ℕ) (l : Line) (old new : Bytes)
       → i < length all → l ≡ get_or all i l
-      → AreTold law sights c (map line_said (take i all)) old mid → IsTold law sights mid (line_said l) old new end
-      → AreTold law sights c (map line_said (take (i + 1) all)) new end
+      → AreTold means sights c (map line_said (take i all)) old mid → IsTold means sights mid (line_said l) old new end
+      → AreTold means sights c (map line_said (take (i + 1) all)) new end
   line-more sights c mid end all i l old new k q h a =
       let front = ap (map line_said) (take_more all i l k ∙ ap (λ w. take i all ++ w ∷ []) (sym q)) ∙ map-append
       line_said (take i all) (l ∷ []) in
-      subst (λ w. AreTold law sights c w new end) (sym front)
-      (subst (λ w. AreTold law sights c (map line_said (take i all) ++ line_said l ∷ []) w end) (sym a.text)
+      subst (λ w. AreTold means sights c w new end) (sym front)
+      (subst (λ w. AreTold means sights c (map line_said (take i all) ++ line_said l ∷ []) w end) (sym a.text)
       (told_more sights c mid end (map line_said (take i all)) old (line_said l) a.told h a.may a.name))
 
   -- one phase more
   written_more : (before mid after : List Player) (ps : List (List Lines)) (text : Bytes) (p : List Lines)
-      (texts : List Bytes) → AreWritten law before ps text mid → IsPhase law p mid texts after
-      → AreWritten law before (ps ++ p ∷ []) (text ++ concat texts) after
+      (texts : List Bytes) → AreWritten means before ps text mid → IsPhase means p mid texts after
+      → AreWritten means before (ps ++ p ∷ []) (text ++ concat texts) after
   written_more before mid after [] text p texts h a = (
     texts,
     after,
     [],
-    subst (λ w. IsPhase law p w texts after) h.1 a,
+    subst (λ w. IsPhase means p w texts after) h.1 a,
     ap (λ w. w ++ concat texts) h.0 ∙ sym (append-nil (concat texts)),
     (refl, refl),
   )
@@ -141,12 +142,12 @@ module _ (law : Rules) where
   -- a turn of the loop over the phases
   pub phase-more : (before mid after : List Player) (all : List Phase) (i : ℕ) (text : Bytes) (p : Phase)
       (texts : List Bytes) → i < length all → p ≡ get_or all i p
-      → AreWritten law before (map phase_said (take i all)) text mid → IsPhase law (phase_said p) mid texts after
-      → AreWritten law before (map phase_said (take (i + 1) all)) (text ++ concat texts) after
+      → AreWritten means before (map phase_said (take i all)) text mid → IsPhase means (phase_said p) mid texts after
+      → AreWritten means before (map phase_said (take (i + 1) all)) (text ++ concat texts) after
   phase-more before mid after all i text p texts k q h a =
       let front = ap (map phase_said) (take_more all i p k ∙ ap (λ w. take i all ++ w ∷ []) (sym q)) ∙ map-append
       phase_said (take i all) (p ∷ []) in
-      subst (λ w. AreWritten law before w (text ++ concat texts) after) (sym front)
+      subst (λ w. AreWritten means before w (text ++ concat texts) after) (sym front)
       (written_more before mid after (map phase_said (take i all)) text (phase_said p) texts h a)
 
 -- A PHASE
@@ -162,105 +163,100 @@ told_of : {E : Type 0} (P : Bytes → Type 0) (r : Result (Vec ℕ) E) → IsOk 
 told_of P (Ok text) is told = told
 told_of P (Err e) is told = absurd (false≢true is)
 
-module _ {C : Type 0} (stands : C → ClientState) where
-  -- all have seen the one group of which each client is
-  pub one_group : {Sight : Type 0} (shows : Sight → Known) (book : Book) (turns : List (Turn C)) (sights : List Sight)
-      → map shows sights ≡ all_sights (players_of stands turns) → AreOf stands book turns
-      → (t : Turn C) → (stands t.client.caller).mark.book ≡ book
-      → CanLearnAll shows (stands t.client.caller) sights
-  one_group shows book turns sights is of_one t of_book k d below =
-      let views : map shows sights ≡ map (λ u. sight_of (stands u.client.caller)) turns = is ∙ fused
-      (λ p. sight_of p.standing) (λ u. player_of stands u.client) turns in
-      let below_too : k < length turns = omega (
-        below,
-        ap length views,
-        length-map sights shows,
-        length-map turns (λ u. sight_of (stands u.client.caller)),
-        arith,
-      ) in
-      let sight_there = sym (get_or-map shows sights k d (shows d) below) ∙ ap
-      (λ ss. get_or ss k (shows d)) views ∙ get_or-map (λ u. sight_of (stands u.client.caller)) turns k t
-      (shows d) below_too in
-      ap (λ s. s.book) sight_there ∙ of_one k t below_too ∙ sym of_book
+-- all have seen the one group of which each client is
+one_group : {M : Type 0} (book : Book) (turns : List (Turn M)) (sights : List Known)
+    → sights ≡ all_sights (players_of turns) → AreOf book turns
+    → (t : Turn M) → (standing_of t.client.caller).mark.book ≡ book → CanLearnAll (standing_of t.client.caller) sights
+one_group book turns sights is of_one t of_book k d below =
+    let views : sights ≡ map (λ u. sight_of (standing_of u.client.caller)) turns = is ∙ fused
+    (λ p. sight_of p.standing) (λ u. player_of u.client) turns in
+    let below_too : k < length turns = omega (
+      below,
+      ap length views,
+      length-map turns (λ u. sight_of (standing_of u.client.caller)),
+      arith,
+    ) in
+    let sight_there = ap (λ ss. get_or ss k d) views ∙ get_or-map (λ u. sight_of (standing_of u.client.caller)) turns k
+    t d below_too in
+    ap (λ s. s.book) sight_there ∙ of_one k t below_too ∙ sym of_book
 
-  -- what is lent to a client in a phase is of its group
-  pub lent : {Sight : Type 0} (shows : Sight → Known) (turns : List (Turn C)) (sights : List Sight) (i : ℕ) (t : Turn C)
-      (k : ℕ) (d : Sight) → map shows sights ≡ all_sights (players_of stands turns)
-      → AreOfOneGroup stands turns
-      → i < length turns → t ≡ slice_index_or turns i t → k < length sights
-      → CanLearn (stands t.client.caller) (shows (slice_index_or sights k d))
-  lent shows turns sights i t k d is one below at in_sights =
-      one_group shows one.0 turns sights is one.1 t
-      (subst (λ u. (stands u.client.caller).mark.book ≡ one.0) (sym at) (one.1 i t below)) k d in_sights
+-- what is lent to a client in a phase is of its group
+pub lent : {M : Type 0} (turns : List (Turn M)) (sights : List Known) (i : ℕ) (t : Turn M) (k : ℕ) (d : Known)
+    → sights ≡ all_sights (players_of turns) → AreOfOneGroup turns
+    → i < length turns → t ≡ slice_index_or turns i t → k < length sights
+    → CanLearn (standing_of t.client.caller) (slice_index_or sights k d)
+lent turns sights i t k d is one below at in_sights =
+    one_group one.0 turns sights is one.1 t
+    (subst (λ u. (standing_of u.client.caller).mark.book ≡ one.0) (sym at) (one.1 i t below)) k d in_sights
 
-  module _ (law : Rules) where
-    -- a client's part of a phase, as it stands in the lists
-    pub part : (sights : List Known) (old new : List (Turn C)) (p : Phase) (i : ℕ) (d : Turn C)
-        → i < length old → i < length new → i < p.clients
-        → IsTurn law stands sights (lines_at p.parts.items i) (slice_index_or old i d).client
-        (slice_index_or new i d) → IsPrinted (slice_index_or new i d)
-        → (l : Lines) (b : Player) (t : Bytes) (a : Player)
-        → AreTold law sights (slice_index_or (players_of stands old) i b) (slice_index_or (phase_said p) i l)
-        (slice_index_or (texts_of new) i t) (slice_index_or (players_of stands new) i a)
-    part sights old new p i d in_old in_new in_lines turn printed l b t a =
-        let before : slice_index_or (players_of stands old) i b
-        ≡ player_of stands (slice_index_or old i d).client = get_or-map
-        (λ u. player_of stands u.client) old i d b in_old in
-        let said : slice_index_or (phase_said p) i l
-        ≡ lines_at p.parts.items i = get_or-map-range_with_len
-        (lines_at p.parts.items) 0 p.clients i i l in_lines (omega arith) in
-        let text : slice_index_or (texts_of new) i t
-        ≡ printed_text (slice_index_or new i d).printed = get_or-map
-        (λ u. printed_text u.printed) new i d t in_new in
-        let after : slice_index_or (players_of stands new) i a
-        ≡ player_of stands (slice_index_or new i d).client = get_or-map
-        (λ u. player_of stands u.client) new i d a in_new in
-        let told = told_of (λ w. AreTold law sights (player_of stands (slice_index_or old i d).client)
-        (lines_at p.parts.items i) w (player_of stands (slice_index_or new i d).client))
-        (slice_index_or new i d).printed printed turn.told in
-        subst (λ w. AreTold law sights w (slice_index_or (phase_said p) i l) (slice_index_or (texts_of new) i t)
-        (slice_index_or (players_of stands new) i a)) (sym before)
-        (subst (λ w. AreTold law sights (player_of stands (slice_index_or old i d).client) w
-        (slice_index_or (texts_of new) i t) (slice_index_or (players_of stands new) i a)) (sym said)
-        (subst (λ w. AreTold law sights (player_of stands (slice_index_or old i d).client)
-        (lines_at p.parts.items i) w
-        (slice_index_or (players_of stands new) i a)) (sym text)
-        (subst (λ w. AreTold law sights (player_of stands (slice_index_or old i d).client)
-        (lines_at p.parts.items i) (printed_text (slice_index_or new i d).printed) w)
-        (sym after) told)))
+module _ {M : Type 0} (means : Meanings) where
+  -- a client's part of a phase, as it stands in the lists
+  pub part : (sights : List Known) (old new : List (Turn M)) (p : Phase) (i : ℕ) (d : Turn M)
+      → i < length old → i < length new → i < p.clients
+      → IsTurn means sights (lines_at p.parts.items i) (slice_index_or old i d).client
+      (slice_index_or new i d) → IsPrinted (slice_index_or new i d)
+      → (l : Lines) (b : Player) (t : Bytes) (a : Player)
+      → AreTold means sights (slice_index_or (players_of old) i b) (slice_index_or (phase_said p) i l)
+      (slice_index_or (texts_of new) i t) (slice_index_or (players_of new) i a)
+  part sights old new p i d in_old in_new in_lines turn printed l b t a =
+      let before : slice_index_or (players_of old) i b
+      ≡ player_of (slice_index_or old i d).client = get_or-map
+      (λ u. player_of u.client) old i d b in_old in
+      let said : slice_index_or (phase_said p) i l
+      ≡ lines_at p.parts.items i = get_or-map-range_with_len
+      (lines_at p.parts.items) 0 p.clients i i l in_lines (omega arith) in
+      let text : slice_index_or (texts_of new) i t
+      ≡ printed_text (slice_index_or new i d).printed = get_or-map
+      (λ u. printed_text u.printed) new i d t in_new in
+      let after : slice_index_or (players_of new) i a
+      ≡ player_of (slice_index_or new i d).client = get_or-map
+      (λ u. player_of u.client) new i d a in_new in
+      let told = told_of (λ w. AreTold means sights (player_of (slice_index_or old i d).client)
+      (lines_at p.parts.items i) w (player_of (slice_index_or new i d).client))
+      (slice_index_or new i d).printed printed turn.told in
+      subst (λ w. AreTold means sights w (slice_index_or (phase_said p) i l) (slice_index_or (texts_of new) i t)
+      (slice_index_or (players_of new) i a)) (sym before)
+      (subst (λ w. AreTold means sights (player_of (slice_index_or old i d).client) w
+      (slice_index_or (texts_of new) i t) (slice_index_or (players_of new) i a)) (sym said)
+      (subst (λ w. AreTold means sights (player_of (slice_index_or old i d).client)
+      (lines_at p.parts.items i) w
+      (slice_index_or (players_of new) i a)) (sym text)
+      (subst (λ w. AreTold means sights (player_of (slice_index_or old i d).client)
+      (lines_at p.parts.items i) (printed_text (slice_index_or new i d).printed) w)
+      (sym after) told)))
 
-    -- a phase, by each client's part of it
-    pub phase : (sights : List Known) (old new : List (Turn C)) (p : Phase)
-        → sights ≡ all_sights (players_of stands old) → length new ≡ length old → length old ≡ p.clients
-        → ((i : ℕ) (d : Turn C) → i < length old
-        → IsTurn law stands sights (lines_at p.parts.items i) (slice_index_or old i d).client
-        (slice_index_or new i d)) → All IsPrinted new
-        → IsPhase law (phase_said p) (players_of stands old) (texts_of new) (players_of stands new)
-    phase sights old new p is as_many enough turns printed =
-        let olds = length-map old (λ u. player_of stands u.client) in
-        let news = length-map new (λ u. player_of stands u.client) in
-        let texts = length-map new (λ u. printed_text u.printed) in
-        record {
-          as_many_texts = texts ∙ as_many ∙ sym olds;
-          as_many = news ∙ as_many ∙ sym olds;
-          each = λ i l b t a below.
-              let in_old : i < length old = omega (below, olds, arith) in
-              let in_new : i < length new = omega (in_old, as_many, arith) in
-              let in_lines : i < p.clients = omega (in_old, enough, arith) in
-              let d = some_of old i in_old in
-              subst (λ ss. AreTold law ss (slice_index_or (players_of stands old) i b)
-              (slice_index_or (phase_said p) i l) (slice_index_or (texts_of new) i t)
-              (slice_index_or (players_of stands new) i a)) is
-              (part sights old new p i d in_old in_new in_lines (turns i d in_old)
-              (printed i d in_new) l b t a);
-        }
+  -- a phase, by each client's part of it
+  pub phase : (sights : List Known) (old new : List (Turn M)) (p : Phase)
+      → sights ≡ all_sights (players_of old) → length new ≡ length old → length old ≡ p.clients
+      → ((i : ℕ) (d : Turn M) → i < length old
+      → IsTurn means sights (lines_at p.parts.items i) (slice_index_or old i d).client
+      (slice_index_or new i d)) → All IsPrinted new
+      → IsPhase means (phase_said p) (players_of old) (texts_of new) (players_of new)
+  phase sights old new p is as_many enough turns printed =
+      let olds = length-map old (λ u. player_of u.client) in
+      let news = length-map new (λ u. player_of u.client) in
+      let texts = length-map new (λ u. printed_text u.printed) in
+      record {
+        as_many_texts = texts ∙ as_many ∙ sym olds;
+        as_many = news ∙ as_many ∙ sym olds;
+        each = λ i l b t a below.
+            let in_old : i < length old = omega (below, olds, arith) in
+            let in_new : i < length new = omega (in_old, as_many, arith) in
+            let in_lines : i < p.clients = omega (in_old, enough, arith) in
+            let d = some_of old i in_old in
+            subst (λ ss. AreTold means ss (slice_index_or (players_of old) i b)
+            (slice_index_or (phase_said p) i l) (slice_index_or (texts_of new) i t)
+            (slice_index_or (players_of new) i a)) is
+            (part sights old new p i d in_old in_new in_lines (turns i d in_old)
+            (printed i d in_new) l b t a);
+      }
 
-    -- and they are of one group still
-    pub still_one : (sights : List Known) (old new : List (Turn C)) (p : Phase) → length new ≡ length old
-        → ((i : ℕ) (d : Turn C) → i < length old
-        → IsTurn law stands sights (lines_at p.parts.items i) (slice_index_or old i d).client
-        (slice_index_or new i d))
-        → StayInGroup stands old new
-    still_one sights old new p as_many turns book of_one i d below =
-        let in_old : i < length old = omega (below, as_many, arith) in
-        (turns i d in_old).group ∙ of_one i d in_old
+  -- and they are of one group still
+  pub still_one : (sights : List Known) (old new : List (Turn M)) (p : Phase) → length new ≡ length old
+      → ((i : ℕ) (d : Turn M) → i < length old
+      → IsTurn means sights (lines_at p.parts.items i) (slice_index_or old i d).client
+      (slice_index_or new i d))
+      → StayInGroup old new
+  still_one sights old new p as_many turns book of_one i d below =
+      let in_old : i < length old = omega (below, as_many, arith) in
+      (turns i d in_old).group ∙ of_one i d in_old

@@ -1,5 +1,5 @@
 -- The watches of a client are of its group, and what a poll of one leaves.
-use Rattle.std.proofs.Common.{◌≡◌, Bool, true, false, Option, Some, None, IfSome, Result, Ok, Err, OnOk, OnErr, cond}
+use Rattle.std.proofs.Common.{◌≡◌, Bool, true, false, Some, None, Result, Ok, Err, OnOk, OnErr, cond}
 use Rattle.std.proofs.Common.{refl, sym, ap, ◌∙◌, subst}
 use Rattle.std.specs.Cmp.Lexicographic.{slice_cmp, nat_list_cmp_total}
 use Rattle.std.specs.FinMap as finite
@@ -46,10 +46,6 @@ inserted_of (Err e) old new book name watch ok err of is = subst (λ (m : Watche
 pub on_ok : {X E A B : Type 0} (r : Result X E) → (A → B) → OnOk r A → OnOk r B
 on_ok (Ok x) f a = f a
 on_ok (Err e) f a = tt
-
-pub if_some : {X : Type 0} (P : X → Type 0) (o : Option X) → ((x : X) → P x) → IfSome o P
-if_some P None every = tt
-if_some P (Some x) every = every x
 
 -- a watch stays one of its group
 pub after_book : (watch : Watched) (reply : Result Polled Refusal) → (watch_after watch reply).book ≡ watch.book

@@ -1,30 +1,26 @@
 -- How a client stands between its calls, what its calls may reply, and how they leave it.
-use Rattle.std.specs.Prelude.{ℕ, ◌≡◌, true, false, ⊤, List, [], Result, Ok, Err, IfErr, None}
+use Rattle.std.specs.Prelude.{ℕ, ◌≡◌, false, ⊤, List, Result, Ok, Err, IfErr, None}
 use Rattle.std.specs.Cmp.Lexicographic.{slice_cmp}
 use Rattle.std.specs.FinMap as finite
 use Rattle.std.specs.List.{All}
 use Rattle.std.specs.Ordering.{nat_cmp}
 use mathlib.Core.List.{IsPrefix}
-use Rattle.logbook.specs.Pages.{Book}
 use Rattle.group_history.specs.declared.refusals.Refusal.{Refusal}
 use Rattle.group_history.specs.declared.scans.Scan.{Scan}
 use Rattle.group_history.specs.Map.{Bytes}
 use Rattle.group_history.specs.Meaning.{Meanings}
 use Rattle.group_history.specs.Rows.{Rows}
-use Rattle.group_history.specs.State.{State}
 use Rattle.head_word.specs.Marks.{Known, known}
-use Rattle.push_body.specs.declared.identities.Identity.{Identity}
-use Rattle.answered.specs.Answered.{IsLinearized, is_resource_refusal, no_change, own_moves}
+use Rattle.answered.specs.Answered.{IsLinearized, no_change, own_moves}
 use Rattle.commit_graph.specs.Seats.{IsLater}
 use Rattle.group_steps.specs.Missing.{IsMissedOrDry}
 use Rattle.rebase.specs.Asking.{is_passing}
-use Rattle.rebase.specs.Calls.{Caller, IsReplyTo, MayRefuse, caller, change_of, is_reading, last_after, reply_to}
+use Rattle.rebase.specs.Calls.{Caller, MayRefuse, caller, change_of, is_reading, last_after, reply_to}
 use Rattle.rebase.specs.Replies.{Replied, rows}
 use Rattle.rebase.specs.declared.calls.Call.{Call}
 use Rattle.rebase.specs.declared.calls.Call.TheVariants as call
 use Rattle.rebase.specs.declared.watching.Polled.{Polled}
 use Rattle.rebase.specs.Watching.{Watched, poll_at, watch_after}
-use Rattle.script_mutators.specs.Mutators.{script_means}
 
 -- watches, by their names
 abbrev pub Watches : Type 0
@@ -71,15 +67,8 @@ abbrev pub CanLearn : ClientState → Known → Type 0
 CanLearn c sight = sight.book ≡ c.mark.book
 
 -- and so each of these
-abbrev pub CanLearnAll : {S : Type 0} → (S → Known) → ClientState → List S → Type 0
-CanLearnAll shows c sights = All (λ s. CanLearn c (shows s)) sights
-
--- The rules of a group: what its clients' calls and their polls may reply, and how a client stands then; and how a
--- client stands that has learnt what another one had seen.
-pub record Rules : Type 1 where
-  pub may_reply : ClientState → Call → Result Replied Refusal → ClientState → Type 0
-  pub may_poll : Bytes → Watched → ClientState → Result Polled Refusal → ClientState → Type 0
-  pub learns : ClientState → Known → ClientState → Type 0
+abbrev pub CanLearnAll : ClientState → List Known → Type 0
+CanLearnAll c sights = All (CanLearn c) sights
 
 -- how often a call tries: one that waits goes on until others are out of its way
 abbrev pub tries_of : Call → ℕ
@@ -102,7 +91,7 @@ pub record MayReply (means : Meanings) (before : ClientState) (asked : Call) (re
   pub watches : after.watches ≡ before.watches
 
 -- The poll of a watch is answered rightly at a point of that record.
-pub record MayPoll (means : Meanings) (name : Bytes) (watch : Watched) (before : ClientState)
+pub record MayReplyToPoll (means : Meanings) (name : Bytes) (watch : Watched) (before : ClientState)
     (reply : Result Polled Refusal) (after : ClientState) : Type 0 where
   pub answer : IsLinearized means 1000000 before.mark after.mark reply no_change (λ s. Ok (poll_at means watch s))
   -- for the same
@@ -118,47 +107,3 @@ pub record Learns (before : ClientState) (other : Known) (after : ClientState) :
   pub moves : own_moves after.mark ≡ own_moves before.mark
   pub caller : after.caller ≡ before.caller
   pub watches : after.watches ≡ before.watches
-
--- the rules of a group whose clients may all call at the same time, by what its mutators mean
-abbrev pub shared_rules : Meanings → Rules
-shared_rules means = record { may_reply = MayReply means; may_poll = MayPoll means; learns = Learns }
-
--- A client of a plain group, which is no group of a book: the call is answered rightly at some state.
-pub record MayReplyPlainly (before : ClientState) (asked : Call) (reply : Result Replied Refusal)
-    (after : ClientState) : Type 0 where
-  pub identity : Identity
-  pub at : State
-  pub answer : IsReplyTo reply (reply_to script_means
-      (caller identity before.caller.client before.caller.last) at asked)
-  pub caller : after.caller ≡ caller before.caller.identity before.caller.client (last_after before.caller.last reply)
-  pub watches : after.watches ≡ before.watches
-
--- a poll is answered rightly, or refused for want of something
-abbrev pub IsPolled : Result Polled Refusal → Polled → Type 0
-IsPolled (Ok polled) right = right ≡ polled
-IsPolled (Err e) right = is_resource_refusal e ≡ true
-
--- a poll too
-pub record MayPollPlainly (name : Bytes) (watch : Watched) (before : ClientState) (reply : Result Polled Refusal)
-    (after : ClientState) : Type 0 where
-  pub at : State
-  pub answer : IsPolled reply (poll_at script_means watch at)
-  pub caller : after.caller ≡ before.caller
-  pub watches : after.watches ≡ watches_after name watch before.watches reply
-
--- it sees everything, so it has nothing to learn
-abbrev pub LearnsNothing : ClientState → Known → ClientState → Type 0
-LearnsNothing before other after = after ≡ before
-
-abbrev pub plain_rules : Rules
-plain_rules = record { may_reply = MayReplyPlainly; may_poll = MayPollPlainly; learns = LearnsNothing }
-
-abbrev pub no_book : Book
-no_book = record { number = 0; log_name = 0; cells_name = 0 }
-
-abbrev pub plain_standing : Bytes → ℕ → Watches → ClientState
-plain_standing id last watches = record {
-  caller = caller (record { group = []; profile = []; schema = [] }) id last;
-  mark = known no_book [] None;
-  watches = watches;
-}

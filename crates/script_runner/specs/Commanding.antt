@@ -7,6 +7,7 @@ use Rattle.group_history.specs.declared.refusals.Refusal.{Refusal}
 use Rattle.group_history.specs.declared.refusals.Refusal.TheVariants.{NoMemory}
 use Rattle.group_history.specs.declared.scans.Scan.{Scan}
 use Rattle.group_history.specs.Map.{Bytes}
+use Rattle.group_history.specs.Meaning.{Meanings}
 use Rattle.head_word.specs.Marks.{Known}
 use Rattle.rebase.specs.Replies.{Replied, ticket}
 use Rattle.rebase.specs.declared.calls.Call.{Call}
@@ -19,7 +20,7 @@ use Rattle.script_parser.specs.declared.script.Command.{Command}
 use Rattle.script_parser.specs.declared.script.Command.TheVariants as command
 use Rattle.script_parser.specs.declared.script.Query.{Query}
 use Rattle.script_parser.specs.declared.script.Query.TheVariants as query
-use Rattle.script_runner.specs.Callers.{Rules, ClientState, with_watch, without_watch}
+use Rattle.script_runner.specs.Callers.{ClientState, Learns, MayReply, MayReplyToPoll, with_watch, without_watch}
 use Rattle.script_runner.specs.Printing.{answer_text, polled_text, refreshed_text, refused_text}
 
 -- the tickets of a client, by their names
@@ -73,22 +74,22 @@ pub record MayWatch (name : Bytes) (scan : Scan) (before : Player) (text : Bytes
       ⊎ ((text ≡ refused_text NoMemory) × (after.standing ≡ without_watch name before.standing))
   pub tickets : after.tickets ≡ before.tickets
 
--- By the rules of a group.
-module _ (law : Rules) where
+-- In a group whose mutators mean this.
+module _ (means : Meanings) where
   -- one call is made, and what is printed tells its answer
   pub record HandsOn (asks : Call → Type 0) (print : Result Replied Refusal → Bytes) (before : Player) (text : Bytes)
       (after : Player) : Type 0 where
     pub made : Call
     pub asked : asks made
     pub answer : Result Replied Refusal
-    pub may : law.may_reply before.standing made answer after.standing
+    pub may : MayReply means before.standing made answer after.standing
     pub printed : text ≡ print answer
     pub tickets : after.tickets ≡ before.tickets
 
   -- a pull is begun; a ticket of that name is given up first
   pub record MayBegin (name : Bytes) (before : Player) (text : Bytes) (after : Player) : Type 0 where
     pub answer : Result Replied Refusal
-    pub may : law.may_reply before.standing call.BeginPull answer after.standing
+    pub may : MayReply means before.standing call.BeginPull answer after.standing
     pub begun : IsBegun (finite.remove before.tickets name) name answer text after.tickets
 
   -- a pull is ended whose ticket the client has; without one no call is made
@@ -99,14 +100,14 @@ module _ (law : Rules) where
   -- a client learns what the one at a place had seen
   pub record MayLearn (sights : List Known) (place : ℕ) (before : Player) (text : Bytes) (after : Player) : Type 0 where
     pub learnt : (s : Known) → place < length sights
-        → law.learns before.standing (slice_index_or sights place s) after.standing
+        → Learns before.standing (slice_index_or sights place s) after.standing
     pub printed : text ≡ codes "learnt"
     pub tickets : after.tickets ≡ before.tickets
 
   -- the watch of that name is polled
   pub record Polls (name : Bytes) (watch : Watched) (before : Player) (text : Bytes) (after : Player) : Type 0 where
     pub answer : Result Polled Refusal
-    pub may : law.may_poll name watch before.standing answer after.standing
+    pub may : MayReplyToPoll means name watch before.standing answer after.standing
     pub printed : text ≡ polled_text answer
     pub tickets : after.tickets ≡ before.tickets
 
@@ -115,7 +116,8 @@ module _ (law : Rules) where
   MayPoll name (Some watch) before text after = Polls name watch before text after
   MayPoll name None before text after = (text ≡ codes "no watch") × (after ≡ before)
 
-  -- What a command may print, and how it leaves its client. `sights` are what each client had seen when the phase began.
+  -- What a command may print, and how it leaves its client. `sights` are what each client had seen when the phase
+  -- began.
   abbrev pub MayPrint : List Known → Player → Command → Bytes → Player → Type 0
   MayPrint sights before (command.Query q) text after = HandsOn (Asks q) answer_text before text after
   MayPrint sights before (command.Begin name) text after = MayBegin name before text after

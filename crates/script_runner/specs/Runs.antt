@@ -16,7 +16,6 @@ use Rattle.answered.specs.Answered.{IsAnswered, own_moves}
 use Rattle.script_parser.specs.declared.faults.Fault.{Fault}
 use Rattle.script_parser.specs.declared.faults.Fault.TheVariants as fault
 use Rattle.script_parser.specs.declared.script.Header.{Header}
-use Rattle.script_runner.specs.Callers.{shared_rules}
 use Rattle.script_runner.specs.Commanding.{Player}
 use Rattle.script_parser.specs.Context.{Context}
 use Rattle.script_parser.specs.Faults.{script_said}
@@ -40,7 +39,8 @@ abbrev pub HasSeenOpening : Known → Type 0
 HasSeenOpening mark = (at : Ref) × (mark.log ≡ opening at)
 
 -- A client of the group of this book before the first phase, whose mutators mean this. It began when its seat had seen
--- the opening of the book alone, has the last id that the group has of it, moved nothing, and has no ticket and no watch.
+-- the opening of the book alone, has the last id that the group has of it, moved nothing, and has no ticket and no
+-- watch.
 pub record IsNew (means : Meanings) (identity : Identity) (book : Book) (p : Player) : Type 0 where
   pub writes : p.standing.caller.identity ≡ identity
   pub of_book : p.standing.mark.book ≡ book
@@ -62,13 +62,13 @@ pub record HasRun (said : Context) (old new : Option Bytes) : Type 0 where
   pub are : AreNew script_means (identity_of said.group said.profile said.schema) said.clients opened
   pub text : Bytes
   pub closed : List Player
-  pub written : AreWritten (shared_rules script_means) opened said.phases text closed
+  pub written : AreWritten script_means opened said.phases text closed
   pub appended : Appends old new text
 
 -- A run that memory ended has written what so many whole phases print, none where its clients were not opened.
 pub record HasRunSome (said : Context) (old new : Option Bytes) (opened : List Player) : Type 0 where
   pub are : AreNew script_means (identity_of said.group said.profile said.schema) said.clients opened
-  pub written : HasWhole (shared_rules script_means) opened said.phases old new
+  pub written : HasWhole script_means opened said.phases old new
 
 abbrev pub HasStopped : Context → Option Bytes → Option Bytes → Type 0
 HasStopped said old new = Keeps old new ⊎ ((opened : List Player) × HasRunSome said old new opened)

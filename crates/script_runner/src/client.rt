@@ -1,20 +1,21 @@
 //! A client of a script: what it keeps between its lines, and what each command does.
-ghost use Rattle.std.specs.Prelude.{◌≡◌, IfOk, Ok, map};
+ghost use Rattle.std.specs.Prelude.{◌≡◌, IfOk, Ok};
 ghost use Rattle.std.specs.FinMap as finite;
 ghost use Rattle.group_steps.specs.Missing.{map_ok};
 ghost use Rattle.rebase.specs.Queries.{asked};
 ghost use Rattle.rebase.specs.Replies.{reply_seen, ticket as replied_ticket};
 ghost use Rattle.rebase.specs.declared.calls.Call.TheVariants as call;
-ghost use Rattle.script_runner.specs.Commanding.{Asks, AsksEnd, AsksMutation, HandsOn, IsBegun, MayBegin, MayEnd};
 ghost use Rattle.script_runner.specs.Callers.{CanLearnAll};
-ghost use Rattle.script_runner.specs.Commanding.{MayLearn, MayPoll, MayPrint, MayWatch, new_player};
-ghost use Rattle.script_runner.specs.Inside.Players.{IsSamePlayer, Prints, player_of};
+ghost use Rattle.script_runner.specs.Commanding.{Asks, AsksMutation, HandsOn, IsBegun, MayBegin, MayEnd, MayLearn};
+ghost use Rattle.script_runner.specs.Commanding.{MayPoll, MayPrint, MayWatch, new_player};
+ghost use Rattle.script_runner.specs.Inside.Players.{IsSamePlayer, Prints, player_of, standing_of};
 ghost use Rattle.script_runner.specs.Printing.{answer_text, polled_text, refreshed_text, replied_text};
 ghost use Rattle.script_runner.specs.Inside.Printing.{reply_text};
 
-use crate::callers::Caller;
 use crate::reply::Printed;
-use group_history::{Refusal, Scan, Text, TextMap};
+use crate::shared::SharedClient;
+use group_history::{Mutators, Refusal, Scan, Text, TextMap};
+use head_word::Mark;
 use rebase::{Call, Mutate, Polled, Reply, Ticket};
 use script_parser::{Command, MutatorCall, Query};
 use std::alloc::{AllocError, Global};
@@ -22,20 +23,21 @@ use std::sync::Wait;
 
 /// A client of a script.
 #[derive(Drop)]
-pub(crate) struct ScriptClient<C: Drop> {
+pub(crate) struct ScriptClient<M: Mutators + Drop> {
     pub(crate) alloc: Global,
     pub(crate) name: Text,
-    pub(crate) caller: C,
+    pub(crate) caller: SharedClient<M>,
     /// The pulls that it began and can end, by the tickets' names. Their bodies are handed on.
     pub(crate) tickets: TextMap<Ticket>,
 }
 
-impl<C: Drop> ScriptClient<C> {
-    ghost use Rattle.script_runner.specs.Callers.{ClientState};
-
-    pub(crate) fn new(alloc: Global, name: &Text, caller: C) -> Result<ScriptClient<C>, AllocError>
-        ensures { (stands : C → ClientState) → IfOk result
-            (λ client. player_of stands client ≡ new_player name.now (stands caller)) }
+impl<M: Mutators + Drop> ScriptClient<M> {
+    pub(crate) fn new(
+        alloc: Global,
+        name: &Text,
+        caller: SharedClient<M>,
+    ) -> Result<ScriptClient<M>, AllocError>
+        ensures { IfOk result (λ client. player_of client ≡ new_player name.now (standing_of caller)) }
     {
         Ok(ScriptClient {
             alloc,
@@ -46,7 +48,7 @@ impl<C: Drop> ScriptClient<C> {
     }
 
     /// Keeps a ticket, and hands its body on.
-    pub(crate) fn keep(&mut self, name: &Text, ticket: Ticket) -> Printed
+    fn keep(&mut self, name: &Text, ticket: Ticket) -> Printed
         ensures told { IsBegun self.old.tickets name.now (Ok (replied_ticket (asked ticket)))
             (reply_text result) self.new.tickets }
         ensures same { (self.new.name ≡ self.old.name) × (self.new.caller ≡ self.old.caller) }
@@ -64,20 +66,13 @@ impl<C: Drop> ScriptClient<C> {
             Err(_) => Printed::Refused(Refusal::NoMemory),
         }
     }
-}
 
-impl<C: Caller + Drop> ScriptClient<C> {
-    /// Does a command. A refusal is a reply like any other. `sights` are what each client had seen when the phase began.
-    pub(crate) fn call<R: Wait>(
-        &mut self,
-        rt: &R,
-        sights: &[C::Sight],
-        command: &Command,
-    ) -> Printed
-        requires { CanLearnAll C.shows (C.stands self.old.caller) sights.now }
-        ensures told { Prints C.stands (λ p. MayPrint C.law (map C.shows sights.now) p command.now)
-            self.old result self.new }
-        ensures same { IsSamePlayer C.stands self.old self.new }
+    /// Does a command. A refusal is a reply like any other. `sights` are what each client had seen when the phase
+    /// began.
+    pub(crate) fn call<R: Wait>(&mut self, rt: &R, sights: &[Mark<M>], command: &Command) -> Printed
+        requires { CanLearnAll (standing_of self.old.caller) sights.now }
+        ensures told { Prints (λ p. MayPrint M.means sights.now p command.now) self.old result self.new }
+        ensures same { IsSamePlayer self.old self.new }
     {
         match command {
             Command::Begin(name) => self.begin(rt, name),
@@ -86,27 +81,26 @@ impl<C: Caller + Drop> ScriptClient<C> {
             Command::Refresh => self.refresh(rt),
             Command::Learn(place) => self.learn(sights, *place),
             Command::Watch(name, scan) => self.watch(name, scan),
-            Command::Poll(name) => self.poll(rt, name),
+            Command::Poll(name) => self.poll(name),
             Command::Query(query) => self.query(rt, query),
         }
     }
 
     fn query<R: Wait>(&mut self, rt: &R, query: &Query) -> Printed
-        ensures told { Prints C.stands (HandsOn C.law (Asks query.now) answer_text) self.old result self.new }
-        ensures same { IsSamePlayer C.stands self.old self.new }
+        ensures told { Prints (HandsOn M.means (Asks query.now) answer_text) self.old result self.new }
+        ensures same { IsSamePlayer self.old self.new }
     {
         match query {
-            Query::Scan(scan) => self.scan(rt, scan),
-            query => reply_of(self.caller.call(rt, call_of(query))),
+            Query::Scan(scan) => self.scan(scan),
+            query => reply_of(self.caller.make_call(rt, call_of(query))),
         }
     }
 
-    fn scan<R: Wait>(&mut self, rt: &R, scan: &Scan) -> Printed
-        ensures told { Prints C.stands (HandsOn C.law (λ c. c ≡ call.Scan scan.entry) answer_text)
-            self.old result self.new }
-        ensures same { IsSamePlayer C.stands self.old self.new }
+    fn scan(&mut self, scan: &Scan) -> Printed
+        ensures told { Prints (HandsOn M.means (λ c. c ≡ call.Scan scan.entry) answer_text) self.old result self.new }
+        ensures same { IsSamePlayer self.old self.new }
     {
-        match self.caller.scan(rt, self.alloc, scan) {
+        match self.caller.list(self.alloc, scan) {
             Ok(list) => Printed::Listed(list),
             Err(refusal) => Printed::Refused(refusal),
         }
@@ -114,26 +108,26 @@ impl<C: Caller + Drop> ScriptClient<C> {
 
     /// A ticket whose name was given before is replaced, and where this is refused there is none of that name.
     fn begin<R: Wait>(&mut self, rt: &R, name: &Text) -> Printed
-        ensures told { Prints C.stands (MayBegin C.law name.now) self.old result self.new }
-        ensures same { IsSamePlayer C.stands self.old self.new }
+        ensures told { Prints (MayBegin M.means name.now) self.old result self.new }
+        ensures same { IsSamePlayer self.old self.new }
     {
         self.tickets.remove(name);
-        match self.caller.call(rt, Call::BeginPull) {
+        match self.caller.make_call(rt, Call::BeginPull) {
             Ok(Reply::Ticket(ticket)) => self.keep(name, ticket),
             answer => reply_of(answer),
         }
     }
 
     fn end<R: Wait>(&mut self, rt: &R, name: &Text, body: &Text) -> Printed
-        ensures told { Prints C.stands (MayEnd C.law (finite.get self.old.tickets name.now) body.now)
+        ensures told { Prints (MayEnd M.means (finite.get self.old.tickets name.now) body.now)
             self.old result self.new }
-        ensures same { IsSamePlayer C.stands self.old self.new }
+        ensures same { IsSamePlayer self.old self.new }
     {
         match self.tickets.get(name) {
             Some(ticket) => {
                 reply_of(
                     self.caller
-                        .call(rt, Call::EndPull(ticket, body.as_str().as_bytes())),
+                        .make_call(rt, Call::EndPull(ticket, body.as_str().as_bytes())),
                 )
             }
             None => Printed::NoTicket,
@@ -141,22 +135,22 @@ impl<C: Caller + Drop> ScriptClient<C> {
     }
 
     fn mutate<R: Wait>(&mut self, rt: &R, call: &MutatorCall) -> Printed
-        ensures told { Prints C.stands (HandsOn C.law (AsksMutation call.now) answer_text) self.old result self.new }
-        ensures same { IsSamePlayer C.stands self.old self.new }
+        ensures told { Prints (HandsOn M.means (AsksMutation call.now) answer_text) self.old result self.new }
+        ensures same { IsSamePlayer self.old self.new }
     {
         let asked = Mutate {
             name: &call.mutator,
             args: &call.args,
             time: call.time,
         };
-        reply_of(self.caller.call(rt, Call::Mutate(asked)))
+        reply_of(self.caller.make_call(rt, Call::Mutate(asked)))
     }
 
     fn refresh<R: Wait>(&mut self, rt: &R) -> Printed
-        ensures told { Prints C.stands (HandsOn C.law (λ c. c ≡ call.Refresh) refreshed_text) self.old result self.new }
-        ensures same { IsSamePlayer C.stands self.old self.new }
+        ensures told { Prints (HandsOn M.means (λ c. c ≡ call.Refresh) refreshed_text) self.old result self.new }
+        ensures same { IsSamePlayer self.old self.new }
     {
-        let answer = self.caller.call(rt, Call::Refresh);
+        let answer = self.caller.make_call(rt, Call::Refresh);
         if let Ok(Reply::Id(id)) = &answer {
             let id = *id;
             drop(answer);
@@ -167,40 +161,40 @@ impl<C: Caller + Drop> ScriptClient<C> {
 
     /// A watch whose name was given before is replaced, and where this is refused there is none of that name.
     fn watch(&mut self, name: &Text, scan: &Scan) -> Printed
-        ensures told { Prints C.stands (MayWatch name.now scan.now) self.old result self.new }
-        ensures same { IsSamePlayer C.stands self.old self.new }
+        ensures told { Prints (MayWatch name.now scan.now) self.old result self.new }
+        ensures same { IsSamePlayer self.old self.new }
     {
-        match self.caller.watch(name, scan) {
+        match self.caller.keep_scan(name, scan) {
             Ok(()) => Printed::Watching,
             Err(_) => Printed::Refused(Refusal::NoMemory),
         }
     }
 
-    fn poll<R: Wait>(&mut self, rt: &R, name: &Text) -> Printed
-        ensures told { Prints C.stands (MayPoll C.law name.now (finite.get (C.stands self.old.caller).watches name.now))
+    fn poll(&mut self, name: &Text) -> Printed
+        ensures told { Prints (MayPoll M.means name.now (finite.get (standing_of self.old.caller).watches name.now))
             self.old result self.new }
-        ensures same { IsSamePlayer C.stands self.old self.new }
+        ensures same { IsSamePlayer self.old self.new }
     {
-        match self.caller.poll(rt, name) {
+        match self.caller.poll_named(name) {
             Some(polled) => polled_of(polled),
             None => Printed::NoWatch,
         }
     }
 
-    fn learn(&mut self, sights: &[C::Sight], place: usize) -> Printed
-        requires { CanLearnAll C.shows (C.stands self.old.caller) sights.now }
-        ensures told { Prints C.stands (MayLearn C.law (map C.shows sights.now) place) self.old result self.new }
-        ensures same { IsSamePlayer C.stands self.old self.new }
+    fn learn(&mut self, sights: &[Mark<M>], place: usize) -> Printed
+        requires { CanLearnAll (standing_of self.old.caller) sights.now }
+        ensures told { Prints (MayLearn M.means sights.now place) self.old result self.new }
+        ensures same { IsSamePlayer self.old self.new }
     {
         if let Some(other) = sights.get(place) {
-            self.caller.learn(other);
+            self.caller.learn_from(other);
         }
         Printed::Learnt
     }
 }
 
 /// The reply of a line that polls.
-pub(crate) fn polled_of(polled: Result<Polled, Refusal>) -> Printed
+fn polled_of(polled: Result<Polled, Refusal>) -> Printed
     ensures { reply_text result ≡ polled_text polled }
 {
     match polled {
@@ -211,7 +205,7 @@ pub(crate) fn polled_of(polled: Result<Polled, Refusal>) -> Printed
 }
 
 /// The call that a query is.
-pub(crate) fn call_of(query: &Query) -> Call<'_>
+fn call_of(query: &Query) -> Call<'_>
     ensures { Asks query.now result }
 {
     match query {
@@ -227,7 +221,7 @@ pub(crate) fn call_of(query: &Query) -> Call<'_>
 }
 
 /// The reply of a line that hands on what the group answered.
-pub(crate) fn reply_of(answer: Result<Reply, Refusal>) -> Printed
+fn reply_of(answer: Result<Reply, Refusal>) -> Printed
     ensures { reply_text result ≡ answer_text (map_ok reply_seen answer) }
 {
     match answer {

@@ -8,10 +8,9 @@ ghost use Rattle.std.specs.List.{All};
 ghost use Rattle.script_runner.specs.Phases.{all_sights};
 ghost use Rattle.script_runner.specs.Inside.Players.{players_of, standing_of};
 
-use crate::phase::Turn;
+use crate::phase::{Turn, sights_of};
 use crate::reply::print_line;
 use crate::runner::{open_clients, open_group};
-use crate::shared::SharedClient;
 use chunk_slots::Arena;
 use group_history::Mutators;
 use head_word::Mark;
@@ -20,25 +19,11 @@ use script_parser::{Header, Line};
 use std::alloc::{AllocError, Global};
 use std::sync::Wait;
 
-/// What each client has seen.
-fn marks_of<M: Mutators + Drop>(
-    alloc: Global,
-    turns: &[Turn<SharedClient<M>>],
-) -> Result<Vec<Mark<M>>, AllocError>
-    ensures { IfOk result (λ sights. sights.items ≡ all_sights (players_of standing_of turns.now)) }
-{
-    let mut sights = Vec::with_capacity(alloc, turns.len())?;
-    for turn in turns {
-        sights.push(turn.client.caller.seen())?;
-    }
-    Ok(sights)
-}
-
 /// The clients of a script, in a group of their own.
 pub struct Clients<M: Mutators + Drop> {
     alloc: Global,
     group: Group<M, Arena<M>>,
-    turns: Vec<Turn<SharedClient<M>>>,
+    turns: Vec<Turn<M>>,
     sights: Vec<Mark<M>>,
     ghost of_group: { All (λ t. (standing_of t.client.caller).mark.book ≡ group.group.book) turns.items } by { Π_prop
         (λ k. Π_prop (λ d. →_prop (Prim.hlevel (codes, Coded-set)))) },
@@ -66,7 +51,6 @@ impl<M: Mutators + Drop> Clients<M> {
     ghost use Rattle.script_parser.specs.Kept.{IsInRange};
     ghost use Rattle.script_parser.specs.Scripts.{client_said, line_said};
     ghost use Rattle.script_runner.specs.Answering.{IsToldAt, players_in, sights_in};
-    ghost use Rattle.script_runner.specs.Callers.{shared_rules};
     ghost use Rattle.script_runner.specs.Runs.{AreNew, header_identity};
 
     /// Opens a group for the lines before the first phase, and a client for each `client` line, in their order. The
@@ -82,7 +66,7 @@ impl<M: Mutators + Drop> Clients<M> {
             return Err(AllocError);
         };
         let turns = open_clients(alloc, &header.clients, &group, seats)?;
-        let sights = marks_of(alloc, &turns)?;
+        let sights = sights_of(alloc, &turns)?;
         Ok(Clients {
             alloc,
             group,
@@ -98,7 +82,7 @@ impl<M: Mutators + Drop> Clients<M> {
         ensures seen { OnOk result (sights_in self.new ≡ all_sights (players_in self.new)) }
         ensures left { OnErr result (sights_in self.new ≡ sights_in self.old) }
     {
-        self.sights = marks_of(self.alloc, &self.turns)?;
+        self.sights = sights_of(self.alloc, &self.turns)?;
         Ok(())
     }
 
@@ -114,13 +98,13 @@ impl<M: Mutators + Drop> Clients<M> {
     ) -> Result<(), AllocError>
         requires { place < length (players_in self.old) }
         ensures told { OnOk result ((told : Bytes) × (text.new.items ≡ text.old.items ++ told)
-            × IsToldAt (shared_rules M.means) (sights_in self.old) place (line_said line.now) (players_in self.old) told
+            × IsToldAt M.means (sights_in self.old) place (line_said line.now) (players_in self.old) told
             (players_in self.new)) }
         ensures seen { sights_in self.new ≡ sights_in self.old }
         ensures count { length (players_in self.new) ≡ length (players_in self.old) }
     {
         let client = &mut self.turns[place].client;
-        let reply = client.answer(rt, &self.sights, &line.command);
+        let reply = client.call(rt, &self.sights, &line.command);
         let told = print_line(text, line.number, client.name.as_str(), &reply);
         drop(reply);
         told

@@ -7,24 +7,17 @@
 //!
 //! Decisions. What the clients of a script stand for is plain data (`Player`: names, IDs, last ids, marks, tickets), of
 //! which the clause `written` speaks; a call's answer is right by the contract of the client's call (`MayReply`). A
-//! client alone in a phase runs on the caller's thread. A client of a script is one over `Arena` with the mutators of
-//! scripts, since a method of a trait's block may not call a function at a bound that threads may share; so each
-//! command stands twice, over the trait (`client`) and over any mutators (`answering`), by the same definitions. A
-//! client keeps its watches beside it, and a poll works on a copy, so a refused poll leaves the watch. `run_plain` runs
-//! the same over the plain group behind a lock; what it writes is no clause, since nothing is known of what a lock
-//! guards.
+//! client alone in a phase runs on the caller's thread. A client keeps its watches beside it, and a poll works on a
+//! copy, so a refused poll leaves the watch.
 //!
 //! Not said: why a writer failed, as `Write` says only what was written (tested with streams that fail); how many slots
 //! the group has (told by the scripts of `trials/data/slots`); who moved the head when. The clause on what a run wrote
 //! speaks of some record. This clause doesn't state that the clients' logs are prefixes of one book; their marks do.
 #![tactic(auto)]
 
-mod answering;
-mod callers;
 mod client;
 mod clients;
 mod phase;
-mod plain;
 mod process;
 mod reply;
 mod rows;
@@ -34,5 +27,5 @@ mod shared;
 pub use clients::Clients;
 pub use phase::Gate;
 pub use process::program;
-pub use runner::{run, run_plain};
+pub use runner::run;
 pub use script_parser::{Fault, ScriptFault};

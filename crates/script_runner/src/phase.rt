@@ -4,12 +4,13 @@ ghost use Rattle.std.specs.List.{All};
 ghost use Rattle.script_parser.specs.Scripts.{line_said, lines_at, phase_said};
 ghost use Rattle.script_runner.specs.Callers.{CanLearnAll, IsOfSameGroup};
 ghost use Rattle.script_runner.specs.Phases.{AreTold, IsPhase, all_sights};
-ghost use Rattle.script_runner.specs.Inside.Players.{player_of, players_of};
+ghost use Rattle.script_runner.specs.Inside.Players.{player_of, players_of, standing_of};
 ghost use Rattle.script_runner.specs.Inside.Turns.{AreOfOneGroup, IsPrinted, IsTold, IsTurn, StayInGroup, texts_of};
 
-use crate::callers::Caller;
 use crate::client::ScriptClient;
 use crate::reply::print_line;
+use group_history::Mutators;
+use head_word::Mark;
 use script_parser::{Line, Phase};
 use std::alloc::{AllocError, Global};
 use std::sync::Wait;
@@ -33,19 +34,19 @@ pub(crate) struct Host<'h, R, G> {
     pub(crate) gate: &'h G,
 }
 
-impl<C: Caller + Drop> ScriptClient<C> {
+impl<M: Mutators + Drop> ScriptClient<M> {
     /// Does the command of a line, between the questions to the gate, and appends what is printed of it.
     fn tell<R: Wait, G: Gate>(
         &mut self,
         host: &Host<'_, R, G>,
-        sights: &[C::Sight],
+        sights: &[Mark<M>],
         line: &Line,
         printed: &mut Vec<u8>,
     ) -> Result<(), AllocError>
-        requires { CanLearnAll C.shows (C.stands self.old.caller) sights.now }
-        ensures told { OnOk result (IsTold C.law (map C.shows sights.now) (player_of C.stands self.old)
-            (line_said line.now) printed.old.items printed.new.items (player_of C.stands self.new)) }
-        ensures group { IsOfSameGroup (C.stands self.old.caller) (C.stands self.new.caller) }
+        requires { CanLearnAll (standing_of self.old.caller) sights.now }
+        ensures told { OnOk result (IsTold M.means sights.now (player_of self.old) (line_said line.now)
+            printed.old.items printed.new.items (player_of self.new)) }
+        ensures group { IsOfSameGroup (standing_of self.old.caller) (standing_of self.new.caller) }
     {
         host.gate.before(self.name.as_str(), line.number);
         let reply = self.call(host.rt, sights, &line.command);
@@ -59,13 +60,13 @@ impl<C: Caller + Drop> ScriptClient<C> {
     fn tell_all<R: Wait, G: Gate>(
         &mut self,
         host: &Host<'_, R, G>,
-        sights: &[C::Sight],
+        sights: &[Mark<M>],
         lines: &[Line],
     ) -> Result<Vec<u8>, AllocError>
-        requires { CanLearnAll C.shows (C.stands self.old.caller) sights.now }
-        ensures told { IfOk result (λ text. AreTold C.law (map C.shows sights.now) (player_of C.stands self.old)
-            (map line_said lines.now) text.items (player_of C.stands self.new)) }
-        ensures group { IsOfSameGroup (C.stands self.old.caller) (C.stands self.new.caller) }
+        requires { CanLearnAll (standing_of self.old.caller) sights.now }
+        ensures told { IfOk result (λ text. AreTold M.means sights.now (player_of self.old)
+            (map line_said lines.now) text.items (player_of self.new)) }
+        ensures group { IsOfSameGroup (standing_of self.old.caller) (standing_of self.new.caller) }
     {
         let mut printed = Vec::new(host.alloc);
         for line in lines {
@@ -77,30 +78,30 @@ impl<C: Caller + Drop> ScriptClient<C> {
 
 /// A client, and what is printed of its part of a phase.
 #[derive(Drop)]
-pub(crate) struct Turn<C: Drop> {
-    pub(crate) client: ScriptClient<C>,
+pub(crate) struct Turn<M: Mutators + Drop> {
+    pub(crate) client: ScriptClient<M>,
     pub(crate) printed: Result<Vec<u8>, AllocError>,
 }
 
-impl<C: Caller + Drop> Turn<C> {
-    fn play<R: Wait, G: Gate>(&mut self, host: &Host<'_, R, G>, sights: &[C::Sight], lines: &[Line])
-        requires { CanLearnAll C.shows (C.stands self.old.client.caller) sights.now }
-        ensures { IsTurn C.law C.stands (map C.shows sights.now) (map line_said lines.now) self.old.client self.new }
+impl<M: Mutators + Drop> Turn<M> {
+    fn play<R: Wait, G: Gate>(&mut self, host: &Host<'_, R, G>, sights: &[Mark<M>], lines: &[Line])
+        requires { CanLearnAll (standing_of self.old.client.caller) sights.now }
+        ensures { IsTurn M.means sights.now (map line_said lines.now) self.old.client self.new }
     {
         self.printed = self.client.tell_all(host, sights, lines);
     }
 }
 
 /// What each client has seen.
-fn sights_of<C: Caller + Drop>(
+pub(crate) fn sights_of<M: Mutators + Drop>(
     alloc: Global,
-    turns: &[Turn<C>],
-) -> Result<Vec<C::Sight>, AllocError>
-    ensures { IfOk result (λ sights. map C.shows sights.items ≡ all_sights (players_of C.stands turns.now)) }
+    turns: &[Turn<M>],
+) -> Result<Vec<Mark<M>>, AllocError>
+    ensures { IfOk result (λ sights. sights.items ≡ all_sights (players_of turns.now)) }
 {
     let mut sights = Vec::with_capacity(alloc, turns.len())?;
     for turn in turns {
-        sights.push(turn.client.caller.sight())?;
+        sights.push(turn.client.caller.seen())?;
     }
     Ok(sights)
 }
@@ -113,17 +114,16 @@ fn threads_for(clients: usize, busy: usize) -> usize
 }
 
 /// Does the lines of a phase: those of each place by the client of that place, on a thread of its own.
-pub(crate) fn run_phase<R: Threads + Wait + Sync, G: Gate, C: Caller + Send + Drop>(
+pub(crate) fn run_phase<R: Threads + Wait + Sync, G: Gate, M: Mutators + Send + Drop>(
     host: &Host<'_, R, G>,
-    turns: &mut [Turn<C>],
+    turns: &mut [Turn<M>],
     phase: &Phase,
 ) -> Result<(), AllocError>
     requires lines { length turns.old ≡ phase.now.clients }
-    requires one { AreOfOneGroup C.stands turns.old }
+    requires one { AreOfOneGroup turns.old }
     ensures phase { OnOk result (All IsPrinted turns.new
-        → IsPhase C.law (phase_said phase.now) (players_of C.stands turns.old) (texts_of turns.new)
-        (players_of C.stands turns.new)) }
-    ensures group { StayInGroup C.stands turns.old turns.new }
+        → IsPhase M.means (phase_said phase.now) (players_of turns.old) (texts_of turns.new) (players_of turns.new)) }
+    ensures group { StayInGroup turns.old turns.new }
     ensures count { length turns.new ≡ length turns.old }
 {
     if turns.is_empty() {
@@ -136,9 +136,9 @@ pub(crate) fn run_phase<R: Threads + Wait + Sync, G: Gate, C: Caller + Send + Dr
         turns,
         count,
         &|i, turn| -> ()
-            requires one { CanLearnAll C.shows (C.stands turn.now.client.caller) sights.items }
-            ensures { IsTurn C.law C.stands (map C.shows sights.items)
-                (lines_at phase.entry.now.parts.items i) turn.entry.now.client turn.exit.now }
+            requires one { CanLearnAll (standing_of turn.now.client.caller) sights.items }
+            ensures { IsTurn M.means sights.items (lines_at phase.entry.now.parts.items i)
+                turn.entry.now.client turn.exit.now }
         { turn.play(host, &sights, phase.lines_of(i)) },
     );
     Ok(())

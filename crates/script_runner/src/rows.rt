@@ -1,9 +1,9 @@
 //! Rows of a scan, written as they are read.
-ghost use Rattle.std.specs.Prelude.{◌≡◌, ◌++◌, ◌∷◌, [], false, true, IfOk, OnErr, OnOk};
-ghost use Rattle.script_runner.specs.Printing.{row_text, rows_text};
+ghost use Rattle.std.specs.Prelude.{◌≡◌, ◌++◌, ◌∷◌, [], false, true, OnErr, OnOk};
+ghost use Rattle.script_runner.specs.Printing.{row_text};
 ghost use Rattle.script_runner.specs.Inside.Printing.{HasRows, IsSame};
 
-use crate::reply::{print_row, print_row_list};
+use crate::reply::print_row;
 use group_history::{Json, Text};
 use rebase::TakesRows;
 use std::alloc::{AllocError, Global};
@@ -23,18 +23,6 @@ impl RowList {
             text: Vec::new(alloc),
             is_empty: true,
         }
-    }
-
-    /// The list of these rows.
-    pub(crate) fn of(alloc: Global, rows: &[(Text, Json)]) -> Result<RowList, AllocError>
-        ensures { IfOk result (λ list. list.text.items ≡ rows_text rows.now) }
-    {
-        let mut text = Vec::new(alloc);
-        print_row_list(rows, &mut text)?;
-        Ok(RowList {
-            text,
-            is_empty: rows.is_empty(),
-        })
     }
 
     /// Parts the row that comes from those before it. Where that is refused the text is as it was.

@@ -7,7 +7,6 @@ ghost use Rattle.script_parser.specs.Faults.{Checks, first_fault, script_said};
 ghost use Rattle.script_parser.specs.Context.{Context};
 ghost use Rattle.script_parser.specs.Kept.{IsInRange};
 ghost use Rattle.script_parser.specs.Scripts.{IsChecked, IsScript, client_said, phase_said};
-ghost use Rattle.script_runner.specs.Callers.{ClientState};
 ghost use Rattle.script_runner.specs.Commanding.{new_player};
 ghost use Rattle.script_runner.specs.Phases.{HasWhole, HasWritten, IsPhase};
 ghost use Rattle.script_runner.specs.Runs.{AreNew, BlamesNoScript, HasRunScript, HasStoppedScript, IsWant};
@@ -17,19 +16,17 @@ ghost use Rattle.script_runner.specs.Inside.Players.{standing_of};
 ghost use Rattle.script_runner.specs.Inside.Runs.{IsRun};
 ghost use Rattle.script_runner.specs.Inside.Turns.{AreOfOneGroup, IsPrinted, StayInGroup, texts_of};
 
-use crate::callers::{Caller, TRIES};
 use crate::client::ScriptClient;
 use crate::phase::{Gate, Host, Turn, run_phase};
-use crate::plain::{Plain, PlainClient};
-use crate::shared::SharedClient;
+use crate::shared::{SharedClient, TRIES};
 use chunk_slots::Arena;
 use group_history::{Mutators, Text};
 use rebase::{Config, Group, Seats};
 use script_mutators::ScriptMutators;
-use script_parser::{ClientLine, Fault, Header, Phase, Script, read_script, uuid_text};
+use script_parser::{ClientLine, Fault, Header, Phase, Script, read_script};
 use std::alloc::{AllocError, Global};
 use std::io;
-use std::sync::{Mutex, Wait};
+use std::sync::Wait;
 use std::thread::Threads;
 
 pub(crate) type ScriptGroup<M> = Group<M, Arena<M>>;
@@ -37,7 +34,7 @@ pub(crate) type ScriptGroup<M> = Group<M, Arena<M>>;
 pub(crate) type ScriptSeats<M> = Seats<M, Arena<M>>;
 
 /// What a phase prints, client by client.
-fn text_of<C: Drop>(alloc: Global, turns: &[Turn<C>]) -> Result<Vec<u8>, AllocError>
+fn text_of<M: Mutators + Drop>(alloc: Global, turns: &[Turn<M>]) -> Result<Vec<u8>, AllocError>
     ensures text { IfOk result (λ v. v.items ≡ concat (texts_of turns.now)) }
     ensures all { OnOk result (All IsPrinted turns.now) }
 {
@@ -52,18 +49,18 @@ fn text_of<C: Drop>(alloc: Global, turns: &[Turn<C>]) -> Result<Vec<u8>, AllocEr
 }
 
 /// Runs a phase, and writes what it prints when it has ended.
-fn write_phase<R: Threads + Wait + Sync, G: Gate, C: Caller + Send + Drop, W: io::Write>(
+fn write_phase<R: Threads + Wait + Sync, G: Gate, M: Mutators + Send + Drop, W: io::Write>(
     host: &Host<'_, R, G>,
-    turns: &mut [Turn<C>],
+    turns: &mut [Turn<M>],
     phase: &Phase,
     out: &mut W,
 ) -> Result<(), Fault>
     requires lines { length turns.old ≡ phase.now.clients }
-    requires one { AreOfOneGroup C.stands turns.old }
-    ensures phase { OnOk result (IsPhase C.law (phase_said phase.now) (players_of C.stands turns.old)
-        (texts_of turns.new) (players_of C.stands turns.new)) }
+    requires one { AreOfOneGroup turns.old }
+    ensures phase { OnOk result (IsPhase M.means (phase_said phase.now) (players_of turns.old)
+        (texts_of turns.new) (players_of turns.new)) }
     ensures text { OnOk result (Appends (W.contents out.old) (W.contents out.new) (concat (texts_of turns.new))) }
-    ensures group { StayInGroup C.stands turns.old turns.new }
+    ensures group { StayInGroup turns.old turns.new }
     ensures count { length turns.new ≡ length turns.old }
     ensures want { IsWant result → Keeps (W.contents out.old) (W.contents out.new) }
     ensures fault { BlamesNoScript result }
@@ -77,17 +74,17 @@ fn write_phase<R: Threads + Wait + Sync, G: Gate, C: Caller + Send + Drop, W: io
 }
 
 /// Runs the phases of a script, and writes what each prints when it has ended.
-fn run_phases<R: Threads + Wait + Sync, G: Gate, C: Caller + Send + Drop, W: io::Write>(
+fn run_phases<R: Threads + Wait + Sync, G: Gate, M: Mutators + Send + Drop, W: io::Write>(
     host: &Host<'_, R, G>,
-    turns: &mut [Turn<C>],
+    turns: &mut [Turn<M>],
     phases: &[Phase],
     out: &mut W,
 ) -> Result<(), Fault>
     requires lines { All (λ p. p.clients ≡ length turns.old) phases.now }
-    requires one { AreOfOneGroup C.stands turns.old }
-    ensures written { OnOk result (HasWritten C.law (players_of C.stands turns.old) (map phase_said phases.now)
-        (W.contents out.old) (W.contents out.new) (players_of C.stands turns.new)) }
-    ensures want { IsWant result → HasWhole C.law (players_of C.stands turns.old) (map phase_said phases.now)
+    requires one { AreOfOneGroup turns.old }
+    ensures written { OnOk result (HasWritten M.means (players_of turns.old) (map phase_said phases.now)
+        (W.contents out.old) (W.contents out.new) (players_of turns.new)) }
+    ensures want { IsWant result → HasWhole M.means (players_of turns.old) (map phase_said phases.now)
         (W.contents out.old) (W.contents out.new) }
     ensures fault { BlamesNoScript result }
 {
@@ -133,9 +130,12 @@ pub(crate) fn open_group<M: Mutators + Drop>(
 }
 
 /// A client before the first phase.
-fn turn_of<C: Drop>(alloc: Global, name: &Text, caller: C) -> Result<Turn<C>, AllocError>
-    ensures { (stands : C → ClientState) → IfOk result
-        (λ turn. player_of stands turn.client ≡ new_player name.now (stands caller)) }
+fn turn_of<M: Mutators + Drop>(
+    alloc: Global,
+    name: &Text,
+    caller: SharedClient<M>,
+) -> Result<Turn<M>, AllocError>
+    ensures { IfOk result (λ turn. player_of turn.client ≡ new_player name.now (standing_of caller)) }
 {
     let client = ScriptClient::new(alloc, name, caller)?;
     Ok(Turn {
@@ -150,7 +150,7 @@ fn open_client<M: Mutators + Drop>(
     line: &ClientLine,
     group: &ScriptGroup<M>,
     seats: &mut ScriptSeats<M>,
-) -> Result<Turn<SharedClient<M>>, AllocError>
+) -> Result<Turn<M>, AllocError>
     requires free { 1 ≤ length seats.old.free }
     requires seats { AreSeatsOf group.now.group seats.old.free }
     requires opening { All IsFresh seats.old.free }
@@ -176,7 +176,7 @@ pub(crate) fn open_clients<M: Mutators + Drop>(
     lines: &[ClientLine],
     group: &ScriptGroup<M>,
     seats: ScriptSeats<M>,
-) -> Result<Vec<Turn<SharedClient<M>>>, AllocError>
+) -> Result<Vec<Turn<M>>, AllocError>
     requires free { length lines.now ≤ length seats.free }
     requires seats { AreSeatsOf group.now.group seats.free }
     requires opening { All IsFresh seats.free }
@@ -197,10 +197,10 @@ fn open_script<M: Mutators + Drop>(
     alloc: Global,
     header: &Header,
     mutators: M,
-) -> Result<Vec<Turn<SharedClient<M>>>, Fault>
+) -> Result<Vec<Turn<M>>, Fault>
     requires { IsInRange header.now }
     ensures new { IfOk result (λ turns. AreNew M.means (header_identity header.now)
-        (map client_said header.now.clients.items) (players_of standing_of turns.items)) }
+        (map client_said header.now.clients.items) (players_of turns.items)) }
     ensures fault { BlamesNoScript result }
 {
     let (group, seats) = open_group(alloc, header, mutators)?;
@@ -267,73 +267,4 @@ pub(crate) fn run_owned<R: AllocGlobal + Threads + Wait + Sync, G: Gate, W: io::
 {
     let checked = read_owned(rt.alloc(), script)?;
     run_shared(rt, &checked, gate, out)
-}
-
-/// A client of a plain group.
-fn plain_client<'g>(
-    alloc: Global,
-    line: &ClientLine,
-    group: &'g Mutex<Plain>,
-) -> Result<Turn<PlainClient<'g>>, AllocError>
-    ensures { IfOk result (λ turn. turn.client.name ≡ line.now.name) }
-{
-    let id = uuid_text(alloc, line.id)?;
-    turn_of(alloc, &line.name, PlainClient::new(alloc, group, id))
-}
-
-/// Clients of a plain group, in the order of their lines.
-fn plain_clients<'g>(
-    alloc: Global,
-    lines: &[ClientLine],
-    group: &'g Mutex<Plain>,
-) -> Result<Vec<Turn<PlainClient<'g>>>, AllocError>
-    ensures { IfOk result (λ turns. length turns.items ≡ length lines.now) }
-{
-    let mut turns = Vec::with_capacity(alloc, lines.len())?;
-    for line in lines {
-        let turn = plain_client(alloc, line, group)?;
-        turns.push(turn)?;
-    }
-    Ok(turns)
-}
-
-/// The plain group of a script.
-fn plain_of(alloc: Global, header: &Header) -> Result<Plain, Fault>
-    ensures { BlamesNoScript result }
-{
-    let identity = header.identity(alloc)?;
-    let Ok(plain) = Plain::new(alloc, identity) else {
-        return Err(Fault::NoMemory);
-    };
-    Ok(plain)
-}
-
-/// Runs a script that was read on a plain group.
-fn run_on_plain<R: AllocGlobal + Threads + Wait + Sync, G: Gate, W: io::Write>(
-    rt: &R,
-    script: &Script,
-    gate: &G,
-    out: &mut W,
-) -> Result<(), Fault>
-    requires { IsChecked script.now }
-    ensures fault { BlamesNoScript result }
-{
-    let alloc = rt.alloc();
-    let group = Mutex::new(plain_of(alloc, &script.header)?);
-    let mut turns = plain_clients(alloc, &script.header.clients, &group)?;
-    run_phases(&Host { rt, alloc, gate }, &mut turns, &script.phases, out)
-}
-
-/// The same on a plain group, by which `run` can be judged: a list of calls over a map, with no tree below it.
-pub fn run_plain<R: AllocGlobal + Threads + Wait + Sync, G: Gate, W: io::Write>(
-    rt: &R,
-    script: &[u8],
-    gate: &G,
-    out: &mut W,
-) -> Result<(), Fault>
-    ensures first { Checks (first_fault script.now) result }
-    ensures nothing_written { KeepsIfFaulty result (W.contents out.old) (W.contents out.new) }
-{
-    let read = read_script(rt.alloc(), script)?;
-    run_on_plain(rt, &read, gate, out)
 }

@@ -19,7 +19,6 @@ use Rattle.script_parser.specs.Kept.{without_lines}
 use Rattle.script_parser.specs.Reading.{AsksFor, bytes_said_with}
 use Rattle.script_parser.specs.Scripts.{line_said}
 use Rattle.script_runner.specs.Answering.{IsToldAt}
-use Rattle.script_runner.specs.Callers.{shared_rules}
 use Rattle.script_runner.specs.Phases.{all_sights}
 use Rattle.script_runner.specs.Runs.{AreNew, identity_of}
 use Rattle.script_server.specs.Standing.{Standing, means_in, rules_in}
@@ -86,8 +85,7 @@ BeginsPhase (p ∷ ps) before said after = after ≡ record before { said = said
 -- the client at a place does the command of its line
 pub record Tells (place : ℕ) (line : Line) (before : Standing) (said : Context) (text : Bytes) (after : Standing) : Type 0
   where
-    pub told : IsToldAt (shared_rules (means_in before)) before.sights place (line_said line) before.players text
-        after.players
+    pub told : IsToldAt (means_in before) before.sights place (line_said line) before.players text after.players
     pub left : after ≡ record before { said = said; players = after.players }
 
 -- what a line asks is done, and this was then said

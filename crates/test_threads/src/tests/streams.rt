@@ -1,5 +1,5 @@
 //! Of the program over streams that fail: at once, or at each of their calls in turn.
-use script_runner::{Fault, Gate, program, run, run_plain};
+use script_runner::{Fault, Gate, program, run};
 use std::alloc::AllocGlobal;
 use std::io::{self, Read, Write};
 use std::sync::Wait;
@@ -318,14 +318,5 @@ fn a_failed_write_of_a_fault_changes_nothing(rt: HostRuntime) -> io::Result<()> 
         return Err(no_memory());
     }
     assert_eq!(rt; (status, out.len()), (2, 0));
-    Ok(())
-}
-
-// The group of one thread, by which a run can be judged, prints the same.
-#[test]
-fn a_script_runs_on_a_plain_group(rt: HostRuntime) -> Result<(), Fault> {
-    let mut out = Vec::new(rt.alloc());
-    run_plain(&rt, SCRIPT.as_bytes(), &Watch::new(), &mut out)?;
-    assert!(rt; out.as_slice() == PRINTED.as_bytes());
     Ok(())
 }

@@ -1,4 +1,4 @@
-use Rattle.std.proofs.Common.{rules, ℕ, ◌<◌, subst, length, map, slice_index_or}
+use Rattle.std.proofs.Common.{rules, ℕ, ◌<◌, subst, length, slice_index_or}
 use Rattle.script_runner.specs.declared.phase.Turn.{Turn}
 use Rattle.script_parser.specs.Scripts.{lines_at}
 use Rattle.script_runner.specs.Inside.Turns.{IsTurn}
@@ -7,26 +7,26 @@ use Rattle.script_runner.proofs.phase.run_phase.Goals as goal
 
 pub for_each_mut-requires-clause-accepts : goal.for_each_mut-requires-clause-accepts
 for_each_mut-requires-clause-accepts g c b m i p below is = (
-  λ k d in_sights. lent g.C.Caller.stands g.C.Caller.shows c.args.turns.now c.in_ok-sights.sights.items i p.now k d
-      c.in_ok-sights.ensures c.requires.one below is in_sights,
+  λ k d in_sights. lent c.args.turns.now c.in_ok-sights.sights.items i p.now k d c.in_ok-sights.ensures c.requires.one
+      below is in_sights,
   (search rules, search rules, search rules, search rules),
 )
 
 pub returns : goal.returns
 returns g c =
-    let stands = g.C.Caller.stands in let law = g.C.Caller.law in
+    let means = g.M.Means.means in
     let old = c.args.turns.now in let new = c.for_each_mut.new.s in let said = c.args.phase.now in
-    let sights = map g.C.Caller.shows c.in_ok-sights.sights.items in
+    let sights = c.in_ok-sights.sights.items in
     let turns : (i : ℕ) (d : Turn _) → i < length old
-    → IsTurn law stands sights (lines_at said.parts.items i) (slice_index_or old i d).client
+    → IsTurn means sights (lines_at said.parts.items i) (slice_index_or old i d).client
     (slice_index_or new i d) = λ i d below.
     let w = (c.for_each_mut.ensures i d below).1 in
-    subst (λ x. IsTurn law stands sights (lines_at said.parts.items i) x.client
+    subst (λ x. IsTurn means sights (lines_at said.parts.items i) x.client
     (slice_index_or new i d)) w.argument_is
-    (subst (λ y. IsTurn law stands sights (lines_at said.parts.items i) w.argument.now.client y) w.left w.call) in
+    (subst (λ y. IsTurn means sights (lines_at said.parts.items i) w.argument.now.client y) w.left w.call) in
     record {
-      phase = λ printed. phase stands law sights old new said c.in_ok-sights.ensures c.for_each_mut.auto.s
+      phase = λ printed. phase means sights old new said c.in_ok-sights.ensures c.for_each_mut.auto.s
           c.requires.lines turns printed;
-      group = still_one stands law sights old new said c.for_each_mut.auto.s turns;
+      group = still_one means sights old new said c.for_each_mut.auto.s turns;
       count = c.for_each_mut.auto.s;
     }

@@ -28,8 +28,8 @@ returns-clause-new g c =
     c.in-Ok.seat c.in-Ok.ensures.taken refl c.requires.seats).1 in
     let seen = (popped IsFresh c.args.seats.now.free c.take.new.self.free (Some c.in-Ok.seat) c.in-Ok.seat
     c.in-Ok.ensures.taken refl c.requires.opening).1 in
-    if_player standing_of c.turn_of.result (IsNew g.M.Means.means group.identity group.group.book)
-    (new_player c.args.line.now.name (standing_of made)) (c.turn_of.ensures standing_of)
+    if_player c.turn_of.result (IsNew g.M.Means.means group.identity group.group.book)
+    (new_player c.args.line.now.name (standing_of made)) c.turn_of.ensures
     (subst (λ x. IsNew g.M.Means.means group.identity group.group.book (new_player c.args.line.now.name
     (record { caller = caller_of x; mark = x.seat.mark; watches = made.watches }))) (sym c.new.ensures.client)
     (record {
@@ -44,6 +44,6 @@ returns-clause-new g c =
 pub returns-clause-name : goal.returns-clause-name
 returns-clause-name g c =
     let made = c.new.result in let line = c.args.line.now in
-    if_player standing_of c.turn_of.result (λ p. (p.name, p.standing.caller.client) ≡ client_said line)
-    (new_player line.name (standing_of made)) (c.turn_of.ensures standing_of)
+    if_player c.turn_of.result (λ p. (p.name, p.standing.caller.client) ≡ client_said line)
+    (new_player line.name (standing_of made)) c.turn_of.ensures
     (ap (λ i. (line.name, i)) (ap (λ x. x.id) c.new.ensures.client ∙ c.in-Ok-client.ensures.id))

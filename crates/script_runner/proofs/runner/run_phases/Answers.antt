@@ -13,13 +13,11 @@ use Rattle.script_runner.proofs.runner.run_phases.Goals as goal
 pub loop-phase-preserved : goal.loop-phase-preserved
 loop-phase-preserved g c =
     let l = c.loop-phase in let so_far = l.invariant.written in let new = c.write_phase.new.turns in
-    let stands = g.C.Caller.stands in
     record {
       written = (
         so_far.0 ++ concat (texts_of new),
-        phase-more g.C.Caller.law (players_of stands c.args.turns.now) (players_of stands l.turns)
-            (players_of stands new) c.args.phases.now l.phase-index so_far.0 c.phase-item.result
-            (texts_of new) c.loop-phase-test.true
+        phase-more g.M.Means.means (players_of c.args.turns.now) (players_of l.turns) (players_of new)
+            c.args.phases.now l.phase-index so_far.0 c.phase-item.result (texts_of new) c.loop-phase-test.true
             c.phase-item.is so_far.1 c.in_ok-write_phase.ensures.phase,
         appends-twice (g.W.Write.contents c.args.out.now) (g.W.Write.contents l.out)
             (g.W.Write.contents c.write_phase.new.out) so_far.0
@@ -35,13 +33,13 @@ write_phase-requires-clause-one g c b m =
 
 pub returns-in_err-write_phase-clause-want : goal.returns-in_err-write_phase-clause-want
 returns-in_err-write_phase-clause-want g c want =
-    let l = c.loop-phase in let so_far = l.invariant.written in let stands = g.C.Caller.stands in
+    let l = c.loop-phase in let so_far = l.invariant.written in
     let p = err_from_is_err_and c.from_residual.result c.from_residual.ensures.1 in
     let lacked = subst IsWant (p.1 ∙ ap (λ e. Err e) p.2) want in (
       l.phase-index,
       so_far.0,
-      players_of stands l.turns,
-      subst (λ w. AreWritten g.C.Caller.law (players_of stands c.args.turns.now) w so_far.0 (players_of stands l.turns))
+      players_of l.turns,
+      subst (λ w. AreWritten g.M.Means.means (players_of c.args.turns.now) w so_far.0 (players_of l.turns))
           (sym (take-map phase_said l.phase-index c.args.phases.now)) so_far.1,
       appends-kept (g.W.Write.contents c.args.out.now) (g.W.Write.contents l.out)
           (g.W.Write.contents c.write_phase.new.out) so_far.0 so_far.2 (c.in_err-write_phase.ensures.want lacked),

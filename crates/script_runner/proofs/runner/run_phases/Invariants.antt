@@ -6,11 +6,9 @@ use Rattle.script_runner.specs.Inside.Turns.{StayInGroup}
 use Rattle.script_runner.proofs.runner.run_phases.Given as goal
 
 abbrev pub invariant-loop-phase : goal.invariant-loop-phase
-invariant-loop-phase g l =
-    let stands = g.C.Caller.stands in record {
-      written : HasWritten g.C.Caller.law (players_of stands l.fn.turns)
-          (map phase_said (take l.phase-index l.phases)) (g.W.Write.contents l.fn.out) (g.W.Write.contents l.out)
-          (players_of stands l.turns);
-      len : length l.turns ≡ length l.fn.turns;
-      one : StayInGroup stands l.fn.turns l.turns;
-    }
+invariant-loop-phase g l = record {
+  written : HasWritten g.M.Means.means (players_of l.fn.turns) (map phase_said (take l.phase-index l.phases))
+      (g.W.Write.contents l.fn.out) (g.W.Write.contents l.out) (players_of l.turns);
+  len : length l.turns ≡ length l.fn.turns;
+  one : StayInGroup l.fn.turns l.turns;
+}

@@ -1,16 +1,15 @@
-use Rattle.std.proofs.Common.{◌∙◌, sym, map}
+use Rattle.std.proofs.Common.{◌∙◌, sym}
 use Rattle.script_runner.specs.Inside.Players.{player_of}
 use Rattle.script_runner.proofs.Turns.{line-more}
 use Rattle.script_runner.proofs.client.ScriptClient.tell_all.Goals as goal
 
 pub loop-line-preserved : goal.loop-line-preserved
 loop-line-preserved g c =
-    let l = c.loop-line in let stands = g.C.Caller.stands in
+    let l = c.loop-line in
     record {
-      told = line-more g.C.Caller.law (map g.C.Caller.shows c.args.sights.now) (player_of stands c.args.self.now)
-          (player_of stands l.self) (player_of stands c.tell.new.self) c.args.lines.now l.line-index c.line-item.result
-          l.printed.items c.tell.new.printed.items
-          c.loop-line-test.true c.line-item.is l.invariant.told c.in_ok-tell.ensures.told;
+      told = line-more g.M.Means.means c.args.sights.now (player_of c.args.self.now) (player_of l.self)
+          (player_of c.tell.new.self) c.args.lines.now l.line-index c.line-item.result l.printed.items
+          c.tell.new.printed.items c.loop-line-test.true c.line-item.is l.invariant.told c.in_ok-tell.ensures.told;
       group = c.tell.ensures.group ∙ l.invariant.group;
     }
 

@@ -2,7 +2,7 @@ use Rattle.std.proofs.Common.{ap, map, ◌∙◌}
 use Rattle.script_parser.specs.Scripts.{client_said}
 use Rattle.script_runner.specs.Phases.{all_sights}
 use Rattle.script_runner.specs.Runs.{header_identity}
-use Rattle.script_runner.specs.Inside.Players.{players_of, standing_of}
+use Rattle.script_runner.specs.Inside.Players.{players_of}
 use Rattle.script_runner.proofs.Grouping.{of_group, seen_there}
 use Rattle.script_runner.proofs.Openings.{are_opened}
 use Rattle.script_runner.proofs.clients.Clients.open.Goals as goal
@@ -14,7 +14,7 @@ invariant_of-result g c =
     record {
       of_group = of;
       seen_there = seen_there group.group.book turns c.in_ok-sights.sights.items
-          (c.in_ok-sights.ensures ∙ ap (λ ts. all_sights (players_of standing_of ts)) c.deref-2.ensures.value) of;
+          (c.in_ok-sights.ensures ∙ ap (λ ts. all_sights (players_of ts)) c.deref-2.ensures.value) of;
     }
 
 pub returns-clause-new : goal.returns-clause-new

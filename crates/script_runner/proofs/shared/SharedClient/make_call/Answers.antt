@@ -23,8 +23,8 @@ returns-in-Mutate-clause-reply g c =
     c.mutate.result seen c.in-Mutate.is is c.mutate.ensures.answer in
     record {
       answer = subst (λ (n : ℕ). IsLinearized g.M.Means.means n old.seat.mark new.seat.mark seen
-          (change_of (caller_of old) c.args.call) (λ s. reply_to g.M.Means.means (caller_of old) s c.args.call)) (sym none)
-          answer;
+          (change_of (caller_of old) c.args.call) (λ s. reply_to g.M.Means.means (caller_of old) s c.args.call))
+          (sym none) answer;
       refused = λ reading. absurd (cc (sym reading ∙ ap is_reading c.in-Mutate.is));
       lasting = λ _. ap is_passing is ∙ (passing_told id c.mutate.result ∙ c.mutate.ensures.lasting);
       caller = same_client old new acts.client ∙ ap (caller old.group.identity old.id)
@@ -47,8 +47,8 @@ returns-in-EndPull-clause-reply g c =
     c.in-EndPull.body c.end_pull.result seen c.in-EndPull.is is c.end_pull.ensures.answer in
     record {
       answer = subst (λ (n : ℕ). IsLinearized g.M.Means.means n old.seat.mark new.seat.mark seen
-          (change_of (caller_of old) c.args.call) (λ s. reply_to g.M.Means.means (caller_of old) s c.args.call)) (sym none)
-          answer;
+          (change_of (caller_of old) c.args.call) (λ s. reply_to g.M.Means.means (caller_of old) s c.args.call))
+          (sym none) answer;
       refused = λ reading. absurd (cc (sym reading ∙ ap is_reading c.in-EndPull.is));
       lasting = λ _. ap is_passing is ∙ (passing_told ended c.end_pull.result ∙ c.end_pull.ensures.lasting);
       caller = same_caller old new acts.0.client acts.1 ∙ ap (caller old.group.identity old.id)
