@@ -8,6 +8,7 @@ use Rattle.group_history.specs.declared.responses.Ended.{Ended}
 use Rattle.group_history.specs.declared.responses.Ended.TheVariants.{Applied, Same}
 use Rattle.group_history.specs.Map.{Bytes}
 use Rattle.group_history.specs.Pull.{kind_text}
+use Rattle.group_history.specs.Refusals.{refusal_name}
 pub use Rattle.push_body.specs.Rows.{array_text, pending_row, row_text}
 use Rattle.rebase.specs.declared.watching.Polled.{Polled}
 use Rattle.rebase.specs.declared.watching.Polled.TheVariants as polled
@@ -17,30 +18,7 @@ use Rattle.rebase.specs.Replies.{Replied, value, yes_or_no, rows, pending, cooki
 abbrev pub rows_text : List (Bytes × Bytes) → Bytes
 rows_text rs = join_with_byte 44 (map row_text rs)
 
--- the name of a refusal
-abbrev pub refusal_name : Refusal → Bytes
-refusal_name refusal.NoMemory = codes "NoMemory"
-refusal_name refusal.Moved = codes "Moved"
-refusal_name refusal.Busy = codes "Busy"
-refusal_name refusal.Gone = codes "Gone"
-refusal_name refusal.Full = codes "Full"
-refusal_name refusal.Stamps = codes "Stamps"
-refusal_name refusal.Stale = codes "Stale"
-refusal_name refusal.NoMutator = codes "NoMutator"
-refusal_name (refusal.Refused code) = codes "Refused"
-refusal_name refusal.NotJson = codes "NotJson"
-refusal_name refusal.BadShape = codes "BadShape"
-refusal_name refusal.NotWhole = codes "NotWhole"
-refusal_name refusal.Overtaken = codes "Overtaken"
-refusal_name refusal.CookieWentBack = codes "CookieWentBack"
-refusal_name refusal.CookieNotNew = codes "CookieNotNew"
-refusal_name refusal.IdWentBack = codes "IdWentBack"
-refusal_name refusal.StateNotFound = codes "StateNotFound"
-refusal_name (refusal.VersionNotSupported kind) = codes "VersionNotSupported"
-refusal_name refusal.NoSeat = codes "NoSeat"
-refusal_name refusal.Closed = codes "Closed"
-
--- what follows the name
+-- what follows a refusal's name
 abbrev pub refusal_detail : Refusal → Bytes
 refusal_detail (refusal.Refused code) = codes " " ++ decimal code
 refusal_detail (refusal.VersionNotSupported kind) = codes " " ++ kind_text kind

@@ -3,8 +3,8 @@ ghost use Rattle.std.specs.Prelude.{◌≡◌, ◌++◌, map, decimal, OnErr, On
 ghost use mathlib.Core.List.{IsPrefix};
 ghost use Rattle.std.specs.List.{join_with_byte};
 ghost use Rattle.push_body.specs.Bodies.{quoted};
-ghost use Rattle.script_runner.specs.Printing.{row_text, pending_row, array_text, refusal_name, refusal_detail};
-ghost use Rattle.script_runner.specs.Printing.{line_text};
+ghost use Rattle.group_history.specs.Refusals.{refusal_name};
+ghost use Rattle.script_runner.specs.Printing.{row_text, pending_row, array_text, refusal_detail, line_text};
 ghost use Rattle.script_runner.specs.Inside.Printing.{enclosed, reply_word, reply_detail, reply_text};
 
 use crate::rows::RowList;
@@ -201,7 +201,7 @@ fn print_pending(pending: &[Mutation], out: &mut Vec<u8>) -> Result<(), AllocErr
 fn print_refusal(refusal: Refusal, out: &mut Vec<u8>) -> Result<(), AllocError>
     ensures { OnOk result (out.new.items ≡ out.old.items ++ refusal_name refusal ++ refusal_detail refusal) }
 {
-    out.extend_from_slice(refusal_name(refusal).as_bytes())?;
+    out.extend_from_slice(refusal.name().as_bytes())?;
     match refusal {
         Refusal::Refused(code) => print_number(out, " ", u64::from(code)),
         Refusal::VersionNotSupported(kind) => {
@@ -209,33 +209,6 @@ fn print_refusal(refusal: Refusal, out: &mut Vec<u8>) -> Result<(), AllocError>
             out.extend_from_slice(kind.as_bytes())
         }
         _ => Ok(()),
-    }
-}
-
-fn refusal_name(refusal: Refusal) -> &'static str
-    ensures { result.now ≡ refusal_name refusal }
-{
-    match refusal {
-        Refusal::NoMemory => "NoMemory",
-        Refusal::Moved => "Moved",
-        Refusal::Busy => "Busy",
-        Refusal::Gone => "Gone",
-        Refusal::Full => "Full",
-        Refusal::Stamps => "Stamps",
-        Refusal::Stale => "Stale",
-        Refusal::NoMutator => "NoMutator",
-        Refusal::Refused(_) => "Refused",
-        Refusal::NotJson => "NotJson",
-        Refusal::BadShape => "BadShape",
-        Refusal::NotWhole => "NotWhole",
-        Refusal::Overtaken => "Overtaken",
-        Refusal::CookieWentBack => "CookieWentBack",
-        Refusal::CookieNotNew => "CookieNotNew",
-        Refusal::IdWentBack => "IdWentBack",
-        Refusal::StateNotFound => "StateNotFound",
-        Refusal::VersionNotSupported(_) => "VersionNotSupported",
-        Refusal::NoSeat => "NoSeat",
-        Refusal::Closed => "Closed",
     }
 }
 

@@ -6,8 +6,8 @@ use Rattle.group_history.specs.Rows.{Rows}
 use Rattle.script_runner.specs.declared.reply.Printed.{Printed}
 use Rattle.script_runner.specs.declared.reply.Printed.TheVariants as reply
 use Rattle.script_runner.specs.declared.rows.RowList.{RowList}
-use Rattle.script_runner.specs.Printing.{array_text, bool_text, ended_text, pending_row, refusal_detail, refusal_name}
-use Rattle.script_runner.specs.Printing.{row_text, rows_text}
+use Rattle.group_history.specs.Refusals.{refusal_name}
+use Rattle.script_runner.specs.Printing.{array_text, bool_text, ended_text, pending_row, refusal_detail, row_text, rows_text}
 
 -- texts with commas between them, as a JSON array
 abbrev pub enclosed : Bytes → Bytes
