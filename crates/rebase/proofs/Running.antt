@@ -57,7 +57,8 @@ use Rattle.rebase.specs.Clients.{Acts, ClientState, Grouped, IsSameClient, Stays
 use Rattle.rebase.specs.Inside.Made.{closing_ended, reply_made}
 use Rattle.rebase.specs.Inside.Shown.{IsShown, under_way}
 use Rattle.rebase.specs.Replies.{Replied, ended, id, reply_seen}
-use Rattle.rebase.specs.Running.{AsksFor, BeganAs, EndsCall, EndsPull, Follows, IsAsked, IsFirst, IsFirstAt, IsJudgedAt, IsUnwritten, UnderWay, change_replied, change_reply, last_called}
+use Rattle.rebase.specs.Running.{AsksFor, BeganAs, EndsCall, EndsPull, Follows, IsAsked, IsFirst, IsFirstAt}
+use Rattle.rebase.specs.Running.{IsJudgedAt, IsUnwritten, UnderWay, change_replied, change_reply, last_called}
 use Rattle.rebase.specs.declared.asking.Asked.{Asked}
 use Rattle.rebase.specs.declared.asking.Asked.TheVariants as asked
 use Rattle.rebase.specs.declared.calls.Reply.{Reply}

@@ -1,5 +1,5 @@
--- The newest commit of a chain (Chaining), a state with more that is pending (Pending), and why a change that is drafted
--- is refused (Refusing). The states are the record's.
+-- The newest commit of a chain (Chaining), a state with more that is pending (Pending), and why a change that is
+-- drafted is refused (Refusing). The states are the record's.
 pub mod Chaining
 pub mod Pending
 pub mod Refusing
