@@ -6,7 +6,7 @@ ghost use Rattle.std.specs.Prelude.{◌≡◌, IfOk};
 ghost use Rattle.std.specs.Coded.{Coded-set, codes, Π_prop, →_prop};
 ghost use Rattle.std.specs.List.{All};
 ghost use Rattle.script_runner.specs.Phases.{all_sights};
-ghost use Rattle.script_runner.specs.Inside.Players.{players_of, standing_of};
+ghost use Rattle.script_runner.specs.Inside.Players.{standing_of};
 
 use crate::phase::{Turn, sights_of};
 use crate::reply::print_line;
