@@ -8,6 +8,7 @@ import sys
 from pathlib import Path
 
 ROOT = Path(__file__).resolve().parent.parent
+ARCHIVE_HEAD, MEMBER_HEAD = b"!<arch>\n", 60
 # How a command of the kit is run: what it says is read as one text.
 HEARD = {"stdin": subprocess.DEVNULL, "stdout": subprocess.PIPE, "stderr": subprocess.STDOUT, "text": True, "errors": "replace"}
 
@@ -28,13 +29,31 @@ def is_built(crate):
     return Path(crate.rlib, "format").is_file()
 
 
+def members(archive):
+    """The names of the files in an archive, as GNU's ar writes one."""
+    with archive.open("rb") as file:
+        if file.read(len(ARCHIVE_HEAD)) != ARCHIVE_HEAD:
+            sys.exit(f"{archive} is no archive")
+        names = b""
+        while head := file.read(MEMBER_HEAD):
+            name, size = head[:16].rstrip(), int(head[48:58])
+            if name == b"//":
+                names = file.read(size)
+            else:
+                file.seek(size, os.SEEK_CUR)
+                start = int(name[1:]) if name[1:].isdigit() else None
+                yield (name if start is None else names[start : names.index(b"\n", start)]).rstrip(b"/").decode()
+            file.seek(size % 2, os.SEEK_CUR)
+
+
 def functions(crate):
     """The functions of a crate, by the checker's names: the archive of its library has the code of each. None where there is no
     library."""
     if not is_built(crate):
         return None
-    names = re.findall(rb"Rattle-%s-proofs\.([^\s/]+)\.Code\.oantt" % crate.name.encode(), Path(crate.rlib, "toolchain/checked.a").read_bytes())
-    return {f"{crate.name}::{name.decode().replace('.', '::')}" for name in names}
+    code = re.compile(rf"(?:part/)?Rattle-{crate.name}-proofs\.(.+)\.Code\.oantt")
+    found = filter(None, map(code.fullmatch, members(Path(crate.rlib, "toolchain/checked.a"))))
+    return {f"{crate.name}::{match[1].replace('.', '::')}" for match in found}
 
 
 def copy_parts(crate, room):

@@ -313,9 +313,9 @@ where
     {
         for turn in rt.forever() {
             let _ = turn;
-            let reply = self.try_end_pull(ticket, body, TRIES);
-            if !is_passing(&reply) {
-                return reply;
+            let ended = self.try_end_pull(ticket, body, TRIES);
+            if !is_passing(&ended) {
+                return ended;
             }
         }
         unreachable!()
