@@ -51,7 +51,7 @@ def functions(crate):
     library."""
     if not is_built(crate):
         return None
-    code = re.compile(rf"(?:part/)?Rattle-{crate.name}-proofs\.(.+)\.Code\.oantt")
+    code = re.compile(rf"(?:part/)?Rattle-{crate.name}-proofs\.((?!.*\.\+).+)\.Code\.oantt")  # (a cycle has a name with a +)
     found = filter(None, map(code.fullmatch, members(Path(crate.rlib, "toolchain/checked.a"))))
     return {f"{crate.name}::{match[1].replace('.', '::')}" for match in found}
 
