@@ -34,6 +34,11 @@ class Place:
     function: str | None
     is_cycle: bool = False
 
+    @property
+    def proofs(self) -> str | None:
+        """The folder below proofs/ that has the one proof of a cycle's functions; none of another function."""
+        return f"{self.module.replace('::', '/')}/+{self.function}" if self.is_cycle else None
+
     def among(self, crate: str, names: Iterable[str]) -> set[str]:
         """Those of the checker's names that are this function's, that of a closure in it, or of its cycle. A method bears the
         module of its type, which may stand in another file: where no name has this module the function's alone decides."""
@@ -203,13 +208,13 @@ def refusals(crate: str, said: str) -> dict[str, list[str]]:
 def told(crate: str, edits: list[Edit], said: str) -> tuple[dict[Edit, list[str]], list[str]]:
     """Of each edit of a round the goals for which its own functions are refused, and the refused functions that none changes.
     Of one that changes a definition, the lemmas that fail are goals too."""
-    found = refusals(crate, said)
-    lemmas = open_goals(said).get("", [])
+    found, by_folders = refusals(crate, said), open_goals(said)
     of_edits, explained = {}, set()
     for edit in edits:
         mine = set().union(*(place.among(crate, found) for place in edit.places))
         explained |= mine
         of_edits[edit] = [goal for name in sorted(mine) for goal in found[name]]
+        of_edits[edit] += [goal for place in edit.places if place.proofs for goal in by_folders.get(place.proofs, [])]
         if any(place.function is None for place in edit.places):
-            of_edits[edit] += lemmas
+            of_edits[edit] += by_folders.get("", [])
     return of_edits, sorted(found.keys() - explained)

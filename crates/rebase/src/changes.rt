@@ -313,9 +313,10 @@ where
     {
         for turn in rt.forever() {
             let _ = turn;
-            let ended = self.try_end_pull(ticket, body, TRIES);
-            if !is_passing(&ended) {
-                return ended;
+            let reply = self.try_end_pull(ticket, body, TRIES);
+            let is_last = !is_passing(&reply);
+            if is_last {
+                return reply;
             }
         }
         unreachable!()

@@ -13,33 +13,33 @@ use Rattle.rebase.proofs.Causing.{cause_anew, frees_anew, frees_moves, frees_non
 use Rattle.rebase.proofs.Lasting.{begun_anew, left_alone, passing_changes, passing_read}
 use Rattle.rebase.proofs.client.Client.end_pull.Goals as goal
 
-pub returns-then-not-is_passing-clause-answer : goal.returns-then-not-is_passing-clause-answer
-returns-then-not-is_passing-clause-answer g c =
+pub returns-then-is_last-clause-answer : goal.returns-then-is_last-clause-answer
+returns-then-is_last-clause-answer g c =
     let old = c.args.self.now.seat.mark in let mid = c.loop-turn.self.seat.mark in
-    let new = c.try_end_pull-ended.new.self.seat.mark in
-    let i = c.loop-turn.invariant in let reply = c.try_end_pull-ended.result in
+    let new = c.try_end_pull-reply.new.self.seat.mark in
+    let i = c.loop-turn.invariant in let reply = c.try_end_pull-reply.result in
     let ticket = c.args.ticket.now.cookie in
     let lasts : is_passing reply ≡ false = search rules in
     begun_anew g.M.Means.means 1000 0 old mid new reply (change_read ticket (answer_to c.args.body.now))
     (λ s. end_bytes_reply s ticket.text c.args.body.now) i.seat.later.seen i.seat.later.seat i.own lasts
-    c.try_end_pull-ended.ensures.answer
+    c.try_end_pull-reply.ensures.answer
 
 pub loop-turn-preserved : goal.loop-turn-preserved
 loop-turn-preserved g c =
-    let old = c.args.self.now in let mid = c.loop-turn.self in let new = c.try_end_pull-ended.new.self in
-    let i = c.loop-turn.invariant in let e = c.try_end_pull-ended.ensures in
+    let old = c.args.self.now in let mid = c.loop-turn.self in let new = c.try_end_pull-reply.new.self in
+    let i = c.loop-turn.invariant in let e = c.try_end_pull-reply.ensures in
     let ticket = c.args.ticket.now.cookie in
-    let passes : is_passing c.try_end_pull-ended.result ≡ true = search rules in record {
+    let passes : is_passing c.try_end_pull-reply.result ≡ true = search rules in record {
       client = (e.acts.0.client.0 ∙ i.client.0, e.acts.0.client.1 ∙ i.client.1);
       last = e.acts.1 ∙ i.last;
       seat = seat-trans old.seat mid.seat new.seat i.seat e.acts.0.seat;
-      own = left_alone g.M.Means.means 1000 mid.seat.mark new.seat.mark c.try_end_pull-ended.result
+      own = left_alone g.M.Means.means 1000 mid.seat.mark new.seat.mark c.try_end_pull-reply.result
           (change_read ticket (answer_to c.args.body.now)) (λ s. end_bytes_reply s ticket.text c.args.body.now) passes
           (passing_read ticket (answer_to c.args.body.now)) e.answer ∙ i.own;
       gave = λ r. frees_anew old.group.group.table.sizes.slots old.seat mid.seat new.seat None i.seat (i.gave r)
           (subst (λ (group : Grouped). Frees group.group.table.sizes.slots mid.seat new.seat None) i.client.0
           (subst (λ (o : Option Change). Frees mid.group.group.table.sizes.slots mid.seat new.seat o)
-          (passing_changes c.try_end_pull-ended.result (change_read ticket (answer_to c.args.body.now)) passes
+          (passing_changes c.try_end_pull-reply.result (change_read ticket (answer_to c.args.body.now)) passes
           (passing_read ticket (answer_to c.args.body.now))) (e.frees r)));
     }
 
@@ -52,24 +52,24 @@ loop-turn-init g c = let old = c.args.self.now in record {
   own = refl;
 }
 
-pub returns-then-not-is_passing-clause-cause : goal.returns-then-not-is_passing-clause-cause
-returns-then-not-is_passing-clause-cause g c =
+pub returns-then-is_last-clause-cause : goal.returns-then-is_last-clause-cause
+returns-then-is_last-clause-cause g c =
     let means = g.M.Means.means in let reused = g.S.Slots.reused in let old = c.args.self.now in
-    let mid = c.loop-turn.self in let new = c.try_end_pull-ended.new.self in let i = c.loop-turn.invariant in
-    let reply = c.try_end_pull-ended.result in
+    let mid = c.loop-turn.self in let new = c.try_end_pull-reply.new.self in let i = c.loop-turn.invariant in
+    let reply = c.try_end_pull-reply.result in
     let asked = change_wanted c.args.ticket.now.cookie (answer_to c.args.body.now) in
     let last = subst (λ (n : ℕ). IfErr reply (HasCause means reused n asked mid.seat new.seat)) i.last
-    c.try_end_pull-ended.ensures.cause in
+    c.try_end_pull-reply.ensures.cause in
     if_err_then (HasCause means reused old.last asked mid.seat new.seat)
     (HasCause means reused old.last asked old.seat new.seat) reply last (λ e h.
     cause_anew means reused old.last asked old.seat mid.seat new.seat e i.seat.later.seen i.seat.table
     (λ r. frees_moves old.group.group.table.sizes.slots old.seat mid.seat (i.gave r)) h)
 
-pub returns-then-not-is_passing-clause-frees : goal.returns-then-not-is_passing-clause-frees
-returns-then-not-is_passing-clause-frees g c r =
-    let old = c.args.self.now in let mid = c.loop-turn.self in let new = c.try_end_pull-ended.new.self in
-    let i = c.loop-turn.invariant in let reply = c.try_end_pull-ended.result in
+pub returns-then-is_last-clause-frees : goal.returns-then-is_last-clause-frees
+returns-then-is_last-clause-frees g c r =
+    let old = c.args.self.now in let mid = c.loop-turn.self in let new = c.try_end_pull-reply.new.self in
+    let i = c.loop-turn.invariant in let reply = c.try_end_pull-reply.result in
     let change = change_read c.args.ticket.now.cookie (answer_to c.args.body.now) reply in
     frees_anew old.group.group.table.sizes.slots old.seat mid.seat new.seat change i.seat (i.gave r)
     (subst (λ (group : Grouped). Frees group.group.table.sizes.slots mid.seat new.seat change) i.client.0
-    (c.try_end_pull-ended.ensures.frees r))
+    (c.try_end_pull-reply.ensures.frees r))
