@@ -1,6 +1,6 @@
 -- What the text of copied tokens is read as.
-use Rattle.std.proofs.Common.{◌≡◌, ℕ, suc, ◌≤◌, List, [], Bool, true, false, cond, Option, Some, None, option_map, Ok}
-use Rattle.std.proofs.Common.{Err, max, refl, sym, ap, ap₂, ◌∙◌, arith, append-nil, IsUtf8}
+use Rattle.std.proofs.Common.{◌≡◌, ℕ, ◌≤◌, List, [], Bool, true, false, cond, Option, Some, None, option_map, Ok}
+use Rattle.std.proofs.Common.{Err, refl, sym, ap, ◌∙◌, arith, append-nil, IsUtf8}
 use Rattle.std.specs.Str.{is_utf8}
 use Rattle.json.specs.Token.{Token}
 use Rattle.json.specs.Json.{Json, value}
@@ -9,10 +9,9 @@ use Rattle.json.specs.Tree as json_tree
 use Rattle.json.specs.Tree.{json_tokens}
 use Rattle.json.proofs.Nesting.{value-depth}
 use Rattle.json.proofs.Printed.Trees.{value-json_tokens}
-use Rattle.serde_json.specs.Data.{Data, null, boolean, number, string, array, object, Items, no_items, item, Members}
-use Rattle.serde_json.specs.Data.{no_members, member, depth, items_depth, members_depth}
+use Rattle.serde_json.specs.Data.{Data, depth}
 use Rattle.serde_json.specs.Read.{of_json, converted, read}
-use Rattle.serde_json.specs.Written.{outline, items_outline, members_outline, has_float, compact_text}
+use Rattle.serde_json.specs.Written.{has_float, compact_text}
 use Rattle.pull_patch.proofs.Turns.{whole}
 use Rattle.serde_json.proofs.Texts.{print-outline}
 use Rattle.group_history.specs.declared.refusals.Refusal.TheVariants.{NotJson, NotWhole}
@@ -20,25 +19,9 @@ use Rattle.group_history.specs.Answers.{◌>>=◌}
 use Rattle.group_history.specs.Cookies.{whole_text}
 use Rattle.group_history.specs.Json.{reading, or_not_json, text_of, json_text}
 use Rattle.group_history.proofs.Readings.{json_text-compact}
+use Rattle.push_body.proofs.Compact.{depth-outline}
 use Rattle.pull_patch.specs.Inside.Copies.{IsPlain, CopiesText}
 use Rattle.pull_patch.specs.Inside.Plain.{ReadsValue, ReadsText, PassesValue}
-
-mutual
-  depth-outline : (d : Data) → json_tree.depth (outline d) ≡ depth d
-  depth-outline null = refl
-  depth-outline (boolean b) = refl
-  depth-outline (number n) = refl
-  depth-outline (string s) = refl
-  depth-outline (array ds) = ap suc (items_depth-outline ds)
-  depth-outline (object ms) = ap suc (members_depth-outline ms)
-
-  items_depth-outline : (ds : Items) → json_tree.items_depth (items_outline ds) ≡ items_depth ds
-  items_depth-outline no_items = refl
-  items_depth-outline (item d ds) = ap₂ max (depth-outline d) (items_depth-outline ds)
-
-  members_depth-outline : (ms : Members) → json_tree.members_depth (members_outline ms) ≡ members_depth ms
-  members_depth-outline no_members = refl
-  members_depth-outline (member k d ms) = ap₂ max (depth-outline d) (members_depth-outline ms)
 
 module _ (depth_most : ℕ) (old new : List Token) (text : List ℕ) (b : Bool)
     (c : CopiesText b (value depth_most old) new text) where

@@ -170,7 +170,7 @@ mutual
 -- ---- the reading of a compact text
 
 mutual
-  depth-outline : (d : Data) → tree.depth (outline d) ≡ depth d
+  pub depth-outline : (d : Data) → tree.depth (outline d) ≡ depth d
   depth-outline null = refl
   depth-outline (boolean b) = refl
   depth-outline (number n) = refl

@@ -1,5 +1,5 @@
 pub mod Writings
 mod Pieces
 mod Growing
-mod Compact
+pub mod Compact
 mod Sent
