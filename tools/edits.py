@@ -197,10 +197,10 @@ def refusals(crate: str, said: str) -> dict[str, list[str]]:
     proved is no refusal of it; nor is a proof that names what the edit took away."""
     by_folders = open_goals(said)
     found: dict[str, list[str]] = {}
-    for name, verdict, why in VERDICT.findall(said):
+    for name, _, why in VERDICT.findall(said):
         goals = [goal for names in UNPROVED.findall(why) for goal in re.findall(r"`([^`]+)`", names)] + LACKS.findall(why)
         goals += by_folders.get(name.removeprefix(f"{crate}::").replace("::", "/"), [])
-        if verdict != "no proof" or goals or not re.match(r": it (calls|passes)\b", why):
+        if goals or not re.search(r"\bit (calls|passes)\b", why):
             found[name] = goals
     return found
 
