@@ -1,6 +1,7 @@
 """A PostgreSQL of one's own, in a temporary folder, over a Unix socket in it alone. It is ended and removed at the end.
 
-As root it is run by the user postgres, since PostgreSQL refuses to be run by root.
+As root it is run by the user postgres, since PostgreSQL refuses to be run by root. `fsync` is off: what it has written
+outlives each of its processes, but not the machine's power, and the folder doesn't either.
 """
 
 from __future__ import annotations
@@ -66,13 +67,16 @@ class OwnPostgres:
         subprocess.run([*words, "-D", self._data], check=True, timeout=WAIT, stdout=subprocess.DEVNULL, **self._user)
 
     def _start(self, programs: Path) -> subprocess.Popen[bytes]:
-        settings = ["-c", "listen_addresses=", "-c", "log_min_messages=fatal"]
-        command = [programs / "postgres", "-D", self._data, "-k", self._room, *settings]
+        settings = ["-c", "listen_addresses=", "-c", "log_min_messages=fatal", "-c", "fsync=off"]
+        command: list[str | Path] = [programs / "postgres", "-D", self._data, "-k", self._room, *settings]
         with (self._room / "log").open("wb") as log:
-            return subprocess.Popen(command, stdin=subprocess.DEVNULL, stdout=log, stderr=log, **self._user)
+            process: subprocess.Popen[bytes] = subprocess.Popen(
+                command, stdin=subprocess.DEVNULL, stdout=log, stderr=log, **self._user
+            )
+            return process
 
     def _wait_until_it_is_there(self) -> None:
-        import psycopg2
+        import psycopg2  # type: ignore[import]
 
         end = time.monotonic() + WAIT
         while True:
@@ -105,10 +109,10 @@ class OwnPostgres:
         return self.url(name)
 
     def close(self) -> None:
-        """Ends it (a fast shutdown), and removes its folder."""
+        """Ends it at once, since nothing in its folder is kept, and removes the folder."""
         process = getattr(self, "_process", None)
         if process is not None and process.poll() is None:
-            process.send_signal(signal.SIGINT)
+            process.send_signal(signal.SIGQUIT)
             try:
                 process.wait(WAIT)
             except subprocess.TimeoutExpired:

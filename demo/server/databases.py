@@ -14,7 +14,6 @@ from __future__ import annotations
 
 import contextlib
 import threading
-import time
 from abc import ABC, abstractmethod
 from collections import Counter
 from collections.abc import Callable, Iterator, Sequence
@@ -26,8 +25,8 @@ Row = tuple[Any, ...]
 
 MOST_CONNECTIONS = 8
 """How many transactions a server does side by side."""
-PATIENCE = 20.0
-"""How many seconds a transaction waits for others, in all, until it is given up."""
+FREE = 20.0
+"""How many seconds a transaction waits for one of them."""
 
 SCHEMA = """
 create table if not exists space (version bigint not null);
@@ -95,6 +94,8 @@ class Database(ABC):
 
     errors: tuple[type[Exception], ...]
     """What its statements raise."""
+    patience = 20.0
+    """How many seconds a transaction waits for others, in all, until it is given up."""
 
     @abstractmethod
     def writing(self, work: Callable[[Statements], T]) -> T:
@@ -128,7 +129,7 @@ class Pool(Generic[C]):
     @contextlib.contextmanager
     def one(self) -> Iterator[C]:
         """A connection. One that something went wrong with is closed, else it is kept for the next one."""
-        if not self._free.acquire(timeout=PATIENCE):
+        if not self._free.acquire(timeout=FREE):
             raise Unavailable("too many transactions at once")
         connection: C | None = None
         try:
@@ -153,14 +154,3 @@ class Pool(Generic[C]):
         """Closes those that nobody uses."""
         while (connection := self._kept()) is not None:
             connection.close()
-
-
-class Deadline:
-    """A moment, `PATIENCE` from now."""
-
-    def __init__(self) -> None:
-        self._end = time.monotonic() + PATIENCE
-
-    def is_over(self) -> bool:
-        """Whether it has passed."""
-        return time.monotonic() > self._end

@@ -24,6 +24,7 @@ from __future__ import annotations
 import contextlib
 import random
 import select
+import socket
 import threading
 import time
 from collections.abc import Callable, Iterator, Sequence
@@ -32,7 +33,7 @@ from typing import Any, TypeVar
 import psycopg2  # type: ignore[import]
 import psycopg2.extras  # type: ignore[import]
 
-from .databases import PATIENCE, SCHEMA, Counts, Database, Deadline, Pool, Row, Statements, Unavailable
+from .databases import SCHEMA, Counts, Database, Pool, Row, Statements, Unavailable
 
 T = TypeVar("T")
 Connection = Any
@@ -40,18 +41,16 @@ Connection = Any
 AGAIN = ("40001", "40P01")
 """A transaction that failed so may be done again: it can't be serialized, it was in a deadlock."""
 CHANNEL = "space_version"
-SETTINGS = f"""
+SETTINGS = """
     set client_min_messages = warning;
     set synchronous_commit = on;
-    set lock_timeout = {int(PATIENCE * 1000)};
-    set statement_timeout = {int(PATIENCE * 1000)};
-    set idle_in_transaction_session_timeout = {int(PATIENCE * 500)}
+    set lock_timeout = {0};
+    set statement_timeout = {0};
+    set idle_in_transaction_session_timeout = 10000
 """
-"""Each wait has an end. The last one: a server that stands still in a transaction loses the lock of the others."""
+"""Each wait has an end (milliseconds). A server that stands still in a transaction loses its lock for the others."""
 ALIVE = {"connect_timeout": 5, "keepalives_idle": 10, "keepalives_interval": 5, "keepalives_count": 3}
 """A host that is gone is noticed within half a minute (in seconds)."""
-GLANCE = 1.0
-"""How often the thread that listens looks for the end, in seconds."""
 
 
 class _Statements:
@@ -82,13 +81,17 @@ class Postgres(Database):
     """The database that a connection string of libpq names."""
 
     errors = (psycopg2.Error, MemoryError)
-    begin_writing = ("begin isolation level serializable", "lock table space in share row exclusive mode")
-    begin_reading = ("begin isolation level repeatable read, read only",)
+    begin_writing: Sequence[str] = (
+        "begin isolation level serializable",
+        "lock table space in share row exclusive mode",
+    )
+    begin_reading: Sequence[str] = ("begin isolation level repeatable read, read only",)
 
     def __init__(self, conninfo: str, counts: Counts) -> None:
         self._conninfo, self._counts = conninfo, counts
         self._pool = Pool(self._connect)
-        self._ended = threading.Event()
+        self._end, self._ends = socket.socketpair()  # who listens is woken by its end
+        self._has_ended = threading.Event()
         self._listener: threading.Thread | None = None
         self._again(("begin",), self._make_tables)
 
@@ -97,7 +100,7 @@ class Postgres(Database):
         try:
             connection.autocommit = True  # transactions begin and end by statements
             with connection.cursor() as cursor:
-                cursor.execute(SETTINGS)
+                cursor.execute(SETTINGS.format(round(self.patience * 1000)))
         except BaseException:
             connection.close()
             raise
@@ -118,14 +121,14 @@ class Postgres(Database):
 
     def _again(self, begin: Sequence[str], work: Callable[[Statements], T]) -> T:
         """Does the work in a transaction, and again while others are in its way or the connection breaks."""
-        deadline = Deadline()
+        end = time.monotonic() + self.patience
         pause = 0.002
         while True:
             try:
                 with self._within(begin) as sql:
                     return work(sql)
             except (psycopg2.OperationalError, psycopg2.InterfaceError) as error:
-                if deadline.is_over() or not self._may_try_again(error):
+                if time.monotonic() > end or not self._may_try_again(error):
                     raise Unavailable(str(error)) from error
             except psycopg2.Error as error:
                 raise Unavailable(str(error)) from error
@@ -156,28 +159,30 @@ class Postgres(Database):
         self._listener.start()
 
     def _listen(self, poke: Callable[[], None]) -> None:
-        while not self._ended.is_set():
+        while not self._has_ended.is_set():
             try:
                 with contextlib.closing(self._connect()) as connection:
                     self._pass_on(connection, poke)
             except (psycopg2.Error, OSError):
                 self._counts.add("listeners broken")
-                self._ended.wait(0.1)
+                self._has_ended.wait(0.1)
 
     def _pass_on(self, connection: Connection, poke: Callable[[], None]) -> None:
         """Pokes for each note that comes, and once at the start, for what was missed."""
         with connection.cursor() as cursor:
             cursor.execute(f"listen {CHANNEL}")
         poke()
-        while not self._ended.is_set():
-            if select.select([connection], [], [], GLANCE)[0]:
-                connection.poll()
-                if connection.notifies:
-                    connection.notifies.clear()
-                    poke()
+        while not self._has_ended.is_set():
+            select.select([connection, self._ends], [], [])
+            connection.poll()
+            if connection.notifies:
+                connection.notifies.clear()
+                poke()
 
     def close(self) -> None:
-        self._ended.set()
+        self._has_ended.set()
+        self._end.close()
         if self._listener is not None:
-            self._listener.join(2 * GLANCE)
+            self._listener.join(self.patience)
+        self._ends.close()
         self._pool.close()

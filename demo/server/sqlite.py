@@ -18,7 +18,7 @@ from collections.abc import Callable, Iterator, Sequence
 from pathlib import Path
 from typing import TypeVar
 
-from .databases import PATIENCE, SCHEMA, Database, Pool, Row, Statements, Unavailable
+from .databases import SCHEMA, Database, Pool, Row, Statements, Unavailable
 
 T = TypeVar("T")
 
@@ -53,14 +53,17 @@ class Sqlite(Database):
         self._file = file
         self._pool = Pool(self._connect)
         self._poke: Callable[[], None] = lambda: None
-        with self._pool.one() as connection:
-            connection.execute("pragma journal_mode = wal")
         self.writing(self._make_tables)
 
     def _connect(self) -> sqlite3.Connection:
-        """Without transactions of its own. It waits for the write lock, `PATIENCE` at the most."""
-        connection = sqlite3.connect(self._file, timeout=PATIENCE, isolation_level=None, check_same_thread=False)
-        connection.execute("pragma synchronous = full")
+        """Without transactions of its own. It waits for the write lock, `patience` at the most."""
+        connection = sqlite3.connect(self._file, timeout=self.patience, isolation_level=None, check_same_thread=False)
+        try:
+            connection.execute("pragma journal_mode = wal")
+            connection.execute("pragma synchronous = full")
+        except BaseException:
+            connection.close()
+            raise
         return connection
 
     def _make_tables(self, sql: Statements) -> None:
