@@ -1,0 +1,412 @@
+"""A group that grows, and that outlives its process: the library's group, its journal, and who may change them when.
+
+`gate` is the lock of changes. A mutation holds it from the run of its mutator until its entry is in the journal, so the
+journal has the group's order. With rules an end of a pull, one call of the library, holds it as well. Where mutators
+are the program's own, an end of a pull runs them for all that is pending, which may take seconds: it takes the gate
+when it is recorded, and earlier if mutations made it begin anew too often. So mutations don't wait for a rebase, and
+can't put it off for ever. The order between a mutation and a response does not count there (`journal.py`).
+
+A library's group never grows. Where a change is refused with `Full` a group of twice the slots is opened, what the
+journal has is played in it, and it takes the other's place: with the gate held, by the thread that met it, and not
+while a pull ends on another thread, which is waited for. Queries go on in the old group, whose map is the same.
+
+A query is as of one moment. It reads at once, and that counts where no change was under way or began meanwhile: the
+flags `_mutating` and `_pulling` are set before the counts `_mutations` and `_pulls` are raised, and these before the
+library is called. Else it reads again, in a change that is given up, or with rules with the gate held.
+
+Locks are taken in this order: the gate, then a place's. The pull's thread has its own place's when it takes the gate;
+no other thread calls that place.
+"""
+
+from __future__ import annotations
+
+import contextlib
+import json
+import threading
+import time
+from collections.abc import Callable, Iterator, Mapping
+from typing import Any
+
+from .edge import Draft, Ended, Place, Refusal, Ticket, Why, json_bytes
+from .journal import Entry, Journal, Mutation, Response, response_of
+from .loops import Closed
+from .playing import HOUSE, MOST_SLOTS, PULL, PUSH, Inside, Opened, Player, Runs, TooLarge, Unplayable
+from .store import Identity, JournalFile, SetAside
+from .transactions import Mutator, Query, ReadTransaction, Reads
+
+Json = Any
+
+MOST_PLACES = 256
+TRIES = 50
+"""How often a change is tried that a refusal only puts off."""
+WAIT = 60.0
+"""How many seconds a change or a query waits for a pull that ends on another thread, at the most."""
+AGAIN = (Why.MOVED, Why.BUSY, Why.GONE)
+CUT = 1000
+"""From how many entries on a journal of rules is tried for whether it may be cut."""
+
+
+class NotSafe(Exception):
+    """The mutation was made, and is shown and pushed, but it could not be written to the disk.
+
+    Each mutation after it tries to write all of the group anew, and raises this too until that succeeds. `id` is the
+    mutation's, `result` what its mutator answered.
+    """
+
+    def __init__(self, number: int, result: Json, error: OSError) -> None:
+        super().__init__(f"mutation {number} is not on the disk: {error}")
+        self.id, self.result = number, result
+
+
+class KeptGroup:
+    """The group. `begin_pull`, `end_pull` and `forget_pull` are called by one thread, the rest by any."""
+
+    def __init__(
+        self,
+        identity: Identity,
+        *,
+        mutators: Mapping[str, Mutator] | None,
+        rules: dict[str, Json] | None,
+        slots: int,
+        clients: int,
+        entries: list[Entry],
+        on_error: Callable[[str, Exception], None],
+    ) -> None:
+        """Raises `Unplayable` where the entries do not give the group that they were written for."""
+        if not 1 <= clients <= MOST_PLACES - HOUSE:
+            raise ValueError(f"clients is not from 1 to {MOST_PLACES - HOUSE}: {clients}")
+        self.identity = identity
+        self.journal = Journal(ordered=mutators is None, entries=entries)
+        self.journal.state.forget_quiet()
+        self.on_mutation: Callable[[set[str] | None], None] = lambda keys: None
+        """Called after each mutation, with the keys that it may have changed; None: any."""
+        self._lock = threading.Lock()
+        self._gate = threading.Condition(self._lock)
+        self._on_error = on_error
+        self._inside = Inside()
+        self._runs = None if mutators is None else Runs(mutators, self._inside, on_error)
+        if self._runs is not None:
+            self._runs.before_rebase = self._lose_patience
+        self._player = Player(identity, self._runs, rules, HOUSE + clients)
+        self._file: JournalFile | None = None
+        self._seats: dict[int, str] = {}
+        self._clients = clients
+        self._is_closed = self._is_lost = False
+        self._mutating = self._pulling = False
+        self._mutations = self._pulls = 0
+        self._ticket: Ticket | None = None
+        self._holds = False  # whether the pull's thread has the gate
+        self._patience = 0
+        self._next_cut = CUT
+        self._pending_keys: set[str] = set()  # that runs of what is pending wrote: never too few
+        self._opened = self._restored(slots)
+
+    def keep_in(self, file: JournalFile) -> None:
+        """Each change is written to the file from now on."""
+        with self._lock:
+            self._file = file
+
+    # ---- opening and growing
+
+    def _restored(self, slots: int) -> Opened:
+        """A group that is what the journal says, of at least so many slots."""
+        journal = self.journal
+        try:
+            opened = self._player.opened(journal.state.shortest(), slots)
+            journal.cut()
+        except Unplayable:
+            if not journal.ordered:
+                raise
+            opened = self._player.opened(journal.written(), slots)
+        for seat, client in self._seats.items():
+            opened.places[seat].sit(client)
+        self._pending_keys |= self._taken_again()
+        return opened
+
+    def _taken_again(self) -> set[str]:
+        """The keys that runs wrote which were not first."""
+        if self._runs is None:
+            return set()
+        keys, self._runs.written_again = self._runs.written_again, set()
+        return keys
+
+    def _grow(self) -> None:
+        """Twice the slots. With the gate held, and no pull that ends on another thread."""
+        if 2 * self._opened.slots > MOST_SLOTS:
+            raise TooLarge
+        self._opened = self._restored(2 * self._opened.slots)
+
+    @property
+    def slots(self) -> int:
+        """How many slots the group has by now."""
+        return self._opened.slots
+
+    # ---- clients
+
+    def sit(self) -> tuple[int, str]:
+        """A client of a fresh ID: its seat and its ID. ValueError where as many are open as there may be."""
+        with self._lock:
+            self._check_open()
+            free = next((seat for seat in range(HOUSE, HOUSE + self._clients) if seat not in self._seats), None)
+            if free is None:
+                raise ValueError(f"{self._clients} clients are open: let one leave, or ask for more (clients=)")
+            self._seats[free] = self._opened.places[free].sit()
+            return free, self._seats[free]
+
+    def leave(self, seat: int) -> None:
+        """The client ends; what it made stays pending."""
+        with self._lock:
+            if self._seats.pop(seat, None) is not None and not self._is_closed:
+                self._opened.places[seat].leave()
+
+    def _check_open(self) -> None:
+        if self._is_closed:
+            raise Closed("the group is closed")
+        if self._is_lost:
+            raise Closed("the server does not know the group any more: open a new one")
+
+    def _check_alone(self) -> None:
+        if self._inside.busy:
+            raise RuntimeError("a query or a mutator calls its transaction alone, not a client")
+
+    # ---- mutations
+
+    def mutate(self, seat: int, name: str, args: Json) -> Json:
+        """Makes a mutation: what its mutator answered. With a file it is on the disk by then, else `NotSafe`."""
+        self._check_alone()
+        text = json_bytes(args)
+        now = time.time_ns() // 1_000_000
+        runs, failed, mark = self._runs, None, 0
+        with self._lock:
+            number = self._made(seat, name, text, now)
+            result, keys = (None, None) if runs is None else (runs.result, runs.writes)
+            if keys:
+                self._pending_keys |= keys
+            mutation = Mutation(self._seats[seat], number, name, text.decode(), now)
+            try:
+                mark = self._note(mutation)
+            except OSError as error:
+                failed = error
+        self.on_mutation(keys)
+        if failed is not None:
+            raise NotSafe(number, result, failed)
+        if mark:
+            self._settle(mark, number, result)
+        return result
+
+    def _made(self, seat: int, name: str, args: bytes, now: int) -> int:
+        """Makes the mutation, with the gate held: its ID."""
+        try:
+            for _ in range(TRIES):
+                self._check_open()
+                self._mutating = True
+                self._mutations += 1
+                place = self._opened.places[seat]
+                try:
+                    return place.mutate_json(name, args, now)
+                except Refusal as refusal:
+                    self._mend(place, refusal)
+        finally:
+            self._mutating = False
+        raise Refusal(Why.MOVED)
+
+    def _mend(self, place: Place, refusal: Refusal) -> None:
+        if refusal.why is Why.STALE:
+            place.refresh()
+        elif refusal.why is Why.FULL and not isinstance(refusal, TooLarge):
+            if not self._pulling:
+                self._grow()
+            elif not self._gate.wait_for(lambda: not self._pulling, WAIT):
+                raise refusal
+        elif refusal.why not in AGAIN:
+            raise refusal
+
+    def _note(self, entry: Entry) -> int:
+        """The journal and the file have the entry; the mark that `settle` takes, 0 without a file. OSError."""
+        self.journal.add(entry)
+        if self._file is None:
+            return 0
+        return self._file.append(entry, self.journal.written)
+
+    def _settle(self, mark: int, number: int, result: Json) -> None:
+        """Waits until the file is on the disk. Where the disk refuses, the group goes to a new file."""
+        assert self._file is not None
+        try:
+            self._file.settle(mark)
+        except OSError:
+            try:
+                with self._lock:
+                    self._file.replace(self.journal.written())
+            except OSError as error:
+                raise NotSafe(number, result, error) from error
+
+    def pending(self) -> list[Mutation]:
+        """What is pending, the oldest first."""
+        with self._lock:
+            return list(self.journal.state.pending.values())
+
+    def has_pending(self) -> bool:
+        """Whether something is pending."""
+        return bool(self.journal.state.pending)
+
+    def push_body(self) -> bytes:
+        """The body of a push of all that is pending."""
+        return self._place(PUSH).push()
+
+    # ---- pulls
+
+    def begin_pull(self) -> bytes:
+        """Begins a pull: the body of its request."""
+        self._ticket = self._place(PULL).begin_pull()
+        return self._ticket.body
+
+    def forget_pull(self) -> None:
+        """No response came."""
+        ticket, self._ticket = self._ticket, None
+        if ticket is not None:
+            with contextlib.suppress(Refusal, Closed):
+                self._place(PULL).forget(ticket)
+
+    def end_pull(self, body: bytes) -> tuple[Ended, set[str] | None]:
+        """Ends the pull with the response's body: how, and the keys that may have changed; None: any."""
+        with self._lock:
+            self._check_open()
+            self._pulling = True
+            self._pulls += 1
+            before, self._pending_keys = self._pending_keys, set()
+        try:
+            if self._runs is None:
+                self._hold()
+            ended = self._ended(body)
+            self._hold()
+            if ended is Ended.SAME:
+                return ended, set()
+            # What was pending before may be shown no more; what still is was run again.
+            rebased = self._taken_again()
+            keys = self._record(response_of(json.loads(body)))
+            told = None if keys is None or self._runs is None else keys | before | rebased | self._pending_keys
+            before = rebased
+            return ended, told
+        finally:
+            self._hold()
+            self._pending_keys |= before
+            self._pulling = self._holds = False
+            self._gate.notify_all()
+            self._lock.release()
+
+    def _ended(self, body: bytes) -> Ended:
+        for _ in range(TRIES):
+            place = self._place(PULL)
+            ticket, self._ticket = self._ticket or place.begin_pull(), None
+            self._patience = 2 * len(self.journal.state.pending) + 16
+            try:
+                return place.end_pull(ticket, body)
+            except Refusal as refusal:
+                if refusal.why is Why.FULL:
+                    self._hold()
+                    self._grow()  # the same response is ended there: its cookie is the one that was asked for
+                elif refusal.why not in AGAIN:
+                    raise
+        raise Refusal(Why.MOVED)
+
+    def _lose_patience(self) -> None:
+        """Before each run of a rebase: where mutations made it begin anew too often they wait until it has ended."""
+        self._patience -= 1
+        if self._patience < 0:
+            self._hold()
+
+    def _hold(self) -> None:
+        """The pull's thread takes the gate, until the pull has ended."""
+        if not self._holds:
+            self._lock.acquire()
+            self._holds = True
+
+    def _record(self, response: Response) -> set[str] | None:
+        """A response was applied: the keys of its patch; None: any. One that isn't written the next process pulls."""
+        try:
+            self._note(response)
+            self._shorten()
+        except OSError as error:
+            self._on_error("store", error)
+        if any(op["op"] == "clear" for op in response.patch):
+            return None
+        return {op["key"] for op in response.patch}
+
+    def _shorten(self) -> None:
+        journal = self.journal
+        if journal.ordered and journal.length() >= self._next_cut:
+            with contextlib.suppress(Unplayable, TooLarge):
+                self._player.opened(journal.state.shortest(), self._opened.slots)
+                journal.cut()
+            self._next_cut = max(CUT, 2 * journal.length())
+        if self._file is not None and self._file.is_long():
+            self._file.replace(journal.written())
+
+    # ---- queries
+
+    def _place(self, seat: int) -> Place:
+        opened = self._opened
+        if self._is_closed:
+            raise Closed("the group is closed")
+        return opened.places[seat]
+
+    def query(self, seat: int, query: Query, client: str | None = None, reads: Reads | None = None) -> Json:
+        """What the query answers, as of one moment. It may be run twice."""
+        self._check_alone()
+        place = self._place(seat)
+        inside, inside.busy = self._inside, True
+        try:
+            moment = self._mutations, self._pulls
+            if not self._mutating and not self._pulling:
+                try:
+                    result = query(ReadTransaction(place, client, reads))
+                except Exception:
+                    if moment == (self._mutations, self._pulls):
+                        raise
+                else:
+                    if moment == (self._mutations, self._pulls):
+                        return result
+                if reads is not None:
+                    reads.clear()
+            return self._query_still(place, query, client, reads)
+        finally:
+            inside.busy = False
+
+    def _query_still(self, place: Place, query: Query, client: str | None, reads: Reads | None) -> Json:
+        with contextlib.ExitStack() as stack:
+            draft = self._look(stack, place)
+            if draft is None:
+                stack.enter_context(self._still())
+            return query(ReadTransaction(draft or place, client, reads))
+
+    def _look(self, stack: contextlib.ExitStack, place: Place) -> Draft | None:
+        """The map of a change that is given up. None where there is none: no slot is free, or the group is closed."""
+        if self._runs is not None:
+            with contextlib.suppress(Refusal):
+                return stack.enter_context(place.look())
+        return None
+
+    @contextlib.contextmanager
+    def _still(self) -> Iterator[None]:
+        """No change is made meanwhile."""
+        with self._gate:
+            if not self._gate.wait_for(lambda: not self._pulling, WAIT):
+                raise Refusal(Why.MOVED)
+            yield
+
+    # ---- the end
+
+    def lose(self, why: str) -> SetAside | None:
+        """The server does not know the group: no mutation is made any more. What was pending is kept aside."""
+        with self._lock:
+            self._is_lost = True
+            return None if self._file is None else self._file.set_aside(why, self.journal.state.pending.values())
+
+    def close(self) -> None:
+        """The group is closed. The journal's file stays, and its lock is let go."""
+        with self._lock:
+            self._is_closed = True
+            if self._file is not None:
+                self._file.close()
+            # The library closes a place when the last thread has left it.
+            self._opened = Opened([], self._opened.slots)
