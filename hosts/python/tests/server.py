@@ -58,6 +58,7 @@ class Space:
         self.rows: dict[str, str] = {}
         self.versions: dict[str, int] = {}
         self.groups: set[str] = set()
+        self.forgotten: set[str] = set()
         self.clients: dict[str, tuple[str, int, int]] = {}  # group, last id, version
         self.counts: Counter[str] = Counter()
         self.most = 10**9  # how many mutations a push may do
@@ -66,6 +67,8 @@ class Space:
         """Does the mutations, each once, in the order of their ids."""
         with self.lock:
             group = body["clientGroupID"]
+            if group in self.forgotten:
+                return {"error": "ClientStateNotFound"}
             self.groups.add(group)
             done = 0
             for one in body["mutations"]:
@@ -106,7 +109,7 @@ class Space:
         """What was changed since the cookie."""
         with self.lock:
             group, cookie = body["clientGroupID"], body["cookie"]
-            if cookie is not None and group not in self.groups:
+            if group in self.forgotten or cookie is not None and group not in self.groups:
                 return {"error": "ClientStateNotFound"}
             self.groups.add(group)
             since = -1 if cookie is None else cookie
@@ -130,6 +133,7 @@ class Space:
         """The server knows the group no more."""
         with self.lock:
             self.groups.discard(group)
+            self.forgotten.add(group)
             self.clients = {client: row for client, row in self.clients.items() if row[0] != group}
 
 
