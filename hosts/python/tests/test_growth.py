@@ -194,3 +194,22 @@ class Grows(WithServer):
         thread.join(10)
         pulled.result(5)
         self.assertEqual((rows(anna)["counted"], rows(anna)["slow"], rows(anna)["todos"]), (50, 1, 1))
+
+    def test_between_a_request_and_its_response(self) -> None:
+        asked, go_on = threading.Event(), threading.Event()
+
+        def puller(body: bytes, headers: dict[str, str]) -> Reply:
+            asked.set()
+            go_on.wait(5)
+            return Reply(200, json.dumps(self.server.space.pull(json.loads(body))).encode())
+
+        self.server.space.do("add", {"id": "x", "text": "milk"})
+        errors: list[Any] = []
+        anna = self.rep(slots=64, pusher=offline, puller=puller, on_error=lambda what, error: errors.append(error))
+        self.assertTrue(asked.wait(5))
+        for number in range(100):
+            anna.mutate.once(number)
+        self.assertGreaterEqual(anna._kept.slots, 256)
+        go_on.set()
+        anna.pull(now=True).result(5)
+        self.assertEqual((rows(anna)["counted"], rows(anna)["todos"], errors), (100, 1, []))

@@ -94,7 +94,7 @@ class KeptGroup:
         self._is_closed = self._is_lost = False
         self._mutating = self._pulling = False
         self._mutations = self._pulls = 0
-        self._ticket: Ticket | None = None
+        self._ticket: tuple[Place, Ticket] | None = None
         self._holds = False  # whether the pull's thread has the gate
         self._patience = 0
         self._next_cut = CUT
@@ -257,15 +257,17 @@ class KeptGroup:
 
     def begin_pull(self) -> bytes:
         """Begins a pull: the body of its request."""
-        self._ticket = self._place(PULL).begin_pull()
-        return self._ticket.body
+        place = self._place(PULL)
+        ticket = place.begin_pull()
+        self._ticket = place, ticket
+        return ticket.body
 
     def forget_pull(self) -> None:
         """No response came."""
-        ticket, self._ticket = self._ticket, None
-        if ticket is not None:
-            with contextlib.suppress(Refusal, Closed):
-                self._place(PULL).forget(ticket)
+        begun, self._ticket = self._ticket, None
+        if begun is not None:
+            with contextlib.suppress(Refusal):
+                begun[0].forget(begun[1])
 
     def end_pull(self, body: bytes) -> tuple[Ended, set[str] | None]:
         """Ends the pull with the response's body: how, and the keys that may have changed; None: any."""
@@ -297,14 +299,16 @@ class KeptGroup:
     def _ended(self, body: bytes) -> Ended:
         for _ in range(TRIES):
             place = self._place(PULL)
-            ticket, self._ticket = self._ticket or place.begin_pull(), None
+            begun, self._ticket = self._ticket, None
+            # In a group that has grown since, the response is ended too: the cookie that was asked for is the same.
+            ticket = begun[1] if begun is not None and begun[0] is place else place.begin_pull()
             self._patience = 2 * len(self.journal.state.pending) + 16
             try:
                 return place.end_pull(ticket, body)
             except Refusal as refusal:
                 if refusal.why is Why.FULL:
                     self._hold()
-                    self._grow()  # the same response is ended there: its cookie is the one that was asked for
+                    self._grow()
                 elif refusal.why not in AGAIN:
                     raise
         raise Refusal(Why.MOVED)
