@@ -106,7 +106,7 @@ class Session:
             assert refusal.why is Why.REFUSED, refusal
             return
         counts["mutations"] += 1
-        self.made.append((client.client_id, client._kept._place(client._seat).refresh()))
+        self.made.append((client.client_id, client._kept._place(client._seat.number).refresh()))
 
     def again(self) -> None:
         """The process ends, and another one opens the group."""

@@ -101,7 +101,7 @@ class Grows(WithServer):
         for number in range(5):
             anna.mutate.once(number)
         self.quiet(anna)
-        self.assertEqual(anna._kept._place(anna._seat).refresh(), 5)
+        self.assertEqual(anna._kept._place(anna._seat.number).refresh(), 5)
         with anna._kept._lock:
             anna._kept._grow()
         anna.mutate.once("x")

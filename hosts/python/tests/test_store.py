@@ -232,7 +232,7 @@ class Recovered(WithServer):
         again = self.rep(store=self.store, schema_version="2", on_set_aside=aside.append)
         self.holds(lambda: aside)
         self.assertEqual((aside[0].why, aside[0].path.name), ("ClientStateNotFound", f"{group}.refused"))
-        self.assertEqual([(one.id, one.name, one.args) for one in aside[0].mutations], [(1, "once", '"x"')])
+        self.assertEqual([(one.id, one.name, one.args) for one in aside[0].mutations], [(1, "once", b'"x"')])
         self.assertIn(b'"name":"once"', aside[0].path.read_bytes())
         self.assertEqual({path.name for path in self.store.glob(f"{group}.*")}, {f"{group}.refused"})
         again.close()

@@ -30,9 +30,9 @@ from typing import Any
 from .edge import Draft, Ended, Place, Refusal, Ticket, Why, json_bytes
 from .journal import Entry, Journal, Mutation, Response, response_of
 from .loops import Closed
-from .playing import HOUSE, MOST_SLOTS, PULL, PUSH, Inside, Opened, Player, Runs, TooLarge, Unplayable
+from .playing import HOUSE, MOST_SLOTS, PULL, PUSH, TELL, Inside, Opened, Player, Runs, TooLarge, Unplayable
 from .store import Identity, JournalFile, SetAside
-from .transactions import Mutator, Query, ReadTransaction, Reads
+from .transactions import Mutator, NotingTransaction, Query, ReadTransaction, Reads
 
 Json = Any
 
@@ -42,6 +42,7 @@ TRIES = 50
 WAIT = 60.0
 """How many seconds a change or a query waits for a pull that ends on another thread, at the most."""
 AGAIN = (Why.MOVED, Why.BUSY, Why.GONE)
+ALONE = "a query or a mutator calls its transaction alone, not a client"
 CUT = 1000
 """From how many entries on a journal of rules is tried for whether it may be cut."""
 
@@ -56,6 +57,14 @@ class NotSafe(Exception):
     def __init__(self, number: int, result: Json, error: OSError) -> None:
         super().__init__(f"mutation {number} is not on the disk: {error}")
         self.id, self.result = number, result
+
+
+class Seat:
+    """Where a client of the program sits, until it leaves."""
+
+    def __init__(self, number: int, client: str) -> None:
+        self.number, self.client = number, client
+        self.has_left = False
 
 
 class KeptGroup:
@@ -89,7 +98,7 @@ class KeptGroup:
             self._runs.before_rebase = self._lose_patience
         self._player = Player(identity, self._runs, rules, HOUSE + clients)
         self._file: JournalFile | None = None
-        self._seats: dict[int, str] = {}
+        self._seats: list[Seat] = []
         self._clients = clients
         self._is_closed = self._is_lost = False
         self._mutating = self._pulling = False
@@ -118,8 +127,8 @@ class KeptGroup:
             if not journal.ordered:
                 raise
             opened = self._player.opened(journal.written(), slots)
-        for seat, client in self._seats.items():
-            opened.places[seat].sit(client)
+        for seat in self._seats:
+            opened.places[seat.number].sit(seat.client)
         self._pending_keys |= self._taken_again()
         return opened
 
@@ -143,50 +152,54 @@ class KeptGroup:
 
     # ---- clients
 
-    def sit(self) -> tuple[int, str]:
-        """A client of a fresh ID: its seat and its ID. ValueError where as many are open as there may be."""
+    def sit(self) -> Seat:
+        """A client of a fresh ID. ValueError where as many are open as there may be."""
         with self._lock:
             self._check_open()
-            free = next((seat for seat in range(HOUSE, HOUSE + self._clients) if seat not in self._seats), None)
-            if free is None:
+            free = set(range(HOUSE, HOUSE + self._clients)) - {seat.number for seat in self._seats}
+            if not free:
                 raise ValueError(f"{self._clients} clients are open: let one leave, or ask for more (clients=)")
-            self._seats[free] = self._opened.places[free].sit()
-            return free, self._seats[free]
+            number = min(free)
+            self._seats.append(Seat(number, self._opened.places[number].sit()))
+            return self._seats[-1]
 
-    def leave(self, seat: int) -> None:
+    def leave(self, seat: Seat) -> None:
         """The client ends; what it made stays pending."""
         with self._lock:
-            if self._seats.pop(seat, None) is not None and not self._is_closed:
-                self._opened.places[seat].leave()
+            if not seat.has_left and not self._is_closed:
+                self._seats.remove(seat)
+                self._opened.places[seat.number].leave()
+            seat.has_left = True
 
-    def _check_open(self) -> None:
+    def _check_open(self, seat: Seat | None = None) -> None:
         if self._is_closed:
             raise Closed("the group is closed")
         if self._is_lost:
             raise Closed("the server does not know the group any more: open a new one")
-
-    def _check_alone(self) -> None:
-        if self._inside.busy:
-            raise RuntimeError("a query or a mutator calls its transaction alone, not a client")
+        if seat is not None and seat.has_left:
+            raise Closed("the client has left")
 
     # ---- mutations
 
-    def mutate(self, seat: int, name: str, args: Json) -> Json:
+    def mutate(self, seat: Seat, name: str, args: Json) -> Json:
         """Makes a mutation: what its mutator answered. With a file it is on the disk by then, else `NotSafe`."""
-        self._check_alone()
+        if self._inside.busy:
+            raise RuntimeError(ALONE)
         text = json_bytes(args)
         now = time.time_ns() // 1_000_000
-        runs, failed, mark = self._runs, None, 0
+        result, keys, failed, mark = None, None, None, 0
         with self._lock:
             number = self._made(seat, name, text, now)
-            result, keys = (None, None) if runs is None else (runs.result, runs.writes)
-            if keys:
+            if self._runs is not None:
+                result, keys = self._runs.result, self._runs.writes
                 self._pending_keys |= keys
-            mutation = Mutation(self._seats[seat], number, name, text.decode(), now)
-            try:
-                mark = self._note(mutation)
-            except OSError as error:
-                failed = error
+            mutation = Mutation(seat.client, number, name, text, now)
+            self.journal.make(mutation)
+            if self._file is not None:
+                try:
+                    mark = self._file.append(mutation, self.journal.written)
+                except OSError as error:
+                    failed = error
         self.on_mutation(keys)
         if failed is not None:
             raise NotSafe(number, result, failed)
@@ -194,14 +207,14 @@ class KeptGroup:
             self._settle(mark, number, result)
         return result
 
-    def _made(self, seat: int, name: str, args: bytes, now: int) -> int:
+    def _made(self, seat: Seat, name: str, args: bytes, now: int) -> int:
         """Makes the mutation, with the gate held: its ID."""
         try:
             for _ in range(TRIES):
-                self._check_open()
+                self._check_open(seat)
                 self._mutating = True
                 self._mutations += 1
-                place = self._opened.places[seat]
+                place = self._opened.places[seat.number]
                 try:
                     return place.mutate_json(name, args, now)
                 except Refusal as refusal:
@@ -220,13 +233,6 @@ class KeptGroup:
                 raise refusal
         elif refusal.why not in AGAIN:
             raise refusal
-
-    def _note(self, entry: Entry) -> int:
-        """The journal and the file have the entry; the mark that `settle` takes, 0 without a file. OSError."""
-        self.journal.add(entry)
-        if self._file is None:
-            return 0
-        return self._file.append(entry, self.journal.written)
 
     def _settle(self, mark: int, number: int, result: Json) -> None:
         """Waits until the file is on the disk. Where the disk refuses, the group goes to a new file."""
@@ -327,8 +333,10 @@ class KeptGroup:
 
     def _record(self, response: Response) -> set[str] | None:
         """A response was applied: the keys of its patch; None: any. One that isn't written the next process pulls."""
+        self.journal.apply(response)
         try:
-            self._note(response)
+            if self._file is not None:
+                self._file.append(response, self.journal.written)
             self._shorten()
         except OSError as error:
             self._on_error("store", error)
@@ -354,34 +362,41 @@ class KeptGroup:
             raise Closed("the group is closed")
         return opened.places[seat]
 
-    def query(self, seat: int, query: Query, client: str | None = None, reads: Reads | None = None) -> Json:
-        """What the query answers, as of one moment. It may be run twice."""
-        self._check_alone()
-        place = self._place(seat)
-        inside, inside.busy = self._inside, True
+    def query(self, seat: Seat | None, query: Query, reads: Reads | None = None) -> Json:
+        """What the query answers, as of one moment. It may be run twice.
+
+        Without a seat it is a subscription's, and notes what it read.
+        """
+        inside = self._inside
+        if inside.busy:
+            raise RuntimeError(ALONE)
+        if seat is not None and seat.has_left:
+            raise Closed("the client has left")
+        place = self._place(TELL if seat is None else seat.number)
+        inside.busy = True
         try:
-            moment = self._mutations, self._pulls
+            mutations, pulls = self._mutations, self._pulls
             if not self._mutating and not self._pulling:
                 try:
-                    result = query(ReadTransaction(place, client, reads))
+                    result = query(_transaction(place, seat, reads))
                 except Exception:
-                    if moment == (self._mutations, self._pulls):
+                    if mutations == self._mutations and pulls == self._pulls:
                         raise
                 else:
-                    if moment == (self._mutations, self._pulls):
+                    if mutations == self._mutations and pulls == self._pulls:
                         return result
-                if reads is not None:
-                    reads.clear()
-            return self._query_still(place, query, client, reads)
+            return self._query_still(place, query, seat, reads)
         finally:
             inside.busy = False
 
-    def _query_still(self, place: Place, query: Query, client: str | None, reads: Reads | None) -> Json:
+    def _query_still(self, place: Place, query: Query, seat: Seat | None, reads: Reads | None) -> Json:
+        if reads is not None:
+            reads.clear()
         with contextlib.ExitStack() as stack:
             draft = self._look(stack, place)
             if draft is None:
                 stack.enter_context(self._still())
-            return query(ReadTransaction(draft or place, client, reads))
+            return query(_transaction(draft or place, seat, reads))
 
     def _look(self, stack: contextlib.ExitStack, place: Place) -> Draft | None:
         """The map of a change that is given up. None where there is none: no slot is free, or the group is closed."""
@@ -414,3 +429,9 @@ class KeptGroup:
                 self._file.close()
             # The library closes a place when the last thread has left it.
             self._opened = Opened([], self._opened.slots)
+
+
+def _transaction(source: Draft | Place, seat: Seat | None, reads: Reads | None) -> ReadTransaction:
+    if reads is not None:
+        return NotingTransaction(source, reads)
+    return ReadTransaction(source, None if seat is None else seat.client)

@@ -22,20 +22,19 @@ Json = Any
 
 
 class Mutation(NamedTuple):
-    """A mutation as the group made it. `args` is JSON text, which nobody can change any more."""
+    """A mutation as the group made it. `args` is JSON, which nobody can change any more."""
 
     client: str
     id: int
     name: str
-    args: str
+    args: bytes
     timestamp: int
 
-    def text(self) -> str:
+    def text(self) -> bytes:
         """The mutation as a push body has it."""
-        name = json_bytes(self.name).decode()
-        return (
-            f'{{"args":{self.args},"clientID":"{self.client}","id":{self.id},"name":{name},"timestamp":{self.timestamp}}}'
-        )
+        client, name = self.client.encode(), json_bytes(self.name)
+        words = self.args, client, self.id, name, self.timestamp
+        return b'{"args":%b,"clientID":"%b","id":%d,"name":%b,"timestamp":%d}' % words
 
 
 class Response(NamedTuple):
@@ -67,8 +66,7 @@ def mutation_of(value: Json) -> Mutation:
     name, client = value["name"], value["clientID"]
     if not isinstance(name, str) or str(uuid.UUID(client)) != client:
         raise ValueError("a name is no text, or an ID no UUID as it is written here")
-    args = json_bytes(value["args"]).decode()
-    return Mutation(client, int(value["id"]), name, args, int(value["timestamp"]))
+    return Mutation(client, int(value["id"]), name, json_bytes(value["args"]), int(value["timestamp"]))
 
 
 class State:
@@ -80,14 +78,12 @@ class State:
         self.confirmed: dict[str, int] = {}
         self.pending: dict[tuple[str, int], Mutation] = {}
 
-    def add(self, entry: Entry) -> None:
-        """An entry changed the group."""
-        if isinstance(entry, Mutation):
-            self.pending[entry.client, entry.id] = entry
-        else:
-            self._apply(entry)
+    def make(self, mutation: Mutation) -> None:
+        """A mutation was made."""
+        self.pending[mutation.client, mutation.id] = mutation
 
-    def _apply(self, response: Response) -> None:
+    def apply(self, response: Response) -> None:
+        """A response was applied."""
         self.cookie = response.cookie
         self.confirmed.update(response.confirmed)
         for op in response.patch:
@@ -127,18 +123,27 @@ class Journal:
         """What the group was when the entries were cut. None: a response of what is pulled now says it."""
         self._since: list[Entry] = []
         for entry in entries or []:
-            self.add(entry)
+            if isinstance(entry, Mutation):
+                self.make(entry)
+            else:
+                self.apply(entry)
 
-    def add(self, entry: Entry) -> None:
-        """An entry changed the group."""
+    def make(self, mutation: Mutation) -> None:
+        """A mutation was made."""
+        self.state.make(mutation)
+        if self.ordered:
+            self._since.append(mutation)
+
+    def apply(self, response: Response) -> None:
+        """A response was applied."""
         if not self.ordered:
-            self.state.add(entry)
+            self.state.apply(response)
             return
-        if isinstance(entry, Response) and self._base is None:
+        if self._base is None:
             pulled: list[Entry] = [self.state.response()]
             self._base = [] if self.state.cookie is None else pulled
-        self.state.add(entry)
-        self._since.append(entry)
+        self.state.apply(response)
+        self._since.append(response)
         if not self.state.pending:
             self.cut()
 

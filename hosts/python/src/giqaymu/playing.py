@@ -175,15 +175,15 @@ class Player:
 
     def _make(self, place: Place, mutation: Mutation) -> None:
         """Makes a mutation again. One that refuses by now stays pending by a run that does nothing, if one may run."""
-        args = mutation.args.encode()
+        words = mutation.name, mutation.args, mutation.timestamp
         try:
-            number = place.mutate_json(mutation.name, args, mutation.timestamp)
+            number = place.mutate_json(*words)
         except Refusal as refusal:
             if self._runs is None or refusal.why not in (Why.REFUSED, Why.NO_MUTATOR):
                 raise
             self._runs.is_idle = True
             try:
-                number = place.mutate_json(mutation.name, args, mutation.timestamp)
+                number = place.mutate_json(*words)
             finally:
                 self._runs.is_idle = False
         if number != mutation.id:

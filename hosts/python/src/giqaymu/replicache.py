@@ -32,10 +32,10 @@ from types import TracebackType
 from typing import Any, NamedTuple
 
 from .callbacks import Announcer, Callbacks, UpdateNeeded
-from .groups import KeptGroup
+from .groups import KeptGroup, Seat
 from .journal import Entry
-from .loops import Closed, RequestOptions
-from .playing import TELL, Unplayable
+from .loops import RequestOptions
+from .playing import Unplayable
 from .recovery import Pokes, Recovery
 from .store import Durability, Identity, JournalFile, Left, SetAside, left_behind
 from .subscriptions import Diff, Listener, Subscription, Teller, Watch
@@ -67,25 +67,28 @@ class Mutate:
     `Closed`. It differs from Replicache: it is no promise, since it has ended when it returns.
     """
 
-    def __init__(self, call: Callable[[str, Json], Json]) -> None:
-        self._call = call
+    def __init__(self, kept: KeptGroup, seat: Seat) -> None:
+        """For `Replicache` alone."""
+        self._kept, self._seat = kept, seat
 
     def __getattr__(self, name: str) -> Callable[..., Json]:
         if name.startswith("_"):
             raise AttributeError(name)
-        call = self._call
+        mutate, seat = self._kept.mutate, self._seat
 
-        def mutate(*args: Json, **fields: Json) -> Json:
-            if len(args) > 1 or (args and fields):
+        def call(*args: Json, **fields: Json) -> Json:
+            if len(args) == 1 and not fields:
+                return mutate(seat, name, args[0])
+            if args:
                 raise TypeError(f"{name}: one argument, or fields by name")
-            return call(name, args[0] if args else fields or None)
+            return mutate(seat, name, fields or None)
 
-        setattr(self, name, mutate)
-        return mutate
+        setattr(self, name, call)
+        return call
 
     def __call__(self, name: str, args: Json = None) -> Json:
         """The mutation of this name."""
-        return self._call(name, args)
+        return self._kept.mutate(self._seat, name, args)
 
 
 class _Shared:
@@ -101,12 +104,12 @@ class _Shared:
         store: tuple[Path, Durability] | None,
         poke_url: str,
     ) -> None:
-        self.teller = Teller(lambda query, reads: self.kept.query(TELL, query, None, reads))
+        self.teller = Teller(lambda query, reads: self.kept.query(None, query, reads))
         self.announcer = Announcer(self.teller, callbacks)
         self._group = group
         self.kept = self._kept_in(store, identity) if store else self._kept(identity, [])
         self.syncer = Syncer(self.kept, self.announcer, options, **syncing)
-        self.kept.on_mutation = self._mutated
+        self.kept.on_mutation = self._mutated if self.syncer.can("push") else self.teller.changed
         self.at_end: Callable[[], None] = lambda: None
         """Called when the threads have ended."""
         self._is_closed = False
@@ -279,14 +282,10 @@ class Replicache:
     def _sit(self, shared: _Shared) -> None:
         self._shared = shared
         self._kept = shared.kept
-        self._seat, self.client_id = shared.kept.sit()
-        self._has_left = False
-        self.mutate = Mutate(self._mutate)
-
-    def _mutate(self, name: str, args: Json) -> Json:
-        if self._has_left:
-            raise Closed("the client has left")
-        return self._kept.mutate(self._seat, name, args)
+        self._seat = shared.kept.sit()
+        self.client_id = self._seat.client
+        """The client's ID (Replicache: `clientID`)."""
+        self.mutate = Mutate(self._kept, self._seat)
 
     def client(self) -> Replicache:
         """Another client of the group. ValueError where as many are open as there may be (`clients`)."""
@@ -309,9 +308,7 @@ class Replicache:
 
         It may be run twice, so it does nothing but read and answer. What it raises is raised. Raises `Closed`.
         """
-        if self._has_left:
-            raise Closed("the client has left")
-        return self._kept.query(self._seat, query, self.client_id)
+        return self._kept.query(self._seat, query)
 
     def subscribe(
         self,
@@ -371,9 +368,7 @@ class Replicache:
 
     def leave(self) -> None:
         """This client ends; the group and what is pending stay. Not Replicache's, whose groups have a client each."""
-        if not self._has_left:
-            self._has_left = True
-            self._kept.leave(self._seat)
+        self._kept.leave(self._seat)
 
     def close(self) -> None:
         """Ends the group with all its clients (Replicache: `close`, a promise).

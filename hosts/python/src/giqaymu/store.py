@@ -34,7 +34,7 @@ from pathlib import Path
 from typing import Any, Literal, NamedTuple
 
 from .edge import json_bytes
-from .journal import Entry, Mutation, State, mutation_of, response_of
+from .journal import Entry, Journal, Mutation, State, mutation_of, response_of
 
 Json = Any
 Durability = Literal["fsync", "write"]
@@ -73,7 +73,7 @@ def _line(text: bytes) -> bytes:
 def line_of(entry: Entry) -> bytes:
     """The line of an entry."""
     if isinstance(entry, Mutation):
-        return _line(f'{{"mutation":{entry.text()}}}'.encode())
+        return _line(b'{"mutation":%b}' % entry.text())
     return _line(b'{"response":%s}' % entry.body())
 
 
@@ -160,10 +160,7 @@ class Left:
 
     def state(self) -> State:
         """The group's state."""
-        state = State()
-        for entry in self.entries:
-            state.add(entry)
-        return state
+        return Journal(ordered=False, entries=self.entries).state
 
     def let_go(self) -> None:
         """Another process may take it."""

@@ -27,28 +27,23 @@ def is_touched(reads: Reads, keys: set[str]) -> bool:
 class ReadTransaction:
     """The map as of one moment (Replicache: `ReadTransaction`; there are no indexes)."""
 
-    __slots__ = ("_reads", "_source", "client_id")
+    __slots__ = ("_source", "client_id")
 
     reason = "query"
 
-    def __init__(self, source: Draft | Place, client_id: str | None = None, reads: Reads | None = None) -> None:
+    def __init__(self, source: Draft | Place, client_id: str | None = None) -> None:
         """For the layer alone."""
         self._source = source
-        self._reads = reads
         self.client_id = client_id
         """The ID of the client that asks. None in a mutator, since a rebase does not know whose mutation it runs: hand
         an ID over among the arguments."""
 
     def get(self, key: str, default: Json = None) -> Json:
         """The value at the key, or the default where there is none."""
-        if self._reads is not None:
-            self._reads.add((False, key))
         return self._source.get(key, default)
 
     def has(self, key: str) -> bool:
         """Whether the key is there."""
-        if self._reads is not None:
-            self._reads.add((False, key))
         return self._source.has(key)
 
     def is_empty(self) -> bool:
@@ -62,8 +57,34 @@ class ReadTransaction:
 
         They begin at the key `at`, or after the key `after`; there are `limit` at the most.
         """
-        if self._reads is not None:
-            self._reads.add((True, prefix))
+        return self._source.scan(prefix, at=at, after=after, limit=limit)
+
+
+class NotingTransaction(ReadTransaction):
+    """One that notes what is read, for a subscription."""
+
+    __slots__ = ("_reads",)
+
+    def __init__(self, source: Draft | Place, reads: Reads) -> None:
+        """For the layer alone."""
+        super().__init__(source)
+        self._reads = reads
+
+    def get(self, key: str, default: Json = None) -> Json:
+        """As `ReadTransaction.get`."""
+        self._reads.add((False, key))
+        return self._source.get(key, default)
+
+    def has(self, key: str) -> bool:
+        """As `ReadTransaction.has`."""
+        self._reads.add((False, key))
+        return self._source.has(key)
+
+    def scan(
+        self, prefix: str = "", *, at: str | None = None, after: str | None = None, limit: int | None = None
+    ) -> list[Row]:
+        """As `ReadTransaction.scan`."""
+        self._reads.add((True, prefix))
         return self._source.scan(prefix, at=at, after=after, limit=limit)
 
 
@@ -79,10 +100,10 @@ class WriteTransaction(ReadTransaction):
 
     def __init__(self, draft: Draft, reason: str, writes: set[str]) -> None:
         """For the layer alone."""
-        super().__init__(draft)
-        self._draft = draft
-        self._writes = writes
+        self._source = self._draft = draft
+        self.client_id = None
         self.reason = reason
+        self._writes = writes
 
     def set(self, key: str, value: Json) -> None:
         """Puts a value at the key: what `json` writes, with whole numbers of 64 bits alone."""
