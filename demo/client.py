@@ -23,7 +23,7 @@ from pathlib import Path
 from typing import Any
 
 HERE = Path(__file__).resolve().parent
-sys.path.insert(0, str(HERE.parent / "hosts" / "python"))
+sys.path.insert(0, str(HERE.parent / "hosts" / "python" / "src"))
 from giqaymu import Group, Place, Refusal, Why  # noqa: E402
 
 Json = Any
