@@ -25,7 +25,7 @@ from pathlib import Path
 from typing import Any
 
 HERE = Path(__file__).resolve().parent
-sys.path[:0] = [str(HERE), str(HERE.parent / "hosts" / "python" / "src"), str(HERE.parent / "hosts" / "python")]
+sys.path[:0] = [str(HERE), str(HERE.parent / "hosts" / "python" / "src")]
 
 import todo  # noqa: E402
 from children import Child, Failed  # noqa: E402
@@ -71,7 +71,7 @@ def group_of(client: int) -> str:
 
 def mutations(client: int, times: int) -> list[Mutation]:
     """All that a client makes."""
-    return [Mutation(uuid_of(client), n, "once", f"{client}-{n}") for n in range(1, times + 1)]
+    return [Mutation(uuid_of(client), n, "once", {"id": f"{client}-{n}"}) for n in range(1, times + 1)]
 
 
 def push_all(space: Space, times: int, dice: random.Random, counts: Counts) -> None:

@@ -76,7 +76,13 @@ fn count(counts: &mut Counts, what: &'static str) {
     }
 }
 
-/// What the server answers; an error of `io` where it could not be reached, or its response was lost.
+/// How many bytes the body of a response has, by its head.
+fn length_of(head: &str) -> Option<usize> {
+    let mut lines = head.lines().map(str::to_ascii_lowercase);
+    lines.find_map(|line| line.strip_prefix("content-length:")?.trim().parse().ok())
+}
+
+/// What the server answers; an error of `io` where it could not be reached, its response was lost or cut, or it was busy.
 fn post(port: u16, path: &str, body: &[u8]) -> io::Result<Vec<u8>> {
     let mut server = TcpStream::connect(("127.0.0.1", port))?;
     server.set_read_timeout(Some(Duration::from_secs(5)))?;
@@ -88,7 +94,11 @@ fn post(port: u16, path: &str, body: &[u8]) -> io::Result<Vec<u8>> {
         return Err(io::ErrorKind::UnexpectedEof.into());
     };
     let text = response.split_off(head + 4);
-    assert!(response.starts_with(b"HTTP/1.0 200 "), "{path}: {}", String::from_utf8_lossy(&text));
+    let head = String::from_utf8_lossy(&response);
+    if length_of(&head) != Some(text.len()) || head.split(' ').nth(1) == Some("503") {
+        return Err(io::ErrorKind::UnexpectedEof.into());
+    }
+    assert_eq!(head.split(' ').nth(1), Some("200"), "{path}: {}", String::from_utf8_lossy(&text));
     Ok(text)
 }
 

@@ -1,6 +1,6 @@
 """The mutators of a to-do list. Clients run them over a draft, and the server over its database: the same functions.
 
-`rules.json` has the same ones as data, but for `once`. `set` and `append` are what scripts have under these names
+`rules.json` has the same ones as data. `set` and `append` are what scripts have under these names
 (`docs/SCRIPT.md`), for keys of notes and logs alone.
 
 A mutator's arguments may be anything. One that is handed something else than it takes refuses with `WRONG`.
@@ -74,8 +74,8 @@ def count(tx: Transaction, args: Json) -> None:
 
 
 def once(tx: Transaction, args: Json) -> int:
-    """Counts how often it was done with this text, and how often with any."""
-    key = f"once/{_is_text(args)}"
+    """Counts how often it was done with this `id`, and how often with any."""
+    key = _key(args, "once")
     times = _whole(tx.get(key, 0)) + 1
     tx.set(key, times)
     tx.set("all", _whole(tx.get("all", 0)) + 1)
@@ -106,12 +106,12 @@ MUTATORS = {
 }
 
 
-def _key(args: Json) -> str:
+def _key(args: Json, kind: str = "todo") -> str:
     """The key of the thing that the field `id` names: a text or a whole number."""
     word = args.get("id") if isinstance(args, dict) else None
     if not isinstance(word, (str, int)) or isinstance(word, bool):
         raise Refuse(WRONG)
-    return f"todo/{word}"
+    return f"{kind}/{word}"
 
 
 def _there(tx: Transaction, key: str) -> dict[str, Json]:

@@ -10,7 +10,7 @@ import threading
 from pathlib import Path
 
 HERE = Path(__file__).resolve().parent
-sys.path[:0] = [str(HERE.parent), str(HERE.parent.parent / "hosts" / "python")]
+sys.path[:0] = [str(HERE.parent), str(HERE.parent.parent / "hosts" / "python" / "src")]
 
 import todo  # noqa: E402
 from server.databases import Counts, Database, Unavailable  # noqa: E402

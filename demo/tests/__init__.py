@@ -4,4 +4,4 @@ import sys
 from pathlib import Path
 
 DEMO = Path(__file__).resolve().parent.parent
-sys.path[:0] = [str(DEMO), str(DEMO.parent / "hosts" / "python" / "src"), str(DEMO.parent / "hosts" / "python")]
+sys.path[:0] = [str(DEMO), str(DEMO.parent / "hosts" / "python" / "src")]
