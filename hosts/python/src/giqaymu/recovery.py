@@ -7,7 +7,7 @@ import logging
 import threading
 import time
 from pathlib import Path
-from typing import Any
+from typing import TYPE_CHECKING, Any
 
 from .callbacks import Announcer
 from .edge import json_bytes
@@ -15,7 +15,10 @@ from .journal import State
 from .loops import RequestOptions
 from .store import Identity, Left, left_behind
 from .syncing import Syncer, error_in
-from .transport import Answered, Offline, Stream
+from .transport import Answered, Offline
+
+if TYPE_CHECKING:
+    from .http_transport import Stream
 
 Json = Any
 EVERY = 300.0
@@ -154,6 +157,8 @@ class Pokes(threading.Thread):
 
     def _listen(self) -> None:
         """Listens until the stream breaks."""
+        from .http_transport import Stream
+
         self._stream = stream = Stream(self._url, self._syncer.headers())
         try:
             self._syncer.pull_loop.want(urgent=True)  # what was poked while nobody listened

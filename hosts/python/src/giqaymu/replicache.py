@@ -21,6 +21,7 @@ waits for the disk, and the push's thread is woken. All threads are daemons, and
 
 from __future__ import annotations
 
+import functools
 import json
 import threading
 import time
@@ -41,7 +42,7 @@ from .store import Durability, Identity, JournalFile, Left, SetAside, left_behin
 from .subscriptions import Diff, Listener, Subscription, Teller, Watch
 from .syncing import Poster, Syncer
 from .transactions import Mutator, Query, ReadTransaction
-from .transport import Http, Transport
+from .transport import Transport
 
 Json = Any
 
@@ -259,8 +260,8 @@ class Replicache:
             raise ValueError(f"durability is fsync or write, not {durability!r}")
         if mutators is not None and rules is not None:
             raise ValueError("a group has mutators or rules, not both")
-        http = Http(request_options)
-        post = transport or http
+        needs_http = transport is None and ((push_url and not pusher) or (pull_url and not puller))
+        post, close = _http(request_options) if needs_http else (transport, lambda: None)
         callbacks = Callbacks(
             on_online_change, on_sync, on_update_needed, on_client_state_not_found, on_set_aside, on_error
         )
@@ -276,7 +277,7 @@ class Replicache:
         folder: tuple[Path, Durability] | None = None if store is None else (Path(store), durability)
         identity = Identity(str(uuid.uuid4()), profile_id, schema_version)
         shared = _Shared(identity, group, syncing, callbacks, request_options, folder, poke_url)
-        shared.at_end = http.close
+        shared.at_end = close
         self._sit(shared)
 
     def _sit(self, shared: _Shared) -> None:
@@ -387,8 +388,16 @@ class Replicache:
         self.close()
 
 
-def _poster(post: Transport, url: str) -> Poster | None:
+def _http(options: RequestOptions) -> tuple[Transport, Callable[[], None]]:
+    """The layer's own transport, and what closes it. It is imported here: see the head of its module."""
+    from .http_transport import Http
+
+    http = Http(options)
+    return http, http.close
+
+
+def _poster(post: Transport | None, url: str) -> Poster | None:
     """Posts to this URL; None without one."""
-    if not url:
+    if not url or post is None:
         return None
-    return lambda body, headers: post(url, body, headers)
+    return functools.partial(post, url)
