@@ -80,21 +80,19 @@ class Recovery(threading.Thread):
 
     def _recovered(self, left: Left) -> bool:
         """Whether its files are gone: all was confirmed, or it is kept aside."""
+        state = left.state()
+        if left.identity is not None and state.pending:
+            error = self._sent(left.identity, state)
+            if error is not None:
+                self._announcer.set_aside(left.set_aside(error, state.pending.values()))
+                return True
+            if state.pending:
+                return False
+            self._syncer.pull_loop.want(urgent=True)
         aside = left.keep_damaged()
         if aside is not None:
             self._announcer.set_aside(aside)
-        state = left.state()
-        if left.identity is None or not state.pending:
-            left.remove()
-            return True
-        error = self._sent(left.identity, state)
-        if error is not None:
-            self._announcer.set_aside(left.set_aside(error, state.pending.values()))
-            return True
-        if state.pending:
-            return False
         left.remove()
-        self._syncer.pull_loop.want(urgent=True)
         return True
 
     def _sent(self, identity: Identity, state: State) -> str | None:

@@ -22,7 +22,6 @@ waits for the disk, and the push's thread is woken. All threads are daemons, and
 from __future__ import annotations
 
 import functools
-import json
 import threading
 import time
 import uuid
@@ -30,11 +29,11 @@ from collections.abc import Callable, Mapping
 from concurrent.futures import Future
 from pathlib import Path
 from types import TracebackType
-from typing import Any, NamedTuple
+from typing import Any
 
 from .callbacks import Announcer, Callbacks, UpdateNeeded
 from .groups import KeptGroup, Seat
-from .journal import Entry
+from .journal import Entry, PendingMutation
 from .loops import RequestOptions
 from .playing import Unplayable
 from .recovery import Pokes, Recovery
@@ -48,15 +47,6 @@ Json = Any
 
 JOIN = 2.0
 """How many seconds `close` waits for the threads, in all."""
-
-
-class PendingMutation(NamedTuple):
-    """A mutation that the server has not confirmed (Replicache: `PendingMutation`)."""
-
-    client_id: str
-    id: int
-    name: str
-    args: Json
 
 
 class Mutate:
@@ -125,7 +115,7 @@ class _Shared:
             thread.start()
         if self.syncer.can("pull"):
             self.syncer.pull_loop.want()
-        if self.kept.has_pending():
+        if self.kept.oldest() is not None:
             self.syncer.push_loop.want()
 
     def _kept(self, identity: Identity, entries: list[Entry]) -> KeptGroup:
@@ -136,10 +126,14 @@ class _Shared:
         folder, durability = store
         folder.mkdir(parents=True, exist_ok=True)
         for left in left_behind(folder):
-            kept = self._restored(left, identity)
-            if kept is not None:
-                kept.keep_in(JournalFile.adopted(left, durability))
-                return kept
+            try:
+                kept = self._restored(left, identity)
+                if kept is not None:
+                    kept.keep_in(JournalFile.adopted(left, durability))
+                    return kept
+            except BaseException:
+                left.let_go()
+                raise
             left.let_go()
         kept = self._kept(identity, [])
         kept.keep_in(JournalFile.new(folder, identity, durability))
@@ -349,7 +343,7 @@ class Replicache:
 
     def experimental_pending_mutations(self) -> list[PendingMutation]:
         """What the group has pending, the oldest first (Replicache: `experimentalPendingMutations`, a promise)."""
-        return [PendingMutation(one.client, one.id, one.name, json.loads(one.args)) for one in self._kept.pending()]
+        return [mutation.told() for mutation in self._kept.pending()]
 
     def push(self, *, now: bool = False) -> Future[None]:
         """Wants a push (Replicache: `push`). With `now` it waits for no delay.
