@@ -8,7 +8,7 @@ from __future__ import annotations
 import shutil
 from pathlib import Path
 
-from setuptools import setup
+from setuptools import Distribution, setup
 from setuptools.command.build_py import build_py
 
 try:
@@ -27,17 +27,21 @@ class Build(build_py):
     def run(self):
         if not LIBRARY.exists():
             raise SystemExit(f"there is no {LIBRARY}: run hosts/build first")
+        shutil.rmtree(self.build_lib, ignore_errors=True)  # modules of an earlier build that are gone
         super().run()
         if not self.editable_mode:
             shutil.copy2(LIBRARY, Path(self.build_lib) / "giqaymu")
 
 
+class Platform(Distribution):
+    """Else the package would be taken for one of any platform."""
+
+    def has_ext_modules(self):
+        return True
+
+
 class Wheel(bdist_wheel):
     """For any Python 3 on this platform: the library is loaded by ctypes and knows nothing of Python."""
-
-    def finalize_options(self):
-        super().finalize_options()
-        self.root_is_pure = False
 
     def get_tag(self):
         _, _, platform = super().get_tag()
@@ -46,6 +50,7 @@ class Wheel(bdist_wheel):
 
 OUT.mkdir(exist_ok=True)
 setup(
+    distclass=Platform,
     cmdclass={"build_py": Build, "bdist_wheel": Wheel},
     options={"build": {"build_base": str(OUT / "python")}, "egg_info": {"egg_base": str(OUT)}},
 )

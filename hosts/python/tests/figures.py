@@ -3,8 +3,8 @@
 
     python3 figures.py [ROUNDS]
 
-Each round does the same with a place of a `Group` and with a client of `Replicache`, in turn; the least of the rounds
-counts. The layer has no server here: a push that is wanted is found to have nowhere to go. The idle process has a
+Each round does the same with a place of a `Group` and with a client of `Replicache`, in turn, twenty calls at a time;
+the least counts. The layer has no server here: a push that is wanted is found to have nowhere to go. The idle process has a
 server, a store, a subscription and a stream of pokes.
 """
 
@@ -26,7 +26,7 @@ import todo  # noqa: E402
 from giqaymu import Group, Replicache  # noqa: E402
 from server import Server  # noqa: E402
 
-TIMES = 1000
+SLICES, SLICE = 50, 20
 MOST = {"mutate": 1.3, "query": 1.5}
 
 
@@ -61,15 +61,21 @@ def layer(**words: Any) -> Replicache:
     return Replicache(slots=1 << 16, **words)
 
 
-def seconds(call: Callable[[int], object], times: int = TIMES) -> float:
-    """How long so many calls take, a call."""
+Call = Callable[[int], object]
+
+
+def seconds(library: Call, ours: Call) -> tuple[float, float]:
+    """How long a call takes, of both: the least of slices that are run in turn, so that both have the same load."""
+    least = [float("inf"), float("inf")]
     gc.disable()
-    begun = time.perf_counter()
-    for number in range(times):
-        call(number)
-    taken = time.perf_counter() - begun
+    for at in range(SLICES):
+        for which, call in enumerate((library, ours)):
+            begun = time.perf_counter()
+            for number in range(at * SLICE, (at + 1) * SLICE):
+                call(number)
+            least[which] = min(least[which], (time.perf_counter() - begun) / SLICE)
     gc.enable()
-    return taken / times
+    return least[0], least[1]
 
 
 def mutations(kind: str, store: dict[str, Any] | None = None) -> tuple[float, float]:
@@ -79,15 +85,11 @@ def mutations(kind: str, store: dict[str, Any] | None = None) -> tuple[float, fl
     else:
         place = bare({"put": bare_put, "once": bare_once})
         rep = layer(mutators={"put": put, "once": todo.once}, **(store or {}))
-    calls: dict[str, tuple[Callable[[int], object], Callable[[int], object]]] = {
-        "one put": (lambda n: place.mutate("put", {"id": str(n % 50), "text": "t"}),
-                    lambda n: rep.mutate.put({"id": str(n % 50), "text": "t"})),
-        "rule": (lambda n: place.mutate("put", {"id": str(n % 50), "text": "t"}),
-                 lambda n: rep.mutate.put({"id": str(n % 50), "text": "t"})),
-        "two gets and puts": (lambda n: place.mutate("once", n % 50), lambda n: rep.mutate.once(n % 50)),
-    }
     try:
-        return seconds(calls[kind][0]), seconds(calls[kind][1])
+        if kind == "two gets and puts":
+            return seconds(lambda n: place.mutate("once", n % 50), lambda n: rep.mutate.once(n % 50))
+        return seconds(lambda n: place.mutate("put", {"id": str(n % 50), "text": "t"}),
+                       lambda n: rep.mutate.put({"id": str(n % 50), "text": "t"}))
     finally:
         rep.close()
 
@@ -100,9 +102,8 @@ def queries() -> dict[str, tuple[float, float]]:
         rep.mutate.put({"id": f"{number:04}", "text": "t"})
     try:
         return {
-            "query of one get": (seconds(lambda n: place.get("0500")), seconds(lambda n: rep.query(lambda tx: tx.get("0500")))),
-            "query of a scan of 100": (seconds(lambda n: place.scan("00"), 200),
-                                       seconds(lambda n: rep.query(lambda tx: tx.scan("00")), 200)),
+            "query of one get": seconds(lambda n: place.get("0500"), lambda n: rep.query(lambda tx: tx.get("0500"))),
+            "query of a scan of 100": seconds(lambda n: place.scan("00"), lambda n: rep.query(lambda tx: tx.scan("00"))),
         }
     finally:
         rep.close()

@@ -6,6 +6,7 @@ import json
 import threading
 import time
 from typing import Any
+from unittest import mock
 
 import todo
 from giqaymu import Answered, Closed, Diff, Offline, Refusal, Reply, RequestOptions, UpdateNeeded, Why
@@ -442,6 +443,52 @@ class Requests(WithServer):
             stop.set()
             thread.join()
         self.assertIn("todo/x", rows(anna))
+
+    def test_an_interrupt_behind_a_change(self) -> None:
+        anna = self.rep(pusher=offline, slots=64, store=self.store)
+        anna.mutate.once("x")
+        journal = anna._kept.journal
+        with mock.patch.object(journal, "make", side_effect=[KeyboardInterrupt, None]) as make:
+            with self.assertRaises(KeyboardInterrupt):
+                anna.mutate.once("y")
+            self.assertEqual(make.call_count, 2)
+        journal.make(make.call_args_list[-1].args[0])
+        self.assertEqual([one.args for one in anna.experimental_pending_mutations()], ["x", "y"])
+        for number in range(100):
+            anna.mutate.once(number)
+        self.assertGreaterEqual(anna._kept.slots, 256)
+        self.assertEqual([one.id for one in anna.experimental_pending_mutations()], list(range(1, 103)))
+
+    def test_a_poster_that_raises(self) -> None:
+        errors: list[Any] = []
+        raises = [True, True]
+
+        def pusher(body: bytes, headers: dict[str, str]) -> Reply:
+            if raises:
+                raises.pop()
+                raise KeyError("on purpose")
+            return Reply(200, json.dumps(self.server.space.push(json.loads(body))).encode())
+
+        anna = self.rep(pusher=pusher, on_error=lambda what, error: errors.append((what, type(error))))
+        anna.mutate.once("x")
+        self.quiet(anna)
+        self.assertEqual(errors, [("push", KeyError)] * 2)
+
+    def test_a_push_that_waits_to_be_sent_again_keeps_nobody_waiting(self) -> None:
+        anna = self.rep(pusher=lambda body, headers: self.sent(body))
+        anna.mutate.once("x")
+        self.holds(lambda: anna._shared.syncer._stalled)
+        anna._shared.syncer.push_loop._due = time.monotonic() + 60
+        before = len(self.bodies)
+        anna.mutate.once("y")
+        self.holds(lambda: len(self.bodies) > before, 1.0)
+
+    bodies: list[bytes] = []
+
+    def sent(self, body: bytes) -> Reply:
+        """Answers a push, and forgets it."""
+        self.bodies.append(body)
+        return Reply(200, b"{}")
 
     def test_an_interval(self) -> None:
         anna, bert = self.rep(), self.rep(pull_interval=0.05)

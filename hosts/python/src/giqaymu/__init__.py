@@ -28,9 +28,10 @@ from .edge import (
     Why,
 )
 from .groups import NotSafe
+from .journal import PendingMutation
 from .loops import Closed, RequestOptions
 from .playing import TooLarge
-from .replicache import PendingMutation, Replicache
+from .replicache import Replicache
 from .store import SetAside
 from .subscriptions import Diff
 from .syncing import Poster

@@ -28,7 +28,7 @@ from collections.abc import Callable, Iterator, Mapping
 from typing import Any
 
 from .edge import Draft, Ended, Place, Refusal, Ticket, Why, json_bytes
-from .journal import Entry, Journal, Mutation, Response, response_of
+from .journal import Entry, Journal, Mutation, Response, mutation_of, response_of
 from .loops import Closed
 from .playing import HOUSE, MOST_SLOTS, PULL, PUSH, TELL, Inside, Opened, Player, Runs, TooLarge, Unplayable
 from .store import Identity, JournalFile, SetAside
@@ -64,6 +64,8 @@ class Seat:
 
     def __init__(self, number: int, client: str) -> None:
         self.number, self.client = number, client
+        self.last = 0
+        """The ID of its last mutation that the journal has."""
         self.has_left = False
 
 
@@ -187,19 +189,22 @@ class KeptGroup:
             raise RuntimeError(ALONE)
         text = json_bytes(args)
         now = time.time_ns() // 1_000_000
-        result, keys, failed, mark = None, None, None, 0
+        result, keys, failed, number, mark = None, None, None, 0, 0
         with self._lock:
-            number = self._made(seat, name, text, now)
-            if self._runs is not None:
-                result, keys = self._runs.result, self._runs.writes
-                self._pending_keys |= keys
-            mutation = Mutation(seat.client, number, name, text, now)
-            self.journal.make(mutation)
-            if self._file is not None:
-                try:
-                    mark = self._file.append(mutation, self.journal.written)
-                except OSError as error:
-                    failed = error
+            try:
+                number = self._made(seat, name, text, now)
+                if self._runs is not None:
+                    result, keys = self._runs.result, self._runs.writes
+                    self._pending_keys |= keys
+                mark = self._note(seat, Mutation(seat.client, number, name, text, now))
+            except OSError as error:
+                if number == 0:
+                    raise
+                failed = error
+            except BaseException as error:
+                if not isinstance(error, (Refusal, Closed)):
+                    self._catch_up(seat)
+                raise
         self.on_mutation(keys)
         if failed is not None:
             raise NotSafe(number, result, failed)
@@ -223,10 +228,28 @@ class KeptGroup:
             self._mutating = False
         raise Refusal(Why.MOVED)
 
+    def _note(self, seat: Seat, mutation: Mutation) -> int:
+        """The journal has a mutation that was made, and the file: its mark, 0 without a file. OSError."""
+        self.journal.make(mutation)
+        seat.last = mutation.id
+        return 0 if self._file is None else self._file.append(mutation, self.journal.written)
+
+    def _catch_up(self, seat: Seat) -> None:
+        """Where an interrupt came between the library's change and the journal, the journal has it too.
+
+        Else the group that grows next would lack the mutation, and give its ID to another one.
+        """
+        if self._is_closed or self._opened.places[seat.number].refresh() == seat.last:
+            return
+        for one in json.loads(self._opened.places[PUSH].push())["mutations"]:
+            if (one["clientID"], one["id"]) not in self.journal.state.pending:
+                with contextlib.suppress(OSError):
+                    self._note(seat, mutation_of(one))
+
     def _mend(self, place: Place, refusal: Refusal) -> None:
         if refusal.why is Why.STALE:
             place.refresh()
-        elif refusal.why is Why.FULL and not isinstance(refusal, TooLarge):
+        elif refusal.why is Why.FULL:
             if not self._pulling:
                 self._grow()
             elif not self._gate.wait_for(lambda: not self._pulling, WAIT):
@@ -251,9 +274,10 @@ class KeptGroup:
         with self._lock:
             return list(self.journal.state.pending.values())
 
-    def has_pending(self) -> bool:
-        """Whether something is pending."""
-        return bool(self.journal.state.pending)
+    def oldest(self) -> tuple[str, int] | None:
+        """The client and the ID of the oldest pending mutation."""
+        with self._lock:
+            return next(iter(self.journal.state.pending), None)
 
     def push_body(self) -> bytes:
         """The body of a push of all that is pending."""

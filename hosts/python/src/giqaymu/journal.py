@@ -13,12 +13,22 @@ No lock: the lock of the group's changes (`groups.py`) is held over each call.
 
 from __future__ import annotations
 
+import json
 import uuid
 from typing import Any, NamedTuple
 
 from .edge import json_bytes
 
 Json = Any
+
+
+class PendingMutation(NamedTuple):
+    """A mutation that the server has not confirmed (Replicache: `PendingMutation`)."""
+
+    client_id: str
+    id: int
+    name: str
+    args: Json
 
 
 class Mutation(NamedTuple):
@@ -29,6 +39,10 @@ class Mutation(NamedTuple):
     name: str
     args: bytes
     timestamp: int
+
+    def told(self) -> PendingMutation:
+        """The mutation as a program is told of it."""
+        return PendingMutation(self.client, self.id, self.name, json.loads(self.args))
 
     def text(self) -> bytes:
         """The mutation as a push body has it."""

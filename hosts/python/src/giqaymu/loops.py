@@ -84,11 +84,12 @@ class Loop(threading.Thread):
 
     def want(self, delay: float | None = None, *, urgent: bool = False) -> None:
         """A run is wanted, `delay` from now; without it `debounce` from now."""
+        due = self._clock.now() + (self._debounce if delay is None else delay)
         # A run takes the want away before its job looks: a want that is still there is met by a run to come.
-        if self._due is not None and delay is None and not urgent:
+        there = self._due
+        if there is not None and there <= due and not urgent:
             return
         with self._change:
-            due = self._clock.now() + (self._debounce if delay is None else delay)
             self._due = due if self._due is None else min(self._due, due)
             self._urgent = self._urgent or urgent
             self._change.notify_all()

@@ -131,8 +131,10 @@ class Player:
         Raises `Unplayable`, and `TooLarge` where no group has so many.
         """
         while slots <= MOST_SLOTS:
+            places = self._opened(slots)
             try:
-                return self._played(entries, slots)
+                self._play_in(places, entries)
+                return Opened(places, slots)
             except Refusal as refusal:
                 if refusal.why in STOPS and refusal.why is not Why.FULL:
                     raise
@@ -141,20 +143,23 @@ class Player:
             slots *= 2
         raise TooLarge
 
-    def _played(self, entries: list[Entry], slots: int) -> Opened:
+    def _opened(self, slots: int) -> list[Place]:
+        """The places of a new group. What is refused here, as faulty rules, is the program's fault."""
         profile, schema = self._identity.profile, self._identity.schema
         group = Group(self._identity.group, profile=profile, schema=schema, rules=self._rules, mutators=self._runs,
                       slots=slots, places=self._count)
         for number in (PUSH, PULL, TELL):
             group.places[number].sit()
+        return group.places
+
+    def _play_in(self, places: list[Place], entries: list[Entry]) -> None:
         if self._runs is not None:
             self._runs.is_playing = True
         try:
-            self._play(group.places, entries)
+            self._play(places, entries)
         finally:
             if self._runs is not None:
                 self._runs.is_playing = False
-        return Opened(group.places, slots)
 
     def _play(self, places: list[Place], entries: list[Entry]) -> None:
         sits = ""

@@ -7,7 +7,7 @@ import logging
 import threading
 import time
 from pathlib import Path
-from typing import Any
+from typing import TYPE_CHECKING, Any
 
 from .callbacks import Announcer
 from .edge import json_bytes
@@ -15,7 +15,10 @@ from .journal import State
 from .loops import RequestOptions
 from .store import Identity, Left, left_behind
 from .syncing import Syncer, error_in
-from .transport import Answered, Offline, Stream
+from .transport import Answered, Offline
+
+if TYPE_CHECKING:
+    from .http_transport import Stream
 
 Json = Any
 EVERY = 300.0
@@ -77,21 +80,19 @@ class Recovery(threading.Thread):
 
     def _recovered(self, left: Left) -> bool:
         """Whether its files are gone: all was confirmed, or it is kept aside."""
+        state = left.state()
+        if left.identity is not None and state.pending:
+            error = self._sent(left.identity, state)
+            if error is not None:
+                self._announcer.set_aside(left.set_aside(error, state.pending.values()))
+                return True
+            if state.pending:
+                return False
+            self._syncer.pull_loop.want(urgent=True)
         aside = left.keep_damaged()
         if aside is not None:
             self._announcer.set_aside(aside)
-        state = left.state()
-        if left.identity is None or not state.pending:
-            left.remove()
-            return True
-        error = self._sent(left.identity, state)
-        if error is not None:
-            self._announcer.set_aside(left.set_aside(error, state.pending.values()))
-            return True
-        if state.pending:
-            return False
         left.remove()
-        self._syncer.pull_loop.want(urgent=True)
         return True
 
     def _sent(self, identity: Identity, state: State) -> str | None:
@@ -154,6 +155,8 @@ class Pokes(threading.Thread):
 
     def _listen(self) -> None:
         """Listens until the stream breaks."""
+        from .http_transport import Stream
+
         self._stream = stream = Stream(self._url, self._syncer.headers())
         try:
             self._syncer.pull_loop.want(urgent=True)  # what was poked while nobody listened

@@ -21,7 +21,7 @@ waits for the disk, and the push's thread is woken. All threads are daemons, and
 
 from __future__ import annotations
 
-import json
+import functools
 import threading
 import time
 import uuid
@@ -29,11 +29,11 @@ from collections.abc import Callable, Mapping
 from concurrent.futures import Future
 from pathlib import Path
 from types import TracebackType
-from typing import Any, NamedTuple
+from typing import Any
 
 from .callbacks import Announcer, Callbacks, UpdateNeeded
 from .groups import KeptGroup, Seat
-from .journal import Entry
+from .journal import Entry, PendingMutation
 from .loops import RequestOptions
 from .playing import Unplayable
 from .recovery import Pokes, Recovery
@@ -41,21 +41,12 @@ from .store import Durability, Identity, JournalFile, Left, SetAside, left_behin
 from .subscriptions import Diff, Listener, Subscription, Teller, Watch
 from .syncing import Poster, Syncer
 from .transactions import Mutator, Query, ReadTransaction
-from .transport import Http, Transport
+from .transport import Transport
 
 Json = Any
 
 JOIN = 2.0
 """How many seconds `close` waits for the threads, in all."""
-
-
-class PendingMutation(NamedTuple):
-    """A mutation that the server has not confirmed (Replicache: `PendingMutation`)."""
-
-    client_id: str
-    id: int
-    name: str
-    args: Json
 
 
 class Mutate:
@@ -124,7 +115,7 @@ class _Shared:
             thread.start()
         if self.syncer.can("pull"):
             self.syncer.pull_loop.want()
-        if self.kept.has_pending():
+        if self.kept.oldest() is not None:
             self.syncer.push_loop.want()
 
     def _kept(self, identity: Identity, entries: list[Entry]) -> KeptGroup:
@@ -135,10 +126,14 @@ class _Shared:
         folder, durability = store
         folder.mkdir(parents=True, exist_ok=True)
         for left in left_behind(folder):
-            kept = self._restored(left, identity)
-            if kept is not None:
-                kept.keep_in(JournalFile.adopted(left, durability))
-                return kept
+            try:
+                kept = self._restored(left, identity)
+                if kept is not None:
+                    kept.keep_in(JournalFile.adopted(left, durability))
+                    return kept
+            except BaseException:
+                left.let_go()
+                raise
             left.let_go()
         kept = self._kept(identity, [])
         kept.keep_in(JournalFile.new(folder, identity, durability))
@@ -259,8 +254,8 @@ class Replicache:
             raise ValueError(f"durability is fsync or write, not {durability!r}")
         if mutators is not None and rules is not None:
             raise ValueError("a group has mutators or rules, not both")
-        http = Http(request_options)
-        post = transport or http
+        needs_http = transport is None and ((push_url and not pusher) or (pull_url and not puller))
+        post, close = _http(request_options) if needs_http else (transport, lambda: None)
         callbacks = Callbacks(
             on_online_change, on_sync, on_update_needed, on_client_state_not_found, on_set_aside, on_error
         )
@@ -276,7 +271,7 @@ class Replicache:
         folder: tuple[Path, Durability] | None = None if store is None else (Path(store), durability)
         identity = Identity(str(uuid.uuid4()), profile_id, schema_version)
         shared = _Shared(identity, group, syncing, callbacks, request_options, folder, poke_url)
-        shared.at_end = http.close
+        shared.at_end = close
         self._sit(shared)
 
     def _sit(self, shared: _Shared) -> None:
@@ -348,7 +343,7 @@ class Replicache:
 
     def experimental_pending_mutations(self) -> list[PendingMutation]:
         """What the group has pending, the oldest first (Replicache: `experimentalPendingMutations`, a promise)."""
-        return [PendingMutation(one.client, one.id, one.name, json.loads(one.args)) for one in self._kept.pending()]
+        return [mutation.told() for mutation in self._kept.pending()]
 
     def push(self, *, now: bool = False) -> Future[None]:
         """Wants a push (Replicache: `push`). With `now` it waits for no delay.
@@ -387,8 +382,16 @@ class Replicache:
         self.close()
 
 
-def _poster(post: Transport, url: str) -> Poster | None:
+def _http(options: RequestOptions) -> tuple[Transport, Callable[[], None]]:
+    """The layer's own transport, and what closes it. It is imported here: see the head of its module."""
+    from .http_transport import Http
+
+    http = Http(options)
+    return http, http.close
+
+
+def _poster(post: Transport | None, url: str) -> Poster | None:
     """Posts to this URL; None without one."""
-    if not url:
+    if not url or post is None:
         return None
-    return lambda body, headers: post(url, body, headers)
+    return functools.partial(post, url)

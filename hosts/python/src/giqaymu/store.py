@@ -34,7 +34,7 @@ from pathlib import Path
 from typing import Any, Literal, NamedTuple
 
 from .edge import json_bytes
-from .journal import Entry, Journal, Mutation, State, mutation_of, response_of
+from .journal import Entry, Journal, Mutation, PendingMutation, Response, State, mutation_of, response_of
 
 Json = Any
 Durability = Literal["fsync", "write"]
@@ -63,7 +63,7 @@ class SetAside:
 
     path: Path
     why: str
-    mutations: tuple[Mutation, ...]
+    mutations: tuple[PendingMutation, ...]
 
 
 def _line(text: bytes) -> bytes:
@@ -93,8 +93,6 @@ def _entry(value: Json) -> Entry:
 
 
 def _identity(value: Json) -> Identity:
-    if value["giqaymu"] != 1:
-        raise ValueError("the file is of another version")
     identity = Identity(value["group"], value["profile"], value["schema"])
     if not all(isinstance(text, str) for text in identity):
         raise ValueError("an ID is no text")
@@ -155,6 +153,10 @@ class Left:
     entries: list[Entry] = field(default_factory=list)
     length: int = 0
     """How many bytes its whole lines have."""
+    least: int = 0
+    """How many of them were there when the file was written as a whole: up to its first response."""
+    is_foreign: bool = False
+    """Whether another version of this module wrote it: then it is left alone."""
     damage: str | None = None
     """What is wrong, where more can't be read than a last line that was cut."""
 
@@ -185,7 +187,7 @@ class Left:
         kept = self.path.with_suffix(".refused")
         os.replace(self.path, kept)
         self.remove()
-        return SetAside(kept, why, tuple(mutations))
+        return SetAside(kept, why, tuple(mutation.told() for mutation in mutations))
 
 
 def _read(left: Left) -> None:
@@ -196,6 +198,7 @@ def _read(left: Left) -> None:
         try:
             value = _value(line)
             if number == 0:
+                left.is_foreign = value["giqaymu"] != 1
                 left.identity = _identity(value)
             else:
                 left.entries.append(_entry(value))
@@ -205,6 +208,8 @@ def _read(left: Left) -> None:
                 left.damage = f"line {number + 1} of {len(lines)}: {wrong}"
             return
         left.length += len(line) + 1
+        if number == 0 or len(left.entries) == 1 and isinstance(left.entries[0], Response):
+            left.least = left.length
 
 
 def left_behind(folder: Path) -> Iterator[Left]:
@@ -215,7 +220,10 @@ def left_behind(folder: Path) -> Iterator[Left]:
             continue
         left = Left(lock_path.with_suffix(".journal"), lock)
         _read(left)
-        yield left
+        if left.is_foreign:
+            left.let_go()
+        else:
+            yield left
 
 
 class JournalFile:
@@ -242,7 +250,7 @@ class JournalFile:
         made = cls(left.path, left.lock, left.identity, durability)
         made._file = os.open(left.path, os.O_WRONLY | os.O_APPEND)
         os.ftruncate(made._file, left.length)
-        made._length = made._least = left.length
+        made._length, made._least = left.length, left.least
         made._is_torn = False
         return made
 

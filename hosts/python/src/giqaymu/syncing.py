@@ -70,7 +70,8 @@ class Syncer:
         self._is_stopped = False
         self._pushed: dict[str, int] = {}  # of each client, the highest ID that an answered push had
         self._sends_all = False
-        self._stalled = 0
+        self._oldest: tuple[str, int] | None = None  # the oldest pending mutation after the last pull
+        self._stalled = 0  # how many pulls in a row did not confirm it
         self.push_loop = Loop("push", self.push, options, debounce=push_delay)
         self.pull_loop = Loop("pull", self.pull, options, interval=pull_interval if puller else None)
 
@@ -136,12 +137,15 @@ class Syncer:
         assert poster is not None
         try:
             reply = self._authorized(poster, body)
+            if reply.status != 200:
+                raise Answered(what, reply.status, reply.body)
         except Offline:
             self._set_online(False)
             raise
-        if reply.status != 200:
+        except Exception as error:  # of a function of the program's own
             self._set_online(False)
-            raise Answered(what, reply.status, reply.body)
+            self._announcer.error(what, error)
+            raise Offline(f"{what}: {error!r}") from error
         self._set_online(True)
         return reply.body
 
@@ -167,7 +171,7 @@ class Syncer:
 
     def push(self) -> bool:
         """The job of the push's thread: whether it succeeded."""
-        if not self.can("push") or not self._kept.has_pending():
+        if not self.can("push") or self._kept.oldest() is None:
             return True
         try:
             body, last = self._push_body()
@@ -271,9 +275,10 @@ class Syncer:
 
     def _look_at_pending(self, pushed: dict[str, int]) -> None:
         """All is pushed again, ever later, where something is still pending whose push was answered before."""
-        pending = self._kept.pending()
+        oldest = self._kept.oldest()
         with self._lock:
-            if not pending or pending[0].id > pushed.get(pending[0].client, 0):
+            has_moved, self._oldest = oldest != self._oldest, oldest
+            if oldest is None or has_moved or oldest[1] > pushed.get(oldest[0], 0):
                 self._stalled = 0
                 return
             self._stalled += 1
