@@ -7,8 +7,8 @@ milliseconds behind each. The group is kept in FOLDER: a process that is killed 
 had pending. Each mutation `once` has an ID of its own, which is written to FOLDER/acknowledged when the call has
 returned: from then on it may not be lost.
 
-When nothing is pending the process prints `quiet`. At the next line of its standard input it pulls once more, and prints
-what it ends with as JSON: its rows, what is pending, and what was counted.
+When nothing is pending the process prints `quiet`. At the next line of its standard input it pulls once more, and
+prints what it ends with as JSON: its rows, what is pending, and what was counted.
 """
 
 from __future__ import annotations

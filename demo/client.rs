@@ -82,7 +82,7 @@ fn length_of(head: &str) -> Option<usize> {
     lines.find_map(|line| line.strip_prefix("content-length:")?.trim().parse().ok())
 }
 
-/// What the server answers; an error of `io` where it could not be reached, its response was lost or cut, or it was busy.
+/// What the server answers; an error of `io` where it was not reached or was busy, or its response was lost or cut.
 fn post(port: u16, path: &str, body: &[u8]) -> io::Result<Vec<u8>> {
     let mut server = TcpStream::connect(("127.0.0.1", port))?;
     server.set_read_timeout(Some(Duration::from_secs(5)))?;

@@ -52,7 +52,8 @@ class OwnPostgres:
         try:
             if self._user:
                 shutil.chown(self._room, **self._user)
-            self._run(programs / "initdb", "--no-sync", "--auth=trust", "-U", "postgres", "-E", "UTF8", "--locale=C.UTF-8")
+            options = ["--no-sync", "--auth=trust", "-U", "postgres", "-E", "UTF8", "--locale=C.UTF-8"]
+            self._run(programs / "initdb", *options)
             self._process = self._start(programs)
             self._wait_until_it_is_there()
         except BaseException:

@@ -10,7 +10,7 @@ from typing import Any
 
 import todo
 from giqaymu import Offline, PendingMutation, Refusal, Replicache, Reply, RequestOptions
-from giqaymu.transport import Http
+from giqaymu.http_transport import Http
 
 Json = Any
 

@@ -29,7 +29,7 @@ FREE = 20.0
 """How many seconds a transaction waits for one of them."""
 
 SCHEMA = """
-create table if not exists space (version bigint not null);
+create table if not exists space (version bigint not null, bytes bigint not null);
 create table if not exists entry (
     key {text} primary key, value text, version bigint not null  -- no value: the row is gone
 );
@@ -39,7 +39,7 @@ create table if not exists client (
     id text primary key, client_group text not null, last_id bigint not null, version bigint not null
 );
 create index if not exists client_version on client (client_group, version);
-insert into space select 0 where not exists (select 1 from space)
+insert into space select 0, 0 where not exists (select 1 from space)
 """
 """All tables. `text` is the type of a text that is ordered by its bytes in UTF-8."""
 

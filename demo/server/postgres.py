@@ -7,9 +7,9 @@ the same last ID, the second one waits at the first row that both write, and the
 - a writing transaction is SERIALIZABLE, and its first statement is `lock table space`. That takes no snapshot. The
   transaction's snapshot is taken by the statement behind it, when it has the lock: it sees what all writing ones before
   it committed. The lock is let go after the commit can be seen.
-- with the lock alone, pushes wait for each other in place of failing. SERIALIZABLE stands behind it: against a program
-  that writes these tables and doesn't take the lock, a transaction that would do a mutation twice fails (40001), and is
-  done again.
+- by the lock, pushes wait for each other in place of failing. SERIALIZABLE stands behind it: beside a program that
+  writes these tables and doesn't take the lock, a transaction that would do a mutation twice fails (40001), and is done
+  again. Reads take no lock that meets it; a VACUUM of `space`, a table of one row, does for a moment.
 - a reading one is REPEATABLE READ: one snapshot, which has all versions up to the one that it reads. It takes no lock.
 
 The disk. `synchronous_commit = on`: a commit returns when it is on the disk, where the server has not been told to do

@@ -19,6 +19,8 @@ MOST_KEY = 1024
 """How many bytes a key may have in UTF-8. PostgreSQL's index takes 2,704."""
 MOST_VALUE = 1 << 20
 """How many bytes a value's text may have."""
+AROUND = 32
+"""How many bytes of an operation are neither the key nor the value."""
 
 
 class Unreadable(ValueError):
@@ -43,6 +45,11 @@ def text_of(value: Json) -> str:
     if _bytes(text) > MOST_VALUE:
         raise Unreadable(f"a value has at most {MOST_VALUE} bytes")
     return text
+
+
+def size_of(key: str, text: str | None) -> int:
+    """How many bytes a patch has for the row, at the most; None: the row is gone, and a patch still tells that."""
+    return AROUND + _bytes(json.dumps(key, ensure_ascii=False)) + (0 if text is None else _bytes(text))
 
 
 def _bytes(text: str) -> int:

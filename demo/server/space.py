@@ -25,6 +25,8 @@ Json = Any
 
 BATCH = 200
 """How many mutations are done in one transaction."""
+MOST_BYTES = 64 << 20
+"""How many bytes all rows may have in a patch, since a client takes no response of any size."""
 
 log = logging.getLogger("server")
 
@@ -42,8 +44,11 @@ class StateNotFound(Exception):
 class Space:
     """The space of rows, and its client groups."""
 
-    def __init__(self, database: Database, mutators: Mapping[str, Mutator], counts: Counts) -> None:
-        self._database, self._mutators, self._counts = database, mutators, counts
+    def __init__(
+        self, database: Database, mutators: Mapping[str, Mutator], counts: Counts, most_bytes: int = MOST_BYTES
+    ) -> None:
+        """`most_bytes` is what all rows may have together, as patches tell them."""
+        self._database, self._mutators, self._counts, self._most_bytes = database, mutators, counts, most_bytes
 
     def push(self, push: Push) -> None:
         """Does the mutations that are new. Raises `BadRequest` and `StateNotFound`, where nothing was done."""
@@ -66,12 +71,13 @@ class Space:
         counts = Counter({"mutations seen again": len(batch) - len(new)})
         if not new:
             return counts
-        version = _next_version(sql)
-        rows = Rows(sql)
+        version, size = _next_version(sql)
+        rows = Rows(sql, size)
         for one in new:
             counts["mutations done" if self._run(rows, one) else "mutations refused"] += 1
             last[one.client] = one.id
         rows.write(version)
+        sql.do("update space set bytes = ?", rows.bytes)
         changed = sorted({one.client for one in new})
         sql.many(NEW_LAST_ID, [(client, group, last[client], version) for client in changed])
         self._database.committing(sql, version)
@@ -90,8 +96,7 @@ class Space:
         except Exception as refused:
             log.debug("%s refused: %r", mutation.name[:40], refused)
             return False
-        rows.keep(tx.writes)
-        return True
+        return rows.keep(tx.writes, self._most_bytes)
 
     def pull(self, pull: Pull) -> Json:
         """What changed since the cookie, as of one moment. Raises `StateNotFound`."""
@@ -156,10 +161,11 @@ def _version(sql: Statements) -> int:
     return int(row[0])
 
 
-def _next_version(sql: Statements) -> int:
-    row = sql.one("update space set version = version + 1 returning version")
+def _next_version(sql: Statements) -> tuple[int, int]:
+    """The version that the transaction makes, and how many bytes the rows have."""
+    row = sql.one("update space set version = version + 1 returning version, bytes")
     assert row is not None
-    return int(row[0])
+    return int(row[0]), int(row[1])
 
 
 def _changes(pull: Pull, sql: Statements) -> Json:

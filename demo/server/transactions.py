@@ -11,7 +11,7 @@ from collections.abc import Callable
 from typing import Any
 
 from .databases import Statements
-from .readable import key_of, text_of
+from .readable import key_of, size_of, text_of
 
 Json = Any
 
@@ -22,11 +22,16 @@ UPSERT = """
 
 
 class Rows:
-    """The rows that a batch reads and writes, as JSON texts; None: there is no row."""
+    """The rows that a batch reads and writes, as JSON texts; None: there is no row.
 
-    def __init__(self, sql: Statements) -> None:
+    `bytes` is the size of all rows of the space. Those that are gone count with their keys, since pulls tell of them.
+    """
+
+    def __init__(self, sql: Statements, size: int) -> None:
         self._sql = sql
+        self.bytes = size
         self._texts: dict[str, str | None] = {}
+        self._sizes: dict[str, int] = {}
         self._written: set[str] = set()
 
     def text(self, key: str) -> str | None:
@@ -34,12 +39,20 @@ class Rows:
         if key not in self._texts:
             row = self._sql.one("select value from entry where key = ?", key)
             self._texts[key] = None if row is None else row[0]
+            self._sizes[key] = 0 if row is None else size_of(key, row[0])
         return self._texts[key]
 
-    def keep(self, writes: dict[str, str | None]) -> None:
-        """What a mutator wrote that did not refuse."""
+    def keep(self, writes: dict[str, str | None], most: int) -> bool:
+        """Keeps what a mutator wrote, unless all rows would then have more than `most` bytes. Whether it did."""
+        sizes = {key: size_of(key, text) for key, text in writes.items()}
+        more = sum(size - self._sizes[key] for key, size in sizes.items())
+        if more > 0 and self.bytes + more > most:
+            return False
+        self.bytes += more
         self._texts.update(writes)
+        self._sizes.update(sizes)
         self._written.update(writes)
+        return True
 
     def write(self, version: int) -> None:
         """Writes what the batch wrote, at this version. A row that is gone stays without a value, to tell pulls."""
@@ -75,7 +88,8 @@ class WriteTransaction:
 
     def set(self, key: str, value: Json) -> None:
         """Puts a value at the key."""
-        self.writes[key_of(key)] = text_of(value)
+        self._text(key)  # so that its size is known
+        self.writes[key] = text_of(value)
 
     def delete(self, key: str) -> bool:
         """Takes the key out. Whether it was there."""

@@ -7,6 +7,7 @@
 
 What is wrong with a request is a 400 that says it, and changed nothing; a version that is not supported and a group
 that is not known are what Replicache's pages have, with the status 200. 503: the database did not do it, try again.
+500: a fault of the server, which its log has.
 
 It is Python's own server, with a thread for each connection. A program behind which there is a network puts a real one
 before it, with TLS, and with a limit on what one address may ask for.
@@ -14,6 +15,7 @@ before it, with TLS, and with a limit on what one address may ask for.
 
 from __future__ import annotations
 
+import contextlib
 import io
 import json
 import logging
@@ -86,7 +88,11 @@ class Server(ThreadingHTTPServer):
             self.counts.add("connections refused")
             self.shutdown_request(request)
             return
-        super().process_request(request, client_address)
+        try:
+            super().process_request(request, client_address)
+        except BaseException:
+            self._free.release()  # no thread was started
+            raise
 
     def process_request_thread(self, request: Any, client_address: Address) -> None:
         """The connection, on its thread."""
@@ -143,6 +149,12 @@ class Handler(BaseHTTPRequestHandler):
         except Answer as answer:
             self.close_connection = True  # the body may not have been read
             self._fails(answer.status, str(answer), f"requests of status {answer.status}")
+        except OSError:
+            raise  # the connection broke
+        except Exception:
+            log.exception("%s %s failed", self.command, self.path[:100])
+            self.close_connection = True
+            self._fails(500, "the server failed: its log says why", "requests that failed")
 
     def _fails(self, status: int, error: str, what: str) -> None:
         self.server.counts.add(what)
@@ -228,14 +240,12 @@ class Handler(BaseHTTPRequestHandler):
         self.end_headers()
         self.close_connection = True
         seen, told = pokes.count(), -1
-        while not self.server.losses.is_down:
-            version = self.server.space.version()
-            self.wfile.write(b"data: %d\n\n" % version if version != told else b": still here\n\n")
-            told = version
-            try:
+        with contextlib.suppress(EOFError, Unavailable):  # the client opens another one
+            while not self.server.losses.is_down:
+                version = self.server.space.version()
+                self.wfile.write(b"data: %d\n\n" % version if version != told else b": still here\n\n")
+                told = version
                 seen = pokes.wait(seen, HEARTBEAT)
-            except EOFError:
-                return
 
     # ---- trials
 

@@ -70,8 +70,8 @@ class Asked(Shown):
         for path, body in [
             ("/do", b"{"), ("/do", b"[]"), ("/do", good.replace(b'"A"', b'"X"')), ("/do", good.replace(b"add", b"set")),
             ("/do", good.replace(b'"milk"', b"7")), ("/do", good.replace(b"milk", b"m" * 201)), ("/do", b"x" * 5000),
-            ("/do", good.replace(b'"A"', b"[]")), ("/offline", b'{"side": 2, "offline": true}'), ("/lose", b'{"lose": "1"}'),
-            ("/nowhere", b"{}"),
+            ("/do", good.replace(b'"A"', b"[]")), ("/nowhere", b"{}"),
+            ("/offline", b'{"side": 2, "offline": true}'), ("/lose", b'{"lose": "1"}'),
         ]:
             self.assertEqual(self.status(path, body), 400, (path, body[:80]))
 

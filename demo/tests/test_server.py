@@ -66,12 +66,13 @@ def mutation(number: int, name: str = "count", args: Json = None, client: str = 
 
 
 def push_of(*mutations: Json, group: str = GROUP, **fields: Json) -> Json:
-    body = {"clientGroupID": group, "mutations": list(mutations), "profileID": "p", "pushVersion": 1, "schemaVersion": "1"}
-    return {**body, **fields}
+    versions = {"pushVersion": 1, "schemaVersion": "1"}
+    return {"clientGroupID": group, "mutations": list(mutations), "profileID": "p", **versions, **fields}
 
 
 def pull_of(cookie: Json, group: str = GROUP, **fields: Json) -> Json:
-    return {"clientGroupID": group, "cookie": cookie, "profileID": "p", "pullVersion": 1, "schemaVersion": "1", **fields}
+    versions = {"pullVersion": 1, "schemaVersion": "1"}
+    return {"clientGroupID": group, "cookie": cookie, "profileID": "p", **versions, **fields}
 
 
 def until(holds: Callable[[], bool]) -> bool:
@@ -213,21 +214,27 @@ class Cases(unittest.TestCase):
         bad = [
             (b"", "no JSON"), (b"\xff", "no JSON"), (b"[]", "no JSON object"), (b"[" * 200_000, "no JSON"),
             (b'{"a":NaN}', "no JSON"), (b'{"a":1' + b"0" * 9999 + b"}", "no JSON"),
-            (push_of(one, clientGroupID=7), "clientGroupID"), (push_of(one, clientGroupID=GROUP + "\n"), "clientGroupID"),
+            (push_of(one, clientGroupID=7), "clientGroupID"),
+            (push_of(one, clientGroupID=GROUP + "\n"), "clientGroupID"),
             (push_of(one, profileID=None), "profileID"), (push_of(one, pushVersion="1"), "pushVersion"),
             (push_of(one, schemaVersion=1), "schemaVersion"), (push_of(one, mutations={}), "mutations"),
             (push_of(7), "mutations[0]"), (push_of({**one, "id": True}), "mutations[0].id"),
             (push_of({**one, "id": 1.0}), "mutations[0].id"), (push_of({**one, "id": 0}), "mutations[0].id"),
-            (push_of({**one, "id": 2**60}), "mutations[0].id"), (push_of(one, {**one, "clientID": "x"}), "mutations[1].clientID"),
-            (push_of({**one, "name": None}), "mutations[0].name"), (push_of({**one, "name": "n" * 999}), "mutations[0].name"),
-            (push_of({**one, "timestamp": "1"}), "mutations[0].timestamp"), (push_of({"id": 1, "timestamp": 1}), "args"),
+            (push_of({**one, "id": 2**60}), "mutations[0].id"),
+            (push_of(one, {**one, "clientID": "x"}), "mutations[1].clientID"),
+            (push_of({**one, "name": None}), "mutations[0].name"),
+            (push_of({**one, "name": "n" * 999}), "mutations[0].name"),
+            (push_of({**one, "timestamp": "1"}), "mutations[0].timestamp"),
+            (push_of({"id": 1, "timestamp": 1}), "mutations[0].args"),
         ]
         for body, says in bad:
             with self.subTest(says=says, body=str(body)[:60]):
                 self.refused("/push", body, says)
         for cookie in ("1", -1, 1.5, True, {"order": 1}, 2**70):
             self.refused("/pull", pull_of(cookie), "cookie")
-        self.refused("/pull", {"pullVersion": 1, "profileID": "p", "schemaVersion": "1", "clientGroupID": GROUP}, "cookie")
+        without = pull_of(None)
+        del without["cookie"]
+        self.refused("/pull", without, "cookie is missing")
         self.refused("/nowhere", {}, "there is no POST", status=404)
         self.assertEqual(self.push(one), {})
 
@@ -257,9 +264,14 @@ class Cases(unittest.TestCase):
         deep: Json = 1
         for _ in range(125):
             deep = [deep]
-        wrong = [["a", 0.5], ["b", 1.0], ["c", [1e300]], ["d", 2**64], ["e", -(2**63) - 1], ["f", deep], ["g", "\ud800"],
-                 ["h", {"\udfff": 1}], ["\ud800", 1], ["i\0", 1], ["k" * 1025, 1], ["l", "x" * (1 << 20)], [7, 1], [None, 1]]
-        right = [["A", 2**64 - 1], ["B", -(2**63)], ["C", deep[0]], ["D", "\0\U0001f600\u2028"], ["é" * 512, None], ["", {"": []}]]
+        wrong: list[Json] = [
+            ["a", 0.5], ["b", 1.0], ["c", [1e300]], ["d", 2**64], ["e", -(2**63) - 1], ["f", deep], ["g", "\ud800"],
+            ["h", {"\udfff": 1}], ["\ud800", 1], ["i\0", 1], ["k" * 1025, 1], ["l", "x" * (1 << 20)], [7, 1], [None, 1],
+        ]
+        right: list[Json] = [
+            ["A", 2**64 - 1], ["B", -(2**63)], ["C", deep[0]], ["D", "\0\U0001f600\u2028"], ["é" * 512, None],
+            ["", {"": []}],
+        ]
         args = [pair for two in zip(wrong, right + wrong) for pair in two]
         self.push(*[mutation(n, "put", pair) for n, pair in enumerate(args, 1)])
         self.assertEqual(self.rows(), dict(right))
@@ -270,8 +282,10 @@ class Cases(unittest.TestCase):
         self.refused("/push", push_of(mutation(1, client=ANNA.upper().replace("0", "A"))), "clientID")
 
     def test_arguments_of_any_kind_stop_nobody(self) -> None:
-        kinds: list[Json] = [None, 7, "x", [], [1], {}, {"id": []}, {"id": "x"}, {"id": "x", "text": 0.5}, ["note/x"], [{}, {}],
-                             {"id": "\ud800", "text": ""}, ["log/x", None], True]
+        kinds: list[Json] = [
+            None, True, 7, "x", [], [1], {}, {"id": []}, {"id": "x"}, {"id": "x", "text": 0.5}, ["note/x"], [{}, {}],
+            {"id": "\ud800", "text": ""}, ["log/x", None],
+        ]
         n = 0
         for name in MUTATORS:
             for args in kinds:
@@ -279,6 +293,25 @@ class Cases(unittest.TestCase):
                 self.push(mutation(n, name, args))
         self.push(mutation(1, "add", {"id": "x", "text": "milk"}, client=BERT))
         self.assertIn("todo/x", Reader().pull(self.served))
+
+    def test_rows_never_are_more_than_a_client_takes(self) -> None:
+        space = Space(self.served.database, MUTATORS, Counts(), most_bytes=1000)
+
+        def does(number: int, name: str, args: Json) -> int:
+            space.push(Push(GROUP, [Mutation(ANNA, number, name, args)]))
+            return len(json.dumps(self.pull()["patch"], ensure_ascii=False, separators=(",", ":")))
+
+        sizes = [does(n, "put", [f"\1{n}", "x" * 100]) for n in range(1, 11)]
+        self.assertLess(max(sizes), 1000 + len('[{"op":"clear"},]'))
+        self.assertEqual(len(self.rows()), 6)
+        does(11, "put", ["\0011", "x" * 200])
+        self.assertEqual(self.rows()["\0011"], "x" * 200)
+        does(12, "put", ["\0011", "x" * 300])
+        self.assertEqual(self.rows()["\0011"], "x" * 200)
+        does(13, "take", "\0011")
+        does(14, "put", ["\0011", ""])
+        self.assertEqual(self.rows()["\0011"], "")
+        self.assertEqual(self.pull()["lastMutationIDChanges"], {ANNA: 14})
 
     # ---- at the same time
 
@@ -348,10 +381,12 @@ class Cases(unittest.TestCase):
 
     def test_requests_that_are_none(self) -> None:
         for head, status in [
-            (b"POST /push HTTP/1.1\r\n\r\n", b" 411 "), (b"POST /push HTTP/1.1\r\ncontent-length: -1\r\n\r\n", b" 411 "),
+            (b"POST /push HTTP/1.1\r\n\r\n", b" 411 "),
+            (b"POST /push HTTP/1.1\r\ncontent-length: -1\r\n\r\n", b" 411 "),
             (b"POST /push HTTP/1.1\r\ncontent-length: 99999999999\r\n\r\n", b" 413 "),
             (b"POST /push HTTP/1.1\r\ncontent-length: 9\r\n\r\n{}", b" 408 "), (b"BREW / HTTP/1.1\r\n\r\n", b" 501 "),
-            (b"POST /trial HTTP/1.1\r\ncontent-length: 11\r\n\r\n{\"lose\": 2}", b" 400 "), (b"\x00\xff\r\n\r\n", b"400"),
+            (b"POST /trial HTTP/1.1\r\ncontent-length: 11\r\n\r\n{\"lose\": 2}", b" 400 "),
+            (b"\x00\xff\r\n\r\n", b"400"),
         ]:
             with self.subTest(head=head):
                 self.assertIn(status, self.raw(head).partition(b"\r\n")[0] + b" ")
@@ -375,7 +410,7 @@ class Cases(unittest.TestCase):
 
 
 def push_twice_at_once(make: Callable[[Counts], Database]) -> int:
-    """Does the same push on two threads, where the second begins while the first runs its mutator: how often it is done."""
+    """Does a push on two threads, of which the second begins while the first runs its mutator: how often it is done."""
     inside, go_on = threading.Event(), threading.Event()
 
     def waits(tx: WriteTransaction, args: Json) -> None:
@@ -387,9 +422,8 @@ def push_twice_at_once(make: Callable[[Counts], Database]) -> int:
 
     databases = [make(Counts()) for _ in range(2)]
     push = Push(GROUP, [Mutation(ANNA, 1, "waits", None)])
-    threads = [
-        threading.Thread(target=Space(database, {"waits": waits}, Counts()).push, args=(push,)) for database in databases
-    ]
+    spaces = [Space(database, {"waits": waits}, Counts()) for database in databases]
+    threads = [threading.Thread(target=space.push, args=(push,)) for space in spaces]
     try:
         threads[0].start()
         inside.wait(WAIT)
