@@ -13,6 +13,8 @@ const SLOTS: u32 = 4096;
 const TODOS: u64 = 30;
 /// How long it takes where no slot is free, until a mutation is tried again.
 const FULL: Duration = Duration::from_millis(2);
+/// How long it takes after a request that was lost, until the next one.
+const LOST: Duration = Duration::from_millis(5);
 /// How long the syncing client stays offline at the most.
 const OFFLINE: Duration = Duration::from_millis(200);
 
@@ -129,6 +131,7 @@ fn sync(port: u16, place: &mut Place, counts: &mut Counts) -> Outcome<bool> {
     };
     if error.is::<io::Error>() {
         count(counts, "lost");
+        thread::sleep(LOST);
         return Ok(false);
     }
     match error.downcast_ref() {

@@ -1,4 +1,5 @@
-"""PostgreSQL, by psycopg2. Several servers may run over one database.
+"""PostgreSQL, by psycopg2. Several servers may run over one database, whose encoding is UTF8. They connect to it
+directly: behind a pooler that hands out transactions neither `listen` nor the settings of a connection hold.
 
 Isolation. A push reads the last ID of each client, and does what is new. Two requests with the same mutations come at
 the same time whenever a client sends again what it takes for lost. At READ COMMITTED, PostgreSQL's default, both read
@@ -93,6 +94,9 @@ class Postgres(Database):
         self._end, self._ends = socket.socketpair()  # who listens is woken by its end
         self._has_ended = threading.Event()
         self._listener: threading.Thread | None = None
+        encoding = self._again(("begin",), lambda sql: sql.one("show server_encoding"))
+        if encoding != ("UTF8",):
+            raise Unavailable(f"its encoding is {encoding}: make a database whose encoding is UTF8")
         self._again(("begin",), self._make_tables)
 
     def _connect(self) -> Connection:

@@ -162,9 +162,10 @@ class Handler(BaseHTTPRequestHandler):
 
     def _body(self) -> bytes:
         """The body, within its size and its time."""
-        length = self.headers.get("content-length", "")
+        lengths = self.headers.get_all("content-length", [])
+        length = lengths[0] if len(lengths) == 1 and "transfer-encoding" not in self.headers else ""
         if not (length.isascii() and length.isdigit() and len(length) < 20):
-            raise Answer(411, "a request has a content-length")
+            raise Answer(411, "a request has one content-length, and no transfer-encoding")
         if int(length) > MOST_BYTES:
             raise Answer(413, f"a body has at most {MOST_BYTES} bytes: push fewer mutations at a time")
         stream = cast(io.BufferedReader, self.rfile)

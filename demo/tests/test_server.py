@@ -383,6 +383,8 @@ class Cases(unittest.TestCase):
         for head, status in [
             (b"POST /push HTTP/1.1\r\n\r\n", b" 411 "),
             (b"POST /push HTTP/1.1\r\ncontent-length: -1\r\n\r\n", b" 411 "),
+            (b"POST /push HTTP/1.1\r\ncontent-length: 2\r\ncontent-length: 2\r\n\r\n{}", b" 411 "),
+            (b"POST /push HTTP/1.1\r\ncontent-length: 2\r\ntransfer-encoding: chunked\r\n\r\n{}", b" 411 "),
             (b"POST /push HTTP/1.1\r\ncontent-length: 99999999999\r\n\r\n", b" 413 "),
             (b"POST /push HTTP/1.1\r\ncontent-length: 9\r\n\r\n{}", b" 408 "), (b"BREW / HTTP/1.1\r\n\r\n", b" 501 "),
             (b"POST /trial HTTP/1.1\r\ncontent-length: 11\r\n\r\n{\"lose\": 2}", b" 400 "),
@@ -495,6 +497,13 @@ class OverPostgres(Cases):
         name = self.url.partition("///")[2].partition("?")[0]
         statement = f"select pg_terminate_backend(pid) from pg_stat_activity where datname = '{name}'"
         return len(self.postgres.statement(statement))
+
+    def test_a_database_of_another_encoding(self) -> None:
+        from server.postgres import Postgres
+
+        self.postgres.statement("create database latin template template0 encoding 'LATIN1' locale 'C'")
+        with self.assertRaisesRegex(Unavailable, "UTF8"):
+            Postgres(self.postgres.url("latin"), Counts())
 
     def test_the_obvious_port_does_it_twice(self) -> None:
         """The test of the test above: what PostgreSQL does by default."""
