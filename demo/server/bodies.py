@@ -65,7 +65,7 @@ def read_push(body: bytes, schemas: frozenset[str]) -> Push:
     """The push that the body says."""
     fields = _request(body, "push", schemas)
     mutations = _typed(fields, "mutations", list)
-    push = Push(_uuid(fields, "clientGroupID"), [_mutation(at, one) for at, one in enumerate(mutations)])
+    push = Push(uuid_in(fields, "clientGroupID"), [_mutation(at, one) for at, one in enumerate(mutations)])
     _check_order(push.mutations)
     return push
 
@@ -73,7 +73,7 @@ def read_push(body: bytes, schemas: frozenset[str]) -> Push:
 def read_pull(body: bytes, schemas: frozenset[str]) -> Pull:
     """The pull that the body says."""
     fields = _request(body, "pull", schemas)
-    group = _uuid(fields, "clientGroupID")
+    group = uuid_in(fields, "clientGroupID")
     if "cookie" not in fields:
         raise BadRequest("cookie is missing: null, or the cookie of the last pull")
     cookie = fields["cookie"]
@@ -123,7 +123,7 @@ def _mutation(at: int, fields: Json) -> Mutation:
         raise BadRequest(f"{place}.timestamp is no number")
     if "args" not in fields:
         raise BadRequest(f"{place}.args is missing")
-    client = _uuid(fields, "clientID", place + ".")
+    client = uuid_in(fields, "clientID", place + ".")
     return Mutation(client, number, _text(fields, "name", place + "."), fields["args"])
 
 
@@ -155,7 +155,8 @@ def _text(fields: dict[str, Json], name: str, place: str = "") -> str:
     return value
 
 
-def _uuid(fields: dict[str, Json], name: str, place: str = "") -> str:
+def uuid_in(fields: dict[str, Json], name: str, place: str = "") -> str:
+    """The UUID that a field is; `place` is what the field's name begins with in a fault."""
     value = fields.get(name)
     if not isinstance(value, str) or not UUID.fullmatch(value):
         raise BadRequest(f"{place}{name} is no UUID in lower case")

@@ -27,7 +27,7 @@ from collections.abc import Callable
 from http.server import BaseHTTPRequestHandler, ThreadingHTTPServer
 from typing import Any, cast
 
-from .bodies import MOST_BYTES, BadRequest, NotSupported, read_object, read_pull, read_push
+from .bodies import MOST_BYTES, BadRequest, NotSupported, read_object, read_pull, read_push, uuid_in
 from .databases import Counts, Unavailable
 from .losses import Losses
 from .pokes import Pokes
@@ -80,7 +80,16 @@ class Server(ThreadingHTTPServer):
         self.space, self.pokes, self.counts = space, pokes, counts
         self.schemas, self.authorization, self.on_trial = schemas, authorization, on_trial
         self.losses = Losses()
+        self._lock = threading.Lock()
+        self._version, self._version_at = 0, -1
         self.address = f"http://127.0.0.1:{self.server_address[1]}"
+
+    def version_at(self, count: int) -> int:
+        """The space's version after so many pokes. It is read once for all streams. Raises `Unavailable`."""
+        with self._lock:
+            if self._version_at != count:
+                self._version, self._version_at = self.space.version(), count
+            return self._version
 
     def process_request(self, request: Any, client_address: Address) -> None:
         """A thread for the connection, while there may be more of them."""
@@ -162,7 +171,7 @@ class Handler(BaseHTTPRequestHandler):
 
     def _body(self) -> bytes:
         """The body, within its size and its time."""
-        lengths = self.headers.get_all("content-length", [])
+        lengths: list[str] = self.headers.get_all("content-length", [])
         length = lengths[0] if len(lengths) == 1 and "transfer-encoding" not in self.headers else ""
         if not (length.isascii() and length.isdigit() and len(length) < 20):
             raise Answer(411, "a request has one content-length, and no transfer-encoding")
@@ -243,7 +252,7 @@ class Handler(BaseHTTPRequestHandler):
         seen, told = pokes.count(), -1
         with contextlib.suppress(EOFError, Unavailable):  # the client opens another one
             while not self.server.losses.is_down:
-                version = self.server.space.version()
+                version = self.server.version_at(seen)
                 self.wfile.write(b"data: %d\n\n" % version if version != told else b": still here\n\n")
                 told = version
                 seen = pokes.wait(seen, HEARTBEAT)
@@ -257,6 +266,6 @@ class Handler(BaseHTTPRequestHandler):
         words = read_object(self._body())
         self.server.losses.change(words)
         if "forget" in words:
-            self.server.space.forget(str(words["forget"]))
+            self.server.space.forget(uuid_in(words, "forget"))
         self._send(200, {})
         self.server.pokes.poke()  # a stream of a server that is down ends

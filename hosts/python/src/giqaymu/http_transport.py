@@ -43,7 +43,9 @@ class Http:
         """Posts the body."""
         words = dict(headers)
         try:
-            response = self._pool.request("POST", url, body=body, headers=words, preload_content=False, redirect=False)
+            # A response that breaks in the middle is none: urllib3 1 hands over what came of it unless it is told so.
+            options = {"preload_content": False, "redirect": False, "enforce_content_length": True}
+            response = self._pool.request("POST", url, body=body, headers=words, **options)
             try:
                 return Reply(response.status, _whole(response, self._options))
             except BaseException:
