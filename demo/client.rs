@@ -13,6 +13,8 @@ const SLOTS: u32 = 4096;
 const TODOS: u64 = 30;
 /// How long it takes where no slot is free, until a mutation is tried again.
 const FULL: Duration = Duration::from_millis(2);
+/// How long it takes after a request that was lost, until the next one.
+const LOST: Duration = Duration::from_millis(5);
 /// How long the syncing client stays offline at the most.
 const OFFLINE: Duration = Duration::from_millis(200);
 
@@ -76,7 +78,13 @@ fn count(counts: &mut Counts, what: &'static str) {
     }
 }
 
-/// What the server answers; an error of `io` where it could not be reached, or its response was lost.
+/// How many bytes the body of a response has, by its head.
+fn length_of(head: &str) -> Option<usize> {
+    let mut lines = head.lines().map(str::to_ascii_lowercase);
+    lines.find_map(|line| line.strip_prefix("content-length:")?.trim().parse().ok())
+}
+
+/// What the server answers; an error of `io` where it was not reached or was busy, or its response was lost or cut.
 fn post(port: u16, path: &str, body: &[u8]) -> io::Result<Vec<u8>> {
     let mut server = TcpStream::connect(("127.0.0.1", port))?;
     server.set_read_timeout(Some(Duration::from_secs(5)))?;
@@ -88,7 +96,11 @@ fn post(port: u16, path: &str, body: &[u8]) -> io::Result<Vec<u8>> {
         return Err(io::ErrorKind::UnexpectedEof.into());
     };
     let text = response.split_off(head + 4);
-    assert!(response.starts_with(b"HTTP/1.0 200 "), "{path}: {}", String::from_utf8_lossy(&text));
+    let head = String::from_utf8_lossy(&response);
+    if length_of(&head) != Some(text.len()) || head.split(' ').nth(1) == Some("503") {
+        return Err(io::ErrorKind::UnexpectedEof.into());
+    }
+    assert_eq!(head.split(' ').nth(1), Some("200"), "{path}: {}", String::from_utf8_lossy(&text));
     Ok(text)
 }
 
@@ -119,6 +131,7 @@ fn sync(port: u16, place: &mut Place, counts: &mut Counts) -> Outcome<bool> {
     };
     if error.is::<io::Error>() {
         count(counts, "lost");
+        thread::sleep(LOST);
         return Ok(false);
     }
     match error.downcast_ref() {

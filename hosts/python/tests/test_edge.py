@@ -9,8 +9,8 @@ import threading
 import unittest
 from pathlib import Path
 
-import giqaymu
-from giqaymu import Draft, Ended, Group, Json, Place, Refusal, Refuse, Version, Why
+from giqaymu import edge
+from giqaymu.edge import Draft, Ended, Group, Json, Place, Refusal, Refuse, Version, Why
 
 ID = "00000000-0000-4000-8000-000000000001"
 ANNA = "00000000-0000-4000-8000-00000000000a"
@@ -175,6 +175,13 @@ class Calls(unittest.TestCase):
             with self.assertRaises(ValueError):
                 Group(ID, **{name: 2**32}, **words)
 
+    def test_fresh_ids(self) -> None:
+        anna, bert = Group(ID, profile="p1", schema="s1", places=2).places
+        first, second = anna.sit(), bert.sit()
+        self.assertNotEqual(first, second)
+        anna.mutate("set", ["a", 1])
+        self.assertEqual(anna.pending(), [(first, 1, "set")])
+
     def test_closing(self) -> None:
         anna, bert = seated()
         anna.mutate("set", ["a", 1])
@@ -212,7 +219,7 @@ def fail(draft: Draft, args: Json) -> None:
 class OwnMutators(unittest.TestCase):
     """Mutators of the program's own."""
 
-    def seated(self, **mutators: giqaymu.Mutator) -> tuple[Place, Place]:
+    def seated(self, **mutators: edge.Mutator) -> tuple[Place, Place]:
         """Two places, a client at each."""
         own = {"note": note, "take": take, "fail": fail, **mutators}
         anna, bert = Group(ID, profile="p1", schema="s1", mutators=own, slots=16384, places=2).places
@@ -328,14 +335,14 @@ class Numbers(unittest.TestCase):
     """The names and numbers are those of the header."""
 
     def test_header(self) -> None:
-        header = Path(__file__).parent.parent.parent.joinpath("include", "giqaymu.h").read_text(encoding="utf-8")
+        header = Path(__file__).resolve().parents[3].joinpath("include", "giqaymu.h").read_text(encoding="utf-8")
         numbers = {name: int(number) for name, number in re.findall(r"\bGIQ_(\w+) = (-?\d+)", header)}
         self.assertEqual({why.name: why.value for why in Why}, {k: n for k, n in numbers.items() if n < 0})
-        calls = {f"CALL_{what.name}": what.value for what in giqaymu._What}
+        calls = {f"CALL_{what.name}": what.value for what in edge._What}
         self.assertEqual(calls, {k: n for k, n in numbers.items() if k.startswith("CALL_")})
         versions = {f"{v.name}_VERSION": v.value for v in Version}
         self.assertEqual(versions, {k: n for k, n in numbers.items() if k.endswith("_VERSION")})
-        self.assertIn(f"#define GIQ_STACK {giqaymu.STACK}\n", header)
+        self.assertIn(f"#define GIQ_STACK {edge.STACK}\n", header)
 
 
 if __name__ == "__main__":

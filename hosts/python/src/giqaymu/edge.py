@@ -13,7 +13,8 @@ or opens a socket. The program carries the bodies of requests and responses:
     anna.end_pull(ticket, post("/pull", ticket.body))
     anna.get("todo/x")
 
-The library is `hosts/out/libgiqaymu.so`, or the file that the variable GIQAYMU_LIBRARY names.
+The library is the file that the variable GIQAYMU_LIBRARY names, or else `libgiqaymu.so` beside this module, where the
+wheel has it, or else what `hosts/build` made in the tree that this module is read from.
 """
 
 from __future__ import annotations
@@ -26,8 +27,9 @@ import json
 import os
 import threading
 import time
+import uuid
 import weakref
-from collections.abc import Callable, Mapping
+from collections.abc import Callable, Iterator, Mapping
 from dataclasses import dataclass
 from pathlib import Path
 from types import TracebackType
@@ -37,6 +39,7 @@ __all__ = [
     "Draft",
     "Ended",
     "Group",
+    "Json",
     "Mutator",
     "Pending",
     "Place",
@@ -268,10 +271,18 @@ class _Told(NamedTuple):
     number: int
 
 
+def _library_file() -> Path:
+    here = Path(__file__).resolve()
+    inside = here.with_name("libgiqaymu.so")
+    built = here.parents[3] / "out" / "libgiqaymu.so"
+    if not inside.exists() and not built.exists():
+        raise FileNotFoundError(f"there is no {inside} and no {built}: run hosts/build, or set GIQAYMU_LIBRARY")
+    return inside if inside.exists() else built
+
+
 @functools.cache
 def _library() -> ctypes.CDLL:
-    built = Path(__file__).resolve().parent.parent / "out" / "libgiqaymu.so"
-    library = ctypes.CDLL(os.environ.get("GIQAYMU_LIBRARY", str(built)))
+    library = ctypes.CDLL(os.environ.get("GIQAYMU_LIBRARY") or str(_library_file()))
     text = [ctypes.c_char_p, ctypes.c_size_t]
     place, u32, u64 = ctypes.POINTER(_Handle), ctypes.c_uint32, ctypes.c_uint64
     library.giq_open.argtypes = [*text, *text, *text, *text, u32, u32, place, ctypes.c_size_t]
@@ -289,7 +300,8 @@ def _done(returned: int, code: int = 0) -> None:
         raise Refusal(Why(returned), code)
 
 
-def _json_bytes(value: Json) -> bytes:
+def json_bytes(value: Json) -> bytes:
+    """A value as compact JSON. ValueError where a number is none that JSON has."""
     return json.dumps(value, ensure_ascii=False, allow_nan=False, separators=(",", ":")).encode()
 
 
@@ -331,10 +343,17 @@ class Place:
         with self._lock:
             self._finish()
 
-    def sit(self, client: str) -> None:
-        """A client of this ID, a UUID, sits down."""
+    def sit(self, client: str | None = None) -> str:
+        """A client of this ID, a UUID, sits down, or one of a fresh ID. Answers the ID.
+
+        **An ID is for one life of a client**, unless its group was restored from what it was. A new group numbers the
+        client's mutations from 1 again. A server that has done ten of its earlier life skips the next ten as done, and
+        confirms them: they are lost, and no call says so.
+        """
+        client = str(uuid.uuid4()) if client is None else client
         self._call(_What.SIT, a=client.encode())
         self._client = object()
+        return client
 
     def leave(self) -> None:
         """The client leaves; its tickets and watches are given up, and what it made stays pending."""
@@ -418,8 +437,31 @@ class Place:
         What a mutator of the program's own raises is raised, and nothing was changed; but `Refuse` refuses, with
         `Why.REFUSED`. The timestamp is in milliseconds since 1970; without one it is now.
         """
+        return self.mutate_json(name, json_bytes(args), timestamp)
+
+    def mutate_json(self, name: str, args: bytes, timestamp: int | None = None) -> int:
+        """`mutate`, with arguments that are JSON already."""
         now = time.time_ns() // 1_000_000 if timestamp is None else _within("timestamp", timestamp, _MAX)
-        return self._change(_What.MUTATE, n=now, a=name.encode(), b=_json_bytes(args)).number
+        return self._change(_What.MUTATE, n=now, a=name.encode(), b=args).number
+
+    @contextlib.contextmanager
+    def look(self) -> Iterator[Draft]:
+        """The map as of one moment: that of a change which is given up at the end.
+
+        For groups whose mutators are the program's own: in others it is refused with `Why.NO_MUTATOR`. Where no slot
+        is free for the change it is refused with `Why.FULL`, and where the group is closed with `Why.CLOSED`.
+        """
+        with self._lock:
+            # Else each look of a client that made no mutation for long walks over all that is pending.
+            self.refresh()
+            if self._call(_What.MUTATE, b=b"null").returned != _ASKED:
+                raise Refusal(Why.NO_MUTATOR)
+            draft = Draft(self, rebase=False)
+            try:
+                yield draft
+            finally:
+                draft._place = None
+                self._call(_What.GIVE_UP)
 
     def push(self) -> bytes:
         """The body of a push of all that is pending in the group (version 1), also where nothing is.
@@ -503,7 +545,7 @@ class Draft:
 
     def put(self, key: str, value: Json) -> None:
         """Puts a value at the key."""
-        self._at()._call(_What.DRAFT_PUT, a=key.encode(), b=_json_bytes(value))
+        self._at()._call(_What.DRAFT_PUT, a=key.encode(), b=json_bytes(value))
 
     def delete(self, key: str) -> None:
         """Takes the key out, whether or not it was there."""
@@ -528,7 +570,8 @@ class Group:
     It is opened with its ID, a UUID, the profile ID and the schema version of its requests, 16 to 16,777,216 slots of
     some 80 bytes each, and 1 to 256 places. Its mutators are data (`rules`: `docs/RULES.md`; without them it has those
     of scripts alone), or functions of the program (`mutators`; then there are no others). A group never grows:
-    `docs/USING.md` says how many slots to ask for.
+    `docs/USING.md` says how many slots to ask for. It starts empty, so its clients need IDs that no group had before:
+    see `Place.sit`. `Replicache` has groups that grow and that outlive their process.
     """
 
     def __init__(
@@ -542,7 +585,7 @@ class Group:
         slots: int = 4096,
         places: int = 1,
     ) -> None:
-        texts = [group.encode(), profile.encode(), schema.encode(), b"" if rules is None else _json_bytes(rules)]
+        texts = [group.encode(), profile.encode(), schema.encode(), b"" if rules is None else json_bytes(rules)]
         given = [word for text in texts for word in (text, len(text))]
         handles = (_Handle * _within("places", places, 2**16))()
         own = 0 if mutators is None else 1

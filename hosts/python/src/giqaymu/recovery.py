@@ -1,0 +1,168 @@
+"""Sends what processes left that live no more, and listens for pokes: two threads that serve a group on the side."""
+
+from __future__ import annotations
+
+import json
+import logging
+import threading
+import time
+from pathlib import Path
+from typing import TYPE_CHECKING, Any
+
+from .callbacks import Announcer
+from .edge import json_bytes
+from .journal import State
+from .loops import RequestOptions
+from .store import Identity, Left, left_behind
+from .syncing import Syncer, error_in
+from .transport import Answered, Offline
+
+if TYPE_CHECKING:
+    from .http_transport import Stream
+
+Json = Any
+EVERY = 300.0
+"""After how many seconds the folder is looked at again, where nothing is left to do."""
+LASTS = 5.0
+"""A stream of pokes that lasted for more seconds is opened again at once."""
+log = logging.getLogger("giqaymu")
+
+
+class Recovery(threading.Thread):
+    """Pushes what is pending in groups that no process holds, and pulls, until all of it is confirmed: then they go.
+
+    It waits until the server can be reached: each group is locked while it is tried, and a process that opens then
+    should have it. So it is tried soon after the loops had an answer, again and ever later where it failed, and each
+    `EVERY` seconds.
+    """
+
+    def __init__(self, folder: Path, syncer: Syncer, announcer: Announcer, options: RequestOptions) -> None:
+        super().__init__(name="giqaymu-recover", daemon=True)
+        self._folder, self._syncer, self._announcer, self._options = folder, syncer, announcer, options
+        self._wake = threading.Event()
+        self._is_ended = False
+        syncer.on_online = self._wake.set
+
+    def end(self) -> None:
+        """No group is tried any more."""
+        self._is_ended = True
+        self._wake.set()
+
+    def run(self) -> None:
+        """The thread."""
+        delay = 0.0
+        while not self._is_ended and self._syncer.can("push") and self._syncer.can("pull"):
+            if not self._syncer.online:
+                self._wake.wait(EVERY)
+                self._wake.clear()
+            elif self._attempt():
+                delay = 0.0
+                self._wake.wait(EVERY)
+            else:
+                delay = min(self._options.max_delay, max(self._options.min_delay, 2 * delay))
+                self._wake.wait(delay)
+            self._wake.clear()
+
+    def _attempt(self) -> bool:
+        """Tries each group: whether nothing is left that could be sent."""
+        is_done = True
+        for left in left_behind(self._folder):
+            try:
+                is_gone = not self._is_ended and self._recovered(left)
+            except (Offline, OSError) as error:
+                is_gone = False
+                if not isinstance(error, Offline) or isinstance(error, Answered):
+                    self._announcer.error("recovery", error)
+            if not is_gone:
+                left.let_go()
+                is_done = False
+        return is_done
+
+    def _recovered(self, left: Left) -> bool:
+        """Whether its files are gone: all was confirmed, or it is kept aside."""
+        state = left.state()
+        if left.identity is not None and state.pending:
+            error = self._sent(left.identity, state)
+            if error is not None:
+                self._announcer.set_aside(left.set_aside(error, state.pending.values()))
+                return True
+            if state.pending:
+                return False
+            self._syncer.pull_loop.want(urgent=True)
+        aside = left.keep_damaged()
+        if aside is not None:
+            self._announcer.set_aside(aside)
+        left.remove()
+        return True
+
+    def _sent(self, identity: Identity, state: State) -> str | None:
+        """Pushes and pulls; what is confirmed is pending no more. The server's error, if it answered with one."""
+        head = {"clientGroupID": identity.group, "profileID": identity.profile, "schemaVersion": identity.schema}
+        mutations = [json.loads(mutation.text()) for mutation in state.pending.values()]
+        body = self._syncer.post("push", json_bytes({**head, "mutations": mutations, "pushVersion": 1}))
+        error, _ = error_in(body)
+        if error is None:
+            body = self._syncer.post("pull", json_bytes({**head, "cookie": state.cookie, "pullVersion": 1}))
+            error, _ = error_in(body)
+        if error is not None:
+            return error
+        confirmed = _confirmed(body)
+        for client, number in list(state.pending):
+            if number <= confirmed.get(client, 0):
+                del state.pending[client, number]
+        return None
+
+
+def _confirmed(body: bytes) -> dict[str, int]:
+    """The ids that a pull response confirms; `Answered` where it is none."""
+    try:
+        changes = json.loads(body)["lastMutationIDChanges"]
+        if all(type(last) is int for last in changes.values()):
+            return dict(changes)
+    except (ValueError, TypeError, KeyError, AttributeError, RecursionError):
+        pass
+    raise Answered("pull", 200, body)
+
+
+class Pokes(threading.Thread):
+    """Pulls whenever the server sends a line of data. A stream that broke is opened again, ever later."""
+
+    def __init__(self, url: str, syncer: Syncer, options: RequestOptions) -> None:
+        super().__init__(name="giqaymu-poke", daemon=True)
+        self._url, self._syncer, self._options = url, syncer, options
+        self._ending = threading.Event()
+        self._stream: Stream | None = None
+
+    def end(self) -> None:
+        """Breaks the stream, also where the thread waits for a line."""
+        self._ending.set()
+        stream = self._stream
+        if stream is not None:
+            stream.shut()
+
+    def run(self) -> None:
+        """The thread."""
+        delay = 0.0
+        while not self._ending.is_set() and self._syncer.can("pull"):
+            begun = time.monotonic()
+            try:
+                self._listen()
+            except Offline as lost:
+                log.info("pokes: %s", lost)
+            has_lasted = time.monotonic() - begun > LASTS
+            delay = self._options.min_delay if has_lasted else max(self._options.min_delay, 2 * delay)
+            self._ending.wait(min(self._options.max_delay, delay))
+
+    def _listen(self) -> None:
+        """Listens until the stream breaks."""
+        from .http_transport import Stream
+
+        self._stream = stream = Stream(self._url, self._syncer.headers())
+        try:
+            self._syncer.pull_loop.want(urgent=True)  # what was poked while nobody listened
+            while not self._ending.is_set():
+                if stream.next_is_event():
+                    self._syncer.pull_loop.want()
+        finally:
+            self._stream = None
+            stream.close()

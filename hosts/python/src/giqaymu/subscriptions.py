@@ -1,0 +1,213 @@
+"""Callbacks: subscriptions, watches, listeners, and what the loops have to tell.
+
+One thread calls them all, one at a time, so a callback may call anything of the layer, and makes the others wait. Who
+changes the group says which keys may have changed (None: any); the thread runs the queries anew that read one of them,
+and tells a result that differs from the last one. Changes that come while it works are looked at together.
+
+The condition `_wake` protects all fields, but `_told` of what is subscribed, which the thread alone uses. No callback
+and no query is called with it held.
+"""
+
+from __future__ import annotations
+
+import logging
+import threading
+from collections import deque
+from collections.abc import Callable
+from typing import Any, NamedTuple
+
+from .transactions import Query, ReadTransaction, Reads, is_touched
+
+Json = Any
+Ask = Callable[[Query, Reads | None], Json]
+"""Runs a query as of one moment, and remembers what it read."""
+log = logging.getLogger("giqaymu")
+
+
+class Diff(NamedTuple):
+    """One difference of a watch (Replicache: `Diff`): `op` is add, change or del; a value that is not there is None."""
+
+    op: str
+    key: str
+    old_value: Json
+    new_value: Json
+
+
+class Subscription:
+    """A query whose result is told whenever it differs."""
+
+    def __init__(
+        self,
+        query: Query,
+        on_data: Callable[[Json], None],
+        on_error: Callable[[Exception], None] | None,
+        is_equal: Callable[[Json, Json], bool],
+    ) -> None:
+        self._query, self._on_data, self._on_error, self._is_equal = query, on_data, on_error, is_equal
+        self._reads: Reads | None = None  # None: it was not told yet
+        self._told: Json = None
+
+    def tell(self, ask: Ask, keys: set[str] | None) -> None:
+        """Runs the query anew where these keys may change its result."""
+        if self._reads is not None and keys is not None and not is_touched(self._reads, keys):
+            return
+        reads: Reads = set()
+        try:
+            result = ask(self._query, reads)
+        except Exception as error:
+            if self._on_error is None:
+                raise
+            self._on_error(error)
+            return
+        is_first, self._reads = self._reads is None, reads
+        if is_first or not self._is_equal(self._told, result):
+            self._told = result
+            self._on_data(result)
+
+
+class Watch:
+    """The rows with a prefix, whose differences are told."""
+
+    def __init__(self, callback: Callable[[list[Diff]], None], prefix: str, *, tells_first: bool) -> None:
+        self._callback, self._prefix, self._tells_first = callback, prefix, tells_first
+        self._rows: dict[str, Json] | None = None
+
+    def tell(self, ask: Ask, keys: set[str] | None) -> None:
+        """Looks at these keys, or at all, and tells what differs."""
+        if self._rows is None:
+            diffs = self._all(ask, {})
+            if self._tells_first:
+                self._callback(diffs)
+            return
+        if keys is None:
+            diffs = self._all(ask, self._rows)
+        else:
+            diffs = self._some(ask, self._rows, {key for key in keys if key.startswith(self._prefix)})
+        if diffs:
+            self._callback(diffs)
+
+    def _all(self, ask: Ask, old: dict[str, Json]) -> list[Diff]:
+        self._rows = dict(ask(lambda tx: tx.scan(self._prefix), None))
+        return _diffs(old, self._rows)
+
+    def _some(self, ask: Ask, rows: dict[str, Json], keys: set[str]) -> list[Diff]:
+        if not keys:
+            return []
+
+        def values(tx: ReadTransaction) -> dict[str, Json]:
+            return {key: tx.get(key) for key in keys if tx.has(key)}
+
+        old = {key: rows[key] for key in keys if key in rows}
+        new: dict[str, Json] = ask(values, None)
+        for key in keys:
+            rows.pop(key, None)
+        rows.update(new)
+        return _diffs(old, new)
+
+
+def _diffs(old: dict[str, Json], new: dict[str, Json]) -> list[Diff]:
+    """What differs, in the order of the keys' UTF-8 bytes."""
+    diffs = [Diff("del", key, value, None) for key, value in old.items() if key not in new]
+    for key, value in new.items():
+        if key not in old:
+            diffs.append(Diff("add", key, None, value))
+        elif old[key] != value:
+            diffs.append(Diff("change", key, old[key], value))
+    return sorted(diffs, key=lambda diff: diff.key.encode())
+
+
+class Listener:
+    """A function that is called whenever something may have changed."""
+
+    def __init__(self, call: Callable[[], None]) -> None:
+        self._call = call
+
+    def tell(self, ask: Ask, keys: set[str] | None) -> None:
+        """Calls it."""
+        self._call()
+
+
+Subscribed = Subscription | Watch | Listener
+
+
+class Teller(threading.Thread):
+    """The thread that calls back."""
+
+    def __init__(self, ask: Ask) -> None:
+        super().__init__(name="giqaymu-tell", daemon=True)
+        self._ask = ask
+        self._wake = threading.Condition()
+        self._subscribed: list[Subscribed] = []
+        self._new: list[Subscribed] = []
+        self._keys: set[str] | None = set()
+        self._has_changed = False
+        self._calls: deque[Callable[[], None]] = deque()
+        self._ended = False
+
+    def add(self, one: Subscribed) -> Callable[[], None]:
+        """Tells it for the first time, soon, and from then on. What this answers ends that."""
+        with self._wake:
+            self._subscribed.append(one)
+            self._new.append(one)
+            self._wake.notify_all()
+
+        def end() -> None:
+            with self._wake:
+                if one in self._subscribed:
+                    self._subscribed.remove(one)
+
+        return end
+
+    def changed(self, keys: set[str] | None) -> None:
+        """These keys may have changed, or what is pending, or whether the client is online."""
+        # Who subscribes after this look is told what the map is by then.
+        if not self._subscribed:
+            return
+        with self._wake:
+            self._keys = None if keys is None or self._keys is None else self._keys | keys
+            self._has_changed = True
+            self._wake.notify_all()
+
+    def later(self, call: Callable[[], None]) -> None:
+        """Calls it on this thread."""
+        with self._wake:
+            self._calls.append(call)
+            self._wake.notify_all()
+
+    def end(self) -> None:
+        """Nothing more is called, but what is being called."""
+        with self._wake:
+            self._ended = True
+            self._wake.notify_all()
+
+    def run(self) -> None:
+        """The thread."""
+        while True:
+            with self._wake:
+                self._wake.wait_for(lambda: self._ended or self._has_changed or self._calls or self._new)
+                if self._ended:
+                    return
+                calls, new = list(self._calls), self._new
+                keys, has_changed = self._keys, self._has_changed
+                others = [one for one in self._subscribed if one not in new] if has_changed else []
+                self._calls.clear()
+                self._new, self._keys, self._has_changed = [], set(), False
+            for call in calls:
+                self._safely(call)
+            for one in new:
+                self._tell(one, None)
+            for one in others:
+                self._tell(one, keys)
+
+    def _tell(self, one: Subscribed, keys: set[str] | None) -> None:
+        with self._wake:
+            if one not in self._subscribed:
+                return
+        self._safely(lambda: one.tell(self._ask, keys))
+
+    def _safely(self, call: Callable[[], None]) -> None:
+        try:
+            call()
+        except Exception:
+            if not self._ended:
+                log.exception("a callback failed")
