@@ -4,8 +4,8 @@
     python3 figures.py [ROUNDS]
 
 Each round does the same with a place of a `Group` and with a client of `Replicache`, in turn, twenty calls at a time;
-the least counts. The layer has no server here: a push that is wanted is found to have nowhere to go. The idle process has a
-server, a store, a subscription and a stream of pokes.
+the least counts. The layer has no server here, so nothing is pushed meanwhile. The idle process has a server, a store, a
+subscription and a stream of pokes.
 """
 
 from __future__ import annotations
@@ -101,10 +101,9 @@ def queries() -> dict[str, tuple[float, float]]:
         place.mutate("put", {"id": f"{number:04}", "text": "t"})
         rep.mutate.put({"id": f"{number:04}", "text": "t"})
     try:
-        return {
-            "query of one get": seconds(lambda n: place.get("0500"), lambda n: rep.query(lambda tx: tx.get("0500"))),
-            "query of a scan of 100": seconds(lambda n: place.scan("00"), lambda n: rep.query(lambda tx: tx.scan("00"))),
-        }
+        get = seconds(lambda n: place.get("0500"), lambda n: rep.query(lambda tx: tx.get("0500")))
+        scan = seconds(lambda n: place.scan("00"), lambda n: rep.query(lambda tx: tx.scan("00")))
+        return {"query of one get": get, "query of a scan of 100": scan}
     finally:
         rep.close()
 
@@ -145,7 +144,8 @@ def main(rounds: str = "7") -> int:
             told(name, pair)
         for durability in ("write", "fsync"):
             with tempfile.TemporaryDirectory(dir=HERE) as folder:
-                told(f"store, {durability}", mutations("two gets and puts", {"store": folder, "durability": durability}))
+                words = {"store": folder, "durability": durability}
+                told(f"store, {durability}", mutations("two gets and puts", words))
     wrong = False
     for name, (library, ours) in best.items():
         most = MOST.get(name.split(",")[0].split(" ")[0]) if "scan" not in name else None

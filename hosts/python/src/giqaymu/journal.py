@@ -1,12 +1,12 @@
 """What a group is, as data: the entries by which an empty group becomes it.
 
 A group is its pulled map, its cookie, the confirmed ids of its clients, and its pending mutations. A rebase equals a
-replay from scratch. So a response that has the map, and then the pending mutations made again, give the group anew, with
-the same ids: these are the *shortest* entries. But a mutation that was done once may refuse by now, since the server's
-rows are others; it stays pending and changes nothing. Where mutators are the program's own it is made again by a run
-that does nothing. Rules can't be told to. So for rules the journal keeps the entries in the order in which they changed
-the group: played *as they were written* each mutation is run on the map that it was done on. They may be cut to the
-shortest where nothing is pending, or where somebody tried that these play.
+replay from scratch. So a response that has the map, and then the pending mutations made again, give the group anew,
+with the same ids: these are the *shortest* entries. But a mutation that was done once may refuse by now, since the
+server's rows are others; it stays pending and changes nothing. Where mutators are the program's own it is made again by
+a run that does nothing. Rules can't be told to. So for rules the journal keeps the entries in the order in which they
+changed the group: played *as they were written* each mutation is run on the map that it was done on. They may be cut to
+the shortest where nothing is pending, or where somebody tried that these play.
 
 No lock: the lock of the group's changes (`groups.py`) is held over each call.
 """
