@@ -116,6 +116,16 @@ class State:
         puts = [{"op": "put", "key": key, "value": value} for key, value in self.pulled.items()]
         return Response(self.cookie, dict(self.confirmed), [{"op": "clear"}, *puts])
 
+    def leaves_pending(self, response: Response) -> bool:
+        """Whether something will be pending when this response was applied."""
+        return any(number > response.confirmed.get(client, 0) for client, number in self.pending)
+
+    def snapshot(self) -> State:
+        """What is pulled by now, without what is pending."""
+        copy = State()
+        copy.pulled, copy.cookie, copy.confirmed = dict(self.pulled), self.cookie, dict(self.confirmed)
+        return copy
+
     def shortest(self) -> list[Entry]:
         """The shortest entries that make it."""
         pulled: list[Entry] = [] if self.cookie is None else [self.response()]
@@ -133,8 +143,8 @@ class Journal:
     def __init__(self, *, ordered: bool, entries: list[Entry] | None = None) -> None:
         self.state = State()
         self.ordered = ordered
-        self._base: list[Entry] | None = []
-        """What the group was when the entries were cut. None: a response of what is pulled now says it."""
+        self._base: State | None = State()
+        """What was pulled when the entries were cut. None: what is pulled now."""
         self._since: list[Entry] = []
         for entry in entries or []:
             if isinstance(entry, Mutation):
@@ -153,9 +163,8 @@ class Journal:
         if not self.ordered:
             self.state.apply(response)
             return
-        if self._base is None:
-            pulled: list[Entry] = [self.state.response()]
-            self._base = [] if self.state.cookie is None else pulled
+        if self._base is None and self.state.leaves_pending(response):
+            self._base = self.state.snapshot()
         self.state.apply(response)
         self._since.append(response)
         if not self.state.pending:
@@ -169,7 +178,7 @@ class Journal:
         """The entries as they were written, or the shortest where the order does not count."""
         if not self.ordered or self._base is None:
             return self.state.shortest()
-        return self._base + self._since
+        return self._base.shortest() + self._since
 
     def length(self) -> int:
         """How many entries were not cut."""
