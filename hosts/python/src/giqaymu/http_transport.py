@@ -65,7 +65,9 @@ class Http:
         self, answer: queue.SimpleQueue[Reply | Exception], url: str, body: bytes, headers: dict[str, str]
     ) -> None:
         try:
-            response = self._pool.request("POST", url, body=body, headers=headers, preload_content=False, redirect=False)
+            response = self._pool.request(
+                "POST", url, body=body, headers=headers, preload_content=False, redirect=False
+            )
             try:
                 answer.put(Reply(response.status, _whole(response, self._options)))
             except BaseException:
