@@ -274,6 +274,10 @@ static inline int32_t giq_open_places(const giq_opening *with, giq_place *places
 /* ---- a client */
 
 /* A client of this ID sits down. Its last id is the one that the group has, 0 where it has none.
+ *
+ * An ID is for one life of a client: take a new UUID each time, unless the group was restored to what it was. A new
+ * group numbers a client's mutations from 1, and a server skips those whose numbers it has seen of that ID: they would
+ * be confirmed and never done, without a word.
  * Refused: GIQ_BAD_UUID, GIQ_IN_USE, GIQ_BUSY, GIQ_GONE. */
 static inline int32_t giq_sit(giq_place *place, giq_bytes client, giq_answer *answer) {
     return giq_ask(place, GIQ_CALL_SIT, 0, 0, client, giq_nothing(), answer);
