@@ -2,7 +2,7 @@
 use Rattle.std.proofs.Common.{refl, ◌∙◌}
 use Rattle.group_history.proofs.Lists.{prefix_self, prefix_trans}
 use Rattle.head_word.specs.Marks.{Known}
-use Rattle.commit_graph.specs.Seats.{IsLater, IsSameSeat, Seated, HasLooked}
+use Rattle.commit_graph.specs.Seats.{IsLater, IsSameSeat, Seated}
 
 pub later-self : (m : Known) → IsLater m m
 later-self m = record { book = refl; seat = refl; seen = prefix_self m.log }
@@ -21,14 +21,4 @@ pub seat-trans : (a b c : Seated) → IsSameSeat a b → IsSameSeat b c → IsSa
 seat-trans a b c x y = record {
   table = y.table ∙ x.table;
   later = later-trans a.mark b.mark c.mark x.later y.later;
-}
-
-pub looked-trans : (reused : Type 0) (a b c : Seated) → HasLooked reused a b → HasLooked reused b c
-    → HasLooked reused a c
-looked-trans reused a b c x y = record {
-  seat = seat-trans a b c x.seat y.seat;
-  own = y.own ∙ x.own;
-  calm = λ r.
-      let v = x.calm r in let u = y.calm r in
-      (u.0 ∙ v.0, u.1 ∙ v.1, u.2 ∙ v.2, u.3 ∙ v.3);
 }

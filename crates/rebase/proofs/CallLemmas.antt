@@ -4,7 +4,7 @@ use Rattle.std.proofs.Common.{[], ◌∷◌, ◌++◌, length, map, filter, take
 use Rattle.std.proofs.Common.{refl, sym, ap, subst, ◌∙◌, arith, length-append}
 use Rattle.std.proofs.lemmas.List.{append-nil, take_more}
 use Rattle.std.proofs.lemmas.List.Elements.{filter-append}
-use Rattle.std.specs.Prelude.{IfOk, IfErr, IsOkAnd, MatchResult}
+use Rattle.std.specs.Prelude.{IfErr, IsOkAnd, MatchResult}
 use Rattle.std.specs.Borrow.{Bor}
 use mathlib.Core.List.{IsPrefix}
 use Rattle.group_history.specs.declared.changes.Change.{Change}
@@ -401,15 +401,3 @@ missing reused e (inr (inr busy)) = (
   ap is_resource_refusal busy.1,
   λ moved. let h : refusal.Busy ≡ refusal.Moved = sym busy.1 ∙ moved in cc h,
 )
-
--- of one reading
-pub queried : (reused : Type 0) (means : Meanings) (tries : ℕ) (old new : Known) (log : List Entry)
-    (r : Result Reply Refusal) (right : State → Result Replied Refusal) → IsPoint means old new None log
-    → IfOk r (λ x. right (after (record_of log)) ≡ Ok (reply_seen x))
-    → IfErr r (λ e. (e ≡ refusal.NoMemory) ⊎ IsStoreRefusal reused e)
-    → IsLinearized means tries old new (map_ok reply_seen r) no_change right
-queried reused means tries old new log (Ok x) right p ok err = (log, p, ok)
-queried reused means tries old new log (Err e) right p ok err =
-    let want = missing reused e err in
-    subst (λ b. IsRefused means tries old new b e None (λ s. right s ≡ Err e)) (sym want.0)
-    (p.moves ∙ append-nil (own_moves old), λ moved. absurd (want.1 moved))

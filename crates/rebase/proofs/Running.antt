@@ -1,7 +1,7 @@
 -- A change whose mutators the caller runs: how its call ends.
 use Rattle.std.proofs.Common.{◌≡◌, inl, inr, ℕ, ◌+◌, ◌∷◌, List, [], Option, Some, None, Result, Ok, Err, refl, sym}
 use Rattle.std.proofs.Common.{ap, subst, ◌∙◌, arith, reverse}
-use Rattle.std.specs.Prelude.{IfErr, IfOk, IfSome, IsSome}
+use Rattle.std.specs.Prelude.{IfErr}
 use Rattle.group_history.specs.declared.changes.Change.{Change}
 use Rattle.group_history.specs.declared.changes.Change.TheVariants.{Mutated, Pulled, Closed}
 use Rattle.group_history.specs.declared.mutations.Mutation.{Mutation}
@@ -19,7 +19,6 @@ use Rattle.group_history.specs.Cookies.{Cookie}
 use Rattle.group_history.specs.Map.{Bytes}
 use Rattle.group_history.specs.Meaning.{Meanings}
 use Rattle.group_history.specs.Mutating.{mutate_reply}
-use Rattle.group_history.specs.Pull.{Pull}
 use Rattle.group_history.specs.Pulling.{end_reply}
 use Rattle.group_history.specs.Record.{after}
 use Rattle.group_history.specs.Spelling.{Contents}
@@ -39,7 +38,7 @@ use Rattle.group_steps.specs.Causes.{HasCause}
 use Rattle.group_steps.specs.Changing.{ended_as, is_made}
 use Rattle.group_steps.specs.Leaving.{Frees}
 use Rattle.group_steps.specs.Missing.{map_ok}
-use Rattle.group_steps.specs.Proposing.{HasLast, asked_reply, change_asked}
+use Rattle.group_steps.specs.Proposing.{asked_reply, change_asked}
 use Rattle.group_steps.proofs.Making.{wanting}
 use Rattle.transactions.specs.Maps.{map_or}
 use Rattle.asked_steps.specs.Runs.{IsAskedRun, run_start}
@@ -175,20 +174,6 @@ pub progress_none : (means : Meanings) (reused : Type 0) (group : GroupId) (new 
 progress_none means reused group new tries last c (progress.Run a) is r = is.0.none r
 progress_none means reused group new tries last c (progress.Ended made) is r = (is.0 r).1
 
--- a mutation that is not refused is made
-pub found_some : (cs : Contents) (x : Mutation) (made : Result (Option Ref) Refusal) → IsFound cs (Mutated x) made
-    → IfOk made IsSome
-found_some cs x (Ok (Some at)) h = refl
-found_some cs x (Ok None) h = absurd h
-found_some cs x (Err e) h = tt
-
--- and where it stands, its id is its client's last one
-pub found_last : (cs : Contents) (x : Mutation) (made : Result (Option Ref) Refusal) → IsFound cs (Mutated x) made
-    → IfOk made (λ o. IfSome o (λ at. HasLast cs at (Mutated x)))
-found_last cs x (Ok (Some at)) h = h
-found_last cs x (Ok None) h = tt
-found_last cs x (Err e) h = tt
-
 -- CALLS THAT ARE REFUSED BEFORE THEY DID ANYTHING
 
 -- for want of memory
@@ -228,20 +213,6 @@ unread_call means reused tries before new k body e legal read stays moves mark =
     }
 
 -- ENDS OF PULLS
-
-pub pulled_ends : (means : Meanings) (reused : Type 0) (tries : ℕ) (before new : ClientState) (k : Cookie) (body : Bytes)
-    (r : Pull) (reply : Result Replied Refusal) → answer_to body ≡ Ok (response.Ok r)
-    → EndsCall means reused tries before new (Pulled k r) reply → EndsPull means reused tries before new k body reply
-pulled_ends means reused tries before new k body r reply read e = record {
-  answer = subst (λ (a : Result Response Refusal). IsLinearized means tries before.seat.mark new.seat.mark reply
-      (λ w. change_read k a (map_ok ended_in w)) (λ s. map_ok ended (a >>= end_reply s k.text))) (sym read) e.answer;
-  last = e.last;
-  acts = e.acts;
-  cause = subst (λ (a : Result Response Refusal). IfErr reply (HasCause means reused before.last (change_wanted k a)
-      before.seat new.seat)) (sym read) e.cause;
-  frees = subst (λ (a : Result Response Refusal). reused → Frees before.group.group.table.sizes.slots before.seat new.seat
-      (change_read k a (map_ok ended_in reply))) (sym read) e.frees;
-}
 
 pub closed_ends : (means : Meanings) (reused : Type 0) (tries : ℕ) (before new : ClientState) (k : Cookie) (body : Bytes)
     (reply : Result Replied Refusal) → answer_to body ≡ Ok response.StateNotFound

@@ -1,7 +1,7 @@
 -- One answer told as another.
 use Rattle.std.proofs.Common.{◌≡◌, ℕ, ◌+◌, ◌<◌, ◌^◌, Bool, true, false, Option, Some, None, Result, Ok, Err, refl, sym}
 use Rattle.std.proofs.Common.{ap, subst, ◌∙◌}
-use Rattle.std.specs.Prelude.{nat_eq, if◌then◌else◌, IfOk, IfSome, IsSome}
+use Rattle.std.specs.Prelude.{nat_eq, if◌then◌else◌}
 use Rattle.group_history.specs.declared.changes.Change.{Change}
 use Rattle.group_history.specs.declared.changes.Change.TheVariants.{Mutated, Pulled, Closed}
 use Rattle.group_history.specs.declared.mutations.Mutation.{Mutation}
@@ -18,17 +18,14 @@ use Rattle.group_history.specs.Mutating.{mutate_reply, by_meaning, open_reply}
 use Rattle.group_history.specs.Pull.{Pull}
 use Rattle.group_history.specs.Pulling.{end_reply}
 use Rattle.group_history.specs.Record.{after}
-use Rattle.group_history.specs.Refs.{stamp_of}
-use Rattle.group_history.specs.Spelling.{Contents}
 use Rattle.group_history.specs.State.{State, last_id, view_of}
 use Rattle.head_word.specs.Books.{record_of}
 use Rattle.head_word.specs.Marks.{Known}
-use Rattle.commit_graph.specs.LastIds.{last_at}
 use Rattle.answered.specs.Answered.{IsLinearized, IsPoint, IsRefused, is_resource_refusal}
 use Rattle.answered.specs.Changes.{change_applied, change_closing, change_made}
 use Rattle.group_steps.specs.Missing.{map_ok}
 use Rattle.group_steps.specs.Changing.{ended_as, is_made}
-use Rattle.group_steps.specs.Proposing.{HasLast, asked_reply, change_asked, closing_reply, is_applied}
+use Rattle.group_steps.specs.Proposing.{asked_reply, change_asked, closing_reply, is_applied}
 use Rattle.rebase.specs.Inside.Made.{closing_ended}
 
 -- a value
@@ -111,16 +108,6 @@ never_same means s last x h = told_all (mutate_reply means s last x) h
 
 -- WHAT IS MADE OF IT
 
--- a mutation that is not refused is made
-pub next_there : (means : Meanings) (tries : ℕ) (old new : Known) (last : ℕ) (x : Mutation)
-    (made : Result (Option Ref) Refusal) → IsLinearized means tries old new (map_ok is_made made) (change_asked
-    (Mutated x))
-    (λ s. asked_reply means s last (Mutated x))
-    → IfOk made IsSome
-next_there means tries old new last x (Ok (Some at)) is = refl
-next_there means tries old new last x (Ok None) is = absurd (never_same means (after (record_of is.0)) last x is.2)
-next_there means tries old new last x (Err e) is = tt
-
 -- and answered by its id
 pub next_told : (means : Meanings) (tries : ℕ) (old new : Known) (last : ℕ) (x : Mutation)
     (made : Result (Option Ref) Refusal) → IsLinearized means tries old new (map_ok is_made made) (change_asked
@@ -136,17 +123,6 @@ next_told means tries old new last x (Err e) is =
     refuses_as means tries old new e (change_asked (Mutated x)) (change_made x)
     (λ s. asked_reply means s last (Mutated x)) (λ s. mutate_reply means s last x) refl refl
     (λ s h. told_refused (λ (id : ℕ). true) (mutate_reply means s last x) e h) is
-
--- where it stands, its id is the last one of its client
-pub next_found : (cs : Contents) (client : Bytes) (last : ℕ) (x : Mutation) (made : Result (Option Ref) Refusal)
-    → x.client ≡ client → x.id ≡ last + 1 → IfOk made (λ o. IfSome o (λ at. HasLast cs at (Mutated x)))
-    → IfOk made (λ o. IfSome o (λ at. (last_at cs (stamp_of at) client ≡ Some (last + 1)) × (last + 1 < 2 ^ 53)))
-next_found cs client last x (Ok (Some at)) own next has = (
-  subst (λ (w : Bytes). last_at cs (stamp_of at) w ≡ Some (last + 1)) own (has.0 ∙ ap Some next),
-  subst (λ (n : ℕ). n < 2 ^ 53) next has.1,
-)
-next_found cs client last x (Ok None) own next has = tt
-next_found cs client last x (Err e) own next has = tt
 
 -- a pull is ended as its commit stands there or not
 pub pull_told : (means : Meanings) (tries : ℕ) (old new : Known) (last : ℕ) (t : Cookie) (r : Pull)
