@@ -4,13 +4,14 @@
     python3 figures.py [ROUNDS]
 
 Each round does the same with a place of a `Group` and with a client of `Replicache`, in turn, twenty calls at a time;
-the least counts. The layer has no server here: a push that is wanted is found to have nowhere to go. The idle process has a
-server, a store, a subscription and a stream of pokes.
+the least counts. The layer has no server here, so nothing is pushed meanwhile. The idle process has a server, a store, a
+subscription and a stream of pokes.
 """
 
 from __future__ import annotations
 
 import gc
+import json
 import os
 import sys
 import tempfile
@@ -23,7 +24,7 @@ from typing import Any
 HERE = Path(__file__).resolve().parent
 sys.path[:0] = [str(HERE), str(HERE.parent / "src")]
 import todo  # noqa: E402
-from giqaymu import Group, Replicache  # noqa: E402
+from giqaymu import Group, Replicache, Reply  # noqa: E402
 from server import Server  # noqa: E402
 
 SLICES, SLICE = 50, 20
@@ -101,10 +102,30 @@ def queries() -> dict[str, tuple[float, float]]:
         place.mutate("put", {"id": f"{number:04}", "text": "t"})
         rep.mutate.put({"id": f"{number:04}", "text": "t"})
     try:
-        return {
-            "query of one get": seconds(lambda n: place.get("0500"), lambda n: rep.query(lambda tx: tx.get("0500"))),
-            "query of a scan of 100": seconds(lambda n: place.scan("00"), lambda n: rep.query(lambda tx: tx.scan("00"))),
-        }
+        get = seconds(lambda n: place.get("0500"), lambda n: rep.query(lambda tx: tx.get("0500")))
+        scan = seconds(lambda n: place.scan("00"), lambda n: rep.query(lambda tx: tx.scan("00")))
+        return {"query of one get": get, "query of a scan of 100": scan}
+    finally:
+        rep.close()
+
+
+def pause(rows: int, pending: int) -> float:
+    """How long a group of so many rows and pending mutations takes to grow."""
+    patch = [{"op": "put", "key": f"{number:06}", "value": {"text": "t" * 30}} for number in range(rows)]
+
+    def puller(body: bytes, headers: dict[str, str]) -> Reply:
+        new = patch if json.loads(body)["cookie"] is None else []
+        return Reply(200, json.dumps({"cookie": 1, "lastMutationIDChanges": {}, "patch": new}).encode())
+
+    rep = layer(mutators={"once": todo.once}, puller=puller)
+    try:
+        rep.pull(now=True).result(60)
+        for number in range(pending):
+            rep.mutate.once(number)
+        begun = time.perf_counter()
+        with rep._kept._lock:
+            rep._kept._grow()
+        return time.perf_counter() - begun
     finally:
         rep.close()
 
@@ -145,12 +166,16 @@ def main(rounds: str = "7") -> int:
             told(name, pair)
         for durability in ("write", "fsync"):
             with tempfile.TemporaryDirectory(dir=HERE) as folder:
-                told(f"store, {durability}", mutations("two gets and puts", {"store": folder, "durability": durability}))
+                words = {"store": folder, "durability": durability}
+                told(f"store, {durability}", mutations("two gets and puts", words))
     wrong = False
     for name, (library, ours) in best.items():
         most = MOST.get(name.split(",")[0].split(" ")[0]) if "scan" not in name else None
         wrong |= most is not None and ours / library > most
         print(f"{name}: library {library * 1e6:.1f} us, layer {ours * 1e6:.1f} us, ratio {ours / library:.2f}")
+    for rows, pending in ((1000, 100), (20_000, 1000)):
+        least = min(pause(rows, pending) for _ in range(3))
+        print(f"a group of {rows} rows and {pending} pending mutations grows: {least * 1e3:.0f} ms")
     share = idle(5.0)
     print(f"idle: {share * 1e6:.0f} us of processor time a second")
     return 1 if wrong or share > 0.001 else 0

@@ -4,8 +4,8 @@
     python3 sessions.py SESSIONS [FIRST]
 
 A session is 40 steps: mutations of up to three clients, pulls that put, delete and confirm at random, and processes
-that end and open the group again: its rows, its pending mutations with their arguments, its cookie and its ID have to be
-what they were, by the library and by the journal. Half of the sessions have mutators of their own, half have rules;
+that end and open the group again: its rows, its pending mutations with their arguments, its cookie and its ID have to
+be what they were, by the library and by the journal. Half of the sessions have mutators of their own, half have rules;
 groups begin with 16 slots and grow, and files are written anew from 2,000 bytes on. Many of the pending mutations
 refuse by the time at which they are restored. It prints what was counted; a difference ends it with status 1.
 """
@@ -172,10 +172,10 @@ def main(sessions: str = "400", first: str = "0") -> int:
                 raise
             finally:
                 session.clients[0].close()
-    print(f"{sessions} sessions: {counts['restarts']} restarts, {counts['mutations']} mutations, {counts['pending']} pending"
-          f" ones restored, {counts['refusing']} runs that refused by then, {counts['played as written']} times played as"
-          f" written, {counts['written anew']} files written anew, {counts['grown']} grown groups: no difference,"
-          f" {time.monotonic() - begun:.0f} s")
+    print(f"{sessions} sessions: {counts['restarts']} restarts, {counts['mutations']} mutations, {counts['pending']}"
+          f" pending ones restored, {counts['refusing']} runs that refused by then, {counts['played as written']} times"
+          f" played as written, {counts['written anew']} files written anew, {counts['grown']} grown groups: no"
+          f" difference, {time.monotonic() - begun:.0f} s")
     return 0
 
 

@@ -2,14 +2,16 @@
 
 from __future__ import annotations
 
+import contextlib
 import json
+import socket
 import threading
 import time
 from typing import Any
 from unittest import mock
 
 import todo
-from giqaymu import Answered, Closed, Diff, Offline, Refusal, Reply, RequestOptions, UpdateNeeded, Why
+from giqaymu import Answered, Closed, Diff, Offline, Refusal, Reply, RequestOptions, UpdateNeeded, Why, replicache
 from support import QUICK, WithServer, rows
 
 
@@ -66,7 +68,8 @@ class Calls(WithServer):
             with self.assertRaises(RuntimeError):
                 call()
         anna.mutate.once("x")
-        self.assertEqual(anna.query(lambda tx: (tx.get("n/x"), tx.is_empty(), tx.client_id)), (1, False, anna.client_id))
+        told = anna.query(lambda tx: (tx.get("n/x"), tx.is_empty(), tx.client_id))
+        self.assertEqual(told, (1, False, anna.client_id))
 
     def test_clients(self) -> None:
         anna = self.rep(clients=2, pusher=offline)
@@ -304,6 +307,7 @@ class Requests(WithServer):
         told: list[int] = []
         anna = self.rep(on_client_state_not_found=lambda: told.append(1))
         anna.mutate.once("x")
+        anna.pull(now=True).result(5)
         self.quiet(anna)
         self.server.space.forget(anna.client_group_id)
         anna.pull(now=True)
@@ -357,6 +361,39 @@ class Requests(WithServer):
         self.assertIn("max_bytes", str(told.exception))
         self.assertEqual((rows(anna), errors), ({}, []))
 
+    def test_a_response_that_drips_has_an_end(self) -> None:
+        dripping = socket.create_server(("127.0.0.1", 0))
+        self.addCleanup(dripping.close)
+
+        def drip() -> None:
+            with contextlib.suppress(OSError):
+                while True:
+                    connection, _ = dripping.accept()
+                    connection.recv(65536)
+                    for byte in b"HTTP/1.1 200 OK\r\ncontent-length: 1000\r\n\r\n" + b" " * 1000:
+                        connection.send(bytes([byte]))
+                        time.sleep(0.05)
+
+        threading.Thread(target=drip, daemon=True).start()
+        url = f"http://127.0.0.1:{dripping.getsockname()[1]}/pull"
+        anna = self.rep(pull_url=url, request_options=RequestOptions(60.0, 60.0, timeout=0.3))
+        anna.pull(now=True)
+        with self.assertRaises(Offline) as told:
+            anna._shared.syncer.post("pull", b"{}")
+        self.assertIn("no whole response in 0.3 seconds", str(told.exception))
+
+    def test_close_gives_requests_up(self) -> None:
+        silent = socket.create_server(("127.0.0.1", 0))
+        self.addCleanup(silent.close)
+        anna = self.rep(pull_url=f"http://127.0.0.1:{silent.getsockname()[1]}/pull")
+        threads = list(anna._shared._threads)
+        time.sleep(0.05)
+        begun = time.monotonic()
+        with mock.patch.object(replicache, "JOIN", 0.2):
+            anna.close()
+        self.assertLess(time.monotonic() - begun, 1.0)
+        self.assertFalse([thread.name for thread in threads if thread.is_alive()])
+
     def test_losses(self) -> None:
         self.server.lose, self.server.cut = 0.15, 0.1
         reps = [self.rep(pull_interval=0.1) for _ in range(3)]
@@ -398,9 +435,11 @@ class Requests(WithServer):
             return Reply(200, b"{}")
 
         anna = self.rep(pusher=pusher)
+        anna.pull(now=True).result(5)
         anna.mutate.once("x")
         self.quiet(anna)
         self.assertGreater(len(lost), 1)
+        self.assertEqual(self.server.space.values()["n/x"], 1)
 
     def test_a_mutator_that_raises_in_a_rebase(self) -> None:
         errors: list[Any] = []
@@ -431,17 +470,19 @@ class Requests(WithServer):
             number = 0
             while not stop.is_set():
                 number += 1
-                anna.mutate.once(number % 10)
-                time.sleep(0.001)
+                clients[number % 3].mutate.once(number % 10)
 
-        thread = threading.Thread(target=work)
-        thread.start()
+        clients = [anna, anna.client(), anna.client()]
+        threads = [threading.Thread(target=work) for _ in range(3)]
+        for thread in threads:
+            thread.start()
         self.server.space.do("add", {"id": "x", "text": "milk"})
         try:
             anna.pull(now=True).result(10)
         finally:
             stop.set()
-            thread.join()
+            for thread in threads:
+                thread.join()
         self.assertIn("todo/x", rows(anna))
 
     def test_an_interrupt_behind_a_change(self) -> None:

@@ -260,7 +260,8 @@ class Recovered(WithServer):
         anna = self.rep(store=self.store, pusher=offline, puller=offline, schema_version="1")
         anna.mutate.once("x")
         anna.close()
-        bodies = [b"nonsense", b"[]", b'{"lastMutationIDChanges":{"x":"y"}}', b'{"lastMutationIDChanges":7}', b"[" * 10**5]
+        bodies = [b"nonsense", b"[]", b'{"lastMutationIDChanges":{"x":"y"}}', b'{"lastMutationIDChanges":7}',
+                  b"[" * 100_000]
         errors: list[str] = []
         sent: list[bytes] = []
 
@@ -380,6 +381,47 @@ class Disk(WithServer):
         self.holds(lambda: {path.name for path in self.store.iterdir()}
                    == {"b.damaged", f"{anna.client_group_id}.lock", f"{anna.client_group_id}.journal"})
         self.assertEqual([one.path.name for one in aside], ["b.damaged"])
+
+    def test_a_file_of_another_version_is_left_alone(self) -> None:
+        anna = self.rep(store=self.store, pusher=offline, puller=offline)
+        anna.mutate.once("x")
+        anna.close()
+        head, *lines = self.file(anna).read_bytes().split(b"\n")
+        head = store._line(head[9:].replace(b'"giqaymu":1', b'"giqaymu":2'))[:-1]
+        self.file(anna).write_bytes(b"\n".join([head, *lines]))
+        again = self.rep(store=self.store)
+        again.mutate.once("y")
+        self.quiet(again)
+        again.close()
+        self.assertNotEqual(again.client_group_id, anna.client_group_id)
+        self.assertEqual(self.file(anna).read_bytes().split(b"\n")[0], head)
+
+    def test_a_file_stays_short_over_many_processes(self) -> None:
+        sizes = []
+        with mock.patch.object(store, "LONG", 2000):
+            for _ in range(30):
+                anna = self.rep(store=self.store, durability="write")
+                for number in range(5):
+                    anna.mutate.once(number)
+                    anna.push(now=True).result(5)
+                    anna.pull(now=True).result(5)
+                self.quiet(anna)
+                anna.close()
+                sizes.append(self.file(anna).stat().st_size)
+        self.assertLess(max(sizes), 10_000)
+
+    def test_a_sync_behind_a_failed_one_says_nothing(self) -> None:
+        anna = self.rep(store=self.store, pusher=offline, puller=offline)
+        anna.mutate.once("x")
+        file = anna._kept._file
+        assert file is not None
+        with mock.patch.object(store.os, "fdatasync", side_effect=OSError(5, "on purpose")):
+            with self.assertRaises(OSError):
+                file.settle(file._written + 1)
+        with self.assertRaises(OSError):
+            file.settle(file._written + 1)
+        anna.mutate.once("y")  # goes to a new file
+        file.settle(file._written)
 
     def test_nothing_made_leaves_nothing(self) -> None:
         anna = self.rep(store=self.store, pusher=offline, puller=offline)

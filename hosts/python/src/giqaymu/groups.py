@@ -1,10 +1,11 @@
 """A group that grows, and that outlives its process: the library's group, its journal, and who may change them when.
 
-`gate` is the lock of changes. A mutation holds it from the run of its mutator until its entry is in the journal, so the
-journal has the group's order. With rules an end of a pull, one call of the library, holds it as well. Where mutators
-are the program's own, an end of a pull runs them for all that is pending, which may take seconds: it takes the gate
-when it is recorded, and earlier if mutations made it begin anew too often. So mutations don't wait for a rebase, and
-can't put it off for ever. The order between a mutation and a response does not count there (`journal.py`).
+`_gate` is the lock of changes, and `_turn` a turnstile before it, which a pull holds while it waits for the gate: so it
+gets there, however fast mutations come. A mutation holds the gate from the run of its mutator until its entry is in the
+journal, so the journal has the group's order. With rules an end of a pull, one call of the library, holds it as well.
+Where mutators are the program's own, an end of a pull runs them for all that is pending, which may take seconds: it
+takes the gate when it is recorded, and earlier if mutations made it begin anew too often. So mutations don't wait for a
+rebase, and can't put it off for ever. The order between a mutation and a response does not count there (`journal.py`).
 
 A library's group never grows. Where a change is refused with `Full` a group of twice the slots is opened, what the
 journal has is played in it, and it takes the other's place: with the gate held, by the thread that met it, and not
@@ -14,8 +15,8 @@ A query is as of one moment. It reads at once, and that counts where no change w
 flags `_mutating` and `_pulling` are set before the counts `_mutations` and `_pulls` are raised, and these before the
 library is called. Else it reads again, in a change that is given up, or with rules with the gate held.
 
-Locks are taken in this order: the gate, then a place's. The pull's thread has its own place's when it takes the gate;
-no other thread calls that place.
+Locks are taken in this order: the turnstile, the gate, a place's. The pull's thread has its own place's when it takes
+the gate; no other thread calls that place.
 """
 
 from __future__ import annotations
@@ -42,6 +43,7 @@ TRIES = 50
 WAIT = 60.0
 """How many seconds a change or a query waits for a pull that ends on another thread, at the most."""
 AGAIN = (Why.MOVED, Why.BUSY, Why.GONE)
+LOST = "the server does not know the group any more: open a new one"
 ALONE = "a query or a mutator calls its transaction alone, not a client"
 CUT = 1000
 """From how many entries on a journal of rules is tried for whether it may be cut."""
@@ -91,6 +93,7 @@ class KeptGroup:
         self.journal.state.forget_quiet()
         self.on_mutation: Callable[[set[str] | None], None] = lambda keys: None
         """Called after each mutation, with the keys that it may have changed; None: any."""
+        self._turn = threading.Lock()
         self._lock = threading.Lock()
         self._gate = threading.Condition(self._lock)
         self._on_error = on_error
@@ -177,7 +180,7 @@ class KeptGroup:
         if self._is_closed:
             raise Closed("the group is closed")
         if self._is_lost:
-            raise Closed("the server does not know the group any more: open a new one")
+            raise Closed(LOST)
         if seat is not None and seat.has_left:
             raise Closed("the client has left")
 
@@ -190,6 +193,8 @@ class KeptGroup:
         text = json_bytes(args)
         now = time.time_ns() // 1_000_000
         result, keys, failed, number, mark = None, None, None, 0, 0
+        with self._turn:
+            pass  # a pull that waits for the gate is let by
         with self._lock:
             try:
                 number = self._made(seat, name, text, now)
@@ -254,6 +259,8 @@ class KeptGroup:
                 self._grow()
             elif not self._gate.wait_for(lambda: not self._pulling, WAIT):
                 raise refusal
+        elif refusal.why is Why.CLOSED:
+            raise Closed(LOST) from refusal
         elif refusal.why not in AGAIN:
             raise refusal
 
@@ -352,7 +359,8 @@ class KeptGroup:
     def _hold(self) -> None:
         """The pull's thread takes the gate, until the pull has ended."""
         if not self._holds:
-            self._lock.acquire()
+            with self._turn:
+                self._lock.acquire()
             self._holds = True
 
     def _record(self, response: Response) -> set[str] | None:
@@ -371,7 +379,7 @@ class KeptGroup:
     def _shorten(self) -> None:
         journal = self.journal
         if journal.ordered and journal.length() >= self._next_cut:
-            with contextlib.suppress(Unplayable, TooLarge):
+            with contextlib.suppress(Unplayable, Refusal):
                 self._player.opened(journal.state.shortest(), self._opened.slots)
                 journal.cut()
             self._next_cut = max(CUT, 2 * journal.length())

@@ -1,6 +1,6 @@
 """How requests are sent where the program sends none itself: HTTP by `urllib3`.
 
-Nothing that comes over a socket is trusted: the size of a response is bounded and its time is, a line of a stream is
+Nothing that comes over a socket is trusted: the size of a response is bounded and so is its time, a line of a stream is
 bounded too, and what a body says is judged by who reads it. The pool makes no retries and follows no redirects: the
 loops try again. This module is imported where a client has a URL, so that programs without one don't need `urllib3`.
 """
@@ -9,7 +9,9 @@ from __future__ import annotations
 
 import contextlib
 import os
+import queue
 import socket
+import threading
 import time
 from collections.abc import Mapping
 from typing import Protocol
@@ -30,34 +32,59 @@ LINE = 1 << 12
 class Http:
     """A transport over one pool of connections, which are kept.
 
-    `timeout` bounds the wait for a connection and each read, and is looked at after each 65,536 bytes of a body: a
-    server that sends a byte now and then can make a request last longer, up to its size.
+    Each request is made on a thread of its own, a daemon, so that the wait for it has an end whatever the server, the
+    names' resolver or the network does: after `timeout` seconds in all it is given up, and its response is nobody's.
+    `_lock` protects `_waiting`, by which `close` ends all waits.
     """
 
     def __init__(self, options: RequestOptions) -> None:
         self._options = options
         timeout = urllib3.Timeout(connect=min(CONNECT, options.timeout), read=options.timeout)
         self._pool = urllib3.PoolManager(retries=False, timeout=timeout, maxsize=4)
+        self._lock = threading.Lock()
+        self._waiting: set[queue.SimpleQueue[Reply | Exception]] = set()
 
     def __call__(self, url: str, body: bytes, headers: Mapping[str, str]) -> Reply:
         """Posts the body."""
-        words = dict(headers)
+        answer: queue.SimpleQueue[Reply | Exception] = queue.SimpleQueue()
+        with self._lock:
+            self._waiting.add(answer)
+        words = answer, url, body, dict(headers)
+        threading.Thread(target=self._post, args=words, name="giqaymu-post", daemon=True).start()
+        try:
+            got = answer.get(timeout=self._options.timeout)
+        except queue.Empty:
+            got = Offline(f"{url}: no whole response in {self._options.timeout} seconds (RequestOptions.timeout)")
+        with self._lock:
+            self._waiting.discard(answer)
+        if isinstance(got, Exception):
+            raise got
+        return got
+
+    def _post(
+        self, answer: queue.SimpleQueue[Reply | Exception], url: str, body: bytes, headers: dict[str, str]
+    ) -> None:
         try:
             # A response that breaks in the middle is none: urllib3 1 hands over what came of it unless it is told so.
             options = {"preload_content": False, "redirect": False, "enforce_content_length": True}
-            response = self._pool.request("POST", url, body=body, headers=words, **options)
+            response = self._pool.request("POST", url, body=body, headers=headers, **options)
             try:
-                return Reply(response.status, _whole(response, self._options))
+                answer.put(Reply(response.status, _whole(response, self._options)))
             except BaseException:
                 response.close()
                 raise
             finally:
                 response.release_conn()
         except (urllib3.exceptions.HTTPError, OSError) as lost:
-            raise Offline(f"{url}: {lost}") from lost
+            answer.put(Offline(f"{url}: {lost}"))
+        except Exception as error:
+            answer.put(error)
 
     def close(self) -> None:
-        """Closes the connections that nobody uses."""
+        """Ends all waits, and closes the connections that nobody uses."""
+        with self._lock:
+            for answer in self._waiting:
+                answer.put(Offline("the client was closed"))
         self._pool.clear()
 
 

@@ -1,12 +1,12 @@
 """What a group is, as data: the entries by which an empty group becomes it.
 
 A group is its pulled map, its cookie, the confirmed ids of its clients, and its pending mutations. A rebase equals a
-replay from scratch. So a response that has the map, and then the pending mutations made again, give the group anew, with
-the same ids: these are the *shortest* entries. But a mutation that was done once may refuse by now, since the server's
-rows are others; it stays pending and changes nothing. Where mutators are the program's own it is made again by a run
-that does nothing. Rules can't be told to. So for rules the journal keeps the entries in the order in which they changed
-the group: played *as they were written* each mutation is run on the map that it was done on. They may be cut to the
-shortest where nothing is pending, or where somebody tried that these play.
+replay from scratch. So a response that has the map, and then the pending mutations made again, give the group anew,
+with the same ids: these are the *shortest* entries. But a mutation that was done once may refuse by now, since the
+server's rows are others; it stays pending and changes nothing. Where mutators are the program's own it is made again by
+a run that does nothing. Rules can't be told to. So for rules the journal keeps the entries in the order in which they
+changed the group: played *as they were written* each mutation is run on the map that it was done on. They may be cut to
+the shortest where nothing is pending, or where somebody tried that these play.
 
 No lock: the lock of the group's changes (`groups.py`) is held over each call.
 """
@@ -116,6 +116,16 @@ class State:
         puts = [{"op": "put", "key": key, "value": value} for key, value in self.pulled.items()]
         return Response(self.cookie, dict(self.confirmed), [{"op": "clear"}, *puts])
 
+    def leaves_pending(self, response: Response) -> bool:
+        """Whether something will be pending when this response was applied."""
+        return any(number > response.confirmed.get(client, 0) for client, number in self.pending)
+
+    def snapshot(self) -> State:
+        """What is pulled by now, without what is pending."""
+        copy = State()
+        copy.pulled, copy.cookie, copy.confirmed = dict(self.pulled), self.cookie, dict(self.confirmed)
+        return copy
+
     def shortest(self) -> list[Entry]:
         """The shortest entries that make it."""
         pulled: list[Entry] = [] if self.cookie is None else [self.response()]
@@ -133,8 +143,8 @@ class Journal:
     def __init__(self, *, ordered: bool, entries: list[Entry] | None = None) -> None:
         self.state = State()
         self.ordered = ordered
-        self._base: list[Entry] | None = []
-        """What the group was when the entries were cut. None: a response of what is pulled now says it."""
+        self._base: State | None = State()
+        """What was pulled when the entries were cut. None: what is pulled now."""
         self._since: list[Entry] = []
         for entry in entries or []:
             if isinstance(entry, Mutation):
@@ -153,9 +163,8 @@ class Journal:
         if not self.ordered:
             self.state.apply(response)
             return
-        if self._base is None:
-            pulled: list[Entry] = [self.state.response()]
-            self._base = [] if self.state.cookie is None else pulled
+        if self._base is None and self.state.leaves_pending(response):
+            self._base = self.state.snapshot()
         self.state.apply(response)
         self._since.append(response)
         if not self.state.pending:
@@ -169,7 +178,7 @@ class Journal:
         """The entries as they were written, or the shortest where the order does not count."""
         if not self.ordered or self._base is None:
             return self.state.shortest()
-        return self._base + self._since
+        return self._base.shortest() + self._since
 
     def length(self) -> int:
         """How many entries were not cut."""

@@ -33,8 +33,8 @@ class Closed(Exception):
 class RequestOptions:
     """How requests are made (Replicache: `requestOptions`, whose delays are milliseconds). In seconds.
 
-    `timeout` is the most that a connection (5 seconds at the most) and each read of a response wait, and the most that
-    a response's body takes in all. A response of more than `max_bytes` is none.
+    A request that took `timeout` is given up, and so is a connection that isn't made in 5 seconds. A response of more
+    than `max_bytes` is none.
     """
 
     min_delay: float = 0.030

@@ -57,7 +57,9 @@ class Inside(threading.local):
 class Runs(dict[str, edge.Mutator]):
     """The program's mutators, as the library calls them."""
 
-    def __init__(self, mutators: Mapping[str, Mutator], inside: Inside, on_error: Callable[[str, Exception], None]) -> None:
+    def __init__(
+        self, mutators: Mapping[str, Mutator], inside: Inside, on_error: Callable[[str, Exception], None]
+    ) -> None:
         super().__init__({name: self._bound(name, mutator) for name, mutator in mutators.items()})
         self.result: Json = None
         """What the last first run answered."""

@@ -52,31 +52,32 @@ class Recovery(threading.Thread):
         """The thread."""
         delay = 0.0
         while not self._is_ended and self._syncer.can("push") and self._syncer.can("pull"):
-            if not self._syncer.online:
-                self._wake.wait(EVERY)
-                self._wake.clear()
-            elif self._attempt():
+            if not self._syncer.online or self._attempt():
                 delay = 0.0
-                self._wake.wait(EVERY)
             else:
                 delay = min(self._options.max_delay, max(self._options.min_delay, 2 * delay))
-                self._wake.wait(delay)
+            self._wake.wait(delay or EVERY)
             self._wake.clear()
 
     def _attempt(self) -> bool:
-        """Tries each group: whether nothing is left that could be sent."""
+        """Tries each group, until the server can't be reached: whether nothing is left that could be sent."""
         is_done = True
         for left in left_behind(self._folder):
-            try:
-                is_gone = not self._is_ended and self._recovered(left)
-            except (Offline, OSError) as error:
-                is_gone = False
-                if not isinstance(error, Offline) or isinstance(error, Answered):
-                    self._announcer.error("recovery", error)
-            if not is_gone:
+            if not self._try(left):
                 left.let_go()
                 is_done = False
+            if self._is_ended or not self._syncer.online:
+                return False
         return is_done
+
+    def _try(self, left: Left) -> bool:
+        """Whether its files are gone."""
+        try:
+            return self._recovered(left)
+        except Exception as error:
+            if not isinstance(error, Offline) or isinstance(error, Answered):
+                self._announcer.error("recovery", error)
+            return False
 
     def _recovered(self, left: Left) -> bool:
         """Whether its files are gone: all was confirmed, or it is kept aside."""
@@ -96,16 +97,17 @@ class Recovery(threading.Thread):
         return True
 
     def _sent(self, identity: Identity, state: State) -> str | None:
-        """Pushes and pulls; what is confirmed is pending no more. The server's error, if it answered with one."""
+        """Pushes and pulls; what is confirmed is pending no more. The server's error, where it is one for ever."""
         head = {"clientGroupID": identity.group, "profileID": identity.profile, "schemaVersion": identity.schema}
         mutations = [json.loads(mutation.text()) for mutation in state.pending.values()]
-        body = self._syncer.post("push", json_bytes({**head, "mutations": mutations, "pushVersion": 1}))
-        error, _ = error_in(body)
-        if error is None:
-            body = self._syncer.post("pull", json_bytes({**head, "cookie": state.cookie, "pullVersion": 1}))
+        bodies = {"push": {"mutations": mutations, "pushVersion": 1}, "pull": {"cookie": state.cookie, "pullVersion": 1}}
+        for what, words in bodies.items():
+            body = self._syncer.post(what, json_bytes({**head, **words}))
             error, _ = error_in(body)
-        if error is not None:
-            return error
+            if error in ("ClientStateNotFound", "VersionNotSupported"):
+                return error
+            if error is not None:
+                raise Answered(what, 200, body)
         confirmed = _confirmed(body)
         for client, number in list(state.pending):
             if number <= confirmed.get(client, 0):

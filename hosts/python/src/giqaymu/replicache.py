@@ -102,7 +102,7 @@ class _Shared:
         self.syncer = Syncer(self.kept, self.announcer, options, **syncing)
         self.kept.on_mutation = self._mutated if self.syncer.can("push") else self.teller.changed
         self.at_end: Callable[[], None] = lambda: None
-        """Called when the threads have ended."""
+        """Ends requests that are under way."""
         self._is_closed = False
         self._lock = threading.Lock()
         self._others: list[Recovery | Pokes] = []
@@ -168,12 +168,16 @@ class _Shared:
         self.syncer.push_loop.end()
         self.syncer.pull_loop.end()
         self.teller.end()
-        end = time.monotonic() + JOIN
+        self._join(JOIN)
+        self.at_end()  # ends the requests that are still under way
+        self._join(JOIN / 4)
+        self.kept.close()
+
+    def _join(self, seconds: float) -> None:
+        end = time.monotonic() + seconds
         for thread in self._threads:
             if thread is not threading.current_thread():
                 thread.join(max(0.0, end - time.monotonic()))
-        self.kept.close()
-        self.at_end()
 
 
 class Replicache:
@@ -202,10 +206,10 @@ class Replicache:
     - `pull_interval` (pullInterval, 60): a pull is made after so long without one; None: never.
     - `push_delay` (pushDelay, 0.010): so long a push waits for more mutations.
     - `request_options` (requestOptions): delays after failures, time and size of a response.
-    - `pusher`, `puller`: functions that send a body in place of `push_url` and `pull_url`. `transport`: one that posts to
-      any URL, in place of urllib3.
-    - `store` (Replicache: `name`, in IndexedDB): a folder where the group outlives the process. A folder is for one user
-      and one server. None: the group lives in memory.
+    - `pusher`, `puller`: functions that send a body in place of `push_url` and `pull_url`. `transport`: one that posts
+      to any URL, in place of urllib3.
+    - `store` (Replicache: `name`, in IndexedDB): a folder where the group outlives the process. A folder is for one
+      user and one server. None: the group lives in memory.
     - `durability` (not Replicache's): `fsync` or `write`: what a mutation has reached when it returns (`store.py`).
     - `clients`: how many clients may be open at once. `slots`: with how many the group begins; it grows.
 
@@ -368,8 +372,8 @@ class Replicache:
     def close(self) -> None:
         """Ends the group with all its clients (Replicache: `close`, a promise).
 
-        Waits for what goes on, two seconds at the most. What is pending is lost without a store; with one the next
-        process has it.
+        Waits two seconds for what goes on, and then gives it up. What is pending is lost without a store; with one the
+        next process has it.
         """
         self._shared.close()
 

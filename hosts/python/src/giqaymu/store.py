@@ -1,19 +1,19 @@
 """Groups on the disk: a folder in which a group outlives its process.
 
-A process has two files of a group in the folder. `GROUP.lock` it holds by `flock` while it lives. `GROUP.journal` has a
-line for the group's head, and one for each entry that changed it (`journal.py`): eight hexadecimal digits, the CRC-32 of
-what follows, a blank, and JSON. Reading stops at the first line that is not so: what was being written when its process
-died was not acknowledged. From time to time the file is written anew and renamed over (`GROUP.new` until then).
+A process has two files of a group in the folder. `GROUP.lock` it holds by `flock` while it lives. `GROUP.journal` has
+a line for the group's head, and one for each entry that changed it (`journal.py`): eight hexadecimal digits, the CRC-32
+of what follows, a blank, and JSON. Reading stops at the first line that is not so: what was being written when its
+process died was not acknowledged. From time to time the file is written anew and renamed over (`GROUP.new` until then).
 
 What `flock` gives: the kernel lets go of the lock when the last copy of its file descriptor is closed, so however the
 process ends, by `kill -9` too. A child that was forked and didn't exec has a copy, and holds the lock on. It is advice
 between processes that use this module, on one machine: keep the folder on a local file system.
 
-What `fsync` gives: with durability `fsync` an entry is on the disk before it is acknowledged, as far as the file system
-and the disk do what they say. After an `fdatasync` that failed nobody knows which pages of the file are on the disk, and
-Linux may call them clean: so the file is not used any more, and the journal goes on in a new one. With `write` an entry
-is the kernel's: a process that is killed loses nothing, a machine that loses its power may. Killing processes was
-tried; a loss of power was not.
+What `fsync` gives: with durability `fsync` an entry is on the disk before it is acknowledged, as far as the file
+system and the disk do what they say. After an `fdatasync` that failed nobody knows which pages of the file are on the
+disk, and Linux may call them clean: so the file is not used any more, and the journal goes on in a new one. With
+`write` an entry is the kernel's: a process that is killed loses nothing, a machine that loses its power may. Killing
+processes was tried; a loss of power was not.
 
 The lock of the group's changes (`groups.py`) is held over each call of a `JournalFile` but `settle`. That has a lock of
 its own, so that threads which wait for the disk share one `fdatasync` while others append.
@@ -193,7 +193,7 @@ class Left:
 def _read(left: Left) -> None:
     """Reads the journal, as far as its lines are whole."""
     data = left.path.read_bytes() if left.path.exists() else b""
-    *lines, cut = data.split(b"\n")
+    *lines, _ = data.split(b"\n")
     for number, line in enumerate(lines):
         try:
             value = _value(line)
@@ -260,10 +260,9 @@ class JournalFile:
         Raises OSError where it could not be written. Then the file is cut back, since behind a torn line nothing is
         read, and the next entry writes the whole group anew: `whole` answers all of its entries, this one too.
         """
-        if self._file < 0 and self._lock < 0:
-            raise OSError("the journal is closed")
         if self._is_torn:
             return self.replace(whole())
+        self._check_open()
         data = line_of(entry)
         try:
             _write(self._file, data)
@@ -281,6 +280,7 @@ class JournalFile:
 
     def replace(self, whole: Iterable[Entry]) -> int:
         """Writes the group to a new file, which takes the old one's place as a whole. Answers as `append` does."""
+        self._check_open()
         data = b"".join([_head_line(self._identity), *map(line_of, whole)])
         new = self._path.with_suffix(".new")
         file = os.open(new, os.O_CREAT | os.O_TRUNC | os.O_WRONLY | os.O_APPEND, 0o600)
@@ -305,6 +305,10 @@ class JournalFile:
         self._is_torn = False
         return self._written
 
+    def _check_open(self) -> None:
+        if self._lock < 0:
+            raise OSError("the journal is closed: another process may have it")
+
     def _sync_folder(self) -> None:
         """Else the new name may not outlive a loss of power."""
         if self._durability == "fsync":
@@ -321,6 +325,8 @@ class JournalFile:
         with self._syncing:
             if self._synced >= mark or self._file < 0:
                 return
+            if self._is_torn:
+                raise OSError("an earlier write or sync failed")  # a sync that succeeds now says nothing of that
             written = self._written
             try:
                 os.fdatasync(self._file)

@@ -22,7 +22,7 @@ from .callbacks import Announcer, UpdateNeeded
 from .edge import Ended, Refusal, Version, Why, json_bytes
 from .groups import AGAIN, KeptGroup
 from .loops import Closed, Loop, RequestOptions
-from .transport import Answered, Offline, Reply, Transport
+from .transport import Answered, Offline, Reply
 
 Json = Any
 
@@ -36,10 +36,9 @@ MOST_REST = 2.0
 
 log = logging.getLogger("giqaymu")
 
-
 Poster = Callable[[bytes, dict[str, str]], Reply]
-"""Sends a body with these headers (Replicache: `Pusher`, `Puller`). It raises `Offline`, and may be called by two threads
-at the same time."""
+"""Sends a body with these headers (Replicache: `Pusher`, `Puller`). It raises `Offline` where no whole response came, and
+may be called by two threads at the same time."""
 
 
 class Syncer:
@@ -70,23 +69,20 @@ class Syncer:
         self._is_stopped = False
         self._pushed: dict[str, int] = {}  # of each client, the highest ID that an answered push had
         self._sends_all = False
-        self._oldest: tuple[str, int] | None = None  # the oldest pending mutation after the last pull
-        self._stalled = 0  # how many pulls in a row did not confirm it
+        self._stalled = 0  # how many pulls in a row did not confirm the oldest pending mutation
         self.push_loop = Loop("push", self.push, options, debounce=push_delay)
         self.pull_loop = Loop("pull", self.pull, options, interval=pull_interval if puller else None)
-
-    # ---- what is told
 
     def _set_online(self, online: bool) -> None:
         with self._lock:
             if self.online == online:
                 return
             self.online = online
+            self._announcer.online(online)
         if online:
             self.push_loop.hurry()
             self.pull_loop.hurry()
             self.on_online()
-        self._announcer.online(online)
 
     @contextlib.contextmanager
     def _sync(self) -> Iterator[None]:
@@ -246,6 +242,7 @@ class Syncer:
         """The job of the pull's thread: whether it succeeded."""
         if not self.can("pull"):
             return True
+        oldest = self._kept.oldest()
         with self._lock:
             pushed = dict(self._pushed)
         try:
@@ -261,7 +258,7 @@ class Syncer:
             return self._lost("pull", lost)
         if ended is Ended.APPLIED:
             self._announcer.changed(keys)
-        self._look_at_pending(pushed)
+        self._look_at_pending(pushed, oldest)
         return True
 
     def _answered_pull(self) -> bytes:
@@ -273,15 +270,14 @@ class Syncer:
             self._kept.forget_pull()
             raise
 
-    def _look_at_pending(self, pushed: dict[str, int]) -> None:
-        """All is pushed again, ever later, where something is still pending whose push was answered before."""
+    def _look_at_pending(self, pushed: dict[str, int], before: tuple[str, int] | None) -> None:
+        """All is pushed again where something is pending that was pushed before the pull, ever later while it stays."""
         oldest = self._kept.oldest()
         with self._lock:
-            has_moved, self._oldest = oldest != self._oldest, oldest
-            if oldest is None or has_moved or oldest[1] > pushed.get(oldest[0], 0):
+            if oldest is None or oldest[1] > pushed.get(oldest[0], 0):
                 self._stalled = 0
                 return
-            self._stalled += 1
+            self._stalled = self._stalled + 1 if oldest == before else 1
             self._sends_all = True
             delay = min(self._options.max_delay, AGAIN_AFTER * 2.0 ** min(self._stalled - 1, 20))
         self.push_loop.want(delay)

@@ -1,7 +1,7 @@
 """What a query reads, and what a mutator reads and writes.
 
-A transaction is good until the function returns that it was handed to; then its calls are refused with
-`Why.NOT_ASKED`. It is used by the thread that it was handed to.
+A transaction is good until the function returns that it was handed to, and is used by the thread that has it. A
+mutator's is refused then, with `Why.NOT_ASKED`.
 """
 
 from __future__ import annotations
