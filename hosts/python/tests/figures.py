@@ -4,8 +4,8 @@
     python3 figures.py [ROUNDS]
 
 Each round does the same with a place of a `Group` and with a client of `Replicache`, in turn, twenty calls at a time;
-the least counts. The layer has no server here, so nothing is pushed meanwhile. The idle process has a server, a store, a
-subscription and a stream of pokes.
+the least counts. The layer has no server here, so nothing is pushed meanwhile. The idle process has a server, a store,
+a subscription and a stream of pokes.
 """
 
 from __future__ import annotations

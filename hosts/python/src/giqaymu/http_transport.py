@@ -34,7 +34,7 @@ class Http:
 
     Each request is made on a thread of its own, a daemon, so that the wait for it has an end whatever the server, the
     names' resolver or the network does: after `timeout` seconds in all it is given up, and its response is nobody's.
-    `_lock` protects `_waiting`, by which `close` ends all waits.
+    `_lock` protects `_waiting`, by which `close` ends all waits, and `_is_closed`.
     """
 
     def __init__(self, options: RequestOptions) -> None:
@@ -42,12 +42,15 @@ class Http:
         timeout = urllib3.Timeout(connect=min(CONNECT, options.timeout), read=options.timeout)
         self._pool = urllib3.PoolManager(retries=False, timeout=timeout, maxsize=4)
         self._lock = threading.Lock()
+        self._is_closed = False
         self._waiting: set[queue.SimpleQueue[Reply | Exception]] = set()
 
     def __call__(self, url: str, body: bytes, headers: Mapping[str, str]) -> Reply:
         """Posts the body."""
         answer: queue.SimpleQueue[Reply | Exception] = queue.SimpleQueue()
         with self._lock:
+            if self._is_closed:
+                raise Offline("the client was closed")
             self._waiting.add(answer)
         words = answer, url, body, dict(headers)
         threading.Thread(target=self._post, args=words, name="giqaymu-post", daemon=True).start()
@@ -83,6 +86,7 @@ class Http:
     def close(self) -> None:
         """Ends all waits, and closes the connections that nobody uses."""
         with self._lock:
+            self._is_closed = True
             for answer in self._waiting:
                 answer.put(Offline("the client was closed"))
         self._pool.clear()

@@ -100,7 +100,10 @@ class Recovery(threading.Thread):
         """Pushes and pulls; what is confirmed is pending no more. The server's error, where it is one for ever."""
         head = {"clientGroupID": identity.group, "profileID": identity.profile, "schemaVersion": identity.schema}
         mutations = [json.loads(mutation.text()) for mutation in state.pending.values()]
-        bodies = {"push": {"mutations": mutations, "pushVersion": 1}, "pull": {"cookie": state.cookie, "pullVersion": 1}}
+        bodies = {
+            "push": {"mutations": mutations, "pushVersion": 1},
+            "pull": {"cookie": state.cookie, "pullVersion": 1},
+        }
         for what, words in bodies.items():
             body = self._syncer.post(what, json_bytes({**head, **words}))
             error, _ = error_in(body)

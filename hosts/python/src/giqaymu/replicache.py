@@ -10,7 +10,7 @@ How it works, by modules; each head says which lock protects what:
         edge            the library
       syncing         pushes, pulls, what their answers lead to                      giqaymu-push, giqaymu-pull
         loops           when a job is done, and again; the pace
-        transport       HTTP
+        transport       what posts a body; http_transport: HTTP                      giqaymu-post
       recovery        groups of dead processes; pokes                                giqaymu-recover, giqaymu-poke
       subscriptions   subscriptions and watches; what is told, by callbacks          giqaymu-tell
         transactions    what queries and mutators see

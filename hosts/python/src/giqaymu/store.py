@@ -179,7 +179,7 @@ class Left:
         if self.damage is None:
             return None
         kept = self.path.with_suffix(".damaged")
-        shutil.copyfile(self.path, kept)
+        shutil.copy(self.path, kept)
         return SetAside(kept, self.damage, ())
 
     def set_aside(self, why: str, mutations: Iterable[Mutation] = ()) -> SetAside:

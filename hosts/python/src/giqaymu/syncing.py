@@ -37,8 +37,8 @@ MOST_REST = 2.0
 log = logging.getLogger("giqaymu")
 
 Poster = Callable[[bytes, dict[str, str]], Reply]
-"""Sends a body with these headers (Replicache: `Pusher`, `Puller`). It raises `Offline` where no whole response came, and
-may be called by two threads at the same time."""
+"""Sends a body with these headers (Replicache: `Pusher`, `Puller`). It raises `Offline` where no whole response came,
+and may be called by two threads at the same time."""
 
 
 class Syncer:
