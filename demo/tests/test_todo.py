@@ -69,7 +69,8 @@ class Twins(unittest.TestCase):
         refused: dict[Json, int] = {}
         for n in range(RUNS):
             name = dice.choice(NAMES)
-            args = dice.choice([{"id": str(dice.randrange(9)), "text": f"t{n}"}] * 9 + [{"id": 3, "text": ""}, {}, [], 7, {"id": None}])
+            right = {"id": str(dice.randrange(9)), "text": f"t{n}"}
+            args = dice.choice([right] * 9 + [{"id": 3, "text": ""}, {}, [], 7, {"id": None}])
             after = by_function(name, args, rows)
             self.assertEqual(after, by_rules(rules, name, args, rows), (name, args))
             if isinstance(after, dict):

@@ -100,24 +100,21 @@ class Calls(WithServer):
         rules = {"both": [["put", "a", ["arg", 0]], ["put", "b", ["arg", 0]]]}
         for words in ({"mutators": {"both": both}}, {"rules": rules}):
             anna = self.rep(pusher=offline, puller=pulled, slots=1 << 18, **words)
-            bert, stop, wrong = anna.client(), threading.Event(), 0
+            bert, asked, wrong = anna.client(), 0, 0
 
             def work() -> None:
-                n = 0
-                while not stop.is_set() and n < 3000:
-                    n += 1
+                for n in range(2000):
                     anna.mutate("both", n if "mutators" in words else [n])
                     if n % 20 == 0:
                         anna.pull(now=True)
 
             thread = threading.Thread(target=work)
             thread.start()
-            for _ in range(1500):
+            while thread.is_alive():
                 a, b = bert.query(lambda tx: (tx.get("a"), tx.get("b")))
-                wrong += a != b
-            stop.set()
-            thread.join()
+                asked, wrong = asked + 1, wrong + (a != b)
             self.assertEqual(wrong, 0)
+            self.assertGreater(asked, 100)
             anna.close()
 
     def test_close_ends_what_waits(self) -> None:

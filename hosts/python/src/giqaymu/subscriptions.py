@@ -164,7 +164,10 @@ class Teller(threading.Thread):
         if not self._subscribed:
             return
         with self._wake:
-            self._keys = None if keys is None or self._keys is None else self._keys | keys
+            if keys is None:
+                self._keys = None
+            elif self._keys is not None:
+                self._keys |= keys
             self._has_changed = True
             self._wake.notify_all()
 
