@@ -18,14 +18,14 @@ use Rattle.group_history.proofs.Lists.{prefix_trans}
 use Rattle.head_word.specs.declared.entry.Entry.{Entry}
 use Rattle.head_word.specs.Books.{drawn, last_move, next_stamp, record_of}
 use Rattle.head_word.specs.Marks.{Known, others, own_of}
-use Rattle.reader_claims.specs.Machine.{Moves}
+use Rattle.reader_claims.specs.declared.words.Pin.TheVariants.{Absent}
+use Rattle.reader_claims.specs.Views.{with_pin}
 use Rattle.chunk_slots.specs.Seats.{IsIdle}
 use Rattle.commit_graph.specs.Seats.{HasLooked, IsSameSeat, Seated}
 use Rattle.commit_graph.proofs.Seating.{seat-trans}
 use Rattle.answered.specs.Answered.{IsLinearized, is_move, is_resource_refusal, own_moves}
 use Rattle.answered.specs.Trying.{IsBase}
 use Rattle.answered.proofs.Losing.{lost_to_others, point_since}
-use Rattle.publishing.specs.Retiring.{GivesBack}
 use Rattle.group_steps.specs.Arriving.{IsArrived, when_seen}
 use Rattle.group_steps.specs.Causes.{HasCauseAt}
 use Rattle.group_steps.specs.Changing.{AnswersTry, EndsTry, change_tried, is_made}
@@ -34,7 +34,7 @@ use Rattle.group_steps.specs.Missing.{IsStop, map_ok}
 use Rattle.group_steps.specs.Proposing.{HasLast, IsUnmade, asked_reply, change_asked, closing_reply}
 use Rattle.group_steps.specs.declared.changing.Tried.{Tried}
 use Rattle.group_steps.specs.declared.changing.Tried.TheVariants as tried
-use Rattle.group_steps.proofs.Giving.{cause_arrived, cause_other, frees_since, frees_then, gives_gives, gives_kept, gives_moves}
+use Rattle.group_steps.proofs.Giving.{cause_arrived, cause_other, frees_since, frees_then, gives_calm, gives_gives}
 use Rattle.group_steps.proofs.Making.{wanting}
 use Rattle.group_steps.proofs.Trying.{try_answered}
 use Rattle.asked_steps.specs.Runs.{IsBehind, IsFirst}
@@ -54,9 +54,8 @@ use Rattle.asked_steps.specs.declared.trying.Progress.TheVariants as progress
 pub arrived_since : (means : Meanings) (reused : Type 0) (before old new : Seated) (lost : ℕ) (seen : List Entry) (base : Ref)
     (first : ℕ) → IsSince reused before lost old
     → IsArrived means old.mark (when_seen old.mark seen) new.mark base first
-    → HasLooked reused old new → (reused → Moves old.view new.view)
-    → IsArrivedSince means reused before lost seen new
-arrived_since means reused before old new lost seen base first i a looked moves = record {
+    → HasLooked reused old new → IsArrivedSince means reused before lost seen new
+arrived_since means reused before old new lost seen base first i a looked = record {
   arrived = record {
     point = point_since means before.mark old.mark new.mark None seen i.same.later.seen i.same.later.seat i.own a.point;
     last = refl;
@@ -72,7 +71,7 @@ arrived_since means reused before old new lost seen base first i a looked moves 
   same = seat-trans before old new i.same looked.seat;
   others = omega (arith, i.others, a.before, number);
   gave = λ r. gives_gives before.table.sizes.slots before.view old.view new.view (i.gave r)
-      (gives_kept before.table.sizes.slots old.view new.view (moves r) (looked.calm r).1);
+      (gives_calm before.table.sizes.slots old.view new.view (looked.calm r));
 }
   where
     number : others (when_seen old.mark seen) ≡ others (when_seen before.mark seen)
@@ -80,15 +79,15 @@ arrived_since means reused before old new lost seen base first i a looked moves 
 
 -- a call whose pin was lost to others ends
 pub refused_since : (means : Meanings) (reused : Type 0) (tries : ℕ) (before old new : Seated) (lost last : ℕ) (c : Change)
-    (e : Refusal) → IsSince reused before lost old → HasLooked reused old new → (reused → Moves old.view new.view)
+    (e : Refusal) → IsSince reused before lost old → HasLooked reused old new
     → (e ≡ refusal.Busy) × reused × (new.mark ≡ old.mark) → IsEnded means reused tries before new last c (Err e)
-refused_since means reused tries before old new lost last c e i looked moves busy = record {
+refused_since means reused tries before old new lost last c e i looked busy = record {
   answer = wanting means tries before.mark new.mark e (change_asked c) (λ s. asked_reply means s last c) refl
       (ap is_resource_refusal busy.0) (ap own_moves busy.2 ∙ i.own, λ moved. absurd (cc (sym busy.0 ∙ moved)));
   cause = cause_other means reused last c before new e (λ full. cc (sym busy.0 ∙ full))
       (λ stamps. cc (sym busy.0 ∙ stamps)) (λ is. busy.1);
   frees = λ r. gives_gives before.table.sizes.slots before.view old.view new.view (i.gave r)
-      (gives_kept before.table.sizes.slots old.view new.view (moves r) (looked.calm r).1);
+      (gives_calm before.table.sizes.slots old.view new.view (looked.calm r));
 }
 
 -- THE END OF A TRY
@@ -97,14 +96,14 @@ refused_since means reused tries before old new lost last c e i looked moves bus
 pub tried_since : (means : Meanings) (reused : Type 0) (tries : ℕ) (before mid done new : Seated) (lost last : ℕ) (c : Change)
     (seen : List Entry) (base : Ref) (r : Result Tried Refusal) → base ≡ last_move seen
     → IsArrivedSince means reused before lost seen mid → IsSameSeat mid done → HasLooked reused done new
-    → (reused → Moves done.view new.view) → new.mark ≡ done.mark
+    → (reused → new.view ≡ with_pin done.view Absent) → new.mark ≡ done.mark
     → IfOk r (EndsTry means mid.mark done.mark base (after (record_of seen)) last c)
     → IfErr r (IsUnmade (IsStop reused) (change_asked c) (asked_reply means (after (record_of seen)) last c) tries
     mid.mark done.mark)
     → IfErr r (HasCauseAt means reused (after (record_of seen)) last c mid done)
     → (reused → Frees before.table.sizes.slots mid done (change_tried c r))
     → TellsTurn means reused tries before lost new last c (turn_of r)
-tried_since means reused tries before mid done new lost last c seen base r stood a more looked moves mark ok err cause
+tried_since means reused tries before mid done new lost last c seen base r stood a more looked behind mark ok err cause
     frees = ends r answers ok cause frees
   where
     answers : AnswersTry means tries before.mark done.mark last c r
@@ -113,12 +112,9 @@ tried_since means reused tries before mid done new lost last c seen base r stood
         more.later.seat (subst (λ (b : Ref). IfOk r (EndsTry means mid.mark done.mark b (after (record_of seen)) last c))
         stood ok) err
 
-    rest : reused → GivesBack before.table.sizes.slots done.view new.view
-    rest again = gives_kept before.table.sizes.slots done.view new.view (moves again) (looked.calm again).1
-
     whole : (o : Option Change) → (reused → Frees before.table.sizes.slots mid done o)
         → reused → Frees before.table.sizes.slots before new o
-    whole o f again = frees_then before.table.sizes.slots before done new o mark (rest again)
+    whole o f again = frees_then before.table.sizes.slots before done new o mark (looked.calm again)
         (frees_since before.table.sizes.slots before mid done o a.same (a.gave again) (f again))
 
     ends : (w : Result Tried Refusal) → AnswersTry means tries before.mark done.mark last c w
@@ -154,7 +150,7 @@ tried_since means reused tries before mid done new lost last c seen base r stood
       cause = cause_arrived means reused last c before mid done new seen e a.arrived.point.since
           (subst (λ (m : Known). IsPrefix seen m.log) (sym mark)
           (prefix_trans seen mid.mark.log done.mark.log a.arrived.since more.later.seen)) a.same.table
-          (λ again. gives_moves before.table.sizes.slots before.view mid.view (a.gave again)) moves mark h;
+          (λ again. (a.gave again).loads) behind mark h;
       frees = whole None f;
     }
 

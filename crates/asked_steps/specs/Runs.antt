@@ -15,6 +15,7 @@ use Rattle.group_history.specs.Record.{IsAccepted, after_change}
 use Rattle.group_history.specs.Refs.{stamp_of}
 use Rattle.group_history.specs.Spelling.{Contents, map_at}
 use Rattle.group_history.specs.State.{State, last_id}
+use Rattle.map_chunks.specs.Drafts.{AreNeeded}
 use Rattle.map_chunks.specs.Places.{with_nodes}
 use Rattle.map_tree.specs.Trees.{tree_map}
 use Rattle.transactions.specs.Maps.{map_or, shown_map}
@@ -49,9 +50,11 @@ IsSameRun old new = (new.chain ≡ old.chain) × (new.mutation ≡ old.mutation)
 abbrev pub IsRunOf : Meanings → Contents → AskedRun → Ran → Type 0
 IsRunOf means cs run ran = RunsAs (meaning_of means run.mutation (run_start cs run)) ran (run_map cs run)
 
--- The newest commit is one of an open state, and with these mutations behind it the state is that one.
+-- The newest commit is one of an open state, and with these mutations behind it the state is that one. Each node that is
+-- drafted is a child of a later one, or that commit.
 pub record Leads (means : Meanings) (cs : Contents) (after : State) (chain : Chain) (left : List Mutation) : Type 0 where
   pub first : length cs ≡ chain.draft.first
+  pub needed : AreNeeded chain.draft.first chain.draft.nodes (chain.tip.commit ∷ [])
   pub state : State
   pub tip : IsTip means (drafted cs chain) chain.tip state
   pub opened : state.closed ≡ false

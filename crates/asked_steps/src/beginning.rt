@@ -1,5 +1,5 @@
 //! What a change asks for first, at the commit where a call stands.
-ghost use Rattle.std.specs.Prelude.{ℕ, ◌≡◌, [], Ok, IfOk, IfErr};
+ghost use Rattle.std.specs.Prelude.{ℕ, ◌≡◌, [], ◌∷◌, Ok, IfOk, IfErr};
 ghost use Rattle.group_history.specs.declared.changes.Change.TheVariants as changed;
 ghost use Rattle.group_history.specs.declared.refusals.Refusal.TheVariants as refusal;
 ghost use Rattle.group_history.specs.declared.responses.Ended.TheVariants as ended;
@@ -9,7 +9,7 @@ ghost use Rattle.group_history.specs.Refs.{stamp_of};
 ghost use Rattle.group_history.specs.Spelling.{Contents, map_at};
 ghost use Rattle.group_history.specs.State.{pulled_state};
 ghost use Rattle.head_word.specs.Books.{drawn, next_stamp};
-ghost use Rattle.map_chunks.specs.Drafts.{IsLate};
+ghost use Rattle.map_chunks.specs.Drafts.{AreNeeded, IsLate};
 ghost use Rattle.map_tree.specs.Trees.{tree_map};
 ghost use Rattle.commit_graph.specs.Chains.{IsBaseOf};
 ghost use Rattle.answered.specs.Trying.{IsUnproposed};
@@ -55,8 +55,6 @@ fn begin_mutation<M: Means, S: Slots<M>>(
     mutation: &Mutation,
     before: LastId,
 ) -> Result<Step, Refusal>
-where
-    S::Seat: Drop,
     requires spot { IsSpot M.means at.now spot.tip spot.first }
     requires asks { MayAsk (drawn at.now.mark.log) before (changed.Mutated mutation.now) }
     ensures step { IfOk result (MayStep M.means (drawn at.now.mark.log) at.now.commit (state_at at.now) before.id
@@ -80,8 +78,6 @@ fn draft_patched<'a, M: Means, S: Slots<M>>(
     pull: &PullOk,
     confirmed: ConfirmedIds,
 ) -> Result<Chain, Refusal>
-where
-    S::Seat: Drop,
     requires spot { IsSpot M.means at.now spot.tip spot.first }
     requires before { IsBaseOf (drawn at.now.mark.log) (state_at at.now) before.now }
     ensures tip { IfOk result (λ chain. HasTip (drafted (drawn at.now.mark.log) chain) chain.tip (record {
@@ -90,6 +86,7 @@ where
     })) }
     ensures first { IfOk result (λ chain. chain.draft.first ≡ spot.first) }
     ensures new { IfOk result HasNew }
+    ensures needed { IfOk result (λ chain. AreNeeded chain.draft.first chain.draft.nodes (chain.tip.commit ∷ [])) }
     ensures err { IfErr result (IsStop S.reused) }
     ensures late { IfErr result (λ e. e ≡ refusal.Stamps → IsLate spot.first) }
 {
@@ -120,8 +117,6 @@ fn begin_replayed<M: Means, S: Slots<M>>(
     ticket: &Cookie,
     pull: &PullOk,
 ) -> Result<Step, Refusal>
-where
-    S::Seat: Drop,
     requires spot { IsSpot M.means at.now spot.tip spot.first }
     requires before { IsBaseOf (drawn at.now.mark.log) (state_at at.now) before.now }
     requires pending { pending.now ≡ (state_at at.now).pending }
@@ -150,8 +145,6 @@ fn begin_rebase<'a, M: Means, S: Slots<M>>(
     ticket: &Cookie,
     pull: &PullOk,
 ) -> Result<Step, Refusal>
-where
-    S::Seat: Drop,
     requires spot { IsSpot M.means at.now spot.tip spot.first }
     requires before { IsBaseOf (drawn at.now.mark.log) (state_at at.now) before.now }
     requires applied { end_at (state_at at.now) ticket.now.text pull.now ≡ Ok ended.Applied }
@@ -178,8 +171,6 @@ fn begin_outcome<M: Means, S: Slots<M>>(
     ticket: &Cookie,
     pull: &PullOk,
 ) -> Result<Step, Refusal>
-where
-    S::Seat: Drop,
     requires spot { IsSpot M.means at.now spot.tip spot.first }
     requires before { IsBaseOf (drawn at.now.mark.log) (state_at at.now) before.now }
     ensures step { (last : ℕ) → IfOk result (MayStep M.means (drawn at.now.mark.log) at.now.commit (state_at at.now) last
@@ -209,8 +200,6 @@ fn begin_pull<'a, M: Means, S: Slots<M>>(
     ticket: &Cookie,
     pull: &PullOk,
 ) -> Result<Step, Refusal>
-where
-    S::Seat: Drop,
     requires spot { IsSpot M.means at.now spot.tip spot.first }
     ensures step { (last : ℕ) → IfOk result (MayStep M.means (drawn at.now.mark.log) at.now.commit (state_at at.now) last
         (changed.Pulled ticket.now pull.now)) }
@@ -225,8 +214,6 @@ where
 
 // The closing of an open group asks for no run.
 fn begin_closing<M: Means, S: Slots<M>>(at: &At<'_, M, S>, spot: Spot) -> Result<Step, Refusal>
-where
-    S::Seat: Drop,
     requires spot { IsSpot M.means at.now spot.tip spot.first }
     ensures step { (last : ℕ) → IfOk result (MayStep M.means (drawn at.now.mark.log) at.now.commit (state_at at.now) last
         changed.Closed) }
@@ -254,8 +241,6 @@ fn begin_open<M: Means, S: Slots<M>>(
     spot: Spot,
     request: &Request<'_>,
 ) -> Result<Step, Refusal>
-where
-    S::Seat: Drop,
     requires spot { IsSpot M.means at.now spot.tip spot.first }
     requires asks { MayAsk (drawn at.now.mark.log) request.now.before request.now.change.now }
     ensures step { IfOk result (MayStep M.means (drawn at.now.mark.log) at.now.commit (state_at at.now)
@@ -285,8 +270,6 @@ pub(crate) fn begin<'a, M: Means, S: Slots<M>>(
     first: u64,
     request: &Request<'_>,
 ) -> Result<Step, Refusal>
-where
-    S::Seat: Drop,
     requires asks { MayAsk (drawn at.now.mark.log) request.now.before request.now.change.now }
     requires first { first ≡ next_stamp at.now.mark.log }
     ensures step { IfOk result (MayStep M.means (drawn at.now.mark.log) at.now.commit (state_at at.now)

@@ -25,8 +25,6 @@ fn end_new<M: Means, S: Slots<M>>(
     run: AskedRun,
     ran: Ran,
 ) -> Result<Step, Refusal>
-where
-    S::Seat: Drop,
     requires run { IsAskedRun M.means (drawn at.now.mark.log) (state_at at.now) last (changed.Mutated next.now) run }
     requires ran { IsRunOf M.means (drawn at.now.mark.log) run ran }
     ensures step { IfOk result (MayStep M.means (drawn at.now.mark.log) at.now.commit (state_at at.now) last
@@ -65,8 +63,6 @@ fn end_rebased<M: Means, S: Slots<M>>(
     run: AskedRun,
     ran: Ran,
 ) -> Result<Step, Refusal>
-where
-    S::Seat: Drop,
     requires run { IsAskedRun M.means (drawn at.now.mark.log) (state_at at.now) last
         (changed.Pulled ticket.now pull.now) run }
     requires ran { IsRunOf M.means (drawn at.now.mark.log) run ran }
@@ -98,8 +94,6 @@ pub(crate) fn end_run<M: Means, S: Slots<M>>(
     run: AskedRun,
     ran: Ran,
 ) -> Result<Step, Refusal>
-where
-    S::Seat: Drop,
     requires run { IsAskedRun M.means (drawn at.now.mark.log) (state_at at.now) request.now.before.id
         request.now.change.now run }
     requires ran { IsRunOf M.means (drawn at.now.mark.log) run ran }

@@ -82,8 +82,6 @@ fn move_there<M: Means, S: Store<M>>(
     proposal: Proposal,
     tries: u32,
 ) -> Result<Tried, Refusal>
-where
-    S::Seat: Drop,
     requires reading { IsReading S.reused group.now.shared seat.old }
     requires none { S.reused → seat.old.view.taken ≡ [] }
     requires asks { MayAsk (drawn seat.old.mark.log) request.now.before request.now.change.now }
@@ -119,8 +117,6 @@ fn make_there<M: Means, S: Store<M>>(
     proposed: Result<Option<Proposal>, Refusal>,
     tries: u32,
 ) -> Result<Tried, Refusal>
-where
-    S::Seat: Drop,
     requires reading { IsReading S.reused group.now.shared seat.old }
     requires none { S.reused → seat.old.view.taken ≡ [] }
     requires asks { MayAsk (drawn seat.old.mark.log) request.now.before request.now.change.now }
@@ -158,8 +154,6 @@ fn end_try<M: Means, S: Store<M>>(
     proposed: Result<Option<Proposal>, Refusal>,
     tries: u32,
 ) -> Turn
-where
-    S::Seat: Drop,
     requires reading { IsReading S.reused group.now.shared seat.old }
     requires none { S.reused → seat.old.view.taken ≡ [] }
     requires asks { MayAsk (drawn seat.old.mark.log) request.now.before request.now.change.now }
@@ -191,8 +185,6 @@ fn step_on<M: Means, S: Store<M>>(
     step: Result<Step, Refusal>,
     tries: u32,
 ) -> Turn
-where
-    S::Seat: Drop,
     requires reading { IsReading S.reused group.now.shared seat.old }
     requires none { S.reused → seat.old.view.taken ≡ [] }
     requires asks { MayAsk (drawn seat.old.mark.log) request.now.before request.now.change.now }
@@ -234,8 +226,6 @@ fn begin_there<M: Means, S: Store<M>>(
     request: &Request<'_>,
     tries: u32,
 ) -> Turn
-where
-    S::Seat: Drop,
     requires reading { IsReading S.reused group.now.shared seat.old }
     requires none { S.reused → seat.old.view.taken ≡ [] }
     requires asks { MayAsk (drawn seat.old.mark.log) request.now.before request.now.change.now }
@@ -265,8 +255,6 @@ fn ran_there<M: Means, S: Store<M>>(
     ran: Ran,
     tries: u32,
 ) -> Turn
-where
-    S::Seat: Drop,
     requires reading { IsReading S.reused group.now.shared seat.old }
     requires none { S.reused → seat.old.view.taken ≡ [] }
     requires asks { MayAsk (drawn seat.old.mark.log) request.now.before request.now.change.now }
@@ -296,8 +284,6 @@ fn begin_try<M: Means, S: Store<M>>(
     lost: u32,
     tries: u32,
 ) -> Option<Progress<M>>
-where
-    S::Seat: Drop,
     requires home { IsSeatOf group.now.shared seat.old }
     requires none { S.reused → seat.old.view.taken ≡ [] }
     requires asks { MayAsk (drawn seat.old.mark.log) request.now.before request.now.change.now }
@@ -330,8 +316,6 @@ pub fn ask_from<M: Means, S: Store<M>>(
     lost: u32,
     tries: u32,
 ) -> Progress<M>
-where
-    S::Seat: Drop,
     requires home { IsSeatOf group.now.shared seat.old }
     requires none { S.reused → seat.old.view.taken ≡ [] }
     requires asks { MayAsk (drawn seat.old.mark.log) request.now.before request.now.change.now }
@@ -365,8 +349,6 @@ pub fn ran_from<M: Means, S: Store<M>>(
     ran: Ran,
     tries: u32,
 ) -> Progress<M>
-where
-    S::Seat: Drop,
     requires attempt { IsAttempt M.means S.reused group.now.shared seat.old request.now.before.id
         request.now.change.now attempt }
     requires few { attempt.lost < max 1 tries }

@@ -188,8 +188,6 @@ pub fn get<'a, M: Means, S: Slots<M>>(
     run: &AskedRun,
     key: &str,
 ) -> Result<Option<Json>, Refusal>
-where
-    S::Seat: Drop,
     requires map { HasMap (drawn at.now.mark.log) run.now }
     requires behind { run.now.chain.draft.first ≡ length (drawn at.now.mark.log) }
     ensures value { IfOk result (λ found. found ≡ finite.get (run_map (drawn at.now.mark.log) run.now) key.now) }
@@ -205,8 +203,6 @@ pub fn scan<'a, M: Means, S: Slots<M>>(
     run: &AskedRun,
     scan: &Scan,
 ) -> Result<Vec<(Text, Json)>, Refusal>
-where
-    S::Seat: Drop,
     requires map { HasMap (drawn at.now.mark.log) run.now }
     requires behind { run.now.chain.draft.first ≡ length (drawn at.now.mark.log) }
     ensures rows { IfOk result (λ rows. rows.items ≡ rows_of scan.now (run_map (drawn at.now.mark.log) run.now)) }
@@ -224,8 +220,6 @@ pub fn put<'a, M: Means, S: Slots<M>>(
     key: &str,
     value: &Json,
 ) -> Result<(), Refusal>
-where
-    S::Seat: Drop,
     requires map { HasMap (drawn at.now.mark.log) run.old }
     requires behind { run.old.chain.draft.first ≡ length (drawn at.now.mark.log) }
     ensures map { HasMap (drawn at.now.mark.log) run.new }
@@ -254,8 +248,6 @@ pub fn del<'a, M: Means, S: Slots<M>>(
     run: &mut AskedRun,
     key: &str,
 ) -> Result<(), Refusal>
-where
-    S::Seat: Drop,
     requires map { HasMap (drawn at.now.mark.log) run.old }
     requires behind { run.old.chain.draft.first ≡ length (drawn at.now.mark.log) }
     ensures map { HasMap (drawn at.now.mark.log) run.new }

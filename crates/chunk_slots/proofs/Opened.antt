@@ -7,14 +7,15 @@ use Rattle.reader_claims.specs.declared.view.View.{View}
 use Rattle.reader_claims.specs.Seats.{ClaimsId, Seated, IsNew}
 use Rattle.reader_claims.specs.Views.{reader}
 use Rattle.chunk_slots.specs.Seats.{IsIdle, IsOpening}
-use Rattle.chunk_slots.specs.Inside.Openings.{DidNothing}
+use Rattle.reader_claims.specs.Deeds as deed
 
 -- the last one settled the two slots that it had, and the others have not begun
 pub opened : (z : ClaimsId) (all others : List Seated) (opener : Seated) (leaf commit : ℕ) → all ≡ others ++ opener ∷ []
     → All (IsNew z) others → (leaf ≢ commit) × (leaf < z.sizes.slots) × (commit < z.sizes.slots)
-    → opener.view.settled ≡ commit ∷ leaf ∷ [] → IsIdle opener.view → DidNothing opener.view
+    → opener.view.settled ≡ commit ∷ leaf ∷ [] → IsIdle opener.view
+    → opener.view.deeds ≡ deed.settled commit ∷ deed.settled leaf ∷ deed.took commit ∷ deed.took leaf ∷ []
     → IsOpening z.sizes (map (λ seat. seat.view) all) commit
-opened z all others opener leaf commit is new two settled idle kept =
+opened z all others opener leaf commit is new two settled idle deeds =
     let view_of = λ (seat : Seated). seat.view in record {
       others = map view_of others;
       opener = opener.view;
@@ -25,5 +26,5 @@ opened z all others opener leaf commit is new two settled idle kept =
       two = two;
       settled = settled;
       idle = idle;
-      kept = kept;
+      deeds = deeds;
     }

@@ -5,6 +5,7 @@ use Rattle.std.specs.List.{All}
 use Rattle.reader_claims.specs.declared.words.Pin.TheVariants.{Absent}
 use Rattle.reader_claims.specs.declared.view.Sizes.{Sizes}
 use Rattle.reader_claims.specs.declared.view.View.{View}
+use Rattle.reader_claims.specs.Deeds as deed
 use Rattle.reader_claims.specs.Passes.{IsUnpinned, pinned, unpinned}
 use Rattle.reader_claims.specs.Seats.{ClaimsId}
 use Rattle.reader_claims.specs.Views.{reader}
@@ -24,7 +25,7 @@ pub record IsOpening (k : Sizes) (views : List View) (commit : ℕ) : Type 0 whe
   pub two : (leaf ≢ commit) × (leaf < k.slots) × (commit < k.slots)
   pub settled : opener.settled ≡ commit ∷ leaf ∷ []
   pub idle : IsIdle opener
-  pub kept : (opener.withdrawn ≡ []) × (opener.retired ≡ []) × (opener.raises ≡ 0)
+  pub deeds : opener.deeds ≡ deed.settled commit ∷ deed.settled leaf ∷ deed.took commit ∷ deed.took leaf ∷ []
 
 -- so many tries of a pin were lost, one after the other: at each the second load of the epoch read more than the first
 pub data LosesPins : ℕ → View → View → Type 0 where
@@ -51,11 +52,11 @@ MayRetire v r = (r ≡ v.loaded + 1) × (v.loaded < v.reached)
 
 -- the epoch was loaded, and raised from the number read
 abbrev pub IsRaised : View → View → ℕ → Type 0
-IsRaised v u r = MayRetire u r × (u.raises ≡ v.raises + 1)
+IsRaised v u r = MayRetire u r × (u.raises ≡ v.raises + 1) × (u.deeds ≡ deed.raised u.reached ∷ v.deeds)
 
--- the epoch was loaded, and is the last one
-abbrev pub IsAtEnd : View → Type 0
-IsAtEnd u = u.loaded ≡ 2 ^ 60
+-- the epoch is the last one, and nothing was done
+abbrev pub IsAtEnd : View → View → Type 0
+IsAtEnd v u = (2 ^ 60 ≤ u.reached) × (u.raises ≡ v.raises) × (u.deeds ≡ v.deeds)
 
 -- the table of a store that claims nothing, and what its seats know of it
 abbrev pub no_table : ClaimsId

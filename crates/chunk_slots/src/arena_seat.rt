@@ -7,6 +7,7 @@ ghost use Rattle.reader_claims.specs.Counts.{Counts, Found, HasOldest, OnlyLooks
 ghost use Rattle.reader_claims.specs.Lists.{In};
 ghost use Rattle.reader_claims.specs.Machine.{Moves};
 ghost use Rattle.reader_claims.specs.Passes as held;
+ghost use Rattle.reader_claims.specs.Deeds as deed;
 ghost use Rattle.reader_claims.specs.Passes.{Takes, Looks, Raises, FindsNone, IsRetired, IsButRetired};
 ghost use Rattle.reader_claims.specs.Seats.{AreSeats, IsNew, first_reserved, kind_end};
 ghost use Rattle.reader_claims.specs.Views.{with_pin, with_settled, with_withdrawn};
@@ -68,6 +69,9 @@ impl ArenaSeat {
         ensures taken { MatchOption result
             (self.new.view.taken ≡ self.old.view.taken)
             (λ slot. (slot < kind_end self.old.table.sizes kind) × Takes self.old.view self.new.view slot) }
+        ensures deeds { MatchOption result
+            (self.new.view.deeds ≡ self.old.view.deeds)
+            (λ slot. self.new.view.deeds ≡ deed.took slot ∷ self.old.view.deeds) }
         ensures within { IfSome result (λ slot. slot < self.old.table.sizes.slots) }
         ensures none { IfNone result
             (FindsNone self.old.view self.new.view (kind_end self.old.table.sizes kind)) }
@@ -118,8 +122,7 @@ impl ArenaSeat {
         ensures taken { self.new.view.taken ≡ [] }
         ensures pin { self.new.view.pin ≡ self.old.view.pin }
         ensures settled { self.new.view.settled ≡ second ∷ first ∷ self.old.view.settled }
-        ensures kept { (self.new.view.withdrawn ≡ self.old.view.withdrawn)
-            × (self.new.view.retired ≡ self.old.view.retired) × (self.new.view.raises ≡ self.old.view.raises) }
+        ensures deeds { self.new.view.deeds ≡ deed.settled second ∷ deed.settled first ∷ self.old.view.deeds }
     {
         self.settle(claims, first);
         self.settle(claims, second);
@@ -141,7 +144,7 @@ impl ArenaSeat {
         ensures moves { Moves self.old.view self.new.view }
         ensures kept { Raises self.old.view self.new.view }
         ensures raised { MatchOption result
-            (IsAtEnd self.new.view)
+            (IsAtEnd self.old.view self.new.view)
             (λ r. IsRaised self.old.view self.new.view r) }
     {
         let n = claims.epoch(&mut self.seat);

@@ -27,8 +27,8 @@
 //! Not said by any clause, and tested: that a call succeeds; that a node which was placed is shown, as no clause tells
 //! what a slot's word holds; so also that a reader who holds a pin never meets Gone (five threads on 64 slots). The
 //! head and the table as one machine never take such a slot (`joined_law`); this store doesn't rest on that. `place`
-//! asks for a taken slot and answers its number; that the node then lies there is no clause. A count of readers ends at
-//! 2^30 - 1: one more is Busy.
+//! asks for a taken slot and answers its number; that the node then lies there is no clause, nor why a slot is Busy or
+//! Gone. A count of readers ends at 2^30 - 1: one more is Busy.
 #![tactic(auto)]
 
 mod append;

@@ -11,7 +11,7 @@
 //! them use its words. Where slots are never used again `reused` is false, and these clauses say nothing.
 //!
 //! What always returns stands in [`Slots`], and what may wait over some stores in [`Store`].
-ghost use Rattle.std.specs.Prelude.{◌≡◌, ◌⊎◌, ℕ, ◌^◌, ◌<◌, ◌≤◌, IfOk, IfErr, IfSome, IfNone, MatchOption, MatchResult};
+ghost use Rattle.std.specs.Prelude.{◌∷◌, ◌≡◌, ◌⊎◌, ℕ, ◌^◌, ◌<◌, ◌≤◌, IfOk, IfErr, IfSome, IfNone, MatchOption, MatchResult};
 ghost use Rattle.std.specs.Prelude.{length, map};
 ghost use Rattle.std.specs.List.{All};
 ghost use Rattle.logbook.specs.Pages.{Book};
@@ -22,6 +22,7 @@ ghost use Rattle.head_word.specs.Marks.{seated};
 ghost use Rattle.reader_claims.specs.declared.view.View.{View};
 ghost use Rattle.reader_claims.specs.Lists.{In};
 ghost use Rattle.reader_claims.specs.Machine.{Moves};
+ghost use Rattle.reader_claims.specs.Deeds as deed;
 ghost use Rattle.reader_claims.specs.Passes.{Takes, Looks, Raises, FindsNone, IsRetired, IsButRetired};
 ghost use Rattle.reader_claims.specs.Seats.{ClaimsId, first_reserved, kind_end};
 ghost use Rattle.reader_claims.specs.Views.{with_pin, with_settled, with_withdrawn};
@@ -40,7 +41,7 @@ use std::alloc::Global;
 /// What readers do, and what publishers do with slots that they have. No call takes memory or waits.
 pub trait Slots<M: Means>: Sync {
     /// What one thread claims slots with.
-    type Seat: Send;
+    type Seat: Send + Drop;
 
     /// The book whose nodes it has.
     ghost book: { Self → Book };
@@ -88,7 +89,7 @@ pub trait Slots<M: Means>: Sync {
         ensures moves { reused → Moves (view seat.old) (view seat.new) }
         ensures kept { reused → Raises (view seat.old) (view seat.new) }
         ensures raised { reused → MatchOption result
-            (IsAtEnd (view seat.new))
+            (IsAtEnd (view seat.old) (view seat.new))
             (λ r. IsRaised (view seat.old) (view seat.new) r) };
 
     /// Retires a live slot. One that is not live, or that the store does not have, stays as it is.
@@ -179,6 +180,9 @@ pub trait Store<M: Means>: Slots<M> {
             ((Self.view seat.new).taken ≡ (Self.view seat.old).taken)
             (λ slot. (slot < kind_end (Self.serves self.now).sizes kind)
             × Takes (Self.view seat.old) (Self.view seat.new) slot) }
+        ensures deeds { Self.reused → MatchOption result
+            ((Self.view seat.new).deeds ≡ (Self.view seat.old).deeds)
+            (λ slot. (Self.view seat.new).deeds ≡ deed.took slot ∷ (Self.view seat.old).deeds) }
         ensures none { IfNone result (Self.reused
             × FindsNone (Self.view seat.old) (Self.view seat.new) (kind_end (Self.serves self.now).sizes kind)) }
         ensures reserve { Self.reused → IfSome result (λ slot. first_reserved (Self.serves self.now).sizes ≤ slot

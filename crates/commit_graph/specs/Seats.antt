@@ -1,5 +1,5 @@
 -- What the clients of a group share, what a seat of a group has, and what a call leaves of it. This project's own words.
-use Rattle.std.specs.Prelude.{◌≡◌, Bool, true, false}
+use Rattle.std.specs.Prelude.{◌≡◌, ◌≤◌, Bool, true, false}
 use mathlib.Core.List.{IsPrefix}
 use Rattle.logbook.specs.Pages.{Book}
 use Rattle.head_word.specs.Marks.{Known, own}
@@ -47,9 +47,13 @@ pub record IsSameSeat (old new : Seated) : Type 0 where
   pub table : new.table ≡ old.table
   pub later : IsLater old.mark new.mark
 
--- it took, retired and withdrew nothing, and did not raise the epoch
-abbrev pub IsCalm : View → View → Type 0
-IsCalm v u = (u.taken ≡ v.taken) × (u.retired ≡ v.retired) × (u.withdrawn ≡ v.withdrawn) × (u.raises ≡ v.raises)
+-- It did nothing to slots and to the epoch: it took, settled, withdrew and retired none, and raised nothing. What it has
+-- read of the epoch does not fall.
+pub record IsCalm (v u : View) : Type 0 where
+  pub deeds : u.deeds ≡ v.deeds
+  pub taken : u.taken ≡ v.taken
+  pub loads : v.epoch_loads ≤ u.epoch_loads
+  pub reached : v.reached ≤ u.reached
 
 -- It only looked: it added no entry to the book, and where slots are used again it did nothing to them.
 pub record HasLooked (reused : Type 0) (old new : Seated) : Type 0 where

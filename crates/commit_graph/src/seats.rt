@@ -30,18 +30,12 @@ impl<M: Means, S: Slots<M>> Model for Shared<M, S> {
 
 /// A seat of a group: what its client claims slots with, and what it has seen of the book, which knows the seat by
 /// a number.
-pub struct Seat<M: Means, S: Slots<M>>
-where
-    S::Seat: Drop,
-{
+pub struct Seat<M: Means, S: Slots<M>> {
     pub slots: S::Seat,
     pub mark: Mark<M>,
 }
 
-impl<M: Means, S: Slots<M>> Drop for Seat<M, S>
-where
-    S::Seat: Drop,
-{
+impl<M: Means, S: Slots<M>> Drop for Seat<M, S> {
     fn drop(self) {
         let Seat { slots, mark } = self;
         drop(slots);
@@ -49,10 +43,7 @@ where
     }
 }
 
-impl<M: Means, S: Slots<M>> Model for Seat<M, S>
-where
-    S::Seat: Drop,
-{
+impl<M: Means, S: Slots<M>> Model for Seat<M, S> {
     ghost use Rattle.std.specs.Prelude.{IsSome};
     ghost use Rattle.std.specs.Coded.{codes};
     ghost use Rattle.head_word.specs.contracts.entry.Entry as entry;

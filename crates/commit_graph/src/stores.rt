@@ -126,10 +126,7 @@ fn agrees<M: Means>(mark: &Mark<M>, shown: &Shown<'_, M>)
     one_record(mark, shown.mark());
 }
 
-impl<'a, M: Means, S: Slots<M>> StoreNodes<'a, M, S>
-where
-    S::Seat: Drop,
-{
+impl<'a, M: Means, S: Slots<M>> StoreNodes<'a, M, S> {
     /// The nodes that the mark knows, read while the seat's pin is held. Where slots are used again, a slot that is
     /// lost to other clients is tried for so many times.
     pub fn new(

@@ -1,6 +1,6 @@
 -- Numbers of refusals.
 use Rattle.std.proofs.Common.{◌≡◌, ◌<◌, ◌^◌, inl, inr, ℕ, zero, suc, Bool, true, false}
-use Rattle.std.proofs.Common.{[], ◌∷◌, Option, Some, None, Result, Ok, Err, refl, sym, ◌∙◌, subst, arith, w32}
+use Rattle.std.proofs.Common.{Option, Some, None, Result, Ok, Err, refl, sym, ◌∙◌, subst, arith, w32}
 use Rattle.std.specs.Prelude.{⊤, ℤ, pos, negsuc, if◌then◌else◌}
 use Rattle.std.proofs.lemmas.Int.{to_z-of_z}
 use lib.Signed.{mag}
@@ -13,7 +13,7 @@ use Rattle.rebase.specs.declared.config.OutOfRange.TheVariants as out
 use Rattle.rebase.specs.Configs.{Layout, is_from_to, min_slots, out_of_range}
 use Rattle.group_history.specs.Refs.{max_slots}
 use Rattle.rule_mutators.specs.declared.faults.RuleFault.{RuleFault}
-use Rattle.rule_mutators.specs.Reading.{rules_said}
+use Rattle.rule_mutators.specs.Reading.{rules_or_none}
 use Rattle.rule_mutators.specs.Rules.{Rules}
 use Rattle.std.specs.Str.{is_utf8}
 use Rattle.uuid.specs.Text.{parsed}
@@ -147,8 +147,7 @@ layout_fine id profile schema slots seats =
       laid (Some e) fits i = tt
 
 rules_fine : (text : Bytes) → Said (rules_given text)
-rules_fine [] = tt
-rules_fine (b ∷ bytes) = read (rules_said (b ∷ bytes)) where
+rules_fine text = read (rules_or_none text) where
   read : (r : Result Rules RuleFault) → Said (or_bad_rules r)
   read (Ok rules) = tt
   read (Err e) = tt

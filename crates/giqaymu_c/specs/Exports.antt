@@ -11,6 +11,7 @@ use Rattle.host_places.specs.Numbers.{outcome_number}
 use Rattle.host_places.specs.Opening.{IsNew, layout_said}
 use Rattle.rebase.specs.Clients.{Grouped}
 use Rattle.rebase.specs.Configs.{Layout}
+use Rattle.rule_mutators.specs.Faults.{fault_told, laid_over}
 use Rattle.giqaymu_c.specs.declared.exports.Answer.{Answer}
 use Rattle.giqaymu_c.specs.declared.handle.Handle.{Handle}
 use Rattle.giqaymu_c.specs.declared.jobs.Grounds.{Grounds}
@@ -127,3 +128,12 @@ IsRefusedFor id profile schema rules slots own count number =
     ((number ≡ outcome_number (Faulty OutOfRange)) × ((count ≡ 0) ⊎ (256 < count)))
     ⊎ ((grounds : Grounds) × IsOf grounds id profile schema rules slots own × (grounds.with.places ≡ count)
     × IsOpeningFault grounds number)
+
+-- ---- rules
+
+-- What is wrong with rules is told in the place of these bytes, as far as they reach, and how long its text is; or
+-- memory was refused, and the bytes stay.
+abbrev pub TellsFault : Bytes → Bytes → ℤ → Bytes → Type 0
+TellsFault rules before number after =
+    ((number ≡ pos (length (fault_told rules))) × (after ≡ laid_over (fault_told rules) before))
+    ⊎ ((number ≡ outcome_number (Refused NoMemory)) × (after ≡ before))

@@ -8,7 +8,7 @@ use Rattle.group_history.specs.Meaning.{Meanings}
 use Rattle.rebase.specs.Configs.{Layout}
 use Rattle.rule_mutators.specs.declared.faults.RuleFault.{RuleFault}
 use Rattle.rule_mutators.specs.Meaning.{rules_mean}
-use Rattle.rule_mutators.specs.Reading.{rules_said}
+use Rattle.rule_mutators.specs.Reading.{rules_or_none}
 use Rattle.rule_mutators.specs.Rules.{Rules}
 use Rattle.host_places.specs.declared.faults.Fault.TheVariants as fault
 use Rattle.host_places.specs.declared.outcomes.Outcome.{Outcome}
@@ -35,8 +35,7 @@ or_bad_rules (Ok rules) = Ok rules
 or_bad_rules (Err e) = Err (Faulty fault.BadRules)
 
 abbrev pub rules_given : Bytes → Result Rules Outcome
-rules_given [] = Ok []
-rules_given (b ∷ bytes) = or_bad_rules (rules_said (b ∷ bytes))
+rules_given text = or_bad_rules (rules_or_none text)
 
 abbrev pub or_none : Result Rules Outcome → Rules
 or_none (Ok rules) = rules

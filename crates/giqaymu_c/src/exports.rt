@@ -3,14 +3,20 @@ ghost use Rattle.std.specs.Prelude.{◌≡◌, ◌≢◌, ◌<◌, IfSome, None,
 ghost use Rattle.std.specs.List.{All};
 ghost use Rattle.giqaymu_c.specs.Jobs.{Acts, HasOpened, IsFit, IsToldByNumbers, meant_at};
 ghost use Rattle.giqaymu_c.specs.Exports.{AreOpenedFor, IsCalled, IsGivenOut, IsLike, IsOpened};
-ghost use Rattle.giqaymu_c.specs.Exports.{IsOpeningFault, IsRefusedFor};
+ghost use Rattle.giqaymu_c.specs.Exports.{IsOpeningFault, IsRefusedFor, TellsFault};
 ghost use Rattle.giqaymu_c.specs.Own.{runs_mean};
 ghost use Rattle.giqaymu_c.specs.declared.jobs.Reply.{Reply as HostReply};
 
 use crate::handle::{Handle, act};
 use crate::jobs::{Grounds, Job, Numbered, Reply};
+use group_history::Refusal;
 use host_places::{Fault, Opening, Outcome};
+use rule_mutators::tell_fault;
 use std::alloc::Global;
+
+/// The version of the library: major * 10,000 + minor * 100 + patch. With 0x8000_0000 added it says that it was built
+/// without its proof.
+pub const VERSION: u32 = 10000;
 
 /// What a call answers beside its number: bytes that lie there until the place's next call, a number and a code.
 #[repr(C)]
@@ -191,4 +197,24 @@ pub extern "C" fn giq_open(
         close_all(alloc, places);
     }
     number
+}
+
+/// Tells what is wrong with rules, before a group is opened by them: as much of the text as there is room for. Answers
+/// how long the whole text is, 0 where nothing is wrong, or that memory was refused, and then nothing is told.
+#[unsafe(no_mangle)]
+pub extern "C" fn giq_rules_fault(alloc: Global, rules: &[u8], text: &mut [u8]) -> i64
+    ensures { TellsFault rules.now text.old result text.new }
+{
+    match tell_fault(alloc, rules, text) {
+        Ok(length) => length as i64,
+        Err(_) => i64::from(Outcome::Refused(Refusal::NoMemory).number()),
+    }
+}
+
+/// The version of the library.
+#[unsafe(no_mangle)]
+pub extern "C" fn giq_version() -> u32
+    ensures { result ≡ VERSION }
+{
+    VERSION
 }

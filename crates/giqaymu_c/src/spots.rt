@@ -14,32 +14,31 @@ ghost use Rattle.giqaymu_c.specs.Jobs.{OpensRules, RepliesAt, meant_by, rules_gi
 use crate::held::Held;
 use crate::jobs::{Grounds, Job, Numbered, Reply};
 use group_history::{Means, Mutators, Refusal};
-use host_places::{AtOnce, Changes, Desk, Fault, Outcome, OwnMutators, PickedMeaning, open_places};
+use host_places::{
+    AtOnce, Changes, Desk, Fault, Outcome, OwnMutators, PickedMeaning, close_places, open_places,
+};
 use rule_mutators::{Picked, RuleFault, RuleMutators, Rules};
 use std::alloc::Global;
 use std::marker::Model;
 
 /// A desk, and the desks of its group that are not given out yet.
-#[derive(Drop)]
 pub(crate) struct Desks<M: Means + Changes> {
     desk: Desk<M>,
     spare: Vec<Desk<M>>,
 }
 
 /// Those of a group of rules, or of one whose mutators are the host's own.
-#[derive(Drop)]
-pub(crate) enum Either<B: Picked + PickedMeaning + Sync + Drop> {
+pub(crate) enum Either<B: Picked + PickedMeaning + Drop> {
     Rules(Desks<RuleMutators<B>>),
     Own(Desks<OwnMutators<B>>),
 }
 
 /// What a place of a host has.
-#[derive(Drop)]
-pub(crate) struct Spot<B: Picked + PickedMeaning + Sync + Drop> {
+pub(crate) struct Spot<B: Picked + PickedMeaning + Drop> {
     desks: Either<B>,
 }
 
-impl<B: Picked + PickedMeaning + Sync + Drop> Model for Spot<B> {
+impl<B: Picked + PickedMeaning + Drop> Model for Spot<B> {
     ghost use Rattle.giqaymu_c.specs.Inside.{seen_as};
     ghost use Rattle.giqaymu_c.specs.Codes.{state_coded};
     ghost use Rattle.giqaymu_c.specs.Spots.{SpotState};
@@ -51,15 +50,23 @@ impl<B: Picked + PickedMeaning + Sync + Drop> Model for Spot<B> {
     ghost view = { λ s. seen_as s.desks };
 }
 
+// A box can be made a pointer only where its value may be dropped. A desk can't be: this closes each.
+impl<B: Picked + PickedMeaning + Drop> Drop for Spot<B> {
+    fn drop(self) {
+        let Spot { desks } = self;
+        match desks {
+            Either::Rules(desks) => desks.close(),
+            Either::Own(desks) => desks.close(),
+        }
+    }
+}
+
 /// The rules of a text; no bytes are no rules.
 fn rules_of_text(alloc: Global, text: &[u8]) -> Result<Rules, Outcome>
     ensures ok { IfOk result (λ rules. rules_given text.now ≡ Ok (rules_of rules)) }
     ensures err { IfErr result (λ e. IsRulesRefusal text.now e) }
 {
-    if text.is_empty() {
-        return Ok(Rules::none(alloc));
-    }
-    match Rules::read(alloc, text) {
+    match Rules::read_or_none(alloc, text) {
         Ok(rules) => Ok(rules),
         Err(RuleFault::NoMemory) => Err(Outcome::Refused(Refusal::NoMemory)),
         Err(_) => Err(Outcome::Faulty(Fault::BadRules)),
@@ -75,6 +82,13 @@ impl<M: Means + Changes> Desks<M> {
         let mut spare = desks;
         let desk = spare.pop().unwrap();
         Desks { desk, spare }
+    }
+
+    // Closes them.
+    fn close(self) {
+        let Desks { desk, spare } = self;
+        drop(desk.close());
+        close_places(spare);
     }
 
     // What a call came to, and where the bytes lie that it told.

@@ -6,3 +6,4 @@ pub mod Rooting
 pub mod Trying
 pub mod Stopping
 pub mod Giving
+mod Pinning

@@ -1,5 +1,5 @@
 -- What stops a proposal, and what causes a refusal has.
-use Rattle.std.proofs.Common.{◌≡◌, inl, inr, true, ℕ, ap, refl, sym, ◌∙◌}
+use Rattle.std.proofs.Common.{◌≡◌, inl, inr, true, ap}
 use Rattle.group_history.specs.declared.refusals.Refusal.{Refusal}
 use Rattle.answered.specs.Answered.{is_resource_refusal}
 use Rattle.group_steps.specs.Missing.{IsStop}

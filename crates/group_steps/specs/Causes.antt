@@ -1,5 +1,5 @@
 -- Why a change was refused for want of something.
-use Rattle.std.specs.Prelude.{ℕ, ◌≡◌, true, List, Option, Some, None, IsSome, Ok}
+use Rattle.std.specs.Prelude.{ℕ, ◌≡◌, true, List, length, Option, Some, None, IsSome, Ok}
 use Rattle.map_chunks.specs.Drafts.{IsLate}
 use mathlib.Core.List.{IsPrefix}
 use Rattle.group_history.specs.declared.changes.Change.{Change}
@@ -9,20 +9,27 @@ use Rattle.group_history.specs.Meaning.{Meanings}
 use Rattle.group_history.specs.Record.{after}
 use Rattle.group_history.specs.State.{State}
 use Rattle.head_word.specs.declared.entry.Entry.{Entry}
-use Rattle.head_word.specs.Books.{next_stamp, record_of}
+use Rattle.head_word.specs.Books.{drawn, next_stamp, record_of}
 use Rattle.reader_claims.specs.Seats.{kind_end}
 use Rattle.commit_graph.specs.Seats.{Seated}
 use Rattle.publishing.specs.Placed.{FoundNone}
-use Rattle.group_steps.specs.Proposing.{asked_reply, kind_for}
+use Rattle.group_steps.specs.Proposing.{IsProposalFor, asked_reply, kind_for}
+use Rattle.group_steps.specs.declared.proposing.Proposal.{Proposal}
 
--- The change was to be made at a state that the call came to see, and a pass found none of the slots that it may take
--- there: each was taken, live, not to be given, or lost to another seat.
+-- What leads from the state to the change was drafted, and a pass found too few slots for its nodes of those that the
+-- change may take there: each was taken, live, not to be given, or lost to another seat.
+pub record LacksRoom (means : Meanings) (s : State) (change : Change) (old new : Seated) : Type 0 where
+  pub proposal : Proposal
+  pub leads : IsProposalFor means (drawn new.mark.log) proposal.base s change proposal
+  pub none : FoundNone old.view new.view (kind_end old.table.sizes (kind_for s change)) (length proposal.draft.nodes)
+
+-- It was to be made so at a state that the call came to see.
 pub record LacksSlots (means : Meanings) (last : ℕ) (change : Change) (old new : Seated) : Type 0 where
   pub log : List Entry
   pub since : IsPrefix old.mark.log log
   pub until : IsPrefix log new.mark.log
   pub asked : asked_reply means (after (record_of log)) last change ≡ Ok true
-  pub none : FoundNone old.view new.view (kind_end old.table.sizes (kind_for (after (record_of log)) change))
+  pub room : LacksRoom means (after (record_of log)) change old new
 
 -- What asks for no change lacks none.
 abbrev pub Lacks : Meanings → ℕ → Option Change → Seated → Seated → Type 0
@@ -41,7 +48,6 @@ pub record HasCause (means : Meanings) (reused : Type 0) (last : ℕ) (asked : O
 pub record HasCauseAt (means : Meanings) (reused : Type 0) (s : State) (last : ℕ) (change : Change) (old new : Seated)
     (e : Refusal) : Type 0 where
   pub asked : e ≡ refusal.Full → asked_reply means s last change ≡ Ok true
-  pub none : reused → e ≡ refusal.Full
-      → FoundNone old.view new.view (kind_end old.table.sizes (kind_for s change))
+  pub room : reused → e ≡ refusal.Full → LacksRoom means s change old new
   pub busy : e ≡ refusal.Busy → reused
   pub stamps : e ≡ refusal.Stamps → IsLate (next_stamp new.mark.log)

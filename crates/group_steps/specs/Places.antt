@@ -1,5 +1,5 @@
 -- Where a call stands: a commit of a group, as a seat reads it.
-use Rattle.std.specs.Prelude.{◌≡◌, ◌<◌, List}
+use Rattle.std.specs.Prelude.{◌<◌, List}
 use mathlib.Core.List.{IsPrefix}
 use Rattle.group_history.specs.declared.refs.Ref.{Ref}
 use Rattle.group_history.specs.Ids.{IdsFollow}

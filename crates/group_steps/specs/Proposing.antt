@@ -1,6 +1,6 @@
 -- What is right to answer where a client asks for a change, and what leads from a state to the one after it.
-use Rattle.std.specs.Prelude.{ℕ, ◌≡◌, ◌⊎◌, ◌+◌, ◌<◌, ◌≤◌, ◌^◌, Bool, true, false, List, [], length, Option, Some, None}
-use Rattle.std.specs.Prelude.{Result, Ok, Err}
+use Rattle.std.specs.Prelude.{ℕ, ◌≡◌, ◌⊎◌, ◌+◌, ◌<◌, ◌≤◌, ◌^◌, Bool, true, false, List, [], ◌∷◌, length, Option, Some}
+use Rattle.std.specs.Prelude.{None, Result, Ok, Err}
 use mathlib.Core.List.{IsPrefix}
 use Rattle.group_history.specs.declared.changes.Change.{Change}
 use Rattle.group_history.specs.declared.changes.Change.TheVariants.{Mutated, Pulled, Closed}
@@ -23,6 +23,7 @@ use Rattle.group_history.specs.State.{State}
 use Rattle.head_word.specs.declared.entry.Entry.{Entry}
 use Rattle.head_word.specs.Books.{drawn, last_move, next_stamp, record_of}
 use Rattle.head_word.specs.Marks.{Known}
+use Rattle.map_chunks.specs.Drafts.{AreNeeded}
 use Rattle.map_chunks.specs.Places.{with_nodes}
 use Rattle.reader_claims.specs.declared.slot.Kind.{Kind}
 use Rattle.reader_claims.specs.declared.slot.Kind.TheVariants as kind
@@ -107,6 +108,8 @@ pub record IsProposalFor (means : Meanings) (before : Contents) (base : Ref) (s 
   pub some : 0 < length p.draft.nodes
   -- its commit is one of the draft's own
   pub new : p.draft.first ≤ stamp_of p.at
+  -- which is the last one, and each of the others is a child of a later one
+  pub needed : AreNeeded p.draft.first p.draft.nodes (p.at ∷ [])
   pub kind : p.kind ≡ kind_for s change
   pub accepted : IsAccepted means s change
   pub then : Spells means (with_nodes contents p.draft.nodes) (stamp_of p.at) (after_change s change)

@@ -46,8 +46,6 @@ fn change_at<M: Mutators, S: Store<M>>(
     request: &Request<'_>,
     tries: u32,
 ) -> Result<Tried, Refusal>
-where
-    S::Seat: Drop,
     requires reading { IsReading S.reused group.now.shared seat.old }
     requires none { S.reused → seat.old.view.taken ≡ [] }
     requires since { IsPrefix arrival.now.seen.log seat.old.mark.log }
@@ -93,8 +91,6 @@ fn change_once<M: Mutators, S: Store<M>>(
     request: &Request<'_>,
     tries: u32,
 ) -> Result<Tried, Refusal>
-where
-    S::Seat: Drop,
     requires home { IsSeatOf group.now.shared seat.old }
     requires none { S.reused → seat.old.view.taken ≡ [] }
     requires asks { MayAsk (drawn seat.old.mark.log) request.now.before request.now.change.now }
@@ -120,8 +116,6 @@ pub fn make_change<M: Mutators, S: Store<M>>(
     request: &Request<'_>,
     tries: u32,
 ) -> Result<Option<Ref>, Refusal>
-where
-    S::Seat: Drop,
     requires home { IsSeatOf group.now.shared seat.old }
     requires none { S.reused → seat.old.view.taken ≡ [] }
     requires asks { MayAsk (drawn seat.old.mark.log) request.now.before request.now.change.now }

@@ -7,7 +7,11 @@
 //!
 //! `At` is the commit where a call stands, read by a seat whose pin is held. The clauses name the state there by what
 //! had been seen when the head was looked at (`state_at`). Why a change is refused with Full, Busy or Stamps is
-//! `HasCause`, and what it retires `Frees`.
+//! `HasCause`, and all that it does to slots, but for what it gives, `Frees`.
+//!
+//! Not proved: that the slot which a pull lets go for a node is the one where the node lies (the book names stamps, not
+//! slots); how many drafts a call gives up, in slots of which kind, and how many stamps it draws; that the draft for
+//! which no slot was found has no more chunks than its map needs.
 //!
 //! What is tried again is one function over the change, `make_change`, and no trait that each change meets: a method of
 //! a trait's block may not call a function at a bound that threads may share. What a pull leaves behind is listed

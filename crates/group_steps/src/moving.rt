@@ -1,14 +1,13 @@
 //! A change that was proposed: what leads to it is placed, and the head is moved there.
-ghost use Rattle.std.specs.List.{All, Contains};
+ghost use Rattle.std.specs.List.{Contains};
 ghost use Rattle.group_history.specs.declared.refusals.Refusal.TheVariants as refusal;
-ghost use Rattle.std.specs.Prelude.{◌≡◌, [], true, IfOk, IfErr, IfSome, IfNone, OnErr};
+ghost use Rattle.std.specs.Prelude.{◌≡◌, ◌≤◌, List, [], length, map, true, IfOk, IfErr, IfSome, IfNone, OnErr};
 ghost use Rattle.group_history.specs.Record.{after_change};
 ghost use Rattle.group_history.specs.Refs.{slot_of, stamp_of};
 ghost use Rattle.group_history.specs.Spelling.{Spells};
 ghost use Rattle.group_history.specs.State.{State};
 ghost use Rattle.head_word.specs.Books.{IsChangeFrom, drawn, next_stamp};
-ghost use Rattle.reader_claims.specs.Lists.{In};
-ghost use Rattle.reader_claims.specs.Machine.{Moves};
+ghost use Rattle.reader_claims.specs.Deeds.{Deed};
 ghost use Rattle.reader_claims.specs.Seats.{kind_end};
 ghost use Rattle.map_chunks.specs.Drafts.{IsLate};
 ghost use Rattle.commit_graph.specs.Seats.{IsReading, IsSameSeat};
@@ -16,8 +15,8 @@ ghost use Rattle.answered.specs.Answered.{IsLeft, is_resource_refusal};
 ghost use Rattle.answered.specs.Trying.{Ends, IsBase, IsLost, IsMove, IsWon};
 ghost use Rattle.answered.specs.declared.trying.Published.TheVariants.{Won};
 ghost use Rattle.publishing.specs.Placed.{FoundNone};
-ghost use Rattle.publishing.specs.Retiring.{Retires};
-ghost use Rattle.group_steps.specs.Leaving.{AreLeft, Frees, RetiresWhatIsLeft};
+ghost use Rattle.publishing.specs.Retiring.{AreFreed, drafted};
+ghost use Rattle.group_steps.specs.Leaving.{AreLeft, Frees, FreesWhatIsLeft};
 ghost use Rattle.group_steps.specs.Changing.{is_made};
 ghost use Rattle.group_steps.specs.Missing.{IsMissedOrDry, map_ok};
 ghost use Rattle.group_steps.specs.Proposing.{MayMove, change_asked};
@@ -36,8 +35,6 @@ fn left_behind<M: Means, S: Store<M>>(
     to: &Move<'_>,
     tries: u32,
 ) -> Result<Vec<Ref>, Refusal>
-where
-    S::Seat: Drop,
     requires reading { IsReading S.reused shared.now seat.now }
     requires old { (s : State) × IsBase M.means seat.now.mark to.now.base s }
     requires new { (s : State) × IsBase M.means seat.now.mark to.now.new s }
@@ -61,23 +58,23 @@ fn exchange<M: Means, S: Store<M>>(
     to: &Move<'_>,
     tries: u32,
 ) -> Result<Published, Refusal>
-where
-    S::Seat: Drop,
     requires reading { IsReading S.reused shared.now seat.old }
     requires none { S.reused → seat.old.view.taken ≡ [] }
-    requires settled { S.reused → All (λ at. In seat.old.view.settled (slot_of at)) to.now.refs.now }
+    requires drafted { S.reused → (before : List Deed)
+        × (seat.old.view.deeds ≡ drafted (map slot_of to.now.refs.now) [] before) }
     requires among { Contains to.now.refs.now to.now.new }
     requires follows { IsChangeFrom M.means (drawn seat.old.mark.log) to.now.base to.now.new to.now.change.now }
     ensures seat { IsSameSeat seat.old seat.new }
     ensures none { S.reused → seat.new.view.taken ≡ [] }
-    ensures moves { S.reused → Moves seat.old.view seat.new.view }
+    ensures loads { S.reused → seat.old.view.epoch_loads ≤ seat.new.view.epoch_loads }
+    ensures reached { S.reused → seat.old.view.reached ≤ seat.new.view.reached }
     ensures ends { IfOk result (Ends M.means seat.old.mark seat.new.mark to.now.base to.now.change.now) }
     ensures goes { IfOk result (λ published. published ≡ Won
         → IsMove seat.old.mark seat.new.mark to.now.base to.now.new to.now.change.now) }
-    ensures retired { S.reused → IfOk result (λ published. RetiresWhatIsLeft shared.now.table.sizes.slots
+    ensures freed { S.reused → IfOk result (λ published. FreesWhatIsLeft shared.now.table.sizes.slots
         (drawn seat.old.mark.log) to.now.base to.now.new to.now.change.now to.now.refs.now seat.old.view seat.new.view published) }
-    ensures given { S.reused → OnErr result
-        (Retires shared.now.table.sizes.slots seat.old.view to.now.refs.now seat.new.view) }
+    ensures given { S.reused → OnErr result (AreFreed shared.now.table.sizes.slots seat.new.view.reached
+        (map slot_of to.now.refs.now) seat.old.view.deeds seat.new.view.deeds) }
     ensures err { IfErr result (λ e. IsMissedOrDry S.reused e × (seat.new.mark ≡ seat.old.mark)) }
 {
     match left_behind::<M, S>(shared, seat, to, tries) {
@@ -100,8 +97,6 @@ pub fn move_head<M: Means, S: Store<M>>(
     proposal: Proposal,
     tries: u32,
 ) -> Result<Option<Ref>, Refusal>
-where
-    S::Seat: Drop,
     requires reading { IsReading S.reused shared.now seat.old }
     requires none { S.reused → seat.old.view.taken ≡ [] }
     requires leads { MayMove M.means seat.old.mark change.now proposal }
@@ -115,7 +110,8 @@ where
     ensures frees { S.reused → Frees shared.now.table.sizes.slots seat.old seat.new
         (change_asked change.now (map_ok is_made result)) }
     ensures full { S.reused → IfErr result (λ e. e ≡ refusal.Full
-        → FoundNone seat.old.view seat.new.view (kind_end shared.now.table.sizes proposal.kind)) }
+        → FoundNone seat.old.view seat.new.view (kind_end shared.now.table.sizes proposal.kind)
+        (length proposal.draft.nodes)) }
     ensures busy { IfErr result (λ e. e ≡ refusal.Busy → S.reused) }
     ensures late { IfErr result (λ e. e ≡ refusal.Stamps → IsLate (next_stamp seat.new.mark.log)) }
 {

@@ -17,10 +17,7 @@ use std::marker::Model;
 
 /// A commit of a group, read by a seat whose pin is held; and what had been seen when the head was there. Where slots
 /// are used again, a slot that is lost to others is tried for `tries` times.
-pub struct At<'a, M: Means, S: Slots<M>>
-where
-    S::Seat: Drop,
-{
+pub struct At<'a, M: Means, S: Slots<M>> {
     pub group: &'a SharedGroup<M, S>,
     pub seat: &'a Seat<M, S>,
     pub seen: &'a Mark<M>,
@@ -28,10 +25,7 @@ where
     pub tries: u32,
 }
 
-impl<'a, M: Means, S: Slots<M>> Model for At<'a, M, S>
-where
-    S::Seat: Drop,
-{
+impl<'a, M: Means, S: Slots<M>> Model for At<'a, M, S> {
     ghost use Rattle.std.specs.Coded.{codes};
     ghost use Rattle.head_word.specs.contracts.entry.Entry as entry;
     ghost use Rattle.commit_graph.specs.Seats.{IsReading};
@@ -47,10 +41,7 @@ where
         × IsPlace M.means (place at.group.now.identity at.seen.now.log at.seat.now.mark at.commit) };
 }
 
-impl<M: Means, S: Slots<M>> Drop for At<'_, M, S>
-where
-    S::Seat: Drop,
-{
+impl<M: Means, S: Slots<M>> Drop for At<'_, M, S> {
     fn drop(self) {
         let At {
             group: _,
@@ -62,10 +53,7 @@ where
     }
 }
 
-impl<'a, M: Means, S: Slots<M>> At<'a, M, S>
-where
-    S::Seat: Drop,
-{
+impl<'a, M: Means, S: Slots<M>> At<'a, M, S> {
     pub fn new(
         group: &'a SharedGroup<M, S>,
         seat: &'a Seat<M, S>,

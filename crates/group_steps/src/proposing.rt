@@ -2,7 +2,7 @@
 //!
 //! The commit is looked at once: that tells whether the group is closed, the root of its map, and its chain's snapshot.
 //! Nothing is placed yet, and the head is not touched: a refusal has changed nothing.
-ghost use Rattle.std.specs.Prelude.{ℕ, ◌≡◌, ◌⊎◌, ◌+◌, ◌<◌, ◌≤◌, false, Err, Some, List, length, IfOk, IfErr, OnOk};
+ghost use Rattle.std.specs.Prelude.{ℕ, ◌≡◌, ◌⊎◌, ◌+◌, ◌<◌, ◌≤◌, false, Err, Some, List, [], ◌∷◌, length, IfOk, IfErr, OnOk};
 ghost use Rattle.group_history.specs.Mutating.{mutate_reply};
 ghost use Rattle.group_history.specs.Pulling.{after_pull};
 ghost use Rattle.group_history.specs.Pull.{AreInRange};
@@ -15,7 +15,7 @@ ghost use Rattle.group_history.specs.declared.mutations.Reason.TheVariants.{Init
 ghost use Rattle.group_history.specs.declared.refusals.Refusal.TheVariants as refusal;
 ghost use Rattle.head_word.specs.Books.{drawn, next_stamp};
 ghost use Rattle.map_chunks.specs.Places.{with_nodes};
-ghost use Rattle.map_chunks.specs.Drafts.{IsLate};
+ghost use Rattle.map_chunks.specs.Drafts.{AreNeeded, IsLate};
 ghost use Rattle.commit_graph.specs.Chains.{IsBaseOf};
 ghost use Rattle.commit_graph.specs.LastIds.{last_at};
 ghost use Rattle.answered.specs.Trying.{IsUnproposed};
@@ -66,8 +66,6 @@ pub fn check_next<M: Means, S: Slots<M>>(
     mutation: &Mutation,
     before: LastId,
 ) -> Result<(), Refusal>
-where
-    S::Seat: Drop,
     requires open { (state_at at.now).closed ≡ false }
     requires before { last_at (drawn at.now.mark.log) (stamp_of before.at) mutation.now.client ≡ Some before.id }
     ensures ok { OnOk result (last_id (state_at at.now) mutation.now.client ≡ before.id) }
@@ -88,8 +86,6 @@ fn propose_next<'a, M: Mutators, S: Slots<M>>(
     mutation: &Mutation,
     last: u64,
 ) -> Result<Proposal, Refusal>
-where
-    S::Seat: Drop,
     requires spot { IsSpot M.means at.now spot.tip spot.first }
     requires own { last_id (state_at at.now) mutation.now.client ≡ last }
     requires next { (mutation.now.id ≡ last + 1) × (mutation.now.reason ≡ Initial) }
@@ -129,8 +125,6 @@ fn propose_mutation<M: Mutators, S: Slots<M>>(
     mutation: &Mutation,
     before: LastId,
 ) -> Result<Proposal, Refusal>
-where
-    S::Seat: Drop,
     requires spot { IsSpot M.means at.now spot.tip spot.first }
     requires asks { MayAsk (drawn at.now.mark.log) before (changed.Mutated mutation.now) }
     ensures proposed { IfOk result (λ p. MayPropose M.means (drawn at.now.mark.log) at.now.commit (state_at at.now)
@@ -161,8 +155,6 @@ fn propose_replayed<'a, M: Mutators, S: Slots<M>>(
     pending: &[Mutation],
     pull: &PullOk,
 ) -> Result<Proposal, Refusal>
-where
-    S::Seat: Drop,
     requires spot { IsSpot M.means at.now spot.tip spot.first }
     requires before { IsBaseOf (drawn at.now.mark.log) (state_at at.now) before.now }
     requires pending { pending.now ≡ (state_at at.now).pending }
@@ -172,6 +164,7 @@ where
     ensures first { IfOk result (λ p. (p.draft.first ≡ spot.first) × (p.base ≡ at.now.commit)) }
     ensures some { IfOk result (λ p. 0 < length p.draft.nodes) }
     ensures new { IfOk result (λ p. p.draft.first ≤ stamp_of p.at) }
+    ensures needed { IfOk result (λ p. AreNeeded p.draft.first p.draft.nodes (p.at ∷ [])) }
     ensures in_range { OnOk result (AreInRange pull.now.changes) }
     ensures err { IfErr result (IsStop S.reused) }
     ensures late { IfErr result (λ e. e ≡ refusal.Stamps → IsLate spot.first) }
@@ -202,8 +195,6 @@ fn propose_rebase<'a, M: Mutators, S: Slots<M>>(
     before: &Base,
     pull: &PullOk,
 ) -> Result<Proposal, Refusal>
-where
-    S::Seat: Drop,
     requires spot { IsSpot M.means at.now spot.tip spot.first }
     requires before { IsBaseOf (drawn at.now.mark.log) (state_at at.now) before.now }
     ensures spelled { IfOk result (λ p. Spells M.means (with_nodes (drawn at.now.mark.log) p.draft.nodes)
@@ -212,6 +203,7 @@ where
     ensures first { IfOk result (λ p. (p.draft.first ≡ spot.first) × (p.base ≡ at.now.commit)) }
     ensures some { IfOk result (λ p. 0 < length p.draft.nodes) }
     ensures new { IfOk result (λ p. p.draft.first ≤ stamp_of p.at) }
+    ensures needed { IfOk result (λ p. AreNeeded p.draft.first p.draft.nodes (p.at ∷ [])) }
     ensures in_range { OnOk result (AreInRange pull.now.changes) }
     ensures err { IfErr result (IsStop S.reused) }
     ensures late { IfErr result (λ e. e ≡ refusal.Stamps → IsLate spot.first) }
@@ -233,8 +225,6 @@ fn propose_outcome<M: Mutators, S: Slots<M>>(
     ticket: &Cookie,
     pull: &PullOk,
 ) -> Result<Option<Proposal>, Refusal>
-where
-    S::Seat: Drop,
     requires spot { IsSpot M.means at.now spot.tip spot.first }
     requires before { IsBaseOf (drawn at.now.mark.log) (state_at at.now) before.now }
     ensures proposed { (last : ℕ) → IfOk result (MayPropose M.means (drawn at.now.mark.log) at.now.commit
@@ -264,8 +254,6 @@ fn propose_pull<'a, M: Mutators, S: Slots<M>>(
     ticket: &Cookie,
     pull: &PullOk,
 ) -> Result<Option<Proposal>, Refusal>
-where
-    S::Seat: Drop,
     requires spot { IsSpot M.means at.now spot.tip spot.first }
     ensures proposed { (last : ℕ) → IfOk result (MayPropose M.means (drawn at.now.mark.log) at.now.commit
         (state_at at.now) last (changed.Pulled ticket.now pull.now)) }
@@ -282,8 +270,6 @@ pub fn propose_closing<M: Means, S: Slots<M>>(
     at: &At<'_, M, S>,
     spot: Spot,
 ) -> Result<Option<Proposal>, Refusal>
-where
-    S::Seat: Drop,
     requires spot { IsSpot M.means at.now spot.tip spot.first }
     ensures proposed { (last : ℕ) → IfOk result (MayPropose M.means (drawn at.now.mark.log) at.now.commit
         (state_at at.now) last changed.Closed) }
@@ -309,8 +295,6 @@ fn propose_open<M: Mutators, S: Slots<M>>(
     spot: Spot,
     request: &Request<'_>,
 ) -> Result<Option<Proposal>, Refusal>
-where
-    S::Seat: Drop,
     requires spot { IsSpot M.means at.now spot.tip spot.first }
     requires asks { MayAsk (drawn at.now.mark.log) request.now.before request.now.change.now }
     ensures proposed { IfOk result (MayPropose M.means (drawn at.now.mark.log) at.now.commit (state_at at.now)
@@ -341,8 +325,6 @@ pub(crate) fn propose<'a, M: Mutators, S: Slots<M>>(
     first: u64,
     request: &Request<'_>,
 ) -> Result<Option<Proposal>, Refusal>
-where
-    S::Seat: Drop,
     requires asks { MayAsk (drawn at.now.mark.log) request.now.before request.now.change.now }
     requires first { first ≡ next_stamp at.now.mark.log }
     ensures proposed { IfOk result (MayPropose M.means (drawn at.now.mark.log) at.now.commit (state_at at.now)

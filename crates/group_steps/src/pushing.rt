@@ -68,8 +68,6 @@ fn written<N: Nodes, W: Whose>(
 
 /// The body of a push of all that is pending at the commit.
 pub fn body_at<'a, M: Means, S: Slots<M>>(at: &At<'a, M, S>) -> Result<Vec<u8>, Refusal>
-where
-    S::Seat: Drop,
     ensures body { IfOk result (λ body. body.items ≡ push_text at.now.identity (state_at at.now).pending) }
     ensures err { IfErr result (IsMissedOrDry S.reused) }
 {

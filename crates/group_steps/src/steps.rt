@@ -7,7 +7,7 @@ ghost use Rattle.group_history.specs.State.{last_id};
 ghost use Rattle.head_word.specs.Books.{drawn, last_move, record_of};
 ghost use Rattle.head_word.specs.Marks.{others};
 ghost use Rattle.reader_claims.specs.declared.words.Pin.TheVariants.{Absent};
-ghost use Rattle.reader_claims.specs.Machine.{Moves};
+ghost use Rattle.reader_claims.specs.Views.{with_pin};
 ghost use Rattle.chunk_slots.specs.Seats.{IsPinned};
 ghost use Rattle.commit_graph.specs.LastIds.{last_at};
 ghost use Rattle.commit_graph.specs.Seats.{HasLooked, IsSeatOf, is_held};
@@ -32,11 +32,8 @@ pub fn pin_and_load<M: Means, S: Slots<M>>(
     seat: &mut Seat<M, S>,
     tries: u32,
 ) -> Result<Ref, Refusal>
-where
-    S::Seat: Drop,
     requires home { IsSeatOf shared.now seat.old }
     ensures looked { HasLooked S.reused seat.old seat.new }
-    ensures moves { S.reused → Moves seat.old.view seat.new.view }
     ensures point { IfOk result (λ _. IsPoint M.means seat.old.mark seat.new.mark None seat.new.mark.log) }
     ensures base { IfOk result (λ at. IsBase M.means seat.new.mark at (after (record_of seat.new.mark.log))) }
     ensures last { IfOk result (λ at. at ≡ last_move seat.new.mark.log) }
@@ -52,13 +49,10 @@ where
 
 /// Takes the pin away.
 pub fn unpin<M: Means, S: Slots<M>>(shared: &Shared<M, S>, seat: &mut Seat<M, S>)
-where
-    S::Seat: Drop,
     requires home { IsSeatOf shared.now seat.old }
     ensures looked { HasLooked S.reused seat.old seat.new }
-    ensures moves { S.reused → Moves seat.old.view seat.new.view }
+    ensures view { S.reused → seat.new.view ≡ with_pin seat.old.view Absent }
     ensures mark { seat.new.mark ≡ seat.old.mark }
-    ensures unpinned { S.reused → seat.new.view.pin ≡ Absent }
 {
     shared.store.unpin(&mut seat.slots);
 }
@@ -78,11 +72,8 @@ pub fn pin_and_load_both<M: Means, S: Slots<M>>(
     seat: &mut Seat<M, S>,
     tries: u32,
 ) -> Result<Arrival<M>, Refusal>
-where
-    S::Seat: Drop,
     requires home { IsSeatOf shared.now seat.old }
     ensures looked { HasLooked S.reused seat.old seat.new }
-    ensures moves { S.reused → Moves seat.old.view seat.new.view }
     ensures arrived { IfOk result (λ at. IsArrived M.means seat.old.mark (when_seen seat.old.mark at.seen.log)
         seat.new.mark at.base at.first) }
     ensures held { S.reused → IfOk result (λ _. is_held seat.new.view.pin ≡ true) }
@@ -103,8 +94,6 @@ pub fn find_last<M: Means, S: Slots<M>>(
     before: Option<LastId>,
     tries: u32,
 ) -> Result<LastId, Refusal>
-where
-    S::Seat: Drop,
     requires home { IsSeatOf group.now.shared seat.old }
     requires before { (found : Found) → before ≡ Some found
         → last_at (drawn seat.old.mark.log) (stamp_of found.at) client.now ≡ Some found.id }

@@ -37,8 +37,6 @@ fn root_known<N: Nodes + Copy, K: NamesContents>(nodes: N, at: Ref) -> Result<Re
 
 /// The root of the map that queries read at the commit.
 pub fn root_at<'a, M: Means, S: Slots<M>>(at: &At<'a, M, S>) -> Result<Ref, Refusal>
-where
-    S::Seat: Drop,
     ensures root { IfOk result (λ root. map_at (drawn at.now.mark.log) (stamp_of root)
         ≡ Some (view_of M.means (state_at at.now))) }
     ensures err { IfErr result (IsStoreRefusal S.reused) }
@@ -48,8 +46,6 @@ where
 
 /// The cookie of the commit's state.
 pub fn cookie_at<M: Means, S: Slots<M>>(at: &At<'_, M, S>) -> Result<Cookie, Refusal>
-where
-    S::Seat: Drop,
     ensures cookie { IfOk result (λ cookie. cookie ≡ (state_at at.now).cookie) }
     ensures err { IfErr result (IsMissedOrDry S.reused) }
 {
@@ -59,8 +55,6 @@ where
 
 /// Whether the group is closed at the commit.
 pub fn closed_at<M: Means, S: Slots<M>>(at: &At<'_, M, S>) -> Result<bool, Refusal>
-where
-    S::Seat: Drop,
     ensures closed { IfOk result (λ closed. closed ≡ (state_at at.now).closed) }
     ensures err { IfErr result (IsStoreRefusal S.reused) }
 {
@@ -74,8 +68,6 @@ pub(crate) fn last_known<M: Means, S: Slots<M>>(
     client: &Text,
     before: Option<LastId>,
 ) -> Result<u64, Refusal>
-where
-    S::Seat: Drop,
     requires before { (found : Found) → before ≡ Some found
         → last_at (drawn at.now.mark.log) (stamp_of found.at) client.now ≡ Some found.id }
     ensures id { IfOk result (λ id. id ≡ last_id (state_at at.now) client.now) }

@@ -64,10 +64,9 @@ pub left_place : (b taken new : PlaceState) (client : ClientState) → Some clie
 left_place b taken new client is left gone =
     by_client Leaves client b new (told_alone Done) is (record {
       seat = gone.0;
-      looked = gone.1;
-      mark = gone.2;
+      gone = gone.1;
       told = refl;
-      left = gone.3 ∙ ap (λ (p : PlaceState). free_place p.group gone.0) left;
+      left = gone.2 ∙ ap (λ (p : PlaceState). free_place p.group gone.0) left;
     })
 
 -- ---- a change that is given up
@@ -106,13 +105,10 @@ pub left_asked : (means : Meanings) (b taken new : PlaceState) (a : UnderWay) (c
     → IsLeft client taken new → ByRun (LeavesAsked means) b (told_alone Done) new
 left_asked means b taken new a client is left given gone =
     by_run (LeavesAsked means) a b new (told_alone Done) is (record {
-      client = client;
-      gave = given;
       seat = gone.0;
-      looked = gone.1;
-      mark = gone.2;
+      gone = record { client = client; gave = given; gone = gone.1 };
       told = refl;
-      left = gone.3 ∙ ap (λ (p : PlaceState). free_place p.group gone.0) left;
+      left = gone.2 ∙ ap (λ (p : PlaceState). free_place p.group gone.0) left;
     })
 
 -- ---- where no change asks for a run

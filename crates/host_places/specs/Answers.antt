@@ -17,6 +17,7 @@ use Rattle.pull_patch.specs.Grammar.{answer_to}
 use Rattle.push_body.specs.Bodies.{push_text}
 use Rattle.answered.specs.Answered.{IsAnswered, IsLeft, IsLinearized, no_change}
 use Rattle.answered.specs.Changes.{change_made, change_read}
+use Rattle.chunk_slots.specs.Seats.{IsIdle}
 use Rattle.commit_graph.specs.Seats.{HasLooked, Seated}
 use Rattle.group_steps.specs.Causes.{HasCause}
 use Rattle.group_steps.specs.Leaving.{Frees}
@@ -110,11 +111,16 @@ Sits means uuid before =
     At before.seat fault.InUse (λ seat b t a. SitsDown uuid means seat b t a ⊎ IsTurnedAway seat b t a)
     before
 
+-- The client left, and this is its seat: nothing else was seen or done there, and it has no pin and no taken slot.
+pub record HasLeft (client : ClientState) (seat : Seated) : Type 0 where
+  pub looked : HasLooked ⊤ client.seat seat
+  pub mark : seat.mark ≡ client.seat.mark
+  pub rests : IsIdle seat.view
+
 -- the client leaves; its tickets and watches are given up
 pub record Leaves (client : ClientState) (before : PlaceState) (t : Told) (after : PlaceState) : Type 0 where
   pub seat : Seated
-  pub looked : HasLooked ⊤ client.seat seat
-  pub mark : seat.mark ≡ client.seat.mark
+  pub gone : HasLeft client seat
   pub told : t ≡ told_alone Done
   pub left : after ≡ free_place before.group seat
 

@@ -13,7 +13,7 @@ use Rattle.group_history.specs.Map.{Bytes, Entries}
 use Rattle.group_history.specs.Meaning.{Meanings}
 use Rattle.group_history.specs.Scans.{rows_of}
 use Rattle.group_history.specs.State.{made}
-use Rattle.commit_graph.specs.Seats.{HasLooked, Seated}
+use Rattle.commit_graph.specs.Seats.{Seated}
 use Rattle.group_steps.specs.Missing.{IsMissedOrDry}
 use Rattle.rebase.specs.Clients.{ClientState}
 use Rattle.rebase.specs.Replies.{Replied}
@@ -23,7 +23,7 @@ use Rattle.host_places.specs.declared.asked.Asked.{Asked}
 use Rattle.host_places.specs.declared.asked.Asked.TheVariants as asked
 use Rattle.host_places.specs.declared.faults.Fault.TheVariants as fault
 use Rattle.host_places.specs.declared.outcomes.Outcome.TheVariants as outcome
-use Rattle.host_places.specs.Answers.{At, By, Rule, Tells, tries}
+use Rattle.host_places.specs.Answers.{At, By, HasLeft, Rule, Tells, tries}
 use Rattle.host_places.specs.Asking.{json_said, ran_said, scan_said, text_said}
 use Rattle.host_places.specs.Places.{PlaceState, back_at, free_place, with_asking}
 use Rattle.host_places.specs.Runs.{AsksAtEnd, AsksFor, AsksNext, EndsRuns, GaveUp, IsRunTold}
@@ -110,14 +110,17 @@ pub record GivesUp (means : Meanings) (asking : UnderWay) (before : PlaceState) 
   pub told : t ≡ told_alone outcome.Done
   pub left : after ≡ back_at client before
 
+-- It was given up, its client left, and this is the client's seat.
+pub record HasLeftAsked (means : Meanings) (asking : UnderWay) (seat : Seated) : Type 0 where
+  pub client : ClientState
+  pub gave : GaveUp means asking client
+  pub gone : HasLeft client seat
+
 -- It is given up, and its client leaves; the client's tickets and watches are given up.
 pub record LeavesAsked (means : Meanings) (asking : UnderWay) (before : PlaceState) (t : Told)
     (after : PlaceState) : Type 0 where
-  pub client : ClientState
-  pub gave : GaveUp means asking client
   pub seat : Seated
-  pub looked : HasLooked ⊤ client.seat seat
-  pub mark : seat.mark ≡ client.seat.mark
+  pub gone : HasLeftAsked means asking seat
   pub told : t ≡ told_alone outcome.Done
   pub left : after ≡ free_place before.group seat
 

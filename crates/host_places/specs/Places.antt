@@ -1,6 +1,6 @@
 -- How a place stands. This project's own words.
 use Rattle.std.specs.Prelude.{ℕ, ◌≡◌, ◌⊎◌, ◌++◌, ◌∷◌, ◌<◌, [], List, length, Option, Some, None, slice_index_or}
-use Rattle.std.specs.Prelude.{slice_set}
+use Rattle.std.specs.Prelude.{IsSome, slice_set}
 use Rattle.group_history.specs.Map.{Bytes}
 use Rattle.commit_graph.specs.Seats.{Seated}
 use Rattle.rebase.specs.Clients.{ClientState, Grouped}
@@ -62,10 +62,11 @@ with_watches c ws p = record p { client = Some c; watches = ws }
 abbrev pub ticket_at : List (Option Ticket) → ℕ → Option Ticket
 ticket_at ts n = slice_index_or ts n None
 
--- A ticket is kept under a number that had none, and what is kept under other numbers stays.
+-- A ticket is kept under the first number that had none, and what is kept under other numbers stays.
 abbrev pub IsKeptAt : ℕ → Ticket → List (Option Ticket) → List (Option Ticket) → Type 0
-IsKeptAt n t old new = ((n < length old) × (ticket_at old n ≡ None) × (new ≡ slice_set old n (Some t)))
-    ⊎ ((n ≡ length old) × (new ≡ old ++ Some t ∷ []))
+IsKeptAt n t old new = ((k : ℕ) → k < n → IsSome (ticket_at old k))
+    × (((n < length old) × (ticket_at old n ≡ None) × (new ≡ slice_set old n (Some t)))
+    ⊎ ((n ≡ length old) × (new ≡ old ++ Some t ∷ [])))
 
 -- a place with the bytes that its last call told, which lie from this address on
 pub record DeskState : Type 0 where

@@ -11,7 +11,7 @@ use script_mutators::ScriptMutators;
 use std::marker::{Brand, PhantomData};
 
 /// Mutators of a group at whose places hosts sit.
-pub trait Changes: Sync + Drop {
+pub trait Changes: Drop {
     /// Whether a change asks its host for runs.
     ghost asks: { Bool };
 }
@@ -29,11 +29,11 @@ impl AtOnce for ScriptMutators {
     ghost never = { refl };
 }
 
-impl<B: Picked + Sync + Drop> Changes for RuleMutators<B> {
+impl<B: Picked + Drop> Changes for RuleMutators<B> {
     ghost asks = { false };
 }
 
-impl<B: Picked + Sync + Drop> AtOnce for RuleMutators<B> {
+impl<B: Picked + Drop> AtOnce for RuleMutators<B> {
     ghost never = { refl };
 }
 
@@ -63,6 +63,6 @@ impl<B: PickedMeaning> Means for OwnMutators<B> {
     ghost means = { B.meaning };
 }
 
-impl<B: PickedMeaning + Sync + Drop> Changes for OwnMutators<B> {
+impl<B: PickedMeaning + Drop> Changes for OwnMutators<B> {
     ghost asks = { true };
 }

@@ -1,6 +1,7 @@
 //! A place, and the bytes that its last call told.
 ghost use Rattle.std.specs.Prelude.{◌≡◌, true, false};
 ghost use Rattle.host_places.specs.Calls.{MayAnswer};
+ghost use Rattle.host_places.specs.Closing.{Closes};
 ghost use Rattle.host_places.specs.Asking.{ran_said};
 ghost use Rattle.host_places.specs.Drafts.{HasRunAsMeant};
 ghost use Rattle.host_places.specs.Numbers.{MayAnswerNumbers};
@@ -13,11 +14,12 @@ use crate::faults::Fault;
 use crate::outcomes::Outcome;
 use crate::place::Place;
 use group_history::{Means, Mutators};
+use rebase::{Arena, Seat};
 use std::alloc::Global;
 use std::marker::Model;
 
-/// A place, and the bytes that its last call told, which lie there until the next one.
-#[derive(Drop)]
+/// A place, and the bytes that its last call told, which lie there until the next one. It can't be dropped: it is closed,
+/// by `close` or with others by `close_places`.
 pub struct Desk<M: Means + Changes> {
     place: Place<M>,
     bytes: Vec<u8>,
@@ -47,6 +49,14 @@ impl<M: Means + Changes> Desk<M> {
             place,
             bytes: Vec::new(alloc),
         }
+    }
+
+    /// Closes the place, and answers its seat: who sits there leaves. A change that asks for a run is given up.
+    pub fn close(self) -> Option<Seat<M, Arena<M>>>
+        ensures { Closes M.means self.place result }
+    {
+        let Desk { place, bytes: _ } = self;
+        place.close()
     }
 
     /// The bytes that the last call told.

@@ -20,7 +20,7 @@ use group_history::{Ended, Json, Means, Ran, Reason, Refusal, Scan};
 use rebase::{Arena, Asking, Reply};
 
 /// Tells the name of the mutator that is to be run, and for which reason.
-pub(crate) fn tell_name<M: Means + Changes>(
+pub(crate) fn tell_name<M: Means + Changes + Sync>(
     asking: &Asking<M, Arena<M>>,
     bytes: &mut Vec<u8>,
 ) -> Outcome
@@ -42,7 +42,7 @@ pub(crate) fn tell_name<M: Means + Changes>(
 }
 
 /// Tells the arguments on which it is to be run.
-pub(crate) fn tell_args<M: Means + Changes>(
+pub(crate) fn tell_args<M: Means + Changes + Sync>(
     asking: &Asking<M, Arena<M>>,
     bytes: &mut Vec<u8>,
 ) -> Outcome
@@ -57,7 +57,7 @@ pub(crate) fn tell_args<M: Means + Changes>(
 }
 
 /// Tells the value at a key of the run's map.
-pub(crate) fn tell_drafted<M: Means + Changes>(
+pub(crate) fn tell_drafted<M: Means + Changes + Sync>(
     asking: &Asking<M, Arena<M>>,
     key: &str,
     bytes: &mut Vec<u8>,
@@ -73,7 +73,7 @@ pub(crate) fn tell_drafted<M: Means + Changes>(
 }
 
 /// Tells whether the key is there in the run's map.
-pub(crate) fn tell_is_drafted<M: Means + Changes>(
+pub(crate) fn tell_is_drafted<M: Means + Changes + Sync>(
     asking: &Asking<M, Arena<M>>,
     key: &str,
 ) -> Outcome
@@ -86,7 +86,7 @@ pub(crate) fn tell_is_drafted<M: Means + Changes>(
 }
 
 /// Tells the rows of a scan of the run's map.
-pub(crate) fn tell_drafted_rows<M: Means + Changes>(
+pub(crate) fn tell_drafted_rows<M: Means + Changes + Sync>(
     asking: &Asking<M, Arena<M>>,
     scan: &Scan,
     bytes: &mut Vec<u8>,
@@ -101,7 +101,7 @@ pub(crate) fn tell_drafted_rows<M: Means + Changes>(
 }
 
 /// Puts a value into the run's map.
-pub(crate) fn put_drafted<M: Means + Changes>(
+pub(crate) fn put_drafted<M: Means + Changes + Sync>(
     asking: &mut Asking<M, Arena<M>>,
     key: &str,
     value: &Json,
@@ -112,7 +112,7 @@ pub(crate) fn put_drafted<M: Means + Changes>(
 }
 
 /// Takes a key out of the run's map.
-pub(crate) fn del_drafted<M: Means + Changes>(
+pub(crate) fn del_drafted<M: Means + Changes + Sync>(
     asking: &mut Asking<M, Arena<M>>,
     key: &str,
 ) -> Outcome

@@ -16,7 +16,9 @@
 //! Decisions. Whether a run is asked for comes first: it says which calls there are. Then the arguments are read, and
 //! then it is looked who sits there. A refused call has told no bytes. A poll
 //! keeps its rows only once they are told, so a refused one may be made again. A place has a handle on its group, which
-//! is let go with the last of them. A client that leaves takes its tickets and watches along.
+//! is let go with the last of them. A client that leaves takes its tickets and watches along. A place may have a change
+//! that asks for a run, so it can't be dropped: it is closed, by which such a change is given up, and its seat is
+//! answered (`specs/Closing.antt`).
 #![tactic(auto)]
 
 mod asked;
@@ -39,6 +41,6 @@ pub use asked::{Asked, Named, Range};
 pub use changes::{AtOnce, Changes, OwnMutators, PickedMeaning};
 pub use desk::Desk;
 pub use faults::Fault;
-pub use opening::{Opening, open_places};
+pub use opening::{Opening, close_places, open_places};
 pub use outcomes::Outcome;
 pub use place::Place;

@@ -19,7 +19,7 @@ use crate::place::Place;
 use crate::texts::{text_of, uuid_of};
 use group_history::{Means, Refusal, Text};
 use rebase::{Arena, Config, Group, Identity, Seat, Seats, Uuid};
-use std::alloc::{AllocError, Global};
+use std::alloc::{AllocError, AllocFailed, Global};
 use std::sync::Arc;
 
 /// What a group is opened with: its ID, a UUID; two texts, which its requests have; how many slots and places it has.
@@ -79,6 +79,15 @@ fn desk_at<M: Means + Changes>(
     Ok(Desk::new(alloc, Place::new(alloc, group, seat)))
 }
 
+/// Closes places, the last one first: who sits at them leaves, and changes that ask for runs are given up.
+pub fn close_places<M: Means + Changes>(desks: Vec<Desk<M>>) {
+    let mut desks = desks;
+    while let Some(desk) = desks.pop() {
+        drop(desk.close());
+    }
+    desks.destroy_empty();
+}
+
 // One more place, with this seat.
 fn add_desk<M: Means + Changes>(
     alloc: Global,
@@ -89,12 +98,18 @@ fn add_desk<M: Means + Changes>(
     requires { IsSeatOf (arc_value group.now).group seat }
     ensures { OnOk result (IsAdded (arc_value group.now) seat desks.old.items desks.new.items) }
 {
-    desks.push(desk_at(alloc, group, seat)?)?;
-    Ok(())
+    match desks.push(desk_at(alloc, group, seat)?) {
+        Ok(()) => Ok(()),
+        Err(refused) => {
+            let AllocFailed { value: desk } = refused;
+            drop(desk.close());
+            return Err(AllocError);
+        }
+    }
 }
 
 // A place for each seat, the last one first.
-fn fill_desks<M: Means + Changes>(
+fn fill_desks<M: Means + Changes + Sync>(
     alloc: Global,
     group: &Arc<Group<M, Arena<M>>, Global>,
     seats: &mut Seats<M, Arena<M>>,
@@ -113,7 +128,7 @@ fn fill_desks<M: Means + Changes>(
 }
 
 // A place for each seat of the group.
-fn desks_of<M: Means + Changes>(
+fn desks_of<M: Means + Changes + Sync>(
     alloc: Global,
     group: Arc<Group<M, Arena<M>>, Global>,
     seats: Seats<M, Arena<M>>,
@@ -128,11 +143,16 @@ fn desks_of<M: Means + Changes>(
     let filled = fill_desks(alloc, &group, &mut seats, &mut desks);
     drop(seats);
     drop(group);
-    filled?;
-    Ok(desks)
+    match filled {
+        Ok(()) => Ok(desks),
+        Err(e) => {
+            close_places(desks);
+            return Err(e);
+        }
+    }
 }
 
-fn desks_at<M: Means + Changes>(
+fn desks_at<M: Means + Changes + Sync>(
     alloc: Global,
     group: Group<M, Arena<M>>,
     seats: Seats<M, Arena<M>>,
@@ -148,7 +168,7 @@ fn desks_at<M: Means + Changes>(
 
 /// Opens a group, and answers its places. Refused where an argument says nothing, and for want of memory; `Busy` and
 /// `Full` do not come.
-pub fn open_places<M: Means + Changes>(
+pub fn open_places<M: Means + Changes + Sync>(
     alloc: Global,
     with: Opening<'_>,
     mutators: M,

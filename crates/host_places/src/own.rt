@@ -8,7 +8,7 @@ ghost use Rattle.host_places.specs.Asking.{json_said, named_said, ran_said, scan
 ghost use Rattle.host_places.specs.Calls.{MayAnswer, MayLackAsked};
 ghost use Rattle.host_places.specs.Drafts.{AnswersAsked, AnswersDraft, AsksToEnd, AsksToMutate, ByRun, GivesUp, GoesOn};
 ghost use Rattle.host_places.specs.Drafts.{HasRunAsMeant, LeavesAsked, ReadsDraft, TellsThis, WritesDraft};
-ghost use Rattle.host_places.specs.Inside.Sitting.{IsStepAt, Stands};
+ghost use Rattle.host_places.specs.Inside.Sitting.{IsStepAt, IsTakenFrom, Stands};
 ghost use Rattle.host_places.specs.Places.{ticket_at};
 ghost use Rattle.host_places.specs.Runs.{IsRunTold};
 ghost use Rattle.host_places.specs.Told.{bytes_told, is_told, named_told, rows_told, told, told_alone, value_told};
@@ -30,7 +30,8 @@ use rebase::{Arena, Asked as Step};
 impl<B: PickedMeaning + Sync + Drop> Place<OwnMutators<B>> {
     // How a change that was begun goes on: a run is asked for, or the call ended.
     fn go_on(&mut self, step: Step<OwnMutators<B>, Arena<OwnMutators<B>>>) -> Outcome
-        requires { IsStepAt B.meaning self.old.group step }
+        requires taken { IsTakenFrom self.old }
+        requires step { IsStepAt B.meaning self.old.group step }
         ensures { Stands step self.old (told_alone result) self.new }
     {
         match step {

@@ -9,7 +9,8 @@ ghost use Rattle.host_places.specs.Answers.{AnswersLooking, AnswersReading, At, 
 ghost use Rattle.host_places.specs.Answers.{Lacks, Leaves, Mutates, Polls, Reads, Refreshes, Sits, Watches};
 ghost use Rattle.host_places.specs.Asking.{named_said, scan_said, text_said, uuid_said};
 ghost use Rattle.host_places.specs.Calls.{MayAnswer, MayLack};
-ghost use Rattle.host_places.specs.Inside.Sitting.{CanSit, IsAt, IsLeft, IsTaken, with_sitting};
+ghost use Rattle.host_places.specs.Closing.{Closes};
+ghost use Rattle.host_places.specs.Inside.Sitting.{CanSit, IsAt, IsLeft, IsTaken, IsTakenFrom, with_sitting};
 ghost use Rattle.host_places.specs.Places.{free_place, ticket_at};
 ghost use Rattle.host_places.specs.Told.{bytes_told, cookie_told, is_told, pending_told, rows_told, told, told_alone};
 ghost use Rattle.host_places.specs.Told.{value_told};
@@ -35,8 +36,7 @@ use std::sync::Arc;
 /// How often a call begins anew that others are in the way of.
 pub(crate) const TRIES: u32 = 1_000_000;
 
-/// A place at a group: who sits there, with what it keeps for its host.
-#[derive(Drop)]
+/// A place at a group: who sits there, with what it keeps for its host. It can't be dropped: it is closed.
 pub struct Place<M: Means + Changes> {
     pub(crate) alloc: Global,
     group: Arc<Group<M, Arena<M>>, Global>,
@@ -98,6 +98,22 @@ impl<M: Means + Changes> Place<M> {
         }
     }
 
+    /// Closes the place: who sits there leaves. A change that asks for a run is given up. Answers the seat.
+    pub(crate) fn close(self) -> Option<Seat<M, Arena<M>>>
+        ensures { Closes M.means self result }
+    {
+        let Place {
+            alloc: _,
+            group: _,
+            sitting,
+            tickets: _,
+            watches: _,
+        } = self;
+        sitting.close()
+    }
+}
+
+impl<M: Means + Changes + Sync> Place<M> {
     // Who sits there is taken away. It, or another one, is put there before the call ends.
     pub(crate) fn take(&mut self) -> Sitting<M>
         ensures { IsTaken M.asks M.means result self.old self.new }
@@ -106,10 +122,14 @@ impl<M: Means + Changes> Place<M> {
     }
 
     pub(crate) fn put(&mut self, sitting: Sitting<M>)
-        requires { CanSit M.asks M.means self.old.group sitting }
+        requires taken { IsTakenFrom self.old }
+        requires fits { CanSit M.asks M.means self.old.group sitting }
         ensures { self.new ≡ with_sitting sitting self.old }
     {
-        drop(replace(&mut self.sitting, sitting));
+        let before = replace(&mut self.sitting, sitting);
+        let Sitting::Moving = before else {
+            unreachable!()
+        };
     }
 
     fn sit(&mut self, id: &[u8]) -> Outcome
@@ -140,7 +160,8 @@ impl<M: Means + Changes> Place<M> {
 
     // The client's seat is free, and what it kept is given up.
     pub(crate) fn free(&mut self, client: Client<M, Arena<M>>)
-        requires { IsAt self.old.group client }
+        requires taken { IsTakenFrom self.old }
+        requires at { IsAt self.old.group client }
         ensures { IsLeft client self.old self.new }
     {
         self.put(Sitting::Nobody(client.close()));

@@ -31,7 +31,7 @@ pub(crate) fn wrote(written: Result<(), AllocError>, bytes: &mut Vec<u8>) -> Out
     Outcome::Done
 }
 
-fn value_at<M: Means + Changes>(
+fn value_at<M: Means + Changes + Sync>(
     client: &mut Client<M, Arena<M>>,
     key: &str,
 ) -> Result<Option<Json>, Refusal>
@@ -47,7 +47,7 @@ fn value_at<M: Means + Changes>(
 }
 
 /// Tells the value at a key.
-pub(crate) fn tell_value<M: Means + Changes>(
+pub(crate) fn tell_value<M: Means + Changes + Sync>(
     client: &mut Client<M, Arena<M>>,
     key: &str,
     bytes: &mut Vec<u8>,
@@ -63,7 +63,7 @@ pub(crate) fn tell_value<M: Means + Changes>(
     }
 }
 
-fn is_there<M: Means + Changes>(
+fn is_there<M: Means + Changes + Sync>(
     client: &mut Client<M, Arena<M>>,
     key: &str,
 ) -> Result<bool, Refusal>
@@ -79,7 +79,10 @@ fn is_there<M: Means + Changes>(
 }
 
 /// Tells whether a key is there.
-pub(crate) fn tell_has<M: Means + Changes>(client: &mut Client<M, Arena<M>>, key: &str) -> Outcome
+pub(crate) fn tell_has<M: Means + Changes + Sync>(
+    client: &mut Client<M, Arena<M>>,
+    key: &str,
+) -> Outcome
     ensures { ReadsBy is_told (λ s. has_at M.means s key.now) M.means client.old (told_alone result) client.new }
 {
     match is_there(client, key) {
@@ -88,7 +91,7 @@ pub(crate) fn tell_has<M: Means + Changes>(client: &mut Client<M, Arena<M>>, key
     }
 }
 
-fn rows_at<M: Means + Changes>(
+fn rows_at<M: Means + Changes + Sync>(
     client: &mut Client<M, Arena<M>>,
     scan: &Scan,
 ) -> Result<Vec<(Text, Json)>, Refusal>
@@ -104,7 +107,7 @@ fn rows_at<M: Means + Changes>(
 }
 
 /// Tells the rows of a scan.
-pub(crate) fn tell_rows<M: Means + Changes>(
+pub(crate) fn tell_rows<M: Means + Changes + Sync>(
     client: &mut Client<M, Arena<M>>,
     scan: &Scan,
     bytes: &mut Vec<u8>,
@@ -119,7 +122,7 @@ pub(crate) fn tell_rows<M: Means + Changes>(
     }
 }
 
-fn pending_at<M: Means + Changes>(
+fn pending_at<M: Means + Changes + Sync>(
     client: &mut Client<M, Arena<M>>,
 ) -> Result<Vec<Mutation>, Refusal>
     ensures answer { IsLinearized M.means TRIES client.old.seat.mark client.new.seat.mark
@@ -134,7 +137,7 @@ fn pending_at<M: Means + Changes>(
 }
 
 /// Tells the pending mutations.
-pub(crate) fn tell_pending<M: Means + Changes>(
+pub(crate) fn tell_pending<M: Means + Changes + Sync>(
     client: &mut Client<M, Arena<M>>,
     bytes: &mut Vec<u8>,
 ) -> Outcome
@@ -147,7 +150,7 @@ pub(crate) fn tell_pending<M: Means + Changes>(
     }
 }
 
-fn cookie_at<M: Means + Changes>(client: &mut Client<M, Arena<M>>) -> Result<Cookie, Refusal>
+fn cookie_at<M: Means + Changes + Sync>(client: &mut Client<M, Arena<M>>) -> Result<Cookie, Refusal>
     ensures answer { IsLinearized M.means TRIES client.old.seat.mark client.new.seat.mark result no_change
         (λ s. Ok s.cookie) }
     ensures refused { IfErr result (IsMissedOrDry ⊤) }
@@ -160,7 +163,7 @@ fn cookie_at<M: Means + Changes>(client: &mut Client<M, Arena<M>>) -> Result<Coo
 }
 
 /// Tells the cookie.
-pub(crate) fn tell_cookie<M: Means + Changes>(
+pub(crate) fn tell_cookie<M: Means + Changes + Sync>(
     client: &mut Client<M, Arena<M>>,
     bytes: &mut Vec<u8>,
 ) -> Outcome
@@ -173,7 +176,7 @@ pub(crate) fn tell_cookie<M: Means + Changes>(
     }
 }
 
-fn closed_at<M: Means + Changes>(client: &mut Client<M, Arena<M>>) -> Result<bool, Refusal>
+fn closed_at<M: Means + Changes + Sync>(client: &mut Client<M, Arena<M>>) -> Result<bool, Refusal>
     ensures answer { IsLinearized M.means TRIES client.old.seat.mark client.new.seat.mark result no_change
         (λ s. Ok s.closed) }
     ensures refused { IfErr result (IsMissedOrDry ⊤) }
@@ -186,7 +189,7 @@ fn closed_at<M: Means + Changes>(client: &mut Client<M, Arena<M>>) -> Result<boo
 }
 
 /// Tells whether the group is closed.
-pub(crate) fn tell_closed<M: Means + Changes>(client: &mut Client<M, Arena<M>>) -> Outcome
+pub(crate) fn tell_closed<M: Means + Changes + Sync>(client: &mut Client<M, Arena<M>>) -> Outcome
     ensures { ReadsBy is_told (λ s. s.closed) M.means client.old (told_alone result) client.new }
 {
     match closed_at(client) {
@@ -196,7 +199,7 @@ pub(crate) fn tell_closed<M: Means + Changes>(client: &mut Client<M, Arena<M>>) 
 }
 
 /// Tells the body of a push.
-pub(crate) fn tell_push<M: Means + Changes>(
+pub(crate) fn tell_push<M: Means + Changes + Sync>(
     client: &mut Client<M, Arena<M>>,
     bytes: &mut Vec<u8>,
 ) -> Outcome

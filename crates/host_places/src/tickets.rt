@@ -1,5 +1,5 @@
 //! The tickets of a client, under their numbers.
-ghost use Rattle.std.specs.Prelude.{◌≡◌, ◌<◌, ◌≤◌, None, OnErr, OnOk, [], length};
+ghost use Rattle.std.specs.Prelude.{ℕ, ◌≡◌, ◌<◌, ◌≤◌, IsSome, None, OnErr, OnOk, [], length};
 ghost use Rattle.std.specs.Option.{option_copied};
 ghost use Rattle.host_places.specs.Places.{IsKeptAt, ticket_at};
 ghost use Rattle.host_places.specs.Told.{told};
@@ -24,6 +24,7 @@ pub(crate) fn ticket_of(tickets: &[Option<Ticket>], number: usize) -> Option<&Ti
 fn free_number(tickets: &[Option<Ticket>]) -> usize
     ensures within { result ≤ length tickets.now }
     ensures free { result < length tickets.now → ticket_at tickets.now result ≡ None }
+    ensures least { (k : ℕ) → k < result → IsSome (ticket_at tickets.now k) }
 {
     for number in 0..tickets.len() {
         if tickets[number].is_none() {
@@ -37,6 +38,7 @@ fn free_number(tickets: &[Option<Ticket>]) -> usize
 fn keep_at(tickets: &mut Vec<Option<Ticket>>, number: usize, kept: Ticket) -> Result<(), AllocError>
     requires within { number ≤ length tickets.old.items }
     requires free { number < length tickets.old.items → ticket_at tickets.old.items number ≡ None }
+    requires least { (k : ℕ) → k < number → IsSome (ticket_at tickets.old.items k) }
     ensures kept { OnOk result (IsKeptAt number kept tickets.old.items tickets.new.items) }
     ensures left { OnErr result (tickets.new.items ≡ tickets.old.items) }
 {

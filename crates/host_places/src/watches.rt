@@ -33,7 +33,7 @@ fn tell_polled(reply: Result<Polled, Refusal>, bytes: &mut Vec<u8>) -> Result<Ou
 }
 
 // Polls a copy of a watch, which is kept where what is new is told.
-fn poll_copy<M: Means + Changes>(
+fn poll_copy<M: Means + Changes + Sync>(
     client: &mut Client<M, Arena<M>>,
     watch: &mut Watch<M>,
     copy: Watch<M>,
@@ -60,7 +60,7 @@ fn poll_copy<M: Means + Changes>(
 }
 
 /// Polls a watch, and tells what is new. Where memory is refused the watch is as it was.
-pub(crate) fn poll_watch<M: Means + Changes>(
+pub(crate) fn poll_watch<M: Means + Changes + Sync>(
     client: &mut Client<M, Arena<M>>,
     watch: &mut Watch<M>,
     bytes: &mut Vec<u8>,
@@ -78,7 +78,7 @@ pub(crate) fn poll_watch<M: Means + Changes>(
 }
 
 /// Keeps a watch under the next number. Where memory is refused it is not kept.
-pub(crate) fn keep_watch<M: Means + Changes>(
+pub(crate) fn keep_watch<M: Means + Changes + Sync>(
     watches: &mut Vec<Watch<M>>,
     watch: Watch<M>,
 ) -> Outcome

@@ -41,6 +41,7 @@ from_live v a z i x y w (table.retire j room past) may at is = let same : j ≡ 
     )
 from_live v a z i x y w (table.give j r room open_at) may at is = absurd (omega arith)
 from_live v a z i x y w (table.lost j old n room miss) may at is = inl is
+from_live v a z i x y w (table.miss j n room ne) may at is = inl is
 
 -- a retired slot stays so, or the seat gives it
 pub from_retired : (v : View) (z r i x y : ℕ) (w : View) (m : Move v i x y w) → i ≡ slot_at z
@@ -59,6 +60,7 @@ from_retired v z r i x y w (table.retire j room past) at is = absurd (omega arit
 from_retired v z r i x y w (table.give j s room open_at) at is = let same : s ≡ r = omega arith in
     inr (subst (IsOpen v) same open_at)
 from_retired v z r i x y w (table.lost j old n room miss) at is = inl is
+from_retired v z r i x y w (table.miss j n room ne) at is = inl is
 
 -- the slot was the seat's own, and is live
 abbrev pub Settles : View → ℕ → ℕ → ℕ → ℕ → Type 0
@@ -92,6 +94,7 @@ slots_from v a z i x y w (table.withdraw j inside) h = inl h
 slots_from v a z i x y w (table.retire j room past) h = inl (left a.try j z h)
 slots_from v a z i x y w (table.give j r room open_at) h = inl h
 slots_from v a z i x y w (table.lost j old n room miss) h = inl h
+slots_from v a z i x y w (table.miss j n room ne) h = inl h
 
 -- a seat has no more commits than before, and where it has one a held pin stays
 abbrev pub Keeps : View → Work → View → Commit → Type 0
@@ -112,6 +115,7 @@ commits_from v a c i x y w (table.withdraw j inside) h = (h, λ n is. is)
 commits_from v a c i x y w (table.retire j room past) h = (h, λ n is. is)
 commits_from v a c i x y w (table.give j r room open_at) h = (h, λ n is. is)
 commits_from v a c i x y w (table.lost j old n room miss) h = (h, λ n is. is)
+commits_from v a c i x y w (table.miss j n room ne) h = (h, λ n is. is)
 
 late_settled : (t : Try) (j : ℕ) → IsLate (with_settled t j) → IsLate t
 late_settled no_try j h = h
@@ -138,6 +142,7 @@ late_from v a i x y w (table.withdraw j inside) h = inr (h, refl)
 late_from v a i x y w (table.retire j room past) h = inr (late_retired a.try j h, refl)
 late_from v a i x y w (table.give j r room open_at) h = inr (h, refl)
 late_from v a i x y w (table.lost j old n room miss) h = inr (h, refl)
+late_from v a i x y w (table.miss j n room ne) h = inr (h, refl)
 
 drawn_loaded : (t : Try) (q : ℕ) → IsDrawn (with_loaded t) q → IsDrawn t q
 drawn_loaded no_try q h = h
@@ -168,6 +173,7 @@ drawn_from v a q i x y w (table.withdraw j inside) h = h
 drawn_from v a q i x y w (table.retire j room past) h = drawn_retired a.try j q h
 drawn_from v a q i x y w (table.give j r room open_at) h = h
 drawn_from v a q i x y w (table.lost j old n room miss) h = h
+drawn_from v a q i x y w (table.miss j n room ne) h = h
 
 -- a step that gives, withdraws or takes the slot finds it free, or taken, or retired and open
 pub data Found (v : View) (x : ℕ) : Type 0 where
@@ -189,6 +195,7 @@ found v z i x y w (table.withdraw j inside) h = (omega arith, taken refl)
 found v z i x y w (table.retire j room past) h = absurd h
 found v z i x y w (table.give j r room now) h = (omega arith, open_at r refl now)
 found v z i x y w (table.lost j old n room miss) h = absurd h
+found v z i x y w (table.miss j n room ne) h = absurd h
 
 -- who retires a slot has seen the epoch above the number that it loaded
 pub raised : (v : View) (i x y : ℕ) (w : View) (m : Move v i x y w) → IsRetiring (deed_of m) → v.loaded < v.reached
@@ -204,3 +211,4 @@ raised v i x y w (table.withdraw j inside) h = absurd h
 raised v i x y w (table.retire j room past) h = past
 raised v i x y w (table.give j r room now) h = absurd h
 raised v i x y w (table.lost j old n room miss) h = absurd h
+raised v i x y w (table.miss j n room ne) h = absurd h

@@ -78,6 +78,7 @@ same_wanted s id (table.withdraw i inside) = refl
 same_wanted s id (table.retire i room past) = refl
 same_wanted s id (table.give i r room open_at) = refl
 same_wanted s id (table.lost i old x room miss) = refl
+same_wanted s id (table.miss i x room ne) = refl
 
 -- a slot that is taken and filled was so before
 taken_before : (s : Stock) (z : ℕ) {v : View} {i x y : ℕ} {w : View} (m : Move v i x y w) → In w.taken z
@@ -95,6 +96,7 @@ taken_before s z {v = v} (table.withdraw i inside) h f = (left_of i z v.taken h)
 taken_before s z (table.retire i room past) h f = h
 taken_before s z (table.give i r room open_at) h f = h
 taken_before s z (table.lost i old x room miss) h f = h
+taken_before s z (table.miss i x room ne) h f = h
 
 loaded_before : (t : Try) (z : ℕ) → IsTrying (with_loaded t) → In (slots_of (with_loaded t)) z
     → IsTrying t × In (slots_of t) z
@@ -133,6 +135,7 @@ tried_before s a z (table.withdraw i inside) f n h = inl (n, h)
 tried_before s a z (table.retire i room past) f n h = inl (retired_before a.try i z n h)
 tried_before s a z (table.give i r room open_at) f n h = inl (n, h)
 tried_before s a z (table.lost i old x room miss) f n h = inl (n, h)
+tried_before s a z (table.miss i x room ne) f n h = inl (n, h)
 
 pub record Stamped (k : Sizes) (s : Stock) : Type 0 where
   pub joint : Joint k s.world

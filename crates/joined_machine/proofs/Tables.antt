@@ -19,6 +19,8 @@ use Rattle.reader_claims.specs.declared.view.Sizes.{Sizes}
 use Rattle.reader_claims.specs.declared.view.View.{View}
 use Rattle.reader_claims.specs.Words.{first_slot, slot_at, slot_word}
 use Rattle.reader_claims.specs.Lists.{In}
+use Rattle.reader_claims.specs.Deeds as deed
+use Rattle.reader_claims.specs.Deeds.{Deed}
 use Rattle.reader_claims.specs.Views.{reader, dealer, with_taken, with_settled}
 use Rattle.reader_claims.specs.Machine as table
 use Rattle.reader_claims.specs.Machine.{Move, Reached}
@@ -26,7 +28,7 @@ use Rattle.reader_claims.proofs.Keeps.{below}
 use Rattle.joined_machine.specs.Worlds.{World, no_work}
 use Rattle.joined_machine.specs.Events.{Event}
 use Rattle.joined_machine.specs.Joined as machine
-use Rattle.joined_machine.specs.Joined.{Steps, Runs, IsIdle, Opens}
+use Rattle.joined_machine.specs.Joined.{Steps, IsIdle, Opens}
 use Rattle.joined_machine.specs.Laws.{TableLaw, OpeningLaw}
 use Rattle.joined_machine.proofs.Rows.{in_or_not}
 
@@ -58,9 +60,14 @@ module _ (k : Sizes) where
       subst (λ m. Reached k ws (dealer k (m + 1) ∷ (readers n ++ reader k m ∷ []))) e
       (table.dealt ws (dealt_seats n) 0 (n + 1) (all_dealt ws r n (omega arith)) refl (omega arith) (omega arith))
 
+  -- what it did that took and settled these slots, one after the other
+  abbrev pub deeds_for : List ℕ → List Deed
+  deeds_for [] = []
+  deeds_for (z ∷ zs) = deed.settled z ∷ (deed.took z ∷ deeds_for zs)
+
   -- the first reader, after it settled some slots
   abbrev pub first : List ℕ → View
-  first done = record (reader k 1) { settled = done }
+  first done = record (reader k 1) { settled = done; deeds = deeds_for done }
 
   abbrev pub seats : List ℕ → List View
   seats done = set (dealt_seats k.readers) 1 (first done)
@@ -115,7 +122,8 @@ module _ (k : Sizes) (some_reader : 0 < k.readers) (few : k.readers ≤ max_seat
       table.stepped ws' vs' 1 i 1 v' (with_settled v' z) took there' (subst
       (λ x. Move v' i x 1 (with_settled v' z)) (sym now) (table.settle z (inl refl))) in
       let none_left : with_settled v' z ≡ first k (z ∷ done) = ap
-      (λ b. record v' { taken = cond b [] (z ∷ []); settled = z ∷ done }) (eq-eqb z z refl) in
+      (λ b. record v' { taken = cond b [] (z ∷ []); settled = z ∷ done; deeds = deeds_for k (z ∷ done) })
+      (eq-eqb z z refl) in
       let once : set vs' 1 (with_settled v' z)
       ≡ seats k (z ∷ done) = ap (set vs' 1) none_left ∙ set-set vs 1 v' (first k (z ∷ done))
       ∙ set-set (dealt_seats k k.readers) 1 v (first k (z ∷ done)) in

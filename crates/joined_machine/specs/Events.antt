@@ -55,3 +55,4 @@ deed_of (table.withdraw i inside) = withdraws i
 deed_of (table.retire i room past) = retires i
 deed_of (table.give i r room open_at) = gives i
 deed_of (table.lost i old x room miss) = misses i
+deed_of (table.miss i x room ne) = misses i

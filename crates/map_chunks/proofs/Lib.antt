@@ -20,4 +20,5 @@ pub mod TakenLemmas
 pub mod Texts
 pub mod TreeLemmas
 pub mod DraftLemmas
+pub mod NeededLemmas
 pub mod WayLemmas

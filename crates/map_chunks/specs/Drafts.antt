@@ -1,6 +1,6 @@
 -- Nodes that are to be placed together.
-use Rattle.std.specs.Prelude.{ℕ, suc, ◌<◌, ◌≤◌, ◌^◌, List, [], ◌∷◌}
-use Rattle.std.specs.List.{Contains}
+use Rattle.std.specs.Prelude.{◌≡◌, ℕ, suc, ◌<◌, ◌≤◌, ◌^◌, List, [], ◌∷◌, ◌++◌}
+use Rattle.std.specs.List.{Contains, flat_map}
 use Rattle.group_history.specs.declared.nodes.Node.{Node}
 use Rattle.group_history.specs.declared.refs.Ref.{Ref}
 use Rattle.group_history.specs.Naming.{children}
@@ -27,3 +27,21 @@ AreBelow n ats = (at : Ref) → Contains ats at → stamp_of at < n
 abbrev pub AreOrdered : ℕ → List (Node Ref) → Type 0
 AreOrdered n [] = Unit {0}
 AreOrdered n (c ∷ cs) = AreBelow n (children c) × AreOrdered (suc n) cs
+
+-- WHAT IS NEEDED
+
+-- one of these references has the stamp
+abbrev pub HasStamp : ℕ → List Ref → Type 0
+HasStamp n ats = (at : Ref) × Contains ats at × (stamp_of at ≡ n)
+
+-- Each node is a child of a later one, or one of these references names it; the first node's stamp is n. So for one
+-- reference, which then names the last node, each is reached from there.
+abbrev pub AreNeeded : ℕ → List (Node Ref) → List Ref → Type 0
+AreNeeded n [] ats = Unit {0}
+AreNeeded n (c ∷ cs) ats = HasStamp n (flat_map children cs ++ ats) × AreNeeded (suc n) cs ats
+
+-- Where each node of the old draft is needed, for these references and others, each of the new one is for those and the
+-- same others. So none is added that is needed for nothing.
+abbrev pub AddsNeeded : List Ref → List Ref → Drafted → Drafted → Type 0
+AddsNeeded these those old new = (others : List Ref) → AreNeeded old.first old.nodes (these ++ others)
+    → AreNeeded new.first new.nodes (those ++ others)

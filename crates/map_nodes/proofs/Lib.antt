@@ -23,6 +23,7 @@ mod BelowLemmas
 mod TrailLemmas
 mod SpotLemmas
 mod StepLemmas
+mod NeededLemmas
 mod WalkLemmas
 pub mod LevelLemmas
 pub mod PutLevels

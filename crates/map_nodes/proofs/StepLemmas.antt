@@ -100,7 +100,7 @@ within_step (a ∷ ats) (suc i) n r l h = later_here a (kids_places (set (placed
 
 -- THE NODE
 
-names_length : (s : Step) (below : Seen) (at : Ref) → IsStep s below → length (step_names s at)
+pub names_length : (s : Step) (below : Seen) (at : Ref) → IsStep s below → length (step_names s at)
     ≡ length (arc_value s.keys)
 names_length s below at h = length-set s.children.items s.place at ∙ h.1
 

@@ -14,7 +14,7 @@ ghost use Rattle.group_history.specs.declared.mutators.Ran.TheVariants.{Done};
 ghost use Rattle.group_history.specs.declared.mutators.Stop.TheVariants.{NoMemory};
 ghost use Rattle.group_history.specs.declared.mutators.Update.{Update as Updates};
 ghost use Rattle.group_history.specs.declared.refusals.Refusal.TheVariants as refusal;
-ghost use Rattle.map_chunks.specs.Drafts.{AreBelow, IsLate};
+ghost use Rattle.map_chunks.specs.Drafts.{AddsNeeded, AreBelow, IsLate};
 ghost use Rattle.map_chunks.specs.Places.{with_nodes, Grows, AreAll, AreKept, AddsNamed, places_of};
 ghost use Rattle.map_chunks.specs.Scanning.{taken, Gave, IsLow};
 ghost use Rattle.map_chunks.specs.Seeking.{chunk_depth, is_in};
@@ -342,6 +342,7 @@ impl OwnRoot {
             → IfOk result (λ root. IsWideAt (with_nodes contents draft.new.nodes) (stamp_of root)) }
         ensures named { OnOk result (AddsNamed draft.old.first
             (places_of self.pieces) draft.old.nodes draft.new.nodes) }
+        ensures needed { IfOk result (λ at. AddsNeeded [] (at ∷ []) draft.old draft.new) }
         ensures drafted { IfOk result (λ at. (draft.old.first ≤ stamp_of at) × (slot_of at ≡ 0)) }
         ensures below { IfOk result (λ at. stamp_of at < draft.new.first + length draft.new.nodes) }
         ensures count { OnOk result (length draft.new.nodes ≡ length draft.old.nodes + self.fresh) }
@@ -421,6 +422,7 @@ pub fn frozen(alloc: Global, root: OwnRoot, draft: &mut Draft) -> Result<Ref, Re
     ensures wide { (contents : Contents) → length contents ≡ draft.old.first → 1 < root.entries
         → IfOk result (λ at. IsWideAt (with_nodes contents draft.new.nodes) (stamp_of at)) }
     ensures named { OnOk result (AddsNamed draft.old.first (places_of root.pieces) draft.old.nodes draft.new.nodes) }
+    ensures needed { IfOk result (λ at. AddsNeeded [] (at ∷ []) draft.old draft.new) }
     ensures drafted { IfOk result (λ at. (draft.old.first ≤ stamp_of at) × (slot_of at ≡ 0)) }
     ensures below { IfOk result (λ at. stamp_of at < draft.new.first + length draft.new.nodes) }
     ensures count { OnOk result (length draft.new.nodes ≡ length draft.old.nodes + root.fresh) }

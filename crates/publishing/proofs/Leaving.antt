@@ -1,53 +1,59 @@
--- Slots that were settled and retired, one after the other.
-use Rattle.std.proofs.Common.{◌≡◌, ℕ, zero, suc, inl, inr, List, [], ◌∷◌, ◌++◌, map, refl, sym, ap, subst, ◌∙◌, arith}
-use Rattle.std.specs.Prelude.{reverse, slice_index_or}
-use Rattle.std.specs.List.{All}
-use Rattle.std.proofs.lemmas.List.{reverse-append, map-append}
-use Rattle.group_history.specs.declared.refs.Ref.{Ref}
-use Rattle.group_history.specs.Refs.{slot_of}
+-- Slots that were let go, one after the other.
+use Rattle.std.proofs.Common.{◌≡◌, ℕ, ◌<◌, ◌≤◌, ◌+◌, ◌^◌, inl, inr, List, [], ◌∷◌, ◌++◌, length, ap, subst}
+use Rattle.std.proofs.Common.{arith}
+use native.Mathlib.Decide.{dec_lt}
+use mathlib.Core.Logic.{dite}
+use Rattle.reader_claims.specs.Deeds as deed
+use Rattle.reader_claims.specs.Deeds.{Deed}
 use Rattle.reader_claims.specs.declared.view.View.{View}
-use Rattle.reader_claims.specs.Lists.{In}
-use Rattle.publishing.specs.Retiring.{LetsGo, LetsAllGo, SettlesNone, SettlesAll}
+use Rattle.reader_claims.specs.Passes.{IsRetired}
+use Rattle.publishing.specs.Retiring.{AreFreed, AreLetGo, GivesUp, drafted, more, none}
 
--- one more is let go
-pub one_more : (slots r : ℕ) (v w u : View) (ats : List Ref) (at : Ref) → LetsAllGo slots r v ats w
-    → LetsGo slots r w at u → LetsAllGo slots r v (ats ++ at ∷ []) u
-one_more slots r v w u [] at none go = (u, subst (λ (x : View). LetsGo slots r x at u) none go, refl)
-one_more slots r v w u (a ∷ ats) at all go = (all.0, all.1, one_more slots r all.0 w u ats at all.2 go)
+-- and then more
+pub let_go_more : (slots r : ℕ) (is js : List ℕ) (xs ys zs : List Deed) → AreLetGo slots r is xs ys
+    → AreLetGo slots r js ys zs → AreLetGo slots r (is ++ js) xs zs
+let_go_more slots r [] js xs ys zs a b = subst (λ (l : List Deed). AreLetGo slots r js l zs) a b
+let_go_more slots r (i ∷ is) js xs ys zs a b = elim a [
+  | inl h ↦ inl (h.0, let_go_more slots r is js (deed.retired i r ∷ xs) ys zs h.1 b)
+  | inr other ↦ elim other [
+    | inl h ↦ inr (inl (h.0, let_go_more slots r is js (deed.missed i ∷ xs) ys zs h.1 b))
+    | inr h ↦ inr (inr (h.0, let_go_more slots r is js xs ys zs h.1 b))
+  ]
+]
 
--- the last of references
-last_of : (ats : List Ref) (at : Ref) → map slot_of (reverse (ats ++ at ∷ [])) ≡ slot_of at ∷ map slot_of (reverse ats)
-last_of ats at = ap (map slot_of) (reverse-append ats (at ∷ []))
+-- one slot
+pub let_go_one : (slots r i : ℕ) (v u : View) → (i < slots → IsRetired v u i r) → (slots ≤ i → u ≡ v)
+    → AreLetGo slots r (i ∷ []) v.deeds u.deeds
+let_go_one slots r i v u inside outside = dite (dec_lt i slots)
+    (λ near. elim (inside near) [
+      | inl is ↦ inl (near, ap (λ (y : View). y.deeds) is)
+      | inr missed ↦ inr (inl (near, ap (λ (y : View). y.deeds) missed.2))
+    ])
+    (λ far. let past : slots ≤ i = omega arith in inr (inr (past, ap (λ (y : View). y.deeds) (outside past))))
 
--- nothing is settled before or behind
-pub settles_none : (v w u : View) → SettlesNone v w → SettlesNone w u → SettlesNone v u
-settles_none v w u a b = (b.0 ∙ a.0, b.1 ∙ a.1)
+-- where the epoch is the last one nothing is let go
+pub freed_last : (slots reached : ℕ) (is : List ℕ) (xs ys : List Deed) → 2 ^ 60 ≤ reached → ys ≡ xs
+    → AreFreed slots reached is xs ys
+freed_last slots reached [] xs ys last same = same
+freed_last slots reached (i ∷ is) xs ys last same = inl (last, same)
 
-in_front : (xs ys : List ℕ) (x : ℕ) → In xs x → In (xs ++ ys) x
-in_front [] ys x h = absurd h
-in_front (y ∷ xs) ys x h = elim h [ inl is ↦ inl is | inr more ↦ inr (in_front xs ys x more) ]
+pub freed_at : (slots reached r e : ℕ) (is : List ℕ) (xs ys : List Deed) → 0 < length is → r ≤ e
+    → AreLetGo slots r is (deed.raised e ∷ xs) ys → AreFreed slots reached is xs ys
+freed_at slots reached r e [] xs ys some low go = absurd (omega (arith, some))
+freed_at slots reached r e (i ∷ is) xs ys some low go = inr (r, e, low, go)
 
-in_last : (xs : List ℕ) (x : ℕ) → In (xs ++ x ∷ []) x
-in_last [] x = inl refl
-in_last (y ∷ xs) x = inr (in_last xs x)
+-- one who knows more of the epoch
+pub freed_known : (slots reached later : ℕ) (is : List ℕ) (xs ys : List Deed) → reached ≤ later
+    → AreFreed slots reached is xs ys → AreFreed slots later is xs ys
+freed_known slots reached later [] xs ys low same = same
+freed_known slots reached later (i ∷ is) xs ys low freed = elim freed [
+  | inl last ↦ inl (let h = last.0 in omega arith, last.1)
+  | inr raised ↦ inr raised
+]
 
-first_of_all : (a : Ref) (ats : List Ref)
-    → map slot_of (reverse (a ∷ ats)) ≡ map slot_of (reverse ats) ++ slot_of a ∷ []
-first_of_all a ats = ap (map slot_of) (reverse-append (a ∷ []) ats) ∙ map-append slot_of (reverse ats) (a ∷ [])
-
--- the slots of all are among those of all backwards
-backwards : (ats : List Ref) → All (λ at. In (map slot_of (reverse ats)) (slot_of at)) ats
-backwards [] k d low = absurd (omega (arith, low))
-backwards (a ∷ ats) zero d low = subst (λ w. In w (slot_of a)) (sym (first_of_all a ats))
-    (in_last (map slot_of (reverse ats)) (slot_of a))
-backwards (a ∷ ats) (suc k) d low =
-    let at = slice_index_or ats k d in
-    subst (λ w. In w (slot_of at)) (sym (first_of_all a ats))
-    (in_front (map slot_of (reverse ats)) (slot_of a ∷ []) (slot_of at) (backwards ats k d (omega (arith, low))))
-
--- so each slot that was settled is known as settled
-pub are_settled : (v u : View) (ats : List Ref) → SettlesAll v ats u → All (λ at. In u.settled (slot_of at)) ats
-are_settled v u ats all k d low =
-    let at = slice_index_or ats k d in
-    subst (λ w. In w (slot_of at)) (sym all.0)
-    (in_front (map slot_of (reverse ats)) v.settled (slot_of at) (backwards ats k d low))
+pub gives_up_known : (slots reached later : ℕ) (xs ys : List Deed) → reached ≤ later → GivesUp slots reached xs ys
+    → GivesUp slots later xs ys
+gives_up_known slots reached later xs ys low none = none
+gives_up_known slots reached later xs ys low (more between zs settled withdrawn before last) =
+    more between zs settled withdrawn (gives_up_known slots reached later xs between low before)
+    (freed_known slots reached later settled (drafted settled withdrawn between) zs low last)

@@ -2,6 +2,7 @@
 use Rattle.std.proofs.Common.{◌≡◌, ◌<◌, ℕ, zero, suc, List, [], ◌∷◌, ◌++◌, sym, subst, arith}
 use Rattle.std.specs.List.{All}
 use Rattle.group_history.specs.declared.refs.Ref.{Ref}
+use Rattle.group_history.specs.Refs.{slot_of}
 use Rattle.publishing.specs.Placed.{LieBelow}
 use Rattle.publishing.specs.Inside.Stacks.{AreBelow, StayBelow}
 
@@ -9,6 +10,17 @@ all_but_last : {A : Type 0} (P : A → Type 0) (xs : List A) (x : A) → All P (
 all_but_last P [] x all k d low = absurd (omega (arith, low))
 all_but_last P (y ∷ xs) x all zero d low = all zero d (omega arith)
 all_but_last P (y ∷ xs) x all (suc k) d low = all_but_last P xs x (λ j e l. all (suc j) e (omega (arith, l))) k d
+    (omega (arith, low))
+
+last_one : {A : Type 0} (P : A → Type 0) (xs : List A) (x : A) → All P (xs ++ x ∷ []) → P x
+last_one P [] x all = all zero x (omega arith)
+last_one P (y ∷ xs) x all = last_one P xs x (λ j e l. all (suc j) e (omega (arith, l)))
+
+all_and_last : {A : Type 0} (P : A → Type 0) (xs : List A) (x : A) → All P xs → P x → All P (xs ++ x ∷ [])
+all_and_last P [] x all one zero d low = one
+all_and_last P [] x all one (suc k) d low = absurd (omega (arith, low))
+all_and_last P (y ∷ xs) x all one zero d low = all zero d (omega arith)
+all_and_last P (y ∷ xs) x all one (suc k) d low = all_and_last P xs x (λ j e l. all (suc j) e (omega (arith, l))) one k d
     (omega (arith, low))
 
 -- no slot is below any end
@@ -24,3 +36,13 @@ pub stay_refused : (slots left : List ℕ) (refs more : List Ref) (x : ℕ) → 
     → StayBelow slots refs left more
 stay_refused slots left refs more x split same end below all =
     (all_but_last (λ i. i < end) left x (subst (AreBelow end) split below), subst (LieBelow end) (sym same) all)
+
+-- or a node lies in the last slot
+pub stay_placed : (slots left : List ℕ) (refs more : List Ref) (x : ℕ) (at : Ref) → slots ≡ left ++ x ∷ []
+    → more ≡ refs ++ at ∷ [] → slot_of at ≡ x → StayBelow slots refs left more
+stay_placed slots left refs more x at split placed same end below all =
+    let here = subst (AreBelow end) split below in (
+      all_but_last (λ i. i < end) left x here,
+      subst (LieBelow end) (sym placed) (all_and_last (λ (r : Ref). slot_of r < end) refs at all
+          (subst (λ i. i < end) (sym same) (last_one (λ i. i < end) left x here))),
+    )

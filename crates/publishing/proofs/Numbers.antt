@@ -97,7 +97,7 @@ are_placed old log new seat draft first refs seen next is are count = record {
 
 -- REFERENCES
 
-from_at : (first : ℕ) (refs : List Ref) (k : ℕ) (d : Ref) → AreFrom first refs → k < length refs
+pub from_at : (first : ℕ) (refs : List Ref) (k : ℕ) (d : Ref) → AreFrom first refs → k < length refs
     → stamp_of (slice_index_or refs k d) ≡ first + k
 from_at first [] k d are low = absurd (omega (arith, low))
 from_at first (r ∷ refs) zero d are low = omega (arith, are.0)
@@ -184,7 +184,7 @@ named-renamed : {A B : Type 0} (f : A → B) (k : CommitKind A) → commits_name
 named-renamed f (Snapshot s) = refl
 named-renamed f (Over o) = refl
 
-children-renamed : {A B : Type 0} (f : A → B) (n : Node A) → children (renamed f n) ≡ map f (children n)
+pub children-renamed : {A B : Type 0} (f : A → B) (n : Node A) → children (renamed f n) ≡ map f (children n)
 children-renamed f (node.Chunk (Leaf rows)) = refl
 children-renamed f (node.Chunk (Inner kids)) = values-renamed f kids
 children-renamed f (node.Commit c) = ap (λ w. f c.root ∷ w) (named-renamed f c.kind)

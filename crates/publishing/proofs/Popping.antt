@@ -1,14 +1,14 @@
 -- The slots taken, as a stack.
-use Rattle.std.proofs.Common.{◌≡◌, ℕ, ◌==◌, inl, inr, List, [], ◌∷◌, ◌++◌, refl, sym, ap, subst, ◌∙◌}
+use Rattle.std.proofs.Common.{◌≡◌, ℕ, ◌==◌, inl, inr, List, [], ◌∷◌, ◌++◌, length, refl, sym, ap, subst, ◌∙◌}
 use Rattle.std.specs.Prelude.{reverse}
-use Rattle.std.proofs.lemmas.List.{reverse-append}
+use Rattle.std.proofs.lemmas.List.{length-reverse, reverse-append}
 use Rattle.std.proofs.lemmas.Bool.{cond-true, eq-eqb}
 use Rattle.std.proofs.lemmas.Bool.Decides.{eqb_tells}
 use Rattle.reader_claims.specs.declared.view.View.{View}
 use Rattle.reader_claims.specs.Lists.{In, without}
 use Rattle.reader_claims.specs.Passes.{Takes}
 use Rattle.reader_claims.specs.Views.{with_settled, with_withdrawn}
-use Rattle.publishing.specs.Inside.Stacks.{AreOnce, HasTaken}
+use Rattle.publishing.specs.Inside.Stacks.{AreOnce, HasTaken, IsButWithdrawn}
 
 without_absent : (x : ℕ) (xs : List ℕ) → (In xs x → ⊥) → without x xs ≡ xs
 without_absent x [] absent = refl
@@ -53,3 +53,19 @@ pushed v u slots x has takes = (
   takes.1 ∙ (ap (λ w. x ∷ w) has.0 ∙ sym (reverse-append slots (x ∷ []))),
   subst AreOnce (sym takes.1) (takes.0, has.1),
 )
+
+-- the last slot stands before those that are left
+pub headed : (v u : View) (slots rest : List ℕ) (x : ℕ) → slots ≡ rest ++ x ∷ [] → HasTaken v slots → HasTaken u rest
+    → v.taken ≡ x ∷ u.taken
+headed v u slots rest x split has left = last_first v.taken slots rest x has.0 split ∙ ap (λ xs. x ∷ xs) (sym left.0)
+
+pub but_withdrawn : (v w u : View) (x : ℕ) → IsButWithdrawn v w → u ≡ with_withdrawn w x → IsButWithdrawn v u
+but_withdrawn v w u x was is = subst (IsButWithdrawn v) (sym is)
+    (subst (λ (y : View). with_withdrawn y x ≡ record v {
+      taken = (with_withdrawn y x).taken;
+      withdrawn = (with_withdrawn y x).withdrawn;
+      deeds = (with_withdrawn y x).deeds;
+    }) (sym was) refl)
+
+pub length_taken : (v : View) (slots : List ℕ) → HasTaken v slots → length v.taken ≡ length slots
+length_taken v slots has = ap length has.0 ∙ length-reverse slots

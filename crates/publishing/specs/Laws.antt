@@ -1,13 +1,15 @@
 -- What is proved of drafts that were placed.
-use Rattle.std.specs.Prelude.{◌≡◌, ℕ, ◌+◌, ◌<◌, List, ◌++◌, length, Some}
+use Rattle.std.specs.Prelude.{◌≡◌, ℕ, ◌+◌, ◌<◌, List, [], ◌∷◌, ◌++◌, length, Some}
+use Rattle.std.specs.List.{Contains}
 use mathlib.Core.List.{IsPrefix}
 use Rattle.group_history.specs.declared.nodes.Node.{Node}
 use Rattle.group_history.specs.declared.refs.Ref.{Ref}
 use Rattle.group_history.specs.Naming.{children, content_of, renamed, placed_ref}
 use Rattle.group_history.specs.Refs.{stamp_of}
 use Rattle.group_history.specs.Spelling.{Contents, Version, version_at}
-use Rattle.map_chunks.specs.Drafts.{Drafted, AreBelow}
+use Rattle.map_chunks.specs.Drafts.{Drafted, AreBelow, AreNeeded}
 use Rattle.map_chunks.specs.Places.{with_nodes}
+use Rattle.commit_graph.specs.Reach.{Reaches}
 use Rattle.publishing.specs.Stamped.{restamped, drawn_as, AreFrom}
 use Rattle.publishing.specs.Placed.{IsPlaced}
 
@@ -29,3 +31,7 @@ pub record PlacingLaws : Type 0 where
       → (cs : Contents) → IsPrefix cs before → length cs ≡ draft.first → (at : Ref) (v : Version)
       → version_at (with_nodes cs draft.nodes) (stamp_of at) ≡ Some v
       → version_at after (stamp_of (placed_ref draft.first refs at)) ≡ Some v
+  -- Where each of its nodes is needed for that commit, each of them is reached from there.
+  pub reached : (before after : Contents) (draft : Drafted) (refs : List Ref) → IsPlaced before after draft refs
+      → (at : Ref) → AreNeeded draft.first draft.nodes (at ∷ []) → (r : Ref) → Contains refs r
+      → Reaches after (stamp_of (placed_ref draft.first refs at)) (stamp_of r)

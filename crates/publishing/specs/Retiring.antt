@@ -1,49 +1,53 @@
--- What becomes of slots that were settled in vain, or that the head reaches no more. In each v is what the seat knew
--- before, and u what it knows after it.
-use Rattle.std.specs.Prelude.{◌≡◌, ℕ, ◌<◌, ◌≤◌, ◌⊎◌, List, [], ◌∷◌, ◌++◌, map, reverse}
+-- What a draft does to slots, by all that its seat did: what it had done before is xs, and what it has done behind it ys,
+-- the newest first.
+use Rattle.std.specs.Prelude.{ℕ, ◌≡◌, ◌<◌, ◌≤◌, ◌⊎◌, ◌^◌, length, List, [], ◌∷◌, ◌++◌, map, reverse}
 use Rattle.group_history.specs.declared.refs.Ref.{Ref}
-use Rattle.group_history.specs.Refs.{slot_of}
+use Rattle.reader_claims.specs.Deeds as deed
+use Rattle.reader_claims.specs.Deeds.{Deed}
 use Rattle.reader_claims.specs.declared.view.View.{View}
-use Rattle.reader_claims.specs.Machine.{Moves}
-use Rattle.reader_claims.specs.Passes.{Raises, IsRetired}
-use Rattle.chunk_slots.specs.Seats.{IsAtEnd, IsRaised}
 use Rattle.answered.specs.declared.trying.Published.{Published}
 use Rattle.answered.specs.declared.trying.Published.TheVariants as published
 
--- the slot of the reference was retired at r, or found not live; nothing was done where the table, which has so many
--- slots, does not have it
-abbrev pub LetsGo : ℕ → ℕ → View → Ref → View → Type 0
-LetsGo slots r v at u = (slot_of at < slots → IsRetired v u (slot_of at) r) × (slots ≤ slot_of at → u ≡ v)
+-- Slots were taken, the last one stands first; those of `settled` were settled, one after the other, and then those of
+-- `withdrawn` withdrawn.
+abbrev pub drafted : List ℕ → List ℕ → List Deed → List Deed
+drafted settled withdrawn xs = map deed.withdrew (reverse withdrawn)
+    ++ (map deed.settled (reverse settled) ++ (map deed.took (settled ++ withdrawn) ++ xs))
 
--- so were those of these references, one after the other, and nothing else was done
-abbrev pub LetsAllGo : ℕ → ℕ → View → List Ref → View → Type 0
-LetsAllGo slots r v [] u = u ≡ v
-LetsAllGo slots r v (at ∷ ats) u = (w : View) × LetsGo slots r v at w × LetsAllGo slots r w ats u
+-- Of a table with so many slots, these slots were let go at r, one after the other: each was retired, or found not live.
+-- One that the table does not have was left alone.
+abbrev pub AreLetGo : ℕ → ℕ → List ℕ → List Deed → List Deed → Type 0
+AreLetGo slots r [] xs ys = ys ≡ xs
+AreLetGo slots r (i ∷ is) xs ys = ((i < slots) × AreLetGo slots r is (deed.retired i r ∷ xs) ys)
+    ⊎ (((i < slots) × AreLetGo slots r is (deed.missed i ∷ xs) ys) ⊎ ((slots ≤ i) × AreLetGo slots r is xs ys))
 
--- The epoch was raised from the number that was loaded, and then the slots of these references were let go at the next
--- number; at the last epoch none was. Where there are none, nothing was done
-abbrev pub Retires : ℕ → View → List Ref → View → Type 0
-Retires slots v [] u = u ≡ v
-Retires slots v (at ∷ ats) u = (w : View) × Raises v w
-    × ((IsAtEnd w × (u ≡ w)) ⊎ ((r : ℕ) × IsRaised v w r × LetsAllGo slots r w (at ∷ ats) u))
+-- The epoch was raised, and then these slots were let go. Where it is the last epoch, as one knows that reads it as
+-- `reached`, nothing was done, and where there are none neither.
+abbrev pub AreFreed : ℕ → ℕ → List ℕ → List Deed → List Deed → Type 0
+AreFreed slots reached [] xs ys = ys ≡ xs
+AreFreed slots reached (i ∷ is) xs ys = ((2 ^ 60 ≤ reached) × (ys ≡ xs))
+    ⊎ ((r e : ℕ) × (r ≤ e) × AreLetGo slots r (i ∷ is) (deed.raised e ∷ xs) ys)
 
--- no slot was settled, and none retired
-abbrev pub SettlesNone : View → View → Type 0
-SettlesNone v u = (u.settled ≡ v.settled) × (u.retired ≡ v.retired)
+-- A draft of so many nodes was given up: no more slots were taken for it than it has nodes, and what was settled of them
+-- was let go.
+pub record IsGivenUp (slots reached count : ℕ) (xs ys : List Deed) : Type 0 where
+  pub settled : List ℕ
+  pub withdrawn : List ℕ
+  pub few : length (settled ++ withdrawn) ≤ count
+  pub freed : AreFreed slots reached settled (drafted settled withdrawn xs) ys
 
--- the slots of these references were settled, in order and no others, and none was retired
-abbrev pub SettlesAll : View → List Ref → View → Type 0
-SettlesAll v ats u = (u.settled ≡ map slot_of (reverse ats) ++ v.settled) × (u.retired ≡ v.retired)
+-- Drafts were given up, one after the other, and nothing else was done: what was settled for each was let go, and what
+-- else had been taken for it was withdrawn.
+pub data GivesUp (slots reached : ℕ) (xs : List Deed) : List Deed → Type 0 where
+  none : GivesUp slots reached xs xs
+  more : (ys zs : List Deed) (settled withdrawn : List ℕ) → GivesUp slots reached xs ys
+      → AreFreed slots reached settled (drafted settled withdrawn ys) zs → GivesUp slots reached xs zs
 
--- what was settled since v was retired in the end
-abbrev pub GivesUp : ℕ → View → View → Type 0
-GivesUp slots v u = (ats : List Ref) × (w : View) × SettlesAll v ats w × Retires slots w ats u
-
--- From v to u the seat retired only what it had settled in that time: so it goes where tries are lost.
-pub data GivesBack (slots : ℕ) : View → View → Type 0 where
-  none : (v : View) → GivesBack slots v v
-  kept : (v w u : View) → GivesBack slots v w → Moves w u → u.retired ≡ w.retired → GivesBack slots v u
-  tried : (v w u : View) → GivesBack slots v w → Moves w u → GivesUp slots w u → GivesBack slots v u
+-- From v to u the seat gave up drafts, and did nothing else to slots and to the epoch, of which it knows no less.
+pub record GivesBack (slots : ℕ) (v u : View) : Type 0 where
+  pub gave : GivesUp slots u.reached v.deeds u.deeds
+  pub loads : v.epoch_loads ≤ u.epoch_loads
+  pub reached : v.reached ≤ u.reached
 
 -- Of the references of a draft, and of those that the old head alone reaches, these are needed no more
 abbrev pub unneeded : Published → List Ref → List Ref → List Ref

@@ -1,15 +1,14 @@
 //! What becomes of a draft that was placed: the head is moved to it, or it is given up.
-ghost use Rattle.std.specs.Prelude.{◌≡◌, []};
+ghost use Rattle.std.specs.Prelude.{◌≡◌, ◌≤◌, List, [], map};
 ghost use Rattle.std.specs.List.{All, Contains};
 ghost use Rattle.group_history.specs.Refs.{slot_of, stamp_of};
 ghost use Rattle.head_word.specs.Books.{drawn, IsChangeFrom};
-ghost use Rattle.reader_claims.specs.Lists.{In};
-ghost use Rattle.reader_claims.specs.Machine.{Moves};
+ghost use Rattle.reader_claims.specs.Deeds.{Deed};
 ghost use Rattle.answered.specs.Trying.{Ends, IsMove};
 ghost use Rattle.answered.specs.declared.trying.Published.TheVariants as published;
 ghost use Rattle.commit_graph.specs.Reach.{IsDropped};
 ghost use Rattle.commit_graph.specs.Seats.{IsSeatOf, IsSameSeat};
-ghost use Rattle.publishing.specs.Retiring.{Retires, unneeded};
+ghost use Rattle.publishing.specs.Retiring.{AreFreed, drafted, unneeded};
 
 use crate::retiring::retire_all;
 use answered::{Published, publish_at};
@@ -36,11 +35,10 @@ pub fn publish_draft<M: Means, S: Slots<M>>(
     to: &Move<'_>,
     left: &[Ref],
 ) -> Published
-where
-    S::Seat: Drop,
     requires home { IsSeatOf shared.now seat.old }
     requires none { S.reused → seat.old.view.taken ≡ [] }
-    requires settled { S.reused → All (λ at. In seat.old.view.settled (slot_of at)) to.now.refs.now }
+    requires drafted { S.reused → (before : List Deed)
+        × (seat.old.view.deeds ≡ drafted (map slot_of to.now.refs.now) [] before) }
     requires among { Contains to.now.refs.now to.now.new }
     requires follows { IsChangeFrom M.means (drawn seat.old.mark.log) to.now.base to.now.new to.now.change.now }
     requires left { All (λ at. IsDropped (drawn seat.old.mark.log) (stamp_of to.now.base) (stamp_of to.now.new)
@@ -50,9 +48,10 @@ where
     ensures goes { result ≡ published.Won
         → IsMove seat.old.mark seat.new.mark to.now.base to.now.new to.now.change.now }
     ensures none { S.reused → seat.new.view.taken ≡ [] }
-    ensures moves { S.reused → Moves seat.old.view seat.new.view }
-    ensures retired { S.reused → Retires shared.now.table.sizes.slots seat.old.view
-        (unneeded result to.now.refs.now left.now) seat.new.view }
+    ensures loads { S.reused → seat.old.view.epoch_loads ≤ seat.new.view.epoch_loads }
+    ensures reached { S.reused → seat.old.view.reached ≤ seat.new.view.reached }
+    ensures freed { S.reused → AreFreed shared.now.table.sizes.slots seat.new.view.reached
+        (map slot_of (unneeded result to.now.refs.now left.now)) seat.old.view.deeds seat.new.view.deeds }
 {
     match publish_at(&shared.head, &mut seat.mark, to.base, to.new, to.change) {
         Ok(()) => {
@@ -72,15 +71,15 @@ pub fn abandon_draft<M: Means, S: Slots<M>>(
     seat: &mut Seat<M, S>,
     refs: &[Ref],
 )
-where
-    S::Seat: Drop,
     requires home { IsSeatOf shared.now seat.old }
     requires none { S.reused → seat.old.view.taken ≡ [] }
     ensures seat { IsSameSeat seat.old seat.new }
     ensures mark { seat.new.mark ≡ seat.old.mark }
     ensures none { S.reused → seat.new.view.taken ≡ [] }
-    ensures moves { S.reused → Moves seat.old.view seat.new.view }
-    ensures retired { S.reused → Retires shared.now.table.sizes.slots seat.old.view refs.now seat.new.view }
+    ensures loads { S.reused → seat.old.view.epoch_loads ≤ seat.new.view.epoch_loads }
+    ensures reached { S.reused → seat.old.view.reached ≤ seat.new.view.reached }
+    ensures freed { S.reused → AreFreed shared.now.table.sizes.slots seat.new.view.reached (map slot_of refs.now)
+        seat.old.view.deeds seat.new.view.deeds }
 {
     retire_all::<M, S>(&shared.store, &mut seat.slots, refs);
 }

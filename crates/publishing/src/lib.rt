@@ -7,11 +7,13 @@
 //! when the head does not.
 //!
 //! Whatever becomes of a draft, its publisher is left without taken slots: one that is taken is settled or withdrawn,
-//! and one that was settled in vain is retired (`GivesUp` and `Retires` of `specs/Retiring.antt`). The epoch is raised
-//! once for all that is retired; at the last epoch nothing is.
+//! and one that was settled in vain is let go (`IsGivenUp` of `specs/Retiring.antt`). The epoch is raised once for all
+//! that is let go, and each is retired, or found not live; at the last epoch nothing is done (`AreFreed`). The clauses
+//! say all that is done to slots, but for slots that are given.
 //!
 //! What the draft spelled under its own numbers it spells under the stamps that it drew: `placing_laws` has that, and
-//! `place_of` tells what a reference of the draft has become.
+//! `place_of` tells what a reference of the draft has become. The stamps are those of an entry that the publisher added
+//! to the book (`AreDrawnBy`).
 #![tactic(auto)]
 
 mod drawing;

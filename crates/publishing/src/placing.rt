@@ -1,7 +1,6 @@
 //! A draft's nodes in their slots.
-ghost use Rattle.std.specs.Prelude.{ℕ, ◌≡◌, ◌⊎◌, ◌+◌, ◌<◌, ◌≤◌, ◌++◌, ◌∷◌, [], max, true, IfOk, IfErr, OnOk};
-ghost use Rattle.std.specs.Prelude.{OnErr, length};
-ghost use Rattle.std.specs.List.{All};
+ghost use Rattle.std.specs.Prelude.{ℕ, ◌≡◌, ◌⊎◌, ◌+◌, ◌<◌, ◌≤◌, ◌++◌, ◌∷◌, List, [], map, max, reverse, true, IfOk, IfErr};
+ghost use Rattle.std.specs.Prelude.{OnOk, OnErr, length};
 ghost use Rattle.group_history.specs.Refs.{stamp_of, slot_of, stamps};
 ghost use Rattle.group_history.specs.declared.refs.Ref.{Ref as Reference};
 ghost use Rattle.group_history.specs.declared.refusals.Refusal.TheVariants as refusal;
@@ -11,17 +10,18 @@ ghost use Rattle.map_chunks.specs.Drafts.{AreOrdered, IsLate};
 ghost use Rattle.chunk_slots.specs.Contents.{IsContent};
 ghost use Rattle.reader_claims.specs.declared.view.View.{View};
 ghost use Rattle.reader_claims.specs.Lists.{In};
-ghost use Rattle.reader_claims.specs.Machine.{Moves};
+ghost use Rattle.reader_claims.specs.Deeds as deed;
+ghost use Rattle.reader_claims.specs.Deeds.{Deed};
 ghost use Rattle.reader_claims.specs.Seats.{kind_end};
 ghost use Rattle.reader_claims.specs.Views.{with_settled};
 ghost use Rattle.group_history.specs.Naming.{renamed, placed_ref};
 ghost use Rattle.answered.specs.Answered.{own_moves, is_resource_refusal};
 ghost use Rattle.commit_graph.specs.Seats.{IsSeatOf, IsSameSeat, StaysHeld};
 ghost use Rattle.publishing.specs.Stamped.{AreFrom};
-ghost use Rattle.publishing.specs.Placed.{IsPlaced, FoundNone, LieBelow};
-ghost use Rattle.publishing.specs.Retiring.{SettlesAll, GivesUp};
-ghost use Rattle.publishing.specs.Inside.Stacks.{AreBelow, HasTaken, StayBelow};
-ghost use Rattle.publishing.specs.Inside.Steps.{AreDrawn, AddsOne, KeepsSettled, MayRefuse, Steps};
+ghost use Rattle.publishing.specs.Placed.{AreDrawnBy, IsPlaced, FoundNone, LieBelow};
+ghost use Rattle.publishing.specs.Retiring.{AreFreed, IsGivenUp, drafted};
+ghost use Rattle.publishing.specs.Inside.Stacks.{AreBelow, HasTaken, StayBelow, Uses, UsesMore};
+ghost use Rattle.publishing.specs.Inside.Steps.{AreDrawn, AddsOne, MayRefuse, Steps};
 
 use crate::drawing::draw;
 use crate::retiring::retire_all;
@@ -94,7 +94,9 @@ fn place_next<M: Means, S: Store<M>>(
     ensures less { length slots.old.items ≡ length slots.new.items + 1 }
     ensures placed { OnOk result (AddsOne (to.now.first + length refs.old.items) refs.old.items refs.new.items) }
     ensures same { OnErr result (refs.new.items ≡ refs.old.items) }
-    ensures settled { S.reused → KeepsSettled (S.view seat.old) refs.old.items (S.view seat.new) refs.new.items }
+    ensures used { S.reused → OnOk result (UsesMore (S.view seat.old) refs.old.items (S.view seat.new) refs.new.items []) }
+    ensures back { S.reused → OnErr result ((back : List ℕ)
+        × UsesMore (S.view seat.old) refs.old.items (S.view seat.new) refs.new.items back) }
     ensures within { S.reused → StayBelow slots.old.items refs.old.items slots.new.items refs.new.items }
     ensures steps { S.reused → Steps (S.view seat.old) (S.view seat.new) }
     ensures err { IfErr result (MayRefuse S.reused) }
@@ -126,9 +128,11 @@ fn place_each<M: Means, S: Store<M>>(
     ensures home { S.home seat.new ≡ S.serves to.now.store.now }
     ensures stamps { AreFrom to.now.first refs.new.items }
     ensures all { OnOk result (length refs.new.items ≡ length nodes.items) }
-    ensures used { OnOk result (slots.new.items ≡ []) }
+    ensures empty { OnOk result (slots.new.items ≡ []) }
     ensures taken { S.reused → HasTaken (S.view seat.new) slots.new.items }
-    ensures settled { S.reused → SettlesAll (S.view seat.old) refs.new.items (S.view seat.new) }
+    ensures used { S.reused → OnOk result (Uses (S.view seat.old) (map slot_of refs.new.items) [] (S.view seat.new)) }
+    ensures back { S.reused → OnErr result ((back : List ℕ)
+        × Uses (S.view seat.old) (map slot_of refs.new.items) back (S.view seat.new)) }
     ensures within { S.reused → (end : ℕ) → AreBelow end slots.old.items → LieBelow end refs.new.items }
     ensures steps { S.reused → Steps (S.view seat.old) (S.view seat.new) }
     ensures err { IfErr result (MayRefuse S.reused) }
@@ -157,9 +161,11 @@ fn place_all<M: Means, S: Store<M>>(
     ensures home { S.home seat.new ≡ S.serves to.now.store.now }
     ensures stamps { AreFrom to.now.first refs.new.items }
     ensures all { OnOk result (length refs.new.items ≡ length nodes.items) }
-    ensures used { OnOk result (slots.new.items ≡ []) }
+    ensures empty { OnOk result (slots.new.items ≡ []) }
     ensures taken { S.reused → HasTaken (S.view seat.new) slots.new.items }
-    ensures settled { S.reused → SettlesAll (S.view seat.old) refs.new.items (S.view seat.new) }
+    ensures used { S.reused → OnOk result (Uses (S.view seat.old) (map slot_of refs.new.items) [] (S.view seat.new)) }
+    ensures back { S.reused → OnErr result ((back : List ℕ)
+        × Uses (S.view seat.old) (map slot_of refs.new.items) back (S.view seat.new)) }
     ensures within { S.reused → (end : ℕ) → AreBelow end slots.old.items → LieBelow end refs.new.items }
     ensures steps { S.reused → Steps (S.view seat.old) (S.view seat.new) }
     ensures err { IfErr result (MayRefuse S.reused) }
@@ -174,8 +180,11 @@ fn give_up<M: Means, S: Slots<M>>(store: &S, seat: &mut S::Seat, slots: Vec<u32>
     requires taken { S.reused → HasTaken (S.view seat.old) slots.items }
     ensures home { S.home seat.new ≡ S.serves store.now }
     ensures none { S.reused → (S.view seat.new).taken ≡ [] }
-    ensures given { S.reused → (v : View) → SettlesAll v refs.items (S.view seat.old)
-        → GivesUp (S.serves store.now).sizes.slots v (S.view seat.new) }
+    ensures freed { S.reused → (v : View) (back : List ℕ) → Uses v (map slot_of refs.items) back (S.view seat.old)
+        → (withdrawn : List ℕ) × (v.taken ≡ map slot_of refs.items ++ withdrawn)
+        × AreFreed (S.serves store.now).sizes.slots (S.view seat.new).reached (map slot_of refs.items)
+        (map deed.withdrew (reverse withdrawn) ++ (map deed.settled (reverse (map slot_of refs.items)) ++ v.deeds))
+        (S.view seat.new).deeds }
     ensures steps { S.reused → Steps (S.view seat.old) (S.view seat.new) }
 {
     withdraw_all::<M, S>(store, seat, slots);
@@ -200,11 +209,13 @@ fn place_drawn<M: Means, S: Store<M>>(
     ensures stamps { IfOk result (λ refs. AreFrom to.now.first refs.items) }
     ensures count { IfOk result (λ refs. length refs.items ≡ length nodes.items) }
     ensures none { S.reused → (S.view seat.new).taken ≡ [] }
-    ensures settled { S.reused → IfOk result (λ refs. SettlesAll (S.view seat.old) refs.items (S.view seat.new)) }
+    ensures used { S.reused → (xs : List Deed) → (S.view seat.old).deeds ≡ map deed.took (S.view seat.old).taken ++ xs
+        → IfOk result (λ refs. (S.view seat.new).deeds ≡ drafted (map slot_of refs.items) [] xs) }
     ensures within { S.reused → (end : ℕ) → AreBelow end slots.items
         → IfOk result (λ refs. LieBelow end refs.items) }
-    ensures given { S.reused → OnErr result
-        (GivesUp (S.serves to.now.store.now).sizes.slots (S.view seat.old) (S.view seat.new)) }
+    ensures given { S.reused → (xs : List Deed) → (S.view seat.old).deeds ≡ map deed.took (S.view seat.old).taken ++ xs
+        → OnErr result (IsGivenUp (S.serves to.now.store.now).sizes.slots (S.view seat.new).reached
+        (length (S.view seat.old).taken) xs (S.view seat.new).deeds) }
     ensures steps { S.reused → Steps (S.view seat.old) (S.view seat.new) }
     ensures err { IfErr result (MayRefuse S.reused) }
 {
@@ -229,8 +240,6 @@ fn place_taken<M: Means, S: Store<M>>(
     slots: Vec<u32>,
     tries: u32,
 ) -> Result<Vec<Ref>, Refusal>
-where
-    S::Seat: Drop,
     requires home { IsSeatOf shared.now seat.old }
     requires slots { length slots.items ≡ length draft.nodes }
     requires taken { S.reused → HasTaken seat.old.view slots.items }
@@ -240,11 +249,15 @@ where
     ensures own { own_moves seat.new.mark ≡ own_moves seat.old.mark }
     ensures placed { IfOk result
         (λ refs. IsPlaced (drawn seat.old.mark.log) (drawn seat.new.mark.log) draft refs.items) }
+    ensures drawn { IfOk result (λ refs. AreDrawnBy seat.old.mark seat.new.mark refs.items) }
     ensures none { S.reused → seat.new.view.taken ≡ [] }
-    ensures settled { S.reused → IfOk result (λ refs. SettlesAll seat.old.view refs.items seat.new.view) }
+    ensures used { S.reused → (xs : List Deed) → seat.old.view.deeds ≡ map deed.took seat.old.view.taken ++ xs
+        → IfOk result (λ refs. seat.new.view.deeds ≡ drafted (map slot_of refs.items) [] xs) }
     ensures within { S.reused → (end : ℕ) → AreBelow end slots.items
         → IfOk result (λ refs. LieBelow end refs.items) }
-    ensures given { S.reused → OnErr result (GivesUp shared.now.table.sizes.slots seat.old.view seat.new.view) }
+    ensures given { S.reused → (xs : List Deed) → seat.old.view.deeds ≡ map deed.took seat.old.view.taken ++ xs
+        → OnErr result (IsGivenUp shared.now.table.sizes.slots seat.new.view.reached (length draft.nodes) xs
+        seat.new.view.deeds) }
     ensures steps { S.reused → Steps seat.old.view seat.new.view }
     ensures moved { IfErr result
         (λ e. e ≡ refusal.Moved → others seat.old.mark + max 1 tries ≤ others seat.new.mark) }
@@ -288,8 +301,6 @@ pub fn place_draft<M: Means, S: Store<M>>(
     kind: Kind,
     tries: u32,
 ) -> Result<Vec<Ref>, Refusal>
-where
-    S::Seat: Drop,
     requires home { IsSeatOf shared.now seat.old }
     requires none { S.reused → seat.old.view.taken ≡ [] }
     requires some { 0 < length draft.nodes }
@@ -298,13 +309,16 @@ where
     ensures own { own_moves seat.new.mark ≡ own_moves seat.old.mark }
     ensures placed { IfOk result
         (λ refs. IsPlaced (drawn seat.old.mark.log) (drawn seat.new.mark.log) draft refs.items) }
+    ensures drawn { IfOk result (λ refs. AreDrawnBy seat.old.mark seat.new.mark refs.items) }
     ensures none { S.reused → seat.new.view.taken ≡ [] }
     ensures held { S.reused → StaysHeld seat.old.view seat.new.view }
-    ensures settled { S.reused → IfOk result (λ refs. All (λ at. In seat.new.view.settled (slot_of at)) refs.items) }
-    ensures just { S.reused → IfOk result (λ refs. SettlesAll seat.old.view refs.items seat.new.view) }
+    ensures drafted { S.reused → IfOk result
+        (λ refs. seat.new.view.deeds ≡ drafted (map slot_of refs.items) [] seat.old.view.deeds) }
     ensures within { S.reused → IfOk result (λ refs. LieBelow (kind_end shared.now.table.sizes kind) refs.items) }
-    ensures given { S.reused → OnErr result (GivesUp shared.now.table.sizes.slots seat.old.view seat.new.view) }
-    ensures moves { S.reused → Moves seat.old.view seat.new.view }
+    ensures given { S.reused → OnErr result (IsGivenUp shared.now.table.sizes.slots seat.new.view.reached
+        (length draft.nodes) seat.old.view.deeds seat.new.view.deeds) }
+    ensures loads { S.reused → seat.old.view.epoch_loads ≤ seat.new.view.epoch_loads }
+    ensures reached { S.reused → seat.old.view.reached ≤ seat.new.view.reached }
     ensures want { IfErr result (λ e. is_resource_refusal e ≡ true) }
     ensures moved { IfErr result
         (λ e. e ≡ refusal.Moved → others seat.old.mark + max 1 tries ≤ others seat.new.mark) }
@@ -312,7 +326,8 @@ where
         (λ e. e ≡ refusal.Stamps → stamps ≤ next_stamp seat.new.mark.log + length draft.nodes) }
     ensures late { IfErr result (λ e. e ≡ refusal.Stamps → IsLate (next_stamp seat.new.mark.log)) }
     ensures full { S.reused → IfErr result
-        (λ e. e ≡ refusal.Full → FoundNone seat.old.view seat.new.view (kind_end shared.now.table.sizes kind)) }
+        (λ e. e ≡ refusal.Full → FoundNone seat.old.view seat.new.view (kind_end shared.now.table.sizes kind)
+        (length draft.nodes)) }
     ensures err { IfErr result (λ e. (e ≡ refusal.NoMemory)
         ⊎ ((e ≡ refusal.Moved) ⊎ ((e ≡ refusal.Stamps) ⊎ ((e ≡ refusal.Full) ⊎ (S.reused × (e ≡ refusal.Busy)))))) }
 {

@@ -1,7 +1,8 @@
 //! Slots that are retired, since the head reaches them no more, or never did.
-ghost use Rattle.std.specs.Prelude.{◌≡◌, []};
+ghost use Rattle.std.specs.Prelude.{◌≡◌, [], map};
+ghost use Rattle.group_history.specs.Refs.{slot_of};
 ghost use Rattle.chunk_slots.specs.Seats.{MayRetire};
-ghost use Rattle.publishing.specs.Retiring.{LetsAllGo, Retires};
+ghost use Rattle.publishing.specs.Retiring.{AreFreed, AreLetGo};
 ghost use Rattle.publishing.specs.Inside.Steps.{Steps};
 
 use chunk_slots::Slots;
@@ -15,8 +16,8 @@ fn retire_at<M: Means, S: Slots<M>>(store: &S, seat: &mut S::Seat, refs: &[Ref],
     ensures home { S.home seat.new ≡ S.serves store.now }
     ensures none { S.reused → (S.view seat.new).taken ≡ [] }
     ensures steps { S.reused → Steps (S.view seat.old) (S.view seat.new) }
-    ensures retired { S.reused → LetsAllGo (S.serves store.now).sizes.slots r (S.view seat.old) refs.now
-        (S.view seat.new) }
+    ensures retired { S.reused → AreLetGo (S.serves store.now).sizes.slots r (map slot_of refs.now)
+        (S.view seat.old).deeds (S.view seat.new).deeds }
 {
     for at in refs {
         store.retire(seat, at.slot(), r);
@@ -31,7 +32,8 @@ pub(crate) fn retire_all<M: Means, S: Slots<M>>(store: &S, seat: &mut S::Seat, r
     ensures home { S.home seat.new ≡ S.serves store.now }
     ensures none { S.reused → (S.view seat.new).taken ≡ [] }
     ensures steps { S.reused → Steps (S.view seat.old) (S.view seat.new) }
-    ensures retired { S.reused → Retires (S.serves store.now).sizes.slots (S.view seat.old) refs.now (S.view seat.new) }
+    ensures freed { S.reused → AreFreed (S.serves store.now).sizes.slots (S.view seat.new).reached (map slot_of refs.now)
+        (S.view seat.old).deeds (S.view seat.new).deeds }
 {
     if refs.is_empty() {
         return;

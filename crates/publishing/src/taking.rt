@@ -2,13 +2,14 @@
 //!
 //! They are kept as a stack: the slot taken last is used or given back first. So it is always the first of
 //! those that the seat knows as taken.
-ghost use Rattle.std.specs.Prelude.{◌≡◌, ◌⊎◌, ◌+◌, ◌<◌, ◌++◌, [], ◌∷◌, length, IfOk, IfErr, OnOk, OnErr};
+ghost use Rattle.std.specs.Prelude.{ℕ, ◌≡◌, ◌⊎◌, ◌+◌, ◌<◌, ◌≤◌, ◌++◌, List, [], ◌∷◌, length, IfOk, IfErr, OnOk, OnErr};
 ghost use Rattle.group_history.specs.declared.refusals.Refusal.TheVariants as refusal;
-ghost use Rattle.reader_claims.specs.Passes.{FindsNone};
+ghost use Rattle.reader_claims.specs.declared.view.View.{View};
+ghost use Rattle.reader_claims.specs.Passes.{FindsNone, OnlyTakes};
 ghost use Rattle.reader_claims.specs.Seats.{kind_end};
 ghost use Rattle.publishing.specs.Placed.{FoundNone};
-ghost use Rattle.publishing.specs.Retiring.{SettlesNone};
-ghost use Rattle.publishing.specs.Inside.Stacks.{AreBelow, HasTaken};
+ghost use Rattle.publishing.specs.Retiring.{drafted};
+ghost use Rattle.publishing.specs.Inside.Stacks.{AreBelow, HasTaken, IsButWithdrawn, PassedOver, Uses};
 ghost use Rattle.publishing.specs.Inside.Steps.{Steps};
 
 use chunk_slots::{Slots, Store};
@@ -22,7 +23,8 @@ pub(crate) fn withdraw_all<M: Means, S: Slots<M>>(store: &S, seat: &mut S::Seat,
     requires taken { S.reused → HasTaken (S.view seat.old) slots.items }
     ensures home { S.home seat.new ≡ S.serves store.now }
     ensures none { S.reused → (S.view seat.new).taken ≡ [] }
-    ensures settled { S.reused → SettlesNone (S.view seat.old) (S.view seat.new) }
+    ensures used { S.reused → Uses (S.view seat.old) [] (S.view seat.old).taken (S.view seat.new) }
+    ensures kept { S.reused → IsButWithdrawn (S.view seat.old) (S.view seat.new) }
     ensures steps { S.reused → Steps (S.view seat.old) (S.view seat.new) }
 {
     let mut slots = slots;
@@ -54,13 +56,18 @@ fn take_next<M: Means, S: Store<M>>(
     ensures home { S.home seat.new ≡ S.serves store.now }
     ensures taken { S.reused → HasTaken (S.view seat.new) slots.new.items }
     ensures more { OnOk result (length slots.new.items ≡ length slots.old.items + 1) }
+    ensures same { OnErr result (slots.new.items ≡ slots.old.items) }
     ensures within { S.reused → AreBelow (kind_end (S.serves store.now).sizes kind) slots.old.items
         → AreBelow (kind_end (S.serves store.now).sizes kind) slots.new.items }
-    ensures settled { S.reused → SettlesNone (S.view seat.old) (S.view seat.new) }
+    ensures took { S.reused → OnOk result ((x : ℕ) × OnlyTakes (S.view seat.old) (S.view seat.new) (x ∷ [])) }
+    ensures used { S.reused → OnErr result ((w : View) × (back : List ℕ) × (length back ≤ 1)
+        × OnlyTakes (S.view seat.old) w back × Uses w [] back (S.view seat.new)) }
     ensures steps { S.reused → Steps (S.view seat.old) (S.view seat.new) }
     ensures full { S.reused → IfErr result
         (λ e. e ≡ refusal.Full → FindsNone (S.view seat.old) (S.view seat.new)
         (kind_end (S.serves store.now).sizes kind)) }
+    ensures none { S.reused → IfErr result
+        (λ e. e ≡ refusal.Full → OnlyTakes (S.view seat.old) (S.view seat.new) []) }
     ensures err { IfErr result (λ e. (e ≡ refusal.NoMemory) ⊎ (e ≡ refusal.Full)) }
 {
     let Some(slot) = store.take_slot(seat, kind) else {
@@ -86,13 +93,18 @@ fn take_more<M: Means, S: Store<M>>(
     ensures home { S.home seat.new ≡ S.serves store.now }
     ensures taken { S.reused → HasTaken (S.view seat.new) slots.new.items }
     ensures more { OnOk result (length slots.new.items ≡ length slots.old.items + count) }
+    ensures few { OnErr result (length slots.new.items < length slots.old.items + count) }
     ensures within { S.reused → AreBelow (kind_end (S.serves store.now).sizes kind) slots.old.items
         → AreBelow (kind_end (S.serves store.now).sizes kind) slots.new.items }
-    ensures settled { S.reused → SettlesNone (S.view seat.old) (S.view seat.new) }
+    ensures took { S.reused → OnOk result ((taken : List ℕ) × OnlyTakes (S.view seat.old) (S.view seat.new) taken) }
+    ensures used { S.reused → OnErr result ((w : View) × (taken back : List ℕ) × (length back ≤ 1)
+        × OnlyTakes (S.view seat.old) w taken × Uses w [] back (S.view seat.new)) }
     ensures steps { S.reused → Steps (S.view seat.old) (S.view seat.new) }
     ensures full { S.reused → IfErr result
-        (λ e. e ≡ refusal.Full → FoundNone (S.view seat.old) (S.view seat.new)
+        (λ e. e ≡ refusal.Full → PassedOver (S.view seat.old) (S.view seat.new)
         (kind_end (S.serves store.now).sizes kind)) }
+    ensures none { S.reused → IfErr result
+        (λ e. e ≡ refusal.Full → (taken : List ℕ) × OnlyTakes (S.view seat.old) (S.view seat.new) taken) }
     ensures err { IfErr result (λ e. (e ≡ refusal.NoMemory) ⊎ (e ≡ refusal.Full)) }
 {
     for held in 0..count {
@@ -117,11 +129,13 @@ pub(crate) fn take_all<M: Means, S: Store<M>>(
     ensures taken { S.reused → IfOk result (λ slots. HasTaken (S.view seat.new) slots.items) }
     ensures within { S.reused → IfOk result (λ slots. AreBelow (kind_end (S.serves store.now).sizes kind) slots.items) }
     ensures none { S.reused → OnErr result ((S.view seat.new).taken ≡ []) }
-    ensures settled { S.reused → SettlesNone (S.view seat.old) (S.view seat.new) }
+    ensures took { S.reused → OnOk result (OnlyTakes (S.view seat.old) (S.view seat.new) (S.view seat.new).taken) }
+    ensures given { S.reused → OnErr result ((back : List ℕ) × (length back ≤ count)
+        × ((S.view seat.new).deeds ≡ drafted [] back (S.view seat.old).deeds)) }
     ensures steps { S.reused → Steps (S.view seat.old) (S.view seat.new) }
     ensures full { S.reused → IfErr result
         (λ e. e ≡ refusal.Full → FoundNone (S.view seat.old) (S.view seat.new)
-        (kind_end (S.serves store.now).sizes kind)) }
+        (kind_end (S.serves store.now).sizes kind) count) }
     ensures err { IfErr result (λ e. (e ≡ refusal.NoMemory) ⊎ (e ≡ refusal.Full)) }
 {
     let mut slots = Vec::with_capacity(alloc, count)?;

@@ -13,7 +13,7 @@ use Rattle.group_history.specs.Cookies.{whole_text}
 use Rattle.pull_patch.specs.declared.plain.puts.Found.{Found}
 use Rattle.pull_patch.specs.Fields.{each, items_list}
 use Rattle.pull_patch.specs.Operations as operations
-use Rattle.pull_patch.specs.Operations.{Edit, edit_of, edits_of, put_of, del_of, edit_named, operation_of}
+use Rattle.pull_patch.specs.Operations.{edit_of, edits_of, put_of, del_of, edit_named, operation_of}
 use Rattle.pull_patch.proofs.Eaches.{each-append}
 use Rattle.pull_patch.specs.Inside.Plain.{IsText, IsValue, IsFoundIn, IsOperation, ArePatch}
 

@@ -16,7 +16,7 @@ use Rattle.reader_claims.specs.Words.{first_slot, slot_at, slot_word}
 use Rattle.reader_claims.specs.Lists.{In}
 use Rattle.reader_claims.specs.Views.{reader, dealer, with_taken, with_settled}
 use Rattle.reader_claims.specs.Machine as machine
-use Rattle.reader_claims.specs.Machine.{Move, Reached, Lawful, left_by}
+use Rattle.reader_claims.specs.Machine.{Move, Reached, left_by}
 use Rattle.reader_claims.specs.Laws.{BareLaw}
 use Rattle.reader_claims.proofs.Sound.{Sound}
 use Rattle.reader_claims.proofs.Keeps.{at_end}
@@ -48,6 +48,7 @@ adds v i x y w (machine.withdraw j inside) z h = inl h
 adds v i x y w (machine.retire j room past) z h = inl h
 adds v i x y w (machine.give j r room open_at) z h = inl h
 adds v i x y w (machine.lost j old n room miss) z h = inl h
+adds v i x y w (machine.miss j n room ne) z h = inl h
 
 module _ (k : Sizes) where
   step_live : (ws : List ℕ) (vs : List View) (o : Sound k (state ws vs)) (h : AreLive ws vs) (id i y : ℕ) (v w : View)

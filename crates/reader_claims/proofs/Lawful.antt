@@ -11,7 +11,7 @@ use Rattle.reader_claims.specs.declared.words.SlotState.TheVariants.{Free, Taken
 use Rattle.reader_claims.specs.Words.{pin_at, slot_at, pin_word, slot_word}
 use Rattle.reader_claims.specs.Views.{IsOpen}
 use Rattle.reader_claims.specs.Machine as machine
-use Rattle.reader_claims.specs.Machine.{Move, Reached}
+use Rattle.reader_claims.specs.Machine.{Move}
 use Rattle.reader_claims.specs.Laws.{Situation, HoldLaw, LearntLaw, OpenLaw, GivenLaw, HeldLaw, RetiredLaw, TakenLaw}
 use Rattle.reader_claims.specs.Laws.{TakerLaw, EpochLaw, LiveLaw, StepLaw}
 use Rattle.atomic_table.proofs.Lists.{set_here}
@@ -79,6 +79,7 @@ live k ws vs o id slot v me i x y w (machine.withdraw j inside) at there = absur
 live k ws vs o id slot v me i x y w (machine.retire j room past) at there = inr (refl, past)
 live k ws vs o id slot v me i x y w (machine.give j r room open_at) at there = absurd (omega arith)
 live k ws vs o id slot v me i x y w (machine.lost j old n room miss) at there = inl there
+live k ws vs o id slot v me i x y w (machine.miss j n room ne) at there = inl there
 
 pub live_law : LiveLaw
 live_law s i y w near there m = live s.sizes s.words s.views (sound_at s) s.one.place i s.one.view s.one.sits
@@ -100,6 +101,7 @@ freed v slot r i x y w (machine.retire j room past) at there left = absurd (omeg
 freed v slot r i x y w (machine.give j r' room open_at) at there left = let same : r' ≡ r = omega arith in
     subst (IsOpen v) same open_at
 freed v slot r i x y w (machine.lost j old n room miss) at there left = absurd (omega arith)
+freed v slot r i x y w (machine.miss j n room ne) at there left = absurd (omega arith)
 
 pub hold_law : HoldLaw
 hold_law s i y w near holds m free = let x : ℕ = get_or s.words (slot_at i) 0 in let v : View = s.one.view in ⊎_elim
@@ -136,6 +138,7 @@ rises k ws vs o id v me i x y w m at = let long = o.pins.wide in there i x y w m
   there i x y w (machine.retire j room past) at = other (slot_at j) (slot_word (Retired (v.loaded + 1))) (omega arith)
   there i x y w (machine.give j r room open_at) at = other (slot_at j) 0 (omega arith)
   there i x y w (machine.lost j old n room miss) at = other (slot_at j) n (omega arith)
+  there i x y w (machine.miss j n room ne) at = other (slot_at j) n (omega arith)
 
 pub epoch_law : EpochLaw
 epoch_law s i y w m = rises s.sizes s.words s.views (sound_at s) s.one.place s.one.view s.one.sits i

@@ -5,8 +5,9 @@ pub mod Reaching
 mod Opens
 mod Readers
 mod Pins
-mod Scans
+pub mod Scans
 mod Looks
+mod Taking
 mod Options
 mod Lawful
 pub mod Moving

@@ -1,12 +1,12 @@
 -- What a load of the epoch, and a raise after it, leave of a view.
-use Rattle.std.proofs.Common.{◌≡◌, ℕ, ◌≤◌, refl, ap, ◌∙◌, subst, sym, arith}
+use Rattle.std.proofs.Common.{◌≡◌, ℕ, ◌≤◌, refl, ap, ◌∙◌, subst, sym, arith, inl, inr}
 use Rattle.reader_claims.specs.declared.words.Pin.{Pin}
 use Rattle.reader_claims.specs.declared.view.View.{View}
 use Rattle.reader_claims.specs.Seats.{KeepsPin}
 use Rattle.reader_claims.specs.Views.{promoted, with_epoch, with_raise}
 use Rattle.reader_claims.specs.Passes.{Raises}
 
-keeps_promoted : (p : Pin) (e : ℕ) → KeepsPin p (promoted p e)
+pub keeps_promoted : (p : Pin) (e : ℕ) → KeepsPin p (promoted p e)
 keeps_promoted p e = record { held = λ n is. ap (λ q. promoted q e) is; absent = λ is. ap (λ q. promoted q e) is }
 
 -- the epoch was only loaded
@@ -21,7 +21,7 @@ loads_only v u e is up = subst (Raises v) (sym is) record {
   withdrawn = refl;
   retired = refl;
   epoch_loads = refl;
-  raises = (omega arith, omega arith);
+  raises = inl (refl, refl);
   reached = up;
   floor = refl;
 }
@@ -40,7 +40,7 @@ loads_and_raises v u t e n is up then further = let here : u.reached ≡ e = ap 
       withdrawn = refl;
       retired = refl;
       epoch_loads = refl;
-      raises = (omega arith, omega arith);
+      raises = inr (omega arith, refl);
       reached = omega arith;
       floor = refl;
     }

@@ -17,8 +17,10 @@ use Rattle.group_history.specs.Refs.{max_seats}
 use Rattle.reader_claims.specs.Words.{pin_at, first_slot, slot_at, pin_word, slot_word}
 use Rattle.reader_claims.specs.Lists.{In, Noted}
 use Rattle.reader_claims.specs.Notes as notes
+use Rattle.reader_claims.specs.Deeds as deed
 use Rattle.reader_claims.specs.Views.{dealer, promoted, IsOpen, with_epoch, with_pin, with_read, with_raise, with_taken}
-use Rattle.reader_claims.specs.Views.{with_settled, with_withdrawn, with_retired, with_note, with_look, with_given, sought}
+use Rattle.reader_claims.specs.Views.{with_settled, with_withdrawn, with_retired, with_missed, with_note, with_look}
+use Rattle.reader_claims.specs.Views.{with_given, sought}
 use Rattle.reader_claims.specs.Machine as machine
 use Rattle.reader_claims.specs.Machine.{Move, Reached, Lawful, left_by}
 use Rattle.reader_claims.specs.Inside.Plays.{Sat, dealt_left, dealt_right, Goes, loaded, stored, cleared, read, raised, looked}
@@ -94,7 +96,7 @@ module _ (k : Sizes) where
       → Sound k (state (set ws (slot_at i) (slot_word (Taken v.number))) (set vs id (with_taken v i)))
   take_sound ws vs o id v i me room hit = let number = o.pins.numbered id v me in
       moved k (state ws vs) o id v i (slot_word (Taken v.number))
-      (i ∷ v.taken) v.settled v.notes v.floor v.retired v.withdrawn me record {
+      (i ∷ v.taken) v.settled v.notes v.floor v.retired v.withdrawn (deed.took i ∷ v.deeds) me record {
         room = room;
         owner = λ j e. absurd (omega arith);
         mine = λ z h. dite (ℕ_discrete z i) (λ e. inl (e, omega arith))
@@ -112,7 +114,7 @@ module _ (k : Sizes) where
       (set vs id (with_retired v i (v.loaded + 1))))
   retire_sound ws vs o id v i me room past hit = let b = o.pins.behind id v me in
       moved k (state ws vs) o id v i (slot_word (Retired (v.loaded + 1))) v.taken v.settled v.notes v.floor
-      ((i, v.loaded + 1) ∷ v.retired) v.withdrawn me record {
+      ((i, v.loaded + 1) ∷ v.retired) v.withdrawn (deed.retired i (v.loaded + 1) ∷ v.deeds) me record {
         room = room;
         owner = λ j e. absurd (omega arith);
         mine = λ z h. inr (not_taken k (state ws vs) o id v i z me (λ j e. omega arith) h);
@@ -129,7 +131,7 @@ module _ (k : Sizes) where
   give_sound ws vs o id v i r me room open_at hit = let b = o.pins.behind id v me in let past = open_at.0 in
       let low = o.slots.floor id v me in
       moved k (state ws vs) o id v i 0 v.taken v.settled (notes.gave i r ∷ v.notes)
-      (max v.floor r) v.retired v.withdrawn me record {
+      (max v.floor r) v.retired v.withdrawn v.deeds me record {
         room = room;
         owner = λ j e. absurd (omega arith);
         mine = λ z h. inr (not_taken k (state ws vs) o id v i z me (λ j e. omega arith) h);
@@ -187,16 +189,20 @@ module _ (k : Sizes) where
   move_sound ws vs o id v me i x y w at (machine.take j some_reader room) = take_sound ws vs o id v j me
       (roomy ws vs o id v me j room) at
   move_sound ws vs o id v me i x y w at (machine.settle j inside) = ends_at k (state ws vs) o id v j 1
-      (j ∷ v.settled) v.withdrawn me inside (omega arith)
+      (j ∷ v.settled) v.withdrawn (deed.settled j ∷ v.deeds) me inside (omega arith)
   move_sound ws vs o id v me i x y w at (machine.withdraw j inside) = ends_at k (state ws vs) o id v j 0 v.settled
-      (j ∷ v.withdrawn) me inside (omega arith)
+      (j ∷ v.withdrawn) (deed.withdrew j ∷ v.deeds) me inside (omega arith)
   move_sound ws vs o id v me i x y w at (machine.retire j room past) = retire_sound ws vs o id v j me
       (roomy ws vs o id v me j room) past at
   move_sound ws vs o id v me i x y w at (machine.give j r room open_at) = give_sound ws vs o id v j r me
       (roomy ws vs o id v me j room) open_at at
   move_sound ws vs o id v me i x y w at (machine.lost j old n room miss) = subst
       (λ q. Sound k (state (set ws (slot_at j) q) (set vs id (with_note v j old q)))) at
-      (unmoved k (state ws vs) o (slot_at j) id v (notes.lost j old (get_or ws (slot_at j) 0) ∷ v.notes) me)
+      (unmoved k (state ws vs) o (slot_at j) id v (notes.lost j old (get_or ws (slot_at j) 0) ∷ v.notes) v.deeds me)
+  move_sound ws vs o id v me i x y w at (machine.miss j n room miss) = subst
+      (λ q. Sound k (state (set ws (slot_at j) q) (set vs id (with_missed v j q)))) at
+      (unmoved k (state ws vs) o (slot_at j) id v (notes.lost j 1 (get_or ws (slot_at j) 0) ∷ v.notes)
+      (deed.missed j ∷ v.deeds) me)
 
   opened_sound : (ws : List ℕ) → length ws ≡ first_slot + k.slots → k.readers ≤ max_seats
       → ((j : ℕ) → get_or ws j 0 ≡ 0) → Sound k (state ws (dealer k 1 ∷ []))
@@ -299,13 +305,24 @@ module _ (k : Sizes) where
   unsought zero e = absurd (cc e)
   unsought (suc x) e = absurd (cc e)
 
+  -- a slot that is taken by the seat's own number is its own
+  its_own : (s : St) (o : Sound k (state s.words s.views)) (id : ℕ) (v : View) → get_elem? s.views id ≡ some v → (i i' : ℕ)
+      → i ≡ i' → i < v.sizes.slots → get_or s.words (slot_at i) 0 ≡ slot_word (Taken v.number) → In v.taken i'
+  its_own s o id v me i i' same room is =
+      let t = o.slots.taker i v.number (roomy s.words s.views o id v me i room) is in
+      let it : t.0 ≡ v = some-injective t.0 v
+      (sym t.1 ∙ ap (λ j. get_elem? s.views j) (o.pins.numbered id v me) ∙ me) in
+      subst (In v.taken) same (subst (λ (u : View). In u.taken i) it t.2)
+
   pub looks_as : (n id : ℕ) (m : Sat) (i : ℕ) → i < m.0.sizes.slots
       → Allows (Lawful k) n id m (slot_at i) (λ y. y) (looked (step n (slot_at i) 0 0 none) m)
   looks_as n id m i room s r wide me _ = let x : ℕ = get_or s.words (slot_at i) 0 in
       let move : Move m.0 (slot_at i) x x (with_look m.0 i x) = machine.lost i (sought x) x room (unsought x) in
       goes s (slot_at i) id m (looked (step n (slot_at i) 0 0 none) m) x (with_look m.0 i x) r me move
-      (λ i' at. let same : i ≡ i' = omega arith in
-      told_at (step n (slot_at i) 0 0 none) m x x (λ q. with_look m.0 q x) i i' same move)
+      (λ i' at. let same : i ≡ i' = omega arith in (
+        told_at (step n (slot_at i) 0 0 none) m x x (λ q. with_look m.0 q x) i i' same move,
+        its_own s (sound s.words s.views r) id m.0 me i i' same room,
+      ))
 
   won_left : (x old new : ℕ) → x ≡ old → left_by old new x ≡ new
   won_left x old new e = ap (λ b. cond b new x) (eq-eqb x old e)
@@ -376,7 +393,14 @@ module _ (k : Sizes) where
         ),
       ))
       (λ miss. misses s id n m i 0 new T r me room miss
-      (λ told. (refl, is, λ i' at. ((λ z. absurd (miss z)), λ ne. told i' at))))
+      (λ told. (
+        refl,
+        is,
+        λ i' at. let same : i ≡ i' = omega arith in (
+          (λ z. absurd (miss z)),
+          λ ne. (told i' at, its_own s o id v me i i' same room),
+        ),
+      )))
 
   pub settles_as : (n id : ℕ) (m : Sat) (i old : ℕ) → In m.0.taken i → old ≡ slot_word (Taken m.0.number)
       → Allows (Lawful k) n id m (slot_at i) (λ y. either (eqb y old) 1 y) (settled (step n (slot_at i) old 1 none) m)
@@ -431,8 +455,16 @@ module _ (k : Sizes) where
           λ ne. absurd (ne hit),
         ),
       ))
-      (λ miss. misses s id n m i 1 new T reached me room miss
-      (λ told. (refl, new_is, past, λ i' at. ((λ z. absurd (miss z)), λ ne. told i' at))))
+      (λ ne. let w = with_missed v i x in let move : Move v (slot_at i) x x w = machine.miss i x room ne in
+      goes s (slot_at i) id m T x w reached me move (
+        refl,
+        new_is,
+        past,
+        λ i' at. let same : i ≡ i' = omega arith in (
+          (λ z. absurd (ne z)),
+          λ other. told_at (step n (slot_at i) 1 new none) m x x (λ j. with_missed v j x) i i' same move,
+        ),
+      ))
 
   pub gives_as : (n id : ℕ) (m : Sat) (i r old : ℕ) → i < m.0.sizes.slots → IsOpen m.0 r → old ≡ slot_word (Retired r)
       → Allows (Lawful k) n id m (slot_at i) (λ y. either (eqb y old) 0 y) (gave (step n (slot_at i) old 0 none) m)

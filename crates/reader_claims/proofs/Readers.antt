@@ -5,7 +5,7 @@ use native.Mathlib.Decide.{ℕ_discrete}
 use Rattle.atomic_table.specs.Seated.{TableId}
 use Rattle.reader_claims.specs.declared.view.View.{View}
 use Rattle.group_history.specs.Refs.{max_seats}
-use Rattle.reader_claims.specs.Views.{with_retired, with_note}
+use Rattle.reader_claims.specs.Views.{with_retired, with_missed}
 use Rattle.reader_claims.specs.Machine.{Move, left_by}
 use Rattle.reader_claims.specs.Inside.Plays.{Sat}
 use Rattle.reader_claims.specs.Passes.{IsButRetired}
@@ -51,5 +51,5 @@ left_move x old new i v w won lost = dite (ℕ_discrete x old)
 pub but_retired : (v u : View) (i r : ℕ) → u ≡ with_retired v i r → IsButRetired v u
 but_retired v u i r is = subst (IsButRetired v) (sym is) refl
 
-pub but_noted : (v u : View) (i old x : ℕ) → u ≡ with_note v i old x → IsButRetired v u
-but_noted v u i old x is = subst (IsButRetired v) (sym is) refl
+pub but_missed : (v u : View) (i x : ℕ) → u ≡ with_missed v i x → IsButRetired v u
+but_missed v u i x is = subst (IsButRetired v) (sym is) refl

@@ -13,6 +13,7 @@ use Rattle.reader_claims.specs.declared.view.Sizes.{Sizes}
 use Rattle.reader_claims.specs.declared.view.View.{View}
 use Rattle.reader_claims.specs.Words.{pin_at, slot_at, pin_word, slot_word}
 use Rattle.reader_claims.specs.Lists.{In, Noted, without}
+use Rattle.reader_claims.specs.Deeds.{Deed}
 use Rattle.reader_claims.specs.Notes.{Note}
 use Rattle.reader_claims.specs.Views.{NoneBelow}
 use Rattle.reader_claims.proofs.Sound.{Sound}
@@ -37,8 +38,16 @@ still_in x z (y ∷ ys) n h = dite (ℕ_discrete x y)
     (⊎_elim (λ (q : z ≡ y). inl q) (λ g. inr (still_in x z ys n g)) h))
 
 -- the view after a step on a slot
-abbrev pub after : View → List ℕ → List ℕ → List Note → ℕ → List (ℕ × ℕ) → List ℕ → View
-after v t d f g h b = record v { taken = t; settled = d; notes = f; floor = g; retired = h; withdrawn = b }
+abbrev pub after : View → List ℕ → List ℕ → List Note → ℕ → List (ℕ × ℕ) → List ℕ → List Deed → View
+after v t d f g h b a = record v {
+  taken = t;
+  settled = d;
+  notes = f;
+  floor = g;
+  retired = h;
+  withdrawn = b;
+  deeds = a;
+}
 
 module _ (k : Sizes) where
   -- What a step on the slot i, to the word x, by the seat id, has to show
@@ -54,9 +63,9 @@ module _ (k : Sizes) where
     pub floor : (j : ℕ) (u : View) (e : ℕ) → get_elem? s.views j ≡ some u → u.pin ≡ Held e → g ≤ e
 
   pub moved : (s : St) (o : Sound k s) (id : ℕ) (v : View) (i x : ℕ) (t d : List ℕ) (f : List Note) (g : ℕ)
-      (h : List (ℕ × ℕ)) (b : List ℕ) → get_elem? s.views id ≡ some v → Moves s id v i x t g
-      → Sound k (board s (set s.words (slot_at i) x) (set s.views id (after v t d f g h b)))
-  moved s o id v i x t d f g h back me m = let w = after v t d f g h back in
+      (h : List (ℕ × ℕ)) (b : List ℕ) (a : List Deed) → get_elem? s.views id ≡ some v → Moves s id v i x t g
+      → Sound k (board s (set s.words (slot_at i) x) (set s.views id (after v t d f g h b a)))
+  moved s o id v i x t d f g h back deeds me m = let w = after v t d f g h back deeds in
       let ws : List ℕ = set s.words (slot_at i) x in let long = o.pins.wide in let near = m.room in
       let other : (j : ℕ) → j ≢ slot_at i → get_or ws j 0
       ≡ get_or s.words j 0 = λ j ne. get_or-set_other s.words (slot_at i) j x 0 ne in
@@ -144,11 +153,12 @@ module _ (k : Sizes) where
       }
 
   -- a lost step on a slot, which may be noted
-  pub unmoved : (s : St) (o : Sound k s) (i id : ℕ) (v : View) (f : List Note) → get_elem? s.views id ≡ some v
+  pub unmoved : (s : St) (o : Sound k s) (i id : ℕ) (v : View) (f : List Note) (a : List Deed)
+      → get_elem? s.views id ≡ some v
       → Sound k (board s (set s.words i (get_or s.words i 0))
-      (set s.views id (after v v.taken v.settled f v.floor v.retired v.withdrawn)))
-  unmoved s o i id v f me = unturned k s o i id v
-      (after v v.taken v.settled f v.floor v.retired v.withdrawn) me record {
+      (set s.views id (after v v.taken v.settled f v.floor v.retired v.withdrawn a)))
+  unmoved s o i id v f a me = unturned k s o i id v
+      (after v v.taken v.settled f v.floor v.retired v.withdrawn a) me record {
         sizes = refl;
         number = refl;
         next = refl;
@@ -177,12 +187,12 @@ module _ (k : Sizes) where
   )
 
   -- a taken slot becomes x, which is Live or Free
-  pub ends_at : (s : St) (o : Sound k s) (id : ℕ) (v : View) (i x : ℕ) (d b : List ℕ) → get_elem? s.views id ≡ some v
-      → In v.taken i → x < 2 → Sound k (board s (set s.words (slot_at i) x)
-      (set s.views id (after v (without i v.taken) d v.notes v.floor v.retired b)))
-  ends_at s o id v i x d b me inside small = let was = o.slots.taken id i v me inside in
+  pub ends_at : (s : St) (o : Sound k s) (id : ℕ) (v : View) (i x : ℕ) (d b : List ℕ) (a : List Deed)
+      → get_elem? s.views id ≡ some v → In v.taken i → x < 2 → Sound k (board s (set s.words (slot_at i) x)
+      (set s.views id (after v (without i v.taken) d v.notes v.floor v.retired b a)))
+  ends_at s o id v i x d b a me inside small = let was = o.slots.taken id i v me inside in
       let there : get_or s.words (slot_at i) 0 ≡ 2 * id + 2 = was.1 in
-      moved s o id v i x (without i v.taken) d v.notes v.floor v.retired b me record {
+      moved s o id v i x (without i v.taken) d v.notes v.floor v.retired b a me record {
         room = was.0;
         owner = λ j e. omega arith;
         mine = λ z h. inr (left_of i z v.taken h);

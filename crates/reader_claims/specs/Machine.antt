@@ -14,7 +14,7 @@ use Rattle.group_history.specs.Refs.{max_seats}
 use Rattle.reader_claims.specs.Words.{epoch_at, pin_at, first_slot, slot_at, slot_word}
 use Rattle.reader_claims.specs.Lists.{In}
 use Rattle.reader_claims.specs.Views.{reader, dealer, IsOpen, with_epoch, with_pin, with_read, with_raise, with_taken}
-use Rattle.reader_claims.specs.Views.{with_settled, with_withdrawn, with_retired, with_given, with_note}
+use Rattle.reader_claims.specs.Views.{with_settled, with_withdrawn, with_retired, with_missed, with_given, with_note}
 
 -- A seat with the view v finds a number in a word and leaves one there, and then has another view: Move v WORD FOUND
 -- LEFT VIEW. The dealer, which makes the other seats and has the number 0, stores no pin, raises nothing and takes no
@@ -38,8 +38,10 @@ pub data Move (v : View) : ℕ → ℕ → ℕ → View → Type 0 where
       → Move v (slot_at i) (slot_word Live) (slot_word (Retired (v.loaded + 1))) (with_retired v i (v.loaded + 1))
   give : (i r : ℕ) → i < v.sizes.slots → IsOpen v r
       → Move v (slot_at i) (slot_word (Retired r)) (slot_word Free) (with_given v i r)
-  -- a take, a retire or a give that found another word than it looked for; so is a look noted
+  -- a take or a give that found another word than it looked for; so is a look noted
   lost : (i old x : ℕ) → i < v.sizes.slots → x ≢ old → Move v (slot_at i) x x (with_note v i old x)
+  -- a retire that found the slot not live
+  miss : (i x : ℕ) → i < v.sizes.slots → x ≢ slot_word Live → Move v (slot_at i) x x (with_missed v i x)
 
 -- what an exchange from old to new leaves where it found x
 abbrev pub left_by : ℕ → ℕ → ℕ → ℕ

@@ -1,14 +1,16 @@
 -- What the calls tell: of a pin, of a raise, of one slot, and of a search among all slots. In each v is what the seat
 -- knew before the call, and u what it knows after it.
-use Rattle.std.specs.Prelude.{◌≡◌, ◌≢◌, ℕ, ◌+◌, ◌^◌, ◌<◌, ◌≤◌, ◌⊎◌, [], ◌∷◌}
+use Rattle.std.specs.Prelude.{◌≡◌, ◌≢◌, ℕ, ◌+◌, ◌^◌, ◌<◌, ◌≤◌, ◌⊎◌, List, [], ◌∷◌, ◌++◌, map}
 use Rattle.reader_claims.specs.declared.words.Pin.TheVariants.{Absent, Held}
 use Rattle.reader_claims.specs.declared.words.SlotState.TheVariants.{Free, Taken, Live, Retired}
 use Rattle.reader_claims.specs.declared.view.View.{View}
 use Rattle.reader_claims.specs.Words.{slot_word}
 use Rattle.reader_claims.specs.Lists.{In}
 use Rattle.reader_claims.specs.Notes.{Note, lost, gave, StandTogether}
+use Rattle.reader_claims.specs.Deeds as deed
 use Rattle.reader_claims.specs.Seats.{KeepsPin}
-use Rattle.reader_claims.specs.Views.{promoted, with_retired, with_given, with_note, ArePinsRead, IsOpen, IsClosed}
+use Rattle.reader_claims.specs.Views.{promoted, with_retired, with_missed, with_given, with_note, ArePinsRead}
+use Rattle.reader_claims.specs.Views.{IsOpen, IsClosed}
 
 -- after a pin: the epoch was read as e, stored, and read as e again
 abbrev pub pinned : View → ℕ → View
@@ -47,6 +49,11 @@ abbrev pub IsUnpinned : View → View → Type 0
 IsUnpinned v u = (u ≡ unpinned v u.loaded_before u.loaded) × (v.reached ≤ u.loaded_before)
     × (u.loaded_before < u.loaded)
 
+-- nothing was done to the epoch, or it was raised, once, to what the seat has reached by now
+abbrev pub RaisesOnce : View → View → Type 0
+RaisesOnce v u = ((u.raises ≡ v.raises) × (u.deeds ≡ v.deeds))
+    ⊎ ((u.raises ≡ v.raises + 1) × (u.deeds ≡ deed.raised u.reached ∷ v.deeds))
+
 -- A call that raises the epoch loads it, and raises it once at most. It leaves the pin and the slots, and what the seat
 -- has reached never falls
 pub record Raises (v u : View) : Type 0 where
@@ -59,17 +66,17 @@ pub record Raises (v u : View) : Type 0 where
   pub withdrawn : u.withdrawn ≡ v.withdrawn
   pub retired : u.retired ≡ v.retired
   pub epoch_loads : u.epoch_loads ≡ v.epoch_loads + 1
-  pub raises : (v.raises ≤ u.raises) × (u.raises ≤ v.raises + 1)
+  pub raises : RaisesOnce v u
   pub reached : v.reached ≤ u.reached
   pub floor : u.floor ≡ v.floor
 
 -- the seat retired the slot i at r, or found it not live
 abbrev pub IsRetired : View → View → ℕ → ℕ → Type 0
-IsRetired v u i r = (u ≡ with_retired v i r) ⊎ ((w : ℕ) × (w ≢ slot_word Live) × (u ≡ with_note v i (slot_word Live) w))
+IsRetired v u i r = (u ≡ with_retired v i r) ⊎ ((w : ℕ) × (w ≢ slot_word Live) × (u ≡ with_missed v i w))
 
 -- but for what it retired and noted, u is v
 abbrev pub IsButRetired : View → View → Type 0
-IsButRetired v u = u ≡ record v { retired = u.retired; notes = u.notes }
+IsButRetired v u = u ≡ record v { retired = u.retired; notes = u.notes; deeds = u.deeds }
 
 -- the epoch was read once, and then pins: but for that u is v
 abbrev pub passed : View → View → View
@@ -92,6 +99,10 @@ abbrev pub IsNotGiven : View → View → ℕ → Type 0
 IsNotGiven v u i = (u ≡ passed v u) ⊎ ((r x : ℕ) × (x ≢ slot_word (Retired r))
     × (u ≡ with_note (passed v u) i (slot_word (Retired r)) x))
 
+-- the seat took these slots, the last one first, and did nothing else to slots or the epoch, but that it may have given some
+abbrev pub OnlyTakes : View → View → List ℕ → Type 0
+OnlyTakes v u slots = (u.taken ≡ slots ++ v.taken) × (u.deeds ≡ map deed.took slots ++ v.deeds)
+
 -- A call that looks at slots may take one and give some. It stores no pin, raises nothing, and settles, withdraws and
 -- retires no slot, so it shuts none by itself. What the seat has reached never falls
 pub record Looks (v u : View) : Type 0 where
@@ -103,8 +114,10 @@ pub record Looks (v u : View) : Type 0 where
   pub withdrawn : u.withdrawn ≡ v.withdrawn
   pub retired : u.retired ≡ v.retired
   pub raises : u.raises ≡ v.raises
+  pub loads : v.epoch_loads ≤ u.epoch_loads
   pub reached : v.reached ≤ u.reached
   pub floor : v.floor ≤ u.floor
+  pub took : (slots : List ℕ) × OnlyTakes v u slots
 
 -- the slot i, which the seat did not have, is its own
 abbrev pub Takes : View → View → ℕ → Type 0
@@ -122,26 +135,26 @@ retired_at r = slot_word (Retired r)
 abbrev pub Saw : View → ℕ → ℕ → Type 0
 Saw v i w = StandTogether (found i w ∷ []) v.notes
 
--- Why the slot i could not be had. Notes have the newest in front, and between those that stand together the seat noted
--- nothing else
-pub data WhyShut (i : ℕ) (v : View) : Type 0 where
-  taken : (j : ℕ) → Saw v i (slot_word (Taken j)) → WhyShut i v
-  live : Saw v i (slot_word Live) → WhyShut i v
+-- Why the slot i could not be had; those that the seat had itself are among `own`. Notes have the newest in front, and
+-- between those that stand together the seat noted nothing else
+pub data WhyShut (own : List ℕ) (i : ℕ) (v : View) : Type 0 where
+  taken : (j : ℕ) → Saw v i (slot_word (Taken j)) → (j ≡ v.number → In own i) → WhyShut own i v
+  live : Saw v i (slot_word Live) → WhyShut own i v
   -- it was retired, and may not be given
-  closed : (r : ℕ) → Saw v i (retired_at r) → IsClosed v r → WhyShut i v
+  closed : (r : ℕ) → Saw v i (retired_at r) → IsClosed v r → WhyShut own i v
   -- it was retired, and when the seat was to give it another seat had changed it
   give_lost : (r x : ℕ) → x ≢ retired_at r
-      → StandTogether (lost i (retired_at r) x ∷ (found i (retired_at r) ∷ [])) v.notes → WhyShut i v
+      → StandTogether (lost i (retired_at r) x ∷ (found i (retired_at r) ∷ [])) v.notes → WhyShut own i v
   -- it was retired, the seat gave it, and when the seat was to take it another seat had changed it
   take_lost : (r x : ℕ) → x ≢ slot_word Free
-      → StandTogether (found i x ∷ (gave i r ∷ (found i (retired_at r) ∷ []))) v.notes → WhyShut i v
+      → StandTogether (found i x ∷ (gave i r ∷ (found i (retired_at r) ∷ []))) v.notes → WhyShut own i v
 
 -- no slot of those from from and below end could be had
-abbrev pub AreShut : ℕ → ℕ → View → Type 0
-AreShut from end v = (i : ℕ) → from ≤ i → i < end → WhyShut i v
+abbrev pub AreShut : List ℕ → ℕ → ℕ → View → Type 0
+AreShut own from end v = (i : ℕ) → from ≤ i → i < end → WhyShut own i v
 
 -- from v to u the epoch was read, once, and since then each pin, and each slot below end was found shut
 pub record FindsNone (v u : View) (end : ℕ) : Type 0 where
   pub epoch : (u.epoch_loads ≡ v.epoch_loads + 1) × (u.loaded ≡ u.reached)
   pub pins : ArePinsRead u
-  pub slots : AreShut 0 end u
+  pub slots : AreShut u.taken 0 end u

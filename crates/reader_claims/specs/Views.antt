@@ -2,10 +2,13 @@
 use Rattle.std.specs.Prelude.{◌≡◌, ℕ, zero, suc, ◌+◌, ◌<◌, ◌≤◌, ◌⊎◌, [], ◌∷◌, max, cond, ◌==◌}
 use Rattle.reader_claims.specs.declared.words.Pin.{Pin}
 use Rattle.reader_claims.specs.declared.words.Pin.TheVariants.{Absent, Stored, Held}
+use Rattle.reader_claims.specs.declared.words.SlotState.TheVariants.{Live}
 use Rattle.reader_claims.specs.declared.view.Sizes.{Sizes}
 use Rattle.reader_claims.specs.declared.view.View.{View}
 use Rattle.reader_claims.specs.Lists.{Noted, without}
 use Rattle.reader_claims.specs.Notes.{lost, gave}
+use Rattle.reader_claims.specs.Deeds as deed
+use Rattle.reader_claims.specs.Words.{slot_word}
 
 -- the seat of the reader j, before its first step
 abbrev pub reader : Sizes → ℕ → View
@@ -26,6 +29,7 @@ reader k j = record {
   withdrawn = [];
   retired = [];
   notes = [];
+  deeds = [];
   floor = 0;
 }
 
@@ -48,6 +52,7 @@ dealer k n = record {
   withdrawn = [];
   retired = [];
   notes = [];
+  deeds = [];
   floor = 0;
 }
 
@@ -79,23 +84,35 @@ with_read v j w = record v { read = (j, w) ∷ v.read }
 
 -- after a raise, won or lost, the epoch is at least e
 abbrev pub with_raise : View → ℕ → View
-with_raise v e = record v { reached = e; raises = v.raises + 1; read = [] }
+with_raise v e = record v { reached = e; raises = v.raises + 1; read = []; deeds = deed.raised e ∷ v.deeds }
 
 -- the slot i was taken
 abbrev pub with_taken : View → ℕ → View
-with_taken v i = record v { taken = i ∷ v.taken }
+with_taken v i = record v { taken = i ∷ v.taken; deeds = deed.took i ∷ v.deeds }
 
 -- the taken slot i became live
 abbrev pub with_settled : View → ℕ → View
-with_settled v i = record v { taken = without i v.taken; settled = i ∷ v.settled }
+with_settled v i = record v {
+  taken = without i v.taken;
+  settled = i ∷ v.settled;
+  deeds = deed.settled i ∷ v.deeds;
+}
 
 -- the taken slot i became free again
 abbrev pub with_withdrawn : View → ℕ → View
-with_withdrawn v i = record v { taken = without i v.taken; withdrawn = i ∷ v.withdrawn }
+with_withdrawn v i = record v {
+  taken = without i v.taken;
+  withdrawn = i ∷ v.withdrawn;
+  deeds = deed.withdrew i ∷ v.deeds;
+}
 
 -- the slot i was retired at r
 abbrev pub with_retired : View → ℕ → ℕ → View
-with_retired v i r = record v { retired = (i, r) ∷ v.retired }
+with_retired v i r = record v { retired = (i, r) ∷ v.retired; deeds = deed.retired i r ∷ v.deeds }
+
+-- the slot i was to be retired, and w was there, which is not that of a live slot
+abbrev pub with_missed : View → ℕ → ℕ → View
+with_missed v i w = record v { notes = lost i (slot_word Live) w ∷ v.notes; deeds = deed.missed i ∷ v.deeds }
 
 -- the slot i was given, which had been retired at r
 abbrev pub with_given : View → ℕ → ℕ → View

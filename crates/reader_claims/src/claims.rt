@@ -37,6 +37,7 @@ ghost use Rattle.std.specs.Prelude.{MatchResult, MatchOption, ◌∷◌};
 ghost use Rattle.group_history.specs.Refs.{max_slots, max_seats};
 ghost use Rattle.group_history.specs.declared.refusals.Refusal.TheVariants.{NoMemory};
 ghost use Rattle.reader_claims.specs.declared.words.Pin.TheVariants.{Absent};
+ghost use Rattle.reader_claims.specs.Deeds as deed;
 ghost use Rattle.reader_claims.specs.Lists.{In};
 ghost use Rattle.reader_claims.specs.Views.{with_epoch, with_pin, with_raise, with_settled, with_withdrawn};
 ghost use Rattle.reader_claims.specs.Words.{epoch_at, pin_at, slot_at, slot_word};
@@ -217,6 +218,9 @@ impl Claims {
         ensures taken { MatchOption result
             (seat.new.view.taken ≡ seat.old.view.taken)
             (λ slot. (slot < kind_end self.now.sizes kind) × Takes seat.old.view seat.new.view slot) }
+        ensures deeds { MatchOption result
+            (seat.new.view.deeds ≡ seat.old.view.deeds)
+            (λ slot. seat.new.view.deeds ≡ deed.took slot ∷ seat.old.view.deeds) }
         ensures none { IfNone result
             (FindsNone seat.old.view seat.new.view (kind_end self.now.sizes kind)) }
         ensures reserve { IfSome result (λ slot. first_reserved self.now.sizes ≤ slot
@@ -275,7 +279,7 @@ impl Claims {
         ensures table { seat.new.table ≡ seat.old.table }
         ensures moves { Moves seat.old.view seat.new.view }
         ensures looks { Looks seat.old.view seat.new.view }
-        ensures taken { seat.new.view.taken ≡ seat.old.view.taken }
+        ensures taken { (seat.new.view.taken ≡ seat.old.view.taken) × (seat.new.view.deeds ≡ seat.old.view.deeds) }
         ensures given { result ≡ true → IsGiven seat.old.view seat.new.view slot }
         ensures not_given { result ≡ false → IsNotGiven seat.old.view seat.new.view slot }
     {

@@ -9,8 +9,9 @@
 //! well: a seat retires at one above the epoch that it loaded, once it has seen the epoch past that number.
 //!
 //! What a seat knows is its view (`view`): its pin, the epochs that it loaded, the pins that it read since, the slots
-//! that it has, settled, withdrew and retired, and notes of lost exchanges and of looks. Each call says which steps
-//! (`Move`) it made and how the view changed.
+//! that it has, settled, withdrew and retired, and notes of lost exchanges and of looks. One list has all that it did
+//! to slots and to the epoch (`Deed`), but for slots that it gave. Each call says which steps (`Move`) it made and how
+//! the view changed.
 //!
 //! A call may report contention only if other seats caused it. `pin` answers `Raised` only where its second load read
 //! more than its first and the seat raised nothing. `take_slot` answers none only after a pass that loaded the epoch
@@ -36,7 +37,7 @@
 //! Not said: the contract doesn't explain a false `give` that attempted no exchange, as a plain load proves nothing
 //! that lasts. That a held slot stays held where somebody retires it too early: `retire` asks that its number is above
 //! the epoch loaded, and that nobody can find the slot any more is for the layers above (`joined_machine`). That a call
-//! ever finds a slot.
+//! ever finds a slot. That a slot is given is no deed: it is noted, and notes go where the epoch is loaded again.
 #![tactic(auto)]
 
 mod claims;

@@ -127,7 +127,7 @@ impl Words {
         ensures later { Later (view reader.old) (view reader.new) }
         ensures taken { result ≡ true → Takes (view reader.old) (view reader.new) slot }
         ensures shut { result ≡ false
-            → ((view reader.new).taken ≡ (view reader.old).taken) × WhyShut slot (view reader.new) }
+            → ((view reader.new).taken ≡ (view reader.old).taken) × WhyShut (view reader.new).taken slot (view reader.new) }
     {
         let found = self.take_if_free(reader, slot);
         if found == FREE {
@@ -175,7 +175,7 @@ impl Words {
         ensures taken { MatchOption result
             ((view reader.new).taken ≡ (view reader.old).taken)
             (λ i. (from ≤ i) × (i < end) × Takes (view reader.old) (view reader.new) i) }
-        ensures shut { IfNone result (AreShut from end (view reader.new)) }
+        ensures shut { IfNone result (AreShut (view reader.new).taken from end (view reader.new)) }
     {
         for slot in from..end {
             if self.try_slot(reader, slot, bound) {
@@ -229,7 +229,7 @@ impl Words {
         ensures taken { MatchOption result
             ((view reader.new).taken ≡ (view reader.old).taken)
             (λ i. (from ≤ i) × (i < end) × Takes (view reader.old) (view reader.new) i) }
-        ensures shut { IfNone result (AreShut from end (view reader.new)) }
+        ensures shut { IfNone result (AreShut (view reader.new).taken from end (view reader.new)) }
     {
         let Some(slot) = self.scan(reader, from, end, bound) else {
             return None;

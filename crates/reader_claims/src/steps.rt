@@ -7,7 +7,8 @@ ghost use Rattle.reader_claims.specs.declared.words.SlotState.TheVariants.{Free,
 ghost use Rattle.reader_claims.specs.Words.{epoch_at, pin_at, slot_at, slot_word, first_slot, IsSmall};
 ghost use Rattle.reader_claims.specs.Lists.{In};
 ghost use Rattle.reader_claims.specs.Views.{IsOpen, with_epoch, with_pin, with_read, with_raise, with_taken};
-ghost use Rattle.reader_claims.specs.Views.{with_settled, with_withdrawn, with_retired, with_given, with_note, with_look};
+ghost use Rattle.reader_claims.specs.Views.{with_settled, with_withdrawn, with_retired, with_missed, with_given};
+ghost use Rattle.reader_claims.specs.Views.{with_note, with_look};
 ghost use Rattle.reader_claims.specs.Passes.{IsButRetired};
 ghost use Rattle.reader_claims.specs.Machine.{Move, left_by};
 
@@ -103,6 +104,7 @@ impl Words {
         requires { (reader_id reader.old ≡ words_id self.now) × (slot < self.now.sizes.slots) }
         ensures table { reader_id reader.new ≡ reader_id reader.old }
         ensures view { view reader.new ≡ with_look (view reader.old) slot result }
+        ensures own { result ≡ slot_word (Taken (view reader.old).number) → In (view reader.old).taken slot }
         ensures step { Move (view reader.old) (slot_at slot) result result (view reader.new) }
     {
         self.table
@@ -133,6 +135,8 @@ impl Words {
         ensures fresh { result ≡ slot_word Free → In (view reader.old).taken slot → ⊥ }
         ensures lost { result ≢ slot_word Free
             → view reader.new ≡ with_note (view reader.old) slot (slot_word Free) result }
+        ensures own { result ≢ slot_word Free → result ≡ slot_word (Taken (view reader.old).number)
+            → In (view reader.old).taken slot }
         ensures step { Move (view reader.old) (slot_at slot)
             result (left_by (slot_word Free) (slot_word (Taken (view reader.old).number)) result) (view reader.new) }
     {
@@ -177,7 +181,7 @@ impl Words {
         ensures table { reader_id reader.new ≡ reader_id reader.old }
         ensures won { result ≡ slot_word Live → view reader.new ≡ with_retired (view reader.old) slot r }
         ensures lost { result ≢ slot_word Live
-            → view reader.new ≡ with_note (view reader.old) slot (slot_word Live) result }
+            → view reader.new ≡ with_missed (view reader.old) slot result }
         ensures kept { IsButRetired (view reader.old) (view reader.new) }
         ensures step { Move (view reader.old) (slot_at slot)
             result (left_by (slot_word Live) (slot_word (Retired r)) result) (view reader.new) }

@@ -2,6 +2,7 @@
 ghost use Rattle.std.specs.Prelude.{ℕ, List};
 ghost use Rattle.std.specs.Borrow.{ftrue};
 ghost use Rattle.reader_claims.specs.Notes.{Note, notes_code};
+ghost use Rattle.reader_claims.specs.Deeds.{Deed, deeds_code};
 
 use crate::words::Pin;
 use std::marker::Model;
@@ -48,6 +49,8 @@ pub struct View {
     // The exchanges of slots that it lost since the epoch was last loaded, and its gives, the newest
     // first.
     pub ghost notes: { List Note } by { notes_code },
+    // All that it did to slots and to the epoch, the newest first. What it gave is not among it.
+    pub ghost deeds: { List Deed } by { deeds_code },
     // The greatest number at which the seat gave a slot. No lower pin is held, now or later.
     pub ghost floor: { ℕ },
 }

@@ -32,9 +32,9 @@ use Rattle.answered.proofs.AtOnce.{record_at}
 use Rattle.answered.proofs.Holding.{change_laws_hold}
 use Rattle.pull_patch.specs.Grammar.{answer_to}
 use Rattle.rebase.specs.Asking.{end_bytes_reply}
-use Rattle.commit_graph.specs.Seats.{IsLater}
+use Rattle.commit_graph.specs.Seats.{IsLater, Seated}
 use Rattle.commit_graph.proofs.Seating.{later-self, later-trans}
-use Rattle.rebase.specs.Calls.{AreAnswered, AreReplies, Caller, IsAlone, IsReplyTo, MayRefuse, asked_mutation}
+use Rattle.rebase.specs.Calls.{AreAnswered, AreReplies, Caller, IsAlone, IsMade, IsReplyTo, asked_mutation}
 use Rattle.rebase.specs.Calls.{caller, caller_after, caller_of, change_of, ended_in, id_in, last_after, moves_of_others}
 use Rattle.rebase.specs.Calls.{reply_to}
 use Rattle.rebase.specs.Clients.{ClientState, Grouped, IsSameClient}
@@ -195,61 +195,59 @@ in_turn means tries old new (Err e) change right later alone is = by (change (Er
 -- LISTS OF CALLS
 
 -- calls only add to what their caller has seen
-calls_later : (means : Meanings) (reused : Type 0) (tries : ℕ) (c : Caller) (old : Known) (xs : List Call)
-    (rs : List (Result Replied Refusal)) (new : Known) (end : Caller)
-    → AreAnswered means reused tries c old xs rs new end → IsLater old new
-calls_later means reused tries c old [] [] new end all = subst (IsLater old) (sym all.0) (later-self old)
-calls_later means reused tries c old [] (r ∷ rs) new end all = absurd all
-calls_later means reused tries c old (x ∷ xs) [] new end all = absurd all
-calls_later means reused tries c old (x ∷ xs) (r ∷ rs) new end all =
-    later-trans old all.0 new all.1 (calls_later means reused tries (caller_after c r) all.0 xs rs new end all.4)
+calls_later : (means : Meanings) (reused : Type 0) (tries slots : ℕ) (c : Caller) (old : Seated) (xs : List Call)
+    (rs : List (Result Replied Refusal)) (new : Seated) (end : Caller)
+    → AreAnswered means reused tries slots c old xs rs new end → IsLater old.mark new.mark
+calls_later means reused tries slots c old [] [] new end all = subst (λ (s : Seated). IsLater old.mark s.mark) (sym all.0)
+    (later-self old.mark)
+calls_later means reused tries slots c old [] (r ∷ rs) new end all = absurd all
+calls_later means reused tries slots c old (x ∷ xs) [] new end all = absurd all
+calls_later means reused tries slots c old (x ∷ xs) (r ∷ rs) new end all =
+    later-trans old.mark all.0.mark new.mark all.1.seat.later
+    (calls_later means reused tries slots (caller_after c r) all.0 xs rs new end all.2)
 
 -- Where no other seat moved the head between the first call and the last, none did so in any of them.
-pub alone_replies : (means : Meanings) (reused : Type 0) (tries : ℕ) (c : Caller) (old : Known) (xs : List Call)
-    (rs : List (Result Replied Refusal)) (new : Known) (end : Caller)
-    → AreAnswered means reused tries c old xs rs new end
-    → IsAlone old new → AreReplies means c (after (record_of old.log)) xs rs (after (record_of new.log)) end
-alone_replies means reused tries c old [] [] new end all alone =
-    (ap (λ (m : Known). after (record_of m.log)) all.0, all.1)
-alone_replies means reused tries c old [] (r ∷ rs) new end all alone = absurd all
-alone_replies means reused tries c old (x ∷ xs) [] new end all alone = absurd all
-alone_replies means reused tries c old (x ∷ xs) (r ∷ rs) new end all alone =
+pub alone_replies : (means : Meanings) (reused : Type 0) (tries slots : ℕ) (c : Caller) (old : Seated) (xs : List Call)
+    (rs : List (Result Replied Refusal)) (new : Seated) (end : Caller)
+    → AreAnswered means reused tries slots c old xs rs new end
+    → IsAlone old.mark new.mark
+    → AreReplies means c (after (record_of old.mark.log)) xs rs (after (record_of new.mark.log)) end
+alone_replies means reused tries slots c old [] [] new end all alone =
+    (ap (λ (s : Seated). after (record_of s.mark.log)) all.0, all.1)
+alone_replies means reused tries slots c old [] (r ∷ rs) new end all alone = absurd all
+alone_replies means reused tries slots c old (x ∷ xs) [] new end all alone = absurd all
+alone_replies means reused tries slots c old (x ∷ xs) (r ∷ rs) new end all alone =
     let mid = all.0 in
-    let rest = calls_later means reused tries (caller_after c r) mid xs rs new end all.4 in
-    let a = others_grow old mid all.1 in
-    let b = others_grow mid new rest in
-    let f : moves_of_others new ≡ moves_of_others old = alone in
-    let first : moves_of_others mid ≡ moves_of_others old = omega (arith, a, b, f) in
-    let last : moves_of_others new ≡ moves_of_others mid = omega (arith, a, b, f) in
-    let turn = in_turn means tries old mid r (change_of c x) (λ s. reply_to means c s x) all.1 first all.2 in (
+    let rest = calls_later means reused tries slots (caller_after c r) mid xs rs new end all.2 in
+    let a = others_grow old.mark mid.mark all.1.seat.later in
+    let b = others_grow mid.mark new.mark rest in
+    let f : moves_of_others new.mark ≡ moves_of_others old.mark = alone in
+    let first : moves_of_others mid.mark ≡ moves_of_others old.mark = omega (arith, a, b, f) in
+    let last : moves_of_others new.mark ≡ moves_of_others mid.mark = omega (arith, a, b, f) in
+    let turn = in_turn means tries old.mark mid.mark r (change_of c x) (λ s. reply_to means c s x) all.1.seat.later first
+    all.1.answer in (
       turn.0,
-      subst (λ s. AreReplies means (caller_after c r) s xs rs (after (record_of new.log)) end) turn.1
-          (alone_replies means reused tries (caller_after c r) mid xs rs new end all.4 last),
+      subst (λ s. AreReplies means (caller_after c r) s xs rs (after (record_of new.mark.log)) end) turn.1
+          (alone_replies means reused tries slots (caller_after c r) mid xs rs new end all.2 last),
     )
 
 -- one call more
-answered_more : (means : Meanings) (reused : Type 0) (tries : ℕ) (c : Caller) (old mid new : Known) (xs : List Call)
+answered_more : (means : Meanings) (reused : Type 0) (tries slots : ℕ) (c : Caller) (old mid new : Seated) (xs : List Call)
     (rs : List (Result Replied Refusal)) (d : Caller) (x : Call) (r : Result Replied Refusal)
-    → AreAnswered means reused tries c old xs rs mid d
-    → IsLater mid new → IsLinearized means tries mid new r (change_of d x) (λ s. reply_to means d s x)
-    → MayRefuse reused x r
-    → AreAnswered means reused tries c old (xs ++ x ∷ []) (rs ++ r ∷ []) new (caller_after d r)
-answered_more means reused tries c old mid new [] [] d x r all later is why = (
+    → AreAnswered means reused tries slots c old xs rs mid d → IsMade means reused tries slots d x r mid new
+    → AreAnswered means reused tries slots c old (xs ++ x ∷ []) (rs ++ r ∷ []) new (caller_after d r)
+answered_more means reused tries slots c old mid new [] [] d x r all made = (
   new,
-  subst (λ m. IsLater m new) all.0 later,
-  subst (λ m. IsLinearized means tries m new r (change_of c x) (λ s. reply_to means c s x)) all.0
-      (subst (λ e. IsLinearized means tries mid new r (change_of e x) (λ s. reply_to means e s x)) all.1 is),
-  why,
+  subst (λ (s : Seated). IsMade means reused tries slots c x r s new) all.0
+      (subst (λ (e : Caller). IsMade means reused tries slots e x r mid new) all.1 made),
   (refl, ap (λ e. caller_after e r) all.1),
 )
-answered_more means reused tries c old mid new [] (q ∷ rs) d x r all later is why = absurd all
-answered_more means reused tries c old mid new (y ∷ xs) [] d x r all later is why = absurd all
-answered_more means reused tries c old mid new (y ∷ xs) (q ∷ rs) d x r all later is why = (
+answered_more means reused tries slots c old mid new [] (q ∷ rs) d x r all made = absurd all
+answered_more means reused tries slots c old mid new (y ∷ xs) [] d x r all made = absurd all
+answered_more means reused tries slots c old mid new (y ∷ xs) (q ∷ rs) d x r all made = (
   all.0,
   all.1,
-  all.2,
-  all.3,
-  answered_more means reused tries (caller_after c q) all.0 mid new xs rs d x r all.4 later is why,
+  answered_more means reused tries slots (caller_after c q) all.0 mid new xs rs d x r all.2 made,
 )
 
 map_more : {A B : Type 0} (f : A → B) (xs : List A) (x : A) → map f (xs ++ x ∷ []) ≡ map f xs ++ f x ∷ []
@@ -257,23 +255,22 @@ map_more f [] x = refl
 map_more f (y ∷ xs) x = ap (λ w. f y ∷ w) (map_more f xs x)
 
 -- a turn of the loop over the calls
-pub turn : (means : Meanings) (reused : Type 0) (tries : ℕ) (c d : Caller) (old mid new : Known) (all : List Call)
+pub turn : (means : Meanings) (reused : Type 0) (tries slots : ℕ) (c d : Caller) (old mid new : Seated) (all : List Call)
     (i : ℕ) (x : Call) (rs news : List (Result Reply Refusal)) (r : Result Reply Refusal) → i < length all → x ≡ get_or all i x
-    → AreAnswered means reused tries c old (take i all) (map (map_ok reply_seen) rs) mid d → IsLater mid new
-    → IsLinearized means tries mid new (map_ok reply_seen r) (change_of d x) (λ s. reply_to means d s x)
-    → MayRefuse reused x (map_ok reply_seen r) → news ≡ rs ++ r ∷ []
-    → AreAnswered means reused tries c old (take (i + 1) all) (map (map_ok reply_seen) news) new
+    → AreAnswered means reused tries slots c old (take i all) (map (map_ok reply_seen) rs) mid d
+    → IsMade means reused tries slots d x (map_ok reply_seen r) mid new → news ≡ rs ++ r ∷ []
+    → AreAnswered means reused tries slots c old (take (i + 1) all) (map (map_ok reply_seen) news) new
     (caller_after d (map_ok reply_seen r))
-turn means reused tries c d old mid new all i x rs news r l q h later is why n =
+turn means reused tries slots c d old mid new all i x rs news r l q h made n =
     let front : take (i + 1) all ≡ take i all ++ x
     ∷ [] = take_more all i x l ∙ ap (λ w. take i all ++ w ∷ []) (sym q) in
     let back : map (map_ok reply_seen) news ≡ map (map_ok reply_seen) rs ++ map_ok reply_seen r
     ∷ [] = ap (map (map_ok reply_seen)) n ∙ map_more (map_ok reply_seen) rs r in
     let end = caller_after d (map_ok reply_seen r) in
-    subst (λ w. AreAnswered means reused tries c old w (map (map_ok reply_seen) news) new end) (sym front)
-    (subst (λ w. AreAnswered means reused tries c old (take i all ++ x ∷ []) w new end) (sym back)
-    (answered_more means reused tries c old mid new (take i all) (map (map_ok reply_seen) rs) d x
-    (map_ok reply_seen r) h later is why))
+    subst (λ w. AreAnswered means reused tries slots c old w (map (map_ok reply_seen) news) new end) (sym front)
+    (subst (λ w. AreAnswered means reused tries slots c old (take i all ++ x ∷ []) w new end) (sym back)
+    (answered_more means reused tries slots c old mid new (take i all) (map (map_ok reply_seen) rs) d x
+    (map_ok reply_seen r) h made))
 
 -- the client after a call is the caller after its reply
 pub caller_moves : (old new : ClientState) (r : Result Replied Refusal) → IsSameClient old new

@@ -26,14 +26,13 @@ use Rattle.group_history.specs.State.{State}
 use Rattle.head_word.specs.Books.{IsOpened, drawn, record_of}
 use Rattle.head_word.specs.Marks.{Known}
 use Rattle.pull_patch.specs.Grammar.{answer_to}
-use Rattle.reader_claims.specs.Machine.{Moves, still}
 use Rattle.reader_claims.specs.Seats.{ClaimsId}
 use Rattle.commit_graph.specs.Seats.{GroupId, IsSameSeat, Seated}
 use Rattle.chunk_slots.specs.Seats.{IsIdle}
 use Rattle.commit_graph.proofs.Seating.{seat-self, seat-trans}
 use Rattle.answered.specs.Answered.{IsLinearized, is_resource_refusal, no_change, own_moves}
 use Rattle.answered.specs.Changes.{change_applied, change_closing, change_made, change_read}
-use Rattle.group_steps.proofs.Giving.{gives_gives, gives_kept}
+use Rattle.group_steps.proofs.Giving.{gives_calm, gives_gives, gives_none}
 use Rattle.group_steps.specs.Causes.{HasCause}
 use Rattle.group_steps.specs.Changing.{ended_as, is_made}
 use Rattle.group_steps.specs.Leaving.{Frees}
@@ -144,7 +143,7 @@ since_self reused seat = record {
   same = seat-self seat;
   own = refl;
   others = omega arith;
-  gave = λ r. gives_kept seat.table.sizes.slots seat.view seat.view (still seat.view) refl;
+  gave = λ r. gives_none seat.table.sizes.slots seat.view;
 }
 
 judged_at : (means : Meanings) (cs : Contents) (s : State) (last : ℕ) (c : Change) (run : AskedRun) (u : UnderWay)
@@ -179,24 +178,24 @@ progress_none means reused group new tries last c (progress.Ended made) is r = (
 -- for want of memory
 pub refused_call : (means : Meanings) (reused : Type 0) (tries : ℕ) (before new : ClientState) (c : Change) (e : Refusal)
     → change_replied c (Err e) ≡ None → last_called before.last c (Err e) ≡ before.last → e ≡ refusal.NoMemory
-    → Stays reused before new → (reused → Moves before.seat.view new.seat.view) → new.seat.mark ≡ before.seat.mark
+    → Stays reused before new → new.seat.mark ≡ before.seat.mark
     → EndsCall means reused tries before new c (Err e)
-refused_call means reused tries before new c e none same dry stays moves mark = record {
+refused_call means reused tries before new c e none same dry stays mark = record {
   answer = wanting means tries before.seat.mark new.seat.mark e (change_replied c) (λ s. change_reply means s before.last c)
       none (ap is_resource_refusal dry) (ap own_moves mark, λ moved. absurd (cc (sym dry ∙ moved)));
   last = stays.1 ∙ sym same;
   acts = record { client = stays.0.client; seat = stays.0.looked.seat; rests = stays.0.rests };
   cause = cause_missed means reused before.last (Some c) before.seat new.seat e (inl dry);
   frees = λ r. subst (Frees before.group.group.table.sizes.slots before.seat new.seat) (sym none)
-      (frees_none before.group.group.table.sizes.slots before.seat new.seat (moves r) (stays.0.looked.calm r).1);
+      (frees_none before.group.group.table.sizes.slots before.seat new.seat (stays.0.looked.calm r));
 }
 
 -- bytes that are no response
 pub unread_call : (means : Meanings) (reused : Type 0) (tries : ℕ) (before new : ClientState) (k : Cookie) (body : Bytes)
     (e : Refusal) → IsOpened means before.seat.mark.log → Refuses e (answer_to body)
-    → Stays reused before new → (reused → Moves before.seat.view new.seat.view) → new.seat.mark ≡ before.seat.mark
+    → Stays reused before new → new.seat.mark ≡ before.seat.mark
     → EndsPull means reused tries before new k body (Err e)
-unread_call means reused tries before new k body e legal read stays moves mark =
+unread_call means reused tries before new k body e legal read stays mark =
     let told : Result Ended Refusal → Option Change = λ reply. change_read k (answer_to body) reply in record {
       answer = answers_told ended means tries before.seat.mark new.seat.mark (Err e) told
           (λ s. end_bytes_reply s k.text body) (λ r. told (map_ok ended_in r))
@@ -209,7 +208,8 @@ unread_call means reused tries before new k body e legal read stays moves mark =
       cause = unread_cause means reused before.last (change_wanted k (answer_to body)) before.seat new.seat body e read;
       frees = λ r. subst (Frees before.group.group.table.sizes.slots before.seat new.seat)
           (sym (unread_changes k body e read))
-          (frees_none before.group.group.table.sizes.slots before.seat new.seat (moves r) (stays.0.looked.calm r).1);
+          (frees_none before.group.group.table.sizes.slots before.seat new.seat (stays.0.looked.calm r));
+      looked = λ none. stays.0.looked;
     }
 
 -- ENDS OF PULLS
@@ -226,6 +226,7 @@ closed_ends means reused tries before new k body reply read e = record {
       before.seat new.seat)) (sym read) e.cause;
   frees = subst (λ (a : Result Response Refusal). reused → Frees before.group.group.table.sizes.slots before.seat new.seat
       (change_read k a (map_ok ended_in reply))) (sym read) e.frees;
+  looked = λ none. absurd (cc (sym none ∙ ap (change_wanted k) read));
 }
 
 pub unsupported_ends : (means : Meanings) (reused : Type 0) (tries : ℕ) (before new : ClientState) (k : Cookie)
@@ -233,24 +234,24 @@ pub unsupported_ends : (means : Meanings) (reused : Type 0) (tries : ℕ) (befor
     → answer_to body ≡ Ok (response.VersionNotSupported kind) → reply ≡ map_ok ended r
     → IsLinearized means tries before.seat.mark new.seat.mark r no_change
     (λ s. end_reply s k.text (response.VersionNotSupported kind))
-    → Acts reused before new → new.last ≡ before.last
-    → IfErr r (HasCause means reused before.last None before.seat new.seat)
-    → (reused → Frees before.group.group.table.sizes.slots before.seat new.seat None)
+    → Stays reused before new → IfErr r (HasCause means reused before.last None before.seat new.seat)
     → EndsPull means reused tries before new k body reply
-unsupported_ends means reused tries before new k body kind r reply read is told acts last cause frees =
+unsupported_ends means reused tries before new k body kind r reply read is told stays cause =
     subst (EndsPull means reused tries before new k body) (sym is) (record {
       answer = subst (λ (a : Result Response Refusal). IsLinearized means tries before.seat.mark new.seat.mark
           (map_ok ended r) (λ w. change_read k a (map_ok ended_in w)) (λ s. map_ok ended (a >>= end_reply s k.text)))
           (sym read) (answers_told ended means tries before.seat.mark new.seat.mark r no_change
           (λ s. end_reply s k.text (response.VersionNotSupported kind)) no_change
           (λ s. map_ok ended (end_reply s k.text (response.VersionNotSupported kind))) refl (λ s. refl) told);
-      last = last;
-      acts = acts;
+      last = stays.1;
+      acts = record { client = stays.0.client; seat = stays.0.looked.seat; rests = stays.0.rests };
       cause = subst (λ (a : Result Response Refusal). IfErr (map_ok ended r) (HasCause means reused before.last
           (change_wanted k a) before.seat new.seat)) (sym read) (why_told ended
           (HasCause means reused before.last None before.seat new.seat) r cause);
       frees = subst (λ (a : Result Response Refusal). reused → Frees before.group.group.table.sizes.slots before.seat
-          new.seat (change_read k a (map_ok ended_in (map_ok ended r)))) (sym read) frees;
+          new.seat (change_read k a (map_ok ended_in (map_ok ended r)))) (sym read)
+          (λ again. frees_none before.group.group.table.sizes.slots before.seat new.seat (stays.0.looked.calm again));
+      looked = λ none. stays.0.looked;
     })
 
 -- THE STEPS OF A CALL
@@ -276,6 +277,7 @@ go_run means reused tries before client c {M} p a is same last stands tells =
           (asks_for means (drawn client.seat.mark.log) (after (record_of a.arrival.seen.log)) client.last c a.run
           (under_way client c a tries) refl refl refl s.0.run);
       tried = refl;
+      few = s.1;
     }
 
 -- and nothing is written yet
@@ -314,10 +316,10 @@ go_end means reused tries before client new c {M} p made reply is same last seat
 -- nothing was changed
 pub given_up : (means : Meanings) (reused : Type 0) (before : ClientState) (u : UnderWay) (new : ClientState)
     → BeganAs means reused before u → u.client.seat.table ≡ u.client.group.group.table → Stays reused u.client new
-    → (reused → Moves u.client.seat.view new.seat.view) → new.seat.mark ≡ u.client.seat.mark
+    → new.seat.mark ≡ u.client.seat.mark
     → Acts reused before new × (new.last ≡ before.last) × (own_moves new.seat.mark ≡ own_moves before.seat.mark)
     × (reused → Frees before.group.group.table.sizes.slots before.seat new.seat None)
-given_up means reused before u new b home stays moves mark = (
+given_up means reused before u new b home stays mark = (
   record {
     client = (stays.0.client.0 ∙ b.client.0, stays.0.client.1 ∙ b.client.1);
     seat = seat-trans before.seat u.client.seat new.seat b.since.same stays.0.looked.seat;
@@ -328,7 +330,7 @@ given_up means reused before u new b home stays moves mark = (
   λ r. subst (λ (t : ClaimsId). Frees t.sizes.slots before.seat new.seat None)
       (sym b.since.same.table ∙ home ∙ ap (λ (w : Grouped). w.group.table) b.client.0)
       (gives_gives before.seat.table.sizes.slots before.seat.view u.client.seat.view new.seat.view (b.since.gave r)
-      (gives_kept before.seat.table.sizes.slots u.client.seat.view new.seat.view (moves r) (stays.0.looked.calm r).1)),
+      (gives_calm before.seat.table.sizes.slots u.client.seat.view new.seat.view (stays.0.looked.calm r))),
 )
 
 -- what is told where a call is refused before it did anything
@@ -336,24 +338,24 @@ pub refused_told : (means : Meanings) (reused : Type 0) (tries : ℕ) (before : 
     {M S T : Type 0} (a : Asked M S T) → change_replied c (Err e) ≡ None → last_called before.last c (Err e) ≡ before.last
     → e ≡ refusal.NoMemory
     → Tells a (λ u. ⊥) (λ client reply. (reply ≡ Err e) × Stays reused before client
-    × (reused → Moves before.seat.view client.seat.view) × (client.seat.mark ≡ before.seat.mark))
+    × (client.seat.mark ≡ before.seat.mark))
     → Tells a (IsAsked means reused tries before c)
     (λ client reply. EndsCall means reused tries before client c (map_ok reply_seen reply))
 refused_told means reused tries before c e (asked.Run u) none same dry h = absurd h
 refused_told means reused tries before c e (asked.Ended client reply) none same dry h =
     subst (EndsCall means reused tries before client c) (sym (ap (map_ok reply_seen) h.0))
-    (refused_call means reused tries before client c e none same dry h.1 h.2 h.3)
+    (refused_call means reused tries before client c e none same dry h.1 h.2)
 
 pub unread_told : (means : Meanings) (reused : Type 0) (tries : ℕ) (before : ClientState) (k : Cookie) (body : Bytes)
     (e : Refusal) (P : UnderWay → Type 0) {M S T : Type 0} (a : Asked M S T) → IsOpened means before.seat.mark.log
     → Refuses e (answer_to body)
     → Tells a (λ u. ⊥) (λ client reply. (reply ≡ Err e) × Stays reused before client
-    × (reused → Moves before.seat.view client.seat.view) × (client.seat.mark ≡ before.seat.mark))
+    × (client.seat.mark ≡ before.seat.mark))
     → Tells a P (λ client reply. EndsPull means reused tries before client k body (map_ok reply_seen reply))
 unread_told means reused tries before k body e P (asked.Run u) legal read h = absurd h
 unread_told means reused tries before k body e P (asked.Ended client reply) legal read h =
     subst (EndsPull means reused tries before client k body) (sym (ap (map_ok reply_seen) h.0))
-    (unread_call means reused tries before client k body e legal read h.1 h.2 h.3)
+    (unread_call means reused tries before client k body e legal read h.1 h.2)
 
 -- and where the server does not know the group
 pub closed_told_as : (means : Meanings) (reused : Type 0) (tries : ℕ) (before : ClientState) (k : Cookie) (body : Bytes)

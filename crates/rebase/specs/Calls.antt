@@ -20,7 +20,9 @@ use Rattle.push_body.specs.declared.identities.Identity.{Identity}
 use Rattle.answered.specs.Answered.{IsLinearized, is_move, is_resource_refusal, own_moves}
 use Rattle.answered.specs.Changes.{change_made, change_read, after_made}
 use Rattle.rebase.specs.Asking.{change_wanted, end_bytes_reply}
-use Rattle.commit_graph.specs.Seats.{IsLater}
+use Rattle.commit_graph.specs.Seats.{HasLooked, IsSameSeat, Seated}
+use Rattle.group_steps.specs.Causes.{HasCause}
+use Rattle.group_steps.specs.Leaving.{Frees}
 use Rattle.group_steps.specs.Missing.{IsMissedOrDry, map_ok}
 use Rattle.rebase.specs.Clients.{ClientState}
 use Rattle.rebase.specs.Queries.{asked_at}
@@ -113,16 +115,27 @@ caller_after c reply = caller c.identity c.client (last_after c.last reply)
 abbrev pub MayRefuse : Type 0 → Call → Result Replied Refusal → Type 0
 MayRefuse reused x r = is_reading x ≡ true → IfErr r (IsMissedOrDry reused)
 
--- Each call of the list is answered rightly at a point of its own, whatever others do meanwhile. It begins with what
--- the client had seen at the end of the call before, so its point is not before that of the other one.
-abbrev pub AreAnswered : Meanings → Type 0 → ℕ → Caller → Known → List Call → List (Result Replied Refusal) → Known
-    → Caller → Type 0
-AreAnswered means reused tries c old [] [] new end = (new ≡ old) × (end ≡ c)
-AreAnswered means reused tries c old [] (r ∷ rs) new end = ⊥
-AreAnswered means reused tries c old (x ∷ xs) [] new end = ⊥
-AreAnswered means reused tries c old (x ∷ xs) (r ∷ rs) new end =
-    (mid : Known) × IsLater old mid × IsLinearized means tries old mid r (change_of c x) (λ s. reply_to means c s x)
-    × MayRefuse reused x r × AreAnswered means reused tries (caller_after c r) mid xs rs new end
+-- One call of a list, by the caller's seat before and after it: the reply is right at a point of its own, whatever
+-- others do meanwhile; why it was refused; and what it did to slots, of which the table has so many.
+pub record IsMade (means : Meanings) (reused : Type 0) (tries slots : ℕ) (c : Caller) (x : Call)
+    (r : Result Replied Refusal) (old new : Seated) : Type 0 where
+  pub seat : IsSameSeat old new
+  pub answer : IsLinearized means tries old.mark new.mark r (change_of c x) (λ s. reply_to means c s x)
+  pub refused : MayRefuse reused x r
+  pub looked : is_reading x ≡ true → HasLooked reused old new
+  pub cause : IfErr r (HasCause means reused c.last (change_for c x) old new)
+  pub frees : is_reading x ≡ false → reused → Frees slots old new (change_of c x r)
+
+-- So is each call of the list. It begins with what the client's seat knew at the end of the call before, so its point is
+-- not before that of the other one.
+abbrev pub AreAnswered : Meanings → Type 0 → ℕ → ℕ → Caller → Seated → List Call → List (Result Replied Refusal)
+    → Seated → Caller → Type 0
+AreAnswered means reused tries slots c old [] [] new end = (new ≡ old) × (end ≡ c)
+AreAnswered means reused tries slots c old [] (r ∷ rs) new end = ⊥
+AreAnswered means reused tries slots c old (x ∷ xs) [] new end = ⊥
+AreAnswered means reused tries slots c old (x ∷ xs) (r ∷ rs) new end =
+    (mid : Seated) × IsMade means reused tries slots c x r old mid
+    × AreAnswered means reused tries slots (caller_after c r) mid xs rs new end
 
 -- how often other seats have moved the head
 abbrev pub moves_of_others : Known → ℕ

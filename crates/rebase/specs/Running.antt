@@ -1,5 +1,5 @@
 -- A change whose mutators the caller runs: what is shown of it while it is under way, and how its call ends.
-use Rattle.std.specs.Prelude.{ℕ, ◌≡◌, ◌⊎◌, ◌<◌, ◌∷◌, false, List, [], Option, Some, Result, IfErr}
+use Rattle.std.specs.Prelude.{ℕ, ◌≡◌, ◌⊎◌, ◌<◌, ◌∷◌, false, List, [], max, Option, Some, None, Result, IfErr}
 use Rattle.group_history.specs.declared.changes.Change.{Change}
 use Rattle.group_history.specs.declared.changes.Change.TheVariants.{Mutated, Pulled, Closed}
 use Rattle.group_history.specs.declared.mutations.Mutation.{Mutation}
@@ -18,6 +18,7 @@ use Rattle.answered.specs.Answered.{IsLinearized}
 use Rattle.head_word.specs.Books.{record_of}
 use Rattle.pull_patch.specs.Grammar.{answer_to}
 use Rattle.answered.specs.Changes.{change_applied, change_closing, change_made, change_read}
+use Rattle.commit_graph.specs.Seats.{HasLooked}
 use Rattle.group_steps.specs.Causes.{HasCause}
 use Rattle.group_steps.specs.Leaving.{Frees}
 use Rattle.group_steps.specs.Missing.{map_ok}
@@ -96,6 +97,7 @@ pub record IsAsked (means : Meanings) (reused : Type 0) (tries : ℕ) (before : 
   pub same : asking.change ≡ change
   pub run : AsksFor means (after (record_of asking.seen)) before.last change asking
   pub tried : asking.tries ≡ tries
+  pub few : asking.lost < max 1 tries
 
 -- what is right to answer where a client asks for the change whose last id is `last`
 abbrev pub change_reply : Meanings → State → ℕ → Change → Result Replied Refusal
@@ -137,3 +139,4 @@ pub record EndsPull (means : Meanings) (reused : Type 0) (tries : ℕ) (before a
       after.seat)
   pub frees : reused → Frees before.group.group.table.sizes.slots before.seat after.seat
       (change_read ticket (answer_to body) (map_ok ended_in reply))
+  pub looked : change_wanted ticket (answer_to body) ≡ None → HasLooked reused before.seat after.seat

@@ -16,6 +16,7 @@ ghost use Rattle.group_steps.specs.Leaving.{Frees};
 ghost use Rattle.group_steps.specs.Missing.{IsMissedOrDry, map_ok};
 ghost use Rattle.rebase.specs.Calls.{Caller, IsAlone, AreAnswered, AreReplies, caller_of, change_for, change_of};
 ghost use Rattle.rebase.specs.Calls.{is_query, is_reading, last_after, reply_to};
+ghost use Rattle.commit_graph.specs.Seats.{HasLooked, Seated};
 ghost use Rattle.rebase.specs.Clients.{Acts, Looks, Rests, Stays};
 ghost use Rattle.rebase.specs.Readers.{lent, read_by};
 ghost use Rattle.rebase.specs.Replies.{reply_seen};
@@ -50,8 +51,6 @@ fn read_call<N: Nodes>(tx: &mut CommitTx<N>, call: Call<'_>) -> Result<Reply, St
 
 // Asks a reader.
 fn ask<M: Means, S: Slots<M>>(tx: &ReadTx<'_, M, S>, call: Call<'_>) -> Result<Reply, Refusal>
-where
-    S::Seat: Drop,
     requires query { is_query call ≡ true }
     ensures value { IfOk result (λ reply. reply_to M.means (caller_of (lent tx.now).now) (read_by tx.now) call.entry
         ≡ Ok (reply_seen reply)) }
@@ -61,10 +60,7 @@ where
     Ok(read_call(&mut tx, call)?)
 }
 
-impl<M: Mutators, S: Store<M>> Client<M, S>
-where
-    S::Seat: Drop,
-{
+impl<M: Means, S: Slots<M>> Client<M, S> {
     // Makes a call that one reading answers.
     fn query(&mut self, call: Call<'_>, tries: u32) -> Result<Reply, Refusal>
         requires { is_query call ≡ true }
@@ -79,7 +75,9 @@ where
         tx.close();
         reply
     }
+}
 
+impl<M: Mutators, S: Store<M>> Client<M, S> {
     /// Makes one call, and answers as the method of its name does; a query opens a reader, asks it and closes it. A
     /// refusal is that method's, and leaves what that method leaves.
     pub fn make_call(&mut self, call: Call<'_>, tries: u32) -> Result<Reply, Refusal>
@@ -116,8 +114,8 @@ where
         requires none { replies.old.items ≡ [] }
         requires room { length calls.now ≤ vec_capacity replies.old }
         requires rests { Rests S.reused self.old }
-        ensures answers { AreAnswered M.means S.reused tries (caller_of self.old) self.old.seat.mark calls.now
-            (map (map_ok reply_seen) replies.new.items) self.new.seat.mark (caller_of self.new) }
+        ensures answers { AreAnswered M.means S.reused tries self.old.group.group.table.sizes.slots (caller_of self.old)
+            self.old.seat calls.now (map (map_ok reply_seen) replies.new.items) self.new.seat (caller_of self.new) }
         ensures acts { Acts S.reused self.old self.new }
     {
         for call in calls {
@@ -136,9 +134,10 @@ where
         calls: &[Call<'_>],
         tries: u32,
     ) -> Result<Vec<Result<Reply, Refusal>>, AllocError>
-        ensures answers { IfOk result (λ replies. AreAnswered M.means S.reused tries (caller_of self.old)
-            self.old.seat.mark calls.now (map (map_ok reply_seen) replies.items) self.new.seat.mark
-            (caller_of self.new)) }
+        ensures answers { IfOk result (λ replies. (rested : Seated) × HasLooked S.reused self.old.seat rested
+            × (rested.mark ≡ self.old.seat.mark) × AreAnswered M.means S.reused tries
+            self.old.group.group.table.sizes.slots (caller_of self.old) rested calls.now
+            (map (map_ok reply_seen) replies.items) self.new.seat (caller_of self.new)) }
         ensures replies { IfOk result (λ replies. IsAlone self.old.seat.mark self.new.seat.mark
             → AreReplies M.means (caller_of self.old) (after (record_of self.old.seat.mark.log)) calls.now
             (map (map_ok reply_seen) replies.items) (after (record_of self.new.seat.mark.log)) (caller_of self.new)) }

@@ -1,9 +1,10 @@
 //! Changes whose mutators the caller runs.
 //!
-//! Such a change asks for each run. The caller reads and writes the map of the run, and says how it ended; then the next
-//! run is asked for, or the call ends, answered as `try_mutate` and `try_end_pull` answer it. Meanwhile the change has
-//! the client, whose pin is held. That the caller does on the map what the group's mutator of that name means is the one
-//! premise, and stands on `ran`.
+//! Such a change asks for each run. The caller reads and writes the map of the run, and says how it ended; then the
+//! next run is asked for, or the call ends, answered as `try_mutate` and `try_end_pull` answer it. Meanwhile the change
+//! has the client, whose pin is held: so long no slot that was live is given again. So it is no value that can just be
+//! dropped; `give_up`, whose clause says that the pin is gone, ends it without a run. That the caller does on the map
+//! what the group's mutator of that name means is the one premise, and stands on `ran`.
 ghost use Rattle.std.specs.Prelude.{◌≡◌, ◌+◌, Ok, Err, Some, None, IfOk, IfErr, OnOk, OnErr};
 ghost use Rattle.std.specs.FinMap as finite;
 ghost use Rattle.group_history.specs.declared.changes.Change.TheVariants.{Mutated, Pulled};
@@ -17,7 +18,6 @@ ghost use Rattle.group_history.specs.Refs.{stamp_of};
 ghost use Rattle.group_history.specs.Scans.{rows_of};
 ghost use Rattle.group_history.specs.State.{made};
 ghost use Rattle.head_word.specs.Books.{drawn, last_move};
-ghost use Rattle.reader_claims.specs.Machine.{Moves};
 ghost use Rattle.commit_graph.specs.LastIds.{last_at};
 ghost use Rattle.commit_graph.specs.Seats.{IsSameSeat};
 ghost use Rattle.pull_patch.specs.Grammar.{answer_to};
@@ -38,29 +38,24 @@ use crate::changes::ended_as;
 use crate::client::Client;
 use crate::tickets::Ticket;
 use asked_steps::{Attempt, Progress, ask_from, del, get, put, ran_from, scan};
-use chunk_slots::{Slots, Store};
+use chunk_slots::{Arena, Slots, Store};
 use commit_graph::LastId;
 use group_history::{
     Change, Json, Means, Mutation, PullOk, Ran, Ref, Refusal, Response, Scan, Text, VersionKind,
 };
-use group_steps::{At, Request, SharedGroup};
+use group_steps::{At, Request};
 use std::marker::Model;
 
-/// A change that asks for a run of a mutator. It has its client until it ends, and the client's seat is pinned.
-pub struct Asking<M: Means, S: Slots<M>>
-where
-    S::Seat: Drop,
-{
+/// A change that asks for a run of a mutator. It has its client until it ends, and the client's seat is pinned. It can't
+/// be dropped: who has it says `ran` or `give_up`.
+pub struct Asking<M: Means, S: Slots<M>> {
     client: Client<M, S>,
     change: Change,
     attempt: Attempt<M>,
     tries: u32,
 }
 
-impl<M: Means, S: Slots<M>> Model for Asking<M, S>
-where
-    S::Seat: Drop,
-{
+impl<M: Means, S: Slots<M>> Model for Asking<M, S> {
     ghost use Rattle.std.specs.Prelude.{◌<◌, max, reverse};
     ghost use Rattle.std.specs.Coded.{codes};
     ghost use Rattle.group_history.specs.contracts.changes.Change as the_change;
@@ -93,34 +88,8 @@ where
         × (a.attempt.lost < max 1 a.tries) × AsksNext a.client.id a.client.last a.change };
 }
 
-impl<M: Means + Drop, S: Slots<M> + Drop> Drop for Asking<M, S>
-where
-    S::Seat: Drop,
-{
-    fn drop(self) {
-        let Asking {
-            client,
-            change,
-            attempt,
-            tries: _,
-        } = self;
-        drop(change);
-        drop(attempt);
-        let mut client = client;
-        client.pinned = false;
-        let group: &SharedGroup<M, S> = &client.group;
-        let seat = &mut client.seat;
-        group.shared.store.unpin(&mut seat.slots);
-        drop(client);
-    }
-}
-
-/// What a change asks for, or how its call ended.
-#[derive(Drop)]
-pub enum Asked<M: Means, S: Slots<M>>
-where
-    S::Seat: Drop,
-{
+/// What a change asks for, or how its call ended. It can't be dropped either.
+pub enum Asked<M: Means, S: Slots<M>> {
     /// A run.
     Run(Asking<M, S>),
 
@@ -128,10 +97,7 @@ where
     Ended(Client<M, S>, Result<Reply, Refusal>),
 }
 
-impl<M: Means, S: Store<M>> Client<M, S>
-where
-    S::Seat: Drop,
-{
+impl<M: Means, S: Store<M>> Client<M, S> {
     ghost use Rattle.rebase.specs.Asked.{Tells};
 
     // Where the client's last id was found.
@@ -171,7 +137,7 @@ where
     // Refuses the call before it did anything.
     fn refuse_asked(self, e: Refusal) -> Asked<M, S>
         ensures told { Tells result (λ asking. ⊥) (λ client reply. (reply ≡ Err e) × Stays S.reused self client
-            × (S.reused → Moves self.seat.view client.seat.view) × (client.seat.mark ≡ self.seat.mark)) }
+            × (client.seat.mark ≡ self.seat.mark)) }
     {
         let mut client = self;
         let reply = client.refuse(e);
@@ -307,10 +273,7 @@ where
     }
 }
 
-impl<M: Means, S: Store<M>> Asking<M, S>
-where
-    S::Seat: Drop,
-{
+impl<M: Means, S: Store<M>> Asking<M, S> {
     ghost use Rattle.rebase.specs.Asked.{Tells};
 
     /// The mutation whose mutator is to be run: by its name, on its arguments, for its reason.
@@ -444,6 +407,30 @@ where
         drop(attempt);
         let mut client = client;
         client.unpin();
+        client
+    }
+}
+
+impl<M: Means> Asking<M, Arena<M>> {
+    ghost use Rattle.std.specs.Prelude.{⊤};
+
+    /// Gives the change up, as `give_up` does. It asks for no bound that other threads rely on, so a drop can call it.
+    pub fn abandon(self) -> Client<M, Arena<M>>
+        ensures left { (before : ClientState) → BeganAs M.means ⊤ before self
+            → Acts ⊤ before result × (result.last ≡ before.last)
+            × (own_moves result.seat.mark ≡ own_moves before.seat.mark)
+            × Frees before.group.group.table.sizes.slots before.seat result.seat None }
+    {
+        let Asking {
+            client,
+            change,
+            attempt,
+            tries: _,
+        } = self;
+        drop(change);
+        drop(attempt);
+        let mut client = client;
+        client.unpin_arena();
         client
     }
 }

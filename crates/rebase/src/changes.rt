@@ -22,7 +22,8 @@ ghost use Rattle.group_steps.specs.Missing.{map_ok};
 ghost use Rattle.group_steps.specs.Changing.{ended_as, is_made};
 ghost use Rattle.group_steps.specs.Proposing.{AsksNext, HasLast, asked_reply, change_asked};
 ghost use Rattle.rebase.specs.Asking.{change_wanted, end_bytes_reply, is_passing};
-ghost use Rattle.rebase.specs.Clients.{Acts, IsSameClient};
+ghost use Rattle.commit_graph.specs.Seats.{HasLooked};
+ghost use Rattle.rebase.specs.Clients.{Acts, IsSameClient, Stays};
 
 use crate::client::Client;
 use crate::tickets::Ticket;
@@ -56,10 +57,7 @@ pub(crate) fn ended_as(made: Result<Option<Ref>, Refusal>) -> Result<Ended, Refu
     }
 }
 
-impl<M: Means, S: Store<M>> Client<M, S>
-where
-    S::Seat: Drop,
-{
+impl<M: Means, S: Store<M>> Client<M, S> {
     // Where the client's next mutation was made, its id is the client's last one, and is answered.
     pub(crate) fn keep_next(&mut self, made: Result<Option<Ref>, Refusal>) -> Result<u64, Refusal>
         requires made { IfOk made IsSome }
@@ -87,11 +85,9 @@ where
         ensures answer { (ticket : Bytes) → IsLinearized M.means tries self.old.seat.mark self.new.seat.mark result
             no_change
             (λ s. end_reply s ticket (response.VersionNotSupported kind)) }
-        ensures acts { Acts S.reused self.old self.new × (self.new.last ≡ self.old.last) }
+        ensures stays { Stays S.reused self.old self.new }
         ensures cause { IfErr result (HasCause M.means S.reused self.old.last None
             self.old.seat self.new.seat) }
-        ensures frees { S.reused → Frees self.old.group.group.table.sizes.slots self.old.seat self.new.seat
-            (None) }
     {
         let at = self.pin_and_load(tries)?;
         let closed = closed_at(&self.here(at, tries));
@@ -113,10 +109,7 @@ where
     }
 }
 
-impl<M: Mutators, S: Store<M>> Client<M, S>
-where
-    S::Seat: Drop,
-{
+impl<M: Mutators, S: Store<M>> Client<M, S> {
     // Makes a change, and answers the commit where it stands: none where there is nothing to change.
     fn change(&mut self, change: Change, tries: u32) -> Result<Option<Ref>, Refusal>
         requires next { AsksNext self.old.id self.old.last change }
@@ -241,6 +234,8 @@ where
             self.old.seat self.new.seat) }
         ensures frees { S.reused → Frees self.old.group.group.table.sizes.slots self.old.seat self.new.seat
             (change_read ticket.now.cookie (answer_to body.now) result) }
+        ensures looked { change_wanted ticket.now.cookie (answer_to body.now) ≡ None
+            → HasLooked S.reused self.old.seat self.new.seat }
     {
         let response = match self.response_in(body) {
             Ok(response) => response,
@@ -310,6 +305,8 @@ where
             self.old.seat self.new.seat) }
         ensures frees { S.reused → Frees self.old.group.group.table.sizes.slots self.old.seat self.new.seat
             (change_read ticket.now.cookie (answer_to body.now) result) }
+        ensures looked { change_wanted ticket.now.cookie (answer_to body.now) ≡ None
+            → HasLooked S.reused self.old.seat self.new.seat }
     {
         for turn in rt.forever() {
             let _ = turn;

@@ -14,7 +14,6 @@ ghost use Rattle.group_history.specs.State.{last_id, view_of};
 ghost use Rattle.head_word.specs.Books.{drawn, record_of};
 ghost use Rattle.head_word.specs.Marks.{known};
 ghost use Rattle.chunk_slots.specs.Seats.{IsIdle};
-ghost use Rattle.reader_claims.specs.Machine.{Moves};
 ghost use Rattle.commit_graph.specs.LastIds.{last_at};
 ghost use Rattle.commit_graph.specs.Seats.{HasLooked, IsSeatOf, Seated, is_held};
 ghost use Rattle.push_body.specs.Bodies.{pull_text, push_text};
@@ -50,10 +49,7 @@ use uuid::Uuid;
 /// the client is on its seat, knows no less than before, and has no pin and no taken slot, also where it was refused;
 /// only an open reader keeps its pin.
 #[derive(Drop)]
-pub struct Client<M: Means, S: Slots<M>>
-where
-    S::Seat: Drop,
-{
+pub struct Client<M: Means, S: Slots<M>> {
     pub(crate) group: Arc<SharedGroup<M, S>>,
     pub(crate) seat: ClientSeat<M, S>,
     pub(crate) id: Text,
@@ -66,10 +62,7 @@ where
     pub(crate) pinned: bool,
 }
 
-impl<M: Means, S: Slots<M>> Model for Client<M, S>
-where
-    S::Seat: Drop,
-{
+impl<M: Means, S: Slots<M>> Model for Client<M, S> {
     ghost use Rattle.std.specs.Arc.{arc_value};
     ghost use Rattle.std.specs.Coded.{codes};
     ghost use Rattle.head_word.specs.contracts.entry.Entry as entry;
@@ -93,14 +86,10 @@ where
         × (S.reused → c.pinned ≡ true → is_held c.seat.view.pin ≡ true) };
 }
 
-impl<M: Means, S: Slots<M>> Client<M, S>
-where
-    S::Seat: Drop,
-{
+impl<M: Means, S: Slots<M>> Client<M, S> {
     // Pins the seat, and looks where the head is.
     pub(crate) fn pin_and_load(&mut self, tries: u32) -> Result<Ref, Refusal>
         ensures reads { IfOk result (λ _. Reads S.reused tries self.old self.new) }
-        ensures moves { S.reused → Moves self.old.seat.view self.new.seat.view }
         ensures point { IfOk result (λ _. IsPoint M.means self.old.seat.mark self.new.seat.mark None
             self.new.seat.mark.log) }
         ensures base { IfOk result (λ at. IsBase M.means self.new.seat.mark at
@@ -117,7 +106,6 @@ where
     // Takes the pin away.
     pub(crate) fn unpin(&mut self)
         ensures stays { Stays S.reused self.old self.new }
-        ensures moves { S.reused → Moves self.old.seat.view self.new.seat.view }
         ensures mark { self.new.seat.mark ≡ self.old.seat.mark }
     {
         let group: &SharedGroup<M, S> = &self.group;
@@ -138,7 +126,6 @@ where
     pub(crate) fn refuse<T>(&mut self, e: Refusal) -> Result<T, Refusal>
         ensures err { result ≡ Err e }
         ensures stays { Stays S.reused self.old self.new }
-        ensures moves { S.reused → Moves self.old.seat.view self.new.seat.view }
         ensures mark { self.new.seat.mark ≡ self.old.seat.mark }
     {
         self.unpin();
@@ -257,6 +244,7 @@ where
         S: Drop,
         ensures looked { HasLooked S.reused self.seat result }
         ensures mark { result.mark ≡ self.seat.mark }
+        ensures rests { S.reused → IsIdle result.view }
     {
         let mut client = self;
         client.unpin();
@@ -316,6 +304,38 @@ impl<M: Means> Client<M, Arena<M>> {
         let group: &SharedGroup<M, Arena<M>> = &self.group;
         group.shared.store.count(&mut self.seat.slots)
     }
+
+    // Takes the pin away, as `unpin` does.
+    pub(crate) fn unpin_arena(&mut self)
+        ensures stays { Stays ⊤ self.old self.new }
+        ensures mark { self.new.seat.mark ≡ self.old.seat.mark }
+    {
+        let group: &SharedGroup<M, Arena<M>> = &self.group;
+        self.pinned = false;
+        group.shared.store.unpin(&mut self.seat.slots);
+    }
+
+    /// Gives the client up, as `close` does. It asks for no bound that other threads rely on, so a drop can call it.
+    pub fn leave(self) -> Seat<M, Arena<M>>
+    where
+        M: Drop,
+        ensures looked { HasLooked ⊤ self.seat result }
+        ensures mark { result.mark ≡ self.seat.mark }
+        ensures rests { IsIdle result.view }
+    {
+        let mut client = self;
+        client.unpin_arena();
+        let Client {
+            group: _,
+            seat,
+            id: _,
+            last: _,
+            found: _,
+            latest: _,
+            pinned: _,
+        } = client;
+        Seat { seat }
+    }
 }
 
 // A seat learns what a mark of its group has seen.
@@ -324,8 +344,6 @@ fn learn_on<M: Means, S: Slots<M>>(
     seat: &mut ClientSeat<M, S>,
     other: &Mark<M>,
 )
-where
-    S::Seat: Drop,
     requires home { IsSeatOf shared.now seat.old }
     requires book { other.now.book ≡ shared.now.book }
     ensures other { IsPrefix other.now.log seat.new.mark.log }
@@ -359,8 +377,6 @@ fn seated<M: Means, S: Slots<M>>(
     id: Text,
     found: LastId,
 ) -> Result<Client<M, S>, (Seat<M, S>, Refusal)>
-where
-    S::Seat: Drop,
     requires home { IsSeatOf group.now.group seat }
     requires idle { S.reused → IsIdle seat.view }
     requires found { last_at (drawn seat.mark.log) (stamp_of found.at) id ≡ Some found.id }
@@ -383,10 +399,7 @@ where
     }
 }
 
-impl<M: Means, S: Slots<M>> Group<M, S>
-where
-    S::Seat: Drop,
-{
+impl<M: Means, S: Slots<M>> Group<M, S> {
     /// A client of this ID on a seat of the group. It begins from what the seat has seen, and its own last id is the
     /// one that the group has: 0 where it has none. Refused with `NoMemory`, `Gone`, and over slots that are used again
     /// `Busy`; then the seat is handed back. Takes memory for the ID alone.

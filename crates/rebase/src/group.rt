@@ -39,8 +39,6 @@ fn open_shared<M: Means, S: Store<M> + Drop>(
     slots: u32,
     seats: u32,
 ) -> Result<(Shared<M, S>, Seats<M, S>), Refusal>
-where
-    S::Seat: Drop,
     requires slots { (16 ≤ slots) × (slots ≤ max_slots) }
     requires seats { (1 ≤ seats) × (seats ≤ max_seats) }
     ensures count { IfOk result (λ made. length made.1.free ≡ seats) }
@@ -66,10 +64,7 @@ fn share<M: Means + Drop, S: Slots<M> + Drop>(
     Ok(Group { shared })
 }
 
-impl<M: Means + Drop, S: Store<M> + Drop> Group<M, S>
-where
-    S::Seat: Drop,
-{
+impl<M: Means + Drop, S: Store<M> + Drop> Group<M, S> {
     /// A new group and its seats, as many as the config says. Nothing is pulled and nothing is pending, the cookie is
     /// null, and two of its slots are taken. `parts` is what the store is made of: `()` for an `Arena`, a handle with
     /// `Wait` for an `Append`. Refused with `NoMemory`; over slots that are used again the contract allows `Busy` and

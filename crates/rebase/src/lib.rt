@@ -7,7 +7,7 @@
 //!
 //! Each call's clause `answer` is `IsLinearized` of `answered`: a right reply at one point of the call. What a call
 //! leaves is one word: `Acts` (a change), `Looks`, `Stays` (a query), `Reads` (an open reader). Why a change is refused
-//! with Full, Busy or Stamps is `cause`, what it retires `frees`.
+//! with Full, Busy or Stamps is `cause`, what it does to slots `frees`.
 //!
 //! Decisions. A group is a handle on an `Arc`, and a client has no lifetime, so programs keep clients in structs and
 //! hand them to threads; it costs `Drop` bounds on mutators and store. A reader holds its client by `&mut`, so it has
@@ -18,10 +18,13 @@
 //! A call that may wait tries 1,000 times before it begins anew; in between it has no pin and no taken slot. A watch
 //! may be polled by any client of its group: it keeps the rows told last and what was seen of the book then, so at a
 //! root that it met before a poll reads no row. A seat that comes back needs the room that it left, so `back` takes no
-//! memory. A list of calls says of a refusal what names can say (`MayRefuse`); the cause of each is a clause of
-//! `make_call`. A change whose mutators the caller runs (`Asking`) has its client, so no other call is made meanwhile,
-//! and keeps the pin; what was known when its call began is no data of the type, so its clauses hold of each client by
-//! which it began (`BeganAs`). That a run did what the group's meanings say is the one premise, and stands on `ran`.
+//! memory. A list of calls says of each what `make_call` says of one (`IsMade`), but that the client rests in between.
+//! A change whose mutators the caller runs (`Asking`) has its client, so no other call is made meanwhile, and keeps the
+//! pin. It can't be dropped: a drop of what is owned has no clause, so a body that left the pin would be proved. What was
+//! known when its call began is no data of the type, so its clauses hold of each client by which it began (`BeganAs`).
+//! That a run did what the group's meanings say is the one premise, and stands on `ran`.
+//!
+//! Not said: why `Full` comes over slots that only append.
 #![tactic(auto)]
 
 mod answering;

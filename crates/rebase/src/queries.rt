@@ -17,10 +17,7 @@ use chunk_slots::Slots;
 use group_history::{Means, Refusal, Scan};
 use transactions::TakesRows;
 
-impl<M: Means, S: Slots<M>> Client<M, S>
-where
-    S::Seat: Drop,
-{
+impl<M: Means, S: Slots<M>> Client<M, S> {
     /// Reads the group as it is at one moment of the call, and not before what the client has seen (Replicache,
     /// `ReadTransaction`). Refused with `Gone`, and over slots that are used again `Busy`; then the client has no pin.
     /// Takes no memory.

@@ -97,8 +97,6 @@ impl<M: Means> Point<M> {
         seat: &'a ClientSeat<M, S>,
         tries: u32,
     ) -> CommitTx<StoreNodes<'a, M, S>>
-    where
-        S::Seat: Drop,
         requires reading { IsReading S.reused shared.now seat.now }
         requires book { self.now.book ≡ shared.now.book }
         ensures { result.version ≡ version_of M.means (after (record_of self.now.log)) }
@@ -113,20 +111,14 @@ impl<M: Means> Point<M> {
 ///
 /// A query is refused with `Gone`, over slots that are used again with `Busy`, and where it takes memory with
 /// `NoMemory`. A refused one leaves the reader as it was.
-pub struct ReadTx<'a, M: Means, S: Slots<M>>
-where
-    S::Seat: Drop,
-{
+pub struct ReadTx<'a, M: Means, S: Slots<M>> {
     client: &'a mut Client<M, S>,
     at: Point<M>,
     tries: u32,
     ghost book: { at.book ≡ client.now.seat.mark.book },
 }
 
-impl<'a, M: Means, S: Slots<M>> ReadTx<'a, M, S>
-where
-    S::Seat: Drop,
-{
+impl<'a, M: Means, S: Slots<M>> ReadTx<'a, M, S> {
     ghost use Rattle.rebase.specs.Readers.{lent, read_by, seen_by};
 
     pub(crate) fn new(client: &'a mut Client<M, S>, at: Point<M>, tries: u32) -> ReadTx<'a, M, S>
@@ -259,10 +251,7 @@ where
     }
 }
 
-impl<M: Means, S: Slots<M>> Drop for ReadTx<'_, M, S>
-where
-    S::Seat: Drop,
-{
+impl<M: Means, S: Slots<M>> Drop for ReadTx<'_, M, S> {
     ghost use Rattle.rebase.specs.Readers.{lent};
 
     fn drop(self)

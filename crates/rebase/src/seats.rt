@@ -19,17 +19,11 @@ use std::marker::Model;
 
 /// A seat that no client sits on: what a client claims slots with, and what has been seen of the group's book.
 #[derive(Drop)]
-pub struct Seat<M: Means, S: Slots<M>>
-where
-    S::Seat: Drop,
-{
+pub struct Seat<M: Means, S: Slots<M>> {
     pub(crate) seat: ClientSeat<M, S>,
 }
 
-impl<M: Means, S: Slots<M>> Model for Seat<M, S>
-where
-    S::Seat: Drop,
-{
+impl<M: Means, S: Slots<M>> Model for Seat<M, S> {
     ghost use Rattle.std.specs.Coded.{codes};
     ghost use Rattle.head_word.specs.contracts.entry.Entry as entry;
     ghost use Rattle.chunk_slots.specs.Seats.{IsIdle};
@@ -46,17 +40,11 @@ where
 
 /// The seats of a group that no client has.
 #[derive(Drop)]
-pub struct Seats<M: Means, S: Slots<M>>
-where
-    S::Seat: Drop,
-{
+pub struct Seats<M: Means, S: Slots<M>> {
     free: Vec<Seat<M, S>>,
 }
 
-impl<M: Means, S: Slots<M>> Model for Seats<M, S>
-where
-    S::Seat: Drop,
-{
+impl<M: Means, S: Slots<M>> Model for Seats<M, S> {
     ghost use Rattle.std.specs.Prelude.{vec_capacity};
     ghost use Rattle.std.specs.Coded.{codes};
     ghost use Rattle.head_word.specs.contracts.entry.Entry as entry;
@@ -75,8 +63,6 @@ pub(crate) fn seat_all<M: Means, S: Slots<M>>(
     claimed: Vec<S::Seat>,
     marks: Vec<Mark<M>>,
 ) -> Result<Seats<M, S>, AllocError>
-where
-    S::Seat: Drop,
     requires count { length claimed.items ≡ length marks.items }
     requires seats { All (λ seat. (S.home seat ≡ shared.now.table)
         × (S.reused → IsIdle (S.view seat))) claimed.items }
@@ -99,10 +85,7 @@ where
     Ok(Seats { free })
 }
 
-impl<M: Means, S: Slots<M>> Seats<M, S>
-where
-    S::Seat: Drop,
-{
+impl<M: Means, S: Slots<M>> Seats<M, S> {
     /// A seat that no client has; `NoSeat` where all are out. Takes no memory.
     pub fn take(&mut self) -> Result<Seat<M, S>, Refusal>
         ensures room { IfOk result (λ _. length self.new.free < self.new.room) }

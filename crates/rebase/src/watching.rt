@@ -114,8 +114,6 @@ fn others_than<B: PreviousRows, M: Means, S: Slots<M>>(
     tx: &ReadTx<'_, M, S>,
     scan: &Scan,
 ) -> Result<Option<Vec<(Text, Json)>>, Refusal>
-where
-    S::Seat: Drop,
     requires before { before.now ≡ B.rows }
     ensures some { IfOk result (λ found. IfSome found
         (λ rows. rows.items ≡ view_rows M.means (read_by tx.now) scan.now)) }
@@ -229,8 +227,6 @@ impl<M: Means> Watch<M> {
         &self,
         tx: &ReadTx<'_, M, S>,
     ) -> Result<Option<Vec<(Text, Json)>>, Refusal>
-    where
-        S::Seat: Drop,
         ensures some { IfOk result (λ found. IfSome found
             (λ rows. rows.items ≡ view_rows M.means (read_by tx.now) self.now.scan)) }
         ensures same { IfOk result (λ found. IfNone found
@@ -246,8 +242,6 @@ impl<M: Means> Watch<M> {
 
     // Asks a reader. Where it is refused the watch is as it was.
     fn ask<S: Slots<M>>(&mut self, tx: &ReadTx<'_, M, S>) -> Result<Polled, Refusal>
-    where
-        S::Seat: Drop,
         requires book { self.old.book ≡ (seen_by tx.now).book }
         ensures value { IfOk result (λ polled. polled ≡ poll_at M.means self.old (read_by tx.now)) }
         ensures kept { IfOk result (λ polled. self.new ≡ watch_after self.old (Ok polled)) }
@@ -280,10 +274,7 @@ impl<M: Means> Clone for Watch<M> {
     }
 }
 
-impl<M: Means, S: Slots<M>> Client<M, S>
-where
-    S::Seat: Drop,
-{
+impl<M: Means, S: Slots<M>> Client<M, S> {
     /// A watch of a scan, which has answered nothing yet. Nothing is read. Takes no memory.
     pub fn watch(&self, scan: Scan) -> Watch<M>
         ensures { result ≡ record { book = self.now.seat.mark.book; scan = scan; last = None } }

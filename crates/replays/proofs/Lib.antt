@@ -3,3 +3,4 @@ pub mod StateLemmas
 pub mod ReplayLemmas
 pub mod RunLemmas
 pub mod BelowLemmas
+pub mod NeededLemmas

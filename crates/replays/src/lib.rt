@@ -12,6 +12,9 @@
 //! tree of its own. With one refusal among k there are up to log2 k maps (rounded up), and each mutation is run once at
 //! each halving at most, and once alone. A tree that is a cheap copy would change this.
 //!
+//! Nothing is drafted in vain: each node is a child of a later one, and the last one is the newest commit
+//! (`AddsNeeded`).
+//!
 //! What is placed is named by the type (`NamesContents`), and any reference may be looked for there. Such nodes may
 //! stop, and then the refusal says why (`StopsAs`).
 //!

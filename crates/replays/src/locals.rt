@@ -1,5 +1,6 @@
 //! Local commits: a new mutation, and pending ones that are replayed.
-ghost use Rattle.std.specs.Prelude.{◌≡◌, ◌≢◌, ◌⊎◌, ◌<◌, ◌≤◌, false, length, Some, Ok, Err, IfOk, IfErr, IfSome, OnOk};
+ghost use Rattle.std.specs.Prelude.{◌≡◌, ◌≢◌, ◌⊎◌, ◌<◌, ◌≤◌, [], ◌∷◌, false, length, Some, Ok, Err, IfOk, IfErr, IfSome};
+ghost use Rattle.std.specs.Prelude.{OnOk};
 ghost use mathlib.Core.List.{IsPrefix};
 ghost use Rattle.group_history.specs.Map.{Entries};
 ghost use Rattle.group_history.specs.Meaning.{Meaning, left_by, meaning_of};
@@ -9,7 +10,7 @@ ghost use Rattle.group_history.specs.Spelling.{Contents, Version, map_at, Spells
 ghost use Rattle.group_history.specs.State.{State, view_of, replayed as map_after};
 ghost use Rattle.group_history.specs.declared.refs.Ref.{Ref as Reference};
 ghost use Rattle.group_history.specs.declared.refusals.Refusal.TheVariants.{NoMemory, Stamps};
-ghost use Rattle.map_chunks.specs.Drafts.{IsLate};
+ghost use Rattle.map_chunks.specs.Drafts.{AddsNeeded, IsLate};
 ghost use Rattle.map_chunks.specs.Places.{with_nodes};
 ghost use Rattle.map_tree.specs.Trees.{tree_map};
 ghost use Rattle.replays.specs.Chaining.{HasTip, IsTip};
@@ -42,6 +43,7 @@ pub fn draft_mutation<C: Chunks + Copy, K: NamesContents, M: Mutators>(
         → IfErr result (λ e. RefusesFor C.stops e
         (by_meaning (meaning_of M.means mutation (view_of M.means s)) mutation.id)) }
     ensures late { IfErr result (λ e. e ≡ Stamps → IsLate draft.old.first) }
+    ensures needed { IfOk result (λ at. AddsNeeded (tip.commit ∷ []) (at ∷ []) draft.old draft.new) }
     ensures some { IfOk result (λ _. 0 < length draft.new.nodes) }
     ensures first { draft.new.first ≡ draft.old.first }
     ensures new { IfOk result (λ at. draft.old.first ≤ stamp_of at) }
@@ -94,6 +96,7 @@ fn replay_one<C: Chunks + Copy, K: NamesContents, M: Mutators>(
     ensures tip { (s : State) → IsTip M.means (with_nodes K.known draft.old.nodes) tip s → s.closed ≡ false
         → IfOk result (λ after. IsTip M.means (with_nodes K.known draft.new.nodes) after
         (after_mutate s mutation.now)) }
+    ensures needed { IfOk result (λ after. AddsNeeded (tip.commit ∷ []) (after.commit ∷ []) draft.old draft.new) }
     ensures some { IfOk result (λ _. 0 < length draft.new.nodes) }
     ensures first { draft.new.first ≡ draft.old.first }
     ensures new { IfOk result (λ tip. draft.old.first ≤ stamp_of tip.commit) }
@@ -145,6 +148,7 @@ fn add_unread<K: NamesContents>(
     ensures tip { (v : Version) → HasTip (with_nodes K.known draft.old.nodes) basis v → v.state.closed ≡ false
         → IfOk result (λ after. HasTip (with_nodes K.known draft.new.nodes) after
         (record { state = with_more v.state before.now; read = v.read })) }
+    ensures needed { IfOk result (λ tip. AddsNeeded (basis.commit ∷ []) (tip.commit ∷ []) draft.old draft.new) }
     ensures grown { IsPrefix draft.old.nodes draft.new.nodes }
     ensures first { draft.new.first ≡ draft.old.first }
     ensures new { draft.old.first ≤ stamp_of basis.commit
@@ -175,6 +179,7 @@ fn add_all<K: NamesContents>(
         → v.state.closed ≡ false → map_at (with_nodes K.known draft.old.nodes) (stamp_of root) ≡ Some m
         → IfOk result (λ after. HasTip (with_nodes K.known draft.new.nodes) after
         (record { state = after_mutate (with_more v.state before.now) last.now; read = m })) }
+    ensures needed { IfOk result (λ tip. AddsNeeded (root ∷ basis.commit ∷ []) (tip.commit ∷ []) draft.old draft.new) }
     ensures some { IfOk result (λ _. 0 < length draft.new.nodes) }
     ensures first { draft.new.first ≡ draft.old.first }
     ensures new { IfOk result (λ tip. draft.old.first ≤ stamp_of tip.commit) }
@@ -201,6 +206,7 @@ fn replay_parts<C: Chunks + Copy, K: NamesContents, M: Mutators>(
     requires one { 0 < length pending.now }
     ensures tip { (s : State) → IsTip M.means (with_nodes K.known draft.old.nodes) basis s → s.closed ≡ false
         → IfOk result (λ after. IsTip M.means (with_nodes K.known draft.new.nodes) after (with_more s pending.now)) }
+    ensures needed { IfOk result (λ tip. AddsNeeded (basis.commit ∷ []) (tip.commit ∷ []) draft.old draft.new) }
     ensures some { 0 < length draft.old.nodes → OnOk result (0 < length draft.new.nodes) }
     ensures first { draft.new.first ≡ draft.old.first }
     ensures new { draft.old.first ≤ stamp_of basis.commit
@@ -233,6 +239,7 @@ pub fn replay<C: Chunks + Copy, K: NamesContents, M: Mutators>(
     requires tip { (s : State) × IsTip M.means (with_nodes K.known draft.old.nodes) basis s × (s.closed ≡ false) }
     ensures tip { (s : State) → IsTip M.means (with_nodes K.known draft.old.nodes) basis s → s.closed ≡ false
         → IfOk result (λ after. IsTip M.means (with_nodes K.known draft.new.nodes) after (with_more s pending.now)) }
+    ensures needed { IfOk result (λ tip. AddsNeeded (basis.commit ∷ []) (tip.commit ∷ []) draft.old draft.new) }
     ensures some { 0 < length draft.old.nodes → OnOk result (0 < length draft.new.nodes) }
     ensures first { draft.new.first ≡ draft.old.first }
     ensures new { draft.old.first ≤ stamp_of basis.commit

@@ -1,5 +1,5 @@
 //! The end of a pull.
-ghost use Rattle.std.specs.Prelude.{◌≡◌, ◌≢◌, ◌⊎◌, ◌+◌, ◌<◌, ◌≤◌, false, length, Some, IsSome, IfOk, IfErr};
+ghost use Rattle.std.specs.Prelude.{◌≡◌, ◌≢◌, ◌⊎◌, ◌+◌, ◌<◌, ◌≤◌, [], ◌∷◌, false, length, Some, IsSome, IfOk, IfErr};
 ghost use Rattle.group_history.specs.Map.{Entries, patched};
 ghost use Rattle.group_history.specs.Pull.{AreInRange};
 ghost use Rattle.group_history.specs.Pulling.{end_at, after_pull, left_pending, overwritten};
@@ -8,7 +8,7 @@ ghost use Rattle.group_history.specs.Spelling.{Contents, map_at, Spells};
 ghost use Rattle.group_history.specs.State.{State, pulled_state};
 ghost use Rattle.group_history.specs.declared.refs.Ref.{Ref as Reference};
 ghost use Rattle.group_history.specs.declared.refusals.Refusal.TheVariants.{NoMemory, Stamps};
-ghost use Rattle.map_chunks.specs.Drafts.{AreBelow, IsLate};
+ghost use Rattle.map_chunks.specs.Drafts.{AddsNeeded, AreBelow, IsLate};
 ghost use Rattle.map_chunks.specs.Places.{with_nodes};
 ghost use Rattle.map_tree.specs.Trees.{tree_map, tree_places};
 ghost use Rattle.replays.specs.Chaining.{HasTip};
@@ -76,6 +76,7 @@ fn add_answered(
         → tree_map (with_nodes contents draft.old.nodes) tree ≡ Some m
         → IfOk result (λ tip. HasTip (with_nodes contents draft.new.nodes) tip
         (record { state = pulled_state m pull.now.cookie confirmed; read = m })) }
+    ensures needed { IfOk result (λ tip. AddsNeeded [] (tip.commit ∷ []) draft.old draft.new) }
     ensures some { IfOk result (λ _. 0 < length draft.new.nodes) }
     ensures first { draft.new.first ≡ draft.old.first }
     ensures new { IfOk result (λ tip. draft.old.first ≤ stamp_of tip.commit) }
@@ -104,6 +105,7 @@ pub fn add_patched<C: Chunks + Copy, K: NamesContents, M>(
           state = pulled_state (patched m pull.now.patch) pull.now.cookie confirmed;
           read = patched m pull.now.patch;
         })) }
+    ensures needed { IfOk result (λ tip. AddsNeeded [] (tip.commit ∷ []) draft.old draft.new) }
     ensures some { IfOk result (λ _. 0 < length draft.new.nodes) }
     ensures first { draft.new.first ≡ draft.old.first }
     ensures new { IfOk result (λ tip. draft.old.first ≤ stamp_of tip.commit) }
@@ -152,6 +154,7 @@ pub fn draft_rebase<C: Chunks + Copy, K: NamesContents, M: Mutators>(
         (after_pull s pull.now)) }
     ensures left { (s : State) → s.confirmed ≡ base.now.confirmed → s.pending ≡ pending.now
         → IfOk result (λ made. made.left ≡ length (after_pull s pull.now).pending) }
+    ensures needed { IfOk result (λ made. AddsNeeded [] (made.commit ∷ []) draft.old draft.new) }
     ensures in_range { AreInRange pull.now.changes }
     ensures some { IfOk result (λ _. 0 < length draft.new.nodes) }
     ensures first { draft.new.first ≡ draft.old.first }

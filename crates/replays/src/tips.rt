@@ -13,7 +13,7 @@ ghost use Rattle.group_history.specs.Refs.{stamp_of};
 ghost use Rattle.group_history.specs.Spelling.{Contents, Version, version_at, snapshot_at, map_at, stepped};
 ghost use Rattle.group_history.specs.State.{opening, pulled_state};
 ghost use Rattle.group_history.specs.declared.refusals.Refusal.TheVariants.{NoMemory, Stamps};
-ghost use Rattle.map_chunks.specs.Drafts.{AreBelow, IsLate};
+ghost use Rattle.map_chunks.specs.Drafts.{AddsNeeded, AreBelow, AreNeeded, IsLate};
 ghost use Rattle.map_chunks.specs.Places.{with_nodes};
 ghost use Rattle.map_tree.specs.Trees.{tree_map, tree_places};
 ghost use Rattle.replays.specs.Chaining.{HasTip};
@@ -49,6 +49,8 @@ pub(crate) fn add_over(
         → v.state.closed ≡ false → map_at (with_nodes contents draft.old.nodes) (stamp_of root) ≡ Some m
         → IfOk result (λ tip. HasTip (with_nodes contents draft.new.nodes) tip
         (record { state = stepped v.state step; read = m })) }
+    ensures needed { IfOk result (λ tip. AddsNeeded (root ∷ basis.commit ∷ basis.snapshot ∷ []) (tip.commit ∷ [])
+        draft.old draft.new) }
     ensures first { draft.new.first ≡ draft.old.first }
     ensures new { IfOk result (λ tip. draft.old.first ≤ stamp_of tip.commit) }
     ensures grown { IsPrefix draft.old.nodes draft.new.nodes }
@@ -89,6 +91,7 @@ pub fn add_local(
         → v.state.closed ≡ false → tree_map (with_nodes contents draft.old.nodes) tree ≡ Some m
         → IfOk result (λ tip. HasTip (with_nodes contents draft.new.nodes) tip
         (record { state = after_mutate v.state mutation; read = m })) }
+    ensures needed { IfOk result (λ tip. AddsNeeded (basis.commit ∷ []) (tip.commit ∷ []) draft.old draft.new) }
     ensures first { draft.new.first ≡ draft.old.first }
     ensures new { IfOk result (λ tip. draft.old.first ≤ stamp_of tip.commit) }
     ensures grown { IsPrefix draft.old.nodes draft.new.nodes }
@@ -109,6 +112,7 @@ pub fn add_closing(draft: &mut Draft, basis: Tip) -> Result<Ref, Refusal>
         → HasTip (with_nodes contents draft.old.nodes) basis v → v.state.closed ≡ false
         → IfOk result (λ at. version_at (with_nodes contents draft.new.nodes) (stamp_of at)
         ≡ Some (record { state = after_closing v.state; read = v.read })) }
+    ensures needed { IfOk result (λ at. AddsNeeded (basis.commit ∷ []) (at ∷ []) draft.old draft.new) }
     ensures some { IfOk result (λ _. 0 < length draft.new.nodes) }
     ensures first { draft.new.first ≡ draft.old.first }
     ensures new { IfOk result (λ at. draft.old.first ≤ stamp_of at) }
@@ -132,6 +136,7 @@ pub fn add_snapshot(
         → tree_map (with_nodes contents draft.old.nodes) tree ≡ Some m
         → IfOk result (λ tip. HasTip (with_nodes contents draft.new.nodes) tip
         (record { state = pulled_state m cookie confirmed; read = m })) }
+    ensures needed { IfOk result (λ tip. AddsNeeded [] (tip.commit ∷ []) draft.old draft.new) }
     ensures first { draft.new.first ≡ draft.old.first }
     ensures new { IfOk result (λ tip. draft.old.first ≤ stamp_of tip.commit) }
     ensures grown { IsPrefix draft.old.nodes draft.new.nodes }
@@ -161,6 +166,7 @@ pub fn add_opening(alloc: Global, draft: &mut Draft) -> Result<Ref, Refusal>
     requires { draft.old ≡ record { first = 0; nodes = [] } }
     ensures spelled { IfOk result (λ at. version_at (with_nodes [] draft.new.nodes) (stamp_of at)
         ≡ Some (record { state = opening; read = finite.empty })) }
+    ensures needed { IfOk result (λ at. AreNeeded 0 draft.new.nodes (at ∷ [])) }
     ensures first { draft.new.first ≡ 0 }
     ensures err { IfErr result (λ e. e ≡ NoMemory) }
 {

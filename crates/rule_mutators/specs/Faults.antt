@@ -1,8 +1,12 @@
 -- How it is told what is wrong with rules.
-use Rattle.std.specs.Prelude.{codes}
+use Rattle.std.specs.Prelude.{codes, ◌++◌, [], length, take, drop, Result, Ok, Err}
 use Rattle.group_history.specs.Map.{Bytes}
+use Rattle.rule_mutators.specs.declared.faults.RuleFault.{RuleFault}
+use Rattle.rule_mutators.specs.declared.faults.RuleFault.TheVariants as fault
 use Rattle.rule_mutators.specs.declared.faults.Wrong.{Wrong}
 use Rattle.rule_mutators.specs.declared.faults.Wrong.TheVariants as wrong
+use Rattle.rule_mutators.specs.Reading.{rules_or_none}
+use Rattle.rule_mutators.specs.Rules.{Rules}
 
 -- what is wrong at a place
 abbrev pub wrong_text : Wrong → Bytes
@@ -15,3 +19,25 @@ wrong_text wrong.NoArgument = codes "no argument: neither a place nor a name"
 wrong_text wrong.NoName = codes "no name: not a text"
 wrong_text wrong.NoCode = codes "no code: not a number below 2^32"
 wrong_text wrong.NotWhole = codes "a number is not whole, or does not fit 64 bits"
+
+-- how it is told that a text is no rules
+abbrev pub fault_text : RuleFault → Bytes
+fault_text fault.NoMemory = codes "memory was refused: free some and read again"
+fault_text fault.NotJson = codes "no JSON text, or one that nests too deep"
+fault_text fault.NotObject = codes "no JSON object"
+fault_text (fault.At place wrong) = place ++ codes ": " ++ wrong_text wrong
+
+-- ---- what a host is told
+
+-- what is wrong with what was read; nothing with rules
+abbrev pub text_of : Result Rules RuleFault → Bytes
+text_of (Ok rules) = []
+text_of (Err fault) = fault_text fault
+
+-- what is wrong with the rules of a text
+abbrev pub fault_told : Bytes → Bytes
+fault_told text = text_of (rules_or_none text)
+
+-- a text in the place of what a room had, as far as there is room; what is behind the text stays
+abbrev pub laid_over : Bytes → Bytes → Bytes
+laid_over text room = take (length room) text ++ drop (length text) room

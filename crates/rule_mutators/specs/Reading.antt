@@ -308,3 +308,8 @@ or_not_json (Some d) = Ok d
 -- the rules that a text says
 unfoldable pub rules_said : Bytes → Result Rules RuleFault
 rules_said text = or_not_json (value_read (reading text)) >>= value_said
+
+-- those that a text says which may be left out: no bytes are no rules
+abbrev pub rules_or_none : Bytes → Result Rules RuleFault
+rules_or_none [] = Ok []
+rules_or_none (b ∷ bytes) = rules_said (b ∷ bytes)

@@ -50,6 +50,11 @@ impl Wrong {
 }
 
 impl fmt::Display for Wrong {
+    ghost use Rattle.std.specs.Prelude.{Some};
+    ghost use Rattle.rule_mutators.specs.Faults.{wrong_text};
+
+    ghost output = { λ wrong. Some (wrong_text wrong) };
+
     fn fmt<W: fmt::Write>(&self, f: &mut fmt::Formatter<W>) -> fmt::Result {
         f.write_str(self.text())
     }
@@ -59,17 +64,29 @@ impl fmt::Display for Wrong {
 #[derive(Debug, Drop, PartialEq, Eq, Error)]
 pub enum RuleFault {
     /// It may come in place of any other answer.
-    #[error("memory was refused: free some and read again")]
     NoMemory,
     /// RFC 8259; it may nest at most 127 deep.
-    #[error("no JSON text, or one that nests too deep")]
     NotJson,
     /// A JSON text, but no object.
-    #[error("no JSON object")]
     NotObject,
     /// The place is a JSON Pointer (RFC 6901) into the text's value, as `/add/0/2`.
-    #[error("{0}: {1}")]
     At(Text, Wrong),
+}
+
+impl fmt::Display for RuleFault {
+    ghost use Rattle.std.specs.Prelude.{Some};
+    ghost use Rattle.rule_mutators.specs.Faults.{fault_text};
+
+    ghost output = { λ fault. Some (fault_text fault) };
+
+    fn fmt<W: fmt::Write>(&self, f: &mut fmt::Formatter<W>) -> fmt::Result {
+        match self {
+            RuleFault::NoMemory => f.write_str("memory was refused: free some and read again"),
+            RuleFault::NotJson => f.write_str("no JSON text, or one that nests too deep"),
+            RuleFault::NotObject => f.write_str("no JSON object"),
+            RuleFault::At(place, wrong) => write!(f, "{place}: {wrong}"),
+        }
+    }
 }
 
 impl From<AllocError> for RuleFault {

@@ -5,8 +5,8 @@
 //! a rule means `specs/Meaning.antt`. There are no loops, so each rule ends. A name without a rule is a mutator of
 //! scripts.
 //!
-//! Tested in `test_parts`: each word once, and how each fault is told. By hand, in an unproved build: each allocation
-//! refused in turn, and 10,000 random cases beside the twin in Python (`tools/compare-rules`).
+//! Tested by the lines of `replicache_serve`: each word once, and how each fault is told. By hand, in an unproved
+//! build: each allocation refused in turn, and 10,000 random cases beside the twin in Python (`tools/compare-rules`).
 #![tactic(auto)]
 
 mod evaluating;
@@ -16,9 +16,11 @@ mod mutators;
 mod places;
 mod reading;
 mod running;
+mod telling;
 mod values;
 mod words;
 
 pub use faults::{RuleFault, Wrong};
 pub use language::Rules;
 pub use mutators::{Picked, RuleMutators};
+pub use telling::tell_fault;

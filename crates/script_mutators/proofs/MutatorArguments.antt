@@ -1,14 +1,10 @@
 -- What holds of the arguments of a mutator and of their parts.
-use Rattle.std.proofs.Common.{◌≡◌, ◌≢◌, ℕ, ◌≤◌, List, [], ◌∷◌, length, Bool, true, false, cond, ◌||◌, Some, None, Ok}
-use Rattle.std.proofs.Common.{Err, IfSome, refl, sym, ap, subst, arith, nat_le}
-use Rattle.std.proofs.lemmas.Bool.{leb-true}
-use Rattle.serde_json.specs.Data.{Data, null, boolean, number, string, array, object, no_items, item, depth}
+use Rattle.std.proofs.Common.{◌≡◌, ◌≢◌, List, [], ◌∷◌, length, Bool, true, false, ◌||◌, Some, None}
+use Rattle.std.proofs.Common.{IfSome, refl, sym, ap, subst, arith}
+use Rattle.serde_json.specs.Data.{Data, null, boolean, number, string, array, object, no_items, item}
 use Rattle.serde_json.specs.View.{items_view}
-use Rattle.serde_json.specs.Written.{has_float, compact_text}
 use Rattle.serde_json.specs.declared.value.Value.{Value}
-use Rattle.group_history.specs.declared.refusals.Refusal.TheVariants.{NotJson, NotWhole}
 use Rattle.group_history.specs.Map.{Bytes, Entries}
-use Rattle.group_history.specs.Json.{text_of}
 use Rattle.group_history.specs.Meaning.{Meaning}
 use Rattle.std.specs.Prelude.{Option}
 use Rattle.group_history.specs.Meaning.{needs, value_of}

@@ -4,7 +4,6 @@ use Rattle.std.proofs.Common.{sym, subst, ap, ◌∙◌}
 use Rattle.std.proofs.lemmas.List.{get_or-map, length-map, map-set}
 use Rattle.std.proofs.lemmas.List.Elements.{All-map}
 use Rattle.std.proofs.lemmas.Option.{slice_get-get_or}
-use Rattle.std.specs.Prelude.{slice_get}
 use Rattle.std.specs.List.{All}
 use Rattle.logbook.specs.Pages.{Book}
 use Rattle.group_history.specs.Map.{Bytes}
@@ -25,13 +24,13 @@ use Rattle.script_runner.specs.Inside.Printing.{reply_text}
 -- new clients are of their group
 pub of_group : {M : Type 0} (means : Meanings) (group : Grouped) (turns : List (Turn M))
     → All (IsNewIn means group) turns
-    → All (λ t. (standing_of t.client.caller).mark.book ≡ group.group.book) turns
+    → All (λ t. (standing_of t.client.caller).seat.mark.book ≡ group.group.book) turns
 of_group means group turns new k d below = (new k d below).of_book
 
 -- and so is what they have seen
 pub seen_there : {M : Type 0} (book : Book) (turns : List (Turn M)) (sights : List Known)
     → sights ≡ all_sights (players_of turns)
-    → All (λ t. (standing_of t.client.caller).mark.book ≡ book) turns → All (λ s. s.book ≡ book) sights
+    → All (λ t. (standing_of t.client.caller).seat.mark.book ≡ book) turns → All (λ s. s.book ≡ book) sights
 seen_there book turns sights is of =
     subst (All (λ s. s.book ≡ book)) (sym is)
     (All-map (λ s. s.book ≡ book) (λ p. sight_of p.standing) (players_of turns)

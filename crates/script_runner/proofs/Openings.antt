@@ -87,7 +87,7 @@ module _ {M : Type 0} (turns : List (Turn M)) (script : Script)
         new.all.0,
         subst (AreOf new.all.0) (sym is) (λ k d below.
             let there : k < length (map player turns) = omega (below, length-map turns player, arith) in
-            subst (λ p. p.standing.mark.book ≡ new.all.0) (get_or-map player turns k d (player d) below)
+            subst (λ p. p.standing.seat.mark.book ≡ new.all.0) (get_or-map player turns k d (player d) below)
             (new.all.1 k (player d) there).of_book),
       )
 

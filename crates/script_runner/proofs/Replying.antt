@@ -1,6 +1,6 @@
 -- What a client of a script replies, by what its group answers.
-use Rattle.std.proofs.Common.{◌≡◌, ℕ, ◌+◌, Result, Ok, Err, refl, ap, ◌∙◌}
-use Rattle.std.specs.Prelude.{IfErr, IfOk}
+use Rattle.std.proofs.Common.{◌≡◌, ℕ, ◌+◌, Option, None, Result, Ok, Err, refl, sym, ap, subst, ◌∙◌}
+use Rattle.std.specs.Prelude.{IfErr, IfOk, ⊤}
 use Rattle.std.specs.Borrow.{Bor}
 use Rattle.group_history.specs.declared.refusals.Refusal.{Refusal}
 use Rattle.group_history.specs.declared.refusals.Refusal.TheVariants as refusal
@@ -13,13 +13,19 @@ use Rattle.group_history.specs.State.{State}
 use Rattle.head_word.specs.Marks.{Known}
 use Rattle.answered.specs.Answered.{IsLinearized, no_change}
 use Rattle.rebase.specs.Asking.{is_passing}
-use Rattle.rebase.specs.Calls.{Caller, caller, caller_of, change_of, last_after, reply_to}
+use Rattle.rebase.specs.Calls.{Caller, caller, caller_of, change_for, change_of, last_after, reply_to}
+use Rattle.rebase.specs.declared.calls.Call.{Call}
+use Rattle.group_history.specs.declared.changes.Change.{Change}
+use Rattle.commit_graph.specs.Seats.{Seated}
+use Rattle.group_steps.specs.Causes.{HasCause}
+use Rattle.group_steps.specs.Leaving.{Frees}
 use Rattle.rebase.specs.Clients.{ClientState, IsSameClient}
-use Rattle.group_steps.specs.Missing.{map_ok}
+use Rattle.group_steps.specs.Missing.{IsMissedOrDry, map_ok}
 use Rattle.rebase.specs.Queries.{gave}
-use Rattle.rebase.specs.Replies.{ended, id, rows}
+use Rattle.rebase.specs.Replies.{Replied, ended, id, rows}
 use Rattle.rebase.specs.declared.calls.Call.TheVariants as call
-use Rattle.rebase.proofs.CallLemmas.{call_told}
+use Rattle.rebase.proofs.CallLemmas.{call_told, why_told}
+use Rattle.rebase.proofs.Causing.{cause_missed}
 use Rattle.script_runner.specs.Callers.{reply_of_list}
 
 -- the same client calls as the same one, by its last id
@@ -63,3 +69,28 @@ pub list_told : {X : Type 0} (means : Meanings) (tries : ℕ) (old new : Known) 
 list_told means tries old new c scan rs r is =
     call_told rows means tries old new c (call.Scan scan) (call.Scan scan) (gave rs r) (reply_of_list rs r) no_change
     (λ (s : State). Ok (view_rows means s scan.now)) refl (list_is rs r) refl (λ (s : State). refl) is
+
+-- why a call is refused, as it is told
+pub cause_told : {X : Type 0} (f : X → Replied) (means : Meanings) (c : Caller) (x y : Call) (r : Result X Refusal)
+    (reply : Result Replied Refusal) (old new : Seated) → x ≡ y → reply ≡ map_ok f r
+    → IfErr r (HasCause means ⊤ c.last (change_for c y) old new)
+    → IfErr reply (HasCause means ⊤ c.last (change_for c x) old new)
+cause_told f means c x y r reply old new call_is told_is is =
+    subst (λ (w : Result Replied Refusal). IfErr w (HasCause means ⊤ c.last (change_for c x) old new)) (sym told_is)
+    (subst (λ (z : Call). IfErr (map_ok f r) (HasCause means ⊤ c.last (change_for c z) old new)) (sym call_is)
+    (why_told f (HasCause means ⊤ c.last (change_for c y) old new) r is))
+
+-- what a call did to slots, by what is told of it
+pub frees_told : (slots : ℕ) (c : Caller) (x y : Call) (reply told : Result Replied Refusal) (o : Option Change)
+    (old new : Seated) → x ≡ y → reply ≡ told → change_of c y told ≡ o → Frees slots old new o
+    → Frees slots old new (change_of c x reply)
+frees_told slots c x y reply told o old new call_is told_is same frees =
+    subst (λ (w : Result Replied Refusal). Frees slots old new (change_of c x w)) (sym told_is)
+    (subst (λ (z : Call). Frees slots old new (change_of c z told)) (sym call_is)
+    (subst (Frees slots old new) (sym same) frees))
+
+-- why a scan is refused
+pub missed_told : (means : Meanings) (last : ℕ) (rs : Rows) {X : Type 0} (r : Result X Refusal) (old new : Seated)
+    → IfErr r (IsMissedOrDry ⊤) → IfErr (reply_of_list rs r) (HasCause means ⊤ last None old new)
+missed_told means last rs (Ok list) old new is = tt
+missed_told means last rs (Err e) old new is = cause_missed means ⊤ last None old new e is

@@ -166,7 +166,7 @@ told_of P (Err e) is told = absurd (false≢true is)
 -- all have seen the one group of which each client is
 one_group : {M : Type 0} (book : Book) (turns : List (Turn M)) (sights : List Known)
     → sights ≡ all_sights (players_of turns) → AreOf book turns
-    → (t : Turn M) → (standing_of t.client.caller).mark.book ≡ book → CanLearnAll (standing_of t.client.caller) sights
+    → (t : Turn M) → (standing_of t.client.caller).seat.mark.book ≡ book → CanLearnAll (standing_of t.client.caller) sights
 one_group book turns sights is of_one t of_book k d below =
     let views : sights ≡ map (λ u. sight_of (standing_of u.client.caller)) turns = is ∙ fused
     (λ p. sight_of p.standing) (λ u. player_of u.client) turns in
@@ -187,7 +187,7 @@ pub lent : {M : Type 0} (turns : List (Turn M)) (sights : List Known) (i : ℕ) 
     → CanLearn (standing_of t.client.caller) (slice_index_or sights k d)
 lent turns sights i t k d is one below at in_sights =
     one_group one.0 turns sights is one.1 t
-    (subst (λ u. (standing_of u.client.caller).mark.book ≡ one.0) (sym at) (one.1 i t below)) k d in_sights
+    (subst (λ u. (standing_of u.client.caller).seat.mark.book ≡ one.0) (sym at) (one.1 i t below)) k d in_sights
 
 module _ {M : Type 0} (means : Meanings) where
   -- a client's part of a phase, as it stands in the lists

@@ -1,5 +1,5 @@
 -- How a client stands between its calls, what its calls may reply, and how they leave it.
-use Rattle.std.specs.Prelude.{ℕ, ◌≡◌, false, ⊤, List, Result, Ok, Err, IfErr, None}
+use Rattle.std.specs.Prelude.{ℕ, ◌≡◌, true, false, ⊤, List, Result, Ok, Err, IfErr, None}
 use Rattle.std.specs.Cmp.Lexicographic.{slice_cmp}
 use Rattle.std.specs.FinMap as finite
 use Rattle.std.specs.List.{All}
@@ -12,10 +12,12 @@ use Rattle.group_history.specs.Meaning.{Meanings}
 use Rattle.group_history.specs.Rows.{Rows}
 use Rattle.head_word.specs.Marks.{Known, known}
 use Rattle.answered.specs.Answered.{IsLinearized, no_change, own_moves}
-use Rattle.commit_graph.specs.Seats.{IsLater}
+use Rattle.commit_graph.specs.Seats.{HasLooked, IsLater, Seated}
+use Rattle.group_steps.specs.Causes.{HasCause}
+use Rattle.group_steps.specs.Leaving.{Frees}
 use Rattle.group_steps.specs.Missing.{IsMissedOrDry}
 use Rattle.rebase.specs.Asking.{is_passing}
-use Rattle.rebase.specs.Calls.{Caller, MayRefuse, caller, change_of, is_reading, last_after, reply_to}
+use Rattle.rebase.specs.Calls.{Caller, MayRefuse, caller, change_for, change_of, is_reading, last_after, reply_to}
 use Rattle.rebase.specs.Replies.{Replied, rows}
 use Rattle.rebase.specs.declared.calls.Call.{Call}
 use Rattle.rebase.specs.declared.calls.Call.TheVariants as call
@@ -26,18 +28,19 @@ use Rattle.rebase.specs.Watching.{Watched, poll_at, watch_after}
 abbrev pub Watches : Type 0
 Watches = finite.FinMap (slice_cmp nat_cmp) Watched
 
--- A client: whose requests its group writes, its ID, its own last id, what it has seen of the group's book, and its
--- watches.
+-- A client: whose requests its group writes, its ID, its own last id, its seat with what it has seen, its watches, and how
+-- many slots its group has.
 pub record ClientState : Type 0 where
   pub caller : Caller
-  pub mark : Known
+  pub seat : Seated
   pub watches : Watches
+  pub slots : ℕ
 
 -- it has a watch of this name, which has answered nothing yet; an earlier one is given up
 abbrev pub with_watch : Bytes → Scan → ClientState → ClientState
 with_watch name scan c = record c {
   watches = finite.insert (finite.remove c.watches name) name
-      (record { book = c.mark.book; scan = scan; last = None });
+      (record { book = c.seat.mark.book; scan = scan; last = None });
 }
 
 -- it has no watch of this name
@@ -56,15 +59,15 @@ reply_of_list rs (Err e) = Err e
 
 -- it is a client of the same group
 abbrev pub IsOfSameGroup : ClientState → ClientState → Type 0
-IsOfSameGroup old new = new.mark.book ≡ old.mark.book
+IsOfSameGroup old new = new.seat.mark.book ≡ old.seat.mark.book
 
 -- what others learn from a client: what it has seen
 abbrev pub sight_of : ClientState → Known
-sight_of c = known c.mark.book c.mark.log None
+sight_of c = known c.seat.mark.book c.seat.mark.log None
 
 -- a client can learn what was seen of its group
 abbrev pub CanLearn : ClientState → Known → Type 0
-CanLearn c sight = sight.book ≡ c.mark.book
+CanLearn c sight = sight.book ≡ c.seat.mark.book
 
 -- and so each of these
 abbrev pub CanLearnAll : ClientState → List Known → Type 0
@@ -80,30 +83,40 @@ tries_of other = 1000000
 -- is then as the reply says.
 pub record MayReply (means : Meanings) (before : ClientState) (asked : Call) (reply : Result Replied Refusal)
     (after : ClientState) : Type 0 where
-  pub answer : IsLinearized means (tries_of asked) before.mark after.mark reply (change_of before.caller asked)
+  pub answer : IsLinearized means (tries_of asked) before.seat.mark after.seat.mark reply (change_of before.caller asked)
       (λ s. reply_to means before.caller s asked)
   -- what changes nothing is refused for want of memory, or where a slot or a pin is lost to others; a change waits for
   -- others
   pub refused : MayRefuse ⊤ asked reply
   pub lasting : is_reading asked ≡ false → is_passing reply ≡ false
   pub caller : after.caller ≡ caller before.caller.identity before.caller.client (last_after before.caller.last reply)
-  pub later : IsLater before.mark after.mark
+  pub later : IsLater before.seat.mark after.seat.mark
   pub watches : after.watches ≡ before.watches
+  pub slots : after.slots ≡ before.slots
+  -- what it did to slots, and why a change is refused for want of something
+  pub looked : is_reading asked ≡ true → HasLooked ⊤ before.seat after.seat
+  pub cause : IfErr reply (HasCause means ⊤ before.caller.last (change_for before.caller asked) before.seat after.seat)
+  pub frees : is_reading asked ≡ false
+      → Frees before.slots before.seat after.seat (change_of before.caller asked reply)
 
 -- The poll of a watch is answered rightly at a point of that record.
 pub record MayReplyToPoll (means : Meanings) (name : Bytes) (watch : Watched) (before : ClientState)
     (reply : Result Polled Refusal) (after : ClientState) : Type 0 where
-  pub answer : IsLinearized means 1000000 before.mark after.mark reply no_change (λ s. Ok (poll_at means watch s))
+  pub answer : IsLinearized means 1000000 before.seat.mark after.seat.mark reply no_change (λ s. Ok (poll_at means watch s))
   -- for the same
   pub refused : IfErr reply (IsMissedOrDry ⊤)
   pub caller : after.caller ≡ before.caller
-  pub later : IsLater before.mark after.mark
+  pub later : IsLater before.seat.mark after.seat.mark
   pub watches : after.watches ≡ watches_after name watch before.watches reply
+  pub slots : after.slots ≡ before.slots
+  pub looked : HasLooked ⊤ before.seat after.seat
 
 -- The client has seen what another one had seen too, and made no change.
 pub record Learns (before : ClientState) (other : Known) (after : ClientState) : Type 0 where
-  pub seen : IsPrefix other.log after.mark.log
-  pub later : IsLater before.mark after.mark
-  pub moves : own_moves after.mark ≡ own_moves before.mark
+  pub seen : IsPrefix other.log after.seat.mark.log
+  pub later : IsLater before.seat.mark after.seat.mark
+  pub moves : own_moves after.seat.mark ≡ own_moves before.seat.mark
   pub caller : after.caller ≡ before.caller
   pub watches : after.watches ≡ before.watches
+  pub slots : after.slots ≡ before.slots
+  pub looked : HasLooked ⊤ before.seat after.seat

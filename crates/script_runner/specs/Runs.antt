@@ -43,10 +43,10 @@ HasSeenOpening mark = (at : Ref) × (mark.log ≡ opening at)
 -- watch.
 pub record IsNew (means : Meanings) (identity : Identity) (book : Book) (p : Player) : Type 0 where
   pub writes : p.standing.caller.identity ≡ identity
-  pub of_book : p.standing.mark.book ≡ book
-  pub last : (before : Known) × HasSeenOpening before × IsAnswered means before p.standing.mark None
+  pub of_book : p.standing.seat.mark.book ≡ book
+  pub last : (before : Known) × HasSeenOpening before × IsAnswered means before p.standing.seat.mark None
       (λ s. last_id s p.standing.caller.client ≡ p.standing.caller.last)
-  pub moves : own_moves p.standing.mark ≡ []
+  pub moves : own_moves p.standing.seat.mark ≡ []
   pub tickets : p.tickets ≡ finite.empty
   pub watches : p.standing.watches ≡ finite.empty
 

@@ -25,7 +25,7 @@ pub struct Clients<M: Mutators + Drop> {
     group: Group<M, Arena<M>>,
     turns: Vec<Turn<M>>,
     sights: Vec<Mark<M>>,
-    ghost of_group: { All (λ t. (standing_of t.client.caller).mark.book ≡ group.group.book) turns.items } by { Π_prop
+    ghost of_group: { All (λ t. (standing_of t.client.caller).seat.mark.book ≡ group.group.book) turns.items } by { Π_prop
         (λ k. Π_prop (λ d. →_prop (Prim.hlevel (codes, Coded-set)))) },
     ghost seen_there: { All (λ s. s.book ≡ group.group.book) sights.items } by { Π_prop
         (λ k. Π_prop (λ d. →_prop (Prim.hlevel (codes, Coded-set)))) },

@@ -5,7 +5,7 @@
 //! order of their header lines. `process` is the same over a reader and two writers, with the statuses of a process.
 //! `clients` does the lines of clients one by one.
 //!
-//! Decisions. What the clients of a script stand for is plain data (`Player`: names, IDs, last ids, marks, tickets), of
+//! Decisions. What the clients of a script stand for is plain data (`Player`: names, IDs, last ids, seats, tickets), of
 //! which the clause `written` speaks; a call's answer is right by the contract of the client's call (`MayReply`). A
 //! client alone in a phase runs on the caller's thread. A client keeps its watches beside it, and a poll works on a
 //! copy, so a refused poll leaves the watch.

@@ -4,8 +4,7 @@ use Rattle.std.specs.Prelude.{Err, if◌then◌else◌}
 use Rattle.std.specs.List.{concat, starts_with}
 use Rattle.group_history.specs.Map.{Bytes}
 use Rattle.rule_mutators.specs.declared.faults.RuleFault.{RuleFault}
-use Rattle.rule_mutators.specs.declared.faults.RuleFault.TheVariants as rule_fault
-use Rattle.rule_mutators.specs.Faults.{wrong_text}
+use Rattle.rule_mutators.specs.Faults.{fault_text as rules_fault_text}
 use Rattle.rule_mutators.specs.Reading.{rules_said}
 use Rattle.rule_mutators.specs.Rules.{Rules}
 use Rattle.script_parser.specs.declared.faults.ScriptFault.{ScriptFault}
@@ -33,13 +32,6 @@ ok_text n = concat (decimal n ∷ codes " ok\n" ∷ [])
 unfoldable pub refused_text : ℕ → Bytes → Bytes
 refused_text n fault = concat (decimal n ∷ codes " fault " ∷ fault ∷ codes "\n" ∷ [])
 
--- how it is told that a text is no rules
-abbrev pub rule_fault_text : RuleFault → Bytes
-rule_fault_text rule_fault.NoMemory = codes "memory was refused: free some and read again"
-rule_fault_text rule_fault.NotJson = codes "no JSON text, or one that nests too deep"
-rule_fault_text rule_fault.NotObject = codes "no JSON object"
-rule_fault_text (rule_fault.At place wrong) = place ++ codes ": " ++ wrong_text wrong
-
 -- ---- rules
 
 -- the text of rules that a line gives: what follows `rules` and a space
@@ -57,7 +49,7 @@ given_in s line = given_before s.said.phases line
 -- The rules that a text says, where a line before gave these; or how the fault of the line is told. That rules are given
 -- twice is told of a text that says rules.
 abbrev pub rules_with : Option Rules → Result Rules RuleFault → Result Rules Bytes
-rules_with given (Err e) = Err (codes "rules " ++ rule_fault_text e)
+rules_with given (Err e) = Err (codes "rules " ++ rules_fault_text e)
 rules_with (Some given) (Ok rules) = Err (fault_text SaidTwice)
 rules_with None (Ok rules) = Ok rules
 

@@ -2,8 +2,9 @@
 ghost use Rattle.std.specs.Prelude.{◌≡◌, ◌++◌, IfOk, OnOk, Err, Result, codes, string_bytes};
 ghost use Rattle.rule_mutators.specs.declared.faults.RuleFault.{RuleFault};
 ghost use Rattle.rule_mutators.specs.Answers.{Refuses};
+ghost use Rattle.rule_mutators.specs.Faults.{fault_text};
 ghost use Rattle.rule_mutators.specs.Rules.{Rules};
-ghost use Rattle.script_server.specs.Answers.{ok_text, refused_text, rule_fault_text};
+ghost use Rattle.script_server.specs.Answers.{ok_text, refused_text};
 
 use rule_mutators::RuleFault;
 use std::alloc::{AllocError, Global};
@@ -28,23 +29,11 @@ pub(crate) fn print_fault(text: &mut Vec<u8>, number: u64, fault: &str) -> Resul
 
 /// How it is told what is wrong with rules, where that is no want of memory.
 pub(crate) fn rules_fault(alloc: Global, fault: &RuleFault) -> Result<String, AllocError>
-    ensures told { IfOk result (λ text. string_bytes text ≡ codes "rules " ++ rule_fault_text fault.now) }
+    ensures told { IfOk result (λ text. string_bytes text ≡ codes "rules " ++ fault_text fault.now) }
     ensures right { (right : Result Rules RuleFault) → Refuses fault.now right → OnOk result (right ≡ Err fault.now) }
 {
     match fault {
         RuleFault::NoMemory => Err(AllocError),
-        RuleFault::NotJson => String::from_str(
-            alloc,
-            "rules no JSON text, or one that nests too deep",
-        ),
-        RuleFault::NotObject => String::from_str(alloc, "rules no JSON object"),
-        RuleFault::At(place, wrong) => fault_at(alloc, place.as_str(), wrong.text()),
+        fault => format!(in alloc; "rules {fault}"),
     }
-}
-
-/// How it is told what is wrong with rules at a place.
-fn fault_at(alloc: Global, place: &str, wrong: &str) -> Result<String, AllocError>
-    ensures { IfOk result (λ text. string_bytes text ≡ codes "rules " ++ (place.now ++ codes ": " ++ wrong.now)) }
-{
-    format!(in alloc; "rules {place}: {wrong}")
 }

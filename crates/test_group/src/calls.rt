@@ -45,10 +45,7 @@ pub fn mutates<S: Store<ScriptMutators>>(
     client: &mut Client<ScriptMutators, S>,
     call: &MutatorCall,
     tries: u32,
-) -> Answer
-where
-    S::Seat: Drop,
-{
+) -> Answer {
     client
         .try_mutate(&call.name, &call.args, 1000, tries)
         .map(Told::Id)
@@ -60,8 +57,6 @@ pub fn ends<S: Store<ScriptMutators>>(
     body: &str,
     tries: u32,
 ) -> Answer
-where
-    S::Seat: Drop,
     ensures { client.new.group ≡ client.old.group }
 {
     client
@@ -75,8 +70,6 @@ pub fn pulls<S: Store<ScriptMutators>>(
     body: &str,
     tries: u32,
 ) -> Answer
-where
-    S::Seat: Drop,
     ensures { client.new.group ≡ client.old.group }
 {
     let ticket = client.begin_pull(tries)?;
@@ -99,10 +92,7 @@ pub fn number_of(value: Option<&Json>) -> Option<i64> {
 pub fn n_in<S: Store<ScriptMutators>>(
     tx: &ReadTx<'_, ScriptMutators, S>,
     key: &str,
-) -> Result<Option<i64>, Refusal>
-where
-    S::Seat: Drop,
-{
+) -> Result<Option<i64>, Refusal> {
     let value = tx.get(key)?;
     Ok(number_of(value.as_ref()))
 }
@@ -111,10 +101,7 @@ pub fn gets<S: Store<ScriptMutators>>(
     client: &mut Client<ScriptMutators, S>,
     key: &str,
     tries: u32,
-) -> Answer
-where
-    S::Seat: Drop,
-{
+) -> Answer {
     let tx = client.read(tries)?;
     let found = n_in(&tx, key);
     tx.close();
@@ -124,9 +111,6 @@ where
 pub fn refreshes<S: Store<ScriptMutators>>(
     client: &mut Client<ScriptMutators, S>,
     tries: u32,
-) -> Answer
-where
-    S::Seat: Drop,
-{
+) -> Answer {
     client.refresh(tries).map(Told::Last)
 }

@@ -47,7 +47,6 @@ fn opened<S: Store<ScriptMutators> + Drop>(
     clients: u32,
 ) -> Result<(Group<ScriptMutators, S>, Seats<ScriptMutators, S>), Refusal>
 where
-    S::Seat: Drop,
     S::Parts: Drop,
     ensures { IfOk result (λ made. AreSeatsOf made.0.group made.1.free) }
 {
@@ -61,8 +60,6 @@ pub fn next_client<M: Means, S: Store<M>>(
     seats: &mut Seats<M, S>,
     text: &str,
 ) -> Result<Client<M, S>, Refusal>
-where
-    S::Seat: Drop,
     requires { AreSeatsOf group.now.group seats.old.free }
     ensures seats { AreSeatsOf group.now.group seats.new.free }
     ensures room { IfOk result (λ _. length seats.new.free < seats.new.room) }
@@ -75,10 +72,7 @@ where
 /// A client that may be lent to a thread, and its number among those of its group, from 0 on. That is the number by
 /// which a gate knows its seat.
 #[derive(Drop)]
-pub struct Player<S: Store<ScriptMutators>>
-where
-    S::Seat: Drop,
-{
+pub struct Player<S: Store<ScriptMutators>> {
     pub number: usize,
     pub client: Client<ScriptMutators, S>,
 }
@@ -90,8 +84,6 @@ fn add_player<S: Store<ScriptMutators> + Drop>(
     text: &str,
     players: &mut Vec<Player<S>>,
 ) -> Result<(), Refusal>
-where
-    S::Seat: Drop,
     requires { AreSeatsOf group.now.group seats.old.free }
     ensures { AreSeatsOf group.now.group seats.new.free }
 {
@@ -108,8 +100,6 @@ fn players_of<S: Store<ScriptMutators> + Drop>(
     seats: &mut Seats<ScriptMutators, S>,
     ids: &[&str],
 ) -> Result<Vec<Player<S>>, Refusal>
-where
-    S::Seat: Drop,
     requires { AreSeatsOf group.now.group seats.old.free }
 {
     let mut players = Vec::new(alloc);
@@ -127,7 +117,6 @@ pub fn new_players<S: Store<ScriptMutators> + Drop>(
     ids: &[&str],
 ) -> Result<Vec<Player<S>>, Refusal>
 where
-    S::Seat: Drop,
     S::Parts: Drop,
 {
     let clients = u32::try_from(ids.len()).unwrap_or(u32::MAX);

@@ -25,8 +25,6 @@ fn add_seat<S: Store<Nobody>>(
     marks: &mut Vec<Mark<Nobody>>,
     seats: &mut Vec<Seat<Nobody, S>>,
 ) -> Result<(), Refusal>
-where
-    S::Seat: Drop,
     requires claimed { All (λ seat. (S.home seat ≡ shared.now.table) × (S.reused → IsIdle (S.view seat)))
         claimed.old.items }
     requires marks { All (HasSeat shared.now.book) marks.old.items }
@@ -48,8 +46,6 @@ fn seats_of<S: Store<Nobody>>(
     claimed: Vec<S::Seat>,
     marks: Vec<Mark<Nobody>>,
 ) -> Result<Vec<Seat<Nobody, S>>, Refusal>
-where
-    S::Seat: Drop,
     requires claimed { All (λ seat. (S.home seat ≡ shared.now.table) × (S.reused → IsIdle (S.view seat)))
         claimed.items }
     requires marks { All (HasSeat shared.now.book) marks.items }
@@ -70,8 +66,6 @@ pub fn opened_store<S: Store<Nobody> + Drop>(
     slots: u32,
     seats: u32,
 ) -> Result<(Shared<Nobody, S>, Vec<Seat<Nobody, S>>), Refusal>
-where
-    S::Seat: Drop,
     requires slots { (16 ≤ slots) × (slots ≤ max_slots) }
     requires seats { (1 ≤ seats) × (seats ≤ max_seats) }
     ensures { IfOk result (λ made. AreFreeSeatsOf S.reused made.0 made.1.items) }
@@ -84,10 +78,7 @@ where
 
 /// A seat of a group, between its calls.
 #[derive(Drop)]
-pub struct Place<'a, S: Store<Nobody>>
-where
-    S::Seat: Drop,
-{
+pub struct Place<'a, S: Store<Nobody>> {
     pub shared: &'a Shared<Nobody, S>,
     pub seat: Seat<Nobody, S>,
     ghost home: { IsSeatOf shared.now seat },
@@ -99,8 +90,6 @@ pub fn next_place<'a, S: Store<Nobody>>(
     shared: &'a Shared<Nobody, S>,
     seats: &mut Vec<Seat<Nobody, S>>,
 ) -> Result<Place<'a, S>, Refusal>
-where
-    S::Seat: Drop,
     requires { AreFreeSeatsOf S.reused shared.now seats.old.items }
     ensures { AreFreeSeatsOf S.reused shared.now seats.new.items }
 {
@@ -114,8 +103,6 @@ fn add_place<'a, S: Store<Nobody>>(
     seats: &mut Vec<Seat<Nobody, S>>,
     places: &mut Vec<Place<'a, S>>,
 ) -> Result<(), Refusal>
-where
-    S::Seat: Drop,
     requires { AreFreeSeatsOf S.reused shared.now seats.old.items }
     ensures { AreFreeSeatsOf S.reused shared.now seats.new.items }
 {
@@ -130,8 +117,6 @@ pub fn places_of<'a, S: Store<Nobody>>(
     shared: &'a Shared<Nobody, S>,
     seats: &mut Vec<Seat<Nobody, S>>,
 ) -> Result<Vec<Place<'a, S>>, Refusal>
-where
-    S::Seat: Drop,
     requires { AreFreeSeatsOf S.reused shared.now seats.old.items }
 {
     let mut places = Vec::new(alloc);
@@ -160,10 +145,7 @@ fn leaf_draft(alloc: Global) -> Result<Draft, Refusal>
     Ok(draft)
 }
 
-impl<S: Store<Nobody>> Place<'_, S>
-where
-    S::Seat: Drop,
-{
+impl<S: Store<Nobody>> Place<'_, S> {
     // What the seat has seen is a legal book.
     fn legal(&self)
         ensures { IsOpened no_mutators self.now.seat.mark.log }

@@ -12,8 +12,6 @@ use std::sync::Wait;
 pub(crate) trait Counted: Store<ScriptMutators> + Drop {
     /// Appends the counts, as a client of the group finds them; nothing where the slots have no states.
     fn say_counts(alloc: Global, client: &mut Client<ScriptMutators, Self>, out: &mut Said)
-    where
-        Self::Seat: Drop,
         ensures { IsSameSeat client.old.seat client.new.seat };
 }
 

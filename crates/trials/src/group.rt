@@ -33,8 +33,6 @@ fn next_client<S: Store<ScriptMutators>>(
     seats: &mut Seats<ScriptMutators, S>,
     id: Uuid,
 ) -> Result<Client<ScriptMutators, S>, Refusal>
-where
-    S::Seat: Drop,
     requires { AreSeatsOf group.now.group seats.old.free }
     ensures seats { AreSeatsOf group.now.group seats.new.free }
     ensures room { IfOk result (λ _. length seats.new.free < seats.new.room) }
@@ -54,8 +52,6 @@ fn next_player<'g, S: Store<ScriptMutators> + Drop>(
     seats: &mut Seats<ScriptMutators, S>,
     id: Uuid,
 ) -> Result<Player<'g, S>, Refusal>
-where
-    S::Seat: Drop,
     requires { AreSeatsOf group.now.group seats.old.free }
     ensures { AreSeatsOf group.now.group seats.new.free }
 {
@@ -71,8 +67,6 @@ fn add_player<'g, S: Store<ScriptMutators> + Drop>(
     id: Uuid,
     players: &mut Vec<Option<Player<'g, S>>>,
 ) -> Result<(), Refusal>
-where
-    S::Seat: Drop,
     requires { AreSeatsOf group.now.group seats.old.free }
     ensures { AreSeatsOf group.now.group seats.new.free }
 {
@@ -87,8 +81,6 @@ fn players_of<'g, S: Store<ScriptMutators> + Drop>(
     seats: &mut Seats<ScriptMutators, S>,
     lines: &[ClientLine],
 ) -> Result<Vec<Option<Player<'g, S>>>, Refusal>
-where
-    S::Seat: Drop,
     requires { AreSeatsOf group.now.group seats.old.free }
     ensures { AreSeatsOf group.now.group seats.new.free }
 {
@@ -104,8 +96,6 @@ fn add_reader<S: Store<ScriptMutators> + Drop>(
     seats: &mut Seats<ScriptMutators, S>,
     readers: &mut Vec<Client<ScriptMutators, S>>,
 ) -> Result<(), Refusal>
-where
-    S::Seat: Drop,
     requires { AreSeatsOf group.now.group seats.old.free }
     ensures seats { AreSeatsOf group.now.group seats.new.free }
     ensures room { IfOk result (λ _. length seats.new.free < seats.new.room) }
@@ -120,8 +110,6 @@ fn readers_of<S: Store<ScriptMutators> + Drop>(
     group: &Group<ScriptMutators, S>,
     seats: &mut Seats<ScriptMutators, S>,
 ) -> Result<Vec<Client<ScriptMutators, S>>, Refusal>
-where
-    S::Seat: Drop,
     requires { AreSeatsOf group.now.group seats.old.free }
     ensures { AreSeatsOf group.now.group seats.new.free }
 {
@@ -136,7 +124,6 @@ where
 #[derive(Drop)]
 struct Stage<'g, S: Store<ScriptMutators>>
 where
-    S::Seat: Drop,
     S::Parts: Drop,
 {
     trial: Trial<'g>,
@@ -155,7 +142,6 @@ fn cast_of<'g, S: Store<ScriptMutators> + Drop>(
     parts: S::Parts,
 ) -> Result<(Stage<'g, S>, Vec<Client<ScriptMutators, S>>), Refusal>
 where
-    S::Seat: Drop,
     S::Parts: Drop,
     requires { AreSeatsOf group.now.group seats.free }
 {
@@ -215,7 +201,6 @@ fn commands_in<'a>(
 
 impl<'g, S: Counted> Stage<'g, S>
 where
-    S::Seat: Drop,
     S::Parts: Copy + Drop,
 {
     /// A client does a command, and says the reply; and where its looker sees another group than it should, that.
@@ -283,7 +268,6 @@ fn does_other<R, S: Counted>(
     out: &mut Said,
 )
 where
-    S::Seat: Drop,
     S::Parts: Copy + Drop,
 {
     match deed {
@@ -306,7 +290,6 @@ fn say_part<R, S: Counted>(
     out: &mut Said,
 )
 where
-    S::Seat: Drop,
     S::Parts: Copy + Drop,
 {
     if !matches!(name, "open" | "steps") {
@@ -324,10 +307,7 @@ fn does_reading<'p, R, S: Counted>(
     readers: &mut Readers<'p, S>,
     entry: &Entry<'p>,
     out: &mut Said,
-)
-where
-    S::Seat: Drop,
-{
+) {
     match entry.row.deed {
         Deed::Open(name) => readers.opens(it, name, out),
         Deed::Close(name) => readers.closes(it, name, out),
@@ -353,7 +333,6 @@ fn does<'p, R: Wait, S: Counted>(
     out: &mut Said,
 )
 where
-    S::Seat: Drop,
     S::Parts: Copy + Drop,
 {
     match (entry.row.deed, entry.asked) {
@@ -374,7 +353,6 @@ fn play_line<'p, R: Wait, S: Counted>(
     tally: &mut Tally<'_>,
 ) -> Result<(), Failed>
 where
-    S::Seat: Drop,
     S::Parts: Copy + Drop,
 {
     let mut out = Said::nothing(host.rt.alloc());
@@ -398,7 +376,6 @@ fn play_list<R: Wait, S: Counted>(
     tally: &mut Tally<'_>,
 ) -> Result<(), Failed>
 where
-    S::Seat: Drop,
     S::Parts: Copy + Drop,
 {
     let is_chosen = entries.iter().any(|entry| entry.is_chosen);
@@ -415,7 +392,6 @@ fn list_said<R, S: Counted>(
     out: &mut Said,
 ) -> Result<(), AllocError>
 where
-    S::Seat: Drop,
     S::Parts: Copy + Drop,
 {
     let (place, commands) = commands_in(it.rt.alloc(), entries)?;
@@ -486,7 +462,6 @@ fn play_at<'p, R: Wait, S: Counted>(
     tally: &mut Tally<'_>,
 ) -> Result<(), Failed>
 where
-    S::Seat: Drop,
     S::Parts: Copy + Drop,
 {
     let Line { entries, at } = line;
@@ -511,7 +486,6 @@ fn play_entries<'p, R: Wait, S: Counted>(
     tally: &mut Tally<'_>,
 ) -> Result<(), Failed>
 where
-    S::Seat: Drop,
     S::Parts: Copy + Drop,
 {
     for at in 0..entries.len() {
@@ -528,7 +502,6 @@ fn play_with<R: Wait, S: Counted>(
     tally: &mut Tally<'_>,
 ) -> Result<(), Failed>
 where
-    S::Seat: Drop,
     S::Parts: Copy + Drop,
 {
     let mut readers = Readers::new(host.rt.alloc(), clients);
@@ -543,7 +516,6 @@ fn play_part<R: Wait, S: Counted>(
     tally: &mut Tally<'_>,
 ) -> Result<(), Failed>
 where
-    S::Seat: Drop,
     S::Parts: Copy + Drop,
 {
     let alloc = host.rt.alloc();
@@ -559,7 +531,6 @@ fn play_laid_out<R: Wait, S: Counted>(
     tally: &mut Tally<'_>,
 ) -> Result<(), Failed>
 where
-    S::Seat: Drop,
     S::Parts: Copy + Drop,
 {
     let alloc = host.rt.alloc();
@@ -578,7 +549,6 @@ fn play_lines<R: Wait, S: Counted>(
     tally: &mut Tally<'_>,
 ) -> Result<(), Failed>
 where
-    S::Seat: Drop,
     S::Parts: Copy + Drop,
 {
     if !is_played(group, chosen) {
@@ -601,7 +571,6 @@ pub(crate) fn play<R: Wait, S: Counted>(
     tally: &mut Tally<'_>,
 ) -> Result<(), Failed>
 where
-    S::Seat: Drop,
     S::Parts: Copy + Drop,
 {
     let groups = trial.parts(host.rt.alloc())?;

@@ -34,8 +34,6 @@ fn add_look<S: Store<ScriptMutators>>(
     looker: &mut Client<ScriptMutators, S>,
     call: Call<'_>,
 )
-where
-    S::Seat: Drop,
     ensures { IsSameSeat looker.old.seat looker.new.seat }
 {
     let answer = looker.make_call(call, TRIES);
@@ -48,8 +46,6 @@ pub(crate) fn look<S: Store<ScriptMutators>>(
     all: &Scan,
     alloc: Global,
 ) -> Said
-where
-    S::Seat: Drop,
     ensures { IsSameSeat looker.old.seat looker.new.seat }
 {
     let mut seen = Said::nothing(alloc);

@@ -57,7 +57,6 @@ pub(crate) fn say_text<R>(it: &Turn<'_, R>, name: &str, given: &str, out: &mut S
 /// Opens a group. Whether it is opened.
 fn open<R, S: Counted>(it: &Turn<'_, R>, config: Config, parts: S::Parts) -> Result<bool, Refusal>
 where
-    S::Seat: Drop,
     S::Parts: Drop,
 {
     begins(it.rt, it.is_marked);
@@ -78,7 +77,6 @@ pub(crate) fn say_store<R, S: Counted>(
     out: &mut Said,
 )
 where
-    S::Seat: Drop,
     S::Parts: Drop,
 {
     let made = match name {

@@ -27,10 +27,7 @@ struct Named {
 
 /// A client, and what it keeps between its calls: tickets, and two watches. Another client of its ID looks at the group.
 #[derive(Drop)]
-pub(crate) struct Player<'g, S: Store<ScriptMutators>>
-where
-    S::Seat: Drop,
-{
+pub(crate) struct Player<'g, S: Store<ScriptMutators>> {
     group: &'g Group<ScriptMutators, S>,
     id: Uuid,
     client: Client<ScriptMutators, S>,
@@ -47,18 +44,12 @@ where
 
 /// The seats that are free. One is out at least, so there is room for it.
 #[derive(Drop)]
-pub(crate) struct Spare<S: Store<ScriptMutators>>
-where
-    S::Seat: Drop,
-{
+pub(crate) struct Spare<S: Store<ScriptMutators>> {
     seats: Seats<ScriptMutators, S>,
     ghost room: { length seats.free < seats.room },
 }
 
-impl<S: Store<ScriptMutators>> Spare<S>
-where
-    S::Seat: Drop,
-{
+impl<S: Store<ScriptMutators>> Spare<S> {
     pub(crate) fn new(seats: Seats<ScriptMutators, S>) -> Spare<S>
         requires { length seats.free < seats.room }
     {
@@ -127,10 +118,7 @@ impl Written {
     }
 }
 
-impl<'g, S: Store<ScriptMutators> + Drop> Player<'g, S>
-where
-    S::Seat: Drop,
-{
+impl<'g, S: Store<ScriptMutators> + Drop> Player<'g, S> {
     pub(crate) fn new(
         alloc: Global,
         group: &'g Group<ScriptMutators, S>,
@@ -434,8 +422,6 @@ fn client_again<S: Store<ScriptMutators> + Drop>(
     client: Client<ScriptMutators, S>,
     spare: &mut Spare<S>,
 ) -> Result<Client<ScriptMutators, S>, Refusal>
-where
-    S::Seat: Drop,
     requires { IsSeatOf group.now.group client.seat }
     ensures { IfOk result (λ again. IsSeatOf group.now.group again.seat) }
 {
@@ -460,8 +446,6 @@ fn polled_by<R, S: Store<ScriptMutators>>(
     named: &mut Named,
     tries: u32,
 ) -> Result<Polled, Refusal>
-where
-    S::Seat: Drop,
     requires { named.old.watch.book ≡ client.old.seat.mark.book }
     ensures watch { named.new.watch.book ≡ named.old.watch.book }
     ensures client { IsSameSeat client.old.seat client.new.seat }
@@ -479,8 +463,6 @@ fn made<R: Wait, S: Store<ScriptMutators>>(
     call: Call<'_>,
     way: Way<'_>,
 ) -> Answer
-where
-    S::Seat: Drop,
     ensures { IsSameSeat client.old.seat client.new.seat }
 {
     match (call, way.manner) {
@@ -514,10 +496,7 @@ fn bodies_of(alloc: Global, commands: &[&Command]) -> Result<Vec<Vec<u8>>, Alloc
     Ok(bodies)
 }
 
-impl<S: Counted> Player<'_, S>
-where
-    S::Seat: Drop,
-{
+impl<S: Counted> Player<'_, S> {
     /// How full the group is, as its looker finds it.
     pub(crate) fn says_counts(&mut self, alloc: Global, out: &mut Said) {
         S::say_counts(alloc, &mut self.looker, out);

@@ -14,28 +14,19 @@ use std::slice::IterMut;
 
 /// A reader under its name.
 #[derive(Drop)]
-struct Open<'p, S: Store<ScriptMutators>>
-where
-    S::Seat: Drop,
-{
+struct Open<'p, S: Store<ScriptMutators>> {
     name: &'p str,
     tx: ReadTx<'p, ScriptMutators, S>,
 }
 
 /// The readers that are open, and clients that have not read yet: each reads once.
 #[derive(Drop)]
-pub(crate) struct Readers<'p, S: Store<ScriptMutators>>
-where
-    S::Seat: Drop,
-{
+pub(crate) struct Readers<'p, S: Store<ScriptMutators>> {
     pub(crate) free: IterMut<'p, Client<ScriptMutators, S>>,
     open: Vec<Open<'p, S>>,
 }
 
-impl<'p, S: Store<ScriptMutators>> Readers<'p, S>
-where
-    S::Seat: Drop,
-{
+impl<'p, S: Store<ScriptMutators>> Readers<'p, S> {
     /// No reader yet, and clients that may read.
     pub(crate) fn new(
         alloc: Global,
@@ -103,10 +94,7 @@ fn say_asked<R, S: Store<ScriptMutators>>(
     query: &Query,
     way: Way<'_>,
     out: &mut Said,
-)
-where
-    S::Seat: Drop,
-{
+) {
     if let Query::Scan(scan) = query
         && way.manner == Manner::Into
     {
@@ -124,10 +112,7 @@ fn say_scanned<R, S: Store<ScriptMutators>>(
     tx: &ReadTx<'_, ScriptMutators, S>,
     scan: &Scan,
     out: &mut Said,
-)
-where
-    S::Seat: Drop,
-{
+) {
     let mut written = Written::nothing(it.rt.alloc());
     begins(it.rt, it.is_marked);
     let scanned = tx.scan_into(scan, &mut written);
@@ -135,10 +120,7 @@ where
     written.say(scanned, out);
 }
 
-fn asked<S: Store<ScriptMutators>>(tx: &ReadTx<'_, ScriptMutators, S>, query: &Query) -> Answer
-where
-    S::Seat: Drop,
-{
+fn asked<S: Store<ScriptMutators>>(tx: &ReadTx<'_, ScriptMutators, S>, query: &Query) -> Answer {
     match query {
         Query::Get(key) => tx.get(key.as_str()).map(Reply::Value),
         Query::Scan(scan) => tx.scan(scan).map(Reply::Rows),
@@ -151,10 +133,7 @@ where
 fn tells<S: Store<ScriptMutators>>(
     tx: &ReadTx<'_, ScriptMutators, S>,
     query: &Query,
-) -> Result<bool, Refusal>
-where
-    S::Seat: Drop,
-{
+) -> Result<bool, Refusal> {
     match query {
         Query::Has(key) => tx.has(key.as_str()),
         Query::Empty => tx.is_empty(),

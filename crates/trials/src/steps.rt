@@ -106,7 +106,6 @@ fn open_one<S: Counted>(
     parts: S::Parts,
 ) -> Result<(S, S::Seat, Head<ScriptMutators>, Mark<ScriptMutators>), Refusal>
 where
-    S::Seat: Drop,
     S::Parts: Drop,
     ensures home { IfOk result (λ made. S.home made.1 ≡ S.serves made.0) }
     ensures book { IfOk result (λ made. made.3.book ≡ made.2) }
@@ -122,7 +121,6 @@ where
 /// Opens a store, and makes each step once. Whether all are made.
 pub(crate) fn steps<R, S: Counted>(it: &Turn<'_, R>, parts: S::Parts) -> Result<bool, Refusal>
 where
-    S::Seat: Drop,
     S::Parts: Drop,
 {
     let alloc = it.rt.alloc();

@@ -4,7 +4,7 @@ use Rattle.logbook.specs.Pages.{Book}
 use Rattle.head_word.specs.declared.entry.Entry.{Entry}
 use Rattle.head_word.specs.Marks.{Known}
 use Rattle.reader_claims.specs.Seats.{ClaimsId, Seated}
-use Rattle.reader_claims.specs.declared.view.View.{View}
+use Rattle.reader_claims.specs.Deeds as deed
 use Rattle.reader_claims.specs.declared.words.Pin.TheVariants.{Absent}
 use Rattle.chunk_slots.specs.Seats.{IsIdle}
 
@@ -16,12 +16,9 @@ Knows book log mark = (mark.book ≡ book) × (mark.log ≡ log)
 abbrev pub IsReady : ClaimsId → Seated → Type 0
 IsReady claims s = (s.table ≡ claims) × IsIdle s.view
 
--- the seat withdrew no slot and retired none, and raised nothing
-abbrev pub DidNothing : View → Type 0
-DidNothing v = (v.withdrawn ≡ []) × (v.retired ≡ []) × (v.raises ≡ 0)
-
 -- the seat is of this table, with no pin, and has taken these two slots of it alone; it did nothing else to slots
 abbrev pub HasBoth : ClaimsId → ℕ → ℕ → Seated → Type 0
 HasBoth claims leaf commit s =
     (s.table ≡ claims) × (s.view.pin ≡ Absent) × (s.view.taken ≡ commit ∷ leaf ∷ []) × (leaf ≢ commit)
-    × (leaf < claims.sizes.slots) × (commit < claims.sizes.slots) × (s.view.settled ≡ []) × DidNothing s.view
+    × (leaf < claims.sizes.slots) × (commit < claims.sizes.slots) × (s.view.settled ≡ [])
+    × (s.view.deeds ≡ deed.took commit ∷ deed.took leaf ∷ [])

@@ -1,7 +1,7 @@
 -- Who is taken from a place and put there in a call.
-use Rattle.std.specs.Prelude.{◌≡◌, Bool, true, None, Some, IfSome, ⊤}
+use Rattle.std.specs.Prelude.{◌≡◌, Bool, true, None, Some, IfSome}
 use Rattle.group_history.specs.Meaning.{Meanings}
-use Rattle.commit_graph.specs.Seats.{HasLooked, IsSeatOf, Seated}
+use Rattle.commit_graph.specs.Seats.{IsSeatOf, Seated}
 use Rattle.group_steps.specs.Missing.{map_ok}
 use Rattle.rebase.specs.declared.asking.Asked.{Asked}
 use Rattle.rebase.specs.Asked.{Tells}
@@ -9,6 +9,7 @@ use Rattle.rebase.specs.Clients.{ClientState, Grouped}
 use Rattle.rebase.specs.Replies.{reply_seen}
 use Rattle.host_places.specs.declared.outcomes.Outcome.TheVariants.{Asked as AsksRun}
 use Rattle.host_places.specs.declared.sitting.Sitting.{Sitting}
+use Rattle.host_places.specs.Answers.{HasLeft}
 use Rattle.host_places.specs.Places.{PlaceState, free_place}
 use Rattle.host_places.specs.Runs.{IsBegunAt}
 use Rattle.host_places.specs.Sitting.{asking_of, client_of, seat_of}
@@ -27,6 +28,10 @@ CanSit asks means group sitting = IfSome (seat_of sitting) (IsSeatOf group.group
 abbrev pub with_sitting : {M : Type 0} → Sitting M → PlaceState → PlaceState
 with_sitting sitting p = record p { seat = seat_of sitting; client = client_of sitting; asking = asking_of sitting }
 
+-- nobody sits there, and there is no seat: who sat there was taken, and nobody was put there yet
+abbrev pub IsTakenFrom : PlaceState → Type 0
+IsTakenFrom p = (p.seat ≡ None) × (p.client ≡ None) × (p.asking ≡ None)
+
 -- who sat there was taken
 pub record IsTaken (asks : Bool) (means : Meanings) {M : Type 0} (sitting : Sitting M) (old new : PlaceState)
     : Type 0 where
@@ -38,8 +43,7 @@ pub record IsTaken (asks : Bool) (means : Meanings) {M : Type 0} (sitting : Sitt
 
 -- the client left, and its tickets and watches are given up
 abbrev pub IsLeft : ClientState → PlaceState → PlaceState → Type 0
-IsLeft client old new = (seat : Seated) × HasLooked ⊤ client.seat seat × (seat.mark ≡ client.seat.mark)
-    × (new ≡ free_place old.group seat)
+IsLeft client old new = (seat : Seated) × HasLeft client seat × (new ≡ free_place old.group seat)
 
 -- what a change came to is of this group
 abbrev pub IsStepAt : Meanings → Grouped → {M S T : Type 0} → Asked M S T → Type 0

@@ -1,11 +1,11 @@
 //! A draft's chunks written down as nodes that can be placed, children before parents.
-ghost use Rattle.std.specs.Prelude.{◌≡◌, ◌+◌, ◌<◌, ◌≤◌, ◌⊎◌, length, Some, IfOk, IfErr, OnOk, OnErr};
+ghost use Rattle.std.specs.Prelude.{◌≡◌, ◌+◌, ◌<◌, ◌≤◌, ◌⊎◌, [], ◌∷◌, length, Some, IfOk, IfErr, OnOk, OnErr};
 ghost use mathlib.Core.List.{IsPrefix};
 ghost use Rattle.group_history.specs.Refs.{stamps, stamp_of, slot_of};
 ghost use Rattle.group_history.specs.Rows.{Rows};
 ghost use Rattle.group_history.specs.Spelling.{Contents, rows_at};
 ghost use Rattle.group_history.specs.declared.refusals.Refusal.TheVariants as refusal;
-ghost use Rattle.map_chunks.specs.Drafts.{AreBelow, IsLate};
+ghost use Rattle.map_chunks.specs.Drafts.{AddsNeeded, AreBelow, IsLate};
 ghost use Rattle.map_chunks.specs.Places.{with_nodes, places_of, IsNamed, AreNamed, AddsNamed};
 ghost use Rattle.map_nodes.specs.Inside.Freezing.{IsFrozen, AreFrozen, IsLevel, AreLevel, child_places, kids_places};
 ghost use Rattle.map_nodes.specs.Nodes.{child_fresh, kids_fresh};
@@ -35,6 +35,7 @@ impl OwnNode {
             → IfOk result (λ root. IsWideAt (with_nodes contents draft.new.nodes) (stamp_of root)) }
         ensures named { OnOk result (AddsNamed draft.old.first
             (places_of self.pieces) draft.old.nodes draft.new.nodes) }
+        ensures needed { IfOk result (λ at. AddsNeeded [] (at ∷ []) draft.old draft.new) }
         ensures drafted { IfOk result (λ at. (draft.old.first ≤ stamp_of at) × (slot_of at ≡ 0)) }
         ensures below { IfOk result (λ at. stamp_of at < draft.new.first + length draft.new.nodes) }
         ensures count { OnOk result (length draft.new.nodes ≡ length draft.old.nodes + self.fresh) }
@@ -72,6 +73,7 @@ fn freeze_kids(alloc: Global, kids: Vec<OwnChild>, draft: &mut Draft) -> Result<
         kids.items ats.items) }
     ensures levels { IfOk result (λ ats. AreLevel draft.old.first draft.new.nodes kids.items ats.items) }
     ensures named { OnOk result (AddsNamed draft.old.first (kids_places kids.items) draft.old.nodes draft.new.nodes) }
+    ensures needed { IfOk result (λ ats. AddsNeeded [] ats.items draft.old draft.new) }
     ensures names { IfOk result (λ ats. AreNamed draft.old.first (kids_places kids.items) ats.items) }
     ensures below { IfOk result (λ ats. AreBelow (draft.new.first + length draft.new.nodes) ats.items) }
     ensures count { OnOk result (length draft.new.nodes ≡ length draft.old.nodes + kids_fresh kids.items) }
@@ -96,6 +98,7 @@ fn freeze_kid(alloc: Global, kid: OwnChild, draft: &mut Draft) -> Result<Ref, Re
     ensures frozen { IfOk result (IsFrozen draft.old.first draft.old.nodes draft.new.nodes kid) }
     ensures levels { IfOk result (IsLevel draft.old.first draft.new.nodes kid) }
     ensures named { OnOk result (AddsNamed draft.old.first (child_places kid) draft.old.nodes draft.new.nodes) }
+    ensures needed { IfOk result (λ at. AddsNeeded [] (at ∷ []) draft.old draft.new) }
     ensures name { IfOk result (IsNamed draft.old.first (child_places kid)) }
     ensures below { IfOk result (λ at. stamp_of at < draft.new.first + length draft.new.nodes) }
     ensures count { OnOk result (length draft.new.nodes ≡ length draft.old.nodes + child_fresh kid) }

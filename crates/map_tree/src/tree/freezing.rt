@@ -1,12 +1,12 @@
 //! A map written down as nodes.
-ghost use Rattle.std.specs.Prelude.{◌≡◌, ◌⊎◌, ◌+◌, ◌<◌, length, Some, Ok, IfOk, IfErr, OnOk, OnErr};
+ghost use Rattle.std.specs.Prelude.{◌≡◌, ◌⊎◌, ◌+◌, ◌<◌, [], ◌∷◌, length, Some, Ok, IfOk, IfErr, OnOk, OnErr};
 ghost use mathlib.Core.List.{IsPrefix};
 ghost use Rattle.group_history.specs.Map.{Entries};
 ghost use Rattle.group_history.specs.Refs.{stamps, stamp_of};
 ghost use Rattle.group_history.specs.declared.refs.Ref.{Ref as Reference};
 ghost use Rattle.group_history.specs.declared.refusals.Refusal.TheVariants as refusal;
 ghost use Rattle.group_history.specs.Spelling.{Contents, map_at};
-ghost use Rattle.map_chunks.specs.Drafts.{AreBelow, IsLate};
+ghost use Rattle.map_chunks.specs.Drafts.{AddsNeeded, AreBelow, IsLate};
 ghost use Rattle.map_chunks.specs.Places.{with_nodes, IsNamed, AddsNamed};
 ghost use Rattle.map_tree.specs.Trees.{levels_at, tree_places, tree_map, tree_fresh, tree_levels, tree_root};
 ghost use Rattle.map_tree.specs.Trees.{HasWideRoot};
@@ -38,6 +38,7 @@ impl Tree {
             → IfOk result (λ root. IsWideAt (with_nodes contents draft.new.nodes) (stamp_of root)) }
         ensures shared { (at : Reference) → tree_root self ≡ Some at → (result ≡ Ok at) × (draft.new ≡ draft.old) }
         ensures named { OnOk result (AddsNamed draft.old.first (tree_places self) draft.old.nodes draft.new.nodes) }
+        ensures needed { IfOk result (λ root. AddsNeeded [] (root ∷ []) draft.old draft.new) }
         ensures name { IfOk result (IsNamed draft.old.first (tree_places self)) }
         ensures below { IfOk result (λ root. stamp_of root < draft.new.first + length draft.new.nodes) }
         ensures count { OnOk result (length draft.new.nodes ≡ length draft.old.nodes + tree_fresh self) }

@@ -1,5 +1,5 @@
 -- One step of a publisher after the other: of its seat, and of its draft.
-use Rattle.std.specs.Prelude.{◌≡◌, ◌⊎◌, ℕ, List, [], ◌∷◌, ◌++◌, length}
+use Rattle.std.specs.Prelude.{◌≡◌, ◌≤◌, ◌⊎◌, ℕ, List, [], ◌∷◌, ◌++◌, length}
 use mathlib.Core.List.{IsPrefix}
 use Rattle.group_history.specs.declared.nodes.Node.{Node}
 use Rattle.group_history.specs.declared.refs.Ref.{Ref}
@@ -8,14 +8,13 @@ use Rattle.group_history.specs.declared.refusals.Refusal.TheVariants as refusal
 use Rattle.group_history.specs.Refs.{stamp_of}
 use Rattle.group_history.specs.Spelling.{Contents}
 use Rattle.reader_claims.specs.declared.view.View.{View}
-use Rattle.reader_claims.specs.Machine.{Moves}
 use Rattle.commit_graph.specs.Seats.{StaysHeld}
 use Rattle.publishing.specs.Stamped.{drawn_as}
-use Rattle.publishing.specs.Retiring.{SettlesAll}
 
--- the seat went from v to u as the claims table allows, and a pin that was held is held still
+-- the seat went from v to u, knows no less of the epoch, and a pin that was held is held still
 pub record Steps (v u : View) : Type 0 where
-  pub moves : Moves v u
+  pub loads : v.epoch_loads ≤ u.epoch_loads
+  pub reached : v.reached ≤ u.reached
   pub held : StaysHeld v u
 
 -- why a node gets no place, for which a slot was taken
@@ -30,8 +29,3 @@ AreDrawn from first nodes contents = (earlier : Contents) × (length earlier ≡
 -- behind the old references stands one of this stamp
 abbrev pub AddsOne : ℕ → List Ref → List Ref → Type 0
 AddsOne stamp old new = (at : Ref) × (new ≡ old ++ at ∷ []) × (stamp_of at ≡ stamp)
-
--- whenever a seat that came to know v had settled just the old references, it had settled just the new ones when it
--- came to know u
-abbrev pub KeepsSettled : View → List Ref → View → List Ref → Type 0
-KeepsSettled v old u new = (s : View) → SettlesAll s old v → SettlesAll s new u

@@ -8,7 +8,8 @@ use Rattle.reader_claims.specs.declared.view.View.{View}
 use Rattle.reader_claims.specs.Words.{pin_at, slot_at, slot_word}
 use Rattle.reader_claims.specs.Lists.{In}
 use Rattle.reader_claims.specs.Views.{reader, dealer, with_epoch, with_pin, with_read, with_raise, with_taken}
-use Rattle.reader_claims.specs.Views.{with_settled, with_withdrawn, with_retired, with_given, with_note, with_look}
+use Rattle.reader_claims.specs.Views.{with_settled, with_withdrawn, with_retired, with_missed, with_given, with_note}
+use Rattle.reader_claims.specs.Views.{with_look}
 use Rattle.reader_claims.specs.Machine.{Move, left_by}
 
 abbrev pub Sat : Type 0
@@ -40,7 +41,8 @@ abbrev pub read : Play
 read st m r n = (j : ℕ) → st.word ≡ pin_at j → Goes st m r r n (with_read m.0 j r)
 
 abbrev pub looked : Play
-looked st m r n = (i : ℕ) → st.word ≡ slot_at i → Goes st m r r n (with_look m.0 i r)
+looked st m r n = (i : ℕ) → st.word ≡ slot_at i
+    → Goes st m r r n (with_look m.0 i r) × (r ≡ slot_word (Taken m.0.number) → In m.0.taken i)
 
 -- won or lost, the epoch is then above the number that it was to be raised from
 abbrev pub raised : Play
@@ -48,12 +50,13 @@ raised st m r n = (st.second ≡ st.first + 1)
     × Goes st m r (left_by st.first st.second r) n (with_raise m.0 (max r (st.first + 1)))
     × (m.0.reached ≤ r) × (r ≤ 2 ^ 60)
 
--- where it was won the seat did not have the slot before
+-- where it was won the seat did not have the slot before; where it found its own number, it did
 abbrev pub took : Play
 took st m r n = (st.first ≡ slot_word Free) × (st.second ≡ slot_word (Taken m.0.number))
     × ((i : ℕ) → st.word ≡ slot_at i → (r ≡ st.first
     → Goes st m r st.second n (with_taken m.0 i) × (In m.0.taken i → ⊥))
-    × (r ≢ st.first → Goes st m r r n (with_note m.0 i st.first r)))
+    × (r ≢ st.first → Goes st m r r n (with_note m.0 i st.first r)
+    × (r ≡ slot_word (Taken m.0.number) → In m.0.taken i)))
 
 abbrev pub settled : Play
 settled st m r n = (st.first ≡ slot_word (Taken m.0.number)) × (st.second ≡ slot_word Live) × (r ≡ st.first)
@@ -67,7 +70,7 @@ abbrev pub retired : Play
 retired st m r n = (st.first ≡ slot_word Live) × (st.second ≡ slot_word (Retired (m.0.loaded + 1)))
     × (m.0.loaded < m.0.reached)
     × ((i : ℕ) → st.word ≡ slot_at i → (r ≡ st.first → Goes st m r st.second n (with_retired m.0 i (m.0.loaded + 1)))
-    × (r ≢ st.first → Goes st m r r n (with_note m.0 i st.first r)))
+    × (r ≢ st.first → Goes st m r r n (with_missed m.0 i r)))
 
 abbrev pub gave : Play
 gave st m r n = (st.second ≡ slot_word Free)

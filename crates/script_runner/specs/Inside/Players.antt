@@ -18,8 +18,9 @@ use Rattle.script_runner.specs.Inside.Printing.{reply_text}
 abbrev pub standing_of : {M : Type 0} → SharedClient M → ClientState
 standing_of c = record {
   caller = caller_of c.client;
-  mark = c.client.seat.mark;
+  seat = c.client.seat;
   watches = c.watches;
+  slots = c.client.group.group.table.sizes.slots;
 }
 
 abbrev pub player_of : {M : Type 0} → ScriptClient M → Player

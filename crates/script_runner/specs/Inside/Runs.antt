@@ -1,15 +1,12 @@
 -- How a script is run that was read, and how a process ends.
-use Rattle.std.specs.Prelude.{ℕ, ◌≤◌, IfSome, OnOk, Option, Result, vec_len}
+use Rattle.std.specs.Prelude.{ℕ, OnOk, Option, Result}
 use Rattle.group_history.specs.Map.{Bytes}
-use Rattle.group_history.specs.Refs.{max_seats, max_slots}
-use Rattle.push_body.specs.declared.identities.Identity.{Identity}
 use Rattle.script_parser.specs.declared.faults.Fault.{Fault}
 use Rattle.script_parser.specs.declared.faults.Fault.TheVariants as fault
-use Rattle.script_parser.specs.declared.script.Header.{Header}
 use Rattle.script_parser.specs.declared.script.Script.{Script}
 use Rattle.script_parser.specs.Context.{Context}
 use Rattle.script_parser.specs.Scripts.{IsScript}
-use Rattle.script_runner.specs.Runs.{BlamesNoScript, HasRun, HasStopped, IsWant, identity_of}
+use Rattle.script_runner.specs.Runs.{BlamesNoScript, HasRun, HasStopped, IsWant}
 
 -- What a run of a script that was read writes, to the end or until memory ended it. Its fault is none of the script.
 pub record IsRun {X : Type 0} (script : Script) (old new : Option Bytes) (result : Result X Fault) : Type 0 where

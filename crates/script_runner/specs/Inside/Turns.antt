@@ -31,7 +31,7 @@ texts_of turns = map (λ t. printed_text t.printed) turns
 
 -- all clients are of one group
 abbrev pub AreOf : {M : Type 0} → Book → List (Turn M) → Type 0
-AreOf book turns = All (λ t. (standing_of t.client.caller).mark.book ≡ book) turns
+AreOf book turns = All (λ t. (standing_of t.client.caller).seat.mark.book ≡ book) turns
 
 -- of some one
 abbrev pub AreOfOneGroup : {M : Type 0} → List (Turn M) → Type 0

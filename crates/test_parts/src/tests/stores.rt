@@ -37,10 +37,7 @@ struct Opening {
     shows: [Result<bool, StoreStop>; 6],
 }
 
-fn look_around<S: Store<Nobody>>(place: &mut Place<'_, S>) -> Result<Opening, Refusal>
-where
-    S::Seat: Drop,
-{
+fn look_around<S: Store<Nobody>>(place: &mut Place<'_, S>) -> Result<Opening, Refusal> {
     let shared = place.shared;
     let at = shared.head.load(&mut place.seat.mark);
     let store = &shared.store;
@@ -73,10 +70,7 @@ const SHOWN_AT_FIRST: [Result<bool, StoreStop>; 6] = [
 fn may_cross<T: Send + Sync>(_value: &T) {}
 
 // Whether a copy of the mark learns what is shown.
-fn learns<S: Store<Nobody>>(place: &Place<'_, S>, at: Ref) -> bool
-where
-    S::Seat: Drop,
-{
+fn learns<S: Store<Nobody>>(place: &Place<'_, S>, at: Ref) -> bool {
     let shared = place.shared;
     may_cross(&shared.head);
     may_cross(&place.seat.mark);
@@ -101,10 +95,7 @@ struct Life {
     still: Result<bool, StoreStop>,
 }
 
-fn life_of<S: Store<Nobody>>(place: &mut Place<'_, S>, alloc: Global) -> Result<Life, Refusal>
-where
-    S::Seat: Drop,
-{
+fn life_of<S: Store<Nobody>>(place: &mut Place<'_, S>, alloc: Global) -> Result<Life, Refusal> {
     let at = place.puts(alloc)?;
     let shared = place.shared;
     let store = &shared.store;
@@ -129,10 +120,7 @@ where
 fn seen_in_new<S: Store<Nobody> + Drop>(
     alloc: Global,
     parts: S::Parts,
-) -> Result<(Opening, Life), Refusal>
-where
-    S::Seat: Drop,
-{
+) -> Result<(Opening, Life), Refusal> {
     let (shared, mut seats) = opened_store::<S>(alloc, parts, 16, 1)?;
     let mut place = next_place(&shared, &mut seats)?;
     let opening = look_around(&mut place)?;
@@ -183,10 +171,7 @@ fn retires_under_reader<S: Store<Nobody>>(
     place: &mut Place<'_, S>,
     alloc: Global,
     at: Ref,
-) -> Result<(Option<Refusal>, Result<bool, StoreStop>), Refusal>
-where
-    S::Seat: Drop,
-{
+) -> Result<(Option<Refusal>, Result<bool, StoreStop>), Refusal> {
     let shared = place.shared;
     let store = &shared.store;
     let Ok(held) = store.show(at.slot(), at.stamp(), 1) else {
@@ -199,10 +184,7 @@ where
     Ok((lost, still))
 }
 
-fn reuse_of<S: Store<Nobody>>(place: &mut Place<'_, S>, alloc: Global) -> Result<Reuse, Refusal>
-where
-    S::Seat: Drop,
-{
+fn reuse_of<S: Store<Nobody>>(place: &mut Place<'_, S>, alloc: Global) -> Result<Reuse, Refusal> {
     let first = place.puts(alloc)?;
     let (lost, still) = retires_under_reader(place, alloc, first)?;
     let again = place.puts(alloc)?;
@@ -217,10 +199,7 @@ where
     })
 }
 
-fn reuse_in_new<S: Store<Nobody> + Drop>(alloc: Global, parts: S::Parts) -> Result<Reuse, Refusal>
-where
-    S::Seat: Drop,
-{
+fn reuse_in_new<S: Store<Nobody> + Drop>(alloc: Global, parts: S::Parts) -> Result<Reuse, Refusal> {
     let (shared, mut seats) = opened_store::<S>(alloc, parts, 16, 1)?;
     let mut place = next_place(&shared, &mut seats)?;
     reuse_of(&mut place, alloc)

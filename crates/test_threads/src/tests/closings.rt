@@ -13,10 +13,7 @@ const CLOSING: &str = r#"{"error":"ClientStateNotFound"}"#;
 // More than there are other calls to be lost to.
 const TRIES: u32 = 1_000;
 
-fn closes<S: Store<ScriptMutators> + Drop>(player: Player<S>) -> Answer
-where
-    S::Seat: Drop,
-{
+fn closes<S: Store<ScriptMutators> + Drop>(player: Player<S>) -> Answer {
     let mut player = player;
     pulls(&mut player.client, CLOSING, TRIES)
 }
@@ -48,10 +45,7 @@ fn count(endings: &[Answer]) -> Result<Closings, Refusal> {
 fn closings_of<R: Threads + Sync, S: Store<ScriptMutators> + Drop + Send>(
     rt: &R,
     players: Vec<Player<S>>,
-) -> Result<Closings, Refusal>
-where
-    S::Seat: Drop,
-{
+) -> Result<Closings, Refusal> {
     let endings = map_vec(rt, players, &|player| closes(player))?;
     count(&endings)
 }
@@ -62,7 +56,6 @@ fn closings_in_new<R: Threads + Sync, S: Store<ScriptMutators> + Drop + Send>(
     parts: S::Parts,
 ) -> Result<Closings, Refusal>
 where
-    S::Seat: Drop,
     S::Parts: Drop,
 {
     let players = new_players::<S>(alloc, parts, 32, &[A, B, A, B])?;
@@ -81,7 +74,6 @@ fn other_closings<R: Threads + Sync, S: Store<ScriptMutators> + Drop + Send>(
     parts: S::Parts,
 ) -> Result<Option<Closings>, Refusal>
 where
-    S::Seat: Drop,
     S::Parts: Copy,
 {
     for _ in 0..100 {

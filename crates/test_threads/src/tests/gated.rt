@@ -64,10 +64,7 @@ fn number_all<T: Drop>(alloc: Global, seats: Vec<T>) -> Result<Vec<GatedSeat<T>>
     Ok(all)
 }
 
-impl<M: Means, S: Slots<M>, H: Steps> Slots<M> for Gated<S, H>
-where
-    S::Seat: Drop,
-{
+impl<M: Means, S: Slots<M>, H: Steps> Slots<M> for Gated<S, H> {
     type Seat = GatedSeat<S::Seat>;
 
     ghost book = { λ gated. S.book gated.store };
@@ -123,10 +120,7 @@ where
     }
 }
 
-impl<M: Means, S: Store<M> + Drop, H: Steps + Drop> Store<M> for Gated<S, H>
-where
-    S::Seat: Drop,
-{
+impl<M: Means, S: Store<M> + Drop, H: Steps + Drop> Store<M> for Gated<S, H> {
     type Parts = (S::Parts, H);
 
     fn open(

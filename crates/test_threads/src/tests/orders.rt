@@ -121,10 +121,10 @@ impl Begun<'_> {
         }
     }
 
-    fn begins<S: Store<ScriptMutators>>(&mut self, client: &mut Client<ScriptMutators, S>) -> Answer
-    where
-        S::Seat: Drop,
-    {
+    fn begins<S: Store<ScriptMutators>>(
+        &mut self,
+        client: &mut Client<ScriptMutators, S>,
+    ) -> Answer {
         let ticket = client.begin_pull(TRIES)?;
         let told = Told::Value(number_in(ticket.cookie.text()));
         self.last = Some(ticket);
@@ -136,10 +136,7 @@ impl Begun<'_> {
         alloc: Global,
         client: &mut Client<ScriptMutators, S>,
         pull: Pull,
-    ) -> Answer
-    where
-        S::Seat: Drop,
-    {
+    ) -> Answer {
         let body = body_of(alloc, pull)?;
         ends(client, self.ticket(), &body, TRIES)
     }
@@ -149,10 +146,7 @@ impl Begun<'_> {
         alloc: Global,
         client: &mut Client<ScriptMutators, S>,
         call: Call,
-    ) -> Answer
-    where
-        S::Seat: Drop,
-    {
+    ) -> Answer {
         match call {
             Call::Mutate(name, args) => mutates(client, &call_of(alloc, name, args)?, TRIES),
             Call::Get(key) => gets(client, key, TRIES),
@@ -164,18 +158,12 @@ impl Begun<'_> {
     }
 }
 
-fn count_in<S: Store<ScriptMutators>>(tx: &ReadTx<'_, ScriptMutators, S>) -> Answer
-where
-    S::Seat: Drop,
-{
+fn count_in<S: Store<ScriptMutators>>(tx: &ReadTx<'_, ScriptMutators, S>) -> Answer {
     let pending = tx.pending()?;
     Ok(Told::Last(pending.len() as u64))
 }
 
-fn counts<S: Store<ScriptMutators>>(client: &mut Client<ScriptMutators, S>) -> Answer
-where
-    S::Seat: Drop,
-{
+fn counts<S: Store<ScriptMutators>>(client: &mut Client<ScriptMutators, S>) -> Answer {
     let tx = client.read(TRIES)?;
     let count = count_in(&tx);
     tx.close();
@@ -187,10 +175,7 @@ fn makes_all<S: Store<ScriptMutators>>(
     client: &mut Client<ScriptMutators, S>,
     first: &Ticket,
     steps: &mut [Step],
-) -> Result<(), Refusal>
-where
-    S::Seat: Drop,
-{
+) -> Result<(), Refusal> {
     let mut begun = Begun { first, last: None };
     for step in steps.iter_mut() {
         step.answer = Some(answered(begun.makes(alloc, client, step.call))?);
@@ -205,10 +190,7 @@ fn makes_beside<S: Store<ScriptMutators>>(
     first: &Ticket,
     steps: &mut [Step],
     come: &AtomicU64,
-) -> Result<(), Refusal>
-where
-    S::Seat: Drop,
-{
+) -> Result<(), Refusal> {
     come.fetch_add(1, SeqCst);
     for _ in 0..100_000 {
         if come.load(SeqCst) >= 2 {
@@ -455,10 +437,7 @@ fn both_make<R: AllocGlobal + Threads + Sync, S: Store<ScriptMutators> + Send>(
     b: &mut Player<S>,
     first: &Ticket,
     game: &mut Game,
-) -> Result<(), Refusal>
-where
-    S::Seat: Drop,
-{
+) -> Result<(), Refusal> {
     let alloc = rt.alloc();
     let (mut by_a, mut by_b) = (game.by_a, game.by_b);
     let come = AtomicU64::new(0);
@@ -480,10 +459,7 @@ fn played_by<R: AllocGlobal + Threads + Sync, S: Store<ScriptMutators> + Send>(
     a: &mut Player<S>,
     b: &mut Player<S>,
     game: &mut Game,
-) -> Result<(), Refusal>
-where
-    S::Seat: Drop,
-{
+) -> Result<(), Refusal> {
     let first = a.client.begin_pull(TRIES)?;
     both_make(rt, a, b, &first, game)?;
     makes_all(alloc, &mut a.client, &first, &mut game.last)
@@ -495,10 +471,7 @@ fn played<R: AllocGlobal + Threads + Sync, S: Store<ScriptMutators> + Send>(
     alloc: Global,
     players: &mut [Player<S>],
     drawn: Game,
-) -> Result<Game, Refusal>
-where
-    S::Seat: Drop,
-{
+) -> Result<Game, Refusal> {
     let mut game = drawn;
     let (a, b) = two_of(players)?;
     played_by(rt, alloc, a, b, &mut game)?;
@@ -512,7 +485,6 @@ fn game_in_new<R: AllocGlobal + Threads + Sync, S: Store<ScriptMutators> + Drop 
     drawn: Game,
 ) -> Result<Game, Refusal>
 where
-    S::Seat: Drop,
     S::Parts: Drop,
 {
     let mut players = new_players::<S>(alloc, parts, 256, &[A, B])?;
@@ -528,7 +500,6 @@ fn rounds_explained<R: AllocGlobal + Threads + Sync, S: Store<ScriptMutators> + 
     parts: S::Parts,
 ) -> Result<u32, Refusal>
 where
-    S::Seat: Drop,
     S::Parts: Copy,
 {
     let mut dice = Dice {

@@ -61,10 +61,7 @@ fn pull_other<S: Store<ScriptMutators>>(
     client: &mut Client<ScriptMutators, S>,
     cookie: u64,
     n: u64,
-) -> Result<Other, Refusal>
-where
-    S::Seat: Drop,
-{
+) -> Result<Other, Refusal> {
     let body = format!(in alloc;
         r#"{{"cookie":{cookie},"lastMutationIDChanges":{{}},"patch":[{{"op":"put","key":"n","value":{n}}}]}}"#
     )?;
@@ -76,10 +73,7 @@ fn serve_other<S: Store<ScriptMutators>>(
     client: &mut Client<ScriptMutators, S>,
     turns: &Turns<'_>,
     rounds: u64,
-) -> Result<Other, Refusal>
-where
-    S::Seat: Drop,
-{
+) -> Result<Other, Refusal> {
     for before in 0..rounds {
         let round = before.wrapping_add(1);
         turns.hears(Word::Go, round);
@@ -96,10 +90,7 @@ fn lose_other<S: Store<ScriptMutators>>(
     alloc: Global,
     client: &mut Client<ScriptMutators, S>,
     times: u64,
-) -> Result<Other, Refusal>
-where
-    S::Seat: Drop,
-{
+) -> Result<Other, Refusal> {
     let set = call_of(alloc, "set", r#"["k",1]"#)?;
     for _ in 0..times {
         let other = other_than(mutates(client, &set, 1), Err(Refusal::Moved))?;
@@ -114,10 +105,7 @@ fn fill_other<S: Store<ScriptMutators>>(
     alloc: Global,
     client: &mut Client<ScriptMutators, S>,
     times: u64,
-) -> Result<Other, Refusal>
-where
-    S::Seat: Drop,
-{
+) -> Result<Other, Refusal> {
     let incr = call_of(alloc, "incr", r#"["n",1]"#)?;
     for before in 0..times {
         let next = Ok(Told::Id(before.wrapping_add(1)));
@@ -135,10 +123,7 @@ fn read_other<S: Store<ScriptMutators>>(
     n: i64,
     says: (Word, u64),
     hears: (Word, u64),
-) -> Result<Other, Refusal>
-where
-    S::Seat: Drop,
-{
+) -> Result<Other, Refusal> {
     let tx = client.read(1)?;
     turns.says(says.0, says.1);
     let first = n_in(&tx, "n");
@@ -163,10 +148,7 @@ impl Act {
         alloc: Global,
         client: &mut Client<ScriptMutators, S>,
         turns: &Turns<'_>,
-    ) -> Result<Other, Refusal>
-    where
-        S::Seat: Drop,
-    {
+    ) -> Result<Other, Refusal> {
         match self {
             Act::Rests => Ok(None),
             Act::Hears(word, number) => {
@@ -187,10 +169,7 @@ fn first_other<S: Store<ScriptMutators>>(
     players: &mut [Player<S>],
     turns: &Turns<'_>,
     deeds: &[Deed],
-) -> Result<Other, Refusal>
-where
-    S::Seat: Drop,
-{
+) -> Result<Other, Refusal> {
     for (number, act) in deeds {
         for player in players.iter_mut() {
             if player.number == *number {
@@ -210,10 +189,7 @@ fn first_on_thread<S: Store<ScriptMutators>>(
     players: &mut [Player<S>],
     turns: &Turns<'_>,
     deeds: &[Deed],
-) -> Result<Other, Refusal>
-where
-    S::Seat: Drop,
-{
+) -> Result<Other, Refusal> {
     let other = first_other(alloc, players, turns, deeds);
     turns.ends();
     other
@@ -226,10 +202,7 @@ fn both_other<R: Threads + Sync, S: Store<ScriptMutators> + Send>(
     players: &mut [Player<S>],
     turns: &Turns<'_>,
     schedule: &Schedule,
-) -> (Result<Other, Refusal>, Result<Other, Refusal>)
-where
-    S::Seat: Drop,
-{
+) -> (Result<Other, Refusal>, Result<Other, Refusal>) {
     let (others, last) = players.split_at_mut(players.len().saturating_sub(1));
     join(
         rt,
@@ -245,10 +218,7 @@ fn others_of<R: Threads + Sync, S: Store<ScriptMutators> + Send>(
     players: &mut [Player<S>],
     turns: &Turns<'_>,
     schedule: &Schedule,
-) -> Result<[Other; 4], Refusal>
-where
-    S::Seat: Drop,
-{
+) -> Result<[Other; 4], Refusal> {
     let before = first_other(alloc, players, turns, &schedule.before)?;
     let (others, last) = both_other(rt, alloc, players, turns, schedule);
     let after = first_other(alloc, players, turns, &schedule.after)?;
@@ -263,7 +233,6 @@ fn others_in_new<R: Threads + Sync, S: Store<ScriptMutators> + Drop + Send>(
     schedule: &Schedule,
 ) -> Result<[Other; 4], Refusal>
 where
-    S::Seat: Drop,
     S::Parts: Drop,
 {
     let mut players = new_players::<S>(alloc, parts, 32, &[A, C, B])?;

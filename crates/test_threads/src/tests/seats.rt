@@ -18,10 +18,7 @@ use test_group::{
 const LAST_EPOCH: u64 = 1 << 60;
 
 // How many nodes it placed and was then shown, and how many it was not.
-fn storms<S: Store<Nobody>>(place: Place<'_, S>, alloc: Global) -> (u32, u32)
-where
-    S::Seat: Drop,
-{
+fn storms<S: Store<Nobody>>(place: Place<'_, S>, alloc: Global) -> (u32, u32) {
     let (mut place, mut good, mut bad) = (place, 0u32, 0u32);
     for _ in 0..1_000 {
         let Ok(at) = place.puts(alloc) else {
@@ -43,10 +40,7 @@ fn four_storm<R: Threads + Sync, S: Store<Nobody> + Drop>(
     rt: &R,
     alloc: Global,
     parts: S::Parts,
-) -> Result<(u32, u32), Refusal>
-where
-    S::Seat: Drop,
-{
+) -> Result<(u32, u32), Refusal> {
     let (shared, mut seats) = opened_store::<S>(alloc, parts, 16, 4)?;
     let places = places_of(alloc, &shared, &mut seats)?;
     let seen = map_vec(rt, places, &|place| storms(place, alloc))?;

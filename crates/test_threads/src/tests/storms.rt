@@ -116,10 +116,7 @@ fn mutates_all<S: Store<ScriptMutators>>(
     alloc: Global,
     client: &mut Client<ScriptMutators, S>,
     budget: &Budget,
-) -> Given
-where
-    S::Seat: Drop,
-{
+) -> Given {
     let incr = call_of(alloc, "incr", r#"["n",1]"#)?;
     let mut answers = NONE;
     for _ in 0..MOST_CALLS {
@@ -193,10 +190,7 @@ impl Server {
         &mut self,
         alloc: Global,
         client: &mut Client<ScriptMutators, S>,
-    ) -> Answer
-    where
-        S::Seat: Drop,
-    {
+    ) -> Answer {
         let body = self.responds(alloc)?;
         let answer = pulls(client, &body, TRIES);
         if answer.is_ok() {
@@ -211,10 +205,7 @@ impl Server {
         &mut self,
         alloc: Global,
         client: &mut Client<ScriptMutators, S>,
-    ) -> Answer
-    where
-        S::Seat: Drop,
-    {
+    ) -> Answer {
         let push = client.push_body(TRIES)?;
         self.counts_all(alloc, &push)?;
         self.serves(alloc, client)
@@ -226,10 +217,7 @@ fn pulls_all<S: Store<ScriptMutators>>(
     alloc: Global,
     client: &mut Client<ScriptMutators, S>,
     budget: &Budget,
-) -> Given
-where
-    S::Seat: Drop,
-{
+) -> Given {
     let mut server = Server {
         greatest: [0; 4],
         n: 0,
@@ -247,19 +235,15 @@ where
     Ok(answers)
 }
 
-fn left_in<S: Store<ScriptMutators>>(tx: &ReadTx<'_, ScriptMutators, S>) -> Result<Left, Refusal>
-where
-    S::Seat: Drop,
-{
+fn left_in<S: Store<ScriptMutators>>(tx: &ReadTx<'_, ScriptMutators, S>) -> Result<Left, Refusal> {
     let n = n_in(tx, "n")?;
     let pending = tx.pending()?;
     Ok((n, pending.len()))
 }
 
-fn reads<S: Store<ScriptMutators>>(client: &mut Client<ScriptMutators, S>) -> Result<Left, Refusal>
-where
-    S::Seat: Drop,
-{
+fn reads<S: Store<ScriptMutators>>(
+    client: &mut Client<ScriptMutators, S>,
+) -> Result<Left, Refusal> {
     let tx = client.read(TRIES)?;
     let left = left_in(&tx);
     tx.close();
@@ -272,10 +256,7 @@ fn storms<S: Store<ScriptMutators> + Drop>(
     alloc: Global,
     player: Player<S>,
     budget: &Budget,
-) -> Given
-where
-    S::Seat: Drop,
-{
+) -> Given {
     let Player { number, mut client } = player;
     let given = if number == 0 {
         pulls_all(alloc, &mut client, budget)
@@ -292,10 +273,7 @@ where
 const N_IS_0: &str =
     r#"{"cookie":1,"lastMutationIDChanges":{},"patch":[{"op":"put","key":"n","value":0}]}"#;
 
-fn first_pulls<S: Store<ScriptMutators>>(players: &mut [Player<S>]) -> Answer
-where
-    S::Seat: Drop,
-{
+fn first_pulls<S: Store<ScriptMutators>>(players: &mut [Player<S>]) -> Answer {
     match players.first_mut() {
         Some(player) => pulls(&mut player.client, N_IS_0, 1),
         None => Err(Refusal::NoSeat),
@@ -321,10 +299,7 @@ fn storm_of<R: Threads + Sync, S: Store<ScriptMutators> + Drop + Send>(
     rt: &R,
     alloc: Global,
     players: Vec<Player<S>>,
-) -> Result<(u64, Answers), Refusal>
-where
-    S::Seat: Drop,
-{
+) -> Result<(u64, Answers), Refusal> {
     let budget = Budget {
         made: AtomicU64::new(0),
     };
@@ -338,7 +313,6 @@ fn storm_in_new<R: Threads + Sync, S: Store<ScriptMutators> + Drop + Send>(
     parts: S::Parts,
 ) -> Result<(u64, Answers), Refusal>
 where
-    S::Seat: Drop,
     S::Parts: Drop,
 {
     let mut players = new_players::<S>(alloc, parts, 64, &[E, A, B, C, D])?;

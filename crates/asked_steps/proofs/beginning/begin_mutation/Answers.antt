@@ -1,4 +1,4 @@
-use Rattle.std.proofs.Common.{◌≡◌, List, ◌∷◌, reverse, IsSome, refl, rules, sym, ap, subst, ◌∙◌}
+use Rattle.std.proofs.Common.{◌≡◌, List, [], ◌∷◌, reverse, IsSome, refl, rules, sym, ap, subst, ◌∙◌}
 use Rattle.group_history.specs.declared.mutations.Mutation.{Mutation}
 use Rattle.group_history.specs.Refs.{stamp_of}
 use Rattle.group_history.specs.Spelling.{Contents, map_at}
@@ -12,6 +12,7 @@ use Rattle.replays.specs.declared.tips.Tip.{Tip}
 use Rattle.group_steps.specs.Places.{state_at}
 use Rattle.group_steps.proofs.Drafting.{behind_none}
 use Rattle.asked_steps.specs.Runs.{drafted}
+use Rattle.map_chunks.proofs.NeededLemmas.{needed_begun}
 use Rattle.asked_steps.proofs.beginning.begin_mutation.Goals as goal
 
 pub returns-clause-step : goal.returns-clause-step
@@ -26,6 +27,8 @@ returns-clause-step g c =
       record {
         leads = record {
           first = sym c.requires.spot.drawn ∙ sym (ap (λ (d : Drafted). d.first) e.draft);
+          needed = needed_begun (run.chain.tip.commit ∷ []) run.chain.tip.commit c.args.spot.first run.chain.draft
+              run.chain.draft e.draft (λ others h. h);
           state = s;
           tip = tip;
           opened = c.requires.spot.opened;

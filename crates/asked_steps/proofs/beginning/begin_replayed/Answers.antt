@@ -33,6 +33,7 @@ returns-clause-step g c last =
     (ended_open s ticket.text pull c.requires.spot.opened ∙ c.requires.applied, c.in_ok-confirmed.ensures.in_range)
     (subst (λ (xs : List Mutation). Leads means cs (after_pull s pull) c.in_ok-chain.chain xs) (sym order) (record {
       first = sym c.requires.spot.drawn ∙ sym c.in_ok-chain.ensures.first;
+      needed = c.in_ok-chain.ensures.needed;
       state = start;
       tip = c.in_ok-chain.ensures.tip;
       opened = refl;

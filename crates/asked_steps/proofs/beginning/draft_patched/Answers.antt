@@ -1,4 +1,4 @@
-use Rattle.std.proofs.Common.{◌≡◌, IsSome, refl, sym, ap, subst, ◌∙◌}
+use Rattle.std.proofs.Common.{◌≡◌, [], IsSome, refl, sym, ap, subst, ◌∙◌}
 use Rattle.group_history.specs.Map.{patched}
 use Rattle.group_history.specs.Refs.{stamp_of}
 use Rattle.group_history.specs.Spelling.{Contents, map_at}
@@ -9,6 +9,7 @@ use Rattle.map_chunks.specs.Places.{with_nodes}
 use Rattle.replays.specs.Chaining.{HasTip}
 use Rattle.group_steps.specs.Places.{state_at}
 use Rattle.group_steps.proofs.Drafting.{behind_none}
+use Rattle.map_chunks.proofs.NeededLemmas.{needed_begun}
 use Rattle.asked_steps.proofs.beginning.draft_patched.Goals as goal
 
 pub add_patched-requires-clause-map : goal.add_patched-requires-clause-map
@@ -30,3 +31,7 @@ returns-clause-tip g c =
       state = pulled_state (patched s.pulled pull.patch) pull.cookie c.args.confirmed;
       read = patched s.pulled pull.patch;
     })) c.nodes.ensures.nodes (c.in_ok-tip.ensures.tip s.pulled there)
+
+pub returns-clause-needed : goal.returns-clause-needed
+returns-clause-needed g c = needed_begun [] c.in_ok-tip.tip.commit c.args.spot.first c.new-draft.result
+    c.add_patched.new.draft c.new-draft.ensures c.in_ok-tip.ensures.needed

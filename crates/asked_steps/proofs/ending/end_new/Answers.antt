@@ -1,4 +1,4 @@
-use Rattle.std.proofs.Common.{◌≡◌, ◌≤◌, true, Ok, Some, refl, sym, ap, subst, ◌∙◌}
+use Rattle.std.proofs.Common.{◌≡◌, ◌≤◌, [], true, Ok, Some, refl, sym, ap, subst, ◌∙◌}
 use Rattle.std.proofs.lemmas.Result.{err_from_is_err_and}
 use Rattle.group_history.specs.declared.changes.Change.TheVariants.{Mutated}
 use Rattle.group_history.specs.declared.mutations.Mutation.{Mutation}
@@ -58,6 +58,7 @@ returns-clause-step g c =
         some = c.in_ok-after.ensures.some;
         new = subst (λ n. n ≤ stamp_of c.in_ok-after.after.commit) (sym c.add_local.ensures.first)
             c.in_ok-after.ensures.new;
+        needed = c.in_ok-after.ensures.needed [] c.requires.run.leads.needed;
         kind = refl;
         accepted = accepted_next means s x last j.2.own reply j.2.initial;
         then = spelled.0 ∙ ap (λ (y : Mutation). Some (shape y tree.0)) j.0 ∙ ap (λ (r : Entries). Some (shape x r)) read;

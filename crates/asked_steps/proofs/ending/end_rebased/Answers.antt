@@ -1,4 +1,4 @@
-use Rattle.std.proofs.Common.{◌≡◌, ◌≤◌, ◌++◌, List, ◌∷◌, reverse, refl, sym, ap, subst, ◌∙◌}
+use Rattle.std.proofs.Common.{◌≡◌, ◌≤◌, ◌++◌, List, [], ◌∷◌, reverse, refl, sym, ap, subst, ◌∙◌}
 use Rattle.std.proofs.lemmas.Result.{err_from_is_err_and}
 use Rattle.group_history.specs.declared.changes.Change.TheVariants.{Pulled}
 use Rattle.group_history.specs.declared.mutations.Mutation.{Mutation}
@@ -56,6 +56,7 @@ returns-clause-step g c =
     (ap (λ (p : Place). p.commit) c.at.view_is) (c.next_step.ensures.step means cs s c.args.last c.args.ticket.now c.args.pull.now c.requires.run.judged.0
     (record {
       first = l.first ∙ sym first;
+      needed = c.in_ok-tip.ensures.needed [] l.needed;
       state = after_mutate t x;
       tip = tip;
       opened = l.opened;

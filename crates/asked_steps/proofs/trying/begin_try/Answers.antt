@@ -14,7 +14,7 @@ pub returns-in-Err-clause-told : goal.returns-in-Err-clause-told
 returns-in-Err-clause-told g c before i =
     let e = c.in-Err.ensures in
     refused_since g.M.Means.means g.S.Slots.reused c.args.tries before c.args.seat.now c.pin_and_load_both.new.seat
-    c.args.lost c.args.request.now.before.id c.args.request.now.change.now c.in-Err.e i e.looked e.moves e.busy
+    c.args.lost c.args.request.now.before.id c.args.request.now.change.now c.in-Err.e i e.looked e.busy
 
 pub returns-in-Run-clause-told : goal.returns-in-Run-clause-told
 returns-in-Run-clause-told g c before i =
@@ -22,19 +22,19 @@ returns-in-Run-clause-told g c before i =
     let a = c.in-Ok.arrival in
     subst (λ (t : Seated). IsArrivedSince means reused before c.args.lost a.seen.log t) (sym c.in-Run.ensures.turn.0)
     (arrived_since means reused before c.args.seat.now c.pin_and_load_both.new.seat c.args.lost a.seen.log a.base a.first
-    i e.arrived e.looked e.moves)
+    i e.arrived e.looked)
 
 pub returns-in-Ended-clause-told : goal.returns-in-Ended-clause-told
 returns-in-Ended-clause-told g c before i =
     let e = c.in-Ok.ensures in let a = c.in-Ok.arrival in
     c.in-Ended.ensures.told before c.args.lost (arrived_since g.M.Means.means g.S.Slots.reused before c.args.seat.now
-    c.pin_and_load_both.new.seat c.args.lost a.seen.log a.base a.first i e.arrived e.looked e.moves)
+    c.pin_and_load_both.new.seat c.args.lost a.seen.log a.base a.first i e.arrived e.looked)
 
 pub returns-in-Lost-clause-told : goal.returns-in-Lost-clause-told
 returns-in-Lost-clause-told g c before i =
     let e = c.in-Ok.ensures in let a = c.in-Ok.arrival in
     c.in-Lost.ensures.told before c.args.lost (arrived_since g.M.Means.means g.S.Slots.reused before c.args.seat.now
-    c.pin_and_load_both.new.seat c.args.lost a.seen.log a.base a.first i e.arrived e.looked e.moves)
+    c.pin_and_load_both.new.seat c.args.lost a.seen.log a.base a.first i e.arrived e.looked)
 
 pub returns-in-Run-clause-first : goal.returns-in-Run-clause-first
 returns-in-Run-clause-first g c = (omega arith, c.in-Run.ensures.first)

@@ -1,4 +1,5 @@
-use Rattle.std.proofs.Common.{sym, subst, ◌∙◌}
+use Rattle.std.proofs.Common.{ap, sym, subst, ◌∙◌}
+use Rattle.reader_claims.specs.declared.view.View.{View}
 use Rattle.group_history.specs.Record.{after}
 use Rattle.head_word.specs.Books.{record_of}
 use Rattle.reader_claims.specs.Seats.{ClaimsId}
@@ -18,7 +19,7 @@ returns-clause-told g c before lost a =
     (sym c.turn_of.ensures)
     (tried_since means reused c.args.tries before mid done new lost request.before.id request.change.now
     c.args.arrival.now.seen.log c.args.arrival.now.base r c.requires.stands.stood a e.seat
-    c.unpin.ensures.looked c.unpin.ensures.moves c.unpin.ensures.mark e.tried e.err e.cause
+    c.unpin.ensures.looked c.unpin.ensures.view c.unpin.ensures.mark e.tried e.err e.cause
     (λ again. subst (λ (t : ClaimsId). Frees t.sizes.slots mid done (change_tried request.change.now r))
     (sym c.requires.reading.0.1 ∙ a.same.table) (e.frees again)))
 
@@ -31,7 +32,10 @@ returns-clause-turn g c =
     (sym c.turn_of.ensures)
     (turn_ended means reused mid done new c.args.arrival.now.base s request.before.id request.change.now
     c.make_there-tried.result c.unpin.ensures.mark
-    (λ again. (c.unpin.ensures.unpinned again, (c.unpin.ensures.looked.calm again).0 ∙ e.none again)) e.tried)
+    (λ again. (
+      ap (λ (v : View). v.pin) (c.unpin.ensures.view again),
+      (c.unpin.ensures.looked.calm again).taken ∙ e.none again,
+    )) e.tried)
 
 pub returns-clause-none : goal.returns-clause-none
 returns-clause-none g c = subst (λ (t : Turn). NeedsNone t) (sym c.turn_of.ensures) (needs_none c.make_there-tried.result)

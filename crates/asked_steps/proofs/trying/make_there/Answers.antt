@@ -6,17 +6,16 @@ use Rattle.group_history.specs.Record.{after}
 use Rattle.head_word.specs.Books.{next_stamp, record_of}
 use Rattle.map_chunks.specs.Drafts.{IsLate}
 use Rattle.answered.specs.Trying.{IsUnproposed}
-use Rattle.publishing.specs.Retiring.{none}
 use Rattle.group_steps.specs.Missing.{IsStop}
 use Rattle.group_steps.specs.Proposing.{asked_reply, change_asked}
-use Rattle.group_steps.proofs.Giving.{cause_unproposed}
+use Rattle.group_steps.proofs.Giving.{cause_unproposed, gives_none}
 use Rattle.asked_steps.proofs.trying.make_there.Goals as goal
 
 pub returns-in-Ok-None-clause-frees : goal.returns-in-Ok-None-clause-frees
-returns-in-Ok-None-clause-frees g c r = none c.args.seat.now.view
+returns-in-Ok-None-clause-frees g c r = gives_none c.args.group.now.shared.table.sizes.slots c.args.seat.now.view
 
 pub returns-in-Err-clause-frees : goal.returns-in-Err-clause-frees
-returns-in-Err-clause-frees g c r = none c.args.seat.now.view
+returns-in-Err-clause-frees g c r = gives_none c.args.group.now.shared.table.sizes.slots c.args.seat.now.view
 
 pub returns-in-Err-clause-cause : goal.returns-in-Err-clause-cause
 returns-in-Err-clause-cause g c =

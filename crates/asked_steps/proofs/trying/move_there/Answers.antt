@@ -8,6 +8,7 @@ use Rattle.group_history.proofs.RecordLaws.{record_laws_hold}
 use Rattle.head_word.specs.Books.{drawn, record_of}
 use Rattle.answered.specs.Trying.{IsBase, IsWon}
 use Rattle.group_steps.specs.Proposing.{IsProposalFor}
+use Rattle.group_steps.proofs.Giving.{drawn_grown, lacks_room}
 use Rattle.group_steps.proofs.Trying.{has_last}
 use Rattle.asked_steps.proofs.trying.move_there.Goals as goal
 
@@ -41,3 +42,16 @@ returns-in-Ok-Some-clause-tried g c =
       has_last means (drawn old.log) (drawn new.log) c.in-Ok-Some.at s before change bits ids c.requires.asks proposed.0
           won.1,
     )
+
+pub returns-in-Err-clause-cause : goal.returns-in-Err-clause-cause
+returns-in-Err-clause-cause g c =
+    let means = g.M.Means.means in let seat = c.args.seat.now in let new = c.move_head.new.seat in
+    let change = c.args.request.now.change.now in let s = after (record_of c.args.arrival.now.seen.log) in
+    let e = c.in-Err.ensures in let (asked, leads) = c.requires.proposed in
+    record {
+      asked = λ full. asked;
+      room = λ r full. lacks_room means s change seat new c.args.group.now.shared.table c.args.proposal
+          (drawn_grown seat.mark.log new.mark.log e.seat.later.seen) c.requires.reading.0.1 leads (e.full r full);
+      busy = e.busy;
+      stamps = e.late;
+    }

@@ -7,11 +7,10 @@ use Rattle.group_history.specs.Refs.{stamp_of}
 use Rattle.group_history.specs.Spelling.{Spells}
 use Rattle.head_word.specs.Books.{drawn, record_of}
 use Rattle.answered.specs.Trying.{IsBase, IsUnproposed, IsWon}
-use Rattle.publishing.specs.Retiring.{none}
 use Rattle.group_steps.specs.Missing.{IsStop}
 use Rattle.group_steps.specs.Places.{Place, state_at}
 use Rattle.group_steps.specs.Proposing.{IsProposalFor, MayPropose, asked_reply, change_asked}
-use Rattle.group_steps.proofs.Giving.{cause_unproposed}
+use Rattle.group_steps.proofs.Giving.{cause_unproposed, drawn_grown, gives_none, lacks_room}
 use Rattle.group_steps.proofs.Trying.{has_last}
 use Rattle.map_chunks.specs.Drafts.{IsLate}
 use Rattle.group_steps.proofs.changing.change_at.Goals as goal
@@ -56,10 +55,10 @@ returns-in-Ok-Some-move_head-clause-tried g c =
     )
 
 pub returns-in-Ok-None-clause-frees : goal.returns-in-Ok-None-clause-frees
-returns-in-Ok-None-clause-frees g c r = none c.args.seat.now.view
+returns-in-Ok-None-clause-frees g c r = gives_none c.args.group.now.shared.table.sizes.slots c.args.seat.now.view
 
 pub returns-in-Err-clause-frees : goal.returns-in-Err-clause-frees
-returns-in-Err-clause-frees g c r = none c.args.seat.now.view
+returns-in-Err-clause-frees g c r = gives_none c.args.group.now.shared.table.sizes.slots c.args.seat.now.view
 
 pub returns-in-Err-clause-cause : goal.returns-in-Err-clause-cause
 returns-in-Err-clause-cause g c =
@@ -69,3 +68,20 @@ returns-in-Err-clause-cause g c =
     (subst (λ (q : Place). IsUnproposed (IsStop g.S.Slots.reused) (change_asked change)
     (asked_reply means (state_at q) last change) c.in-Err.e) c.new-at.ensures.place c.in-Err.ensures.err)
     (λ is. subst IsLate c.requires.first (c.in-Err.ensures.late is))
+
+pub returns-in-Err-move_head-clause-cause : goal.returns-in-Err-move_head-clause-cause
+returns-in-Err-move_head-clause-cause g c =
+    let means = g.M.Means.means in let seat = c.args.seat.now in let new = c.move_head.new.seat in
+    let change = c.args.request.now.change.now in let last = c.args.request.now.before.id in
+    let p = c.in-Ok-Some.proposal in let s = after (record_of c.args.arrival.now.seen.log) in
+    let at = c.new-at.result in let e = c.in-Err-move_head.ensures in
+    let (asked, leads) = subst (λ (q : Place). MayPropose means (drawn q.mark.log) q.commit (state_at q) last change (Some p))
+    c.new-at.ensures.place (subst (MayPropose means (drawn at.mark.log) at.commit (state_at at) last change)
+    c.in-Ok-Some.field-0-is c.in-Ok-Some.ensures.proposed) in
+    record {
+      asked = λ full. asked;
+      room = λ r full. lacks_room means s change seat new c.args.group.now.shared.table p
+          (drawn_grown seat.mark.log new.mark.log e.seat.later.seen) c.requires.reading.0.1 leads (e.full r full);
+      busy = e.busy;
+      stamps = e.late;
+    }

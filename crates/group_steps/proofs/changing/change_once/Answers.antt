@@ -1,4 +1,4 @@
-use Rattle.std.proofs.Common.{Option, Result, sym, subst}
+use Rattle.std.proofs.Common.{Result, sym, subst}
 use Rattle.std.proofs.lemmas.Result.{err_from_is_err_and}
 use mathlib.Core.List.{IsPrefix}
 use Rattle.group_history.specs.declared.refusals.Refusal.{Refusal}
@@ -9,7 +9,7 @@ use Rattle.group_steps.specs.Arriving.{when_seen}
 use Rattle.group_steps.specs.Changing.{AnswersTry, change_tried}
 use Rattle.group_steps.specs.Leaving.{Frees}
 use Rattle.group_steps.specs.declared.changing.Tried.{Tried}
-use Rattle.group_steps.proofs.Giving.{cause_arrived, frees_since, frees_then, gives_kept}
+use Rattle.group_steps.proofs.Giving.{cause_arrived, frees_since, frees_then, gives_calm}
 use Rattle.group_steps.proofs.Trying.{may_ask_grown, try_answered}
 use Rattle.group_steps.proofs.changing.change_once.Goals as goal
 
@@ -35,7 +35,7 @@ returns-in_err-arrival-clause-frees g c r =
     let mid = c.pin_and_load_both.new.seat in let e = c.pin_and_load_both.ensures in
     let p = err_from_is_err_and c.from_residual.result c.from_residual.ensures.1 in
     subst (λ (w : Result Tried Refusal). Frees slots old mid (change_tried c.args.request.now.change.now w)) (sym p.1)
-    (gives_kept slots old.view mid.view (e.moves r) (e.looked.calm r).1)
+    (gives_calm slots old.view mid.view (e.looked.calm r))
 
 pub returns-clause-cause : goal.returns-clause-cause
 returns-clause-cause g c =
@@ -48,8 +48,8 @@ returns-clause-cause g c =
     (prefix_trans seen mid.mark.log done.mark.log a.since c.change_at-tried.ensures.seat.later.seen) in
     if_err_then c.change_at-tried.result c.change_at-tried.ensures.cause (λ e h.
     cause_arrived means reused last change old mid done new seen e a.point.since until
-    c.pin_and_load_both.ensures.looked.seat.table c.pin_and_load_both.ensures.moves c.unpin.ensures.moves
-    c.unpin.ensures.mark h)
+    c.pin_and_load_both.ensures.looked.seat.table (λ r. (c.pin_and_load_both.ensures.looked.calm r).loads)
+    c.unpin.ensures.view c.unpin.ensures.mark h)
 
 pub returns-clause-frees : goal.returns-clause-frees
 returns-clause-frees g c r =
@@ -57,6 +57,5 @@ returns-clause-frees g c r =
     let last = c.unpin.ensures in
     let old = c.args.seat.now in let mid = c.pin_and_load_both.new.seat in let done = c.change_at-tried.new.seat in
     let new = c.unpin.new.seat in let o = change_tried c.args.request.now.change.now c.change_at-tried.result in
-    frees_then slots old done new o last.mark (gives_kept slots done.view new.view (last.moves r) (last.looked.calm r).1)
-    (frees_since slots old mid done o first.looked.seat
-    (gives_kept slots old.view mid.view (first.moves r) (first.looked.calm r).1) (c.change_at-tried.ensures.frees r))
+    frees_then slots old done new o last.mark (last.looked.calm r) (frees_since slots old mid done o first.looked.seat
+    (gives_calm slots old.view mid.view (first.looked.calm r)) (c.change_at-tried.ensures.frees r))

@@ -3,13 +3,12 @@ use Rattle.std.proofs.lemmas.Result.{err_from_is_err_and}
 use Rattle.group_history.specs.declared.refs.Ref.{Ref}
 use Rattle.group_history.specs.declared.refusals.Refusal.{Refusal}
 use Rattle.commit_graph.proofs.Seating.{seat-self, seat-trans}
-use Rattle.publishing.specs.Retiring.{none}
 use Rattle.group_steps.specs.Changing.{AnswersTry, change_tried, is_made}
 use Rattle.group_steps.specs.declared.changing.Tried.{Tried}
 use Rattle.group_steps.specs.Leaving.{Frees}
 use Rattle.group_steps.specs.Missing.{map_ok}
 use Rattle.group_steps.specs.Proposing.{asked_reply, change_asked}
-use Rattle.group_steps.proofs.Giving.{cause_since, frees_since, gives_moves}
+use Rattle.group_steps.proofs.Giving.{cause_since, frees_since, gives_none}
 use Rattle.group_steps.proofs.Trying.{answers_since, may_ask_grown}
 use Rattle.group_steps.proofs.changing.make_change.Goals as goal
 
@@ -33,7 +32,7 @@ returns-in_err-at-clause-cause g c =
     let p = err_from_is_err_and c.from_residual.result c.from_residual.ensures.1 in
     rw (p.1, p.2) (cause_since g.M.Means.means g.S.Slots.reused c.args.request.now.before.id
     c.args.request.now.change.now old mid c.change_once.new.seat _ v.seat.later.seen v.seat.table
-    (λ r. gives_moves slots old.view mid.view (v.gave r)) c.in_err-at.ensures.cause)
+    (λ r. (v.gave r).loads) c.in_err-at.ensures.cause)
 
 pub returns-in_err-at-clause-frees : goal.returns-in_err-at-clause-frees
 returns-in_err-at-clause-frees g c r =
@@ -50,7 +49,7 @@ loop-tried-init g c = record {
   own = refl;
   others = omega arith;
   none = c.requires.none;
-  gave = λ r. none c.args.seat.now.view;
+  gave = λ r. gives_none c.args.group.now.shared.table.sizes.slots c.args.seat.now.view;
   idle = λ low. absurd (omega (arith, low));
 }
 

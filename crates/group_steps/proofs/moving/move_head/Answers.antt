@@ -1,6 +1,5 @@
-use Rattle.std.proofs.Common.{◌≡◌, ◌<◌, List, Some, Option, Result, refl, sym, subst, ap, ◌∙◌}
+use Rattle.std.proofs.Common.{◌≡◌, arith, length, map, List, Some, Option, Result, sym, subst, ap, ◌∙◌}
 use Rattle.std.specs.List.{Contains}
-use Rattle.std.proofs.lemmas.List.Elements.{All-contains}
 use Rattle.std.proofs.lemmas.Result.{err_from_is_err_and}
 use Rattle.group_history.specs.declared.refs.Ref.{Ref}
 use Rattle.group_history.specs.declared.refusals.Refusal.{Refusal}
@@ -13,21 +12,22 @@ use Rattle.group_history.proofs.Lists.{prefix_trans}
 use Rattle.head_word.specs.Books.{drawn, record_of}
 use Rattle.head_word.proofs.BookLaws.{spelled-stays}
 use Rattle.reader_claims.specs.declared.slot.Kind.{Kind}
-use Rattle.reader_claims.specs.declared.view.View.{View}
 use Rattle.reader_claims.specs.Seats.{ClaimsId, kind_end}
-use Rattle.reader_claims.proofs.Moving.{moves_moves}
+use Rattle.reader_claims.specs.Deeds.{Deed}
 use Rattle.answered.specs.Trying.{Ends}
-use Rattle.answered.specs.declared.trying.Published.{Published}
-use Rattle.answered.specs.declared.trying.Published.TheVariants.{Won}
 use Rattle.answered.proofs.Losing.{point_since}
+use Rattle.publishing.proofs.Reaching.{placed-reached}
+use Rattle.commit_graph.specs.Reach.{Reaches}
+use Rattle.commit_graph.proofs.Reached.{reaches_stays}
 use Rattle.publishing.proofs.Carrying.{placed_among, placed-spelled}
-use Rattle.publishing.specs.Retiring.{Retires, none}
+use Rattle.publishing.specs.Placed.{LieBelow}
+use Rattle.publishing.specs.Retiring.{AreFreed, none}
 use Rattle.group_steps.specs.Changing.{is_made}
-use Rattle.group_steps.specs.Leaving.{Frees, RetiresWhatIsLeft}
+use Rattle.group_steps.specs.Leaving.{Frees, FreesWhatIsLeft}
 use Rattle.group_steps.specs.Missing.{map_ok}
 use Rattle.group_steps.specs.Proposing.{change_asked}
 use Rattle.group_steps.proofs.Drafting.{one_state}
-use Rattle.group_steps.proofs.Giving.{are_left_grown, drawn_grown, gives_kept, gives_up, move_since}
+use Rattle.group_steps.proofs.Giving.{are_left_grown, drawn_grown, drawn_until, gives_lost, gives_up, move_since}
 use Rattle.group_steps.proofs.moving.move_head.Goals as goal
 
 pub exchange-requires-clause-among : goal.exchange-requires-clause-among
@@ -95,32 +95,32 @@ pub returns-in_err-refs-clause-frees : goal.returns-in_err-refs-clause-frees
 returns-in_err-refs-clause-frees g c r =
     let slots = c.args.shared.now.table.sizes.slots in let old = c.args.seat.now in let mid = c.place_draft.new.seat in
     let p = err_from_is_err_and c.from_residual.result c.from_residual.ensures.1 in
+    let e = c.place_draft.ensures in
     subst (λ (w : Result (Option Ref) Refusal). Frees slots old mid (change_asked c.args.change.now (map_ok is_made w)))
-    (sym p.1) (gives_up slots old.view mid.view (c.place_draft.ensures.moves r) (c.in_err-refs.ensures.given r))
+    (sym p.1) (gives_up slots (length c.args.proposal.draft.nodes) old.view mid.view (e.loads r) (e.reached r)
+    (c.in_err-refs.ensures.given r))
 
 pub returns-in-Ok-Lost-clause-frees : goal.returns-in-Ok-Lost-clause-frees
 returns-in-Ok-Lost-clause-frees g c r =
     let slots = c.args.shared.now.table.sizes.slots in let old = c.args.seat.now.view in
     let mid = c.place_draft.new.seat in let new = c.exchange.new.seat.view in let refs = c.in_ok-refs.refs.items in
-    let what = subst (RetiresWhatIsLeft slots (drawn mid.mark.log) c.args.proposal.base c.place_of-new.result
-    c.args.change.now c.deref-2.result.now mid.view new) c.in-Ok-Lost.field-0-is (c.in-Ok-Lost.ensures.retired r) in
-    gives_up slots old new (moves_moves old mid.view new (c.place_draft.ensures.moves r) (c.exchange.ensures.moves r)) (
-      refs,
-      mid.view,
-      c.in_ok-refs.ensures.just r,
-      subst (λ (ats : List Ref). Retires slots mid.view ats new) c.deref-2.ensures.value what.2,
-    )
+    let what = subst (FreesWhatIsLeft slots (drawn mid.mark.log) c.args.proposal.base c.place_of-new.result
+    c.args.change.now c.deref-2.result.now mid.view new) c.in-Ok-Lost.field-0-is (c.in-Ok-Lost.ensures.freed r) in
+    let first = c.place_draft.ensures in let then = c.exchange.ensures in
+    gives_lost slots old mid.view new c.args.proposal.draft refs (c.in_ok-refs.ensures.placed).count (first.loads r)
+    (first.reached r) (then.loads r) (then.reached r) (c.in_ok-refs.ensures.drafted r)
+    (subst (λ (ats : List Ref). AreFreed slots new.reached (map slot_of ats) mid.view.deeds new.deeds)
+    c.deref-2.ensures.value what.2)
 
 pub returns-clause-frees : goal.returns-clause-frees
 returns-clause-frees g c r =
     let slots = c.args.shared.now.table.sizes.slots in let old = c.args.seat.now.view in
     let mid = c.place_draft.new.seat.view in let new = c.exchange.new.seat.view in
-    gives_up slots old new (moves_moves old mid new (c.place_draft.ensures.moves r) (c.exchange.ensures.moves r)) (
-      c.in_ok-refs.refs.items,
-      mid,
-      c.in_ok-refs.ensures.just r,
-      subst (λ (ats : List Ref). Retires slots mid ats new) c.deref-2.ensures.value (c.in-Err.ensures.given r),
-    )
+    let first = c.place_draft.ensures in let then = c.exchange.ensures in
+    gives_lost slots old mid new c.args.proposal.draft c.in_ok-refs.refs.items (c.in_ok-refs.ensures.placed).count
+    (first.loads r) (first.reached r) (then.loads r) (then.reached r) (c.in_ok-refs.ensures.drafted r)
+    (subst (λ (ats : List Ref). AreFreed slots new.reached (map slot_of ats) mid.deeds new.deeds)
+    c.deref-2.ensures.value (c.in-Err.ensures.given r))
 
 pub returns-in-Ok-Won-clause-frees : goal.returns-in-Ok-Won-clause-frees
 returns-in-Ok-Won-clause-frees g c r =
@@ -138,16 +138,15 @@ returns-in-Ok-Won-clause-frees g c r =
     (sym placed) spelled in
     let base = spelled-stays old.mark.log mid.mark.log c.place_draft.ensures.seat.later.seen (stamp_of p.base)
     (version_of means st) m.base in
-    let what = subst (RetiresWhatIsLeft slots (drawn mid.mark.log) p.base to change c.deref-2.result.now mid.view new.view)
-    c.in-Ok-Won.field-0-is (c.in-Ok-Won.ensures.retired r) in
+    let what = subst (FreesWhatIsLeft slots (drawn mid.mark.log) p.base to change c.deref-2.result.now mid.view new.view)
+    c.in-Ok-Won.field-0-is (c.in-Ok-Won.ensures.freed r) in
+    let first = c.place_draft.ensures in let then = c.exchange.ensures in
     let later = c.place_draft.ensures.seat.later in
     let among = placed_among (drawn old.mark.log) (drawn mid.mark.log) p.draft refs c.in_ok-refs.ensures.placed
     m.leads.contents m.leads.first p.at (version_of means (after_change st change)) m.leads.then m.leads.new in
-    let one = All-contains (λ at. slot_of at < kind_end c.args.shared.now.table.sizes p.kind) refs
-    (placed_ref p.draft.first refs p.at) (c.in_ok-refs.ensures.within r) among in
-    let here = subst (λ (at : Ref). slot_of at < kind_end c.args.shared.now.table.sizes p.kind) (sym placed) one in
-    let table = subst (λ (t : ClaimsId). slot_of to < kind_end t.sizes p.kind) (sym c.requires.reading.0.1) here in
-    let low = subst (λ (k : Kind). slot_of to < kind_end old.table.sizes k) m.leads.kind table in
+    let all = subst (λ (t : ClaimsId). LieBelow (kind_end t.sizes p.kind) refs) (sym c.requires.reading.0.1)
+    (c.in_ok-refs.ensures.within r) in
+    let low = subst (λ (k : Kind). LieBelow (kind_end old.table.sizes k) refs) m.leads.kind all in
     record {
       base = p.base;
       to = to;
@@ -157,14 +156,23 @@ returns-in-Ok-Won-clause-frees g c r =
       seen = prefix_trans m.log old.mark.log new.mark.log m.seen
           (prefix_trans old.mark.log mid.mark.log new.mark.log later.seen c.exchange.ensures.seat.later.seen);
       stood = m.stood;
-      within = low;
       left = what.0;
       are = are_left_grown (drawn mid.mark.log) (drawn new.mark.log) p.base to (version_of means st)
           (version_of means (after_change st change)) change what.0
           (drawn_grown mid.mark.log new.mark.log c.exchange.ensures.seat.later.seen) base there what.1;
-      made = mid.view;
-      freed = new.view;
-      before = gives_kept slots old.view mid.view (c.place_draft.ensures.moves r) (c.in_ok-refs.ensures.just r).1;
-      retired = what.2;
-      behind = none new.view;
+      refs = refs;
+      own = drawn_until old.mark mid.mark new.mark refs then.seat.later.seen c.in_ok-refs.ensures.drawn;
+      within = low;
+      among = subst (Contains refs) (sym placed) among;
+      needed = λ at i. reaches_stays (drawn mid.mark.log) (drawn new.mark.log) (stamp_of to) (stamp_of at)
+          (drawn_grown mid.mark.log new.mark.log then.seat.later.seen)
+          (subst (λ (r : Ref). Reaches (drawn mid.mark.log) (stamp_of r) (stamp_of at)) (sym placed)
+          (placed-reached (drawn old.mark.log) (drawn mid.mark.log) p.draft refs c.in_ok-refs.ensures.placed p.at
+          m.leads.needed at i));
+      lost = old.view.deeds;
+      gave = none;
+      freed = subst (λ (xs : List Deed). AreFreed slots new.view.reached (map slot_of what.0) xs new.view.deeds)
+          (c.in_ok-refs.ensures.drafted r) what.2;
+      loads = let x = first.loads r in let y = then.loads r in omega arith;
+      reached = let x = first.reached r in let y = then.reached r in omega arith;
     }

@@ -1,4 +1,4 @@
-use Rattle.std.proofs.Common.{◌≡◌, ◌≤◌, length, refl, sym, ap, subst, ◌∙◌}
+use Rattle.std.proofs.Common.{◌≡◌, ◌≤◌, [], ◌∷◌, refl, sym, ap, subst, ◌∙◌}
 use Rattle.group_history.specs.Refs.{stamp_of}
 use Rattle.group_history.specs.Spelling.{Contents, version_of}
 use Rattle.group_history.proofs.Lists.{prefix_self}
@@ -10,6 +10,7 @@ use Rattle.replays.proofs.BelowLemmas.{tip-behind}
 use Rattle.group_steps.specs.Places.{Place, state_at}
 use Rattle.group_steps.specs.Proposing.{closing_reply}
 use Rattle.group_steps.proofs.Drafting.{behind_none}
+use Rattle.map_chunks.proofs.NeededLemmas.{needed_begun}
 use Rattle.group_steps.proofs.proposing.propose_closing.Goals as goal
 
 pub add_closing-requires : goal.add_closing-requires
@@ -38,6 +39,8 @@ returns-clause-proposed g c last =
             (λ (d : Drafted). d.first) c.new-draft.ensures);
         some = c.in_ok-at.ensures.some;
         new = subst (λ n. n ≤ stamp_of c.in_ok-at.at) (sym c.in_ok-at.ensures.first) c.in_ok-at.ensures.new;
+        needed = needed_begun (c.args.spot.tip.commit ∷ []) c.in_ok-at.at c.args.spot.first c.new-draft.result
+            c.add_closing.new.draft c.new-draft.ensures c.in_ok-at.ensures.needed;
         kind = refl;
         accepted = c.requires.spot.opened;
         then = done;

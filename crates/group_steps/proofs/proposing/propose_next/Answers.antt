@@ -1,7 +1,6 @@
-use Rattle.std.proofs.Common.{◌≡◌, ◌≤◌, true, Ok, refl, sym, ap, subst, ◌∙◌, rules}
+use Rattle.std.proofs.Common.{◌≡◌, ◌≤◌, [], ◌∷◌, true, Ok, refl, sym, ap, subst, ◌∙◌, rules}
 use Rattle.group_history.specs.declared.changes.Change.TheVariants.{Mutated}
 use Rattle.group_history.specs.declared.mutations.Mutation.{Mutation}
-use Rattle.group_history.specs.declared.refs.Ref.{Ref}
 use Rattle.group_history.specs.Meaning.{meaning_of}
 use Rattle.group_history.specs.Mutating.{mutate_reply, by_meaning, after_mutate}
 use Rattle.group_history.specs.Refs.{stamp_of}
@@ -21,6 +20,7 @@ use Rattle.group_steps.specs.Places.{Place, state_at}
 use Rattle.group_steps.specs.Proposing.{change_asked}
 use Rattle.group_steps.proofs.Drafting.{behind_none, refused_for, told_unproposed}
 use Rattle.group_steps.proofs.Making.{reply_next, accepted_next}
+use Rattle.map_chunks.proofs.NeededLemmas.{needed_begun}
 use Rattle.group_steps.proofs.proposing.propose_next.Goals as goal
 
 pub draft_mutation-made-requires-clause-tip : goal.draft_mutation-made-requires-clause-tip
@@ -74,6 +74,8 @@ returns-in-Ok-clause-proposed g c =
             (λ (d : Drafted). d.first) c.new-draft.ensures);
         some = c.in-Ok.ensures.some;
         new = subst (λ n. n ≤ stamp_of c.in-Ok.at) (sym c.draft_mutation-made.ensures.first) c.in-Ok.ensures.new;
+        needed = needed_begun (c.args.spot.tip.commit ∷ []) c.in-Ok.at c.args.spot.first c.new-draft.result
+            c.draft_mutation-made.new.draft c.new-draft.ensures c.in-Ok.ensures.needed;
         kind = refl;
         accepted = accepted_next means t x c.args.last c.requires.own right c.requires.next.1;
         then = subst (λ (w : Contents). Spells means (with_nodes w made) (stamp_of c.in-Ok.at) (after_mutate t x))

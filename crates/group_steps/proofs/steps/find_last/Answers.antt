@@ -3,7 +3,6 @@ use Rattle.group_history.specs.Refs.{stamp_of}
 use Rattle.head_word.specs.Books.{drawn}
 use Rattle.head_word.specs.Marks.{Known}
 use Rattle.commit_graph.specs.LastIds.{last_at}
-use Rattle.commit_graph.specs.Seats.{Seated}
 use Rattle.group_steps.specs.Places.{Place}
 use Rattle.group_steps.proofs.Finding.{last_grown}
 use Rattle.group_steps.proofs.steps.find_last.Goals as goal

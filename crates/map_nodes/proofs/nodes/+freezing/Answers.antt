@@ -26,11 +26,13 @@ use Rattle.map_nodes.proofs.FreezeLemmas.{high-within}
 use Rattle.map_nodes.proofs.FreezeLevels.{all_level-later, all_level-one, inner_level, leaf_level, placed_level}
 use Rattle.std.specs.List.{Contains}
 use Rattle.map_chunks.proofs.AnswerLemmas.{on_ok}
-use Rattle.map_chunks.specs.Drafts.{AreBelow}
+use Rattle.map_chunks.specs.Drafts.{AddsNeeded, AreBelow}
 use Rattle.map_chunks.proofs.DraftLemmas.{pushed-below}
 use Rattle.map_nodes.proofs.BelowLemmas.{kid-below, below-one, inner-below, pushed-grown}
 use Rattle.map_nodes.proofs.NamedLemmas.{adds-none, adds-one, kid-added, kid-named, places-kids, inner-named}
 use Rattle.map_nodes.proofs.NamedLemmas.{drafted-named}
+use Rattle.map_chunks.proofs.NeededLemmas.{adds_next, adds_one, adds_same}
+use Rattle.map_nodes.proofs.NeededLemmas.{needed_inner}
 use Rattle.map_nodes.proofs.nodes.+freezing.Goals as goal
 use Rattle.map_chunks.proofs.ListLemmas.{length-paired}
 
@@ -243,6 +245,9 @@ freezing::freeze_kids-loop-kid-preserved t c =
           c.loop-kid.invariant.levels) level);
       named = kid-added first done kid old mid new c.loop-kid.invariant.named
           (subst (λ n. AddsNamed n (child_places kid) mid new) c.loop-kid.invariant.first c.in_ok-at.ensures.named);
+      needed = subst (λ ats. AddsNeeded [] ats c.args.draft.now c.freeze_kid.new.draft) (sym c.in_ok-push.ensures.items)
+          (adds_next c.loop-kid.children.items c.in_ok-at.at c.args.draft.now c.loop-kid.draft c.freeze_kid.new.draft
+          c.loop-kid.invariant.needed c.in_ok-at.ensures.needed);
       below = subst (AreBelow (c.freeze_kid.new.draft.first + length new)) (sym c.in_ok-push.ensures.items)
           (below-one (c.loop-kid.draft.first + length mid)
           (c.freeze_kid.new.draft.first + length new) c.loop-kid.children.items c.in_ok-at.at
@@ -328,6 +333,29 @@ OwnNode::freeze-returns-in-Inner-clause-drafted t c =
 pub freezing::freeze_kid-returns-in-Placed-clause-named : goal.freezing::freeze_kid-returns-in-Placed-clause-named
 freezing::freeze_kid-returns-in-Placed-clause-named t c = adds-none c.args.draft.now.first
     (child_places c.args.kid) c.args.draft.now.nodes
+
+pub OwnNode::freeze-returns-in-Leaf-clause-needed : goal.OwnNode::freeze-returns-in-Leaf-clause-needed
+OwnNode::freeze-returns-in-Leaf-clause-needed t c = if_ok c.push.result c.push.ensures.stamp c.push.ensures.ok
+    (λ at k o. adds_one c.args.draft.now c.push.new.self (node.Chunk (chunked.Leaf c.new-leaf.result)) at k.0 o)
+
+pub OwnNode::freeze-returns-in-Inner-clause-needed : goal.OwnNode::freeze-returns-in-Inner-clause-needed
+OwnNode::freeze-returns-in-Inner-clause-needed t c =
+    let depth = c.self.inside.depth in
+    let texts = c.self.inside.keys.texts in
+    let kids = c.in-Inner.kids.items in
+    let ats = c.in_ok-children-in-Inner.children.items in
+    let inv : IsNode depth texts (Inner c.in-Inner.kids) = subst (IsNode depth texts) c.in-Inner.is c.self.invariant in
+    let inner : c.new-inner.result ≡ paired texts ats = c.new-inner.ensures ∙ ap
+    (λ w. paired w ats) c.in_ok-keys.ensures in
+    let long : length ats ≡ length texts = frozen-length _ _ _ kids ats
+    c.in_ok-children-in-Inner.ensures.frozen ∙ inv.1.2 in
+    if_ok c.push-in-Inner.result c.push-in-Inner.ensures.stamp c.push-in-Inner.ensures.ok (λ at k o.
+    needed_inner c.args.draft.now c.freeze_kids.new.draft c.push-in-Inner.new.self texts ats c.new-inner.result at long
+    inner c.in_ok-children-in-Inner.ensures.needed k.0 o)
+
+pub freezing::freeze_kid-returns-in-Placed-clause-needed : goal.freezing::freeze_kid-returns-in-Placed-clause-needed
+freezing::freeze_kid-returns-in-Placed-clause-needed t c = adds_same [] (c.in-Placed.at ∷ []) c.args.draft.now
+    (λ r i. absurd (no_element r i))
 
 pub freezing::freeze_kid-returns-in-Placed-clause-name : goal.freezing::freeze_kid-returns-in-Placed-clause-name
 freezing::freeze_kid-returns-in-Placed-clause-name t c = inl

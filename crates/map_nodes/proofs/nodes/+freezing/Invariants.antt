@@ -1,8 +1,8 @@
-use Rattle.std.proofs.Common.{◌≡◌, ◌+◌, ◌++◌, length}
+use Rattle.std.proofs.Common.{◌≡◌, ◌+◌, ◌++◌, [], length}
 use mathlib.Core.List.{IsPrefix}
 use Rattle.std.specs.Vec.Iter.{into_iter_items}
 use Rattle.map_nodes.specs.Inside.Freezing.{kids_places, AreFrozen, AreLevel}
-use Rattle.map_chunks.specs.Drafts.{AreBelow}
+use Rattle.map_chunks.specs.Drafts.{AddsNeeded, AreBelow}
 use Rattle.map_chunks.specs.Places.{AreNamed, AddsNamed}
 use Rattle.map_nodes.specs.Nodes.{kids_fresh, child_height, kids_height}
 use Rattle.map_nodes.proofs.nodes.+freezing.Given as goal
@@ -28,6 +28,7 @@ invariant-freezing::freeze_kids-loop-kid l =
       frozen : AreFrozen l.fn.draft.first l.fn.draft.nodes l.draft.nodes l.yielded l.children.items;
       levels : AreLevel l.fn.draft.first l.draft.nodes l.yielded l.children.items;
       named : AddsNamed l.fn.draft.first (kids_places l.yielded) l.fn.draft.nodes l.draft.nodes;
+      needed : AddsNeeded [] l.children.items l.fn.draft l.draft;
       below : AreBelow (l.draft.first + length l.draft.nodes) l.children.items;
       names : AreNamed l.fn.draft.first (kids_places l.yielded) l.children.items;
     }

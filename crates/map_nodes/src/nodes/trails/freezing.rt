@@ -8,7 +8,7 @@ ghost use Rattle.group_history.specs.Spelling.{Contents, rows_at};
 ghost use Rattle.group_history.specs.declared.nodes.Chunk.TheVariants as chunks;
 ghost use Rattle.group_history.specs.declared.nodes.Node.TheVariants as nodes;
 ghost use Rattle.group_history.specs.declared.refusals.Refusal.TheVariants as refusal;
-ghost use Rattle.map_chunks.specs.Drafts.{AreBelow, IsLate};
+ghost use Rattle.map_chunks.specs.Drafts.{AddsNeeded, AreBelow, IsLate};
 ghost use Rattle.map_chunks.specs.Places.{with_nodes, places_of, AddsNamed};
 ghost use Rattle.map_chunks.specs.Shown.{shown};
 ghost use Rattle.map_chunks.specs.Wide.{IsWideAt};
@@ -55,6 +55,7 @@ fn freeze_all(steps: Vec<Step>, end: End, draft: &mut Draft) -> Result<Ref, Refu
         (places_of (trail_seen steps.items end).pieces) }
     ensures written { IfOk result (IsWritten draft.old.first draft.old.nodes draft.new.nodes
         (trail_seen steps.items end)) }
+    ensures needed { IfOk result (λ at. AddsNeeded [] (at ∷ []) draft.old draft.new) }
     ensures bound { OnErr result (length draft.new.nodes
         < length draft.old.nodes + (trail_seen steps.items end).fresh) }
     ensures first { draft.new.first ≡ draft.old.first }
@@ -88,6 +89,7 @@ impl Trail {
             → IfOk result (λ root. IsWideAt (with_nodes contents draft.new.nodes) (stamp_of root)) }
         ensures named { OnOk result (AddsNamed draft.old.first
             (places_of self.pieces) draft.old.nodes draft.new.nodes) }
+        ensures needed { IfOk result (λ at. AddsNeeded [] (at ∷ []) draft.old draft.new) }
         ensures drafted { IfOk result (λ at. (draft.old.first ≤ stamp_of at) × (slot_of at ≡ 0)) }
         ensures below { IfOk result (λ at. stamp_of at < draft.new.first + length draft.new.nodes) }
         ensures count { OnOk result (length draft.new.nodes ≡ length draft.old.nodes + self.fresh) }

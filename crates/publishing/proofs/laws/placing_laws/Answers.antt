@@ -1,5 +1,6 @@
 use Rattle.std.proofs.Common.{length, refl}
 use Rattle.publishing.proofs.Carrying.{draft-carried, placed-spelled}
+use Rattle.publishing.proofs.Reaching.{placed-reached}
 use Rattle.publishing.proofs.Numbers.{ref_stamped, node_stamped}
 use Rattle.publishing.proofs.laws.placing_laws.Goals as goal
 
@@ -9,4 +10,5 @@ returns c = record {
   stamped = λ from first refs are at low. ref_stamped from first refs at are low;
   content = λ from first refs are node below. node_stamped from first refs node are below;
   spelled = placed-spelled;
+  reached = placed-reached;
 }

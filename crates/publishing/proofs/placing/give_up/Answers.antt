@@ -1,4 +1,3 @@
-use Rattle.std.proofs.Common.{rules}
 use Rattle.publishing.proofs.Stepping.{steps_steps}
 use Rattle.publishing.proofs.placing.give_up.Goals as goal
 
@@ -6,6 +5,3 @@ pub returns-clause-steps : goal.returns-clause-steps
 returns-clause-steps g c =
     let view = g.S.Slots.view in λ r. steps_steps (view c.args.seat.now) (view c.withdraw_all.new.seat)
     (view c.retire_all.new.seat) (c.withdraw_all.ensures.steps r) (c.retire_all.ensures.steps r)
-
-pub returns-clause-given : goal.returns-clause-given
-returns-clause-given g c = search rules

@@ -1,8 +1,9 @@
-use Rattle.std.proofs.Common.{◌≡◌, ◌∷◌, ◌++◌, [], length, refl, ap, sym, subst, ◌∙◌, arith, rules, append_assoc}
+use Rattle.std.proofs.Common.{◌≡◌, ◌∷◌, ◌++◌, [], length, map, refl, ap, sym, subst, ◌∙◌, arith, rules, append_assoc}
 use Rattle.std.proofs.Common.{length-append}
 use Rattle.std.specs.Vec.Iter.{into_iter_items}
 use Rattle.head_word.specs.Books.{drawn}
-use Rattle.publishing.specs.Retiring.{SettlesAll}
+use Rattle.group_history.specs.Refs.{slot_of}
+use Rattle.publishing.specs.Inside.Stacks.{Uses}
 use Rattle.publishing.specs.Stamped.{AreFrom}
 use Rattle.publishing.proofs.Lying.{none_lie}
 use Rattle.publishing.proofs.Numbers.{from_more, turn_drawn}
@@ -23,7 +24,7 @@ loop-node-init g c =
       placed = ap length none;
       left = omega (arith, c.requires.slots);
       stamps = subst (AreFrom c.args.to.now.first) (sym none) tt;
-      settled = λ r. subst (λ ats. SettlesAll v ats v) (sym none) (refl, refl);
+      used = λ r. subst (λ ats. Uses v (map slot_of ats) [] v) (sym none) (refl, refl);
       steps = λ r. no_step v;
     }
 
@@ -62,7 +63,7 @@ loop-node-preserved g c =
       placed = omega (arith, ap length ok.placed.1, length-append refs (at ∷ []), is.placed, one);
       left = omega (arith, done.less, is.left, one);
       stamps = subst (AreFrom c.args.to.now.first) (sym ok.placed.1) (from_more c.args.to.now.first refs at is.stamps ok.placed.2);
-      settled = λ r. done.settled r first (is.settled r);
+      used = λ r. ok.used r first (is.used r);
       steps = λ r. steps_steps first v u (is.steps r) (done.steps r);
     }
 

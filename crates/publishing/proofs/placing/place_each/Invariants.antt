@@ -1,9 +1,9 @@
-use Rattle.std.proofs.Common.{ℕ, ◌≡◌, ◌+◌, ◌++◌, length}
+use Rattle.std.proofs.Common.{ℕ, ◌≡◌, ◌+◌, ◌++◌, [], length, map}
 use Rattle.std.specs.Vec.Iter.{into_iter_items}
-use Rattle.publishing.specs.Retiring.{SettlesAll}
+use Rattle.group_history.specs.Refs.{slot_of}
 use Rattle.publishing.specs.Stamped.{AreFrom}
 use Rattle.publishing.specs.Placed.{LieBelow}
-use Rattle.publishing.specs.Inside.Stacks.{AreBelow, HasTaken}
+use Rattle.publishing.specs.Inside.Stacks.{AreBelow, HasTaken, Uses}
 use Rattle.publishing.specs.Inside.Steps.{Steps}
 use Rattle.publishing.proofs.placing.place_each.Given as goal
 
@@ -20,6 +20,6 @@ invariant-loop-node g l =
       placed : length l.refs.items ≡ length l.yielded;
       left : length l.slots.items + length l.yielded ≡ length l.fn.nodes.items;
       stamps : AreFrom l.to.first l.refs.items;
-      settled : S.reused → SettlesAll (S.view l.fn.seat) l.refs.items (S.view l.seat);
+      used : S.reused → Uses (S.view l.fn.seat) (map slot_of l.refs.items) [] (S.view l.seat);
       steps : S.reused → Steps (S.view l.fn.seat) (S.view l.seat);
     }

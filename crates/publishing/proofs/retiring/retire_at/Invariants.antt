@@ -1,6 +1,7 @@
-use Rattle.std.proofs.Common.{◌≡◌, [], take}
+use Rattle.std.proofs.Common.{◌≡◌, [], map, take}
+use Rattle.group_history.specs.Refs.{slot_of}
 use Rattle.chunk_slots.specs.Seats.{MayRetire}
-use Rattle.publishing.specs.Retiring.{LetsAllGo}
+use Rattle.publishing.specs.Retiring.{AreLetGo}
 use Rattle.publishing.specs.Inside.Steps.{Steps}
 use Rattle.publishing.proofs.retiring.retire_at.Given as goal
 
@@ -12,6 +13,6 @@ invariant-loop-at g l =
       raised : S.reused → MayRetire (S.view l.seat) l.r;
       none : S.reused → (S.view l.seat).taken ≡ [];
       steps : S.reused → Steps (S.view l.fn.seat) (S.view l.seat);
-      retired : S.reused → LetsAllGo (S.serves l.store).sizes.slots l.r (S.view l.fn.seat) (take l.at-index l.refs)
-          (S.view l.seat);
+      retired : S.reused → AreLetGo (S.serves l.store).sizes.slots l.r (map slot_of (take l.at-index l.refs))
+          (S.view l.fn.seat).deeds (S.view l.seat).deeds;
     }

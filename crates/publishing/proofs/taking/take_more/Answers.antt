@@ -1,10 +1,12 @@
-use Rattle.std.proofs.Common.{◌≡◌, refl, arith, rules}
+use Rattle.std.proofs.Common.{◌≡◌, ℕ, ◌≤◌, List, length, ◌∷◌, ◌++◌, [], refl, arith, rules}
 use Rattle.std.specs.Prelude.{IfErr}
 use Rattle.group_history.specs.declared.refusals.Refusal.TheVariants as refusal
-use Rattle.reader_claims.specs.Machine.{still}
-use Rattle.reader_claims.specs.Passes.{FindsNone}
+use Rattle.reader_claims.specs.declared.view.View.{View}
+use Rattle.reader_claims.specs.Passes.{FindsNone, OnlyTakes}
+use Rattle.publishing.specs.Inside.Stacks.{Uses}
 use Rattle.reader_claims.specs.Seats.{kind_end}
-use Rattle.publishing.proofs.Leaving.{settles_none}
+use Rattle.reader_claims.proofs.Scans.{only_takes}
+use Rattle.publishing.proofs.Passing.{passed_over}
 use Rattle.publishing.proofs.Results.{if_err_then}
 use Rattle.publishing.proofs.Stepping.{no_step, steps_steps}
 use Rattle.publishing.proofs.taking.take_more.Goals as goal
@@ -15,7 +17,7 @@ loop-held-init g c = record {
   taken = c.requires.taken;
   within = λ r all. all;
   more = omega arith;
-  settled = λ r. (refl, refl);
+  took = λ r. ([], (refl, refl));
   steps = λ r. no_step (g.S.Slots.view c.args.seat.now);
 }
 
@@ -31,7 +33,8 @@ loop-held-preserved g c =
       taken = done.taken;
       within = λ r all. done.within r (is.within r all);
       more = omega (arith, is.more, c.in_ok-take_next.ensures.more);
-      settled = λ r. settles_none first v u (is.settled r) (done.settled r);
+      took = λ r. let had = is.took r in let one = c.in_ok-take_next.ensures.took r in
+          (one.0 ∷ had.0, only_takes first v u had.0 (one.0 ∷ []) had.1 one.1);
       steps = λ r. steps_steps first v u (is.steps r) (done.steps r);
     }
 
@@ -46,4 +49,31 @@ returns-in_err-take_next-clause-full g c = λ r.
     let u = g.S.Slots.view c.take_next.new.seat in
     let end = kind_end (g.S.Slots.serves c.args.store.now).sizes c.args.kind in
     let here : IfErr c.from_residual.result (λ e. e ≡ refusal.Full → FindsNone v u end) = search rules in
-    if_err_then c.from_residual.result here (λ e found is. (v, u, (c.loop-held.invariant.steps r).moves, found is, still u))
+    if_err_then c.from_residual.result here (λ e found is. passed_over (g.S.Slots.view c.args.seat.now) v u end
+    (c.loop-held.invariant.steps r).loads (found is))
+
+pub returns-in_err-take_next-clause-used : goal.returns-in_err-take_next-clause-used
+returns-in_err-take_next-clause-used g c = λ r.
+    let first = g.S.Slots.view c.args.seat.now in
+    let v = g.S.Slots.view c.loop-held.seat in
+    let u = g.S.Slots.view c.take_next.new.seat in
+    let had = c.loop-held.invariant.took r in
+    let one = c.in_err-take_next.ensures.used r in
+    let here : (w : View) × (taken back : List ℕ) × (length back ≤ 1) × OnlyTakes first w taken × Uses w [] back u = (
+      one.0,
+      one.1 ++ had.0,
+      one.1,
+      one.2,
+      only_takes first v one.0 had.0 one.1 had.1 one.3,
+      one.4,
+    ) in
+    search rules
+
+pub returns-in_err-take_next-clause-none : goal.returns-in_err-take_next-clause-none
+returns-in_err-take_next-clause-none g c = λ r.
+    let first = g.S.Slots.view c.args.seat.now in
+    let v = g.S.Slots.view c.loop-held.seat in
+    let u = g.S.Slots.view c.take_next.new.seat in
+    let had = c.loop-held.invariant.took r in
+    let here : IfErr c.from_residual.result (λ e. e ≡ refusal.Full → OnlyTakes v u []) = search rules in
+    if_err_then c.from_residual.result here (λ e none is. (had.0, only_takes first v u had.0 [] had.1 (none is)))

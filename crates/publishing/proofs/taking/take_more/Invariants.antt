@@ -1,5 +1,5 @@
-use Rattle.std.proofs.Common.{◌≡◌, ◌+◌, length}
-use Rattle.publishing.specs.Retiring.{SettlesNone}
+use Rattle.std.proofs.Common.{◌≡◌, ℕ, ◌+◌, List, length}
+use Rattle.reader_claims.specs.Passes.{OnlyTakes}
 use Rattle.reader_claims.specs.Seats.{kind_end}
 use Rattle.publishing.specs.Inside.Stacks.{AreBelow, HasTaken}
 use Rattle.publishing.specs.Inside.Steps.{Steps}
@@ -14,6 +14,6 @@ invariant-loop-held g l =
       within : S.reused → AreBelow (kind_end (S.serves l.store).sizes l.kind) l.fn.slots.items
           → AreBelow (kind_end (S.serves l.store).sizes l.kind) l.slots.items;
       more : length l.slots.items ≡ length l.fn.slots.items + l.held;
-      settled : S.reused → SettlesNone (S.view l.fn.seat) (S.view l.seat);
+      took : S.reused → (taken : List ℕ) × OnlyTakes (S.view l.fn.seat) (S.view l.seat) taken;
       steps : S.reused → Steps (S.view l.fn.seat) (S.view l.seat);
     }

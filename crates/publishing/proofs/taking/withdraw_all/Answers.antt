@@ -1,7 +1,8 @@
-use Rattle.std.proofs.Common.{refl, ap}
+use Rattle.std.proofs.Common.{◌∷◌, ◌++◌, [], refl, ap}
 use Rattle.reader_claims.specs.declared.view.View.{View}
-use Rattle.publishing.proofs.Leaving.{settles_none}
-use Rattle.publishing.proofs.Popping.{withdrawn}
+use Rattle.publishing.specs.Inside.Stacks.{HasTaken}
+use Rattle.publishing.proofs.Popping.{but_withdrawn, headed, withdrawn}
+use Rattle.publishing.proofs.Using.{uses_none, uses_withdrawn}
 use Rattle.publishing.proofs.Stepping.{no_step, steps_beside, steps_steps}
 use Rattle.publishing.proofs.taking.withdraw_all.Goals as goal
 
@@ -9,7 +10,8 @@ pub loop-slot-init : goal.loop-slot-init
 loop-slot-init g c = record {
   home = c.requires.home;
   taken = c.requires.taken;
-  settled = λ r. (refl, refl);
+  used = λ r. ([], uses_none (g.S.Slots.view c.args.seat.now));
+  kept = λ r. refl;
   steps = λ r. no_step (g.S.Slots.view c.args.seat.now);
 }
 
@@ -20,12 +22,21 @@ loop-slot-preserved g c =
     let done = c.withdraw.ensures in
     let v = S.view c.loop-slot.seat in
     let u = S.view c.withdraw.new.seat in
+    let first = S.view c.args.seat.now in
+    let slots = c.loop-slot.slots.items in
+    let rest = c.pop.new.self.items in
+    let x = c.in-Some.slot in
+    let left : S.reused → HasTaken u rest = λ r. withdrawn v u slots rest x c.in-Some.ensures.items (is.taken r)
+    (done.view r) in
     record {
       home = done.seat;
-      taken = λ r. withdrawn v u c.loop-slot.slots.items c.pop.new.self.items c.in-Some.slot c.in-Some.ensures.items
-          (is.taken r) (done.view r);
-      settled = λ r. settles_none (S.view c.args.seat.now) v u (is.settled r)
-          (ap (λ (w : View). w.settled) (done.view r), ap (λ (w : View). w.retired) (done.view r));
-      steps = λ r. steps_steps (S.view c.args.seat.now) v u (is.steps r)
-          (steps_beside v u (done.moves r) (ap (λ (w : View). w.pin) (done.view r)));
+      taken = left;
+      used = λ r. let had = is.used r in (
+        had.0 ++ x ∷ [],
+        uses_withdrawn first v u [] had.0 x had.1 (headed v u slots rest x c.in-Some.ensures.items (is.taken r) (left r))
+            (ap (λ (w : View). w.deeds) (done.view r)),
+      );
+      kept = λ r. but_withdrawn first v u x (is.kept r) (done.view r);
+      steps = λ r. steps_steps first v u (is.steps r) (steps_beside v u (ap (λ (w : View). w.epoch_loads) (done.view r))
+          (ap (λ (w : View). w.reached) (done.view r)) (ap (λ (w : View). w.pin) (done.view r)));
     }

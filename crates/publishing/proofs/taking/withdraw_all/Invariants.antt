@@ -1,6 +1,5 @@
-use Rattle.std.proofs.Common.{◌≡◌, vec_len}
-use Rattle.publishing.specs.Retiring.{SettlesNone}
-use Rattle.publishing.specs.Inside.Stacks.{HasTaken}
+use Rattle.std.proofs.Common.{◌≡◌, ℕ, List, [], vec_len}
+use Rattle.publishing.specs.Inside.Stacks.{HasTaken, IsButWithdrawn, Uses}
 use Rattle.publishing.specs.Inside.Steps.{Steps}
 use Rattle.publishing.proofs.taking.withdraw_all.Given as goal
 
@@ -10,7 +9,8 @@ invariant-loop-slot g l =
     record {
       home : S.home l.seat ≡ S.serves l.store;
       taken : S.reused → HasTaken (S.view l.seat) l.slots.items;
-      settled : S.reused → SettlesNone (S.view l.fn.seat) (S.view l.seat);
+      used : S.reused → (back : List ℕ) × Uses (S.view l.fn.seat) [] back (S.view l.seat);
+      kept : S.reused → IsButWithdrawn (S.view l.fn.seat) (S.view l.seat);
       steps : S.reused → Steps (S.view l.fn.seat) (S.view l.seat);
     }
 

@@ -10,6 +10,10 @@ use Rattle.replays.specs.Chaining.{HasTip, IsTip}
 use Rattle.replays.specs.Pending.{with_more}
 use Rattle.replays.specs.declared.tips.Tip.{Tip}
 use Rattle.replays.proofs.ReplayLemmas.{tip-grown, version_last, with_halves}
+use Rattle.map_chunks.proofs.NeededLemmas.{adds_then}
+use Rattle.replays.proofs.NeededLemmas.{needed_chain}
+use Rattle.std.proofs.Common.{[], ◌∷◌}
+use Rattle.map_chunks.proofs.AnswerLemmas.{if_ok_so}
 use Rattle.replays.proofs.locals.+replaying.Goals as goal
 
 pub replay_parts-replay-requires-2-clause-tip : goal.replay_parts-replay-requires-2-clause-tip
@@ -70,3 +74,13 @@ replay-returns-in-Some-2-clause-tip g n c s h is_open =
     HasTip (with_nodes known c.add_all.new.draft.nodes) after v))
     (version_last means s xs c.in-Some.before.now c.in-Some.last.now all c.in-Some.ensures.cases.0 refl)
     (c.add_all.ensures.tip (version_of means s) all basis is_open root)
+
+pub replay_parts-returns-clause-needed : goal.replay_parts-returns-clause-needed
+replay_parts-returns-clause-needed g n c = if_ok_so c.replay-2.result c.replay-2.ensures.needed (λ at p.
+    adds_then (c.args.basis.commit ∷ []) (c.in_ok-middle.middle.commit ∷ []) (at.commit ∷ []) c.args.draft.now
+    c.replay.new.draft c.replay-2.new.draft c.in_ok-middle.ensures.needed p)
+
+pub replay-returns-in-Some-2-clause-needed : goal.replay-returns-in-Some-2-clause-needed
+replay-returns-in-Some-2-clause-needed g n c = if_ok_so c.add_all.result c.add_all.ensures.needed (λ at p.
+    needed_chain c.args.basis.commit c.in_ok-root.root at.commit c.args.draft.now c.freeze.new.draft
+    c.add_all.new.draft c.in_ok-root.ensures.needed p)

@@ -10,6 +10,8 @@ use Rattle.replays.specs.Chaining.{HasTip}
 use Rattle.replays.specs.Pending.{with_more}
 use Rattle.replays.specs.declared.tips.Tip.{Tip}
 use Rattle.replays.proofs.BelowLemmas.{root-behind}
+use Rattle.replays.proofs.NeededLemmas.{needed_last}
+use Rattle.map_chunks.proofs.AnswerLemmas.{if_ok_so}
 use Rattle.replays.proofs.locals.add_all.Goals as goal
 
 pub add_over-requires : goal.add_over-requires
@@ -39,3 +41,8 @@ returns-clause-tip g c v m h is_open is =
     HasTip (with_nodes known c.add_over.new.draft.nodes) after
     (record { state = after_mutate (with_more v.state before) x; read = m }))) same
     (c.add_over.ensures.spelled known now m behind at.0 at.2 is_open map)
+
+pub returns-clause-needed : goal.returns-clause-needed
+returns-clause-needed g c = if_ok_so c.add_over.result c.add_over.ensures.needed (λ at p.
+    needed_last c.args.basis.commit c.args.root c.in_ok-tip.tip.commit c.in_ok-tip.tip.snapshot at.commit
+    c.args.draft.now c.add_unread.new.draft c.add_over.new.draft c.in_ok-tip.ensures.needed p)

@@ -10,6 +10,7 @@ use Rattle.map_chunks.specs.Places.{with_nodes}
 use Rattle.replays.specs.Chaining.{HasTip}
 use Rattle.replays.specs.Pending.{with_more}
 use Rattle.replays.proofs.BelowLemmas.{tip-behind}
+use Rattle.replays.proofs.NeededLemmas.{needed_next}
 use Rattle.replays.proofs.StateLemmas.{with_next}
 use Rattle.replays.proofs.locals.add_unread.Goals as goal
 
@@ -41,6 +42,9 @@ loop-mutation-preserved g c =
           (record { state = s; read = v.read })) next
           (c.in_ok-tip.ensures.spelled known now v.read (sym (i.0 ∙ c.requires.behind)) at.0 at.2 is_open at.1),
       λ own. subst (λ n. n ≤ stamp_of c.in_ok-tip.tip.commit) i.0 c.in_ok-tip.ensures.new,
+      needed_next c.args.basis.commit c.loop-mutation.tip.root c.loop-mutation.tip.commit c.loop-mutation.tip.snapshot
+          c.in_ok-tip.tip.commit c.args.draft.now c.loop-mutation.draft c.add_over.new.draft i.4
+          c.in_ok-tip.ensures.needed,
     )
 
 pub returns-clause-tip : goal.returns-clause-tip

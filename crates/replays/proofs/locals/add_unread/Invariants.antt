@@ -1,7 +1,8 @@
-use Rattle.std.proofs.Common.{◌≡◌, ◌≤◌, false, take}
+use Rattle.std.proofs.Common.{◌≡◌, ◌≤◌, [], ◌∷◌, false, take}
 use mathlib.Core.List.{IsPrefix}
 use Rattle.group_history.specs.Refs.{stamp_of}
 use Rattle.group_history.specs.Spelling.{Version}
+use Rattle.map_chunks.specs.Drafts.{AddsNeeded}
 use Rattle.map_chunks.specs.Places.{with_nodes}
 use Rattle.replays.specs.Chaining.{HasTip}
 use Rattle.replays.specs.Pending.{with_more}
@@ -17,3 +18,4 @@ invariant-loop-mutation g l =
     → HasTip (with_nodes known l.draft.nodes) l.tip
     (record { state = with_more v.state (take l.mutation-index l.before); read = v.read }))
     × (l.initial.draft.first ≤ stamp_of l.initial.tip.commit → l.initial.draft.first ≤ stamp_of l.tip.commit)
+    × AddsNeeded (l.initial.tip.commit ∷ []) (l.tip.commit ∷ []) l.initial.draft l.draft

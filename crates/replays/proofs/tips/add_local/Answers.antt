@@ -6,6 +6,7 @@ use Rattle.commit_graph.proofs.Spelled.{version-grown, snapshot-grown}
 use Rattle.map_chunks.proofs.DraftLemmas.{below-more}
 use Rattle.replays.proofs.BelowLemmas.{below-cons, drafts-grown}
 use Rattle.group_history.proofs.Lists.{prefix_trans}
+use Rattle.replays.proofs.NeededLemmas.{needed_local}
 use Rattle.replays.proofs.tips.add_local.Goals as goal
 
 pub returns-clause-spelled : goal.returns-clause-spelled
@@ -34,3 +35,9 @@ returns-clause-grown c =
 pub returns-in_err-tip-clause-grown : goal.returns-in_err-tip-clause-grown
 returns-in_err-tip-clause-grown c =
     prefix_trans _ _ _ c.freeze.ensures.grown c.add_over.ensures.grown
+
+pub returns-clause-needed : goal.returns-clause-needed
+returns-clause-needed c =
+    let basis = c.args.basis in
+    needed_local c.in_ok-root.root basis.commit basis.snapshot c.in_ok-tip.tip.commit c.args.draft.now
+    c.freeze.new.draft c.add_over.new.draft c.in_ok-root.ensures.needed c.in_ok-tip.ensures.needed

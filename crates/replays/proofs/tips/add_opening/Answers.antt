@@ -1,11 +1,13 @@
-use Rattle.std.proofs.Common.{ℕ, ◌+◌, ◌++◌, ◌∷◌, [], length, ap, ◌∙◌}
+use Rattle.std.proofs.Common.{ℕ, ◌+◌, ◌++◌, ◌∷◌, [], length, ap, subst, ◌∙◌}
 use Rattle.group_history.specs.Rows.{Rows}
 use Rattle.group_history.specs.declared.nodes.Chunk.TheVariants.{Leaf}
 use Rattle.group_history.specs.declared.nodes.Node.TheVariants as node
-use Rattle.map_chunks.specs.Drafts.{Drafted}
+use Rattle.map_chunks.specs.Drafts.{AreNeeded, Drafted}
 use Rattle.replays.proofs.NewestLemmas.{opening_tip}
 use Rattle.map_chunks.proofs.DraftLemmas.{below-none, pushed-below}
 use Rattle.replays.proofs.BelowLemmas.{below-cons}
+use Rattle.group_history.specs.declared.nodes.CommitKind.TheVariants.{Snapshot}
+use Rattle.map_chunks.proofs.NeededLemmas.{adds_one, adds_over, needed_begun}
 use Rattle.replays.proofs.tips.add_opening.Goals as goal
 
 pub returns-clause-spelled : goal.returns-clause-spelled
@@ -34,3 +36,16 @@ push_commit-requires c =
       children = below-cons (new.first + length new.nodes) c.in_ok-root.root [] root
           (below-none (new.first + length new.nodes));
     }
+
+pub returns-clause-needed : goal.returns-clause-needed
+returns-clause-needed c =
+    let none = c.args.draft.now in let one = c.push.new.self in let two = c.push_commit.new.self in
+    let root = adds_one none one (node.Chunk (Leaf c.in_ok-empty_leaf.field-0)) c.in_ok-root.root
+    c.in_ok-root.ensures.stamp.0 c.in_ok-root.ensures.ok in
+    let first = ap (λ (d : Drafted). d.first) c.in_ok-head.ensures.ok
+    ∙ (ap (λ (d : Drafted). d.first) c.in_ok-root.ensures.ok ∙ ap (λ (d : Drafted). d.first) c.requires) in
+    subst (λ n. AreNeeded n two.nodes (c.in_ok-head.head ∷ [])) first
+    (needed_begun [] c.in_ok-head.head 0 none two c.requires (adds_over (c.in_ok-root.root ∷ []) none one two (node.Commit (record {
+      root = c.in_ok-root.root;
+      kind = Snapshot (record { cookie = c.in_ok-cookie.cookie; confirmed = c.in_ok-confirmed.confirmed });
+    })) c.in_ok-head.head (λ r i. i) root c.in_ok-head.ensures.stamp.0 c.in_ok-head.ensures.ok))

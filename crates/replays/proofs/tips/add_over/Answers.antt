@@ -4,6 +4,9 @@ use Rattle.replays.proofs.NewestLemmas.{over_tip}
 use mathlib.Core.List.{IsPrefix}
 use Rattle.group_history.proofs.Lists.{prefix_self}
 use Rattle.replays.proofs.BelowLemmas.{pushed_on}
+use Rattle.group_history.specs.declared.nodes.CommitKind.TheVariants.{Over}
+use Rattle.group_history.specs.declared.nodes.Node.TheVariants as node
+use Rattle.map_chunks.proofs.NeededLemmas.{adds_one}
 use Rattle.replays.proofs.tips.add_over.Goals as goal
 
 pub returns-clause-spelled : goal.returns-clause-spelled
@@ -29,3 +32,11 @@ pub returns-in_err-commit-clause-grown : goal.returns-in_err-commit-clause-grown
 returns-in_err-commit-clause-grown c =
     subst (λ (d : Drafted). IsPrefix c.args.draft.now.nodes d.nodes) (sym c.in_err-commit.ensures.err)
     (prefix_self c.args.draft.now.nodes)
+
+pub returns-clause-needed : goal.returns-clause-needed
+returns-clause-needed c =
+    let basis = c.args.basis in
+    adds_one c.args.draft.now c.push_commit.new.self (node.Commit (record {
+      root = c.args.root;
+      kind = Over (record { basis = basis.commit; snapshot = basis.snapshot; step = c.args.step });
+    })) c.in_ok-commit.commit c.in_ok-commit.ensures.stamp.0 c.in_ok-commit.ensures.ok

@@ -1,4 +1,4 @@
-use Rattle.std.proofs.Common.{◌+◌, [], length, ap, ◌∙◌, sym, subst}
+use Rattle.std.proofs.Common.{◌+◌, [], ◌∷◌, length, ap, ◌∙◌, sym, subst}
 use Rattle.map_chunks.specs.Drafts.{Drafted}
 use Rattle.replays.proofs.NewestLemmas.{snapshot_tip}
 use Rattle.map_chunks.proofs.DraftLemmas.{below-none}
@@ -6,6 +6,9 @@ use Rattle.replays.proofs.BelowLemmas.{below-cons}
 use mathlib.Core.List.{IsPrefix}
 use Rattle.group_history.proofs.Lists.{prefix_trans}
 use Rattle.replays.proofs.BelowLemmas.{pushed_on}
+use Rattle.group_history.specs.declared.nodes.CommitKind.TheVariants.{Snapshot}
+use Rattle.group_history.specs.declared.nodes.Node.TheVariants as node
+use Rattle.map_chunks.proofs.NeededLemmas.{adds_over}
 use Rattle.replays.proofs.tips.add_snapshot.Goals as goal
 
 pub returns-clause-spelled : goal.returns-clause-spelled
@@ -37,3 +40,11 @@ pub returns-in_err-commit-clause-grown : goal.returns-in_err-commit-clause-grown
 returns-in_err-commit-clause-grown c =
     subst (λ (d : Drafted). IsPrefix c.args.draft.now.nodes d.nodes) (sym c.in_err-commit.ensures.err)
     c.freeze.ensures.grown
+
+pub returns-clause-needed : goal.returns-clause-needed
+returns-clause-needed c = adds_over (c.in_ok-root.root ∷ []) c.args.draft.now c.freeze.new.draft c.push_commit.new.self
+    (node.Commit (record {
+      root = c.in_ok-root.root;
+      kind = Snapshot (record { cookie = c.args.cookie; confirmed = c.args.confirmed });
+    })) c.in_ok-commit.commit (λ r i. i) c.in_ok-root.ensures.needed c.in_ok-commit.ensures.stamp.0
+    c.in_ok-commit.ensures.ok

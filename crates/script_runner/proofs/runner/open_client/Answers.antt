@@ -31,7 +31,12 @@ returns-clause-new g c =
     if_player c.turn_of.result (IsNew g.M.Means.means group.identity group.group.book)
     (new_player c.args.line.now.name (standing_of made)) c.turn_of.ensures
     (subst (λ x. IsNew g.M.Means.means group.identity group.group.book (new_player c.args.line.now.name
-    (record { caller = caller_of x; mark = x.seat.mark; watches = made.watches }))) (sym c.new.ensures.client)
+    (record {
+      caller = caller_of x;
+      seat = x.seat;
+      watches = made.watches;
+      slots = x.group.group.table.sizes.slots;
+    }))) (sym c.new.ensures.client)
     (record {
       writes = ap (λ g. g.identity) said.group;
       of_book = said.looked.0.seat.later.book ∙ home.0;

@@ -1,4 +1,5 @@
 use Rattle.std.proofs.Common.{rules, ◌∷◌, ap, map, subst, sym, ◌∙◌}
+use Rattle.reader_claims.specs.Deeds as deed
 use Rattle.reader_claims.specs.Seats.{ClaimsId, Seated}
 use Rattle.chunk_slots.specs.Seats.{IsOpening}
 use Rattle.chunk_slots.proofs.Begins.{none_left}
@@ -17,4 +18,4 @@ returns-clause-opening g c =
     (opened dealt.claims all dealt.others.items c.settle_both.new.self dealt.leaf dealt.commit
     c.in_ok-push.ensures.items dealt.unused (two, leaf, commit)
     (s.settled ∙ ap (λ left. dealt.commit ∷ dealt.leaf ∷ left) settled) (s.pin ∙ pin, s.taken)
-    (s.kept.0 ∙ did.0, s.kept.1 ∙ did.1, s.kept.2 ∙ did.2))
+    (s.deeds ∙ ap (λ before. deed.settled dealt.commit ∷ deed.settled dealt.leaf ∷ before) did))

@@ -5,6 +5,3 @@ use Rattle.giqaymu_c.proofs.spots.Spot.open_rules.Goals as goal
 
 pub open_places-requires-sync-M : goal.open_places-requires-sync-M
 open_places-requires-sync-M g c κs within = param_sync _ _ (arg_sync _ no _ (mutators_sync _ _))
-
-pub of-requires-sync-M : goal.of-requires-sync-M
-of-requires-sync-M g c κs within = param_sync _ _ (arg_sync _ no _ (mutators_sync _ _))

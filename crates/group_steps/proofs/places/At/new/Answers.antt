@@ -2,7 +2,6 @@ use Rattle.std.proofs.Common.{rules}
 use Rattle.group_history.proofs.RecordLaws.{record_laws_hold}
 use Rattle.head_word.specs.Books.{record_of}
 use Rattle.commit_graph.proofs.Few.{stamp-low}
-use Rattle.group_steps.specs.Places.{IsPlace, place}
 use Rattle.group_steps.proofs.places.At.new.Goals as goal
 
 pub invariant_of-result : goal.invariant_of-result

@@ -17,8 +17,8 @@ use Rattle.host_places.proofs.Moving.{by_client, ticket_kept}
 use Rattle.host_places.proofs.Telling.{at_some}
 use Rattle.host_places.proofs.own.Place+OwnMutators+B.ask_end.Goals as goal
 
-pub go_on-requires-after_bounds : goal.go_on-requires-after_bounds
-go_on-requires-after_bounds g c κs within =
+pub go_on-requires-clause-step : goal.go_on-requires-clause-step
+go_on-requires-clause-step g c κs within =
     let means = g.B.PickedMeaning.meaning in let client = c.in-Client.client in
     let cookie = c.in-Some.ticket.now.cookie in let body = c.args.body.now in
     step_at means c.take.new.self.group client c.ask_end_pull-step.result

@@ -11,8 +11,8 @@ use Rattle.host_places.proofs.Moving.{by_client}
 use Rattle.host_places.proofs.Telling.{by_ok}
 use Rattle.host_places.proofs.own.Place+OwnMutators+B.ask_mutate.Goals as goal
 
-pub go_on-requires-after_bounds : goal.go_on-requires-after_bounds
-go_on-requires-after_bounds g c κs within =
+pub go_on-requires-clause-step : goal.go_on-requires-clause-step
+go_on-requires-clause-step g c κs within =
     let means = g.B.PickedMeaning.meaning in let client = c.in-Client.client in let said = c.in-Ok.said in
     let change = mutation_of client said.0 said.1 c.args.named.time in
     step_at means c.take.new.self.group client c.ask_mutate-step.result (IsAsked means ⊤ tries client change)

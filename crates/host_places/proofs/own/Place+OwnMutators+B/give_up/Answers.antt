@@ -1,8 +1,8 @@
 use Rattle.host_places.proofs.Moving.{gave, gave_at, gave_up}
 use Rattle.host_places.proofs.own.Place+OwnMutators+B.give_up.Goals as goal
 
-pub put-requires-after_bounds : goal.put-requires-after_bounds
-put-requires-after_bounds g c κs within =
+pub put-requires-clause-fits : goal.put-requires-clause-fits
+put-requires-clause-fits g c κs within =
     let means = g.B.PickedMeaning.meaning in let a = c.in-Asking.asking in (
       tt,
       gave_at means c.take.new.self.group a c.give_up.result c.in-Asking.ensures.fits.2.1

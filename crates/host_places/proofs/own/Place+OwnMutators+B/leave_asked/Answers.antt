@@ -1,8 +1,8 @@
 use Rattle.host_places.proofs.Moving.{gave, gave_at, left_asked}
 use Rattle.host_places.proofs.own.Place+OwnMutators+B.leave_asked.Goals as goal
 
-pub free-requires-after_bounds : goal.free-requires-after_bounds
-free-requires-after_bounds g c κs within =
+pub free-requires-clause-at : goal.free-requires-clause-at
+free-requires-clause-at g c κs within =
     let means = g.B.PickedMeaning.meaning in let a = c.in-Asking.asking in
     gave_at means c.take.new.self.group a c.give_up.result c.in-Asking.ensures.fits.2.1
     (gave means a c.give_up.result c.give_up.ensures.left)

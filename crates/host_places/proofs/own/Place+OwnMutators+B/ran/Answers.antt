@@ -7,8 +7,8 @@ use Rattle.host_places.proofs.Telling.{by_ok}
 use Rattle.std.proofs.Common.{sym}
 use Rattle.host_places.proofs.own.Place+OwnMutators+B.ran.Goals as goal
 
-pub go_on-requires-after_bounds : goal.go_on-requires-after_bounds
-go_on-requires-after_bounds g c κs within =
+pub go_on-requires-clause-step : goal.go_on-requires-clause-step
+go_on-requires-clause-step g c κs within =
     step_behind g.B.PickedMeaning.meaning c.take.new.self.group c.ran-step.result c.in-Asking.asking
     c.in-Asking.ensures.fits.2.1 c.ran-step.ensures.told
 

@@ -1,4 +1,4 @@
-use Rattle.std.proofs.Common.{◌≡◌, ◌+◌, ◌<◌, sym, ap, subst, ◌∙◌, length, Ok, OnOk, IfErr, refl, arith, ◌⊎◌, inl}
+use Rattle.std.proofs.Common.{◌≡◌, ◌+◌, ◌<◌, [], ◌∷◌, sym, ap, subst, ◌∙◌, length, Ok, OnOk, IfErr, refl, arith, ◌⊎◌, inl}
 use Rattle.group_history.specs.Refs.{stamps}
 use Rattle.map_chunks.specs.Drafts.{AreBelow}
 use Rattle.map_chunks.specs.Places.{with_nodes, AddsNamed}
@@ -9,7 +9,8 @@ use Rattle.map_tree.proofs.RootCounts.{placed_as}
 use Rattle.map_tree.specs.declared.tree.Root.TheVariants.{Placed}
 use Rattle.map_tree.specs.Trees.{root_places, root_levels, tree_places, root_map, root_fresh, placed_root, IsWide}
 use Rattle.group_history.specs.declared.refusals.Refusal.TheVariants as refusal
-use Rattle.group_history.proofs.Lists.{one_here}
+use Rattle.group_history.proofs.Lists.{no_element, one_here}
+use Rattle.map_chunks.proofs.NeededLemmas.{adds_same}
 use Rattle.map_nodes.proofs.FreezeLemmas.{map_frozen}
 use Rattle.map_chunks.proofs.JoinLemmas.{some_is}
 use Rattle.std.specs.List.{Contains}
@@ -62,6 +63,9 @@ returns-in-Placed-clause-named c = adds-none c.args.draft.now.first (tree_places
 pub returns-in-Placed-clause-name : goal.returns-in-Placed-clause-name
 returns-in-Placed-clause-name c = inl (subst (λ r. Contains (root_places r) c.in-Placed.at) (sym c.in-Placed.is)
     (one_here c.in-Placed.at))
+
+pub returns-in-Placed-clause-needed : goal.returns-in-Placed-clause-needed
+returns-in-Placed-clause-needed c = adds_same [] (c.in-Placed.at ∷ []) c.args.draft.now (λ r i. absurd (no_element r i))
 
 pub returns-in-Own-clause-named : goal.returns-in-Own-clause-named
 returns-in-Own-clause-named c =

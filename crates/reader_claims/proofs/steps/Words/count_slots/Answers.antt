@@ -1,4 +1,4 @@
-use Rattle.std.proofs.Common.{◌≡◌, [], ◌∷◌, ◌+◌, rules, refl, ap, sym, ◌∙◌, arith}
+use Rattle.std.proofs.Common.{◌≡◌, [], ◌∷◌, rules, refl, ap, sym, ◌∙◌, arith}
 use Rattle.reader_claims.specs.Counts as counts
 use Rattle.reader_claims.specs.Counts.{Found, all_slots}
 use Rattle.reader_claims.specs.Inside.Known.{view}

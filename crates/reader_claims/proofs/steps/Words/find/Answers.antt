@@ -1,6 +1,7 @@
 use Rattle.reader_claims.specs.Inside.Known.{view}
 use Rattle.reader_claims.specs.declared.view.View.{View}
 use Rattle.reader_claims.proofs.Moving.{moves_moves}
+use Rattle.reader_claims.proofs.Scans.{later_looks}
 use Rattle.reader_claims.proofs.steps.Words.find.Goals as goal
 
 pub returns-in-Retired-clause-moves : goal.returns-in-Retired-clause-moves
@@ -12,3 +13,11 @@ pub returns-in-Nothing-clause-moves : goal.returns-in-Nothing-clause-moves
 returns-in-Nothing-clause-moves c = let v : View = view c.args.reader.now in
     let u : View = view c.quick_round.new.reader in let t : View = view c.pass-in-Nothing.new.reader in
     moves_moves v u t c.quick_round.ensures.moves c.pass-in-Nothing.ensures.moves
+
+pub returns-in-Retired-clause-looks : goal.returns-in-Retired-clause-looks
+returns-in-Retired-clause-looks c = later_looks (view c.args.reader.now) (view c.quick_round.new.reader)
+    (view c.pass-in-Retired.new.reader) c.quick_round.ensures.later c.pass-in-Retired.ensures.looks
+
+pub returns-in-Nothing-clause-looks : goal.returns-in-Nothing-clause-looks
+returns-in-Nothing-clause-looks c = later_looks (view c.args.reader.now) (view c.quick_round.new.reader)
+    (view c.pass-in-Nothing.new.reader) c.quick_round.ensures.later c.pass-in-Nothing.ensures.looks

@@ -1,6 +1,4 @@
-use Rattle.std.proofs.Common.{◌≡◌, ◌<◌, ap, refl, sym, ◌∙◌, arith, eq-eqb}
-use mathlib.Core.Logic.{dite}
-use native.Mathlib.Decide.{ℕ_discrete}
+use Rattle.std.proofs.Common.{◌<◌, refl, arith}
 use Rattle.reader_claims.specs.Inside.Known.{view}
 use Rattle.reader_claims.specs.Machine as machine
 use Rattle.reader_claims.specs.Passes.{retired_at}

@@ -3,7 +3,7 @@ use Rattle.reader_claims.specs.Inside.Known.{view}
 use Rattle.reader_claims.specs.declared.view.View.{View}
 use Rattle.reader_claims.specs.Seats.{first_reserved, kind_end}
 use Rattle.reader_claims.specs.Passes.{AreShut, FindsNone}
-use Rattle.reader_claims.proofs.Scans.{open_later, closed_later, later_later, passed_over, passed_ordinary}
+use Rattle.reader_claims.proofs.Scans.{open_later, closed_later, later_later, looks_over, passed_over, passed_ordinary}
 use Rattle.reader_claims.proofs.Options.{none_then, some_always}
 use Rattle.reader_claims.proofs.Moving.{moves_moves}
 use Rattle.reader_claims.proofs.steps.Words.pass.Goals as goal
@@ -36,7 +36,7 @@ returns-clause-none c = let old : View = view c.args.reader.now in let v : View 
     let t : View = view c.scan.new.reader in
     let k = c.args.self.now.sizes in let begin = c.args.begin in let ordinary = c.ordinary-ordinary.result in
     let end = c.end_of.result in
-    none_then c.scan.result (AreShut ordinary end t) (FindsNone old t (kind_end k c.args.kind))
+    none_then c.scan.result (AreShut t.taken ordinary end t) (FindsNone old t (kind_end k c.args.kind))
     (λ shut. subst (FindsNone old t) c.end_of.ensures.0
     (passed_over old v a b t begin ordinary end c.open_below-bound.ensures.view c.open_below-bound.ensures.read
     c.scan_ahead.ensures.later c.scan_ahead-2.ensures.later c.scan.ensures.later c.in_default.ensures.shut
@@ -71,3 +71,21 @@ returns-clause-moves c = let old : View = view c.args.reader.now in let v : View
     let t : View = view c.scan.new.reader in
     moves_moves old v t c.open_below-bound.ensures.moves
     (moves_moves v b t (moves_moves v a b c.scan_ahead.ensures.moves c.scan_ahead-2.ensures.moves) c.scan.ensures.moves)
+
+pub returns-in-Some-clause-looks : goal.returns-in-Some-clause-looks
+returns-in-Some-clause-looks c = looks_over (view c.args.reader.now) (view c.open_below-bound.new.reader)
+    (view c.scan_ahead.new.reader) c.open_below-bound.ensures.view c.open_below-bound.ensures.reached
+    c.scan_ahead.ensures.later
+
+pub returns-in-Some-scan_ahead-clause-looks : goal.returns-in-Some-scan_ahead-clause-looks
+returns-in-Some-scan_ahead-clause-looks c = let v : View = view c.open_below-bound.new.reader in
+    let a : View = view c.scan_ahead.new.reader in let b : View = view c.scan_ahead-2.new.reader in
+    looks_over (view c.args.reader.now) v b c.open_below-bound.ensures.view c.open_below-bound.ensures.reached
+    (later_later v a b c.scan_ahead.ensures.later c.scan_ahead-2.ensures.later)
+
+pub returns-clause-looks : goal.returns-clause-looks
+returns-clause-looks c = let v : View = view c.open_below-bound.new.reader in
+    let a : View = view c.scan_ahead.new.reader in let b : View = view c.scan_ahead-2.new.reader in
+    let t : View = view c.scan.new.reader in
+    looks_over (view c.args.reader.now) v t c.open_below-bound.ensures.view c.open_below-bound.ensures.reached
+    (later_later v b t (later_later v a b c.scan_ahead.ensures.later c.scan_ahead-2.ensures.later) c.scan.ensures.later)

@@ -1,11 +1,11 @@
 use Rattle.std.proofs.Common.{rules, refl, arith, ap, sym, ◌∙◌, ◌+◌, subst}
 use Rattle.reader_claims.specs.declared.words.SlotState.TheVariants.{Retired}
 use Rattle.reader_claims.specs.Words.{slot_at, slot_word}
-use Rattle.reader_claims.specs.Views.{IsOpen, with_retired, with_note}
+use Rattle.reader_claims.specs.Views.{IsOpen, with_retired, with_missed}
 use Rattle.reader_claims.specs.Machine.{Move}
 use Rattle.reader_claims.proofs.Reaching.{retires_at}
 use Rattle.reader_claims.proofs.Opens.{still_open}
-use Rattle.reader_claims.proofs.Readers.{Stays, stays, either_way, went, left_move, but_retired, but_noted}
+use Rattle.reader_claims.proofs.Readers.{Stays, stays, either_way, went, left_move, but_retired, but_missed}
 use Rattle.reader_claims.specs.Passes.{IsButRetired}
 use Rattle.reader_claims.proofs.steps.Words.retire.Goals as goal
 
@@ -58,11 +58,11 @@ returns-clause-step c = let m = c.args.reader.now.seat.me in let n = c.compare_e
     (λ e. subst (λ y. Move m.0 (slot_at slot) x y n.0) c.word-retired.ensures
     (went m n c.place.result (slot_at slot) x c.word-retired.result
     (with_retired m.0 slot (m.0.loaded + 1)) c.place.ensures (did.0 e)))
-    (λ ne. went m n c.place.result (slot_at slot) x x (with_note m.0 slot 1 x) c.place.ensures (did.1 ne))
+    (λ ne. went m n c.place.result (slot_at slot) x x (with_missed m.0 slot x) c.place.ensures (did.1 ne))
 
 pub returns-clause-kept : goal.returns-clause-kept
 returns-clause-kept c = let m = c.args.reader.now.seat.me in let n = c.compare_exchange.new.seat.me in
     let x = c.compare_exchange.result in let slot = c.args.slot in
     let did = c.compare_exchange.ensures.2.3 slot c.place.ensures in
     either_way x 1 (IsButRetired m.0 n.0) (λ e. but_retired m.0 n.0 slot (m.0.loaded + 1) (ap (λ s. s.0) (did.0 e).0))
-    (λ ne. but_noted m.0 n.0 slot 1 x (ap (λ s. s.0) (did.1 ne).0))
+    (λ ne. but_missed m.0 n.0 slot x (ap (λ s. s.0) (did.1 ne).0))

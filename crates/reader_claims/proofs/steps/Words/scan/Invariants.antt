@@ -12,5 +12,5 @@ invariant-loop-slot l = record {
   from : l.fn.from ≤ l.slot;
   taken : (view l.reader).taken ≡ (view l.initial.reader).taken;
   later : Later (view l.initial.reader) (view l.reader);
-  shut : AreShut l.fn.from l.slot (view l.reader);
+  shut : AreShut (view l.reader).taken l.fn.from l.slot (view l.reader);
 }

@@ -24,14 +24,14 @@ invariant_of-reader c = let was = c.args.reader.now in
     (Stays was.seat.table_id c.compare_exchange.new.seat.table_id was.seat.me
     c.compare_exchange.new.seat.me was.number)
     (λ e. stays _ _ _ _ _ _ c.compare_exchange.ensures.0 (did.0 e).0.0 refl refl was.low was.own was.bare)
-    (λ ne. stays _ _ _ _ _ _ c.compare_exchange.ensures.0 (did.1 ne).0 refl refl was.low was.own was.bare) in
+    (λ ne. stays _ _ _ _ _ _ c.compare_exchange.ensures.0 (did.1 ne).0.0 refl refl was.low was.own was.bare) in
     record {
       own = t.own;
       bare = t.bare;
       low = t.low;
       opens = λ r low high. either_way c.compare_exchange.result 0 ∥ IsOpen c.compare_exchange.new.seat.me.0 r ∥₁
           (λ e. still_open was.seat.me c.compare_exchange.new.seat.me _ was.bound (did.0 e).0.0 refl refl (λ j x h. h) was.opens r low high)
-          (λ ne. still_open was.seat.me c.compare_exchange.new.seat.me _ was.bound (did.1 ne).0 refl refl (λ j x h. h) was.opens r low high);
+          (λ ne. still_open was.seat.me c.compare_exchange.new.seat.me _ was.bound (did.1 ne).0.0 refl refl (λ j x h. h) was.opens r low high);
     }
 
 pub returns-clause-table : goal.returns-clause-table
@@ -41,7 +41,7 @@ returns-clause-table c = let was = c.args.reader.now in
     (Stays was.seat.table_id c.compare_exchange.new.seat.table_id was.seat.me
     c.compare_exchange.new.seat.me was.number)
     (λ e. stays _ _ _ _ _ _ c.compare_exchange.ensures.0 (did.0 e).0.0 refl refl was.low was.own was.bare)
-    (λ ne. stays _ _ _ _ _ _ c.compare_exchange.ensures.0 (did.1 ne).0 refl refl was.low was.own was.bare)).table
+    (λ ne. stays _ _ _ _ _ _ c.compare_exchange.ensures.0 (did.1 ne).0.0 refl refl was.low was.own was.bare)).table
 
 pub returns-clause-won : goal.returns-clause-won
 returns-clause-won c = λ e. ap (λ s. s.0) ((c.compare_exchange.ensures.2.2 c.args.slot c.place.ensures).0 e).0.0
@@ -50,7 +50,10 @@ pub returns-clause-fresh : goal.returns-clause-fresh
 returns-clause-fresh c = λ e. ((c.compare_exchange.ensures.2.2 c.args.slot c.place.ensures).0 e).1
 
 pub returns-clause-lost : goal.returns-clause-lost
-returns-clause-lost c = λ ne. ap (λ s. s.0) ((c.compare_exchange.ensures.2.2 c.args.slot c.place.ensures).1 ne).0
+returns-clause-lost c = λ ne. ap (λ s. s.0) ((c.compare_exchange.ensures.2.2 c.args.slot c.place.ensures).1 ne).0.0
+
+pub returns-clause-own : goal.returns-clause-own
+returns-clause-own c = λ ne. ((c.compare_exchange.ensures.2.2 c.args.slot c.place.ensures).1 ne).1
 
 pub returns-clause-step : goal.returns-clause-step
 returns-clause-step c = let m = c.args.reader.now.seat.me in let n = c.compare_exchange.new.seat.me in
@@ -59,4 +62,4 @@ returns-clause-step c = let m = c.args.reader.now.seat.me in let n = c.compare_e
     left_move x 0 (slot_word (Taken m.0.number)) (slot_at slot) m.0 n.0
     (λ e. subst (λ y. Move m.0 (slot_at slot) x y n.0) c.compare_exchange.ensures.2.1
     (went m n c.place.result (slot_at slot) x c.word-mine.result (with_taken m.0 slot) c.place.ensures (did.0 e).0))
-    (λ ne. went m n c.place.result (slot_at slot) x x (with_note m.0 slot 0 x) c.place.ensures (did.1 ne))
+    (λ ne. went m n c.place.result (slot_at slot) x x (with_note m.0 slot 0 x) c.place.ensures (did.1 ne).0)

@@ -1,4 +1,3 @@
-use Rattle.std.proofs.Common.{rules}
 use Rattle.reader_claims.specs.Inside.Known.{view}
 use Rattle.reader_claims.specs.declared.view.View.{View}
 use Rattle.reader_claims.proofs.Scans.{found_by_look, found_by_take, later_later, later_look, later_tried}
@@ -13,6 +12,7 @@ returns-then-seen-ne-FREE-clause-later c = later_look _ _ _ _ c.look_slot-seen.e
 
 pub returns-then-seen-ne-FREE-clause-lost : goal.returns-then-seen-ne-FREE-clause-lost
 returns-then-seen-ne-FREE-clause-lost c = found_by_look _ _ _ _ c.look_slot-seen.ensures.view
+    c.look_slot-seen.ensures.own
 
 pub returns-clause-moves : goal.returns-clause-moves
 returns-clause-moves c = let v : View = view c.args.reader.now in let m : View = view c.look_slot-seen.new.reader in
@@ -28,4 +28,4 @@ returns-clause-later c = let v : View = view c.args.reader.now in let m : View =
 pub returns-clause-lost : goal.returns-clause-lost
 returns-clause-lost c = λ ne. let v : View = view c.args.reader.now in
     let m : View = view c.look_slot-seen.new.reader in let u : View = view c.take.new.reader in
-    found_by_take v m u _ _ _ c.look_slot-seen.ensures.view (c.take.ensures.lost ne)
+    found_by_take v m u _ _ _ c.look_slot-seen.ensures.view (c.take.ensures.lost ne) (c.take.ensures.own ne)

@@ -17,7 +17,7 @@ returns-in_default c = let lost = c.take_if_free-found.ensures.lost c.if-found-e
       later = c.take_if_free-found.ensures.later;
       taken = λ no. absurd (true≢false (sym no));
       shut = λ no. shut_since _ v lost.0 u lost.2 (shut_at_once _ _ lost.0 u c.of_word.result lost.3
-          c.of_word.ensures.word c.if-found-eq-FREE.false c.in_default.not-Retired);
+          c.of_word.ensures.word lost.4 c.if-found-eq-FREE.false c.in_default.not-Retired);
     }
 
 pub returns-then-bound-r-clause-later : goal.returns-then-bound-r-clause-later

@@ -11,5 +11,5 @@ returns g c =
     record {
       left = λ before began. given_up means reused before (under_way a.client a.change a.attempt a.tries)
           c.unpin.new.self (subst (BeganAs means reused before) (sym c.self.view_is) began) c.self.invariant.0.reading.0.1
-          c.unpin.ensures.stays c.unpin.ensures.moves c.unpin.ensures.mark;
+          c.unpin.ensures.stays c.unpin.ensures.mark;
     }

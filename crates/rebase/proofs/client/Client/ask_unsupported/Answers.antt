@@ -13,5 +13,5 @@ returns g c =
       told = λ ticket body read. unsupported_ends g.M.Means.means g.S.Slots.reused c.args.tries c.args.self
           c.end_unsupported.new.self ticket body c.args.kind r (map_ok reply_seen c.map-reply.result) read
           (mapped reply.Ended ended r c.map-reply.result (λ w. refl) c.map-reply.ensures.cases) (e.answer ticket.text)
-          e.acts.0 e.acts.1 e.cause e.frees;
+          e.stays e.cause;
     }

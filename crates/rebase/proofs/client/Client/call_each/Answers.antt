@@ -2,7 +2,9 @@ use Rattle.std.proofs.Common.{◌+◌, arith, is_ok, subst, ap, ◌∙◌, lengt
 use Rattle.map_chunks.proofs.ListLemmas.{succeeded}
 use Rattle.commit_graph.proofs.Seating.{seat-trans}
 use Rattle.group_steps.specs.Missing.{map_ok}
-use Rattle.rebase.specs.Calls.{AreAnswered, Caller, MayRefuse, caller_of}
+use Rattle.group_steps.specs.Leaving.{Frees}
+use Rattle.rebase.specs.Calls.{AreAnswered, Caller, IsMade, caller_of, change_of}
+use Rattle.rebase.specs.Clients.{Grouped}
 use Rattle.rebase.specs.Replies.{reply_seen}
 use Rattle.rebase.proofs.CallLemmas.{caller_moves, turn, why_told}
 use Rattle.rebase.proofs.client.Client.call_each.Goals as goal
@@ -17,15 +19,23 @@ loop-call-preserved g c =
     let n = succeeded (is_ok c.push.result) _ _ _
     (c.push.ensures.succeeds (omega (arith, i.room, i.count, l.replies.ok.0, c.loop-call-test.true)))
     c.push.ensures.items in
-    let why : MayRefuse reused c.call-item.result reply = λ reading. why_told reply_seen _ c.make_call-reply.result
-    (e.err reading) in
+    let slots = old.group.group.table.sizes.slots in
+    let made : IsMade means reused c.args.tries slots (caller_of mid) c.call-item.result reply mid.seat new.seat = record {
+      seat = e.acts.seat;
+      answer = e.answer;
+      refused = λ reading. why_told reply_seen _ c.make_call-reply.result (e.err reading);
+      looked = λ reading. (e.looks reading).looked;
+      cause = why_told reply_seen _ c.make_call-reply.result e.cause;
+      frees = λ changing r. subst (λ (h : Grouped). Frees h.group.table.sizes.slots mid.seat new.seat
+          (change_of (caller_of mid) c.call-item.result reply)) i.acts.client.0 (e.frees changing r);
+    } in
     record {
-      answered = subst (λ (d : Caller). AreAnswered means reused c.args.tries (caller_of old) old.seat.mark
-          (take (l.call-index + 1) c.args.calls.now) (map (map_ok reply_seen) c.push.new.self.items) new.seat.mark d)
+      answered = subst (λ (d : Caller). AreAnswered means reused c.args.tries slots (caller_of old) old.seat
+          (take (l.call-index + 1) c.args.calls.now) (map (map_ok reply_seen) c.push.new.self.items) new.seat d)
           (caller_moves mid new reply e.acts.client e.last)
-          (turn means reused c.args.tries (caller_of old) (caller_of mid) old.seat.mark mid.seat.mark new.seat.mark
+          (turn means reused c.args.tries slots (caller_of old) (caller_of mid) old.seat mid.seat new.seat
           c.args.calls.now l.call-index c.call-item.result l.replies.items c.push.new.self.items
-          c.make_call-reply.result c.loop-call-test.true c.call-item.is i.answered e.acts.seat.later e.answer why n);
+          c.make_call-reply.result c.loop-call-test.true c.call-item.is i.answered made n);
       acts = record {
         client = (e.acts.client.0 ∙ i.acts.client.0, e.acts.client.1 ∙ i.acts.client.1);
         seat = seat-trans old.seat mid.seat new.seat i.acts.seat e.acts.seat;

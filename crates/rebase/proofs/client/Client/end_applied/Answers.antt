@@ -31,4 +31,4 @@ returns-in-Err-clause-frees g c r =
     let old = c.args.self.now in let new = c.refuse.new.self in let slots = old.group.group.table.sizes.slots in
     subst (λ (w : Result Ended Refusal). Frees slots old.seat new.seat (change_applied c.args.ticket.now c.args.pull w))
     (sym c.refuse.ensures.err)
-    (frees_none slots old.seat new.seat (c.refuse.ensures.moves r) (c.refuse.ensures.stays.0.looked.calm r).1)
+    (frees_none slots old.seat new.seat (c.refuse.ensures.stays.0.looked.calm r))

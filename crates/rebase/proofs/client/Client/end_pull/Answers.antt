@@ -3,13 +3,12 @@ use Rattle.std.specs.Prelude.{IfErr}
 use Rattle.group_history.specs.declared.changes.Change.{Change}
 use Rattle.pull_patch.specs.Grammar.{answer_to}
 use Rattle.answered.specs.Changes.{change_read}
-use Rattle.reader_claims.specs.Machine.{still}
 use Rattle.commit_graph.proofs.Seating.{seat-self, seat-trans}
 use Rattle.group_steps.specs.Causes.{HasCause}
 use Rattle.group_steps.specs.Leaving.{Frees}
 use Rattle.rebase.specs.Asking.{change_wanted, end_bytes_reply, is_passing}
 use Rattle.rebase.specs.Clients.{Grouped}
-use Rattle.rebase.proofs.Causing.{cause_anew, frees_anew, frees_moves, frees_none, if_err_then}
+use Rattle.rebase.proofs.Causing.{cause_anew, frees_anew, frees_loads, frees_self, if_err_then, looked_looked, looked_self}
 use Rattle.rebase.proofs.Lasting.{begun_anew, left_alone, passing_changes, passing_read}
 use Rattle.rebase.proofs.client.Client.end_pull.Goals as goal
 
@@ -41,6 +40,7 @@ loop-turn-preserved g c =
           (subst (λ (o : Option Change). Frees mid.group.group.table.sizes.slots mid.seat new.seat o)
           (passing_changes c.try_end_pull-reply.result (change_read ticket (answer_to c.args.body.now)) passes
           (passing_read ticket (answer_to c.args.body.now))) (e.frees r)));
+      looked = λ none. looked_looked g.S.Slots.reused old.seat mid.seat new.seat (i.looked none) (e.looked none);
     }
 
 pub loop-turn-init : goal.loop-turn-init
@@ -48,8 +48,9 @@ loop-turn-init g c = let old = c.args.self.now in record {
   client = (refl, refl);
   last = refl;
   seat = seat-self old.seat;
-  gave = λ r. frees_none old.group.group.table.sizes.slots old.seat old.seat (still old.seat.view) refl;
+  gave = λ r. frees_self old.group.group.table.sizes.slots old.seat;
   own = refl;
+  looked = λ none. looked_self g.S.Slots.reused old.seat;
 }
 
 pub returns-then-is_last-clause-cause : goal.returns-then-is_last-clause-cause
@@ -63,7 +64,7 @@ returns-then-is_last-clause-cause g c =
     if_err_then (HasCause means reused old.last asked mid.seat new.seat)
     (HasCause means reused old.last asked old.seat new.seat) reply last (λ e h.
     cause_anew means reused old.last asked old.seat mid.seat new.seat e i.seat.later.seen i.seat.table
-    (λ r. frees_moves old.group.group.table.sizes.slots old.seat mid.seat (i.gave r)) h)
+    (λ r. frees_loads old.group.group.table.sizes.slots old.seat mid.seat (i.gave r)) h)
 
 pub returns-then-is_last-clause-frees : goal.returns-then-is_last-clause-frees
 returns-then-is_last-clause-frees g c r =
@@ -73,3 +74,9 @@ returns-then-is_last-clause-frees g c r =
     frees_anew old.group.group.table.sizes.slots old.seat mid.seat new.seat change i.seat (i.gave r)
     (subst (λ (group : Grouped). Frees group.group.table.sizes.slots mid.seat new.seat change) i.client.0
     (c.try_end_pull-reply.ensures.frees r))
+
+pub returns-then-is_last-clause-looked : goal.returns-then-is_last-clause-looked
+returns-then-is_last-clause-looked g c none =
+    let old = c.args.self.now in let mid = c.loop-turn.self in let new = c.try_end_pull-reply.new.self in
+    looked_looked g.S.Slots.reused old.seat mid.seat new.seat (c.loop-turn.invariant.looked none)
+    (c.try_end_pull-reply.ensures.looked none)

@@ -1,6 +1,8 @@
 use Rattle.std.proofs.Common.{◌≡◌, None}
 use Rattle.answered.specs.Answered.{own_moves}
-use Rattle.commit_graph.specs.Seats.{IsSameSeat}
+use Rattle.commit_graph.specs.Seats.{HasLooked, IsSameSeat}
+use Rattle.pull_patch.specs.Grammar.{answer_to}
+use Rattle.rebase.specs.Asking.{change_wanted}
 use Rattle.group_steps.specs.Leaving.{Frees}
 use Rattle.rebase.specs.Clients.{IsSameClient}
 use Rattle.rebase.proofs.client.Client.end_pull.Given as goal
@@ -13,4 +15,6 @@ invariant-loop-turn g l = record {
   seat : IsSameSeat l.initial.self.seat l.self.seat;
   gave : g.S.Slots.reused → Frees l.initial.self.group.group.table.sizes.slots l.initial.self.seat l.self.seat None;
   own : own_moves l.self.seat.mark ≡ own_moves l.initial.self.seat.mark;
+  looked : change_wanted l.ticket.cookie (answer_to l.body) ≡ None
+      → HasLooked g.S.Slots.reused l.initial.self.seat l.self.seat;
 }

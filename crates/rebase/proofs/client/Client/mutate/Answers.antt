@@ -8,12 +8,11 @@ use Rattle.group_history.specs.State.{made}
 use Rattle.answered.specs.Answered.{IsLinearized}
 use Rattle.answered.specs.Changes.{change_made}
 use Rattle.rebase.specs.Asking.{is_passing}
-use Rattle.reader_claims.specs.Machine.{still}
 use Rattle.commit_graph.proofs.Seating.{seat-self, seat-trans}
 use Rattle.group_steps.specs.Causes.{HasCause}
 use Rattle.group_steps.specs.Leaving.{Frees}
 use Rattle.rebase.specs.Clients.{Grouped}
-use Rattle.rebase.proofs.Causing.{cause_anew, frees_anew, frees_moves, frees_none, if_err_then}
+use Rattle.rebase.proofs.Causing.{cause_anew, frees_anew, frees_loads, frees_self, if_err_then}
 use Rattle.rebase.proofs.Lasting.{begun_anew, left_alone, passing_changes, passing_err}
 use Rattle.rebase.proofs.client.Client.mutate.Goals as goal
 
@@ -65,7 +64,7 @@ loop-turn-init g c = let old = c.args.self.now in record {
   client = (refl, refl);
   last = refl;
   seat = seat-self old.seat;
-  gave = λ r. frees_none old.group.group.table.sizes.slots old.seat old.seat (still old.seat.view) refl;
+  gave = λ r. frees_self old.group.group.table.sizes.slots old.seat;
   own = refl;
 }
 
@@ -84,7 +83,7 @@ returns-then-not-is_passing-clause-cause g c =
     if_err_then (HasCause means reused old.last asked mid.seat new.seat)
     (HasCause means reused old.last asked old.seat new.seat) reply last (λ e h.
     cause_anew means reused old.last asked old.seat mid.seat new.seat e i.seat.later.seen i.seat.table
-    (λ r. frees_moves old.group.group.table.sizes.slots old.seat mid.seat (i.gave r)) h)
+    (λ r. frees_loads old.group.group.table.sizes.slots old.seat mid.seat (i.gave r)) h)
 
 pub returns-then-not-is_passing-clause-frees : goal.returns-then-not-is_passing-clause-frees
 returns-then-not-is_passing-clause-frees g c r =

@@ -65,4 +65,30 @@ returns-in-Err-clause-frees g c r =
     (sym c.refuse.ensures.err)
     (subst (λ (o : Option Change). Frees slots old.seat new.seat o)
     (sym (unread_changes k body c.in-Err.e c.in-Err.ensures.read))
-    (frees_none slots old.seat new.seat (c.refuse.ensures.moves r) (c.refuse.ensures.stays.0.looked.calm r).1))
+    (frees_none slots old.seat new.seat (c.refuse.ensures.stays.0.looked.calm r)))
+
+pub returns-in-Ok-response-clause-looked : goal.returns-in-Ok-response-clause-looked
+returns-in-Ok-response-clause-looked g c none =
+    let k = c.args.ticket.now.cookie in
+    absurd (cc (sym none ∙ ap (change_wanted k) (c.in-Ok.ensures.read ∙ ap Ok c.in-Ok-response.is)))
+
+pub returns-in-StateNotFound-clause-looked : goal.returns-in-StateNotFound-clause-looked
+returns-in-StateNotFound-clause-looked g c none =
+    let k = c.args.ticket.now.cookie in
+    absurd (cc (sym none ∙ ap (change_wanted k) (c.in-Ok.ensures.read ∙ ap Ok c.in-StateNotFound.is)))
+
+pub returns-in-VersionNotSupported-clause-looked : goal.returns-in-VersionNotSupported-clause-looked
+returns-in-VersionNotSupported-clause-looked g c none = c.end_unsupported.ensures.stays.0.looked
+
+pub returns-in-Err-clause-looked : goal.returns-in-Err-clause-looked
+returns-in-Err-clause-looked g c none = c.refuse.ensures.stays.0.looked
+
+pub returns-in-VersionNotSupported-clause-frees : goal.returns-in-VersionNotSupported-clause-frees
+returns-in-VersionNotSupported-clause-frees g c r =
+    let old = c.args.self.now in let new = c.end_unsupported.new.self in let slots = old.group.group.table.sizes.slots in
+    let k = c.args.ticket.now.cookie in
+    let read : answer_to c.args.body.now ≡ Ok
+    (response.VersionNotSupported c.in-VersionNotSupported.kind) = c.in-Ok.ensures.read ∙ ap Ok
+    c.in-VersionNotSupported.is in
+    subst (λ (a : Result Response Refusal). Frees slots old.seat new.seat (change_read k a c.end_unsupported.result))
+    (sym read) (frees_none slots old.seat new.seat (c.end_unsupported.ensures.stays.0.looked.calm r))

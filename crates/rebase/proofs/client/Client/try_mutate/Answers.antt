@@ -39,4 +39,4 @@ returns-in-Err-clause-frees g c r =
     let old = c.args.self.now in let new = c.refuse.new.self in let slots = old.group.group.table.sizes.slots in
     let x = made old.id (old.last + 1) c.args.name.now c.args.args.now c.args.time in
     subst (λ (w : Result ℕ Refusal). Frees slots old.seat new.seat (change_made x w)) (sym c.refuse.ensures.err)
-    (frees_none slots old.seat new.seat (c.refuse.ensures.moves r) (c.refuse.ensures.stays.0.looked.calm r).1)
+    (frees_none slots old.seat new.seat (c.refuse.ensures.stays.0.looked.calm r))

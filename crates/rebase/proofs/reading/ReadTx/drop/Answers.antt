@@ -1,4 +1,4 @@
-use Rattle.std.proofs.Common.{◌≡◌, ap, sym, subst, ◌∙◌}
+use Rattle.std.proofs.Common.{◌≡◌, arith, ap, sym, subst, ◌∙◌}
 use Rattle.head_word.specs.Marks.{own}
 use Rattle.reader_claims.specs.declared.view.View.{View}
 use Rattle.reader_claims.specs.declared.words.Pin.TheVariants.{Absent}
@@ -11,12 +11,14 @@ use Rattle.rebase.proofs.reading.ReadTx.drop.Goals as goal
 
 -- a pin that is taken away is all that is done to slots
 calm_without : (v u w : View) → w ≡ with_pin v Absent → v ≡ u → IsCalm u w
-calm_without v u w is same = (
-  ap (λ (x : View). x.taken) is ∙ ap (λ (x : View). x.taken) same,
-  ap (λ (x : View). x.retired) is ∙ ap (λ (x : View). x.retired) same,
-  ap (λ (x : View). x.withdrawn) is ∙ ap (λ (x : View). x.withdrawn) same,
-  ap (λ (x : View). x.raises) is ∙ ap (λ (x : View). x.raises) same,
-)
+calm_without v u w is same = record {
+  deeds = ap (λ (x : View). x.deeds) is ∙ ap (λ (x : View). x.deeds) same;
+  taken = ap (λ (x : View). x.taken) is ∙ ap (λ (x : View). x.taken) same;
+  loads = let e : w.epoch_loads ≡ u.epoch_loads = ap (λ (x : View). x.epoch_loads) is
+      ∙ ap (λ (x : View). x.epoch_loads) same in omega arith;
+  reached = let e : w.reached ≡ u.reached = ap (λ (x : View). x.reached) is ∙ ap (λ (x : View). x.reached) same in
+      omega arith;
+}
 
 pub returns-clause-stays : goal.returns-clause-stays
 returns-clause-stays g c =

@@ -1,15 +1,17 @@
-use Rattle.std.proofs.Common.{[], Result, refl, subst}
+use Rattle.std.proofs.Common.{[], None, Result, ap, refl, subst}
 use Rattle.std.specs.Prelude.{IfErr, OnOk, ⊤}
 use Rattle.group_history.specs.declared.refusals.Refusal.{Refusal}
 use Rattle.group_history.specs.State.{State}
 use Rattle.map_chunks.specs.Sinks.{HasMore}
 use Rattle.answered.specs.Answered.{IsLinearized}
+use Rattle.group_steps.specs.Causes.{HasCause}
 use Rattle.group_steps.specs.Missing.{IsMissedOrDry}
 use Rattle.rebase.specs.Calls.{caller_of, change_of, reply_to}
+use Rattle.rebase.specs.Clients.{Grouped}
 use Rattle.rebase.specs.declared.calls.Call.TheVariants as call
 use Rattle.script_runner.specs.Callers.{reply_of_list}
 use Rattle.script_runner.specs.Inside.Printing.{HasRows}
-use Rattle.script_runner.proofs.Replying.{list_told, same_caller}
+use Rattle.script_runner.proofs.Replying.{list_told, missed_told, same_caller}
 use Rattle.script_runner.proofs.shared.SharedClient.list.Goals as goal
 
 pub returns-in-Ok-clause-reply : goal.returns-in-Ok-clause-reply
@@ -29,6 +31,10 @@ returns-in-Ok-clause-reply g c =
         caller = same_caller old new stays.0.client stays.1;
         later = stays.0.looked.seat.later;
         watches = refl;
+        slots = ap (λ (h : Grouped). h.group.table.sizes.slots) stays.0.client.0;
+        looked = λ reading. stays.0.looked;
+        cause = tt;
+        frees = λ changing. absurd (cc changing);
       },
       (subst (λ (r : Result (Unit {0}) Refusal). OnOk r (HasMore HasRows c.new-list.result c.scan_into.new.sink rs))
           c.in-Ok.is given.2 [] c.new-list.ensures).text,
@@ -52,6 +58,12 @@ returns-in-Err-clause-reply g c =
         caller = same_caller old new stays.0.client stays.1;
         later = stays.0.looked.seat.later;
         watches = refl;
+        slots = ap (λ (h : Grouped). h.group.table.sizes.slots) stays.0.client.0;
+        looked = λ reading. stays.0.looked;
+        cause = subst (λ (r : Result (Unit {0}) Refusal). IfErr (reply_of_list rs r)
+            (HasCause g.M.Means.means ⊤ old.last None old.seat new.seat)) c.in-Err.is
+            (missed_told g.M.Means.means old.last rs c.scan_into.result old.seat new.seat c.scan_into.ensures.err);
+        frees = λ changing. absurd (cc changing);
       },
       _,
     )

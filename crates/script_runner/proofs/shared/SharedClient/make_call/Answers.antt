@@ -2,12 +2,16 @@ use Rattle.std.proofs.Common.{◌≡◌, ℕ, refl, sym, ap, ◌∙◌, subst}
 use Rattle.answered.specs.Answered.{IsLinearized}
 use Rattle.group_steps.specs.Missing.{map_ok}
 use Rattle.rebase.specs.Asking.{is_passing}
-use Rattle.rebase.specs.Calls.{caller, caller_of, change_of, is_reading, last_after, reply_to}
+use Rattle.answered.specs.Changes.{change_made, change_read}
+use Rattle.pull_patch.specs.Grammar.{answer_to}
+use Rattle.rebase.specs.Calls.{asked_mutation, caller, caller_of, change_of, is_reading, last_after, reply_to}
+use Rattle.rebase.specs.Clients.{Grouped}
 use Rattle.rebase.specs.Replies.{ended, id, reply_seen}
+use Rattle.rebase.specs.declared.calls.Call.TheVariants as call
 use Rattle.rebase.specs.declared.calls.Reply.TheVariants as reply
-use Rattle.rebase.proofs.CallLemmas.{ended_told, mapped, mutated_told}
+use Rattle.rebase.proofs.CallLemmas.{ended_shown, ended_told, id_shown, mapped, mutated_told}
 use Rattle.script_runner.specs.Callers.{tries_of}
-use Rattle.script_runner.proofs.Replying.{last_kept, last_made, passing_told, same_caller, same_client}
+use Rattle.script_runner.proofs.Replying.{cause_told, frees_told, last_kept, last_made, passing_told, same_caller, same_client}
 use Rattle.script_runner.proofs.shared.SharedClient.make_call.Goals as goal
 
 pub returns-in-Mutate-clause-reply : goal.returns-in-Mutate-clause-reply
@@ -32,6 +36,15 @@ returns-in-Mutate-clause-reply g c =
           ∙ sym (ap (last_after old.last) is));
       later = acts.seat.later;
       watches = refl;
+      slots = ap (λ (h : Grouped). h.group.table.sizes.slots) acts.client.0;
+      looked = λ reading. absurd (cc (sym reading ∙ ap is_reading c.in-Mutate.is));
+      cause = cause_told id g.M.Means.means (caller_of old) c.args.call (call.Mutate c.in-Mutate.m) c.mutate.result seen
+          old.seat new.seat c.in-Mutate.is is c.mutate.ensures.cause;
+      frees = λ changing. frees_told old.group.group.table.sizes.slots (caller_of old) c.args.call
+          (call.Mutate c.in-Mutate.m) seen (map_ok id c.mutate.result)
+          (change_made (asked_mutation (caller_of old) c.in-Mutate.m) c.mutate.result) old.seat new.seat c.in-Mutate.is is
+          (ap (change_made (asked_mutation (caller_of old) c.in-Mutate.m)) (id_shown c.mutate.result))
+          (c.mutate.ensures.frees tt);
     }
 
 pub returns-in-EndPull-clause-reply : goal.returns-in-EndPull-clause-reply
@@ -55,4 +68,14 @@ returns-in-EndPull-clause-reply g c =
           (sym (ap (last_after old.last) is ∙ last_kept old.last c.end_pull.result));
       later = acts.0.seat.later;
       watches = refl;
+      slots = ap (λ (h : Grouped). h.group.table.sizes.slots) acts.0.client.0;
+      looked = λ reading. absurd (cc (sym reading ∙ ap is_reading c.in-EndPull.is));
+      cause = cause_told ended g.M.Means.means (caller_of old) c.args.call
+          (call.EndPull c.in-EndPull.ticket c.in-EndPull.body) c.end_pull.result seen old.seat new.seat c.in-EndPull.is is
+          c.end_pull.ensures.cause;
+      frees = λ changing. frees_told old.group.group.table.sizes.slots (caller_of old) c.args.call
+          (call.EndPull c.in-EndPull.ticket c.in-EndPull.body) seen (map_ok ended c.end_pull.result)
+          (change_read c.in-EndPull.ticket.now.cookie (answer_to c.in-EndPull.body.now) c.end_pull.result) old.seat
+          new.seat c.in-EndPull.is is (ap (change_read c.in-EndPull.ticket.now.cookie
+          (answer_to c.in-EndPull.body.now)) (ended_shown c.end_pull.result)) (c.end_pull.ensures.frees tt);
     }

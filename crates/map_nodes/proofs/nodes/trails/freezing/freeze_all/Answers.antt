@@ -1,7 +1,11 @@
 use Rattle.std.proofs.Common.{refl, [], ◌∷◌, ◌∙◌, ◌+◌, ap, sym, subst, arith, length, append-nil, length-append}
 use Rattle.map_chunks.specs.Drafts.{AreBelow, Drafted}
 use Rattle.map_chunks.specs.Places.{places_of}
+use Rattle.group_history.specs.declared.nodes.Chunk.TheVariants as chunked
+use Rattle.group_history.specs.declared.nodes.Node.TheVariants as node
+use Rattle.map_chunks.proofs.NeededLemmas.{adds_one}
 use Rattle.map_nodes.proofs.FreezeLemmas.{err_so}
+use Rattle.map_nodes.proofs.NeededLemmas.{needed_step}
 use Rattle.map_nodes.proofs.StepLemmas.{below_back, popped, step_children, written_leaf, written_step}
 use Rattle.map_nodes.proofs.TrailLemmas.{trail_end, trail_fresh}
 use Rattle.map_nodes.specs.Trails.{trail_seen, IsTrail}
@@ -17,6 +21,7 @@ loop-step-init c =
       written_leaf c.args.draft.now.first c.args.draft.now.nodes c.push.new.self.nodes c.args.end c.in_ok-at.at
           c.new-leaf.result (trail_end c.args.steps.items c.args.end c.requires.trail) c.new-leaf.ensures
           (ap (λ d. d.nodes) o) k.0 k.1,
+      adds_one c.args.draft.now c.push.new.self (node.Chunk (chunked.Leaf c.new-leaf.result)) c.in_ok-at.at k.0 o,
     )
 
 pub freeze_step-requires-clause-keys : goal.freeze_step-requires-clause-keys
@@ -70,6 +75,8 @@ loop-step-preserved c =
       written_step c.args.draft.now.first c.args.draft.now.nodes c.loop-step.draft.nodes c.freeze_step.new.draft.nodes
           s i.0 e c.loop-step.at c.in_ok-at-2.at h.1 i.3 (ap (λ d. d.nodes) o)
           (k.0 ∙ ap (λ n. n + length c.loop-step.draft.nodes) i.2) k.1,
+      needed_step c.args.draft.now c.loop-step.draft c.freeze_step.new.draft s (trail_seen i.0 e) c.loop-step.at
+          c.in_ok-at-2.at h.1.0 i.4 k.0 o,
     )
 
 pub new-leaf-requires-clause-keys : goal.new-leaf-requires-clause-keys
