@@ -1,7 +1,9 @@
 """Must-fail edits: what each changes, and what a check says of the functions that it changes.
 
-An edit is a file with lines `file: PATH`, and pairs of lines `old: TEXT` and `new: TEXT`, as the kit reads them; each old
-text stands once in its file. A line `# refused: GOAL` says for which goal its own function has to be refused.
+An edit is a file with lines `file: PATH`, and pairs of lines `old: TEXT` and `new: TEXT`, as the kit reads them; each
+old text stands once in its file, or an earlier pair of the edit made it. A line `# refused: GOAL` says for which goal
+its own function has to be refused, and `# refused only: GOAL` that all else of this function has to be proved: such an
+edit may change the function's proof too.
 """
 
 import re
@@ -13,6 +15,8 @@ from pathlib import Path
 # The head of a function; its indentation tells how deep it stands.
 HEAD = re.compile(r"^(\s*)(?:pub(?:\([a-z]+\))? )?(?:const )?(?:unsafe )?fn (\w+)")
 CYCLE = re.compile(r"#\[cycle\((\w+)\)\]")
+# The file of a function's own proof, by the function's module and name.
+PROOF = re.compile(r"proofs/(?:(.+)/)?(\w+)/(?:Answers|Invariants|Proof)\.antt")
 # What a function is refused for where its text lacks a part that its proof needs.
 LACKS = re.compile(r"expected (a measure|an invariant)\b")
 # A proof that names what is there no more: this says nothing of a clause.
@@ -28,7 +32,8 @@ class Fault(Exception):
 
 @dataclass(frozen=True)
 class Place:
-    """A function of a file below src/, by its module and name; or, where there is no name, any part that is in no function."""
+    """A function of a file below src/, by its module and name; or, where there is no name, any part that is in no
+    function."""
 
     module: str
     function: str | None
@@ -40,8 +45,9 @@ class Place:
         return f"{self.module.replace('::', '/')}/+{self.function}" if self.is_cycle else None
 
     def among(self, crate: str, names: Iterable[str]) -> set[str]:
-        """Those of the checker's names that are this function's, that of a closure in it, or of its cycle. A method bears the
-        module of its type, which may stand in another file: where no name has this module the function's alone decides."""
+        """Those of the checker's names that are this function's, that of a closure in it, or of its cycle. A method
+        bears the module of its type, which may stand in another file: where no name has this module the function's
+        alone decides."""
         if self.function is None:
             return set(names)
         inside = f"{crate}::{self.module}::" if self.module else f"{crate}::"
@@ -119,8 +125,13 @@ class Edit:
     @property
     def goal(self) -> str | None:
         """The goal for which its own function has to be refused."""
-        said = re.search(r"^# refused: (.+)$", self.text, re.M)
+        said = re.search(r"^# refused(?: only)?: (.+)$", self.text, re.M)
         return said[1].strip() if said else None
+
+    @property
+    def is_for_one_goal(self) -> bool:
+        """Whether it has to be refused for that goal alone."""
+        return re.search(r"^# refused only: ", self.text, re.M) is not None
 
     def applied(self, texts: dict[str, str]) -> dict[str, str]:
         """The texts of the files with it, beside what other edits made of them; a `Fault` where it can't be applied."""
@@ -146,17 +157,21 @@ class Edit:
         """The functions that it changes."""
         found = set()
         for path, old, _ in pairs(self.text.split("\n")):
-            if path is None or old is None or not path.startswith("src/"):
+            proof = PROOF.fullmatch(path or "")
+            if proof:
+                found.add(Place((proof[1] or "").replace("/", "::"), proof[2]))
+            elif path is None or old is None or not path.startswith("src/"):
                 found.add(Place(str(path), None))
-                continue
-            text = (self.folder / path).read_text(encoding="utf-8")
-            found.add(function_round(text, text.find(old) + len(old) - len(old.lstrip()), module_of(path)))
+            else:
+                text = (self.folder / path).read_text(encoding="utf-8")
+                if old in text:  # (else an earlier pair made it, whose place it has)
+                    found.add(function_round(text, text.find(old) + len(old) - len(old.lstrip()), module_of(path)))
         return frozenset(found)
 
     @property
     def is_alone(self) -> bool:
-        """Whether nothing else can be judged beside it: it changes what is in no function, or leaves one with no proof at all, of
-        whose callers the checker then says nothing."""
+        """Whether nothing else can be judged beside it: it changes what is in no function, or leaves one with no proof
+        at all, of whose callers the checker then says nothing."""
         return any(place.function is None for place in self.places) or LACKS.search(f"expected {self.goal}") is not None
 
 
@@ -184,7 +199,8 @@ def fit(edit: Edit, other: Edit) -> bool:
 
 
 def open_goals(said: str) -> dict[str, list[str]]:
-    """The goals that are open in files of proofs, by the folders that these lie in: a function's own, or "" for lemmas."""
+    """The goals that are open in files of proofs, by the folders that these lie in: a function's own, or "" for
+    lemmas."""
     found: dict[str, list[str]] = {}
     for path, goal, why in OPEN_GOAL.findall(said):
         if not NAMES_LOST.search(re.sub(r"`[^`]*`", "", why)):
@@ -193,25 +209,26 @@ def open_goals(said: str) -> dict[str, list[str]]:
 
 
 def refusals(crate: str, said: str) -> dict[str, list[str]]:
-    """The functions that a check refused for their own sake, with the goals that are open. That a function calls one that isn't
-    proved is no refusal of it; nor is a proof that names what the edit took away."""
+    """The functions that a check refused for their own sake, with the goals that are open. That a function calls one
+    that isn't proved is no refusal of it; nor is a proof that names what the edit took away."""
     by_folders = open_goals(said)
     found: dict[str, list[str]] = {}
     for name, _, why in VERDICT.findall(said):
-        goals = [goal for names in UNPROVED.findall(why) for goal in re.findall(r"`([^`]+)`", names)] + LACKS.findall(why)
+        goals = [goal for names in UNPROVED.findall(why) for goal in re.findall(r"`([^`]+)`", names)]
+        goals += LACKS.findall(why)
         goals += by_folders.get(name.removeprefix(f"{crate}::").replace("::", "/"), [])
         if goals or not re.search(r"\bit (calls|passes)\b", why):
             found[name] = goals
     return found
 
 
-def told(crate: str, edits: list[Edit], said: str) -> tuple[dict[Edit, list[str]], list[str]]:
-    """Of each edit of a round the goals for which its own functions are refused, and the refused functions that none changes.
-    Of one that changes a definition, the lemmas that fail are goals too."""
+def told(crate: str, edits: list[Edit], said: str, functions: set[str]) -> tuple[dict[Edit, list[str]], list[str]]:
+    """Of each edit of a round the goals for which its own functions are refused, and the refused functions that none
+    changes; `functions` are those of the crate. Of one that changes a definition the lemmas that fail are goals too."""
     found, by_folders = refusals(crate, said), open_goals(said)
     of_edits, explained = {}, set()
     for edit in edits:
-        mine = set().union(*(place.among(crate, found) for place in edit.places))
+        mine = found.keys() & set().union(*(place.among(crate, functions | found.keys()) for place in edit.places))
         explained |= mine
         of_edits[edit] = [goal for name in sorted(mine) for goal in found[name]]
         of_edits[edit] += [goal for place in edit.places if place.proofs for goal in by_folders.get(place.proofs, [])]

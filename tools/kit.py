@@ -10,7 +10,13 @@ from pathlib import Path
 ROOT = Path(__file__).resolve().parent.parent
 ARCHIVE_HEAD, MEMBER_HEAD = b"!<arch>\n", 60
 # How a command of the kit is run: what it says is read as one text.
-HEARD = {"stdin": subprocess.DEVNULL, "stdout": subprocess.PIPE, "stderr": subprocess.STDOUT, "text": True, "errors": "replace"}
+HEARD = {
+    "stdin": subprocess.DEVNULL,
+    "stdout": subprocess.PIPE,
+    "stderr": subprocess.STDOUT,
+    "text": True,
+    "errors": "replace",
+}
 
 sys.dont_write_bytecode = True
 sys.path.insert(0, str(Path(shutil.which("rt") or "rt").resolve().parent))
@@ -47,11 +53,12 @@ def members(archive):
 
 
 def functions(crate):
-    """The functions of a crate, by the checker's names: the archive of its library has the code of each. None where there is no
-    library."""
+    """The functions of a crate, by the checker's names: the archive of its library has the code of each. None where
+    there is no library."""
     if not is_built(crate):
         return None
-    code = re.compile(rf"(?:part/)?Rattle-{crate.name}-proofs\.((?!.*\.\+).+)\.Code\.oantt")  # (a cycle has a name with a +)
+    # (a cycle has a name with a +)
+    code = re.compile(rf"(?:part/)?Rattle-{crate.name}-proofs\.((?!.*\.\+).+)\.Code\.oantt")
     found = filter(None, map(code.fullmatch, members(Path(crate.rlib, "toolchain/checked.a"))))
     return {f"{crate.name}::{match[1].replace('.', '::')}" for match in found}
 
@@ -64,8 +71,8 @@ def copy_parts(crate, room):
 
 
 def checked(crate, room, kept, only):
-    """Checks the crate as it stands in the folder `room`: these functions and what they call, or all where none are named. What is
-    checked is kept in the folder `kept` for the next check. It gives what was said."""
+    """Checks the crate as it stands in the folder `room`: these functions and what they call, or all where none are
+    named. What is checked is kept in the folder `kept` for the next check. It gives what was said."""
     words = crate.words(["--jobs", "1", "--incremental", str(kept.resolve())], keeps=False)
     for name in sorted(only):
         words += ["--only", name.removeprefix(f"{crate.name}::")]

@@ -40,7 +40,8 @@ LESS = "old: if x < y\nnew: if y < x\n"
 
 
 class TryEdits(unittest.TestCase):
-    """Each test is one run of the tool over the same proved crate. `goal` is one for which LESS is refused, as --write has it."""
+    """Each test is one run of the tool over the same proved crate. `goal` is one for which LESS is refused, as --write
+    has it."""
 
     @classmethod
     def setUpClass(cls):
@@ -110,6 +111,17 @@ class TryEdits(unittest.TestCase):
         status, said = self.tried(takes_the_less=f"{LESS}# refused: returns-clause-third\n")
         self.assertIn("FAILED toy/takes_the_less: not refused for the goal that it names, returns-clause-third", said)
         self.assertEqual(status, 1)
+
+    def test_an_edit_that_has_to_be_refused_for_one_goal_alone_fails_where_another_one_is_open(self):
+        breaks_both = "old: if x < y { y } else { x }\nnew: { let _ = (x, y); 0 }\n"
+        status, said = self.tried(breaks_both=f"{breaks_both}# refused only: returns-clause-first\n")
+        self.assertIn("FAILED toy/breaks_both: not refused for returns-clause-first alone", said)
+        self.assertEqual(status, 1)
+
+    def test_an_edit_that_changes_a_proof_too_is_one_of_its_function(self):
+        with_proof = f"{LESS}file: proofs/greater/Answers.antt\nold: one\nnew: another\n"
+        _, said = self.tried("--dry", less=with_proof, one="old: handed_on(x)\nnew: handed_on(1)\n")
+        self.assertEqual(said.splitlines(), ["toy, round 1: less, one"])
 
     def test_an_edit_that_does_not_compile_fails(self):
         status, said = self.tried(is_no_rust="old: if x < y\nnew: if x < z\n# refused: returns\n")
